@@ -28,13 +28,15 @@ use Rattle.thy_dual_model.specs.Scheme.{dual_scheme}
 pub record LeavesNvm (o : Origin) (m : Machine Dual) (n new : Device) (did : Did) : Type 0 where
   pub acts : Acts did n new
   pub still : (found : Mark)
-      → (view_of dual_scheme o m n).phase ≡ Boot → (view_of dual_scheme o m n).done ≡ Some found → new ≡ n
+      → (view_of dual_scheme o m n).phase ≡ Boot → (view_of dual_scheme o m n).done ≡ Some found
+      → new ≡ n
 
 -- so does one that failed, which wrote nothing there
 pub record WritesNothing (o : Origin) (m : Machine Dual) (n new : Device) (did : Did) : Type 0 where
   pub failed : ActionFailed did n new
   pub still : (found : Mark)
-      → (view_of dual_scheme o m n).phase ≡ Boot → (view_of dual_scheme o m n).done ≡ Some found → HasFailed n new
+      → (view_of dual_scheme o m n).phase ≡ Boot → (view_of dual_scheme o m n).done ≡ Some found
+      → HasFailed n new
 
 abbrev pub StepsLeaveNvm : Type 0
 StepsLeaveNvm =
@@ -45,7 +47,8 @@ StepsLeaveNvm =
 abbrev pub FailuresWriteNothing : Type 0
 FailuresWriteNothing =
     (o : Origin) (pick : Pick) (m : Machine Dual) (n new : Device)
-    → dual_scheme.migrates m.scheme ≡ false → (c : CycleFailed (kind_over dual_scheme) o pick m n new)
+    → dual_scheme.migrates m.scheme ≡ false
+    → (c : CycleFailed (kind_over dual_scheme) o pick m n new)
     → WritesNothing o m n new c.did
 
 -- a migration's own action, of the checkpoint of an epoch: a barrier, or a write of a block of that epoch's slot in
@@ -65,7 +68,8 @@ abbrev pub MigrationWrites : Type 0
 MigrationWrites =
     (o : Origin) (s : Dual) (n : Device) (found : Mark)
     → Boots o s n → dual_scheme.migrates s ≡ true → (dual_scheme.boot_view o s n).done ≡ Some found
-    → (at : Migration) × (s.boot.migration ≡ Some at) × MigratesFound o.geometry found.epoch s.boot.boot at
+    → (at : Migration) × (s.boot.migration ≡ Some at)
+    × MigratesFound o.geometry found.epoch s.boot.boot at
 
 -- A boot over an image whose commit block names version 2 does not migrate it. The one that has just written that block
 -- itself has only its last barrier to come.

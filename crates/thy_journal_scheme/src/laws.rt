@@ -1,7 +1,8 @@
 //! Laws of the scheme, each the contract of a function that does nothing.
-ghost use Rattle.thy_journal_scheme.specs.Laws.{BootIsSound, BootsAreShort, DrainsKeep, HeldIsUp, HeldIsWork, ItemsAreSteps, JournalIsLawful, PowerFinds, PowerIsNew};
-ghost use Rattle.thy_journal_scheme.specs.Laws.{RunIsSound, SealsKeep, StaysKeep, StaysOver, StepsBoot, StoresKeep, ZerosAreNothing};
-ghost use Rattle.thy_journal_scheme.specs.Laws.{EntriesAreFree, FirstHasRoom, HartIsBarred, NeverMigrates};
+ghost use Rattle.thy_journal_scheme.specs.Laws.{BootIsSound, BootsAreShort, DrainsKeep, EntriesAreFree};
+ghost use Rattle.thy_journal_scheme.specs.Laws.{FirstHasRoom, HartIsBarred, HeldIsUp, HeldIsWork, ItemsAreSteps};
+ghost use Rattle.thy_journal_scheme.specs.Laws.{JournalIsLawful, NeverMigrates, PowerFinds, PowerIsNew, RunIsSound};
+ghost use Rattle.thy_journal_scheme.specs.Laws.{SealsKeep, StaysKeep, StaysOver, StepsBoot, StoresKeep, ZerosAreNothing};
 
 /// Blocks are held and stored only while the NVM is up, and what loads and stores keep they keep over any number of
 /// calls. A block that is held is that of a load; a store changes that block alone, by one write of the DRAM.
