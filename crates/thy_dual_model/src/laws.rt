@@ -3,7 +3,7 @@ ghost use Rattle.thy_dual_model.specs.Booted.{BootedIsSound};
 ghost use Rattle.thy_dual_model.specs.Bounds.{BootsAreShort, EpochsAreShort};
 ghost use Rattle.thy_dual_model.specs.Laws.{BootIsSound, PowerFinds, PowerIsNew, ZerosAreNothing};
 ghost use Rattle.thy_dual_model.specs.Laws.{HeldIsUp, NothingIsBarred, ReadyIsWhole, RunIsSound, StaysKeep, StaysOver};
-ghost use Rattle.thy_dual_model.specs.Recovery.{FailuresWriteNothing, MigrationWrites, StepsLeaveNvm};
+ghost use Rattle.thy_dual_model.specs.Recovery.{FailuresWriteNothing, MigrationWrites, StepsLeaveNvm, VersionTwoStays};
 
 /// Loads and stores keep the checkpoints, those that fail too, and bring the engine no more to do.
 pub fn stays_keep_the_checkpoints()
@@ -58,15 +58,17 @@ pub fn epochs_and_boots_are_short()
     ensures boots { BootsAreShort }
 {}
 
-/// While a machine over the scheme restores a checkpoint and does not migrate it, each step leaves the NVM as it was, and one
-/// that failed wrote nothing; the last one reads.
+/// While a machine over the scheme restores a checkpoint and does not migrate it, each step leaves the NVM as it was,
+/// and one that failed wrote nothing; the last one reads.
 pub fn a_recovery_writes_nothing()
     ensures steps { StepsLeaveNvm }
     ensures failures { FailuresWriteNothing }
 {}
 
 /// It migrates only a checkpoint of version 1. Its actions then are barriers, and writes of blocks of the slot of that
-/// checkpoint's epoch in version 2 and of the commit block.
+/// checkpoint's epoch in version 2 and of the commit block. Over an image of version 2 nothing is migrated, but for the
+/// last barrier of a migration that has just written its commit block.
 pub fn a_migration_writes_a_slot_and_the_commit_block()
-    ensures { MigrationWrites }
+    ensures writes { MigrationWrites }
+    ensures stays { VersionTwoStays }
 {}

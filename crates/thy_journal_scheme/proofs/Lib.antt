@@ -8,3 +8,5 @@ pub mod StepLemmas
 pub mod StoreLemmas
 pub mod LawfulLemmas
 pub mod LawLemmas
+pub mod BarLemmas
+pub mod RoomLemmas

@@ -1,5 +1,5 @@
 -- What holds of the scheme.
-use Rattle.std.specs.Prelude.{◌≡◌, ℕ, ◌+◌, ◌*◌, ◌<◌, ◌≤◌, true, false, [], length}
+use Rattle.std.specs.Prelude.{◌≡◌, ℕ, ◌+◌, ◌*◌, ◌<◌, ◌≤◌, true, false, [], length, None}
 use Rattle.thy_base.specs.declared.config.Parameters.{Parameters}
 use Rattle.thy_base.specs.declared.nvm.Shape.{Shape}
 use Rattle.thy_base.specs.declared.block.Block.{Block}
@@ -8,6 +8,7 @@ use Rattle.thy_base.specs.Device.{Device, IsFramed, block_at, fitted}
 use Rattle.thy_base.specs.Geometry.{memory_blocks}
 use Rattle.thy_isa.specs.declared.state.CpuState.{CpuState}
 use Rattle.thy_record.specs.Decoded.{Nothing}
+use Rattle.thy_view.specs.declared.view.Phase.TheVariants.{Run}
 use Rattle.thy_view.specs.Action.{FailsTo}
 use Rattle.thy_view.specs.Origin.{Origin, IsOrigin}
 use Rattle.thy_view.specs.Safe.{ceiling}
@@ -18,6 +19,8 @@ use Rattle.thy_scheme.specs.Calls.{Drains, Engines, EngineFails, IsOneAccess, Se
 use Rattle.thy_scheme.specs.Marks.{Marks}
 use Rattle.thy_scheme.specs.Scheme.{Stands, IsBooting}
 use Rattle.thy_scheme.specs.Laws.{IsFound, IsLawful, IsNew, BootsFound, BootHolds, RunHolds, StaysSound, is_free_to_run}
+use Rattle.thy_core_model.specs.Machine.{Machine, is_barred, shortage_of}
+use Rattle.thy_core_model.specs.Sound.{Sound}
 use Rattle.thy_journal_image.specs.Places.{image_blocks, slot_blocks}
 use Rattle.thy_log.specs.Progress.{action_next}
 use Rattle.thy_log.specs.State.{State, IsSoundState, work_of}
@@ -51,7 +54,8 @@ StaysKeep =
 
 -- what holds after the boot
 abbrev pub RunIsSound : Type 0
-RunIsSound = (o : Origin) (k : Marks) (s : Journal) (n : Device) → Stands journal_scheme o k s n → RunHolds journal_scheme o k s n
+RunIsSound =
+    (o : Origin) (k : Marks) (s : Journal) (n : Device) → Stands journal_scheme o k s n → RunHolds journal_scheme o k s n
 
 -- nothing is queued in the DRAM of one whose power has just come on, and no more is left to do than there may be
 abbrev pub PowerIsNew : Type 0
@@ -79,13 +83,15 @@ ItemsAreSteps =
     (o : Origin) (k : Marks) (s : Journal) (n : Device)
     → Stands journal_scheme o k s n → journal_scheme.under_way s ≡ true
     → Engines journal_scheme o k (step_of s) s n (taken s) (device_taken s n)
-    × ((new : Device) → FailsTo (action_next s.engine s.log) n new → IsFramed n new → EngineFails journal_scheme o k n new)
+    × ((new : Device)
+    → FailsTo (action_next s.engine s.log) n new → IsFramed n new → EngineFails journal_scheme o k n new)
 
 -- a seal and a drain of the DRAM keep them
 abbrev pub SealsKeep : Type 0
 SealsKeep =
     (o : Origin) (k : Marks) (cpu : CpuState) (epoch : ℕ) (s : Journal) (n : Device)
-    → Stands journal_scheme o k s n → journal_scheme.under_way s ≡ false → Seals journal_scheme o k cpu epoch s n (sealed cpu epoch s)
+    → Stands journal_scheme o k s n → journal_scheme.under_way s ≡ false
+    → Seals journal_scheme o k cpu epoch s n (sealed cpu epoch s)
 
 abbrev pub DrainsKeep : Type 0
 DrainsKeep =
@@ -97,7 +103,8 @@ DrainsKeep =
 abbrev pub StepsBoot : Type 0
 StepsBoot =
     (o : Origin) (s : Journal) (n : Device) (new : Device) (d : Booting) (e : State)
-    → IsBooting journal_scheme o s n → Steps filling_journal o.start n s.boot s.log new d e → IsBoot filling_journal d → IsSoundState e
+    → IsBooting journal_scheme o s n → Steps filling_journal o.start n s.boot s.log new d e
+    → IsBoot filling_journal d → IsSoundState e
     → BootsOn journal_scheme o (answered (answer_of filling_journal d)) s n (booted d e s) new
 
 -- the scheme is lawful
@@ -130,3 +137,29 @@ BootsAreShort =
     (p : Parameters)
     → (journal_scheme.most_booting p ≤ memory_blocks p + 2 * slot_blocks p + p.btt + 8)
     × (journal_scheme.most_engine p ≤ 2 * p.btt + slot_blocks p + 4)
+
+-- nothing is ever migrated: there is one form of its images
+abbrev pub NeverMigrates : Type 0
+NeverMigrates = (s : Journal) → journal_scheme.migrates s ≡ false
+
+-- the hart is barred exactly while a checkpoint is under way
+abbrev pub HartIsBarred : Type 0
+HartIsBarred =
+    (m : Machine Journal) → is_barred journal_scheme m ≡ journal_scheme.under_way m.scheme
+
+-- every entry is free if nothing was stored since the last seal and nothing is under way
+abbrev pub EntriesAreFree : Type 0
+EntriesAreFree =
+    (o : Origin) (k : Marks) (s : Journal) (n : Device)
+    → Stands journal_scheme o k s n
+    → journal_scheme.rested s ≡ true → journal_scheme.under_way s ≡ false
+    → journal_scheme.free s ≡ o.geometry.btt
+
+-- A machine whose epoch goes on and has retired no instruction is not short of entries, once nothing is under way. So no
+-- epoch ends for want of entries before its first instruction.
+abbrev pub FirstHasRoom : Type 0
+FirstHasRoom =
+    (o : Origin) (cycles : ℕ) (m : Machine Journal) (n : Device)
+    → Sound journal_scheme o cycles m n → m.phase ≡ Run
+    → m.hart.epoch.over ≡ None → m.hart.epoch.retired ≡ 0
+    → journal_scheme.under_way m.scheme ≡ false → shortage_of journal_scheme m ≡ None

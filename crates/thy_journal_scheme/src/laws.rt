@@ -1,6 +1,8 @@
 //! Laws of the scheme, each the contract of a function that does nothing.
-ghost use Rattle.thy_journal_scheme.specs.Laws.{BootIsSound, BootsAreShort, DrainsKeep, HeldIsUp, HeldIsWork, ItemsAreSteps, JournalIsLawful, PowerFinds, PowerIsNew};
-ghost use Rattle.thy_journal_scheme.specs.Laws.{RunIsSound, SealsKeep, StaysKeep, StaysOver, StepsBoot, StoresKeep, ZerosAreNothing};
+ghost use Rattle.thy_journal_scheme.specs.Laws.{BootIsSound, BootsAreShort, DrainsKeep, EntriesAreFree};
+ghost use Rattle.thy_journal_scheme.specs.Laws.{FirstHasRoom, HartIsBarred, HeldIsUp, HeldIsWork, ItemsAreSteps};
+ghost use Rattle.thy_journal_scheme.specs.Laws.{JournalIsLawful, NeverMigrates, PowerFinds, PowerIsNew, RunIsSound};
+ghost use Rattle.thy_journal_scheme.specs.Laws.{SealsKeep, StaysKeep, StaysOver, StepsBoot, StoresKeep, ZerosAreNothing};
 
 /// Blocks are held and stored only while the NVM is up, and what loads and stores keep they keep over any number of
 /// calls. A block that is held is that of a load; a store changes that block alone, by one write of the DRAM.
@@ -28,7 +30,8 @@ pub fn calls_keep_the_run()
 {}
 
 /// A new journal boots what the image means; whatever a cut leaves meanwhile is what is seen; and if a step ends the
-/// boot, the checkpoint that was found or made is the committed one. Boots and checkpoints are short.
+/// boot, the checkpoint that was found or made is the committed one. Boots and checkpoints are short, and none
+/// migrates.
 pub fn a_boot_is_sound()
     ensures power { PowerIsNew }
     ensures zeros { ZerosAreNothing }
@@ -36,6 +39,19 @@ pub fn a_boot_is_sound()
     ensures boot { BootIsSound }
     ensures steps { StepsBoot }
     ensures short { BootsAreShort }
+    ensures never { NeverMigrates }
+{}
+
+/// The hart waits for each checkpoint, until its journal is applied: nothing overlaps.
+pub fn a_checkpoint_bars_the_hart()
+    ensures { HartIsBarred }
+{}
+
+/// While nothing is under way, and nothing was stored since the last seal, every entry is free. So the first
+/// instruction of an epoch always has room: none ends for want of entries before it has retired one.
+pub fn an_epoch_begins_with_every_entry_free()
+    ensures free { EntriesAreFree }
+    ensures room { FirstHasRoom }
 {}
 
 /// The journal is a lawful scheme.

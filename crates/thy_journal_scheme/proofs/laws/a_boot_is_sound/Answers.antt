@@ -1,6 +1,7 @@
 use Rattle.thy_journal_scheme.proofs.BootLemmas.{boot_is_sound, power_finds}
 use Rattle.thy_journal_scheme.proofs.LawLemmas.{boots_are_short, steps_boot}
 use Rattle.thy_journal_scheme.proofs.PowerLemmas.{power_is_new, zeros_are_nothing}
+use Rattle.thy_journal_scheme.proofs.BarLemmas.{never_migrates}
 use Rattle.thy_journal_scheme.proofs.laws.a_boot_is_sound.Goals as goal
 
 pub returns-clause-power : goal.returns-clause-power
@@ -20,3 +21,6 @@ returns-clause-steps c = steps_boot
 
 pub returns-clause-short : goal.returns-clause-short
 returns-clause-short c = boots_are_short
+
+pub returns-clause-never : goal.returns-clause-never
+returns-clause-never c = never_migrates
