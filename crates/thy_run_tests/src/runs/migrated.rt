@@ -89,8 +89,8 @@ fn resumed(alloc: Global, size: usize, more: &str) -> Result<Given, AllocError> 
 }
 
 /// The boot reads header and commit block and the seven blocks of the slot, in cycles 1 to 9. It writes the eight blocks
-/// of the new slot from cycle 10 on, with a drain before each third, a barrier in cycle 21, the commit block in cycle 22,
-/// and the last barrier in cycle 24.
+/// of the new slot from cycle 10 on, with a drain in cycles 11, 15 and 19. There is a barrier in cycle 21, the commit block
+/// in cycle 22, a drain in cycle 23, and the last barrier in cycle 24.
 #[test]
 fn an_image_of_version_1_is_resumed_and_migrated(rt: HostRuntime) -> Result<(), Fail> {
     for size in [BYTES_ONE, BYTES_TWO] {
@@ -147,18 +147,18 @@ fn what_is_saved_after_a_migration_is_of_version_2(rt: HostRuntime) -> Result<()
     Ok(())
 }
 
-/// Resumes what was saved under T, over a device that never fails: it has the same checkpoint.
+/// Resumes what was saved under T, over a device that never fails: it has the same checkpoint. Returns the cycles.
 fn restores(
     rt: &impl Abort,
     alloc: Global,
     shelf: &mut MemShelf,
     behind: &str,
-) -> Result<(), AllocError> {
+) -> Result<u64, AllocError> {
     let line = "thynvm resume T --pages 8 --btt 8 --ptt 8";
     let given = called_on(alloc, line, shelf, &[], &[])?;
     let told = "restart 3 at 11\nexit 0 at 11\n";
     compare(rt, behind, &given, 0, "", told.as_bytes());
-    Ok(())
+    Ok(given.cycles)
 }
 
 /// Resumes it over this device and saves what a last cut of this pick leaves under T: the device fails.
@@ -176,12 +176,13 @@ fn fails_over(
     let at = format!(in alloc; "call {call} of {line}")?;
     let given = called_over(alloc, line.as_str(), &mut shelf, &[], &[], &mut nvm)?;
     compare(rt, at.as_str(), &given, 7, "", b"nvm failed\n");
-    restores(rt, alloc, &mut shelf, at.as_str())
+    restores(rt, alloc, &mut shelf, at.as_str())?;
+    Ok(())
 }
 
 /// Each of its 24 cycles makes one call of the NVM. Whichever fails, and whether or not it is done, the next boot
-/// restores the same checkpoint. After them the states of the restart and of the end are read, each with memory's 512
-/// blocks, and nothing else is called.
+/// restores the same checkpoint. After them the states of the restart and of the end are read, each with the 448 blocks
+/// of program memory, and nothing else is called.
 #[test]
 fn each_call_of_a_migration_may_fail(rt: HostRuntime) -> Result<(), Fail> {
     let alloc = rt.alloc();
@@ -197,11 +198,12 @@ fn each_call_of_a_migration_may_fail(rt: HostRuntime) -> Result<(), Fail> {
     let given = called_over(alloc, line, &mut shelf, &[], &[], &mut nvm)?;
     let told = "restart 3 at 11\nexit 0 at 11\n";
     compare(&rt, line, &given, 0, "", told.as_bytes());
-    assert!(rt; nvm.calls() == 24 + 2 * 512);
+    assert!(rt; nvm.calls() == 24 + 2 * 448);
     Ok(())
 }
 
-/// A run that stops at its limit meanwhile saves an image in which the new slot may be written in part. It is read.
+/// A run that stops at its limit meanwhile saves an image in which the new slot may be written in part. It is read, and
+/// migrated again, unless the commit block of version 2 has landed: by the drain in cycle 23, or by the last cut.
 #[test]
 fn a_migration_is_stopped_after_each_of_its_cycles(rt: HostRuntime) -> Result<(), Fail> {
     let alloc = rt.alloc();
@@ -214,7 +216,9 @@ fn a_migration_is_stopped_after_each_of_its_cycles(rt: HostRuntime) -> Result<()
             let given = called_on(alloc, line.as_str(), &mut shelf, &[], &[])?;
             let told = format!(in alloc; "limit {limit}\n")?;
             compare(&rt, line.as_str(), &given, 8, "", told.as_bytes());
-            restores(&rt, alloc, &mut shelf, line.as_str())?;
+            let cycles = restores(&rt, alloc, &mut shelf, line.as_str())?;
+            let is_new = limit > 22 || limit == 22 && pick == 1;
+            assert!(rt; cycles == if is_new { 10 } else { 24 }, "{line}");
         }
     }
     Ok(())
