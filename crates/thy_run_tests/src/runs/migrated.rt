@@ -1,10 +1,11 @@
 //! A saved image of layout version 1, resumed: its boot writes the checkpoint anew in version 2.
 use crate::runs::programs::shelf_of;
-use crate::runs::{Given, called_on, compare};
+use crate::runs::{Given, called_on, called_over, compare};
 use std::alloc::{AllocError, Global};
 use std::process::Abort;
 use std::test::Fail;
 use thy_base::Shelf;
+use thy_nvm::MemNvm;
 use thy_out::MemShelf;
 
 /// How many bytes an image of version 1 has here, and of version 2.
@@ -87,9 +88,9 @@ fn resumed(alloc: Global, size: usize, more: &str) -> Result<Given, AllocError> 
     called_on(alloc, line.as_str(), &mut shelf, &[], &[])
 }
 
-/// The boot reads header and commit block and the seven blocks of the slot, in cycles 1 to 9. It writes the eight blocks of the
-/// new slot from cycle 10 on, with a drain before each third, a barrier in cycle 21, the commit block in cycle 22, and the
-/// last barrier in cycle 24.
+/// The boot reads header and commit block and the seven blocks of the slot, in cycles 1 to 9. It writes the eight blocks
+/// of the new slot from cycle 10 on, with a drain in cycles 11, 15 and 19. There is a barrier in cycle 21, the commit block
+/// in cycle 22, a drain in cycle 23, and the last barrier in cycle 24.
 #[test]
 fn an_image_of_version_1_is_resumed_and_migrated(rt: HostRuntime) -> Result<(), Fail> {
     for size in [BYTES_ONE, BYTES_TWO] {
@@ -118,8 +119,8 @@ fn a_migration_is_cut_at_each_of_its_cycles(rt: HostRuntime) -> Result<(), Fail>
     Ok(())
 }
 
-/// What the run saves then is of version 2: the header stays, the commit block names version 2 and the same epoch, the slot has the
-/// blocks of the old one and a block of zeros, and it is restored without a migration.
+/// What the run saves then is of version 2: the header stays, the commit block names version 2 and the same epoch, the
+/// slot has the blocks of the old one and a block of zeros, and it is restored without a migration.
 #[test]
 fn what_is_saved_after_a_migration_is_of_version_2(rt: HostRuntime) -> Result<(), Fail> {
     let alloc = rt.alloc();
@@ -143,5 +144,82 @@ fn what_is_saved_after_a_migration_is_of_version_2(rt: HostRuntime) -> Result<()
     let given = called_on(alloc, line, &mut shelf, &[], &[])?;
     compare(&rt, line, &given, 0, "", told.as_bytes());
     assert!(rt; given.cycles == 10);
+    Ok(())
+}
+
+/// Resumes what was saved under T, over a device that never fails: it has the same checkpoint. Returns the cycles.
+fn restores(
+    rt: &impl Abort,
+    alloc: Global,
+    shelf: &mut MemShelf,
+    behind: &str,
+) -> Result<u64, AllocError> {
+    let line = "thynvm resume T --pages 8 --btt 8 --ptt 8";
+    let given = called_on(alloc, line, shelf, &[], &[])?;
+    let told = "restart 3 at 11\nexit 0 at 11\n";
+    compare(rt, behind, &given, 0, "", told.as_bytes());
+    Ok(given.cycles)
+}
+
+/// Resumes it over this device and saves what a last cut of this pick leaves under T: the device fails.
+fn fails_over(
+    rt: &impl Abort,
+    alloc: Global,
+    mut nvm: MemNvm,
+    call: u64,
+    pick: u64,
+) -> Result<(), AllocError> {
+    let mut shelf = shelf(alloc, BYTES_ONE)?;
+    let line = format!(in alloc;
+        "thynvm resume D --pages 8 --btt 8 --ptt 8 --save T --tears {pick}"
+    )?;
+    let at = format!(in alloc; "call {call} of {line}")?;
+    let given = called_over(alloc, line.as_str(), &mut shelf, &[], &[], &mut nvm)?;
+    compare(rt, at.as_str(), &given, 7, "", b"nvm failed\n");
+    restores(rt, alloc, &mut shelf, at.as_str())?;
+    Ok(())
+}
+
+/// Each of its 24 cycles makes one call of the NVM. Whichever fails, and whether or not it is done, the next boot
+/// restores the same checkpoint. After them the states of the restart and of the end are read, each with the 448 blocks
+/// of program memory, and nothing else is called.
+#[test]
+fn each_call_of_a_migration_may_fail(rt: HostRuntime) -> Result<(), Fail> {
+    let alloc = rt.alloc();
+    for call in 1..25 {
+        for pick in 0..2 {
+            fails_over(&rt, alloc, MemNvm::failing(alloc, &[call])?, call, pick)?;
+            fails_over(&rt, alloc, MemNvm::late(alloc, &[call])?, call, pick)?;
+        }
+    }
+    let mut shelf = shelf(alloc, BYTES_ONE)?;
+    let mut nvm = MemNvm::new(alloc);
+    let line = "thynvm resume D --pages 8 --btt 8 --ptt 8";
+    let given = called_over(alloc, line, &mut shelf, &[], &[], &mut nvm)?;
+    let told = "restart 3 at 11\nexit 0 at 11\n";
+    compare(&rt, line, &given, 0, "", told.as_bytes());
+    assert!(rt; nvm.calls() == 24 + 2 * 448);
+    Ok(())
+}
+
+/// A run that stops at its limit meanwhile saves an image in which the new slot may be written in part. It is read, and
+/// migrated again, unless the commit block of version 2 has landed: by the drain in cycle 23, or by the last cut.
+#[test]
+fn a_migration_is_stopped_after_each_of_its_cycles(rt: HostRuntime) -> Result<(), Fail> {
+    let alloc = rt.alloc();
+    for limit in 1..24 {
+        for pick in 0..2 {
+            let mut shelf = shelf(alloc, BYTES_ONE)?;
+            let line = format!(in alloc;
+                "thynvm resume D --pages 8 --btt 8 --ptt 8 --limit {limit} --save T --tears {pick}"
+            )?;
+            let given = called_on(alloc, line.as_str(), &mut shelf, &[], &[])?;
+            let told = format!(in alloc; "limit {limit}\n")?;
+            compare(&rt, line.as_str(), &given, 8, "", told.as_bytes());
+            let cycles = restores(&rt, alloc, &mut shelf, line.as_str())?;
+            let is_new = limit > 22 || limit == 22 && pick == 1;
+            assert!(rt; cycles == if is_new { 10 } else { 24 }, "{line}");
+        }
+    }
     Ok(())
 }
