@@ -11,7 +11,7 @@ pub enum EngineStep {
     PageBlock,
     /// A block of the processor's record was written into the slot.
     StateBlock,
-    /// A block of the tables was written.
+    /// A block of the tables or of the counts was written.
     TableBlock,
     /// The barrier before the commit block.
     Barrier,

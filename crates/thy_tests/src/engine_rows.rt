@@ -248,7 +248,7 @@ fn in_order(rt: &impl Abort, memory: &mut Memory) {
     are(rt, memory, 2, EngineStep::Copied);
     are(rt, memory, 64, EngineStep::PageBlock);
     are(rt, memory, 5, EngineStep::StateBlock);
-    are(rt, memory, 5, EngineStep::TableBlock);
+    are(rt, memory, 6, EngineStep::TableBlock);
     are(rt, memory, 1, EngineStep::Barrier);
     are(rt, memory, 1, EngineStep::CommitWritten);
     are(rt, memory, 1, EngineStep::Committed(2));

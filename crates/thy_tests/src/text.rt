@@ -100,7 +100,7 @@ fn the_longest_line_of_an_event_is_written_at_once(rt: HostRuntime) {
 }
 
 /// The closings that report a field, a name or a number.
-static CLOSINGS: [Closing<'static>; 16] = [
+static CLOSINGS: [Closing<'static>; 17] = [
     Closing::Word(Field::Pages),
     Closing::Value(Field::Low, 16),
     Closing::Fetch("F", FetchFault::TooLong),
@@ -116,6 +116,7 @@ static CLOSINGS: [Closing<'static>; 16] = [
     Closing::Image(BadImage::TableTwice(0, 1)),
     Closing::Image(BadImage::BlockUnderPage(3, 0)),
     Closing::Image(BadImage::ConsoleLength),
+    Closing::Image(BadImage::Count(7)),
     Closing::Input {
         cursor: 4,
         length: 2,
@@ -129,7 +130,7 @@ fn closings_have_their_lines(rt: HostRuntime) {
         expect(&rt, write_closing(*closing, &mut page), Ok(()));
     }
     let text =
-        b"word pages\nvalue low 16\nfetch F too long\nfetch  missing\nfile 1 TooShort\nfile 17 SegmentOutsideMemory 0\nlimit 717\nword n\nvalue n 4294967296\nput D failed\nimage 1 Empty\nimage 6 TableIndex 5\nimage 7 TableTwice 0 1\nimage 8 BlockUnderPage 3 0\nimage 10 ConsoleLength\ninput 4 2\n";
+        b"word pages\nvalue low 16\nfetch F too long\nfetch  missing\nfile 1 TooShort\nfile 17 SegmentOutsideMemory 0\nlimit 717\nword n\nvalue n 4294967296\nput D failed\nimage 1 Empty\nimage 6 TableIndex 5\nimage 7 TableTwice 0 1\nimage 8 BlockUnderPage 3 0\nimage 10 ConsoleLength\nimage 11 Count 7\ninput 4 2\n";
     expect(&rt, page.bytes.as_slice(), text.as_slice());
 }
 
