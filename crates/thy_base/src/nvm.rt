@@ -55,13 +55,13 @@ pub trait Nvm {
     /// How many writes it has taken since it was fitted.
     ghost writes: { Self → ℕ };
 
-    /// Makes the device anew: the blocks of `start` and then zeros, an empty queue, no kept images and
-    /// picks, and no writes. The call is counted, also if it fails; only one that is out of memory may go uncounted.
-    fn fit(&mut self, alloc: Global, shape: &Shape, start: &[Block]) -> Result<(), FitError>
+    /// Makes the device anew: the blocks of `start`, which it takes over, and then zeros, an empty queue, no kept images
+    /// and picks, and no writes. The call is counted, also if it fails; only one that is out of memory may go uncounted.
+    fn fit(&mut self, alloc: Global, shape: &Shape, start: Vec<Block>) -> Result<(), FitError>
         requires blocks { 0 < shape.now.blocks }
         requires queue { 0 < shape.now.queue }
-        requires start { length start.now ≤ shape.now.blocks }
-        ensures ok { OnOk result (device self.new ≡ fitted shape.now start.now (device self.old)) }
+        requires start { length start.items ≤ shape.now.blocks }
+        ensures ok { OnOk result (device self.new ≡ fitted shape.now start.items (device self.old)) }
         ensures err { IfErr result (λ e. HasFailedToFit e (device self.old) (device self.new)) }
         ensures no_writes { OnOk result (writes self.new ≡ 0) }
         ensures same_writes { OnErr result (writes self.new ≡ writes self.old) };
@@ -137,7 +137,7 @@ impl<N: Nvm> Nvm for &mut N {
 
     ghost writes = { λ loan. N.writes loan.now };
 
-    fn fit(&mut self, alloc: Global, shape: &Shape, start: &[Block]) -> Result<(), FitError> {
+    fn fit(&mut self, alloc: Global, shape: &Shape, start: Vec<Block>) -> Result<(), FitError> {
         (**self).fit(alloc, shape, start)
     }
 

@@ -128,20 +128,20 @@ fn run_direct<M: Computer, H: Shelf, T: Sink, R: Sink, N: Nvm>(
     source: Source,
     save: Option<&str>,
     plan: &Plan,
-    blocks: &[Block],
+    blocks: Vec<Block>,
     shelf: &mut H,
     terminal: &mut T,
     report: &mut R,
     nvm: &mut N,
 ) -> Answer
     requires direct { plan.now.config.gap ≡ 0 }
-    requires can { CanRun plan.now blocks.now }
+    requires can { CanRun plan.now blocks.items }
     requires reads { ReadsFiles M.kind plan.now.geometry }
     ensures { let before = outside (H.stock shelf.old) (N.device nvm.old)
         (T.stream terminal.old) (R.stream report.old) in
         let after = outside (H.stock shelf.new) (N.device nvm.new)
         (T.stream terminal.new) (R.stream report.new) in
-        RunsPlan M.kind (named source.entry) (option_map (λ n. n.now) save.entry) plan.now blocks.now before after result }
+        RunsPlan M.kind (named source.entry) (option_map (λ n. n.now) save.entry) plan.now blocks.items before after result }
 {
     let shape = shape_of::<M>(plan);
     match nvm.fit(alloc, &shape, blocks) {
@@ -159,20 +159,20 @@ fn run_levelled<M: Computer, H: Shelf, T: Sink, R: Sink, N: Nvm>(
     source: Source,
     save: Option<&str>,
     plan: &Plan,
-    blocks: &[Block],
+    blocks: Vec<Block>,
     shelf: &mut H,
     terminal: &mut T,
     report: &mut R,
     nvm: &mut N,
 ) -> Answer
     requires levelled { 0 < plan.now.config.gap }
-    requires can { CanRun plan.now blocks.now }
+    requires can { CanRun plan.now blocks.items }
     requires reads { ReadsFiles M.kind plan.now.geometry }
     ensures { let before = outside (H.stock shelf.old) (N.device nvm.old)
         (T.stream terminal.old) (R.stream report.old) in
         let after = outside (H.stock shelf.new) (N.device nvm.new)
         (T.stream terminal.new) (R.stream report.new) in
-        RunsPlan M.kind (named source.entry) (option_map (λ n. n.now) save.entry) plan.now blocks.now before after result }
+        RunsPlan M.kind (named source.entry) (option_map (λ n. n.now) save.entry) plan.now blocks.items before after result }
 {
     let shape = shape_of::<M>(plan);
     let mut lines = Gap::over(nvm, plan.config.gap);
@@ -198,19 +198,19 @@ fn run_plan<M: Computer, H: Shelf, T: Sink, R: Sink, N: Nvm>(
     source: Source,
     save: Option<&str>,
     plan: &Plan,
-    blocks: &[Block],
+    blocks: Vec<Block>,
     shelf: &mut H,
     terminal: &mut T,
     report: &mut R,
     nvm: &mut N,
 ) -> Answer
-    requires can { CanRun plan.now blocks.now }
+    requires can { CanRun plan.now blocks.items }
     requires reads { ReadsFiles M.kind plan.now.geometry }
     ensures { let before = outside (H.stock shelf.old) (N.device nvm.old)
         (T.stream terminal.old) (R.stream report.old) in
         let after = outside (H.stock shelf.new) (N.device nvm.new)
         (T.stream terminal.new) (R.stream report.new) in
-        RunsPlan M.kind (named source.entry) (option_map (λ n. n.now) save.entry) plan.now blocks.now before after result }
+        RunsPlan M.kind (named source.entry) (option_map (λ n. n.now) save.entry) plan.now blocks.items before after result }
 {
     if plan.config.gap == 0 {
         run_direct::<M, H, T, R, N>(
@@ -275,7 +275,7 @@ fn run_source<M: Computer, H: Shelf, T: Sink, R: Sink, N: Nvm>(
         source,
         save.as_deref(),
         &plan,
-        blocks.as_slice(),
+        blocks,
         shelf,
         terminal,
         report,

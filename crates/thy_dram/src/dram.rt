@@ -33,7 +33,7 @@ impl Dram {
         requires { 0 < queue }
         ensures { IfOk result (λ d. d ≡ fresh blocks queue) }
     {
-        let ring = Ring::with_blocks(alloc, blocks, queue, &[])?;
+        let ring = Ring::with_blocks(alloc, blocks, queue, Vec::new(alloc))?;
         Ok(Dram { ring })
     }
 

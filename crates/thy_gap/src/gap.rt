@@ -87,13 +87,12 @@ impl<N: Nvm> Gap<N> {
 
 /// The inner image of a fit: the start and zeros, one of them at the gap, and the registers.
 #[tactic(auto, unfolding(thy_base::specs::Device::zero_block))]
-fn first_blocks(alloc: Global, lines: u64, start: &[Block]) -> Result<Vec<Block>, AllocError>
-    requires start { length start.now ≤ lines }
+fn first_blocks(start: Vec<Block>, lines: u64) -> Result<Vec<Block>, AllocError>
+    requires start { length start.items ≤ lines }
     requires room { lines + 2 < 2 ^ 64 }
-    ensures { IfOk result (λ v. v.items ≡ first_image lines start.now) }
+    ensures { IfOk result (λ v. v.items ≡ first_image lines start.items) }
 {
-    let mut image = Vec::with_capacity(alloc, lines as usize + 2)?;
-    image.extend_from_slice(start)?;
+    let mut image = start;
     image.resize(lines as usize + 1, Block::ZERO)?;
     image.push(Registers::unmoved(lines).block())?;
     Ok(image)
@@ -107,12 +106,12 @@ impl<N: Nvm> Nvm for Gap<N> {
     /// The inner device's, which counts the moves too.
     ghost writes = { λ g. N.writes g.inner };
 
-    fn fit(&mut self, alloc: Global, shape: &Shape, start: &[Block]) -> Result<(), FitError>
+    fn fit(&mut self, alloc: Global, shape: &Shape, start: Vec<Block>) -> Result<(), FitError>
         requires blocks { 0 < shape.now.blocks }
         requires queue { 0 < shape.now.queue }
-        requires start { length start.now ≤ shape.now.blocks }
-        ensures ok { OnOk result (shown N.device self.new ≡ fitted shape.now start.now (shown N.device self.old)) }
-        ensures inner { OnOk result (N.device self.new.inner ≡ inner_fitted shape.now start.now (N.device self.old.inner)) }
+        requires start { length start.items ≤ shape.now.blocks }
+        ensures ok { OnOk result (shown N.device self.new ≡ fitted shape.now start.items (shown N.device self.old)) }
+        ensures inner { OnOk result (N.device self.new.inner ≡ inner_fitted shape.now start.items (N.device self.old.inner)) }
         ensures fitted { OnOk result (HasFitted shape.now.blocks self.old self.new) }
         ensures stays { OnErr result (IsOver self.old self.new) }
         ensures err { IfErr result (λ e. HasFailedToFit e (shown N.device self.old) (shown N.device self.new)) }
@@ -126,7 +125,7 @@ impl<N: Nvm> Nvm for Gap<N> {
         if shape.cuts.checked_add(1).is_none() {
             return Err(FitError::Memory(AllocError));
         }
-        let image = match first_blocks(alloc, shape.blocks, start) {
+        let image = match first_blocks(start, shape.blocks) {
             Ok(image) => image,
             Err(error) => return Err(FitError::Memory(error)),
         };
@@ -135,7 +134,7 @@ impl<N: Nvm> Nvm for Gap<N> {
             queue: shape.queue,
             cuts: shape.cuts,
         };
-        if let Err(error) = self.inner.fit(alloc, &inner_shape, &image) {
+        if let Err(error) = self.inner.fit(alloc, &inner_shape, image) {
             return Err(error);
         }
         self.registers = Registers::unmoved(shape.blocks);

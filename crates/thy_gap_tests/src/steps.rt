@@ -22,7 +22,7 @@ pub(crate) fn four_lines(rt: &impl Abort, alloc: Global, inner: MemNvm) -> Gap<M
         cuts: 1,
     };
     let mut gap = Gap::over(inner, 1);
-    gap.fit(alloc, &shape, &[]).expect(rt, "memory");
+    gap.fit(alloc, &shape, Vec::new(alloc)).expect(rt, "memory");
     gap
 }
 

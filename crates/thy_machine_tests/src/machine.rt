@@ -183,7 +183,8 @@ impl<M: Computer> Powered<M> {
         };
         assert!(rt; shape.blocks > 0);
         let mut nvm = MemNvm::new(alloc);
-        nvm.fit(alloc, &shape, &[]).expect(rt, "a device");
+        nvm.fit(alloc, &shape, Vec::new(alloc))
+            .expect(rt, "a device");
         let dram = new_dram(rt, alloc, &geometry);
         let machine = M::power_on(alloc, &geometry, dram).expect(rt, "memory");
         Powered {

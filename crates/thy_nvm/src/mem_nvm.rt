@@ -183,10 +183,10 @@ fn settle_half(ring: &mut Ring)
 }
 
 /// The parts of a device of a shape, whose image begins with these blocks.
-fn fresh(alloc: Global, shape: &Shape, start: &[Block]) -> Result<(Ring, Kept), AllocError>
+fn fresh(alloc: Global, shape: &Shape, start: Vec<Block>) -> Result<(Ring, Kept), AllocError>
     requires queue { 0 < shape.now.queue }
-    requires start { length start.now ≤ shape.now.blocks }
-    ensures { IfOk result (λ parts. IsFresh shape.now start.now parts.0 parts.1) }
+    requires start { length start.items ≤ shape.now.blocks }
+    ensures { IfOk result (λ parts. IsFresh shape.now start.items parts.0 parts.1) }
 {
     let Some(room) = shape.cuts.checked_add(1) else {
         return Err(AllocError);
@@ -202,12 +202,12 @@ impl Nvm for MemNvm {
     ghost writes = { λ m. m.writes };
 
     /// Fails only if memory runs out, and is not one of the calls that are numbered.
-    fn fit(&mut self, alloc: Global, shape: &Shape, start: &[Block]) -> Result<(), FitError>
+    fn fit(&mut self, alloc: Global, shape: &Shape, start: Vec<Block>) -> Result<(), FitError>
         requires blocks { 0 < shape.now.blocks }
         requires queue { 0 < shape.now.queue }
-        requires start { length start.now ≤ shape.now.blocks }
-        ensures exact { IsFit shape.now start.now self.old result self.new }
-        ensures ok { OnOk result (self.new.device ≡ fitted shape.now start.now self.old.device) }
+        requires start { length start.items ≤ shape.now.blocks }
+        ensures exact { IsFit shape.now start.items self.old result self.new }
+        ensures ok { OnOk result (self.new.device ≡ fitted shape.now start.items self.old.device) }
         ensures err { IfErr result (λ e. HasFailedToFit e self.old.device self.new.device) }
         ensures no_writes { OnOk result (self.new.writes ≡ 0) }
         ensures same_writes { OnErr result (self.new.writes ≡ self.old.writes) }

@@ -40,18 +40,18 @@ impl Ring {
         }
     }
 
-    /// A ring of so many blocks, those of `start` and then zeros, with room for so many writes.
+    /// A ring of so many blocks, those of `start`, which it takes over, and then zeros, with room for so many writes.
     pub fn with_blocks(
         alloc: Global,
         blocks: u64,
         room: u64,
-        start: &[Block],
+        start: Vec<Block>,
     ) -> Result<Ring, AllocError>
         requires room { 0 < room }
-        requires start { length start.now ≤ blocks }
-        ensures { IfOk result (λ r. r ≡ made blocks room start.now) }
+        requires start { length start.items ≤ blocks }
+        ensures { IfOk result (λ r. r ≡ made blocks room start.items) }
     {
-        let image = fresh_image(alloc, blocks as usize, start)?;
+        let image = fresh_image(start, blocks as usize)?;
         let queue = HeapCircularBuffer::with_capacity(alloc, room as usize)?;
         Ok(Ring {
             image,
@@ -144,12 +144,11 @@ impl Ring {
 
 /// The blocks of a start and then zeros.
 #[tactic(auto, unfolding(thy_base::specs::Device::zero_block))]
-fn fresh_image(alloc: Global, blocks: usize, start: &[Block]) -> Result<Vec<Block>, AllocError>
-    requires { length start.now ≤ blocks }
-    ensures { IfOk result (λ v. v.items ≡ start.now ++ replicate (blocks - length start.now) zero_block) }
+fn fresh_image(start: Vec<Block>, blocks: usize) -> Result<Vec<Block>, AllocError>
+    requires { length start.items ≤ blocks }
+    ensures { IfOk result (λ v. v.items ≡ start.items ++ replicate (blocks - length start.items) zero_block) }
 {
-    let mut image = Vec::with_capacity(alloc, blocks)?;
-    image.extend_from_slice(start)?;
+    let mut image = start;
     image.resize(blocks, Block::ZERO)?;
     Ok(image)
 }

@@ -192,7 +192,8 @@ fn a_start_is_loaded_and_found_again(rt: HostRuntime) {
         queue: 4,
         cuts: 3,
     };
-    nvm.fit(alloc, &shape, &[]).expect(&rt, "a device");
+    nvm.fit(alloc, &shape, Vec::new(alloc))
+        .expect(&rt, "a device");
     expect(&rt, boot(&rt, alloc, &mut nvm, 524).told, BootStep::Loading);
     nvm.cut(7);
     let loaded = boot(&rt, alloc, &mut nvm, 1000);

@@ -202,7 +202,8 @@ fn fit<N: Nvm>(rt: &impl Abort, alloc: Global, nvm: &mut N, geometry: &Geometry,
         queue: 4,
         cuts: 0,
     };
-    nvm.fit(alloc, &shape, image).expect(rt, "a device");
+    let start = Vec::from_slice(alloc, image).expect(rt, "memory");
+    nvm.fit(alloc, &shape, start).expect(rt, "a device");
 }
 
 /// The controller of a machine whose power came on, over an NVM of its size.

@@ -13,7 +13,8 @@ fn what_was_committed_stands_where_no_queued_write_lands(rt: HostRuntime) {
         cuts: 0,
     };
     let mut nvm = MemNvm::new(rt.alloc());
-    nvm.fit(rt.alloc(), &shape, &[]).expect(&rt, "memory");
+    nvm.fit(rt.alloc(), &shape, Vec::new(rt.alloc()))
+        .expect(&rt, "memory");
     nvm.write(2, &Block([5; 64])).expect(&rt, "a write");
     commit(&Block([1; 64]), &mut nvm).expect(&rt, "a commit");
     nvm.write(0, &Block([7; 64])).expect(&rt, "a write");

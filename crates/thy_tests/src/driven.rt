@@ -31,7 +31,8 @@ pub(crate) fn power_on<N: Nvm>(
         queue: 4,
         cuts: 0,
     };
-    nvm.fit(alloc, &shape, image).expect(rt, "a device");
+    let start = Vec::from_slice(alloc, image).expect(rt, "memory");
+    nvm.fit(alloc, &shape, start).expect(rt, "a device");
     let dram = Dram::new(alloc, geometry.dram_blocks(), 4).expect(rt, "memory");
     Control::new(alloc, geometry, dram).expect(rt, "memory")
 }

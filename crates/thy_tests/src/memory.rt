@@ -70,8 +70,8 @@ fn with_header(rt: &impl Abort, alloc: Global, geometry: &Geometry, cuts: u64) -
         cuts,
     };
     let mut nvm = MemNvm::new(alloc);
-    nvm.fit(alloc, &shape, &[header_block(geometry)])
-        .expect(rt, "a device");
+    let start = Vec::from_slice(alloc, &[header_block(geometry)]).expect(rt, "memory");
+    nvm.fit(alloc, &shape, start).expect(rt, "a device");
     nvm
 }
 

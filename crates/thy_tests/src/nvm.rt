@@ -17,8 +17,8 @@ fn a_pick_leaves_its_image(rt: HostRuntime) {
         cuts: 0,
     };
     let mut nvm = MemNvm::new(rt.alloc());
-    nvm.fit(rt.alloc(), &shape, &[Block([1; 64])])
-        .expect(&rt, "memory");
+    let start = Vec::from_slice(rt.alloc(), &[Block([1; 64])]).expect(&rt, "memory");
+    nvm.fit(rt.alloc(), &shape, start).expect(&rt, "memory");
     nvm.write(2, &Block([5; 64])).expect(&rt, "a write");
     nvm.write(0, &Block([2; 64])).expect(&rt, "a write");
     nvm.write(0, &Block([3; 64])).expect(&rt, "a write");
@@ -51,7 +51,8 @@ fn what_is_written_through_a_loan_stands_in_the_device(rt: HostRuntime) {
         cuts: 0,
     };
     let mut nvm = MemNvm::new(rt.alloc());
-    nvm.fit(rt.alloc(), &shape, &[]).expect(&rt, "memory");
+    nvm.fit(rt.alloc(), &shape, Vec::new(rt.alloc()))
+        .expect(&rt, "memory");
     let mut loan = &mut nvm;
     write_first(&rt, &mut loan);
     expect(&rt, nvm.queued(), 0);

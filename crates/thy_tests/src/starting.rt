@@ -75,7 +75,8 @@ impl Off {
             cuts,
         };
         let mut nvm = MemNvm::new(alloc);
-        nvm.fit(alloc, &shape, &[]).expect(rt, "a device");
+        nvm.fit(alloc, &shape, Vec::new(alloc))
+            .expect(rt, "a device");
         Off {
             geometry,
             dram: Dram::new(alloc, geometry.dram_blocks(), 4).expect(rt, "memory"),

@@ -46,7 +46,7 @@ impl<N: Nvm> Nvm for Counted<N> {
 
     ghost writes = { λ c. N.writes c.inner };
 
-    fn fit(&mut self, alloc: Global, shape: &Shape, start: &[Block]) -> Result<(), FitError> {
+    fn fit(&mut self, alloc: Global, shape: &Shape, start: Vec<Block>) -> Result<(), FitError> {
         self.inner.fit(alloc, shape, start)
     }
 

@@ -98,7 +98,8 @@ fn counting(alloc: Global, asked: Asked) -> io::Result<Counted<MemNvm>>
 fn played<N: Nvm>(alloc: Global, nvm: &mut N, asked: Asked, stores: &[u64]) -> io::Result<()>
     requires { 0 < asked.lines }
 {
-    nvm.fit(alloc, &shape_of(asked), &[]).map_err(fit_failed)?;
+    nvm.fit(alloc, &shape_of(asked), Vec::new(alloc))
+        .map_err(fit_failed)?;
     play(nvm, asked.lines, asked.barrier, stores).map_err(nvm_failed)
 }
 

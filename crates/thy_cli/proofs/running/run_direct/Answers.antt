@@ -17,7 +17,7 @@ fit-requires-clause-blocks g c =
 
 pub fit-requires-clause-start : goal.fit-requires-clause-start
 fit-requires-clause-start g c =
-    (fitted_for_plan g.M.Computer.kind g.met.M.Computer.lawful c.args.plan.now c.requires.reads c.args.blocks.now c.shape_of-shape.result (g.N.Nvm.device c.args.nvm.now) c.requires.can
+    (fitted_for_plan g.M.Computer.kind g.met.M.Computer.lawful c.args.plan.now c.requires.reads c.args.blocks.items c.shape_of-shape.result (g.N.Nvm.device c.args.nvm.now) c.requires.can
     (ap (λ (s : Shape). s.blocks) c.shape_of-shape.ensures.shape)).fits
 
 pub returns-in-Err : goal.returns-in-Err
@@ -37,10 +37,10 @@ returns-in-Err g c = λ job names p. inl (
 pub run_fitted-requires-clause-fitted : goal.run_fitted-requires-clause-fitted
 run_fitted-requires-clause-fitted g c = record {
   shape = c.shape_of-shape.result;
-  start = c.args.blocks.now;
+  start = c.args.blocks.items;
   before = g.N.Nvm.device c.args.nvm.now;
   fits =
-      fitted_for_plan g.M.Computer.kind g.met.M.Computer.lawful c.args.plan.now c.requires.reads c.args.blocks.now c.shape_of-shape.result (g.N.Nvm.device c.args.nvm.now) c.requires.can
+      fitted_for_plan g.M.Computer.kind g.met.M.Computer.lawful c.args.plan.now c.requires.reads c.args.blocks.items c.shape_of-shape.result (g.N.Nvm.device c.args.nvm.now) c.requires.can
       (ap (λ (s : Shape). s.blocks) c.shape_of-shape.ensures.shape);
   queue = ap (λ (s : Shape). s.queue) c.shape_of-shape.ensures.shape;
   cuts = ap (λ (s : Shape). s.cuts) c.shape_of-shape.ensures.shape;
@@ -54,7 +54,7 @@ returns-in-Ok g c = λ job names p.
     let before : Outside = outside (g.H.Shelf.stock c.args.shelf.now) n (g.T.Sink.stream c.args.terminal.now) (g.R.Sink.stream c.args.report.now) in
     let after : Outside = outside (g.H.Shelf.stock c.run_fitted.new.shelf) (g.N.Nvm.device c.run_fitted.new.nvm) (g.T.Sink.stream c.run_fitted.new.terminal) (g.R.Sink.stream c.run_fitted.new.report) in
     let none : job.config.gap ≡ 0 = ap (λ (x : Config). x.gap) (sym p.config) ∙ c.requires.direct in
-    let fit : g.N.Nvm.device c.fit.new.self ≡ fitted (shape_for K job.config) c.args.blocks.now n =
-    c.in-Ok.ensures.ok ∙ ap (λ s. fitted s c.args.blocks.now n) (c.shape_of-shape.ensures.shape ∙ shape_planned K (named c.args.source) job before.shelf c.args.plan.now c.args.blocks.now p) in
+    let fit : g.N.Nvm.device c.fit.new.self ≡ fitted (shape_for K job.config) c.args.blocks.items n =
+    c.in-Ok.ensures.ok ∙ ap (λ s. fitted s c.args.blocks.items n) (c.shape_of-shape.ensures.shape ∙ shape_planned K (named c.args.source) job before.shelf c.args.plan.now c.args.blocks.items p) in
     inr (IsRunOver-seen K (named c.args.source) job before after n after.device c.run_fitted.result (IsFoundAs-direct job.config.gap n) (IsLeftAs-direct job.config.gap after.device none)
-    (c.run_fitted.ensures.runs job c.args.blocks.now n names p fit))
+    (c.run_fitted.ensures.runs job c.args.blocks.items n names p fit))

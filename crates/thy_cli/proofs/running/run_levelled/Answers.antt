@@ -26,16 +26,16 @@ fit-requires-clause-blocks g c =
 
 pub fit-requires-clause-start : goal.fit-requires-clause-start
 fit-requires-clause-start g c =
-    (fitted_for_plan g.M.Computer.kind g.met.M.Computer.lawful c.args.plan.now c.requires.reads c.args.blocks.now c.shape_of-shape.result (g.N.Nvm.device c.args.nvm.now) c.requires.can
+    (fitted_for_plan g.M.Computer.kind g.met.M.Computer.lawful c.args.plan.now c.requires.reads c.args.blocks.items c.shape_of-shape.result (g.N.Nvm.device c.args.nvm.now) c.requires.can
     (ap (λ (s : Shape). s.blocks) c.shape_of-shape.ensures.shape)).fits
 
 pub run_fitted-answer-requires-clause-fitted : goal.run_fitted-answer-requires-clause-fitted
 run_fitted-answer-requires-clause-fitted g c = record {
   shape = c.shape_of-shape.result;
-  start = c.args.blocks.now;
+  start = c.args.blocks.items;
   before = seen c.over-lines.result.registers (lent_by c.over-lines.result.inner.ghost_name (g.N.Nvm.device c.over-lines.result.inner.now));
   fits =
-      fitted_for_plan g.M.Computer.kind g.met.M.Computer.lawful c.args.plan.now c.requires.reads c.args.blocks.now c.shape_of-shape.result
+      fitted_for_plan g.M.Computer.kind g.met.M.Computer.lawful c.args.plan.now c.requires.reads c.args.blocks.items c.shape_of-shape.result
       (seen c.over-lines.result.registers (lent_by c.over-lines.result.inner.ghost_name (g.N.Nvm.device c.over-lines.result.inner.now))) c.requires.can
       (ap (λ (s : Shape). s.blocks) c.shape_of-shape.ensures.shape);
   queue = ap (λ (s : Shape). s.queue) c.shape_of-shape.ensures.shape;
@@ -80,8 +80,8 @@ returns-in-Ok g c = λ job names p.
     let found : Device = seen c.over-lines.result.registers (lent_by first.ghost_name (g.N.Nvm.device first.now)) in
     let left : Device = seen c.run_fitted-answer.new.nvm.registers (lent_by last.ghost_name (g.N.Nvm.device last.now)) in
     let some : 0 < job.config.gap = subst (λ (x : Config). 0 < x.gap) p.config c.requires.levelled in
-    let fit : seen c.fit.new.self.registers (lent_by filled.ghost_name (g.N.Nvm.device filled.now)) ≡ fitted (shape_for K job.config) c.args.blocks.now found =
-    c.in-Ok.ensures.ok ∙ ap (λ s. fitted s c.args.blocks.now found) (c.shape_of-shape.ensures.shape ∙ shape_planned K (named c.args.source) job before.shelf c.args.plan.now c.args.blocks.now p) in
+    let fit : seen c.fit.new.self.registers (lent_by filled.ghost_name (g.N.Nvm.device filled.now)) ≡ fitted (shape_for K job.config) c.args.blocks.items found =
+    c.in-Ok.ensures.ok ∙ ap (λ s. fitted s c.args.blocks.items found) (c.shape_of-shape.ensures.shape ∙ shape_planned K (named c.args.source) job before.shelf c.args.plan.now c.args.blocks.items p) in
     let blocks : 0 < c.shape_of-shape.result.blocks =
     (let has = some_blocks c.args.plan.now.geometry in omega (arith, has, ap (λ (s : Shape). s.blocks) c.shape_of-shape.ensures.shape ∙ c.requires.reads.blocks)) in
     let many : c.fit.new.self.registers.lines ≡ c.shape_of-shape.result.blocks = ap (λ l. l.registers.lines) c.in-Ok.ensures.fitted in
@@ -100,4 +100,4 @@ returns-in-Ok g c = λ job names p.
     (IsLeftAs-levelled job.config.gap last.ghost_name c.run_fitted-answer.new.nvm.registers (g.N.Nvm.device last.now) some lines
     c.means_what_is_seen.ensures.image c.means_what_is_seen.ensures.crash c.means_what_is_seen.ensures.left) in
     inr (IsRunOver-seen K (named c.args.source) job before after found left c.run_fitted-answer.result is_found is_left
-    (c.run_fitted-answer.ensures.runs job c.args.blocks.now found names p fit))
+    (c.run_fitted-answer.ensures.runs job c.args.blocks.items found names p fit))

@@ -31,7 +31,6 @@ pub run_plan-requires-clause-can : goal.run_plan-requires-clause-can
 run_plan-requires-clause-can g c =
     let job : Job = job_of c.args.job in
     let numbers : c.in-Ok.geometry ≡ parameters_of job.config = geometry_is job.config c.in-Ok.geometry c.requires.range c.in-Ok.ensures.geometry in
-    subst (CanRun (plan_with job.config c.in-Ok.geometry c.in-Ok-prepare.beginning.start job.digest)) (sym c.as_slice.ensures.value)
     (IsBegun-begins (named c.args.source) job (g.H.Shelf.stock c.args.shelf.now) c.in-Ok-prepare.beginning c.in-Ok.geometry c.requires.range numbers
     (c.in-Ok-prepare.ensures.begins job (record { numbers = numbers; reads = sym c.as_deref.ensures.value }))).can
 
@@ -47,7 +46,7 @@ returns g c =
     (subst (λ s. Begins (named c.args.source) job s c.in-Ok-prepare.beginning) (sym same) (c.in-Ok-prepare.ensures.begins job (record { numbers = numbers; reads = sym c.as_deref.ensures.value }))) in
     RunAnswered-same g.M.Computer.kind (named c.args.source) job old middle (g.H.Shelf.stock c.run_plan.new.shelf) (g.N.Nvm.device c.args.nvm.now) (g.N.Nvm.device c.run_plan.new.nvm)
     (g.T.Sink.stream c.args.terminal.now) (g.T.Sink.stream c.run_plan.new.terminal) (g.R.Sink.stream c.args.report.now) (g.R.Sink.stream c.run_plan.new.report) c.run_plan.result same
-    (c.run_plan.ensures job (sym c.as_deref-2.ensures.value) (subst (IsPlanOf (named c.args.source) job middle (plan_with job.config c.in-Ok.geometry c.in-Ok-prepare.beginning.start job.digest)) (sym c.as_slice.ensures.value) begun.is_plan))
+    (c.run_plan.ensures job (sym c.as_deref-2.ensures.value) begun.is_plan)
 
 pub run_plan-requires-clause-reads : goal.run_plan-requires-clause-reads
 run_plan-requires-clause-reads g c =

@@ -18,16 +18,16 @@ returns-in-Err-fit-clause-err g c =
 
 pub invariant_of-self-2 : goal.invariant_of-self-2
 invariant_of-self-2 g c =
-    let is : g.N.Nvm.device c.fit.new.self ≡ fitted (inner_shape c.args.shape.now) (first_image c.args.shape.now.blocks c.args.start.now) (g.N.Nvm.device c.self.inside.inner) = grind (arith, common_steps) in
+    let is : g.N.Nvm.device c.fit.new.self ≡ fitted (inner_shape c.args.shape.now) (first_image c.args.shape.now.blocks c.args.start.items) (g.N.Nvm.device c.self.inside.inner) = grind (arith, common_steps) in
     let room : c.args.shape.now.blocks + 2 < 2 ^ 64 = grind (arith, common_steps) in
     let cuts : c.args.shape.now.cuts + 1 < 2 ^ 64 = grind (arith, common_steps) in
     rw c.unmoved-self-inside.ensures
-    (sound_fitted c.self.invariant (g.N.Nvm.device c.fit.new.self) c.args.shape.now c.args.start.now c.requires.blocks c.requires.start room cuts is)
+    (sound_fitted c.self.invariant (g.N.Nvm.device c.fit.new.self) c.args.shape.now c.args.start.items c.requires.blocks c.requires.start room cuts is)
 
 pub returns-clause-ok : goal.returns-clause-ok
 returns-clause-ok g c =
-    let is : g.N.Nvm.device c.fit.new.self ≡ fitted (inner_shape c.args.shape.now) (first_image c.args.shape.now.blocks c.args.start.now) (g.N.Nvm.device c.self.inside.inner) = grind (arith, common_steps) in
+    let is : g.N.Nvm.device c.fit.new.self ≡ fitted (inner_shape c.args.shape.now) (first_image c.args.shape.now.blocks c.args.start.items) (g.N.Nvm.device c.self.inside.inner) = grind (arith, common_steps) in
     rw (sym c.self.view_is)
     (ap (λ (r : Registers). seen r (g.N.Nvm.device c.fit.new.self)) c.unmoved-self-inside.ensures
     ∙ ap (seen (unmoved c.args.shape.now.blocks)) is
-    ∙ seen-fitted c.args.shape.now c.args.start.now (g.N.Nvm.device c.self.inside.inner) c.requires.blocks c.requires.start c.self.inside.registers)
+    ∙ seen-fitted c.args.shape.now c.args.start.items (g.N.Nvm.device c.self.inside.inner) c.requires.blocks c.requires.start c.self.inside.registers)
