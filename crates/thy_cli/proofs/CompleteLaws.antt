@@ -47,7 +47,7 @@ use Rattle.thy_cli.specs.Machines.{Choice}
 use Rattle.thy_cli.specs.Completing.{IsAsked, Stayed, IsCalm, left_alone, run_of, TellsEnd, RunCompletes, PlainCompletes, MakeCompletes, Claim}
 use Rattle.thy_cli.specs.Planning.{refused_status}
 use Rattle.thy_cli.specs.Saving.{PutCounted, SavesUnder, saves}
-use Rattle.thy_cli.specs.Sources.{Source, file, made, image, Beginning, begun, from_entry, name_of, AreBytesOf, IsHeld, IsTooLong, IsInput, FetchDue, meaning_of, IsProgram, IsWanted, IsMeant, ProgramDue, origin_for}
+use Rattle.thy_cli.specs.Sources.{Source, file, made, image, most_bytes, most_image_bytes, Beginning, begun, from_entry, AreBytesOf, IsHeld, IsTooLong, IsInput, FetchDue, meaning_of, IsProgram, SourceDue, InputDue, IsMeant, ProgramDue, origin_for}
 use Rattle.thy_cli.proofs.PlainLemmas.{at_is}
 
 -- ---- counts of faults
@@ -104,16 +104,16 @@ record Stands (source : Source) (job : Job) (stock : Stock) : Type 0 where
   program : IsProgram source job stock
 
 -- a shelf with known contents holds the same under a name each time
-held_same : (stock : Stock) (files : Files) (name a b : List ℕ) → stock.held ≡ Some files → IsHeld stock name a → IsHeld stock name b → a ≡ b
-held_same stock files name a b tells g h = let one : files name ≡ Some a = g.1 files tells in let other : files name ≡ Some b = h.1 files tells in cc
+held_same : (most : ℕ) (stock : Stock) (files : Files) (name a b : List ℕ) → stock.held ≡ Some files → IsHeld most stock name a → IsHeld most stock name b → a ≡ b
+held_same most stock files name a b tells g h = let one : files name ≡ Some a = g.1 files tells in let other : files name ≡ Some b = h.1 files tells in cc
 
 input_same : (stock : Stock) (files : Files) (name : Option (List ℕ)) (a b : List ℕ) → stock.held ≡ Some files → IsInput stock name a → IsInput stock name b → a ≡ b
 input_same stock files None a b tells g h = g ∙ sym h
-input_same stock files (Some name) a b tells g h = held_same stock files name a b tells g h
+input_same stock files (Some name) a b tells g h = held_same most_bytes stock files name a b tells g h
 
 bytes_same : (source : Source) (stock : Stock) (files : Files) (a b : List ℕ) → stock.held ≡ Some files → AreBytesOf source stock a → AreBytesOf source stock b → a ≡ b
-bytes_same (file name) stock files a b tells g h = held_same stock files name a b tells g h
-bytes_same (image name) stock files a b tells g h = held_same stock files name a b tells g h
+bytes_same (file name) stock files a b tells g h = held_same most_bytes stock files name a b tells g h
+bytes_same (image name) stock files a b tells g h = held_same most_image_bytes stock files name a b tells g h
 bytes_same (made n) stock files a b tells g h = g ∙ sym h
 
 -- so a job has one program
@@ -135,36 +135,38 @@ begins_same source job stock s f =
     cc
 
 -- what is held can be read, unless memory runs out
-fetch_due : (old new : Stock) (files : Files) (name bytes : List ℕ) (text : _) (e : FetchError) → old.held ≡ Some files → IsHeld old name bytes → Stayed old.faults new.faults → FetchDue old new name e
+fetch_due : (most : ℕ) (old new : Stock) (files : Files) (name bytes : List ℕ) (text : _) (e : FetchError) → old.held ≡ Some files → IsHeld most old name bytes → Stayed old.faults new.faults → FetchDue most old new name e
     → refused_status (Fetch text e) ≡ 9
-fetch_due old new files name bytes text FetchFailed tells held faults due = not_risen old.faults new.faults faults due.rose
-fetch_due old new files name bytes text NotThere tells held faults due =
+fetch_due most old new files name bytes text FetchFailed tells held faults due = not_risen old.faults new.faults faults due.rose
+fetch_due most old new files name bytes text NotThere tells held faults due =
     let none : (files name ≡ None) × HasNotFailed old new = subst (λ h. MatchOption h (HasFailedUnder name old new) (λ known. (known name ≡ None) × HasNotFailed old new)) tells due in
     let missing : files name ≡ None = none.0 in
     absurd (let there : files name ≡ Some bytes = held.1 files tells in cc)
-fetch_due old new files name bytes text TooLong tells held faults due =
-    let long : IsTooLong (files name) =
-    (subst (λ h. MatchOption h (HasFailedUnder name old new) (λ known. IsTooLong (known name) × HasNotFailed old new)) tells due).0 in
+fetch_due most old new files name bytes text TooLong tells held faults due =
+    let long : IsTooLong most (files name) =
+    (subst (λ h. MatchOption h (HasFailedUnder name old new) (λ known. IsTooLong most (known name) × HasNotFailed old new)) tells due).0 in
     let there : files name ≡ Some bytes = held.1 files tells in
     let same : long.0 ≡ bytes = (let found : files name ≡ Some long.0 = long.1 in cc) in
     absurd (omega (arith, held.0, long.2, ap length same))
-fetch_due old new files name bytes text (FetchMemory e) tells held faults due = refl
+fetch_due most old new files name bytes text (FetchMemory e) tells held faults due = refl
 
-named_due : (source : Source) (job : Job) (old new : Stock) (text : _) (name : List ℕ) (e : FetchError) → Stands source job old → Stayed old.faults new.faults → name_of source ≡ Some name → FetchDue old new name e
+source_due : (source : Source) (job : Job) (old new : Stock) (text : _) (name : List ℕ) (e : FetchError) → Stands source job old → Stayed old.faults new.faults → SourceDue source old new name e
     → refused_status (Fetch text e) ≡ 9
-named_due (file own) job old new text name e s faults is due =
-    let same : name ≡ own = (cc) in
-    fetch_due old new s.files own s.program.bytes text e s.tells s.program.had.had faults (subst (λ n. FetchDue old new n e) same due)
-named_due (image own) job old new text name e s faults is due =
-    let same : name ≡ own = (cc) in
-    fetch_due old new s.files own s.program.bytes text e s.tells s.program.had.had faults (subst (λ n. FetchDue old new n e) same due)
-named_due (made n) job old new text name e s faults is due = absurd (cc)
+source_due (file own) job old new text name e s faults due =
+    fetch_due most_bytes old new s.files own s.program.bytes text e s.tells s.program.had.had faults (subst (λ n. FetchDue most_bytes old new n e) due.0 due.1)
+source_due (image own) job old new text name e s faults due =
+    fetch_due most_image_bytes old new s.files own s.program.bytes text e s.tells s.program.had.had faults (subst (λ n. FetchDue most_image_bytes old new n e) due.0 due.1)
+source_due (made n) job old new text name e s faults due = absurd due
 
-wanted_due : (source : Source) (job : Job) (old new : Stock) (text : _) (name : List ℕ) (e : FetchError) → Stands source job old → Stayed old.faults new.faults → IsWanted source job old name → FetchDue old new name e
+input_due : (source : Source) (job : Job) (old new : Stock) (text : _) (name : List ℕ) (e : FetchError) → Stands source job old → Stayed old.faults new.faults → InputDue source job old new name e
     → refused_status (Fetch text e) ≡ 9
-wanted_due source job old new text name e s faults (inl is) due = named_due source job old new text name e s faults is due
-wanted_due source job old new text name e s faults (inr had) due =
-    fetch_due old new s.files name s.program.input text e s.tells (subst (λ n. IsInput old n s.program.input) had.0 s.program.had.is_input) faults due
+input_due source job old new text name e s faults due =
+    fetch_due most_bytes old new s.files name s.program.input text e s.tells (subst (λ n. IsInput old n s.program.input) due.0 s.program.had.is_input) faults due.2
+
+fetched_due : (source : Source) (job : Job) (old new : Stock) (text : _) (name : List ℕ) (e : FetchError) → Stands source job old → Stayed old.faults new.faults → SourceDue source old new name e ⊎ InputDue source job old new name e
+    → refused_status (Fetch text e) ≡ 9
+fetched_due source job old new text name e s faults (inl due) = source_due source job old new text name e s faults due
+fetched_due source job old new text name e s faults (inr due) = input_due source job old new text name e s faults due
 
 -- what means a program is not refused
 means_none : {A : Type 0} (source : Source) (job : Job) (stock : Stock) (r : Refusal) → Stands source job stock → IsMeant source job stock r → A
@@ -179,7 +181,7 @@ device_due (FitMemory e) n m faults due = refl
 -- only if memory runs out
 program_due : (source : Source) (job : Job) (old new : Stock) (r : Refusal) → Stands source job old → Stayed old.faults new.faults → ProgramDue source job old new r → refused_status r ≡ 9
 program_due source job old new (Words e) s shelf due = absurd due
-program_due source job old new (Fetch name e) s shelf due = wanted_due source job old new name name.now e s shelf due.0 due.1
+program_due source job old new (Fetch name e) s shelf due = fetched_due source job old new name name.now e s shelf due
 program_due source job old new (File (ElfMemory e)) s shelf due = refl
 program_due source job old new (File e) s shelf due = means_none source job old (File e) s due.1
 program_due source job old new (Image bad) s shelf due = means_none source job old (Image bad) s due.1

@@ -55,10 +55,10 @@ abbrev pub IsElf : Source → Type 0
 IsElf (image name) = ⊥
 IsElf source = Unit {0}
 
--- a fetch under this name did not give its bytes
-abbrev pub IsNotHad : List ℕ → Stock → Stock → Refusal → Type 0
-IsNotHad name old new (Fetch text e) = (text.now ≡ name) × FetchDue old new text.now e
-IsNotHad name old new r = ⊥
+-- a fetch of at most so many bytes under this name did not give them
+abbrev pub IsNotHad : ℕ → List ℕ → Stock → Stock → Refusal → Type 0
+IsNotHad most name old new (Fetch text e) = (text.now ≡ name) × FetchDue most old new text.now e
+IsNotHad most name old new r = ⊥
 
 -- bytes and input were read for a job, in the numbers of its configuration
 pub record IsHadFor (source : Source) (job : Job) (stock : Stock) (p : Parameters) (had : Had) : Type 0 where

@@ -28,33 +28,37 @@ use Rattle.thy_cli.specs.declared.refusal.Refusal.TheVariants.{Words, Fetch, Fil
 
 -- ---- what a shelf holds
 
--- the most bytes that a file may have
+-- the most bytes that a program file or an input may have
 abbrev pub most_bytes : ℕ
 most_bytes = 67108864
 
--- bytes that may be those under a name: they are, if the shelf's contents are known
-abbrev pub IsHeld : Stock → List ℕ → List ℕ → Type 0
-IsHeld stock name bytes =
-    (length bytes ≤ most_bytes) × ((files : Files) → stock.held ≡ Some files → files name ≡ Some bytes)
+-- and a saved image
+abbrev pub most_image_bytes : ℕ
+most_image_bytes = 536870912
 
--- more bytes than a file may have
-abbrev pub IsTooLong : Option (List ℕ) → Type 0
-IsTooLong there = (bytes : List ℕ) × (there ≡ Some bytes) × (most_bytes < length bytes)
+-- bytes, at most so many, that may be those under a name: they are, if the shelf's contents are known
+abbrev pub IsHeld : ℕ → Stock → List ℕ → List ℕ → Type 0
+IsHeld most stock name bytes =
+    (length bytes ≤ most) × ((files : Files) → stock.held ≡ Some files → files name ≡ Some bytes)
 
--- why a file could not be read: the shelf failed under its name, or its contents are known and it has nothing there, or
--- too much; if an allocation failed the shelf may have failed under it
-abbrev pub FetchDue : Stock → Stock → List ℕ → FetchError → Type 0
-FetchDue old new name FetchFailed = HasFailedUnder name old new
-FetchDue old new name NotThere =
+-- more bytes than these
+abbrev pub IsTooLong : ℕ → Option (List ℕ) → Type 0
+IsTooLong most there = (bytes : List ℕ) × (there ≡ Some bytes) × (most < length bytes)
+
+-- Why a file of at most so many bytes could not be read: the shelf failed under its name, or its contents are known and it
+-- has nothing there, or too much. If an allocation failed the shelf may have failed under it.
+abbrev pub FetchDue : ℕ → Stock → Stock → List ℕ → FetchError → Type 0
+FetchDue most old new name FetchFailed = HasFailedUnder name old new
+FetchDue most old new name NotThere =
     MatchOption old.held (HasFailedUnder name old new) (λ files. (files name ≡ None) × HasNotFailed old new)
-FetchDue old new name TooLong =
-    MatchOption old.held (HasFailedUnder name old new) (λ files. IsTooLong (files name) × HasNotFailed old new)
-FetchDue old new name (FetchMemory e) = MayHaveFailed name old new
+FetchDue most old new name TooLong =
+    MatchOption old.held (HasFailedUnder name old new) (λ files. IsTooLong most (files name) × HasNotFailed old new)
+FetchDue most old new name (FetchMemory e) = MayHaveFailed name old new
 
 -- the bytes of an input: those under its name, or none if there is no name
 abbrev pub IsInput : Stock → Option (List ℕ) → List ℕ → Type 0
 IsInput stock None bytes = bytes ≡ []
-IsInput stock (Some name) bytes = IsHeld stock name bytes
+IsInput stock (Some name) bytes = IsHeld most_bytes stock name bytes
 
 -- ---- sources
 
@@ -64,16 +68,10 @@ pub data Source : Type 0 where
   made : ℕ → Source
   image : List ℕ → Source
 
--- the name of the file that has to be read for a source
-abbrev pub name_of : Source → Option (List ℕ)
-name_of (file name) = Some name
-name_of (image name) = Some name
-name_of (made n) = None
-
 -- the bytes of a source: those under its name, or those that are made
 abbrev pub AreBytesOf : Source → Stock → List ℕ → Type 0
-AreBytesOf (file name) stock bytes = IsHeld stock name bytes
-AreBytesOf (image name) stock bytes = IsHeld stock name bytes
+AreBytesOf (file name) stock bytes = IsHeld most_bytes stock name bytes
+AreBytesOf (image name) stock bytes = IsHeld most_image_bytes stock name bytes
 AreBytesOf (made n) stock bytes = bytes ≡ made_file n
 
 -- what a run begins with: a state, the checkpoint that it was taken from if it was, and the first blocks of its device
@@ -132,11 +130,16 @@ origin_for job begins input =
 
 -- ---- why there is no program
 
--- a job asks for this name: that of its source; or that of its input, once it has the source's bytes
-abbrev pub IsWanted : Source → Job → Stock → List ℕ → Type 0
-IsWanted source job stock name =
-    (name_of source ≡ Some name)
-    ⊎ ((job.input ≡ Some name) × (bytes : List ℕ) × AreBytesOf source stock bytes)
+-- why the bytes of a source could not be read under a name: it is the source's
+abbrev pub SourceDue : Source → Stock → Stock → List ℕ → FetchError → Type 0
+SourceDue (file own) old new name e = (name ≡ own) × FetchDue most_bytes old new name e
+SourceDue (image own) old new name e = (name ≡ own) × FetchDue most_image_bytes old new name e
+SourceDue (made n) old new name e = ⊥
+
+-- and those of an input, once the source's were: it is the input's
+abbrev pub InputDue : Source → Job → Stock → Stock → List ℕ → FetchError → Type 0
+InputDue source job old new name e =
+    (job.input ≡ Some name) × ((bytes : List ℕ) × AreBytesOf source old bytes) × FetchDue most_bytes old new name e
 
 -- bytes and input were read, and mean this refusal
 abbrev pub IsMeant : Source → Job → Stock → Refusal → Type 0
@@ -147,7 +150,8 @@ IsMeant source job stock r =
 -- Why a run has no program: bytes or input could not be read, or both were and mean none. Out of memory needs no
 -- reason, but the shelf has not failed.
 abbrev pub ProgramDue : Source → Job → Stock → Stock → Refusal → Type 0
-ProgramDue source job old new (Fetch name e) = IsWanted source job old name.now × FetchDue old new name.now e
+ProgramDue source job old new (Fetch name e) =
+    SourceDue source old new name.now e ⊎ InputDue source job old new name.now e
 ProgramDue source job old new (File (ElfMemory e)) = HasNotFailed old new
 ProgramDue source job old new (MemoryRefusal e) = HasNotFailed old new
 ProgramDue source job old new (Words e) = ⊥

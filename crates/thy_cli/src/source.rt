@@ -13,8 +13,11 @@ use thy_base::{Bytes, Geometry, Shelf};
 use thy_elf::{Image, read};
 use thy_plain::are_bytes;
 
-/// The most bytes that a fetched file may have.
+/// The most bytes that a program file or an input may have.
 const MOST_BYTES: u64 = 67_108_864;
+
+/// The most bytes that a saved image may have.
+const MOST_IMAGE_BYTES: u64 = 536_870_912;
 
 /// The source of a run's program.
 #[derive(Clone, Copy)]
@@ -42,14 +45,19 @@ pub struct Program {
     pub input: Bytes,
 }
 
-/// Reads the file under a name.
-fn fetch<'a, H: Shelf>(alloc: Global, name: &'a str, shelf: &mut H) -> Result<Bytes, Refusal<'a>>
-    ensures refusal { IfErr result (IsNotHad name.now (H.stock shelf.old) (H.stock shelf.new)) }
+/// Reads the file under a name, if it has at most so many bytes.
+fn fetch<'a, H: Shelf>(
+    alloc: Global,
+    name: &'a str,
+    most: u64,
+    shelf: &mut H,
+) -> Result<Bytes, Refusal<'a>>
+    ensures refusal { IfErr result (IsNotHad most name.now (H.stock shelf.old) (H.stock shelf.new)) }
     ensures held { (H.stock shelf.new).held ≡ (H.stock shelf.old).held }
     ensures calm { OnOk result (HasNotFailed (H.stock shelf.old) (H.stock shelf.new)) }
-    ensures bytes { IfOk result (λ b. IsHeld (H.stock shelf.old) name.now (bytes_of b)) }
+    ensures bytes { IfOk result (λ b. IsHeld most (H.stock shelf.old) name.now (bytes_of b)) }
 {
-    match shelf.fetch(alloc, name, MOST_BYTES) {
+    match shelf.fetch(alloc, name, most) {
         Ok(bytes) => Ok(Bytes::from_vec(bytes)),
         Err(error) => Err(Refusal::Fetch(name, error)),
     }
@@ -69,7 +77,8 @@ fn source_bytes<'a, H: Shelf>(
         AreBytesOf (named source.entry) (H.stock shelf.old) (bytes_of b)) }
 {
     match source {
-        Source::File(name) | Source::Image(name) => fetch(alloc, name, shelf),
+        Source::File(name) => fetch(alloc, name, MOST_BYTES, shelf),
+        Source::Image(name) => fetch(alloc, name, MOST_IMAGE_BYTES, shelf),
         Source::Made(number) => match thy_make::file(alloc, number) {
             Ok(bytes) => Ok(bytes),
             Err(error) => Err(Refusal::Memory(error)),
@@ -92,7 +101,7 @@ fn input_bytes<'a, H: Shelf>(
         IsInput (H.stock shelf.old) (option_map (λ n. n.now) name.entry) (bytes_of b)) }
 {
     match name {
-        Some(name) => fetch(alloc, name, shelf),
+        Some(name) => fetch(alloc, name, MOST_BYTES, shelf),
         None => Ok(Bytes::new(alloc)),
     }
 }

@@ -79,3 +79,19 @@ fn an_input_has_at_most_67108864_bytes(rt: HostRuntime) -> Result<(), Fail> {
     compare(&rt, line, &given, 0, "", b"exit 7 at 3\n");
     Ok(())
 }
+
+#[test]
+fn a_saved_image_has_at_most_536870912_bytes(rt: HostRuntime) -> Result<(), Fail> {
+    let alloc = rt.alloc();
+    let line = "thynvm resume I";
+    let given = called(alloc, line, zeros(alloc, 536_870_913)?, &[], &[])?;
+    compare(&rt, line, &given, 3, "", b"fetch I too long\n");
+    let given = called(alloc, line, zeros(alloc, 536_870_912)?, &[], &[])?;
+    compare(&rt, line, &given, 5, "", b"image 1 Empty\n");
+    let line = "thynvm run I";
+    let given = called(alloc, line, zeros(alloc, 67_108_865)?, &[], &[])?;
+    compare(&rt, line, &given, 3, "", b"fetch I too long\n");
+    let given = called(alloc, line, zeros(alloc, 67_108_864)?, &[], &[])?;
+    compare(&rt, line, &given, 4, "", b"file 2 NotElf\n");
+    Ok(())
+}
