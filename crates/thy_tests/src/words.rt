@@ -101,7 +101,7 @@ static WORDS: [(&str, &str); 35] = [
 static VALUES: [(&str, &str, u64); 27] = [
     ("thynvm|run|F|--base|4097", "base", 4097),
     ("thynvm|run|F|--pages|7", "pages", 7),
-    ("thynvm|run|F|--pages|4097", "pages", 4097),
+    ("thynvm|run|F|--pages|65537", "pages", 65537),
     ("thynvm|run|F|--pages|8|--console|8", "console", 8),
     ("thynvm|run|F|--epoch|0", "epoch", 0),
     ("thynvm|run|F|--btt|12", "btt", 12),
