@@ -1,8 +1,8 @@
 -- Pages that are listed to be promoted: every other page has the entry that it had.
-use Rattle.std.proofs.Common.{◌≡◌, ◌≢◌, ◌⊎◌, ℕ, ◌+◌, ◌<◌, ◌≤◌, Bool, true, false, if◌then◌else◌, List, [], ◌∷◌, ◌++◌, length, get_or, map, filter, cond, All, refl, sym, ◌∙◌, ap, subst, inl, inr, arith, suc, Option, Some, None, is_none, option_and_then}
+use Rattle.std.proofs.Common.{◌≡◌, ◌≢◌, ◌⊎◌, ℕ, ◌+◌, ◌-◌, ◌<◌, ◌≤◌, max, Bool, true, false, if◌then◌else◌, List, [], ◌∷◌, ◌++◌, length, get_or, take, drop, map, filter, cond, All, refl, sym, ◌∙◌, ap, subst, inl, inr, arith, zero, suc, Option, Some, None, is_none, option_and_then}
 use Rattle.std.specs.List.{range_with_len}
-use Rattle.std.proofs.lemmas.Bool.{cases_eq}
-use Rattle.std.proofs.lemmas.List.{map-id, length-set, get_or-set_same, get_or-set_other}
+use Rattle.std.proofs.lemmas.Bool.{cases_eq, leb-true, le-ltb}
+use Rattle.std.proofs.lemmas.List.{map-id, append-nil, length-set, length-take, length-drop, get_or-set_same, get_or-set_other, get_or-take, get_or-drop}
 use Rattle.std.proofs.Math.Seq.{map-set_same}
 use Rattle.std.proofs.lemmas.List.Elements.{All-filter}
 use Rattle.std.proofs.lemmas.List.FromFn.{filter_of_map_range_with_len_more, get_or-range_with_len, length-range_with_len}
@@ -12,7 +12,7 @@ use Rattle.thy_table.proofs.IndexLemmas.{None-is_none}
 use Rattle.thy_table.proofs.ListingLaws.{IsListing-put}
 use Rattle.thy_tables.specs.declared.page_entry.PttEntry.{PttEntry}
 use Rattle.thy_tables.specs.PageEntry.{no_page, promoted_page}
-use Rattle.thy_switch.specs.Counts.{Tally, is_dense}
+use Rattle.thy_switch.specs.Counts.{Tally, is_dense, greatest_of, are_sparse}
 use Rattle.thy_control.specs.Find.{entry_for, with_found, with_entry_for}
 use Rattle.thy_control.specs.Keys.{page_key}
 use Rattle.thy_control.specs.CheckpointTables.{page_lists}
@@ -165,3 +165,45 @@ with_pages-more c n t =
 -- the listing of pages below a number leaves the table the numbers that it can list
 pub numbers-below : (c : Tally) (n : ℕ) (t : Listing PttEntry) → n ≤ t.numbers → (with_pages (dense_below c n) t).numbers ≡ t.numbers
 numbers-below c n t l = (lists_all (dense_below c n) t (λ k d h. omega (arith, dense-below c n k d h))).numbers
+
+pub with_dense-numbers : (c : Tally) (n : ℕ) (t : Listing PttEntry) → n < t.numbers → (with_dense c n t).numbers ≡ t.numbers
+with_dense-numbers c n t l = one (is_dense c n) where
+  one : (d : Bool) → (if d then with_entry_for page_key promoted_page n t else t).numbers ≡ t.numbers
+  one true = (lists_one t n l).numbers
+  one false = refl
+
+-- of pages none of which is dense none is listed
+pub dense_below-none : (c : Tally) (first k : ℕ) → ((n : ℕ) → first ≤ n → n < first + k → is_dense c n ≡ false) → dense_below c (first + k) ≡ dense_below c first
+dense_below-none c first zero none = ap (dense_below c) (omega arith)
+dense_below-none c first (suc k) none =
+    ap (dense_below c) (let e : first + suc k ≡ first + k + 1 = omega arith in e)
+    ∙ dense_below-more c (first + k)
+    ∙ ap (λ d. dense_below c (first + k) ++ cond d ((first + k) ∷ []) []) (none (first + k) (omega arith) (omega arith))
+    ∙ append-nil (dense_below c (first + k))
+    ∙ dense_below-none c first k (λ n low high. none n low (omega (arith, high)))
+
+-- the greatest is no less than any
+greatest-least : (m : ℕ) (ns : List ℕ) → m ≤ greatest_of m ns
+greatest-least m [] = omega arith
+greatest-least m (n ∷ ns) = omega (arith, greatest-least (max m n) ns)
+
+greatest-all : (m : ℕ) (ns : List ℕ) (k d : ℕ) → k < length ns → get_or ns k d ≤ greatest_of m ns
+greatest-all m [] k d l = absurd (omega (arith, l))
+greatest-all m (n ∷ ns) zero d l = omega (arith, greatest-least (max m n) ns)
+greatest-all m (n ∷ ns) (suc k) d l = greatest-all (max m n) ns k d (omega (arith, l))
+
+-- so sparse pages are not dense
+pub sparse-none : (c : Tally) (first end : ℕ) → end ≤ length c.counts → are_sparse c first end ≡ true → (n : ℕ) → first ≤ n → n < end → is_dense c n ≡ false
+sparse-none c first end inside sparse n low high =
+    let piece : List ℕ = take (end - first) (drop first c.counts) in
+    let many : n - first < length piece = omega (arith, inside, low, high, length-take (end - first) (drop first c.counts), length-drop first c.counts) in
+    let same : get_or piece (n - first) 0 ≡ get_or c.counts n 0 =
+    get_or-take (end - first) (drop first c.counts) (n - first) 0 (omega (arith, low, high)) ∙ get_or-drop first c.counts (n - first) 0
+    ∙ ap (λ i. get_or c.counts i 0) (let e : first + (n - first) ≡ n = omega (arith, low) in e) in
+    let most : greatest_of 0 piece ≤ c.high = leb-true (greatest_of 0 piece) c.high sparse in
+    le-ltb c.high (get_or c.counts n 0) (omega (arith, most, greatest-all 0 piece (n - first) 0 many, same))
+
+pub dense_below-sparse : (c : Tally) (first end : ℕ) → first ≤ end → end ≤ length c.counts → are_sparse c first end ≡ true → dense_below c end ≡ dense_below c first
+dense_below-sparse c first end order inside sparse =
+    ap (dense_below c) (let e : end ≡ first + (end - first) = omega (arith, order) in e)
+    ∙ dense_below-none c first (end - first) (λ n low high. sparse-none c first end inside sparse n low (omega (arith, order, high)))

@@ -46,6 +46,11 @@ with_pages (n ∷ ns) t = with_pages ns (with_entry_for page_key promoted_page n
 abbrev pub with_dense : Tally → ℕ → Listing PttEntry → Listing PttEntry
 with_dense c n t = if is_dense c n then with_entry_for page_key promoted_page n t else t
 
+-- a table that lists the dense pages below one comes to list those below another
+abbrev pub ListsDense : Tally → (first end : ℕ) → (old new : Listing PttEntry) → Type 0
+ListsDense c first end old new =
+    (t : Listing PttEntry) → old ≡ with_pages (dense_below c first) t → new ≡ with_pages (dense_below c end) t
+
 -- the page table: first its entries, then the pages to be promoted
 abbrev pub sealed_ptt : Tally → Listing PttEntry → Listing PttEntry
 sealed_ptt c t = with_pages (dense_below c (length c.counts)) (mapped (sealed_as_counted c) t)

@@ -1,11 +1,11 @@
 //! What a seal and a commit make of the tables.
-ghost use Rattle.std.specs.Prelude.{◌≡◌, ◌<◌, length, option_and_then};
+ghost use Rattle.std.specs.Prelude.{◌≡◌, ◌<◌, ◌≤◌, ◌+◌, length, option_and_then};
 ghost use Rattle.thy_table.specs.Listing.{entry_at, with_entry, mapped};
 ghost use Rattle.thy_tables.specs.PageEntry.{promoted_page};
 ghost use Rattle.thy_cell.specs.Checkpoint.{committed_entry, committed_page};
 ghost use Rattle.thy_control.specs.Find.{with_entry_for};
 ghost use Rattle.thy_control.specs.Keys.{page_key};
-ghost use Rattle.thy_control.specs.Seal.{block_is_framed, sealed_in, sealed_as_counted, dense_below, with_pages, with_dense, sealed_ptt};
+ghost use Rattle.thy_control.specs.Seal.{block_is_framed, sealed_in, sealed_as_counted, dense_below, with_pages, with_dense, sealed_ptt, ListsDense};
 
 use thy_cell::{committed_entry, committed_page, sealed_entry, sealed_page};
 use thy_switch::Counts;
@@ -84,7 +84,35 @@ fn list_dense(ptt: &mut Ptt, counts: &Counts)
     requires { ptt.old.numbers ≡ length counts.now.counts }
     ensures { ptt.new ≡ with_pages (dense_below counts.now (length counts.now.counts)) ptt.old }
 {
-    for page in 0..counts.pages() {
+    let pages = counts.pages();
+    for k in 0..pages / 64 {
+        list_dense_of(ptt, 64 * k, 64 * k + 64, counts);
+    }
+    list_dense_of(ptt, pages / 64 * 64, pages, counts);
+}
+
+/// Those of the pages from one to before another.
+fn list_dense_of(ptt: &mut Ptt, first: u64, end: u64, counts: &Counts)
+    requires order { first ≤ end }
+    requires inside { end ≤ length counts.now.counts }
+    requires numbers { ptt.old.numbers ≡ length counts.now.counts }
+    ensures numbers { ptt.new.numbers ≡ ptt.old.numbers }
+    ensures lists { ListsDense counts.now first end ptt.old ptt.new }
+{
+    if !counts.are_sparse(first, end) {
+        list_each_dense(ptt, first, end, counts);
+    }
+}
+
+/// The same, page by page.
+fn list_each_dense(ptt: &mut Ptt, first: u64, end: u64, counts: &Counts)
+    requires order { first ≤ end }
+    requires inside { end ≤ length counts.now.counts }
+    requires numbers { ptt.old.numbers ≡ length counts.now.counts }
+    ensures numbers { ptt.new.numbers ≡ ptt.old.numbers }
+    ensures lists { ListsDense counts.now first end ptt.old ptt.new }
+{
+    for page in first..end {
         list_if_dense(ptt, page, counts);
     }
 }

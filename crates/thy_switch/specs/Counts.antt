@@ -1,6 +1,6 @@
 -- Part of the claim.
 -- How often each page was stored to, in this epoch and in the one before, and which pages are above or below a threshold.
-use Rattle.std.specs.Prelude.{◌≡◌, ℕ, ◌+◌, ◌≤◌, nat_lt, min, Bool, ◌&&◌, List, length, replicate, slice_index, slice_set, All}
+use Rattle.std.specs.Prelude.{◌≡◌, ℕ, ◌+◌, ◌-◌, ◌≤◌, nat_lt, nat_le, min, max, Bool, ◌&&◌, List, [], ◌∷◌, length, replicate, take, drop, slice_index, slice_set, All}
 
 pub record Tally : Type 0 where
   -- the stores of each page since the last seal, up to 63
@@ -44,7 +44,16 @@ reset c = record c { counts = replicate (length c.counts) 0; lasts = c.counts }
 abbrev pub is_dense : Tally → ℕ → Bool
 is_dense c page = nat_lt c.high (count_at c page)
 
--- and, in this epoch and in the one before, below the low one
+-- the greatest of counts and of one more
+abbrev pub greatest_of : ℕ → List ℕ → ℕ
+greatest_of most [] = most
+greatest_of most (n ∷ ns) = greatest_of (max most n) ns
+
+-- of the pages from one to before another none is counted above the high threshold: the greatest of their counts is not
+abbrev pub are_sparse : Tally → ℕ → ℕ → Bool
+are_sparse c first end = nat_le (greatest_of 0 (take (end - first) (drop first c.counts))) c.high
+
+-- a page is counted, in this epoch and in the one before, below the low threshold
 abbrev pub is_low : Tally → ℕ → Bool
 is_low c page = nat_lt (count_at c page) c.low && nat_lt (last_at c page) c.low
 

@@ -2,7 +2,7 @@
 ghost use Rattle.std.specs.Prelude.{◌≡◌, ◌<◌, ◌≤◌, ◌+◌, ◌*◌, ◌&&◌, nat_lt, min, length, replicate, slice_set, false, IfOk};
 ghost use Rattle.thy_base.specs.Blocks.{overwritten};
 ghost use Rattle.thy_base.specs.Device.{zero_block};
-ghost use Rattle.thy_switch.specs.Counts.{most, uncounted, count_at, last_at, counted, with_last, reset, is_dense, is_low};
+ghost use Rattle.thy_switch.specs.Counts.{most, uncounted, count_at, last_at, counted, with_last, reset, is_dense, greatest_of, are_sparse, is_low};
 ghost use Rattle.thy_switch.specs.LastBlocks.{last_block_of};
 
 use std::alloc::{AllocError, Global};
@@ -91,6 +91,16 @@ impl Counts {
         self.high < self.count_of(page)
     }
 
+    /// Whether none of the pages from one to before another was stored to more often than `high` since the last seal. It takes
+    /// far less time than to ask that of each.
+    pub fn are_sparse(&self, first: u64, end: u64) -> bool
+        requires order { first ≤ end }
+        requires inside { end ≤ length self.now.counts }
+        ensures { result ≡ are_sparse self.now first end }
+    {
+        u64::from(greatest(&self.counts[first as usize..end as usize])) <= self.high
+    }
+
     /// Whether a page was stored to less often than `low`, since the last seal and in the epoch before it.
     pub fn is_low(&self, page: u64) -> bool
         requires { page < length self.now.counts }
@@ -126,6 +136,17 @@ impl Counts {
         let count = (pages - from).min(64);
         over_zeros(&self.lasts[from..from + count])
     }
+}
+
+/// The greatest of counts, 0 if there are none.
+fn greatest(counts: &[u8]) -> u8
+    ensures { result ≡ greatest_of 0 counts.now }
+{
+    let mut most = 0;
+    for count in counts {
+        most = most.max(*count);
+    }
+    most
 }
 
 /// A block that begins with these bytes, followed by zeros.
