@@ -1,8 +1,7 @@
 -- Without a migration a recovery writes nothing, and what a migration writes.
-use Rattle.std.proofs.Common.{◌≡◌, ◌⊎◌, ℕ, ◌+◌, ◌%◌, ◌<◌, Bool, true, false, is_some, List, Option, Some, None, refl, sym, ◌∙◌, ap, subst, inl, inr}
+use Rattle.std.proofs.Common.{◌≡◌, ◌⊎◌, ℕ, Bool, true, false, is_some, List, Option, Some, None, refl, sym, ◌∙◌, ap, subst, inl, inr}
 use Rattle.thy_base.specs.declared.block.Block.{Block}
 use Rattle.thy_base.specs.declared.config.Parameters.{Parameters}
-use Rattle.thy_base.specs.declared.form.Form.{Form}
 use Rattle.thy_base.specs.declared.form.Form.TheVariants.{One, Two}
 use Rattle.thy_base.specs.declared.mark.Mark.{Mark}
 use Rattle.thy_base.specs.Device.{Device, block_at}
@@ -11,7 +10,6 @@ use Rattle.thy_crash.specs.Fixed.{IsFixed}
 use Rattle.thy_crash.proofs.FixedLemmas.{block_at-fixed}
 use Rattle.thy_record.specs.Commit.{epoch_of, form_of}
 use Rattle.thy_control.specs.State.{State}
-use Rattle.thy_view.specs.declared.did.Did.{Did}
 use Rattle.thy_view.specs.declared.view.View.{View}
 use Rattle.thy_view.specs.Action.{ActsBy, ActionFailedBy}
 use Rattle.thy_view.specs.Origin.{Origin}
