@@ -99,8 +99,8 @@ CopyKeeps =
     → Puts p (target c) (old (last c)) old new
     → Keeps true old new c (after_copy c)
 
--- the write of a busy page's next block to its target, for that block; with the last the frame is free, and the version of the
--- checkpoint under way is read at the target
+-- the write of a busy page's next block to its target, for that block; with the last the frame is free, and the version
+-- of the checkpoint under way is read at the target
 abbrev pub PageWriteKeeps : Type 0
 PageWriteKeeps =
     (p : Parameters) (c : Cell) (old new : Place → Block)

@@ -91,7 +91,8 @@ items_move_tables e s m tables = tables-next s m tables e.next
 
 -- ---- the images
 
--- the image that is kept, where the committed checkpoint has the same tables, and the counts of the epoch before are the same
+-- the image that is kept, where the committed checkpoint has the same tables, and the counts of the epoch before are
+-- the same
 kept-on : (o : Origin) (e : Progress) (s t : State) (next : Next) (before : List Block) → (is_under_way next ≡ true → is_under_way e.next ≡ true)
     → (is_under_way next ≡ false → is_under_way e.next ≡ false)
     → tables0 t ≡ tables0 s → t.counts.lasts ≡ s.counts.lasts → IsKeptBy o e s before → IsKeptBy o (record e { next = next }) t before

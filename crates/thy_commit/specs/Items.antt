@@ -66,8 +66,8 @@ next_after p CommitItem = Confirm
 next_after p ConfirmItem = Nothing
 
 -- what the engine answers for it; a slot begins with the processor's record, and the counts are answered as the tables. A
--- copy, a block of a page, one of the record and one of the tables are told apart by this definition alone: to all above they are a write that leaves the
--- commit block alone
+-- copy, a block of a page, one of the record and one of the tables are told apart by this definition alone: to all
+-- above they are a write that leaves the commit block alone
 abbrev pub answer : Parameters → ℕ → Item → EngineStep
 answer p epoch NoItem = Idle
 answer p epoch (CopyItem i) = Copied

@@ -32,8 +32,8 @@ use Rattle.thy_core_model.specs.Pace.{most_spent}
 use Rattle.thy_core_model.specs.Sound.{Sound}
 use Rattle.thy_core_model.specs.Calls.{HartCall, FlushCall, hart_did, after_hart, after_flush, after_call, after_drain, after_seal, after_engine, after_boot}
 
--- a cycle that did this leads to the next moment: by a step of the view, one action of both devices, and within bounds, and gets
--- done what it says; in a boot that found a checkpoint it leaves the NVM as it was, unless the scheme migrates
+-- a cycle that did this leads to the next moment: by a step of the view, one action of both devices, and within bounds,
+-- and gets done what it says; in a boot that found a checkpoint it leaves the NVM as it was, unless the scheme migrates
 pub record Leads {S : Type 0} (K : SchemeOf S) (o : Origin) (cycles : ℕ) (did : Did) (m : Machine S) (n : Device) (next : Machine S) (new : Device) : Type 0 where
   pub at_next : Sound K o (cycles + 1) next new
   pub step : CoreStep o (view_of K o m n) did (view_of K o next new)

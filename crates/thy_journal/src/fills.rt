@@ -13,7 +13,8 @@ use thy_refill::{list_all, next_listed, start_slot_block};
 /// Epochs and counts of a run's own images are below this.
 const CEILING: u64 = 9_223_372_036_854_775_808;
 
-/// The journal's part of the boot: the log, whose buffers are filled from the journal of the slot that the commit block names.
+/// The journal's part of the boot: the log, whose buffers are filled from the journal of the slot that the commit block
+/// names.
 #[derive(Drop)]
 pub struct Refill;
 

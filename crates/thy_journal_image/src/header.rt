@@ -11,8 +11,8 @@ const VERSION: u64 = 2;
 /// The number of this scheme.
 const SCHEME: u64 = 1;
 
-/// The header of an image of this geometry: eight words, its name, version 2, base, pages, console, the sizes of both tables,
-/// and this scheme's number, 1.
+/// The header of an image of this geometry: eight words, its name, version 2, base, pages, console, the sizes of both
+/// tables, and this scheme's number, 1.
 pub fn header_block(geometry: &Geometry) -> Block
     ensures { result ≡ header_of geometry.now }
 {
@@ -29,8 +29,8 @@ pub fn header_block(geometry: &Geometry) -> Block
     ])
 }
 
-/// The first fault of a header, if it has one: another name, another version, another geometry. `long` says that the image has
-/// as many blocks as the geometry asks for; if it has not, or is another scheme's, that is another geometry.
+/// The first fault of a header, if it has one: another name, another version, another geometry. `long` says that the
+/// image has as many blocks as the geometry asks for; if it has not, or is another scheme's, that is another geometry.
 #[tactic(auto, unfolding(crate::specs::Header::header_fault))]
 pub fn header_fault(block: &Block, geometry: &Geometry, long: bool) -> Option<BadImage>
     ensures { result ≡ fault_of_header block.now geometry.now long }

@@ -54,8 +54,8 @@ fn list_blocks(index: &mut [u64], slot: &[u8], s: u64, geometry: &Geometry)
     }
 }
 
-/// The numbers of the blocks in which the checkpoint of slot `s`, which has these bytes, has memory's blocks, in the order of
-/// these.
+/// The numbers of the blocks in which the checkpoint of slot `s`, which has these bytes, has memory's blocks, in the
+/// order of these.
 pub(crate) fn places(
     alloc: Global,
     slot: &[u8],

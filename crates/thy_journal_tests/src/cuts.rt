@@ -4,8 +4,8 @@ use std::alloc::{AllocError, Global};
 use std::process::Abort;
 use std::test::Fail;
 
-/// Cuts of the program that exits with 7, with the report: at the write of the checkpoint's commit block, and behind the drain
-/// by which it lands.
+/// Cuts of the program that exits with 7, with the report: at the write of the checkpoint's commit block, and behind
+/// the drain by which it lands.
 static CUT_RUNS: [(&str, &str); 4] = [
     (
         "thynvm run F --pages 8 --btt 8 --ptt 8 --scheme journal --cuts 714 --tears 0",
@@ -123,9 +123,9 @@ fn cut_twice(
     Ok(())
 }
 
-/// What the first boot behind a cut reports of the program that exits with 7: the commit block of loading is written in cycle
-/// 695 and committed in 696; that of the checkpoint is written in 714, drained in 715 and committed in 716. Each is then
-/// the only write that is queued, and `lands` tells whether the cut lets it land.
+/// What the first boot behind a cut reports of the program that exits with 7: the commit block of loading is written in
+/// cycle 695 and committed in 696; that of the checkpoint is written in 714, drained in 715 and committed in 716. Each
+/// is then the only write that is queued, and `lands` tells whether the cut lets it land.
 fn comes_after(cycle: u64, lands: bool) -> &'static str {
     if cycle < 695 || (cycle == 695 && !lands) {
         "reload"

@@ -2,8 +2,8 @@
 use crate::calls::{expect_on, ran, shelf};
 use std::test::Fail;
 
-/// Runs with the journal, with status, cycles and report. The hart waits for each checkpoint, so nothing overlaps. Each block
-/// that an epoch has stored takes an entry, which is free again once it was applied.
+/// Runs with the journal, with status, cycles and report. The hart waits for each checkpoint, so nothing overlaps. Each
+/// block that an epoch has stored takes an entry, which is free again once it was applied.
 static RUNS: [(&str, u8, u64, &str); 5] = [
     (
         "thynvm run F --pages 8 --btt 8 --ptt 8 --scheme journal",
@@ -51,8 +51,8 @@ fn runs_take_their_cycles(rt: HostRuntime) -> Result<(), Fail> {
     Ok(())
 }
 
-/// Runs that exit, with the report: nine stores, of which eight fill the table, so that the ninth begins the next epoch; with
-/// entries for all of them; and four instructions in as many epochs.
+/// Runs that exit, with the report: nine stores, of which eight fill the table, so that the ninth begins the next
+/// epoch; with entries for all of them; and four instructions in as many epochs.
 static REPORTS: [(&str, &str); 4] = [
     (
         "thynvm run N --pages 8 --btt 8 --ptt 8 --scheme journal",

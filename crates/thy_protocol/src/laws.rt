@@ -74,8 +74,8 @@ pub fn a_layout_of_two_copies_serves()
     ensures commits { StartIsCommitted }
 {}
 
-/// The images of this program are such a layout, those of both versions: with the length of version 2 they decode to the same,
-/// and the same places tell it.
+/// The images of this program are such a layout, those of both versions: with the length of version 2 they decode to
+/// the same, and the same places tell it.
 pub fn remapped_is_a_layout()
     ensures decodes { DecodesSame }
     ensures looks { LooksSame }

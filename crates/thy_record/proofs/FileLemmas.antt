@@ -85,7 +85,8 @@ and_cases : (a b : Bool) → (a && b) ≡ true → (a ≡ true) × (b ≡ true)
 and_cases true b h = (refl, h)
 and_cases false b h = cc
 
--- an image has the blocks of version 1 in any case, and behind them those of version 2 unless its commit block is of version 1
+-- an image has the blocks of version 1 in any case, and behind them those of version 2 unless its commit block is of
+-- version 1
 pub long_enough : (p : Parameters) (form : Form) (n : ℕ) → (n == image_blocks p || (is_one form && n == blocks_one p)) ≡ true → blocks_one p ≤ n
 long_enough p form n h = elim (or_cases (n == image_blocks p) (is_one form && n == blocks_one p) h) as (λ _. blocks_one p ≤ n) [
   | inl whole ↦ let e : n ≡ image_blocks p = eqb-true _ _ whole in omega arith

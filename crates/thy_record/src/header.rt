@@ -29,9 +29,9 @@ pub fn header_block(geometry: &Geometry) -> Block
     ])
 }
 
-/// The first fault of a header, if it has one: another name, a version that is neither 1 nor 2, another geometry. `long` says
-/// whether the image has as many blocks as the geometry asks for; if it has not, or the last word is not zero, that is
-/// another geometry.
+/// The first fault of a header, if it has one: another name, a version that is neither 1 nor 2, another geometry.
+/// `long` says whether the image has as many blocks as the geometry asks for; if it has not, or the last word is not
+/// zero, that is another geometry.
 #[tactic(auto, unfolding(crate::specs::Header::header_fault))]
 pub fn header_fault(block: &Block, geometry: &Geometry, long: bool) -> Option<BadImage>
     ensures { result ≡ fault_of_header block.now geometry.now long }

@@ -78,8 +78,8 @@ pub fn filled_up_decodes()
     ensures { FilledUpDecodes }
 {}
 
-/// A slot of version 1 that is written anew in version 2, with zeros behind it, means the same: it has the same processor and
-/// the same tables, counts of 0, and no fault either.
+/// A slot of version 1 that is written anew in version 2, with zeros behind it, means the same: it has the same
+/// processor and the same tables, counts of 0, and no fault either.
 pub fn a_slot_anew_means_the_same()
     ensures { AnewMeansTheSame }
 {}

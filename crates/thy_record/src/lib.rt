@@ -1,7 +1,8 @@
 //! Checkpoints in the NVM, of layout version 2, and images of version 1 and 2. What every layout has: the commit block, the
 //! processor's record, and the refusals of an image. And what is this layout's own: header, tables, counts, slots, images in
-//! files, and laws of which writes leave a checkpoint alone. Callers rely on `check` and `state`, exactly what the bytes of a
-//! file mean, and on `written_decodes` and `decoded_is_whole`: what was written decodes, and what decodes is whole.
+//! files, and laws of which writes leave a checkpoint alone. Callers rely on `check` and `state`, exactly what the
+//! bytes of a file mean, and on `written_decodes` and `decoded_is_whole`: what was written decodes, and what decodes is
+//! whole.
 //!
 //! Open specs/Images.antt first, then specs/Files.antt, and src/file.rt. It depends on thy_base, thy_crash, thy_flat and
 //! thy_isa; thy_text and all from thy_control on depend on it.

@@ -1,5 +1,5 @@
--- What this scheme's boot fills: the controller, from images of both versions. A position is 64 times an entry of the page table
--- and a block of its page.
+-- What this scheme's boot fills: the controller, from images of both versions. A position is 64 times an entry of the
+-- page table and a block of its page.
 use Rattle.std.specs.Prelude.{◌≡◌, ℕ, ◌+◌, ◌*◌, ◌/◌, ◌%◌, ◌<◌, ◌≤◌, max, List, map, replicate, is_some, Option, Some, None}
 use Rattle.std.specs.List.{range_with_len}
 use Rattle.thy_base.specs.declared.block.Block.{Block}
@@ -80,7 +80,8 @@ pub record CanStart (p : Parameters) (s : Plain) : Type 0 where
   pub start : IsStartFor p s
   pub recordable : IsRecordable p ceiling (cpu_of s)
 
--- listing and filling leave the counts of the stores of this epoch, and the room of the DRAM's queue, which has one write more at most
+-- listing and filling leave the counts of the stores of this epoch, and the room of the DRAM's queue, which has one
+-- write more at most
 pub record HasFilled (c e : State) : Type 0 where
   pub room : e.dram.room ≡ c.dram.room
   pub most : e.dram.queued ≤ c.dram.queued + 1

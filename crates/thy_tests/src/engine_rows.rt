@@ -76,8 +76,8 @@ fn decodes(rt: &impl Abort, alloc: Global, memory: &mut Memory, epoch: u64, b: u
     expect(rt, decoded, (epoch, of(letter)));
 }
 
-// The third version goes over the second, which the checkpoint under way has still to copy. So there is nothing left to copy,
-// and the slot's 8 blocks, two barriers and the commit block are written.
+// The third version goes over the second, which the checkpoint under way has still to copy. So there is nothing left to
+// copy, and the slot's 8 blocks, two barriers and the commit block are written.
 #[test]
 fn three_versions_of_a_block_are_committed_in_turn(rt: HostRuntime) {
     let mut memory = Memory::power_on(&rt, rt.alloc(), &least(8));
