@@ -52,7 +52,7 @@ fn file_of(alloc: Global, words: &[u32]) -> Result<Vec<u8>, AllocError> {
         (size, 8),
         (4, 8),
     ] {
-        put(&mut file, &number.to_le_bytes()[..width])?;
+        put(&mut file, &number.to_le_bytes()[..width.min(8)])?;
     }
     for word in words {
         put(&mut file, &word.to_le_bytes())?;

@@ -45,6 +45,6 @@ pub record IsNew (p : Parameters) (c : State) : Type 0 where
 
 -- the NVM has the size of the least memory, is up, and has nothing queued
 pub record IsReady (n : Device) : Type 0 where
-  pub sized : length n.image ≡ 1048
+  pub sized : length n.image ≡ 1064
   pub settled : n.queue ≡ []
   pub up : n.down ≡ false

@@ -14,4 +14,5 @@ invariant_of-result g c =
     IsPowered-first g.M.Computer.kind g.met.M.Computer.lawful p c.start_for-start.result c.expect-machine.result shape before n
     c.start_for-start.ensures.origin c.start_for-start.ensures.made
     (subst (λ r. IfOk r (λ m. g.M.Computer.kind.powered p m)) c.expect-machine.ensures c.power_on.ensures.powered)
-    c.nvm_blocks.ensures (subst (λ r. OnOk r (n ≡ fitted shape [] before)) c.expect.ensures c.fit.ensures.ok)
+    c.nvm_blocks.ensures (subst (λ r. OnOk r (n ≡ fitted shape [] before)) c.expect.ensures
+    (subst (λ xs. OnOk c.fit.result (n ≡ fitted shape xs before)) c.new.ensures.items c.fit.ensures.ok))
