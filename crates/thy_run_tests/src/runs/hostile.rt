@@ -220,10 +220,9 @@ fn a_count_that_no_page_has_is_told_by_its_place(rt: HostRuntime) -> Result<(), 
 }
 
 /// Lines that fetch a file that is too long by a byte, under L.
-static TOO_LONG: [&str; 5] = [
+static TOO_LONG: [&str; 4] = [
     "thynvm run L",
     "thynvm plain L",
-    "thynvm resume L",
     "thynvm run F --input L",
     "thynvm plain F --input L",
 ];
