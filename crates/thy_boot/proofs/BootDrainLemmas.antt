@@ -19,7 +19,7 @@ use Rattle.thy_boot.specs.declared.stage.End.TheVariants.{Restored, Loaded}
 use Rattle.thy_boot.specs.Boot.{Booting, layout_in, slot_read}
 use Rattle.thy_boot.specs.Filling.{FillingOf, IsFilling}
 use Rattle.thy_boot.specs.Recovers.{HasReadAt}
-use Rattle.thy_boot.specs.Sound.{BootImages, layout_for, first_of, start_mark, sealed_by, saved_loading, standing_in_boot, IsRecovering, IsSoundAt, IsSound}
+use Rattle.thy_boot.specs.Sound.{BootImages, layout_for, first_of, start_mark, sealed_by, saved_loading, standing_in_boot, IsRecovering, IsSoundAt, IsSoundBoot}
 use Rattle.thy_boot.specs.Laws.{DrainsKeepBoot, DrainsMove}
 use Rattle.thy_boot.proofs.WrittenLemmas.{stood-drained}
 
@@ -41,7 +41,7 @@ module _ {C : Type 0} (F : FillingOf C) (laws : IsFilling F) where
     by_stage (Over Restored) = goes (Kept g.before) g.kept (sealed_by o g.kept)
     by_stage (Over Loaded) = goes (Kept g.next) (Some (start_mark o)) None
 
-  nvm_drained : (o : Origin) (g : BootImages) (n : Device) (b : Booting) (c : C) → IsSound F o g n b c → IsSound F o g (drained n) b c
+  nvm_drained : (o : Origin) (g : BootImages) (n : Device) (b : Booting) (c : C) → IsSoundBoot F o g n b c → IsSoundBoot F o g (drained n) b c
   nvm_drained o g n b c sound = record {
     geometry = sound.geometry;
     same_p = sound.same_p;
@@ -90,7 +90,7 @@ module _ {C : Type 0} (F : FillingOf C) (laws : IsFilling F) where
   }
   read-drained (Over Loaded) n b c h = absurd h
 
-  dram_drained : (o : Origin) (g : BootImages) (n : Device) (b : Booting) (c : C) → IsSound F o g n b c → IsSound F o g n b (F.drained c)
+  dram_drained : (o : Origin) (g : BootImages) (n : Device) (b : Booting) (c : C) → IsSoundBoot F o g n b c → IsSoundBoot F o g n b (F.drained c)
   dram_drained o g n b c sound = record {
     geometry = sound.geometry;
     same_p = laws.drain_p c ∙ sound.same_p;

@@ -20,7 +20,7 @@ use Rattle.thy_boot.specs.Boot.{Booting, at_stage, answer_at, answer_of}
 use Rattle.thy_boot.specs.Filling.{FillingOf, First, IsFilling}
 use Rattle.thy_boot.specs.Loads.{after_issue, issue_action}
 use Rattle.thy_boot.specs.Shows.{seen_at, did_of}
-use Rattle.thy_boot.specs.Sound.{BootImages, layout_for, first_of, sealed_by, standing_in_boot, images_after, IsRecovering, IsLoading, IsSoundAt, IsSound}
+use Rattle.thy_boot.specs.Sound.{BootImages, layout_for, first_of, sealed_by, standing_in_boot, images_after, IsRecovering, IsLoading, IsSoundAt, IsSoundBoot}
 use Rattle.thy_boot.specs.Steps.{ReadsOn, LoadsOn, StepsAt}
 use Rattle.thy_boot.specs.Laws.{StepsMove}
 use Rattle.thy_boot.proofs.MoveLemmas.{load_moves, made_on, sound_at, kept_after, placed, once, some}
@@ -31,7 +31,7 @@ module _ {C : Type 0} (F : FillingOf C) (laws : IsFilling F) where
   abbrev Outcome : Origin → BootImages → Device → Stage → Device → Booting → C → Type 0
   Outcome o g n q m d e =
       Move o (layout_for F o) (standing_in_boot o q g n) (standing_in_boot o d.stage (images_after (first_of F o) q n g) m)
-      × IsSound F o (images_after (first_of F o) q n g) m d e
+      × IsSoundBoot F o (images_after (first_of F o) q n g) m d e
       × CoreStep o (seen_at o g.kept q) (did_of (answer_of F d)) (seen_at o g.kept d.stage)
 
   -- how the view changes while the program is loaded

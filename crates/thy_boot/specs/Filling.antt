@@ -11,14 +11,14 @@ use Rattle.thy_record.specs.Commit.{is_zero, epoch_of}
 use Rattle.thy_view.specs.Dram.{ActsOnDram}
 use Rattle.thy_view.specs.Origin.{Origin, IsOrigin}
 use Rattle.thy_view.specs.Safe.{ceiling}
-use Rattle.thy_protocol.specs.Issuing.{Parts, ArePartsOf, slot_of}
+use Rattle.thy_protocol.specs.Issuing.{CheckpointParts, ArePartsOf, slot_of}
 use Rattle.thy_protocol.specs.Layout.{Layout, Layouts, slot_in, memory_in, fault_of}
 
 -- what a start makes of an empty NVM: the parts of its checkpoint, with header and commit block
 pub record First : Type 0 where
   pub header : Block
   pub commit : Block
-  pub parts : Parts
+  pub parts : CheckpointParts
   pub memory : List Block
 
 -- what is seen of controllers of a type while a boot fills them

@@ -30,7 +30,7 @@ use Rattle.thy_boot.specs.Filling.{FillingOf}
 use Rattle.thy_boot.specs.Left.{boot_left}
 use Rattle.thy_boot.specs.Recovers.{HasRead, IsRestored}
 use Rattle.thy_boot.specs.Shows.{seen_at, did_of}
-use Rattle.thy_boot.specs.Sound.{BootImages, start_mark, layout_for, first_of, standing_in_boot, images_after, IsSound}
+use Rattle.thy_boot.specs.Sound.{BootImages, start_mark, layout_for, first_of, standing_in_boot, images_after, IsSoundBoot}
 use Rattle.thy_boot.specs.Steps.{CanStep, Steps, action_of, Fails}
 
 -- a new boot with a controller that lists nothing has read nothing of the image in the NVM
@@ -44,7 +44,7 @@ abbrev pub NewIsSound : {C : Type 0} → FillingOf C → Type 0
 NewIsSound {C} F =
     (o : Origin) (g : BootImages) (n : Device) (c : C)
     → F.fresh c → F.p c ≡ o.geometry → g.before ≡ n.image → length n.image ≡ (layout_for F o).image_blocks → n.queue ≡ []
-    → Tells o (layout_for F o) n.image g.kept → IsSound F o g n (new_boot F o.geometry) c
+    → Tells o (layout_for F o) n.image g.kept → IsSoundBoot F o g n (new_boot F o.geometry) c
 
 -- the boot is not over
 abbrev pub IsGoing : Stage → Type 0
@@ -56,13 +56,13 @@ IsGoing (Over end) = ⊥
 abbrev pub SoundMayStep : {C : Type 0} → FillingOf C → Type 0
 SoundMayStep {C} F =
     (o : Origin) (g : BootImages) (n : Device) (b : Booting) (c : C)
-    → IsOrigin o → IsSound F o g n b c → IsGoing b.stage → n.down ≡ false → CanStep F o.start n b c
+    → IsOrigin o → IsSoundBoot F o g n b c → IsGoing b.stage → n.down ≡ false → CanStep F o.start n b c
 
 -- whatever a cut leaves then is the committed mark, whole, or, once loading's commit block was written, the start's
 abbrev pub SoundIsSafe : {C : Type 0} → FillingOf C → Type 0
 SoundIsSafe {C} F =
     (o : Origin) (g : BootImages) (n : Device) (b : Booting) (c : C)
-    → IsSound F o g n b c → Safe (reading F.layouts) o (seen_at o g.kept b.stage).done (doubt_of (seen_at o g.kept b.stage)) n
+    → IsSoundBoot F o g n b c → Safe (reading F.layouts) o (seen_at o g.kept b.stage).done (doubt_of (seen_at o g.kept b.stage)) n
 
 -- if a step was taken, the next one may be taken, until the boot is over
 abbrev pub MayGoOn : {C : Type 0} → FillingOf C → Type 0
@@ -76,14 +76,14 @@ pub record IsMoved {C : Type 0} (F : FillingOf C) (o : Origin) (g : BootImages) 
     (d : Booting) (e : C) : Type 0 where
   pub move : Move o (layout_for F o) (standing_in_boot o b.stage g n)
       (standing_in_boot o d.stage (images_after (first_of F o) b.stage n g) m)
-  pub sound : IsSound F o (images_after (first_of F o) b.stage n g) m d e
+  pub sound : IsSoundBoot F o (images_after (first_of F o) b.stage n g) m d e
   pub shows : CoreStep o (seen_at o g.kept b.stage) (did_of (answer_of F d)) (seen_at o g.kept d.stage)
 
 -- every step of a run's boot is one, and the boot is one of the run afterwards
 abbrev pub StepsMove : {C : Type 0} → FillingOf C → Type 0
 StepsMove {C} F =
     (o : Origin) (g : BootImages) (n : Device) (b : Booting) (c : C) (m : Device) (d : Booting) (e : C)
-    → IsOrigin o → IsSound F o g n b c → Steps F o.start n b c m d e → IsMoved F o g n b m d e
+    → IsOrigin o → IsSoundBoot F o g n b c → Steps F o.start n b c m d e → IsMoved F o g n b m d e
 
 -- a step that failed is a move too: the write of the commit block leaves the two in doubt, and every other step what
 -- was. So a cut leaves the committed mark, whole, or the start's, if its commit block was written before or that was
@@ -100,7 +100,7 @@ pub record IsFailed {C : Type 0} (F : FillingOf C) (o : Origin) (g : BootImages)
 abbrev pub FailuresMove : {C : Type 0} → FillingOf C → Type 0
 FailuresMove {C} F =
     (o : Origin) (g : BootImages) (n : Device) (b : Booting) (c : C) (m : Device)
-    → IsOrigin o → IsSound F o g n b c → IsGoing b.stage → Fails F o.start b c n m → IsFramed n m → IsFailed F o g n b c m
+    → IsOrigin o → IsSoundBoot F o g n b c → IsGoing b.stage → Fails F o.start b c n m → IsFramed n m → IsFailed F o g n b c m
 
 -- ---- its end
 
@@ -108,7 +108,7 @@ FailuresMove {C} F =
 abbrev pub RestoredIsKept : {C : Type 0} → FillingOf C → Type 0
 RestoredIsKept {C} F =
     (o : Origin) (g : BootImages) (n : Device) (b : Booting) (c : C)
-    → IsSound F o g n b c → b.stage ≡ Over Restored
+    → IsSoundBoot F o g n b c → b.stage ≡ Over Restored
     → (m : Mark) × (g.kept ≡ Some m) × (m.epoch ≡ epoch_of b.commit) × Keeps o (layout_for F o) n (Kept g.before) (Some m) None
     × ((layout_in F b).state_from (slot_read F b) (F.loads c n) ≡ at o m.count) × IsRestored F n b c
 
@@ -116,14 +116,14 @@ RestoredIsKept {C} F =
 abbrev pub NeverRefused : {C : Type 0} → FillingOf C → Type 0
 NeverRefused {C} F =
     (o : Origin) (g : BootImages) (n : Device) (b : Booting) (c : C) (bad : BadImage)
-    → IsSound F o g n b c → b.stage ≢ Reads (Refusing bad)
+    → IsSoundBoot F o g n b c → b.stage ≢ Reads (Refusing bad)
 
 -- ---- drains
 
 abbrev pub DrainsKeepBoot : {C : Type 0} → FillingOf C → Type 0
 DrainsKeepBoot {C} F =
     (o : Origin) (g : BootImages) (n : Device) (b : Booting) (c : C)
-    → IsSound F o g n b c → IsSound F o g (drained n) b c × IsSound F o g n b (F.drained c)
+    → IsSoundBoot F o g n b c → IsSoundBoot F o g (drained n) b c × IsSoundBoot F o g n b (F.drained c)
 
 -- a drain of the NVM is a move
 abbrev pub DrainsMove : {C : Type 0} → FillingOf C → Type 0
@@ -137,7 +137,7 @@ DrainsMove F =
 abbrev pub ShowsImage : {C : Type 0} → FillingOf C → Type 0
 ShowsImage {C} F =
     (o : Origin) (g : BootImages) (n : Device) (b : Booting) (c : C) (r : ReadStage)
-    → IsSound F o g n b c → b.stage ≡ Reads r
+    → IsSoundBoot F o g n b c → b.stage ≡ Reads r
     → seen_at o g.kept b.stage ≡ view_of_image o.start.count (decode_by (layout_for F o) n.image)
 
 -- ---- actions

@@ -124,7 +124,7 @@ IsSoundAt F o (Over Restored) g n b c = IsRecovering F g n b c
 IsSoundAt F o (Over Loaded) g n b c = IsLoaded F o g n c
 
 -- a boot of a run, with the images of its checkpoints
-pub record IsSound {C : Type 0} (F : FillingOf C) (o : Origin) (g : BootImages) (n : Device) (b : Booting) (c : C) : Type 0 where
+pub record IsSoundBoot {C : Type 0} (F : FillingOf C) (o : Origin) (g : BootImages) (n : Device) (b : Booting) (c : C) : Type 0 where
   pub geometry : b.p ≡ o.geometry
   pub same_p : F.p c ≡ o.geometry
   pub keeps : IsKeeping o (layout_for F o) (standing_in_boot o b.stage g n)

@@ -4,7 +4,7 @@ use Rattle.std.specs.Prelude.{sum_by}
 use Rattle.std.proofs.lemmas.List.Sums.{sum_by-set, sum_by-le-sum_by, count_by-le-length}
 use Rattle.thy_cache.specs.declared.line.Line.{Line}
 use Rattle.thy_cache.specs.Ways.{Ways, line_at, is_dirty, dirty_lines}
-use Rattle.thy_cache.specs.Contents.{Contents, IsSound, no_ways, set_at, with_set, dirty_count}
+use Rattle.thy_cache.specs.Contents.{Contents, IsSoundCache, no_ways, set_at, with_set, dirty_count}
 use Rattle.thy_cache.proofs.AgreeLemmas.{rewritten}
 
 -- a dirty line counts as one
@@ -36,5 +36,5 @@ pub dirty_count-le : (c : Contents) → dirty_count c ≤ way_count c
 dirty_count-le c = sum_by-le-sum_by dirty_lines width c.sets (λ set. count_by-le-length is_dirty set.lines)
 
 -- and so their number fits
-pub dirty-fits : (c : Contents) (s : ℕ) (set : Ways) (dirty : ℕ) → IsSound c.sets dirty → s < length c.sets → width set ≡ width (set_at c s) → dirty_count (with_set s set c) < 2 ^ 64
+pub dirty-fits : (c : Contents) (s : ℕ) (set : Ways) (dirty : ℕ) → IsSoundCache c.sets dirty → s < length c.sets → width set ≡ width (set_at c s) → dirty_count (with_set s set c) < 2 ^ 64
 dirty-fits c s set dirty sound inside same = omega (arith, sound.fits, way_count-with_set c s set inside same, dirty_count-le (with_set s set c))

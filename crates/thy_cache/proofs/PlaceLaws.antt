@@ -4,7 +4,7 @@ use Rattle.std.proofs.Math.Nat.{mod-lt}
 use Rattle.std.specs.List.{count_by}
 use Rattle.std.specs.Option.{option_map, is_some}
 use Rattle.thy_cache.specs.declared.line.Line.{Line}
-use Rattle.thy_cache.specs.declared.line.Place.{Place}
+use Rattle.thy_cache.specs.declared.line.LinePlace.{LinePlace}
 use Rattle.thy_cache.specs.Ways.{Ways, is_dirty, way_of, line_at, used_for}
 use Rattle.thy_cache.specs.Contents.{Contents, index_of, set_of, hits, place_of, read_from, written_at}
 use Rattle.thy_cache.specs.Flat.{KeepsLines, IsWritten}
@@ -19,20 +19,20 @@ pub place-inside : (c : Contents) (b : ℕ) → 0 < length c.sets → index_of c
 place-inside c b some = mod-lt b some
 
 -- what is known of the place of a block's line
-pub record IsPlace (c : Contents) (b : ℕ) (place : Place) : Type 0 where
+pub record IsPlace (c : Contents) (b : ℕ) (place : LinePlace) : Type 0 where
   pub set : place.set ≡ index_of c b
   pub way : way_of (set_of c b) b ≡ Some place.way
   pub inside : place.way < length (set_of c b).lines
   pub line : Line
   pub stands : line_at (set_of c b) place.way ≡ Some line
 
-pub IsPlace-of : (c : Contents) (b : ℕ) (place : Place) → place_of c b ≡ Some place → IsPlace c b place
+pub IsPlace-of : (c : Contents) (b : ℕ) (place : LinePlace) → place_of c b ≡ Some place → IsPlace c b place
 IsPlace-of c b place e =
     let w = map-Some (λ way. record { set = index_of c b; way = way }) (way_of (set_of c b) b) place e in
-    let way : way_of (set_of c b) b ≡ Some place.way = w.1 ∙ ap (λ (p : Place). Some p.way) w.2 in
+    let way : way_of (set_of c b) b ≡ Some place.way = w.1 ∙ ap (λ (p : LinePlace). Some p.way) w.2 in
     let there = place-way_of (set_of c b) b place.way way in
     let line = held b (line_at (set_of c b) place.way) there.2 in
-    record { set = sym (ap (λ (p : Place). p.set) w.2); way = way; inside = there.1; line = line.0; stands = line.1 }
+    record { set = sym (ap (λ (p : LinePlace). p.set) w.2); way = way; inside = there.1; line = line.0; stands = line.1 }
 
 -- a block has a place where it hits
 found_by : (ways : Ways) (b : ℕ) (o : Option ℕ) → way_of ways b ≡ o → is_some o ≡ is_some (option_and_then (line_at ways) o)

@@ -6,7 +6,7 @@ use Rattle.std.proofs.lemmas.List.Edits.{length-remove}
 use Rattle.std.proofs.lemmas.List.FromFn.{map-range_with_len_more, length-range_with_len, get_or-range_with_len}
 use Rattle.std.proofs.lemmas.List.Elements.{All-append, All-take, All-drop, All-push, All-from_get_or}
 use Rattle.thy_cache.specs.declared.line.Line.{Line}
-use Rattle.thy_cache.specs.Ways.{IsSound, empty_ways}
+use Rattle.thy_cache.specs.Ways.{AreSoundWays, empty_ways}
 use Rattle.thy_cache.proofs.OrderLemmas.{found_way, StandOnce-moved, StandOnce-range}
 
 -- one number more
@@ -22,8 +22,8 @@ range_below n =
     (λ i h. let inside : i < n = omega (arith, h, length-range_with_len 0 n) in omega (arith, inside, get_or-range_with_len 0 n i 0 inside))
 
 -- new parts are sound
-pub IsSound-empty : (n : ℕ) (lines : List (Option Line)) (order : List ℕ) → 0 < n → lines ≡ (empty_ways n).lines → order ≡ range_with_len 0 n → IsSound lines order
-IsSound-empty n lines order some e f =
+pub AreSoundWays-empty : (n : ℕ) (lines : List (Option Line)) (order : List ℕ) → 0 < n → lines ≡ (empty_ways n).lines → order ≡ range_with_len 0 n → AreSoundWays lines order
+AreSoundWays-empty n lines order some e f =
     let many : length lines ≡ n = ap length e ∙ length-replicate n None in
     record {
       some_way = omega (arith, many, some);
@@ -33,9 +33,9 @@ IsSound-empty n lines order some e f =
     }
 
 -- and stay so after a use
-pub IsSound-used : (lines : List (Option Line)) (order moved : List ℕ) (at way : ℕ) → IsSound lines order → position (λ v. v == way) order ≡ Some at → way < length lines
-    → moved ≡ remove order at ++ way ∷ [] → IsSound lines moved
-IsSound-used lines order moved at way sound found here e =
+pub AreSoundWays-used : (lines : List (Option Line)) (order moved : List ℕ) (at way : ℕ) → AreSoundWays lines order → position (λ v. v == way) order ≡ Some at → way < length lines
+    → moved ≡ remove order at ++ way ∷ [] → AreSoundWays lines moved
+AreSoundWays-used lines order moved at way sound found here e =
     let there = found_way order way at found in
     let Below : ℕ → Type 0 = λ w. w < length lines in
     let left : All Below (remove order at) = All-append Below _ _ (All-take Below at order sound.ordered) (All-drop Below (suc at) order sound.ordered) in

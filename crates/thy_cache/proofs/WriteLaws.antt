@@ -8,7 +8,7 @@ use Rattle.thy_base.specs.Blocks.{overwritten}
 use Rattle.thy_base.specs.Device.{block_at}
 use Rattle.thy_cache.specs.declared.line.Line.{Line}
 use Rattle.thy_cache.specs.Ways.{Ways, line_at, line_in, way_of, is_dirty, used, used_for, over_line, changed, written_to, dirty_lines}
-use Rattle.thy_cache.specs.Contents.{Contents, IsSound, set_of, index_of, line_of, peeked, hits, read_from, written_at, dirty_count}
+use Rattle.thy_cache.specs.Contents.{Contents, IsSoundCache, set_of, index_of, line_of, peeked, hits, read_from, written_at, dirty_count}
 use Rattle.thy_cache.specs.Flat.{flat, SetAgrees, PeeksSame, HitsSame, ReadsSame, ReadsAs, WritesOver, AgreesStill}
 use Rattle.thy_cache.proofs.LineLemmas.{KeepsBlock, place-way_of, held, line_in-changed, line_in-other}
 use Rattle.thy_cache.proofs.AgreeLemmas.{SetAgrees-same, SetAgrees-over_line}
@@ -140,7 +140,7 @@ write-count c b at bytes inside hit =
     omega (arith, dirty_count-with_set c (index_of c b) (written_to b at bytes (set_of c b)) inside, written-count b at bytes (set_of c b) (way_of (set_of c b) b) refl hit)
 
 -- one more dirty line still fits
-pub write-fits : (c : Contents) (b at : ℕ) (bytes : List ℕ) (dirty : ℕ) → IsSound c.sets dirty → index_of c b < length c.sets → hits c b ≡ true → is_dirty (line_of c b) ≡ false → dirty + 1 < 2 ^ 64
+pub write-fits : (c : Contents) (b at : ℕ) (bytes : List ℕ) (dirty : ℕ) → IsSoundCache c.sets dirty → index_of c b < length c.sets → hits c b ≡ true → is_dirty (line_of c b) ≡ false → dirty + 1 < 2 ^ 64
 write-fits c b at bytes dirty sound inside hit pure =
     let none : dirt (line_of c b) ≡ 0 = ap (λ t. cond t 1 0) pure in
     omega (

@@ -7,7 +7,7 @@ use Rattle.thy_base.specs.declared.store.Stored.{Stored}
 use Rattle.thy_base.specs.declared.store.Stored.TheVariants.{Done, CopyFirst}
 use Rattle.thy_base.specs.Store.{Holding, HasStored, page_of}
 use Rattle.thy_cache.specs.declared.line.Line.{Line}
-use Rattle.thy_cache.specs.declared.line.Place.{Place}
+use Rattle.thy_cache.specs.declared.line.LinePlace.{LinePlace}
 use Rattle.thy_cache.specs.declared.line.Victim.{Victim}
 use Rattle.thy_cache.specs.declared.line.Victim.TheVariants.{Room, Dirty}
 use Rattle.thy_cache.specs.declared.line.Flushed.{Flushed}
@@ -22,7 +22,7 @@ abbrev pub empty_cache : ℕ → ℕ → Contents
 empty_cache sets ways = record { sets = replicate sets (empty_ways ways) }
 
 -- what holds of the parts of a cache
-pub record IsSound (sets : List Ways) (dirty : ℕ) : Type 0 where
+pub record IsSoundCache (sets : List Ways) (dirty : ℕ) : Type 0 where
   pub some_set : 0 < length sets
   -- the number is that of the dirty lines
   pub counted : dirty ≡ sum_by dirty_lines sets
@@ -49,7 +49,7 @@ abbrev pub line_of : Contents → ℕ → Option Line
 line_of c b = line_in (set_of c b) b
 
 -- the place of a block's line, if it has one
-abbrev pub place_of : Contents → ℕ → Option Place
+abbrev pub place_of : Contents → ℕ → Option LinePlace
 place_of c b = option_map (λ way. record { set = index_of c b; way = way }) (way_of (set_of c b) b)
 
 -- what a block's line holds, if it has one

@@ -24,7 +24,7 @@ abbrev pub StandOnce : List ℕ → Type 0
 StandOnce order = (i j : ℕ) → i < length order → j < length order → slice_index order i ≡ slice_index order j → i ≡ j
 
 -- what holds of the parts of a set
-pub record IsSound (lines : List (Option Line)) (order : List ℕ) : Type 0 where
+pub record AreSoundWays (lines : List (Option Line)) (order : List ℕ) : Type 0 where
   pub some_way : 0 < length lines
   pub all_ordered : length order ≡ length lines
   pub ordered : All (λ w. w < length lines) order

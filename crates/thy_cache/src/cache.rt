@@ -6,7 +6,7 @@ ghost use Rattle.thy_cache.specs.Ways.{is_dirty, line_at, victim_way, has_dirty}
 ghost use Rattle.thy_cache.specs.Contents.{Contents, empty_cache, set_at, set_of, index_of, victim_line_of, is_dirty_victim, cleaned_at, filled_with, evicted_for, stored_at, dirty_set, dirty_way, dirty_line, HasNoneDirty, IsSized, KeepsSize, KeepsOpen, flushed_from, HasFlushed, CountsFlushed, StoresLine, CountsStored, line_of, place_of, peeked, hits, victim_of, dirty_count, read_from, written_at};
 ghost use Rattle.thy_cache.specs.Flat.{flat, Agrees, PeeksSame, HitsSame, ReadsAs, AgreesWithAll, ReadsAsStore, KeepsLines, IsWritten};
 
-use crate::line::{Flushed, Line, Place, Victim};
+use crate::line::{Flushed, Line, LinePlace, Victim};
 use crate::ways::{WaySet, empty_sets};
 use std::alloc::{AllocError, Global};
 use std::marker::Model;
@@ -21,13 +21,13 @@ pub struct Cache {
 }
 
 impl Model for Cache {
-    ghost use Rattle.thy_cache.specs.Contents.{Contents, IsSound};
+    ghost use Rattle.thy_cache.specs.Contents.{Contents, IsSoundCache};
 
     ghost Value = { Contents };
 
     ghost view = { λ c. record { sets = c.sets.items } };
 
-    ghost invariant = { λ c. IsSound c.sets.items c.dirty };
+    ghost invariant = { λ c. IsSoundCache c.sets.items c.dirty };
 }
 
 impl Cache {
@@ -68,13 +68,13 @@ impl Cache {
     }
 
     /// The place of the line of block `b`, if the cache has one.
-    pub fn find(&self, b: u64) -> Option<Place>
+    pub fn find(&self, b: u64) -> Option<LinePlace>
         ensures place { result ≡ place_of self.now b }
         ensures hit { is_some result ≡ hits self.now b }
     {
         let set = self.index_of(b);
         match self.sets[set].way_of(b) {
-            Some(way) => Some(Place { set, way }),
+            Some(way) => Some(LinePlace { set, way }),
             None => None,
         }
     }
@@ -111,7 +111,7 @@ impl Cache {
     }
 
     /// Notes that the line of block `b`, which is at this place, was used.
-    fn touch(&mut self, b: u64, place: Place)
+    fn touch(&mut self, b: u64, place: LinePlace)
         requires { place_of self.old b ≡ Some place }
         ensures cache { self.new ≡ read_from b self.old }
         ensures inside { index_of self.old b < length self.old.sets }
@@ -120,7 +120,7 @@ impl Cache {
     }
 
     /// The line of block `b`, which is at this place.
-    fn line_in(&self, b: u64, place: Place) -> Line
+    fn line_in(&self, b: u64, place: LinePlace) -> Line
         requires { place_of self.now b ≡ Some place }
         ensures { line_of self.now b ≡ Some result }
     {
@@ -131,7 +131,7 @@ impl Cache {
     }
 
     /// Block `b`, whose line is at this place. It is now the most recently used of its set.
-    pub fn read_at(&mut self, b: u64, place: Place) -> Block
+    pub fn read_at(&mut self, b: u64, place: LinePlace) -> Block
         requires { place_of self.old b ≡ Some place }
         ensures block { peeked self.old b ≡ Some result }
         ensures reads { ReadsAs self.old b result }
@@ -145,7 +145,7 @@ impl Cache {
 
     /// Writes bytes over block `b`, whose line is at this place, from byte `at` on. It is dirty then, and
     /// the most recently used of its set.
-    pub fn write_at(&mut self, b: u64, place: Place, at: u64, bytes: &[u8])
+    pub fn write_at(&mut self, b: u64, place: LinePlace, at: u64, bytes: &[u8])
         requires place { place_of self.old b ≡ Some place }
         requires within { at + length bytes.now ≤ 64 }
         ensures cache { self.new ≡ written_at b at bytes.now self.old }
@@ -155,7 +155,7 @@ impl Cache {
     }
 
     /// Writes bytes over the line of block `b`, which is at this place, from byte `at` on.
-    fn write_line(&mut self, b: u64, place: Place, at: usize, bytes: &[u8])
+    fn write_line(&mut self, b: u64, place: LinePlace, at: usize, bytes: &[u8])
         requires place { place_of self.old b ≡ Some place }
         requires within { at + length bytes.now ≤ 64 }
         ensures cache { self.new ≡ written_at b at bytes.now self.old }

@@ -3,7 +3,7 @@
 //! most one call of the store.
 //!
 //! Open specs/Flat.antt first, then specs/Contents.antt, and src/cache.rt. It stands on thy_base; on it stand thy_hart,
-//! thy_core_model and thy_core.
+//! thy_core_laws and thy_core.
 #![tactic(auto)]
 
 mod cache;
@@ -11,4 +11,4 @@ mod line;
 mod ways;
 
 pub use cache::Cache;
-pub use line::{Flushed, Line, Place, Victim};
+pub use line::{Flushed, Line, LinePlace, Victim};

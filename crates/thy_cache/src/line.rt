@@ -15,7 +15,7 @@ pub struct Line {
 
 /// Where a cache has the line of a block.
 #[derive(Clone, Copy, Debug, PartialEq, Eq)]
-pub struct Place {
+pub struct LinePlace {
     /// The number of its set.
     pub set: usize,
     /// Its way in that.

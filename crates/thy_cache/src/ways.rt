@@ -19,13 +19,13 @@ pub(crate) struct WaySet {
 }
 
 impl Model for WaySet {
-    ghost use Rattle.thy_cache.specs.Ways.{Ways, IsSound};
+    ghost use Rattle.thy_cache.specs.Ways.{Ways, AreSoundWays};
 
     ghost Value = { Ways };
 
     ghost view = { λ s. record { lines = s.lines.items; order = s.order.items } };
 
-    ghost invariant = { λ s. IsSound s.lines.items s.order.items };
+    ghost invariant = { λ s. AreSoundWays s.lines.items s.order.items };
 }
 
 /// Takes the way at a place of the order and puts it, now `way`, at its end.

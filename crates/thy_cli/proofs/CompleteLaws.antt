@@ -47,7 +47,7 @@ use Rattle.thy_cli.specs.Machines.{Choice}
 use Rattle.thy_cli.specs.Completing.{IsAsked, Stayed, IsCalm, left_alone, run_of, TellsEnd, RunCompletes, PlainCompletes, MakeCompletes, Claim}
 use Rattle.thy_cli.specs.Planning.{refused_status}
 use Rattle.thy_cli.specs.Saving.{PutCounted, SavesUnder, saves}
-use Rattle.thy_cli.specs.Sources.{Source, file, made, image, most_bytes, most_image_bytes, Beginning, begun, from_entry, AreBytesOf, IsHeld, IsTooLong, IsInput, FetchDue, meaning_of, IsProgram, SourceDue, InputDue, IsMeant, ProgramDue, origin_for}
+use Rattle.thy_cli.specs.Sources.{ProgramSource, file, made, image, most_bytes, most_image_bytes, Beginning, begun, from_entry, AreBytesOf, IsHeld, IsTooLong, IsInput, FetchDue, meaning_of, IsProgram, SourceDue, InputDue, IsMeant, ProgramDue, origin_for}
 use Rattle.thy_cli.proofs.PlainLemmas.{at_is}
 
 -- ---- counts of faults
@@ -98,7 +98,7 @@ end_lawful c m (v ∷ vs) status count cycle state all = end_lawful c (marks_aft
 -- ---- refusals
 
 -- what is known of a job's program: its bytes and input are on a shelf with known contents, or are made
-record Stands (source : Source) (job : Job) (stock : Stock) : Type 0 where
+record Stands (source : ProgramSource) (job : Job) (stock : Stock) : Type 0 where
   files : Files
   tells : stock.held ≡ Some files
   program : IsProgram source job stock
@@ -111,26 +111,26 @@ input_same : (stock : Stock) (files : Files) (name : Option (List ℕ)) (a b : L
 input_same stock files None a b tells g h = g ∙ sym h
 input_same stock files (Some name) a b tells g h = held_same most_bytes stock files name a b tells g h
 
-bytes_same : (source : Source) (stock : Stock) (files : Files) (a b : List ℕ) → stock.held ≡ Some files → AreBytesOf source stock a → AreBytesOf source stock b → a ≡ b
+bytes_same : (source : ProgramSource) (stock : Stock) (files : Files) (a b : List ℕ) → stock.held ≡ Some files → AreBytesOf source stock a → AreBytesOf source stock b → a ≡ b
 bytes_same (file name) stock files a b tells g h = held_same most_bytes stock files name a b tells g h
 bytes_same (image name) stock files a b tells g h = held_same most_image_bytes stock files name a b tells g h
 bytes_same (made n) stock files a b tells g h = g ∙ sym h
 
 -- so a job has one program
-inputs_same : (source : Source) (job : Job) (stock : Stock) (s : Stands source job stock) (f : IsProgram source job stock) → f.input ≡ s.program.input
-inputs_same source job stock s f = input_same stock s.files job.input f.input s.program.input s.tells f.had.is_input s.program.had.is_input
+inputs_same : (source : ProgramSource) (job : Job) (stock : Stock) (s : Stands source job stock) (f : IsProgram source job stock) → f.input ≡ s.program.input
+inputs_same source job stock s f = input_same stock s.files job.input f.input s.program.input s.tells f.fetched.is_input s.program.fetched.is_input
 
 -- what is meant by bytes and an input that were had
-meant_same : (source : Source) (job : Job) (stock : Stock) (s : Stands source job stock) (bytes input : List ℕ) → AreBytesOf source stock bytes → IsInput stock job.input input
+meant_same : (source : ProgramSource) (job : Job) (stock : Stock) (s : Stands source job stock) (bytes input : List ℕ) → AreBytesOf source stock bytes → IsInput stock job.input input
     → meaning_of source job bytes input ≡ Ok s.program.begins
-meant_same source job stock s bytes input had reads =
-    ap (λ b. meaning_of source job b input) (bytes_same source stock s.files bytes s.program.bytes s.tells had s.program.had.had)
-    ∙ ap (meaning_of source job s.program.bytes) (input_same stock s.files job.input input s.program.input s.tells reads s.program.had.is_input)
+meant_same source job stock s bytes input fetched reads =
+    ap (λ b. meaning_of source job b input) (bytes_same source stock s.files bytes s.program.bytes s.tells fetched s.program.fetched.fetched)
+    ∙ ap (meaning_of source job s.program.bytes) (input_same stock s.files job.input input s.program.input s.tells reads s.program.fetched.is_input)
     ∙ s.program.means
 
-begins_same : (source : Source) (job : Job) (stock : Stock) (s : Stands source job stock) (f : IsProgram source job stock) → f.begins ≡ s.program.begins
+begins_same : (source : ProgramSource) (job : Job) (stock : Stock) (s : Stands source job stock) (f : IsProgram source job stock) → f.begins ≡ s.program.begins
 begins_same source job stock s f =
-    let known : meaning_of source job f.bytes f.input ≡ Ok s.program.begins = meant_same source job stock s f.bytes f.input f.had.had f.had.is_input in
+    let known : meaning_of source job f.bytes f.input ≡ Ok s.program.begins = meant_same source job stock s f.bytes f.input f.fetched.fetched f.fetched.is_input in
     let read : meaning_of source job f.bytes f.input ≡ Ok f.begins = f.means in
     cc
 
@@ -150,28 +150,28 @@ fetch_due most old new files name bytes text TooLong tells held faults due =
     absurd (omega (arith, held.0, long.2, ap length same))
 fetch_due most old new files name bytes text (FetchMemory e) tells held faults due = refl
 
-source_due : (source : Source) (job : Job) (old new : Stock) (text : _) (name : List ℕ) (e : FetchError) → Stands source job old → Stayed old.faults new.faults → SourceDue source old new name e
+source_due : (source : ProgramSource) (job : Job) (old new : Stock) (text : _) (name : List ℕ) (e : FetchError) → Stands source job old → Stayed old.faults new.faults → SourceDue source old new name e
     → refused_status (Fetch text e) ≡ 9
 source_due (file own) job old new text name e s faults due =
-    fetch_due most_bytes old new s.files own s.program.bytes text e s.tells s.program.had.had faults (subst (λ n. FetchDue most_bytes old new n e) due.0 due.1)
+    fetch_due most_bytes old new s.files own s.program.bytes text e s.tells s.program.fetched.fetched faults (subst (λ n. FetchDue most_bytes old new n e) due.0 due.1)
 source_due (image own) job old new text name e s faults due =
-    fetch_due most_image_bytes old new s.files own s.program.bytes text e s.tells s.program.had.had faults (subst (λ n. FetchDue most_image_bytes old new n e) due.0 due.1)
+    fetch_due most_image_bytes old new s.files own s.program.bytes text e s.tells s.program.fetched.fetched faults (subst (λ n. FetchDue most_image_bytes old new n e) due.0 due.1)
 source_due (made n) job old new text name e s faults due = absurd due
 
-input_due : (source : Source) (job : Job) (old new : Stock) (text : _) (name : List ℕ) (e : FetchError) → Stands source job old → Stayed old.faults new.faults → InputDue source job old new name e
+input_due : (source : ProgramSource) (job : Job) (old new : Stock) (text : _) (name : List ℕ) (e : FetchError) → Stands source job old → Stayed old.faults new.faults → InputDue source job old new name e
     → refused_status (Fetch text e) ≡ 9
 input_due source job old new text name e s faults due =
-    fetch_due most_bytes old new s.files name s.program.input text e s.tells (subst (λ n. IsInput old n s.program.input) due.0 s.program.had.is_input) faults due.2
+    fetch_due most_bytes old new s.files name s.program.input text e s.tells (subst (λ n. IsInput old n s.program.input) due.0 s.program.fetched.is_input) faults due.2
 
-fetched_due : (source : Source) (job : Job) (old new : Stock) (text : _) (name : List ℕ) (e : FetchError) → Stands source job old → Stayed old.faults new.faults → SourceDue source old new name e ⊎ InputDue source job old new name e
+fetched_due : (source : ProgramSource) (job : Job) (old new : Stock) (text : _) (name : List ℕ) (e : FetchError) → Stands source job old → Stayed old.faults new.faults → SourceDue source old new name e ⊎ InputDue source job old new name e
     → refused_status (Fetch text e) ≡ 9
 fetched_due source job old new text name e s faults (inl due) = source_due source job old new text name e s faults due
 fetched_due source job old new text name e s faults (inr due) = input_due source job old new text name e s faults due
 
 -- what means a program is not refused
-means_none : {A : Type 0} (source : Source) (job : Job) (stock : Stock) (r : Refusal) → Stands source job stock → IsMeant source job stock r → A
-means_none source job stock r s (bytes, had, input, reads, means) =
-    let known : meaning_of source job bytes input ≡ Ok s.program.begins = meant_same source job stock s bytes input had reads in
+means_none : {A : Type 0} (source : ProgramSource) (job : Job) (stock : Stock) (r : Refusal) → Stands source job stock → IsMeant source job stock r → A
+means_none source job stock r s (bytes, fetched, input, reads, means) =
+    let known : meaning_of source job bytes input ≡ Ok s.program.begins = meant_same source job stock s bytes input fetched reads in
     absurd (cc)
 
 device_due : (e : FitError) (n m : Device) → Stayed n.faults m.faults → HasFailedToFit e n m → refused_status (DeviceRefusal e) ≡ 9
@@ -179,7 +179,7 @@ device_due FitFailed n m faults due = not_risen n.faults m.faults faults due.2
 device_due (FitMemory e) n m faults due = refl
 
 -- only if memory runs out
-program_due : (source : Source) (job : Job) (old new : Stock) (r : Refusal) → Stands source job old → Stayed old.faults new.faults → ProgramDue source job old new r → refused_status r ≡ 9
+program_due : (source : ProgramSource) (job : Job) (old new : Stock) (r : Refusal) → Stands source job old → Stayed old.faults new.faults → ProgramDue source job old new r → refused_status r ≡ 9
 program_due source job old new (Words e) s shelf due = absurd due
 program_due source job old new (Fetch name e) s shelf due = fetched_due source job old new name name.now e s shelf due
 program_due source job old new (File (ElfMemory e)) s shelf due = refl
@@ -189,7 +189,7 @@ program_due source job old new (Input cursor length) s shelf due = means_none so
 program_due source job old new (DeviceRefusal e) s shelf due = absurd due
 program_due source job old new (MemoryRefusal e) s shelf due = refl
 
-run_due : (source : Source) (job : Job) (before after : Outside) (r : Refusal) → Stands source job before.shelf → IsCalm before after → RunDue source job before after r → refused_status r ≡ 9
+run_due : (source : ProgramSource) (job : Job) (before after : Outside) (r : Refusal) → Stands source job before.shelf → IsCalm before after → RunDue source job before after r → refused_status r ≡ 9
 run_due source job before after (DeviceRefusal e) s faults due = device_due e before.device after.device faults.device due.2
 run_due source job before after r s faults due = program_due source job before.shelf after.shelf r s faults.shelf due.0
 
@@ -223,7 +223,7 @@ save_counts (Some name) false c n m old new why h = ap (λ (d : Device). d.fault
 
 -- ---- runs
 
-module _ {M : Type 0} (K : KindOf M) (source : Source) (job : Job) (k : ℕ) (before after : Outside) (a : Answer) (s : Stands source job before.shelf)
+module _ {M : Type 0} (K : KindOf M) (source : ProgramSource) (job : Job) (k : ℕ) (before after : Outside) (a : Answer) (s : Stands source job before.shelf)
     (faults : IsCalm before after) (over : is_running (left_alone s.program k).status ≡ false)
     (limit : cycles_for K (parameters_of job.config) job.config.cuts k ≤ job.config.limit) (h : IsRunOf K source job before after a) where
   abbrev o : Origin
@@ -371,7 +371,7 @@ module _ (name : List ℕ) (job : Job) (k : ℕ) (before after : Outside) (a : A
 
 -- ---- results
 
-abbrev stands_of : {order : Order} {source : Source} {job : Job} {words : List (List ℕ)} {stock : Stock} → IsAsked order source job words stock → Stands source job stock
+abbrev stands_of : {order : Order} {source : ProgramSource} {job : Job} {words : List (List ℕ)} {stock : Stock} → IsAsked order source job words stock → Stands source job stock
 stands_of i = record { files = i.files; tells = i.tells; program = i.program }
 
 -- if nothing failed, nothing did on the device that the run saw
@@ -386,7 +386,7 @@ calm_seen gap before after found left is_found is_left faults = record {
   report = faults.report;
 }
 
-run_completes : {M : Type 0} (K : KindOf M) (words : List (List ℕ)) (before after : Outside) (a : Answer) (source : Source) (job : Job) (i : IsAsked (run_of source job) source job words before.shelf) (k : ℕ) → IsCalm before after
+run_completes : {M : Type 0} (K : KindOf M) (words : List (List ℕ)) (before after : Outside) (a : Answer) (source : ProgramSource) (job : Job) (i : IsAsked (run_of source job) source job words before.shelf) (k : ℕ) → IsCalm before after
     → is_running (left_alone i.program k).status ≡ false → cycles_for K (parameters_of job.config) job.config.cuts k ≤ job.config.limit → RunAnswered K source job before after a → TellsEnd (left_alone i.program k) a
 run_completes K words before after a source job i k faults over limit (inl (r, due, refused)) = inr (refused.status ∙ run_due source job before after r (stands_of i) faults due)
 run_completes K words before after a source job i k faults over limit (inr ran) =
@@ -394,7 +394,7 @@ run_completes K words before after a source job i k faults over limit (inr ran) 
     (calm_seen job.config.gap before after ran.found ran.left ran.is_found ran.is_left faults) over limit ran.seen ran.seen.run.why refl
 
 -- the result of the order of a run is that of its source
-order_answered : (c : Choice) (before after : Outside) (a : Answer) (source : Source) (job : Job) → OrderAnswered c (run_of source job) before after a → RunAnswered (c job.config.scheme).kind source job before after a
+order_answered : (c : Choice) (before after : Outside) (a : Answer) (source : ProgramSource) (job : Job) → OrderAnswered c (run_of source job) before after a → RunAnswered (c job.config.scheme).kind source job before after a
 order_answered c before after a (file name) job h = h
 order_answered c before after a (made n) job h = h
 order_answered c before after a (image name) job h = h

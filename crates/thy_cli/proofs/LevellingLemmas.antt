@@ -32,7 +32,7 @@ use Rattle.thy_cli.specs.Answering.{Outside, with_device, IsRunOf, IsRunOver, Is
 use Rattle.thy_cli.specs.Levelling.{through, read_through, images_of_save, IsFoundAs, IsLeftAs, IsHandedBack, PutsThrough}
 use Rattle.thy_cli.specs.Planning.{HasStayed}
 use Rattle.thy_cli.specs.Saving.{IsPut, SavesUnder, saves, save_pick}
-use Rattle.thy_cli.specs.Sources.{Source, origin_for}
+use Rattle.thy_cli.specs.Sources.{ProgramSource, origin_for}
 use Rattle.thy_words.specs.Settings.{Job}
 
 -- ---- what images are to a run
@@ -180,7 +180,7 @@ PutsThrough-saved gap None true c handed stood left old new why is h = (h.1, h.2
 PutsThrough-saved gap None false c handed stood left old new why is h = (h.1, h.2)
 
 -- a run over the device that it sees is one over the device that was handed in
-pub IsRunOver-seen : {M : Type 0} (K : KindOf M) (source : Source) (job : Job) (before after : Outside) (found left : Device) (a : Answer) → IsFoundAs job.config.gap before.device found
+pub IsRunOver-seen : {M : Type 0} (K : KindOf M) (source : ProgramSource) (job : Job) (before after : Outside) (found left : Device) (a : Answer) → IsFoundAs job.config.gap before.device found
     → IsLeftAs job.config.gap after.device left → IsRunOf K source job (with_device found before) (with_device left after) a → IsRunOver K source job before after a
 IsRunOver-seen K source job before after found left a is_found is_left seen =
     let run = seen.run in

@@ -48,13 +48,13 @@ use Rattle.thy_run.specs.declared.plan.Plan.{Plan}
 use Rattle.thy_cli.specs.declared.refusal.Refusal.{Refusal}
 use Rattle.thy_cli.specs.declared.refusal.Refusal.TheVariants.{Device as DeviceRefusal}
 use Rattle.thy_cli.specs.Answering.{Outside, outside, RunAnswered, WordsDue, RunDue, given_for, shape_for, IsRunFrom, IsRunOf, IsSafeFor, ClosesRun, run_line, run_status, summary_for}
-use Rattle.thy_cli.specs.Planning.{Begins, begun_with, CanRun, Fits, FitsKept, HasRoom, IsElf, IsHadFor, IsPlanOf, IsProgramOf, shape_of}
+use Rattle.thy_cli.specs.Planning.{Begins, begun_with, CanRun, Fits, FitsKept, HasRoom, IsElf, AreFetchedFor, IsPlanOf, IsProgramOf, shape_of}
 use Rattle.thy_cli.specs.Restoring.{IsRestored, ReadsFiles}
 use Rattle.thy_cli.specs.Saving.{SavesUnder, save_pick, saves}
-use Rattle.thy_cli.specs.Sources.{Source, file, made, image, Beginning, begun, from_entry, restored, IsInput, meaning_of, origin_for, ProgramDue}
+use Rattle.thy_cli.specs.Sources.{ProgramSource, file, made, image, Beginning, begun, from_entry, restored, IsInput, meaning_of, origin_for, ProgramDue}
 use Rattle.thy_cli.specs.declared.refusal.Refusal.TheVariants.{Input}
 use Rattle.thy_cli.specs.declared.restoring.Beginning.{Beginning as BeginningValue}
-use Rattle.thy_cli.specs.declared.source.Had.{Had}
+use Rattle.thy_cli.specs.declared.source.FetchedBytes.{FetchedBytes}
 use Rattle.thy_cli.specs.declared.source.Program.{Program}
 use Rattle.thy_cli.proofs.RestoringLaws.{IsOrigin-restored}
 use Rattle.thy_run.specs.Going.{origin_of, given_of, IsPlanned}
@@ -142,18 +142,18 @@ abbrev given_at : Config → Bool → Device → Given
 given_at c digest d = record { config = c; digest = digest; fitted = d }
 
 -- the numbers of a job's plan
-planned_numbers : (source : Source) (job : Job) (stock : Stock) (plan : Plan) (blocks : List Block) → IsPlanOf source job stock plan blocks → plan.geometry ≡ parameters_of job.config
+planned_numbers : (source : ProgramSource) (job : Job) (stock : Stock) (plan : Plan) (blocks : List Block) → IsPlanOf source job stock plan blocks → plan.geometry ≡ parameters_of job.config
 planned_numbers source job stock plan blocks p = ap (λ (o : Origin). o.geometry) p.origin
 
 -- the device of the plan's machine is that of the job's
-pub shape_planned : {M : Type 0} (K : KindOf M) (source : Source) (job : Job) (stock : Stock) (plan : Plan) (blocks : List Block) → IsPlanOf source job stock plan blocks → shape_of K plan ≡ shape_for K job.config
+pub shape_planned : {M : Type 0} (K : KindOf M) (source : ProgramSource) (job : Job) (stock : Stock) (plan : Plan) (blocks : List Block) → IsPlanOf source job stock plan blocks → shape_of K plan ≡ shape_for K job.config
 shape_planned K source job stock plan blocks p =
     let numbers : plan.geometry ≡ parameters_of job.config = planned_numbers source job stock plan blocks p in
     ap (λ (x : Parameters). shape_at (K.blocks x) x.nvmq (length plan.config.cuts)) numbers
     ∙ ap (λ (c : Config). shape_at (K.blocks (parameters_of job.config)) job.config.nvmq (length c.cuts)) p.config
 
 -- a run of the plan is given what the job's run is
-planned_given : {M : Type 0} (K : KindOf M) (source : Source) (job : Job) (stock : Stock) (plan : Plan) (blocks : List Block) (d n : Device) → (p : IsPlanOf source job stock plan blocks)
+planned_given : {M : Type 0} (K : KindOf M) (source : ProgramSource) (job : Job) (stock : Stock) (plan : Plan) (blocks : List Block) (d n : Device) → (p : IsPlanOf source job stock plan blocks)
     → d ≡ fitted (shape_for K job.config) blocks n → given_of plan d ≡ given_for K job p.program.begins n
 planned_given K source job stock plan blocks d n p fit =
     let config : plan.config ≡ job.config = p.config in
@@ -176,7 +176,7 @@ safe_saved K o events None true c n m old new why h safe = subst (IsSafeFor K o 
 safe_saved K o events None false c n m old new why h safe = subst (IsSafeFor K o events) (sym h.0) safe
 
 -- a run that was begun keeps its promise
-pub IsRunOf-ran : {M : Type 0} (K : KindOf M) (laws : IsLawful K) → (source : Source) (job : Job) (save : Option (List ℕ)) (before after : Outside) (plan : Plan) (blocks : List Block) (d stood : Device) (e : Ending) (a : Answer) (told : Stream) (why : Option PutError)
+pub IsRunOf-ran : {M : Type 0} (K : KindOf M) (laws : IsLawful K) → (source : ProgramSource) (job : Job) (save : Option (List ℕ)) (before after : Outside) (plan : Plan) (blocks : List Block) (d stood : Device) (e : Ending) (a : Answer) (told : Stream) (why : Option PutError)
     → IsPlanned plan → (p : IsPlanOf source job before.shelf plan blocks) → job.save ≡ save
     → d ≡ fitted (shape_for K job.config) blocks before.device
     → RunEnds K plan d stood e before.terminal after.terminal before.report told
@@ -218,7 +218,7 @@ IsRunOf-ran K laws source job save before after plan blocks d stood e a told why
     }
 
 -- if there is no program, a job is not run
-pub RunDue-program : (source : Source) (job : Job) (before after : Outside) (r : Refusal) → ProgramDue source job before.shelf after.shelf r → after.device ≡ before.device → RunDue source job before after r
+pub RunDue-program : (source : ProgramSource) (job : Job) (before after : Outside) (r : Refusal) → ProgramDue source job before.shelf after.shelf r → after.device ≡ before.device → RunDue source job before after r
 RunDue-program source job before after (DeviceRefusal e) due device = absurd due
 RunDue-program source job before after r due device = (due, device)
 
@@ -245,7 +245,7 @@ bytes_read job bytes read p numbers size means geometry same as_read as_long h =
     ∙ ap (read_of read numbers.base) (sym (as_long ∙ ap program_size geometry)) ∙ h
 
 -- and so it is what the bytes of a program file mean
-pub meaning_is : (source : Source) (job : Job) (bytes input : List ℕ) (means : Result Contents ElfError) → IsElf source → read_of bytes job.config.base (program_size (parameters_of job.config)) ≡ means
+pub meaning_is : (source : ProgramSource) (job : Job) (bytes input : List ℕ) (means : Result Contents ElfError) → IsElf source → read_of bytes job.config.base (program_size (parameters_of job.config)) ≡ means
     → meaning_of source job bytes input ≡ begun (parameters_of job.config) means
 meaning_is (file name) job bytes input means elf h = ap (begun (parameters_of job.config)) h
 meaning_is (made n) job bytes input means elf h = ap (begun (parameters_of job.config)) h
@@ -261,7 +261,7 @@ beginning_is s blocks begins start kept same =
     ∙ ap (λ bs. record { start = begins.start; kept = begins.kept; blocks = bs }) same
 
 -- what a run of a program file begins with
-pub Begins-entry : (source : Source) (job : Job) (stock : Stock) (p : Program) (b : BeginningValue) → IsProgramOf source job stock p
+pub Begins-entry : (source : ProgramSource) (job : Job) (stock : Stock) (p : Program) (b : BeginningValue) → IsProgramOf source job stock p
     → state_of b.start.state ≡ start_state p.geometry (contents_of p.image) → IsStorable (program_size p.geometry) (state_of b.start.state)
     → b.start.kept ≡ None → bytes_of b.start.input ≡ bytes_of p.input → b.blocks.items ≡ [] → Begins source job stock b
 Begins-entry source job stock p b program start storable kept reads blocks =
@@ -278,7 +278,7 @@ Begins-entry source job stock p b program start storable kept reads blocks =
       origin = IsOrigin-start (origin_for job begins program.program.input) (contents_of p.image)
           (subst IsInRange program.geometry program.in_range) first
           (subst (λ q. IsStorable (program_size q) begins.start) program.geometry (subst (IsStorable (program_size p.geometry)) same storable))
-          (record { bytes = program.program.had.input_bytes; size = input_size stock job.input program.program.input program.program.had.is_input })
+          (record { bytes = program.program.fetched.input_bytes; size = input_size stock job.input program.program.input program.program.fetched.is_input })
           fresh;
       fits = subst (FitsKept (parameters_of job.config) begins) (sym fresh) bare;
     }
@@ -288,19 +288,19 @@ within_is : (bytes input : List ℕ) (epoch : ℕ) (s : State) → s.cursor ≤ 
 within_is bytes input epoch s l = ap (λ t. if t then Ok (record { start = s; kept = Some (mark epoch s.count); blocks = blocks_of bytes }) else Err (Input s.cursor (length input))) (le-leb s.cursor (length input) l)
 
 -- what a run of an image begins with
-pub Begins-image : (name : List ℕ) (job : Job) (stock : Stock) (p : Parameters) (had : Had) (epoch : ℕ) (b : BeginningValue) → IsHadFor (image name) job stock p had
-    → IsRestored p (bytes_of had.bytes) (bytes_of had.input) epoch b → b.start.state.cursor ≤ length (bytes_of had.input) → Begins (image name) job stock b
-Begins-image name job stock p had epoch b h r within =
+pub Begins-image : (name : List ℕ) (job : Job) (stock : Stock) (p : Parameters) (fetched : FetchedBytes) (epoch : ℕ) (b : BeginningValue) → AreFetchedFor (image name) job stock p fetched
+    → IsRestored p (bytes_of fetched.bytes) (bytes_of fetched.input) epoch b → b.start.state.cursor ≤ length (bytes_of fetched.input) → Begins (image name) job stock b
+Begins-image name job stock p fetched epoch b h r within =
     let s : State = state_of b.start.state in
-    let bytes : List ℕ = bytes_of had.bytes in
-    let input : List ℕ = bytes_of had.input in
+    let bytes : List ℕ = bytes_of fetched.bytes in
+    let input : List ℕ = bytes_of fetched.input in
     let decodes : decode_bytes (parameters_of job.config) (2 ^ 62) bytes ≡ At epoch s = ap (λ q. decode_bytes q (2 ^ 62) bytes) (sym h.numbers) ∙ r.decodes in
     let begins : Beginning = record { start = s; kept = Some (mark epoch s.count); blocks = blocks_of bytes } in
     record {
       program = record {
         bytes = bytes;
         input = input;
-        had = h.both;
+        fetched = h.both;
         begins = begins;
         means = ap (restored bytes input) decodes ∙ within_is bytes input epoch s within;
       };
@@ -312,18 +312,18 @@ Begins-image name job stock p had epoch b h r within =
     }
 
 -- a program is what was read of the bytes of a program file
-pub IsProgramOf-read : (source : Source) (job : Job) (stock : Stock) (p : Parameters) (had : Had) (i : Image) → IsElf source → IsHadFor source job stock p had
-    → read_of (bytes_of had.bytes) job.config.base (program_size (parameters_of job.config)) ≡ Ok (contents_of i) → length (bytes_of i.memory) ≡ program_size p
-    → IsProgramOf source job stock (record { geometry = p; image = i; input = had.input })
-IsProgramOf-read source job stock p had i elf h read size = record {
+pub IsProgramOf-read : (source : ProgramSource) (job : Job) (stock : Stock) (p : Parameters) (fetched : FetchedBytes) (i : Image) → IsElf source → AreFetchedFor source job stock p fetched
+    → read_of (bytes_of fetched.bytes) job.config.base (program_size (parameters_of job.config)) ≡ Ok (contents_of i) → length (bytes_of i.memory) ≡ program_size p
+    → IsProgramOf source job stock (record { geometry = p; image = i; input = fetched.input })
+IsProgramOf-read source job stock p fetched i elf h read size = record {
   geometry = h.numbers;
   in_range = h.in_range;
   program = record {
-    bytes = bytes_of had.bytes;
-    input = bytes_of had.input;
-    had = h.both;
+    bytes = bytes_of fetched.bytes;
+    input = bytes_of fetched.input;
+    fetched = h.both;
     begins = from_entry (parameters_of job.config) (contents_of i);
-    means = meaning_is source job (bytes_of had.bytes) (bytes_of had.input) (Ok (contents_of i)) elf read;
+    means = meaning_is source job (bytes_of fetched.bytes) (bytes_of fetched.input) (Ok (contents_of i)) elf read;
   };
   begins = ap (λ q. from_entry q (contents_of i)) (sym h.numbers);
   input = refl;
@@ -336,11 +336,11 @@ abbrev pub plan_with : Config → Parameters → Start → Bool → Plan
 plan_with c p start digest = record { config = c; geometry = p; start = start; digest = digest }
 
 -- what a plan is that is made of a beginning
-pub record IsBegun (source : Source) (job : Job) (stock : Stock) (p : Plan) (blocks : List Block) : Type 0 where
+pub record IsBegun (source : ProgramSource) (job : Job) (stock : Stock) (p : Plan) (blocks : List Block) : Type 0 where
   pub is_plan : IsPlanOf source job stock p blocks
   pub can : CanRun p blocks
 
-pub IsBegun-begins : (source : Source) (job : Job) (stock : Stock) (b : BeginningValue) (numbers : Parameters) → fault_of job.config ≡ None → numbers ≡ parameters_of job.config → Begins source job stock b
+pub IsBegun-begins : (source : ProgramSource) (job : Job) (stock : Stock) (b : BeginningValue) (numbers : Parameters) → fault_of job.config ≡ None → numbers ≡ parameters_of job.config → Begins source job stock b
     → IsBegun source job stock (plan_with job.config numbers b.start job.digest) b.blocks.items
 IsBegun-begins source job stock b numbers none same h =
     let plan : Plan = plan_with job.config numbers b.start job.digest in
@@ -380,7 +380,7 @@ HasRoom-ran K laws plan blocks shape n d stood e terminal shown report read plan
     }
 
 -- a run from a shelf that is the one before is one from that
-pub RunAnswered-same : {M : Type 0} (K : KindOf M) (source : Source) (job : Job) (old middle new : Stock) (n m : Device) (t u r s : Stream) (a : Answer) → middle ≡ old
+pub RunAnswered-same : {M : Type 0} (K : KindOf M) (source : ProgramSource) (job : Job) (old middle new : Stock) (n m : Device) (t u r s : Stream) (a : Answer) → middle ≡ old
     → RunAnswered K source job (outside middle n t r) (outside new m u s) a → RunAnswered K source job (outside old n t r) (outside new m u s) a
 RunAnswered-same K source job old middle new n m t u r s a same h = subst (λ x. RunAnswered K source job (outside x n t r) (outside new m u s) a) same h
 

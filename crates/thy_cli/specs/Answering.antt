@@ -42,7 +42,7 @@ use Rattle.thy_cli.specs.declared.refusal.Refusal.TheVariants.{Words, Fetch, Fil
 use Rattle.thy_cli.specs.Levelling.{IsFoundAs, IsLeftAs, IsHandedBack, PutsThrough, images_of_save}
 use Rattle.thy_cli.specs.Machines.{Choice}
 use Rattle.thy_cli.specs.Saving.{IsPut, SavesUnder, saves}
-use Rattle.thy_cli.specs.Sources.{Source, file, made, image, Beginning, IsProgram, origin_for, ProgramDue}
+use Rattle.thy_cli.specs.Sources.{ProgramSource, file, made, image, Beginning, IsProgram, origin_for, ProgramDue}
 
 -- what a call finds outside, or leaves there
 pub record Outside : Type 0 where
@@ -67,7 +67,7 @@ WordsDue words (WordsMemory e) = Unit {0}
 WordsDue words e = settings_of words ≡ Err e
 
 -- why a job is not run: a program's device was not fitted, or there is no program, and the device is left alone
-abbrev pub RunDue : Source → Job → Outside → Outside → Refusal → Type 0
+abbrev pub RunDue : ProgramSource → Job → Outside → Outside → Refusal → Type 0
 RunDue source job before after (DeviceRefusal e) =
     IsProgram source job before.shelf × HasNotFailed before.shelf after.shelf × HasFailedToFit e before.device after.device
 RunDue source job before after r = ProgramDue source job before.shelf after.shelf r × (after.device ≡ before.device)
@@ -161,7 +161,7 @@ run_line limit save stop (Some (PutMemory e)) = closing_of closing.Memory
 run_line limit save stop why = stop_line limit stop
 
 -- the summary of a made program that exited
-abbrev pub summary_for : Source → Stop → List Event → List ℕ
+abbrev pub summary_for : ProgramSource → Stop → List Event → List ℕ
 summary_for (made n) (Ended (Exited value)) events = summary_of events
 summary_for source stop events = []
 
@@ -177,7 +177,7 @@ IsSafeFor K o events n = IsSafe K.decode o (marks_of o events) n
 -- A run with this origin, which was given this, was begun and stopped. Its cycles are those of a run, and keep what is
 -- promised of every run; the sinks took what its events say. It was saved if that was asked for, and its device is safe
 -- also then.
-pub record IsRunFrom {M : Type 0} (K : KindOf M) (o : Origin) (given : Given) (source : Source) (job : Job) (before after : Outside)
+pub record IsRunFrom {M : Type 0} (K : KindOf M) (o : Origin) (given : Given) (source : ProgramSource) (job : Job) (before after : Outside)
     (a : Answer) : Type 0 where
   pub ending : Ending
   -- the device when the run stopped, and the report with the lines of its events
@@ -196,14 +196,14 @@ pub record IsRunFrom {M : Type 0} (K : KindOf M) (o : Origin) (given : Given) (s
   pub safe : IsSafeFor K o a.events after.device
 
 -- a run of what a source means was begun, over a device that was fitted for it, and stopped
-pub record IsRunOf {M : Type 0} (K : KindOf M) (source : Source) (job : Job) (before after : Outside) (a : Answer) : Type 0 where
+pub record IsRunOf {M : Type 0} (K : KindOf M) (source : ProgramSource) (job : Job) (before after : Outside) (a : Answer) : Type 0 where
   pub program : IsProgram source job before.shelf
   pub run : IsRunFrom K (origin_for job program.begins program.input) (given_for K job program.begins before.device)
       source job before after a
 
 -- The same over the device that the run sees, which with a gap is not the one that was handed in. `IsHandedBack` says
 -- which images the latter has.
-pub record IsRunOver {M : Type 0} (K : KindOf M) (source : Source) (job : Job) (before after : Outside) (a : Answer) : Type 0 where
+pub record IsRunOver {M : Type 0} (K : KindOf M) (source : ProgramSource) (job : Job) (before after : Outside) (a : Answer) : Type 0 where
   pub found : Device
   pub left : Device
   pub is_found : IsFoundAs job.config.gap before.device found
@@ -271,7 +271,7 @@ pub record MakeAnswered (n : ℕ) (name : List ℕ) (before after : Outside) (a 
 -- ---- results
 
 -- the result of a job
-abbrev pub RunAnswered : {M : Type 0} → KindOf M → Source → Job → Outside → Outside → Answer → Type 0
+abbrev pub RunAnswered : {M : Type 0} → KindOf M → ProgramSource → Job → Outside → Outside → Answer → Type 0
 RunAnswered K source job before after a =
     ((r : Refusal) × RunDue source job before after r × IsRefused r before after a)
     ⊎ IsRunOver K source job before after a

@@ -10,18 +10,18 @@ use Rattle.thy_view.specs.Origin.{at}
 use Rattle.thy_words.specs.Settings.{Job, Order, run, resume, bench, plain, make, settings_of}
 use Rattle.thy_cli.specs.Answering.{Outside, stop_status, Answered}
 use Rattle.thy_cli.specs.Machines.{Choice}
-use Rattle.thy_cli.specs.Sources.{Source, file, made, image, IsProgram, origin_for}
+use Rattle.thy_cli.specs.Sources.{ProgramSource, file, made, image, IsProgram, origin_for}
 use Rattle.thy_cli.specs.declared.answer.Answer.{Answer}
 
 -- the command that asks for a run of a source
-abbrev pub run_of : Source → Job → Order
+abbrev pub run_of : ProgramSource → Job → Order
 run_of (file name) job = run name job
 run_of (made n) job = bench n job
 run_of (image name) job = resume name job
 
 -- The arguments give this order, on a shelf with known contents; what it asks for is there, or is made, each within
 -- the limit, and means a program.
-pub record IsAsked (order : Order) (source : Source) (job : Job) (words : List (List ℕ)) (stock : Stock) : Type 0 where
+pub record IsAsked (order : Order) (source : ProgramSource) (job : Job) (words : List (List ℕ)) (stock : Stock) : Type 0 where
   pub asked : settings_of words ≡ Ok order
   pub files : Files
   pub tells : stock.held ≡ Some files
@@ -40,7 +40,7 @@ pub record IsCalm (before after : Outside) : Type 0 where
   pub report : Stayed before.report.faults after.report.faults
 
 -- the state of the program k instructions after its beginning, without power cuts
-abbrev pub left_alone : {source : Source} {job : Job} {stock : Stock} → IsProgram source job stock → ℕ → State
+abbrev pub left_alone : {source : ProgramSource} {job : Job} {stock : Stock} → IsProgram source job stock → ℕ → State
 left_alone {job = job} p k = at (origin_for job p.begins p.input) (p.begins.start.count + k)
 
 -- the status is that of this state's end, or memory ran out
@@ -51,7 +51,7 @@ TellsEnd s a = (a.status ≡ stop_status (Ended s.status)) ⊎ (a.status ≡ 9)
 -- below the cycles that the machine promises for as many.
 abbrev pub RunCompletes : Choice → List (List ℕ) → Outside → Outside → Answer → Type 0
 RunCompletes c words before after a =
-    (source : Source) (job : Job) (i : IsAsked (run_of source job) source job words before.shelf) (k : ℕ)
+    (source : ProgramSource) (job : Job) (i : IsAsked (run_of source job) source job words before.shelf) (k : ℕ)
     → IsCalm before after
     → is_running (left_alone i.program k).status ≡ false
     → cycles_for (c job.config.scheme).kind (parameters_of job.config) job.config.cuts k ≤ job.config.limit

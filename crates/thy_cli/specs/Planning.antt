@@ -25,12 +25,12 @@ use Rattle.thy_cli.specs.declared.answer.Answer.{Answer}
 use Rattle.thy_cli.specs.declared.refusal.Refusal.{Refusal}
 use Rattle.thy_cli.specs.declared.refusal.Refusal.TheVariants.{Fetch}
 use Rattle.thy_cli.specs.declared.restoring.Beginning.{Beginning as BeginningValue}
-use Rattle.thy_cli.specs.declared.source.Had.{Had}
+use Rattle.thy_cli.specs.declared.source.FetchedBytes.{FetchedBytes}
 use Rattle.thy_cli.specs.declared.source.Program.{Program}
-use Rattle.thy_cli.specs.declared.source.Source.{Source as SourceValue}
-use Rattle.thy_cli.specs.declared.source.Source.TheVariants as value
+use Rattle.thy_cli.specs.declared.source.ProgramSource.{ProgramSource as SourceValue}
+use Rattle.thy_cli.specs.declared.source.ProgramSource.TheVariants as value
 use Rattle.thy_cli.specs.Answering.{Outside, told_of, with_device, shape_for, IsRunOf, RunAnswered}
-use Rattle.thy_cli.specs.Sources.{Source, file, made, image, Beginning, from_entry, FetchDue, IsHad, IsProgram, origin_for, ProgramDue}
+use Rattle.thy_cli.specs.Sources.{ProgramSource, file, made, image, Beginning, from_entry, FetchDue, AreFetched, IsProgram, origin_for, ProgramDue}
 
 -- the exit status of a refusal, and its line
 abbrev pub refused_status : Refusal → ℕ
@@ -45,29 +45,29 @@ err_of (Ok value) = None
 err_of (Err e) = Some e
 
 -- what the program keeps of a source
-abbrev pub named : SourceValue → Source
+abbrev pub named : SourceValue → ProgramSource
 named (value.File name) = file name.now
 named (value.Made n) = made n
 named (value.Image name) = image name.now
 
 -- what comes from it is a program file
-abbrev pub IsElf : Source → Type 0
+abbrev pub IsElf : ProgramSource → Type 0
 IsElf (image name) = ⊥
 IsElf source = Unit {0}
 
 -- a fetch of at most so many bytes under this name did not give them
-abbrev pub IsNotHad : ℕ → List ℕ → Stock → Stock → Refusal → Type 0
-IsNotHad most name old new (Fetch text e) = (text.now ≡ name) × FetchDue most old new text.now e
-IsNotHad most name old new r = ⊥
+abbrev pub IsFetchRefusal : ℕ → List ℕ → Stock → Stock → Refusal → Type 0
+IsFetchRefusal most name old new (Fetch text e) = (text.now ≡ name) × FetchDue most old new text.now e
+IsFetchRefusal most name old new r = ⊥
 
 -- bytes and input were read for a job, in the numbers of its configuration
-pub record IsHadFor (source : Source) (job : Job) (stock : Stock) (p : Parameters) (had : Had) : Type 0 where
+pub record AreFetchedFor (source : ProgramSource) (job : Job) (stock : Stock) (p : Parameters) (fetched : FetchedBytes) : Type 0 where
   pub numbers : p ≡ parameters_of job.config
   pub in_range : IsInRange p
-  pub both : IsHad source job stock (bytes_of had.bytes) (bytes_of had.input)
+  pub both : AreFetched source job stock (bytes_of fetched.bytes) (bytes_of fetched.input)
 
 -- a program is what the bytes of a program file mean, in the numbers of a job
-pub record IsProgramOf (source : Source) (job : Job) (stock : Stock) (p : Program) : Type 0 where
+pub record IsProgramOf (source : ProgramSource) (job : Job) (stock : Stock) (p : Program) : Type 0 where
   pub geometry : p.geometry ≡ parameters_of job.config
   pub in_range : IsInRange p.geometry
   pub program : IsProgram source job stock
@@ -76,14 +76,14 @@ pub record IsProgramOf (source : Source) (job : Job) (stock : Stock) (p : Progra
   pub size : length (bytes_of p.image.memory) ≡ program_size p.geometry
 
 -- what is read of a program file's bytes, or why that is none
-abbrev pub ReadsProgram : Parameters → Had → Result Program Refusal → Type 0
-ReadsProgram p had result =
-    (source : Source) (job : Job) (stock : Stock) → IsElf source → IsHadFor source job stock p had
+abbrev pub ReadsProgram : Parameters → FetchedBytes → Result Program Refusal → Type 0
+ReadsProgram p fetched result =
+    (source : ProgramSource) (job : Job) (stock : Stock) → IsElf source → AreFetchedFor source job stock p fetched
     → IfOk result (λ program. IsProgramOf source job stock program)
 
-abbrev pub RefusesProgram : {T : Type 0} → Parameters → Had → Result T Refusal → Type 0
-RefusesProgram p had result =
-    (source : Source) (job : Job) (stock : Stock) → IsElf source → IsHadFor source job stock p had
+abbrev pub RefusesProgram : {T : Type 0} → Parameters → FetchedBytes → Result T Refusal → Type 0
+RefusesProgram p fetched result =
+    (source : ProgramSource) (job : Job) (stock : Stock) → IsElf source → AreFetchedFor source job stock p fetched
     → IfErr result (λ r. ProgramDue source job stock stock r)
 
 -- what the program keeps of a beginning: a start, and the first blocks of the device
@@ -99,7 +99,7 @@ abbrev pub Fits : Parameters → Beginning → Type 0
 Fits p b = FitsKept p b b.kept
 
 -- a run begins with what the bytes of a source mean, and can begin so
-pub record Begins (source : Source) (job : Job) (stock : Stock) (b : BeginningValue) : Type 0 where
+pub record Begins (source : ProgramSource) (job : Job) (stock : Stock) (b : BeginningValue) : Type 0 where
   pub program : IsProgram source job stock
   pub begins : begun_with b.start b.blocks.items ≡ program.begins
   pub input : bytes_of b.start.input ≡ program.input
@@ -107,13 +107,13 @@ pub record Begins (source : Source) (job : Job) (stock : Stock) (b : BeginningVa
   pub fits : Fits (parameters_of job.config) program.begins
 
 -- how a run of a source begins, or why there is none
-abbrev pub BeginsAs : Source → Parameters → Had → Result BeginningValue Refusal → Type 0
-BeginsAs source p had result =
-    (job : Job) (stock : Stock) → IsHadFor source job stock p had → IfOk result (λ b. Begins source job stock b)
+abbrev pub BeginsAs : ProgramSource → Parameters → FetchedBytes → Result BeginningValue Refusal → Type 0
+BeginsAs source p fetched result =
+    (job : Job) (stock : Stock) → AreFetchedFor source job stock p fetched → IfOk result (λ b. Begins source job stock b)
 
-abbrev pub RefusesAs : Source → Parameters → Had → Result BeginningValue Refusal → Type 0
-RefusesAs source p had result =
-    (job : Job) (stock : Stock) → IsHadFor source job stock p had
+abbrev pub RefusesAs : ProgramSource → Parameters → FetchedBytes → Result BeginningValue Refusal → Type 0
+RefusesAs source p fetched result =
+    (job : Job) (stock : Stock) → AreFetchedFor source job stock p fetched
     → IfErr result (λ r. ProgramDue source job stock stock r)
 
 -- configuration, the input's name and the flag for digests are a job's
@@ -139,7 +139,7 @@ pub record HasRoom (n : Device) (events : List Event) (blocks : ℕ) : Type 0 wh
   pub whole : length n.image ≡ blocks
 
 -- a plan is that of a job: its run begins with what the bytes of a source mean
-pub record IsPlanOf (source : Source) (job : Job) (stock : Stock) (p : Plan) (blocks : List Block) : Type 0 where
+pub record IsPlanOf (source : ProgramSource) (job : Job) (stock : Stock) (p : Plan) (blocks : List Block) : Type 0 where
   pub config : p.config ≡ job.config
   pub digest : p.digest ≡ job.digest
   pub program : IsProgram source job stock
@@ -156,13 +156,13 @@ pub record HasStayed (old new : Device) : Type 0 where
   pub lent : new.lent ≡ old.lent
 
 -- what a run of a plan, over a device that was fitted, is to a job that it is the plan of, whatever device was fitted
-abbrev pub RunsFitted : {M : Type 0} → KindOf M → Source → Option (List ℕ) → Plan → Outside → Outside → Answer → Type 0
+abbrev pub RunsFitted : {M : Type 0} → KindOf M → ProgramSource → Option (List ℕ) → Plan → Outside → Outside → Answer → Type 0
 RunsFitted K source save p before after a =
     (job : Job) (blocks : List Block) (found : Device) → job.save ≡ save → IsPlanOf source job before.shelf p blocks
     → before.device ≡ fitted (shape_for K job.config) blocks found → IsRunOf K source job (with_device found before) after a
 
 -- what a run of a plan is to a job that it is the plan of
-abbrev pub RunsPlan : {M : Type 0} → KindOf M → Source → Option (List ℕ) → Plan → List Block → Outside → Outside
+abbrev pub RunsPlan : {M : Type 0} → KindOf M → ProgramSource → Option (List ℕ) → Plan → List Block → Outside → Outside
     → Answer → Type 0
 RunsPlan K source save p blocks before after a =
     (job : Job) → job.save ≡ save → IsPlanOf source job before.shelf p blocks → RunAnswered K source job before after a

@@ -63,13 +63,13 @@ IsInput stock (Some name) bytes = IsHeld most_bytes stock name bytes
 -- ---- sources
 
 -- a program file of this name, the one that is made from this number, or a saved image of this name
-pub data Source : Type 0 where
-  file : List ℕ → Source
-  made : ℕ → Source
-  image : List ℕ → Source
+pub data ProgramSource : Type 0 where
+  file : List ℕ → ProgramSource
+  made : ℕ → ProgramSource
+  image : List ℕ → ProgramSource
 
 -- the bytes of a source: those under its name, or those that are made
-abbrev pub AreBytesOf : Source → Stock → List ℕ → Type 0
+abbrev pub AreBytesOf : ProgramSource → Stock → List ℕ → Type 0
 AreBytesOf (file name) stock bytes = IsHeld most_bytes stock name bytes
 AreBytesOf (image name) stock bytes = IsHeld most_image_bytes stock name bytes
 AreBytesOf (made n) stock bytes = bytes ≡ made_file n
@@ -102,24 +102,24 @@ abbrev pub saved_ceiling : ℕ
 saved_ceiling = 2 ^ 62
 
 -- what the bytes of a source mean to a job with this input
-abbrev pub meaning_of : Source → Job → (bytes input : List ℕ) → Result Beginning Refusal
+abbrev pub meaning_of : ProgramSource → Job → (bytes input : List ℕ) → Result Beginning Refusal
 meaning_of (image name) job bytes input =
     restored bytes input (decode_bytes (parameters_of job.config) saved_ceiling bytes)
 meaning_of source job bytes input =
     begun (parameters_of job.config) (read_of bytes job.config.base (program_size (parameters_of job.config)))
 
 -- bytes of a source, and an input, were read
-pub record IsHad (source : Source) (job : Job) (stock : Stock) (bytes input : List ℕ) : Type 0 where
+pub record AreFetched (source : ProgramSource) (job : Job) (stock : Stock) (bytes input : List ℕ) : Type 0 where
   pub are_bytes : All IsByte bytes
-  pub had : AreBytesOf source stock bytes
+  pub fetched : AreBytesOf source stock bytes
   pub input_bytes : All IsByte input
   pub is_input : IsInput stock job.input input
 
 -- and a run can begin with them
-pub record IsProgram (source : Source) (job : Job) (stock : Stock) : Type 0 where
+pub record IsProgram (source : ProgramSource) (job : Job) (stock : Stock) : Type 0 where
   pub bytes : List ℕ
   pub input : List ℕ
-  pub had : IsHad source job stock bytes input
+  pub fetched : AreFetched source job stock bytes input
   pub begins : Beginning
   pub means : meaning_of source job bytes input ≡ Ok begins
 
@@ -131,25 +131,25 @@ origin_for job begins input =
 -- ---- why there is no program
 
 -- why the bytes of a source could not be read under a name: it is the source's
-abbrev pub SourceDue : Source → Stock → Stock → List ℕ → FetchError → Type 0
+abbrev pub SourceDue : ProgramSource → Stock → Stock → List ℕ → FetchError → Type 0
 SourceDue (file own) old new name e = (name ≡ own) × FetchDue most_bytes old new name e
 SourceDue (image own) old new name e = (name ≡ own) × FetchDue most_image_bytes old new name e
 SourceDue (made n) old new name e = ⊥
 
 -- and those of an input, once the source's were: it is the input's
-abbrev pub InputDue : Source → Job → Stock → Stock → List ℕ → FetchError → Type 0
+abbrev pub InputDue : ProgramSource → Job → Stock → Stock → List ℕ → FetchError → Type 0
 InputDue source job old new name e =
     (job.input ≡ Some name) × ((bytes : List ℕ) × AreBytesOf source old bytes) × FetchDue most_bytes old new name e
 
 -- bytes and input were read, and mean this refusal
-abbrev pub IsMeant : Source → Job → Stock → Refusal → Type 0
+abbrev pub IsMeant : ProgramSource → Job → Stock → Refusal → Type 0
 IsMeant source job stock r =
     (bytes : List ℕ) × AreBytesOf source stock bytes × (input : List ℕ) × IsInput stock job.input input
     × (meaning_of source job bytes input ≡ Err r)
 
 -- Why a run has no program: bytes or input could not be read, or both were and mean none. Out of memory needs no
 -- reason, but the shelf has not failed.
-abbrev pub ProgramDue : Source → Job → Stock → Stock → Refusal → Type 0
+abbrev pub ProgramDue : ProgramSource → Job → Stock → Stock → Refusal → Type 0
 ProgramDue source job old new (Fetch name e) =
     SourceDue source old new name.now e ⊎ InputDue source job old new name.now e
 ProgramDue source job old new (File (ElfMemory e)) = HasNotFailed old new

@@ -1,12 +1,12 @@
 //! What a run begins with, for each source of its program.
 ghost use Rattle.std.specs.Prelude.{List, ℕ};
 ghost use Rattle.thy_base.specs.Geometry.{IsInRange};
-ghost use Rattle.thy_cli.specs.Sources.{Source as SourceValue, image};
+ghost use Rattle.thy_cli.specs.Sources.{ProgramSource as SourceValue, image};
 ghost use Rattle.thy_cli.specs.Planning.{BeginsAs, IsElf, RefusesAs, named};
 
 use crate::refusal::Refusal;
 use crate::restoring::{Beginning, restore};
-use crate::source::{Had, Source, program_of};
+use crate::source::{FetchedBytes, ProgramSource, program_of};
 use std::alloc::Global;
 use thy_base::Geometry;
 use thy_image::check;
@@ -17,12 +17,16 @@ use thy_record::{BadImage, Found, Start};
 const SAVED_CEILING: u64 = 1 << 62;
 
 /// From a program's entry, over a device of zeros.
-fn from_entry<'a>(alloc: Global, geometry: Geometry, had: Had) -> Result<Beginning, Refusal<'a>>
+fn from_entry<'a>(
+    alloc: Global,
+    geometry: Geometry,
+    fetched: FetchedBytes,
+) -> Result<Beginning, Refusal<'a>>
     requires { IsInRange geometry }
-    ensures refusal { (source : SourceValue) → IsElf source → RefusesAs source geometry had result }
-    ensures begins { (source : SourceValue) → IsElf source → BeginsAs source geometry had result }
+    ensures refusal { (source : SourceValue) → IsElf source → RefusesAs source geometry fetched result }
+    ensures begins { (source : SourceValue) → IsElf source → BeginsAs source geometry fetched result }
 {
-    let program = match program_of(alloc, geometry, had) {
+    let program = match program_of(alloc, geometry, fetched) {
         Ok(program) => program,
         Err(refusal) => return Err(refusal),
     };
@@ -38,11 +42,15 @@ fn from_entry<'a>(alloc: Global, geometry: Geometry, had: Had) -> Result<Beginni
 }
 
 /// From the checkpoint of a saved image, over that image.
-fn from_image<'a>(alloc: Global, geometry: &Geometry, had: Had) -> Result<Beginning, Refusal<'a>>
-    ensures refusal { (name : List ℕ) → RefusesAs (image name) geometry.now had result }
-    ensures begins { (name : List ℕ) → BeginsAs (image name) geometry.now had result }
+fn from_image<'a>(
+    alloc: Global,
+    geometry: &Geometry,
+    fetched: FetchedBytes,
+) -> Result<Beginning, Refusal<'a>>
+    ensures refusal { (name : List ℕ) → RefusesAs (image name) geometry.now fetched result }
+    ensures begins { (name : List ℕ) → BeginsAs (image name) geometry.now fetched result }
 {
-    let Had { bytes, input } = had;
+    let FetchedBytes { bytes, input } = fetched;
     let epoch = match check(bytes.as_slice(), geometry, SAVED_CEILING) {
         Ok(Found::At(epoch)) => epoch,
         Ok(Found::Nothing) => return Err(Refusal::Image(BadImage::Empty)),
@@ -63,16 +71,16 @@ fn from_image<'a>(alloc: Global, geometry: &Geometry, had: Had) -> Result<Beginn
 /// What a run begins with once its bytes and its input were read.
 pub fn begin<'a>(
     alloc: Global,
-    source: Source<'a>,
+    source: ProgramSource<'a>,
     geometry: Geometry,
-    had: Had,
+    fetched: FetchedBytes,
 ) -> Result<Beginning, Refusal<'a>>
     requires { IsInRange geometry }
-    ensures refusal { RefusesAs (named source.entry) geometry had result }
-    ensures begins { BeginsAs (named source.entry) geometry had result }
+    ensures refusal { RefusesAs (named source.entry) geometry fetched result }
+    ensures begins { BeginsAs (named source.entry) geometry fetched result }
 {
     match source {
-        Source::Image(_) => from_image(alloc, &geometry, had),
-        Source::File(_) | Source::Made(_) => from_entry(alloc, geometry, had),
+        ProgramSource::Image(_) => from_image(alloc, &geometry, fetched),
+        ProgramSource::File(_) | ProgramSource::Made(_) => from_entry(alloc, geometry, fetched),
     }
 }

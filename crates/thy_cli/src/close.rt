@@ -6,7 +6,7 @@ ghost use Rattle.thy_cli.specs.Planning.{named};
 ghost use Rattle.thy_run.specs.Sending.{Sent};
 
 use crate::answer::{Answer, run_status};
-use crate::source::Source;
+use crate::source::ProgramSource;
 use thy_base::{PutError, Sink};
 use thy_isa::Status;
 use thy_run::{Ending, Stop};
@@ -20,12 +20,12 @@ pub fn close<R: Sink>(closing: Closing, report: &mut R) -> bool
 }
 
 /// Writes the summary of a made program that exited, and returns whether the report failed.
-fn sum_up<R: Sink>(source: Source, ending: &Ending, report: &mut R) -> bool
+fn sum_up<R: Sink>(source: ProgramSource, ending: &Ending, report: &mut R) -> bool
     ensures { Sent result (R.stream report.old) (R.stream report.new)
         (summary_for (named source.entry) ending.now.stop ending.now.events) }
 {
     match (source, ending.stop) {
-        (Source::Made(_), Stop::Ended(Status::Exited(_))) => {
+        (ProgramSource::Made(_), Stop::Ended(Status::Exited(_))) => {
             write_summary(&ending.events, report).is_err()
         }
         _ => false,
@@ -77,7 +77,7 @@ fn close_line<R: Sink>(
 
 /// Writes the last lines of a run. If the report fails in them, the result stays.
 fn close_run<R: Sink>(
-    source: Source,
+    source: ProgramSource,
     save: Option<&str>,
     ending: &Ending,
     why: Option<PutError>,
@@ -95,7 +95,7 @@ fn close_run<R: Sink>(
 
 /// The result of a run that has stopped. A report that has not failed gets the last lines.
 pub fn answer<R: Sink>(
-    source: Source,
+    source: ProgramSource,
     save: Option<&str>,
     ending: Ending,
     why: Option<PutError>,

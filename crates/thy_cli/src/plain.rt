@@ -15,7 +15,7 @@ ghost use Rattle.thy_run.specs.Sending.{Sent};
 use crate::answer::Answer;
 use crate::close::answer;
 use crate::refusal::{Refusal, refuse};
-use crate::source::{Program, Source, fetch_both, program_of};
+use crate::source::{Program, ProgramSource, fetch_both, program_of};
 use std::alloc::Global;
 use thy_base::{Config, Geometry, Shelf, Sink};
 use thy_isa::{MachState, Status};
@@ -66,8 +66,8 @@ fn plain_program<'a, H: Shelf>(
         → IfOk result (λ p. IsProgramOf (file name.now) job (H.stock shelf.old) p) }
     ensures size { IfOk result (λ p. length (bytes_of p.image.memory) ≡ program_size p.geometry) }
 {
-    match fetch_both(alloc, Source::File(name), input, shelf) {
-        Ok(had) => program_of(alloc, geometry, had),
+    match fetch_both(alloc, ProgramSource::File(name), input, shelf) {
+        Ok(fetched) => program_of(alloc, geometry, fetched),
         Err(refusal) => Err(refusal),
     }
 }
@@ -118,7 +118,7 @@ fn run_plain<'a, H: Shelf, T: Sink, R: Sink>(
                 terminal_failed,
                 report_failed,
             };
-            answer(Source::File(name), None, ending, None, limit, report)
+            answer(ProgramSource::File(name), None, ending, None, limit, report)
         }
         Err(error) => refuse(alloc, Refusal::Memory(error), report),
     }

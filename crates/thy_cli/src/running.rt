@@ -20,7 +20,7 @@ use crate::close::answer;
 use crate::refusal::{Refusal, refuse};
 use crate::restoring::Beginning;
 use crate::saving::{cuts_in, is_saved, save, save_pick};
-use crate::source::{Source, fetch_both};
+use crate::source::{ProgramSource, fetch_both};
 use std::alloc::Global;
 use thy_base::{Block, Geometry, Nvm, PutError, SchemeName, Shape, Shelf, Sink};
 use thy_gap::Gap;
@@ -31,7 +31,7 @@ use thy_words::{Job, WordsError};
 /// What a job's run begins with; or why there is no run.
 fn prepare<'a, H: Shelf>(
     alloc: Global,
-    source: Source<'a>,
+    source: ProgramSource<'a>,
     input: Option<&'a str>,
     geometry: Geometry,
     shelf: &mut H,
@@ -45,7 +45,7 @@ fn prepare<'a, H: Shelf>(
         → IfOk result (λ b. Begins (named source.entry) job (H.stock shelf.old) b) }
 {
     match fetch_both(alloc, source, input, shelf) {
-        Ok(had) => begin(alloc, source, geometry, had),
+        Ok(fetched) => begin(alloc, source, geometry, fetched),
         Err(refusal) => Err(refusal),
     }
 }
@@ -98,7 +98,7 @@ fn shape_of<M: Computer>(plan: &Plan) -> Shape
 /// Runs a plan over a device that was fitted for it, and saves the run.
 fn run_fitted<M: Computer, H: Shelf, T: Sink, R: Sink, N: Nvm>(
     alloc: Global,
-    source: Source,
+    source: ProgramSource,
     save: Option<&str>,
     plan: &Plan,
     shelf: &mut H,
@@ -125,7 +125,7 @@ fn run_fitted<M: Computer, H: Shelf, T: Sink, R: Sink, N: Nvm>(
 /// Runs a plan without levelling over a device that is made for it, with these first blocks, and saves the run.
 fn run_direct<M: Computer, H: Shelf, T: Sink, R: Sink, N: Nvm>(
     alloc: Global,
-    source: Source,
+    source: ProgramSource,
     save: Option<&str>,
     plan: &Plan,
     blocks: Vec<Block>,
@@ -156,7 +156,7 @@ fn run_direct<M: Computer, H: Shelf, T: Sink, R: Sink, N: Nvm>(
 /// Saves the run.
 fn run_levelled<M: Computer, H: Shelf, T: Sink, R: Sink, N: Nvm>(
     alloc: Global,
-    source: Source,
+    source: ProgramSource,
     save: Option<&str>,
     plan: &Plan,
     blocks: Vec<Block>,
@@ -195,7 +195,7 @@ fn run_levelled<M: Computer, H: Shelf, T: Sink, R: Sink, N: Nvm>(
 /// Runs a plan over a device that is made for it, with these first blocks, and saves the run.
 fn run_plan<M: Computer, H: Shelf, T: Sink, R: Sink, N: Nvm>(
     alloc: Global,
-    source: Source,
+    source: ProgramSource,
     save: Option<&str>,
     plan: &Plan,
     blocks: Vec<Block>,
@@ -226,7 +226,7 @@ fn run_plan<M: Computer, H: Shelf, T: Sink, R: Sink, N: Nvm>(
 /// Runs a job on a machine, from the source of its program.
 fn run_source<M: Computer, H: Shelf, T: Sink, R: Sink, N: Nvm>(
     alloc: Global,
-    source: Source,
+    source: ProgramSource,
     job: Job,
     shelf: &mut H,
     terminal: &mut T,
@@ -287,7 +287,7 @@ fn run_source<M: Computer, H: Shelf, T: Sink, R: Sink, N: Nvm>(
 /// to read the files of its own scheme alone.
 pub fn run_by_scheme<A: Computer, B: Computer, H: Shelf, T: Sink, R: Sink, N: Nvm>(
     alloc: Global,
-    source: Source,
+    source: ProgramSource,
     job: Job,
     shelf: &mut H,
     terminal: &mut T,

@@ -4,8 +4,8 @@ ghost use Rattle.thy_base.specs.Bytes.{bytes_of};
 ghost use Rattle.thy_base.specs.Geometry.{IsInRange, program_size};
 ghost use Rattle.thy_base.specs.Outside.{HasNotFailed};
 ghost use Rattle.thy_words.specs.Settings.{Job};
-ghost use Rattle.thy_cli.specs.Sources.{AreBytesOf, IsHad, IsHeld, IsInput, ProgramDue, Source as SourceValue};
-ghost use Rattle.thy_cli.specs.Planning.{IsNotHad, ReadsProgram, RefusesProgram, named};
+ghost use Rattle.thy_cli.specs.Sources.{AreBytesOf, AreFetched, IsHeld, IsInput, ProgramDue, ProgramSource as SourceValue};
+ghost use Rattle.thy_cli.specs.Planning.{IsFetchRefusal, ReadsProgram, RefusesProgram, named};
 
 use crate::refusal::Refusal;
 use std::alloc::Global;
@@ -21,7 +21,7 @@ const MOST_IMAGE_BYTES: u64 = 536_870_912;
 
 /// The source of a run's program.
 #[derive(Clone, Copy)]
-pub enum Source<'a> {
+pub enum ProgramSource<'a> {
     /// A program file of this name on the shelf.
     File(&'a str),
     /// The program file that is made from this number.
@@ -32,7 +32,7 @@ pub enum Source<'a> {
 
 /// The bytes of a source, and what its program reads.
 #[derive(Drop)]
-pub struct Had {
+pub struct FetchedBytes {
     pub bytes: Bytes,
     pub input: Bytes,
 }
@@ -52,7 +52,7 @@ fn fetch<'a, H: Shelf>(
     most: u64,
     shelf: &mut H,
 ) -> Result<Bytes, Refusal<'a>>
-    ensures refusal { IfErr result (IsNotHad most name.now (H.stock shelf.old) (H.stock shelf.new)) }
+    ensures refusal { IfErr result (IsFetchRefusal most name.now (H.stock shelf.old) (H.stock shelf.new)) }
     ensures held { (H.stock shelf.new).held ≡ (H.stock shelf.old).held }
     ensures calm { OnOk result (HasNotFailed (H.stock shelf.old) (H.stock shelf.new)) }
     ensures bytes { IfOk result (λ b. IsHeld most (H.stock shelf.old) name.now (bytes_of b)) }
@@ -66,7 +66,7 @@ fn fetch<'a, H: Shelf>(
 /// The bytes of a source.
 fn source_bytes<'a, H: Shelf>(
     alloc: Global,
-    source: Source<'a>,
+    source: ProgramSource<'a>,
     shelf: &mut H,
 ) -> Result<Bytes, Refusal<'a>>
     ensures refusal { (job : Job) →
@@ -77,9 +77,9 @@ fn source_bytes<'a, H: Shelf>(
         AreBytesOf (named source.entry) (H.stock shelf.old) (bytes_of b)) }
 {
     match source {
-        Source::File(name) => fetch(alloc, name, MOST_BYTES, shelf),
-        Source::Image(name) => fetch(alloc, name, MOST_IMAGE_BYTES, shelf),
-        Source::Made(number) => match thy_make::file(alloc, number) {
+        ProgramSource::File(name) => fetch(alloc, name, MOST_BYTES, shelf),
+        ProgramSource::Image(name) => fetch(alloc, name, MOST_IMAGE_BYTES, shelf),
+        ProgramSource::Made(number) => match thy_make::file(alloc, number) {
             Ok(bytes) => Ok(bytes),
             Err(error) => Err(Refusal::Memory(error)),
         },
@@ -109,16 +109,16 @@ fn input_bytes<'a, H: Shelf>(
 /// Fetches the bytes of a source, and then what its program reads.
 pub fn fetch_both<'a, H: Shelf>(
     alloc: Global,
-    source: Source<'a>,
+    source: ProgramSource<'a>,
     input: Option<&'a str>,
     shelf: &mut H,
-) -> Result<Had, Refusal<'a>>
+) -> Result<FetchedBytes, Refusal<'a>>
     ensures refusal { (job : Job) → job.input ≡ option_map (λ n. n.now) input.entry
         → IfErr result (ProgramDue (named source.entry) job (H.stock shelf.old) (H.stock shelf.new)) }
     ensures held { (H.stock shelf.new).held ≡ (H.stock shelf.old).held }
     ensures calm { OnOk result (HasNotFailed (H.stock shelf.old) (H.stock shelf.new)) }
-    ensures had { (job : Job) → job.input ≡ option_map (λ n. n.now) input.entry
-        → IfOk result (λ h. IsHad (named source.entry) job (H.stock shelf.old) (bytes_of h.bytes) (bytes_of h.input)) }
+    ensures fetched { (job : Job) → job.input ≡ option_map (λ n. n.now) input.entry
+        → IfOk result (λ h. AreFetched (named source.entry) job (H.stock shelf.old) (bytes_of h.bytes) (bytes_of h.input)) }
 {
     let bytes = match source_bytes(alloc, source, shelf) {
         Ok(bytes) => bytes,
@@ -130,17 +130,21 @@ pub fn fetch_both<'a, H: Shelf>(
     };
     are_bytes(bytes.as_slice());
     are_bytes(input.as_slice());
-    Ok(Had { bytes, input })
+    Ok(FetchedBytes { bytes, input })
 }
 
 /// Reads a program file, for a machine of these numbers.
-pub fn program_of<'a>(alloc: Global, geometry: Geometry, had: Had) -> Result<Program, Refusal<'a>>
+pub fn program_of<'a>(
+    alloc: Global,
+    geometry: Geometry,
+    fetched: FetchedBytes,
+) -> Result<Program, Refusal<'a>>
     requires { IsInRange geometry }
-    ensures refusal { RefusesProgram geometry had result }
-    ensures program { ReadsProgram geometry had result }
+    ensures refusal { RefusesProgram geometry fetched result }
+    ensures program { ReadsProgram geometry fetched result }
     ensures size { IfOk result (λ p. length (bytes_of p.image.memory) ≡ program_size p.geometry) }
 {
-    let Had { bytes, input } = had;
+    let FetchedBytes { bytes, input } = fetched;
     let base = geometry.numbers().base;
     match read(alloc, bytes.as_slice(), base, geometry.program_size()) {
         Ok(image) => Ok(Program {

@@ -10,7 +10,7 @@ use crate::making::make;
 use crate::plain::plain_file;
 use crate::refusal::{Refusal, refuse};
 use crate::running::run_by_scheme;
-use crate::source::Source;
+use crate::source::ProgramSource;
 use std::alloc::Global;
 use thy_base::{Nvm, Shelf, Sink};
 use thy_core::Machine;
@@ -56,19 +56,19 @@ pub fn thynvm<H: Shelf, T: Sink, R: Sink, N: Nvm>(
 {
     match settings(alloc, words) {
         Ok(Command::Run { file, job }) => {
-            let source = Source::File(file.as_str());
+            let source = ProgramSource::File(file.as_str());
             run_by_scheme::<Machine<DualScheme>, Machine<Journal>, H, T, R, N>(
                 alloc, source, job, shelf, terminal, report, nvm,
             )
         }
         Ok(Command::Resume { image, job }) => {
-            let source = Source::Image(image.as_str());
+            let source = ProgramSource::Image(image.as_str());
             run_by_scheme::<Machine<DualScheme>, Machine<Journal>, H, T, R, N>(
                 alloc, source, job, shelf, terminal, report, nvm,
             )
         }
         Ok(Command::Bench { number, job }) => {
-            let source = Source::Made(number);
+            let source = ProgramSource::Made(number);
             run_by_scheme::<Machine<DualScheme>, Machine<Journal>, H, T, R, N>(
                 alloc, source, job, shelf, terminal, report, nvm,
             )

@@ -16,8 +16,8 @@ use Rattle.thy_control.specs.State.{State, cell_of, reads}
 use Rattle.thy_control.specs.Copies.{next_copy, block_listed, devices_copied}
 use Rattle.thy_control.specs.Pages.{next_page, block_to_write, devices_issued}
 use Rattle.thy_control.proofs.GuardLemmas.{behind_slots, placed-in_nvm}
-use Rattle.thy_commit.specs.declared.next.Next.{Next}
-use Rattle.thy_commit.specs.declared.next.Next.TheVariants.{Nothing, Copies, Pages, Slot, Settle, Commit, Confirm}
+use Rattle.thy_commit.specs.declared.stage.CheckpointStage.{CheckpointStage}
+use Rattle.thy_commit.specs.declared.stage.CheckpointStage.TheVariants.{Nothing, Copies, Pages, Slot, Settle, Commit, Confirm}
 use Rattle.thy_commit.specs.Items.{Item, SlotItem, item, copy_or, page_or_slot, page_item, answer}
 use Rattle.thy_commit.specs.Progress.{Progress, slot_number, slot_block, device_after, FailsItem}
 use Rattle.thy_commit.specs.Actions.{did_by, ItemsAct, FailedItemsAct}
@@ -83,7 +83,7 @@ module _ (overlapped : ℕ) (e : Progress) (s : State) (m : Device) where
         left = written-nvm (in_dram y) (number_of s.p y) v (devices_of m s.dram) (target-in_nvm s b);
       }
 
-  acts-next : (q : Next) → Acting (item q s)
+  acts-next : (q : CheckpointStage) → Acting (item q s)
   acts-next Nothing = record { action = Rest; asked = tt; left = refl }
   acts-next Copies = acts-copy (next_copy s)
   acts-next Pages = acts-page (next_page s)
@@ -129,7 +129,7 @@ module _ (overlapped : ℕ) (e : Progress) (s : State) (m n : Device) where
         | inr w ↦ record { action = WriteAt (number_of s.p (target (cell_of s b))) (reads s m from); asked = target-not_one s b; failed = w.failed }
       ]
 
-  fails-next : (q : Next) → Failing (item q s)
+  fails-next : (q : CheckpointStage) → Failing (item q s)
   fails-next Nothing failed = absurd failed
   fails-next Copies failed = fails-copy (next_copy s) failed
   fails-next Pages failed = fails-page (next_page s) failed

@@ -25,8 +25,8 @@ use Rattle.thy_control.specs.Pages.{next_page, issues_left, writes_left, after_n
 use Rattle.thy_control.proofs.CopyLemmas.{left_after as copies-after, none_left, listed-pending}
 use Rattle.thy_control.proofs.IssueLemmas.{left_after as writes-after, listed-busy}
 use Rattle.thy_control.proofs.FindLemmas.{found_entry, entry_for-some}
-use Rattle.thy_commit.specs.declared.next.Next.{Next}
-use Rattle.thy_commit.specs.declared.next.Next.TheVariants.{Nothing, Copies, Pages, Slot, Settle, Commit, Confirm}
+use Rattle.thy_commit.specs.declared.stage.CheckpointStage.{CheckpointStage}
+use Rattle.thy_commit.specs.declared.stage.CheckpointStage.TheVariants.{Nothing, Copies, Pages, Slot, Settle, Commit, Confirm}
 use Rattle.thy_commit.specs.Items.{Item, SlotItem, item, is_under_way, copy_or, page_or_slot, page_item, next_after}
 use Rattle.thy_commit.specs.Progress.{Progress, state_after}
 use Rattle.thy_commit.specs.Cycles.{left_after, ItemsCount, most_cycles, StaysCount, CyclesAreFew}
@@ -75,7 +75,7 @@ module _ (e : Progress) (s : State) (m : Device) (t : AreSoundTables s) where
       let less : copies_left (after_next_copy (Some i) s m) + 1 ≡ copies_left s = copies_less s m t (Some i) h in
       omega (arith, less, writes-copied (block_listed i s) s m)
 
-  counts-next : (q : Next) → ((k : ℕ) → q ≡ Slot k → k < slot_blocks e.p) → is_under_way q ≡ true → left (item q s) + 1 ≡ left_after q e.p s
+  counts-next : (q : CheckpointStage) → ((k : ℕ) → q ≡ Slot k → k < slot_blocks e.p) → is_under_way q ≡ true → left (item q s) + 1 ≡ left_after q e.p s
   counts-next Nothing inside way = cc
   counts-next Copies inside way = counts-copy (next_copy s) refl
   counts-next Pages inside way = counts-page (next_page s) refl
@@ -188,7 +188,7 @@ module _ (s : State) (m : Device) (t : State) (n : Device) (old : AreSoundTables
   writes-most = sum-most page_key issues_left refl s.ptt t.ptt new.ptt_once s.p.pages
       (pages-below s s.p refl old) (pages-below t s.p stays.same_p new) page-was
 
-  left-most : (q : Next) (p : Parameters) → left_after q p t ≤ left_after q p s
+  left-most : (q : CheckpointStage) (p : Parameters) → left_after q p t ≤ left_after q p s
   left-most Nothing p = omega arith
   left-most Copies p = omega (arith, copies-most, writes-most)
   left-most Pages p = omega (arith, writes-most)
@@ -219,7 +219,7 @@ writes-few s t =
     by_entry (Some e) = by_busy e.busy e.issued
 
 module _ (p : Parameters) (s : State) (t : AreSoundTables s) (same : s.p ≡ p) where
-  few-next : (q : Next) → left_after q p s ≤ most_cycles p
+  few-next : (q : CheckpointStage) → left_after q p s ≤ most_cycles p
   few-next Nothing = omega arith
   few-next Copies = omega (arith, copies-few s t, writes-few s t, ap (λ (x : Parameters). x.btt) same, ap (λ (x : Parameters). x.ptt) same)
   few-next Pages = omega (arith, writes-few s t, ap (λ (x : Parameters). x.ptt) same)

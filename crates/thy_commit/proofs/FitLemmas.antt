@@ -23,8 +23,8 @@ use Rattle.thy_control.specs.Seal.{sealed_state}
 use Rattle.thy_control.specs.Stays.{Stays}
 use Rattle.thy_control.proofs.FindLemmas.{entry_for-some}
 use Rattle.thy_commit.specs.declared.engine.Done.{Done}
-use Rattle.thy_commit.specs.declared.next.Next.{Next}
-use Rattle.thy_commit.specs.declared.next.Next.TheVariants.{Nothing, Copies, Pages, Slot, Settle, Commit, Confirm}
+use Rattle.thy_commit.specs.declared.stage.CheckpointStage.{CheckpointStage}
+use Rattle.thy_commit.specs.declared.stage.CheckpointStage.TheVariants.{Nothing, Copies, Pages, Slot, Settle, Commit, Confirm}
 use Rattle.thy_commit.specs.Items.{Item, NoItem, CopyItem, PageItem, SlotItem, SettleItem, CommitItem, ConfirmItem, item, is_under_way, copy_or, page_or_slot, page_item, next_after}
 use Rattle.thy_commit.specs.Progress.{Progress, IsSoundProgress, IsDone, IsPast, Fits, begun, state_after, IsTaken, item_of, state_next}
 use Rattle.thy_control.proofs.LeftLemmas.{not_pending, not_to_write, none-entry_for}
@@ -40,7 +40,7 @@ written-all s none b = not_to_write (cell_of s b).page.busy (cell_of s b).page.i
 
 -- ---- idle
 
-past-idle : (q : Next) (s : State) → is_under_way q ≡ false → IsPast q s
+past-idle : (q : CheckpointStage) (s : State) → is_under_way q ≡ false → IsPast q s
 past-idle Nothing s h = tt
 past-idle Copies s h = cc
 past-idle Pages s h = cc
@@ -74,7 +74,7 @@ module _ (e : Progress) (s : State) (m : Device) (same : s.p ≡ e.p) where
   fits-copy None h way = fits-page (next_page s) refl way h
   fits-copy (Some i) h way = record { same_p = same; way = way; past = tt }
 
-  fits-next : (q : Next) → IsPast q s → s.under_way ≡ is_under_way q → Fitting (item q s)
+  fits-next : (q : CheckpointStage) → IsPast q s → s.under_way ≡ is_under_way q → Fitting (item q s)
   unfolding committed_state
   fits-next Nothing past way = record { same_p = same; way = way; past = tt }
   fits-next Copies past way = fits-copy (next_copy s) refl way
@@ -114,7 +114,7 @@ items_sound e s sound = sound_after e (item_of e s) sound
 pub fits_on : (e f : Progress) (s t : State) (m n : Device) (d : Done) → Fits e s → IsTaken (item_of e s) e s m d t n → f ≡ record e { next = d.next } → Fits f t
 fits_on e f s t m n d fits taken is =
     subst (λ (x : State). Fits f x) (sym taken.controller)
-    (subst (λ (x : Progress). Fits x (state_next e s m)) (sym (is ∙ ap (λ (q : Next). record e { next = q }) taken.next)) (items_fit e s m fits))
+    (subst (λ (x : Progress). Fits x (state_next e s m)) (sym (is ∙ ap (λ (q : CheckpointStage). record e { next = q }) taken.next)) (items_fit e s m fits))
 
 -- and of one that begins, over the controller that was sealed
 pub fits_begun : (e f : Progress) → f.p ≡ e.p → f.next ≡ Copies → (s : State) → Fits e s → Fits f (sealed_state s)
@@ -122,7 +122,7 @@ unfolding sealed_state
 fits_begun e f same copies s fits = record {
   same_p = fits.same_p ∙ sym same;
   way = ap is_under_way (sym copies);
-  past = subst (λ (q : Next). IsPast q (sealed_state s)) (sym copies) tt;
+  past = subst (λ (q : CheckpointStage). IsPast q (sealed_state s)) (sym copies) tt;
 }
 
 pub seal_fits : SealFits
@@ -192,7 +192,7 @@ module _ (s : State) (m : Device) (t : State) (n : Device) (tables : AreSoundTab
   done-stays : IsDone s → IsDone t
   done-stays done = record { copies = copies-stay done.copies; pages = pages-stay done.pages }
 
-  past-stays : (q : Next) → IsPast q s → IsPast q t
+  past-stays : (q : CheckpointStage) → IsPast q s → IsPast q t
   past-stays Nothing past = tt
   past-stays Copies past = tt
   past-stays Pages past = copies-stay past

@@ -23,8 +23,8 @@ use Rattle.thy_control.proofs.FindLemmas.{found_entry, entry_for-some}
 use Rattle.thy_control.proofs.FreesLemmas.{half_free}
 use Rattle.thy_control.proofs.IdleLemmas.{HasNoWork-committed}
 use Rattle.thy_control.proofs.StayLemmas.{map-set_same}
-use Rattle.thy_commit.specs.declared.next.Next.{Next}
-use Rattle.thy_commit.specs.declared.next.Next.TheVariants.{Nothing, Copies, Pages, Slot, Settle, Commit, Confirm}
+use Rattle.thy_commit.specs.declared.stage.CheckpointStage.{CheckpointStage}
+use Rattle.thy_commit.specs.declared.stage.CheckpointStage.TheVariants.{Nothing, Copies, Pages, Slot, Settle, Commit, Confirm}
 use Rattle.thy_commit.specs.Items.{Item, item, copy_or, page_or_slot, page_item}
 use Rattle.thy_commit.specs.Progress.{IsDone, IsPast, state_after, state_next}
 use Rattle.thy_commit.specs.Frees.{IsButCopied, ItemsCopy, ItemsRest, CommitFrees}
@@ -52,7 +52,7 @@ module _ (s : State) (m : Device) where
   copy-copy tables None h = copy-page (next_page s)
   copy-copy tables (Some i) h = but-copied (block_listed i s) s m (IsNext-entry s tables i h).pending
 
-  copy-next : AreSoundTables s → (q : Next) → q ≢ Confirm → Copying (item q s)
+  copy-next : AreSoundTables s → (q : CheckpointStage) → q ≢ Confirm → Copying (item q s)
   copy-next tables Nothing other = refl
   copy-next tables Copies other = copy-copy tables (next_copy s) refl
   copy-next tables Pages other = copy-page (next_page s)
@@ -79,11 +79,11 @@ no_work-copied s t same none = record { no_work = λ i e was. by_entry i e was (
 
 pub items_rest : ItemsRest
 items_rest e s m tables none = by_next e.next refl where
-  before : (q : Next) → e.next ≡ q → q ≢ Confirm → HasNoWork (state_next e s m)
+  before : (q : CheckpointStage) → e.next ≡ q → q ≢ Confirm → HasNoWork (state_next e s m)
   before q is other = no_work-copied s (state_next e s m) (items_copy e s m tables (λ h. other (sym is ∙ h))) none
 
-  by_next : (q : Next) → e.next ≡ q → HasNoWork (state_next e s m)
-  by_next Confirm is = subst (λ (q : Next). HasNoWork (state_after (item q s) s m)) (sym is) (HasNoWork-committed s none)
+  by_next : (q : CheckpointStage) → e.next ≡ q → HasNoWork (state_next e s m)
+  by_next Confirm is = subst (λ (q : CheckpointStage). HasNoWork (state_after (item q s) s m)) (sym is) (HasNoWork-committed s none)
   by_next Nothing is = before Nothing is (λ h. cc)
   by_next Copies is = before Copies is (λ h. cc)
   by_next Pages is = before Pages is (λ h. cc)
@@ -107,6 +107,6 @@ settled-done t none =
 
 pub commit_frees : CommitFrees
 commit_frees e s t m tables idle copied fits confirm =
-    let done : IsDone t = subst (λ (q : Next). IsPast q t) confirm fits.past in
+    let done : IsDone t = subst (λ (q : CheckpointStage). IsPast q t) confirm fits.past in
     let same : t.btt ≡ mapped settled (sealed_state s).btt = sym (settled-done t done.copies) ∙ copied in
-    subst (λ (q : Next). s.p.btt ≤ 2 * free_count (state_after (item q t) t m).btt) (sym confirm) (half_free s t tables idle same)
+    subst (λ (q : CheckpointStage). s.p.btt ≤ 2 * free_count (state_after (item q t) t m).btt) (sym confirm) (half_free s t tables idle same)

@@ -32,14 +32,14 @@ use Rattle.thy_cell.specs.Checkpoint.{CommitMoves, committed_by, committed_entry
 use Rattle.thy_cell.specs.Rules.{after_copy}
 use Rattle.thy_cell.specs.BetweenCheckpoints.{CopyKeeps, PageWriteKeeps, PageWriteKeepsOthers}
 use Rattle.thy_view.specs.Action.{Action, Rest, ReadAt, WriteAt, Barrier, Drain, after}
-use Rattle.thy_control.specs.declared.overlay.Marks.{Marks}
+use Rattle.thy_control.specs.declared.overlay.WorkCounts.{WorkCounts}
 use Rattle.thy_control.specs.Keys.{block_key, page_key}
 use Rattle.thy_control.specs.State.{State, AreSoundTables, IsSized, cell_of, reads, work_of}
 use Rattle.thy_control.specs.Commit.{committed_state}
 use Rattle.thy_control.specs.Copies.{next_copy, block_listed, devices_copied, copied}
 use Rattle.thy_control.specs.Holding.{works, waits, is_promoted, waiting, promoted}
 use Rattle.thy_control.specs.Merges.{overlays}
-use Rattle.thy_control.specs.Overlay.{is_buffered, is_overlaid, AreMarks}
+use Rattle.thy_control.specs.Overlay.{is_buffered, is_overlaid, AreWorkCounts}
 use Rattle.thy_control.specs.Pages.{next_page, block_to_write, devices_issued, issued}
 use Rattle.thy_control.specs.Promotions.{fills_left, unfilled}
 use Rattle.thy_control.specs.Seal.{block_is_framed}
@@ -50,9 +50,9 @@ use Rattle.thy_control.proofs.FindLemmas.{found_entry, entry_for-some}
 use Rattle.thy_control.proofs.HoldingLemmas.{works-sized}
 use Rattle.thy_control.proofs.IdleLemmas.{free-committed}
 use Rattle.thy_control.proofs.IssueLemmas.{IsDue-entry, listed-busy, busy-framed}
-use Rattle.thy_control.proofs.StepMarkLemmas.{AreMarks-copied, AreMarks-issued}
-use Rattle.thy_commit.specs.declared.next.Next.{Next}
-use Rattle.thy_commit.specs.declared.next.Next.TheVariants.{Nothing, Copies, Pages, Slot, Settle, Commit, Confirm}
+use Rattle.thy_control.proofs.StepMarkLemmas.{AreWorkCounts-copied, AreWorkCounts-issued}
+use Rattle.thy_commit.specs.declared.stage.CheckpointStage.{CheckpointStage}
+use Rattle.thy_commit.specs.declared.stage.CheckpointStage.TheVariants.{Nothing, Copies, Pages, Slot, Settle, Commit, Confirm}
 use Rattle.thy_commit.specs.Items.{Item, NoItem, CopyItem, PageItem, SlotItem, SettleItem, CommitItem, ConfirmItem, item, copy_or, page_or_slot, page_item}
 use Rattle.thy_commit.specs.Progress.{state_after, item_of, state_next, device_next}
 use Rattle.thy_commit.specs.Versions.{MovesVersions}
@@ -118,10 +118,10 @@ record KeepsCounts (i : Item) (s t : State) : Type 0 where
   unfilled_same : unfilled t ≡ unfilled s
   overlays_are : MovesOverlays i s t
 
-abbrev marks_of : State → Marks
+abbrev marks_of : State → WorkCounts
 marks_of s = record { overlaid = overlays s; promoted = promoted s.ptt }
 
-are-marks : (s : State) → AreMarks s.ptt s.btt (marks_of s)
+are-marks : (s : State) → AreWorkCounts s.ptt s.btt (marks_of s)
 are-marks s = record { overlaid_is = refl; promoted_is = refl }
 
 counts-copied : (i b : ℕ) (s : State) (m : Device) → (cell_of s b).entry.pend ≢ Settled → KeepsCounts (CopyItem i) s (copied b s m)
@@ -129,7 +129,7 @@ unfolding copied
 counts-copied i b s m pending =
     let c : Cell = cell_of s b in
     let there = found_entry block_key new_entry s.btt b c.i (listed-pending b s pending) in
-    let marks : AreMarks (copied b s m).ptt (copied b s m).btt (marks_of s) = AreMarks-copied b s m (marks_of s) pending (are-marks s) in
+    let marks : AreWorkCounts (copied b s m).ptt (copied b s m).btt (marks_of s) = AreWorkCounts-copied b s m (marks_of s) pending (are-marks s) in
     let same : free_count (copied b s m).btt ≡ free_count s.btt
     = count-set_same is_none s.btt.entries c.i (Some (after_copy c).entry) None there.3 (sym (ap is_none there.1)) in
     let fewer = sum_by-set (λ (o : Option BttEntry). one_if (passes (λ (e : BttEntry). waits e.pend) o)) s.btt.entries c.i (Some (after_copy c).entry) None there.3 in
@@ -152,7 +152,7 @@ unfilled-issued b s m busy =
 counts-issued : (j b : ℕ) (s : State) (m : Device) → (cell_of s b).page.busy ≡ true → KeepsCounts (PageItem j) s (issued b s m)
 unfolding issued
 counts-issued j b s m busy =
-    let marks : AreMarks (issued b s m).ptt (issued b s m).btt (marks_of s) = AreMarks-issued b s m (marks_of s) busy (are-marks s) in
+    let marks : AreWorkCounts (issued b s m).ptt (issued b s m).btt (marks_of s) = AreWorkCounts-issued b s m (marks_of s) busy (are-marks s) in
     record {
       free = omega arith;
       owed = omega arith;
@@ -270,7 +270,7 @@ module _ (s : State) (m : Device) (tables : AreSoundTables s) where
   counts-copy None h = counts-page (next_page s) refl
   counts-copy (Some i) h = counts-copied i (block_listed i s) s m (IsNext-entry s tables i h).pending
 
-  counts-next : (q : Next) → Counting (item q s)
+  counts-next : (q : CheckpointStage) → Counting (item q s)
   counts-next Nothing = record { free = omega arith; owed = omega arith; promoted_same = refl; unfilled_same = refl; overlays_are = refl }
   counts-next Copies = counts-copy (next_copy s) refl
   counts-next Pages = counts-page (next_page s) refl

@@ -27,8 +27,8 @@ use Rattle.thy_control.proofs.StepLemmas.{KeepsEach, Keeps-untouched, checkpoint
 use Rattle.thy_control.proofs.CopyLemmas.{KeepsAll-next}
 use Rattle.thy_control.proofs.IssueLemmas.{KeepsNext, KeepsNext-write}
 use Rattle.thy_control.proofs.CommitLemmas.{Commits-committed}
-use Rattle.thy_commit.specs.declared.next.Next.{Next}
-use Rattle.thy_commit.specs.declared.next.Next.TheVariants.{Nothing, Copies, Pages, Slot, Settle, Commit, Confirm}
+use Rattle.thy_commit.specs.declared.stage.CheckpointStage.{CheckpointStage}
+use Rattle.thy_commit.specs.declared.stage.CheckpointStage.TheVariants.{Nothing, Copies, Pages, Slot, Settle, Commit, Confirm}
 use Rattle.thy_commit.specs.Items.{Item, SlotItem, item, is_under_way, copy_or, page_or_slot, page_item}
 use Rattle.thy_commit.specs.Progress.{Progress, IsPast, slot_number, slot_block, state_after, device_after}
 use Rattle.thy_commit.specs.Versions.{KeepsVersions, MovesVersions, ItemsMoveVersions}
@@ -110,7 +110,7 @@ module _ (copy : CopyKeeps) (write : PageWriteKeeps) (others : PageWriteKeepsOth
         holds = all.holds hold;
       }
 
-  moved-next : (q : Next) → IsPast q s → s.under_way ≡ is_under_way q → ((k : ℕ) → q ≡ Slot k → k < slot_blocks e.p) → Moved (item q s)
+  moved-next : (q : CheckpointStage) → IsPast q s → s.under_way ≡ is_under_way q → ((k : ℕ) → q ≡ Slot k → k < slot_blocks e.p) → Moved (item q s)
   moved-next Nothing past way inside = KeepsVersions-reads s m m t hold (λ x is. refl)
   moved-next Copies past way inside = moved-copy (next_copy s) refl
   moved-next Pages past way inside = moved-page (next_page s) refl

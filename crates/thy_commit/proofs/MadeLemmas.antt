@@ -26,8 +26,8 @@ use Rattle.thy_control.proofs.GuardLemmas.{behind_slots}
 use Rattle.thy_control.proofs.HoldingLemmas.{works-sized}
 use Rattle.thy_control.specs.Seal.{sealed_state}
 use Rattle.thy_control.specs.Stays.{StaysUp, StaysHeld}
-use Rattle.thy_commit.specs.declared.next.Next.{Next}
-use Rattle.thy_commit.specs.declared.next.Next.TheVariants.{Nothing, Copies, Pages, Slot, Settle, Commit, Confirm}
+use Rattle.thy_commit.specs.declared.stage.CheckpointStage.{CheckpointStage}
+use Rattle.thy_commit.specs.declared.stage.CheckpointStage.TheVariants.{Nothing, Copies, Pages, Slot, Settle, Commit, Confirm}
 use Rattle.thy_commit.specs.Items.{Item, NoItem, CopyItem, PageItem, SlotItem, SettleItem, CommitItem, ConfirmItem, item, is_under_way, copy_or, page_or_slot, page_item, next_after}
 use Rattle.thy_commit.specs.Progress.{Progress, slot_number, slot_block, device_after, item_of, state_next, device_next}
 use Rattle.thy_commit.specs.Versions.{MovesVersions, lasts}
@@ -53,7 +53,7 @@ lasts-same s m t n p same =
 
 module _ (o : Origin) (e : Progress) (s : State) (m : Device) (c : Checkpoints) (made : IsMadeFor o e s m c) where
   -- with the last versions and the header as before, and the commit block as it has to be
-  made-on : (next : Next) (t : State) (n : Device) (d : Checkpoints) → d.sealed ≡ c.sealed → lasts t n ≡ lasts s m → newest n 0 ≡ newest m 0
+  made-on : (next : CheckpointStage) (t : State) (n : Device) (d : Checkpoints) → d.sealed ≡ c.sealed → lasts t n ≡ lasts s m → newest n 0 ≡ newest m 0
       → (is_settled next ≡ true → block_at d.next 1 ≡ commit_of e.epoch) → IsMadeFor o (record e { next = next }) t n d
   made-on next t n d sealed same header commit = record {
     mark = made.mark;
@@ -97,7 +97,7 @@ module _ (e : Progress) (s : State) (m : Device) (sized : IsSized s m) where
   header-copy None = header-page (next_page s)
   header-copy (Some i) = header-target s m (block_listed i s) (reads s m (last (cell_of s (block_listed i s)))) sized
 
-  header-next : (q : Next) → Heading (item q s)
+  header-next : (q : CheckpointStage) → Heading (item q s)
   header-next Nothing = refl
   header-next Copies = header-copy (next_copy s)
   header-next Pages = header-page (next_page s)
@@ -116,7 +116,7 @@ last-moved CommitItem s m t n h = h.last_same
 last-moved ConfirmItem s m t n h = h.last_same
 
 -- the commit block of the image that is made, and that no mark but the last is taken
-record HasCommit (next : Next) (e : Progress) (c d : Checkpoints) : Type 0 where
+record HasCommit (next : CheckpointStage) (e : Progress) (c d : Checkpoints) : Type 0 where
   sealed : d.sealed ≡ c.sealed
   commit : is_settled next ≡ true → block_at d.next 1 ≡ commit_of e.epoch
 
@@ -138,7 +138,7 @@ module _ (e : Progress) (s : State) (m : Device) (c : Checkpoints) (long : 1 < l
   commit-copy None = commit-page (next_page s)
   commit-copy (Some i) = record { sealed = refl; commit = λ h. cc }
 
-  commit-next : (q : Next) → is_under_way q ≡ true → q ≢ Confirm → (is_settled q ≡ true → block_at c.next 1 ≡ commit_of e.epoch) → Committing (item q s)
+  commit-next : (q : CheckpointStage) → is_under_way q ≡ true → q ≢ Confirm → (is_settled q ≡ true → block_at c.next 1 ≡ commit_of e.epoch) → Committing (item q s)
   commit-next Nothing way other was = cc
   commit-next Copies way other was = commit-copy (next_copy s)
   commit-next Pages way other was = commit-page (next_page s)

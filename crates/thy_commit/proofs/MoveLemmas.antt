@@ -15,9 +15,9 @@ use Rattle.thy_record.specs.Commit.{commit_of}
 use Rattle.thy_record.specs.Decoded.{At}
 use Rattle.thy_record.specs.Images.{looked}
 use Rattle.thy_record.specs.Issuing.{SlotBlock, IsToldBy}
-use Rattle.thy_protocol.specs.RemappedParts.{IsIssuing, IsIssuedCheckpoint}
+use Rattle.thy_protocol.specs.DualParts.{IsIssuing, IsIssuedCheckpoint}
 use Rattle.thy_record.proofs.IssuingLemmas.{free_not_looked}
-use Rattle.thy_protocol.proofs.RemappedPartsLemmas.{issued_decodes}
+use Rattle.thy_protocol.proofs.DualPartsLemmas.{issued_decodes}
 use Rattle.thy_view.specs.Origin.{Origin, at}
 use Rattle.thy_view.specs.Safe.{ceiling}
 use Rattle.thy_cell.specs.BetweenCheckpoints.{CopyKeeps, PageWriteKeeps, PageWriteKeepsOthers}
@@ -31,10 +31,10 @@ use Rattle.thy_control.proofs.IssueLemmas.{IsDue-entry, Stays-issued, Stays-not_
 use Rattle.thy_protocol.specs.Keeps.{IsOf}
 use Rattle.thy_protocol.specs.Layout.{looked_by}
 use Rattle.thy_protocol.specs.Moves.{standing, Move, Goes, Readies, Commits, Confirms}
-use Rattle.thy_protocol.proofs.RemappedLemmas.{looked_by-remapped}
-use Rattle.thy_protocol.specs.Remapped.{layout_of}
-use Rattle.thy_commit.specs.declared.next.Next.{Next}
-use Rattle.thy_commit.specs.declared.next.Next.TheVariants.{Nothing, Copies, Pages, Slot, Settle, Commit, Confirm}
+use Rattle.thy_protocol.proofs.DualLayoutsLemmas.{looked_by-dual_layouts}
+use Rattle.thy_protocol.specs.DualLayouts.{layout_of}
+use Rattle.thy_commit.specs.declared.stage.CheckpointStage.{CheckpointStage}
+use Rattle.thy_commit.specs.declared.stage.CheckpointStage.TheVariants.{Nothing, Copies, Pages, Slot, Settle, Commit, Confirm}
 use Rattle.thy_commit.specs.Items.{Item, SlotItem, item, is_under_way, copy_or, page_or_slot, page_item, next_after}
 use Rattle.thy_commit.specs.Progress.{Progress, IsDone, IsPast, slot_number, slot_block, device_after, FailsItem}
 use Rattle.thy_commit.specs.Versions.{lasts}
@@ -48,7 +48,7 @@ use Rattle.thy_commit.proofs.DoneLemmas.{AreCopied-done}
 -- the layout looks where images of the run look
 spares-layout : (o : Origin) (before : List Block) (m n : Device) → Spares (1 ∷ looked o.geometry before) m n
     → Spares (1 ∷ looked_by (layout_of o) before) m n
-spares-layout o before m n h = subst (λ (xs : List ℕ). Spares (1 ∷ xs) m n) (sym (looked_by-remapped o.geometry ceiling before)) h
+spares-layout o before m n h = subst (λ (xs : List ℕ). Spares (1 ∷ xs) m n) (sym (looked_by-dual_layouts o.geometry ceiling before)) h
 
 goes : (o : Origin) (c : Checkpoints) (m n : Device) → Spares (1 ∷ looked o.geometry c.before) m n
     → Move o (layout_of o) (standing m (Kept c.before) c.kept c.sealed) (standing n (Kept c.before) c.kept c.sealed)
@@ -139,7 +139,7 @@ module _ (copy : CopyKeeps) (write : PageWriteKeeps) (others : PageWriteKeepsOth
   sealed-move old new n move =
       subst (λ (x : Option Mark). Move o (layout_of o) (standing m old c.kept x) (standing n new c.kept x)) (sym made.sealed) move
 
-  moves-next : (q : Next) → ((k : ℕ) → q ≡ Slot k → k < slot_blocks e.p) → HasWrittenBefore q e s m → is_under_way q ≡ true
+  moves-next : (q : CheckpointStage) → ((k : ℕ) → q ≡ Slot k → k < slot_blocks e.p) → HasWrittenBefore q e s m → is_under_way q ≡ true
       → IsFramed m (device_after e (item q s) s m) → (is_settled q ≡ true → block_at c.next 1 ≡ commit_of e.epoch)
       → Move o (layout_of o) (standing m (saved_at q c) c.kept c.sealed)
       (standing_at (record e { next = next_after e.p (item q s) }) (device_after e (item q s) s m) (checkpoints_after (item q s) e m c))
@@ -176,7 +176,7 @@ next_is_told o e s m c tables fits h settle geometry made = by_next e.next settl
         counted = issued.counted ∙ lasts_read_back s.counts.lasts o.geometry.pages (length-lasts o.geometry s.counts counts);
       }
 
-  by_next : (q : Next) → q ≡ Settle → HasWrittenBefore q e s m → IsNextBy o e s (next_image m (commit_of e.epoch))
+  by_next : (q : CheckpointStage) → q ≡ Settle → HasWrittenBefore q e s m → IsNextBy o e s (next_image m (commit_of e.epoch))
   by_next Settle is stood = told stood
   by_next Nothing is stood = cc
   by_next Copies is stood = cc
@@ -195,7 +195,7 @@ spares-both o before next m n first second =
     let b : Spares (1 ∷ looked_by (layout_of o) next) m n = spares-layout o next m n second in
     Spares-two (looked_by (layout_of o) before) (looked_by (layout_of o) next) m n a b
 
-goes-all : (o : Origin) (c : Checkpoints) (m n : Device) (q : Next) → Spares (1 ∷ looked o.geometry c.before) m n
+goes-all : (o : Origin) (c : Checkpoints) (m n : Device) (q : CheckpointStage) → Spares (1 ∷ looked o.geometry c.before) m n
     → (is_settled q ≡ true → Spares (1 ∷ looked o.geometry c.next) m n)
     → Move o (layout_of o) (standing m (saved_at q c) c.kept c.sealed) (standing n (saved_at q c) c.kept c.sealed)
 goes-all o c m n Nothing first second = goes o c m n first
@@ -208,7 +208,7 @@ goes-all o c m n Commit first second =
 goes-all o c m n Confirm first second =
     Goes (InDoubt c.before c.next) c.kept c.sealed m n (spares-both o c.before c.next m n first (second refl))
 
-written-done : (q : Next) (s : State) → is_settled q ≡ true → IsPast q s → IsDone s
+written-done : (q : CheckpointStage) (s : State) → is_settled q ≡ true → IsPast q s → IsDone s
 written-done Nothing s h past = cc
 written-done Copies s h past = cc
 written-done Pages s h past = cc
@@ -262,7 +262,7 @@ module _ (o : Origin) (e : Progress) (s : State) (m n : Device) (c : Checkpoints
       let next = IsNext-entry s tables i h in
       goes-stays o e s m s n c tables same (Stays-not_copied (block_listed i s) s m next.pending tables sized next.inside n failed framed) kept
 
-  fails-next : (q : Next) → ((k : ℕ) → q ≡ Slot k → k < slot_blocks e.p) → FailsItem e (item q s) s m n
+  fails-next : (q : CheckpointStage) → ((k : ℕ) → q ≡ Slot k → k < slot_blocks e.p) → FailsItem e (item q s) s m n
       → (is_under_way q ≡ true → HasOther) → (is_settled q ≡ true → HasNext e c)
       → Move o (layout_of o) (standing m (saved_at q c) c.kept c.sealed) (standing_failed q n c)
   fails-next Nothing inside failed other made = absurd failed

@@ -25,10 +25,10 @@ use Rattle.thy_control.proofs.StayLemmas.{map-block, map-page}
 use Rattle.thy_protocol.specs.Keeps.{IsOf, Tells, TellsAll}
 use Rattle.thy_protocol.specs.Moves.{Standing, standing, Move, Seals}
 use Rattle.thy_protocol.proofs.LayoutLemmas.{decode_by-whole_back}
-use Rattle.thy_protocol.specs.Remapped.{layout_of}
+use Rattle.thy_protocol.specs.DualLayouts.{layout_of}
 use Rattle.thy_base.specs.declared.mark.Mark.{Mark}
-use Rattle.thy_commit.specs.declared.next.Next.{Next}
-use Rattle.thy_commit.specs.declared.next.Next.TheVariants.{Nothing, Copies, Pages, Slot, Settle, Commit, Confirm}
+use Rattle.thy_commit.specs.declared.stage.CheckpointStage.{CheckpointStage}
+use Rattle.thy_commit.specs.declared.stage.CheckpointStage.TheVariants.{Nothing, Copies, Pages, Slot, Settle, Commit, Confirm}
 use Rattle.thy_commit.specs.Items.{Item, SlotItem, item, is_under_way, copy_or, page_or_slot, page_item, next_after}
 use Rattle.thy_commit.specs.Progress.{Progress, Fits, begun, state_after}
 use Rattle.thy_commit.specs.Tables.{KeepsTables, MovesTables, ItemsMoveTables}
@@ -76,7 +76,7 @@ module _ (s : State) (m : Device) (tables : AreSoundTables s) where
   tables-copy None h = tables-page (next_page s) refl
   tables-copy (Some i) h = tables-copied (block_listed i s) s m (IsNext-entry s tables i h).pending
 
-  tables-next : (q : Next) → Moving (item q s)
+  tables-next : (q : CheckpointStage) → Moving (item q s)
   unfolding committed_state
   tables-next Nothing = tables-same s
   tables-next Copies = tables-copy (next_copy s) refl
@@ -93,7 +93,7 @@ items_move_tables e s m tables = tables-next s m tables e.next
 
 -- the image that is kept, where the committed checkpoint has the same tables, and the counts of the epoch before are
 -- the same
-kept-on : (o : Origin) (e : Progress) (s t : State) (next : Next) (before : List Block) → (is_under_way next ≡ true → is_under_way e.next ≡ true)
+kept-on : (o : Origin) (e : Progress) (s t : State) (next : CheckpointStage) (before : List Block) → (is_under_way next ≡ true → is_under_way e.next ≡ true)
     → (is_under_way next ≡ false → is_under_way e.next ≡ false)
     → tables0 t ≡ tables0 s → t.counts.lasts ≡ s.counts.lasts → IsKeptBy o e s before → IsKeptBy o (record e { next = next }) t before
 kept-on o e s t next before way idle same lasts kept = record {
@@ -104,7 +104,7 @@ kept-on o e s t next before way idle same lasts kept = record {
   counted = λ h. kept.counted (idle h) ∙ sym lasts;
 }
 
-next-on : (o : Origin) (e : Progress) (s t : State) (next : Next) (made : List Block) → tables1 t ≡ tables1 s → t.counts.lasts ≡ s.counts.lasts
+next-on : (o : Origin) (e : Progress) (s t : State) (next : CheckpointStage) (made : List Block) → tables1 t ≡ tables1 s → t.counts.lasts ≡ s.counts.lasts
     → IsNextBy o e s made → IsNextBy o (record e { next = next }) t made
 next-on o e s t next made same lasts by = record {
   told = subst (λ (x : Tables). IsToldBy o.geometry made Two e.epoch x) (sym same) by.told;
@@ -116,7 +116,7 @@ module _ (o : Origin) (e : Progress) (s : State) (m : Device) (c : Checkpoints) 
   Telling i = AreTold o (record e { next = next_after e.p i }) (state_after i s m) (checkpoints_after i e m c)
 
   -- before the first barrier
-  tells-before : (t : State) (next : Next) → is_settled next ≡ false → is_under_way next ≡ true → KeepsTables s t → AreTold o (record e { next = next }) t c
+  tells-before : (t : State) (next : CheckpointStage) → is_settled next ≡ false → is_under_way next ≡ true → KeepsTables s t → AreTold o (record e { next = next }) t c
   tells-before t next unwritten on keeps = record {
     kept = kept-on o e s t next c.before (λ h. way) (λ h. absurd (not_both h on)) keeps.tables0_same keeps.lasts_same told.kept;
     next = λ written. absurd (not_both unwritten written);
@@ -144,7 +144,7 @@ module _ (o : Origin) (e : Progress) (s : State) (m : Device) (c : Checkpoints) 
   tells-copy tables None h = tells-page tables (next_page s) refl
   tells-copy tables (Some i) h = tells-before (state_after (copy_or (Some i) (page_item s)) s m) Copies refl refl (tables-copy s m tables (Some i) h)
 
-  tells-next : (q : Next) → q ≡ e.next → AreSoundTables s → Fits e s → HasWrittenBefore e.next e s m → IsMadeFor o e s m c → Telling (item q s)
+  tells-next : (q : CheckpointStage) → q ≡ e.next → AreSoundTables s → Fits e s → HasWrittenBefore e.next e s m → IsMadeFor o e s m c → Telling (item q s)
   unfolding committed_state
   tells-next Nothing is tables fits stood made = absurd (not_both (ap is_under_way is ∙ way)) where
     not_both : false ≡ true → ⊥
@@ -184,7 +184,7 @@ stays_tell o e s m t n c stays told = record {
 
 -- ---- a seal
 
-idle-kept : (q : Next) (c : Checkpoints) → is_under_way q ≡ false → saved_at q c ≡ Kept c.before
+idle-kept : (q : CheckpointStage) (c : Checkpoints) → is_under_way q ≡ false → saved_at q c ≡ Kept c.before
 idle-kept Nothing c h = refl
 idle-kept Copies c h = cc
 idle-kept Pages c h = cc

@@ -12,15 +12,15 @@ use Rattle.thy_record.specs.Commit.{commit_of}
 use Rattle.thy_record.specs.Issuing.{memory_read}
 use Rattle.thy_record.specs.Slots.{AreCounts, slot_block_of}
 use Rattle.thy_record.specs.Tables.{Tables, IsTables}
-use Rattle.thy_protocol.proofs.RemappedPartsLemmas.{slot_grows}
+use Rattle.thy_protocol.proofs.DualPartsLemmas.{slot_grows}
 use Rattle.thy_control.specs.State.{State, AreSoundTables, IsSized}
 use Rattle.thy_control.specs.CheckpointTables.{tables1}
 use Rattle.thy_control.specs.Copies.{next_copy}
 use Rattle.thy_control.specs.Pages.{next_page}
 use Rattle.thy_control.specs.Stays.{HoldAll, Stays, StaysUp}
 use Rattle.thy_control.proofs.TablesLemmas.{AreTablesOf-under_way}
-use Rattle.thy_commit.specs.declared.next.Next.{Next}
-use Rattle.thy_commit.specs.declared.next.Next.TheVariants.{Nothing, Copies, Pages, Slot, Settle, Commit, Confirm}
+use Rattle.thy_commit.specs.declared.stage.CheckpointStage.{CheckpointStage}
+use Rattle.thy_commit.specs.declared.stage.CheckpointStage.TheVariants.{Nothing, Copies, Pages, Slot, Settle, Commit, Confirm}
 use Rattle.thy_commit.specs.Items.{Item, SlotItem, item, copy_or, page_or_slot, page_item, next_after}
 use Rattle.thy_commit.specs.Progress.{Progress, IsDone, IsPast, slot_number, slot_block, state_after, device_after}
 use Rattle.thy_commit.specs.Versions.{KeepsVersions, lasts}
@@ -74,7 +74,7 @@ module _ (e : Progress) (s : State) (m : Device) (t : AreSoundTables s) (sized :
   wrote-copy None h = wrote-page h (next_page s) refl
   wrote-copy (Some i) h = tt
 
-  wrote-next : (q : Next) → IsPast q s → ((k : ℕ) → q ≡ Slot k → k < slot_blocks e.p) → HasWrittenBefore q e s m → After (item q s)
+  wrote-next : (q : CheckpointStage) → IsPast q s → ((k : ℕ) → q ≡ Slot k → k < slot_blocks e.p) → HasWrittenBefore q e s m → After (item q s)
   wrote-next Nothing past inside h = tt
   wrote-next Copies past inside h = wrote-copy (next_copy s) refl
   wrote-next Pages past inside h = wrote-page past (next_page s) refl
@@ -98,7 +98,7 @@ module _ (e : Progress) (s : State) (m : Device) (t : AreSoundTables s) (sized :
   wrote-next Confirm past inside h = tt
 
 -- what has to be there is determined by what is next alone
-stood : (q r : Next) (e : Progress) (s : State) (n : Device) → HasWrittenBefore q e s n → HasWrittenBefore q (record e { next = r }) s n
+stood : (q r : CheckpointStage) (e : Progress) (s : State) (n : Device) → HasWrittenBefore q e s n → HasWrittenBefore q (record e { next = r }) s n
 stood Nothing r e s n h = tt
 stood Copies r e s n h = tt
 stood Pages r e s n h = tt
@@ -134,7 +134,7 @@ module _ (e : Progress) (s : State) (m : Device) (t : State) (n : Device) (table
         (subst (λ (u : Tables). Reads n (slot_number e i) (slot_block_of e.p e.cpu u (last_block_of s.counts.lasts) e.epoch i)) (sym stays.tables1_same) read);
   })
 
-  stayed-next : (q : Next) → IsPast q t → ((k : ℕ) → q ≡ Slot k → k < slot_blocks e.p) → HasWrittenBefore q e s m → HasWrittenBefore q e t n
+  stayed-next : (q : CheckpointStage) → IsPast q t → ((k : ℕ) → q ≡ Slot k → k < slot_blocks e.p) → HasWrittenBefore q e s m → HasWrittenBefore q e t n
   stayed-next Nothing past inside h = tt
   stayed-next Copies past inside h = tt
   stayed-next Pages past inside h = tt

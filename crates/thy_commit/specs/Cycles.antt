@@ -8,13 +8,13 @@ use Rattle.thy_control.specs.State.{State, AreSoundTables}
 use Rattle.thy_control.specs.Copies.{copies_left}
 use Rattle.thy_control.specs.Pages.{writes_left}
 use Rattle.thy_control.specs.Stays.{Stays}
-use Rattle.thy_commit.specs.declared.next.Next.{Next}
-use Rattle.thy_commit.specs.declared.next.Next.TheVariants.{Nothing, Copies, Pages, Slot, Settle, Commit, Confirm}
+use Rattle.thy_commit.specs.declared.stage.CheckpointStage.{CheckpointStage}
+use Rattle.thy_commit.specs.declared.stage.CheckpointStage.TheVariants.{Nothing, Copies, Pages, Slot, Settle, Commit, Confirm}
 use Rattle.thy_commit.specs.Items.{is_under_way}
 use Rattle.thy_commit.specs.Progress.{Progress, IsSoundProgress, Fits, engine_next, state_next}
 
 -- the copies and page blocks that are left, the blocks of the slot, and three more
-abbrev pub left_after : Next → Parameters → State → ℕ
+abbrev pub left_after : CheckpointStage → Parameters → State → ℕ
 left_after Nothing p s = 0
 left_after Copies p s = copies_left s + (writes_left s + (slot_blocks p + 3))
 left_after Pages p s = writes_left s + (slot_blocks p + 3)

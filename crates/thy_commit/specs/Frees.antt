@@ -5,7 +5,7 @@ use Rattle.thy_table.specs.Listing.{free_count, mapped}
 use Rattle.thy_control.specs.State.{State, AreSoundTables}
 use Rattle.thy_control.specs.Frees.{HasNoWork, settled}
 use Rattle.thy_control.specs.Seal.{sealed_state}
-use Rattle.thy_commit.specs.declared.next.Next.TheVariants.{Confirm}
+use Rattle.thy_commit.specs.declared.stage.CheckpointStage.TheVariants.{Confirm}
 use Rattle.thy_commit.specs.Progress.{Progress, Fits, state_next}
 
 -- the block table is as before, except that copies were made

@@ -9,11 +9,11 @@ use Rattle.thy_record.specs.declared.engine_step.EngineStep.TheVariants.{Idle, C
 use Rattle.thy_control.specs.State.{State}
 use Rattle.thy_control.specs.Copies.{next_copy}
 use Rattle.thy_control.specs.Pages.{next_page}
-use Rattle.thy_commit.specs.declared.next.Next.{Next}
-use Rattle.thy_commit.specs.declared.next.Next.TheVariants.{Nothing, Copies, Pages, Slot, Settle, Commit, Confirm}
+use Rattle.thy_commit.specs.declared.stage.CheckpointStage.{CheckpointStage}
+use Rattle.thy_commit.specs.declared.stage.CheckpointStage.TheVariants.{Nothing, Copies, Pages, Slot, Settle, Commit, Confirm}
 
 -- a checkpoint is under way
-abbrev pub is_under_way : Next → Bool
+abbrev pub is_under_way : CheckpointStage → Bool
 is_under_way Nothing = false
 is_under_way next = true
 
@@ -46,7 +46,7 @@ page_item s = page_or_slot (next_page s)
 abbrev pub copy_item : State → Item
 copy_item s = copy_or (next_copy s) (page_item s)
 
-abbrev pub item : Next → State → Item
+abbrev pub item : CheckpointStage → State → Item
 item Nothing s = NoItem
 item Copies s = copy_item s
 item Pages s = page_item s
@@ -56,7 +56,7 @@ item Commit s = CommitItem
 item Confirm s = ConfirmItem
 
 -- what comes after it
-abbrev pub next_after : Parameters → Item → Next
+abbrev pub next_after : Parameters → Item → CheckpointStage
 next_after p NoItem = Nothing
 next_after p (CopyItem i) = Copies
 next_after p (PageItem j) = Pages

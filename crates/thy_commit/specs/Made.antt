@@ -12,7 +12,7 @@ use Rattle.thy_control.specs.State.{State, AreSoundTables, IsSized}
 use Rattle.thy_control.specs.Holding.{holding_of}
 use Rattle.thy_control.specs.Seal.{sealed_state, Seals}
 use Rattle.thy_control.specs.Stays.{HoldAll, Stays}
-use Rattle.thy_commit.specs.declared.next.Next.TheVariants.{Confirm}
+use Rattle.thy_commit.specs.declared.stage.CheckpointStage.TheVariants.{Confirm}
 use Rattle.thy_commit.specs.Items.{is_under_way}
 use Rattle.thy_commit.specs.Progress.{Progress, IsSoundProgress, Fits, begun, item_of, engine_next, state_next, device_next}
 use Rattle.thy_commit.specs.Moves.{Checkpoints, checkpoints_after, IsMadeFor}

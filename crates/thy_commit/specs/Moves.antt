@@ -18,9 +18,9 @@ use Rattle.thy_control.specs.State.{State, AreSoundTables, IsSized}
 use Rattle.thy_control.specs.CheckpointTables.{tables0, tables1}
 use Rattle.thy_control.specs.Stays.{HoldAll, Stays}
 use Rattle.thy_protocol.specs.Moves.{Standing, standing, Move}
-use Rattle.thy_protocol.specs.Remapped.{layout_of}
-use Rattle.thy_commit.specs.declared.next.Next.{Next}
-use Rattle.thy_commit.specs.declared.next.Next.TheVariants.{Settle, Commit, Confirm}
+use Rattle.thy_protocol.specs.DualLayouts.{layout_of}
+use Rattle.thy_commit.specs.declared.stage.CheckpointStage.{CheckpointStage}
+use Rattle.thy_commit.specs.declared.stage.CheckpointStage.TheVariants.{Settle, Commit, Confirm}
 use Rattle.thy_commit.specs.Items.{Item, SettleItem, ConfirmItem, is_under_way}
 use Rattle.thy_commit.specs.Progress.{Progress, IsSoundProgress, Fits, item_of, engine_next, device_next, FailsNext}
 use Rattle.thy_commit.specs.Versions.{lasts}
@@ -34,13 +34,13 @@ pub record Checkpoints : Type 0 where
   pub sealed : Option Mark
 
 -- the first barrier came: all but the commit block is written
-abbrev pub is_settled : Next → Bool
+abbrev pub is_settled : CheckpointStage → Bool
 is_settled Commit = true
 is_settled Confirm = true
 is_settled next = false
 
 -- until the first barrier one image is kept, after it the next one is ready, and with its commit block in doubt
-abbrev pub saved_at : Next → Checkpoints → Saved
+abbrev pub saved_at : CheckpointStage → Checkpoints → Saved
 saved_at Commit c = Ready c.before c.next
 saved_at Confirm c = InDoubt c.before c.next
 saved_at next c = Kept c.before
@@ -117,7 +117,7 @@ StaysMove =
     → Move o (layout_of o) (standing_at e m c) (standing_at e n c)
 
 -- an item that failed is a move too: the write of the commit block leaves the two in doubt, and every other item what was
-abbrev pub standing_failed : Next → Device → Checkpoints → Standing
+abbrev pub standing_failed : CheckpointStage → Device → Checkpoints → Standing
 standing_failed Commit n c = standing n (InDoubt c.before c.next) c.kept c.sealed
 standing_failed next n c = standing n (saved_at next c) c.kept c.sealed
 

@@ -16,14 +16,14 @@ use Rattle.thy_control.specs.Commit.{committed_state}
 use Rattle.thy_control.specs.Copies.{next_copy, block_listed, devices_after_copy, after_next_copy, FailsCopy}
 use Rattle.thy_control.specs.Pages.{next_page, block_to_write, devices_after_write, after_next_write, FailsWriteOf}
 use Rattle.thy_commit.specs.declared.engine.Done.{Done}
-use Rattle.thy_commit.specs.declared.next.Next.{Next}
-use Rattle.thy_commit.specs.declared.next.Next.TheVariants.{Nothing, Copies, Pages, Slot, Settle, Commit, Confirm}
+use Rattle.thy_commit.specs.declared.stage.CheckpointStage.{CheckpointStage}
+use Rattle.thy_commit.specs.declared.stage.CheckpointStage.TheVariants.{Nothing, Copies, Pages, Slot, Settle, Commit, Confirm}
 use Rattle.thy_commit.specs.Items.{is_under_way, Item, NoItem, CopyItem, PageItem, SlotItem, SettleItem, CommitItem, ConfirmItem, item, next_after, answer}
 
 pub record Progress : Type 0 where
   pub p : Parameters
   -- what the engine looks for next
-  pub next : Next
+  pub next : CheckpointStage
   -- the processor as it was sealed, and the epoch that was sealed
   pub cpu : CpuState
   pub epoch : ℕ
@@ -42,7 +42,7 @@ pub record IsDone (s : State) : Type 0 where
   pub copies : next_copy s ≡ None
   pub pages : next_page s ≡ None
 
-abbrev pub IsPast : Next → State → Type 0
+abbrev pub IsPast : CheckpointStage → State → Type 0
 IsPast Nothing s = Unit {0}
 IsPast Copies s = Unit {0}
 IsPast Pages s = next_copy s ≡ None

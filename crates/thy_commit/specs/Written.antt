@@ -4,13 +4,13 @@ use Rattle.thy_base.specs.Device.{Device}
 use Rattle.thy_base.specs.Places.{slot_blocks}
 use Rattle.thy_crash.specs.Fixed.{Reads}
 use Rattle.thy_record.specs.Commit.{commit_of}
-use Rattle.thy_protocol.specs.RemappedParts.{IsIssuing}
+use Rattle.thy_protocol.specs.DualParts.{IsIssuing}
 use Rattle.thy_switch.specs.LastBlocks.{last_block_of}
 use Rattle.thy_control.specs.State.{State, AreSoundTables, IsSized}
 use Rattle.thy_control.specs.CheckpointTables.{tables1}
 use Rattle.thy_control.specs.Stays.{HoldAll, Stays}
-use Rattle.thy_commit.specs.declared.next.Next.{Next}
-use Rattle.thy_commit.specs.declared.next.Next.TheVariants.{Nothing, Copies, Pages, Slot, Settle, Commit, Confirm}
+use Rattle.thy_commit.specs.declared.stage.CheckpointStage.{CheckpointStage}
+use Rattle.thy_commit.specs.declared.stage.CheckpointStage.TheVariants.{Nothing, Copies, Pages, Slot, Settle, Commit, Confirm}
 use Rattle.thy_commit.specs.Progress.{Progress, IsSoundProgress, Fits, engine_next, state_next, device_next}
 use Rattle.thy_commit.specs.Versions.{lasts}
 
@@ -19,7 +19,7 @@ abbrev pub HasWrittenSlot : Progress → State → Device → ℕ → Type 0
 HasWrittenSlot e s n k = IsIssuing e.p n e.cpu (tables1 s) (last_block_of s.counts.lasts) e.epoch (lasts s n) k
 
 -- what is written before an item: the blocks of the slot before it, then all of them, and at last the commit block too
-abbrev pub HasWrittenBefore : Next → Progress → State → Device → Type 0
+abbrev pub HasWrittenBefore : CheckpointStage → Progress → State → Device → Type 0
 HasWrittenBefore Nothing e s n = Unit {0}
 HasWrittenBefore Copies e s n = Unit {0}
 HasWrittenBefore Pages e s n = Unit {0}

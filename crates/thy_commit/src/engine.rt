@@ -7,7 +7,7 @@ ghost use Rattle.thy_record.specs.declared.engine_step.EngineStep.TheVariants.{S
 ghost use Rattle.thy_control.specs.Seal.{sealed_state};
 ghost use Rattle.thy_control.specs.State.{State, IsSized};
 
-use crate::Next;
+use crate::CheckpointStage;
 use std::marker::Model;
 use thy_base::{Block, Geometry, Nvm, NvmError};
 use thy_control::Control;
@@ -18,7 +18,7 @@ use thy_record::{EngineStep, commit_block, cpu_block};
 #[derive(Drop)]
 pub struct Engine {
     geometry: Geometry,
-    next: Next,
+    next: CheckpointStage,
     cpu: CpuState,
     epoch: u64,
 }
@@ -37,7 +37,7 @@ impl Model for Engine {
 #[derive(Clone, Copy)]
 struct Done {
     step: EngineStep,
-    next: Next,
+    next: CheckpointStage,
 }
 
 /// What the engine returns for the write of block `k` of a slot.
@@ -63,7 +63,7 @@ impl Engine {
     {
         Engine {
             geometry: *geometry,
-            next: Next::Nothing,
+            next: CheckpointStage::Nothing,
             cpu: CpuState {
                 pc: 0,
                 regs: Regs::new(),
@@ -94,7 +94,7 @@ impl Engine {
         // With the controller that was sealed it belongs together.
         ensures fits { (s : State) → Fits self.old s → Fits self.new (sealed_state s) }
     {
-        self.next = Next::Copies;
+        self.next = CheckpointStage::Copies;
         self.cpu = *cpu;
         self.epoch = epoch;
     }
@@ -104,13 +104,13 @@ impl Engine {
         ensures { result ≡ is_under_way self.now.next }
     {
         match self.next {
-            Next::Nothing => false,
-            Next::Copies
-            | Next::Pages
-            | Next::Slot(_)
-            | Next::Settle
-            | Next::Commit
-            | Next::Confirm => true,
+            CheckpointStage::Nothing => false,
+            CheckpointStage::Copies
+            | CheckpointStage::Pages
+            | CheckpointStage::Slot(_)
+            | CheckpointStage::Settle
+            | CheckpointStage::Commit
+            | CheckpointStage::Confirm => true,
         }
     }
 
@@ -157,16 +157,16 @@ impl Engine {
         ensures { Ends (item_of self.now control.old) self.now control.old (N.device nvm.old) result control.new (N.device nvm.new) }
     {
         match self.next {
-            Next::Nothing => Ok(Done {
+            CheckpointStage::Nothing => Ok(Done {
                 step: EngineStep::Idle,
-                next: Next::Nothing,
+                next: CheckpointStage::Nothing,
             }),
-            Next::Copies => self.copy(control, nvm),
-            Next::Pages => self.write_page(control, nvm),
-            Next::Slot(k) => self.write_slot(k, control, nvm),
-            Next::Settle => self.settle(nvm),
-            Next::Commit => self.write_commit(nvm),
-            Next::Confirm => self.confirm(control, nvm),
+            CheckpointStage::Copies => self.copy(control, nvm),
+            CheckpointStage::Pages => self.write_page(control, nvm),
+            CheckpointStage::Slot(k) => self.write_slot(k, control, nvm),
+            CheckpointStage::Settle => self.settle(nvm),
+            CheckpointStage::Commit => self.write_commit(nvm),
+            CheckpointStage::Confirm => self.confirm(control, nvm),
         }
     }
 
@@ -180,7 +180,7 @@ impl Engine {
         if control.copy_next(nvm)? {
             Ok(Done {
                 step: EngineStep::Copied,
-                next: Next::Copies,
+                next: CheckpointStage::Copies,
             })
         } else {
             self.write_page(control, nvm)
@@ -197,7 +197,7 @@ impl Engine {
         if control.page_next(nvm)? {
             Ok(Done {
                 step: EngineStep::PageBlock,
-                next: Next::Pages,
+                next: CheckpointStage::Pages,
             })
         } else {
             self.write_slot(0, control, nvm)
@@ -235,15 +235,15 @@ impl Engine {
     }
 
     /// What comes after block `k` of the slot.
-    fn after_slot(&self, k: u64) -> Next
+    fn after_slot(&self, k: u64) -> CheckpointStage
         requires block { k < slot_blocks self.now.p }
         ensures { result ≡ next_after self.now.p (SlotItem k) }
     {
         let blocks = self.geometry.slot_blocks();
         if k + 1 < blocks {
-            Next::Slot(k + 1)
+            CheckpointStage::Slot(k + 1)
         } else {
-            Next::Settle
+            CheckpointStage::Settle
         }
     }
 
@@ -260,7 +260,7 @@ impl Engine {
         nvm.barrier()?;
         Ok(Done {
             step: EngineStep::Barrier,
-            next: Next::Commit,
+            next: CheckpointStage::Commit,
         })
     }
 
@@ -278,7 +278,7 @@ impl Engine {
         nvm.write(1, &commit_block(self.epoch))?;
         Ok(Done {
             step: EngineStep::CommitWritten,
-            next: Next::Confirm,
+            next: CheckpointStage::Confirm,
         })
     }
 
@@ -294,7 +294,7 @@ impl Engine {
         control.commit();
         Ok(Done {
             step: EngineStep::Committed(self.epoch),
-            next: Next::Nothing,
+            next: CheckpointStage::Nothing,
         })
     }
 }

@@ -3,12 +3,12 @@
 //! run's checkpoints.
 //!
 //! Open specs/Items.antt first, then specs/Progress.antt, and src/engine.rt. It depends on thy_control, thy_protocol and
-//! their dependencies; thy_dual_model and thy_dual depend on it.
+//! their dependencies; thy_dual_laws and thy_dual depend on it.
 #![tactic(auto)]
 
 mod engine;
 mod laws;
-mod next;
+mod stage;
 
 pub use engine::Engine;
 pub use laws::{
@@ -17,4 +17,4 @@ pub use laws::{
     items_keep_the_store, items_move_tables, items_move_versions, memory_is_last,
     the_checkpoint_is_of_its_mark, the_checkpoint_is_written_in_turn, the_next_checkpoint_is_kept,
 };
-pub use next::Next;
+pub use stage::CheckpointStage;

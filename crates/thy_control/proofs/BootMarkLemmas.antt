@@ -7,10 +7,10 @@ use Rattle.thy_tables.specs.declared.block_entry.Working.TheVariants.{NoWork}
 use Rattle.thy_tables.specs.declared.page_entry.PttEntry.{PttEntry}
 use Rattle.thy_tables.specs.BlockEntry.{listed_entry}
 use Rattle.thy_tables.specs.PageEntry.{listed_page}
-use Rattle.thy_control.specs.declared.overlay.Marks.{Marks}
+use Rattle.thy_control.specs.declared.overlay.WorkCounts.{WorkCounts}
 use Rattle.thy_control.specs.Boot.{IsBooting, with_listed_block, with_listed_page}
 use Rattle.thy_control.specs.Holding.{is_promoted}
-use Rattle.thy_control.specs.Overlay.{is_buffered, is_overlaid, overlaid, AreMarks}
+use Rattle.thy_control.specs.Overlay.{is_buffered, is_overlaid, overlaid, AreWorkCounts}
 use Rattle.thy_control.specs.Seal.{block_is_framed}
 use Rattle.thy_control.specs.State.{State}
 use Rattle.thy_control.proofs.CountLemmas.{count-set_same}
@@ -33,15 +33,15 @@ none_overlaid pages s boot = elim (cases_lt 0 (overlaid pages s.btt)) as (λ _. 
   | inr none ↦ omega (arith, none)
 ]
 
-pub AreMarks-block : (i b : ℕ) (s : State) (k : Marks) → i < length s.btt.entries → entry_at s.btt i ≡ None → AreMarks s.ptt s.btt k
-    → AreMarks s.ptt (with_listed_block i b s).btt k
-AreMarks-block i b s k l free marks =
+pub AreWorkCounts-block : (i b : ℕ) (s : State) (k : WorkCounts) → i < length s.btt.entries → entry_at s.btt i ≡ None → AreWorkCounts s.ptt s.btt k
+    → AreWorkCounts s.ptt (with_listed_block i b s).btt k
+AreWorkCounts-block i b s k l free marks =
     let same = count-set_same (passes (is_overlaid s.ptt)) s.btt.entries i (Some (listed_entry b)) None l (sym (ap (passes (is_overlaid s.ptt)) free)) in
     record { overlaid_is = marks.overlaid_is ∙ sym same; promoted_is = marks.promoted_is }
 
-pub AreMarks-page : (j n : ℕ) (s : State) (k : Marks) → IsBooting s → j < length s.ptt.entries → entry_at s.ptt j ≡ None → AreMarks s.ptt s.btt k
-    → AreMarks (with_listed_page j n s).ptt s.btt k
-AreMarks-page j n s k boot l free marks =
+pub AreWorkCounts-page : (j n : ℕ) (s : State) (k : WorkCounts) → IsBooting s → j < length s.ptt.entries → entry_at s.ptt j ≡ None → AreWorkCounts s.ptt s.btt k
+    → AreWorkCounts (with_listed_page j n s).ptt s.btt k
+AreWorkCounts-page j n s k boot l free marks =
     let same = count-set_same (passes is_promoted) s.ptt.entries j (Some (listed_page n)) None l (sym (ap (passes is_promoted) free)) in
     record {
       overlaid_is = marks.overlaid_is ∙ none_overlaid s.ptt s boot ∙ sym (none_overlaid (with_listed_page j n s).ptt s boot);

@@ -1,7 +1,7 @@
 -- The copy of a promoted page's next block into its frame: every block after it, and the tables.
 use Rattle.thy_control.specs.Seal.{block_is_framed}
-use Rattle.thy_control.specs.Overlay.{is_buffered, is_overlaid, overlaid, AreMarks}
-use Rattle.thy_control.specs.declared.overlay.Marks.{Marks}
+use Rattle.thy_control.specs.Overlay.{is_buffered, is_overlaid, overlaid, AreWorkCounts}
+use Rattle.thy_control.specs.declared.overlay.WorkCounts.{WorkCounts}
 use Rattle.thy_tables.specs.BlockEntry.{new_entry}
 use Rattle.thy_tables.specs.declared.block_entry.BttEntry.{BttEntry}
 use Rattle.std.specs.List.{count_by}
@@ -287,9 +287,9 @@ module _ (b : ℕ) (s : State) (fresh : (cell_of s b).page.fresh ≡ true) (m : 
   pub overlaid-filled : overlaid (block_filled b s m).ptt s.btt ≡ overlaid s.ptt s.btt
   overlaid-filled = count-same_at (passes (is_overlaid (block_filled b s m).ptt)) (passes (is_overlaid s.ptt)) None s.btt.entries (λ i l. overlaid-filled_at i)
 
-  pub AreMarks-filled : (k now : Marks) → is_framed (cell_of s b).page ≡ false → (cell_of s b).page.filled < 64 → AreMarks s.ptt s.btt k → now.overlaid ≡ k.overlaid
-      → now.promoted + (if is_framed (page_filled (cell_of s b).page) then 1 else 0) ≡ k.promoted → AreMarks (block_filled b s m).ptt s.btt now
-  AreMarks-filled k now bare less marks same_overlaid fewer = record {
+  pub AreWorkCounts-filled : (k now : WorkCounts) → is_framed (cell_of s b).page ≡ false → (cell_of s b).page.filled < 64 → AreWorkCounts s.ptt s.btt k → now.overlaid ≡ k.overlaid
+      → now.promoted + (if is_framed (page_filled (cell_of s b).page) then 1 else 0) ≡ k.promoted → AreWorkCounts (block_filled b s m).ptt s.btt now
+  AreWorkCounts-filled k now bare less marks same_overlaid fewer = record {
     overlaid_is = same_overlaid ∙ marks.overlaid_is ∙ sym overlaid-filled;
     promoted_is = omega (arith, fewer, marks.promoted_is, promoted-filled b s fresh bare m less);
   }
@@ -421,8 +421,8 @@ module _ (s w : State) (view : w ≡ s) where
       ∙ ap (λ (x : Devices). record s { ptt = with_entry (cell_of s b).j (Some (page_filled (cell_of s b).page)) s.ptt; dram = x.dram }) d_is
 
 -- the numbers that the controller keeps are right after the copy
-pub marks-filled : (b : ℕ) (s : State) (fresh : (cell_of s b).page.fresh ≡ true) (m : Device) (t : AreSoundTables s) (k now : Marks) → is_framed (cell_of s b).page ≡ false
-    → (cell_of s b).page.filled < 64 → AreMarks s.ptt s.btt k → now.overlaid ≡ k.overlaid
-    → now.promoted + (if is_framed (with_filled (cell_of s b)).page then 1 else 0) ≡ k.promoted → AreMarks (block_filled b s m).ptt (block_filled b s m).btt now
+pub marks-filled : (b : ℕ) (s : State) (fresh : (cell_of s b).page.fresh ≡ true) (m : Device) (t : AreSoundTables s) (k now : WorkCounts) → is_framed (cell_of s b).page ≡ false
+    → (cell_of s b).page.filled < 64 → AreWorkCounts s.ptt s.btt k → now.overlaid ≡ k.overlaid
+    → now.promoted + (if is_framed (with_filled (cell_of s b)).page then 1 else 0) ≡ k.promoted → AreWorkCounts (block_filled b s m).ptt (block_filled b s m).btt now
 unfolding block_filled
-marks-filled b s fresh m t k now bare less marks same fewer = AreMarks-filled b s fresh m t k now bare less marks same fewer
+marks-filled b s fresh m t k now bare less marks same fewer = AreWorkCounts-filled b s fresh m t k now bare less marks same fewer

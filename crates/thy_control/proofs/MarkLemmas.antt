@@ -20,7 +20,7 @@ use Rattle.thy_cell.specs.declared.cell.Cell.{Cell}
 use Rattle.thy_cell.specs.declared.cell.StoreRule.{StoreRule}
 use Rattle.thy_cell.specs.declared.cell.StoreRule.TheVariants.{ToFrame, ToBuffer, ToNvm, PendingFirst}
 use Rattle.thy_cell.specs.Rules.{store_rule, after_store}
-use Rattle.thy_control.specs.declared.overlay.Marks.{Marks}
+use Rattle.thy_control.specs.declared.overlay.WorkCounts.{WorkCounts}
 use Rattle.thy_control.specs.Find.{with_found}
 use Rattle.thy_control.specs.Keys.{block_key, page_key}
 use Rattle.thy_control.specs.StoredTables.{btt_with, btt_after, ptt_after}
@@ -28,7 +28,7 @@ use Rattle.thy_control.specs.State.{State, AreSoundTables, cell_of}
 use Rattle.thy_control.specs.Rules.{IsWholeState, with_block, rule_for, cell_before, state_after}
 use Rattle.thy_control.specs.Holding.{is_promoted, promoted}
 use Rattle.thy_control.specs.Seal.{block_is_framed, IsBareState}
-use Rattle.thy_control.specs.Overlay.{is_buffered, is_overlaid, overlaid, covers, AreMarks, IsOverlaid, IsPromoting}
+use Rattle.thy_control.specs.Overlay.{is_buffered, is_overlaid, overlaid, covers, AreWorkCounts, IsOverlaid, IsPromoting}
 use Rattle.thy_control.proofs.FindLemmas.{found_entry, entry_for-some, entry_for-none}
 use Rattle.thy_control.proofs.CellLemmas.{block-cell_of}
 use Rattle.thy_control.proofs.StateLemmas.{IsListed, IsListed-with_block, cell-with_cell_same, cell-with_cell_other, rule-with_block}
@@ -71,8 +71,8 @@ overlaid-with ToBuffer b pages t = overlaid-found pages t b (place_of block_key 
 overlaid-with ToNvm b pages t = overlaid-found pages t b (place_of block_key b t)
 overlaid-with PendingFirst b pages t = refl
 
-pub AreMarks-with : (r : StoreRule) (b : ℕ) (s : State) (m : Marks) → AreMarks s.ptt s.btt m → AreMarks s.ptt (btt_with r b s.btt) m
-AreMarks-with r b s m h = record { overlaid_is = h.overlaid_is ∙ sym (overlaid-with r b s.ptt s.btt); promoted_is = h.promoted_is }
+pub AreWorkCounts-with : (r : StoreRule) (b : ℕ) (s : State) (m : WorkCounts) → AreWorkCounts s.ptt s.btt m → AreWorkCounts s.ptt (btt_with r b s.btt) m
+AreWorkCounts-with r b s m h = record { overlaid_is = h.overlaid_is ∙ sym (overlaid-with r b s.ptt s.btt); promoted_is = h.promoted_is }
 
 -- another entry of a block that has one
 module _ (t : State) (b : ℕ) (e : BttEntry) (of_block : e.block ≡ b) (listed : place_of block_key b t.btt ≡ Some (cell_of t b).i) where
@@ -148,11 +148,11 @@ overlaid-cell PendingFirst b t is l =
     omega (arith, set)
 
 -- so the numbers are right after a store
-pub AreMarks-after : (b : ℕ) (block : Block) (s : State) (n : Device) (m now : Marks) → AreMarks s.ptt s.btt m → (free_place s.btt ≡ None → ⊥)
+pub AreWorkCounts-after : (b : ℕ) (block : Block) (s : State) (n : Device) (m now : WorkCounts) → AreWorkCounts s.ptt s.btt m → (free_place s.btt ≡ None → ⊥)
     → now.overlaid ≡ m.overlaid + covers (rule_for b s) (cell_before b s) → now.promoted ≡ m.promoted
-    → AreMarks (state_after b block s n).ptt (state_after b block s n).btt now
+    → AreWorkCounts (state_after b block s n).ptt (state_after b block s n).btt now
 unfolding state_after cell_before
-AreMarks-after b block s n m now h some over promoting =
+AreWorkCounts-after b block s n m now h some over promoting =
     let r : StoreRule = rule_for b s in
     let u : State = with_block r b s in
     let listed : IsListed r b u = IsListed-with_block r b s refl some in
@@ -232,15 +232,15 @@ IsPromoting-some s t some =
         }
 
 -- so few entries have any that one more can be counted
-pub marks-small : (s : State) (m : Marks) → AreSoundTables s → AreMarks s.ptt s.btt m → m.overlaid ≤ s.p.btt
+pub marks-small : (s : State) (m : WorkCounts) → AreSoundTables s → AreWorkCounts s.ptt s.btt m → m.overlaid ≤ s.p.btt
 marks-small s m t h = omega (arith, h.overlaid_is, count_by-le-length (passes (is_overlaid s.ptt)) s.btt.entries, t.btt_size)
 
 -- a new controller has none
-abbrev pub no_marks : Marks
-no_marks = record { overlaid = 0; promoted = 0 }
+abbrev pub no_work_counts : WorkCounts
+no_work_counts = record { overlaid = 0; promoted = 0 }
 
-pub AreMarks-new : (p : Parameters) → AreMarks (empty_table p.ptt p.pages) (empty_table p.btt (memory_blocks p)) no_marks
-AreMarks-new p = record {
+pub AreWorkCounts-new : (p : Parameters) → AreWorkCounts (empty_table p.ptt p.pages) (empty_table p.btt (memory_blocks p)) no_work_counts
+AreWorkCounts-new p = record {
   overlaid_is = sym (none_passes (is_overlaid (empty_table p.ptt p.pages)) p.btt);
   promoted_is = sym (none_passes is_promoted p.ptt);
 }

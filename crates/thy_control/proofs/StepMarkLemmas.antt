@@ -14,12 +14,12 @@ use Rattle.thy_cell.specs.declared.cell.Cell.{Cell}
 use Rattle.thy_cell.specs.Rules.{after_copy}
 use Rattle.thy_cell.specs.Checkpoint.{page_issued}
 use Rattle.thy_cell.specs.BetweenCheckpoints.{MergeKeeps, DirtyKeeps}
-use Rattle.thy_control.specs.declared.overlay.Marks.{Marks}
+use Rattle.thy_control.specs.declared.overlay.WorkCounts.{WorkCounts}
 use Rattle.thy_control.specs.Keys.{block_key, page_key}
 use Rattle.thy_control.specs.State.{State, AreSoundTables, cell_of}
 use Rattle.thy_control.specs.Holding.{is_promoted, promoted}
 use Rattle.thy_control.specs.Seal.{block_is_framed}
-use Rattle.thy_control.specs.Overlay.{is_buffered, is_overlaid, overlaid, AreMarks}
+use Rattle.thy_control.specs.Overlay.{is_buffered, is_overlaid, overlaid, AreWorkCounts}
 use Rattle.thy_control.specs.Copies.{copied}
 use Rattle.thy_control.specs.Merges.{overlays, merged_block}
 use Rattle.thy_control.specs.Pages.{issued}
@@ -46,10 +46,10 @@ promoted-set s b e listed same =
     count-set_same (passes is_promoted) s.ptt.entries (cell_of s b).j (Some e) None there.3 (same ∙ ap is_promoted is ∙ sym (ap (passes is_promoted) there.1))
 
 -- a copy changes none
-pub AreMarks-copied : (b : ℕ) (s : State) (m : Device) (k : Marks) → (cell_of s b).entry.pend ≢ Settled → AreMarks s.ptt s.btt k
-    → AreMarks (copied b s m).ptt (copied b s m).btt k
+pub AreWorkCounts-copied : (b : ℕ) (s : State) (m : Device) (k : WorkCounts) → (cell_of s b).entry.pend ≢ Settled → AreWorkCounts s.ptt s.btt k
+    → AreWorkCounts (copied b s m).ptt (copied b s m).btt k
 unfolding copied
-AreMarks-copied b s m k pending marks =
+AreWorkCounts-copied b s m k pending marks =
     let c : Cell = cell_of s b in
     let there = found_entry block_key new_entry s.btt b c.i (listed-pending b s pending) in
     let is : c.entry ≡ there.0 = entry_for-some block_key new_entry s.btt b c.i there.0 (listed-pending b s pending) there.1 in
@@ -57,10 +57,10 @@ AreMarks-copied b s m k pending marks =
     record { overlaid_is = marks.overlaid_is ∙ sym same; promoted_is = marks.promoted_is }
 
 -- nor does the write of a page
-pub AreMarks-issued : (b : ℕ) (s : State) (m : Device) (k : Marks) → (cell_of s b).page.busy ≡ true → AreMarks s.ptt s.btt k
-    → AreMarks (issued b s m).ptt (issued b s m).btt k
+pub AreWorkCounts-issued : (b : ℕ) (s : State) (m : Device) (k : WorkCounts) → (cell_of s b).page.busy ≡ true → AreWorkCounts s.ptt s.btt k
+    → AreWorkCounts (issued b s m).ptt (issued b s m).btt k
 unfolding issued
-AreMarks-issued b s m k busy marks =
+AreWorkCounts-issued b s m k busy marks =
     let framed : (n : ℕ) → block_is_framed (issued b s m).ptt n ≡ block_is_framed s.ptt n
     = λ n. cell-issued b s busy m (λ c d. is_framed d.page ≡ is_framed c.page) n (λ q. refl) (λ o. refl) in
     record {
@@ -71,15 +71,15 @@ AreMarks-issued b s m k busy marks =
 -- a merge leaves one entry less over a frame
 module _ (b : ℕ) (s : State) (framed : is_framed (cell_of s b).page ≡ true) (over : (cell_of s b).entry.work ≡ InBuffer) where
   -- so there was one
-  pub overlaid-some : (k : Marks) → AreSoundTables s → b < memory_blocks s.p → s.under_way ≡ false → MergeKeeps → DirtyKeeps → AreMarks s.ptt s.btt k → 0 < k.overlaid
+  pub overlaid-some : (k : WorkCounts) → AreSoundTables s → b < memory_blocks s.p → s.under_way ≡ false → MergeKeeps → DirtyKeeps → AreWorkCounts s.ptt s.btt k → 0 < k.overlaid
   overlaid-some k t l idle merge others marks =
       let fewer : overlays (merged_block b s) + 1 ≡ overlays s = overlays-merged b s framed over t l idle merge others in
       omega (arith, fewer, marks.overlaid_is)
 
-  pub AreMarks-merged : (k now : Marks) → (t : AreSoundTables s) → b < memory_blocks s.p → s.under_way ≡ false → MergeKeeps → DirtyKeeps → AreMarks s.ptt s.btt k
-      → now.overlaid + 1 ≡ k.overlaid → now.promoted ≡ k.promoted → AreMarks (merged_block b s).ptt (merged_block b s).btt now
+  pub AreWorkCounts-merged : (k now : WorkCounts) → (t : AreSoundTables s) → b < memory_blocks s.p → s.under_way ≡ false → MergeKeeps → DirtyKeeps → AreWorkCounts s.ptt s.btt k
+      → now.overlaid + 1 ≡ k.overlaid → now.promoted ≡ k.promoted → AreWorkCounts (merged_block b s).ptt (merged_block b s).btt now
   unfolding merged_block
-  AreMarks-merged k now t l idle merge others marks less same =
+  AreWorkCounts-merged k now t l idle merge others marks less same =
       let fewer : overlays (merged_block b s) + 1 ≡ overlays s = overlays-merged b s framed over t l idle merge others in
       record {
         overlaid_is = omega (arith, fewer, less, marks.overlaid_is);

@@ -7,8 +7,8 @@ use Rattle.thy_control.specs.State.{State, AreSoundTables}
 use Rattle.thy_control.specs.Copies.{needs_copy}
 use Rattle.thy_control.specs.Pages.{needs_write}
 use Rattle.thy_control.specs.Holding.{is_promoted}
-use Rattle.thy_control.specs.Overlay.{is_overlaid, AreMarks}
-use Rattle.thy_control.specs.declared.overlay.Marks.{Marks}
+use Rattle.thy_control.specs.Overlay.{is_overlaid, AreWorkCounts}
+use Rattle.thy_control.specs.declared.overlay.WorkCounts.{WorkCounts}
 use Rattle.thy_control.specs.declared.cursors.Cursors.{Cursors}
 
 -- no entry below a place passes a test
@@ -23,7 +23,7 @@ pub record AreCursors (pages : Listing PttEntry) (blocks : Listing BttEntry) (c 
   pub promotions : NoneBelow is_promoted c.promotions pages
 
 -- what holds of the controller at every moment
-pub record IsControl (s : State) (m : Marks) (c : Cursors) : Type 0 where
+pub record IsControl (s : State) (m : WorkCounts) (c : Cursors) : Type 0 where
   pub tables : AreSoundTables s
-  pub marks : AreMarks s.ptt s.btt m
+  pub marks : AreWorkCounts s.ptt s.btt m
   pub cursors : AreCursors s.ptt s.btt c

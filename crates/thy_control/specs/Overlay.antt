@@ -14,7 +14,7 @@ use Rattle.thy_cell.specs.declared.cell.StoreRule.TheVariants.{ToFrame, ToBuffer
 use Rattle.thy_control.specs.State.{State, cell_of}
 use Rattle.thy_control.specs.Holding.{promoted}
 use Rattle.thy_control.specs.Seal.{block_is_framed}
-use Rattle.thy_control.specs.declared.overlay.Marks.{Marks}
+use Rattle.thy_control.specs.declared.overlay.WorkCounts.{WorkCounts}
 
 -- work is held in a buffer
 abbrev pub is_buffered : Working → Bool
@@ -52,6 +52,6 @@ covers ToNvm c = 0
 covers PendingFirst c = 0
 
 -- the numbers that the controller keeps are these
-pub record AreMarks (pages : Listing PttEntry) (blocks : Listing BttEntry) (m : Marks) : Type 0 where
+pub record AreWorkCounts (pages : Listing PttEntry) (blocks : Listing BttEntry) (m : WorkCounts) : Type 0 where
   pub overlaid_is : m.overlaid ≡ overlaid pages blocks
   pub promoted_is : m.promoted ≡ promoted pages

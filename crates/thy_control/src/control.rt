@@ -22,7 +22,7 @@ mod tables;
 mod writing;
 
 use crate::cursors::Cursors;
-use crate::overlay::Marks;
+use crate::overlay::WorkCounts;
 use crate::seal::{CommitBlocks, CommitPages, seal_blocks, seal_pages};
 use std::alloc::{AllocError, Global};
 use std::marker::Model;
@@ -48,7 +48,7 @@ pub struct Control {
     counts: Counts,
     under_way: bool,
     dram: Dram,
-    marks: Marks,
+    marks: WorkCounts,
     cursors: Cursors,
 }
 
@@ -226,7 +226,7 @@ impl Control {
             counts,
             under_way: false,
             dram,
-            marks: Marks {
+            marks: WorkCounts {
                 overlaid: 0,
                 promoted: 0,
             },
@@ -390,7 +390,7 @@ impl Control {
         seal_pages(&mut self.ptt, &self.counts);
         self.counts.reset();
         self.under_way = true;
-        self.marks = Marks::of(&self.btt, &self.ptt);
+        self.marks = WorkCounts::of(&self.btt, &self.ptt);
         self.cursors = Cursors::start();
     }
 
@@ -423,7 +423,7 @@ impl Control {
         self.btt.map_entries(&CommitBlocks);
         self.ptt.map_entries(&CommitPages);
         self.under_way = false;
-        self.marks = Marks::of(&self.btt, &self.ptt);
+        self.marks = WorkCounts::of(&self.btt, &self.ptt);
         self.cursors = Cursors::start();
     }
 

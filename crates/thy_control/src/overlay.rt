@@ -2,7 +2,7 @@
 ghost use Rattle.std.specs.Prelude.{◌≡◌, ◌<◌, ◌≤◌, ◌+◌, ◌^◌, length};
 ghost use Rattle.thy_table.specs.Listing.{entry_at, passes};
 ghost use Rattle.thy_control.specs.Holding.{is_promoted, promoted};
-ghost use Rattle.thy_control.specs.Overlay.{is_buffered, is_overlaid, overlaid, covers, AreMarks};
+ghost use Rattle.thy_control.specs.Overlay.{is_buffered, is_overlaid, overlaid, covers, AreWorkCounts};
 
 use crate::seal::block_is_framed;
 use thy_cell::{Cell, StoreRule};
@@ -10,35 +10,36 @@ use thy_tables::{Btt, Ptt, Working};
 
 /// What the controller counts, so that it can see in one step whether there is any.
 #[derive(Clone, Copy, Debug)]
-pub struct Marks {
+pub struct WorkCounts {
     /// Entries of the block table with work in a buffer over the frame of their page.
     pub overlaid: u64,
     /// Pages that are being promoted.
     pub promoted: u64,
 }
 
-impl Marks {
+impl WorkCounts {
     /// The numbers of both tables: it goes over all their entries.
-    pub fn of(btt: &Btt, ptt: &Ptt) -> Marks
-        ensures { AreMarks ptt.now btt.now result }
+    pub fn of(btt: &Btt, ptt: &Ptt) -> WorkCounts
+        ensures { AreWorkCounts ptt.now btt.now result }
     {
-        Marks {
+        WorkCounts {
             overlaid: count_overlaid(btt, ptt),
             promoted: count_promoted(ptt),
         }
     }
 
     /// The numbers after a store by a rule, by what the block was before.
-    pub fn after(self, rule: StoreRule, cell: &Cell) -> Marks
+    pub fn after(self, rule: StoreRule, cell: &Cell) -> WorkCounts
         requires { self.overlaid ≤ 2 ^ 32 }
         ensures overlaid { result.overlaid ≡ self.overlaid + covers rule cell.now }
         ensures promoted { result.promoted ≡ self.promoted }
     {
         match rule {
-            StoreRule::ToBuffer if cell.page.is_framed() && !is_buffered(cell.entry.work) => Marks {
-                overlaid: self.overlaid + 1,
-                ..self
-            },
+            StoreRule::ToBuffer if cell.page.is_framed() && !is_buffered(cell.entry.work) =>
+                WorkCounts {
+                    overlaid: self.overlaid + 1,
+                    ..self
+                },
             _ => self,
         }
     }

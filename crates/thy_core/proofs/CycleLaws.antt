@@ -10,7 +10,7 @@ use Rattle.thy_cache.specs.declared.line.Flushed.{Flushed}
 use Rattle.thy_cache.specs.Contents.{Contents, dirty_count}
 use Rattle.thy_hart.specs.declared.hand.HartStep.{HartStep}
 use Rattle.thy_hart.specs.Outcomes.{given}
-use Rattle.thy_hart.specs.Core.{Core}
+use Rattle.thy_hart.specs.HartState.{HartState}
 use Rattle.thy_hart.specs.Moments.{moment, brings_line, IsReady}
 use Rattle.thy_hart.specs.OneStep.{IsStep}
 use Rattle.thy_isa.specs.declared.state.Status.{Status}
@@ -28,32 +28,32 @@ use Rattle.thy_view.specs.Action.{Action, Rest, ReadAt, WriteAt, Barrier as ActB
 use Rattle.thy_view.specs.Origin.{Origin}
 use Rattle.thy_view.specs.Told.{IsThere}
 use Rattle.thy_view.specs.Turn.{Actor, Nvm, Dram, Checkpoint, TheHart, Pressure, Does, Prepares}
-use Rattle.thy_scheme.specs.declared.behind.Behind.{Behind}
-use Rattle.thy_scheme.specs.Behind.{failed_calls, held_behind, IsOneCall}
-use Rattle.thy_scheme.specs.Marks.{Marks}
+use Rattle.thy_scheme.specs.declared.scheme_store.SchemeStore.{SchemeStore}
+use Rattle.thy_scheme.specs.SchemeStore.{failed_calls, held_by_scheme, IsOneCall}
+use Rattle.thy_scheme.specs.CheckpointMarks.{CheckpointMarks}
 use Rattle.thy_scheme.specs.Scheme.{SchemeOf, StaysOf, Stands, IsBooting}
 use Rattle.thy_scheme.specs.Calls.{IsOneAccess, Merges, Promotes, PromotionFails, Drains, Seals, Engines, EngineFails, engine_did}
 use Rattle.thy_scheme.specs.Boots.{BootsOn, BootFails, BootDrains, boot_did}
 use Rattle.thy_scheme.specs.declared.boot_step.BootStep.{BootStep}
 use Rattle.thy_scheme.specs.declared.boot_step.BootStep.TheVariants.{GoesOn, Loaded, Restarted, Refused}
-use Rattle.thy_core.specs.declared.parts.Parts.{Parts}
-use Rattle.thy_core.specs.Parts.{machine_of, IsRestartBelow}
-use Rattle.thy_core_model.specs.Machine.{Machine, view_of, moment_of, pressure_of}
-use Rattle.thy_core_model.specs.Sound.{OpenNow, Sound}
-use Rattle.thy_core_model.specs.Calls.{IsAsked, HartCall, FlushCall, retires_by, hart_did, after_hart, after_flush, after_call, after_drain, after_seal, after_engine, after_boot}
-use Rattle.thy_core_model.specs.Rows.{IsMoment, At, HartGoes, IsSealing, Leads}
-use Rattle.thy_core.specs.Cycles.{IsEngineDue, IsTurnOf, IsCycle, HasFailedAs, LeadsAs, FailsAs}
-use Rattle.thy_core_model.proofs.Facts.{view-run, sound-run, holds-run, is-going}
-use Rattle.thy_core_model.proofs.KeepsLaws.{stands, runs_behind}
-use Rattle.thy_core_model.proofs.BootingLaws.{sound-boot, small-boot}
-use Rattle.thy_core_model.proofs.DrainRows.{nvm_drain_leads, nothing_leads, dram_drain_leads, boot_drain_leads}
-use Rattle.thy_core_model.proofs.CallRows.{merge_leads, promotion_leads}
-use Rattle.thy_core_model.proofs.EngineRow.{engine_leads}
-use Rattle.thy_core_model.proofs.FlushRow.{flush_leads}
-use Rattle.thy_core_model.proofs.SealRow.{standing, seal_leads}
-use Rattle.thy_core_model.proofs.HartCases.{hart-leads}
-use Rattle.thy_core_model.proofs.FailRows.{hart_fails, flush_fails, promotion_leaves, engine_leaves, boot_leaves, drain_fails}
-use Rattle.thy_core_model.proofs.BootRow.{boot_leads}
+use Rattle.thy_core.specs.declared.parts.MachineParts.{MachineParts}
+use Rattle.thy_core.specs.MachineParts.{machine_of, IsRestartBelow}
+use Rattle.thy_core_laws.specs.Machine.{Machine, view_of, moment_of, pressure_of}
+use Rattle.thy_core_laws.specs.Sound.{OpenNow, Sound}
+use Rattle.thy_core_laws.specs.Calls.{IsAsked, HartCall, FlushCall, retires_by, hart_did, after_hart, after_flush, after_call, after_drain, after_seal, after_engine, after_boot}
+use Rattle.thy_core_laws.specs.Rows.{IsMoment, At, HartGoes, IsSealing, SimulatesCycle}
+use Rattle.thy_core.specs.Cycles.{IsEngineDue, IsTurnOf, IsCycle, HasFailedAs, SimulatesAs, FailsAs}
+use Rattle.thy_core_laws.proofs.Facts.{view-run, sound-run, holds-run, is-going}
+use Rattle.thy_core_laws.proofs.KeepsLaws.{stands, runs_behind}
+use Rattle.thy_core_laws.proofs.BootingLaws.{sound-boot, small-boot}
+use Rattle.thy_core_laws.proofs.DrainRows.{nvm_drain_simulates, halt_simulates, dram_drain_simulates, boot_drain_simulates}
+use Rattle.thy_core_laws.proofs.CallRows.{merge_simulates, promotion_simulates}
+use Rattle.thy_core_laws.proofs.EngineRow.{engine_simulates}
+use Rattle.thy_core_laws.proofs.FlushRow.{flush_simulates}
+use Rattle.thy_core_laws.proofs.SealRow.{standing, seal_simulates}
+use Rattle.thy_core_laws.proofs.HartCases.{hart-simulates}
+use Rattle.thy_core_laws.proofs.FailRows.{hart_fails, flush_fails, promotion_leaves, engine_leaves, boot_leaves, drain_fails}
+use Rattle.thy_core_laws.proofs.BootRow.{boot_simulates}
 
 -- a call that failed
 pub on_err : {T E : Type 0} (r : Result T E) {P : Type 0} → P → OnErr r P
@@ -178,23 +178,23 @@ module _ {S : Type 0} (K : SchemeOf S) (o : Origin) (cycles : ℕ) (m : Machine 
   -- ---- the DRAM's queue
 
   drains_in : (phase : Phase) (t : S) → m.phase ≡ phase → 0 < K.queued m.scheme
-      → ((p : Origin) (k : Marks) (d : Device) → Stands K p k m.scheme d → Drains K p k m.scheme d t)
+      → ((p : Origin) (k : CheckpointMarks) (d : Device) → Stands K p k m.scheme d → Drains K p k m.scheme d t)
       → ((p : Origin) (d : Device) → IsBooting K p m.scheme d → BootDrains K p m.scheme d t)
-      → Leads K o cycles DramDrained m n (after_drain t m) n
+      → SimulatesCycle K o cycles DramDrained m n (after_drain t m) n
   drains_in Boot t e some running booting =
-      boot_drain_leads K o cycles m n t at e some (booting o n (record { boots = (sound-boot K o cycles m n at.sound e).boots; up = at.sound.up }))
+      boot_drain_simulates K o cycles m n t at e some (booting o n (record { boots = (sound-boot K o cycles m n at.sound e).boots; up = at.sound.up }))
   drains_in Run t e some running booting =
       let behind : m.phase ≢ Boot = λ b. absurd (cc) in
-      dram_drain_leads K o cycles m n t at behind some (running o m.marks n (stands K o cycles m n at.sound behind))
+      dram_drain_simulates K o cycles m n t at behind some (running o m.marks n (stands K o cycles m n at.sound behind))
   drains_in Halt t e some running booting =
       let behind : m.phase ≢ Boot = λ b. absurd (cc) in
-      dram_drain_leads K o cycles m n t at behind some (running o m.marks n (stands K o cycles m n at.sound behind))
+      dram_drain_simulates K o cycles m n t at behind some (running o m.marks n (stands K o cycles m n at.sound behind))
 
   pub drain_cycle : (t : S) → 0 < K.queued m.scheme
-      → ((p : Origin) (k : Marks) (d : Device) → Stands K p k m.scheme d → Drains K p k m.scheme d t)
+      → ((p : Origin) (k : CheckpointMarks) (d : Device) → Stands K p k m.scheme d → Drains K p k m.scheme d t)
       → ((p : Origin) (d : Device) → IsBooting K p m.scheme d → BootDrains K p m.scheme d t)
       → IsCycle K o cycles Dram DramDrained m n (after_drain t m) n
-  drain_cycle t some running booting = record { does = refl; due = tt; there = tt; leads = λ mine. drains_in m.phase t refl some running booting }
+  drain_cycle t some running booting = record { does = refl; due = tt; there = tt; simulates = λ mine. drains_in m.phase t refl some running booting }
 
   -- ---- the engine
 
@@ -208,18 +208,18 @@ module _ {S : Type 0} (K : SchemeOf S) (o : Origin) (cycles : ℕ) (m : Machine 
         does = does_engine m.lap step;
         due = due_engine m.lap step (pressure_of K m);
         there = there_engine o (view_of K o m n) m.lap step;
-        leads = λ mine. engine_leads K o cycles m n t new step at due.0 due.1 e;
+        simulates = λ mine. engine_simulates K o cycles m n t new step at due.0 due.1 e;
       }))
 
   -- ---- before a seal
 
   pub promotion_cycle : (t : S) (new : Device) → IsSealing K o m n → K.promoting m.scheme ≡ true → Promotes K o m.marks m.scheme n t new
       → IsCycle K o cycles (TheHart (Some Sealing)) Promoted m n (after_call t m) new
-  promotion_cycle t new sealing promoting p = record { does = refl; due = promoting; there = tt; leads = λ mine. promotion_leads K o cycles m n t new at sealing promoting p }
+  promotion_cycle t new sealing promoting p = record { does = refl; due = promoting; there = tt; simulates = λ mine. promotion_simulates K o cycles m n t new at sealing promoting p }
 
   pub merge_cycle : (t : S) → IsSealing K o m n → K.promoting m.scheme ≡ false → dirty_count m.cache ≡ 0 → K.overlaid m.scheme ≡ true → Merges K o m.marks m.scheme n t
       → IsCycle K o cycles (TheHart (Some Sealing)) Merged m n (after_call t m) n
-  merge_cycle t sealing whole clean overlaid p = record { does = refl; due = (whole, clean, overlaid); there = tt; leads = λ mine. merge_leads K o cycles m n t at sealing whole clean p }
+  merge_cycle t sealing whole clean overlaid p = record { does = refl; due = (whole, clean, overlaid); there = tt; simulates = λ mine. merge_simulates K o cycles m n t at sealing whole clean p }
 
   -- ---- the seal
 
@@ -235,7 +235,7 @@ module _ {S : Type 0} (K : SchemeOf S) (o : Origin) (cycles : ℕ) (m : Machine 
       subst (λ x. IsCycle K o cycles (TheHart (Some Sealing)) (Sealed epoch count cause) m n x n) (sym is)
       (subst (λ e. IsCycle K o cycles (TheHart (Some Sealing)) (Sealed e count cause) m n (after_seal t m) n) (sym number)
       (subst (λ i. IsCycle K o cycles (TheHart (Some Sealing)) (Sealed m.hart.epoch.number i cause) m n (after_seal t m) n) (sym at_count)
-      (record { does = refl; due = (whole, clean, bare); there = tt; leads = λ mine. seal_leads K o cycles m n t cause at sealing whole bare clean (sym over) p })))
+      (record { does = refl; due = (whole, clean, bare); there = tt; simulates = λ mine. seal_simulates K o cycles m n t cause at sealing whole bare clean (sym over) p })))
 
   -- ---- the hart
 
@@ -281,7 +281,7 @@ module _ {S : Type 0} (K : SchemeOf S) (o : Origin) (cycles : ℕ) (m : Machine 
       }
   there_hart goes false = tt
 
-  pub hart_cycle : (h : Core) (c : Contents) (t : S) (new : Device) (step : HartStep) (next : Machine S) (did : Did) → HartGoes K o m n
+  pub hart_cycle : (h : HartState) (c : Contents) (t : S) (new : Device) (step : HartStep) (next : Machine S) (did : Did) → HartGoes K o m n
       → HartCall K (given o.input (K.free m.scheme) (K.under_way m.scheme)) m n h c t new step
       → next ≡ after_hart step h c t m → did ≡ hart_did step → IsCycle K o cycles (TheHart None) did m n next new
   hart_cycle h c t new step next did goes hs is says =
@@ -291,14 +291,14 @@ module _ {S : Type 0} (K : SchemeOf S) (o : Origin) (cycles : ℕ) (m : Machine 
         does = does_hart (retires_by step);
         due = due_hart (retires_by step) (pressure_of K m);
         there = there_hart goes (retires_by step);
-        leads = hart-leads K o cycles m n h c t new step at goes hs;
+        simulates = hart-simulates K o cycles m n h c t new step at goes hs;
       }))
 
   -- ---- a flush
 
   pub flush_cycle : (c : Contents) (t : S) (new : Device) (flushed : Flushed) → IsSealing K o m n → K.promoting m.scheme ≡ false → dirty_count m.cache ≢ 0
       → FlushCall K m n flushed c t new → IsCycle K o cycles (TheHart (Some Sealing)) DidFlush m n (after_flush c t m) new
-  flush_cycle c t new flushed sealing whole dirty f = record { does = refl; due = (whole, dirty); there = tt; leads = λ mine. flush_leads K o cycles m n c t new flushed at sealing whole f }
+  flush_cycle c t new flushed sealing whole dirty f = record { does = refl; due = (whole, dirty); there = tt; simulates = λ mine. flush_simulates K o cycles m n c t new flushed at sealing whole f }
 
   -- ---- the boot
 
@@ -322,17 +322,17 @@ module _ {S : Type 0} (K : SchemeOf S) (o : Origin) (cycles : ℕ) (m : Machine 
         does = does_boot step;
         due = due_boot step (pressure_of K m);
         there = there_boot o (view_of K o m n) step;
-        leads = λ mine. boot_leads K o cycles m n t new step at e b;
+        simulates = λ mine. boot_simulates K o cycles m n t new step at e b;
       }))
 
   -- ---- the NVM's queue, and nothing
 
   pub land_cycle : (new : Device) → 0 < length n.queue → new ≡ drained n → IsCycle K o cycles Nvm NvmDrained m n m new
   land_cycle new some is =
-      subst (λ d. IsCycle K o cycles Nvm NvmDrained m n m d) (sym is) (record { does = refl; due = tt; there = tt; leads = λ mine. nvm_drain_leads K o cycles m n at some })
+      subst (λ d. IsCycle K o cycles Nvm NvmDrained m n m d) (sym is) (record { does = refl; due = tt; there = tt; simulates = λ mine. nvm_drain_simulates K o cycles m n at some })
 
   pub rest_cycle : m.phase ≡ Halt → IsCycle K o cycles (TheHart (Some Halted)) Nothing m n m n
-  rest_cycle e = record { does = refl; due = tt; there = tt; leads = λ mine. nothing_leads K o cycles m n at e }
+  rest_cycle e = record { does = refl; due = tt; there = tt; simulates = λ mine. halt_simulates K o cycles m n at e }
 
 -- ---- the engine works for a hart that waits
 
@@ -355,17 +355,17 @@ waits_does (DidRefuse bad) d = absurd (cc)
 
 pub waits_cycle : {S : Type 0} (K : SchemeOf S) (o : Origin) (cycles : ℕ) (did : Did) (m next : Machine S) (n new : Device)
     → IsCycle K o cycles Checkpoint did m n next new → IsCycle K o cycles (TheHart (Some Waiting)) did m n next new
-waits_cycle K o cycles did m next n new c = record { does = waits_does did c.does; due = c.due; there = c.there; leads = c.leads }
+waits_cycle K o cycles did m next n new c = record { does = waits_does did c.does; due = c.due; there = c.there; simulates = c.simulates }
 
 pub waits_failed : {S : Type 0} (K : SchemeOf S) (o : Origin) (m next : Machine S) (n new : Device)
     → HasFailedAs K o Checkpoint m next n new → HasFailedAs K o (TheHart (Some Waiting)) m next n new
 waits_failed K o m next n new f = record { did = f.did; does = waits_does f.did f.does; due = f.due; fails = f.fails; hart = f.hart }
 
 -- so it is by a result
-pub waits_leads : {S : Type 0} (K : SchemeOf S) (o : Origin) (cycles : ℕ) (m next : Machine S) (n new : Device) (r : Result Did NvmError)
+pub waits_simulates : {S : Type 0} (K : SchemeOf S) (o : Origin) (cycles : ℕ) (m next : Machine S) (n new : Device) (r : Result Did NvmError)
     → IfOk r (λ did. IsCycle K o cycles Checkpoint did m n next new) → IfOk r (λ did. IsCycle K o cycles (TheHart (Some Waiting)) did m n next new)
-waits_leads K o cycles m next n new (Ok did) c = waits_cycle K o cycles did m next n new c
-waits_leads K o cycles m next n new (Err e) c = tt
+waits_simulates K o cycles m next n new (Ok did) c = waits_cycle K o cycles did m next n new c
+waits_simulates K o cycles m next n new (Err e) c = tt
 
 pub waits_fails : {S : Type 0} (K : SchemeOf S) (o : Origin) (m next : Machine S) (n new : Device) (r : Result Did NvmError)
     → OnErr r (HasFailedAs K o Checkpoint m next n new) → OnErr r (HasFailedAs K o (TheHart (Some Waiting)) m next n new)
@@ -375,10 +375,10 @@ waits_fails K o m next n new (Err e) f = waits_failed K o m next n new f
 -- ---- a call through the store of blocks
 
 -- what it asked for
-abbrev pub CalledOnce : {S N : Type 0} → SchemeOf S → (N → Device) → Behind S → N → Behind S → N → Type 0
+abbrev pub CalledOnce : {S N : Type 0} → SchemeOf S → (N → Device) → SchemeStore S → N → SchemeStore S → N → Type 0
 CalledOnce K device a x b y = ((b ≡ a) × (y ≡ x)) ⊎ IsOneCall K a.scheme (device x) b.scheme (device y)
 
-pub asked_once : {S N : Type 0} (K : SchemeOf S) (device : N → Device) (a b : Behind S) (x y : N) → CalledOnce K device a x b y
+pub asked_once : {S N : Type 0} (K : SchemeOf S) (device : N → Device) (a b : SchemeStore S) (x y : N) → CalledOnce K device a x b y
     → IsAsked K a.scheme (device x) b.scheme (device y)
 asked_once K device a b x y (inl same) = inl (ap (λ s. s.scheme) same.0, ap device same.1)
 asked_once K device a b x y (inr once) = inr once.access
@@ -386,7 +386,7 @@ asked_once K device a b x y (inr once) = inr once.access
 framed_same : (n : Device) → IsFramed n n
 framed_same n = record { blocks = refl; left = refl; picks = refl; queue_room = refl; left_room = refl; fits = refl; lent = refl }
 
-pub framed_once : {S N : Type 0} (K : SchemeOf S) (device : N → Device) (a b : Behind S) (x y : N) → CalledOnce K device a x b y
+pub framed_once : {S N : Type 0} (K : SchemeOf S) (device : N → Device) (a b : SchemeStore S) (x y : N) → CalledOnce K device a x b y
     → IsFramed (device x) (device y)
 framed_once K device a b x y (inl same) = subst (λ z. IsFramed (device x) (device z)) (sym same.1) (framed_same (device x))
 framed_once K device a b x y (inr once) = once.access.frame
@@ -397,7 +397,7 @@ down_now old true up rose = refl
 down_now true false up rose = absurd (cc)
 down_now false false up rose = absurd (let more = rose.more in omega (arith, more))
 
-pub failed_once : {S N : Type 0} (K : SchemeOf S) (device : N → Device) (a b : Behind S) (x y : N) → (device x).down ≡ false
+pub failed_once : {S N : Type 0} (K : SchemeOf S) (device : N → Device) (a b : SchemeStore S) (x y : N) → (device x).down ≡ false
     → CalledOnce K device a x b y → Rose (failed_calls (device x)) (failed_calls (device y))
     → IsOneCall K a.scheme (device x) b.scheme (device y) × ((device y).down ≡ true)
 failed_once K device a b x y up (inl same) rose =
@@ -422,7 +422,7 @@ faults_after ActBarrier n = refl
 faults_after Drain n = refl
 
 -- one that did not has counted no failure
-pub kept_once : {S N : Type 0} (K : SchemeOf S) (device : N → Device) (a b : Behind S) (x y : N) → (device x).down ≡ false
+pub kept_once : {S N : Type 0} (K : SchemeOf S) (device : N → Device) (a b : SchemeStore S) (x y : N) → (device x).down ≡ false
     → CalledOnce K device a x b y → failed_calls (device y) ≡ failed_calls (device x) → (device y).faults ≡ (device x).faults
 kept_once K device a b x y up (inl same) e = ap (λ z. (device z).faults) same.1
 kept_once K device a b x y up (inr once) e =
@@ -431,41 +431,41 @@ kept_once K device a b x y up (inr once) e =
 
 -- ---- a step of the hart
 
-rests_by : {S N : Type 0} (K : SchemeOf S) (a b : Behind S) (x y : N) → ((b ≡ a) × (y ≡ x)) ⊎ (b.scheme ≡ a.scheme) → K.rested b.scheme ≡ K.rested a.scheme
-rests_by K a b x y (inl same) = ap (λ s. K.rested s.scheme) same.0
-rests_by K a b x y (inr same) = ap K.rested same
+rests_by : {S N : Type 0} (K : SchemeOf S) (a b : SchemeStore S) (x y : N) → ((b ≡ a) × (y ≡ x)) ⊎ (b.scheme ≡ a.scheme) → K.storeless b.scheme ≡ K.storeless a.scheme
+rests_by K a b x y (inl same) = ap (λ s. K.storeless s.scheme) same.0
+rests_by K a b x y (inr same) = ap K.storeless same
 
 given_is : (input other : List ℕ) (free before : ℕ) (way under : Bool) → other ≡ input → free ≡ before → way ≡ under
     → given input free way ≡ given other before under
 given_is input other free before way under i f w =
     ap (λ x. given x free way) (sym i) ∙ ap (λ x. given other x way) f ∙ ap (λ x. given other before x) w
 
-pub hart_call : {S N : Type 0} (K : SchemeOf S) (device : N → Device) (o : Origin) (p : Parts S) (b : Behind S) (x y : N) (h : Core) (c : Contents)
-    (step : HartStep) (input : List ℕ) (free : ℕ) (way : Bool) → o.input ≡ input → free ≡ K.free p.behind.scheme → way ≡ K.under_way p.behind.scheme
-    → IsStep (given input free way) (moment_of K (machine_of p) (device x)) (moment h c (held_behind K b.scheme (device y))) step
-    → CalledOnce K device p.behind x b y → K.stays p.behind.scheme (device x) b.scheme (device y)
-    → (brings_line (moment_of K (machine_of p) (device x)) ≡ false → (b ≡ p.behind) × (y ≡ x))
-    → (dirty_count p.cache ≡ 0 → ((b ≡ p.behind) × (y ≡ x)) ⊎ (b.scheme ≡ p.behind.scheme))
-    → HartCall K (given o.input (K.free p.behind.scheme) (K.under_way p.behind.scheme)) (machine_of p) (device x) h c b.scheme (device y) step
+pub hart_call : {S N : Type 0} (K : SchemeOf S) (device : N → Device) (o : Origin) (p : MachineParts S) (b : SchemeStore S) (x y : N) (h : HartState) (c : Contents)
+    (step : HartStep) (input : List ℕ) (free : ℕ) (way : Bool) → o.input ≡ input → free ≡ K.free p.store.scheme → way ≡ K.under_way p.store.scheme
+    → IsStep (given input free way) (moment_of K (machine_of p) (device x)) (moment h c (held_by_scheme K b.scheme (device y))) step
+    → CalledOnce K device p.store x b y → K.stays p.store.scheme (device x) b.scheme (device y)
+    → (brings_line (moment_of K (machine_of p) (device x)) ≡ false → (b ≡ p.store) × (y ≡ x))
+    → (dirty_count p.cache ≡ 0 → ((b ≡ p.store) × (y ≡ x)) ⊎ (b.scheme ≡ p.store.scheme))
+    → HartCall K (given o.input (K.free p.store.scheme) (K.under_way p.store.scheme)) (machine_of p) (device x) h c b.scheme (device y) step
 hart_call K device o p b x y h c step input free way i f w s once stays untouched loads =
-    let same = given_is input o.input free (K.free p.behind.scheme) way (K.under_way p.behind.scheme) i f w in
-    let is_step = subst (λ g. IsStep g (moment_of K (machine_of p) (device x)) (moment h c (held_behind K b.scheme (device y))) step) same s in
+    let same = given_is input o.input free (K.free p.store.scheme) way (K.under_way p.store.scheme) i f w in
+    let is_step = subst (λ g. IsStep g (moment_of K (machine_of p) (device x)) (moment h c (held_by_scheme K b.scheme (device y))) step) same s in
     record {
       is_step = is_step;
-      asked = asked_once K device p.behind b x y once;
+      asked = asked_once K device p.store b x y once;
       stays = stays;
       untouched = λ none. let kept = untouched none in (ap (λ s. s.scheme) kept.0, ap device kept.1);
       tidy = is_step.tidy;
-      rests = λ clean. rests_by K p.behind b x y (loads clean);
+      rests = λ clean. rests_by K p.store b x y (loads clean);
     }
 
 -- ---- the turn by another name
 
-pub leads_is : {S : Type 0} (K : SchemeOf S) (P Q : Origin → Type 0) (a b : Actor) (m next : Machine S) (n new : Device) (r : Result Did NvmError)
-    → b ≡ a → ((o : Origin) → Q o → P o) → LeadsAs K P a m n next new r → LeadsAs K Q b m n next new r
-leads_is K P Q a b m next n new r e kind leads = λ o cycles q at turn.
+pub simulates_is : {S : Type 0} (K : SchemeOf S) (P Q : Origin → Type 0) (a b : Actor) (m next : Machine S) (n new : Device) (r : Result Did NvmError)
+    → b ≡ a → ((o : Origin) → Q o → P o) → SimulatesAs K P a m n next new r → SimulatesAs K Q b m n next new r
+simulates_is K P Q a b m next n new r e kind simulates = λ o cycles q at turn.
     subst (λ x. IfOk r (λ did. IsCycle K o cycles x did m n next new)) (sym e)
-    (leads o cycles (kind o q) at (subst (IsTurnOf K o m n) e turn))
+    (simulates o cycles (kind o q) at (subst (IsTurnOf K o m n) e turn))
 
 pub fails_is : {S : Type 0} (K : SchemeOf S) (P Q : Origin → Type 0) (a b : Actor) (m next : Machine S) (n new : Device) (r : Result Did NvmError)
     → b ≡ a → ((o : Origin) → Q o → P o) → FailsAs K P a m n next new r → FailsAs K Q b m n next new r

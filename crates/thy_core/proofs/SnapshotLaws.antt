@@ -13,7 +13,7 @@ use Rattle.thy_flat.specs.Flat.{flat, console_bytes}
 use Rattle.thy_flat.proofs.FlatLemmas.{flat-take}
 use Rattle.thy_flat.proofs.MemoryLaws.{room_inside}
 use Rattle.thy_hart.specs.declared.hand.Hand.TheVariants.{Nothing}
-use Rattle.thy_hart.specs.Core.{Core, has_written}
+use Rattle.thy_hart.specs.HartState.{HartState, has_written}
 use Rattle.thy_hart.specs.Laws.{IsSized}
 use Rattle.thy_hart.specs.OneStep.{current}
 use Rattle.thy_isa.specs.declared.state.CpuState.{CpuState}
@@ -29,15 +29,15 @@ use Rattle.thy_view.specs.Origin.{Origin, at}
 use Rattle.thy_view.specs.Views.{is_boot, is_halt, is_between}
 use Rattle.thy_scheme.specs.Scheme.{SchemeOf, CanRun}
 use Rattle.thy_scheme.specs.Laws.{IsLawful, IsCommitted}
-use Rattle.thy_core_model.specs.Kind.{kind_over}
-use Rattle.thy_core_model.specs.Machine.{Machine, memory_of, run_view, view_in, view_of}
-use Rattle.thy_core_model.specs.Sound.{SoundRun, SoundIn, Sound, SoundStopped}
+use Rattle.thy_core_laws.specs.Kind.{kind_over}
+use Rattle.thy_core_laws.specs.Machine.{Machine, memory_of, run_view, view_in, view_of}
+use Rattle.thy_core_laws.specs.Sound.{SoundRun, SoundIn, Sound, SoundStopped}
 use Rattle.thy_core.specs.Reading.{IsRoomy, IsUnwritten, ReadsState}
-use Rattle.thy_core_model.proofs.MomentLaws.{sound-here}
+use Rattle.thy_core_laws.proofs.MomentLaws.{sound-here}
 use Rattle.thy_core.proofs.TakenLaws.{phase_in}
 
 -- the bytes of memory and console make the state
-pub state_read : (h : Core) (blocks : List Block) (s : State) (n : ℕ) (memory console : List ℕ) → IsSized h blocks
+pub state_read : (h : HartState) (blocks : List Block) (s : State) (n : ℕ) (memory console : List ℕ) → IsSized h blocks
     → n ≡ 64 * (h.geometry.pages - h.geometry.console) → s ≡ state_with h.cpu memory console → memory ≡ flat (drop 0 (take n blocks))
     → console ≡ drop 0 (console_bytes h.geometry blocks h.cpu.console_len) → s ≡ current h blocks
 unfolding current state_from

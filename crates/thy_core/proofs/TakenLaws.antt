@@ -15,18 +15,18 @@ use Rattle.thy_view.specs.Turn.{Actor, Does, told_at, turn_of}
 use Rattle.thy_view.specs.Views.{is_halt}
 use Rattle.thy_scheme.specs.Scheme.{SchemeOf}
 use Rattle.thy_scheme.specs.Laws.{IsLawful}
-use Rattle.thy_core_model.specs.Machine.{Machine, view_in, view_of, pressure_of}
-use Rattle.thy_core_model.specs.Sound.{Sound, IsAt}
-use Rattle.thy_core_model.specs.Kind.{kind_over}
-use Rattle.thy_core_model.specs.Rows.{IsMoment, At}
+use Rattle.thy_core_laws.specs.Machine.{Machine, view_in, view_of, pressure_of}
+use Rattle.thy_core_laws.specs.Sound.{Sound, IsAt}
+use Rattle.thy_core_laws.specs.Kind.{kind_over}
+use Rattle.thy_core_laws.specs.Rows.{IsMoment, At}
 use Rattle.thy_core.specs.Turns.{turn_now}
 use Rattle.thy_core.specs.Cycles.{IsTurnOf, IsCycle, HasFailedAs}
 use Rattle.thy_view.proofs.TurnLaws.{Begins-told}
 use Rattle.thy_view.proofs.ReachLaws.{finds-turns}
-use Rattle.thy_core_model.proofs.Facts.{view-run}
-use Rattle.thy_core_model.proofs.MomentLaws.{sound-here, view-alike, leads_to_moment}
-use Rattle.thy_core_model.proofs.BootingLaws.{view-boot, holds-boot, uncounted}
-use Rattle.thy_core_model.proofs.StepLaws.{leading_is_step, failing_is_safe}
+use Rattle.thy_core_laws.proofs.Facts.{view-run}
+use Rattle.thy_core_laws.proofs.MomentLaws.{sound-here, view-alike, leads_to_moment}
+use Rattle.thy_core_laws.proofs.BootingLaws.{view-boot, holds-boot, uncounted}
+use Rattle.thy_core_laws.proofs.StepLaws.{simulating_is_step, failing_is_safe}
 use Rattle.thy_core.proofs.TurnLaws.{turn_is, at_turn}
 
 pub at_run : {S : Type 0} (K : SchemeOf S) (l : IsLawful K) (o : Origin) (cycles : ℕ) (m : Machine S) (n : Device) → Sound K o cycles m n → cycles < 2 ^ 62
@@ -59,9 +59,9 @@ pub step_taken : {S : Type 0} (K : SchemeOf S) (o : Origin) (cycles : ℕ) (pick
 step_taken K o cycles pick nvm actor m next n new r at queued is c mine at_next stall ended =
     let turn = actor_is K o cycles pick nvm actor m n (moment_of K o cycles m n at) queued is in
     let before = phase_in K at.lawful o cycles m n m.phase at.sound refl in
-    let leads = c.leads mine in
-    let behind = phase_in K at.lawful o (cycles + 1) next new next.phase leads.at_next refl in
-    leading_is_step K o cycles pick m next n new r at leads at_next
+    let simulates = c.simulates mine in
+    let behind = phase_in K at.lawful o (cycles + 1) next new next.phase simulates.at_next refl in
+    simulating_is_step K o cycles pick m next n new r at simulates at_next
     (subst (Does r.did) turn c.does, stall ∙ ap told_at turn, c.due)
     (ended ∙ ap (λ x. not (is_halt x) && is_halt next.phase) (sym before)
     ∙ ap (λ x. not (is_halt (view_of K o m n).phase) && is_halt x) (sym behind))
@@ -81,7 +81,7 @@ steps_taken K l o cycles pick nvm actor start m next n new r few begins at queue
       λ mine.
           step_taken K o cycles pick nvm actor m next n new r (at_run K l o cycles m n here few) queued is c mine
           (leads_to_moment K o cycles r.did m next n new l
-          (λ turns agree theirs. (cycle (told o turns) (Begins-told o turns start begins) (at turns agree)).leads theirs) mine)
+          (λ turns agree theirs. (cycle (told o turns) (Begins-told o turns start begins) (at turns agree)).simulates theirs) mine)
           stall ended,
     )
 
@@ -93,7 +93,7 @@ unfailed_after K l o cycles actor start m next n new did begins at cycle =
     let found = finds-turns o (view_of K o m n) did (cycle o begins (sound-here K o cycles m n at)).there in
     let theirs : HasTurn (told o found.0) (view_of K (told o found.0) m n) did
     = subst (λ (v : View). HasTurn (told o found.0) v did) (sym (view-alike K l o found.0 m n)) found.2 in
-    ((cycle (told o found.0) (Begins-told o found.0 start begins) (at found.0 found.1)).leads theirs).at_next.unfailed
+    ((cycle (told o found.0) (Begins-told o found.0 start begins) (at found.0 found.1)).simulates theirs).at_next.unfailed
 
 pub step_failed : {S : Type 0} (K : SchemeOf S) (o : Origin) (cycles : ℕ) (pick : Pick) (nvm : ℕ) (actor : Actor) (m next : Machine S) (n new : Device)
     → IsMoment K o cycles m n → nvm ≡ length n.queue → actor ≡ turn_now K pick nvm m → HasFailedAs K o actor m next n new

@@ -11,9 +11,9 @@ use Rattle.thy_view.specs.Origin.{Origin, Begins}
 use Rattle.thy_view.specs.Told.{IsThere, HasTurn}
 use Rattle.thy_view.specs.Turn.{Actor, Nvm, Dram, Checkpoint, TheHart, Does, Prepares}
 use Rattle.thy_scheme.specs.Scheme.{SchemeOf}
-use Rattle.thy_core_model.specs.Machine.{Machine, view_of, pressure_of}
-use Rattle.thy_core_model.specs.Rows.{IsMoment, At, HartGoes, IsSealing, Leads}
-use Rattle.thy_core_model.specs.Failures.{Fails}
+use Rattle.thy_core_laws.specs.Machine.{Machine, view_of, pressure_of}
+use Rattle.thy_core_laws.specs.Rows.{IsMoment, At, HartGoes, IsSealing, SimulatesCycle}
+use Rattle.thy_core_laws.specs.Failures.{Fails}
 
 -- a checkpoint is under way, after the boot
 abbrev pub IsEngineDue : {S : Type 0} → SchemeOf S → Machine S → Type 0
@@ -57,7 +57,7 @@ pub record IsCycle {S : Type 0} (K : SchemeOf S) (o : Origin) (cycles : ℕ) (ac
   pub does : Does did actor
   pub due : Prepares did (pressure_of K m)
   pub there : IsThere o (view_of K o m n) did
-  pub leads : HasTurn o (view_of K o m n) did → Leads K o cycles did m n next new
+  pub simulates : HasTurn o (view_of K o m n) did → SimulatesCycle K o cycles did m n next new
 
 -- a cycle of the actor's failed, and leaves what is safe, and the hart as it was
 pub record HasFailedAs {S : Type 0} (K : SchemeOf S) (o : Origin) (actor : Actor) (m next : Machine S) (n new : Device) : Type 0 where
@@ -68,8 +68,8 @@ pub record HasFailedAs {S : Type 0} (K : SchemeOf S) (o : Origin) (actor : Actor
   pub hart : next.hart ≡ m.hart
 
 -- this holds in every run of this kind
-abbrev pub LeadsAs : {S : Type 0} → SchemeOf S → (Origin → Type 0) → Actor → Machine S → Device → Machine S → Device → Result Did NvmError → Type 0
-LeadsAs K P actor m n next new result =
+abbrev pub SimulatesAs : {S : Type 0} → SchemeOf S → (Origin → Type 0) → Actor → Machine S → Device → Machine S → Device → Result Did NvmError → Type 0
+SimulatesAs K P actor m n next new result =
     (o : Origin) (cycles : ℕ) → P o → At K o cycles m n → IsTurnOf K o m n actor
     → IfOk result (λ did. IsCycle K o cycles actor did m n next new)
 

@@ -1,4 +1,4 @@
-pub mod Parts
+pub mod MachineParts
 pub mod Turns
 pub mod Cycles
 pub mod Reading

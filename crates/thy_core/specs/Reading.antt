@@ -4,20 +4,20 @@ use Rattle.thy_base.specs.declared.block.Block.{Block}
 use Rattle.thy_base.specs.declared.config.Parameters.{Parameters}
 use Rattle.thy_base.specs.Device.{Device}
 use Rattle.thy_base.specs.Geometry.{IsInRange, memory_blocks, console_room}
-use Rattle.thy_hart.specs.Core.{has_written}
+use Rattle.thy_hart.specs.HartState.{has_written}
 use Rattle.thy_isa.specs.declared.state.MachState.{MachState}
 use Rattle.thy_view.specs.declared.error.CoreError.{CoreError}
 use Rattle.thy_view.specs.Kind.{IsSnapshot}
 use Rattle.thy_view.specs.Origin.{Origin}
 use Rattle.thy_view.specs.Views.{is_boot}
 use Rattle.thy_scheme.specs.Scheme.{SchemeOf}
-use Rattle.thy_core.specs.declared.reading.Version.{Version}
-use Rattle.thy_core.specs.declared.reading.Version.TheVariants.{Executing, Committed}
-use Rattle.thy_core_model.specs.Machine.{Machine, memory_of, view_of}
-use Rattle.thy_core_model.specs.Sound.{Sound}
+use Rattle.thy_core.specs.declared.reading.MemoryVersion.{MemoryVersion}
+use Rattle.thy_core.specs.declared.reading.MemoryVersion.TheVariants.{Executing, Committed}
+use Rattle.thy_core_laws.specs.Machine.{Machine, memory_of, view_of}
+use Rattle.thy_core_laws.specs.Sound.{Sound}
 
 -- memory in a version
-abbrev pub blocks_in : {S : Type 0} → SchemeOf S → Version → Machine S → Device → List Block
+abbrev pub blocks_in : {S : Type 0} → SchemeOf S → MemoryVersion → Machine S → Device → List Block
 blocks_in K Executing m n = memory_of K m n
 blocks_in K Committed m n = K.committed m.scheme n
 

@@ -6,11 +6,11 @@ ghost use Rattle.thy_view.specs.declared.did.Stall.TheVariants.{Booting};
 ghost use Rattle.thy_view.specs.Origin.{Origin, Begins};
 ghost use Rattle.thy_view.specs.Turn.{TheHart};
 ghost use Rattle.thy_scheme.specs.Boots.{boot_did};
-ghost use Rattle.thy_core_model.specs.Calls.{running_from, after_boot};
-ghost use Rattle.thy_core.specs.Cycles.{HasStart, CanTake, LeadsAs, FailsAs};
-ghost use Rattle.thy_core.specs.Parts.{machine_of, IsRestartBelow};
+ghost use Rattle.thy_core_laws.specs.Calls.{running_from, after_boot};
+ghost use Rattle.thy_core.specs.Cycles.{HasStart, CanTake, SimulatesAs, FailsAs};
+ghost use Rattle.thy_core.specs.MachineParts.{machine_of, IsRestartBelow};
 
-use crate::parts::{Checkpoints, Consoles, Parts};
+use crate::parts::{Checkpoints, Consoles, MachineParts};
 use crate::sealing::runs;
 use thy_base::{Mark, Nvm, NvmError};
 use thy_hart::Hart;
@@ -21,26 +21,26 @@ use thy_view::{Did, Phase};
 
 /// Takes one action of the boot.
 pub(crate) fn boot<N: Nvm, S: Scheme>(
-    m: &mut Parts<S>,
+    m: &mut MachineParts<S>,
     start: &Start,
     nvm: &mut N,
 ) -> Result<Did, NvmError>
     requires { CanTake S.scheme (HasStart start.now) (TheHart (Some Booting)) (machine_of m.old) (N.device nvm.old) }
-    ensures leads { LeadsAs S.scheme (HasStart start.now) (TheHart (Some Booting))
+    ensures simulates { SimulatesAs S.scheme (HasStart start.now) (TheHart (Some Booting))
         (machine_of m.old) (N.device nvm.old) (machine_of m.new) (N.device nvm.new) result }
     ensures fails { FailsAs S.scheme (HasStart start.now) (TheHart (Some Booting))
         (machine_of m.old) (N.device nvm.old) (machine_of m.new) (N.device nvm.new) result }
     ensures frame { IsFramed (N.device nvm.old) (N.device nvm.new) }
     ensures cause { CountsFault result (N.device nvm.old).faults (N.device nvm.new).faults }
 {
-    let step = m.behind.scheme.boot_step(start, nvm)?;
+    let step = m.store.scheme.boot_step(start, nvm)?;
     Ok(boot_on(m, start, step))
 }
 
 /// Notes what the boot did: after its last step the hart is at the checkpoint that was loaded or restored.
-fn boot_on<S>(m: &mut Parts<S>, start: &Start, step: BootStep) -> Did
+fn boot_on<S>(m: &mut MachineParts<S>, start: &Start, step: BootStep) -> Did
     requires { IsRestartBelow (2 ^ 64 - 1) step }
-    ensures parts { (o : Origin) → Begins o start.now → machine_of m.new ≡ after_boot o step m.old.behind.scheme (machine_of m.old) }
+    ensures parts { (o : Origin) → Begins o start.now → machine_of m.new ≡ after_boot o step m.old.store.scheme (machine_of m.old) }
     ensures did { result ≡ boot_did step }
 {
     match step {
@@ -58,9 +58,9 @@ fn boot_on<S>(m: &mut Parts<S>, start: &Start, step: BootStep) -> Did
 }
 
 /// Begins to execute after the checkpoint of an epoch, with this processor.
-fn run_from<S>(m: &mut Parts<S>, cpu: &CpuState, epoch: u64)
+fn run_from<S>(m: &mut MachineParts<S>, cpu: &CpuState, epoch: u64)
     requires { epoch + 1 < 2 ^ 64 }
-    ensures { machine_of m.new ≡ running_from cpu.now epoch m.old.behind.scheme (machine_of m.old) }
+    ensures { machine_of m.new ≡ running_from cpu.now epoch m.old.store.scheme (machine_of m.old) }
 {
     let geometry = *m.hart.geometry();
     m.hart = Hart::new(cpu, epoch + 1, &geometry);

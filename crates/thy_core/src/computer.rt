@@ -10,8 +10,8 @@ use thy_scheme::Scheme;
 use thy_view::{Computer, CoreError, Stepped};
 
 impl<S: Scheme> Computer for Machine<S> {
-    ghost use Rattle.thy_core_model.specs.Kind.{kind_over};
-    ghost use Rattle.thy_core_model.proofs.LawfulLaws.{machine_is_lawful};
+    ghost use Rattle.thy_core_laws.specs.Kind.{kind_over};
+    ghost use Rattle.thy_core_laws.proofs.LawfulLaws.{machine_is_lawful};
 
     ghost kind = { kind_over S.scheme };
 

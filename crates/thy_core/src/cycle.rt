@@ -3,13 +3,13 @@ ghost use Rattle.std.specs.Prelude.{Ok, Some};
 ghost use Rattle.thy_base.specs.Device.{IsFramed, CountsFault};
 ghost use Rattle.thy_view.specs.declared.did.Stall.TheVariants.{Waiting, Halted};
 ghost use Rattle.thy_view.specs.Turn.{Nvm, TheHart};
-ghost use Rattle.thy_core.specs.Cycles.{IsAnyRun, HasStart, CanTake, LeadsAs, FailsAs};
-ghost use Rattle.thy_core.specs.Parts.{machine_of, actor_seen};
+ghost use Rattle.thy_core.specs.Cycles.{IsAnyRun, HasStart, CanTake, SimulatesAs, FailsAs};
+ghost use Rattle.thy_core.specs.MachineParts.{machine_of, actor_seen};
 
 use crate::boot::boot;
 use crate::engine::{checkpoint, drain};
 use crate::hart::execute;
-use crate::parts::Parts;
+use crate::parts::MachineParts;
 use crate::sealing::prepare;
 use crate::turn::Actor;
 use thy_base::{Nvm, NvmError};
@@ -19,13 +19,13 @@ use thy_view::{Did, Stall};
 
 /// Takes the cycle of the actor whose turn it is. The engine works for a hart that waits.
 pub(crate) fn cycle<N: Nvm, S: Scheme>(
-    m: &mut Parts<S>,
+    m: &mut MachineParts<S>,
     actor: Actor,
     start: &Start,
     nvm: &mut N,
 ) -> Result<Did, NvmError>
     requires { CanTake S.scheme (HasStart start.now) (actor_seen actor) (machine_of m.old) (N.device nvm.old) }
-    ensures leads { LeadsAs S.scheme (HasStart start.now) (actor_seen actor)
+    ensures simulates { SimulatesAs S.scheme (HasStart start.now) (actor_seen actor)
         (machine_of m.old) (N.device nvm.old) (machine_of m.new) (N.device nvm.new) result }
     ensures fails { FailsAs S.scheme (HasStart start.now) (actor_seen actor)
         (machine_of m.old) (N.device nvm.old) (machine_of m.new) (N.device nvm.new) result }
@@ -42,13 +42,13 @@ pub(crate) fn cycle<N: Nvm, S: Scheme>(
 
 /// Takes the cycle of the hart, with this stall.
 fn at_hart<N: Nvm, S: Scheme>(
-    m: &mut Parts<S>,
+    m: &mut MachineParts<S>,
     stall: Option<Stall>,
     start: &Start,
     nvm: &mut N,
 ) -> Result<Did, NvmError>
     requires { CanTake S.scheme (HasStart start.now) (TheHart stall) (machine_of m.old) (N.device nvm.old) }
-    ensures leads { LeadsAs S.scheme (HasStart start.now) (TheHart stall)
+    ensures simulates { SimulatesAs S.scheme (HasStart start.now) (TheHart stall)
         (machine_of m.old) (N.device nvm.old) (machine_of m.new) (N.device nvm.new) result }
     ensures fails { FailsAs S.scheme (HasStart start.now) (TheHart stall)
         (machine_of m.old) (N.device nvm.old) (machine_of m.new) (N.device nvm.new) result }
@@ -63,13 +63,13 @@ fn at_hart<N: Nvm, S: Scheme>(
 
 /// Takes the cycle of a hart that advances no instruction, for this reason.
 fn stalled<N: Nvm, S: Scheme>(
-    m: &mut Parts<S>,
+    m: &mut MachineParts<S>,
     why: Stall,
     start: &Start,
     nvm: &mut N,
 ) -> Result<Did, NvmError>
     requires { CanTake S.scheme (HasStart start.now) (TheHart (Some why)) (machine_of m.old) (N.device nvm.old) }
-    ensures leads { LeadsAs S.scheme (HasStart start.now) (TheHart (Some why))
+    ensures simulates { SimulatesAs S.scheme (HasStart start.now) (TheHart (Some why))
         (machine_of m.old) (N.device nvm.old) (machine_of m.new) (N.device nvm.new) result }
     ensures fails { FailsAs S.scheme (HasStart start.now) (TheHart (Some why))
         (machine_of m.old) (N.device nvm.old) (machine_of m.new) (N.device nvm.new) result }
@@ -85,9 +85,9 @@ fn stalled<N: Nvm, S: Scheme>(
 }
 
 /// Lets the oldest queued write of the NVM land.
-fn land<N: Nvm, S: Scheme>(m: &Parts<S>, nvm: &mut N) -> Result<Did, NvmError>
+fn land<N: Nvm, S: Scheme>(m: &MachineParts<S>, nvm: &mut N) -> Result<Did, NvmError>
     requires { CanTake S.scheme IsAnyRun Nvm (machine_of m.now) (N.device nvm.old) }
-    ensures leads { LeadsAs S.scheme IsAnyRun Nvm
+    ensures simulates { SimulatesAs S.scheme IsAnyRun Nvm
         (machine_of m.now) (N.device nvm.old) (machine_of m.now) (N.device nvm.new) result }
     ensures fails { FailsAs S.scheme IsAnyRun Nvm
         (machine_of m.now) (N.device nvm.old) (machine_of m.now) (N.device nvm.new) result }
@@ -99,9 +99,9 @@ fn land<N: Nvm, S: Scheme>(m: &Parts<S>, nvm: &mut N) -> Result<Did, NvmError>
 }
 
 /// Takes an action of the engine, for the hart that waits for it.
-fn wait<N: Nvm, S: Scheme>(m: &mut Parts<S>, nvm: &mut N) -> Result<Did, NvmError>
+fn wait<N: Nvm, S: Scheme>(m: &mut MachineParts<S>, nvm: &mut N) -> Result<Did, NvmError>
     requires { CanTake S.scheme IsAnyRun (TheHart (Some Waiting)) (machine_of m.old) (N.device nvm.old) }
-    ensures leads { LeadsAs S.scheme IsAnyRun (TheHart (Some Waiting))
+    ensures simulates { SimulatesAs S.scheme IsAnyRun (TheHart (Some Waiting))
         (machine_of m.old) (N.device nvm.old) (machine_of m.new) (N.device nvm.new) result }
     ensures fails { FailsAs S.scheme IsAnyRun (TheHart (Some Waiting))
         (machine_of m.old) (N.device nvm.old) (machine_of m.new) (N.device nvm.new) result }
@@ -112,8 +112,8 @@ fn wait<N: Nvm, S: Scheme>(m: &mut Parts<S>, nvm: &mut N) -> Result<Did, NvmErro
 }
 
 /// Does nothing, if the machine has halted.
-fn rest<N: Nvm, S: Scheme>(m: &Parts<S>, nvm: &N) -> Did
-    ensures { LeadsAs S.scheme IsAnyRun (TheHart (Some Halted))
+fn rest<N: Nvm, S: Scheme>(m: &MachineParts<S>, nvm: &N) -> Did
+    ensures { SimulatesAs S.scheme IsAnyRun (TheHart (Some Halted))
         (machine_of m.now) (N.device nvm.now) (machine_of m.now) (N.device nvm.now) (Ok result) }
 {
     Did::Nothing

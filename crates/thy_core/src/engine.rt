@@ -3,35 +3,38 @@ ghost use Rattle.std.specs.Prelude.{◌≡◌, ◌+◌, ◌<◌, ◌^◌, if◌t
 ghost use Rattle.thy_base.specs.Device.{IsFramed, CountsFault};
 ghost use Rattle.thy_view.specs.Turn.{Dram, Checkpoint};
 ghost use Rattle.thy_scheme.specs.Calls.{engine_did};
-ghost use Rattle.thy_core_model.specs.Calls.{after_engine};
-ghost use Rattle.thy_core.specs.Cycles.{IsAnyRun, CanTake, LeadsAs, FailsAs};
-ghost use Rattle.thy_core.specs.Parts.{machine_of};
+ghost use Rattle.thy_core_laws.specs.Calls.{after_engine};
+ghost use Rattle.thy_core.specs.Cycles.{IsAnyRun, CanTake, SimulatesAs, FailsAs};
+ghost use Rattle.thy_core.specs.MachineParts.{machine_of};
 
-use crate::parts::{Checkpoints, Parts};
+use crate::parts::{Checkpoints, MachineParts};
 use thy_base::{Nvm, NvmError};
 use thy_record::EngineStep;
 use thy_scheme::Scheme;
 use thy_view::{Did, Phase};
 
 /// Takes one action of the checkpoint that is under way.
-pub(crate) fn checkpoint<N: Nvm, S: Scheme>(m: &mut Parts<S>, nvm: &mut N) -> Result<Did, NvmError>
+pub(crate) fn checkpoint<N: Nvm, S: Scheme>(
+    m: &mut MachineParts<S>,
+    nvm: &mut N,
+) -> Result<Did, NvmError>
     requires { CanTake S.scheme IsAnyRun Checkpoint (machine_of m.old) (N.device nvm.old) }
-    ensures leads { LeadsAs S.scheme IsAnyRun Checkpoint
+    ensures simulates { SimulatesAs S.scheme IsAnyRun Checkpoint
         (machine_of m.old) (N.device nvm.old) (machine_of m.new) (N.device nvm.new) result }
     ensures fails { FailsAs S.scheme IsAnyRun Checkpoint
         (machine_of m.old) (N.device nvm.old) (machine_of m.new) (N.device nvm.new) result }
     ensures frame { IsFramed (N.device nvm.old) (N.device nvm.new) }
     ensures cause { CountsFault result (N.device nvm.old).faults (N.device nvm.new).faults }
 {
-    let step = m.behind.scheme.engine_step(nvm)?;
+    let step = m.store.scheme.engine_step(nvm)?;
     Ok(engine_on(m, step))
 }
 
 /// Notes what the engine did. With a commit the sealed checkpoint is the committed one, and the machine halts if its
 /// state has ended.
-fn engine_on<S>(m: &mut Parts<S>, step: EngineStep) -> Did
+fn engine_on<S>(m: &mut MachineParts<S>, step: EngineStep) -> Did
     requires { m.old.spent + 1 < 2 ^ 64 }
-    ensures parts { machine_of m.new ≡ after_engine step m.old.behind.scheme (machine_of m.old) }
+    ensures parts { machine_of m.new ≡ after_engine step m.old.store.scheme (machine_of m.old) }
     ensures did { result ≡ engine_did m.old.lap step }
 {
     m.spent += 1;
@@ -70,11 +73,11 @@ fn phase_behind(ends: bool) -> Phase
 }
 
 /// Lets the oldest queued write of the DRAM land.
-pub(crate) fn drain<N: Nvm, S: Scheme>(m: &mut Parts<S>, nvm: &N) -> Did
+pub(crate) fn drain<N: Nvm, S: Scheme>(m: &mut MachineParts<S>, nvm: &N) -> Did
     requires { CanTake S.scheme IsAnyRun Dram (machine_of m.old) (N.device nvm.now) }
-    ensures { LeadsAs S.scheme IsAnyRun Dram
+    ensures { SimulatesAs S.scheme IsAnyRun Dram
         (machine_of m.old) (N.device nvm.now) (machine_of m.new) (N.device nvm.now) (Ok result) }
 {
-    m.behind.scheme.drain();
+    m.store.scheme.drain();
     Did::DramDrained
 }

@@ -2,11 +2,11 @@
 ghost use Rattle.std.specs.Prelude.{◌≡◌, None, ◌+◌, ◌<◌, ◌^◌};
 ghost use Rattle.thy_base.specs.Device.{IsFramed, CountsFault};
 ghost use Rattle.thy_view.specs.Turn.{TheHart};
-ghost use Rattle.thy_core_model.specs.Calls.{retires_over, retires_by, hart_did, after_hart};
-ghost use Rattle.thy_core.specs.Cycles.{HasInput, CanTake, LeadsAs, FailsAs};
-ghost use Rattle.thy_core.specs.Parts.{machine_of};
+ghost use Rattle.thy_core_laws.specs.Calls.{retires_over, retires_by, hart_did, after_hart};
+ghost use Rattle.thy_core.specs.Cycles.{HasInput, CanTake, SimulatesAs, FailsAs};
+ghost use Rattle.thy_core.specs.MachineParts.{machine_of};
 
-use crate::parts::Parts;
+use crate::parts::MachineParts;
 use thy_base::{EndCause, Nvm, NvmError};
 use thy_hart::HartStep;
 use thy_scheme::Scheme;
@@ -14,31 +14,31 @@ use thy_view::Did;
 
 /// Takes a step of the hart.
 pub(crate) fn execute<N: Nvm, S: Scheme>(
-    m: &mut Parts<S>,
+    m: &mut MachineParts<S>,
     input: &[u8],
     nvm: &mut N,
 ) -> Result<Did, NvmError>
     requires { CanTake S.scheme (HasInput input.now) (TheHart None) (machine_of m.old) (N.device nvm.old) }
-    ensures leads { LeadsAs S.scheme (HasInput input.now) (TheHart None)
+    ensures simulates { SimulatesAs S.scheme (HasInput input.now) (TheHart None)
         (machine_of m.old) (N.device nvm.old) (machine_of m.new) (N.device nvm.new) result }
     ensures fails { FailsAs S.scheme (HasInput input.now) (TheHart None)
         (machine_of m.old) (N.device nvm.old) (machine_of m.new) (N.device nvm.new) result }
     ensures frame { IsFramed (N.device nvm.old) (N.device nvm.new) }
     ensures cause { CountsFault result (N.device nvm.old).faults (N.device nvm.new).faults }
 {
-    let free = m.behind.scheme.free();
-    let under_way = m.behind.scheme.under_way();
+    let free = m.store.scheme.free();
+    let under_way = m.store.scheme.under_way();
     let step = m
         .hart
-        .step(&mut m.cache, &mut m.behind, nvm, free, under_way, input)?;
+        .step(&mut m.cache, &mut m.store, nvm, free, under_way, input)?;
     Ok(count(m, step))
 }
 
 /// Counts a step of the hart, which is hart 0.
-fn count<S>(m: &mut Parts<S>, step: HartStep) -> Did
+fn count<S>(m: &mut MachineParts<S>, step: HartStep) -> Did
     requires spent { m.old.spent + 1 < 2 ^ 64 }
     requires lap { m.old.lap + 1 < 2 ^ 64 }
-    ensures parts { machine_of m.new ≡ after_hart step m.old.hart m.old.cache m.old.behind.scheme (machine_of m.old) }
+    ensures parts { machine_of m.new ≡ after_hart step m.old.hart m.old.cache m.old.store.scheme (machine_of m.old) }
     ensures did { result ≡ hart_did step }
 {
     m.spent += 1;

@@ -3,13 +3,13 @@ ghost use Rattle.std.specs.Prelude.{◌≡◌, ℕ, IfOk, IfErr, OnOk, is_err};
 ghost use Rattle.thy_base.specs.Device.{Device, IsFramed, CountsFault};
 ghost use Rattle.thy_dram.specs.Contents.{lost};
 ghost use Rattle.thy_view.specs.declared.view.View.{View};
-ghost use Rattle.thy_view.specs.Kind.{CanStep, CanRead, CanSnapshot, LeadsOn, FailsSafe, IsDramOf, SnapshotsStopped, ShowsConsole, LeavesAlonePast, TellsLoading, HasFailedToRead};
+ghost use Rattle.thy_view.specs.Kind.{CanStep, CanRead, CanSnapshot, Simulates, FailsSafe, IsDramOf, SnapshotsStopped, ShowsConsole, LeavesAlonePast, TellsLoading, HasFailedToRead};
 ghost use Rattle.thy_view.specs.Origin.{Origin};
-ghost use Rattle.thy_core_model.specs.Kind.{kind_over};
-ghost use Rattle.thy_core_model.specs.Sound.{IsAt, SoundStopped, IsPowered};
+ghost use Rattle.thy_core_laws.specs.Kind.{kind_over};
+ghost use Rattle.thy_core_laws.specs.Sound.{IsAt, SoundStopped, IsPowered};
 ghost use Rattle.thy_core.specs.Reading.{ReadsState};
 
-use crate::parts::Parts;
+use crate::parts::MachineParts;
 use crate::step::take_step;
 use crate::{power, snapshot};
 use std::alloc::{AllocError, Global};
@@ -24,15 +24,15 @@ use thy_view::{CoreError, Stepped};
 /// A hart with its cache over a scheme of checkpoints. One step is one cycle.
 #[derive(Drop)]
 pub struct Machine<S> {
-    parts: Parts<S>,
+    parts: MachineParts<S>,
 }
 
 impl<S> Model for Machine<S> {
-    ghost use Rattle.thy_core_model.specs.Machine.{Machine as MachineOver};
+    ghost use Rattle.thy_core_laws.specs.Machine.{Machine as MachineOver};
 
     ghost Value = { MachineOver S };
 
-    ghost use Rattle.thy_core.specs.Parts.{machine_of};
+    ghost use Rattle.thy_core.specs.MachineParts.{machine_of};
 
     ghost view = { λ m. machine_of m.parts };
 }
@@ -94,7 +94,7 @@ impl<S: Scheme> Machine<S> {
         nvm: &mut N,
     ) -> Result<Stepped, NvmError>
         requires { CanStep (kind_over S.scheme) start.now self.old (N.device nvm.old) }
-        ensures steps { LeadsOn (kind_over S.scheme) start.now pick self.old self.new (N.device nvm.old) (N.device nvm.new) result }
+        ensures steps { Simulates (kind_over S.scheme) start.now pick self.old self.new (N.device nvm.old) (N.device nvm.new) result }
         ensures safe { FailsSafe (kind_over S.scheme) start.now pick self.old self.new (N.device nvm.old) (N.device nvm.new) result }
         ensures frame { IsFramed (N.device nvm.old) (N.device nvm.new) }
         ensures cause { CountsFault result (N.device nvm.old).faults (N.device nvm.new).faults }

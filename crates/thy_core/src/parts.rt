@@ -3,7 +3,7 @@
 use thy_base::Mark;
 use thy_cache::Cache;
 use thy_hart::Hart;
-use thy_scheme::Behind;
+use thy_scheme::SchemeStore;
 use thy_view::Phase;
 
 /// The checkpoints of a machine whose boot is over.
@@ -28,10 +28,10 @@ pub(crate) struct Consoles {
 
 /// What a machine is made of.
 #[derive(Drop)]
-pub(crate) struct Parts<S> {
+pub(crate) struct MachineParts<S> {
     pub hart: Hart,
     pub cache: Cache,
-    pub behind: Behind<S>,
+    pub store: SchemeStore<S>,
     pub phase: Phase,
     pub checkpoints: Checkpoints,
     pub consoles: Consoles,

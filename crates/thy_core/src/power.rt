@@ -5,18 +5,18 @@ ghost use Rattle.thy_dram.specs.Contents.{lost};
 ghost use Rattle.thy_view.specs.declared.view.View.{View};
 ghost use Rattle.thy_view.specs.Kind.{IsDramOf, TellsLoading};
 ghost use Rattle.thy_view.specs.Origin.{Origin};
-ghost use Rattle.thy_core_model.specs.Kind.{kind_over};
-ghost use Rattle.thy_core.specs.Parts.{machine_of};
-ghost use Rattle.thy_core_model.specs.Sound.{IsAt, SoundStopped, IsPowered};
+ghost use Rattle.thy_core_laws.specs.Kind.{kind_over};
+ghost use Rattle.thy_core.specs.MachineParts.{machine_of};
+ghost use Rattle.thy_core_laws.specs.Sound.{IsAt, SoundStopped, IsPowered};
 
-use crate::parts::{Checkpoints, Consoles, Parts};
+use crate::parts::{Checkpoints, Consoles, MachineParts};
 use std::alloc::{AllocError, Global};
 use thy_base::{Geometry, Mark};
 use thy_cache::Cache;
 use thy_dram::Dram;
 use thy_hart::Hart;
 use thy_isa::{CpuState, Regs, Status};
-use thy_scheme::{Behind, Scheme};
+use thy_scheme::{Scheme, SchemeStore};
 use thy_view::Phase;
 
 /// The parts of a machine whose power has just come on, over a DRAM of any content.
@@ -24,18 +24,18 @@ pub(crate) fn power_on<S: Scheme>(
     alloc: Global,
     geometry: &Geometry,
     dram: Dram,
-) -> Result<Parts<S>, AllocError>
+) -> Result<MachineParts<S>, AllocError>
     requires { IsDramOf geometry.now dram }
     ensures powered { IfOk result (λ m. IsPowered S.scheme geometry.now (machine_of m)) }
-    ensures dram { IfOk result (λ m. S.scheme.dram m.behind.scheme ≡ dram) }
+    ensures dram { IfOk result (λ m. S.scheme.dram m.store.scheme ≡ dram) }
 {
     let numbers = geometry.numbers();
     let cache = Cache::new(alloc, numbers.sets, numbers.ways)?;
     let scheme = S::new(alloc, geometry, dram)?;
-    Ok(Parts {
+    Ok(MachineParts {
         hart: Hart::new(&no_cpu(), 0, geometry),
         cache,
-        behind: Behind { scheme },
+        store: SchemeStore { scheme },
         phase: Phase::Boot,
         checkpoints: Checkpoints {
             done: Mark { epoch: 0, count: 0 },
@@ -66,20 +66,20 @@ fn no_cpu() -> CpuState {
 }
 
 /// Whether the boot is not over and has found no checkpoint.
-pub(crate) fn is_loading<S: Scheme>(m: &Parts<S>) -> bool
+pub(crate) fn is_loading<S: Scheme>(m: &MachineParts<S>) -> bool
     ensures { TellsLoading (kind_over S.scheme) (machine_of m.now) result }
 {
     match m.phase {
-        Phase::Boot => m.behind.scheme.loading(),
+        Phase::Boot => m.store.scheme.loading(),
         Phase::Run | Phase::Halt => false,
     }
 }
 
 /// Loses power: all is gone but the DRAM, whose bytes are those that the pick draws.
-pub(crate) fn cut<S: Scheme>(m: Parts<S>, pick: u64) -> Dram
-    ensures drawn { result ≡ lost (S.scheme.dram m.behind.scheme) pick }
+pub(crate) fn cut<S: Scheme>(m: MachineParts<S>, pick: u64) -> Dram
+    ensures drawn { result ≡ lost (S.scheme.dram m.store.scheme) pick }
     ensures sized { (o : Origin) (k : ℕ) (n : Device) → IsAt S.scheme o k (machine_of m) n → IsDramOf o.geometry result }
     ensures stopped { (o : Origin) (before : View) → SoundStopped S.scheme o before (machine_of m) → IsDramOf o.geometry result }
 {
-    m.behind.scheme.cut(pick)
+    m.store.scheme.cut(pick)
 }

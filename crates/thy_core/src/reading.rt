@@ -6,11 +6,11 @@ ghost use Rattle.thy_base.specs.Device.{block_at, HasFailed, IsFramed, CountsFau
 ghost use Rattle.thy_flat.specs.Flat.{flat, console_bytes};
 ghost use Rattle.thy_view.specs.Kind.{ReadsNothing, HasFailedToRead};
 ghost use Rattle.thy_scheme.specs.Scheme.{CanRun};
-ghost use Rattle.thy_core_model.specs.Machine.{memory_of};
-ghost use Rattle.thy_core.specs.Parts.{machine_of};
+ghost use Rattle.thy_core_laws.specs.Machine.{memory_of};
+ghost use Rattle.thy_core.specs.MachineParts.{machine_of};
 ghost use Rattle.thy_core.specs.Reading.{blocks_in, IsRoomy};
 
-use crate::parts::Parts;
+use crate::parts::MachineParts;
 use std::alloc::Global;
 use thy_base::{Block, Bytes, Nvm, NvmError};
 use thy_scheme::Scheme;
@@ -18,7 +18,7 @@ use thy_view::CoreError;
 
 /// A version of memory.
 #[derive(Clone, Copy, Debug, PartialEq, Eq)]
-pub(crate) enum Version {
+pub(crate) enum MemoryVersion {
     /// The one that the machine executes.
     Executing,
     /// The one of the committed checkpoint.
@@ -26,7 +26,11 @@ pub(crate) enum Version {
 }
 
 /// Block `b` of memory: its line if the cache has one, else the scheme's.
-fn executing_block<N: Nvm, S: Scheme>(m: &Parts<S>, b: u64, nvm: &mut N) -> Result<Block, NvmError>
+fn executing_block<N: Nvm, S: Scheme>(
+    m: &MachineParts<S>,
+    b: u64,
+    nvm: &mut N,
+) -> Result<Block, NvmError>
     requires { b < length (memory_of S.scheme (machine_of m.now) (N.device nvm.old)) }
     ensures ok { IfOk result (λ block. block ≡ block_at (memory_of S.scheme (machine_of m.now) (N.device nvm.old)) b) }
     ensures same { OnOk result (N.device nvm.new ≡ N.device nvm.old) }
@@ -36,18 +40,18 @@ fn executing_block<N: Nvm, S: Scheme>(m: &Parts<S>, b: u64, nvm: &mut N) -> Resu
 {
     match m.cache.peek(b) {
         Some(block) => Ok(block),
-        None => m.behind.scheme.load(b, nvm),
+        None => m.store.scheme.load(b, nvm),
     }
 }
 
 /// Block `b` of a version.
 fn block_of<N: Nvm, S: Scheme>(
-    m: &Parts<S>,
-    version: Version,
+    m: &MachineParts<S>,
+    version: MemoryVersion,
     b: u64,
     nvm: &mut N,
 ) -> Result<Block, NvmError>
-    requires stands { CanRun S.scheme m.now.behind.scheme (N.device nvm.old) }
+    requires stands { CanRun S.scheme m.now.store.scheme (N.device nvm.old) }
     requires inside { b < length (blocks_in S.scheme version (machine_of m.now) (N.device nvm.old)) }
     ensures ok { IfOk result (λ block. block ≡ block_at (blocks_in S.scheme version (machine_of m.now) (N.device nvm.old)) b) }
     ensures same { OnOk result (N.device nvm.new ≡ N.device nvm.old) }
@@ -56,20 +60,20 @@ fn block_of<N: Nvm, S: Scheme>(
     ensures cause { CountsFault result (N.device nvm.old).faults (N.device nvm.new).faults }
 {
     match version {
-        Version::Executing => executing_block(m, b, nvm),
-        Version::Committed => m.behind.scheme.committed(b, nvm),
+        MemoryVersion::Executing => executing_block(m, b, nvm),
+        MemoryVersion::Committed => m.store.scheme.committed(b, nvm),
     }
 }
 
 /// Appends block `b` of a version.
 fn read_block<N: Nvm, S: Scheme>(
     bytes: &mut Bytes,
-    m: &Parts<S>,
-    version: Version,
+    m: &MachineParts<S>,
+    version: MemoryVersion,
     b: u64,
     nvm: &mut N,
 ) -> Result<(), CoreError>
-    requires stands { CanRun S.scheme m.now.behind.scheme (N.device nvm.old) }
+    requires stands { CanRun S.scheme m.now.store.scheme (N.device nvm.old) }
     requires inside { b < length (blocks_in S.scheme version (machine_of m.now) (N.device nvm.old)) }
     ensures bytes { OnOk result (bytes_of bytes.new
         ≡ bytes_of bytes.old ++ block_bytes (block_at (blocks_in S.scheme version (machine_of m.now) (N.device nvm.old)) b)) }
@@ -85,15 +89,15 @@ fn read_block<N: Nvm, S: Scheme>(
 /// The bytes of the blocks `first` to before `end` of a version.
 pub(crate) fn read_blocks<N: Nvm, S: Scheme>(
     alloc: Global,
-    m: &Parts<S>,
-    version: Version,
+    m: &MachineParts<S>,
+    version: MemoryVersion,
     first: u64,
     end: u64,
     nvm: &mut N,
 ) -> Result<Bytes, CoreError>
     requires order { first ≤ end }
     requires few { end < 2 ^ 32 }
-    requires stands { CanRun S.scheme m.now.behind.scheme (N.device nvm.old) }
+    requires stands { CanRun S.scheme m.now.store.scheme (N.device nvm.old) }
     requires inside { end ≤ length (blocks_in S.scheme version (machine_of m.now) (N.device nvm.old)) }
     ensures bytes { IfOk result (λ b. bytes_of b
         ≡ flat (drop first (take end (blocks_in S.scheme version (machine_of m.now) (N.device nvm.old))))) }
@@ -119,13 +123,13 @@ fn part(bytes: &[u8], from: usize, count: usize) -> &[u8]
 /// The console of a version, of so many bytes, from byte `from` on. If it has no such byte, nothing is read.
 pub(crate) fn read_console<N: Nvm, S: Scheme>(
     alloc: Global,
-    m: &Parts<S>,
-    version: Version,
+    m: &MachineParts<S>,
+    version: MemoryVersion,
     from: u64,
     len: u64,
     nvm: &mut N,
 ) -> Result<Bytes, CoreError>
-    requires stands { CanRun S.scheme m.now.behind.scheme (N.device nvm.old) }
+    requires stands { CanRun S.scheme m.now.store.scheme (N.device nvm.old) }
     requires roomy { IsRoomy m.now.hart.geometry len (blocks_in S.scheme version (machine_of m.now) (N.device nvm.old)) }
     ensures console { IfOk result (λ b. bytes_of b ≡ drop from
         (console_bytes m.now.hart.geometry (blocks_in S.scheme version (machine_of m.now) (N.device nvm.old)) len)) }

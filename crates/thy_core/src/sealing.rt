@@ -5,31 +5,34 @@ ghost use Rattle.thy_cache.specs.Contents.{dirty_count};
 ghost use Rattle.thy_isa.specs.Step.{is_running};
 ghost use Rattle.thy_view.specs.declared.did.Stall.TheVariants.{Sealing};
 ghost use Rattle.thy_view.specs.Turn.{TheHart};
-ghost use Rattle.thy_core_model.specs.Calls.{after_seal};
-ghost use Rattle.thy_core.specs.Cycles.{IsAnyRun, CanTake, LeadsAs, FailsAs};
-ghost use Rattle.thy_core.specs.Parts.{machine_of};
+ghost use Rattle.thy_core_laws.specs.Calls.{after_seal};
+ghost use Rattle.thy_core.specs.Cycles.{IsAnyRun, CanTake, SimulatesAs, FailsAs};
+ghost use Rattle.thy_core.specs.MachineParts.{machine_of};
 
-use crate::parts::Parts;
+use crate::parts::MachineParts;
 use thy_base::{EndCause, Mark, Nvm, NvmError};
 use thy_isa::Status;
 use thy_scheme::Scheme;
 use thy_view::Did;
 
 /// Promotes a block of a page, or stores a dirty line, or merges a block into its page, or else seals the epoch.
-pub(crate) fn prepare<N: Nvm, S: Scheme>(m: &mut Parts<S>, nvm: &mut N) -> Result<Did, NvmError>
+pub(crate) fn prepare<N: Nvm, S: Scheme>(
+    m: &mut MachineParts<S>,
+    nvm: &mut N,
+) -> Result<Did, NvmError>
     requires { CanTake S.scheme IsAnyRun (TheHart (Some Sealing)) (machine_of m.old) (N.device nvm.old) }
-    ensures leads { LeadsAs S.scheme IsAnyRun (TheHart (Some Sealing))
+    ensures simulates { SimulatesAs S.scheme IsAnyRun (TheHart (Some Sealing))
         (machine_of m.old) (N.device nvm.old) (machine_of m.new) (N.device nvm.new) result }
     ensures fails { FailsAs S.scheme IsAnyRun (TheHart (Some Sealing))
         (machine_of m.old) (N.device nvm.old) (machine_of m.new) (N.device nvm.new) result }
     ensures frame { IsFramed (N.device nvm.old) (N.device nvm.new) }
     ensures cause { CountsFault result (N.device nvm.old).faults (N.device nvm.new).faults }
 {
-    if m.behind.scheme.promoting() {
+    if m.store.scheme.promoting() {
         promote(m, nvm)
     } else if m.cache.dirty() != 0 {
         flush(m, nvm)
-    } else if m.behind.scheme.overlay() {
+    } else if m.store.scheme.overlay() {
         Ok(merge(m, nvm))
     } else {
         Ok(seal(m, nvm))
@@ -37,59 +40,59 @@ pub(crate) fn prepare<N: Nvm, S: Scheme>(m: &mut Parts<S>, nvm: &mut N) -> Resul
 }
 
 /// Promotes a block of a page.
-fn promote<N: Nvm, S: Scheme>(m: &mut Parts<S>, nvm: &mut N) -> Result<Did, NvmError>
+fn promote<N: Nvm, S: Scheme>(m: &mut MachineParts<S>, nvm: &mut N) -> Result<Did, NvmError>
     requires turn { CanTake S.scheme IsAnyRun (TheHart (Some Sealing)) (machine_of m.old) (N.device nvm.old) }
-    requires promoting { S.scheme.promoting m.old.behind.scheme ≡ true }
-    ensures leads { LeadsAs S.scheme IsAnyRun (TheHart (Some Sealing))
+    requires promoting { S.scheme.promoting m.old.store.scheme ≡ true }
+    ensures simulates { SimulatesAs S.scheme IsAnyRun (TheHart (Some Sealing))
         (machine_of m.old) (N.device nvm.old) (machine_of m.new) (N.device nvm.new) result }
     ensures fails { FailsAs S.scheme IsAnyRun (TheHart (Some Sealing))
         (machine_of m.old) (N.device nvm.old) (machine_of m.new) (N.device nvm.new) result }
     ensures frame { IsFramed (N.device nvm.old) (N.device nvm.new) }
     ensures cause { CountsFault result (N.device nvm.old).faults (N.device nvm.new).faults }
 {
-    m.behind.scheme.promote_one(nvm)?;
+    m.store.scheme.promote_one(nvm)?;
     m.spent += 1;
     Ok(Did::Promoted)
 }
 
 /// Stores a dirty line, or makes the copy that has to come first.
-fn flush<N: Nvm, S: Scheme>(m: &mut Parts<S>, nvm: &mut N) -> Result<Did, NvmError>
+fn flush<N: Nvm, S: Scheme>(m: &mut MachineParts<S>, nvm: &mut N) -> Result<Did, NvmError>
     requires turn { CanTake S.scheme IsAnyRun (TheHart (Some Sealing)) (machine_of m.old) (N.device nvm.old) }
-    requires whole { S.scheme.promoting m.old.behind.scheme ≡ false }
+    requires whole { S.scheme.promoting m.old.store.scheme ≡ false }
     requires dirty { dirty_count m.old.cache ≢ 0 }
-    ensures leads { LeadsAs S.scheme IsAnyRun (TheHart (Some Sealing))
+    ensures simulates { SimulatesAs S.scheme IsAnyRun (TheHart (Some Sealing))
         (machine_of m.old) (N.device nvm.old) (machine_of m.new) (N.device nvm.new) result }
     ensures fails { FailsAs S.scheme IsAnyRun (TheHart (Some Sealing))
         (machine_of m.old) (N.device nvm.old) (machine_of m.new) (N.device nvm.new) result }
     ensures frame { IsFramed (N.device nvm.old) (N.device nvm.new) }
     ensures cause { CountsFault result (N.device nvm.old).faults (N.device nvm.new).faults }
 {
-    let _flushed = m.cache.flush_one(&mut m.behind, nvm)?;
+    let _flushed = m.cache.flush_one(&mut m.store, nvm)?;
     m.spent += 1;
     Ok(Did::Flushed)
 }
 
 /// Merges a block into its page.
-fn merge<N: Nvm, S: Scheme>(m: &mut Parts<S>, nvm: &N) -> Did
+fn merge<N: Nvm, S: Scheme>(m: &mut MachineParts<S>, nvm: &N) -> Did
     requires turn { CanTake S.scheme IsAnyRun (TheHart (Some Sealing)) (machine_of m.old) (N.device nvm.now) }
-    requires whole { S.scheme.promoting m.old.behind.scheme ≡ false }
+    requires whole { S.scheme.promoting m.old.store.scheme ≡ false }
     requires clean { dirty_count m.old.cache ≡ 0 }
-    requires overlaid { S.scheme.overlaid m.old.behind.scheme ≡ true }
-    ensures { LeadsAs S.scheme IsAnyRun (TheHart (Some Sealing))
+    requires overlaid { S.scheme.overlaid m.old.store.scheme ≡ true }
+    ensures { SimulatesAs S.scheme IsAnyRun (TheHart (Some Sealing))
         (machine_of m.old) (N.device nvm.now) (machine_of m.new) (N.device nvm.now) (Ok result) }
 {
-    m.behind.scheme.merge_one();
+    m.store.scheme.merge_one();
     m.spent += 1;
     Did::Merged
 }
 
 /// Seals the epoch, which is over.
-fn seal<N: Nvm, S: Scheme>(m: &mut Parts<S>, nvm: &N) -> Did
+fn seal<N: Nvm, S: Scheme>(m: &mut MachineParts<S>, nvm: &N) -> Did
     requires turn { CanTake S.scheme IsAnyRun (TheHart (Some Sealing)) (machine_of m.old) (N.device nvm.now) }
-    requires whole { S.scheme.promoting m.old.behind.scheme ≡ false }
+    requires whole { S.scheme.promoting m.old.store.scheme ≡ false }
     requires clean { dirty_count m.old.cache ≡ 0 }
-    requires bare { S.scheme.overlaid m.old.behind.scheme ≡ false }
-    ensures { LeadsAs S.scheme IsAnyRun (TheHart (Some Sealing))
+    requires bare { S.scheme.overlaid m.old.store.scheme ≡ false }
+    ensures { SimulatesAs S.scheme IsAnyRun (TheHart (Some Sealing))
         (machine_of m.old) (N.device nvm.now) (machine_of m.new) (N.device nvm.now) (Ok result) }
 {
     let epoch = m.hart.epoch().epoch();
@@ -97,16 +100,16 @@ fn seal<N: Nvm, S: Scheme>(m: &mut Parts<S>, nvm: &N) -> Did
     let Some(cause) = m.hart.epoch().over() else {
         unreachable!()
     };
-    m.behind.scheme.seal(m.hart.cpu(), epoch);
+    m.store.scheme.seal(m.hart.cpu(), epoch);
     begin_epoch(m);
     Did::Sealed(epoch, count, cause)
 }
 
 /// Notes that the epoch was sealed, and begins the next one.
-fn begin_epoch<S>(m: &mut Parts<S>)
+fn begin_epoch<S>(m: &mut MachineParts<S>)
     requires over { m.old.hart.epoch.over ≢ None }
     requires number { m.old.hart.epoch.number + 1 < 2 ^ 64 }
-    ensures { machine_of m.new ≡ after_seal m.old.behind.scheme (machine_of m.old) }
+    ensures { machine_of m.new ≡ after_seal m.old.store.scheme (machine_of m.old) }
 {
     let cpu = m.hart.cpu();
     m.checkpoints.sealed = Some(Mark {

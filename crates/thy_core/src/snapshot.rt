@@ -7,13 +7,13 @@ ghost use Rattle.thy_isa.specs.Step.{state_of, state_with};
 ghost use Rattle.thy_base.specs.Bytes.{bytes_of};
 ghost use Rattle.thy_scheme.specs.Scheme.{CanRun};
 ghost use Rattle.thy_view.specs.Kind.{CanRead, CanSnapshot, SnapshotsStopped, ShowsConsole, LeavesAlonePast, HasFailedToRead};
-ghost use Rattle.thy_core_model.specs.Kind.{kind_over};
-ghost use Rattle.thy_core_model.specs.Machine.{memory_of};
-ghost use Rattle.thy_core.specs.Parts.{machine_of};
+ghost use Rattle.thy_core_laws.specs.Kind.{kind_over};
+ghost use Rattle.thy_core_laws.specs.Machine.{memory_of};
+ghost use Rattle.thy_core.specs.MachineParts.{machine_of};
 ghost use Rattle.thy_core.specs.Reading.{ReadsState};
 
-use crate::parts::Parts;
-use crate::reading::{Version, read_blocks, read_console};
+use crate::parts::MachineParts;
+use crate::reading::{MemoryVersion, read_blocks, read_console};
 use std::alloc::Global;
 use thy_base::{Bytes, Nvm};
 use thy_isa::{CpuState, MachState};
@@ -47,10 +47,10 @@ fn bare(alloc: Global, cpu: &CpuState) -> MachState
 /// The state of processor and memory, after the boot.
 fn executing<N: Nvm, S: Scheme>(
     alloc: Global,
-    m: &Parts<S>,
+    m: &MachineParts<S>,
     nvm: &mut N,
 ) -> Result<MachState, CoreError>
-    requires stands { CanRun S.scheme m.now.behind.scheme (N.device nvm.old) }
+    requires stands { CanRun S.scheme m.now.store.scheme (N.device nvm.old) }
     requires sized { IsSized m.now.hart (memory_of S.scheme (machine_of m.now) (N.device nvm.old)) }
     ensures state { IfOk result (λ s. state_of s ≡ current m.now.hart (memory_of S.scheme (machine_of m.now) (N.device nvm.old))) }
     ensures same { OnOk result (N.device nvm.new ≡ N.device nvm.old) }
@@ -59,9 +59,9 @@ fn executing<N: Nvm, S: Scheme>(
 {
     let numbers = m.hart.geometry().numbers();
     let blocks = 64 * (numbers.pages - numbers.console);
-    let memory = read_blocks(alloc, m, Version::Executing, 0, blocks, nvm)?;
+    let memory = read_blocks(alloc, m, MemoryVersion::Executing, 0, blocks, nvm)?;
     let cpu = m.hart.cpu();
-    let console = read_console(alloc, m, Version::Executing, 0, cpu.console_len, nvm)?;
+    let console = read_console(alloc, m, MemoryVersion::Executing, 0, cpu.console_len, nvm)?;
     Ok(state_with(cpu, memory, console))
 }
 
@@ -69,7 +69,7 @@ fn executing<N: Nvm, S: Scheme>(
 /// a step that failed, it has no memory, and nothing is read.
 pub(crate) fn snapshot<N: Nvm, S: Scheme>(
     alloc: Global,
-    m: &Parts<S>,
+    m: &MachineParts<S>,
     nvm: &mut N,
 ) -> Result<MachState, CoreError>
     requires { CanSnapshot (kind_over S.scheme) (machine_of m.now) (N.device nvm.old) }
@@ -91,7 +91,7 @@ pub(crate) fn snapshot<N: Nvm, S: Scheme>(
 /// Once the boot is over, the console of the committed checkpoint from byte `from` on.
 pub(crate) fn console<N: Nvm, S: Scheme>(
     alloc: Global,
-    m: &Parts<S>,
+    m: &MachineParts<S>,
     from: u64,
     nvm: &mut N,
 ) -> Result<Bytes, CoreError>
@@ -106,7 +106,14 @@ pub(crate) fn console<N: Nvm, S: Scheme>(
     match m.phase {
         Phase::Boot => Ok(Bytes::new(alloc)),
         Phase::Run | Phase::Halt => {
-            read_console(alloc, m, Version::Committed, from, m.consoles.done, nvm)
+            read_console(
+                alloc,
+                m,
+                MemoryVersion::Committed,
+                from,
+                m.consoles.done,
+                nvm,
+            )
         }
     }
 }

@@ -1,14 +1,14 @@
 //! One cycle of a pick.
 ghost use Rattle.std.specs.Prelude.{◌≡◌, ◌&&◌, not, is_err};
 ghost use Rattle.thy_base.specs.Device.{IsFramed, CountsFault};
-ghost use Rattle.thy_view.specs.Kind.{CanStep, LeadsOn, FailsSafe};
+ghost use Rattle.thy_view.specs.Kind.{CanStep, Simulates, FailsSafe};
 ghost use Rattle.thy_view.specs.Turn.{told_at};
 ghost use Rattle.thy_view.specs.Views.{is_halt};
-ghost use Rattle.thy_core_model.specs.Kind.{kind_over};
-ghost use Rattle.thy_core.specs.Parts.{machine_of, actor_seen};
+ghost use Rattle.thy_core_laws.specs.Kind.{kind_over};
+ghost use Rattle.thy_core.specs.MachineParts.{machine_of, actor_seen};
 
 use crate::cycle::cycle;
-use crate::parts::Parts;
+use crate::parts::MachineParts;
 use crate::turn::{Actor, turn_now};
 use thy_base::{Nvm, NvmError, Pick};
 use thy_record::Start;
@@ -17,13 +17,13 @@ use thy_view::{Phase, Stall, Stepped};
 
 /// Takes one cycle: the pick's, or the hart's if the pick's actor has nothing to do. Notes whether it failed.
 pub(crate) fn take_step<N: Nvm, S: Scheme>(
-    m: &mut Parts<S>,
+    m: &mut MachineParts<S>,
     pick: Pick,
     start: &Start,
     nvm: &mut N,
 ) -> Result<Stepped, NvmError>
     requires { CanStep (kind_over S.scheme) start.now (machine_of m.old) (N.device nvm.old) }
-    ensures steps { LeadsOn (kind_over S.scheme) start.now pick
+    ensures steps { Simulates (kind_over S.scheme) start.now pick
         (machine_of m.old) (machine_of m.new) (N.device nvm.old) (N.device nvm.new) result }
     ensures safe { FailsSafe (kind_over S.scheme) start.now pick
         (machine_of m.old) (machine_of m.new) (N.device nvm.old) (N.device nvm.new) result }

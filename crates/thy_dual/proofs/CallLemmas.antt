@@ -16,8 +16,8 @@ use Rattle.thy_commit.specs.Progress.{Progress, item_of, engine_next, state_next
 use Rattle.thy_boot.specs.declared.stage.BootStep.{BootStep as Recovered}
 use Rattle.thy_migrate.specs.Migrating.{Recovering, answer_of}
 use Rattle.thy_migrate.specs.Steps.{TakesStep}
-use Rattle.thy_dual_model.specs.Boots.{step_of, result_of}
-use Rattle.thy_dual_model.specs.Dual.{Dual, is_promoting}
+use Rattle.thy_dual_laws.specs.Boots.{step_of, result_of}
+use Rattle.thy_dual_laws.specs.Dual.{Dual, is_promoting}
 use Rattle.thy_dual.specs.Calls.{stored_since, StoresByRule, with_control, PromotesNext, TakesItem, TakesBootStep}
 
 -- a store

@@ -25,8 +25,8 @@ use Rattle.thy_commit.specs.Progress.{begun, item_of, engine_next, state_next, d
 use Rattle.thy_migrate.specs.Migrating.{new_recovery, answer_of}
 use Rattle.thy_migrate.specs.Steps.{TakesStep}
 use Rattle.thy_scheme.specs.declared.boot_step.BootStep.{BootStep}
-use Rattle.thy_dual_model.specs.Boots.{step_of}
-use Rattle.thy_dual_model.specs.Dual.{Dual, is_overlaid, is_promoting}
+use Rattle.thy_dual_laws.specs.Boots.{step_of}
+use Rattle.thy_dual_laws.specs.Dual.{Dual, is_overlaid, is_promoting}
 
 -- ---- a new scheme
 
@@ -36,8 +36,8 @@ pub record IsNew (p : Parameters) (dram : Contents) (s : Dual) : Type 0 where
   pub boot : s.boot ≡ new_recovery p
   pub engine : s.engine.p ≡ p
   pub idle : is_under_way s.engine.next ≡ false
-  pub rested : s.rested ≡ true
-  pub lean : s.lean ≡ false
+  pub storeless : s.storeless ≡ true
+  pub sealed_storeless : s.sealed_storeless ≡ false
 
 -- its tables have the geometry's sizes, and pages are copied and leave by its thresholds
 pub record IsSized (p : Parameters) (s : Dual) : Type 0 where
@@ -74,7 +74,7 @@ pub record LoadsCommitted (b : ℕ) (s : Dual) (n : Device) (result : Result Blo
 
 -- with this controller, and a block stored since the last seal
 abbrev pub stored_since : State → Dual → Dual
-stored_since control s = record s { control = control; rested = false }
+stored_since control s = record s { control = control; storeless = false }
 
 -- with the one write that the rule of the block names
 abbrev pub block_stored : ℕ → Block → Dual → Device → Dual
@@ -122,8 +122,8 @@ abbrev pub sealed : CpuState → ℕ → Dual → Dual
 sealed cpu epoch s = record s {
   control = sealed_state s.control;
   engine = begun cpu epoch s.engine;
-  rested = true;
-  lean = s.rested;
+  storeless = true;
+  sealed_storeless = s.storeless;
 }
 
 -- ---- a step of the engine

@@ -11,14 +11,14 @@ ghost use Rattle.thy_control.specs.Holding.{holding_of};
 ghost use Rattle.thy_view.specs.Kind.{IsDramOf};
 ghost use Rattle.thy_view.specs.Origin.{Origin, Begins};
 ghost use Rattle.thy_view.specs.Views.{loads};
-ghost use Rattle.thy_scheme.specs.Marks.{Marks};
+ghost use Rattle.thy_scheme.specs.CheckpointMarks.{CheckpointMarks};
 ghost use Rattle.thy_scheme.specs.Scheme.{StaysOf, Stands, CanRun, IsBooting, CanBoot};
 ghost use Rattle.thy_scheme.specs.Calls.{IsOneAccess, Stores, Merges, Promotes, PromotionFails, TakesNoAction, Drains, Seals, Engines, EngineFails};
 ghost use Rattle.thy_scheme.specs.Boots.{BootsOn, BootFails, BootDrains};
-ghost use Rattle.thy_dual_model.specs.Boots.{Boots, IsPowered, has_read_at, loads_at, step_of, result_of, view_at};
-ghost use Rattle.thy_dual_model.specs.Dual.{IsOf, is_overlaid, is_promoting, penults};
-ghost use Rattle.thy_dual_model.specs.Scheme.{dual_scheme};
-ghost use Rattle.thy_dual_model.specs.Stays.{StaysDual};
+ghost use Rattle.thy_dual_laws.specs.Boots.{Boots, IsPowered, has_read_at, loads_at, step_of, result_of, view_at};
+ghost use Rattle.thy_dual_laws.specs.Dual.{IsOf, is_overlaid, is_promoting, penults};
+ghost use Rattle.thy_dual_laws.specs.Scheme.{dual_scheme};
+ghost use Rattle.thy_dual_laws.specs.Stays.{StaysDual};
 ghost use Rattle.thy_dual.specs.Calls.{IsNew, IsSized, LoadsWork, LoadsCommitted, StoresByRule};
 ghost use Rattle.thy_dual.specs.Calls.{drained, merged, PromotesNext, sealed, TakesItem, TakesBootStep};
 
@@ -40,20 +40,20 @@ use thy_scheme::{BootStep, Scheme};
 pub struct DualScheme {
     control: Control,
     engine: Engine,
-    /// No block was stored since the last seal. Contracts speak of it; no code reads it but to set `lean`.
-    rested: bool,
+    /// No block was stored since the last seal. Contracts speak of it; no code reads it but to set `sealed_storeless`.
+    storeless: bool,
     /// No block was stored in the epoch that was sealed last. Contracts speak of it; no code reads it.
-    lean: bool,
+    sealed_storeless: bool,
     boot: Recovery,
 }
 
 impl Model for DualScheme {
     ghost use Rattle.thy_commit.specs.Progress.{Fits};
-    ghost use Rattle.thy_dual_model.specs.Dual.{Dual};
+    ghost use Rattle.thy_dual_laws.specs.Dual.{Dual};
 
     ghost Value = { Dual };
 
-    ghost view = { λ d. record { control = d.control; engine = d.engine; rested = d.rested; lean = d.lean; boot = d.boot } };
+    ghost view = { λ d. record { control = d.control; engine = d.engine; storeless = d.storeless; sealed_storeless = d.sealed_storeless; boot = d.boot } };
 
     ghost invariant = { λ d. Fits d.engine d.control };
 }
@@ -93,7 +93,7 @@ fn scheme_result(answer: Result<Recovered, NvmError>) -> Result<BootStep, NvmErr
 // Each call has the trait's clauses, of this scheme. Beside them, those named `made` and `state` say what the call
 // makes of controller, engine, boot and NVM, which is what the calls below do (specs/Calls.antt).
 impl Scheme for DualScheme {
-    ghost use Rattle.thy_dual_model.proofs.LawfulLemmas.{lawful as laws_of_parts};
+    ghost use Rattle.thy_dual_laws.proofs.LawfulLemmas.{lawful as laws_of_parts};
 
     ghost scheme = { dual_scheme };
 
@@ -118,8 +118,8 @@ impl Scheme for DualScheme {
         Ok(DualScheme {
             control,
             engine,
-            rested: true,
-            lean: false,
+            storeless: true,
+            sealed_storeless: false,
             boot,
         })
     }
@@ -157,7 +157,7 @@ impl Scheme for DualScheme {
     {
         blocks_are_works();
         self.control.tables();
-        self.rested = false;
+        self.storeless = false;
         let result = self.control.store(b, block, nvm);
         self.control.tables();
         result
@@ -216,7 +216,7 @@ impl Scheme for DualScheme {
     fn drain(&mut self)
         requires { 0 < self.old.control.dram.queued }
         ensures state { self.new ≡ drained self.old }
-        ensures running { (o : Origin) (k : Marks) (n : Device) → Stands dual_scheme o k self.old n
+        ensures running { (o : Origin) (k : CheckpointMarks) (n : Device) → Stands dual_scheme o k self.old n
             → Drains dual_scheme o k self.old n self.new }
         ensures booting { (o : Origin) (n : Device) → IsBooting dual_scheme o self.old n
             → BootDrains dual_scheme o self.old n self.new }
@@ -229,7 +229,7 @@ impl Scheme for DualScheme {
         requires idle { is_under_way self.old.engine.next ≡ false }
         ensures state { self.new ≡ merged self.old }
         ensures some { is_overlaid self.old.control ≡ true
-            → (o : Origin) (k : Marks) (n : Device) → Stands dual_scheme o k self.old n
+            → (o : Origin) (k : CheckpointMarks) (n : Device) → Stands dual_scheme o k self.old n
             → Merges dual_scheme o k self.old n self.new }
         ensures none { is_overlaid self.old.control ≡ false → self.new ≡ self.old }
     {
@@ -244,7 +244,7 @@ impl Scheme for DualScheme {
         ensures made { PromotesNext self.old (N.device nvm.old) result self.new (N.device nvm.new) }
         ensures ok { let n = N.device nvm.old in let new = N.device nvm.new in
             is_promoting self.old.control ≡ true
-            → (o : Origin) (k : Marks) → Stands dual_scheme o k self.old n
+            → (o : Origin) (k : CheckpointMarks) → Stands dual_scheme o k self.old n
             → OnOk result (Promotes dual_scheme o k self.old n self.new new) }
         ensures none { is_promoting self.old.control ≡ false
             → TakesNoAction result self.old (N.device nvm.old) self.new (N.device nvm.new) }
@@ -266,13 +266,13 @@ impl Scheme for DualScheme {
         requires bare { is_overlaid self.old.control ≡ false }
         requires regs { length cpu.now.regs ≡ 32 }
         ensures state { self.new ≡ sealed cpu.now epoch self.old }
-        ensures seals { (o : Origin) (k : Marks) (n : Device) → Stands dual_scheme o k self.old n
+        ensures seals { (o : Origin) (k : CheckpointMarks) (n : Device) → Stands dual_scheme o k self.old n
             → Seals dual_scheme o k cpu.now epoch self.old n self.new }
     {
         let _whole = self.control.promoting();
         let _bare = self.control.overlay();
-        self.lean = self.rested;
-        self.rested = true;
+        self.sealed_storeless = self.storeless;
+        self.storeless = true;
         self.control.seal();
         self.control.tables();
         self.engine.begin(cpu, epoch);
@@ -283,10 +283,10 @@ impl Scheme for DualScheme {
         requires stands { CanRun dual_scheme self.old (N.device nvm.old) }
         ensures made { TakesItem self.old (N.device nvm.old) result self.new (N.device nvm.new) }
         ensures ok { let n = N.device nvm.old in let new = N.device nvm.new in
-            (o : Origin) (k : Marks) → Stands dual_scheme o k self.old n
+            (o : Origin) (k : CheckpointMarks) → Stands dual_scheme o k self.old n
             → IfOk result (λ step. Engines dual_scheme o k step self.old n self.new new) }
         ensures err { let n = N.device nvm.old in let new = N.device nvm.new in
-            (o : Origin) (k : Marks) → Stands dual_scheme o k self.old n
+            (o : Origin) (k : CheckpointMarks) → Stands dual_scheme o k self.old n
             → OnErr result (EngineFails dual_scheme o k n new) }
         ensures left { OnErr result (StaysOf dual_scheme self.old self.new) }
         ensures frame { IsFramed (N.device nvm.old) (N.device nvm.new) }

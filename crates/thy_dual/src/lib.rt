@@ -3,7 +3,7 @@
 //! in it.
 //!
 //! Open specs/Calls.antt, which says what each call makes of the scheme, and then src/dual.rt; the other definitions are
-//! those of thy_dual_model. It depends on that and its dependencies; thy_cli, which names the type, depends on it.
+//! those of thy_dual_laws. It depends on that and its dependencies; thy_cli, which names the type, depends on it.
 #![tactic(auto)]
 
 mod dual;

@@ -46,6 +46,6 @@ HasRetired span retired (Some (Exhausted free dirty need)) = (retired < span) ×
 HasRetired span retired (Some Ended) = (0 < retired) × (retired ≤ span)
 
 -- what holds of every epoch
-pub record IsSound (e : Epoch) : Type 0 where
+pub record IsSoundEpoch (e : Epoch) : Type 0 where
   pub some : 0 < e.span
   pub cause : HasRetired e.span e.retired e.over

@@ -15,13 +15,13 @@ pub struct EpochState {
 }
 
 impl Model for EpochState {
-    ghost use Rattle.thy_epoch.specs.Epoch.{Epoch, IsSound};
+    ghost use Rattle.thy_epoch.specs.Epoch.{Epoch, IsSoundEpoch};
 
     ghost Value = { Epoch };
 
     ghost view = { λ e. record { span = e.span; number = e.number; retired = e.retired; over = e.over } };
 
-    ghost invariant = { λ e. IsSound (record { span = e.span; number = e.number; retired = e.retired; over = e.over }) };
+    ghost invariant = { λ e. IsSoundEpoch (record { span = e.span; number = e.number; retired = e.retired; over = e.over }) };
 }
 
 impl EpochState {

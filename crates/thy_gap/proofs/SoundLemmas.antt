@@ -14,7 +14,7 @@ use Rattle.thy_base.proofs.DeviceLemmas.{no_more-settled}
 use Rattle.thy_gap.specs.declared.registers.Registers.{Registers}
 use Rattle.thy_gap.specs.Lines.{IsWhole, place, line_at, no_lines, moved, unmoved, registers_of, registers_in}
 use Rattle.thy_gap.specs.Seen.{write_to, unmap_queue, unmapped, seen}
-use Rattle.thy_gap.specs.Levelled.{IsLevelled, IsLeft, IsQuiet, IsSound, inner_shape, first_image}
+use Rattle.thy_gap.specs.Levelled.{IsLevelled, IsLeft, IsQuiet, IsSoundGap, inner_shape, first_image}
 use Rattle.thy_gap.specs.Moving.{line_moved}
 use Rattle.thy_gap.specs.Failing.{IsAtRest, HasFailedToMove}
 use Rattle.thy_gap.proofs.LineLemmas.{place-within, line_at-gap, line_at-past}
@@ -57,7 +57,7 @@ settled-none n = ap (λ (q : List Write). record (seen no_lines n) { image = app
 
 -- ---- a levelled device, fitted or not
 
-module _ {every since cuts : ℕ} {r : Registers} {n : Device} (i : IsSound every r since cuts n) where
+module _ {every since cuts : ℕ} {r : Registers} {n : Device} (i : IsSoundGap every r since cuts n) where
   fitted_or_none : (r.lines ≡ 0) ⊎ (0 < r.lines)
   fitted_or_none = elim (cases_lt 0 r.lines) as (λ _. (r.lines ≡ 0) ⊎ (0 < r.lines)) [ inl l ↦ inr l | inr l ↦ inl (omega (arith, l)) ]
 
@@ -72,13 +72,13 @@ module _ {every since cuts : ℕ} {r : Registers} {n : Device} (i : IsSound ever
   place_inside x l = let d = levelled_at x l in omega (arith, place-within r x d.whole l, d.blocks)
 
   -- it stays sound where it stays levelled
-  pub sound_still : (new : Device) → (IsLevelled r cuts n → IsLevelled r cuts new) → IsSound every r since cuts new
+  pub sound_still : (new : Device) → (IsLevelled r cuts n → IsLevelled r cuts new) → IsSoundGap every r since cuts new
   sound_still new still = record { some = i.some; fitted = λ l. still (i.fitted l); no_registers = i.no_registers; no_writes = i.no_writes }
 
-  pub sound_same : (new : Device) → new ≡ n → IsSound every r since cuts new
-  sound_same new e = subst (IsSound every r since cuts) (sym e) i
+  pub sound_same : (new : Device) → new ≡ n → IsSoundGap every r since cuts new
+  sound_same new e = subst (IsSoundGap every r since cuts) (sym e) i
 
-  pub sound_failed : (new : Device) → IsFramed n new → HasFailed n new → IsSound every r since cuts new
+  pub sound_failed : (new : Device) → IsFramed n new → HasFailed n new → IsSoundGap every r since cuts new
   sound_failed new f failed = sound_still new (λ d. IsLevelled-failed r cuts n new d f failed)
 
   -- failures are seen to be failures
@@ -98,7 +98,7 @@ module _ {every since cuts : ℕ} {r : Registers} {n : Device} (i : IsSound ever
   pub write_seen : (x : ℕ) (b : Block) → x < r.lines → n.down ≡ false → seen r (written_to n (place r x) b) ≡ written_to (seen r n) x b
   write_seen x b l up = let d = levelled_at x l in seen-written r n x b d.whole l d.blocks (d.quiet up).lines
 
-  pub sound_written : (new : Device) (x : ℕ) (b : Block) (more : ℕ) → x < r.lines → n.down ≡ false → new ≡ written_to n (place r x) b → IsFramed n new → IsSound every r more cuts new
+  pub sound_written : (new : Device) (x : ℕ) (b : Block) (more : ℕ) → x < r.lines → n.down ≡ false → new ≡ written_to n (place r x) b → IsFramed n new → IsSoundGap every r more cuts new
   sound_written new x b more l up e f =
       let d = levelled_at x l in
       record {
@@ -108,7 +108,7 @@ module _ {every since cuts : ℕ} {r : Registers} {n : Device} (i : IsSound ever
         no_writes = λ none. absurd (omega (arith, none, l));
       }
 
-  pub sound_failed_to_write : (new : Device) (x : ℕ) (b : Block) → x < r.lines → n.down ≡ false → IsFramed n new → HasFailedToWrite (place r x) b n new → IsSound every r since cuts new
+  pub sound_failed_to_write : (new : Device) (x : ℕ) (b : Block) → x < r.lines → n.down ≡ false → IsFramed n new → HasFailedToWrite (place r x) b n new → IsSoundGap every r since cuts new
   sound_failed_to_write new x b l up f failed = sound_still new (λ d. IsLevelled-failed_to_write r cuts n new x b d l up f failed)
 
   pub failed_to_write_seen : (new : Device) (x : ℕ) (b : Block) → x < r.lines → HasFailedToWrite (place r x) b n new → HasFailedToWrite x b (seen r n) (seen r new)
@@ -131,7 +131,7 @@ module _ {every since cuts : ℕ} {r : Registers} {n : Device} (i : IsSound ever
   pub drain_seen : 0 < r.lines → n.down ≡ false → seen r (drained n) ≡ drained (seen r n)
   drain_seen l up = let d = i.fitted l in seen-landed r n 1 d.whole d.blocks (d.quiet up).lines
 
-  pub sound_drained : (new : Device) → n.down ≡ false → new ≡ drained n → IsFramed n new → IsSound every r since cuts new
+  pub sound_drained : (new : Device) → n.down ≡ false → new ≡ drained n → IsFramed n new → IsSoundGap every r since cuts new
   sound_drained new up e f =
       sound_still new (λ d. IsLevelled-quiet r cuts n new d f (subst (IsQuiet r) (sym e) (IsQuiet-landed r n 1 (d.quiet up))))
 
@@ -141,7 +141,7 @@ module _ {every since cuts : ℕ} {r : Registers} {n : Device} (i : IsSound ever
     | inr l ↦ let d = i.fitted l in seen-settled r n d.whole d.blocks
   ]
 
-  pub sound_settled : (new : Device) → n.down ≡ false → new ≡ settled n → IsFramed n new → IsSound every r since cuts new
+  pub sound_settled : (new : Device) → n.down ≡ false → new ≡ settled n → IsFramed n new → IsSoundGap every r since cuts new
   sound_settled new up e f =
       sound_still new (λ d. IsLevelled-quiet r cuts n new d f (subst (IsQuiet r) (sym e) (IsQuiet-settled r n (d.quiet up))))
 
@@ -154,7 +154,7 @@ module _ {every since cuts : ℕ} {r : Registers} {n : Device} (i : IsSound ever
   pub rest_before_move : (m : Device) → every ≤ since → n.down ≡ false → m ≡ settled n → IsAtRest r m
   rest_before_move m due up e = subst (IsAtRest r) (sym e) (rest-settled r cuts n (i.fitted (fitted_where_due due)) up)
 
-  pub sound_moved : (m new : Device) → every ≤ since → n.down ≡ false → m ≡ settled n → IsFramed n m → new ≡ line_moved r m → IsSound every (moved r) 0 cuts new
+  pub sound_moved : (m new : Device) → every ≤ since → n.down ≡ false → m ≡ settled n → IsFramed n m → new ≡ line_moved r m → IsSoundGap every (moved r) 0 cuts new
   sound_moved m new due up e f is =
       let l = fitted_where_due due in
       let rest = rest_before_move m due up e in
@@ -170,7 +170,7 @@ module _ {every since cuts : ℕ} {r : Registers} {n : Device} (i : IsSound ever
   move_seen m new due up e is =
       ap (seen (moved r)) is ∙ seen-moved r m (rest_before_move m due up e) ∙ ap (seen r) e ∙ barrier_seen
 
-  pub sound_failed_to_move : (m new : Device) → n.down ≡ false → m ≡ settled n → IsFramed n m → IsFramed m new → HasFailedToMove r m new → IsSound every r since cuts new
+  pub sound_failed_to_move : (m new : Device) → n.down ≡ false → m ≡ settled n → IsFramed n m → IsFramed m new → HasFailedToMove r m new → IsSoundGap every r since cuts new
   sound_failed_to_move m new up e f f2 failed =
       sound_still new
       (λ d. IsLevelled-failed_to_move r cuts m new (IsLevelled-quiet r cuts n m d f (subst (IsQuiet r) (sym e) (IsQuiet-settled r n (d.quiet up)))) f2 failed)
@@ -209,12 +209,12 @@ module _ {every since cuts : ℕ} {r : Registers} {n : Device} (i : IsSound ever
 
   pub cut_seen : (pick : ℕ) (new : Device) (s : Registers) → 0 < r.lines → IsCut pick n new
       → s ≡ registers_of r.lines (block_at (slice_index_or new.left cuts []) (r.lines + 1))
-      → IsCut pick (seen r n) (seen s new) × IsSound every s since (cuts + 1) new
+      → IsCut pick (seen r n) (seen s new) × IsSoundGap every s since (cuts + 1) new
   cut_seen pick new s l c e =
       let d = i.fitted l in
       let both = IsCut-seen r cuts pick n new d c in
       let some : 0 < (registers_in new.image).lines = omega (arith, l, d.blocks, c.crash.same_length) in
-      subst (λ (q : Registers). IsCut pick (seen r n) (seen q new) × IsSound every q since (cuts + 1) new) (sym (e ∙ registers_after_cut pick new l c)) (
+      subst (λ (q : Registers). IsCut pick (seen r n) (seen q new) × IsSoundGap every q since (cuts + 1) new) (sym (e ∙ registers_after_cut pick new l c)) (
         both.0,
         record {
           some = i.some;
@@ -259,7 +259,7 @@ module _ {every since cuts : ℕ} {r : Registers} {n : Device} (i : IsSound ever
 
   -- ---- fits
 
-  pub sound_failed_to_fit : (new : Device) (e : FitError) → HasFailedToFit e n new → IsSound every r since cuts new
+  pub sound_failed_to_fit : (new : Device) (e : FitError) → HasFailedToFit e n new → IsSoundGap every r since cuts new
   sound_failed_to_fit new Failed h = sound_still new (λ d. IsLevelled-failed_to_fit r cuts (next n.fits) n new d h.1 h.0)
   sound_failed_to_fit new (Memory e) h =
       sound_still new
@@ -276,7 +276,7 @@ module _ {every since cuts : ℕ} {r : Registers} {n : Device} (i : IsSound ever
   ]
 
   pub sound_fitted : (new : Device) (shape : Shape) (start : List Block) → 0 < shape.blocks → length start ≤ shape.blocks → shape.blocks + 2 < 2 ^ 64 → shape.cuts + 1 < 2 ^ 64
-      → new ≡ fitted (inner_shape shape) (first_image shape.blocks start) n → IsSound every (unmoved shape.blocks) 0 0 new
+      → new ≡ fitted (inner_shape shape) (first_image shape.blocks start) n → IsSoundGap every (unmoved shape.blocks) 0 0 new
   sound_fitted new shape start l most room cuts e = record {
     some = i.some;
     fitted = λ _. subst (IsLevelled (unmoved shape.blocks) 0) (sym e) (IsLevelled-fitted shape start n l most room cuts);

@@ -105,7 +105,7 @@ pub record IsLevelled (r : Registers) (cuts : ℕ) (n : Device) : Type 0 where
   pub room : n.left_room ≤ 2 ^ 64 - 1
 
 -- what holds of every levelled device
-pub record IsSound (every : ℕ) (r : Registers) (since cuts : ℕ) (n : Device) : Type 0 where
+pub record IsSoundGap (every : ℕ) (r : Registers) (since cuts : ℕ) (n : Device) : Type 0 where
   pub some : 0 < every
   pub fitted : 0 < r.lines → IsLevelled r cuts n
   pub no_registers : r.lines ≡ 0 → r ≡ no_lines

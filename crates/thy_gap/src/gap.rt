@@ -27,13 +27,13 @@ pub struct Gap<N: Nvm> {
 }
 
 impl<N: Nvm> Model for Gap<N> {
-    ghost use Rattle.thy_gap.specs.Levelled.{Levelled, IsSound};
+    ghost use Rattle.thy_gap.specs.Levelled.{Levelled, IsSoundGap};
 
     ghost Value = { Levelled N };
 
     ghost view = { λ g. record { inner = g.inner; every = g.every; registers = g.registers; since = g.since; cuts = g.cuts } };
 
-    ghost invariant = { λ g. IsSound g.every g.registers g.since g.cuts (N.device g.inner) };
+    ghost invariant = { λ g. IsSoundGap g.every g.registers g.since g.cuts (N.device g.inner) };
 }
 
 impl<N: Nvm> Gap<N> {

@@ -24,7 +24,7 @@ use Rattle.thy_isa.specs.OnBlocks.{effect_in}
 use Rattle.thy_isa.specs.Step.{fetch_fault, fetched as unless_trapped, within}
 use Rattle.thy_isa.proofs.AccessLaws.{within-is}
 use Rattle.thy_isa.proofs.BlockLaws.{fetch_inside}
-use Rattle.thy_hart.specs.Core.{unless_fault, fetched_block}
+use Rattle.thy_hart.specs.HartState.{unless_fault, fetched_block}
 use Rattle.thy_hart.specs.MicroSteps.{ReadsWord, FetchesEffect}
 
 -- ---- a word that can be fetched

@@ -12,14 +12,14 @@ use Rattle.thy_isa.proofs.BlockLaws.{state_from-step}
 use Rattle.thy_hart.specs.declared.hand.Hand.TheVariants.{Nothing}
 use Rattle.thy_hart.specs.declared.hand.HartStep.{HartStep}
 use Rattle.thy_hart.specs.declared.hand.HartStep.TheVariants.{Moved, Retired, Waiting, Over}
-use Rattle.thy_hart.specs.Core.{Core, has_written}
+use Rattle.thy_hart.specs.HartState.{HartState, has_written}
 use Rattle.thy_hart.specs.Outcomes.{Given}
 use Rattle.thy_hart.specs.Moments.{Moment, memory_of}
 use Rattle.thy_hart.specs.OneStep.{current, coming_by, coming, IsOnTheWay, HasCome, IsDropped, IsUnmoved, Leads, LeadsOver, StaysWritten, IsStep}
 use Rattle.thy_hart.specs.Laws.{IsSized, Follows, state_after, state_over}
 
 -- with nothing in hand the next state is to come
-pub next-coming : (input : List ℕ) (h : Core) (memory : List Block) → IsSized h memory → h.hand ≡ Nothing → is_running h.cpu.status ≡ true
+pub next-coming : (input : List ℕ) (h : HartState) (memory : List Block) → IsSized h memory → h.hand ≡ Nothing → is_running h.cpu.status ≡ true
     → coming input h memory ≡ step (setting_for h.geometry input) (current h memory)
 unfolding coming current
 next-coming input h memory s none running =
@@ -33,7 +33,7 @@ sized-after g old new s w sized = record {
 }
 
 -- the instruction in hand continues
-on_the_way : (input : List ℕ) (now : State) (old new : Core) (before after : List Block) → Follows input now old before → IsSized new after → new.geometry ≡ old.geometry
+on_the_way : (input : List ℕ) (now : State) (old new : HartState) (before after : List Block) → Follows input now old before → IsSized new after → new.geometry ≡ old.geometry
     → IsOnTheWay input old before new after → (has_written new.hand ≡ false → after ≡ before) → (has_written new.hand ≡ false → has_written old.hand ≡ false)
     → Follows input now new after
 unfolding current
@@ -51,7 +51,7 @@ on_the_way input now old new before after f sized fixed way clean written = reco
 }
 
 -- it retired
-has_come : (input : List ℕ) (now : State) (old new : Core) (before after : List Block) → is_running old.cpu.status ≡ true → Follows input now old before → IsSized new after
+has_come : (input : List ℕ) (now : State) (old new : HartState) (before after : List Block) → is_running old.cpu.status ≡ true → Follows input now old before → IsSized new after
     → HasCome input old before new after → Follows input (step (setting_for old.geometry input) now) new after
 has_come input now old new before after runs f sized come =
     let is : current new after ≡ step (setting_for old.geometry input) now = come.current ∙ f.coming runs in
@@ -62,7 +62,7 @@ has_come input now old new before after runs f sized come =
     }
 
 -- it was dropped
-was_dropped : (input : List ℕ) (now : State) (old new : Core) (before after : List Block) → Follows input now old before → IsSized new after → new.geometry ≡ old.geometry
+was_dropped : (input : List ℕ) (now : State) (old new : HartState) (before after : List Block) → Follows input now old before → IsSized new after → new.geometry ≡ old.geometry
     → IsDropped old before new after → Follows input now new after
 unfolding current
 was_dropped input now old new before after f sized fixed drop =
@@ -77,18 +77,18 @@ was_dropped input now old new before after f sized fixed drop =
       coming = λ running. next-coming input new after sized drop.hand running ∙ ap (step (setting_for new.geometry input)) is;
     }
 
-unmoved : (input : List ℕ) (now : State) (old new : Core) (before after : List Block) → Follows input now old before → IsUnmoved old before new after → Follows input now new after
+unmoved : (input : List ℕ) (now : State) (old new : HartState) (before after : List Block) → Follows input now old before → IsUnmoved old before new after → Follows input now new after
 unmoved input now old new before after f same =
     subst (λ h. Follows input now h after) (sym same.hart) (subst (Follows input now old) (sym same.memory) f)
 
-follows-over : (cause : EndCause) (input : List ℕ) (now : State) (old new : Core) (before after : List Block) → is_running old.cpu.status ≡ true → Follows input now old before
+follows-over : (cause : EndCause) (input : List ℕ) (now : State) (old new : HartState) (before after : List Block) → is_running old.cpu.status ≡ true → Follows input now old before
     → IsSized new after → new.geometry ≡ old.geometry → LeadsOver cause input old before new after
     → Follows input (state_over cause now (step (setting_for old.geometry input) now)) new after
 follows-over Length input now old new before after runs f sized fixed leads = has_come input now old new before after runs f sized leads
 follows-over (Exhausted free dirty need) input now old new before after runs f sized fixed leads = was_dropped input now old new before after f sized fixed leads
 follows-over Ended input now old new before after runs f sized fixed leads = has_come input now old new before after runs f sized leads
 
-follows-by : (s : HartStep) (input : List ℕ) (now : State) (old new : Core) (before after : List Block) → is_running old.cpu.status ≡ true → Follows input now old before
+follows-by : (s : HartStep) (input : List ℕ) (now : State) (old new : HartState) (before after : List Block) → is_running old.cpu.status ≡ true → Follows input now old before
     → IsSized new after → new.geometry ≡ old.geometry → Leads s input old before new after → (has_written new.hand ≡ false → after ≡ before)
     → StaysWritten s old.hand new.hand → Follows input (state_after s now (step (setting_for old.geometry input) now)) new after
 follows-by Moved input now old new before after runs f sized fixed leads clean written = on_the_way input now old new before after f sized fixed leads clean written

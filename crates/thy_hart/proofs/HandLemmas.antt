@@ -21,7 +21,7 @@ use Rattle.thy_isa.specs.OnBlocks.{calls_in}
 use Rattle.thy_isa.proofs.MoveLaws.{moves_of-spans, moves_of-enough}
 use Rattle.thy_hart.specs.declared.hand.Hand.{Hand}
 use Rattle.thy_hart.specs.declared.hand.Hand.TheVariants.{Reading, Reserving, Writing, Retiring}
-use Rattle.thy_hart.specs.Core.{Core, blocks_of, reserved, read_len, IsReading, IsWriting, IsInHand, IsSound}
+use Rattle.thy_hart.specs.HartState.{HartState, blocks_of, reserved, read_len, IsReading, IsWriting, IsInHand, IsSoundHart}
 use Rattle.thy_hart.specs.Outcomes.{begun, written_on, room_reserved}
 
 -- ---- choices
@@ -174,16 +174,16 @@ fetch-sound p input cpu e calls bytes m hand r inside is b moves begins =
     let at_moves : IsServed p e m.from m.to (length bytes) = subst (λ (t : Moves). IsServed p e t.from t.to (length bytes)) (sym moves) at_bytes in
     subst (λ x. IsInHand p x (length bytes)) (sym begins) (begun-sound p e m.from m.to (length bytes) at_moves)
 
-if_core : (P : Core → Type 0) (b : Bool) (x y : Core) → P x → P y → P (if b then x else y)
-if_core P true x y p q = p
-if_core P false x y p q = q
+if_hart_state : (P : HartState → Type 0) (b : Bool) (x y : HartState) → P x → P y → P (if b then x else y)
+if_hart_state P true x y p q = p
+if_hart_state P false x y p q = q
 
 -- after a reservation, whatever comes of it
-pub room_reserved-sound : (free dirty : ℕ) (under_way : Bool) (e : Effect) (to : Span) (old new : Core) → IsSound old → IsWriting old.geometry e to 0 (length old.bytes)
-    → new ≡ room_reserved free under_way dirty e to old → IsSound new
+pub room_reserved-sound : (free dirty : ℕ) (under_way : Bool) (e : Effect) (to : Span) (old new : HartState) → IsSoundHart old → IsWriting old.geometry e to 0 (length old.bytes)
+    → new ≡ room_reserved free under_way dirty e to old → IsSoundHart new
 unfolding room_reserved
 room_reserved-sound free dirty under_way e to old new s h is =
-    subst IsSound (sym is)
-    (if_core IsSound (nat_lt free (dirty + blocks_of to)) _ _
-    (if_core IsSound under_way old _ s (record { range = s.range; in_hand = refl }))
+    subst IsSoundHart (sym is)
+    (if_hart_state IsSoundHart (nat_lt free (dirty + blocks_of to)) _ _
+    (if_hart_state IsSoundHart under_way old _ s (record { range = s.range; in_hand = refl }))
     (record { range = s.range; in_hand = h }))

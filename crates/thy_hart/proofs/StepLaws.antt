@@ -15,7 +15,7 @@ use Rattle.thy_hart.specs.declared.hand.Hand.{Hand}
 use Rattle.thy_hart.specs.declared.hand.Hand.TheVariants.{Nothing, Reading, Reserving, Writing, Retiring}
 use Rattle.thy_hart.specs.declared.hand.HartStep.{HartStep}
 use Rattle.thy_hart.specs.declared.hand.HartStep.TheVariants.{Moved, Retired, Waiting, Over}
-use Rattle.thy_hart.specs.Core.{Core, fetched_block, block_for, next_block, reserved, IsInHand, IsSound}
+use Rattle.thy_hart.specs.HartState.{HartState, fetched_block, block_for, next_block, reserved, IsInHand, IsSoundHart}
 use Rattle.thy_hart.specs.Outcomes.{Given, acted_by, answer_by, memory_by}
 use Rattle.thy_hart.specs.Bring.{IsNearer, BringsLine, IsBrought}
 use Rattle.thy_hart.specs.Moments.{Moment, moment, is_missing, IsOpenInTheWay, IsOpenFor, IsReady, touch_left}
@@ -45,7 +45,7 @@ block_for-inside p cpu (Writing e to done) have b w h =
     omega (arith, some_same (first_block to) b h, first_block-inside (memory_blocks p) to w.span_to w.some)
 block_for-inside p cpu (Retiring e wrote) have b w h = cc h
 
-pub next_block-inside : (h : Core) (b : ℕ) → IsSound h → next_block h ≡ Some b → b < memory_blocks h.geometry
+pub next_block-inside : (h : HartState) (b : ℕ) → IsSoundHart h → next_block h ≡ Some b → b < memory_blocks h.geometry
 next_block-inside h b s is = block_for-inside h.geometry h.cpu h.hand (length h.bytes) b s.in_hand is
 
 -- ---- a line is brought
@@ -57,11 +57,11 @@ if_true b x y h = sym (ap (λ t. if t then x else y) h)
 if_false : {A : Type 0} (b : Bool) (x y : A) → b ≡ false → y ≡ (if b then x else y)
 if_false b x y h = sym (ap (λ t. if t then x else y) h)
 
-nearer_by : (b : ℕ) (h : Core) (c d : Contents) (old new : Holding) → next_block h ≡ Some b → IsNearer b c old d new → ComesNearer (moment h c old) (moment h d new)
+nearer_by : (b : ℕ) (h : HartState) (c d : Contents) (old new : Holding) → next_block h ≡ Some b → IsNearer b c old d new → ComesNearer (moment h c old) (moment h d new)
 nearer_by b h c d old new is (inl less) = inl (omega (arith, less, ap (touch_left c) is, ap (touch_left d) is))
 nearer_by b h c d old new is (inr same) = inr (omega (arith, same.0, ap (touch_left c) is, ap (touch_left d) is), same.1)
 
-pub IsStep-brought : (g : Given) (b : ℕ) (h : Core) (c d : Contents) (old new : Holding) → IsReady (moment h c old) → next_block h ≡ Some b → hits c b ≡ false
+pub IsStep-brought : (g : Given) (b : ℕ) (h : HartState) (c d : Contents) (old new : Holding) → IsReady (moment h c old) → next_block h ≡ Some b → hits c b ≡ false
     → IsBrought b c old d new → IsStep g (moment h c old) (moment h d new) Moved
 IsStep-brought g b h c d old new r is miss w =
     let brought : is_missing c (next_block h) ≡ true = ap (is_missing c) is ∙ ap not miss in
@@ -137,7 +137,7 @@ nears_by Retired old new h = tt
 nears_by Waiting old new h = tt
 nears_by (Over cause) old new h = tt
 
-pub IsStep-acted : (g : Given) (h k : Core) (c d : Contents) (held : Holding) (step : HartStep) → g.free ≡ held.free → IsSound h → IsReady (moment h c held)
+pub IsStep-acted : (g : Given) (h k : HartState) (c d : Contents) (held : Holding) (step : HartStep) → g.free ≡ held.free → IsSoundHart h → IsReady (moment h c held)
     → HitsNext c (next_block h) → IsMicroStep g c d h k step → IsStep g (moment h c held) (moment k d held) step
 IsStep-acted g h k c d held step free s r hit a =
     let before = flat c held.blocks in

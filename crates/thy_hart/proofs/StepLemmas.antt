@@ -26,7 +26,7 @@ use Rattle.thy_hart.specs.declared.hand.Hand.{Hand}
 use Rattle.thy_hart.specs.declared.hand.Hand.TheVariants.{Nothing, Reading, Reserving, Writing, Retiring}
 use Rattle.thy_hart.specs.declared.hand.HartStep.{HartStep}
 use Rattle.thy_hart.specs.declared.hand.HartStep.TheVariants.{Moved, Retired, Waiting, Over}
-use Rattle.thy_hart.specs.Core.{Core, unless_fault, fetched_block, block_for, next_block, blocks_of, reserved, has_written, IsWriting, IsInHand}
+use Rattle.thy_hart.specs.HartState.{HartState, unless_fault, fetched_block, block_for, next_block, blocks_of, reserved, has_written, IsWriting, IsInHand}
 use Rattle.thy_hart.specs.Outcomes.{Given, begun, written_on, fetched, block_read, dropped, room_reserved, room_answer, block_written, epoch_retired, retired, over_or_retired, acted_by, answer_by, memory_by}
 use Rattle.thy_hart.specs.Moments.{touch_steps, touch_left, left_behind}
 use Rattle.thy_hart.specs.MicroSteps.{HitsNext}
@@ -40,11 +40,11 @@ FallsAt Retired old new = Unit {0}
 FallsAt Waiting old new = Unit {0}
 FallsAt (Over cause) old new = Unit {0}
 
-abbrev pub left_at : Contents → Core → ℕ
+abbrev pub left_at : Contents → HartState → ℕ
 left_at c h = touch_left c (next_block h) + left_behind h.hand
 
 -- what holds of a hart and a memory before and after a micro-step
-pub record IsDone (g : Given) (c d : Contents) (h : Core) (m : List Block) (new : Core) (step : HartStep) (now : List Block) : Type 0 where
+pub record IsDone (g : Given) (c d : Contents) (h : HartState) (m : List Block) (new : HartState) (step : HartStep) (now : List Block) : Type 0 where
   pub leads : Leads step g.input h m new now
   pub falls : FallsAt step (left_at c h) (left_at d new)
   pub unwritten : reserved h.hand ≡ 0 → now ≡ m
@@ -56,13 +56,13 @@ pub record IsDone (g : Given) (c d : Contents) (h : Core) (m : List Block) (new 
   pub console : h.cpu.console_len ≤ console_room h.geometry → new.cpu.console_len ≤ console_room new.geometry
 
 -- a hart with this in hand
-abbrev pub with_hand : Hand → Core → Core
+abbrev pub with_hand : Hand → HartState → HartState
 with_hand hand h = record h { hand = hand }
 
 -- ---- what is to come
 
 -- an effect that begins or continues reaches the same state as its bytes do
-pub begun-coming : (input : List ℕ) (h : Core) (m : List Block) (e : Effect) (from to : Span)
+pub begun-coming : (input : List ℕ) (h : HartState) (m : List Block) (e : Effect) (from to : Span)
     → coming_by input h m (begun e from to) ≡ led input h e (h.bytes ++ gathered m from) (scattered m to (h.bytes ++ gathered m from))
 begun-coming input h m e from to =
     let all : List ℕ = h.bytes ++ gathered m from in
@@ -74,7 +74,7 @@ begun-coming input h m e from to =
     (λ none end. ap (λ bs. led input h e bs m) (none_read none) ∙ ap (led input h e all) (sym (scattered-none m to all end)))
 
 -- one that continues after a written block reaches the same state as the rest of its bytes do
-pub written-coming : (input : List ℕ) (h : Core) (m : List Block) (e : Effect) (to : Span) (done : ℕ)
+pub written-coming : (input : List ℕ) (h : HartState) (m : List Block) (e : Effect) (to : Span) (done : ℕ)
     → coming_by input h m (written_on e to done) ≡ led input h e h.bytes (scattered m to (drop done h.bytes))
 written-coming input h m e to done =
     written_by (λ hand. coming_by input h m hand ≡ led input h e h.bytes (scattered m to (drop done h.bytes))) e to done
@@ -115,7 +115,7 @@ fault : (p : Parameters) (cpu : CpuState) (m : List Block) → fetched_block p c
 unfolding fetched_block effect_in
 fault p cpu m h = fault_by (fetch_fault p.base (program_size p) cpu.pc) (first_block (span (cpu.pc - p.base) 4)) _ h
 
-fault-hand : (input : List ℕ) (m : List Block) (h : Core) → fetched_block h.geometry h.cpu ≡ None → (cause : Cause) × ((fetched input m h).hand ≡ Retiring (Trap cause) false)
+fault-hand : (input : List ℕ) (m : List Block) (h : HartState) → fetched_block h.geometry h.cpu ≡ None → (cause : Cause) × ((fetched input m h).hand ≡ Retiring (Trap cause) false)
 unfolding fetched begun moves_of
 fault-hand input m h none =
     let w = fault h.geometry h.cpu m none in
@@ -126,7 +126,7 @@ retiring_left : (d : Contents) (p : Parameters) (cpu : CpuState) (e : Effect) (w
 unfolding left_with
 retiring_left d p cpu e wrote = refl
 
-fetch-falls : (input : List ℕ) (c d : Contents) (h : Core) (m : List Block) (o : Option ℕ) → fetched_block h.geometry h.cpu ≡ o → HitsNext c o
+fetch-falls : (input : List ℕ) (c d : Contents) (h : HartState) (m : List Block) (o : Option ℕ) → fetched_block h.geometry h.cpu ≡ o → HitsNext c o
     → left_with d h.geometry h.cpu (fetched input m h).hand + 1 ≤ touch_left c o + 13
 unfolding fetched
 fetch-falls input c d h m None is hit =
@@ -165,7 +165,7 @@ written-has e to n some =
 
 -- ---- each micro-step
 
-module _ (g : Given) (c d : Contents) (h : Core) (m : List Block) where
+module _ (g : Given) (c d : Contents) (h : HartState) (m : List Block) where
   fetch-done : HitsNext c (fetched_block h.geometry h.cpu)
       → IsDone g c d (with_hand Nothing h) m (fetched g.input m (with_hand Nothing h)) Moved m
   unfolding coming fetched bytes_in blocks_after left_with

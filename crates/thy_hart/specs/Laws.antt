@@ -11,7 +11,7 @@ use Rattle.thy_isa.specs.Step.{State, is_running, step}
 use Rattle.thy_hart.specs.declared.hand.Hand.TheVariants.{Nothing}
 use Rattle.thy_hart.specs.declared.hand.HartStep.{HartStep}
 use Rattle.thy_hart.specs.declared.hand.HartStep.TheVariants.{Moved, Retired, Waiting, Over}
-use Rattle.thy_hart.specs.Core.{Core, reserved, has_written}
+use Rattle.thy_hart.specs.HartState.{HartState, reserved, has_written}
 use Rattle.thy_hart.specs.Outcomes.{Given}
 use Rattle.thy_hart.specs.Moments.{Moment, memory_of, IsReady, moves_left}
 use Rattle.thy_hart.specs.OneStep.{current, coming, IsStep}
@@ -27,7 +27,7 @@ abbrev pub FewMovesAreLeft : Type 0
 FewMovesAreLeft = (m : Moment) → moves_left m ≤ 16
 
 -- blocks of memory, and a console within its room
-pub record IsSized (h : Core) (memory : List Block) : Type 0 where
+pub record IsSized (h : HartState) (memory : List Block) : Type 0 where
   pub range : IsInRange h.geometry
   pub blocks : length memory ≡ memory_blocks h.geometry
   pub console : h.cpu.console_len ≤ console_room h.geometry
@@ -35,12 +35,12 @@ pub record IsSized (h : Core) (memory : List Block) : Type 0 where
 -- with nothing in hand, the state that is to come is the plain machine's next state
 abbrev pub NextStateIsToCome : Type 0
 NextStateIsToCome =
-    (input : List ℕ) (h : Core) (memory : List Block) → IsSized h memory → h.hand ≡ Nothing → is_running h.cpu.status ≡ true
+    (input : List ℕ) (h : HartState) (memory : List Block) → IsSized h memory → h.hand ≡ Nothing → is_running h.cpu.status ≡ true
     → coming input h memory ≡ step (setting_for h.geometry input) (current h memory)
 
 -- the hart is at this state of the plain machine: while the instruction in hand has written nothing, this is its current
 -- state, and the state that is to come is the next
-pub record Follows (input : List ℕ) (now : State) (h : Core) (memory : List Block) : Type 0 where
+pub record Follows (input : List ℕ) (now : State) (h : HartState) (memory : List Block) : Type 0 where
   pub sized : IsSized h memory
   pub current : has_written h.hand ≡ false → current h memory ≡ now
   pub coming : is_running h.cpu.status ≡ true → coming input h memory ≡ step (setting_for h.geometry input) now

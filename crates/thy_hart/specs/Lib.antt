@@ -1,4 +1,4 @@
-pub mod Core
+pub mod HartState
 pub mod Outcomes
 pub mod Moments
 pub mod Bring

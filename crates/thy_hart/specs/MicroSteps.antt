@@ -1,10 +1,10 @@
--- The parts of a hart as one core, and what a micro-step makes of them over every store of blocks.
+-- The parts of a hart as one state, and what a micro-step makes of them over every store of blocks.
 use Rattle.std.specs.Prelude.{◌≡◌, ℕ, ◌+◌, ◌<◌, ◌≤◌, true, false, List, length, Option, Some, None}
 use Rattle.thy_base.specs.declared.block.Block.{Block}
 use Rattle.thy_base.specs.declared.config.Parameters.{Parameters}
 use Rattle.thy_base.specs.Geometry.{memory_blocks}
 use Rattle.thy_base.specs.LittleEndian.{number_at}
-use Rattle.thy_cache.specs.declared.line.Place.{Place}
+use Rattle.thy_cache.specs.declared.line.LinePlace.{LinePlace}
 use Rattle.thy_cache.specs.Contents.{Contents, hits, place_of, dirty_count, KeepsSize}
 use Rattle.thy_cache.specs.Flat.{flat, AgreesStill}
 use Rattle.thy_flat.specs.declared.span.Span.{Span}
@@ -13,14 +13,14 @@ use Rattle.thy_isa.specs.declared.state.CpuState.{CpuState}
 use Rattle.thy_isa.specs.declared.state.Effect.{Effect}
 use Rattle.thy_isa.specs.OnBlocks.{effect_in}
 use Rattle.thy_hart.specs.declared.hand.HartStep.{HartStep}
-use Rattle.thy_hart.specs.declared.hand.Next.{Next}
-use Rattle.thy_hart.specs.declared.hand.Next.TheVariants.{Bring, Act}
-use Rattle.thy_hart.specs.declared.micro_steps.Parts.{Parts}
-use Rattle.thy_hart.specs.Core.{Core, next_block, reserved}
+use Rattle.thy_hart.specs.declared.hand.LineLookup.{LineLookup}
+use Rattle.thy_hart.specs.declared.hand.LineLookup.TheVariants.{Bring, Act}
+use Rattle.thy_hart.specs.declared.micro_steps.HartParts.{HartParts}
+use Rattle.thy_hart.specs.HartState.{HartState, next_block, reserved}
 use Rattle.thy_hart.specs.Outcomes.{Given, fetched, block_read, acted_by, answer_by, memory_by, cache_by}
 
-abbrev pub core_of : Parts → Core
-core_of h = record { geometry = h.geometry; cpu = h.cpu; epoch = h.epoch; hand = h.hand; bytes = h.bytes.items }
+abbrev pub hart_state_of : HartParts → HartState
+hart_state_of h = record { geometry = h.geometry; cpu = h.cpu; epoch = h.epoch; hand = h.hand; bytes = h.bytes.items }
 
 -- a block that is touched, if one is, hits
 abbrev pub HitsNext : Contents → Option ℕ → Type 0
@@ -28,14 +28,14 @@ HitsNext c None = Unit {0}
 HitsNext c (Some b) = hits c b ≡ true
 
 -- and its line is at this place
-abbrev pub IsFound : Contents → Option ℕ → Option Place → Type 0
+abbrev pub IsFound : Contents → Option ℕ → Option LinePlace → Type 0
 IsFound c None None = Unit {0}
 IsFound c None (Some place) = ⊥
 IsFound c (Some b) None = ⊥
 IsFound c (Some b) (Some place) = place_of c b ≡ Some place
 
 -- what a micro-step finds that touches this block, if it touches one: its line is missing, or is there
-abbrev pub IsNext : Contents → Option ℕ → Next → Type 0
+abbrev pub IsNext : Contents → Option ℕ → LineLookup → Type 0
 IsNext c o (Bring b) = (o ≡ Some b) × (hits c b ≡ false)
 IsNext c o (Act place) = HitsNext c o × IsFound c o place
 
@@ -49,12 +49,12 @@ abbrev pub FetchesEffect : Parameters → CpuState → Contents → Effect → T
 FetchesEffect p cpu c e = (blocks : List Block) → length blocks ≡ memory_blocks p → e ≡ effect_in p cpu (flat c blocks)
 
 -- the hart after a fetch
-abbrev pub FetchesIn : List ℕ → Contents → Core → Core → Type 0
+abbrev pub FetchesIn : List ℕ → Contents → HartState → HartState → Type 0
 FetchesIn input c old new =
     (blocks : List Block) → length blocks ≡ memory_blocks old.geometry → new ≡ fetched input (flat c blocks) old
 
 -- the hart after a block was read
-abbrev pub ReadsIn : Contents → Effect → Span → Span → Core → Core → Type 0
+abbrev pub ReadsIn : Contents → Effect → Span → Span → HartState → HartState → Type 0
 ReadsIn c e from to old new =
     (blocks : List Block) → length blocks ≡ memory_blocks old.geometry → new ≡ block_read (flat c blocks) e from to old
 
@@ -63,7 +63,7 @@ abbrev pub WritesIn : ℕ → Contents → Contents → Span → List ℕ → Ty
 WritesIn n c d to bytes = (blocks : List Block) → length blocks ≡ n → flat d blocks ≡ head_put (flat c blocks) to bytes
 
 -- what a micro-step makes of cache and hart
-pub record IsMicroStep (g : Given) (c d : Contents) (old new : Core) (step : HartStep) : Type 0 where
+pub record IsMicroStep (g : Given) (c d : Contents) (old new : HartState) (step : HartStep) : Type 0 where
   pub hart : (blocks : List Block) → length blocks ≡ memory_blocks old.geometry
       → new ≡ acted_by g (dirty_count c) (flat c blocks) old old.hand
   pub says : step ≡ answer_by g (dirty_count c) old old.hand

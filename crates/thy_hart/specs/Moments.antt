@@ -9,14 +9,14 @@ use Rattle.thy_cache.specs.Contents.{Contents, hits, victim_of, victim_line_of, 
 use Rattle.thy_cache.specs.Flat.{flat, Agrees}
 use Rattle.thy_hart.specs.declared.hand.Hand.{Hand}
 use Rattle.thy_hart.specs.declared.hand.Hand.TheVariants.{Nothing, Reading, Reserving, Writing, Retiring}
-use Rattle.thy_hart.specs.Core.{Core, blocks_of, next_block, reserved}
+use Rattle.thy_hart.specs.HartState.{HartState, blocks_of, next_block, reserved}
 
 pub record Moment : Type 0 where
-  pub hart : Core
+  pub hart : HartState
   pub cache : Contents
   pub held : Holding
 
-abbrev pub moment : Core → Contents → Holding → Moment
+abbrev pub moment : HartState → Contents → Holding → Moment
 moment hart cache held = record { hart = hart; cache = cache; held = held }
 
 -- memory, as it is read through the cache

@@ -16,7 +16,7 @@ use Rattle.thy_hart.specs.declared.hand.Hand.{Hand}
 use Rattle.thy_hart.specs.declared.hand.Hand.TheVariants.{Nothing, Reading, Reserving, Writing, Retiring}
 use Rattle.thy_hart.specs.declared.hand.HartStep.{HartStep}
 use Rattle.thy_hart.specs.declared.hand.HartStep.TheVariants.{Moved, Retired, Waiting, Over}
-use Rattle.thy_hart.specs.Core.{Core, next_block, reserved, has_written}
+use Rattle.thy_hart.specs.HartState.{HartState, next_block, reserved, has_written}
 use Rattle.thy_hart.specs.Outcomes.{Given, acted_by, answer_by, memory_by, cache_by}
 use Rattle.thy_hart.specs.Bring.{BringsLine}
 use Rattle.thy_hart.specs.Moments.{Moment, memory_of, brings_line, IsReady, moves_left}
@@ -24,20 +24,20 @@ use Rattle.thy_hart.specs.Moments.{Moment, memory_of, brings_line, IsReady, move
 -- ---- the plain state
 
 -- the state as it is, without the instruction in hand
-unfoldable pub current : Core → List Block → State
+unfoldable pub current : HartState → List Block → State
 current h memory = state_from h.geometry h.cpu memory
 
 -- the state after an effect that has moved these bytes, over the memory that it leaves
-abbrev pub led : List ℕ → Core → Effect → List ℕ → List Block → State
+abbrev pub led : List ℕ → HartState → Effect → List ℕ → List Block → State
 led input h e bytes memory = state_from h.geometry (cpu_after h.geometry input h.cpu e bytes) memory
 
 -- the state after the instruction at the program counter
-abbrev pub led_from_fetch : List ℕ → Core → List Block → Effect → State
+abbrev pub led_from_fetch : List ℕ → HartState → List Block → Effect → State
 led_from_fetch input h memory e =
     let bytes = bytes_in h.geometry input h.cpu memory e in
     led input h e bytes (blocks_after h.geometry input h.cpu memory e bytes)
 
-abbrev pub coming_by : List ℕ → Core → List Block → Hand → State
+abbrev pub coming_by : List ℕ → HartState → List Block → Hand → State
 coming_by input h memory Nothing = led_from_fetch input h memory (effect_in h.geometry h.cpu memory)
 coming_by input h memory (Reading e from to) =
     let bytes = h.bytes ++ gathered memory from in led input h e bytes (scattered memory to bytes)
@@ -46,13 +46,13 @@ coming_by input h memory (Writing e to done) = led input h e h.bytes (scattered 
 coming_by input h memory (Retiring e wrote) = led input h e h.bytes memory
 
 -- the state after the instruction in hand, or else after the next one
-unfoldable pub coming : List ℕ → Core → List Block → State
+unfoldable pub coming : List ℕ → HartState → List Block → State
 coming input h memory = coming_by input h memory h.hand
 
 -- ---- what a step does
 
 -- a line is brought, and the hart stays as it is; or else the hart acts
-abbrev pub hart_after : Given → Moment → Core
+abbrev pub hart_after : Given → Moment → HartState
 hart_after g m = if brings_line m then m.hart else acted_by g (dirty_count m.cache) (memory_of m) m.hart m.hart.hand
 
 abbrev pub answer_to : Given → Moment → HartStep
@@ -62,33 +62,33 @@ abbrev pub memory_after : Moment → List Block
 memory_after m = if brings_line m then memory_of m else memory_by m.hart.bytes (memory_of m) m.hart.hand
 
 -- what is to come is as before
-pub record IsOnTheWay (input : List ℕ) (old : Core) (before : List Block) (new : Core) (now : List Block) : Type 0 where
+pub record IsOnTheWay (input : List ℕ) (old : HartState) (before : List Block) (new : HartState) (now : List Block) : Type 0 where
   pub cpu : new.cpu ≡ old.cpu
   pub coming : coming input new now ≡ coming input old before
 
 -- what was to come is there
-pub record HasCome (input : List ℕ) (old : Core) (before : List Block) (new : Core) (now : List Block) : Type 0 where
+pub record HasCome (input : List ℕ) (old : HartState) (before : List Block) (new : HartState) (now : List Block) : Type 0 where
   pub current : current new now ≡ coming input old before
   pub hand : new.hand ≡ Nothing
 
 -- the instruction was dropped without having written anything
-pub record IsDropped (old : Core) (before : List Block) (new : Core) (now : List Block) : Type 0 where
+pub record IsDropped (old : HartState) (before : List Block) (new : HartState) (now : List Block) : Type 0 where
   pub cpu : new.cpu ≡ old.cpu
   pub hand : new.hand ≡ Nothing
   pub memory : now ≡ before
   pub unwritten : has_written old.hand ≡ false
 
 -- nothing has changed
-pub record IsUnmoved (old : Core) (before : List Block) (new : Core) (now : List Block) : Type 0 where
+pub record IsUnmoved (old : HartState) (before : List Block) (new : HartState) (now : List Block) : Type 0 where
   pub hart : new ≡ old
   pub memory : now ≡ before
 
-abbrev pub LeadsOver : EndCause → List ℕ → Core → List Block → Core → List Block → Type 0
+abbrev pub LeadsOver : EndCause → List ℕ → HartState → List Block → HartState → List Block → Type 0
 LeadsOver Length input old before new now = HasCome input old before new now
 LeadsOver (Exhausted free dirty need) input old before new now = IsDropped old before new now
 LeadsOver Ended input old before new now = HasCome input old before new now
 
-abbrev pub Leads : HartStep → List ℕ → Core → List Block → Core → List Block → Type 0
+abbrev pub Leads : HartStep → List ℕ → HartState → List Block → HartState → List Block → Type 0
 Leads Moved input old before new now = IsOnTheWay input old before new now
 Leads Retired input old before new now = HasCome input old before new now
 Leads Waiting input old before new now = IsUnmoved old before new now

@@ -16,7 +16,7 @@ use Rattle.thy_hart.specs.declared.hand.Hand.{Hand}
 use Rattle.thy_hart.specs.declared.hand.Hand.TheVariants.{Nothing, Reading, Reserving, Writing, Retiring}
 use Rattle.thy_hart.specs.declared.hand.HartStep.{HartStep}
 use Rattle.thy_hart.specs.declared.hand.HartStep.TheVariants.{Moved, Retired, Waiting, Over}
-use Rattle.thy_hart.specs.Core.{Core, blocks_of, fetched_block}
+use Rattle.thy_hart.specs.HartState.{HartState, blocks_of, fetched_block}
 
 -- what a step is handed in addition to cache and store: the input, how many table entries are free, and whether a
 -- checkpoint is under way
@@ -41,18 +41,18 @@ written_on e to done = if to.len == 0 then Retiring e true else Writing e to don
 -- ---- each micro-step, over the memory that the cache and its store make
 
 -- an instruction of this effect is in hand
-abbrev pub begun_with : List ℕ → Effect → Core → Core
+abbrev pub begun_with : List ℕ → Effect → HartState → HartState
 begun_with input e h =
     let calls = calls_in h.geometry h.cpu (length input) in
     let moves = moves_of h.cpu.regs calls e in
     record h { hand = begun e moves.from moves.to; bytes = brings input h.cpu.regs calls e }
 
 -- the instruction at the program counter is in hand
-unfoldable pub fetched : List ℕ → List Block → Core → Core
+unfoldable pub fetched : List ℕ → List Block → HartState → HartState
 fetched input memory h = begun_with input (effect_in h.geometry h.cpu memory) h
 
 -- the bytes of one block are read
-abbrev pub block_read : List Block → Effect → Span → Span → Core → Core
+abbrev pub block_read : List Block → Effect → Span → Span → HartState → HartState
 block_read memory e from to h =
     record h { hand = begun e (rest_of from) to; bytes = h.bytes ++ head_read memory from }
 
@@ -61,11 +61,11 @@ abbrev pub is_short : ℕ → ℕ → Span → Bool
 is_short free dirty to = nat_lt free (dirty + blocks_of to)
 
 -- the instruction is dropped, to be fetched again
-abbrev pub dropped : Epoch → Core → Core
+abbrev pub dropped : Epoch → HartState → HartState
 dropped epoch h = record h { epoch = epoch; hand = Nothing; bytes = [] }
 
 -- room is reserved, or waited for if a checkpoint is under way, or else the epoch is over
-unfoldable pub room_reserved : ℕ → Bool → ℕ → Effect → Span → Core → Core
+unfoldable pub room_reserved : ℕ → Bool → ℕ → Effect → Span → HartState → HartState
 room_reserved free under_way dirty e to h =
     if is_short free dirty to
     then (if under_way then h else dropped (exhausted free dirty (blocks_of to) h.epoch) h)
@@ -77,18 +77,18 @@ room_answer free under_way dirty to =
     if is_short free dirty to then (if under_way then Waiting else Over (Exhausted free dirty (blocks_of to))) else Moved
 
 -- the bytes of one block are written
-abbrev pub block_written : Effect → Span → ℕ → Core → Core
+abbrev pub block_written : Effect → Span → ℕ → HartState → HartState
 block_written e to done h = record h { hand = written_on e (rest_of to) (done + head_len to) }
 
 -- the processor after the instruction
-abbrev pub cpu_retired : List ℕ → Effect → Core → CpuState
+abbrev pub cpu_retired : List ℕ → Effect → HartState → CpuState
 cpu_retired input e h = cpu_after h.geometry input h.cpu e h.bytes
 
 -- the epoch after it
-abbrev pub epoch_retired : List ℕ → Effect → Core → Epoch
+abbrev pub epoch_retired : List ℕ → Effect → HartState → Epoch
 epoch_retired input e h = retired_once (is_running (cpu_retired input e h).status) h.epoch
 
-abbrev pub retired : List ℕ → Effect → Core → Core
+abbrev pub retired : List ℕ → Effect → HartState → HartState
 retired input e h = record (dropped (epoch_retired input e h) h) { cpu = cpu_retired input e h }
 
 -- an instruction retired, and maybe the epoch is over
@@ -99,7 +99,7 @@ over_or_retired (Some cause) = Over cause
 -- ---- the next one, by what is in hand
 
 -- the hart
-abbrev pub acted_by : Given → ℕ → List Block → Core → Hand → Core
+abbrev pub acted_by : Given → ℕ → List Block → HartState → Hand → HartState
 acted_by g dirty memory h Nothing = fetched g.input memory h
 acted_by g dirty memory h (Reading e from to) = block_read memory e from to h
 acted_by g dirty memory h (Reserving e to) = room_reserved g.free g.under_way dirty e to h
@@ -107,7 +107,7 @@ acted_by g dirty memory h (Writing e to done) = block_written e to done h
 acted_by g dirty memory h (Retiring e wrote) = retired g.input e h
 
 -- what the step returns
-abbrev pub answer_by : Given → ℕ → Core → Hand → HartStep
+abbrev pub answer_by : Given → ℕ → HartState → Hand → HartStep
 answer_by g dirty h Nothing = Moved
 answer_by g dirty h (Reading e from to) = Moved
 answer_by g dirty h (Reserving e to) = room_answer g.free g.under_way dirty to
@@ -132,7 +132,7 @@ abbrev pub written_by : Contents → Span → List ℕ → Contents
 written_by c to bytes = written_at (first_block to) (first_byte to) (take (head_len to) bytes) c
 
 -- the cache, if no line is brought
-abbrev pub cache_by : Contents → Core → Hand → Contents
+abbrev pub cache_by : Contents → HartState → Hand → Contents
 cache_by c h Nothing = touched c (fetched_block h.geometry h.cpu)
 cache_by c h (Reading e from to) = read_from (first_block from) c
 cache_by c h (Reserving e to) = c

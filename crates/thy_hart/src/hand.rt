@@ -3,10 +3,10 @@
 
 ghost use Rattle.std.specs.Prelude.{◌≡◌};
 ghost use Rattle.thy_hart.specs.Outcomes.{begun, written_on};
-ghost use Rattle.thy_hart.specs.Core.{blocks_of};
+ghost use Rattle.thy_hart.specs.HartState.{blocks_of};
 
 use thy_base::EndCause;
-use thy_cache::Place;
+use thy_cache::LinePlace;
 use thy_flat::Span;
 use thy_isa::Effect;
 
@@ -55,11 +55,11 @@ pub enum HartStep {
 
 /// What the next micro-step finds in the cache.
 #[derive(Clone, Copy, Debug, PartialEq, Eq)]
-pub(crate) enum Next {
+pub(crate) enum LineLookup {
     /// The line of this block, which it touches, is missing.
     Bring(u64),
     /// The line of the block that it touches is at this place, or it touches none.
-    Act(Option<Place>),
+    Act(Option<LinePlace>),
 }
 
 /// What an effect does that still has to read at `from`, if that has bytes, and to write at `to`.

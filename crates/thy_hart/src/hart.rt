@@ -4,14 +4,14 @@ ghost use Rattle.thy_base.specs.Device.{CountsFault};
 ghost use Rattle.thy_cache.specs.Contents.{dirty_count};
 ghost use Rattle.thy_isa.specs.declared.state.Status.TheVariants.{Running};
 ghost use Rattle.thy_epoch.specs.Epoch.{next_epoch};
-ghost use Rattle.thy_hart.specs.Core.{new_hart, to_reserve};
+ghost use Rattle.thy_hart.specs.HartState.{new_hart, to_reserve};
 ghost use Rattle.thy_hart.specs.Outcomes.{given};
 ghost use Rattle.thy_hart.specs.Moments.{moment, brings_line, IsReady};
 ghost use Rattle.thy_hart.specs.OneStep.{IsStep};
 
 use crate::bring::bring;
-use crate::hand::{Hand, HartStep, Next};
-use crate::micro_steps::Parts;
+use crate::hand::{Hand, HartStep, LineLookup};
+use crate::micro_steps::HartParts;
 use std::marker::Model;
 use thy_base::{BlockStore, Geometry, NvmError};
 use thy_cache::Cache;
@@ -22,19 +22,19 @@ use thy_isa::CpuState;
 /// One hart of RV64IM with its epoch, which executes an instruction in micro-steps.
 #[derive(Drop)]
 pub struct Hart {
-    parts: Parts,
+    parts: HartParts,
 }
 
 impl Model for Hart {
-    ghost use Rattle.thy_hart.specs.Core.{Core, IsSound};
+    ghost use Rattle.thy_hart.specs.HartState.{HartState, IsSoundHart};
 
-    ghost Value = { Core };
+    ghost Value = { HartState };
 
-    ghost use Rattle.thy_hart.specs.MicroSteps.{core_of};
+    ghost use Rattle.thy_hart.specs.MicroSteps.{hart_state_of};
 
-    ghost view = { λ h. core_of h.parts };
+    ghost view = { λ h. hart_state_of h.parts };
 
-    ghost invariant = { λ h. IsSound (core_of h.parts) };
+    ghost invariant = { λ h. IsSoundHart (hart_state_of h.parts) };
 }
 
 impl Hart {
@@ -44,7 +44,7 @@ impl Hart {
     {
         let span = geometry.numbers().epoch;
         Hart {
-            parts: Parts {
+            parts: HartParts {
                 geometry: *geometry,
                 cpu: *cpu,
                 epoch: EpochState::new(span, epoch),
@@ -127,11 +127,11 @@ impl Hart {
         ensures cause { CountsFault result (S.holding store.old nvm.old).faults (S.holding store.new nvm.new).faults }
     {
         match self.parts.next(cache) {
-            Next::Act(place) => Ok(
+            LineLookup::Act(place) => Ok(
                 self.parts
                     .act::<(N, S)>(cache, place, free, under_way, input),
             ),
-            Next::Bring(b) => match bring(cache, b, store, nvm) {
+            LineLookup::Bring(b) => match bring(cache, b, store, nvm) {
                 Ok(()) => Ok(HartStep::Moved),
                 Err(fault) => Err(fault),
             },

@@ -1,5 +1,5 @@
 //! The micro-steps of an instruction whose block is in the cache.
-#![tactic(auto, unfolding(crate::specs::Core::fetched_block, crate::specs::Outcomes::fetched, crate::specs::Outcomes::room_reserved, crate::specs::Outcomes::room_answer, thy_isa::specs::OnBlocks::effect_in, thy_isa::specs::OnBlocks::cpu_after))]
+#![tactic(auto, unfolding(crate::specs::HartState::fetched_block, crate::specs::Outcomes::fetched, crate::specs::Outcomes::room_reserved, crate::specs::Outcomes::room_answer, thy_isa::specs::OnBlocks::effect_in, thy_isa::specs::OnBlocks::cpu_after))]
 
 ghost use Rattle.std.specs.Prelude.{◌≡◌, true, None, Some, ◌+◌, ◌-◌, ◌*◌, ◌<◌, ◌≤◌, ◌^◌, length, drop};
 ghost use Rattle.arrayvec.specs.ArrayVec.{array_vec_len};
@@ -12,13 +12,13 @@ ghost use Rattle.thy_isa.specs.declared.state.Effect.TheVariants.{Environment};
 ghost use Rattle.thy_isa.specs.Effects.{size_of};
 ghost use Rattle.thy_isa.specs.OnBlocks.{calls_in};
 ghost use Rattle.thy_isa.specs.Step.{AreCallsOf, is_running};
-ghost use Rattle.thy_hart.specs.Core.{IsReading, IsWriting, IsSound, fetched_block, next_block, blocks_of, read_len, reserved, to_reserve};
+ghost use Rattle.thy_hart.specs.HartState.{IsReading, IsWriting, IsSoundHart, fetched_block, next_block, blocks_of, read_len, reserved, to_reserve};
 ghost use Rattle.thy_hart.specs.Outcomes.{begun_with, cpu_retired, touched, written_by, block_written, room_reserved, room_answer, retired, over_or_retired, epoch_retired, given};
-ghost use Rattle.thy_hart.specs.MicroSteps.{core_of, IsFound, IsNext, ReadsWord, FetchesEffect, FetchesIn, ReadsIn, WritesIn, IsMicroStep};
+ghost use Rattle.thy_hart.specs.MicroSteps.{hart_state_of, IsFound, IsNext, ReadsWord, FetchesEffect, FetchesIn, ReadsIn, WritesIn, IsMicroStep};
 
-use crate::hand::{Hand, HartStep, Next, begun, written_on};
+use crate::hand::{Hand, HartStep, LineLookup, begun, written_on};
 use thy_base::{EndCause, Geometry};
-use thy_cache::{Cache, Place};
+use thy_cache::{Cache, LinePlace};
 use thy_epoch::EpochState;
 use thy_flat::{Piece, Span, take_head};
 use thy_isa::{
@@ -28,7 +28,7 @@ use thy_isa::{
 
 /// What a hart is made of.
 #[derive(Drop)]
-pub(crate) struct Parts {
+pub(crate) struct HartParts {
     pub geometry: Geometry,
     pub cpu: CpuState,
     pub epoch: EpochState,
@@ -38,7 +38,7 @@ pub(crate) struct Parts {
 }
 
 /// The word of a span of four bytes within one block, whose line is at this place.
-fn fetch_word(cache: &mut Cache, at: Span, place: Option<Place>) -> u32
+fn fetch_word(cache: &mut Cache, at: Span, place: Option<LinePlace>) -> u32
     requires found { IsFound cache.old (Some (first_block at)) place }
     requires len { at.len ≡ 4 }
     requires whole { first_byte at + 4 ≤ 64 }
@@ -78,10 +78,10 @@ fn blocks_of(span: Span) -> u64
 
 // The micro-steps take a type `N`, which none of them uses: that of device and store together. So the compiler has a copy of
 // them for each device and scheme, called from one place, and makes it part of the loop over cycles.
-impl Parts {
+impl HartParts {
     /// The block that the next micro-step reads or writes, if it does.
     fn next_block(&self) -> Option<u64>
-        ensures { result ≡ next_block (core_of self.now) }
+        ensures { result ≡ next_block (hart_state_of self.now) }
     {
         match self.hand {
             Hand::Nothing => self.fetched_block(),
@@ -93,7 +93,7 @@ impl Parts {
 
     /// How many blocks the instruction in hand is to reserve room for, if that is its next micro-step.
     pub fn to_reserve(&self) -> Option<u64>
-        requires { IsSound (core_of self.now) }
+        requires { IsSoundHart (hart_state_of self.now) }
         ensures { result ≡ to_reserve self.now.hand }
     {
         match self.hand {
@@ -104,14 +104,14 @@ impl Parts {
     }
 
     /// What the next micro-step finds in the cache.
-    pub fn next(&self, cache: &Cache) -> Next
-        ensures { IsNext cache.now (next_block (core_of self.now)) result }
+    pub fn next(&self, cache: &Cache) -> LineLookup
+        ensures { IsNext cache.now (next_block (hart_state_of self.now)) result }
     {
         match self.next_block() {
-            None => Next::Act(None),
+            None => LineLookup::Act(None),
             Some(b) => match cache.find(b) {
-                Some(place) => Next::Act(Some(place)),
-                None => Next::Bring(b),
+                Some(place) => LineLookup::Act(Some(place)),
+                None => LineLookup::Bring(b),
             },
         }
     }
@@ -133,7 +133,7 @@ impl Parts {
     }
 
     /// The effect of the instruction at the program counter. If that can't be fetched no line is touched.
-    fn next_effect<N>(&self, cache: &mut Cache, place: Option<Place>) -> Effect
+    fn next_effect<N>(&self, cache: &mut Cache, place: Option<LinePlace>) -> Effect
         requires found { IsFound cache.old (fetched_block self.now.geometry self.now.cpu) place }
         ensures effect { FetchesEffect self.now.geometry self.now.cpu cache.old result }
         ensures inside { IsWithin self.now.geometry.base (program_size self.now.geometry) result }
@@ -176,12 +176,12 @@ impl Parts {
     }
 
     /// Fetches the instruction at the program counter.
-    fn fetch<N>(&mut self, cache: &mut Cache, place: Option<Place>, input: &[u8])
+    fn fetch<N>(&mut self, cache: &mut Cache, place: Option<LinePlace>, input: &[u8])
         requires range { IsInRange self.old.geometry }
         requires empty { array_vec_len self.old.bytes ≡ 0 }
         requires found { IsFound cache.old (fetched_block self.old.geometry self.old.cpu) place }
-        ensures hart { FetchesIn input.now cache.old (core_of self.old) (core_of self.new) }
-        ensures sound { IsSound (core_of self.new) }
+        ensures hart { FetchesIn input.now cache.old (hart_state_of self.old) (hart_state_of self.new) }
+        ensures sound { IsSoundHart (hart_state_of self.new) }
         ensures unreserved { reserved self.new.hand ≡ 0 }
         ensures cache { cache.new ≡ touched cache.old (fetched_block self.old.geometry self.old.cpu) }
         ensures lines { KeepsLines cache.old cache.new }
@@ -207,7 +207,7 @@ impl Parts {
         requires range { IsInRange self.old.geometry }
         requires empty { array_vec_len self.old.bytes ≡ 0 }
         requires inside { IsWithin self.old.geometry.base (program_size self.old.geometry) effect }
-        ensures { core_of self.new ≡ begun_with input.now effect (core_of self.old) }
+        ensures { hart_state_of self.new ≡ begun_with input.now effect (hart_state_of self.old) }
     {
         match effect {
             Effect::Environment => self.begin_call(input),
@@ -231,7 +231,7 @@ impl Parts {
     fn begin_call(&mut self, input: &[u8])
         requires range { IsInRange self.old.geometry }
         requires empty { array_vec_len self.old.bytes ≡ 0 }
-        ensures { core_of self.new ≡ begun_with input.now Environment (core_of self.old) }
+        ensures { hart_state_of self.new ≡ begun_with input.now Environment (hart_state_of self.old) }
     {
         let effect = Effect::Environment;
         let calls = self.calls(input.len() as u64);
@@ -244,7 +244,7 @@ impl Parts {
     fn read<N>(
         &mut self,
         cache: &mut Cache,
-        place: Option<Place>,
+        place: Option<LinePlace>,
         effect: Effect,
         from: Span,
         to: Span,
@@ -252,8 +252,8 @@ impl Parts {
         requires range { IsInRange self.old.geometry }
         requires reading { IsReading self.old.geometry effect from to (array_vec_len self.old.bytes) }
         requires found { IsFound cache.old (Some (first_block from)) place }
-        ensures hart { ReadsIn cache.old effect from to (core_of self.old) (core_of self.new) }
-        ensures sound { IsSound (core_of self.new) }
+        ensures hart { ReadsIn cache.old effect from to (hart_state_of self.old) (hart_state_of self.new) }
+        ensures sound { IsSoundHart (hart_state_of self.new) }
         ensures unreserved { reserved self.new.hand ≡ 0 }
         ensures cache { cache.new ≡ read_from (first_block from) cache.old }
         ensures lines { KeepsLines cache.old cache.new }
@@ -281,7 +281,7 @@ impl Parts {
         requires range { IsInRange self.old.geometry }
         requires writing { IsWriting self.old.geometry effect to 0 (array_vec_len self.old.bytes) }
         requires going { self.old.epoch.over ≡ None }
-        ensures hart { core_of self.new ≡ room_reserved free under_way dirty effect to (core_of self.old) }
+        ensures hart { hart_state_of self.new ≡ room_reserved free under_way dirty effect to (hart_state_of self.old) }
         ensures says { result ≡ room_answer free under_way dirty to }
     {
         let need = blocks_of(to);
@@ -306,7 +306,7 @@ impl Parts {
     fn write<N>(
         &mut self,
         cache: &mut Cache,
-        place: Option<Place>,
+        place: Option<LinePlace>,
         effect: Effect,
         to: Span,
         done: u64,
@@ -314,8 +314,8 @@ impl Parts {
         requires range { IsInRange self.old.geometry }
         requires writing { IsWriting self.old.geometry effect to done (array_vec_len self.old.bytes) }
         requires found { IsFound cache.old (Some (first_block to)) place }
-        ensures hart { core_of self.new ≡ block_written effect to done (core_of self.old) }
-        ensures sound { IsSound (core_of self.new) }
+        ensures hart { hart_state_of self.new ≡ block_written effect to done (hart_state_of self.old) }
+        ensures sound { IsSoundHart (hart_state_of self.new) }
         ensures cache { cache.new ≡ written_by cache.old to (drop done self.old.bytes.items) }
         ensures memory { WritesIn (memory_blocks self.old.geometry) cache.old cache.new to (drop done self.old.bytes.items) }
         ensures agree { AgreesStill cache.old cache.new }
@@ -342,7 +342,7 @@ impl Parts {
     fn finish<N>(&mut self, effect: Effect, input: &[u8])
         requires number { read_len effect ≤ array_vec_len self.old.bytes }
         requires count { self.old.cpu.count + 1 < 2 ^ 64 }
-        ensures { core_of self.new ≡ record (core_of self.old) { cpu = cpu_retired input.now effect (core_of self.old) } }
+        ensures { hart_state_of self.new ≡ record (hart_state_of self.old) { cpu = cpu_retired input.now effect (hart_state_of self.old) } }
     {
         match effect {
             Effect::Environment => self.serve(input),
@@ -361,7 +361,7 @@ impl Parts {
     #[tactic(auto, unfolding(thy_isa::specs::Moves::number_in, thy_isa::specs::OnBlocks::cpu_after))]
     fn serve(&mut self, input: &[u8])
         requires { self.old.cpu.count + 1 < 2 ^ 64 }
-        ensures { core_of self.new ≡ record (core_of self.old) { cpu = cpu_retired input.now Environment (core_of self.old) } }
+        ensures { hart_state_of self.new ≡ record (hart_state_of self.old) { cpu = cpu_retired input.now Environment (hart_state_of self.old) } }
     {
         let calls = self.calls(input.len() as u64);
         finish(&mut self.cpu, &Effect::Environment, 0, &calls);
@@ -372,8 +372,8 @@ impl Parts {
         requires number { read_len effect ≤ array_vec_len self.old.bytes }
         requires count { self.old.cpu.count + 1 < 2 ^ 64 }
         requires going { self.old.epoch.over ≡ None }
-        ensures hart { core_of self.new ≡ retired input.now effect (core_of self.old) }
-        ensures says { result ≡ over_or_retired (epoch_retired input.now effect (core_of self.old)).over }
+        ensures hart { hart_state_of self.new ≡ retired input.now effect (hart_state_of self.old) }
+        ensures says { result ≡ over_or_retired (epoch_retired input.now effect (hart_state_of self.old)).over }
     {
         self.finish::<N>(effect, input);
         self.epoch.retired_once(runs(self.cpu.status));
@@ -389,18 +389,18 @@ impl Parts {
     pub fn act<N>(
         &mut self,
         cache: &mut Cache,
-        place: Option<Place>,
+        place: Option<LinePlace>,
         free: u64,
         under_way: bool,
         input: &[u8],
     ) -> HartStep
-        requires sound { IsSound (core_of self.old) }
-        requires found { IsFound cache.old (next_block (core_of self.old)) place }
+        requires sound { IsSoundHart (hart_state_of self.old) }
+        requires found { IsFound cache.old (next_block (hart_state_of self.old)) place }
         requires count { self.old.cpu.count + 1 < 2 ^ 64 }
         requires going { self.old.epoch.over ≡ None }
         ensures acts { IsMicroStep (given input.now free under_way)
-            cache.old cache.new (core_of self.old) (core_of self.new) result }
-        ensures sound { IsSound (core_of self.new) }
+            cache.old cache.new (hart_state_of self.old) (hart_state_of self.new) result }
+        ensures sound { IsSoundHart (hart_state_of self.new) }
     {
         match self.hand {
             Hand::Nothing => {

@@ -22,7 +22,7 @@ use Rattle.thy_protocol.proofs.LayoutLemmas.{decode_by-whole}
 use Rattle.thy_journal_image.specs.Commit.{commit_magic, commit_fault}
 use Rattle.thy_journal_image.specs.Files.{decode_file}
 use Rattle.thy_journal_image.specs.Header.{header_fault}
-use Rattle.thy_journal_image.specs.Layout.{journaled, decode_journal}
+use Rattle.thy_journal_image.specs.Layout.{journal_layouts, decode_journal}
 use Rattle.thy_journal_image.specs.Places.{image_blocks}
 use Rattle.thy_journal_image.specs.Slots.{table_in, table_fault, slot_fault}
 use Rattle.thy_journal_image.proofs.FileLemmas.{IsWholeFile, IsWholeFile-decoded}
@@ -51,7 +51,7 @@ module _ (p : Parameters) (ceiling : ℕ) (bytes : List ℕ) (epoch : ℕ) (s : 
   g = blocks_of bytes
 
   abbrev l : Layout
-  l = journaled p ceiling
+  l = journal_layouts p ceiling
 
   file : IsWholeFile p ceiling bytes epoch s
   file = IsWholeFile-decoded p ceiling bytes epoch s h
@@ -71,7 +71,7 @@ module _ (p : Parameters) (ceiling : ℕ) (bytes : List ℕ) (epoch : ℕ) (s : 
       (first.0, rest.0, rest.1)
 
   decodes_higher : (high : ℕ) → ceiling ≤ high → decode_journal p high g ≡ At epoch s
-  decodes_higher high most = decode_by-whole (journaled p high) g epoch s (record {
+  decodes_higher high most = decode_by-whole (journal_layouts p high) g epoch s (record {
     committed = file.whole.committed;
     faultless = both_none _ _ parts.0 (both_none _ _ (commit_higher (block_at g 1) ceiling high most parts.1)
         (slot_higher p (slot_in l g) (epoch_of (block_at g 1)) ceiling high most parts.2));

@@ -31,10 +31,10 @@ use Rattle.thy_log.specs.Progress.{Progress, Fits, action_next, engine_next, sta
 use Rattle.thy_log.specs.State.{State, IsSoundState, entry_for, home_of, work_of}
 use Rattle.thy_refill.specs.Filling.{filling_journal}
 use Rattle.thy_refill.proofs.LawLemmas.{log_is_filled}
-use Rattle.thy_journal_model.specs.Journal.{Journal as Value, IsOf, committed_in}
-use Rattle.thy_journal_model.specs.Stays.{StaysJournal}
-use Rattle.thy_journal_model.specs.Taken.{taken, device_taken, step_of}
-use Rattle.thy_journal_model.proofs.AfterLemmas.{p_after}
+use Rattle.thy_journal_laws.specs.Journal.{Journal as Value, IsOf, committed_in}
+use Rattle.thy_journal_laws.specs.Stays.{StaysJournal}
+use Rattle.thy_journal_laws.specs.Taken.{taken, device_taken, step_of}
+use Rattle.thy_journal_laws.proofs.AfterLemmas.{p_after}
 use Rattle.thy_journal_scheme.specs.Boots.{booted, engine_at, step_of as answered, result_of}
 use Rattle.thy_journal_scheme.specs.Scheme.{journal_scheme}
 use Rattle.thy_journal_scheme.proofs.StayLemmas.{same-stays}
@@ -53,7 +53,7 @@ load_stays s n new (Ok block) same failed framed = subst (λ (x : Device). Stays
 load_stays s n new (Err e) same failed framed = record {
   same_p = refl;
   engine = refl;
-  lean = refl;
+  sealed_storeless = refl;
   boot = refl;
   room = refl;
   sound = λ h. h;

@@ -20,8 +20,8 @@ use Rattle.thy_log.specs.Progress.{action_next}
 use Rattle.thy_log.specs.State.{new_state, entry_for, home_of, work_of}
 use Rattle.thy_log.specs.Stores.{after_store, after_drain}
 use Rattle.thy_refill.specs.Filling.{filling_journal}
-use Rattle.thy_journal_model.specs.Journal.{Journal}
-use Rattle.thy_journal_model.specs.Taken.{taken, device_taken, step_of}
+use Rattle.thy_journal_laws.specs.Journal.{Journal}
+use Rattle.thy_journal_laws.specs.Taken.{taken, device_taken, step_of}
 use Rattle.thy_journal_scheme.specs.Boots.{booted, step_of as answered}
 
 -- ---- a new journal
@@ -32,8 +32,8 @@ pub record IsNew (p : Parameters) (dram : Contents) (s : Journal) : Type 0 where
   pub boot : s.boot ≡ new_boot filling_journal p
   pub engine : s.engine.p ≡ p
   pub idle : is_under_way s.engine.next ≡ false
-  pub rested : s.rested ≡ true
-  pub lean : s.lean ≡ false
+  pub storeless : s.storeless ≡ true
+  pub sealed_storeless : s.sealed_storeless ≡ false
 
 -- ---- loads
 
@@ -52,9 +52,9 @@ pub record LoadsCommitted (b : ℕ) (s : Journal) (n : Device) (result : Result 
 
 -- one write of the DRAM, into the buffer of the block's entry; the NVM is left alone, and no copy comes first
 abbrev pub stored : ℕ → Block → Journal → Journal
-stored b block s = record s { log = after_store b block s.log; rested = false }
+stored b block s = record s { log = after_store b block s.log; storeless = false }
 
-pub record StoresByRule (b : ℕ) (block : Block) (s : Journal) (n : Device) (result : Result Stored NvmError) (t : Journal) (new : Device)
+pub record StoresInBuffer (b : ℕ) (block : Block) (s : Journal) (n : Device) (result : Result Stored NvmError) (t : Journal) (new : Device)
     : Type 0 where
   pub answer : IfOk result (λ answer. answer ≡ Done)
   pub never_fails : OnErr result ⊥

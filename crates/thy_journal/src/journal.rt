@@ -8,19 +8,19 @@ ghost use Rattle.thy_table.specs.Listing.{free_count};
 ghost use Rattle.thy_view.specs.Kind.{IsDramOf};
 ghost use Rattle.thy_view.specs.Origin.{Origin, Begins};
 ghost use Rattle.thy_view.specs.Views.{loads};
-ghost use Rattle.thy_scheme.specs.Marks.{Marks};
+ghost use Rattle.thy_scheme.specs.CheckpointMarks.{CheckpointMarks};
 ghost use Rattle.thy_scheme.specs.Scheme.{StaysOf, Stands, CanRun, IsBooting, CanBoot};
 ghost use Rattle.thy_scheme.specs.Calls.{IsOneAccess, Stores, Merges, Promotes, PromotionFails, TakesNoAction, Drains, Seals, Engines, EngineFails};
 ghost use Rattle.thy_scheme.specs.Boots.{BootsOn, BootFails, BootDrains};
 ghost use Rattle.thy_journal_image.specs.Places.{image_blocks};
 ghost use Rattle.thy_log.specs.Holding.{holding_of};
 ghost use Rattle.thy_log.specs.Items.{is_under_way, is_applying};
-ghost use Rattle.thy_journal_model.specs.Journal.{IsOf, committed_in};
-ghost use Rattle.thy_journal_model.specs.Stays.{StaysJournal};
-ghost use Rattle.thy_journal_model.specs.Taken.{sealed};
+ghost use Rattle.thy_journal_laws.specs.Journal.{IsOf, committed_in};
+ghost use Rattle.thy_journal_laws.specs.Stays.{StaysJournal};
+ghost use Rattle.thy_journal_laws.specs.Taken.{sealed};
 ghost use Rattle.thy_journal_scheme.specs.Boots.{Boots, IsPowered, engine_at, has_read_at, loads_at, step_of, result_of, view_at};
 ghost use Rattle.thy_journal_scheme.specs.Scheme.{journal_scheme};
-ghost use Rattle.thy_journal.specs.Calls.{IsNew, LoadsWork, LoadsCommitted, StoresByRule, drained, TakesItem, TakesBootStep};
+ghost use Rattle.thy_journal.specs.Calls.{IsNew, LoadsWork, LoadsCommitted, StoresInBuffer, drained, TakesItem, TakesBootStep};
 
 use crate::fills::Refill;
 use std::alloc::{AllocError, Global};
@@ -41,20 +41,20 @@ use thy_scheme::{BootStep, Scheme};
 pub struct Journal {
     log: Log,
     engine: Engine,
-    /// No block was stored since the last seal. Contracts speak of it; no code reads it but to set `lean`.
-    rested: bool,
+    /// No block was stored since the last seal. Contracts speak of it; no code reads it but to set `sealed_storeless`.
+    storeless: bool,
     /// No block was stored in the epoch that was sealed last. Contracts speak of it; no code reads it.
-    lean: bool,
+    sealed_storeless: bool,
     boot: Boot,
 }
 
 impl Model for Journal {
     ghost use Rattle.thy_log.specs.Progress.{Fits};
-    ghost use Rattle.thy_journal_model.specs.Journal.{Journal as Contents};
+    ghost use Rattle.thy_journal_laws.specs.Journal.{Journal as Contents};
 
     ghost Value = { Contents };
 
-    ghost view = { λ d. record { log = d.log; engine = d.engine; rested = d.rested; lean = d.lean; boot = d.boot } };
+    ghost view = { λ d. record { log = d.log; engine = d.engine; storeless = d.storeless; sealed_storeless = d.sealed_storeless; boot = d.boot } };
 
     ghost invariant = { λ d. Fits d.engine d.log };
 }
@@ -128,8 +128,8 @@ impl Scheme for Journal {
         Ok(Journal {
             log,
             engine,
-            rested: true,
-            lean: false,
+            storeless: true,
+            sealed_storeless: false,
             boot,
         })
     }
@@ -155,7 +155,7 @@ impl Scheme for Journal {
         requires inside { b < length (holding_of self.old.log (N.device nvm.old)).blocks }
         requires ready { (holding_of self.old.log (N.device nvm.old)).ready ≡ true }
         requires room { 0 < (holding_of self.old.log (N.device nvm.old)).free }
-        ensures made { StoresByRule b block.now self.old (N.device nvm.old) result self.new (N.device nvm.new) }
+        ensures made { StoresInBuffer b block.now self.old (N.device nvm.old) result self.new (N.device nvm.new) }
         ensures ok { let n = N.device nvm.old in let new = N.device nvm.new in
             IfOk result (λ stored. Stores journal_scheme stored b block.now self.old n self.new new) }
         ensures up { OnOk result ((N.device nvm.new).down ≡ false) }
@@ -167,7 +167,7 @@ impl Scheme for Journal {
         let _left_alone = &*nvm;
         what_is_held_stays();
         self.log.sound();
-        self.rested = false;
+        self.storeless = false;
         self.log.store(b, block);
         Ok(Stored::Done)
     }
@@ -229,7 +229,7 @@ impl Scheme for Journal {
     fn drain(&mut self)
         requires { 0 < self.old.log.dram.queued }
         ensures state { self.new ≡ drained self.old }
-        ensures running { (o : Origin) (k : Marks) (n : Device) → Stands journal_scheme o k self.old n
+        ensures running { (o : Origin) (k : CheckpointMarks) (n : Device) → Stands journal_scheme o k self.old n
             → Drains journal_scheme o k self.old n self.new }
         ensures booting { (o : Origin) (n : Device) → IsBooting journal_scheme o self.old n
             → BootDrains journal_scheme o self.old n self.new }
@@ -240,7 +240,7 @@ impl Scheme for Journal {
     // No block has ever to be merged or promoted.
     fn merge_one(&mut self)
         requires idle { is_under_way self.old.engine.next ≡ false }
-        ensures some { false ≡ true → (o : Origin) (k : Marks) (n : Device) → Stands journal_scheme o k self.old n
+        ensures some { false ≡ true → (o : Origin) (k : CheckpointMarks) (n : Device) → Stands journal_scheme o k self.old n
             → Merges journal_scheme o k self.old n self.new }
         ensures none { false ≡ false → self.new ≡ self.old }
     {}
@@ -248,7 +248,7 @@ impl Scheme for Journal {
     fn promote_one<N: Nvm>(&mut self, nvm: &mut N) -> Result<(), NvmError>
         requires stands { CanRun journal_scheme self.old (N.device nvm.old) }
         ensures ok { let n = N.device nvm.old in let new = N.device nvm.new in
-            false ≡ true → (o : Origin) (k : Marks) → Stands journal_scheme o k self.old n
+            false ≡ true → (o : Origin) (k : CheckpointMarks) → Stands journal_scheme o k self.old n
             → OnOk result (Promotes journal_scheme o k self.old n self.new new) }
         ensures none { false ≡ false → TakesNoAction result self.old (N.device nvm.old) self.new (N.device nvm.new) }
         ensures err { OnErr result (PromotionFails (N.device nvm.old) (N.device nvm.new)) }
@@ -266,12 +266,12 @@ impl Scheme for Journal {
         requires bare { false ≡ false }
         requires regs { length cpu.now.regs ≡ 32 }
         ensures state { self.new ≡ sealed cpu.now epoch self.old }
-        ensures seals { (o : Origin) (k : Marks) (n : Device) → Stands journal_scheme o k self.old n
+        ensures seals { (o : Origin) (k : CheckpointMarks) (n : Device) → Stands journal_scheme o k self.old n
             → Seals journal_scheme o k cpu.now epoch self.old n self.new }
     {
         calls_keep_the_run();
-        self.lean = self.rested;
-        self.rested = true;
+        self.sealed_storeless = self.storeless;
+        self.storeless = true;
         self.engine.begin(cpu, epoch);
     }
 
@@ -280,10 +280,10 @@ impl Scheme for Journal {
         requires stands { CanRun journal_scheme self.old (N.device nvm.old) }
         ensures made { TakesItem self.old (N.device nvm.old) result self.new (N.device nvm.new) }
         ensures ok { let n = N.device nvm.old in let new = N.device nvm.new in
-            (o : Origin) (k : Marks) → Stands journal_scheme o k self.old n
+            (o : Origin) (k : CheckpointMarks) → Stands journal_scheme o k self.old n
             → IfOk result (λ step. Engines journal_scheme o k step self.old n self.new new) }
         ensures err { let n = N.device nvm.old in let new = N.device nvm.new in
-            (o : Origin) (k : Marks) → Stands journal_scheme o k self.old n
+            (o : Origin) (k : CheckpointMarks) → Stands journal_scheme o k self.old n
             → OnErr result (EngineFails journal_scheme o k n new) }
         ensures left { OnErr result (StaysOf journal_scheme self.old self.new) }
         ensures frame { IsFramed (N.device nvm.old) (N.device nvm.new) }

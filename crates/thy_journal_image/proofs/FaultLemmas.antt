@@ -19,7 +19,7 @@ use Rattle.thy_protocol.specs.Layout.{Layout, slot_in, memory_in, fault_of, refu
 use Rattle.thy_journal_image.specs.Commit.{commit_fault}
 use Rattle.thy_journal_image.specs.Files.{is_sized_file, decode_sized, decode_file, file_fault}
 use Rattle.thy_journal_image.specs.Header.{header_fault}
-use Rattle.thy_journal_image.specs.Layout.{journaled}
+use Rattle.thy_journal_image.specs.Layout.{journal_layouts}
 use Rattle.thy_journal_image.specs.Slots.{table_in, table_fault, slot_fault}
 
 -- ---- a slot
@@ -53,7 +53,7 @@ slot_status p ceiling epoch slot w found is same h k =
 
 module _ (p : Parameters) (ceiling : ℕ) (bytes : List ℕ) where
   abbrev l : Layout
-  l = journaled p ceiling
+  l = journal_layouts p ceiling
 
   abbrev g : List Block
   g = blocks_of bytes

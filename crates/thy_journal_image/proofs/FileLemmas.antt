@@ -23,7 +23,7 @@ use Rattle.thy_protocol.proofs.LayoutLemmas.{decode_by-whole, decode_by-whole_ba
 use Rattle.thy_journal_image.specs.Commit.{commit_fault}
 use Rattle.thy_journal_image.specs.Files.{is_sized_file, decode_sized, decode_file, file_fault, HasCheckpointOf, HasState}
 use Rattle.thy_journal_image.specs.Header.{is_of_geometry, header_fault}
-use Rattle.thy_journal_image.specs.Layout.{journaled}
+use Rattle.thy_journal_image.specs.Layout.{journal_layouts}
 use Rattle.thy_journal_image.specs.Places.{slot_blocks, slot_place, image_blocks}
 use Rattle.thy_journal_image.specs.Slots.{IsTable, table_in, slot_fault}
 use Rattle.thy_journal_image.proofs.PartsLemmas.{slot_fits}
@@ -72,40 +72,40 @@ not_short false d epoch state h = h
 -- it has the length of an image, and its blocks are one that means the same
 pub record IsWholeFile (p : Parameters) (ceiling : ℕ) (bytes : List ℕ) (epoch : ℕ) (state : State) : Type 0 where
   pub long : length bytes ≡ 64 * image_blocks p
-  pub whole : IsWhole (journaled p ceiling) (blocks_of bytes) epoch state
+  pub whole : IsWhole (journal_layouts p ceiling) (blocks_of bytes) epoch state
 
-sized_blocks : (p : Parameters) (ceiling : ℕ) (bytes : List ℕ) → length bytes ≡ 64 * image_blocks p → is_sized (journaled p ceiling) (blocks_of bytes) ≡ true
+sized_blocks : (p : Parameters) (ceiling : ℕ) (bytes : List ℕ) → length bytes ≡ 64 * image_blocks p → is_sized (journal_layouts p ceiling) (blocks_of bytes) ≡ true
 sized_blocks p ceiling bytes long = eq-eqb _ _ (omega (arith, long, length-blocks_of bytes))
 
 pub IsWholeFile-decoded : (p : Parameters) (ceiling : ℕ) (bytes : List ℕ) (epoch : ℕ) (state : State) → decode_file p ceiling bytes ≡ At epoch state
     → IsWholeFile p ceiling bytes epoch state
 unfolding decode_by
 IsWholeFile-decoded p ceiling bytes epoch state h =
-    let l : Layout = journaled p ceiling in
+    let l : Layout = journal_layouts p ceiling in
     let g : List Block = blocks_of bytes in
     let sized : Bool = is_sized_file p bytes in
-    let decodes = not_short (nat_lt (length bytes) 128) (decode_sized (journaled p ceiling) (is_sized_file p bytes) (blocks_of bytes)) epoch state h in
+    let decodes = not_short (nat_lt (length bytes) 128) (decode_sized (journal_layouts p ceiling) (is_sized_file p bytes) (blocks_of bytes)) epoch state h in
     let found = at_back (is_zero (block_at (blocks_of bytes) 1)) (file_fault p ceiling bytes) (epoch_of (block_at (blocks_of bytes) 1)) epoch
-    (l.state_from (slot_in (journaled p ceiling) (blocks_of bytes)) (memory_in (journaled p ceiling) (blocks_of bytes))) state decodes in
+    (l.state_from (slot_in (journal_layouts p ceiling) (blocks_of bytes)) (memory_in (journal_layouts p ceiling) (blocks_of bytes))) state decodes in
     let header = (neither (header_fault (block_at (blocks_of bytes) 0) p (is_sized_file p bytes))
-    (option_or (commit_fault (block_at (blocks_of bytes) 1) ceiling) (slot_fault p ceiling (epoch_of (block_at (blocks_of bytes) 1)) (slot_in (journaled p ceiling) (blocks_of bytes)))) found.1).0 in
+    (option_or (commit_fault (block_at (blocks_of bytes) 1) ceiling) (slot_fault p ceiling (epoch_of (block_at (blocks_of bytes) 1)) (slot_in (journal_layouts p ceiling) (blocks_of bytes)))) found.1).0 in
     let is : is_sized_file p bytes ≡ true = header_fault-long (block_at (blocks_of bytes) 0) p (is_sized_file p bytes) header in
     let long = header_fault-sized (block_at (blocks_of bytes) 0) p bytes header in
-    let same : is_sized (journaled p ceiling) (blocks_of bytes) ≡ is_sized_file p bytes = sized_blocks p ceiling bytes long ∙ sym is in
+    let same : is_sized (journal_layouts p ceiling) (blocks_of bytes) ≡ is_sized_file p bytes = sized_blocks p ceiling bytes long ∙ sym is in
     record {
       long = long;
-      whole = decode_by-whole_back (journaled p ceiling) (blocks_of bytes) epoch state
-          (ap (λ b. decode_sized (journaled p ceiling) b (blocks_of bytes)) same ∙ decodes);
+      whole = decode_by-whole_back (journal_layouts p ceiling) (blocks_of bytes) epoch state
+          (ap (λ b. decode_sized (journal_layouts p ceiling) b (blocks_of bytes)) same ∙ decodes);
     }
 
 -- and its slot has a table that a checkpoint may have
-pub table_whole : (p : Parameters) (ceiling : ℕ) (g : List Block) (epoch : ℕ) (state : State) → IsWhole (journaled p ceiling) g epoch state
-    → IsTable p (table_in p (slot_in (journaled p ceiling) g))
+pub table_whole : (p : Parameters) (ceiling : ℕ) (g : List Block) (epoch : ℕ) (state : State) → IsWhole (journal_layouts p ceiling) g epoch state
+    → IsTable p (table_in p (slot_in (journal_layouts p ceiling) g))
 table_whole p ceiling g epoch state w =
-    let rest = (neither (header_fault (block_at g 0) p (is_sized (journaled p ceiling) g))
-    (option_or (commit_fault (block_at g 1) ceiling) (slot_fault p ceiling (epoch_of (block_at g 1)) (slot_in (journaled p ceiling) g))) w.faultless).1 in
-    let slot = (neither (commit_fault (block_at g 1) ceiling) (slot_fault p ceiling (epoch_of (block_at g 1)) (slot_in (journaled p ceiling) g)) rest).1 in
-    faultless_table p ceiling (epoch_of (block_at g 1)) (slot_in (journaled p ceiling) g) slot
+    let rest = (neither (header_fault (block_at g 0) p (is_sized (journal_layouts p ceiling) g))
+    (option_or (commit_fault (block_at g 1) ceiling) (slot_fault p ceiling (epoch_of (block_at g 1)) (slot_in (journal_layouts p ceiling) g))) w.faultless).1 in
+    let slot = (neither (commit_fault (block_at g 1) ceiling) (slot_fault p ceiling (epoch_of (block_at g 1)) (slot_in (journal_layouts p ceiling) g)) rest).1 in
+    faultless_table p ceiling (epoch_of (block_at g 1)) (slot_in (journal_layouts p ceiling) g) slot
 
 -- ---- what a check has found
 
@@ -117,7 +117,7 @@ found_at (At e s) epoch h = (s, let same : e ≡ epoch = cc in ap (λ x. At x s)
 -- the image of a file with a checkpoint
 pub record IsFound (p : Parameters) (bytes : List ℕ) : Type 0 where
   pub long : length bytes ≡ 64 * image_blocks p
-  pub table : IsTable p (table_in p (slot_in (journaled p 0) (blocks_of bytes)))
+  pub table : IsTable p (table_in p (slot_in (journal_layouts p 0) (blocks_of bytes)))
 
 pub IsFound-checked : (p : Parameters) (bytes : List ℕ) → HasCheckpointOf p bytes → IsFound p bytes
 IsFound-checked p bytes h =
@@ -127,7 +127,7 @@ IsFound-checked p bytes h =
 
 -- the state that its slot and its memory make is that of the checkpoint, whatever the ceiling
 pub HasState-made : (p : Parameters) (bytes : List ℕ) (state : State)
-    → (let l = journaled p 0 in l.state_from (slot_in l (blocks_of bytes)) (memory_in l (blocks_of bytes))) ≡ state → HasState p bytes state
+    → (let l = journal_layouts p 0 in l.state_from (slot_in l (blocks_of bytes)) (memory_in l (blocks_of bytes))) ≡ state → HasState p bytes state
 HasState-made p bytes state made ceiling epoch found =
     let at = found_at (decode_file p ceiling bytes) epoch found in
     let file = IsWholeFile-decoded p ceiling bytes epoch at.0 at.1 in

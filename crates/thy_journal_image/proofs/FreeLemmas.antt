@@ -14,8 +14,8 @@ use Rattle.thy_protocol.proofs.IssuingLemmas.{row_of}
 use Rattle.thy_protocol.proofs.LayoutLemmas.{looked_nothing, looked_parts}
 use Rattle.thy_journal_image.specs.Places.{slot_blocks, slot_place, home_place, journal_place, first_home, place_by, place_of}
 use Rattle.thy_journal_image.specs.Slots.{IsTable, table_in}
-use Rattle.thy_journal_image.specs.Layout.{journaled}
-use Rattle.thy_journal_image.specs.Parts.{memory_places, IsToldBy}
+use Rattle.thy_journal_image.specs.Layout.{journal_layouts}
+use Rattle.thy_journal_image.specs.CheckpointParts.{memory_places, IsToldBy}
 use Rattle.thy_journal_image.specs.Free.{Target, SlotBlock, JournalBlock, HomeBlock, target_place, IsTarget, IsFree}
 use Rattle.thy_journal_image.proofs.PartsLemmas.{memory_place_of, memory_behind, slot_behind}
 
@@ -87,16 +87,16 @@ not_in_none : (y : ℕ) → Contains [] y → ⊥
 not_in_none y (k, l, is) = absurd (omega arith)
 
 pub nothing_looked : (p : Parameters) (ceiling : ℕ) (image : List Block) (x : ℕ) → is_zero (block_at image 1) ≡ true → x ≢ 1
-    → Contains (1 ∷ looked_by (journaled p ceiling) image) x → ⊥
+    → Contains (1 ∷ looked_by (journal_layouts p ceiling) image) x → ⊥
 nothing_looked p ceiling image x z other inside =
     let one : 1 ≢ x = λ e. other (sym e) in
-    let only : Contains (1 ∷ 1 ∷ []) x = subst (λ (xs : List ℕ). Contains (1 ∷ xs) x) (looked_nothing (journaled p ceiling) image z) inside in
+    let only : Contains (1 ∷ 1 ∷ []) x = subst (λ (xs : List ℕ). Contains (1 ∷ xs) x) (looked_nothing (journal_layouts p ceiling) image z) inside in
     not_in_none x (not_first x 1 [] one (not_first x 1 (1 ∷ []) one only))
 
 module _ (p : Parameters) (ceiling : ℕ) (image : List Block) (epoch : ℕ) (table : List (Option ℕ)) (x : Target)
     (told : IsToldBy p ceiling image epoch table) (there : IsTarget p x) (free : IsFree epoch table x) where
   abbrev l : Layout
-  l = journaled p ceiling
+  l = journal_layouts p ceiling
 
   abbrev rest : List ℕ
   rest = slot_places l (block_at image 1) ++ places_by l (block_at image 1) (slot_in l image)

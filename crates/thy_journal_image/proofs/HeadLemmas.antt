@@ -11,7 +11,7 @@ use Rattle.thy_base.proofs.WordLemmas.{word_of-block_of}
 use Rattle.thy_record.proofs.ReadBackLemmas.{taken, both, three}
 use Rattle.thy_journal_image.specs.Header.{scheme_number, header_words, header_of, is_of_geometry, header_fault}
 use Rattle.thy_journal_image.specs.Commit.{commit_magic, commit_words, commit_of, commit_fault}
-use Rattle.thy_journal_image.specs.Parts.{CommitIsBack}
+use Rattle.thy_journal_image.specs.CheckpointParts.{CommitIsBack}
 
 -- ---- the header
 

@@ -10,7 +10,7 @@ use Rattle.thy_record.specs.Tables.{entry_at, Lists, entry_of}
 use Rattle.thy_record.proofs.FileLemmas.{length-blocks_of}
 use Rattle.thy_record.proofs.IndexLemmas.{entry_of-take_here, entry_of-take_other}
 use Rattle.thy_journal_image.specs.Index.{with_block}
-use Rattle.thy_journal_image.specs.Parts.{memory_places}
+use Rattle.thy_journal_image.specs.CheckpointParts.{memory_places}
 use Rattle.thy_journal_image.specs.Places.{home_place, journal_place, image_blocks, place_by, place_of}
 use Rattle.thy_journal_image.specs.Slots.{IsTable}
 use Rattle.thy_journal_image.proofs.PartsLemmas.{length-memory_places, memory_place, place_by_behind}

@@ -27,8 +27,8 @@ use Rattle.thy_journal_image.specs.Places.{slot_blocks, slot_place, first_home, 
 use Rattle.thy_journal_image.specs.Header.{header_fault}
 use Rattle.thy_journal_image.specs.Commit.{commit_of, commit_fault}
 use Rattle.thy_journal_image.specs.Slots.{IsTable, slot_block_of, table_in, slot_fault}
-use Rattle.thy_journal_image.specs.Layout.{journaled}
-use Rattle.thy_journal_image.specs.Parts.{ReadsBack, memory_places, parts_by, IsIssuing, IsIssuedCheckpoint}
+use Rattle.thy_journal_image.specs.Layout.{journal_layouts}
+use Rattle.thy_journal_image.specs.CheckpointParts.{ReadsBack, memory_places, parts_by, IsIssuing, IsIssuedCheckpoint}
 use Rattle.thy_journal_image.proofs.HeadLemmas.{epoch_of-commit_of, commit_fault-commit_of, is_zero-commit_of}
 use Rattle.thy_journal_image.proofs.SlotLemmas.{slot_reads_back}
 
@@ -128,7 +128,7 @@ module _ (p : Parameters) (ceiling : ℕ) (cpu : CpuState) (table : List (Option
   pub back : ReadsBack p ceiling cpu table epoch slot
   back = slot_reads_back p ceiling cpu table epoch range recordable whole most small
 
-  pub parts_of : ArePartsOf (journaled p ceiling) (commit_of epoch) (parts_by p cpu table epoch)
+  pub parts_of : ArePartsOf (journal_layouts p ceiling) (commit_of epoch) (parts_by p cpu table epoch)
   parts_of = record {
     placed = ArePlaced-parts p cpu table epoch whole;
     slot_place = ap (λ (e : ℕ). slot_place p (e % 2)) epoch_is;
@@ -148,7 +148,7 @@ pub issued_decodes : (p : Parameters) (ceiling : ℕ) (n : Device) (cpu : CpuSta
     → IsIssuing p n cpu table epoch memory (slot_blocks p) → header_fault (newest n 0) p true ≡ None
     → IsIssuedCheckpoint p ceiling n cpu table epoch memory
 issued_decodes p ceiling n cpu table epoch memory range recordable most below h header =
-    let l : Layout = journaled p ceiling in
+    let l : Layout = journal_layouts p ceiling in
     let all : IsCheckpoint l n (commit_of epoch) (parts_by p cpu table epoch) memory =
     issued_is_checkpoint l n (commit_of epoch) (parts_by p cpu table epoch) memory (parts_of p ceiling cpu table epoch range recordable most below h.whole) h.parts
     (is_zero-commit_of epoch) (no_fault p ceiling cpu table epoch range recordable most below h.whole (newest n 0) header) in

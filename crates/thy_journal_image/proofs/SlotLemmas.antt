@@ -30,7 +30,7 @@ use Rattle.thy_record.proofs.EntryLemmas.{entry_of-absent}
 use Rattle.thy_base.specs.Store.{page_of}
 use Rattle.thy_journal_image.specs.Places.{slot_blocks}
 use Rattle.thy_journal_image.specs.Slots.{IsTable, table_block_of, slot_block_of, table_in, index_fault, twice_fault, table_fault, slot_fault}
-use Rattle.thy_journal_image.specs.Parts.{slot_of_checkpoint, ReadsBack}
+use Rattle.thy_journal_image.specs.CheckpointParts.{slot_of_checkpoint, ReadsBack}
 
 -- ---- two tables, of which one lists nothing
 

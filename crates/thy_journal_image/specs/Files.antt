@@ -11,7 +11,7 @@ use Rattle.thy_record.specs.declared.file.Found.TheVariants.{At as FoundAt}
 use Rattle.thy_record.specs.Decoded.{Decoded, Refused, At}
 use Rattle.thy_record.specs.Files.{blocks_of, found_in}
 use Rattle.thy_protocol.specs.Layout.{Layout, slot_in, memory_in, fault_of, meaning_of}
-use Rattle.thy_journal_image.specs.Layout.{journaled}
+use Rattle.thy_journal_image.specs.Layout.{journal_layouts}
 use Rattle.thy_journal_image.specs.Places.{image_blocks}
 
 -- they are as many bytes as an image has
@@ -26,13 +26,13 @@ decode_sized l sized g = meaning_of l sized (block_at g 0) (block_at g 1) (slot_
 abbrev pub decode_file : Parameters → ℕ → List ℕ → Decoded
 decode_file p ceiling bytes =
     if nat_lt (length bytes) 128 then Refused Empty
-    else decode_sized (journaled p ceiling) (is_sized_file p bytes) (blocks_of bytes)
+    else decode_sized (journal_layouts p ceiling) (is_sized_file p bytes) (blocks_of bytes)
 
 -- the first fault of a file that has a commit block
 abbrev pub file_fault : Parameters → ℕ → List ℕ → Option BadImage
 file_fault p ceiling bytes =
     let g = blocks_of bytes in
-    fault_of (journaled p ceiling) (is_sized_file p bytes) (block_at g 0) (block_at g 1) (slot_in (journaled p ceiling) g)
+    fault_of (journal_layouts p ceiling) (is_sized_file p bytes) (block_at g 0) (block_at g 1) (slot_in (journal_layouts p ceiling) g)
 
 -- a check of these bytes finds a checkpoint, below some ceiling
 pub record HasCheckpointOf (p : Parameters) (bytes : List ℕ) : Type 0 where

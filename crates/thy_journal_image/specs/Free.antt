@@ -8,8 +8,8 @@ use Rattle.thy_record.specs.Commit.{is_zero}
 use Rattle.thy_record.specs.Tables.{Lists}
 use Rattle.thy_protocol.specs.Layout.{looked_by}
 use Rattle.thy_journal_image.specs.Places.{slot_blocks, slot_place, home_place, journal_place}
-use Rattle.thy_journal_image.specs.Layout.{journaled}
-use Rattle.thy_journal_image.specs.Parts.{IsToldBy}
+use Rattle.thy_journal_image.specs.Layout.{journal_layouts}
+use Rattle.thy_journal_image.specs.CheckpointParts.{IsToldBy}
 
 -- what a write is for: block k of slot s, the block of entry i in the journal of slot s, or the home of block b
 pub data Target : Type 0 where
@@ -41,10 +41,10 @@ abbrev pub FreeIsNotLooked : Type 0
 FreeIsNotLooked =
     (p : Parameters) (ceiling : ℕ) (image : List Block) (epoch : ℕ) (table : List (Option ℕ)) (x : Target)
     → IsToldBy p ceiling image epoch table → IsTarget p x → IsFree epoch table x
-    → ¬ Contains (1 ∷ looked_by (journaled p ceiling) image) (target_place p x)
+    → ¬ Contains (1 ∷ looked_by (journal_layouts p ceiling) image) (target_place p x)
 
 -- of an image without a checkpoint no block but the commit block is
 abbrev pub NothingIsLooked : Type 0
 NothingIsLooked =
     (p : Parameters) (ceiling : ℕ) (image : List Block) (x : ℕ) → is_zero (block_at image 1) ≡ true → x ≢ 1
-    → ¬ Contains (1 ∷ looked_by (journaled p ceiling) image) x
+    → ¬ Contains (1 ∷ looked_by (journal_layouts p ceiling) image) x

@@ -14,8 +14,8 @@ use Rattle.thy_journal_image.specs.Header.{header_fault}
 use Rattle.thy_journal_image.specs.Commit.{commit_fault}
 use Rattle.thy_journal_image.specs.Slots.{table_in, slot_fault}
 
-abbrev pub journaled : Layouts
-journaled p ceiling = record {
+abbrev pub journal_layouts : Layouts
+journal_layouts p ceiling = record {
   image_blocks = image_blocks p;
   memory_blocks = memory_blocks p;
   slot_place = λ commit. slot_place p (epoch_of commit % 2);
@@ -29,8 +29,8 @@ journaled p ceiling = record {
 
 -- the layout of a run's own images
 abbrev pub layout_of : Origin → Layout
-layout_of o = journaled o.geometry ceiling
+layout_of o = journal_layouts o.geometry ceiling
 
 -- what an image means
 abbrev pub decode_journal : Reading
-decode_journal = reading journaled
+decode_journal = reading journal_layouts

@@ -3,7 +3,7 @@ pub mod Header
 pub mod Commit
 pub mod Slots
 pub mod Layout
-pub mod Parts
+pub mod CheckpointParts
 pub mod Free
 pub mod Files
 pub mod Index

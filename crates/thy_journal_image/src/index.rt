@@ -3,7 +3,7 @@ ghost use Rattle.std.specs.Prelude.{◌≡◌, ◌*◌, ◌<◌, ℕ, [], length
 ghost use Rattle.thy_base.specs.Geometry.{memory_blocks};
 ghost use Rattle.thy_record.specs.Files.{blocks_of};
 ghost use Rattle.thy_journal_image.specs.Index.{with_block};
-ghost use Rattle.thy_journal_image.specs.Parts.{memory_places};
+ghost use Rattle.thy_journal_image.specs.CheckpointParts.{memory_places};
 ghost use Rattle.thy_journal_image.specs.Places.{slot_blocks};
 ghost use Rattle.thy_journal_image.specs.Slots.{IsTable, table_in};
 

@@ -1,6 +1,6 @@
 //! Laws of the layout, each the contract of a function that does nothing.
 ghost use Rattle.thy_journal_image.specs.Free.{FreeIsNotLooked, NothingIsLooked};
-ghost use Rattle.thy_journal_image.specs.Parts.{HeaderReadsBack, CommitReadsBack, SlotReadsBack, FaultlessIsTable, IssuedDecodes};
+ghost use Rattle.thy_journal_image.specs.CheckpointParts.{HeaderReadsBack, CommitReadsBack, SlotReadsBack, FaultlessIsTable, IssuedDecodes};
 
 /// A header reads back as one without a fault, and a commit block as one of its epoch.
 pub fn header_and_commit_read_back()

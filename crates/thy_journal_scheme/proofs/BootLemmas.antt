@@ -33,7 +33,7 @@ use Rattle.thy_boot.specs.Boot.{Booting, IsBoot, new_boot}
 use Rattle.thy_boot.specs.Laws.{IsGoing}
 use Rattle.thy_boot.specs.Recovers.{HasReadAt}
 use Rattle.thy_boot.specs.Shows.{is_written, seen_at}
-use Rattle.thy_boot.specs.Sound.{BootImages, start_mark, saved_loading, standing_in_boot, IsRecovering, IsSoundAt, IsSound as IsBootOf}
+use Rattle.thy_boot.specs.Sound.{BootImages, start_mark, saved_loading, standing_in_boot, IsRecovering, IsSoundAt, IsSoundBoot as IsBootOf}
 use Rattle.thy_boot.proofs.BootDrainLemmas.{drains_keep_boot}
 use Rattle.thy_boot.proofs.FoundLemmas.{never_refused}
 use Rattle.thy_boot.proofs.GoOnLemmas.{new_is_sound}
@@ -47,7 +47,7 @@ use Rattle.thy_log.specs.Stores.{after_drain}
 use Rattle.thy_log.proofs.DrainLemmas.{IsSoundState-drained}
 use Rattle.thy_refill.specs.Filling.{filling_journal, IsFresh}
 use Rattle.thy_refill.proofs.LawLemmas.{log_is_filled}
-use Rattle.thy_journal_model.specs.Journal.{Journal as Value}
+use Rattle.thy_journal_laws.specs.Journal.{Journal as Value}
 use Rattle.thy_journal_scheme.specs.Boots.{Boots, IsPowered, view_at, has_read_at, loads_at}
 use Rattle.thy_journal_scheme.specs.Laws.{BootIsSound, PowerFinds}
 use Rattle.thy_journal_scheme.specs.Scheme.{journal_scheme}
@@ -139,7 +139,7 @@ boots-drained o s n boots = record {
   boot = boots.boot;
   unused = boots.unused;
   unread = boots.unread;
-  rested = boots.rested;
+  storeless = boots.storeless;
 }
 
 module _ (o : Origin) (s : Value) (n : Device) (boots : Boots o s n) where
@@ -193,10 +193,10 @@ module _ (o : Origin) (s : Value) (n : Device) (boots : Boots o s n) (some : 0 <
       progress = boots.unused.progress;
       idle = boots.unused.idle;
       room = boots.unused.room;
-      lean = boots.unused.lean;
+      sealed_storeless = boots.unused.sealed_storeless;
     };
     unread = λ h. let none = boots.unread h in omega (arith, none);
-    rested = boots.rested;
+    storeless = boots.storeless;
   }
 
   pub boot-drains : BootDrains journal_scheme o s n after
@@ -247,10 +247,10 @@ module _ (o : Origin) (s : Value) (n : Device) (origin : IsOrigin o) (powered : 
       progress = powered.progress;
       idle = powered.idle;
       room = ap (λ (l : State). l.dram.room) powered.log ∙ powered.is_dram.room;
-      lean = powered.lean;
+      sealed_storeless = powered.sealed_storeless;
     };
     unread = λ h. ap (λ (l : State). l.dram.queued) powered.log ∙ powered.is_dram.empty;
-    rested = powered.rested;
+    storeless = powered.storeless;
   }
 
   boots-found : BootsFound journal_scheme o s n

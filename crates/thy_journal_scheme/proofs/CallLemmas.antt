@@ -10,13 +10,13 @@ use Rattle.thy_record.specs.declared.engine_step.EngineStep.{EngineStep}
 use Rattle.thy_record.specs.declared.engine_step.EngineStep.TheVariants.{Idle, Copied, PageBlock, StateBlock, TableBlock, Barrier as IsBarrier, CommitWritten, Committed}
 use Rattle.thy_view.specs.Action.{Action, Rest, ReadAt, WriteAt, Barrier, Drain, after, FailsTo, Asks}
 use Rattle.thy_view.specs.Origin.{Origin}
-use Rattle.thy_scheme.specs.Marks.{Marks}
+use Rattle.thy_scheme.specs.CheckpointMarks.{CheckpointMarks}
 use Rattle.thy_scheme.specs.Scheme.{Stands}
 use Rattle.thy_scheme.specs.Calls.{IsDue, engine_did, Keeps, Drains, Seals, Engines, EngineFails, OwesNoMore, OwesAfter}
 use Rattle.thy_journal_image.specs.Places.{slot_place, home_place, journal_place}
 use Rattle.thy_journal_image.specs.Commit.{commit_of}
-use Rattle.thy_log.specs.declared.next.Next.{Next}
-use Rattle.thy_log.specs.declared.next.Next.TheVariants.{Nothing, Journal, Slot, Settle, Commit, Confirm, Home}
+use Rattle.thy_log.specs.declared.stage.JournalStage.{JournalStage}
+use Rattle.thy_log.specs.declared.stage.JournalStage.TheVariants.{Nothing, Journal, Slot, Settle, Commit, Confirm, Home}
 use Rattle.thy_log.specs.Cycles.{cycles_left}
 use Rattle.thy_log.specs.Items.{Item, NoItem, JournalItem, SlotItem, SettleItem, CommitItem, ConfirmItem, HomeItem, ReleaseItem, item, is_under_way, next_live, journal_or_slot, home_or_release, answer}
 use Rattle.thy_log.specs.Progress.{Progress, item_of, engine_next, state_next, action_next, action_of, state_after, block_listed}
@@ -24,15 +24,15 @@ use Rattle.thy_log.specs.State.{State}
 use Rattle.thy_log.specs.Stores.{after_drain}
 use Rattle.thy_log.proofs.CycleLemmas.{items_count}
 use Rattle.thy_log.proofs.DrainLemmas.{works_drained}
-use Rattle.thy_journal_model.specs.Checkpoints.{is_sealing, is_confirming, IsMadeFor}
-use Rattle.thy_journal_model.specs.Journal.{Journal as Value}
-use Rattle.thy_journal_model.specs.Sound.{IsSound}
-use Rattle.thy_journal_model.specs.Taken.{taken, device_taken, step_of, sealed}
-use Rattle.thy_journal_model.proofs.DramLemmas.{dram_drain_keeps}
-use Rattle.thy_journal_model.proofs.FailLemmas.{failed_items_are_safe}
-use Rattle.thy_journal_model.proofs.SealLemmas.{seal_keeps_sound}
-use Rattle.thy_journal_model.proofs.SoundLemmas.{items_keep_sound}
-use Rattle.thy_journal_model.proofs.StoreLemmas.{items_keep_store, blocks_alike}
+use Rattle.thy_journal_laws.specs.Checkpoints.{is_sealing, is_confirming, IsMadeFor}
+use Rattle.thy_journal_laws.specs.Journal.{Journal as Value}
+use Rattle.thy_journal_laws.specs.Sound.{IsSoundJournal}
+use Rattle.thy_journal_laws.specs.Taken.{taken, device_taken, step_of, sealed}
+use Rattle.thy_journal_laws.proofs.DramLemmas.{dram_drain_keeps}
+use Rattle.thy_journal_laws.proofs.FailLemmas.{failed_items_are_safe}
+use Rattle.thy_journal_laws.proofs.SealLemmas.{seal_keeps_sound}
+use Rattle.thy_journal_laws.proofs.SoundLemmas.{items_keep_sound}
+use Rattle.thy_journal_laws.proofs.StoreLemmas.{items_keep_store, blocks_alike}
 use Rattle.thy_journal_scheme.specs.Scheme.{journal_scheme}
 
 -- ---- one action
@@ -49,7 +49,7 @@ after-queue Drain n = omega (arith, length-drop 1 n.queue)
 
 -- ---- what an item is
 
-slot_due : (k : Marks) (first : Bool) → IsDue (if first then StateBlock else TableBlock) k
+slot_due : (k : CheckpointMarks) (first : Bool) → IsDue (if first then StateBlock else TableBlock) k
 slot_due k true = tt
 slot_due k false = tt
 
@@ -92,14 +92,14 @@ owes_none (Committed epoch) s n t new = tt
 
 -- ---- a step of the engine
 
-module _ (o : Origin) (k : Marks) (s : Value) (n : Device) (stands : Stands journal_scheme o k s n) (on : is_under_way s.engine.next ≡ true) where
+module _ (o : Origin) (k : CheckpointMarks) (s : Value) (n : Device) (stands : Stands journal_scheme o k s n) (on : is_under_way s.engine.next ≡ true) where
   abbrev e : Progress
   e = s.engine
 
   abbrev l : State
   l = s.log
 
-  abbrev sound : IsSound o k s n
+  abbrev sound : IsSoundJournal o k s n
   sound = stands.sound
 
   due_live : (x : Option ℕ) → IsDue (answer e.p e.epoch (journal_or_slot x)) k
@@ -110,7 +110,7 @@ module _ (o : Origin) (k : Marks) (s : Value) (n : Device) (stands : Stands jour
   due_home None = tt
   due_home (Some i) = tt
 
-  due_by : (q : Next) → e.next ≡ q → is_under_way q ≡ true → IsDue (answer e.p e.epoch (item q l)) k
+  due_by : (q : JournalStage) → e.next ≡ q → is_under_way q ≡ true → IsDue (answer e.p e.epoch (item q l)) k
   due_by Nothing is way = cc
   due_by (Journal from) is way = due_live (next_live from l)
   due_by (Slot j) is way = slot_due k (nat_lt j (record_blocks e.p))
@@ -132,8 +132,8 @@ module _ (o : Origin) (k : Marks) (s : Value) (n : Device) (stands : Stands jour
         held = record { blocks = store.blocks; free = store.free; opened = inl refl };
         left = record { owed = omega arith; engine = omega (arith, count); merges = omega arith; promotions = omega arith };
         whole = λ h. h;
-        rested = refl;
-        lean = refl;
+        storeless = refl;
+        sealed_storeless = refl;
       }
 
   queue : length (device_taken s n).queue + (state_next e l).dram.queued ≤ length n.queue + l.dram.queued + 1
@@ -182,20 +182,20 @@ module _ (o : Origin) (k : Marks) (s : Value) (n : Device) (stands : Stands jour
 
 -- ---- a seal
 
-pub seals : (o : Origin) (k : Marks) (cpu : CpuState) (epoch : ℕ) (s : Value) (n : Device) → Stands journal_scheme o k s n
+pub seals : (o : Origin) (k : CheckpointMarks) (cpu : CpuState) (epoch : ℕ) (s : Value) (n : Device) → Stands journal_scheme o k s n
     → is_under_way s.engine.next ≡ false → Seals journal_scheme o k cpu epoch s n (sealed cpu epoch s)
 seals o k cpu epoch s n stands idle = record {
   sound = λ m t. seal_keeps_sound o k cpu epoch m s n stands.sound stands.up idle t;
   held = record { blocks = refl; free = omega arith; opened = inl refl };
   dram = refl;
   queue = refl;
-  rested = refl;
-  lean = refl;
+  storeless = refl;
+  sealed_storeless = refl;
 }
 
 -- ---- a drain of the DRAM
 
-pub drains : (o : Origin) (k : Marks) (s : Value) (n : Device) → Stands journal_scheme o k s n → 0 < s.log.dram.queued
+pub drains : (o : Origin) (k : CheckpointMarks) (s : Value) (n : Device) → Stands journal_scheme o k s n → 0 < s.log.dram.queued
     → Drains journal_scheme o k s n (record s { log = after_drain s.log })
 drains o k s n stands some = record {
   sound = dram_drain_keeps o k s n stands.sound;
@@ -207,8 +207,8 @@ drains o k s n stands some = record {
     };
     left = record { owed = omega arith; engine = omega arith; merges = omega arith; promotions = omega arith };
     whole = λ h. h;
-    rested = refl;
-    lean = refl;
+    storeless = refl;
+    sealed_storeless = refl;
   };
   owes = omega arith;
   dram = refl;

@@ -36,18 +36,18 @@ use Rattle.thy_boot.specs.Sound.{BootImages, start_mark, IsLoaded}
 use Rattle.thy_boot.specs.Start.{CanStart, start_blocks}
 use Rattle.thy_boot.proofs.ReadLemmas.{newest-settled}
 use Rattle.thy_boot.proofs.StartLemmas.{state_from-start, CanStart-origin}
-use Rattle.thy_scheme.specs.Marks.{only}
+use Rattle.thy_scheme.specs.CheckpointMarks.{only}
 use Rattle.thy_journal_image.specs.Places.{slot_blocks, slot_place, image_blocks}
 use Rattle.thy_journal_image.specs.Header.{header_of, header_fault}
 use Rattle.thy_journal_image.specs.Commit.{commit_of}
 use Rattle.thy_journal_image.specs.Slots.{IsTable, table_in, slot_block_of}
-use Rattle.thy_journal_image.specs.Layout.{journaled, layout_of}
-use Rattle.thy_journal_image.specs.Parts.{IsToldBy, parts_by}
+use Rattle.thy_journal_image.specs.Layout.{journal_layouts, layout_of}
+use Rattle.thy_journal_image.specs.CheckpointParts.{IsToldBy, parts_by}
 use Rattle.thy_journal_image.proofs.HeadLemmas.{epoch_of-commit_of, header_fault-header_of}
 use Rattle.thy_journal_image.proofs.PartsLemmas.{back}
 use Rattle.thy_log.specs.declared.entry.Listed.{Listed}
-use Rattle.thy_log.specs.declared.next.Next.{Next}
-use Rattle.thy_log.specs.declared.next.Next.TheVariants.{Nothing, Home}
+use Rattle.thy_log.specs.declared.stage.JournalStage.{JournalStage}
+use Rattle.thy_log.specs.declared.stage.JournalStage.TheVariants.{Nothing, Home}
 use Rattle.thy_log.specs.Holding.{works, homes}
 use Rattle.thy_log.specs.Items.{is_under_way, is_applying}
 use Rattle.thy_log.specs.Keys.{block_key}
@@ -56,10 +56,10 @@ use Rattle.thy_log.specs.State.{State, IsSoundState, table_of, home_of, work_of,
 use Rattle.thy_log.proofs.TableLemmas.{IsTable-table_of, length-table_of, listed_at-table_of}
 use Rattle.thy_refill.specs.Filling.{filling_journal, no_table, first_of_start, IsFresh}
 use Rattle.thy_refill.proofs.FirstLemmas.{IsTable-none, entry_for-fresh, fresh_loads}
-use Rattle.thy_journal_model.specs.Checkpoints.{Checkpoints, is_sealing, is_confirming, saved_at, standing_at, IsKeptBy, HasWrittenBefore}
-use Rattle.thy_journal_model.specs.Journal.{Journal as Value, committed_in}
-use Rattle.thy_journal_model.specs.Sound.{IsHeld, IsSound}
-use Rattle.thy_journal_model.proofs.SafeLemmas.{idle_next, committed_idle}
+use Rattle.thy_journal_laws.specs.Checkpoints.{Checkpoints, is_sealing, is_confirming, saved_at, standing_at, IsKeptBy, HasWrittenBefore}
+use Rattle.thy_journal_laws.specs.Journal.{Journal as Value, committed_in}
+use Rattle.thy_journal_laws.specs.Sound.{IsHeld, IsSoundJournal}
+use Rattle.thy_journal_laws.proofs.SafeLemmas.{idle_next, committed_idle}
 
 -- what holds of a scheme in which nothing was sealed, over a device of its size
 abbrev held_by : (o : Origin) (e : Progress) (l : State) (n : Device) → IsSoundState l → l.p ≡ o.geometry → e.p ≡ o.geometry
@@ -92,7 +92,7 @@ module _ (o : Origin) (m : Mark) (before : List Block) (n : Device) (b : Booting
   table_is : table_in o.geometry (slot_in (layout_of o) before) ≡ table_of l
   table_is =
       ap (λ (i : List Block). table_in o.geometry (slot_in (layout_of o) i)) before_is
-      ∙ ap (λ (p : Parameters). table_in p (slot_in (journaled p ceiling) n.image)) (sym geometry)
+      ∙ ap (λ (p : Parameters). table_in p (slot_in (journal_layouts p ceiling) n.image)) (sym geometry)
       ∙ ap (table_in b.p) (sym found.slot_is)
       ∙ ap (λ (p : Parameters). table_in p slot) (geometry ∙ sym log)
       ∙ sym found.lists.table
@@ -104,7 +104,7 @@ module _ (o : Origin) (m : Mark) (before : List Block) (n : Device) (b : Booting
     whole = subst (λ (p : Parameters). IsTable p (table_of l)) log (IsTable-table_of l found.lists.state);
   }
 
-  pub restored_sound : IsSound o (only m) (record s { log = l; engine = applying s.engine; boot = b }) n
+  pub restored_sound : IsSoundJournal o (only m) (record s { log = l; engine = applying s.engine; boot = b }) n
   restored_sound = record {
     held = held_by o e l n found.lists.state log engine (record { regs = progress.regs; inside = λ k is. cc }) room keeps.sized;
     images = images_of before m;
@@ -132,7 +132,7 @@ module _ (o : Origin) (m : Mark) (before : List Block) (n : Device) (b : Booting
       cpu = cpu_of_record slot;
       state = ap (λ (p : Parameters). state_from p (cpu_of_record slot) (works l n)) (sym geometry) ∙ state;
     };
-    rest = λ rested idle. cc;
+    rest = λ storeless idle. cc;
   }
 
 -- ---- the program is loaded
@@ -243,13 +243,13 @@ module _ (o : Origin) (g : BootImages) (n : Device) (b : Booting) (s : Value) (l
   made_state =
       ap (state_from p (cpu_of o.start)) (homes_loaded ∙ memory_is) ∙ state_from-start p o.start start.geometry start.start ∙ sym (at-start o)
 
-  not_way : (q : Next) → q ≡ Nothing → is_sealing q ≡ true → ⊥
+  not_way : (q : JournalStage) → q ≡ Nothing → is_sealing q ≡ true → ⊥
   not_way q is way = let no : false ≡ true = sym (ap is_sealing is) ∙ way in absurd cc
 
-  not_applying : (q : Next) → q ≡ Nothing → is_applying q ≡ true → ⊥
+  not_applying : (q : JournalStage) → q ≡ Nothing → is_applying q ≡ true → ⊥
   not_applying q is way = let no : false ≡ true = sym (ap is_applying is) ∙ way in absurd cc
 
-  sound_then : IsSound o (only (start_mark o)) (record s { log = l; boot = b }) n
+  sound_then : IsSoundJournal o (only (start_mark o)) (record s { log = l; boot = b }) n
   sound_then = record {
     held = held_by o en l n loaded.fresh.state log engine progress room keeps.sized;
     images = images_of n.image (start_mark o);
@@ -257,7 +257,7 @@ module _ (o : Origin) (g : BootImages) (n : Device) (b : Booting) (s : Value) (l
       kept = refl;
       sealed = refl;
       keeping =
-          subst (λ (q : Next). Keeps o (layout_of o) n (saved_at q (images_of n.image (start_mark o))) (Some (start_mark o)) None) (sym nothing) kept;
+          subst (λ (q : JournalStage). Keeps o (layout_of o) n (saved_at q (images_of n.image (start_mark o))) (Some (start_mark o)) None) (sym nothing) kept;
       told = record {
         epoch = 0;
         table = table_of l;
@@ -265,7 +265,7 @@ module _ (o : Origin) (g : BootImages) (n : Device) (b : Booting) (s : Value) (l
         other_slot = λ way. absurd (not_way en.next nothing way);
         listed = λ way. absurd (not_applying en.next nothing way);
       };
-      written = subst (λ (q : Next). HasWrittenBefore q en l n) (sym nothing) tt;
+      written = subst (λ (q : JournalStage). HasWrittenBefore q en l n) (sym nothing) tt;
       made = λ way. absurd (not_way en.next nothing way);
     };
     way = ap is_sealing nothing;
@@ -275,7 +275,7 @@ module _ (o : Origin) (g : BootImages) (n : Device) (b : Booting) (s : Value) (l
       cpu = cpu_of o.start;
       state = ap (state_from p (cpu_of o.start)) (committed_idle en l n nothing) ∙ made_state;
     };
-    rest = λ rested still. none_free l.table.entries (λ i. loaded.fresh.free i);
+    rest = λ storeless still. none_free l.table.entries (λ i. loaded.fresh.free i);
   }
 
   -- and memory is the start's
@@ -284,6 +284,6 @@ module _ (o : Origin) (g : BootImages) (n : Device) (b : Booting) (s : Value) (l
       map-alike (work_of l n) (home_of l n) (range_with_len 0 (memory_blocks l.p))
       (λ c inside. ap (work_by l n c) (entry_for-fresh l c loaded.fresh))
 
-  pub loaded_sound : IsSound o (only (start_mark o)) (record s { log = l; boot = b }) n
+  pub loaded_sound : IsSoundJournal o (only (start_mark o)) (record s { log = l; boot = b }) n
       × (state_from o.geometry (cpu_of o.start) (works l n) ≡ at o o.start.count)
   loaded_sound = (sound_then, ap (state_from p (cpu_of o.start)) works_loaded ∙ made_state)

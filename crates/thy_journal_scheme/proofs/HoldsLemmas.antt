@@ -11,35 +11,35 @@ use Rattle.thy_base.specs.Geometry.{memory_blocks}
 use Rattle.thy_base.proofs.DeviceLemmas.{length-drained, newest-drained, no_more-drained}
 use Rattle.thy_table.specs.Listing.{free_count}
 use Rattle.thy_view.specs.Origin.{Origin}
-use Rattle.thy_scheme.specs.Marks.{Marks}
+use Rattle.thy_scheme.specs.CheckpointMarks.{CheckpointMarks}
 use Rattle.thy_scheme.specs.Calls.{Keeps}
 use Rattle.thy_scheme.specs.Laws.{IsBounded, RunHolds}
 use Rattle.thy_journal_image.specs.Places.{home_place, image_blocks}
 use Rattle.thy_log.specs.declared.entry.Listed.{Listed}
-use Rattle.thy_log.specs.declared.next.Next.{Next}
-use Rattle.thy_log.specs.declared.next.Next.TheVariants.{Nothing, Journal, Slot, Settle, Commit, Confirm, Home}
+use Rattle.thy_log.specs.declared.stage.JournalStage.{JournalStage}
+use Rattle.thy_log.specs.declared.stage.JournalStage.TheVariants.{Nothing, Journal, Slot, Settle, Commit, Confirm, Home}
 use Rattle.thy_log.specs.Cycles.{cycles_left, most_cycles}
 use Rattle.thy_log.specs.Holding.{works, homes}
 use Rattle.thy_log.specs.Items.{is_under_way, is_applying}
 use Rattle.thy_log.specs.Progress.{Progress}
 use Rattle.thy_log.specs.State.{State, IsSoundState, home_of, work_of}
 use Rattle.thy_log.proofs.CycleLemmas.{cycles_are_few}
-use Rattle.thy_journal_model.specs.Checkpoints.{is_sealing}
-use Rattle.thy_journal_model.specs.Journal.{Journal as Value, committed_in}
-use Rattle.thy_journal_model.specs.Sound.{IsSound}
-use Rattle.thy_journal_model.specs.Taken.{ReadsSame}
-use Rattle.thy_journal_model.proofs.DrainLemmas.{same_reads_keep}
-use Rattle.thy_journal_model.proofs.SafeLemmas.{IsSound-safe}
-use Rattle.thy_journal_model.proofs.SealLemmas.{blocks_held}
-use Rattle.thy_journal_model.proofs.StoreLemmas.{blocks_alike}
-use Rattle.thy_journal_model.proofs.WorkLemmas.{works_same}
+use Rattle.thy_journal_laws.specs.Checkpoints.{is_sealing}
+use Rattle.thy_journal_laws.specs.Journal.{Journal as Value, committed_in}
+use Rattle.thy_journal_laws.specs.Sound.{IsSoundJournal}
+use Rattle.thy_journal_laws.specs.Taken.{ReadsSame}
+use Rattle.thy_journal_laws.proofs.DrainLemmas.{same_reads_keep}
+use Rattle.thy_journal_laws.proofs.SafeLemmas.{IsSoundJournal-safe}
+use Rattle.thy_journal_laws.proofs.SealLemmas.{blocks_held}
+use Rattle.thy_journal_laws.proofs.StoreLemmas.{blocks_alike}
+use Rattle.thy_journal_laws.proofs.WorkLemmas.{works_same}
 use Rattle.thy_journal_scheme.specs.Laws.{RunIsSound}
 use Rattle.thy_journal_scheme.specs.Scheme.{journal_scheme}
 
 -- ---- what is under way
 
 -- a checkpoint is made, or its journal is applied, and never both
-way_of : (q : Next) → is_under_way q ≡ (is_sealing q || is_applying q)
+way_of : (q : JournalStage) → is_under_way q ≡ (is_sealing q || is_applying q)
 way_of Nothing = refl
 way_of (Journal from) = refl
 way_of (Slot k) = refl
@@ -48,7 +48,7 @@ way_of Commit = refl
 way_of Confirm = refl
 way_of (Home from) = refl
 
-not_sealing : (q : Next) → is_applying q ≡ true → is_sealing q ≡ false
+not_sealing : (q : JournalStage) → is_applying q ≡ true → is_sealing q ≡ false
 not_sealing Nothing h = cc
 not_sealing (Journal from) h = cc
 not_sealing (Slot k) h = cc
@@ -88,7 +88,7 @@ reads_drained n = record { as_long = length-drained n; reads = λ x l. newest-dr
 home_drained : (s : State) (n : Device) (b : ℕ) → length n.image ≡ image_blocks s.p → b < memory_blocks s.p → home_of s (drained n) b ≡ home_of s n b
 home_drained s n b sized l = newest-drained n (home_place s.p b) (omega (arith, sized, l))
 
-module _ (o : Origin) (k : Marks) (s : Value) (n : Device) (sound : IsSound o k s n) (up : n.down ≡ false) where
+module _ (o : Origin) (k : CheckpointMarks) (s : Value) (n : Device) (sound : IsSoundJournal o k s n) (up : n.down ≡ false) where
   abbrev l : State
   l = s.log
 
@@ -103,8 +103,8 @@ module _ (o : Origin) (k : Marks) (s : Value) (n : Device) (sound : IsSound o k 
     };
     left = record { owed = omega arith; engine = omega arith; merges = omega arith; promotions = omega arith };
     whole = λ h. h;
-    rested = refl;
-    lean = refl;
+    storeless = refl;
+    sealed_storeless = refl;
   }
 
   bounded : IsBounded journal_scheme o.geometry s n
@@ -125,7 +125,7 @@ module _ (o : Origin) (k : Marks) (s : Value) (n : Device) (sound : IsSound o k 
       record {
         of_geometry = record { same_p = p; sound = sound.held.state; room = sound.held.room };
         sized = sound.held.sized.nvm ∙ ap image_blocks p;
-        safe = IsSound-safe o k s n sound;
+        safe = IsSoundJournal-safe o k s n sound;
         way = way_of s.engine.next ∙ ap (λ (b : Bool). b || is_applying s.engine.next) sound.way;
         apart = λ applies. none_of k.sealed (sym sound.way ∙ not_sealing s.engine.next applies);
         memory = ap length (blocks_held l n sound.held.sized.nvm up) ∙ length-works l n ∙ ap memory_blocks p;
@@ -133,7 +133,7 @@ module _ (o : Origin) (k : Marks) (s : Value) (n : Device) (sound : IsSound o k 
         overlays = λ bare. refl;
         promotions = λ whole. refl;
         bounded = bounded;
-        room = λ lean rested idle. some-free l sound.held.state (sound.rest rested idle);
+        room = λ sealed_storeless storeless idle. some-free l sound.held.state (sound.rest storeless idle);
         committed = record {
           blocks =
               length-either (is_applying s.engine.next) (works l n) (homes l n) (memory_blocks l.p) (length-works l n) (length-homes l n)

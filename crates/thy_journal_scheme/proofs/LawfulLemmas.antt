@@ -12,11 +12,11 @@ use Rattle.thy_table.specs.Listing.{Listing, IsListing, entry_at, lists, empty_t
 use Rattle.thy_boot.specs.Boot.{new_boot}
 use Rattle.thy_scheme.specs.Laws.{IsLawful}
 use Rattle.thy_log.specs.declared.entry.Listed.{Listed}
-use Rattle.thy_log.specs.declared.next.Next.TheVariants.{Nothing, Slot as SlotNext}
+use Rattle.thy_log.specs.declared.stage.JournalStage.TheVariants.{Nothing, Slot as SlotNext}
 use Rattle.thy_log.specs.Keys.{block_key}
 use Rattle.thy_log.specs.State.{IsSoundState, new_state}
 use Rattle.thy_refill.specs.Filling.{filling_journal}
-use Rattle.thy_journal_model.specs.Journal.{Journal as Value}
+use Rattle.thy_journal_laws.specs.Journal.{Journal as Value}
 use Rattle.thy_journal_scheme.specs.Boots.{IsPowered}
 use Rattle.thy_journal_scheme.specs.Scheme.{journal_scheme}
 use Rattle.thy_journal_scheme.proofs.BootLemmas.{boot_is_sound, power_finds, alike_at}
@@ -36,8 +36,8 @@ abbrev first : Parameters → Value
 first p = record {
   log = new_state p (no_dram p);
   engine = record { p = p; next = Nothing; cpu = no_cpu; epoch = 0 };
-  rested = true;
-  lean = false;
+  storeless = true;
+  sealed_storeless = false;
   boot = new_boot filling_journal p;
 }
 
@@ -75,8 +75,8 @@ powered p =
       engine = refl;
       progress = record { regs = length-replicate {A = ℕ} 32 0; inside = λ k is. absurd (no-slot k is) };
       idle = refl;
-      rested = refl;
-      lean = refl;
+      storeless = refl;
+      sealed_storeless = refl;
     }
 
 -- ---- the laws

@@ -15,12 +15,12 @@ use Rattle.thy_boot.specs.declared.stage.Stage.TheVariants.{Reads}
 use Rattle.thy_boot.specs.declared.stage.ReadStage.TheVariants.{Unread}
 use Rattle.thy_boot.specs.Boot.{Booting, new_boot}
 use Rattle.thy_boot.specs.Left.{boot_left}
-use Rattle.thy_journal_image.specs.Layout.{journaled}
+use Rattle.thy_journal_image.specs.Layout.{journal_layouts}
 use Rattle.thy_table.specs.Listing.{entry_at}
 use Rattle.thy_log.specs.declared.entry.Listed.{Listed}
 use Rattle.thy_log.specs.State.{State, IsSoundState, new_state}
 use Rattle.thy_refill.specs.Filling.{filling_journal, IsFresh}
-use Rattle.thy_journal_model.specs.Journal.{Journal as Value}
+use Rattle.thy_journal_laws.specs.Journal.{Journal as Value}
 use Rattle.thy_journal_scheme.specs.Boots.{IsPowered}
 use Rattle.thy_journal_scheme.specs.Laws.{PowerIsNew, ZerosAreNothing}
 
@@ -48,5 +48,5 @@ power_is_new p s powered = record {
 pub zeros_are_nothing : ZerosAreNothing
 zeros_are_nothing p shape n same =
     let some : 1 < shape.blocks - 0 = omega (arith, same) in
-    decode_by-zero (journaled p ceiling) (fitted shape [] n).image
+    decode_by-zero (journal_layouts p ceiling) (fitted shape [] n).image
     (ap is_zero (get_or-replicate (shape.blocks - 0) 1 zero_block zero_block some) ∙ is_zero-zero_block)

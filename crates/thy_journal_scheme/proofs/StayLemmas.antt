@@ -5,7 +5,7 @@ use Rattle.thy_base.specs.declared.config.Parameters.{Parameters}
 use Rattle.thy_base.specs.declared.nvm.NvmError.{NvmError}
 use Rattle.thy_base.specs.Device.{Device}
 use Rattle.thy_view.specs.Origin.{Origin}
-use Rattle.thy_scheme.specs.Marks.{Marks}
+use Rattle.thy_scheme.specs.CheckpointMarks.{CheckpointMarks}
 use Rattle.thy_scheme.specs.Scheme.{StaysOf}
 use Rattle.thy_journal_image.specs.Places.{image_blocks}
 use Rattle.thy_log.specs.Cycles.{cycles_left}
@@ -13,9 +13,9 @@ use Rattle.thy_log.specs.Holding.{works}
 use Rattle.thy_log.specs.Items.{is_under_way}
 use Rattle.thy_log.specs.Progress.{Progress}
 use Rattle.thy_log.specs.State.{State, IsSoundState}
-use Rattle.thy_journal_model.specs.Journal.{Journal as Value, IsOf}
-use Rattle.thy_journal_model.specs.Stays.{RestsOn, StaysJournal}
-use Rattle.thy_journal_model.proofs.SafeLemmas.{stays_keep_sound}
+use Rattle.thy_journal_laws.specs.Journal.{Journal as Value, IsOf}
+use Rattle.thy_journal_laws.specs.Stays.{RestsOn, StaysJournal}
+use Rattle.thy_journal_laws.proofs.SafeLemmas.{stays_keep_sound}
 use Rattle.thy_journal_scheme.specs.Laws.{HeldIsUp, StaysKeep, StaysOver}
 use Rattle.thy_journal_scheme.specs.Scheme.{journal_scheme}
 
@@ -42,7 +42,7 @@ pub same-stays : (s : Value) (n : Device) → StaysJournal s n s n
 same-stays s n = record {
   same_p = refl;
   engine = refl;
-  lean = refl;
+  sealed_storeless = refl;
   boot = refl;
   room = refl;
   sound = λ h. h;
@@ -57,7 +57,7 @@ pub on-stays : (a : Value) (m : Device) (b : Value) (n : Device) (c : Value) (o 
 on-stays a m b n c o first second = record {
   same_p = second.same_p ∙ first.same_p;
   engine = second.engine ∙ first.engine;
-  lean = second.lean ∙ first.lean;
+  sealed_storeless = second.sealed_storeless ∙ first.sealed_storeless;
   boot = second.boot ∙ first.boot;
   room = second.room ∙ first.room;
   sound = λ h. second.sound (first.sound h);
@@ -111,5 +111,5 @@ stays_keep o k s n t new stands free stays =
       way = ap (λ (e : Progress). is_under_way e.next) stays.engine;
       engine = subst (λ (e : Progress). cycles_left e ≤ cycles_left s.engine) (sym stays.engine) (omega arith);
       owed_later = omega arith;
-      lean = stays.lean;
+      sealed_storeless = stays.sealed_storeless;
     }

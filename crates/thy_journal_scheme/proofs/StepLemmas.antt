@@ -53,7 +53,7 @@ use Rattle.thy_boot.proofs.SafeLemmas.{failures_move, read_failed}
 use Rattle.thy_boot.proofs.StartLemmas.{CanStart-origin}
 use Rattle.thy_boot.proofs.StepMoveLemmas.{steps_move}
 use Rattle.thy_scheme.specs.Boots.{boot_did, IsBooted, Loads, Restarts, Answers, BootsOn, BootFails}
-use Rattle.thy_scheme.specs.Marks.{only}
+use Rattle.thy_scheme.specs.CheckpointMarks.{only}
 use Rattle.thy_scheme.specs.Scheme.{StaysOf, IsBooting, CanBoot}
 use Rattle.thy_journal_image.specs.Places.{image_blocks}
 use Rattle.thy_journal_image.specs.Layout.{decode_journal, layout_of}
@@ -63,10 +63,10 @@ use Rattle.thy_log.specs.Holding.{works}
 use Rattle.thy_log.specs.State.{State, IsSoundState}
 use Rattle.thy_refill.specs.Filling.{filling_journal}
 use Rattle.thy_refill.proofs.LawLemmas.{log_is_filled}
-use Rattle.thy_journal_model.specs.Journal.{Journal as Value}
-use Rattle.thy_journal_model.specs.Sound.{IsSound}
-use Rattle.thy_journal_model.proofs.SealLemmas.{blocks_held}
-use Rattle.thy_journal_model.proofs.StoreLemmas.{down_after}
+use Rattle.thy_journal_laws.specs.Journal.{Journal as Value}
+use Rattle.thy_journal_laws.specs.Sound.{IsSoundJournal}
+use Rattle.thy_journal_laws.proofs.SealLemmas.{blocks_held}
+use Rattle.thy_journal_laws.proofs.StoreLemmas.{down_after}
 use Rattle.thy_journal_scheme.specs.Boots.{Boots, IsUnused, booted, engine_at, step_of, result_of, view_at, has_read_at}
 use Rattle.thy_journal_scheme.specs.Scheme.{journal_scheme}
 use Rattle.thy_journal_scheme.proofs.BootLemmas.{view-is, loads-first}
@@ -221,7 +221,7 @@ module _ (o : Origin) (s : Value) (n : Device) (booting : IsBooting journal_sche
     progress = boots.unused.progress;
     idle = boots.unused.idle;
     room = room;
-    lean = boots.unused.lean;
+    sealed_storeless = boots.unused.sealed_storeless;
   }
   unused (Loading issue) going = record {
     state = state;
@@ -230,7 +230,7 @@ module _ (o : Origin) (s : Value) (n : Device) (booting : IsBooting journal_sche
     progress = boots.unused.progress;
     idle = boots.unused.idle;
     room = room;
-    lean = boots.unused.lean;
+    sealed_storeless = boots.unused.sealed_storeless;
   }
   unused (Over end) going = absurd going
 
@@ -243,7 +243,7 @@ module _ (o : Origin) (s : Value) (n : Device) (booting : IsBooting journal_sche
     boot = boot;
     unused = unused d.stage going;
     unread = λ u. absurd (not-unread d.stage read u);
-    rested = boots.rested;
+    storeless = boots.storeless;
   }
 
   before : view_at o b.stage n ≡ seen_at o g.kept b.stage
@@ -280,13 +280,13 @@ module _ (o : Origin) (s : Value) (n : Device) (booting : IsBooting journal_sche
         fresh = was.0;
         view = before ∙ was.1;
         booted = record {
-          sound = subst (λ (q : Stage). IsSound o (only (start_mark o)) (with_engine q) new) (sym is) ended.0;
+          sound = subst (λ (q : Stage). IsSoundJournal o (only (start_mark o)) (with_engine q) new) (sym is) ended.0;
           state = ap (state_from o.geometry (cpu_of o.start)) (blocks_are keeps.sized) ∙ ended.1;
           count = refl;
           recordable = (CanStart-origin o boots.origin).recordable;
           closed = refl;
           whole = refl;
-          rested = boots.rested;
+          storeless = boots.storeless;
         };
       }
 
@@ -313,13 +313,13 @@ module _ (o : Origin) (s : Value) (n : Device) (booting : IsBooting journal_sche
       let fits = slot_fits-cpu o.geometry ceiling epoch slot
       (subst (λ (p : Parameters). slot_fault p ceiling epoch slot ≡ None) moved.sound.geometry found.slot_fits) in
       let over : IsBooted journal_scheme o m cpu t new = record {
-        sound = subst (λ (q : Stage). IsSound o (only m) (with_engine q) new) (sym is) ended;
+        sound = subst (λ (q : Stage). IsSoundJournal o (only m) (with_engine q) new) (sym is) ended;
         state = ap (state_from o.geometry cpu) (blocks_are keeps.sized) ∙ made_state;
         count = count;
         recordable = IsRecordable-at o m.count cpu (works e new) boots.origin made_state fits.1 fits.0;
         closed = refl;
         whole = refl;
-        rested = boots.rested;
+        storeless = boots.storeless;
       } in
       record {
         view = before ∙ was-found o g n b s.log b.stage (mark epoch cpu.count) boots.going shows.done;

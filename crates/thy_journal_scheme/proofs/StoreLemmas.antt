@@ -26,8 +26,8 @@ use Rattle.thy_log.specs.Keys.{block_key, listing_of}
 use Rattle.thy_log.specs.State.{State, IsSoundState, entry_for, buffer_of, work_by, work_of}
 use Rattle.thy_log.specs.Stores.{after_store, put_into, store_entry, listing_for, with_listing}
 use Rattle.thy_log.proofs.StateLemmas.{IsSoundState-table, IsSoundState-dram}
-use Rattle.thy_journal_model.specs.Journal.{Journal as Value}
-use Rattle.thy_journal_model.specs.Stays.{StaysJournal}
+use Rattle.thy_journal_laws.specs.Journal.{Journal as Value}
+use Rattle.thy_journal_laws.specs.Stays.{StaysJournal}
 use Rattle.thy_journal_scheme.specs.Laws.{HeldIsWork, StoresKeep, stored}
 use Rattle.thy_journal_scheme.specs.Scheme.{journal_scheme}
 
@@ -194,7 +194,7 @@ module _ (b : ℕ) (block : Block) (s : Value) (n : Device) (sound : IsSoundStat
   after = put_into at.i block (record s.log { table = at.u })
 
   abbrev with_log : State → Value
-  with_log x = record s { log = x; rested = false }
+  with_log x = record s { log = x; storeless = false }
 
   stores_after : IsStored b block (journal_scheme.holding s n) (journal_scheme.holding (with_log after) n)
   stores_after = record {
@@ -213,7 +213,7 @@ module _ (b : ℕ) (block : Block) (s : Value) (n : Device) (sound : IsSoundStat
   stays_after = record {
     same_p = refl;
     engine = refl;
-    lean = refl;
+    sealed_storeless = refl;
     boot = refl;
     room = refl;
     sound = λ h. stored_sound b block s.log n sound small at.i at.u at.listed;

@@ -20,7 +20,7 @@ use Rattle.thy_boot.specs.declared.stage.End.TheVariants.{Restored}
 use Rattle.thy_boot.specs.Boot.{Booting, IsBoot, new_boot}
 use Rattle.thy_boot.specs.Laws.{IsGoing}
 use Rattle.thy_boot.specs.Shows.{is_written}
-use Rattle.thy_boot.specs.Sound.{BootImages, IsSound as IsBootOf}
+use Rattle.thy_boot.specs.Sound.{BootImages, IsSoundBoot as IsBootOf}
 use Rattle.thy_scheme.specs.declared.boot_step.BootStep.{BootStep as SchemeStep}
 use Rattle.thy_scheme.specs.declared.boot_step.BootStep.TheVariants.{GoesOn, Loaded as SchemeLoaded, Restarted as SchemeRestarted, Refused as SchemeRefused}
 use Rattle.thy_journal_image.specs.Layout.{decode_journal}
@@ -28,7 +28,7 @@ use Rattle.thy_log.specs.Items.{is_under_way}
 use Rattle.thy_log.specs.Progress.{Progress, IsSoundProgress, applying}
 use Rattle.thy_log.specs.State.{State, IsSoundState, new_state}
 use Rattle.thy_refill.specs.Filling.{filling_journal}
-use Rattle.thy_journal_model.specs.Journal.{Journal}
+use Rattle.thy_journal_laws.specs.Journal.{Journal}
 
 -- log and engine are of the run's geometry, and nothing was sealed yet
 pub record IsUnused (o : Origin) (s : Journal) : Type 0 where
@@ -38,7 +38,7 @@ pub record IsUnused (o : Origin) (s : Journal) : Type 0 where
   pub progress : IsSoundProgress s.engine
   pub idle : is_under_way s.engine.next ≡ false
   pub room : s.log.dram.room ≡ o.geometry.dramq
-  pub lean : s.lean ≡ false
+  pub sealed_storeless : s.sealed_storeless ≡ false
 
 -- a boot of a run that is not over, of a scheme in which nothing was sealed or stored; before it has read, nothing is
 -- queued in the DRAM
@@ -50,7 +50,7 @@ pub record Boots (o : Origin) (s : Journal) (n : Device) : Type 0 where
   pub boot : IsBoot filling_journal s.boot
   pub unused : IsUnused o s
   pub unread : s.boot.stage ≡ Reads Unread → s.log.dram.queued ≡ 0
-  pub rested : s.rested ≡ true
+  pub storeless : s.storeless ≡ true
 
 -- what is seen: while it loads, whether the commit block was written, and before what the image means
 abbrev pub view_at : Origin → Stage → Device → View
@@ -98,5 +98,5 @@ pub record IsPowered (p : Parameters) (s : Journal) : Type 0 where
   pub engine : s.engine.p ≡ p
   pub progress : IsSoundProgress s.engine
   pub idle : is_under_way s.engine.next ≡ false
-  pub rested : s.rested ≡ true
-  pub lean : s.lean ≡ false
+  pub storeless : s.storeless ≡ true
+  pub sealed_storeless : s.sealed_storeless ≡ false

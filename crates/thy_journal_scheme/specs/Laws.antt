@@ -16,19 +16,19 @@ use Rattle.thy_boot.specs.Boot.{Booting, IsBoot, answer_of}
 use Rattle.thy_boot.specs.Steps.{Steps}
 use Rattle.thy_scheme.specs.Boots.{BootsOn}
 use Rattle.thy_scheme.specs.Calls.{Drains, Engines, EngineFails, IsOneAccess, Seals, Stores}
-use Rattle.thy_scheme.specs.Marks.{Marks}
+use Rattle.thy_scheme.specs.CheckpointMarks.{CheckpointMarks}
 use Rattle.thy_scheme.specs.Scheme.{Stands, IsBooting}
 use Rattle.thy_scheme.specs.Laws.{IsFound, IsLawful, IsNew, BootsFound, BootHolds, RunHolds, StaysSound, is_free_to_run}
-use Rattle.thy_core_model.specs.Machine.{Machine, is_barred, shortage_of}
-use Rattle.thy_core_model.specs.Sound.{Sound}
+use Rattle.thy_core_laws.specs.Machine.{Machine, is_barred, shortage_of}
+use Rattle.thy_core_laws.specs.Sound.{Sound}
 use Rattle.thy_journal_image.specs.Places.{image_blocks, slot_blocks}
 use Rattle.thy_log.specs.Progress.{action_next}
 use Rattle.thy_log.specs.State.{State, IsSoundState, work_of}
 use Rattle.thy_log.specs.Stores.{after_drain, after_store}
 use Rattle.thy_refill.specs.Filling.{filling_journal}
-use Rattle.thy_journal_model.specs.Journal.{Journal}
-use Rattle.thy_journal_model.specs.Stays.{StaysJournal}
-use Rattle.thy_journal_model.specs.Taken.{taken, device_taken, step_of, sealed}
+use Rattle.thy_journal_laws.specs.Journal.{Journal}
+use Rattle.thy_journal_laws.specs.Stays.{StaysJournal}
+use Rattle.thy_journal_laws.specs.Taken.{taken, device_taken, step_of, sealed}
 use Rattle.thy_journal_scheme.specs.Boots.{booted, step_of as answered}
 use Rattle.thy_journal_scheme.specs.Scheme.{journal_scheme}
 
@@ -48,14 +48,14 @@ StaysOver =
 -- what stays keeps the checkpoints, whether or not a call failed
 abbrev pub StaysKeep : Type 0
 StaysKeep =
-    (o : Origin) (k : Marks) (s : Journal) (n : Device) (t : Journal) (new : Device)
+    (o : Origin) (k : CheckpointMarks) (s : Journal) (n : Device) (t : Journal) (new : Device)
     → Stands journal_scheme o k s n → is_free_to_run journal_scheme s ≡ true → StaysJournal s n t new
     → StaysSound journal_scheme o k s t new
 
 -- what holds after the boot
 abbrev pub RunIsSound : Type 0
 RunIsSound =
-    (o : Origin) (k : Marks) (s : Journal) (n : Device) → Stands journal_scheme o k s n → RunHolds journal_scheme o k s n
+    (o : Origin) (k : CheckpointMarks) (s : Journal) (n : Device) → Stands journal_scheme o k s n → RunHolds journal_scheme o k s n
 
 -- nothing is queued in the DRAM of one whose power has just come on, and no more is left to do than there may be
 abbrev pub PowerIsNew : Type 0
@@ -80,7 +80,7 @@ PowerFinds =
 -- every step of the engine keeps the checkpoints, and one that failed is safe
 abbrev pub ItemsAreSteps : Type 0
 ItemsAreSteps =
-    (o : Origin) (k : Marks) (s : Journal) (n : Device)
+    (o : Origin) (k : CheckpointMarks) (s : Journal) (n : Device)
     → Stands journal_scheme o k s n → journal_scheme.under_way s ≡ true
     → Engines journal_scheme o k (step_of s) s n (taken s) (device_taken s n)
     × ((new : Device)
@@ -89,13 +89,13 @@ ItemsAreSteps =
 -- a seal and a drain of the DRAM keep them
 abbrev pub SealsKeep : Type 0
 SealsKeep =
-    (o : Origin) (k : Marks) (cpu : CpuState) (epoch : ℕ) (s : Journal) (n : Device)
+    (o : Origin) (k : CheckpointMarks) (cpu : CpuState) (epoch : ℕ) (s : Journal) (n : Device)
     → Stands journal_scheme o k s n → journal_scheme.under_way s ≡ false
     → Seals journal_scheme o k cpu epoch s n (sealed cpu epoch s)
 
 abbrev pub DrainsKeep : Type 0
 DrainsKeep =
-    (o : Origin) (k : Marks) (s : Journal) (n : Device)
+    (o : Origin) (k : CheckpointMarks) (s : Journal) (n : Device)
     → Stands journal_scheme o k s n → 0 < journal_scheme.queued s
     → Drains journal_scheme o k s n (record s { log = after_drain s.log })
 
@@ -120,7 +120,7 @@ HeldIsWork =
 
 -- with a block in its buffer, and one stored since the last seal
 abbrev pub stored : ℕ → Block → Journal → Journal
-stored b block s = record s { log = after_store b block s.log; rested = false }
+stored b block s = record s { log = after_store b block s.log; storeless = false }
 
 -- a store makes that of the journal, at once and without an action on the NVM
 abbrev pub StoresKeep : Type 0
@@ -150,9 +150,9 @@ HartIsBarred =
 -- every entry is free if nothing was stored since the last seal and nothing is under way
 abbrev pub EntriesAreFree : Type 0
 EntriesAreFree =
-    (o : Origin) (k : Marks) (s : Journal) (n : Device)
+    (o : Origin) (k : CheckpointMarks) (s : Journal) (n : Device)
     → Stands journal_scheme o k s n
-    → journal_scheme.rested s ≡ true → journal_scheme.under_way s ≡ false
+    → journal_scheme.storeless s ≡ true → journal_scheme.under_way s ≡ false
     → journal_scheme.free s ≡ o.geometry.btt
 
 -- A machine whose epoch goes on and has retired no instruction is not short of entries, once nothing is under way. So no

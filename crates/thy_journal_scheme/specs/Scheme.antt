@@ -13,9 +13,9 @@ use Rattle.thy_log.specs.Cycles.{cycles_left, most_cycles}
 use Rattle.thy_log.specs.Holding.{holding_of}
 use Rattle.thy_log.specs.Items.{is_under_way, is_applying}
 use Rattle.thy_refill.specs.Filling.{filling_journal}
-use Rattle.thy_journal_model.specs.Journal.{Journal, IsOf, committed_in}
-use Rattle.thy_journal_model.specs.Sound.{IsSound}
-use Rattle.thy_journal_model.specs.Stays.{StaysJournal}
+use Rattle.thy_journal_laws.specs.Journal.{Journal, IsOf, committed_in}
+use Rattle.thy_journal_laws.specs.Sound.{IsSoundJournal}
+use Rattle.thy_journal_laws.specs.Stays.{StaysJournal}
 use Rattle.thy_journal_scheme.specs.Boots.{Boots, IsPowered, view_at, has_read_at}
 
 abbrev pub journal_scheme : SchemeOf Journal
@@ -30,14 +30,14 @@ journal_scheme = record {
   applies = λ s. is_applying s.engine.next;
   overlaid = λ s. false;
   promoting = λ s. false;
-  rested = λ s. s.rested;
-  lean = λ s. s.lean;
+  storeless = λ s. s.storeless;
+  sealed_storeless = λ s. s.sealed_storeless;
   overlaps = false;
   dram = λ s. s.log.dram;
   is_of = IsOf;
   queued = λ s. s.log.dram.queued;
   free = λ s. free_count s.log.table;
-  is_sound = IsSound;
+  is_sound = IsSoundJournal;
   boots = Boots;
   boot_view = λ o s n. view_at o s.boot.stage n;
   has_read = λ s. has_read_at s.boot.stage;

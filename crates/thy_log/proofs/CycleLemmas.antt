@@ -5,14 +5,14 @@ use Rattle.thy_base.specs.declared.config.Parameters.{Parameters}
 use Rattle.thy_table.specs.Listing.{passes}
 use Rattle.thy_table.proofs.FirstLemmas.{first_from-first}
 use Rattle.thy_journal_image.specs.Places.{slot_blocks}
-use Rattle.thy_log.specs.declared.next.Next.{Next}
-use Rattle.thy_log.specs.declared.next.Next.TheVariants.{Nothing, Journal, Slot, Settle, Commit, Confirm, Home}
+use Rattle.thy_log.specs.declared.stage.JournalStage.{JournalStage}
+use Rattle.thy_log.specs.declared.stage.JournalStage.TheVariants.{Nothing, Journal, Slot, Settle, Commit, Confirm, Home}
 use Rattle.thy_log.specs.Cycles.{left_after, cycles_left, most_cycles, ItemsCount, CyclesAreFew}
 use Rattle.thy_log.specs.Items.{is_under_way, Item, SlotItem, item, is_live, next_after, next_live, journal_or_slot, home_or_release}
 use Rattle.thy_log.specs.Progress.{Progress, IsSoundProgress, Fits}
 use Rattle.thy_log.specs.State.{State, IsSoundState}
 
-few : (p : Parameters) (next : Next) → left_after p next ≤ most_cycles p
+few : (p : Parameters) (next : JournalStage) → left_after p next ≤ most_cycles p
 few p Nothing = omega arith
 few p (Journal from) = omega arith
 few p (Slot k) = omega arith
@@ -62,7 +62,7 @@ module _ (e : Progress) (s : State) (sound : IsSoundState s) (fits : Fits e s) w
       let inside = at.1 in
       omega (arith, above, inside)
 
-  counts : (q : Next) → ((k : ℕ) → q ≡ Slot k → k < slot_blocks e.p) → is_under_way q ≡ true → left (item q s) + 1 ≤ left_after e.p q
+  counts : (q : JournalStage) → ((k : ℕ) → q ≡ Slot k → k < slot_blocks e.p) → is_under_way q ≡ true → left (item q s) + 1 ≤ left_after e.p q
   counts Nothing inside way = cc
   counts (Journal from) inside way = counts_journal from (next_live from s) refl
   counts (Slot k) inside way = counts_slot k (inside k refl)

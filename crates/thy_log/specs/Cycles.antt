@@ -3,15 +3,15 @@
 use Rattle.std.specs.Prelude.{◌≡◌, ℕ, ◌+◌, ◌-◌, ◌*◌, ◌≤◌, true}
 use Rattle.thy_base.specs.declared.config.Parameters.{Parameters}
 use Rattle.thy_journal_image.specs.Places.{slot_blocks}
-use Rattle.thy_log.specs.declared.next.Next.{Next}
-use Rattle.thy_log.specs.declared.next.Next.TheVariants.{Nothing, Journal, Slot, Settle, Commit, Confirm, Home}
+use Rattle.thy_log.specs.declared.stage.JournalStage.{JournalStage}
+use Rattle.thy_log.specs.declared.stage.JournalStage.TheVariants.{Nothing, Journal, Slot, Settle, Commit, Confirm, Home}
 use Rattle.thy_log.specs.Items.{is_under_way}
 use Rattle.thy_log.specs.Progress.{Progress, IsSoundProgress, Fits, engine_next}
 use Rattle.thy_log.specs.State.{State, IsSoundState}
 
 -- a write for each entry that may still be live, the blocks of the slot, three more up to the commit, and after it as many
 -- as the table has entries, with a barrier
-abbrev pub left_after : Parameters → Next → ℕ
+abbrev pub left_after : Parameters → JournalStage → ℕ
 left_after p Nothing = 0
 left_after p (Journal from) = p.btt - from + (slot_blocks p + (4 + p.btt))
 left_after p (Slot k) = slot_blocks p - k + (4 + p.btt)

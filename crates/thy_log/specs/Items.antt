@@ -8,16 +8,16 @@ use Rattle.thy_record.specs.declared.engine_step.EngineStep.TheVariants.{Idle, C
 use Rattle.thy_table.specs.Listing.{Listing, next_from}
 use Rattle.thy_journal_image.specs.Places.{slot_blocks}
 use Rattle.thy_log.specs.declared.entry.Listed.{Listed}
-use Rattle.thy_log.specs.declared.next.Next.{Next}
-use Rattle.thy_log.specs.declared.next.Next.TheVariants.{Nothing, Journal, Slot, Settle, Commit, Confirm, Home}
+use Rattle.thy_log.specs.declared.stage.JournalStage.{JournalStage}
+use Rattle.thy_log.specs.declared.stage.JournalStage.TheVariants.{Nothing, Journal, Slot, Settle, Commit, Confirm, Home}
 use Rattle.thy_log.specs.State.{State}
 
 -- the engine has something to do, and it applies what the committed checkpoint has in its journal
-abbrev pub is_under_way : Next → Bool
+abbrev pub is_under_way : JournalStage → Bool
 is_under_way Nothing = false
 is_under_way next = true
 
-abbrev pub is_applying : Next → Bool
+abbrev pub is_applying : JournalStage → Bool
 is_applying (Home from) = true
 is_applying next = false
 
@@ -53,7 +53,7 @@ abbrev pub home_or_release : Option ℕ → Item
 home_or_release (Some i) = HomeItem i
 home_or_release None = ReleaseItem
 
-abbrev pub item : Next → State → Item
+abbrev pub item : JournalStage → State → Item
 item Nothing s = NoItem
 item (Journal from) s = journal_or_slot (next_live from s)
 item (Slot k) s = SlotItem k
@@ -63,7 +63,7 @@ item Confirm s = ConfirmItem
 item (Home from) s = home_or_release (next_live from s)
 
 -- what comes after it
-abbrev pub next_after : Parameters → Item → Next
+abbrev pub next_after : Parameters → Item → JournalStage
 next_after p NoItem = Nothing
 next_after p (JournalItem i) = Journal (i + 1)
 next_after p (SlotItem k) = if nat_lt (k + 1) (slot_blocks p) then Slot (k + 1) else Settle

@@ -13,8 +13,8 @@ use Rattle.thy_journal_image.specs.Commit.{commit_of}
 use Rattle.thy_journal_image.specs.Slots.{slot_block_of}
 use Rattle.thy_log.specs.declared.engine.Done.{Done}
 use Rattle.thy_log.specs.declared.entry.Listed.{Listed}
-use Rattle.thy_log.specs.declared.next.Next.{Next}
-use Rattle.thy_log.specs.declared.next.Next.TheVariants.{Journal, Slot, Home}
+use Rattle.thy_log.specs.declared.stage.JournalStage.{JournalStage}
+use Rattle.thy_log.specs.declared.stage.JournalStage.TheVariants.{Journal, Slot, Home}
 use Rattle.thy_log.specs.Items.{Item, NoItem, JournalItem, SlotItem, SettleItem, CommitItem, ConfirmItem, HomeItem, ReleaseItem, item, next_after, answer}
 use Rattle.thy_log.specs.State.{State, table_of, buffer_of}
 use Rattle.thy_log.specs.Stores.{released}
@@ -22,7 +22,7 @@ use Rattle.thy_log.specs.Stores.{released}
 pub record Progress : Type 0 where
   pub p : Parameters
   -- what the engine looks for next
-  pub next : Next
+  pub next : JournalStage
   -- the processor as it was sealed, and the epoch that was sealed
   pub cpu : CpuState
   pub epoch : ℕ

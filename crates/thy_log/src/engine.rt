@@ -4,7 +4,7 @@ ghost use Rattle.thy_base.specs.Device.{IsFramed, CountsFault, HasFailed, HasFai
 ghost use Rattle.thy_base.specs.Places.{record_blocks};
 ghost use Rattle.thy_record.specs.declared.engine_step.EngineStep.TheVariants.{StateBlock as IsStateBlock, TableBlock as IsTableBlock};
 
-use crate::{Log, Next};
+use crate::{JournalStage, Log};
 use std::marker::Model;
 use thy_base::{Block, Geometry, Nvm, NvmError};
 use thy_isa::{CpuState, Regs, Status};
@@ -15,7 +15,7 @@ use thy_record::{EngineStep, cpu_block};
 #[derive(Drop)]
 pub struct Engine {
     geometry: Geometry,
-    next: Next,
+    next: JournalStage,
     cpu: CpuState,
     epoch: u64,
 }
@@ -34,7 +34,7 @@ impl Model for Engine {
 #[derive(Clone, Copy)]
 struct Done {
     step: EngineStep,
-    next: Next,
+    next: JournalStage,
 }
 
 /// What the engine returns for the write of block `k` of a slot.
@@ -63,7 +63,7 @@ impl Engine {
     {
         Engine {
             geometry: *geometry,
-            next: Next::Nothing,
+            next: JournalStage::Nothing,
             cpu: CpuState {
                 pc: 0,
                 regs: Regs::new(),
@@ -91,7 +91,7 @@ impl Engine {
         requires regs { length cpu.now.regs ≡ 32 }
         ensures { self.new ≡ begun cpu.now epoch self.old }
     {
-        self.next = Next::Journal(0);
+        self.next = JournalStage::Journal(0);
         self.cpu = *cpu;
         self.epoch = epoch;
     }
@@ -100,7 +100,7 @@ impl Engine {
     pub fn apply(&mut self)
         ensures { self.new ≡ applying self.old }
     {
-        self.next = Next::Home(0);
+        self.next = JournalStage::Home(0);
     }
 
     /// Whether it has something to do.
@@ -108,13 +108,13 @@ impl Engine {
         ensures { result ≡ is_under_way self.now.next }
     {
         match self.next {
-            Next::Nothing => false,
-            Next::Journal(_)
-            | Next::Slot(_)
-            | Next::Settle
-            | Next::Commit
-            | Next::Confirm
-            | Next::Home(_) => true,
+            JournalStage::Nothing => false,
+            JournalStage::Journal(_)
+            | JournalStage::Slot(_)
+            | JournalStage::Settle
+            | JournalStage::Commit
+            | JournalStage::Confirm
+            | JournalStage::Home(_) => true,
         }
     }
 
@@ -123,13 +123,13 @@ impl Engine {
         ensures { result ≡ is_applying self.now.next }
     {
         match self.next {
-            Next::Home(_) => true,
-            Next::Nothing
-            | Next::Journal(_)
-            | Next::Slot(_)
-            | Next::Settle
-            | Next::Commit
-            | Next::Confirm => false,
+            JournalStage::Home(_) => true,
+            JournalStage::Nothing
+            | JournalStage::Journal(_)
+            | JournalStage::Slot(_)
+            | JournalStage::Settle
+            | JournalStage::Commit
+            | JournalStage::Confirm => false,
         }
     }
 
@@ -162,16 +162,16 @@ impl Engine {
         ensures { Ends (item_of self.now log.old) self.now log.old (N.device nvm.old) result log.new (N.device nvm.new) }
     {
         match self.next {
-            Next::Nothing => Ok(Done {
+            JournalStage::Nothing => Ok(Done {
                 step: EngineStep::Idle,
-                next: Next::Nothing,
+                next: JournalStage::Nothing,
             }),
-            Next::Journal(from) => self.write_journal(from, log, nvm),
-            Next::Slot(k) => self.write_slot(k, log, nvm),
-            Next::Settle => self.settle(nvm),
-            Next::Commit => self.write_commit(nvm),
-            Next::Confirm => self.confirm(nvm),
-            Next::Home(from) => self.write_home(from, log, nvm),
+            JournalStage::Journal(from) => self.write_journal(from, log, nvm),
+            JournalStage::Slot(k) => self.write_slot(k, log, nvm),
+            JournalStage::Settle => self.settle(nvm),
+            JournalStage::Commit => self.write_commit(nvm),
+            JournalStage::Confirm => self.confirm(nvm),
+            JournalStage::Home(from) => self.write_home(from, log, nvm),
         }
     }
 
@@ -180,7 +180,7 @@ impl Engine {
         requires fits { Fits self.now log.now }
         requires sized { IsSized log.now (N.device nvm.old) }
         requires up { (N.device nvm.old).down ≡ false }
-        ensures { let next = item (Next.Journal from) log.now in
+        ensures { let next = item (JournalStage.Journal from) log.now in
             Ends next self.now log.now (N.device nvm.old) result log.now (N.device nvm.new) }
     {
         log.sound();
@@ -189,7 +189,7 @@ impl Engine {
                 log.write_journal(self.epoch % 2, i, nvm)?;
                 Ok(Done {
                     step: EngineStep::Copied,
-                    next: Next::Journal(i + 1),
+                    next: JournalStage::Journal(i + 1),
                 })
             }
             None => self.write_slot(0, log, nvm),
@@ -227,15 +227,15 @@ impl Engine {
     }
 
     /// What comes after block `k` of the slot.
-    fn after_slot(&self, k: u64) -> Next
+    fn after_slot(&self, k: u64) -> JournalStage
         requires block { k < slot_blocks self.now.p }
         ensures { result ≡ next_after self.now.p (SlotItem k) }
     {
         let blocks = blocks_of_slot(&self.geometry);
         if k + 1 < blocks {
-            Next::Slot(k + 1)
+            JournalStage::Slot(k + 1)
         } else {
-            Next::Settle
+            JournalStage::Settle
         }
     }
 
@@ -252,7 +252,7 @@ impl Engine {
         nvm.barrier()?;
         Ok(Done {
             step: EngineStep::Barrier,
-            next: Next::Commit,
+            next: JournalStage::Commit,
         })
     }
 
@@ -270,7 +270,7 @@ impl Engine {
         nvm.write(1, &commit_block(self.epoch))?;
         Ok(Done {
             step: EngineStep::CommitWritten,
-            next: Next::Confirm,
+            next: JournalStage::Confirm,
         })
     }
 
@@ -287,7 +287,7 @@ impl Engine {
         nvm.barrier()?;
         Ok(Done {
             step: EngineStep::Committed(self.epoch),
-            next: Next::Home(0),
+            next: JournalStage::Home(0),
         })
     }
 
@@ -296,7 +296,7 @@ impl Engine {
         requires fits { Fits self.now log.old }
         requires sized { IsSized log.old (N.device nvm.old) }
         requires up { (N.device nvm.old).down ≡ false }
-        ensures { let next = item (Next.Home from) log.old in
+        ensures { let next = item (JournalStage.Home from) log.old in
             Ends next self.now log.old (N.device nvm.old) result log.new (N.device nvm.new) }
     {
         match log.next_live(from) {
@@ -317,7 +317,7 @@ impl Engine {
         log.write_home(i, nvm)?;
         Ok(Done {
             step: EngineStep::Copied,
-            next: Next::Home(i + 1),
+            next: JournalStage::Home(i + 1),
         })
     }
 
@@ -330,7 +330,7 @@ impl Engine {
         log.release();
         Ok(Done {
             step: EngineStep::Barrier,
-            next: Next::Nothing,
+            next: JournalStage::Nothing,
         })
     }
 }

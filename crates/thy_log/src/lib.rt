@@ -10,10 +10,10 @@ mod engine;
 mod entry;
 mod laws;
 mod log;
-mod next;
+mod stage;
 
 pub use engine::Engine;
 pub use entry::Listed;
 pub use laws::every_item_takes_a_cycle;
 pub use log::Log;
-pub use next::Next;
+pub use stage::JournalStage;

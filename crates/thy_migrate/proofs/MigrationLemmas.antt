@@ -40,21 +40,21 @@ use Rattle.thy_protocol.specs.Keeps.{Keeps, IsOf}
 use Rattle.thy_protocol.specs.Layout.{Layout, reading, looked_by, slot_places}
 use Rattle.thy_protocol.specs.Migrated.{migrated_parts, IsMigrated}
 use Rattle.thy_protocol.specs.Moves.{Standing, standing, IsKeeping, Move, Goes, Readies, Commits, Confirms}
-use Rattle.thy_protocol.specs.Remapped.{remapped, layout_of}
+use Rattle.thy_protocol.specs.DualLayouts.{dual_layouts, layout_of}
 use Rattle.thy_protocol.proofs.IssuingLemmas.{slot_goes_on, elsewhere_keeps, drain_keeps}
 use Rattle.thy_protocol.proofs.KeepsLemmas.{IsKeeping-move, Safe-kept}
 use Rattle.thy_protocol.proofs.MigratedLemmas.{ArePlaced-migrated, migration_decodes, tables_of_slot}
-use Rattle.thy_protocol.proofs.RemappedLemmas.{looked_by-remapped}
+use Rattle.thy_protocol.proofs.DualLayoutsLemmas.{looked_by-dual_layouts}
 use Rattle.thy_boot.specs.declared.stage.Stage.{Stage}
 use Rattle.thy_boot.specs.declared.stage.Stage.TheVariants.{Over}
 use Rattle.thy_boot.specs.declared.stage.End.TheVariants.{Restored}
 use Rattle.thy_boot.specs.Boot.{Booting, layout_in, slot_read}
 use Rattle.thy_boot.specs.Recovers.{IsRestored}
-use Rattle.thy_boot.specs.Sound.{BootImages, IsRecovering, IsSoundAt, IsSound}
+use Rattle.thy_boot.specs.Sound.{BootImages, IsRecovering, IsSoundAt, IsSoundBoot}
 use Rattle.thy_boot.proofs.FoundLemmas.{restored_is_kept}
 use Rattle.thy_boot.proofs.ReadLemmas.{newest-settled as newest-empty}
 use Rattle.thy_recover.specs.Booted.{LoadsState, IsBooted}
-use Rattle.thy_recover.specs.Filling.{loads, filling_one}
+use Rattle.thy_recover.specs.Filling.{loads, filling_dual}
 use Rattle.thy_recover.proofs.BootedLemmas.{restored_is_booted}
 use Rattle.thy_recover.proofs.FillingLemmas.{filling_is_lawful}
 use Rattle.thy_recover.proofs.WorkLemmas.{loads-are}
@@ -89,10 +89,10 @@ epoch_below header commit h =
     ltb-true (epoch_of commit) ceiling (asks_epoch (is_named header commit) (nat_lt (epoch_of commit) ceiling) (has_zero_rest commit) h)
 
 -- the slot that was read has as many blocks as its version
-slot_long : (p : Parameters) (b : Booting) (n : Device) {c : State} → b.p ≡ p → form_of b.commit ≡ One → IsRestored filling_one n b c
-    → length (slot_read filling_one b) ≡ blocks_of_slot One p
+slot_long : (p : Parameters) (b : Booting) (n : Device) {c : State} → b.p ≡ p → form_of b.commit ≡ One → IsRestored filling_dual n b c
+    → length (slot_read filling_dual b) ≡ blocks_of_slot One p
 slot_long p b n same one f =
-    let l : Layout = layout_in filling_one b in
+    let l : Layout = layout_in filling_dual b in
     let commit : Block = block_at n.image 1 in
     ap length f.slot_is
     ∙ length-map (slot_places l commit) (block_at n.image)
@@ -104,11 +104,11 @@ slot_long p b n same one f =
 pub migration_begins : MigrationBegins
 migration_begins o g n b c origin sound is one =
     let p : Parameters = o.geometry in
-    let slot : List Block = slot_read filling_one b in
+    let slot : List Block = slot_read filling_dual b in
     let r = restored_is_booted o g n b c origin sound is in
-    let k = restored_is_kept filling_one filling_is_lawful o g n b c sound is in
-    let f : IsRestored filling_one n b c = k.5 in
-    let rec : IsRecovering filling_one g n b c = subst (λ (q : Stage). IsSoundAt filling_one o q g n b c) is sound.so_far in
+    let k = restored_is_kept filling_dual filling_is_lawful o g n b c sound is in
+    let f : IsRestored filling_dual n b c = k.5 in
+    let rec : IsRecovering filling_dual g n b c = subst (λ (q : Stage). IsSoundAt filling_dual o q g n b c) is sound.so_far in
     let m : Mark = r.0 in
     let booted : IsBooted o m (cpu_of_record slot) (form_of b.commit) g.before n c = r.4 in
     let fits : slot_fault One p ceiling m.epoch slot ≡ None
@@ -157,7 +157,7 @@ module _ (o : Origin) (m : Mark) (g : BootImages) (b : Booting) (c : State) wher
   p = o.geometry
 
   abbrev slot : List Block
-  slot = slot_read filling_one b
+  slot = slot_read filling_dual b
 
   abbrev Here : Migration → Device → Type 0
   Here at n = IsMigrating o m at g n b c
@@ -213,7 +213,7 @@ module _ (o : Origin) (m : Mark) (g : BootImages) (b : Booting) (c : State) wher
   slot_free : HasFound o m g b c → (k : ℕ) → k < slot_blocks p → ¬ Contains (guarded (looked_by (layout_of o)) (Kept g.before)) (slot_place p (m.epoch % 2) + k)
   slot_free found k l inside =
       free_not_looked p g.before One m.epoch (tables0 c) (SlotBlock (m.epoch % 2) k) found.told (half m.epoch, l) tt
-      (subst (λ (xs : List ℕ). Contains (1 ∷ xs) (slot_place p (m.epoch % 2) + k)) (looked_by-remapped p ceiling g.before) inside)
+      (subst (λ (xs : List ℕ). Contains (1 ∷ xs) (slot_place p (m.epoch % 2) + k)) (looked_by-dual_layouts p ceiling g.before) inside)
 
   -- ---- a block of the slot
 
@@ -392,10 +392,10 @@ migration_may_go_on o m at g n b c h up = record {
 -- ---- what a cut leaves
 
 -- the mark that is in doubt is the one that is kept
-safe_by : (o : Origin) (m : Mark) (s : Saved) (n : Device) → IsKeeping o (layout_of o) (standing n s (Some m) (Some m)) → Safe (reading remapped) o (Some m) None n
-safe_by o m (Kept before) n k = Safe-kept remapped o n (Kept before) (Some m) (Some m) k
-safe_by o m (Ready before next) n k = Safe-kept remapped o n (Ready before next) (Some m) (Some m) k
-safe_by o m (InDoubt before next) n k = Safe-same (reading remapped) o m n (Safe-kept remapped o n (InDoubt before next) (Some m) (Some m) k)
+safe_by : (o : Origin) (m : Mark) (s : Saved) (n : Device) → IsKeeping o (layout_of o) (standing n s (Some m) (Some m)) → Safe (reading dual_layouts) o (Some m) None n
+safe_by o m (Kept before) n k = Safe-kept dual_layouts o n (Kept before) (Some m) (Some m) k
+safe_by o m (Ready before next) n k = Safe-kept dual_layouts o n (Ready before next) (Some m) (Some m) k
+safe_by o m (InDoubt before next) n k = Safe-same (reading dual_layouts) o m n (Safe-kept dual_layouts o n (InDoubt before next) (Some m) (Some m) k)
 
 pub migration_is_safe : MigrationIsSafe
 migration_is_safe o m at g n b c h = safe_by o m (saved_at at g) n h.keeps
@@ -406,11 +406,11 @@ failed_saved Commit g = InDoubt g.before g.next
 failed_saved at g = saved_at at g
 
 failure_move : (o : Origin) (m : Mark) (at : Migration) (g : BootImages) (n new : Device) (b : Booting) (c : State)
-    → IsMigrating o m at g n b c → FailsTo (action_by o.geometry (slot_read filling_one b) m.epoch at) n new → IsFramed n new
+    → IsMigrating o m at g n b c → FailsTo (action_by o.geometry (slot_read filling_dual b) m.epoch at) n new → IsFramed n new
     → Move o (layout_of o) (standing_at m at g n) (standing new (failed_saved at g) (Some m) (Some m))
 failure_move o m (Slot k) g n new b c h failed framed =
     Goes (Kept g.before) (Some m) (Some m) n new
-    (Spares-failed_to_write (guarded (looked_by (layout_of o)) (Kept g.before)) (slot_place o.geometry (m.epoch % 2) + k) (block_at (slot_read filling_one b) k) n new
+    (Spares-failed_to_write (guarded (looked_by (layout_of o)) (Kept g.before)) (slot_place o.geometry (m.epoch % 2) + k) (block_at (slot_read filling_dual b) k) n new
     (slot_free o m g b c h.found k h.there) failed framed)
 failure_move o m Settle g n new b c h failed framed =
     Goes (Kept g.before) (Some m) (Some m) n new (Spares-failed (guarded (looked_by (layout_of o)) (Kept g.before)) n new failed framed)
@@ -436,7 +436,7 @@ committed_drained Confirm m n h = Reads-drained 1 (commit_of m.epoch) n (drained
 nvm_drained : (o : Origin) (m : Mark) (at : Migration) (g : BootImages) (n : Device) (b : Booting) (c : State) → IsMigrating o m at g n b c → IsMigrating o m at g (drained n) b c
 nvm_drained o m at g n b c h =
     let p : Parameters = o.geometry in
-    let slot : List Block = slot_read filling_one b in
+    let slot : List Block = slot_read filling_dual b in
     let alike : ReadsAlike p n (drained n) = drained_alike o m g b c n h.issued.sized in
     record {
       found = h.found;

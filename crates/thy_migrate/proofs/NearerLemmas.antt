@@ -27,7 +27,7 @@ use Rattle.thy_boot.specs.Reads.{read_on}
 use Rattle.thy_boot.specs.Steps.{CanStep as CanBoot, Steps as BootSteps, StepsAt as BootStepsAt}
 use Rattle.thy_boot.proofs.ActLemmas.{steps_come_nearer}
 use Rattle.thy_boot.proofs.NearerLemmas.{left_most}
-use Rattle.thy_recover.specs.Filling.{filling_one}
+use Rattle.thy_recover.specs.Filling.{filling_dual}
 use Rattle.thy_recover.proofs.FillingLemmas.{filling_is_lawful}
 use Rattle.thy_migrate.specs.declared.migration.Migration.{Migration}
 use Rattle.thy_migrate.specs.declared.migration.Migration.TheVariants.{Slot, Settle, Commit, Confirm}
@@ -40,7 +40,7 @@ use Rattle.thy_migrate.specs.Steps.{IsAction, CanMigrate, CanStepAt, StepsAt, Bo
 
 module _ (b : Booting) (over : b.stage ≡ Over Restored) where
   none_left : left_at None b ≡ 0
-  none_left = ap (λ (q : Stage). boot_left filling_one b q + owed_at b.p b.commit q) over
+  none_left = ap (λ (q : Stage). boot_left filling_dual b q + owed_at b.p b.commit q) over
 
   migration_nearer : (at : Migration) → IsAction b.p at → left_at (after_action b.p at) b + 1 ≤ migration_left b.p at
   migration_nearer (Slot k) inside = by_more (nat_lt (k + 1) (slot_blocks b.p)) refl where
@@ -55,16 +55,16 @@ module _ (b : Booting) (over : b.stage ≡ Over Restored) where
 
 -- what is left at a stage, with the migration that may begin there
 abbrev with_migration : Booting → Stage → Option Migration → ℕ
-with_migration d q None = boot_left filling_one d q + owed_at d.p d.commit q
+with_migration d q None = boot_left filling_dual d q + owed_at d.p d.commit q
 with_migration d q (Some at) = migration_left d.p at
 
 -- behind the commit block it is what the boot has left, and a migration if that names version 1
-most_from : (d : Booting) (form : Form) → with_migration d (Over Restored) (begun_from form) ≤ boot_left filling_one d (Over Restored) + migration_after d.p form
+most_from : (d : Booting) (form : Form) → with_migration d (Over Restored) (begun_from form) ≤ boot_left filling_dual d (Over Restored) + migration_after d.p form
 most_from d One = omega arith
 most_from d Two = omega arith
 
 most_at : (d : Booting) (q : Stage) → q ≢ Reads Unread
-    → with_migration d q (begun_at q d.commit) ≤ boot_left filling_one d q + migration_after d.p (form_of d.commit)
+    → with_migration d q (begun_at q d.commit) ≤ boot_left filling_dual d q + migration_after d.p (form_of d.commit)
 most_at d (Reads Unread) other = absurd (other refl)
 most_at d (Reads Header) other = omega arith
 most_at d (Reads (SlotAt next)) other = omega arith
@@ -83,15 +83,15 @@ left_is d None = refl
 left_is d (Some at) = refl
 
 -- loading is followed by no migration
-loads_on : (d : Booting) (f : First) (issue : Issue) → with_migration d (after_issue f issue) (begun_at (after_issue f issue) d.commit) ≡ boot_left filling_one d (after_issue f issue)
+loads_on : (d : Booting) (f : First) (issue : Issue) → with_migration d (after_issue f issue) (begun_at (after_issue f issue) d.commit) ≡ boot_left filling_dual d (after_issue f issue)
 loads_on d f (Home k) = by_more (nat_lt (k + 1) (length f.parts.memory)) where
   by_more : (t : Bool) → with_migration d (if t then Loads (Home (k + 1)) else Loads (SlotBlock 0)) (begun_at (if t then Loads (Home (k + 1)) else Loads (SlotBlock 0)) d.commit)
-      ≡ boot_left filling_one d (if t then Loads (Home (k + 1)) else Loads (SlotBlock 0))
+      ≡ boot_left filling_dual d (if t then Loads (Home (k + 1)) else Loads (SlotBlock 0))
   by_more true = omega arith
   by_more false = omega arith
 loads_on d f (SlotBlock k) = by_more (nat_lt (k + 1) f.parts.slot_blocks) where
   by_more : (t : Bool) → with_migration d (if t then Loads (SlotBlock (k + 1)) else Loads HeaderBlock) (begun_at (if t then Loads (SlotBlock (k + 1)) else Loads HeaderBlock) d.commit)
-      ≡ boot_left filling_one d (if t then Loads (SlotBlock (k + 1)) else Loads HeaderBlock)
+      ≡ boot_left filling_dual d (if t then Loads (SlotBlock (k + 1)) else Loads HeaderBlock)
   by_more true = omega arith
   by_more false = omega arith
 loads_on d f HeaderBlock = omega arith
@@ -100,26 +100,26 @@ loads_on d f CommitBlock = omega arith
 loads_on d f ConfirmAll = omega arith
 
 module _ (s : Plain) (n : Device) (b : Booting) (c : State) (m : Device) (d : Booting) (e : State)
-    (nearer : boot_left filling_one d d.stage + 1 ≤ boot_left filling_one b b.stage) where
+    (nearer : boot_left filling_dual d d.stage + 1 ≤ boot_left filling_dual b b.stage) where
   abbrev IsNearer : Stage → Type 0
-  IsNearer q = with_migration d d.stage (begun_at d.stage d.commit) + 1 ≤ boot_left filling_one b q + owed_at b.p b.commit q
+  IsNearer q = with_migration d d.stage (begun_at d.stage d.commit) + 1 ≤ boot_left filling_dual b q + owed_at b.p b.commit q
 
   -- the commit block was read
   not_unread : d.p ≡ b.p → d.stage ≢ Reads Unread
   not_unread same is =
-      let most = left_most filling_one filling_is_lawful b b.stage in
-      let here : boot_left filling_one d d.stage ≡ boot_left filling_one d (Reads Unread) = ap (boot_left filling_one d) is in
-      let first : boot_left filling_one d (Reads Unread) ≡ boot_left filling_one b (Reads Unread)
-      = ap (λ (p : Parameters). boot_left filling_one (record b { p = p }) (Reads Unread)) same in
+      let most = left_most filling_dual filling_is_lawful b b.stage in
+      let here : boot_left filling_dual d d.stage ≡ boot_left filling_dual d (Reads Unread) = ap (boot_left filling_dual d) is in
+      let first : boot_left filling_dual d (Reads Unread) ≡ boot_left filling_dual b (Reads Unread)
+      = ap (λ (p : Parameters). boot_left filling_dual (record b { p = p }) (Reads Unread)) same in
       omega (arith, nearer, most, first, here)
 
   reads_nearer : (r : ReadStage) → b.stage ≡ Reads r → d.p ≡ b.p → (r ≢ Unread → d.commit ≡ b.commit) → IsNearer (Reads r)
   reads_nearer r is same keeps = by_stage r is keeps where
-    most : with_migration d d.stage (begun_at d.stage d.commit) ≤ boot_left filling_one d d.stage + migration_after d.p (form_of d.commit)
+    most : with_migration d d.stage (begun_at d.stage d.commit) ≤ boot_left filling_dual d d.stage + migration_after d.p (form_of d.commit)
     most = most_at d d.stage (not_unread same)
 
-    less : (q : Stage) → b.stage ≡ q → boot_left filling_one d d.stage + 1 ≤ boot_left filling_one b q
-    less q is = subst (λ (x : Stage). boot_left filling_one d d.stage + 1 ≤ boot_left filling_one b x) is nearer
+    less : (q : Stage) → b.stage ≡ q → boot_left filling_dual d d.stage + 1 ≤ boot_left filling_dual b q
+    less q is = subst (λ (x : Stage). boot_left filling_dual d d.stage + 1 ≤ boot_left filling_dual b x) is nearer
 
     after : d.commit ≡ b.commit → migration_after d.p (form_of d.commit) ≡ migration_after b.p (form_of b.commit)
     after e = ap (λ (p : Parameters). migration_after p (form_of d.commit)) same ∙ ap (λ (x : Block). migration_after b.p (form_of x)) e
@@ -135,22 +135,22 @@ module _ (s : Plain) (n : Device) (b : Booting) (c : State) (m : Device) (d : Bo
     by_stage (Fills k) is keeps = let left = less (Reads (Fills k)) is in let as_was = after (keeps (λ x. cc)) in omega (arith, most, left, as_was)
     by_stage (Refusing bad) is keeps = let left = less (Reads (Refusing bad)) is in let as_was = after (keeps (λ x. cc)) in omega (arith, most, left, as_was)
 
-  commit_kept : (r : ReadStage) (n : Device) → r ≢ Unread → (read_on filling_one r n b).commit ≡ b.commit
+  commit_kept : (r : ReadStage) (n : Device) → r ≢ Unread → (read_on filling_dual r n b).commit ≡ b.commit
   commit_kept Unread n other = absurd (other refl)
   commit_kept Header n other = refl
   commit_kept (SlotAt k) n other = refl
   commit_kept (Fills k) n other = refl
   commit_kept (Refusing bad) n other = refl
 
-  boot_nearer : (q : Stage) → b.stage ≡ q → BootStepsAt filling_one q s n b c m d e → IsNearer q
+  boot_nearer : (q : Stage) → b.stage ≡ q → BootStepsAt filling_dual q s n b c m d e → IsNearer q
   boot_nearer (Reads r) is on = reads_nearer r is on.same_p (λ other. ap (λ (x : Booting). x.commit) on.boot ∙ commit_kept r n other)
   boot_nearer (Loads issue) is on =
-      let f : First = filling_one.first b.p s in
+      let f : First = filling_dual.first b.p s in
       let at : d.stage ≡ after_issue f issue = ap (λ (x : Booting). x.stage) on.boot in
-      let none : with_migration d d.stage (begun_at d.stage d.commit) ≡ boot_left filling_one d d.stage
-      = subst (λ (q : Stage). with_migration d q (begun_at q d.commit) ≡ boot_left filling_one d q) (sym at) (loads_on d f issue) in
-      let left : boot_left filling_one d d.stage + 1 ≤ boot_left filling_one b (Loads issue)
-      = subst (λ (x : Stage). boot_left filling_one d d.stage + 1 ≤ boot_left filling_one b x) is nearer in
+      let none : with_migration d d.stage (begun_at d.stage d.commit) ≡ boot_left filling_dual d d.stage
+      = subst (λ (q : Stage). with_migration d q (begun_at q d.commit) ≡ boot_left filling_dual d q) (sym at) (loads_on d f issue) in
+      let left : boot_left filling_dual d d.stage + 1 ≤ boot_left filling_dual b (Loads issue)
+      = subst (λ (x : Stage). boot_left filling_dual d d.stage + 1 ≤ boot_left filling_dual b x) is nearer in
       omega (arith, none, left)
   boot_nearer (Over end) is on = absurd on
 
@@ -161,8 +161,8 @@ come_nearer s n r c m t e can steps good = by_migration r.migration refl where
   by_migration : (o : Option Migration) → r.migration ≡ o → left_at t.migration t.boot + 1 ≤ left_at o r.boot
   by_migration None is =
       let on : BootsOn s n r c m t e = subst (λ (o : Option Migration). StepsAt o s n r c m t e) is steps in
-      let may : CanBoot filling_one s n r.boot c = subst (λ (o : Option Migration). CanStepAt o s n r c) is can in
-      let nearer = steps_come_nearer filling_one filling_is_lawful s n r.boot c m t.boot e may on.boot good in
+      let may : CanBoot filling_dual s n r.boot c = subst (λ (o : Option Migration). CanStepAt o s n r c) is can in
+      let nearer = steps_come_nearer filling_dual filling_is_lawful s n r.boot c m t.boot e may on.boot good in
       let left : left_at t.migration t.boot ≡ with_migration t.boot t.boot.stage (begun_at t.boot.stage t.boot.commit)
       = left_is t.boot t.migration ∙ ap (with_migration t.boot t.boot.stage) on.migration in
       let less = boot_nearer s n r.boot c m t.boot e nearer r.boot.stage refl on.boot in

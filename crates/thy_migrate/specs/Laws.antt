@@ -18,14 +18,14 @@ use Rattle.thy_view.specs.Origin.{Origin, IsOrigin}
 use Rattle.thy_view.specs.Safe.{Safe}
 use Rattle.thy_protocol.specs.Keeps.{Keeps}
 use Rattle.thy_protocol.specs.Layout.{reading}
-use Rattle.thy_protocol.specs.Remapped.{remapped, layout_of}
+use Rattle.thy_protocol.specs.DualLayouts.{dual_layouts, layout_of}
 use Rattle.thy_boot.specs.declared.stage.Stage.TheVariants.{Reads, Over}
 use Rattle.thy_boot.specs.declared.stage.ReadStage.TheVariants.{Refusing}
 use Rattle.thy_boot.specs.declared.stage.End.TheVariants.{Restored}
 use Rattle.thy_boot.specs.Boot.{Booting, slot_read}
-use Rattle.thy_boot.specs.Sound.{BootImages, IsSound}
+use Rattle.thy_boot.specs.Sound.{BootImages, IsSoundBoot}
 use Rattle.thy_recover.specs.Booted.{IsBooted}
-use Rattle.thy_recover.specs.Filling.{filling_one}
+use Rattle.thy_recover.specs.Filling.{filling_dual}
 use Rattle.thy_migrate.specs.declared.migration.Migration.{Migration}
 use Rattle.thy_migrate.specs.declared.migration.Migration.TheVariants.{Slot}
 use Rattle.thy_migrate.specs.Left.{recovery_left}
@@ -37,7 +37,7 @@ use Rattle.thy_migrate.specs.Steps.{CanMigrate, CanStep, Steps}
 abbrev pub MigrationBegins : Type 0
 MigrationBegins =
     (o : Origin) (g : BootImages) (n : Device) (b : Booting) (c : State)
-    → IsOrigin o → IsSound filling_one o g n b c → b.stage ≡ Over Restored → form_of b.commit ≡ One
+    → IsOrigin o → IsSoundBoot filling_dual o g n b c → b.stage ≡ Over Restored → form_of b.commit ≡ One
     → (m : Mark) × IsMigrating o m (Slot 0) g n b c
 
 -- it may take its action while the NVM is up
@@ -50,18 +50,18 @@ MigrationMayGoOn =
 abbrev pub MigrationIsSafe : Type 0
 MigrationIsSafe =
     (o : Origin) (m : Mark) (at : Migration) (g : BootImages) (n : Device) (b : Booting) (c : State)
-    → IsMigrating o m at g n b c → Safe (reading remapped) o (Some m) None n
+    → IsMigrating o m at g n b c → Safe (reading dual_layouts) o (Some m) None n
 
 -- also if the action failed
 abbrev pub FailureIsSafe : Type 0
 FailureIsSafe =
     (o : Origin) (m : Mark) (at : Migration) (g : BootImages) (n new : Device) (b : Booting) (c : State)
-    → IsMigrating o m at g n b c → FailsTo (action_of b at) n new → IsFramed n new → Safe (reading remapped) o (Some m) None new
+    → IsMigrating o m at g n b c → FailsTo (action_of b at) n new → IsFramed n new → Safe (reading dual_layouts) o (Some m) None new
 
 -- it is over: the mark's checkpoint is kept in version 2, and the controller has it
 pub record HasMigrated (o : Origin) (m : Mark) (image : List Block) (n : Device) (b : Booting) (c : State) : Type 0 where
   pub keeps : Keeps o (layout_of o) n (Kept image) (Some m) None
-  pub booted : IsBooted o m (cpu_of_record (slot_read filling_one b)) Two image n c
+  pub booted : IsBooted o m (cpu_of_record (slot_read filling_dual b)) Two image n c
 
 -- after its action the migration is before the next one, or over
 abbrev pub MigratesTo : Option Migration → Origin → Mark → BootImages → Device → Booting → State → Type 0

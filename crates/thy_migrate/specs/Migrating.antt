@@ -15,7 +15,7 @@ use Rattle.thy_boot.specs.declared.stage.End.TheVariants.{Restored}
 use Rattle.thy_boot.specs.declared.stage.BootStep.{BootStep}
 use Rattle.thy_boot.specs.declared.stage.BootStep.TheVariants.{Reading}
 use Rattle.thy_boot.specs.Boot.{Booting, empty_boot, slot_read, answer_of as answer_of_boot}
-use Rattle.thy_recover.specs.Filling.{filling_one}
+use Rattle.thy_recover.specs.Filling.{filling_dual}
 use Rattle.thy_migrate.specs.declared.migration.Migration.{Migration}
 use Rattle.thy_migrate.specs.declared.migration.Migration.TheVariants.{Slot, Settle, Commit, Confirm}
 
@@ -46,7 +46,7 @@ action_by p slot epoch Commit = WriteAt 1 (commit_of epoch)
 action_by p slot epoch Confirm = Barrier
 
 abbrev pub action_of : Booting → Migration → Action
-action_of b at = action_by b.p (slot_read filling_one b) (epoch_of b.commit) at
+action_of b at = action_by b.p (slot_read filling_dual b) (epoch_of b.commit) at
 
 -- what comes next: the blocks of the slot, a barrier, the commit block, and a barrier
 abbrev pub after_action : Parameters → Migration → Option Migration
@@ -57,7 +57,7 @@ after_action p Confirm = None
 
 -- what a step returns: while a migration is under way, that there is more to do
 abbrev pub answer_at : Option Migration → Booting → BootStep
-answer_at None b = answer_of_boot filling_one b
+answer_at None b = answer_of_boot filling_dual b
 answer_at (Some at) b = Reading
 
 abbrev pub answer_of : Recovering → BootStep

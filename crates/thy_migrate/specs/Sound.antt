@@ -21,13 +21,13 @@ use Rattle.thy_protocol.specs.Issuing.{AreIssued}
 use Rattle.thy_protocol.specs.Keeps.{IsOf}
 use Rattle.thy_protocol.specs.Migrated.{migrated_parts}
 use Rattle.thy_protocol.specs.Moves.{Standing, standing, IsKeeping}
-use Rattle.thy_protocol.specs.Remapped.{layout_of}
+use Rattle.thy_protocol.specs.DualLayouts.{layout_of}
 use Rattle.thy_boot.specs.declared.stage.Stage.TheVariants.{Over}
 use Rattle.thy_boot.specs.declared.stage.End.TheVariants.{Restored}
 use Rattle.thy_boot.specs.Boot.{Booting, slot_read}
 use Rattle.thy_boot.specs.Sound.{BootImages}
 use Rattle.thy_recover.specs.Booted.{LoadsState}
-use Rattle.thy_recover.specs.Filling.{loads, filling_one}
+use Rattle.thy_recover.specs.Filling.{loads, filling_dual}
 use Rattle.thy_migrate.specs.declared.migration.Migration.{Migration}
 use Rattle.thy_migrate.specs.declared.migration.Migration.TheVariants.{Slot, Settle, Commit, Confirm}
 use Rattle.thy_migrate.specs.Steps.{IsAction}
@@ -60,10 +60,10 @@ pub record HasFound (o : Origin) (m : Mark) (g : BootImages) (b : Booting) (c : 
   pub epoch : epoch_of b.commit ≡ m.epoch
   pub kept : g.kept ≡ Some m
   pub small : m.epoch < ceiling
-  pub long : length (slot_read filling_one b) ≡ blocks_of_slot One o.geometry
-  pub fits : slot_fault One o.geometry ceiling m.epoch (slot_read filling_one b) ≡ None
+  pub long : length (slot_read filling_dual b) ≡ blocks_of_slot One o.geometry
+  pub fits : slot_fault One o.geometry ceiling m.epoch (slot_read filling_dual b) ≡ None
   pub told : IsToldBy o.geometry g.before One m.epoch (tables0 c)
-  pub listed : tables_in o.geometry (slot_read filling_one b) ≡ tables0 c
+  pub listed : tables_in o.geometry (slot_read filling_dual b) ≡ tables0 c
   pub no_counts : c.counts.lasts ≡ replicate o.geometry.pages 0
 
 -- how many blocks of the new slot were written before an action
@@ -94,7 +94,7 @@ pub record IsMigrating (o : Origin) (m : Mark) (at : Migration) (g : BootImages)
   pub found : HasFound o m g b c
   pub there : IsAction o.geometry at
   pub keeps : IsKeeping o (layout_of o) (standing_at m at g n)
-  pub has : LoadsState o m (cpu_of_record (slot_read filling_one b)) n c
-  pub issued : AreIssued (image_blocks o.geometry) (migrated_parts o.geometry (slot_read filling_one b) m.epoch) n (loads c n) (written_before o.geometry at)
+  pub has : LoadsState o m (cpu_of_record (slot_read filling_dual b)) n c
+  pub issued : AreIssued (image_blocks o.geometry) (migrated_parts o.geometry (slot_read filling_dual b) m.epoch) n (loads c n) (written_before o.geometry at)
   pub made : IsMadeBefore at o m g.next c
   pub committed : IsCommittedBefore at m n

@@ -13,7 +13,7 @@ use Rattle.thy_boot.specs.declared.stage.Stage.TheVariants.{Over}
 use Rattle.thy_boot.specs.declared.stage.End.TheVariants.{Restored}
 use Rattle.thy_boot.specs.Boot.{Booting, IsBoot}
 use Rattle.thy_boot.specs.Steps.{CanStep as CanBoot, Steps as BootSteps, Fails as BootFails}
-use Rattle.thy_recover.specs.Filling.{filling_one}
+use Rattle.thy_recover.specs.Filling.{filling_dual}
 use Rattle.thy_migrate.specs.declared.migration.Migration.{Migration}
 use Rattle.thy_migrate.specs.declared.migration.Migration.TheVariants.{Slot}
 use Rattle.thy_migrate.specs.Migrating.{Recovering, begun_at, after_action, action_of}
@@ -32,7 +32,7 @@ pub record CanMigrate (at : Migration) (n : Device) (b : Booting) : Type 0 where
 
 -- a step may be taken, of the boot or of the migration
 abbrev pub CanStepAt : Option Migration → Plain → Device → Recovering → State → Type 0
-CanStepAt None s n r c = CanBoot filling_one s n r.boot c
+CanStepAt None s n r c = CanBoot filling_dual s n r.boot c
 CanStepAt (Some at) s n r c = CanMigrate at n r.boot
 
 abbrev pub CanStep : Plain → Device → Recovering → State → Type 0
@@ -40,7 +40,7 @@ CanStep s n r c = CanStepAt r.migration s n r c
 
 -- the boot took one; at its end a migration may begin
 pub record BootsOn (s : Plain) (n : Device) (r : Recovering) (c : State) (m : Device) (t : Recovering) (e : State) : Type 0 where
-  pub boot : BootSteps filling_one s n r.boot c m t.boot e
+  pub boot : BootSteps filling_dual s n r.boot c m t.boot e
   pub migration : t.migration ≡ begun_at t.boot.stage t.boot.commit
 
 -- the migration took its action, and comes to the next one
@@ -58,7 +58,7 @@ Steps s n r c m t e = StepsAt r.migration s n r c m t e
 
 -- what one that failed leaves
 abbrev pub FailsAt : Option Migration → Plain → Recovering → State → Device → Device → Type 0
-FailsAt None s r c n m = BootFails filling_one s r.boot c n m
+FailsAt None s r c n m = BootFails filling_dual s r.boot c n m
 FailsAt (Some at) s r c n m = FailsTo (action_of r.boot at) n m
 
 abbrev pub Fails : Plain → Recovering → State → Device → Device → Type 0
@@ -68,7 +68,7 @@ Fails s r c n m = FailsAt r.migration s r c n m
 pub record TakesStep {T : Type 0} (result : Result T NvmError) (s : Plain) (n : Device) (r : Recovering) (c : State)
     (m : Device) (t : Recovering) (e : State) : Type 0 where
   pub steps : OnOk result (Steps s n r c m t e)
-  pub fits : IsBoot filling_one t.boot
+  pub fits : IsBoot filling_dual t.boot
   pub recovery : OnErr result (t ≡ r)
   pub control : OnErr result (e ≡ c)
   pub err : OnErr result (Fails s r c n m)

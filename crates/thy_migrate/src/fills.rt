@@ -16,11 +16,11 @@ pub struct DualFills;
 
 impl Fills for DualFills {
     ghost use Rattle.thy_recover.proofs.FillingLemmas.{filling_is_lawful};
-    ghost use Rattle.thy_recover.specs.Filling.{filling_one};
+    ghost use Rattle.thy_recover.specs.Filling.{filling_dual};
 
     type Control = Control;
 
-    ghost filling = { filling_one };
+    ghost filling = { filling_dual };
 
     fn most_slot(geometry: &Geometry) -> u64 {
         geometry.slot_blocks()

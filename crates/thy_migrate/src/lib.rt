@@ -4,7 +4,7 @@
 //! cut leaves of a migration is the checkpoint that was found, whole.
 //!
 //! Open specs/Migrating.antt first, then specs/Sound.antt, and src/recovery.rt. It depends on thy_recover and its
-//! dependencies; thy_dual_model and thy_dual depend on it.
+//! dependencies; thy_dual_laws and thy_dual depend on it.
 #![tactic(auto)]
 
 mod fills;

@@ -10,7 +10,7 @@ ghost use Rattle.thy_boot.specs.Loads.{Takes};
 ghost use Rattle.thy_isa.specs.Step.{state_of};
 ghost use Rattle.thy_record.specs.Commit.{epoch_of};
 ghost use Rattle.thy_record.specs.Cpu.{cpu_of_record};
-ghost use Rattle.thy_recover.specs.Filling.{filling_one};
+ghost use Rattle.thy_recover.specs.Filling.{filling_dual};
 ghost use Rattle.thy_migrate.specs.Migrating.{new_recovery, begun_at, after_action, action_of, answer_of};
 ghost use Rattle.thy_migrate.specs.Steps.{CanMigrate, CanStep, TakesStep, IsAction};
 
@@ -114,7 +114,7 @@ impl Recovery {
         nvm: &mut N,
     ) -> Result<BootStep, NvmError>
         requires can { CanStep (state_of start.now.state) (N.device nvm.old) self.old control.old }
-        requires fits { IsBoot filling_one self.old.boot }
+        requires fits { IsBoot filling_dual self.old.boot }
         ensures answer { IfOk result (λ answer. answer ≡ answer_of self.new) }
         ensures step { let s = state_of start.now.state in
             TakesStep result s (N.device nvm.old) self.old control.old (N.device nvm.new) self.new control.new }
@@ -134,7 +134,7 @@ impl Recovery {
     ) -> Result<BootStep, NvmError>
         requires idle { self.old.migration ≡ None }
         requires can { CanStep (state_of start.now.state) (N.device nvm.old) self.old control.old }
-        requires fits { IsBoot filling_one self.old.boot }
+        requires fits { IsBoot filling_dual self.old.boot }
         ensures answer { IfOk result (λ answer. answer ≡ answer_of self.new) }
         ensures step { let s = state_of start.now.state in
             TakesStep result s (N.device nvm.old) self.old control.old (N.device nvm.new) self.new control.new }
@@ -151,7 +151,7 @@ impl Recovery {
     fn migrate_next<N: Nvm>(&mut self, at: Migration, nvm: &mut N) -> Result<BootStep, NvmError>
         requires under_way { self.old.migration ≡ Some at }
         requires can { CanMigrate at (N.device nvm.old) self.old.boot }
-        requires fits { IsBoot filling_one self.old.boot }
+        requires fits { IsBoot filling_dual self.old.boot }
         ensures answer { IfOk result (λ answer. answer ≡ answer_of self.new) }
         ensures state { OnOk result (self.new ≡ record self.old { migration = after_action self.old.boot.p at }) }
         ensures kept { OnErr result (self.new ≡ self.old) }
@@ -169,7 +169,7 @@ impl Recovery {
     fn restarted(&self) -> BootStep
         requires { length self.now.boot.slot ≡ 64 * slot_blocks self.now.boot.p }
         ensures { let b = self.now.boot in
-            result ≡ Restarted (cpu_of_record (slot_read filling_one b)) (epoch_of b.commit) }
+            result ≡ Restarted (cpu_of_record (slot_read filling_dual b)) (epoch_of b.commit) }
     {
         let commit = self.boot.commit();
         let cpu = cpu_of_slot(self.boot.geometry(), commit, self.boot.slot());

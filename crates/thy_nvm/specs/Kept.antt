@@ -36,7 +36,7 @@ cuts_in size blocks picks room = record {
 }
 
 -- what holds of the parts
-pub record IsSound (size : ℕ) (blocks : Vec Block) (picks : Vec ℕ) (room : ℕ) : Type 0 where
+pub record IsSoundKept (size : ℕ) (blocks : Vec Block) (picks : Vec ℕ) (room : ℕ) : Type 0 where
   -- there is an image for each pick
   pub whole : length blocks.items ≡ length picks.items * size
   -- and space for all that can be kept

@@ -20,13 +20,13 @@ pub(crate) struct Kept {
 }
 
 impl Model for Kept {
-    ghost use Rattle.thy_nvm.specs.Kept.{Cuts, cuts_in, IsSound};
+    ghost use Rattle.thy_nvm.specs.Kept.{Cuts, cuts_in, IsSoundKept};
 
     ghost Value = { Cuts };
 
     ghost view = { λ k. cuts_in k.size k.blocks.items k.picks.items k.room };
 
-    ghost invariant = { λ k. IsSound k.size k.blocks k.picks k.room };
+    ghost invariant = { λ k. IsSoundKept k.size k.blocks k.picks k.room };
 }
 
 impl Kept {

@@ -6,8 +6,8 @@ ghost use Rattle.thy_out.specs.Replacing.{counted};
 ghost use Rattle.thy_out.specs.Spring.{LosesAtMost, HasCause};
 ghost use Rattle.thy_out.specs.Untold.{untold, fetch_faults, put_faults};
 
+use crate::counted_reader::CountedReader;
 use crate::disk::Disk;
-use crate::source::Source;
 use std::alloc::Global;
 use std::fs::Files;
 use std::io::{ErrorKind, Read};
@@ -41,7 +41,7 @@ const PIECE: u64 = 4096;
 /// but no more than one byte past `limit`. It returns `Failed` exactly if a read failed. If it returns no bytes, some
 /// may have been read.
 pub fn read_within<F: Read>(
-    file: &mut Source<F>,
+    file: &mut CountedReader<F>,
     alloc: Global,
     limit: u64,
 ) -> Result<Vec<u8>, FetchError>
@@ -81,7 +81,7 @@ fn read_file<R: Files>(
     ensures { IfOk result (λ bytes. length bytes.items ≤ limit) }
 {
     match disk.open(path) {
-        Ok(file) => read_within(&mut Source::over(file), alloc, limit),
+        Ok(file) => read_within(&mut CountedReader::over(file), alloc, limit),
         Err(error) => {
             if error.kind() == ErrorKind::NotFound {
                 Err(FetchError::NotThere)

@@ -6,18 +6,18 @@
 //! for every shelf and sink.
 #![tactic(auto)]
 
+mod counted_reader;
 mod disk;
 mod file_shelf;
 mod mem_shelf;
 mod mem_sink;
-mod source;
 mod std_sink;
 mod target;
 
+pub use counted_reader::CountedReader;
 pub use disk::{Disk, Replaced};
 pub use file_shelf::{FileShelf, read_within};
 pub use mem_shelf::MemShelf;
 pub use mem_sink::MemSink;
-pub use source::Source;
 pub use std_sink::StdSink;
 pub use target::Target;

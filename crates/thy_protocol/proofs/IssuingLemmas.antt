@@ -14,12 +14,12 @@ use Rattle.thy_crash.proofs.SavedLemmas.{next_image-reads, next_image-commit, Is
 use Rattle.thy_record.specs.Commit.{is_zero, epoch_of}
 use Rattle.thy_record.proofs.ImageLemmas.{map-alike, block_at-numbers}
 use Rattle.thy_protocol.specs.Layout.{Layout, slot_places, memory_places, slot_in, memory_in, fault_of, fault_in, parts_of, looked_by}
-use Rattle.thy_protocol.specs.Issuing.{Parts, slot_of, ArePlaced, AreIssued, IsElsewhere, ArePartsOf, IsCheckpoint}
+use Rattle.thy_protocol.specs.Issuing.{CheckpointParts, slot_of, ArePlaced, AreIssued, IsElsewhere, ArePartsOf, IsCheckpoint}
 use Rattle.thy_protocol.proofs.LayoutLemmas.{decode_by-whole, looked_parts}
 
 -- ---- writes and drains
 
-pub issuing_begins : (image_blocks : ℕ) (parts : Parts) (n : Device)
+pub issuing_begins : (image_blocks : ℕ) (parts : CheckpointParts) (n : Device)
     → length n.image ≡ image_blocks → AreIssued image_blocks parts n (map (newest n) parts.memory) 0
 issuing_begins image_blocks parts n sized = record {
   sized = sized;
@@ -27,7 +27,7 @@ issuing_begins image_blocks parts n sized = record {
   slot = record { each = λ i l. absurd (omega arith) };
 }
 
-module _ (image_blocks : ℕ) (parts : Parts) (old new : Device) (memory : List Block) (k : ℕ) (placed : ArePlaced image_blocks parts)
+module _ (image_blocks : ℕ) (parts : CheckpointParts) (old new : Device) (memory : List Block) (k : ℕ) (placed : ArePlaced image_blocks parts)
     (h : AreIssued image_blocks parts old memory k) where
   memory_over : (x : ℕ) (block : Block) → ¬ Contains parts.memory x → new ≡ written_to old x block → map (newest new) parts.memory ≡ memory
   memory_over x block other is =
@@ -80,7 +80,7 @@ not_first : (y x : ℕ) (xs : List ℕ) → x ≢ y → Contains (x ∷ xs) y �
 not_first y x xs other (zero, l, is) = absurd (other is)
 not_first y x xs other (suc k, l, is) = (k, omega arith, is)
 
-module _ (l : Layout) (n : Device) (commit : Block) (parts : Parts) (memory : List Block) (of : ArePartsOf l commit parts)
+module _ (l : Layout) (n : Device) (commit : Block) (parts : CheckpointParts) (memory : List Block) (of : ArePartsOf l commit parts)
     (h : AreIssued l.image_blocks parts n memory parts.slot_blocks) (some : is_zero commit ≡ false) where
   abbrev image : List Block
   image = next_image n commit

@@ -2,6 +2,6 @@ pub mod LayoutLemmas
 pub mod IssuingLemmas
 pub mod KeepsLemmas
 pub mod AlternatingLemmas
-pub mod RemappedLemmas
-pub mod RemappedPartsLemmas
+pub mod DualLayoutsLemmas
+pub mod DualPartsLemmas
 pub mod MigratedLemmas

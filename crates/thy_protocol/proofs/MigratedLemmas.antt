@@ -28,9 +28,9 @@ use Rattle.thy_crash.proofs.SavedLemmas.{next_image-commit}
 use Rattle.thy_protocol.specs.Issuing.{slot_of, ArePlaced, ArePartsOf, AreIssued, IsCheckpoint}
 use Rattle.thy_protocol.specs.Layout.{Layout}
 use Rattle.thy_protocol.specs.Migrated.{migrated_parts, IsMigrated, MigrationDecodes}
-use Rattle.thy_protocol.specs.Remapped.{remapped}
+use Rattle.thy_protocol.specs.DualLayouts.{dual_layouts}
 use Rattle.thy_protocol.proofs.IssuingLemmas.{issued_is_checkpoint}
-use Rattle.thy_protocol.proofs.RemappedPartsLemmas.{slot_fits, all_none}
+use Rattle.thy_protocol.proofs.DualPartsLemmas.{slot_fits, all_none}
 
 -- the tables of a slot without a fault
 pub tables_of_slot : (p : Parameters) (ceiling epoch : ℕ) (slot : List Block) → slot_fault One p ceiling epoch slot ≡ None → IsTables p (tables_in p slot)
@@ -75,7 +75,7 @@ module _ (p : Parameters) (ceiling epoch : ℕ) (slot : List Block) (most : ceil
   form_is : form_of (commit_of epoch) ≡ Two
   form_is = form_of-commit_of epoch
 
-  parts_of : ArePartsOf (remapped p ceiling) (commit_of epoch) (migrated_parts p slot epoch)
+  parts_of : ArePartsOf (dual_layouts p ceiling) (commit_of epoch) (migrated_parts p slot epoch)
   parts_of = record {
     placed = ArePlaced-migrated p slot epoch (tables_of_slot p ceiling epoch slot none);
     slot_place = ap (λ f. place_of_slot f p (epoch_of (commit_of epoch) % 2)) form_is ∙ ap (λ (e : ℕ). slot_place p (e % 2)) epoch_is;
@@ -96,9 +96,9 @@ module _ (p : Parameters) (ceiling epoch : ℕ) (slot : List Block) (most : ceil
 
   module _ (n : Device) (memory : List Block) (header : header_fault (newest n 0) p true ≡ None)
       (h : AreIssued (image_blocks p) (migrated_parts p slot epoch) n memory (slot_blocks p)) where
-    all : IsCheckpoint (remapped p ceiling) n (commit_of epoch) (migrated_parts p slot epoch) memory
+    all : IsCheckpoint (dual_layouts p ceiling) n (commit_of epoch) (migrated_parts p slot epoch) memory
     all =
-        issued_is_checkpoint (remapped p ceiling) n (commit_of epoch) (migrated_parts p slot epoch) memory parts_of h
+        issued_is_checkpoint (dual_layouts p ceiling) n (commit_of epoch) (migrated_parts p slot epoch) memory parts_of h
         (is_zero-commit_of epoch) (no_fault (newest n 0) header)
 
     commit_same : block_at (next_image n (commit_of epoch)) 1 ≡ commit_of epoch

@@ -12,18 +12,18 @@ use Rattle.thy_protocol.specs.Layout.{Layout, slot_in, memory_in, memory_places,
 
 -- the places that the parts of a checkpoint are written to: the blocks of its slot, one after the other, and those of
 -- memory
-pub record Parts : Type 0 where
+pub record CheckpointParts : Type 0 where
   pub slot_place : ℕ
   pub slot_blocks : ℕ
   pub slot : ℕ → Block
   pub memory : List ℕ
 
 -- the slot as a list
-abbrev pub slot_of : Parts → List Block
+abbrev pub slot_of : CheckpointParts → List Block
 slot_of parts = map parts.slot (range_with_len 0 parts.slot_blocks)
 
 -- they are after the commit block, within an image of so many blocks, and no block of memory is in the slot
-pub record ArePlaced (image_blocks : ℕ) (parts : Parts) : Type 0 where
+pub record ArePlaced (image_blocks : ℕ) (parts : CheckpointParts) : Type 0 where
   pub slot_behind : 2 ≤ parts.slot_place
   pub slot_inside : parts.slot_place + parts.slot_blocks ≤ image_blocks
   pub memory_behind : (x : ℕ) → Contains parts.memory x → 2 ≤ x
@@ -31,7 +31,7 @@ pub record ArePlaced (image_blocks : ℕ) (parts : Parts) : Type 0 where
   pub apart : (k : ℕ) → k < parts.slot_blocks → ¬ Contains parts.memory (parts.slot_place + k)
 
 -- the first k blocks of the slot were issued: reads give them; and reads give these blocks of memory
-pub record AreIssued (image_blocks : ℕ) (parts : Parts) (n : Device) (memory : List Block) (k : ℕ) : Type 0 where
+pub record AreIssued (image_blocks : ℕ) (parts : CheckpointParts) (n : Device) (memory : List Block) (k : ℕ) : Type 0 where
   pub sized : length n.image ≡ image_blocks
   pub memory_is : map (newest n) parts.memory ≡ memory
   pub slot : ReadsFirst n parts.slot_place parts.slot k
@@ -39,46 +39,46 @@ pub record AreIssued (image_blocks : ℕ) (parts : Parts) (n : Device) (memory :
 -- no block of the slot at first
 abbrev pub IssuingBegins : Type 0
 IssuingBegins =
-    (image_blocks : ℕ) (parts : Parts) (n : Device)
+    (image_blocks : ℕ) (parts : CheckpointParts) (n : Device)
     → length n.image ≡ image_blocks → AreIssued image_blocks parts n (map (newest n) parts.memory) 0
 
 -- one more after the write of the next
 abbrev pub SlotGoesOn : Type 0
 SlotGoesOn =
-    (image_blocks : ℕ) (parts : Parts) (old new : Device) (memory : List Block) (k : ℕ)
+    (image_blocks : ℕ) (parts : CheckpointParts) (old new : Device) (memory : List Block) (k : ℕ)
     → ArePlaced image_blocks parts → AreIssued image_blocks parts old memory k → k < parts.slot_blocks
     → new ≡ written_to old (parts.slot_place + k) (parts.slot k) → AreIssued image_blocks parts new memory (k + 1)
 
 -- a place to which neither a block of the slot nor one of memory is written
-pub record IsElsewhere (parts : Parts) (x : ℕ) : Type 0 where
+pub record IsElsewhere (parts : CheckpointParts) (x : ℕ) : Type 0 where
   pub no_slot : (k : ℕ) → k < parts.slot_blocks → parts.slot_place + k ≢ x
   pub no_memory : ¬ Contains parts.memory x
 
 -- a write elsewhere changes nothing of it
 abbrev pub ElsewhereKeepsIssued : Type 0
 ElsewhereKeepsIssued =
-    (image_blocks : ℕ) (parts : Parts) (old new : Device) (memory : List Block) (k x : ℕ) (block : Block)
+    (image_blocks : ℕ) (parts : CheckpointParts) (old new : Device) (memory : List Block) (k x : ℕ) (block : Block)
     → ArePlaced image_blocks parts → AreIssued image_blocks parts old memory k → k ≤ parts.slot_blocks
     → IsElsewhere parts x → new ≡ written_to old x block → AreIssued image_blocks parts new memory k
 
 -- nor does a drain
 abbrev pub DrainKeepsIssued : Type 0
 DrainKeepsIssued =
-    (image_blocks : ℕ) (parts : Parts) (old new : Device) (memory : List Block) (k : ℕ)
+    (image_blocks : ℕ) (parts : CheckpointParts) (old new : Device) (memory : List Block) (k : ℕ)
     → ArePlaced image_blocks parts → AreIssued image_blocks parts old memory k
     → new ≡ drained old → AreIssued image_blocks parts new memory k
 
 -- ---- the whole checkpoint
 
 -- the parts are at the places that a layout gives them with this commit block
-pub record ArePartsOf (l : Layout) (commit : Block) (parts : Parts) : Type 0 where
+pub record ArePartsOf (l : Layout) (commit : Block) (parts : CheckpointParts) : Type 0 where
   pub placed : ArePlaced l.image_blocks parts
   pub slot_place : l.slot_place commit ≡ parts.slot_place
   pub slot_blocks : l.slot_blocks commit ≡ parts.slot_blocks
   pub memory : memory_places l commit (slot_of parts) ≡ parts.memory
 
 -- with the commit block the next image is the checkpoint, and it lacks no other write
-pub record IsCheckpoint (l : Layout) (n : Device) (commit : Block) (parts : Parts) (memory : List Block) : Type 0 where
+pub record IsCheckpoint (l : Layout) (n : Device) (commit : Block) (parts : CheckpointParts) (memory : List Block) : Type 0 where
   pub slot : slot_in l (next_image n commit) ≡ slot_of parts
   pub memory_is : memory_in l (next_image n commit) ≡ memory
   pub decodes : decode_by l (next_image n commit) ≡ At (epoch_of commit) (l.state_from (slot_of parts) memory)
@@ -87,7 +87,7 @@ pub record IsCheckpoint (l : Layout) (n : Device) (commit : Block) (parts : Part
 -- this holds with the whole slot issued, and no fault in header, commit block and slot
 abbrev pub IssuedIsCheckpoint : Type 0
 IssuedIsCheckpoint =
-    (l : Layout) (n : Device) (commit : Block) (parts : Parts) (memory : List Block)
+    (l : Layout) (n : Device) (commit : Block) (parts : CheckpointParts) (memory : List Block)
     → ArePartsOf l commit parts → AreIssued l.image_blocks parts n memory parts.slot_blocks
     → is_zero commit ≡ false → fault_of l true (newest n 0) commit (slot_of parts) ≡ None
     → IsCheckpoint l n commit parts memory

@@ -4,6 +4,6 @@ pub mod Keeps
 pub mod Moves
 pub mod Alternating
 pub mod Laws
-pub mod Remapped
-pub mod RemappedParts
+pub mod DualLayouts
+pub mod DualParts
 pub mod Migrated

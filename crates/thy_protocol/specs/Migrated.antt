@@ -14,13 +14,13 @@ use Rattle.thy_record.specs.Images.{slot_in, memory_numbers}
 use Rattle.thy_record.specs.Issuing.{IsToldBy}
 use Rattle.thy_record.specs.Slots.{tables_in, counts_in, slot_fault}
 use Rattle.thy_crash.specs.Saved.{IsIssued, next_image}
-use Rattle.thy_protocol.specs.Issuing.{Parts, AreIssued}
+use Rattle.thy_protocol.specs.Issuing.{CheckpointParts, AreIssued}
 use Rattle.thy_protocol.specs.Layout.{decode_by, looked_by}
-use Rattle.thy_protocol.specs.Remapped.{remapped}
+use Rattle.thy_protocol.specs.DualLayouts.{dual_layouts}
 
 -- where its parts go: the slot of its epoch in version 2 gets the blocks of this slot of version 1, and zeros behind them;
 -- memory's blocks stay where they are
-abbrev pub migrated_parts : Parameters → List Block → ℕ → Parts
+abbrev pub migrated_parts : Parameters → List Block → ℕ → CheckpointParts
 migrated_parts p slot epoch = record {
   slot_place = slot_place p (epoch % 2);
   slot_blocks = slot_blocks p;
@@ -33,8 +33,8 @@ migrated_parts p slot epoch = record {
 pub record IsMigrated (p : Parameters) (ceiling : ℕ) (n : Device) (slot : List Block) (epoch : ℕ) (memory : List Block) : Type 0 where
   pub told : IsToldBy p (next_image n (commit_of epoch)) Two epoch (tables_in p slot)
   pub counted : counts_in Two p (slot_in p (next_image n (commit_of epoch))) ≡ replicate p.pages 0
-  pub decodes : decode_by (remapped p ceiling) (next_image n (commit_of epoch)) ≡ At epoch (state_from p (cpu_of_record slot) memory)
-  pub issued : IsIssued (looked_by (remapped p ceiling)) n (next_image n (commit_of epoch))
+  pub decodes : decode_by (dual_layouts p ceiling) (next_image n (commit_of epoch)) ≡ At epoch (state_from p (cpu_of_record slot) memory)
+  pub issued : IsIssued (looked_by (dual_layouts p ceiling)) n (next_image n (commit_of epoch))
 
 -- once its whole slot was issued, behind a header that has no fault, from a slot that has none
 abbrev pub MigrationDecodes : Type 0

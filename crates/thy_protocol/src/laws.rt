@@ -3,8 +3,8 @@ ghost use Rattle.thy_protocol.specs.Alternating.{WrittenDecodes, StartIsCommitte
 ghost use Rattle.thy_protocol.specs.Issuing.{IssuingBegins, SlotGoesOn, ElsewhereKeepsIssued, DrainKeepsIssued, IssuedIsCheckpoint};
 ghost use Rattle.thy_protocol.specs.Laws.{LookedDecides, CopiesLookAlike, ZeroIsNothing, NothingIsZero, WholeDecodes, DecodedIsWhole, KeptIsSafe, KeptIsSafeForBoth, FirstIsTold, BootShows, MovesAreSafe, CutKeeps, EmptyKeeps, ActionSpares, FailedActionSpares};
 ghost use Rattle.thy_protocol.specs.Migrated.{MigrationDecodes};
-ghost use Rattle.thy_protocol.specs.Remapped.{DecodesSame, LooksSame};
-ghost use Rattle.thy_protocol.specs.RemappedParts.{IssuedDecodes};
+ghost use Rattle.thy_protocol.specs.DualLayouts.{DecodesSame, LooksSame};
+ghost use Rattle.thy_protocol.specs.DualParts.{IssuedDecodes};
 
 /// A copy of an image, at all places that determine what it means, means the same, and the same places determine it.
 pub fn copies_mean_the_same()
@@ -76,14 +76,14 @@ pub fn a_layout_of_two_copies_serves()
 
 /// The images of this program are such a layout, those of both versions: with the length of version 2 they decode to
 /// the same, and the same places tell it.
-pub fn remapped_is_a_layout()
+pub fn dual_layouts_are_layouts()
     ensures decodes { DecodesSame }
     ensures looks { LooksSame }
 {}
 
 /// In version 2, with the whole slot issued, and behind a header without a fault, whoever wrote it, the next image decodes
 /// to the checkpoint and tells its tables and counts, and all that tells it was issued.
-pub fn remapped_is_issued()
+pub fn dual_layouts_are_issued()
     ensures { IssuedDecodes }
 {}
 

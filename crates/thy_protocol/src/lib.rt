@@ -13,6 +13,7 @@ mod laws;
 
 pub use laws::{
     a_boot_finds_its_mark, a_cut_keeps, a_layout_of_two_copies_serves, a_migration_decodes,
-    actions_spare, copies_mean_the_same, issuing_goes_on, moves_are_safe, remapped_is_a_layout,
-    remapped_is_issued, what_is_issued_is_a_checkpoint, what_is_kept_is_safe, whole_images_decode,
+    actions_spare, copies_mean_the_same, dual_layouts_are_issued, dual_layouts_are_layouts,
+    issuing_goes_on, moves_are_safe, what_is_issued_is_a_checkpoint, what_is_kept_is_safe,
+    whole_images_decode,
 };

@@ -6,16 +6,16 @@ use crate::bad_image::BadImage;
 use thy_base::{Block, Form, block_with, word};
 
 /// The bytes `THYNCMT1`, with which a commit block of version 1 begins, as a number.
-pub const COMMIT_MAGIC_ONE: u64 = 0x3154_4d43_4e59_4854;
+pub const COMMIT_MAGIC_VERSION_ONE: u64 = 0x3154_4d43_4e59_4854;
 
 /// The bytes `THYNCMT2`, with which one of version 2 does.
-pub const COMMIT_MAGIC: u64 = 0x3254_4d43_4e59_4854;
+pub const COMMIT_MAGIC_VERSION_TWO: u64 = 0x3254_4d43_4e59_4854;
 
 /// The commit block of an epoch, of version 2: its name, the epoch and six zeros.
 pub fn commit_block(epoch: u64) -> Block
     ensures { result ≡ commit_of epoch }
 {
-    block_with(&[COMMIT_MAGIC, epoch, 0, 0, 0, 0, 0, 0])
+    block_with(&[COMMIT_MAGIC_VERSION_TWO, epoch, 0, 0, 0, 0, 0, 0])
 }
 
 /// Whether every byte is zero: as a commit block, that there is no checkpoint.
@@ -30,7 +30,7 @@ pub fn is_zero(block: &Block) -> bool
 pub fn form_of(block: &Block) -> Form
     ensures { result ≡ form_named block.now }
 {
-    if word(block, 0) == COMMIT_MAGIC_ONE {
+    if word(block, 0) == COMMIT_MAGIC_VERSION_ONE {
         Form::One
     } else {
         Form::Two
@@ -42,7 +42,7 @@ fn is_named(header: &Block, block: &Block) -> bool
     ensures { result ≡ names_form header.now block.now }
 {
     let name = word(block, 0);
-    name == COMMIT_MAGIC || (name == COMMIT_MAGIC_ONE && word(header, 1) == 1)
+    name == COMMIT_MAGIC_VERSION_TWO || (name == COMMIT_MAGIC_VERSION_ONE && word(header, 1) == 1)
 }
 
 /// The fault of a commit block behind a header, if it has one: another name, or that of version 1 behind a header of

@@ -24,7 +24,10 @@ mod table_faults;
 mod tables;
 
 pub use bad_image::BadImage;
-pub use commit::{COMMIT_MAGIC, COMMIT_MAGIC_ONE, commit_block, commit_fault, form_of, is_zero};
+pub use commit::{
+    COMMIT_MAGIC_VERSION_ONE, COMMIT_MAGIC_VERSION_TWO, commit_block, commit_fault, form_of,
+    is_zero,
+};
 pub use cpu::{cpu_block, cpu_state};
 pub use engine_step::EngineStep;
 pub use file::{Found, check};

@@ -24,9 +24,9 @@ use Rattle.thy_control.proofs.TablesLemmas.{AreTablesOf-committed}
 use Rattle.thy_view.specs.Origin.{at}
 use Rattle.thy_view.specs.Safe.{ceiling}
 use Rattle.thy_protocol.specs.Keeps.{Keeps}
-use Rattle.thy_protocol.specs.Remapped.{layout_of}
+use Rattle.thy_protocol.specs.DualLayouts.{layout_of}
 use Rattle.thy_protocol.proofs.KeepsLemmas.{at-start}
-use Rattle.thy_protocol.proofs.RemappedPartsLemmas.{slot_is, tables_are}
+use Rattle.thy_protocol.proofs.DualPartsLemmas.{slot_is, tables_are}
 use Rattle.thy_protocol.specs.Issuing.{slot_of}
 use Rattle.thy_boot.specs.declared.stage.Stage.{Stage}
 use Rattle.thy_boot.specs.Boot.{slot_read}
@@ -37,7 +37,7 @@ use Rattle.thy_boot.proofs.FoundLemmas.{restored_is_kept}
 use Rattle.thy_boot.proofs.ReadLemmas.{newest-settled}
 use Rattle.thy_boot.proofs.WrittenLemmas.{AreIssued-written}
 use Rattle.thy_recover.specs.Booted.{RestoredIsBooted, LoadedIsStarted}
-use Rattle.thy_recover.specs.Filling.{CanStart, IsEmpty, loads, filling_one}
+use Rattle.thy_recover.specs.Filling.{CanStart, IsEmpty, loads, filling_dual}
 use Rattle.thy_recover.specs.Start.{start_blocks, no_tables, no_counts}
 use Rattle.thy_recover.proofs.FillingLemmas.{filling_is_lawful, none_listed, all_hold, loads_first}
 use Rattle.thy_recover.proofs.RecordLemmas.{restored-recordable, start-recordable}
@@ -47,11 +47,11 @@ pub restored_is_booted : RestoredIsBooted
 restored_is_booted o g n b c origin sound is =
     let p : Parameters = o.geometry in
     let epoch : ℕ = epoch_of b.commit in
-    let slot : List Block = slot_read filling_one b in
-    let kept = restored_is_kept filling_one filling_is_lawful o g n b c sound is in
+    let slot : List Block = slot_read filling_dual b in
+    let kept = restored_is_kept filling_dual filling_is_lawful o g n b c sound is in
     let m : Mark = kept.0 in
-    let f : IsRestored filling_one n b c = kept.5 in
-    let rec : IsRecovering filling_one g n b c = subst (λ (q : Stage). IsSoundAt filling_one o q g n b c) is sound.so_far in
+    let f : IsRestored filling_dual n b c = kept.5 in
+    let rec : IsRecovering filling_dual g n b c = subst (λ (q : Stage). IsSoundAt filling_dual o q g n b c) is sound.so_far in
     let cpu : CpuState = cpu_of_record slot in
     let form : Form = form_of b.commit in
     let told : IsToldBy b.p n.image form epoch (tables0 c) = record {
@@ -100,8 +100,8 @@ pub loaded_is_started : LoadedIsStarted
 loaded_is_started o g n b c origin sound is =
     let p : Parameters = o.geometry in
     let can : CanStart p o.start = CanStart-origin o origin in
-    let f : First = first_of filling_one o in
-    let far : IsLoaded filling_one o g n c = subst (λ (q : Stage). IsSoundAt filling_one o q g n b c) is sound.so_far in
+    let f : First = first_of filling_dual o in
+    let far : IsLoaded filling_dual o g n c = subst (λ (q : Stage). IsSoundAt filling_dual o q g n b c) is sound.so_far in
     let tables : tables0 c ≡ no_tables p = none_listed c n far.fresh far.settled ∙ ap no_tables sound.same_p in
     let long : length f.memory ≡ length f.parts.memory = filling_is_lawful.first_whole p o.start can in
     let memory : loads c n ≡ start_blocks p o.start

@@ -32,12 +32,12 @@ use Rattle.thy_control.proofs.TablesLemmas.{AreTablesOf-committed}
 use Rattle.thy_table.specs.Listing.{entry_at as live_at}
 use Rattle.thy_view.specs.Safe.{ceiling}
 use Rattle.thy_protocol.specs.Layout.{slot_in, memory_in as memory_of}
-use Rattle.thy_protocol.specs.Remapped.{remapped}
-use Rattle.thy_protocol.specs.RemappedParts.{parts_by}
-use Rattle.thy_protocol.proofs.RemappedPartsLemmas.{parts_of, no_fault, cpu_is}
+use Rattle.thy_protocol.specs.DualLayouts.{dual_layouts}
+use Rattle.thy_protocol.specs.DualParts.{parts_by}
+use Rattle.thy_protocol.proofs.DualPartsLemmas.{parts_of, no_fault, cpu_is}
 use Rattle.thy_boot.specs.Filling.{IsFilling}
 use Rattle.thy_boot.proofs.ReadLemmas.{newest-settled}
-use Rattle.thy_recover.specs.Filling.{CanStart, IsEmpty, ListsSlot, loads, next_position, page_place, with_filled, filling_one}
+use Rattle.thy_recover.specs.Filling.{CanStart, IsEmpty, ListsSlot, loads, next_position, page_place, with_filled, filling_dual}
 use Rattle.thy_recover.specs.Start.{start_blocks, no_tables, no_counts}
 use Rattle.thy_recover.proofs.PositionLemmas.{IsPosition, IsPosition-next, position_inside, position_above, place_inside, position_again, filled_next, filled_all, AreSoundTables-dram, ListsSlot-dram, lists_filled, fills_to}
 use Rattle.thy_recover.proofs.LiveLemmas.{live_in_tables}
@@ -62,20 +62,20 @@ count_is p cpu memory = refl
 -- ---- with all filled
 
 module _ (c : State) (n : Device) (commit : Block) (slot : List Block) (from : ℕ) (l : ListsSlot commit slot c) (none : next_position c.p slot from ≡ None)
-    (settled : n.queue ≡ []) (is : slot_in (remapped c.p ceiling) n.image ≡ slot) where
-  held : filling_one.filled c n from → HoldAll c n
+    (settled : n.queue ≡ []) (is : slot_in (dual_layouts c.p ceiling) n.image ≡ slot) where
+  held : filling_dual.filled c n from → HoldAll c n
   held filled = HoldAll-framed c n l.tables l.booting (filled_all commit slot c l n from none filled)
 
-  memory_same : HoldAll c n → loads c n ≡ memory_of (remapped c.p ceiling) n.image
+  memory_same : HoldAll c n → loads c n ≡ memory_of (dual_layouts c.p ceiling) n.image
   memory_same holds =
       loads-are c n l.tables l.booting holds settled AreTablesOf-committed
       ∙ ap (λ (t : Tables). memory_in c.p t n.image) (l.are ∙ ap (tables_in c.p) (sym is))
 
 -- ---- a drain of the DRAM
 
-fresh_drained : (c : State) → IsEmpty c → IsEmpty (filling_one.drained c)
+fresh_drained : (c : State) → IsEmpty c → IsEmpty (filling_dual.drained c)
 fresh_drained c e = record {
-  tables = AreSoundTables-dram c (filling_one.drained c).dram refl e.tables;
+  tables = AreSoundTables-dram c (filling_dual.drained c).dram refl e.tables;
   fresh = record {
     booting = record { idle = e.fresh.booting.idle; blocks = e.fresh.booting.blocks; pages = e.fresh.booting.pages };
     no_blocks = e.fresh.no_blocks;
@@ -107,7 +107,7 @@ module _ (p : Parameters) (s : Plain) (h : CanStart p s) where
       let two = first_place j (omega (arith, b, numbers_long)) in
       omega (arith, e, one, two)
 
-  state_same : state_from p (filling_one.cpu_in (map (parts_by p (cpu_of s) (no_tables p) no_counts 0).slot (range_with_len 0 (slot_blocks p)))) (start_blocks p s) ≡ s
+  state_same : state_from p (filling_dual.cpu_in (map (parts_by p (cpu_of s) (no_tables p) no_counts 0).slot (range_with_len 0 (slot_blocks p)))) (start_blocks p s) ≡ s
   state_same =
       ap (λ c. state_from p c (start_blocks p s))
       (cpu_is p ceiling (cpu_of s) (no_tables p) no_counts 0 h.geometry h.recordable (omega arith) (omega arith) (IsTables-none p) (AreCounts-none p))
@@ -144,13 +144,13 @@ module _ (c : State) (n : Device) (e : IsEmpty c) (settled : n.queue ≡ []) whe
 pub frame_loads : FrameLoads
 frame_loads = grind arith
 
-pub filling_is_lawful : IsFilling filling_one
+pub filling_is_lawful : IsFilling filling_dual
 filling_is_lawful = record {
   some_slot = λ p commit. let least = least_slot (form_of commit) p in omega (arith, least);
   most_room = λ p commit. most_slot (form_of commit) p;
   head_inside = λ p. omega arith;
   slot_inside = λ p header commit header_fits commit_fits. inside_image (form_of commit) p (_ % 2) (half _);
-  counts = λ p slot memory. count_is p (filling_one.cpu_in slot) memory;
+  counts = λ p slot memory. count_is p (filling_dual.cpu_in slot) memory;
   begins = λ c n commit slot lists i m may below. absurd (omega (arith, below));
   next = λ c n commit slot from k lists filled next.
       let at : IsPosition c.p slot from k = IsPosition-next c.p slot from k next in (
@@ -176,7 +176,7 @@ filling_is_lawful = record {
       (holds, memory_same c n commit slot from lists none settled is holds);
   drain_p = λ c. refl;
   drain_fresh = fresh_drained;
-  drain_lists = λ c commit slot lists. ListsSlot-dram commit slot c (filling_one.drained c).dram refl lists;
+  drain_lists = λ c commit slot lists. ListsSlot-dram commit slot c (filling_dual.drained c).dram refl lists;
   drain_filled = λ c n k filled i m may below. filled i m (record { listed = may.listed; inside = may.inside }) below;
   drain_whole = λ c n holds. holds;
   drain_loads = λ c n. refl;

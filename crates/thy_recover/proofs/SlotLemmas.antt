@@ -20,7 +20,7 @@ use Rattle.thy_control.specs.CheckpointTables.{tables0}
 use Rattle.thy_control.specs.State.{State, AreSoundTables}
 use Rattle.thy_boot.specs.Boot.{slot_bytes}
 use Rattle.thy_boot.specs.Filling.{ListsOn}
-use Rattle.thy_recover.specs.Filling.{IsEmpty, filling_one}
+use Rattle.thy_recover.specs.Filling.{IsEmpty, filling_dual}
 use Rattle.thy_recover.specs.Listed.{HaveFirst, ListsUpTo, AsListed, HasCounts}
 
 -- a slot of either version has the record and the tables, and fits into the room
@@ -48,7 +48,7 @@ blocks_of-take bytes n inside =
 
 -- those of the slot in its room
 pub slot_is_first : (p : Parameters) (commit : Block) (bytes : List ℕ) (size : ℕ) → length bytes ≡ 64 * slot_blocks p
-    → size ≡ 64 * blocks_of_slot (form_of commit) p → blocks_of (take size bytes) ≡ slot_bytes filling_one p commit bytes
+    → size ≡ 64 * blocks_of_slot (form_of commit) p → blocks_of (take size bytes) ≡ slot_bytes filling_dual p commit bytes
 slot_is_first p commit bytes size room is =
     let most = most_slot (form_of commit) p in
     ap (λ x. blocks_of (take x bytes)) is
@@ -117,7 +117,7 @@ all_listed i j t u bi pj h =
     ∙ ap (λ (x : List (Option ℕ)). record t { ptt = x }) (ext_get_or None u.ptt t.ptt h.ptt_length (λ k l. h.pages k (omega (arith, l, h.ptt_length, pj))))
 
 pub lists_on : (p : Parameters) (commit : Block) (slot : List Block) (c d e : State) → c.p ≡ p → AreSoundTables e
-    → AsListed p.btt p.ptt (tables_in p slot) c d → HasCounts (form_of commit) p slot d e → ListsOn filling_one commit slot c e
+    → AsListed p.btt p.ptt (tables_in p slot) c d → HasCounts (form_of commit) p slot d e → ListsOn filling_dual commit slot c e
 lists_on p commit slot c d e same tables l h =
     let same_p : d.p ≡ c.p = ap (λ (x : State). x.p) l.same in
     let then_p : e.p ≡ d.p = ap (λ (x : State). x.p) h.same in

@@ -22,12 +22,12 @@ use Rattle.thy_control.specs.Stays.{HoldAll}
 use Rattle.thy_view.specs.Origin.{Origin, IsOrigin, at}
 use Rattle.thy_view.specs.Safe.{ceiling}
 use Rattle.thy_protocol.specs.Keeps.{Keeps}
-use Rattle.thy_protocol.specs.Remapped.{layout_of}
+use Rattle.thy_protocol.specs.DualLayouts.{layout_of}
 use Rattle.thy_boot.specs.declared.stage.Stage.TheVariants.{Over}
 use Rattle.thy_boot.specs.declared.stage.End.TheVariants.{Restored, Loaded}
 use Rattle.thy_boot.specs.Boot.{Booting, slot_read}
-use Rattle.thy_boot.specs.Sound.{BootImages, start_mark, IsSound}
-use Rattle.thy_recover.specs.Filling.{loads, filling_one}
+use Rattle.thy_boot.specs.Sound.{BootImages, start_mark, IsSoundBoot}
+use Rattle.thy_recover.specs.Filling.{loads, filling_dual}
 use Rattle.thy_recover.specs.Start.{start_blocks, no_tables}
 
 -- over a device the controller has the state of a mark: memory as it loads it and this processor make it, and the next
@@ -52,9 +52,9 @@ pub record IsBooted (o : Origin) (m : Mark) (cpu : CpuState) (form : Form) (imag
 abbrev pub RestoredIsBooted : Type 0
 RestoredIsBooted =
     (o : Origin) (g : BootImages) (n : Device) (b : Booting) (c : State)
-    → IsOrigin o → IsSound filling_one o g n b c → b.stage ≡ Over Restored
+    → IsOrigin o → IsSoundBoot filling_dual o g n b c → b.stage ≡ Over Restored
     → (m : Mark) × (g.kept ≡ Some m) × (m.epoch ≡ epoch_of b.commit) × Keeps o (layout_of o) n (Kept g.before) (Some m) None
-    × IsBooted o m (cpu_of_record (slot_read filling_one b)) (form_of b.commit) g.before n c
+    × IsBooted o m (cpu_of_record (slot_read filling_dual b)) (form_of b.commit) g.before n c
 
 -- after loading these are the start's, with tables that list nothing
 pub record IsStarted (o : Origin) (g : BootImages) (n : Device) (c : State) : Type 0 where
@@ -66,4 +66,4 @@ pub record IsStarted (o : Origin) (g : BootImages) (n : Device) (c : State) : Ty
 abbrev pub LoadedIsStarted : Type 0
 LoadedIsStarted =
     (o : Origin) (g : BootImages) (n : Device) (b : Booting) (c : State)
-    → IsOrigin o → IsSound filling_one o g n b c → b.stage ≡ Over Loaded → IsStarted o g n c
+    → IsOrigin o → IsSoundBoot filling_dual o g n b c → b.stage ≡ Over Loaded → IsStarted o g n c

@@ -23,8 +23,8 @@ use Rattle.thy_control.specs.CheckpointTables.{tables0}
 use Rattle.thy_control.specs.Drains.{after_drain}
 use Rattle.thy_control.specs.Stays.{HoldAll}
 use Rattle.thy_view.specs.Safe.{ceiling}
-use Rattle.thy_protocol.specs.Remapped.{remapped}
-use Rattle.thy_protocol.specs.RemappedParts.{parts_by}
+use Rattle.thy_protocol.specs.DualLayouts.{dual_layouts}
+use Rattle.thy_protocol.specs.DualParts.{parts_by}
 use Rattle.thy_boot.specs.Filling.{FillingOf, First}
 use Rattle.thy_recover.specs.Start.{IsStartFor, start_blocks, no_tables, no_counts}
 
@@ -87,9 +87,9 @@ pub record HasFilled (c e : State) : Type 0 where
   pub most : e.dram.queued ≤ c.dram.queued + 1
   pub counts : e.counts.counts ≡ c.counts.counts
 
-abbrev pub filling_one : FillingOf State
-filling_one = record {
-  layouts = remapped;
+abbrev pub filling_dual : FillingOf State
+filling_dual = record {
+  layouts = dual_layouts;
   most_slot = slot_blocks;
   cpu_in = cpu_of_record;
   p = λ c. c.p;

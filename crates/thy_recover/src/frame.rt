@@ -4,7 +4,7 @@ ghost use Rattle.thy_base.specs.Device.{newest};
 ghost use Rattle.thy_base.specs.Places.{image_blocks};
 ghost use Rattle.thy_boot.specs.Filling.{IsNext};
 ghost use Rattle.thy_boot.specs.Loads.{Takes};
-ghost use Rattle.thy_recover.specs.Filling.{page_place, with_filled, filling_one};
+ghost use Rattle.thy_recover.specs.Filling.{page_place, with_filled, filling_dual};
 ghost use Rattle.thy_view.specs.Action.{ReadAt};
 
 use thy_base::{Block, Nvm, NvmError};
@@ -17,7 +17,7 @@ pub fn fill<N: Nvm>(
     k: u64,
     nvm: &mut N,
 ) -> Result<(), NvmError>
-    requires next { IsNext filling_one commit.now control.old k }
+    requires next { IsNext filling_dual commit.now control.old k }
     requires sized { length (N.device nvm.old).image ≡ image_blocks control.old.p }
     ensures ok { let block = newest (N.device nvm.old) (page_place control.old k) in
         OnOk result (control.new ≡ with_filled k block control.old) }

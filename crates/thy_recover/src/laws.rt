@@ -1,11 +1,11 @@
 //! Laws of this scheme's boot, each the contract of a function that does nothing.
 ghost use Rattle.thy_boot.specs.Filling.{IsFilling};
 ghost use Rattle.thy_recover.specs.Booted.{RestoredIsBooted, LoadedIsStarted};
-ghost use Rattle.thy_recover.specs.Filling.{filling_one};
+ghost use Rattle.thy_recover.specs.Filling.{filling_dual};
 
 /// The laws of what the boot fills hold of this scheme.
 pub fn the_filling_is_lawful()
-    ensures { IsFilling filling_one }
+    ensures { IsFilling filling_dual }
 {}
 
 /// A restart is that of the mark that is kept, in the version that the commit block names, and the controller has its

@@ -1,9 +1,9 @@
 //! This scheme's part of the boot: how a slot of either version is listed by the controller, how the frames of its pages are
-//! filled, and what a start makes of an empty NVM. The boot itself is thy_boot's, over `filling_one`; the scheme above says
+//! filled, and what a start makes of an empty NVM. The boot itself is thy_boot's, over `filling_dual`; the scheme above says
 //! so (`Fills` in thy_dual).
 //!
 //! Open specs/Filling.antt first, then specs/Booted.antt, and src/listing.rt. It depends on thy_control, thy_boot and their
-//! dependencies; thy_dual_model and thy_dual depend on it.
+//! dependencies; thy_dual_laws and thy_dual depend on it.
 #![tactic(auto)]
 
 mod counts;

@@ -11,7 +11,7 @@ ghost use Rattle.thy_record.specs.Slots.{tables_in, slot_fault as fault_of_slot}
 ghost use Rattle.thy_record.specs.Tables.{IsTables};
 ghost use Rattle.thy_table.specs.Listing.{first_from};
 ghost use Rattle.thy_view.specs.Safe.{ceiling};
-ghost use Rattle.thy_recover.specs.Filling.{IsEmpty, next_position, filling_one};
+ghost use Rattle.thy_recover.specs.Filling.{IsEmpty, next_position, filling_dual};
 ghost use Rattle.thy_recover.specs.Listed.{ListsUpTo, AsListed};
 
 use crate::counts::list_counts;
@@ -29,7 +29,7 @@ pub const CEILING: u64 = 9_223_372_036_854_775_808;
 fn slot_of<'a>(geometry: &Geometry, commit: &Block, room: &'a [u8]) -> &'a [u8]
     requires { length room.now ≡ 64 * slot_blocks geometry.now }
     ensures length { length result.now ≡ 64 * blocks_of_slot (form_named commit.now) geometry.now }
-    ensures blocks { blocks_of result.now ≡ slot_bytes filling_one geometry.now commit.now room.now }
+    ensures blocks { blocks_of result.now ≡ slot_bytes filling_dual geometry.now commit.now room.now }
 {
     let size = BLOCK_SIZE * geometry.slot_blocks_of(form_of(commit)) as usize;
     &room[..size]
@@ -38,7 +38,7 @@ fn slot_of<'a>(geometry: &Geometry, commit: &Block, room: &'a [u8]) -> &'a [u8]
 /// The fault of a slot.
 pub fn fault_of_slot(geometry: &Geometry, commit: &Block, slot: &[u8]) -> Option<BadImage>
     requires { length slot.now ≡ 64 * slot_blocks geometry.now }
-    ensures { let blocks = slot_bytes filling_one geometry.now commit.now slot.now in
+    ensures { let blocks = slot_bytes filling_dual geometry.now commit.now slot.now in
         result ≡ fault_of_slot (form_named commit.now) geometry.now ceiling (epoch_of commit.now) blocks }
 {
     let blocks = slot_of(geometry, commit, slot);
@@ -48,7 +48,7 @@ pub fn fault_of_slot(geometry: &Geometry, commit: &Block, slot: &[u8]) -> Option
 /// The processor of a slot.
 pub fn cpu_of_slot(geometry: &Geometry, commit: &Block, slot: &[u8]) -> CpuState
     requires { length slot.now ≡ 64 * slot_blocks geometry.now }
-    ensures { result ≡ cpu_of_record (slot_bytes filling_one geometry.now commit.now slot.now) }
+    ensures { result ≡ cpu_of_record (slot_bytes filling_dual geometry.now commit.now slot.now) }
 {
     cpu_in(slot_of(geometry, commit, slot))
 }
@@ -56,7 +56,7 @@ pub fn cpu_of_slot(geometry: &Geometry, commit: &Block, slot: &[u8]) -> CpuState
 /// Block `k` of a slot; past its end that is a block of zeros.
 pub fn slot_block(geometry: &Geometry, commit: &Block, slot: &[u8], k: u64) -> Block
     requires { length slot.now ≡ 64 * slot_blocks geometry.now }
-    ensures { result ≡ block_at (slot_bytes filling_one geometry.now commit.now slot.now) k }
+    ensures { result ≡ block_at (slot_bytes filling_dual geometry.now commit.now slot.now) k }
 {
     let blocks = slot_of(geometry, commit, slot);
     if k < (blocks.len() / BLOCK_SIZE) as u64 {
@@ -69,7 +69,7 @@ pub fn slot_block(geometry: &Geometry, commit: &Block, slot: &[u8], k: u64) -> B
 /// The first position from one on that has to be filled: a block of a page that is listed.
 pub fn next_fill(geometry: &Geometry, commit: &Block, slot: &[u8], from: u64) -> Option<u64>
     requires { length slot.now ≡ 64 * slot_blocks geometry.now }
-    ensures { result ≡ next_position geometry.now (slot_bytes filling_one geometry.now commit.now slot.now) from }
+    ensures { result ≡ next_position geometry.now (slot_bytes filling_dual geometry.now commit.now slot.now) from }
 {
     let _numbers = geometry.numbers();
     let blocks = slot_of(geometry, commit, slot);
@@ -84,9 +84,9 @@ pub fn list_slot(geometry: &Geometry, commit: &Block, slot: &[u8], control: &mut
     requires room { length slot.now ≡ 64 * slot_blocks geometry.now }
     requires geometry { control.old.p ≡ geometry.now }
     requires fresh { IsEmpty control.old }
-    requires fits { let blocks = slot_bytes filling_one geometry.now commit.now slot.now in
+    requires fits { let blocks = slot_bytes filling_dual geometry.now commit.now slot.now in
         fault_of_slot (form_named commit.now) geometry.now ceiling (epoch_of commit.now) blocks ≡ None }
-    ensures { ListsOn filling_one commit.now (slot_bytes filling_one geometry.now commit.now slot.now) control.old control.new }
+    ensures { ListsOn filling_dual commit.now (slot_bytes filling_dual geometry.now commit.now slot.now) control.old control.new }
 {
     faultless_tables();
     let blocks = slot_of(geometry, commit, slot);

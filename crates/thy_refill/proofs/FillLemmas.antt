@@ -22,7 +22,7 @@ use Rattle.thy_boot.proofs.ReadLemmas.{newest-settled}
 use Rattle.thy_view.specs.Safe.{ceiling}
 use Rattle.thy_journal_image.specs.Places.{image_blocks, home_place, journal_place, place_by, place_of}
 use Rattle.thy_journal_image.specs.Slots.{table_in}
-use Rattle.thy_journal_image.specs.Layout.{journaled}
+use Rattle.thy_journal_image.specs.Layout.{journal_layouts}
 use Rattle.thy_log.specs.Holding.{works}
 use Rattle.thy_log.specs.State.{State, IsSoundState, table_of, entry_for, buffer_of, work_by, work_of}
 use Rattle.thy_log.specs.Stores.{put_into}
@@ -136,7 +136,7 @@ module _ (s : State) (n : Device) (slot : List Block) (listed : HasListed slot s
 
   -- ---- all is filled
 
-  module _ (settled : n.queue ≡ []) (slot_is : slot_in (journaled s.p ceiling) n.image ≡ slot) (whole : AreFilled s n s.p.btt) where
+  module _ (settled : n.queue ≡ []) (slot_is : slot_in (journal_layouts s.p ceiling) n.image ≡ slot) (whole : AreFilled s n s.p.btt) where
     abbrev named : ℕ
     named = slot_named (block_at n.image 1)
 
@@ -147,16 +147,16 @@ module _ (s : State) (n : Device) (slot : List Block) (listed : HasListed slot s
         let lists : Lists (table_of s) i b = entry_of-Some (table_of s) b i is in
         whole.each i b (entry_inside i b lists) lists ∙ newest-settled n (journal_place s.p named i) settled
 
-    work_placed : (b : ℕ) → work_of s n b ≡ block_at n.image (place_of s.p named (table_in s.p (slot_in (journaled s.p ceiling) n.image)) b)
+    work_placed : (b : ℕ) → work_of s n b ≡ block_at n.image (place_of s.p named (table_in s.p (slot_in (journal_layouts s.p ceiling) n.image)) b)
     work_placed b =
         ap (work_by s n b) (sym (entry_for-is s b listed.state))
         ∙ work_stands b (entry_of (table_of s) b) refl
         ∙ ap (λ (t : List (Option ℕ)). block_at n.image (place_of s.p named t b)) (listed.table ∙ ap (table_in s.p) (sym slot_is))
 
-    pub works_are_memory : works s n ≡ memory_in (journaled s.p ceiling) n.image
+    pub works_are_memory : works s n ≡ memory_in (journal_layouts s.p ceiling) n.image
     works_are_memory =
         map-alike (work_of s n)
-        (λ (b : ℕ). block_at n.image (place_of s.p named (table_in s.p (slot_in (journaled s.p ceiling) n.image)) b))
+        (λ (b : ℕ). block_at n.image (place_of s.p named (table_in s.p (slot_in (journal_layouts s.p ceiling) n.image)) b))
         (range_with_len 0 (memory_blocks s.p)) (λ b inside. work_placed b)
-        ∙ map_twice (block_at n.image) (place_of s.p named (table_in s.p (slot_in (journaled s.p ceiling) n.image)))
+        ∙ map_twice (block_at n.image) (place_of s.p named (table_in s.p (slot_in (journal_layouts s.p ceiling) n.image)))
         (range_with_len 0 (memory_blocks s.p))

@@ -25,8 +25,8 @@ use Rattle.thy_journal_image.specs.Places.{home_place, place_by, place_of}
 use Rattle.thy_journal_image.specs.Header.{header_of}
 use Rattle.thy_journal_image.specs.Commit.{commit_of}
 use Rattle.thy_journal_image.specs.Slots.{IsTable}
-use Rattle.thy_journal_image.specs.Layout.{journaled}
-use Rattle.thy_journal_image.specs.Parts.{memory_places, parts_by, ReadsBack}
+use Rattle.thy_journal_image.specs.Layout.{journal_layouts}
+use Rattle.thy_journal_image.specs.CheckpointParts.{memory_places, parts_by, ReadsBack}
 use Rattle.thy_journal_image.proofs.HeadLemmas.{header_fault-header_of}
 use Rattle.thy_journal_image.proofs.SlotLemmas.{lists_none}
 use Rattle.thy_journal_image.proofs.PartsLemmas.{length-memory_places, memory_place, parts_of, no_fault, back}
@@ -52,10 +52,10 @@ place_of-no_table p s b = ap (place_by p s b) (entry_of-absent (no_table p) b (�
 -- ---- the start's checkpoint
 
 module _ (p : Parameters) (s : Plain) (h : CanStart p s) where
-  pub start_parts : ArePartsOf (journaled p ceiling) (commit_of 0) (parts_by p (cpu_of s) (no_table p) 0)
+  pub start_parts : ArePartsOf (journal_layouts p ceiling) (commit_of 0) (parts_by p (cpu_of s) (no_table p) 0)
   start_parts = parts_of p ceiling (cpu_of s) (no_table p) 0 h.geometry h.recordable (omega arith) (omega arith) (IsTable-none p)
 
-  pub start_faultless : fault_of (journaled p ceiling) true (header_of p) (commit_of 0) (slot_of (parts_by p (cpu_of s) (no_table p) 0)) ≡ None
+  pub start_faultless : fault_of (journal_layouts p ceiling) true (header_of p) (commit_of 0) (slot_of (parts_by p (cpu_of s) (no_table p) 0)) ≡ None
   start_faultless =
       no_fault p ceiling (cpu_of s) (no_table p) 0 h.geometry h.recordable (omega arith) (omega arith) (IsTable-none p) (header_of p)
       (header_fault-header_of p h.geometry)

@@ -15,8 +15,8 @@ use Rattle.thy_journal_image.specs.Places.{slot_blocks, journal_place}
 use Rattle.thy_journal_image.specs.Header.{header_of}
 use Rattle.thy_journal_image.specs.Commit.{commit_of}
 use Rattle.thy_journal_image.specs.Slots.{table_in}
-use Rattle.thy_journal_image.specs.Layout.{journaled}
-use Rattle.thy_journal_image.specs.Parts.{parts_by}
+use Rattle.thy_journal_image.specs.Layout.{journal_layouts}
+use Rattle.thy_journal_image.specs.CheckpointParts.{parts_by}
 use Rattle.thy_log.specs.Holding.{works}
 use Rattle.thy_log.specs.State.{State, IsSoundState, table_of, buffer_of}
 use Rattle.thy_log.specs.Stores.{after_drain, put_into}
@@ -59,7 +59,7 @@ first_of_start p s = record {
 
 abbrev pub filling_journal : FillingOf State
 filling_journal = record {
-  layouts = journaled;
+  layouts = journal_layouts;
   most_slot = slot_blocks;
   cpu_in = cpu_of_record;
   p = λ s. s.p;

@@ -75,7 +75,7 @@ abbrev pub due_in : Option (Buffer Write) → ℕ
 due_in queue = surplus (device_of (held_in [] queue))
 
 -- what holds of the parts
-pub record IsSound (image : List Block) (queue : Option (Buffer Write)) : Type 0 where
+pub record IsSoundRing (image : List Block) (queue : Option (Buffer Write)) : Type 0 where
   -- every queued write is for a place of the image
   pub placed : All (λ (w : Write). w.at < length image) (queued_in queue)
   -- a ring with blocks has room for a write

@@ -20,13 +20,13 @@ pub struct Ring {
 }
 
 impl Model for Ring {
-    ghost use Rattle.thy_ring.specs.Held.{Held, held_in, IsSound};
+    ghost use Rattle.thy_ring.specs.Held.{Held, held_in, IsSoundRing};
 
     ghost Value = { Held };
 
     ghost view = { λ r. held_in r.image.items r.queue };
 
-    ghost invariant = { λ r. IsSound r.image.items r.queue };
+    ghost invariant = { λ r. IsSoundRing r.image.items r.queue };
 }
 
 impl Ring {

@@ -125,8 +125,8 @@ other_in p t v m Run is agree f l = λ s sealed.
     (AgreeBelow-less p t s.count (reach v) (omega (arith, runs_to v is, sealed_below p v f.mark s follows)) agree) (l s sealed)
 other_in p t v m Halt is agree f l = λ s sealed. absurd (let both : None ≡ Some s = sym f.none ∙ sealed in cc)
 
-pub leads_on : (p : Origin) (t : List ℕ) (v : View) (m : Marks) → AgreeBelow p t (reach v) → Fits p v m → Leads p v m → Leads (told p t) v m
-leads_on p t v m agree h l = record {
+pub leads_retold : (p : Origin) (t : List ℕ) (v : View) (m : Marks) → AgreeBelow p t (reach v) → Fits p v m → Leads p v m → Leads (told p t) v m
+leads_retold p t v m agree h l = record {
   kept = λ k kept. leads_told p t m.kept_turns k.count (AgreeBelow-less p t k.count (reach v) (kept_within p v m h k kept) agree) (l.kept k kept);
   other = other_in p t v m v.phase refl agree h l.other;
 }

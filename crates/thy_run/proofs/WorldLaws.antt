@@ -38,7 +38,7 @@ use Rattle.thy_run.proofs.EventLaws.{Fits-events}
 use Rattle.thy_run.proofs.ImageLaws.{IsFound, ImagesFit, AllFit-events}
 use Rattle.thy_run.proofs.Leading.{LeadsTo, AreTold, Leads, told_zero, start_leads}
 use Rattle.thy_run.proofs.LeadingLaws.{Leads-events, Lawful-events}
-use Rattle.thy_run.proofs.RetellLaws.{fits_told, leads_on, images_told}
+use Rattle.thy_run.proofs.RetellLaws.{fits_told, leads_retold, images_told}
 use Rattle.thy_run.proofs.StepAlong.{core_of, told_after}
 use Rattle.thy_run.proofs.TellLaws.{after_same, kept_agrees, kept_told}
 use Rattle.thy_run.proofs.ImageLemmas.{AllFit-append}
@@ -126,7 +126,7 @@ module _ {M : Type 0} (K : KindOf M) (o : Origin) (w : World M) (least : 1 ≤ o
   fits_before x step = fits_told (line o w) x.turns (seen K o w) (marks_of o w.events) step.agree h.fits
 
   pub leads_before : (x : World M) → TakesStep K o w x → Leads (line o x) (seen K o w) (marks_of o w.events)
-  leads_before x step = leads_on (line o w) x.turns (seen K o w) (marks_of o w.events) step.agree h.fits h.leads
+  leads_before x step = leads_retold (line o w) x.turns (seen K o w) (marks_of o w.events) step.agree h.fits h.leads
 
   -- and a step that retires nothing leaves the turns
   pub told_before : (x : World M) (step : TakesStep K o w x) → retires step.r.did ≡ 0 → AreTold (line o x) (seen K o w)

@@ -250,7 +250,7 @@ fn long_shelf(alloc: Global) -> Result<MemShelf, AllocError> {
 }
 
 #[test]
-fn a_file_that_is_not_had_has_its_line(rt: HostRuntime) -> Result<(), Fail> {
+fn a_file_that_is_not_fetched_has_its_line(rt: HostRuntime) -> Result<(), Fail> {
     let alloc = rt.alloc();
     for line in ["thynvm run F", "thynvm plain F"] {
         let failing = MemShelf::new(files(alloc)?, Vec::from_slice(alloc, &[1])?);

@@ -1,3 +1,3 @@
-pub mod BehindLemmas
+pub mod SchemeStoreLemmas
 pub mod RecordLemmas
 pub mod FoundLemmas

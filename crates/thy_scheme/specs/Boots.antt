@@ -19,7 +19,7 @@ use Rattle.thy_view.specs.Origin.{Origin, at}
 use Rattle.thy_view.specs.Safe.{ceiling, Safe}
 use Rattle.thy_scheme.specs.declared.boot_step.BootStep.{BootStep}
 use Rattle.thy_scheme.specs.declared.boot_step.BootStep.TheVariants.{GoesOn, Loaded as IsLoaded, Restarted as IsRestarted, Refused as IsRefused}
-use Rattle.thy_scheme.specs.Marks.{only}
+use Rattle.thy_scheme.specs.CheckpointMarks.{only}
 use Rattle.thy_scheme.specs.Scheme.{SchemeOf}
 use Rattle.thy_scheme.specs.Calls.{queued_in}
 
@@ -44,7 +44,7 @@ pub record IsBooted {S : Type 0} (K : SchemeOf S) (o : Origin) (m : Mark) (cpu :
   pub recordable : IsRecordable o.geometry ceiling cpu
   pub closed : (K.holding t new).open_page ≡ None
   pub whole : K.promoting t ≡ false
-  pub rested : K.rested t ≡ true
+  pub storeless : K.storeless t ≡ true
 
 -- the program was loaded, as the checkpoint of epoch 0
 pub record Loads {S : Type 0} (K : SchemeOf S) (o : Origin) (s : S) (n : Device) (t : S) (new : Device) : Type 0 where

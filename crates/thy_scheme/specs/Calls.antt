@@ -18,7 +18,7 @@ use Rattle.thy_view.specs.Action.{Action, IsAccess, after, FailsTo, Acts, Action
 use Rattle.thy_view.specs.Dram.{ActsOnDram, WritesBlock}
 use Rattle.thy_view.specs.Origin.{Origin, at}
 use Rattle.thy_view.specs.Safe.{ceiling, Safe}
-use Rattle.thy_scheme.specs.Marks.{Marks, doubt_in, marks_after, marks_after_fault}
+use Rattle.thy_scheme.specs.CheckpointMarks.{CheckpointMarks, doubt_in, marks_after, marks_after_fault}
 use Rattle.thy_scheme.specs.Scheme.{SchemeOf}
 
 -- ---- loads and stores
@@ -75,8 +75,8 @@ pub record Keeps {S : Type 0} (K : SchemeOf S) (s : S) (n : Device) (t : S) (new
   pub held : HoldsSame (K.holding s n) (K.holding t new)
   pub left : KeepsLeft K s n t new
   pub whole : K.promoting s ≡ false → K.promoting t ≡ false
-  pub rested : K.rested t ≡ K.rested s
-  pub lean : K.lean t ≡ K.lean s
+  pub storeless : K.storeless t ≡ K.storeless s
+  pub sealed_storeless : K.sealed_storeless t ≡ K.sealed_storeless s
 
 -- no more copies are owed than before
 abbrev pub OwesNoMore : {S : Type 0} → SchemeOf S → S → Device → S → Device → Type 0
@@ -85,7 +85,7 @@ OwesNoMore K s n t new = (K.holding t new).owed ≤ (K.holding s n).owed
 -- ---- the calls
 
 -- one block is merged into its page
-pub record Merges {S : Type 0} (K : SchemeOf S) (o : Origin) (k : Marks) (s : S) (n : Device) (t : S) : Type 0 where
+pub record Merges {S : Type 0} (K : SchemeOf S) (o : Origin) (k : CheckpointMarks) (s : S) (n : Device) (t : S) : Type 0 where
   pub sound : K.is_sound o k t n
   pub keeps : Keeps K s n t n
   pub owes : OwesNoMore K s n t n
@@ -94,7 +94,7 @@ pub record Merges {S : Type 0} (K : SchemeOf S) (o : Origin) (k : Marks) (s : S)
   pub nearer : K.merges_left t + 1 ≡ K.merges_left s
 
 -- one block of a page is promoted: it is written
-pub record Promotes {S : Type 0} (K : SchemeOf S) (o : Origin) (k : Marks) (s : S) (n : Device) (t : S) (new : Device) : Type 0 where
+pub record Promotes {S : Type 0} (K : SchemeOf S) (o : Origin) (k : CheckpointMarks) (s : S) (n : Device) (t : S) (new : Device) : Type 0 where
   pub sound : K.is_sound o k t new
   pub keeps : Keeps K s n t new
   pub owes : OwesNoMore K s n t new
@@ -116,7 +116,7 @@ pub record TakesNoAction {S T : Type 0} (result : Result T NvmError) (s : S) (n 
   pub nvm : new ≡ n
 
 -- one write of the DRAM lands
-pub record Drains {S : Type 0} (K : SchemeOf S) (o : Origin) (k : Marks) (s : S) (n : Device) (t : S) : Type 0 where
+pub record Drains {S : Type 0} (K : SchemeOf S) (o : Origin) (k : CheckpointMarks) (s : S) (n : Device) (t : S) : Type 0 where
   pub sound : K.is_sound o k t n
   pub keeps : Keeps K s n t n
   pub owes : OwesNoMore K s n t n
@@ -124,7 +124,7 @@ pub record Drains {S : Type 0} (K : SchemeOf S) (o : Origin) (k : Marks) (s : S)
   pub queue : K.queued t + 1 ≡ K.queued s
 
 -- the machine is at a mark, whose checkpoint comes next
-pub record IsTaken (o : Origin) (k : Marks) (cpu : CpuState) (epoch : ℕ) (m : Mark) (held : Holding) : Type 0 where
+pub record IsTaken (o : Origin) (k : CheckpointMarks) (cpu : CpuState) (epoch : ℕ) (m : Mark) (held : Holding) : Type 0 where
   pub unsealed : k.sealed ≡ None
   pub unwritten : k.written ≡ false
   pub next : epoch ≡ k.done.epoch + 1
@@ -135,17 +135,17 @@ pub record IsTaken (o : Origin) (k : Marks) (cpu : CpuState) (epoch : ℕ) (m : 
   pub counted : (at o m.count).count ≡ m.count
 
 -- an epoch is sealed, and its checkpoint is under way
-pub record Seals {S : Type 0} (K : SchemeOf S) (o : Origin) (k : Marks) (cpu : CpuState) (epoch : ℕ) (s : S) (n : Device) (t : S) : Type 0 where
+pub record Seals {S : Type 0} (K : SchemeOf S) (o : Origin) (k : CheckpointMarks) (cpu : CpuState) (epoch : ℕ) (s : S) (n : Device) (t : S) : Type 0 where
   pub sound : (m : Mark) → IsTaken o k cpu epoch m (K.holding s n) → K.is_sound o (record k { sealed = Some m }) t n
   pub held : HoldsSame (K.holding s n) (K.holding t n)
   pub dram : K.dram t ≡ K.dram s
   pub queue : K.queued t ≡ K.queued s
-  pub rested : K.rested t ≡ true
-  pub lean : K.lean t ≡ K.rested s
+  pub storeless : K.storeless t ≡ true
+  pub sealed_storeless : K.sealed_storeless t ≡ K.storeless s
 
 -- a step of the engine is due: the commit block is written and the epoch committed only while an epoch is sealed, in
 -- this order; the other steps also apply what a committed checkpoint has written
-abbrev pub IsDue : EngineStep → Marks → Type 0
+abbrev pub IsDue : EngineStep → CheckpointMarks → Type 0
 IsDue Idle k = ⊥
 IsDue CommitWritten k = (m : Mark) × (k.sealed ≡ Some m)
 IsDue (Committed epoch) k = (k.written ≡ true) × ((m : Mark) × (k.sealed ≡ Some m) × (m.epoch ≡ epoch))
@@ -162,7 +162,7 @@ OwesAfter (Committed epoch) K s n t new = Unit {0}
 OwesAfter step K s n t new = OwesNoMore K s n t new
 
 -- a step of the engine
-pub record Engines {S : Type 0} (K : SchemeOf S) (o : Origin) (k : Marks) (step : EngineStep) (s : S) (n : Device) (t : S) (new : Device) : Type 0 where
+pub record Engines {S : Type 0} (K : SchemeOf S) (o : Origin) (k : CheckpointMarks) (step : EngineStep) (s : S) (n : Device) (t : S) (new : Device) : Type 0 where
   pub due : IsDue step k
   pub sound : K.is_sound o (marks_after step k) t new
   pub keeps : Keeps K s n t new
@@ -174,7 +174,7 @@ pub record Engines {S : Type 0} (K : SchemeOf S) (o : Origin) (k : Marks) (step 
 
 -- that failed in its action, and leaves the committed checkpoint, whole, or the sealed one, if its commit block was written
 -- before or this was its write
-pub record EngineFails {S : Type 0} (K : SchemeOf S) (o : Origin) (k : Marks) (n new : Device) : Type 0 where
+pub record EngineFails {S : Type 0} (K : SchemeOf S) (o : Origin) (k : CheckpointMarks) (n new : Device) : Type 0 where
   pub step : EngineStep
   pub acted : (lap : ℕ) → ActionFailed (engine_did lap step) n new
   pub safe : Safe K.decode o (Some k.done) (doubt_in (marks_after_fault step k)) new

@@ -13,7 +13,7 @@ use Rattle.thy_view.specs.Origin.{Origin, IsOrigin, at}
 use Rattle.thy_view.specs.Safe.{ceiling, Safe}
 use Rattle.thy_view.specs.Told.{told}
 use Rattle.thy_view.specs.Views.{doubt_of}
-use Rattle.thy_scheme.specs.Marks.{Marks, doubt_in}
+use Rattle.thy_scheme.specs.CheckpointMarks.{CheckpointMarks, doubt_in}
 use Rattle.thy_scheme.specs.Scheme.{SchemeOf, Stands, IsBooting, StaysOf}
 use Rattle.thy_scheme.specs.Calls.{owed_in, Keeps, OwesNoMore}
 use Rattle.thy_scheme.specs.Boots.{IsBootView, BootStays}
@@ -67,7 +67,7 @@ pub record IsCommitted {S : Type 0} (K : SchemeOf S) (o : Origin) (count : ℕ) 
   pub state : state_from o.geometry cpu (K.committed s n) ≡ at o count
 
 -- what holds after the boot, while the NVM is up
-pub record RunHolds {S : Type 0} (K : SchemeOf S) (o : Origin) (k : Marks) (s : S) (n : Device) : Type 0 where
+pub record RunHolds {S : Type 0} (K : SchemeOf S) (o : Origin) (k : CheckpointMarks) (s : S) (n : Device) : Type 0 where
   pub of_geometry : K.is_of o.geometry s
   pub sized : length n.image ≡ K.blocks o.geometry
   pub safe : Safe K.decode o (Some k.done) (doubt_in k) n
@@ -80,7 +80,7 @@ pub record RunHolds {S : Type 0} (K : SchemeOf S) (o : Origin) (k : Marks) (s : 
   pub promotions : K.promoting s ≡ false → K.promotions_left s ≡ 0
   pub bounded : IsBounded K o.geometry s n
   -- once an epoch without a store is committed, the next one has room for an instruction
-  pub room : K.lean s ≡ true → K.rested s ≡ true → K.under_way s ≡ false → 2 ≤ K.free s
+  pub room : K.sealed_storeless s ≡ true → K.storeless s ≡ true → K.under_way s ≡ false → 2 ≤ K.free s
   pub committed : IsCommitted K o k.done.count s n
   -- a write of the NVM lands
   pub drained_sound : 0 < length n.queue → K.is_sound o k s (drained n)
@@ -92,13 +92,13 @@ abbrev pub is_free_to_run : {S : Type 0} → SchemeOf S → S → Bool
 is_free_to_run K s = K.overlaps || not (K.under_way s)
 
 -- loads and stores keep the checkpoints, and add nothing to the work of the engine or of the next commit
-pub record StaysSound {S : Type 0} (K : SchemeOf S) (o : Origin) (k : Marks) (s : S) (t : S) (new : Device) : Type 0 where
+pub record StaysSound {S : Type 0} (K : SchemeOf S) (o : Origin) (k : CheckpointMarks) (s : S) (t : S) (new : Device) : Type 0 where
   pub sound : new.down ≡ false → K.is_sound o k t new
   pub safe : Safe K.decode o (Some k.done) (doubt_in k) new
   pub way : K.under_way t ≡ K.under_way s
   pub engine : K.engine_left t ≤ K.engine_left s
   pub owed_later : K.owed_later t ≤ K.owed_later s
-  pub lean : K.lean t ≡ K.lean s
+  pub sealed_storeless : K.sealed_storeless t ≡ K.sealed_storeless s
 
 pub record IsLawful {S : Type 0} (K : SchemeOf S) : Type 0 where
   -- power can come on
@@ -113,7 +113,7 @@ pub record IsLawful {S : Type 0} (K : SchemeOf S) : Type 0 where
   -- what is seen of it is the same with other turns
   pub boot_alike : (o : Origin) (turns : List ℕ) (s : S) (n : Device) → K.boot_view (told o turns) s n ≡ K.boot_view o s n
   -- after the boot
-  pub run_holds : (o : Origin) (k : Marks) (s : S) (n : Device) → Stands K o k s n → RunHolds K o k s n
+  pub run_holds : (o : Origin) (k : CheckpointMarks) (s : S) (n : Device) → Stands K o k s n → RunHolds K o k s n
   -- blocks are held only while the NVM is up, and are stored only if no page is being promoted
   pub up : (s : S) (n : Device) (b : ℕ) → b < length (K.holding s n).blocks → n.down ≡ false
   pub ready_up : (s : S) (n : Device) → (K.holding s n).ready ≡ true → n.down ≡ false
@@ -126,5 +126,5 @@ pub record IsLawful {S : Type 0} (K : SchemeOf S) : Type 0 where
   pub stays_on : (a : S) (m : Device) (b : S) (n : Device) (c : S) (o : Device)
       → K.stays a m b n → K.stays b n c o → K.stays a m c o
   pub stays_of : (s : S) (n : Device) (t : S) (new : Device) → K.stays s n t new → StaysOf K s t
-  pub stays_sound : (o : Origin) (k : Marks) (s : S) (n : Device) (t : S) (new : Device)
+  pub stays_sound : (o : Origin) (k : CheckpointMarks) (s : S) (n : Device) (t : S) (new : Device)
       → Stands K o k s n → is_free_to_run K s ≡ true → K.stays s n t new → StaysSound K o k s t new

@@ -1,6 +1,6 @@
-pub mod Marks
+pub mod CheckpointMarks
 pub mod Scheme
 pub mod Calls
 pub mod Boots
 pub mod Laws
-pub mod Behind
+pub mod SchemeStore

@@ -10,7 +10,7 @@ use Rattle.thy_record.specs.Decoded.{Reading}
 use Rattle.thy_record.specs.declared.start.Start.{Start}
 use Rattle.thy_view.specs.declared.view.View.{View}
 use Rattle.thy_view.specs.Origin.{Origin, Begins}
-use Rattle.thy_scheme.specs.Marks.{Marks}
+use Rattle.thy_scheme.specs.CheckpointMarks.{CheckpointMarks}
 
 -- what is seen of schemes of a type, over the NVM below them
 pub record SchemeOf (S : Type 0) : Type 1 where
@@ -35,9 +35,9 @@ pub record SchemeOf (S : Type 0) : Type 1 where
   -- a block of a page has still to be promoted before a store
   pub promoting : S → Bool
   -- no block was stored since the last seal
-  pub rested : S → Bool
+  pub storeless : S → Bool
   -- none was in the epoch that was sealed last
-  pub lean : S → Bool
+  pub sealed_storeless : S → Bool
   -- the hart may run while a checkpoint is under way
   pub overlaps : Bool
   -- what the DRAM holds, and the scheme is of a geometry, whatever failed: the DRAM has its size
@@ -49,7 +49,7 @@ pub record SchemeOf (S : Type 0) : Type 1 where
   -- copies that the next commit may add to those that are owed
   pub owed_later : S → ℕ
   -- after the boot: scheme and NVM have the checkpoints of these marks
-  pub is_sound : Origin → Marks → S → Device → Type 0
+  pub is_sound : Origin → CheckpointMarks → S → Device → Type 0
   -- in the boot: scheme and NVM have the checkpoint that is found, or load the program
   pub boots : Origin → S → Device → Type 0
   -- what is then seen of it, and whether the commit block was read
@@ -75,14 +75,14 @@ abbrev pub StaysOf : {S : Type 0} → SchemeOf S → S → S → Type 0
 StaysOf K s t = (p : Parameters) → K.is_of p s → K.is_of p t
 
 -- after the boot, over an NVM that is up
-pub record Stands {S : Type 0} (K : SchemeOf S) (o : Origin) (k : Marks) (s : S) (n : Device) : Type 0 where
+pub record Stands {S : Type 0} (K : SchemeOf S) (o : Origin) (k : CheckpointMarks) (s : S) (n : Device) : Type 0 where
   pub sound : K.is_sound o k s n
   pub up : n.down ≡ false
 
 -- so it is for some run
 pub record CanRun {S : Type 0} (K : SchemeOf S) (s : S) (n : Device) : Type 0 where
   pub o : Origin
-  pub k : Marks
+  pub k : CheckpointMarks
   pub stands : Stands K o k s n
 
 -- in the boot of a run, over an NVM that is up

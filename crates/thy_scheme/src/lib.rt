@@ -1,16 +1,16 @@
 //! What a scheme of checkpoints is to the machine: controller, checkpoint engine and boot as one trait, `Scheme`, and
-//! what each call promises for the checkpoints of a run. `Behind` makes a scheme the store of blocks for cache and
+//! what each call promises for the checkpoints of a run. `SchemeStore` makes a scheme the store of blocks for cache and
 //! hart.
 //!
 //! Open specs/Scheme.antt first, then specs/Calls.antt, and src/scheme.rt. It stands on thy_base, thy_flat, thy_isa,
-//! thy_dram, thy_record and thy_view; on it stand thy_core_model and thy_core, thy_dual_model and thy_dual, and
+//! thy_dram, thy_record and thy_view; on it stand thy_core_laws and thy_core, thy_dual_laws and thy_dual, and
 //! thy_cli.
 #![tactic(auto)]
 
-mod behind;
 mod boot_step;
 mod scheme;
+mod scheme_store;
 
-pub use behind::Behind;
 pub use boot_step::BootStep;
 pub use scheme::Scheme;
+pub use scheme_store::SchemeStore;

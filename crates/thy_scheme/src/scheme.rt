@@ -7,7 +7,7 @@ ghost use Rattle.thy_dram.specs.Contents.{lost};
 ghost use Rattle.thy_view.specs.Kind.{IsDramOf};
 ghost use Rattle.thy_view.specs.Origin.{Origin, Begins};
 ghost use Rattle.thy_view.specs.Views.{loads};
-ghost use Rattle.thy_scheme.specs.Marks.{Marks};
+ghost use Rattle.thy_scheme.specs.CheckpointMarks.{CheckpointMarks};
 ghost use Rattle.thy_scheme.specs.Scheme.{SchemeOf, StaysOf, Stands, CanRun, IsBooting, CanBoot};
 ghost use Rattle.thy_scheme.specs.Calls.{IsOneAccess, Stores, Merges, Promotes, PromotionFails, TakesNoAction, Drains, Seals, Engines, EngineFails};
 ghost use Rattle.thy_scheme.specs.Boots.{BootsOn, BootFails, BootDrains};
@@ -102,7 +102,7 @@ pub trait Scheme: Drop {
     /// Lets the oldest queued write of the DRAM land.
     fn drain(&mut self)
         requires { 0 < scheme.queued self.old }
-        ensures running { (o : Origin) (k : Marks) (n : Device) → Stands scheme o k self.old n → Drains scheme o k self.old n self.new }
+        ensures running { (o : Origin) (k : CheckpointMarks) (n : Device) → Stands scheme o k self.old n → Drains scheme o k self.old n self.new }
         ensures booting { (o : Origin) (n : Device) → IsBooting scheme o self.old n → BootDrains scheme o self.old n self.new };
 
     /// Merges a block into its page. Only before a seal, with no checkpoint under way. If no block has to be merged,
@@ -110,14 +110,14 @@ pub trait Scheme: Drop {
     fn merge_one(&mut self)
         requires idle { scheme.under_way self.old ≡ false }
         ensures some { scheme.overlaid self.old ≡ true
-            → (o : Origin) (k : Marks) (n : Device) → Stands scheme o k self.old n → Merges scheme o k self.old n self.new }
+            → (o : Origin) (k : CheckpointMarks) (n : Device) → Stands scheme o k self.old n → Merges scheme o k self.old n self.new }
         ensures none { scheme.overlaid self.old ≡ false → self.new ≡ self.old };
 
     /// Promotes a block of a page. If no block has to be promoted, it takes no action.
     fn promote_one<N: Nvm>(&mut self, nvm: &mut N) -> Result<(), NvmError>
         requires stands { CanRun scheme self.old (N.device nvm.old) }
         ensures ok { scheme.promoting self.old ≡ true
-            → (o : Origin) (k : Marks) → Stands scheme o k self.old (N.device nvm.old)
+            → (o : Origin) (k : CheckpointMarks) → Stands scheme o k self.old (N.device nvm.old)
             → OnOk result (Promotes scheme o k self.old (N.device nvm.old) self.new (N.device nvm.new)) }
         ensures none { scheme.promoting self.old ≡ false
             → TakesNoAction result self.old (N.device nvm.old) self.new (N.device nvm.new) }
@@ -132,16 +132,16 @@ pub trait Scheme: Drop {
         requires whole { scheme.promoting self.old ≡ false }
         requires bare { scheme.overlaid self.old ≡ false }
         requires regs { length cpu.now.regs ≡ 32 }
-        ensures { (o : Origin) (k : Marks) (n : Device) → Stands scheme o k self.old n
+        ensures { (o : Origin) (k : CheckpointMarks) (n : Device) → Stands scheme o k self.old n
             → Seals scheme o k cpu.now epoch self.old n self.new };
 
     /// Takes one action of the checkpoint that is under way.
     fn engine_step<N: Nvm>(&mut self, nvm: &mut N) -> Result<EngineStep, NvmError>
         requires way { scheme.under_way self.old ≡ true }
         requires stands { CanRun scheme self.old (N.device nvm.old) }
-        ensures ok { (o : Origin) (k : Marks) → Stands scheme o k self.old (N.device nvm.old)
+        ensures ok { (o : Origin) (k : CheckpointMarks) → Stands scheme o k self.old (N.device nvm.old)
             → IfOk result (λ step. Engines scheme o k step self.old (N.device nvm.old) self.new (N.device nvm.new)) }
-        ensures err { (o : Origin) (k : Marks) → Stands scheme o k self.old (N.device nvm.old)
+        ensures err { (o : Origin) (k : CheckpointMarks) → Stands scheme o k self.old (N.device nvm.old)
             → OnErr result (EngineFails scheme o k (N.device nvm.old) (N.device nvm.new)) }
         ensures left { OnErr result (StaysOf scheme self.old self.new) }
         ensures frame { IsFramed (N.device nvm.old) (N.device nvm.new) }

@@ -5,7 +5,7 @@ use Rattle.std.proofs.lemmas.Bool.{cases_Bool, cases_eq, cases_lt, eqb-true, eq-
 use Rattle.std.proofs.lemmas.List.{length-set, get_or-set_same, get_or-set_other, get_or_past, get_or_default}
 use Rattle.std.proofs.lemmas.List.Sums.{sum_by-set, sum_by-le, get_or-le-sum_by}
 use Rattle.std.proofs.lemmas.List.Quantifiers.{position-Some}
-use Rattle.thy_table.specs.Listing.{listing, lists, indexed_at, IsSound, IsListing}
+use Rattle.thy_table.specs.Listing.{listing, lists, indexed_at, IsSoundTable, IsListing}
 use Rattle.thy_table.proofs.FirstLemmas.{position-first, position-none, none-position}
 
 -- what is not none is some
@@ -70,7 +70,7 @@ module _ {E : Type 0} (key : E → ℕ) where
     | inr l ↦ let none : None ≡ Some i = sym (get_or_past places n None l) ∙ h in cc
   ]
 
-  module _ (es : List (Option E)) (places : List (Option ℕ)) (lowest free : ℕ) (sound : IsSound key es places lowest free) where
+  module _ (es : List (Option E)) (places : List (Option ℕ)) (lowest free : ℕ) (sound : IsSoundTable key es places lowest free) where
     -- a number is where the index has it
     pub position-indexed : (n : ℕ) → position (lists key n) es ≡ indexed_at places n
     position-indexed n = by_index (indexed_at places n) refl where
@@ -108,8 +108,8 @@ module _ {E : Type 0} (key : E → ℕ) where
         ])
 
     -- after an entry was put in the place of one with its key
-    pub IsSound-set : (i : ℕ) (e : E) → lists key (key e) (get_or es i None) ≡ true → IsSound key (slice_set es i (Some e)) places lowest free
-    IsSound-set i e was =
+    pub IsSoundTable-set : (i : ℕ) (e : E) → lists key (key e) (get_or es i None) ≡ true → IsSoundTable key (slice_set es i (Some e)) places lowest free
+    IsSoundTable-set i e was =
         let inside : i < length es = lists-inside es i (key e) was in
         let old = lists-some (key e) (get_or es i None) was in
         record {
@@ -136,8 +136,8 @@ module _ {E : Type 0} (key : E → ℕ) where
         }
 
     -- the lowest free place serves as the one below which none is free
-    pub IsSound-lowest : (i : ℕ) → position is_none es ≡ Some i → IsSound key es places i free
-    IsSound-lowest i lowest_free = record {
+    pub IsSoundTable-lowest : (i : ℕ) → position is_none es ≡ Some i → IsSoundTable key es places i free
+    IsSoundTable-lowest i lowest_free = record {
       listed = sound.listed;
       indexed = sound.indexed;
       full_below = λ j l. is_some-not_none (get_or es j None) ((position-Some is_none es i None lowest_free).2 j l);
@@ -150,9 +150,9 @@ module _ {E : Type 0} (key : E → ℕ) where
     some-free i inside was = omega (arith, sound.counted, get_or-le-sum_by free_one es i None inside, ap free_one was)
 
     -- after an entry was put in a free place
-    pub IsSound-put : (i : ℕ) (e : E) (raised : ℕ) → i < length es → get_or es i None ≡ None → indexed_at places (key e) ≡ None → key e < length places
-        → ((j : ℕ) → j < raised → j ≢ i → j < lowest) → IsSound key (slice_set es i (Some e)) (slice_set places (key e) (Some i)) raised (free - 1)
-    IsSound-put i e raised inside was unlisted room below =
+    pub IsSoundTable-put : (i : ℕ) (e : E) (raised : ℕ) → i < length es → get_or es i None ≡ None → indexed_at places (key e) ≡ None → key e < length places
+        → ((j : ℕ) → j < raised → j ≢ i → j < lowest) → IsSoundTable key (slice_set es i (Some e)) (slice_set places (key e) (Some i)) raised (free - 1)
+    IsSoundTable-put i e raised inside was unlisted room below =
         let now : get_or (slice_set es i (Some e)) i None ≡ Some e = get_or-set_same es i (Some e) None inside in
         record {
           listed = λ j n h. elim (cases_eq j i) as (λ _. indexed_at (slice_set places (key e) (Some i)) n ≡ Some j) [
@@ -183,8 +183,8 @@ module _ {E : Type 0} (key : E → ℕ) where
         }
 
     -- after an entry was cleared
-    pub IsSound-clear : (i : ℕ) (e : E) → get_or es i None ≡ Some e → IsSound key (slice_set es i None) (slice_set places (key e) None) (min lowest i) (free + 1)
-    IsSound-clear i e was =
+    pub IsSoundTable-clear : (i : ℕ) (e : E) → get_or es i None ≡ Some e → IsSoundTable key (slice_set es i None) (slice_set places (key e) None) (min lowest i) (free + 1)
+    IsSoundTable-clear i e was =
         let here : lists key (key e) (get_or es i None) ≡ true = lists-key (key e) (get_or es i None) e was refl in
         let inside : i < length es = lists-inside es i (key e) here in
         let index : indexed_at places (key e) ≡ Some i = sound.listed i (key e) here in

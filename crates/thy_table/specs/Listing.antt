@@ -83,7 +83,7 @@ module _ {E : Type 0} where
 
   -- what holds of the parts of a table: its entries, the places by number, a place that no free entry
   -- lies below, and a count
-  pub record IsSound (key : E → ℕ) (entries : List (Option E)) (places : List (Option ℕ)) (lowest free : ℕ) : Type 0 where
+  pub record IsSoundTable (key : E → ℕ) (entries : List (Option E)) (places : List (Option ℕ)) (lowest free : ℕ) : Type 0 where
     -- the index has a number at a place exactly if the entry there lists it
     pub listed : (i n : ℕ) → lists key n (slice_index_or entries i None) ≡ true → indexed_at places n ≡ Some i
     pub indexed : (i n : ℕ) → indexed_at places n ≡ Some i → lists key n (slice_index_or entries i None) ≡ true

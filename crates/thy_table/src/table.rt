@@ -20,7 +20,7 @@ pub struct Table<E: Keyed> {
 }
 
 impl<E: Keyed> Model for Table<E> {
-    ghost use Rattle.thy_table.specs.Listing.{Listing, listing, listing_code, IsSound};
+    ghost use Rattle.thy_table.specs.Listing.{Listing, listing, listing_code, IsSoundTable};
     ghost use Rattle.std.specs.Prelude.{length};
 
     ghost Value = { Listing E };
@@ -29,7 +29,7 @@ impl<E: Keyed> Model for Table<E> {
 
     ghost view = { λ t. listing t.entries.items (length t.places.items) };
 
-    ghost invariant = { λ t. IsSound E.key t.entries.items t.places.items t.lowest t.free };
+    ghost invariant = { λ t. IsSoundTable E.key t.entries.items t.places.items t.lowest t.free };
 }
 
 /// A list of this many `None`.

@@ -9,10 +9,10 @@ use Rattle.thy_commit.specs.Progress.{Progress, Fits, device_after, device_next,
 use Rattle.thy_control.specs.Seal.{sealed_state}
 use Rattle.thy_control.specs.State.{State}
 use Rattle.thy_control.specs.Stays.{Stays}
-use Rattle.thy_tests.specs.Memory.{Parts, IsMemory, HasRoom}
+use Rattle.thy_tests.specs.Memory.{MemoryParts, IsMemory, HasRoom}
 use Rattle.thy_tests.proofs.DrivenLemmas.{Drives-stays, Drives-sealed, down-copy, down-write}
 
-abbrev pub parts : Parameters → State → Progress → Device → ℕ → Parts
+abbrev pub parts : Parameters → State → Progress → Device → ℕ → MemoryParts
 parts p s e n cuts = record { p = p; control = s; engine = e; nvm = n; cuts = cuts }
 
 -- an item of the engine leaves the NVM up or down as it was

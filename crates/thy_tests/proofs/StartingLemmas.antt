@@ -23,7 +23,7 @@ use Rattle.thy_boot.specs.Steps.{Steps, StepsAt}
 use Rattle.thy_boot.proofs.ReadLemmas.{HasRead-new}
 use Rattle.thy_isa.specs.declared.state.Status.{Status}
 use Rattle.thy_record.specs.Cpu.{status_tag, status_value, is_status}
-use Rattle.thy_recover.specs.Filling.{CanStart, filling_one}
+use Rattle.thy_recover.specs.Filling.{CanStart, filling_dual}
 use Rattle.thy_recover.proofs.LiveLemmas.{IsFresh-new}
 use Rattle.thy_tests.specs.Beside.{all}
 use Rattle.thy_tests.specs.Boots.{Boots, IsLeastStart}
@@ -34,7 +34,7 @@ use Rattle.thy_tests.specs.Starting.{Off, IsOff, starting, IsStarting, is_refuse
 
 -- unless it refused, a boot that reads has a controller with no checkpoint under way
 idle-at : (stage : Stage) (n : Device) (b : Booting) (c : State)
-    → is_refused (answer_at filling_one stage b) ≡ false → HasReadAt filling_one stage n b c → c.under_way ≡ false
+    → is_refused (answer_at filling_dual stage b) ≡ false → HasReadAt filling_dual stage n b c → c.under_way ≡ false
 idle-at (Reads Unread) n b c told read = read.fresh.booting.idle
 idle-at (Reads Header) n b c told read = read.0.fresh.booting.idle
 idle-at (Reads (Slot next)) n b c told read = read.0.fresh.booting.idle
@@ -46,9 +46,9 @@ idle-at (Over Loaded) n b c told read = absurd read
 
 -- so it has after every step
 pub idle-step : (s : Plain) (n : Device) (b : Booting) (c : State) (m : Device) (d : Booting) (e : State)
-    → c.under_way ≡ false → Steps filling_one s n b c m d e → is_refused (answer_of filling_one d) ≡ false → e.under_way ≡ false
+    → c.under_way ≡ false → Steps filling_dual s n b c m d e → is_refused (answer_of filling_dual d) ≡ false → e.under_way ≡ false
 idle-step s n b c m d e idle steps told = by_stage b.stage steps where
-  by_stage : (q : Stage) → StepsAt filling_one q s n b c m d e → e.under_way ≡ false
+  by_stage : (q : Stage) → StepsAt filling_dual q s n b c m d e → e.under_way ≡ false
   by_stage (Reads r) on = idle-at d.stage m d e told on.read.so_far
   by_stage (Loads issue) on = ap (λ (t : State). t.under_way) on.control ∙ idle
   by_stage (Over end) on = absurd on
@@ -62,17 +62,17 @@ down-action Drain n = refl
 
 -- a step leaves the NVM up or down as it was, and the geometry
 pub down-step : (s : Plain) (n : Device) (b : Booting) (c : State) (m : Device) (d : Booting) (e : State)
-    → Steps filling_one s n b c m d e → m.down ≡ n.down
+    → Steps filling_dual s n b c m d e → m.down ≡ n.down
 down-step s n b c m d e steps = by_stage b.stage steps where
-  by_stage : (q : Stage) → StepsAt filling_one q s n b c m d e → m.down ≡ n.down
+  by_stage : (q : Stage) → StepsAt filling_dual q s n b c m d e → m.down ≡ n.down
   by_stage (Reads r) on = ap (λ (x : Device). x.down) on.device
-  by_stage (Loads issue) on = ap (λ (x : Device). x.down) on.device ∙ down-action (issue_action (filling_one.first b.p s) issue) n
+  by_stage (Loads issue) on = ap (λ (x : Device). x.down) on.device ∙ down-action (issue_action (filling_dual.first b.p s) issue) n
   by_stage (Over end) on = absurd on
 
 pub same-step : (s : Plain) (n : Device) (b : Booting) (c : State) (m : Device) (d : Booting) (e : State)
-    → Steps filling_one s n b c m d e → d.p ≡ b.p
+    → Steps filling_dual s n b c m d e → d.p ≡ b.p
 same-step s n b c m d e steps = by_stage b.stage steps where
-  by_stage : (q : Stage) → StepsAt filling_one q s n b c m d e → d.p ≡ b.p
+  by_stage : (q : Stage) → StepsAt filling_dual q s n b c m d e → d.p ≡ b.p
   by_stage (Reads r) on = on.same_p
   by_stage (Loads issue) on = ap (λ (x : Booting). x.p) on.boot
   by_stage (Over end) on = absurd on
@@ -84,24 +84,24 @@ off p dram n cuts = record { p = p; dram = dram; nvm = n; cuts = cuts }
 
 -- a machine whose power comes on boots
 pub Boots-new : (p : Parameters) (s : Plain) (dram : Contents) (n : Device) → CanStart p s → AreSoundTables (new_state p dram)
-    → length n.image ≡ image_blocks p → n.queue ≡ [] → n.down ≡ false → Boots s n (new_boot filling_one p) (new_state p dram)
+    → length n.image ≡ image_blocks p → n.queue ≡ [] → n.down ≡ false → Boots s n (new_boot filling_dual p) (new_state p dram)
 Boots-new p s dram n start tables sized settled up = record {
   start = start;
   up = up;
   same_p = refl;
   fits = record { room = length-replicate (64 * slot_blocks p) 0; there = tt };
-  may = HasRead-new filling_one p n (new_state p dram) (record { tables = tables; fresh = IsFresh-new p dram }) refl sized settled;
+  may = HasRead-new filling_dual p n (new_state p dram) (record { tables = tables; fresh = IsFresh-new p dram }) refl sized settled;
 }
 
-pub Boots-of : (p : Parameters) (s : Plain) (dram : Contents) (n : Device) (b : Booting) (c : State) → CanStart p s → b ≡ new_boot filling_one p
+pub Boots-of : (p : Parameters) (s : Plain) (dram : Contents) (n : Device) (b : Booting) (c : State) → CanStart p s → b ≡ new_boot filling_dual p
     → c ≡ new_state p dram → AreSoundTables c → length n.image ≡ image_blocks p → n.queue ≡ [] → n.down ≡ false → Boots s n b c
 Boots-of p s dram n b c start b_is c_is tables sized settled up =
     subst (λ (x : Booting). Boots s n x c) (sym b_is)
-    (subst (λ (x : State). Boots s n (new_boot filling_one p) x) (sym c_is)
+    (subst (λ (x : State). Boots s n (new_boot filling_dual p) x) (sym c_is)
     (Boots-new p s dram n start (subst (λ (x : State). AreSoundTables x) c_is tables) sized settled up))
 
 pub IsStarting-new : (p : Parameters) (s : Plain) (dram : Contents) (n : Device) (b : Booting) (c : State) (cuts : ℕ)
-    → IsOff (off p dram n cuts) → CanStart p s → b ≡ new_boot filling_one p → c ≡ new_state p dram → AreSoundTables c
+    → IsOff (off p dram n cuts) → CanStart p s → b ≡ new_boot filling_dual p → c ≡ new_state p dram → AreSoundTables c
     → IsStarting (starting p s b c n cuts)
 IsStarting-new p s dram n b c cuts w start b_is c_is tables = record {
   boots = Boots-of p s dram n b c start b_is c_is tables w.sized w.settled w.up;

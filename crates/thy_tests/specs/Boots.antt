@@ -10,15 +10,15 @@ use Rattle.thy_boot.specs.declared.stage.BootStep.TheVariants.{Reading, Loading}
 use Rattle.thy_boot.specs.Boot.{Booting, IsBoot}
 use Rattle.thy_boot.specs.Steps.{CanStep}
 use Rattle.thy_isa.specs.declared.state.Status.TheVariants.{Running}
-use Rattle.thy_recover.specs.Filling.{CanStart, filling_one}
+use Rattle.thy_recover.specs.Filling.{CanStart, filling_dual}
 
 -- it may take a step, with this start
 pub record Boots (s : Plain) (n : Device) (b : Booting) (c : State) : Type 0 where
   pub start : CanStart b.p s
   pub up : n.down ≡ false
   pub same_p : c.p ≡ b.p
-  pub fits : IsBoot filling_one b
-  pub may : CanStep filling_one s n b c
+  pub fits : IsBoot filling_dual b
+  pub may : CanStep filling_dual s n b c
 
 -- a start of the least memory, whose registers are zero
 pub record IsLeastStart (s : Plain) : Type 0 where

@@ -6,7 +6,7 @@ use Rattle.thy_commit.specs.Progress.{Progress, Fits}
 use Rattle.thy_control.specs.State.{State}
 use Rattle.thy_tests.specs.Driven.{Drives}
 
-pub record Parts : Type 0 where
+pub record MemoryParts : Type 0 where
   pub p : Parameters
   pub control : State
   pub engine : Progress
@@ -19,7 +19,7 @@ abbrev pub HasRoom : Device → ℕ → Type 0
 HasRoom n cuts = length n.left + cuts ≤ n.left_room
 
 -- the controller can be driven, and belongs together with its engine
-pub record IsMemory (m : Parts) : Type 0 where
+pub record IsMemory (m : MemoryParts) : Type 0 where
   pub same_p : m.control.p ≡ m.p
   pub drives : Drives m.control m.nvm
   pub fits : Fits m.engine m.control

@@ -29,9 +29,9 @@ pub(crate) struct Memory {
 }
 
 impl Model for Memory {
-    ghost use Rattle.thy_tests.specs.Memory.{Parts, IsMemory};
+    ghost use Rattle.thy_tests.specs.Memory.{MemoryParts, IsMemory};
 
-    ghost Value = { Parts };
+    ghost Value = { MemoryParts };
 
     ghost view = { λ m. record { p = m.geometry; control = m.control; engine = m.engine; nvm = m.nvm.device; cuts = m.cuts } };
 

@@ -4,7 +4,7 @@ use std::alloc::Global;
 use std::io;
 use std::io::{Error, ErrorKind, Read};
 use thy_base::FetchError;
-use thy_out::{Source, read_within};
+use thy_out::{CountedReader, read_within};
 
 /// Gives its bytes three a call, except for a call that a signal interrupts and one that fails.
 #[derive(Drop)]
@@ -37,7 +37,7 @@ fn within(alloc: Global, failing: u64, limit: u64) -> Result<Vec<u8>, FetchError
         calls: 0,
         failing,
     };
-    read_within(&mut Source::over(slow), alloc, limit)
+    read_within(&mut CountedReader::over(slow), alloc, limit)
 }
 
 #[test]

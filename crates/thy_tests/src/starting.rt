@@ -6,7 +6,7 @@ ghost use Rattle.thy_base.specs.Places.{dram_blocks};
 ghost use Rattle.thy_boot.specs.Boot.{new_boot};
 ghost use Rattle.thy_control.specs.State.{new_state};
 ghost use Rattle.thy_isa.specs.Step.{state_of};
-ghost use Rattle.thy_recover.specs.Filling.{filling_one};
+ghost use Rattle.thy_recover.specs.Filling.{filling_dual};
 ghost use Rattle.thy_tests.specs.Boots.{Boots, IsLeastStart, goes_on};
 ghost use Rattle.thy_tests.specs.Starting.{is_refused};
 
@@ -53,7 +53,7 @@ pub(crate) fn has_least_memory(rt: &impl Abort, geometry: &Geometry)
 }
 
 pub(crate) fn new_boot(rt: &impl Abort, alloc: Global, geometry: &Geometry) -> Boot
-    ensures { result ≡ new_boot filling_one geometry.now }
+    ensures { result ≡ new_boot filling_dual geometry.now }
 {
     Boot::new::<DualFills>(alloc, geometry).expect(rt, "memory")
 }

@@ -178,8 +178,8 @@ pub record LeavesSafe {M : Type 0} (K : KindOf M) (o : Origin) (pick : Pick) (m 
 
 -- From any moment of any run with this start, a step that succeeded is one. If it retired an instruction, that holds of the
 -- runs that give it to the hart that retired it: a machine can't know the turns to come.
-abbrev pub LeadsOn : {M : Type 0} → KindOf M → Start → Pick → M → M → Device → Device → Result Stepped NvmError → Type 0
-LeadsOn K start pick m next n new result =
+abbrev pub Simulates : {M : Type 0} → KindOf M → Start → Pick → M → M → Device → Device → Result Stepped NvmError → Type 0
+Simulates K start pick m next n new result =
     (o : Origin) (k : ℕ) → Begins o start → K.is_at o k m n → k < 2 ^ 62
     → IfOk result (λ r. IsThere o (K.view o m n) r.did × (HasTurn o (K.view o m n) r.did → IsStep K o k pick m next n new r))
 

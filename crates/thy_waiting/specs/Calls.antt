@@ -12,11 +12,11 @@ use Rattle.thy_record.specs.declared.engine_step.EngineStep.TheVariants.{Barrier
 use Rattle.thy_record.specs.declared.start.Start.{Start}
 use Rattle.thy_scheme.specs.declared.boot_step.BootStep.{BootStep}
 use Rattle.thy_scheme.specs.Scheme.{SchemeOf}
-use Rattle.thy_dual_model.specs.Dual.{Dual}
-use Rattle.thy_dual_model.specs.Scheme.{dual_scheme}
+use Rattle.thy_dual_laws.specs.Dual.{Dual}
+use Rattle.thy_dual_laws.specs.Scheme.{dual_scheme}
 use Rattle.thy_dual.specs.Calls.{IsNew as IsNewBelow, StoresByRule, PromotesNext, TakesItem, TakesBootStep}
-use Rattle.thy_waiting_model.specs.Waiting.{Waiting, left_after, left_booted}
-use Rattle.thy_waiting_model.specs.Scheme.{waits_over}
+use Rattle.thy_waiting_laws.specs.Waiting.{Waiting, left_after, left_booted}
+use Rattle.thy_waiting_laws.specs.Scheme.{waits_over}
 
 -- it waits over the scheme of both tables
 abbrev pub WaitingDual : Type 0

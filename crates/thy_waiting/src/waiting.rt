@@ -10,16 +10,16 @@ ghost use Rattle.thy_control.specs.Holding.{holding_of};
 ghost use Rattle.thy_view.specs.Kind.{IsDramOf};
 ghost use Rattle.thy_view.specs.Origin.{Origin, Begins};
 ghost use Rattle.thy_view.specs.Views.{loads};
-ghost use Rattle.thy_scheme.specs.Marks.{Marks};
+ghost use Rattle.thy_scheme.specs.CheckpointMarks.{CheckpointMarks};
 ghost use Rattle.thy_scheme.specs.Scheme.{StaysOf, Stands, CanRun, IsBooting, CanBoot};
 ghost use Rattle.thy_scheme.specs.Calls.{IsOneAccess, Stores, Merges, Promotes, PromotionFails, TakesNoAction, Drains, Seals, Engines, EngineFails};
 ghost use Rattle.thy_scheme.specs.Boots.{BootsOn, BootFails, BootDrains};
-ghost use Rattle.thy_dual_model.specs.Boots.{has_read_at, loads_at, view_at};
-ghost use Rattle.thy_dual_model.specs.Dual.{IsOf, is_overlaid, is_promoting, penults};
-ghost use Rattle.thy_dual_model.specs.Scheme.{dual_scheme};
+ghost use Rattle.thy_dual_laws.specs.Boots.{has_read_at, loads_at, view_at};
+ghost use Rattle.thy_dual_laws.specs.Dual.{IsOf, is_overlaid, is_promoting, penults};
+ghost use Rattle.thy_dual_laws.specs.Scheme.{dual_scheme};
 ghost use Rattle.thy_dual.specs.Calls.{IsSized, LoadsWork, LoadsCommitted, merged, sealed, drained};
-ghost use Rattle.thy_waiting_model.specs.Scheme.{Boots, IsPowered, Stays, is_under_way};
-ghost use Rattle.thy_waiting_model.specs.Waiting.{barriers, left_after, left_booted};
+ghost use Rattle.thy_waiting_laws.specs.Scheme.{Boots, IsPowered, Stays, is_under_way};
+ghost use Rattle.thy_waiting_laws.specs.Waiting.{barriers, left_after, left_booted};
 ghost use Rattle.thy_waiting.specs.Calls.{waiting_scheme, with_below, IsNew, MakesBarrier, TakesBoot, TakesTurn};
 ghost use Rattle.thy_waiting.specs.Calls.{Stores as StoresBelow, Promotes as PromotesBelow};
 
@@ -45,8 +45,8 @@ pub struct WaitingScheme {
 }
 
 impl Model for WaitingScheme {
-    ghost use Rattle.thy_dual_model.specs.Dual.{Dual};
-    ghost use Rattle.thy_waiting_model.specs.Waiting.{Waiting};
+    ghost use Rattle.thy_dual_laws.specs.Dual.{Dual};
+    ghost use Rattle.thy_waiting_laws.specs.Waiting.{Waiting};
 
     ghost Value = { Waiting Dual };
 
@@ -97,8 +97,8 @@ fn make_barrier<N: Nvm>(left: u64, nvm: &mut N) -> Result<u64, NvmError>
 // call makes of the scheme below and of the number of barriers (specs/Calls.antt).
 impl Scheme for WaitingScheme {
     ghost use Rattle.std.specs.Prelude.{refl};
-    ghost use Rattle.thy_dual_model.proofs.LawfulLemmas.{lawful as laws_below};
-    ghost use Rattle.thy_waiting_model.proofs.LawfulLemmas.{lawful as laws_over};
+    ghost use Rattle.thy_dual_laws.proofs.LawfulLemmas.{lawful as laws_below};
+    ghost use Rattle.thy_waiting_laws.proofs.LawfulLemmas.{lawful as laws_over};
 
     ghost scheme = { waiting_scheme };
 
@@ -205,7 +205,7 @@ impl Scheme for WaitingScheme {
     fn drain(&mut self)
         requires { 0 < self.old.below.control.dram.queued }
         ensures state { self.new ≡ with_below (drained self.old.below) self.old }
-        ensures running { (o : Origin) (k : Marks) (n : Device) → Stands waiting_scheme o k self.old n
+        ensures running { (o : Origin) (k : CheckpointMarks) (n : Device) → Stands waiting_scheme o k self.old n
             → Drains waiting_scheme o k self.old n self.new }
         ensures booting { (o : Origin) (n : Device) → IsBooting waiting_scheme o self.old n
             → BootDrains waiting_scheme o self.old n self.new }
@@ -217,7 +217,7 @@ impl Scheme for WaitingScheme {
         requires idle { is_under_way dual_scheme self.old ≡ false }
         ensures state { self.new ≡ with_below (merged self.old.below) self.old }
         ensures some { is_overlaid self.old.below.control ≡ true
-            → (o : Origin) (k : Marks) (n : Device) → Stands waiting_scheme o k self.old n
+            → (o : Origin) (k : CheckpointMarks) (n : Device) → Stands waiting_scheme o k self.old n
             → Merges waiting_scheme o k self.old n self.new }
         ensures none { is_overlaid self.old.below.control ≡ false → self.new ≡ self.old }
     {
@@ -229,7 +229,7 @@ impl Scheme for WaitingScheme {
         ensures made { PromotesBelow self.old (N.device nvm.old) result self.new (N.device nvm.new) }
         ensures ok { let n = N.device nvm.old in let new = N.device nvm.new in
             is_promoting self.old.below.control ≡ true
-            → (o : Origin) (k : Marks) → Stands waiting_scheme o k self.old n
+            → (o : Origin) (k : CheckpointMarks) → Stands waiting_scheme o k self.old n
             → OnOk result (Promotes waiting_scheme o k self.old n self.new new) }
         ensures none { is_promoting self.old.below.control ≡ false
             → TakesNoAction result self.old (N.device nvm.old) self.new (N.device nvm.new) }
@@ -247,7 +247,7 @@ impl Scheme for WaitingScheme {
         requires bare { is_overlaid self.old.below.control ≡ false }
         requires regs { length cpu.now.regs ≡ 32 }
         ensures state { self.new ≡ with_below (sealed cpu.now epoch self.old.below) self.old }
-        ensures seals { (o : Origin) (k : Marks) (n : Device) → Stands waiting_scheme o k self.old n
+        ensures seals { (o : Origin) (k : CheckpointMarks) (n : Device) → Stands waiting_scheme o k self.old n
             → Seals waiting_scheme o k cpu.now epoch self.old n self.new }
     {
         self.below.seal(cpu, epoch);
@@ -258,10 +258,10 @@ impl Scheme for WaitingScheme {
         requires stands { CanRun waiting_scheme self.old (N.device nvm.old) }
         ensures made { TakesTurn self.old (N.device nvm.old) result self.new (N.device nvm.new) }
         ensures ok { let n = N.device nvm.old in let new = N.device nvm.new in
-            (o : Origin) (k : Marks) → Stands waiting_scheme o k self.old n
+            (o : Origin) (k : CheckpointMarks) → Stands waiting_scheme o k self.old n
             → IfOk result (λ step. Engines waiting_scheme o k step self.old n self.new new) }
         ensures err { let n = N.device nvm.old in let new = N.device nvm.new in
-            (o : Origin) (k : Marks) → Stands waiting_scheme o k self.old n
+            (o : Origin) (k : CheckpointMarks) → Stands waiting_scheme o k self.old n
             → OnErr result (EngineFails waiting_scheme o k n new) }
         ensures left { OnErr result (StaysOf waiting_scheme self.old self.new) }
         ensures frame { IsFramed (N.device nvm.old) (N.device nvm.new) }

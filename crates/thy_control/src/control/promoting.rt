@@ -9,7 +9,7 @@ ghost use Rattle.thy_control.specs.Pages.{page_in, block_after};
 use super::Control;
 use super::moving::move_to_dram;
 use crate::cursors::goes_on;
-use crate::overlay::Marks;
+use crate::overlay::WorkCounts;
 use thy_base::{Nvm, NvmError};
 use thy_cell::{a_promotion_keeps_others, a_promotion_keeps_versions};
 use thy_table::Test;
@@ -41,13 +41,13 @@ fn block_to_fill(entry: Option<PttEntry>) -> u64
 }
 
 /// The numbers after one more block of a page in promotion was copied: with the last it is promoted.
-fn marks_after(marks: Marks, page: &PttEntry) -> Marks
+fn marks_after(marks: WorkCounts, page: &PttEntry) -> WorkCounts
     requires { 0 < marks.promoted }
     ensures overlaid { result.overlaid ≡ marks.overlaid }
     ensures promoted { result.promoted + (if IsFramedPage page.now then 1 else 0) ≡ marks.promoted }
 {
     if page.is_framed() {
-        Marks {
+        WorkCounts {
             promoted: marks.promoted - 1,
             ..marks
         }

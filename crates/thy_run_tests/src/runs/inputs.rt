@@ -27,7 +27,7 @@ static ORDER: [(&str, u8, &str); 14] = [
 ];
 
 #[test]
-fn file_and_input_are_had_in_this_order(rt: HostRuntime) -> Result<(), Fail> {
+fn file_and_input_are_fetched_in_this_order(rt: HostRuntime) -> Result<(), Fail> {
     let alloc = rt.alloc();
     for (line, status, report) in &ORDER {
         expect(&rt, alloc, line, *status, report)?;

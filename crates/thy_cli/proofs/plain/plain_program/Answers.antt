@@ -15,4 +15,4 @@ returns-in-Ok-clause-refusal g c = λ job h.
     let same : new ≡ old = stock_same old new c.in-Ok.ensures.held c.in-Ok.ensures.calm in
     subst (λ s. IfErr c.program_of.result (ProgramDue (file c.args.name.now) job old s)) (sym same)
     (c.program_of.ensures.refusal (file c.args.name.now) job old tt
-    (record { numbers = h.numbers; in_range = c.requires; both = c.in-Ok.ensures.had job h.reads }))
+    (record { numbers = h.numbers; in_range = c.requires; both = c.in-Ok.ensures.fetched job h.reads }))

@@ -16,4 +16,4 @@ returns-in-Ok-clause-refusal g c = λ job h.
     let same : new ≡ old = stock_same old new c.in-Ok.ensures.held c.in-Ok.ensures.calm in
     subst (λ s. IfErr c.begin.result (ProgramDue (named c.args.source) job old s)) (sym same)
     (c.begin.ensures.refusal job old
-    (record { numbers = h.numbers; in_range = c.requires; both = c.in-Ok.ensures.had job h.reads }))
+    (record { numbers = h.numbers; in_range = c.requires; both = c.in-Ok.ensures.fetched job h.reads }))

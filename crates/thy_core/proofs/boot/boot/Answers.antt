@@ -1,6 +1,6 @@
 use Rattle.std.proofs.Common.{refl, ◌∙◌}
-use Rattle.thy_core.specs.Parts.{machine_of}
-use Rattle.thy_core_model.proofs.BootingLaws.{sound-boot}
+use Rattle.thy_core.specs.MachineParts.{machine_of}
+use Rattle.thy_core_laws.proofs.BootingLaws.{sound-boot}
 use Rattle.thy_core.proofs.CycleLaws.{on_err, boot_over, boot_cycle, boot_failed}
 use Rattle.thy_core.proofs.boot.boot.Goals as goal
 
@@ -14,8 +14,8 @@ returns-in_err-step-clause-fails g c = λ o cycles begins at booting.
     (boot_failed K o cycles m n at (record m { scheme = c.boot_step.new.self }) (g.N.Nvm.device c.boot_step.new.nvm) booting
     (c.in_err-step.ensures.err o begins (record { boots = boots; up = at.sound.up })) c.in_err-step.ensures.left refl)
 
-pub returns-clause-leads : goal.returns-clause-leads
-returns-clause-leads g c = λ o cycles begins at booting.
+pub returns-clause-simulates : goal.returns-clause-simulates
+returns-clause-simulates g c = λ o cycles begins at booting.
     let K = g.S.Scheme.scheme in
     let m = machine_of c.args.m.now in
     let n = g.N.Nvm.device c.args.nvm.now in

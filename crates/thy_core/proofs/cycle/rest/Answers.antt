@@ -1,4 +1,4 @@
-use Rattle.thy_core.specs.Parts.{machine_of}
+use Rattle.thy_core.specs.MachineParts.{machine_of}
 use Rattle.thy_core.proofs.CycleLaws.{rest_cycle}
 use Rattle.thy_core.proofs.cycle.rest.Goals as goal
 

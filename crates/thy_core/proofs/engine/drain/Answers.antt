@@ -1,4 +1,4 @@
-use Rattle.thy_core.specs.Parts.{machine_of}
+use Rattle.thy_core.specs.MachineParts.{machine_of}
 use Rattle.thy_core.proofs.CycleLaws.{drain_cycle}
 use Rattle.thy_core.proofs.engine.drain.Goals as goal
 

@@ -1,4 +1,4 @@
-use Rattle.thy_core.specs.Parts.{machine_of}
+use Rattle.thy_core.specs.MachineParts.{machine_of}
 use Rattle.thy_core.proofs.CycleLaws.{on_err, hart_runs, hart_ready, hart_call, hart_cycle, failed_once, hart_failed}
 use Rattle.thy_core.proofs.hart.execute.Goals as goal
 
@@ -16,14 +16,14 @@ pub returns-in_err-step-clause-fails : goal.returns-in_err-step-clause-fails
 returns-in_err-step-clause-fails g c = λ o cycles _ at goes.
     let K = g.S.Scheme.scheme in
     let new = g.N.Nvm.device c.step.new.nvm in
-    let failed = failed_once K g.N.Nvm.device c.args.m.now.behind c.step.new.store c.args.nvm.now c.step.new.nvm at.sound.up
+    let failed = failed_once K g.N.Nvm.device c.args.m.now.store c.step.new.store c.args.nvm.now c.step.new.nvm at.sound.up
     c.in_err-step.ensures.once c.in_err-step.ensures.cause in
     let next = record (machine_of c.args.m.now) { hart = c.step.new.self; cache = c.step.new.cache; scheme = c.step.new.store.scheme } in
     on_err c.from_residual.result
     (hart_failed K o cycles (machine_of c.args.m.now) (g.N.Nvm.device c.args.nvm.now) at next new goes failed.0.access failed.1 c.in_err-step.ensures.hart)
 
-pub returns-clause-leads : goal.returns-clause-leads
-returns-clause-leads g c = λ o cycles input at goes.
+pub returns-clause-simulates : goal.returns-clause-simulates
+returns-clause-simulates g c = λ o cycles input at goes.
     let K = g.S.Scheme.scheme in
     let done = c.in_ok-step.ensures in
     let call = hart_call K g.N.Nvm.device o c.args.m.now c.step.new.store c.args.nvm.now c.step.new.nvm c.step.new.self c.step.new.cache

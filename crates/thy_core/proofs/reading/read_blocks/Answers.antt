@@ -2,14 +2,14 @@ use Rattle.std.proofs.Common.{◌<◌, length, refl, sym, ◌∙◌, ap, subst, 
 use Rattle.thy_base.specs.Bytes.{bytes_of}
 use Rattle.thy_base.specs.Device.{Device}
 use Rattle.thy_scheme.specs.Scheme.{CanRun}
-use Rattle.thy_core.specs.Parts.{machine_of}
+use Rattle.thy_core.specs.MachineParts.{machine_of}
 use Rattle.thy_core.specs.Reading.{blocks_in}
 use Rattle.thy_core.proofs.ReadingLemmas.{read_none, read_more}
 use Rattle.thy_core.proofs.reading.read_blocks.Goals as goal
 
 pub read_block-requires-clause-stands : goal.read_block-requires-clause-stands
 read_block-requires-clause-stands g c =
-    subst (λ (n : Device). CanRun g.S.Scheme.scheme c.args.m.now.behind.scheme n) (sym c.loop-i.invariant.same) c.requires.stands
+    subst (λ (n : Device). CanRun g.S.Scheme.scheme c.args.m.now.store.scheme n) (sym c.loop-i.invariant.same) c.requires.stands
 
 pub read_block-requires-clause-inside : goal.read_block-requires-clause-inside
 read_block-requires-clause-inside g c =

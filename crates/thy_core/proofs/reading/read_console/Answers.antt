@@ -3,7 +3,7 @@ use Rattle.thy_base.specs.declared.block.Block.{Block}
 use Rattle.thy_base.specs.declared.config.Parameters.{Parameters}
 use Rattle.thy_base.specs.Geometry.{program_size}
 use Rattle.thy_base.proofs.RangeLemmas.{console_below}
-use Rattle.thy_core.specs.Parts.{machine_of}
+use Rattle.thy_core.specs.MachineParts.{machine_of}
 use Rattle.thy_core.specs.Reading.{blocks_in}
 use Rattle.thy_core.proofs.ReadingLemmas.{console_piece}
 use Rattle.thy_core.proofs.reading.read_console.Goals as goal

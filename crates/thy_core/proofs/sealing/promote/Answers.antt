@@ -1,5 +1,5 @@
 use Rattle.std.proofs.Common.{refl}
-use Rattle.thy_core.specs.Parts.{machine_of}
+use Rattle.thy_core.specs.MachineParts.{machine_of}
 use Rattle.thy_core.proofs.CycleLaws.{on_err, stands_run, promotion_cycle, promotion_failed}
 use Rattle.thy_core.proofs.sealing.promote.Goals as goal
 
@@ -10,8 +10,8 @@ returns-in_err-promote_one-clause-fails g c = λ o cycles _ at sealing.
     (record (machine_of c.args.m.now) { scheme = c.promote_one.new.self }) (g.N.Nvm.device c.promote_one.new.nvm)
     sealing c.requires.promoting c.in_err-promote_one.ensures.err c.in_err-promote_one.ensures.left refl)
 
-pub returns-clause-leads : goal.returns-clause-leads
-returns-clause-leads g c = λ o cycles _ at sealing.
+pub returns-clause-simulates : goal.returns-clause-simulates
+returns-clause-simulates g c = λ o cycles _ at sealing.
     let K = g.S.Scheme.scheme in
     let m = machine_of c.args.m.now in
     let n = g.N.Nvm.device c.args.nvm.now in

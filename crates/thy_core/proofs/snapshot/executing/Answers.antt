@@ -5,8 +5,8 @@ use Rattle.thy_base.specs.Device.{Device}
 use Rattle.thy_flat.specs.Flat.{console_bytes}
 use Rattle.thy_isa.specs.declared.state.CpuState.{CpuState}
 use Rattle.thy_isa.specs.Step.{state_of, state_with}
-use Rattle.thy_core_model.specs.Machine.{memory_of}
-use Rattle.thy_core.specs.Parts.{machine_of}
+use Rattle.thy_core_laws.specs.Machine.{memory_of}
+use Rattle.thy_core.specs.MachineParts.{machine_of}
 use Rattle.thy_core.proofs.SnapshotLaws.{state_read}
 use Rattle.thy_core.proofs.snapshot.executing.Goals as goal
 

@@ -2,11 +2,11 @@ use Rattle.std.proofs.Common.{Result, IfOk, OnErr, refl, subst}
 use Rattle.thy_base.specs.declared.nvm.NvmError.{NvmError}
 use Rattle.thy_view.specs.declared.did.Did.{Did}
 use Rattle.thy_view.specs.Origin.{Origin, Begins}
-use Rattle.thy_core_model.specs.Rows.{IsMoment}
-use Rattle.thy_core_model.specs.Sound.{Sound}
-use Rattle.thy_core_model.proofs.MomentLaws.{sound-here}
+use Rattle.thy_core_laws.specs.Rows.{IsMoment}
+use Rattle.thy_core_laws.specs.Sound.{Sound}
+use Rattle.thy_core_laws.proofs.MomentLaws.{sound-here}
 use Rattle.thy_core.specs.Cycles.{IsCycle, HasFailedAs}
-use Rattle.thy_core.specs.Parts.{machine_of, actor_seen}
+use Rattle.thy_core.specs.MachineParts.{machine_of, actor_seen}
 use Rattle.thy_core.proofs.TakenLaws.{at_run, moment_of, turned, steps_taken, unfailed_after, step_failed}
 use Rattle.thy_core.proofs.step.take_step.Goals as goal
 use Rattle.thy_core.proofs.step.take_step.Goals.{in-Ok, in-Err}
@@ -45,7 +45,7 @@ returns-clause-steps g c = λ o k begins here few.
           λ p starts sound.
           let at = at_run K g.met.S.Scheme.lawful p k m n sound few in
           let turn = turned K p k c.args.pick c.queued.result actor m n (moment_of K p k m n at) c.queued.ensures c.turn_now-actor.ensures in
-          subst (λ (r : Result Did NvmError). IfOk r (λ did. IsCycle K p k actor did m n next new)) w.in-Ok.is (c.cycle.ensures.leads p k starts at turn) in
+          subst (λ (r : Result Did NvmError). IfOk r (λ did. IsCycle K p k actor did m n next new)) w.in-Ok.is (c.cycle.ensures.simulates p k starts at turn) in
           rw w.result-is
           (rw w.m-is
           (steps_taken K g.met.S.Scheme.lawful o k c.args.pick c.queued.result actor c.args.start.now m next n new
@@ -89,7 +89,7 @@ returns-clause-failed g c =
           λ p starts sound.
           let at = at_run K g.met.S.Scheme.lawful p run.cycles m n sound run.few in
           let turn = turned K p run.cycles c.args.pick c.queued.result actor m n (moment_of K p run.cycles m n at) c.queued.ensures c.turn_now-actor.ensures in
-          subst (λ (r : Result Did NvmError). IfOk r (λ did. IsCycle K p run.cycles actor did m n next new)) w.in-Ok.is (c.cycle.ensures.leads p run.cycles starts at turn) in
+          subst (λ (r : Result Did NvmError). IfOk r (λ did. IsCycle K p run.cycles actor did m n next new)) w.in-Ok.is (c.cycle.ensures.simulates p run.cycles starts at turn) in
           rw w.result-is
           (rw w.m-is
           (unfailed_after K g.met.S.Scheme.lawful run.o run.cycles actor c.args.start.now m next n new w.in-Ok.did run.begins run.at_moment cycle))

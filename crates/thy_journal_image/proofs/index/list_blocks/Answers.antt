@@ -3,7 +3,7 @@ use Rattle.std.proofs.lemmas.List.{take_all}
 use Rattle.thy_base.specs.declared.config.Parameters.{Parameters}
 use Rattle.thy_record.specs.Files.{blocks_of}
 use Rattle.thy_journal_image.specs.Index.{with_block}
-use Rattle.thy_journal_image.specs.Parts.{memory_places}
+use Rattle.thy_journal_image.specs.CheckpointParts.{memory_places}
 use Rattle.thy_journal_image.specs.Slots.{table_in}
 use Rattle.thy_journal_image.proofs.IndexLemmas.{block_listed}
 use Rattle.thy_journal_image.proofs.PartsLemmas.{length-memory_places}

@@ -16,8 +16,8 @@ use Rattle.thy_record.proofs.FileLemmas.{length-blocks_of, block_at-blocks_of}
 use Rattle.thy_record.proofs.RestoredLemmas.{if_ok}
 use Rattle.thy_protocol.specs.Layout.{Layout, blocks_at, slot_in, memory_in}
 use Rattle.thy_journal_image.specs.Files.{HasCheckpointOf}
-use Rattle.thy_journal_image.specs.Layout.{journaled}
-use Rattle.thy_journal_image.specs.Parts.{memory_places}
+use Rattle.thy_journal_image.specs.Layout.{journal_layouts}
+use Rattle.thy_journal_image.specs.CheckpointParts.{memory_places}
 use Rattle.thy_journal_image.specs.Places.{slot_blocks, slot_place, image_blocks}
 use Rattle.thy_journal_image.specs.Slots.{IsTable, table_in}
 use Rattle.thy_journal_image.proofs.FileLemmas.{IsFound-checked, HasState-made}
@@ -32,18 +32,18 @@ epoch_read p bytes b epoch long is e = e ∙ ap epoch_of (is ∙ sym (block_at-b
 
 -- the slot of that epoch is the image's
 slot_read : (p : Parameters) (g slot : List Block) (epoch : ℕ) → epoch ≡ epoch_of (block_at g 1)
-    → slot ≡ blocks_at g (range_with_len (slot_place p (epoch % 2)) (slot_blocks p)) → slot ≡ slot_in (journaled p 0) g
+    → slot ≡ blocks_at g (range_with_len (slot_place p (epoch % 2)) (slot_blocks p)) → slot ≡ slot_in (journal_layouts p 0) g
 slot_read p g slot epoch is of = of ∙ ap (λ e. blocks_at g (range_with_len (slot_place p (e % 2)) (slot_blocks p))) is
 
-table_read : (p : Parameters) (bytes : List ℕ) (slot : List Block) → HasCheckpointOf p bytes → slot ≡ slot_in (journaled p 0) (blocks_of bytes)
+table_read : (p : Parameters) (bytes : List ℕ) (slot : List Block) → HasCheckpointOf p bytes → slot ≡ slot_in (journal_layouts p 0) (blocks_of bytes)
     → IsTable p (table_in p slot)
 table_read p bytes slot has is = subst (λ (s : List Block). IsTable p (table_in p s)) (sym is) (IsFound-checked p bytes has).table
 
 -- places and processor make the state
 state_read : (p : Parameters) (g slot : List Block) (epoch : ℕ) (cpu : CpuState) (places : List ℕ) (s : State) → epoch ≡ epoch_of (block_at g 1)
-    → slot ≡ slot_in (journaled p 0) g → cpu ≡ cpu_of_record slot → places ≡ memory_places p (epoch % 2) (table_in p slot)
+    → slot ≡ slot_in (journal_layouts p 0) g → cpu ≡ cpu_of_record slot → places ≡ memory_places p (epoch % 2) (table_in p slot)
     → s ≡ state_from p cpu (map (block_at g) places)
-    → (let l = journaled p 0 in l.state_from (slot_in l g) (memory_in l g)) ≡ s
+    → (let l = journal_layouts p 0 in l.state_from (slot_in l g) (memory_in l g)) ≡ s
 state_read p g slot epoch cpu places s named of cpu_is is made =
     sym (made
     ∙ ap (λ (xs : List ℕ). state_from p cpu (map (block_at g) xs)) is

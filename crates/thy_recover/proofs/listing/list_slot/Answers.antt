@@ -8,7 +8,7 @@ use Rattle.thy_record.specs.Files.{blocks_of}
 use Rattle.thy_record.specs.Slots.{count_fault, slot_fault}
 use Rattle.thy_view.specs.Safe.{ceiling}
 use Rattle.thy_boot.specs.Filling.{ListsOn}
-use Rattle.thy_recover.specs.Filling.{filling_one}
+use Rattle.thy_recover.specs.Filling.{filling_dual}
 use Rattle.thy_recover.specs.Listed.{HasCounts}
 use Rattle.thy_recover.proofs.SlotLemmas.{tables_fit, counts_fit, ListsUpTo-empty, lists_on}
 use Rattle.thy_recover.proofs.listing.list_slot.Goals as goal
@@ -47,7 +47,7 @@ list_counts-requires-clause-fits c =
 pub returns : goal.returns
 returns c =
     let p : Parameters = c.args.geometry.now in
-    subst (λ (s : List Block). ListsOn filling_one c.args.commit.now s c.args.control.now c.list_counts.new.control)
+    subst (λ (s : List Block). ListsOn filling_dual c.args.commit.now s c.args.control.now c.list_counts.new.control)
     c.slot_of-blocks.ensures.blocks
     (lists_on p c.args.commit.now (blocks_of c.slot_of-blocks.result.now) c.args.control.now c.list_all.new.control c.list_counts.new.control
     c.requires.geometry c.tables.ensures c.list_all.ensures

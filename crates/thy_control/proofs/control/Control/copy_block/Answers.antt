@@ -10,10 +10,10 @@ use Rattle.thy_control.specs.State.{State, AreSoundTables, cell_of}
 use Rattle.thy_control.specs.Copies.{devices_copied}
 use Rattle.thy_control.proofs.CellLemmas.{IsPlace-target, IsWithin-cell_of}
 use Rattle.thy_control.proofs.CopyLemmas.{AreSoundTables-copied, devices_are, state_is}
-use Rattle.thy_control.specs.Overlay.{AreMarks}
+use Rattle.thy_control.specs.Overlay.{AreWorkCounts}
 use Rattle.thy_control.specs.Cursors.{AreCursors}
 use Rattle.thy_control.proofs.CursorLemmas.{AreCursors-copied}
-use Rattle.thy_control.proofs.StepMarkLemmas.{AreMarks-copied}
+use Rattle.thy_control.proofs.StepMarkLemmas.{AreWorkCounts-copied}
 use Rattle.thy_control.proofs.control.Control.copy_block.Goals as goal
 
 pub move_block-requires-clause-to : goal.move_block-requires-clause-to
@@ -32,12 +32,12 @@ invariant_of-self-2 g c =
     let d_is : d ≡ devices_copied c.args.b s m
     = devices_are s w c.self.view_is c.args.b m c.cell-cell.result c.last.result c.target.result d c.cell-cell.ensures c.last.ensures c.target.ensures c.in_ok-move_block.ensures.ok in
     let e = state_is s w c.self.view_is c.args.b m c.cell-cell.result c.with_copy-copied.result c.set.new.self d c.cell-cell.ensures c.with_copy-copied.ensures c.set.ensures d_is in
-    let before : AreMarks s.ptt s.btt c.self.inside.marks = subst (λ (t : State). AreMarks t.ptt t.btt c.self.inside.marks) c.self.view_is c.self.invariant.marks in
+    let before : AreWorkCounts s.ptt s.btt c.self.inside.marks = subst (λ (t : State). AreWorkCounts t.ptt t.btt c.self.inside.marks) c.self.view_is c.self.invariant.marks in
     let cursors : AreCursors s.ptt s.btt c.self.inside.cursors = subst (λ (t : State). AreCursors t.ptt t.btt c.self.inside.cursors) c.self.view_is c.self.invariant.cursors in
     record {
       tables = subst (λ (t : State). AreSoundTables t) (sym e)
           (AreSoundTables-copied c.args.b s c.requires.pending m c.tables.ensures c.requires.sized c.requires.block (subst (λ (t : State). IsListing block_key t.btt) e c.lists_once.ensures));
-      marks = subst (λ (t : State). AreMarks t.ptt t.btt c.self.inside.marks) (sym e) (AreMarks-copied c.args.b s m c.self.inside.marks c.requires.pending before);
+      marks = subst (λ (t : State). AreWorkCounts t.ptt t.btt c.self.inside.marks) (sym e) (AreWorkCounts-copied c.args.b s m c.self.inside.marks c.requires.pending before);
       cursors = subst (λ (t : State). AreCursors t.ptt t.btt c.self.inside.cursors) (sym e) (AreCursors-copied c.args.b s m c.self.inside.cursors c.requires.pending cursors);
     }
 

@@ -11,7 +11,7 @@ use Rattle.thy_cell.specs.Cells.{work}
 use Rattle.thy_cell.specs.Checkpoint.{with_filled}
 use Rattle.thy_control.specs.Keys.{page_key}
 use Rattle.thy_control.specs.State.{State, AreSoundTables, cell_of}
-use Rattle.thy_control.specs.Overlay.{AreMarks}
+use Rattle.thy_control.specs.Overlay.{AreWorkCounts}
 use Rattle.thy_control.specs.Cursors.{AreCursors}
 use Rattle.thy_control.proofs.CursorLemmas.{AreCursors-filled}
 use Rattle.thy_control.specs.Promotions.{devices_filled}
@@ -29,7 +29,7 @@ move_to_dram-requires-clause-from g c =
 pub marks_after-self-inside-requires : goal.marks_after-self-inside-requires
 marks_after-self-inside-requires g c =
     let s : State = c.args.self.now in
-    let before : AreMarks s.ptt s.btt c.self.inside.marks = subst (λ (t : State). AreMarks t.ptt t.btt c.self.inside.marks) c.self.view_is c.self.invariant.marks in
+    let before : AreWorkCounts s.ptt s.btt c.self.inside.marks = subst (λ (t : State). AreWorkCounts t.ptt t.btt c.self.inside.marks) c.self.view_is c.self.invariant.marks in
     omega (arith, before.promoted_is, some-promoted c.args.b s c.requires.fresh c.requires.unframed)
 
 pub invariant_of-self-2 : goal.invariant_of-self-2
@@ -41,7 +41,7 @@ invariant_of-self-2 g c =
     let d_is : d ≡ devices_filled c.args.b s m
     = devices_are s w c.self.view_is c.args.b m c.cell-cell.result c.work.result c.frame.result d c.cell-cell.ensures c.work.ensures c.frame.ensures c.in_ok-move_to_dram.ensures.ok in
     let e = state_is s w c.self.view_is c.args.b m c.cell-cell.result c.with_filled-filled.result c.set.new.self d c.cell-cell.ensures c.with_filled-filled.ensures c.set.ensures d_is in
-    let before : AreMarks s.ptt s.btt c.self.inside.marks = subst (λ (t : State). AreMarks t.ptt t.btt c.self.inside.marks) c.self.view_is c.self.invariant.marks in
+    let before : AreWorkCounts s.ptt s.btt c.self.inside.marks = subst (λ (t : State). AreWorkCounts t.ptt t.btt c.self.inside.marks) c.self.view_is c.self.invariant.marks in
     let page : c.with_filled-filled.result.page ≡ (with_filled (cell_of s c.args.b)).page
     = ap (λ (x : Cell). x.page) c.with_filled-filled.ensures ∙ ap (λ (x : Cell). (with_filled x).page) c.cell-cell.ensures in
     let fewer = ap (λ (x : PttEntry). c.marks_after-self-inside.result.promoted + (if is_framed x then 1 else 0)) (sym page) ∙ c.marks_after-self-inside.ensures.promoted in
@@ -50,7 +50,7 @@ invariant_of-self-2 g c =
       tables = subst (λ (t : State). AreSoundTables t) (sym e)
           (AreSoundTables-filled c.args.b s c.requires.fresh m c.tables.ensures c.requires.sized c.requires.block c.requires.due c.a_promotion_keeps_versions.ensures c.a_promotion_keeps_others.ensures
           (subst (λ (t : State). IsListing page_key t.ptt) e c.lists_once.ensures));
-      marks = subst (λ (t : State). AreMarks t.ptt t.btt c.marks_after-self-inside.result) (sym e)
+      marks = subst (λ (t : State). AreWorkCounts t.ptt t.btt c.marks_after-self-inside.result) (sym e)
           (marks-filled c.args.b s c.requires.fresh m c.tables.ensures c.self.inside.marks c.marks_after-self-inside.result c.requires.unframed (omega (arith, c.requires.due)) before
           c.marks_after-self-inside.ensures.overlaid fewer);
       cursors = subst (λ (t : State). AreCursors t.ptt t.btt c.self.inside.cursors) (sym e)

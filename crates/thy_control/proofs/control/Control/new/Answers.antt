@@ -6,8 +6,8 @@ use Rattle.thy_tables.specs.declared.block_entry.BttEntry.{BttEntry}
 use Rattle.thy_tables.specs.declared.page_entry.PttEntry.{PttEntry}
 use Rattle.thy_switch.specs.Counts.{Tally, uncounted}
 use Rattle.thy_control.specs.State.{AreSoundTables}
-use Rattle.thy_control.specs.Overlay.{AreMarks}
-use Rattle.thy_control.proofs.MarkLemmas.{no_marks, AreMarks-new}
+use Rattle.thy_control.specs.Overlay.{AreWorkCounts}
+use Rattle.thy_control.proofs.MarkLemmas.{no_work_counts, AreWorkCounts-new}
 use Rattle.thy_control.proofs.NewLemmas.{AreSoundTables-new}
 use Rattle.thy_control.proofs.control.Control.new.Goals as goal
 
@@ -28,6 +28,6 @@ invariant_of-result c =
           (subst (λ (t : Listing BttEntry). AreSoundTables (record { p = p; btt = t; ptt = empty_table p.ptt p.pages; counts = uncounted p.pages p.high p.low; under_way = false; dram = c.args.dram })) btt
           (AreSoundTables-new c.new_cells_are_sound.ensures p c.args.dram c.memory_blocks.ensures.in_range c.requires)));
       cursors = c.start-cursors.ensures c.in_ok-ptt.ptt c.in_ok-btt.btt;
-      marks = subst (λ (t : Listing PttEntry). AreMarks t c.in_ok-btt.btt no_marks) ptt
-          (subst (λ (t : Listing BttEntry). AreMarks (empty_table p.ptt p.pages) t no_marks) btt (AreMarks-new p));
+      marks = subst (λ (t : Listing PttEntry). AreWorkCounts t c.in_ok-btt.btt no_work_counts) ptt
+          (subst (λ (t : Listing BttEntry). AreWorkCounts (empty_table p.ptt p.pages) t no_work_counts) btt (AreWorkCounts-new p));
     }

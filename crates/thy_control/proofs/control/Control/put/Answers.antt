@@ -17,10 +17,10 @@ use Rattle.thy_tables.specs.BlockEntry.{new_entry}
 use Rattle.thy_cell.specs.Store.{put_by}
 use Rattle.thy_control.specs.State.{State, AreSoundTables, reads}
 use Rattle.thy_control.specs.Rules.{rule_for, cell_before, devices_after}
-use Rattle.thy_control.specs.Overlay.{covers, AreMarks}
+use Rattle.thy_control.specs.Overlay.{covers, AreWorkCounts}
 use Rattle.thy_control.specs.Cursors.{AreCursors}
 use Rattle.thy_control.proofs.CursorLemmas.{AreLowered, AreCursors-after}
-use Rattle.thy_control.proofs.MarkLemmas.{AreMarks-after, marks-small, btt_most}
+use Rattle.thy_control.proofs.MarkLemmas.{AreWorkCounts-after, marks-small, btt_most}
 use Rattle.thy_control.proofs.CellLemmas.{IsPlace-store}
 use Rattle.thy_control.proofs.PutLemmas.{has_free, Way, AreAfter, AreSoundTables-after, IsWithin-before, way_rule, way_table, way_cell, way_place, way_put, way_after, way_devices, way_all, way_state, way_failed, may_set_block, may_set_page, OnErr-of}
 use Rattle.thy_control.proofs.control.Control.put.Goals as goal
@@ -155,7 +155,7 @@ invariant_of-self-2 g c =
     let all : AreAfter c.args.b c.args.block.now s m c.set_cell.new.btt c.set_cell.new.ptt c.count_store.new.counts d
     = way_all s v c.args.b found r c.add_for_rule.new.btt i w c.args.block.now m d c.after.result c.set_cell.new.btt c.set_cell.new.ptt c.count_store.new.counts c.after.ensures c.set_cell.ensures.btt c.set_cell.ensures.ptt c.count_store.ensures devices in
     let e = way_state s v c.args.b found r c.add_for_rule.new.btt i w c.args.block.now m c.set_cell.new.btt c.set_cell.new.ptt c.count_store.new.counts d all in
-    let before : AreMarks s.ptt s.btt c.self.inside.marks = subst (λ (t : State). AreMarks t.ptt t.btt c.self.inside.marks) c.self.view_is c.self.invariant.marks in
+    let before : AreWorkCounts s.ptt s.btt c.self.inside.marks = subst (λ (t : State). AreWorkCounts t.ptt t.btt c.self.inside.marks) c.self.view_is c.self.invariant.marks in
     let more = c.after-self-inside.ensures.overlaid ∙ ap (λ (k : ℕ). c.self.inside.marks.overlaid + k)
     (ap (λ (q : StoreRule). covers q (record found { i = i })) (way_rule s v c.args.b found r c.add_for_rule.new.btt i w)
     ∙ ap (covers (rule_for c.args.b s)) (way_cell s v c.args.b found r c.add_for_rule.new.btt i w)) in
@@ -174,8 +174,8 @@ invariant_of-self-2 g c =
       tables = subst (λ (t : State). AreSoundTables t) (sym e)
           (AreSoundTables-after c.args.b c.args.block.now s m c.tables.ensures c.requires.sized c.requires.whole c.requires.block c.requires.room
           (subst (λ (t : State). IsListing block_key t.btt) e c.lists_once.ensures) (subst (λ (t : State). IsListing page_key t.ptt) e c.lists_once-2.ensures));
-      marks = subst (λ (t : State). AreMarks t.ptt t.btt c.after-self-inside.result) (sym e)
-          (AreMarks-after c.args.b c.args.block.now s m c.self.inside.marks c.after-self-inside.result before (has_free s.btt c.requires.room) more c.after-self-inside.ensures.promoted);
+      marks = subst (λ (t : State). AreWorkCounts t.ptt t.btt c.after-self-inside.result) (sym e)
+          (AreWorkCounts-after c.args.b c.args.block.now s m c.self.inside.marks c.after-self-inside.result before (has_free s.btt c.requires.room) more c.after-self-inside.ensures.promoted);
       cursors = subst (λ (t : State). AreCursors t.ptt t.btt c.lowered-self-inside.result) (sym e)
           (AreCursors-after c.args.b c.args.block.now s m c.self.inside.cursors c.lowered-self-inside.result cursors (has_free s.btt c.requires.room) low);
     }

@@ -10,10 +10,10 @@ use Rattle.thy_control.specs.State.{State, AreSoundTables, cell_of}
 use Rattle.thy_control.specs.Pages.{devices_issued}
 use Rattle.thy_control.proofs.CellLemmas.{IsPlace-target, IsWithin-cell_of}
 use Rattle.thy_control.proofs.IssueLemmas.{AreSoundTables-issued, devices_are, state_is}
-use Rattle.thy_control.specs.Overlay.{AreMarks}
+use Rattle.thy_control.specs.Overlay.{AreWorkCounts}
 use Rattle.thy_control.specs.Cursors.{AreCursors}
 use Rattle.thy_control.proofs.CursorLemmas.{AreCursors-issued}
-use Rattle.thy_control.proofs.StepMarkLemmas.{AreMarks-issued}
+use Rattle.thy_control.proofs.StepMarkLemmas.{AreWorkCounts-issued}
 use Rattle.thy_control.proofs.control.Control.write_block.Goals as goal
 
 pub move_block-requires-clause-to : goal.move_block-requires-clause-to
@@ -32,13 +32,13 @@ invariant_of-self-2 g c =
     let d_is : d ≡ devices_issued c.args.b s m
     = devices_are s w c.self.view_is c.args.b m c.cell-cell.result c.frame.result c.target.result d c.cell-cell.ensures c.frame.ensures c.target.ensures c.in_ok-move_block.ensures.ok in
     let e = state_is s w c.self.view_is c.args.b m c.cell-cell.result c.with_issued-written.result c.set.new.self d c.cell-cell.ensures c.with_issued-written.ensures c.set.ensures d_is in
-    let before : AreMarks s.ptt s.btt c.self.inside.marks = subst (λ (t : State). AreMarks t.ptt t.btt c.self.inside.marks) c.self.view_is c.self.invariant.marks in
+    let before : AreWorkCounts s.ptt s.btt c.self.inside.marks = subst (λ (t : State). AreWorkCounts t.ptt t.btt c.self.inside.marks) c.self.view_is c.self.invariant.marks in
     let cursors : AreCursors s.ptt s.btt c.self.inside.cursors = subst (λ (t : State). AreCursors t.ptt t.btt c.self.inside.cursors) c.self.view_is c.self.invariant.cursors in
     record {
       tables = subst (λ (t : State). AreSoundTables t) (sym e)
           (AreSoundTables-issued c.args.b s c.requires.busy m c.tables.ensures c.requires.sized c.requires.block c.requires.due c.a_page_write_keeps_versions.ensures c.a_page_write_keeps_others.ensures
           (subst (λ (t : State). IsListing page_key t.ptt) e c.lists_once.ensures));
-      marks = subst (λ (t : State). AreMarks t.ptt t.btt c.self.inside.marks) (sym e) (AreMarks-issued c.args.b s m c.self.inside.marks c.requires.busy before);
+      marks = subst (λ (t : State). AreWorkCounts t.ptt t.btt c.self.inside.marks) (sym e) (AreWorkCounts-issued c.args.b s m c.self.inside.marks c.requires.busy before);
       cursors = subst (λ (t : State). AreCursors t.ptt t.btt c.self.inside.cursors) (sym e)
           (AreCursors-issued c.args.b s m c.self.inside.cursors c.requires.busy (omega (arith, c.requires.due)) cursors);
     }

@@ -1,7 +1,7 @@
 use Rattle.std.proofs.Common.{subst}
 use Rattle.thy_view.specs.Kind.{ShowsConsole, LeavesAlonePast}
-use Rattle.thy_core_model.specs.Kind.{kind_over}
-use Rattle.thy_core_model.specs.Machine.{Machine}
+use Rattle.thy_core_laws.specs.Kind.{kind_over}
+use Rattle.thy_core_laws.specs.Machine.{Machine}
 use Rattle.thy_core.proofs.machine.Machine.console.Goals as goal
 
 pub returns-clause-console : goal.returns-clause-console

@@ -1,13 +1,13 @@
 use Rattle.std.proofs.Common.{subst}
-use Rattle.thy_view.specs.Kind.{LeadsOn, FailsSafe}
-use Rattle.thy_core_model.specs.Kind.{kind_over}
-use Rattle.thy_core_model.specs.Machine.{Machine}
-use Rattle.thy_core.specs.Parts.{machine_of}
+use Rattle.thy_view.specs.Kind.{Simulates, FailsSafe}
+use Rattle.thy_core_laws.specs.Kind.{kind_over}
+use Rattle.thy_core_laws.specs.Machine.{Machine}
+use Rattle.thy_core.specs.MachineParts.{machine_of}
 use Rattle.thy_core.proofs.machine.Machine.step.Goals as goal
 
 pub returns-clause-steps : goal.returns-clause-steps
 returns-clause-steps g c =
-    subst (λ (m : Machine g.row.S.Denot). LeadsOn (kind_over g.S.Scheme.scheme) c.args.start.now c.args.pick m (machine_of c.take_step.new.m) (g.N.Nvm.device c.args.nvm.now)
+    subst (λ (m : Machine g.row.S.Denot). Simulates (kind_over g.S.Scheme.scheme) c.args.start.now c.args.pick m (machine_of c.take_step.new.m) (g.N.Nvm.device c.args.nvm.now)
     (g.N.Nvm.device c.take_step.new.nvm) c.take_step.result) c.self.view_is c.take_step.ensures.steps
 
 pub returns-clause-safe : goal.returns-clause-safe

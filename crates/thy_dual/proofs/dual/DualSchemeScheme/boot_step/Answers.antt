@@ -8,28 +8,28 @@ use Rattle.thy_control.specs.State.{State}
 use Rattle.thy_scheme.specs.declared.boot_step.BootStep.{BootStep as SchemeStep}
 use Rattle.thy_scheme.specs.Boots.{BootsOn, BootFails}
 use Rattle.thy_scheme.specs.Scheme.{StaysOf, IsBooting, CanBoot}
-use Rattle.thy_dual_model.specs.Dual.{Dual}
-use Rattle.thy_dual_model.specs.Scheme.{dual_scheme}
-use Rattle.thy_dual_model.proofs.BootStepLemmas.{boots-by, fails-by, fits-by, cause-by, of-by, took-for, may-step, boot-fits}
+use Rattle.thy_dual_laws.specs.Dual.{Dual}
+use Rattle.thy_dual_laws.specs.Scheme.{dual_scheme}
+use Rattle.thy_dual_laws.proofs.BootStepLemmas.{boots-by, fails-by, fits-by, cause-by, of-by, took-for, may-step, boot-fits}
 use Rattle.thy_dual.specs.Calls.{TakesBootStep}
 use Rattle.thy_dual.proofs.CallLemmas.{takes_boot_step}
 use Rattle.thy_dual.proofs.dual.DualSchemeScheme.boot_step.Goals as goal
 
 pub step-result-requires-clause-can : goal.step-result-requires-clause-can
 step-result-requires-clause-can g c =
-    let v : Dual = record { control = c.self.inside.control; engine = c.self.inside.engine; rested = c.self.inside.rested; lean = c.self.inside.lean; boot = c.self.inside.boot } in
+    let v : Dual = record { control = c.self.inside.control; engine = c.self.inside.engine; storeless = c.self.inside.storeless; sealed_storeless = c.self.inside.sealed_storeless; boot = c.self.inside.boot } in
     let n : Device = g.N.Nvm.device c.args.nvm.now in
     may-step c.args.start.now v n (subst (λ (s : Dual). CanBoot dual_scheme c.args.start.now s n) (sym c.self.view_is) c.requires.boots)
 
 pub step-result-requires-clause-fits : goal.step-result-requires-clause-fits
 step-result-requires-clause-fits g c =
-    let v : Dual = record { control = c.self.inside.control; engine = c.self.inside.engine; rested = c.self.inside.rested; lean = c.self.inside.lean; boot = c.self.inside.boot } in
+    let v : Dual = record { control = c.self.inside.control; engine = c.self.inside.engine; storeless = c.self.inside.storeless; sealed_storeless = c.self.inside.sealed_storeless; boot = c.self.inside.boot } in
     let n : Device = g.N.Nvm.device c.args.nvm.now in
     boot-fits c.args.start.now v n (subst (λ (s : Dual). CanBoot dual_scheme c.args.start.now s n) (sym c.self.view_is) c.requires.boots)
 
 pub invariant_of-self : goal.invariant_of-self
 invariant_of-self g c =
-    let v : Dual = record { control = c.self.inside.control; engine = c.self.inside.engine; rested = c.self.inside.rested; lean = c.self.inside.lean; boot = c.self.inside.boot } in
+    let v : Dual = record { control = c.self.inside.control; engine = c.self.inside.engine; storeless = c.self.inside.storeless; sealed_storeless = c.self.inside.sealed_storeless; boot = c.self.inside.boot } in
     let n : Device = g.N.Nvm.device c.args.nvm.now in
     let new : Device = g.N.Nvm.device c.step-result.new.nvm in
     let can : CanBoot dual_scheme c.args.start.now v n = subst (λ (s : Dual). CanBoot dual_scheme c.args.start.now s n) (sym c.self.view_is) c.requires.boots in
@@ -39,7 +39,7 @@ invariant_of-self g c =
 
 pub returns-clause-ok : goal.returns-clause-ok
 returns-clause-ok g c = λ o begins booting.
-    let v : Dual = record { control = c.self.inside.control; engine = c.self.inside.engine; rested = c.self.inside.rested; lean = c.self.inside.lean; boot = c.self.inside.boot } in
+    let v : Dual = record { control = c.self.inside.control; engine = c.self.inside.engine; storeless = c.self.inside.storeless; sealed_storeless = c.self.inside.sealed_storeless; boot = c.self.inside.boot } in
     let n : Device = g.N.Nvm.device c.args.nvm.now in
     let new : Device = g.N.Nvm.device c.step-result.new.nvm in
     let d : Recovering = c.step-result.new.self in
@@ -54,7 +54,7 @@ returns-clause-ok g c = λ o begins booting.
 
 pub returns-clause-err : goal.returns-clause-err
 returns-clause-err g c = λ o begins booting.
-    let v : Dual = record { control = c.self.inside.control; engine = c.self.inside.engine; rested = c.self.inside.rested; lean = c.self.inside.lean; boot = c.self.inside.boot } in
+    let v : Dual = record { control = c.self.inside.control; engine = c.self.inside.engine; storeless = c.self.inside.storeless; sealed_storeless = c.self.inside.sealed_storeless; boot = c.self.inside.boot } in
     let n : Device = g.N.Nvm.device c.args.nvm.now in
     let new : Device = g.N.Nvm.device c.step-result.new.nvm in
     let d : Recovering = c.step-result.new.self in
@@ -68,7 +68,7 @@ returns-clause-err g c = λ o begins booting.
 
 pub returns-clause-left : goal.returns-clause-left
 returns-clause-left g c =
-    let v : Dual = record { control = c.self.inside.control; engine = c.self.inside.engine; rested = c.self.inside.rested; lean = c.self.inside.lean; boot = c.self.inside.boot } in
+    let v : Dual = record { control = c.self.inside.control; engine = c.self.inside.engine; storeless = c.self.inside.storeless; sealed_storeless = c.self.inside.sealed_storeless; boot = c.self.inside.boot } in
     let next : Dual = record v { control = c.step-result.new.control; boot = c.step-result.new.self } in
     subst (λ (s : Dual). OnErr c.scheme_result.result (StaysOf dual_scheme s next)) c.self.view_is
     (subst (λ (x : Result SchemeStep NvmError). OnErr x (StaysOf dual_scheme v next)) (sym c.scheme_result.ensures)
@@ -83,7 +83,7 @@ returns-clause-cause g c =
 
 pub returns-clause-made : goal.returns-clause-made
 returns-clause-made g c =
-    let v : Dual = record { control = c.self.inside.control; engine = c.self.inside.engine; rested = c.self.inside.rested; lean = c.self.inside.lean; boot = c.self.inside.boot } in
+    let v : Dual = record { control = c.self.inside.control; engine = c.self.inside.engine; storeless = c.self.inside.storeless; sealed_storeless = c.self.inside.sealed_storeless; boot = c.self.inside.boot } in
     let n : Device = g.N.Nvm.device c.args.nvm.now in
     let new : Device = g.N.Nvm.device c.step-result.new.nvm in
     let d : Recovering = c.step-result.new.self in

@@ -1,10 +1,10 @@
 use Rattle.std.proofs.Common.{◌≡◌, ◌<◌, length, sym, subst, IfOk, Result}
 use Rattle.thy_base.specs.declared.block.Block.{Block}
 use Rattle.thy_base.specs.Device.{Device}
-use Rattle.thy_dual_model.specs.Dual.{Dual, penults}
+use Rattle.thy_dual_laws.specs.Dual.{Dual, penults}
 use Rattle.thy_base.specs.declared.nvm.NvmError.{NvmError}
 use Rattle.thy_base.specs.Device.{block_at}
-use Rattle.thy_dual_model.proofs.AccessLemmas.{penults-inside, committed-is}
+use Rattle.thy_dual_laws.proofs.AccessLemmas.{penults-inside, committed-is}
 use Rattle.thy_dual.proofs.dual.DualSchemeScheme.committed.Goals as goal
 
 pub committed-requires-clause-block : goal.committed-requires-clause-block

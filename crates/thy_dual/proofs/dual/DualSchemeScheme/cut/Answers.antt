@@ -1,7 +1,7 @@
 use Rattle.std.proofs.Common.{sym, ◌∙◌, ap, subst}
 use Rattle.thy_dram.specs.Contents.{lost}
-use Rattle.thy_dual_model.specs.Dual.{Dual, IsOf}
-use Rattle.thy_dual_model.proofs.BootLemmas.{IsDramOf-lost}
+use Rattle.thy_dual_laws.specs.Dual.{Dual, IsOf}
+use Rattle.thy_dual_laws.proofs.BootLemmas.{IsDramOf-lost}
 use Rattle.thy_dual.proofs.dual.DualSchemeScheme.cut.Goals as goal
 
 pub returns-clause-drawn : goal.returns-clause-drawn

@@ -5,10 +5,10 @@ use Rattle.thy_record.specs.declared.engine_step.EngineStep.{EngineStep}
 use Rattle.thy_commit.specs.Items.{is_under_way}
 use Rattle.thy_scheme.specs.Scheme.{StaysOf, Stands}
 use Rattle.thy_scheme.specs.Calls.{Engines}
-use Rattle.thy_dual_model.specs.Dual.{Dual}
-use Rattle.thy_dual_model.specs.Scheme.{dual_scheme}
-use Rattle.thy_dual_model.proofs.StoreLemmas.{of-failed}
-use Rattle.thy_dual_model.proofs.EngineLemmas.{engines-by, fails-by, fits-by}
+use Rattle.thy_dual_laws.specs.Dual.{Dual}
+use Rattle.thy_dual_laws.specs.Scheme.{dual_scheme}
+use Rattle.thy_dual_laws.proofs.StoreLemmas.{of-failed}
+use Rattle.thy_dual_laws.proofs.EngineLemmas.{engines-by, fails-by, fits-by}
 use Rattle.thy_dual.specs.Calls.{TakesItem}
 use Rattle.thy_dual.proofs.CallLemmas.{takes_item}
 use Rattle.thy_dual.proofs.dual.DualSchemeScheme.engine_step.Goals as goal
@@ -21,7 +21,7 @@ invariant_of-self g c =
 
 pub returns-clause-ok : goal.returns-clause-ok
 returns-clause-ok g c = λ o k stands.
-    let v : Dual = record { control = c.self.inside.control; engine = c.self.inside.engine; rested = c.self.inside.rested; lean = c.self.inside.lean; boot = c.self.inside.boot } in
+    let v : Dual = record { control = c.self.inside.control; engine = c.self.inside.engine; storeless = c.self.inside.storeless; sealed_storeless = c.self.inside.sealed_storeless; boot = c.self.inside.boot } in
     let n : Device = g.N.Nvm.device c.args.nvm.now in
     let new : Device = g.N.Nvm.device c.step-result.new.nvm in
     let r : Result EngineStep NvmError = c.step-result.result in
@@ -34,7 +34,7 @@ returns-clause-ok g c = λ o k stands.
 
 pub returns-clause-err : goal.returns-clause-err
 returns-clause-err g c = λ o k stands.
-    let v : Dual = record { control = c.self.inside.control; engine = c.self.inside.engine; rested = c.self.inside.rested; lean = c.self.inside.lean; boot = c.self.inside.boot } in
+    let v : Dual = record { control = c.self.inside.control; engine = c.self.inside.engine; storeless = c.self.inside.storeless; sealed_storeless = c.self.inside.sealed_storeless; boot = c.self.inside.boot } in
     let n : Device = g.N.Nvm.device c.args.nvm.now in
     let new : Device = g.N.Nvm.device c.step-result.new.nvm in
     let r : Result EngineStep NvmError = c.step-result.result in
@@ -44,7 +44,7 @@ returns-clause-err g c = λ o k stands.
 
 pub returns-clause-made : goal.returns-clause-made
 returns-clause-made g c =
-    let v : Dual = record { control = c.self.inside.control; engine = c.self.inside.engine; rested = c.self.inside.rested; lean = c.self.inside.lean; boot = c.self.inside.boot } in
+    let v : Dual = record { control = c.self.inside.control; engine = c.self.inside.engine; storeless = c.self.inside.storeless; sealed_storeless = c.self.inside.sealed_storeless; boot = c.self.inside.boot } in
     let n : Device = g.N.Nvm.device c.args.nvm.now in
     let new : Device = g.N.Nvm.device c.step-result.new.nvm in
     let r : Result EngineStep NvmError = c.step-result.result in
@@ -56,7 +56,7 @@ returns-clause-made g c =
 
 pub returns-clause-left : goal.returns-clause-left
 returns-clause-left g c =
-    let v : Dual = record { control = c.self.inside.control; engine = c.self.inside.engine; rested = c.self.inside.rested; lean = c.self.inside.lean; boot = c.self.inside.boot } in
+    let v : Dual = record { control = c.self.inside.control; engine = c.self.inside.engine; storeless = c.self.inside.storeless; sealed_storeless = c.self.inside.sealed_storeless; boot = c.self.inside.boot } in
     let next : Dual = record v { control = c.step-result.new.control; engine = c.step-result.new.self } in
     subst (λ (s : Dual). OnErr c.step-result.result (StaysOf dual_scheme s next)) c.self.view_is
     (of-failed c.step-result.result v next c.step-result.ensures.kept_control)

@@ -1,7 +1,7 @@
 use Rattle.std.proofs.Common.{◌∙◌, ap}
-use Rattle.thy_dual_model.specs.Boots.{loads_at}
-use Rattle.thy_dual_model.specs.Dual.{Dual}
-use Rattle.thy_dual_model.proofs.BootLemmas.{loading-is}
+use Rattle.thy_dual_laws.specs.Boots.{loads_at}
+use Rattle.thy_dual_laws.specs.Dual.{Dual}
+use Rattle.thy_dual_laws.proofs.BootLemmas.{loading-is}
 use Rattle.thy_dual.proofs.dual.DualSchemeScheme.loading.Goals as goal
 
 pub returns-clause-found : goal.returns-clause-found

@@ -1,11 +1,11 @@
 use Rattle.std.proofs.Common.{◌≡◌, Bool, true, false, if◌then◌else◌, sym, ◌∙◌, ap, subst}
 use Rattle.thy_scheme.specs.Scheme.{Stands}
-use Rattle.thy_dual_model.specs.Dual.{Dual, is_overlaid}
-use Rattle.thy_dual_model.specs.Scheme.{dual_scheme}
+use Rattle.thy_dual_laws.specs.Dual.{Dual, is_overlaid}
+use Rattle.thy_dual_laws.specs.Scheme.{dual_scheme}
 use Rattle.thy_commit.specs.Items.{is_under_way}
 use Rattle.thy_scheme.specs.Calls.{Merges}
-use Rattle.thy_dual_model.proofs.CallLemmas.{merges}
-use Rattle.thy_dual_model.proofs.MergeLemmas.{Fits-merged}
+use Rattle.thy_dual_laws.proofs.CallLemmas.{merges}
+use Rattle.thy_dual_laws.proofs.MergeLemmas.{Fits-merged}
 use Rattle.thy_control.specs.Merges.{next_merge, after_merge}
 use Rattle.thy_control.specs.State.{State}
 use Rattle.thy_dual.specs.Calls.{merged, with_control}
@@ -18,7 +18,7 @@ invariant_of-self c =
 
 pub returns-then-overlay-clause-some : goal.returns-then-overlay-clause-some
 returns-then-overlay-clause-some c = λ some o k n stands.
-    let v : Dual = record { control = c.self.inside.control; engine = c.self.inside.engine; rested = c.self.inside.rested; lean = c.self.inside.lean; boot = c.self.inside.boot } in
+    let v : Dual = record { control = c.self.inside.control; engine = c.self.inside.engine; storeless = c.self.inside.storeless; sealed_storeless = c.self.inside.sealed_storeless; boot = c.self.inside.boot } in
     let stands_v : Stands dual_scheme o k v n = subst (λ (s : Dual). Stands dual_scheme o k s n) (sym c.self.view_is) stands in
     let m = c.merge_one.ensures in
     subst (λ (s : Dual). Merges dual_scheme o k s n (record v { control = c.merge_one.new.self })) c.self.view_is
@@ -26,7 +26,7 @@ returns-then-overlay-clause-some c = λ some o k n stands.
 
 pub returns-then-overlay-clause-state : goal.returns-then-overlay-clause-state
 returns-then-overlay-clause-state c =
-    let v : Dual = record { control = c.self.inside.control; engine = c.self.inside.engine; rested = c.self.inside.rested; lean = c.self.inside.lean; boot = c.self.inside.boot } in
+    let v : Dual = record { control = c.self.inside.control; engine = c.self.inside.engine; storeless = c.self.inside.storeless; sealed_storeless = c.self.inside.sealed_storeless; boot = c.self.inside.boot } in
     let on : is_overlaid v.control ≡ true = sym c.overlay.ensures.overlay ∙ c.if-overlay.true in
     subst (λ (s : Dual). record v { control = c.merge_one.new.self } ≡ merged s) c.self.view_is
     (ap (λ (x : State). record v { control = x }) c.merge_one.ensures.state
@@ -34,7 +34,7 @@ returns-then-overlay-clause-state c =
 
 pub returns-then-overlay-clause-none : goal.returns-then-overlay-clause-none
 returns-then-overlay-clause-none c = λ none.
-    let v : Dual = record { control = c.self.inside.control; engine = c.self.inside.engine; rested = c.self.inside.rested; lean = c.self.inside.lean; boot = c.self.inside.boot } in
+    let v : Dual = record { control = c.self.inside.control; engine = c.self.inside.engine; storeless = c.self.inside.storeless; sealed_storeless = c.self.inside.sealed_storeless; boot = c.self.inside.boot } in
     let on : is_overlaid v.control ≡ true = sym c.overlay.ensures.overlay ∙ c.if-overlay.true in
     let off : is_overlaid v.control ≡ false = subst (λ (s : Dual). is_overlaid s.control ≡ false) (sym c.self.view_is) none in
     let both : true ≡ false = sym on ∙ off in

@@ -1,12 +1,12 @@
 use Rattle.std.proofs.Common.{◌≡◌, true, sym, ◌∙◌, subst, Ok, OnErr}
 use Rattle.thy_base.specs.Device.{Device}
 use Rattle.thy_scheme.specs.Scheme.{StaysOf, Stands}
-use Rattle.thy_dual_model.specs.Dual.{Dual, is_promoting}
-use Rattle.thy_dual_model.specs.Scheme.{dual_scheme}
+use Rattle.thy_dual_laws.specs.Dual.{Dual, is_promoting}
+use Rattle.thy_dual_laws.specs.Scheme.{dual_scheme}
 use Rattle.thy_commit.proofs.FitLemmas.{stays_fit}
 use Rattle.thy_scheme.specs.Calls.{Promotes}
-use Rattle.thy_dual_model.proofs.StoreLemmas.{of-kept}
-use Rattle.thy_dual_model.proofs.CallLemmas.{promotes}
+use Rattle.thy_dual_laws.proofs.StoreLemmas.{of-kept}
+use Rattle.thy_dual_laws.proofs.CallLemmas.{promotes}
 use Rattle.thy_dual.specs.Calls.{PromotesNext}
 use Rattle.thy_dual.proofs.CallLemmas.{promotes_next}
 use Rattle.thy_dual.proofs.dual.DualSchemeScheme.promote_one.Goals as goal
@@ -18,7 +18,7 @@ invariant_of-self-then-promoting g c =
 
 pub returns-in_ok-promote_one-clause-ok : goal.returns-in_ok-promote_one-clause-ok
 returns-in_ok-promote_one-clause-ok g c = λ promoting o k stands.
-    let v : Dual = record { control = c.self.inside.control; engine = c.self.inside.engine; rested = c.self.inside.rested; lean = c.self.inside.lean; boot = c.self.inside.boot } in
+    let v : Dual = record { control = c.self.inside.control; engine = c.self.inside.engine; storeless = c.self.inside.storeless; sealed_storeless = c.self.inside.sealed_storeless; boot = c.self.inside.boot } in
     let n : Device = g.N.Nvm.device c.args.nvm.now in
     let new : Device = g.N.Nvm.device c.promote_one.new.nvm in
     let stands_v : Stands dual_scheme o k v n = subst (λ (s : Dual). Stands dual_scheme o k s n) (sym c.self.view_is) stands in
@@ -29,7 +29,7 @@ returns-in_ok-promote_one-clause-ok g c = λ promoting o k stands.
 
 pub returns-in_ok-promote_one-clause-made : goal.returns-in_ok-promote_one-clause-made
 returns-in_ok-promote_one-clause-made g c =
-    let v : Dual = record { control = c.self.inside.control; engine = c.self.inside.engine; rested = c.self.inside.rested; lean = c.self.inside.lean; boot = c.self.inside.boot } in
+    let v : Dual = record { control = c.self.inside.control; engine = c.self.inside.engine; storeless = c.self.inside.storeless; sealed_storeless = c.self.inside.sealed_storeless; boot = c.self.inside.boot } in
     let n : Device = g.N.Nvm.device c.args.nvm.now in
     let new : Device = g.N.Nvm.device c.promote_one.new.nvm in
     let on : is_promoting v.control ≡ true = sym c.promoting.ensures.promoting ∙ c.if-promoting.true in
@@ -39,7 +39,7 @@ returns-in_ok-promote_one-clause-made g c =
 
 pub returns-in_err-promote_one-clause-left : goal.returns-in_err-promote_one-clause-left
 returns-in_err-promote_one-clause-left g c =
-    let v : Dual = record { control = c.self.inside.control; engine = c.self.inside.engine; rested = c.self.inside.rested; lean = c.self.inside.lean; boot = c.self.inside.boot } in
+    let v : Dual = record { control = c.self.inside.control; engine = c.self.inside.engine; storeless = c.self.inside.storeless; sealed_storeless = c.self.inside.sealed_storeless; boot = c.self.inside.boot } in
     let next : Dual = record v { control = c.promote_one.new.self } in
     subst (λ (s : Dual). OnErr c.from_residual.result (StaysOf dual_scheme s next)) c.self.view_is
     (of-kept c.from_residual.result v next c.in_err-promote_one.ensures.fills.kept)

@@ -1,7 +1,7 @@
 use Rattle.std.proofs.Common.{◌≡◌, ◌<◌, true, false, length, sym, subst, IfOk, Result}
 use Rattle.thy_base.specs.Device.{Device}
-use Rattle.thy_dual_model.specs.Dual.{Dual}
-use Rattle.thy_dual_model.specs.Scheme.{dual_scheme}
+use Rattle.thy_dual_laws.specs.Dual.{Dual}
+use Rattle.thy_dual_laws.specs.Scheme.{dual_scheme}
 use Rattle.thy_base.specs.declared.nvm.NvmError.{NvmError}
 use Rattle.thy_base.specs.declared.store.Stored.{Stored}
 use Rattle.thy_base.specs.Store.{HasStored}
@@ -12,7 +12,7 @@ use Rattle.thy_control.proofs.StoreLemmas.{ready-whole, stored_by, once_stored}
 use Rattle.thy_commit.proofs.FitLemmas.{stays_fit}
 use Rattle.thy_scheme.specs.Calls.{IsOneAccess}
 use Rattle.thy_view.specs.Dram.{WritesBlock}
-use Rattle.thy_dual_model.proofs.AccessLemmas.{one-access, store-room, store-up, store-writes, store-whole, store-stays}
+use Rattle.thy_dual_laws.proofs.AccessLemmas.{one-access, store-room, store-up, store-writes, store-whole, store-stays}
 use Rattle.thy_dual.specs.Calls.{StoresByRule}
 use Rattle.thy_dual.proofs.CallLemmas.{stores_by_rule}
 use Rattle.thy_dual.proofs.dual.DualSchemeScheme.store.Goals as goal
@@ -43,7 +43,7 @@ returns-clause-up g c =
 
 pub returns-clause-once : goal.returns-clause-once
 returns-clause-once g c =
-    let v : Dual = record { control = c.self.inside.control; engine = c.self.inside.engine; rested = c.self.inside.rested; lean = c.self.inside.lean; boot = c.self.inside.boot } in
+    let v : Dual = record { control = c.self.inside.control; engine = c.self.inside.engine; storeless = c.self.inside.storeless; sealed_storeless = c.self.inside.sealed_storeless; boot = c.self.inside.boot } in
     let t : State = c.store-result.new.self in
     let m : Device = g.N.Nvm.device c.args.nvm.now in
     let n : Device = g.N.Nvm.device c.store-result.new.nvm in
@@ -59,16 +59,16 @@ returns-clause-once g c =
     let whole : promoted t.ptt ≡ 0 = store-whole c.args.b c.args.block.now v.control m t n r ready stored e.kept in
     let stays = store-stays v m t n e.stays (store-room c.args.b c.args.block.now v.control m t n r e.state e.kept) c.tables-2.ensures whole in
     let writes : n.down ≡ false → WritesBlock m n v.control.dram t.dram = store-writes c.args.b c.args.block.now v.control m t n r e.state e.nvm e.err in
-    subst (λ (d : Dual). IsOneAccess dual_scheme d m (record v { control = t; rested = false }) n) c.self.view_is
-    (one-access v m (record v { control = t; rested = false }) n once works.up stays writes)
+    subst (λ (d : Dual). IsOneAccess dual_scheme d m (record v { control = t; storeless = false }) n) c.self.view_is
+    (one-access v m (record v { control = t; storeless = false }) n once works.up stays writes)
 
 pub returns-clause-made : goal.returns-clause-made
 returns-clause-made g c =
-    let v : Dual = record { control = c.self.inside.control; engine = c.self.inside.engine; rested = c.self.inside.rested; lean = c.self.inside.lean; boot = c.self.inside.boot } in
+    let v : Dual = record { control = c.self.inside.control; engine = c.self.inside.engine; storeless = c.self.inside.storeless; sealed_storeless = c.self.inside.sealed_storeless; boot = c.self.inside.boot } in
     let t : State = c.store-result.new.self in
     let m : Device = g.N.Nvm.device c.args.nvm.now in
     let n : Device = g.N.Nvm.device c.store-result.new.nvm in
     let r : Result Stored NvmError = c.store-result.result in
     let e = c.store-result.ensures in
-    subst (λ (d : Dual). StoresByRule c.args.b c.args.block.now d m r (record v { control = t; rested = false }) n) c.self.view_is
+    subst (λ (d : Dual). StoresByRule c.args.b c.args.block.now d m r (record v { control = t; storeless = false }) n) c.self.view_is
     (stores_by_rule c.args.b c.args.block.now v m r t n e.answer e.state e.nvm e.kept e.err)

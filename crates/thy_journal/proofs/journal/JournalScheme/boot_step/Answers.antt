@@ -11,7 +11,7 @@ use Rattle.thy_scheme.specs.Scheme.{StaysOf, IsBooting, CanBoot}
 use Rattle.thy_log.specs.Progress.{Progress}
 use Rattle.thy_log.specs.State.{State}
 use Rattle.thy_refill.specs.Filling.{filling_journal}
-use Rattle.thy_journal_model.specs.Journal.{Journal as Value}
+use Rattle.thy_journal_laws.specs.Journal.{Journal as Value}
 use Rattle.thy_journal_scheme.specs.Boots.{engine_at, result_of}
 use Rattle.thy_journal_scheme.specs.Scheme.{journal_scheme}
 use Rattle.thy_journal_scheme.proofs.StepLemmas.{boots-by, boot-fails-by, cause-by, of-by, took-for, may-step}
@@ -21,20 +21,20 @@ use Rattle.thy_journal.proofs.journal.JournalScheme.boot_step.Goals as goal
 
 pub step-result-requires-clause-can : goal.step-result-requires-clause-can
 step-result-requires-clause-can g c =
-    let v : Value = record { log = c.self.inside.log; engine = c.self.inside.engine; rested = c.self.inside.rested; lean = c.self.inside.lean; boot = c.self.inside.boot } in
+    let v : Value = record { log = c.self.inside.log; engine = c.self.inside.engine; storeless = c.self.inside.storeless; sealed_storeless = c.self.inside.sealed_storeless; boot = c.self.inside.boot } in
     let n : Device = g.N.Nvm.device c.args.nvm.now in
     may-step c.args.start.now v n (subst (λ (s : Value). CanBoot journal_scheme c.args.start.now s n) (sym c.self.view_is) c.requires.boots)
 
 pub step-result-requires-clause-fits : goal.step-result-requires-clause-fits
 step-result-requires-clause-fits g c =
-    let v : Value = record { log = c.self.inside.log; engine = c.self.inside.engine; rested = c.self.inside.rested; lean = c.self.inside.lean; boot = c.self.inside.boot } in
+    let v : Value = record { log = c.self.inside.log; engine = c.self.inside.engine; storeless = c.self.inside.storeless; sealed_storeless = c.self.inside.sealed_storeless; boot = c.self.inside.boot } in
     let n : Device = g.N.Nvm.device c.args.nvm.now in
     let can : CanBoot journal_scheme c.args.start.now v n = subst (λ (s : Value). CanBoot journal_scheme c.args.start.now s n) (sym c.self.view_is) c.requires.boots in
     can.booting.boots.boot
 
 pub invariant_of-self : goal.invariant_of-self
 invariant_of-self g c =
-    let v : Value = record { log = c.self.inside.log; engine = c.self.inside.engine; rested = c.self.inside.rested; lean = c.self.inside.lean; boot = c.self.inside.boot } in
+    let v : Value = record { log = c.self.inside.log; engine = c.self.inside.engine; storeless = c.self.inside.storeless; sealed_storeless = c.self.inside.sealed_storeless; boot = c.self.inside.boot } in
     let n : Device = g.N.Nvm.device c.args.nvm.now in
     let new : Device = g.N.Nvm.device c.step-result.new.nvm in
     let can : CanBoot journal_scheme c.args.start.now v n = subst (λ (s : Value). CanBoot journal_scheme c.args.start.now s n) (sym c.self.view_is) c.requires.boots in
@@ -45,7 +45,7 @@ invariant_of-self g c =
 
 pub returns-clause-ok : goal.returns-clause-ok
 returns-clause-ok g c = λ o begins booting.
-    let v : Value = record { log = c.self.inside.log; engine = c.self.inside.engine; rested = c.self.inside.rested; lean = c.self.inside.lean; boot = c.self.inside.boot } in
+    let v : Value = record { log = c.self.inside.log; engine = c.self.inside.engine; storeless = c.self.inside.storeless; sealed_storeless = c.self.inside.sealed_storeless; boot = c.self.inside.boot } in
     let n : Device = g.N.Nvm.device c.args.nvm.now in
     let new : Device = g.N.Nvm.device c.step-result.new.nvm in
     let d : Booting = c.step-result.new.self in
@@ -62,7 +62,7 @@ returns-clause-ok g c = λ o begins booting.
 
 pub returns-clause-err : goal.returns-clause-err
 returns-clause-err g c = λ o begins booting.
-    let v : Value = record { log = c.self.inside.log; engine = c.self.inside.engine; rested = c.self.inside.rested; lean = c.self.inside.lean; boot = c.self.inside.boot } in
+    let v : Value = record { log = c.self.inside.log; engine = c.self.inside.engine; storeless = c.self.inside.storeless; sealed_storeless = c.self.inside.sealed_storeless; boot = c.self.inside.boot } in
     let n : Device = g.N.Nvm.device c.args.nvm.now in
     let new : Device = g.N.Nvm.device c.step-result.new.nvm in
     let d : Booting = c.step-result.new.self in
@@ -76,7 +76,7 @@ returns-clause-err g c = λ o begins booting.
 
 pub returns-clause-left : goal.returns-clause-left
 returns-clause-left g c =
-    let v : Value = record { log = c.self.inside.log; engine = c.self.inside.engine; rested = c.self.inside.rested; lean = c.self.inside.lean; boot = c.self.inside.boot } in
+    let v : Value = record { log = c.self.inside.log; engine = c.self.inside.engine; storeless = c.self.inside.storeless; sealed_storeless = c.self.inside.sealed_storeless; boot = c.self.inside.boot } in
     let next : Value = record v { log = c.step-result.new.control; engine = c.begin_to_apply.new.engine; boot = c.step-result.new.self } in
     subst (λ (s : Value). OnErr c.scheme_result.result (StaysOf journal_scheme s next)) c.self.view_is
     (subst (λ (x : Result SchemeStep NvmError). OnErr x (StaysOf journal_scheme v next)) (sym c.scheme_result.ensures)
@@ -91,7 +91,7 @@ returns-clause-cause g c =
 
 pub returns-clause-made : goal.returns-clause-made
 returns-clause-made g c =
-    let v : Value = record { log = c.self.inside.log; engine = c.self.inside.engine; rested = c.self.inside.rested; lean = c.self.inside.lean; boot = c.self.inside.boot } in
+    let v : Value = record { log = c.self.inside.log; engine = c.self.inside.engine; storeless = c.self.inside.storeless; sealed_storeless = c.self.inside.sealed_storeless; boot = c.self.inside.boot } in
     let n : Device = g.N.Nvm.device c.args.nvm.now in
     let new : Device = g.N.Nvm.device c.step-result.new.nvm in
     let d : Booting = c.step-result.new.self in

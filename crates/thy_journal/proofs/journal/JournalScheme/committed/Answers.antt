@@ -1,7 +1,7 @@
 use Rattle.std.proofs.Common.{◌≡◌, ◌<◌, true, false, length, sym, ◌∙◌, subst, IfOk}
 use Rattle.thy_base.specs.Device.{Device, block_at}
 use Rattle.thy_log.specs.State.{home_of, work_of}
-use Rattle.thy_journal_model.specs.Journal.{Journal as Value, committed_in}
+use Rattle.thy_journal_laws.specs.Journal.{Journal as Value, committed_in}
 use Rattle.thy_journal.proofs.CallLemmas.{ok_same, committed_long, committed_work, committed_home}
 use Rattle.thy_journal.proofs.journal.JournalScheme.committed.Goals as goal
 

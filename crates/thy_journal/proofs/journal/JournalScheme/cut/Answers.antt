@@ -1,7 +1,7 @@
 use Rattle.std.proofs.Common.{sym, ◌∙◌, ap, subst}
 use Rattle.thy_dram.specs.Contents.{lost}
-use Rattle.thy_journal_model.specs.Journal.{Journal as Value}
-use Rattle.thy_journal_model.specs.Journal.{IsOf}
+use Rattle.thy_journal_laws.specs.Journal.{Journal as Value}
+use Rattle.thy_journal_laws.specs.Journal.{IsOf}
 use Rattle.thy_journal.proofs.CallLemmas.{IsDramOf-lost}
 use Rattle.thy_journal.proofs.journal.JournalScheme.cut.Goals as goal
 

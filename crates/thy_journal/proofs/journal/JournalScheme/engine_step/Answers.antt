@@ -5,7 +5,7 @@ use Rattle.thy_record.specs.declared.engine_step.EngineStep.{EngineStep}
 use Rattle.thy_scheme.specs.Scheme.{StaysOf, Stands, CanRun}
 use Rattle.thy_scheme.specs.Calls.{Engines}
 use Rattle.thy_log.specs.Items.{is_under_way}
-use Rattle.thy_journal_model.specs.Journal.{Journal as Value}
+use Rattle.thy_journal_laws.specs.Journal.{Journal as Value}
 use Rattle.thy_journal_scheme.specs.Scheme.{journal_scheme}
 use Rattle.thy_journal_scheme.proofs.CallLemmas.{engines-by, fails-by}
 use Rattle.thy_journal_scheme.proofs.StayLemmas.{of-failed}
@@ -15,7 +15,7 @@ use Rattle.thy_journal.proofs.journal.JournalScheme.engine_step.Goals as goal
 
 pub step-requires-clause-sized : goal.step-requires-clause-sized
 step-requires-clause-sized g c =
-    let v : Value = record { log = c.self.inside.log; engine = c.self.inside.engine; rested = c.self.inside.rested; lean = c.self.inside.lean; boot = c.self.inside.boot } in
+    let v : Value = record { log = c.self.inside.log; engine = c.self.inside.engine; storeless = c.self.inside.storeless; sealed_storeless = c.self.inside.sealed_storeless; boot = c.self.inside.boot } in
     let n : Device = g.N.Nvm.device c.args.nvm.now in
     let run : CanRun journal_scheme v n = subst (λ (s : Value). CanRun journal_scheme s n) (sym c.self.view_is) c.requires.stands in
     run.stands.sound.held.sized
@@ -30,7 +30,7 @@ invariant_of-self g c =
 
 pub returns-clause-ok : goal.returns-clause-ok
 returns-clause-ok g c = λ o k stands.
-    let v : Value = record { log = c.self.inside.log; engine = c.self.inside.engine; rested = c.self.inside.rested; lean = c.self.inside.lean; boot = c.self.inside.boot } in
+    let v : Value = record { log = c.self.inside.log; engine = c.self.inside.engine; storeless = c.self.inside.storeless; sealed_storeless = c.self.inside.sealed_storeless; boot = c.self.inside.boot } in
     let n : Device = g.N.Nvm.device c.args.nvm.now in
     let new : Device = g.N.Nvm.device c.step.new.nvm in
     let r : Result EngineStep NvmError = c.step.result in
@@ -42,7 +42,7 @@ returns-clause-ok g c = λ o k stands.
 
 pub returns-clause-err : goal.returns-clause-err
 returns-clause-err g c = λ o k stands.
-    let v : Value = record { log = c.self.inside.log; engine = c.self.inside.engine; rested = c.self.inside.rested; lean = c.self.inside.lean; boot = c.self.inside.boot } in
+    let v : Value = record { log = c.self.inside.log; engine = c.self.inside.engine; storeless = c.self.inside.storeless; sealed_storeless = c.self.inside.sealed_storeless; boot = c.self.inside.boot } in
     let n : Device = g.N.Nvm.device c.args.nvm.now in
     let on : is_under_way v.engine.next ≡ true = subst (λ (s : Value). is_under_way s.engine.next ≡ true) (sym c.self.view_is) c.requires.way in
     let stands_v : Stands journal_scheme o k v n = subst (λ (s : Value). Stands journal_scheme o k s n) (sym c.self.view_is) stands in
@@ -50,7 +50,7 @@ returns-clause-err g c = λ o k stands.
 
 pub returns-clause-made : goal.returns-clause-made
 returns-clause-made g c =
-    let v : Value = record { log = c.self.inside.log; engine = c.self.inside.engine; rested = c.self.inside.rested; lean = c.self.inside.lean; boot = c.self.inside.boot } in
+    let v : Value = record { log = c.self.inside.log; engine = c.self.inside.engine; storeless = c.self.inside.storeless; sealed_storeless = c.self.inside.sealed_storeless; boot = c.self.inside.boot } in
     let n : Device = g.N.Nvm.device c.args.nvm.now in
     let new : Device = g.N.Nvm.device c.step.new.nvm in
     let e = c.step.ensures in
@@ -59,6 +59,6 @@ returns-clause-made g c =
 
 pub returns-clause-left : goal.returns-clause-left
 returns-clause-left g c =
-    let v : Value = record { log = c.self.inside.log; engine = c.self.inside.engine; rested = c.self.inside.rested; lean = c.self.inside.lean; boot = c.self.inside.boot } in
+    let v : Value = record { log = c.self.inside.log; engine = c.self.inside.engine; storeless = c.self.inside.storeless; sealed_storeless = c.self.inside.sealed_storeless; boot = c.self.inside.boot } in
     let next : Value = record v { log = c.step.new.log; engine = c.step.new.self } in
     subst (λ (s : Value). OnErr c.step.result (StaysOf journal_scheme s next)) c.self.view_is (of-failed c.step.result v next c.step.ensures.kept_log)

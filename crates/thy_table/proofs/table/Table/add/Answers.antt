@@ -1,12 +1,12 @@
 use Rattle.std.proofs.Common.{◌≡◌, Some, None, is_none, position, sym, ◌∙◌, ap}
 use Rattle.std.proofs.lemmas.List.Quantifiers.{position-Some}
 use Rattle.thy_table.specs.Listing.{free_place}
-use Rattle.thy_table.proofs.IndexLemmas.{IsSound-lowest, None-is_none}
+use Rattle.thy_table.proofs.IndexLemmas.{IsSoundTable-lowest, None-is_none}
 use Rattle.thy_table.proofs.table.Table.add.Goals as goal
 
 pub invariant_of-self : goal.invariant_of-self
 invariant_of-self g c =
-    IsSound-lowest g.E.Keyed.key _ _ _ _ c.self.invariant c.in-Some.place (ap free_place c.self.view_is ∙ sym c.lowest_free.ensures.place ∙ c.in-Some.is)
+    IsSoundTable-lowest g.E.Keyed.key _ _ _ _ c.self.invariant c.in-Some.place (ap free_place c.self.view_is ∙ sym c.lowest_free.ensures.place ∙ c.in-Some.is)
 
 pub put-requires-clause-free : goal.put-requires-clause-free
 put-requires-clause-free g c =

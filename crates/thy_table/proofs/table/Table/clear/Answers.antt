@@ -1,6 +1,6 @@
 use Rattle.std.proofs.Common.{◌≡◌, ◌<◌, Some, None, length, get_or, refl, sym, ◌∙◌, ap, arith}
 use Rattle.std.proofs.lemmas.List.{get_or_read}
-use Rattle.thy_table.proofs.IndexLemmas.{IsSound-clear, lists-key, indexed-inside}
+use Rattle.thy_table.proofs.IndexLemmas.{IsSoundTable-clear, lists-key, indexed-inside}
 use Rattle.thy_table.proofs.table.Table.clear.Goals as goal
 
 pub index_mut-requires-in-Some : goal.index_mut-requires-in-Some
@@ -22,4 +22,4 @@ invariant_of-self g c =
     let es = c.self.inside.entries.items in
     let inside : c.args.i < length es = omega (arith, c.requires, ap (λ t. length t.entries) c.self.view_is) in
     let was : get_or es c.args.i None ≡ Some c.in-Some.entry = sym (get_or_read es c.args.i c.index.result.now inside c.index.ensures None) ∙ c.in-Some.is in
-    rw (c.key.ensures, c.min-self-inside.ensures) (IsSound-clear key _ _ _ _ c.self.invariant c.args.i c.in-Some.entry was)
+    rw (c.key.ensures, c.min-self-inside.ensures) (IsSoundTable-clear key _ _ _ _ c.self.invariant c.args.i c.in-Some.entry was)

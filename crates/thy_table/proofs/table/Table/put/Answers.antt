@@ -1,6 +1,6 @@
 use Rattle.std.proofs.Common.{◌≡◌, ◌<◌, None, length, sym, ◌∙◌, ap, arith}
 use Rattle.thy_table.specs.Listing.{place_of, indexed_at, entry_at}
-use Rattle.thy_table.proofs.IndexLemmas.{IsSound-put, some-free, position-indexed}
+use Rattle.thy_table.proofs.IndexLemmas.{IsSoundTable-put, some-free, position-indexed}
 use Rattle.thy_table.proofs.table.Table.put.Goals as goal
 
 pub overflow_sub-self : goal.overflow_sub-self
@@ -16,5 +16,5 @@ invariant_of-self g c =
     = sym (position-indexed key _ _ _ _ c.self.invariant (key c.args.entry)) ∙ ap (place_of key (key c.args.entry)) c.self.view_is ∙ c.requires.unlisted in
     let room : key c.args.entry < length c.self.inside.places.items = omega (arith, c.requires.number, ap (λ t. t.numbers) c.self.view_is) in
     rw c.key.ensures
-    (IsSound-put key _ _ _ _ c.self.invariant c.args.place c.args.entry c.raised-self-inside.result inside
+    (IsSoundTable-put key _ _ _ _ c.self.invariant c.args.place c.args.entry c.raised-self-inside.result inside
     (ap (λ t. entry_at t c.args.place) c.self.view_is ∙ c.requires.free) unlisted room c.raised-self-inside.ensures)

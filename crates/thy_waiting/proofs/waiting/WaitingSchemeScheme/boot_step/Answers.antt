@@ -3,10 +3,10 @@ use Rattle.thy_base.specs.Device.{Device}
 use Rattle.thy_scheme.specs.declared.boot_step.BootStep.{BootStep}
 use Rattle.thy_scheme.specs.Boots.{BootsOn, BootFails}
 use Rattle.thy_scheme.specs.Scheme.{IsBooting}
-use Rattle.thy_dual_model.specs.Dual.{Dual}
-use Rattle.thy_dual_model.specs.Scheme.{dual_scheme}
-use Rattle.thy_waiting_model.specs.Waiting.{Waiting}
-use Rattle.thy_waiting_model.proofs.BootLemmas.{below-boots}
+use Rattle.thy_dual_laws.specs.Dual.{Dual}
+use Rattle.thy_dual_laws.specs.Scheme.{dual_scheme}
+use Rattle.thy_waiting_laws.specs.Waiting.{Waiting}
+use Rattle.thy_waiting_laws.proofs.BootLemmas.{below-boots}
 use Rattle.thy_waiting.specs.Calls.{waiting_scheme}
 use Rattle.thy_waiting.proofs.CallLemmas.{boots, boot-fails}
 use Rattle.thy_waiting.proofs.waiting.WaitingSchemeScheme.boot_step.Goals as goal

@@ -1,7 +1,7 @@
 use Rattle.std.proofs.Common.{sym, subst}
-use Rattle.thy_dual_model.specs.Dual.{IsOf}
-use Rattle.thy_waiting_model.specs.Waiting.{Waiting}
-use Rattle.thy_dual_model.specs.Dual.{Dual}
+use Rattle.thy_dual_laws.specs.Dual.{IsOf}
+use Rattle.thy_waiting_laws.specs.Waiting.{Waiting}
+use Rattle.thy_dual_laws.specs.Dual.{Dual}
 use Rattle.thy_waiting.proofs.waiting.WaitingSchemeScheme.cut.Goals as goal
 
 pub returns-clause-sized : goal.returns-clause-sized

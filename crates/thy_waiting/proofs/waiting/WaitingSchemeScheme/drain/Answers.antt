@@ -1,8 +1,8 @@
 use Rattle.std.proofs.Common.{sym, subst}
 use Rattle.thy_scheme.specs.Calls.{Drains}
 use Rattle.thy_scheme.specs.Scheme.{Stands}
-use Rattle.thy_dual_model.specs.Dual.{Dual}
-use Rattle.thy_waiting_model.specs.Waiting.{Waiting}
+use Rattle.thy_dual_laws.specs.Dual.{Dual}
+use Rattle.thy_waiting_laws.specs.Waiting.{Waiting}
 use Rattle.thy_waiting.specs.Calls.{waiting_scheme, with_below}
 use Rattle.thy_waiting.proofs.CallLemmas.{stands-below, drains}
 use Rattle.thy_waiting.proofs.waiting.WaitingSchemeScheme.drain.Goals as goal

@@ -5,10 +5,10 @@ use Rattle.thy_record.specs.declared.engine_step.EngineStep.{EngineStep}
 use Rattle.thy_record.specs.declared.engine_step.EngineStep.TheVariants.{Barrier}
 use Rattle.thy_scheme.specs.Calls.{Engines}
 use Rattle.thy_scheme.specs.Scheme.{Stands}
-use Rattle.thy_dual_model.specs.Dual.{Dual}
-use Rattle.thy_dual_model.specs.Scheme.{dual_scheme}
-use Rattle.thy_waiting_model.specs.Waiting.{Waiting}
-use Rattle.thy_waiting_model.specs.Scheme.{is_under_way}
+use Rattle.thy_dual_laws.specs.Dual.{Dual}
+use Rattle.thy_dual_laws.specs.Scheme.{dual_scheme}
+use Rattle.thy_waiting_laws.specs.Waiting.{Waiting}
+use Rattle.thy_waiting_laws.specs.Scheme.{is_under_way}
 use Rattle.thy_waiting.specs.Calls.{waiting_scheme}
 use Rattle.thy_waiting.proofs.CallLemmas.{stands-below, engines, engine-fails, barrier-made, barrier-fails}
 use Rattle.thy_waiting.proofs.waiting.WaitingSchemeScheme.engine_step.Goals as goal

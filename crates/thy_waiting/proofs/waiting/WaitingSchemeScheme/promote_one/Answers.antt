@@ -2,8 +2,8 @@ use Rattle.std.proofs.Common.{◌≡◌, true, false, sym, ap, subst, OnOk}
 use Rattle.thy_base.specs.Device.{Device}
 use Rattle.thy_scheme.specs.Calls.{Promotes, TakesNoAction}
 use Rattle.thy_scheme.specs.Scheme.{Stands}
-use Rattle.thy_dual_model.specs.Dual.{Dual, is_promoting}
-use Rattle.thy_waiting_model.specs.Waiting.{Waiting}
+use Rattle.thy_dual_laws.specs.Dual.{Dual, is_promoting}
+use Rattle.thy_waiting_laws.specs.Waiting.{Waiting}
 use Rattle.thy_waiting.specs.Calls.{waiting_scheme, with_below}
 use Rattle.thy_waiting.proofs.CallLemmas.{stands-below, promotes}
 use Rattle.thy_waiting.proofs.waiting.WaitingSchemeScheme.promote_one.Goals as goal

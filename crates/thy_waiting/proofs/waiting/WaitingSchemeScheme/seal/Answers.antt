@@ -1,10 +1,10 @@
 use Rattle.std.proofs.Common.{◌≡◌, false, sym, subst}
 use Rattle.thy_scheme.specs.Calls.{Seals}
 use Rattle.thy_scheme.specs.Scheme.{Stands}
-use Rattle.thy_dual_model.specs.Dual.{Dual}
-use Rattle.thy_dual_model.specs.Scheme.{dual_scheme}
-use Rattle.thy_waiting_model.specs.Waiting.{Waiting}
-use Rattle.thy_waiting_model.specs.Scheme.{is_under_way}
+use Rattle.thy_dual_laws.specs.Dual.{Dual}
+use Rattle.thy_dual_laws.specs.Scheme.{dual_scheme}
+use Rattle.thy_waiting_laws.specs.Waiting.{Waiting}
+use Rattle.thy_waiting_laws.specs.Scheme.{is_under_way}
 use Rattle.thy_waiting.specs.Calls.{waiting_scheme, with_below}
 use Rattle.thy_waiting.proofs.CallLemmas.{stands-below, seals}
 use Rattle.thy_waiting.proofs.waiting.WaitingSchemeScheme.seal.Goals as goal

@@ -1,0 +1,47 @@
+-- The parts of a machine as one, and the actors of its code.
+use Rattle.std.specs.Prelude.{ℕ, ◌<◌}
+use Rattle.thy_view.specs.Turn.{Actor, Nvm, Dram, Checkpoint, TheHart}
+use Rattle.thy_scheme.specs.declared.boot_step.BootStep.{BootStep}
+use Rattle.thy_scheme.specs.declared.boot_step.BootStep.TheVariants.{GoesOn, Loaded, Restarted, Refused}
+use Rattle.thy_scheme.specs.CheckpointMarks.{CheckpointMarks}
+use Rattle.thy_core.specs.declared.parts.Checkpoints.{Checkpoints}
+use Rattle.thy_core.specs.declared.parts.Consoles.{Consoles}
+use Rattle.thy_core.specs.declared.parts.MachineParts.{MachineParts}
+use Rattle.thy_core.specs.declared.turn.Actor.{Actor as ActorHere}
+use Rattle.thy_core.specs.declared.turn.Actor.TheVariants as here
+use Rattle.thy_core_laws.specs.Machine.{Machine, Lengths}
+
+abbrev pub marks_of : Checkpoints → CheckpointMarks
+marks_of k = record { done = k.done; sealed = k.sealed; written = k.written }
+
+abbrev pub lengths_of : Consoles → Lengths
+lengths_of c = record { done = c.done; sealed = c.sealed }
+
+abbrev pub machine_of : {S : Type 0} → MachineParts S → Machine S
+machine_of p = record {
+  hart = p.hart;
+  cache = p.cache;
+  scheme = p.store.scheme;
+  phase = p.phase;
+  marks = marks_of p.checkpoints;
+  consoles = lengths_of p.consoles;
+  ends = p.ends;
+  spent = p.spent;
+  lap = p.lap;
+  idle = p.idle;
+  failed = p.failed;
+}
+
+-- an actor, as the view has it
+abbrev pub actor_seen : ActorHere → Actor
+actor_seen here.Nvm = Nvm
+actor_seen here.Dram = Dram
+actor_seen here.Engine = Checkpoint
+actor_seen (here.Hart stall) = TheHart stall
+
+-- what a step of the boot restored is of an epoch below this
+abbrev pub IsRestartBelow : ℕ → BootStep → Type 0
+IsRestartBelow n GoesOn = Unit {0}
+IsRestartBelow n Loaded = Unit {0}
+IsRestartBelow n (Restarted cpu epoch) = epoch < n
+IsRestartBelow n (Refused bad) = Unit {0}

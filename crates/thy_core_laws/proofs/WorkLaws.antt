@@ -1,0 +1,77 @@
+-- What is left of an instruction, of copies and of promotions, in each phase, and what a call of the scheme leaves of it.
+use Rattle.std.proofs.Common.{◌≡◌, ◌≢◌, ℕ, ◌≤◌, false, Option, Some, None, refl, ap, arith}
+use Rattle.thy_base.specs.declared.cause.EndCause.{EndCause}
+use Rattle.thy_base.specs.Device.{Device}
+use Rattle.thy_hart.specs.Moments.{Moment, moves_left}
+use Rattle.thy_view.specs.declared.did.Did.{Did}
+use Rattle.thy_view.specs.declared.view.Phase.{Phase}
+use Rattle.thy_view.specs.declared.view.Phase.TheVariants.{Boot, Run, Halt}
+use Rattle.thy_view.specs.Work.{begins_instruction, begins_epoch, adds_copies, LeavesNoMore}
+use Rattle.thy_scheme.specs.Scheme.{SchemeOf}
+use Rattle.thy_scheme.specs.Calls.{owed_in, OwesNoMore}
+use Rattle.thy_core_laws.specs.Machine.{Machine, moment_of, moves_while, moves_in, after_boot_only, gauge_in, gauge_of}
+
+-- ---- moves
+
+pub moves_same : (phase : Phase) (over : Option EndCause) (a b : Moment) → moves_left b ≡ moves_left a → moves_in phase over b ≡ moves_in phase over a
+moves_same Boot over a b e = refl
+moves_same Run None a b e = e
+moves_same Run (Some cause) a b e = refl
+moves_same Halt over a b e = refl
+
+-- at most those of a hart that runs
+moves_most : (phase : Phase) (over : Option EndCause) (a : Moment) → moves_in phase over a ≤ moves_in Run over a
+moves_most Boot over a = omega arith
+moves_most Run over a = omega arith
+moves_most Halt over a = omega arith
+
+-- behind a phase that runs there are no more
+pub moves_fewer : (before now : Phase) (over : Option EndCause) (a b : Moment) → before ≡ Run → moves_left b ≡ moves_left a
+    → moves_in now over b ≤ moves_in before over a
+moves_fewer before now over a b runs e =
+    omega (arith, moves_most now over b, moves_same Run over a b e, ap (λ p. moves_in p over a) runs)
+
+-- none once the epoch is over
+pub moves_over : (phase : Phase) (over : Option EndCause) (cause : EndCause) (a : Moment) → over ≡ Some cause → moves_in phase over a ≡ 0
+moves_over Boot over cause a e = refl
+moves_over Run over cause a e = ap (λ x. moves_while x a) e
+moves_over Halt over cause a e = refl
+
+-- ---- numbers that are none in the boot
+
+pub number_behind : (phase : Phase) (number : ℕ) → phase ≢ Boot → after_boot_only phase number ≡ number
+number_behind Boot number behind = absurd (behind refl)
+number_behind Run number behind = refl
+number_behind Halt number behind = refl
+
+-- ---- no more is left
+
+-- what a cycle behind the boot shows of it
+pub record NoMore {S : Type 0} (K : SchemeOf S) (did : Did) (m : Machine S) (n : Device) (next : Machine S) (new : Device) : Type 0 where
+  pub moves : begins_instruction did ≡ false
+      → moves_in next.phase next.hart.epoch.over (moment_of K next new) ≤ moves_in m.phase m.hart.epoch.over (moment_of K m n)
+  pub owed : adds_copies did ≡ false → OwesNoMore K m.scheme n next.scheme new
+  pub owed_in_all : begins_epoch did ≡ false → owed_in K next.scheme new ≤ owed_in K m.scheme n
+  pub promotions : begins_epoch did ≡ false → K.promotions_left next.scheme ≤ K.promotions_left m.scheme
+
+pub leaves_no_more : {S : Type 0} (K : SchemeOf S) (did : Did) (m : Machine S) (n : Device) (next : Machine S) (new : Device) → m.phase ≢ Boot → next.phase ≢ Boot
+    → NoMore K did m n next new → LeavesNoMore did (gauge_of K m n) (gauge_of K next new)
+leaves_no_more K did m n next new behind after l =
+    let owed_was = number_behind m.phase (K.holding m.scheme n).owed behind in
+    let owed_is = number_behind next.phase (K.holding next.scheme new).owed after in
+    let later_was = number_behind m.phase (K.owed_later m.scheme) behind in
+    let later_is = number_behind next.phase (K.owed_later next.scheme) after in
+    let promoted_was = number_behind m.phase (K.promotions_left m.scheme) behind in
+    let promoted_is = number_behind next.phase (K.promotions_left next.scheme) after in
+    record {
+      moves = l.moves;
+      owed = λ e. omega (arith, owed_was, owed_is, l.owed e);
+      owed_in_all = λ e. omega (arith, owed_was, owed_is, later_was, later_is, l.owed_in_all e);
+      promotions = λ e. omega (arith, promoted_was, promoted_is, l.promotions e);
+    }
+
+-- in the boot nothing is left
+pub booting_no_more : {S : Type 0} (K : SchemeOf S) (did : Did) (m next : Machine S) (n new : Device)
+    → LeavesNoMore did (gauge_in K Boot m n) (gauge_in K Boot next new)
+booting_no_more K did m next n new =
+    record { moves = λ e. omega arith; owed = λ e. omega arith; owed_in_all = λ e. omega arith; promotions = λ e. omega arith }

@@ -1,0 +1,91 @@
+-- Part of the claim.
+-- The boot of a run, and what is seen of it.
+use Rattle.std.specs.Prelude.{◌≡◌, true, false, Bool, Option, Some, None, Result, Ok, Err}
+use Rattle.thy_base.specs.declared.config.Parameters.{Parameters}
+use Rattle.thy_base.specs.declared.mark.Mark.{Mark}
+use Rattle.thy_base.specs.declared.nvm.NvmError.{NvmError}
+use Rattle.thy_base.specs.Device.{Device}
+use Rattle.thy_base.specs.Geometry.{IsInRange}
+use Rattle.thy_base.specs.Places.{slot_blocks}
+use Rattle.thy_dram.specs.Contents.{Contents}
+use Rattle.thy_record.specs.Images.{decode_image}
+use Rattle.thy_view.specs.declared.view.View.{View}
+use Rattle.thy_view.specs.Booting.{loading_view, view_of_image}
+use Rattle.thy_view.specs.Kind.{IsDramOf}
+use Rattle.thy_view.specs.Origin.{Origin, IsOrigin}
+use Rattle.thy_view.specs.Safe.{ceiling}
+use Rattle.thy_control.specs.State.{State, AreSoundTables, new_state}
+use Rattle.thy_commit.specs.Items.{is_under_way}
+use Rattle.thy_commit.specs.Progress.{IsSoundProgress}
+use Rattle.thy_boot.specs.declared.stage.BootStep.{BootStep}
+use Rattle.thy_boot.specs.declared.stage.BootStep.TheVariants.{Reading, Loading as IsLoading, Loaded as HasLoaded, Restarted, Refused}
+use Rattle.thy_boot.specs.declared.stage.Stage.{Stage}
+use Rattle.thy_boot.specs.declared.stage.Stage.TheVariants.{Reads, Loads}
+use Rattle.thy_boot.specs.declared.stage.ReadStage.TheVariants.{Unread}
+use Rattle.thy_boot.specs.Boot.{Booting, IsBoot, empty_boot}
+use Rattle.thy_boot.specs.Laws.{IsGoing}
+use Rattle.thy_boot.specs.Shows.{is_written}
+use Rattle.thy_boot.specs.Sound.{BootImages, IsSoundBoot as IsBootOf}
+use Rattle.thy_recover.specs.Filling.{filling_dual}
+use Rattle.thy_migrate.specs.declared.migration.Migration.{Migration}
+use Rattle.thy_migrate.specs.Sound.{IsMigrating}
+use Rattle.thy_scheme.specs.declared.boot_step.BootStep.{BootStep as SchemeStep}
+use Rattle.thy_scheme.specs.declared.boot_step.BootStep.TheVariants.{GoesOn, Loaded as SchemeLoaded, Restarted as SchemeRestarted, Refused as SchemeRefused}
+use Rattle.thy_dual_laws.specs.Booted.{IsUnused}
+use Rattle.thy_dual_laws.specs.Dual.{Dual}
+
+-- a boot of a run that is not over, or the migration of the image that it found
+abbrev pub IsUnderWay : Option Migration → Origin → BootImages → Device → Booting → State → Type 0
+IsUnderWay None o g n b c = IsBootOf filling_dual o g n b c × IsGoing b.stage
+IsUnderWay (Some at) o g n b c = (m : Mark) × IsMigrating o m at g n b c
+
+-- so it is of a scheme in which nothing was sealed or stored; before the boot has read, nothing is queued in the DRAM
+pub record Boots (o : Origin) (s : Dual) (n : Device) : Type 0 where
+  pub origin : IsOrigin o
+  pub images : BootImages
+  pub under_way : IsUnderWay s.boot.migration o images n s.boot.boot s.control
+  pub boot_fits : IsBoot filling_dual s.boot.boot
+  pub unused : IsUnused o s
+  pub unread : s.boot.boot.stage ≡ Reads Unread → s.control.dram.queued ≡ 0
+  pub storeless : s.storeless ≡ true
+
+-- what is seen: while it loads, whether the commit block was written, and else what the image means
+abbrev pub view_at : Origin → Stage → Device → View
+view_at o (Loads issue) n = record (loading_view o.start.count) { written = is_written issue }
+view_at o stage n = view_of_image o.start.count (decode_image o.geometry ceiling n.image)
+
+-- the commit block was read
+abbrev pub has_read_at : Stage → Bool
+has_read_at (Reads Unread) = false
+has_read_at stage = true
+
+-- there is no checkpoint
+abbrev pub loads_at : Stage → Bool
+loads_at (Loads issue) = true
+loads_at stage = false
+
+-- what a step of the boot returns, as a scheme returns it; the same if the NVM may have failed
+abbrev pub step_of : BootStep → SchemeStep
+step_of Reading = GoesOn
+step_of IsLoading = GoesOn
+step_of HasLoaded = SchemeLoaded
+step_of (Restarted cpu epoch) = SchemeRestarted cpu epoch
+step_of (Refused bad) = SchemeRefused bad
+
+abbrev pub result_of : Result BootStep NvmError → Result SchemeStep NvmError
+result_of (Ok step) = Ok (step_of step)
+result_of (Err e) = Err e
+
+-- power has just come on
+pub record IsPowered (p : Parameters) (s : Dual) : Type 0 where
+  pub dram : Contents
+  pub is_dram : IsDramOf p dram
+  pub controller : s.control ≡ new_state p dram
+  pub tables : IsInRange p → AreSoundTables s.control
+  pub boot_is : s.boot.boot ≡ empty_boot (slot_blocks p) p
+  pub no_migration : s.boot.migration ≡ None
+  pub engine : s.engine.p ≡ p
+  pub progress : IsSoundProgress s.engine
+  pub idle : is_under_way s.engine.next ≡ false
+  pub storeless : s.storeless ≡ true
+  pub sealed_storeless : s.sealed_storeless ≡ false

@@ -1,0 +1,79 @@
+-- While a machine over this scheme restores a checkpoint it writes nothing to the NVM, unless it migrates an image of
+-- version 1; and then it writes the slot of the checkpoint's epoch in version 2, and block 1, alone.
+use Rattle.std.specs.Prelude.{◌≡◌, ◌⊎◌, ℕ, ◌+◌, ◌%◌, ◌<◌, true, false, Some}
+use Rattle.thy_base.specs.declared.config.Parameters.{Parameters}
+use Rattle.thy_base.specs.declared.form.Form.TheVariants.{One, Two}
+use Rattle.thy_base.specs.declared.mark.Mark.{Mark}
+use Rattle.thy_base.specs.declared.mix.Pick.{Pick}
+use Rattle.thy_base.specs.Device.{Device, HasFailed, block_at}
+use Rattle.thy_base.specs.Places.{slot_blocks, slot_place}
+use Rattle.thy_record.specs.Commit.{form_of}
+use Rattle.thy_view.specs.declared.did.Did.{Did}
+use Rattle.thy_view.specs.declared.did.Stepped.{Stepped}
+use Rattle.thy_view.specs.declared.view.Phase.TheVariants.{Boot}
+use Rattle.thy_view.specs.Action.{Action, WriteAt, Barrier, Acts, ActionFailed}
+use Rattle.thy_view.specs.Kind.{IsStep, CycleFailed}
+use Rattle.thy_view.specs.Origin.{Origin}
+use Rattle.thy_boot.specs.Boot.{Booting}
+use Rattle.thy_migrate.specs.declared.migration.Migration.{Migration}
+use Rattle.thy_migrate.specs.declared.migration.Migration.TheVariants.{Confirm}
+use Rattle.thy_migrate.specs.Migrating.{action_of}
+use Rattle.thy_core_laws.specs.Kind.{kind_over}
+use Rattle.thy_core_laws.specs.Machine.{Machine, view_of}
+use Rattle.thy_dual_laws.specs.Boots.{Boots}
+use Rattle.thy_dual_laws.specs.Dual.{Dual}
+use Rattle.thy_dual_laws.specs.Scheme.{dual_scheme}
+
+-- a step acts as a machine does whose restarts read, and in a boot that found a checkpoint it leaves the NVM as it was
+pub record LeavesNvm (o : Origin) (m : Machine Dual) (n new : Device) (did : Did) : Type 0 where
+  pub acts : Acts did n new
+  pub still : (found : Mark)
+      → (view_of dual_scheme o m n).phase ≡ Boot → (view_of dual_scheme o m n).done ≡ Some found
+      → new ≡ n
+
+-- so does one that failed, which wrote nothing there
+pub record WritesNothing (o : Origin) (m : Machine Dual) (n new : Device) (did : Did) : Type 0 where
+  pub failed : ActionFailed did n new
+  pub still : (found : Mark)
+      → (view_of dual_scheme o m n).phase ≡ Boot → (view_of dual_scheme o m n).done ≡ Some found
+      → HasFailed n new
+
+abbrev pub StepsLeaveNvm : Type 0
+StepsLeaveNvm =
+    (o : Origin) (k : ℕ) (pick : Pick) (m next : Machine Dual) (n new : Device) (r : Stepped)
+    → dual_scheme.migrates m.scheme ≡ false → IsStep (kind_over dual_scheme) o k pick m next n new r
+    → LeavesNvm o m n new r.did
+
+abbrev pub FailuresWriteNothing : Type 0
+FailuresWriteNothing =
+    (o : Origin) (pick : Pick) (m : Machine Dual) (n new : Device)
+    → dual_scheme.migrates m.scheme ≡ false
+    → (c : CycleFailed (kind_over dual_scheme) o pick m n new)
+    → WritesNothing o m n new c.did
+
+-- a migration's own action, of the checkpoint of an epoch: a barrier, or a write of a block of that epoch's slot in
+-- version 2 or of the commit block
+abbrev pub IsOfMigration : Parameters → ℕ → Action → Type 0
+IsOfMigration p epoch Barrier = Unit {0}
+IsOfMigration p epoch (WriteAt place block) =
+    (place ≡ 1) ⊎ ((k : ℕ) × (k < slot_blocks p) × (place ≡ slot_place p (epoch % 2) + k))
+IsOfMigration p epoch action = ⊥
+
+-- a boot that migrates has found a checkpoint of version 1, and its action is one of these
+pub record MigratesFound (p : Parameters) (epoch : ℕ) (b : Booting) (at : Migration) : Type 0 where
+  pub old : form_of b.commit ≡ One
+  pub own : IsOfMigration p epoch (action_of b at)
+
+abbrev pub MigrationWrites : Type 0
+MigrationWrites =
+    (o : Origin) (s : Dual) (n : Device) (found : Mark)
+    → Boots o s n → dual_scheme.migrates s ≡ true → (dual_scheme.boot_view o s n).done ≡ Some found
+    → (at : Migration) × (s.boot.migration ≡ Some at)
+    × MigratesFound o.geometry found.epoch s.boot.boot at
+
+-- A boot over an image whose commit block names version 2 does not migrate it. The one that has just written that block
+-- itself has only its last barrier to come.
+abbrev pub VersionTwoStays : Type 0
+VersionTwoStays =
+    (o : Origin) (s : Dual) (n : Device) → Boots o s n → form_of (block_at n.image 1) ≡ Two
+    → (dual_scheme.migrates s ≡ false) ⊎ (s.boot.migration ≡ Some Confirm)

@@ -1,5 +1,0 @@
-use Rattle.std.proofs.Common.{rules}
-use Rattle.thy_out.proofs.source.read_on.Goals as goal
-
-pub returns-then-ne-clause-retried : goal.returns-then-ne-clause-retried
-returns-then-ne-clause-retried g c = search rules

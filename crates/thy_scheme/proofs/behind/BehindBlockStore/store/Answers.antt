@@ -1,8 +1,0 @@
-use Rattle.thy_scheme.proofs.behind.BehindBlockStore.store.Goals as goal
-use Rattle.thy_scheme.proofs.BehindLemmas.{failure_counts}
-
-pub returns-clause-once : goal.returns-clause-once
-returns-clause-once g c = record {
-  access = c.store.ensures.once;
-  counted = failure_counts c.store.result (g.N.Nvm.device c.args.nvm.now) (g.N.Nvm.device c.store.new.nvm) c.store.ensures.up c.store.ensures.cause;
-}

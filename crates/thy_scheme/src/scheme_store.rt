@@ -1,0 +1,37 @@
+//! A scheme as a store of blocks.
+use crate::Scheme;
+use thy_base::{Block, BlockStore, Nvm, NvmError, Stored};
+
+/// A scheme as the store of blocks below cache and hart.
+#[derive(Drop)]
+pub struct SchemeStore<S> {
+    pub scheme: S,
+}
+
+impl<N: Nvm, S: Scheme> BlockStore<N> for SchemeStore<S> {
+    ghost use Rattle.std.specs.Prelude.{◌≡◌};
+    ghost use Rattle.thy_scheme.specs.SchemeStore.{held_by_scheme, IsOneCall};
+
+    ghost holding = { λ store nvm. held_by_scheme S.scheme store.scheme (N.device nvm) };
+
+    ghost once = { λ a m b n. IsOneCall S.scheme a.scheme (N.device m) b.scheme (N.device n) };
+
+    ghost loads = { λ a m b n. b.scheme ≡ a.scheme };
+
+    ghost stays = { λ a m b n. S.scheme.stays a.scheme (N.device m) b.scheme (N.device n) };
+
+    fn load(&mut self, b: u64, nvm: &mut N) -> Result<Block, NvmError> {
+        self.scheme.load(b, nvm)
+    }
+
+    fn store(&mut self, b: u64, block: &Block, nvm: &mut N) -> Result<Stored, NvmError> {
+        self.scheme.store(b, block, nvm)
+    }
+
+    ghost once_stays = { λ a m b n once. once.access.stays };
+
+    ghost stays_same = { λ store nvm. S.lawful.stays_same store.scheme (N.device nvm) };
+
+    ghost stays_on = { λ a m b n c o first second.
+        S.lawful.stays_on a.scheme (N.device m) b.scheme (N.device n) c.scheme (N.device o) first second };
+}

@@ -1,0 +1,75 @@
+-- What is seen of a scheme that waits, over any scheme below that applies nothing itself.
+use Rattle.std.specs.Prelude.{◌≡◌, ℕ, ◌+◌, ◌<◌, ◌≤◌, ◌||◌, Bool, false, if◌then◌else◌, None}
+use Rattle.thy_base.specs.declared.config.Parameters.{Parameters}
+use Rattle.thy_base.specs.Device.{Device}
+use Rattle.thy_view.specs.Origin.{Origin}
+use Rattle.thy_scheme.specs.CheckpointMarks.{CheckpointMarks}
+use Rattle.thy_scheme.specs.Scheme.{SchemeOf}
+use Rattle.thy_waiting_laws.specs.Waiting.{Waiting, barriers, is_waiting}
+
+-- power has just come on
+pub record IsPowered {S : Type 0} (K : SchemeOf S) (p : Parameters) (w : Waiting S) : Type 0 where
+  pub below : K.powered p w.below
+  pub none : w.left ≡ 0
+
+-- in the boot no barrier is left
+pub record Boots {S : Type 0} (K : SchemeOf S) (o : Origin) (w : Waiting S) (n : Device) : Type 0 where
+  pub below : K.boots o w.below n
+  pub none : w.left ≡ 0
+
+-- after the boot no more are left than follow a commit, and none while an epoch is sealed
+pub record IsSoundWaiting {S : Type 0} (K : SchemeOf S) (o : Origin) (k : CheckpointMarks) (w : Waiting S) (n : Device) : Type 0 where
+  pub below : K.is_sound o k w.below n
+  pub few : w.left ≤ barriers
+  pub apart : 0 < w.left → k.sealed ≡ None
+
+-- loads and stores leave as many
+pub record Stays {S : Type 0} (K : SchemeOf S) (v : Waiting S) (m : Device) (w : Waiting S) (n : Device) : Type 0 where
+  pub below : K.stays v.below m w.below n
+  pub same : w.left ≡ v.left
+
+-- the engine has something to do: the one below has, or barriers are left
+abbrev pub is_under_way : {S : Type 0} → SchemeOf S → Waiting S → Bool
+is_under_way K w = K.under_way w.below || is_waiting w
+
+-- the barriers that are to come: those after the commit that is due, or those that are left
+abbrev pub to_come : {S : Type 0} → SchemeOf S → Waiting S → ℕ
+to_come K w = if K.under_way w.below then barriers else w.left
+
+-- all else is as below
+abbrev pub waits_over : {S : Type 0} → SchemeOf S → SchemeOf (Waiting S)
+waits_over K = record {
+  decode = K.decode;
+  blocks = K.blocks;
+  powered = IsPowered K;
+  holding = λ w n. K.holding w.below n;
+  committed = λ w n. K.committed w.below n;
+  stays = Stays K;
+  under_way = is_under_way K;
+  applies = is_waiting;
+  overlaid = λ w. K.overlaid w.below;
+  promoting = λ w. K.promoting w.below;
+  storeless = λ w. K.storeless w.below;
+  sealed_storeless = λ w. K.sealed_storeless w.below;
+  overlaps = false;
+  dram = λ w. K.dram w.below;
+  is_of = λ p w. K.is_of p w.below;
+  queued = λ w. K.queued w.below;
+  free = λ w. K.free w.below;
+  owed_later = λ w. K.owed_later w.below;
+  is_sound = IsSoundWaiting K;
+  boots = Boots K;
+  boot_view = λ o w n. K.boot_view o w.below n;
+  has_read = λ w. K.has_read w.below;
+  migrates = λ w. K.migrates w.below;
+  boot_left = λ w. K.boot_left w.below;
+  engine_left = λ w. K.engine_left w.below + to_come K w;
+  merges_left = λ w. K.merges_left w.below;
+  promotions_left = λ w. K.promotions_left w.below;
+  most_booting = K.most_booting;
+  most_engine = λ p. K.most_engine p + barriers;
+  most_merges = K.most_merges;
+  most_promotions = K.most_promotions;
+  most_owed = K.most_owed;
+  most_free = K.most_free;
+}
