@@ -1,6 +1,6 @@
 -- The 64 bytes of a block.
-use Rattle.std.proofs.Common.{◌≡◌, ℕ, ◌+◌, ◌≤◌, List, ◌++◌, length, take, replicate, sym, ◌∙◌, ap, arith}
-use Rattle.std.proofs.lemmas.List.{length-append, length-replicate, length-take-le, take_at, take_all}
+use Rattle.std.proofs.Common.{◌≡◌, ℕ, ◌+◌, ◌≤◌, List, ◌++◌, length, replicate, ◌∙◌, ap, arith}
+use Rattle.std.proofs.lemmas.List.{length-append, length-replicate, length-take-le, take_at}
 use Rattle.thy_base.specs.declared.block.Block.{Block}
 use Rattle.thy_base.specs.Blocks.{block_bytes, overwritten}
 use Rattle.thy_base.specs.Bytes.{written}

@@ -3,8 +3,8 @@
 -- commit block (block 1), two slots of version 1, the places of memory's blocks, and behind them two slots of version 2.
 use Rattle.std.specs.Prelude.{◌≡◌, ◌⊎◌, ℕ, ◌+◌, ◌*◌, ◌/◌, ◌<◌, ◌≤◌, Bool, true, false}
 use Rattle.thy_base.specs.declared.config.Parameters.{Parameters}
-use Rattle.thy_base.specs.declared.form.Form.{Form}
-use Rattle.thy_base.specs.declared.form.Form.TheVariants.{One, Two}
+use Rattle.thy_base.specs.declared.layout_version.LayoutVersion.{LayoutVersion}
+use Rattle.thy_base.specs.declared.layout_version.LayoutVersion.TheVariants.{VersionOne, VersionTwo}
 use Rattle.thy_base.specs.declared.place.Place.{Place}
 use Rattle.thy_base.specs.declared.place.Place.TheVariants.{Home, AlternateBlock, AlternatePage, Buffer, Frame}
 use Rattle.thy_base.specs.Geometry.{memory_blocks}
@@ -22,13 +22,13 @@ abbrev pub count_blocks : Parameters → ℕ
 count_blocks p = (p.pages + 63) / 64
 
 -- how many blocks a slot has: record and tables, and in version 2 the counts
-abbrev pub blocks_of_slot : Form → Parameters → ℕ
-blocks_of_slot One p = record_blocks p + table_blocks p
-blocks_of_slot Two p = record_blocks p + table_blocks p + count_blocks p
+abbrev pub blocks_of_slot : LayoutVersion → Parameters → ℕ
+blocks_of_slot VersionOne p = record_blocks p + table_blocks p
+blocks_of_slot VersionTwo p = record_blocks p + table_blocks p + count_blocks p
 
 -- the first of the homes of memory's blocks; after them come the alternate blocks, and then the alternate pages
 abbrev pub first_home : Parameters → ℕ
-first_home p = 2 + 2 * blocks_of_slot One p
+first_home p = 2 + 2 * blocks_of_slot VersionOne p
 
 abbrev pub first_alternate_block : Parameters → ℕ
 first_alternate_block p = first_home p + memory_blocks p
@@ -41,16 +41,16 @@ abbrev pub blocks_one : Parameters → ℕ
 blocks_one p = first_alternate_page p + 64 * p.ptt
 
 -- the first block of a slot
-abbrev pub place_of_slot : Form → Parameters → ℕ → ℕ
-place_of_slot One p s = 2 + s * blocks_of_slot One p
-place_of_slot Two p s = blocks_one p + s * blocks_of_slot Two p
+abbrev pub place_of_slot : LayoutVersion → Parameters → ℕ → ℕ
+place_of_slot VersionOne p s = 2 + s * blocks_of_slot VersionOne p
+place_of_slot VersionTwo p s = blocks_one p + s * blocks_of_slot VersionTwo p
 
 -- a slot of a run's own checkpoints, which are of version 2
 abbrev pub slot_blocks : Parameters → ℕ
-slot_blocks p = blocks_of_slot Two p
+slot_blocks p = blocks_of_slot VersionTwo p
 
 abbrev pub slot_place : Parameters → ℕ → ℕ
-slot_place p s = place_of_slot Two p s
+slot_place p s = place_of_slot VersionTwo p s
 
 -- how many blocks an image of the NVM has
 abbrev pub image_blocks : Parameters → ℕ
@@ -107,9 +107,9 @@ PlacesAreInDram = (p : Parameters) (x : Place) → IsPlace p x → in_dram x ≡
 -- slot 0 of version 1 lies behind the commit block, slot 1 behind slot 0, and the homes behind slot 1; slot 0 of version 2
 -- lies behind all that version 1 has, slot 1 behind slot 0, and nothing behind slot 1
 pub record SlotsFollow (p : Parameters) : Type 0 where
-  pub old_first : place_of_slot One p 0 ≡ 2
-  pub old_second : place_of_slot One p 1 ≡ place_of_slot One p 0 + blocks_of_slot One p
-  pub homes : first_home p ≡ place_of_slot One p 1 + blocks_of_slot One p
+  pub old_first : place_of_slot VersionOne p 0 ≡ 2
+  pub old_second : place_of_slot VersionOne p 1 ≡ place_of_slot VersionOne p 0 + blocks_of_slot VersionOne p
+  pub homes : first_home p ≡ place_of_slot VersionOne p 1 + blocks_of_slot VersionOne p
   pub first : slot_place p 0 ≡ blocks_one p
   pub second : slot_place p 1 ≡ slot_place p 0 + slot_blocks p
   pub ends : image_blocks p ≡ slot_place p 1 + slot_blocks p

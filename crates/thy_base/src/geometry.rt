@@ -4,6 +4,7 @@ ghost use Rattle.thy_base.specs.Config.{geometry_of, rows_of};
 ghost use Rattle.thy_base.specs.Geometry.{IsInRange, parameters_of, memory_blocks, program_size, console_room, stack_top};
 ghost use Rattle.thy_base.specs.Ranges.{AreIn};
 
+use crate::page::{PAGE_BLOCKS, PAGE_SIZE};
 use crate::ranges::{first_fault, parameters};
 use crate::{Config, ConfigError, Parameters};
 use std::marker::Model;
@@ -59,7 +60,7 @@ impl Geometry {
         ensures blocks { result ≡ memory_blocks self.now }
         ensures in_range { IsInRange self.now }
     {
-        64 * self.numbers.pages
+        PAGE_BLOCKS * self.numbers.pages
     }
 
     /// How many bytes of memory the program can address, from `base` on.
@@ -67,20 +68,20 @@ impl Geometry {
         ensures size { result ≡ program_size self.now }
         ensures in_range { IsInRange self.now }
     {
-        4096 * (self.numbers.pages - self.numbers.console)
+        PAGE_SIZE * (self.numbers.pages - self.numbers.console)
     }
 
     /// How many bytes the console holds.
     pub fn console_room(&self) -> u64
         ensures { result ≡ console_room self.now }
     {
-        4096 * self.numbers.console
+        PAGE_SIZE * self.numbers.console
     }
 
     /// The stack pointer at the start: 256 bytes below the end of program memory.
     pub fn stack_top(&self) -> u64
         ensures { result ≡ stack_top self.now }
     {
-        self.numbers.base + 4096 * (self.numbers.pages - self.numbers.console) - 256
+        self.numbers.base + PAGE_SIZE * (self.numbers.pages - self.numbers.console) - 256
     }
 }

@@ -2,12 +2,13 @@
 ghost use Rattle.std.specs.Prelude.{◌≡◌, ◌+◌, ◌*◌, ◌<◌};
 ghost use Rattle.thy_base.specs.Places.{NumbersTellPlaces, PlacesAreBetweenSlots, PlacesAreInDram, SlotsAreApart};
 
-use crate::{Form, Geometry, Place};
+use crate::page::{BLOCK_COUNTS, PAGE_BLOCKS};
+use crate::{Geometry, LayoutVersion, Place};
 
 impl Geometry {
     ghost use Rattle.thy_base.specs.declared.place.Place.TheVariants.{Home as AtHome, AlternateBlock as AtAlternateBlock, AlternatePage as AtAlternatePage, Buffer as AtBuffer, Frame as AtFrame};
     ghost use Rattle.thy_base.specs.Geometry.{IsInRange, memory_blocks};
-    ghost use Rattle.thy_base.specs.Places.{record_blocks, table_blocks, count_blocks, blocks_of_slot, place_of_slot, blocks_one, slot_blocks, slot_place, image_blocks, dram_blocks, number_of, IsPlace};
+    ghost use Rattle.thy_base.specs.Places.{record_blocks, table_blocks, count_blocks, blocks_of_slot, place_of_slot, first_home, blocks_one, slot_blocks, slot_place, image_blocks, dram_blocks, number_of, IsPlace};
 
     /// How many blocks an image of the NVM has.
     pub fn blocks(&self) -> u64
@@ -23,7 +24,7 @@ impl Geometry {
         ensures in_range { IsInRange self.now }
     {
         let p = self.numbers();
-        2 + 2 * self.slot_blocks_of(Form::One) + 64 * p.pages + p.btt + 64 * p.ptt
+        self.first_home() + PAGE_BLOCKS * p.pages + p.btt + PAGE_BLOCKS * p.ptt
     }
 
     /// How many blocks the DRAM has.
@@ -32,7 +33,7 @@ impl Geometry {
         ensures in_range { IsInRange self.now }
     {
         let p = self.numbers();
-        p.btt + 64 * p.ptt
+        p.btt + PAGE_BLOCKS * p.ptt
     }
 
     /// How many blocks the processor's record has.
@@ -56,30 +57,32 @@ impl Geometry {
         ensures blocks { result ≡ count_blocks self.now }
         ensures in_range { IsInRange self.now }
     {
-        self.numbers().pages.div_ceil(64)
+        self.numbers().pages.div_ceil(BLOCK_COUNTS)
     }
 
     /// How many blocks each of the two slots of a version has: the processor's record and both tables, and in version 2 the
     /// counts.
-    pub fn slot_blocks_of(&self, form: Form) -> u64
-        ensures blocks { result ≡ blocks_of_slot form self.now }
+    pub fn slot_blocks_of(&self, version: LayoutVersion) -> u64
+        ensures blocks { result ≡ blocks_of_slot version self.now }
         ensures in_range { IsInRange self.now }
     {
-        match form {
-            Form::One => self.record_blocks() + self.table_blocks(),
-            Form::Two => self.record_blocks() + self.table_blocks() + self.count_blocks(),
+        match version {
+            LayoutVersion::VersionOne => self.record_blocks() + self.table_blocks(),
+            LayoutVersion::VersionTwo => self.record_blocks()
+                + self.table_blocks()
+                + self.count_blocks(),
         }
     }
 
     /// The first block of slot `s` of a version, 0 or 1.
-    pub fn slot_of(&self, form: Form, s: u64) -> u64
+    pub fn slot_of(&self, version: LayoutVersion, s: u64) -> u64
         requires { s < 2 }
-        ensures place { result ≡ place_of_slot form self.now s }
+        ensures place { result ≡ place_of_slot version self.now s }
         ensures in_range { IsInRange self.now }
     {
-        match form {
-            Form::One => 2 + s * self.slot_blocks_of(Form::One),
-            Form::Two => self.blocks_one() + s * self.slot_blocks(),
+        match version {
+            LayoutVersion::VersionOne => 2 + s * self.slot_blocks_of(LayoutVersion::VersionOne),
+            LayoutVersion::VersionTwo => self.blocks_one() + s * self.slot_blocks(),
         }
     }
 
@@ -88,7 +91,7 @@ impl Geometry {
         ensures blocks { result ≡ slot_blocks self.now }
         ensures in_range { IsInRange self.now }
     {
-        self.slot_blocks_of(Form::Two)
+        self.slot_blocks_of(LayoutVersion::VersionTwo)
     }
 
     /// The first block of slot `s` of these, 0 or 1.
@@ -97,7 +100,15 @@ impl Geometry {
         ensures place { result ≡ slot_place self.now s }
         ensures in_range { IsInRange self.now }
     {
-        self.slot_of(Form::Two, s)
+        self.slot_of(LayoutVersion::VersionTwo, s)
+    }
+
+    /// The first block of the homes of memory's blocks.
+    fn first_home(&self) -> u64
+        ensures first { result ≡ first_home self.now }
+        ensures in_range { IsInRange self.now }
+    {
+        2 + 2 * self.slot_blocks_of(LayoutVersion::VersionOne)
     }
 
     /// The place in the NVM of block `b` of memory, if no table lists it.
@@ -106,7 +117,7 @@ impl Geometry {
         ensures place { result ≡ number_of self.now (AtHome b) }
         ensures in_range { IsInRange self.now }
     {
-        2 + 2 * self.slot_blocks_of(Form::One) + b
+        self.first_home() + b
     }
 
     /// The block of the NVM that entry `i` of the block table owns.
@@ -115,7 +126,7 @@ impl Geometry {
         ensures place { result ≡ number_of self.now (AtAlternateBlock i) }
         ensures in_range { IsInRange self.now }
     {
-        2 + 2 * self.slot_blocks_of(Form::One) + self.memory_blocks() + i as u64
+        self.first_home() + self.memory_blocks() + i as u64
     }
 
     /// Block `k` of the page of the NVM that entry `j` of the page table owns.
@@ -126,7 +137,7 @@ impl Geometry {
         ensures in_range { IsInRange self.now }
     {
         let p = self.numbers();
-        2 + 2 * self.slot_blocks_of(Form::One) + 64 * p.pages + p.btt + 64 * j as u64 + k
+        self.first_home() + PAGE_BLOCKS * p.pages + p.btt + PAGE_BLOCKS * j as u64 + k
     }
 
     /// The block of the DRAM that entry `i` of the block table owns.
@@ -146,7 +157,7 @@ impl Geometry {
         ensures place { result ≡ number_of self.now (AtFrame j k) }
         ensures in_range { IsInRange self.now }
     {
-        self.numbers().btt + 64 * j as u64 + k
+        self.numbers().btt + PAGE_BLOCKS * j as u64 + k
     }
 
     /// The number of a place's block in its device.

@@ -4,6 +4,7 @@ ghost use Rattle.thy_base.specs.Config.{fault_of, fault_in, rising_rows, cut_row
 ghost use Rattle.thy_base.specs.Geometry.{parameters_of, memory_rows, table_rows, queue_rows, threshold_rows};
 ghost use Rattle.thy_base.specs.Ranges.{row, is_in, between, at_most};
 
+use crate::page::PAGE_SIZE;
 use crate::{Config, ConfigError, Field, Parameters};
 
 /// The numbers of a configuration, without its lists and the gap.
@@ -60,7 +61,7 @@ fn memory(c: &Config) -> Option<ConfigError>
     ensures fault { result ≡ fault_in (memory_rows (parameters_of c.now)) }
     ensures pages { IfNone result (c.now.pages ≤ 65536) }
 {
-    let base = c.base.is_multiple_of(4096) && c.base < 1 << 62;
+    let base = c.base.is_multiple_of(PAGE_SIZE) && c.base < 1 << 62;
     let pages = is_within(8, 65536, c.pages);
     let console = is_within(1, 16, c.console) && c.console < c.pages;
     let rest = or_else(console, Field::Console, c.console, None);

@@ -2,7 +2,7 @@
 ghost use Rattle.std.specs.Prelude.{◌≡◌, ◌<◌};
 ghost use Rattle.thy_base.specs.Words.{word_of, block_of};
 
-use crate::Block;
+use crate::{BLOCK_SIZE, Block};
 use byteorder::{ByteOrder, LittleEndian};
 
 /// Word `i` of a block, 0 to 7.
@@ -19,7 +19,7 @@ pub fn word(block: &Block, i: u64) -> u64
 pub fn block_with(words: &[u64; 8]) -> Block
     ensures { result ≡ block_of words.now }
 {
-    let mut bytes = [0; 64];
+    let mut bytes = [0; BLOCK_SIZE];
     LittleEndian::write_u64_into(words, &mut bytes);
     Block(bytes)
 }

@@ -4,7 +4,7 @@ ghost use Rattle.thy_base.specs.Geometry.{memory_blocks};
 ghost use Rattle.thy_isa.specs.Step.{state_of, cpu_of};
 ghost use Rattle.thy_boot.specs.Start.{IsStartFor, start_block};
 
-use thy_base::{Block, Geometry};
+use thy_base::{BLOCK_SIZE, Block, Geometry};
 use thy_isa::{CpuState, MachState};
 
 /// Block `b` of a start: its memory, and after that its console filled up with zeros.
@@ -14,7 +14,7 @@ pub fn start_block(geometry: &Geometry, state: &MachState, b: u64) -> Block
     ensures { result ≡ start_block geometry.now (state_of state.now) b }
 {
     let size = geometry.program_size();
-    let from = 64 * b;
+    let from = BLOCK_SIZE as u64 * b;
     if from < size {
         whole_block(state.memory.as_slice(), from as usize)
     } else {
@@ -26,8 +26,8 @@ fn whole_block(bytes: &[u8], from: usize) -> Block
     requires { from + 64 ≤ length bytes.now }
     ensures { result.0 ≡ take 64 (drop from bytes.now) }
 {
-    let mut block = [0; 64];
-    block.copy_from_slice(&bytes[from..from + 64]);
+    let mut block = [0; BLOCK_SIZE];
+    block.copy_from_slice(&bytes[from..from + BLOCK_SIZE]);
     Block(block)
 }
 
@@ -35,8 +35,8 @@ fn whole_block(bytes: &[u8], from: usize) -> Block
 fn part_block(bytes: &[u8], from: usize) -> Block
     ensures { result.0 ≡ take 64 (drop from bytes.now ++ replicate 64 0) }
 {
-    let mut block = [0; 64];
-    let count = bytes.len().saturating_sub(from).min(64);
+    let mut block = [0; BLOCK_SIZE];
+    let count = bytes.len().saturating_sub(from).min(BLOCK_SIZE);
     if count > 0 {
         fill(&mut block, bytes, from, count);
     }

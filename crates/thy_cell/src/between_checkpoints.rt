@@ -4,7 +4,7 @@ ghost use Rattle.thy_cell.specs.Rules.{after_copy};
 ghost use Rattle.thy_cell.specs.Checkpoint.{with_filled, with_issued};
 
 use crate::Cell;
-use thy_tables::{BttEntry, PAGE_BLOCKS, Pending, PttEntry};
+use thy_tables::{BttEntry, WHOLE_PAGE, Pending, PttEntry};
 
 impl Cell {
     /// The block after its pending version was copied to its place.
@@ -44,7 +44,7 @@ impl Cell {
         Cell {
             page: PttEntry {
                 issued,
-                busy: self.page.leaving || issued != PAGE_BLOCKS,
+                busy: self.page.leaving || issued != WHOLE_PAGE,
                 ..self.page
             },
             ..*self

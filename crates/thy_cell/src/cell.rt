@@ -4,7 +4,7 @@ ghost use Rattle.thy_cell.specs.Cells.{agree as same_version, placed, frame_at, 
 ghost use Rattle.thy_tables.specs.BlockEntry.{other_version};
 ghost use Rattle.thy_cell.specs.Rules.{store_rule, store_place, after_store};
 
-use thy_base::Place;
+use thy_base::{PAGE_BLOCKS, Place};
 use thy_tables::{BttEntry, Pending, PttEntry, Site, Version, Working};
 
 /// A block of memory as both tables have it. A block or a page without an entry has one that is as a new
@@ -48,7 +48,7 @@ impl Cell {
     {
         Place::Frame {
             entry: self.j,
-            block: self.entry.block % 64,
+            block: self.entry.block % PAGE_BLOCKS,
         }
     }
 
@@ -73,7 +73,7 @@ impl Cell {
             (Version::Alt, _) => self.alternate(),
             (Version::Out, Site::AtAlternate) => Place::AlternatePage {
                 entry: self.j,
-                block: self.entry.block % 64,
+                block: self.entry.block % PAGE_BLOCKS,
             },
             (Version::Out, Site::AtHome) => Place::Home {
                 block: self.entry.block,

@@ -5,14 +5,14 @@ use Rattle.std.proofs.lemmas.List.Elements.{Contains-append_cases, Contains-appe
 use Rattle.std.proofs.lemmas.List.FromFn.{length-range_with_len, get_or-range_with_len, length-map-range_with_len, get_or-map-range_with_len}
 use Rattle.thy_base.specs.declared.block.Block.{Block}
 use Rattle.thy_base.specs.declared.config.Parameters.{Parameters}
-use Rattle.thy_base.specs.declared.form.Form.{Form}
-use Rattle.thy_base.specs.declared.form.Form.TheVariants.{One, Two}
+use Rattle.thy_base.specs.declared.layout_version.LayoutVersion.{LayoutVersion}
+use Rattle.thy_base.specs.declared.layout_version.LayoutVersion.TheVariants.{VersionOne, VersionTwo}
 use Rattle.thy_base.specs.Device.{Device, block_at}
 use Rattle.thy_base.specs.Geometry.{memory_blocks}
 use Rattle.thy_base.specs.Places.{number_of, blocks_of_slot, place_of_slot, slot_blocks, slot_place, IsApart}
 use Rattle.thy_place.specs.Devices.{NoMoreAt}
 use Rattle.thy_crash.specs.Spares.{Spares}
-use Rattle.thy_record.specs.Commit.{is_zero, epoch_of, form_of}
+use Rattle.thy_record.specs.Commit.{is_zero, epoch_of, version_of}
 use Rattle.thy_record.specs.Images.{slot_numbers, slot_in, memory_numbers, looked}
 use Rattle.thy_record.specs.Issuing.{IsToldBy}
 use Rattle.thy_record.specs.Slots.{tables_in}
@@ -37,13 +37,13 @@ abbrev pub ApartOrMemory : Parameters → Tables → ℕ → Type 0
 ApartOrMemory p t x = IsApart p x ⊎ ((b : ℕ) × (b < memory_blocks p) × (number_of p (place_of t b) ≡ x))
 
 module _ (p : Parameters) (t : Tables) (x : ℕ) where
-  in_slot : (form : Form) (r : ℕ) → r < 2 → Contains (range_with_len (place_of_slot form p r) (blocks_of_slot form p)) x → IsApart p x
-  in_slot One r two (k, l, is) =
-      let inside : k < blocks_of_slot One p = omega (arith, l, length-range_with_len (place_of_slot One p r) (blocks_of_slot One p)) in
-      let at : place_of_slot One p r + k ≡ x = sym (get_or-range_with_len (place_of_slot One p r) (blocks_of_slot One p) k x inside) ∙ is in
+  in_slot : (version : LayoutVersion) (r : ℕ) → r < 2 → Contains (range_with_len (place_of_slot version p r) (blocks_of_slot version p)) x → IsApart p x
+  in_slot VersionOne r two (k, l, is) =
+      let inside : k < blocks_of_slot VersionOne p = omega (arith, l, length-range_with_len (place_of_slot VersionOne p r) (blocks_of_slot VersionOne p)) in
+      let at : place_of_slot VersionOne p r + k ≡ x = sym (get_or-range_with_len (place_of_slot VersionOne p r) (blocks_of_slot VersionOne p) k x inside) ∙ is in
       let before = (old_slot_before p r k two inside).1 in
       inl (omega (arith, before, at))
-  in_slot Two r two (k, l, is) =
+  in_slot VersionTwo r two (k, l, is) =
       let inside : k < slot_blocks p = omega (arith, l, length-range_with_len (slot_place p r) (slot_blocks p)) in
       let at : slot_place p r + k ≡ x = sym (get_or-range_with_len (slot_place p r) (slot_blocks p) k x inside) ∙ is in
       let behind = slot_behind p r k in
@@ -74,23 +74,23 @@ module _ (p : Parameters) (t : Tables) (x : ℕ) where
           | inr third ↦ elim (first_or_rest x 1 (slots ++ memory) third) as (λ _. ApartOrMemory p t x) [
             | inl e ↦ inl (inl (omega (arith, e)))
             | inr behind ↦ elim (Contains-append_cases slots memory x behind) as (λ _. ApartOrMemory p t x) [
-              | inl a ↦ inl (in_slot (form_of (block_at image 1)) (epoch_of (block_at image 1) % 2) (omega arith) a)
+              | inl a ↦ inl (in_slot (version_of (block_at image 1)) (epoch_of (block_at image 1) % 2) (omega arith) a)
               | inr b ↦ inr (in_memory (subst (λ (u : Tables). Contains (memory_numbers p u) x) is b))
             ]
           ]
         ]
       ]
 
-pub looked_cases : (p : Parameters) (image : List Block) (form : Form) (epoch : ℕ) (t : Tables) (x : ℕ) → IsToldBy p image form epoch t
+pub looked_cases : (p : Parameters) (image : List Block) (version : LayoutVersion) (epoch : ℕ) (t : Tables) (x : ℕ) → IsToldBy p image version epoch t
     → Contains (1 ∷ looked p image) x → ApartOrMemory p t x
-looked_cases p image form epoch t x told inside = looked_by-zeros p t x image (is_zero (block_at image 1)) told.tables inside
+looked_cases p image version epoch t x told inside = looked_by-zeros p t x image (is_zero (block_at image 1)) told.tables inside
 
 -- so what keeps both checkpoints of the controller spares the committed one's image
-pub Spares-stays : (s : State) (m : Device) (t : State) (n : Device) (image : List Block) (form : Form) (epoch : ℕ)
-    → AreSoundTables s → Stays s m t n → IsToldBy s.p image form epoch (tables0 s) → Spares (1 ∷ looked s.p image) m n
-Spares-stays s m t n image form epoch tables stays told = record {
+pub Spares-stays : (s : State) (m : Device) (t : State) (n : Device) (image : List Block) (version : LayoutVersion) (epoch : ℕ)
+    → AreSoundTables s → Stays s m t n → IsToldBy s.p image version epoch (tables0 s) → Spares (1 ∷ looked s.p image) m n
+Spares-stays s m t n image version epoch tables stays told = record {
   as_long = stays.as_long;
-  no_more = λ x inside. (elim (looked_cases s.p image form epoch (tables0 s) x told inside) as (λ _. NoMoreAt x m n) [
+  no_more = λ x inside. (elim (looked_cases s.p image version epoch (tables0 s) x told inside) as (λ _. NoMoreAt x m n) [
     | inl apart ↦ stays.guarded.apart x apart
     | inr of ↦
         let same : number_of s.p (penult (cell_of s of.0)) ≡ x = ap (number_of s.p) (sym ((AreTablesOf-committed s tables).same_place of.0 of.1)) ∙ of.2 in
@@ -99,11 +99,11 @@ Spares-stays s m t n image form epoch tables stays told = record {
 }
 
 -- and with every block copied and written, that of the one under way
-pub Spares-stays_next : (s : State) (m : Device) (t : State) (n : Device) (image : List Block) (form : Form) (epoch : ℕ)
-    → AreSoundTables s → Stays s m t n → AreCopied s → IsToldBy s.p image form epoch (tables1 s) → Spares (1 ∷ looked s.p image) m n
-Spares-stays_next s m t n image form epoch tables stays copied told = record {
+pub Spares-stays_next : (s : State) (m : Device) (t : State) (n : Device) (image : List Block) (version : LayoutVersion) (epoch : ℕ)
+    → AreSoundTables s → Stays s m t n → AreCopied s → IsToldBy s.p image version epoch (tables1 s) → Spares (1 ∷ looked s.p image) m n
+Spares-stays_next s m t n image version epoch tables stays copied told = record {
   as_long = stays.as_long;
-  no_more = λ x inside. (elim (looked_cases s.p image form epoch (tables1 s) x told inside) as (λ _. NoMoreAt x m n) [
+  no_more = λ x inside. (elim (looked_cases s.p image version epoch (tables1 s) x told inside) as (λ _. NoMoreAt x m n) [
     | inl apart ↦ stays.guarded.apart x apart
     | inr of ↦
         let same : number_of s.p (target (cell_of s of.0)) ≡ x = ap (number_of s.p) (sym ((AreTablesOf-under_way s tables).same_place of.0 of.1)) ∙ of.2 in

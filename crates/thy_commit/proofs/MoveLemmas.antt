@@ -3,7 +3,7 @@ use Rattle.std.proofs.Common.{◌≡◌, ◌≢◌, ℕ, ◌+◌, ◌%◌, ◌<�
 use Rattle.thy_base.specs.declared.block.Block.{Block}
 use Rattle.thy_base.specs.declared.config.Parameters.{Parameters}
 use Rattle.thy_base.specs.declared.mark.Mark.{Mark}
-use Rattle.thy_base.specs.declared.form.Form.TheVariants.{Two}
+use Rattle.thy_base.specs.declared.layout_version.LayoutVersion.TheVariants.{VersionTwo}
 use Rattle.thy_base.specs.Device.{Device, block_at, written_to, settled, IsFramed, HasFailedToWrite}
 use Rattle.thy_base.specs.Places.{slot_blocks, slot_place}
 use Rattle.thy_base.specs.Geometry.{IsInRange}
@@ -66,7 +66,7 @@ goes-stays : (o : Origin) (e : Progress) (s : State) (m : Device) (t : State) (n
 goes-stays o e s m t n c tables same stays kept =
     let p : s.p ≡ o.geometry = same ∙ kept.geometry in
     goes o c m n (subst (λ (q : Parameters). Spares (1 ∷ looked q c.before) m n) p
-    (Spares-stays s m t n c.before Two kept.epoch tables stays (subst (λ (q : Parameters). IsToldBy q c.before Two kept.epoch (tables0 s)) (sym p) kept.told)))
+    (Spares-stays s m t n c.before VersionTwo kept.epoch tables stays (subst (λ (q : Parameters). IsToldBy q c.before VersionTwo kept.epoch (tables0 s)) (sym p) kept.told)))
 
 module _ (copy : CopyKeeps) (write : PageWriteKeeps) (others : PageWriteKeepsOthers) (o : Origin) (e : Progress) (s : State) (m : Device) (c : Checkpoints)
     (tables : AreSoundTables s) (sized : IsSized s m) (same : s.p ≡ e.p) (up : m.down ≡ false) (kept : IsKeptBy o e s c.before) (way : is_under_way e.next ≡ true) where
@@ -84,7 +84,7 @@ module _ (copy : CopyKeeps) (write : PageWriteKeeps) (others : PageWriteKeepsOth
       let two : e.epoch % 2 < 2 = omega arith in
       goes o c m (device_after e (SlotItem k) s m)
       (Spares-written (1 ∷ looked o.geometry c.before) (slot_number e k) (slot_block e s k) m (device_after e (SlotItem k) s m)
-      (λ there. free_not_looked o.geometry c.before Two kept.epoch (tables0 s) (SlotBlock (e.epoch % 2) k) kept.told (two, inside) (kept.other_slot way)
+      (λ there. free_not_looked o.geometry c.before VersionTwo kept.epoch (tables0 s) (SlotBlock (e.epoch % 2) k) kept.told (two, inside) (kept.other_slot way)
       (subst (λ (x : ℕ). Contains (1 ∷ looked o.geometry c.before) x) (sym number) there)) refl)
 
   goes-slot : (k : ℕ) → k < slot_blocks e.p → Going (SlotItem k)
@@ -222,10 +222,10 @@ stays_move o e s m t n c tables fits stays told =
     let p : s.p ≡ o.geometry = fits.same_p ∙ told.kept.geometry in
     goes-all o c m n e.next
     (subst (λ (q : Parameters). Spares (1 ∷ looked q c.before) m n) p
-    (Spares-stays s m t n c.before Two told.kept.epoch tables stays (subst (λ (q : Parameters). IsToldBy q c.before Two told.kept.epoch (tables0 s)) (sym p) told.kept.told)))
+    (Spares-stays s m t n c.before VersionTwo told.kept.epoch tables stays (subst (λ (q : Parameters). IsToldBy q c.before VersionTwo told.kept.epoch (tables0 s)) (sym p) told.kept.told)))
     (λ written. subst (λ (q : Parameters). Spares (1 ∷ looked q c.next) m n) p
-    (Spares-stays_next s m t n c.next Two e.epoch tables stays (AreCopied-done s (written-done e.next s written fits.past))
-    (subst (λ (q : Parameters). IsToldBy q c.next Two e.epoch (tables1 s)) (sym p) (told.next written).told)))
+    (Spares-stays_next s m t n c.next VersionTwo e.epoch tables stays (AreCopied-done s (written-done e.next s written fits.past))
+    (subst (λ (q : Parameters). IsToldBy q c.next VersionTwo e.epoch (tables1 s)) (sym p) (told.next written).told)))
 
 -- ---- items that failed
 
@@ -247,7 +247,7 @@ module _ (o : Origin) (e : Progress) (s : State) (m n : Device) (c : Checkpoints
       let two : e.epoch % 2 < 2 = omega arith in
       goes o c m n
       (Spares-failed_to_write (1 ∷ looked o.geometry c.before) (slot_number e k) (slot_block e s k) m n
-      (λ there. free_not_looked o.geometry c.before Two kept.epoch (tables0 s) (SlotBlock (e.epoch % 2) k) kept.told (two, inside) other
+      (λ there. free_not_looked o.geometry c.before VersionTwo kept.epoch (tables0 s) (SlotBlock (e.epoch % 2) k) kept.told (two, inside) other
       (subst (λ (x : ℕ). Contains (1 ∷ looked o.geometry c.before) x) (sym number) there)) failed framed)
 
   fails-page : (x : Option ℕ) → next_page s ≡ x → HasOther → Failing (page_or_slot x)

@@ -1,7 +1,7 @@
 -- What every item makes of the tables of both checkpoints, and so of the images that have them.
 use Rattle.std.proofs.Common.{◌≡◌, ◌≢◌, ℕ, ◌+◌, ◌%◌, nat_lt, Bool, true, false, if◌then◌else◌, List, refl, sym, ◌∙◌, ap, subst, arith, Option, Some, None}
 use Rattle.thy_base.specs.declared.block.Block.{Block}
-use Rattle.thy_base.specs.declared.form.Form.TheVariants.{Two}
+use Rattle.thy_base.specs.declared.layout_version.LayoutVersion.TheVariants.{VersionTwo}
 use Rattle.thy_base.specs.Device.{Device}
 use Rattle.thy_base.specs.Places.{slot_blocks}
 use Rattle.thy_crash.specs.Saved.{Saved, Kept}
@@ -99,7 +99,7 @@ kept-on : (o : Origin) (e : Progress) (s t : State) (next : CheckpointStage) (be
 kept-on o e s t next before way idle same lasts kept = record {
   geometry = kept.geometry;
   epoch = kept.epoch;
-  told = subst (λ (x : Tables). IsToldBy o.geometry before Two kept.epoch x) (sym same) kept.told;
+  told = subst (λ (x : Tables). IsToldBy o.geometry before VersionTwo kept.epoch x) (sym same) kept.told;
   other_slot = λ h. kept.other_slot (way h);
   counted = λ h. kept.counted (idle h) ∙ sym lasts;
 }
@@ -107,7 +107,7 @@ kept-on o e s t next before way idle same lasts kept = record {
 next-on : (o : Origin) (e : Progress) (s t : State) (next : CheckpointStage) (made : List Block) → tables1 t ≡ tables1 s → t.counts.lasts ≡ s.counts.lasts
     → IsNextBy o e s made → IsNextBy o (record e { next = next }) t made
 next-on o e s t next made same lasts by = record {
-  told = subst (λ (x : Tables). IsToldBy o.geometry made Two e.epoch x) (sym same) by.told;
+  told = subst (λ (x : Tables). IsToldBy o.geometry made VersionTwo e.epoch x) (sym same) by.told;
   counted = by.counted ∙ sym lasts;
 }
 
@@ -166,7 +166,7 @@ module _ (o : Origin) (e : Progress) (s : State) (m : Device) (c : Checkpoints) 
     kept = record {
       geometry = told.kept.geometry;
       epoch = e.epoch;
-      told = subst (λ (x : Tables). IsToldBy o.geometry c.next Two e.epoch x) (sym (CommitsTables-committed s tables).tables0_next) (told.next (ap is_settled (sym is))).told;
+      told = subst (λ (x : Tables). IsToldBy o.geometry c.next VersionTwo e.epoch x) (sym (CommitsTables-committed s tables).tables0_next) (told.next (ap is_settled (sym is))).told;
       other_slot = λ h. cc;
       counted = λ h. (told.next (ap is_settled (sym is))).counted;
     };
@@ -215,7 +215,7 @@ module _ (o : Origin) (e : Progress) (s : State) (n : Device) (c : Checkpoints) 
     kept = record {
       geometry = told.kept.geometry;
       epoch = told.kept.epoch;
-      told = subst (λ (x : Tables). IsToldBy o.geometry c.before Two told.kept.epoch x) (sym (tables0-sealed s tables)) told.kept.told;
+      told = subst (λ (x : Tables). IsToldBy o.geometry c.before VersionTwo told.kept.epoch x) (sym (tables0-sealed s tables)) told.kept.told;
       counted = λ h. cc;
       other_slot = λ h same.
           let epoch : mark.epoch ≡ told.kept.epoch + 1 = seal.after ∙ ap (λ (k : ℕ). k + 1) (sym of_done) in

@@ -2,7 +2,7 @@
 use Rattle.std.specs.Prelude.{◌≡◌, ◌≢◌, ℕ, ◌%◌, ◌<◌, Bool, true, false, List, Option, Some, None}
 use Rattle.thy_base.specs.declared.block.Block.{Block}
 use Rattle.thy_base.specs.declared.mark.Mark.{Mark}
-use Rattle.thy_base.specs.declared.form.Form.TheVariants.{Two}
+use Rattle.thy_base.specs.declared.layout_version.LayoutVersion.TheVariants.{VersionTwo}
 use Rattle.thy_base.specs.Device.{Device, block_at, newest, IsFramed}
 use Rattle.thy_crash.specs.Saved.{Saved, Kept, Ready, InDoubt, next_image}
 use Rattle.thy_isa.specs.OnBlocks.{state_from}
@@ -66,14 +66,14 @@ pub record HasNext (e : Progress) (c : Checkpoints) : Type 0 where
 pub record IsKeptBy (o : Origin) (e : Progress) (s : State) (before : List Block) : Type 0 where
   pub geometry : e.p ≡ o.geometry
   pub epoch : ℕ
-  pub told : IsToldBy o.geometry before Two epoch (tables0 s)
+  pub told : IsToldBy o.geometry before VersionTwo epoch (tables0 s)
   pub other_slot : is_under_way e.next ≡ true → e.epoch % 2 ≢ epoch % 2
-  pub counted : is_under_way e.next ≡ false → counts_in Two o.geometry (slot_in o.geometry before) ≡ s.counts.lasts
+  pub counted : is_under_way e.next ≡ false → counts_in VersionTwo o.geometry (slot_in o.geometry before) ≡ s.counts.lasts
 
 -- the image that is made has the tables and the counts of the checkpoint under way, and names its epoch
 pub record IsNextBy (o : Origin) (e : Progress) (s : State) (next : List Block) : Type 0 where
-  pub told : IsToldBy o.geometry next Two e.epoch (tables1 s)
-  pub counted : counts_in Two o.geometry (slot_in o.geometry next) ≡ s.counts.lasts
+  pub told : IsToldBy o.geometry next VersionTwo e.epoch (tables1 s)
+  pub counted : counts_in VersionTwo o.geometry (slot_in o.geometry next) ≡ s.counts.lasts
 
 -- the controller has the tables of the image that is kept, and after the first barrier of the one that is made
 pub record AreTold (o : Origin) (e : Progress) (s : State) (c : Checkpoints) : Type 0 where

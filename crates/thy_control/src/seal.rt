@@ -7,6 +7,7 @@ ghost use Rattle.thy_control.specs.Find.{with_entry_for};
 ghost use Rattle.thy_control.specs.Keys.{page_key};
 ghost use Rattle.thy_control.specs.Seal.{block_is_framed, sealed_in, sealed_as_counted, dense_below, with_pages, with_dense, sealed_ptt, ListsDense};
 
+use thy_base::{BLOCK_COUNTS, page_of};
 use thy_cell::{committed_entry, committed_page, sealed_entry, sealed_page};
 use thy_switch::Counts;
 use thy_table::Rule;
@@ -16,7 +17,7 @@ use thy_tables::{Btt, BttEntry, Ptt, PttEntry};
 pub fn block_is_framed(ptt: &Ptt, b: u64) -> bool
     ensures { result ≡ block_is_framed ptt.now b }
 {
-    match ptt.find(b / 64) {
+    match ptt.find(page_of(b)) {
         Some(j) => match ptt.entry(j) {
             Some(page) => page.is_framed(),
             None => false,
@@ -85,10 +86,10 @@ fn list_dense(ptt: &mut Ptt, counts: &Counts)
     ensures { ptt.new ≡ with_pages (dense_below counts.now (length counts.now.counts)) ptt.old }
 {
     let pages = counts.pages();
-    for k in 0..pages / 64 {
-        list_dense_of(ptt, 64 * k, 64 * k + 64, counts);
+    for k in 0..pages / BLOCK_COUNTS {
+        list_dense_of(ptt, BLOCK_COUNTS * k, BLOCK_COUNTS * k + BLOCK_COUNTS, counts);
     }
-    list_dense_of(ptt, pages / 64 * 64, pages, counts);
+    list_dense_of(ptt, pages / BLOCK_COUNTS * BLOCK_COUNTS, pages, counts);
 }
 
 /// Those of the pages from one to before another.

@@ -12,7 +12,7 @@ ghost use Rattle.thy_core.specs.Reading.{blocks_in, IsRoomy};
 
 use crate::parts::MachineParts;
 use std::alloc::Global;
-use thy_base::{Block, Bytes, Nvm, NvmError};
+use thy_base::{BLOCK_SIZE, Block, Bytes, Nvm, NvmError};
 use thy_scheme::Scheme;
 use thy_view::CoreError;
 
@@ -105,7 +105,7 @@ pub(crate) fn read_blocks<N: Nvm, S: Scheme>(
     ensures err { IfErr result (λ e. HasFailedToRead e (N.device nvm.old) (N.device nvm.new)) }
     ensures frame { IsFramed (N.device nvm.old) (N.device nvm.new) }
 {
-    let mut bytes = Bytes::with_room(alloc, 64 * (end - first) as usize)?;
+    let mut bytes = Bytes::with_room(alloc, BLOCK_SIZE * (end - first) as usize)?;
     for i in first..end {
         read_block(&mut bytes, m, version, i, nvm)?;
     }
@@ -144,8 +144,9 @@ pub(crate) fn read_console<N: Nvm, S: Scheme>(
     let base = m.hart.geometry().program_size();
     let first = base + from;
     let end = base + len;
-    let all = read_blocks(alloc, m, version, first / 64, end.div_ceil(64), nvm)?;
-    let piece = part(all.as_slice(), (first % 64) as usize, (len - from) as usize);
+    let size = BLOCK_SIZE as u64;
+    let all = read_blocks(alloc, m, version, first / size, end.div_ceil(size), nvm)?;
+    let piece = part(all.as_slice(), (first % size) as usize, (len - from) as usize);
     let bytes = Vec::from_slice(alloc, piece)?;
     Ok(Bytes::from_vec(bytes))
 }

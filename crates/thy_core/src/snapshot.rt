@@ -15,7 +15,7 @@ ghost use Rattle.thy_core.specs.Reading.{ReadsState};
 use crate::parts::MachineParts;
 use crate::reading::{MemoryVersion, read_blocks, read_console};
 use std::alloc::Global;
-use thy_base::{Bytes, Nvm};
+use thy_base::{Bytes, Nvm, PAGE_BLOCKS};
 use thy_isa::{CpuState, MachState};
 use thy_scheme::Scheme;
 use thy_view::{CoreError, Phase};
@@ -58,7 +58,7 @@ fn executing<N: Nvm, S: Scheme>(
     ensures frame { IsFramed (N.device nvm.old) (N.device nvm.new) }
 {
     let numbers = m.hart.geometry().numbers();
-    let blocks = 64 * (numbers.pages - numbers.console);
+    let blocks = PAGE_BLOCKS * (numbers.pages - numbers.console);
     let memory = read_blocks(alloc, m, MemoryVersion::Executing, 0, blocks, nvm)?;
     let cpu = m.hart.cpu();
     let console = read_console(alloc, m, MemoryVersion::Executing, 0, cpu.console_len, nvm)?;

@@ -2,7 +2,7 @@
 ghost use Rattle.std.specs.Prelude.{◌≡◌, ℕ, List};
 ghost use Rattle.thy_dram.specs.Draws.{bytes_over, after_bytes, drawn_block, after_block, filled};
 
-use thy_base::{Block, Lcg};
+use thy_base::{BLOCK_SIZE, Block, Lcg};
 use thy_ring::Ring;
 
 /// Writes over each byte the low 8 bits of one draw.
@@ -22,7 +22,7 @@ fn next_block(draws: &mut Lcg) -> Block
     ensures block { result ≡ drawn_block draws.old }
     ensures draws { draws.new ≡ after_block draws.old }
 {
-    let mut bytes = [0; 64];
+    let mut bytes = [0; BLOCK_SIZE];
     fill_bytes(&mut bytes, draws);
     Block(bytes)
 }

@@ -3,8 +3,8 @@ use Rattle.std.proofs.Common.{◌≡◌, ◌≢◌, ℕ, ◌+◌, ◌≤◌, ◌
 use Rattle.std.proofs.lemmas.List.{length-drop}
 use Rattle.thy_base.specs.declared.block.Block.{Block}
 use Rattle.thy_base.specs.declared.config.Parameters.{Parameters}
-use Rattle.thy_base.specs.declared.form.Form.{Form}
-use Rattle.thy_base.specs.declared.form.Form.TheVariants.{One, Two}
+use Rattle.thy_base.specs.declared.layout_version.LayoutVersion.{LayoutVersion}
+use Rattle.thy_base.specs.declared.layout_version.LayoutVersion.TheVariants.{VersionOne, VersionTwo}
 use Rattle.thy_base.specs.declared.mark.Mark.{Mark}
 use Rattle.thy_base.specs.declared.nvm.NvmError.{NvmError}
 use Rattle.thy_base.specs.Device.{Device, HasFailed, IsFramed, CountsFault}
@@ -16,7 +16,7 @@ use Rattle.thy_isa.specs.OnBlocks.{state_from}
 use Rattle.thy_isa.specs.Step.{State as Plain, cpu_of, state_of}
 use Rattle.thy_record.specs.declared.bad_image.BadImage.{BadImage}
 use Rattle.thy_record.specs.declared.start.Start.{Start}
-use Rattle.thy_record.specs.Commit.{epoch_of, form_of}
+use Rattle.thy_record.specs.Commit.{epoch_of, version_of}
 use Rattle.thy_record.specs.Cpu.{cpu_of_record}
 use Rattle.thy_record.specs.Images.{decode_image}
 use Rattle.thy_control.specs.State.{State, AreSoundTables, IsSized}
@@ -188,7 +188,7 @@ module _ (o : Origin) (g : BootImages) (n : Device) (b : Booting) (c : State) wh
 
 -- the mark's checkpoint is the committed one, and memory is its
 booted-at : (o : Origin) (t : Dual) (new : Device) (m : Mark) (cpu : CpuState) (image : List Block) → IsUnused o t → t.storeless ≡ true → new.down ≡ false
-    → Keeps o (layout_of o) new (Kept image) (Some m) None → IsBootedAt o m cpu Two image new t.control → cpu.count ≡ m.count → IsBooted dual_scheme o m cpu t new
+    → Keeps o (layout_of o) new (Kept image) (Some m) None → IsBootedAt o m cpu VersionTwo image new t.control → cpu.count ≡ m.count → IsBooted dual_scheme o m cpu t new
 booted-at o t new m cpu image unused storeless up keeps over count =
     let sized : IsSized t.control new = record { nvm = keeps.sized ∙ ap image_blocks (sym unused.controller) } in
     record {
@@ -219,18 +219,18 @@ read-asked Barrier h = absurd h
 read-asked Drain h = absurd h
 
 -- a migration begins after a checkpoint of version 1
-begun-back : (q : Stage) (commit : Block) (at : Migration) → begun_at q commit ≡ Some at → (q ≡ Over Restored) × (form_of commit ≡ One) × (at ≡ SlotAt 0)
+begun-back : (q : Stage) (commit : Block) (at : Migration) → begun_at q commit ≡ Some at → (q ≡ Over Restored) × (version_of commit ≡ VersionOne) × (at ≡ SlotAt 0)
 begun-back (Reads r) commit at h = cc
 begun-back (Loading issue) commit at h = cc
 begun-back (Over Loaded) commit at h = cc
-begun-back (Over Restored) commit at h = by_form (form_of commit) refl h where
-  by_form : (f : Form) → form_of commit ≡ f → begun_from f ≡ Some at → (let q : Stage = Over Restored in q ≡ Over Restored) × (form_of commit ≡ One) × (at ≡ SlotAt 0)
-  by_form One e h = (refl, e, cc)
-  by_form Two e h = cc
+begun-back (Over Restored) commit at h = by_version (version_of commit) refl h where
+  by_version : (f : LayoutVersion) → version_of commit ≡ f → begun_from f ≡ Some at → (let q : Stage = Over Restored in q ≡ Over Restored) × (version_of commit ≡ VersionOne) × (at ≡ SlotAt 0)
+  by_version VersionOne e h = (refl, e, cc)
+  by_version VersionTwo e h = cc
 
-not-begun : (f : Form) → begun_from f ≡ None → f ≡ Two
-not-begun One h = cc
-not-begun Two h = refl
+not-begun : (f : LayoutVersion) → begun_from f ≡ None → f ≡ VersionTwo
+not-begun VersionOne h = cc
+not-begun VersionTwo h = refl
 
 module _ (o : Origin) (s : Dual) (n : Device) (booting : IsBooting dual_scheme o s n) (new : Device) (r : Recovering) (e : State)
     (steps : RecoverySteps o.start n s.boot s.control new r e) (boot : IsBoot filling_dual r.boot) (tables : AreSoundTables e)
@@ -358,13 +358,13 @@ module _ (o : Origin) (s : Dual) (n : Device) (booting : IsBooting dual_scheme o
       let shows = subst (λ (x : Stage). CoreStep o v (did_of (answer_at filling_dual x d)) (seen_at o g.kept x)) is moved.shows in
       before ∙ was-found o g n b s.control b.stage (mark (epoch_of d.commit) (cpu_of_record (slot_read filling_dual d)).count) going shows.done
 
-  restarted : d.stage ≡ Over Restored → form_of d.commit ≡ Two → Restarts dual_scheme o (cpu_of_record (slot_read filling_dual d)) (epoch_of d.commit) s n t new
+  restarted : d.stage ≡ Over Restored → version_of d.commit ≡ VersionTwo → Restarts dual_scheme o (cpu_of_record (slot_read filling_dual d)) (epoch_of d.commit) s n t new
   restarted is two =
       let epoch : ℕ = epoch_of d.commit in
       let cpu : CpuState = cpu_of_record (slot_read filling_dual d) in
       let k = restored_is_booted o h new d e boots.origin moved.sound is in
       let m : Mark = k.0 in
-      let over : IsBootedAt o m cpu Two h.before new e = subst (λ (f : Form). IsBootedAt o m cpu f h.before new e) two k.4 in
+      let over : IsBootedAt o m cpu VersionTwo h.before new e = subst (λ (f : LayoutVersion). IsBootedAt o m cpu f h.before new e) two k.4 in
       let count : cpu.count ≡ m.count = count-same o m cpu new e over.has in
       record {
         view = restored-view is;
@@ -374,7 +374,7 @@ module _ (o : Origin) (s : Dual) (n : Device) (booting : IsBooting dual_scheme o
 
   -- ---- or the image that was found is of version 1
 
-  begins : d.stage ≡ Over Restored → form_of d.commit ≡ One → r.migration ≡ Some (SlotAt 0) → Boots o t new × BootsTo (view_at o b.stage n) (view_at o d.stage new)
+  begins : d.stage ≡ Over Restored → version_of d.commit ≡ VersionOne → r.migration ≡ Some (SlotAt 0) → Boots o t new × BootsTo (view_at o b.stage n) (view_at o d.stage new)
   begins is one on =
       let found = migration_begins o h new d e boots.origin moved.sound is one in
       let m : Mark = found.0 in
@@ -397,7 +397,7 @@ module _ (o : Origin) (s : Dual) (n : Device) (booting : IsBooting dual_scheme o
   answers-at (Reads (Refusing bad)) is none shows = absurd (never bad is)
   answers-at (Loading issue) is none shows = goes-on (Loading issue) is tt none shows.1
   answers-at (Over Restored) is none shows =
-      restarted is (not-begun (form_of d.commit) (sym (ap (λ (q : Stage). begun_at q d.commit) is) ∙ sym begun ∙ none))
+      restarted is (not-begun (version_of d.commit) (sym (ap (λ (q : Stage). begun_at q d.commit) is) ∙ sym begun ∙ none))
   answers-at (Over Loaded) is none shows = loaded is
 
   -- a read, if a migration begins

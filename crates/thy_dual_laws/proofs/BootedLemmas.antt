@@ -5,7 +5,7 @@ use Rattle.std.proofs.lemmas.Bool.{ltb-true}
 use Rattle.std.proofs.lemmas.List.{length-map, get_or-map, ext_get_or}
 use Rattle.std.proofs.lemmas.List.FromFn.{length-range_with_len, get_or-map-range_with_len}
 use Rattle.thy_base.specs.declared.block.Block.{Block}
-use Rattle.thy_base.specs.declared.form.Form.TheVariants.{Two}
+use Rattle.thy_base.specs.declared.layout_version.LayoutVersion.TheVariants.{VersionTwo}
 use Rattle.thy_base.specs.declared.mark.Mark.{Mark}
 use Rattle.thy_base.specs.declared.place.Place.{Place}
 use Rattle.thy_base.specs.Device.{Device, block_at, newest, zero_block}
@@ -144,7 +144,7 @@ idle-clear Confirm h = h
 -- ---- the whole
 
 module _ (o : Origin) (m : Mark) (cpu : CpuState) (image : List Block) (s : Dual) (n : Device) (unused : IsUnused o s)
-    (keeps : Keeps o (layout_of o) n (Kept image) (Some m) None) (booted : IsBooted o m cpu Two image n s.control) where
+    (keeps : Keeps o (layout_of o) n (Kept image) (Some m) None) (booted : IsBooted o m cpu VersionTwo image n s.control) where
   abbrev images : Checkpoints
   images = record { before = image; kept = Some m; next = []; sealed = None }
 

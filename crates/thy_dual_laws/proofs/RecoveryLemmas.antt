@@ -2,13 +2,13 @@
 use Rattle.std.proofs.Common.{◌≡◌, ◌⊎◌, ℕ, Bool, true, false, is_some, List, Option, Some, None, refl, sym, ◌∙◌, ap, subst, inl, inr}
 use Rattle.thy_base.specs.declared.block.Block.{Block}
 use Rattle.thy_base.specs.declared.config.Parameters.{Parameters}
-use Rattle.thy_base.specs.declared.form.Form.TheVariants.{One, Two}
+use Rattle.thy_base.specs.declared.layout_version.LayoutVersion.TheVariants.{VersionOne, VersionTwo}
 use Rattle.thy_base.specs.declared.mark.Mark.{Mark}
 use Rattle.thy_base.specs.Device.{Device, block_at}
 use Rattle.thy_base.proofs.CrashLemmas.{Crash-image}
 use Rattle.thy_crash.specs.Fixed.{IsFixed}
 use Rattle.thy_crash.proofs.FixedLemmas.{block_at-fixed}
-use Rattle.thy_record.specs.Commit.{epoch_of, form_of}
+use Rattle.thy_record.specs.Commit.{epoch_of, version_of}
 use Rattle.thy_control.specs.State.{State}
 use Rattle.thy_view.specs.declared.view.View.{View}
 use Rattle.thy_view.specs.Action.{ActsBy, ActionFailedBy}
@@ -53,7 +53,7 @@ migrates-found o m found at g n b c h is =
     let slot : List Block = slot_read filling_dual b in
     let epoch : epoch_of b.commit ≡ found.epoch = h.found.epoch ∙ ap (λ (x : Mark). x.epoch) is in
     record {
-      old = h.found.form;
+      old = h.found.version;
       own = subst (λ (p : Parameters). IsOfMigration o.geometry found.epoch (action_by p slot (epoch_of b.commit) at)) (sym h.found.geometry)
           (subst (λ (e : ℕ). IsOfMigration o.geometry found.epoch (action_by o.geometry slot e at)) (sym epoch) (own-action o.geometry slot found.epoch at h.there));
     }
@@ -76,15 +76,15 @@ migration_writes o s n found boots migrates done =
 
 -- ---- an image of version 2
 
-one_is_not_two : One ≡ Two → ⊥
+one_is_not_two : VersionOne ≡ VersionTwo → ⊥
 one_is_not_two e = cc
 
-module _ (o : Origin) (g : BootImages) (n : Device) (b : Booting) (c : State) (two : form_of (block_at n.image 1) ≡ Two) where
+module _ (o : Origin) (g : BootImages) (n : Device) (b : Booting) (c : State) (two : version_of (block_at n.image 1) ≡ VersionTwo) where
   -- the image that is kept until the commit block is written is of version 1
   not-kept : (m : Mark) (at : Migration) → IsMigrating o m at g n b c → IsFixed n 1 (block_at g.before 1) → ⊥
   not-kept m at h fixed =
       let same : block_at n.image 1 ≡ block_at g.before 1 = block_at-fixed n n.image 1 (block_at g.before 1) fixed (Crash-image n) in
-      one_is_not_two (sym h.found.told.of_form ∙ sym (ap form_of same) ∙ two)
+      one_is_not_two (sym h.found.told.of_version ∙ sym (ap version_of same) ∙ two)
 
   stays-at : (m : Mark) (at : Migration) → IsMigrating o m at g n b c → at ≡ Confirm
   stays-at m (Slot k) h = absurd (not-kept m (Slot k) h h.keeps.saved.commit)

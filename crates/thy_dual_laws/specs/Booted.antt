@@ -1,7 +1,7 @@
 -- The end of a boot.
 use Rattle.std.specs.Prelude.{◌≡◌, false, List, Some, None}
 use Rattle.thy_base.specs.declared.block.Block.{Block}
-use Rattle.thy_base.specs.declared.form.Form.TheVariants.{Two}
+use Rattle.thy_base.specs.declared.layout_version.LayoutVersion.TheVariants.{VersionTwo}
 use Rattle.thy_base.specs.declared.mark.Mark.{Mark}
 use Rattle.thy_base.specs.Device.{Device}
 use Rattle.thy_crash.specs.Saved.{Kept}
@@ -31,5 +31,5 @@ pub record IsUnused (o : Origin) (s : Dual) : Type 0 where
 abbrev pub BootedIsSound : Type 0
 BootedIsSound =
     (o : Origin) (m : Mark) (cpu : CpuState) (image : List Block) (s : Dual) (n : Device)
-    → IsUnused o s → Keeps o (layout_of o) n (Kept image) (Some m) None → IsBooted o m cpu Two image n s.control
+    → IsUnused o s → Keeps o (layout_of o) n (Kept image) (Some m) None → IsBooted o m cpu VersionTwo image n s.control
     → IsSoundDual o (only m) s n

@@ -2,12 +2,12 @@
 -- version 1; and then it writes the slot of the checkpoint's epoch in version 2, and block 1, alone.
 use Rattle.std.specs.Prelude.{◌≡◌, ◌⊎◌, ℕ, ◌+◌, ◌%◌, ◌<◌, true, false, Some}
 use Rattle.thy_base.specs.declared.config.Parameters.{Parameters}
-use Rattle.thy_base.specs.declared.form.Form.TheVariants.{One, Two}
+use Rattle.thy_base.specs.declared.layout_version.LayoutVersion.TheVariants.{VersionOne, VersionTwo}
 use Rattle.thy_base.specs.declared.mark.Mark.{Mark}
 use Rattle.thy_base.specs.declared.mix.Pick.{Pick}
 use Rattle.thy_base.specs.Device.{Device, HasFailed, block_at}
 use Rattle.thy_base.specs.Places.{slot_blocks, slot_place}
-use Rattle.thy_record.specs.Commit.{form_of}
+use Rattle.thy_record.specs.Commit.{version_of}
 use Rattle.thy_view.specs.declared.did.Did.{Did}
 use Rattle.thy_view.specs.declared.did.Stepped.{Stepped}
 use Rattle.thy_view.specs.declared.view.Phase.TheVariants.{Boot}
@@ -61,7 +61,7 @@ IsOfMigration p epoch action = ⊥
 
 -- a boot that migrates has found a checkpoint of version 1, and its action is one of these
 pub record MigratesFound (p : Parameters) (epoch : ℕ) (b : Booting) (at : Migration) : Type 0 where
-  pub old : form_of b.commit ≡ One
+  pub old : version_of b.commit ≡ VersionOne
   pub own : IsOfMigration p epoch (action_of b at)
 
 abbrev pub MigrationWrites : Type 0
@@ -75,5 +75,5 @@ MigrationWrites =
 -- itself has only its last barrier to come.
 abbrev pub VersionTwoStays : Type 0
 VersionTwoStays =
-    (o : Origin) (s : Dual) (n : Device) → Boots o s n → form_of (block_at n.image 1) ≡ Two
+    (o : Origin) (s : Dual) (n : Device) → Boots o s n → version_of (block_at n.image 1) ≡ VersionTwo
     → (dual_scheme.migrates s ≡ false) ⊎ (s.boot.migration ≡ Some Confirm)

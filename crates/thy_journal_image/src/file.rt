@@ -31,7 +31,7 @@ fn image_fault(image: &[u8], commit: &Block, geometry: &Geometry, ceiling: u64) 
     requires commit { commit.now ≡ block_at (blocks_of image.now) 1 }
     ensures { result ≡ file_fault geometry.now ceiling image.now }
 {
-    let sized = image.len() as u64 == 64 * blocks(geometry);
+    let sized = image.len() as u64 == BLOCK_SIZE as u64 * blocks(geometry);
     if let Some(bad) = header_fault(&block_in(image, 0), geometry, sized) {
         return Some(bad);
     }

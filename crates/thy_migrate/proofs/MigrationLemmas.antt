@@ -5,8 +5,8 @@ use Rattle.std.proofs.lemmas.List.{length-map, length-take-le}
 use Rattle.std.proofs.lemmas.List.FromFn.{length-range_with_len}
 use Rattle.thy_base.specs.declared.block.Block.{Block}
 use Rattle.thy_base.specs.declared.config.Parameters.{Parameters}
-use Rattle.thy_base.specs.declared.form.Form.{Form}
-use Rattle.thy_base.specs.declared.form.Form.TheVariants.{One, Two}
+use Rattle.thy_base.specs.declared.layout_version.LayoutVersion.{LayoutVersion}
+use Rattle.thy_base.specs.declared.layout_version.LayoutVersion.TheVariants.{VersionOne, VersionTwo}
 use Rattle.thy_base.specs.declared.mark.Mark.{Mark}
 use Rattle.thy_base.specs.Device.{Device, block_at, newest, written_to, settled, drained, HasFailedToWrite, IsFramed}
 use Rattle.thy_base.specs.Places.{blocks_of_slot, slot_blocks, slot_place, image_blocks, first_home, blocks_one}
@@ -18,7 +18,7 @@ use Rattle.thy_crash.proofs.SavedLemmas.{next_image-commit}
 use Rattle.thy_crash.proofs.SparesLemmas.{Spares-written, Spares-failed, Spares-failed_to_write, Spares-drained}
 use Rattle.thy_isa.specs.OnBlocks.{state_from}
 use Rattle.thy_record.specs.declared.bad_image.BadImage.TheVariants.{Commit as BadCommit}
-use Rattle.thy_record.specs.Commit.{commit_of, epoch_of, form_of, is_named, has_zero_rest, commit_fault}
+use Rattle.thy_record.specs.Commit.{commit_of, epoch_of, version_of, is_named, has_zero_rest, commit_fault}
 use Rattle.thy_record.specs.Cpu.{cpu_of_record}
 use Rattle.thy_record.specs.Decoded.{At}
 use Rattle.thy_record.specs.Images.{memory_numbers, memory_in, slot_in, looked}
@@ -89,8 +89,8 @@ epoch_below header commit h =
     ltb-true (epoch_of commit) ceiling (asks_epoch (is_named header commit) (nat_lt (epoch_of commit) ceiling) (has_zero_rest commit) h)
 
 -- the slot that was read has as many blocks as its version
-slot_long : (p : Parameters) (b : Booting) (n : Device) {c : State} → b.p ≡ p → form_of b.commit ≡ One → IsRestored filling_dual n b c
-    → length (slot_read filling_dual b) ≡ blocks_of_slot One p
+slot_long : (p : Parameters) (b : Booting) (n : Device) {c : State} → b.p ≡ p → version_of b.commit ≡ VersionOne → IsRestored filling_dual n b c
+    → length (slot_read filling_dual b) ≡ blocks_of_slot VersionOne p
 slot_long p b n same one f =
     let l : Layout = layout_in filling_dual b in
     let commit : Block = block_at n.image 1 in
@@ -98,8 +98,8 @@ slot_long p b n same one f =
     ∙ length-map (slot_places l commit) (block_at n.image)
     ∙ length-range_with_len (l.slot_place commit) (l.slot_blocks commit)
     ∙ ap l.slot_blocks f.head.commit_is.is
-    ∙ ap (λ (f : Form). blocks_of_slot f b.p) one
-    ∙ ap (blocks_of_slot One) same
+    ∙ ap (λ (f : LayoutVersion). blocks_of_slot f b.p) one
+    ∙ ap (blocks_of_slot VersionOne) same
 
 pub migration_begins : MigrationBegins
 migration_begins o g n b c origin sound is one =
@@ -110,11 +110,11 @@ migration_begins o g n b c origin sound is one =
     let f : IsRestored filling_dual n b c = k.5 in
     let rec : IsRecovering filling_dual g n b c = subst (λ (q : Stage). IsSoundAt filling_dual o q g n b c) is sound.so_far in
     let m : Mark = r.0 in
-    let booted : IsBooted o m (cpu_of_record slot) (form_of b.commit) g.before n c = r.4 in
-    let fits : slot_fault One p ceiling m.epoch slot ≡ None
-    = ap (λ (q : Parameters). slot_fault One q ceiling m.epoch slot) (sym sound.geometry)
-    ∙ ap (λ (f : Form). slot_fault f b.p ceiling m.epoch slot) (sym one)
-    ∙ ap (λ (e : ℕ). slot_fault (form_of b.commit) b.p ceiling e slot) r.2 ∙ f.slot_fits in
+    let booted : IsBooted o m (cpu_of_record slot) (version_of b.commit) g.before n c = r.4 in
+    let fits : slot_fault VersionOne p ceiling m.epoch slot ≡ None
+    = ap (λ (q : Parameters). slot_fault VersionOne q ceiling m.epoch slot) (sym sound.geometry)
+    ∙ ap (λ (f : LayoutVersion). slot_fault f b.p ceiling m.epoch slot) (sym one)
+    ∙ ap (λ (e : ℕ). slot_fault (version_of b.commit) b.p ceiling e slot) r.2 ∙ f.slot_fits in
     let listed : tables_in p slot ≡ tables0 c
     = ap (λ (q : Parameters). tables_in q slot) (sym sound.same_p) ∙ sym f.lists.are in
     let keeps : Keeps o (layout_of o) n (Kept g.before) (Some m) None = r.3 in
@@ -126,15 +126,15 @@ migration_begins o g n b c origin sound is one =
           same_p = sound.same_p;
           tables = f.lists.tables;
           restored = is;
-          form = one;
+          version = one;
           epoch = sym r.2;
           kept = r.1;
           small = subst (λ (e : ℕ). e < ceiling) (sym r.2) (epoch_below (block_at n.image 0) b.commit f.head.commit_fits);
           long = slot_long p b n sound.geometry one f;
           fits = fits;
-          told = subst (λ (f : Form). IsToldBy p g.before f m.epoch (tables0 c)) one booted.told;
+          told = subst (λ (f : LayoutVersion). IsToldBy p g.before f m.epoch (tables0 c)) one booted.told;
           listed = listed;
-          no_counts = sym booted.lasts ∙ ap (λ (f : Form). counts_in f p (slot_in p g.before)) one;
+          no_counts = sym booted.lasts ∙ ap (λ (f : LayoutVersion). counts_in f p (slot_in p g.before)) one;
         };
         there = omega arith;
         keeps = record { sized = keeps.sized; saved = keeps.saved; told = keeps.told };
@@ -212,7 +212,7 @@ module _ (o : Origin) (m : Mark) (g : BootImages) (b : Booting) (c : State) wher
   -- the new slot is free
   slot_free : HasFound o m g b c → (k : ℕ) → k < slot_blocks p → ¬ Contains (guarded (looked_by (layout_of o)) (Kept g.before)) (slot_place p (m.epoch % 2) + k)
   slot_free found k l inside =
-      free_not_looked p g.before One m.epoch (tables0 c) (SlotBlock (m.epoch % 2) k) found.told (half m.epoch, l) tt
+      free_not_looked p g.before VersionOne m.epoch (tables0 c) (SlotBlock (m.epoch % 2) k) found.told (half m.epoch, l) tt
       (subst (λ (xs : List ℕ). Contains (1 ∷ xs) (slot_place p (m.epoch % 2) + k)) (looked_by-dual_layouts p ceiling g.before) inside)
 
   -- ---- a block of the slot
@@ -296,7 +296,7 @@ module _ (o : Origin) (m : Mark) (g : BootImages) (b : Booting) (c : State) wher
         counted = h.has.counted;
       };
       commit = next_image-commit (commit_of m.epoch) n (omega (arith, h.issued.sized));
-      told = subst (λ (t : Tables). IsToldBy p next Two m.epoch t) h.found.listed migrated.told;
+      told = subst (λ (t : Tables). IsToldBy p next VersionTwo m.epoch t) h.found.listed migrated.told;
       no_counts = migrated.counted;
     }
 
@@ -307,7 +307,7 @@ module _ (o : Origin) (m : Mark) (g : BootImages) (b : Booting) (c : State) wher
         same_p = h.found.same_p;
         tables = h.found.tables;
         restored = h.found.restored;
-        form = h.found.form;
+        version = h.found.version;
         epoch = h.found.epoch;
         kept = h.found.kept;
         small = h.found.small;
@@ -465,7 +465,7 @@ dram_drained o m at g n b c h tables = record {
     same_p = h.found.same_p;
     tables = tables;
     restored = h.found.restored;
-    form = h.found.form;
+    version = h.found.version;
     epoch = h.found.epoch;
     kept = h.found.kept;
     small = h.found.small;

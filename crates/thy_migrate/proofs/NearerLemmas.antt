@@ -3,13 +3,13 @@ use Rattle.std.proofs.Common.{◌≡◌, ◌≢◌, ℕ, ◌+◌, ◌-◌, ◌<�
 use Rattle.std.proofs.lemmas.Bool.{ltb-true, ltb-false}
 use Rattle.thy_base.specs.declared.block.Block.{Block}
 use Rattle.thy_base.specs.declared.config.Parameters.{Parameters}
-use Rattle.thy_base.specs.declared.form.Form.{Form}
-use Rattle.thy_base.specs.declared.form.Form.TheVariants.{One, Two}
+use Rattle.thy_base.specs.declared.layout_version.LayoutVersion.{LayoutVersion}
+use Rattle.thy_base.specs.declared.layout_version.LayoutVersion.TheVariants.{VersionOne, VersionTwo}
 use Rattle.thy_base.specs.Device.{Device}
 use Rattle.thy_base.specs.Places.{slot_blocks}
 use Rattle.thy_isa.specs.Step.{State as Plain}
 use Rattle.thy_record.specs.declared.bad_image.BadImage.{BadImage}
-use Rattle.thy_record.specs.Commit.{form_of}
+use Rattle.thy_record.specs.Commit.{version_of}
 use Rattle.thy_control.specs.State.{State}
 use Rattle.thy_boot.specs.declared.stage.Stage.{Stage}
 use Rattle.thy_boot.specs.declared.stage.Stage.TheVariants.{Reads, Loads, Over}
@@ -59,24 +59,24 @@ with_migration d q None = boot_left filling_dual d q + owed_at d.p d.commit q
 with_migration d q (Some at) = migration_left d.p at
 
 -- behind the commit block it is what the boot has left, and a migration if that names version 1
-most_from : (d : Booting) (form : Form) → with_migration d (Over Restored) (begun_from form) ≤ boot_left filling_dual d (Over Restored) + migration_after d.p form
-most_from d One = omega arith
-most_from d Two = omega arith
+most_from : (d : Booting) (version : LayoutVersion) → with_migration d (Over Restored) (begun_from version) ≤ boot_left filling_dual d (Over Restored) + migration_after d.p version
+most_from d VersionOne = omega arith
+most_from d VersionTwo = omega arith
 
 most_at : (d : Booting) (q : Stage) → q ≢ Reads Unread
-    → with_migration d q (begun_at q d.commit) ≤ boot_left filling_dual d q + migration_after d.p (form_of d.commit)
+    → with_migration d q (begun_at q d.commit) ≤ boot_left filling_dual d q + migration_after d.p (version_of d.commit)
 most_at d (Reads Unread) other = absurd (other refl)
 most_at d (Reads Header) other = omega arith
 most_at d (Reads (SlotAt next)) other = omega arith
 most_at d (Reads (Fills k)) other = omega arith
 most_at d (Reads (Refusing bad)) other = omega arith
 most_at d (Loads issue) other = omega arith
-most_at d (Over Restored) other = most_from d (form_of d.commit)
+most_at d (Over Restored) other = most_from d (version_of d.commit)
 most_at d (Over Loaded) other = omega arith
 
-one_at_most : (p : Parameters) (form : Form) → migration_after p form ≤ most_migration p
-one_at_most p One = omega arith
-one_at_most p Two = omega arith
+one_at_most : (p : Parameters) (version : LayoutVersion) → migration_after p version ≤ most_migration p
+one_at_most p VersionOne = omega arith
+one_at_most p VersionTwo = omega arith
 
 left_is : (d : Booting) (o : Option Migration) → left_at o d ≡ with_migration d d.stage o
 left_is d None = refl
@@ -115,18 +115,18 @@ module _ (s : Plain) (n : Device) (b : Booting) (c : State) (m : Device) (d : Bo
 
   reads_nearer : (r : ReadStage) → b.stage ≡ Reads r → d.p ≡ b.p → (r ≢ Unread → d.commit ≡ b.commit) → IsNearer (Reads r)
   reads_nearer r is same keeps = by_stage r is keeps where
-    most : with_migration d d.stage (begun_at d.stage d.commit) ≤ boot_left filling_dual d d.stage + migration_after d.p (form_of d.commit)
+    most : with_migration d d.stage (begun_at d.stage d.commit) ≤ boot_left filling_dual d d.stage + migration_after d.p (version_of d.commit)
     most = most_at d d.stage (not_unread same)
 
     less : (q : Stage) → b.stage ≡ q → boot_left filling_dual d d.stage + 1 ≤ boot_left filling_dual b q
     less q is = subst (λ (x : Stage). boot_left filling_dual d d.stage + 1 ≤ boot_left filling_dual b x) is nearer
 
-    after : d.commit ≡ b.commit → migration_after d.p (form_of d.commit) ≡ migration_after b.p (form_of b.commit)
-    after e = ap (λ (p : Parameters). migration_after p (form_of d.commit)) same ∙ ap (λ (x : Block). migration_after b.p (form_of x)) e
+    after : d.commit ≡ b.commit → migration_after d.p (version_of d.commit) ≡ migration_after b.p (version_of b.commit)
+    after e = ap (λ (p : Parameters). migration_after p (version_of d.commit)) same ∙ ap (λ (x : Block). migration_after b.p (version_of x)) e
 
     by_stage : (r : ReadStage) → b.stage ≡ Reads r → (r ≢ Unread → d.commit ≡ b.commit) → IsNearer (Reads r)
     by_stage Unread is keeps =
-        let few = one_at_most d.p (form_of d.commit) in
+        let few = one_at_most d.p (version_of d.commit) in
         let room : most_migration d.p ≡ most_migration b.p = ap most_migration same in
         let left = less (Reads Unread) is in
         omega (arith, most, few, room, left)

@@ -2,14 +2,14 @@
 use Rattle.std.specs.Prelude.{◌≡◌, ◌≢◌, ℕ, ◌+◌, ◌≤◌, false, List, Option, Some, None}
 use Rattle.thy_base.specs.declared.block.Block.{Block}
 use Rattle.thy_base.specs.declared.config.Parameters.{Parameters}
-use Rattle.thy_base.specs.declared.form.Form.TheVariants.{One, Two}
+use Rattle.thy_base.specs.declared.layout_version.LayoutVersion.TheVariants.{VersionOne, VersionTwo}
 use Rattle.thy_base.specs.declared.mark.Mark.{Mark}
 use Rattle.thy_base.specs.Device.{Device, IsFramed, drained}
 use Rattle.thy_base.specs.Places.{slot_blocks, slot_place}
 use Rattle.thy_crash.specs.Saved.{Kept}
 use Rattle.thy_isa.specs.Step.{State as Plain}
 use Rattle.thy_record.specs.declared.bad_image.BadImage.{BadImage}
-use Rattle.thy_record.specs.Commit.{form_of}
+use Rattle.thy_record.specs.Commit.{version_of}
 use Rattle.thy_record.specs.Cpu.{cpu_of_record}
 use Rattle.thy_control.specs.Drains.{after_drain}
 use Rattle.thy_control.specs.State.{State, AreSoundTables}
@@ -37,7 +37,7 @@ use Rattle.thy_migrate.specs.Steps.{CanMigrate, CanStep, Steps}
 abbrev pub MigrationBegins : Type 0
 MigrationBegins =
     (o : Origin) (g : BootImages) (n : Device) (b : Booting) (c : State)
-    → IsOrigin o → IsSoundBoot filling_dual o g n b c → b.stage ≡ Over Restored → form_of b.commit ≡ One
+    → IsOrigin o → IsSoundBoot filling_dual o g n b c → b.stage ≡ Over Restored → version_of b.commit ≡ VersionOne
     → (m : Mark) × IsMigrating o m (Slot 0) g n b c
 
 -- it may take its action while the NVM is up
@@ -61,7 +61,7 @@ FailureIsSafe =
 -- it is over: the mark's checkpoint is kept in version 2, and the controller has it
 pub record HasMigrated (o : Origin) (m : Mark) (image : List Block) (n : Device) (b : Booting) (c : State) : Type 0 where
   pub keeps : Keeps o (layout_of o) n (Kept image) (Some m) None
-  pub booted : IsBooted o m (cpu_of_record (slot_read filling_dual b)) Two image n c
+  pub booted : IsBooted o m (cpu_of_record (slot_read filling_dual b)) VersionTwo image n c
 
 -- after its action the migration is before the next one, or over
 abbrev pub MigratesTo : Option Migration → Origin → Mark → BootImages → Device → Booting → State → Type 0

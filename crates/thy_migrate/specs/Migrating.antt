@@ -3,11 +3,11 @@
 use Rattle.std.specs.Prelude.{◌≡◌, ℕ, ◌+◌, ◌-◌, ◌%◌, ◌<◌, nat_lt, Bool, true, false, if◌then◌else◌, List, Option, Some, None}
 use Rattle.thy_base.specs.declared.block.Block.{Block}
 use Rattle.thy_base.specs.declared.config.Parameters.{Parameters}
-use Rattle.thy_base.specs.declared.form.Form.{Form}
-use Rattle.thy_base.specs.declared.form.Form.TheVariants.{One, Two}
+use Rattle.thy_base.specs.declared.layout_version.LayoutVersion.{LayoutVersion}
+use Rattle.thy_base.specs.declared.layout_version.LayoutVersion.TheVariants.{VersionOne, VersionTwo}
 use Rattle.thy_base.specs.Device.{block_at}
 use Rattle.thy_base.specs.Places.{slot_blocks, slot_place}
-use Rattle.thy_record.specs.Commit.{commit_of, epoch_of, form_of}
+use Rattle.thy_record.specs.Commit.{commit_of, epoch_of, version_of}
 use Rattle.thy_view.specs.Action.{Action, WriteAt, Barrier}
 use Rattle.thy_boot.specs.declared.stage.Stage.{Stage}
 use Rattle.thy_boot.specs.declared.stage.Stage.TheVariants.{Over}
@@ -29,12 +29,12 @@ abbrev pub new_recovery : Parameters → Recovering
 new_recovery p = record { boot = empty_boot (slot_blocks p) p; migration = None }
 
 -- one begins if the boot has restored a checkpoint of version 1
-abbrev pub begun_from : Form → Option Migration
-begun_from One = Some (Slot 0)
-begun_from Two = None
+abbrev pub begun_from : LayoutVersion → Option Migration
+begun_from VersionOne = Some (Slot 0)
+begun_from VersionTwo = None
 
 abbrev pub begun_at : Stage → Block → Option Migration
-begun_at (Over Restored) commit = begun_from (form_of commit)
+begun_at (Over Restored) commit = begun_from (version_of commit)
 begun_at stage commit = None
 
 -- block k is written to the slot of this epoch in version 2: block k of the slot that was found, and zeros behind it; the

@@ -2,13 +2,13 @@
 use Rattle.std.specs.Prelude.{◌≡◌, ℕ, ◌<◌, List, length, replicate, Some, None}
 use Rattle.thy_base.specs.declared.block.Block.{Block}
 use Rattle.thy_base.specs.declared.config.Parameters.{Parameters}
-use Rattle.thy_base.specs.declared.form.Form.TheVariants.{One, Two}
+use Rattle.thy_base.specs.declared.layout_version.LayoutVersion.TheVariants.{VersionOne, VersionTwo}
 use Rattle.thy_base.specs.declared.mark.Mark.{Mark}
 use Rattle.thy_base.specs.Device.{Device, block_at}
 use Rattle.thy_base.specs.Places.{blocks_of_slot, slot_blocks, image_blocks}
 use Rattle.thy_crash.specs.Fixed.{Reads}
 use Rattle.thy_crash.specs.Saved.{Saved, Kept, Ready, InDoubt, next_image}
-use Rattle.thy_record.specs.Commit.{commit_of, epoch_of, form_of}
+use Rattle.thy_record.specs.Commit.{commit_of, epoch_of, version_of}
 use Rattle.thy_record.specs.Cpu.{cpu_of_record}
 use Rattle.thy_record.specs.Images.{slot_in}
 use Rattle.thy_record.specs.Issuing.{IsToldBy}
@@ -56,13 +56,13 @@ pub record HasFound (o : Origin) (m : Mark) (g : BootImages) (b : Booting) (c : 
   pub same_p : c.p ≡ o.geometry
   pub tables : AreSoundTables c
   pub restored : b.stage ≡ Over Restored
-  pub form : form_of b.commit ≡ One
+  pub version : version_of b.commit ≡ VersionOne
   pub epoch : epoch_of b.commit ≡ m.epoch
   pub kept : g.kept ≡ Some m
   pub small : m.epoch < ceiling
-  pub long : length (slot_read filling_dual b) ≡ blocks_of_slot One o.geometry
-  pub fits : slot_fault One o.geometry ceiling m.epoch (slot_read filling_dual b) ≡ None
-  pub told : IsToldBy o.geometry g.before One m.epoch (tables0 c)
+  pub long : length (slot_read filling_dual b) ≡ blocks_of_slot VersionOne o.geometry
+  pub fits : slot_fault VersionOne o.geometry ceiling m.epoch (slot_read filling_dual b) ≡ None
+  pub told : IsToldBy o.geometry g.before VersionOne m.epoch (tables0 c)
   pub listed : tables_in o.geometry (slot_read filling_dual b) ≡ tables0 c
   pub no_counts : c.counts.lasts ≡ replicate o.geometry.pages 0
 
@@ -75,8 +75,8 @@ written_before p at = slot_blocks p
 pub record IsAnew (o : Origin) (m : Mark) (next : List Block) (c : State) : Type 0 where
   pub of : IsOf o (layout_of o) next m
   pub commit : block_at next 1 ≡ commit_of m.epoch
-  pub told : IsToldBy o.geometry next Two m.epoch (tables0 c)
-  pub no_counts : counts_in Two o.geometry (slot_in o.geometry next) ≡ replicate o.geometry.pages 0
+  pub told : IsToldBy o.geometry next VersionTwo m.epoch (tables0 c)
+  pub no_counts : counts_in VersionTwo o.geometry (slot_in o.geometry next) ≡ replicate o.geometry.pages 0
 
 abbrev pub IsMadeBefore : Migration → Origin → Mark → List Block → State → Type 0
 IsMadeBefore (Slot k) o m next c = Unit {0}

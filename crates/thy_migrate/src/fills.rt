@@ -1,11 +1,11 @@
 //! This scheme's part of the boot: images of both versions, read into the controller.
 ghost use Rattle.std.specs.Prelude.{◌≡◌, ◌+◌, ◌*◌, ◌<◌, true, length, None, OnOk, OnErr, slice_index_or};
 
-use thy_base::{Block, Geometry, Nvm, NvmError, word};
+use thy_base::{Block, Geometry, Nvm, NvmError, PAGE_BLOCKS, word};
 use thy_boot::Fills;
 use thy_control::Control;
 use thy_isa::{CpuState, MachState};
-use thy_record::{BadImage, commit_block, commit_fault, form_of, header_block, header_fault};
+use thy_record::{BadImage, commit_block, commit_fault, version_of, header_block, header_fault};
 use thy_recover::{
     CEILING, cpu_of_slot, fault_of_slot, fill, first_memory, first_slot, list_slot, next_fill,
 };
@@ -27,11 +27,11 @@ impl Fills for DualFills {
     }
 
     fn slot_blocks(geometry: &Geometry, commit: &Block) -> u64 {
-        geometry.slot_blocks_of(form_of(commit))
+        geometry.slot_blocks_of(version_of(commit))
     }
 
     fn slot_at(geometry: &Geometry, commit: &Block, next: u64) -> u64 {
-        geometry.slot_of(form_of(commit), word(commit, 1) % 2) + next
+        geometry.slot_of(version_of(commit), word(commit, 1) % 2) + next
     }
 
     fn header_fault(geometry: &Geometry, header: &Block) -> Option<BadImage> {
@@ -56,7 +56,7 @@ impl Fills for DualFills {
     }
 
     fn most_fills(geometry: &Geometry) -> u64 {
-        64 * geometry.numbers().ptt
+        PAGE_BLOCKS * geometry.numbers().ptt
     }
 
     fn next_fill(geometry: &Geometry, commit: &Block, slot: &[u8], from: u64) -> Option<u64> {

@@ -18,10 +18,10 @@ use crate::fills::DualFills;
 use crate::migration::Migration;
 use std::alloc::{AllocError, Global};
 use std::marker::Model;
-use thy_base::{Block, Form, Geometry, Nvm, NvmError, word};
+use thy_base::{Block, LayoutVersion, Geometry, Nvm, NvmError, word};
 use thy_boot::{Boot, BootStep, End, Stage};
 use thy_control::Control;
-use thy_record::{Start, commit_block, form_of};
+use thy_record::{Start, commit_block, version_of};
 use thy_recover::{cpu_of_slot, slot_block};
 
 /// A boot, and what its migration does next, if one is under way.
@@ -44,9 +44,9 @@ fn begun(stage: Stage, commit: &Block) -> Option<Migration>
     ensures { result ≡ begun_at stage commit.now }
 {
     match stage {
-        Stage::Over(End::Restored) => match form_of(commit) {
-            Form::One => Some(Migration::Slot(0)),
-            Form::Two => None,
+        Stage::Over(End::Restored) => match version_of(commit) {
+            LayoutVersion::VersionOne => Some(Migration::Slot(0)),
+            LayoutVersion::VersionTwo => None,
         },
         Stage::Reads(_) | Stage::Loads(_) | Stage::Over(End::Loaded) => None,
     }

@@ -4,14 +4,14 @@ use Rattle.std.specs.Option.{option_or}
 use Rattle.std.proofs.lemmas.List.FromFn.{get_or-map-range_with_len}
 use Rattle.thy_base.specs.declared.block.Block.{Block}
 use Rattle.thy_base.specs.declared.config.Parameters.{Parameters}
-use Rattle.thy_base.specs.declared.form.Form.TheVariants.{Two}
+use Rattle.thy_base.specs.declared.layout_version.LayoutVersion.TheVariants.{VersionTwo}
 use Rattle.thy_base.specs.Device.{Device, block_at, newest, zero_block, written_to}
 use Rattle.thy_base.specs.Geometry.{IsInRange, console_room}
 use Rattle.thy_base.specs.Places.{blocks_of_slot, place_of_slot, slot_blocks, slot_place, image_blocks}
 use Rattle.thy_isa.specs.declared.state.CpuState.{CpuState}
 use Rattle.thy_isa.specs.OnBlocks.{state_from}
 use Rattle.thy_record.specs.declared.bad_image.BadImage.{BadImage}
-use Rattle.thy_record.specs.Commit.{commit_of, epoch_of, form_of, commit_fault}
+use Rattle.thy_record.specs.Commit.{commit_of, epoch_of, version_of, commit_fault}
 use Rattle.thy_record.specs.Cpu.{IsRecordable, cpu_of_record}
 use Rattle.thy_record.specs.Decoded.{At}
 use Rattle.thy_record.specs.Header.{header_fault}
@@ -19,7 +19,7 @@ use Rattle.thy_record.specs.Images.{memory_numbers}
 use Rattle.thy_record.specs.Slots.{slot_block_of, IsSlotOf, AreCounts, tables_in, counts_in, slot_fault}
 use Rattle.thy_record.specs.Tables.{Tables, IsTables}
 use Rattle.thy_record.proofs.IssuingLemmas.{memory_between, slot_of_memory, half}
-use Rattle.thy_record.proofs.ReadBackLemmas.{epoch_of-commit_of, form_of-commit_of, commit_fault-commit_of, is_zero-commit_of, FitsRecord-recordable, cpu_back}
+use Rattle.thy_record.proofs.ReadBackLemmas.{epoch_of-commit_of, version_of-commit_of, commit_fault-commit_of, is_zero-commit_of, FitsRecord-recordable, cpu_back}
 use Rattle.thy_record.proofs.SlotLemmas.{BeginsWithRecord-slot, tables_in-back, counts_back, slot_fault-back}
 use Rattle.thy_crash.specs.Saved.{next_image}
 use Rattle.thy_crash.proofs.SavedLemmas.{next_image-commit}
@@ -71,8 +71,8 @@ module _ (p : Parameters) (ceiling : ℕ) (cpu : CpuState) (t : Tables) (counts 
   epoch_is : epoch_of (commit_of epoch) ≡ epoch
   epoch_is = epoch_of-commit_of epoch small
 
-  form_is : form_of (commit_of epoch) ≡ Two
-  form_is = form_of-commit_of epoch
+  version_is : version_of (commit_of epoch) ≡ VersionTwo
+  version_is = version_of-commit_of epoch
 
   pub slot_is : IsSlotOf p cpu t counts epoch slot
   slot_is = record {
@@ -90,20 +90,20 @@ module _ (p : Parameters) (ceiling : ℕ) (cpu : CpuState) (t : Tables) (counts 
   pub parts_of : ArePartsOf (dual_layouts p ceiling) (commit_of epoch) (parts_by p cpu t counts epoch)
   parts_of = record {
     placed = ArePlaced-parts p cpu t counts epoch tables;
-    slot_place = ap (λ f. place_of_slot f p (epoch_of (commit_of epoch) % 2)) form_is ∙ ap (λ (e : ℕ). slot_place p (e % 2)) epoch_is;
-    slot_blocks = ap (λ f. blocks_of_slot f p) form_is;
+    slot_place = ap (λ f. place_of_slot f p (epoch_of (commit_of epoch) % 2)) version_is ∙ ap (λ (e : ℕ). slot_place p (e % 2)) epoch_is;
+    slot_blocks = ap (λ f. blocks_of_slot f p) version_is;
     memory = ap (memory_numbers p) tables_are;
   }
 
   pub no_fault : (header : Block) → header_fault header p true ≡ None
       → option_or (header_fault header p true) (option_or (commit_fault header (commit_of epoch) ceiling)
-      (slot_fault (form_of (commit_of epoch)) p ceiling (epoch_of (commit_of epoch)) slot)) ≡ None
+      (slot_fault (version_of (commit_of epoch)) p ceiling (epoch_of (commit_of epoch)) slot)) ≡ None
   no_fault header fits =
       all_none (header_fault header p true) (commit_fault header (commit_of epoch) ceiling)
-      (slot_fault (form_of (commit_of epoch)) p ceiling (epoch_of (commit_of epoch)) slot) fits
+      (slot_fault (version_of (commit_of epoch)) p ceiling (epoch_of (commit_of epoch)) slot) fits
       (commit_fault-commit_of header epoch ceiling below most)
-      (ap (λ f. slot_fault f p ceiling (epoch_of (commit_of epoch)) slot) form_is
-      ∙ ap (λ (e : ℕ). slot_fault Two p ceiling e slot) epoch_is
+      (ap (λ f. slot_fault f p ceiling (epoch_of (commit_of epoch)) slot) version_is
+      ∙ ap (λ (e : ℕ). slot_fault VersionTwo p ceiling e slot) epoch_is
       ∙ slot_fault-back p ceiling cpu t counts epoch slot range recordable tables counts_are most small slot_is)
 
 pub issued_decodes : (p : Parameters) (ceiling : ℕ) (n : Device) (cpu : CpuState) (t : Tables) (counts : ℕ → Block) (epoch : ℕ) (memory : List Block)
@@ -120,12 +120,12 @@ issued_decodes p ceiling n cpu t counts epoch memory range recordable most below
     next_image-commit (commit_of epoch) n (omega (arith, h.parts.sized)) in
     record {
       told = record {
-        of_form = ap form_of commit_same ∙ form_is p ceiling cpu t counts epoch range recordable most below h.tables h.counts_are;
+        of_version = ap version_of commit_same ∙ version_is p ceiling cpu t counts epoch range recordable most below h.tables h.counts_are;
         of_epoch = ap epoch_of commit_same ∙ epoch_same;
         tables = ap (tables_in p) all.slot ∙ tables_are p ceiling cpu t counts epoch range recordable most below h.tables h.counts_are;
         whole = h.tables;
       };
-      counted = ap (counts_in Two p) all.slot
+      counted = ap (counts_in VersionTwo p) all.slot
           ∙ counts_back p cpu t counts epoch (slot_of (parts_by p cpu t counts epoch)) (slot_is p ceiling cpu t counts epoch range recordable most below h.tables h.counts_are);
       decodes = all.decodes ∙ ap (λ (e : ℕ). At e (state_from p (cpu_of_record (slot_of (parts_by p cpu t counts epoch))) memory)) epoch_same
           ∙ ap (λ (c : CpuState). At epoch (state_from p c memory)) (cpu_is p ceiling cpu t counts epoch range recordable most below h.tables h.counts_are);

@@ -4,12 +4,12 @@ use Rattle.std.specs.Option.{option_or}
 use Rattle.std.proofs.lemmas.List.FromFn.{length-map-range_with_len, get_or-map-range_with_len}
 use Rattle.thy_base.specs.declared.block.Block.{Block}
 use Rattle.thy_base.specs.declared.config.Parameters.{Parameters}
-use Rattle.thy_base.specs.declared.form.Form.TheVariants.{One, Two}
+use Rattle.thy_base.specs.declared.layout_version.LayoutVersion.TheVariants.{VersionOne, VersionTwo}
 use Rattle.thy_base.specs.Device.{Device, block_at, newest, zero_block}
 use Rattle.thy_base.specs.Places.{blocks_of_slot, place_of_slot, slot_blocks, slot_place, image_blocks}
 use Rattle.thy_isa.specs.declared.state.CpuState.{CpuState}
 use Rattle.thy_isa.specs.OnBlocks.{state_from}
-use Rattle.thy_record.specs.Commit.{commit_of, epoch_of, form_of, commit_fault}
+use Rattle.thy_record.specs.Commit.{commit_of, epoch_of, version_of, commit_fault}
 use Rattle.thy_record.specs.Cpu.{cpu_of_record}
 use Rattle.thy_record.specs.Decoded.{At}
 use Rattle.thy_record.specs.Header.{header_fault}
@@ -20,7 +20,7 @@ use Rattle.thy_record.specs.Tables.{Tables, IsTables}
 use Rattle.thy_record.specs.TableFaults.{tables_fault}
 use Rattle.thy_record.proofs.IssuingLemmas.{memory_between, slot_of_memory, half}
 use Rattle.thy_record.proofs.MigratedLemmas.{anew_means_the_same}
-use Rattle.thy_record.proofs.ReadBackLemmas.{epoch_of-commit_of, form_of-commit_of, commit_fault-commit_of, is_zero-commit_of}
+use Rattle.thy_record.proofs.ReadBackLemmas.{epoch_of-commit_of, version_of-commit_of, commit_fault-commit_of, is_zero-commit_of}
 use Rattle.thy_record.proofs.SlotLemmas.{length-entries_in}
 use Rattle.thy_record.proofs.TableFaultLemmas.{neither, IsTables-faultless}
 use Rattle.thy_crash.specs.Saved.{next_image}
@@ -33,12 +33,12 @@ use Rattle.thy_protocol.proofs.IssuingLemmas.{issued_is_checkpoint}
 use Rattle.thy_protocol.proofs.DualPartsLemmas.{slot_fits, all_none}
 
 -- the tables of a slot without a fault
-pub tables_of_slot : (p : Parameters) (ceiling epoch : ℕ) (slot : List Block) → slot_fault One p ceiling epoch slot ≡ None → IsTables p (tables_in p slot)
+pub tables_of_slot : (p : Parameters) (ceiling epoch : ℕ) (slot : List Block) → slot_fault VersionOne p ceiling epoch slot ≡ None → IsTables p (tables_in p slot)
 unfolding slot_fault
 tables_of_slot p ceiling epoch slot none =
     let parts = neither (epoch_fault epoch slot)
-    (option_or (tables_fault p (tables_in p slot)) (option_or (status_fault p ceiling slot) (count_fault One p slot))) none in
-    let tables = neither (tables_fault p (tables_in p slot)) (option_or (status_fault p ceiling slot) (count_fault One p slot)) parts.1 in
+    (option_or (tables_fault p (tables_in p slot)) (option_or (status_fault p ceiling slot) (count_fault VersionOne p slot))) none in
+    let tables = neither (tables_fault p (tables_in p slot)) (option_or (status_fault p ceiling slot) (count_fault VersionOne p slot)) parts.1 in
     IsTables-faultless p (tables_in p slot) (record {
       btt_length = length-entries_in slot 40 p.btt;
       ptt_length = length-entries_in slot (40 + p.btt) p.ptt;
@@ -55,7 +55,7 @@ ArePlaced-migrated p slot epoch tables = record {
 }
 
 module _ (p : Parameters) (ceiling epoch : ℕ) (slot : List Block) (most : ceiling ≤ 2 ^ 64) (below : epoch < ceiling)
-    (long : length slot ≡ blocks_of_slot One p) (none : slot_fault One p ceiling epoch slot ≡ None) where
+    (long : length slot ≡ blocks_of_slot VersionOne p) (none : slot_fault VersionOne p ceiling epoch slot ≡ None) where
   abbrev anew : List Block
   anew = slot_of (migrated_parts p slot epoch)
 
@@ -72,26 +72,26 @@ module _ (p : Parameters) (ceiling epoch : ℕ) (slot : List Block) (most : ceil
   epoch_is : epoch_of (commit_of epoch) ≡ epoch
   epoch_is = epoch_of-commit_of epoch (omega (arith, most, below))
 
-  form_is : form_of (commit_of epoch) ≡ Two
-  form_is = form_of-commit_of epoch
+  version_is : version_of (commit_of epoch) ≡ VersionTwo
+  version_is = version_of-commit_of epoch
 
   parts_of : ArePartsOf (dual_layouts p ceiling) (commit_of epoch) (migrated_parts p slot epoch)
   parts_of = record {
     placed = ArePlaced-migrated p slot epoch (tables_of_slot p ceiling epoch slot none);
-    slot_place = ap (λ f. place_of_slot f p (epoch_of (commit_of epoch) % 2)) form_is ∙ ap (λ (e : ℕ). slot_place p (e % 2)) epoch_is;
-    slot_blocks = ap (λ f. blocks_of_slot f p) form_is;
+    slot_place = ap (λ f. place_of_slot f p (epoch_of (commit_of epoch) % 2)) version_is ∙ ap (λ (e : ℕ). slot_place p (e % 2)) epoch_is;
+    slot_blocks = ap (λ f. blocks_of_slot f p) version_is;
     memory = ap (memory_numbers p) same.tables_same;
   }
 
   no_fault : (header : Block) → header_fault header p true ≡ None
       → option_or (header_fault header p true) (option_or (commit_fault header (commit_of epoch) ceiling)
-      (slot_fault (form_of (commit_of epoch)) p ceiling (epoch_of (commit_of epoch)) anew)) ≡ None
+      (slot_fault (version_of (commit_of epoch)) p ceiling (epoch_of (commit_of epoch)) anew)) ≡ None
   no_fault header fits =
       all_none (header_fault header p true) (commit_fault header (commit_of epoch) ceiling)
-      (slot_fault (form_of (commit_of epoch)) p ceiling (epoch_of (commit_of epoch)) anew) fits
+      (slot_fault (version_of (commit_of epoch)) p ceiling (epoch_of (commit_of epoch)) anew) fits
       (commit_fault-commit_of header epoch ceiling below most)
-      (ap (λ f. slot_fault f p ceiling (epoch_of (commit_of epoch)) anew) form_is
-      ∙ ap (λ (e : ℕ). slot_fault Two p ceiling e anew) epoch_is
+      (ap (λ f. slot_fault f p ceiling (epoch_of (commit_of epoch)) anew) version_is
+      ∙ ap (λ (e : ℕ). slot_fault VersionTwo p ceiling e anew) epoch_is
       ∙ same.faultless)
 
   module _ (n : Device) (memory : List Block) (header : header_fault (newest n 0) p true ≡ None)
@@ -107,12 +107,12 @@ module _ (p : Parameters) (ceiling epoch : ℕ) (slot : List Block) (most : ceil
     pub is_migrated : IsMigrated p ceiling n slot epoch memory
     is_migrated = record {
       told = record {
-        of_form = ap form_of commit_same ∙ form_is;
+        of_version = ap version_of commit_same ∙ version_is;
         of_epoch = ap epoch_of commit_same ∙ epoch_is;
         tables = ap (tables_in p) all.slot ∙ same.tables_same;
         whole = tables_of_slot p ceiling epoch slot none;
       };
-      counted = ap (counts_in Two p) all.slot ∙ same.no_counts;
+      counted = ap (counts_in VersionTwo p) all.slot ∙ same.no_counts;
       decodes = all.decodes ∙ ap (λ (e : ℕ). At e (state_from p (cpu_of_record anew) memory)) epoch_is
           ∙ ap (λ (c : CpuState). At epoch (state_from p c memory)) same.cpu_same;
       issued = all.issued;

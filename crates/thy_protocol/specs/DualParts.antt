@@ -3,7 +3,7 @@ use Rattle.std.specs.Prelude.{◌≡◌, ℕ, ◌%◌, ◌^◌, ◌<◌, ◌≤�
 use Rattle.std.specs.List.{range_with_len}
 use Rattle.thy_base.specs.declared.block.Block.{Block}
 use Rattle.thy_base.specs.declared.config.Parameters.{Parameters}
-use Rattle.thy_base.specs.declared.form.Form.TheVariants.{Two}
+use Rattle.thy_base.specs.declared.layout_version.LayoutVersion.TheVariants.{VersionTwo}
 use Rattle.thy_base.specs.Device.{Device, newest}
 use Rattle.thy_base.specs.Geometry.{IsInRange}
 use Rattle.thy_base.specs.Places.{slot_blocks, slot_place, image_blocks}
@@ -43,8 +43,8 @@ pub record IsIssuing (p : Parameters) (n : Device) (cpu : CpuState) (t : Tables)
 -- other write
 pub record IsIssuedCheckpoint (p : Parameters) (ceiling : ℕ) (n : Device) (cpu : CpuState) (t : Tables) (counts : ℕ → Block)
     (epoch : ℕ) (memory : List Block) : Type 0 where
-  pub told : IsToldBy p (next_image n (commit_of epoch)) Two epoch t
-  pub counted : counts_in Two p (slot_in p (next_image n (commit_of epoch))) ≡ map (byte_in counts) (range_with_len 0 p.pages)
+  pub told : IsToldBy p (next_image n (commit_of epoch)) VersionTwo epoch t
+  pub counted : counts_in VersionTwo p (slot_in p (next_image n (commit_of epoch))) ≡ map (byte_in counts) (range_with_len 0 p.pages)
   pub decodes : decode_by (dual_layouts p ceiling) (next_image n (commit_of epoch)) ≡ At epoch (state_from p cpu memory)
   pub issued : IsIssued (looked_by (dual_layouts p ceiling)) n (next_image n (commit_of epoch))
 

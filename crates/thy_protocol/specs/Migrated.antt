@@ -2,7 +2,7 @@
 use Rattle.std.specs.Prelude.{◌≡◌, ℕ, ◌%◌, ◌^◌, ◌<◌, ◌≤◌, true, List, length, replicate, None}
 use Rattle.thy_base.specs.declared.block.Block.{Block}
 use Rattle.thy_base.specs.declared.config.Parameters.{Parameters}
-use Rattle.thy_base.specs.declared.form.Form.TheVariants.{One, Two}
+use Rattle.thy_base.specs.declared.layout_version.LayoutVersion.TheVariants.{VersionOne, VersionTwo}
 use Rattle.thy_base.specs.Device.{Device, block_at, newest}
 use Rattle.thy_base.specs.Places.{blocks_of_slot, slot_blocks, slot_place, image_blocks}
 use Rattle.thy_isa.specs.OnBlocks.{state_from}
@@ -31,8 +31,8 @@ migrated_parts p slot epoch = record {
 -- with the commit block of that epoch in version 2 the next image is the same checkpoint, tells the same tables and counts
 -- of 0, and lacks no other write
 pub record IsMigrated (p : Parameters) (ceiling : ℕ) (n : Device) (slot : List Block) (epoch : ℕ) (memory : List Block) : Type 0 where
-  pub told : IsToldBy p (next_image n (commit_of epoch)) Two epoch (tables_in p slot)
-  pub counted : counts_in Two p (slot_in p (next_image n (commit_of epoch))) ≡ replicate p.pages 0
+  pub told : IsToldBy p (next_image n (commit_of epoch)) VersionTwo epoch (tables_in p slot)
+  pub counted : counts_in VersionTwo p (slot_in p (next_image n (commit_of epoch))) ≡ replicate p.pages 0
   pub decodes : decode_by (dual_layouts p ceiling) (next_image n (commit_of epoch)) ≡ At epoch (state_from p (cpu_of_record slot) memory)
   pub issued : IsIssued (looked_by (dual_layouts p ceiling)) n (next_image n (commit_of epoch))
 
@@ -40,7 +40,7 @@ pub record IsMigrated (p : Parameters) (ceiling : ℕ) (n : Device) (slot : List
 abbrev pub MigrationDecodes : Type 0
 MigrationDecodes =
     (p : Parameters) (ceiling : ℕ) (n : Device) (slot : List Block) (epoch : ℕ) (memory : List Block)
-    → ceiling ≤ 2 ^ 64 → epoch < ceiling → length slot ≡ blocks_of_slot One p → slot_fault One p ceiling epoch slot ≡ None
+    → ceiling ≤ 2 ^ 64 → epoch < ceiling → length slot ≡ blocks_of_slot VersionOne p → slot_fault VersionOne p ceiling epoch slot ≡ None
     → header_fault (newest n 0) p true ≡ None
     → AreIssued (image_blocks p) (migrated_parts p slot epoch) n memory (slot_blocks p)
     → IsMigrated p ceiling n slot epoch memory

@@ -4,14 +4,14 @@ use Rattle.std.proofs.lemmas.Bool.{eq-eqb, ne_eqb, le-ltb}
 use Rattle.std.specs.Option.{option_or}
 use Rattle.thy_base.specs.declared.block.Block.{Block}
 use Rattle.thy_base.specs.declared.config.Parameters.{Parameters}
-use Rattle.thy_base.specs.declared.form.Form.{Form}
+use Rattle.thy_base.specs.declared.layout_version.LayoutVersion.{LayoutVersion}
 use Rattle.thy_base.specs.Device.{block_at}
 use Rattle.thy_isa.specs.Step.{State}
 use Rattle.thy_record.specs.declared.file.Found.{Found}
 use Rattle.thy_record.specs.declared.file.Found.TheVariants.{Nothing as FoundNothing, At as FoundAt}
 use Rattle.thy_record.specs.declared.bad_image.BadImage.{BadImage}
 use Rattle.thy_record.specs.declared.bad_image.BadImage.TheVariants.{Commit, Empty}
-use Rattle.thy_record.specs.Commit.{is_zero, epoch_of, form_of, commit_fault}
+use Rattle.thy_record.specs.Commit.{is_zero, epoch_of, version_of, commit_fault}
 use Rattle.thy_record.specs.Cpu.{record_word}
 use Rattle.thy_record.specs.Decoded.{Nothing, Refused}
 use Rattle.thy_record.specs.Files.{blocks_of, is_long_file, decode_file, found_in}
@@ -22,33 +22,33 @@ use Rattle.thy_record.specs.TableFaults.{tables_fault}
 
 -- ---- a slot
 
-pub slot_epoch : (form : Form) (p : Parameters) (ceiling epoch : ℕ) (slot : List Block) (w : ℕ) → w ≡ record_word slot 38 → (w ≡ epoch → ⊥)
-    → Some Commit ≡ slot_fault form p ceiling epoch slot
+pub slot_epoch : (version : LayoutVersion) (p : Parameters) (ceiling epoch : ℕ) (slot : List Block) (w : ℕ) → w ≡ record_word slot 38 → (w ≡ epoch → ⊥)
+    → Some Commit ≡ slot_fault version p ceiling epoch slot
 unfolding slot_fault
-slot_epoch form p ceiling epoch slot w is other =
+slot_epoch version p ceiling epoch slot w is other =
     sym (ap (λ b. option_or (if b then None else Some Commit)
-    (option_or (tables_fault p (tables_in p slot)) (option_or (status_fault p ceiling slot) (count_fault form p slot))))
+    (option_or (tables_fault p (tables_in p slot)) (option_or (status_fault p ceiling slot) (count_fault version p slot))))
     (ap (λ x. x == epoch) (sym is) ∙ ne_eqb w epoch other))
 
 of_epoch : (epoch : ℕ) (slot : List Block) (w : ℕ) → w ≡ record_word slot 38 → w ≡ epoch → epoch_fault epoch slot ≡ None
 of_epoch epoch slot w is same = ap (λ b. if b then None else Some Commit) (ap (λ x. x == epoch) (sym is) ∙ eq-eqb w epoch same)
 
-pub slot_tables : (form : Form) (p : Parameters) (ceiling epoch : ℕ) (slot : List Block) (w : ℕ) (bad : BadImage) → w ≡ record_word slot 38 → w ≡ epoch
-    → Some bad ≡ tables_fault p (tables_in p slot) → Some bad ≡ slot_fault form p ceiling epoch slot
+pub slot_tables : (version : LayoutVersion) (p : Parameters) (ceiling epoch : ℕ) (slot : List Block) (w : ℕ) (bad : BadImage) → w ≡ record_word slot 38 → w ≡ epoch
+    → Some bad ≡ tables_fault p (tables_in p slot) → Some bad ≡ slot_fault version p ceiling epoch slot
 unfolding slot_fault
-slot_tables form p ceiling epoch slot w bad is same h =
-    ap (λ x. option_or x (option_or (status_fault p ceiling slot) (count_fault form p slot))) h
-    ∙ sym (ap (λ x. option_or x (option_or (tables_fault p (tables_in p slot)) (option_or (status_fault p ceiling slot) (count_fault form p slot))))
+slot_tables version p ceiling epoch slot w bad is same h =
+    ap (λ x. option_or x (option_or (status_fault p ceiling slot) (count_fault version p slot))) h
+    ∙ sym (ap (λ x. option_or x (option_or (tables_fault p (tables_in p slot)) (option_or (status_fault p ceiling slot) (count_fault version p slot))))
     (of_epoch epoch slot w is same))
 
-pub slot_status : (form : Form) (p : Parameters) (ceiling epoch : ℕ) (slot : List Block) (w : ℕ) (found : Option BadImage) → w ≡ record_word slot 38 → w ≡ epoch
-    → None ≡ tables_fault p (tables_in p slot) → found ≡ option_or (status_fault p ceiling slot) (count_fault form p slot)
-    → found ≡ slot_fault form p ceiling epoch slot
+pub slot_status : (version : LayoutVersion) (p : Parameters) (ceiling epoch : ℕ) (slot : List Block) (w : ℕ) (found : Option BadImage) → w ≡ record_word slot 38 → w ≡ epoch
+    → None ≡ tables_fault p (tables_in p slot) → found ≡ option_or (status_fault p ceiling slot) (count_fault version p slot)
+    → found ≡ slot_fault version p ceiling epoch slot
 unfolding slot_fault
-slot_status form p ceiling epoch slot w found is same h k =
+slot_status version p ceiling epoch slot w found is same h k =
     k
-    ∙ ap (λ x. option_or x (option_or (status_fault p ceiling slot) (count_fault form p slot))) h
-    ∙ sym (ap (λ x. option_or x (option_or (tables_fault p (tables_in p slot)) (option_or (status_fault p ceiling slot) (count_fault form p slot))))
+    ∙ ap (λ x. option_or x (option_or (status_fault p ceiling slot) (count_fault version p slot))) h
+    ∙ sym (ap (λ x. option_or x (option_or (tables_fault p (tables_in p slot)) (option_or (status_fault p ceiling slot) (count_fault version p slot))))
     (of_epoch epoch slot w is same))
 
 -- ---- an image
@@ -56,7 +56,7 @@ slot_status form p ceiling epoch slot w found is same h k =
 -- the fault of the slot that the commit block names
 abbrev pub slot_fault_in : Parameters → ℕ → List Block → Option BadImage
 slot_fault_in p ceiling image =
-    slot_fault (form_of (block_at image 1)) p ceiling (epoch_of (block_at image 1)) (slot_in p image)
+    slot_fault (version_of (block_at image 1)) p ceiling (epoch_of (block_at image 1)) (slot_in p image)
 
 abbrev pub commit_fault_in : ℕ → List Block → Option BadImage
 commit_fault_in ceiling image = commit_fault (block_at image 0) (block_at image 1) ceiling

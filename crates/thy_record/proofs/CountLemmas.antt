@@ -9,7 +9,7 @@ use Rattle.std.specs.List.{range_with_len, position}
 use Rattle.std.specs.Option.{option_map}
 use Rattle.thy_base.specs.declared.block.Block.{Block}
 use Rattle.thy_base.specs.declared.config.Parameters.{Parameters}
-use Rattle.thy_base.specs.declared.form.Form.TheVariants.{Two}
+use Rattle.thy_base.specs.declared.layout_version.LayoutVersion.TheVariants.{VersionTwo}
 use Rattle.thy_base.specs.Places.{count_blocks}
 use Rattle.thy_record.specs.declared.bad_image.BadImage.TheVariants.{Count}
 use Rattle.thy_record.specs.Slots.{count_byte, is_bad_count, count_fault}
@@ -72,7 +72,7 @@ not_either true b h = cc
 not_either false b h = refl
 
 -- no count of a slot without a fault is past 63
-pub count_within : (p : Parameters) (slot : List Block) (i : ℕ) → count_fault Two p slot ≡ None → i < 64 * count_blocks p → count_byte p slot i ≤ 63
+pub count_within : (p : Parameters) (slot : List Block) (i : ℕ) → count_fault VersionTwo p slot ≡ None → i < 64 * count_blocks p → count_byte p slot i ≤ 63
 count_within p slot i h l =
     let none = none_of Count (position (is_bad_count p slot) (range_with_len 0 (64 * count_blocks p))) h in
     let fine : is_bad_count p slot i ≡ false = sym (numbered (is_bad_count p slot) (64 * count_blocks p) i l)

@@ -6,8 +6,8 @@ use Rattle.std.proofs.lemmas.List.FromFn.{length-map-range_with_len, get_or-map-
 use Rattle.std.specs.List.{range_with_len}
 use Rattle.thy_base.specs.declared.block.Block.{Block}
 use Rattle.thy_base.specs.declared.config.Parameters.{Parameters}
-use Rattle.thy_base.specs.declared.form.Form.{Form}
-use Rattle.thy_base.specs.declared.form.Form.TheVariants.{One, Two}
+use Rattle.thy_base.specs.declared.layout_version.LayoutVersion.{LayoutVersion}
+use Rattle.thy_base.specs.declared.layout_version.LayoutVersion.TheVariants.{VersionOne, VersionTwo}
 use Rattle.thy_base.specs.Blocks.{block_bytes}
 use Rattle.thy_base.specs.Device.{zero_block, block_at}
 use Rattle.thy_base.specs.LittleEndian.{number_at}
@@ -19,7 +19,7 @@ use Rattle.thy_flat.proofs.FlatLemmas.{length-flat, flat_part}
 use Rattle.thy_record.specs.declared.bad_image.BadImage.TheVariants.{Empty}
 use Rattle.thy_record.specs.Decoded.{Refused}
 use Rattle.thy_base.specs.Words.{word_of}
-use Rattle.thy_record.specs.Commit.{epoch_of, form_of}
+use Rattle.thy_record.specs.Commit.{epoch_of, version_of}
 use Rattle.thy_record.specs.Cpu.{record_word}
 use Rattle.thy_record.specs.TableBlocks.{entry_from}
 use Rattle.thy_record.specs.Files.{block_in, blocks_of, table_in, is_long_file, decode_file}
@@ -87,26 +87,26 @@ and_cases false b h = cc
 
 -- an image has the blocks of version 1 in any case, and behind them those of version 2 unless its commit block is of
 -- version 1
-pub long_enough : (p : Parameters) (form : Form) (n : ℕ) → (n == image_blocks p || (is_one form && n == blocks_one p)) ≡ true → blocks_one p ≤ n
-long_enough p form n h = elim (or_cases (n == image_blocks p) (is_one form && n == blocks_one p) h) as (λ _. blocks_one p ≤ n) [
+pub long_enough : (p : Parameters) (version : LayoutVersion) (n : ℕ) → (n == image_blocks p || (is_one version && n == blocks_one p)) ≡ true → blocks_one p ≤ n
+long_enough p version n h = elim (or_cases (n == image_blocks p) (is_one version && n == blocks_one p) h) as (λ _. blocks_one p ≤ n) [
   | inl whole ↦ let e : n ≡ image_blocks p = eqb-true _ _ whole in omega arith
-  | inr old ↦ let e : n ≡ blocks_one p = eqb-true _ _ (and_cases (is_one form) (n == blocks_one p) old).1 in omega arith
+  | inr old ↦ let e : n ≡ blocks_one p = eqb-true _ _ (and_cases (is_one version) (n == blocks_one p) old).1 in omega arith
 ]
 
-slot_inside : (p : Parameters) (form : Form) (n s : ℕ) → (n == image_blocks p || (is_one form && n == blocks_one p)) ≡ true → s < 2
-    → place_of_slot form p s + blocks_of_slot form p ≤ n
-slot_inside p One n zero h l = let most = long_enough p One n h in omega arith
-slot_inside p One n (suc zero) h l = let most = long_enough p One n h in omega arith
-slot_inside p One n (suc (suc s)) h l = absurd (omega arith)
-slot_inside p Two n zero h l = elim (or_cases (n == image_blocks p) (is_one Two && n == blocks_one p) h) as (λ _. place_of_slot Two p 0 + blocks_of_slot Two p ≤ n) [
+slot_inside : (p : Parameters) (version : LayoutVersion) (n s : ℕ) → (n == image_blocks p || (is_one version && n == blocks_one p)) ≡ true → s < 2
+    → place_of_slot version p s + blocks_of_slot version p ≤ n
+slot_inside p VersionOne n zero h l = let most = long_enough p VersionOne n h in omega arith
+slot_inside p VersionOne n (suc zero) h l = let most = long_enough p VersionOne n h in omega arith
+slot_inside p VersionOne n (suc (suc s)) h l = absurd (omega arith)
+slot_inside p VersionTwo n zero h l = elim (or_cases (n == image_blocks p) (is_one VersionTwo && n == blocks_one p) h) as (λ _. place_of_slot VersionTwo p 0 + blocks_of_slot VersionTwo p ≤ n) [
   | inl whole ↦ let e : n ≡ image_blocks p = eqb-true _ _ whole in omega arith
   | inr old ↦ cc
 ]
-slot_inside p Two n (suc zero) h l = elim (or_cases (n == image_blocks p) (is_one Two && n == blocks_one p) h) as (λ _. place_of_slot Two p 1 + blocks_of_slot Two p ≤ n) [
+slot_inside p VersionTwo n (suc zero) h l = elim (or_cases (n == image_blocks p) (is_one VersionTwo && n == blocks_one p) h) as (λ _. place_of_slot VersionTwo p 1 + blocks_of_slot VersionTwo p ≤ n) [
   | inl whole ↦ let e : n ≡ image_blocks p = eqb-true _ _ whole in omega arith
   | inr old ↦ cc
 ]
-slot_inside p Two n (suc (suc s)) h l = absurd (omega arith)
+slot_inside p VersionTwo n (suc (suc s)) h l = absurd (omega arith)
 
 -- the bytes of a file as long as an image are whole blocks, and so many
 pub record HasLength (p : Parameters) (bytes : List ℕ) : Type 0 where
@@ -137,13 +137,13 @@ blocks_of-part bytes x n inside =
 
 -- the slot of an image's checkpoint stands in its bytes
 pub slot_in_file : (p : Parameters) (bytes : List ℕ) (commit : Block) (s : ℕ) → is_long_file p bytes ≡ true → commit ≡ block_at (blocks_of bytes) 1
-    → s < 2 → place_of_slot (form_of commit) p s + blocks_of_slot (form_of commit) p ≤ length bytes / 64
+    → s < 2 → place_of_slot (version_of commit) p s + blocks_of_slot (version_of commit) p ≤ length bytes / 64
 slot_in_file p bytes commit s h is l =
-    subst (λ c. place_of_slot (form_of c) p s + blocks_of_slot (form_of c) p ≤ length bytes / 64) (sym is)
-    (slot_inside p (form_of (block_at (blocks_of bytes) 1)) (length bytes / 64) s (HasLength-file p bytes h).long l)
+    subst (λ c. place_of_slot (version_of c) p s + blocks_of_slot (version_of c) p ≤ length bytes / 64) (sym is)
+    (slot_inside p (version_of (block_at (blocks_of bytes) 1)) (length bytes / 64) s (HasLength-file p bytes h).long l)
 
 -- byte i of the counts of a slot
-pub count_byte-blocks_of : (p : Parameters) (bytes : List ℕ) (i x : ℕ) → length bytes ≡ 64 * blocks_of_slot Two p → i < 64 * count_blocks p
+pub count_byte-blocks_of : (p : Parameters) (bytes : List ℕ) (i x : ℕ) → length bytes ≡ 64 * blocks_of_slot VersionTwo p → i < 64 * count_blocks p
     → x ≡ 64 * (record_blocks p + table_blocks p) + i → slice_index_or bytes x 0 ≡ count_byte p (blocks_of bytes) i
 count_byte-blocks_of p bytes i x long l is =
     let at : x ≡ 64 * (5 + table_blocks p + i / 64) + i % 64 = omega arith in
@@ -160,15 +160,15 @@ table_in-slice bytes m x first n e f inside =
     ap (λ k. table_in (take k (drop x bytes))) e ∙ ap (λ k. table_in (take (8 * n) (drop k bytes))) f ∙ table_in-part bytes first n inside
 
 pub slot-slice : (p : Parameters) (bytes : List ℕ) (m x epoch : ℕ) (commit : Block) → is_long_file p bytes ≡ true
-    → commit ≡ block_at (blocks_of bytes) 1 → epoch ≡ epoch_of commit → m ≡ 64 * blocks_of_slot (form_of commit) p
-    → x ≡ 64 * place_of_slot (form_of commit) p (epoch % 2)
+    → commit ≡ block_at (blocks_of bytes) 1 → epoch ≡ epoch_of commit → m ≡ 64 * blocks_of_slot (version_of commit) p
+    → x ≡ 64 * place_of_slot (version_of commit) p (epoch % 2)
     → blocks_of (take m (drop x bytes)) ≡ slot_in p (blocks_of bytes)
 slot-slice p bytes m x epoch commit long is named e f =
     ap (λ k. blocks_of (take k (drop x bytes))) e
-    ∙ ap (λ k. blocks_of (take (64 * blocks_of_slot (form_of commit) p) (drop k bytes))) f
-    ∙ blocks_of-part bytes (place_of_slot (form_of commit) p (epoch % 2)) (blocks_of_slot (form_of commit) p)
+    ∙ ap (λ k. blocks_of (take (64 * blocks_of_slot (version_of commit) p) (drop k bytes))) f
+    ∙ blocks_of-part bytes (place_of_slot (version_of commit) p (epoch % 2)) (blocks_of_slot (version_of commit) p)
     (slot_in_file p bytes commit (epoch % 2) long is (omega arith))
-    ∙ ap (λ k. map (block_at (blocks_of bytes)) (range_with_len (place_of_slot (form_of commit) p (k % 2)) (blocks_of_slot (form_of commit) p))) named
+    ∙ ap (λ k. map (block_at (blocks_of bytes)) (range_with_len (place_of_slot (version_of commit) p (k % 2)) (blocks_of_slot (version_of commit) p))) named
     ∙ ap (λ c. map (block_at (blocks_of bytes)) (slot_numbers p c)) is
 
 -- ---- a file of an image's bytes

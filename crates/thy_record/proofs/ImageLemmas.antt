@@ -8,8 +8,8 @@ use Rattle.std.specs.List.{range_with_len}
 use Rattle.std.specs.Option.{option_or}
 use Rattle.thy_base.specs.declared.block.Block.{Block}
 use Rattle.thy_base.specs.declared.config.Parameters.{Parameters}
-use Rattle.thy_base.specs.declared.form.Form.{Form}
-use Rattle.thy_base.specs.declared.form.Form.TheVariants.{Two}
+use Rattle.thy_base.specs.declared.layout_version.LayoutVersion.{LayoutVersion}
+use Rattle.thy_base.specs.declared.layout_version.LayoutVersion.TheVariants.{VersionTwo}
 use Rattle.thy_base.specs.Device.{zero_block, block_at}
 use Rattle.thy_base.specs.Geometry.{IsInRange, console_room}
 use Rattle.thy_base.specs.Places.{blocks_of_slot, place_of_slot, blocks_one, slot_place, image_blocks}
@@ -17,7 +17,7 @@ use Rattle.thy_isa.specs.declared.state.CpuState.{CpuState}
 use Rattle.thy_isa.specs.Step.{State}
 use Rattle.thy_record.specs.declared.bad_image.BadImage.{BadImage}
 use Rattle.thy_record.specs.declared.bad_image.BadImage.TheVariants.{Commit, Status, ConsoleLength}
-use Rattle.thy_record.specs.Commit.{is_zero, epoch_of, form_of, is_named, has_zero_rest, commit_fault}
+use Rattle.thy_record.specs.Commit.{is_zero, epoch_of, version_of, is_named, has_zero_rest, commit_fault}
 use Rattle.thy_record.specs.Cpu.{cpu_of_record, record_word, is_status, IsRecordable}
 use Rattle.thy_record.specs.Decoded.{Nothing, At}
 use Rattle.thy_isa.specs.OnBlocks.{state_from}
@@ -28,7 +28,7 @@ use Rattle.thy_record.specs.Slots.{AreCounts, IsSlotOf, tables_in, epoch_fault, 
 use Rattle.thy_record.specs.Tables.{Tables, IsTables}
 use Rattle.thy_record.specs.TableFaults.{tables_fault}
 use Rattle.thy_record.proofs.HeaderLemmas.{header_fault-long}
-use Rattle.thy_record.proofs.ReadBackLemmas.{epoch_of-commit_of, form_of-commit_of, commit_fault-commit_of, is_zero-commit_of, FitsRecord-recordable, cpu_back}
+use Rattle.thy_record.proofs.ReadBackLemmas.{epoch_of-commit_of, version_of-commit_of, commit_fault-commit_of, is_zero-commit_of, FitsRecord-recordable, cpu_back}
 use Rattle.thy_record.proofs.SlotLemmas.{BeginsWithRecord-slot, length-entries_in, tables_in-back, slot_fault-back}
 use Rattle.thy_record.proofs.TableFaultLemmas.{neither, both_none, IsTables-faultless}
 
@@ -50,11 +50,11 @@ map-alike f g xs each =
     ∙ each _ (Contains-get_or xs k 0 l)
     ∙ sym (get_or-map g xs k 0 zero_block l))
 
-pub block_at-slot_in : (p : Parameters) (image : List Block) (k : ℕ) → k < blocks_of_slot (form_of (block_at image 1)) p
-    → block_at (slot_in p image) k ≡ block_at image (place_of_slot (form_of (block_at image 1)) p (epoch_of (block_at image 1) % 2) + k)
+pub block_at-slot_in : (p : Parameters) (image : List Block) (k : ℕ) → k < blocks_of_slot (version_of (block_at image 1)) p
+    → block_at (slot_in p image) k ≡ block_at image (place_of_slot (version_of (block_at image 1)) p (epoch_of (block_at image 1) % 2) + k)
 block_at-slot_in p image k l =
-    block_at-numbers (block_at image) (place_of_slot (form_of (block_at image 1)) p (epoch_of (block_at image 1) % 2))
-    (blocks_of_slot (form_of (block_at image 1)) p) k l
+    block_at-numbers (block_at image) (place_of_slot (version_of (block_at image 1)) p (epoch_of (block_at image 1) % 2))
+    (blocks_of_slot (version_of (block_at image 1)) p) k l
 
 -- ---- what is written decodes
 
@@ -74,18 +74,18 @@ all_none a b c h k l = both_none a (option_or b c) h (both_none b c k l)
 pub IsSlotOf-written : (p : Parameters) (cpu : CpuState) (t : Tables) (counts : ℕ → Block) (epoch : ℕ) (image : List Block)
     → epoch < 2 ^ 64 → HasCheckpoint p image cpu t counts epoch → IsSlotOf p cpu t counts epoch (slot_in p image)
 IsSlotOf-written p cpu t counts epoch image fits has =
-    let form : form_of (block_at image 1) ≡ Two = ap form_of has.commit ∙ form_of-commit_of epoch in
+    let version : version_of (block_at image 1) ≡ VersionTwo = ap version_of has.commit ∙ version_of-commit_of epoch in
     record {
       each = λ k l.
-          block_at-slot_in p image k (subst (λ f. k < blocks_of_slot f p) (sym form) l)
-          ∙ ap (λ f. block_at image (place_of_slot f p (epoch_of (block_at image 1) % 2) + k)) form
+          block_at-slot_in p image k (subst (λ f. k < blocks_of_slot f p) (sym version) l)
+          ∙ ap (λ f. block_at image (place_of_slot f p (epoch_of (block_at image 1) % 2) + k)) version
           ∙ ap (λ e. block_at image (slot_place p (e % 2) + k)) (ap epoch_of has.commit ∙ epoch_of-commit_of epoch fits)
           ∙ has.slot k l;
     }
 
 -- so many blocks as an image has are enough, whatever its commit block names
 pub is_long-whole : (p : Parameters) (commit : Block) (n : ℕ) → n ≡ image_blocks p → is_long p commit n ≡ true
-is_long-whole p commit n e = ap (λ t. t || (is_one (form_of commit) && n == blocks_one p)) (eq-eqb _ _ e)
+is_long-whole p commit n e = ap (λ t. t || (is_one (version_of commit) && n == blocks_one p)) (eq-eqb _ _ e)
 
 pub decode-written : (p : Parameters) (ceiling : ℕ) (cpu : CpuState) (t : Tables) (counts : ℕ → Block) (epoch : ℕ) (image : List Block)
     → IsInRange p → IsRecordable p ceiling cpu → IsTables p t → AreCounts p counts → ceiling ≤ 2 ^ 64 → epoch < ceiling
@@ -96,7 +96,7 @@ decode-written p ceiling cpu t counts epoch image r recordable s are most below 
     let fits : epoch < 2 ^ 64 = omega arith in
     let room : console_room p < 2 ^ 64 = omega arith in
     let of_epoch : epoch_of (block_at image 1) ≡ epoch = ap epoch_of has.commit ∙ epoch_of-commit_of epoch fits in
-    let form : form_of (block_at image 1) ≡ Two = ap form_of has.commit ∙ form_of-commit_of epoch in
+    let version : version_of (block_at image 1) ≡ VersionTwo = ap version_of has.commit ∙ version_of-commit_of epoch in
     let slot = IsSlotOf-written p cpu t counts epoch image fits has in
     let long = is_long-whole p (block_at image 1) (length image) has.long in
     decode-parts (is_zero (block_at image 1)) (image_fault p ceiling (is_long p (block_at image 1) (length image)) image) (epoch_of (block_at image 1)) epoch
@@ -105,8 +105,8 @@ decode-written p ceiling cpu t counts epoch image r recordable s are most below 
     (all_none _ _ _
     (ap (header_fault (block_at image 0) p) long ∙ has.header_fits)
     (ap (λ b. commit_fault (block_at image 0) b ceiling) has.commit ∙ commit_fault-commit_of (block_at image 0) epoch ceiling below most)
-    (ap (λ f. slot_fault f p ceiling (epoch_of (block_at image 1)) (slot_in p image)) form
-    ∙ ap (λ e. slot_fault Two p ceiling e (slot_in p image)) of_epoch
+    (ap (λ f. slot_fault f p ceiling (epoch_of (block_at image 1)) (slot_in p image)) version
+    ∙ ap (λ e. slot_fault VersionTwo p ceiling e (slot_in p image)) of_epoch
     ∙ slot_fault-back p ceiling cpu t counts epoch (slot_in p image) r recordable s are most fits slot))
     of_epoch
     (ap (λ c. state_from p c (memory_in p (tables_in p (slot_in p image)) image))
@@ -131,14 +131,14 @@ IsDecoded-at p ceiling image epoch state h =
     (state_in p image) state h in
     let header = neither (header_fault (block_at image 0) p (is_long p (block_at image 1) (length image)))
     (option_or (commit_fault (block_at image 0) (block_at image 1) ceiling)
-    (slot_fault (form_of (block_at image 1)) p ceiling (epoch_of (block_at image 1)) (slot_in p image))) found.1 in
+    (slot_fault (version_of (block_at image 1)) p ceiling (epoch_of (block_at image 1)) (slot_in p image))) found.1 in
     let rest = neither (commit_fault (block_at image 0) (block_at image 1) ceiling)
-    (slot_fault (form_of (block_at image 1)) p ceiling (epoch_of (block_at image 1)) (slot_in p image)) header.1 in
+    (slot_fault (version_of (block_at image 1)) p ceiling (epoch_of (block_at image 1)) (slot_in p image)) header.1 in
     let parts = neither (epoch_fault (epoch_of (block_at image 1)) (slot_in p image))
     (option_or (tables_fault p (tables_in p (slot_in p image)))
-    (option_or (status_fault p ceiling (slot_in p image)) (count_fault (form_of (block_at image 1)) p (slot_in p image)))) rest.1 in
+    (option_or (status_fault p ceiling (slot_in p image)) (count_fault (version_of (block_at image 1)) p (slot_in p image)))) rest.1 in
     let tables = neither (tables_fault p (tables_in p (slot_in p image)))
-    (option_or (status_fault p ceiling (slot_in p image)) (count_fault (form_of (block_at image 1)) p (slot_in p image))) parts.1 in
+    (option_or (status_fault p ceiling (slot_in p image)) (count_fault (version_of (block_at image 1)) p (slot_in p image))) parts.1 in
     let long : is_long p (block_at image 1) (length image) ≡ true
     = header_fault-long (block_at image 0) p (is_long p (block_at image 1) (length image)) header.0 in
     record {
@@ -148,7 +148,7 @@ IsDecoded-at p ceiling image epoch state h =
         long = long;
         header_fits = sym (ap (header_fault (block_at image 0) p) long) ∙ header.0;
         commit_fits = rest.0;
-        slot_fits = sym (ap (λ e. slot_fault (form_of (block_at image 1)) p ceiling e (slot_in p image)) found.2) ∙ rest.1;
+        slot_fits = sym (ap (λ e. slot_fault (version_of (block_at image 1)) p ceiling e (slot_in p image)) found.2) ∙ rest.1;
         state_is = found.3;
       };
       tables = IsTables-faultless p (tables_in p (slot_in p image)) (record {
@@ -181,12 +181,12 @@ alike-parts : (p : Parameters) (ceiling : ℕ) (long : Bool) (g h : List Block)
 unfolding decode_with
 alike-parts p ceiling long g h zero_same one slot memory =
     ap (λ b. if is_zero b then Nothing else refused_or_at (option_or (header_fault (block_at g 0) p long)
-    (option_or (commit_fault (block_at g 0) b ceiling) (slot_fault (form_of b) p ceiling (epoch_of b) (slot_in p g)))) (epoch_of b) (state_in p g)) one
+    (option_or (commit_fault (block_at g 0) b ceiling) (slot_fault (version_of b) p ceiling (epoch_of b) (slot_in p g)))) (epoch_of b) (state_in p g)) one
     ∙ ap (λ b. if is_zero (block_at h 1) then Nothing else refused_or_at (option_or (header_fault b p long)
-    (option_or (commit_fault b (block_at h 1) ceiling) (slot_fault (form_of (block_at h 1)) p ceiling (epoch_of (block_at h 1)) (slot_in p g))))
+    (option_or (commit_fault b (block_at h 1) ceiling) (slot_fault (version_of (block_at h 1)) p ceiling (epoch_of (block_at h 1)) (slot_in p g))))
     (epoch_of (block_at h 1)) (state_in p g)) zero_same
     ∙ ap (λ s. if is_zero (block_at h 1) then Nothing else refused_or_at (option_or (header_fault (block_at h 0) p long)
-    (option_or (commit_fault (block_at h 0) (block_at h 1) ceiling) (slot_fault (form_of (block_at h 1)) p ceiling (epoch_of (block_at h 1)) s)))
+    (option_or (commit_fault (block_at h 0) (block_at h 1) ceiling) (slot_fault (version_of (block_at h 1)) p ceiling (epoch_of (block_at h 1)) s)))
     (epoch_of (block_at h 1)) (state_from p (cpu_of_record s) (memory_in p (tables_in p s) g))) slot
     ∙ ap (λ m. if is_zero (block_at h 1) then Nothing else refused_or_at (image_fault p ceiling long h) (epoch_of (block_at h 1))
     (state_from p (cpu_of_record (slot_in p h)) m)) memory
@@ -300,14 +300,14 @@ status_fault-higher p slot low high most h =
     status_gives (is_status (record_word slot 36) (record_word slot 37)) (nat_lt (record_word slot 32) high) (nat_le (record_word slot 34) (console_room p))
     asks.0 (below_higher (record_word slot 32) low high most asks.1) asks.2
 
-slot_fault-higher : (form : Form) (p : Parameters) (slot : List Block) (epoch low high : ℕ) → low ≤ high
-    → slot_fault form p low epoch slot ≡ None → slot_fault form p high epoch slot ≡ None
+slot_fault-higher : (version : LayoutVersion) (p : Parameters) (slot : List Block) (epoch low high : ℕ) → low ≤ high
+    → slot_fault version p low epoch slot ≡ None → slot_fault version p high epoch slot ≡ None
 unfolding slot_fault
-slot_fault-higher form p slot epoch low high most h =
+slot_fault-higher version p slot epoch low high most h =
     let parts = neither (epoch_fault epoch slot)
-    (option_or (tables_fault p (tables_in p slot)) (option_or (status_fault p low slot) (count_fault form p slot))) h in
-    let tables = neither (tables_fault p (tables_in p slot)) (option_or (status_fault p low slot) (count_fault form p slot)) parts.1 in
-    let status = neither (status_fault p low slot) (count_fault form p slot) tables.1 in
+    (option_or (tables_fault p (tables_in p slot)) (option_or (status_fault p low slot) (count_fault version p slot))) h in
+    let tables = neither (tables_fault p (tables_in p slot)) (option_or (status_fault p low slot) (count_fault version p slot)) parts.1 in
+    let status = neither (status_fault p low slot) (count_fault version p slot) tables.1 in
     all_none _ _ _ parts.0 tables.0 (both_none _ _ (status_fault-higher p slot low high most status.0) status.1)
 
 pub decode-higher : (p : Parameters) (low high : ℕ) (image : List Block) (epoch : ℕ) (state : State) → low ≤ high
@@ -320,6 +320,6 @@ decode-higher p low high image epoch state most h =
     (all_none _ _ _
     (ap (header_fault (block_at image 0) p) w.long ∙ w.header_fits)
     (commit_fault-higher (block_at image 0) (block_at image 1) low high most w.commit_fits)
-    (ap (λ e. slot_fault (form_of (block_at image 1)) p high e (slot_in p image)) w.of_epoch
-    ∙ slot_fault-higher (form_of (block_at image 1)) p (slot_in p image) epoch low high most w.slot_fits))
+    (ap (λ e. slot_fault (version_of (block_at image 1)) p high e (slot_in p image)) w.of_epoch
+    ∙ slot_fault-higher (version_of (block_at image 1)) p (slot_in p image) epoch low high most w.slot_fits))
     w.of_epoch w.state_is

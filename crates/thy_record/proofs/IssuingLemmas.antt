@@ -6,8 +6,8 @@ use Rattle.std.proofs.lemmas.List.FromFn.{length-range_with_len, get_or-range_wi
 use Rattle.std.specs.List.{range_with_len}
 use Rattle.thy_base.specs.declared.block.Block.{Block}
 use Rattle.thy_base.specs.declared.config.Parameters.{Parameters}
-use Rattle.thy_base.specs.declared.form.Form.{Form}
-use Rattle.thy_base.specs.declared.form.Form.TheVariants.{One, Two}
+use Rattle.thy_base.specs.declared.layout_version.LayoutVersion.{LayoutVersion}
+use Rattle.thy_base.specs.declared.layout_version.LayoutVersion.TheVariants.{VersionOne, VersionTwo}
 use Rattle.thy_base.specs.declared.place.Place.{Place}
 use Rattle.thy_base.specs.declared.place.Place.TheVariants.{Home, AlternateBlock, AlternatePage}
 use Rattle.thy_base.specs.Device.{Device, zero_block, block_at, newest}
@@ -15,7 +15,7 @@ use Rattle.thy_base.specs.Geometry.{memory_blocks}
 use Rattle.thy_base.specs.Places.{in_dram, number_of, IsPlace, blocks_of_slot, place_of_slot, slot_blocks, slot_place, first_home, blocks_one}
 use Rattle.thy_base.specs.Store.{page_of}
 use Rattle.thy_base.proofs.PlaceLemmas.{numbers_tell, between_slots}
-use Rattle.thy_record.specs.Commit.{is_zero, epoch_of, form_of}
+use Rattle.thy_record.specs.Commit.{is_zero, epoch_of, version_of}
 use Rattle.thy_record.specs.Images.{slot_numbers, slot_in, memory_numbers, looked}
 use Rattle.thy_record.specs.Issuing.{Target, SlotBlock, PlaceBlock, target_number, IsTarget, IsUnused, IsFree, IsToldBy, memory_read, HasMemory}
 use Rattle.thy_record.specs.Slots.{tables_in}
@@ -68,8 +68,8 @@ slot_number_of first n x (k, l, is) =
     (k, inside, sym (get_or-range_with_len first n k x inside) ∙ is)
 
 -- those of version 1 lie before the homes, those of version 2 behind all places
-pub old_slot_before : (p : Parameters) (s k : ℕ) → s < 2 → k < blocks_of_slot One p
-    → (2 ≤ place_of_slot One p s + k) × (place_of_slot One p s + k < first_home p)
+pub old_slot_before : (p : Parameters) (s k : ℕ) → s < 2 → k < blocks_of_slot VersionOne p
+    → (2 ≤ place_of_slot VersionOne p s + k) × (place_of_slot VersionOne p s + k < first_home p)
 old_slot_before p zero k l m = (omega arith, omega arith)
 old_slot_before p (suc zero) k l m = (omega arith, omega arith)
 old_slot_before p (suc (suc s)) k l m = absurd (omega arith)
@@ -140,30 +140,30 @@ target_behind : (p : Parameters) (x : Target) → IsTarget p x → 2 ≤ target_
 target_behind p (SlotBlock s k) there = let behind = slot_behind p s k in omega arith
 target_behind p (PlaceBlock x) there = let between = (between_slots p x there.0 there.1).0 in omega arith
 
-free_of_slot : (p : Parameters) (form : Form) (epoch : ℕ) (t : Tables) (x : Target) → IsTarget p x → IsFree p form epoch t x
-    → (k : ℕ) → k < blocks_of_slot form p → place_of_slot form p (epoch % 2) + k ≢ target_number p x
-free_of_slot p One epoch t (SlotBlock s i) there free k l = λ e.
+free_of_slot : (p : Parameters) (version : LayoutVersion) (epoch : ℕ) (t : Tables) (x : Target) → IsTarget p x → IsFree p version epoch t x
+    → (k : ℕ) → k < blocks_of_slot version p → place_of_slot version p (epoch % 2) + k ≢ target_number p x
+free_of_slot p VersionOne epoch t (SlotBlock s i) there free k l = λ e.
     let before = (old_slot_before p (epoch % 2) k (half epoch) l).1 in
     let behind = slot_behind p s i in
     omega (arith, before, behind, e)
-free_of_slot p Two epoch t (SlotBlock s i) there free k l = slots_apart p (epoch % 2) s k i (half epoch) there.0 l there.1 (λ e. free (sym e))
-free_of_slot p One epoch t (PlaceBlock x) there free k l = λ e.
+free_of_slot p VersionTwo epoch t (SlotBlock s i) there free k l = slots_apart p (epoch % 2) s k i (half epoch) there.0 l there.1 (λ e. free (sym e))
+free_of_slot p VersionOne epoch t (PlaceBlock x) there free k l = λ e.
     let before = (old_slot_before p (epoch % 2) k (half epoch) l).1 in
     let between = (between_slots p x there.0 there.1).0 in
     omega (arith, before, between, e)
-free_of_slot p Two epoch t (PlaceBlock x) there free k l = λ e.
+free_of_slot p VersionTwo epoch t (PlaceBlock x) there free k l = λ e.
     let behind = slot_behind p (epoch % 2) k in
     let between = (between_slots p x there.0 there.1).1 in
     omega (arith, behind, between, e)
 
-free_of_memory : (p : Parameters) (form : Form) (epoch : ℕ) (t : Tables) (x : Target) → IsTables p t → IsTarget p x → IsFree p form epoch t x
+free_of_memory : (p : Parameters) (version : LayoutVersion) (epoch : ℕ) (t : Tables) (x : Target) → IsTables p t → IsTarget p x → IsFree p version epoch t x
     → Contains (memory_numbers p t) (target_number p x) → ⊥
-free_of_memory p form epoch t (SlotBlock s k) tables there free inside =
+free_of_memory p version epoch t (SlotBlock s k) tables there free inside =
     let behind = slot_behind p s k in
     let between = (memory_between p t (slot_place p s + k) tables inside).1 in
     omega (arith, behind, between)
-free_of_memory p One epoch t (PlaceBlock x) tables there free inside = unused_apart p t x tables there.0 there.1 free inside
-free_of_memory p Two epoch t (PlaceBlock x) tables there free inside = unused_apart p t x tables there.0 there.1 free inside
+free_of_memory p VersionOne epoch t (PlaceBlock x) tables there free inside = unused_apart p t x tables there.0 there.1 free inside
+free_of_memory p VersionTwo epoch t (PlaceBlock x) tables there free inside = unused_apart p t x tables there.0 there.1 free inside
 
 not_first : (y x : ℕ) (xs : List ℕ) → x ≢ y → Contains (x ∷ xs) y → Contains xs y
 not_first y x xs other (zero, l, is) = absurd (other is)
@@ -190,17 +190,17 @@ free_looked p image y false far slot memory inside =
       | inr b ↦ memory b
     ]
 
-pub free_not_looked : (p : Parameters) (image : List Block) (form : Form) (epoch : ℕ) (t : Tables) (x : Target)
-    → IsToldBy p image form epoch t → IsTarget p x → IsFree p form epoch t x → Contains (1 ∷ looked p image) (target_number p x) → ⊥
-free_not_looked p image form epoch t x told there free =
+pub free_not_looked : (p : Parameters) (image : List Block) (version : LayoutVersion) (epoch : ℕ) (t : Tables) (x : Target)
+    → IsToldBy p image version epoch t → IsTarget p x → IsFree p version epoch t x → Contains (1 ∷ looked p image) (target_number p x) → ⊥
+free_not_looked p image version epoch t x told there free =
     free_looked p image (target_number p x) (is_zero (block_at image 1)) (target_behind p x there)
     (λ inside.
-    let of = slot_number_of (place_of_slot (form_of (block_at image 1)) p (epoch_of (block_at image 1) % 2)) (blocks_of_slot (form_of (block_at image 1)) p)
+    let of = slot_number_of (place_of_slot (version_of (block_at image 1)) p (epoch_of (block_at image 1) % 2)) (blocks_of_slot (version_of (block_at image 1)) p)
     (target_number p x) inside in
-    free_of_slot p form epoch t x there free of.0 (subst (λ f. of.0 < blocks_of_slot f p) told.of_form of.1)
-    (sym (ap (λ f. place_of_slot f p (epoch_of (block_at image 1) % 2) + of.0) told.of_form
-    ∙ ap (λ e. place_of_slot form p (e % 2) + of.0) told.of_epoch) ∙ of.2))
-    (λ inside. free_of_memory p form epoch t x told.whole there free (subst (λ u. Contains (memory_numbers p u) (target_number p x)) told.tables inside))
+    free_of_slot p version epoch t x there free of.0 (subst (λ f. of.0 < blocks_of_slot f p) told.of_version of.1)
+    (sym (ap (λ f. place_of_slot f p (epoch_of (block_at image 1) % 2) + of.0) told.of_version
+    ∙ ap (λ e. place_of_slot version p (e % 2) + of.0) told.of_epoch) ∙ of.2))
+    (λ inside. free_of_memory p version epoch t x told.whole there free (subst (λ u. Contains (memory_numbers p u) (target_number p x)) told.tables inside))
 
 pub nothing_looked : (p : Parameters) (image : List Block) (x : ℕ) → is_zero (block_at image 1) ≡ true → x ≢ 1 → Contains (1 ∷ looked p image) x → ⊥
 nothing_looked p image x z other inside =

@@ -7,7 +7,7 @@ use Rattle.std.specs.List.{range_with_len}
 use Rattle.std.specs.Option.{option_or, option_map}
 use Rattle.thy_base.specs.declared.block.Block.{Block}
 use Rattle.thy_base.specs.declared.config.Parameters.{Parameters}
-use Rattle.thy_base.specs.declared.form.Form.TheVariants.{One, Two}
+use Rattle.thy_base.specs.declared.layout_version.LayoutVersion.TheVariants.{VersionOne, VersionTwo}
 use Rattle.thy_base.specs.Device.{zero_block, block_at}
 use Rattle.thy_base.specs.Geometry.{console_room}
 use Rattle.thy_base.specs.Places.{table_blocks, count_blocks, slot_blocks}
@@ -90,7 +90,7 @@ module _ (p : Parameters) (old new : List Block) (h : IsWrittenAnew p old new) w
       (block_same (5 + table_blocks p + i / 64) ∙ get_or_past old (5 + table_blocks p + i / 64) zero_block (omega (arith, h.short)))
       ∙ zeros_at (i % 64)
 
-  counts_none : counts_in Two p new ≡ replicate p.pages 0
+  counts_none : counts_in VersionTwo p new ≡ replicate p.pages 0
   counts_none =
       let left = length-map-range_with_len (count_byte p new) 0 p.pages in
       ext_get_or 0 (map (count_byte p new) (range_with_len 0 p.pages)) (replicate p.pages 0) (left ∙ sym (length-replicate p.pages 0))
@@ -98,19 +98,19 @@ module _ (p : Parameters) (old new : List Block) (h : IsWrittenAnew p old new) w
       let l : i < p.pages = omega (arith, left, below) in
       get_or-map-range_with_len (count_byte p new) 0 p.pages i i 0 l (omega arith) ∙ count_none i ∙ sym (get_or-replicate {A = ℕ} p.pages i 0 0 l))
 
-  count_fault-none : count_fault Two p new ≡ None
+  count_fault-none : count_fault VersionTwo p new ≡ None
   count_fault-none =
       ap (option_map Count) (no_position (is_bad_count p new) (64 * count_blocks p)
       (λ i l. fine_count (count_byte p new i) p.pages i (λ m. let none = count_none i in omega (arith, none)) (λ m. count_none i)))
 
   -- each test says the same
-  slot_fault-none : (ceiling epoch : ℕ) → slot_fault One p ceiling epoch old ≡ None → slot_fault Two p ceiling epoch new ≡ None
+  slot_fault-none : (ceiling epoch : ℕ) → slot_fault VersionOne p ceiling epoch old ≡ None → slot_fault VersionTwo p ceiling epoch new ≡ None
   unfolding slot_fault
   slot_fault-none ceiling epoch none =
       let parts = neither (epoch_fault epoch old)
-      (option_or (tables_fault p (tables_in p old)) (option_or (status_fault p ceiling old) (count_fault One p old))) none in
-      let tables = neither (tables_fault p (tables_in p old)) (option_or (status_fault p ceiling old) (count_fault One p old)) parts.1 in
-      let status = neither (status_fault p ceiling old) (count_fault One p old) tables.1 in
+      (option_or (tables_fault p (tables_in p old)) (option_or (status_fault p ceiling old) (count_fault VersionOne p old))) none in
+      let tables = neither (tables_fault p (tables_in p old)) (option_or (status_fault p ceiling old) (count_fault VersionOne p old)) parts.1 in
+      let status = neither (status_fault p ceiling old) (count_fault VersionOne p old) tables.1 in
       both_none (epoch_fault epoch new) _ (epoch_same epoch ∙ parts.0)
       (both_none (tables_fault p (tables_in p new)) _ (ap (tables_fault p) tables_same ∙ tables.0)
       (both_none (status_fault p ceiling new) _ (status_same ceiling ∙ status.0) count_fault-none))

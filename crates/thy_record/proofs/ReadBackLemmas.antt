@@ -4,7 +4,7 @@ use Rattle.std.proofs.lemmas.Bool.{cases_lt, eq-eqb, lt-ltb, le-leb, leb-true}
 use Rattle.std.proofs.lemmas.List.{ext_get_or}
 use Rattle.thy_base.specs.declared.block.Block.{Block}
 use Rattle.thy_base.specs.declared.config.Parameters.{Parameters}
-use Rattle.thy_base.specs.declared.form.Form.TheVariants.{One, Two}
+use Rattle.thy_base.specs.declared.layout_version.LayoutVersion.TheVariants.{VersionOne, VersionTwo}
 use Rattle.thy_base.specs.Device.{zero_block, block_at}
 use Rattle.thy_base.specs.LittleEndian.{number_bytes}
 use Rattle.thy_base.specs.Geometry.{console_room}
@@ -13,7 +13,7 @@ use Rattle.thy_isa.specs.declared.state.Status.{Status}
 use Rattle.thy_isa.specs.declared.state.Status.TheVariants.{Running, Exited, Trapped}
 use Rattle.thy_record.specs.declared.bad_image.BadImage.TheVariants.{Commit, Status as BadStatus, ConsoleLength}
 use Rattle.thy_base.specs.Words.{word_of, block_of}
-use Rattle.thy_record.specs.Commit.{commit_magic, commit_words, commit_of, is_zero, epoch_of, form_of, is_named, has_zero_rest, commit_fault}
+use Rattle.thy_record.specs.Commit.{commit_magic, commit_words, commit_of, is_zero, epoch_of, version_of, is_named, has_zero_rest, commit_fault}
 use Rattle.thy_record.specs.Cpu.{status_tag, status_value, status_of, is_status, cpu_words, cpu_block_of, record_word, record_words, record_of, IsRecordOf, BeginsWithRecord, FitsRecord, cpu_of_record, epoch_of_record, record_fault, IsRecordable}
 use Rattle.thy_base.proofs.WordLemmas.{word_of-block_of}
 use Rattle.thy_record.proofs.CpuLemmas.{rest_words, cpu_words-reg, cpu_words-rest, block_words, length-block_words, record_words-at, length-record_words}
@@ -38,15 +38,15 @@ pub epoch_of-commit_of : (epoch : ℕ) → epoch < 2 ^ 64 → epoch_of (commit_o
 epoch_of-commit_of epoch l = commit_word epoch 1 epoch (omega arith) refl l
 
 -- it names version 2
-pub form_of-commit_of : (epoch : ℕ) → form_of (commit_of epoch) ≡ Two
-form_of-commit_of epoch =
-    let name : word_of (commit_of epoch) 0 ≡ commit_magic Two = commit_word epoch 0 (commit_magic Two) (omega arith) refl (omega arith) in
-    ap (λ w. if w == commit_magic One then One else Two) name
+pub version_of-commit_of : (epoch : ℕ) → version_of (commit_of epoch) ≡ VersionTwo
+version_of-commit_of epoch =
+    let name : word_of (commit_of epoch) 0 ≡ commit_magic VersionTwo = commit_word epoch 0 (commit_magic VersionTwo) (omega arith) refl (omega arith) in
+    ap (λ w. if w == commit_magic VersionOne then VersionOne else VersionTwo) name
 
 is_named-commit_of : (header : Block) (epoch : ℕ) → is_named header (commit_of epoch) ≡ true
 is_named-commit_of header epoch =
-    ap (λ t. t || (word_of (commit_of epoch) 0 == commit_magic One && word_of header 1 == 1))
-    (eq-eqb _ _ (commit_word epoch 0 (commit_magic Two) (omega arith) refl (omega arith)))
+    ap (λ t. t || (word_of (commit_of epoch) 0 == commit_magic VersionOne && word_of header 1 == 1))
+    (eq-eqb _ _ (commit_word epoch 0 (commit_magic VersionTwo) (omega arith) refl (omega arith)))
 
 has_zero_rest-commit_of : (epoch : ℕ) → has_zero_rest (commit_of epoch) ≡ true
 has_zero_rest-commit_of epoch =

@@ -20,7 +20,7 @@ use Rattle.thy_isa.specs.Step.{State, state_with}
 use Rattle.thy_record.specs.declared.file.Found.TheVariants.{At as FoundAt}
 use Rattle.thy_record.specs.declared.bad_image.BadImage.TheVariants.{Empty}
 use Rattle.thy_base.specs.Words.{word_of}
-use Rattle.thy_record.specs.Commit.{is_zero, epoch_of, form_of}
+use Rattle.thy_record.specs.Commit.{is_zero, epoch_of, version_of}
 use Rattle.thy_record.specs.Cpu.{status_of, cpu_of_record, record_word, record_words}
 use Rattle.thy_record.specs.Decoded.{Decoded, Nothing, Refused, At}
 use Rattle.thy_record.specs.Files.{block_in, blocks_of, is_long_file, decode_file, found_in, HasCheckpointOf}
@@ -101,7 +101,7 @@ IsWholeFile-found p bytes h =
     ap (λ b. decode_with p h.ceiling b (blocks_of bytes)) (long ∙ sym file) ∙ decodes in
     record {
       long = file;
-      places = long_enough p (form_of (block_at (blocks_of bytes) 1)) (length bytes / 64) has.long;
+      places = long_enough p (version_of (block_at (blocks_of bytes) 1)) (length bytes / 64) has.long;
       tables = (IsDecoded-at p h.ceiling (blocks_of bytes) h.epoch at.0 as_image).tables;
     }
 

@@ -7,7 +7,7 @@ use Rattle.std.specs.List.{range_with_len}
 use Rattle.std.specs.Option.{option_map}
 use Rattle.thy_base.specs.declared.block.Block.{Block}
 use Rattle.thy_base.specs.declared.config.Parameters.{Parameters}
-use Rattle.thy_base.specs.declared.form.Form.TheVariants.{Two}
+use Rattle.thy_base.specs.declared.layout_version.LayoutVersion.TheVariants.{VersionTwo}
 use Rattle.thy_base.specs.Device.{block_at}
 use Rattle.thy_base.specs.Geometry.{IsInRange, console_room}
 use Rattle.thy_base.specs.Places.{table_blocks, count_blocks}
@@ -171,14 +171,14 @@ count_byte-back p cpu t counts epoch slot i of l =
 
 -- the counts of the pages read back
 pub counts_back : (p : Parameters) (cpu : CpuState) (t : Tables) (counts : ℕ → Block) (epoch : ℕ) (slot : List Block)
-    → IsSlotOf p cpu t counts epoch slot → counts_in Two p slot ≡ map (byte_in counts) (range_with_len 0 p.pages)
+    → IsSlotOf p cpu t counts epoch slot → counts_in VersionTwo p slot ≡ map (byte_in counts) (range_with_len 0 p.pages)
 counts_back p cpu t counts epoch slot of =
     map-alike_numbers (count_byte p slot) (byte_in counts) p.pages
     (λ i l. count_byte-back p cpu t counts epoch slot i of (omega arith))
 
 -- and none is at fault
 count_fault-back : (p : Parameters) (cpu : CpuState) (t : Tables) (counts : ℕ → Block) (epoch : ℕ) (slot : List Block)
-    → AreCounts p counts → IsSlotOf p cpu t counts epoch slot → count_fault Two p slot ≡ None
+    → AreCounts p counts → IsSlotOf p cpu t counts epoch slot → count_fault VersionTwo p slot ≡ None
 count_fault-back p cpu t counts epoch slot are of =
     ap (option_map Count) (no_position (is_bad_count p slot) (64 * count_blocks p)
     (λ i l. fine_count (count_byte p slot i) p.pages i
@@ -203,7 +203,7 @@ status_fault-back p ceiling cpu epoch slot r fits of =
 -- a slot that was written has no fault
 pub slot_fault-back : (p : Parameters) (ceiling : ℕ) (cpu : CpuState) (t : Tables) (counts : ℕ → Block) (epoch : ℕ) (slot : List Block)
     → IsInRange p → IsRecordable p ceiling cpu → IsTables p t → AreCounts p counts → ceiling ≤ 2 ^ 64 → epoch < 2 ^ 64
-    → IsSlotOf p cpu t counts epoch slot → slot_fault Two p ceiling epoch slot ≡ None
+    → IsSlotOf p cpu t counts epoch slot → slot_fault VersionTwo p ceiling epoch slot ≡ None
 unfolding slot_fault
 slot_fault-back p ceiling cpu t counts epoch slot r recordable s are most l of =
     let room : console_room p < 2 ^ 64 = omega arith in

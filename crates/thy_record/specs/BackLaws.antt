@@ -4,8 +4,8 @@ use Rattle.thy_base.specs.declared.block.Block.{Block}
 use Rattle.thy_base.specs.declared.config.Parameters.{Parameters}
 use Rattle.thy_base.specs.Geometry.{IsInRange}
 use Rattle.thy_isa.specs.declared.state.CpuState.{CpuState}
-use Rattle.thy_base.specs.declared.form.Form.TheVariants.{Two}
-use Rattle.thy_record.specs.Commit.{commit_of, is_zero, epoch_of, form_of, commit_fault}
+use Rattle.thy_base.specs.declared.layout_version.LayoutVersion.TheVariants.{VersionTwo}
+use Rattle.thy_record.specs.Commit.{commit_of, is_zero, epoch_of, version_of, commit_fault}
 use Rattle.thy_record.specs.Cpu.{BeginsWithRecord, FitsRecord, cpu_of_record, epoch_of_record}
 use Rattle.thy_record.specs.Header.{header_of, header_fault}
 use Rattle.thy_record.specs.Slots.{HasTableBlocks, tables_in}
@@ -21,7 +21,7 @@ HeaderReadsBack = (p : Parameters) → IsInRange p → header_fault (header_of p
 pub record CommitIsBack (epoch ceiling : ℕ) : Type 0 where
   pub committed : is_zero (commit_of epoch) ≡ false
   pub of_epoch : epoch_of (commit_of epoch) ≡ epoch
-  pub of_form : form_of (commit_of epoch) ≡ Two
+  pub of_version : version_of (commit_of epoch) ≡ VersionTwo
   pub fits : (header : Block) → commit_fault header (commit_of epoch) ceiling ≡ None
 
 abbrev pub CommitReadsBack : Type 0

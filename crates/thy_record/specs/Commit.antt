@@ -4,21 +4,21 @@ use Rattle.std.specs.Prelude.{ℕ, Bool, ◌&&◌, ◌||◌, ◌==◌, nat_lt, i
 use Rattle.std.specs.List.{list_all}
 use Rattle.byteorder.specs.Endian.{little_number}
 use Rattle.thy_base.specs.declared.block.Block.{Block}
-use Rattle.thy_base.specs.declared.form.Form.{Form}
-use Rattle.thy_base.specs.declared.form.Form.TheVariants.{One, Two}
+use Rattle.thy_base.specs.declared.layout_version.LayoutVersion.{LayoutVersion}
+use Rattle.thy_base.specs.declared.layout_version.LayoutVersion.TheVariants.{VersionOne, VersionTwo}
 use Rattle.thy_base.specs.Demands.{asked, first_fault}
 use Rattle.thy_record.specs.declared.bad_image.BadImage.{BadImage}
 use Rattle.thy_record.specs.declared.bad_image.BadImage.TheVariants.{Commit}
 use Rattle.thy_base.specs.Words.{word_of, block_of}
 
 -- the bytes THYNCMT1 or THYNCMT2 as a number
-abbrev pub commit_magic : Form → ℕ
-commit_magic One = little_number 8 (codes "THYNCMT1")
-commit_magic Two = little_number 8 (codes "THYNCMT2")
+abbrev pub commit_magic : LayoutVersion → ℕ
+commit_magic VersionOne = little_number 8 (codes "THYNCMT1")
+commit_magic VersionTwo = little_number 8 (codes "THYNCMT2")
 
 -- those that are written are of version 2
 abbrev pub commit_words : ℕ → List ℕ
-commit_words epoch = commit_magic Two ∷ epoch ∷ 0 ∷ 0 ∷ 0 ∷ 0 ∷ 0 ∷ 0 ∷ []
+commit_words epoch = commit_magic VersionTwo ∷ epoch ∷ 0 ∷ 0 ∷ 0 ∷ 0 ∷ 0 ∷ 0 ∷ []
 
 abbrev pub commit_of : ℕ → Block
 commit_of epoch = block_of (commit_words epoch)
@@ -32,12 +32,12 @@ abbrev pub epoch_of : Block → ℕ
 epoch_of b = word_of b 1
 
 -- the version of its slot
-abbrev pub form_of : Block → Form
-form_of b = if word_of b 0 == commit_magic One then One else Two
+abbrev pub version_of : Block → LayoutVersion
+version_of b = if word_of b 0 == commit_magic VersionOne then VersionOne else VersionTwo
 
 -- it names a version; version 1 only behind a header of version 1
 abbrev pub is_named : Block → Block → Bool
-is_named header b = word_of b 0 == commit_magic Two || (word_of b 0 == commit_magic One && word_of header 1 == 1)
+is_named header b = word_of b 0 == commit_magic VersionTwo || (word_of b 0 == commit_magic VersionOne && word_of header 1 == 1)
 
 -- the words after the epoch are zero
 abbrev pub has_zero_rest : Block → Bool

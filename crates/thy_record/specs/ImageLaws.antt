@@ -3,7 +3,7 @@ use Rattle.std.specs.Prelude.{◌≡◌, ℕ, ◌+◌, ◌*◌, ◌%◌, ◌^◌
 use Rattle.std.specs.List.{range_with_len}
 use Rattle.thy_base.specs.declared.block.Block.{Block}
 use Rattle.thy_base.specs.declared.config.Parameters.{Parameters}
-use Rattle.thy_base.specs.declared.form.Form.TheVariants.{Two}
+use Rattle.thy_base.specs.declared.layout_version.LayoutVersion.TheVariants.{VersionTwo}
 use Rattle.thy_base.specs.Device.{block_at, zero_block}
 use Rattle.thy_base.specs.Geometry.{IsInRange, memory_blocks}
 use Rattle.thy_base.specs.Places.{in_dram, IsPlace, slot_blocks, slot_place, image_blocks}
@@ -59,8 +59,8 @@ pub record ReadsBack (p : Parameters) (ceiling : ℕ) (cpu : CpuState) (t : Tabl
     (slot : List Block) : Type 0 where
   pub cpu_back : cpu_of_record slot ≡ cpu
   pub tables_back : tables_in p slot ≡ t
-  pub counts_back : counts_in Two p slot ≡ map (byte_in counts) (range_with_len 0 p.pages)
-  pub faultless : slot_fault Two p ceiling epoch slot ≡ None
+  pub counts_back : counts_in VersionTwo p slot ≡ map (byte_in counts) (range_with_len 0 p.pages)
+  pub faultless : slot_fault VersionTwo p ceiling epoch slot ≡ None
 
 abbrev pub SlotReadsBack : Type 0
 SlotReadsBack =

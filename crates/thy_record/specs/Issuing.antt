@@ -2,15 +2,15 @@
 use Rattle.std.specs.Prelude.{◌≡◌, ◌≢◌, ℕ, ◌+◌, ◌%◌, ◌<◌, true, false, List, ◌∷◌, length, map, Contains, None}
 use Rattle.thy_base.specs.declared.block.Block.{Block}
 use Rattle.thy_base.specs.declared.config.Parameters.{Parameters}
-use Rattle.thy_base.specs.declared.form.Form.{Form}
-use Rattle.thy_base.specs.declared.form.Form.TheVariants.{One, Two}
+use Rattle.thy_base.specs.declared.layout_version.LayoutVersion.{LayoutVersion}
+use Rattle.thy_base.specs.declared.layout_version.LayoutVersion.TheVariants.{VersionOne, VersionTwo}
 use Rattle.thy_base.specs.declared.place.Place.{Place}
 use Rattle.thy_base.specs.declared.place.Place.TheVariants.{Home, AlternateBlock, AlternatePage}
 use Rattle.thy_base.specs.Device.{Device, block_at, newest}
 use Rattle.thy_base.specs.Geometry.{memory_blocks}
 use Rattle.thy_base.specs.Places.{in_dram, number_of, IsPlace, slot_blocks, slot_place}
 use Rattle.thy_base.specs.Store.{page_of}
-use Rattle.thy_record.specs.Commit.{is_zero, epoch_of, form_of}
+use Rattle.thy_record.specs.Commit.{is_zero, epoch_of, version_of}
 use Rattle.thy_record.specs.Images.{slot_in, memory_numbers, looked}
 use Rattle.thy_record.specs.Slots.{tables_in}
 use Rattle.thy_record.specs.Tables.{Tables, entry_at, Lists, place_of, IsTables}
@@ -38,10 +38,10 @@ pub record IsUnused (p : Parameters) (t : Tables) (x : Place) : Type 0 where
 
 -- the checkpoint of an epoch with these tables has nothing there: another slot, also where its own is of version 1, or a
 -- place that it does not use
-abbrev pub IsFree : Parameters → Form → ℕ → Tables → Target → Type 0
-IsFree p One epoch t (SlotBlock s k) = Unit {0}
-IsFree p Two epoch t (SlotBlock s k) = s ≢ epoch % 2
-IsFree p form epoch t (PlaceBlock x) = IsUnused p t x
+abbrev pub IsFree : Parameters → LayoutVersion → ℕ → Tables → Target → Type 0
+IsFree p VersionOne epoch t (SlotBlock s k) = Unit {0}
+IsFree p VersionTwo epoch t (SlotBlock s k) = s ≢ epoch % 2
+IsFree p version epoch t (PlaceBlock x) = IsUnused p t x
 
 -- the home of a block that is listed, or whose page is, is not used
 abbrev pub ListedHomeIsUnused : Type 0
@@ -58,8 +58,8 @@ abbrev pub EmptyPageIsUnused : Type 0
 EmptyPageIsUnused = (p : Parameters) (t : Tables) (j k : ℕ) → entry_at t.ptt j ≡ None → IsUnused p t (AlternatePage j k)
 
 -- an image has the checkpoint of this epoch, in a slot of this version, with these tables
-pub record IsToldBy (p : Parameters) (image : List Block) (form : Form) (epoch : ℕ) (t : Tables) : Type 0 where
-  pub of_form : form_of (block_at image 1) ≡ form
+pub record IsToldBy (p : Parameters) (image : List Block) (version : LayoutVersion) (epoch : ℕ) (t : Tables) : Type 0 where
+  pub of_version : version_of (block_at image 1) ≡ version
   pub of_epoch : epoch_of (block_at image 1) ≡ epoch
   pub tables : tables_in p (slot_in p image) ≡ t
   pub whole : IsTables p t
@@ -67,8 +67,8 @@ pub record IsToldBy (p : Parameters) (image : List Block) (form : Form) (epoch :
 -- what is free for an image's checkpoint is none of the blocks that determine what the image means
 abbrev pub FreeIsNotLooked : Type 0
 FreeIsNotLooked =
-    (p : Parameters) (image : List Block) (form : Form) (epoch : ℕ) (t : Tables) (x : Target)
-    → IsToldBy p image form epoch t → IsTarget p x → IsFree p form epoch t x → ¬ Contains (1 ∷ looked p image) (target_number p x)
+    (p : Parameters) (image : List Block) (version : LayoutVersion) (epoch : ℕ) (t : Tables) (x : Target)
+    → IsToldBy p image version epoch t → IsTarget p x → IsFree p version epoch t x → ¬ Contains (1 ∷ looked p image) (target_number p x)
 
 -- of an image without a checkpoint no block but the commit block is
 abbrev pub NothingIsLooked : Type 0

@@ -2,7 +2,7 @@
 use Rattle.std.specs.Prelude.{◌≡◌, ℕ, ◌<◌, List, length, replicate, None}
 use Rattle.thy_base.specs.declared.block.Block.{Block}
 use Rattle.thy_base.specs.declared.config.Parameters.{Parameters}
-use Rattle.thy_base.specs.declared.form.Form.TheVariants.{One, Two}
+use Rattle.thy_base.specs.declared.layout_version.LayoutVersion.TheVariants.{VersionOne, VersionTwo}
 use Rattle.thy_base.specs.Device.{block_at}
 use Rattle.thy_base.specs.Places.{blocks_of_slot, slot_blocks}
 use Rattle.thy_record.specs.Cpu.{cpu_of_record}
@@ -10,7 +10,7 @@ use Rattle.thy_record.specs.Slots.{tables_in, counts_in, slot_fault}
 
 -- each block of the new slot is that of the old one; past its end that is a block of zeros
 pub record IsWrittenAnew (p : Parameters) (old new : List Block) : Type 0 where
-  pub short : length old ≡ blocks_of_slot One p
+  pub short : length old ≡ blocks_of_slot VersionOne p
   pub long : length new ≡ slot_blocks p
   pub each : (k : ℕ) → k < slot_blocks p → block_at new k ≡ block_at old k
 
@@ -18,10 +18,10 @@ pub record IsWrittenAnew (p : Parameters) (old new : List Block) : Type 0 where
 pub record MeansTheSame (p : Parameters) (ceiling epoch : ℕ) (old new : List Block) : Type 0 where
   pub cpu_same : cpu_of_record new ≡ cpu_of_record old
   pub tables_same : tables_in p new ≡ tables_in p old
-  pub no_counts : counts_in Two p new ≡ replicate p.pages 0
-  pub faultless : slot_fault Two p ceiling epoch new ≡ None
+  pub no_counts : counts_in VersionTwo p new ≡ replicate p.pages 0
+  pub faultless : slot_fault VersionTwo p ceiling epoch new ≡ None
 
 abbrev pub AnewMeansTheSame : Type 0
 AnewMeansTheSame =
     (p : Parameters) (ceiling epoch : ℕ) (old new : List Block)
-    → IsWrittenAnew p old new → slot_fault One p ceiling epoch old ≡ None → MeansTheSame p ceiling epoch old new
+    → IsWrittenAnew p old new → slot_fault VersionOne p ceiling epoch old ≡ None → MeansTheSame p ceiling epoch old new

@@ -5,8 +5,8 @@ use Rattle.std.specs.List.{range_with_len, position}
 use Rattle.std.specs.Option.{option_or, option_map}
 use Rattle.thy_base.specs.declared.block.Block.{Block}
 use Rattle.thy_base.specs.declared.config.Parameters.{Parameters}
-use Rattle.thy_base.specs.declared.form.Form.{Form}
-use Rattle.thy_base.specs.declared.form.Form.TheVariants.{One, Two}
+use Rattle.thy_base.specs.declared.layout_version.LayoutVersion.{LayoutVersion}
+use Rattle.thy_base.specs.declared.layout_version.LayoutVersion.TheVariants.{VersionOne, VersionTwo}
 use Rattle.thy_base.specs.Demands.{first_fault}
 use Rattle.thy_base.specs.Device.{block_at}
 use Rattle.thy_base.specs.Places.{record_blocks, table_blocks, count_blocks, slot_blocks}
@@ -57,18 +57,18 @@ tables_in p slot = record {
 abbrev pub count_byte : Parameters → List Block → ℕ → ℕ
 count_byte p slot i = byte_in (λ k. block_at slot (record_blocks p + table_blocks p + k)) i
 
-abbrev pub counts_in : Form → Parameters → List Block → List ℕ
-counts_in One p slot = replicate p.pages 0
-counts_in Two p slot = map (count_byte p slot) (range_with_len 0 p.pages)
+abbrev pub counts_in : LayoutVersion → Parameters → List Block → List ℕ
+counts_in VersionOne p slot = replicate p.pages 0
+counts_in VersionTwo p slot = map (count_byte p slot) (range_with_len 0 p.pages)
 
 -- a byte is past 63, or one past the last page is not 0
 abbrev pub is_bad_count : Parameters → List Block → ℕ → Bool
 is_bad_count p slot i = nat_lt 63 (count_byte p slot i) || (nat_le p.pages i && not (count_byte p slot i == 0))
 
 -- the first such byte; version 1 has none
-abbrev pub count_fault : Form → Parameters → List Block → Option BadImage
-count_fault One p slot = None
-count_fault Two p slot = option_map Count (position (is_bad_count p slot) (range_with_len 0 (64 * count_blocks p)))
+abbrev pub count_fault : LayoutVersion → Parameters → List Block → Option BadImage
+count_fault VersionOne p slot = None
+count_fault VersionTwo p slot = option_map Count (position (is_bad_count p slot) (range_with_len 0 (64 * count_blocks p)))
 
 -- the record is of another epoch than the commit block
 abbrev pub epoch_fault : ℕ → List Block → Option BadImage
@@ -79,7 +79,7 @@ abbrev pub status_fault : Parameters → ℕ → List Block → Option BadImage
 status_fault p ceiling slot = first_fault (status_demands p ceiling slot)
 
 -- the first fault of a slot under a commit block of this epoch
-unfoldable pub slot_fault : Form → Parameters → ℕ → ℕ → List Block → Option BadImage
-slot_fault form p ceiling epoch slot =
+unfoldable pub slot_fault : LayoutVersion → Parameters → ℕ → ℕ → List Block → Option BadImage
+slot_fault version p ceiling epoch slot =
     option_or (epoch_fault epoch slot)
-    (option_or (tables_fault p (tables_in p slot)) (option_or (status_fault p ceiling slot) (count_fault form p slot)))
+    (option_or (tables_fault p (tables_in p slot)) (option_or (status_fault p ceiling slot) (count_fault version p slot)))

@@ -1,9 +1,9 @@
 //! The commit block, block 1 of an image.
 ghost use Rattle.std.specs.Prelude.{◌≡◌};
-ghost use Rattle.thy_record.specs.Commit.{commit_of, form_of as form_named, is_named as names_form, commit_fault as fault_of_commit, is_zero as has_zeros, has_zero_rest as zero_rest};
+ghost use Rattle.thy_record.specs.Commit.{commit_of, version_of as version_named, is_named as names_version, commit_fault as fault_of_commit, is_zero as has_zeros, has_zero_rest as zero_rest};
 
 use crate::bad_image::BadImage;
-use thy_base::{Block, Form, block_with, word};
+use thy_base::{Block, LayoutVersion, block_with, word};
 
 /// The bytes `THYNCMT1`, with which a commit block of version 1 begins, as a number.
 pub const COMMIT_MAGIC_VERSION_ONE: u64 = 0x3154_4d43_4e59_4854;
@@ -27,19 +27,19 @@ pub fn is_zero(block: &Block) -> bool
 }
 
 /// The version of the slot that a commit block names.
-pub fn form_of(block: &Block) -> Form
-    ensures { result ≡ form_named block.now }
+pub fn version_of(block: &Block) -> LayoutVersion
+    ensures { result ≡ version_named block.now }
 {
     if word(block, 0) == COMMIT_MAGIC_VERSION_ONE {
-        Form::One
+        LayoutVersion::VersionOne
     } else {
-        Form::Two
+        LayoutVersion::VersionTwo
     }
 }
 
 // Whether a commit block behind this header names a version.
 fn is_named(header: &Block, block: &Block) -> bool
-    ensures { result ≡ names_form header.now block.now }
+    ensures { result ≡ names_version header.now block.now }
 {
     let name = word(block, 0);
     name == COMMIT_MAGIC_VERSION_TWO || (name == COMMIT_MAGIC_VERSION_ONE && word(header, 1) == 1)

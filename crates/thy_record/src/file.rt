@@ -2,16 +2,16 @@
 ghost use Rattle.std.specs.Prelude.{◌≡◌, ◌*◌, ◌≤◌, true, length};
 ghost use Rattle.thy_base.specs.Device.{block_at};
 ghost use Rattle.thy_base.specs.Places.{blocks_of_slot};
-ghost use Rattle.thy_record.specs.Commit.{form_of as form_named};
+ghost use Rattle.thy_record.specs.Commit.{version_of as version_named};
 ghost use Rattle.thy_record.specs.Files.{blocks_of, is_long_file, file_fault, decode_file, found_in};
 ghost use Rattle.thy_record.specs.Images.{slot_in as slot_of_image};
 
 use crate::bad_image::BadImage;
-use crate::commit::{commit_fault, form_of, is_zero};
+use crate::commit::{commit_fault, version_of, is_zero};
 use crate::file_blocks::block_in;
 use crate::header::header_fault;
 use crate::slot::slot_fault;
-use thy_base::{BLOCK_SIZE, Block, Form, Geometry, word};
+use thy_base::{BLOCK_SIZE, Block, LayoutVersion, Geometry, word};
 
 /// What an image without a fault has.
 #[derive(Clone, Copy, Debug, PartialEq, Eq)]
@@ -26,12 +26,12 @@ pub enum Found {
 pub(crate) fn slot_in<'a>(image: &'a [u8], commit: &Block, geometry: &Geometry) -> &'a [u8]
     requires long { is_long_file geometry.now image.now ≡ true }
     requires commit { commit.now ≡ block_at (blocks_of image.now) 1 }
-    ensures length { length result.now ≡ 64 * blocks_of_slot (form_named commit.now) geometry.now }
+    ensures length { length result.now ≡ 64 * blocks_of_slot (version_named commit.now) geometry.now }
     ensures slot { blocks_of result.now ≡ slot_of_image geometry.now (blocks_of image.now) }
 {
-    let form = form_of(commit);
-    let first = BLOCK_SIZE * geometry.slot_of(form, word(commit, 1) % 2) as usize;
-    &image[first..first + BLOCK_SIZE * geometry.slot_blocks_of(form) as usize]
+    let version = version_of(commit);
+    let first = BLOCK_SIZE * geometry.slot_of(version, word(commit, 1) % 2) as usize;
+    &image[first..first + BLOCK_SIZE * geometry.slot_blocks_of(version) as usize]
 }
 
 // Whether a file has the whole blocks of an image: those of version 2, or, with a commit block of version 1, those of that.
@@ -40,8 +40,8 @@ fn is_long(image: &[u8], commit: &Block, geometry: &Geometry) -> bool
     ensures { result ≡ is_long_file geometry.now image.now }
 {
     let size = image.len() as u64;
-    let old = form_of(commit) == Form::One && size / 64 == geometry.blocks_one();
-    size.is_multiple_of(64) && (size / 64 == geometry.blocks() || old)
+    let old = version_of(commit) == LayoutVersion::VersionOne && size / BLOCK_SIZE as u64 == geometry.blocks_one();
+    size.is_multiple_of(BLOCK_SIZE as u64) && (size / BLOCK_SIZE as u64 == geometry.blocks() || old)
 }
 
 // The first fault of an image that has this commit block.
@@ -58,7 +58,7 @@ fn image_fault(image: &[u8], commit: &Block, geometry: &Geometry, ceiling: u64) 
         return Some(bad);
     }
     let slot = slot_in(image, commit, geometry);
-    slot_fault(slot, form_of(commit), word(commit, 1), geometry, ceiling)
+    slot_fault(slot, version_of(commit), word(commit, 1), geometry, ceiling)
 }
 
 /// What the bytes of a file have for a geometry: nothing, if there are at least 128 of them and the commit block is

@@ -11,7 +11,7 @@ ghost use Rattle.thy_record.specs.Tables.{IsTables};
 use crate::slot::{btt_in, ptt_in};
 use crate::table_faults::entry;
 use std::alloc::{AllocError, Global};
-use thy_base::{Geometry, Place};
+use thy_base::{Geometry, PAGE_BLOCKS, Place};
 
 // All of memory at home.
 fn homes(alloc: Global, geometry: &Geometry) -> Result<Vec<u64>, AllocError>
@@ -33,8 +33,8 @@ fn list_page(index: &mut [u64], entry: usize, page: u64, geometry: &Geometry)
     ensures long { length index.new ≡ length index.old }
     ensures page { HasPage geometry.now entry page index.old index.new }
 {
-    for block in 0..64 {
-        let at = (64 * page + block) as usize;
+    for block in 0..PAGE_BLOCKS {
+        let at = (PAGE_BLOCKS * page + block) as usize;
         index[at] = geometry.number(Place::AlternatePage { entry, block });
     }
 }

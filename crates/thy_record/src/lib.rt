@@ -25,7 +25,7 @@ mod tables;
 
 pub use bad_image::BadImage;
 pub use commit::{
-    COMMIT_MAGIC_VERSION_ONE, COMMIT_MAGIC_VERSION_TWO, commit_block, commit_fault, form_of,
+    COMMIT_MAGIC_VERSION_ONE, COMMIT_MAGIC_VERSION_TWO, commit_block, commit_fault, version_of,
     is_zero,
 };
 pub use cpu::{cpu_block, cpu_state};

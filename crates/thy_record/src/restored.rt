@@ -13,7 +13,7 @@ use crate::file_blocks::block_in;
 use crate::index::places;
 use crate::slot::cpu_in;
 use std::alloc::{AllocError, Global};
-use thy_base::{BLOCK_SIZE, Bytes, Geometry};
+use thy_base::{BLOCK_SIZE, Bytes, Geometry, PAGE_BLOCKS};
 use thy_isa::{CpuState, MachState};
 
 // The bytes of so many blocks from the first of these places of an image on.
@@ -51,9 +51,9 @@ pub fn state_at(
         state_of m ≡ state_from geometry.now cpu (map (block_at (blocks_of image.now)) places.now)) }
 {
     let p = geometry.numbers();
-    let program = 64 * (p.pages - p.console) as usize;
+    let program = PAGE_BLOCKS * (p.pages - p.console) as usize;
     let memory = gathered(alloc, image, places, 0, program)?;
-    let mut console = gathered(alloc, image, places, program, 64 * p.console as usize)?;
+    let mut console = gathered(alloc, image, places, program, PAGE_BLOCKS * p.console as usize)?;
     console.truncate(cpu.console_len as usize);
     Ok(MachState {
         pc: cpu.pc,

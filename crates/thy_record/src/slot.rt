@@ -1,7 +1,7 @@
 //! The bytes of a slot: the processor's record of 320, behind it the block table and the page table, and in version 2 the
 //! counts of pages.
 ghost use Rattle.std.specs.Prelude.{◌≡◌, ◌+◌, ◌*◌, ◌/◌, ◌<◌, ◌≤◌, length};
-ghost use Rattle.thy_base.specs.declared.form.Form.TheVariants.{Two};
+ghost use Rattle.thy_base.specs.declared.layout_version.LayoutVersion.TheVariants.{VersionTwo};
 ghost use Rattle.thy_base.specs.Places.{record_blocks, table_blocks, count_blocks, blocks_of_slot};
 ghost use Rattle.thy_record.specs.Cpu.{record_word, cpu_of_record};
 ghost use Rattle.thy_record.specs.Files.{blocks_of, table_in};
@@ -13,7 +13,7 @@ use crate::cpu::{cpu_state, is_status};
 use crate::file_blocks::block_in;
 use crate::table_faults::{entry, tables_fault};
 use byteorder::{ByteOrder, LittleEndian};
-use thy_base::{BLOCK_SIZE, Form, Geometry};
+use thy_base::{BLOCK_COUNTS, BLOCK_SIZE, LayoutVersion, Geometry};
 use thy_isa::CpuState;
 
 /// How many bytes the processor's record has.
@@ -95,7 +95,7 @@ pub fn status_fault(slot: &[u8], geometry: &Geometry, ceiling: u64) -> Option<Ba
 
 // Byte i of the counts of a slot.
 fn count_in(slot: &[u8], geometry: &Geometry, i: u64) -> u8
-    requires slot { length slot.now ≡ 64 * blocks_of_slot Two geometry.now }
+    requires slot { length slot.now ≡ 64 * blocks_of_slot VersionTwo geometry.now }
     requires inside { i < 64 * count_blocks geometry.now }
     ensures { result ≡ count_byte geometry.now (blocks_of slot.now) i }
 {
@@ -105,7 +105,7 @@ fn count_in(slot: &[u8], geometry: &Geometry, i: u64) -> u8
 
 /// The count of a page in these bytes of a slot of version 2.
 pub fn listed_count(slot: &[u8], page: u64, geometry: &Geometry) -> u64
-    requires slot { length slot.now ≡ 64 * blocks_of_slot Two geometry.now }
+    requires slot { length slot.now ≡ 64 * blocks_of_slot VersionTwo geometry.now }
     requires page { page < 64 * count_blocks geometry.now }
     ensures { result ≡ count_byte geometry.now (blocks_of slot.now) page }
 {
@@ -114,7 +114,7 @@ pub fn listed_count(slot: &[u8], page: u64, geometry: &Geometry) -> u64
 
 // Whether that byte is past 63, or past the last page and not zero.
 fn is_bad_count(slot: &[u8], geometry: &Geometry, i: u64) -> bool
-    requires slot { length slot.now ≡ 64 * blocks_of_slot Two geometry.now }
+    requires slot { length slot.now ≡ 64 * blocks_of_slot VersionTwo geometry.now }
     requires inside { i < 64 * count_blocks geometry.now }
     ensures { result ≡ is_bad_byte geometry.now (blocks_of slot.now) i }
 {
@@ -123,22 +123,22 @@ fn is_bad_count(slot: &[u8], geometry: &Geometry, i: u64) -> bool
 }
 
 // A count past 63, or a byte past the last page that is not zero; version 1 has no counts.
-fn count_fault(slot: &[u8], form: Form, geometry: &Geometry) -> Option<BadImage>
-    requires { length slot.now ≡ 64 * blocks_of_slot form geometry.now }
-    ensures { result ≡ fault_of_counts form geometry.now (blocks_of slot.now) }
+fn count_fault(slot: &[u8], version: LayoutVersion, geometry: &Geometry) -> Option<BadImage>
+    requires { length slot.now ≡ 64 * blocks_of_slot version geometry.now }
+    ensures { result ≡ fault_of_counts version geometry.now (blocks_of slot.now) }
 {
-    match form {
-        Form::One => None,
-        Form::Two => bad_count(slot, geometry),
+    match version {
+        LayoutVersion::VersionOne => None,
+        LayoutVersion::VersionTwo => bad_count(slot, geometry),
     }
 }
 
 // So in version 2.
 fn bad_count(slot: &[u8], geometry: &Geometry) -> Option<BadImage>
-    requires { length slot.now ≡ 64 * blocks_of_slot Two geometry.now }
-    ensures { result ≡ fault_of_counts Two geometry.now (blocks_of slot.now) }
+    requires { length slot.now ≡ 64 * blocks_of_slot VersionTwo geometry.now }
+    ensures { result ≡ fault_of_counts VersionTwo geometry.now (blocks_of slot.now) }
 {
-    for i in 0..64 * geometry.count_blocks() {
+    for i in 0..BLOCK_COUNTS * geometry.count_blocks() {
         if is_bad_count(slot, geometry, i) {
             return Some(BadImage::Count(i));
         }
@@ -151,13 +151,13 @@ fn bad_count(slot: &[u8], geometry: &Geometry) -> Option<BadImage>
 /// ceiling, a console longer than its pages, a count of stores past 63 or past the last page.
 pub fn slot_fault(
     slot: &[u8],
-    form: Form,
+    version: LayoutVersion,
     epoch: u64,
     geometry: &Geometry,
     ceiling: u64,
 ) -> Option<BadImage>
-    requires { length slot.now ≡ 64 * blocks_of_slot form geometry.now }
-    ensures { result ≡ fault_of_slot form geometry.now ceiling epoch (blocks_of slot.now) }
+    requires { length slot.now ≡ 64 * blocks_of_slot version geometry.now }
+    ensures { result ≡ fault_of_slot version geometry.now ceiling epoch (blocks_of slot.now) }
 {
     if word_in(slot, 38) != epoch {
         return Some(BadImage::Commit);
@@ -165,5 +165,5 @@ pub fn slot_fault(
     if let Some(bad) = tables_fault(btt_in(slot, geometry), ptt_in(slot, geometry), geometry) {
         return Some(bad);
     }
-    status_fault(slot, geometry, ceiling).or(count_fault(slot, form, geometry))
+    status_fault(slot, geometry, ceiling).or(count_fault(slot, version, geometry))
 }

@@ -7,7 +7,7 @@ ghost use Rattle.thy_record.specs.TableFaults.{first_clash, index_rule, twin_of,
 use crate::bad_image::BadImage;
 use crate::tables::entry_from_word;
 use byteorder::{ByteOrder, LittleEndian};
-use thy_base::Geometry;
+use thy_base::{Geometry, page_of};
 
 // Entry i of a table.
 pub(crate) fn entry(table: &[u8], i: usize) -> Option<u64>
@@ -78,7 +78,7 @@ fn under_fault(btt: &[u8], ptt: &[u8]) -> Option<BadImage>
 {
     for i in 0..btt.len() / 8 {
         if let Some(block) = entry(btt, i)
-            && let Some(j) = entry_of(ptt, block / 64)
+            && let Some(j) = entry_of(ptt, page_of(block))
         {
             return Some(BadImage::BlockUnderPage(i as u64, j as u64));
         }
@@ -92,7 +92,7 @@ pub(crate) fn tables_fault(btt: &[u8], ptt: &[u8], geometry: &Geometry) -> Optio
     ensures { result ≡ fault_of_tables geometry.now (tables_from btt.now ptt.now) }
 {
     let p = geometry.numbers();
-    let index = index_fault(btt, 0, 64 * p.pages).or(index_fault(ptt, p.btt, p.pages));
+    let index = index_fault(btt, 0, geometry.memory_blocks()).or(index_fault(ptt, p.btt, p.pages));
     let twice = twice_fault(btt, 0).or(twice_fault(ptt, p.btt));
     index.or(twice.or(under_fault(btt, ptt)))
 }

@@ -2,14 +2,14 @@
 use Rattle.std.proofs.Common.{◌≡◌, ℕ, ◌+◌, true, List, length, map, replicate, Option, Some, None, sym, ◌∙◌, ap, subst, arith}
 use Rattle.thy_base.specs.declared.block.Block.{Block}
 use Rattle.thy_base.specs.declared.config.Parameters.{Parameters}
-use Rattle.thy_base.specs.declared.form.Form.{Form}
-use Rattle.thy_base.specs.declared.form.Form.TheVariants.{Two}
+use Rattle.thy_base.specs.declared.layout_version.LayoutVersion.{LayoutVersion}
+use Rattle.thy_base.specs.declared.layout_version.LayoutVersion.TheVariants.{VersionTwo}
 use Rattle.thy_base.specs.declared.mark.Mark.{Mark}
 use Rattle.thy_base.specs.Device.{block_at, newest}
 use Rattle.thy_isa.specs.declared.state.CpuState.{CpuState}
 use Rattle.thy_isa.specs.OnBlocks.{state_from}
 use Rattle.thy_isa.specs.Step.{cpu_of}
-use Rattle.thy_record.specs.Commit.{epoch_of, form_of}
+use Rattle.thy_record.specs.Commit.{epoch_of, version_of}
 use Rattle.thy_record.specs.Cpu.{cpu_of_record}
 use Rattle.thy_record.specs.Header.{header_fault}
 use Rattle.thy_record.specs.Images.{slot_in, memory_numbers}
@@ -17,7 +17,7 @@ use Rattle.thy_record.specs.Issuing.{IsToldBy}
 use Rattle.thy_record.specs.Slots.{tables_in, counts_in, slot_fault}
 use Rattle.thy_record.specs.Tables.{Tables, IsTables}
 use Rattle.thy_record.proofs.HeaderLemmas.{header_fault-header_of}
-use Rattle.thy_record.proofs.ReadBackLemmas.{epoch_of-commit_of, form_of-commit_of}
+use Rattle.thy_record.proofs.ReadBackLemmas.{epoch_of-commit_of, version_of-commit_of}
 use Rattle.thy_record.proofs.SlotLemmas.{counts_back}
 use Rattle.thy_control.specs.CheckpointTables.{tables0}
 use Rattle.thy_control.proofs.TablesLemmas.{AreTablesOf-committed}
@@ -53,29 +53,29 @@ restored_is_booted o g n b c origin sound is =
     let f : IsRestored filling_dual n b c = kept.5 in
     let rec : IsRecovering filling_dual g n b c = subst (λ (q : Stage). IsSoundAt filling_dual o q g n b c) is sound.so_far in
     let cpu : CpuState = cpu_of_record slot in
-    let form : Form = form_of b.commit in
-    let told : IsToldBy b.p n.image form epoch (tables0 c) = record {
-      of_form = ap form_of f.head.commit_is.is;
+    let version : LayoutVersion = version_of b.commit in
+    let told : IsToldBy b.p n.image version epoch (tables0 c) = record {
+      of_version = ap version_of f.head.commit_is.is;
       of_epoch = ap epoch_of f.head.commit_is.is;
       tables = ap (tables_in b.p) (sym f.slot_is) ∙ ap (λ (q : Parameters). tables_in q slot) (sym rec.read.same_p) ∙ sym f.lists.are;
       whole = subst (λ (q : Parameters). IsTables q (tables0 c)) rec.read.same_p (AreTablesOf-committed c f.lists.tables).valid;
     } in
-    let told_mark : IsToldBy p g.before form m.epoch (tables0 c)
-    = subst (λ (q : Parameters). IsToldBy q g.before form m.epoch (tables0 c)) sound.geometry
-    (subst (λ (h : List Block). IsToldBy b.p h form m.epoch (tables0 c)) (sym rec.before_is)
-    (subst (λ (x : ℕ). IsToldBy b.p n.image form x (tables0 c)) (sym kept.2) told)) in
+    let told_mark : IsToldBy p g.before version m.epoch (tables0 c)
+    = subst (λ (q : Parameters). IsToldBy q g.before version m.epoch (tables0 c)) sound.geometry
+    (subst (λ (h : List Block). IsToldBy b.p h version m.epoch (tables0 c)) (sym rec.before_is)
+    (subst (λ (x : ℕ). IsToldBy b.p n.image version x (tables0 c)) (sym kept.2) told)) in
     let header : header_fault (newest n 0) p true ≡ None
     = ap (λ (x : Block). header_fault x p true) (newest-settled n 0 rec.read.settled)
     ∙ ap (λ (q : Parameters). header_fault (block_at n.image 0) q true) (sym sound.geometry) ∙ f.head.header_fits in
     let state : state_from p cpu (loads c n) ≡ at o m.count
     = ap (λ (q : Parameters). state_from q cpu (loads c n)) (sym sound.geometry) ∙ kept.4 in
-    let fits : slot_fault (form_of b.commit) p ceiling epoch slot ≡ None
-    = ap (λ (q : Parameters). slot_fault (form_of b.commit) q ceiling epoch slot) (sym sound.geometry) ∙ f.slot_fits in
-    let lasts : counts_in form p (slot_in p g.before) ≡ c.counts.lasts
-    = ap (λ (q : Parameters). counts_in form q (slot_in q g.before)) (sym sound.geometry)
-    ∙ ap (λ (h : List Block). counts_in form b.p (slot_in b.p h)) rec.before_is
-    ∙ ap (counts_in form b.p) (sym f.slot_is)
-    ∙ ap (λ (q : Parameters). counts_in form q slot) (sym rec.read.same_p)
+    let fits : slot_fault (version_of b.commit) p ceiling epoch slot ≡ None
+    = ap (λ (q : Parameters). slot_fault (version_of b.commit) q ceiling epoch slot) (sym sound.geometry) ∙ f.slot_fits in
+    let lasts : counts_in version p (slot_in p g.before) ≡ c.counts.lasts
+    = ap (λ (q : Parameters). counts_in version q (slot_in q g.before)) (sym sound.geometry)
+    ∙ ap (λ (h : List Block). counts_in version b.p (slot_in b.p h)) rec.before_is
+    ∙ ap (counts_in version b.p) (sym f.slot_is)
+    ∙ ap (λ (q : Parameters). counts_in version q slot) (sym rec.read.same_p)
     ∙ sym f.lists.counts in (
       m,
       kept.1,
@@ -91,7 +91,7 @@ restored_is_booted o g n b c origin sound is =
           holds = f.whole;
           state = state;
           counted = kept.3.told.counted;
-          recordable = restored-recordable o form m.count epoch slot (loads c n) origin fits state;
+          recordable = restored-recordable o version m.count epoch slot (loads c n) origin fits state;
         };
       },
     )
@@ -111,14 +111,14 @@ loaded_is_started o g n b c origin sound is =
     let state : state_from p (cpu_of o.start) (loads c n) ≡ o.start
     = ap (state_from p (cpu_of o.start)) memory ∙ state_from-start p o.start can in
     let slot_same : slot_in p g.next ≡ slot_of f.parts = far.made.slot in
-    let lasts : counts_in Two p (slot_in p g.next) ≡ c.counts.lasts
-    = ap (counts_in Two p) slot_same
+    let lasts : counts_in VersionTwo p (slot_in p g.next) ≡ c.counts.lasts
+    = ap (counts_in VersionTwo p) slot_same
     ∙ counts_back p (cpu_of o.start) (no_tables p) no_counts 0 (slot_of f.parts)
     (slot_is p ceiling (cpu_of o.start) (no_tables p) no_counts 0 can.geometry can.recordable (omega arith) (omega arith) (IsTables-none p) (AreCounts-none p))
     ∙ counts-none p.pages
     ∙ ap (λ (q : Parameters). replicate q.pages 0) (sym sound.same_p) ∙ sym far.fresh.fresh.no_counts in
-    let told : IsToldBy p g.next Two 0 (no_tables p) = record {
-      of_form = ap form_of far.made.commit ∙ form_of-commit_of 0;
+    let told : IsToldBy p g.next VersionTwo 0 (no_tables p) = record {
+      of_version = ap version_of far.made.commit ∙ version_of-commit_of 0;
       of_epoch = ap epoch_of far.made.commit ∙ epoch_of-commit_of 0 (omega arith);
       tables = ap (tables_in p) far.made.slot
           ∙ tables_are p ceiling (cpu_of o.start) (no_tables p) no_counts 0 can.geometry can.recordable (omega arith) (omega arith) (IsTables-none p) (AreCounts-none p);
@@ -127,7 +127,7 @@ loaded_is_started o g n b c origin sound is =
     record {
       over = record {
         settled = far.settled;
-        told = subst (λ (t : Tables). IsToldBy p g.next Two 0 t) (sym tables) told;
+        told = subst (λ (t : Tables). IsToldBy p g.next VersionTwo 0 t) (sym tables) told;
         lasts = lasts;
         has = record {
           booting = far.fresh.fresh.booting;

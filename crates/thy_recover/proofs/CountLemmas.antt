@@ -6,7 +6,7 @@ use Rattle.std.proofs.lemmas.List.{length-set, length-replicate, get_or-set_same
 use Rattle.std.proofs.lemmas.List.FromFn.{length-map-range_with_len, get_or-map-range_with_len}
 use Rattle.thy_base.specs.declared.block.Block.{Block}
 use Rattle.thy_base.specs.declared.config.Parameters.{Parameters}
-use Rattle.thy_base.specs.declared.form.Form.TheVariants.{One, Two}
+use Rattle.thy_base.specs.declared.layout_version.LayoutVersion.TheVariants.{VersionOne, VersionTwo}
 use Rattle.thy_control.specs.Boot.{IsBooting, with_listed_count}
 use Rattle.thy_control.specs.State.{State}
 use Rattle.thy_record.specs.Slots.{count_byte, counts_in}
@@ -47,7 +47,7 @@ CountsUpTo-more p slot page count old new next inside h is step booting =
 
 -- all of them
 pub HasCounts-all : (p : Parameters) (slot : List Block) (pages : ℕ) (old new : State) → p.pages ≤ pages → CountsUpTo p slot pages old new
-    → HasCounts Two p slot old new
+    → HasCounts VersionTwo p slot old new
 HasCounts-all p slot pages old new all h =
     let right = length-map-range_with_len (count_byte p slot) 0 p.pages in
     record {
@@ -60,5 +60,5 @@ HasCounts-all p slot pages old new all h =
     }
 
 -- version 1 has none
-pub HasCounts-one : (p : Parameters) (slot : List Block) (s : State) → IsBooting s → s.counts.lasts ≡ replicate p.pages 0 → HasCounts One p slot s s
+pub HasCounts-one : (p : Parameters) (slot : List Block) (s : State) → IsBooting s → s.counts.lasts ≡ replicate p.pages 0 → HasCounts VersionOne p slot s s
 HasCounts-one p slot s booting none = record { booting = booting; lasts = none; same = refl }

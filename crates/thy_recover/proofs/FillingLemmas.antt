@@ -7,15 +7,15 @@ use Rattle.thy_base.specs.declared.block.Block.{Block}
 use Rattle.thy_base.specs.declared.config.Parameters.{Parameters}
 use Rattle.thy_base.specs.declared.place.Place.TheVariants.{Home, Frame}
 use Rattle.thy_base.specs.Device.{Device, block_at, newest}
-use Rattle.thy_base.specs.declared.form.Form.{Form}
-use Rattle.thy_base.specs.declared.form.Form.TheVariants.{One, Two}
+use Rattle.thy_base.specs.declared.layout_version.LayoutVersion.{LayoutVersion}
+use Rattle.thy_base.specs.declared.layout_version.LayoutVersion.TheVariants.{VersionOne, VersionTwo}
 use Rattle.thy_base.specs.Geometry.{IsInRange, memory_blocks}
 use Rattle.thy_base.specs.Places.{number_of, blocks_of_slot, place_of_slot, slot_blocks, image_blocks}
 use Rattle.thy_base.proofs.RangeLemmas.{console_below}
 use Rattle.thy_cell.specs.BetweenCheckpoints.{FrameLoads}
 use Rattle.thy_isa.specs.OnBlocks.{state_from}
 use Rattle.thy_isa.specs.Step.{State as Plain, cpu_of}
-use Rattle.thy_record.specs.Commit.{commit_of, form_of}
+use Rattle.thy_record.specs.Commit.{commit_of, version_of}
 use Rattle.thy_record.specs.Header.{header_of}
 use Rattle.thy_record.specs.Images.{memory_in, memory_numbers}
 use Rattle.thy_record.specs.Slots.{tables_in}
@@ -47,13 +47,13 @@ use Rattle.thy_recover.proofs.WorkLemmas.{loads-are}
 
 -- ---- places
 
-inside_image : (f : Form) (p : Parameters) (s : ℕ) → s < 2 → place_of_slot f p s + blocks_of_slot f p ≤ image_blocks p
-inside_image One p zero l = omega arith
-inside_image One p (suc zero) l = omega arith
-inside_image One p (suc (suc s)) l = absurd (omega arith)
-inside_image Two p zero l = omega arith
-inside_image Two p (suc zero) l = omega arith
-inside_image Two p (suc (suc s)) l = absurd (omega arith)
+inside_image : (f : LayoutVersion) (p : Parameters) (s : ℕ) → s < 2 → place_of_slot f p s + blocks_of_slot f p ≤ image_blocks p
+inside_image VersionOne p zero l = omega arith
+inside_image VersionOne p (suc zero) l = omega arith
+inside_image VersionOne p (suc (suc s)) l = absurd (omega arith)
+inside_image VersionTwo p zero l = omega arith
+inside_image VersionTwo p (suc zero) l = omega arith
+inside_image VersionTwo p (suc (suc s)) l = absurd (omega arith)
 
 pub count_is : (p : Parameters) (cpu : _) (memory : List Block) → (state_from p cpu memory).count ≡ cpu.count
 unfolding state_from
@@ -146,10 +146,10 @@ frame_loads = grind arith
 
 pub filling_is_lawful : IsFilling filling_dual
 filling_is_lawful = record {
-  some_slot = λ p commit. let least = least_slot (form_of commit) p in omega (arith, least);
-  most_room = λ p commit. most_slot (form_of commit) p;
+  some_slot = λ p commit. let least = least_slot (version_of commit) p in omega (arith, least);
+  most_room = λ p commit. most_slot (version_of commit) p;
   head_inside = λ p. omega arith;
-  slot_inside = λ p header commit header_fits commit_fits. inside_image (form_of commit) p (_ % 2) (half _);
+  slot_inside = λ p header commit header_fits commit_fits. inside_image (version_of commit) p (_ % 2) (half _);
   counts = λ p slot memory. count_is p (filling_dual.cpu_in slot) memory;
   begins = λ c n commit slot lists i m may below. absurd (omega (arith, below));
   next = λ c n commit slot from k lists filled next.

@@ -5,7 +5,7 @@ use Rattle.std.proofs.lemmas.List.{get_or_past}
 use Rattle.std.specs.Option.{option_or}
 use Rattle.thy_base.specs.declared.block.Block.{Block}
 use Rattle.thy_base.specs.declared.config.Parameters.{Parameters}
-use Rattle.thy_base.specs.declared.form.Form.{Form}
+use Rattle.thy_base.specs.declared.layout_version.LayoutVersion.{LayoutVersion}
 use Rattle.thy_base.specs.Geometry.{program_size, console_room}
 use Rattle.thy_isa.specs.declared.state.CpuState.{CpuState}
 use Rattle.thy_isa.specs.declared.state.Status.{Status}
@@ -49,23 +49,23 @@ first : (a b : Option BadImage) → option_or a b ≡ None → a ≡ None
 first None b h = refl
 first (Some bad) b h = cc
 
-slot_asks : (form : Form) (p : Parameters) (epoch : ℕ) (slot : List Block) → slot_fault form p ceiling epoch slot ≡ None
+slot_asks : (version : LayoutVersion) (p : Parameters) (epoch : ℕ) (slot : List Block) → slot_fault version p ceiling epoch slot ≡ None
     → (record_word slot 32 < ceiling) × (record_word slot 34 ≤ console_room p)
 unfolding slot_fault
-slot_asks form p epoch slot h =
+slot_asks version p epoch slot h =
     let fits : status_fault p ceiling slot ≡ None
-    = first (status_fault p ceiling slot) (count_fault form p slot)
-    (second (tables_fault p (tables_in p slot)) (option_or (status_fault p ceiling slot) (count_fault form p slot))
-    (second (epoch_fault epoch slot) (option_or (tables_fault p (tables_in p slot)) (option_or (status_fault p ceiling slot) (count_fault form p slot))) h)) in
+    = first (status_fault p ceiling slot) (count_fault version p slot)
+    (second (tables_fault p (tables_in p slot)) (option_or (status_fault p ceiling slot) (count_fault version p slot))
+    (second (epoch_fault epoch slot) (option_or (tables_fault p (tables_in p slot)) (option_or (status_fault p ceiling slot) (count_fault version p slot))) h)) in
     let both = asks (is_status (record_word slot 36) (record_word slot 37)) (nat_lt (record_word slot 32) ceiling)
     (nat_le (record_word slot 34) (console_room p)) fits in
     (ltb-true (record_word slot 32) ceiling both.0, leb-true (record_word slot 34) (console_room p) both.1)
 
 -- so its processor has a count and a console that fit
-pub slot_fits-cpu : (form : Form) (p : Parameters) (epoch : ℕ) (slot : List Block) → slot_fault form p ceiling epoch slot ≡ None
+pub slot_fits-cpu : (version : LayoutVersion) (p : Parameters) (epoch : ℕ) (slot : List Block) → slot_fault version p ceiling epoch slot ≡ None
     → ((cpu_of_record slot).count < ceiling) × ((cpu_of_record slot).console_len ≤ console_room p)
 unfolding cpu_of_record
-slot_fits-cpu form p epoch slot h = slot_asks form p epoch slot h
+slot_fits-cpu version p epoch slot h = slot_asks version p epoch slot h
 
 recordable_there : (p : Parameters) (cpu : CpuState) (memory : List Block) (size : ℕ) → IsStorable size (state_from p cpu memory)
     → cpu.console_len ≤ console_room p → cpu.count < ceiling → IsRecordable p ceiling cpu
@@ -87,11 +87,11 @@ recordable_there p cpu memory size there console count = record {
 }
 
 -- one that makes a state of the run, and is that of such a slot
-pub restored-recordable : (o : Origin) (form : Form) (k epoch : ℕ) (slot memory : List Block) → IsOrigin o
-    → slot_fault form o.geometry ceiling epoch slot ≡ None
+pub restored-recordable : (o : Origin) (version : LayoutVersion) (k epoch : ℕ) (slot memory : List Block) → IsOrigin o
+    → slot_fault version o.geometry ceiling epoch slot ≡ None
     → state_from o.geometry (cpu_of_record slot) memory ≡ at o k → IsRecordable o.geometry ceiling (cpu_of_record slot)
-restored-recordable o form k epoch slot memory origin fits is =
-    let fit = slot_fits-cpu form o.geometry epoch slot fits in
+restored-recordable o version k epoch slot memory origin fits is =
+    let fit = slot_fits-cpu version o.geometry epoch slot fits in
     recordable_there o.geometry (cpu_of_record slot) memory (program_size o.geometry)
     (subst (IsStorable (program_size o.geometry)) (sym is) (at-storable o k origin)) fit.1 fit.0
 

@@ -4,11 +4,11 @@ use Rattle.std.specs.Option.{option_or}
 use Rattle.std.proofs.lemmas.List.{length-map, length-take-le, get_or-take, get_or_past, ext_get_or}
 use Rattle.thy_base.specs.declared.block.Block.{Block}
 use Rattle.thy_base.specs.declared.config.Parameters.{Parameters}
-use Rattle.thy_base.specs.declared.form.Form.{Form}
-use Rattle.thy_base.specs.declared.form.Form.TheVariants.{One, Two}
+use Rattle.thy_base.specs.declared.layout_version.LayoutVersion.{LayoutVersion}
+use Rattle.thy_base.specs.declared.layout_version.LayoutVersion.TheVariants.{VersionOne, VersionTwo}
 use Rattle.thy_base.specs.Device.{zero_block, block_at}
 use Rattle.thy_base.specs.Places.{record_blocks, table_blocks, blocks_of_slot, slot_blocks}
-use Rattle.thy_record.specs.Commit.{form_of}
+use Rattle.thy_record.specs.Commit.{version_of}
 use Rattle.thy_record.specs.Files.{block_in, blocks_of}
 use Rattle.thy_record.specs.ImageLaws.{FaultlessTables}
 use Rattle.thy_record.specs.Slots.{tables_in, counts_in, epoch_fault, status_fault, count_fault, slot_fault}
@@ -24,13 +24,13 @@ use Rattle.thy_recover.specs.Filling.{IsEmpty, filling_dual}
 use Rattle.thy_recover.specs.Listed.{HaveFirst, ListsUpTo, AsListed, HasCounts}
 
 -- a slot of either version has the record and the tables, and fits into the room
-pub least_slot : (f : Form) (p : Parameters) → record_blocks p + table_blocks p ≤ blocks_of_slot f p
-least_slot One p = omega arith
-least_slot Two p = omega arith
+pub least_slot : (f : LayoutVersion) (p : Parameters) → record_blocks p + table_blocks p ≤ blocks_of_slot f p
+least_slot VersionOne p = omega arith
+least_slot VersionTwo p = omega arith
 
-pub most_slot : (f : Form) (p : Parameters) → blocks_of_slot f p ≤ slot_blocks p
-most_slot One p = omega arith
-most_slot Two p = omega arith
+pub most_slot : (f : LayoutVersion) (p : Parameters) → blocks_of_slot f p ≤ slot_blocks p
+most_slot VersionOne p = omega arith
+most_slot VersionTwo p = omega arith
 
 -- the first blocks of bytes
 blocks_of-take : (bytes : List ℕ) (n : ℕ) → n ≤ length bytes / 64 → blocks_of (take (64 * n) bytes) ≡ take n (blocks_of bytes)
@@ -48,11 +48,11 @@ blocks_of-take bytes n inside =
 
 -- those of the slot in its room
 pub slot_is_first : (p : Parameters) (commit : Block) (bytes : List ℕ) (size : ℕ) → length bytes ≡ 64 * slot_blocks p
-    → size ≡ 64 * blocks_of_slot (form_of commit) p → blocks_of (take size bytes) ≡ slot_bytes filling_dual p commit bytes
+    → size ≡ 64 * blocks_of_slot (version_of commit) p → blocks_of (take size bytes) ≡ slot_bytes filling_dual p commit bytes
 slot_is_first p commit bytes size room is =
-    let most = most_slot (form_of commit) p in
+    let most = most_slot (version_of commit) p in
     ap (λ x. blocks_of (take x bytes)) is
-    ∙ blocks_of-take bytes (blocks_of_slot (form_of commit) p) (omega (arith, most, room))
+    ∙ blocks_of-take bytes (blocks_of_slot (version_of commit) p) (omega (arith, most, room))
 
 -- block k of the slot that these bytes are, inside it and past its end
 pub slot_block_inside : (slot : List Block) (bytes : List ℕ) (k : ℕ) → blocks_of bytes ≡ slot → k < length bytes / 64 → block_in bytes k ≡ block_at slot k
@@ -74,27 +74,27 @@ none_of_two None b h = (refl, h)
 none_of_two (Some x) b h = absurd (cc)
 
 -- those of one without a fault are such that a checkpoint may have
-pub tables_fit : FaultlessTables → (form : Form) (p : Parameters) (ceiling epoch : ℕ) (slot : List Block)
-    → slot_fault form p ceiling epoch slot ≡ None → IsTables p (tables_in p slot)
+pub tables_fit : FaultlessTables → (version : LayoutVersion) (p : Parameters) (ceiling epoch : ℕ) (slot : List Block)
+    → slot_fault version p ceiling epoch slot ≡ None → IsTables p (tables_in p slot)
 unfolding slot_fault
-tables_fit law form p ceiling epoch slot h =
+tables_fit law version p ceiling epoch slot h =
     let t : Tables = tables_in p slot in
-    let rest = (none_of_two (epoch_fault epoch slot) (option_or (tables_fault p t) (option_or (status_fault p ceiling slot) (count_fault form p slot))) h).1 in
+    let rest = (none_of_two (epoch_fault epoch slot) (option_or (tables_fault p t) (option_or (status_fault p ceiling slot) (count_fault version p slot))) h).1 in
     (law p t).found (record {
       btt_length = size_of_btt p slot;
       ptt_length = size_of_ptt p slot;
-      none = (none_of_two (tables_fault p t) (option_or (status_fault p ceiling slot) (count_fault form p slot)) rest).0;
+      none = (none_of_two (tables_fault p t) (option_or (status_fault p ceiling slot) (count_fault version p slot)) rest).0;
     })
 
 -- and so are its counts
-pub counts_fit : (form : Form) (p : Parameters) (ceiling epoch : ℕ) (slot : List Block)
-    → slot_fault form p ceiling epoch slot ≡ None → count_fault form p slot ≡ None
+pub counts_fit : (version : LayoutVersion) (p : Parameters) (ceiling epoch : ℕ) (slot : List Block)
+    → slot_fault version p ceiling epoch slot ≡ None → count_fault version p slot ≡ None
 unfolding slot_fault
-counts_fit form p ceiling epoch slot h =
+counts_fit version p ceiling epoch slot h =
     let t : Tables = tables_in p slot in
-    let rest = (none_of_two (epoch_fault epoch slot) (option_or (tables_fault p t) (option_or (status_fault p ceiling slot) (count_fault form p slot))) h).1 in
-    (none_of_two (status_fault p ceiling slot) (count_fault form p slot)
-    (none_of_two (tables_fault p t) (option_or (status_fault p ceiling slot) (count_fault form p slot)) rest).1).1
+    let rest = (none_of_two (epoch_fault epoch slot) (option_or (tables_fault p t) (option_or (status_fault p ceiling slot) (count_fault version p slot))) h).1 in
+    (none_of_two (status_fault p ceiling slot) (count_fault version p slot)
+    (none_of_two (tables_fault p t) (option_or (status_fault p ceiling slot) (count_fault version p slot)) rest).1).1
 
 -- what is empty lists none of any tables
 pub ListsUpTo-empty : (p : Parameters) (slot : List Block) (c : State) → c.p ≡ p → IsEmpty c → ListsUpTo 0 0 (tables_in p slot) c
@@ -117,7 +117,7 @@ all_listed i j t u bi pj h =
     ∙ ap (λ (x : List (Option ℕ)). record t { ptt = x }) (ext_get_or None u.ptt t.ptt h.ptt_length (λ k l. h.pages k (omega (arith, l, h.ptt_length, pj))))
 
 pub lists_on : (p : Parameters) (commit : Block) (slot : List Block) (c d e : State) → c.p ≡ p → AreSoundTables e
-    → AsListed p.btt p.ptt (tables_in p slot) c d → HasCounts (form_of commit) p slot d e → ListsOn filling_dual commit slot c e
+    → AsListed p.btt p.ptt (tables_in p slot) c d → HasCounts (version_of commit) p slot d e → ListsOn filling_dual commit slot c e
 lists_on p commit slot c d e same tables l h =
     let same_p : d.p ≡ c.p = ap (λ (x : State). x.p) l.same in
     let then_p : e.p ≡ d.p = ap (λ (x : State). x.p) h.same in
@@ -131,7 +131,7 @@ lists_on p commit slot c d e same tables l h =
         are = ap tables0 h.same
             ∙ all_listed p.btt p.ptt (tables_in p slot) (tables0 d) (size_of_btt p slot) (size_of_ptt p slot) l.lists.have
             ∙ ap (λ (q : Parameters). tables_in q slot) (sym all_p);
-        counts = h.lasts ∙ ap (λ (q : Parameters). counts_in (form_of commit) q slot) (sym all_p);
+        counts = h.lasts ∙ ap (λ (q : Parameters). counts_in (version_of commit) q slot) (sym all_p);
       };
       same_p = then_p ∙ same_p;
       same_dram = then_dram ∙ same_dram;

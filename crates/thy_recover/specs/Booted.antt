@@ -2,14 +2,14 @@
 use Rattle.std.specs.Prelude.{◌≡◌, true, List, [], Some, None}
 use Rattle.thy_base.specs.declared.block.Block.{Block}
 use Rattle.thy_base.specs.declared.mark.Mark.{Mark}
-use Rattle.thy_base.specs.declared.form.Form.{Form}
-use Rattle.thy_base.specs.declared.form.Form.TheVariants.{Two}
+use Rattle.thy_base.specs.declared.layout_version.LayoutVersion.{LayoutVersion}
+use Rattle.thy_base.specs.declared.layout_version.LayoutVersion.TheVariants.{VersionTwo}
 use Rattle.thy_base.specs.Device.{Device, newest}
 use Rattle.thy_crash.specs.Saved.{Kept}
 use Rattle.thy_isa.specs.declared.state.CpuState.{CpuState}
 use Rattle.thy_isa.specs.OnBlocks.{state_from}
 use Rattle.thy_isa.specs.Step.{cpu_of}
-use Rattle.thy_record.specs.Commit.{epoch_of, form_of}
+use Rattle.thy_record.specs.Commit.{epoch_of, version_of}
 use Rattle.thy_record.specs.Cpu.{cpu_of_record, IsRecordable}
 use Rattle.thy_record.specs.Header.{header_fault}
 use Rattle.thy_record.specs.Images.{slot_in}
@@ -42,10 +42,10 @@ pub record LoadsState (o : Origin) (m : Mark) (cpu : CpuState) (n : Device) (c :
 
 -- A boot that is over: the image of a mark is kept, in a version, and the controller has its tables and counts, and the
 -- state of the mark.
-pub record IsBooted (o : Origin) (m : Mark) (cpu : CpuState) (form : Form) (image : List Block) (n : Device) (c : State) : Type 0 where
+pub record IsBooted (o : Origin) (m : Mark) (cpu : CpuState) (version : LayoutVersion) (image : List Block) (n : Device) (c : State) : Type 0 where
   pub settled : n.queue ≡ []
-  pub told : IsToldBy o.geometry image form m.epoch (tables0 c)
-  pub lasts : counts_in form o.geometry (slot_in o.geometry image) ≡ c.counts.lasts
+  pub told : IsToldBy o.geometry image version m.epoch (tables0 c)
+  pub lasts : counts_in version o.geometry (slot_in o.geometry image) ≡ c.counts.lasts
   pub has : LoadsState o m cpu n c
 
 -- a restart has the kept mark's state, and its checkpoint is kept, in the version that its commit block names
@@ -54,11 +54,11 @@ RestoredIsBooted =
     (o : Origin) (g : BootImages) (n : Device) (b : Booting) (c : State)
     → IsOrigin o → IsSoundBoot filling_dual o g n b c → b.stage ≡ Over Restored
     → (m : Mark) × (g.kept ≡ Some m) × (m.epoch ≡ epoch_of b.commit) × Keeps o (layout_of o) n (Kept g.before) (Some m) None
-    × IsBooted o m (cpu_of_record (slot_read filling_dual b)) (form_of b.commit) g.before n c
+    × IsBooted o m (cpu_of_record (slot_read filling_dual b)) (version_of b.commit) g.before n c
 
 -- after loading these are the start's, with tables that list nothing
 pub record IsStarted (o : Origin) (g : BootImages) (n : Device) (c : State) : Type 0 where
-  pub over : IsBooted o (start_mark o) (cpu_of o.start) Two g.next n c
+  pub over : IsBooted o (start_mark o) (cpu_of o.start) VersionTwo g.next n c
   pub tables : tables0 c ≡ no_tables o.geometry
   pub memory : loads c n ≡ start_blocks o.geometry o.start
   pub start : state_from o.geometry (cpu_of o.start) (loads c n) ≡ o.start

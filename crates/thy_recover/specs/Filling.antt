@@ -10,7 +10,7 @@ use Rattle.thy_base.specs.Geometry.{IsInRange, memory_blocks}
 use Rattle.thy_base.specs.Places.{number_of, slot_blocks}
 use Rattle.thy_dram.specs.Contents.{written}
 use Rattle.thy_isa.specs.Step.{State as Plain, cpu_of}
-use Rattle.thy_record.specs.Commit.{commit_of, form_of}
+use Rattle.thy_record.specs.Commit.{commit_of, version_of}
 use Rattle.thy_record.specs.Cpu.{cpu_of_record, IsRecordable}
 use Rattle.thy_record.specs.Header.{header_of}
 use Rattle.thy_record.specs.Slots.{tables_in, counts_in}
@@ -63,7 +63,7 @@ pub record ListsSlot (commit : Block) (slot : List Block) (c : State) : Type 0 w
   pub tables : AreSoundTables c
   pub booting : IsBooting c
   pub are : tables0 c ≡ tables_in c.p slot
-  pub counts : c.counts.lasts ≡ counts_in (form_of commit) c.p slot
+  pub counts : c.counts.lasts ≡ counts_in (version_of commit) c.p slot
 
 -- what a start makes of an empty NVM: every block of memory at home, and tables that list nothing
 abbrev pub first_of_start : Parameters → Plain → First

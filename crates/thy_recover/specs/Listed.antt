@@ -2,7 +2,7 @@
 use Rattle.std.specs.Prelude.{◌≡◌, ℕ, ◌<◌, ◌≤◌, List, length, None}
 use Rattle.thy_base.specs.declared.block.Block.{Block}
 use Rattle.thy_base.specs.declared.config.Parameters.{Parameters}
-use Rattle.thy_base.specs.declared.form.Form.{Form}
+use Rattle.thy_base.specs.declared.layout_version.LayoutVersion.{LayoutVersion}
 use Rattle.thy_record.specs.Slots.{counts_in}
 use Rattle.thy_record.specs.Tables.{Tables, entry_at}
 use Rattle.thy_control.specs.State.{State}
@@ -29,7 +29,7 @@ pub record AsListed (i j : ℕ) (t : Tables) (old new : State) : Type 0 where
   pub same : record new { btt = old.btt; ptt = old.ptt } ≡ old
 
 -- a controller has the counts of a slot of a version, and is else as before
-pub record HasCounts (form : Form) (p : Parameters) (slot : List Block) (old new : State) : Type 0 where
+pub record HasCounts (version : LayoutVersion) (p : Parameters) (slot : List Block) (old new : State) : Type 0 where
   pub booting : IsBooting new
-  pub lasts : new.counts.lasts ≡ counts_in form p slot
+  pub lasts : new.counts.lasts ≡ counts_in version p slot
   pub same : record new { counts = record new.counts { lasts = old.counts.lasts } } ≡ old

@@ -1,40 +1,40 @@
 //! The counts of a slot, given to the controller.
 ghost use Rattle.std.specs.Prelude.{◌≡◌, ◌*◌, length, replicate, None};
-ghost use Rattle.thy_base.specs.declared.form.Form.TheVariants.{Two};
+ghost use Rattle.thy_base.specs.declared.layout_version.LayoutVersion.TheVariants.{VersionTwo};
 ghost use Rattle.thy_base.specs.Places.{blocks_of_slot};
 ghost use Rattle.thy_control.specs.Boot.{IsBooting};
 ghost use Rattle.thy_record.specs.Files.{blocks_of};
 ghost use Rattle.thy_record.specs.Slots.{count_fault};
 ghost use Rattle.thy_recover.specs.Listed.{HasCounts};
 
-use thy_base::{Form, Geometry};
+use thy_base::{LayoutVersion, Geometry};
 use thy_control::Control;
 use thy_record::listed_count;
 
 /// Sets how many stores each page had in the epoch before, as a slot without a fault has it. Version 1 has no counts: they
 /// stay 0.
-pub fn list_counts(slot: &[u8], form: Form, geometry: &Geometry, control: &mut Control)
-    requires slot { length slot.now ≡ 64 * blocks_of_slot form geometry.now }
+pub fn list_counts(slot: &[u8], version: LayoutVersion, geometry: &Geometry, control: &mut Control)
+    requires slot { length slot.now ≡ 64 * blocks_of_slot version geometry.now }
     requires geometry { control.old.p ≡ geometry.now }
     requires booting { IsBooting control.old }
     requires none { control.old.counts.lasts ≡ replicate geometry.now.pages 0 }
-    requires fits { count_fault form geometry.now (blocks_of slot.now) ≡ None }
-    ensures { HasCounts form geometry.now (blocks_of slot.now) control.old control.new }
+    requires fits { count_fault version geometry.now (blocks_of slot.now) ≡ None }
+    ensures { HasCounts version geometry.now (blocks_of slot.now) control.old control.new }
 {
-    match form {
-        Form::One => {}
-        Form::Two => list_each(slot, geometry, control),
+    match version {
+        LayoutVersion::VersionOne => {}
+        LayoutVersion::VersionTwo => list_each(slot, geometry, control),
     }
 }
 
 /// So in version 2, page by page.
 fn list_each(slot: &[u8], geometry: &Geometry, control: &mut Control)
-    requires slot { length slot.now ≡ 64 * blocks_of_slot Two geometry.now }
+    requires slot { length slot.now ≡ 64 * blocks_of_slot VersionTwo geometry.now }
     requires geometry { control.old.p ≡ geometry.now }
     requires booting { IsBooting control.old }
     requires none { control.old.counts.lasts ≡ replicate geometry.now.pages 0 }
-    requires fits { count_fault Two geometry.now (blocks_of slot.now) ≡ None }
-    ensures { HasCounts Two geometry.now (blocks_of slot.now) control.old control.new }
+    requires fits { count_fault VersionTwo geometry.now (blocks_of slot.now) ≡ None }
+    ensures { HasCounts VersionTwo geometry.now (blocks_of slot.now) control.old control.new }
 {
     let pages = geometry.numbers().pages;
     for page in 0..pages {

@@ -7,7 +7,7 @@ ghost use Rattle.thy_boot.specs.Loads.{Takes};
 ghost use Rattle.thy_recover.specs.Filling.{page_place, with_filled, filling_dual};
 ghost use Rattle.thy_view.specs.Action.{ReadAt};
 
-use thy_base::{Block, Nvm, NvmError};
+use thy_base::{Block, Nvm, NvmError, PAGE_BLOCKS};
 use thy_control::Control;
 
 /// Copies the block of a position from the alternate page into the frame. If the read failed, the controller is as before.
@@ -25,5 +25,5 @@ pub fn fill<N: Nvm>(
     ensures nvm { Takes (ReadAt (page_place control.old k)) result (N.device nvm.old) (N.device nvm.new) }
 {
     let _commit = commit;
-    control.frame_block((k / 64) as usize, k % 64, nvm)
+    control.frame_block((k / PAGE_BLOCKS) as usize, k % PAGE_BLOCKS, nvm)
 }

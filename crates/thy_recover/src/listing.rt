@@ -4,7 +4,7 @@ ghost use Rattle.thy_base.specs.Device.{block_at};
 ghost use Rattle.thy_base.specs.Places.{record_blocks, table_blocks, blocks_of_slot, slot_blocks};
 ghost use Rattle.thy_boot.specs.Boot.{slot_bytes};
 ghost use Rattle.thy_boot.specs.Filling.{ListsOn};
-ghost use Rattle.thy_record.specs.Commit.{epoch_of, form_of as form_named};
+ghost use Rattle.thy_record.specs.Commit.{epoch_of, version_of as version_named};
 ghost use Rattle.thy_record.specs.Cpu.{cpu_of_record};
 ghost use Rattle.thy_record.specs.Files.{blocks_of};
 ghost use Rattle.thy_record.specs.Slots.{tables_in, slot_fault as fault_of_slot};
@@ -15,11 +15,11 @@ ghost use Rattle.thy_recover.specs.Filling.{IsEmpty, next_position, filling_dual
 ghost use Rattle.thy_recover.specs.Listed.{ListsUpTo, AsListed};
 
 use crate::counts::list_counts;
-use thy_base::{BLOCK_SIZE, Block, Geometry, word};
+use thy_base::{BLOCK_SIZE, Block, Geometry, PAGE_BLOCKS, word};
 use thy_control::{Control, tables_allow_listing};
 use thy_isa::CpuState;
 use thy_record::{
-    BadImage, block_in, cpu_in, faultless_tables, form_of, listed_block, listed_page, slot_fault,
+    BadImage, block_in, cpu_in, faultless_tables, version_of, listed_block, listed_page, slot_fault,
 };
 
 /// Epochs and counts of a run's own images are below this.
@@ -28,10 +28,10 @@ pub const CEILING: u64 = 9_223_372_036_854_775_808;
 /// The blocks of a slot in its room: as many as the version has that the commit block names.
 fn slot_of<'a>(geometry: &Geometry, commit: &Block, room: &'a [u8]) -> &'a [u8]
     requires { length room.now ≡ 64 * slot_blocks geometry.now }
-    ensures length { length result.now ≡ 64 * blocks_of_slot (form_named commit.now) geometry.now }
+    ensures length { length result.now ≡ 64 * blocks_of_slot (version_named commit.now) geometry.now }
     ensures blocks { blocks_of result.now ≡ slot_bytes filling_dual geometry.now commit.now room.now }
 {
-    let size = BLOCK_SIZE * geometry.slot_blocks_of(form_of(commit)) as usize;
+    let size = BLOCK_SIZE * geometry.slot_blocks_of(version_of(commit)) as usize;
     &room[..size]
 }
 
@@ -39,10 +39,10 @@ fn slot_of<'a>(geometry: &Geometry, commit: &Block, room: &'a [u8]) -> &'a [u8]
 pub fn fault_of_slot(geometry: &Geometry, commit: &Block, slot: &[u8]) -> Option<BadImage>
     requires { length slot.now ≡ 64 * slot_blocks geometry.now }
     ensures { let blocks = slot_bytes filling_dual geometry.now commit.now slot.now in
-        result ≡ fault_of_slot (form_named commit.now) geometry.now ceiling (epoch_of commit.now) blocks }
+        result ≡ fault_of_slot (version_named commit.now) geometry.now ceiling (epoch_of commit.now) blocks }
 {
     let blocks = slot_of(geometry, commit, slot);
-    slot_fault(blocks, form_of(commit), word(commit, 1), geometry, CEILING)
+    slot_fault(blocks, version_of(commit), word(commit, 1), geometry, CEILING)
 }
 
 /// The processor of a slot.
@@ -73,8 +73,8 @@ pub fn next_fill(geometry: &Geometry, commit: &Block, slot: &[u8], from: u64) ->
 {
     let _numbers = geometry.numbers();
     let blocks = slot_of(geometry, commit, slot);
-    match next_listed(blocks, (from / 64) as usize, geometry) {
-        Some(entry) => Some(from.max(64 * entry as u64)),
+    match next_listed(blocks, (from / PAGE_BLOCKS) as usize, geometry) {
+        Some(entry) => Some(from.max(PAGE_BLOCKS * entry as u64)),
         None => None,
     }
 }
@@ -85,13 +85,13 @@ pub fn list_slot(geometry: &Geometry, commit: &Block, slot: &[u8], control: &mut
     requires geometry { control.old.p ≡ geometry.now }
     requires fresh { IsEmpty control.old }
     requires fits { let blocks = slot_bytes filling_dual geometry.now commit.now slot.now in
-        fault_of_slot (form_named commit.now) geometry.now ceiling (epoch_of commit.now) blocks ≡ None }
+        fault_of_slot (version_named commit.now) geometry.now ceiling (epoch_of commit.now) blocks ≡ None }
     ensures { ListsOn filling_dual commit.now (slot_bytes filling_dual geometry.now commit.now slot.now) control.old control.new }
 {
     faultless_tables();
     let blocks = slot_of(geometry, commit, slot);
     list_all(blocks, geometry, control);
-    list_counts(blocks, form_of(commit), geometry, control);
+    list_counts(blocks, version_of(commit), geometry, control);
     control.tables();
 }
 

@@ -7,7 +7,7 @@ ghost use Rattle.thy_isa.specs.Step.{state_of, cpu_of};
 ghost use Rattle.thy_recover.specs.Filling.{CanStart, first_of_start};
 ghost use Rattle.thy_recover.specs.Start.{IsStartFor, start_block, start_slot};
 
-use thy_base::{Block, Geometry, block_with};
+use thy_base::{BLOCK_SIZE, Block, Geometry, block_with};
 use thy_isa::{CpuState, MachState};
 use thy_record::cpu_block;
 
@@ -38,7 +38,7 @@ fn start_block(geometry: &Geometry, state: &MachState, b: u64) -> Block
     ensures { result ≡ start_block geometry.now (state_of state.now) b }
 {
     let size = geometry.program_size();
-    let from = 64 * b;
+    let from = BLOCK_SIZE as u64 * b;
     if from < size {
         whole_block(state.memory.as_slice(), from as usize)
     } else {
@@ -50,8 +50,8 @@ fn whole_block(bytes: &[u8], from: usize) -> Block
     requires { from + 64 ≤ length bytes.now }
     ensures { result.0 ≡ take 64 (drop from bytes.now) }
 {
-    let mut block = [0; 64];
-    block.copy_from_slice(&bytes[from..from + 64]);
+    let mut block = [0; BLOCK_SIZE];
+    block.copy_from_slice(&bytes[from..from + BLOCK_SIZE]);
     Block(block)
 }
 
@@ -59,8 +59,8 @@ fn whole_block(bytes: &[u8], from: usize) -> Block
 fn part_block(bytes: &[u8], from: usize) -> Block
     ensures { result.0 ≡ take 64 (drop from bytes.now ++ replicate 64 0) }
 {
-    let mut block = [0; 64];
-    let count = bytes.len().saturating_sub(from).min(64);
+    let mut block = [0; BLOCK_SIZE];
+    let count = bytes.len().saturating_sub(from).min(BLOCK_SIZE);
     if count > 0 {
         fill(&mut block, bytes, from, count);
     }

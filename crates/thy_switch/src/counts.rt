@@ -7,7 +7,7 @@ ghost use Rattle.thy_switch.specs.LastBlocks.{last_block_of};
 
 use std::alloc::{AllocError, Global};
 use std::marker::Model;
-use thy_base::Block;
+use thy_base::{BLOCK_COUNTS, Block};
 
 /// The greatest count of a page.
 pub const MOST: u8 = 63;
@@ -132,8 +132,8 @@ impl Counts {
         ensures { result ≡ last_block_of self.now.lasts k }
     {
         let pages = self.pages() as usize;
-        let from = 64 * k as usize;
-        let count = (pages - from).min(64);
+        let from = (BLOCK_COUNTS * k) as usize;
+        let count = (pages - from).min(BLOCK_COUNTS as usize);
         over_zeros(&self.lasts[from..from + count])
     }
 }

@@ -9,7 +9,7 @@ mod block_entry;
 mod page_entry;
 
 pub use block_entry::{BttEntry, Pending, Version, Working};
-pub use page_entry::{PAGE_BLOCKS, PttEntry, Site};
+pub use page_entry::{PttEntry, Site, WHOLE_PAGE};
 use thy_table::Table;
 
 /// The block translation table.

@@ -2,10 +2,11 @@
 ghost use Rattle.std.specs.Prelude.{◌≡◌};
 ghost use Rattle.thy_tables.specs.PageEntry.{other_site, no_page, promoted_page, listed_page, is_framed};
 
+use thy_base::PAGE_BLOCKS;
 use thy_table::Keyed;
 
-/// How many blocks a page has.
-pub const PAGE_BLOCKS: u8 = 64;
+/// What `filled` and `issued` of an entry are once all blocks of its page are.
+pub const WHOLE_PAGE: u8 = PAGE_BLOCKS as u8;
 
 /// Where a checkpoint has the page of an entry.
 #[derive(Clone, Copy, Debug, PartialEq, Eq)]
@@ -88,7 +89,7 @@ impl PttEntry {
         PttEntry {
             place: Site::AtAlternate,
             target: Site::AtAlternate,
-            filled: PAGE_BLOCKS,
+            filled: WHOLE_PAGE,
             ..PttEntry::new(page)
         }
     }
@@ -97,7 +98,7 @@ impl PttEntry {
     pub fn is_framed(&self) -> bool
         ensures { result ≡ is_framed self.now }
     {
-        self.filled == PAGE_BLOCKS
+        self.filled == WHOLE_PAGE
     }
 }
 

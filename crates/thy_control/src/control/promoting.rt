@@ -10,10 +10,10 @@ use super::Control;
 use super::moving::move_to_dram;
 use crate::cursors::goes_on;
 use crate::overlay::WorkCounts;
-use thy_base::{Nvm, NvmError};
+use thy_base::{Nvm, NvmError, PAGE_BLOCKS};
 use thy_cell::{a_promotion_keeps_others, a_promotion_keeps_versions};
 use thy_table::Test;
-use thy_tables::{PAGE_BLOCKS, PttEntry};
+use thy_tables::PttEntry;
 
 /// A page is being promoted.
 #[derive(Drop)]
@@ -35,7 +35,7 @@ fn block_to_fill(entry: Option<PttEntry>) -> u64
     ensures { result ≡ block_after (λ e. e.filled) entry }
 {
     match entry {
-        Some(entry) => PAGE_BLOCKS as u64 * entry.page + entry.filled as u64,
+        Some(entry) => PAGE_BLOCKS * entry.page + entry.filled as u64,
         None => 0,
     }
 }

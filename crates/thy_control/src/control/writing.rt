@@ -6,10 +6,10 @@ ghost use Rattle.thy_control.specs.Pages.{page_in, block_after};
 use super::Control;
 use super::moving::move_block;
 use crate::cursors::goes_on;
-use thy_base::{Nvm, NvmError};
+use thy_base::{Nvm, NvmError, PAGE_BLOCKS};
 use thy_cell::{a_page_write_keeps_others, a_page_write_keeps_versions};
 use thy_table::Test;
-use thy_tables::{PAGE_BLOCKS, PttEntry};
+use thy_tables::{PttEntry, WHOLE_PAGE};
 
 /// A page's blocks are not all issued.
 #[derive(Drop)]
@@ -21,7 +21,7 @@ impl Test<PttEntry> for NeedsWrite {
     ghost holds = { λ test e. needs_write e };
 
     fn test(&self, entry: &PttEntry) -> bool {
-        entry.busy && entry.issued < PAGE_BLOCKS
+        entry.busy && entry.issued < WHOLE_PAGE
     }
 }
 
@@ -31,7 +31,7 @@ fn block_to_write(entry: Option<PttEntry>) -> u64
     ensures { result ≡ block_after (λ e. e.issued) entry }
 {
     match entry {
-        Some(entry) => PAGE_BLOCKS as u64 * entry.page + entry.issued as u64,
+        Some(entry) => PAGE_BLOCKS * entry.page + entry.issued as u64,
         None => 0,
     }
 }

@@ -2,7 +2,7 @@ use Rattle.std.proofs.Common.{◌≡◌, ◌≤◌, ◌∙◌, ℕ, Bool, List, 
 use Rattle.thy_base.specs.declared.block.Block.{Block}
 use Rattle.thy_base.specs.declared.config.Parameters.{Parameters}
 use Rattle.thy_base.specs.Device.{block_at}
-use Rattle.thy_record.specs.Commit.{epoch_of, form_of, commit_fault}
+use Rattle.thy_record.specs.Commit.{epoch_of, version_of, commit_fault}
 use Rattle.thy_record.specs.Header.{header_fault}
 use Rattle.thy_record.specs.Files.{block_in, blocks_of, is_long_file}
 use Rattle.thy_record.specs.Slots.{slot_fault}
@@ -48,6 +48,6 @@ returns c =
     ∙ ap (λ h. commit_fault h c.args.commit.now c.args.ceiling) (first_block c.args.image.now c.block_in-header.result c.requires.some c.block_in-header.ensures)
     ∙ ap (λ b. commit_fault (block_at (blocks_of c.args.image.now) 0) b c.args.ceiling) c.requires.commit)
     (c.slot_fault.ensures
-    ∙ ap (λ f. slot_fault f c.args.geometry.now c.args.ceiling c.word.result (blocks_of c.slot_in-slot.result.now)) (c.form_of.ensures ∙ ap form_of c.requires.commit)
-    ∙ ap (λ e. slot_fault (form_of (block_at (blocks_of c.args.image.now) 1)) c.args.geometry.now c.args.ceiling e (blocks_of c.slot_in-slot.result.now)) (c.word.ensures ∙ ap epoch_of c.requires.commit)
-    ∙ ap (slot_fault (form_of (block_at (blocks_of c.args.image.now) 1)) c.args.geometry.now c.args.ceiling (epoch_of (block_at (blocks_of c.args.image.now) 1))) c.slot_in-slot.ensures.slot)
+    ∙ ap (λ f. slot_fault f c.args.geometry.now c.args.ceiling c.word.result (blocks_of c.slot_in-slot.result.now)) (c.version_of.ensures ∙ ap version_of c.requires.commit)
+    ∙ ap (λ e. slot_fault (version_of (block_at (blocks_of c.args.image.now) 1)) c.args.geometry.now c.args.ceiling e (blocks_of c.slot_in-slot.result.now)) (c.word.ensures ∙ ap epoch_of c.requires.commit)
+    ∙ ap (slot_fault (version_of (block_at (blocks_of c.args.image.now) 1)) c.args.geometry.now c.args.ceiling (epoch_of (block_at (blocks_of c.args.image.now) 1))) c.slot_in-slot.ensures.slot)

@@ -1,13 +1,13 @@
 use Rattle.std.proofs.Common.{◌≡◌, ◌*◌, ◌%◌, ◌∙◌, ap, arith}
 use Rattle.thy_base.specs.Places.{blocks_of_slot, place_of_slot}
-use Rattle.thy_record.specs.Commit.{form_of}
+use Rattle.thy_record.specs.Commit.{version_of}
 use Rattle.thy_record.proofs.FileLemmas.{slot-slice}
 use Rattle.thy_record.proofs.file.slot_in.Goals as goal
 
 pub returns-clause-slot : goal.returns-clause-slot
 returns-clause-slot c =
-    let count : c.slot_blocks_of.result ≡ blocks_of_slot (form_of c.args.commit.now) c.args.geometry.now
-    = c.slot_blocks_of.ensures.blocks ∙ ap (λ f. blocks_of_slot f c.args.geometry.now) c.form_of-form.ensures in
+    let count : c.slot_blocks_of.result ≡ blocks_of_slot (version_of c.args.commit.now) c.args.geometry.now
+    = c.slot_blocks_of.ensures.blocks ∙ ap (λ f. blocks_of_slot f c.args.geometry.now) c.version_of-version.ensures in
     slot-slice c.args.geometry.now c.args.image.now _ _ c.word.result c.args.commit.now c.requires.long c.requires.commit c.word.ensures
     (omega (arith, count))
-    (ap (λ x. 64 * x) (c.slot_of.ensures.place ∙ ap (λ f. place_of_slot f c.args.geometry.now (c.word.result % 2)) c.form_of-form.ensures))
+    (ap (λ x. 64 * x) (c.slot_of.ensures.place ∙ ap (λ f. place_of_slot f c.args.geometry.now (c.word.result % 2)) c.version_of-version.ensures))

@@ -15,16 +15,16 @@ same_tables p t btt ptt a b = ap (λ x. tables_fault p (record { btt = x; ptt = 
 
 pub returns-then-word_in-epoch : goal.returns-then-word_in-epoch
 returns-then-word_in-epoch c =
-    slot_epoch c.args.form c.args.geometry.now c.args.ceiling c.args.epoch (blocks_of c.args.slot.now) c.word_in.result c.word_in.ensures c.if-word_in-epoch.true
+    slot_epoch c.args.version c.args.geometry.now c.args.ceiling c.args.epoch (blocks_of c.args.slot.now) c.word_in.result c.word_in.ensures c.if-word_in-epoch.true
 
 pub returns-in-Some : goal.returns-in-Some
 returns-in-Some c =
-    slot_tables c.args.form c.args.geometry.now c.args.ceiling c.args.epoch (blocks_of c.args.slot.now) c.word_in.result c.in-Some.bad c.word_in.ensures c.if-word_in-epoch.false
+    slot_tables c.args.version c.args.geometry.now c.args.ceiling c.args.epoch (blocks_of c.args.slot.now) c.word_in.result c.in-Some.bad c.word_in.ensures c.if-word_in-epoch.false
     (c.in-Some.ensures ∙ same_tables c.args.geometry.now (tables_in c.args.geometry.now (blocks_of c.args.slot.now)) _ _ c.btt_in.ensures c.ptt_in.ensures)
 
 pub returns : goal.returns
 returns c =
-    slot_status c.args.form c.args.geometry.now c.args.ceiling c.args.epoch (blocks_of c.args.slot.now) c.word_in.result _ c.word_in.ensures c.if-word_in-epoch.false
+    slot_status c.args.version c.args.geometry.now c.args.ceiling c.args.epoch (blocks_of c.args.slot.now) c.word_in.result _ c.word_in.ensures c.if-word_in-epoch.false
     (c.in_default.ensures ∙ same_tables c.args.geometry.now (tables_in c.args.geometry.now (blocks_of c.args.slot.now)) _ _ c.btt_in.ensures c.ptt_in.ensures)
     (c.or.ensures
     ∙ ap (λ x. option_or x c.count_fault.result) c.status_fault.ensures

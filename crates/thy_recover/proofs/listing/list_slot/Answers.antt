@@ -1,9 +1,9 @@
 use Rattle.std.proofs.Common.{◌≡◌, List, replicate, None, sym, ◌∙◌, ap, subst}
 use Rattle.thy_base.specs.declared.block.Block.{Block}
 use Rattle.thy_base.specs.declared.config.Parameters.{Parameters}
-use Rattle.thy_base.specs.declared.form.Form.{Form}
+use Rattle.thy_base.specs.declared.layout_version.LayoutVersion.{LayoutVersion}
 use Rattle.thy_control.specs.State.{State}
-use Rattle.thy_record.specs.Commit.{epoch_of, form_of}
+use Rattle.thy_record.specs.Commit.{epoch_of, version_of}
 use Rattle.thy_record.specs.Files.{blocks_of}
 use Rattle.thy_record.specs.Slots.{count_fault, slot_fault}
 use Rattle.thy_view.specs.Safe.{ceiling}
@@ -16,10 +16,10 @@ use Rattle.thy_recover.proofs.listing.list_slot.Goals as goal
 pub list_all-requires-clause-tables : goal.list_all-requires-clause-tables
 list_all-requires-clause-tables c =
     let p : Parameters = c.args.geometry.now in
-    let form : Form = form_of c.args.commit.now in
-    let fits : slot_fault (form_of c.args.commit.now) p ceiling (epoch_of c.args.commit.now) (blocks_of c.slot_of-blocks.result.now) ≡ None
-    = ap (slot_fault (form_of c.args.commit.now) p ceiling (epoch_of c.args.commit.now)) c.slot_of-blocks.ensures.blocks ∙ c.requires.fits in
-    tables_fit c.faultless_tables.ensures form p ceiling (epoch_of c.args.commit.now) (blocks_of c.slot_of-blocks.result.now) fits
+    let version : LayoutVersion = version_of c.args.commit.now in
+    let fits : slot_fault (version_of c.args.commit.now) p ceiling (epoch_of c.args.commit.now) (blocks_of c.slot_of-blocks.result.now) ≡ None
+    = ap (slot_fault (version_of c.args.commit.now) p ceiling (epoch_of c.args.commit.now)) c.slot_of-blocks.ensures.blocks ∙ c.requires.fits in
+    tables_fit c.faultless_tables.ensures version p ceiling (epoch_of c.args.commit.now) (blocks_of c.slot_of-blocks.result.now) fits
 
 pub list_all-requires-clause-fresh : goal.list_all-requires-clause-fresh
 list_all-requires-clause-fresh c =
@@ -39,10 +39,10 @@ list_counts-requires-clause-none c =
 pub list_counts-requires-clause-fits : goal.list_counts-requires-clause-fits
 list_counts-requires-clause-fits c =
     let p : Parameters = c.args.geometry.now in
-    let fits : slot_fault (form_of c.args.commit.now) p ceiling (epoch_of c.args.commit.now) (blocks_of c.slot_of-blocks.result.now) ≡ None
-    = ap (slot_fault (form_of c.args.commit.now) p ceiling (epoch_of c.args.commit.now)) c.slot_of-blocks.ensures.blocks ∙ c.requires.fits in
-    ap (λ (f : Form). count_fault f p (blocks_of c.slot_of-blocks.result.now)) c.form_of.ensures
-    ∙ counts_fit (form_of c.args.commit.now) p ceiling (epoch_of c.args.commit.now) (blocks_of c.slot_of-blocks.result.now) fits
+    let fits : slot_fault (version_of c.args.commit.now) p ceiling (epoch_of c.args.commit.now) (blocks_of c.slot_of-blocks.result.now) ≡ None
+    = ap (slot_fault (version_of c.args.commit.now) p ceiling (epoch_of c.args.commit.now)) c.slot_of-blocks.ensures.blocks ∙ c.requires.fits in
+    ap (λ (f : LayoutVersion). count_fault f p (blocks_of c.slot_of-blocks.result.now)) c.version_of.ensures
+    ∙ counts_fit (version_of c.args.commit.now) p ceiling (epoch_of c.args.commit.now) (blocks_of c.slot_of-blocks.result.now) fits
 
 pub returns : goal.returns
 returns c =
@@ -51,5 +51,5 @@ returns c =
     c.slot_of-blocks.ensures.blocks
     (lists_on p c.args.commit.now (blocks_of c.slot_of-blocks.result.now) c.args.control.now c.list_all.new.control c.list_counts.new.control
     c.requires.geometry c.tables.ensures c.list_all.ensures
-    (subst (λ (f : Form). HasCounts f p (blocks_of c.slot_of-blocks.result.now) c.list_all.new.control c.list_counts.new.control)
-    c.form_of.ensures c.list_counts.ensures))
+    (subst (λ (f : LayoutVersion). HasCounts f p (blocks_of c.slot_of-blocks.result.now) c.list_all.new.control c.list_counts.new.control)
+    c.version_of.ensures c.list_counts.ensures))

@@ -1,5 +1,4 @@
-use Rattle.std.proofs.Common.{◌≡◌, length, sym, ◌∙◌, arith}
-use Rattle.thy_base.specs.Blocks.{block_bytes}
+use Rattle.std.proofs.Common.{◌≡◌, length, sym, arith}
 use Rattle.thy_base.proofs.BlockLemmas.{block_bytes-long}
 use Rattle.thy_base.proofs.block.Block.bytes.Goals as goal
 

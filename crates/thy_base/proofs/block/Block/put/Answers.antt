@@ -1,4 +1,4 @@
-use Rattle.std.proofs.Common.{◌≡◌, length, sym, ◌∙◌, arith}
+use Rattle.std.proofs.Common.{◌≡◌, length, sym, arith}
 use Rattle.thy_base.proofs.BlockLemmas.{overwritten-long}
 use Rattle.thy_base.proofs.block.Block.put.Goals as goal
 
