@@ -12,5 +12,4 @@ pub mod BootDrainLemmas
 pub mod ActLemmas
 pub mod TakesLemmas
 pub mod StartLemmas
-pub mod RecordLemmas
 pub mod BlockLemmas

@@ -11,6 +11,9 @@ use thy_base::{Block, Geometry, Nvm, NvmError};
 use thy_isa::{CpuState, MachState};
 use thy_record::BadImage;
 
+/// Epochs and counts of instructions of a run's own images are below this.
+pub const CEILING: u64 = 9_223_372_036_854_775_808;
+
 /// A scheme's part of the boot: how its images are laid out, what a slot lists, what is filled from an image, and what a
 /// start makes of an empty NVM. The boot reads and writes; a scheme judges what was read, and makes what is written.
 pub trait Fills: Drop {

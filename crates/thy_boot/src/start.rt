@@ -5,7 +5,7 @@ ghost use Rattle.thy_isa.specs.Step.{state_of, cpu_of};
 ghost use Rattle.thy_boot.specs.Start.{IsStartFor, start_block};
 
 use thy_base::{BLOCK_SIZE, Block, Geometry};
-use thy_isa::{CpuState, MachState};
+use thy_isa::MachState;
 
 /// Block `b` of a start: its memory, and after that its console filled up with zeros.
 pub fn start_block(geometry: &Geometry, state: &MachState, b: u64) -> Block
@@ -49,20 +49,4 @@ fn fill(block: &mut [u8], bytes: &[u8], from: usize, count: usize)
     ensures { block.new ≡ take count (drop from bytes.now) ++ drop count block.old }
 {
     block[..count].copy_from_slice(&bytes[from..from + count]);
-}
-
-/// A state without its memory and its console's bytes.
-pub fn start_cpu(state: &MachState) -> CpuState
-    ensures { result ≡ cpu_of (state_of state.now) }
-{
-    CpuState {
-        pc: state.pc,
-        regs: state.regs,
-        console_len: state.console.len() as u64,
-        cursor: state.cursor,
-        brk: state.brk,
-        floor: state.floor,
-        count: state.count,
-        status: state.status,
-    }
 }

@@ -11,7 +11,7 @@ use crate::CheckpointStage;
 use std::marker::Model;
 use thy_base::{Block, Geometry, Nvm, NvmError};
 use thy_control::Control;
-use thy_isa::{CpuState, Regs, Status};
+use thy_isa::CpuState;
 use thy_record::{EngineStep, commit_block, cpu_block};
 
 /// The checkpoint engine. It takes one action on the NVM a cycle.
@@ -64,16 +64,7 @@ impl Engine {
         Engine {
             geometry: *geometry,
             next: CheckpointStage::Nothing,
-            cpu: CpuState {
-                pc: 0,
-                regs: Regs::new(),
-                console_len: 0,
-                cursor: 0,
-                brk: 0,
-                floor: 0,
-                count: 0,
-                status: Status::Running,
-            },
+            cpu: CpuState::zero(),
             epoch: 0,
         }
     }

@@ -26,7 +26,7 @@ use crate::overlay::WorkCounts;
 use crate::seal::{CommitBlocks, CommitPages, seal_blocks, seal_pages};
 use std::alloc::{AllocError, Global};
 use std::marker::Model;
-use thy_base::{Block, Geometry, Nvm, NvmError, Place, Stored, page_of};
+use thy_base::{Block, Geometry, Nvm, NvmError, PAGE_BLOCKS, Place, Stored, page_of};
 use thy_cell::{
     Cell, StoreRule, a_commit_keeps_entries_sound, a_commit_takes_the_last,
     a_listing_keeps_versions, a_seal_keeps_entries_sound, a_seal_leaves_no_work,
@@ -459,7 +459,7 @@ impl Control {
         set_cell(rule, &cell.after(rule), &mut self.btt, &mut self.ptt);
         self.btt.lists_once();
         self.ptt.lists_once();
-        count_store(rule, page_of(b), &mut self.counts);
+        count_store(rule, b / PAGE_BLOCKS, &mut self.counts);
         self.marks = self.marks.after(rule, &cell);
         self.cursors = self.cursors.lowered(rule, &cell);
         Ok(answer(rule))

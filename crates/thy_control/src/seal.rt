@@ -87,7 +87,12 @@ fn list_dense(ptt: &mut Ptt, counts: &Counts)
 {
     let pages = counts.pages();
     for k in 0..pages / BLOCK_COUNTS {
-        list_dense_of(ptt, BLOCK_COUNTS * k, BLOCK_COUNTS * k + BLOCK_COUNTS, counts);
+        list_dense_of(
+            ptt,
+            BLOCK_COUNTS * k,
+            BLOCK_COUNTS * k + BLOCK_COUNTS,
+            counts,
+        );
     }
     list_dense_of(ptt, pages / BLOCK_COUNTS * BLOCK_COUNTS, pages, counts);
 }

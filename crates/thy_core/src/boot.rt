@@ -46,7 +46,7 @@ fn boot_on<S>(m: &mut MachineParts<S>, start: &Start, step: BootStep) -> Did
     match step {
         BootStep::GoesOn => Did::Boot,
         BootStep::Loaded => {
-            run_from(m, &start_cpu(&start.state), 0);
+            run_from(m, &start.state.cpu(), 0);
             Did::Loaded
         }
         BootStep::Restarted(cpu, epoch) => {
@@ -87,21 +87,5 @@ fn phase_of(cpu: &CpuState) -> Phase
         Phase::Run
     } else {
         Phase::Halt
-    }
-}
-
-/// A state without its memory, and with the length of its console.
-fn start_cpu(state: &MachState) -> CpuState
-    ensures { result ≡ cpu_of (state_of state.now) }
-{
-    CpuState {
-        pc: state.pc,
-        regs: state.regs,
-        console_len: state.console.len() as u64,
-        cursor: state.cursor,
-        brk: state.brk,
-        floor: state.floor,
-        count: state.count,
-        status: state.status,
     }
 }

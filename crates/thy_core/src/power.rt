@@ -15,7 +15,7 @@ use thy_base::{Geometry, Mark};
 use thy_cache::Cache;
 use thy_dram::Dram;
 use thy_hart::Hart;
-use thy_isa::{CpuState, Regs, Status};
+use thy_isa::CpuState;
 use thy_scheme::{Scheme, SchemeStore};
 use thy_view::Phase;
 
@@ -33,7 +33,7 @@ pub(crate) fn power_on<S: Scheme>(
     let cache = Cache::new(alloc, numbers.sets, numbers.ways)?;
     let scheme = S::new(alloc, geometry, dram)?;
     Ok(MachineParts {
-        hart: Hart::new(&no_cpu(), 0, geometry),
+        hart: Hart::new(&CpuState::zero(), 0, geometry),
         cache,
         store: SchemeStore { scheme },
         phase: Phase::Boot,
@@ -49,20 +49,6 @@ pub(crate) fn power_on<S: Scheme>(
         idle: false,
         failed: false,
     })
-}
-
-/// A processor before the boot has found or loaded one.
-fn no_cpu() -> CpuState {
-    CpuState {
-        pc: 0,
-        regs: Regs::new(),
-        console_len: 0,
-        cursor: 0,
-        brk: 0,
-        floor: 0,
-        count: 0,
-        status: Status::Running,
-    }
 }
 
 /// Whether the boot is not over and has found no checkpoint.

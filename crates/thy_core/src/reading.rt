@@ -146,7 +146,11 @@ pub(crate) fn read_console<N: Nvm, S: Scheme>(
     let end = base + len;
     let size = BLOCK_SIZE as u64;
     let all = read_blocks(alloc, m, version, first / size, end.div_ceil(size), nvm)?;
-    let piece = part(all.as_slice(), (first % size) as usize, (len - from) as usize);
+    let piece = part(
+        all.as_slice(),
+        (first % size) as usize,
+        (len - from) as usize,
+    );
     let bytes = Vec::from_slice(alloc, piece)?;
     Ok(Bytes::from_vec(bytes))
 }

@@ -34,6 +34,7 @@ fn state_with(cpu: &CpuState, memory: Bytes, console: Bytes) -> MachState
         floor: cpu.floor,
         count: cpu.count,
         status: cpu.status,
+        other: cpu.other,
     }
 }
 

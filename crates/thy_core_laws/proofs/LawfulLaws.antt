@@ -13,8 +13,7 @@ use Rattle.thy_hart.specs.declared.hand.Hand.{Hand}
 use Rattle.thy_hart.specs.declared.hand.Hand.TheVariants.{Nothing, Reading, Reserving, Writing, Retiring}
 use Rattle.thy_hart.specs.HartState.{new_hart, blocks_of, reserved}
 use Rattle.thy_hart.specs.Moments.{Moment}
-use Rattle.thy_isa.specs.declared.state.CpuState.{CpuState}
-use Rattle.thy_isa.specs.declared.state.Status.TheVariants.{Running}
+use Rattle.thy_isa.specs.Step.{zero_cpu}
 use Rattle.thy_view.specs.declared.view.Phase.{Phase}
 use Rattle.thy_view.specs.declared.view.Phase.TheVariants.{Boot, Run, Halt}
 use Rattle.thy_view.specs.declared.view.View.{View}
@@ -38,14 +37,10 @@ use Rattle.thy_core_laws.proofs.MomentLaws.{sound-here, seen-alike, is_at-agrees
 use Rattle.thy_core_laws.proofs.RunLaws.{moment_is_safe, fresh_simulates, cut_simulates}
 use Rattle.thy_core_laws.proofs.WorkLaws.{number_behind}
 
--- a processor of zeros
-no_cpu : CpuState
-no_cpu = record { pc = 0; regs = replicate 32 0; console_len = 0; cursor = 0; brk = 0; floor = 0; count = 0; status = Running }
-
 -- a machine over a scheme, with nothing counted
 over_scheme : {S : Type 0} → Parameters → S → Machine S
 over_scheme p s = record {
-  hart = new_hart p no_cpu 0;
+  hart = new_hart p zero_cpu 0;
   cache = empty_cache p.sets p.ways;
   scheme = s;
   phase = Boot;

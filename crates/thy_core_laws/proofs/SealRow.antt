@@ -35,7 +35,8 @@ use Rattle.thy_core_laws.specs.Sound.{OpenNow, epochs_ahead, IsFresh, StartsFres
 use Rattle.thy_core_laws.proofs.CacheLemmas.{none_for_flush}
 use Rattle.thy_core_laws.proofs.EpochLemmas.{few-moves}
 use Rattle.thy_core_laws.proofs.KeepsLaws.{run_of, view_run, stands, runs_behind, none_for, simulates_by}
-use Rattle.thy_scheme.proofs.RecordLemmas.{at-storable, state-recordable, state-console}
+use Rattle.thy_scheme.proofs.RecordLemmas.{state-console}
+use Rattle.thy_view.proofs.StorableAt.{IsRecordable-at}
 use Rattle.thy_core_laws.proofs.SealingLaws.{IsOver, over_at, unsealed_at}
 
 -- ---- a hart whose next epoch begins is where it was
@@ -118,7 +119,6 @@ standing K o cycles m n cause at sealing whole clean over_is =
     let count = small.count in
     let epoch = small.epoch in
     let few = at.few in
-    let storable : IsStorable (program_size p) (at_count o cpu.count) = at-storable o cpu.count at.sound.origin in
     let below : cpu.count < ceiling = omega (arith, count, few) in
     let open_for : IsOpenForFlush m.cache (K.holding m.scheme n).open_page =
     subst (λ x. OpenNow x m.cache m.hart (K.holding m.scheme n).open_page) over_is s.held.opened in
@@ -135,7 +135,7 @@ standing K o cycles m n cause at sealing whole clean over_is =
         next = s.numbered.epoch ∙ ap (λ x. m.marks.done.epoch + epochs_ahead x) unsealed;
         of_epoch = refl;
         small = omega (arith, epoch, few);
-        recordable = state-recordable p cpu blocks (program_size p) (at_count o cpu.count) state storable room below;
+        recordable = IsRecordable-at o cpu.count cpu blocks at.sound.origin state room below;
         state = state;
         counted = s.counted.count;
       };

@@ -2,8 +2,8 @@
 ghost use Rattle.std.specs.Prelude.{◌≡◌, ◌<◌, ◌≤◌, false, length};
 ghost use Rattle.thy_base.specs.Device.{IsFramed};
 
-use crate::expect::expect_at;
-use crate::steps::{block_of, four_lines, step};
+use crate::support::expect::expect_at;
+use crate::support::steps::{block_of, four_lines, step};
 use std::alloc::Global;
 use std::process::Abort;
 use thy_base::{Block, Nvm};

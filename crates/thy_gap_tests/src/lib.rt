@@ -7,8 +7,6 @@
 #[cfg(test)]
 mod cuts;
 #[cfg(test)]
-mod expect;
-#[cfg(test)]
 mod lines;
 #[cfg(test)]
-mod steps;
+mod support;

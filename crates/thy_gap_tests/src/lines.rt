@@ -1,8 +1,8 @@
 //! The places of lines.
 ghost use Rattle.std.specs.Prelude.{◌≡◌, length};
 
-use crate::expect::{expect, expect_at};
-use crate::steps::{block_of, four_lines, step};
+use crate::support::expect::{expect, expect_at};
+use crate::support::steps::{block_of, four_lines, step};
 use std::alloc::Global;
 use std::process::Abort;
 use thy_base::{Block, Nvm, word};

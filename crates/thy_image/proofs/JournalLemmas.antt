@@ -6,11 +6,12 @@ use Rattle.std.proofs.lemmas.Bool.{ltb-true}
 use Rattle.std.proofs.lemmas.List.{length-map}
 use Rattle.thy_base.specs.declared.block.Block.{Block}
 use Rattle.thy_base.specs.declared.config.Parameters.{Parameters}
+use Rattle.thy_base.specs.declared.layout_version.LayoutVersion.TheVariants.{VersionTwo}
 use Rattle.thy_base.specs.Device.{zero_block, block_at}
 use Rattle.thy_base.specs.Words.{word_of}
 use Rattle.thy_isa.specs.Step.{State}
 use Rattle.thy_isa.specs.Storable.{IsByte}
-use Rattle.thy_record.specs.Commit.{epoch_of, has_zero_rest}
+use Rattle.thy_record.specs.Commit.{epoch_of, has_zero_rest, commit_magic}
 use Rattle.thy_record.specs.Decoded.{At}
 use Rattle.thy_record.specs.Files.{blocks_of}
 use Rattle.thy_record.specs.Slots.{epoch_fault, status_fault}
@@ -19,7 +20,7 @@ use Rattle.thy_record.proofs.ImageLemmas.{below_higher, commit_asks, commit_give
 use Rattle.thy_record.proofs.TableFaultLemmas.{neither, both_none}
 use Rattle.thy_protocol.specs.Layout.{Layout, blocks_at, slot_places, memory_places, slot_in, memory_in, is_sized, IsWhole}
 use Rattle.thy_protocol.proofs.LayoutLemmas.{decode_by-whole}
-use Rattle.thy_journal_image.specs.Commit.{commit_magic, commit_fault}
+use Rattle.thy_journal_image.specs.Commit.{commit_fault}
 use Rattle.thy_journal_image.specs.Files.{decode_file}
 use Rattle.thy_journal_image.specs.Header.{header_fault}
 use Rattle.thy_journal_image.specs.Layout.{journal_layouts, decode_journal}
@@ -36,8 +37,8 @@ use Rattle.thy_image.proofs.StateLemmas.{CanBegin-made}
 commit_higher : (b : Block) (low high : ℕ) → low ≤ high → commit_fault b low ≡ None → commit_fault b high ≡ None
 unfolding commit_fault
 commit_higher b low high most h =
-    let asks = commit_asks (word_of b 0 == commit_magic) (nat_lt (epoch_of b) low) (has_zero_rest b) h in
-    commit_gives (word_of b 0 == commit_magic) (nat_lt (epoch_of b) high) (has_zero_rest b) asks.0 (below_higher (epoch_of b) low high most asks.1) asks.2
+    let asks = commit_asks (word_of b 0 == commit_magic VersionTwo) (nat_lt (epoch_of b) low) (has_zero_rest b) h in
+    commit_gives (word_of b 0 == commit_magic VersionTwo) (nat_lt (epoch_of b) high) (has_zero_rest b) asks.0 (below_higher (epoch_of b) low high most asks.1) asks.2
 
 slot_higher : (p : Parameters) (slot : List Block) (epoch low high : ℕ) → low ≤ high → slot_fault p low epoch slot ≡ None → slot_fault p high epoch slot ≡ None
 unfolding slot_fault
@@ -90,7 +91,7 @@ module _ (p : Parameters) (ceiling : ℕ) (bytes : List ℕ) (epoch : ℕ) (s : 
       let slot = slot_in l g in
       let first = neither (epoch_fault (epoch_of (block_at g 1)) slot) (option_or (table_fault p (table_in p slot)) (status_fault p ceiling slot)) parts.2 in
       let status = neither (table_fault p (table_in p slot)) (status_fault p ceiling slot) first.1 in
-      let asks = commit_asks (word_of (block_at g 1) 0 == commit_magic) (nat_lt (epoch_of (block_at g 1)) ceiling) (has_zero_rest (block_at g 1)) parts.1 in
+      let asks = commit_asks (word_of (block_at g 1) 0 == commit_magic VersionTwo) (nat_lt (epoch_of (block_at g 1)) ceiling) (has_zero_rest (block_at g 1)) parts.1 in
       let of_bytes = AreOfBytes-blocks_of bytes are_bytes in
       let places : List ℕ = memory_places l (block_at g 1) slot in
       CanBegin-made p ceiling epoch slot (memory_in l g) s

@@ -91,12 +91,14 @@ IsStorable-made p ceiling slot memory words blocks all fits =
       brk = record_word-number slot 35 words;
       floor = record_word-number slot 39 words;
       status = IsStatus-of (record_word slot 36) (record_word slot 37) fits.status;
+      other = tt;
     }
 
--- its count and its console are small
+-- its count and its console are small, and there is one hart
 record IsSmallState (p : Parameters) (ceiling : ℕ) (s : State) : Type 0 where
   count : s.count < ceiling
   console : length s.console ≤ console_room p
+  alone : s.other ≡ None
 
 IsSmallState-made : (p : Parameters) (ceiling : ℕ) (slot memory : List Block) → FitsSlot p ceiling slot
     → IsSmallState p ceiling (state_from p (cpu_of_record slot) memory)
@@ -106,6 +108,7 @@ IsSmallState-made p ceiling slot memory fits =
     record {
       count = fits.count;
       console = omega (arith, length-take (record_word slot 34) rest, fits.console);
+      alone = refl;
     }
 
 -- such a state can be recorded
@@ -121,6 +124,7 @@ IsRecordable-small p ceiling s h small = record {
   floor = h.floor;
   count = small.count;
   status = is_status-of s.status h.status;
+  alone = small.alone;
 }
 
 -- a run can begin with the state of a slot without a fault

@@ -9,3 +9,4 @@ pub mod StorableLaws
 pub mod BlockLaws
 pub mod MoveLaws
 pub mod TrapLaws
+pub mod HartLaws

@@ -23,7 +23,7 @@ use Rattle.thy_isa.specs.Calls.{a0, a1, a2, a7, refusal, few, read_of, write_of,
 use Rattle.thy_isa.specs.Console.{IsGrown}
 use Rattle.thy_isa.specs.Effects.{size_of}
 use Rattle.thy_isa.specs.Step.{State, Setting, cpu_of, call_state_of, cause_number, fetch_fault, within, fetched, word_at, effect_at, read_by, call_at, memory_served, console_served, memory_by, console_by, answered, served, finished, performed, advanced, is_running, step, steps}
-use Rattle.thy_isa.specs.Storable.{IsNumber, IsByte, IsStatus, IsStorable, IsReadable}
+use Rattle.thy_isa.specs.Storable.{IsNumber, IsByte, IsStatus, IsOtherOf, IsStorable, IsReadable}
 use Rattle.thy_isa.specs.Access.{IsWithin}
 use Rattle.thy_isa.proofs.AccessLaws.{effect_at-within}
 use Rattle.thy_isa.proofs.CallLaws.{if_call, call_of-fit}
@@ -54,6 +54,7 @@ pub record IsCpu (c : CpuState) : Type 0 where
   pub brk : IsNumber c.brk
   pub floor : IsNumber c.floor
   pub status : IsStatus c.status
+  pub other : IsOtherOf c.other
 
 with_pc : (c : CpuState) (pc : ℕ) → IsCpu c → IsNumber pc → IsCpu (record c { pc = pc; count = c.count + 1 })
 with_pc c pc h p = record {
@@ -65,6 +66,7 @@ with_pc c pc h p = record {
   brk = h.brk;
   floor = h.floor;
   status = h.status;
+  other = h.other;
 }
 
 with_register : (c : CpuState) (pc rd v : ℕ) → IsCpu c → IsNumber pc → IsNumber v → IsCpu (record c { pc = pc; regs = regs_with c.regs rd v; count = c.count + 1 })
@@ -77,6 +79,7 @@ with_register c pc rd v h p q = record {
   brk = h.brk;
   floor = h.floor;
   status = h.status;
+  other = h.other;
 }
 
 with_status : (c : CpuState) (s : Status) → IsCpu c → IsStatus s → IsCpu (record c { count = c.count + 1; status = s })
@@ -89,6 +92,7 @@ with_status c s h p = record {
   brk = h.brk;
   floor = h.floor;
   status = p;
+  other = h.other;
 }
 
 -- a result is a number of 64 bits, an exit's value a byte, and so few bytes are moved
@@ -160,6 +164,7 @@ served-keeps c calls (Break at) a f p h =
       brk = p;
       floor = n.floor;
       status = n.status;
+      other = n.other;
     }
 served-keeps c calls (Take at len) a f p h =
     let n = answered-keeps c len h p in
@@ -172,6 +177,7 @@ served-keeps c calls (Take at len) a f p h =
       brk = n.brk;
       floor = n.floor;
       status = n.status;
+      other = n.other;
     }
 served-keeps c calls (Give at len) a f p h =
     let n = answered-keeps c len h p in
@@ -184,6 +190,7 @@ served-keeps c calls (Give at len) a f p h =
       brk = n.brk;
       floor = n.floor;
       status = n.status;
+      other = n.other;
     }
 
 cause_below : (c : Cause) → cause_number c < 8
@@ -398,6 +405,7 @@ cpu_from_storable size s h = record {
   brk = h.brk;
   floor = h.floor;
   status = h.status;
+  other = h.other;
 }
 
 advanced-storable : (g : Setting) (size : ℕ) (s : State) → IsReadable g → IsStorable size s → IsStorable size (advanced g s)
@@ -420,10 +428,11 @@ advanced-storable g size s r h =
       brk = c.brk;
       floor = c.floor;
       status = c.status;
+      other = c.other;
     }
 
 -- a fact of a state that took a step or stays
-if_state : (P : State → Type 0) (b : Bool) (s t : State) → P s → P t → P (if b then s else t)
+pub if_state : (P : State → Type 0) (b : Bool) (s t : State) → P s → P t → P (if b then s else t)
 if_state P true s t p q = p
 if_state P false s t p q = q
 

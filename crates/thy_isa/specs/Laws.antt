@@ -1,5 +1,5 @@
 -- What a step is, and what every step keeps.
-use Rattle.std.specs.Prelude.{◌≡◌, ◌≢◌, ℕ, ◌≤◌, true, List, length}
+use Rattle.std.specs.Prelude.{◌≡◌, ◌≢◌, ℕ, ◌≤◌, true, List, length, Option, None, is_some}
 use Rattle.thy_base.specs.declared.block.Block.{Block}
 use Rattle.thy_base.specs.declared.config.Parameters.{Parameters}
 use Rattle.thy_base.specs.Geometry.{IsInRange, memory_blocks, console_room}
@@ -8,7 +8,7 @@ use Rattle.thy_isa.specs.declared.state.Status.{Status}
 use Rattle.thy_isa.specs.declared.state.Status.TheVariants.{Trapped}
 use Rattle.thy_isa.specs.Console.{IsGrown}
 use Rattle.thy_isa.specs.OnBlocks.{setting_for, state_from, effect_in, bytes_in, cpu_after, blocks_after}
-use Rattle.thy_isa.specs.Step.{State, Setting, is_running, step}
+use Rattle.thy_isa.specs.Step.{State, Setting, is_running, step, crossed, cpu_crossed, step_of}
 use Rattle.thy_isa.specs.Storable.{IsStorable, IsReadable}
 
 -- the state after the instruction at the program counter, done over the blocks of memory
@@ -51,3 +51,27 @@ IsNotMisaligned status = (status ≢ Trapped 4) × (status ≢ Trapped 6)
 -- a load or a store may be misaligned: no step ends with such a trap
 abbrev pub MisalignedIsServed : Type 0
 MisalignedIsServed = (g : Setting) (s : State) → is_running s.status ≡ true → IsNotMisaligned (step g s).status
+
+-- ---- two harts
+
+-- what two changes of the hart in front leave is the state before
+abbrev pub CrossedTwice : Type 0
+CrossedTwice = (s : State) → crossed (crossed s) ≡ s
+
+-- a change of the hart in front of a processor is one of the state that it makes with any blocks
+abbrev pub BlocksCross : Type 0
+BlocksCross =
+    (p : Parameters) (cpu : CpuState) (blocks : List Block)
+    → state_from p (cpu_crossed cpu) blocks ≡ crossed (state_from p cpu blocks)
+
+-- no step adds a hart or takes one away
+abbrev pub KeepsHarts : Type 0
+KeepsHarts = (g : Setting) (hart : ℕ) (s : State) → is_some (step_of g hart s).other ≡ is_some s.other
+
+-- with one hart it does not matter which hart takes a step
+abbrev pub OneHartSteps : Type 0
+OneHartSteps = (g : Setting) (hart : ℕ) (s : State) → s.other ≡ None → step_of g hart s ≡ step g s
+
+-- a state that can be stored can be with the other hart in front
+abbrev pub CrossingKeepsStorable : Type 0
+CrossingKeepsStorable = (size : ℕ) (s : State) → IsStorable size s → IsStorable size (crossed s)

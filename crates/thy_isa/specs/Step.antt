@@ -1,6 +1,7 @@
 -- Part of the claim.
 -- One step of the plain machine, whose memory is one flat list of bytes, and k of them.
-use Rattle.std.specs.Prelude.{◌≡◌, ℕ, zero, suc, ◌+◌, ◌-◌, ◌%◌, ◌^◌, ◌<◌, ◌==◌, Bool, true, false, if◌then◌else◌, List, ◌++◌, take, drop, length, Option, Some, None}
+use Rattle.std.specs.Prelude.{◌≡◌, ℕ, zero, suc, ◌+◌, ◌-◌, ◌%◌, ◌^◌, ◌<◌, ◌==◌, Bool, true, false, if◌then◌else◌, List, ◌++◌, take, drop, length, replicate, Option, Some, None}
+use Rattle.std.specs.Option.{option_map}
 use Rattle.thy_base.specs.Bytes.{bytes_of, written}
 use Rattle.thy_base.specs.Inside.{is_inside}
 use Rattle.thy_base.specs.LittleEndian.{number_at, number_bytes}
@@ -15,6 +16,7 @@ use Rattle.thy_isa.specs.declared.state.Call.TheVariants.{Answer, Exit, Break, T
 use Rattle.thy_isa.specs.declared.state.CallState.{CallState}
 use Rattle.thy_isa.specs.declared.state.CpuState.{CpuState}
 use Rattle.thy_isa.specs.declared.state.MachState.{MachState}
+use Rattle.thy_isa.specs.declared.state.OtherHart.{OtherHart}
 use Rattle.thy_isa.specs.Regs.{regs_with}
 use Rattle.thy_isa.specs.Calls.{call_of}
 use Rattle.thy_isa.specs.Extending.{extended}
@@ -31,6 +33,8 @@ pub record State : Type 0 where
   pub floor : ℕ
   pub count : ℕ
   pub status : Status
+  -- the hart that is not in front, if there are two
+  pub other : Option OtherHart
 
 -- what stays the same over a run: the address of the first byte of program memory, the input, and how many
 -- bytes the console takes at most
@@ -51,6 +55,7 @@ state_of m = record {
   floor = m.floor;
   count = m.count;
   status = m.status;
+  other = m.other;
 }
 
 -- a state without its memory, and with the length of its console
@@ -64,6 +69,7 @@ cpu_of s = record {
   floor = s.floor;
   count = s.count;
   status = s.status;
+  other = s.other;
 }
 
 -- and with a memory and a console again
@@ -78,6 +84,21 @@ state_with c memory console = record {
   floor = c.floor;
   count = c.count;
   status = c.status;
+  other = c.other;
+}
+
+-- one hart at address 0, which runs, with every number 0
+abbrev pub zero_cpu : CpuState
+zero_cpu = record {
+  pc = 0;
+  regs = replicate 32 0;
+  console_len = 0;
+  cursor = 0;
+  brk = 0;
+  floor = 0;
+  count = 0;
+  status = Running;
+  other = None;
 }
 
 -- what an environment call is decided by
@@ -214,3 +235,43 @@ step g s = if is_running s.status then advanced g s else s
 unfoldable pub steps : Setting → ℕ → State → State
 steps g zero s = s
 steps g (suc k) s = step g (steps g k s)
+
+-- ---- two harts
+
+-- the program counter and the registers that come to the front: those of the other hart, if it is there
+abbrev pub pc_behind : Option OtherHart → ℕ → ℕ
+pc_behind None pc = pc
+pc_behind (Some o) pc = o.pc
+
+abbrev pub regs_behind : Option OtherHart → List ℕ → List ℕ
+regs_behind None regs = regs
+regs_behind (Some o) regs = o.regs
+
+-- the hart that was in front, with this program counter and these registers, behind the other one
+abbrev pub exchanged : ℕ → List ℕ → OtherHart → OtherHart
+exchanged pc regs o = record { pc = pc; regs = regs; front = o.back; back = o.front }
+
+-- the other hart in front: with one hart nothing changes
+abbrev pub crossed : State → State
+crossed s = record s {
+  pc = pc_behind s.other s.pc;
+  regs = regs_behind s.other s.regs;
+  other = option_map (exchanged s.pc s.regs) s.other;
+}
+
+-- the same of a state's rest
+abbrev pub cpu_crossed : CpuState → CpuState
+cpu_crossed c = record c {
+  pc = pc_behind c.other c.pc;
+  regs = regs_behind c.other c.regs;
+  other = option_map (exchanged c.pc c.regs) c.other;
+}
+
+-- this hart in front of a state that has hart 0 in front; and hart 0 again of one that has this hart in front
+abbrev pub fronted : ℕ → State → State
+fronted zero s = s
+fronted (suc hart) s = crossed s
+
+-- a step of a hart. With one hart every hart is that one
+unfoldable pub step_of : Setting → ℕ → State → State
+step_of g hart s = fronted hart (step g (fronted hart s))

@@ -1,9 +1,12 @@
 -- Part of the claim.
 -- What every state keeps that a machine can store: the number of registers, the ranges of numbers and bytes.
-use Rattle.std.specs.Prelude.{ℕ, ◌≡◌, ◌<◌, ◌^◌, length, slice_index}
+use Rattle.std.specs.Prelude.{ℕ, ◌≡◌, ◌<◌, ◌^◌, length, slice_index, Option, Some, None}
 use Rattle.std.specs.List.{All}
 use Rattle.thy_isa.specs.declared.state.Status.{Status}
 use Rattle.thy_isa.specs.declared.state.Status.TheVariants.{Running, Exited, Trapped}
+use Rattle.thy_isa.specs.declared.state.OtherHart.{OtherHart}
+use Rattle.thy_isa.specs.declared.state.Reservation.{Reservation}
+use Rattle.thy_isa.specs.declared.state.Reservation.TheVariants.{Nothing, Word, Double}
 use Rattle.thy_isa.specs.Step.{State, Setting}
 
 -- a number of 64 bits, and a byte
@@ -19,6 +22,26 @@ IsStatus Running = Unit {0}
 IsStatus (Exited v) = v < 256
 IsStatus (Trapped v) = v < 8
 
+-- an address is a number of 64 bits
+abbrev pub IsReservation : Reservation → Type 0
+IsReservation Nothing = Unit {0}
+IsReservation (Word at) = IsNumber at
+IsReservation (Double at) = IsNumber at
+
+-- what the hart that is not in front keeps
+pub record IsOther (o : OtherHart) : Type 0 where
+  pub pc : IsNumber o.pc
+  pub registers : length o.regs ≡ 32
+  pub numbers : All IsNumber o.regs
+  pub zero_register : slice_index o.regs 0 ≡ 0
+  pub front : IsReservation o.front
+  pub back : IsReservation o.back
+
+-- if it is there
+abbrev pub IsOtherOf : Option OtherHart → Type 0
+IsOtherOf None = Unit {0}
+IsOtherOf (Some o) = IsOther o
+
 -- a state whose program memory has that size. Its count is left out: that is what a step makes larger.
 pub record IsStorable (size : ℕ) (s : State) : Type 0 where
   pub pc : IsNumber s.pc
@@ -32,6 +55,7 @@ pub record IsStorable (size : ℕ) (s : State) : Type 0 where
   pub brk : IsNumber s.brk
   pub floor : IsNumber s.floor
   pub status : IsStatus s.status
+  pub other : IsOtherOf s.other
 
 -- an input is of bytes, as many as a number of 64 bits counts
 pub record IsReadable (g : Setting) : Type 0 where

@@ -1,5 +1,5 @@
 //! Laws, each the contract of a function that does nothing.
-ghost use Rattle.thy_isa.specs.Laws.{BlocksMakeTheStep, MisalignedIsServed, StepKeepsStorable, ConsoleGrows, ConsoleKeepsRoom, CursorStaysInside};
+ghost use Rattle.thy_isa.specs.Laws.{BlocksCross, BlocksMakeTheStep, ConsoleGrows, ConsoleKeepsRoom, CrossedTwice, CrossingKeepsStorable, CursorStaysInside, KeepsHarts, MisalignedIsServed, OneHartSteps, StepKeepsStorable};
 
 /// An instruction that is done over the blocks of memory is a step of the plain machine, whose memory is one flat list of
 /// bytes.
@@ -20,4 +20,18 @@ pub fn what_a_step_keeps()
 /// carried out is part of what a step is.
 pub fn misaligned_accesses_are_served()
     ensures { MisalignedIsServed }
+{}
+
+/// The other hart in front, and again the first one: nothing has changed. It is the same over blocks and over bytes, and
+/// a state that can be stored can be either way.
+pub fn crossing_changes_places()
+    ensures twice { CrossedTwice }
+    ensures blocks { BlocksCross }
+    ensures storable { CrossingKeepsStorable }
+{}
+
+/// No step adds a hart or takes one away; and with one hart a step of any hart is its step.
+pub fn what_a_step_of_a_hart_is()
+    ensures harts { KeepsHarts }
+    ensures alone { OneHartSteps }
 {}

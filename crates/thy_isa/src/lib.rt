@@ -25,9 +25,14 @@ pub use decoding::{decode, is_legal};
 pub use effects::{after, bytes_in, effect, word_effect};
 pub use environment::call;
 pub use instr::{Alu, Cond, Extend, Instr, Reg, Width};
-pub use laws::{blocks_make_the_step, misaligned_accesses_are_served, what_a_step_keeps};
+pub use laws::{
+    blocks_make_the_step, crossing_changes_places, misaligned_accesses_are_served,
+    what_a_step_keeps, what_a_step_of_a_hart_is,
+};
 pub use moving::{add_number, brought, moves, number_in};
 pub use numbers::{extended, number, word};
 pub use regs::Regs;
-pub use state::{Call, CallState, Cause, CpuState, Effect, MachState, Moves, Status};
+pub use state::{
+    Call, CallState, Cause, CpuState, Effect, MachState, Moves, OtherHart, Reservation, Status,
+};
 pub use step::{cause_number, fetch_fault, finish, finish_alone, within};

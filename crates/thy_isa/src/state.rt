@@ -1,5 +1,8 @@
 //! The state of the machine as a program sees it, and what one instruction does to it.
 
+ghost use Rattle.std.specs.Prelude.{◌≡◌};
+ghost use Rattle.thy_isa.specs.Step.{cpu_of, state_of, zero_cpu};
+
 use crate::instr::{Extend, Reg, Width};
 use crate::regs::Regs;
 use thy_base::Bytes;
@@ -30,6 +33,29 @@ pub enum Cause {
     StoreAccess,
 }
 
+/// What a hart has reserved: the bytes of its last load-reserved, by their width.
+#[derive(Clone, Copy, Debug, PartialEq, Eq)]
+pub enum Reservation {
+    Nothing,
+    /// The 4 bytes at this address.
+    Word(u64),
+    /// The 8 bytes at this address.
+    Double(u64),
+}
+
+/// The hart that is not in front, if there are two, with the reservations of both. The hart in front is the one that
+/// `MachState` and `CpuState` give a program counter and registers for: hart 0, but while hart 1 takes a step.
+#[derive(Clone, Copy, Debug, PartialEq, Eq)]
+pub struct OtherHart {
+    /// Its program counter, an address in bytes.
+    pub pc: u64,
+    pub regs: Regs,
+    /// The reservation of the hart in front.
+    pub front: Reservation,
+    /// Its own reservation.
+    pub back: Reservation,
+}
+
 /// All that a program sees: registers, memory and what the environment calls keep.
 #[derive(Debug, Drop)]
 pub struct MachState {
@@ -49,6 +75,8 @@ pub struct MachState {
     /// How many steps were taken, that of a trap or an exit included.
     pub count: u64,
     pub status: Status,
+    /// The other hart, if there are two.
+    pub other: Option<OtherHart>,
 }
 
 /// A `MachState` without its memory, and with the length of its console in place of the console.
@@ -63,6 +91,46 @@ pub struct CpuState {
     pub floor: u64,
     pub count: u64,
     pub status: Status,
+    /// The other hart, if there are two.
+    pub other: Option<OtherHart>,
+}
+
+impl MachState {
+    /// The state without its memory, and with the length of its console.
+    pub fn cpu(&self) -> CpuState
+        ensures { result ≡ cpu_of (state_of self.now) }
+    {
+        CpuState {
+            pc: self.pc,
+            regs: self.regs,
+            console_len: self.console.len() as u64,
+            cursor: self.cursor,
+            brk: self.brk,
+            floor: self.floor,
+            count: self.count,
+            status: self.status,
+            other: self.other,
+        }
+    }
+}
+
+impl CpuState {
+    /// One hart at address 0, which runs: every number is 0. It stands in for a processor where none is known yet.
+    pub fn zero() -> CpuState
+        ensures { result ≡ zero_cpu }
+    {
+        CpuState {
+            pc: 0,
+            regs: Regs::new(),
+            console_len: 0,
+            cursor: 0,
+            brk: 0,
+            floor: 0,
+            count: 0,
+            status: Status::Running,
+            other: None,
+        }
+    }
 }
 
 /// What an environment call depends on in addition to the registers.

@@ -1,17 +1,14 @@
 //! What the boot fills.
 use thy_base::{Block, Geometry, Nvm, NvmError, word};
-use thy_boot::{Fills, start_block};
+use thy_boot::{CEILING, Fills, start_block};
 use thy_isa::{CpuState, MachState};
 use thy_journal_image::{
-    commit_block, commit_fault as fault_of_commit, header_block, header_fault as fault_of_header,
-    home, slot as slot_number, slot_blocks as blocks_of_slot, slot_fault as fault_of_slot,
+    commit_fault as fault_of_commit, header_block, header_fault as fault_of_header, home,
+    slot as slot_number, slot_blocks as blocks_of_slot, slot_fault as fault_of_slot,
 };
 use thy_log::Log;
-use thy_record::{BadImage, cpu_in as cpu_of_slot};
+use thy_record::{BadImage, commit_block, cpu_in as cpu_of_slot};
 use thy_refill::{list_all, next_listed, start_slot_block};
-
-/// Epochs and counts of a run's own images are below this.
-const CEILING: u64 = 9_223_372_036_854_775_808;
 
 /// The journal's part of the boot: the log, whose buffers are filled from the journal of the slot that the commit block
 /// names.

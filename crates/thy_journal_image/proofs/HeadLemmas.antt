@@ -2,15 +2,15 @@
 use Rattle.std.proofs.Common.{◌≡◌, ℕ, ◌^◌, ◌<◌, ◌≤◌, Bool, true, false, ◌&&◌, nat_lt, slice_index, None, refl, sym, ◌∙◌, ap, subst, arith}
 use Rattle.std.proofs.lemmas.Bool.{eq-eqb, lt-ltb}
 use Rattle.thy_base.specs.declared.config.Parameters.{Parameters}
+use Rattle.thy_base.specs.declared.layout_version.LayoutVersion.TheVariants.{VersionTwo}
 use Rattle.thy_base.specs.Geometry.{IsInRange}
-use Rattle.thy_base.specs.LittleEndian.{number_bytes}
-use Rattle.thy_base.specs.Words.{word_of, block_of}
-use Rattle.thy_record.specs.Commit.{is_zero, epoch_of, has_zero_rest}
+use Rattle.thy_base.specs.Words.{word_of}
+use Rattle.thy_record.specs.Commit.{commit_magic, commit_of}
 use Rattle.thy_record.specs.Header.{header_magic}
 use Rattle.thy_base.proofs.WordLemmas.{word_of-block_of}
-use Rattle.thy_record.proofs.ReadBackLemmas.{taken, both, three}
+use Rattle.thy_record.proofs.ReadBackLemmas.{taken, both, three, commit_word, epoch_of-commit_of, has_zero_rest-commit_of, is_zero-commit_of}
 use Rattle.thy_journal_image.specs.Header.{scheme_number, header_words, header_of, is_of_geometry, header_fault}
-use Rattle.thy_journal_image.specs.Commit.{commit_magic, commit_words, commit_of, commit_fault}
+use Rattle.thy_journal_image.specs.Commit.{commit_fault}
 use Rattle.thy_journal_image.specs.CheckpointParts.{CommitIsBack}
 
 -- ---- the header
@@ -40,25 +40,6 @@ header_fault-header_of p r =
 
 -- ---- the commit block
 
-commit_word : (epoch i w : ℕ) → i < 8 → slice_index (commit_words epoch) i ≡ w → w < 2 ^ 64 → word_of (commit_of epoch) i ≡ w
-commit_word epoch i w l is fits = word_of-block_of (commit_words epoch) i l (subst (λ x. x < 2 ^ 64) (sym is) fits) ∙ is
-
--- the epoch reads back
-pub epoch_of-commit_of : (epoch : ℕ) → epoch < 2 ^ 64 → epoch_of (commit_of epoch) ≡ epoch
-epoch_of-commit_of epoch l = commit_word epoch 1 epoch (omega arith) refl l
-
-has_zero_rest-commit_of : (epoch : ℕ) → has_zero_rest (commit_of epoch) ≡ true
-has_zero_rest-commit_of epoch =
-    both _ _
-    (three _ _ _
-    (eq-eqb _ _ (commit_word epoch 2 0 (omega arith) refl (omega arith)))
-    (eq-eqb _ _ (commit_word epoch 3 0 (omega arith) refl (omega arith)))
-    (eq-eqb _ _ (commit_word epoch 4 0 (omega arith) refl (omega arith))))
-    (three _ _ _
-    (eq-eqb _ _ (commit_word epoch 5 0 (omega arith) refl (omega arith)))
-    (eq-eqb _ _ (commit_word epoch 6 0 (omega arith) refl (omega arith)))
-    (eq-eqb _ _ (commit_word epoch 7 0 (omega arith) refl (omega arith))))
-
 -- a commit block of an epoch below the ceiling has no fault
 pub commit_fault-commit_of : (epoch ceiling : ℕ) → epoch < ceiling → ceiling ≤ 2 ^ 64 → commit_fault (commit_of epoch) ceiling ≡ None
 unfolding commit_fault
@@ -66,14 +47,9 @@ commit_fault-commit_of epoch ceiling l most =
     taken _ _ _
     (both _ _
     (both _ _
-    (eq-eqb _ _ (commit_word epoch 0 commit_magic (omega arith) refl (omega arith)))
+    (eq-eqb _ _ (commit_word epoch 0 (commit_magic VersionTwo) (omega arith) refl (omega arith)))
     (ap (λ e. nat_lt e ceiling) (epoch_of-commit_of epoch (omega arith)) ∙ lt-ltb epoch ceiling l))
     (has_zero_rest-commit_of epoch))
-
--- a commit block isn't zero
-pub is_zero-commit_of : (epoch : ℕ) → is_zero (commit_of epoch) ≡ false
-unfolding is_zero block_of number_bytes
-is_zero-commit_of epoch = refl
 
 pub commit_back : (epoch ceiling : ℕ) → epoch < ceiling → ceiling ≤ 2 ^ 64 → CommitIsBack epoch ceiling
 commit_back epoch ceiling l most = record {

@@ -11,13 +11,14 @@ use Rattle.thy_base.specs.Geometry.{IsInRange, memory_blocks}
 use Rattle.thy_isa.specs.declared.state.CpuState.{CpuState}
 use Rattle.thy_isa.specs.OnBlocks.{state_from}
 use Rattle.thy_record.specs.declared.bad_image.BadImage.{BadImage}
-use Rattle.thy_record.specs.Commit.{epoch_of}
+use Rattle.thy_record.specs.Commit.{epoch_of, commit_of}
 use Rattle.thy_record.specs.Cpu.{IsRecordable, cpu_of_record}
 use Rattle.thy_record.specs.Decoded.{At}
 use Rattle.thy_record.specs.Tables.{Lists, entry_of}
 use Rattle.thy_record.proofs.EntryLemmas.{entry_of-Some, Lists-inside}
 use Rattle.thy_record.proofs.IssuingLemmas.{half}
 use Rattle.thy_record.proofs.TableFaultLemmas.{both_none}
+use Rattle.thy_record.proofs.ReadBackLemmas.{epoch_of-commit_of, is_zero-commit_of}
 use Rattle.thy_crash.specs.Saved.{next_image}
 use Rattle.thy_crash.proofs.SavedLemmas.{next_image-commit}
 use Rattle.thy_protocol.specs.Issuing.{slot_of, ArePlaced, ArePartsOf, IsCheckpoint}
@@ -25,11 +26,11 @@ use Rattle.thy_protocol.specs.Layout.{Layout}
 use Rattle.thy_protocol.proofs.IssuingLemmas.{slot_goes_on, issued_is_checkpoint}
 use Rattle.thy_journal_image.specs.Places.{slot_blocks, slot_place, first_home, image_blocks, place_by, place_of}
 use Rattle.thy_journal_image.specs.Header.{header_fault}
-use Rattle.thy_journal_image.specs.Commit.{commit_of, commit_fault}
+use Rattle.thy_journal_image.specs.Commit.{commit_fault}
 use Rattle.thy_journal_image.specs.Slots.{IsTable, slot_block_of, table_in, slot_fault}
 use Rattle.thy_journal_image.specs.Layout.{journal_layouts}
 use Rattle.thy_journal_image.specs.CheckpointParts.{ReadsBack, memory_places, parts_by, IsIssuing, IsIssuedCheckpoint}
-use Rattle.thy_journal_image.proofs.HeadLemmas.{epoch_of-commit_of, commit_fault-commit_of, is_zero-commit_of}
+use Rattle.thy_journal_image.proofs.HeadLemmas.{commit_fault-commit_of}
 use Rattle.thy_journal_image.proofs.SlotLemmas.{slot_reads_back}
 
 -- ---- the places of memory

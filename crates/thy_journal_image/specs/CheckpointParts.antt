@@ -9,14 +9,14 @@ use Rattle.thy_base.specs.Geometry.{IsInRange, memory_blocks}
 use Rattle.thy_crash.specs.Saved.{IsIssued, next_image}
 use Rattle.thy_isa.specs.declared.state.CpuState.{CpuState}
 use Rattle.thy_isa.specs.OnBlocks.{state_from}
-use Rattle.thy_record.specs.Commit.{is_zero, epoch_of}
+use Rattle.thy_record.specs.Commit.{is_zero, epoch_of, commit_of}
 use Rattle.thy_record.specs.Cpu.{IsRecordable, cpu_of_record}
 use Rattle.thy_record.specs.Decoded.{At}
 use Rattle.thy_protocol.specs.Issuing.{CheckpointParts, AreIssued}
 use Rattle.thy_protocol.specs.Layout.{decode_by, looked_by, slot_in}
 use Rattle.thy_journal_image.specs.Places.{slot_blocks, slot_place, image_blocks, place_of}
 use Rattle.thy_journal_image.specs.Header.{header_of, header_fault}
-use Rattle.thy_journal_image.specs.Commit.{commit_of, commit_fault}
+use Rattle.thy_journal_image.specs.Commit.{commit_fault}
 use Rattle.thy_journal_image.specs.Slots.{IsTable, slot_block_of, table_in, slot_fault}
 use Rattle.thy_journal_image.specs.Layout.{journal_layouts}
 

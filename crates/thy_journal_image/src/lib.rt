@@ -15,7 +15,7 @@ mod places;
 mod restored;
 mod slot_faults;
 
-pub use commit::{commit_block, commit_fault};
+pub use commit::commit_fault;
 pub use file::check;
 pub use header::{header_block, header_fault};
 pub use laws::{

@@ -10,7 +10,7 @@ use Rattle.thy_record.proofs.IssuingLemmas.{half}
 use Rattle.thy_record.proofs.ImageLemmas.{map-alike}
 use Rattle.thy_view.specs.Action.{after}
 use Rattle.thy_journal_image.specs.Places.{slot_blocks, slot_place, image_blocks, first_home, home_place, journal_place}
-use Rattle.thy_journal_image.specs.Commit.{commit_of}
+use Rattle.thy_record.specs.Commit.{commit_of}
 use Rattle.thy_journal_image.proofs.PartsLemmas.{slot_behind}
 use Rattle.thy_log.specs.declared.stage.JournalStage.{JournalStage}
 use Rattle.thy_log.specs.declared.stage.JournalStage.TheVariants.{Nothing, Journal, Slot, Settle, Commit, Confirm, Home}

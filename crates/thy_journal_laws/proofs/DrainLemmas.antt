@@ -18,7 +18,7 @@ use Rattle.thy_scheme.specs.CheckpointMarks.{CheckpointMarks}
 use Rattle.thy_journal_image.specs.Header.{header_fault}
 use Rattle.thy_journal_image.specs.Layout.{layout_of}
 use Rattle.thy_journal_image.specs.Places.{slot_blocks, home_place, journal_place, image_blocks}
-use Rattle.thy_journal_image.specs.Commit.{commit_of}
+use Rattle.thy_record.specs.Commit.{commit_of}
 use Rattle.thy_log.specs.declared.stage.JournalStage.{JournalStage}
 use Rattle.thy_log.specs.declared.stage.JournalStage.TheVariants.{Nothing, Journal, Slot, Settle, Commit, Confirm, Home}
 use Rattle.thy_log.specs.Holding.{works, homes}

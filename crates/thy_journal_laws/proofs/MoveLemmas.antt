@@ -19,7 +19,7 @@ use Rattle.thy_protocol.specs.Layout.{looked_by}
 use Rattle.thy_protocol.specs.Moves.{standing, Move, Goes, Readies, Commits, Confirms, LeavesAlone}
 use Rattle.thy_protocol.proofs.KeepsLemmas.{Spares-action, Spares-failed_action}
 use Rattle.thy_journal_image.specs.Places.{slot_blocks, slot_place, home_place, journal_place}
-use Rattle.thy_journal_image.specs.Commit.{commit_of}
+use Rattle.thy_record.specs.Commit.{commit_of}
 use Rattle.thy_journal_image.specs.Free.{Target, SlotBlock, JournalBlock, HomeBlock, target_place, IsTarget, IsFree}
 use Rattle.thy_journal_image.specs.Header.{header_fault}
 use Rattle.thy_journal_image.specs.Layout.{layout_of}

@@ -21,7 +21,7 @@ use Rattle.thy_scheme.specs.CheckpointMarks.{CheckpointMarks, only, marks_after}
 use Rattle.thy_journal_image.specs.Header.{header_fault}
 use Rattle.thy_journal_image.specs.Layout.{layout_of}
 use Rattle.thy_journal_image.specs.Places.{slot_blocks, slot_place, home_place, journal_place, image_blocks}
-use Rattle.thy_journal_image.specs.Commit.{commit_of}
+use Rattle.thy_record.specs.Commit.{commit_of}
 use Rattle.thy_log.specs.declared.entry.Listed.{Listed}
 use Rattle.thy_log.specs.declared.stage.JournalStage.{JournalStage}
 use Rattle.thy_log.specs.declared.stage.JournalStage.TheVariants.{Nothing, Journal, Slot, Settle, Commit, Confirm, Home}

@@ -17,7 +17,7 @@ use Rattle.thy_record.proofs.EntryLemmas.{entry_of-Some, Lists-inside}
 use Rattle.thy_record.proofs.IssuingLemmas.{half}
 use Rattle.thy_view.specs.Action.{after}
 use Rattle.thy_journal_image.specs.Places.{slot_blocks, slot_place, image_blocks, first_home, home_place, journal_place, place_by, place_of}
-use Rattle.thy_journal_image.specs.Commit.{commit_of}
+use Rattle.thy_record.specs.Commit.{commit_of}
 use Rattle.thy_journal_image.specs.Slots.{IsTable, slot_block_of}
 use Rattle.thy_journal_image.specs.CheckpointParts.{memory_places, IsIssuing}
 use Rattle.thy_journal_image.proofs.PartsLemmas.{slot_behind, slot_grows, ArePlaced-parts}

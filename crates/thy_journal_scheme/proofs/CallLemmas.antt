@@ -14,7 +14,7 @@ use Rattle.thy_scheme.specs.CheckpointMarks.{CheckpointMarks}
 use Rattle.thy_scheme.specs.Scheme.{Stands}
 use Rattle.thy_scheme.specs.Calls.{IsDue, engine_did, Keeps, Drains, Seals, Engines, EngineFails, OwesNoMore, OwesAfter}
 use Rattle.thy_journal_image.specs.Places.{slot_place, home_place, journal_place}
-use Rattle.thy_journal_image.specs.Commit.{commit_of}
+use Rattle.thy_record.specs.Commit.{commit_of}
 use Rattle.thy_log.specs.declared.stage.JournalStage.{JournalStage}
 use Rattle.thy_log.specs.declared.stage.JournalStage.TheVariants.{Nothing, Journal, Slot, Settle, Commit, Confirm, Home}
 use Rattle.thy_log.specs.Cycles.{cycles_left}

@@ -16,9 +16,10 @@ use Rattle.thy_crash.proofs.SavedLemmas.{left_of_saved}
 use Rattle.thy_isa.specs.declared.state.CpuState.{CpuState}
 use Rattle.thy_isa.specs.OnBlocks.{state_from}
 use Rattle.thy_isa.specs.Step.{State as Plain, cpu_of}
-use Rattle.thy_record.specs.Commit.{epoch_of}
+use Rattle.thy_record.specs.Commit.{epoch_of, commit_of}
 use Rattle.thy_record.specs.Cpu.{cpu_of_record}
 use Rattle.thy_record.proofs.ImageLemmas.{map-alike}
+use Rattle.thy_record.proofs.ReadBackLemmas.{epoch_of-commit_of}
 use Rattle.thy_table.specs.Listing.{Listing, entry_at, free_count}
 use Rattle.thy_table.proofs.IndexLemmas.{free_one}
 use Rattle.thy_view.specs.Origin.{Origin, IsOrigin, at}
@@ -39,11 +40,10 @@ use Rattle.thy_boot.proofs.StartLemmas.{state_from-start, CanStart-origin}
 use Rattle.thy_scheme.specs.CheckpointMarks.{only}
 use Rattle.thy_journal_image.specs.Places.{slot_blocks, slot_place, image_blocks}
 use Rattle.thy_journal_image.specs.Header.{header_of, header_fault}
-use Rattle.thy_journal_image.specs.Commit.{commit_of}
 use Rattle.thy_journal_image.specs.Slots.{IsTable, table_in, slot_block_of}
 use Rattle.thy_journal_image.specs.Layout.{journal_layouts, layout_of}
 use Rattle.thy_journal_image.specs.CheckpointParts.{IsToldBy, parts_by}
-use Rattle.thy_journal_image.proofs.HeadLemmas.{epoch_of-commit_of, header_fault-header_of}
+use Rattle.thy_journal_image.proofs.HeadLemmas.{header_fault-header_of}
 use Rattle.thy_journal_image.proofs.PartsLemmas.{back}
 use Rattle.thy_log.specs.declared.entry.Listed.{Listed}
 use Rattle.thy_log.specs.declared.stage.JournalStage.{JournalStage}

@@ -6,8 +6,7 @@ use Rattle.thy_base.specs.Device.{Device, zero_block}
 use Rattle.thy_base.specs.Geometry.{IsInRange, memory_blocks}
 use Rattle.thy_base.specs.Places.{dram_blocks}
 use Rattle.thy_dram.specs.Contents.{Contents, fresh}
-use Rattle.thy_isa.specs.declared.state.CpuState.{CpuState}
-use Rattle.thy_isa.specs.declared.state.Status.TheVariants.{Running}
+use Rattle.thy_isa.specs.Step.{zero_cpu}
 use Rattle.thy_table.specs.Listing.{Listing, IsListing, entry_at, lists, empty_table}
 use Rattle.thy_boot.specs.Boot.{new_boot}
 use Rattle.thy_scheme.specs.Laws.{IsLawful}
@@ -26,16 +25,13 @@ use Rattle.thy_journal_scheme.proofs.StayLemmas.{held_is_up, same-stays, on-stay
 
 -- ---- power can come on
 
-abbrev no_cpu : CpuState
-no_cpu = record { pc = 0; regs = replicate 32 0; console_len = 0; cursor = 0; brk = 0; floor = 0; count = 0; status = Running }
-
 abbrev no_dram : Parameters → Contents
 no_dram p = fresh (dram_blocks p) p.dramq
 
 abbrev first : Parameters → Value
 first p = record {
   log = new_state p (no_dram p);
-  engine = record { p = p; next = Nothing; cpu = no_cpu; epoch = 0 };
+  engine = record { p = p; next = Nothing; cpu = zero_cpu; epoch = 0 };
   storeless = true;
   sealed_storeless = false;
   boot = new_boot filling_journal p;

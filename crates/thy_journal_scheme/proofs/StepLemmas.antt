@@ -48,7 +48,7 @@ use Rattle.thy_boot.proofs.ActLemmas.{steps_act, found_stays, steps_fill, failur
 use Rattle.thy_boot.proofs.FoundLemmas.{restored_is_kept, never_refused}
 use Rattle.thy_boot.proofs.GoOnLemmas.{sound_may_step}
 use Rattle.thy_boot.proofs.MoveLemmas.{kept_after}
-use Rattle.thy_boot.proofs.RecordLemmas.{IsRecordable-at}
+use Rattle.thy_view.proofs.StorableAt.{IsRecordable-at}
 use Rattle.thy_boot.proofs.SafeLemmas.{failures_move, read_failed}
 use Rattle.thy_boot.proofs.StartLemmas.{CanStart-origin}
 use Rattle.thy_boot.proofs.StepMoveLemmas.{steps_move}

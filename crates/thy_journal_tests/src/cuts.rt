@@ -1,5 +1,5 @@
 //! Runs whose power is cut.
-use crate::calls::{Given, SMALL, expect_on, has, ran, shelf};
+use crate::support::calls::{Given, SMALL, expect_on, has, ran, shelf};
 use std::alloc::{AllocError, Global};
 use std::process::Abort;
 use std::test::Fail;

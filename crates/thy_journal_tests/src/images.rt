@@ -1,5 +1,5 @@
 //! Saved images of the journal, and refusals of them.
-use crate::calls::{called, expect_on, shelf};
+use crate::support::calls::{called, expect_on, shelf};
 use std::alloc::{AllocError, Global};
 use std::process::Abort;
 use std::test::Fail;

@@ -1,16 +1,14 @@
 //! Tests of whole runs with `--scheme journal`, by the program's call. They promise nothing that is proved; they show
 //! what no contract says: reports and cycles as the rules of the redo journal give them.
 //!
-//! Open src/calls.rt first. It depends on thy_cli, with what its call needs; nothing depends on it.
+//! Open src/support/calls.rt first. It depends on thy_cli, with what its call needs; nothing depends on it.
 #![tactic(auto)]
 
-#[cfg(test)]
-mod calls;
 #[cfg(test)]
 mod cuts;
 #[cfg(test)]
 mod images;
 #[cfg(test)]
-mod programs;
-#[cfg(test)]
 mod reports;
+#[cfg(test)]
+mod support;

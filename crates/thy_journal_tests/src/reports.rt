@@ -1,5 +1,5 @@
 //! Runs without power cuts.
-use crate::calls::{expect_on, ran, shelf};
+use crate::support::calls::{expect_on, ran, shelf};
 use std::test::Fail;
 
 /// Runs with the journal, with status, cycles and report. The hart waits for each checkpoint, so nothing overlaps. Each

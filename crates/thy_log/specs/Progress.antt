@@ -9,7 +9,7 @@ use Rattle.thy_isa.specs.declared.state.CpuState.{CpuState}
 use Rattle.thy_table.specs.Listing.{entry_at}
 use Rattle.thy_view.specs.Action.{Action, Rest, WriteAt, Barrier, after, FailsTo}
 use Rattle.thy_journal_image.specs.Places.{slot_blocks, slot_place, home_place, journal_place}
-use Rattle.thy_journal_image.specs.Commit.{commit_of}
+use Rattle.thy_record.specs.Commit.{commit_of}
 use Rattle.thy_journal_image.specs.Slots.{slot_block_of}
 use Rattle.thy_log.specs.declared.engine.Done.{Done}
 use Rattle.thy_log.specs.declared.entry.Listed.{Listed}

@@ -7,9 +7,9 @@ ghost use Rattle.thy_record.specs.declared.engine_step.EngineStep.TheVariants.{S
 use crate::{JournalStage, Log};
 use std::marker::Model;
 use thy_base::{Block, Geometry, Nvm, NvmError};
-use thy_isa::{CpuState, Regs, Status};
-use thy_journal_image::{commit_block, slot as slot_number, slot_blocks as blocks_of_slot};
-use thy_record::{EngineStep, cpu_block};
+use thy_isa::CpuState;
+use thy_journal_image::{slot as slot_number, slot_blocks as blocks_of_slot};
+use thy_record::{EngineStep, commit_block, cpu_block};
 
 /// The checkpoint engine. It takes one action on the NVM a cycle.
 #[derive(Drop)]
@@ -49,7 +49,7 @@ fn slot_step(geometry: &Geometry, k: u64) -> EngineStep
 }
 
 impl Engine {
-    ghost use Rattle.thy_journal_image.specs.Commit.{commit_of};
+    ghost use Rattle.thy_record.specs.Commit.{commit_of};
     ghost use Rattle.thy_journal_image.specs.Places.{slot_blocks};
     ghost use Rattle.thy_log.specs.Items.{SlotItem, SettleItem, CommitItem, ConfirmItem, HomeItem, ReleaseItem, JournalItem, is_under_way, is_applying, item, next_after, answer};
     ghost use Rattle.thy_log.specs.Progress.{begun, applying, Fits, IsSoundProgress, slot_block, block_listed, Ends, item_of, engine_next, state_next, action_next};
@@ -64,16 +64,7 @@ impl Engine {
         Engine {
             geometry: *geometry,
             next: JournalStage::Nothing,
-            cpu: CpuState {
-                pc: 0,
-                regs: Regs::new(),
-                console_len: 0,
-                cursor: 0,
-                brk: 0,
-                floor: 0,
-                count: 0,
-                status: Status::Running,
-            },
+            cpu: CpuState::zero(),
             epoch: 0,
         }
     }

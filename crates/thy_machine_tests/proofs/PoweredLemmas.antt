@@ -53,6 +53,7 @@ IsOrigin-start o contents range is storable readable fresh =
         floor = storable.floor;
         count = omega (arith, count);
         status = ap (λ s. is_status (status_tag s) (status_value s)) status;
+        alone = ap (λ (s : State). s.other) is;
       };
       memory = storable.memory_size;
       storable = storable;

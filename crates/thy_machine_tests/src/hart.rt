@@ -3,9 +3,9 @@ ghost use Rattle.std.specs.Prelude.{◌≡◌, ◌<◌, ◌≤◌, ◌*◌, ◌^
 ghost use Rattle.thy_base.specs.Geometry.{memory_blocks};
 ghost use Rattle.thy_hart.specs.Moments.{moment, IsReady};
 
-use crate::expect::{expect, expect_at};
-use crate::greet::GREET;
 use crate::plain::{smallest, start_with};
+use crate::support::expect::{expect, expect_at};
+use crate::support::greet::GREET;
 use std::alloc::Global;
 use std::process::Abort;
 use thy_base::{Block, BlockStore, EndCause, NvmError, Stored};
@@ -100,6 +100,7 @@ fn cpu_of(state: &MachState) -> CpuState {
         floor: state.floor,
         count: state.count,
         status: state.status,
+        other: state.other,
     }
 }
 

@@ -6,12 +6,6 @@
 #![tactic(auto)]
 
 #[cfg(test)]
-mod expect;
-#[cfg(test)]
-mod geometry;
-#[cfg(test)]
-mod greet;
-#[cfg(test)]
 mod hart;
 #[cfg(test)]
 mod machine;
@@ -19,3 +13,5 @@ mod machine;
 mod made;
 #[cfg(test)]
 mod plain;
+#[cfg(test)]
+mod support;

@@ -10,9 +10,9 @@ ghost use Rattle.thy_machine_tests.specs.Powered.{origin_from};
 mod journal;
 mod waiting;
 
-use crate::expect::{expect, expect_at};
-use crate::geometry::geometry_of;
 use crate::plain::{image_of, start_with};
+use crate::support::expect::{expect, expect_at};
+use crate::support::geometry::geometry_of;
 use std::alloc::Global;
 use std::marker::Model;
 use std::process::Abort;
@@ -403,6 +403,7 @@ fn cpu_of(state: &MachState) -> CpuState {
         floor: state.floor,
         count: state.count,
         status: state.status,
+        other: state.other,
     }
 }
 

@@ -3,8 +3,8 @@ ghost use Rattle.std.specs.Prelude.{◌≡◌, ◌+◌, ◌*◌, ◌≤◌, leng
 ghost use Rattle.thy_base.specs.Bytes.{bytes_of};
 ghost use Rattle.thy_base.specs.Geometry.{program_size};
 
-use crate::expect::{expect, expect_at};
-use crate::geometry::geometry_of;
+use crate::support::expect::{expect, expect_at};
+use crate::support::geometry::geometry_of;
 use std::alloc::Global;
 use std::process::Abort;
 use thy_base::{Bytes, Geometry, Lcg, Parameters, SchemeName};

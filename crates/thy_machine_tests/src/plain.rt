@@ -3,8 +3,8 @@ ghost use Rattle.std.specs.Prelude.{◌≡◌, ◌<◌, length};
 ghost use Rattle.thy_base.specs.Bytes.{bytes_of};
 ghost use Rattle.thy_base.specs.Geometry.{memory_blocks, program_size};
 
-use crate::expect::expect;
-use crate::geometry::geometry_of;
+use crate::support::expect::expect;
+use crate::support::geometry::geometry_of;
 use std::alloc::Global;
 use std::process::Abort;
 use thy_base::{Bytes, Geometry, Parameters, SchemeName};

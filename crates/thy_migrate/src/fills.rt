@@ -2,12 +2,12 @@
 ghost use Rattle.std.specs.Prelude.{◌≡◌, ◌+◌, ◌*◌, ◌<◌, true, length, None, OnOk, OnErr, slice_index_or};
 
 use thy_base::{Block, Geometry, Nvm, NvmError, PAGE_BLOCKS, word};
-use thy_boot::Fills;
+use thy_boot::{CEILING, Fills};
 use thy_control::Control;
 use thy_isa::{CpuState, MachState};
-use thy_record::{BadImage, commit_block, commit_fault, version_of, header_block, header_fault};
+use thy_record::{BadImage, commit_block, commit_fault, header_block, header_fault, version_of};
 use thy_recover::{
-    CEILING, cpu_of_slot, fault_of_slot, fill, first_memory, first_slot, list_slot, next_fill,
+    cpu_of_slot, fault_of_slot, fill, first_memory, first_slot, list_slot, next_fill,
 };
 
 /// What this scheme says of its images to the boot.

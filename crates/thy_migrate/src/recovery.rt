@@ -18,7 +18,7 @@ use crate::fills::DualFills;
 use crate::migration::Migration;
 use std::alloc::{AllocError, Global};
 use std::marker::Model;
-use thy_base::{Block, LayoutVersion, Geometry, Nvm, NvmError, word};
+use thy_base::{Block, Geometry, LayoutVersion, Nvm, NvmError, word};
 use thy_boot::{Boot, BootStep, End, Stage};
 use thy_control::Control;
 use thy_record::{Start, commit_block, version_of};

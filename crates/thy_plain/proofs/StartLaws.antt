@@ -40,4 +40,5 @@ start_state-storable p image top f = record {
   brk = f.floor;
   floor = f.floor;
   status = tt;
+  other = tt;
 }

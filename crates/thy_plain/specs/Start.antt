@@ -1,6 +1,6 @@
 -- Part of the claim.
 -- The state at which a program starts.
-use Rattle.std.specs.Prelude.{ℕ, List, [], replicate}
+use Rattle.std.specs.Prelude.{ℕ, List, [], replicate, None}
 use Rattle.thy_base.specs.declared.config.Parameters.{Parameters}
 use Rattle.thy_base.specs.Geometry.{stack_top}
 use Rattle.thy_elf.specs.Image.{Contents}
@@ -24,4 +24,5 @@ start_state p image = record {
   floor = image.floor;
   count = 0;
   status = Running;
+  other = None;
 }

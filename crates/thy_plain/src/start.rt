@@ -59,6 +59,7 @@ pub(crate) fn state_over(
         floor,
         count: 0,
         status: Status::Running,
+        other: None,
     }
 }
 

@@ -22,7 +22,7 @@ use Rattle.thy_record.specs.Tables.{Tables}
 use Rattle.thy_record.specs.TableBlocks.{entry_from}
 use Rattle.thy_record.proofs.CountLemmas.{no_position, fine_count}
 use Rattle.thy_record.proofs.CpuLemmas.{record_words-at, length-record_words}
-use Rattle.thy_record.proofs.ReadBackLemmas.{same_cpu}
+use Rattle.thy_record.proofs.ReadBackLemmas.{no_other, same_cpu}
 use Rattle.thy_record.proofs.SlotLemmas.{length-entries_in, entry_at-entries_in}
 use Rattle.thy_record.proofs.TableFaultLemmas.{neither, both_none}
 
@@ -66,9 +66,9 @@ module _ (p : Parameters) (old new : List Block) (h : IsWrittenAnew p old new) w
   cpu_same : cpu_of_record new ≡ cpu_of_record old
   unfolding cpu_of_record
   cpu_same =
-      same_cpu _ _ _ _ _ _ _ _ _ _ _ _ _ _ _ _ (word_same 0) (ap (λ ws. 0 ∷ ws) (words_same 1 31)) (word_same 34) (word_same 33) (word_same 35)
+      same_cpu _ _ _ _ _ _ _ _ _ _ _ _ _ _ _ _ _ _ (word_same 0) (ap (λ ws. 0 ∷ ws) (words_same 1 31)) (word_same 34) (word_same 33) (word_same 35)
       (word_same 39) (word_same 32)
-      (ap (λ t. status_of t (record_word new 37)) (word_same 36) ∙ ap (status_of (record_word old 36)) (word_same 37))
+      (ap (λ t. status_of t (record_word new 37)) (word_same 36) ∙ ap (status_of (record_word old 36)) (word_same 37)) (no_other new old)
 
   entries_same : (first n : ℕ) → entries_in new first n ≡ entries_in old first n
   entries_same first n =

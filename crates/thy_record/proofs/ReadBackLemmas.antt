@@ -1,5 +1,5 @@
 -- What is written reads back, and has no fault.
-use Rattle.std.proofs.Common.{◌≡◌, ℕ, zero, suc, ◌+◌, ◌-◌, ◌*◌, ◌/◌, ◌%◌, ◌^◌, ◌<◌, ◌≤◌, ◌==◌, ◌&&◌, ◌||◌, true, false, Bool, nat_lt, nat_le, if◌then◌else◌, List, ◌∷◌, take, drop, slice_index, Some, None, refl, sym, ◌∙◌, ap, subst, inl, inr, arith}
+use Rattle.std.proofs.Common.{◌≡◌, ℕ, zero, suc, ◌+◌, ◌-◌, ◌*◌, ◌/◌, ◌%◌, ◌^◌, ◌<◌, ◌≤◌, ◌==◌, ◌&&◌, ◌||◌, true, false, Bool, nat_lt, nat_le, if◌then◌else◌, List, ◌∷◌, take, drop, slice_index, Option, Some, None, refl, sym, ◌∙◌, ap, subst, inl, inr, arith}
 use Rattle.std.proofs.lemmas.Bool.{cases_lt, eq-eqb, lt-ltb, le-leb, leb-true}
 use Rattle.std.proofs.lemmas.List.{ext_get_or}
 use Rattle.thy_base.specs.declared.block.Block.{Block}
@@ -9,6 +9,7 @@ use Rattle.thy_base.specs.Device.{zero_block, block_at}
 use Rattle.thy_base.specs.LittleEndian.{number_bytes}
 use Rattle.thy_base.specs.Geometry.{console_room}
 use Rattle.thy_isa.specs.declared.state.CpuState.{CpuState}
+use Rattle.thy_isa.specs.declared.state.OtherHart.{OtherHart}
 use Rattle.thy_isa.specs.declared.state.Status.{Status}
 use Rattle.thy_isa.specs.declared.state.Status.TheVariants.{Running, Exited, Trapped}
 use Rattle.thy_record.specs.declared.bad_image.BadImage.TheVariants.{Commit, Status as BadStatus, ConsoleLength}
@@ -30,7 +31,8 @@ three a b c h k l = both (a && b) c (both a b h k) l
 
 -- ---- the commit block
 
-commit_word : (epoch i w : ℕ) → i < 8 → slice_index (commit_words epoch) i ≡ w → w < 2 ^ 64 → word_of (commit_of epoch) i ≡ w
+-- a word of the commit block
+pub commit_word : (epoch i w : ℕ) → i < 8 → slice_index (commit_words epoch) i ≡ w → w < 2 ^ 64 → word_of (commit_of epoch) i ≡ w
 commit_word epoch i w l is fits = word_of-block_of (commit_words epoch) i l (subst (λ x. x < 2 ^ 64) (sym is) fits) ∙ is
 
 -- the epoch reads back
@@ -48,7 +50,7 @@ is_named-commit_of header epoch =
     ap (λ t. t || (word_of (commit_of epoch) 0 == commit_magic VersionOne && word_of header 1 == 1))
     (eq-eqb _ _ (commit_word epoch 0 (commit_magic VersionTwo) (omega arith) refl (omega arith)))
 
-has_zero_rest-commit_of : (epoch : ℕ) → has_zero_rest (commit_of epoch) ≡ true
+pub has_zero_rest-commit_of : (epoch : ℕ) → has_zero_rest (commit_of epoch) ≡ true
 has_zero_rest-commit_of epoch =
     both _ _
     (three _ _ _
@@ -129,6 +131,7 @@ FitsRecord-recordable p ceiling c epoch r room most l = record {
   regs_length = r.regs_length;
   regs_zero = r.regs_zero;
   words = λ i small. words_fit p ceiling c epoch i r room most l;
+  alone = r.alone;
 }
 
 -- word i of a record reads back
@@ -168,22 +171,31 @@ regs_back c epoch blocks fits of =
     ext_get_or 0 (0 ∷ record_words blocks 1 31) c.regs (omega (arith, long, h))
     (λ i below. reg_back c epoch blocks i fits of (omega (arith, long)))
 
-abbrev pub cpu_with : ℕ → List ℕ → ℕ → ℕ → ℕ → ℕ → ℕ → Status → CpuState
-cpu_with pc regs console cursor brk floor count status =
-    record { pc = pc; regs = regs; console_len = console; cursor = cursor; brk = brk; floor = floor; count = count; status = status }
+abbrev pub cpu_with : ℕ → List ℕ → ℕ → ℕ → ℕ → ℕ → ℕ → Status → Option OtherHart → CpuState
+cpu_with pc regs console cursor brk floor count status other =
+    record { pc = pc; regs = regs; console_len = console; cursor = cursor; brk = brk; floor = floor; count = count; status = status; other = other }
 
-pub same_cpu : (pc pc' : ℕ) (regs regs' : List ℕ) (console console' cursor cursor' brk brk' floor floor' count count' : ℕ) (status status' : Status)
-    → pc ≡ pc' → regs ≡ regs' → console ≡ console' → cursor ≡ cursor' → brk ≡ brk' → floor ≡ floor' → count ≡ count' → status ≡ status'
-    → cpu_with pc regs console cursor brk floor count status ≡ cpu_with pc' regs' console' cursor' brk' floor' count' status'
-same_cpu pc pc' regs regs' console console' cursor cursor' brk brk' floor floor' count count' status status' a b c d e f g h =
-    ap (λ x. cpu_with x regs console cursor brk floor count status) a
-    ∙ ap (λ x. cpu_with pc' x console cursor brk floor count status) b
-    ∙ ap (λ x. cpu_with pc' regs' x cursor brk floor count status) c
-    ∙ ap (λ x. cpu_with pc' regs' console' x brk floor count status) d
-    ∙ ap (λ x. cpu_with pc' regs' console' cursor' x floor count status) e
-    ∙ ap (λ x. cpu_with pc' regs' console' cursor' brk' x count status) f
-    ∙ ap (λ x. cpu_with pc' regs' console' cursor' brk' floor' x status) g
-    ∙ ap (λ x. cpu_with pc' regs' console' cursor' brk' floor' count' x) h
+pub same_cpu : (pc pc' : ℕ) (regs regs' : List ℕ) (console console' cursor cursor' brk brk' floor floor' count count' : ℕ) (status status' : Status) (other other' : Option OtherHart)
+    → pc ≡ pc' → regs ≡ regs' → console ≡ console' → cursor ≡ cursor' → brk ≡ brk' → floor ≡ floor' → count ≡ count' → status ≡ status' → other ≡ other'
+    → cpu_with pc regs console cursor brk floor count status other ≡ cpu_with pc' regs' console' cursor' brk' floor' count' status' other'
+same_cpu pc pc' regs regs' console console' cursor cursor' brk brk' floor floor' count count' status status' other other' a b c d e f g h i =
+    ap (λ x. cpu_with x regs console cursor brk floor count status other) a
+    ∙ ap (λ x. cpu_with pc' x console cursor brk floor count status other) b
+    ∙ ap (λ x. cpu_with pc' regs' x cursor brk floor count status other) c
+    ∙ ap (λ x. cpu_with pc' regs' console' x brk floor count status other) d
+    ∙ ap (λ x. cpu_with pc' regs' console' cursor' x floor count status other) e
+    ∙ ap (λ x. cpu_with pc' regs' console' cursor' brk' x count status other) f
+    ∙ ap (λ x. cpu_with pc' regs' console' cursor' brk' floor' x status other) g
+    ∙ ap (λ x. cpu_with pc' regs' console' cursor' brk' floor' count' x other) h
+    ∙ ap (λ x. cpu_with pc' regs' console' cursor' brk' floor' count' status' x) i
+
+same_hart : (o : Option OtherHart) → o ≡ o
+same_hart o = refl
+
+-- no record has another hart
+pub no_other : (a b : List Block) → (cpu_of_record a).other ≡ (cpu_of_record b).other
+unfolding cpu_of_record
+no_other a b = same_hart None
 
 -- a state reads back from its record
 pub cpu_back : (c : CpuState) (epoch : ℕ) (blocks : List Block)
@@ -191,13 +203,14 @@ pub cpu_back : (c : CpuState) (epoch : ℕ) (blocks : List Block)
 unfolding cpu_of_record
 cpu_back c epoch blocks fits of =
     let rest = λ (j : ℕ) (small : j < 8). rest_back c epoch blocks j fits of small in
-    same_cpu _ _ _ _ _ _ _ _ _ _ _ _ _ _ _ _
+    same_cpu _ _ _ _ _ _ _ _ _ _ _ _ _ _ _ _ _ _
     (word_back c epoch blocks 0 fits of (omega arith))
     (regs_back c epoch blocks fits of)
     (rest 2 (omega arith)) (rest 1 (omega arith)) (rest 3 (omega arith)) (rest 7 (omega arith)) (rest 0 (omega arith))
     (ap (λ t. status_of t (record_word blocks 37)) (rest 4 (omega arith))
     ∙ ap (status_of (status_tag c.status)) (rest 5 (omega arith))
     ∙ status_back c.status)
+    (sym fits.alone)
 
 -- and so does its epoch
 pub epoch_back : (c : CpuState) (epoch : ℕ) (blocks : List Block)

@@ -34,7 +34,7 @@ use Rattle.thy_record.proofs.FileLemmas.{length-blocks_of, block_at-blocks_of, l
 use Rattle.thy_record.proofs.HeaderLemmas.{header_fault-long}
 use Rattle.thy_record.proofs.ImageLemmas.{IsDecoded-at, at_back}
 use Rattle.thy_record.proofs.IssuingLemmas.{length-memory_numbers, memory_number}
-use Rattle.thy_record.proofs.ReadBackLemmas.{same_cpu}
+use Rattle.thy_record.proofs.ReadBackLemmas.{no_other, same_cpu}
 use Rattle.thy_record.proofs.TableFaultLemmas.{neither}
 use Rattle.thy_base.proofs.RangeLemmas.{console_below}
 
@@ -58,10 +58,10 @@ pub cpu_of_record-alike : (a b : List Block) → ((k : ℕ) → k < 5 → block_
 unfolding cpu_of_record
 cpu_of_record-alike a b same =
     let word = λ (i : ℕ) (l : i < 40). record_word-alike a b i same l in
-    same_cpu _ _ _ _ _ _ _ _ _ _ _ _ _ _ _ _
+    same_cpu _ _ _ _ _ _ _ _ _ _ _ _ _ _ _ _ _ _
     (word 0 (omega arith)) (ap (λ ws. 0 ∷ ws) (record_words-alike a b same)) (word 34 (omega arith)) (word 33 (omega arith)) (word 35 (omega arith))
     (word 39 (omega arith)) (word 32 (omega arith))
-    (ap (λ t. status_of t (record_word a 37)) (word 36 (omega arith)) ∙ ap (status_of (record_word b 36)) (word 37 (omega arith)))
+    (ap (λ t. status_of t (record_word a 37)) (word 36 (omega arith)) ∙ ap (status_of (record_word b 36)) (word 37 (omega arith))) (no_other a b)
 
 -- ---- what a check has found
 

@@ -98,11 +98,13 @@ apart_once table none i k n a b = elim (cases_lt i k) as (λ _. i ≡ k) [
   ]
 ]
 
-once : (before : ℕ) (table : List (Option ℕ)) → first_clash (twice_rule before table) 0 table ≡ None
+-- no number is listed twice, if no entry clashes with an earlier one
+pub once : (before : ℕ) (table : List (Option ℕ)) → first_clash (twice_rule before table) 0 table ≡ None
     → (i k n : ℕ) → Lists table i n → Lists table k n → i ≡ k
 once before table h = apart_once table (λ i k n l a b. twice_asks before table i k n (unbroken (twice_rule before table) table h k n b) l a)
 
-no_twins : (before : ℕ) (table : List (Option ℕ)) → ((i k n : ℕ) → Lists table i n → Lists table k n → i ≡ k)
+-- and the other way round
+pub no_twins : (before : ℕ) (table : List (Option ℕ)) → ((i k n : ℕ) → Lists table i n → Lists table k n → i ≡ k)
     → first_clash (twice_rule before table) 0 table ≡ None
 no_twins before table one = none_breaks (twice_rule before table) table
     (λ k n b. twice_holds before table k n (λ i l a. let same = one i k n a b in omega arith))

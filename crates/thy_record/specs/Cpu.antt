@@ -1,6 +1,6 @@
 -- Part of the claim.
 -- The record of the processor, the first five blocks of a slot.
-use Rattle.std.specs.Prelude.{◌≡◌, ℕ, zero, suc, ◌+◌, ◌*◌, ◌/◌, ◌%◌, ◌^◌, ◌<◌, ◌≤◌, true, Bool, ◌&&◌, ◌==◌, nat_lt, nat_le, if◌then◌else◌, List, [], ◌∷◌, ◌++◌, take, drop, length, slice_index, Option}
+use Rattle.std.specs.Prelude.{◌≡◌, ℕ, zero, suc, ◌+◌, ◌*◌, ◌/◌, ◌%◌, ◌^◌, ◌<◌, ◌≤◌, true, Bool, ◌&&◌, ◌==◌, nat_lt, nat_le, if◌then◌else◌, List, [], ◌∷◌, ◌++◌, take, drop, length, slice_index, Option, None}
 use Rattle.thy_base.specs.declared.block.Block.{Block}
 use Rattle.thy_base.specs.declared.config.Parameters.{Parameters}
 use Rattle.thy_base.specs.Demands.{Demand, asked, first_fault}
@@ -65,18 +65,19 @@ pub record IsRecordOf (c : CpuState) (epoch : ℕ) (blocks : List Block) : Type 
 pub record BeginsWithRecord (c : CpuState) (epoch : ℕ) (blocks : List Block) : Type 0 where
   pub each : (k : ℕ) → k < 5 → block_at blocks k ≡ cpu_block_of c epoch k
 
--- a processor's state and an epoch of which the record says all: 32 registers, of which register 0 is zero, and numbers
--- of 64 bits
+-- a processor's state and an epoch of which the record says all: 32 registers, of which register 0 is zero, numbers of
+-- 64 bits, and no other hart
 pub record FitsRecord (c : CpuState) (epoch : ℕ) : Type 0 where
   pub regs_length : length c.regs ≡ 32
   pub regs_zero : slice_index c.regs 0 ≡ 0
   pub words : (i : ℕ) → i < 40 → slice_index (cpu_words c epoch) i < 2 ^ 64
+  pub alone : c.other ≡ None
 
 -- the epoch in a record
 abbrev pub epoch_of_record : List Block → ℕ
 epoch_of_record blocks = record_word blocks 38
 
--- the processor's state in a record
+-- the processor's state in a record, which has no words for another hart
 unfoldable pub cpu_of_record : List Block → CpuState
 cpu_of_record blocks = record {
   pc = record_word blocks 0;
@@ -87,6 +88,7 @@ cpu_of_record blocks = record {
   floor = record_word blocks 39;
   count = record_word blocks 32;
   status = status_of (record_word blocks 36) (record_word blocks 37);
+  other = None;
 }
 
 -- a record is of the commit block's epoch
@@ -116,3 +118,4 @@ pub record IsRecordable (p : Parameters) (ceiling : ℕ) (cpu : CpuState) : Type
   pub floor : cpu.floor < 2 ^ 64
   pub count : cpu.count < ceiling
   pub status : is_status (status_tag cpu.status) (status_value cpu.status) ≡ true
+  pub alone : cpu.other ≡ None

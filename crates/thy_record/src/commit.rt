@@ -59,8 +59,8 @@ pub fn commit_fault(header: &Block, block: &Block, ceiling: u64) -> Option<BadIm
     }
 }
 
-// Whether the words after the epoch are zero.
-fn has_zero_rest(block: &Block) -> bool
+/// Whether the words after the epoch are zero.
+pub fn has_zero_rest(block: &Block) -> bool
     ensures { result ≡ zero_rest block.now }
 {
     let first = word(block, 2) == 0 && word(block, 3) == 0 && word(block, 4) == 0;

@@ -118,5 +118,6 @@ pub fn cpu_state(blocks: &[Block; 5]) -> CpuState
         floor: word_at(blocks, 39),
         count: word_at(blocks, 32),
         status: status_from(word_at(blocks, 36), word_at(blocks, 37)),
+        other: None,
     }
 }

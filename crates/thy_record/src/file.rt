@@ -7,11 +7,11 @@ ghost use Rattle.thy_record.specs.Files.{blocks_of, is_long_file, file_fault, de
 ghost use Rattle.thy_record.specs.Images.{slot_in as slot_of_image};
 
 use crate::bad_image::BadImage;
-use crate::commit::{commit_fault, version_of, is_zero};
+use crate::commit::{commit_fault, is_zero, version_of};
 use crate::file_blocks::block_in;
 use crate::header::header_fault;
 use crate::slot::slot_fault;
-use thy_base::{BLOCK_SIZE, Block, LayoutVersion, Geometry, word};
+use thy_base::{BLOCK_SIZE, Block, Geometry, LayoutVersion, word};
 
 /// What an image without a fault has.
 #[derive(Clone, Copy, Debug, PartialEq, Eq)]
@@ -40,8 +40,9 @@ fn is_long(image: &[u8], commit: &Block, geometry: &Geometry) -> bool
     ensures { result ≡ is_long_file geometry.now image.now }
 {
     let size = image.len() as u64;
-    let old = version_of(commit) == LayoutVersion::VersionOne && size / BLOCK_SIZE as u64 == geometry.blocks_one();
-    size.is_multiple_of(BLOCK_SIZE as u64) && (size / BLOCK_SIZE as u64 == geometry.blocks() || old)
+    let count = size / BLOCK_SIZE as u64;
+    let old = version_of(commit) == LayoutVersion::VersionOne && count == geometry.blocks_one();
+    size.is_multiple_of(BLOCK_SIZE as u64) && (count == geometry.blocks() || old)
 }
 
 // The first fault of an image that has this commit block.

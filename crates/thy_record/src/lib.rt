@@ -25,8 +25,8 @@ mod tables;
 
 pub use bad_image::BadImage;
 pub use commit::{
-    COMMIT_MAGIC_VERSION_ONE, COMMIT_MAGIC_VERSION_TWO, commit_block, commit_fault, version_of,
-    is_zero,
+    COMMIT_MAGIC_VERSION_ONE, COMMIT_MAGIC_VERSION_TWO, commit_block, commit_fault, has_zero_rest,
+    is_zero, version_of,
 };
 pub use cpu::{cpu_block, cpu_state};
 pub use engine_step::EngineStep;

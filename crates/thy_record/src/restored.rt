@@ -51,9 +51,15 @@ pub fn state_at(
         state_of m ≡ state_from geometry.now cpu (map (block_at (blocks_of image.now)) places.now)) }
 {
     let p = geometry.numbers();
-    let program = PAGE_BLOCKS * (p.pages - p.console) as usize;
+    let program = (PAGE_BLOCKS * (p.pages - p.console)) as usize;
     let memory = gathered(alloc, image, places, 0, program)?;
-    let mut console = gathered(alloc, image, places, program, PAGE_BLOCKS * p.console as usize)?;
+    let mut console = gathered(
+        alloc,
+        image,
+        places,
+        program,
+        (PAGE_BLOCKS * p.console) as usize,
+    )?;
     console.truncate(cpu.console_len as usize);
     Ok(MachState {
         pc: cpu.pc,
@@ -65,6 +71,7 @@ pub fn state_at(
         floor: cpu.floor,
         count: cpu.count,
         status: cpu.status,
+        other: cpu.other,
     })
 }
 

@@ -13,7 +13,7 @@ use crate::cpu::{cpu_state, is_status};
 use crate::file_blocks::block_in;
 use crate::table_faults::{entry, tables_fault};
 use byteorder::{ByteOrder, LittleEndian};
-use thy_base::{BLOCK_COUNTS, BLOCK_SIZE, LayoutVersion, Geometry};
+use thy_base::{BLOCK_COUNTS, BLOCK_SIZE, Geometry, LayoutVersion};
 use thy_isa::CpuState;
 
 /// How many bytes the processor's record has.

@@ -7,7 +7,7 @@ ghost use Rattle.thy_record.specs.TableFaults.{first_clash, index_rule, twin_of,
 use crate::bad_image::BadImage;
 use crate::tables::entry_from_word;
 use byteorder::{ByteOrder, LittleEndian};
-use thy_base::{Geometry, page_of};
+use thy_base::{Geometry, PAGE_BLOCKS};
 
 // Entry i of a table.
 pub(crate) fn entry(table: &[u8], i: usize) -> Option<u64>
@@ -78,7 +78,7 @@ fn under_fault(btt: &[u8], ptt: &[u8]) -> Option<BadImage>
 {
     for i in 0..btt.len() / 8 {
         if let Some(block) = entry(btt, i)
-            && let Some(j) = entry_of(ptt, page_of(block))
+            && let Some(j) = entry_of(ptt, block / PAGE_BLOCKS)
         {
             return Some(BadImage::BlockUnderPage(i as u64, j as u64));
         }

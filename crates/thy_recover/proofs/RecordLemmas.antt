@@ -1,7 +1,6 @@
 -- The processor that a boot ends with can be recorded.
 use Rattle.std.proofs.Common.{◌≡◌, ℕ, ◌^◌, ◌<◌, ◌≤◌, Bool, true, false, ◌&&◌, nat_lt, nat_le, if◌then◌else◌, List, length, slice_index, refl, sym, subst, inl, inr, arith, Option, Some, None}
 use Rattle.std.proofs.lemmas.Bool.{cases_lt, le-leb, leb-true, ltb-true}
-use Rattle.std.proofs.lemmas.List.{get_or_past}
 use Rattle.std.specs.Option.{option_or}
 use Rattle.thy_base.specs.declared.block.Block.{Block}
 use Rattle.thy_base.specs.declared.config.Parameters.{Parameters}
@@ -13,7 +12,6 @@ use Rattle.thy_isa.specs.declared.state.Status.TheVariants.{Running, Exited, Tra
 use Rattle.thy_isa.specs.OnBlocks.{state_from}
 use Rattle.thy_isa.specs.Step.{cpu_of}
 use Rattle.thy_isa.specs.Storable.{IsStatus, IsStorable}
-use Rattle.thy_isa.proofs.StorableLaws.{step-storable}
 use Rattle.thy_record.specs.declared.bad_image.BadImage.{BadImage}
 use Rattle.thy_record.specs.declared.bad_image.BadImage.TheVariants.{Status as BadStatus, ConsoleLength}
 use Rattle.thy_record.specs.Cpu.{status_tag, status_value, is_status, record_word, cpu_of_record, IsRecordable}
@@ -21,17 +19,7 @@ use Rattle.thy_record.specs.Slots.{tables_in, epoch_fault, status_fault, count_f
 use Rattle.thy_record.specs.TableFaults.{tables_fault}
 use Rattle.thy_view.specs.Origin.{Origin, IsOrigin, setting_of, at}
 use Rattle.thy_view.specs.Safe.{ceiling}
-use Rattle.thy_view.proofs.TurnLaws.{at-holds}
-
--- every state of a run can be stored
-at-storable : (o : Origin) (k : ℕ) → IsOrigin o → IsStorable (program_size o.geometry) (at o k)
-at-storable o k h =
-    at-holds (IsStorable (program_size o.geometry)) o (λ s there. step-storable (setting_of o) (program_size o.geometry) s h.readable there) h.storable k
-
-status_fits : (status : Status) → IsStatus status → is_status (status_tag status) (status_value status) ≡ true
-status_fits Running h = refl
-status_fits (Exited v) h = le-leb v 255 (omega arith)
-status_fits (Trapped v) h = le-leb v 7 (omega arith)
+use Rattle.thy_view.proofs.StorableAt.{IsRecordable-at}
 
 -- what a slot without a fault asks of its record
 second : (a b : Option BadImage) → option_or a b ≡ None → b ≡ None
@@ -67,33 +55,13 @@ pub slot_fits-cpu : (version : LayoutVersion) (p : Parameters) (epoch : ℕ) (sl
 unfolding cpu_of_record
 slot_fits-cpu version p epoch slot h = slot_asks version p epoch slot h
 
-recordable_there : (p : Parameters) (cpu : CpuState) (memory : List Block) (size : ℕ) → IsStorable size (state_from p cpu memory)
-    → cpu.console_len ≤ console_room p → cpu.count < ceiling → IsRecordable p ceiling cpu
-unfolding state_from
-recordable_there p cpu memory size there console count = record {
-  pc = there.pc;
-  regs_length = there.registers;
-  regs_zero = there.zero_register;
-  regs = λ i. elim (cases_lt i (length cpu.regs)) as (λ _. slice_index cpu.regs i < 2 ^ 64) [
-    | inl l ↦ there.numbers i 0 l
-    | inr l ↦ let past : slice_index cpu.regs i ≡ 0 = get_or_past cpu.regs i 0 l in omega arith
-  ];
-  console = console;
-  cursor = there.cursor;
-  brk = there.brk;
-  floor = there.floor;
-  count = count;
-  status = status_fits cpu.status there.status;
-}
-
 -- one that makes a state of the run, and is that of such a slot
 pub restored-recordable : (o : Origin) (version : LayoutVersion) (k epoch : ℕ) (slot memory : List Block) → IsOrigin o
     → slot_fault version o.geometry ceiling epoch slot ≡ None
     → state_from o.geometry (cpu_of_record slot) memory ≡ at o k → IsRecordable o.geometry ceiling (cpu_of_record slot)
 restored-recordable o version k epoch slot memory origin fits is =
     let fit = slot_fits-cpu version o.geometry epoch slot fits in
-    recordable_there o.geometry (cpu_of_record slot) memory (program_size o.geometry)
-    (subst (IsStorable (program_size o.geometry)) (sym is) (at-storable o k origin)) fit.1 fit.0
+    IsRecordable-at o k (cpu_of_record slot) memory origin is fit.1 fit.0
 
 -- and that of the start
 pub start-recordable : (o : Origin) → IsOrigin o → IsRecordable o.geometry ceiling (cpu_of o.start)
@@ -108,4 +76,5 @@ start-recordable o origin = record {
   floor = origin.recordable.floor;
   count = let l = origin.recordable.count in omega (arith, l);
   status = origin.recordable.status;
+  alone = origin.recordable.alone;
 }

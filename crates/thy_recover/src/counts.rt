@@ -7,7 +7,7 @@ ghost use Rattle.thy_record.specs.Files.{blocks_of};
 ghost use Rattle.thy_record.specs.Slots.{count_fault};
 ghost use Rattle.thy_recover.specs.Listed.{HasCounts};
 
-use thy_base::{LayoutVersion, Geometry};
+use thy_base::{Geometry, LayoutVersion};
 use thy_control::Control;
 use thy_record::listed_count;
 

@@ -16,14 +16,12 @@ ghost use Rattle.thy_recover.specs.Listed.{ListsUpTo, AsListed};
 
 use crate::counts::list_counts;
 use thy_base::{BLOCK_SIZE, Block, Geometry, PAGE_BLOCKS, word};
+use thy_boot::CEILING;
 use thy_control::{Control, tables_allow_listing};
 use thy_isa::CpuState;
 use thy_record::{
-    BadImage, block_in, cpu_in, faultless_tables, version_of, listed_block, listed_page, slot_fault,
+    BadImage, block_in, cpu_in, faultless_tables, listed_block, listed_page, slot_fault, version_of,
 };
-
-/// Epochs and counts of a run's own images are below this.
-pub const CEILING: u64 = 9_223_372_036_854_775_808;
 
 /// The blocks of a slot in its room: as many as the version has that the commit block names.
 fn slot_of<'a>(geometry: &Geometry, commit: &Block, room: &'a [u8]) -> &'a [u8]
@@ -42,7 +40,13 @@ pub fn fault_of_slot(geometry: &Geometry, commit: &Block, slot: &[u8]) -> Option
         result ≡ fault_of_slot (version_named commit.now) geometry.now ceiling (epoch_of commit.now) blocks }
 {
     let blocks = slot_of(geometry, commit, slot);
-    slot_fault(blocks, version_of(commit), word(commit, 1), geometry, CEILING)
+    slot_fault(
+        blocks,
+        version_of(commit),
+        word(commit, 1),
+        geometry,
+        CEILING,
+    )
 }
 
 /// The processor of a slot.

@@ -8,7 +8,7 @@ ghost use Rattle.thy_recover.specs.Filling.{CanStart, first_of_start};
 ghost use Rattle.thy_recover.specs.Start.{IsStartFor, start_block, start_slot};
 
 use thy_base::{BLOCK_SIZE, Block, Geometry, block_with};
-use thy_isa::{CpuState, MachState};
+use thy_isa::MachState;
 use thy_record::cpu_block;
 
 /// The place that block `b` of a start's memory is written to, and that block.
@@ -83,24 +83,8 @@ fn start_slot_block(geometry: &Geometry, state: &MachState, k: u64) -> Block
 {
     let _numbers = geometry.numbers();
     if k < geometry.record_blocks() {
-        cpu_block(&start_cpu(state), 0, k)
+        cpu_block(&state.cpu(), 0, k)
     } else {
         block_with(&[0; 8])
-    }
-}
-
-/// A state without its memory and its console's bytes.
-fn start_cpu(state: &MachState) -> CpuState
-    ensures { result ≡ cpu_of (state_of state.now) }
-{
-    CpuState {
-        pc: state.pc,
-        regs: state.regs,
-        console_len: state.console.len() as u64,
-        cursor: state.cursor,
-        brk: state.brk,
-        floor: state.floor,
-        count: state.count,
-        status: state.status,
     }
 }

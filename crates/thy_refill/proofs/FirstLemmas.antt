@@ -23,7 +23,7 @@ use Rattle.thy_boot.specs.Start.{CanStart, start_blocks}
 use Rattle.thy_boot.proofs.StartLemmas.{length-start_blocks, state_from-start}
 use Rattle.thy_journal_image.specs.Places.{home_place, place_by, place_of}
 use Rattle.thy_journal_image.specs.Header.{header_of}
-use Rattle.thy_journal_image.specs.Commit.{commit_of}
+use Rattle.thy_record.specs.Commit.{commit_of}
 use Rattle.thy_journal_image.specs.Slots.{IsTable}
 use Rattle.thy_journal_image.specs.Layout.{journal_layouts}
 use Rattle.thy_journal_image.specs.CheckpointParts.{memory_places, parts_by, ReadsBack}

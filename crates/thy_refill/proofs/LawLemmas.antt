@@ -8,10 +8,10 @@ use Rattle.thy_isa.specs.OnBlocks.{state_from}
 use Rattle.thy_record.specs.Commit.{epoch_of}
 use Rattle.thy_record.specs.Cpu.{cpu_of_record}
 use Rattle.thy_record.proofs.IssuingLemmas.{half}
+use Rattle.thy_record.proofs.ReadBackLemmas.{epoch_of-commit_of, is_zero-commit_of}
 use Rattle.thy_boot.specs.Filling.{IsFilling}
 use Rattle.thy_boot.proofs.StartLemmas.{CanStart-origin}
 use Rattle.thy_journal_image.specs.Places.{slot_blocks, slot_place, image_blocks, journal_place}
-use Rattle.thy_journal_image.proofs.HeadLemmas.{epoch_of-commit_of, is_zero-commit_of}
 use Rattle.thy_journal_image.proofs.PartsLemmas.{slot_fits}
 use Rattle.thy_log.specs.State.{State}
 use Rattle.thy_log.proofs.DrainLemmas.{works_drained, IsSoundState-drained}

@@ -5,7 +5,7 @@ use Rattle.thy_base.specs.declared.block.Block.{Block}
 use Rattle.thy_base.specs.declared.config.Parameters.{Parameters}
 use Rattle.thy_base.specs.Device.{Device, block_at, newest}
 use Rattle.thy_isa.specs.Step.{State as Plain, cpu_of}
-use Rattle.thy_record.specs.Commit.{epoch_of}
+use Rattle.thy_record.specs.Commit.{epoch_of, commit_of}
 use Rattle.thy_record.specs.Cpu.{cpu_of_record}
 use Rattle.thy_record.specs.Tables.{Lists}
 use Rattle.thy_table.specs.Listing.{entry_at, first_from}
@@ -13,7 +13,6 @@ use Rattle.thy_boot.specs.Filling.{FillingOf, First}
 use Rattle.thy_boot.specs.Start.{CanStart, start_blocks}
 use Rattle.thy_journal_image.specs.Places.{slot_blocks, journal_place}
 use Rattle.thy_journal_image.specs.Header.{header_of}
-use Rattle.thy_journal_image.specs.Commit.{commit_of}
 use Rattle.thy_journal_image.specs.Slots.{table_in}
 use Rattle.thy_journal_image.specs.Layout.{journal_layouts}
 use Rattle.thy_journal_image.specs.CheckpointParts.{parts_by}

@@ -7,7 +7,6 @@ ghost use Rattle.thy_journal_image.specs.Slots.{slot_block_of};
 ghost use Rattle.thy_refill.specs.Filling.{no_table};
 
 use thy_base::{Block, Geometry, block_with};
-use thy_boot::start_cpu;
 use thy_isa::MachState;
 use thy_record::cpu_block;
 
@@ -19,7 +18,7 @@ pub fn start_slot_block(geometry: &Geometry, state: &MachState, k: u64) -> Block
 {
     let _numbers = geometry.numbers();
     if k < geometry.record_blocks() {
-        cpu_block(&start_cpu(state), 0, k)
+        cpu_block(&state.cpu(), 0, k)
     } else {
         block_with(&[0; 8])
     }

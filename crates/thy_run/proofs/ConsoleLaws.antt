@@ -40,10 +40,12 @@ use Rattle.thy_base.proofs.RangeLemmas.{console_most}
 pub console-grows : (o : Origin) (j k : ℕ) → j ≤ k → (more : List ℕ) × (console_at o k ≡ console_at o j ++ more)
 console-grows o j k le =
     let Grown : State → Type 0 = λ t. (more : List ℕ) × (t.console ≡ console_at o j ++ more) in
-    at-keeps Grown o
-    (λ s p.
-    let grown = step-console (setting_of o) s in
-    (p.0 ++ grown.more, grown.grown ∙ ap (λ (l : List ℕ). l ++ grown.more) p.1 ∙ append_assoc (console_at o j) p.0 grown.more))
+    at-keeps Grown o (record {
+      steps = λ s p.
+          let grown = step-console (setting_of o) s in
+          (p.0 ++ grown.more, grown.grown ∙ ap (λ (l : List ℕ). l ++ grown.more) p.1 ∙ append_assoc (console_at o j) p.0 grown.more);
+      crosses = λ s p. p;
+    })
     j k le ([], sym (append-nil (console_at o j)))
 
 -- a committed mark does not go back
@@ -321,7 +323,7 @@ released-cut o events index cycle =
 console-few : (o : Origin) (k : ℕ) → IsOrigin o → length (console_at o k) < 2 ^ 64
 console-few o k origin =
     let Roomy : State → Type 0 = λ t. length t.console ≤ (setting_of o).room in
-    let room : length (console_at o k) ≤ (setting_of o).room = at-holds Roomy o (λ s h. step-room (setting_of o) s h) origin.recordable.console k in
+    let room : length (console_at o k) ≤ (setting_of o).room = at-holds Roomy o (record { steps = λ s h. step-room (setting_of o) s h; crosses = λ s h. h }) origin.recordable.console k in
     omega (arith, room, console_most o.geometry origin.geometry)
 
 mark_few : (o : Origin) (turns : List ℕ) (kept : Option Mark) → IsOrigin o → length (console_of (console_by o) kept turns) < 2 ^ 64

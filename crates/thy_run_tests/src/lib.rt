@@ -6,10 +6,6 @@
 #![tactic(auto)]
 
 #[cfg(test)]
-mod expect;
-#[cfg(test)]
-mod geometry;
-#[cfg(test)]
-mod naming;
-#[cfg(test)]
 mod runs;
+#[cfg(test)]
+mod support;

@@ -132,6 +132,7 @@ CanStart-least p s range pages room h = record {
     floor = (let e = h.floor in omega (arith, e));
     count = (let e = h.count in omega (arith, e));
     status = ap (λ (x : Status). is_status (status_tag x) (status_value x)) h.status;
+    alone = h.alone;
   };
 } where
   zero_below : (i : ℕ) → slice_index (replicate 32 0) i < 2 ^ 64

@@ -31,6 +31,7 @@ pub record IsLeastStart (s : Plain) : Type 0 where
   pub floor : s.floor ≡ 65600
   pub count : s.count ≡ 5
   pub status : s.status ≡ Running
+  pub alone : s.other ≡ None
 
 -- what was returned says that it continues
 abbrev pub goes_on : BootStep → Bool

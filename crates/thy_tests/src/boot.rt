@@ -4,9 +4,9 @@ ghost use Rattle.thy_base.specs.Device.{IsFramed};
 ghost use Rattle.thy_isa.specs.Step.{state_of};
 ghost use Rattle.thy_tests.specs.Boots.{Boots, IsLeastStart, IsNew, IsReady, goes_on};
 
-use crate::expect::expect;
-use crate::geometry::geometry_of;
-use crate::starting::{has_least_memory, new_boot};
+use crate::support::expect::expect;
+use crate::support::geometry::geometry_of;
+use crate::support::starting::{has_least_memory, new_boot};
 use std::alloc::Global;
 use std::process::Abort;
 use thy_base::{Block, Bytes, Geometry, Nvm, Parameters, SchemeName, Shape};
@@ -61,6 +61,7 @@ fn start_of(rt: &impl Abort, alloc: Global) -> Start
         floor: 65600,
         count: 5,
         status: Status::Running,
+        other: None,
     };
     Start {
         state,
@@ -178,6 +179,7 @@ fn processor() -> CpuState {
         floor: 65600,
         count: 5,
         status: Status::Running,
+        other: None,
     }
 }
 

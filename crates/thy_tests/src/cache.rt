@@ -3,7 +3,7 @@ ghost use Rattle.std.specs.Prelude.{◌≡◌, ◌≤◌, ◌-◌, ◌^◌, ◌<
 ghost use Rattle.thy_cache.specs.Contents.{dirty_count};
 ghost use Rattle.thy_cache.specs.Flat.{Agrees, AgreesStill};
 
-use crate::expect::expect;
+use crate::support::expect::expect;
 use std::alloc::Global;
 use std::process::Abort;
 use thy_base::{Block, BlockStore, NvmError, Stored};

@@ -1,6 +1,6 @@
 //! What environment calls do, worked out by hand.
 
-use crate::expect::expect_at;
+use crate::support::expect::expect_at;
 use thy_isa::{Call, CallState, Reg, Regs, call};
 
 // The negatives of the numbers of errors.

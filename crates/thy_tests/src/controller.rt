@@ -4,8 +4,8 @@ ghost use Rattle.thy_base.specs.Places.{image_blocks};
 ghost use Rattle.thy_control.specs.Holding.{holding_of};
 ghost use Rattle.thy_tests.specs.Beside.{Takes, AreLong};
 
-use crate::expect::expect;
-use crate::geometry::geometry_of;
+use crate::support::expect::expect;
+use crate::support::geometry::geometry_of;
 use std::alloc::Global;
 use std::process::Abort;
 use thy_base::{Block, BlockStore, Geometry, Lcg, Nvm, Parameters, SchemeName, Shape, Stored};

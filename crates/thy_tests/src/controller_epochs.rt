@@ -3,12 +3,12 @@ ghost use Rattle.std.specs.Prelude.{◌≡◌, ◌<◌, true, false, length, IfS
 ghost use Rattle.thy_base.specs.Places.{image_blocks};
 ghost use Rattle.thy_tests.specs.Driven.{Drives, AreVersions};
 
-use crate::driven::{
+use crate::support::driven::{
     commit, committed, copy_next, drain_dram, drain_nvm, load, merge_one, page_next, power_on,
     promote_one, seal, store,
 };
-use crate::expect::expect;
-use crate::geometry::geometry_of;
+use crate::support::expect::expect;
+use crate::support::geometry::geometry_of;
 use std::alloc::Global;
 use std::process::Abort;
 use thy_base::{Block, Geometry, Lcg, Nvm, Parameters, SchemeName, Stored};

@@ -2,11 +2,11 @@
 ghost use Rattle.std.specs.Prelude.{◌≡◌, ◌<◌, true, false};
 ghost use Rattle.thy_tests.specs.Driven.{Drives};
 
-use crate::driven::{
+use crate::support::driven::{
     commit, committed, copy_next, load, merge_one, page_next, power_on, promote_one, seal, store,
 };
-use crate::expect::expect;
-use crate::geometry::geometry_of;
+use crate::support::expect::expect;
+use crate::support::geometry::geometry_of;
 use std::alloc::Global;
 use std::process::Abort;
 use thy_base::{Block, Nvm, Parameters, SchemeName, Stored};

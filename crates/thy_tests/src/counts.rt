@@ -1,5 +1,5 @@
 //! The store counts of three pages.
-use crate::expect::expect;
+use crate::support::expect::expect;
 use thy_base::Block;
 use thy_switch::Counts;
 

@@ -1,5 +1,5 @@
 //! A checkpoint that was committed, and a cut after it.
-use crate::expect::expect;
+use crate::support::expect::expect;
 use thy_base::{Block, Nvm, Shape};
 use thy_crash::commit;
 use thy_nvm::MemNvm;

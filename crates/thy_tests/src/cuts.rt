@@ -4,10 +4,10 @@ ghost use Rattle.std.specs.Prelude.{◌≡◌, length};
 ghost use Rattle.thy_isa.specs.Step.{state_of};
 ghost use Rattle.thy_tests.specs.Boots.{IsLeastStart};
 
-use crate::expect::{expect, expect_at};
-use crate::geometry::geometry_of;
-use crate::memory::{Memory, block_of};
-use crate::starting::{Off, Starting, Taken};
+use crate::support::expect::{expect, expect_at};
+use crate::support::geometry::geometry_of;
+use crate::support::memory::{Memory, block_of};
+use crate::support::starting::{Off, Starting, Taken};
 use std::alloc::Global;
 use std::process::Abort;
 use thy_base::{Block, Bytes, Parameters, SchemeName, Stored};
@@ -72,6 +72,7 @@ fn start_of(rt: &impl Abort, alloc: Global) -> Start
         floor: 65600,
         count: 5,
         status: Status::Running,
+        other: None,
     };
     Start {
         state,

@@ -1,5 +1,5 @@
 //! The memory that a cut fills with draws.
-use crate::expect::expect;
+use crate::support::expect::expect;
 use thy_base::Block;
 use thy_dram::Dram;
 

@@ -1,7 +1,7 @@
 //! Files made from a good one by a change each, and what each is refused for.
 ghost use Rattle.std.specs.Prelude.{◌<◌, ◌^◌};
 
-use crate::expect::{expect, expect_at};
+use crate::support::expect::{expect, expect_at};
 use std::alloc::Global;
 use std::process::Abort;
 use thy_elf::{ElfError, read};

@@ -2,8 +2,8 @@
 //! engine commits a checkpoint, and what the image is then.
 ghost use Rattle.std.specs.Prelude.{◌≡◌, ◌<◌};
 
-use crate::expect::{expect, expect_at};
-use crate::memory::Memory;
+use crate::support::expect::{expect, expect_at};
+use crate::support::memory::Memory;
 use std::alloc::Global;
 use std::process::Abort;
 use thy_base::{Block, Parameters, SchemeName, Stored};

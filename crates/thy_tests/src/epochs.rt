@@ -1,5 +1,5 @@
 //! An epoch of two instructions.
-use crate::expect::expect;
+use crate::support::expect::expect;
 use thy_base::EndCause;
 use thy_epoch::EpochState;
 

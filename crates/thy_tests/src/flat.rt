@@ -1,6 +1,6 @@
 //! Spans of a list of blocks.
 
-use crate::expect::expect;
+use crate::support::expect::expect;
 use thy_base::Block;
 use thy_flat::{Piece, Span, take_head};
 

@@ -1,8 +1,8 @@
 //! Images in files, made by hand: what a check and the state of each are.
 ghost use Rattle.std.specs.Prelude.{◌≡◌};
 
-use crate::expect::{expect, expect_at};
-use crate::geometry::geometry_of;
+use crate::support::expect::{expect, expect_at};
+use crate::support::geometry::geometry_of;
 use std::alloc::{AllocError, Global};
 use std::process::Abort;
 use std::test::Fail;

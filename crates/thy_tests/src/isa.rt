@@ -7,8 +7,8 @@
 
 ghost use Rattle.std.specs.Prelude.{◌≤◌, IfSome};
 
-use crate::expect::expect;
 use crate::isa_rows::{ANSWERS, BREAKS, EXITS, LOADS, MEMORY, SOURCE, STORES, VECTORS};
+use crate::support::expect::expect;
 use thy_isa::{
     Alu, Call, CallState, Cause, Effect, Reg, Regs, Width, alu, bytes_in, call, decode, extended,
     number, word_effect,

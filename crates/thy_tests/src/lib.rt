@@ -26,27 +26,19 @@ mod cuts;
 #[cfg(test)]
 mod dram;
 #[cfg(test)]
-mod driven;
-#[cfg(test)]
 mod elf;
 #[cfg(test)]
 mod engine_rows;
 #[cfg(test)]
 mod epochs;
 #[cfg(test)]
-mod expect;
-#[cfg(test)]
 mod flat;
-#[cfg(test)]
-mod geometry;
 #[cfg(test)]
 mod image;
 #[cfg(test)]
 mod isa;
 #[cfg(test)]
 mod isa_rows;
-#[cfg(test)]
-mod memory;
 #[cfg(test)]
 mod nvm;
 #[cfg(test)]
@@ -60,7 +52,7 @@ mod out_sink;
 #[cfg(test)]
 mod record;
 #[cfg(test)]
-mod starting;
+mod support;
 #[cfg(test)]
 mod tables;
 #[cfg(test)]

@@ -2,7 +2,7 @@
 ghost use Rattle.std.specs.Prelude.{◌≡◌, ◌<◌, false, length};
 ghost use Rattle.thy_base.specs.Device.{IsFramed};
 
-use crate::expect::expect;
+use crate::support::expect::expect;
 use std::process::Abort;
 use thy_base::{Block, Nvm, Shape};
 use thy_nvm::MemNvm;

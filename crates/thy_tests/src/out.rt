@@ -1,5 +1,5 @@
 //! Shelves and sinks, in memory and over what the system has.
-use crate::expect::expect;
+use crate::support::expect::expect;
 use std::fs;
 use thy_base::{FetchError, PutError, Shelf, Sink, SinkError};
 use thy_out::{FileShelf, MemShelf, MemSink, StdSink};

@@ -1,5 +1,5 @@
 //! Puts of the shelf over files: what a name holds before, and which call of the system fails.
-use crate::expect::{expect, expect_at};
+use crate::support::expect::{expect, expect_at};
 use std::alloc::{Allocator, Global};
 use std::fs::{Files, Metadata, OpenFile, OpenOptions, Permissions};
 use std::io::{Error, ErrorKind, Read, Seek, SeekFrom, Write};

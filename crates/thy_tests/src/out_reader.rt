@@ -1,5 +1,5 @@
 //! A reader that is slow, interrupted or failing, within a limit.
-use crate::expect::expect;
+use crate::support::expect::expect;
 use std::alloc::Global;
 use std::io;
 use std::io::{Error, ErrorKind, Read};

@@ -1,7 +1,7 @@
 //! A sink over a stream that is slow, interrupted or failing.
 ghost use Rattle.std.specs.Prelude.{◌≡◌};
 
-use crate::expect::expect;
+use crate::support::expect::expect;
 use std::io;
 use std::io::{Error, ErrorKind, Write};
 use thy_base::Sink;

@@ -1,8 +1,8 @@
 //! Blocks as the layout's bytes, and what each fault is refused for.
 ghost use Rattle.std.specs.Prelude.{◌≡◌, length};
 
-use crate::expect::{expect, expect_at};
-use crate::geometry::geometry_of;
+use crate::support::expect::{expect, expect_at};
+use crate::support::geometry::geometry_of;
 use std::alloc::Global;
 use std::process::Abort;
 use thy_base::{Block, Geometry, Parameters, SchemeName, word};
@@ -59,6 +59,7 @@ fn sample() -> CpuState
         floor: 15,
         count: 11,
         status: Status::Exited(7),
+        other: None,
     }
 }
 

@@ -1,7 +1,7 @@
 //! The tables' results, against a list of three places that was written out by hand.
 ghost use Rattle.std.specs.Prelude.{◌≡◌, ◌∷◌, [], length};
 
-use crate::expect::expect_at;
+use crate::support::expect::expect_at;
 use std::process::Abort;
 use thy_table::{Rule, Test};
 use thy_tables::{Btt, BttEntry, Working};

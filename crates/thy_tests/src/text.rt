@@ -1,5 +1,5 @@
 //! The lines of events and of closings, and the digest's.
-use crate::expect::expect;
+use crate::support::expect::expect;
 use std::alloc::Global;
 use std::process::Abort;
 use thy_base::{Bytes, EndCause, Field, Sink, SinkError};
@@ -203,6 +203,7 @@ fn state_with(memory: Bytes, console: Bytes, status: Status) -> MachState {
         floor: 65536,
         count: 7,
         status,
+        other: None,
     }
 }
 

@@ -1,6 +1,6 @@
 //! The command line, row by row. The arguments of a row have a bar between each two, the program's name
 //! first.
-use crate::expect::{expect, expect_at};
+use crate::support::expect::{expect, expect_at};
 use std::alloc::Global;
 use std::process::Abort;
 use thy_base::{Config, SchemeName};

@@ -5,11 +5,11 @@ use Rattle.std.proofs.lemmas.List.{length-append, length-replicate, length-take-
 use Rattle.thy_base.specs.declared.mark.Mark.{Mark}
 use Rattle.thy_base.specs.Device.{Device}
 use Rattle.thy_base.specs.Marks.{mark}
-use Rattle.thy_isa.specs.Step.{State, Setting, step, steps}
+use Rattle.thy_isa.specs.Step.{State, Setting, crossed, step, step_of, steps}
 use Rattle.thy_record.specs.Decoded.{Decoded, Nothing as NothingFound, Refused as RefusedImage, At, Reading}
 use Rattle.thy_view.specs.Laws.{TurnsLeadTo, StaysSafe, HartZeroSteps, UntoldSteps}
 use Rattle.thy_record.specs.declared.start.Start.{Start}
-use Rattle.thy_view.specs.Origin.{Origin, IsOrigin, Begins, setting_of, turn_at, step_of, by_turns, at}
+use Rattle.thy_view.specs.Origin.{Origin, IsOrigin, Begins, setting_of, turn_at, by_turns, at}
 use Rattle.thy_view.specs.Safe.{ceiling, Safe, IsOneOf}
 use Rattle.thy_view.specs.Told.{told, AgreeBelow, count_of}
 
@@ -162,13 +162,17 @@ by_turns-steps g turns (suc k) s none =
     ap (λ (h : ℕ). step_of g h (by_turns g turns k s)) (none k (omega arith))
     ∙ ap (step g) (by_turns-steps g turns k s (λ j less. none j (omega (arith, less))))
 
--- what each step keeps
-step_of-keeps : (P : State → Type 0) (g : Setting) → ((s : State) → P s → P (step g s)) → (hart : ℕ) (s : State) → P s → P (step_of g hart s)
-unfolding step_of
-step_of-keeps P g keeps zero s p = keeps s p
-step_of-keeps P g keeps (suc hart) s p = p
+-- what every step keeps, whichever hart is in front
+pub record IsKept (P : State → Type 0) (g : Setting) : Type 0 where
+  pub steps : (s : State) → P s → P (step g s)
+  pub crosses : (s : State) → P s → P (crossed s)
 
-by_turns-keeps : (P : State → Type 0) (g : Setting) → ((s : State) → P s → P (step g s)) → (turns : List ℕ) (j k : ℕ) (s : State)
+step_of-keeps : (P : State → Type 0) (g : Setting) → IsKept P g → (hart : ℕ) (s : State) → P s → P (step_of g hart s)
+unfolding step_of
+step_of-keeps P g keeps zero s p = keeps.steps s p
+step_of-keeps P g keeps (suc hart) s p = keeps.crosses (step g (crossed s)) (keeps.steps (crossed s) (keeps.crosses s p))
+
+by_turns-keeps : (P : State → Type 0) (g : Setting) → IsKept P g → (turns : List ℕ) (j k : ℕ) (s : State)
     → j ≤ k → P (by_turns g turns j s) → P (by_turns g turns k s)
 unfolding by_turns
 by_turns-keeps P g keeps turns j zero s le p = subst (λ (i : ℕ). P (by_turns g turns i s)) (let e : j ≡ zero = omega arith in e) p
@@ -215,13 +219,13 @@ at-early o k early =
     ap (λ (i : ℕ). by_turns (setting_of o) o.turns i o.start) e
 
 -- what each step keeps, from one count to a later one
-pub at-keeps : (P : State → Type 0) (o : Origin) → ((s : State) → P s → P (step (setting_of o) s)) → (j k : ℕ) → j ≤ k → P (at o j) → P (at o k)
+pub at-keeps : (P : State → Type 0) (o : Origin) → IsKept P (setting_of o) → (j k : ℕ) → j ≤ k → P (at o j) → P (at o k)
 unfolding at
 at-keeps P o keeps j k le p =
     by_turns-keeps P (setting_of o) keeps o.turns (j - o.start.count) (k - o.start.count) o.start (omega (arith, le)) p
 
 -- and from the start on
-pub at-holds : (P : State → Type 0) (o : Origin) → ((s : State) → P s → P (step (setting_of o) s)) → P o.start → (k : ℕ) → P (at o k)
+pub at-holds : (P : State → Type 0) (o : Origin) → IsKept P (setting_of o) → P o.start → (k : ℕ) → P (at o k)
 at-holds P o keeps p k = at-keeps P o keeps 0 k (omega arith) (subst P (sym (at-early o 0 (omega arith))) p)
 
 -- ---- what is safe

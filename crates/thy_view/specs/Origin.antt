@@ -7,7 +7,7 @@ use Rattle.thy_base.specs.Bytes.{bytes_of}
 use Rattle.thy_base.specs.Geometry.{IsInRange, program_size}
 use Rattle.thy_isa.specs.declared.state.Status.TheVariants.{Running}
 use Rattle.thy_isa.specs.OnBlocks.{setting_for}
-use Rattle.thy_isa.specs.Step.{State, Setting, state_of, cpu_of, step, is_running}
+use Rattle.thy_isa.specs.Step.{State, Setting, state_of, cpu_of, step_of, is_running}
 use Rattle.thy_isa.specs.Storable.{IsStorable, IsReadable}
 use Rattle.thy_record.specs.Cpu.{IsRecordable}
 use Rattle.thy_record.specs.declared.start.Start.{Start}
@@ -29,11 +29,6 @@ setting_of o = setting_for o.geometry o.input
 -- the hart that retires the next instruction at a count; below the start's it is hart 0
 abbrev pub turn_at : Origin → ℕ → ℕ
 turn_at o k = if nat_lt k o.start.count then 0 else get_or o.turns (k - o.start.count) 0
-
--- a step of a hart: the plain machine has only hart 0, and any other hart does nothing
-unfoldable pub step_of : Setting → ℕ → State → State
-step_of g zero s = step g s
-step_of g (suc hart) s = s
 
 -- k steps, each by the hart whose turn it is
 unfoldable pub by_turns : Setting → List ℕ → ℕ → State → State

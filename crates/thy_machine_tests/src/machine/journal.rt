@@ -1,12 +1,12 @@
 //! The machine over the redo journal: how many cycles and writes its runs take and which steps its engine takes, on rows
 //! worked out by hand; programs cut after every cycle; and cuts while a journal is applied, with a second cut in the
 //! recovery after that.
-use crate::expect::{expect, expect_at};
 use crate::machine::waiting::TWO_EPOCHS;
 use crate::machine::{
     Checkpoint, MOST, Powered, Row, Story, boot, ends_from, finished, plain_machines, stands,
     survives_once_loaded, uncut,
 };
+use crate::support::expect::{expect, expect_at};
 use std::alloc::Global;
 use std::process::Abort;
 use thy_base::{EndCause, Mark, Nvm};

@@ -1,9 +1,9 @@
 //! The machine over the scheme that waits: a program of two epochs, cut after every cycle, and how many barriers come
 //! before the hart continues.
-use crate::expect::{expect, expect_at};
 use crate::machine::{
     Booted, MOST, Powered, Row, boot, committed_in, plain_machines, survives_once_loaded, uncut,
 };
+use crate::support::expect::{expect, expect_at};
 use std::alloc::Global;
 use std::process::Abort;
 use thy_base::EndCause;

@@ -1,6 +1,6 @@
 //! Calls on a shelf that records under which names its calls failed.
-use crate::naming::NamingShelf;
 use crate::runs::{called_over, compare, files};
+use crate::support::naming::NamingShelf;
 use std::alloc::{AllocError, Global};
 use std::process::Abort;
 use std::test::Fail;

@@ -1,0 +1,71 @@
+-- Every state of a run can be stored, and its processor recorded.
+use Rattle.std.proofs.Common.{◌≡◌, ℕ, ◌+◌, ◌^◌, ◌<◌, ◌≤◌, true, nat_le, List, length, slice_index, Option, None, refl, sym, ap, ◌∙◌, subst, inl, inr, arith}
+use Rattle.std.proofs.lemmas.Bool.{cases_lt, le-leb}
+use Rattle.std.proofs.lemmas.List.{get_or_past}
+use Rattle.thy_base.specs.declared.block.Block.{Block}
+use Rattle.thy_base.specs.declared.config.Parameters.{Parameters}
+use Rattle.thy_base.specs.Geometry.{console_room, program_size}
+use Rattle.thy_isa.specs.declared.state.CpuState.{CpuState}
+use Rattle.thy_isa.specs.declared.state.Status.{Status}
+use Rattle.thy_isa.specs.declared.state.Status.TheVariants.{Running, Exited, Trapped}
+use Rattle.thy_isa.specs.OnBlocks.{state_from}
+use Rattle.thy_isa.specs.Step.{State}
+use Rattle.thy_isa.specs.Storable.{IsStatus, IsStorable}
+use Rattle.thy_isa.proofs.HartLaws.{step-alone, crossed-alone, crossed-storable}
+use Rattle.thy_isa.proofs.StorableLaws.{step-storable}
+use Rattle.thy_record.specs.Cpu.{status_tag, status_value, is_status, IsRecordable}
+use Rattle.thy_view.specs.Origin.{Origin, IsOrigin, setting_of, at}
+use Rattle.thy_view.specs.Safe.{ceiling}
+use Rattle.thy_view.proofs.TurnLaws.{at-holds}
+
+pub at-storable : (o : Origin) (k : ℕ) → IsOrigin o → IsStorable (program_size o.geometry) (at o k)
+at-storable o k h =
+    at-holds (IsStorable (program_size o.geometry)) o (record {
+      steps = λ s there. step-storable (setting_of o) (program_size o.geometry) s h.readable there;
+      crosses = λ s there. crossed-storable (program_size o.geometry) s there;
+    }) h.storable k
+
+-- there is one hart
+pub at-alone : (o : Origin) (k : ℕ) → IsOrigin o → (at o k).other ≡ None
+at-alone o k h =
+    at-holds (λ s. s.other ≡ None) o (record {
+      steps = λ s alone. step-alone (setting_of o) s alone;
+      crosses = λ s alone. crossed-alone s alone;
+    }) h.recordable.alone k
+
+status_fits : (status : Status) → IsStatus status → is_status (status_tag status) (status_value status) ≡ true
+status_fits Running h = refl
+status_fits (Exited v) h = le-leb v 255 (omega arith)
+status_fits (Trapped v) h = le-leb v 7 (omega arith)
+
+recordable_there : (p : Parameters) (cpu : CpuState) (memory : List Block) (size : ℕ) → IsStorable size (state_from p cpu memory) → cpu.other ≡ None
+    → cpu.console_len ≤ console_room p → cpu.count < ceiling → IsRecordable p ceiling cpu
+unfolding state_from
+recordable_there p cpu memory size there alone console count = record {
+  pc = there.pc;
+  regs_length = there.registers;
+  regs_zero = there.zero_register;
+  regs = λ i. elim (cases_lt i (length cpu.regs)) as (λ _. slice_index cpu.regs i < 2 ^ 64) [
+    | inl l ↦ there.numbers i 0 l
+    | inr l ↦ let past : slice_index cpu.regs i ≡ 0 = get_or_past cpu.regs i 0 l in omega arith
+  ];
+  console = console;
+  cursor = there.cursor;
+  brk = there.brk;
+  floor = there.floor;
+  count = count;
+  status = status_fits cpu.status there.status;
+  alone = alone;
+}
+
+other_from : (p : Parameters) (cpu : CpuState) (memory : List Block) → (state_from p cpu memory).other ≡ cpu.other
+unfolding state_from
+other_from p cpu memory = refl
+
+-- a processor that makes a state of the run can be recorded if its console and its count fit
+pub IsRecordable-at : (o : Origin) (k : ℕ) (cpu : CpuState) (memory : List Block) → IsOrigin o → state_from o.geometry cpu memory ≡ at o k
+    → cpu.console_len ≤ console_room o.geometry → cpu.count < ceiling → IsRecordable o.geometry ceiling cpu
+IsRecordable-at o k cpu memory origin is console count =
+    recordable_there o.geometry cpu memory (program_size o.geometry)
+    (subst (IsStorable (program_size o.geometry)) (sym is) (at-storable o k origin))
+    (sym (other_from o.geometry cpu memory) ∙ ap (λ (s : State). s.other) is ∙ at-alone o k origin) console count
