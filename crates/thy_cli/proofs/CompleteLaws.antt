@@ -36,6 +36,8 @@ use Rattle.thy_run.specs.Endings.{EndsWith, is_memory, StopFits}
 use Rattle.thy_run.specs.Laws.{course_of, first_marks}
 use Rattle.thy_run.specs.Sending.{Sent, Delivered}
 use Rattle.thy_run.specs.World.{Given}
+use Rattle.thy_run.specs.Watching.{Taken}
+use Rattle.thy_cli.specs.Watching.{HasSeenCall, ClaimSeen}
 use Rattle.thy_run.specs.declared.ending.Stop.{Stop}
 use Rattle.thy_run.specs.declared.ending.Stop.TheVariants.{Ended, Nvm, Memory, Terminal, Report, Limit}
 use Rattle.thy_cli.specs.declared.answer.Answer.{Answer}
@@ -44,7 +46,7 @@ use Rattle.thy_cli.specs.declared.refusal.Refusal.TheVariants.{Words, Fetch, Fil
 use Rattle.thy_cli.specs.Answering.{Outside, WordsDue, RunDue, given_for, ClosesRun, IsRunOf, with_device, IsPlainOf, MakeAnswered, made_told, plain_stop, end_lines, stop_line, stop_status, run_line, run_status, summary_for, RunAnswered, PlainAnswered, OrderAnswered, Answered}
 use Rattle.thy_cli.specs.Levelling.{IsFoundAs, IsLeftAs}
 use Rattle.thy_cli.specs.Machines.{Choice}
-use Rattle.thy_cli.specs.Completing.{IsAsked, Stayed, IsCalm, left_alone, run_of, TellsEnd, RunCompletes, PlainCompletes, MakeCompletes, Claim}
+use Rattle.thy_cli.specs.Completing.{IsAsked, Stayed, IsCalm, left_alone, run_of, TellsEnd, RunCompletes, PlainCompletes, MakeCompletes}
 use Rattle.thy_cli.specs.Planning.{refused_status}
 use Rattle.thy_cli.specs.Saving.{PutCounted, SavesUnder, saves}
 use Rattle.thy_cli.specs.Sources.{ProgramSource, file, made, image, most_bytes, most_image_bytes, Beginning, begun, from_entry, AreBytesOf, IsHeld, IsTooLong, IsInput, FetchDue, meaning_of, IsProgram, SourceDue, InputDue, IsMeant, ProgramDue, origin_for}
@@ -434,11 +436,15 @@ Completes-make c words before after a (inl (e, due, shelf, device, refused)) n n
 Completes-make c words before after a (inr (order, is, h)) n name asked faults =
     make_completes n name before after a faults (subst (λ x. OrderAnswered c x before after a) (order_same words (make n name) order asked is) h)
 
--- so what is claimed of a call follows from what its result is
-pub Claim-answered : (c : Choice) (words : List (List ℕ)) (before after : Outside) (a : Answer) → Answered c words before after a → Claim c words before after a
-Claim-answered c words before after a h = record {
-  answered = h;
-  complete_run = Completes-run c words before after a h;
-  complete_plain = Completes-plain c words before after a h;
-  complete_make = Completes-make c words before after a h;
-}
+-- so what is claimed of a call follows from what its result is, and from what its observer has seen
+pub ClaimSeen-answered : {O : Type 0} (c : Choice) (has_seen : O → List Taken → Type 0) (has_seen_last : O → ℕ → State → Type 0) (words : List (List ℕ)) (before after : Outside) (a : Answer) (observer : O) → (h : Answered c words before after a)
+    → HasSeenCall c has_seen has_seen_last words before after a h observer → ClaimSeen c has_seen has_seen_last words before after a observer
+ClaimSeen-answered c has_seen has_seen_last words before after a observer h has = (
+  record {
+    answered = h;
+    complete_run = Completes-run c words before after a h;
+    complete_plain = Completes-plain c words before after a h;
+    complete_make = Completes-make c words before after a h;
+  },
+  has,
+)

@@ -28,12 +28,14 @@ use Rattle.thy_run.specs.Images.{Found, found, HasLeft, AllFit}
 use Rattle.thy_run.specs.Laws.{Promise, found_at_start}
 use Rattle.thy_run.specs.World.{Given}
 use Rattle.thy_cli.specs.declared.answer.Answer.{Answer}
-use Rattle.thy_cli.specs.Answering.{Outside, with_device, IsRunOf, IsRunOver, IsSafeFor, given_for}
-use Rattle.thy_cli.specs.Levelling.{through, read_through, images_of_save, IsFoundAs, IsLeftAs, IsHandedBack, PutsThrough}
+use Rattle.thy_cli.specs.Answering.{Outside, with_device, IsRunOf, IsSafeFor, given_for}
+use Rattle.thy_cli.specs.Levelling.{through, images_of_save, IsFoundAs, IsLeftAs, IsHandedBack, PutsThrough}
 use Rattle.thy_cli.specs.Planning.{HasStayed}
 use Rattle.thy_cli.specs.Saving.{IsPut, SavesUnder, saves, save_pick}
 use Rattle.thy_cli.specs.Sources.{ProgramSource, origin_for}
 use Rattle.thy_words.specs.Settings.{Job}
+use Rattle.thy_run.specs.Watching.{Taken}
+use Rattle.thy_cli.specs.Watching.{HasSeenOf, RunSeen}
 
 -- ---- what images are to a run
 
@@ -180,22 +182,26 @@ PutsThrough-saved gap None true c handed stood left old new why is h = (h.1, h.2
 PutsThrough-saved gap None false c handed stood left old new why is h = (h.1, h.2)
 
 -- a run over the device that it sees is one over the device that was handed in
-pub IsRunOver-seen : {M : Type 0} (K : KindOf M) (source : ProgramSource) (job : Job) (before after : Outside) (found left : Device) (a : Answer) → IsFoundAs job.config.gap before.device found
-    → IsLeftAs job.config.gap after.device left → IsRunOf K source job (with_device found before) (with_device left after) a → IsRunOver K source job before after a
-IsRunOver-seen K source job before after found left a is_found is_left seen =
-    let run = seen.run in
-    record {
-      found = found;
-      left = left;
-      is_found = is_found;
-      is_left = is_left;
-      seen = seen;
-      back =
-          IsHandedBack-left K (origin_for job seen.program.begins seen.program.input) (given_for K job seen.program.begins found) job.config.gap a.cycles
-          (images_of_save job.save (saves run.ending.stop)) a.events after.device run.stood left is_left
-          (images_of job.save (saves run.ending.stop) job.config run.stood left before.shelf after.shelf run.why run.saved) run.promise run.safe;
-      put = PutsThrough-saved job.config.gap job.save (saves run.ending.stop) job.config after.device run.stood left before.shelf after.shelf run.why is_left run.saved;
-    }
+pub IsRunOver-seen : {M O : Type 0} (K : KindOf M) (has_seen : O → List Taken → Type 0) (source : ProgramSource) (job : Job) (before after : Outside) (found left : Device) (a : Answer) (observer : O) → IsFoundAs job.config.gap before.device found
+    → IsLeftAs job.config.gap after.device left
+    → ((h : IsRunOf K source job (with_device found before) (with_device left after) a) × HasSeenOf K has_seen source job (with_device found before) (with_device left after) a h observer)
+    → RunSeen K has_seen source job before after a observer
+IsRunOver-seen K has_seen source job before after found left a observer is_found is_left (seen, has) =
+    let run = seen.run in (
+      inr (record {
+        found = found;
+        left = left;
+        is_found = is_found;
+        is_left = is_left;
+        seen = seen;
+        back =
+            IsHandedBack-left K (origin_for job seen.program.begins seen.program.input) (given_for K job seen.program.begins found) job.config.gap a.cycles
+            (images_of_save job.save (saves run.ending.stop)) a.events after.device run.stood left is_left
+            (images_of job.save (saves run.ending.stop) job.config run.stood left before.shelf after.shelf run.why run.saved) run.promise run.safe;
+        put = PutsThrough-saved job.config.gap job.save (saves run.ending.stop) job.config after.device run.stood left before.shelf after.shelf run.why is_left run.saved;
+      }),
+      has,
+    )
 
 -- ---- blocks and loans
 

@@ -47,7 +47,7 @@ use Rattle.thy_run.specs.declared.ending.Ending.{Ending}
 use Rattle.thy_run.specs.declared.plan.Plan.{Plan}
 use Rattle.thy_cli.specs.declared.refusal.Refusal.{Refusal}
 use Rattle.thy_cli.specs.declared.refusal.Refusal.TheVariants.{Device as DeviceRefusal}
-use Rattle.thy_cli.specs.Answering.{Outside, outside, RunAnswered, WordsDue, RunDue, given_for, shape_for, IsRunFrom, IsRunOf, IsSafeFor, ClosesRun, run_line, run_status, summary_for}
+use Rattle.thy_cli.specs.Answering.{Outside, outside, WordsDue, RunDue, given_for, shape_for, IsRunFrom, IsRunOf, IsSafeFor, ClosesRun, run_line, run_status, summary_for}
 use Rattle.thy_cli.specs.Planning.{Begins, begun_with, CanRun, Fits, FitsKept, HasRoom, IsElf, AreFetchedFor, IsPlanOf, IsProgramOf, shape_of}
 use Rattle.thy_cli.specs.Restoring.{IsRestored, ReadsFiles}
 use Rattle.thy_cli.specs.Saving.{SavesUnder, save_pick, saves}
@@ -59,6 +59,9 @@ use Rattle.thy_cli.specs.declared.source.Program.{Program}
 use Rattle.thy_cli.proofs.RestoringLaws.{IsOrigin-restored}
 use Rattle.thy_run.specs.Going.{origin_of, given_of, IsPlanned}
 use Rattle.thy_run.specs.Rounds.{RunEnds}
+use Rattle.thy_run.specs.Seeing.{RunEndsSeen}
+use Rattle.thy_run.specs.Watching.{Taken}
+use Rattle.thy_cli.specs.Watching.{HasSeenFrom, HasSeenOf, RunSeen}
 
 -- ---- configurations
 
@@ -177,17 +180,18 @@ safe_saved K o events None true c n m old new why h safe = subst (IsSafeFor K o 
 safe_saved K o events None false c n m old new why h safe = subst (IsSafeFor K o events) (sym h.0) safe
 
 -- a run that was begun keeps its promise
-pub IsRunOf-ran : {M : Type 0} (K : KindOf M) (laws : IsLawful K) → (source : ProgramSource) (job : Job) (save : Option (List ℕ)) (before after : Outside) (plan : Plan) (blocks : List Block) (d stood : Device) (e : Ending) (a : Answer) (told : Stream) (why : Option PutError)
+pub IsRunOf-ran : {M O : Type 0} (K : KindOf M) (laws : IsLawful K) (has_seen : O → List Taken → Type 0) → (source : ProgramSource) (job : Job) (save : Option (List ℕ)) (before after : Outside) (plan : Plan) (blocks : List Block) (d stood : Device) (e : Ending) (a : Answer) (told : Stream) (why : Option PutError) (observer : O)
     → IsPlanned plan → (p : IsPlanOf source job before.shelf plan blocks) → job.save ≡ save
     → d ≡ fitted (shape_for K job.config) blocks before.device
-    → RunEnds K plan d stood e before.terminal after.terminal before.report told
+    → RunEndsSeen K has_seen plan d stood e before.terminal after.terminal before.report told observer
     → SavesUnder save (saves e.stop) plan.config stood after.device before.shelf after.shelf why
     → ClosesRun e.report_failed (summary_for source e.stop e.events ++ run_line plan.geometry.limit save e.stop why) told after.report
-    → a.events ≡ e.events → a.cycles ≡ e.cycles → a.status ≡ run_status e.stop why → IsRunOf K source job before after a
-IsRunOf-ran K laws source job save before after plan blocks d stood e a told why planned p names fit ends saved closes events cycles status =
+    → a.events ≡ e.events → a.cycles ≡ e.cycles → a.status ≡ run_status e.stop why
+    → (h : IsRunOf K source job before after a) × HasSeenOf K has_seen source job before after a h observer
+IsRunOf-ran K laws has_seen source job save before after plan blocks d stood e a told why observer planned p names fit ends saved closes events cycles status =
     let o : Origin = origin_for job p.program.begins p.program.input in
     let given : Given = given_for K job p.program.begins before.device in
-    let promise = planned_promise K laws plan d stood e before.terminal after.terminal before.report told planned ends in
+    let promise = planned_promise K laws plan d stood e before.terminal after.terminal before.report told planned ends.0 in
     let put : SavesUnder job.save (saves e.stop) job.config stood after.device before.shelf after.shelf why =
     subst (λ c. SavesUnder job.save (saves e.stop) c stood after.device before.shelf after.shelf why) p.config
     (subst (λ n. SavesUnder n (saves e.stop) plan.config stood after.device before.shelf after.shelf why) (sym names) saved) in
@@ -195,7 +199,7 @@ IsRunOf-ran K laws source job save before after plan blocks d stood e a told why
       ending = e;
       stood = stood;
       told = told;
-      ran = ends;
+      ran = ends.0;
       why = why;
       saved = put;
       closes =
@@ -211,12 +215,12 @@ IsRunOf-ran K laws source job save before after plan blocks d stood e a told why
       safe = safe_saved K (origin_of plan) a.events job.save (saves e.stop) job.config stood after.device before.shelf after.shelf why put
           (subst (λ vs. IsSafeFor K (origin_of plan) vs stood) (sym events) promise.safe_at_return);
     } in
-    record {
-      program = p.program;
-      run =
-          subst (λ x. IsRunFrom K o x source job before after a) (planned_given K source job before.shelf plan blocks d before.device p fit)
-          (subst (λ x. IsRunFrom K x (given_of plan d) source job before after a) p.origin run);
-    }
+    let both : (r : IsRunFrom K o given source job before after a) × HasSeenFrom K has_seen o given source job before after a r observer =
+    subst (λ x. (r : IsRunFrom K o x source job before after a) × HasSeenFrom K has_seen o x source job before after a r observer)
+    (planned_given K source job before.shelf plan blocks d before.device p fit)
+    (subst (λ x. (r : IsRunFrom K x (given_of plan d) source job before after a) × HasSeenFrom K has_seen x (given_of plan d) source job before after a r observer) p.origin
+    (run, ends.1)) in
+    (record { program = p.program; run = both.0 }, both.1)
 
 -- if there is no program, a job is not run
 pub RunDue-program : (source : ProgramSource) (job : Job) (before after : Outside) (r : Refusal) → ProgramDue source job before.shelf after.shelf r → after.device ≡ before.device → RunDue source job before after r
@@ -381,13 +385,15 @@ HasRoom-ran K laws plan blocks shape n d stood e terminal shown report read plan
     }
 
 -- a run from a shelf that is the one before is one from that
-pub RunAnswered-same : {M : Type 0} (K : KindOf M) (source : ProgramSource) (job : Job) (old middle new : Stock) (n m : Device) (t u r s : Stream) (a : Answer) → middle ≡ old
-    → RunAnswered K source job (outside middle n t r) (outside new m u s) a → RunAnswered K source job (outside old n t r) (outside new m u s) a
-RunAnswered-same K source job old middle new n m t u r s a same h = subst (λ x. RunAnswered K source job (outside x n t r) (outside new m u s) a) same h
+pub RunSeen-same : {M O : Type 0} (K : KindOf M) (has_seen : O → List Taken → Type 0) (source : ProgramSource) (job : Job) (old middle new : Stock) (n m : Device) (t u r s : Stream) (a : Answer) (observer : O) → middle ≡ old
+    → RunSeen K has_seen source job (outside middle n t r) (outside new m u s) a observer → RunSeen K has_seen source job (outside old n t r) (outside new m u s) a observer
+RunSeen-same K has_seen source job old middle new n m t u r s a observer same h = subst (λ x. RunSeen K has_seen source job (outside x n t r) (outside new m u s) a observer) same h
 
 -- a run of a source under a name is one under the same name in other words
-pub RunAnswered-file : {M : Type 0} (K : KindOf M) (name own : List ℕ) (job : Job) (before after : Outside) (a : Answer) → name ≡ own → RunAnswered K (file name) job before after a → RunAnswered K (file own) job before after a
-RunAnswered-file K name own job before after a same h = subst (λ n. RunAnswered K (file n) job before after a) same h
+pub RunSeen-file : {M O : Type 0} (K : KindOf M) (has_seen : O → List Taken → Type 0) (name own : List ℕ) (job : Job) (before after : Outside) (a : Answer) (observer : O) → name ≡ own
+    → RunSeen K has_seen (file name) job before after a observer → RunSeen K has_seen (file own) job before after a observer
+RunSeen-file K has_seen name own job before after a observer same h = subst (λ n. RunSeen K has_seen (file n) job before after a observer) same h
 
-pub RunAnswered-image : {M : Type 0} (K : KindOf M) (name own : List ℕ) (job : Job) (before after : Outside) (a : Answer) → name ≡ own → RunAnswered K (image name) job before after a → RunAnswered K (image own) job before after a
-RunAnswered-image K name own job before after a same h = subst (λ n. RunAnswered K (image n) job before after a) same h
+pub RunSeen-image : {M O : Type 0} (K : KindOf M) (has_seen : O → List Taken → Type 0) (name own : List ℕ) (job : Job) (before after : Outside) (a : Answer) (observer : O) → name ≡ own
+    → RunSeen K has_seen (image name) job before after a observer → RunSeen K has_seen (image own) job before after a observer
+RunSeen-image K has_seen name own job before after a observer same h = subst (λ n. RunSeen K has_seen (image n) job before after a observer) same h

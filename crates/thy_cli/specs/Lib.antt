@@ -5,4 +5,5 @@ pub mod Restoring
 pub mod Answering
 pub mod Completing
 pub mod Machines
+pub mod Watching
 pub mod Planning

@@ -16,6 +16,7 @@ use Rattle.thy_image.specs.Saved.{AreOfCheckpoint}
 use Rattle.thy_run.specs.Cuts.{cuts_among}
 use Rattle.thy_run.specs.Going.{origin_of, IsPlanned}
 use Rattle.thy_run.specs.declared.plan.Plan.{Plan}
+use Rattle.thy_run.specs.Watching.{Taken}
 use Rattle.thy_text.specs.Event.{Event}
 use Rattle.thy_view.specs.Kind.{KindOf}
 use Rattle.thy_view.specs.Origin.{IsOrigin}
@@ -29,7 +30,8 @@ use Rattle.thy_cli.specs.declared.source.FetchedBytes.{FetchedBytes}
 use Rattle.thy_cli.specs.declared.source.Program.{Program}
 use Rattle.thy_cli.specs.declared.source.ProgramSource.{ProgramSource as SourceValue}
 use Rattle.thy_cli.specs.declared.source.ProgramSource.TheVariants as value
-use Rattle.thy_cli.specs.Answering.{Outside, told_of, with_device, shape_for, IsRunOf, RunAnswered}
+use Rattle.thy_cli.specs.Answering.{Outside, told_of, with_device, shape_for, IsRunOf}
+use Rattle.thy_cli.specs.Watching.{HasSeenOf, RunSeen}
 use Rattle.thy_cli.specs.Sources.{ProgramSource, file, made, image, Beginning, from_entry, FetchDue, AreFetched, IsProgram, origin_for, ProgramDue}
 
 -- the exit status of a refusal, and its line
@@ -155,14 +157,18 @@ pub record HasStayed (old new : Device) : Type 0 where
   pub blocks : length new.image ≡ length old.image
   pub lent : new.lent ≡ old.lent
 
--- what a run of a plan, over a device that was fitted, is to a job that it is the plan of, whatever device was fitted
-abbrev pub RunsFitted : {M : Type 0} → KindOf M → ProgramSource → Option (List ℕ) → Plan → Outside → Outside → Answer → Type 0
-RunsFitted K source save p before after a =
+-- What a run of a plan, over a device that was fitted, is to a job that it is the plan of, whatever device was fitted; and
+-- what an observer has seen of it.
+abbrev pub RunsFitted : {M O : Type 0} → KindOf M → (O → List Taken → Type 0) → ProgramSource → Option (List ℕ) → Plan
+    → Outside → Outside → Answer → O → Type 0
+RunsFitted K has_seen source save p before after a observer =
     (job : Job) (blocks : List Block) (found : Device) → job.save ≡ save → IsPlanOf source job before.shelf p blocks
-    → before.device ≡ fitted (shape_for K job.config) blocks found → IsRunOf K source job (with_device found before) after a
+    → before.device ≡ fitted (shape_for K job.config) blocks found
+    → (h : IsRunOf K source job (with_device found before) after a)
+    × HasSeenOf K has_seen source job (with_device found before) after a h observer
 
--- what a run of a plan is to a job that it is the plan of
-abbrev pub RunsPlan : {M : Type 0} → KindOf M → ProgramSource → Option (List ℕ) → Plan → List Block → Outside → Outside
-    → Answer → Type 0
-RunsPlan K source save p blocks before after a =
-    (job : Job) → job.save ≡ save → IsPlanOf source job before.shelf p blocks → RunAnswered K source job before after a
+-- what a run of a plan is to a job that it is the plan of, and what an observer has seen of it
+abbrev pub RunsPlan : {M O : Type 0} → KindOf M → (O → List Taken → Type 0) → ProgramSource → Option (List ℕ) → Plan → List Block
+    → Outside → Outside → Answer → O → Type 0
+RunsPlan K has_seen source save p blocks before after a observer =
+    (job : Job) → job.save ≡ save → IsPlanOf source job before.shelf p blocks → RunSeen K has_seen source job before after a observer

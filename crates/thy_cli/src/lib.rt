@@ -20,4 +20,4 @@ mod top;
 
 pub use answer::Answer;
 pub use refusal::{Refusal, refuse};
-pub use top::thynvm;
+pub use top::{observed, thynvm};

@@ -1,5 +1,5 @@
 //! A program on the plain machine.
-ghost use Rattle.std.specs.Prelude.{◌≡◌, None, length, IfOk, IfErr, OnOk, option_map};
+ghost use Rattle.std.specs.Prelude.{◌≡◌, [], None, length, IfOk, IfErr, OnOk, option_map};
 ghost use Rattle.thy_base.specs.Bytes.{bytes_of};
 ghost use Rattle.thy_base.specs.Config.{fault_of as range_fault};
 ghost use Rattle.thy_base.specs.Device.{Device as DeviceValue};
@@ -7,9 +7,10 @@ ghost use Rattle.thy_base.specs.Geometry.{IsInRange, program_size};
 ghost use Rattle.thy_base.specs.Outside.{HasNotFailed};
 ghost use Rattle.thy_text.specs.Lines.{ended_lines};
 ghost use Rattle.thy_words.specs.Settings.{Job as JobValue, job_of};
-ghost use Rattle.thy_cli.specs.Answering.{outside, PlainAnswered, plain_stop};
+ghost use Rattle.thy_cli.specs.Answering.{outside, plain_stop};
 ghost use Rattle.thy_cli.specs.Planning.{IsJobOf, IsPlannedFor, IsProgramOf};
 ghost use Rattle.thy_cli.specs.Sources.{ProgramDue, file};
+ghost use Rattle.thy_cli.specs.Watching.{PlainSeen};
 ghost use Rattle.thy_run.specs.Sending.{Sent};
 
 use crate::answer::Answer;
@@ -20,7 +21,7 @@ use std::alloc::Global;
 use thy_base::{Config, Geometry, Shelf, Sink};
 use thy_isa::{MachState, Status};
 use thy_plain::Plain;
-use thy_run::{Ending, Stop, write_bytes};
+use thy_run::{Ending, Observer, Stop, write_bytes};
 use thy_text::{Events, write_ended};
 use thy_words::{Job, WordsError};
 
@@ -73,7 +74,7 @@ fn plain_program<'a, H: Shelf>(
 }
 
 /// Runs a program file on the plain machine, with what this job says.
-fn run_plain<'a, H: Shelf, T: Sink, R: Sink>(
+fn run_plain<'a, H: Shelf, T: Sink, R: Sink, O: Observer>(
     alloc: Global,
     name: &'a str,
     input: Option<&'a str>,
@@ -82,12 +83,14 @@ fn run_plain<'a, H: Shelf, T: Sink, R: Sink>(
     shelf: &mut H,
     terminal: &mut T,
     report: &mut R,
+    observer: &mut O,
 ) -> Answer
-    requires { range_fault config.now ≡ None }
+    requires range { range_fault config.now ≡ None }
+    requires unseen { O.has_seen observer.old [] }
     ensures { (n : DeviceValue) (job : JobValue) → IsJobOf job config.now (option_map (λ n. n.now) input.entry) digest →
         let before = outside (H.stock shelf.old) n (T.stream terminal.old) (R.stream report.old) in
         let after = outside (H.stock shelf.new) n (T.stream terminal.new) (R.stream report.new) in
-        PlainAnswered name.now job before after result }
+        PlainSeen O.has_seen O.has_seen_last name.now job before after result observer.new }
 {
     let geometry = match Geometry::new(config) {
         Ok(geometry) => geometry,
@@ -109,6 +112,7 @@ fn run_plain<'a, H: Shelf, T: Sink, R: Sink>(
         Ok(mut machine) => {
             let cycles = machine.run(limit);
             let state = machine.state();
+            observer.see_last(geometry.numbers().base, state);
             let terminal_failed = write_bytes(state.console.as_slice(), terminal);
             let report_failed = write_end(state, digest, report);
             let ending = Ending {
@@ -125,20 +129,23 @@ fn run_plain<'a, H: Shelf, T: Sink, R: Sink>(
 }
 
 /// Runs a program file on the plain machine. The console of its last state goes to the terminal, and
-/// how it has ended to the report; `cycles` is the number of its steps, and there are no events.
-pub fn plain_file<H: Shelf, T: Sink, R: Sink>(
+/// how it has ended to the report; `cycles` is the number of its steps, and there are no events. The observer sees the
+/// last state.
+pub fn plain_file<H: Shelf, T: Sink, R: Sink, O: Observer>(
     alloc: Global,
     name: &str,
     job: Job,
     shelf: &mut H,
     terminal: &mut T,
     report: &mut R,
+    observer: &mut O,
 ) -> Answer
-    requires { range_fault job.config ≡ None }
+    requires range { range_fault job.config ≡ None }
+    requires unseen { O.has_seen observer.old [] }
     ensures { (n : DeviceValue) →
         let before = outside (H.stock shelf.old) n (T.stream terminal.old) (R.stream report.old) in
         let after = outside (H.stock shelf.new) n (T.stream terminal.new) (R.stream report.new) in
-        PlainAnswered name.now (job_of job) before after result }
+        PlainSeen O.has_seen O.has_seen_last name.now (job_of job) before after result observer.new }
 {
     let Job {
         config,
@@ -147,5 +154,7 @@ pub fn plain_file<H: Shelf, T: Sink, R: Sink>(
         digest,
     } = job;
     let input = input.as_deref();
-    run_plain(alloc, name, input, &config, digest, shelf, terminal, report)
+    run_plain(
+        alloc, name, input, &config, digest, shelf, terminal, report, observer,
+    )
 }

@@ -1,11 +1,12 @@
 //! A run on the machine.
-ghost use Rattle.std.specs.Prelude.{◌≡◌, ◌<◌, None, IfOk, IfErr, OnOk, option_map};
+ghost use Rattle.std.specs.Prelude.{◌≡◌, ◌<◌, [], None, IfOk, IfErr, OnOk, option_map};
 ghost use Rattle.thy_base.specs.Config.{fault_of as range_fault};
 ghost use Rattle.thy_base.specs.Geometry.{IsInRange, parameters_of};
 ghost use Rattle.thy_base.specs.Outside.{HasNotFailed};
 ghost use Rattle.thy_base.specs.declared.config.Parameters.{Parameters as Numbers};
 ghost use Rattle.thy_words.specs.Settings.{Job as JobValue, job_of};
-ghost use Rattle.thy_cli.specs.Answering.{outside, RunAnswered};
+ghost use Rattle.thy_cli.specs.Answering.{outside};
+ghost use Rattle.thy_cli.specs.Watching.{RunSeen};
 ghost use Rattle.thy_cli.specs.Machines.{by_scheme};
 ghost use Rattle.thy_cli.specs.Sources.{ProgramDue};
 ghost use Rattle.thy_cli.specs.Saving.{SavesUnder, saves};
@@ -24,7 +25,7 @@ use crate::source::{ProgramSource, fetch_both};
 use std::alloc::Global;
 use thy_base::{Block, Geometry, Nvm, PutError, SchemeName, Shape, Shelf, Sink};
 use thy_gap::Gap;
-use thy_run::{Ending, Plan, run};
+use thy_run::{Ending, Observer, Plan, run};
 use thy_view::Computer;
 use thy_words::{Job, WordsError};
 
@@ -96,7 +97,7 @@ fn shape_of<M: Computer>(plan: &Plan) -> Shape
 }
 
 /// Runs a plan over a device that was fitted for it, and saves the run.
-fn run_fitted<M: Computer, H: Shelf, T: Sink, R: Sink, N: Nvm>(
+fn run_fitted<M: Computer, H: Shelf, T: Sink, R: Sink, N: Nvm, O: Observer>(
     alloc: Global,
     source: ProgramSource,
     save: Option<&str>,
@@ -105,17 +106,20 @@ fn run_fitted<M: Computer, H: Shelf, T: Sink, R: Sink, N: Nvm>(
     terminal: &mut T,
     report: &mut R,
     nvm: &mut N,
+    observer: &mut O,
 ) -> Answer
     requires planned { IsPlanned plan.now }
     requires fitted { IsFitted M.kind plan.now (N.device nvm.old) }
+    requires unseen { O.has_seen observer.old [] }
     ensures runs { let before = outside (H.stock shelf.old) (N.device nvm.old)
         (T.stream terminal.old) (R.stream report.old) in
         let after = outside (H.stock shelf.new) (N.device nvm.new)
         (T.stream terminal.new) (R.stream report.new) in
-        RunsFitted M.kind (named source.entry) (option_map (λ n. n.now) save.entry) plan.now before after result }
+        let name = option_map (λ n. n.now) save.entry in
+        RunsFitted M.kind O.has_seen (named source.entry) name plan.now before after result observer.new }
     ensures stays { HasStayed (N.device nvm.old) (N.device nvm.new) }
 {
-    let ending = run::<M, T, R, N>(alloc, plan, terminal, report, nvm);
+    let ending = run::<M, T, R, N, O>(alloc, plan, terminal, report, nvm, observer);
     let blocks = M::nvm_blocks(&plan.geometry);
     let why = save_run(alloc, save, plan, blocks, &ending, shelf, nvm);
     let limit = plan.geometry.numbers().limit;
@@ -123,7 +127,7 @@ fn run_fitted<M: Computer, H: Shelf, T: Sink, R: Sink, N: Nvm>(
 }
 
 /// Runs a plan without levelling over a device that is made for it, with these first blocks, and saves the run.
-fn run_direct<M: Computer, H: Shelf, T: Sink, R: Sink, N: Nvm>(
+fn run_direct<M: Computer, H: Shelf, T: Sink, R: Sink, N: Nvm, O: Observer>(
     alloc: Global,
     source: ProgramSource,
     save: Option<&str>,
@@ -133,20 +137,23 @@ fn run_direct<M: Computer, H: Shelf, T: Sink, R: Sink, N: Nvm>(
     terminal: &mut T,
     report: &mut R,
     nvm: &mut N,
+    observer: &mut O,
 ) -> Answer
     requires direct { plan.now.config.gap ≡ 0 }
     requires can { CanRun plan.now blocks.items }
     requires reads { ReadsFiles M.kind plan.now.geometry }
+    requires unseen { O.has_seen observer.old [] }
     ensures { let before = outside (H.stock shelf.old) (N.device nvm.old)
         (T.stream terminal.old) (R.stream report.old) in
         let after = outside (H.stock shelf.new) (N.device nvm.new)
         (T.stream terminal.new) (R.stream report.new) in
-        RunsPlan M.kind (named source.entry) (option_map (λ n. n.now) save.entry) plan.now blocks.items before after result }
+        let name = option_map (λ n. n.now) save.entry in
+        RunsPlan M.kind O.has_seen (named source.entry) name plan.now blocks.items before after result observer.new }
 {
     let shape = shape_of::<M>(plan);
     match nvm.fit(alloc, &shape, blocks) {
-        Ok(()) => run_fitted::<M, H, T, R, N>(
-            alloc, source, save, plan, shelf, terminal, report, nvm,
+        Ok(()) => run_fitted::<M, H, T, R, N, O>(
+            alloc, source, save, plan, shelf, terminal, report, nvm, observer,
         ),
         Err(error) => refuse(alloc, Refusal::Device(error), report),
     }
@@ -154,7 +161,7 @@ fn run_direct<M: Computer, H: Shelf, T: Sink, R: Sink, N: Nvm>(
 
 /// Runs a plan with wear levelling, over lines that are moved on the device. They are made for it, with these first blocks.
 /// Saves the run.
-fn run_levelled<M: Computer, H: Shelf, T: Sink, R: Sink, N: Nvm>(
+fn run_levelled<M: Computer, H: Shelf, T: Sink, R: Sink, N: Nvm, O: Observer>(
     alloc: Global,
     source: ProgramSource,
     save: Option<&str>,
@@ -164,22 +171,25 @@ fn run_levelled<M: Computer, H: Shelf, T: Sink, R: Sink, N: Nvm>(
     terminal: &mut T,
     report: &mut R,
     nvm: &mut N,
+    observer: &mut O,
 ) -> Answer
     requires levelled { 0 < plan.now.config.gap }
     requires can { CanRun plan.now blocks.items }
     requires reads { ReadsFiles M.kind plan.now.geometry }
+    requires unseen { O.has_seen observer.old [] }
     ensures { let before = outside (H.stock shelf.old) (N.device nvm.old)
         (T.stream terminal.old) (R.stream report.old) in
         let after = outside (H.stock shelf.new) (N.device nvm.new)
         (T.stream terminal.new) (R.stream report.new) in
-        RunsPlan M.kind (named source.entry) (option_map (λ n. n.now) save.entry) plan.now blocks.items before after result }
+        let name = option_map (λ n. n.now) save.entry in
+        RunsPlan M.kind O.has_seen (named source.entry) name plan.now blocks.items before after result observer.new }
 {
     let shape = shape_of::<M>(plan);
     let mut lines = Gap::over(nvm, plan.config.gap);
     match lines.fit(alloc, &shape, blocks) {
         Ok(()) => {
-            let answer = run_fitted::<M, H, T, R, Gap<&mut N>>(
-                alloc, source, save, plan, shelf, terminal, report, &mut lines,
+            let answer = run_fitted::<M, H, T, R, Gap<&mut N>, O>(
+                alloc, source, save, plan, shelf, terminal, report, &mut lines, observer,
             );
             lines.means_what_is_seen();
             let _loan = lines.into_inner();
@@ -193,7 +203,7 @@ fn run_levelled<M: Computer, H: Shelf, T: Sink, R: Sink, N: Nvm>(
 }
 
 /// Runs a plan over a device that is made for it, with these first blocks, and saves the run.
-fn run_plan<M: Computer, H: Shelf, T: Sink, R: Sink, N: Nvm>(
+fn run_plan<M: Computer, H: Shelf, T: Sink, R: Sink, N: Nvm, O: Observer>(
     alloc: Global,
     source: ProgramSource,
     save: Option<&str>,
@@ -203,28 +213,31 @@ fn run_plan<M: Computer, H: Shelf, T: Sink, R: Sink, N: Nvm>(
     terminal: &mut T,
     report: &mut R,
     nvm: &mut N,
+    observer: &mut O,
 ) -> Answer
     requires can { CanRun plan.now blocks.items }
     requires reads { ReadsFiles M.kind plan.now.geometry }
+    requires unseen { O.has_seen observer.old [] }
     ensures { let before = outside (H.stock shelf.old) (N.device nvm.old)
         (T.stream terminal.old) (R.stream report.old) in
         let after = outside (H.stock shelf.new) (N.device nvm.new)
         (T.stream terminal.new) (R.stream report.new) in
-        RunsPlan M.kind (named source.entry) (option_map (λ n. n.now) save.entry) plan.now blocks.items before after result }
+        let name = option_map (λ n. n.now) save.entry in
+        RunsPlan M.kind O.has_seen (named source.entry) name plan.now blocks.items before after result observer.new }
 {
     if plan.config.gap == 0 {
-        run_direct::<M, H, T, R, N>(
-            alloc, source, save, plan, blocks, shelf, terminal, report, nvm,
+        run_direct::<M, H, T, R, N, O>(
+            alloc, source, save, plan, blocks, shelf, terminal, report, nvm, observer,
         )
     } else {
-        run_levelled::<M, H, T, R, N>(
-            alloc, source, save, plan, blocks, shelf, terminal, report, nvm,
+        run_levelled::<M, H, T, R, N, O>(
+            alloc, source, save, plan, blocks, shelf, terminal, report, nvm, observer,
         )
     }
 }
 
 /// Runs a job on a machine, from the source of its program.
-fn run_source<M: Computer, H: Shelf, T: Sink, R: Sink, N: Nvm>(
+fn run_source<M: Computer, H: Shelf, T: Sink, R: Sink, N: Nvm, O: Observer>(
     alloc: Global,
     source: ProgramSource,
     job: Job,
@@ -232,14 +245,16 @@ fn run_source<M: Computer, H: Shelf, T: Sink, R: Sink, N: Nvm>(
     terminal: &mut T,
     report: &mut R,
     nvm: &mut N,
+    observer: &mut O,
 ) -> Answer
     requires range { range_fault job.config ≡ None }
     requires reads { ReadsFiles M.kind (parameters_of job.config) }
+    requires unseen { O.has_seen observer.old [] }
     ensures { let before = outside (H.stock shelf.old) (N.device nvm.old)
         (T.stream terminal.old) (R.stream report.old) in
         let after = outside (H.stock shelf.new) (N.device nvm.new)
         (T.stream terminal.new) (R.stream report.new) in
-        RunAnswered M.kind (named source.entry) (job_of job) before after result }
+        RunSeen M.kind O.has_seen (named source.entry) (job_of job) before after result observer.new }
 {
     let Job {
         config,
@@ -270,7 +285,7 @@ fn run_source<M: Computer, H: Shelf, T: Sink, R: Sink, N: Nvm>(
         start,
         digest,
     };
-    run_plan::<M, H, T, R, N>(
+    run_plan::<M, H, T, R, N, O>(
         alloc,
         source,
         save.as_deref(),
@@ -280,12 +295,13 @@ fn run_source<M: Computer, H: Shelf, T: Sink, R: Sink, N: Nvm>(
         terminal,
         report,
         nvm,
+        observer,
     )
 }
 
 /// Runs a job on the machine of its scheme: `A` for `SchemeName::Thynvm`, `B` for `SchemeName::Journal`. Each machine has
 /// to read the files of its own scheme alone.
-pub fn run_by_scheme<A: Computer, B: Computer, H: Shelf, T: Sink, R: Sink, N: Nvm>(
+pub fn run_by_scheme<A: Computer, B: Computer, H: Shelf, T: Sink, R: Sink, N: Nvm, O: Observer>(
     alloc: Global,
     source: ProgramSource,
     job: Job,
@@ -293,23 +309,30 @@ pub fn run_by_scheme<A: Computer, B: Computer, H: Shelf, T: Sink, R: Sink, N: Nv
     terminal: &mut T,
     report: &mut R,
     nvm: &mut N,
+    observer: &mut O,
 ) -> Answer
     requires range { range_fault job.config ≡ None }
     requires thynvm { (p : Numbers) → p.scheme ≡ SchemeName.Thynvm → ReadsFiles A.kind p }
     requires journal { (p : Numbers) → p.scheme ≡ SchemeName.Journal → ReadsFiles B.kind p }
+    requires unseen { O.has_seen observer.old [] }
     ensures { let before = outside (H.stock shelf.old) (N.device nvm.old)
         (T.stream terminal.old) (R.stream report.old) in
         let after = outside (H.stock shelf.new) (N.device nvm.new)
         (T.stream terminal.new) (R.stream report.new) in
         let machines = by_scheme A.kind B.kind in
-        RunAnswered (machines job.config.scheme).kind (named source.entry) (job_of job) before after result }
+        let K = (machines job.config.scheme).kind in
+        RunSeen K O.has_seen (named source.entry) (job_of job) before after result observer.new }
 {
     match job.config.scheme {
         SchemeName::Thynvm => {
-            run_source::<A, H, T, R, N>(alloc, source, job, shelf, terminal, report, nvm)
+            run_source::<A, H, T, R, N, O>(
+                alloc, source, job, shelf, terminal, report, nvm, observer,
+            )
         }
         SchemeName::Journal => {
-            run_source::<B, H, T, R, N>(alloc, source, job, shelf, terminal, report, nvm)
+            run_source::<B, H, T, R, N, O>(
+                alloc, source, job, shelf, terminal, report, nvm, observer,
+            )
         }
     }
 }

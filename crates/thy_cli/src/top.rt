@@ -1,9 +1,10 @@
 //! The top call: from the arguments to the exit status.
-ghost use Rattle.std.specs.Prelude.{map};
+ghost use Rattle.std.specs.Prelude.{[], map};
 ghost use Rattle.std.specs.String.{string_bytes};
 ghost use Rattle.thy_cli.specs.Completing.{Claim};
 ghost use Rattle.thy_cli.specs.Answering.{outside};
 ghost use Rattle.thy_cli.specs.Machines.{by_scheme};
+ghost use Rattle.thy_cli.specs.Watching.{ClaimSeen};
 
 use crate::answer::Answer;
 use crate::making::make;
@@ -16,6 +17,7 @@ use thy_base::{Nvm, Shelf, Sink};
 use thy_core::Machine;
 use thy_dual::DualScheme;
 use thy_journal::Journal;
+use thy_run::{Observer, Silent};
 use thy_view::Computer;
 use thy_words::{Command, settings};
 
@@ -23,10 +25,11 @@ use thy_words::{Command, settings};
 /// `make N OUT`, and options.
 ///
 /// `run` runs a program file on the machine, `bench` the one that is made from a number, and `resume` continues from a
-/// saved image. With `--scheme` the machine has another scheme of checkpoints. The console's bytes go to `terminal` when their checkpoint is committed or restored, the events' lines
-/// and a closing line to `report`; with `--save` what the run leaves on its device is put on the shelf. `plain` runs a
-/// file on the plain machine: the console's bytes go to `terminal` when it stops, the line of its end and a closing
-/// line to `report`. `make` puts the program file of a number on the shelf.
+/// saved image. With `--scheme` the machine has another scheme of checkpoints. The console's bytes go to `terminal` when
+/// their checkpoint is committed or restored, the events' lines and a closing line to `report`; with `--save` what the
+/// run leaves on its device is put on the shelf. `plain` runs a file on the plain machine: the console's bytes go to
+/// `terminal` when it stops, the line of its end and a closing line to `report`. `make` puts the program file of a
+/// number on the shelf.
 ///
 /// The result has the events (of runs on the machine), the number of done cycles (of `plain`: steps) and the exit
 /// status: 0 the program exited, or the file was put, 1 it trapped, 2 the arguments are refused, 3 the file, the
@@ -54,27 +57,54 @@ pub fn thynvm<H: Shelf, T: Sink, R: Sink, N: Nvm>(
         ⟦<Machine<Journal> as Computer>⟧.kind in
         Claim machines (map string_bytes words.now) before after result }
 {
+    observed(alloc, words, shelf, terminal, report, nvm, &mut Silent)
+}
+
+/// Does the same, and lets an observer, which has seen nothing yet, see each cycle of the run that is done, or the state in
+/// which the plain machine stops. It changes nothing of what is done.
+///
+/// The contract is that of `thynvm`, and that the observer has seen the cycles of the run of which it speaks, or the plain
+/// machine's last state; or nothing, if there is neither.
+pub fn observed<H: Shelf, T: Sink, R: Sink, N: Nvm, O: Observer>(
+    alloc: Global,
+    words: &[String],
+    shelf: &mut H,
+    terminal: &mut T,
+    report: &mut R,
+    nvm: &mut N,
+    observer: &mut O,
+) -> Answer
+    requires { O.has_seen observer.old [] }
+    ensures { let before = outside (H.stock shelf.old) (N.device nvm.old)
+        (T.stream terminal.old) (R.stream report.old) in
+        let after = outside (H.stock shelf.new) (N.device nvm.new)
+        (T.stream terminal.new) (R.stream report.new) in
+        let machines = by_scheme ⟦<Machine<DualScheme> as Computer>⟧.kind
+        ⟦<Machine<Journal> as Computer>⟧.kind in
+        let words = map string_bytes words.now in
+        ClaimSeen machines O.has_seen O.has_seen_last words before after result observer.new }
+{
     match settings(alloc, words) {
         Ok(Command::Run { file, job }) => {
             let source = ProgramSource::File(file.as_str());
-            run_by_scheme::<Machine<DualScheme>, Machine<Journal>, H, T, R, N>(
-                alloc, source, job, shelf, terminal, report, nvm,
+            run_by_scheme::<Machine<DualScheme>, Machine<Journal>, H, T, R, N, O>(
+                alloc, source, job, shelf, terminal, report, nvm, observer,
             )
         }
         Ok(Command::Resume { image, job }) => {
             let source = ProgramSource::Image(image.as_str());
-            run_by_scheme::<Machine<DualScheme>, Machine<Journal>, H, T, R, N>(
-                alloc, source, job, shelf, terminal, report, nvm,
+            run_by_scheme::<Machine<DualScheme>, Machine<Journal>, H, T, R, N, O>(
+                alloc, source, job, shelf, terminal, report, nvm, observer,
             )
         }
         Ok(Command::Bench { number, job }) => {
             let source = ProgramSource::Made(number);
-            run_by_scheme::<Machine<DualScheme>, Machine<Journal>, H, T, R, N>(
-                alloc, source, job, shelf, terminal, report, nvm,
+            run_by_scheme::<Machine<DualScheme>, Machine<Journal>, H, T, R, N, O>(
+                alloc, source, job, shelf, terminal, report, nvm, observer,
             )
         }
         Ok(Command::Plain { file, job }) => {
-            plain_file(alloc, file.as_str(), job, shelf, terminal, report)
+            plain_file(alloc, file.as_str(), job, shelf, terminal, report, observer)
         }
         Ok(Command::Make { number, name }) => make(alloc, number, name.as_str(), shelf, report),
         Err(error) => refuse(alloc, Refusal::Words(error), report),

@@ -84,7 +84,7 @@ end_told-halted : (o : Origin) (v next : View) (cycle : ℕ) → halts v next �
 end_told-halted o v next cycle halt =
     ap (λ b. if b then EndedEvent (at o next.count).status next.count cycle (at o next.count) ∷ [] else []) halt
 
-module _ {M : Type 0} (K : KindOf M) (laws : IsLawful K) (plan : Plan) (p q : Progress M) (n m : Device) (k : ℕ) (ended : Option Status) (bytes : List ℕ) (noted : IsNoted K plan p q n m k ended bytes) where
+module _ {M : Type 0} (K : KindOf M) (laws : IsLawful K) (plan : Plan) (p q : Progress M) (n m : Device) (k : ℕ) (r : Stepped) (ended : Option Status) (bytes : List ℕ) (noted : IsNoted K plan p q n m k r ended bytes) where
   abbrev o : Origin
   o = origin_of plan
 
@@ -104,13 +104,15 @@ module _ {M : Type 0} (K : KindOf M) (laws : IsLawful K) (plan : Plan) (p q : Pr
   passed_same = ap (λ (y : World M). y.passed) noted.steps.next_is
 
   -- a cycle with no cut
-  done_uncut : is_due K (origin_of plan) plan.config.cuts (world_at q m (k + 1)) ≡ false → IsDone K plan p q n m k bytes
+  done_uncut : is_due K (origin_of plan) plan.config.cuts (world_at q m (k + 1)) ≡ false → IsDone K plan p q n m k r false bytes
   done_uncut due = record {
     cycle = record {
       between = world_at q m (k + 1);
       steps = noted.steps;
       cut = subst (λ b. MatchBool b (IsCutOff K (origin_of plan) (tear plan.config.tears q.passed) (world_at q m (k + 1)) (world_at q m (k + 1))) (world_at q m (k + 1) ≡ world_at q m (k + 1))) (sym due) refl;
     };
+    by_step = noted.by_step;
+    has_fallen = due;
     released = noted.released;
     releases = noted.releases;
     grew = (_, told_all);
@@ -122,7 +124,7 @@ module _ {M : Type 0} (K : KindOf M) (laws : IsLawful K) (plan : Plan) (p q : Pr
 
   -- the step ended the run
   pub done_ended : (status : Status) → ended ≡ Some status
-      → IsDone K plan p q n m k bytes × (is_halt (seen K (origin_of plan) (world_at q m (k + 1))).phase ≡ true) × EndsWith q.events status
+      → IsDone K plan p q n m k r false bytes × (is_halt (seen K (origin_of plan) (world_at q m (k + 1))).phase ≡ true) × EndsWith q.events status
   done_ended status is =
       let v : View = seen K (origin_of plan) (world_at p n k) in
       let next : View = seen K (origin_of plan) (world_at q m (k + 1)) in
@@ -150,7 +152,7 @@ module _ {M : Type 0} (K : KindOf M) (laws : IsLawful K) (plan : Plan) (p q : Pr
 
   -- the run continues, and no cut is due
   pub done_going : ended ≡ None → (cycle : ℕ) → cycle ≡ k + 1 → (nat_lt q.passed (length plan.config.cuts) && slice_index plan.config.cuts q.passed == cycle) ≡ false
-      → IsDone K plan p q n m k bytes × (is_halt (seen K (origin_of plan) (world_at q m (k + 1))).phase ≡ false)
+      → IsDone K plan p q n m k r false bytes × (is_halt (seen K (origin_of plan) (world_at q m (k + 1))).phase ≡ false)
   done_going is cycle at_cycle due =
       let next : View = seen K (origin_of plan) (world_at q m (k + 1)) in
       let due_now : (nat_lt q.passed (length plan.config.cuts) && slice_index plan.config.cuts q.passed == k + 1) ≡ false =
@@ -159,16 +161,16 @@ module _ {M : Type 0} (K : KindOf M) (laws : IsLawful K) (plan : Plan) (p q : Pr
 
   -- the run continues, and a cut is due
   pub awaits_cut : ended ≡ None → (cycle : ℕ) → cycle ≡ k + 1 → (nat_lt q.passed (length plan.config.cuts) && slice_index plan.config.cuts q.passed == cycle) ≡ true
-      → AwaitsCut K plan p q n m k bytes
+      → AwaitsCut K plan p q n m k r bytes
   awaits_cut is cycle at_cycle due = record {
-    noted = subst (λ e. IsNoted K plan p q n m k e bytes) is noted;
+    noted = subst (λ e. IsNoted K plan p q n m k r e bytes) is noted;
     due = subst (λ c. (nat_lt q.passed (length plan.config.cuts) && slice_index plan.config.cuts q.passed == c) ≡ true) at_cycle due;
   }
 
   -- a cut was due, and fell
   pub done_cut : (q' : Progress M) (m' : Device) → ended ≡ None → (cycle : ℕ) → cycle ≡ k + 1
       → (nat_lt q.passed (length plan.config.cuts) && slice_index plan.config.cuts q.passed == cycle) ≡ true → IsCutOffTo K plan q q' m m' cycle
-      → IsDone K plan p q' n m' k bytes × (is_halt (seen K (origin_of plan) (world_at q' m' (k + 1))).phase ≡ false)
+      → IsDone K plan p q' n m' k r true bytes × (is_halt (seen K (origin_of plan) (world_at q' m' (k + 1))).phase ≡ false)
   done_cut q' m' is cycle at_cycle due cut =
       let next : View = seen K (origin_of plan) (world_at q m (k + 1)) in
       let due_now : (nat_lt q.passed (length plan.config.cuts) && slice_index plan.config.cuts q.passed == k + 1) ≡ true =
@@ -196,6 +198,8 @@ module _ {M : Type 0} (K : KindOf M) (laws : IsLawful K) (plan : Plan) (p q : Pr
             steps = noted.steps;
             cut = subst (λ b. MatchBool b (IsCutOff K (origin_of plan) (tear plan.config.tears q.passed) (world_at q m (k + 1)) (world_at q' m' (k + 1))) (world_at q' m' (k + 1) ≡ world_at q m (k + 1))) (sym is_cut) off;
           };
+          by_step = noted.by_step;
+          has_fallen = is_cut;
           released = ap (λ (y : Progress M). y.released) cut.same ∙ noted.released ∙ ap length (sym releases);
           releases = releases ∙ noted.releases;
           grew = (_, events ∙ ap (λ (l : List Event). l ++ Cut (q.passed + 1) cycle ∷ []) told_all ∙ append_assoc p.events _ (Cut (q.passed + 1) cycle ∷ []));
@@ -266,7 +270,7 @@ pub IsNoted-made : {M : Type 0} (K : KindOf M) (laws : IsLawful K) → (plan : P
     → t ≡ record q { events = t.events; released = t.released; fresh = false } → t.released ≡ q.released + length bytes
     → bytes ≡ due_of (origin_of plan) q.events r.did (K.view (origin_of plan) q.machine m)
     → IsEnd (origin_of plan) (seen K (origin_of plan) (world_at p n k)) (K.view (origin_of plan) q.machine m) ended
-    → IsNoted K plan p t n m k ended bytes
+    → IsNoted K plan p t n m k r ended bytes
 IsNoted-made {M = M} K laws plan fitted p q t n m k r ended bytes planned g s made same released bytes_is is_end =
     let o : Origin = origin_of plan in
     let v : View = seen K o (world_at p n k) in
@@ -290,8 +294,9 @@ IsNoted-made {M = M} K laws plan fitted p q t n m k r ended bytes planned g s ma
     let releases : released_of o t.events ≡ released_of o p.events ++ bytes =
     released-stepped K o (world_at p n k) _ (epoch_least (origin_of plan).geometry planned.origin.geometry) good.stands steps
     ∙ ap (λ (l : List ℕ). released_of o p.events ++ l) (ap (λ (e : List Event). due_of o e r.did (K.view o q.machine m)) (sym events_q) ∙ sym bytes_is) in
-    let now : IsNoted K plan p (record q { events = t.events; released = t.released; fresh = false }) n m k ended bytes = record {
+    let now : IsNoted K plan p (record q { events = t.events; released = t.released; fresh = false }) n m k r ended bytes = record {
       steps = steps;
+      by_step = refl;
       is_end = is_end;
       released = released ∙ ap (λ c. c + length bytes) (ap (λ (y : Progress M). y.released) s.same ∙ g.released)
           ∙ sym (length-append (released_of o p.events) bytes) ∙ ap length (sym releases);
@@ -300,7 +305,7 @@ IsNoted-made {M = M} K laws plan fitted p q t n m k r ended bytes planned g s ma
       on_terminal = ap (λ (y : Progress M). y.terminal_failed) s.same;
       on_report = ap (λ (y : Progress M). y.report_failed) s.same;
     } in
-    subst (λ (y : Progress M). IsNoted K plan p y n m k ended bytes) (sym same) now
+    subst (λ (y : Progress M). IsNoted K plan p y n m k r ended bytes) (sym same) now
 
 -- only some events were made, as memory ran out
 pub IsBroken-made : {M : Type 0} (K : KindOf M) (laws : IsLawful K) → (plan : Plan) (fitted : Device) (p q t : Progress M) (n m : Device) (k : ℕ) (r : Stepped) → IsPlanned plan → GoesOn K plan fitted p n k → IsStepped K plan p q n m k r
@@ -432,7 +437,7 @@ pub noted_from : {M : Type 0} (K : KindOf M) (laws : IsLawful K) → (plan : Pla
     → e ≡ q.events ++ events_of (origin_of plan) q.fresh (seen K (origin_of plan) (world_at p n k)) did (K.view (origin_of plan) q.machine m) cycle
     → bytes ≡ due_of (origin_of plan) q.events did (K.view (origin_of plan) q.machine m)
     → IsEnd (origin_of plan) (seen K (origin_of plan) (world_at p n k)) (K.view (origin_of plan) q.machine m) ended
-    → IsNoted K plan p (record q { events = e; released = q.released + len; fresh = false }) n m k ended bytes
+    → IsNoted K plan p (record q { events = e; released = q.released + len; fresh = false }) n m k r ended bytes
 noted_from {M = M} K laws plan fitted p q n m k r ended bytes e len cycle did planned g s did_is len_is cycle_is made due is_end =
     let o : Origin = origin_of plan in
     let v : View = seen K o (world_at p n k) in
@@ -483,7 +488,7 @@ hidden_none did h = refl
 -- a quiet step makes a cycle without an event
 pub quiet_goes : {M : Type 0} (K : KindOf M) (laws : IsLawful K) → (plan : Plan) (fitted : Device) (p q : Progress M) (n m : Device) (k : ℕ) (r : Stepped) → IsPlanned plan → GoesOn K plan fitted p n k
     → IsStepped K plan p q n m k r → IsQuiet plan.config.cuts q r (k + 1)
-    → IsDone K plan p q n m k [] × (is_halt (seen K (origin_of plan) (world_at q m (k + 1))).phase ≡ false)
+    → IsDone K plan p q n m k r false [] × (is_halt (seen K (origin_of plan) (world_at q m (k + 1))).phase ≡ false)
 quiet_goes {M = M} K laws plan fitted p q n m k r planned g s quiet =
     let o : Origin = origin_of plan in
     let v : View = seen K o (world_at p n k) in
@@ -495,9 +500,9 @@ quiet_goes {M = M} K laws plan fitted p q n m k r planned g s quiet =
     let none : events_of o q.fresh v r.did next (k + 1) ≡ [] =
     ap (λ (l : List Event). (l ++ did_told o v r.did (k + 1)) ++ end_told o v next (k + 1)) reload
     ∙ ap (λ (l : List Event). l ++ end_told o v next (k + 1)) (told_none o v r.did (k + 1) quiet.untold) ∙ end in
-    let noted : IsNoted K plan p q n m k None [] =
+    let noted : IsNoted K plan p q n m k r None [] =
     IsNoted-made K laws plan fitted p q q n m k r None [] planned g s
     (sym (append-nil q.events) ∙ ap (λ (l : List Event). q.events ++ l) (sym none))
     (ap (λ b. record q { fresh = b }) quiet.later) (omega arith)
     (due_hidden o next r.did q.events [] (hidden_none r.did quiet.untold) refl) going in
-    done_going K laws plan p q n m k None [] noted refl (k + 1) refl quiet.uncut
+    done_going K laws plan p q n m k r None [] noted refl (k + 1) refl quiet.uncut

@@ -27,3 +27,4 @@ pub mod TellLemmas
 pub mod AdvanceLemmas
 pub mod RoundLemmas
 pub mod StartLemmas
+pub mod SeeingLemmas

@@ -9,6 +9,7 @@ use Rattle.thy_text.specs.Event.{Event}
 use Rattle.thy_text.specs.Lines.{report_of}
 use Rattle.thy_run.specs.Laws.{released_of}
 use Rattle.thy_isa.specs.declared.state.Status.{Status}
+use Rattle.thy_view.specs.declared.did.Stepped.{Stepped}
 use Rattle.thy_view.specs.Views.{is_halt}
 use Rattle.thy_run.specs.World.{World, Ran, seen}
 use Rattle.thy_run.specs.declared.advance.Outcome.{Outcome}
@@ -17,12 +18,12 @@ use Rattle.thy_run.specs.declared.ending.Stop.{Stop}
 use Rattle.thy_run.specs.declared.ending.Stop.TheVariants.{Ended, Nvm, Memory, Terminal, Report, Limit}
 use Rattle.thy_run.specs.declared.plan.Plan.{Plan}
 use Rattle.thy_run.specs.declared.progress.Progress.{Progress}
-use Rattle.thy_run.specs.Going.{origin_of, given_of, world_at, IsDone, IsBroken, Breaks, AwaitsCut, IsCutOffTo, ComesTo}
+use Rattle.thy_run.specs.Going.{origin_of, given_of, world_at, IsDone, IsBroken, Breaks, AwaitsCut, IsCutOffTo, Passes, ComesTo}
 use Rattle.thy_run.specs.Sending.{Sent, Sends, Delivered}
 use Rattle.thy_run.proofs.AdvanceLemmas.{done_cut, broken_cut}
 use Rattle.thy_run.specs.Endings.{is_memory, IsSettled, StopFits}
 use Rattle.thy_run.specs.Unfinished.{AtStop}
-use Rattle.thy_run.specs.Rounds.{round_of, Running, RunEnds, IsRound}
+use Rattle.thy_run.specs.Rounds.{round_of, Running, RunEndsAt, IsRound}
 
 -- ---- lines
 
@@ -54,15 +55,15 @@ took_on : (before after : List ℕ) (x y z : Stream) → Took x y before → Sen
 took_on before after x y z one two = subst (Took x z) (sym two.grew) (Took-append x y z before two.more one two.sent)
 
 -- what was reported grew
-pub told_of : {M : Type 0} (K : KindOf M) → (plan : Plan) (p q : Progress M) (n m : Device) (k : ℕ) (bytes : List ℕ) (outcome : Outcome) → ComesTo K plan p q n m k bytes outcome → (more : List Event) × (q.events ≡ p.events ++ more)
-told_of {M = M} K plan p q n m k bytes Goes c = c.0.grew
-told_of {M = M} K plan p q n m k bytes Cuts c = (_, ap (λ (w : World M). w.events) c.noted.steps.next_is)
-told_of {M = M} K plan p q n m k bytes (Ends status) c = c.0.grew
-told_of {M = M} K plan p q n m k bytes (Fails stop) c = c.0.grew
+pub told_of : {M : Type 0} (K : KindOf M) → (plan : Plan) (p q : Progress M) (n m : Device) (k : ℕ) (r : Stepped) (bytes : List ℕ) (outcome : Outcome) → ComesTo K plan p q n m k r bytes outcome → (more : List Event) × (q.events ≡ p.events ++ more)
+told_of {M = M} K plan p q n m k r bytes Goes c = c.0.grew
+told_of {M = M} K plan p q n m k r bytes Cuts c = (_, ap (λ (w : World M). w.events) c.noted.steps.next_is)
+told_of {M = M} K plan p q n m k r bytes (Ends status) c = c.0.grew
+told_of {M = M} K plan p q n m k r bytes (Fails stop) c = c.0.grew
 
-pub told_more : {M : Type 0} (K : KindOf M) → (plan : Plan) (p q : Progress M) (n m : Device) (k : ℕ) (bytes : List ℕ) (outcome : Outcome) → ComesTo K plan p q n m k bytes outcome → length p.events ≤ length q.events
-told_more {M = M} K plan p q n m k bytes outcome c =
-    let t = told_of K plan p q n m k bytes outcome c in
+pub told_more : {M : Type 0} (K : KindOf M) → (plan : Plan) (p q : Progress M) (n m : Device) (k : ℕ) (r : Stepped) (bytes : List ℕ) (outcome : Outcome) → ComesTo K plan p q n m k r bytes outcome → length p.events ≤ length q.events
+told_more {M = M} K plan p q n m k r bytes outcome c =
+    let t = told_of K plan p q n m k r bytes outcome c in
     let e : length q.events ≡ length p.events + length t.0 = ap length t.1 ∙ length-append p.events t.0 in
     omega (arith, e)
 
@@ -99,31 +100,34 @@ module _ {M : Type 0} (K : KindOf M) (plan : Plan) (fitted : Device) (p q : Prog
   abbrev told_progress : Progress M
   told_progress = record q { terminal_failed = terminal_failed; report_failed = report_failed }
 
-  ran_on : IsDone K plan p q n m k bytes → Ran K (origin_of plan) (given_of plan fitted) (k + 1) (world_at q m (k + 1))
+  ran_on : {r : Stepped} {fell : Bool} → IsDone K plan p q n m k r fell bytes → Ran K (origin_of plan) (given_of plan fitted) (k + 1) (world_at q m (k + 1))
   ran_on d =
       let e : suc k ≡ k + 1 = omega arith in
       subst (λ (j : ℕ). Ran K (origin_of plan) (given_of plan fitted) j (world_at q m (k + 1))) e (world_at p n k, running.goes.ran, d.cycle)
 
-  shown_on : IsDone K plan p q n m k bytes → Sends (released_of (origin_of plan) p.events) (released_of (origin_of plan) q.events) terminal_failed t1 t2
+  shown_on : {r : Stepped} {fell : Bool} → IsDone K plan p q n m k r fell bytes → Sends (released_of (origin_of plan) p.events) (released_of (origin_of plan) q.events) terminal_failed t1 t2
   shown_on d = record { more = bytes; grew = d.releases; sent = sent }
 
   lines_on : ((more : List Event) × (q.events ≡ p.events ++ more)) → Sends (report_of plan.digest p.events) (report_of plan.digest q.events) report_failed r1 r2
   lines_on t = read_on plan.digest report_failed p.events q.events t.0 r1 r2 t.1 lines
 
   -- the cycle is done, and a sink failed
-  done_stops : (stop : Stop) → IsDone K plan p q n m k bytes → IsSinks stop
+  done_stops : {r : Stepped} {fell : Bool} (stop : Stop) → IsDone K plan p q n m k r fell bytes → IsSinks stop
       → StopFits plan.geometry.limit fitted m (record { stop = stop; events = q.events; cycles = k + 1; terminal_failed = terminal_failed; report_failed = report_failed }) stop
-      → RunEnds K plan fitted m (record { stop = stop; events = q.events; cycles = k + 1; terminal_failed = terminal_failed; report_failed = report_failed }) t0 t2 r0 r2
-  done_stops stop d sinks fits = record {
-    stopped = record { last = world_at q m (k + 1); ran = ran_on d; at_stop = last_done stop sinks };
-    few = omega arith;
-    settled = p.events;
-    is_settled = settled_at stop sinks d;
-    shown_all = subst (λ b. Delivered b terminal_failed (released_of (origin_of plan) p.events) (released_of (origin_of plan) q.events) t0 t2) (sym (long stop sinks))
-        (delivered_on terminal_failed (released_of (origin_of plan) p.events) (released_of (origin_of plan) q.events) t0 t1 t2 running.shown_all (shown_on d));
-    read_all = delivered_on report_failed (report_of plan.digest p.events) (report_of plan.digest q.events) r0 r1 r2 running.read_all (lines_on d.grew);
-    stop_fits = fits;
-  }
+      → RunEndsAt K plan fitted m (record { stop = stop; events = q.events; cycles = k + 1; terminal_failed = terminal_failed; report_failed = report_failed }) t0 t2 r0 r2 (world_at q m (k + 1))
+  done_stops stop d sinks fits = (
+    record {
+      stopped = record { last = world_at q m (k + 1); ran = ran_on d; at_stop = last_done stop sinks };
+      few = omega arith;
+      settled = p.events;
+      is_settled = settled_at stop sinks d;
+      shown_all = subst (λ b. Delivered b terminal_failed (released_of (origin_of plan) p.events) (released_of (origin_of plan) q.events) t0 t2) (sym (long stop sinks))
+          (delivered_on terminal_failed (released_of (origin_of plan) p.events) (released_of (origin_of plan) q.events) t0 t1 t2 running.shown_all (shown_on d));
+      read_all = delivered_on report_failed (report_of plan.digest p.events) (report_of plan.digest q.events) r0 r1 r2 running.read_all (lines_on d.grew);
+      stop_fits = fits;
+    },
+    refl,
+  )
     where
       long : (stop : Stop) → IsSinks stop → is_memory stop ≡ false
       long Terminal sinks = refl
@@ -141,7 +145,7 @@ module _ {M : Type 0} (K : KindOf M) (plan : Plan) (fitted : Device) (p q : Prog
       last_done Memory sinks = absurd sinks
       last_done Limit sinks = absurd sinks
 
-      settled_at : (stop : Stop) → IsSinks stop → IsDone K plan p q n m k bytes → IsSettled K (origin_of plan) (given_of plan fitted) (world_at q m (k + 1)) p.events stop
+      settled_at : {r : Stepped} {fell : Bool} (stop : Stop) → IsSinks stop → IsDone K plan p q n m k r fell bytes → IsSettled K (origin_of plan) (given_of plan fitted) (world_at q m (k + 1)) p.events stop
       settled_at Terminal sinks d = (k, world_at p n k, running.goes.ran, d.cycle, refl)
       settled_at Report sinks d = (k, world_at p n k, running.goes.ran, d.cycle, refl)
       settled_at (Ended status) sinks d = absurd sinks
@@ -150,36 +154,42 @@ module _ {M : Type 0} (K : KindOf M) (plan : Plan) (fitted : Device) (p q : Prog
       settled_at Limit sinks d = absurd sinks
 
   -- the cycle is done, and the program has ended
-  done_ends : (status : Status) → IsDone K plan p q n m k bytes → terminal_failed ≡ false → report_failed ≡ false
+  done_ends : {r : Stepped} {fell : Bool} (status : Status) → IsDone K plan p q n m k r fell bytes → terminal_failed ≡ false → report_failed ≡ false
       → StopFits plan.geometry.limit fitted m (record { stop = Ended status; events = q.events; cycles = k + 1; terminal_failed = terminal_failed; report_failed = report_failed }) (Ended status)
-      → RunEnds K plan fitted m (record { stop = Ended status; events = q.events; cycles = k + 1; terminal_failed = terminal_failed; report_failed = report_failed }) t0 t2 r0 r2
-  done_ends status d on_terminal on_report fits = record {
-    stopped = record { last = world_at q m (k + 1); ran = ran_on d; at_stop = (refl, refl) };
-    few = omega arith;
-    settled = q.events;
-    is_settled = refl;
-    shown_all = delivered_all terminal_failed (released_of (origin_of plan) q.events) t0 t2 on_terminal
-        (took_on (released_of (origin_of plan) p.events) (released_of (origin_of plan) q.events) t0 t1 t2 running.shown_all
-        (subst (λ b. Sends (released_of (origin_of plan) p.events) (released_of (origin_of plan) q.events) b t1 t2) on_terminal (shown_on d)));
-    read_all = delivered_all report_failed (report_of plan.digest q.events) r0 r2 on_report
-        (took_on (report_of plan.digest p.events) (report_of plan.digest q.events) r0 r1 r2 running.read_all
-        (subst (λ b. Sends (report_of plan.digest p.events) (report_of plan.digest q.events) b r1 r2) on_report (lines_on d.grew)));
-    stop_fits = fits;
-  }
+      → RunEndsAt K plan fitted m (record { stop = Ended status; events = q.events; cycles = k + 1; terminal_failed = terminal_failed; report_failed = report_failed }) t0 t2 r0 r2 (world_at q m (k + 1))
+  done_ends status d on_terminal on_report fits = (
+    record {
+      stopped = record { last = world_at q m (k + 1); ran = ran_on d; at_stop = (refl, refl) };
+      few = omega arith;
+      settled = q.events;
+      is_settled = refl;
+      shown_all = delivered_all terminal_failed (released_of (origin_of plan) q.events) t0 t2 on_terminal
+          (took_on (released_of (origin_of plan) p.events) (released_of (origin_of plan) q.events) t0 t1 t2 running.shown_all
+          (subst (λ b. Sends (released_of (origin_of plan) p.events) (released_of (origin_of plan) q.events) b t1 t2) on_terminal (shown_on d)));
+      read_all = delivered_all report_failed (report_of plan.digest q.events) r0 r2 on_report
+          (took_on (report_of plan.digest p.events) (report_of plan.digest q.events) r0 r1 r2 running.read_all
+          (subst (λ b. Sends (report_of plan.digest p.events) (report_of plan.digest q.events) b r1 r2) on_report (lines_on d.grew)));
+      stop_fits = fits;
+    },
+    refl,
+  )
 
   -- the cycle is not done
   broken_stops : (stop : Stop) → IsBroken K plan p q n m k bytes → Breaks K plan p q n m k bytes stop
       → (bytes ≡ [] → terminal_failed ≡ false) → (q.events ≡ p.events → report_failed ≡ false)
-      → RunEnds K plan fitted m (record { stop = stop; events = q.events; cycles = k; terminal_failed = terminal_failed; report_failed = report_failed }) t0 t2 r0 r2
-  broken_stops stop b why on_terminal on_report = record {
-    stopped = record { last = world_at p n k; ran = running.goes.ran; at_stop = begun stop why };
-    few = omega arith;
-    settled = p.events;
-    is_settled = settled_at stop why;
-    shown_all = shown stop why;
-    read_all = delivered_on report_failed (report_of plan.digest p.events) (report_of plan.digest q.events) r0 r1 r2 running.read_all (lines_on b.grew);
-    stop_fits = because stop why;
-  }
+      → RunEndsAt K plan fitted m (record { stop = stop; events = q.events; cycles = k; terminal_failed = terminal_failed; report_failed = report_failed }) t0 t2 r0 r2 (world_at p n k)
+  broken_stops stop b why on_terminal on_report = (
+    record {
+      stopped = record { last = world_at p n k; ran = running.goes.ran; at_stop = begun stop why };
+      few = omega arith;
+      settled = p.events;
+      is_settled = settled_at stop why;
+      shown_all = shown stop why;
+      read_all = delivered_on report_failed (report_of plan.digest p.events) (report_of plan.digest q.events) r0 r1 r2 running.read_all (lines_on b.grew);
+      stop_fits = because stop why;
+    },
+    refl,
+  )
     where
       begun : (stop : Stop) → Breaks K plan p q n m k bytes stop → AtStop K (origin_of plan) plan.config.cuts (world_at p n k) q.events m stop
       begun Nvm f = f.0
@@ -216,16 +226,16 @@ module _ {M : Type 0} (K : KindOf M) (plan : Plan) (fitted : Device) (p q : Prog
       because Limit f = absurd f
 
 -- a sink that failed stops a run that has a done cycle
-goes_round : {M : Type 0} (K : KindOf M) → (plan : Plan) (fitted : Device) (p q : Progress M) (n m : Device) (k : ℕ) (bytes : List ℕ) (terminal_failed report_failed : Bool) (t0 t1 t2 r0 r1 r2 : Stream)
+goes_round : {M : Type 0} (K : KindOf M) → (plan : Plan) (fitted : Device) (p q : Progress M) (n m : Device) (k : ℕ) (r : Stepped) (fell : Bool) (bytes : List ℕ) (terminal_failed report_failed : Bool) (t0 t1 t2 r0 r1 r2 : Stream)
     → Running K plan fitted p n k t0 t1 r0 r1 → k < plan.geometry.limit → Sent terminal_failed t1 t2 bytes
     → Sends (report_of plan.digest (take (length p.events) q.events)) (report_of plan.digest q.events) report_failed r1 r2
-    → IsDone K plan p q n m k bytes × (is_halt (seen K (origin_of plan) (world_at q m (k + 1))).phase ≡ false)
+    → IsDone K plan p q n m k r fell bytes × (is_halt (seen K (origin_of plan) (world_at q m (k + 1))).phase ≡ false)
     → IsRound K plan fitted p (record q { terminal_failed = terminal_failed; report_failed = report_failed }) n m k t0 t1 t2 r0 r1 r2 (round_of Goes terminal_failed report_failed)
-goes_round {M = M} K plan fitted p q n m k bytes terminal_failed true t0 t1 t2 r0 r1 r2 running few sent lines c =
+goes_round {M = M} K plan fitted p q n m k r fell bytes terminal_failed true t0 t1 t2 r0 r1 r2 running few sent lines c =
     done_stops K plan fitted p q n m k bytes terminal_failed true t0 t1 t2 r0 r1 r2 running few sent lines Report c.0 tt (refl, c.0.faults ∙ running.goes.faults)
-goes_round {M = M} K plan fitted p q n m k bytes true false t0 t1 t2 r0 r1 r2 running few sent lines c =
+goes_round {M = M} K plan fitted p q n m k r fell bytes true false t0 t1 t2 r0 r1 r2 running few sent lines c =
     done_stops K plan fitted p q n m k bytes true false t0 t1 t2 r0 r1 r2 running few sent lines Terminal c.0 tt (refl, refl, c.0.faults ∙ running.goes.faults)
-goes_round {M = M} K plan fitted p q n m k bytes false false t0 t1 t2 r0 r1 r2 running few sent lines c = record {
+goes_round {M = M} K plan fitted p q n m k r fell bytes false false t0 t1 t2 r0 r1 r2 running few sent lines c = record {
   goes = record {
     ran = ran_on K plan fitted p q n m k bytes false false t0 t1 t2 r0 r1 r2 running few sent lines c.0;
     going = c.1;
@@ -241,16 +251,16 @@ goes_round {M = M} K plan fitted p q n m k bytes false false t0 t1 t2 r0 r1 r2 r
       (lines_on K plan fitted p q n m k bytes false false t0 t1 t2 r0 r1 r2 running few sent lines c.0.grew);
 }
 
-ends_round : {M : Type 0} (K : KindOf M) → (plan : Plan) (fitted : Device) (p q : Progress M) (n m : Device) (k : ℕ) (bytes : List ℕ) (status : Status) (terminal_failed report_failed : Bool) (t0 t1 t2 r0 r1 r2 : Stream)
+ends_round : {M : Type 0} (K : KindOf M) → (plan : Plan) (fitted : Device) (p q : Progress M) (n m : Device) (k : ℕ) (r : Stepped) (bytes : List ℕ) (status : Status) (terminal_failed report_failed : Bool) (t0 t1 t2 r0 r1 r2 : Stream)
     → Running K plan fitted p n k t0 t1 r0 r1 → k < plan.geometry.limit → Sent terminal_failed t1 t2 bytes
     → Sends (report_of plan.digest (take (length p.events) q.events)) (report_of plan.digest q.events) report_failed r1 r2
-    → ComesTo K plan p q n m k bytes (Ends status)
+    → ComesTo K plan p q n m k r bytes (Ends status)
     → IsRound K plan fitted p (record q { terminal_failed = terminal_failed; report_failed = report_failed }) n m k t0 t1 t2 r0 r1 r2 (round_of (Ends status) terminal_failed report_failed)
-ends_round {M = M} K plan fitted p q n m k bytes status terminal_failed true t0 t1 t2 r0 r1 r2 running few sent lines c =
+ends_round {M = M} K plan fitted p q n m k r bytes status terminal_failed true t0 t1 t2 r0 r1 r2 running few sent lines c =
     done_stops K plan fitted p q n m k bytes terminal_failed true t0 t1 t2 r0 r1 r2 running few sent lines Report c.0 tt (refl, c.0.faults ∙ running.goes.faults)
-ends_round {M = M} K plan fitted p q n m k bytes status true false t0 t1 t2 r0 r1 r2 running few sent lines c =
+ends_round {M = M} K plan fitted p q n m k r bytes status true false t0 t1 t2 r0 r1 r2 running few sent lines c =
     done_stops K plan fitted p q n m k bytes true false t0 t1 t2 r0 r1 r2 running few sent lines Terminal c.0 tt (refl, refl, c.0.faults ∙ running.goes.faults)
-ends_round {M = M} K plan fitted p q n m k bytes status false false t0 t1 t2 r0 r1 r2 running few sent lines c =
+ends_round {M = M} K plan fitted p q n m k r bytes status false false t0 t1 t2 r0 r1 r2 running few sent lines c =
     done_ends K plan fitted p q n m k bytes false false t0 t1 t2 r0 r1 r2 running few sent lines status c.0 refl refl (c.2, (refl, refl), c.0.faults ∙ running.goes.faults)
 
 -- the outcome is not that a cut is due
@@ -261,18 +271,18 @@ IsTold (Ends status) = Unit {0}
 IsTold (Fails stop) = Unit {0}
 
 -- a cycle that was reported is a round
-pub IsRound-told : {M : Type 0} (K : KindOf M) → (plan : Plan) (fitted : Device) (p q : Progress M) (n m : Device) (k : ℕ) (bytes : List ℕ) (outcome : Outcome) (terminal_failed report_failed : Bool) (t0 t1 t2 r0 r1 r2 : Stream)
+pub IsRound-told : {M : Type 0} (K : KindOf M) → (plan : Plan) (fitted : Device) (p q : Progress M) (n m : Device) (k : ℕ) (r : Stepped) (bytes : List ℕ) (outcome : Outcome) (terminal_failed report_failed : Bool) (t0 t1 t2 r0 r1 r2 : Stream)
     → Running K plan fitted p n k t0 t1 r0 r1 → k < plan.geometry.limit → Sent terminal_failed t1 t2 bytes
     → Sends (report_of plan.digest (take (length p.events) q.events)) (report_of plan.digest q.events) report_failed r1 r2
-    → IsTold outcome → (bytes ≡ [] → terminal_failed ≡ false) → (q.events ≡ p.events → report_failed ≡ false) → ComesTo K plan p q n m k bytes outcome
+    → IsTold outcome → (bytes ≡ [] → terminal_failed ≡ false) → (q.events ≡ p.events → report_failed ≡ false) → ComesTo K plan p q n m k r bytes outcome
     → IsRound K plan fitted p (record q { terminal_failed = terminal_failed; report_failed = report_failed }) n m k t0 t1 t2 r0 r1 r2 (round_of outcome terminal_failed report_failed)
-IsRound-told {M = M} K plan fitted p q n m k bytes Goes terminal_failed report_failed t0 t1 t2 r0 r1 r2 running few sent lines did_told on_terminal on_report c =
-    goes_round K plan fitted p q n m k bytes terminal_failed report_failed t0 t1 t2 r0 r1 r2 running few sent lines c
-IsRound-told {M = M} K plan fitted p q n m k bytes (Ends status) terminal_failed report_failed t0 t1 t2 r0 r1 r2 running few sent lines did_told on_terminal on_report c =
-    ends_round K plan fitted p q n m k bytes status terminal_failed report_failed t0 t1 t2 r0 r1 r2 running few sent lines c
-IsRound-told {M = M} K plan fitted p q n m k bytes (Fails stop) terminal_failed report_failed t0 t1 t2 r0 r1 r2 running few sent lines did_told on_terminal on_report c =
+IsRound-told {M = M} K plan fitted p q n m k r bytes Goes terminal_failed report_failed t0 t1 t2 r0 r1 r2 running few sent lines did_told on_terminal on_report c =
+    goes_round K plan fitted p q n m k r false bytes terminal_failed report_failed t0 t1 t2 r0 r1 r2 running few sent lines c
+IsRound-told {M = M} K plan fitted p q n m k r bytes (Ends status) terminal_failed report_failed t0 t1 t2 r0 r1 r2 running few sent lines did_told on_terminal on_report c =
+    ends_round K plan fitted p q n m k r bytes status terminal_failed report_failed t0 t1 t2 r0 r1 r2 running few sent lines c
+IsRound-told {M = M} K plan fitted p q n m k r bytes (Fails stop) terminal_failed report_failed t0 t1 t2 r0 r1 r2 running few sent lines did_told on_terminal on_report c =
     broken_stops K plan fitted p q n m k bytes terminal_failed report_failed t0 t1 t2 r0 r1 r2 running few sent lines stop c.0 c.1 on_terminal on_report
-IsRound-told {M = M} K plan fitted p q n m k bytes Cuts terminal_failed report_failed t0 t1 t2 r0 r1 r2 running few sent lines did_told on_terminal on_report c = absurd did_told
+IsRound-told {M = M} K plan fitted p q n m k r bytes Cuts terminal_failed report_failed t0 t1 t2 r0 r1 r2 running few sent lines did_told on_terminal on_report c = absurd did_told
 
 -- an outcome but that
 pub IsTold-not : (outcome : Outcome) → (outcome ≡ Cuts → ⊥) → IsTold outcome
@@ -282,9 +292,9 @@ IsTold-not (Ends status) h = tt
 IsTold-not (Fails stop) h = tt
 
 -- a cycle without an event lets the run continue, and its sinks have taken all
-pub Running-quiet : {M : Type 0} (K : KindOf M) → (plan : Plan) (fitted : Device) (p q : Progress M) (n m : Device) (k : ℕ) (t0 t1 r0 r1 : Stream)
-    → Running K plan fitted p n k t0 t1 r0 r1 → q.events ≡ p.events → ComesTo K plan p q n m k [] Goes → Running K plan fitted q m (k + 1) t0 t1 r0 r1
-Running-quiet {M = M} K plan fitted p q n m k t0 t1 r0 r1 running same c = record {
+pub Running-quiet : {M : Type 0} (K : KindOf M) → (plan : Plan) (fitted : Device) (p q : Progress M) (n m : Device) (k : ℕ) (r : Stepped) (t0 t1 r0 r1 : Stream)
+    → Running K plan fitted p n k t0 t1 r0 r1 → q.events ≡ p.events → Passes K plan p q n m k r [] → Running K plan fitted q m (k + 1) t0 t1 r0 r1
+Running-quiet {M = M} K plan fitted p q n m k r t0 t1 r0 r1 running same c = record {
   goes = record {
     ran =
         let e : suc k ≡ k + 1 = omega arith in
@@ -302,24 +312,24 @@ Running-quiet {M = M} K plan fitted p q n m k t0 t1 r0 r1 running same c = recor
 
 -- ---- a cut after a cycle
 
-module _ {M : Type 0} (K : KindOf M) (laws : IsLawful K) (plan : Plan) (fitted : Device) (p q : Progress M) (n m : Device) (k : ℕ) (bytes : List ℕ) (terminal_failed report_failed : Bool) (t0 t1 t2 r0 r1 r2 : Stream)
-    (running : Running K plan fitted p n k t0 t1 r0 r1) (few : k < plan.geometry.limit) (sent : Sent terminal_failed t1 t2 bytes) (awaits : AwaitsCut K plan p q n m k bytes) where
+module _ {M : Type 0} (K : KindOf M) (laws : IsLawful K) (plan : Plan) (fitted : Device) (p q : Progress M) (n m : Device) (k : ℕ) (r : Stepped) (bytes : List ℕ) (terminal_failed report_failed : Bool) (t0 t1 t2 r0 r1 r2 : Stream)
+    (running : Running K plan fitted p n k t0 t1 r0 r1) (few : k < plan.geometry.limit) (sent : Sent terminal_failed t1 t2 bytes) (awaits : AwaitsCut K plan p q n m k r bytes) where
   -- power was cut, and the cycle was reported
   pub IsRound-cut : (q' : Progress M) (m' : Device) → IsCutOffTo K plan q q' m m' (k + 1)
       → Sends (report_of plan.digest (take (length p.events) q'.events)) (report_of plan.digest q'.events) report_failed r1 r2
       → IsRound K plan fitted p (record q' { terminal_failed = terminal_failed; report_failed = report_failed }) n m' k t0 t1 t2 r0 r1 r2 (round_of Goes terminal_failed report_failed)
   IsRound-cut q' m' cut lines =
-      goes_round K plan fitted p q' n m' k bytes terminal_failed report_failed t0 t1 t2 r0 r1 r2 running few sent lines
-      (done_cut K laws plan p q n m k None bytes awaits.noted q' m' refl (k + 1) refl awaits.due cut)
+      goes_round K plan fitted p q' n m' k r true bytes terminal_failed report_failed t0 t1 t2 r0 r1 r2 running few sent lines
+      (done_cut K laws plan p q n m k r None bytes awaits.noted q' m' refl (k + 1) refl awaits.due cut)
 
   -- memory ran out, and what was made of the cycle was reported
   pub RunEnds-uncut : (bytes ≡ [] → terminal_failed ≡ false) → (q.events ≡ p.events → report_failed ≡ false)
       → Sends (report_of plan.digest (take (length p.events) q.events)) (report_of plan.digest q.events) report_failed r1 r2
-      → RunEnds K plan fitted m (record { stop = Memory; events = q.events; cycles = k; terminal_failed = terminal_failed; report_failed = report_failed }) t0 t2 r0 r2
+      → RunEndsAt K plan fitted m (record { stop = Memory; events = q.events; cycles = k; terminal_failed = terminal_failed; report_failed = report_failed }) t0 t2 r0 r2 (world_at p n k)
   RunEnds-uncut on_terminal on_report lines =
-      let broken = broken_cut K laws plan p q n m k None bytes awaits.noted q m refl awaits.due refl refl in
+      let broken = broken_cut K laws plan p q n m k r None bytes awaits.noted q m refl awaits.due refl refl in
       broken_stops K plan fitted p q n m k bytes terminal_failed report_failed t0 t1 t2 r0 r1 r2 running few sent lines Memory broken.0 broken.1 on_terminal on_report
 
   -- there are no fewer events than before
   pub told_awaiting : length p.events ≤ length q.events
-  told_awaiting = told_more K plan p q n m k bytes Cuts awaits
+  told_awaiting = told_more K plan p q n m k r bytes Cuts awaits

@@ -19,7 +19,7 @@ use Rattle.thy_run.specs.declared.plan.Plan.{Plan}
 use Rattle.thy_run.specs.declared.progress.Progress.{Progress}
 use Rattle.thy_run.specs.Going.{origin_of, given_of, world_at, IsPlanned}
 use Rattle.thy_run.specs.Sending.{Delivered}
-use Rattle.thy_run.specs.Rounds.{IsFitted, Running, RunEnds, first_progress}
+use Rattle.thy_run.specs.Rounds.{IsFitted, Running, RunEndsAt, first_progress}
 use Rattle.thy_run.proofs.AdvanceLemmas.{good_of}
 use Rattle.thy_run.proofs.RoundLemmas.{Took-none, delivered_all}
 use Rattle.thy_base.proofs.RangeLemmas.{limit_least}
@@ -30,7 +30,7 @@ first_doubt o None = refl
 first_doubt o (Some m) = refl
 
 -- power comes on for the first time
-first_of : {M : Type 0} (K : KindOf M) (laws : IsLawful K) → (plan : Plan) (m : M) (n : Device) → IsPlanned plan → K.powered plan.geometry m → IsFitted K plan n
+pub first_of : {M : Type 0} (K : KindOf M) (laws : IsLawful K) → (plan : Plan) (m : M) (n : Device) → IsPlanned plan → K.powered plan.geometry m → IsFitted K plan n
     → IsFirst K (origin_of plan) (given_of plan n) (world_at (first_progress plan m) n 0)
 first_of {M = M} K laws plan m n planned powered f =
     let o : Origin = origin_of plan in
@@ -82,34 +82,41 @@ Running-first {M = M} K laws plan p m n t r planned powered f is =
 
 -- no memory was found for a machine
 pub RunEnds-unpowered : {M : Type 0} (K : KindOf M) (laws : IsLawful K) → (plan : Plan) (events : List Event) (n : Device) (t r : Stream) → IsPlanned plan → IsFitted K plan n → events ≡ []
-    → RunEnds K plan n n (record { stop = Memory; events = events; cycles = 0; terminal_failed = false; report_failed = false }) t t r r
-RunEnds-unpowered K laws plan events n t r planned f none = record {
-  stopped = record {
-    last = world_at (first_progress plan (laws.powers plan.geometry).0) n 0;
-    ran = first_of K laws plan (laws.powers plan.geometry).0 n planned (laws.powers plan.geometry).1 f;
-    at_stop = inl (refl, (none, refl));
-  };
-  few = omega arith;
-  settled = [];
-  is_settled = refl;
-  shown_all = record { more = []; unsent = []; is_text = ap (released_of (origin_of plan)) none; whole = λ _. refl; middle = t; took = Took-none t; sent = Took-none t };
-  read_all = subst (λ (vs : List Event). Delivered false false [] (report_of plan.digest vs) r r) (sym none) (delivered_all false [] r r refl (Took-none r));
-  stop_fits = (omega (arith, limit_least plan.geometry planned.origin.geometry), refl);
-}
+    → RunEndsAt K plan n n (record { stop = Memory; events = events; cycles = 0; terminal_failed = false; report_failed = false }) t t r r
+    (world_at (first_progress plan (laws.powers plan.geometry).0) n 0)
+RunEnds-unpowered K laws plan events n t r planned f none = (
+  record {
+    stopped = record {
+      last = world_at (first_progress plan (laws.powers plan.geometry).0) n 0;
+      ran = first_of K laws plan (laws.powers plan.geometry).0 n planned (laws.powers plan.geometry).1 f;
+      at_stop = inl (refl, (none, refl));
+    };
+    few = omega arith;
+    settled = [];
+    is_settled = refl;
+    shown_all = record { more = []; unsent = []; is_text = ap (released_of (origin_of plan)) none; whole = λ _. refl; middle = t; took = Took-none t; sent = Took-none t };
+    read_all = subst (λ (vs : List Event). Delivered false false [] (report_of plan.digest vs) r r) (sym none) (delivered_all false [] r r refl (Took-none r));
+    stop_fits = (omega (arith, limit_least plan.geometry planned.origin.geometry), refl);
+  },
+  refl,
+)
 
 -- as many cycles as the limit allows are done
 pub RunEnds-limit : {M : Type 0} (K : KindOf M) → (plan : Plan) (fit : Device) (p : Progress M) (n : Device) (k limit : ℕ) (t0 t r0 r : Stream) → IsPlanned plan → Running K plan fit p n k t0 t r0 r → k ≡ limit
-    → limit ≡ plan.geometry.limit → RunEnds K plan fit n (record { stop = Limit; events = p.events; cycles = limit; terminal_failed = p.terminal_failed; report_failed = p.report_failed }) t0 t r0 r
+    → limit ≡ plan.geometry.limit → RunEndsAt K plan fit n (record { stop = Limit; events = p.events; cycles = limit; terminal_failed = p.terminal_failed; report_failed = p.report_failed }) t0 t r0 r (world_at p n k)
 RunEnds-limit {M = M} K plan fit p n k limit t0 t r0 r planned running same limit_is =
     let o : Origin = origin_of plan in
     let going : has_ended p.events ≡ false = (good_of K plan fit p n k planned running.goes).stands.ended ∙ running.goes.going in
-    let here : RunEnds K plan fit n (record { stop = Limit; events = p.events; cycles = k; terminal_failed = p.terminal_failed; report_failed = p.report_failed }) t0 t r0 r = record {
-      stopped = record { last = world_at p n k; ran = running.goes.ran; at_stop = (refl, refl) };
-      few = omega (arith, same, limit_is);
-      settled = p.events;
-      is_settled = refl;
-      shown_all = delivered_all p.terminal_failed (released_of o p.events) t0 t running.goes.on_terminal running.shown_all;
-      read_all = delivered_all p.report_failed (report_of plan.digest p.events) r0 r running.goes.on_report running.read_all;
-      stop_fits = (same ∙ limit_is, going, (running.goes.on_terminal, running.goes.on_report), running.goes.faults);
-    } in
-    subst (λ c. RunEnds K plan fit n (record { stop = Limit; events = p.events; cycles = c; terminal_failed = p.terminal_failed; report_failed = p.report_failed }) t0 t r0 r) same here
+    let here : RunEndsAt K plan fit n (record { stop = Limit; events = p.events; cycles = k; terminal_failed = p.terminal_failed; report_failed = p.report_failed }) t0 t r0 r (world_at p n k) = (
+      record {
+        stopped = record { last = world_at p n k; ran = running.goes.ran; at_stop = (refl, refl) };
+        few = omega (arith, same, limit_is);
+        settled = p.events;
+        is_settled = refl;
+        shown_all = delivered_all p.terminal_failed (released_of o p.events) t0 t running.goes.on_terminal running.shown_all;
+        read_all = delivered_all p.report_failed (report_of plan.digest p.events) r0 r running.goes.on_report running.read_all;
+        stop_fits = (same ∙ limit_is, going, (running.goes.on_terminal, running.goes.on_report), running.goes.faults);
+      },
+      refl,
+    ) in
+    subst (λ c. RunEndsAt K plan fit n (record { stop = Limit; events = p.events; cycles = c; terminal_failed = p.terminal_failed; report_failed = p.report_failed }) t0 t r0 r (world_at p n k)) same here

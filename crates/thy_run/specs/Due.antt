@@ -1,6 +1,5 @@
 -- What of the console is released to the terminal at the end of a cycle, and which cycles have nothing to report.
 use Rattle.std.specs.Prelude.{◌≡◌, ◌⊎◌, ℕ, Bool, true, false, ◌&&◌, ◌==◌, nat_lt, if◌then◌else◌, List, [], length, drop, slice_index, Option, Some, None}
-use Rattle.thy_base.specs.Bytes.{bytes_of}
 use Rattle.thy_text.specs.Event.{Event}
 use Rattle.thy_base.specs.declared.mark.Mark.{Mark}
 use Rattle.thy_view.specs.declared.did.Did.{Did}
@@ -9,10 +8,6 @@ use Rattle.thy_view.specs.declared.did.Stepped.{Stepped}
 use Rattle.thy_view.specs.declared.view.View.{View}
 use Rattle.thy_view.specs.Origin.{Origin, at}
 use Rattle.thy_run.specs.Laws.{released_of}
-use Rattle.thy_run.specs.declared.advance.Advance.{Advance}
-use Rattle.thy_run.specs.declared.advance.Advance.TheVariants.{Quiet, Noted}
-use Rattle.thy_run.specs.declared.advance.Outcome.{Outcome}
-use Rattle.thy_run.specs.declared.advance.Outcome.TheVariants.{Goes}
 use Rattle.thy_run.specs.declared.progress.Progress.{Progress}
 
 -- what was done makes the console of another checkpoint known
@@ -56,13 +51,3 @@ pub record IsQuiet {M : Type 0} (cuts : List ℕ) (p : Progress M) (r : Stepped)
   pub going : r.ended ≡ false
   pub later : p.fresh ≡ false
   pub uncut : (nat_lt p.passed (length cuts) && slice_index cuts p.passed == cycle) ≡ false
-
--- the bytes that the terminal is due for a cycle
-abbrev pub bytes_due : Advance → List ℕ
-bytes_due Quiet = []
-bytes_due (Noted noted) = bytes_of noted.bytes
-
--- the outcome of a cycle
-abbrev pub outcome_of : Advance → Outcome
-outcome_of Quiet = Goes
-outcome_of (Noted noted) = noted.outcome

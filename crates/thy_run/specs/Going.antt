@@ -1,5 +1,5 @@
 -- The program's loop as a run.
-use Rattle.std.specs.Prelude.{◌≡◌, ◌≢◌, ◌⊎◌, ℕ, ◌+◌, ◌<◌, ◌==◌, true, false, ◌&&◌, nat_lt, slice_index, List, [], ◌∷◌, ◌++◌, length, Option, Some, None, Box}
+use Rattle.std.specs.Prelude.{◌≡◌, ◌≢◌, ◌⊎◌, ℕ, ◌+◌, ◌<◌, ◌==◌, Bool, true, false, ◌&&◌, nat_lt, slice_index, List, [], ◌∷◌, ◌++◌, length, Option, Some, None, Box}
 use Rattle.std.specs.declared.alloc.Global.{Global}
 use Rattle.thy_base.specs.Bytes.{bytes_of}
 use Rattle.thy_base.specs.Config.{IsRising}
@@ -24,7 +24,7 @@ use Rattle.thy_run.specs.Due.{due_of}
 use Rattle.thy_run.specs.Endings.{EndsWith}
 use Rattle.thy_run.specs.Laws.{released_of}
 use Rattle.thy_run.specs.Unfinished.{StepFailed, TellingFailed, ReadFailed, LeftAlone}
-use Rattle.thy_run.specs.World.{World, Given, seen, TakesStep, Ran, Cycle, tear}
+use Rattle.thy_run.specs.World.{World, Given, seen, TakesStep, Ran, Cycle, is_due, tear}
 use Rattle.thy_run.specs.declared.ending.Stop.{Stop}
 use Rattle.thy_run.specs.declared.ending.Stop.TheVariants.{Nvm, Memory}
 use Rattle.thy_run.specs.declared.advance.Outcome.{Outcome}
@@ -136,10 +136,11 @@ pub record IsStuck {M : Type 0} (K : KindOf M) (plan : Plan) (p next : Progress 
   pub rose : Rose n.faults new.faults
   pub same : next ≡ record p { machine = next.machine; mix = mix_next p.mix }
 
--- the step and all its events were made, and these bytes are due to the terminal
-pub record IsNoted {M : Type 0} (K : KindOf M) (plan : Plan) (p next : Progress M) (n new : Device) (cycles : ℕ)
+-- this step and all its events were made, and these bytes are due to the terminal
+pub record IsNoted {M : Type 0} (K : KindOf M) (plan : Plan) (p next : Progress M) (n new : Device) (cycles : ℕ) (r : Stepped)
     (ended : Option Status) (bytes : List ℕ) : Type 0 where
   pub steps : TakesStep K (origin_of plan) (world_at p n cycles) (world_at next new (cycles + 1))
+  pub by_step : steps.r ≡ r
   pub is_end : IsEnd (origin_of plan) (seen K (origin_of plan) (world_at p n cycles))
       (seen K (origin_of plan) (world_at next new (cycles + 1))) ended
   pub released : next.released ≡ length (released_of (origin_of plan) next.events)
@@ -148,11 +149,13 @@ pub record IsNoted {M : Type 0} (K : KindOf M) (plan : Plan) (p next : Progress 
   pub on_terminal : next.terminal_failed ≡ p.terminal_failed
   pub on_report : next.report_failed ≡ p.report_failed
 
--- a cycle is done
-pub record IsDone {M : Type 0} (K : KindOf M) (plan : Plan) (p next : Progress M) (n new : Device) (cycles : ℕ) (bytes : List ℕ)
-    : Type 0 where
+-- a cycle is done by this step, and a cut fell after it or not
+pub record IsDone {M : Type 0} (K : KindOf M) (plan : Plan) (p next : Progress M) (n new : Device) (cycles : ℕ) (r : Stepped)
+    (fell : Bool) (bytes : List ℕ) : Type 0 where
   pub cycle : Cycle K (origin_of plan) plan.config.cuts plan.config.tears (world_at p n cycles)
       (world_at next new (cycles + 1))
+  pub by_step : cycle.steps.r ≡ r
+  pub has_fallen : is_due K (origin_of plan) plan.config.cuts cycle.between ≡ fell
   pub released : next.released ≡ length (released_of (origin_of plan) next.events)
   pub releases : released_of (origin_of plan) next.events ≡ released_of (origin_of plan) p.events ++ bytes
   pub grew : (more : List Event) × (next.events ≡ p.events ++ more)
@@ -190,23 +193,27 @@ Breaks K plan p next n new cycles bytes Memory =
 Breaks K plan p next n new cycles bytes stop = ⊥
 
 -- a cut is due after a cycle whose events were made: the next one that is listed
-pub record AwaitsCut {M : Type 0} (K : KindOf M) (plan : Plan) (p next : Progress M) (n new : Device) (cycles : ℕ) (bytes : List ℕ)
-    : Type 0 where
-  pub noted : IsNoted K plan p next n new cycles None bytes
+pub record AwaitsCut {M : Type 0} (K : KindOf M) (plan : Plan) (p next : Progress M) (n new : Device) (cycles : ℕ) (r : Stepped)
+    (bytes : List ℕ) : Type 0 where
+  pub noted : IsNoted K plan p next n new cycles r None bytes
   pub due : (nat_lt next.passed (length plan.config.cuts) && slice_index plan.config.cuts next.passed == cycles + 1) ≡ true
 
--- the outcome of a cycle
-abbrev pub ComesTo : {M : Type 0} → KindOf M → Plan → Progress M → Progress M → Device → Device → ℕ → List ℕ
-    → Outcome → Type 0
-ComesTo K plan p next n new cycles bytes Goes =
-    IsDone K plan p next n new cycles bytes
+-- a cycle is done by this step, no cut fell after it, and the run continues
+abbrev pub Passes : {M : Type 0} → KindOf M → Plan → Progress M → Progress M → Device → Device → ℕ → Stepped → List ℕ → Type 0
+Passes K plan p next n new cycles r bytes =
+    IsDone K plan p next n new cycles r false bytes
     × (is_halt (seen K (origin_of plan) (world_at next new (cycles + 1))).phase ≡ false)
-ComesTo K plan p next n new cycles bytes Cuts = AwaitsCut K plan p next n new cycles bytes
-ComesTo K plan p next n new cycles bytes (Ends status) =
-    IsDone K plan p next n new cycles bytes
+
+-- the outcome of the cycle of a step
+abbrev pub ComesTo : {M : Type 0} → KindOf M → Plan → Progress M → Progress M → Device → Device → ℕ → Stepped → List ℕ
+    → Outcome → Type 0
+ComesTo K plan p next n new cycles r bytes Goes = Passes K plan p next n new cycles r bytes
+ComesTo K plan p next n new cycles r bytes Cuts = AwaitsCut K plan p next n new cycles r bytes
+ComesTo K plan p next n new cycles r bytes (Ends status) =
+    IsDone K plan p next n new cycles r false bytes
     × (is_halt (seen K (origin_of plan) (world_at next new (cycles + 1))).phase ≡ true)
     × EndsWith next.events status
-ComesTo K plan p next n new cycles bytes (Fails stop) =
+ComesTo K plan p next n new cycles r bytes (Fails stop) =
     IsBroken K plan p next n new cycles bytes × Breaks K plan p next n new cycles bytes stop
 
 -- power may be cut: the machine is at a moment of the run, and another cut is listed

@@ -7,8 +7,10 @@ pub mod Progress
 pub mod Strides
 pub mod Laws
 pub mod Sending
+pub mod Watching
 pub mod Endings
 pub mod Going
 pub mod Stopping
 pub mod Rounds
+pub mod Seeing
 pub mod Promises

@@ -1,5 +1,5 @@
 -- What the functions of the loop promise each other: each from any moment of any run.
-use Rattle.std.specs.Prelude.{◌≡◌, ℕ, ◌+◌, ◌<◌, ◌^◌, ◌&&◌, true, Bool, List, [], length, Option, Result, IfOk, IfErr, OnOk, OnErr, ◌++◌, Box}
+use Rattle.std.specs.Prelude.{◌≡◌, ℕ, ◌+◌, ◌-◌, ◌<◌, ◌^◌, ◌&&◌, true, false, Bool, List, [], length, Option, Result, IfOk, OnOk, OnErr, ◌++◌, Box}
 use Rattle.std.specs.declared.alloc.Global.{Global}
 use Rattle.thy_base.specs.declared.bytes.Bytes.{Bytes}
 use Rattle.thy_base.specs.declared.cause.EndCause.{EndCause}
@@ -18,16 +18,19 @@ use Rattle.thy_view.specs.declared.view.View.{View}
 use Rattle.thy_view.specs.Kind.{IsSnapshot, KindOf}
 use Rattle.thy_view.specs.Origin.{Origin}
 use Rattle.thy_view.specs.Views.{is_between, loads}
-use Rattle.thy_run.specs.Due.{bytes_due, due_of, outcome_of}
+use Rattle.thy_run.specs.Due.{due_of}
 use Rattle.thy_run.specs.declared.advance.Advance.{Advance}
+use Rattle.thy_run.specs.declared.advance.Advance.TheVariants.{Quiet, Noted}
 use Rattle.thy_run.specs.declared.advance.Outcome.{Outcome}
 use Rattle.thy_run.specs.declared.cycles.Round.{Round}
 use Rattle.thy_run.specs.declared.ending.Ending.{Ending}
 use Rattle.thy_run.specs.declared.gather.Readings.{Readings}
 use Rattle.thy_run.specs.declared.plan.Plan.{Plan}
 use Rattle.thy_run.specs.declared.progress.Progress.{Progress}
-use Rattle.thy_run.specs.Going.{origin_of, world_at, GoesOn, IsStepped, IsStuck, CanGather, MadeSome, Restores, IsEnding, IsEnd, IsGathered, IsNoted, AwaitsCut, ComesTo}
+use Rattle.thy_run.specs.Going.{origin_of, world_at, GoesOn, IsStepped, IsStuck, CanGather, MadeSome, Restores, IsEnding, IsEnd, IsGathered, IsNoted, AwaitsCut, Passes, ComesTo}
 use Rattle.thy_run.specs.Sending.{Sinks}
+use Rattle.thy_run.specs.Seeing.{SeesOutcome}
+use Rattle.thy_run.specs.Watching.{Taken, taken, Sees}
 use Rattle.thy_run.specs.Rounds.{Running, IsRound, RunEnds}
 use Rattle.thy_run.specs.World.{seen, turns_behind, did_told, end_told, events_of}
 
@@ -136,9 +139,9 @@ NotesSome did reload restored ended cycle old new result =
 -- the outcome of a cycle whose events were made
 abbrev pub ConcludesNoted : {M : Type 0} → KindOf M → Plan → Progress M → Option Status → ℕ → Outcome → Type 0
 ConcludesNoted {M = M} K plan next ended cycle outcome =
-    (fitted : Device) (p : Progress M) (n m : Device) (k : ℕ) (bytes : List ℕ)
-    → GoesOn K plan fitted p n k → IsNoted K plan p next n m k ended bytes → cycle ≡ k + 1
-    → ComesTo K plan p next n m k bytes outcome
+    (fitted : Device) (p : Progress M) (n m : Device) (k : ℕ) (r : Stepped) (bytes : List ℕ)
+    → GoesOn K plan fitted p n k → IsNoted K plan p next n m k r ended bytes → cycle ≡ k + 1
+    → ComesTo K plan p next n m k r bytes outcome
 
 -- what was read for the events of a step from p to q
 abbrev pub IsGatheredFor : {M : Type 0} → KindOf M → Plan → Progress M → Progress M → Device → Device → ℕ
@@ -160,14 +163,18 @@ abbrev pub Concludes : {M : Type 0} → KindOf M → Plan → Progress M → Pro
 Concludes {M = M} K plan q next did readings cycle bytes outcome =
     (fitted : Device) (p : Progress M) (n m : Device) (k : ℕ) (r : Stepped)
     → GoesOn K plan fitted p n k → IsStepped K plan p q n m k r → IsGatheredFor K plan p q n m k did readings
-    → r.did ≡ did → cycle ≡ k + 1 → ComesTo K plan p next n m k bytes outcome
+    → r.did ≡ did → cycle ≡ k + 1 → ComesTo K plan p next n m k r bytes outcome
 
--- from a run that continues, a cycle has this outcome
-abbrev pub TakesCycle : {M : Type 0} → KindOf M → Plan → Progress M → Progress M → Device → Device → ℕ
-    → Advance → Type 0
-TakesCycle K plan p next n new done advance =
+-- from a run that continues, a cycle has this outcome; the observer has seen it, or keeps its step if a cut is due
+abbrev pub TakesCycle : {M O : Type 0} → KindOf M → (O → List Taken → Type 0) → (O → List Taken → Stepped → Type 0) → Plan
+    → Progress M → Progress M → Device → Device → ℕ → O → O → Advance → Type 0
+TakesCycle K has_seen keeps plan p next n new done old_o new_o Quiet =
     (fitted : Device) → GoesOn K plan fitted p n done
-    → ComesTo K plan p next n new done (bytes_due advance) (outcome_of advance)
+    → (r : Stepped) × Passes K plan p next n new done r [] × Sees has_seen old_o new_o (taken r 0 false)
+TakesCycle K has_seen keeps plan p next n new done old_o new_o (Noted noted) =
+    (fitted : Device) → GoesOn K plan fitted p n done
+    → (r : Stepped) × ComesTo K plan p next n new done r (bytes_of noted.bytes) noted.outcome
+    × SeesOutcome has_seen keeps old_o new_o r (length next.events - length p.events) noted.outcome
 
 -- ---- a round of the loop
 
@@ -187,8 +194,8 @@ MakesRound K plan p next n new done before after round =
 abbrev pub IsAwaiting : {M : Type 0} → KindOf M → Plan → Progress M → Device → ℕ → List ℕ → ℕ → Sinks → Type 0
 IsAwaiting {M = M} K plan next m done bytes first now =
     (fitted : Device) × (p : Progress M) × (n : Device) × (t : Stream) × (r : Stream)
-    × Running K plan fitted p n done t now.terminal r now.report
-    × AwaitsCut K plan p next n m done bytes × (first ≡ length p.events)
+    × (step : Stepped) × Running K plan fitted p n done t now.terminal r now.report
+    × AwaitsCut K plan p next n m done step bytes × (first ≡ length p.events)
 
 -- a run of a plan leaves this
 abbrev pub RunsTo : {M : Type 0} → KindOf M → Plan → Device → Device → Ending → Sinks → Sinks → Type 0
@@ -199,16 +206,7 @@ RunsTo K plan fitted new e before after =
 abbrev pub CutsOn : {M : Type 0} → KindOf M → Plan → Progress M → Device → Device → ℕ → List ℕ → ℕ → Sinks → Sinks
     → Result (Progress M) Ending → Type 0
 CutsOn {M = M} K plan next m new done bytes first before after result =
-    (fitted : Device) (p : Progress M) (n : Device) (t r : Stream)
+    (fitted : Device) (p : Progress M) (n : Device) (t r : Stream) (step : Stepped)
     → Running K plan fitted p n done t before.terminal r before.report
-    → AwaitsCut K plan p next n m done bytes → first ≡ length p.events
+    → AwaitsCut K plan p next n m done step bytes → first ≡ length p.events
     → IfOk result (λ q. Running K plan fitted q new (done + 1) t after.terminal r after.report)
-
--- or it ends there
-abbrev pub CutsShort : {M : Type 0} → KindOf M → Plan → Progress M → Device → Device → ℕ → List ℕ → ℕ → Sinks → Sinks
-    → Result (Progress M) Ending → Type 0
-CutsShort {M = M} K plan next m new done bytes first before after result =
-    (fitted : Device) (p : Progress M) (n : Device) (t r : Stream)
-    → Running K plan fitted p n done t before.terminal r before.report
-    → AwaitsCut K plan p next n m done bytes → first ≡ length p.events
-    → IfErr result (λ e. RunEnds K plan fitted new e t after.terminal r after.report)

@@ -5,6 +5,7 @@ use Rattle.thy_base.specs.Device.{Device, fitted}
 use Rattle.thy_base.specs.Mix.{mix_start}
 use Rattle.thy_base.specs.Outside.{Stream, Took}
 use Rattle.thy_base.specs.declared.block.Block.{Block}
+use Rattle.thy_view.specs.declared.did.Stepped.{Stepped}
 use Rattle.thy_view.specs.Kind.{IsFittedFor, KindOf}
 use Rattle.thy_text.specs.Lines.{report_of}
 use Rattle.thy_run.specs.Laws.{released_of}
@@ -18,7 +19,8 @@ use Rattle.thy_run.specs.declared.cycles.Round.TheVariants.{GoesOn as RoundGoesO
 use Rattle.thy_run.specs.declared.plan.Plan.{Plan}
 use Rattle.thy_run.specs.declared.progress.Progress.{Progress}
 use Rattle.thy_base.specs.Bytes.{bytes_of}
-use Rattle.thy_run.specs.Going.{origin_of, given_of, GoesOn, AwaitsCut}
+use Rattle.thy_run.specs.Going.{origin_of, given_of, world_at, GoesOn, AwaitsCut}
+use Rattle.thy_run.specs.World.{World}
 use Rattle.thy_run.specs.Endings.{HasRun}
 
 -- a stop for a sink that failed comes before the others of a cycle that is done
@@ -57,6 +59,12 @@ abbrev pub RunEnds : {M : Type 0} → KindOf M → Plan → Device → Device �
 RunEnds K plan fitted new e terminal shown report read =
     HasRun K (origin_of plan) (given_of plan fitted) new e terminal shown report read
 
+-- the same, and where it stopped
+abbrev pub RunEndsAt : {M : Type 0} → KindOf M → Plan → Device → Device → Ending
+    → Stream → Stream → Stream → Stream → World M → Type 0
+RunEndsAt K plan fitted new e terminal shown report read last =
+    (h : RunEnds K plan fitted new e terminal shown report read) × (h.stopped.last ≡ last)
+
 -- the ending of a run that stops there
 abbrev pub ending_of : {M : Type 0} → Stop → Progress M → ℕ → Ending
 ending_of stop p cycles = record {
@@ -73,11 +81,11 @@ abbrev pub IsRound : {M : Type 0} → KindOf M → Plan → Device → Progress 
 IsRound K plan fitted p next n new cycles terminal showing shown report reading read RoundGoesOn =
     Running K plan fitted next new (cycles + 1) terminal shown report read
 IsRound K plan fitted p next n new cycles terminal showing shown report reading read (CutsOff bytes) =
-    AwaitsCut K plan p next n new cycles (bytes_of bytes) × (shown ≡ showing) × (read ≡ reading)
+    (r : Stepped) × AwaitsCut K plan p next n new cycles r (bytes_of bytes) × (shown ≡ showing) × (read ≡ reading)
 IsRound K plan fitted p next n new cycles terminal showing shown report reading read (Stops stop) =
-    RunEnds K plan fitted new (ending_of stop next (cycles + 1)) terminal shown report read
+    RunEndsAt K plan fitted new (ending_of stop next (cycles + 1)) terminal shown report read (world_at next new (cycles + 1))
 IsRound K plan fitted p next n new cycles terminal showing shown report reading read (BreaksOff stop) =
-    RunEnds K plan fitted new (ending_of stop next cycles) terminal shown report read
+    RunEndsAt K plan fitted new (ending_of stop next cycles) terminal shown report read (world_at p n cycles)
 
 -- a run before its first cycle
 abbrev pub first_progress : {M : Type 0} → Plan → M → Progress M

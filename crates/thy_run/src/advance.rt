@@ -5,11 +5,14 @@ ghost use Rattle.thy_base.specs.Device.{Device as DeviceValue};
 ghost use Rattle.thy_view.specs.Kind.{CanStep};
 ghost use Rattle.thy_run.specs.Going.{IsPlanned, GoesOn, CanCut, IsCutOffTo};
 ghost use Rattle.thy_run.specs.Due.{is_told, IsQuiet};
+ghost use Rattle.thy_run.specs.Seeing.{SeesOutcome};
+ghost use Rattle.thy_run.specs.Watching.{CanSee};
 ghost use Rattle.thy_run.specs.Promises.{StepsOn, GetsStuck, ConcludesNoted, CanConclude, Concludes, TakesCycle};
 
 use crate::ending::Stop;
 use crate::gather::{Readings, gather};
 use crate::note::note;
+use crate::observer::Observer;
 use crate::plan::Plan;
 use crate::progress::Progress;
 use std::alloc::Global;
@@ -41,7 +44,7 @@ pub struct Noted {
 /// A cycle, and what has to be reported of it.
 #[derive(Drop)]
 pub enum Advance {
-    /// It is done, has no event, and no cut is due after it. Most cycles are such.
+    /// It is done, has no event, no cut is due after it, and the observer has seen it. Most cycles are such.
     Quiet,
     /// The events were made that belong to its outcome.
     Noted(Noted),
@@ -173,6 +176,25 @@ fn come_to_after<M: Computer>(
     Outcome::Goes
 }
 
+/// Lets an observer see the cycle of a step, if it is done. So many events were made in it. If a cut is due first, the
+/// observer keeps the step until then.
+fn show<O: Observer>(
+    observer: &mut O,
+    stepped: &Stepped,
+    told: usize,
+    outcome: &Outcome,
+    cycle: u64,
+)
+    requires { CanSee O.has_seen observer.old cycle }
+    ensures { SeesOutcome O.has_seen O.keeps observer.old observer.new stepped.now told outcome.now }
+{
+    match outcome {
+        Outcome::Goes | Outcome::Ends(_) => observer.see(stepped, told, cycle),
+        Outcome::Cuts => observer.keep(stepped),
+        Outcome::Fails(_) => {}
+    }
+}
+
 /// Makes the events of a step, and returns the outcome of the cycle.
 fn conclude<M: Computer>(
     alloc: Global,
@@ -208,20 +230,24 @@ fn conclude<M: Computer>(
 }
 
 /// One cycle without the cut that may be due after it: a step of the machine, what has to be read for its
-/// events, and the events.
-pub fn take_cycle<M: Computer, N: Nvm>(
+/// events, and the events. The observer sees it, or keeps its step if a cut is due.
+pub fn take_cycle<M: Computer, N: Nvm, O: Observer>(
     alloc: Global,
     progress: &mut Progress<M>,
     plan: &Plan,
     done: u64,
     nvm: &mut N,
+    observer: &mut O,
 ) -> Advance
     requires planned { IsPlanned plan.now }
     requires goes { let n = N.device nvm.old in
         (fitted : DeviceValue) × GoesOn M.kind plan.now fitted progress.old n done }
     requires few { done < 2 ^ 62 }
+    requires unseen { CanSee O.has_seen observer.old (done + 1) }
     ensures cycle { let n = N.device nvm.old in
-        TakesCycle M.kind plan.now progress.old progress.new n (N.device nvm.new) done result }
+        let new = N.device nvm.new in
+        let o = observer.old in
+        TakesCycle M.kind O.has_seen O.keeps plan.now progress.old progress.new n new done o observer.new result }
     ensures quiet { result ≡ Advance.Quiet → progress.new.events ≡ progress.old.events }
 {
     let stepped = match step(progress, plan, nvm) {
@@ -234,12 +260,17 @@ pub fn take_cycle<M: Computer, N: Nvm>(
         }
     };
     if is_quiet(progress, plan, &stepped, done + 1) {
+        observer.see(&stepped, 0, done + 1);
         return Advance::Quiet;
     }
     match gather(alloc, progress, &stepped, nvm) {
         Ok(readings) => {
+            let first = progress.events.len();
             let did = stepped.did;
-            Advance::Noted(conclude(alloc, progress, plan, did, readings, done + 1))
+            let noted = conclude(alloc, progress, plan, did, readings, done + 1);
+            let told = progress.events.len() - first;
+            show(observer, &stepped, told, &noted.outcome, done + 1);
+            Advance::Noted(noted)
         }
         Err(error) => Advance::Noted(Noted {
             bytes: Bytes::new(alloc),

@@ -1,14 +1,17 @@
 //! The cycles of a run, one after another.
-ghost use Rattle.std.specs.Prelude.{◌≡◌, ◌<◌, ◌+◌, length, IfOk};
+ghost use Rattle.std.specs.Prelude.{◌≡◌, ◌<◌, ◌+◌, [], length, IfOk};
 ghost use Rattle.thy_base.specs.Bytes.{bytes_of};
 ghost use Rattle.thy_view.specs.Kind.{IsDramOf};
 ghost use Rattle.thy_run.specs.Going.{IsPlanned};
-ghost use Rattle.thy_run.specs.Promises.{IsRunning, MakesRound, IsAwaiting, RunsTo, CutsOn, CutsShort};
+ghost use Rattle.thy_run.specs.Promises.{IsRunning, MakesRound, IsAwaiting, RunsTo, CutsOn};
+ghost use Rattle.thy_run.specs.Seeing.{RunsSeen, SeesCut, SeesRound};
+ghost use Rattle.thy_run.specs.Watching.{CanSee, CanSeeCut};
 ghost use Rattle.thy_run.specs.Sending.{sinks};
 ghost use Rattle.thy_run.specs.Rounds.{ending_of, first_progress, stopped_for, round_of, IsFitted};
 
 use crate::advance::{Advance, Noted, Outcome, cut, take_cycle};
 use crate::ending::{Ending, Stop};
+use crate::observer::Observer;
 use crate::plan::Plan;
 use crate::progress::Progress;
 use crate::tell::{Failures, tell};
@@ -57,7 +60,7 @@ fn stopped_for(failures: Failures, round: Round) -> Round
 
 /// One cycle, and then what the sinks are due for it, if no cut is due first. `first` is the number of the events
 /// before it.
-fn take_round<M: Computer, T: Sink, R: Sink, N: Nvm>(
+fn take_round<M: Computer, T: Sink, R: Sink, N: Nvm, O: Observer>(
     alloc: Global,
     progress: &mut Progress<M>,
     plan: &Plan,
@@ -66,19 +69,25 @@ fn take_round<M: Computer, T: Sink, R: Sink, N: Nvm>(
     terminal: &mut T,
     report: &mut R,
     nvm: &mut N,
+    observer: &mut O,
 ) -> Round
     requires planned { IsPlanned plan.now }
     requires running { let before = sinks (T.stream terminal.old) (R.stream report.old) in
         IsRunning M.kind plan.now progress.old (N.device nvm.old) done before }
     requires few { done < plan.now.geometry.limit }
     requires first { first ≡ length progress.old.events }
-    ensures { let before = sinks (T.stream terminal.old) (R.stream report.old) in
+    requires unseen { CanSee O.has_seen observer.old (done + 1) }
+    ensures round { let before = sinks (T.stream terminal.old) (R.stream report.old) in
         let after = sinks (T.stream terminal.new) (R.stream report.new) in
         let n = N.device nvm.old in
         let new = N.device nvm.new in
         MakesRound M.kind plan.now progress.old progress.new n new done before after result }
+    ensures seen { let n = N.device nvm.old in
+        let new = N.device nvm.new in
+        let o = observer.old in
+        SeesRound M.kind O.has_seen O.keeps plan.now progress.old progress.new n new done o observer.new result }
 {
-    let Noted { bytes, outcome } = match take_cycle(alloc, progress, plan, done, nvm) {
+    let Noted { bytes, outcome } = match take_cycle(alloc, progress, plan, done, nvm, observer) {
         Advance::Quiet => return Round::GoesOn,
         Advance::Noted(noted) => noted,
     };
@@ -102,7 +111,7 @@ fn take_round<M: Computer, T: Sink, R: Sink, N: Nvm>(
 ///
 /// # Errors
 /// How the run ends: if a sink failed, or an allocation. Then nothing was cut, and the cycle is not done.
-fn cut_power<M: Computer, T: Sink, R: Sink, N: Nvm>(
+fn cut_power<M: Computer, T: Sink, R: Sink, N: Nvm, O: Observer>(
     alloc: Global,
     progress: Progress<M>,
     bytes: Bytes,
@@ -112,25 +121,30 @@ fn cut_power<M: Computer, T: Sink, R: Sink, N: Nvm>(
     terminal: &mut T,
     report: &mut R,
     nvm: &mut N,
+    observer: &mut O,
 ) -> Result<Progress<M>, Ending>
     requires planned { IsPlanned plan.now }
     requires awaits { let before = sinks (T.stream terminal.old) (R.stream report.old) in
         IsAwaiting M.kind plan.now progress (N.device nvm.old) done (bytes_of bytes) first before }
     requires few { done < plan.now.geometry.limit }
+    requires unseen { CanSeeCut O.keeps observer.old (done + 1) }
     ensures ok { let before = sinks (T.stream terminal.old) (R.stream report.old) in
         let after = sinks (T.stream terminal.new) (R.stream report.new) in
         let n = N.device nvm.old in
         let new = N.device nvm.new in
         CutsOn M.kind plan.now progress n new done (bytes_of bytes) first before after result }
-    ensures err { let before = sinks (T.stream terminal.old) (R.stream report.old) in
+    ensures seen { let before = sinks (T.stream terminal.old) (R.stream report.old) in
         let after = sinks (T.stream terminal.new) (R.stream report.new) in
         let n = N.device nvm.old in
         let new = N.device nvm.new in
-        CutsShort M.kind plan.now progress n new done (bytes_of bytes) first before after result }
+        let o = observer.old in
+        let bytes = bytes_of bytes in
+        SeesCut M.kind O.has_seen O.keeps plan.now progress n new done bytes first before after o observer.new result }
 {
     let mut next = match cut(alloc, progress, plan, done + 1, nvm) {
         Ok(next) => next,
         Err(events) => {
+            observer.forget();
             let failures = tell(
                 bytes.as_slice(),
                 &events,
@@ -158,6 +172,7 @@ fn cut_power<M: Computer, T: Sink, R: Sink, N: Nvm>(
     );
     next.terminal_failed = failures.terminal;
     next.report_failed = failures.report;
+    observer.see_cut(next.events.len() - first, done + 1);
     if failures.report {
         return Err(ended_by(Stop::Report, next, done + 1));
     }
@@ -199,19 +214,26 @@ fn first_machine<M: Computer>(alloc: Global, geometry: &Geometry) -> Result<M, A
     Ok(machine)
 }
 
-/// Runs the machine over a device that was fitted, until the program ends or the run stops.
-pub fn run<M: Computer, T: Sink, R: Sink, N: Nvm>(
+/// Runs the machine over a device that was fitted, until the program ends or the run stops. The observer, which has seen
+/// nothing yet, sees each cycle that is done.
+pub fn run<M: Computer, T: Sink, R: Sink, N: Nvm, O: Observer>(
     alloc: Global,
     plan: &Plan,
     terminal: &mut T,
     report: &mut R,
     nvm: &mut N,
+    observer: &mut O,
 ) -> Ending
     requires planned { IsPlanned plan.now }
     requires fitted { IsFitted M.kind plan.now (N.device nvm.old) }
-    ensures { let before = sinks (T.stream terminal.old) (R.stream report.old) in
+    requires unseen { O.has_seen observer.old [] }
+    ensures ran { let before = sinks (T.stream terminal.old) (R.stream report.old) in
         let after = sinks (T.stream terminal.new) (R.stream report.new) in
         RunsTo M.kind plan.now (N.device nvm.old) (N.device nvm.new) result before after }
+    ensures seen { let before = sinks (T.stream terminal.old) (R.stream report.old) in
+        let after = sinks (T.stream terminal.new) (R.stream report.new) in
+        let n = N.device nvm.old in
+        RunsSeen M.kind O.has_seen plan.now n (N.device nvm.new) result before after observer.new }
 {
     let Ok(machine) = first_machine::<M>(alloc, &plan.geometry) else {
         return Ending {
@@ -235,11 +257,12 @@ pub fn run<M: Computer, T: Sink, R: Sink, N: Nvm>(
             terminal,
             report,
             nvm,
+            observer,
         ) {
             Round::GoesOn => {}
             Round::Cuts(bytes) => {
                 match cut_power(
-                    alloc, progress, bytes, plan, done, first, terminal, report, nvm,
+                    alloc, progress, bytes, plan, done, first, terminal, report, nvm, observer,
                 ) {
                     Ok(next) => progress = next,
                     Err(ending) => return ending,

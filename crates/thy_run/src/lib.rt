@@ -11,6 +11,7 @@ mod ending;
 mod gather;
 mod laws;
 mod note;
+mod observer;
 mod plan;
 mod progress;
 mod tell;
@@ -21,5 +22,6 @@ pub use laws::{
     every_run_is_busy, every_run_is_soon_over, every_run_keeps_its_promise, every_run_strides,
     no_cycle_of_a_run_rests, one_more_cut_is_safe,
 };
+pub use observer::{Observer, Silent};
 pub use plan::Plan;
 pub use tell::write_bytes;

@@ -2,7 +2,8 @@ use Rattle.std.proofs.Common.{◌≡◌, sym, subst}
 use Rattle.thy_base.specs.declared.config.SchemeName.{SchemeName}
 use Rattle.thy_base.specs.Geometry.{parameters_of}
 use Rattle.thy_words.specs.Settings.{job_of}
-use Rattle.thy_cli.specs.Answering.{Outside, outside, RunAnswered}
+use Rattle.thy_cli.specs.Answering.{Outside, outside}
+use Rattle.thy_cli.specs.Watching.{RunSeen}
 use Rattle.thy_cli.specs.Machines.{by_scheme}
 use Rattle.thy_cli.specs.Planning.{named}
 use Rattle.thy_cli.proofs.running.run_by_scheme.Goals as goal
@@ -17,12 +18,12 @@ pub returns-in-Thynvm : goal.returns-in-Thynvm
 returns-in-Thynvm g c =
     let before : Outside = outside (g.H.Shelf.stock c.args.shelf.now) (g.N.Nvm.device c.args.nvm.now) (g.T.Sink.stream c.args.terminal.now) (g.R.Sink.stream c.args.report.now) in
     let after : Outside = outside (g.H.Shelf.stock c.run_source.new.shelf) (g.N.Nvm.device c.run_source.new.nvm) (g.T.Sink.stream c.run_source.new.terminal) (g.R.Sink.stream c.run_source.new.report) in
-    subst (λ (x : SchemeName). RunAnswered (by_scheme g.A.Computer.kind g.B.Computer.kind x).kind (named c.args.source) (job_of c.args.job) before after c.run_source.result)
+    subst (λ (x : SchemeName). RunSeen (by_scheme g.A.Computer.kind g.B.Computer.kind x).kind g.O.Observer.has_seen (named c.args.source) (job_of c.args.job) before after c.run_source.result c.run_source.new.observer)
     (sym c.in-Thynvm.is) c.run_source.ensures
 
 pub returns-in-Journal : goal.returns-in-Journal
 returns-in-Journal g c =
     let before : Outside = outside (g.H.Shelf.stock c.args.shelf.now) (g.N.Nvm.device c.args.nvm.now) (g.T.Sink.stream c.args.terminal.now) (g.R.Sink.stream c.args.report.now) in
     let after : Outside = outside (g.H.Shelf.stock c.run_source-in-Journal.new.shelf) (g.N.Nvm.device c.run_source-in-Journal.new.nvm) (g.T.Sink.stream c.run_source-in-Journal.new.terminal) (g.R.Sink.stream c.run_source-in-Journal.new.report) in
-    subst (λ (x : SchemeName). RunAnswered (by_scheme g.A.Computer.kind g.B.Computer.kind x).kind (named c.args.source) (job_of c.args.job) before after c.run_source-in-Journal.result)
+    subst (λ (x : SchemeName). RunSeen (by_scheme g.A.Computer.kind g.B.Computer.kind x).kind g.O.Observer.has_seen (named c.args.source) (job_of c.args.job) before after c.run_source-in-Journal.result c.run_source-in-Journal.new.observer)
     (sym c.in-Journal.is) c.run_source-in-Journal.ensures

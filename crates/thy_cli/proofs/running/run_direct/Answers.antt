@@ -1,4 +1,4 @@
-use Rattle.std.proofs.Common.{◌≡◌, ap, subst, sym, refl, inl, inr, ◌∙◌, arith}
+use Rattle.std.proofs.Common.{◌≡◌, ap, sym, refl, inl, ◌∙◌, arith}
 use Rattle.thy_base.specs.declared.config.Config.{Config}
 use Rattle.thy_base.specs.declared.nvm.Shape.{Shape}
 use Rattle.thy_base.specs.Device.{Device, fitted}
@@ -21,17 +21,20 @@ fit-requires-clause-start g c =
     (ap (λ (s : Shape). s.blocks) c.shape_of-shape.ensures.shape)).fits
 
 pub returns-in-Err : goal.returns-in-Err
-returns-in-Err g c = λ job names p. inl (
-  DeviceRefusal c.in-Err.error,
-  (p.program, record { faults = refl; failed = refl }, c.in-Err.ensures.err),
-  record {
-    status = c.refuse.ensures.status;
-    events = c.refuse.ensures.events;
-    cycles = c.refuse.ensures.cycles;
-    shown_none = refl;
-    held = refl;
-    closes = c.refuse.ensures.closes;
-  },
+returns-in-Err g c = λ job names p. (
+  inl (
+    DeviceRefusal c.in-Err.error,
+    (p.program, record { faults = refl; failed = refl }, c.in-Err.ensures.err),
+    record {
+      status = c.refuse.ensures.status;
+      events = c.refuse.ensures.events;
+      cycles = c.refuse.ensures.cycles;
+      shown_none = refl;
+      held = refl;
+      closes = c.refuse.ensures.closes;
+    },
+  ),
+  c.requires.unseen,
 )
 
 pub run_fitted-requires-clause-fitted : goal.run_fitted-requires-clause-fitted
@@ -56,5 +59,5 @@ returns-in-Ok g c = λ job names p.
     let none : job.config.gap ≡ 0 = ap (λ (x : Config). x.gap) (sym p.config) ∙ c.requires.direct in
     let fit : g.N.Nvm.device c.fit.new.self ≡ fitted (shape_for K job.config) c.args.blocks.items n =
     c.in-Ok.ensures.ok ∙ ap (λ s. fitted s c.args.blocks.items n) (c.shape_of-shape.ensures.shape ∙ shape_planned K (named c.args.source) job before.shelf c.args.plan.now c.args.blocks.items p) in
-    inr (IsRunOver-seen K (named c.args.source) job before after n after.device c.run_fitted.result (IsFoundAs-direct job.config.gap n) (IsLeftAs-direct job.config.gap after.device none)
-    (c.run_fitted.ensures.runs job c.args.blocks.items n names p fit))
+    IsRunOver-seen K g.O.Observer.has_seen (named c.args.source) job before after n after.device c.run_fitted.result c.run_fitted.new.observer (IsFoundAs-direct job.config.gap n) (IsLeftAs-direct job.config.gap after.device none)
+    (c.run_fitted.ensures.runs job c.args.blocks.items n names p fit)

@@ -2,7 +2,7 @@ use Rattle.std.proofs.Common.{ap, subst, sym, ◌∙◌, ◌++◌, ℕ}
 use Rattle.std.specs.Prelude.{option_map}
 use Rattle.thy_base.specs.declared.config.Parameters.{Parameters}
 use Rattle.thy_run.specs.Going.{origin_of, given_of}
-use Rattle.thy_cli.specs.Answering.{Outside, outside, with_device, ClosesRun, run_line, summary_for}
+use Rattle.thy_cli.specs.Answering.{Outside, outside, ClosesRun, run_line, summary_for}
 use Rattle.thy_cli.specs.Planning.{HasRoom, named}
 use Rattle.thy_cli.specs.Saving.{saves}
 use Rattle.thy_cli.proofs.LevellingLemmas.{HasStayed-ran}
@@ -15,16 +15,16 @@ save_run-why-requires g c =
     subst (HasRoom (g.N.Nvm.device c.run-ending.new.nvm) c.run-ending.result.events) (f.fits.blocks ∙ sym c.nvm_blocks-blocks.ensures)
     (HasRoom-ran g.M.Computer.kind g.met.M.Computer.lawful c.args.plan.now f.start f.shape f.before (g.N.Nvm.device c.args.nvm.now) (g.N.Nvm.device c.run-ending.new.nvm) c.run-ending.result
     (g.T.Sink.stream c.args.terminal.now) (g.T.Sink.stream c.run-ending.new.terminal) (g.R.Sink.stream c.args.report.now) (g.R.Sink.stream c.run-ending.new.report)
-    c.requires.planned f.is_fitted f.fits.fits f.cuts c.run-ending.ensures)
+    c.requires.planned f.is_fitted f.fits.fits f.cuts c.run-ending.ensures.ran)
 
 pub returns-clause-runs : goal.returns-clause-runs
 returns-clause-runs g c = λ job blocks found names p fit.
     let before : Outside = outside (g.H.Shelf.stock c.args.shelf.now) found (g.T.Sink.stream c.args.terminal.now) (g.R.Sink.stream c.args.report.now) in
     let after : Outside = outside (g.H.Shelf.stock c.save_run-why.new.shelf) (g.N.Nvm.device c.save_run-why.new.nvm) (g.T.Sink.stream c.run-ending.new.terminal) (g.R.Sink.stream c.answer.new.report) in
     let e = c.run-ending.result in
-    IsRunOf-ran g.M.Computer.kind g.met.M.Computer.lawful (named c.args.source) job (option_map (λ n. n.now) c.args.save) before after c.args.plan.now blocks
-    (g.N.Nvm.device c.args.nvm.now) (g.N.Nvm.device c.run-ending.new.nvm) e c.answer.result (g.R.Sink.stream c.run-ending.new.report) c.save_run-why.result c.requires.planned p names
-    fit c.run-ending.ensures c.save_run-why.ensures
+    IsRunOf-ran g.M.Computer.kind g.met.M.Computer.lawful g.O.Observer.has_seen (named c.args.source) job (option_map (λ n. n.now) c.args.save) before after c.args.plan.now blocks
+    (g.N.Nvm.device c.args.nvm.now) (g.N.Nvm.device c.run-ending.new.nvm) e c.answer.result (g.R.Sink.stream c.run-ending.new.report) c.save_run-why.result c.run-ending.new.observer c.requires.planned p names
+    fit c.run-ending.ensures.seen c.save_run-why.ensures
     (subst (λ (l : ℕ). ClosesRun e.report_failed (summary_for (named c.args.source) e.stop e.events ++ run_line l (option_map (λ n. n.now) c.args.save) e.stop c.save_run-why.result) (g.R.Sink.stream c.run-ending.new.report) (g.R.Sink.stream c.answer.new.report))
     (ap (λ (x : Parameters). x.limit) c.numbers-limit.ensures.same) c.answer.ensures.closes)
     c.answer.ensures.events c.answer.ensures.cycles c.answer.ensures.status
@@ -37,5 +37,5 @@ returns-clause-stays g c =
     (g.H.Shelf.stock c.args.shelf.now) (g.H.Shelf.stock c.save_run-why.new.shelf) c.save_run-why.result
     (planned_promise g.M.Computer.kind g.met.M.Computer.lawful c.args.plan.now (g.N.Nvm.device c.args.nvm.now) (g.N.Nvm.device c.run-ending.new.nvm) e
     (g.T.Sink.stream c.args.terminal.now) (g.T.Sink.stream c.run-ending.new.terminal) (g.R.Sink.stream c.args.report.now) (g.R.Sink.stream c.run-ending.new.report)
-    c.requires.planned c.run-ending.ensures)
+    c.requires.planned c.run-ending.ensures.ran)
     c.save_run-why.ensures

@@ -1,13 +1,9 @@
-use Rattle.std.proofs.Common.{◌≡◌, ◌<◌, ap, subst, sym, refl, inl, inr, ◌∙◌, arith, length, slice_index_or, ℕ, List, rules}
-use Rattle.std.proofs.lemmas.Grind.{common_steps}
+use Rattle.std.proofs.Common.{◌≡◌, ◌<◌, ap, subst, sym, refl, inl, ◌∙◌, arith, length, slice_index_or, List}
 use Rattle.std.specs.Borrow.{GName}
 use Rattle.thy_base.specs.declared.config.Config.{Config}
 use Rattle.thy_base.specs.declared.nvm.FitError.{FitError}
 use Rattle.thy_base.specs.declared.nvm.Shape.{Shape}
 use Rattle.thy_base.specs.Device.{Device, HasFailedToFit, fitted, lent_by}
-use Rattle.thy_gap.specs.declared.registers.Registers.{Registers}
-use Rattle.thy_gap.specs.Levelled.{Levelled, over, inner_fitted}
-use Rattle.thy_gap.specs.Lines.{no_lines}
 use Rattle.thy_gap.specs.Seen.{seen}
 use Rattle.thy_gap.proofs.SeenLemmas.{length-unmap}
 use Rattle.thy_image.proofs.LawLemmas.{some_blocks}
@@ -55,18 +51,20 @@ returns-in-Err g c = λ job names p.
     let failed : HasFailedToFit e (g.N.Nvm.device c.args.nvm.now) (g.N.Nvm.device c.nvm-in-Err-1.given.0) =
     subst (λ x. HasFailedToFit e (g.N.Nvm.device c.args.nvm.now) (g.N.Nvm.device x)) (sym stands)
     (subst (λ x. HasFailedToFit e (g.N.Nvm.device x) (g.N.Nvm.device last.now)) (ap (λ l. l.inner.now) c.over-lines.ensures)
-    (failed_within e first.ghost_name last.ghost_name (g.N.Nvm.device first.now) (g.N.Nvm.device last.now) inner)) in
-    inl (
-      DeviceRefusal e,
-      (p.program, record { faults = refl; failed = refl }, failed),
-      record {
-        status = c.refuse.ensures.status;
-        events = c.refuse.ensures.events;
-        cycles = c.refuse.ensures.cycles;
-        shown_none = refl;
-        held = refl;
-        closes = c.refuse.ensures.closes;
-      },
+    (failed_within e first.ghost_name last.ghost_name (g.N.Nvm.device first.now) (g.N.Nvm.device last.now) inner)) in (
+      inl (
+        DeviceRefusal e,
+        (p.program, record { faults = refl; failed = refl }, failed),
+        record {
+          status = c.refuse.ensures.status;
+          events = c.refuse.ensures.events;
+          cycles = c.refuse.ensures.cycles;
+          shown_none = refl;
+          held = refl;
+          closes = c.refuse.ensures.closes;
+        },
+      ),
+      c.requires.unseen,
     )
 
 pub returns-in-Ok : goal.returns-in-Ok
@@ -99,5 +97,5 @@ returns-in-Ok g c = λ job names p.
     subst (λ x. IsLeftAs job.config.gap (g.N.Nvm.device x) left) (sym stands)
     (IsLeftAs-levelled job.config.gap last.ghost_name c.run_fitted-answer.new.nvm.registers (g.N.Nvm.device last.now) some lines
     c.means_what_is_seen.ensures.image c.means_what_is_seen.ensures.crash c.means_what_is_seen.ensures.left) in
-    inr (IsRunOver-seen K (named c.args.source) job before after found left c.run_fitted-answer.result is_found is_left
-    (c.run_fitted-answer.ensures.runs job c.args.blocks.items found names p fit))
+    IsRunOver-seen K g.O.Observer.has_seen (named c.args.source) job before after found left c.run_fitted-answer.result c.run_fitted-answer.new.observer is_found is_left
+    (c.run_fitted-answer.ensures.runs job c.args.blocks.items found names p fit)

@@ -21,7 +21,7 @@ returns-in-Ok g c = λ fitted p n m k r goes stepped gathered did cycle.
     let o = origin_of c.args.plan.now in
     let v = seen K o (world_at p n k) in
     let next = K.view o c.args.progress.now.machine m in
-    c.come_to_after-outcome.ensures fitted p n m k (bytes_of c.args.readings.bytes) goes
+    c.come_to_after-outcome.ensures fitted p n m k r (bytes_of c.args.readings.bytes) goes
     (noted_from K g.met.M.Computer.lawful c.args.plan.now fitted p c.args.progress.now n m k r c.in-Ok.ended (bytes_of c.args.readings.bytes) c.note.new.events c.len.result
     c.args.cycle c.args.did c.requires.planned goes stepped did c.len.ensures cycle
     (c.in-Ok.ensures.ok o c.args.progress.now.fresh v next gathered.reload (untold_of c.args.plan.now v) gathered.restored gathered.ended) gathered.bytes (c.in-Ok.ensures.status o v next gathered.ended))

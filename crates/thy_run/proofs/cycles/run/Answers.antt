@@ -1,44 +1,104 @@
-use Rattle.std.proofs.Common.{◌+◌, sym, ap, subst, arith}
-use Rattle.thy_run.specs.declared.ending.Ending.{Ending}
+use Rattle.std.proofs.Common.{◌≡◌, ◌+◌, ◌∙◌, sym, ap, subst, refl, false, arith}
+use Rattle.thy_run.specs.declared.ending.Stop.TheVariants.{Memory}
 use Rattle.thy_base.specs.Outside.{Stream}
-use Rattle.thy_run.specs.Rounds.{Running, RunEnds}
-use Rattle.thy_run.proofs.StartLemmas.{Running-first, RunEnds-unpowered, RunEnds-limit}
+use Rattle.thy_run.specs.declared.ending.Ending.{Ending}
 use Rattle.thy_run.specs.declared.progress.Progress.{Progress}
+use Rattle.thy_run.specs.Going.{world_at}
+use Rattle.thy_run.specs.Rounds.{Running, RunEndsAt, first_progress}
+use Rattle.thy_run.specs.Seeing.{Watched}
+use Rattle.thy_run.proofs.StartLemmas.{Running-first, RunEnds-unpowered, RunEnds-limit, first_of}
+use Rattle.thy_run.proofs.SeeingLemmas.{CanSee-watched, CanSeeCut-awaited, Watched-first, RunEndsSeen-at}
 use Rattle.thy_run.proofs.cycles.run.Goals.{in-GoesOn, in-Cuts+in-Ok-cut_power}
 use Rattle.thy_run.proofs.cycles.run.Goals as goal
 
-pub returns-in_default : goal.returns-in_default
-returns-in_default g c =
-    RunEnds-unpowered g.M.Computer.kind g.met.M.Computer.lawful c.args.plan.now c.new.result (g.N.Nvm.device c.args.nvm.now) (g.T.Sink.stream c.args.terminal.now) (g.R.Sink.stream c.args.report.now)
-    c.requires.planned c.requires.fitted c.new.ensures
+pub returns-in_default-clause-seen : goal.returns-in_default-clause-seen
+returns-in_default-clause-seen g c =
+    let K = g.M.Computer.kind in
+    let laws = g.met.M.Computer.lawful in
+    let plan = c.args.plan.now in
+    let n = g.N.Nvm.device c.args.nvm.now in
+    let m = (laws.powers plan.geometry).0 in
+    RunEndsSeen-at K g.O.Observer.has_seen plan n n (record { stop = Memory; events = c.new.result; cycles = 0; terminal_failed = false; report_failed = false }) (g.T.Sink.stream c.args.terminal.now) (g.T.Sink.stream c.args.terminal.now) (g.R.Sink.stream c.args.report.now) (g.R.Sink.stream c.args.report.now)
+    (first_progress plan m) n 0 c.args.observer.now
+    (RunEnds-unpowered K laws plan c.new.result n (g.T.Sink.stream c.args.terminal.now) (g.R.Sink.stream c.args.report.now) c.requires.planned c.requires.fitted c.new.ensures)
+    refl
+    (Watched-first K g.O.Observer.has_seen plan (first_progress plan m) n c.args.observer.now (first_of K laws plan m n c.requires.planned (laws.powers plan.geometry).1 c.requires.fitted) c.requires.unseen)
+
+pub returns-in_default-clause-ran : goal.returns-in_default-clause-ran
+returns-in_default-clause-ran g c = (returns-in_default-clause-seen g c).0
 
 pub loop-done-init : goal.loop-done-init
 loop-done-init g c =
-    Running-first g.M.Computer.kind g.met.M.Computer.lawful c.args.plan.now c.started-progress.result c.in-Ok.machine (g.N.Nvm.device c.args.nvm.now) (g.T.Sink.stream c.args.terminal.now) (g.R.Sink.stream c.args.report.now)
-    c.requires.planned c.in-Ok.ensures c.requires.fitted c.started-progress.ensures
+    let n = g.N.Nvm.device c.args.nvm.now in
+    let running = Running-first g.M.Computer.kind g.met.M.Computer.lawful c.args.plan.now c.started-progress.result c.in-Ok.machine n (g.T.Sink.stream c.args.terminal.now) (g.R.Sink.stream c.args.report.now)
+    c.requires.planned c.in-Ok.ensures c.requires.fitted c.started-progress.ensures in
+    (running, Watched-first g.M.Computer.kind g.O.Observer.has_seen c.args.plan.now c.started-progress.result n c.args.observer.now running.goes.ran c.requires.unseen)
 
-pub returns-in-Stops : goal.returns-in-Stops
-returns-in-Stops g c =
-    let P : Ending → Type 0 = λ e. RunEnds g.M.Computer.kind c.args.plan.now (g.N.Nvm.device c.args.nvm.now) (g.N.Nvm.device c.take_round.new.nvm) e (g.T.Sink.stream c.args.terminal.now) (g.T.Sink.stream c.take_round.new.terminal)
-    (g.R.Sink.stream c.args.report.now) (g.R.Sink.stream c.take_round.new.report) in
-    subst P (sym c.ended_by.ensures)
-    (c.in-Stops.ensures (g.N.Nvm.device c.args.nvm.now) (g.T.Sink.stream c.args.terminal.now) (g.R.Sink.stream c.args.report.now) c.loop-done.invariant)
+pub take_round-requires-clause-unseen : goal.take_round-requires-clause-unseen
+take_round-requires-clause-unseen g c =
+    CanSee-watched g.M.Computer.kind g.O.Observer.has_seen c.args.plan.now (g.N.Nvm.device c.args.nvm.now) c.loop-done.progress (g.N.Nvm.device c.loop-done.nvm) c.loop-done.done c.loop-done.observer c.loop-done.invariant.1
 
-pub returns-in-Breaks : goal.returns-in-Breaks
-returns-in-Breaks g c =
-    let P : Ending → Type 0 = λ e. RunEnds g.M.Computer.kind c.args.plan.now (g.N.Nvm.device c.args.nvm.now) (g.N.Nvm.device c.take_round.new.nvm) e (g.T.Sink.stream c.args.terminal.now) (g.T.Sink.stream c.take_round.new.terminal)
-    (g.R.Sink.stream c.args.report.now) (g.R.Sink.stream c.take_round.new.report) in
-    subst P (sym c.ended_by-in-Breaks.ensures)
-    (c.in-Breaks.ensures (g.N.Nvm.device c.args.nvm.now) (g.T.Sink.stream c.args.terminal.now) (g.R.Sink.stream c.args.report.now) c.loop-done.invariant)
+pub returns-in-Stops-clause-seen : goal.returns-in-Stops-clause-seen
+returns-in-Stops-clause-seen g c =
+    let K = g.M.Computer.kind in
+    let plan = c.args.plan.now in
+    let n = g.N.Nvm.device c.args.nvm.now in
+    let m = g.N.Nvm.device c.take_round.new.nvm in
+    let t0 = g.T.Sink.stream c.args.terminal.now in
+    let t = g.T.Sink.stream c.take_round.new.terminal in
+    let r0 = g.R.Sink.stream c.args.report.now in
+    let r = g.R.Sink.stream c.take_round.new.report in
+    let q = c.take_round.new.progress in
+    let P : Ending → Type 0 = λ e. RunEndsAt K plan n m e t0 t r0 r (world_at q m (c.loop-done.done + 1)) in
+    RunEndsSeen-at K g.O.Observer.has_seen plan n m c.ended_by.result t0 t r0 r q m (c.loop-done.done + 1) c.take_round.new.observer
+    (subst P (sym c.ended_by.ensures) (c.in-Stops.ensures.round n t0 r0 c.loop-done.invariant.0)) (ap (λ (e : Ending). e.cycles) c.ended_by.ensures)
+    (c.in-Stops.ensures.seen n c.loop-done.invariant.0.goes c.loop-done.invariant.1)
 
-pub returns : goal.returns
-returns g c =
-    let P : Ending → Type 0 = λ e. RunEnds g.M.Computer.kind c.args.plan.now (g.N.Nvm.device c.args.nvm.now) (g.N.Nvm.device c.loop-done.nvm) e (g.T.Sink.stream c.args.terminal.now) (g.T.Sink.stream c.loop-done.terminal)
-    (g.R.Sink.stream c.args.report.now) (g.R.Sink.stream c.loop-done.report) in
-    subst P (sym c.ended_by-2.ensures)
-    (RunEnds-limit g.M.Computer.kind c.args.plan.now (g.N.Nvm.device c.args.nvm.now) c.loop-done.progress (g.N.Nvm.device c.loop-done.nvm) c.loop-done.done c.numbers-limit.result.limit
-    (g.T.Sink.stream c.args.terminal.now) (g.T.Sink.stream c.loop-done.terminal) (g.R.Sink.stream c.args.report.now) (g.R.Sink.stream c.loop-done.report)
-    c.requires.planned c.loop-done.invariant (omega (arith, c.loop-done-test.false, c.loop-done.auto.done-end)) (ap (λ p. p.limit) c.numbers-limit.ensures.same))
+pub returns-in-Stops-clause-ran : goal.returns-in-Stops-clause-ran
+returns-in-Stops-clause-ran g c = (returns-in-Stops-clause-seen g c).0
+
+pub returns-in-Breaks-clause-seen : goal.returns-in-Breaks-clause-seen
+returns-in-Breaks-clause-seen g c =
+    let K = g.M.Computer.kind in
+    let plan = c.args.plan.now in
+    let n = g.N.Nvm.device c.args.nvm.now in
+    let m = g.N.Nvm.device c.take_round.new.nvm in
+    let t0 = g.T.Sink.stream c.args.terminal.now in
+    let t = g.T.Sink.stream c.take_round.new.terminal in
+    let r0 = g.R.Sink.stream c.args.report.now in
+    let r = g.R.Sink.stream c.take_round.new.report in
+    let p = c.loop-done.progress in
+    let d = g.N.Nvm.device c.loop-done.nvm in
+    let k = c.loop-done.done in
+    let P : Ending → Type 0 = λ e. RunEndsAt K plan n m e t0 t r0 r (world_at p d k) in
+    RunEndsSeen-at K g.O.Observer.has_seen plan n m c.ended_by-in-Breaks.result t0 t r0 r p d k c.take_round.new.observer
+    (subst P (sym c.ended_by-in-Breaks.ensures) (c.in-Breaks.ensures.round n t0 r0 c.loop-done.invariant.0)) (ap (λ (e : Ending). e.cycles) c.ended_by-in-Breaks.ensures)
+    (subst (λ (o : g.row.O.Denot). Watched K g.O.Observer.has_seen plan n p d k o) (sym (c.in-Breaks.ensures.seen n c.loop-done.invariant.0.goes c.loop-done.invariant.1)) c.loop-done.invariant.1)
+
+pub returns-in-Breaks-clause-ran : goal.returns-in-Breaks-clause-ran
+returns-in-Breaks-clause-ran g c = (returns-in-Breaks-clause-seen g c).0
+
+pub returns-clause-seen : goal.returns-clause-seen
+returns-clause-seen g c =
+    let K = g.M.Computer.kind in
+    let plan = c.args.plan.now in
+    let n = g.N.Nvm.device c.args.nvm.now in
+    let m = g.N.Nvm.device c.loop-done.nvm in
+    let t0 = g.T.Sink.stream c.args.terminal.now in
+    let t = g.T.Sink.stream c.loop-done.terminal in
+    let r0 = g.R.Sink.stream c.args.report.now in
+    let r = g.R.Sink.stream c.loop-done.report in
+    let p = c.loop-done.progress in
+    let k = c.loop-done.done in
+    let end : k ≡ c.numbers-limit.result.limit = omega (arith, c.loop-done-test.false, c.loop-done.auto.done-end) in
+    let P : Ending → Type 0 = λ e. RunEndsAt K plan n m e t0 t r0 r (world_at p m k) in
+    RunEndsSeen-at K g.O.Observer.has_seen plan n m c.ended_by-2.result t0 t r0 r p m k c.loop-done.observer
+    (subst P (sym c.ended_by-2.ensures)
+    (RunEnds-limit K plan n p m k c.numbers-limit.result.limit t0 t r0 r c.requires.planned c.loop-done.invariant.0 end (ap (λ p. p.limit) c.numbers-limit.ensures.same)))
+    (ap (λ (e : Ending). e.cycles) c.ended_by-2.ensures ∙ sym end) c.loop-done.invariant.1
+
+pub returns-clause-ran : goal.returns-clause-ran
+returns-clause-ran g c = (returns-clause-seen g c).0
 
 pub cut_power-requires-clause-awaits : goal.cut_power-requires-clause-awaits
 cut_power-requires-clause-awaits g c =
@@ -47,46 +107,78 @@ cut_power-requires-clause-awaits g c =
     let r0 = g.R.Sink.stream c.args.report.now in
     let p = c.loop-done.progress in
     let m = g.N.Nvm.device c.loop-done.nvm in
-    let h = c.in-Cuts.ensures n t0 r0 c.loop-done.invariant in
+    let running = c.loop-done.invariant.0 in
+    let h = c.in-Cuts.ensures.round n t0 r0 running in
     let T : Stream → Type 0 = λ s. Running g.M.Computer.kind c.args.plan.now n p m c.loop-done.done t0 s r0 (g.R.Sink.stream c.loop-done.report) in
     let R : Stream → Type 0 = λ s. Running g.M.Computer.kind c.args.plan.now n p m c.loop-done.done t0 (g.T.Sink.stream c.take_round.new.terminal) r0 s in
-    (n, p, m, t0, r0, subst R (sym h.2) (subst T (sym h.1) c.loop-done.invariant), h.0, c.len-first.ensures)
+    (n, p, m, t0, r0, h.0, subst R (sym h.3) (subst T (sym h.2) running), h.1, c.len-first.ensures)
 
-pub returns-in-Err : goal.returns-in-Err
-returns-in-Err g c =
+pub cut_power-requires-clause-unseen : goal.cut_power-requires-clause-unseen
+cut_power-requires-clause-unseen g c =
+    let K = g.M.Computer.kind in
+    let n = g.N.Nvm.device c.args.nvm.now in
+    let p = c.loop-done.progress in
+    let m = g.N.Nvm.device c.loop-done.nvm in
+    let h = c.in-Cuts.ensures.seen n c.loop-done.invariant.0.goes c.loop-done.invariant.1 in
+    CanSeeCut-awaited K g.O.Observer.has_seen g.O.Observer.keeps c.args.plan.now n p c.take_round.new.progress m (g.N.Nvm.device c.take_round.new.nvm) c.loop-done.done h.0 c.take_round.new.observer h.2
+
+pub returns-in-Err-clause-seen : goal.returns-in-Err-clause-seen
+returns-in-Err-clause-seen g c =
+    let K = g.M.Computer.kind in
     let n = g.N.Nvm.device c.args.nvm.now in
     let t0 = g.T.Sink.stream c.args.terminal.now in
     let r0 = g.R.Sink.stream c.args.report.now in
     let p = c.loop-done.progress in
     let m = g.N.Nvm.device c.loop-done.nvm in
-    let h = c.in-Cuts.ensures n t0 r0 c.loop-done.invariant in
-    let T : Stream → Type 0 = λ s. Running g.M.Computer.kind c.args.plan.now n p m c.loop-done.done t0 s r0 (g.R.Sink.stream c.loop-done.report) in
-    let R : Stream → Type 0 = λ s. Running g.M.Computer.kind c.args.plan.now n p m c.loop-done.done t0 (g.T.Sink.stream c.take_round.new.terminal) r0 s in
-    c.in-Err.ensures.err n p m t0 r0 (subst R (sym h.2) (subst T (sym h.1) c.loop-done.invariant)) h.0 c.len-first.ensures
+    let running = c.loop-done.invariant.0 in
+    let h = c.in-Cuts.ensures.round n t0 r0 running in
+    let w = c.in-Cuts.ensures.seen n running.goes c.loop-done.invariant.1 in
+    let T : Stream → Type 0 = λ s. Running K c.args.plan.now n p m c.loop-done.done t0 s r0 (g.R.Sink.stream c.loop-done.report) in
+    let R : Stream → Type 0 = λ s. Running K c.args.plan.now n p m c.loop-done.done t0 (g.T.Sink.stream c.take_round.new.terminal) r0 s in
+    c.in-Err.ensures.seen n p m t0 r0 w.0 (subst R (sym h.3) (subst T (sym h.2) running)) w.2 w.1 c.len-first.ensures
+
+pub returns-in-Err-clause-ran : goal.returns-in-Err-clause-ran
+returns-in-Err-clause-ran g c = (returns-in-Err-clause-seen g c).0
 
 pub loop-done-preserved : goal.loop-done-preserved
 loop-done-preserved g c =
+    let K = g.M.Computer.kind in
+    let S = g.O.Observer.has_seen in
+    let plan = c.args.plan.now in
     let n = g.N.Nvm.device c.args.nvm.now in
     let t0 = g.T.Sink.stream c.args.terminal.now in
     let r0 = g.R.Sink.stream c.args.report.now in
     let p = c.loop-done.progress in
     let m = g.N.Nvm.device c.loop-done.nvm in
+    let k = c.loop-done.done in
+    let running = c.loop-done.invariant.0 in
+    let watched = c.loop-done.invariant.1 in
+    let Now : g.row.T.Denot → g.row.R.Denot → g.row.N.Denot → Progress g.row.M.Denot → g.row.O.Denot → Type 0 =
+    λ x y z q o. Running K plan n q (g.N.Nvm.device z) (k + 1) t0 (g.T.Sink.stream x) r0 (g.R.Sink.stream y) × Watched K S plan n q (g.N.Nvm.device z) (k + 1) o in
+    let f = c.match-take_round in
     elim c.match-take_round.branch [
       | in-GoesOn w ↦
-          let h = w.in-GoesOn.ensures n t0 r0 c.loop-done.invariant in
-          let A : g.row.T.Denot → Type 0 = λ x. Running g.M.Computer.kind c.args.plan.now n c.match-take_round.progress (g.N.Nvm.device c.match-take_round.nvm) (c.loop-done.done + 1) t0 (g.T.Sink.stream x) r0 (g.R.Sink.stream c.match-take_round.report) in
-          let B : g.row.R.Denot → Type 0 = λ x. Running g.M.Computer.kind c.args.plan.now n c.match-take_round.progress (g.N.Nvm.device c.match-take_round.nvm) (c.loop-done.done + 1) t0 (g.T.Sink.stream c.take_round.new.terminal) r0 (g.R.Sink.stream x) in
-          let C : g.row.N.Denot → Type 0 = λ x. Running g.M.Computer.kind c.args.plan.now n c.match-take_round.progress (g.N.Nvm.device x) (c.loop-done.done + 1) t0 (g.T.Sink.stream c.take_round.new.terminal) r0 (g.R.Sink.stream c.take_round.new.report) in
-          let D : Progress g.row.M.Denot → Type 0 = λ x. Running g.M.Computer.kind c.args.plan.now n x (g.N.Nvm.device c.take_round.new.nvm) (c.loop-done.done + 1) t0 (g.T.Sink.stream c.take_round.new.terminal) r0 (g.R.Sink.stream c.take_round.new.report) in
-          subst A (sym w.terminal-is) (subst B (sym w.report-is) (subst C (sym w.nvm-is) (subst D (sym w.progress-is) h)))
+          let h : Now c.take_round.new.terminal c.take_round.new.report c.take_round.new.nvm c.take_round.new.progress c.take_round.new.observer =
+          (w.in-GoesOn.ensures.round n t0 r0 running, w.in-GoesOn.ensures.seen n running.goes watched) in
+          subst (λ x. Now x f.report f.nvm f.progress f.observer) (sym w.terminal-is)
+          (subst (λ x. Now c.take_round.new.terminal x f.nvm f.progress f.observer) (sym w.report-is)
+          (subst (λ x. Now c.take_round.new.terminal c.take_round.new.report x f.progress f.observer) (sym w.nvm-is)
+          (subst (λ x. Now c.take_round.new.terminal c.take_round.new.report c.take_round.new.nvm x f.observer) (sym w.progress-is)
+          (subst (λ x. Now c.take_round.new.terminal c.take_round.new.report c.take_round.new.nvm c.take_round.new.progress x) (sym w.observer-is) h))))
       | in-Cuts+in-Ok-cut_power w ↦
-          let i = w.in-Cuts.ensures n t0 r0 c.loop-done.invariant in
-          let T : Stream → Type 0 = λ s. Running g.M.Computer.kind c.args.plan.now n p m c.loop-done.done t0 s r0 (g.R.Sink.stream c.loop-done.report) in
-          let R : Stream → Type 0 = λ s. Running g.M.Computer.kind c.args.plan.now n p m c.loop-done.done t0 (g.T.Sink.stream c.take_round.new.terminal) r0 s in
-          let h = w.in-Ok-cut_power.ensures.ok n p m t0 r0 (subst R (sym i.2) (subst T (sym i.1) c.loop-done.invariant)) i.0 c.len-first.ensures in
-          let A : g.row.T.Denot → Type 0 = λ x. Running g.M.Computer.kind c.args.plan.now n c.match-take_round.progress (g.N.Nvm.device c.match-take_round.nvm) (c.loop-done.done + 1) t0 (g.T.Sink.stream x) r0 (g.R.Sink.stream c.match-take_round.report) in
-          let B : g.row.R.Denot → Type 0 = λ x. Running g.M.Computer.kind c.args.plan.now n c.match-take_round.progress (g.N.Nvm.device c.match-take_round.nvm) (c.loop-done.done + 1) t0 (g.T.Sink.stream w.cut_power.new.terminal) r0 (g.R.Sink.stream x) in
-          let C : g.row.N.Denot → Type 0 = λ x. Running g.M.Computer.kind c.args.plan.now n c.match-take_round.progress (g.N.Nvm.device x) (c.loop-done.done + 1) t0 (g.T.Sink.stream w.cut_power.new.terminal) r0 (g.R.Sink.stream w.cut_power.new.report) in
-          let D : Progress g.row.M.Denot → Type 0 = λ x. Running g.M.Computer.kind c.args.plan.now n x (g.N.Nvm.device w.cut_power.new.nvm) (c.loop-done.done + 1) t0 (g.T.Sink.stream w.cut_power.new.terminal) r0 (g.R.Sink.stream w.cut_power.new.report) in
-          subst A (sym w.terminal-is) (subst B (sym w.report-is) (subst C (sym w.nvm-is) (subst D (sym w.progress-is) h)))
+          let i = w.in-Cuts.ensures.round n t0 r0 running in
+          let a = w.in-Cuts.ensures.seen n running.goes watched in
+          let T : Stream → Type 0 = λ s. Running K plan n p m k t0 s r0 (g.R.Sink.stream c.loop-done.report) in
+          let R : Stream → Type 0 = λ s. Running K plan n p m k t0 (g.T.Sink.stream c.take_round.new.terminal) r0 s in
+          let before = subst R (sym i.3) (subst T (sym i.2) running) in
+          let x = w.cut_power.new in
+          let h : Now x.terminal x.report x.nvm w.in-Ok-cut_power.next x.observer = (
+            w.in-Ok-cut_power.ensures.ok n p m t0 r0 i.0 before i.1 c.len-first.ensures,
+            w.in-Ok-cut_power.ensures.seen n p m t0 r0 a.0 before a.2 a.1 c.len-first.ensures,
+          ) in
+          subst (λ y. Now y f.report f.nvm f.progress f.observer) (sym w.terminal-is)
+          (subst (λ y. Now x.terminal y f.nvm f.progress f.observer) (sym w.report-is)
+          (subst (λ y. Now x.terminal x.report y f.progress f.observer) (sym w.nvm-is)
+          (subst (λ y. Now x.terminal x.report x.nvm y f.observer) (sym w.progress-is)
+          (subst (λ y. Now x.terminal x.report x.nvm w.in-Ok-cut_power.next y) (sym w.observer-is) h))))
     ]

@@ -1,0 +1,86 @@
+-- What a call of the program does outside: what thynvm does for the same arguments, and then OUT.
+use Rattle.std.specs.Prelude.{◌≡◌, ◌⊎◌, ℕ, Bool, true, false, ◌||◌, List, Option, Some, None, Result, Ok, Err}
+use Rattle.std.specs.Str.{bytes_eq}
+use Rattle.thy_base.specs.declared.outside.PutError.{PutError}
+use Rattle.thy_base.specs.Outside.{Stream}
+use Rattle.thy_words.specs.declared.words.WordsError.{WordsError}
+use Rattle.thy_words.specs.declared.words.WordsError.TheVariants.{Usage, Memory}
+use Rattle.thy_words.specs.Settings.{Job, Order, run, resume, bench, plain, make, settings_of}
+use Rattle.thy_observe.specs.declared.tally.Tally.{Tally}
+use Rattle.thy_observe.specs.Tallied.{IsTally}
+use Rattle.thy_observe.specs.Trapping.{HasTrap}
+use Rattle.thy_cli.specs.declared.answer.Answer.{Answer}
+use Rattle.thy_cli.specs.declared.refusal.Refusal.{Refusal}
+use Rattle.thy_cli.specs.declared.refusal.Refusal.TheVariants.{Words}
+use Rattle.thy_cli.specs.Answering.{Outside, Closes, put_line, told_of}
+use Rattle.thy_cli.specs.Machines.{Choice}
+use Rattle.thy_cli.specs.Saving.{IsPut}
+use Rattle.thy_cli.specs.Watching.{ClaimSeen}
+
+-- OUT is this name
+abbrev pub is_name : List ℕ → Option (List ℕ) → Bool
+is_name out None = false
+is_name out (Some name) = bytes_eq name out
+
+-- OUT is the name of a job's input or of what it saves
+abbrev pub is_of_job : List ℕ → Job → Bool
+is_of_job out job = is_name out job.input || is_name out job.save
+
+-- OUT is the name of a file that an order reads or puts; or there is nothing to observe
+abbrev pub is_taken : List ℕ → Order → Bool
+is_taken out (run file job) = bytes_eq file out || is_of_job out job
+is_taken out (resume image job) = bytes_eq image out || is_of_job out job
+is_taken out (bench n job) = is_of_job out job
+is_taken out (plain file job) = bytes_eq file out || is_of_job out job
+is_taken out (make n name) = true
+
+abbrev pub is_taken_by : List ℕ → Result Order WordsError → Bool
+is_taken_by out (Ok order) = is_taken out order
+is_taken_by out (Err e) = false
+
+-- the call is refused: a line says why, and all else is left alone
+pub record IsTurnedDown (r : Refusal) (before after : Outside) (status : ℕ) : Type 0 where
+  pub is_status : status ≡ (told_of r).0
+  pub shelf : after.shelf ≡ before.shelf
+  pub device : after.device ≡ before.device
+  pub terminal : after.terminal ≡ before.terminal
+  pub closes : Closes (told_of r).1 before.report after.report
+
+-- it is refused because of OUT; or because memory ran out for the arguments
+abbrev pub IsTurned : List ℕ → List (List ℕ) → Outside → Outside → ℕ → WordsError → Type 0
+IsTurned out words before after status Usage =
+    (is_taken_by out (settings_of words) ≡ true) × IsTurnedDown (Words Usage) before after status
+IsTurned out words before after status (Memory e) = IsTurnedDown (Words (Memory e)) before after status
+IsTurned out words before after status e = ⊥
+
+-- what is reported of OUT, and the exit status: if OUT was not put, a line says so, and the status is 3
+abbrev pub IsTold : List ℕ → Option PutError → Stream → Stream → (answered status : ℕ) → Type 0
+IsTold out None old new answered status = (new ≡ old) × (status ≡ answered)
+IsTold out (Some e) old new answered status = Closes (put_line out) old new × (status ≡ 3)
+
+-- bytes were put under OUT, or were not, and all else is left alone
+pub record PutsOut (out : List ℕ) (middle after : Outside) (a : Answer) (status : ℕ) : Type 0 where
+  pub text : List ℕ
+  pub why : Option PutError
+  pub put : IsPut out text middle.shelf after.shelf why
+  pub device : after.device ≡ middle.device
+  pub terminal : after.terminal ≡ middle.terminal
+  pub is_told : IsTold out why middle.report after.report a.status status
+
+-- nothing was put
+abbrev pub LeavesOut : Outside → Outside → Answer → ℕ → Type 0
+LeavesOut middle after a status = (after ≡ middle) × (status ≡ a.status)
+
+-- The arguments were answered as thynvm answers them, and the tally is that of the run's cycles, or has the trap of the plain
+-- machine. Then OUT was put, or nothing was.
+pub record IsObserved (c : Choice) (out : List ℕ) (words : List (List ℕ)) (before after : Outside) (status : ℕ) : Type 0 where
+  pub middle : Outside
+  pub answer : Answer
+  pub tally : Tally
+  pub claim : ClaimSeen c IsTally HasTrap words before middle answer tally
+  pub ends : LeavesOut middle after answer status ⊎ PutsOut out middle after answer status
+
+-- what a call does, with OUT and these arguments
+abbrev pub Observed : Choice → List ℕ → List (List ℕ) → Outside → Outside → ℕ → Type 0
+Observed c out words before after status =
+    ((e : WordsError) × IsTurned out words before after status e) ⊎ IsObserved c out words before after status

@@ -1,0 +1,130 @@
+//! The lines of a run's events, each with its cycle and how many instructions were retired then.
+
+use std::alloc::{AllocError, Global};
+use thy_observe::{Mark, Place, Tally};
+use thy_out::MemSink;
+use thy_text::{Event, Events, write_event};
+
+/// Room for a line of the report without digests, in bytes.
+const LINE: u64 = 256;
+
+/// How many instructions were lost at power cuts so far.
+#[derive(Drop)]
+struct Losses {
+    /// The count when power went last outside a boot, until a checkpoint is restored or the file is loaded again.
+    at: Option<u64>,
+    lost: u64,
+}
+
+impl Losses {
+    /// Counts what an event of this count says of losses.
+    fn count(&mut self, event: &Event, count: Option<u64>) {
+        match event {
+            Event::Cut { .. } => {
+                if count.is_some() {
+                    self.at = count;
+                }
+            }
+            Event::Restart { .. } | Event::Reload => {
+                if let (Some(at), Some(count)) = (self.at, count) {
+                    self.lost = self.lost.saturating_add(at.saturating_sub(count));
+                    self.at = None;
+                }
+            }
+            Event::EpochEnd { .. } | Event::Commit { .. } | Event::Ended { .. } => {}
+        }
+    }
+}
+
+/// How many instructions are retired at a place; none in a boot.
+fn count_at(place: Option<Place>) -> Option<u64> {
+    match place {
+        Some(place) => Some(place.from.saturating_add(place.since)),
+        None => None,
+    }
+}
+
+/// The count of an event whose cycle was broken off, if this was the place before it.
+fn count_in(event: &Event, place: Option<Place>) -> Option<u64> {
+    match event {
+        Event::Restart { count, .. } => Some(*count),
+        Event::Reload => Some(0),
+        Event::Cut { .. } => count_at(place),
+        Event::EpochEnd { .. } | Event::Commit { .. } | Event::Ended { .. } => match place {
+            Some(_) => count_at(place),
+            None => Some(0),
+        },
+    }
+}
+
+/// Adds the line of an event.
+fn add_line(
+    alloc: Global,
+    text: &mut String,
+    cycle: u64,
+    count: Option<u64>,
+    event: &Event,
+) -> Result<(), AllocError> {
+    let head = match count {
+        Some(count) => format!(in alloc; "{cycle} {count} ")?,
+        None => format!(in alloc; "{cycle} - ")?,
+    };
+    text.push_str(head.as_str())?;
+    let mut line = MemSink::new(alloc, LINE, Vec::new(alloc))?;
+    let _written = write_event(event, false, &mut line);
+    if let Ok(line) = std::str::from_utf8(line.taken()) {
+        text.push_str(line)?;
+    }
+    Ok(())
+}
+
+/// Adds the lines of the events of one cycle, from the event of this index on, and returns the index after them.
+fn add_cycle(
+    alloc: Global,
+    text: &mut String,
+    losses: &mut Losses,
+    mark: &Mark,
+    events: &Events,
+    first: usize,
+) -> Result<usize, AllocError> {
+    let count = count_at(mark.place);
+    let mut next = first;
+    for _ in 0..mark.told {
+        if next < events.len() {
+            let event = events.get(next);
+            add_line(alloc, text, mark.cycle, count, event)?;
+            losses.count(event, count);
+            next += 1;
+        }
+    }
+    Ok(next)
+}
+
+/// Adds the lines of all events, and returns how many instructions were lost at power cuts; none if memory ran out for what
+/// was seen.
+///
+/// # Errors
+/// Memory ran out.
+pub fn add_lines(
+    alloc: Global,
+    text: &mut String,
+    tally: &Tally,
+    events: &Events,
+) -> Result<Option<u64>, AllocError> {
+    let Some(marks) = tally.marks() else {
+        return Ok(None);
+    };
+    let mut losses = Losses { at: None, lost: 0 };
+    let mut next = 0;
+    for mark in marks {
+        next = add_cycle(alloc, text, &mut losses, mark, events, next)?;
+    }
+    let broken = tally.cycles().saturating_add(1);
+    for i in next..events.len() {
+        let event = events.get(i);
+        let count = count_in(event, tally.place());
+        add_line(alloc, text, broken, count, event)?;
+        losses.count(event, count);
+    }
+    Ok(Some(losses.lost))
+}

@@ -1,0 +1,68 @@
+//! The program `observe`: does what thynvm does for `run`, `resume`, `bench` and `plain`, and puts text under a name that
+//! says what a run came to: its events with their cycles, the trap, and the totals of the tally.
+//!
+//! Open specs/Observing.antt first, and src/top.rt; src/out.rt and what it uses make the text, without contracts. `main` makes
+//! the real shelf, sinks and device. It stands on thy_cli, thy_observe, thy_out and thy_nvm; nothing stands on it.
+#![tactic(auto)]
+
+mod lines;
+mod naming;
+mod out;
+#[cfg(test)]
+mod tests;
+mod top;
+mod totals;
+mod trap;
+
+use crate::top::observe;
+use std::alloc::{AllocError, Global};
+use std::io::ErrorKind;
+use std::process::ExitCode;
+use std::rt::Env;
+use thy_base::Sink;
+use thy_cli::{Refusal, refuse};
+use thy_nvm::MemNvm;
+use thy_observe::Counting;
+use thy_out::{FileShelf, StdSink};
+use thy_words::WordsError;
+
+/// The arguments of the command line; none if the system has none to give.
+fn words(rt: &(impl Env + Alloc<A = Global>)) -> Result<Vec<String>, AllocError> {
+    let alloc = rt.alloc();
+    match std::env::args(rt) {
+        Ok(args) => args.collect(alloc),
+        Err(error) if matches!(error.kind(), ErrorKind::OutOfMemory) => Err(AllocError),
+        Err(_) => Ok(Vec::new(alloc)),
+    }
+}
+
+/// Refuses the arguments.
+fn refused<R: Sink>(alloc: Global, error: WordsError, report: &mut R) -> ExitCode {
+    ExitCode::from(refuse(alloc, Refusal::Words(error), report).status)
+}
+
+fn main(rt: HostRuntime) -> ExitCode {
+    let alloc = rt.alloc();
+    let mut terminal = StdSink::output(rt.stdout());
+    let mut report = StdSink::error(rt.stderr());
+    let mut words = match words(&rt) {
+        Ok(words) => words,
+        Err(error) => return refused(alloc, WordsError::Memory(error), &mut report),
+    };
+    if words.len() < 2 {
+        return refused(alloc, WordsError::Usage, &mut report);
+    }
+    let out = words.remove(1);
+    let mut shelf = FileShelf::new(rt);
+    let mut nvm = Counting::over(MemNvm::new(alloc));
+    let status = observe(
+        alloc,
+        out.as_str(),
+        &words,
+        &mut shelf,
+        &mut terminal,
+        &mut report,
+        &mut nvm,
+    );
+    ExitCode::from(status)
+}

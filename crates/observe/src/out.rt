@@ -1,0 +1,69 @@
+//! The text that is put under OUT.
+
+use crate::lines::add_lines;
+use crate::totals::add_totals;
+use crate::trap::{add_trap, trap_in};
+use std::alloc::{AllocError, Global};
+use thy_cli::Answer;
+use thy_observe::{Calls, Tally};
+use thy_words::Command;
+
+/// What has to be known of the arguments.
+#[derive(Clone, Copy)]
+pub struct Asked {
+    /// The address of the first byte of memory.
+    base: u64,
+    /// The program runs on the plain machine.
+    plain: bool,
+}
+
+impl Asked {
+    /// What has to be known of a command, or of none.
+    pub fn of(command: Option<&Command>) -> Asked {
+        match command {
+            Some(Command::Run { job, .. })
+            | Some(Command::Resume { job, .. })
+            | Some(Command::Bench { job, .. }) => Asked {
+                base: job.config.base,
+                plain: false,
+            },
+            Some(Command::Plain { job, .. }) => Asked {
+                base: job.config.base,
+                plain: true,
+            },
+            Some(Command::Make { .. }) | None => Asked {
+                base: 0,
+                plain: false,
+            },
+        }
+    }
+}
+
+/// Whether a run was begun, by its answer. One that did nothing counts as none.
+pub fn was_begun(answer: &Answer) -> bool {
+    answer.cycles > 0 || answer.events.len() > 0 || matches!(answer.status, 0 | 1 | 6 | 8)
+}
+
+/// The text for an answer; none if memory ran out for what was seen.
+///
+/// # Errors
+/// Memory ran out for the text.
+pub fn text_of(
+    alloc: Global,
+    asked: Asked,
+    answer: &Answer,
+    tally: &Tally,
+    calls: &Calls,
+) -> Result<Option<String>, AllocError> {
+    let mut text = String::new(alloc);
+    if asked.plain {
+        add_trap(alloc, &mut text, tally.trap())?;
+        return Ok(Some(text));
+    }
+    let Some(lost) = add_lines(alloc, &mut text, tally, &answer.events)? else {
+        return Ok(None);
+    };
+    add_trap(alloc, &mut text, trap_in(&answer.events, asked.base))?;
+    add_totals(alloc, &mut text, tally, calls, lost, &answer.events)?;
+    Ok(Some(text))
+}

@@ -1,0 +1,102 @@
+//! The call: what thynvm does, and then OUT.
+ghost use Rattle.std.specs.Prelude.{◌≡◌, map};
+ghost use Rattle.std.specs.String.{string_bytes};
+ghost use Rattle.thy_cli.specs.Answering.{outside};
+ghost use Rattle.thy_cli.specs.Machines.{by_scheme};
+ghost use Rattle.thy_cli.specs.Saving.{IsPut};
+ghost use Rattle.thy_run.specs.Sending.{Sent};
+ghost use Rattle.thy_text.specs.Closings.{closing_of};
+ghost use Rattle.observe.specs.Observing.{IsTold, Observed};
+
+use crate::naming::is_taken;
+use crate::out::{Asked, text_of, was_begun};
+use std::alloc::Global;
+use thy_base::{Nvm, PutError, Shelf, Sink};
+use thy_cli::{Refusal, observed, refuse};
+use thy_core::Machine;
+use thy_dual::DualScheme;
+use thy_journal::Journal;
+use thy_observe::{Counts, Tally};
+use thy_text::{Closing, write_closing};
+use thy_view::Computer;
+use thy_words::{WordsError, settings};
+
+/// The exit status if OUT could not be put.
+const NOT_PUT: u8 = 3;
+
+/// Puts text under OUT, and returns why it was not put, if so.
+fn put_text<H: Shelf>(alloc: Global, out: &str, text: &str, shelf: &mut H) -> Option<PutError>
+    ensures { IsPut out.now text.now (H.stock shelf.old) (H.stock shelf.new) result }
+{
+    match shelf.put(alloc, out, text.as_bytes()) {
+        Ok(()) => None,
+        Err(error) => Some(error),
+    }
+}
+
+/// Writes a closing line, and returns whether the report failed.
+fn close<R: Sink>(closing: Closing, report: &mut R) -> bool
+    ensures { Sent result (R.stream report.old) (R.stream report.new) (closing_of closing.entry) }
+{
+    write_closing(closing, report).is_err()
+}
+
+/// Reports that OUT was not put, if so, and returns the exit status. If the report fails in the line, the status stays.
+fn tell<R: Sink>(out: &str, why: Option<PutError>, status: u8, report: &mut R) -> u8
+    ensures { IsTold out.now why (R.stream report.old) (R.stream report.new) status result }
+{
+    match why {
+        None => status,
+        Some(_) => {
+            close(Closing::Put(out), report);
+            NOT_PUT
+        }
+    }
+}
+
+/// Does what thynvm does for the arguments, the program's name first, and puts under OUT what the run came to: a line for
+/// each event, the trap, and the totals. Of the plain machine it puts the trap.
+///
+/// Returns the exit status: 2 if OUT is a name that the arguments have; else that of thynvm, or 3 if OUT could not be put.
+/// Nothing is put if no run was begun, or if memory ran out for what was seen.
+pub fn observe<H: Shelf, T: Sink, R: Sink, N: Nvm + Counts>(
+    alloc: Global,
+    out: &str,
+    words: &[String],
+    shelf: &mut H,
+    terminal: &mut T,
+    report: &mut R,
+    nvm: &mut N,
+) -> u8
+    ensures { let before = outside (H.stock shelf.old) (N.device nvm.old)
+        (T.stream terminal.old) (R.stream report.old) in
+        let after = outside (H.stock shelf.new) (N.device nvm.new)
+        (T.stream terminal.new) (R.stream report.new) in
+        let machines = by_scheme ⟦<Machine<DualScheme> as Computer>⟧.kind
+        ⟦<Machine<Journal> as Computer>⟧.kind in
+        Observed machines out.now (map string_bytes words.now) before after result }
+{
+    let asked = match settings(alloc, words) {
+        Ok(command) => {
+            if is_taken(out, &command) {
+                return refuse(alloc, Refusal::Words(WordsError::Usage), report).status;
+            }
+            Asked::of(Some(&command))
+        }
+        Err(WordsError::Memory(error)) => {
+            let why = WordsError::Memory(error);
+            return refuse(alloc, Refusal::Words(why), report).status;
+        }
+        Err(_) => Asked::of(None),
+    };
+    let mut tally = Tally::new(alloc);
+    let answer = observed(alloc, words, shelf, terminal, report, nvm, &mut tally);
+    if !was_begun(&answer) {
+        return answer.status;
+    }
+    let Ok(Some(text)) = text_of(alloc, asked, &answer, &tally, &nvm.calls()) else {
+        return answer.status;
+    };
+    let why = put_text(alloc, out, text.as_str(), shelf);
+    tell(out, why, answer.status, report)
+}

@@ -1,0 +1,71 @@
+-- The kinds of cycles, and how many cycles are of each.
+use Rattle.std.specs.Prelude.{ℕ, ◌==◌, Bool, true, false, List, count_by, Option, Some}
+use Rattle.thy_record.specs.declared.engine_step.EngineStep.TheVariants as engine
+use Rattle.thy_view.specs.declared.did.Did.{Did}
+use Rattle.thy_view.specs.declared.did.Did.TheVariants as did
+use Rattle.thy_view.specs.declared.did.Stall.{Stall}
+use Rattle.thy_view.specs.declared.did.Stall.TheVariants.{Waiting}
+use Rattle.thy_run.specs.Watching.{Taken}
+use Rattle.thy_observe.specs.declared.kinds.Kind.{Kind}
+use Rattle.thy_observe.specs.declared.kinds.Kind.TheVariants as kind
+
+-- of what kind a cycle is that did this
+abbrev pub kind_of : Did → Kind
+kind_of did.Boot = kind.Boot
+kind_of did.Loaded = kind.Boot
+kind_of (did.Restarted epoch count) = kind.Boot
+kind_of (did.Refused bad) = kind.Boot
+kind_of did.NvmDrained = kind.NvmDrain
+kind_of did.DramDrained = kind.DramDrain
+kind_of did.Moved = kind.Moved
+kind_of (did.Retired hart) = kind.Retired
+kind_of did.Flushed = kind.Flushed
+kind_of did.Merged = kind.Merged
+kind_of did.Promoted = kind.Promoted
+kind_of (did.Sealed epoch count cause) = kind.Sealed
+kind_of (did.Engine engine.Copied) = kind.Copied
+kind_of (did.Engine engine.PageBlock) = kind.Page
+kind_of (did.Engine engine.StateBlock) = kind.State
+kind_of (did.Engine engine.TableBlock) = kind.Table
+kind_of (did.Engine engine.Barrier) = kind.Barrier
+kind_of (did.Engine engine.CommitWritten) = kind.Commit
+kind_of (did.Engine (engine.Committed epoch)) = kind.Committed
+kind_of (did.Engine engine.Idle) = kind.Nothing
+kind_of (did.Committed epoch overlapped) = kind.Committed
+kind_of did.Nothing = kind.Nothing
+
+-- the place of a kind among all
+abbrev pub place_of : Kind → ℕ
+place_of kind.Boot = 0
+place_of kind.NvmDrain = 1
+place_of kind.DramDrain = 2
+place_of kind.Moved = 3
+place_of kind.Retired = 4
+place_of kind.Flushed = 5
+place_of kind.Merged = 6
+place_of kind.Promoted = 7
+place_of kind.Sealed = 8
+place_of kind.Copied = 9
+place_of kind.Page = 10
+place_of kind.State = 11
+place_of kind.Table = 12
+place_of kind.Barrier = 13
+place_of kind.Commit = 14
+place_of kind.Committed = 15
+place_of kind.Nothing = 16
+
+-- a cycle is of the kind at this place
+abbrev pub is_at : ℕ → Taken → Bool
+is_at i t = place_of (kind_of t.stepped.did) == i
+
+-- how many cycles are of the kind at this place
+abbrev pub how_many : ℕ → List Taken → ℕ
+how_many i seen = count_by (is_at i) seen
+
+-- the engine took a cycle at the turn of the hart, which waited for it
+abbrev pub is_waiting : Option Stall → Bool
+is_waiting (Some Waiting) = true
+is_waiting stall = false
+
+abbrev pub has_waited : Taken → Bool
+has_waited t = is_waiting t.stepped.stall

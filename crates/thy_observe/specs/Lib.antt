@@ -1,0 +1,4 @@
+pub mod Kinds
+pub mod Marks
+pub mod Tallied
+pub mod Trapping

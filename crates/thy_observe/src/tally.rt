@@ -1,0 +1,174 @@
+//! The tally of a run's cycles.
+ghost use Rattle.std.specs.Prelude.{◌≡◌, ◌==◌, ◌++◌, ◌∷◌, [], false, if◌then◌else◌, ℕ, List, length, cond, count_by, MatchOption};
+ghost use Rattle.thy_observe.specs.Kinds.{place_of, has_waited, how_many, is_waiting};
+ghost use Rattle.thy_observe.specs.Marks.{marks_from, place_after};
+ghost use Rattle.thy_observe.specs.Tallied.{IsTally};
+ghost use Rattle.thy_observe.specs.Trapping.{HasTrap, trap_of};
+ghost use Rattle.thy_isa.specs.Step.{State};
+ghost use Rattle.thy_run.specs.Watching.{CanSee, Sees, Taken, taken};
+
+use crate::kinds::{KINDS, Kind, kind_of, place_of};
+use crate::place::{Mark, Place, left, stands};
+use crate::trap::{Trap, trap_of};
+use std::alloc::Global;
+use thy_isa::MachState;
+use thy_run::Observer;
+use thy_view::{Stall, Stepped};
+
+/// How many cycles there were of each kind, and where the run was when events were made.
+#[derive(Drop)]
+pub struct Tally {
+    /// How many cycles there were.
+    cycles: u64,
+    /// How many there were of each kind, each at its place.
+    kinds: [u64; KINDS],
+    /// How many the engine took at the turn of the hart, which waited for it.
+    waiting: u64,
+    /// Where the run is; none in a boot.
+    place: Option<Place>,
+    /// The cycles in which events were made.
+    marks: Vec<Mark>,
+    /// Memory ran out for one of these.
+    lost: bool,
+    /// The step of the next cycle, if a cut is due after it.
+    kept: Option<Stepped>,
+    /// The trap of the plain machine, if it stopped by one.
+    trap: Option<Trap>,
+}
+
+/// 1 for a cycle that the engine took at the turn of the hart.
+fn waiting_in(stall: Option<Stall>) -> u64
+    ensures { result ≡ cond (is_waiting stall) 1 0 }
+{
+    match stall {
+        Some(Stall::Waiting) => 1,
+        _ => 0,
+    }
+}
+
+/// Adds the mark of a cycle if events were made in it; and answers whether a mark is lost, this one or an earlier one.
+fn add_mark(marks: &mut Vec<Mark>, lost: bool, mark: Mark) -> bool
+    ensures { result ≡ false → (lost ≡ false)
+        × (marks.new.items ≡ marks.old.items ++ (if mark.told == 0 then [] else mark ∷ [])) }
+{
+    if mark.told != 0 && marks.push(mark).is_err() {
+        return true;
+    }
+    lost
+}
+
+impl Tally {
+    /// The tally of no cycle. Takes no memory.
+    pub fn new(alloc: Global) -> Tally
+        ensures { IsTally result [] }
+    {
+        Tally {
+            cycles: 0,
+            kinds: [0; KINDS],
+            waiting: 0,
+            place: None,
+            marks: Vec::new(alloc),
+            lost: false,
+            kept: None,
+            trap: None,
+        }
+    }
+
+    /// Adds the cycle of a step, in which so many events were made, and after which a cut fell or not.
+    fn add(&mut self, stepped: &Stepped, told: usize, fell: bool, cycle: u64)
+        requires { CanSee IsTally self.old cycle }
+        ensures { Sees IsTally self.old self.new (taken stepped.now told fell) }
+    {
+        self.cycles = cycle;
+        let at = place_of(kind_of(stepped.did));
+        self.kinds[at] += 1;
+        self.waiting += waiting_in(stepped.stall);
+        let place = stands(self.place, stepped.did);
+        self.place = left(place, fell);
+        let mark = Mark {
+            cycle,
+            place,
+            told,
+            fell,
+        };
+        self.lost = add_mark(&mut self.marks, self.lost, mark);
+    }
+
+    /// How many cycles there were.
+    pub fn cycles(&self) -> u64
+        ensures { (seen : List Taken) → IsTally self.now seen → result ≡ length seen }
+    {
+        self.cycles
+    }
+
+    /// How many cycles there were of a kind.
+    pub fn of(&self, kind: Kind) -> u64
+        ensures { (seen : List Taken) → IsTally self.now seen → result ≡ how_many (place_of kind) seen }
+    {
+        self.kinds[place_of(kind)]
+    }
+
+    /// How many the engine took at the turn of the hart, which waited for it.
+    pub fn waiting(&self) -> u64
+        ensures { (seen : List Taken) → IsTally self.now seen → result ≡ count_by has_waited seen }
+    {
+        self.waiting
+    }
+
+    /// Where the run is; none in a boot.
+    pub fn place(&self) -> Option<Place>
+        ensures { (seen : List Taken) → IsTally self.now seen → result ≡ place_after None seen }
+    {
+        self.place
+    }
+
+    /// The trap of the plain machine, if it stopped by one.
+    pub fn trap(&self) -> Option<Trap>
+        ensures { (base : ℕ) (last : State) → HasTrap self.now base last → result ≡ trap_of base last }
+    {
+        self.trap
+    }
+
+    /// The cycles in which events were made; none if memory ran out for one of them.
+    pub fn marks(&self) -> Option<&[Mark]>
+        ensures { (seen : List Taken) → IsTally self.now seen → MatchOption result (Unit {0}) (λ ms. ms.now ≡ marks_from 1 None seen) }
+    {
+        if self.lost {
+            return None;
+        }
+        Some(self.marks.as_slice())
+    }
+}
+
+impl Observer for Tally {
+    ghost use Rattle.thy_observe.specs.Tallied.{IsTally, KeepsTally};
+    ghost use Rattle.thy_observe.specs.Trapping.{HasTrap};
+
+    ghost has_seen = { IsTally };
+
+    ghost has_seen_last = { HasTrap };
+
+    ghost keeps = { KeepsTally };
+
+    fn see(&mut self, stepped: &Stepped, told: usize, cycle: u64) {
+        self.add(stepped, told, false, cycle);
+    }
+
+    fn keep(&mut self, stepped: &Stepped) {
+        self.kept = Some(*stepped);
+    }
+
+    fn see_cut(&mut self, told: usize, cycle: u64) {
+        if let Some(stepped) = self.kept {
+            self.add(&stepped, told, true, cycle);
+        }
+    }
+
+    fn forget(&mut self) {
+        self.kept = None;
+    }
+
+    fn see_last(&mut self, base: u64, state: &MachState) {
+        self.trap = trap_of(base, state);
+    }
+}

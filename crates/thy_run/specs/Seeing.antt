@@ -1,0 +1,92 @@
+-- What the loop promises of its observer.
+use Rattle.std.specs.Prelude.{◌≡◌, ℕ, ◌+◌, false, List, length, Result, Ok, Err}
+use Rattle.thy_base.specs.Bytes.{bytes_of}
+use Rattle.thy_base.specs.Device.{Device}
+use Rattle.thy_base.specs.Outside.{Stream}
+use Rattle.thy_view.specs.declared.did.Stepped.{Stepped}
+use Rattle.thy_view.specs.Kind.{KindOf}
+use Rattle.thy_run.specs.declared.advance.Outcome.{Outcome}
+use Rattle.thy_run.specs.declared.advance.Outcome.TheVariants.{Goes, Cuts, Ends, Fails}
+use Rattle.thy_run.specs.declared.cycles.Round.{Round}
+use Rattle.thy_run.specs.declared.cycles.Round.TheVariants.{GoesOn as RoundGoesOn, Cuts as CutsOff, Stops, Breaks as BreaksOff}
+use Rattle.thy_run.specs.declared.ending.Ending.{Ending}
+use Rattle.thy_run.specs.declared.plan.Plan.{Plan}
+use Rattle.thy_run.specs.declared.progress.Progress.{Progress}
+use Rattle.thy_run.specs.Endings.{HasRun}
+use Rattle.thy_run.specs.Going.{origin_of, given_of, world_at, GoesOn, AwaitsCut}
+use Rattle.thy_run.specs.Rounds.{Running, RunEnds}
+use Rattle.thy_run.specs.Sending.{Sinks}
+use Rattle.thy_run.specs.Watching.{Taken, taken, IsListed, Keeps, Sees}
+use Rattle.thy_run.specs.World.{Given}
+use Rattle.thy_view.specs.Origin.{Origin}
+
+-- an observer has seen the cycles of the run up to here
+abbrev pub Watched : {M O : Type 0} → KindOf M → (O → List Taken → Type 0) → Plan → Device → Progress M → Device → ℕ → O
+    → Type 0
+Watched K has_seen plan fitted p n cycles o =
+    (seen : List Taken) × IsListed K (origin_of plan) (given_of plan fitted) cycles (world_at p n cycles) seen × has_seen o seen
+
+-- it has seen them, and keeps the step of the next one
+abbrev pub Awaited : {M O : Type 0} → KindOf M → (O → List Taken → Stepped → Type 0) → Plan → Device → Progress M → Device → ℕ
+    → Stepped → O → Type 0
+Awaited K keeps plan fitted p n cycles r o =
+    (seen : List Taken) × IsListed K (origin_of plan) (given_of plan fitted) cycles (world_at p n cycles) seen × keeps o seen r
+
+-- an observer has seen the cycles of this run
+abbrev pub HasSeenRun : {M O : Type 0} (K : KindOf M) (has_seen : O → List Taken → Type 0) (o : Origin) (given : Given)
+    (new : Device) (e : Ending) (terminal shown report read : Stream)
+    → HasRun K o given new e terminal shown report read → O → Type 0
+HasSeenRun K has_seen o given new e terminal shown report read h observer =
+    (seen : List Taken) × IsListed K o given e.cycles h.stopped.last seen × has_seen observer seen
+
+-- a run of a plan leaves this, and the observer has seen its cycles
+abbrev pub RunEndsSeen : {M O : Type 0} → KindOf M → (O → List Taken → Type 0) → Plan → Device → Device → Ending
+    → Stream → Stream → Stream → Stream → O → Type 0
+RunEndsSeen K has_seen plan fitted new e terminal shown report read observer =
+    (h : RunEnds K plan fitted new e terminal shown report read)
+    × HasSeenRun K has_seen (origin_of plan) (given_of plan fitted) new e terminal shown report read h observer
+
+-- what an observer has seen after a cycle of this step that came to this
+abbrev pub SeesOutcome : {O : Type 0} → (O → List Taken → Type 0) → (O → List Taken → Stepped → Type 0) → O → O → Stepped → ℕ
+    → Outcome → Type 0
+SeesOutcome has_seen keeps old new r told Goes = Sees has_seen old new (taken r told false)
+SeesOutcome has_seen keeps old new r told (Ends status) = Sees has_seen old new (taken r told false)
+SeesOutcome has_seen keeps old new r told Cuts = Keeps has_seen keeps old new r
+SeesOutcome has_seen keeps old new r told (Fails stop) = new ≡ old
+
+-- what it has seen after a round that came to this
+abbrev pub SeenBy : {M O : Type 0} → KindOf M → (O → List Taken → Type 0) → (O → List Taken → Stepped → Type 0) → Plan → Device
+    → Progress M → Progress M → Device → Device → ℕ → O → O → Round → Type 0
+SeenBy K has_seen keeps plan fitted p next n new done old_o new_o RoundGoesOn =
+    Watched K has_seen plan fitted next new (done + 1) new_o
+SeenBy K has_seen keeps plan fitted p next n new done old_o new_o (CutsOff bytes) =
+    (r : Stepped) × AwaitsCut K plan p next n new done r (bytes_of bytes) × Awaited K keeps plan fitted p n done r new_o
+SeenBy K has_seen keeps plan fitted p next n new done old_o new_o (Stops stop) =
+    Watched K has_seen plan fitted next new (done + 1) new_o
+SeenBy K has_seen keeps plan fitted p next n new done old_o new_o (BreaksOff stop) = new_o ≡ old_o
+
+abbrev pub SeesRound : {M O : Type 0} → KindOf M → (O → List Taken → Type 0) → (O → List Taken → Stepped → Type 0) → Plan
+    → Progress M → Progress M → Device → Device → ℕ → O → O → Round → Type 0
+SeesRound K has_seen keeps plan p next n new done old_o new_o round =
+    (fitted : Device) → GoesOn K plan fitted p n done → Watched K has_seen plan fitted p n done old_o
+    → SeenBy K has_seen keeps plan fitted p next n new done old_o new_o round
+
+-- what it has seen after a cut
+abbrev pub SeesCut : {M O : Type 0} → KindOf M → (O → List Taken → Type 0) → (O → List Taken → Stepped → Type 0) → Plan
+    → Progress M → Device → Device → ℕ → List ℕ → ℕ → Sinks → Sinks → O → O → Result (Progress M) Ending → Type 0
+SeesCut {M = M} K has_seen keeps plan next m new done bytes first before after old_o new_o (Ok q) =
+    (fitted : Device) (p : Progress M) (n : Device) (t u : Stream) (r : Stepped)
+    → Running K plan fitted p n done t before.terminal u before.report → Awaited K keeps plan fitted p n done r old_o
+    → AwaitsCut K plan p next n m done r bytes → first ≡ length p.events
+    → Watched K has_seen plan fitted q new (done + 1) new_o
+SeesCut {M = M} K has_seen keeps plan next m new done bytes first before after old_o new_o (Err e) =
+    (fitted : Device) (p : Progress M) (n : Device) (t u : Stream) (r : Stepped)
+    → Running K plan fitted p n done t before.terminal u before.report → Awaited K keeps plan fitted p n done r old_o
+    → AwaitsCut K plan p next n m done r bytes → first ≡ length p.events
+    → RunEndsSeen K has_seen plan fitted new e t after.terminal u after.report new_o
+
+-- what it has seen at the end of a run
+abbrev pub RunsSeen : {M O : Type 0} → KindOf M → (O → List Taken → Type 0) → Plan → Device → Device → Ending → Sinks → Sinks
+    → O → Type 0
+RunsSeen K has_seen plan fitted new e before after observer =
+    RunEndsSeen K has_seen plan fitted new e before.terminal after.terminal before.report after.report observer

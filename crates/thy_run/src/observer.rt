@@ -1,0 +1,66 @@
+//! What may look on while a program runs.
+ghost use Rattle.std.specs.Prelude.{ℕ, List, [], false};
+ghost use Rattle.thy_isa.specs.Step.{State, state_of};
+ghost use Rattle.thy_view.specs.declared.did.Stepped.{Stepped as Step};
+ghost use Rattle.thy_run.specs.Watching.{Taken, CanSee, CanSeeCut, Forgets, Keeps, Sees, SeesCutAfter, taken};
+
+use thy_isa::MachState;
+use thy_view::Stepped;
+
+/// Looks on while a program runs. It changes nothing of what is done.
+pub trait Observer {
+    /// It has seen these cycles of the machine, in order, and no others.
+    ghost has_seen: { Self → List Taken → Type 0 };
+
+    /// It has seen these cycles, and keeps the step of the next one.
+    ghost keeps: { Self → List Taken → Step → Type 0 };
+
+    /// It has seen the plain machine stop in this state, with this address of the first byte of memory.
+    ghost has_seen_last: { Self → ℕ → State → Type 0 };
+
+    /// Sees one more cycle of the machine that is done: what it did, and how many events were made in it. No cut fell
+    /// after it. The cycle's number is one more than how many cycles were seen.
+    fn see(&mut self, stepped: &Stepped, told: usize, cycle: u64)
+        requires { CanSee has_seen self.old cycle }
+        ensures { Sees has_seen self.old self.new (taken stepped.now told false) };
+
+    /// Keeps the step of a cycle after which a cut is due.
+    fn keep(&mut self, stepped: &Stepped)
+        ensures { Keeps has_seen keeps self.old self.new stepped.now };
+
+    /// Sees the cycle of the step that it keeps: the cut has fallen after it.
+    fn see_cut(&mut self, told: usize, cycle: u64)
+        requires { CanSeeCut keeps self.old cycle }
+        ensures { SeesCutAfter has_seen keeps self.old self.new told };
+
+    /// Forgets the step that it keeps: the cycle is not done.
+    fn forget(&mut self)
+        ensures { Forgets has_seen keeps self.old self.new };
+
+    /// Sees the state in which the plain machine stops, which has no cycles.
+    fn see_last(&mut self, base: u64, state: &MachState)
+        requires { has_seen self.old [] }
+        ensures { has_seen_last self.new base (state_of state.now) };
+}
+
+/// An observer that does nothing.
+#[derive(Drop)]
+pub struct Silent;
+
+impl Observer for Silent {
+    ghost has_seen = { λ o seen. Unit {0} };
+
+    ghost keeps = { λ o seen step. Unit {0} };
+
+    ghost has_seen_last = { λ o base state. Unit {0} };
+
+    fn see(&mut self, _stepped: &Stepped, _told: usize, _cycle: u64) {}
+
+    fn keep(&mut self, _stepped: &Stepped) {}
+
+    fn see_cut(&mut self, _told: usize, _cycle: u64) {}
+
+    fn forget(&mut self) {}
+
+    fn see_last(&mut self, _base: u64, _state: &MachState) {}
+}
