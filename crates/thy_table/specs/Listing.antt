@@ -1,6 +1,6 @@
 -- Part of the claim.
 -- A table: what its entries list, and what each call makes of it.
-use Rattle.std.specs.Prelude.{◌≡◌, ℕ, ◌+◌, ◌≤◌, ◌<◌, ◌^◌, ◌==◌, Bool, true, false, List, length, replicate, map, drop, slice_index_or, slice_set, position, count_by, Option, Some, None, is_none, is_some, option_and_then, refl}
+use Rattle.std.specs.Prelude.{◌≡◌, ◌≢◌, ℕ, ◌+◌, ◌*◌, ◌/◌, ◌%◌, ◌≤◌, ◌<◌, ◌^◌, ◌==◌, Bool, true, false, List, [], length, replicate, map, drop, slice_index_or, slice_set, position, count_by, Option, Some, None, is_none, is_some, option_and_then, refl}
 use Rattle.std.specs.Option.{option_map}
 use Rattle.std.specs.Coded.{Coded, code_by, coded×, coded_list, coded_option, coded_ℕ}
 
@@ -14,9 +14,9 @@ pub record Listing (E : Type 0) : Type 0 where
 abbrev pub first_from : {X : Type 0} → (X → Bool) → ℕ → List X → Option ℕ
 first_from test from xs = option_map (λ k. from + k) (position test (drop from xs))
 
--- what the index of a table has for a number
-abbrev pub indexed_at : List (Option ℕ) → ℕ → Option ℕ
-indexed_at places n = slice_index_or places n None
+-- the place that the index of a table has for a number: what the leader of its group of 16 numbers has for it
+abbrev pub indexed_at : List ℕ → List (List ℕ) → ℕ → ℕ
+indexed_at leaders places n = slice_index_or (slice_index_or places (slice_index_or leaders (n / 16) 0) []) (n % 16) 0
 
 module _ {E : Type 0} where
   abbrev pub listing : List (Option E) → ℕ → Listing E
@@ -41,6 +41,10 @@ module _ {E : Type 0} where
   -- an entry lists a number
   abbrev pub lists : (E → ℕ) → ℕ → Option E → Bool
   lists key n = passes (λ e. key e == n)
+
+  -- an entry lists a number of a group of 16
+  abbrev pub leads : (E → ℕ) → ℕ → Option E → Bool
+  leads key g = passes (λ e. key e / 16 == g)
 
   -- the place of the entry that lists a number
   abbrev pub place_of : (E → ℕ) → ℕ → Listing E → Option ℕ
@@ -81,12 +85,22 @@ module _ {E : Type 0} where
     pub found : (i n : ℕ) → lists key n (entry_at t i) ≡ true → place_of key n t ≡ Some i
     pub inside : (i n : ℕ) → lists key n (entry_at t i) ≡ true → n < t.numbers
 
-  -- what holds of the parts of a table: its entries, the places by number, a place that no free entry
-  -- lies below, and a count
-  pub record IsSoundTable (key : E → ℕ) (entries : List (Option E)) (places : List (Option ℕ)) (lowest free : ℕ) : Type 0 where
-    -- the index has a number at a place exactly if the entry there lists it
-    pub listed : (i n : ℕ) → lists key n (slice_index_or entries i None) ≡ true → indexed_at places n ≡ Some i
-    pub indexed : (i n : ℕ) → indexed_at places n ≡ Some i → lists key n (slice_index_or entries i None) ≡ true
+  -- the entry at a place leads a group, and by its places no other entry lists a number of the group
+  abbrev pub IsLastOf : (E → ℕ) → ℕ → List (Option E) → List ℕ → ℕ → ℕ → Type 0
+  IsLastOf key g entries places leader i = (leader ≡ i) × ((k : ℕ) → k < 16 → slice_index_or places k 0 ≢ i
+      → lists key (16 * g + k) (slice_index_or entries (slice_index_or places k 0) None) ≡ false)
+
+  -- what holds of the parts of a table: its entries, the leaders by group, the places by leader and number, a place
+  -- that no free entry lies below, and a count
+  pub record IsSoundTable (key : E → ℕ) (entries : List (Option E)) (numbers : ℕ) (leaders : List ℕ) (places : List (List ℕ)) (lowest free : ℕ) : Type 0 where
+    -- the index has the place of each entry for the number that it lists
+    pub listed : (i n : ℕ) → lists key n (slice_index_or entries i None) ≡ true → indexed_at leaders places n ≡ i
+    -- if an entry lists a number of a group, so does the entry at the leader's place
+    pub led : (i n : ℕ) → lists key n (slice_index_or entries i None) ≡ true → leads key (n / 16) (slice_index_or entries (slice_index_or leaders (n / 16) 0) None) ≡ true
+    pub inside : (i n : ℕ) → lists key n (slice_index_or entries i None) ≡ true → n < numbers
+    pub groups : numbers < 16 * length leaders
+    pub wide : (i : ℕ) → i < length places → length (slice_index_or places i []) ≡ 16
+    pub as_many : length places ≡ length entries
     pub full_below : (i : ℕ) → i < lowest → is_some (slice_index_or entries i None) ≡ true
     pub counted : free ≡ count_by is_none entries
     pub few : length entries ≤ 2 ^ 32

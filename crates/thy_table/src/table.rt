@@ -1,19 +1,26 @@
 //! The table.
-ghost use Rattle.std.specs.Prelude.{ℕ, ◌≡◌, ◌≢◌, ◌<◌, ◌≤◌, ◌^◌, ◌++◌, [], ◌∷◌, Some, None, true, length, replicate, slice_index_or, is_none, is_some, position, option_and_then, IfOk, IsSome, IfSome, ◌↔◌};
-ghost use Rattle.thy_table.specs.Listing.{empty_table, entry_at, passes, lists, place_of, free_place, free_count, with_entry, added, mapped, first_from, next_from, indexed_at, IsListing};
+ghost use Rattle.std.specs.Prelude.{ℕ, ◌≡◌, ◌≢◌, ◌<◌, ◌≤◌, ◌^◌, ◌++◌, [], ◌∷◌, Some, None, true, length, replicate, slice_index_or, is_none, is_some, position, option_and_then, IfOk, IsSome, IfSome, ◌↔◌, if◌then◌else◌};
+ghost use Rattle.thy_table.specs.Listing.{empty_table, entry_at, passes, lists, leads, IsLastOf, place_of, free_place, free_count, with_entry, added, mapped, first_from, next_from, indexed_at, IsListing};
 
 use crate::keyed::Keyed;
 use crate::rules::{Rule, Test};
 use std::alloc::{AllocError, Global};
 use std::marker::Model;
 
+/// How many numbers a group has, by which the index finds them.
+const GROUP: usize = 16;
+
 /// Entries by their places, some of them free. Each live one lists a number, and no two list the same.
 /// Only `new` allocates.
 #[derive(Drop)]
 pub struct Table<E: Keyed> {
     entries: Vec<Option<E>>,
-    /// By number, the place of the entry that lists it.
-    places: Vec<Option<u32>>,
+    /// The numbers below this one can be listed.
+    numbers: u64,
+    /// By group of `GROUP` numbers, the place of its leader: an entry that lists one of them, if any does.
+    leaders: Vec<u32>,
+    /// By place of a leader, for each number of its group that is listed, the place of the entry that lists it.
+    places: Vec<[u32; GROUP]>,
     /// No entry below this place is free.
     lowest: usize,
     free: u64,
@@ -21,36 +28,98 @@ pub struct Table<E: Keyed> {
 
 impl<E: Keyed> Model for Table<E> {
     ghost use Rattle.thy_table.specs.Listing.{Listing, listing, listing_code, IsSoundTable};
-    ghost use Rattle.std.specs.Prelude.{length};
 
     ghost Value = { Listing E };
 
     ghost coded = { listing_code E.code };
 
-    ghost view = { λ t. listing t.entries.items (length t.places.items) };
+    ghost view = { λ t. listing t.entries.items t.numbers };
 
-    ghost invariant = { λ t. IsSoundTable E.key t.entries.items t.places.items t.lowest t.free };
+    ghost invariant = { λ t.
+        IsSoundTable E.key t.entries.items t.numbers t.leaders.items t.places.items t.lowest t.free };
 }
 
-/// A list of this many `None`.
-fn nothing<X: Copy>(alloc: Global, len: usize) -> Result<Vec<Option<X>>, AllocError>
-    ensures { IfOk result (λ v. v.items ≡ replicate len None) }
+/// A list of this many copies of an element.
+fn copies<X: Copy>(alloc: Global, x: X, len: usize) -> Result<Vec<X>, AllocError>
+    ensures { IfOk result (λ v. v.items ≡ replicate len x) }
 {
     let mut all = Vec::with_capacity(alloc, len)?;
     for _i in 0..len {
-        all.push(None)?;
+        all.push(x)?;
     }
     Ok(all)
 }
 
-/// What an index has for a number.
-fn indexed(places: &[Option<u32>], number: u64) -> Option<usize>
-    ensures { result ≡ indexed_at places.now number }
+/// The place that an index has for a number: that of the entry which lists it, if one does.
+fn indexed(leaders: &[u32], places: &[[u32; GROUP]], number: u64) -> usize
+    ensures { result ≡ indexed_at leaders.now places.now number }
 {
-    match places.get(number as usize) {
-        Some(Some(place)) => Some(*place as usize),
-        _ => None,
+    let leader = match leaders.get((number / GROUP as u64) as usize) {
+        Some(leader) => *leader,
+        None => 0,
+    };
+    match places.get(leader as usize) {
+        Some(group) => group[(number % GROUP as u64) as usize] as usize,
+        None => 0,
     }
+}
+
+/// Whether the entry at a place lists a number.
+fn lists<E: Keyed>(entries: &[Option<E>], place: usize, number: u64) -> bool
+    ensures { result ≡ lists E.key number (slice_index_or entries.now place None) }
+{
+    match entries.get(place) {
+        Some(Some(entry)) => entry.key() == number,
+        _ => false,
+    }
+}
+
+/// Whether the entry at a place lists a number of a group.
+fn leads<E: Keyed>(entries: &[Option<E>], place: usize, group: u64) -> bool
+    ensures { result ≡ leads E.key group (slice_index_or entries.now place None) }
+{
+    match entries.get(place) {
+        Some(Some(entry)) => entry.key() / GROUP as u64 == group,
+        _ => false,
+    }
+}
+
+/// The leader of a group once one more entry lists a number of it, at a place: the old one, if there is one.
+fn leader_with<E: Keyed>(entries: &[Option<E>], leader: usize, group: u64, place: usize) -> usize
+    ensures { let old = slice_index_or entries.now leader None in
+        result ≡ (if leads E.key group old then leader else place) }
+{
+    if leads(entries, leader, group) {
+        leader
+    } else {
+        place
+    }
+}
+
+/// The leader of a group once the entry at a place is cleared: the old one, or another that lists a number of the group; that
+/// place, if none does.
+fn leader_without<E: Keyed>(
+    entries: &[Option<E>],
+    places: &[u32; GROUP],
+    leader: usize,
+    group: u64,
+    place: usize,
+) -> usize
+    requires leads { leads E.key group (slice_index_or entries.now leader None) ≡ true }
+    requires few { group < 2 ^ 60 }
+    ensures leads { leads E.key group (slice_index_or entries.now result None) ≡ true }
+    ensures last { result ≡ place → IsLastOf E.key group entries.now places.now leader place }
+{
+    if leader != place {
+        return leader;
+    }
+    for k in 0..GROUP {
+        let other = places[k] as usize;
+        if other != place && lists(entries, other, GROUP as u64 * group + k as u64) {
+            return other;
+        }
+    }
+    place
 }
 
 /// The first free entry from a place on.
@@ -79,10 +148,13 @@ impl<E: Keyed> Table<E> {
         requires { size ≤ 2 ^ 32 }
         ensures { IfOk result (λ table. table ≡ empty_table size numbers) }
     {
-        let entries = nothing(alloc, size as usize)?;
-        let places = nothing(alloc, numbers as usize)?;
+        let entries = copies(alloc, None, size as usize)?;
+        let leaders = copies(alloc, 0, (numbers / GROUP as u64 + 1) as usize)?;
+        let places = copies(alloc, [0; GROUP], size as usize)?;
         Ok(Table {
             entries,
+            numbers,
+            leaders,
             places,
             lowest: 0,
             free: size,
@@ -110,7 +182,12 @@ impl<E: Keyed> Table<E> {
         ensures inside { IfSome result (λ i. i < length self.now.entries) }
         ensures lists { IfSome result (λ i. lists E.key number (entry_at self.now i) ≡ true) }
     {
-        indexed(&self.places, number)
+        let place = indexed(&self.leaders, &self.places, number);
+        if lists(&self.entries, place, number) {
+            Some(place)
+        } else {
+            None
+        }
     }
 
     /// The entry at a place, None if it is free.
@@ -160,8 +237,17 @@ impl<E: Keyed> Table<E> {
         requires number { E.key entry < self.old.numbers }
         ensures { self.new ≡ with_entry place (Some entry) self.old }
     {
+        let number = entry.key();
+        let group = number / GROUP as u64;
+        let leader = leader_with(
+            &self.entries,
+            self.leaders[group as usize] as usize,
+            group,
+            place,
+        );
+        self.leaders[group as usize] = leader as u32;
         self.entries[place] = Some(entry);
-        self.places[entry.key() as usize] = Some(place as u32);
+        self.places[leader][(number % GROUP as u64) as usize] = place as u32;
         self.lowest = raised(self.lowest, place);
         self.free -= 1;
     }
@@ -180,8 +266,13 @@ impl<E: Keyed> Table<E> {
         ensures { self.new ≡ with_entry i None self.old }
     {
         if let Some(entry) = self.entries[i] {
+            let group = entry.key() / GROUP as u64;
+            let leader = self.leaders[group as usize] as usize;
+            let places = self.places[leader];
+            let next = leader_without(&self.entries, &places, leader, group, i);
+            self.places[next] = places;
+            self.leaders[group as usize] = next as u32;
             self.entries[i] = None;
-            self.places[entry.key() as usize] = None;
             self.lowest = self.lowest.min(i);
             self.free += 1;
         }

@@ -1,5 +1,5 @@
 -- A boot that a test drives over an NVM.
-use Rattle.std.specs.Prelude.{◌≡◌, Bool, true, false, [], length, replicate}
+use Rattle.std.specs.Prelude.{None, ◌≡◌, Bool, true, false, [], length, replicate}
 use Rattle.thy_base.specs.declared.config.Parameters.{Parameters}
 use Rattle.thy_base.specs.Device.{Device}
 use Rattle.thy_dram.specs.Contents.{Contents}

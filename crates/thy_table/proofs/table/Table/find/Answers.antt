@@ -1,23 +1,28 @@
-use Rattle.std.proofs.Common.{◌≡◌, position, ℕ, ◌<◌, length, Option, Some, None, IfSome, sym, ◌∙◌, ap}
-use Rattle.std.proofs.lemmas.List.Quantifiers.{position-Some}
-use Rattle.thy_table.specs.Listing.{Listing, lists, place_of, indexed_at}
-use Rattle.thy_table.proofs.IndexLemmas.{position-indexed}
+use Rattle.std.proofs.Common.{◌≡◌, Bool, true, false, position, List, Some, None, get_or, sym, ◌∙◌, ap}
+use Rattle.thy_table.specs.Listing.{lists, place_of, indexed_at}
+use Rattle.thy_table.proofs.IndexLemmas.{position-indexed, position-unindexed}
 use Rattle.thy_table.proofs.table.Table.find.Goals as goal
 
-pub returns-clause-place : goal.returns-clause-place
-returns-clause-place g c =
+pub returns-then-lists-clause-place : goal.returns-then-lists-clause-place
+returns-then-lists-clause-place g c =
     let key = g.E.Keyed.key in
-    let read : c.indexed.result ≡ indexed_at c.self.inside.places.items c.args.number
-    = c.indexed.ensures ∙ ap (λ places. indexed_at places c.args.number) c.deref.ensures.value in
-    let found : position (lists key c.args.number) c.self.inside.entries.items ≡ indexed_at c.self.inside.places.items c.args.number
-    = position-indexed key _ _ _ _ c.self.invariant c.args.number in
-    let seen : position (lists key c.args.number) c.self.inside.entries.items ≡ place_of key c.args.number c.args.self.now
-    = ap (place_of key c.args.number) c.self.view_is in
-    read ∙ sym found ∙ seen
+    let n = c.args.number in
+    let es = c.self.inside.entries.items in
+    let at : c.indexed-place.result ≡ indexed_at c.self.inside.leaders.items c.self.inside.places.items n
+    = c.indexed-place.ensures ∙ ap (λ leaders. indexed_at leaders c.deref-2.result.now n) c.deref.ensures.value
+    ∙ ap (λ places. indexed_at c.self.inside.leaders.items places n) c.deref-2.ensures.value in
+    let here : lists key n (get_or es c.indexed-place.result None) ≡ true
+    = ap (λ (xs : List _). lists key n (get_or xs c.indexed-place.result None)) (sym c.deref-3.ensures.value) ∙ sym c.lists.ensures ∙ c.if-lists.true in
+    ap Some at ∙ sym (position-indexed key _ _ _ _ _ _ c.self.invariant n (ap (λ i. lists key n (get_or es i None)) (sym at) ∙ here)) ∙ ap (place_of key n) c.self.view_is
 
-place-inside : {E : Type 0} (key : E → ℕ) (n : ℕ) (t : Listing E) (o : Option ℕ) → place_of key n t ≡ o → IfSome o (λ i. i < length t.entries)
-place-inside key n t None e = tt
-place-inside key n t (Some i) e = (position-Some (lists key n) t.entries i None e).0
-
-pub returns-clause-inside : goal.returns-clause-inside
-returns-clause-inside g c = place-inside g.E.Keyed.key c.args.number c.args.self.now c.indexed.result (sym (returns-clause-place g c))
+pub returns-else-lists-clause-place : goal.returns-else-lists-clause-place
+returns-else-lists-clause-place g c =
+    let key = g.E.Keyed.key in
+    let n = c.args.number in
+    let es = c.self.inside.entries.items in
+    let at : c.indexed-place.result ≡ indexed_at c.self.inside.leaders.items c.self.inside.places.items n
+    = c.indexed-place.ensures ∙ ap (λ leaders. indexed_at leaders c.deref-2.result.now n) c.deref.ensures.value
+    ∙ ap (λ places. indexed_at c.self.inside.leaders.items places n) c.deref-2.ensures.value in
+    let here : lists key n (get_or es c.indexed-place.result None) ≡ false
+    = ap (λ (xs : List _). lists key n (get_or xs c.indexed-place.result None)) (sym c.deref-3.ensures.value) ∙ sym c.lists.ensures ∙ c.if-lists.false in
+    sym (position-unindexed key _ _ _ _ _ _ c.self.invariant n (ap (λ i. lists key n (get_or es i None)) (sym at) ∙ here)) ∙ ap (place_of key n) c.self.view_is
