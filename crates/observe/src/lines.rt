@@ -44,7 +44,8 @@ fn count_at(place: Option<Place>) -> Option<u64> {
     }
 }
 
-/// The count of an event whose cycle was broken off, if this was the place before it.
+/// How many instructions are retired at an event of a cycle, if the run is at this place after the cycle's step, or, if the
+/// cycle was broken off, was there before it. A restart has its own count, and what is loaded, also again, has none yet.
 fn count_in(event: &Event, place: Option<Place>) -> Option<u64> {
     match event {
         Event::Restart { count, .. } => Some(*count),
@@ -87,11 +88,11 @@ fn add_cycle(
     events: &Events,
     first: usize,
 ) -> Result<usize, AllocError> {
-    let count = count_at(mark.place);
     let mut next = first;
     for _ in 0..mark.told {
         if next < events.len() {
             let event = events.get(next);
+            let count = count_in(event, mark.place);
             add_line(alloc, text, mark.cycle, count, event)?;
             losses.count(event, count);
             next += 1;

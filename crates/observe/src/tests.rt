@@ -1,5 +1,5 @@
-//! Calls over memory: what is put under OUT where a program traps, and what is answered where nothing can be put.
-//! The words and addresses were worked out by hand from the encodings.
+//! Calls over memory: what is put under OUT, and what is answered if nothing can be put. The words and addresses were worked
+//! out by hand from the encodings, the numbers from the rules of the controller.
 
 use crate::top::observe;
 use std::alloc::{AllocError, Global};
@@ -10,54 +10,63 @@ use thy_nvm::MemNvm;
 use thy_observe::Counting;
 use thy_out::{MemShelf, MemSink};
 
-/// A program file of four bytes of code, at the address 65536.
-static HEAD: [u8; 120] = [
+/// A program file of three instructions at the address 65536: `addi a7,zero,93; addi a0,zero,7; ecall`.
+static EXIT_SEVEN: [u8; 132] = [
     0x7f, 0x45, 0x4c, 0x46, 0x02, 0x01, 0x01, 0x00, 0x00, 0x00, 0x00, 0x00, 0x00, 0x00, 0x00, 0x00,
     0x02, 0x00, 0xf3, 0x00, 0x01, 0x00, 0x00, 0x00, 0x00, 0x00, 0x01, 0x00, 0x00, 0x00, 0x00, 0x00,
     0x40, 0x00, 0x00, 0x00, 0x00, 0x00, 0x00, 0x00, 0x00, 0x00, 0x00, 0x00, 0x00, 0x00, 0x00, 0x00,
     0x00, 0x00, 0x00, 0x00, 0x40, 0x00, 0x38, 0x00, 0x01, 0x00, 0x00, 0x00, 0x00, 0x00, 0x00, 0x00,
     0x01, 0x00, 0x00, 0x00, 0x07, 0x00, 0x00, 0x00, 0x78, 0x00, 0x00, 0x00, 0x00, 0x00, 0x00, 0x00,
     0x00, 0x00, 0x01, 0x00, 0x00, 0x00, 0x00, 0x00, 0x00, 0x00, 0x01, 0x00, 0x00, 0x00, 0x00, 0x00,
-    0x04, 0x00, 0x00, 0x00, 0x00, 0x00, 0x00, 0x00, 0x04, 0x00, 0x00, 0x00, 0x00, 0x00, 0x00, 0x00,
-    0x04, 0x00, 0x00, 0x00, 0x00, 0x00, 0x00, 0x00,
+    0x0c, 0x00, 0x00, 0x00, 0x00, 0x00, 0x00, 0x00, 0x0c, 0x00, 0x00, 0x00, 0x00, 0x00, 0x00, 0x00,
+    0x04, 0x00, 0x00, 0x00, 0x00, 0x00, 0x00, 0x00, 0x93, 0x08, 0xd0, 0x05, 0x13, 0x05, 0x70, 0x00,
+    0x73, 0x00, 0x00, 0x00,
 ];
+
+/// The first of these instructions.
+const FIRST: u32 = 0x05d00893;
 
 /// What a call gave.
 #[derive(Drop)]
 struct Given {
     status: u8,
-    /// What is under OUT; nothing if the name is not there.
+    /// Something is under OUT.
+    is_put: bool,
+    /// What is there.
     put: Vec<u8>,
     report: Vec<u8>,
 }
 
-/// A shelf with a program of this one word under the name F. The calls with these numbers fail.
+/// A shelf with the program under the name F, in which this word is in place of the first instruction. The calls with
+/// these numbers fail.
 fn shelf_of(alloc: Global, word: u32, failing: &[u64]) -> Result<MemShelf, AllocError> {
-    let mut bytes = Vec::from_slice(alloc, HEAD.as_slice())?;
+    let mut bytes = Vec::from_slice(alloc, &EXIT_SEVEN[..120])?;
     for byte in word.to_le_bytes() {
         bytes.push(byte)?;
+    }
+    for byte in EXIT_SEVEN[124..].iter() {
+        bytes.push(*byte)?;
     }
     let mut files = Vec::new(alloc);
     files.push((String::from_str(alloc, "F")?, bytes))?;
     Ok(MemShelf::new(files, Vec::from_slice(alloc, failing)?))
 }
 
-/// Calls with OUT and the arguments, separated by spaces.
-fn called(
+/// Calls with OUT and the arguments, separated by spaces, over this shelf and this device.
+fn called_over(
     alloc: Global,
     out: &str,
     line: &str,
-    word: u32,
-    failing: &[u64],
+    mut shelf: MemShelf,
+    nvm: MemNvm,
 ) -> Result<Given, AllocError> {
     let mut words = Vec::new(alloc);
     for word in line.split(' ') {
         words.push(String::from_str(alloc, word)?)?;
     }
-    let mut shelf = shelf_of(alloc, word, failing)?;
     let mut terminal = MemSink::new(alloc, 4096, Vec::new(alloc))?;
     let mut report = MemSink::new(alloc, 4096, Vec::new(alloc))?;
-    let mut nvm = Counting::over(MemNvm::new(alloc));
+    let mut nvm = Counting::over(nvm);
     let status = observe(
         alloc,
         out,
@@ -67,15 +76,30 @@ fn called(
         &mut report,
         &mut nvm,
     );
-    let put = match shelf.fetch(alloc, out, 4096) {
+    let put = shelf.fetch(alloc, out, 4096);
+    let is_put = put.is_ok();
+    let put = match put {
         Ok(bytes) => bytes,
         Err(_) => Vec::new(alloc),
     };
     Ok(Given {
         status,
+        is_put,
         put,
         report: Vec::from_slice(alloc, report.taken())?,
     })
+}
+
+/// The same over a device that does not fail, and a shelf with the program of this word, whose calls of these numbers fail.
+fn called(
+    alloc: Global,
+    out: &str,
+    line: &str,
+    word: u32,
+    failing: &[u64],
+) -> Result<Given, AllocError> {
+    let shelf = shelf_of(alloc, word, failing)?;
+    called_over(alloc, out, line, shelf, MemNvm::new(alloc))
 }
 
 /// Whether a text has a line.
@@ -116,6 +140,115 @@ fn a_trap_has_its_word_and_its_address(rt: HostRuntime) -> Result<(), Fail> {
     Ok(())
 }
 
+/// The whole texts of runs of the program of three instructions. The numbers follow from the rows of the example in
+/// docs/CONTROLLER.md. The state that was restored and the last one are read, 448 blocks each: none of them from the cache at
+/// a restart, and one, of the code, at the end.
+static RUNS: [(&str, &str); 3] = [
+    // The boot has taken 75 of the first 100 cycles, with one read and 74 writes, and begins anew.
+    (
+        "thynvm run F --pages 8 --btt 8 --ptt 8 --cuts 100",
+        "100 - cut 1 at cycle 100\n\
+         101 0 reload\n\
+         800 0 commit 0 overlapped 0\n\
+         808 3 epoch 1 ends at 3 by end\n\
+         822 3 commit 1 overlapped 0\n\
+         822 3 exit 7 at 3\n\
+         cycles 822 boot 600 hart 8 engine 11 nvmdrain 203 dramdrain 0\n\
+         hart moved 4 retired 3 flushed 0 merged 0 promoted 0 sealed 1\n\
+         engine copied 0 page 0 state 5 table 3 barrier 1 commit 1 committed 1\n\
+         waiting 7\n\
+         nvm reads 450 writes 605 barriers 4\n\
+         lost 0\n\
+         epochs 1 early 0 overlapped 0\n",
+    ),
+    // Two instructions are lost. Recovery takes ten cycles, and no write is queued in any of them.
+    (
+        "thynvm run F --pages 8 --btt 8 --ptt 8 --cuts 705",
+        "700 0 commit 0 overlapped 0\n\
+         705 2 cut 1 at cycle 705\n\
+         715 0 restart 0 at 0\n\
+         723 3 epoch 1 ends at 3 by end\n\
+         736 3 commit 1 overlapped 0\n\
+         736 3 exit 7 at 3\n\
+         cycles 736 boot 535 hart 13 engine 11 nvmdrain 177 dramdrain 0\n\
+         hart moved 7 retired 5 flushed 0 merged 0 promoted 0 sealed 1\n\
+         engine copied 0 page 0 state 5 table 3 barrier 1 commit 1 committed 1\n\
+         waiting 8\n\
+         nvm reads 908 writes 531 barriers 4\n\
+         lost 2\n\
+         epochs 1 early 0 overlapped 0\n",
+    ),
+    // A slot of the journal has six blocks. The drain before its last barrier lands the commit block.
+    (
+        "thynvm run F --pages 8 --btt 8 --scheme journal",
+        "696 0 commit 0 overlapped 0\n\
+         704 3 epoch 1 ends at 3 by end\n\
+         716 3 commit 1 overlapped 0\n\
+         716 3 exit 7 at 3\n\
+         cycles 716 boot 523 hart 8 engine 9 nvmdrain 176 dramdrain 0\n\
+         hart moved 4 retired 3 flushed 0 merged 0 promoted 0 sealed 1\n\
+         engine copied 0 page 0 state 5 table 1 barrier 1 commit 1 committed 1\n\
+         waiting 6\n\
+         nvm reads 449 writes 527 barriers 4\n\
+         lost 0\n\
+         epochs 1 early 0 overlapped 0\n",
+    ),
+];
+
+#[test]
+fn the_text_has_each_event_and_the_totals(rt: HostRuntime) -> Result<(), Fail> {
+    let alloc = rt.alloc();
+    for (line, text) in RUNS {
+        let given = called(alloc, "O", line, FIRST, &[])?;
+        assert_eq!(rt; given.status, 0, "{line}");
+        assert_eq!(rt; given.put.as_slice(), text.as_bytes(), "{line}");
+    }
+    Ok(())
+}
+
+#[test]
+fn a_cycle_that_was_broken_off_is_in_no_total(rt: HostRuntime) -> Result<(), Fail> {
+    let alloc = rt.alloc();
+    // The calls of the first three cycles are a read, a write and a drain.
+    let nvm = MemNvm::failing(alloc, &[3])?;
+    let shelf = shelf_of(alloc, FIRST, &[])?;
+    let given = called_over(alloc, "O", "thynvm run F --pages 8", shelf, nvm)?;
+    assert_eq!(rt; given.status, 7);
+    assert_eq!(rt;
+        given.put.as_slice(),
+        b"cycles 2 boot 2 hart 0 engine 0 nvmdrain 0 dramdrain 0\n\
+          hart moved 0 retired 0 flushed 0 merged 0 promoted 0 sealed 0\n\
+          engine copied 0 page 0 state 0 table 0 barrier 0 commit 0 committed 0\n\
+          waiting 0\n\
+          nvm reads 1 writes 1 barriers 0\n\
+          lost 0\n\
+          epochs 0 early 0 overlapped 0\n"
+            .as_slice()
+    );
+    Ok(())
+}
+
+#[test]
+fn a_call_that_begins_no_run_puts_nothing(rt: HostRuntime) -> Result<(), Fail> {
+    let alloc = rt.alloc();
+    for (line, status) in [
+        ("thynvm", 2),
+        ("thynvm run F --pages 7", 2),
+        ("thynvm plain F --limit x", 2),
+        ("thynvm run G", 3),
+        ("thynvm plain G", 3),
+        ("thynvm resume F --pages 8", 5),
+    ] {
+        let given = called(alloc, "O", line, FIRST, &[])?;
+        assert_eq!(rt; given.status, status, "{line}");
+        assert!(rt; !given.is_put, "{line}");
+    }
+    // A program that exits on the plain machine has no trap, and its text is empty.
+    let plain = called(alloc, "O", "thynvm plain F --pages 8", FIRST, &[])?;
+    assert!(rt; plain.status == 0 && plain.is_put && plain.put.len() == 0);
+    Ok(())
+}
+
 #[test]
 fn an_out_that_is_taken_is_refused(rt: HostRuntime) -> Result<(), Fail> {
     let alloc = rt.alloc();
@@ -130,7 +263,7 @@ fn an_out_that_is_taken_is_refused(rt: HostRuntime) -> Result<(), Fail> {
         let given = called(alloc, "O", line, 0x00000073, &[])?;
         assert_eq!(rt; given.status, 2, "{line}");
         assert_eq!(rt; given.report.as_slice(), b"usage\n".as_slice(), "{line}");
-        assert_eq!(rt; given.put.len(), 0, "{line}");
+        assert!(rt; !given.is_put, "{line}");
     }
     Ok(())
 }
@@ -144,6 +277,6 @@ fn an_out_that_cannot_be_put_is_told(rt: HostRuntime) -> Result<(), Fail> {
         given.report.as_slice(),
         b"trap 3 at 1\nput O failed\n".as_slice()
     );
-    assert_eq!(rt; given.put.len(), 0);
+    assert!(rt; !given.is_put);
     Ok(())
 }

@@ -1,0 +1,93 @@
+"""Reads what `./thynvm observe OUT ..` has written (docs/FORMATS.md, "What `observe` writes"), for the scripts beside it.
+
+It is outside of what is proved: it reads the text by itself, and refuses one that is not whole or whose sums are wrong."""
+
+import re
+from dataclasses import dataclass
+
+NUMBER = r"(?:0|[1-9][0-9]*)"
+
+EVENT = re.compile(rf"({NUMBER}) ({NUMBER}|-) ([a-z].*)")
+
+TRAP = re.compile(r"trap [0-9a-f]+(?: [0-9a-f]+){0,2}")
+
+# The totals in their order: the first word of each line, and the names of its numbers. A name of None is a number that
+# stands directly behind the first word.
+TOTALS = (
+    ("cycles", (None, "boot", "hart", "engine", "nvmdrain", "dramdrain")),
+    ("hart", ("moved", "retired", "flushed", "merged", "promoted", "sealed")),
+    ("engine", ("copied", "page", "state", "table", "barrier", "commit", "committed")),
+    ("waiting", (None,)),
+    ("nvm", ("reads", "writes", "barriers")),
+    ("lost", (None,)),
+    ("epochs", (None, "early", "overlapped")),
+)
+
+
+class Fault(Exception):
+    """Why a text is not what `observe` writes, in words for the one who called."""
+
+
+@dataclass
+class Event:
+    """A line of an event: its cycle, how many instructions were retired then (None for a cut in a boot), and the report's line."""
+
+    cycle: int
+    count: int | None
+    line: str
+
+
+@dataclass
+class Observed:
+    """What a run came to."""
+
+    events: list
+    trap: str | None
+    totals: dict  # first word: name: number; what stands directly behind the first word has the name ""
+
+    def number(self, word, name=""):
+        return self.totals[word][name]
+
+
+def looks_observed(lines):
+    """Whether lines are those of `observe` and not of a report, by the first of them."""
+    return bool(lines) and bool(EVENT.fullmatch(lines[0]) or re.match(r"cycles [0-9]+ boot ", lines[0]))
+
+
+def totals_of(line, word, names):
+    """The numbers of a line of totals, by their names."""
+    parts = "".join(rf" ({NUMBER})" if name is None else rf" {name} ({NUMBER})" for name in names)
+    found = re.fullmatch(word + parts, line)
+    if not found:
+        raise Fault(f"this is not the line '{word} ..' of the totals: {line}")
+    return {name or "": int(number) for name, number in zip(names, found.groups())}
+
+
+def read(lines):
+    """What lines say that `observe` has written of a run, a resumed run or one of a made program."""
+    events, k = [], 0
+    while k < len(lines) and (found := EVENT.fullmatch(lines[k])):
+        cycle, count, line = found.groups()
+        events.append(Event(int(cycle), None if count == "-" else int(count), line))
+        k += 1
+    trap = None
+    if k < len(lines) and TRAP.fullmatch(lines[k]):
+        trap = lines[k]
+        k += 1
+    rest = lines[k:]
+    if not events and not rest:
+        raise Fault("it has no cycles: `observe` writes none of a run on the plain machine")
+    if len(rest) != len(TOTALS):
+        raise Fault(f"behind its events it has {len(rest)} lines, and not the {len(TOTALS)} of the totals")
+    totals = {word: totals_of(line, word, names) for line, (word, names) in zip(rest, TOTALS)}
+    for word, whole, parts in (
+        ("cycles", totals["cycles"][""], [number for name, number in totals["cycles"].items() if name]),
+        ("hart", totals["cycles"]["hart"], totals["hart"].values()),
+        ("engine", totals["cycles"]["engine"], totals["engine"].values()),
+    ):
+        if sum(parts) != whole:
+            raise Fault(f"the sum of its line '{word} ..' is {sum(parts)}, and has to be {whole}")
+    cycles = [event.cycle for event in events]
+    if cycles != sorted(cycles) or (cycles and cycles[-1] > totals["cycles"][""] + 1):
+        raise Fault("the cycles of its events do not rise, or go past the last one")
+    return Observed(events, trap, totals)
