@@ -1,7 +1,7 @@
 //! The lines of a run's events, each with its cycle and how many instructions were retired then.
 
 use std::alloc::{AllocError, Global};
-use thy_observe::{Mark, Place, Tally};
+use thy_observe::{EventCycle, RetiredCount, Tally};
 use thy_out::MemSink;
 use thy_text::{Event, Events, write_event};
 
@@ -36,23 +36,23 @@ impl Losses {
     }
 }
 
-/// How many instructions are retired at a place; none in a boot.
-fn count_at(place: Option<Place>) -> Option<u64> {
-    match place {
-        Some(place) => Some(place.from.saturating_add(place.since)),
+/// How many instructions a count has; none in a boot.
+fn count_at(retired: Option<RetiredCount>) -> Option<u64> {
+    match retired {
+        Some(retired) => Some(retired.from.saturating_add(retired.since)),
         None => None,
     }
 }
 
-/// How many instructions are retired at an event of a cycle, if the run is at this place after the cycle's step, or, if the
-/// cycle was broken off, was there before it. A restart has its own count, and what is loaded, also again, has none yet.
-fn count_in(event: &Event, place: Option<Place>) -> Option<u64> {
+/// How many instructions are retired at an event of a cycle, with the count after the cycle's step, or, if the cycle was
+/// broken off, before it. A restart has its own count, and what is loaded, also again, has none yet.
+fn count_in(event: &Event, retired: Option<RetiredCount>) -> Option<u64> {
     match event {
         Event::Restart { count, .. } => Some(*count),
         Event::Reload => Some(0),
-        Event::Cut { .. } => count_at(place),
-        Event::EpochEnd { .. } | Event::Commit { .. } | Event::Ended { .. } => match place {
-            Some(_) => count_at(place),
+        Event::Cut { .. } => count_at(retired),
+        Event::EpochEnd { .. } | Event::Commit { .. } | Event::Ended { .. } => match retired {
+            Some(_) => count_at(retired),
             None => Some(0),
         },
     }
@@ -84,16 +84,16 @@ fn add_cycle(
     alloc: Global,
     text: &mut String,
     losses: &mut Losses,
-    mark: &Mark,
+    event_cycle: &EventCycle,
     events: &Events,
     first: usize,
 ) -> Result<usize, AllocError> {
     let mut next = first;
-    for _ in 0..mark.told {
+    for _ in 0..event_cycle.told {
         if next < events.len() {
             let event = events.get(next);
-            let count = count_in(event, mark.place);
-            add_line(alloc, text, mark.cycle, count, event)?;
+            let count = count_in(event, event_cycle.retired);
+            add_line(alloc, text, event_cycle.cycle, count, event)?;
             losses.count(event, count);
             next += 1;
         }
@@ -112,18 +112,18 @@ pub fn add_lines(
     tally: &Tally,
     events: &Events,
 ) -> Result<Option<u64>, AllocError> {
-    let Some(marks) = tally.marks() else {
+    let Some(event_cycles) = tally.event_cycles() else {
         return Ok(None);
     };
     let mut losses = Losses { at: None, lost: 0 };
     let mut next = 0;
-    for mark in marks {
-        next = add_cycle(alloc, text, &mut losses, mark, events, next)?;
+    for event_cycle in event_cycles {
+        next = add_cycle(alloc, text, &mut losses, event_cycle, events, next)?;
     }
     let broken = tally.cycles().saturating_add(1);
     for i in next..events.len() {
         let event = events.get(i);
-        let count = count_in(event, tally.place());
+        let count = count_in(event, tally.retired());
         add_line(alloc, text, broken, count, event)?;
         losses.count(event, count);
     }

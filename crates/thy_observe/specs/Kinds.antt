@@ -34,31 +34,31 @@ kind_of (did.Engine engine.Idle) = kind.Nothing
 kind_of (did.Committed epoch overlapped) = kind.Committed
 kind_of did.Nothing = kind.Nothing
 
--- the place of a kind among all
-abbrev pub place_of : Kind → ℕ
-place_of kind.Boot = 0
-place_of kind.NvmDrain = 1
-place_of kind.DramDrain = 2
-place_of kind.Moved = 3
-place_of kind.Retired = 4
-place_of kind.Flushed = 5
-place_of kind.Merged = 6
-place_of kind.Promoted = 7
-place_of kind.Sealed = 8
-place_of kind.Copied = 9
-place_of kind.Page = 10
-place_of kind.State = 11
-place_of kind.Table = 12
-place_of kind.Barrier = 13
-place_of kind.Commit = 14
-place_of kind.Committed = 15
-place_of kind.Nothing = 16
+-- the index of a kind among all
+abbrev pub index_of : Kind → ℕ
+index_of kind.Boot = 0
+index_of kind.NvmDrain = 1
+index_of kind.DramDrain = 2
+index_of kind.Moved = 3
+index_of kind.Retired = 4
+index_of kind.Flushed = 5
+index_of kind.Merged = 6
+index_of kind.Promoted = 7
+index_of kind.Sealed = 8
+index_of kind.Copied = 9
+index_of kind.Page = 10
+index_of kind.State = 11
+index_of kind.Table = 12
+index_of kind.Barrier = 13
+index_of kind.Commit = 14
+index_of kind.Committed = 15
+index_of kind.Nothing = 16
 
--- a cycle is of the kind at this place
+-- a cycle is of the kind with this index
 abbrev pub is_at : ℕ → Taken → Bool
-is_at i t = place_of (kind_of t.stepped.did) == i
+is_at i t = index_of (kind_of t.stepped.did) == i
 
--- how many cycles are of the kind at this place
+-- how many cycles are of the kind with this index
 abbrev pub how_many : ℕ → List Taken → ℕ
 how_many i seen = count_by (is_at i) seen
 

@@ -1,4 +1,4 @@
 pub mod Kinds
-pub mod Marks
+pub mod EventCycles
 pub mod Tallied
 pub mod Trapping

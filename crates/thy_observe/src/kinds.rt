@@ -1,6 +1,6 @@
 //! The kinds of cycles.
 ghost use Rattle.std.specs.Prelude.{◌≡◌, ◌<◌};
-ghost use Rattle.thy_observe.specs.Kinds.{kind_of, place_of};
+ghost use Rattle.thy_observe.specs.Kinds.{kind_of, index_of};
 
 use thy_record::EngineStep;
 use thy_view::Did;
@@ -83,9 +83,9 @@ pub(crate) fn kind_of(did: Did) -> Kind
     }
 }
 
-/// The place of a kind among all.
-pub(crate) fn place_of(kind: Kind) -> usize
-    ensures place { result ≡ place_of kind }
+/// The index of a kind among all.
+pub(crate) fn index_of(kind: Kind) -> usize
+    ensures index { result ≡ index_of kind }
     ensures within { result < 17 }
 {
     match kind {

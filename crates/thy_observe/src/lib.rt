@@ -2,18 +2,18 @@
 //! were made its number and how many instructions were retired by then. It is proved to be the tally of the cycles that
 //! it has seen (`Tally`). And where a program trapped, and at what (`trap_of`).
 //!
-//! Open specs/Kinds.antt first, then specs/Marks.antt, and src/tally.rt. It stands on thy_isa, thy_record, thy_view and
+//! Open specs/Kinds.antt first, then specs/EventCycles.antt, and src/tally.rt. It stands on thy_isa, thy_record, thy_view and
 //! thy_run; on it stands the program observe.
 #![tactic(auto)]
 
 mod counting;
+mod event_cycle;
 mod kinds;
-mod place;
 mod tally;
 mod trap;
 
 pub use counting::{Calls, Counting, Counts};
+pub use event_cycle::{EventCycle, RetiredCount};
 pub use kinds::Kind;
-pub use place::{Mark, Place};
 pub use tally::Tally;
 pub use trap::{Trap, trap_of};

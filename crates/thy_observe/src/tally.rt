@@ -1,33 +1,33 @@
 //! The tally of a run's cycles.
 ghost use Rattle.std.specs.Prelude.{◌≡◌, ◌==◌, ◌++◌, ◌∷◌, [], false, if◌then◌else◌, ℕ, List, length, cond, count_by, MatchOption};
-ghost use Rattle.thy_observe.specs.Kinds.{place_of, has_waited, how_many, is_waiting};
-ghost use Rattle.thy_observe.specs.Marks.{marks_from, place_after};
+ghost use Rattle.thy_observe.specs.Kinds.{index_of, has_waited, how_many, is_waiting};
+ghost use Rattle.thy_observe.specs.EventCycles.{event_cycles_from, retired_after};
 ghost use Rattle.thy_observe.specs.Tallied.{IsTally};
 ghost use Rattle.thy_observe.specs.Trapping.{HasTrap, trap_of};
 ghost use Rattle.thy_isa.specs.Step.{State};
 ghost use Rattle.thy_run.specs.Watching.{CanSee, Sees, Taken, taken};
 
-use crate::kinds::{KINDS, Kind, kind_of, place_of};
-use crate::place::{Mark, Place, left, stands};
+use crate::event_cycle::{EventCycle, RetiredCount, retired_after_cut, retired_after_step};
+use crate::kinds::{KINDS, Kind, index_of, kind_of};
 use crate::trap::{Trap, trap_of};
 use std::alloc::Global;
 use thy_isa::MachState;
 use thy_run::Observer;
 use thy_view::{Stall, Stepped};
 
-/// How many cycles there were of each kind, and where the run was when events were made.
+/// How many cycles there were of each kind, and in which cycles events were made.
 #[derive(Drop)]
 pub struct Tally {
     /// How many cycles there were.
     cycles: u64,
-    /// How many there were of each kind, each at its place.
+    /// How many there were of each kind, by its index.
     kinds: [u64; KINDS],
     /// How many the engine took at the turn of the hart, which waited for it.
     waiting: u64,
-    /// Where the run is; none in a boot.
-    place: Option<Place>,
+    /// How many instructions are retired; none in a boot.
+    retired: Option<RetiredCount>,
     /// The cycles in which events were made.
-    marks: Vec<Mark>,
+    event_cycles: Vec<EventCycle>,
     /// Memory ran out for one of these.
     lost: bool,
     /// The step of the next cycle, if a cut is due after it.
@@ -46,12 +46,13 @@ fn waiting_in(stall: Option<Stall>) -> u64
     }
 }
 
-/// Adds the mark of a cycle if events were made in it; and answers whether a mark is lost, this one or an earlier one.
-fn add_mark(marks: &mut Vec<Mark>, lost: bool, mark: Mark) -> bool
+/// Adds a cycle if events were made in it, and returns whether one is lost, this one or an earlier one.
+fn add_event_cycle(event_cycles: &mut Vec<EventCycle>, lost: bool, event_cycle: EventCycle) -> bool
     ensures { result ≡ false → (lost ≡ false)
-        × (marks.new.items ≡ marks.old.items ++ (if mark.told == 0 then [] else mark ∷ [])) }
+        × (event_cycles.new.items ≡ event_cycles.old.items
+        ++ (if event_cycle.told == 0 then [] else event_cycle ∷ [])) }
 {
-    if mark.told != 0 && marks.push(mark).is_err() {
+    if event_cycle.told != 0 && event_cycles.push(event_cycle).is_err() {
         return true;
     }
     lost
@@ -66,8 +67,8 @@ impl Tally {
             cycles: 0,
             kinds: [0; KINDS],
             waiting: 0,
-            place: None,
-            marks: Vec::new(alloc),
+            retired: None,
+            event_cycles: Vec::new(alloc),
             lost: false,
             kept: None,
             trap: None,
@@ -80,18 +81,18 @@ impl Tally {
         ensures { Sees IsTally self.old self.new (taken stepped.now told fell) }
     {
         self.cycles = cycle;
-        let at = place_of(kind_of(stepped.did));
+        let at = index_of(kind_of(stepped.did));
         self.kinds[at] += 1;
         self.waiting += waiting_in(stepped.stall);
-        let place = stands(self.place, stepped.did);
-        self.place = left(place, fell);
-        let mark = Mark {
+        let retired = retired_after_step(self.retired, stepped.did);
+        self.retired = retired_after_cut(retired, fell);
+        let event_cycle = EventCycle {
             cycle,
-            place,
+            retired,
             told,
             fell,
         };
-        self.lost = add_mark(&mut self.marks, self.lost, mark);
+        self.lost = add_event_cycle(&mut self.event_cycles, self.lost, event_cycle);
     }
 
     /// How many cycles there were.
@@ -103,9 +104,9 @@ impl Tally {
 
     /// How many cycles there were of a kind.
     pub fn of(&self, kind: Kind) -> u64
-        ensures { (seen : List Taken) → IsTally self.now seen → result ≡ how_many (place_of kind) seen }
+        ensures { (seen : List Taken) → IsTally self.now seen → result ≡ how_many (index_of kind) seen }
     {
-        self.kinds[place_of(kind)]
+        self.kinds[index_of(kind)]
     }
 
     /// How many the engine took at the turn of the hart, which waited for it.
@@ -115,11 +116,11 @@ impl Tally {
         self.waiting
     }
 
-    /// Where the run is; none in a boot.
-    pub fn place(&self) -> Option<Place>
-        ensures { (seen : List Taken) → IsTally self.now seen → result ≡ place_after None seen }
+    /// How many instructions are retired; none in a boot.
+    pub fn retired(&self) -> Option<RetiredCount>
+        ensures { (seen : List Taken) → IsTally self.now seen → result ≡ retired_after None seen }
     {
-        self.place
+        self.retired
     }
 
     /// The trap of the plain machine, if it stopped by one.
@@ -130,13 +131,14 @@ impl Tally {
     }
 
     /// The cycles in which events were made; none if memory ran out for one of them.
-    pub fn marks(&self) -> Option<&[Mark]>
-        ensures { (seen : List Taken) → IsTally self.now seen → MatchOption result (Unit {0}) (λ ms. ms.now ≡ marks_from 1 None seen) }
+    pub fn event_cycles(&self) -> Option<&[EventCycle]>
+        ensures { (seen : List Taken) → IsTally self.now seen
+            → MatchOption result (Unit {0}) (λ cycles. cycles.now ≡ event_cycles_from 1 None seen) }
     {
         if self.lost {
             return None;
         }
-        Some(self.marks.as_slice())
+        Some(self.event_cycles.as_slice())
     }
 }
 
