@@ -1,0 +1,10 @@
+pub mod FitLemmas
+pub mod MapFaultLemmas
+pub mod HeadLemmas
+pub mod SlotLemmas
+pub mod PartsLemmas
+pub mod FreeLemmas
+pub mod MapLemmas
+pub mod FaultLemmas
+pub mod FileLemmas
+pub mod IndexLemmas

@@ -1,0 +1,178 @@
+-- Where the parts of a checkpoint go, and that it is one once they were issued.
+use Rattle.std.proofs.Common.{◌≡◌, ℕ, zero, suc, ◌+◌, ◌%◌, ◌^◌, ◌<◌, ◌≤◌, true, List, length, get_or, Contains, Option, None, refl, sym, ◌∙◌, ap, subst, arith}
+use Rattle.std.specs.List.{range_with_len}
+use Rattle.std.specs.Option.{option_or}
+use Rattle.std.proofs.lemmas.List.{length-map, get_or-map}
+use Rattle.std.proofs.lemmas.List.FromFn.{length-range_with_len, get_or-range_with_len}
+use Rattle.thy_base.specs.declared.block.Block.{Block}
+use Rattle.thy_base.specs.declared.config.Parameters.{Parameters}
+use Rattle.thy_base.specs.Device.{Device, block_at, newest, written_to}
+use Rattle.thy_base.specs.Geometry.{IsInRange, memory_blocks}
+use Rattle.thy_base.specs.Store.{page_of}
+use Rattle.thy_isa.specs.declared.state.CpuState.{CpuState}
+use Rattle.thy_isa.specs.OnBlocks.{state_from}
+use Rattle.thy_record.specs.declared.bad_image.BadImage.{BadImage}
+use Rattle.thy_record.specs.Commit.{commit_of, epoch_of}
+use Rattle.thy_record.proofs.ReadBackLemmas.{epoch_of-commit_of, is_zero-commit_of}
+use Rattle.thy_record.specs.Cpu.{IsRecordable, cpu_of_record}
+use Rattle.thy_record.specs.Decoded.{At}
+use Rattle.thy_record.specs.Tables.{Lists}
+use Rattle.thy_record.proofs.IssuingLemmas.{half}
+use Rattle.thy_record.proofs.TableFaultLemmas.{both_none}
+use Rattle.thy_crash.specs.Saved.{next_image}
+use Rattle.thy_crash.proofs.SavedLemmas.{next_image-commit}
+use Rattle.thy_protocol.specs.Issuing.{slot_of, ArePlaced, ArePartsOf, IsCheckpoint}
+use Rattle.thy_protocol.specs.Layout.{Layout}
+use Rattle.thy_protocol.proofs.IssuingLemmas.{slot_goes_on, issued_is_checkpoint}
+use Rattle.thy_journal_image.specs.Commit.{commit_fault}
+use Rattle.thy_journal_image.specs.Slots.{slot_block_of}
+use Rattle.thy_journal_image.proofs.HeadLemmas.{commit_fault-commit_of}
+use Rattle.thy_shadow_image.specs.Places.{slot_blocks, slot_place, first_pool, pool_pages, image_blocks, pool_place, pool_page, place_of}
+use Rattle.thy_shadow_image.specs.Header.{header_fault}
+use Rattle.thy_shadow_image.specs.Slots.{IsMap, table_in, slot_fault}
+use Rattle.thy_shadow_image.specs.Layout.{shadow_layouts}
+use Rattle.thy_shadow_image.specs.CheckpointParts.{ReadsBack, memory_places, parts_by, IsIssuing, IsIssuedCheckpoint}
+use Rattle.thy_shadow_image.proofs.SlotLemmas.{slot_reads_back}
+
+-- ---- the places of memory
+
+pub length-memory_places : (p : Parameters) (table : List (Option ℕ)) → (let xs : List ℕ = memory_places p table in length xs) ≡ memory_blocks p
+length-memory_places p table =
+    length-map (range_with_len 0 (memory_blocks p)) (place_of p table) ∙ length-range_with_len 0 (memory_blocks p)
+
+pub memory_place : (p : Parameters) (table : List (Option ℕ)) (k otherwise : ℕ) → k < memory_blocks p
+    → (let xs : List ℕ = memory_places p table in get_or xs k otherwise) ≡ place_of p table k
+memory_place p table k otherwise l =
+    let plain : 0 + k ≡ k = omega arith in
+    get_or-map (place_of p table) (range_with_len 0 (memory_blocks p)) k 0 otherwise
+    (omega (arith, length-range_with_len 0 (memory_blocks p)))
+    ∙ ap (place_of p table) (get_or-range_with_len 0 (memory_blocks p) k 0 l ∙ plain)
+
+-- each is that of a block
+pub memory_place_of : (p : Parameters) (table : List (Option ℕ)) (x : ℕ) → Contains (memory_places p table) x
+    → (b : ℕ) × (b < memory_blocks p) × (place_of p table b ≡ x)
+memory_place_of p table x (k, l, is) =
+    let inside : k < memory_blocks p = omega (arith, length-memory_places p table) in
+    (k, inside, sym (memory_place p table k x inside) ∙ is)
+
+-- a block of memory stands in the page of the pool that the map lists for its page
+pub page_listed : (p : Parameters) (table : List (Option ℕ)) (b : ℕ) → IsMap p table → b < memory_blocks p
+    → (q : ℕ) × Lists table (page_of b) q × (place_of p table b ≡ pool_place p q (b % 64))
+page_listed p table b h l =
+    let low : page_of b < p.pages = omega arith in
+    let of = h.mapped (page_of b) low in
+    let lists = of.1 in
+    (of.0, lists, ap (λ e. pool_place p (pool_page e) (b % 64)) lists.is)
+
+-- so its place lies after the slots, within the image
+pub place_behind : (p : Parameters) (table : List (Option ℕ)) (b : ℕ) → IsMap p table → b < memory_blocks p
+    → (first_pool p ≤ place_of p table b) × (place_of p table b < image_blocks p)
+place_behind p table b h l =
+    let of = page_listed p table b h l in
+    let q : ℕ = of.0 in
+    let small : q < pool_pages p = h.in_pool (page_of b) q of.1 in
+    let low : first_pool p ≤ pool_place p q (b % 64) = omega arith in
+    let high : pool_place p q (b % 64) < image_blocks p = omega (arith, small) in
+    (subst (λ y. first_pool p ≤ y) (sym of.2) low, subst (λ y. y < image_blocks p) (sym of.2) high)
+
+pub memory_behind : (p : Parameters) (table : List (Option ℕ)) (x : ℕ) → IsMap p table → Contains (memory_places p table) x
+    → (first_pool p ≤ x) × (x < image_blocks p)
+memory_behind p table x h inside =
+    let of = memory_place_of p table x inside in
+    let behind = place_behind p table of.0 h of.1 in
+    let low = behind.0 in
+    let high = behind.1 in
+    let e = of.2 in
+    (subst (λ y. first_pool p ≤ y) e low, subst (λ y. y < image_blocks p) e high)
+
+-- ---- the slots
+
+pub slot_behind : (p : Parameters) (s k : ℕ) → s < 2 → k < slot_blocks p → (2 ≤ slot_place p s + k) × (slot_place p s + k < first_pool p)
+slot_behind p zero k l m = (omega arith, omega arith)
+slot_behind p (suc zero) k l m = (omega arith, omega arith)
+slot_behind p (suc (suc s)) k l m = absurd (omega arith)
+
+pub slot_fits : (p : Parameters) (s : ℕ) → s < 2 → slot_place p s + slot_blocks p ≤ image_blocks p
+slot_fits p zero l = omega arith
+slot_fits p (suc zero) l = omega arith
+slot_fits p (suc (suc s)) l = absurd (omega arith)
+
+pub ArePlaced-parts : (p : Parameters) (cpu : CpuState) (table : List (Option ℕ)) (epoch : ℕ) → IsMap p table
+    → ArePlaced (image_blocks p) (parts_by p cpu table epoch)
+ArePlaced-parts p cpu table epoch h = record {
+  slot_behind = omega arith;
+  slot_inside = slot_fits p (epoch % 2) (half epoch);
+  memory_behind = λ x inside. let behind = (memory_behind p table x h inside).0 in omega (arith, behind);
+  memory_inside = λ x inside. (memory_behind p table x h inside).1;
+  apart = λ k l inside.
+      let before = (slot_behind p (epoch % 2) k (half epoch) l).1 in
+      let behind = (memory_behind p table (slot_place p (epoch % 2) + k) h inside).0 in
+      omega (arith, before, behind);
+}
+
+-- one more after the write of the next
+pub slot_grows : (p : Parameters) (old new : Device) (cpu : CpuState) (table : List (Option ℕ)) (epoch : ℕ) (memory : List Block) (k : ℕ)
+    → IsIssuing p old cpu table epoch memory k → k < slot_blocks p
+    → new ≡ written_to old (slot_place p (epoch % 2) + k) (slot_block_of p cpu table epoch k) → IsIssuing p new cpu table epoch memory (k + 1)
+slot_grows p old new cpu table epoch memory k h l is = record {
+  whole = h.whole;
+  parts = slot_goes_on (image_blocks p) (parts_by p cpu table epoch) old new memory k (ArePlaced-parts p cpu table epoch h.whole) h.parts l is;
+}
+
+-- ---- the whole checkpoint
+
+all_none : (a b c : Option BadImage) → a ≡ None → b ≡ None → c ≡ None → option_or a (option_or b c) ≡ None
+all_none a b c h k l = both_none a (option_or b c) h (both_none b c k l)
+
+module _ (p : Parameters) (ceiling : ℕ) (cpu : CpuState) (table : List (Option ℕ)) (epoch : ℕ) (range : IsInRange p)
+    (recordable : IsRecordable p ceiling cpu) (most : ceiling ≤ 2 ^ 64) (below : epoch < ceiling) (whole : IsMap p table) where
+  abbrev slot : List Block
+  slot = slot_of (parts_by p cpu table epoch)
+
+  small : epoch < 2 ^ 64
+  small = omega arith
+
+  epoch_is : epoch_of (commit_of epoch) ≡ epoch
+  epoch_is = epoch_of-commit_of epoch small
+
+  pub back : ReadsBack p ceiling cpu table epoch slot
+  back = slot_reads_back p ceiling cpu table epoch range recordable whole most small
+
+  pub parts_of : ArePartsOf (shadow_layouts p ceiling) (commit_of epoch) (parts_by p cpu table epoch)
+  parts_of = record {
+    placed = ArePlaced-parts p cpu table epoch whole;
+    slot_place = ap (λ (e : ℕ). slot_place p (e % 2)) epoch_is;
+    slot_blocks = refl;
+    memory = ap (memory_places p) back.table_back;
+  }
+
+  pub no_fault : (header : Block) → header_fault header p true ≡ None
+      → option_or (header_fault header p true) (option_or (commit_fault (commit_of epoch) ceiling) (slot_fault p ceiling (epoch_of (commit_of epoch)) slot)) ≡ None
+  no_fault header fits =
+      all_none (header_fault header p true) (commit_fault (commit_of epoch) ceiling) (slot_fault p ceiling (epoch_of (commit_of epoch)) slot) fits
+      (commit_fault-commit_of epoch ceiling below most)
+      (ap (λ (e : ℕ). slot_fault p ceiling e slot) epoch_is ∙ back.faultless)
+
+pub issued_decodes : (p : Parameters) (ceiling : ℕ) (n : Device) (cpu : CpuState) (table : List (Option ℕ)) (epoch : ℕ) (memory : List Block)
+    → IsInRange p → IsRecordable p ceiling cpu → ceiling ≤ 2 ^ 64 → epoch < ceiling
+    → IsIssuing p n cpu table epoch memory (slot_blocks p) → header_fault (newest n 0) p true ≡ None
+    → IsIssuedCheckpoint p ceiling n cpu table epoch memory
+issued_decodes p ceiling n cpu table epoch memory range recordable most below h header =
+    let l : Layout = shadow_layouts p ceiling in
+    let all : IsCheckpoint l n (commit_of epoch) (parts_by p cpu table epoch) memory =
+    issued_is_checkpoint l n (commit_of epoch) (parts_by p cpu table epoch) memory (parts_of p ceiling cpu table epoch range recordable most below h.whole) h.parts
+    (is_zero-commit_of epoch) (no_fault p ceiling cpu table epoch range recordable most below h.whole (newest n 0) header) in
+    let epoch_same = epoch_is p ceiling cpu table epoch range recordable most below h.whole in
+    let reads = back p ceiling cpu table epoch range recordable most below h.whole in
+    let commit_same : block_at (next_image n (commit_of epoch)) 1 ≡ commit_of epoch =
+    next_image-commit (commit_of epoch) n (omega (arith, h.parts.sized)) in
+    record {
+      told = record {
+        of_epoch = ap epoch_of commit_same ∙ epoch_same;
+        table_is = ap (table_in p) all.slot ∙ reads.table_back;
+        whole = h.whole;
+      };
+      decodes = all.decodes ∙ ap (λ (e : ℕ). At e (state_from p (cpu_of_record (slot_of (parts_by p cpu table epoch))) memory)) epoch_same
+          ∙ ap (λ (c : CpuState). At epoch (state_from p c memory)) reads.cpu_back;
+      issued = all.issued;
+    }

@@ -1,0 +1,28 @@
+//! Laws of the layout, each the contract of a function that does nothing.
+ghost use Rattle.thy_shadow_image.specs.Free.{FreeIsNotLooked, NothingIsLooked};
+ghost use Rattle.thy_shadow_image.specs.CheckpointParts.{HeaderReadsBack, SlotReadsBack, FaultlessIsMap, IssuedDecodes};
+
+/// A header reads back as one without a fault.
+pub fn a_header_reads_back()
+    ensures { HeaderReadsBack }
+{}
+
+/// Processor and map read back from a slot as they were written, without a fault. The map of a slot without a fault
+/// lists a page of the pool for each page of memory and for no other, none twice.
+pub fn a_slot_reads_back()
+    ensures slot { SlotReadsBack }
+    ensures map { FaultlessIsMap }
+{}
+
+/// With the whole slot issued, and under a header without a fault, the next image decodes to the checkpoint and names
+/// its map, and all blocks that determine it were issued, except the commit block.
+pub fn a_checkpoint_is_issued()
+    ensures { IssuedDecodes }
+{}
+
+/// The other slot, and pages of the pool that the map does not list, do not decide what an image means. If it has no
+/// checkpoint, nothing but the commit block does.
+pub fn free_is_not_looked_at()
+    ensures free { FreeIsNotLooked }
+    ensures nothing { NothingIsLooked }
+{}

@@ -1,0 +1,58 @@
+//! The numbers of an image's blocks.
+ghost use Rattle.std.specs.Prelude.{◌≡◌, ◌<◌};
+ghost use Rattle.thy_base.specs.Geometry.{IsInRange};
+ghost use Rattle.thy_shadow_image.specs.Places.{map_blocks as blocks_of_map, slot_blocks as blocks_of_slot, slot_place, pool_pages as pages_of_pool, pool_place, image_blocks};
+
+use thy_base::Geometry;
+
+/// How many blocks an image has.
+pub fn blocks(geometry: &Geometry) -> u64
+    ensures blocks { result ≡ image_blocks geometry.now }
+    ensures in_range { IsInRange geometry.now }
+{
+    2 + 2 * slot_blocks(geometry) + 64 * pool_pages(geometry)
+}
+
+/// How many blocks a map has, eight pages a block.
+pub fn map_blocks(geometry: &Geometry) -> u64
+    ensures blocks { result ≡ blocks_of_map geometry.now }
+    ensures in_range { IsInRange geometry.now }
+{
+    (geometry.numbers().pages + 7) / 8
+}
+
+/// How many blocks each of the two slots has: the processor's record and the map.
+pub fn slot_blocks(geometry: &Geometry) -> u64
+    ensures blocks { result ≡ blocks_of_slot geometry.now }
+    ensures in_range { IsInRange geometry.now }
+{
+    geometry.record_blocks() + map_blocks(geometry)
+}
+
+/// How many pages the pool has: memory's, and one for each frame.
+pub fn pool_pages(geometry: &Geometry) -> u64
+    ensures pages { result ≡ pages_of_pool geometry.now }
+    ensures in_range { IsInRange geometry.now }
+{
+    let p = geometry.numbers();
+    p.pages + p.ptt
+}
+
+/// The first block of slot `s`, 0 or 1.
+pub fn slot(geometry: &Geometry, s: u64) -> u64
+    requires { s < 2 }
+    ensures place { result ≡ slot_place geometry.now s }
+    ensures in_range { IsInRange geometry.now }
+{
+    2 + s * slot_blocks(geometry)
+}
+
+/// Block `c` of page `q` of the pool.
+pub fn pool(geometry: &Geometry, q: u64, c: u64) -> u64
+    requires page { q < pages_of_pool geometry.now }
+    requires block { c < 64 }
+    ensures place { result ≡ pool_place geometry.now q c }
+    ensures in_range { IsInRange geometry.now }
+{
+    2 + 2 * slot_blocks(geometry) + (64 * q + c)
+}

@@ -1,0 +1,35 @@
+//! The faults of a slot, in its bytes: the processor's record of 320, and after it the map.
+ghost use Rattle.std.specs.Prelude.{◌≡◌, ◌*◌, length};
+ghost use Rattle.thy_record.specs.Files.{blocks_of};
+ghost use Rattle.thy_shadow_image.specs.Places.{slot_blocks};
+ghost use Rattle.thy_shadow_image.specs.Slots.{table_in, table_fault as fault_of_table, slot_fault as fault_of_slot};
+
+use crate::map::{index_fault, map_in};
+use thy_base::Geometry;
+use thy_record::{BadImage, status_fault, twice_fault, word_in};
+
+// The first fault of the map in these bytes of a slot, if it has one.
+#[tactic(auto, unfolding(crate::specs::Slots::table_fault))]
+fn table_fault(slot: &[u8], geometry: &Geometry) -> Option<BadImage>
+    requires { length slot.now ≡ 64 * slot_blocks geometry.now }
+    ensures { result ≡ fault_of_table geometry.now (table_in geometry.now (blocks_of slot.now)) }
+{
+    let map = map_in(slot, geometry);
+    index_fault(slot, geometry).or(twice_fault(map, 0))
+}
+
+/// The first fault of the slot with these bytes under a commit block of this epoch, if it has one: a record of
+/// another epoch, a map that no checkpoint has, a status without meaning or a count that is not below the ceiling,
+/// a console longer than its pages.
+pub fn slot_fault(slot: &[u8], epoch: u64, geometry: &Geometry, ceiling: u64) -> Option<BadImage>
+    requires { length slot.now ≡ 64 * slot_blocks geometry.now }
+    ensures { result ≡ fault_of_slot geometry.now ceiling epoch (blocks_of slot.now) }
+{
+    if word_in(slot, 38) != epoch {
+        return Some(BadImage::Commit);
+    }
+    if let Some(bad) = table_fault(slot, geometry) {
+        return Some(bad);
+    }
+    status_fault(slot, geometry, ceiling)
+}
