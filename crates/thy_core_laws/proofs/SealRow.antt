@@ -5,7 +5,7 @@ use Rattle.thy_base.specs.declared.block.Block.{Block}
 use Rattle.thy_base.specs.declared.cause.EndCause.{EndCause}
 use Rattle.thy_base.specs.declared.mark.Mark.{Mark}
 use Rattle.thy_base.specs.Device.{Device}
-use Rattle.thy_base.specs.Geometry.{IsInRange, memory_blocks, program_size, console_room}
+use Rattle.thy_base.specs.Geometry.{IsInRange, memory_blocks, console_room}
 use Rattle.thy_base.specs.Marks.{mark}
 use Rattle.thy_base.proofs.RangeLemmas.{epoch_least}
 use Rattle.thy_cache.specs.Contents.{dirty_count, IsOpenForFlush}
@@ -20,7 +20,6 @@ use Rattle.thy_hart.specs.Moments.{IsOpenFor}
 use Rattle.thy_hart.specs.OneStep.{current, coming, coming_by}
 use Rattle.thy_isa.specs.OnBlocks.{state_from}
 use Rattle.thy_isa.specs.Step.{State}
-use Rattle.thy_isa.specs.Storable.{IsStorable}
 use Rattle.thy_view.specs.declared.did.Did.TheVariants.{Sealed}
 use Rattle.thy_view.specs.Action.{Rest}
 use Rattle.thy_view.specs.Origin.{Origin, at as at_count, runs_at}

@@ -1,5 +1,5 @@
 -- Files of the journal.
-use Rattle.std.proofs.Common.{◌≡◌, ℕ, ◌-◌, ◌*◌, ◌/◌, ◌%◌, ◌<◌, ◌≤◌, ◌==◌, ◌&&◌, Bool, true, false, nat_lt, if◌then◌else◌, List, [], ◌++◌, length, map, replicate, Option, Some, None, refl, sym, ◌∙◌, ap, append-nil, subst, arith}
+use Rattle.std.proofs.Common.{◌≡◌, ℕ, ◌-◌, ◌%◌, ◌<◌, ◌≤◌, ◌==◌, nat_lt, List, ◌++◌, length, replicate, None, ◌∙◌, ap, append-nil, subst, arith}
 use Rattle.std.specs.List.{All}
 use Rattle.std.specs.Option.{option_or}
 use Rattle.std.proofs.lemmas.Bool.{ltb-true}
@@ -18,7 +18,7 @@ use Rattle.thy_record.specs.Slots.{epoch_fault, status_fault}
 use Rattle.thy_record.proofs.FileLemmas.{length-blocks_of}
 use Rattle.thy_record.proofs.ImageLemmas.{below_higher, commit_asks, commit_gives, status_fault-higher}
 use Rattle.thy_record.proofs.TableFaultLemmas.{neither, both_none}
-use Rattle.thy_protocol.specs.Layout.{Layout, blocks_at, slot_places, memory_places, slot_in, memory_in, is_sized, IsWhole}
+use Rattle.thy_protocol.specs.Layout.{Layout, slot_places, memory_places, slot_in, memory_in, is_sized}
 use Rattle.thy_protocol.proofs.LayoutLemmas.{decode_by-whole}
 use Rattle.thy_journal_image.specs.Commit.{commit_fault}
 use Rattle.thy_journal_image.specs.Files.{decode_file}

@@ -1,5 +1,5 @@
 -- Files of the scheme of both tables.
-use Rattle.std.proofs.Common.{◌≡◌, ◌⊎◌, ℕ, ◌+◌, ◌-◌, ◌*◌, ◌/◌, ◌%◌, ◌<◌, ◌≤◌, ◌==◌, ◌&&◌, ◌||◌, Bool, true, false, nat_lt, if◌then◌else◌, List, ◌++◌, length, replicate, Option, Some, None, Ok, refl, sym, ◌∙◌, ap, subst, inl, inr, arith}
+use Rattle.std.proofs.Common.{◌≡◌, ◌⊎◌, ℕ, ◌-◌, ◌*◌, ◌/◌, ◌<◌, ◌≤◌, ◌==◌, ◌&&◌, ◌||◌, Bool, true, false, nat_lt, List, ◌++◌, length, replicate, refl, sym, ◌∙◌, ap, subst, inl, inr, arith}
 use Rattle.std.specs.List.{All}
 use Rattle.std.specs.Option.{option_or}
 use Rattle.std.proofs.lemmas.Bool.{eqb-true, ltb-true}
@@ -7,11 +7,8 @@ use Rattle.thy_base.specs.declared.block.Block.{Block}
 use Rattle.thy_base.specs.declared.config.Parameters.{Parameters}
 use Rattle.thy_base.specs.Device.{zero_block, block_at}
 use Rattle.thy_base.specs.Places.{blocks_one, image_blocks}
-use Rattle.thy_flat.specs.Flat.{flat}
 use Rattle.thy_isa.specs.Step.{State}
 use Rattle.thy_isa.specs.Storable.{IsByte}
-use Rattle.thy_record.specs.declared.bad_image.BadImage.TheVariants.{Commit}
-use Rattle.thy_record.specs.declared.file.Found.TheVariants.{At as FoundAt}
 use Rattle.thy_record.specs.Commit.{epoch_of, version_of, is_named, has_zero_rest, commit_fault}
 use Rattle.thy_record.specs.Decoded.{At}
 use Rattle.thy_record.specs.Files.{blocks_of, decode_file, found_in}
@@ -23,7 +20,7 @@ use Rattle.thy_record.proofs.ImageLemmas.{IsDecoded-at, decode-filled_up, decode
 use Rattle.thy_record.proofs.RestoredLemmas.{IsWholeFile-found, length-memory_in}
 use Rattle.thy_record.proofs.TableFaultLemmas.{neither}
 use Rattle.thy_image.specs.Saved.{CanBegin}
-use Rattle.thy_image.proofs.BlockLemmas.{AllLong-blocks_of, flat-blocks_of, AreOfBytes-blocks_of, AreOfBytes-picked, found_at}
+use Rattle.thy_image.proofs.BlockLemmas.{AllLong-blocks_of, flat-blocks_of, AreOfBytes-blocks_of, AreOfBytes-picked}
 use Rattle.thy_image.proofs.StateLemmas.{CanBegin-made}
 
 -- an image is as long as one of version 2, or shorter

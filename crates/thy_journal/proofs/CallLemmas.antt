@@ -1,5 +1,5 @@
 -- What the calls make of the journal, put together from what its parts say.
-use Rattle.std.proofs.Common.{◌≡◌, ℕ, ◌<◌, ◌≤◌, Bool, true, false, if◌then◌else◌, List, suc, [], ◌∷◌, length, Option, Some, None, Result, Ok, Err, IfOk, OnOk, OnErr, refl, sym, ◌∙◌, ap, subst, inl, inr, arith}
+use Rattle.std.proofs.Common.{◌≡◌, ℕ, ◌<◌, Bool, true, false, if◌then◌else◌, List, suc, [], ◌∷◌, length, None, Result, Ok, Err, IfOk, OnOk, OnErr, refl, sym, ◌∙◌, ap, subst, inl, inr, arith}
 use Rattle.std.proofs.lemmas.List.FromFn.{length-map-range_with_len, get_or-map-range_with_len}
 use Rattle.thy_base.specs.declared.block.Block.{Block}
 use Rattle.thy_base.specs.declared.config.Parameters.{Parameters}
@@ -20,22 +20,20 @@ use Rattle.thy_boot.specs.declared.stage.Stage.{Stage}
 use Rattle.thy_boot.specs.declared.stage.Stage.TheVariants.{Reads, Loads, Over}
 use Rattle.thy_boot.specs.declared.stage.End.TheVariants.{Restored, Loaded}
 use Rattle.thy_boot.specs.Boot.{Booting, answer_of}
-use Rattle.thy_boot.specs.Steps.{Steps, TakesStep}
+use Rattle.thy_boot.specs.Steps.{TakesStep}
 use Rattle.thy_boot.proofs.StepMoveLemmas.{steps_move}
-use Rattle.thy_scheme.specs.declared.boot_step.BootStep.{BootStep as SchemeStep}
-use Rattle.thy_scheme.specs.Scheme.{CanRun, IsBooting}
-use Rattle.thy_journal_image.specs.Places.{image_blocks}
+use Rattle.thy_scheme.specs.Scheme.{IsBooting}
 use Rattle.thy_log.specs.Holding.{works, homes}
 use Rattle.thy_log.specs.Items.{is_applying}
-use Rattle.thy_log.specs.Progress.{Progress, Fits, action_next, engine_next, state_next, item_of, state_after}
+use Rattle.thy_log.specs.Progress.{Progress, Fits, action_next, engine_next, state_next, item_of}
 use Rattle.thy_log.specs.State.{State, IsSoundState, entry_for, home_of, work_of}
 use Rattle.thy_refill.specs.Filling.{filling_journal}
 use Rattle.thy_refill.proofs.LawLemmas.{log_is_filled}
-use Rattle.thy_journal_laws.specs.Journal.{Journal as Value, IsOf, committed_in}
+use Rattle.thy_journal_laws.specs.Journal.{Journal as Value, committed_in}
 use Rattle.thy_journal_laws.specs.Stays.{StaysJournal}
-use Rattle.thy_journal_laws.specs.Taken.{taken, device_taken, step_of}
+use Rattle.thy_journal_laws.specs.Taken.{step_of}
 use Rattle.thy_journal_laws.proofs.AfterLemmas.{p_after}
-use Rattle.thy_journal_scheme.specs.Boots.{booted, engine_at, step_of as answered, result_of}
+use Rattle.thy_journal_scheme.specs.Boots.{engine_at, step_of as answered, result_of}
 use Rattle.thy_journal_scheme.specs.Scheme.{journal_scheme}
 use Rattle.thy_journal_scheme.proofs.StayLemmas.{same-stays}
 use Rattle.thy_journal.specs.Calls.{LoadsCommitted, TakesItem, TakesBootStep}

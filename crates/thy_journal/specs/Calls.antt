@@ -6,13 +6,13 @@ use Rattle.thy_base.specs.declared.config.Parameters.{Parameters}
 use Rattle.thy_base.specs.declared.nvm.NvmError.{NvmError}
 use Rattle.thy_base.specs.declared.store.Stored.{Stored}
 use Rattle.thy_base.specs.declared.store.Stored.TheVariants.{Done}
-use Rattle.thy_base.specs.Device.{Device, HasFailed}
+use Rattle.thy_base.specs.Device.{Device}
 use Rattle.thy_dram.specs.Contents.{Contents}
 use Rattle.thy_isa.specs.Step.{state_of}
 use Rattle.thy_record.specs.declared.engine_step.EngineStep.{EngineStep}
 use Rattle.thy_record.specs.declared.start.Start.{Start}
-use Rattle.thy_view.specs.Action.{after, FailsTo}
-use Rattle.thy_boot.specs.Boot.{Booting, new_boot, answer_of}
+use Rattle.thy_view.specs.Action.{FailsTo}
+use Rattle.thy_boot.specs.Boot.{new_boot, answer_of}
 use Rattle.thy_boot.specs.Steps.{TakesStep}
 use Rattle.thy_scheme.specs.declared.boot_step.BootStep.{BootStep}
 use Rattle.thy_log.specs.Items.{is_under_way, is_applying}

@@ -1,23 +1,18 @@
 -- What every item leaves of log, engine and header.
-use Rattle.std.proofs.Common.{◌≡◌, ◌≢◌, ℕ, zero, suc, ◌+◌, ◌*◌, ◌%◌, ◌<◌, ◌≤◌, nat_lt, Bool, true, false, if◌then◌else◌, length, Option, Some, None, refl, sym, ◌∙◌, ap, subst, arith}
+use Rattle.std.proofs.Common.{◌≡◌, ℕ, ◌+◌, ◌<◌, nat_lt, Bool, true, false, if◌then◌else◌, length, refl, sym, ◌∙◌, ap, arith}
 use Rattle.std.proofs.lemmas.Bool.{ltb-true}
-use Rattle.thy_base.specs.declared.block.Block.{Block}
 use Rattle.thy_base.specs.declared.config.Parameters.{Parameters}
-use Rattle.thy_base.specs.Device.{Device, newest, written_to, settled}
-use Rattle.thy_base.proofs.DeviceLemmas.{length-written_to, length-settled, length-drained, newest-written_to_other, newest-settled}
-use Rattle.thy_table.specs.Listing.{Listing, IsListing, entry_at, lists, mapped, free_count}
-use Rattle.thy_table.proofs.ListingLaws.{IsListing-once}
+use Rattle.thy_base.specs.Device.{Device}
+use Rattle.thy_base.proofs.DeviceLemmas.{length-written_to, length-settled, length-drained}
+use Rattle.thy_table.specs.Listing.{IsListing, mapped}
 use Rattle.thy_view.specs.Action.{Action, Rest, ReadAt, WriteAt, Barrier, Drain, after}
 use Rattle.thy_view.specs.Origin.{Origin}
 use Rattle.thy_journal_image.specs.Places.{slot_blocks, image_blocks}
-use Rattle.thy_log.specs.declared.entry.Listed.{Listed}
-use Rattle.thy_log.specs.declared.stage.JournalStage.{JournalStage}
-use Rattle.thy_log.specs.declared.stage.JournalStage.TheVariants.{Nothing, Journal, Slot, Settle, Commit, Confirm, Home}
-use Rattle.thy_log.specs.Items.{Item, NoItem, JournalItem, SlotItem, SettleItem, CommitItem, ConfirmItem, HomeItem, ReleaseItem, item, next_after}
+use Rattle.thy_log.specs.declared.stage.JournalStage.TheVariants.{Slot, Settle}
+use Rattle.thy_log.specs.Items.{Item, NoItem, JournalItem, SlotItem, SettleItem, CommitItem, ConfirmItem, HomeItem, ReleaseItem, next_after}
 use Rattle.thy_log.specs.Keys.{block_key, freed}
-use Rattle.thy_log.specs.Progress.{Progress, IsSoundProgress, Fits, action_of, state_after}
-use Rattle.thy_log.specs.State.{State, IsSoundState, IsSized}
-use Rattle.thy_log.specs.Stores.{released}
+use Rattle.thy_log.specs.Progress.{Progress, action_of, state_after}
+use Rattle.thy_log.specs.State.{State, IsSoundState}
 use Rattle.thy_log.proofs.StateLemmas.{IsSoundState-table, length-mapped}
 use Rattle.thy_journal_laws.specs.Sound.{IsHeld}
 use Rattle.thy_journal_laws.proofs.WorkLemmas.{none_listed}

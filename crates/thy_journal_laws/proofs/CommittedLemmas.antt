@@ -1,27 +1,26 @@
 -- Memory as the committed checkpoint has it, and what loads give, from item to item.
-use Rattle.std.proofs.Common.{◌≡◌, ◌≢◌, ℕ, ◌+◌, ◌%◌, ◌<◌, ◌≤◌, nat_lt, Bool, true, false, if◌then◌else◌, List, length, Option, Some, None, refl, sym, ◌∙◌, ap, subst, inl, inr, arith}
+use Rattle.std.proofs.Common.{◌≡◌, ◌≢◌, ℕ, ◌+◌, ◌%◌, ◌<◌, true, Option, Some, None, refl, ◌∙◌, ap, subst, arith}
 use Rattle.thy_base.specs.declared.block.Block.{Block}
 use Rattle.thy_base.specs.declared.config.Parameters.{Parameters}
 use Rattle.thy_base.specs.Device.{Device, newest, written_to, settled}
 use Rattle.thy_base.specs.Geometry.{memory_blocks}
-use Rattle.thy_record.specs.Tables.{Lists, entry_of}
+use Rattle.thy_record.specs.Tables.{Lists}
 use Rattle.thy_record.proofs.EntryLemmas.{entry_of-Some, entry_of-None}
 use Rattle.thy_record.proofs.IssuingLemmas.{half}
 use Rattle.thy_record.proofs.ImageLemmas.{map-alike}
 use Rattle.thy_view.specs.Action.{after}
-use Rattle.thy_journal_image.specs.Places.{slot_blocks, slot_place, image_blocks, first_home, home_place, journal_place}
+use Rattle.thy_journal_image.specs.Places.{slot_blocks, slot_place, first_home, home_place, journal_place}
 use Rattle.thy_record.specs.Commit.{commit_of}
 use Rattle.thy_journal_image.proofs.PartsLemmas.{slot_behind}
 use Rattle.thy_log.specs.declared.stage.JournalStage.{JournalStage}
 use Rattle.thy_log.specs.declared.stage.JournalStage.TheVariants.{Nothing, Journal, Slot, Settle, Commit, Confirm, Home}
 use Rattle.thy_log.specs.Holding.{works, homes}
-use Rattle.thy_log.specs.Items.{Item, JournalItem, SlotItem, HomeItem, ReleaseItem, item, is_under_way, is_applying, next_live, journal_or_slot, home_or_release}
-use Rattle.thy_log.specs.Progress.{Progress, action_of, block_listed, slot_block, state_after}
+use Rattle.thy_log.specs.Items.{Item, HomeItem, item, next_live, journal_or_slot}
+use Rattle.thy_log.specs.Progress.{Progress, action_of, block_listed, slot_block}
 use Rattle.thy_log.specs.State.{State, IsSoundState, IsSized, table_of, entry_for, buffer_of, home_of, work_by, work_of}
 use Rattle.thy_log.specs.Stores.{released}
-use Rattle.thy_log.proofs.CycleLemmas.{live_at}
 use Rattle.thy_log.proofs.TableLemmas.{live_lists, listed_below, entry_for-is}
-use Rattle.thy_journal_laws.specs.Checkpoints.{AreHome, HasWrittenBefore, is_sealing}
+use Rattle.thy_journal_laws.specs.Checkpoints.{AreHome, is_sealing}
 use Rattle.thy_journal_laws.proofs.WorkLemmas.{works_same, homes_same, home_over, home_settled, works-released}
 
 module _ (e : Progress) (s : State) (m : Device) (sound : IsSoundState s) (sized : IsSized s m) (same : s.p ≡ e.p) where

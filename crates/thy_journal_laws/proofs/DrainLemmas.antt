@@ -1,5 +1,5 @@
 -- What is said of journal and NVM stays while writes of either device land.
-use Rattle.std.proofs.Common.{◌≡◌, ℕ, ◌+◌, ◌*◌, ◌%◌, ◌<◌, ◌≤◌, Bool, true, false, if◌then◌else◌, List, length, map, Option, Some, None, refl, sym, ◌∙◌, ap, subst, arith}
+use Rattle.std.proofs.Common.{◌≡◌, ℕ, ◌%◌, ◌<◌, Bool, true, false, if◌then◌else◌, List, length, ◌∙◌, ap, arith}
 use Rattle.thy_base.specs.declared.block.Block.{Block}
 use Rattle.thy_base.specs.declared.config.Parameters.{Parameters}
 use Rattle.thy_base.specs.Device.{Device, newest}
@@ -10,7 +10,7 @@ use Rattle.thy_crash.proofs.SparesLemmas.{Spares-no_more}
 use Rattle.thy_isa.specs.OnBlocks.{state_from}
 use Rattle.thy_record.specs.Tables.{Lists}
 use Rattle.thy_record.proofs.EntryLemmas.{Lists-inside}
-use Rattle.thy_view.specs.Origin.{Origin, at}
+use Rattle.thy_view.specs.Origin.{Origin}
 use Rattle.thy_protocol.specs.Layout.{looked_by}
 use Rattle.thy_protocol.specs.Moves.{IsKeeping, standing, Goes}
 use Rattle.thy_protocol.proofs.KeepsLemmas.{IsKeeping-move}
@@ -27,7 +27,7 @@ use Rattle.thy_log.specs.Progress.{Progress}
 use Rattle.thy_log.specs.State.{State, table_of}
 use Rattle.thy_log.proofs.TableLemmas.{length-table_of, IsTable-table_of}
 use Rattle.thy_journal_laws.specs.Checkpoints.{Checkpoints, is_sealing, saved_at, HasWrittenBefore, IsMadeFor}
-use Rattle.thy_journal_laws.specs.Journal.{Journal as Value, committed_in}
+use Rattle.thy_journal_laws.specs.Journal.{Journal as Value}
 use Rattle.thy_journal_laws.specs.Sound.{IsSoundJournal}
 use Rattle.thy_journal_laws.specs.Taken.{ReadsSame, SameReadsKeep}
 use Rattle.thy_journal_laws.proofs.WorkLemmas.{works_same, homes_same}

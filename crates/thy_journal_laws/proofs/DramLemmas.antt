@@ -1,9 +1,9 @@
 -- A write of the DRAM that lands changes nothing of what is said of journal and NVM.
-use Rattle.std.proofs.Common.{◌≡◌, ℕ, ◌<◌, Bool, true, false, if◌then◌else◌, List, map, Option, Some, None, refl, sym, ◌∙◌, ap, subst}
+use Rattle.std.proofs.Common.{◌≡◌, ℕ, true, List, refl, sym, ◌∙◌, ap, subst}
 use Rattle.thy_base.specs.declared.block.Block.{Block}
 use Rattle.thy_base.specs.Device.{Device}
 use Rattle.thy_isa.specs.OnBlocks.{state_from}
-use Rattle.thy_view.specs.Origin.{Origin, at}
+use Rattle.thy_view.specs.Origin.{Origin}
 use Rattle.thy_scheme.specs.CheckpointMarks.{CheckpointMarks}
 use Rattle.thy_journal_image.specs.Places.{slot_blocks}
 use Rattle.thy_journal_image.specs.CheckpointParts.{IsIssuing}

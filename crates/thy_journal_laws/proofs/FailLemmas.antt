@@ -1,11 +1,9 @@
 -- An item that failed leaves what is safe.
 use Rattle.std.proofs.Common.{◌≡◌, ℕ, nat_lt, Bool, true, false, if◌then◌else◌, Option, Some, None, refl, sym, ◌∙◌, ap, subst}
 use Rattle.thy_base.specs.declared.mark.Mark.{Mark}
-use Rattle.thy_base.specs.Device.{Device, IsFramed}
+use Rattle.thy_base.specs.Device.{Device}
 use Rattle.thy_crash.specs.Saved.{Saved, InDoubt}
 use Rattle.thy_record.specs.declared.engine_step.EngineStep.TheVariants.{StateBlock, TableBlock}
-use Rattle.thy_view.specs.Action.{FailsTo}
-use Rattle.thy_view.specs.Origin.{Origin}
 use Rattle.thy_view.specs.Safe.{Safe}
 use Rattle.thy_protocol.specs.Keeps.{doubt_in as doubt_of_saved}
 use Rattle.thy_protocol.specs.Layout.{reading}
@@ -15,13 +13,11 @@ use Rattle.thy_scheme.specs.CheckpointMarks.{CheckpointMarks, doubt_in, marks_af
 use Rattle.thy_journal_image.specs.Layout.{journal_layouts, layout_of}
 use Rattle.thy_log.specs.declared.stage.JournalStage.{JournalStage}
 use Rattle.thy_log.specs.declared.stage.JournalStage.TheVariants.{Nothing, Journal, Slot, Settle, Commit, Confirm, Home}
-use Rattle.thy_log.specs.Items.{item, is_under_way, next_live, journal_or_slot, home_or_release, answer}
-use Rattle.thy_log.specs.Progress.{Progress, action_next}
+use Rattle.thy_log.specs.Items.{item, next_live, journal_or_slot, home_or_release, answer}
+use Rattle.thy_log.specs.Progress.{Progress}
 use Rattle.thy_log.specs.State.{State}
 use Rattle.thy_journal_laws.specs.Checkpoints.{Checkpoints, is_confirming, saved_at}
 use Rattle.thy_journal_laws.specs.Items.{standing_failed}
-use Rattle.thy_journal_laws.specs.Journal.{Journal as Value}
-use Rattle.thy_journal_laws.specs.Sound.{IsSoundJournal}
 use Rattle.thy_journal_laws.specs.Taken.{FailedItemsAreSafe}
 use Rattle.thy_journal_laws.proofs.ItemLemmas.{failed_items_move}
 

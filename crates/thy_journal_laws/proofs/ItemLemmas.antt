@@ -1,5 +1,5 @@
 -- The laws of the items.
-use Rattle.std.proofs.Common.{◌≡◌, ℕ, ◌<◌, true, Option, Some, None, refl, sym, ◌∙◌, ap}
+use Rattle.std.proofs.Common.{◌≡◌, ℕ, ◌<◌, true, Option, Some, None, refl, ◌∙◌}
 use Rattle.thy_base.specs.Device.{Device}
 use Rattle.thy_view.specs.Action.{after}
 use Rattle.thy_log.specs.declared.stage.JournalStage.{JournalStage}

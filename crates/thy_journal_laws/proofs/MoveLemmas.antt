@@ -1,17 +1,17 @@
 -- Every item of the engine is a move of the run's checkpoints, also if it failed.
-use Rattle.std.proofs.Common.{◌≡◌, ◌≢◌, ℕ, ◌+◌, ◌*◌, ◌%◌, ◌<◌, nat_lt, Bool, true, false, if◌then◌else◌, List, ◌∷◌, ◌++◌, Contains, refl, sym, ◌∙◌, ap, subst, inl, inr, arith, Option, Some, None}
+use Rattle.std.proofs.Common.{◌≡◌, ℕ, ◌+◌, ◌*◌, ◌%◌, ◌<◌, nat_lt, Bool, true, false, if◌then◌else◌, List, ◌∷◌, ◌++◌, Contains, refl, sym, ◌∙◌, ap, subst, inl, inr, arith, Option, Some, None}
 use Rattle.thy_base.specs.declared.block.Block.{Block}
 use Rattle.thy_base.specs.declared.config.Parameters.{Parameters}
 use Rattle.thy_base.specs.declared.mark.Mark.{Mark}
 use Rattle.thy_base.specs.Device.{Device, block_at, newest, written_to, settled, IsFramed, HasFailedToWrite}
 use Rattle.thy_base.specs.Geometry.{IsInRange}
 use Rattle.thy_crash.specs.Fixed.{Reads}
-use Rattle.thy_crash.specs.Saved.{Saved, Kept, Ready, InDoubt, IsIssued, next_image}
+use Rattle.thy_crash.specs.Saved.{Saved, Kept, Ready, InDoubt, next_image}
 use Rattle.thy_crash.specs.Spares.{Spares}
 use Rattle.thy_crash.proofs.SparesLemmas.{Spares-settled, Spares-failed}
 use Rattle.thy_record.specs.Decoded.{At}
 use Rattle.thy_record.specs.Tables.{Lists}
-use Rattle.thy_view.specs.Action.{Action, after, FailsTo}
+use Rattle.thy_view.specs.Action.{after, FailsTo}
 use Rattle.thy_view.specs.Origin.{Origin, at}
 use Rattle.thy_view.specs.Safe.{ceiling}
 use Rattle.thy_protocol.specs.Keeps.{IsOf}
@@ -24,13 +24,12 @@ use Rattle.thy_journal_image.specs.Free.{Target, SlotBlock, JournalBlock, HomeBl
 use Rattle.thy_journal_image.specs.Header.{header_fault}
 use Rattle.thy_journal_image.specs.Layout.{layout_of}
 use Rattle.thy_journal_image.specs.CheckpointParts.{IsIssuing, IsIssuedCheckpoint}
-use Rattle.thy_journal_image.specs.Slots.{IsTable}
 use Rattle.thy_journal_image.proofs.FreeLemmas.{free_not_looked}
 use Rattle.thy_journal_image.proofs.PartsLemmas.{issued_decodes}
 use Rattle.thy_log.specs.declared.stage.JournalStage.{JournalStage}
 use Rattle.thy_log.specs.declared.stage.JournalStage.TheVariants.{Nothing, Journal, Slot, Settle, Commit, Confirm, Home}
 use Rattle.thy_log.specs.Holding.{works}
-use Rattle.thy_log.specs.Items.{Item, JournalItem, SlotItem, HomeItem, ReleaseItem, item, is_under_way, is_applying, next_after, next_live, journal_or_slot, home_or_release}
+use Rattle.thy_log.specs.Items.{Item, JournalItem, SlotItem, HomeItem, item, is_under_way, is_applying, next_after, next_live, journal_or_slot, home_or_release}
 use Rattle.thy_log.specs.Progress.{Progress, action_of, block_listed}
 use Rattle.thy_log.specs.State.{State, IsSoundState, table_of}
 use Rattle.thy_log.proofs.CycleLemmas.{live_at}

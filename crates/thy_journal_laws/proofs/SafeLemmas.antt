@@ -1,17 +1,17 @@
 -- Whatever a cut leaves is safe; and loads and stores keep the checkpoints while nothing is under way.
-use Rattle.std.proofs.Common.{◌≡◌, ℕ, Bool, true, false, if◌then◌else◌, List, length, map, Option, Some, None, refl, sym, ◌∙◌, ap, subst}
+use Rattle.std.proofs.Common.{◌≡◌, Bool, true, false, if◌then◌else◌, List, length, map, Option, Some, None, refl, sym, ◌∙◌, ap, subst}
 use Rattle.std.specs.List.{range_with_len}
 use Rattle.thy_base.specs.declared.block.Block.{Block}
 use Rattle.thy_base.specs.declared.config.Parameters.{Parameters}
 use Rattle.thy_base.specs.declared.mark.Mark.{Mark}
 use Rattle.thy_base.specs.Device.{Device, newest}
 use Rattle.thy_base.specs.Geometry.{memory_blocks}
-use Rattle.thy_crash.specs.Saved.{Saved, Kept, guarded}
+use Rattle.thy_crash.specs.Saved.{guarded}
 use Rattle.thy_crash.proofs.SparesLemmas.{Spares-no_more}
 use Rattle.thy_isa.specs.OnBlocks.{state_from}
 use Rattle.thy_table.specs.Listing.{Listing, free_count}
-use Rattle.thy_view.specs.Origin.{Origin, at}
-use Rattle.thy_view.specs.Safe.{ceiling, Safe}
+use Rattle.thy_view.specs.Origin.{Origin}
+use Rattle.thy_view.specs.Safe.{Safe}
 use Rattle.thy_protocol.specs.Keeps.{doubt_in as doubt_of_saved}
 use Rattle.thy_protocol.specs.Layout.{reading, looked_by}
 use Rattle.thy_protocol.specs.Moves.{IsKeeping, standing, Move, Goes}
@@ -26,7 +26,7 @@ use Rattle.thy_log.specs.Holding.{works, homes}
 use Rattle.thy_log.specs.Items.{is_under_way, is_applying}
 use Rattle.thy_log.specs.Progress.{Progress, IsSoundProgress}
 use Rattle.thy_log.specs.State.{State}
-use Rattle.thy_journal_laws.specs.Checkpoints.{Checkpoints, is_sealing, is_confirming, saved_at, standing_at, IsKeptBy, HasWrittenBefore}
+use Rattle.thy_journal_laws.specs.Checkpoints.{Checkpoints, is_sealing, is_confirming, saved_at, IsKeptBy, HasWrittenBefore}
 use Rattle.thy_journal_laws.specs.Journal.{Journal as Value, committed_in}
 use Rattle.thy_journal_laws.specs.Sound.{IsHeld, HasState, HasCheckpoints, IsSoundJournal}
 use Rattle.thy_journal_laws.specs.Stays.{StaysJournal}

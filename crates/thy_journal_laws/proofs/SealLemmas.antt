@@ -1,15 +1,13 @@
 -- A seal makes the mark that the machine is at the sealed one.
-use Rattle.std.proofs.Common.{◌≡◌, ◌≢◌, ℕ, ◌+◌, ◌%◌, ◌==◌, ◌&&◌, not, Bool, true, false, if◌then◌else◌, List, [], length, Option, Some, None, refl, sym, ◌∙◌, ap, subst, arith}
+use Rattle.std.proofs.Common.{◌≡◌, ◌≢◌, ℕ, ◌%◌, ◌&&◌, not, Bool, false, if◌then◌else◌, [], length, Option, Some, None, refl, sym, ◌∙◌, ap, subst, arith}
 use Rattle.std.proofs.lemmas.Bool.{eq-eqb}
-use Rattle.thy_base.specs.declared.block.Block.{Block}
 use Rattle.thy_base.specs.declared.mark.Mark.{Mark}
-use Rattle.thy_base.specs.Device.{Device, block_at}
-use Rattle.thy_crash.specs.Saved.{Saved, Kept}
+use Rattle.thy_base.specs.Device.{Device}
+use Rattle.thy_crash.specs.Saved.{Kept}
 use Rattle.thy_isa.specs.declared.state.CpuState.{CpuState}
 use Rattle.thy_isa.specs.OnBlocks.{state_from}
-use Rattle.thy_record.specs.Commit.{epoch_of}
 use Rattle.thy_view.specs.Origin.{Origin, at}
-use Rattle.thy_protocol.specs.Keeps.{Tells, IsOf}
+use Rattle.thy_protocol.specs.Keeps.{Tells}
 use Rattle.thy_protocol.specs.Layout.{IsWhole}
 use Rattle.thy_protocol.specs.Moves.{IsKeeping, standing, Seals}
 use Rattle.thy_protocol.proofs.KeepsLemmas.{IsKeeping-move}
@@ -19,13 +17,12 @@ use Rattle.thy_scheme.specs.CheckpointMarks.{CheckpointMarks}
 use Rattle.thy_journal_image.specs.Layout.{layout_of}
 use Rattle.thy_journal_image.specs.Places.{image_blocks}
 use Rattle.thy_log.specs.declared.stage.JournalStage.{JournalStage}
-use Rattle.thy_log.specs.declared.stage.JournalStage.TheVariants.{Nothing, Journal}
-use Rattle.thy_log.specs.Holding.{works, homes, holding_of}
-use Rattle.thy_log.specs.Items.{is_under_way, is_applying}
-use Rattle.thy_log.specs.Progress.{Progress, begun}
+use Rattle.thy_log.specs.declared.stage.JournalStage.TheVariants.{Nothing}
+use Rattle.thy_log.specs.Holding.{works, holding_of}
+use Rattle.thy_log.specs.Items.{is_under_way}
 use Rattle.thy_log.specs.State.{State}
-use Rattle.thy_journal_laws.specs.Checkpoints.{Checkpoints, saved_at}
-use Rattle.thy_journal_laws.specs.Journal.{Journal as Value, committed_in}
+use Rattle.thy_journal_laws.specs.Checkpoints.{saved_at}
+use Rattle.thy_journal_laws.specs.Journal.{Journal as Value}
 use Rattle.thy_journal_laws.specs.Sound.{IsSoundJournal}
 use Rattle.thy_journal_laws.specs.Taken.{sealed, SealKeepsSound}
 use Rattle.thy_journal_laws.proofs.SafeLemmas.{idle_next, committed_idle}

@@ -1,17 +1,14 @@
 -- Every item reaches the checkpoints of the marks after it.
-use Rattle.std.proofs.Common.{◌≡◌, ◌≢◌, ℕ, ◌+◌, ◌%◌, ◌*◌, ◌<◌, ◌≤◌, nat_lt, Bool, true, false, is_some, if◌then◌else◌, List, [], ◌∷◌, length, map, Option, Some, None, option_and_then, unwrap_or, refl, sym, ◌∙◌, ap, subst, arith}
+use Rattle.std.proofs.Common.{◌≡◌, ℕ, ◌+◌, ◌%◌, ◌≤◌, nat_lt, Bool, true, false, if◌then◌else◌, List, [], ◌∷◌, length, map, Option, Some, None, option_and_then, unwrap_or, refl, sym, ◌∙◌, ap, subst, arith}
 use Rattle.std.specs.List.{sum_by}
 use Rattle.std.proofs.lemmas.List.Sums.{sum_by-cons}
 use Rattle.thy_base.specs.declared.block.Block.{Block}
 use Rattle.thy_base.specs.declared.mark.Mark.{Mark}
-use Rattle.thy_base.specs.Device.{Device, block_at, newest, written_to, settled}
+use Rattle.thy_base.specs.Device.{Device, newest, written_to, settled}
 use Rattle.thy_base.proofs.DeviceLemmas.{newest-written_to_other, newest-settled}
-use Rattle.thy_crash.specs.Saved.{next_image}
 use Rattle.thy_crash.proofs.SavedLemmas.{next_image-commit}
 use Rattle.thy_isa.specs.OnBlocks.{state_from}
-use Rattle.thy_record.specs.declared.engine_step.EngineStep.{EngineStep}
 use Rattle.thy_record.specs.declared.engine_step.EngineStep.TheVariants.{StateBlock, TableBlock}
-use Rattle.thy_record.proofs.IssuingLemmas.{half}
 use Rattle.thy_table.proofs.IndexLemmas.{free_one}
 use Rattle.thy_view.specs.Action.{after}
 use Rattle.thy_view.specs.Origin.{Origin, at}
@@ -20,7 +17,7 @@ use Rattle.thy_protocol.proofs.KeepsLemmas.{IsKeeping-move}
 use Rattle.thy_scheme.specs.CheckpointMarks.{CheckpointMarks, only, marks_after}
 use Rattle.thy_journal_image.specs.Header.{header_fault}
 use Rattle.thy_journal_image.specs.Layout.{layout_of}
-use Rattle.thy_journal_image.specs.Places.{slot_blocks, slot_place, home_place, journal_place, image_blocks}
+use Rattle.thy_journal_image.specs.Places.{slot_blocks, slot_place, home_place, journal_place}
 use Rattle.thy_record.specs.Commit.{commit_of}
 use Rattle.thy_log.specs.declared.entry.Listed.{Listed}
 use Rattle.thy_log.specs.declared.stage.JournalStage.{JournalStage}
@@ -30,9 +27,9 @@ use Rattle.thy_log.specs.Items.{Item, JournalItem, SlotItem, SettleItem, CommitI
 use Rattle.thy_log.specs.Keys.{freed}
 use Rattle.thy_log.specs.Progress.{Progress, action_of, state_after, block_listed, slot_block}
 use Rattle.thy_log.specs.State.{State, buffer_of, table_of}
-use Rattle.thy_journal_laws.specs.Checkpoints.{Checkpoints, is_sealing, is_settled, is_confirming, standing_at, checkpoints_after, IsKeptBy, IsMadeFor, HasWrittenBefore, HasWritten}
+use Rattle.thy_journal_laws.specs.Checkpoints.{Checkpoints, is_sealing, is_settled, is_confirming, standing_at, checkpoints_after, HasWrittenBefore, HasWritten}
 use Rattle.thy_journal_laws.specs.Journal.{Journal as Value, committed_in}
-use Rattle.thy_journal_laws.specs.Sound.{IsHeld, HasState, HasCheckpoints, IsSoundJournal}
+use Rattle.thy_journal_laws.specs.Sound.{IsHeld, HasState, IsSoundJournal}
 use Rattle.thy_journal_laws.specs.Taken.{ItemsKeepSound}
 use Rattle.thy_journal_laws.proofs.AfterLemmas.{held_after}
 use Rattle.thy_journal_laws.proofs.WorkLemmas.{works-released}

@@ -1,15 +1,15 @@
 -- Memory as it was stored last, and at home, over what is done to the NVM and to the log.
-use Rattle.std.proofs.Common.{◌≡◌, ◌≢◌, ℕ, ◌+◌, ◌<◌, ◌≤◌, true, false, Bool, if◌then◌else◌, List, length, map, Contains, Option, Some, None, option_and_then, refl, sym, ◌∙◌, ap, subst, inl, inr, arith}
+use Rattle.std.proofs.Common.{◌≡◌, ◌≢◌, ℕ, ◌<◌, false, length, Contains, Option, Some, None, option_and_then, refl, ◌∙◌, ap, arith}
 use Rattle.std.specs.List.{range_with_len}
 use Rattle.thy_base.specs.declared.block.Block.{Block}
-use Rattle.thy_base.specs.Device.{Device, newest, written_to, settled}
+use Rattle.thy_base.specs.Device.{Device, written_to, settled}
 use Rattle.thy_base.specs.Geometry.{memory_blocks}
-use Rattle.thy_base.proofs.DeviceLemmas.{newest-written_to, newest-written_to_other, newest-settled}
+use Rattle.thy_base.proofs.DeviceLemmas.{newest-written_to_other, newest-settled}
 use Rattle.thy_record.proofs.ImageLemmas.{map-alike}
 use Rattle.thy_protocol.proofs.IssuingLemmas.{row_of}
-use Rattle.thy_table.specs.Listing.{Listing, entry_at, lists, place_of, mapped}
+use Rattle.thy_table.specs.Listing.{entry_at, lists, mapped}
 use Rattle.thy_table.proofs.ListingLaws.{entry_at-mapped, place_of-none}
-use Rattle.thy_journal_image.specs.Places.{home_place, image_blocks}
+use Rattle.thy_journal_image.specs.Places.{home_place}
 use Rattle.thy_log.specs.declared.entry.Listed.{Listed}
 use Rattle.thy_log.specs.Holding.{works, homes}
 use Rattle.thy_log.specs.Keys.{block_key, freed}

@@ -1,6 +1,5 @@
 -- What the NVM has of a checkpoint, from item to item.
 use Rattle.std.proofs.Common.{◌≡◌, ◌≢◌, ℕ, zero, suc, ◌+◌, ◌%◌, ◌<◌, ◌≤◌, nat_lt, Bool, true, false, if◌then◌else◌, List, length, map, Option, Some, None, refl, sym, ◌∙◌, ap, subst, inl, inr, arith}
-use Rattle.std.specs.List.{range_with_len}
 use Rattle.std.proofs.lemmas.Bool.{cases_lt, ltb-false}
 use Rattle.std.proofs.lemmas.List.{length-map, get_or-map, ext_get_or}
 use Rattle.std.proofs.lemmas.List.FromFn.{length-map-range_with_len, get_or-map-range_with_len}
@@ -9,11 +8,10 @@ use Rattle.thy_base.specs.declared.config.Parameters.{Parameters}
 use Rattle.thy_base.specs.Device.{Device, zero_block, block_at, newest, written_to, settled}
 use Rattle.thy_base.specs.Geometry.{memory_blocks}
 use Rattle.thy_base.proofs.DeviceLemmas.{newest-written_to, newest-written_to_other, newest-settled, length-written_to, length-settled}
-use Rattle.thy_crash.specs.Fixed.{Reads, ReadsFirst}
-use Rattle.thy_crash.proofs.FixedLemmas.{Reads-written, Reads-settled, ReadsFirst-elsewhere}
+use Rattle.thy_crash.proofs.FixedLemmas.{Reads-written}
 use Rattle.thy_record.specs.Tables.{Lists, entry_at, entry_of}
 use Rattle.thy_record.proofs.ImageLemmas.{map-alike}
-use Rattle.thy_record.proofs.EntryLemmas.{entry_of-Some, Lists-inside}
+use Rattle.thy_record.proofs.EntryLemmas.{entry_of-Some}
 use Rattle.thy_record.proofs.IssuingLemmas.{half}
 use Rattle.thy_view.specs.Action.{after}
 use Rattle.thy_journal_image.specs.Places.{slot_blocks, slot_place, image_blocks, first_home, home_place, journal_place, place_by, place_of}
@@ -26,11 +24,11 @@ use Rattle.thy_log.specs.declared.stage.JournalStage.TheVariants.{Nothing, Journ
 use Rattle.thy_log.specs.Holding.{works}
 use Rattle.thy_log.specs.Items.{Item, JournalItem, SlotItem, HomeItem, item, next_after, next_live, journal_or_slot, home_or_release}
 use Rattle.thy_log.specs.Progress.{Progress, action_of, block_listed, state_after}
-use Rattle.thy_log.specs.State.{State, IsSoundState, IsSized, table_of, entry_for, buffer_of, work_by, work_of}
+use Rattle.thy_log.specs.State.{State, IsSoundState, IsSized, table_of, buffer_of, work_by, work_of}
 use Rattle.thy_log.proofs.CycleLemmas.{live_at}
-use Rattle.thy_log.proofs.TableLemmas.{length-table_of, IsTable-table_of, live_lists, listed_below, listed_before, entry_for-is}
+use Rattle.thy_log.proofs.TableLemmas.{IsTable-table_of, live_lists, listed_below, listed_before, entry_for-is}
 use Rattle.thy_journal_laws.specs.Checkpoints.{AreJournaled, AreHome, HasWrittenSlot, HasWrittenBefore}
-use Rattle.thy_journal_laws.proofs.WorkLemmas.{works_same, homes_same, home_over, home_settled}
+use Rattle.thy_journal_laws.proofs.WorkLemmas.{works_same, home_over}
 
 -- ---- memory, at its places by the new table
 

@@ -1,5 +1,5 @@
 -- What every item of the engine makes of a run's checkpoints, and of memory.
-use Rattle.std.specs.Prelude.{◌≡◌, ℕ, true, None}
+use Rattle.std.specs.Prelude.{◌≡◌, true, None}
 use Rattle.thy_base.specs.Device.{Device, newest, IsFramed}
 use Rattle.thy_crash.specs.Saved.{InDoubt}
 use Rattle.thy_view.specs.Action.{after, FailsTo}

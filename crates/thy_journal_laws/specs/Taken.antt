@@ -6,17 +6,15 @@ use Rattle.thy_isa.specs.declared.state.CpuState.{CpuState}
 use Rattle.thy_record.specs.declared.engine_step.EngineStep.{EngineStep}
 use Rattle.thy_view.specs.Action.{after, FailsTo}
 use Rattle.thy_view.specs.Origin.{Origin}
-use Rattle.thy_view.specs.Safe.{ceiling, Safe}
+use Rattle.thy_view.specs.Safe.{Safe}
 use Rattle.thy_protocol.specs.Layout.{reading}
-use Rattle.thy_protocol.specs.Moves.{Move}
 use Rattle.thy_scheme.specs.Calls.{IsTaken}
 use Rattle.thy_scheme.specs.CheckpointMarks.{CheckpointMarks, doubt_in, marks_after, marks_after_fault}
-use Rattle.thy_journal_image.specs.Layout.{journal_layouts, layout_of}
-use Rattle.thy_log.specs.Holding.{works, holding_of}
+use Rattle.thy_journal_image.specs.Layout.{journal_layouts}
+use Rattle.thy_log.specs.Holding.{holding_of}
 use Rattle.thy_log.specs.Items.{is_under_way, answer}
 use Rattle.thy_log.specs.Progress.{begun, item_of, engine_next, state_next, action_next}
 use Rattle.thy_log.specs.Stores.{after_drain}
-use Rattle.thy_journal_laws.specs.Checkpoints.{Checkpoints, standing_at, checkpoints_after}
 use Rattle.thy_journal_laws.specs.Journal.{Journal}
 use Rattle.thy_journal_laws.specs.Sound.{IsSoundJournal}
 use Rattle.thy_journal_laws.specs.Stays.{StaysJournal}

@@ -1,5 +1,5 @@
 -- The buffers are filled from the journal, one entry after the other.
-use Rattle.std.proofs.Common.{◌≡◌, ◌≢◌, ℕ, ◌+◌, ◌*◌, ◌%◌, ◌<◌, ◌≤◌, Bool, true, false, List, [], ◌∷◌, length, map, slice_set, is_some, Option, Some, None, refl, sym, ◌∙◌, ap, subst, inl, inr, arith}
+use Rattle.std.proofs.Common.{◌≡◌, ℕ, ◌+◌, ◌*◌, ◌<◌, ◌≤◌, true, false, List, [], ◌∷◌, length, map, slice_set, is_some, Option, Some, None, refl, sym, ◌∙◌, ap, subst, inl, inr, arith}
 use Rattle.std.specs.List.{range_with_len}
 use Rattle.std.proofs.lemmas.Bool.{cases_lt, cases_eq}
 use Rattle.std.proofs.lemmas.List.{length-set, get_or-set_same, get_or-set_other}
@@ -16,7 +16,6 @@ use Rattle.thy_record.proofs.ImageLemmas.{map-alike}
 use Rattle.thy_record.proofs.IssuingLemmas.{half}
 use Rattle.thy_record.proofs.SlotLemmas.{length-entries_in}
 use Rattle.thy_protocol.specs.Layout.{slot_in, memory_in}
-use Rattle.thy_protocol.proofs.IssuingLemmas.{row_of}
 use Rattle.thy_table.proofs.FirstLemmas.{first_from-first, first_from-is, none-first_from}
 use Rattle.thy_boot.proofs.ReadLemmas.{newest-settled}
 use Rattle.thy_view.specs.Safe.{ceiling}
@@ -24,7 +23,7 @@ use Rattle.thy_journal_image.specs.Places.{image_blocks, home_place, journal_pla
 use Rattle.thy_journal_image.specs.Slots.{table_in}
 use Rattle.thy_journal_image.specs.Layout.{journal_layouts}
 use Rattle.thy_log.specs.Holding.{works}
-use Rattle.thy_log.specs.State.{State, IsSoundState, table_of, entry_for, buffer_of, work_by, work_of}
+use Rattle.thy_log.specs.State.{State, table_of, buffer_of, work_by, work_of}
 use Rattle.thy_log.specs.Stores.{put_into}
 use Rattle.thy_log.proofs.StateLemmas.{IsSoundState-dram}
 use Rattle.thy_log.proofs.TableLemmas.{entry_for-is, length-table_of}

@@ -1,23 +1,20 @@
 -- What a start writes is a checkpoint of the journal, with a table that lists nothing.
-use Rattle.std.proofs.Common.{◌≡◌, ◌≢◌, ℕ, ◌+◌, ◌*◌, ◌%◌, ◌^◌, ◌<◌, ◌≤◌, true, false, List, length, map, replicate, get_or, slice_index_or, option_map, Option, Some, None, refl, sym, ◌∙◌, ap, subst, inl, inr, arith}
+use Rattle.std.proofs.Common.{◌≡◌, ℕ, ◌<◌, true, false, length, map, slice_index_or, None, sym, ◌∙◌, ap, arith}
 use Rattle.std.specs.List.{range_with_len}
-use Rattle.std.proofs.lemmas.Bool.{cases_lt}
-use Rattle.std.proofs.lemmas.List.{length-replicate, get_or-replicate, ext_get_or}
-use Rattle.thy_base.specs.declared.block.Block.{Block}
+use Rattle.std.proofs.lemmas.List.{length-replicate}
 use Rattle.thy_base.specs.declared.config.Parameters.{Parameters}
 use Rattle.thy_base.specs.Device.{Device, newest}
-use Rattle.thy_base.specs.Geometry.{IsInRange, memory_blocks}
+use Rattle.thy_base.specs.Geometry.{memory_blocks}
 use Rattle.thy_isa.specs.declared.state.CpuState.{CpuState}
 use Rattle.thy_isa.specs.OnBlocks.{state_from}
 use Rattle.thy_isa.specs.Step.{State as Plain, cpu_of}
 use Rattle.thy_record.specs.Cpu.{cpu_of_record}
-use Rattle.thy_record.specs.Tables.{Lists, entry_of}
 use Rattle.thy_record.proofs.EntryLemmas.{entry_of-absent}
 use Rattle.thy_record.proofs.ImageLemmas.{map-alike}
 use Rattle.thy_protocol.specs.Issuing.{ArePartsOf, slot_of}
 use Rattle.thy_protocol.specs.Layout.{fault_of}
 use Rattle.thy_view.specs.Safe.{ceiling}
-use Rattle.thy_table.specs.Listing.{entry_at, lists, place_of as placed_at}
+use Rattle.thy_table.specs.Listing.{entry_at, lists}
 use Rattle.thy_table.proofs.ListingLaws.{place_of-none}
 use Rattle.thy_boot.specs.Start.{CanStart, start_blocks}
 use Rattle.thy_boot.proofs.StartLemmas.{length-start_blocks, state_from-start}
@@ -26,13 +23,13 @@ use Rattle.thy_journal_image.specs.Header.{header_of}
 use Rattle.thy_record.specs.Commit.{commit_of}
 use Rattle.thy_journal_image.specs.Slots.{IsTable}
 use Rattle.thy_journal_image.specs.Layout.{journal_layouts}
-use Rattle.thy_journal_image.specs.CheckpointParts.{memory_places, parts_by, ReadsBack}
+use Rattle.thy_journal_image.specs.CheckpointParts.{parts_by}
 use Rattle.thy_journal_image.proofs.HeadLemmas.{header_fault-header_of}
 use Rattle.thy_journal_image.proofs.SlotLemmas.{lists_none}
 use Rattle.thy_journal_image.proofs.PartsLemmas.{length-memory_places, memory_place, parts_of, no_fault, back}
 use Rattle.thy_log.specs.Holding.{works}
 use Rattle.thy_log.specs.Keys.{block_key}
-use Rattle.thy_log.specs.State.{State, entry_for, home_of, work_by, work_of}
+use Rattle.thy_log.specs.State.{State, entry_for, work_by, work_of}
 use Rattle.thy_refill.specs.Filling.{IsFresh, no_table, first_of_start}
 use Rattle.thy_refill.proofs.FillLemmas.{map_twice}
 

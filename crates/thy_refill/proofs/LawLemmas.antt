@@ -1,8 +1,8 @@
 -- What holds of filling the log.
-use Rattle.std.proofs.Common.{◌≡◌, ℕ, ◌+◌, ◌*◌, ◌%◌, ◌^◌, ◌<◌, ◌≤◌, List, None, refl, inr, arith}
+use Rattle.std.proofs.Common.{◌≡◌, ◌%◌, List, refl, inr, arith}
 use Rattle.thy_base.specs.declared.block.Block.{Block}
 use Rattle.thy_base.specs.declared.config.Parameters.{Parameters}
-use Rattle.thy_base.specs.Device.{Device, newest}
+use Rattle.thy_base.specs.Device.{newest}
 use Rattle.thy_isa.specs.declared.state.CpuState.{CpuState}
 use Rattle.thy_isa.specs.OnBlocks.{state_from}
 use Rattle.thy_record.specs.Commit.{epoch_of}
@@ -11,9 +11,8 @@ use Rattle.thy_record.proofs.IssuingLemmas.{half}
 use Rattle.thy_record.proofs.ReadBackLemmas.{epoch_of-commit_of, is_zero-commit_of}
 use Rattle.thy_boot.specs.Filling.{IsFilling}
 use Rattle.thy_boot.proofs.StartLemmas.{CanStart-origin}
-use Rattle.thy_journal_image.specs.Places.{slot_blocks, slot_place, image_blocks, journal_place}
+use Rattle.thy_journal_image.specs.Places.{journal_place}
 use Rattle.thy_journal_image.proofs.PartsLemmas.{slot_fits}
-use Rattle.thy_log.specs.State.{State}
 use Rattle.thy_log.proofs.DrainLemmas.{works_drained, IsSoundState-drained}
 use Rattle.thy_refill.specs.Filling.{filling_journal, slot_named}
 use Rattle.thy_refill.proofs.FillLemmas.{next_above, next_found, filled_all, listed_put, filled_put, works_are_memory}

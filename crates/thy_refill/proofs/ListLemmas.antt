@@ -1,12 +1,12 @@
 -- The table of a slot is listed, entry by entry.
-use Rattle.std.proofs.Common.{◌≡◌, ◌≢◌, ℕ, ◌+◌, ◌<◌, ◌≤◌, ◌==◌, Bool, true, false, List, length, map, Option, Some, None, option_map, refl, sym, ◌∙◌, ap, subst, inl, inr, arith}
+use Rattle.std.proofs.Common.{◌≡◌, ℕ, ◌+◌, ◌<◌, ◌≤◌, true, false, List, length, Option, Some, None, option_map, refl, sym, ◌∙◌, ap, subst, inl, inr, arith}
 use Rattle.std.proofs.lemmas.Bool.{cases_Bool, cases_lt, cases_eq}
 use Rattle.std.proofs.lemmas.List.{ext_get_or}
 use Rattle.thy_base.specs.declared.block.Block.{Block}
 use Rattle.thy_base.specs.declared.config.Parameters.{Parameters}
 use Rattle.thy_base.specs.Geometry.{memory_blocks}
-use Rattle.thy_record.specs.Tables.{entry_at as listed_at, Lists}
-use Rattle.thy_table.specs.Listing.{Listing, entry_at, lists, place_of}
+use Rattle.thy_record.specs.Tables.{entry_at as listed_at}
+use Rattle.thy_table.specs.Listing.{entry_at, lists, place_of}
 use Rattle.thy_table.proofs.IndexLemmas.{lists-some}
 use Rattle.thy_table.proofs.ListingLaws.{place_of-none, entry_at-with_same, entry_at-with_other}
 use Rattle.thy_journal_image.specs.Slots.{IsTable, table_in}

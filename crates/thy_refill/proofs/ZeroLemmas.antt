@@ -1,5 +1,5 @@
 -- The blocks of a table that lists nothing hold zeros.
-use Rattle.std.proofs.Common.{◌≡◌, ℕ, ◌+◌, ◌-◌, ◌*◌, ◌/◌, ◌%◌, ◌<◌, ◌≤◌, List, map, take, drop, replicate, Option, None, sym, ◌∙◌, ap, arith}
+use Rattle.std.proofs.Common.{◌≡◌, ℕ, ◌-◌, ◌*◌, ◌/◌, ◌%◌, ◌<◌, ◌≤◌, List, map, take, replicate, Option, None, sym, ◌∙◌, ap, arith}
 use Rattle.std.proofs.lemmas.List.{drop-replicate, take-replicate}
 use Rattle.thy_base.specs.declared.config.Parameters.{Parameters}
 use Rattle.thy_base.specs.Geometry.{IsInRange}

@@ -1,4 +1,4 @@
-use Rattle.std.proofs.Common.{◌≡◌, ◌+◌, ℕ, None, false, get_or, subst, sym, ◌∙◌, ap, inl, inr, arith, is_some}
+use Rattle.std.proofs.Common.{◌≡◌, ℕ, None, false, get_or, subst, sym, ◌∙◌, ap, inl, inr, arith, is_some}
 use Rattle.std.proofs.lemmas.Bool.{cases_eq}
 use Rattle.thy_base.specs.declared.config.Parameters.{Parameters}
 use Rattle.thy_record.specs.Files.{blocks_of}

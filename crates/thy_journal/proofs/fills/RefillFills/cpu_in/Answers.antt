@@ -1,4 +1,4 @@
-use Rattle.std.proofs.Common.{sym, ◌∙◌, ap, arith}
+use Rattle.std.proofs.Common.{sym, ◌∙◌, ap}
 use Rattle.thy_record.specs.Cpu.{cpu_of_record}
 use Rattle.thy_journal.proofs.FillLemmas.{whole_slot}
 use Rattle.thy_journal.proofs.fills.RefillFills.cpu_in.Goals as goal

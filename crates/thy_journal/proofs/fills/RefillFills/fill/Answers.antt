@@ -1,6 +1,3 @@
-use Rattle.std.proofs.Common.{◌<◌, ◌%◌, sym, ◌∙◌, ap, subst, arith}
-use Rattle.thy_base.specs.declared.block.Block.{Block}
-use Rattle.thy_base.specs.Device.{Device}
 use Rattle.thy_refill.proofs.FillLemmas.{next_above}
 use Rattle.thy_journal.proofs.fills.RefillFills.fill.Goals as goal
 

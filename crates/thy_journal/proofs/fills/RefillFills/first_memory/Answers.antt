@@ -1,5 +1,4 @@
-use Rattle.std.proofs.Common.{◌≡◌, ◌<◌, length, sym, ◌∙◌, ap, arith}
-use Rattle.thy_base.specs.Geometry.{memory_blocks}
+use Rattle.std.proofs.Common.{sym, ◌∙◌, arith}
 use Rattle.thy_isa.specs.Step.{state_of}
 use Rattle.thy_boot.proofs.StartLemmas.{block_at-start_blocks}
 use Rattle.thy_journal_image.proofs.PartsLemmas.{length-memory_places}

@@ -1,5 +1,4 @@
-use Rattle.std.proofs.Common.{◌≡◌, sym, ◌∙◌, ap, List, Option}
-use Rattle.thy_base.specs.declared.block.Block.{Block}
+use Rattle.std.proofs.Common.{sym, ◌∙◌, ap}
 use Rattle.thy_record.specs.Commit.{epoch_of}
 use Rattle.thy_record.specs.Files.{blocks_of}
 use Rattle.thy_view.specs.Safe.{ceiling}

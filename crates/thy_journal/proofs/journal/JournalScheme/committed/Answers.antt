@@ -1,4 +1,4 @@
-use Rattle.std.proofs.Common.{◌≡◌, ◌<◌, true, false, length, sym, ◌∙◌, subst, IfOk}
+use Rattle.std.proofs.Common.{◌≡◌, ◌<◌, length, sym, ◌∙◌, subst, IfOk}
 use Rattle.thy_base.specs.Device.{Device, block_at}
 use Rattle.thy_log.specs.State.{home_of, work_of}
 use Rattle.thy_journal_laws.specs.Journal.{Journal as Value, committed_in}

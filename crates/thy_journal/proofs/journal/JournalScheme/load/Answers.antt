@@ -4,7 +4,6 @@ use Rattle.thy_base.specs.Device.{block_at}
 use Rattle.thy_log.specs.Holding.{holding_of}
 use Rattle.thy_log.specs.State.{work_of}
 use Rattle.thy_journal_laws.specs.Journal.{Journal as Value}
-use Rattle.thy_journal_laws.specs.Stays.{StaysJournal}
 use Rattle.thy_journal.proofs.CallLemmas.{load_stays, ok_same}
 use Rattle.thy_journal.proofs.journal.JournalScheme.load.Goals as goal
 

@@ -6,7 +6,7 @@ use Rattle.thy_log.specs.Holding.{holding_of}
 use Rattle.thy_log.specs.State.{State}
 use Rattle.thy_journal_laws.specs.Journal.{Journal as Value}
 use Rattle.thy_journal_scheme.specs.Scheme.{journal_scheme}
-use Rattle.thy_journal.specs.Calls.{stored, StoresInBuffer}
+use Rattle.thy_journal.specs.Calls.{stored}
 use Rattle.thy_journal.proofs.journal.JournalScheme.store.Goals as goal
 
 pub store-requires-clause-block : goal.store-requires-clause-block
