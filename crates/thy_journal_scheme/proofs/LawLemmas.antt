@@ -2,7 +2,7 @@
 use Rattle.std.proofs.Common.{◌≡◌, ℕ, ◌+◌, ◌*◌, ◌<◌, ◌≤◌, true, false, max, arith}
 use Rattle.thy_base.specs.Geometry.{memory_blocks}
 use Rattle.thy_journal_image.specs.Places.{slot_blocks}
-use Rattle.thy_journal_scheme.specs.Laws.{BootsAreShort, DrainsKeep, ItemsAreSteps, SealsKeep, StepsBoot}
+use Rattle.thy_journal_scheme.specs.Laws.{BootsAreShort, DrainsKeep, EpochsAreShort, ItemsAreSteps, SealsKeep, StepsBoot}
 use Rattle.thy_journal_scheme.proofs.CallLemmas.{drains, engines, engine-fails, seals}
 use Rattle.thy_journal_scheme.proofs.StepLemmas.{boots_on}
 
@@ -23,3 +23,6 @@ max-few a b = omega arith
 
 pub boots_are_short : BootsAreShort
 boots_are_short p = (omega (arith, max-few (memory_blocks p + slot_blocks p + 4) (1 + slot_blocks p + p.btt)), omega arith)
+
+pub epochs_are_short : EpochsAreShort
+epochs_are_short p = omega arith

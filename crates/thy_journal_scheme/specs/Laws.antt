@@ -20,6 +20,7 @@ use Rattle.thy_scheme.specs.CheckpointMarks.{CheckpointMarks}
 use Rattle.thy_scheme.specs.Scheme.{Stands, IsBooting}
 use Rattle.thy_scheme.specs.Laws.{IsFound, IsLawful, IsNew, BootsFound, BootHolds, RunHolds, StaysSound, is_free_to_run}
 use Rattle.thy_core_laws.specs.Machine.{Machine, is_barred, shortage_of}
+use Rattle.thy_core_laws.specs.Pace.{most_spent}
 use Rattle.thy_core_laws.specs.Sound.{Sound}
 use Rattle.thy_journal_image.specs.Places.{image_blocks, slot_blocks}
 use Rattle.thy_log.specs.Progress.{action_next}
@@ -137,6 +138,11 @@ BootsAreShort =
     (p : Parameters)
     → (journal_scheme.most_booting p ≤ memory_blocks p + 2 * slot_blocks p + p.btt + 8)
     × (journal_scheme.most_engine p ≤ 2 * p.btt + slot_blocks p + 4)
+
+-- an epoch spends fewer cycles than 17 for each of its instructions, three for each entry of the table, one for each of
+-- the slot's blocks, and five more
+abbrev pub EpochsAreShort : Type 0
+EpochsAreShort = (p : Parameters) → most_spent journal_scheme p ≤ 17 * p.epoch + 3 * p.btt + slot_blocks p + 5
 
 -- nothing is ever migrated: there is one form of its images
 abbrev pub NeverMigrates : Type 0

@@ -1,5 +1,5 @@
 //! Laws of the scheme, each the contract of a function that does nothing.
-ghost use Rattle.thy_journal_scheme.specs.Laws.{BootIsSound, BootsAreShort, DrainsKeep, EntriesAreFree};
+ghost use Rattle.thy_journal_scheme.specs.Laws.{BootIsSound, BootsAreShort, DrainsKeep, EntriesAreFree, EpochsAreShort};
 ghost use Rattle.thy_journal_scheme.specs.Laws.{FirstHasRoom, HartIsBarred, HeldIsUp, HeldIsWork, ItemsAreSteps};
 ghost use Rattle.thy_journal_scheme.specs.Laws.{JournalIsLawful, NeverMigrates, PowerFinds, PowerIsNew, RunIsSound};
 ghost use Rattle.thy_journal_scheme.specs.Laws.{SealsKeep, StaysKeep, StaysOver, StepsBoot, StoresKeep, ZerosAreNothing};
@@ -45,6 +45,12 @@ pub fn a_boot_is_sound()
 /// The hart waits for each checkpoint, until its journal is applied: nothing overlaps.
 pub fn a_checkpoint_bars_the_hart()
     ensures { HartIsBarred }
+{}
+
+/// An epoch spends fewer cycles of hart and engine than 17 for each of its instructions, three for each entry of the
+/// table, one for each block of a slot, and five more.
+pub fn epochs_are_short()
+    ensures { EpochsAreShort }
 {}
 
 /// While nothing is under way, and nothing was stored since the last seal, every entry is free. So the first
