@@ -130,7 +130,7 @@ fn a_record_is_its_bytes(rt: HostRuntime) {
         Block(REGISTERS),
         Block(LAST),
     ];
-    expect(&rt, cpu_state(&blocks), cpu);
+    expect(&rt, cpu_state(&blocks) == cpu, true);
 }
 
 /// A word of the header, another value of it, and what it is refused for then.
