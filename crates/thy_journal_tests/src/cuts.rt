@@ -40,36 +40,50 @@ fn power_cuts_are_survived(rt: HostRuntime) -> Result<(), Fail> {
     Ok(())
 }
 
-/// A program, with what it prints and its last line, which are the same wherever power is cut.
+/// A program with options, what it prints and its last line, which are the same wherever power is cut.
 struct Case {
-    name: &'static str,
+    run: &'static str,
     printed: &'static str,
     last: &'static str,
 }
 
 static EXITS_WITH_SEVEN: Case = Case {
-    name: "F",
+    run: "F",
     printed: "",
     last: "\nexit 7 at 3\n",
 };
 
 static PRINTS: Case = Case {
-    name: "P",
+    run: "P",
     printed: "Hi\n",
     last: "\nexit 3 at 8\n",
 };
 
 /// Its first epoch ends because no entry is free; then eight blocks are written home.
 static EXHAUSTS: Case = Case {
-    name: "N",
+    run: "N",
     printed: "",
     last: "\nexit 0 at 11\n",
 };
 
+/// Each of its four instructions is an epoch.
+static FOUR_EPOCHS: Case = Case {
+    run: "E --epoch 1",
+    printed: "",
+    last: "\nexit 6 at 4\n",
+};
+
+/// Each of its five stores is to two blocks, and its first epoch ends because no two entries are free.
+static EXHAUSTS_BY_TWO: Case = Case {
+    run: "V",
+    printed: "",
+    last: "\nexit 0 at 7\n",
+};
+
 /// Runs a program with these cuts and picks.
 fn cut_at(alloc: Global, case: &Case, cuts: &str, tears: &str) -> Result<Given, AllocError> {
-    let name = case.name;
-    let line = format!(in alloc; "thynvm run {name} {SMALL} --cuts {cuts} --tears {tears}")?;
+    let run = case.run;
+    let line = format!(in alloc; "thynvm run {run} {SMALL} --cuts {cuts} --tears {tears}")?;
     ran(alloc, line.as_str())
 }
 
@@ -82,8 +96,8 @@ fn ends_so(given: &Given, case: &Case) -> bool {
 
 /// How many cycles a program takes without a cut.
 fn whole(rt: &impl Abort, alloc: Global, case: &Case) -> Result<u64, AllocError> {
-    let name = case.name;
-    let line = format!(in alloc; "thynvm run {name} {SMALL}")?;
+    let run = case.run;
+    let line = format!(in alloc; "thynvm run {run} {SMALL}")?;
     let given = ran(alloc, line.as_str())?;
     assert!(rt; given.cycles > 700 && ends_so(&given, case), "no cut");
     Ok(given.cycles)
@@ -169,6 +183,18 @@ fn a_cut_anywhere_with_drawn_blocks(rt: HostRuntime) -> Result<(), Fail> {
 }
 
 #[test]
+fn a_text_is_printed_once_and_no_write_lands(rt: HostRuntime) -> Result<(), Fail> {
+    cut_everywhere(&rt, rt.alloc(), &PRINTS, "0")?;
+    Ok(())
+}
+
+#[test]
+fn a_text_is_printed_once_and_every_write_lands(rt: HostRuntime) -> Result<(), Fail> {
+    cut_everywhere(&rt, rt.alloc(), &PRINTS, "1")?;
+    Ok(())
+}
+
+#[test]
 fn a_text_is_printed_once_with_drawn_blocks(rt: HostRuntime) -> Result<(), Fail> {
     cut_everywhere(&rt, rt.alloc(), &PRINTS, "7")?;
     Ok(())
@@ -189,6 +215,30 @@ fn exhausted_epochs_are_cut_and_every_write_lands(rt: HostRuntime) -> Result<(),
 #[test]
 fn exhausted_epochs_are_cut_with_drawn_blocks(rt: HostRuntime) -> Result<(), Fail> {
     cut_everywhere(&rt, rt.alloc(), &EXHAUSTS, "7")?;
+    Ok(())
+}
+
+#[test]
+fn four_epochs_are_cut_and_no_write_lands(rt: HostRuntime) -> Result<(), Fail> {
+    cut_everywhere(&rt, rt.alloc(), &FOUR_EPOCHS, "0")?;
+    Ok(())
+}
+
+#[test]
+fn four_epochs_are_cut_and_every_write_lands(rt: HostRuntime) -> Result<(), Fail> {
+    cut_everywhere(&rt, rt.alloc(), &FOUR_EPOCHS, "1")?;
+    Ok(())
+}
+
+#[test]
+fn four_epochs_are_cut_with_drawn_blocks(rt: HostRuntime) -> Result<(), Fail> {
+    cut_everywhere(&rt, rt.alloc(), &FOUR_EPOCHS, "7")?;
+    Ok(())
+}
+
+#[test]
+fn stores_that_need_two_entries_are_cut_with_drawn_blocks(rt: HostRuntime) -> Result<(), Fail> {
+    cut_everywhere(&rt, rt.alloc(), &EXHAUSTS_BY_TWO, "7")?;
     Ok(())
 }
 

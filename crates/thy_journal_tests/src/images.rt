@@ -1,5 +1,6 @@
 //! Saved images of the journal, and refusals of them.
 use crate::support::calls::{called, expect_on, shelf};
+use crate::support::programs::patched;
 use std::alloc::{AllocError, Global};
 use std::process::Abort;
 use std::test::Fail;
@@ -81,17 +82,6 @@ const TABLE: usize = 448;
 
 static ENTRY: [u8; 8] = [0xb5, 0x01, 0, 0, 0, 0, 0, 0];
 
-/// The image with other bytes from one on.
-fn patched(alloc: Global, image: &[u8], at: usize, bytes: &[u8]) -> Result<Vec<u8>, AllocError> {
-    let mut image = Vec::from_slice(alloc, image)?;
-    for (i, byte) in bytes.iter().enumerate() {
-        if let Some(place) = image.get_mut(at.saturating_add(i)) {
-            *place = *byte;
-        }
-    }
-    Ok(image)
-}
-
 /// Bytes of the image that are other ones, with the report: header and its words, commit block, the record of the processor
 /// in the first slot, and the table behind it.
 static PATCHES: [(usize, &[u8], &str); 14] = [
@@ -131,24 +121,58 @@ fn each_refusal_of_an_image_has_its_line(rt: HostRuntime) -> Result<(), Fail> {
     Ok(())
 }
 
-/// Lengths of an image in bytes that are none of the layout, with the report.
-static LENGTHS: [(usize, &str); 4] = [
-    (0, "image 1 Empty\n"),
-    (127, "image 1 Empty\n"),
-    (34624, "image 4 Geometry\n"),
-    (34687, "image 4 Geometry\n"),
-];
+/// Resumes a part of an image, or a longer one, and compares the report.
+fn expect_at_length(
+    rt: &impl Abort,
+    alloc: Global,
+    shelf: &mut MemShelf,
+    image: &[u8],
+    length: usize,
+) -> Result<(), AllocError> {
+    let part = image.get(..length).unwrap_or(&[]);
+    assert!(rt; part.len() == length && shelf.put(alloc, "X", part).is_ok());
+    let report = if length < 128 {
+        "image 1 Empty\n"
+    } else {
+        "image 4 Geometry\n"
+    };
+    let line = "thynvm resume X --pages 8 --btt 8 --ptt 8 --scheme journal";
+    expect_on(rt, alloc, shelf, line, 5, report)
+}
 
+/// Every length up to the slots, and then those around the end of each block; the image has 542 blocks.
 #[test]
-fn an_image_of_another_length_is_refused(rt: HostRuntime) -> Result<(), Fail> {
+fn an_image_is_refused_at_every_length_but_its_own(rt: HostRuntime) -> Result<(), Fail> {
+    let alloc = rt.alloc();
+    let mut shelf = saved(&rt, alloc)?;
+    let mut image = held(&rt, alloc, &mut shelf, "J");
+    image.push(0)?;
+    for length in 0..130 {
+        expect_at_length(&rt, alloc, &mut shelf, image.as_slice(), length)?;
+    }
+    for block in 3..542 {
+        for length in [64 * block - 1, 64 * block, 64 * block + 1] {
+            expect_at_length(&rt, alloc, &mut shelf, image.as_slice(), length)?;
+        }
+    }
+    for length in [64 * 542 - 1, 64 * 542 + 1] {
+        expect_at_length(&rt, alloc, &mut shelf, image.as_slice(), length)?;
+    }
+    Ok(())
+}
+
+/// Eight bytes of a name, eight of the epoch, and zeros. With another epoch the record has another one, or it is at or
+/// past the ceiling.
+#[test]
+fn a_commit_block_with_a_byte_of_255_is_none(rt: HostRuntime) -> Result<(), Fail> {
     let alloc = rt.alloc();
     let mut shelf = saved(&rt, alloc)?;
     let image = held(&rt, alloc, &mut shelf, "J");
     let line = "thynvm resume X --pages 8 --btt 8 --ptt 8 --scheme journal";
-    for (length, report) in &LENGTHS {
-        let short = image.get(..*length).unwrap_or(&[]);
-        assert!(rt; shelf.put(alloc, "X", short).is_ok());
-        expect_on(&rt, alloc, &mut shelf, line, 5, report)?;
+    for place in 64..128 {
+        let other = patched(alloc, image.as_slice(), place, &[255])?;
+        assert!(rt; shelf.put(alloc, "X", other.as_slice()).is_ok());
+        expect_on(&rt, alloc, &mut shelf, line, 5, "image 5 Commit\n")?;
     }
     Ok(())
 }

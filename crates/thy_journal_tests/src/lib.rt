@@ -5,10 +5,20 @@
 #![tactic(auto)]
 
 #[cfg(test)]
+mod console;
+#[cfg(test)]
 mod cuts;
+#[cfg(test)]
+mod ends;
+#[cfg(test)]
+mod faults;
 #[cfg(test)]
 mod images;
 #[cfg(test)]
+mod made;
+#[cfg(test)]
 mod reports;
+#[cfg(test)]
+mod second_cuts;
 #[cfg(test)]
 mod support;
