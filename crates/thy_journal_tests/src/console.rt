@@ -39,14 +39,8 @@ fn a_terminal_that_fails_is_told(rt: HostRuntime) -> Result<(), Fail> {
 /// Runs that read, and how they end: with four bytes at the start's sp, or with none. Of memory the SHA-256 is reported,
 /// computed by another program.
 static READ: [(&str, &str); 6] = [
-    (
-        "thynvm run R --scheme journal --input A",
-        "\nexit 4 at 6\n",
-    ),
-    (
-        "thynvm run R --scheme journal --input Z",
-        "\nexit 0 at 6\n",
-    ),
+    ("thynvm run R --scheme journal --input A", "\nexit 4 at 6\n"),
+    ("thynvm run R --scheme journal --input Z", "\nexit 0 at 6\n"),
     (
         "thynvm run R --pages 8 --btt 8 --ptt 8 --scheme journal --input A --digest",
         "\nexit 4 at 6\nmemory f5d1994aecdd1db5eb815e0e77ab69b7b00a1de9be36087d0d3beb9e74c815c6\n",

@@ -78,7 +78,8 @@ fn twice(alloc: Global, line: &str) -> Result<[Vec<u8>; 2], AllocError> {
 #[test]
 fn equal_words_give_equal_reports(rt: HostRuntime) -> Result<(), Fail> {
     let alloc = rt.alloc();
-    let line = "thynvm bench 7 --scheme journal --mix 11 --cuts 20000,90000 --tears 5,6 --epoch 3000 --digest";
+    let line =
+        "thynvm bench 7 --scheme journal --mix 11 --cuts 20000,90000 --tears 5,6 --epoch 3000 --digest";
     let [one, other] = twice(alloc, line)?;
     assert!(rt; one == other, "{line}");
     Ok(())

@@ -128,10 +128,22 @@ static REFUSALS: [(&str, u8, &str); 12] = [
     ("thynvm plain F --scheme journal", 2, "usage\n"),
     ("thynvm make 0 OUT --scheme journal", 2, "usage\n"),
     ("thynvm run --scheme journal", 2, "usage\n"),
-    ("thynvm run F --pages 7 --scheme journal", 2, "value pages 7\n"),
+    (
+        "thynvm run F --pages 7 --scheme journal",
+        2,
+        "value pages 7\n",
+    ),
     ("thynvm run F --pages x --scheme journal", 2, "word pages\n"),
-    ("thynvm run F --cuts 5,5 --scheme journal", 2, "value cuts 5\n"),
-    ("thynvm run F --high 10 --scheme journal", 2, "value low 16\n"),
+    (
+        "thynvm run F --cuts 5,5 --scheme journal",
+        2,
+        "value cuts 5\n",
+    ),
+    (
+        "thynvm run F --high 10 --scheme journal",
+        2,
+        "value low 16\n",
+    ),
     ("thynvm run H --scheme journal", 3, "fetch H missing\n"),
     (
         "thynvm bench 4294967296 --scheme journal",

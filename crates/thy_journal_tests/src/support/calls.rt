@@ -98,14 +98,7 @@ pub(crate) fn expect(
     report: &str,
 ) -> Result<(), AllocError> {
     let line = format!(in alloc; "thynvm {arguments} {SMALL}")?;
-    expect_on(
-        rt,
-        alloc,
-        &mut shelf(alloc)?,
-        line.as_str(),
-        status,
-        report,
-    )
+    expect_on(rt, alloc, &mut shelf(alloc)?, line.as_str(), status, report)
 }
 
 /// Runs a file alone with the options of these tests, and compares status and report; nothing is printed.
@@ -117,10 +110,7 @@ pub(crate) fn expect_of(
     report: &str,
 ) -> Result<(), AllocError> {
     let mut held = Vec::new(alloc);
-    held.push((
-        String::from_str(alloc, "F")?,
-        Vec::from_slice(alloc, file)?,
-    ))?;
+    held.push((String::from_str(alloc, "F")?, Vec::from_slice(alloc, file)?))?;
     let mut shelf = MemShelf::new(held, Vec::new(alloc));
     let line = format!(in alloc; "thynvm run F {SMALL}")?;
     let given = called(alloc, line.as_str(), &mut shelf)?;

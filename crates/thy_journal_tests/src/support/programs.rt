@@ -122,7 +122,10 @@ pub(crate) fn shelf_with(alloc: Global, failing: &[u64]) -> Result<MemShelf, All
         files.push((String::from_str(alloc, name)?, file_of(alloc, words)?))?;
     }
     for (name, bytes) in [("A", b"abcd".as_slice()), ("B", b"ab"), ("Z", b"")] {
-        files.push((String::from_str(alloc, name)?, Vec::from_slice(alloc, bytes)?))?;
+        files.push((
+            String::from_str(alloc, name)?,
+            Vec::from_slice(alloc, bytes)?,
+        ))?;
     }
     Ok(MemShelf::new(files, Vec::from_slice(alloc, failing)?))
 }
