@@ -1,6 +1,6 @@
 //! A configuration in range, and the sizes that follow from it.
-ghost use Rattle.std.specs.Prelude.{◌≡◌, ◌↔◌, ◌+◌, ◌*◌, ◌-◌, ◌<◌, ◌≤◌};
-ghost use Rattle.thy_base.specs.Config.{geometry_of, rows_of};
+ghost use Rattle.std.specs.Prelude.{None, ◌≡◌, ◌↔◌, ◌+◌, ◌*◌, ◌-◌, ◌<◌, ◌≤◌};
+ghost use Rattle.thy_base.specs.Config.{fault_of, geometry_of, rows_of};
 ghost use Rattle.thy_base.specs.Geometry.{IsInRange, parameters_of, memory_blocks, program_size, console_room, stack_top};
 ghost use Rattle.thy_base.specs.Ranges.{AreIn};
 
@@ -41,9 +41,17 @@ impl Geometry {
     {
         match first_fault(config) {
             Some(fault) => Err(fault),
-            None => Ok(Geometry {
-                numbers: parameters(config),
-            }),
+            None => Ok(Geometry::of(config)),
+        }
+    }
+
+    /// The geometry of a configuration whose every field is in its range.
+    pub fn of(config: &Config) -> Geometry
+        requires { fault_of config.now ≡ None }
+        ensures { result ≡ parameters_of config.now }
+    {
+        Geometry {
+            numbers: parameters(config),
         }
     }
 

@@ -92,13 +92,7 @@ fn run_plain<'a, H: Shelf, T: Sink, R: Sink, O: Observer>(
         let after = outside (H.stock shelf.new) n (T.stream terminal.new) (R.stream report.new) in
         PlainSeen O.has_seen O.has_seen_last name.now job before after result observer.new }
 {
-    let geometry = match Geometry::new(config) {
-        Ok(geometry) => geometry,
-        Err(fault) => {
-            let error = WordsError::Value(fault.field, fault.value);
-            return refuse(alloc, Refusal::Words(error), report);
-        }
-    };
+    let geometry = Geometry::of(config);
     let Program {
         geometry,
         image,

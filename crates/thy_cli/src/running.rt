@@ -262,13 +262,7 @@ fn run_source<M: Computer, H: Shelf, T: Sink, R: Sink, N: Nvm, O: Observer>(
         save,
         digest,
     } = job;
-    let geometry = match Geometry::new(&config) {
-        Ok(geometry) => geometry,
-        Err(fault) => {
-            let error = WordsError::Value(fault.field, fault.value);
-            return refuse(alloc, Refusal::Words(error), report);
-        }
-    };
+    let geometry = Geometry::of(&config);
     let Beginning { start, blocks } = match prepare(
         alloc,
         source,

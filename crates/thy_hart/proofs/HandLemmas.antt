@@ -1,15 +1,13 @@
 -- What is next of an instruction in hand, by what is left to read and to write.
-use Rattle.std.proofs.Common.{◌≡◌, ℕ, ◌+◌, ◌<◌, ◌≤◌, ◌==◌, Bool, true, false, if◌then◌else◌, nat_lt, List, ◌++◌, length, drop, refl, sym, ◌∙◌, ap, subst, arith}
+use Rattle.std.proofs.Common.{◌≡◌, ℕ, ◌+◌, ◌<◌, ◌≤◌, ◌==◌, Bool, true, false, if◌then◌else◌, nat_lt, List, ◌++◌, length, refl, sym, ◌∙◌, ap, subst, arith}
 use Rattle.std.proofs.lemmas.Bool.Decides.{nat_tests}
-use Rattle.std.proofs.lemmas.List.{length-append, length-drop, length-take-le}
+use Rattle.std.proofs.lemmas.List.{length-append}
 use Rattle.thy_base.specs.declared.block.Block.{Block}
 use Rattle.thy_base.specs.declared.config.Parameters.{Parameters}
-use Rattle.thy_base.specs.Blocks.{block_bytes}
 use Rattle.thy_base.specs.Geometry.{IsInRange, memory_blocks, program_size}
-use Rattle.thy_base.proofs.BlockLemmas.{length-block_bytes}
 use Rattle.thy_flat.specs.declared.span.Span.{Span}
-use Rattle.thy_flat.specs.Spans.{IsSpanOf, first_block, first_byte, head_len, rest_of, head_in}
-use Rattle.thy_flat.proofs.SpanLaws.{head_len-most, head_len-inside, rest_of-rest, length-head_in}
+use Rattle.thy_flat.specs.Spans.{IsSpanOf, first_block, head_len, rest_of, head_in}
+use Rattle.thy_flat.proofs.SpanLaws.{head_len-most, rest_of-rest, length-head_in}
 use Rattle.thy_isa.specs.declared.state.CallState.{CallState}
 use Rattle.thy_isa.specs.declared.state.CpuState.{CpuState}
 use Rattle.thy_isa.specs.declared.state.Effect.{Effect}

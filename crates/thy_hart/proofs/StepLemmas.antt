@@ -1,5 +1,5 @@
 -- What each micro-step does that touches its block, or none: whither it leads, how near that is, what it writes.
-use Rattle.std.proofs.Common.{◌≡◌, ℕ, ◌+◌, ◌-◌, ◌*◌, ◌<◌, ◌≤◌, ◌==◌, Bool, true, false, if◌then◌else◌, nat_lt, List, ◌++◌, length, take, drop, Option, Some, None, refl, sym, ◌∙◌, ap, append_assoc, append-nil, arith}
+use Rattle.std.proofs.Common.{◌≡◌, ℕ, ◌+◌, ◌-◌, ◌*◌, ◌<◌, ◌≤◌, ◌==◌, Bool, true, false, if◌then◌else◌, nat_lt, List, ◌++◌, length, drop, Option, Some, None, refl, sym, ◌∙◌, ap, append_assoc, append-nil, arith}
 use Rattle.std.proofs.lemmas.Bool.Decides.{nat_tests}
 use Rattle.std.proofs.lemmas.List.{drop-drop}
 use Rattle.thy_base.specs.declared.block.Block.{Block}
@@ -10,7 +10,7 @@ use Rattle.thy_base.specs.Geometry.{program_size, console_room}
 use Rattle.thy_cache.specs.Contents.{Contents, hits, victim_of, is_dirty_victim}
 use Rattle.thy_flat.specs.declared.span.Span.{Span}
 use Rattle.thy_flat.specs.Flat.{AllLong}
-use Rattle.thy_flat.specs.Spans.{span, first_block, first_byte, head_len, rest_of, head_read, gathered, head_put, scattered}
+use Rattle.thy_flat.specs.Spans.{span, first_block, head_len, rest_of, head_read, gathered, head_put, scattered}
 use Rattle.thy_flat.proofs.LongLemmas.{AllLong-head_put}
 use Rattle.thy_flat.proofs.SpanLaws.{gathered-none, gathered-rest, scattered-none, scattered-rest, head_put-others}
 use Rattle.thy_isa.specs.declared.state.Cause.{Cause}

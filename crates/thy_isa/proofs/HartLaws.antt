@@ -1,8 +1,6 @@
 -- The hart in front: what it means to put the other one there, and a step of a hart.
-use Rattle.std.proofs.Common.{◌≡◌, ℕ, zero, suc, Bool, true, false, if◌then◌else◌, Option, Some, None, is_some, refl, sym, ap, ◌∙◌}
+use Rattle.std.proofs.Common.{◌≡◌, ℕ, zero, suc, false, Option, Some, None, is_some, refl, ap, ◌∙◌}
 use Rattle.std.proofs.lemmas.Bool.{true≢false}
-use Rattle.thy_base.specs.declared.block.Block.{Block}
-use Rattle.thy_base.specs.declared.config.Parameters.{Parameters}
 use Rattle.thy_isa.specs.declared.state.CallState.{CallState}
 use Rattle.thy_isa.specs.declared.state.Call.{Call}
 use Rattle.thy_isa.specs.declared.state.Call.TheVariants.{Answer, Exit, Break, Take, Give}
@@ -13,8 +11,8 @@ use Rattle.thy_isa.specs.declared.state.OtherHart.{OtherHart}
 use Rattle.thy_isa.specs.Calls.{call_of}
 use Rattle.thy_isa.specs.Laws.{CrossedTwice, BlocksCross, KeepsHarts, OneHartSteps, CrossingKeepsStorable}
 use Rattle.thy_isa.specs.OnBlocks.{state_from}
-use Rattle.thy_isa.specs.Step.{State, Setting, crossed, cpu_crossed, fronted, step_of, call_state_of, cpu_of, effect_at, read_by, served, finished, performed, advanced, is_running, step}
-use Rattle.thy_isa.specs.Storable.{IsOtherOf, IsStorable}
+use Rattle.thy_isa.specs.Step.{State, Setting, crossed, fronted, step_of, call_state_of, cpu_of, effect_at, read_by, served, finished, performed, advanced, is_running, step}
+use Rattle.thy_isa.specs.Storable.{IsStorable}
 use Rattle.thy_isa.proofs.StorableLaws.{if_state}
 
 -- a state with this hart behind the one in front

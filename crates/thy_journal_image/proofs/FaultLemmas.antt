@@ -1,5 +1,5 @@
 -- The first fault of a slot and of a file, test by test, and what a check says.
-use Rattle.std.proofs.Common.{◌≡◌, ℕ, ◌*◌, ◌≤◌, ◌==◌, Bool, true, false, if◌then◌else◌, List, length, Option, Some, None, Result, Ok, Err, refl, sym, ◌∙◌, ap}
+use Rattle.std.proofs.Common.{◌≡◌, ℕ, ◌≤◌, ◌==◌, true, false, if◌then◌else◌, List, length, Option, Some, None, Ok, Err, sym, ◌∙◌, ap}
 use Rattle.std.proofs.lemmas.Bool.{eq-eqb, ne_eqb, le-ltb}
 use Rattle.std.specs.Option.{option_or}
 use Rattle.thy_base.specs.declared.block.Block.{Block}
@@ -8,14 +8,13 @@ use Rattle.thy_base.specs.Device.{block_at}
 use Rattle.thy_isa.specs.Step.{State}
 use Rattle.thy_record.specs.declared.bad_image.BadImage.{BadImage}
 use Rattle.thy_record.specs.declared.bad_image.BadImage.TheVariants.{Commit, Empty}
-use Rattle.thy_record.specs.declared.file.Found.{Found}
 use Rattle.thy_record.specs.declared.file.Found.TheVariants.{Nothing as FoundNothing, At as FoundAt}
 use Rattle.thy_record.specs.Commit.{is_zero, epoch_of}
 use Rattle.thy_record.specs.Cpu.{record_word}
-use Rattle.thy_record.specs.Decoded.{Decoded, Nothing, Refused}
+use Rattle.thy_record.specs.Decoded.{Nothing, Refused}
 use Rattle.thy_record.specs.Files.{blocks_of, found_in}
 use Rattle.thy_record.specs.Slots.{epoch_fault, status_fault}
-use Rattle.thy_protocol.specs.Layout.{Layout, slot_in, memory_in, fault_of, refused_or_at}
+use Rattle.thy_protocol.specs.Layout.{Layout, slot_in, memory_in, refused_or_at}
 use Rattle.thy_journal_image.specs.Commit.{commit_fault}
 use Rattle.thy_journal_image.specs.Files.{is_sized_file, decode_sized, decode_file, file_fault}
 use Rattle.thy_journal_image.specs.Header.{header_fault}

@@ -1,5 +1,5 @@
 -- What a file has that decodes to a checkpoint.
-use Rattle.std.proofs.Common.{◌≡◌, ℕ, ◌*◌, ◌/◌, ◌%◌, ◌<◌, ◌≤◌, ◌==◌, ◌&&◌, Bool, true, false, nat_lt, if◌then◌else◌, List, length, map, take, drop, Option, Some, None, Ok, refl, sym, ◌∙◌, ap, arith}
+use Rattle.std.proofs.Common.{◌≡◌, ℕ, ◌*◌, ◌%◌, ◌==◌, ◌&&◌, Bool, true, false, nat_lt, if◌then◌else◌, List, length, take, drop, Option, Some, None, Ok, refl, sym, ◌∙◌, ap, arith}
 use Rattle.std.specs.List.{range_with_len}
 use Rattle.std.specs.Option.{option_or}
 use Rattle.std.proofs.lemmas.Bool.{eqb-true, eq-eqb}
@@ -19,7 +19,7 @@ use Rattle.thy_record.proofs.FileLemmas.{length-blocks_of, blocks_of-part}
 use Rattle.thy_record.proofs.IssuingLemmas.{half}
 use Rattle.thy_record.proofs.TableFaultLemmas.{neither}
 use Rattle.thy_protocol.specs.Layout.{Layout, blocks_at, slot_in, memory_in, is_sized, refused_or_at, decode_by, IsWhole}
-use Rattle.thy_protocol.proofs.LayoutLemmas.{decode_by-whole, decode_by-whole_back}
+use Rattle.thy_protocol.proofs.LayoutLemmas.{decode_by-whole_back}
 use Rattle.thy_journal_image.specs.Commit.{commit_fault}
 use Rattle.thy_journal_image.specs.Files.{is_sized_file, decode_sized, decode_file, file_fault, HasCheckpointOf, HasState}
 use Rattle.thy_journal_image.specs.Header.{is_of_geometry, header_fault}

@@ -12,7 +12,7 @@ use Rattle.thy_record.proofs.IssuingLemmas.{half}
 use Rattle.thy_protocol.specs.Layout.{Layout, slot_places, memory_places as places_by, slot_in, looked_by, parts_of}
 use Rattle.thy_protocol.proofs.IssuingLemmas.{row_of}
 use Rattle.thy_protocol.proofs.LayoutLemmas.{looked_nothing, looked_parts}
-use Rattle.thy_journal_image.specs.Places.{slot_blocks, slot_place, home_place, journal_place, first_home, place_by, place_of}
+use Rattle.thy_journal_image.specs.Places.{slot_blocks, slot_place, journal_place, first_home, place_by}
 use Rattle.thy_journal_image.specs.Slots.{IsTable, table_in}
 use Rattle.thy_journal_image.specs.Layout.{journal_layouts}
 use Rattle.thy_journal_image.specs.CheckpointParts.{memory_places, IsToldBy}

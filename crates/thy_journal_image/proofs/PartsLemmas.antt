@@ -1,5 +1,5 @@
 -- The places of the parts of a checkpoint, and that it is one once they were issued.
-use Rattle.std.proofs.Common.{◌≡◌, ℕ, zero, suc, ◌+◌, ◌*◌, ◌%◌, ◌^◌, ◌<◌, ◌≤◌, true, List, length, get_or, Contains, Option, Some, None, refl, sym, ◌∙◌, ap, subst, arith}
+use Rattle.std.proofs.Common.{◌≡◌, ℕ, zero, suc, ◌+◌, ◌%◌, ◌^◌, ◌<◌, ◌≤◌, true, List, length, get_or, Contains, Option, Some, None, refl, sym, ◌∙◌, ap, subst, arith}
 use Rattle.std.specs.List.{range_with_len}
 use Rattle.std.specs.Option.{option_or}
 use Rattle.std.proofs.lemmas.List.{length-map, get_or-map}
@@ -14,7 +14,7 @@ use Rattle.thy_record.specs.declared.bad_image.BadImage.{BadImage}
 use Rattle.thy_record.specs.Commit.{epoch_of, commit_of}
 use Rattle.thy_record.specs.Cpu.{IsRecordable, cpu_of_record}
 use Rattle.thy_record.specs.Decoded.{At}
-use Rattle.thy_record.specs.Tables.{Lists, entry_of}
+use Rattle.thy_record.specs.Tables.{entry_of}
 use Rattle.thy_record.proofs.EntryLemmas.{entry_of-Some, Lists-inside}
 use Rattle.thy_record.proofs.IssuingLemmas.{half}
 use Rattle.thy_record.proofs.TableFaultLemmas.{both_none}

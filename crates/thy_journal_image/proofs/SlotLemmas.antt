@@ -1,8 +1,7 @@
 -- A slot reads back as it was written. Its blocks after the record are those of two tables whose page table lists nothing,
 -- with the blocks of that table left out.
-use Rattle.std.proofs.Common.{◌≡◌, ℕ, ◌+◌, ◌-◌, ◌*◌, ◌/◌, ◌%◌, ◌^◌, ◌<◌, ◌≤◌, nat_lt, if◌then◌else◌, List, ◌++◌, length, map, take, drop, replicate, Option, Some, None, refl, sym, ◌∙◌, ap, inl, inr, arith}
+use Rattle.std.proofs.Common.{◌≡◌, ℕ, ◌+◌, ◌-◌, ◌*◌, ◌%◌, ◌^◌, ◌<◌, ◌≤◌, if◌then◌else◌, List, ◌++◌, length, map, take, drop, replicate, Option, Some, None, refl, sym, ◌∙◌, ap, inl, inr, arith}
 use Rattle.std.specs.Option.{option_or, option_map}
-use Rattle.std.specs.List.{range_with_len}
 use Rattle.std.proofs.lemmas.Bool.{cases_lt, lt-ltb}
 use Rattle.std.proofs.lemmas.List.{take-append-le, drop-append-le, drop-replicate, take-replicate, take-map, drop-map, length-drop, length-replicate, get_or-replicate, get_or_past}
 use Rattle.std.proofs.Math.Seq.{drop-append-add}
@@ -17,7 +16,7 @@ use Rattle.thy_base.specs.Words.{block_of}
 use Rattle.thy_base.proofs.RangeLemmas.{btt_eights, ptt_eights}
 use Rattle.thy_isa.specs.declared.state.CpuState.{CpuState}
 use Rattle.thy_record.specs.declared.bad_image.BadImage.{BadImage}
-use Rattle.thy_record.specs.Cpu.{cpu_block_of, cpu_of_record, BeginsWithRecord, IsRecordable}
+use Rattle.thy_record.specs.Cpu.{cpu_block_of, BeginsWithRecord, IsRecordable}
 use Rattle.thy_record.specs.Slots.{HasTableBlocks, tables_in, epoch_fault, status_fault}
 use Rattle.thy_record.specs.TableBlocks.{entry_word, table_block_of as full_block_of}
 use Rattle.thy_record.specs.TableFaults.{first_clash, index_rule, twice_rule, under_rule, index_fault as full_index, twice_fault as full_twice, under_fault, tables_fault}

@@ -1,6 +1,6 @@
 -- Part of the claim.
 -- Images of the journal as a layout.
-use Rattle.std.specs.Prelude.{ℕ, ◌%◌}
+use Rattle.std.specs.Prelude.{◌%◌}
 use Rattle.thy_base.specs.Geometry.{memory_blocks}
 use Rattle.thy_isa.specs.OnBlocks.{state_from}
 use Rattle.thy_record.specs.Commit.{epoch_of}

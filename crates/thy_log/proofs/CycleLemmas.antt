@@ -1,5 +1,5 @@
 -- Every item takes a cycle, and a checkpoint has few.
-use Rattle.std.proofs.Common.{◌≡◌, ℕ, ◌+◌, ◌-◌, ◌*◌, ◌<◌, ◌≤◌, Bool, true, false, nat_lt, if◌then◌else◌, length, Option, Some, None, refl, sym, ◌∙◌, ap, subst, arith}
+use Rattle.std.proofs.Common.{◌≡◌, ℕ, ◌+◌, ◌-◌, ◌<◌, ◌≤◌, Bool, true, false, nat_lt, if◌then◌else◌, Option, Some, None, refl, subst, arith}
 use Rattle.std.proofs.lemmas.Bool.{ltb-true, ltb-false}
 use Rattle.thy_base.specs.declared.config.Parameters.{Parameters}
 use Rattle.thy_table.specs.Listing.{passes}
@@ -7,9 +7,9 @@ use Rattle.thy_table.proofs.FirstLemmas.{first_from-first}
 use Rattle.thy_journal_image.specs.Places.{slot_blocks}
 use Rattle.thy_log.specs.declared.stage.JournalStage.{JournalStage}
 use Rattle.thy_log.specs.declared.stage.JournalStage.TheVariants.{Nothing, Journal, Slot, Settle, Commit, Confirm, Home}
-use Rattle.thy_log.specs.Cycles.{left_after, cycles_left, most_cycles, ItemsCount, CyclesAreFew}
+use Rattle.thy_log.specs.Cycles.{left_after, most_cycles, ItemsCount, CyclesAreFew}
 use Rattle.thy_log.specs.Items.{is_under_way, Item, SlotItem, item, is_live, next_after, next_live, journal_or_slot, home_or_release}
-use Rattle.thy_log.specs.Progress.{Progress, IsSoundProgress, Fits}
+use Rattle.thy_log.specs.Progress.{Progress, Fits}
 use Rattle.thy_log.specs.State.{State, IsSoundState}
 
 few : (p : Parameters) (next : JournalStage) → left_after p next ≤ most_cycles p

@@ -1,10 +1,10 @@
 -- The log's table as that of a checkpoint, and its entries, block by block.
-use Rattle.std.proofs.Common.{◌≡◌, ℕ, ◌+◌, ◌*◌, ◌/◌, ◌^◌, ◌-◌, ◌<◌, ◌≤◌, true, false, List, length, map, take, drop, Option, Some, None, refl, sym, ◌∙◌, ap, subst, inl, inr, arith}
+use Rattle.std.proofs.Common.{◌≡◌, ℕ, ◌+◌, ◌*◌, ◌^◌, ◌-◌, ◌<◌, ◌≤◌, true, false, List, length, map, take, drop, Option, Some, None, refl, sym, ◌∙◌, ap, subst, inl, inr, arith}
 use Rattle.std.specs.Option.{option_map}
 use Rattle.std.proofs.lemmas.Bool.{cases_lt, eq-eqb, eqb-true}
 use Rattle.std.proofs.lemmas.List.{take-map, drop-map, length-map, length-drop, length-take-le, length-take, get_or-map, get_or_past, get_or-take, get_or-drop, ext_get_or}
 use Rattle.thy_base.specs.declared.config.Parameters.{Parameters}
-use Rattle.thy_base.specs.Geometry.{IsInRange, memory_blocks}
+use Rattle.thy_base.specs.Geometry.{IsInRange}
 use Rattle.thy_record.specs.Tables.{entry_at as listed_at, Lists, entry_of}
 use Rattle.thy_record.proofs.EntryLemmas.{Lists-inside, entry_of-absent, entry_of-listed}
 use Rattle.thy_record.specs.TableBlocks.{entry_word, HaveWords}

@@ -1,5 +1,5 @@
 -- An image of version 1 is migrated: its checkpoint in version 2 is the next image, once its slot was issued.
-use Rattle.std.proofs.Common.{◌≡◌, ℕ, ◌+◌, ◌%◌, ◌^◌, ◌<◌, ◌≤◌, true, List, length, None, sym, ◌∙◌, ap, arith}
+use Rattle.std.proofs.Common.{◌≡◌, ℕ, ◌+◌, ◌%◌, ◌^◌, ◌<◌, ◌≤◌, true, List, length, None, ◌∙◌, ap, arith}
 use Rattle.std.specs.Option.{option_or}
 use Rattle.std.proofs.lemmas.List.FromFn.{length-map-range_with_len, get_or-map-range_with_len}
 use Rattle.thy_base.specs.declared.block.Block.{Block}
@@ -16,7 +16,7 @@ use Rattle.thy_record.specs.Header.{header_fault}
 use Rattle.thy_record.specs.Images.{memory_numbers}
 use Rattle.thy_record.specs.Migrated.{IsWrittenAnew, MeansTheSame}
 use Rattle.thy_record.specs.Slots.{tables_in, counts_in, epoch_fault, status_fault, count_fault, slot_fault}
-use Rattle.thy_record.specs.Tables.{Tables, IsTables}
+use Rattle.thy_record.specs.Tables.{IsTables}
 use Rattle.thy_record.specs.TableFaults.{tables_fault}
 use Rattle.thy_record.proofs.IssuingLemmas.{memory_between, slot_of_memory, half}
 use Rattle.thy_record.proofs.MigratedLemmas.{anew_means_the_same}
@@ -26,7 +26,6 @@ use Rattle.thy_record.proofs.TableFaultLemmas.{neither, IsTables-faultless}
 use Rattle.thy_crash.specs.Saved.{next_image}
 use Rattle.thy_crash.proofs.SavedLemmas.{next_image-commit}
 use Rattle.thy_protocol.specs.Issuing.{slot_of, ArePlaced, ArePartsOf, AreIssued, IsCheckpoint}
-use Rattle.thy_protocol.specs.Layout.{Layout}
 use Rattle.thy_protocol.specs.Migrated.{migrated_parts, IsMigrated, MigrationDecodes}
 use Rattle.thy_protocol.specs.DualLayouts.{dual_layouts}
 use Rattle.thy_protocol.proofs.IssuingLemmas.{issued_is_checkpoint}

@@ -1,10 +1,7 @@
 -- With one hart no turn need be told.
-use Rattle.std.proofs.Common.{◌≡◌, List, [], sym, ◌∙◌}
-use Rattle.thy_view.specs.declared.did.Did.{Did}
+use Rattle.std.proofs.Common.{sym, ◌∙◌}
 use Rattle.thy_view.specs.declared.did.Did.TheVariants.{Boot, Loaded, Restarted, Refused, Moved, Retired, Flushed, Merged, Sealed, Promoted, Engine, Committed, NvmDrained, DramDrained, Nothing}
-use Rattle.thy_view.specs.declared.view.View.{View}
 use Rattle.thy_view.specs.OneHart.{EachHasItsTurn}
-use Rattle.thy_view.specs.Origin.{Origin}
 use Rattle.thy_view.proofs.TurnLaws.{untold}
 
 pub has-turn : EachHasItsTurn

@@ -1,16 +1,14 @@
 -- The plain machine by turns.
-use Rattle.std.proofs.Common.{◌≡◌, ◌≢◌, ◌⊎◌, ℕ, zero, suc, ◌+◌, ◌-◌, ◌<◌, ◌≤◌, Bool, true, false, nat_lt, if◌then◌else◌, List, [], ◌∷◌, ◌++◌, length, take, drop, replicate, get_or, Option, Some, None, refl, sym, ◌∙◌, ap, subst, inl, inr, arith}
+use Rattle.std.proofs.Common.{◌≡◌, ℕ, zero, suc, ◌+◌, ◌-◌, ◌<◌, ◌≤◌, Bool, true, false, nat_lt, if◌then◌else◌, List, [], ◌∷◌, ◌++◌, length, take, drop, replicate, get_or, Option, refl, sym, ◌∙◌, ap, subst, inl, inr, arith}
 use Rattle.std.proofs.lemmas.Bool.{cases_eq, cases_lt, lt-ltb, le-ltb}
 use Rattle.std.proofs.lemmas.List.{length-append, length-replicate, length-take-le, get_or_append_left, get_or-append_right, get_or-take, get_or-drop, get_or-replicate, get_or_at, get_or_past}
 use Rattle.thy_base.specs.declared.mark.Mark.{Mark}
-use Rattle.thy_base.specs.Device.{Device}
-use Rattle.thy_base.specs.Marks.{mark}
 use Rattle.thy_isa.specs.Step.{State, Setting, crossed, step, step_of, steps}
-use Rattle.thy_record.specs.Decoded.{Decoded, Nothing as NothingFound, Refused as RefusedImage, At, Reading}
+use Rattle.thy_record.specs.Decoded.{Decoded, Nothing as NothingFound, Refused as RefusedImage, At}
 use Rattle.thy_view.specs.Laws.{TurnsLeadTo, StaysSafe, HartZeroSteps, UntoldSteps}
 use Rattle.thy_record.specs.declared.start.Start.{Start}
 use Rattle.thy_view.specs.Origin.{Origin, IsOrigin, Begins, setting_of, turn_at, by_turns, at}
-use Rattle.thy_view.specs.Safe.{ceiling, Safe, IsOneOf}
+use Rattle.thy_view.specs.Safe.{ceiling, IsOneOf}
 use Rattle.thy_view.specs.Told.{told, AgreeBelow, count_of}
 
 -- ---- turns

@@ -1,4 +1,4 @@
-use Rattle.std.proofs.Common.{◌∙◌, ℕ, List, Option, length, take, ap, arith}
+use Rattle.std.proofs.Common.{◌∙◌, ℕ, Option, length, take, ap, arith}
 use Rattle.std.proofs.lemmas.List.{take_all}
 use Rattle.thy_base.specs.declared.config.Parameters.{Parameters}
 use Rattle.thy_record.specs.Files.{blocks_of}

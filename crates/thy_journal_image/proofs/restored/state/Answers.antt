@@ -1,9 +1,8 @@
-use Rattle.std.proofs.Common.{◌≡◌, ◌∙◌, ◌*◌, ◌/◌, ◌%◌, ◌≤◌, ℕ, List, length, map, sym, ap, subst, arith}
+use Rattle.std.proofs.Common.{◌≡◌, ◌∙◌, ◌*◌, ◌%◌, ℕ, List, length, map, sym, ap, subst, arith}
 use Rattle.std.specs.List.{range_with_len}
 use Rattle.thy_base.specs.declared.block.Block.{Block}
 use Rattle.thy_base.specs.declared.config.Parameters.{Parameters}
 use Rattle.thy_base.specs.Device.{block_at}
-use Rattle.thy_base.specs.Geometry.{memory_blocks}
 use Rattle.thy_isa.specs.declared.state.CpuState.{CpuState}
 use Rattle.thy_isa.specs.declared.state.MachState.{MachState}
 use Rattle.thy_isa.specs.OnBlocks.{state_from}
@@ -12,9 +11,9 @@ use Rattle.thy_record.specs.Commit.{epoch_of}
 use Rattle.thy_record.specs.Cpu.{cpu_of_record}
 use Rattle.thy_record.specs.Files.{block_in, blocks_of}
 use Rattle.thy_record.specs.Index.{AreInside}
-use Rattle.thy_record.proofs.FileLemmas.{length-blocks_of, block_at-blocks_of}
+use Rattle.thy_record.proofs.FileLemmas.{block_at-blocks_of}
 use Rattle.thy_record.proofs.RestoredLemmas.{if_ok}
-use Rattle.thy_protocol.specs.Layout.{Layout, blocks_at, slot_in, memory_in}
+use Rattle.thy_protocol.specs.Layout.{blocks_at, slot_in, memory_in}
 use Rattle.thy_journal_image.specs.Files.{HasCheckpointOf}
 use Rattle.thy_journal_image.specs.Layout.{journal_layouts}
 use Rattle.thy_journal_image.specs.CheckpointParts.{memory_places}

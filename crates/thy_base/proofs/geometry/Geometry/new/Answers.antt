@@ -1,10 +1,7 @@
 use Rattle.std.proofs.Common.{sym}
 use Rattle.thy_base.specs.Config.{rows_of}
-use Rattle.thy_base.proofs.RangeLemmas.{AreIn-none, none-AreIn, IsInRange-rows}
+use Rattle.thy_base.proofs.RangeLemmas.{AreIn-none, none-AreIn}
 use Rattle.thy_base.proofs.geometry.Geometry.new.Goals as goal
-
-pub invariant_of-result : goal.invariant_of-result
-invariant_of-result c = rw c.parameters.ensures (IsInRange-rows c.args.config.now (AreIn-none (rows_of c.args.config.now) (sym c.in-None.ensures)))
 
 pub returns-in-None-clause-in_range : goal.returns-in-None-clause-in_range
 returns-in-None-clause-in_range c = (λ same. AreIn-none (rows_of c.args.config.now) (sym c.in-None.ensures), λ all. cc)

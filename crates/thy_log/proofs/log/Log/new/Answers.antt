@@ -1,4 +1,4 @@
-use Rattle.std.proofs.Common.{◌≡◌, length, ◌∙◌, ap}
+use Rattle.std.proofs.Common.{length, ◌∙◌, ap}
 use Rattle.thy_base.specs.declared.config.Parameters.{Parameters}
 use Rattle.thy_table.specs.Listing.{Listing}
 use Rattle.thy_log.specs.declared.entry.Listed.{Listed}

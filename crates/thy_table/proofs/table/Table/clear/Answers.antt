@@ -1,4 +1,4 @@
-use Rattle.std.proofs.Common.{◌≡◌, ◌<◌, ◌/◌, [], Some, None, true, List, length, get_or, refl, sym, ◌∙◌, ap, subst, arith}
+use Rattle.std.proofs.Common.{◌≡◌, ◌<◌, ◌/◌, [], Some, None, true, List, length, get_or, sym, ◌∙◌, ap, subst, arith}
 use Rattle.std.proofs.lemmas.List.{get_or_read}
 use Rattle.thy_table.specs.Listing.{leads, IsLastOf}
 use Rattle.thy_table.proofs.IndexLemmas.{IsSoundTable-cleared, group-here, leader-read, leads-here, leader-here}

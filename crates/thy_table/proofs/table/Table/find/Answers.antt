@@ -1,4 +1,4 @@
-use Rattle.std.proofs.Common.{◌≡◌, Bool, true, false, position, List, Some, None, get_or, sym, ◌∙◌, ap}
+use Rattle.std.proofs.Common.{◌≡◌, true, false, List, Some, None, get_or, sym, ◌∙◌, ap}
 use Rattle.thy_table.specs.Listing.{lists, place_of, indexed_at}
 use Rattle.thy_table.proofs.IndexLemmas.{position-indexed, position-unindexed}
 use Rattle.thy_table.proofs.table.Table.find.Goals as goal

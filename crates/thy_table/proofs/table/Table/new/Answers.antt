@@ -1,4 +1,3 @@
-use Rattle.std.proofs.Common.{◌≡◌, rules}
 use Rattle.thy_table.proofs.IndexLemmas.{IsSoundTable-empty}
 use Rattle.thy_table.proofs.table.Table.new.Goals as goal
 

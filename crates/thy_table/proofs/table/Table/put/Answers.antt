@@ -1,4 +1,4 @@
-use Rattle.std.proofs.Common.{◌≡◌, ◌<◌, ◌/◌, [], None, if◌then◌else◌, List, length, get_or, position, sym, ◌∙◌, ap, arith}
+use Rattle.std.proofs.Common.{◌≡◌, ◌<◌, ◌/◌, [], None, if◌then◌else◌, List, length, get_or, position, ◌∙◌, ap, arith}
 use Rattle.std.proofs.lemmas.List.{get_or_read}
 use Rattle.thy_table.specs.Listing.{place_of, lists, leads, entry_at}
 use Rattle.thy_table.proofs.IndexLemmas.{IsSoundTable-put, some-free, group-inside, leader_with-inside}
