@@ -1,5 +1,5 @@
 -- Each actor's cycle, from what its call leaves.
-use Rattle.std.proofs.Common.{◌≡◌, ◌≢◌, ◌⊎◌, ℕ, ◌-◌, ◌<◌, ◌≤◌, ◌^◌, Bool, List, true, false, if◌then◌else◌, length, Some, None, Result, Ok, Err, IfOk, OnErr, refl, sym, ◌∙◌, ap, subst, inl, inr, arith}
+use Rattle.std.proofs.Common.{◌≡◌, ◌≢◌, ◌⊎◌, ℕ, ◌-◌, ◌<◌, ◌≤◌, ◌^◌, Bool, List, true, false, if◌then◌else◌, length, Some, None, Result, Ok, Err, IsErr, IfOk, OnErr, true≢false, refl, sym, ◌∙◌, ap, subst, inl, inr, arith}
 use Rattle.thy_base.specs.declared.cause.EndCause.{EndCause}
 use Rattle.thy_base.specs.declared.nvm.NvmError.{NvmError}
 use Rattle.thy_base.specs.Marks.{mark}
@@ -42,7 +42,7 @@ use Rattle.thy_core_laws.specs.Machine.{Machine, view_of, moment_of, pressure_of
 use Rattle.thy_core_laws.specs.Sound.{OpenNow, Sound}
 use Rattle.thy_core_laws.specs.Calls.{IsAsked, HartCall, FlushCall, retires_by, hart_did, after_hart, after_flush, after_call, after_drain, after_seal, after_engine, after_boot}
 use Rattle.thy_core_laws.specs.Rows.{IsMoment, At, HartGoes, IsSealing, SimulatesCycle}
-use Rattle.thy_core.specs.Cycles.{IsEngineDue, IsTurnOf, IsCycle, HasFailedAs, SimulatesAs, FailsAs}
+use Rattle.thy_core.specs.Cycles.{IsEngineDue, IsTurnOf, IsAnyRun, IsCycle, HasFailedAs, HasTaken}
 use Rattle.thy_core_laws.proofs.Facts.{view-run, sound-run, holds-run, is-going}
 use Rattle.thy_core_laws.proofs.KeepsLaws.{stands, runs_behind}
 use Rattle.thy_core_laws.proofs.BootingLaws.{sound-boot, small-boot}
@@ -54,11 +54,6 @@ use Rattle.thy_core_laws.proofs.SealRow.{standing, seal_simulates}
 use Rattle.thy_core_laws.proofs.HartCases.{hart-simulates}
 use Rattle.thy_core_laws.proofs.FailRows.{hart_fails, flush_fails, promotion_leaves, engine_leaves, boot_leaves, drain_fails}
 use Rattle.thy_core_laws.proofs.BootRow.{boot_simulates}
-
--- a call that failed
-pub on_err : {T E : Type 0} (r : Result T E) {P : Type 0} → P → OnErr r P
-on_err (Ok x) p = tt
-on_err (Err e) p = p
 
 does_boot : (step : BootStep) → Does (boot_did step) (TheHart (Some Booting))
 does_boot GoesOn = refl
@@ -362,12 +357,12 @@ pub waits_failed : {S : Type 0} (K : SchemeOf S) (o : Origin) (m next : Machine 
 waits_failed K o m next n new f = record { did = f.did; does = waits_does f.did f.does; due = f.due; fails = f.fails; hart = f.hart }
 
 -- so it is by a result
-pub waits_simulates : {S : Type 0} (K : SchemeOf S) (o : Origin) (cycles : ℕ) (m next : Machine S) (n new : Device) (r : Result Did NvmError)
+waits_simulates : {S : Type 0} (K : SchemeOf S) (o : Origin) (cycles : ℕ) (m next : Machine S) (n new : Device) (r : Result Did NvmError)
     → IfOk r (λ did. IsCycle K o cycles Checkpoint did m n next new) → IfOk r (λ did. IsCycle K o cycles (TheHart (Some Waiting)) did m n next new)
 waits_simulates K o cycles m next n new (Ok did) c = waits_cycle K o cycles did m next n new c
 waits_simulates K o cycles m next n new (Err e) c = tt
 
-pub waits_fails : {S : Type 0} (K : SchemeOf S) (o : Origin) (m next : Machine S) (n new : Device) (r : Result Did NvmError)
+waits_fails : {S : Type 0} (K : SchemeOf S) (o : Origin) (m next : Machine S) (n new : Device) (r : Result Did NvmError)
     → OnErr r (HasFailedAs K o Checkpoint m next n new) → OnErr r (HasFailedAs K o (TheHart (Some Waiting)) m next n new)
 waits_fails K o m next n new (Ok did) f = tt
 waits_fails K o m next n new (Err e) f = waits_failed K o m next n new f
@@ -383,7 +378,7 @@ pub asked_once : {S N : Type 0} (K : SchemeOf S) (device : N → Device) (a b : 
 asked_once K device a b x y (inl same) = inl (ap (λ s. s.scheme) same.0, ap device same.1)
 asked_once K device a b x y (inr once) = inr once.access
 
-framed_same : (n : Device) → IsFramed n n
+pub framed_same : (n : Device) → IsFramed n n
 framed_same n = record { blocks = refl; left = refl; picks = refl; queue_room = refl; left_room = refl; fits = refl; lent = refl }
 
 pub framed_once : {S N : Type 0} (K : SchemeOf S) (device : N → Device) (a b : SchemeStore S) (x y : N) → CalledOnce K device a x b y
@@ -459,16 +454,35 @@ hart_call K device o p b x y h c step input free way i f w s once stays untouche
       rests = λ clean. rests_by K p.store b x y (loads clean);
     }
 
--- ---- the turn by another name
+-- ---- the record of a turn
 
-pub simulates_is : {S : Type 0} (K : SchemeOf S) (P Q : Origin → Type 0) (a b : Actor) (m next : Machine S) (n new : Device) (r : Result Did NvmError)
-    → b ≡ a → ((o : Origin) → Q o → P o) → SimulatesAs K P a m n next new r → SimulatesAs K Q b m n next new r
-simulates_is K P Q a b m next n new r e kind simulates = λ o cycles q at turn.
-    subst (λ x. IfOk r (λ did. IsCycle K o cycles x did m n next new)) (sym e)
-    (simulates o cycles (kind o q) at (subst (IsTurnOf K o m n) e turn))
+-- a cycle whose call failed, by what the exit of the call returns
+pub taken_err : {S : Type 0} (K : SchemeOf S) (P : Origin → Type 0) (actor : Actor) (m next : Machine S) (n new : Device) (r : Result Did NvmError) → IsErr r
+    → ((o : Origin) (cycles : ℕ) → P o → IsMoment K o cycles m n → IsTurnOf K o m n actor → HasFailedAs K o actor m next n new)
+    → IsFramed n new → Rose n.faults new.faults → HasTaken K P actor m n next new r
+taken_err K P actor m next n new (Ok did) is fails frame rose = absurd (true≢false (sym is))
+taken_err K P actor m next n new (Err e) is fails frame rose = record { simulates = λ o cycles q at turn. tt; fails = fails; frame = frame; cause = rose }
 
-pub fails_is : {S : Type 0} (K : SchemeOf S) (P Q : Origin → Type 0) (a b : Actor) (m next : Machine S) (n new : Device) (r : Result Did NvmError)
-    → b ≡ a → ((o : Origin) → Q o → P o) → FailsAs K P a m n next new r → FailsAs K Q b m n next new r
-fails_is K P Q a b m next n new r e kind fails = λ o cycles q at turn.
-    subst (λ x. OnErr r (HasFailedAs K o x m next n new)) (sym e)
-    (fails o cycles (kind o q) at (subst (IsTurnOf K o m n) e turn))
+-- the turn by another name
+pub taken_is : {S : Type 0} (K : SchemeOf S) (P Q : Origin → Type 0) (a b : Actor) (m next : Machine S) (n new : Device) (r : Result Did NvmError)
+    → b ≡ a → ((o : Origin) → Q o → P o) → HasTaken K P a m n next new r → HasTaken K Q b m n next new r
+taken_is K P Q a b m next n new r e kind taken = record {
+  simulates = λ o cycles q at turn.
+      subst (λ x. IfOk r (λ did. IsCycle K o cycles x did m n next new)) (sym e)
+      (taken.simulates o cycles (kind o q) at (subst (IsTurnOf K o m n) e turn));
+  fails = λ o cycles q at turn.
+      subst (λ x. OnErr r (HasFailedAs K o x m next n new)) (sym e)
+      (taken.fails o cycles (kind o q) at (subst (IsTurnOf K o m n) e turn));
+  frame = taken.frame;
+  cause = taken.cause;
+}
+
+-- the engine's, for a hart that waits
+pub waits_taken : {S : Type 0} (K : SchemeOf S) (m next : Machine S) (n new : Device) (r : Result Did NvmError)
+    → HasTaken K IsAnyRun Checkpoint m n next new r → HasTaken K IsAnyRun (TheHart (Some Waiting)) m n next new r
+waits_taken K m next n new r taken = record {
+  simulates = λ o cycles any at due. waits_simulates K o cycles m next n new r (taken.simulates o cycles any at due);
+  fails = λ o cycles any at due. waits_fails K o m next n new r (taken.fails o cycles any at due);
+  frame = taken.frame;
+  cause = taken.cause;
+}

@@ -1,7 +1,7 @@
 -- What a cycle promises at an actor's turn.
 use Rattle.std.specs.Prelude.{◌≡◌, ℕ, ◌<◌, true, List, length, Option, Some, None, Result, IfOk, OnErr}
 use Rattle.thy_base.specs.declared.nvm.NvmError.{NvmError}
-use Rattle.thy_base.specs.Device.{Device}
+use Rattle.thy_base.specs.Device.{Device, IsFramed, CountsFault}
 use Rattle.thy_record.specs.declared.start.Start.{Start}
 use Rattle.thy_view.specs.declared.did.Did.{Did}
 use Rattle.thy_view.specs.declared.did.Stall.{Stall}
@@ -76,3 +76,10 @@ SimulatesAs K P actor m n next new result =
 abbrev pub FailsAs : {S : Type 0} → SchemeOf S → (Origin → Type 0) → Actor → Machine S → Device → Machine S → Device → Result Did NvmError → Type 0
 FailsAs K P actor m n next new result =
     (o : Origin) (cycles : ℕ) → P o → IsMoment K o cycles m n → IsTurnOf K o m n actor → OnErr result (HasFailedAs K o actor m next n new)
+
+-- the cycle was the actor's, or failed as one of the actor's; the NVM's frame stays, and a failure is counted
+pub record HasTaken {S : Type 0} (K : SchemeOf S) (P : Origin → Type 0) (actor : Actor) (m : Machine S) (n : Device) (next : Machine S) (new : Device) (result : Result Did NvmError) : Type 0 where
+  pub simulates : SimulatesAs K P actor m n next new result
+  pub fails : FailsAs K P actor m n next new result
+  pub frame : IsFramed n new
+  pub cause : CountsFault result n.faults new.faults

@@ -1,13 +1,12 @@
 //! The boot's turn.
 ghost use Rattle.std.specs.Prelude.{◌≡◌, ◌+◌, ◌-◌, ◌<◌, ◌^◌, if◌then◌else◌, Some};
-ghost use Rattle.thy_base.specs.Device.{IsFramed, CountsFault};
 ghost use Rattle.thy_isa.specs.Step.{state_of, cpu_of, is_running};
 ghost use Rattle.thy_view.specs.declared.did.Stall.TheVariants.{Booting};
 ghost use Rattle.thy_view.specs.Origin.{Origin, Begins};
 ghost use Rattle.thy_view.specs.Turn.{TheHart};
 ghost use Rattle.thy_scheme.specs.Boots.{boot_did};
 ghost use Rattle.thy_core_laws.specs.Calls.{running_from, after_boot};
-ghost use Rattle.thy_core.specs.Cycles.{HasStart, CanTake, SimulatesAs, FailsAs};
+ghost use Rattle.thy_core.specs.Cycles.{HasStart, CanTake, HasTaken};
 ghost use Rattle.thy_core.specs.MachineParts.{machine_of, IsRestartBelow};
 
 use crate::parts::{Checkpoints, Consoles, MachineParts};
@@ -26,12 +25,8 @@ pub(crate) fn boot<N: Nvm, S: Scheme>(
     nvm: &mut N,
 ) -> Result<Did, NvmError>
     requires { CanTake S.scheme (HasStart start.now) (TheHart (Some Booting)) (machine_of m.old) (N.device nvm.old) }
-    ensures simulates { SimulatesAs S.scheme (HasStart start.now) (TheHart (Some Booting))
+    ensures { HasTaken S.scheme (HasStart start.now) (TheHart (Some Booting))
         (machine_of m.old) (N.device nvm.old) (machine_of m.new) (N.device nvm.new) result }
-    ensures fails { FailsAs S.scheme (HasStart start.now) (TheHart (Some Booting))
-        (machine_of m.old) (N.device nvm.old) (machine_of m.new) (N.device nvm.new) result }
-    ensures frame { IsFramed (N.device nvm.old) (N.device nvm.new) }
-    ensures cause { CountsFault result (N.device nvm.old).faults (N.device nvm.new).faults }
 {
     let step = m.store.scheme.boot_step(start, nvm)?;
     Ok(boot_on(m, start, step))

@@ -1,9 +1,8 @@
 //! One cycle, at the turn of an actor.
 ghost use Rattle.std.specs.Prelude.{Ok, Some};
-ghost use Rattle.thy_base.specs.Device.{IsFramed, CountsFault};
 ghost use Rattle.thy_view.specs.declared.did.Stall.TheVariants.{Waiting, Halted};
 ghost use Rattle.thy_view.specs.Turn.{Nvm, TheHart};
-ghost use Rattle.thy_core.specs.Cycles.{IsAnyRun, HasStart, CanTake, SimulatesAs, FailsAs};
+ghost use Rattle.thy_core.specs.Cycles.{IsAnyRun, HasStart, CanTake, HasTaken};
 ghost use Rattle.thy_core.specs.MachineParts.{machine_of, actor_seen};
 
 use crate::boot::boot;
@@ -25,12 +24,8 @@ pub(crate) fn cycle<N: Nvm, S: Scheme>(
     nvm: &mut N,
 ) -> Result<Did, NvmError>
     requires { CanTake S.scheme (HasStart start.now) (actor_seen actor) (machine_of m.old) (N.device nvm.old) }
-    ensures simulates { SimulatesAs S.scheme (HasStart start.now) (actor_seen actor)
+    ensures { HasTaken S.scheme (HasStart start.now) (actor_seen actor)
         (machine_of m.old) (N.device nvm.old) (machine_of m.new) (N.device nvm.new) result }
-    ensures fails { FailsAs S.scheme (HasStart start.now) (actor_seen actor)
-        (machine_of m.old) (N.device nvm.old) (machine_of m.new) (N.device nvm.new) result }
-    ensures frame { IsFramed (N.device nvm.old) (N.device nvm.new) }
-    ensures cause { CountsFault result (N.device nvm.old).faults (N.device nvm.new).faults }
 {
     match actor {
         Actor::Nvm => land(m, nvm),
@@ -48,12 +43,8 @@ fn at_hart<N: Nvm, S: Scheme>(
     nvm: &mut N,
 ) -> Result<Did, NvmError>
     requires { CanTake S.scheme (HasStart start.now) (TheHart stall) (machine_of m.old) (N.device nvm.old) }
-    ensures simulates { SimulatesAs S.scheme (HasStart start.now) (TheHart stall)
+    ensures { HasTaken S.scheme (HasStart start.now) (TheHart stall)
         (machine_of m.old) (N.device nvm.old) (machine_of m.new) (N.device nvm.new) result }
-    ensures fails { FailsAs S.scheme (HasStart start.now) (TheHart stall)
-        (machine_of m.old) (N.device nvm.old) (machine_of m.new) (N.device nvm.new) result }
-    ensures frame { IsFramed (N.device nvm.old) (N.device nvm.new) }
-    ensures cause { CountsFault result (N.device nvm.old).faults (N.device nvm.new).faults }
 {
     match stall {
         None => execute(m, start.input.as_slice(), nvm),
@@ -69,12 +60,8 @@ fn stalled<N: Nvm, S: Scheme>(
     nvm: &mut N,
 ) -> Result<Did, NvmError>
     requires { CanTake S.scheme (HasStart start.now) (TheHart (Some why)) (machine_of m.old) (N.device nvm.old) }
-    ensures simulates { SimulatesAs S.scheme (HasStart start.now) (TheHart (Some why))
+    ensures { HasTaken S.scheme (HasStart start.now) (TheHart (Some why))
         (machine_of m.old) (N.device nvm.old) (machine_of m.new) (N.device nvm.new) result }
-    ensures fails { FailsAs S.scheme (HasStart start.now) (TheHart (Some why))
-        (machine_of m.old) (N.device nvm.old) (machine_of m.new) (N.device nvm.new) result }
-    ensures frame { IsFramed (N.device nvm.old) (N.device nvm.new) }
-    ensures cause { CountsFault result (N.device nvm.old).faults (N.device nvm.new).faults }
 {
     match why {
         Stall::Booting => boot(m, start, nvm),
@@ -87,12 +74,8 @@ fn stalled<N: Nvm, S: Scheme>(
 /// Lets the oldest queued write of the NVM land.
 fn land<N: Nvm, S: Scheme>(m: &MachineParts<S>, nvm: &mut N) -> Result<Did, NvmError>
     requires { CanTake S.scheme IsAnyRun Nvm (machine_of m.now) (N.device nvm.old) }
-    ensures simulates { SimulatesAs S.scheme IsAnyRun Nvm
+    ensures { HasTaken S.scheme IsAnyRun Nvm
         (machine_of m.now) (N.device nvm.old) (machine_of m.now) (N.device nvm.new) result }
-    ensures fails { FailsAs S.scheme IsAnyRun Nvm
-        (machine_of m.now) (N.device nvm.old) (machine_of m.now) (N.device nvm.new) result }
-    ensures frame { IsFramed (N.device nvm.old) (N.device nvm.new) }
-    ensures cause { CountsFault result (N.device nvm.old).faults (N.device nvm.new).faults }
 {
     nvm.drain()?;
     Ok(Did::NvmDrained)
@@ -101,19 +84,15 @@ fn land<N: Nvm, S: Scheme>(m: &MachineParts<S>, nvm: &mut N) -> Result<Did, NvmE
 /// Takes an action of the engine, for the hart that waits for it.
 fn wait<N: Nvm, S: Scheme>(m: &mut MachineParts<S>, nvm: &mut N) -> Result<Did, NvmError>
     requires { CanTake S.scheme IsAnyRun (TheHart (Some Waiting)) (machine_of m.old) (N.device nvm.old) }
-    ensures simulates { SimulatesAs S.scheme IsAnyRun (TheHart (Some Waiting))
+    ensures { HasTaken S.scheme IsAnyRun (TheHart (Some Waiting))
         (machine_of m.old) (N.device nvm.old) (machine_of m.new) (N.device nvm.new) result }
-    ensures fails { FailsAs S.scheme IsAnyRun (TheHart (Some Waiting))
-        (machine_of m.old) (N.device nvm.old) (machine_of m.new) (N.device nvm.new) result }
-    ensures frame { IsFramed (N.device nvm.old) (N.device nvm.new) }
-    ensures cause { CountsFault result (N.device nvm.old).faults (N.device nvm.new).faults }
 {
     checkpoint(m, nvm)
 }
 
 /// Does nothing, if the machine has halted.
 fn rest<N: Nvm, S: Scheme>(m: &MachineParts<S>, nvm: &N) -> Did
-    ensures { SimulatesAs S.scheme IsAnyRun (TheHart (Some Halted))
+    ensures { HasTaken S.scheme IsAnyRun (TheHart (Some Halted))
         (machine_of m.now) (N.device nvm.now) (machine_of m.now) (N.device nvm.now) (Ok result) }
 {
     Did::Nothing

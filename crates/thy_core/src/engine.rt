@@ -1,10 +1,9 @@
 //! The checkpoint engine's turn, and that of the DRAM's queue.
 ghost use Rattle.std.specs.Prelude.{◌≡◌, ◌+◌, ◌<◌, ◌^◌, if◌then◌else◌, Ok};
-ghost use Rattle.thy_base.specs.Device.{IsFramed, CountsFault};
 ghost use Rattle.thy_view.specs.Turn.{Dram, Checkpoint};
 ghost use Rattle.thy_scheme.specs.Calls.{engine_did};
 ghost use Rattle.thy_core_laws.specs.Calls.{after_engine};
-ghost use Rattle.thy_core.specs.Cycles.{IsAnyRun, CanTake, SimulatesAs, FailsAs};
+ghost use Rattle.thy_core.specs.Cycles.{IsAnyRun, CanTake, HasTaken};
 ghost use Rattle.thy_core.specs.MachineParts.{machine_of};
 
 use crate::parts::{Checkpoints, MachineParts};
@@ -19,12 +18,8 @@ pub(crate) fn checkpoint<N: Nvm, S: Scheme>(
     nvm: &mut N,
 ) -> Result<Did, NvmError>
     requires { CanTake S.scheme IsAnyRun Checkpoint (machine_of m.old) (N.device nvm.old) }
-    ensures simulates { SimulatesAs S.scheme IsAnyRun Checkpoint
+    ensures { HasTaken S.scheme IsAnyRun Checkpoint
         (machine_of m.old) (N.device nvm.old) (machine_of m.new) (N.device nvm.new) result }
-    ensures fails { FailsAs S.scheme IsAnyRun Checkpoint
-        (machine_of m.old) (N.device nvm.old) (machine_of m.new) (N.device nvm.new) result }
-    ensures frame { IsFramed (N.device nvm.old) (N.device nvm.new) }
-    ensures cause { CountsFault result (N.device nvm.old).faults (N.device nvm.new).faults }
 {
     let step = m.store.scheme.engine_step(nvm)?;
     Ok(engine_on(m, step))
@@ -75,7 +70,7 @@ fn phase_behind(ends: bool) -> Phase
 /// Lets the oldest queued write of the DRAM land.
 pub(crate) fn drain<N: Nvm, S: Scheme>(m: &mut MachineParts<S>, nvm: &N) -> Did
     requires { CanTake S.scheme IsAnyRun Dram (machine_of m.old) (N.device nvm.now) }
-    ensures { SimulatesAs S.scheme IsAnyRun Dram
+    ensures { HasTaken S.scheme IsAnyRun Dram
         (machine_of m.old) (N.device nvm.now) (machine_of m.new) (N.device nvm.now) (Ok result) }
 {
     m.store.scheme.drain();

@@ -1,9 +1,8 @@
 //! The hart's turn while nothing keeps it.
 ghost use Rattle.std.specs.Prelude.{◌≡◌, None, ◌+◌, ◌<◌, ◌^◌};
-ghost use Rattle.thy_base.specs.Device.{IsFramed, CountsFault};
 ghost use Rattle.thy_view.specs.Turn.{TheHart};
 ghost use Rattle.thy_core_laws.specs.Calls.{retires_over, retires_by, hart_did, after_hart};
-ghost use Rattle.thy_core.specs.Cycles.{HasInput, CanTake, SimulatesAs, FailsAs};
+ghost use Rattle.thy_core.specs.Cycles.{HasInput, CanTake, HasTaken};
 ghost use Rattle.thy_core.specs.MachineParts.{machine_of};
 
 use crate::parts::MachineParts;
@@ -19,12 +18,8 @@ pub(crate) fn execute<N: Nvm, S: Scheme>(
     nvm: &mut N,
 ) -> Result<Did, NvmError>
     requires { CanTake S.scheme (HasInput input.now) (TheHart None) (machine_of m.old) (N.device nvm.old) }
-    ensures simulates { SimulatesAs S.scheme (HasInput input.now) (TheHart None)
+    ensures { HasTaken S.scheme (HasInput input.now) (TheHart None)
         (machine_of m.old) (N.device nvm.old) (machine_of m.new) (N.device nvm.new) result }
-    ensures fails { FailsAs S.scheme (HasInput input.now) (TheHart None)
-        (machine_of m.old) (N.device nvm.old) (machine_of m.new) (N.device nvm.new) result }
-    ensures frame { IsFramed (N.device nvm.old) (N.device nvm.new) }
-    ensures cause { CountsFault result (N.device nvm.old).faults (N.device nvm.new).faults }
 {
     let free = m.store.scheme.free();
     let under_way = m.store.scheme.under_way();

@@ -1,12 +1,11 @@
 //! The hart's turn while its epoch is over or a page is promoted: what comes before a seal, and the seal.
 ghost use Rattle.std.specs.Prelude.{◌≡◌, ◌≢◌, Ok, None, Some, true, false, ◌+◌, ◌<◌, ◌^◌};
-ghost use Rattle.thy_base.specs.Device.{IsFramed, CountsFault};
 ghost use Rattle.thy_cache.specs.Contents.{dirty_count};
 ghost use Rattle.thy_isa.specs.Step.{is_running};
 ghost use Rattle.thy_view.specs.declared.did.Stall.TheVariants.{Sealing};
 ghost use Rattle.thy_view.specs.Turn.{TheHart};
 ghost use Rattle.thy_core_laws.specs.Calls.{after_seal};
-ghost use Rattle.thy_core.specs.Cycles.{IsAnyRun, CanTake, SimulatesAs, FailsAs};
+ghost use Rattle.thy_core.specs.Cycles.{IsAnyRun, CanTake, HasTaken};
 ghost use Rattle.thy_core.specs.MachineParts.{machine_of};
 
 use crate::parts::MachineParts;
@@ -21,12 +20,8 @@ pub(crate) fn prepare<N: Nvm, S: Scheme>(
     nvm: &mut N,
 ) -> Result<Did, NvmError>
     requires { CanTake S.scheme IsAnyRun (TheHart (Some Sealing)) (machine_of m.old) (N.device nvm.old) }
-    ensures simulates { SimulatesAs S.scheme IsAnyRun (TheHart (Some Sealing))
+    ensures { HasTaken S.scheme IsAnyRun (TheHart (Some Sealing))
         (machine_of m.old) (N.device nvm.old) (machine_of m.new) (N.device nvm.new) result }
-    ensures fails { FailsAs S.scheme IsAnyRun (TheHart (Some Sealing))
-        (machine_of m.old) (N.device nvm.old) (machine_of m.new) (N.device nvm.new) result }
-    ensures frame { IsFramed (N.device nvm.old) (N.device nvm.new) }
-    ensures cause { CountsFault result (N.device nvm.old).faults (N.device nvm.new).faults }
 {
     if m.store.scheme.promoting() {
         promote(m, nvm)
@@ -43,12 +38,8 @@ pub(crate) fn prepare<N: Nvm, S: Scheme>(
 fn promote<N: Nvm, S: Scheme>(m: &mut MachineParts<S>, nvm: &mut N) -> Result<Did, NvmError>
     requires turn { CanTake S.scheme IsAnyRun (TheHart (Some Sealing)) (machine_of m.old) (N.device nvm.old) }
     requires promoting { S.scheme.promoting m.old.store.scheme ≡ true }
-    ensures simulates { SimulatesAs S.scheme IsAnyRun (TheHart (Some Sealing))
+    ensures { HasTaken S.scheme IsAnyRun (TheHart (Some Sealing))
         (machine_of m.old) (N.device nvm.old) (machine_of m.new) (N.device nvm.new) result }
-    ensures fails { FailsAs S.scheme IsAnyRun (TheHart (Some Sealing))
-        (machine_of m.old) (N.device nvm.old) (machine_of m.new) (N.device nvm.new) result }
-    ensures frame { IsFramed (N.device nvm.old) (N.device nvm.new) }
-    ensures cause { CountsFault result (N.device nvm.old).faults (N.device nvm.new).faults }
 {
     m.store.scheme.promote_one(nvm)?;
     m.spent += 1;
@@ -60,12 +51,8 @@ fn flush<N: Nvm, S: Scheme>(m: &mut MachineParts<S>, nvm: &mut N) -> Result<Did,
     requires turn { CanTake S.scheme IsAnyRun (TheHart (Some Sealing)) (machine_of m.old) (N.device nvm.old) }
     requires whole { S.scheme.promoting m.old.store.scheme ≡ false }
     requires dirty { dirty_count m.old.cache ≢ 0 }
-    ensures simulates { SimulatesAs S.scheme IsAnyRun (TheHart (Some Sealing))
+    ensures { HasTaken S.scheme IsAnyRun (TheHart (Some Sealing))
         (machine_of m.old) (N.device nvm.old) (machine_of m.new) (N.device nvm.new) result }
-    ensures fails { FailsAs S.scheme IsAnyRun (TheHart (Some Sealing))
-        (machine_of m.old) (N.device nvm.old) (machine_of m.new) (N.device nvm.new) result }
-    ensures frame { IsFramed (N.device nvm.old) (N.device nvm.new) }
-    ensures cause { CountsFault result (N.device nvm.old).faults (N.device nvm.new).faults }
 {
     let _flushed = m.cache.flush_one(&mut m.store, nvm)?;
     m.spent += 1;
@@ -78,7 +65,7 @@ fn merge<N: Nvm, S: Scheme>(m: &mut MachineParts<S>, nvm: &N) -> Did
     requires whole { S.scheme.promoting m.old.store.scheme ≡ false }
     requires clean { dirty_count m.old.cache ≡ 0 }
     requires overlaid { S.scheme.overlaid m.old.store.scheme ≡ true }
-    ensures { SimulatesAs S.scheme IsAnyRun (TheHart (Some Sealing))
+    ensures { HasTaken S.scheme IsAnyRun (TheHart (Some Sealing))
         (machine_of m.old) (N.device nvm.now) (machine_of m.new) (N.device nvm.now) (Ok result) }
 {
     m.store.scheme.merge_one();
@@ -92,7 +79,7 @@ fn seal<N: Nvm, S: Scheme>(m: &mut MachineParts<S>, nvm: &N) -> Did
     requires whole { S.scheme.promoting m.old.store.scheme ≡ false }
     requires clean { dirty_count m.old.cache ≡ 0 }
     requires bare { S.scheme.overlaid m.old.store.scheme ≡ false }
-    ensures { SimulatesAs S.scheme IsAnyRun (TheHart (Some Sealing))
+    ensures { HasTaken S.scheme IsAnyRun (TheHart (Some Sealing))
         (machine_of m.old) (N.device nvm.now) (machine_of m.new) (N.device nvm.now) (Ok result) }
 {
     let epoch = m.hart.epoch().epoch();

@@ -1,5 +1,6 @@
+use Rattle.std.proofs.Common.{refl}
 use Rattle.thy_core.specs.MachineParts.{machine_of}
-use Rattle.thy_core.proofs.CycleLaws.{stands_run, merge_cycle}
+use Rattle.thy_core.proofs.CycleLaws.{framed_same, stands_run, merge_cycle}
 use Rattle.thy_core.proofs.sealing.merge.Goals as goal
 use Rattle.thy_core_laws.proofs.SealingLaws.{over_at}
 
@@ -11,9 +12,15 @@ merge_one-requires g c =
     }
 
 pub returns : goal.returns
-returns g c = λ o cycles _ at sealing.
+returns g c =
     let K = g.S.Scheme.scheme in
     let m = machine_of c.args.m.now in
     let n = g.N.Nvm.device c.args.nvm.now in
-    merge_cycle K o cycles m n at c.merge_one.new.self sealing c.requires.whole c.requires.clean c.requires.overlaid
-    (c.merge_one.ensures.some c.requires.overlaid o m.marks n (stands_run K o cycles m n at.sound sealing.phase))
+    record {
+      simulates = λ o cycles _ at sealing.
+          merge_cycle K o cycles m n at c.merge_one.new.self sealing c.requires.whole c.requires.clean c.requires.overlaid
+          (c.merge_one.ensures.some c.requires.overlaid o m.marks n (stands_run K o cycles m n at.sound sealing.phase));
+      fails = λ o cycles _ at sealing. tt;
+      frame = framed_same n;
+      cause = refl;
+    }

@@ -1,9 +1,9 @@
-use Rattle.std.proofs.Common.{◌≡◌, length, subst, sym, ap, ◌∙◌}
+use Rattle.std.proofs.Common.{◌≡◌, length, refl, subst, sym, ap, ◌∙◌}
 use Rattle.thy_epoch.specs.Epoch.{Epoch}
 use Rattle.thy_isa.specs.declared.state.CpuState.{CpuState}
 use Rattle.thy_scheme.specs.Calls.{Seals}
 use Rattle.thy_core.specs.MachineParts.{machine_of}
-use Rattle.thy_core.proofs.CycleLaws.{stands_run, sealed_regs, seal_cycle}
+use Rattle.thy_core.proofs.CycleLaws.{framed_same, stands_run, sealed_regs, seal_cycle}
 use Rattle.thy_core.proofs.sealing.seal.Goals as goal
 use Rattle.thy_core_laws.proofs.SealingLaws.{over_at}
 
@@ -21,7 +21,7 @@ seal-requires-clause-regs g c =
     c.in-Some.cause turn.turn c.requires.whole c.requires.clean over)
 
 pub returns : goal.returns
-returns g c = λ o cycles _ at sealing.
+returns g c =
     let K = g.S.Scheme.scheme in
     let m = machine_of c.args.m.now in
     let n = g.N.Nvm.device c.args.nvm.now in
@@ -29,8 +29,14 @@ returns g c = λ o cycles _ at sealing.
     let over = c.in-Some.ensures.over ∙ ap (λ (e : Epoch). e.over) c.epoch-2.ensures in
     let number = c.epoch-epoch.ensures ∙ ap (λ (e : Epoch). e.number) c.epoch.ensures in
     let count = ap (λ (x : CpuState). x.count) c.cpu.ensures in
-    let seals = c.seal.ensures o m.marks n (stands_run K o cycles m n at.sound sealing.phase) in
-    let of_cpu = subst (λ (x : CpuState). Seals K o m.marks x c.epoch-epoch.result m.scheme n t) c.cpu-2.ensures seals in
-    let of_epoch = subst (λ e. Seals K o m.marks m.hart.cpu e m.scheme n t) number of_cpu in
-    seal_cycle K o cycles m n at c.in-Some.cause t (machine_of c.begin_epoch.new.m) c.epoch-epoch.result c.cpu.result.now.count
-    sealing c.requires.whole c.requires.bare c.requires.clean over of_epoch number count c.begin_epoch.ensures
+    record {
+      simulates = λ o cycles _ at sealing.
+          let seals = c.seal.ensures o m.marks n (stands_run K o cycles m n at.sound sealing.phase) in
+          let of_cpu = subst (λ (x : CpuState). Seals K o m.marks x c.epoch-epoch.result m.scheme n t) c.cpu-2.ensures seals in
+          let of_epoch = subst (λ e. Seals K o m.marks m.hart.cpu e m.scheme n t) number of_cpu in
+          seal_cycle K o cycles m n at c.in-Some.cause t (machine_of c.begin_epoch.new.m) c.epoch-epoch.result c.cpu.result.now.count
+          sealing c.requires.whole c.requires.bare c.requires.clean over of_epoch number count c.begin_epoch.ensures;
+      fails = λ o cycles _ at sealing. tt;
+      frame = framed_same n;
+      cause = refl;
+    }

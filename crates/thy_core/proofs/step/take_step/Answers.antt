@@ -1,5 +1,6 @@
 use Rattle.std.proofs.Common.{Result, IfOk, OnErr, refl, subst}
 use Rattle.thy_base.specs.declared.nvm.NvmError.{NvmError}
+use Rattle.thy_base.specs.Device.{CountsFault}
 use Rattle.thy_view.specs.declared.did.Did.{Did}
 use Rattle.thy_view.specs.Origin.{Origin, Begins}
 use Rattle.thy_core_laws.specs.Rows.{IsMoment}
@@ -72,6 +73,18 @@ returns-clause-safe g c = λ o k begins here.
           subst (λ (r : Result Did NvmError). OnErr r (HasFailedAs K o actor m next n new)) w.in-Err.is fails in
           rw w.result-is
           (rw w.m-is (step_failed K o k c.args.pick c.queued.result actor m next n new at c.queued.ensures c.turn_now-actor.ensures failed))
+    ]
+
+pub returns-clause-frame : goal.returns-clause-frame
+returns-clause-frame g c = c.cycle.ensures.frame
+
+pub returns-clause-cause : goal.returns-clause-cause
+returns-clause-cause g c =
+    let old = (g.N.Nvm.device c.args.nvm.now).faults in
+    let new = (g.N.Nvm.device c.cycle.new.nvm).faults in
+    elim c.match-cycle.branch [
+      | in-Ok w ↦ rw w.result-is (subst (λ (r : Result Did NvmError). CountsFault r old new) w.in-Ok.is c.cycle.ensures.cause)
+      | in-Err w ↦ rw w.result-is (subst (λ (r : Result Did NvmError). CountsFault r old new) w.in-Err.is c.cycle.ensures.cause)
     ]
 
 pub returns-clause-failed : goal.returns-clause-failed
