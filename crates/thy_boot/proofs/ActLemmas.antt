@@ -101,17 +101,17 @@ module _ {C : Type 0} (F : FillingOf C) (laws : IsFilling F) where
   same_fills : (n : Device) (c e : C) → e ≡ c → Filled n c e
   same_fills n c e h = subst (λ (x : C). Filled n c x) (sym h) (inl refl, laws.same_keeps c)
 
-  judged_fills : (n : Device) (z : Bool) (o : Option BadImage) (b : Booting) (c e : C) → JudgesUnless F z o b c e → Filled n c e
-  judged_fills n true o b c e h = same_fills n c e h
-  judged_fills n false None b c e h = (inl h.same_dram, h.keeps)
-  judged_fills n false (Some bad) b c e h = same_fills n c e h
+  judged_fills : (n : Device) (z : Bool) (o : Option BadImage) (next : ℕ) (b : Booting) (c e : C) → JudgesUnless F z o next b c e → Filled n c e
+  judged_fills n true o next b c e h = (inl h.left.same_dram, h.left.keeps)
+  judged_fills n false None next b c e h = (inl h.left.same_dram, h.left.keeps)
+  judged_fills n false (Some bad) next b c e h = (inl h.same_dram, h.keeps)
 
   reads_fill : (r : ReadStage) (n : Device) (b : Booting) (c e : C) → FillsOn F r n b c e → Filled n c e
   reads_fill Unread n b c e f = same_fills n c e f
   reads_fill ReadsHeader n b c e f = same_fills n c e f
   reads_fill (ReadsSlot next) n b c e f =
       let w : Booting = slot_kept F next n b in
-      judged_fills n (nat_lt (next + 1) ((layout_in F w).slot_blocks w.commit)) ((layout_in F w).slot_bad w.commit (slot_read F w)) w c e f
+      judged_fills n (nat_lt (next + 1) ((layout_in F w).slot_blocks w.commit)) ((layout_in F w).slot_bad w.commit (slot_read F w)) next w c e f
   reads_fill (Fills k) n b c e f =
       subst (λ (x : C). Filled n c x) (sym f) (laws.fill_acts c n b.commit k, laws.fill_keeps c b.commit k (newest n (F.fill_place c b.commit k)))
   reads_fill (Refusing bad) n b c e f = same_fills n c e f

@@ -16,7 +16,7 @@ use Rattle.thy_boot.specs.declared.stage.Stage.{Stage}
 use Rattle.thy_boot.specs.declared.stage.Stage.TheVariants.{Reads, Loads, Over}
 use Rattle.thy_boot.specs.declared.stage.ReadStage.TheVariants.{Unread, Header, Slot, Fills, Refusing}
 use Rattle.thy_boot.specs.declared.stage.End.TheVariants.{Restored, Loaded}
-use Rattle.thy_boot.specs.Boot.{Booting, layout_in, slot_read}
+use Rattle.thy_boot.specs.Boot.{Booting, layout_in, slot_read, first_read}
 use Rattle.thy_boot.specs.Filling.{FillingOf, IsFilling}
 use Rattle.thy_boot.specs.Recovers.{HasReadAt}
 use Rattle.thy_boot.specs.Sound.{BootImages, layout_for, first_of, start_mark, sealed_by, saved_loading, standing_in_boot, IsRecovering, IsSoundAt, IsSoundBoot}
@@ -67,7 +67,7 @@ module _ {C : Type 0} (F : FillingOf C) (laws : IsFilling F) where
   read-drained : (q : Stage) (n : Device) (b : Booting) (c : C) → HasReadAt F q n b c → HasReadAt F q n b (F.drained c)
   read-drained (Reads Unread) n b c h = laws.drain_fresh c h
   read-drained (Reads Header) n b c h = (laws.drain_fresh c h.0, h.1)
-  read-drained (Reads (Slot next)) n b c h = (laws.drain_fresh c h.0, h.1, h.2)
+  read-drained (Reads (Slot next)) n b c h = (record { taken = laws.drain_taken c b.commit (first_read F next b) h.0.taken; fault = h.0.fault }, h.1, h.2)
   read-drained (Reads (Fills k)) n b c h = (
     record {
       head = h.0.head;

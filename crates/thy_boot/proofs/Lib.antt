@@ -13,3 +13,4 @@ pub mod ActLemmas
 pub mod TakesLemmas
 pub mod StartLemmas
 pub mod BlockLemmas
+pub mod JudgeLemmas

@@ -8,7 +8,7 @@ use Rattle.thy_boot.specs.declared.stage.Stage.{Stage}
 use Rattle.thy_boot.specs.declared.stage.Stage.TheVariants.{Reads, Loads, Over}
 use Rattle.thy_boot.specs.declared.stage.ReadStage.TheVariants.{Unread, Header, Slot, Fills, Refusing}
 use Rattle.thy_boot.specs.declared.stage.Issue.TheVariants.{Home, Slot as SlotBlock, Header as HeaderBlock, Settle, Commit, Confirm}
-use Rattle.thy_boot.specs.Boot.{Booting, layout_in, slot_read, at_stage, refusing_or, after_commit, after_header, after_slot, filling_or, after_fill, gone_on}
+use Rattle.thy_boot.specs.Boot.{Booting, layout_in, slot_read, at_stage, at_slot, refusing_or, after_commit, after_header, after_slot, filling_or, after_fill, gone_on}
 use Rattle.thy_boot.specs.Filling.{FillingOf, IsFilling}
 use Rattle.thy_boot.specs.Left.{reads_left, boot_left}
 use Rattle.thy_boot.specs.Recovers.{IsNearer}
@@ -20,12 +20,12 @@ module _ {C : Type 0} (F : FillingOf C) (laws : IsFilling F) where
     by_test true = omega arith
     by_test false = omega arith
 
-  pub nearer_header : (b : Booting) (block : Block) → IsNearer F b Header (at_stage (after_header (layout_in F b) block b) b)
+  pub nearer_header : (b : Booting) (block : Block) → IsNearer F b Header (at_slot (after_header (layout_in F b) block b) b)
   nearer_header b block = by_fault (option_or ((layout_in F b).header_bad block true) ((layout_in F b).commit_bad block b.commit)) where
     most : (layout_in F b).slot_blocks b.commit ≤ F.most_slot b.p
     most = laws.most_room b.p b.commit
 
-    by_fault : (o : Option BadImage) → boot_left F (at_stage (after_header (layout_in F b) block b) b) (refusing_or o (Reads (Slot 0))) < reads_left F b Header
+    by_fault : (o : Option BadImage) → boot_left F (at_slot (after_header (layout_in F b) block b) b) (refusing_or o (Reads (Slot 0))) < reads_left F b Header
     by_fault None = omega (arith, most)
     by_fault (Some bad) = omega arith
 

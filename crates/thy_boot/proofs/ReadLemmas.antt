@@ -17,10 +17,10 @@ use Rattle.thy_boot.specs.declared.stage.Stage.TheVariants.{Reads, Loads, Over}
 use Rattle.thy_boot.specs.declared.stage.ReadStage.TheVariants.{Unread, Header, Slot, Fills, Refusing}
 use Rattle.thy_boot.specs.declared.stage.End.TheVariants.{Restored, Loaded}
 use Rattle.thy_boot.specs.declared.stage.Issue.TheVariants.{Home}
-use Rattle.thy_boot.specs.Boot.{Booting, IsBoot, IsThere, new_boot, layout_in, slot_read, at_stage, refusing_or, after_commit, after_header, after_slot, filling_or, after_fill, gone_on, IsJudged, JudgesUnless, GoesOn}
+use Rattle.thy_boot.specs.Boot.{Booting, IsBoot, IsThere, new_boot, layout_in, slot_read, at_stage, at_slot, refusing_or, after_commit, after_header, after_slot, filling_or, after_fill, gone_on, first_read, early_fault, IsJudged, JudgesUnless, GoesOn}
 use Rattle.thy_boot.specs.Filling.{FillingOf, IsFilling, layout_at}
 use Rattle.thy_boot.specs.Reads.{slot_kept}
-use Rattle.thy_boot.specs.Recovers.{HasCommit, HasHead, HasSlot, HasReadAt, HasRead}
+use Rattle.thy_boot.specs.Recovers.{HasCommit, HasHead, HasSlot, HasTaken, HasReadAt, HasRead}
 use Rattle.thy_boot.proofs.SlotLemmas.{HasSlot-more, slot_is_whole}
 
 pub newest-settled : (n : Device) (x : ℕ) → n.queue ≡ [] → newest n x ≡ block_at n.image x
@@ -66,24 +66,27 @@ module _ {C : Type 0} (F : FillingOf C) where
     by_zero false e = (fresh, record { committed = e; is = sym there })
 
   -- the header
-  pub header-found : (n : Device) (b : Booting) (c : C) → b.stage ≡ Reads Header → HasRead F n b c
-      → HasRead F n (at_stage (after_header (layout_in F b) (newest n 0) b) b) c
-  header-found n b c is h = record { same_p = h.same_p; sized = h.sized; settled = h.settled; so_far = found } where
+  pub header-found : (n : Device) (b : Booting) (c : C) → IsFilling F → b.stage ≡ Reads Header → HasRead F n b c
+      → HasRead F n (at_slot (after_header (layout_in F b) (newest n 0) b) b) c
+  header-found n b c laws is h = record { same_p = h.same_p; sized = h.sized; settled = h.settled; so_far = found } where
     had : F.fresh c × HasCommit n.image b.commit
     had = subst (λ (s : Stage). HasReadAt F s n b c) is h.so_far
 
     by_fault : (o : Option BadImage) → option_or ((layout_in F b).header_bad (block_at n.image 0) true) ((layout_in F b).commit_bad (block_at n.image 0) b.commit) ≡ o
-        → HasReadAt F (refusing_or o (Reads (Slot 0))) n (at_stage (refusing_or o (Reads (Slot 0))) b) c
+        → HasReadAt F (refusing_or o (Reads (Slot 0))) n (at_slot (refusing_or o (Reads (Slot 0))) b) c
     by_fault None e =
-        let both = none_of_two ((layout_in F b).header_bad (block_at n.image 0) true) ((layout_in F b).commit_bad (block_at n.image 0) b.commit) e in
-        (had.0, record { commit_is = had.1; header_fits = both.0; commit_fits = both.1 }, record { each = λ k less. absurd (omega (arith, less)) })
+        let both = none_of_two ((layout_in F b).header_bad (block_at n.image 0) true) ((layout_in F b).commit_bad (block_at n.image 0) b.commit) e in (
+          record { taken = laws.none_taken c b.commit had.0; fault = sym (laws.early_none b.p b.commit) },
+          record { commit_is = had.1; header_fits = both.0; commit_fits = both.1 },
+          record { each = λ k less. absurd (omega (arith, less)) },
+        )
     by_fault (Some bad) e =
         decode-fault (layout_in F b) n.image b.commit (Some bad) had.1 h.sized
         (first_two ((layout_in F b).header_bad (block_at n.image 0) true) ((layout_in F b).commit_bad (block_at n.image 0) b.commit) ((layout_in F b).slot_bad b.commit (slot_in (layout_in F b) n.image)) bad e)
 
-    found : HasReadAt F (after_header (layout_in F b) (newest n 0) b) n (at_stage (after_header (layout_in F b) (newest n 0) b) b) c
+    found : HasReadAt F (after_header (layout_in F b) (newest n 0) b) n (at_slot (after_header (layout_in F b) (newest n 0) b) b) c
     found =
-        subst (λ (x : Block). HasReadAt F (after_header (layout_in F b) x b) n (at_stage (after_header (layout_in F b) x b) b) c) (sym (newest-settled n 0 h.settled))
+        subst (λ (x : Block). HasReadAt F (after_header (layout_in F b) x b) n (at_slot (after_header (layout_in F b) x b) b) c) (sym (newest-settled n 0 h.settled))
         (by_fault (option_or ((layout_in F b).header_bad (block_at n.image 0) true) ((layout_in F b).commit_bad (block_at n.image 0) b.commit)) refl)
 
   -- the whole slot, judged: it is refused, or, listed by the controller, filled or restored
@@ -136,7 +139,7 @@ module _ {C : Type 0} (F : FillingOf C) where
   pub restage : (q s : Stage) (n : Device) (b : Booting) (c : C) → HasReadAt F q n b c → HasReadAt F q n (at_stage s b) c
   restage (Reads Unread) s n b c h = h
   restage (Reads Header) s n b c h = h
-  restage (Reads (Slot next)) s n b c h = h
+  restage (Reads (Slot next)) s n b c h = (record { taken = h.0.taken; fault = h.0.fault }, h.1, h.2)
   restage (Reads (Fills k)) s n b c h = (
     record { head = h.0.head; slot_is = h.0.slot_is; slot_fits = h.0.slot_fits; lists = h.0.lists; filled = h.0.filled },
     h.1,
@@ -145,6 +148,29 @@ module _ {C : Type 0} (F : FillingOf C) where
   restage (Loads issue) s n b c h = h
   restage (Over Restored) s n b c h = record { lists = h.lists; head = h.head; slot_is = h.slot_is; slot_fits = h.slot_fits; whole = h.whole; found = h.found }
   restage (Over Loaded) s n b c h = h
+
+  -- nor, past the slot's blocks, on the fault that it has noted
+  abbrev IsPast : Stage → Type 0
+  IsPast (Reads (Slot next)) = ⊥
+  IsPast q = Unit {0}
+
+  refault : (q : Stage) (f : Option BadImage) (n : Device) (b : Booting) (c : C) → IsPast q → HasReadAt F q n b c → HasReadAt F q n (record b { fault = f }) c
+  refault (Reads Unread) f n b c past h = h
+  refault (Reads Header) f n b c past h = h
+  refault (Reads (Slot next)) f n b c past h = absurd past
+  refault (Reads (Fills k)) f n b c past h = (
+    record { head = h.0.head; slot_is = h.0.slot_is; slot_fits = h.0.slot_fits; lists = h.0.lists; filled = h.0.filled },
+    h.1,
+  )
+  refault (Reads (Refusing bad)) f n b c past h = h
+  refault (Loads issue) f n b c past h = h
+  refault (Over Restored) f n b c past h = record { lists = h.lists; head = h.head; slot_is = h.slot_is; slot_fits = h.slot_fits; whole = h.whole; found = h.found }
+  refault (Over Loaded) f n b c past h = h
+
+  not_taken : (o : Option BadImage) (next : Option ℕ) → IsPast (refusing_or o (filling_or next))
+  not_taken None None = tt
+  not_taken None (Some k) = tt
+  not_taken (Some bad) next = tt
 
   -- a position was filled with what its read gave
   pub fill-found : (n : Device) (b : Booting) (c : C) (k : ℕ) → IsFilling F → b.stage ≡ Reads (Fills k) → HasRead F n b c
@@ -171,7 +197,7 @@ module _ {C : Type 0} (F : FillingOf C) where
     abbrev w : Booting
     w = slot_kept F k n b
 
-    had : F.fresh c × HasHead (layout_in F b) n.image b.commit × HasSlot (layout_in F b) n.image b.commit k b.slot
+    had : HasTaken F b c k × HasHead (layout_in F b) n.image b.commit × HasSlot (layout_in F b) n.image b.commit k b.slot
     had = subst (λ (s : Stage). HasReadAt F s n b c) is h.so_far
 
     most : (layout_in F b).slot_blocks b.commit ≤ F.most_slot b.p
@@ -194,8 +220,8 @@ module _ {C : Type 0} (F : FillingOf C) where
     whole last = slot_is_whole F n.image w (k + 1) had.1.commit_is size most last kept
 
     judged_p : (o : Option BadImage) → IsJudged F o w c d → F.p d ≡ b.p
-    judged_p None j = j.same_p ∙ h.same_p
-    judged_p (Some bad) j = ap F.p j ∙ h.same_p
+    judged_p None j = j.left.same_p ∙ h.same_p
+    judged_p (Some bad) j = j.same_p ∙ h.same_p
 
     judged : (o : Option BadImage) → k + 1 ≡ (layout_in F b).slot_blocks b.commit → (layout_in F w).slot_bad w.commit (slot_read F w) ≡ o → IsJudged F o w c d
         → HasReadAt F (refusing_or o (filling_or (F.next_fill w.p w.commit (slot_read F w) 0))) n w d
@@ -204,22 +230,24 @@ module _ {C : Type 0} (F : FillingOf C) where
         (laws.begins d n w.commit (slot_read F w) j.lists)
     judged (Some bad) last e j = refused n w d laws (judged_p (Some bad) j) h.settled h.sized had.1 (whole last) bad e
 
-    go_on : (z : Bool) → nat_lt (k + 1) ((layout_in F b).slot_blocks b.commit) ≡ z → JudgesUnless F z ((layout_in F w).slot_bad w.commit (slot_read F w)) w c d
-        → HasReadAt F (if z then Reads (Slot (k + 1)) else after_slot F w) n w d
-    go_on true e j = subst (λ (x : C). HasReadAt F (Reads (Slot (k + 1))) n w x) (sym j) (had.0, had.1, kept)
+    go_on : (z : Bool) → nat_lt (k + 1) ((layout_in F b).slot_blocks b.commit) ≡ z → JudgesUnless F z ((layout_in F w).slot_bad w.commit (slot_read F w)) k w c d
+        → HasReadAt F (if z then Reads (Slot (k + 1)) else after_slot F w) n (record w { fault = early_fault F (k + 1) w }) d
+    go_on true e j = (record { taken = j.taken; fault = refl }, had.1, kept)
     go_on false e j =
         let past = ltb-false (k + 1) ((layout_in F b).slot_blocks b.commit) e in
-        judged ((layout_in F w).slot_bad w.commit (slot_read F w)) (omega (arith, inside, past)) refl j
+        refault (after_slot F w) (early_fault F (k + 1) w) n w d
+        (not_taken ((layout_in F w).slot_bad w.commit (slot_read F w)) (F.next_fill w.p w.commit (slot_read F w) 0))
+        (judged ((layout_in F w).slot_bad w.commit (slot_read F w)) (omega (arith, inside, past)) refl j)
 
-    same_after : (z : Bool) → JudgesUnless F z ((layout_in F w).slot_bad w.commit (slot_read F w)) w c d → F.p d ≡ b.p
-    same_after true j = ap F.p j ∙ h.same_p
+    same_after : (z : Bool) → JudgesUnless F z ((layout_in F w).slot_bad w.commit (slot_read F w)) k w c d → F.p d ≡ b.p
+    same_after true j = j.left.same_p ∙ h.same_p
     same_after false j = judged_p ((layout_in F w).slot_bad w.commit (slot_read F w)) j
 
     pub slot-found : GoesOn F k w c d → HasRead F n (gone_on F k w) d
     slot-found j =
         let more : Bool = nat_lt (k + 1) ((layout_in F b).slot_blocks b.commit) in
         let q : Stage = if more then Reads (Slot (k + 1)) else after_slot F w in
-        record { same_p = same_after more j; sized = h.sized; settled = h.settled; so_far = restage q q n w d (go_on more refl j) }
+        record { same_p = same_after more j; sized = h.sized; settled = h.settled; so_far = restage q q n (record w { fault = early_fault F (k + 1) w }) d (go_on more refl j) }
 
   -- a new boot
   pub HasRead-new : (p : Parameters) (n : Device) (c : C) → F.fresh c → F.p c ≡ p → length n.image ≡ (layout_in F (new_boot F p)).image_blocks → n.queue ≡ []

@@ -30,6 +30,11 @@ take_here xs ys zs b n inside size =
     let long : length (take b xs) ≡ b = length-take b xs ∙ omega (arith, inside) in
     ap (take n) (drop_at (take b xs) (ys ++ zs) b long) ∙ take_at ys zs n size
 
+-- a block below the one that was written
+pub block_in-below : (slot : List ℕ) (m k : ℕ) (block : Block) → m < k → 64 * k + 64 ≤ length slot → block_in (written slot (64 * k) block.0) m ≡ block_in slot m
+block_in-below slot m k block below room =
+    ap (λ (bytes : List ℕ). record { 0 = bytes }) (take_below slot (block.0 ++ drop (64 * k + length block.0) slot) (64 * m) 64 (64 * k) (omega arith) (omega (arith, room)))
+
 -- the blocks that were kept, with one more
 pub HasSlot-more : (l : Layout) (g : List Block) (commit : Block) (k : ℕ) (slot : List ℕ) (block : Block) → 64 * k + 64 ≤ length slot → length block.0 ≡ 64
     → block ≡ block_at g (l.slot_place commit + k) → HasSlot l g commit k slot → HasSlot l g commit (k + 1) (written slot (64 * k) block.0)
@@ -39,8 +44,7 @@ HasSlot-more l g commit k slot block room size is h = record {
         subst (λ (i : ℕ). block_in (written slot (64 * k) block.0) i ≡ block_at g (l.slot_place commit + i)) (sym e)
         (ap (λ (bytes : List ℕ). record { 0 = bytes }) (take_here slot block.0 (drop (64 * k + length block.0) slot) (64 * k) 64 (omega (arith, room)) size) ∙ is)
     | inr ne ↦
-        ap (λ (bytes : List ℕ). record { 0 = bytes }) (take_below slot (block.0 ++ drop (64 * k + length block.0) slot) (64 * m) 64 (64 * k) (omega arith) (omega (arith, room)))
-        ∙ h.each m (omega arith)
+        block_in-below slot m k block (omega (arith, below, ne)) room ∙ h.each m (omega arith)
   ];
 }
 

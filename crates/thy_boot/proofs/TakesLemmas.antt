@@ -17,7 +17,7 @@ use Rattle.thy_boot.specs.declared.stage.ReadStage.{ReadStage}
 use Rattle.thy_boot.specs.declared.stage.ReadStage.TheVariants.{Unread, Header, Slot, Fills, Refusing}
 use Rattle.thy_boot.specs.declared.stage.Issue.{Issue}
 use Rattle.thy_boot.specs.declared.stage.Issue.TheVariants.{Home, Slot as SlotBlock, Header as HeaderBlock, Settle, Commit, Confirm}
-use Rattle.thy_boot.specs.Boot.{Booting, IsBoot, IsThere, layout_in, slot_read, at_stage, refusing_or, after_commit, after_header, after_slot, filling_or, after_fill}
+use Rattle.thy_boot.specs.Boot.{Booting, IsBoot, IsThere, layout_in, slot_read, at_stage, at_slot, refusing_or, after_commit, after_header, after_slot, filling_or, after_fill}
 use Rattle.thy_boot.specs.Filling.{FillingOf, First, IsFilling, layout_at}
 use Rattle.thy_boot.specs.Loads.{Takes, after_issue, issue_action}
 use Rattle.thy_boot.specs.Reads.{read_action, read_on, slot_kept, FillsOn, IsBlock}
@@ -61,7 +61,7 @@ module _ {C : Type 0} (F : FillingOf C) (laws : IsFilling F) where
   fits_read Header n b is boot block =
       record { room = boot.room; there = by_fault (option_or ((layout_in F b).header_bad (newest n 0) true) ((layout_in F b).commit_bad (newest n 0) b.commit)) }
     where
-      by_fault : (o : Option BadImage) → IsThere F (at_stage (after_header (layout_in F b) (newest n 0) b) b) (refusing_or o (Reads (Slot 0)))
+      by_fault : (o : Option BadImage) → IsThere F (at_slot (after_header (layout_in F b) (newest n 0) b) b) (refusing_or o (Reads (Slot 0)))
       by_fault None = laws.some_slot b.p b.commit
       by_fault (Some bad) = tt
   fits_read (Slot k) n b is boot block = record { room = size; there = by_more (nat_lt (k + 1) ((layout_in F b).slot_blocks b.commit)) refl } where
@@ -100,7 +100,7 @@ module _ {C : Type 0} (F : FillingOf C) (laws : IsFilling F) where
     device = refl;
     boot = refl;
     control = f;
-    read = subst (λ (x : C). HasRead F n (at_stage (after_header (layout_in F b) (newest n 0) b) b) x) (sym f) (header-found F n b c is h);
+    read = subst (λ (x : C). HasRead F n (at_slot (after_header (layout_in F b) (newest n 0) b) b) x) (sym f) (header-found F n b c laws is h);
     nearer = nearer_header F laws b (newest n 0);
   }
   reads_on (Slot k) n b c e is boot h block f = record {

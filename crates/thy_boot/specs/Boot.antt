@@ -17,18 +17,20 @@ use Rattle.thy_boot.specs.declared.stage.End.TheVariants.{Restored, Loaded}
 use Rattle.thy_boot.specs.declared.stage.Issue.TheVariants.{Home}
 use Rattle.thy_boot.specs.declared.stage.BootStep.{BootStep}
 use Rattle.thy_boot.specs.declared.stage.BootStep.TheVariants.{Reading, Loading as IsLoading, Loaded as HasLoaded, Restarted, Refused}
-use Rattle.thy_boot.specs.Filling.{FillingOf, ListsOn, layout_at}
+use Rattle.thy_boot.specs.Filling.{FillingOf, IsLeft, TakesUp, ListsOn, layout_at}
 
--- its stage, with the commit block, and the bytes of the slot, as far as they were read
+-- its stage, with the commit block, and the bytes of the slot, as far as they were read, and the fault that its blocks
+-- have by themselves
 pub record Booting : Type 0 where
   pub p : Parameters
   pub commit : Block
   pub slot : List ℕ
   pub stage : Stage
+  pub fault : Option BadImage
 
 -- a new one has read nothing, and has room for so many blocks of a slot
 abbrev pub empty_boot : ℕ → Parameters → Booting
-empty_boot room p = record { p = p; commit = zero_block; slot = replicate (64 * room) 0; stage = Reads Unread }
+empty_boot room p = record { p = p; commit = zero_block; slot = replicate (64 * room) 0; stage = Reads Unread; fault = None }
 
 abbrev pub new_boot : {C : Type 0} → FillingOf C → Parameters → Booting
 new_boot F p = empty_boot (F.most_slot p) p
@@ -43,6 +45,13 @@ slot_bytes F p commit bytes = take ((layout_at F p).slot_blocks commit) (blocks_
 
 abbrev pub slot_read : {C : Type 0} → FillingOf C → Booting → List Block
 slot_read F b = slot_bytes F b.p b.commit b.slot
+
+-- the first blocks of it, and the fault that they have by themselves
+abbrev pub first_read : {C : Type 0} → FillingOf C → ℕ → Booting → List Block
+first_read F k b = take k (slot_read F b)
+
+abbrev pub early_fault : {C : Type 0} → FillingOf C → ℕ → Booting → Option BadImage
+early_fault F k b = F.early_fault b.p b.commit (first_read F k b)
 
 -- what is read next is there
 abbrev pub IsThere : {C : Type 0} → FillingOf C → Booting → Stage → Type 0
@@ -97,29 +106,35 @@ after_slot F b =
 abbrev pub at_stage : Stage → Booting → Booting
 at_stage stage b = record b { stage = stage }
 
+-- the boot once the header was read: it has no block of the slot
+abbrev pub at_slot : Stage → Booting → Booting
+at_slot stage b = record b { stage = stage; fault = None }
+
 abbrev pub with_slot_block : ℕ → Block → Booting → Booting
 with_slot_block k block b = record b { slot = written b.slot (64 * k) block.0 }
 
 -- the boot after block `next` of the slot was kept, and the last of them was judged
 abbrev pub gone_on : {C : Type 0} → FillingOf C → ℕ → Booting → Booting
-gone_on F next b =
-    record b { stage = if nat_lt (next + 1) ((layout_in F b).slot_blocks b.commit) then Reads (Slot (next + 1)) else after_slot F b }
+gone_on F next b = record b {
+  stage = if nat_lt (next + 1) ((layout_in F b).slot_blocks b.commit) then Reads (Slot (next + 1)) else after_slot F b;
+  fault = early_fault F (next + 1) b;
+}
 
 -- a position
 abbrev pub after_fill : {C : Type 0} → FillingOf C → ℕ → Booting → Stage
 after_fill F k b = filling_or (F.next_fill b.p b.commit (slot_read F b) (k + 1))
 
--- if the slot has no fault the controller lists it, else it is as before
+-- if the slot has no fault the controller lists it
 abbrev pub IsJudged : {C : Type 0} → FillingOf C → Option BadImage → Booting → C → C → Type 0
 IsJudged F None b old new = ListsOn F b.commit (slot_read F b) old new
-IsJudged F (Some bad) b old new = new ≡ old
+IsJudged F (Some bad) b old new = IsLeft F old new
 
--- with the last block, it is judged
-abbrev pub JudgesUnless : {C : Type 0} → FillingOf C → Bool → Option BadImage → Booting → C → C → Type 0
-JudgesUnless F true fault b old new = new ≡ old
-JudgesUnless F false fault b old new = IsJudged F fault b old new
+-- each block is taken up; with the last one, the slot is judged
+abbrev pub JudgesUnless : {C : Type 0} → FillingOf C → Bool → Option BadImage → ℕ → Booting → C → C → Type 0
+JudgesUnless F true fault next b old new = TakesUp F b.commit (first_read F (next + 1) b) old new
+JudgesUnless F false fault next b old new = IsJudged F fault b old new
 
 abbrev pub GoesOn : {C : Type 0} → FillingOf C → ℕ → Booting → C → C → Type 0
 GoesOn F next b old new =
     JudgesUnless F (nat_lt (next + 1) ((layout_in F b).slot_blocks b.commit))
-    ((layout_in F b).slot_bad b.commit (slot_read F b)) b old new
+    ((layout_in F b).slot_bad b.commit (slot_read F b)) next b old new

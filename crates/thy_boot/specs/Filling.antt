@@ -7,6 +7,7 @@ use Rattle.thy_base.specs.Device.{Device, block_at, newest}
 use Rattle.thy_dram.specs.Contents.{Contents}
 use Rattle.thy_isa.specs.declared.state.CpuState.{CpuState}
 use Rattle.thy_isa.specs.Step.{State}
+use Rattle.thy_record.specs.declared.bad_image.BadImage.{BadImage}
 use Rattle.thy_record.specs.Commit.{is_zero, epoch_of}
 use Rattle.thy_view.specs.Dram.{ActsOnDram}
 use Rattle.thy_view.specs.Origin.{Origin, IsOrigin}
@@ -34,6 +35,9 @@ pub record FillingOf (C : Type 0) : Type 1 where
   pub drained : C → C
   -- power has just come on: it lists nothing
   pub fresh : C → Type 0
+  -- by commit block, the fault that the first blocks of a slot have by themselves, and that it has taken up what they say
+  pub early_fault : Parameters → Block → List Block → Option BadImage
+  pub taken : Block → List Block → C → Type 0
   -- it lists the checkpoint that has this commit block and this slot
   pub lists : Block → List Block → C → Type 0
   -- over a device, all that has to be filled below a position is; and all of it is
@@ -57,12 +61,21 @@ pub record FillingOf (C : Type 0) : Type 1 where
 abbrev pub layout_at : {C : Type 0} → FillingOf C → Parameters → Layout
 layout_at F p = F.layouts p ceiling
 
--- a controller that listed nothing lists a checkpoint, and is else as it was
-pub record ListsOn {C : Type 0} (F : FillingOf C) (commit : Block) (slot : List Block) (old new : C) : Type 0 where
-  pub lists : F.lists commit slot new
+-- listing and filling leave the rest of a controller
+pub record IsLeft {C : Type 0} (F : FillingOf C) (old new : C) : Type 0 where
   pub same_p : F.p new ≡ F.p old
   pub same_dram : F.dram new ≡ F.dram old
   pub keeps : F.keeps old new
+
+-- a controller has taken up the first blocks of a slot, and is else as it was
+pub record TakesUp {C : Type 0} (F : FillingOf C) (commit : Block) (blocks : List Block) (old new : C) : Type 0 where
+  pub taken : F.taken commit blocks new
+  pub left : IsLeft F old new
+
+-- a controller that has taken up a slot lists its checkpoint, and is else as it was
+pub record ListsOn {C : Type 0} (F : FillingOf C) (commit : Block) (slot : List Block) (old new : C) : Type 0 where
+  pub lists : F.lists commit slot new
+  pub left : IsLeft F old new
 
 -- a position is filled next: the controller lists a slot by which it has to be
 pub record IsNext {C : Type 0} (F : FillingOf C) (commit : Block) (c : C) (k : ℕ) : Type 0 where
@@ -83,6 +96,9 @@ pub record IsFilling {C : Type 0} (F : FillingOf C) : Type 0 where
   -- a state that is made of a slot has retired what the slot's processor has
   pub counts : (p : Parameters) (slot memory : List Block)
       → ((layout_at F p).state_from slot memory).count ≡ (F.cpu_in slot).count
+  -- before the first block of a slot there is no fault, and nothing to take up
+  pub early_none : (p : Parameters) (commit : Block) → F.early_fault p commit [] ≡ None
+  pub none_taken : (c : C) (commit : Block) → F.fresh c → F.taken commit [] c
   -- nothing has to be filled below the first position
   pub begins : (c : C) (n : Device) (commit : Block) (slot : List Block) → F.lists commit slot c → F.filled c n 0
   -- a position that is next is there, and reads a place of the image; those that were passed over need nothing
@@ -105,6 +121,7 @@ pub record IsFilling {C : Type 0} (F : FillingOf C) : Type 0 where
       → ActsOnDram n n (F.dram c) (F.dram (F.with_fill commit k (newest n (F.fill_place c commit k)) c))
   pub fill_keeps : (c : C) (commit : Block) (k : ℕ) (block : Block) → F.keeps c (F.with_fill commit k block c)
   pub same_keeps : (c : C) → F.keeps c c
+  pub left_keeps : (c d e : C) → IsLeft F c d → F.keeps d e → F.keeps c e
   -- with none left, all is filled, and memory is the image's
   pub ends : (c : C) (n : Device) (commit : Block) (slot : List Block) (from : ℕ)
       → F.lists commit slot c → F.filled c n from → F.next_fill (F.p c) commit slot from ≡ None
@@ -114,6 +131,7 @@ pub record IsFilling {C : Type 0} (F : FillingOf C) : Type 0 where
   -- a write of the DRAM that lands changes nothing of it
   pub drain_p : (c : C) → F.p (F.drained c) ≡ F.p c
   pub drain_fresh : (c : C) → F.fresh c → F.fresh (F.drained c)
+  pub drain_taken : (c : C) (commit : Block) (blocks : List Block) → F.taken commit blocks c → F.taken commit blocks (F.drained c)
   pub drain_lists : (c : C) (commit : Block) (slot : List Block) → F.lists commit slot c → F.lists commit slot (F.drained c)
   pub drain_filled : (c : C) (n : Device) (k : ℕ) → F.filled c n k → F.filled (F.drained c) n k
   pub drain_whole : (c : C) (n : Device) → F.whole c n → F.whole (F.drained c) n

@@ -12,7 +12,7 @@ use Rattle.thy_boot.specs.declared.stage.ReadStage.{ReadStage}
 use Rattle.thy_boot.specs.declared.stage.ReadStage.TheVariants.{Unread, Header, Slot, Fills, Refusing}
 use Rattle.thy_boot.specs.declared.stage.End.TheVariants.{Restored, Loaded}
 use Rattle.thy_boot.specs.declared.stage.Issue.TheVariants.{Home}
-use Rattle.thy_boot.specs.Boot.{Booting, layout_in, slot_read}
+use Rattle.thy_boot.specs.Boot.{Booting, layout_in, slot_read, first_read, early_fault}
 use Rattle.thy_boot.specs.Filling.{FillingOf}
 use Rattle.thy_boot.specs.Left.{reads_left, boot_left}
 
@@ -30,6 +30,11 @@ pub record HasHead (l : Layout) (g : List Block) (commit : Block) : Type 0 where
 -- the first blocks of these bytes are those of the slot
 pub record HasSlot (l : Layout) (g : List Block) (commit : Block) (n : ℕ) (slot : List ℕ) : Type 0 where
   pub each : (k : ℕ) → k < n → block_in slot k ≡ block_at g (l.slot_place commit + k)
+
+-- its first blocks were taken up, and their fault is known
+pub record HasTaken {C : Type 0} (F : FillingOf C) (b : Booting) (c : C) (k : ℕ) : Type 0 where
+  pub taken : F.taken b.commit (first_read F k b) c
+  pub fault : b.fault ≡ early_fault F k b
 
 -- the slot was read and has no fault, and the controller lists it, filled below a position
 pub record HasListed {C : Type 0} (F : FillingOf C) (n : Device) (b : Booting) (c : C) (k : ℕ) : Type 0 where
@@ -54,7 +59,7 @@ abbrev pub HasReadAt : {C : Type 0} → FillingOf C → Stage → Device → Boo
 HasReadAt F (Reads Unread) n b c = F.fresh c
 HasReadAt F (Reads Header) n b c = F.fresh c × HasCommit n.image b.commit
 HasReadAt F (Reads (Slot next)) n b c =
-    F.fresh c × HasHead (layout_in F b) n.image b.commit × HasSlot (layout_in F b) n.image b.commit next b.slot
+    HasTaken F b c next × HasHead (layout_in F b) n.image b.commit × HasSlot (layout_in F b) n.image b.commit next b.slot
 HasReadAt F (Reads (Fills k)) n b c =
     HasListed F n b c k × (F.next_fill b.p b.commit (slot_read F b) k ≡ Some k)
 HasReadAt F (Reads (Refusing bad)) n b c = decode_by (layout_in F b) n.image ≡ IsRefused bad

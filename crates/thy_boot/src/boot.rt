@@ -9,7 +9,7 @@ use crate::stage::{BootStep, End, ReadStage, Stage};
 use std::alloc::{AllocError, Global};
 use std::marker::Model;
 use thy_base::{BLOCK_SIZE, Block, Geometry, Nvm, NvmError, word};
-use thy_record::Start;
+use thy_record::{BadImage, Start};
 
 /// A boot, with the commit block and the bytes of the slot, as far as they were read. Only `new` allocates: the room for
 /// the slot.
@@ -19,6 +19,8 @@ pub struct Boot {
     pub(crate) commit: Block,
     pub(crate) slot: Vec<u8>,
     pub(crate) stage: Stage,
+    /// The fault that the blocks of the slot have by themselves that were read.
+    pub(crate) fault: Option<BadImage>,
 }
 
 impl Model for Boot {
@@ -26,7 +28,8 @@ impl Model for Boot {
 
     ghost Value = { Booting };
 
-    ghost view = { λ b. record { p = b.geometry; commit = b.commit; slot = b.slot.items; stage = b.stage } };
+    ghost view = { λ b.
+        record { p = b.geometry; commit = b.commit; slot = b.slot.items; stage = b.stage; fault = b.fault } };
 }
 
 impl Boot {
@@ -43,6 +46,7 @@ impl Boot {
             commit: Block::ZERO,
             slot,
             stage: Stage::Reads(ReadStage::Unread),
+            fault: None,
         })
     }
 

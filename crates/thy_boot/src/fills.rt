@@ -1,10 +1,10 @@
 //! What a scheme says of its images to the boot.
-ghost use Rattle.std.specs.Prelude.{◌≡◌, ◌+◌, ◌*◌, ◌<◌, true, length, None, OnOk, OnErr, slice_index_or};
+ghost use Rattle.std.specs.Prelude.{◌≡◌, ◌+◌, ◌*◌, ◌<◌, true, length, take, None, OnOk, OnErr, slice_index_or};
 ghost use Rattle.thy_base.specs.Device.{newest, block_at};
 ghost use Rattle.thy_isa.specs.Step.{state_of};
 ghost use Rattle.thy_view.specs.Action.{ReadAt};
 ghost use Rattle.thy_boot.specs.Boot.{slot_bytes};
-ghost use Rattle.thy_boot.specs.Filling.{FillingOf, IsFilling, IsNext, ListsOn, layout_at};
+ghost use Rattle.thy_boot.specs.Filling.{FillingOf, IsFilling, IsNext, TakesUp, ListsOn, layout_at};
 ghost use Rattle.thy_boot.specs.Loads.{Takes};
 
 use thy_base::{Block, Geometry, Nvm, NvmError};
@@ -46,9 +46,38 @@ pub trait Fills: Drop {
     fn commit_fault(geometry: &Geometry, header: &Block, commit: &Block) -> Option<BadImage>
         ensures { result ≡ (layout_at filling geometry.now).commit_bad header.now commit.now };
 
-    /// The fault of a slot, in the first bytes of its room.
-    fn slot_fault(geometry: &Geometry, commit: &Block, slot: &[u8]) -> Option<BadImage>
+    /// Takes up block `next` of a slot, which is in its room with those before it. `fault` is the fault that those have by
+    /// themselves; returns that which they have with this block. What this costs may depend on the block alone.
+    fn take_up(
+        geometry: &Geometry,
+        commit: &Block,
+        slot: &[u8],
+        next: u64,
+        fault: Option<BadImage>,
+        control: &mut Self::Control,
+    ) -> Option<BadImage>
         requires room { length slot.now ≡ 64 * filling.most_slot geometry.now }
+        requires inside { next < (layout_at filling geometry.now).slot_blocks commit.now }
+        requires geometry { filling.p control.old ≡ geometry.now }
+        requires fault { let blocks = slot_bytes filling geometry.now commit.now slot.now in
+            fault ≡ filling.early_fault geometry.now commit.now (take next blocks) }
+        requires taken { let blocks = slot_bytes filling geometry.now commit.now slot.now in
+            filling.taken commit.now (take next blocks) control.old }
+        ensures fault { let blocks = slot_bytes filling geometry.now commit.now slot.now in
+            result ≡ filling.early_fault geometry.now commit.now (take (next + 1) blocks) }
+        ensures taken { let blocks = slot_bytes filling geometry.now commit.now slot.now in
+            TakesUp filling commit.now (take (next + 1) blocks) control.old control.new };
+
+    /// The fault of a slot, in the first bytes of its room. `early` is the fault that its blocks have by themselves.
+    fn slot_fault(
+        geometry: &Geometry,
+        commit: &Block,
+        slot: &[u8],
+        early: Option<BadImage>,
+    ) -> Option<BadImage>
+        requires room { length slot.now ≡ 64 * filling.most_slot geometry.now }
+        requires early { let blocks = slot_bytes filling geometry.now commit.now slot.now in
+            early ≡ filling.early_fault geometry.now commit.now blocks }
         ensures { let l = layout_at filling geometry.now in
             result ≡ l.slot_bad commit.now (slot_bytes filling geometry.now commit.now slot.now) };
 
@@ -57,11 +86,12 @@ pub trait Fills: Drop {
         requires room { length slot.now ≡ 64 * filling.most_slot geometry.now }
         ensures { result ≡ filling.cpu_in (slot_bytes filling geometry.now commit.now slot.now) };
 
-    /// A slot without a fault is listed by a controller that lists nothing.
+    /// A slot without a fault is listed by a controller that has taken it up.
     fn list(geometry: &Geometry, commit: &Block, slot: &[u8], control: &mut Self::Control)
         requires room { length slot.now ≡ 64 * filling.most_slot geometry.now }
         requires geometry { filling.p control.old ≡ geometry.now }
-        requires fresh { filling.fresh control.old }
+        requires taken { let blocks = slot_bytes filling geometry.now commit.now slot.now in
+            filling.taken commit.now blocks control.old }
         requires fits { let l = layout_at filling geometry.now in
             l.slot_bad commit.now (slot_bytes filling geometry.now commit.now slot.now) ≡ None }
         ensures { ListsOn filling commit.now (slot_bytes filling geometry.now commit.now slot.now) control.old control.new };

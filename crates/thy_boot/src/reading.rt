@@ -3,11 +3,11 @@ ghost use Rattle.std.specs.Prelude.{◌≡◌, ◌+◌, ◌*◌, ◌<◌, ◌≤
 ghost use Rattle.thy_base.specs.Bytes.{written};
 ghost use Rattle.thy_base.specs.Device.{newest};
 ghost use Rattle.thy_view.specs.Action.{ReadAt};
-ghost use Rattle.thy_boot.specs.Boot.{IsBoot, layout_in, slot_read, at_stage, stage_of_commit, after_commit, after_header, after_slot};
+ghost use Rattle.thy_boot.specs.Boot.{IsBoot, layout_in, slot_read, at_stage, at_slot, stage_of_commit, after_commit, after_header, after_slot};
 ghost use Rattle.thy_boot.specs.Boot.{refusing_or, filling_or, gone_on, IsJudged, GoesOn};
 ghost use Rattle.thy_boot.specs.Loads.{Takes};
 ghost use Rattle.thy_boot.specs.Reads.{read_action, read_on, slot_kept, FillsOn, IsBlock};
-ghost use Rattle.thy_boot.specs.Recovers.{HasRead};
+ghost use Rattle.thy_boot.specs.Recovers.{HasRead, HasTaken};
 
 use crate::boot::Boot;
 use crate::fills::Fills;
@@ -91,7 +91,7 @@ impl Boot {
     fn read_header<F: Fills, N: Nvm>(&mut self, nvm: &mut N) -> Result<(), NvmError>
         requires { 0 < length (N.device nvm.old).image }
         ensures state { let next = after_header (layout_in F.filling self.old) (newest (N.device nvm.old) 0) self.old in
-            OnOk result (self.new ≡ at_stage next self.old) }
+            OnOk result (self.new ≡ at_slot next self.old) }
         ensures kept { OnErr result (self.new ≡ self.old) }
         ensures reads { Takes (ReadAt 0) result (N.device nvm.old) (N.device nvm.new) }
     {
@@ -99,6 +99,7 @@ impl Boot {
         let of_commit = F::commit_fault(&self.geometry, &header, &self.commit);
         let fault = F::header_fault(&self.geometry, &header).or(of_commit);
         self.stage = refusing_or(fault, Stage::Reads(ReadStage::Slot(0)));
+        self.fault = None;
         Ok(())
     }
 
@@ -142,15 +143,23 @@ impl Boot {
         Ok(())
     }
 
-    /// Continues after block `next` of the slot; with the last, the slot is judged.
+    /// Takes up block `next` of the slot, and continues; with the last, the slot is judged.
     fn go_on<F: Fills>(&mut self, next: u64, control: &mut F::Control)
         requires inside { next < (layout_in F.filling self.old).slot_blocks self.old.commit }
         requires room { length self.old.slot ≡ 64 * F.filling.most_slot self.old.p }
         requires geometry { F.filling.p control.old ≡ self.old.p }
-        requires fresh { F.filling.fresh control.old }
+        requires taken { HasTaken F.filling self.old control.old next }
         ensures boot { self.new ≡ gone_on F.filling next self.old }
         ensures control { GoesOn F.filling next self.old control.old control.new }
     {
+        self.fault = F::take_up(
+            &self.geometry,
+            &self.commit,
+            &self.slot,
+            next,
+            self.fault,
+            control,
+        );
         let blocks = F::slot_blocks(&self.geometry, &self.commit);
         if next + 1 < blocks {
             self.stage = Stage::Reads(ReadStage::Slot(next + 1));
@@ -163,12 +172,13 @@ impl Boot {
     fn judge<F: Fills>(&mut self, control: &mut F::Control)
         requires room { length self.old.slot ≡ 64 * F.filling.most_slot self.old.p }
         requires geometry { F.filling.p control.old ≡ self.old.p }
-        requires fresh { F.filling.fresh control.old }
+        requires taken { F.filling.taken self.old.commit (slot_read F.filling self.old) control.old }
+        requires fault { self.old.fault ≡ F.filling.early_fault self.old.p self.old.commit (slot_read F.filling self.old) }
         ensures boot { self.new ≡ at_stage (after_slot F.filling self.old) self.old }
         ensures control { let fault = (layout_in F.filling self.old).slot_bad self.old.commit (slot_read F.filling self.old) in
             IsJudged F.filling fault self.old control.old control.new }
     {
-        match F::slot_fault(&self.geometry, &self.commit, &self.slot) {
+        match F::slot_fault(&self.geometry, &self.commit, &self.slot, self.fault) {
             Some(bad) => self.stage = Stage::Reads(ReadStage::Refusing(bad)),
             None => {
                 F::list(&self.geometry, &self.commit, &self.slot, control);

@@ -145,7 +145,7 @@ module _ (o : Origin) (g : BootImages) (n : Device) (b : Booting) (c : State) wh
   idle-read : (r : ReadStage) → ((bad : BadImage) → Reads r ≢ Reads (Refusing bad)) → HasReadAt filling_dual (Reads r) n b c → c.under_way ≡ false
   idle-read Unread good h = h.fresh.booting.idle
   idle-read ReadsHeader good h = h.0.fresh.booting.idle
-  idle-read (ReadsSlot next) good h = h.0.fresh.booting.idle
+  idle-read (ReadsSlot next) good h = h.0.taken.booting.idle
   idle-read (Fills k) good h = h.0.lists.booting.idle
   idle-read (Refusing bad) good h = absurd (good bad refl)
 

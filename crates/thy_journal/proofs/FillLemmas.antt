@@ -20,4 +20,7 @@ pub lists_on : (p : Parameters) (commit : Block) (bytes : List ℕ) (old new : S
     → ListsAll (blocks_of bytes) old new → ListsOn filling_journal commit (take (slot_blocks p) (blocks_of bytes)) old new
 lists_on p commit bytes old new long all =
     subst (λ (slot : List Block). ListsOn filling_journal commit slot old new) (sym (whole_slot p bytes long))
-    (record { lists = all.lists; same_p = all.same_p; same_dram = all.same_dram; keeps = ap (λ (d : Contents). d.room) all.same_dram })
+    (record {
+      lists = all.lists;
+      left = record { same_p = all.same_p; same_dram = all.same_dram; keeps = ap (λ (d : Contents). d.room) all.same_dram };
+    })

@@ -43,7 +43,23 @@ impl Fills for Refill {
         fault_of_commit(commit, CEILING)
     }
 
-    fn slot_fault(geometry: &Geometry, commit: &Block, slot: &[u8]) -> Option<BadImage> {
+    fn take_up(
+        geometry: &Geometry,
+        commit: &Block,
+        slot: &[u8],
+        next: u64,
+        fault: Option<BadImage>,
+        control: &mut Log,
+    ) -> Option<BadImage> {
+        fault
+    }
+
+    fn slot_fault(
+        geometry: &Geometry,
+        commit: &Block,
+        slot: &[u8],
+        early: Option<BadImage>,
+    ) -> Option<BadImage> {
         fault_of_slot(slot, word(commit, 1), geometry, CEILING)
     }
 

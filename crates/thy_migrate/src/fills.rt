@@ -7,7 +7,7 @@ use thy_control::Control;
 use thy_isa::{CpuState, MachState};
 use thy_record::{BadImage, commit_block, commit_fault, header_block, header_fault, version_of};
 use thy_recover::{
-    cpu_of_slot, fault_of_slot, fill, first_memory, first_slot, list_slot, next_fill,
+    cpu_of_slot, fault_of_slot, fill, first_memory, first_slot, list_slot, next_fill, take_up,
 };
 
 /// What this scheme says of its images to the boot.
@@ -43,8 +43,24 @@ impl Fills for DualFills {
         commit_fault(header, commit, CEILING)
     }
 
-    fn slot_fault(geometry: &Geometry, commit: &Block, slot: &[u8]) -> Option<BadImage> {
-        fault_of_slot(geometry, commit, slot)
+    fn take_up(
+        geometry: &Geometry,
+        commit: &Block,
+        slot: &[u8],
+        next: u64,
+        fault: Option<BadImage>,
+        control: &mut Control,
+    ) -> Option<BadImage> {
+        take_up(geometry, commit, slot, next, fault, control)
+    }
+
+    fn slot_fault(
+        geometry: &Geometry,
+        commit: &Block,
+        slot: &[u8],
+        early: Option<BadImage>,
+    ) -> Option<BadImage> {
+        fault_of_slot(geometry, commit, slot, early)
     }
 
     fn cpu_in(geometry: &Geometry, commit: &Block, slot: &[u8]) -> CpuState {

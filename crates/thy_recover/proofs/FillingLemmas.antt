@@ -18,7 +18,7 @@ use Rattle.thy_isa.specs.Step.{State as Plain, cpu_of}
 use Rattle.thy_record.specs.Commit.{commit_of, version_of}
 use Rattle.thy_record.specs.Header.{header_of}
 use Rattle.thy_record.specs.Images.{memory_in, memory_numbers}
-use Rattle.thy_record.specs.Slots.{tables_in}
+use Rattle.thy_record.specs.Slots.{tables_in, counts_in, count_fault}
 use Rattle.thy_record.specs.Tables.{Tables, place_of}
 use Rattle.thy_record.proofs.HeaderLemmas.{header_fault-header_of}
 use Rattle.thy_record.proofs.ImageLemmas.{map-alike}
@@ -37,8 +37,9 @@ use Rattle.thy_protocol.specs.DualParts.{parts_by}
 use Rattle.thy_protocol.proofs.DualPartsLemmas.{parts_of, no_fault, cpu_is}
 use Rattle.thy_boot.specs.Filling.{IsFilling}
 use Rattle.thy_boot.proofs.ReadLemmas.{newest-settled}
-use Rattle.thy_recover.specs.Filling.{CanStart, IsEmpty, ListsSlot, loads, next_position, page_place, with_filled, filling_dual}
+use Rattle.thy_recover.specs.Filling.{CanStart, IsEmpty, HasTakenUp, ListsSlot, loads, next_position, page_place, with_filled, filling_dual}
 use Rattle.thy_recover.specs.Start.{start_blocks, no_tables, no_counts}
+use Rattle.thy_recover.proofs.CountLemmas.{fault-head, counts-begin}
 use Rattle.thy_recover.proofs.PositionLemmas.{IsPosition, IsPosition-next, position_inside, position_above, place_inside, position_again, filled_next, filled_all, AreSoundTables-dram, ListsSlot-dram, lists_filled, fills_to}
 use Rattle.thy_recover.proofs.LiveLemmas.{live_in_tables}
 use Rattle.thy_recover.proofs.SlotLemmas.{least_slot, most_slot}
@@ -82,6 +83,34 @@ fresh_drained c e = record {
     no_pages = e.fresh.no_pages;
     no_counts = e.fresh.no_counts;
   };
+}
+
+taken_drained : (f : LayoutVersion) (blocks : List Block) (c : State) → HasTakenUp f blocks c → HasTakenUp f blocks (filling_dual.drained c)
+taken_drained f blocks c h = record {
+  tables = AreSoundTables-dram c (filling_dual.drained c).dram refl h.tables;
+  booting = record { idle = h.booting.idle; blocks = h.booting.blocks; pages = h.booting.pages };
+  no_blocks = h.no_blocks;
+  no_pages = h.no_pages;
+  counts = h.counts;
+}
+
+-- ---- before the first block of a slot
+
+no_fault_yet : (f : LayoutVersion) (p : Parameters) → count_fault f p [] ≡ None
+no_fault_yet VersionOne p = refl
+no_fault_yet VersionTwo p = fault-head p [] 0 (omega arith)
+
+counts_yet : (f : LayoutVersion) (p : Parameters) → replicate p.pages 0 ≡ counts_in f p []
+counts_yet VersionOne p = refl
+counts_yet VersionTwo p = sym (counts-begin p)
+
+none_taken_yet : (f : LayoutVersion) (c : State) → IsEmpty c → HasTakenUp f [] c
+none_taken_yet f c e = record {
+  tables = e.tables;
+  booting = e.fresh.booting;
+  no_blocks = e.fresh.no_blocks;
+  no_pages = e.fresh.no_pages;
+  counts = λ none. e.fresh.no_counts ∙ counts_yet f c.p;
 }
 
 -- ---- a start
@@ -151,6 +180,8 @@ filling_is_lawful = record {
   head_inside = λ p. omega arith;
   slot_inside = λ p header commit header_fits commit_fits. inside_image (version_of commit) p (_ % 2) (half _);
   counts = λ p slot memory. count_is p (filling_dual.cpu_in slot) memory;
+  early_none = λ p commit. no_fault_yet (version_of commit) p;
+  none_taken = λ c commit empty. none_taken_yet (version_of commit) c empty;
   begins = λ c n commit slot lists i m may below. absurd (omega (arith, below));
   next = λ c n commit slot from k lists filled next.
       let at : IsPosition c.p slot from k = IsPosition-next c.p slot from k next in (
@@ -171,11 +202,17 @@ filling_is_lawful = record {
       inr (record { at = number_of c.p (Frame _ _); block = newest n (page_place c k); left = refl; nvm = refl });
   fill_keeps = λ c commit k block. record { room = refl; most = omega arith; counts = refl };
   same_keeps = λ c. record { room = refl; most = omega arith; counts = refl };
+  left_keeps = λ c d e left keeps. record {
+    room = keeps.room ∙ ap (λ x. x.room) left.same_dram;
+    most = (let queued = ap (λ x. x.queued) left.same_dram in omega (arith, queued, keeps.most));
+    counts = keeps.counts ∙ left.keeps.counts;
+  };
   ends = λ c n commit slot from lists filled none settled sized at is.
       let holds : HoldAll c n = held c n commit slot from lists none settled is filled in
       (holds, memory_same c n commit slot from lists none settled is holds);
   drain_p = λ c. refl;
   drain_fresh = fresh_drained;
+  drain_taken = λ c commit blocks taken. taken_drained (version_of commit) blocks c taken;
   drain_lists = λ c commit slot lists. ListsSlot-dram commit slot c (filling_dual.drained c).dram refl lists;
   drain_filled = λ c n k filled i m may below. filled i m (record { listed = may.listed; inside = may.inside }) below;
   drain_whole = λ c n holds. holds;

@@ -19,9 +19,10 @@ use Rattle.thy_record.proofs.SlotLemmas.{length-entries_in}
 use Rattle.thy_control.specs.CheckpointTables.{tables0}
 use Rattle.thy_control.specs.State.{State, AreSoundTables}
 use Rattle.thy_boot.specs.Boot.{slot_bytes}
-use Rattle.thy_boot.specs.Filling.{ListsOn}
-use Rattle.thy_recover.specs.Filling.{IsEmpty, filling_dual}
-use Rattle.thy_recover.specs.Listed.{HaveFirst, ListsUpTo, AsListed, HasCounts}
+use Rattle.thy_boot.specs.Filling.{IsLeft, TakesUp, ListsOn}
+use Rattle.thy_recover.specs.Filling.{HasTakenUp, filling_dual}
+use Rattle.thy_recover.specs.Listed.{HaveFirst, ListsUpTo, AsListed, TakesCounts}
+use Rattle.thy_recover.proofs.CountLemmas.{counts-of}
 
 -- a slot of either version has the record and the tables, and fits into the room
 pub least_slot : (f : LayoutVersion) (p : Parameters) → record_blocks p + table_blocks p ≤ blocks_of_slot f p
@@ -33,7 +34,7 @@ most_slot VersionOne p = omega arith
 most_slot VersionTwo p = omega arith
 
 -- the first blocks of bytes
-blocks_of-take : (bytes : List ℕ) (n : ℕ) → n ≤ length bytes / 64 → blocks_of (take (64 * n) bytes) ≡ take n (blocks_of bytes)
+pub blocks_of-take : (bytes : List ℕ) (n : ℕ) → n ≤ length bytes / 64 → blocks_of (take (64 * n) bytes) ≡ take n (blocks_of bytes)
 blocks_of-take bytes n inside =
     let part : length (take (64 * n) bytes) ≡ 64 * n = length-take-le (64 * n) bytes (omega arith) in
     let left : length (blocks_of (take (64 * n) bytes)) ≡ n = omega (arith, length-blocks_of (take (64 * n) bytes), part) in
@@ -96,17 +97,17 @@ counts_fit version p ceiling epoch slot h =
     (none_of_two (status_fault p ceiling slot) (count_fault version p slot)
     (none_of_two (tables_fault p t) (option_or (status_fault p ceiling slot) (count_fault version p slot)) rest).1).1
 
--- what is empty lists none of any tables
-pub ListsUpTo-empty : (p : Parameters) (slot : List Block) (c : State) → c.p ≡ p → IsEmpty c → ListsUpTo 0 0 (tables_in p slot) c
-ListsUpTo-empty p slot c same e = record {
-  booting = e.fresh.booting;
+-- what has taken up a slot lists none of its tables yet
+pub ListsUpTo-taken : (f : LayoutVersion) (p : Parameters) (slot : List Block) (c : State) → c.p ≡ p → HasTakenUp f slot c → ListsUpTo 0 0 (tables_in p slot) c
+ListsUpTo-taken f p slot c same h = record {
+  booting = h.booting;
   have = record {
-    btt_length = length-map c.btt.entries _ ∙ e.tables.btt_size ∙ ap (λ (p : Parameters). p.btt) same ∙ sym (size_of_btt p slot);
-    ptt_length = length-map c.ptt.entries _ ∙ e.tables.ptt_size ∙ ap (λ (p : Parameters). p.ptt) same ∙ sym (size_of_ptt p slot);
+    btt_length = length-map c.btt.entries _ ∙ h.tables.btt_size ∙ ap (λ (p : Parameters). p.btt) same ∙ sym (size_of_btt p slot);
+    ptt_length = length-map c.ptt.entries _ ∙ h.tables.ptt_size ∙ ap (λ (p : Parameters). p.ptt) same ∙ sym (size_of_ptt p slot);
     blocks = λ k l. absurd (omega (arith, l));
-    no_blocks = λ k l. e.fresh.no_blocks k;
+    no_blocks = λ k l. h.no_blocks k;
     pages = λ k l. absurd (omega (arith, l));
-    no_pages = λ k l. e.fresh.no_pages k;
+    no_pages = λ k l. h.no_pages k;
   };
 }
 
@@ -116,28 +117,37 @@ all_listed i j t u bi pj h =
     ap (λ (x : List (Option ℕ)). record u { btt = x }) (ext_get_or None u.btt t.btt h.btt_length (λ k l. h.blocks k (omega (arith, l, h.btt_length, bi))))
     ∙ ap (λ (x : List (Option ℕ)). record t { ptt = x }) (ext_get_or None u.ptt t.ptt h.ptt_length (λ k l. h.pages k (omega (arith, l, h.ptt_length, pj))))
 
-pub lists_on : (p : Parameters) (commit : Block) (slot : List Block) (c d e : State) → c.p ≡ p → AreSoundTables e
-    → AsListed p.btt p.ptt (tables_in p slot) c d → HasCounts (version_of commit) p slot d e → ListsOn filling_dual commit slot c e
-lists_on p commit slot c d e same tables l h =
+-- what is left of a controller whose tables or counts of the epoch before are others
+IsLeft-as : (c d : State) → d.p ≡ c.p → d.dram ≡ c.dram → d.counts.counts ≡ c.counts.counts → IsLeft filling_dual c d
+IsLeft-as c d same_p same_dram counts = record {
+  same_p = same_p;
+  same_dram = same_dram;
+  keeps = record {
+    room = ap (λ x. x.room) same_dram;
+    most = (let queued = ap (λ x. x.queued) same_dram in omega (arith, queued));
+    counts = counts;
+  };
+}
+
+pub TakesUp-counts : (commit : Block) (blocks : List Block) (c d : State) → TakesCounts (version_of commit) blocks c d → TakesUp filling_dual commit blocks c d
+TakesUp-counts commit blocks c d h = record {
+  taken = h.taken;
+  left = IsLeft-as c d (ap (λ (x : State). x.p) h.same) (ap (λ (x : State). x.dram) h.same) (ap (λ (x : State). x.counts.counts) h.same);
+}
+
+pub lists_on : (p : Parameters) (commit : Block) (slot : List Block) (c d : State) → c.p ≡ p → HasTakenUp (version_of commit) slot c
+    → count_fault (version_of commit) p slot ≡ None → AreSoundTables d → AsListed p.btt p.ptt (tables_in p slot) c d → ListsOn filling_dual commit slot c d
+lists_on p commit slot c d same taken fits tables l =
     let same_p : d.p ≡ c.p = ap (λ (x : State). x.p) l.same in
-    let then_p : e.p ≡ d.p = ap (λ (x : State). x.p) h.same in
-    let same_dram : d.dram ≡ c.dram = ap (λ (x : State). x.dram) l.same in
-    let then_dram : e.dram ≡ d.dram = ap (λ (x : State). x.dram) h.same in
-    let all_p : e.p ≡ p = then_p ∙ same_p ∙ same in
+    let all_p : d.p ≡ p = same_p ∙ same in
     record {
       lists = record {
         tables = tables;
-        booting = h.booting;
-        are = ap tables0 h.same
-            ∙ all_listed p.btt p.ptt (tables_in p slot) (tables0 d) (size_of_btt p slot) (size_of_ptt p slot) l.lists.have
+        booting = l.lists.booting;
+        are = all_listed p.btt p.ptt (tables_in p slot) (tables0 d) (size_of_btt p slot) (size_of_ptt p slot) l.lists.have
             ∙ ap (λ (q : Parameters). tables_in q slot) (sym all_p);
-        counts = h.lasts ∙ ap (λ (q : Parameters). counts_in (version_of commit) q slot) (sym all_p);
+        counts = ap (λ (x : State). x.counts.lasts) l.same ∙ counts-of (version_of commit) p slot c same taken fits
+            ∙ ap (λ (q : Parameters). counts_in (version_of commit) q slot) (sym all_p);
       };
-      same_p = then_p ∙ same_p;
-      same_dram = then_dram ∙ same_dram;
-      keeps = record {
-        room = ap (λ x. x.room) (then_dram ∙ same_dram);
-        most = (let queued = ap (λ x. x.queued) (then_dram ∙ same_dram) in omega (arith, queued));
-        counts = ap (λ (x : State). x.counts.counts) h.same ∙ ap (λ (x : State). x.counts.counts) l.same;
-      };
+      left = IsLeft-as c d same_p (ap (λ (x : State). x.dram) l.same) (ap (λ (x : State). x.counts.counts) l.same);
     }

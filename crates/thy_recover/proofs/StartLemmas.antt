@@ -72,7 +72,7 @@ table_block-none p k r inside =
     table_block_of-entries (no_tables p) k (replicate 8 None) entries
 
 -- so do those of counts of 0
-zeros_at : (j : ℕ) → slice_index_or zero_block.0 j 0 ≡ 0
+pub zeros_at : (j : ℕ) → slice_index_or zero_block.0 j 0 ≡ 0
 unfolding zero_block
 zeros_at j = elim (cases_lt j 64) as (λ _. slice_index_or (replicate {A = ℕ} 64 0) j 0 ≡ 0) [
   | inl l ↦ get_or-replicate {A = ℕ} 64 j 0 0 l

@@ -4,6 +4,7 @@ use Rattle.std.specs.Prelude.{◌≡◌, ℕ, ◌+◌, ◌*◌, ◌/◌, ◌%◌
 use Rattle.std.specs.List.{range_with_len}
 use Rattle.thy_base.specs.declared.block.Block.{Block}
 use Rattle.thy_base.specs.declared.config.Parameters.{Parameters}
+use Rattle.thy_base.specs.declared.layout_version.LayoutVersion.{LayoutVersion}
 use Rattle.thy_base.specs.declared.place.Place.TheVariants.{AlternatePage, Frame}
 use Rattle.thy_base.specs.Device.{Device}
 use Rattle.thy_base.specs.Geometry.{IsInRange, memory_blocks}
@@ -13,7 +14,7 @@ use Rattle.thy_isa.specs.Step.{State as Plain, cpu_of}
 use Rattle.thy_record.specs.Commit.{commit_of, version_of}
 use Rattle.thy_record.specs.Cpu.{cpu_of_record, IsRecordable}
 use Rattle.thy_record.specs.Header.{header_of}
-use Rattle.thy_record.specs.Slots.{tables_in, counts_in}
+use Rattle.thy_record.specs.Slots.{tables_in, counts_in, count_fault}
 use Rattle.thy_record.specs.Tables.{entry_at}
 use Rattle.thy_table.specs.Listing.{first_from}
 use Rattle.thy_cell.specs.Sound.{Holds}
@@ -59,6 +60,15 @@ pub record IsEmpty (c : State) : Type 0 where
   pub tables : AreSoundTables c
   pub fresh : IsFresh c
 
+-- its tables are sound and it lists nothing, and it has the counts that these first blocks of a slot have, unless one of
+-- them is at fault. A block that is not there has counts of 0
+pub record HasTakenUp (version : LayoutVersion) (blocks : List Block) (c : State) : Type 0 where
+  pub tables : AreSoundTables c
+  pub booting : IsBooting c
+  pub no_blocks : (k : ℕ) → entry_at (tables0 c).btt k ≡ None
+  pub no_pages : (k : ℕ) → entry_at (tables0 c).ptt k ≡ None
+  pub counts : count_fault version c.p blocks ≡ None → c.counts.lasts ≡ counts_in version c.p blocks
+
 pub record ListsSlot (commit : Block) (slot : List Block) (c : State) : Type 0 where
   pub tables : AreSoundTables c
   pub booting : IsBooting c
@@ -96,6 +106,8 @@ filling_dual = record {
   dram = λ c. c.dram;
   drained = after_drain;
   fresh = IsEmpty;
+  early_fault = λ p commit blocks. count_fault (version_of commit) p blocks;
+  taken = λ commit blocks c. HasTakenUp (version_of commit) blocks c;
   lists = ListsSlot;
   filled = λ c n k. (i m : ℕ) → MayFrame i m c → 64 * i + m < k → Holds (reads c n) (cell_of c (framed_block i m c));
   whole = HoldAll;

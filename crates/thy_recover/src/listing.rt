@@ -1,21 +1,21 @@
 //! What a slot says: its fault, its processor, and what its tables list, given to the controller.
-ghost use Rattle.std.specs.Prelude.{◌≡◌, ◌+◌, ◌*◌, ◌<◌, ◌≤◌, is_some, length, None};
+ghost use Rattle.std.specs.Prelude.{◌≡◌, ◌+◌, ◌*◌, ◌<◌, ◌≤◌, is_some, length, take, None};
 ghost use Rattle.thy_base.specs.Device.{block_at};
 ghost use Rattle.thy_base.specs.Places.{record_blocks, table_blocks, blocks_of_slot, slot_blocks};
 ghost use Rattle.thy_boot.specs.Boot.{slot_bytes};
-ghost use Rattle.thy_boot.specs.Filling.{ListsOn};
+ghost use Rattle.thy_boot.specs.Filling.{TakesUp, ListsOn};
 ghost use Rattle.thy_record.specs.Commit.{epoch_of, version_of as version_named};
 ghost use Rattle.thy_record.specs.Cpu.{cpu_of_record};
 ghost use Rattle.thy_record.specs.Files.{blocks_of};
-ghost use Rattle.thy_record.specs.Slots.{tables_in, slot_fault as fault_of_slot};
+ghost use Rattle.thy_record.specs.Slots.{tables_in, count_fault, slot_fault as fault_of_slot};
 ghost use Rattle.thy_record.specs.Tables.{IsTables};
 ghost use Rattle.thy_table.specs.Listing.{first_from};
 ghost use Rattle.thy_view.specs.Safe.{ceiling};
-ghost use Rattle.thy_recover.specs.Filling.{IsEmpty, next_position, filling_dual};
+ghost use Rattle.thy_recover.specs.Filling.{HasTakenUp, next_position, filling_dual};
 ghost use Rattle.thy_recover.specs.Listed.{ListsUpTo, AsListed};
 
-use crate::counts::list_counts;
-use thy_base::{BLOCK_SIZE, Block, Geometry, PAGE_BLOCKS, word};
+use crate::counts::take_counts;
+use thy_base::{BLOCK_SIZE, Block, Geometry, LayoutVersion, PAGE_BLOCKS, word};
 use thy_boot::CEILING;
 use thy_control::{Control, tables_allow_listing};
 use thy_isa::CpuState;
@@ -33,20 +33,56 @@ fn slot_of<'a>(geometry: &Geometry, commit: &Block, room: &'a [u8]) -> &'a [u8]
     &room[..size]
 }
 
-/// The fault of a slot.
-pub fn fault_of_slot(geometry: &Geometry, commit: &Block, slot: &[u8]) -> Option<BadImage>
-    requires { length slot.now ≡ 64 * slot_blocks geometry.now }
+/// Takes up block `next` of a slot; `fault` is the first fault of the counts before it, and the result that with this block.
+pub fn take_up(
+    geometry: &Geometry,
+    commit: &Block,
+    slot: &[u8],
+    next: u64,
+    fault: Option<BadImage>,
+    control: &mut Control,
+) -> Option<BadImage>
+    requires room { length slot.now ≡ 64 * slot_blocks geometry.now }
+    requires inside { next < blocks_of_slot (version_named commit.now) geometry.now }
+    requires geometry { control.old.p ≡ geometry.now }
+    requires fault { let blocks = slot_bytes filling_dual geometry.now commit.now slot.now in
+        fault ≡ count_fault (version_named commit.now) geometry.now (take next blocks) }
+    requires taken { let blocks = slot_bytes filling_dual geometry.now commit.now slot.now in
+        HasTakenUp (version_named commit.now) (take next blocks) control.old }
+    ensures fault { let blocks = slot_bytes filling_dual geometry.now commit.now slot.now in
+        result ≡ count_fault (version_named commit.now) geometry.now (take (next + 1) blocks) }
+    ensures taken { let blocks = slot_bytes filling_dual geometry.now commit.now slot.now in
+        TakesUp filling_dual commit.now (take (next + 1) blocks) control.old control.new }
+{
+    let blocks = slot_of(geometry, commit, slot);
+    take_counts(blocks, version_of(commit), geometry, next, fault, control)
+}
+
+/// The fault of a slot; `early` is the first of its counts.
+pub fn fault_of_slot(
+    geometry: &Geometry,
+    commit: &Block,
+    slot: &[u8],
+    early: Option<BadImage>,
+) -> Option<BadImage>
+    requires room { length slot.now ≡ 64 * slot_blocks geometry.now }
+    requires early { let blocks = slot_bytes filling_dual geometry.now commit.now slot.now in
+        early ≡ count_fault (version_named commit.now) geometry.now blocks }
     ensures { let blocks = slot_bytes filling_dual geometry.now commit.now slot.now in
         result ≡ fault_of_slot (version_named commit.now) geometry.now ceiling (epoch_of commit.now) blocks }
 {
     let blocks = slot_of(geometry, commit, slot);
-    slot_fault(
-        blocks,
-        version_of(commit),
-        word(commit, 1),
+    // Version 1 is what both versions begin with: record and tables.
+    let head = BLOCK_SIZE * geometry.slot_blocks_of(LayoutVersion::VersionOne) as usize;
+    let epoch = word(commit, 1);
+    let fault = slot_fault(
+        &blocks[..head],
+        LayoutVersion::VersionOne,
+        epoch,
         geometry,
         CEILING,
-    )
+    );
+    fault.or(early)
 }
 
 /// The processor of a slot.
@@ -83,11 +119,12 @@ pub fn next_fill(geometry: &Geometry, commit: &Block, slot: &[u8], from: u64) ->
     }
 }
 
-/// A slot without a fault is listed by a controller that lists nothing.
+/// A slot without a fault is listed by a controller that has taken it up.
 pub fn list_slot(geometry: &Geometry, commit: &Block, slot: &[u8], control: &mut Control)
     requires room { length slot.now ≡ 64 * slot_blocks geometry.now }
     requires geometry { control.old.p ≡ geometry.now }
-    requires fresh { IsEmpty control.old }
+    requires taken { let blocks = slot_bytes filling_dual geometry.now commit.now slot.now in
+        HasTakenUp (version_named commit.now) blocks control.old }
     requires fits { let blocks = slot_bytes filling_dual geometry.now commit.now slot.now in
         fault_of_slot (version_named commit.now) geometry.now ceiling (epoch_of commit.now) blocks ≡ None }
     ensures { ListsOn filling_dual commit.now (slot_bytes filling_dual geometry.now commit.now slot.now) control.old control.new }
@@ -95,7 +132,6 @@ pub fn list_slot(geometry: &Geometry, commit: &Block, slot: &[u8], control: &mut
     faultless_tables();
     let blocks = slot_of(geometry, commit, slot);
     list_all(blocks, geometry, control);
-    list_counts(blocks, version_of(commit), geometry, control);
     control.tables();
 }
 

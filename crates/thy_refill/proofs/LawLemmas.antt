@@ -1,5 +1,5 @@
 -- What holds of filling the log.
-use Rattle.std.proofs.Common.{◌≡◌, ◌%◌, List, refl, inr, arith}
+use Rattle.std.proofs.Common.{◌≡◌, ◌%◌, List, refl, ◌∙◌, ap, inr, arith}
 use Rattle.thy_base.specs.declared.block.Block.{Block}
 use Rattle.thy_base.specs.declared.config.Parameters.{Parameters}
 use Rattle.thy_base.specs.Device.{newest}
@@ -30,6 +30,8 @@ log_is_filled = record {
   head_inside = λ p. omega arith;
   slot_inside = λ p header commit fits also. slot_fits p (epoch_of commit % 2) (half (epoch_of commit));
   counts = λ p slot memory. count_of p (cpu_of_record slot) memory;
+  early_none = λ p commit. refl;
+  none_taken = λ s commit fresh. fresh;
   begins = λ s n commit slot lists. record { each = λ i b low listed. absurd (omega (arith, low)) };
   next = λ s n commit slot from k lists filled found. next_found s n slot lists from filled commit k found;
   above = λ p commit slot from k found. next_above p slot from k found;
@@ -46,10 +48,12 @@ log_is_filled = record {
   });
   fill_keeps = λ s commit k block. refl;
   same_keeps = λ s. refl;
+  left_keeps = λ s t u left keeps. keeps ∙ ap (λ x. x.room) left.same_dram;
   ends = λ s n commit slot from lists filled none settled long is slot_is.
       let whole = filled_all s n slot lists from filled none in (whole, works_are_memory s n slot lists settled slot_is whole);
   drain_p = λ s. refl;
   drain_fresh = λ s fresh. record { state = IsSoundState-drained s fresh.state; free = fresh.free };
+  drain_taken = λ s commit blocks fresh. record { state = IsSoundState-drained s fresh.state; free = fresh.free };
   drain_lists = λ s commit slot lists. record { state = IsSoundState-drained s lists.state; table = lists.table };
   drain_filled = λ s n k filled. record { each = filled.each };
   drain_whole = λ s n filled. record { each = filled.each };

@@ -37,7 +37,7 @@ idle-at : (stage : Stage) (n : Device) (b : Booting) (c : State)
     → is_refused (answer_at filling_dual stage b) ≡ false → HasReadAt filling_dual stage n b c → c.under_way ≡ false
 idle-at (Reads Unread) n b c told read = read.fresh.booting.idle
 idle-at (Reads Header) n b c told read = read.0.fresh.booting.idle
-idle-at (Reads (Slot next)) n b c told read = read.0.fresh.booting.idle
+idle-at (Reads (Slot next)) n b c told read = read.0.taken.booting.idle
 idle-at (Reads (Fills k)) n b c told read = read.0.lists.booting.idle
 idle-at (Reads (Refusing bad)) n b c told read = cc
 idle-at (Loads issue) n b c told read = read.0.fresh.booting.idle
