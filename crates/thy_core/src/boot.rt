@@ -10,10 +10,9 @@ ghost use Rattle.thy_core.specs.Cycles.{HasStart, CanTake, HasTaken};
 ghost use Rattle.thy_core.specs.MachineParts.{machine_of, IsRestartBelow};
 
 use crate::parts::{Checkpoints, Consoles, MachineParts};
-use crate::sealing::runs;
 use thy_base::{Mark, Nvm, NvmError};
 use thy_hart::Hart;
-use thy_isa::{CpuState, MachState};
+use thy_isa::{CpuState, MachState, is_running};
 use thy_record::Start;
 use thy_scheme::{BootStep, Scheme};
 use thy_view::{Did, Phase};
@@ -78,7 +77,7 @@ fn run_from<S>(m: &mut MachineParts<S>, cpu: &CpuState, epoch: u64)
 fn phase_of(cpu: &CpuState) -> Phase
     ensures { result ≡ (if is_running cpu.now.status then Phase.Run else Phase.Halt) }
 {
-    if runs(cpu.status) {
+    if is_running(cpu.status) {
         Phase::Run
     } else {
         Phase::Halt

@@ -1,7 +1,6 @@
 //! The hart's turn while its epoch is over or a page is promoted: what comes before a seal, and the seal.
 ghost use Rattle.std.specs.Prelude.{◌≡◌, ◌≢◌, Ok, None, Some, true, false, ◌+◌, ◌<◌, ◌^◌};
 ghost use Rattle.thy_cache.specs.Contents.{dirty_count};
-ghost use Rattle.thy_isa.specs.Step.{is_running};
 ghost use Rattle.thy_view.specs.declared.did.Stall.TheVariants.{Sealing};
 ghost use Rattle.thy_view.specs.Turn.{TheHart};
 ghost use Rattle.thy_core_laws.specs.Calls.{after_seal};
@@ -10,7 +9,7 @@ ghost use Rattle.thy_core.specs.MachineParts.{machine_of};
 
 use crate::parts::MachineParts;
 use thy_base::{EndCause, Mark, Nvm, NvmError};
-use thy_isa::Status;
+use thy_isa::is_running;
 use thy_scheme::Scheme;
 use thy_view::Did;
 
@@ -104,19 +103,9 @@ fn begin_epoch<S>(m: &mut MachineParts<S>)
         count: cpu.count,
     });
     m.consoles.sealed = cpu.console_len;
-    m.ends = !runs(cpu.status);
+    m.ends = !is_running(cpu.status);
     m.idle = m.hart.epoch().retired() == 0;
     m.hart.sealed();
     m.spent = 0;
     m.lap = 0;
-}
-
-/// Whether a program of this status runs.
-pub(crate) fn runs(status: Status) -> bool
-    ensures { result ≡ is_running status }
-{
-    match status {
-        Status::Running => true,
-        Status::Exited(_) | Status::Trapped(_) => false,
-    }
 }

@@ -11,7 +11,7 @@ ghost use Rattle.thy_isa.specs.Access.{IsWithin};
 ghost use Rattle.thy_isa.specs.declared.state.Effect.TheVariants.{Environment};
 ghost use Rattle.thy_isa.specs.Effects.{size_of};
 ghost use Rattle.thy_isa.specs.OnBlocks.{calls_in};
-ghost use Rattle.thy_isa.specs.Step.{AreCallsOf, is_running};
+ghost use Rattle.thy_isa.specs.Step.{AreCallsOf};
 ghost use Rattle.thy_hart.specs.HartState.{IsReading, IsWriting, IsSoundHart, fetched_block, next_block, blocks_of, read_len, reserved, to_reserve};
 ghost use Rattle.thy_hart.specs.Outcomes.{begun_with, cpu_retired, touched, written_by, block_written, room_reserved, room_answer, retired, over_or_retired, epoch_retired, given};
 ghost use Rattle.thy_hart.specs.MicroSteps.{hart_state_of, IsFound, IsNext, ReadsWord, FetchesEffect, FetchesIn, ReadsIn, WritesIn, IsMicroStep};
@@ -22,8 +22,8 @@ use thy_cache::{Cache, LinePlace};
 use thy_epoch::EpochState;
 use thy_flat::{Piece, Span, take_head};
 use thy_isa::{
-    CallState, CpuState, Effect, Status, Width, add_number, brought, bytes_in, fetch_fault, finish,
-    finish_alone, moves, number_in, within, word, word_effect,
+    CallState, CpuState, Effect, Width, add_number, brought, bytes_in, fetch_fault, finish,
+    finish_alone, is_running, moves, number_in, within, word, word_effect,
 };
 
 /// What a hart is made of.
@@ -57,16 +57,6 @@ fn fetch_word(cache: &mut Cache, at: Span, place: Option<LinePlace>) -> u32
 
 /// No bytes.
 const NONE: Span = Span { at: 0, len: 0 };
-
-/// Whether a program of this status runs.
-fn runs(status: Status) -> bool
-    ensures { result ≡ is_running status }
-{
-    match status {
-        Status::Running => true,
-        Status::Exited(_) | Status::Trapped(_) => false,
-    }
-}
 
 /// How many blocks a span lies in that has bytes: 1 or 2.
 fn blocks_of(span: Span) -> u64
@@ -376,7 +366,7 @@ impl HartParts {
         ensures says { result ≡ over_or_retired (epoch_retired input.now effect (hart_state_of self.old)).over }
     {
         self.finish::<N>(effect, input);
-        self.epoch.retired_once(runs(self.cpu.status));
+        self.epoch.retired_once(is_running(self.cpu.status));
         self.hand = Hand::Nothing;
         self.bytes = Piece::new();
         match self.epoch.over() {

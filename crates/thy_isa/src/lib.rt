@@ -18,6 +18,7 @@ mod moving;
 mod numbers;
 mod regs;
 mod state;
+mod status;
 mod step;
 
 pub use arith::alu;
@@ -35,4 +36,5 @@ pub use regs::Regs;
 pub use state::{
     Call, CallState, Cause, CpuState, Effect, MachState, Moves, OtherHart, Reservation, Status,
 };
+pub use status::is_running;
 pub use step::{cause_number, fetch_fault, finish, finish_alone, within};

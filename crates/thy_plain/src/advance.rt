@@ -8,14 +8,14 @@ ghost use Rattle.thy_isa.specs.declared.state.Effect.TheVariants.{Environment};
 ghost use Rattle.thy_isa.specs.declared.state.Status.TheVariants.{Trapped};
 ghost use Rattle.thy_isa.specs.Effects.{size_of, after};
 ghost use Rattle.thy_isa.specs.Regs.{regs_with};
-ghost use Rattle.thy_isa.specs.Step.{state_of, call_state_of, cause_number, within, performed, advanced, is_running, step};
+ghost use Rattle.thy_isa.specs.Step.{state_of, call_state_of, cause_number, within, performed, advanced, step};
 ghost use Rattle.thy_plain.specs.Machine.{setting_of};
 
 use crate::setup::Setup;
 use thy_base::{Bytes, is_inside};
 use thy_isa::{
     Call, CallState, Cause, Effect, MachState, Reg, Status, Width, after, bytes_in, call,
-    cause_number, extended, fetch_fault, number, word, word_effect,
+    cause_number, extended, fetch_fault, is_running, number, word, word_effect,
 };
 
 /// The register of an environment call's result.
@@ -205,16 +205,6 @@ fn advance(state: &mut MachState, setup: &Setup)
     }
 }
 
-/// Whether a program of this status runs.
-pub(crate) fn runs(status: Status) -> bool
-    ensures { result ≡ is_running status }
-{
-    match status {
-        Status::Running => true,
-        Status::Exited(_) | Status::Trapped(_) => false,
-    }
-}
-
 /// Takes a step. An ended state stays as it is.
 pub(crate) fn take_step(state: &mut MachState, setup: &Setup)
     requires count { state.old.count < 2 ^ 63 }
@@ -222,7 +212,7 @@ pub(crate) fn take_step(state: &mut MachState, setup: &Setup)
     ensures state { state_of state.new ≡ step (setting_of setup.now) (state_of state.old) }
     ensures room { room_of state.old.console ≤ room_of state.new.console }
 {
-    if runs(state.status) {
+    if is_running(state.status) {
         advance(state, setup);
     }
 }

@@ -7,14 +7,14 @@ ghost use Rattle.thy_isa.specs.Step.{state_of, is_running};
 ghost use Rattle.thy_isa.specs.Storable.{IsStorable};
 ghost use Rattle.thy_plain.specs.Machine.{loaded, stepped, after_steps, StopsAt};
 
-use crate::advance::{runs, take_step};
+use crate::advance::take_step;
 use crate::setup::Setup;
 use crate::start::state_over;
 use std::alloc::{AllocError, Global};
 use std::marker::Model;
 use thy_base::{Bytes, Geometry};
 use thy_elf::Image;
-use thy_isa::MachState;
+use thy_isa::{MachState, is_running};
 
 /// The plain machine. Contracts see its state, and what stays the same over a run. Only `load` allocates,
 /// and no other call can fail.
@@ -90,7 +90,7 @@ impl Plain {
     fn is_running(&self) -> bool
         ensures { result ≡ is_running self.now.state.status }
     {
-        runs(self.state.status)
+        is_running(self.state.status)
     }
 
     /// The current state.
