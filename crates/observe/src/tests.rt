@@ -120,6 +120,7 @@ fn traps(rt: &(impl Abort + Alloc<A = Global>), word: u32, line: &str) -> Result
     for call in [
         "thynvm run F --pages 8 --btt 8 --ptt 8",
         "thynvm run F --pages 8 --btt 8 --ptt 8 --scheme journal",
+        "thynvm run F --pages 8 --btt 8 --ptt 8 --scheme shadow",
     ] {
         let run = called(alloc, "O", call, word, &[])?;
         assert_eq!(rt; run.status, 1, "{call} {line}");
@@ -143,7 +144,7 @@ fn a_trap_has_its_word_and_its_address(rt: HostRuntime) -> Result<(), Fail> {
 /// The whole texts of runs of the program of three instructions. The numbers follow from the rows of the example in
 /// docs/CONTROLLER.md. The state that was restored and the last one are read, 448 blocks each: none of them from the cache at
 /// a restart, and one, of the code, at the end.
-static RUNS: [(&str, &str); 3] = [
+static RUNS: [(&str, &str); 4] = [
     // The boot has taken 75 of the first 100 cycles, with one read and 74 writes, and begins anew.
     (
         "thynvm run F --pages 8 --btt 8 --ptt 8 --cuts 100",
@@ -181,6 +182,21 @@ static RUNS: [(&str, &str); 3] = [
     // A slot of the journal has six blocks. The drain before its last barrier lands the commit block.
     (
         "thynvm run F --pages 8 --btt 8 --scheme journal",
+        "696 0 commit 0 overlapped 0\n\
+         704 3 epoch 1 ends at 3 by end\n\
+         716 3 commit 1 overlapped 0\n\
+         716 3 exit 7 at 3\n\
+         cycles 716 boot 523 hart 8 engine 9 nvmdrain 176 dramdrain 0\n\
+         hart moved 4 retired 3 flushed 0 merged 0 promoted 0 sealed 1\n\
+         engine copied 0 page 0 state 5 table 1 barrier 1 commit 1 committed 1\n\
+         waiting 6\n\
+         nvm reads 449 writes 527 barriers 4\n\
+         lost 0\n\
+         epochs 1 early 0 overlapped 0\n",
+    ),
+    // So has one of shadow paging, and no page was stored to.
+    (
+        "thynvm run F --pages 8 --btt 8 --scheme shadow",
         "696 0 commit 0 overlapped 0\n\
          704 3 epoch 1 ends at 3 by end\n\
          716 3 commit 1 overlapped 0\n\

@@ -17,6 +17,7 @@ use thy_core::Machine;
 use thy_dual::DualScheme;
 use thy_journal::Journal;
 use thy_observe::{Counts, Tally};
+use thy_shadow::Shadow;
 use thy_text::{Closing, write_closing};
 use thy_view::Computer;
 use thy_words::{WordsError, settings};
@@ -73,7 +74,8 @@ pub fn observe<H: Shelf, T: Sink, R: Sink, N: Nvm + Counts>(
         let after = outside (H.stock shelf.new) (N.device nvm.new)
         (T.stream terminal.new) (R.stream report.new) in
         let machines = by_scheme ⟦<Machine<DualScheme> as Computer>⟧.kind
-        ⟦<Machine<Journal> as Computer>⟧.kind in
+        ⟦<Machine<Journal> as Computer>⟧.kind
+        ⟦<Machine<Shadow> as Computer>⟧.kind in
         Observed machines out.now (map string_bytes words.now) before after result }
 {
     let asked = match settings(alloc, words) {

@@ -53,6 +53,8 @@ pub enum SchemeName {
     Thynvm,
     /// A redo journal: what an epoch has stored is written to a journal, and home once it is committed.
     Journal,
+    /// Shadow paging: a page that an epoch has stored to is written to another place, which a new map names.
+    Shadow,
 }
 
 /// A field of the configuration, or the number of a made program.

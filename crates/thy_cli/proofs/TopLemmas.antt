@@ -6,7 +6,7 @@ use Rattle.std.proofs.lemmas.List.{length-append, length-replicate}
 use Rattle.thy_base.specs.declared.config.Config.{Config}
 use Rattle.thy_base.specs.declared.config.Parameters.{Parameters}
 use Rattle.thy_base.specs.declared.nvm.Shape.{Shape}
-use Rattle.thy_base.specs.Config.{fault_of, geometry_or, geometry_of, rows_of, IsRising}
+use Rattle.thy_base.specs.Config.{fault_of, rows_of, IsRising}
 use Rattle.thy_base.specs.declared.block.Block.{Block}
 use Rattle.thy_base.specs.declared.outside.PutError.{PutError}
 use Rattle.thy_base.specs.Device.{Device, fitted, zero_block}
@@ -68,13 +68,6 @@ use Rattle.thy_cli.specs.Watching.{HasSeenFrom, HasSeenOf, RunSeen}
 -- the cuts of a configuration in range rise
 pub rising_of : (c : Config) → fault_of c ≡ None → IsRising 0 c.cuts
 rising_of c none = IsRising-rows c (AreIn-none (rows_of c) none)
-
-ok_is : (p q : Parameters) → Ok p ≡ geometry_or None q → p ≡ q
-ok_is p q e = cc
-
--- and its geometry is that of its numbers
-pub geometry_is : (c : Config) (p : Parameters) → fault_of c ≡ None → Ok p ≡ geometry_of c → p ≡ parameters_of c
-geometry_is c p none e = ok_is p (parameters_of c) (e ∙ ap (λ f. geometry_or f (parameters_of c)) none)
 
 -- ---- the start of a run
 

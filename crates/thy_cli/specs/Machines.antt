@@ -1,7 +1,7 @@
 -- Part of the claim.
 -- Which machine runs a configuration: that of its scheme.
 use Rattle.thy_base.specs.declared.config.SchemeName.{SchemeName}
-use Rattle.thy_base.specs.declared.config.SchemeName.TheVariants.{Thynvm, Journal}
+use Rattle.thy_base.specs.declared.config.SchemeName.TheVariants.{Thynvm, Journal, Shadow}
 use Rattle.thy_view.specs.Kind.{KindOf}
 
 -- machines of some type, with what is seen of them
@@ -14,6 +14,7 @@ abbrev pub Choice : Type 1
 Choice = SchemeName → Machines
 
 -- each scheme has its own
-abbrev pub by_scheme : {A B : Type 0} → (thynvm : KindOf A) → (journal : KindOf B) → Choice
-by_scheme {A = A} thynvm journal Thynvm = record { Machine = A; kind = thynvm }
-by_scheme {B = B} thynvm journal Journal = record { Machine = B; kind = journal }
+abbrev pub by_scheme : {A B C : Type 0} → (thynvm : KindOf A) → (journal : KindOf B) → (shadow : KindOf C) → Choice
+by_scheme {A = A} thynvm journal shadow Thynvm = record { Machine = A; kind = thynvm }
+by_scheme {B = B} thynvm journal shadow Journal = record { Machine = B; kind = journal }
+by_scheme {C = C} thynvm journal shadow Shadow = record { Machine = C; kind = shadow }

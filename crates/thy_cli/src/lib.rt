@@ -1,8 +1,8 @@
 //! The top call, which does all that the program does: from the arguments of a command line to the exit status. The
 //! contract of `thynvm` is the theorem of this repository.
 //!
-//! Open src/top.rt first, then specs/Answering.antt. It depends on thy_core, thy_dual and thy_journal, whose machines it
-//! names, on thy_run, on thy_words, thy_elf, thy_make, thy_plain, thy_text, thy_record and thy_image, and on their
+//! Open src/top.rt first, then specs/Answering.antt. It depends on thy_core, thy_dual, thy_journal and thy_shadow, whose
+//! machines it names, on thy_run, on thy_words, thy_elf, thy_make, thy_plain, thy_text, thy_record and thy_image, and on their
 //! dependencies; the program and the tests depend on it.
 #![tactic(auto)]
 

@@ -23,7 +23,7 @@ use thy_isa::{MachState, Status};
 use thy_plain::Plain;
 use thy_run::{Ending, Observer, Stop, write_bytes};
 use thy_text::{Events, write_ended};
-use thy_words::{Job, WordsError};
+use thy_words::Job;
 
 /// Writes how the program has ended, if it has, and returns whether the report failed.
 fn write_end<R: Sink>(state: &MachState, digest: bool, report: &mut R) -> bool

@@ -27,7 +27,7 @@ use thy_base::{Block, Geometry, Nvm, PutError, SchemeName, Shape, Shelf, Sink};
 use thy_gap::Gap;
 use thy_run::{Ending, Observer, Plan, run};
 use thy_view::Computer;
-use thy_words::{Job, WordsError};
+use thy_words::Job;
 
 /// What a job's run begins with; or why there is no run.
 fn prepare<'a, H: Shelf>(
@@ -293,9 +293,18 @@ fn run_source<M: Computer, H: Shelf, T: Sink, R: Sink, N: Nvm, O: Observer>(
     )
 }
 
-/// Runs a job on the machine of its scheme: `A` for `SchemeName::Thynvm`, `B` for `SchemeName::Journal`. Each machine has
-/// to read the files of its own scheme alone.
-pub fn run_by_scheme<A: Computer, B: Computer, H: Shelf, T: Sink, R: Sink, N: Nvm, O: Observer>(
+/// Runs a job on the machine of its scheme: `A` for `SchemeName::Thynvm`, `B` for `SchemeName::Journal`, `C` for
+/// `SchemeName::Shadow`. Each machine has to read the files of its own scheme alone.
+pub fn run_by_scheme<
+    A: Computer,
+    B: Computer,
+    C: Computer,
+    H: Shelf,
+    T: Sink,
+    R: Sink,
+    N: Nvm,
+    O: Observer,
+>(
     alloc: Global,
     source: ProgramSource,
     job: Job,
@@ -308,12 +317,13 @@ pub fn run_by_scheme<A: Computer, B: Computer, H: Shelf, T: Sink, R: Sink, N: Nv
     requires range { range_fault job.config ≡ None }
     requires thynvm { (p : Numbers) → p.scheme ≡ SchemeName.Thynvm → ReadsFiles A.kind p }
     requires journal { (p : Numbers) → p.scheme ≡ SchemeName.Journal → ReadsFiles B.kind p }
+    requires shadow { (p : Numbers) → p.scheme ≡ SchemeName.Shadow → ReadsFiles C.kind p }
     requires unseen { O.has_seen observer.old [] }
     ensures { let before = outside (H.stock shelf.old) (N.device nvm.old)
         (T.stream terminal.old) (R.stream report.old) in
         let after = outside (H.stock shelf.new) (N.device nvm.new)
         (T.stream terminal.new) (R.stream report.new) in
-        let machines = by_scheme A.kind B.kind in
+        let machines = by_scheme A.kind B.kind C.kind in
         let K = (machines job.config.scheme).kind in
         RunSeen K O.has_seen (named source.entry) (job_of job) before after result observer.new }
 {
@@ -325,6 +335,11 @@ pub fn run_by_scheme<A: Computer, B: Computer, H: Shelf, T: Sink, R: Sink, N: Nv
         }
         SchemeName::Journal => {
             run_source::<B, H, T, R, N, O>(
+                alloc, source, job, shelf, terminal, report, nvm, observer,
+            )
+        }
+        SchemeName::Shadow => {
+            run_source::<C, H, T, R, N, O>(
                 alloc, source, job, shelf, terminal, report, nvm, observer,
             )
         }

@@ -18,6 +18,7 @@ use thy_core::Machine;
 use thy_dual::DualScheme;
 use thy_journal::Journal;
 use thy_run::{Observer, Silent};
+use thy_shadow::Shadow;
 use thy_view::Computer;
 use thy_words::{Command, settings};
 
@@ -54,7 +55,8 @@ pub fn thynvm<H: Shelf, T: Sink, R: Sink, N: Nvm>(
         let after = outside (H.stock shelf.new) (N.device nvm.new)
         (T.stream terminal.new) (R.stream report.new) in
         let machines = by_scheme ⟦<Machine<DualScheme> as Computer>⟧.kind
-        ⟦<Machine<Journal> as Computer>⟧.kind in
+        ⟦<Machine<Journal> as Computer>⟧.kind
+        ⟦<Machine<Shadow> as Computer>⟧.kind in
         Claim machines (map string_bytes words.now) before after result }
 {
     observed(alloc, words, shelf, terminal, report, nvm, &mut Silent)
@@ -80,26 +82,27 @@ pub fn observed<H: Shelf, T: Sink, R: Sink, N: Nvm, O: Observer>(
         let after = outside (H.stock shelf.new) (N.device nvm.new)
         (T.stream terminal.new) (R.stream report.new) in
         let machines = by_scheme ⟦<Machine<DualScheme> as Computer>⟧.kind
-        ⟦<Machine<Journal> as Computer>⟧.kind in
+        ⟦<Machine<Journal> as Computer>⟧.kind
+        ⟦<Machine<Shadow> as Computer>⟧.kind in
         let words = map string_bytes words.now in
         ClaimSeen machines O.has_seen O.has_seen_last words before after result observer.new }
 {
     match settings(alloc, words) {
         Ok(Command::Run { file, job }) => {
             let source = ProgramSource::File(file.as_str());
-            run_by_scheme::<Machine<DualScheme>, Machine<Journal>, H, T, R, N, O>(
+            run_by_scheme::<Machine<DualScheme>, Machine<Journal>, Machine<Shadow>, H, T, R, N, O>(
                 alloc, source, job, shelf, terminal, report, nvm, observer,
             )
         }
         Ok(Command::Resume { image, job }) => {
             let source = ProgramSource::Image(image.as_str());
-            run_by_scheme::<Machine<DualScheme>, Machine<Journal>, H, T, R, N, O>(
+            run_by_scheme::<Machine<DualScheme>, Machine<Journal>, Machine<Shadow>, H, T, R, N, O>(
                 alloc, source, job, shelf, terminal, report, nvm, observer,
             )
         }
         Ok(Command::Bench { number, job }) => {
             let source = ProgramSource::Made(number);
-            run_by_scheme::<Machine<DualScheme>, Machine<Journal>, H, T, R, N, O>(
+            run_by_scheme::<Machine<DualScheme>, Machine<Journal>, Machine<Shadow>, H, T, R, N, O>(
                 alloc, source, job, shelf, terminal, report, nvm, observer,
             )
         }

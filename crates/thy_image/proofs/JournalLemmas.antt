@@ -34,7 +34,7 @@ use Rattle.thy_image.proofs.StateLemmas.{CanBegin-made}
 
 -- ---- a higher ceiling
 
-commit_higher : (b : Block) (low high : ℕ) → low ≤ high → commit_fault b low ≡ None → commit_fault b high ≡ None
+pub commit_higher : (b : Block) (low high : ℕ) → low ≤ high → commit_fault b low ≡ None → commit_fault b high ≡ None
 unfolding commit_fault
 commit_higher b low high most h =
     let asks = commit_asks (word_of b 0 == commit_magic VersionTwo) (nat_lt (epoch_of b) low) (has_zero_rest b) h in

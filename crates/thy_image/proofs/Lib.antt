@@ -2,4 +2,5 @@ pub mod BlockLemmas
 pub mod StateLemmas
 pub mod ThynvmLemmas
 pub mod JournalLemmas
+pub mod ShadowLemmas
 pub mod LawLemmas

@@ -19,6 +19,7 @@ pub fn check(image: &[u8], geometry: &Geometry, ceiling: u64) -> Result<Found, B
     match geometry.numbers().scheme {
         SchemeName::Thynvm => thy_record::check(image, geometry, ceiling),
         SchemeName::Journal => thy_journal_image::check(image, geometry, ceiling),
+        SchemeName::Shadow => thy_shadow_image::check(image, geometry, ceiling),
     }
 }
 
@@ -30,5 +31,6 @@ pub fn state(alloc: Global, image: &[u8], geometry: &Geometry) -> Result<MachSta
     match geometry.numbers().scheme {
         SchemeName::Thynvm => thy_record::state(alloc, image, geometry),
         SchemeName::Journal => thy_journal_image::state(alloc, image, geometry),
+        SchemeName::Shadow => thy_shadow_image::state(alloc, image, geometry),
     }
 }

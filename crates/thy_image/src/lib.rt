@@ -2,8 +2,8 @@
 //! Callers rely on `check` and `state`, exactly what the bytes of a file mean, and on `a_file_is_an_image` and
 //! `a_checkpoint_can_begin_a_run`.
 //!
-//! Open specs/Meaning.antt first, then src/file.rt. It depends on thy_record and thy_journal_image, one for each scheme, and
-//! on their dependencies; thy_cli depends on it.
+//! Open specs/Meaning.antt first, then src/file.rt. It depends on thy_record, thy_journal_image and thy_shadow_image, one
+//! for each scheme, and on their dependencies; thy_cli depends on it.
 #![tactic(auto)]
 
 mod file;

@@ -2,7 +2,7 @@
 //! that is proved; they show what no contract says: ends, checkpoints and restarts compared with the plain machine's.
 //!
 //! Open src/machine.rt first. specs/ has what is asked of the values that tests pass on. It depends on thy_core, thy_dual,
-//! thy_waiting, thy_hart, thy_make and thy_plain, with their dependencies; nothing depends on it.
+//! thy_waiting, thy_journal, thy_shadow, thy_hart, thy_make and thy_plain, with their dependencies; nothing depends on it.
 #![tactic(auto)]
 
 #[cfg(test)]

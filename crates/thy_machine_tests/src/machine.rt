@@ -8,6 +8,7 @@ ghost use Rattle.thy_view.specs.Kind.{IsDramOf};
 ghost use Rattle.thy_machine_tests.specs.Powered.{origin_from};
 
 mod journal;
+mod shadow;
 mod waiting;
 
 use crate::plain::{image_of, start_with};

@@ -55,7 +55,7 @@ pub record IsFresh (c : State) : Type 0 where
   pub no_pages : (k : ℕ) → entry_at (tables0 c).ptt k ≡ None
   pub no_counts : c.counts.lasts ≡ replicate c.p.pages 0
 
--- its tables are sound, and it lists nothing; or what those of a slot do, and it has the slot's counts
+-- its tables are sound, and it lists nothing
 pub record IsEmpty (c : State) : Type 0 where
   pub tables : AreSoundTables c
   pub fresh : IsFresh c
@@ -69,6 +69,7 @@ pub record HasTakenUp (version : LayoutVersion) (blocks : List Block) (c : State
   pub no_pages : (k : ℕ) → entry_at (tables0 c).ptt k ≡ None
   pub counts : count_fault version c.p blocks ≡ None → c.counts.lasts ≡ counts_in version c.p blocks
 
+-- its tables are sound, it lists what those of a slot do, and it has the slot's counts
 pub record ListsSlot (commit : Block) (slot : List Block) (c : State) : Type 0 where
   pub tables : AreSoundTables c
   pub booting : IsBooting c

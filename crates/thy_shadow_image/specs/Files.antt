@@ -1,3 +1,4 @@
+-- Part of the claim.
 -- Files that hold an image of shadow paging, block after block.
 use Rattle.std.specs.Prelude.{◌≡◌, ℕ, ◌*◌, ◌==◌, Bool, nat_lt, if◌then◌else◌, List, length, Option, Ok}
 use Rattle.thy_base.specs.declared.block.Block.{Block}

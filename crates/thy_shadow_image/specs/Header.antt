@@ -1,3 +1,4 @@
+-- Part of the claim.
 -- The header of an image of version 2, block 0: what the image is, the geometry that it was made for, and the number of
 -- the scheme that made it.
 use Rattle.std.specs.Prelude.{ℕ, Bool, ◌&&◌, ◌==◌, List, [], ◌∷◌, Option}

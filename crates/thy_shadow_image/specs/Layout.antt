@@ -1,3 +1,4 @@
+-- Part of the claim.
 -- Images of shadow paging as a layout. Their commit block is the journal's, that of version 2.
 use Rattle.std.specs.Prelude.{◌%◌}
 use Rattle.thy_base.specs.Geometry.{memory_blocks}

@@ -1,3 +1,4 @@
+-- Part of the claim.
 -- A slot of shadow paging: the processor's record, and after it the map, whose entry x lists the page of the pool
 -- that has page x of memory. Entries past the last page are empty.
 use Rattle.std.specs.Prelude.{◌≡◌, ℕ, ◌+◌, ◌*◌, ◌<◌, ◌&&◌, nat_lt, if◌then◌else◌, List, [], ◌∷◌, length, Option, Some, None}

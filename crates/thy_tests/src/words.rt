@@ -308,11 +308,13 @@ static COMMANDS: [Row; 16] = [
 ];
 
 /// Words that ask for a run, and the scheme of its configuration.
-static SCHEMES: [(&str, SchemeName); 6] = [
+static SCHEMES: [(&str, SchemeName); 8] = [
     ("thynvm|run|F", SchemeName::Thynvm),
     ("thynvm|run|F|--scheme|thynvm", SchemeName::Thynvm),
     ("thynvm|run|--scheme=journal|F", SchemeName::Journal),
     ("thynvm|resume|D|--scheme|journal", SchemeName::Journal),
+    ("thynvm|run|F|--scheme|shadow", SchemeName::Shadow),
+    ("thynvm|resume|--scheme=shadow|D", SchemeName::Shadow),
     (
         "thynvm|bench|7|--gap|5|--scheme|journal",
         SchemeName::Journal,

@@ -9,7 +9,7 @@ use Rattle.thy_base.specs.declared.config.Config.{Config}
 use Rattle.thy_base.specs.declared.config.Field.{Field}
 use Rattle.thy_base.specs.declared.config.Field.TheVariants.{Base, Pages, Console, Epoch, Btt, Ptt, Sets, Ways, Nvmq, Dramq, High, Low, Mix, Cuts, Tears, Limit, Scheme, Gap, N}
 use Rattle.thy_base.specs.declared.config.SchemeName.{SchemeName}
-use Rattle.thy_base.specs.declared.config.SchemeName.TheVariants.{Thynvm, Journal}
+use Rattle.thy_base.specs.declared.config.SchemeName.TheVariants.{Thynvm, Journal, Shadow}
 use Rattle.thy_base.specs.Fields.{field_name}
 use Rattle.thy_words.specs.Numbers.{is_list, is_number, number_in, numbers_in}
 
@@ -35,6 +35,7 @@ abbrev pub scheme_named : Text → Option SchemeName
 scheme_named name =
     if bytes_eq name (codes "thynvm") then Some Thynvm
     else if bytes_eq name (codes "journal") then Some Journal
+    else if bytes_eq name (codes "shadow") then Some Shadow
     else None
 
 -- the text is a value of the field: a list, the name of a scheme, or a number

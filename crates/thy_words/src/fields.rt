@@ -58,6 +58,8 @@ fn scheme_named(name: &str) -> Option<SchemeName>
         Some(SchemeName::Thynvm)
     } else if name == "journal" {
         Some(SchemeName::Journal)
+    } else if name == "shadow" {
+        Some(SchemeName::Shadow)
     } else {
         None
     }

@@ -15,10 +15,10 @@ use thy_isa::Status;
 use thy_journal::Journal;
 use thy_plain::Plain;
 use thy_record::EngineStep;
-use thy_view::Did;
+use thy_view::{Computer, Did};
 
 /// `addi a0,zero,7; addi a7,zero,93; ecall`.
-static EXIT_SEVEN: Row = Row {
+pub(super) static EXIT_SEVEN: Row = Row {
     words: &[0x00700513, 0x05d00893, 0x00000073],
     epoch: 10000,
     cache: (16, 4),
@@ -29,7 +29,7 @@ static EXIT_SEVEN: Row = Row {
 
 /// `sd zero,-64*k(sp)` for k from 0 to 8, `addi a7,zero,93; ecall`: it stores into nine blocks, and the table has eight
 /// entries. All are free again once the journal of the first checkpoint was applied.
-static NINE_STORES: Row = Row {
+pub(super) static NINE_STORES: Row = Row {
     words: &[
         0x00013023, 0xfc013023, 0xf8013023, 0xf4013023, 0xf0013023, 0xec013023, 0xe8013023,
         0xe4013023, 0xe0013023, 0x05d00893, 0x00000073,
@@ -54,7 +54,7 @@ static NINE_STORES: Row = Row {
 /// Four numbers, then 47 loads and stores of every width, sums, differences and exclusive ors, drawn once, over six blocks
 /// below the stack pointer and the one above it; `addi a0,zero,9; addi a7,zero,93; ecall`. With a cache of one line almost
 /// each load and store is one of the journal, and no epoch of six instructions fills the table.
-static DRAWN: Row = Row {
+pub(super) static DRAWN: Row = Row {
     words: &[
         0xb0d00293, 0x49a00313, 0x9d100393, 0x37a00e13, 0xfe713c23, 0x00613423, 0x006e4e33,
         0xee610523, 0xfdc10ba3, 0x0063ce33, 0x00734333, 0xf8513c23, 0x01c28333, 0x00014e03,
@@ -117,10 +117,10 @@ static APPLIES: [EngineStep; 9] = [
 ];
 
 /// The steps of the engine from here on, up to a commit or the hart's next cycle.
-fn engine_steps(
+pub(super) fn engine_steps<M: Computer>(
     rt: &impl Abort,
     alloc: Global,
-    on: &mut Powered<Machine<Journal>>,
+    on: &mut Powered<M>,
 ) -> Vec<EngineStep> {
     let mut steps = Vec::new(alloc);
     for _ in 0..MOST {
@@ -134,7 +134,7 @@ fn engine_steps(
 }
 
 /// Takes cycles up to the next seal.
-fn to_seal(rt: &impl Abort, on: &mut Powered<Machine<Journal>>) {
+pub(super) fn to_seal<M: Computer>(rt: &impl Abort, on: &mut Powered<M>) {
     for _ in 0..MOST {
         if let Did::Sealed(_, _, _) = on.step(rt).did {
             return;
@@ -144,8 +144,13 @@ fn to_seal(rt: &impl Abort, on: &mut Powered<Machine<Journal>>) {
 }
 
 /// What a restart finds after a cut of the program of three instructions, by the schedule of seed 0.
-fn found_after(rt: &impl Abort, alloc: Global, at: u64, pick: u64) -> Option<Mark> {
-    let mut before = Powered::<Machine<Journal>>::new(rt, alloc, &EXIT_SEVEN, 0);
+pub(super) fn found_after<M: Computer>(
+    rt: &impl Abort,
+    alloc: Global,
+    at: u64,
+    pick: u64,
+) -> Option<Mark> {
+    let mut before = Powered::<M>::new(rt, alloc, &EXIT_SEVEN, 0);
     for _ in 0..at {
         before.step(rt);
     }
@@ -154,8 +159,8 @@ fn found_after(rt: &impl Abort, alloc: Global, at: u64, pick: u64) -> Option<Mar
 }
 
 /// How many writes of the NVM a run has, by the schedule of seed 0.
-fn writes_of(rt: &impl Abort, alloc: Global, row: &Row) -> u64 {
-    let mut on = Powered::<Machine<Journal>>::new(rt, alloc, row, 0);
+pub(super) fn writes_of<M: Computer>(rt: &impl Abort, alloc: Global, row: &Row) -> u64 {
+    let mut on = Powered::<M>::new(rt, alloc, row, 0);
     let booted = boot(rt, &mut on);
     let mut story = Story::from(alloc, 0);
     finished(rt, &mut on, &mut story, booted.ended);
@@ -249,23 +254,23 @@ fn a_cut_around_the_commit_leaves_what_has_landed(rt: HostRuntime) {
         (715, 1, 1, 3),
         (716, 0, 1, 3),
     ] {
-        let found = found_after(&rt, rt.alloc(), at, pick);
+        let found = found_after::<Machine<Journal>>(&rt, rt.alloc(), at, pick);
         expect_at(&rt, found, Some(Mark { epoch, count }), at);
     }
-    expect(&rt, found_after(&rt, rt.alloc(), 694, 1), None);
-    expect(&rt, found_after(&rt, rt.alloc(), 695, 0), None);
+    for (at, pick) in [(694, 1), (695, 0)] {
+        let found = found_after::<Machine<Journal>>(&rt, rt.alloc(), at, pick);
+        expect_at(&rt, found, None, at);
+    }
 }
 
 // A load writes 512 homes, six blocks of the slot, the header and the commit block. The first program's checkpoint has no
 // block of memory. The second one's are eight, each written into the journal and home, and one, which is committed last.
 #[test]
 fn runs_over_the_journal_make_so_many_writes(rt: HostRuntime) {
-    expect(&rt, writes_of(&rt, rt.alloc(), &EXIT_SEVEN), 520 + 6 + 1);
-    expect(
-        &rt,
-        writes_of(&rt, rt.alloc(), &NINE_STORES),
-        520 + (8 + 6 + 1 + 8) + (1 + 6 + 1),
-    );
+    let one = writes_of::<Machine<Journal>>(&rt, rt.alloc(), &EXIT_SEVEN);
+    expect(&rt, one, 520 + 6 + 1);
+    let two = writes_of::<Machine<Journal>>(&rt, rt.alloc(), &NINE_STORES);
+    expect(&rt, two, 520 + (8 + 6 + 1 + 8) + (1 + 6 + 1));
 }
 
 #[test]

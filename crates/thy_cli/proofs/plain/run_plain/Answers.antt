@@ -10,24 +10,24 @@ use Rattle.thy_run.specs.Sending.{Sent}
 use Rattle.thy_cli.specs.declared.refusal.Refusal.TheVariants.{Memory}
 use Rattle.thy_cli.specs.Answering.{outside}
 use Rattle.thy_cli.proofs.PlainLemmas.{IsPlainOf-ran}
-use Rattle.thy_cli.proofs.TopLemmas.{geometry_is, stock_same}
+use Rattle.thy_cli.proofs.TopLemmas.{stock_same}
 use Rattle.thy_cli.proofs.plain.run_plain.Goals as goal
 
-pub returns-in-Err-plain_program : goal.returns-in-Err-plain_program
-returns-in-Err-plain_program g c = λ n job h.
-    let numbers : c.in-Ok.geometry ≡ parameters_of job.config = geometry_is c.args.config.now c.in-Ok.geometry c.requires.range c.in-Ok.ensures.geometry ∙ ap parameters_of (sym h.configures) in (
+pub returns-in-Err : goal.returns-in-Err
+returns-in-Err g c = λ n job h.
+    let numbers : c.of-geometry.result ≡ parameters_of job.config = c.of-geometry.ensures ∙ ap parameters_of (sym h.configures) in (
       (
         refl,
         inl (
-          c.in-Err-plain_program.refusal,
-          c.in-Err-plain_program.ensures.refusal job (record { numbers = numbers; reads = h.reads }),
+          c.in-Err.refusal,
+          c.in-Err.ensures.refusal job (record { numbers = numbers; reads = h.reads }),
           record {
-            status = c.refuse-in-Err-plain_program.ensures.status;
-            events = c.refuse-in-Err-plain_program.ensures.events;
-            cycles = c.refuse-in-Err-plain_program.ensures.cycles;
+            status = c.refuse.ensures.status;
+            events = c.refuse.ensures.events;
+            cycles = c.refuse.ensures.cycles;
             shown_none = refl;
-            held = c.in-Err-plain_program.ensures.held;
-            closes = c.refuse-in-Err-plain_program.ensures.closes;
+            held = c.in-Err.ensures.held;
+            closes = c.refuse.ensures.closes;
           },
         ),
       ),
@@ -36,19 +36,19 @@ returns-in-Err-plain_program g c = λ n job h.
 
 pub returns-in-Ok-load : goal.returns-in-Ok-load
 returns-in-Ok-load g c = λ n job h.
-    let numbers : c.in-Ok.geometry ≡ parameters_of job.config = geometry_is c.args.config.now c.in-Ok.geometry c.requires.range c.in-Ok.ensures.geometry ∙ ap parameters_of (sym h.configures) in
+    let numbers : c.of-geometry.result ≡ parameters_of job.config = c.of-geometry.ensures ∙ ap parameters_of (sym h.configures) in
     let old : Stock = g.H.Shelf.stock c.args.shelf.now in
     let new : Stock = g.H.Shelf.stock c.plain_program.new.shelf in
     let last : MachState = c.state-state.result.now in
-    let program = c.in-Ok-plain_program.ensures.program job (record { numbers = numbers; reads = h.reads }) in
+    let program = c.in-Ok.ensures.program job (record { numbers = numbers; reads = h.reads }) in
     let ran = IsPlainOf-ran c.args.name.now job (outside old n (g.T.Sink.stream c.args.terminal.now) (g.R.Sink.stream c.args.report.now))
     (outside new n (g.T.Sink.stream c.write_bytes-terminal_failed.new.terminal) (g.R.Sink.stream c.answer.new.report))
-    c.in-Ok-plain_program.program c.in-Ok-load.machine _ last _ _ c.write_bytes-terminal_failed.result c.write_end-report_failed.result c.plain_stop.result c.answer.result (g.R.Sink.stream c.write_end-report_failed.new.report)
-    program (stock_same old new c.in-Ok-plain_program.ensures.held c.in-Ok-plain_program.ensures.calm)
+    c.in-Ok.program c.in-Ok-load.machine _ last _ _ c.write_bytes-terminal_failed.result c.write_end-report_failed.result c.plain_stop.result c.answer.result (g.R.Sink.stream c.write_end-report_failed.new.report)
+    program (stock_same old new c.in-Ok.ensures.held c.in-Ok.ensures.calm)
     c.in-Ok-load.ensures.machine (ap (λ (x : Parameters). x.limit) c.numbers-limit.ensures.same) c.run-cycles.ensures.stops c.run-cycles.ensures.state c.state-state.ensures
     (subst (Sent c.write_bytes-terminal_failed.result (g.T.Sink.stream c.args.terminal.now) (g.T.Sink.stream c.write_bytes-terminal_failed.new.terminal)) c.as_slice.ensures c.write_bytes-terminal_failed.ensures.bytes)
     (subst (λ d. Sent c.write_end-report_failed.result (g.R.Sink.stream c.args.report.now) (g.R.Sink.stream c.write_end-report_failed.new.report) (ended_lines d last.status last.count (bytes_of last.memory))) (sym h.digests) c.write_end-report_failed.ensures)
-    c.plain_stop.ensures c.answer.ensures.closes (c.answer.ensures.events ∙ c.new-in-Ok-load.ensures) c.answer.ensures.cycles c.answer.ensures.status in
+    c.plain_stop.ensures c.answer.ensures.closes (c.answer.ensures.events ∙ c.new.ensures) c.answer.ensures.cycles c.answer.ensures.status in
     let base = ap (λ (x : Parameters). x.base) (c.numbers.ensures.same ∙ program.geometry) in (
       (refl, inr ran.0),
       subst (λ s. g.O.Observer.has_seen_last c.see_last.new.self job.config.base s) (sym ran.1)
@@ -61,13 +61,13 @@ returns g c = λ n job h. (
     refl,
     inl (
       Memory c.in-Err-load.error,
-      c.in-Ok-plain_program.ensures.calm,
+      c.in-Ok.ensures.calm,
       record {
         status = c.refuse-in-Err-load.ensures.status;
         events = c.refuse-in-Err-load.ensures.events;
         cycles = c.refuse-in-Err-load.ensures.cycles;
         shown_none = refl;
-        held = c.in-Ok-plain_program.ensures.held;
+        held = c.in-Ok.ensures.held;
         closes = c.refuse-in-Err-load.ensures.closes;
       },
     ),

@@ -1,7 +1,7 @@
 use Rattle.std.proofs.Common.{◌∙◌, ap, subst, refl, inl, inr, map, Ok}
 use Rattle.std.specs.Prelude.{Result}
 use Rattle.std.specs.String.{string_bytes}
-use Rattle.thy_base.specs.declared.config.SchemeName.TheVariants.{Thynvm, Journal}
+use Rattle.thy_base.specs.declared.config.SchemeName.TheVariants.{Thynvm, Journal, Shadow}
 use Rattle.thy_words.specs.declared.words.Command.{Command}
 use Rattle.thy_words.specs.declared.words.WordsError.{WordsError}
 use Rattle.thy_words.specs.Settings.{Order, run, resume, bench, plain, make, job_of, order_of}
@@ -18,17 +18,26 @@ run_by_scheme-requires-clause-thynvm g c = reads_by _ Thynvm (λ p ceiling image
 pub run_by_scheme-requires-clause-journal : goal.run_by_scheme-requires-clause-journal
 run_by_scheme-requires-clause-journal g c = reads_by _ Journal (λ p ceiling image. refl) (λ p. refl)
 
+pub run_by_scheme-requires-clause-shadow : goal.run_by_scheme-requires-clause-shadow
+run_by_scheme-requires-clause-shadow g c = reads_by _ Shadow (λ p ceiling image. refl) (λ p. refl)
+
 pub run_by_scheme-requires-in-Ok-Resume-clause-thynvm : goal.run_by_scheme-requires-in-Ok-Resume-clause-thynvm
 run_by_scheme-requires-in-Ok-Resume-clause-thynvm g c = reads_by _ Thynvm (λ p ceiling image. refl) (λ p. refl)
 
 pub run_by_scheme-requires-in-Ok-Resume-clause-journal : goal.run_by_scheme-requires-in-Ok-Resume-clause-journal
 run_by_scheme-requires-in-Ok-Resume-clause-journal g c = reads_by _ Journal (λ p ceiling image. refl) (λ p. refl)
 
+pub run_by_scheme-requires-in-Ok-Resume-clause-shadow : goal.run_by_scheme-requires-in-Ok-Resume-clause-shadow
+run_by_scheme-requires-in-Ok-Resume-clause-shadow g c = reads_by _ Shadow (λ p ceiling image. refl) (λ p. refl)
+
 pub run_by_scheme-requires-in-Ok-Bench-clause-thynvm : goal.run_by_scheme-requires-in-Ok-Bench-clause-thynvm
 run_by_scheme-requires-in-Ok-Bench-clause-thynvm g c = reads_by _ Thynvm (λ p ceiling image. refl) (λ p. refl)
 
 pub run_by_scheme-requires-in-Ok-Bench-clause-journal : goal.run_by_scheme-requires-in-Ok-Bench-clause-journal
 run_by_scheme-requires-in-Ok-Bench-clause-journal g c = reads_by _ Journal (λ p ceiling image. refl) (λ p. refl)
+
+pub run_by_scheme-requires-in-Ok-Bench-clause-shadow : goal.run_by_scheme-requires-in-Ok-Bench-clause-shadow
+run_by_scheme-requires-in-Ok-Bench-clause-shadow g c = reads_by _ Shadow (λ p ceiling image. refl) (λ p. refl)
 
 pub returns-in-Ok-Run : goal.returns-in-Ok-Run
 returns-in-Ok-Run g c =

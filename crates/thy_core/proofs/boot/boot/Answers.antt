@@ -17,8 +17,8 @@ returns-in_err-step g c =
     let failed = c.in_err-step.ensures in
     taken_err K (HasStart c.args.start.now) (TheHart (Some Booting)) m next n new c.from_residual.result c.from_residual.ensures.0
     (λ o cycles begins at booting.
-        let boots = (sound-boot K o cycles m n at.sound booting).boots in
-        boot_failed K o cycles m n at next new booting (failed.err o begins (record { boots = boots; up = at.sound.up })) failed.left refl)
+    let boots = (sound-boot K o cycles m n at.sound booting).boots in
+    boot_failed K o cycles m n at next new booting (failed.err o begins (record { boots = boots; up = at.sound.up })) failed.left refl)
     failed.frame failed.cause
 
 pub returns : goal.returns

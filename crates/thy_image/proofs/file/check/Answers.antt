@@ -1,7 +1,7 @@
 use Rattle.std.proofs.Common.{◌≡◌, ◌∙◌, ap, sym}
 use Rattle.thy_base.specs.declared.config.Parameters.{Parameters}
 use Rattle.thy_base.specs.declared.config.SchemeName.{SchemeName}
-use Rattle.thy_base.specs.declared.config.SchemeName.TheVariants.{Thynvm, Journal}
+use Rattle.thy_base.specs.declared.config.SchemeName.TheVariants.{Thynvm, Journal, Shadow}
 use Rattle.thy_record.specs.Files.{found_in}
 use Rattle.thy_image.specs.Meaning.{file_by_scheme}
 use Rattle.thy_image.proofs.file.check.Goals as goal
@@ -15,3 +15,8 @@ pub returns-in-Journal : goal.returns-in-Journal
 returns-in-Journal c =
     let scheme : c.args.geometry.now.scheme ≡ Journal = sym (ap (λ (p : Parameters). p.scheme) c.numbers.ensures.same) ∙ c.in-Journal.is in
     c.check-in-Journal.ensures ∙ ap (λ (x : SchemeName). found_in (file_by_scheme x c.args.geometry.now c.args.ceiling c.args.image.now)) (sym scheme)
+
+pub returns-in-Shadow : goal.returns-in-Shadow
+returns-in-Shadow c =
+    let scheme : c.args.geometry.now.scheme ≡ Shadow = sym (ap (λ (p : Parameters). p.scheme) c.numbers.ensures.same) ∙ c.in-Shadow.is in
+    c.check-in-Shadow.ensures ∙ ap (λ (x : SchemeName). found_in (file_by_scheme x c.args.geometry.now c.args.ceiling c.args.image.now)) (sym scheme)

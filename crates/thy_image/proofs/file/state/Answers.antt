@@ -1,10 +1,10 @@
 use Rattle.std.proofs.Common.{◌≡◌, ◌∙◌, ap, sym}
 use Rattle.thy_base.specs.declared.config.Parameters.{Parameters}
-use Rattle.thy_base.specs.declared.config.SchemeName.TheVariants.{Thynvm, Journal}
+use Rattle.thy_base.specs.declared.config.SchemeName.TheVariants.{Thynvm, Journal, Shadow}
 use Rattle.thy_isa.specs.declared.state.MachState.{MachState}
 use Rattle.thy_isa.specs.Step.{state_of}
 use Rattle.thy_record.proofs.RestoredLemmas.{if_ok}
-use Rattle.thy_image.proofs.LawLemmas.{has_thynvm, has_journal, thynvm_has, journal_has}
+use Rattle.thy_image.proofs.LawLemmas.{has_thynvm, has_journal, has_shadow, thynvm_has, journal_has, shadow_has}
 use Rattle.thy_image.proofs.file.state.Goals as goal
 
 pub state-requires : goal.state-requires
@@ -24,3 +24,12 @@ pub returns-in-Journal : goal.returns-in-Journal
 returns-in-Journal c =
     let scheme : c.args.geometry.now.scheme ≡ Journal = sym (ap (λ (p : Parameters). p.scheme) c.numbers.ensures.same) ∙ c.in-Journal.is in
     if_ok c.state-in-Journal.result (λ (m : MachState) has. journal_has c.args.geometry.now c.args.image.now (state_of m) scheme has) c.state-in-Journal.ensures
+
+pub state-requires-in-Shadow : goal.state-requires-in-Shadow
+state-requires-in-Shadow c =
+    has_shadow c.args.geometry.now c.args.image.now (sym (ap (λ (p : Parameters). p.scheme) c.numbers.ensures.same) ∙ c.in-Shadow.is) c.requires
+
+pub returns-in-Shadow : goal.returns-in-Shadow
+returns-in-Shadow c =
+    let scheme : c.args.geometry.now.scheme ≡ Shadow = sym (ap (λ (p : Parameters). p.scheme) c.numbers.ensures.same) ∙ c.in-Shadow.is in
+    if_ok c.state-in-Shadow.result (λ (m : MachState) has. shadow_has c.args.geometry.now c.args.image.now (state_of m) scheme has) c.state-in-Shadow.ensures

@@ -1,0 +1,41 @@
+-- A write of the DRAM that lands changes nothing of what the pool holds.
+use Rattle.std.proofs.Common.{◌≡◌, ℕ, length, Option, Some, None, refl, ◌∙◌}
+use Rattle.std.specs.List.{range_with_len}
+use Rattle.thy_base.specs.Device.{Device}
+use Rattle.thy_base.specs.Geometry.{memory_blocks}
+use Rattle.thy_base.specs.Store.{page_of}
+use Rattle.thy_dram.specs.Contents.{Contents, drained}
+use Rattle.thy_record.proofs.ImageLemmas.{map-alike}
+use Rattle.thy_pool.specs.Holding.{works}
+use Rattle.thy_pool.specs.State.{State, IsSoundState, frame_of, work_by, work_of}
+use Rattle.thy_pool.specs.Stores.{after_drain}
+
+-- with another DRAM of the same size
+pub IsSoundState-dram : (s : State) (now : Contents) → IsSoundState s → length now.blocks ≡ length s.dram.blocks
+    → IsSoundState (record s { dram = now })
+IsSoundState-dram s now h long = record {
+  range = h.range;
+  pool_size = h.pool_size;
+  pool_numbers = h.pool_numbers;
+  frames_size = h.frames_size;
+  frames_numbers = h.frames_numbers;
+  dram_size = long ∙ h.dram_size;
+  pool_once = h.pool_once;
+  frames_once = h.frames_once;
+  mapped = h.mapped;
+  claimed = h.claimed;
+  dense = h.dense;
+  begun = λ b is. let of = h.begun b is in record { page = of.page; unframed = of.unframed; few = of.few; room = of.room };
+}
+
+pub IsSoundState-drained : (s : State) → IsSoundState s → IsSoundState (after_drain s)
+IsSoundState-drained s h = IsSoundState-dram s (drained s.dram) h refl
+
+work_drained : (s : State) (n : Device) (b : ℕ) (x : Option ℕ) → work_by (after_drain s) n b x ≡ work_by s n b x
+work_drained s n b None = refl
+work_drained s n b (Some j) = refl
+
+pub works_drained : (s : State) (n : Device) → works (after_drain s) n ≡ works s n
+works_drained s n =
+    map-alike (work_of (after_drain s) n) (work_of s n) (range_with_len 0 (memory_blocks s.p))
+    (λ b inside. work_drained s n b (frame_of s (page_of b)))

@@ -1,0 +1,85 @@
+-- The table of a start, page by page.
+use Rattle.std.proofs.Common.{◌≡◌, ℕ, ◌+◌, ◌<◌, ◌≤◌, Bool, true, false, nat_lt, if◌then◌else◌, length, Option, Some, None, refl, sym, ◌∙◌, ap, inl, inr, arith}
+use Rattle.std.proofs.lemmas.Bool.{cases_Bool, cases_eq, cases_lt, lt-ltb, le-ltb}
+use Rattle.std.proofs.lemmas.List.{length-replicate, length-set}
+use Rattle.thy_base.specs.declared.config.Parameters.{Parameters}
+use Rattle.thy_table.specs.Listing.{Listing, listing, entry_at, lists, place_of, with_entry, empty_table}
+use Rattle.thy_table.proofs.IndexLemmas.{lists-some}
+use Rattle.thy_table.proofs.ListingLaws.{entry_at-with_same, entry_at-with_other, place_of-none}
+use Rattle.thy_shadow_image.specs.Places.{pool_pages}
+use Rattle.thy_pool.specs.declared.entry.Held.{Held}
+use Rattle.thy_pool.specs.Keys.{number_key, held}
+use Rattle.thy_pool.specs.Stores.{first_entry, first_entries}
+use Rattle.thy_pool.proofs.CommittingLemmas.{listing_same}
+use Rattle.thy_pool.proofs.StateLemmas.{entry_at-empty, entry_at-first, length-first, first_page}
+
+-- the first x pages are listed
+pub record AreFirst (p : Parameters) (x : ℕ) (t : Listing Held) : Type 0 where
+  pub size : length t.entries ≡ pool_pages p
+  pub numbers : t.numbers ≡ pool_pages p
+  pub each : (q : ℕ) → entry_at t q ≡ (if nat_lt q x then first_entry p q else None)
+
+pub first_none : (p : Parameters) (t : Listing Held) → t ≡ empty_table (pool_pages p) (pool_pages p) → AreFirst p 0 t
+first_none p t e = record {
+  size = ap (λ (u : Listing Held). length u.entries) e ∙ length-replicate {A = Option Held} (pool_pages p) None;
+  numbers = ap (λ (u : Listing Held). u.numbers) e;
+  each = λ q. ap (λ (u : Listing Held). entry_at u q) e ∙ entry_at-empty (pool_pages p) (pool_pages p) q
+      ∙ sym (ap (λ b. if b then first_entry p q else None) (le-ltb q 0 (omega arith)));
+}
+
+module _ (p : Parameters) (x : ℕ) (t : Listing Held) (h : AreFirst p x t) where
+  -- the next one is free, and not listed
+  pub first_free : entry_at t x ≡ None
+  first_free = h.each x ∙ ap (λ b. if b then first_entry p x else None) (le-ltb x x (omega arith))
+
+  listed_low : (q n : ℕ) (before low : Bool) → nat_lt q x ≡ before → nat_lt q p.pages ≡ low
+      → lists number_key n (if before then (if low then Some (held q) else None) else None) ≡ true → (nat_lt q x ≡ true) × (q ≡ n)
+  listed_low q n true true b l h =
+      let of = lists-some number_key n (Some (held q)) h in let same : held q ≡ of.0 = cc in (b, ap number_key same ∙ of.2)
+  listed_low q n true false b l h = cc
+  listed_low q n false low b l h = cc
+
+  pub first_unlisted : place_of number_key x t ≡ None
+  first_unlisted = place_of-none number_key t x
+      (λ q. elim (cases_Bool (lists number_key x (entry_at t q))) as (λ _. lists number_key x (entry_at t q) ≡ false) [
+        | inl listed ↦
+            let is = listed_low q x (nat_lt q x) (nat_lt q p.pages) refl refl (sym (ap (lists number_key x) (h.each q)) ∙ listed) in
+            let before : nat_lt x x ≡ true = sym (ap (λ m. nat_lt m x) is.1) ∙ is.0 in
+            let no : false ≡ true = sym (le-ltb x x (omega arith)) ∙ before in absurd (cc)
+        | inr unlisted ↦ unlisted
+      ])
+
+  -- and then it is listed
+  pub first_more : x < p.pages → AreFirst p (x + 1) (with_entry x (Some (held x)) t)
+  first_more l =
+      let inside : x < length t.entries = omega (arith, l, h.size) in
+      record {
+        size = length-set t.entries x (Some (held x)) ∙ h.size;
+        numbers = h.numbers;
+        each =
+            λ q. elim (cases_eq q x) as
+            (λ _. entry_at (with_entry x (Some (held x)) t) q ≡ (if nat_lt q (x + 1) then first_entry p q else None)) [
+              | inl same ↦
+                  ap (entry_at (with_entry x (Some (held x)) t)) same ∙ entry_at-with_same t x (Some (held x)) inside
+                  ∙ sym (ap (λ b. if b then first_entry p q else None) (lt-ltb q (x + 1) (omega (arith, same)))
+                  ∙ ap (first_entry p) same ∙ first_page p x l)
+              | inr other ↦
+                  entry_at-with_other t x q (Some (held x)) other ∙ h.each q
+                  ∙ ap (λ b. if b then first_entry p q else None)
+                  (elim (cases_lt q x) as (λ _. nat_lt q x ≡ nat_lt q (x + 1)) [
+                    | inl below ↦ lt-ltb q x below ∙ sym (lt-ltb q (x + 1) (omega (arith, below)))
+                    | inr above ↦ le-ltb q x above ∙ sym (le-ltb q (x + 1) (omega (arith, above, other)))
+                  ])
+            ];
+      }
+
+  -- with every page it is that of a start
+  pub first_all : p.pages ≤ x → t ≡ listing (first_entries p) (pool_pages p)
+  first_all l = listing_same t (listing (first_entries p) (pool_pages p)) (h.size ∙ sym (length-first p)) h.numbers
+      (λ q. h.each q
+      ∙ elim (cases_lt q x) as (λ _. (if nat_lt q x then first_entry p q else None) ≡ first_entry p q) [
+        | inl below ↦ ap (λ b. if b then first_entry p q else None) (lt-ltb q x below)
+        | inr above ↦ ap (λ b. if b then first_entry p q else None) (le-ltb q x above)
+            ∙ sym (ap (λ b. if b then Some (held q) else None) (le-ltb q p.pages (omega (arith, above, l))))
+      ]
+      ∙ sym (entry_at-first p (pool_pages p) q))

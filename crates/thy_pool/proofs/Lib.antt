@@ -1,0 +1,14 @@
+pub mod CountLemmas
+pub mod CycleLemmas
+pub mod CommitLemmas
+pub mod TableLemmas
+pub mod EightLemmas
+pub mod StateLemmas
+pub mod RoomLemmas
+pub mod ClaimLemmas
+pub mod CommittingLemmas
+pub mod ListedLemmas
+pub mod FirstLemmas
+pub mod AgreeLemmas
+pub mod GuardLemmas
+pub mod DrainLemmas

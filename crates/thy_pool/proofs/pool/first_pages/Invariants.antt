@@ -1,0 +1,5 @@
+use Rattle.thy_pool.proofs.FirstLemmas.{AreFirst}
+use Rattle.thy_pool.proofs.pool.first_pages.Given as goal
+
+abbrev pub invariant-loop-x : goal.invariant-loop-x
+invariant-loop-x l = AreFirst l.geometry l.x l.pool

@@ -1,0 +1,53 @@
+-- Part of the claim.
+-- What the pool and the NVM hold together, seen as a store of blocks.
+use Rattle.std.specs.Prelude.{ℕ, ◌-◌, ◌*◌, ◌==◌, ◌&&◌, not, if◌then◌else◌, Bool, true, List, [], length, map, count_by, bytes_eq, Option, Some, None}
+use Rattle.std.specs.List.{range_with_len}
+use Rattle.thy_base.specs.declared.block.Block.{Block}
+use Rattle.thy_base.specs.Device.{Device, newest}
+use Rattle.thy_base.specs.Geometry.{memory_blocks}
+use Rattle.thy_base.specs.Store.{Holding}
+use Rattle.thy_table.specs.Listing.{free_count}
+use Rattle.thy_shadow_image.specs.Places.{image_blocks}
+use Rattle.thy_pool.specs.declared.entry.Begun.{Begun}
+use Rattle.thy_pool.specs.State.{State, page_place, frame_block, committed_of, work_of}
+use Rattle.thy_pool.specs.Stores.{free_frame}
+
+-- every block as it was stored last, and every block as it was committed
+abbrev pub works : State → Device → List Block
+works s n = map (work_of s n) (range_with_len 0 (memory_blocks s.p))
+
+abbrev pub commits : State → Device → List Block
+commits s n = map (committed_of s n) (range_with_len 0 (memory_blocks s.p))
+
+-- how many blocks were copied into a frame that is not filled yet, and for which page
+abbrev pub copied_by : Option Begun → ℕ
+copied_by None = 0
+copied_by (Some b) = b.copied
+
+abbrev pub opened_by : Option Begun → Option ℕ
+opened_by None = None
+opened_by (Some b) = Some b.page
+
+-- those of a frame that are what the NVM has
+abbrev pub agrees : State → Device → ℕ → ℕ → Bool
+agrees s n x c = bytes_eq (frame_block s (free_frame s) c).0 (newest n (page_place s x c)).0
+
+-- all that were copied are
+abbrev pub agree_by : State → Device → Option Begun → Bool
+agree_by s n None = true
+agree_by s n (Some b) = count_by (agrees s n b.page) (range_with_len 0 b.copied) == b.copied
+
+abbrev pub copies_agree : State → Device → Bool
+copies_agree s n = agree_by s n s.begun
+
+-- What a load of each block gives; nothing if the NVM has another size, or is down, or is not what was copied from
+-- it. A page whose frame is begun is open; what is owed are the copies of all frames that are not filled.
+abbrev pub holding_of : State → Device → Holding
+holding_of s n = record {
+  blocks = if length n.image == image_blocks s.p && not n.down && copies_agree s n then works s n else [];
+  faults = n.faults;
+  free = free_count s.frames;
+  ready = not n.down;
+  open_page = opened_by s.begun;
+  owed = 64 * free_count s.frames - copied_by s.begun;
+}

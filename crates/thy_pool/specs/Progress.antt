@@ -1,0 +1,89 @@
+-- Part of the claim.
+-- The engine's progress, and what one cycle of it makes of the pool and of the NVM.
+use Rattle.std.specs.Prelude.{◌≡◌, ℕ, ◌+◌, ◌/◌, ◌%◌, ◌<◌, length, Result, IfOk, OnErr}
+use Rattle.thy_base.specs.declared.block.Block.{Block}
+use Rattle.thy_base.specs.declared.config.Parameters.{Parameters}
+use Rattle.thy_base.specs.declared.nvm.NvmError.{NvmError}
+use Rattle.thy_base.specs.Device.{Device, IsFramed, CountsFault}
+use Rattle.thy_isa.specs.declared.state.CpuState.{CpuState}
+use Rattle.thy_view.specs.Action.{Action, Rest, WriteAt, Barrier, after, FailsTo}
+use Rattle.thy_record.specs.Commit.{commit_of}
+use Rattle.thy_journal_image.specs.Slots.{slot_block_of}
+use Rattle.thy_shadow_image.specs.Places.{slot_blocks, slot_place}
+use Rattle.thy_pool.specs.declared.engine.Done.{Done}
+use Rattle.thy_pool.specs.declared.stage.PoolStage.{PoolStage}
+use Rattle.thy_pool.specs.declared.stage.PoolStage.TheVariants.{Pages, Slot}
+use Rattle.thy_pool.specs.Items.{Item, NoItem, PageItem, SlotItem, SettleItem, CommitItem, ConfirmItem, item, next_after, answer}
+use Rattle.thy_pool.specs.State.{State, next_table, frame_block, target_place}
+use Rattle.thy_pool.specs.Commit.{committed_state}
+
+pub record Progress : Type 0 where
+  pub p : Parameters
+  -- what the engine looks for next
+  pub next : PoolStage
+  -- the processor as it was sealed, and the epoch that was sealed
+  pub cpu : CpuState
+  pub epoch : ℕ
+
+-- it has the registers, and a block of the slot comes next only if the slot has it
+pub record IsSoundProgress (e : Progress) : Type 0 where
+  pub regs : length e.cpu.regs ≡ 32
+  pub inside : (k : ℕ) → e.next ≡ Slot k → k < slot_blocks e.p
+
+-- a checkpoint begins with the lowest frame
+abbrev pub begun : CpuState → ℕ → Progress → Progress
+begun cpu epoch e = record e { next = Pages 0; cpu = cpu; epoch = epoch }
+
+-- engine and pool are of one geometry
+pub record Fits (e : Progress) (s : State) : Type 0 where
+  pub same_p : s.p ≡ e.p
+
+-- block k of the slot
+abbrev pub slot_block : Progress → State → ℕ → Block
+slot_block e s k = slot_block_of e.p e.cpu (next_table s) e.epoch k
+
+-- the action of an item on the NVM
+abbrev pub action_of : Progress → Item → State → Action
+action_of e NoItem s = Rest
+action_of e (PageItem x) s = WriteAt (target_place s (x / 64) (x % 64)) (frame_block s (x / 64) (x % 64))
+action_of e (SlotItem k) s = WriteAt (slot_place e.p (e.epoch % 2) + k) (slot_block e s k)
+action_of e SettleItem s = Barrier
+action_of e CommitItem s = WriteAt 1 (commit_of e.epoch)
+action_of e ConfirmItem s = Barrier
+
+-- the pool after an item: with the last barrier its pages are committed
+abbrev pub state_after : Item → State → State
+state_after ConfirmItem s = committed_state s
+state_after i s = s
+
+-- an item was taken: what is returned, what comes after it, and what it makes of pool and NVM
+pub record IsTaken (i : Item) (e : Progress) (s : State) (m : Device) (d : Done) (t : State) (n : Device) : Type 0 where
+  pub step : d.step ≡ answer e.p e.epoch i
+  pub next : d.next ≡ next_after e.p i
+  pub pool : t ≡ state_after i s
+  pub device : n ≡ after (action_of e i s) m
+
+-- it failed: the pool is as before
+pub record IsNotTaken (i : Item) (e : Progress) (s : State) (m : Device) (t : State) (n : Device) : Type 0 where
+  pub pool : t ≡ s
+  pub failed : FailsTo (action_of e i s) m n
+
+-- how it ended, and how faults are counted
+pub record Ends (i : Item) (e : Progress) (s : State) (m : Device) (r : Result Done NvmError) (t : State) (n : Device) : Type 0 where
+  pub taken : IfOk r (λ d. IsTaken i e s m d t n)
+  pub failed : OnErr r (IsNotTaken i e s m t n)
+  pub frame : IsFramed m n
+  pub cause : CountsFault r m.faults n.faults
+
+-- what comes next: the item, and the engine, the pool and the NVM after it
+abbrev pub item_of : Progress → State → Item
+item_of e s = item e.next s
+
+abbrev pub engine_next : Progress → State → Progress
+engine_next e s = record e { next = next_after e.p (item_of e s) }
+
+abbrev pub state_next : Progress → State → State
+state_next e s = state_after (item_of e s) s
+
+abbrev pub action_next : Progress → State → Action
+action_next e s = action_of e (item_of e s) s

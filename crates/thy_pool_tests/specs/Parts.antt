@@ -1,0 +1,93 @@
+-- Pool, engine and boot of shadow paging that a test drives, and the NVM below them.
+use Rattle.std.specs.Prelude.{◌≡◌, ℕ, ◌+◌, ◌≤◌, Bool, true, false, [], length, replicate, None}
+use Rattle.thy_base.specs.declared.config.Parameters.{Parameters}
+use Rattle.thy_base.specs.Device.{Device}
+use Rattle.thy_base.specs.Geometry.{memory_blocks}
+use Rattle.thy_base.specs.Places.{dram_blocks}
+use Rattle.thy_dram.specs.Contents.{Contents}
+use Rattle.thy_isa.specs.declared.state.Status.TheVariants.{Running}
+use Rattle.thy_isa.specs.Step.{State as Plain}
+use Rattle.thy_boot.specs.declared.stage.BootStep.{BootStep}
+use Rattle.thy_boot.specs.declared.stage.BootStep.TheVariants.{Reading, Loading}
+use Rattle.thy_boot.specs.Boot.{Booting, IsBoot}
+use Rattle.thy_boot.specs.Start.{CanStart}
+use Rattle.thy_boot.specs.Steps.{CanStep}
+use Rattle.thy_shadow_image.specs.Places.{image_blocks}
+use Rattle.thy_pool.specs.Progress.{Progress}
+use Rattle.thy_pool.specs.State.{State}
+use Rattle.thy_repool.specs.Filling.{filling_shadow}
+
+-- how many blocks the least memory has
+abbrev pub all : ℕ
+all = 512
+
+-- the NVM has room for so many cuts
+abbrev pub HasRoom : Device → ℕ → Type 0
+HasRoom n cuts = length n.left + cuts ≤ n.left_room
+
+-- what a loss of power leaves
+pub record Off : Type 0 where
+  pub p : Parameters
+  pub dram : Contents
+  pub nvm : Device
+  -- how many cuts are to come at most
+  pub cuts : ℕ
+
+abbrev pub off : Parameters → Contents → Device → ℕ → Off
+off p dram n cuts = record { p = p; dram = dram; nvm = n; cuts = cuts }
+
+-- both devices have the sizes of the least memory; the NVM is up, with nothing queued
+pub record IsOff (m : Off) : Type 0 where
+  pub blocks : memory_blocks m.p ≡ all
+  pub dram : length m.dram.blocks ≡ dram_blocks m.p
+  pub sized : length m.nvm.image ≡ image_blocks m.p
+  pub settled : m.nvm.queue ≡ []
+  pub up : m.nvm.down ≡ false
+  pub room : HasRoom m.nvm m.cuts
+
+-- a boot may take a step, with this start
+pub record Boots (s : Plain) (n : Device) (b : Booting) (c : State) : Type 0 where
+  pub start : CanStart b.p s
+  pub up : n.down ≡ false
+  pub same_p : c.p ≡ b.p
+  pub fits : IsBoot filling_shadow b
+  pub may : CanStep filling_shadow s n b c
+
+-- what was returned says that it continues
+abbrev pub goes_on : BootStep → Bool
+goes_on Reading = true
+goes_on Loading = true
+goes_on told = false
+
+-- a start of the least memory, whose registers are zero
+pub record IsLeastStart (s : Plain) : Type 0 where
+  pub regs : s.regs ≡ replicate 32 0
+  pub memory : length s.memory ≡ 28672
+  pub console : length s.console ≡ 70
+  pub pc : s.pc ≡ 65540
+  pub cursor : s.cursor ≡ 3
+  pub brk : s.brk ≡ 65600
+  pub floor : s.floor ≡ 65600
+  pub count : s.count ≡ 5
+  pub status : s.status ≡ Running
+  pub alone : s.other ≡ None
+
+-- after the boot: pool, engine and NVM
+pub record Parts : Type 0 where
+  pub p : Parameters
+  pub pool : State
+  pub engine : Progress
+  pub nvm : Device
+  pub cuts : ℕ
+
+abbrev pub parts : Parameters → State → Progress → Device → ℕ → Parts
+parts p s e n cuts = record { p = p; pool = s; engine = e; nvm = n; cuts = cuts }
+
+-- they are of one geometry, and the NVM is up
+pub record AreParts (m : Parts) : Type 0 where
+  pub pool_p : m.pool.p ≡ m.p
+  pub engine_p : m.engine.p ≡ m.p
+  pub blocks : memory_blocks m.p ≡ all
+  pub sized : length m.nvm.image ≡ image_blocks m.p
+  pub up : m.nvm.down ≡ false
+  pub room : HasRoom m.nvm m.cuts

@@ -1,0 +1,13 @@
+use Rattle.std.proofs.Common.{sym, ◌∙◌, ap, subst}
+use Rattle.thy_dram.specs.Contents.{lost}
+use Rattle.thy_shadow_laws.specs.Shadow.{Shadow as Value, IsOf}
+use Rattle.thy_shadow.proofs.CallLemmas.{IsDramOf-lost}
+use Rattle.thy_shadow.proofs.shadow.ShadowScheme.cut.Goals as goal
+
+pub returns-clause-drawn : goal.returns-clause-drawn
+returns-clause-drawn c = c.cut.ensures ∙ ap (λ (s : Value). lost s.pool.dram c.args.pick) c.self.view_is
+
+pub returns-clause-sized : goal.returns-clause-sized
+returns-clause-sized c = λ p is_of.
+    let h = subst (λ (s : Value). IsOf p s) (sym c.self.view_is) is_of in
+    IsDramOf-lost p c.self.inside.pool c.args.pick c.cut.result h.sound h.same_p h.room c.cut.ensures

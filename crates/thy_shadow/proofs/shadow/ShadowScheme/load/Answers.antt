@@ -1,0 +1,36 @@
+use Rattle.std.proofs.Common.{◌≡◌, ◌<◌, length, sym, subst, IfOk}
+use Rattle.thy_base.specs.Device.{Device}
+use Rattle.thy_base.specs.Device.{block_at}
+use Rattle.thy_pool.specs.Holding.{holding_of}
+use Rattle.thy_pool.specs.State.{work_of}
+use Rattle.thy_shadow_laws.specs.Shadow.{Shadow as Value}
+use Rattle.thy_shadow.proofs.CallLemmas.{load_stays, ok_same}
+use Rattle.thy_shadow.proofs.shadow.ShadowScheme.load.Goals as goal
+
+pub load-requires-clause-block : goal.load-requires-clause-block
+load-requires-clause-block g c =
+    let v : Value = record { pool = c.self.inside.pool; engine = c.self.inside.engine; storeless = c.self.inside.storeless; sealed_storeless = c.self.inside.sealed_storeless; boot = c.self.inside.boot } in
+    let n : Device = g.N.Nvm.device c.args.nvm.now in
+    let inside = subst (λ (s : Value). c.args.b < length (holding_of s.pool n).blocks) (sym c.self.view_is) c.requires in
+    (c.what_is_held_stays.ensures.works v n c.args.b inside).1
+
+pub load-requires-clause-sized : goal.load-requires-clause-sized
+load-requires-clause-sized g c =
+    let v : Value = record { pool = c.self.inside.pool; engine = c.self.inside.engine; storeless = c.self.inside.storeless; sealed_storeless = c.self.inside.sealed_storeless; boot = c.self.inside.boot } in
+    let n : Device = g.N.Nvm.device c.args.nvm.now in
+    let inside = subst (λ (s : Value). c.args.b < length (holding_of s.pool n).blocks) (sym c.self.view_is) c.requires in
+    record { nvm = (c.what_is_held_stays.ensures.works v n c.args.b inside).0 }
+
+pub returns-clause-ok : goal.returns-clause-ok
+returns-clause-ok g c =
+    let v : Value = record { pool = c.self.inside.pool; engine = c.self.inside.engine; storeless = c.self.inside.storeless; sealed_storeless = c.self.inside.sealed_storeless; boot = c.self.inside.boot } in
+    let n : Device = g.N.Nvm.device c.args.nvm.now in
+    let inside = subst (λ (s : Value). c.args.b < length (holding_of s.pool n).blocks) (sym c.self.view_is) c.requires in
+    subst (λ (s : Value). IfOk c.load.result (λ block. block ≡ block_at (holding_of s.pool n).blocks c.args.b)) c.self.view_is
+    (ok_same c.load.result (work_of v.pool n c.args.b) (block_at (holding_of v.pool n).blocks c.args.b) c.load.ensures.ok
+    (sym (c.what_is_held_stays.ensures.works v n c.args.b inside).2))
+
+pub returns-clause-stays : goal.returns-clause-stays
+returns-clause-stays g c =
+    load_stays c.args.self.now (g.N.Nvm.device c.args.nvm.now) (g.N.Nvm.device c.load.new.nvm) c.load.result c.load.ensures.same c.load.ensures.err
+    c.load.ensures.frame

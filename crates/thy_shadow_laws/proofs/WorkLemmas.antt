@@ -1,0 +1,187 @@
+-- Memory as it was stored last, and as it was committed, over what is done to the NVM and to the pool.
+use Rattle.std.proofs.Common.{◌≡◌, ◌≢◌, ℕ, ◌+◌, ◌*◌, ◌%◌, ◌<◌, ◌≤◌, true, List, length, map, Contains, Option, Some, None, is_some, option_and_then, refl, sym, ◌∙◌, ap, subst, arith}
+use Rattle.std.specs.List.{range_with_len}
+use Rattle.std.proofs.lemmas.List.{length-map, get_or-map, ext_get_or}
+use Rattle.std.proofs.lemmas.List.FromFn.{length-map-range_with_len, get_or-map-range_with_len}
+use Rattle.thy_base.specs.declared.block.Block.{Block}
+use Rattle.thy_base.specs.declared.config.Parameters.{Parameters}
+use Rattle.thy_base.specs.Device.{Device, zero_block, block_at, newest, written_to, settled}
+use Rattle.thy_base.specs.Geometry.{memory_blocks}
+use Rattle.thy_base.specs.Store.{page_of}
+use Rattle.thy_base.proofs.DeviceLemmas.{newest-written_to_other, newest-settled}
+use Rattle.thy_record.specs.Tables.{Lists}
+use Rattle.thy_record.proofs.ImageLemmas.{map-alike}
+use Rattle.thy_protocol.proofs.IssuingLemmas.{row_of}
+use Rattle.thy_table.specs.Listing.{entry_at, lists, mapped}
+use Rattle.thy_table.proofs.IndexLemmas.{lists-inside}
+use Rattle.thy_table.proofs.ListingLaws.{entry_at-mapped, place_of-none, place_of-lists}
+use Rattle.thy_shadow_image.specs.Places.{map_blocks, pool_pages, first_pool, image_blocks, pool_place, pool_page, place_of}
+use Rattle.thy_shadow_image.specs.CheckpointParts.{memory_places}
+use Rattle.thy_shadow_image.proofs.PartsLemmas.{place_behind}
+use Rattle.thy_pool.specs.declared.entry.Framed.{Framed}
+use Rattle.thy_pool.specs.Commit.{committed_state}
+use Rattle.thy_pool.specs.Holding.{works, commits}
+use Rattle.thy_pool.specs.Keys.{number_key, page_key, freed_frame}
+use Rattle.thy_pool.specs.State.{State, IsSoundState, IsSized, frame_of, pool_of, target, committed_table, committed_place, target_place, committed_of, work_by, work_of}
+use Rattle.thy_pool.proofs.CommitLemmas.{some_of}
+use Rattle.thy_pool.proofs.TableLemmas.{listed_at-table_by, entry_page, IsMap-committed, target_free, same_number}
+
+-- ---- over another NVM
+
+-- a block in a frame does not depend on the NVM
+work_same : (s : State) (m n : Device) (b : ℕ) (o : Option ℕ) → committed_of s n b ≡ committed_of s m b → work_by s n b o ≡ work_by s m b o
+work_same s m n b None h = h
+work_same s m n b (Some j) h = refl
+
+below : (many b : ℕ) → Contains (range_with_len 0 many) b → b < many
+below many b inside = let at = row_of 0 many b inside in let l = at.1 in let e = at.2 in omega (arith, l, e)
+
+-- so if each block reads where it was committed as before, all load as before
+pub works_same : (s : State) (m n : Device) → ((b : ℕ) → b < memory_blocks s.p → committed_of s n b ≡ committed_of s m b)
+    → works s n ≡ works s m
+works_same s m n same =
+    map-alike (work_of s n) (work_of s m) (range_with_len 0 (memory_blocks s.p))
+    (λ b inside. work_same s m n b (frame_of s (page_of b)) (same b (below (memory_blocks s.p) b inside)))
+
+pub commits_same : (s : State) (m n : Device) → ((b : ℕ) → b < memory_blocks s.p → committed_of s n b ≡ committed_of s m b)
+    → commits s n ≡ commits s m
+commits_same s m n same =
+    map-alike (committed_of s n) (committed_of s m) (range_with_len 0 (memory_blocks s.p))
+    (λ b inside. same b (below (memory_blocks s.p) b inside))
+
+-- ---- places of the committed map
+
+-- a block stands where the committed map has it
+pub place_committed : (s : State) (b : ℕ) → b < memory_blocks s.p → place_of s.p (committed_table s) b ≡ committed_place s b
+place_committed s b l =
+    let low : page_of b < s.p.pages = omega arith in
+    let inside : page_of b < 8 * map_blocks s.p = omega (arith, low) in
+    ap (λ (e : Option ℕ). pool_place s.p (pool_page e) (b % 64))
+    (listed_at-table_by s.p (pool_of s) (page_of b) inside ∙ entry_page s.p (pool_of s) (page_of b) low)
+
+-- so it lies behind the slots, within the image
+pub committed_behind : (s : State) (b : ℕ) → IsSoundState s → b < memory_blocks s.p
+    → (first_pool s.p ≤ committed_place s b) × (committed_place s b < image_blocks s.p)
+committed_behind s b h l =
+    let behind = place_behind s.p (committed_table s) b (IsMap-committed s h) l in
+    let same = place_committed s b l in
+    (subst (λ (y : ℕ). first_pool s.p ≤ y) same behind.0, subst (λ (y : ℕ). y < image_blocks s.p) same behind.1)
+
+pub committed_inside : (s : State) (m : Device) (b : ℕ) → IsSoundState s → IsSized s m → b < memory_blocks s.p
+    → committed_place s b < length m.image
+committed_inside s m b h sized l = let inside = (committed_behind s b h l).1 in omega (arith, inside, sized.nvm)
+
+-- a write elsewhere leaves it
+pub committed_over : (s : State) (m : Device) (at : ℕ) (block : Block) (b : ℕ) → IsSoundState s → IsSized s m → b < memory_blocks s.p
+    → committed_place s b ≢ at
+    → committed_of s (written_to m at block) b ≡ committed_of s m b
+committed_over s m at block b h sized l other =
+    newest-written_to_other m at block (committed_place s b) other (committed_inside s m b h sized l)
+
+-- and so does a barrier
+pub committed_settled : (s : State) (m : Device) (b : ℕ) → IsSoundState s → IsSized s m → b < memory_blocks s.p
+    → committed_of s (settled m) b ≡ committed_of s m b
+committed_settled s m b h sized l = newest-settled m (committed_place s b) (committed_inside s m b h sized l)
+
+-- ---- memory read by a map
+
+length-places : (p : Parameters) (table : List (Option ℕ)) (m : Device) → length (map (newest m) (memory_places p table)) ≡ memory_blocks p
+length-places p table m = length-map (memory_places p table) (newest m) ∙ length-map-range_with_len (place_of p table) 0 (memory_blocks p)
+
+places-each : (p : Parameters) (table : List (Option ℕ)) (m : Device) (b : ℕ) → b < memory_blocks p
+    → block_at (map (newest m) (memory_places p table)) b ≡ newest m (place_of p table b)
+places-each p table m b l =
+    get_or-map (newest m) (memory_places p table) b 0 zero_block
+    (omega (arith, l, length-map-range_with_len (place_of p table) 0 (memory_blocks p)))
+    ∙ ap (newest m) (get_or-map-range_with_len (place_of p table) 0 (memory_blocks p) b b 0 l (omega arith))
+
+-- if each block's place reads as something gives, memory is that of all blocks
+pub places_read : (p : Parameters) (table : List (Option ℕ)) (m : Device) (look : ℕ → Block)
+    → ((b : ℕ) → b < memory_blocks p → newest m (place_of p table b) ≡ look b)
+    → map (newest m) (memory_places p table) ≡ map look (range_with_len 0 (memory_blocks p))
+places_read p table m look each =
+    let long = length-places p table m in
+    ext_get_or zero_block (map (newest m) (memory_places p table)) (map look (range_with_len 0 (memory_blocks p)))
+    (long ∙ sym (length-map-range_with_len look 0 (memory_blocks p)))
+    (λ b inside.
+    let l : b < memory_blocks p = omega (arith, inside, long) in
+    places-each p table m b l ∙ each b l ∙ sym (get_or-map-range_with_len look 0 (memory_blocks p) b b zero_block l (omega arith)))
+
+-- as it was committed it is read by the committed map
+pub commits_placed : (s : State) (n : Device) → map (newest n) (memory_places s.p (committed_table s)) ≡ commits s n
+commits_placed s n = places_read s.p (committed_table s) n (committed_of s n) (λ b l. ap (newest n) (place_committed s b l))
+
+-- ---- the pages that frames go to
+
+-- blocks of the pool that have one number are of one page
+same_page : (p : Parameters) (q r c d : ℕ) → c < 64 → d < 64 → pool_place p q c ≡ pool_place p r d → q ≡ r
+same_page p q r c d l m e = omega (arith, e)
+
+module _ (s : State) (h : IsSoundState s) where
+  -- a filled frame has a page of the pool
+  pub target_of : (j : ℕ) → is_some (entry_at s.frames j) ≡ true → (q : ℕ) × (target s j ≡ Some q)
+  target_of j some = some_of (target s j) (sym (h.claimed j) ∙ some)
+
+  target_is : (j c : ℕ) (some : is_some (entry_at s.frames j) ≡ true) → target_place s j c ≡ pool_place s.p (target_of j some).0 c
+  target_is j c some = ap (λ (o : Option ℕ). pool_place s.p (pool_page o) c) (target_of j some).1
+
+  -- it is one of the pool's
+  pub target_small : (j q : ℕ) → target s j ≡ Some q → q < pool_pages s.p
+  target_small j q is =
+      subst (λ (n : ℕ). q < n) h.pool_size
+      (lists-inside number_key s.pool.entries q (s.p.pages + j) (place_of-lists number_key s.pool (s.p.pages + j) q is))
+
+  pub target_inside : (m : Device) (j c : ℕ) → IsSized s m → c < 64 → is_some (entry_at s.frames j) ≡ true
+      → target_place s j c < length m.image
+  target_inside m j c sized l some =
+      let of = target_of j some in
+      let q : ℕ = of.0 in
+      let small : q < pool_pages s.p = target_small j q of.1 in
+      subst (λ (y : ℕ). y < length m.image) (sym (target_is j c some)) (omega (arith, small, l, sized.nvm))
+
+  pub target_behind : (j c : ℕ) → first_pool s.p ≤ target_place s j c
+  target_behind j c = omega arith
+
+  -- two blocks of filled frames that go to one place are one block
+  pub one_target : (i j c d : ℕ) → c < 64 → d < 64 → is_some (entry_at s.frames i) ≡ true → is_some (entry_at s.frames j) ≡ true
+      → target_place s i c ≡ target_place s j d → (i ≡ j) × (c ≡ d)
+  one_target i j c d l k a b e =
+      let here = target_of i a in
+      let there = target_of j b in
+      let both : pool_place s.p here.0 c ≡ pool_place s.p there.0 d = sym (target_is i c a) ∙ e ∙ target_is j d b in
+      let page : here.0 ≡ there.0 = same_page s.p here.0 there.0 c d l k both in
+      let numbers : s.p.pages + i ≡ s.p.pages + j
+      = same_number s h (s.p.pages + i) (s.p.pages + j) there.0 (here.1 ∙ ap Some page) there.1 in
+      (omega (arith, numbers), omega (arith, both, page))
+
+  -- and no block of memory was committed there
+  pub target_apart : (j c b : ℕ) → c < 64 → is_some (entry_at s.frames j) ≡ true → b < memory_blocks s.p
+      → committed_place s b ≢ target_place s j c
+  target_apart j c b l some k = λ e.
+      let low : page_of b < s.p.pages = omega arith in
+      let small : b % 64 < 64 = omega arith in
+      let of = target_of j some in
+      let listed = (IsMap-committed s h).mapped (page_of b) low in
+      let lists = listed.1 in
+      let at : place_of s.p (committed_table s) b ≡ pool_place s.p listed.0 (b % 64)
+      = ap (λ (o : Option ℕ). pool_place s.p (pool_page o) (b % 64)) lists.is in
+      let both : pool_place s.p listed.0 (b % 64) ≡ pool_place s.p of.0 c = sym at ∙ place_committed s b k ∙ e ∙ target_is j c some in
+      let page : listed.0 ≡ of.0 = same_page s.p listed.0 of.0 (b % 64) c small l both in
+      target_free s h j of.0 of.1 (page_of b) (subst (λ (q : ℕ). Lists (committed_table s) (page_of b) q) page lists)
+
+-- ---- with all frames free
+
+none_freed : (o : Option Framed) → option_and_then freed_frame o ≡ None
+none_freed None = refl
+none_freed (Some e) = refl
+
+pub frame_of-committed : (s : State) (x : ℕ) → frame_of (committed_state s) x ≡ None
+frame_of-committed s x =
+    place_of-none page_key (mapped freed_frame s.frames) x
+    (λ j. ap (lists page_key x) (entry_at-mapped freed_frame s.frames j ∙ none_freed (entry_at s.frames j)))
+
+-- every block loads as it was committed
+pub works-committed : (s : State) (n : Device) → works (committed_state s) n ≡ commits (committed_state s) n
+works-committed s n =
+    map-alike (work_of (committed_state s) n) (committed_of (committed_state s) n) (range_with_len 0 (memory_blocks s.p))
+    (λ b inside. ap (work_by (committed_state s) n b) (frame_of-committed s (page_of b)))

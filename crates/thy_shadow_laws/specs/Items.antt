@@ -1,0 +1,69 @@
+-- What every item of the engine makes of a run's checkpoints, and of memory.
+use Rattle.std.specs.Prelude.{◌≡◌, true, None}
+use Rattle.thy_base.specs.Device.{Device, newest, IsFramed}
+use Rattle.thy_crash.specs.Saved.{InDoubt}
+use Rattle.thy_view.specs.Action.{after, FailsTo}
+use Rattle.thy_view.specs.Origin.{Origin}
+use Rattle.thy_protocol.specs.Moves.{Standing, standing, Move}
+use Rattle.thy_shadow_image.specs.Header.{header_fault}
+use Rattle.thy_shadow_image.specs.Layout.{layout_of}
+use Rattle.thy_pool.specs.declared.stage.PoolStage.{PoolStage}
+use Rattle.thy_pool.specs.declared.stage.PoolStage.TheVariants.{Commit, Confirm}
+use Rattle.thy_pool.specs.Holding.{works, commits}
+use Rattle.thy_pool.specs.Items.{is_under_way}
+use Rattle.thy_pool.specs.Progress.{Progress, IsSoundProgress, Fits, item_of, engine_next, state_next, action_next}
+use Rattle.thy_pool.specs.State.{State, IsSoundState, IsSized}
+use Rattle.thy_shadow_laws.specs.Checkpoints.{Checkpoints, saved_at, standing_at, checkpoints_after, IsKeptBy, IsMadeFor, HasWritten}
+use Rattle.thy_shadow_laws.specs.Sound.{IsHeld}
+
+-- ---- as moves
+
+abbrev pub ItemsMove : Type 0
+ItemsMove =
+    (o : Origin) (e : Progress) (s : State) (m : Device) (c : Checkpoints)
+    → IsHeld o e s m → IsKeptBy o e s c.before → header_fault (newest m 0) o.geometry true ≡ None
+    → HasWritten e s m → is_under_way e.next ≡ true → IsMadeFor o e s m c
+    → Move o (layout_of o) (standing_at e m c)
+    (standing_at (engine_next e s) (after (action_next e s) m) (checkpoints_after (item_of e s) e m c))
+
+-- an item that failed: the write of the commit block leaves the two images in doubt, and every other one what was
+abbrev pub standing_failed : PoolStage → Device → Checkpoints → Standing
+standing_failed Commit n c = standing n (InDoubt c.before c.next) c.kept c.sealed
+standing_failed next n c = standing n (saved_at next c) c.kept c.sealed
+
+abbrev pub FailedItemsMove : Type 0
+FailedItemsMove =
+    (o : Origin) (e : Progress) (s : State) (m n : Device) (c : Checkpoints)
+    → IsHeld o e s m → IsKeptBy o e s c.before → is_under_way e.next ≡ true
+    → IsMadeFor o e s m c → FailsTo (action_next e s) m n → IsFramed m n
+    → Move o (layout_of o) (standing_at e m c) (standing_failed e.next n c)
+
+-- ---- what is written
+
+abbrev pub ItemsWrite : Type 0
+ItemsWrite =
+    (e : Progress) (s : State) (m : Device)
+    → IsSoundProgress e → IsSoundState s → IsSized s m → Fits e s → HasWritten e s m
+    → HasWritten (engine_next e s) (state_next e s) (after (action_next e s) m)
+
+-- ---- memory
+
+-- each block loads as before
+abbrev pub ItemsKeepWorks : Type 0
+ItemsKeepWorks =
+    (e : Progress) (s : State) (m : Device)
+    → IsSoundProgress e → IsSoundState s → IsSized s m → Fits e s → HasWritten e s m → is_under_way e.next ≡ true
+    → works (state_next e s) (after (action_next e s) m) ≡ works s m
+
+-- and each block reads as it was committed; with the barrier after the commit block that is as it was stored last
+abbrev pub ItemsKeepCommits : Type 0
+ItemsKeepCommits =
+    (e : Progress) (s : State) (m : Device)
+    → IsSoundProgress e → IsSoundState s → IsSized s m → Fits e s → is_under_way e.next ≡ true
+    → commits s (after (action_next e s) m) ≡ commits s m
+
+abbrev pub CommitMakesWorks : Type 0
+CommitMakesWorks =
+    (e : Progress) (s : State) (m : Device)
+    → IsSoundProgress e → IsSoundState s → IsSized s m → Fits e s → HasWritten e s m → e.next ≡ Confirm
+    → commits (state_next e s) (after (action_next e s) m) ≡ works s m

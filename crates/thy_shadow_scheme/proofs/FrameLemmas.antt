@@ -1,0 +1,103 @@
+-- The blocks of frames, and the lowest free frame.
+use Rattle.std.proofs.Common.{◌≡◌, ◌≢◌, ℕ, ◌*◌, ◌<◌, nat_lt, Bool, true, false, if◌then◌else◌, List, length, map, slice_set, Option, Some, None, unwrap_or, refl, sym, ◌∙◌, ap, inl, inr, arith}
+use Rattle.std.specs.List.{range_with_len}
+use Rattle.std.proofs.lemmas.Bool.{cases_eq, ltb-true}
+use Rattle.std.proofs.lemmas.List.{length-set, get_or-set_same, get_or-set_other, ext_get_or}
+use Rattle.std.proofs.lemmas.List.FromFn.{length-map-range_with_len, get_or-map-range_with_len}
+use Rattle.thy_base.specs.declared.block.Block.{Block}
+use Rattle.thy_base.specs.declared.config.Parameters.{Parameters}
+use Rattle.thy_base.specs.declared.place.Place.TheVariants.{Frame}
+use Rattle.thy_base.specs.Device.{zero_block, block_at}
+use Rattle.thy_base.specs.Places.{number_of}
+use Rattle.thy_table.specs.Listing.{entry_at, free_place, free_count}
+use Rattle.thy_table.proofs.IndexLemmas.{lists-inside, some-counted}
+use Rattle.thy_table.proofs.ListingLaws.{place_of-lists}
+use Rattle.thy_shadow_image.specs.Places.{map_blocks}
+use Rattle.thy_pool.specs.Commit.{page_by}
+use Rattle.thy_pool.specs.Keys.{page_key, framed}
+use Rattle.thy_pool.specs.State.{State, IsSoundState, frame_of, table_by, frame_block}
+use Rattle.thy_pool.specs.Stores.{free_frame, put_into}
+use Rattle.thy_pool.proofs.CommitLemmas.{framed_is}
+use Rattle.thy_pool.proofs.TableLemmas.{length-table_by, listed_at-table_by}
+
+-- ---- lists
+
+-- with another block at one place
+pub map_set : (size : ℕ) (f g : ℕ → Block) (b : ℕ) (block : Block) → b < size → f b ≡ block → ((c : ℕ) → c < size → c ≢ b → f c ≡ g c)
+    → map f (range_with_len 0 size) ≡ slice_set (map g (range_with_len 0 size)) b block
+map_set size f g b block small here there =
+    let long : length (map f (range_with_len 0 size)) ≡ size = length-map-range_with_len f 0 size in
+    let old : length (map g (range_with_len 0 size)) ≡ size = length-map-range_with_len g 0 size in
+    let set : List Block = slice_set (map g (range_with_len 0 size)) b block in
+    ext_get_or zero_block (map f (range_with_len 0 size)) set (long ∙ sym (length-set (map g (range_with_len 0 size)) b block ∙ old))
+    (λ c low.
+    let below : c < size = omega (arith, low, long) in
+    let gives : block_at (map f (range_with_len 0 size)) c ≡ f c = get_or-map-range_with_len f 0 size c c zero_block below (omega arith) in
+    elim (cases_eq c b) as (λ _. block_at (map f (range_with_len 0 size)) c ≡ block_at set c) [
+      | inl same ↦
+          gives ∙ ap f same ∙ here
+          ∙ sym (get_or-set_same (map g (range_with_len 0 size)) b block zero_block (omega (arith, small, old)))
+          ∙ sym (ap (block_at set) same)
+      | inr other ↦
+          gives ∙ there c below other
+          ∙ sym (get_or-map-range_with_len g 0 size c c zero_block below (omega arith))
+          ∙ sym (get_or-set_other (map g (range_with_len 0 size)) b c block zero_block other)
+    ])
+
+-- maps that have each page at one place are alike
+pub table_alike : (p : Parameters) (of to : ℕ → Option ℕ) → ((x : ℕ) → x < p.pages → of x ≡ to x) → table_by p of ≡ table_by p to
+table_alike p of to same =
+    let size = length-table_by p of in
+    ext_get_or None (table_by p of) (table_by p to) (size ∙ sym (length-table_by p to))
+    (λ x inside.
+    let l : x < 8 * map_blocks p = omega (arith, inside, size) in
+    listed_at-table_by p of x l ∙ by_page x (nat_lt x p.pages) refl ∙ sym (listed_at-table_by p to x l))
+  where
+    by_page : (x : ℕ) (low : Bool) → nat_lt x p.pages ≡ low → (if low then of x else None) ≡ (if low then to x else None)
+    by_page x true l = same x (ltb-true x p.pages l)
+    by_page x false l = refl
+
+-- ---- blocks of frames
+
+-- blocks of two frames, or two blocks of one, have two numbers
+pub apart_frame : (p : Parameters) (i j c d : ℕ) → c < 64 → d < 64 → i ≢ j → number_of p (Frame i c) ≢ number_of p (Frame j d)
+apart_frame p i j c d l k other = λ e. other (omega (arith, e, l, k))
+
+pub apart_block : (p : Parameters) (i j c d : ℕ) → c < 64 → d < 64 → c ≢ d → number_of p (Frame i c) ≢ number_of p (Frame j d)
+apart_block p i j c d l k other = λ e. other (omega (arith, e, l, k))
+
+module _ (s : State) (sound : IsSoundState s) where
+  -- a block that is put into a frame is there
+  pub put_here : (j c : ℕ) (block : Block) → j < s.p.ptt → c < 64 → frame_block (put_into j c block s) j c ≡ block
+  put_here j c block l k =
+      get_or-set_same s.dram.blocks (number_of s.p (Frame j c)) block zero_block (let size = sound.dram_size in omega (arith, size, l, k))
+
+  -- a frame that has a page is there, and has one
+  pub frame_inside : (x j : ℕ) → frame_of s x ≡ Some j → j < s.p.ptt
+  frame_inside x j found =
+      let inside = lists-inside page_key s.frames.entries j x (place_of-lists page_key s.frames x j found) in
+      let size = sound.frames_size in
+      omega (arith, inside, size)
+
+pub frame_has : (s : State) (x j : ℕ) → frame_of s x ≡ Some j → entry_at s.frames j ≡ Some (framed x)
+frame_has s x j found = framed_is x (entry_at s.frames j) (place_of-lists page_key s.frames x j found)
+
+pub one_page : (s : State) (x y i j : ℕ) → frame_of s x ≡ Some i → frame_of s y ≡ Some j → i ≡ j → x ≡ y
+one_page s x y i j a b same =
+    sym (ap page_by (frame_has s x i a)) ∙ ap (λ (k : ℕ). page_by (entry_at s.frames k)) same ∙ ap page_by (frame_has s y j b)
+
+-- every other block of a frame is as before
+pub put_there : (s : State) (j c : ℕ) (block : Block) (i d : ℕ) → number_of s.p (Frame i d) ≢ number_of s.p (Frame j c)
+    → frame_block (put_into j c block s) i d ≡ frame_block s i d
+put_there s j c block i d other = get_or-set_other s.dram.blocks (number_of s.p (Frame j c)) (number_of s.p (Frame i d)) block zero_block other
+
+-- ---- the lowest free frame
+
+pub free_found : (s : State) → 0 < free_count s.frames → (j : ℕ) × (free_place s.frames ≡ Some j)
+free_found s room = by_place (free_place s.frames) refl where
+  by_place : (o : Option ℕ) → free_place s.frames ≡ o → (j : ℕ) × (free_place s.frames ≡ Some j)
+  by_place None found = let none = (some-counted s.frames.entries None found).1 room in absurd cc
+  by_place (Some j) found = (j, found)
+
+pub free_is : (s : State) (j : ℕ) → free_place s.frames ≡ Some j → free_frame s ≡ j
+free_is s j found = ap (λ (o : Option ℕ). unwrap_or o 0) found

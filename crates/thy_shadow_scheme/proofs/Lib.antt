@@ -1,0 +1,15 @@
+pub mod PowerLemmas
+pub mod BootLemmas
+pub mod EndLemmas
+pub mod OwedLemmas
+pub mod CopyLemmas
+pub mod FrameLemmas
+pub mod StayLemmas
+pub mod HoldsLemmas
+pub mod CallLemmas
+pub mod StoreLemmas
+pub mod StepLemmas
+pub mod LawfulLemmas
+pub mod LawLemmas
+pub mod BarLemmas
+pub mod RoomLemmas

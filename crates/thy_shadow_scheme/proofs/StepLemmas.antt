@@ -1,0 +1,414 @@
+-- A step of the boot.
+use Rattle.std.proofs.Common.{◌≡◌, ◌≢◌, ℕ, ◌+◌, ◌-◌, ◌≤◌, Bool, true, false, List, length, refl, sym, ◌∙◌, ap, subst, inl, inr, arith, Option, Some, None, Result, Ok, Err, IfOk, OnErr}
+use Rattle.thy_base.specs.declared.block.Block.{Block}
+use Rattle.thy_base.specs.declared.config.Parameters.{Parameters}
+use Rattle.thy_base.specs.declared.mark.Mark.{Mark}
+use Rattle.thy_base.specs.declared.nvm.NvmError.{NvmError}
+use Rattle.thy_base.specs.Device.{Device, HasFailed, IsFramed, CountsFault}
+use Rattle.thy_base.specs.Marks.{mark}
+use Rattle.thy_crash.specs.Saved.{Kept}
+use Rattle.thy_dram.specs.Contents.{Contents, written}
+use Rattle.thy_isa.specs.declared.state.CpuState.{CpuState}
+use Rattle.thy_isa.specs.OnBlocks.{state_from}
+use Rattle.thy_isa.specs.Step.{State as Plain, cpu_of, state_of}
+use Rattle.thy_record.specs.declared.bad_image.BadImage.{BadImage}
+use Rattle.thy_record.specs.declared.start.Start.{Start}
+use Rattle.thy_record.specs.Commit.{epoch_of}
+use Rattle.thy_record.specs.Cpu.{cpu_of_record}
+use Rattle.thy_view.specs.declared.did.Did.{Did}
+use Rattle.thy_view.specs.declared.view.View.{View}
+use Rattle.thy_view.specs.Action.{Action, FailsTo, Asks, Acts, doubt_after_fault}
+use Rattle.thy_view.specs.Booting.{boot_view, loading_view}
+use Rattle.thy_view.specs.CoreStep.{BootsTo, CoreStep}
+use Rattle.thy_view.specs.Dram.{ActsOnDram}
+use Rattle.thy_view.specs.Origin.{Origin, Begins, at}
+use Rattle.thy_view.specs.Safe.{ceiling, Safe}
+use Rattle.thy_protocol.specs.Keeps.{Keeps, finding_view}
+use Rattle.thy_protocol.specs.Moves.{IsKeeping}
+use Rattle.thy_boot.specs.declared.stage.Stage.{Stage}
+use Rattle.thy_boot.specs.declared.stage.Stage.TheVariants.{Reads, Loads as Loading, Over}
+use Rattle.thy_boot.specs.declared.stage.ReadStage.TheVariants.{Unread, Header as ReadsHeader, Slot as ReadsSlot, Fills, Refusing}
+use Rattle.thy_boot.specs.declared.stage.End.TheVariants.{Restored, Loaded}
+use Rattle.thy_boot.specs.declared.stage.Issue.TheVariants.{Home, Slot, Header, Settle, Commit, Confirm}
+use Rattle.thy_boot.specs.declared.stage.BootStep.{BootStep}
+use Rattle.thy_boot.specs.declared.stage.BootStep.TheVariants.{Reading, Loading as IsLoading, Loaded as HasLoaded, Restarted, Refused}
+use Rattle.thy_boot.specs.Boot.{Booting, IsBoot, slot_read, answer_at, answer_of}
+use Rattle.thy_boot.specs.Filling.{First}
+use Rattle.thy_boot.specs.Laws.{IsGoing, IsMoved, failed_answer}
+use Rattle.thy_boot.specs.Left.{boot_left}
+use Rattle.thy_boot.specs.Loads.{issue_action}
+use Rattle.thy_boot.specs.Recovers.{IsRestored}
+use Rattle.thy_boot.specs.Shows.{seen_at, did_of}
+use Rattle.thy_boot.specs.Sound.{BootImages, first_of, standing_in_boot, images_after, IsRecovering, IsSoundAt, IsLoaded as IsLoadedBoot}
+use Rattle.thy_boot.specs.Steps.{CanStep, Steps, StepsAt, action_at, action_of, Fails, TakesStep}
+use Rattle.thy_boot.proofs.ActLemmas.{steps_act, found_stays, steps_fill, failures_act, steps_come_nearer}
+use Rattle.thy_boot.proofs.FoundLemmas.{restored_is_kept, never_refused}
+use Rattle.thy_boot.proofs.GoOnLemmas.{sound_may_step}
+use Rattle.thy_boot.proofs.MoveLemmas.{kept_after}
+use Rattle.thy_view.proofs.StorableAt.{IsRecordable-at}
+use Rattle.thy_boot.proofs.SafeLemmas.{failures_move, read_failed}
+use Rattle.thy_boot.proofs.StartLemmas.{CanStart-origin}
+use Rattle.thy_boot.proofs.StepMoveLemmas.{steps_move}
+use Rattle.thy_scheme.specs.Boots.{boot_did, IsBooted, Loads, Restarts, Answers, BootsOn, BootFails}
+use Rattle.thy_scheme.specs.Scheme.{StaysOf, IsBooting, CanBoot}
+use Rattle.thy_shadow_image.specs.Places.{image_blocks}
+use Rattle.thy_shadow_image.specs.Layout.{decode_shadow, layout_of}
+use Rattle.thy_shadow_image.specs.Slots.{slot_fault}
+use Rattle.thy_shadow_image.proofs.FitLemmas.{slot_fits-cpu}
+use Rattle.thy_pool.specs.Holding.{works, copies_agree}
+use Rattle.thy_pool.specs.State.{State, IsSoundState}
+use Rattle.thy_repool.specs.Filling.{filling_shadow}
+use Rattle.thy_repool.proofs.LawLemmas.{pool_is_listed}
+use Rattle.thy_shadow_laws.specs.Shadow.{Shadow as Value}
+use Rattle.thy_shadow_laws.proofs.SealLemmas.{blocks_held}
+use Rattle.thy_shadow_laws.proofs.StoreLemmas.{down_after}
+use Rattle.thy_shadow_scheme.specs.Boots.{Boots, IsUnused, booted, step_of, result_of, view_at, has_read_at}
+use Rattle.thy_shadow_scheme.specs.Scheme.{shadow_scheme}
+use Rattle.thy_shadow_scheme.proofs.BootLemmas.{view-is, loads-first}
+use Rattle.thy_shadow_scheme.proofs.CallLemmas.{after-queue}
+use Rattle.thy_shadow_scheme.proofs.EndLemmas.{restored_sound, loaded_sound}
+use Rattle.thy_shadow_scheme.proofs.StayLemmas.{of-same}
+
+no-false : false ≡ true → ⊥
+no-false e = cc
+
+-- what a step returns is what a cycle did
+did-answered : (a : BootStep) → boot_did (step_of a) ≡ did_of a
+did-answered Reading = refl
+did-answered IsLoading = refl
+did-answered HasLoaded = refl
+did-answered (Restarted cpu epoch) = refl
+did-answered (Refused bad) = refl
+
+-- ---- the DRAM
+
+-- one write more is queued at most
+queued-by : (n new : Device) (old now : Contents) → ActsOnDram n new old now → now.queued ≤ old.queued + 1
+queued-by n new old now acts = elim acts as (λ _. now.queued ≤ old.queued + 1) [
+  | inl same ↦ omega (arith, ap (λ (d : Contents). d.queued) same)
+  | inr write ↦ omega (arith, ap (λ (d : Contents). d.queued) write.left)
+]
+
+-- ---- how far it is
+
+-- only a new boot has read nothing, and it has no more left than any
+read-on : (b d : Booting) (q r : Stage) → d.p ≡ b.p → boot_left filling_shadow d r + 1 ≤ boot_left filling_shadow b q → has_read_at r ≡ true
+read-on b d q (Reads Unread) same less = absurd (most q (subst (λ (p : Parameters). boot_left filling_shadow (record d { p = p }) (Reads Unread) + 1 ≤ boot_left filling_shadow b q) same less)) where
+  most : (q : Stage) → boot_left filling_shadow (record d { p = b.p }) (Reads Unread) + 1 ≤ boot_left filling_shadow b q → ⊥
+  most (Reads Unread) l = omega (arith, l)
+  most (Reads ReadsHeader) l = omega (arith, l)
+  most (Reads (ReadsSlot next)) l = omega (arith, l)
+  most (Reads (Fills k)) l = omega (arith, l)
+  most (Reads (Refusing bad)) l = omega (arith, l)
+  most (Loading (Home c)) l = omega (arith, l)
+  most (Loading (Slot k)) l = omega (arith, l)
+  most (Loading Header) l = omega (arith, l)
+  most (Loading Settle) l = omega (arith, l)
+  most (Loading Commit) l = omega (arith, l)
+  most (Loading Confirm) l = omega (arith, l)
+  most (Over end) l = omega (arith, l)
+read-on b d q (Reads ReadsHeader) same less = refl
+read-on b d q (Reads (ReadsSlot next)) same less = refl
+read-on b d q (Reads (Fills k)) same less = refl
+read-on b d q (Reads (Refusing bad)) same less = refl
+read-on b d q (Loading issue) same less = refl
+read-on b d q (Over end) same less = refl
+
+not-unread : (q : Stage) → has_read_at q ≡ true → q ≡ Reads Unread → ⊥
+not-unread q read is = no-false (sym (ap has_read_at is) ∙ read)
+
+-- the mark that is kept stays
+kept-on : (f : First) (q : Stage) (n : Device) (g : BootImages) → (images_after f q n g).kept ≡ g.kept
+kept-on f (Reads r) n g = refl
+kept-on f (Loading issue) n g = kept_after f issue n g
+kept-on f (Over end) n g = refl
+
+-- ---- what was seen before the boot was over
+
+module _ (o : Origin) (g : BootImages) (n : Device) (b : Booting) (c : State) where
+  unwritten : (kept : Option Mark) → (finding_view o.start.count kept).written ≡ true → ⊥
+  unwritten None w = no-false w
+  unwritten (Some m) w = no-false w
+
+  -- if the commit block of loading was written, the run began without a checkpoint
+  abbrev WasLoading : Stage → Type 0
+  WasLoading q = (o.kept ≡ None) × (seen_at o g.kept q ≡ record (loading_view o.start.count) { written = true })
+
+  was-loading : (q : Stage) → IsGoing q → (seen_at o g.kept q).written ≡ true → IsKeeping o (layout_of o) (standing_in_boot o q g n) → WasLoading q
+  was-loading (Reads r) going w keeps = absurd (unwritten g.kept w)
+  was-loading (Loading issue) going w keeps =
+      (loads-first o g n b c issue keeps.told, ap (λ (t : Bool). record (loading_view o.start.count) { written = t }) w)
+  was-loading (Over end) going w keeps = absurd going
+
+  found-mark : (kept : Option Mark) (m : Mark) → (finding_view o.start.count kept).done ≡ Some m → finding_view o.start.count kept ≡ boot_view (Some m) None
+  found-mark None m d = cc
+  found-mark (Some k) m d = ap (λ (x : Option Mark). boot_view x None) d
+
+  none-done : (m : Mark) → None ≡ Some m → ⊥
+  none-done m d = cc
+
+  -- if a checkpoint was found, that is all that was seen
+  was-found : (q : Stage) (m : Mark) → IsGoing q → (seen_at o g.kept q).done ≡ Some m → seen_at o g.kept q ≡ boot_view (Some m) None
+  was-found (Reads r) m going d = found-mark g.kept m d
+  was-found (Loading issue) m going d = absurd (none-done m d)
+  was-found (Over end) m going d = absurd going
+
+-- ---- a step that was taken
+
+module _ (o : Origin) (s : Value) (n : Device) (booting : IsBooting shadow_scheme o s n) (new : Device) (d : Booting) (e : State)
+    (steps : Steps filling_shadow o.start n s.boot s.pool new d e) (boot : IsBoot filling_shadow d) (state : IsSoundState e) where
+  abbrev boots : Boots o s n
+  boots = booting.boots
+
+  abbrev b : Booting
+  b = s.boot
+
+  abbrev g : BootImages
+  g = boots.images
+
+  abbrev h : BootImages
+  h = images_after (first_of filling_shadow o) b.stage n g
+
+  abbrev t : Value
+  t = booted d e s
+
+  moved : IsMoved filling_shadow o g n b new d e
+  moved = steps_move filling_shadow pool_is_listed o g n b s.pool new d e boots.origin boots.sound steps
+
+  filled : ActsOnDram n new s.pool.dram e.dram × (e.dram.room ≡ s.pool.dram.room)
+  filled = steps_fill filling_shadow pool_is_listed o.start n b s.pool new d e steps
+
+  same : d.p ≡ b.p
+  same = moved.sound.geometry ∙ sym boots.sound.geometry
+
+  kept : h.kept ≡ g.kept
+  kept = kept-on (first_of filling_shadow o) b.stage n g
+
+  never : (bad : BadImage) → d.stage ≢ Reads (Refusing bad)
+  never bad = never_refused filling_shadow pool_is_listed o h new d e bad moved.sound
+
+  nearer : boot_left filling_shadow d d.stage + 1 ≤ boot_left filling_shadow b b.stage
+  nearer =
+      steps_come_nearer filling_shadow pool_is_listed o.start n b s.pool new d e
+      (sound_may_step filling_shadow pool_is_listed o g n b s.pool boots.origin boots.sound boots.going booting.up) steps
+      (λ bad. never_refused filling_shadow pool_is_listed o g n b s.pool bad boots.sound)
+
+  read : has_read_at d.stage ≡ true
+  read = read-on b d b.stage d.stage same nearer
+
+  acts : Acts (did_of (answer_of filling_shadow d)) n new
+  acts = steps_act filling_shadow pool_is_listed o.start n b s.pool new d e steps
+
+  up : new.down ≡ false
+  up = ap (λ (x : Device). x.down) acts.left ∙ down_after acts.action n ∙ booting.up
+
+  room : e.dram.room ≡ o.geometry.dramq
+  room = filled.1 ∙ boots.unused.room
+
+  unused : IsUnused o t
+  unused = record {
+    state = state;
+    pool = moved.sound.same_p;
+    engine = boots.unused.engine;
+    progress = boots.unused.progress;
+    idle = boots.unused.idle;
+    room = room;
+    sealed_storeless = boots.unused.sealed_storeless;
+  }
+
+  abbrev boots-on : IsGoing d.stage → Boots o t new
+  boots-on going = record {
+    origin = boots.origin;
+    images = h;
+    sound = moved.sound;
+    going = going;
+    boot = boot;
+    unused = unused;
+    unread = λ u. absurd (not-unread d.stage read u);
+    storeless = boots.storeless;
+  }
+
+  before : view_at o b.stage n ≡ seen_at o g.kept b.stage
+  before = view-is o s n boots
+
+  abbrev v : View
+  v = seen_at o g.kept b.stage
+
+  -- ---- it continues
+
+  goes-on : (q : Stage) → d.stage ≡ q → IsGoing q → BootsTo v (seen_at o g.kept q) → Boots o t new × BootsTo (view_at o b.stage n) (view_at o d.stage new)
+  goes-on q is going to =
+      let on : Boots o t new = boots-on (subst (λ (x : Stage). IsGoing x) (sym is) going) in
+      let now : view_at o d.stage new ≡ seen_at o g.kept q
+      = view-is o t new on ∙ ap (λ (k : Option Mark). seen_at o k d.stage) kept ∙ ap (λ (x : Stage). seen_at o g.kept x) is in (
+        on,
+        subst (λ (x : View). BootsTo x (view_at o d.stage new)) (sym before) (subst (λ (x : View). BootsTo v x) (sym now) to),
+      )
+
+  -- ---- it is over
+
+  blocks_are : length new.image ≡ image_blocks o.geometry → copies_agree e new ≡ true → (shadow_scheme.holding t new).blocks ≡ works e new
+  blocks_are sized copies = blocks_held e new (sized ∙ ap image_blocks (sym moved.sound.same_p)) up copies
+
+  loaded : d.stage ≡ Over Loaded → Loads shadow_scheme o s n t new
+  loaded is =
+      let shows = subst (λ (x : Stage). CoreStep o v (did_of (answer_at filling_shadow x d)) (seen_at o g.kept x)) is moved.shows in
+      let was : WasLoading o g n b s.pool b.stage = was-loading o g n b s.pool b.stage boots.going shows.written boots.sound.keeps in
+      let keeps : IsKeeping o (layout_of o) (standing_in_boot o (Over Loaded) h new)
+      = subst (λ (x : Stage). IsKeeping o (layout_of o) (standing_in_boot o x h new)) is moved.sound.keeps in
+      let far : IsLoadedBoot filling_shadow o h new e = subst (λ (x : Stage). IsSoundAt filling_shadow o x h new d e) is moved.sound.so_far in
+      let ended = loaded_sound o h new d s e boots.origin moved.sound.same_p boots.unused.engine boots.unused.progress boots.unused.idle room keeps far in
+      record {
+        fresh = was.0;
+        view = before ∙ was.1;
+        booted = record {
+          sound = ended.0;
+          state = ap (state_from o.geometry (cpu_of o.start)) (blocks_are keeps.sized ended.0.copies) ∙ ended.1;
+          count = refl;
+          recordable = (CanStart-origin o boots.origin).recordable;
+          closed = refl;
+          whole = refl;
+          storeless = boots.storeless;
+        };
+      }
+
+  restarted : d.stage ≡ Over Restored → Restarts shadow_scheme o (cpu_of_record (slot_read filling_shadow d)) (epoch_of d.commit) s n t new
+  restarted is =
+      let epoch : ℕ = epoch_of d.commit in
+      let slot : List Block = slot_read filling_shadow d in
+      let cpu : CpuState = cpu_of_record slot in
+      let shows = subst (λ (x : Stage). CoreStep o v (did_of (answer_at filling_shadow x d)) (seen_at o g.kept x)) is moved.shows in
+      let r = restored_is_kept filling_shadow pool_is_listed o h new d e moved.sound is in
+      let m : Mark = r.0 in
+      let keeps : Keeps o (layout_of o) new (Kept h.before) (Some m) None = r.3 in
+      let found : IsRestored filling_shadow new d e = r.5 in
+      let far : IsRecovering filling_shadow h new d e = subst (λ (x : Stage). IsSoundAt filling_shadow o x h new d e) is moved.sound.so_far in
+      let made : state_from d.p cpu (works e new) ≡ at o m.count = r.4 in
+      let made_state : state_from o.geometry cpu (works e new) ≡ at o m.count
+      = ap (λ (p : Parameters). state_from p cpu (works e new)) (sym moved.sound.geometry) ∙ made in
+      let count : cpu.count ≡ m.count
+      = sym (pool_is_listed.counts o.geometry slot (works e new)) ∙ ap (λ (x : Plain). x.count) made_state ∙ keeps.told.counted in
+      let is_mark : m ≡ mark epoch cpu.count
+      = ap (λ (x : ℕ). mark x m.count) r.2 ∙ ap (mark epoch) (sym count) in
+      let ended = restored_sound o m h.before new d s e moved.sound.geometry moved.sound.same_p boots.unused.engine boots.unused.progress boots.unused.idle room
+      far.before_is far.read.settled keeps found made in
+      let fits = slot_fits-cpu o.geometry ceiling epoch slot
+      (subst (λ (p : Parameters). slot_fault p ceiling epoch slot ≡ None) moved.sound.geometry found.slot_fits) in
+      let over : IsBooted shadow_scheme o m cpu t new = record {
+        sound = ended;
+        state = ap (state_from o.geometry cpu) (blocks_are keeps.sized ended.copies) ∙ made_state;
+        count = count;
+        recordable = IsRecordable-at o m.count cpu (works e new) boots.origin made_state fits.1 fits.0;
+        closed = refl;
+        whole = refl;
+        storeless = boots.storeless;
+      } in
+      record {
+        view = before ∙ was-found o g n b s.pool b.stage (mark epoch cpu.count) boots.going shows.done;
+        booted = subst (λ (x : Mark). IsBooted shadow_scheme o x cpu t new) is_mark over;
+      }
+
+  -- ---- by the result
+
+  answers-at : (q : Stage) → d.stage ≡ q → CoreStep o v (did_of (answer_at filling_shadow q d)) (seen_at o g.kept q)
+      → Answers shadow_scheme o (step_of (answer_at filling_shadow q d)) s n t new
+  answers-at (Reads Unread) is shows = goes-on (Reads Unread) is tt shows.1
+  answers-at (Reads ReadsHeader) is shows = goes-on (Reads ReadsHeader) is tt shows.1
+  answers-at (Reads (ReadsSlot next)) is shows = goes-on (Reads (ReadsSlot next)) is tt shows.1
+  answers-at (Reads (Fills k)) is shows = goes-on (Reads (Fills k)) is tt shows.1
+  answers-at (Reads (Refusing bad)) is shows = absurd (never bad is)
+  answers-at (Loading issue) is shows = goes-on (Loading issue) is tt shows.1
+  answers-at (Over Restored) is shows = restarted is
+  answers-at (Over Loaded) is shows = loaded is
+
+  queue-by : (q : Stage) → StepsAt filling_shadow q o.start n b s.pool new d e
+      → length new.queue + e.dram.queued ≤ length n.queue + s.pool.dram.queued + 1
+  queue-by (Reads r) on = omega (arith, queued-by n new s.pool.dram e.dram filled.0, ap (λ (x : Device). length x.queue) on.device)
+  queue-by (Loading issue) l =
+      omega (
+        arith,
+        after-queue (issue_action (filling_shadow.first b.p o.start) issue) n,
+        ap (λ (x : Device). length x.queue) l.device,
+        ap (λ (x : State). x.dram.queued) l.control,
+      )
+  queue-by (Over end) l = absurd l
+
+  pub boots_on : BootsOn shadow_scheme o (step_of (answer_of filling_shadow d)) s n t new
+  boots_on = record {
+    answers = answers-at d.stage refl moved.shows;
+    acts = subst (λ (x : Did). Acts x n new) (sym (did-answered (answer_of filling_shadow d))) acts;
+    dram = filled.0;
+    queue = queue-by b.stage steps;
+    nearer = nearer;
+    read = read;
+    still = λ m found current.
+        found_stays filling_shadow pool_is_listed o g.kept m n b s.pool new d e (sym (ap (λ (x : View). x.done) before) ∙ found) steps;
+  }
+
+-- ---- one that failed
+
+-- if a checkpoint was found a step reads, and one that failed wrote nothing
+found-reads : (o : Origin) (kept : Option Mark) (m : Mark) (b : Booting) (c : State) (n new : Device) (q : Stage) → (seen_at o kept q).done ≡ Some m
+    → FailsTo (action_at filling_shadow q o.start b c) n new → HasFailed n new
+found-reads o kept m b c n new (Reads r) done f = read_failed filling_shadow pool_is_listed b c r n new f
+found-reads o kept m b c n new (Loading issue) done f = let both : None ≡ Some m = done in absurd (cc)
+found-reads o kept m b c n new (Over end) done f = absurd f
+
+module _ (o : Origin) (s : Value) (n : Device) (booting : IsBooting shadow_scheme o s n) (new : Device) where
+  boot_fails : Fails filling_shadow o.start s.boot s.pool n new → IsFramed n new → BootFails shadow_scheme o s n new
+  boot_fails fails framed =
+      let boots : Boots o s n = booting.boots in
+      let seen : View = seen_at o boots.images.kept s.boot.stage in
+      let action : Action = action_of filling_shadow o.start s.boot s.pool in
+      let safe : Safe decode_shadow o seen.done (doubt_after_fault action seen) new
+      = (failures_move filling_shadow pool_is_listed o boots.images n s.boot s.pool new boots.origin boots.sound boots.going fails framed).safe in
+      let answer : BootStep = failed_answer s.boot.stage in
+      record {
+        step = step_of answer;
+        acted = record {
+          action = action;
+          asked = subst (λ (x : Did). Asks x action) (sym (did-answered answer))
+              (failures_act filling_shadow pool_is_listed o.start s.boot s.pool n new fails);
+          failed = fails;
+        };
+        safe = subst (λ (x : View). Safe decode_shadow o x.done (doubt_after_fault action x) new) (sym (view-is o s n boots)) safe;
+        still = λ m found current.
+            found-reads o boots.images.kept m s.boot s.pool n new s.boot.stage (sym (ap (λ (x : View). x.done) (view-is o s n boots)) ∙ found) fails;
+      }
+
+-- ---- by the boot's result
+
+module _ (o : Origin) (s : Value) (n : Device) (booting : IsBooting shadow_scheme o s n) (new : Device) (d : Booting) (e : State)
+    (boot : IsBoot filling_shadow d) (state : IsSoundState e) where
+  abbrev Took : Result BootStep NvmError → Type 0
+  Took r = TakesStep filling_shadow r o.start n s.boot s.pool new d e
+
+  pub boots-by : (r : Result BootStep NvmError) → IfOk r (λ a. a ≡ answer_of filling_shadow d) → Took r
+      → IfOk (result_of r) (λ step. BootsOn shadow_scheme o step s n (booted d e s) new)
+  boots-by (Ok a) is took =
+      subst (λ (x : BootStep). BootsOn shadow_scheme o (step_of x) s n (booted d e s) new) (sym is)
+      (boots_on o s n booting new d e took.steps boot state)
+  boots-by (Err x) is took = tt
+
+  pub boot-fails-by : (r : Result BootStep NvmError) → Took r → OnErr (result_of r) (BootFails shadow_scheme o s n new)
+  boot-fails-by (Ok a) took = tt
+  boot-fails-by (Err x) took = boot_fails o s n booting new took.err took.frame
+
+pub cause-by : (r : Result BootStep NvmError) (old new : ℕ) → CountsFault r old new → CountsFault (result_of r) old new
+cause-by (Ok a) old new h = h
+cause-by (Err x) old new h = h
+
+pub of-by : (r : Result BootStep NvmError) (s t : Value) → OnErr r (t.pool ≡ s.pool) → OnErr (result_of r) (StaysOf shadow_scheme s t)
+of-by (Ok a) s t as_was = tt
+of-by (Err x) s t as_was = of-same s t as_was
+
+-- with the start of a run
+pub took-for : (o : Origin) (start : Start) → Begins o start → (r : Result BootStep NvmError) (n : Device) (b : Booting) (c : State) (new : Device) (d : Booting) (e : State)
+    → TakesStep filling_shadow r (state_of start.state) n b c new d e → TakesStep filling_shadow r o.start n b c new d e
+took-for o start begins r n b c new d e took = subst (λ (x : Plain). TakesStep filling_shadow r x n b c new d e) (sym begins.state) took
+
+pub may-step : (start : Start) (s : Value) (n : Device) → CanBoot shadow_scheme start s n → CanStep filling_shadow (state_of start.state) n s.boot s.pool
+may-step start s n can =
+    let boots : Boots can.o s n = can.booting.boots in
+    subst (λ (x : Plain). CanStep filling_shadow x n s.boot s.pool) can.begins.state
+    (sound_may_step filling_shadow pool_is_listed can.o boots.images n s.boot s.pool boots.origin boots.sound boots.going can.booting.up)

@@ -1,0 +1,18 @@
+use Rattle.thy_shadow_scheme.proofs.StoreLemmas.{held_is_work, stores_keep, failed_stores_keep}
+use Rattle.thy_shadow_scheme.proofs.StayLemmas.{held_is_up, stays_over}
+use Rattle.thy_shadow_scheme.proofs.laws.what_is_held_stays.Goals as goal
+
+pub returns-clause-up : goal.returns-clause-up
+returns-clause-up c = held_is_up
+
+pub returns-clause-over : goal.returns-clause-over
+returns-clause-over c = stays_over
+
+pub returns-clause-works : goal.returns-clause-works
+returns-clause-works c = held_is_work
+
+pub returns-clause-stores : goal.returns-clause-stores
+returns-clause-stores c = stores_keep
+
+pub returns-clause-failed : goal.returns-clause-failed
+returns-clause-failed c = failed_stores_keep

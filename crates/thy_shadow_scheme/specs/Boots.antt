@@ -1,0 +1,97 @@
+-- Part of the claim.
+-- The boot of a run, and what is seen of it.
+use Rattle.std.specs.Prelude.{◌≡◌, true, false, Bool, Result, Ok, Err}
+use Rattle.thy_base.specs.declared.config.Parameters.{Parameters}
+use Rattle.thy_base.specs.declared.nvm.NvmError.{NvmError}
+use Rattle.thy_base.specs.Device.{Device}
+use Rattle.thy_base.specs.Geometry.{IsInRange}
+use Rattle.thy_dram.specs.Contents.{Contents}
+use Rattle.thy_view.specs.declared.view.View.{View}
+use Rattle.thy_view.specs.Booting.{loading_view, view_of_image}
+use Rattle.thy_view.specs.Kind.{IsDramOf}
+use Rattle.thy_view.specs.Origin.{Origin, IsOrigin}
+use Rattle.thy_view.specs.Safe.{ceiling}
+use Rattle.thy_boot.specs.declared.stage.BootStep.{BootStep}
+use Rattle.thy_boot.specs.declared.stage.BootStep.TheVariants.{Reading, Loading as IsLoading, Loaded as HasLoaded, Restarted, Refused}
+use Rattle.thy_boot.specs.declared.stage.Stage.{Stage}
+use Rattle.thy_boot.specs.declared.stage.Stage.TheVariants.{Reads, Loads}
+use Rattle.thy_boot.specs.declared.stage.ReadStage.TheVariants.{Unread}
+use Rattle.thy_boot.specs.Boot.{Booting, IsBoot, new_boot}
+use Rattle.thy_boot.specs.Laws.{IsGoing}
+use Rattle.thy_boot.specs.Shows.{is_written}
+use Rattle.thy_boot.specs.Sound.{BootImages, IsSoundBoot as IsBootOf}
+use Rattle.thy_scheme.specs.declared.boot_step.BootStep.{BootStep as SchemeStep}
+use Rattle.thy_scheme.specs.declared.boot_step.BootStep.TheVariants.{GoesOn, Loaded as SchemeLoaded, Restarted as SchemeRestarted, Refused as SchemeRefused}
+use Rattle.thy_shadow_image.specs.Layout.{decode_shadow}
+use Rattle.thy_pool.specs.Items.{is_under_way}
+use Rattle.thy_pool.specs.Progress.{IsSoundProgress}
+use Rattle.thy_pool.specs.State.{State, IsSoundState}
+use Rattle.thy_pool.specs.Stores.{new_state}
+use Rattle.thy_repool.specs.Filling.{filling_shadow}
+use Rattle.thy_shadow_laws.specs.Shadow.{Shadow}
+
+-- pool and engine are of the run's geometry, and nothing was sealed yet
+pub record IsUnused (o : Origin) (s : Shadow) : Type 0 where
+  pub state : IsSoundState s.pool
+  pub pool : s.pool.p ≡ o.geometry
+  pub engine : s.engine.p ≡ o.geometry
+  pub progress : IsSoundProgress s.engine
+  pub idle : is_under_way s.engine.next ≡ false
+  pub room : s.pool.dram.room ≡ o.geometry.dramq
+  pub sealed_storeless : s.sealed_storeless ≡ false
+
+-- a boot of a run that is not over, of a scheme in which nothing was sealed or stored; before it has read, nothing is
+-- queued in the DRAM
+pub record Boots (o : Origin) (s : Shadow) (n : Device) : Type 0 where
+  pub origin : IsOrigin o
+  pub images : BootImages
+  pub sound : IsBootOf filling_shadow o images n s.boot s.pool
+  pub going : IsGoing s.boot.stage
+  pub boot : IsBoot filling_shadow s.boot
+  pub unused : IsUnused o s
+  pub unread : s.boot.stage ≡ Reads Unread → s.pool.dram.queued ≡ 0
+  pub storeless : s.storeless ≡ true
+
+-- what is seen: while it loads, whether the commit block was written, and before what the image means
+abbrev pub view_at : Origin → Stage → Device → View
+view_at o (Loads issue) n = record (loading_view o.start.count) { written = is_written issue }
+view_at o stage n = view_of_image o.start.count (decode_shadow o.geometry ceiling n.image)
+
+-- the commit block was read
+abbrev pub has_read_at : Stage → Bool
+has_read_at (Reads Unread) = false
+has_read_at stage = true
+
+-- there is no checkpoint
+abbrev pub loads_at : Stage → Bool
+loads_at (Loads issue) = true
+loads_at stage = false
+
+-- shadow paging after a step of the boot; with a checkpoint restored nothing is left to do
+abbrev pub booted : Booting → State → Shadow → Shadow
+booted boot pool s = record s { pool = pool; boot = boot }
+
+-- what a step of the boot returns, as a scheme returns it; the same if the NVM may have failed
+abbrev pub step_of : BootStep → SchemeStep
+step_of Reading = GoesOn
+step_of IsLoading = GoesOn
+step_of HasLoaded = SchemeLoaded
+step_of (Restarted cpu epoch) = SchemeRestarted cpu epoch
+step_of (Refused bad) = SchemeRefused bad
+
+abbrev pub result_of : Result BootStep NvmError → Result SchemeStep NvmError
+result_of (Ok step) = Ok (step_of step)
+result_of (Err e) = Err e
+
+-- power has just come on
+pub record IsPowered (p : Parameters) (s : Shadow) : Type 0 where
+  pub dram : Contents
+  pub is_dram : IsDramOf p dram
+  pub pool : s.pool ≡ new_state p dram
+  pub state : IsInRange p → IsSoundState s.pool
+  pub boot : s.boot ≡ new_boot filling_shadow p
+  pub engine : s.engine.p ≡ p
+  pub progress : IsSoundProgress s.engine
+  pub idle : is_under_way s.engine.next ≡ false
+  pub storeless : s.storeless ≡ true
+  pub sealed_storeless : s.sealed_storeless ≡ false
