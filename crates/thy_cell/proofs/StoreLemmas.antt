@@ -1,16 +1,16 @@
 -- What is known where a rule of a store applies, and that it leaves the entries sound.
 use Rattle.std.proofs.Common.{◌≡◌, ◌≢◌, Bool, true, false, refl, sym, ◌∙◌}
-use Rattle.thy_tables.specs.declared.page_entry.PttEntry.{PttEntry}
-use Rattle.thy_tables.specs.declared.block_entry.Version.{Version}
-use Rattle.thy_tables.specs.declared.block_entry.Version.TheVariants.{Out, Alt}
-use Rattle.thy_tables.specs.declared.block_entry.Pending.{Pending}
-use Rattle.thy_tables.specs.declared.block_entry.Pending.TheVariants.{Settled, FromBuffer, FromAlternate}
-use Rattle.thy_tables.specs.declared.block_entry.Working.{Working}
-use Rattle.thy_tables.specs.declared.block_entry.Working.TheVariants.{NoWork, InNvm, InBuffer}
+use Rattle.thy_table.specs.declared.page_entry.PttEntry.{PttEntry}
+use Rattle.thy_table.specs.declared.block_entry.Version.{Version}
+use Rattle.thy_table.specs.declared.block_entry.Version.TheVariants.{Out, Alt}
+use Rattle.thy_table.specs.declared.block_entry.Pending.{Pending}
+use Rattle.thy_table.specs.declared.block_entry.Pending.TheVariants.{Settled, FromBuffer, FromAlternate}
+use Rattle.thy_table.specs.declared.block_entry.Working.{Working}
+use Rattle.thy_table.specs.declared.block_entry.Working.TheVariants.{NoWork, InNvm, InBuffer}
 use Rattle.thy_cell.specs.declared.cell.Cell.{Cell}
 use Rattle.thy_cell.specs.declared.cell.StoreRule.{StoreRule}
 use Rattle.thy_cell.specs.declared.cell.StoreRule.TheVariants.{ToFrame, ToBuffer, ToNvm, PendingFirst}
-use Rattle.thy_tables.specs.PageEntry.{is_framed}
+use Rattle.thy_table.specs.PageEntry.{is_framed}
 use Rattle.thy_cell.specs.Cells.{agree}
 use Rattle.thy_cell.specs.Sound.{IsSoundPage, IsSoundCell, IsWhole}
 use Rattle.thy_cell.specs.Rules.{into_buffer, rule_of, store_rule, after_store}

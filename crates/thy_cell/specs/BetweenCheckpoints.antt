@@ -3,11 +3,11 @@ use Rattle.std.specs.Prelude.{◌≡◌, ◌≢◌, ℕ, ◌%◌, ◌<◌, Bool,
 use Rattle.thy_base.specs.declared.block.Block.{Block}
 use Rattle.thy_base.specs.declared.config.Parameters.{Parameters}
 use Rattle.thy_base.specs.declared.place.Place.{Place}
-use Rattle.thy_tables.specs.declared.block_entry.Pending.TheVariants.{Settled}
-use Rattle.thy_tables.specs.declared.block_entry.Working.TheVariants.{NoWork, InBuffer}
+use Rattle.thy_table.specs.declared.block_entry.Pending.TheVariants.{Settled}
+use Rattle.thy_table.specs.declared.block_entry.Working.TheVariants.{NoWork, InBuffer}
 use Rattle.thy_cell.specs.declared.cell.Cell.{Cell}
-use Rattle.thy_tables.specs.BlockEntry.{new_entry, listed_entry}
-use Rattle.thy_tables.specs.PageEntry.{promoted_page, no_page, listed_page, is_framed}
+use Rattle.thy_table.specs.BlockEntry.{new_entry, listed_entry}
+use Rattle.thy_table.specs.PageEntry.{promoted_page, no_page, listed_page, is_framed}
 use Rattle.thy_cell.specs.Cells.{seat_of, frame_at, penult, target, last, work}
 use Rattle.thy_cell.specs.Sound.{IsWithin, IsSoundCell, Holds, Puts}
 use Rattle.thy_cell.specs.Rules.{after_copy}

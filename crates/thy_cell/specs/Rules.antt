@@ -1,16 +1,16 @@
 -- Where a block is stored, and what a store, and a copy that may have to come first, make of its entries.
 use Rattle.std.specs.Prelude.{Bool, true, false}
 use Rattle.thy_base.specs.declared.place.Place.{Place}
-use Rattle.thy_tables.specs.declared.block_entry.Pending.{Pending}
-use Rattle.thy_tables.specs.declared.block_entry.Pending.TheVariants.{Settled, FromBuffer, FromAlternate}
-use Rattle.thy_tables.specs.declared.block_entry.Working.{Working}
-use Rattle.thy_tables.specs.declared.block_entry.Working.TheVariants.{NoWork, InNvm, InBuffer}
-use Rattle.thy_tables.specs.declared.page_entry.Site.TheVariants.{AtHome}
+use Rattle.thy_table.specs.declared.block_entry.Pending.{Pending}
+use Rattle.thy_table.specs.declared.block_entry.Pending.TheVariants.{Settled, FromBuffer, FromAlternate}
+use Rattle.thy_table.specs.declared.block_entry.Working.{Working}
+use Rattle.thy_table.specs.declared.block_entry.Working.TheVariants.{NoWork, InNvm, InBuffer}
+use Rattle.thy_table.specs.declared.page_entry.Site.TheVariants.{AtHome}
 use Rattle.thy_cell.specs.declared.cell.Cell.{Cell}
 use Rattle.thy_cell.specs.declared.cell.StoreRule.{StoreRule}
 use Rattle.thy_cell.specs.declared.cell.StoreRule.TheVariants.{ToFrame, ToBuffer, ToNvm, PendingFirst}
-use Rattle.thy_tables.specs.BlockEntry.{other_version}
-use Rattle.thy_tables.specs.PageEntry.{is_framed}
+use Rattle.thy_table.specs.BlockEntry.{other_version}
+use Rattle.thy_table.specs.PageEntry.{is_framed}
 use Rattle.thy_cell.specs.Cells.{seat_of, agree, frame_at, buffer_at, placed, target}
 
 -- into the buffer, once that has nothing left to copy

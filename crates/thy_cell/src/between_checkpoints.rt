@@ -4,7 +4,7 @@ ghost use Rattle.thy_cell.specs.Rules.{after_copy};
 ghost use Rattle.thy_cell.specs.Checkpoint.{with_filled, with_issued};
 
 use crate::Cell;
-use thy_tables::{BttEntry, Pending, PttEntry, WHOLE_PAGE};
+use thy_table::{BttEntry, Pending, PttEntry, WHOLE_PAGE};
 
 impl Cell {
     /// The block after its pending version was copied to its place.

@@ -1,11 +1,11 @@
 //! A block as both tables have it.
 ghost use Rattle.std.specs.Prelude.{◌≡◌};
 ghost use Rattle.thy_cell.specs.Cells.{agree as same_version, placed, frame_at, buffer_at, alternate_at, penult, target, last, work};
-ghost use Rattle.thy_tables.specs.BlockEntry.{other_version};
+ghost use Rattle.thy_table.specs.BlockEntry.{other_version};
 ghost use Rattle.thy_cell.specs.Rules.{store_rule, store_place, after_store};
 
 use thy_base::{PAGE_BLOCKS, Place};
-use thy_tables::{BttEntry, Pending, PttEntry, Site, Version, Working};
+use thy_table::{BttEntry, Pending, PttEntry, Site, Version, Working};
 
 /// A block of memory as both tables have it. A block or a page without an entry has one that is as a new
 /// one would be.

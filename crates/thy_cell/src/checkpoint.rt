@@ -2,7 +2,7 @@
 ghost use Rattle.std.specs.Prelude.{◌≡◌};
 ghost use Rattle.thy_cell.specs.Checkpoint.{sealed_entry, sealed_frame, sealed_page, committed_entry, committed_page};
 
-use thy_tables::{BttEntry, Pending, PttEntry, Site, Version, Working};
+use thy_table::{BttEntry, Pending, PttEntry, Site, Version, Working};
 
 /// A block's entry after a seal: by whether its page is framed, and whether few entries are free. What was stored
 /// becomes the version of the next checkpoint. If few entries are free, an entry that nothing was stored to gives its

@@ -6,11 +6,11 @@ use Rattle.thy_base.specs.Device.{Device}
 use Rattle.thy_table.specs.Listing.{Listing, entry_at, free_count, mapped, passes}
 use Rattle.thy_table.proofs.FirstLemmas.{none-first_from}
 use Rattle.thy_table.proofs.ListingLaws.{entry_at-mapped}
-use Rattle.thy_tables.specs.declared.block_entry.BttEntry.{BttEntry}
-use Rattle.thy_tables.specs.declared.block_entry.Pending.{Pending}
-use Rattle.thy_tables.specs.declared.block_entry.Pending.TheVariants.{Settled}
-use Rattle.thy_tables.specs.declared.block_entry.Working.TheVariants.{NoWork}
-use Rattle.thy_tables.specs.BlockEntry.{new_entry}
+use Rattle.thy_table.specs.declared.block_entry.BttEntry.{BttEntry}
+use Rattle.thy_table.specs.declared.block_entry.Pending.{Pending}
+use Rattle.thy_table.specs.declared.block_entry.Pending.TheVariants.{Settled}
+use Rattle.thy_table.specs.declared.block_entry.Working.TheVariants.{NoWork}
+use Rattle.thy_table.specs.BlockEntry.{new_entry}
 use Rattle.thy_cell.specs.Rules.{after_copy}
 use Rattle.thy_control.specs.Keys.{block_key}
 use Rattle.thy_control.specs.State.{State, AreSoundTables, cell_of}

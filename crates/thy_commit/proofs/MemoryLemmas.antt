@@ -12,7 +12,7 @@ use Rattle.thy_record.specs.Images.{memory_numbers}
 use Rattle.thy_record.specs.Issuing.{memory_read}
 use Rattle.thy_record.specs.Tables.{Tables, place_of}
 use Rattle.thy_record.proofs.EntryLemmas.{in_dram-place_of}
-use Rattle.thy_tables.specs.declared.block_entry.Pending.{Pending}
+use Rattle.thy_table.specs.declared.block_entry.Pending.{Pending}
 use Rattle.thy_cell.specs.declared.cell.Cell.{Cell}
 use Rattle.thy_cell.specs.Cells.{seat_of, frame_at, pending_at, target, last}
 use Rattle.thy_cell.specs.Checkpoint.{IsCopied}

@@ -9,7 +9,7 @@ use Rattle.thy_record.specs.Issuing.{IsToldBy}
 use Rattle.thy_record.specs.Tables.{Tables}
 use Rattle.thy_cell.specs.Rules.{after_copy}
 use Rattle.thy_cell.specs.Checkpoint.{page_issued}
-use Rattle.thy_tables.specs.declared.block_entry.Pending.TheVariants.{Settled}
+use Rattle.thy_table.specs.declared.block_entry.Pending.TheVariants.{Settled}
 use Rattle.thy_isa.specs.declared.state.CpuState.{CpuState}
 use Rattle.thy_view.specs.Origin.{Origin, at}
 use Rattle.thy_control.specs.State.{State, AreSoundTables, cell_of}

@@ -11,11 +11,11 @@ use Rattle.thy_record.specs.Tables.{Lists, IsTables, entry_at as table_entry}
 use Rattle.thy_table.specs.Listing.{Listing, IsListing, entry_at, lists, place_of, with_entry}
 use Rattle.thy_table.proofs.IndexLemmas.{lists-some}
 use Rattle.thy_table.proofs.ListingLaws.{entry_at-with_same, entry_at-with_other, place_of-none, IsListing-put, place_of-put, place_of-put_other}
-use Rattle.thy_tables.specs.declared.block_entry.BttEntry.{BttEntry}
-use Rattle.thy_tables.specs.declared.block_entry.Version.TheVariants.{Out, Alt}
-use Rattle.thy_tables.specs.declared.page_entry.PttEntry.{PttEntry}
-use Rattle.thy_tables.specs.BlockEntry.{new_entry, listed_entry}
-use Rattle.thy_tables.specs.PageEntry.{no_page, listed_page}
+use Rattle.thy_table.specs.declared.block_entry.BttEntry.{BttEntry}
+use Rattle.thy_table.specs.declared.block_entry.Version.TheVariants.{Out, Alt}
+use Rattle.thy_table.specs.declared.page_entry.PttEntry.{PttEntry}
+use Rattle.thy_table.specs.BlockEntry.{new_entry, listed_entry}
+use Rattle.thy_table.specs.PageEntry.{no_page, listed_page}
 use Rattle.thy_switch.specs.Counts.{Tally, most, with_last}
 use Rattle.thy_cell.specs.declared.cell.Cell.{Cell}
 use Rattle.thy_cell.specs.Sound.{IsSoundCell}

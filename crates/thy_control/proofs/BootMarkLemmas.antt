@@ -2,11 +2,11 @@
 use Rattle.std.proofs.Common.{◌≡◌, ℕ, ◌<◌, true, false, length, refl, sym, ◌∙◌, ap, inl, inr, arith, Option, Some, None}
 use Rattle.std.proofs.lemmas.Bool.{cases_lt, and_parts}
 use Rattle.thy_table.specs.Listing.{Listing, entry_at, passes}
-use Rattle.thy_tables.specs.declared.block_entry.BttEntry.{BttEntry}
-use Rattle.thy_tables.specs.declared.block_entry.Working.TheVariants.{NoWork}
-use Rattle.thy_tables.specs.declared.page_entry.PttEntry.{PttEntry}
-use Rattle.thy_tables.specs.BlockEntry.{listed_entry}
-use Rattle.thy_tables.specs.PageEntry.{listed_page}
+use Rattle.thy_table.specs.declared.block_entry.BttEntry.{BttEntry}
+use Rattle.thy_table.specs.declared.block_entry.Working.TheVariants.{NoWork}
+use Rattle.thy_table.specs.declared.page_entry.PttEntry.{PttEntry}
+use Rattle.thy_table.specs.BlockEntry.{listed_entry}
+use Rattle.thy_table.specs.PageEntry.{listed_page}
 use Rattle.thy_control.specs.declared.overlay.WorkCounts.{WorkCounts}
 use Rattle.thy_control.specs.Boot.{IsBooting, with_listed_block, with_listed_page}
 use Rattle.thy_control.specs.Holding.{is_promoted}

@@ -4,15 +4,15 @@ use Rattle.std.proofs.lemmas.Bool.{cases_eq}
 use Rattle.thy_base.specs.declared.block.Block.{Block}
 use Rattle.thy_base.specs.Device.{Device}
 use Rattle.thy_table.specs.Listing.{free_count}
-use Rattle.thy_tables.specs.declared.block_entry.BttEntry.{BttEntry}
-use Rattle.thy_tables.specs.declared.block_entry.Pending.TheVariants.{FromBuffer}
-use Rattle.thy_tables.specs.declared.page_entry.PttEntry.{PttEntry}
+use Rattle.thy_table.specs.declared.block_entry.BttEntry.{BttEntry}
+use Rattle.thy_table.specs.declared.block_entry.Pending.TheVariants.{FromBuffer}
+use Rattle.thy_table.specs.declared.page_entry.PttEntry.{PttEntry}
 use Rattle.thy_cell.specs.declared.cell.Cell.{Cell}
 use Rattle.thy_cell.specs.declared.cell.StoreRule.{StoreRule}
 use Rattle.thy_cell.specs.declared.cell.StoreRule.TheVariants.{ToFrame, ToBuffer, ToNvm, PendingFirst}
 use Rattle.thy_cell.specs.Cells.{agree}
 use Rattle.thy_cell.specs.Rules.{after_store}
-use Rattle.thy_tables.specs.PageEntry.{is_framed}
+use Rattle.thy_table.specs.PageEntry.{is_framed}
 use Rattle.thy_control.specs.Once.{KeepsCheckpointWork}
 use Rattle.thy_control.specs.Rules.{with_block, with_cell, rule_for, cell_before, devices_after, state_after}
 use Rattle.thy_control.specs.State.{State, cell_of}

@@ -7,10 +7,10 @@ use Rattle.thy_base.specs.Geometry.{memory_blocks}
 use Rattle.thy_base.specs.Store.{page_of}
 use Rattle.thy_table.specs.Listing.{Listing, IsListing, entry_at, mapped}
 use Rattle.thy_table.proofs.ListingLaws.{entry_at-mapped, IsListing-mapped}
-use Rattle.thy_tables.specs.declared.block_entry.BttEntry.{BttEntry}
-use Rattle.thy_tables.specs.declared.page_entry.PttEntry.{PttEntry}
-use Rattle.thy_tables.specs.BlockEntry.{new_entry}
-use Rattle.thy_tables.specs.PageEntry.{no_page, is_framed}
+use Rattle.thy_table.specs.declared.block_entry.BttEntry.{BttEntry}
+use Rattle.thy_table.specs.declared.page_entry.PttEntry.{PttEntry}
+use Rattle.thy_table.specs.BlockEntry.{new_entry}
+use Rattle.thy_table.specs.PageEntry.{no_page, is_framed}
 use Rattle.thy_cell.specs.declared.cell.Cell.{Cell}
 use Rattle.thy_cell.specs.Cells.{penult, last, work}
 use Rattle.thy_cell.specs.Sound.{IsSoundCell, Holds}

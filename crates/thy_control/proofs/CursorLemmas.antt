@@ -7,12 +7,12 @@ use Rattle.thy_base.specs.Device.{Device}
 use Rattle.thy_base.specs.Store.{page_of}
 use Rattle.thy_table.specs.Listing.{Listing, entry_at, place_of, free_place, passes, with_entry, added_at, next_from}
 use Rattle.thy_table.proofs.FirstLemmas.{first_from-first, none-first_from, first_from-position}
-use Rattle.thy_tables.specs.declared.block_entry.BttEntry.{BttEntry}
-use Rattle.thy_tables.specs.declared.block_entry.Working.TheVariants.{InBuffer}
-use Rattle.thy_tables.specs.declared.block_entry.Pending.TheVariants.{Settled}
-use Rattle.thy_tables.specs.declared.page_entry.PttEntry.{PttEntry}
-use Rattle.thy_tables.specs.BlockEntry.{new_entry, listed_entry}
-use Rattle.thy_tables.specs.PageEntry.{no_page, is_framed, listed_page, page_blocks}
+use Rattle.thy_table.specs.declared.block_entry.BttEntry.{BttEntry}
+use Rattle.thy_table.specs.declared.block_entry.Working.TheVariants.{InBuffer}
+use Rattle.thy_table.specs.declared.block_entry.Pending.TheVariants.{Settled}
+use Rattle.thy_table.specs.declared.page_entry.PttEntry.{PttEntry}
+use Rattle.thy_table.specs.BlockEntry.{new_entry, listed_entry}
+use Rattle.thy_table.specs.PageEntry.{no_page, is_framed, listed_page, page_blocks}
 use Rattle.thy_cell.specs.declared.cell.Cell.{Cell}
 use Rattle.thy_cell.specs.declared.cell.StoreRule.{StoreRule}
 use Rattle.thy_cell.specs.declared.cell.StoreRule.TheVariants.{ToFrame, ToBuffer, ToNvm, PendingFirst}

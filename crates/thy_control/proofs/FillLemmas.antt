@@ -2,8 +2,8 @@
 use Rattle.thy_control.specs.Seal.{block_is_framed}
 use Rattle.thy_control.specs.Overlay.{is_buffered, is_overlaid, overlaid, AreWorkCounts}
 use Rattle.thy_control.specs.declared.overlay.WorkCounts.{WorkCounts}
-use Rattle.thy_tables.specs.BlockEntry.{new_entry}
-use Rattle.thy_tables.specs.declared.block_entry.BttEntry.{BttEntry}
+use Rattle.thy_table.specs.BlockEntry.{new_entry}
+use Rattle.thy_table.specs.declared.block_entry.BttEntry.{BttEntry}
 use Rattle.std.specs.List.{count_by}
 use Rattle.std.proofs.Common.{length, ◌≡◌, ◌≢◌, ℕ, ◌+◌, ◌-◌, ◌*◌, ◌<◌, ◌≤◌, ◌%◌, ◌==◌, ◌&&◌, not, if◌then◌else◌, Bool, true, false, List, get_or, refl, sym, ◌∙◌, ap, subst, inl, inr, arith, Option, Some, None, Result, Ok, Err, OnOk, OnErr, [], ◌∷◌, suc}
 use Rattle.std.proofs.lemmas.Bool.{cases_eq, and_parts, eqb-true}
@@ -21,10 +21,10 @@ use Rattle.thy_place.proofs.PlaceLemmas.{AreSized-written_at}
 use Rattle.thy_table.specs.Listing.{Listing, IsListing, entry_at, lists, passes, place_of, with_entry}
 use Rattle.thy_table.proofs.IndexLemmas.{lists-key, one_if}
 use Rattle.thy_table.proofs.FirstLemmas.{first_from-first, none-first_from}
-use Rattle.thy_tables.specs.declared.block_entry.Working.{Working}
-use Rattle.thy_tables.specs.declared.block_entry.Working.TheVariants.{NoWork}
-use Rattle.thy_tables.specs.declared.page_entry.PttEntry.{PttEntry}
-use Rattle.thy_tables.specs.PageEntry.{no_page, is_framed, page_blocks}
+use Rattle.thy_table.specs.declared.block_entry.Working.{Working}
+use Rattle.thy_table.specs.declared.block_entry.Working.TheVariants.{NoWork}
+use Rattle.thy_table.specs.declared.page_entry.PttEntry.{PttEntry}
+use Rattle.thy_table.specs.PageEntry.{no_page, is_framed, page_blocks}
 use Rattle.thy_cell.specs.declared.cell.Cell.{Cell}
 use Rattle.thy_cell.specs.Cells.{seat_of, frame_at, penult, target, last, work}
 use Rattle.thy_cell.specs.Sound.{IsSoundCell, IsWithin, Holds, Puts}

@@ -5,10 +5,10 @@ use Rattle.std.proofs.lemmas.Bool.{cases_lt, lt-ltb}
 use Rattle.std.proofs.lemmas.List.{length-map, length-replicate, ext_get_or, get_or-replicate}
 use Rattle.thy_table.specs.Listing.{Listing, entry_at, free_count, mapped}
 use Rattle.thy_table.proofs.ListingLaws.{entry_at-mapped, free_count-mapped}
-use Rattle.thy_tables.specs.declared.block_entry.BttEntry.{BttEntry}
-use Rattle.thy_tables.specs.declared.block_entry.Version.{Version}
-use Rattle.thy_tables.specs.declared.block_entry.Working.{Working}
-use Rattle.thy_tables.specs.declared.block_entry.Working.TheVariants.{NoWork}
+use Rattle.thy_table.specs.declared.block_entry.BttEntry.{BttEntry}
+use Rattle.thy_table.specs.declared.block_entry.Version.{Version}
+use Rattle.thy_table.specs.declared.block_entry.Working.{Working}
+use Rattle.thy_table.specs.declared.block_entry.Working.TheVariants.{NoWork}
 use Rattle.thy_cell.specs.Checkpoint.{committed_entry, sealed_by, sealed_entry}
 use Rattle.thy_control.specs.State.{State, AreSoundTables}
 use Rattle.thy_control.specs.Seal.{is_few, block_is_framed, sealed_in, sealed_state}

@@ -12,7 +12,7 @@ use Rattle.thy_base.specs.Places.{image_blocks}
 use Rattle.thy_dram.specs.Contents.{Contents}
 use Rattle.thy_table.specs.Listing.{passes, empty_table, free_count}
 use Rattle.thy_table.proofs.IndexLemmas.{one_if}
-use Rattle.thy_tables.specs.declared.block_entry.BttEntry.{BttEntry}
+use Rattle.thy_table.specs.declared.block_entry.BttEntry.{BttEntry}
 use Rattle.thy_control.specs.State.{State, IsSized, work_of, new_state}
 use Rattle.thy_control.specs.Holding.{AreWorks, IsNew, works, waits, is_promoted, holding_of}
 

@@ -7,12 +7,12 @@ use Rattle.thy_base.specs.Store.{page_of}
 use Rattle.thy_table.specs.Listing.{entry_at, free_count}
 use Rattle.thy_table.proofs.IndexLemmas.{free_one, lists-key}
 use Rattle.thy_table.proofs.ListingLaws.{entry_at-mapped, free_count-mapped}
-use Rattle.thy_tables.specs.declared.block_entry.BttEntry.{BttEntry}
-use Rattle.thy_tables.specs.declared.block_entry.Version.{Version}
-use Rattle.thy_tables.specs.declared.block_entry.Version.TheVariants.{Out, Alt}
-use Rattle.thy_tables.specs.declared.block_entry.Working.{Working}
-use Rattle.thy_tables.specs.declared.block_entry.Working.TheVariants.{NoWork, InNvm, InBuffer}
-use Rattle.thy_tables.specs.BlockEntry.{new_entry}
+use Rattle.thy_table.specs.declared.block_entry.BttEntry.{BttEntry}
+use Rattle.thy_table.specs.declared.block_entry.Version.{Version}
+use Rattle.thy_table.specs.declared.block_entry.Version.TheVariants.{Out, Alt}
+use Rattle.thy_table.specs.declared.block_entry.Working.{Working}
+use Rattle.thy_table.specs.declared.block_entry.Working.TheVariants.{NoWork, InNvm, InBuffer}
+use Rattle.thy_table.specs.BlockEntry.{new_entry}
 use Rattle.thy_switch.specs.Counts.{is_low}
 use Rattle.thy_cell.specs.Sound.{IsSoundCell}
 use Rattle.thy_cell.specs.Checkpoint.{SealTakesWork, sealed_entry, committed_by, committed_entry}

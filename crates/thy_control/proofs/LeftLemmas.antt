@@ -3,10 +3,10 @@ use Rattle.std.proofs.Common.{◌≡◌, ℕ, ◌≤◌, Bool, true, false, ◌&
 use Rattle.thy_table.specs.Listing.{Listing, passes, next_from, place_of}
 use Rattle.thy_table.proofs.FirstLemmas.{none-first_from}
 use Rattle.thy_base.specs.Store.{page_of}
-use Rattle.thy_tables.specs.declared.block_entry.Pending.{Pending}
-use Rattle.thy_tables.specs.declared.block_entry.Pending.TheVariants.{Settled, FromBuffer, FromAlternate}
-use Rattle.thy_tables.specs.BlockEntry.{new_entry}
-use Rattle.thy_tables.specs.PageEntry.{no_page}
+use Rattle.thy_table.specs.declared.block_entry.Pending.{Pending}
+use Rattle.thy_table.specs.declared.block_entry.Pending.TheVariants.{Settled, FromBuffer, FromAlternate}
+use Rattle.thy_table.specs.BlockEntry.{new_entry}
+use Rattle.thy_table.specs.PageEntry.{no_page}
 use Rattle.thy_control.specs.Copies.{is_pending, needs_copy, next_copy, block_listed}
 use Rattle.thy_control.specs.Find.{entry_for}
 use Rattle.thy_control.specs.Keys.{block_key, page_key}

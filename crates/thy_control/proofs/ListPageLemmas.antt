@@ -10,8 +10,8 @@ use Rattle.std.proofs.lemmas.List.Quantifiers.{position-Some}
 use Rattle.thy_table.specs.Listing.{Listing, IsListing, entry_at, place_of, free_place, with_entry, added_at}
 use Rattle.thy_table.proofs.IndexLemmas.{None-is_none}
 use Rattle.thy_table.proofs.ListingLaws.{IsListing-put}
-use Rattle.thy_tables.specs.declared.page_entry.PttEntry.{PttEntry}
-use Rattle.thy_tables.specs.PageEntry.{no_page, promoted_page}
+use Rattle.thy_table.specs.declared.page_entry.PttEntry.{PttEntry}
+use Rattle.thy_table.specs.PageEntry.{no_page, promoted_page}
 use Rattle.thy_switch.specs.Counts.{Tally, is_dense, greatest_of, are_sparse}
 use Rattle.thy_control.specs.Find.{entry_for, with_found, with_entry_for}
 use Rattle.thy_control.specs.Keys.{page_key}

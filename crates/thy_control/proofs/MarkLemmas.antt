@@ -10,12 +10,12 @@ use Rattle.thy_base.specs.Geometry.{IsInRange, memory_blocks}
 use Rattle.thy_base.specs.Store.{page_of}
 use Rattle.thy_table.specs.Listing.{Listing, entry_at, place_of, free_place, passes, with_entry, added_at, empty_table}
 use Rattle.thy_table.proofs.IndexLemmas.{one_if, lists-key}
-use Rattle.thy_tables.specs.declared.block_entry.BttEntry.{BttEntry}
-use Rattle.thy_tables.specs.declared.block_entry.Working.{Working}
-use Rattle.thy_tables.specs.declared.block_entry.Working.TheVariants.{NoWork, InNvm, InBuffer}
-use Rattle.thy_tables.specs.declared.page_entry.PttEntry.{PttEntry}
-use Rattle.thy_tables.specs.BlockEntry.{new_entry}
-use Rattle.thy_tables.specs.PageEntry.{no_page, is_framed}
+use Rattle.thy_table.specs.declared.block_entry.BttEntry.{BttEntry}
+use Rattle.thy_table.specs.declared.block_entry.Working.{Working}
+use Rattle.thy_table.specs.declared.block_entry.Working.TheVariants.{NoWork, InNvm, InBuffer}
+use Rattle.thy_table.specs.declared.page_entry.PttEntry.{PttEntry}
+use Rattle.thy_table.specs.BlockEntry.{new_entry}
+use Rattle.thy_table.specs.PageEntry.{no_page, is_framed}
 use Rattle.thy_cell.specs.declared.cell.Cell.{Cell}
 use Rattle.thy_cell.specs.declared.cell.StoreRule.{StoreRule}
 use Rattle.thy_cell.specs.declared.cell.StoreRule.TheVariants.{ToFrame, ToBuffer, ToNvm, PendingFirst}

@@ -1,11 +1,11 @@
 -- The merge of a block's buffer into the frame of its page: every block after it, and the tables.
 use Rattle.thy_base.specs.declared.place.Place.TheVariants.{Home, AlternatePage}
-use Rattle.thy_tables.specs.declared.block_entry.Pending.{Pending}
-use Rattle.thy_tables.specs.declared.block_entry.Pending.TheVariants.{Settled, FromBuffer, FromAlternate}
-use Rattle.thy_tables.specs.declared.block_entry.Version.{Version}
-use Rattle.thy_tables.specs.declared.block_entry.Version.TheVariants.{Out, Alt}
-use Rattle.thy_tables.specs.declared.page_entry.Site.{Site}
-use Rattle.thy_tables.specs.declared.page_entry.Site.TheVariants.{AtHome, AtAlternate}
+use Rattle.thy_table.specs.declared.block_entry.Pending.{Pending}
+use Rattle.thy_table.specs.declared.block_entry.Pending.TheVariants.{Settled, FromBuffer, FromAlternate}
+use Rattle.thy_table.specs.declared.block_entry.Version.{Version}
+use Rattle.thy_table.specs.declared.block_entry.Version.TheVariants.{Out, Alt}
+use Rattle.thy_table.specs.declared.page_entry.Site.{Site}
+use Rattle.thy_table.specs.declared.page_entry.Site.TheVariants.{AtHome, AtAlternate}
 use Rattle.thy_control.specs.CheckpointTables.{tables0, tables1, entry_lists, page_lists}
 use Rattle.thy_control.specs.OverCalls.{cell_same, stays_same}
 use Rattle.thy_control.specs.Stays.{CellStays, Stays}
@@ -24,12 +24,12 @@ use Rattle.thy_dram.specs.Contents.{Contents, written}
 use Rattle.thy_table.specs.Listing.{Listing, IsListing, entry_at, lists, passes, place_of, with_entry}
 use Rattle.thy_table.proofs.IndexLemmas.{lists-key}
 use Rattle.thy_table.proofs.FirstLemmas.{first_from-first, none-first_from}
-use Rattle.thy_tables.specs.declared.block_entry.BttEntry.{BttEntry}
-use Rattle.thy_tables.specs.declared.page_entry.PttEntry.{PttEntry}
-use Rattle.thy_tables.specs.declared.block_entry.Working.{Working}
-use Rattle.thy_tables.specs.declared.block_entry.Working.TheVariants.{NoWork, InNvm, InBuffer}
-use Rattle.thy_tables.specs.BlockEntry.{new_entry}
-use Rattle.thy_tables.specs.PageEntry.{no_page, is_framed}
+use Rattle.thy_table.specs.declared.block_entry.BttEntry.{BttEntry}
+use Rattle.thy_table.specs.declared.page_entry.PttEntry.{PttEntry}
+use Rattle.thy_table.specs.declared.block_entry.Working.{Working}
+use Rattle.thy_table.specs.declared.block_entry.Working.TheVariants.{NoWork, InNvm, InBuffer}
+use Rattle.thy_table.specs.BlockEntry.{new_entry}
+use Rattle.thy_table.specs.PageEntry.{no_page, is_framed}
 use Rattle.thy_cell.specs.declared.cell.Cell.{Cell}
 use Rattle.thy_cell.specs.Cells.{Seat, placed, seat_of, frame_at, buffer_at, worked_at, last, work}
 use Rattle.thy_cell.specs.Sound.{IsSoundCell, IsWithin, Puts}

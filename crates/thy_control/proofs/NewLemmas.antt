@@ -8,10 +8,10 @@ use Rattle.thy_base.specs.Store.{page_of}
 use Rattle.thy_dram.specs.Contents.{Contents}
 use Rattle.thy_table.specs.Listing.{IsListing, entry_at, lists, place_of, empty_table}
 use Rattle.thy_table.proofs.FirstLemmas.{position-none}
-use Rattle.thy_tables.specs.declared.block_entry.BttEntry.{BttEntry}
-use Rattle.thy_tables.specs.declared.page_entry.PttEntry.{PttEntry}
-use Rattle.thy_tables.specs.BlockEntry.{new_entry}
-use Rattle.thy_tables.specs.PageEntry.{no_page}
+use Rattle.thy_table.specs.declared.block_entry.BttEntry.{BttEntry}
+use Rattle.thy_table.specs.declared.page_entry.PttEntry.{PttEntry}
+use Rattle.thy_table.specs.BlockEntry.{new_entry}
+use Rattle.thy_table.specs.PageEntry.{no_page}
 use Rattle.thy_cell.specs.declared.cell.Cell.{Cell}
 use Rattle.thy_cell.specs.Sound.{IsSoundCell}
 use Rattle.thy_cell.specs.BetweenCheckpoints.{NewCellsAreSound}

@@ -1,7 +1,7 @@
 -- Which blocks the checkpoint under way has at their places already.
 use Rattle.std.proofs.Common.{◌≡◌, ◌≢◌, sym, ◌∙◌, refl, arith}
-use Rattle.thy_tables.specs.declared.block_entry.Pending.{Pending}
-use Rattle.thy_tables.specs.declared.block_entry.Pending.TheVariants.{Settled, FromBuffer, FromAlternate}
+use Rattle.thy_table.specs.declared.block_entry.Pending.{Pending}
+use Rattle.thy_table.specs.declared.block_entry.Pending.TheVariants.{Settled, FromBuffer, FromAlternate}
 use Rattle.thy_control.specs.Guarded.{CopiedIsPlaced, IssuedIsPlaced}
 use Rattle.thy_control.specs.State.{cell_of}
 

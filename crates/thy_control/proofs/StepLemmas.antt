@@ -12,8 +12,8 @@ use Rattle.thy_base.specs.Store.{page_of}
 use Rattle.thy_place.specs.Devices.{Devices, AreSized, devices_of, read_at, written_at}
 use Rattle.thy_place.proofs.PlaceLemmas.{read_at-written_same, read_at-written_other}
 use Rattle.thy_table.proofs.IndexLemmas.{one_if}
-use Rattle.thy_tables.specs.declared.page_entry.PttEntry.{PttEntry}
-use Rattle.thy_tables.specs.PageEntry.{no_page, is_framed}
+use Rattle.thy_table.specs.declared.page_entry.PttEntry.{PttEntry}
+use Rattle.thy_table.specs.PageEntry.{no_page, is_framed}
 use Rattle.thy_cell.specs.declared.cell.Cell.{Cell}
 use Rattle.thy_cell.specs.Cells.{seat_of, frame_at, penult, target, last, work}
 use Rattle.thy_cell.specs.Sound.{IsSoundCell, Puts}

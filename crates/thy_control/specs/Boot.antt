@@ -11,10 +11,10 @@ use Rattle.thy_base.specs.Store.{page_of}
 use Rattle.thy_dram.specs.Contents.{Contents, written}
 use Rattle.thy_record.specs.Tables.{Tables, IsTables, entry_at as table_entry}
 use Rattle.thy_table.specs.Listing.{entry_at, place_of, with_entry}
-use Rattle.thy_tables.specs.declared.block_entry.BttEntry.{BttEntry}
-use Rattle.thy_tables.specs.declared.page_entry.PttEntry.{PttEntry}
-use Rattle.thy_tables.specs.BlockEntry.{listed_entry}
-use Rattle.thy_tables.specs.PageEntry.{listed_page}
+use Rattle.thy_table.specs.declared.block_entry.BttEntry.{BttEntry}
+use Rattle.thy_table.specs.declared.page_entry.PttEntry.{PttEntry}
+use Rattle.thy_table.specs.BlockEntry.{listed_entry}
+use Rattle.thy_table.specs.PageEntry.{listed_page}
 use Rattle.thy_switch.specs.Counts.{most, with_last}
 use Rattle.thy_cell.specs.Sound.{Holds}
 use Rattle.thy_control.specs.Keys.{block_key, page_key}

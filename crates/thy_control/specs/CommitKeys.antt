@@ -1,12 +1,12 @@
 -- An entry that a commit leaves lists the number that it listed, as a rule over a table has to show.
 use Rattle.std.specs.Prelude.{◌≡◌, Bool, true, false, Some}
 use Rattle.std.proofs.Common.{sym, ap}
-use Rattle.thy_tables.specs.declared.block_entry.BttEntry.{BttEntry}
-use Rattle.thy_tables.specs.declared.block_entry.Version.{Version}
-use Rattle.thy_tables.specs.declared.block_entry.Version.TheVariants.{Out, Alt}
-use Rattle.thy_tables.specs.declared.block_entry.Working.{Working}
-use Rattle.thy_tables.specs.declared.block_entry.Working.TheVariants.{NoWork, InNvm, InBuffer}
-use Rattle.thy_tables.specs.declared.page_entry.PttEntry.{PttEntry}
+use Rattle.thy_table.specs.declared.block_entry.BttEntry.{BttEntry}
+use Rattle.thy_table.specs.declared.block_entry.Version.{Version}
+use Rattle.thy_table.specs.declared.block_entry.Version.TheVariants.{Out, Alt}
+use Rattle.thy_table.specs.declared.block_entry.Working.{Working}
+use Rattle.thy_table.specs.declared.block_entry.Working.TheVariants.{NoWork, InNvm, InBuffer}
+use Rattle.thy_table.specs.declared.page_entry.PttEntry.{PttEntry}
 use Rattle.thy_cell.specs.Checkpoint.{committed_by, committed_entry, page_committed_by, committed_page}
 use Rattle.thy_control.specs.Keys.{block_key, page_key}
 

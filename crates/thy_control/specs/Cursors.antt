@@ -1,8 +1,8 @@
 -- The entries at which the next searches of the tables start: no entry below has what is looked for.
 use Rattle.std.specs.Prelude.{◌≡◌, ℕ, ◌<◌, Bool, false}
 use Rattle.thy_table.specs.Listing.{Listing, entry_at, passes}
-use Rattle.thy_tables.specs.declared.block_entry.BttEntry.{BttEntry}
-use Rattle.thy_tables.specs.declared.page_entry.PttEntry.{PttEntry}
+use Rattle.thy_table.specs.declared.block_entry.BttEntry.{BttEntry}
+use Rattle.thy_table.specs.declared.page_entry.PttEntry.{PttEntry}
 use Rattle.thy_control.specs.State.{State, AreSoundTables}
 use Rattle.thy_control.specs.Copies.{needs_copy}
 use Rattle.thy_control.specs.Pages.{needs_write}

@@ -1,9 +1,9 @@
 -- Why an epoch that ran out of entries can continue: a seal without work frees the block table.
 use Rattle.std.specs.Prelude.{◌≡◌, ℕ, ◌*◌, ◌≤◌, Option, Some}
 use Rattle.thy_table.specs.Listing.{entry_at, free_count, mapped}
-use Rattle.thy_tables.specs.declared.block_entry.BttEntry.{BttEntry}
-use Rattle.thy_tables.specs.declared.block_entry.Pending.TheVariants.{Settled}
-use Rattle.thy_tables.specs.declared.block_entry.Working.TheVariants.{NoWork}
+use Rattle.thy_table.specs.declared.block_entry.BttEntry.{BttEntry}
+use Rattle.thy_table.specs.declared.block_entry.Pending.TheVariants.{Settled}
+use Rattle.thy_table.specs.declared.block_entry.Working.TheVariants.{NoWork}
 use Rattle.thy_control.specs.State.{State, AreSoundTables}
 use Rattle.thy_control.specs.Seal.{sealed_state}
 use Rattle.thy_control.specs.Commit.{committed_state}

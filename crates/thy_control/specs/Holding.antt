@@ -10,11 +10,11 @@ use Rattle.thy_base.specs.Places.{image_blocks}
 use Rattle.thy_base.specs.Store.{Holding}
 use Rattle.thy_dram.specs.Contents.{Contents}
 use Rattle.thy_table.specs.Listing.{Listing, free_count, passes}
-use Rattle.thy_tables.specs.declared.block_entry.BttEntry.{BttEntry}
-use Rattle.thy_tables.specs.declared.page_entry.PttEntry.{PttEntry}
-use Rattle.thy_tables.specs.declared.block_entry.Pending.{Pending}
-use Rattle.thy_tables.specs.declared.block_entry.Pending.TheVariants.{Settled, FromBuffer, FromAlternate}
-use Rattle.thy_tables.specs.PageEntry.{is_framed}
+use Rattle.thy_table.specs.declared.block_entry.BttEntry.{BttEntry}
+use Rattle.thy_table.specs.declared.page_entry.PttEntry.{PttEntry}
+use Rattle.thy_table.specs.declared.block_entry.Pending.{Pending}
+use Rattle.thy_table.specs.declared.block_entry.Pending.TheVariants.{Settled, FromBuffer, FromAlternate}
+use Rattle.thy_table.specs.PageEntry.{is_framed}
 use Rattle.thy_control.specs.State.{State, IsSized, work_of, new_state}
 
 -- what a load of each block gives; nothing if the NVM has another size, or is down

@@ -1,8 +1,8 @@
 -- Part of the claim.
 -- The numbers that the entries of the tables list.
 use Rattle.std.specs.Prelude.{ℕ}
-use Rattle.thy_tables.specs.declared.block_entry.BttEntry.{BttEntry}
-use Rattle.thy_tables.specs.declared.page_entry.PttEntry.{PttEntry}
+use Rattle.thy_table.specs.declared.block_entry.BttEntry.{BttEntry}
+use Rattle.thy_table.specs.declared.page_entry.PttEntry.{PttEntry}
 
 abbrev pub block_key : BttEntry → ℕ
 block_key e = e.block

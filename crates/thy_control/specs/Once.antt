@@ -6,7 +6,7 @@ use Rattle.thy_base.specs.Device.{Device, HasFailed, HasFailedToWrite, IsFramed,
 use Rattle.thy_base.specs.Geometry.{memory_blocks}
 use Rattle.thy_base.specs.Places.{IsPlace, in_dram, number_of, image_blocks}
 use Rattle.thy_place.specs.Devices.{Devices, devices_of, written_at}
-use Rattle.thy_tables.specs.declared.block_entry.Pending.TheVariants.{Settled, FromBuffer}
+use Rattle.thy_table.specs.declared.block_entry.Pending.TheVariants.{Settled, FromBuffer}
 use Rattle.thy_cell.specs.declared.cell.Cell.{Cell}
 use Rattle.thy_control.specs.Guarded.{IsFree}
 use Rattle.thy_control.specs.State.{State, cell_of}

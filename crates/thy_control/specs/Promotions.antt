@@ -7,8 +7,8 @@ use Rattle.thy_base.specs.Device.{Device, HasFailed}
 use Rattle.thy_base.specs.Places.{in_dram}
 use Rattle.thy_place.specs.Devices.{Devices, devices_of}
 use Rattle.thy_table.specs.Listing.{entry_at, with_entry, next_from}
-use Rattle.thy_tables.specs.declared.page_entry.PttEntry.{PttEntry}
-use Rattle.thy_tables.specs.PageEntry.{page_blocks}
+use Rattle.thy_table.specs.declared.page_entry.PttEntry.{PttEntry}
+use Rattle.thy_table.specs.PageEntry.{page_blocks}
 use Rattle.thy_cell.specs.Cells.{seat_of, frame_at, work}
 use Rattle.thy_cell.specs.Checkpoint.{with_filled}
 use Rattle.thy_control.specs.Holding.{is_promoted}

@@ -11,12 +11,12 @@ use Rattle.thy_base.specs.Store.{page_of}
 use Rattle.thy_dram.specs.Contents.{Contents}
 use Rattle.thy_place.specs.Devices.{devices_of, read_at}
 use Rattle.thy_table.specs.Listing.{Listing, IsListing, entry_at, empty_table}
-use Rattle.thy_tables.specs.declared.block_entry.BttEntry.{BttEntry}
-use Rattle.thy_tables.specs.declared.block_entry.Version.TheVariants.{Out}
-use Rattle.thy_tables.specs.declared.block_entry.Working.TheVariants.{NoWork}
-use Rattle.thy_tables.specs.declared.page_entry.PttEntry.{PttEntry}
-use Rattle.thy_tables.specs.BlockEntry.{new_entry}
-use Rattle.thy_tables.specs.PageEntry.{no_page, is_framed}
+use Rattle.thy_table.specs.declared.block_entry.BttEntry.{BttEntry}
+use Rattle.thy_table.specs.declared.block_entry.Version.TheVariants.{Out}
+use Rattle.thy_table.specs.declared.block_entry.Working.TheVariants.{NoWork}
+use Rattle.thy_table.specs.declared.page_entry.PttEntry.{PttEntry}
+use Rattle.thy_table.specs.BlockEntry.{new_entry}
+use Rattle.thy_table.specs.PageEntry.{no_page, is_framed}
 use Rattle.thy_switch.specs.Counts.{Tally, AreTallied, uncounted}
 use Rattle.thy_cell.specs.declared.cell.Cell.{Cell}
 use Rattle.thy_cell.specs.Cells.{penult, last, work}

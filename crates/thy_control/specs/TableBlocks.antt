@@ -1,8 +1,8 @@
 -- The tables of the checkpoint under way, eight entries a block.
 use Rattle.std.specs.Prelude.{ℕ, ◌*◌, List, ◌++◌, take, drop, Option}
 use Rattle.thy_record.specs.Tables.{Tables}
-use Rattle.thy_tables.specs.declared.block_entry.BttEntry.{BttEntry}
-use Rattle.thy_tables.specs.declared.page_entry.PttEntry.{PttEntry}
+use Rattle.thy_table.specs.declared.block_entry.BttEntry.{BttEntry}
+use Rattle.thy_table.specs.declared.page_entry.PttEntry.{PttEntry}
 use Rattle.thy_control.specs.CheckpointTables.{entry_lists, page_lists}
 
 -- the block that the checkpoint under way lists at an entry of the block table, and the page at one of the page table

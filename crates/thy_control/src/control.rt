@@ -4,8 +4,8 @@ ghost use Rattle.thy_base.specs.Device.{HasFailed, IsFramed, CountsFault, block_
 ghost use Rattle.thy_base.specs.Geometry.{memory_blocks};
 ghost use Rattle.thy_base.specs.Places.{dram_blocks, in_dram, number_of, IsPlace};
 ghost use Rattle.thy_table.specs.Listing.{free_count, lists, entry_at, place_of};
-ghost use Rattle.thy_tables.specs.BlockEntry.{new_entry};
-ghost use Rattle.thy_tables.specs.PageEntry.{no_page};
+ghost use Rattle.thy_table.specs.BlockEntry.{new_entry};
+ghost use Rattle.thy_table.specs.PageEntry.{no_page};
 ghost use Rattle.thy_control.specs.Find.{index_for, entry_for, with_entry_for};
 ghost use Rattle.thy_control.specs.Keys.{block_key, page_key};
 ghost use Rattle.thy_cell.specs.Cells.{work as work_place};
@@ -36,8 +36,7 @@ use thy_cell::{
 use thy_dram::Dram;
 use thy_place::{read_place, write_place};
 use thy_switch::Counts;
-use thy_table::Table;
-use thy_tables::{Btt, BttEntry, Ptt, PttEntry};
+use thy_table::{Btt, BttEntry, Ptt, PttEntry, Table};
 
 /// The controller of a hybrid memory. Blocks are numbered from the start of memory; only `new` allocates.
 #[derive(Drop)]

@@ -1,9 +1,9 @@
 //! The entries at which the next searches of the tables start.
 ghost use Rattle.std.specs.Prelude.{◌≡◌, ◌≤◌, true, unwrap_or};
 ghost use Rattle.thy_table.specs.Listing.{Listing};
-ghost use Rattle.thy_tables.specs.declared.block_entry.BttEntry.{BttEntry as BlockEntry};
-ghost use Rattle.thy_tables.specs.declared.page_entry.PttEntry.{PttEntry as PageEntry};
-ghost use Rattle.thy_tables.specs.PageEntry.{is_framed as IsFramedPage};
+ghost use Rattle.thy_table.specs.declared.block_entry.BttEntry.{BttEntry as BlockEntry};
+ghost use Rattle.thy_table.specs.declared.page_entry.PttEntry.{PttEntry as PageEntry};
+ghost use Rattle.thy_table.specs.PageEntry.{is_framed as IsFramedPage};
 ghost use Rattle.thy_control.specs.Cursors.{AreCursors};
 
 use thy_cell::{Cell, StoreRule};

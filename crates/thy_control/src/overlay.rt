@@ -6,7 +6,7 @@ ghost use Rattle.thy_control.specs.Overlay.{is_buffered, is_overlaid, overlaid, 
 
 use crate::seal::block_is_framed;
 use thy_cell::{Cell, StoreRule};
-use thy_tables::{Btt, Ptt, Working};
+use thy_table::{Btt, Ptt, Working};
 
 /// What the controller counts, so that it can see in one step whether there is any.
 #[derive(Clone, Copy, Debug)]

@@ -1,7 +1,7 @@
 //! What a seal and a commit make of the tables.
 ghost use Rattle.std.specs.Prelude.{◌≡◌, ◌<◌, ◌≤◌, ◌+◌, length, option_and_then};
 ghost use Rattle.thy_table.specs.Listing.{entry_at, with_entry, mapped};
-ghost use Rattle.thy_tables.specs.PageEntry.{promoted_page};
+ghost use Rattle.thy_table.specs.PageEntry.{promoted_page};
 ghost use Rattle.thy_cell.specs.Checkpoint.{committed_entry, committed_page};
 ghost use Rattle.thy_control.specs.Find.{with_entry_for};
 ghost use Rattle.thy_control.specs.Keys.{page_key};
@@ -10,8 +10,7 @@ ghost use Rattle.thy_control.specs.Seal.{block_is_framed, sealed_in, sealed_as_c
 use thy_base::{BLOCK_COUNTS, page_of};
 use thy_cell::{committed_entry, committed_page, sealed_entry, sealed_page};
 use thy_switch::Counts;
-use thy_table::Rule;
-use thy_tables::{Btt, BttEntry, Ptt, PttEntry};
+use thy_table::{Btt, BttEntry, Ptt, PttEntry, Rule};
 
 /// Whether the page of a block is framed.
 pub fn block_is_framed(ptt: &Ptt, b: u64) -> bool

@@ -17,12 +17,12 @@ use Rattle.thy_isa.specs.OnBlocks.{state_from}
 use Rattle.thy_record.specs.Images.{memory_in, memory_numbers}
 use Rattle.thy_record.specs.Tables.{place_of as place_in}
 use Rattle.thy_table.specs.Listing.{entry_at, passes}
-use Rattle.thy_tables.specs.declared.block_entry.BttEntry.{BttEntry}
-use Rattle.thy_tables.specs.declared.block_entry.Version.{Version}
-use Rattle.thy_tables.specs.declared.block_entry.Version.TheVariants.{Out, Alt}
-use Rattle.thy_tables.specs.declared.page_entry.PttEntry.{PttEntry}
-use Rattle.thy_tables.specs.declared.page_entry.Site.{Site}
-use Rattle.thy_tables.specs.declared.page_entry.Site.TheVariants.{AtHome, AtAlternate}
+use Rattle.thy_table.specs.declared.block_entry.BttEntry.{BttEntry}
+use Rattle.thy_table.specs.declared.block_entry.Version.{Version}
+use Rattle.thy_table.specs.declared.block_entry.Version.TheVariants.{Out, Alt}
+use Rattle.thy_table.specs.declared.page_entry.PttEntry.{PttEntry}
+use Rattle.thy_table.specs.declared.page_entry.Site.{Site}
+use Rattle.thy_table.specs.declared.page_entry.Site.TheVariants.{AtHome, AtAlternate}
 use Rattle.thy_cell.specs.declared.cell.Cell.{Cell}
 use Rattle.thy_cell.specs.Cells.{Seat, seat_of, placed, penult}
 use Rattle.thy_control.specs.Boot.{IsBooting}

@@ -3,8 +3,8 @@ use Rattle.std.proofs.Common.{◌≡◌, ℕ, ◌+◌, ◌<◌, ◌≤◌, nat_l
 use Rattle.thy_base.specs.Places.{image_blocks}
 use Rattle.thy_base.specs.Device.{Device}
 use Rattle.thy_table.specs.Listing.{Listing, entry_at, passes, free_count}
-use Rattle.thy_tables.specs.declared.block_entry.BttEntry.{BttEntry}
-use Rattle.thy_tables.specs.declared.block_entry.Working.{Working}
+use Rattle.thy_table.specs.declared.block_entry.BttEntry.{BttEntry}
+use Rattle.thy_table.specs.declared.block_entry.Working.{Working}
 use Rattle.thy_control.specs.Drains.{after_drain}
 use Rattle.thy_control.specs.Frees.{HasNoWork}
 use Rattle.thy_control.specs.Holding.{waiting}

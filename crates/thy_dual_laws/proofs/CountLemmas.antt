@@ -7,9 +7,9 @@ use Rattle.thy_base.specs.declared.config.Parameters.{Parameters}
 use Rattle.thy_base.specs.Geometry.{IsInRange}
 use Rattle.thy_table.specs.Listing.{free_count, passes}
 use Rattle.thy_table.proofs.IndexLemmas.{one_if}
-use Rattle.thy_tables.specs.declared.block_entry.BttEntry.{BttEntry}
-use Rattle.thy_tables.specs.declared.page_entry.PttEntry.{PttEntry}
-use Rattle.thy_tables.specs.PageEntry.{page_blocks}
+use Rattle.thy_table.specs.declared.block_entry.BttEntry.{BttEntry}
+use Rattle.thy_table.specs.declared.page_entry.PttEntry.{PttEntry}
+use Rattle.thy_table.specs.PageEntry.{page_blocks}
 use Rattle.thy_control.specs.Holding.{waits, is_promoted, waiting, promoted}
 use Rattle.thy_control.specs.Merges.{overlays}
 use Rattle.thy_control.specs.Overlay.{is_overlaid as lies_over}

@@ -8,7 +8,7 @@ use Rattle.thy_isa.specs.OnBlocks.{state_from}
 use Rattle.thy_record.specs.Header.{header_fault}
 use Rattle.thy_record.specs.Images.{decode_image}
 use Rattle.thy_table.specs.Listing.{Listing, entry_at, free_count, mapped}
-use Rattle.thy_tables.specs.declared.block_entry.BttEntry.{BttEntry}
+use Rattle.thy_table.specs.declared.block_entry.BttEntry.{BttEntry}
 use Rattle.thy_control.specs.Frees.{HasNoWork, settled}
 use Rattle.thy_control.specs.State.{State, AreSoundTables, IsSized, penult_of, last_of}
 use Rattle.thy_control.specs.Stays.{HoldAll, Stays, StaysUp, StaysHeld}

@@ -7,8 +7,8 @@ use Rattle.thy_base.specs.declared.config.Parameters.{Parameters}
 use Rattle.thy_record.specs.Tables.{entry_at}
 use Rattle.thy_table.specs.Listing.{entry_at as live_at}
 use Rattle.thy_table.proofs.IndexLemmas.{lists-key}
-use Rattle.thy_tables.specs.declared.block_entry.BttEntry.{BttEntry}
-use Rattle.thy_tables.specs.declared.page_entry.PttEntry.{PttEntry}
+use Rattle.thy_table.specs.declared.block_entry.BttEntry.{BttEntry}
+use Rattle.thy_table.specs.declared.page_entry.PttEntry.{PttEntry}
 use Rattle.thy_control.specs.Boot.{IsBooting, MayFrame, page_in, framed_block}
 use Rattle.thy_control.specs.CheckpointTables.{tables0, entry_lists, page_lists}
 use Rattle.thy_control.specs.Keys.{block_key, page_key}

@@ -1,1 +1,3 @@
+pub mod BlockEntry
 pub mod Listing
+pub mod PageEntry

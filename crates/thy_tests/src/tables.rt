@@ -3,8 +3,7 @@ ghost use Rattle.std.specs.Prelude.{◌≡◌, ◌∷◌, [], length};
 
 use crate::support::expect::expect_at;
 use std::process::Abort;
-use thy_table::{Rule, Test};
-use thy_tables::{Btt, BttEntry, Working};
+use thy_table::{Btt, BttEntry, Rule, Test, Working};
 
 /// Clears the entry of one block, and stores each other into its buffer.
 #[derive(Drop)]

@@ -5,7 +5,7 @@ ghost use Rattle.std.specs.Prelude.{◌≡◌, ◌<◌, OnOk};
 use super::Control;
 use thy_base::{Nvm, NvmError, Place};
 use thy_cell::{a_frame_is_loaded, listed_cells_are_sound};
-use thy_tables::{BttEntry, PttEntry};
+use thy_table::{BttEntry, PttEntry};
 
 impl Control {
     ghost use Rattle.thy_control.specs.Boot.{IsBooting, MayListBlock, MayListPage, MayListCount, MayFrame, HaveTables, LoadsFrame, CopiesFrame, with_listed_block, with_listed_page, with_listed_count, with_block, with_page};

@@ -2,15 +2,14 @@
 ghost use Rattle.std.specs.Prelude.{◌≡◌, ◌+◌, ◌<◌, true, false, length, is_some, IfSome};
 ghost use Rattle.thy_base.specs.Device.{Device};
 ghost use Rattle.thy_base.specs.Geometry.{memory_blocks};
-ghost use Rattle.thy_tables.specs.PageEntry.{is_framed as IsFramedPage};
-ghost use Rattle.thy_tables.specs.declared.block_entry.Working.TheVariants.{InBuffer as IsInBuffer};
+ghost use Rattle.thy_table.specs.PageEntry.{is_framed as IsFramedPage};
+ghost use Rattle.thy_table.specs.declared.block_entry.Working.TheVariants.{InBuffer as IsInBuffer};
 
 use super::Control;
 use crate::cursors::goes_on;
 use crate::seal::block_is_framed;
 use thy_cell::{a_dirty_page_keeps_others, a_merge_keeps_versions};
-use thy_table::Test;
-use thy_tables::{BttEntry, Ptt, PttEntry, Working};
+use thy_table::{BttEntry, Ptt, PttEntry, Test, Working};
 
 /// A buffer lies over the frame of its block's page, by this page table.
 #[derive(Drop)]

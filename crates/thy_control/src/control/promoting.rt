@@ -3,7 +3,7 @@ ghost use Rattle.std.specs.Prelude.{◌≡◌, ◌+◌, ◌<◌, ◌*◌, ◌^�
 ghost use Rattle.thy_base.specs.Geometry.{memory_blocks};
 ghost use Rattle.thy_base.specs.Places.{in_dram};
 ghost use Rattle.thy_cell.specs.Cells.{work as work_place};
-ghost use Rattle.thy_tables.specs.PageEntry.{is_framed as IsFramedPage};
+ghost use Rattle.thy_table.specs.PageEntry.{is_framed as IsFramedPage};
 ghost use Rattle.thy_control.specs.Pages.{page_in, block_after};
 
 use super::Control;
@@ -12,8 +12,7 @@ use crate::cursors::goes_on;
 use crate::overlay::WorkCounts;
 use thy_base::{Nvm, NvmError, PAGE_BLOCKS};
 use thy_cell::{a_promotion_keeps_others, a_promotion_keeps_versions};
-use thy_table::Test;
-use thy_tables::PttEntry;
+use thy_table::{PttEntry, Test};
 
 /// A page is being promoted.
 #[derive(Drop)]

@@ -9,7 +9,7 @@ ghost use Rattle.thy_control.specs.TableBlocks.{block_due, page_due};
 use super::Control;
 use thy_base::Block;
 use thy_record::table_block;
-use thy_tables::{Btt, BttEntry, Ptt, PttEntry, Site, Version};
+use thy_table::{Btt, BttEntry, Ptt, PttEntry, Site, Version};
 
 /// The block that the checkpoint under way lists at an entry.
 fn block_listed_by(entry: Option<BttEntry>) -> Option<u64>

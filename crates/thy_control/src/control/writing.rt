@@ -8,8 +8,7 @@ use super::moving::move_block;
 use crate::cursors::goes_on;
 use thy_base::{Nvm, NvmError, PAGE_BLOCKS};
 use thy_cell::{a_page_write_keeps_others, a_page_write_keeps_versions};
-use thy_table::Test;
-use thy_tables::{PttEntry, WHOLE_PAGE};
+use thy_table::{PttEntry, Test, WHOLE_PAGE};
 
 /// A page's blocks are not all issued.
 #[derive(Drop)]

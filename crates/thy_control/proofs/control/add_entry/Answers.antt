@@ -1,7 +1,7 @@
 use Rattle.std.proofs.Common.{ℕ, sym, ◌∙◌, ap, Option}
 use Rattle.thy_table.specs.Listing.{added}
-use Rattle.thy_tables.specs.declared.block_entry.BttEntry.{BttEntry}
-use Rattle.thy_tables.specs.BlockEntry.{new_entry}
+use Rattle.thy_table.specs.declared.block_entry.BttEntry.{BttEntry}
+use Rattle.thy_table.specs.BlockEntry.{new_entry}
 use Rattle.thy_control.specs.Find.{with_found}
 use Rattle.thy_control.specs.Keys.{block_key}
 use Rattle.thy_control.proofs.control.add_entry.Goals as goal

@@ -1,5 +1,5 @@
 use Rattle.std.proofs.Common.{sym, refl}
-use Rattle.thy_tables.specs.BlockEntry.{new_entry}
+use Rattle.thy_table.specs.BlockEntry.{new_entry}
 use Rattle.thy_control.specs.Keys.{block_key}
 use Rattle.thy_control.proofs.FindLemmas.{index_for-with_new}
 use Rattle.thy_control.proofs.control.place_to_add.Goals as goal

@@ -1,7 +1,7 @@
 use Rattle.std.proofs.Common.{◌≡◌, ◌<◌, ℕ, Some, true, false, sym, ◌∙◌, ap, subst}
 use Rattle.thy_base.specs.Geometry.{memory_blocks}
-use Rattle.thy_tables.specs.declared.block_entry.Working.TheVariants.{InBuffer}
-use Rattle.thy_tables.specs.PageEntry.{is_framed}
+use Rattle.thy_table.specs.declared.block_entry.Working.TheVariants.{InBuffer}
+use Rattle.thy_table.specs.PageEntry.{is_framed}
 use Rattle.thy_control.specs.State.{State, cell_of}
 use Rattle.thy_control.specs.Copies.{block_listed}
 use Rattle.thy_control.specs.Merges.{next_merge}

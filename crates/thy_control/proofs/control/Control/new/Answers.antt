@@ -2,8 +2,8 @@ use Rattle.std.proofs.Common.{◌≡◌, ℕ, false, sym, ◌∙◌, ap, subst}
 use Rattle.thy_base.specs.declared.config.Parameters.{Parameters}
 use Rattle.thy_base.specs.Geometry.{memory_blocks}
 use Rattle.thy_table.specs.Listing.{Listing, empty_table}
-use Rattle.thy_tables.specs.declared.block_entry.BttEntry.{BttEntry}
-use Rattle.thy_tables.specs.declared.page_entry.PttEntry.{PttEntry}
+use Rattle.thy_table.specs.declared.block_entry.BttEntry.{BttEntry}
+use Rattle.thy_table.specs.declared.page_entry.PttEntry.{PttEntry}
 use Rattle.thy_switch.specs.Counts.{Tally, uncounted}
 use Rattle.thy_control.specs.State.{AreSoundTables}
 use Rattle.thy_control.specs.Overlay.{AreWorkCounts}

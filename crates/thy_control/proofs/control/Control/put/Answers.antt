@@ -13,7 +13,7 @@ use Rattle.thy_place.specs.Devices.{Devices, devices_of}
 use Rattle.thy_control.specs.Keys.{block_key, page_key}
 use Rattle.thy_control.specs.StoredTables.{btt_with, answer_of}
 use Rattle.thy_control.specs.Find.{index_for}
-use Rattle.thy_tables.specs.BlockEntry.{new_entry}
+use Rattle.thy_table.specs.BlockEntry.{new_entry}
 use Rattle.thy_cell.specs.Store.{put_by}
 use Rattle.thy_control.specs.State.{State, AreSoundTables, reads}
 use Rattle.thy_control.specs.Rules.{rule_for, cell_before, devices_after}

@@ -1,8 +1,8 @@
 //! Entries of the block translation table.
 ghost use Rattle.std.specs.Prelude.{◌≡◌};
-ghost use Rattle.thy_tables.specs.BlockEntry.{other_version, new_entry, listed_entry};
+ghost use Rattle.thy_table.specs.BlockEntry.{other_version, new_entry, listed_entry};
 
-use thy_table::Keyed;
+use crate::Keyed;
 
 /// Where a checkpoint has the block of an entry.
 #[derive(Clone, Copy, Debug, PartialEq, Eq)]

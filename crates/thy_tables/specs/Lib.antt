@@ -1,2 +1,0 @@
-pub mod BlockEntry
-pub mod PageEntry
