@@ -342,12 +342,16 @@ fn store_or_seal(
     }
 }
 
-/// Takes so many steps of the engine, or up to the commit.
+/// Takes so many steps of the engine, or fewer: up to the write of the commit block, or up to the commit.
 fn take_steps(rt: &impl Abort, parts: &mut Parts, beside: &mut Beside, seen: &mut Seen, most: u64) {
     for _ in 0..most {
         if parts.under_way() {
+            let written = beside.written;
             let step = parts.step(rt);
             beside.note(rt, step, seen);
+            if beside.written && !written {
+                return;
+            }
         }
     }
 }

@@ -25,7 +25,7 @@ use Rattle.thy_scheme.specs.Calls.{IsOneAccess, Stores}
 use Rattle.thy_pool.specs.Holding.{commits}
 use Rattle.thy_pool.specs.Progress.{Progress, Fits, action_next, engine_next, state_next, item_of}
 use Rattle.thy_pool.specs.State.{State, IsSoundState, committed_of}
-use Rattle.thy_pool.specs.Stores.{after_store, store_case, stored_by}
+use Rattle.thy_pool.specs.Stores.{StoreCase, Into, Fill, Copy, after_store, store_action, store_case, stored_by}
 use Rattle.thy_repool.specs.Filling.{filling_shadow}
 use Rattle.thy_repool.proofs.LawLemmas.{pool_is_listed}
 use Rattle.thy_shadow_laws.specs.Shadow.{Shadow as Value}
@@ -80,7 +80,8 @@ pub stored_is : (b : ℕ) (block : Block) (n : Device) (v : Value) (a : Stored) 
     → record v { pool = t; storeless = storeless } ≡ stored b block n v
 stored_is b block n v a t storeless answer pool is =
     ap (λ (x : State). record v { pool = x; storeless = storeless }) pool
-    ∙ ap (λ (x : Bool). record v { pool = after_store b block n v.pool; storeless = x }) (is ∙ ap (λ (x : Stored). storeless_by x v.storeless) answer)
+    ∙ ap (λ (x : Bool). record v { pool = after_store b block n v.pool; storeless = x })
+    (is ∙ ap (λ (x : Stored). storeless_by x v.storeless) answer)
 
 pub stores_then : (b : ℕ) (block : Block) (n : Device) (v : Value) (a : Stored) (t : Value) (new : Device)
     → Stores shadow_scheme (stored_by (store_case b v.pool)) b block v n (stored b block n v) n
@@ -93,7 +94,8 @@ stores_then b block n v a t new here answer made same =
 pub access_then : (b : ℕ) (block : Block) (n : Device) (v t : Value) (new : Device)
     → IsOneAccess shadow_scheme v n (stored b block n v) n → t ≡ stored b block n v → new ≡ n → IsOneAccess shadow_scheme v n t new
 access_then b block n v t new here made same =
-    subst (λ (d : Device). IsOneAccess shadow_scheme v n t d) (sym same) (subst (λ (x : Value). IsOneAccess shadow_scheme v n x n) (sym made) here)
+    subst (λ (d : Device). IsOneAccess shadow_scheme v n t d) (sym same)
+    (subst (λ (x : Value). IsOneAccess shadow_scheme v n x n) (sym made) here)
 
 -- by the result
 module _ (b : ℕ) (block : Block) (n : Device) (v : Value) (p : State) (storeless : Bool) (new : Device) where
@@ -102,18 +104,24 @@ module _ (b : ℕ) (block : Block) (n : Device) (v : Value) (p : State) (storele
 
   -- one that failed leaves all but the NVM
   unstored : (e : NvmError) → p ≡ v.pool → storeless ≡ storeless_of (Err e) v.storeless → t ≡ v
-  unstored e kept is = ap (λ (x : State). record v { pool = x; storeless = storeless }) kept ∙ ap (λ (x : Bool). record v { storeless = x }) is
+  unstored e kept is =
+      ap (λ (x : State). record v { pool = x; storeless = storeless }) kept
+      ∙ ap (λ (x : Bool). record v { storeless = x }) is
 
-  pub store_made : (r : Result Stored NvmError) → IfOk r (λ a. a ≡ stored_by (store_case b v.pool)) → OnOk r (p ≡ after_store b block n v.pool)
+  pub store_made : (r : Result Stored NvmError)
+      → IfOk r (λ a. a ≡ stored_by (store_case b v.pool)) → OnOk r (p ≡ after_store b block n v.pool)
       → OnErr r (p ≡ v.pool) → OnOk r (new ≡ n) → OnErr r (FailsTo (store_action (store_case b v.pool) b v.pool) n new)
       → storeless ≡ storeless_of r v.storeless → StoresInFrame b block v n r t new
-  store_made (Ok a) answer made kept same err is = record { answer = answer; made = stored_is b block n v a p storeless answer made is; nvm = same; kept = tt; err = tt }
-  store_made (Err e) answer made kept same err is = record { answer = tt; made = tt; nvm = tt; kept = unstored e kept is; err = err }
+  store_made (Ok a) answer made kept same err is =
+      record { answer = answer; made = stored_is b block n v a p storeless answer made is; nvm = same; kept = tt; err = tt }
+  store_made (Err e) answer made kept same err is =
+      record { answer = tt; made = tt; nvm = tt; kept = unstored e kept is; err = err }
 
   pub store_ok : (r : Result Stored NvmError) → Stores shadow_scheme (stored_by (store_case b v.pool)) b block v n (stored b block n v) n
       → IfOk r (λ a. a ≡ stored_by (store_case b v.pool)) → OnOk r (p ≡ after_store b block n v.pool) → OnOk r (new ≡ n)
       → storeless ≡ storeless_of r v.storeless → IfOk r (λ a. Stores shadow_scheme a b block v n t new)
-  store_ok (Ok a) here answer made same is = stores_then b block n v a t new here answer (stored_is b block n v a p storeless answer made is) same
+  store_ok (Ok a) here answer made same is =
+      stores_then b block n v a t new here answer (stored_is b block n v a p storeless answer made is) same
   store_ok (Err e) here answer made same is = tt
 
   pub store_once : (r : Result Stored NvmError) → IsOneAccess shadow_scheme v n (stored b block n v) n
@@ -135,11 +143,13 @@ module _ (b : ℕ) (block : Block) (n : Device) (v : Value) (p : State) (storele
   failed_down (Fill j) failed = absurd failed
   failed_down (Copy j k) failed = failed.down
 
-  pub store_err : (r : Result Stored NvmError) → OnErr r (FailsTo (store_action (store_case b v.pool) b v.pool) n new) → OnErr r (new.down ≡ true)
+  pub store_err : (r : Result Stored NvmError)
+      → OnErr r (FailsTo (store_action (store_case b v.pool) b v.pool) n new) → OnErr r (new.down ≡ true)
   store_err (Ok a) failed = tt
   store_err (Err e) failed = failed_down (store_case b v.pool) failed
 
-  pub store_fits : (r : Result Stored NvmError) → IsOneAccess shadow_scheme v n (stored b block n v) n → OnOk r (p ≡ after_store b block n v.pool)
+  pub store_fits : (r : Result Stored NvmError) → IsOneAccess shadow_scheme v n (stored b block n v) n
+      → OnOk r (p ≡ after_store b block n v.pool)
       → OnErr r (p ≡ v.pool) → Fits v.engine v.pool → Fits v.engine p
   store_fits (Ok a) here made kept fits = record { same_p = ap (λ (x : State). x.p) made ∙ here.stays.same_p ∙ fits.same_p }
   store_fits (Err e) here made kept fits = record { same_p = ap (λ (x : State). x.p) kept ∙ fits.same_p }
@@ -152,7 +162,9 @@ pub takes_item : (s : Value) (n : Device) (r : Result EngineStep NvmError) (t : 
     → OnErr r (FailsTo (action_next s.engine s.pool) n new) → TakesItem s n r (record s { pool = t; engine = f }) new
 takes_item s n (Ok step) t f new answer engine pool device kept kept_pool err = record {
   answer = answer;
-  made = ap (λ (x : State). record s { pool = x; engine = f }) pool ∙ ap (λ (x : Progress). record s { pool = state_next s.engine s.pool; engine = x }) engine;
+  made =
+      ap (λ (x : State). record s { pool = x; engine = f }) pool
+      ∙ ap (λ (x : Progress). record s { pool = state_next s.engine s.pool; engine = x }) engine;
   nvm = device;
   kept = tt;
   err = tt;
@@ -194,7 +206,15 @@ takes_boot_step start s n (Ok a) t d new answer took = record {
 }
 takes_boot_step start s n (Err x) t d new answer took = record {
   answer = tt;
-  steps = record { steps = tt; fits = took.fits; boot = took.boot; control = took.control; err = took.err; frame = took.frame; cause = took.cause };
+  steps = record {
+    steps = tt;
+    fits = took.fits;
+    boot = took.boot;
+    control = took.control;
+    err = took.err;
+    frame = took.frame;
+    cause = took.cause;
+  };
   others = refl;
 }
 
@@ -205,7 +225,8 @@ length-over seed [] = refl
 length-over seed (x ∷ xs) = ap suc (length-over (after_block seed) xs)
 
 -- what is left of a DRAM of its size is one with nothing queued
-pub IsDramOf-lost : (p : Parameters) (l : State) (pick : ℕ) (d : Contents) → IsSoundState l → l.p ≡ p → l.dram.room ≡ p.dramq → d ≡ lost l.dram pick → IsDramOf p d
+pub IsDramOf-lost : (p : Parameters) (l : State) (pick : ℕ) (d : Contents) → IsSoundState l
+    → l.p ≡ p → l.dram.room ≡ p.dramq → d ≡ lost l.dram pick → IsDramOf p d
 IsDramOf-lost p l pick d sound same room is = subst (λ (x : Contents). IsDramOf p x) (sym is) (record {
   blocks = length-over pick l.dram.blocks ∙ sound.dram_size ∙ ap dram_blocks same;
   room = room;

@@ -13,7 +13,8 @@ use Rattle.thy_shadow_image.proofs.SlotLemmas.{faultless_map}
 use Rattle.thy_pool.specs.State.{State, IsSoundState, committed_table}
 use Rattle.thy_repool.specs.Filling.{filling_shadow, IsFresh}
 
-pub whole_slot : (p : Parameters) (bytes : List ℕ) → length bytes ≡ 64 * slot_blocks p → take (slot_blocks p) (blocks_of bytes) ≡ blocks_of bytes
+pub whole_slot : (p : Parameters) (bytes : List ℕ) → length bytes ≡ 64 * slot_blocks p
+    → take (slot_blocks p) (blocks_of bytes) ≡ blocks_of bytes
 whole_slot p bytes long =
     take_all (slot_blocks p) (blocks_of bytes) (omega (arith, long, length-map-range_with_len (block_in bytes) 0 (length bytes / 64)))
 
@@ -21,9 +22,11 @@ whole_slot p bytes long =
 pub map_of_slot : (p : Parameters) (ceiling epoch : ℕ) (bytes : List ℕ) → length bytes ≡ 64 * slot_blocks p
     → slot_fault p ceiling epoch (take (slot_blocks p) (blocks_of bytes)) ≡ None → IsMap p (table_in p (blocks_of bytes))
 map_of_slot p ceiling epoch bytes long fits =
-    faultless_map p ceiling epoch (blocks_of bytes) (subst (λ (slot : List Block). slot_fault p ceiling epoch slot ≡ None) (whole_slot p bytes long) fits)
+    faultless_map p ceiling epoch (blocks_of bytes)
+    (subst (λ (slot : List Block). slot_fault p ceiling epoch slot ≡ None) (whole_slot p bytes long) fits)
 
-pub lists_on : (p : Parameters) (commit : Block) (bytes : List ℕ) (old new : State) → length bytes ≡ 64 * slot_blocks p → IsFresh old → IsSoundState new
+pub lists_on : (p : Parameters) (commit : Block) (bytes : List ℕ) (old new : State)
+    → length bytes ≡ 64 * slot_blocks p → IsFresh old → IsSoundState new
     → committed_table new ≡ table_in old.p (blocks_of bytes) → new ≡ record old { pool = new.pool }
     → ListsOn filling_shadow commit (take (slot_blocks p) (blocks_of bytes)) old new
 lists_on p commit bytes old new long fresh sound map is =

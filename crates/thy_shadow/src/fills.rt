@@ -1,4 +1,9 @@
 //! What the boot lists.
+ghost use Rattle.std.specs.Prelude.{◌≡◌, length, OnOk, OnErr};
+ghost use Rattle.thy_view.specs.Action.{ReadAt};
+ghost use Rattle.thy_boot.specs.Loads.{Takes};
+ghost use Rattle.thy_shadow_image.specs.Places.{image_blocks};
+
 use thy_base::{Block, Geometry, Nvm, NvmError, word};
 use thy_boot::{CEILING, Fills, start_block};
 use thy_isa::{CpuState, MachState};
@@ -81,13 +86,15 @@ impl Fills for Relist {
         None
     }
 
-    fn fill<N: Nvm>(
-        control: &mut Pool,
-        commit: &Block,
-        k: u64,
-        nvm: &mut N,
-    ) -> Result<(), NvmError> {
-        unreachable!()
+    // No position is ever filled, so this reads a block and keeps the pool as it is.
+    fn fill<N: Nvm>(control: &mut Pool, commit: &Block, k: u64, nvm: &mut N) -> Result<(), NvmError>
+        requires sized { length (N.device nvm.old).image ≡ image_blocks control.old.p }
+        ensures ok { OnOk result (control.new ≡ control.old) }
+        ensures err { OnErr result (control.new ≡ control.old) }
+        ensures nvm { Takes (ReadAt 0) result (N.device nvm.old) (N.device nvm.new) }
+    {
+        nvm.read(0)?;
+        Ok(())
     }
 
     fn memory_blocks(geometry: &Geometry) -> u64 {

@@ -11,7 +11,7 @@ use Rattle.thy_crash.specs.Saved.{guarded}
 use Rattle.thy_crash.proofs.SparesLemmas.{Spares-no_more}
 use Rattle.thy_isa.specs.OnBlocks.{state_from}
 use Rattle.thy_table.proofs.IndexLemmas.{one_if}
-use Rattle.thy_view.specs.Origin.{Origin, at}
+use Rattle.thy_view.specs.Origin.{Origin}
 use Rattle.thy_protocol.specs.Layout.{looked_by}
 use Rattle.thy_protocol.specs.Moves.{IsKeeping, standing, Goes}
 use Rattle.thy_protocol.proofs.KeepsLemmas.{IsKeeping-move}

@@ -1,13 +1,11 @@
 -- What holds in the boot.
-use Rattle.std.proofs.Common.{◌≡◌, ◌≢◌, ◌&&◌, ℕ, ◌-◌, ◌*◌, ◌<◌, ◌≤◌, [], suc, true, false, List, length, refl, sym, ◌∙◌, ap, subst, inl, inr, arith, Option, Some, None}
+use Rattle.std.proofs.Common.{◌≡◌, ◌≢◌, ◌&&◌, ℕ, ◌*◌, ◌<◌, [], true, false, List, length, refl, sym, ◌∙◌, ap, subst, inl, inr, arith, Option, Some, None}
 use Rattle.std.proofs.lemmas.List.{length-replicate}
 use Rattle.thy_base.specs.declared.block.Block.{Block}
 use Rattle.thy_base.specs.declared.config.Parameters.{Parameters}
 use Rattle.thy_base.specs.declared.mark.Mark.{Mark}
 use Rattle.thy_base.specs.Device.{Device, block_at, drained}
 use Rattle.thy_base.specs.Marks.{mark}
-use Rattle.thy_base.specs.Geometry.{IsInRange}
-use Rattle.thy_base.specs.Places.{dram_blocks}
 use Rattle.thy_isa.specs.Step.{State as Plain}
 use Rattle.thy_record.specs.declared.bad_image.BadImage.{BadImage}
 use Rattle.thy_record.specs.Commit.{is_zero}
@@ -19,7 +17,6 @@ use Rattle.thy_view.specs.Safe.{ceiling, Safe}
 use Rattle.thy_view.specs.Told.{told}
 use Rattle.thy_view.specs.Views.{doubt_of, loads}
 use Rattle.thy_protocol.specs.Keeps.{Tells, TellsAll, finding_view}
-use Rattle.thy_protocol.specs.Layout.{decode_by}
 use Rattle.thy_protocol.specs.Moves.{IsKeeping}
 use Rattle.thy_protocol.proofs.KeepsLemmas.{finding_view-told}
 use Rattle.thy_protocol.proofs.LayoutLemmas.{decode_by-nothing_back}
@@ -116,7 +113,8 @@ module _ (o : Origin) (g : BootImages) (n : Device) (b : Booting) (c : State) wh
   sized-at (Over end) going keeps = absurd going
 
 -- the view of a boot
-pub view-is : (o : Origin) (s : Value) (n : Device) (boots : Boots o s n) → view_at o s.boot.stage n ≡ seen_at o boots.images.kept s.boot.stage
+pub view-is : (o : Origin) (s : Value) (n : Device) (boots : Boots o s n)
+    → view_at o s.boot.stage n ≡ seen_at o boots.images.kept s.boot.stage
 view-is o s n boots = view-at o boots.images n s.boot s.pool s.boot.stage boots.going boots.sound.keeps boots.sound.so_far
 
 unread-at : (q : Stage) → has_read_at q ≡ false → q ≡ Reads Unread
@@ -221,7 +219,8 @@ own-mark o n (At epoch state) is own = (
 new-is_boot : (p : Parameters) → IsBoot filling_shadow (new_boot filling_shadow p)
 new-is_boot p = record { room = length-replicate (64 * slot_blocks p) 0; there = tt }
 
-module _ (o : Origin) (s : Value) (n : Device) (origin : IsOrigin o) (powered : IsPowered o.geometry s) (found : IsFound shadow_scheme o n) where
+module _ (o : Origin) (s : Value) (n : Device) (origin : IsOrigin o) (powered : IsPowered o.geometry s)
+    (found : IsFound shadow_scheme o n) where
   own : (kept : Option Mark) × Tells o (layout_of o) n.image kept
   own = own-mark o n (decode_shadow o.geometry ceiling n.image) refl found.own
 
@@ -237,7 +236,8 @@ module _ (o : Origin) (s : Value) (n : Device) (origin : IsOrigin o) (powered : 
     images = first;
     sound =
         subst (λ (b : Booting). IsBootOf filling_shadow o first n b s.pool) (sym powered.boot)
-        (new_is_sound filling_shadow pool_is_listed o first n s.pool fresh (ap (λ (l : State). l.p) powered.pool) refl found.sized found.settled own.1);
+        (new_is_sound filling_shadow pool_is_listed o first n s.pool fresh
+        (ap (λ (l : State). l.p) powered.pool) refl found.sized found.settled own.1);
     going = subst (λ (b : Booting). IsGoing b.stage) (sym powered.boot) tt;
     boot = subst (λ (b : Booting). IsBoot filling_shadow b) (sym powered.boot) (new-is_boot o.geometry);
     unused = record {

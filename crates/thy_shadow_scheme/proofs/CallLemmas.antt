@@ -58,7 +58,8 @@ slot_due : (k : CheckpointMarks) (first : Bool) → IsDue (if first then StateBl
 slot_due k true = tt
 slot_due k false = tt
 
-asks_slot : (lap : ℕ) (first : Bool) (at : ℕ) (block : Block) → at ≢ 1 → Asks (engine_did lap (if first then StateBlock else TableBlock)) (WriteAt at block)
+asks_slot : (lap : ℕ) (first : Bool) (at : ℕ) (block : Block) → at ≢ 1
+    → Asks (engine_did lap (if first then StateBlock else TableBlock)) (WriteAt at block)
 asks_slot lap true at block other = other
 asks_slot lap false at block other = other
 
@@ -97,7 +98,8 @@ owes_item ConfirmItem s n f new = tt
 
 -- ---- a step of the engine
 
-module _ (o : Origin) (k : CheckpointMarks) (s : Value) (n : Device) (stands : Stands shadow_scheme o k s n) (on : is_under_way s.engine.next ≡ true) where
+module _ (o : Origin) (k : CheckpointMarks) (s : Value) (n : Device) (stands : Stands shadow_scheme o k s n)
+    (on : is_under_way s.engine.next ≡ true) where
   abbrev e : Progress
   e = s.engine
 

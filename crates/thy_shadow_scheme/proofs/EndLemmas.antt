@@ -1,5 +1,5 @@
 -- The end of a boot: the checkpoint that it found or made is the committed one.
-use Rattle.std.proofs.Common.{◌≡◌, ℕ, suc, ◌+◌, ◌*◌, ◌%◌, ◌^◌, ◌<◌, ◌≤◌, Bool, true, false, List, [], ◌∷◌, length, map, get_or, Option, Some, None, refl, sym, ◌∙◌, ap, subst, arith}
+use Rattle.std.proofs.Common.{◌≡◌, ℕ, suc, ◌+◌, ◌%◌, ◌<◌, true, false, List, [], ◌∷◌, length, map, get_or, Option, Some, None, refl, sym, ◌∙◌, ap, subst, arith}
 use Rattle.std.specs.List.{range_with_len, sum_by}
 use Rattle.std.proofs.lemmas.List.{length-map, get_or-map, ext_get_or}
 use Rattle.std.proofs.lemmas.List.FromFn.{length-map-range_with_len, get_or-map-range_with_len}
@@ -95,7 +95,8 @@ none_filled (Some x ∷ es) none = let first : Some x ≡ None = none 0 in cc
 
 module _ (o : Origin) (m : Mark) (before : List Block) (n : Device) (b : Booting) (s : Value) (l : State)
     (geometry : b.p ≡ o.geometry) (pool : l.p ≡ o.geometry) (engine : s.engine.p ≡ o.geometry) (progress : IsSoundProgress s.engine)
-    (idle : is_under_way s.engine.next ≡ false) (room : l.dram.room ≡ o.geometry.dramq) (before_is : before ≡ n.image) (settled : n.queue ≡ [])
+    (idle : is_under_way s.engine.next ≡ false) (room : l.dram.room ≡ o.geometry.dramq) (before_is : before ≡ n.image)
+    (settled : n.queue ≡ [])
     (keeps : Keeps o (layout_of o) n (Kept before) (Some m) None) (found : IsRestored filling_shadow n b l)
     (state : state_from b.p (cpu_of_record (slot_read filling_shadow b)) (works l n) ≡ at o m.count) where
   abbrev slot : List Block
@@ -208,7 +209,8 @@ module _ (o : Origin) (g : BootImages) (n : Device) (b : Booting) (s : Value) (l
       get_or-map-range_with_len (block_at n.image) first (slot_blocks p) i (first + i) zero_block inside (omega arith)
       ∙ ap (λ (x : ℕ). block_at n.image (x + i)) is
       ∙ slot_at i inside
-      ∙ sym (get_or-map-range_with_len (slot_block_of p (cpu_of o.start) (first_table p) 0) 0 (slot_blocks p) i i zero_block inside (omega arith)))
+      ∙ sym (get_or-map-range_with_len (slot_block_of p (cpu_of o.start) (first_table p) 0) 0 (slot_blocks p) i i zero_block
+      inside (omega arith)))
 
   slot_is : slot_in (layout_of o) n.image ≡ slot_of (parts_by p (cpu_of o.start) (first_table p) 0)
   slot_is = slot_from (slot_place p (epoch_of (block_at n.image 1) % 2)) (ap (λ (x : ℕ). slot_place p (x % 2)) epoch_is)
@@ -222,7 +224,8 @@ module _ (o : Origin) (g : BootImages) (n : Device) (b : Booting) (s : Value) (l
     of_epoch = epoch_is;
     table_is =
         ap (table_in p) slot_is
-        ∙ (back p ceiling (cpu_of o.start) (first_table p) 0 start.geometry start.recordable (omega arith) (omega arith) (IsMap-first p)).table_back
+        ∙ (back p ceiling (cpu_of o.start) (first_table p) 0 start.geometry start.recordable (omega arith) (omega arith)
+        (IsMap-first p)).table_back
         ∙ sym table_first;
     whole = subst (IsMap p) (sym table_first) (IsMap-first p);
   }
@@ -243,7 +246,8 @@ module _ (o : Origin) (g : BootImages) (n : Device) (b : Booting) (s : Value) (l
 
   made_state : state_from p (cpu_of o.start) (works l n) ≡ at o o.start.count
   made_state =
-      ap (state_from p (cpu_of o.start)) (works_loaded ∙ memory_is) ∙ state_from-start p o.start start.geometry start.start ∙ sym (at-start o)
+      ap (state_from p (cpu_of o.start)) (works_loaded ∙ memory_is) ∙ state_from-start p o.start start.geometry start.start
+      ∙ sym (at-start o)
 
   sound_then : IsSoundShadow o (only (start_mark o)) (record s { pool = l; boot = b }) n
   sound_then = record {
@@ -253,7 +257,8 @@ module _ (o : Origin) (g : BootImages) (n : Device) (b : Booting) (s : Value) (l
       kept = refl;
       sealed = refl;
       keeping =
-          subst (λ (q : PoolStage). Keeps o (layout_of o) n (saved_at q (images_of n.image (start_mark o))) (Some (start_mark o)) None) (sym nothing) kept;
+          subst (λ (q : PoolStage). Keeps o (layout_of o) n (saved_at q (images_of n.image (start_mark o))) (Some (start_mark o)) None)
+          (sym nothing) kept;
       told = record {
         epoch = 0;
         told = told_first;

@@ -89,7 +89,8 @@ one_page s x y i j a b same =
 -- every other block of a frame is as before
 pub put_there : (s : State) (j c : ℕ) (block : Block) (i d : ℕ) → number_of s.p (Frame i d) ≢ number_of s.p (Frame j c)
     → frame_block (put_into j c block s) i d ≡ frame_block s i d
-put_there s j c block i d other = get_or-set_other s.dram.blocks (number_of s.p (Frame j c)) (number_of s.p (Frame i d)) block zero_block other
+put_there s j c block i d other =
+    get_or-set_other s.dram.blocks (number_of s.p (Frame j c)) (number_of s.p (Frame i d)) block zero_block other
 
 -- ---- the lowest free frame
 

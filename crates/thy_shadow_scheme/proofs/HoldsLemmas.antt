@@ -84,7 +84,8 @@ module _ (o : Origin) (k : CheckpointMarks) (s : Value) (n : Device) (sound : Is
       let ptt : l.p.ptt ≡ o.geometry.ptt = ap (λ (q : Parameters). q.ptt) p in
       let owed : owed_in shadow_scheme s n ≤ 64 * l.p.ptt = owed_most s n sound.held.state in
       record {
-        engine = subst (λ (q : Parameters). cycles_left s.engine ≤ most_cycles q) (sym sound.held.fits.same_p ∙ p) (cycles_are_few s.engine);
+        engine =
+            subst (λ (q : Parameters). cycles_left s.engine ≤ most_cycles q) (sym sound.held.fits.same_p ∙ p) (cycles_are_few s.engine);
         merges = omega arith;
         promotions = omega arith;
         owed = omega (arith, owed, ptt);

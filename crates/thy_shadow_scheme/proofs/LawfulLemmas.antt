@@ -52,7 +52,8 @@ IsListing-empty size numbers = record {
 }
 
 -- a new pool lists each page at its own number
-first_is : (p : Parameters) (q n : ℕ) (low : Bool) → nat_lt q p.pages ≡ low → lists number_key n (if low then Some (held q) else None) ≡ true
+first_is : (p : Parameters) (q n : ℕ) (low : Bool) → nat_lt q p.pages ≡ low
+    → lists number_key n (if low then Some (held q) else None) ≡ true
     → (q < p.pages) × (q ≡ n)
 first_is p q n true l here = (ltb-true q p.pages l, lists-key_of number_key n (Some (held q)) (held q) here refl)
 first_is p q n false l here = cc

@@ -33,5 +33,6 @@ owed_full most owed = omega arith
 
 pub owed_under_way : (s : Value) (n : Device) → is_under_way s.engine.next ≡ true → 64 * s.pool.p.ptt ≤ owed_in shadow_scheme s n
 owed_under_way s n on =
-    subst (λ (way : Bool). 64 * s.pool.p.ptt ≤ owed_by way (64 * s.pool.p.ptt) (64 * free_count s.pool.frames - copied_by s.pool.begun)) (sym on)
+    subst (λ (way : Bool). 64 * s.pool.p.ptt ≤ owed_by way (64 * s.pool.p.ptt) (64 * free_count s.pool.frames - copied_by s.pool.begun))
+    (sym on)
     (owed_full (64 * s.pool.p.ptt) (64 * free_count s.pool.frames - copied_by s.pool.begun))

@@ -1,13 +1,11 @@
 -- Power comes on.
-use Rattle.std.proofs.Common.{◌≡◌, ℕ, ◌+◌, ◌-◌, ◌*◌, ◌<◌, ◌≤◌, Bool, true, false, nat_lt, if◌then◌else◌, max, [], length, Option, Some, None, refl, sym, ◌∙◌, ap, subst, arith}
+use Rattle.std.proofs.Common.{◌≡◌, ℕ, ◌-◌, ◌*◌, ◌<◌, ◌≤◌, Bool, true, false, nat_lt, if◌then◌else◌, [], Option, Some, None, refl, sym, ◌∙◌, ap, subst, arith}
 use Rattle.std.proofs.lemmas.Bool.{ltb-true}
 use Rattle.std.proofs.lemmas.List.{get_or-replicate, ext_get_or}
 use Rattle.thy_base.specs.declared.config.Parameters.{Parameters}
-use Rattle.thy_base.specs.declared.nvm.Shape.{Shape}
-use Rattle.thy_base.specs.Device.{Device, zero_block, fitted}
+use Rattle.thy_base.specs.Device.{zero_block, fitted}
 use Rattle.thy_dram.specs.Contents.{Contents}
 use Rattle.thy_record.specs.Commit.{is_zero}
-use Rattle.thy_record.specs.Decoded.{Nothing}
 use Rattle.thy_record.proofs.ReadBackLemmas.{is_zero-zero_block}
 use Rattle.thy_table.specs.Listing.{entry_at}
 use Rattle.thy_view.specs.Safe.{ceiling}
@@ -44,11 +42,13 @@ table_alike p f g same =
     let l : x < 8 * map_blocks p = subst (λ (n : ℕ). x < n) size below in
     listed_at-table_by p f x l ∙ entry_alike p f g same x (nat_lt x p.pages) refl ∙ sym (listed_at-table_by p g x l))
 
-page_first : (p : Parameters) (dram : Contents) → IsSoundState (new_state p dram) → (x : ℕ) → x < p.pages → pool_of (new_state p dram) x ≡ Some x
+page_first : (p : Parameters) (dram : Contents) → IsSoundState (new_state p dram) → (x : ℕ) → x < p.pages
+    → pool_of (new_state p dram) x ≡ Some x
 page_first p dram sound x l =
     sound.pool_once.found x x (held_lists x (entry_at (new_state p dram).pool x) (entry_at-first p (pool_pages p) x ∙ first_page p x l))
 
-pub first_committed : (p : Parameters) (dram : Contents) → IsSoundState (new_state p dram) → committed_table (new_state p dram) ≡ first_table p
+pub first_committed : (p : Parameters) (dram : Contents) → IsSoundState (new_state p dram)
+    → committed_table (new_state p dram) ≡ first_table p
 first_committed p dram sound = table_alike p (pool_of (new_state p dram)) (λ x. Some x) (page_first p dram sound)
 
 -- and no frame is filled or begun

@@ -23,7 +23,8 @@ abbrev shortage : ℕ → ℕ → ℕ → Shortage
 shortage free dirty need = record { free = free; dirty = dirty; need = need }
 
 -- with two frames free, and no line dirty, there is room for the blocks of any instruction
-no-shortage : (free dirty : ℕ) (storeless : Bool) (h : Hand) → IsFresh h dirty storeless → (storeless ≡ true → 2 ≤ free) → short_of free dirty h ≡ None
+no-shortage : (free dirty : ℕ) (storeless : Bool) (h : Hand) → IsFresh h dirty storeless → (storeless ≡ true → 2 ≤ free)
+    → short_of free dirty h ≡ None
 no-shortage free dirty storeless Nothing fresh room = refl
 no-shortage free dirty storeless (Reading e from to) fresh room = refl
 no-shortage free dirty storeless (Reserving e to) fresh room = by_room (nat_lt free (dirty + blocks_of to)) refl
@@ -43,6 +44,7 @@ first_has_room o cycles m n sound runs going zero idle =
     let run : SoundRun shadow_scheme o m n = subst (λ (phase : Phase). SoundIn shadow_scheme o phase m n) runs sound.moment in
     let dirty : ℕ = dirty_count m.cache in
     let fresh : m.hart.epoch.retired ≡ 0 → IsFresh m.hart.hand dirty m.scheme.storeless
-    = subst (λ (over : Option EndCause). StartsFresh over m.hart.epoch.retired m.hart.hand dirty m.scheme.storeless) going run.paced.fresh in
+    = subst (λ (over : Option EndCause). StartsFresh over m.hart.epoch.retired m.hart.hand dirty m.scheme.storeless)
+    going run.paced.fresh in
     no-shortage (shadow_scheme.free m.scheme) dirty m.scheme.storeless m.hart.hand (fresh zero)
     (λ storeless. some-free m.scheme.pool run.checkpoints.held.state (run.checkpoints.rest storeless idle))

@@ -1,5 +1,5 @@
 -- What loads and stores keep, and when blocks are held.
-use Rattle.std.proofs.Common.{◌≡◌, ℕ, ◌-◌, ◌<◌, ◌≤◌, ◌==◌, ◌&&◌, ◌||◌, not, Bool, true, false, if◌then◌else◌, List, [], length, refl, sym, ◌∙◌, ap, subst, arith, Result, Ok, Err, OnErr}
+use Rattle.std.proofs.Common.{◌≡◌, ℕ, ◌<◌, ◌≤◌, ◌==◌, ◌&&◌, ◌||◌, not, Bool, true, false, if◌then◌else◌, List, [], length, refl, sym, ◌∙◌, ap, subst, arith, Result, Ok, Err, OnErr}
 use Rattle.thy_base.specs.declared.block.Block.{Block}
 use Rattle.thy_base.specs.declared.config.Parameters.{Parameters}
 use Rattle.thy_base.specs.declared.nvm.NvmError.{NvmError}
@@ -23,7 +23,8 @@ up_of : (down : Bool) → not down ≡ true → down ≡ false
 up_of true h = cc
 up_of false h = refl
 
-held_up : (sized down agree : Bool) (blocks : List Block) (b : ℕ) → b < length (if sized && not down && agree then blocks else []) → down ≡ false
+held_up : (sized down agree : Bool) (blocks : List Block) (b : ℕ) → b < length (if sized && not down && agree then blocks else [])
+    → down ≡ false
 held_up true true agree blocks b l = absurd (omega (arith, l))
 held_up false true agree blocks b l = absurd (omega (arith, l))
 held_up sized false agree blocks b l = refl
@@ -58,7 +59,8 @@ up_before : (before after : Bool) → (before ≡ true → after ≡ true) → a
 up_before true after on up = let no : true ≡ false = sym (on refl) ∙ up in absurd cc
 up_before false after on up = refl
 
-pub on-stays : (a : Value) (m : Device) (b : Value) (n : Device) (c : Value) (o : Device) → StaysShadow a m b n → StaysShadow b n c o → StaysShadow a m c o
+pub on-stays : (a : Value) (m : Device) (b : Value) (n : Device) (c : Value) (o : Device) → StaysShadow a m b n → StaysShadow b n c o
+    → StaysShadow a m c o
 on-stays a m b n c o first second = record {
   same_p = second.same_p ∙ first.same_p;
   engine = second.engine ∙ first.engine;

@@ -1,5 +1,5 @@
 -- A step of the boot.
-use Rattle.std.proofs.Common.{◌≡◌, ◌≢◌, ℕ, ◌+◌, ◌-◌, ◌≤◌, Bool, true, false, List, length, refl, sym, ◌∙◌, ap, subst, inl, inr, arith, Option, Some, None, Result, Ok, Err, IfOk, OnErr}
+use Rattle.std.proofs.Common.{◌≡◌, ◌≢◌, ℕ, ◌+◌, ◌≤◌, Bool, true, false, List, length, refl, sym, ◌∙◌, ap, subst, inl, inr, arith, Option, Some, None, Result, Ok, Err, IfOk, OnErr}
 use Rattle.thy_base.specs.declared.block.Block.{Block}
 use Rattle.thy_base.specs.declared.config.Parameters.{Parameters}
 use Rattle.thy_base.specs.declared.mark.Mark.{Mark}
@@ -7,7 +7,7 @@ use Rattle.thy_base.specs.declared.nvm.NvmError.{NvmError}
 use Rattle.thy_base.specs.Device.{Device, HasFailed, IsFramed, CountsFault}
 use Rattle.thy_base.specs.Marks.{mark}
 use Rattle.thy_crash.specs.Saved.{Kept}
-use Rattle.thy_dram.specs.Contents.{Contents, written}
+use Rattle.thy_dram.specs.Contents.{Contents}
 use Rattle.thy_isa.specs.declared.state.CpuState.{CpuState}
 use Rattle.thy_isa.specs.OnBlocks.{state_from}
 use Rattle.thy_isa.specs.Step.{State as Plain, cpu_of, state_of}
@@ -55,7 +55,7 @@ use Rattle.thy_shadow_image.specs.Places.{image_blocks}
 use Rattle.thy_shadow_image.specs.Layout.{decode_shadow, layout_of}
 use Rattle.thy_shadow_image.specs.Slots.{slot_fault}
 use Rattle.thy_shadow_image.proofs.FitLemmas.{slot_fits-cpu}
-use Rattle.thy_pool.specs.Holding.{works, copies_agree}
+use Rattle.thy_pool.specs.Holding.{works, opened_by, copies_agree}
 use Rattle.thy_pool.specs.State.{State, IsSoundState}
 use Rattle.thy_repool.specs.Filling.{filling_shadow}
 use Rattle.thy_repool.proofs.LawLemmas.{pool_is_listed}
@@ -93,20 +93,23 @@ queued-by n new old now acts = elim acts as (λ _. now.queued ≤ old.queued + 1
 
 -- only a new boot has read nothing, and it has no more left than any
 read-on : (b d : Booting) (q r : Stage) → d.p ≡ b.p → boot_left filling_shadow d r + 1 ≤ boot_left filling_shadow b q → has_read_at r ≡ true
-read-on b d q (Reads Unread) same less = absurd (most q (subst (λ (p : Parameters). boot_left filling_shadow (record d { p = p }) (Reads Unread) + 1 ≤ boot_left filling_shadow b q) same less)) where
-  most : (q : Stage) → boot_left filling_shadow (record d { p = b.p }) (Reads Unread) + 1 ≤ boot_left filling_shadow b q → ⊥
-  most (Reads Unread) l = omega (arith, l)
-  most (Reads ReadsHeader) l = omega (arith, l)
-  most (Reads (ReadsSlot next)) l = omega (arith, l)
-  most (Reads (Fills k)) l = omega (arith, l)
-  most (Reads (Refusing bad)) l = omega (arith, l)
-  most (Loading (Home c)) l = omega (arith, l)
-  most (Loading (Slot k)) l = omega (arith, l)
-  most (Loading Header) l = omega (arith, l)
-  most (Loading Settle) l = omega (arith, l)
-  most (Loading Commit) l = omega (arith, l)
-  most (Loading Confirm) l = omega (arith, l)
-  most (Over end) l = omega (arith, l)
+read-on b d q (Reads Unread) same less =
+    absurd (most q
+    (subst (λ (p : Parameters). boot_left filling_shadow (record d { p = p }) (Reads Unread) + 1 ≤ boot_left filling_shadow b q)
+    same less)) where
+      most : (q : Stage) → boot_left filling_shadow (record d { p = b.p }) (Reads Unread) + 1 ≤ boot_left filling_shadow b q → ⊥
+      most (Reads Unread) l = omega (arith, l)
+      most (Reads ReadsHeader) l = omega (arith, l)
+      most (Reads (ReadsSlot next)) l = omega (arith, l)
+      most (Reads (Fills k)) l = omega (arith, l)
+      most (Reads (Refusing bad)) l = omega (arith, l)
+      most (Loading (Home c)) l = omega (arith, l)
+      most (Loading (Slot k)) l = omega (arith, l)
+      most (Loading Header) l = omega (arith, l)
+      most (Loading Settle) l = omega (arith, l)
+      most (Loading Commit) l = omega (arith, l)
+      most (Loading Confirm) l = omega (arith, l)
+      most (Over end) l = omega (arith, l)
 read-on b d q (Reads ReadsHeader) same less = refl
 read-on b d q (Reads (ReadsSlot next)) same less = refl
 read-on b d q (Reads (Fills k)) same less = refl
@@ -134,13 +137,15 @@ module _ (o : Origin) (g : BootImages) (n : Device) (b : Booting) (c : State) wh
   abbrev WasLoading : Stage → Type 0
   WasLoading q = (o.kept ≡ None) × (seen_at o g.kept q ≡ record (loading_view o.start.count) { written = true })
 
-  was-loading : (q : Stage) → IsGoing q → (seen_at o g.kept q).written ≡ true → IsKeeping o (layout_of o) (standing_in_boot o q g n) → WasLoading q
+  was-loading : (q : Stage) → IsGoing q → (seen_at o g.kept q).written ≡ true → IsKeeping o (layout_of o) (standing_in_boot o q g n)
+      → WasLoading q
   was-loading (Reads r) going w keeps = absurd (unwritten g.kept w)
   was-loading (Loading issue) going w keeps =
       (loads-first o g n b c issue keeps.told, ap (λ (t : Bool). record (loading_view o.start.count) { written = t }) w)
   was-loading (Over end) going w keeps = absurd going
 
-  found-mark : (kept : Option Mark) (m : Mark) → (finding_view o.start.count kept).done ≡ Some m → finding_view o.start.count kept ≡ boot_view (Some m) None
+  found-mark : (kept : Option Mark) (m : Mark) → (finding_view o.start.count kept).done ≡ Some m
+      → finding_view o.start.count kept ≡ boot_view (Some m) None
   found-mark None m d = cc
   found-mark (Some k) m d = ap (λ (x : Option Mark). boot_view x None) d
 
@@ -236,7 +241,8 @@ module _ (o : Origin) (s : Value) (n : Device) (booting : IsBooting shadow_schem
 
   -- ---- it continues
 
-  goes-on : (q : Stage) → d.stage ≡ q → IsGoing q → BootsTo v (seen_at o g.kept q) → Boots o t new × BootsTo (view_at o b.stage n) (view_at o d.stage new)
+  goes-on : (q : Stage) → d.stage ≡ q → IsGoing q → BootsTo v (seen_at o g.kept q)
+      → Boots o t new × BootsTo (view_at o b.stage n) (view_at o d.stage new)
   goes-on q is going to =
       let on : Boots o t new = boots-on (subst (λ (x : Stage). IsGoing x) (sym is) going) in
       let now : view_at o d.stage new ≡ seen_at o g.kept q
@@ -256,8 +262,10 @@ module _ (o : Origin) (s : Value) (n : Device) (booting : IsBooting shadow_schem
       let was : WasLoading o g n b s.pool b.stage = was-loading o g n b s.pool b.stage boots.going shows.written boots.sound.keeps in
       let keeps : IsKeeping o (layout_of o) (standing_in_boot o (Over Loaded) h new)
       = subst (λ (x : Stage). IsKeeping o (layout_of o) (standing_in_boot o x h new)) is moved.sound.keeps in
-      let far : IsLoadedBoot filling_shadow o h new e = subst (λ (x : Stage). IsSoundAt filling_shadow o x h new d e) is moved.sound.so_far in
-      let ended = loaded_sound o h new d s e boots.origin moved.sound.same_p boots.unused.engine boots.unused.progress boots.unused.idle room keeps far in
+      let far : IsLoadedBoot filling_shadow o h new e
+      = subst (λ (x : Stage). IsSoundAt filling_shadow o x h new d e) is moved.sound.so_far in
+      let ended = loaded_sound o h new d s e boots.origin moved.sound.same_p
+      boots.unused.engine boots.unused.progress boots.unused.idle room keeps far in
       record {
         fresh = was.0;
         view = before ∙ was.1;
@@ -266,7 +274,7 @@ module _ (o : Origin) (s : Value) (n : Device) (booting : IsBooting shadow_schem
           state = ap (state_from o.geometry (cpu_of o.start)) (blocks_are keeps.sized ended.0.copies) ∙ ended.1;
           count = refl;
           recordable = (CanStart-origin o boots.origin).recordable;
-          closed = refl;
+          closed = ap opened_by far.fresh.unframed.unbegun;
           whole = refl;
           storeless = boots.storeless;
         };
@@ -282,7 +290,8 @@ module _ (o : Origin) (s : Value) (n : Device) (booting : IsBooting shadow_schem
       let m : Mark = r.0 in
       let keeps : Keeps o (layout_of o) new (Kept h.before) (Some m) None = r.3 in
       let found : IsRestored filling_shadow new d e = r.5 in
-      let far : IsRecovering filling_shadow h new d e = subst (λ (x : Stage). IsSoundAt filling_shadow o x h new d e) is moved.sound.so_far in
+      let far : IsRecovering filling_shadow h new d e
+      = subst (λ (x : Stage). IsSoundAt filling_shadow o x h new d e) is moved.sound.so_far in
       let made : state_from d.p cpu (works e new) ≡ at o m.count = r.4 in
       let made_state : state_from o.geometry cpu (works e new) ≡ at o m.count
       = ap (λ (p : Parameters). state_from p cpu (works e new)) (sym moved.sound.geometry) ∙ made in
@@ -290,7 +299,8 @@ module _ (o : Origin) (s : Value) (n : Device) (booting : IsBooting shadow_schem
       = sym (pool_is_listed.counts o.geometry slot (works e new)) ∙ ap (λ (x : Plain). x.count) made_state ∙ keeps.told.counted in
       let is_mark : m ≡ mark epoch cpu.count
       = ap (λ (x : ℕ). mark x m.count) r.2 ∙ ap (mark epoch) (sym count) in
-      let ended = restored_sound o m h.before new d s e moved.sound.geometry moved.sound.same_p boots.unused.engine boots.unused.progress boots.unused.idle room
+      let ended = restored_sound o m h.before new d s e moved.sound.geometry moved.sound.same_p
+      boots.unused.engine boots.unused.progress boots.unused.idle room
       far.before_is far.read.settled keeps found made in
       let fits = slot_fits-cpu o.geometry ceiling epoch slot
       (subst (λ (p : Parameters). slot_fault p ceiling epoch slot ≡ None) moved.sound.geometry found.slot_fits) in
@@ -299,7 +309,7 @@ module _ (o : Origin) (s : Value) (n : Device) (booting : IsBooting shadow_schem
         state = ap (state_from o.geometry cpu) (blocks_are keeps.sized ended.copies) ∙ made_state;
         count = count;
         recordable = IsRecordable-at o m.count cpu (works e new) boots.origin made_state fits.1 fits.0;
-        closed = refl;
+        closed = ap opened_by found.lists.unframed.unbegun;
         whole = refl;
         storeless = boots.storeless;
       } in
@@ -348,7 +358,8 @@ module _ (o : Origin) (s : Value) (n : Device) (booting : IsBooting shadow_schem
 -- ---- one that failed
 
 -- if a checkpoint was found a step reads, and one that failed wrote nothing
-found-reads : (o : Origin) (kept : Option Mark) (m : Mark) (b : Booting) (c : State) (n new : Device) (q : Stage) → (seen_at o kept q).done ≡ Some m
+found-reads : (o : Origin) (kept : Option Mark) (m : Mark) (b : Booting) (c : State) (n new : Device) (q : Stage)
+    → (seen_at o kept q).done ≡ Some m
     → FailsTo (action_at filling_shadow q o.start b c) n new → HasFailed n new
 found-reads o kept m b c n new (Reads r) done f = read_failed filling_shadow pool_is_listed b c r n new f
 found-reads o kept m b c n new (Loading issue) done f = let both : None ≡ Some m = done in absurd (cc)
@@ -361,7 +372,8 @@ module _ (o : Origin) (s : Value) (n : Device) (booting : IsBooting shadow_schem
       let seen : View = seen_at o boots.images.kept s.boot.stage in
       let action : Action = action_of filling_shadow o.start s.boot s.pool in
       let safe : Safe decode_shadow o seen.done (doubt_after_fault action seen) new
-      = (failures_move filling_shadow pool_is_listed o boots.images n s.boot s.pool new boots.origin boots.sound boots.going fails framed).safe in
+      = (failures_move filling_shadow pool_is_listed o boots.images n s.boot s.pool new boots.origin boots.sound boots.going
+      fails framed).safe in
       let answer : BootStep = failed_answer s.boot.stage in
       record {
         step = step_of answer;
@@ -373,7 +385,8 @@ module _ (o : Origin) (s : Value) (n : Device) (booting : IsBooting shadow_schem
         };
         safe = subst (λ (x : View). Safe decode_shadow o x.done (doubt_after_fault action x) new) (sym (view-is o s n boots)) safe;
         still = λ m found current.
-            found-reads o boots.images.kept m s.boot s.pool n new s.boot.stage (sym (ap (λ (x : View). x.done) (view-is o s n boots)) ∙ found) fails;
+            found-reads o boots.images.kept m s.boot s.pool n new s.boot.stage
+            (sym (ap (λ (x : View). x.done) (view-is o s n boots)) ∙ found) fails;
       }
 
 -- ---- by the boot's result
@@ -403,11 +416,13 @@ of-by (Ok a) s t as_was = tt
 of-by (Err x) s t as_was = of-same s t as_was
 
 -- with the start of a run
-pub took-for : (o : Origin) (start : Start) → Begins o start → (r : Result BootStep NvmError) (n : Device) (b : Booting) (c : State) (new : Device) (d : Booting) (e : State)
+pub took-for : (o : Origin) (start : Start) → Begins o start
+    → (r : Result BootStep NvmError) (n : Device) (b : Booting) (c : State) (new : Device) (d : Booting) (e : State)
     → TakesStep filling_shadow r (state_of start.state) n b c new d e → TakesStep filling_shadow r o.start n b c new d e
 took-for o start begins r n b c new d e took = subst (λ (x : Plain). TakesStep filling_shadow r x n b c new d e) (sym begins.state) took
 
-pub may-step : (start : Start) (s : Value) (n : Device) → CanBoot shadow_scheme start s n → CanStep filling_shadow (state_of start.state) n s.boot s.pool
+pub may-step : (start : Start) (s : Value) (n : Device) → CanBoot shadow_scheme start s n
+    → CanStep filling_shadow (state_of start.state) n s.boot s.pool
 may-step start s n can =
     let boots : Boots can.o s n = can.booting.boots in
     subst (λ (x : Plain). CanStep filling_shadow x n s.boot s.pool) can.begins.state

@@ -87,7 +87,8 @@ module _ (b : ℕ) (block : Block) (s : State) (n : Device) (sound : IsSoundStat
     into_there a None is other = refl
     into_there a (Some i) is other = put_there s j c block i (a % 64)
         (elim (cases_eq i j) as (λ _. number_of s.p (Frame i (a % 64)) ≢ number_of s.p (Frame j c)) [
-          | inl same ↦ apart_block s.p i j (a % 64) c (omega arith) block_small (other_block a other (one_page s (page_of a) x i j is found same))
+          | inl same ↦ apart_block s.p i j (a % 64) c (omega arith) block_small
+              (other_block a other (one_page s (page_of a) x i j is found same))
           | inr apart ↦ apart_frame s.p i j (a % 64) c (omega arith) block_small apart
         ])
 
@@ -128,7 +129,9 @@ module _ (b : ℕ) (block : Block) (s : State) (n : Device) (sound : IsSoundStat
         cc
 
     pub sound_into : IsSoundState into
-    sound_into = IsSoundState-dram s (written s.dram (number_of s.p (Frame j c)) block) sound (length-set s.dram.blocks (number_of s.p (Frame j c)) block)
+    sound_into =
+        IsSoundState-dram s (written s.dram (number_of s.p (Frame j c)) block) sound
+        (length-set s.dram.blocks (number_of s.p (Frame j c)) block)
 
   -- ---- into no frame, since its page has none
 
@@ -166,12 +169,14 @@ module _ (b : ℕ) (block : Block) (s : State) (n : Device) (sound : IsSoundStat
 
       copied_there : (a : ℕ) (o : Option ℕ) → frame_of s (page_of a) ≡ o → work_by copied n a o ≡ work_by s n a o
       copied_there a None is = refl
-      copied_there a (Some i) is = put_there s j k copy i (a % 64) (apart_frame s.p i j (a % 64) k (omega arith) few (not_lowest (page_of a) i is))
+      copied_there a (Some i) is =
+          put_there s j k copy i (a % 64) (apart_frame s.p i j (a % 64) k (omega arith) few (not_lowest (page_of a) i is))
 
       -- each block loads as before
       pub works_copied : works copied n ≡ works s n
       works_copied =
-          map-alike (work_of copied n) (work_of s n) (range_with_len 0 (memory_blocks s.p)) (λ a inside. copied_there a (frame_of s (page_of a)) refl)
+          map-alike (work_of copied n) (work_of s n) (range_with_len 0 (memory_blocks s.p))
+          (λ a inside. copied_there a (frame_of s (page_of a)) refl)
 
       copied_each : AreCopied s n x k → (d : ℕ) → d < k + 1 → frame_block copied j d ≡ newest n (page_place s x d)
       copied_each before d l = elim (cases_eq d k) as (λ _. frame_block copied j d ≡ newest n (page_place s x d)) [
@@ -191,7 +196,8 @@ module _ (b : ℕ) (block : Block) (s : State) (n : Device) (sound : IsSoundStat
       pub sound_copied : IsSoundState copied
       sound_copied =
           let put : IsSoundState (put_into j k copy s)
-          = IsSoundState-dram s (written s.dram (number_of s.p (Frame j k)) copy) sound (length-set s.dram.blocks (number_of s.p (Frame j k)) copy) in
+          = IsSoundState-dram s (written s.dram (number_of s.p (Frame j k)) copy) sound
+          (length-set s.dram.blocks (number_of s.p (Frame j k)) copy) in
           IsSoundState-begun (put_into j k copy s) (begun_for x (k + 1)) put
           (record { page = page_small; unframed = unframed; few = omega (arith, few); room = room })
 
@@ -219,13 +225,16 @@ module _ (b : ℕ) (block : Block) (s : State) (n : Device) (sound : IsSoundStat
 
       pub filled_is : filled j x s ≡ full
       filled_is =
-          ap (λ o. state_in s.p (record s.pool { entries = added_at o (held (s.p.pages + j)) s.pool.entries }) (added (framed x) s.frames) None s.dram) is_place
+          ap (λ o. state_in s.p (record s.pool { entries = added_at o (held (s.p.pages + j)) s.pool.entries })
+          (added (framed x) s.frames) None s.dram) is_place
           ∙ ap (λ o. state_in s.p pool (record s.frames { entries = added_at o (framed x) s.frames.entries }) None s.dram) is_lowest
 
       full_sound : IsSoundState full
-      full_sound = subst (λ (t : State). IsSoundState t) filled_is (IsSoundState-filled s sound x j place page_small unframed is_lowest is_place)
+      full_sound =
+          subst (λ (t : State). IsSoundState t) filled_is (IsSoundState-filled s sound x j place page_small unframed is_lowest is_place)
 
-      at_place : (place < length s.pool.entries) × (entry_at s.pool place ≡ None) × ((k : ℕ) → k < place → is_some (entry_at s.pool k) ≡ true)
+      at_place : (place < length s.pool.entries) × (entry_at s.pool place ≡ None)
+          × ((k : ℕ) → k < place → is_some (entry_at s.pool k) ≡ true)
       at_place = free_first s.pool place is_place
 
       frame_size : j < length s.frames.entries
@@ -249,7 +258,8 @@ module _ (b : ℕ) (block : Block) (s : State) (n : Device) (sound : IsSoundStat
       frame_here = place_of-put page_key s.frames sound.frames_once j (framed x) frame_size unframed page_number
 
       frame_there : (y : ℕ) → y ≢ x → frame_of full y ≡ frame_of s y
-      frame_there y other = place_of-put_other page_key s.frames sound.frames_once j (framed x) y frame_size j_free unframed page_number other
+      frame_there y other =
+          place_of-put_other page_key s.frames sound.frames_once j (framed x) y frame_size j_free unframed page_number other
 
       pool_there : (y : ℕ) → y < s.p.pages → pool_of full y ≡ pool_of s y
       pool_there y l =
@@ -278,7 +288,8 @@ module _ (b : ℕ) (block : Block) (s : State) (n : Device) (sound : IsSoundStat
 
       -- one of any other page loads as before
       committed_there : (a : ℕ) → a < memory_blocks s.p → committed_of put n a ≡ committed_of s n a
-      committed_there a l = ap (λ (o : Option ℕ). newest n (pool_place s.p (pool_page o) (a % 64))) (pool_there (page_of a) (omega (arith, l)))
+      committed_there a l =
+          ap (λ (o : Option ℕ). newest n (pool_place s.p (pool_page o) (a % 64))) (pool_there (page_of a) (omega (arith, l)))
 
       put_other : (a : ℕ) (o : Option ℕ) → a < memory_blocks s.p → frame_of s (page_of a) ≡ o → work_by put n a o ≡ work_by s n a o
       put_other a None l is = committed_there a l
@@ -295,7 +306,9 @@ module _ (b : ℕ) (block : Block) (s : State) (n : Device) (sound : IsSoundStat
       works_put = map_set (memory_blocks s.p) (work_of put n) (work_of s n) b block small put_is_here put_is_there
 
       pub sound_put : IsSoundState put
-      sound_put = IsSoundState-dram full (written s.dram (number_of s.p (Frame j c)) block) full_sound (length-set s.dram.blocks (number_of s.p (Frame j c)) block)
+      sound_put =
+          IsSoundState-dram full (written s.dram (number_of s.p (Frame j c)) block) full_sound
+          (length-set s.dram.blocks (number_of s.p (Frame j c)) block)
 
       -- one frame less is free
       pub free_full : free_count frames + 1 ≡ free_count s.frames
@@ -327,12 +340,14 @@ Keeps b block n s case =
 framed_same : (n : Device) → IsFramed n n
 framed_same n = record { blocks = refl; left = refl; picks = refl; queue_room = refl; left_room = refl; fits = refl; lent = refl }
 
-module _ (b : ℕ) (block : Block) (s : Value) (n : Device) (sound : IsSoundState s.pool) (inside : b < length (shadow_scheme.holding s n).blocks)
+module _ (b : ℕ) (block : Block) (s : Value) (n : Device) (sound : IsSoundState s.pool)
+    (inside : b < length (shadow_scheme.holding s n).blocks)
     (room : 0 < (shadow_scheme.holding s n).free) where
   abbrev l : State
   l = s.pool
 
-  parts : (let z : Bool = length n.image == image_blocks s.pool.p in z ≡ true) × (n.down ≡ false) × (copies_agree s.pool n ≡ true) × (b < length (works s.pool n))
+  parts : (let z : Bool = length n.image == image_blocks s.pool.p in z ≡ true) × (n.down ≡ false) × (copies_agree s.pool n ≡ true)
+      × (b < length (works s.pool n))
   parts = held_parts (length n.image == image_blocks l.p) n.down (copies_agree l n) (works l n) b inside
 
   small : b < memory_blocks l.p

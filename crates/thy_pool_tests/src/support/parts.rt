@@ -128,7 +128,8 @@ fn step<N: Nvm>(
 {
     a_boot_may_go_on::<Relist>();
     pool.sound();
-    boot.step::<Relist, N>(pool, start, nvm).expect(rt, "a step")
+    boot.step::<Relist, N>(pool, start, nvm)
+        .expect(rt, "a step")
 }
 
 /// Takes so many steps, or fewer if the boot is over before, and returns what the last one returned.
@@ -246,7 +247,11 @@ impl Parts {
     {
         let free = self.pool.free();
         assert!(rt; free > 0);
-        match self.pool.store(b, block, &mut self.nvm).expect(rt, "a store") {
+        match self
+            .pool
+            .store(b, block, &mut self.nvm)
+            .expect(rt, "a store")
+        {
             Stored::Done => true,
             Stored::CopyFirst => false,
         }

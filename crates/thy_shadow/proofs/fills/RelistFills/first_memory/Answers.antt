@@ -10,13 +10,16 @@ pub pool-requires-clause-page : goal.pool-requires-clause-page
 pool-requires-clause-page c = omega (arith, c.requires.inside, length-memory_places c.args.geometry.now (first_table c.args.geometry.now))
 
 pub start_block-requires-clause-place : goal.start_block-requires-clause-place
-start_block-requires-clause-place c = omega (arith, c.requires.inside, length-memory_places c.args.geometry.now (first_table c.args.geometry.now))
+start_block-requires-clause-place c =
+    omega (arith, c.requires.inside, length-memory_places c.args.geometry.now (first_table c.args.geometry.now))
 
 pub start_block-requires-clause-start : goal.start_block-requires-clause-start
 start_block-requires-clause-start c = c.requires.start.start
 
 pub returns-clause-place : goal.returns-clause-place
-returns-clause-place c = c.pool.ensures.place ∙ sym (place_at c.args.geometry.now (state_of c.args.state.now) c.requires.start c.args.b c.requires.inside)
+returns-clause-place c =
+    c.pool.ensures.place
+    ∙ sym (place_at c.args.geometry.now (state_of c.args.state.now) c.requires.start c.args.b c.requires.inside)
 
 pub returns-clause-block : goal.returns-clause-block
 returns-clause-block c =

@@ -10,4 +10,5 @@ pub returns : goal.returns
 returns c =
     c.slot_fault.ensures
     ∙ ap (λ e. slot_fault c.args.geometry.now ceiling e (blocks_of c.args.slot.now)) c.word.ensures
-    ∙ ap (slot_fault c.args.geometry.now ceiling (epoch_of c.args.commit.now)) (sym (whole_slot c.args.geometry.now c.args.slot.now c.requires.room))
+    ∙ ap (slot_fault c.args.geometry.now ceiling (epoch_of c.args.commit.now))
+    (sym (whole_slot c.args.geometry.now c.args.slot.now c.requires.room))

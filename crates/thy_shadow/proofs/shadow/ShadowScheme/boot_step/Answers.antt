@@ -14,62 +14,70 @@ use Rattle.thy_shadow_scheme.specs.Scheme.{shadow_scheme}
 use Rattle.thy_shadow_scheme.proofs.StepLemmas.{boots-by, boot-fails-by, cause-by, of-by, took-for, may-step}
 use Rattle.thy_shadow.specs.Calls.{TakesBootStep}
 use Rattle.thy_shadow.proofs.CallLemmas.{boot_fits, takes_boot_step}
+use Rattle.thy_shadow.specs.contracts.shadow.Shadow.{the_view}
 use Rattle.thy_shadow.proofs.shadow.ShadowScheme.boot_step.Goals as goal
 
 pub step-result-requires-clause-can : goal.step-result-requires-clause-can
 step-result-requires-clause-can g c =
-    let v : Value = record { pool = c.self.inside.pool; engine = c.self.inside.engine; storeless = c.self.inside.storeless; sealed_storeless = c.self.inside.sealed_storeless; boot = c.self.inside.boot } in
+    let v : Value = the_view c.self.inside in
     let n : Device = g.N.Nvm.device c.args.nvm.now in
     may-step c.args.start.now v n (subst (λ (s : Value). CanBoot shadow_scheme c.args.start.now s n) (sym c.self.view_is) c.requires.boots)
 
 pub step-result-requires-clause-fits : goal.step-result-requires-clause-fits
 step-result-requires-clause-fits g c =
-    let v : Value = record { pool = c.self.inside.pool; engine = c.self.inside.engine; storeless = c.self.inside.storeless; sealed_storeless = c.self.inside.sealed_storeless; boot = c.self.inside.boot } in
+    let v : Value = the_view c.self.inside in
     let n : Device = g.N.Nvm.device c.args.nvm.now in
-    let can : CanBoot shadow_scheme c.args.start.now v n = subst (λ (s : Value). CanBoot shadow_scheme c.args.start.now s n) (sym c.self.view_is) c.requires.boots in
+    let can : CanBoot shadow_scheme c.args.start.now v n
+    = subst (λ (s : Value). CanBoot shadow_scheme c.args.start.now s n) (sym c.self.view_is) c.requires.boots in
     can.booting.boots.boot
 
 pub invariant_of-self : goal.invariant_of-self
 invariant_of-self g c =
-    let v : Value = record { pool = c.self.inside.pool; engine = c.self.inside.engine; storeless = c.self.inside.storeless; sealed_storeless = c.self.inside.sealed_storeless; boot = c.self.inside.boot } in
+    let v : Value = the_view c.self.inside in
     let n : Device = g.N.Nvm.device c.args.nvm.now in
     let new : Device = g.N.Nvm.device c.step-result.new.nvm in
-    let can : CanBoot shadow_scheme c.args.start.now v n = subst (λ (s : Value). CanBoot shadow_scheme c.args.start.now s n) (sym c.self.view_is) c.requires.boots in
-    boot_fits can.o v n can.booting new c.step-result.new.self c.step-result.new.control c.step-result.result
-    (took-for can.o c.args.start.now can.begins c.step-result.result n v.boot v.pool new c.step-result.new.self c.step-result.new.control c.step-result.ensures.step)
-    c.self.invariant
+    let can : CanBoot shadow_scheme c.args.start.now v n
+    = subst (λ (s : Value). CanBoot shadow_scheme c.args.start.now s n) (sym c.self.view_is) c.requires.boots in
+    let d : Booting = c.step-result.new.self in
+    let t : State = c.step-result.new.control in
+    let r : Result BootStep NvmError = c.step-result.result in
+    boot_fits can.o v n can.booting new d t r
+    (took-for can.o c.args.start.now can.begins r n v.boot v.pool new d t c.step-result.ensures.step) c.self.invariant
 
 pub returns-clause-ok : goal.returns-clause-ok
 returns-clause-ok g c = λ o begins booting.
-    let v : Value = record { pool = c.self.inside.pool; engine = c.self.inside.engine; storeless = c.self.inside.storeless; sealed_storeless = c.self.inside.sealed_storeless; boot = c.self.inside.boot } in
+    let v : Value = the_view c.self.inside in
     let n : Device = g.N.Nvm.device c.args.nvm.now in
     let new : Device = g.N.Nvm.device c.step-result.new.nvm in
     let d : Booting = c.step-result.new.self in
     let t : State = c.step-result.new.control in
     let r : Result BootStep NvmError = c.step-result.result in
     let booting_v : IsBooting shadow_scheme o v n = subst (λ (s : Value). IsBooting shadow_scheme o s n) (sym c.self.view_is) booting in
-    let took : TakesStep filling_shadow r o.start n v.boot v.pool new d t = took-for o c.args.start.now begins r n v.boot v.pool new d t c.step-result.ensures.step in
-    subst (λ (s : Value). IfOk c.scheme_result.result (λ step. BootsOn shadow_scheme o step s n (record v { pool = t; boot = d }) new)) c.self.view_is
-    (subst (λ (x : Result SchemeStep NvmError). IfOk x (λ step. BootsOn shadow_scheme o step v n (record v { pool = t; boot = d }) new)) (sym c.scheme_result.ensures)
+    let took : TakesStep filling_shadow r o.start n v.boot v.pool new d t
+    = took-for o c.args.start.now begins r n v.boot v.pool new d t c.step-result.ensures.step in
+    let next : Value = record v { pool = t; boot = d } in
+    subst (λ (s : Value). IfOk c.scheme_result.result (λ step. BootsOn shadow_scheme o step s n next new)) c.self.view_is
+    (subst (λ (x : Result SchemeStep NvmError). IfOk x (λ step. BootsOn shadow_scheme o step v n next new)) (sym c.scheme_result.ensures)
     (boots-by o v n booting_v new d t took.fits c.sound.ensures r c.step-result.ensures.answer took))
 
 pub returns-clause-err : goal.returns-clause-err
 returns-clause-err g c = λ o begins booting.
-    let v : Value = record { pool = c.self.inside.pool; engine = c.self.inside.engine; storeless = c.self.inside.storeless; sealed_storeless = c.self.inside.sealed_storeless; boot = c.self.inside.boot } in
+    let v : Value = the_view c.self.inside in
     let n : Device = g.N.Nvm.device c.args.nvm.now in
     let new : Device = g.N.Nvm.device c.step-result.new.nvm in
     let d : Booting = c.step-result.new.self in
     let t : State = c.step-result.new.control in
     let r : Result BootStep NvmError = c.step-result.result in
     let booting_v : IsBooting shadow_scheme o v n = subst (λ (s : Value). IsBooting shadow_scheme o s n) (sym c.self.view_is) booting in
-    let took : TakesStep filling_shadow r o.start n v.boot v.pool new d t = took-for o c.args.start.now begins r n v.boot v.pool new d t c.step-result.ensures.step in
+    let took : TakesStep filling_shadow r o.start n v.boot v.pool new d t
+    = took-for o c.args.start.now begins r n v.boot v.pool new d t c.step-result.ensures.step in
     subst (λ (s : Value). OnErr c.scheme_result.result (BootFails shadow_scheme o s n new)) c.self.view_is
     (subst (λ (x : Result SchemeStep NvmError). OnErr x (BootFails shadow_scheme o v n new)) (sym c.scheme_result.ensures)
     (boot-fails-by o v n booting_v new d t took.fits c.sound.ensures r took))
 
 pub returns-clause-left : goal.returns-clause-left
 returns-clause-left g c =
-    let v : Value = record { pool = c.self.inside.pool; engine = c.self.inside.engine; storeless = c.self.inside.storeless; sealed_storeless = c.self.inside.sealed_storeless; boot = c.self.inside.boot } in
+    let v : Value = the_view c.self.inside in
     let next : Value = record v { pool = c.step-result.new.control; boot = c.step-result.new.self } in
     subst (λ (s : Value). OnErr c.scheme_result.result (StaysOf shadow_scheme s next)) c.self.view_is
     (subst (λ (x : Result SchemeStep NvmError). OnErr x (StaysOf shadow_scheme v next)) (sym c.scheme_result.ensures)
@@ -84,11 +92,12 @@ returns-clause-cause g c =
 
 pub returns-clause-made : goal.returns-clause-made
 returns-clause-made g c =
-    let v : Value = record { pool = c.self.inside.pool; engine = c.self.inside.engine; storeless = c.self.inside.storeless; sealed_storeless = c.self.inside.sealed_storeless; boot = c.self.inside.boot } in
+    let v : Value = the_view c.self.inside in
     let n : Device = g.N.Nvm.device c.args.nvm.now in
     let new : Device = g.N.Nvm.device c.step-result.new.nvm in
     let d : Booting = c.step-result.new.self in
     let t : State = c.step-result.new.control in
-    subst (λ (s : Value). TakesBootStep c.args.start.now s n c.scheme_result.result (record v { pool = t; boot = d }) new) c.self.view_is
-    (subst (λ (x : Result SchemeStep NvmError). TakesBootStep c.args.start.now v n x (record v { pool = t; boot = d }) new) (sym c.scheme_result.ensures)
+    let next : Value = record v { pool = t; boot = d } in
+    subst (λ (s : Value). TakesBootStep c.args.start.now s n c.scheme_result.result next new) c.self.view_is
+    (subst (λ (x : Result SchemeStep NvmError). TakesBootStep c.args.start.now v n x next new) (sym c.scheme_result.ensures)
     (takes_boot_step c.args.start.now v n c.step-result.result t d new c.step-result.ensures.answer c.step-result.ensures.step))

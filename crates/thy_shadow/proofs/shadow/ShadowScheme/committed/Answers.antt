@@ -6,6 +6,7 @@ use Rattle.thy_pool.specs.State.{committed_of}
 use Rattle.thy_shadow_laws.specs.Shadow.{Shadow as Value}
 use Rattle.thy_shadow_scheme.specs.Scheme.{shadow_scheme}
 use Rattle.thy_shadow.proofs.CallLemmas.{ok_same, committed_long, committed_is}
+use Rattle.thy_shadow.specs.contracts.shadow.Shadow.{the_view}
 use Rattle.thy_shadow.proofs.shadow.ShadowScheme.committed.Goals as goal
 
 pub committed-requires-clause-block : goal.committed-requires-clause-block
@@ -17,7 +18,7 @@ committed-requires-clause-block g c =
 
 pub committed-requires-clause-sized : goal.committed-requires-clause-sized
 committed-requires-clause-sized g c =
-    let v : Value = record { pool = c.self.inside.pool; engine = c.self.inside.engine; storeless = c.self.inside.storeless; sealed_storeless = c.self.inside.sealed_storeless; boot = c.self.inside.boot } in
+    let v : Value = the_view c.self.inside in
     let n : Device = g.N.Nvm.device c.args.nvm.now in
     let run : CanRun shadow_scheme v n = subst (λ (s : Value). CanRun shadow_scheme s n) (sym c.self.view_is) c.requires.stands in
     run.stands.sound.held.sized

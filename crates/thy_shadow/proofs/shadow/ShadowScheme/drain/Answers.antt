@@ -9,11 +9,12 @@ use Rattle.thy_shadow_scheme.specs.Scheme.{shadow_scheme}
 use Rattle.thy_shadow_scheme.proofs.BootLemmas.{boot-drains}
 use Rattle.thy_shadow_scheme.proofs.CallLemmas.{drains}
 use Rattle.thy_shadow.specs.Calls.{drained}
+use Rattle.thy_shadow.specs.contracts.shadow.Shadow.{the_view}
 use Rattle.thy_shadow.proofs.shadow.ShadowScheme.drain.Goals as goal
 
 pub returns-clause-running : goal.returns-clause-running
 returns-clause-running c = λ o k n stands.
-    let v : Value = record { pool = c.self.inside.pool; engine = c.self.inside.engine; storeless = c.self.inside.storeless; sealed_storeless = c.self.inside.sealed_storeless; boot = c.self.inside.boot } in
+    let v : Value = the_view c.self.inside in
     let some : 0 < v.pool.dram.queued = subst (λ (s : Value). 0 < s.pool.dram.queued) (sym c.self.view_is) c.requires in
     subst (λ (s : Value). Drains shadow_scheme o k s n (record v { pool = c.drain.new.self })) c.self.view_is
     (subst (λ (x : State). Drains shadow_scheme o k v n (record v { pool = x })) (sym c.drain.ensures)
@@ -21,7 +22,7 @@ returns-clause-running c = λ o k n stands.
 
 pub returns-clause-booting : goal.returns-clause-booting
 returns-clause-booting c = λ o n booting.
-    let v : Value = record { pool = c.self.inside.pool; engine = c.self.inside.engine; storeless = c.self.inside.storeless; sealed_storeless = c.self.inside.sealed_storeless; boot = c.self.inside.boot } in
+    let v : Value = the_view c.self.inside in
     let some : 0 < v.pool.dram.queued = subst (λ (s : Value). 0 < s.pool.dram.queued) (sym c.self.view_is) c.requires in
     let boots : Boots o v n = subst (λ (s : Value). Boots o s n) (sym c.self.view_is) booting.boots in
     subst (λ (s : Value). BootDrains shadow_scheme o s n (record v { pool = c.drain.new.self })) c.self.view_is
@@ -29,5 +30,6 @@ returns-clause-booting c = λ o n booting.
 
 pub returns-clause-state : goal.returns-clause-state
 returns-clause-state c =
-    let v : Value = record { pool = c.self.inside.pool; engine = c.self.inside.engine; storeless = c.self.inside.storeless; sealed_storeless = c.self.inside.sealed_storeless; boot = c.self.inside.boot } in
-    subst (λ (s : Value). record v { pool = c.drain.new.self } ≡ drained s) c.self.view_is (ap (λ (x : State). record v { pool = x }) c.drain.ensures)
+    let v : Value = the_view c.self.inside in
+    subst (λ (s : Value). record v { pool = c.drain.new.self } ≡ drained s) c.self.view_is
+    (ap (λ (x : State). record v { pool = x }) c.drain.ensures)

@@ -11,11 +11,12 @@ use Rattle.thy_shadow_scheme.proofs.CallLemmas.{engines-by, fails-by}
 use Rattle.thy_shadow_scheme.proofs.StayLemmas.{of-failed}
 use Rattle.thy_shadow.specs.Calls.{TakesItem}
 use Rattle.thy_shadow.proofs.CallLemmas.{takes_item, fits_by}
+use Rattle.thy_shadow.specs.contracts.shadow.Shadow.{the_view}
 use Rattle.thy_shadow.proofs.shadow.ShadowScheme.engine_step.Goals as goal
 
 pub step-requires-clause-sized : goal.step-requires-clause-sized
 step-requires-clause-sized g c =
-    let v : Value = record { pool = c.self.inside.pool; engine = c.self.inside.engine; storeless = c.self.inside.storeless; sealed_storeless = c.self.inside.sealed_storeless; boot = c.self.inside.boot } in
+    let v : Value = the_view c.self.inside in
     let n : Device = g.N.Nvm.device c.args.nvm.now in
     let run : CanRun shadow_scheme v n = subst (λ (s : Value). CanRun shadow_scheme s n) (sym c.self.view_is) c.requires.stands in
     run.stands.sound.held.sized
@@ -26,31 +27,35 @@ step-requires-clause-up g c = c.requires.stands.stands.up
 pub invariant_of-self : goal.invariant_of-self
 invariant_of-self g c =
     let e = c.step.ensures in
-    fits_by c.self.inside.engine c.self.inside.pool c.step.new.self c.step.new.pool c.step.result e.engine e.pool e.kept e.kept_pool c.self.invariant
+    fits_by c.self.inside.engine c.self.inside.pool c.step.new.self c.step.new.pool c.step.result
+    e.engine e.pool e.kept e.kept_pool c.self.invariant
 
 pub returns-clause-ok : goal.returns-clause-ok
 returns-clause-ok g c = λ o k stands.
-    let v : Value = record { pool = c.self.inside.pool; engine = c.self.inside.engine; storeless = c.self.inside.storeless; sealed_storeless = c.self.inside.sealed_storeless; boot = c.self.inside.boot } in
+    let v : Value = the_view c.self.inside in
     let n : Device = g.N.Nvm.device c.args.nvm.now in
     let new : Device = g.N.Nvm.device c.step.new.nvm in
     let r : Result EngineStep NvmError = c.step.result in
-    let on : is_under_way v.engine.next ≡ true = subst (λ (s : Value). is_under_way s.engine.next ≡ true) (sym c.self.view_is) c.requires.way in
+    let on : is_under_way v.engine.next ≡ true
+    = subst (λ (s : Value). is_under_way s.engine.next ≡ true) (sym c.self.view_is) c.requires.way in
     let stands_v : Stands shadow_scheme o k v n = subst (λ (s : Value). Stands shadow_scheme o k s n) (sym c.self.view_is) stands in
     let e = c.step.ensures in
-    subst (λ (s : Value). IfOk r (λ step. Engines shadow_scheme o k step s n (record v { pool = c.step.new.pool; engine = c.step.new.self }) new)) c.self.view_is
+    let next : Value = record v { pool = c.step.new.pool; engine = c.step.new.self } in
+    subst (λ (s : Value). IfOk r (λ step. Engines shadow_scheme o k step s n next new)) c.self.view_is
     (engines-by o k v n stands_v on c.step.new.self c.step.new.pool new r e.answer e.engine e.pool e.device)
 
 pub returns-clause-err : goal.returns-clause-err
 returns-clause-err g c = λ o k stands.
-    let v : Value = record { pool = c.self.inside.pool; engine = c.self.inside.engine; storeless = c.self.inside.storeless; sealed_storeless = c.self.inside.sealed_storeless; boot = c.self.inside.boot } in
+    let v : Value = the_view c.self.inside in
     let n : Device = g.N.Nvm.device c.args.nvm.now in
-    let on : is_under_way v.engine.next ≡ true = subst (λ (s : Value). is_under_way s.engine.next ≡ true) (sym c.self.view_is) c.requires.way in
+    let on : is_under_way v.engine.next ≡ true
+    = subst (λ (s : Value). is_under_way s.engine.next ≡ true) (sym c.self.view_is) c.requires.way in
     let stands_v : Stands shadow_scheme o k v n = subst (λ (s : Value). Stands shadow_scheme o k s n) (sym c.self.view_is) stands in
     fails-by o k v n stands_v on (g.N.Nvm.device c.step.new.nvm) c.step.result c.step.ensures.err c.step.ensures.frame
 
 pub returns-clause-made : goal.returns-clause-made
 returns-clause-made g c =
-    let v : Value = record { pool = c.self.inside.pool; engine = c.self.inside.engine; storeless = c.self.inside.storeless; sealed_storeless = c.self.inside.sealed_storeless; boot = c.self.inside.boot } in
+    let v : Value = the_view c.self.inside in
     let n : Device = g.N.Nvm.device c.args.nvm.now in
     let new : Device = g.N.Nvm.device c.step.new.nvm in
     let e = c.step.ensures in
@@ -59,6 +64,7 @@ returns-clause-made g c =
 
 pub returns-clause-left : goal.returns-clause-left
 returns-clause-left g c =
-    let v : Value = record { pool = c.self.inside.pool; engine = c.self.inside.engine; storeless = c.self.inside.storeless; sealed_storeless = c.self.inside.sealed_storeless; boot = c.self.inside.boot } in
+    let v : Value = the_view c.self.inside in
     let next : Value = record v { pool = c.step.new.pool; engine = c.step.new.self } in
-    subst (λ (s : Value). OnErr c.step.result (StaysOf shadow_scheme s next)) c.self.view_is (of-failed c.step.result v next c.step.ensures.kept_pool)
+    subst (λ (s : Value). OnErr c.step.result (StaysOf shadow_scheme s next)) c.self.view_is
+    (of-failed c.step.result v next c.step.ensures.kept_pool)

@@ -5,25 +5,26 @@ use Rattle.thy_pool.specs.Holding.{holding_of}
 use Rattle.thy_pool.specs.State.{work_of}
 use Rattle.thy_shadow_laws.specs.Shadow.{Shadow as Value}
 use Rattle.thy_shadow.proofs.CallLemmas.{load_stays, ok_same}
+use Rattle.thy_shadow.specs.contracts.shadow.Shadow.{the_view}
 use Rattle.thy_shadow.proofs.shadow.ShadowScheme.load.Goals as goal
 
 pub load-requires-clause-block : goal.load-requires-clause-block
 load-requires-clause-block g c =
-    let v : Value = record { pool = c.self.inside.pool; engine = c.self.inside.engine; storeless = c.self.inside.storeless; sealed_storeless = c.self.inside.sealed_storeless; boot = c.self.inside.boot } in
+    let v : Value = the_view c.self.inside in
     let n : Device = g.N.Nvm.device c.args.nvm.now in
     let inside = subst (λ (s : Value). c.args.b < length (holding_of s.pool n).blocks) (sym c.self.view_is) c.requires in
     (c.what_is_held_stays.ensures.works v n c.args.b inside).1
 
 pub load-requires-clause-sized : goal.load-requires-clause-sized
 load-requires-clause-sized g c =
-    let v : Value = record { pool = c.self.inside.pool; engine = c.self.inside.engine; storeless = c.self.inside.storeless; sealed_storeless = c.self.inside.sealed_storeless; boot = c.self.inside.boot } in
+    let v : Value = the_view c.self.inside in
     let n : Device = g.N.Nvm.device c.args.nvm.now in
     let inside = subst (λ (s : Value). c.args.b < length (holding_of s.pool n).blocks) (sym c.self.view_is) c.requires in
     record { nvm = (c.what_is_held_stays.ensures.works v n c.args.b inside).0 }
 
 pub returns-clause-ok : goal.returns-clause-ok
 returns-clause-ok g c =
-    let v : Value = record { pool = c.self.inside.pool; engine = c.self.inside.engine; storeless = c.self.inside.storeless; sealed_storeless = c.self.inside.sealed_storeless; boot = c.self.inside.boot } in
+    let v : Value = the_view c.self.inside in
     let n : Device = g.N.Nvm.device c.args.nvm.now in
     let inside = subst (λ (s : Value). c.args.b < length (holding_of s.pool n).blocks) (sym c.self.view_is) c.requires in
     subst (λ (s : Value). IfOk c.load.result (λ block. block ≡ block_at (holding_of s.pool n).blocks c.args.b)) c.self.view_is
@@ -32,5 +33,5 @@ returns-clause-ok g c =
 
 pub returns-clause-stays : goal.returns-clause-stays
 returns-clause-stays g c =
-    load_stays c.args.self.now (g.N.Nvm.device c.args.nvm.now) (g.N.Nvm.device c.load.new.nvm) c.load.result c.load.ensures.same c.load.ensures.err
-    c.load.ensures.frame
+    load_stays c.args.self.now (g.N.Nvm.device c.args.nvm.now) (g.N.Nvm.device c.load.new.nvm) c.load.result
+    c.load.ensures.same c.load.ensures.err c.load.ensures.frame

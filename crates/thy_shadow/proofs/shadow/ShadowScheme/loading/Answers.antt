@@ -6,4 +6,5 @@ use Rattle.thy_shadow.proofs.shadow.ShadowScheme.loading.Goals as goal
 
 pub returns-clause-found : goal.returns-clause-found
 returns-clause-found c = λ o n boots.
-    c.is_loading.ensures ∙ ap loads_at c.stage.ensures ∙ ap (λ (s : Value). loads_at s.boot.stage) c.self.view_is ∙ loading-is o c.args.self.now n boots
+    c.is_loading.ensures ∙ ap loads_at c.stage.ensures
+    ∙ ap (λ (s : Value). loads_at s.boot.stage) c.self.view_is ∙ loading-is o c.args.self.now n boots
