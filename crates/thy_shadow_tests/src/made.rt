@@ -51,7 +51,7 @@ fn runs_of_a_made_program_are_summed_up(rt: HostRuntime) -> Result<(), Fail> {
 static CUTS: [&str; 3] = [
     "--cuts 20000 --tears 0",
     "--cuts 30000,60000,90000 --tears 7,1,9",
-    "--btt 32 --ptt 8 --cuts 25000,70000 --tears 1,0",
+    "--btt 32 --ptt 24 --cuts 25000,70000 --tears 1,0",
 ];
 
 #[test]
