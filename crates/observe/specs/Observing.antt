@@ -5,14 +5,14 @@ use Rattle.thy_base.specs.declared.outside.PutError.{PutError}
 use Rattle.thy_base.specs.Outside.{Stream}
 use Rattle.thy_words.specs.declared.words.WordsError.{WordsError}
 use Rattle.thy_words.specs.declared.words.WordsError.TheVariants.{Usage, Memory}
-use Rattle.thy_words.specs.Settings.{Job, Order, run, resume, bench, plain, make, settings_of}
+use Rattle.thy_words.specs.Settings.{Job, Order, run, resume, bench, compare, plain, make, settings_of}
 use Rattle.thy_observe.specs.declared.tally.Tally.{Tally}
 use Rattle.thy_observe.specs.Tallied.{IsTally}
 use Rattle.thy_observe.specs.Trapping.{HasTrap}
 use Rattle.thy_cli.specs.declared.answer.Answer.{Answer}
 use Rattle.thy_cli.specs.declared.refusal.Refusal.{Refusal}
 use Rattle.thy_cli.specs.declared.refusal.Refusal.TheVariants.{Words}
-use Rattle.thy_cli.specs.Answering.{Outside, Closes, put_line, told_of}
+use Rattle.thy_cli.specs.Answering.{Around, NvmOf, Outside, Closes, outside_of, put_line, told_of}
 use Rattle.thy_cli.specs.Machines.{Choice}
 use Rattle.thy_cli.specs.Saving.{IsPut}
 use Rattle.thy_cli.specs.Watching.{ClaimSeen}
@@ -32,6 +32,7 @@ is_taken out (run file job) = bytes_eq file out || is_of_job out job
 is_taken out (resume image job) = bytes_eq image out || is_of_job out job
 is_taken out (bench n job) = is_of_job out job
 is_taken out (plain file job) = bytes_eq file out || is_of_job out job
+is_taken out (compare file job) = true
 is_taken out (make n name) = true
 
 abbrev pub is_taken_by : List ℕ → Result Order WordsError → Bool
@@ -59,28 +60,30 @@ IsTold out None old new answered status = (new ≡ old) × (status ≡ answered)
 IsTold out (Some e) old new answered status = Closes (put_line out) old new × (status ≡ 3)
 
 -- bytes were put under OUT, or were not, and all else is left alone
-pub record PutsOut (out : List ℕ) (middle after : Outside) (a : Answer) (status : ℕ) : Type 0 where
+pub record PutsOut {N : Type 0} (out : List ℕ) (middle after : Around N) (a : Answer) (status : ℕ) : Type 0 where
   pub text : List ℕ
   pub why : Option PutError
   pub put : IsPut out text middle.shelf after.shelf why
-  pub device : after.device ≡ middle.device
+  pub nvm : after.nvm ≡ middle.nvm
   pub terminal : after.terminal ≡ middle.terminal
   pub is_told : IsTold out why middle.report after.report a.status status
 
 -- nothing was put
-abbrev pub LeavesOut : Outside → Outside → Answer → ℕ → Type 0
+abbrev pub LeavesOut : {N : Type 0} → Around N → Around N → Answer → ℕ → Type 0
 LeavesOut middle after a status = (after ≡ middle) × (status ≡ a.status)
 
 -- The arguments were answered as thynvm answers them, and the tally is that of the run's cycles, or has the trap of the plain
 -- machine. Then OUT was put, or nothing was.
-pub record IsObserved (c : Choice) (out : List ℕ) (words : List (List ℕ)) (before after : Outside) (status : ℕ) : Type 0 where
-  pub middle : Outside
+pub record IsObserved {N : Type 0} (c : Choice) (d : NvmOf N) (out : List ℕ) (words : List (List ℕ)) (before after : Around N)
+    (status : ℕ) : Type 0 where
+  pub middle : Around N
   pub answer : Answer
   pub tally : Tally
-  pub claim : ClaimSeen c IsTally HasTrap words before middle answer tally
+  pub claim : ClaimSeen c d IsTally HasTrap words before middle answer tally
   pub ends : LeavesOut middle after answer status ⊎ PutsOut out middle after answer status
 
 -- what a call does, with OUT and these arguments
-abbrev pub Observed : Choice → List ℕ → List (List ℕ) → Outside → Outside → ℕ → Type 0
-Observed c out words before after status =
-    ((e : WordsError) × IsTurned out words before after status e) ⊎ IsObserved c out words before after status
+abbrev pub Observed : {N : Type 0} → Choice → NvmOf N → List ℕ → List (List ℕ) → Around N → Around N → ℕ → Type 0
+Observed c d out words before after status =
+    ((e : WordsError) × IsTurned out words (outside_of d before) (outside_of d after) status e)
+    ⊎ IsObserved c d out words before after status

@@ -31,7 +31,10 @@ impl Losses {
                     self.at = None;
                 }
             }
-            Event::EpochEnd { .. } | Event::Commit { .. } | Event::Ended { .. } => {}
+            Event::Scheme { .. }
+            | Event::EpochEnd { .. }
+            | Event::Commit { .. }
+            | Event::Ended { .. } => {}
         }
     }
 }
@@ -49,7 +52,7 @@ fn count_at(retired: Option<RetiredCount>) -> Option<u64> {
 fn count_in(event: &Event, retired: Option<RetiredCount>) -> Option<u64> {
     match event {
         Event::Restart { count, .. } => Some(*count),
-        Event::Reload => Some(0),
+        Event::Scheme { .. } | Event::Reload => Some(0),
         Event::Cut { .. } => count_at(retired),
         Event::EpochEnd { .. } | Event::Commit { .. } | Event::Ended { .. } => match retired {
             Some(_) => count_at(retired),

@@ -33,6 +33,6 @@ pub fn is_taken(out: &str, command: &Command) -> bool
         }
         Command::Resume { image, job } => image.as_str() == out || is_of_job(out, job),
         Command::Bench { job, .. } => is_of_job(out, job),
-        Command::Make { .. } => true,
+        Command::Compare { .. } | Command::Make { .. } => true,
     }
 }

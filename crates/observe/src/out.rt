@@ -31,7 +31,7 @@ impl Asked {
                 base: job.config.base,
                 plain: true,
             },
-            Some(Command::Make { .. }) | None => Asked {
+            Some(Command::Compare { .. }) | Some(Command::Make { .. }) | None => Asked {
                 base: 0,
                 plain: false,
             },
@@ -60,10 +60,10 @@ pub fn text_of(
         add_trap(alloc, &mut text, tally.trap())?;
         return Ok(Some(text));
     }
-    let Some(lost) = add_lines(alloc, &mut text, tally, &answer.events)? else {
+    let Some(lost) = add_lines(alloc, &mut text, tally, answer.events.last())? else {
         return Ok(None);
     };
-    add_trap(alloc, &mut text, trap_in(&answer.events, asked.base))?;
-    add_totals(alloc, &mut text, tally, calls, lost, &answer.events)?;
+    add_trap(alloc, &mut text, trap_in(answer.events.last(), asked.base))?;
+    add_totals(alloc, &mut text, tally, calls, lost, answer.events.last())?;
     Ok(Some(text))
 }

@@ -1,7 +1,7 @@
 //! The call: what thynvm does, and then OUT.
 ghost use Rattle.std.specs.Prelude.{◌≡◌, map};
 ghost use Rattle.std.specs.String.{string_bytes};
-ghost use Rattle.thy_cli.specs.Answering.{outside};
+ghost use Rattle.thy_cli.specs.Answering.{around, nvm_of};
 ghost use Rattle.thy_cli.specs.Machines.{by_scheme};
 ghost use Rattle.thy_cli.specs.Saving.{IsPut};
 ghost use Rattle.thy_run.specs.Sending.{Sent};
@@ -69,14 +69,15 @@ pub fn observe<H: Shelf, T: Sink, R: Sink, N: Nvm + Counts>(
     report: &mut R,
     nvm: &mut N,
 ) -> u8
-    ensures { let before = outside (H.stock shelf.old) (N.device nvm.old)
+    ensures { let before = around (H.stock shelf.old) nvm.old
         (T.stream terminal.old) (R.stream report.old) in
-        let after = outside (H.stock shelf.new) (N.device nvm.new)
+        let after = around (H.stock shelf.new) nvm.new
         (T.stream terminal.new) (R.stream report.new) in
+        let nvms = nvm_of N.device N.writes in
         let machines = by_scheme ⟦<Machine<DualScheme> as Computer>⟧.kind
         ⟦<Machine<Journal> as Computer>⟧.kind
         ⟦<Machine<Shadow> as Computer>⟧.kind in
-        Observed machines out.now (map string_bytes words.now) before after result }
+        Observed machines nvms out.now (map string_bytes words.now) before after result }
 {
     let asked = match settings(alloc, words) {
         Ok(command) => {

@@ -136,3 +136,10 @@ ptt_eights p r = r.1.1.1.1.1.0.1
 
 pub limit_least : (p : Parameters) → IsInRange p → 1 ≤ p.limit
 limit_least p r = omega arith
+
+-- there are one or two harts
+pub harts_least : (p : Parameters) → IsInRange p → 1 ≤ p.harts
+harts_least p r = omega arith
+
+pub harts_most : (p : Parameters) → IsInRange p → p.harts ≤ 2
+harts_most p r = omega arith

@@ -59,9 +59,9 @@ threshold_rows p = row High p.high (at_most 63) ∷ row Low p.low (at_most p.hig
 abbrev pub limit_row : Parameters → Row
 limit_row p = row Limit p.limit (between 1 (10 ^ 12))
 
--- one hart so far
+-- one hart, or two
 abbrev pub harts_row : Parameters → Row
-harts_row p = row Harts p.harts (between 1 1)
+harts_row p = row Harts p.harts (between 1 2)
 
 -- The numbers that come before the lists, each with its range. The seed of the schedule may be any.
 abbrev pub number_rows : Parameters → List Row

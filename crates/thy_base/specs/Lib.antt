@@ -14,5 +14,6 @@ pub mod Mix
 pub mod Outside
 pub mod Ranges
 pub mod Places
+pub mod Schemes
 pub mod Store
 pub mod Words

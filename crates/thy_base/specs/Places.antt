@@ -1,7 +1,7 @@
 -- Part of the claim.
 -- The places of both devices, and the numbers of the blocks that they have. The NVM has the header (block 0), the
 -- commit block (block 1), two slots of version 1, the places of memory's blocks, and behind them two slots of version 2.
-use Rattle.std.specs.Prelude.{◌≡◌, ◌⊎◌, ℕ, ◌+◌, ◌*◌, ◌/◌, ◌<◌, ◌≤◌, Bool, true, false}
+use Rattle.std.specs.Prelude.{◌≡◌, ◌⊎◌, ℕ, ◌+◌, ◌-◌, ◌*◌, ◌/◌, ◌<◌, ◌≤◌, Bool, true, false}
 use Rattle.thy_base.specs.declared.config.Parameters.{Parameters}
 use Rattle.thy_base.specs.declared.layout_version.LayoutVersion.{LayoutVersion}
 use Rattle.thy_base.specs.declared.layout_version.LayoutVersion.TheVariants.{VersionOne, VersionTwo}
@@ -9,9 +9,9 @@ use Rattle.thy_base.specs.declared.place.Place.{Place}
 use Rattle.thy_base.specs.declared.place.Place.TheVariants.{Home, AlternateBlock, AlternatePage, Buffer, Frame}
 use Rattle.thy_base.specs.Geometry.{memory_blocks}
 
--- how many blocks the processor's record has
+-- how many blocks the processor's record has: five, and five more for the second hart if there is one
 abbrev pub record_blocks : Parameters → ℕ
-record_blocks p = 5
+record_blocks p = 5 + 5 * (p.harts - 1)
 
 -- how many the block table and the page table have, eight entries a block
 abbrev pub table_blocks : Parameters → ℕ

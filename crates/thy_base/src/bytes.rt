@@ -95,6 +95,14 @@ impl Bytes {
         self.items.extend_from_slice(piece)
     }
 
+    /// Gives up all bytes, and keeps the room.
+    pub fn clear(&mut self)
+        ensures bytes { bytes_of self.new ≡ [] }
+        ensures room { room_of self.new ≡ room_of self.old }
+    {
+        self.items.clear();
+    }
+
     /// A copy.
     pub fn duplicate(&self, alloc: Global) -> Result<Bytes, AllocError>
         ensures { IfOk result (λ b. bytes_of b ≡ bytes_of self.now) }

@@ -40,7 +40,7 @@ pub struct Config {
     pub limit: u64,
     /// The scheme of checkpoints.
     pub scheme: SchemeName,
-    /// The harts: 1.
+    /// The harts: 1 or 2.
     pub harts: u64,
     /// After how many writes of the NVM a barrier moves a line of it: at most 1,000,000. 0 is never.
     pub gap: u64,

@@ -63,6 +63,14 @@ impl Geometry {
         self.numbers
     }
 
+    /// How many harts there are.
+    pub fn harts(&self) -> u64
+        ensures harts { result ≡ self.now.harts }
+        ensures in_range { IsInRange self.now }
+    {
+        self.numbers.harts
+    }
+
     /// How many blocks memory has, the console's included.
     pub fn memory_blocks(&self) -> u64
         ensures blocks { result ≡ memory_blocks self.now }

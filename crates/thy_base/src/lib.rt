@@ -25,6 +25,7 @@ mod page;
 mod place;
 mod places;
 mod ranges;
+mod scheme_name;
 mod store;
 mod words;
 

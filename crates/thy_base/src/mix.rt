@@ -1,14 +1,16 @@
 //! The schedule of a run: which actor takes each cycle.
 ghost use Rattle.std.specs.Prelude.{◌≡◌};
-ghost use Rattle.thy_base.specs.Mix.{mix_start, mix_pick, mix_next, after_pick, pick_of};
+ghost use Rattle.thy_base.specs.Mix.{mix_start, mix_pick, mix_next, after_pick, pick_of, pick_of_four, pick_of_five};
 
 use crate::Lcg;
 
-/// Which of the four actors takes a cycle.
+/// Which of the actors takes a cycle.
 #[derive(Clone, Copy, Debug, PartialEq, Eq)]
 pub enum Pick {
-    /// The processor's hart.
+    /// Hart 0.
     Hart,
+    /// Hart 1, if there are two.
+    Second,
     /// The checkpoint engine.
     Engine,
     /// One write of the NVM's queue.
@@ -17,8 +19,8 @@ pub enum Pick {
     DramDrain,
 }
 
-/// The schedule of a seed: seed 0 gives the four actors in turn for ever, another seed the one
-/// that each draw names.
+/// The schedule of a seed: seed 0 gives the actors in turn for ever, another seed the one
+/// that each draw names. There are four actors with one hart, and five with two.
 #[derive(Clone, Copy, Debug)]
 pub enum Mix {
     /// This one comes next, and then the one after it.
@@ -39,40 +41,68 @@ impl Mix {
         }
     }
 
-    /// The next pick.
-    pub fn next(&mut self) -> Pick
-        ensures pick { result ≡ mix_pick self.old }
-        ensures after { self.new ≡ mix_next self.old }
+    /// The next pick, with so many harts: one or two.
+    pub fn next(&mut self, harts: u64) -> Pick
+        ensures pick { result ≡ mix_pick harts self.old }
+        ensures after { self.new ≡ mix_next harts self.old }
     {
         match self {
             Mix::InTurn(turn) => {
                 let pick = *turn;
-                *turn = pick_after(pick);
+                *turn = pick_after(harts, pick);
                 pick
             }
-            Mix::Drawn(draws) => pick_at(draws.next() % 4),
+            Mix::Drawn(draws) => pick_at(harts, draws.next()),
         }
     }
 }
 
-fn pick_after(pick: Pick) -> Pick
-    ensures { result ≡ after_pick pick }
+fn pick_after(harts: u64, pick: Pick) -> Pick
+    ensures { result ≡ after_pick harts pick }
 {
     match pick {
-        Pick::Hart => Pick::Engine,
+        Pick::Hart => if harts == 1 {
+            Pick::Engine
+        } else {
+            Pick::Second
+        },
+        Pick::Second => Pick::Engine,
         Pick::Engine => Pick::NvmDrain,
         Pick::NvmDrain => Pick::DramDrain,
         Pick::DramDrain => Pick::Hart,
     }
 }
 
-fn pick_at(position: u64) -> Pick
-    ensures { result ≡ pick_of position }
+/// The actor that a draw names.
+fn pick_at(harts: u64, draw: u64) -> Pick
+    ensures { result ≡ pick_of harts draw }
+{
+    if harts == 1 {
+        pick_at_four(draw % 4)
+    } else {
+        pick_at_five(draw % 5)
+    }
+}
+
+fn pick_at_four(position: u64) -> Pick
+    ensures { result ≡ pick_of_four position }
 {
     match position {
         0 => Pick::Hart,
         1 => Pick::Engine,
         2 => Pick::NvmDrain,
+        _ => Pick::DramDrain,
+    }
+}
+
+fn pick_at_five(position: u64) -> Pick
+    ensures { result ≡ pick_of_five position }
+{
+    match position {
+        0 => Pick::Hart,
+        1 => Pick::Second,
+        2 => Pick::Engine,
+        3 => Pick::NvmDrain,
         _ => Pick::DramDrain,
     }
 }

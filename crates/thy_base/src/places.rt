@@ -36,11 +36,12 @@ impl Geometry {
         p.btt + PAGE_BLOCKS * p.ptt
     }
 
-    /// How many blocks the processor's record has.
+    /// How many blocks the processor's record has, five for each hart.
     pub fn record_blocks(&self) -> u64
         ensures blocks { result ≡ record_blocks self.now }
+        ensures in_range { IsInRange self.now }
     {
-        5
+        5 * self.numbers().harts
     }
 
     /// How many blocks both tables have, eight entries a block.

@@ -161,7 +161,7 @@ fn end(c: &Config) -> Option<ConfigError>
     let count = c.tears.len();
     let limit = is_within(1, 1_000_000_000_000, c.limit);
     let gap = or_else(c.gap <= 1_000_000, Field::Gap, c.gap, None);
-    let harts = or_else(c.harts == 1, Field::Harts, c.harts, gap);
+    let harts = or_else(is_within(1, 2, c.harts), Field::Harts, c.harts, gap);
     let rest = or_else(limit, Field::Limit, c.limit, harts);
     or_else(
         count.saturating_sub(1) <= c.cuts.len(),

@@ -130,7 +130,7 @@ module _ {C : Type 0} (F : FillingOf C) (laws : IsFilling F) where
     shows (Over Restored) f =
         let found = found-restored f in
         let epoch : ℕ = epoch_of d.commit in
-        let cpu : CpuState = F.cpu_in (slot_read F d) in
+        let cpu : CpuState = F.cpu_in d.p (slot_read F d) in
         let count : found.m.count ≡ cpu.count
         = sym (ap (λ (s : State). s.count) found.state_is ∙ found.counted) ∙ laws.counts d.p (slot_read F d) (F.loads e m) in
         subst (λ (k : Option Mark). CoreStep o (finding_view o.start.count k) (HasRestarted epoch cpu.count) (restored_view o k)) (sym found.kept_is)

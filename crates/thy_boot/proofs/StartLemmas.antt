@@ -99,6 +99,6 @@ CanStart-origin o h =
         floor = r.floor;
         count = (let l = r.count in omega (arith, l));
         status = r.status;
-        alone = r.alone;
+        other = r.other;
       };
     }

@@ -68,7 +68,7 @@ abbrev pub answer_at : {C : Type 0} → FillingOf C → Stage → Booting → Bo
 answer_at F (Reads (Refusing bad)) b = Refused bad
 answer_at F (Reads r) b = Reading
 answer_at F (Loads issue) b = IsLoading
-answer_at F (Over Restored) b = Restarted (F.cpu_in (slot_read F b)) (epoch_of b.commit)
+answer_at F (Over Restored) b = Restarted (F.cpu_in b.p (slot_read F b)) (epoch_of b.commit)
 answer_at F (Over Loaded) b = HasLoaded
 
 abbrev pub answer_of : {C : Type 0} → FillingOf C → Booting → BootStep

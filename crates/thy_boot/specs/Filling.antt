@@ -28,7 +28,7 @@ pub record FillingOf (C : Type 0) : Type 1 where
   pub layouts : Layouts
   pub most_slot : Parameters → ℕ
   -- the processor of a slot
-  pub cpu_in : List Block → CpuState
+  pub cpu_in : Parameters → List Block → CpuState
   -- the geometry that a controller is of, what its DRAM holds, and the controller once the oldest write there landed
   pub p : C → Parameters
   pub dram : C → Contents
@@ -95,7 +95,7 @@ pub record IsFilling {C : Type 0} (F : FillingOf C) : Type 0 where
       → (layout_at F p).slot_place commit + (layout_at F p).slot_blocks commit ≤ (layout_at F p).image_blocks
   -- a state that is made of a slot has retired what the slot's processor has
   pub counts : (p : Parameters) (slot memory : List Block)
-      → ((layout_at F p).state_from slot memory).count ≡ (F.cpu_in slot).count
+      → ((layout_at F p).state_from slot memory).count ≡ (F.cpu_in p slot).count
   -- before the first block of a slot there is no fault, and nothing to take up
   pub early_none : (p : Parameters) (commit : Block) → F.early_fault p commit [] ≡ None
   pub none_taken : (c : C) (commit : Block) → F.fresh c → F.taken commit [] c

@@ -84,7 +84,7 @@ pub trait Fills: Drop {
     /// The processor of a slot.
     fn cpu_in(geometry: &Geometry, commit: &Block, slot: &[u8]) -> CpuState
         requires room { length slot.now ≡ 64 * filling.most_slot geometry.now }
-        ensures { result ≡ filling.cpu_in (slot_bytes filling geometry.now commit.now slot.now) };
+        ensures { result ≡ filling.cpu_in geometry.now (slot_bytes filling geometry.now commit.now slot.now) };
 
     /// A slot without a fault is listed by a controller that has taken it up.
     fn list(geometry: &Geometry, commit: &Block, slot: &[u8], control: &mut Self::Control)

@@ -1,7 +1,8 @@
--- A result is complete: if nothing fails it is that of the program's own end.
-use Rattle.std.proofs.Common.{◌≡◌, ℕ, ◌+◌, ◌-◌, ◌<◌, ◌≤◌, Bool, true, false, Option, Some, None, List, [], ◌∷◌, ◌++◌, length, refl, sym, ◌∙◌, ap, subst, inl, inr, arith}
+-- A run is complete: if nothing fails its result is that of the program's own end.
+use Rattle.std.proofs.Common.{◌≡◌, ℕ, ◌+◌, ◌-◌, ◌*◌, ◌<◌, ◌≤◌, Bool, true, false, Option, Some, None, List, [], ◌∷◌, ◌++◌, length, refl, sym, ◌∙◌, ap, subst, inl, inr, arith}
 use Rattle.std.specs.Prelude.{Result, Ok, Err, MatchOption, ◌⊎◌}
 use Rattle.std.proofs.lemmas.Bool.{cases_order}
+use Rattle.std.proofs.Math.Nat.{mul-le-mul_left}
 use Rattle.thy_base.specs.declared.config.Parameters.{Parameters}
 use Rattle.thy_base.specs.declared.nvm.FitError.{FitError}
 use Rattle.thy_base.specs.declared.nvm.FitError.TheVariants.{Failed as FitFailed, Memory as FitMemory}
@@ -28,25 +29,23 @@ use Rattle.thy_text.proofs.OneHartLaws.{to-counts}
 use Rattle.thy_run.proofs.PromiseLaws.{first_untold}
 use Rattle.thy_words.specs.declared.words.WordsError.{WordsError}
 use Rattle.thy_words.specs.declared.words.WordsError.TheVariants.{Usage, Word, Value, Memory as WordsMemory}
-use Rattle.thy_words.specs.Settings.{Job, Order, plain, make, settings_of}
+use Rattle.thy_words.specs.Settings.{Job, Order, settings_of}
 use Rattle.thy_view.specs.Kind.{KindOf}
 use Rattle.thy_view.specs.Origin.{Origin, setting_of, at, runs_at}
-use Rattle.thy_run.specs.Progress.{cycles_for}
+use Rattle.thy_run.specs.Progress.{cycles_for, tally_of}
 use Rattle.thy_run.specs.Endings.{EndsWith, is_memory, StopFits}
 use Rattle.thy_run.specs.Laws.{course_of, first_marks}
 use Rattle.thy_run.specs.Sending.{Sent, Delivered}
-use Rattle.thy_run.specs.World.{Given}
-use Rattle.thy_run.specs.Watching.{Taken}
-use Rattle.thy_cli.specs.Watching.{HasSeenCall, ClaimSeen}
+use Rattle.thy_run.specs.World.{Given, Ran}
+use Rattle.thy_run.specs.Unfinished.{AtStop}
 use Rattle.thy_run.specs.declared.ending.Stop.{Stop}
 use Rattle.thy_run.specs.declared.ending.Stop.TheVariants.{Ended, Nvm, Memory, Terminal, Report, Limit}
 use Rattle.thy_cli.specs.declared.answer.Answer.{Answer}
 use Rattle.thy_cli.specs.declared.refusal.Refusal.{Refusal}
 use Rattle.thy_cli.specs.declared.refusal.Refusal.TheVariants.{Words, Fetch, File, Image, Input, Device as DeviceRefusal, Memory as MemoryRefusal}
-use Rattle.thy_cli.specs.Answering.{Outside, WordsDue, RunDue, given_for, ClosesRun, IsRunOf, with_device, IsPlainOf, MakeAnswered, made_told, plain_stop, end_lines, stop_line, stop_status, run_line, run_status, summary_for, RunAnswered, PlainAnswered, OrderAnswered, Answered}
+use Rattle.thy_cli.specs.Answering.{Outside, WordsDue, RunDue, given_for, ClosesRun, IsRunOf, with_device, IsPlainOf, plain_stop, end_lines, stop_line, stop_status, run_line, run_status, summary_for, RunAnswered}
 use Rattle.thy_cli.specs.Levelling.{IsFoundAs, IsLeftAs}
-use Rattle.thy_cli.specs.Machines.{Choice}
-use Rattle.thy_cli.specs.Completing.{IsAsked, Stayed, IsCalm, left_alone, run_of, TellsEnd, RunCompletes, PlainCompletes, MakeCompletes}
+use Rattle.thy_cli.specs.Completing.{IsAsked, Stayed, IsCalm, left_alone, run_of, TellsEnd, HasRetired}
 use Rattle.thy_cli.specs.Planning.{refused_status}
 use Rattle.thy_cli.specs.Saving.{PutCounted, SavesUnder, saves}
 use Rattle.thy_cli.specs.Sources.{ProgramSource, file, made, image, most_bytes, most_image_bytes, Beginning, begun, from_entry, AreBytesOf, IsHeld, IsTooLong, IsInput, FetchDue, meaning_of, IsProgram, SourceDue, InputDue, IsMeant, ProgramDue, origin_for}
@@ -55,7 +54,7 @@ use Rattle.thy_cli.proofs.PlainLemmas.{at_is}
 -- ---- counts of faults
 
 -- a count that stayed did not rise
-not_risen : {A : Type 0} (old new : ℕ) → Stayed old new → Rose old new → A
+pub not_risen : {A : Type 0} (old new : ℕ) → Stayed old new → Rose old new → A
 not_risen old new s r = absurd (omega (arith, s.same, s.counts, r.more))
 
 -- a sink whose count stayed did not fail
@@ -74,19 +73,19 @@ later_end g s j k less over =
     let more : k ≡ j + (k - j) = omega (arith, less) in
     ap (λ i. steps g i s) more ∙ steps-add g j (k - j) s ∙ steps-ended g (k - j) (steps g j s) over
 
-same_end : (g : Setting) (s : State) (j k : ℕ) → is_running (steps g j s).status ≡ false → is_running (steps g k s).status ≡ false → steps g j s ≡ steps g k s
+pub same_end : (g : Setting) (s : State) (j k : ℕ) → is_running (steps g j s).status ≡ false → is_running (steps g k s).status ≡ false → steps g j s ≡ steps g k s
 same_end g s j k a b = elim (cases_order j k) as (λ _. steps g j s ≡ steps g k s) [
   | inl same ↦ ap (λ i. steps g i s) same
   | inr other ↦ elim other as (λ _. steps g j s ≡ steps g k s) [ inl less ↦ sym (later_end g s j k (omega arith) a) | inr more ↦ later_end g s k j (omega arith) b ]
 ]
 
 -- the status of the end among lawful events is that of a state of the plain machine, which has ended
-record IsEndOf (c : Counts) (status : Status) : Type 0 where
-  count : ℕ
-  is_status : status ≡ (c.at count).status
-  over : is_running (c.at count).status ≡ false
+pub record IsEndOf (c : Counts) (status : Status) : Type 0 where
+  pub count : ℕ
+  pub is_status : status ≡ (c.at count).status
+  pub over : is_running (c.at count).status ≡ false
 
-end_lawful : (c : Counts) (m : Marks) (vs : List Event) (status : Status) (count cycle : ℕ) (state : State)
+pub end_lawful : (c : Counts) (m : Marks) (vs : List Event) (status : Status) (count cycle : ℕ) (state : State)
     → AllLawfulAt c m (vs ++ EndedEvent status count cycle state ∷ []) → IsEndOf c status
 end_lawful c m [] status count cycle state all =
     let whole : state ≡ c.at count = all.0.0.whole in
@@ -100,10 +99,10 @@ end_lawful c m (v ∷ vs) status count cycle state all = end_lawful c (marks_aft
 -- ---- refusals
 
 -- what is known of a job's program: its bytes and input are on a shelf with known contents, or are made
-record Stands (source : ProgramSource) (job : Job) (stock : Stock) : Type 0 where
-  files : Files
-  tells : stock.held ≡ Some files
-  program : IsProgram source job stock
+pub record Stands (source : ProgramSource) (job : Job) (stock : Stock) : Type 0 where
+  pub files : Files
+  pub tells : stock.held ≡ Some files
+  pub program : IsProgram source job stock
 
 -- a shelf with known contents holds the same under a name each time
 held_same : (most : ℕ) (stock : Stock) (files : Files) (name a b : List ℕ) → stock.held ≡ Some files → IsHeld most stock name a → IsHeld most stock name b → a ≡ b
@@ -119,7 +118,7 @@ bytes_same (image name) stock files a b tells g h = held_same most_image_bytes s
 bytes_same (made n) stock files a b tells g h = g ∙ sym h
 
 -- so a job has one program
-inputs_same : (source : ProgramSource) (job : Job) (stock : Stock) (s : Stands source job stock) (f : IsProgram source job stock) → f.input ≡ s.program.input
+pub inputs_same : (source : ProgramSource) (job : Job) (stock : Stock) (s : Stands source job stock) (f : IsProgram source job stock) → f.input ≡ s.program.input
 inputs_same source job stock s f = input_same stock s.files job.input f.input s.program.input s.tells f.fetched.is_input s.program.fetched.is_input
 
 -- what is meant by bytes and an input that were had
@@ -130,7 +129,7 @@ meant_same source job stock s bytes input fetched reads =
     ∙ ap (meaning_of source job s.program.bytes) (input_same stock s.files job.input input s.program.input s.tells reads s.program.fetched.is_input)
     ∙ s.program.means
 
-begins_same : (source : ProgramSource) (job : Job) (stock : Stock) (s : Stands source job stock) (f : IsProgram source job stock) → f.begins ≡ s.program.begins
+pub begins_same : (source : ProgramSource) (job : Job) (stock : Stock) (s : Stands source job stock) (f : IsProgram source job stock) → f.begins ≡ s.program.begins
 begins_same source job stock s f =
     let known : meaning_of source job f.bytes f.input ≡ Ok s.program.begins = meant_same source job stock s f.bytes f.input f.fetched.fetched f.fetched.is_input in
     let read : meaning_of source job f.bytes f.input ≡ Ok f.begins = f.means in
@@ -176,12 +175,12 @@ means_none source job stock r s (bytes, fetched, input, reads, means) =
     let known : meaning_of source job bytes input ≡ Ok s.program.begins = meant_same source job stock s bytes input fetched reads in
     absurd (cc)
 
-device_due : (e : FitError) (n m : Device) → Stayed n.faults m.faults → HasFailedToFit e n m → refused_status (DeviceRefusal e) ≡ 9
+pub device_due : (e : FitError) (n m : Device) → Stayed n.faults m.faults → HasFailedToFit e n m → refused_status (DeviceRefusal e) ≡ 9
 device_due FitFailed n m faults due = not_risen n.faults m.faults faults due.2
 device_due (FitMemory e) n m faults due = refl
 
 -- only if memory runs out
-program_due : (source : ProgramSource) (job : Job) (old new : Stock) (r : Refusal) → Stands source job old → Stayed old.faults new.faults → ProgramDue source job old new r → refused_status r ≡ 9
+pub program_due : (source : ProgramSource) (job : Job) (old new : Stock) (r : Refusal) → Stands source job old → Stayed old.faults new.faults → ProgramDue source job old new r → refused_status r ≡ 9
 program_due source job old new (Words e) s shelf due = absurd due
 program_due source job old new (Fetch name e) s shelf due = fetched_due source job old new name name.now e s shelf due
 program_due source job old new (File (ElfMemory e)) s shelf due = refl
@@ -195,19 +194,19 @@ run_due : (source : ProgramSource) (job : Job) (before after : Outside) (r : Ref
 run_due source job before after (DeviceRefusal e) s faults due = device_due e before.device after.device faults.device due.2
 run_due source job before after r s faults due = program_due source job before.shelf after.shelf r s faults.shelf due.0
 
-words_due : (words : List (List ℕ)) (order : Order) (e : WordsError) → settings_of words ≡ Ok order → WordsDue words e → refused_status (Words e) ≡ 9
+pub words_due : (words : List (List ℕ)) (order : Order) (e : WordsError) → settings_of words ≡ Ok order → WordsDue words e → refused_status (Words e) ≡ 9
 words_due words order Usage is due = absurd (cc)
 words_due words order (Word field) is due = absurd (cc)
 words_due words order (Value field value) is due = absurd (cc)
 words_due words order (WordsMemory e) is due = refl
 
-order_same : (words : List (List ℕ)) (a b : Order) → settings_of words ≡ Ok a → settings_of words ≡ Ok b → b ≡ a
+pub order_same : (words : List (List ℕ)) (a b : Order) → settings_of words ≡ Ok a → settings_of words ≡ Ok b → b ≡ a
 order_same words a b e f = cc
 
 -- ---- saves
 
 -- a shelf that did not fail took what was put on it, unless memory ran out
-put_calm : {A : Type 0} (name : List ℕ) (old new : Stock) → Stayed old.faults new.faults → PutCounted name old new (Some PutFailed) → A
+pub put_calm : {A : Type 0} (name : List ℕ) (old new : Stock) → Stayed old.faults new.faults → PutCounted name old new (Some PutFailed) → A
 put_calm name old new faults failed = not_risen old.faults new.faults faults failed.rose
 
 save_calm : {A : Type 0} (name : Option (List ℕ)) (due : Bool) (c : Config) (n m : Device) (old new : Stock) → Stayed old.faults new.faults → SavesUnder name due c n m old new (Some PutFailed) → A
@@ -225,14 +224,14 @@ save_counts (Some name) false c n m old new why h = ap (λ (d : Device). d.fault
 
 -- ---- runs
 
-module _ {M : Type 0} (K : KindOf M) (source : ProgramSource) (job : Job) (k : ℕ) (before after : Outside) (a : Answer) (s : Stands source job before.shelf)
-    (faults : IsCalm before after) (over : is_running (left_alone s.program k).status ≡ false)
-    (limit : cycles_for K (parameters_of job.config) job.config.cuts k ≤ job.config.limit) (h : IsRunOf K source job before after a) where
+module _ {M : Type 0} (K : KindOf M) (source : ProgramSource) (job : Job) (k : ℕ) (before : Outside) (program : IsProgram source job before.shelf) (after : Outside) (a : Answer) (s : Stands source job before.shelf)
+    (faults : IsCalm before after) (one : job.config.harts ≡ 1) (over : is_running (left_alone s.program k).status ≡ false)
+    (limit : cycles_for K (parameters_of job.config) job.config.cuts k ≤ job.config.limit) (h : IsRunOf K source job before program after a) where
   abbrev o : Origin
-  o = origin_for job h.program.begins h.program.input
+  o = origin_for job program.begins program.input
 
   abbrev given : Given
-  given = given_for K job h.program.begins before.device
+  given = given_for K job program.begins before.device
 
   abbrev over_at : Origin
   over_at = origin_for job s.program.begins s.program.input
@@ -240,8 +239,8 @@ module _ {M : Type 0} (K : KindOf M) (source : ProgramSource) (job : Job) (k : �
   -- the run is about the program that is there
   same_origin : over_at ≡ o
   same_origin =
-      sym (ap (λ b. origin_for job b h.program.input) (begins_same source job before.shelf s h.program)
-      ∙ ap (origin_for job s.program.begins) (inputs_same source job before.shelf s h.program))
+      sym (ap (λ b. origin_for job b program.input) (begins_same source job before.shelf s program)
+      ∙ ap (origin_for job s.program.begins) (inputs_same source job before.shelf s program))
 
   left_here : left_alone s.program k ≡ at o (o.start.count + k)
   left_here = ap (λ (x : Origin). at x (x.start.count + k)) same_origin
@@ -251,19 +250,19 @@ module _ {M : Type 0} (K : KindOf M) (source : ProgramSource) (job : Job) (k : �
 
   few : a.cycles < job.config.limit
   few =
-      let soon : a.cycles < cycles_for K (parameters_of job.config) job.config.cuts k = h.run.promise.soon k over_here in
+      let soon : a.cycles < cycles_for K (parameters_of job.config) job.config.cuts k = h.promise.soon k one over_here in
       omega (arith, soon, limit)
 
-  fits : (stop : Stop) → h.run.ending.stop ≡ stop → StopFits (parameters_of job.config).limit given.fitted h.run.stood h.run.ending stop
-  fits stop is = subst (StopFits (parameters_of job.config).limit given.fitted h.run.stood h.run.ending) is h.run.ran.stop_fits
+  fits : (stop : Stop) → h.ending.stop ≡ stop → StopFits (parameters_of job.config).limit given.fitted h.stood h.ending stop
+  fits stop is = subst (StopFits (parameters_of job.config).limit given.fitted h.stood h.ending) is h.ran.stop_fits
 
   -- at an end the status is the program's
-  told_end : (status : Status) → EndsWith h.run.ending.events status → status ≡ (left_alone s.program k).status
+  told_end : (status : Status) → EndsWith h.ending.events status → status ≡ (left_alone s.program k).status
   told_end status e =
       let lawful : AllLawful (course_of o) (first_marks o) (e.before ++ EndedEvent status e.count e.cycle e.state ∷ []) =
-      subst (AllLawful (course_of o) (first_marks o)) (h.run.events ∙ e.last) h.run.promise.events_lawful in
+      subst (AllLawful (course_of o) (first_marks o)) (h.events ∙ e.last) h.promise.events_lawful in
       let by_counts : AllLawfulAt (counts_of (course_of o)) (first_marks o) (e.before ++ EndedEvent status e.count e.cycle e.state ∷ []) =
-      to-counts (course_of o) (first_marks o) (e.before ++ EndedEvent status e.count e.cycle e.state ∷ []) refl (first_untold o.start.count o.kept) lawful in
+      to-counts (course_of o) (first_marks o) (e.before ++ EndedEvent status e.count e.cycle e.state ∷ []) one (first_untold o.start.count o.kept) lawful in
       let end : IsEndOf (counts_of (course_of o)) status = end_lawful (counts_of (course_of o)) (first_marks o) e.before status e.count e.cycle e.state by_counts in
       let j : ℕ = end.count - o.start.count in
       let there : at o end.count ≡ steps (setting_of o) j o.start = at_is o end.count refl in
@@ -276,31 +275,31 @@ module _ {M : Type 0} (K : KindOf M) (source : ProgramSource) (job : Job) (k : �
   last = left_alone s.program k
 
   abbrev lines : List ℕ
-  lines = summary_for source h.run.ending.stop h.run.ending.events ++ run_line job.config.limit job.save h.run.ending.stop h.run.why
+  lines = summary_for source h.ending.stop h.ending.events ++ run_line job.config.limit job.save h.ending.stop h.why
 
   -- if it was saved, or was not to be, the stop determines the status
-  by_stop : (stop : Stop) → h.run.ending.stop ≡ stop → h.run.why ≡ None → TellsEnd last a
+  by_stop : (stop : Stop) → h.ending.stop ≡ stop → h.why ≡ None → TellsEnd last a
   by_stop (Ended status) is saved =
-      inl (h.run.status ∙ ap (run_status h.run.ending.stop) saved ∙ ap stop_status is ∙ ap (λ x. stop_status (Ended x)) (told_end status (fits (Ended status) is).0))
-  by_stop Memory is saved = inr (h.run.status ∙ ap (run_status h.run.ending.stop) saved ∙ ap stop_status is)
-  by_stop Terminal is saved = not_failed (is_memory h.run.ending.stop) h.run.ending.terminal_failed _ _ before.terminal after.terminal faults.terminal h.run.ran.shown_all (fits Terminal is).0
+      inl (h.status ∙ ap (run_status h.ending.stop) saved ∙ ap stop_status is ∙ ap (λ x. stop_status (Ended x)) (told_end status (fits (Ended status) is).0))
+  by_stop Memory is saved = inr (h.status ∙ ap (run_status h.ending.stop) saved ∙ ap stop_status is)
+  by_stop Terminal is saved = not_failed (is_memory h.ending.stop) h.ending.terminal_failed _ _ before.terminal after.terminal faults.terminal h.ran.shown_all (fits Terminal is).0
   by_stop Report is saved =
-      let report_failed : h.run.ending.report_failed ≡ true = (fits Report is).0 in
-      let closed : after.report ≡ h.run.told = subst (λ b. ClosesRun b lines h.run.told after.report) report_failed h.run.closes in
-      not_failed false h.run.ending.report_failed _ _ before.report h.run.told (subst (λ (x : Stream). Stayed before.report.faults x.faults) closed faults.report) h.run.ran.read_all report_failed
+      let report_failed : h.ending.report_failed ≡ true = (fits Report is).0 in
+      let closed : after.report ≡ h.told = subst (λ b. ClosesRun b lines h.told after.report) report_failed h.closes in
+      not_failed false h.ending.report_failed _ _ before.report h.told (subst (λ (x : Stream). Stayed before.report.faults x.faults) closed faults.report) h.ran.read_all report_failed
   by_stop Nvm is saved =
-      let same : after.device.faults ≡ h.run.stood.faults = save_counts job.save (saves h.run.ending.stop) job.config h.run.stood after.device before.shelf after.shelf h.run.why h.run.saved in
-      not_risen before.device.faults h.run.stood.faults (subst (Stayed before.device.faults) same faults.device) (fits Nvm is).0
+      let same : after.device.faults ≡ h.stood.faults = save_counts job.save (saves h.ending.stop) job.config h.stood after.device before.shelf after.shelf h.why h.saved in
+      not_risen before.device.faults h.stood.faults (subst (Stayed before.device.faults) same faults.device) (fits Nvm is).0
   by_stop Limit is saved =
-      let reached : h.run.ending.cycles ≡ job.config.limit = (fits Limit is).0 in
-      absurd (omega (arith, few, reached, h.run.cycles))
+      let reached : h.ending.cycles ≡ job.config.limit = (fits Limit is).0 in
+      absurd (omega (arith, few, reached, h.cycles))
 
-  by_save : (why : Option PutError) → h.run.why ≡ why → TellsEnd last a
-  by_save None is = by_stop h.run.ending.stop refl is
+  pub by_save : (why : Option PutError) → h.why ≡ why → TellsEnd last a
+  by_save None is = by_stop h.ending.stop refl is
   by_save (Some PutFailed) is =
-      save_calm job.save (saves h.run.ending.stop) job.config h.run.stood after.device before.shelf after.shelf faults.shelf
-      (subst (SavesUnder job.save (saves h.run.ending.stop) job.config h.run.stood after.device before.shelf after.shelf) is h.run.saved)
-  by_save (Some (PutMemory e)) is = inr (h.run.status ∙ ap (run_status h.run.ending.stop) is)
+      save_calm job.save (saves h.ending.stop) job.config h.stood after.device before.shelf after.shelf faults.shelf
+      (subst (SavesUnder job.save (saves h.ending.stop) job.config h.stood after.device before.shelf after.shelf) is h.saved)
+  by_save (Some (PutMemory e)) is = inr (h.status ∙ ap (run_status h.ending.stop) is)
 
 -- ---- the plain machine
 
@@ -357,7 +356,7 @@ module _ (name : List ℕ) (job : Job) (k : ℕ) (before after : Outside) (a : A
   ended_stop (Exited v) e = refl
   ended_stop (Trapped v) e = refl
 
-  by_faults : (terminal_failed report_failed : Bool) → h.terminal_failed ≡ terminal_failed → h.report_failed ≡ report_failed → TellsEnd (left_alone s.program k) a
+  pub by_faults : (terminal_failed report_failed : Bool) → h.terminal_failed ≡ terminal_failed → h.report_failed ≡ report_failed → TellsEnd (left_alone s.program k) a
   by_faults terminal_failed true is_mute is_deaf =
       let closed : after.report ≡ h.told = subst (λ b. ClosesRun b (stop_line job.config.limit (plain_stop h.terminal_failed h.report_failed h.last.status)) h.told after.report) is_deaf h.closes in
       let sent : Sent true before.report h.told (end_lines job h.last) = subst (λ b. Sent b before.report h.told (end_lines job h.last)) is_deaf h.read_all in
@@ -373,11 +372,11 @@ module _ (name : List ℕ) (job : Job) (k : ℕ) (before after : Outside) (a : A
 
 -- ---- results
 
-abbrev stands_of : {order : Order} {source : ProgramSource} {job : Job} {words : List (List ℕ)} {stock : Stock} → IsAsked order source job words stock → Stands source job stock
+abbrev pub stands_of : {order : Order} {source : ProgramSource} {job : Job} {words : List (List ℕ)} {stock : Stock} → IsAsked order source job words stock → Stands source job stock
 stands_of i = record { files = i.files; tells = i.tells; program = i.program }
 
 -- if nothing failed, nothing did on the device that the run saw
-calm_seen : (gap : ℕ) (before after : Outside) (found left : Device) → IsFoundAs gap before.device found → IsLeftAs gap after.device left → IsCalm before after → IsCalm (with_device found before) (with_device left after)
+pub calm_seen : (gap : ℕ) (before after : Outside) (found left : Device) → IsFoundAs gap before.device found → IsLeftAs gap after.device left → IsCalm before after → IsCalm (with_device found before) (with_device left after)
 calm_seen gap before after found left is_found is_left faults = record {
   shelf = faults.shelf;
   device = record {
@@ -388,63 +387,100 @@ calm_seen gap before after found left is_found is_left faults = record {
   report = faults.report;
 }
 
-run_completes : {M : Type 0} (K : KindOf M) (words : List (List ℕ)) (before after : Outside) (a : Answer) (source : ProgramSource) (job : Job) (i : IsAsked (run_of source job) source job words before.shelf) (k : ℕ) → IsCalm before after
+pub run_completes : {M : Type 0} (K : KindOf M) (words : List (List ℕ)) (before after : Outside) (a : Answer) (source : ProgramSource) (job : Job) (i : IsAsked (run_of source job) source job words before.shelf) (k : ℕ) → IsCalm before after → job.config.harts ≡ 1
     → is_running (left_alone i.program k).status ≡ false → cycles_for K (parameters_of job.config) job.config.cuts k ≤ job.config.limit → RunAnswered K source job before after a → TellsEnd (left_alone i.program k) a
-run_completes K words before after a source job i k faults over limit (inl (r, due, refused)) = inr (refused.status ∙ run_due source job before after r (stands_of i) faults due)
-run_completes K words before after a source job i k faults over limit (inr ran) =
-    by_save K source job k (with_device ran.found before) (with_device ran.left after) a (stands_of i)
-    (calm_seen job.config.gap before after ran.found ran.left ran.is_found ran.is_left faults) over limit ran.seen ran.seen.run.why refl
+run_completes K words before after a source job i k faults one over limit (inl (r, due, refused)) = inr (refused.status ∙ run_due source job before after r (stands_of i) faults due)
+run_completes K words before after a source job i k faults one over limit (inr ran) =
+    let r = ran.ran in
+    by_save K source job k (with_device r.found before) ran.program (with_device r.left after) a (stands_of i)
+    (calm_seen job.config.gap before after r.found r.left r.is_found r.is_left faults) one over limit r.seen r.seen.why refl
 
--- the result of the order of a run is that of its source
-order_answered : (c : Choice) (before after : Outside) (a : Answer) (source : ProgramSource) (job : Job) → OrderAnswered c (run_of source job) before after a → RunAnswered (c job.config.scheme).kind source job before after a
-order_answered c before after a (file name) job h = h
-order_answered c before after a (made n) job h = h
-order_answered c before after a (image name) job h = h
+-- ---- two harts
 
--- a result completes the run that is asked for
-pub Completes-run : (c : Choice) (words : List (List ℕ)) (before after : Outside) (a : Answer) → Answered c words before after a → RunCompletes c words before after a
-Completes-run c words before after a (inl (e, due, shelf, device, refused)) source job i k faults over limit = inr (refused.status ∙ words_due words (run_of source job) e i.asked due)
-Completes-run c words before after a (inr (order, asked, h)) source job i k faults over limit =
-    run_completes (c job.config.scheme).kind words before after a source job i k faults over limit
-    (order_answered c before after a source job (subst (λ x. OrderAnswered c x before after a) (order_same words (run_of source job) order i.asked asked) h))
+-- an end has one of two statuses
+ended_status : (status : Status) → (stop_status (Ended status) ≡ 0) ⊎ (stop_status (Ended status) ≡ 1)
+ended_status Running = inl refl
+ended_status (Exited v) = inl refl
+ended_status (Trapped v) = inr refl
 
-plain_completes : (words : List (List ℕ)) (before after : Outside) (a : Answer) (name : List ℕ) (job : Job) (i : IsAsked (plain name job) (file name) job words before.shelf) (k : ℕ) → IsCalm before after
-    → is_running (left_alone i.program k).status ≡ false → k ≤ job.config.limit → PlainAnswered name job before after a → TellsEnd (left_alone i.program k) a
-plain_completes words before after a name job i k faults over limit (device, inl (r, due, refused)) =
-    inr (refused.status ∙ program_due (file name) job before.shelf after.shelf r (stands_of i) faults.shelf due)
-plain_completes words before after a name job i k faults over limit (device, inr ran) = by_faults name job k before after a (stands_of i) faults over limit ran ran.terminal_failed ran.report_failed refl refl
+-- the limit, or one of three statuses
+abbrev pub Pairs : {M : Type 0} → KindOf M → Job → Origin → (Device → Given) → Answer → ℕ → Type 0
+Pairs K job o given a k = (a.status ≡ 0) ⊎ (a.status ≡ 1) ⊎ (a.status ≡ 9) ⊎ ((found : Device) × HasRetired K o (given found) a k)
 
--- and the one on the plain machine
-pub Completes-plain : (c : Choice) (words : List (List ℕ)) (before after : Outside) (a : Answer) → Answered c words before after a → PlainCompletes words before after a
-Completes-plain c words before after a (inl (e, due, shelf, device, refused)) name job i k faults over limit = inr (refused.status ∙ words_due words (plain name job) e i.asked due)
-Completes-plain c words before after a (inr (order, asked, h)) name job i k faults over limit =
-    plain_completes words before after a name job i k faults over limit
-    (subst (λ x. OrderAnswered c x before after a) (order_same words (plain name job) order i.asked asked) h)
+more_each : (each k n : ℕ) → each * k < each * n → k ≤ n
+more_each each k n more = elim (cases_order k n) as (λ _. k ≤ n) [
+  | inl same ↦ omega (arith, same)
+  | inr other ↦ elim other as (λ _. k ≤ n) [
+    | inl less ↦ omega (arith, less)
+    | inr great ↦ absurd (let le : each * n ≤ each * k = mul-le-mul_left each (let e : n ≤ k = omega (arith, great) in e) in omega (arith, le, more))
+  ]
+]
 
--- a made program is put, unless memory ran out
-make_told : (n : ℕ) (name : List ℕ) (before after : Outside) (a : Answer) (why : Option PutError) → IsCalm before after → a.status ≡ (made_told n name why).0 → PutCounted name before.shelf after.shelf why
-    → (a.status ≡ 0) ⊎ (a.status ≡ 9)
-make_told n name before after a None faults is counted = inl is
-make_told n name before after a (Some PutFailed) faults is counted = put_calm name before.shelf after.shelf faults.shelf counted
-make_told n name before after a (Some (PutMemory e)) faults is counted = inr is
+module _ {M : Type 0} (K : KindOf M) (source : ProgramSource) (job : Job) (k : ℕ) (before : Outside) (program : IsProgram source job before.shelf) (after : Outside) (a : Answer) (s : Stands source job before.shelf)
+    (faults : IsCalm before after) (limit : cycles_for K (parameters_of job.config) job.config.cuts k ≤ job.config.limit) (h : IsRunOf K source job before program after a) where
+  -- as many instructions retired as the limit allows
+  retired_by : h.ending.stop ≡ Limit → HasRetired K (origin_for job program.begins program.input) (given_for K job program.begins before.device) a k
+  retired_by is =
+      let o : Origin = origin_for job program.begins program.input in
+      let given : Given = given_for K job program.begins before.device in
+      let fits : StopFits (parameters_of job.config).limit given.fitted h.stood h.ending Limit =
+      subst (StopFits (parameters_of job.config).limit given.fitted h.stood h.ending) is h.ran.stop_fits in
+      let reached : a.cycles ≡ job.config.limit = h.cycles ∙ fits.0 in
+      let stopped = h.ran.stopped in
+      let ran : Ran K o given a.cycles stopped.last = subst (λ c. Ran K o given c stopped.last) (sym h.cycles) stopped.ran in
+      let last : AtStop K o given.config.cuts stopped.last h.ending.events h.stood Limit = subst (AtStop K o given.config.cuts stopped.last h.ending.events h.stood) is stopped.at_stop in
+      let paced : a.cycles < cycles_for K (parameters_of job.config) job.config.cuts (tally_of K o given a.cycles stopped.last ran).retired = h.promise.paced stopped.last ran in
+      record {
+        last = stopped.last;
+        ran = ran;
+        events = sym (h.events ∙ last.0);
+        many = more_each (K.most_each (parameters_of job.config)) k (tally_of K o given a.cycles stopped.last ran).retired (omega (arith, paced, reached, limit));
+      }
 
-make_completes : (n : ℕ) (name : List ℕ) (before after : Outside) (a : Answer) → IsCalm before after → MakeAnswered n name before after a → (a.status ≡ 0) ⊎ (a.status ≡ 9)
-make_completes n name before after a faults h = make_told n name before after a h.why faults h.status h.put.counted
+  pair_by_stop : (stop : Stop) → h.ending.stop ≡ stop → h.why ≡ None
+      → Pairs K job (origin_for job program.begins program.input) (given_for K job program.begins) a k
+  pair_by_stop (Ended status) is saved =
+      let e : a.status ≡ stop_status (Ended status) = h.status ∙ ap (run_status h.ending.stop) saved ∙ ap stop_status is in
+      elim (ended_status status) as (λ _. Pairs K job (origin_for job program.begins program.input) (given_for K job program.begins) a k) [
+        | inl none ↦ inl (e ∙ none)
+        | inr one ↦ inr (inl (e ∙ one))
+      ]
+  pair_by_stop Memory is saved = inr (inr (inl (h.status ∙ ap (run_status h.ending.stop) saved ∙ ap stop_status is)))
+  pair_by_stop Terminal is saved =
+      let fits = subst (StopFits (parameters_of job.config).limit (given_for K job program.begins before.device).fitted h.stood h.ending) is h.ran.stop_fits in
+      not_failed (is_memory h.ending.stop) h.ending.terminal_failed _ _ before.terminal after.terminal faults.terminal h.ran.shown_all fits.0
+  pair_by_stop Report is saved =
+      let fits = subst (StopFits (parameters_of job.config).limit (given_for K job program.begins before.device).fitted h.stood h.ending) is h.ran.stop_fits in
+      let report_failed : h.ending.report_failed ≡ true = fits.0 in
+      let lines : List ℕ = summary_for source h.ending.stop h.ending.events ++ run_line job.config.limit job.save h.ending.stop h.why in
+      let closed : after.report ≡ h.told = subst (λ b. ClosesRun b lines h.told after.report) report_failed h.closes in
+      not_failed false h.ending.report_failed _ _ before.report h.told (subst (λ (x : Stream). Stayed before.report.faults x.faults) closed faults.report) h.ran.read_all report_failed
+  pair_by_stop Nvm is saved =
+      let fits = subst (StopFits (parameters_of job.config).limit (given_for K job program.begins before.device).fitted h.stood h.ending) is h.ran.stop_fits in
+      let same : after.device.faults ≡ h.stood.faults = save_counts job.save (saves h.ending.stop) job.config h.stood after.device before.shelf after.shelf h.why h.saved in
+      not_risen before.device.faults h.stood.faults (subst (Stayed before.device.faults) same faults.device) fits.0
+  pair_by_stop Limit is saved = inr (inr (inr (before.device, retired_by is)))
 
-pub Completes-make : (c : Choice) (words : List (List ℕ)) (before after : Outside) (a : Answer) → Answered c words before after a → MakeCompletes words before after a
-Completes-make c words before after a (inl (e, due, shelf, device, refused)) n name asked faults = inr (refused.status ∙ words_due words (make n name) e asked due)
-Completes-make c words before after a (inr (order, is, h)) n name asked faults =
-    make_completes n name before after a faults (subst (λ x. OrderAnswered c x before after a) (order_same words (make n name) order asked is) h)
+  pair_by_save : (why : Option PutError) → h.why ≡ why → Pairs K job (origin_for job program.begins program.input) (given_for K job program.begins) a k
+  pair_by_save None is = pair_by_stop h.ending.stop refl is
+  pair_by_save (Some PutFailed) is =
+      save_calm job.save (saves h.ending.stop) job.config h.stood after.device before.shelf after.shelf faults.shelf
+      (subst (SavesUnder job.save (saves h.ending.stop) job.config h.stood after.device before.shelf after.shelf) is h.saved)
+  pair_by_save (Some (PutMemory e)) is = inr (inr (inl (h.status ∙ ap (run_status h.ending.stop) is)))
 
--- so what is claimed of a call follows from what its result is, and from what its observer has seen
-pub ClaimSeen-answered : {O : Type 0} (c : Choice) (has_seen : O → List Taken → Type 0) (has_seen_last : O → ℕ → State → Type 0) (words : List (List ℕ)) (before after : Outside) (a : Answer) (observer : O) → (h : Answered c words before after a)
-    → HasSeenCall c has_seen has_seen_last words before after a h observer → ClaimSeen c has_seen has_seen_last words before after a observer
-ClaimSeen-answered c has_seen has_seen_last words before after a observer h has = (
-  record {
-    answered = h;
-    complete_run = Completes-run c words before after a h;
-    complete_plain = Completes-plain c words before after a h;
-    complete_make = Completes-make c words before after a h;
-  },
-  has,
-)
+  -- about the program that is there
+  pub pair_of : Pairs K job (origin_for job s.program.begins s.program.input) (given_for K job s.program.begins) a k
+  pair_of =
+      subst (λ (b : Beginning). Pairs K job (origin_for job b s.program.input) (given_for K job b) a k) (begins_same source job before.shelf s program)
+      (subst (λ (input : List ℕ). Pairs K job (origin_for job program.begins input) (given_for K job program.begins) a k) (inputs_same source job before.shelf s program)
+      (pair_by_save h.why refl))
+
+pub pair_completes : {M : Type 0} (K : KindOf M) (words : List (List ℕ)) (before after : Outside) (a : Answer) (source : ProgramSource) (job : Job) (i : IsAsked (run_of source job) source job words before.shelf) (k : ℕ) → IsCalm before after
+    → cycles_for K (parameters_of job.config) job.config.cuts k ≤ job.config.limit → RunAnswered K source job before after a
+    → Pairs K job (origin_for job i.program.begins i.program.input) (given_for K job i.program.begins) a k
+pair_completes K words before after a source job i k faults limit (inl (r, due, refused)) =
+    inr (inr (inl (refused.status ∙ run_due source job before after r (stands_of i) faults due)))
+pair_completes K words before after a source job i k faults limit (inr ran) =
+    let r = ran.ran in
+    pair_of K source job k (with_device r.found before) ran.program (with_device r.left after) a (stands_of i)
+    (calm_seen job.config.gap before after r.found r.left r.is_found r.is_left faults) limit r.seen

@@ -19,7 +19,7 @@ use Rattle.thy_gap.specs.Meaning.{ImageMeansSeen, CrashMeansSeen, LeftMeansSeen}
 use Rattle.thy_gap.specs.Seen.{seen, unmapped}
 use Rattle.thy_gap.proofs.SeenLemmas.{length-unmap}
 use Rattle.thy_record.specs.Decoded.{Decoded}
-use Rattle.thy_text.specs.Event.{Event, EpochEnd, Commit, Cut, Restart, Reload, Ended}
+use Rattle.thy_text.specs.Event.{Event, Scheme, EpochEnd, Commit, Cut, Restart, Reload, Ended}
 use Rattle.thy_view.specs.Kind.{KindOf}
 use Rattle.thy_view.specs.Origin.{Origin}
 use Rattle.thy_view.specs.Safe.{ceiling}
@@ -27,15 +27,15 @@ use Rattle.thy_run.specs.Cuts.{cuts_among}
 use Rattle.thy_run.specs.Images.{Found, found, HasLeft, AllFit}
 use Rattle.thy_run.specs.Laws.{Promise, found_at_start}
 use Rattle.thy_run.specs.World.{Given}
-use Rattle.thy_cli.specs.declared.answer.Answer.{Answer}
+use Rattle.thy_cli.specs.declared.answer.Ran.{Ran}
 use Rattle.thy_cli.specs.Answering.{Outside, with_device, IsRunOf, IsSafeFor, given_for}
 use Rattle.thy_cli.specs.Levelling.{through, images_of_save, IsFoundAs, IsLeftAs, IsHandedBack, PutsThrough}
-use Rattle.thy_cli.specs.Planning.{HasStayed}
+use Rattle.thy_cli.specs.Planning.{HasStayed, RunOverSeen, answer_of}
 use Rattle.thy_cli.specs.Saving.{IsPut, SavesUnder, saves, save_pick}
-use Rattle.thy_cli.specs.Sources.{ProgramSource, origin_for}
+use Rattle.thy_cli.specs.Sources.{ProgramSource, IsProgram, origin_for}
 use Rattle.thy_words.specs.Settings.{Job}
 use Rattle.thy_run.specs.Watching.{Taken}
-use Rattle.thy_cli.specs.Watching.{HasSeenOf, RunSeen}
+use Rattle.thy_cli.specs.Watching.{HasSeenOf}
 
 -- ---- what images are to a run
 
@@ -131,6 +131,7 @@ AllFit-map f read cycles s (EpochEnd epoch count cause turns ∷ vs) left h = (h
 AllFit-map f read cycles s (Commit epoch cycle overlapped ∷ vs) left h = (h.0, AllFit-map f read cycles (found s.means None) vs left h.1)
 AllFit-map f read cycles s (Restart epoch count state ∷ vs) left h = (h.0, AllFit-map f read cycles (found s.means None) vs left h.1)
 AllFit-map f read cycles s (Reload ∷ vs) left h = (h.0, AllFit-map f read cycles (found s.means None) vs left h.1)
+AllFit-map f read cycles s (Scheme number ∷ vs) left h = (h.0, AllFit-map f read cycles (found s.means None) vs left h.1)
 AllFit-map f read cycles s (Ended status count cycle state ∷ vs) left h = (h.0, AllFit-map f read cycles (found s.means None) vs left h.1)
 
 -- what a save leaves after the images of a run
@@ -182,26 +183,26 @@ PutsThrough-saved gap None true c handed stood left old new why is h = (h.1, h.2
 PutsThrough-saved gap None false c handed stood left old new why is h = (h.1, h.2)
 
 -- a run over the device that it sees is one over the device that was handed in
-pub IsRunOver-seen : {M O : Type 0} (K : KindOf M) (has_seen : O → List Taken → Type 0) (source : ProgramSource) (job : Job) (before after : Outside) (found left : Device) (a : Answer) (observer : O) → IsFoundAs job.config.gap before.device found
-    → IsLeftAs job.config.gap after.device left
-    → ((h : IsRunOf K source job (with_device found before) (with_device left after) a) × HasSeenOf K has_seen source job (with_device found before) (with_device left after) a h observer)
-    → RunSeen K has_seen source job before after a observer
-IsRunOver-seen K has_seen source job before after found left a observer is_found is_left (seen, has) =
-    let run = seen.run in (
-      inr (record {
-        found = found;
-        left = left;
-        is_found = is_found;
-        is_left = is_left;
-        seen = seen;
-        back =
-            IsHandedBack-left K (origin_for job seen.program.begins seen.program.input) (given_for K job seen.program.begins found) job.config.gap a.cycles
-            (images_of_save job.save (saves run.ending.stop)) a.events after.device run.stood left is_left
-            (images_of job.save (saves run.ending.stop) job.config run.stood left before.shelf after.shelf run.why run.saved) run.promise run.safe;
-        put = PutsThrough-saved job.config.gap job.save (saves run.ending.stop) job.config after.device run.stood left before.shelf after.shelf run.why is_left run.saved;
-      }),
-      has,
-    )
+pub RunOverSeen-seen : {M O : Type 0} (K : KindOf M) (has_seen : O → List Taken → Type 0) (source : ProgramSource) (job : Job) (before : Outside) (program : IsProgram source job before.shelf) (after : Outside) (found left : Device) (ran : Ran) (observer : O)
+    → IsFoundAs job.config.gap before.device found → IsLeftAs job.config.gap after.device left
+    → ((h : IsRunOf K source job (with_device found before) program (with_device left after) (answer_of ran)) × (h.ending.stop ≡ ran.stop) × HasSeenOf K has_seen source job (with_device found before) program (with_device left after) (answer_of ran) h observer)
+    → RunOverSeen K has_seen source job before program after ran observer
+RunOverSeen-seen K has_seen source job before program after found left ran observer is_found is_left (run, stops, has) = (
+  record {
+    found = found;
+    left = left;
+    is_found = is_found;
+    is_left = is_left;
+    seen = run;
+    back =
+        IsHandedBack-left K (origin_for job program.begins program.input) (given_for K job program.begins found) job.config.gap ran.cycles
+        (images_of_save job.save (saves run.ending.stop)) ran.events after.device run.stood left is_left
+        (images_of job.save (saves run.ending.stop) job.config run.stood left before.shelf after.shelf run.why run.saved) run.promise run.safe;
+    put = PutsThrough-saved job.config.gap job.save (saves run.ending.stop) job.config after.device run.stood left before.shelf after.shelf run.why is_left run.saved;
+  },
+  stops,
+  has,
+)
 
 -- ---- blocks and loans
 

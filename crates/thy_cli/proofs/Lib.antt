@@ -3,5 +3,10 @@ pub mod PlainLemmas
 pub mod TopLemmas
 pub mod LevellingLemmas
 pub mod CompleteLaws
+pub mod ComparingLaws
+pub mod ComparedLaws
+pub mod NextLaws
+pub mod ComparisonLaws
+pub mod ClaimLaws
 pub mod SavingLemmas
 pub mod RestoringLaws

@@ -1,19 +1,21 @@
 -- What the top call makes of a job.
-use Rattle.std.proofs.Common.{◌≡◌, ℕ, ◌+◌, ◌-◌, Bool, true, false, Option, Some, None, List, [], ◌++◌, length, replicate, refl, sym, ◌∙◌, ap, subst, lit<, arith, ◌<◌, ◌≤◌, ◌^◌, if◌then◌else◌}
+use Rattle.std.proofs.Common.{◌≡◌, ℕ, ◌+◌, ◌-◌, ◌==◌, Bool, true, false, Option, Some, None, List, [], ◌++◌, length, replicate, refl, sym, ◌∙◌, ap, subst, inr, lit<, arith, ◌<◌, ◌≤◌, ◌^◌, if◌then◌else◌}
 use Rattle.std.specs.Prelude.{Result, Ok, Err}
-use Rattle.std.proofs.lemmas.Bool.{le-leb}
+use Rattle.std.proofs.lemmas.Bool.{le-leb, eqb-true, eqb-false}
 use Rattle.std.proofs.lemmas.List.{length-append, length-replicate}
 use Rattle.thy_base.specs.declared.config.Config.{Config}
 use Rattle.thy_base.specs.declared.config.Parameters.{Parameters}
+use Rattle.thy_base.specs.declared.nvm.FitError.{FitError}
 use Rattle.thy_base.specs.declared.nvm.Shape.{Shape}
 use Rattle.thy_base.specs.Config.{fault_of, rows_of, IsRising}
 use Rattle.thy_base.specs.declared.block.Block.{Block}
 use Rattle.thy_base.specs.declared.outside.PutError.{PutError}
-use Rattle.thy_base.specs.Device.{Device, fitted, zero_block}
+use Rattle.thy_base.specs.Device.{Device, HasFailedToFit, fitted, zero_block}
 use Rattle.thy_base.specs.Geometry.{IsInRange, parameters_of, program_size}
 use Rattle.thy_base.specs.Outside.{Stock, Stream, HasNotFailed}
+use Rattle.thy_isa.specs.declared.state.OtherHart.{OtherHart}
 use Rattle.thy_isa.specs.declared.state.Status.TheVariants.{Running}
-use Rattle.thy_isa.specs.Storable.{IsNumber, IsStorable, IsReadable}
+use Rattle.thy_isa.specs.Storable.{IsNumber, IsOtherOf, IsStorable, IsReadable}
 use Rattle.thy_base.specs.Bytes.{bytes_of}
 use Rattle.thy_base.specs.Marks.{mark}
 use Rattle.thy_record.specs.Decoded.{At}
@@ -23,11 +25,11 @@ use Rattle.thy_image.proofs.LawLemmas.{file_is_image}
 use Rattle.thy_isa.specs.Step.{State, state_of}
 use Rattle.thy_isa.proofs.MemoryBounds.{anywhere}
 use Rattle.thy_record.specs.declared.start.Start.{Start}
-use Rattle.thy_record.specs.Cpu.{is_status, status_tag, status_value}
+use Rattle.thy_record.specs.Cpu.{is_status, status_tag, status_value, IsOtherRecordable}
 use Rattle.thy_elf.specs.declared.error.ElfError.{ElfError}
 use Rattle.thy_elf.specs.declared.image.Image.{Image}
 use Rattle.thy_elf.specs.Image.{Contents, contents_of, read_of}
-use Rattle.thy_plain.specs.Start.{start_state}
+use Rattle.thy_plain.specs.Start.{second_hart, start_other, start_state}
 use Rattle.thy_words.specs.declared.words.WordsError.{WordsError}
 use Rattle.thy_words.specs.declared.words.WordsError.TheVariants.{Usage, Word, Value, Memory as WordsMemory}
 use Rattle.thy_words.specs.Settings.{Job, settings_of, order_of, ShowsOrMemory}
@@ -43,15 +45,16 @@ use Rattle.thy_run.proofs.PromiseLaws.{Promise-stopped}
 use Rattle.thy_run.proofs.WorldLaws.{IsSafe-cut}
 use Rattle.thy_text.specs.Event.{Event}
 use Rattle.thy_cli.specs.declared.answer.Answer.{Answer}
+use Rattle.thy_cli.specs.declared.answer.Ran.{Ran}
 use Rattle.thy_run.specs.declared.ending.Ending.{Ending}
 use Rattle.thy_run.specs.declared.plan.Plan.{Plan}
 use Rattle.thy_cli.specs.declared.refusal.Refusal.{Refusal}
 use Rattle.thy_cli.specs.declared.refusal.Refusal.TheVariants.{Device as DeviceRefusal}
 use Rattle.thy_cli.specs.Answering.{Outside, outside, WordsDue, RunDue, given_for, shape_for, IsRunFrom, IsRunOf, IsSafeFor, ClosesRun, run_line, run_status, summary_for}
-use Rattle.thy_cli.specs.Planning.{Begins, begun_with, CanRun, Fits, FitsKept, HasRoom, IsElf, AreFetchedFor, IsPlanOf, IsProgramOf, shape_of}
+use Rattle.thy_cli.specs.Planning.{Begins, begun_with, CanRun, Fits, FitsKept, HasRoom, IsElf, AreFetchedFor, IsPlanOf, IsProgramOf, IsUnfitted, RunOverSeen, answer_of, shape_of}
 use Rattle.thy_cli.specs.Restoring.{IsRestored, ReadsFiles}
 use Rattle.thy_cli.specs.Saving.{SavesUnder, save_pick, saves}
-use Rattle.thy_cli.specs.Sources.{ProgramSource, file, made, image, Beginning, begun, from_entry, restored, IsInput, meaning_of, origin_for, ProgramDue}
+use Rattle.thy_cli.specs.Sources.{ProgramSource, file, made, image, Beginning, begun, from_entry, restored, IsInput, IsProgram, meaning_of, origin_for, ProgramDue}
 use Rattle.thy_cli.specs.declared.refusal.Refusal.TheVariants.{Input}
 use Rattle.thy_cli.specs.declared.restoring.Beginning.{Beginning as BeginningValue}
 use Rattle.thy_cli.specs.declared.source.FetchedBytes.{FetchedBytes}
@@ -76,12 +79,20 @@ pub input_size : (stock : Stock) (name : Option (List ℕ)) (input : List ℕ) �
 input_size stock None input none = omega (arith, ap length none)
 input_size stock (Some name) input held = omega (arith, held.0)
 
+-- hart 1, if it is there, can be recorded if it can be stored
+start_recordable : (p : Parameters) (o : OtherHart) (two : Bool) → (p.harts == 2) ≡ two → IsOtherOf (if two then Some o else None)
+    → IsOtherRecordable p (if two then Some o else None)
+start_recordable p o true e h = (eqb-true p.harts 2 e, h)
+start_recordable p o false e h = eqb-false p.harts 2 e
+
 -- a start state begins a run from a file
 pub IsOrigin-start : (o : Origin) (contents : Contents) → IsInRange o.geometry → o.start ≡ start_state o.geometry contents → IsStorable (program_size o.geometry) o.start → IsReadable (setting_of o) → o.kept ≡ None → IsOrigin o
 IsOrigin-start o contents range is storable readable fresh =
     let console : length o.start.console ≡ 0 = ap (λ (s : State). length s.console) is in
     let count : o.start.count ≡ 0 = ap (λ (s : State). s.count) is in
     let status : o.start.status ≡ Running = ap (λ (s : State). s.status) is in
+    let p = o.geometry in
+    let other : o.start.other ≡ start_other p contents.entry = ap (λ (s : State). s.other) is in
     record {
       geometry = range;
       recordable = record {
@@ -95,7 +106,8 @@ IsOrigin-start o contents range is storable readable fresh =
         floor = storable.floor;
         count = omega (arith, count);
         status = ap (λ s. is_status (status_tag s) (status_value s)) status;
-        alone = ap (λ (s : State). s.other) is;
+        other = subst (IsOtherRecordable p) (sym other)
+            (start_recordable p (second_hart p contents.entry) (p.harts == 2) refl (subst IsOtherOf other storable.other));
       };
       memory = storable.memory_size;
       storable = storable;
@@ -173,15 +185,16 @@ safe_saved K o events None true c n m old new why h safe = subst (IsSafeFor K o 
 safe_saved K o events None false c n m old new why h safe = subst (IsSafeFor K o events) (sym h.0) safe
 
 -- a run that was begun keeps its promise
-pub IsRunOf-ran : {M O : Type 0} (K : KindOf M) (laws : IsLawful K) (has_seen : O → List Taken → Type 0) → (source : ProgramSource) (job : Job) (save : Option (List ℕ)) (before after : Outside) (plan : Plan) (blocks : List Block) (d stood : Device) (e : Ending) (a : Answer) (told : Stream) (why : Option PutError) (observer : O)
+pub IsRunOf-ran : {M O : Type 0} (K : KindOf M) (laws : IsLawful K) (has_seen : O → List Taken → Type 0) → (source : ProgramSource) (job : Job) (save : Option (List ℕ)) (before after : Outside) (plan : Plan) (blocks : List Block) (d stood : Device) (e : Ending) (r : Ran) (told : Stream) (why : Option PutError) (observer : O)
     → IsPlanned plan → (p : IsPlanOf source job before.shelf plan blocks) → job.save ≡ save
     → d ≡ fitted (shape_for K job.config) blocks before.device
     → RunEndsSeen K has_seen plan d stood e before.terminal after.terminal before.report told observer
     → SavesUnder save (saves e.stop) plan.config stood after.device before.shelf after.shelf why
     → ClosesRun e.report_failed (summary_for source e.stop e.events ++ run_line plan.geometry.limit save e.stop why) told after.report
-    → a.events ≡ e.events → a.cycles ≡ e.cycles → a.status ≡ run_status e.stop why
-    → (h : IsRunOf K source job before after a) × HasSeenOf K has_seen source job before after a h observer
-IsRunOf-ran K laws has_seen source job save before after plan blocks d stood e a told why observer planned p names fit ends saved closes events cycles status =
+    → r.stop ≡ e.stop → r.events ≡ e.events → r.cycles ≡ e.cycles → r.status ≡ run_status e.stop why
+    → (h : IsRunOf K source job before p.program after (answer_of r)) × (h.ending.stop ≡ r.stop) × HasSeenOf K has_seen source job before p.program after (answer_of r) h observer
+IsRunOf-ran K laws has_seen source job save before after plan blocks d stood e r told why observer planned p names fit ends saved closes stops events cycles status =
+    let a : Answer = answer_of r in
     let o : Origin = origin_for job p.program.begins p.program.input in
     let given : Given = given_for K job p.program.begins before.device in
     let promise = planned_promise K laws plan d stood e before.terminal after.terminal before.report told planned ends.0 in
@@ -208,12 +221,9 @@ IsRunOf-ran K laws has_seen source job save before after plan blocks d stood e a
       safe = safe_saved K (origin_of plan) a.events job.save (saves e.stop) job.config stood after.device before.shelf after.shelf why put
           (subst (λ vs. IsSafeFor K (origin_of plan) vs stood) (sym events) promise.safe_at_return);
     } in
-    let both : (r : IsRunFrom K o given source job before after a) × HasSeenFrom K has_seen o given source job before after a r observer =
-    subst (λ x. (r : IsRunFrom K o x source job before after a) × HasSeenFrom K has_seen o x source job before after a r observer)
-    (planned_given K source job before.shelf plan blocks d before.device p fit)
-    (subst (λ x. (r : IsRunFrom K x (given_of plan d) source job before after a) × HasSeenFrom K has_seen x (given_of plan d) source job before after a r observer) p.origin
-    (run, ends.1)) in
-    (record { program = p.program; run = both.0 }, both.1)
+    let Run : Origin → Given → Type 0 = λ x y. (h : IsRunFrom K x y source job before after a) × (h.ending.stop ≡ r.stop) × HasSeenFrom K has_seen x y source job before after a h observer in
+    subst (Run o) (planned_given K source job before.shelf plan blocks d before.device p fit)
+    (subst (λ x. Run x (given_of plan d)) p.origin (run, sym stops, ends.1))
 
 -- if there is no program, a job is not run
 pub RunDue-program : (source : ProgramSource) (job : Job) (before after : Outside) (r : Refusal) → ProgramDue source job before.shelf after.shelf r → after.device ≡ before.device → RunDue source job before after r
@@ -381,6 +391,22 @@ HasRoom-ran K laws plan blocks shape n d stood e terminal shown report read plan
 pub RunSeen-same : {M O : Type 0} (K : KindOf M) (has_seen : O → List Taken → Type 0) (source : ProgramSource) (job : Job) (old middle new : Stock) (n m : Device) (t u r s : Stream) (a : Answer) (observer : O) → middle ≡ old
     → RunSeen K has_seen source job (outside middle n t r) (outside new m u s) a observer → RunSeen K has_seen source job (outside old n t r) (outside new m u s) a observer
 RunSeen-same K has_seen source job old middle new n m t u r s a observer same h = subst (λ x. RunSeen K has_seen source job (outside x n t r) (outside new m u s) a observer) same h
+
+-- a run of a plan is one of its job
+pub RunSeen-over : {M O : Type 0} (K : KindOf M) (has_seen : O → List Taken → Type 0) (source : ProgramSource) (job : Job) (before : Outside) (program : IsProgram source job before.shelf) (after : Outside) (ran : Ran) (a : Answer) (observer : O) → a ≡ answer_of ran
+    → RunOverSeen K has_seen source job before program after ran observer → RunSeen K has_seen source job before after a observer
+RunSeen-over K has_seen source job before program after ran a observer same (r, stops, has) =
+    subst (λ x. RunSeen K has_seen source job before after x observer) (sym same) (inr (record { program = program; ran = r }), has)
+
+-- a job whose device was not fitted is not run
+pub RunDue-unfitted : (source : ProgramSource) (job : Job) (e : FitError) (before middle after : Outside) → IsProgram source job before.shelf → IsUnfitted e before middle → after.shelf ≡ middle.shelf → after.device ≡ middle.device
+    → RunDue source job before after (DeviceRefusal e)
+RunDue-unfitted source job e before middle after program h shelf device =
+    let same : after.shelf ≡ before.shelf = shelf ∙ h.shelf in (
+      program,
+      record { faults = ap (λ (x : Stock). x.faults) same; failed = ap (λ (x : Stock). x.failed) same },
+      subst (HasFailedToFit e before.device) (sym device) h.failed,
+    )
 
 -- a run of a source under a name is one under the same name in other words
 pub RunSeen-file : {M O : Type 0} (K : KindOf M) (has_seen : O → List Taken → Type 0) (name own : List ℕ) (job : Job) (before after : Outside) (a : Answer) (observer : O) → name ≡ own

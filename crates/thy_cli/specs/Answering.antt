@@ -1,6 +1,6 @@
 -- Part of the claim.
 -- What the top call returns.
-use Rattle.std.specs.Prelude.{◌≡◌, ◌⊎◌, ℕ, ◌<◌, ◌≤◌, Bool, true, false, List, [], ◌∷◌, ◌++◌, length, codes, Option, Some, None, Ok, Err}
+use Rattle.std.specs.Prelude.{◌≡◌, ◌⊎◌, ℕ, ◌<◌, ◌≤◌, Bool, true, false, List, [], ◌∷◌, ◌++◌, length, codes, Option, Some, None, Err}
 use Rattle.std.specs.Fmt.{decimal}
 use Rattle.thy_base.specs.declared.outside.FetchError.TheVariants.{Failed as FetchFailed, NotThere, TooLong, Memory as FetchMemory}
 use Rattle.thy_base.specs.declared.outside.PutError.{PutError}
@@ -26,7 +26,7 @@ use Rattle.thy_text.specs.Lines.{joined, line_feed, ended_lines, made_of}
 use Rattle.thy_text.specs.Summary.{summary_of}
 use Rattle.thy_words.specs.declared.words.WordsError.{WordsError}
 use Rattle.thy_words.specs.declared.words.WordsError.TheVariants.{Usage, Word, Value, Memory as WordsMemory}
-use Rattle.thy_words.specs.Settings.{Job, Order, run, resume, bench, plain, make, settings_of}
+use Rattle.thy_words.specs.Settings.{Job, settings_of}
 use Rattle.thy_view.specs.Kind.{KindOf}
 use Rattle.thy_view.specs.Origin.{Origin, at, runs_at}
 use Rattle.thy_run.specs.declared.ending.Ending.{Ending}
@@ -40,9 +40,8 @@ use Rattle.thy_cli.specs.declared.answer.Answer.{Answer}
 use Rattle.thy_cli.specs.declared.refusal.Refusal.{Refusal}
 use Rattle.thy_cli.specs.declared.refusal.Refusal.TheVariants.{Words, Fetch, File, Image, Input, Device as DeviceRefusal, Memory as MemoryRefusal}
 use Rattle.thy_cli.specs.Levelling.{IsFoundAs, IsLeftAs, IsHandedBack, PutsThrough, images_of_save}
-use Rattle.thy_cli.specs.Machines.{Choice}
 use Rattle.thy_cli.specs.Saving.{IsPut, SavesUnder, saves}
-use Rattle.thy_cli.specs.Sources.{ProgramSource, file, made, image, Beginning, IsProgram, origin_for, ProgramDue}
+use Rattle.thy_cli.specs.Sources.{ProgramSource, file, made, Beginning, IsProgram, origin_for, ProgramDue}
 
 -- what a call finds outside, or leaves there
 pub record Outside : Type 0 where
@@ -58,6 +57,29 @@ outside shelf device terminal report =
 -- the same with another device
 abbrev pub with_device : Device → Outside → Outside
 with_device n o = record o { device = n }
+
+-- what is seen of devices of a type: what they hold, and how many writes they have taken since they were fitted
+pub record NvmOf (N : Type 0) : Type 0 where
+  pub device : N → Device
+  pub writes : N → ℕ
+
+abbrev pub nvm_of : {N : Type 0} → (N → Device) → (N → ℕ) → NvmOf N
+nvm_of device writes = record { device = device; writes = writes }
+
+-- what a call finds outside, or leaves there, with the device itself
+pub record Around (N : Type 0) : Type 0 where
+  pub shelf : Stock
+  pub nvm : N
+  pub terminal : Stream
+  pub report : Stream
+
+abbrev pub around : {N : Type 0} → Stock → N → Stream → Stream → Around N
+around shelf nvm terminal report =
+    record { shelf = shelf; nvm = nvm; terminal = terminal; report = report }
+
+-- the same with what the device holds
+abbrev pub outside_of : {N : Type 0} → NvmOf N → Around N → Outside
+outside_of d w = outside w.shelf (d.device w.nvm) w.terminal w.report
 
 -- ---- refusals: what is due when
 
@@ -195,23 +217,30 @@ pub record IsRunFrom {M : Type 0} (K : KindOf M) (o : Origin) (given : Given) (s
   pub promise : Promise K o given a.cycles a.events stood
   pub safe : IsSafeFor K o a.events after.device
 
--- a run of what a source means was begun, over a device that was fitted for it, and stopped
-pub record IsRunOf {M : Type 0} (K : KindOf M) (source : ProgramSource) (job : Job) (before after : Outside) (a : Answer) : Type 0 where
-  pub program : IsProgram source job before.shelf
-  pub run : IsRunFrom K (origin_for job program.begins program.input) (given_for K job program.begins before.device)
-      source job before after a
+-- a run of a program was begun, over a device that was fitted for it, and stopped
+abbrev pub IsRunOf : {M : Type 0} (K : KindOf M) (source : ProgramSource) (job : Job) (before : Outside)
+    → IsProgram source job before.shelf → Outside → Answer → Type 0
+IsRunOf K source job before program after a =
+    IsRunFrom K (origin_for job program.begins program.input) (given_for K job program.begins before.device)
+    source job before after a
 
 -- The same over the device that the run sees, which with a gap is not the one that was handed in. `IsHandedBack` says
 -- which images the latter has.
-pub record IsRunOver {M : Type 0} (K : KindOf M) (source : ProgramSource) (job : Job) (before after : Outside) (a : Answer) : Type 0 where
+pub record IsRunOverOf {M : Type 0} (K : KindOf M) (source : ProgramSource) (job : Job) (before : Outside)
+    (program : IsProgram source job before.shelf) (after : Outside) (a : Answer) : Type 0 where
   pub found : Device
   pub left : Device
   pub is_found : IsFoundAs job.config.gap before.device found
   pub is_left : IsLeftAs job.config.gap after.device left
-  pub seen : IsRunOf K source job (with_device found before) (with_device left after) a
-  pub back : IsHandedBack K (origin_for job seen.program.begins seen.program.input) job.config.gap a.cycles a.events
-      (images_of_save job.save (saves seen.run.ending.stop)) after.device
-  pub put : PutsThrough job.config.gap job.save (saves seen.run.ending.stop) after.device before.shelf after.shelf seen.run.why
+  pub seen : IsRunOf K source job (with_device found before) program (with_device left after) a
+  pub back : IsHandedBack K (origin_for job program.begins program.input) job.config.gap a.cycles a.events
+      (images_of_save job.save (saves seen.ending.stop)) after.device
+  pub put : PutsThrough job.config.gap job.save (saves seen.ending.stop) after.device before.shelf after.shelf seen.why
+
+-- a run of what a source means
+pub record IsRunOver {M : Type 0} (K : KindOf M) (source : ProgramSource) (job : Job) (before after : Outside) (a : Answer) : Type 0 where
+  pub program : IsProgram source job before.shelf
+  pub ran : IsRunOverOf K source job before program after a
 
 -- ---- the plain machine
 
@@ -282,24 +311,3 @@ PlainAnswered name job before after a =
     (after.device ≡ before.device)
     × (((r : Refusal) × ProgramDue (file name) job before.shelf after.shelf r × IsRefused r before after a)
     ⊎ IsPlainOf name job before after a)
-
--- the arguments are refused, and shelf and device are left alone
-abbrev pub WordsRefused : List (List ℕ) → Outside → Outside → Answer → Type 0
-WordsRefused words before after a =
-    (e : WordsError) × WordsDue words e × (after.shelf ≡ before.shelf) × (after.device ≡ before.device)
-    × IsRefused (Words e) before after a
-
--- the result of an order: a run of a source on the machine of the job's scheme, one on the plain machine, or a made
--- program
-abbrev pub OrderAnswered : Choice → Order → Outside → Outside → Answer → Type 0
-OrderAnswered c (run name job) before after a = RunAnswered (c job.config.scheme).kind (file name) job before after a
-OrderAnswered c (bench n job) before after a = RunAnswered (c job.config.scheme).kind (made n) job before after a
-OrderAnswered c (resume name job) before after a = RunAnswered (c job.config.scheme).kind (image name) job before after a
-OrderAnswered c (plain name job) before after a = PlainAnswered name job before after a
-OrderAnswered c (make n name) before after a = MakeAnswered n name before after a
-
--- The result of a call: the arguments are refused, or they give an order, and this is its result.
-abbrev pub Answered : Choice → List (List ℕ) → Outside → Outside → Answer → Type 0
-Answered c words before after a =
-    WordsRefused words before after a
-    ⊎ ((order : Order) × (settings_of words ≡ Ok order) × OrderAnswered c order before after a)

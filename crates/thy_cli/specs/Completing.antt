@@ -1,15 +1,21 @@
 -- Part of the claim.
 -- The result of a call in which nothing fails: that of the program's own end.
 use Rattle.std.specs.Prelude.{◌≡◌, ◌⊎◌, ℕ, ◌+◌, ◌-◌, ◌^◌, ◌<◌, ◌≤◌, false, List, Some, Ok}
+use Rattle.thy_base.specs.declared.config.SchemeName.{SchemeName}
+use Rattle.thy_base.specs.Device.{Device}
 use Rattle.thy_base.specs.Geometry.{parameters_of}
 use Rattle.thy_base.specs.Outside.{Stock, Files}
 use Rattle.thy_isa.specs.Step.{State, is_running}
-use Rattle.thy_run.specs.Progress.{cycles_for}
+use Rattle.thy_run.specs.Progress.{cycles_for, tally_of}
 use Rattle.thy_run.specs.declared.ending.Stop.TheVariants.{Ended}
-use Rattle.thy_view.specs.Origin.{at}
-use Rattle.thy_words.specs.Settings.{Job, Order, run, resume, bench, plain, make, settings_of}
-use Rattle.thy_cli.specs.Answering.{Outside, stop_status, Answered}
+use Rattle.thy_run.specs.World.{World, Given, Ran}
+use Rattle.thy_view.specs.Kind.{KindOf}
+use Rattle.thy_view.specs.Origin.{Origin, at}
+use Rattle.thy_words.specs.Settings.{Job, Order, run, resume, bench, compare, plain, make, settings_of}
+use Rattle.thy_cli.specs.Answering.{Around, NvmOf, Outside, given_for, outside_of, stop_status}
+use Rattle.thy_cli.specs.Comparing.{under}
 use Rattle.thy_cli.specs.Machines.{Choice}
+use Rattle.thy_cli.specs.Orders.{Answered}
 use Rattle.thy_cli.specs.Sources.{ProgramSource, file, made, image, IsProgram, origin_for}
 use Rattle.thy_cli.specs.declared.answer.Answer.{Answer}
 
@@ -47,15 +53,33 @@ left_alone {job = job} p k = at (origin_for job p.begins p.input) (p.begins.star
 abbrev pub TellsEnd : State → Answer → Type 0
 TellsEnd s a = (a.status ≡ stop_status (Ended s.status)) ⊎ (a.status ≡ 9)
 
--- A program that ends within k instructions ends so on the machine, in spite of all power cuts, if the limit is not
--- below the cycles that the machine promises for as many.
+-- With one hart, a program that ends within k instructions ends so on the machine, in spite of all power cuts, if the
+-- limit is not below the cycles that the machine promises for as many.
 abbrev pub RunCompletes : Choice → List (List ℕ) → Outside → Outside → Answer → Type 0
 RunCompletes c words before after a =
     (source : ProgramSource) (job : Job) (i : IsAsked (run_of source job) source job words before.shelf) (k : ℕ)
-    → IsCalm before after
+    → IsCalm before after → job.config.harts ≡ 1
     → is_running (left_alone i.program k).status ≡ false
     → cycles_for (c job.config.scheme).kind (parameters_of job.config) job.config.cuts k ≤ job.config.limit
     → TellsEnd (left_alone i.program k) a
+
+-- so many instructions retired since power came on last, in a run that gave these events in so many cycles
+pub record HasRetired {M : Type 0} (K : KindOf M) (o : Origin) (given : Given) (a : Answer) (k : ℕ) : Type 0 where
+  pub last : World M
+  pub ran : Ran K o given a.cycles last
+  pub events : last.events ≡ a.events
+  pub many : k ≤ (tally_of K o given a.cycles last ran).retired
+
+-- With two harts the schedule decides whether and when the program ends. It does, if the limit is not below the cycles
+-- that the machine promises for k instructions, or as many have retired, over the device that the run saw.
+abbrev pub PairCompletes : Choice → List (List ℕ) → Outside → Outside → Answer → Type 0
+PairCompletes c words before after a =
+    (source : ProgramSource) (job : Job) (i : IsAsked (run_of source job) source job words before.shelf) (k : ℕ)
+    → IsCalm before after → job.config.harts ≡ 2
+    → cycles_for (c job.config.scheme).kind (parameters_of job.config) job.config.cuts k ≤ job.config.limit
+    → (a.status ≡ 0) ⊎ (a.status ≡ 1) ⊎ (a.status ≡ 9)
+    ⊎ ((found : Device) × HasRetired (c job.config.scheme).kind (origin_for job i.program.begins i.program.input)
+    (given_for (c job.config.scheme).kind job i.program.begins found) a k)
 
 -- and on the plain machine, if the limit is not below k
 abbrev pub PlainCompletes : List (List ℕ) → Outside → Outside → Answer → Type 0
@@ -66,6 +90,16 @@ PlainCompletes words before after a =
     → k ≤ job.config.limit
     → TellsEnd (left_alone i.program k) a
 
+-- And with one hart in each run of a comparison, if the limit is not below the cycles that each machine promises for as
+-- many: the status is that of the program's end, or memory ran out.
+abbrev pub CompareCompletes : Choice → List (List ℕ) → Outside → Outside → Answer → Type 0
+CompareCompletes c words before after a =
+    (name : List ℕ) (job : Job) (i : IsAsked (compare name job) (file name) job words before.shelf) (k : ℕ)
+    → IsCalm before after → job.config.harts ≡ 1
+    → is_running (left_alone i.program k).status ≡ false
+    → ((scheme : SchemeName) → cycles_for (c scheme).kind (parameters_of (under scheme job).config) job.config.cuts k ≤ job.config.limit)
+    → TellsEnd (left_alone i.program k) a
+
 -- a file that is to be made is put, unless memory ran out
 abbrev pub MakeCompletes : List (List ℕ) → Outside → Outside → Answer → Type 0
 MakeCompletes words before after a =
@@ -73,8 +107,10 @@ MakeCompletes words before after a =
     → (a.status ≡ 0) ⊎ (a.status ≡ 9)
 
 -- What is claimed of a call: what its result is, and that this is complete.
-pub record Claim (c : Choice) (words : List (List ℕ)) (before after : Outside) (a : Answer) : Type 0 where
-  pub answered : Answered c words before after a
-  pub complete_run : RunCompletes c words before after a
-  pub complete_plain : PlainCompletes words before after a
-  pub complete_make : MakeCompletes words before after a
+pub record Claim {N : Type 0} (c : Choice) (d : NvmOf N) (words : List (List ℕ)) (before after : Around N) (a : Answer) : Type 0 where
+  pub answered : Answered c d words before after a
+  pub complete_run : RunCompletes c words (outside_of d before) (outside_of d after) a
+  pub complete_pair : PairCompletes c words (outside_of d before) (outside_of d after) a
+  pub complete_compare : CompareCompletes c words (outside_of d before) (outside_of d after) a
+  pub complete_plain : PlainCompletes words (outside_of d before) (outside_of d after) a
+  pub complete_make : MakeCompletes words (outside_of d before) (outside_of d after) a

@@ -4,9 +4,10 @@ use Rattle.thy_base.specs.declared.block.Block.{Block}
 use Rattle.thy_base.specs.declared.config.Config.{Config}
 use Rattle.thy_base.specs.declared.config.Parameters.{Parameters}
 use Rattle.thy_base.specs.declared.mark.Mark.{Mark}
+use Rattle.thy_base.specs.declared.nvm.FitError.{FitError}
 use Rattle.thy_base.specs.declared.nvm.Shape.{Shape}
 use Rattle.thy_base.specs.Bytes.{bytes_of}
-use Rattle.thy_base.specs.Device.{Device, fitted}
+use Rattle.thy_base.specs.Device.{Device, HasFailedToFit, fitted}
 use Rattle.thy_base.specs.Geometry.{IsInRange, parameters_of, program_size}
 use Rattle.thy_base.specs.Outside.{Stock}
 use Rattle.thy_elf.specs.Image.{contents_of}
@@ -23,6 +24,7 @@ use Rattle.thy_view.specs.Origin.{IsOrigin}
 use Rattle.thy_view.specs.Safe.{ceiling}
 use Rattle.thy_words.specs.Settings.{Job}
 use Rattle.thy_cli.specs.declared.answer.Answer.{Answer}
+use Rattle.thy_cli.specs.declared.answer.Ran.{Ran}
 use Rattle.thy_cli.specs.declared.refusal.Refusal.{Refusal}
 use Rattle.thy_cli.specs.declared.refusal.Refusal.TheVariants.{Fetch}
 use Rattle.thy_cli.specs.declared.restoring.Beginning.{Beginning as BeginningValue}
@@ -30,8 +32,8 @@ use Rattle.thy_cli.specs.declared.source.FetchedBytes.{FetchedBytes}
 use Rattle.thy_cli.specs.declared.source.Program.{Program}
 use Rattle.thy_cli.specs.declared.source.ProgramSource.{ProgramSource as SourceValue}
 use Rattle.thy_cli.specs.declared.source.ProgramSource.TheVariants as value
-use Rattle.thy_cli.specs.Answering.{Outside, told_of, with_device, shape_for, IsRunOf}
-use Rattle.thy_cli.specs.Watching.{HasSeenOf, RunSeen}
+use Rattle.thy_cli.specs.Answering.{Outside, told_of, with_device, shape_for, IsRunOf, IsRunOverOf}
+use Rattle.thy_cli.specs.Watching.{HasSeenOf, HasSeenOver}
 use Rattle.thy_cli.specs.Sources.{ProgramSource, file, made, image, Beginning, from_entry, FetchDue, AreFetched, IsProgram, origin_for, ProgramDue}
 
 -- the exit status of a refusal, and its line
@@ -157,18 +159,41 @@ pub record HasStayed (old new : Device) : Type 0 where
   pub blocks : length new.image ≡ length old.image
   pub lent : new.lent ≡ old.lent
 
+-- ---- runs of a plan
+
+-- a run that was begun and has stopped, as the result of a call
+abbrev pub answer_of : Ran → Answer
+answer_of r = record { status = r.status; events = r.events; cycles = r.cycles }
+
+-- the device was not fitted, for this reason, and nothing else was done
+pub record IsUnfitted (e : FitError) (before after : Outside) : Type 0 where
+  pub failed : HasFailedToFit e before.device after.device
+  pub shelf : after.shelf ≡ before.shelf
+  pub terminal : after.terminal ≡ before.terminal
+  pub report : after.report ≡ before.report
+
 -- What a run of a plan, over a device that was fitted, is to a job that it is the plan of, whatever device was fitted; and
 -- what an observer has seen of it.
 abbrev pub RunsFitted : {M O : Type 0} → KindOf M → (O → List Taken → Type 0) → ProgramSource → Option (List ℕ) → Plan
-    → Outside → Outside → Answer → O → Type 0
-RunsFitted K has_seen source save p before after a observer =
-    (job : Job) (blocks : List Block) (found : Device) → job.save ≡ save → IsPlanOf source job before.shelf p blocks
+    → Outside → Outside → Ran → O → Type 0
+RunsFitted K has_seen source save p before after ran observer =
+    (job : Job) (blocks : List Block) (found : Device) → job.save ≡ save → (h : IsPlanOf source job before.shelf p blocks)
     → before.device ≡ fitted (shape_for K job.config) blocks found
-    → (h : IsRunOf K source job (with_device found before) after a)
-    × HasSeenOf K has_seen source job (with_device found before) after a h observer
+    → (r : IsRunOf K source job (with_device found before) h.program after (answer_of ran))
+    × (r.ending.stop ≡ ran.stop)
+    × HasSeenOf K has_seen source job (with_device found before) h.program after (answer_of ran) r observer
+
+-- a run of a program over the device that it sees, and what an observer has seen of it
+abbrev pub RunOverSeen : {M O : Type 0} (K : KindOf M) (has_seen : O → List Taken → Type 0) (source : ProgramSource) (job : Job)
+    (before : Outside) → IsProgram source job before.shelf → Outside → Ran → O → Type 0
+RunOverSeen K has_seen source job before program after ran observer =
+    (r : IsRunOverOf K source job before program after (answer_of ran))
+    × (r.seen.ending.stop ≡ ran.stop)
+    × HasSeenOver K has_seen source job before program after (answer_of ran) r observer
 
 -- what a run of a plan is to a job that it is the plan of, and what an observer has seen of it
 abbrev pub RunsPlan : {M O : Type 0} → KindOf M → (O → List Taken → Type 0) → ProgramSource → Option (List ℕ) → Plan → List Block
-    → Outside → Outside → Answer → O → Type 0
-RunsPlan K has_seen source save p blocks before after a observer =
-    (job : Job) → job.save ≡ save → IsPlanOf source job before.shelf p blocks → RunSeen K has_seen source job before after a observer
+    → Outside → Outside → Ran → O → Type 0
+RunsPlan K has_seen source save p blocks before after ran observer =
+    (job : Job) → job.save ≡ save → (h : IsPlanOf source job before.shelf p blocks)
+    → RunOverSeen K has_seen source job before h.program after ran observer

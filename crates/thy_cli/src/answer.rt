@@ -2,11 +2,13 @@
 
 ghost use Rattle.std.specs.Prelude.{◌≡◌};
 ghost use Rattle.thy_cli.specs.Answering.{run_status, stop_status};
+ghost use Rattle.thy_cli.specs.Planning.{answer_of};
 
+use std::alloc::Global;
 use thy_base::PutError;
 use thy_isa::Status;
 use thy_run::Stop;
-use thy_text::Events;
+use thy_text::{Events, History};
 
 /// The result of the top call.
 #[derive(Drop)]
@@ -15,9 +17,31 @@ pub struct Answer {
     /// lists them.
     pub status: u8,
     /// What happened, in order.
-    pub events: Events,
+    pub events: History,
     /// How many cycles are done.
     pub cycles: u64,
+}
+
+/// A run that was begun and has stopped.
+#[derive(Drop)]
+pub struct Ran {
+    pub stop: Stop,
+    pub status: u8,
+    pub events: Events,
+    pub cycles: u64,
+}
+
+impl Ran {
+    /// The result of a call that began this run alone.
+    pub fn answer(self, alloc: Global) -> Answer
+        ensures { result ≡ answer_of self }
+    {
+        Answer {
+            status: self.status,
+            events: History::of(alloc, self.events),
+            cycles: self.cycles,
+        }
+    }
 }
 
 /// The status of a stop.

@@ -5,7 +5,7 @@ ghost use Rattle.thy_cli.specs.Answering.{Closes, ClosesRun, run_line, run_statu
 ghost use Rattle.thy_cli.specs.Planning.{named};
 ghost use Rattle.thy_run.specs.Sending.{Sent};
 
-use crate::answer::{Answer, run_status};
+use crate::answer::{Ran, run_status};
 use crate::source::ProgramSource;
 use thy_base::{PutError, Sink};
 use thy_isa::Status;
@@ -32,24 +32,16 @@ fn sum_up<R: Sink>(source: ProgramSource, ending: &Ending, report: &mut R) -> bo
     }
 }
 
-/// Writes the closing line of a stop; at an end there is none.
-fn close_stop<R: Sink>(stop: Stop, limit: u64, report: &mut R)
-    ensures { Closes (stop_line limit stop) (R.stream report.old) (R.stream report.new) }
+/// Writes the closing line of a stop, and returns whether the report failed; at an end there is none.
+pub fn close_stop<R: Sink>(stop: Stop, limit: u64, report: &mut R) -> bool
+    ensures { Sent result (R.stream report.old) (R.stream report.new) (stop_line limit stop) }
 {
     match stop {
-        Stop::Ended(_) | Stop::Report => {}
-        Stop::Nvm => {
-            close(Closing::Nvm, report);
-        }
-        Stop::Memory => {
-            close(Closing::Memory, report);
-        }
-        Stop::Terminal => {
-            close(Closing::Terminal, report);
-        }
-        Stop::Limit => {
-            close(Closing::Limit(limit), report);
-        }
+        Stop::Ended(_) | Stop::Report => false,
+        Stop::Nvm => close(Closing::Nvm, report),
+        Stop::Memory => close(Closing::Memory, report),
+        Stop::Terminal => close(Closing::Terminal, report),
+        Stop::Limit => close(Closing::Limit(limit), report),
     }
 }
 
@@ -71,7 +63,9 @@ fn close_line<R: Sink>(
         (Some(PutError::Failed), Some(name)) => {
             close(Closing::Put(name), report);
         }
-        _ => close_stop(stop, limit, report),
+        _ => {
+            close_stop(stop, limit, report);
+        }
     }
 }
 
@@ -93,15 +87,16 @@ fn close_run<R: Sink>(
     }
 }
 
-/// The result of a run that has stopped. A report that has not failed gets the last lines.
-pub fn answer<R: Sink>(
+/// What came of a run that has stopped. A report that has not failed gets the last lines.
+pub fn stopped<R: Sink>(
     source: ProgramSource,
     save: Option<&str>,
     ending: Ending,
     why: Option<PutError>,
     limit: u64,
     report: &mut R,
-) -> Answer
+) -> Ran
+    ensures stop { result.stop ≡ ending.stop }
     ensures closes { ClosesRun ending.report_failed
         (summary_for (named source.entry) ending.stop ending.events
         ++ run_line limit (option_map (λ n. n.now) save.entry) ending.stop why)
@@ -113,7 +108,8 @@ pub fn answer<R: Sink>(
     if !ending.report_failed {
         close_run(source, save, &ending, why, limit, report);
     }
-    Answer {
+    Ran {
+        stop: ending.stop,
         status: run_status(ending.stop, why),
         events: ending.events,
         cycles: ending.cycles,

@@ -9,6 +9,7 @@
 mod answer;
 mod beginning;
 mod close;
+mod comparing;
 mod making;
 mod plain;
 mod refusal;

@@ -12,7 +12,7 @@ use crate::close::close;
 use std::alloc::Global;
 use thy_base::{PutError, Shelf, Sink};
 use thy_make::file;
-use thy_text::{Closing, Events, write_made};
+use thy_text::{Closing, Events, History, write_made};
 
 /// Puts the program file that is made from a number under a name; and returns its length, or why it was not put.
 fn put_made<H: Shelf>(
@@ -73,7 +73,7 @@ pub fn make<H: Shelf, R: Sink>(
     let status = tell(number, name, put, report);
     Answer {
         status,
-        events: Events::new(alloc),
+        events: History::of(alloc, Events::new(alloc)),
         cycles: 0,
     }
 }

@@ -14,7 +14,7 @@ ghost use Rattle.thy_cli.specs.Watching.{PlainSeen};
 ghost use Rattle.thy_run.specs.Sending.{Sent};
 
 use crate::answer::Answer;
-use crate::close::answer;
+use crate::close::stopped;
 use crate::refusal::{Refusal, refuse};
 use crate::source::{Program, ProgramSource, fetch_both, program_of};
 use std::alloc::Global;
@@ -116,7 +116,7 @@ fn run_plain<'a, H: Shelf, T: Sink, R: Sink, O: Observer>(
                 terminal_failed,
                 report_failed,
             };
-            answer(ProgramSource::File(name), None, ending, None, limit, report)
+            stopped(ProgramSource::File(name), None, ending, None, limit, report).answer(alloc)
         }
         Err(error) => refuse(alloc, Refusal::Memory(error), report),
     }

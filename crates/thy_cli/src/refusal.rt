@@ -10,7 +10,7 @@ use std::alloc::{AllocError, Global};
 use thy_base::{FetchError, FitError, Sink};
 use thy_elf::ElfError;
 use thy_record::BadImage;
-use thy_text::{Closing, Events, FetchFault};
+use thy_text::{Closing, Events, FetchFault, History};
 use thy_words::WordsError;
 
 /// Why a call begins no run.
@@ -49,7 +49,7 @@ fn file_closing(error: ElfError) -> Closing<'static>
 }
 
 /// What is reported of a refusal: the exit status and the closing line.
-fn told_of(refusal: Refusal<'_>) -> (u8, Closing<'_>)
+pub fn told_of(refusal: Refusal<'_>) -> (u8, Closing<'_>)
     ensures status { result.0 ≡ refused_status refusal.entry }
     ensures line { closing_of result.1 ≡ refused_line refusal.entry }
 {
@@ -89,7 +89,7 @@ pub fn refuse<R: Sink>(alloc: Global, refusal: Refusal, report: &mut R) -> Answe
     close(closing, report);
     Answer {
         status,
-        events: Events::new(alloc),
+        events: History::of(alloc, Events::new(alloc)),
         cycles: 0,
     }
 }

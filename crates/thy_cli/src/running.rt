@@ -1,5 +1,5 @@
 //! A run on the machine.
-ghost use Rattle.std.specs.Prelude.{◌≡◌, ◌<◌, [], None, IfOk, IfErr, OnOk, option_map};
+ghost use Rattle.std.specs.Prelude.{◌≡◌, ◌<◌, [], None, IfOk, IfErr, OnOk, OnErr, option_map};
 ghost use Rattle.thy_base.specs.Config.{fault_of as range_fault};
 ghost use Rattle.thy_base.specs.Geometry.{IsInRange, parameters_of};
 ghost use Rattle.thy_base.specs.Outside.{HasNotFailed};
@@ -10,27 +10,27 @@ ghost use Rattle.thy_cli.specs.Watching.{RunSeen};
 ghost use Rattle.thy_cli.specs.Machines.{by_scheme};
 ghost use Rattle.thy_cli.specs.Sources.{ProgramDue};
 ghost use Rattle.thy_cli.specs.Saving.{SavesUnder, saves};
-ghost use Rattle.thy_cli.specs.Planning.{Begins, CanRun, HasRoom, HasStayed, IsPlannedFor, RunsFitted, RunsPlan, named, shape_of};
+ghost use Rattle.thy_cli.specs.Planning.{Begins, CanRun, HasRoom, HasStayed, IsPlannedFor, IsUnfitted, RunsFitted, RunsPlan, named, shape_of};
 ghost use Rattle.thy_cli.specs.Restoring.{ReadsFiles};
 ghost use Rattle.thy_run.specs.Going.{IsPlanned};
 ghost use Rattle.thy_run.specs.Rounds.{IsFitted};
 
-use crate::answer::Answer;
+use crate::answer::{Answer, Ran};
 use crate::beginning::begin;
-use crate::close::answer;
+use crate::close::stopped;
 use crate::refusal::{Refusal, refuse};
 use crate::restoring::Beginning;
 use crate::saving::{cuts_in, is_saved, save, save_pick};
 use crate::source::{ProgramSource, fetch_both};
 use std::alloc::Global;
-use thy_base::{Block, Geometry, Nvm, PutError, SchemeName, Shape, Shelf, Sink};
+use thy_base::{Block, FitError, Geometry, Nvm, PutError, SchemeName, Shape, Shelf, Sink};
 use thy_gap::Gap;
 use thy_run::{Ending, Observer, Plan, run};
 use thy_view::Computer;
 use thy_words::Job;
 
 /// What a job's run begins with; or why there is no run.
-fn prepare<'a, H: Shelf>(
+pub fn prepare<'a, H: Shelf>(
     alloc: Global,
     source: ProgramSource<'a>,
     input: Option<&'a str>,
@@ -107,7 +107,7 @@ fn run_fitted<M: Computer, H: Shelf, T: Sink, R: Sink, N: Nvm, O: Observer>(
     report: &mut R,
     nvm: &mut N,
     observer: &mut O,
-) -> Answer
+) -> Ran
     requires planned { IsPlanned plan.now }
     requires fitted { IsFitted M.kind plan.now (N.device nvm.old) }
     requires unseen { O.has_seen observer.old [] }
@@ -123,7 +123,7 @@ fn run_fitted<M: Computer, H: Shelf, T: Sink, R: Sink, N: Nvm, O: Observer>(
     let blocks = M::nvm_blocks(&plan.geometry);
     let why = save_run(alloc, save, plan, blocks, &ending, shelf, nvm);
     let limit = plan.geometry.numbers().limit;
-    answer(source, save, ending, why, limit, report)
+    stopped(source, save, ending, why, limit, report)
 }
 
 /// Runs a plan without levelling over a device that is made for it, with these first blocks, and saves the run.
@@ -138,24 +138,31 @@ fn run_direct<M: Computer, H: Shelf, T: Sink, R: Sink, N: Nvm, O: Observer>(
     report: &mut R,
     nvm: &mut N,
     observer: &mut O,
-) -> Answer
+) -> Result<Ran, FitError>
     requires direct { plan.now.config.gap ≡ 0 }
     requires can { CanRun plan.now blocks.items }
     requires reads { ReadsFiles M.kind plan.now.geometry }
     requires unseen { O.has_seen observer.old [] }
-    ensures { let before = outside (H.stock shelf.old) (N.device nvm.old)
+    ensures runs { let before = outside (H.stock shelf.old) (N.device nvm.old)
         (T.stream terminal.old) (R.stream report.old) in
         let after = outside (H.stock shelf.new) (N.device nvm.new)
         (T.stream terminal.new) (R.stream report.new) in
         let name = option_map (λ n. n.now) save.entry in
-        RunsPlan M.kind O.has_seen (named source.entry) name plan.now blocks.items before after result observer.new }
+        IfOk result (λ ran.
+        RunsPlan M.kind O.has_seen (named source.entry) name plan.now blocks.items before after ran observer.new) }
+    ensures unfitted { let before = outside (H.stock shelf.old) (N.device nvm.old)
+        (T.stream terminal.old) (R.stream report.old) in
+        let after = outside (H.stock shelf.new) (N.device nvm.new)
+        (T.stream terminal.new) (R.stream report.new) in
+        IfErr result (λ e. IsUnfitted e before after) }
+    ensures unseen { OnErr result (O.has_seen observer.new []) }
 {
     let shape = shape_of::<M>(plan);
     match nvm.fit(alloc, &shape, blocks) {
-        Ok(()) => run_fitted::<M, H, T, R, N, O>(
+        Ok(()) => Ok(run_fitted::<M, H, T, R, N, O>(
             alloc, source, save, plan, shelf, terminal, report, nvm, observer,
-        ),
-        Err(error) => refuse(alloc, Refusal::Device(error), report),
+        )),
+        Err(error) => Err(error),
     }
 }
 
@@ -172,38 +179,45 @@ fn run_levelled<M: Computer, H: Shelf, T: Sink, R: Sink, N: Nvm, O: Observer>(
     report: &mut R,
     nvm: &mut N,
     observer: &mut O,
-) -> Answer
+) -> Result<Ran, FitError>
     requires levelled { 0 < plan.now.config.gap }
     requires can { CanRun plan.now blocks.items }
     requires reads { ReadsFiles M.kind plan.now.geometry }
     requires unseen { O.has_seen observer.old [] }
-    ensures { let before = outside (H.stock shelf.old) (N.device nvm.old)
+    ensures runs { let before = outside (H.stock shelf.old) (N.device nvm.old)
         (T.stream terminal.old) (R.stream report.old) in
         let after = outside (H.stock shelf.new) (N.device nvm.new)
         (T.stream terminal.new) (R.stream report.new) in
         let name = option_map (λ n. n.now) save.entry in
-        RunsPlan M.kind O.has_seen (named source.entry) name plan.now blocks.items before after result observer.new }
+        IfOk result (λ ran.
+        RunsPlan M.kind O.has_seen (named source.entry) name plan.now blocks.items before after ran observer.new) }
+    ensures unfitted { let before = outside (H.stock shelf.old) (N.device nvm.old)
+        (T.stream terminal.old) (R.stream report.old) in
+        let after = outside (H.stock shelf.new) (N.device nvm.new)
+        (T.stream terminal.new) (R.stream report.new) in
+        IfErr result (λ e. IsUnfitted e before after) }
+    ensures unseen { OnErr result (O.has_seen observer.new []) }
 {
     let shape = shape_of::<M>(plan);
     let mut lines = Gap::over(nvm, plan.config.gap);
     match lines.fit(alloc, &shape, blocks) {
         Ok(()) => {
-            let answer = run_fitted::<M, H, T, R, Gap<&mut N>, O>(
+            let ran = run_fitted::<M, H, T, R, Gap<&mut N>, O>(
                 alloc, source, save, plan, shelf, terminal, report, &mut lines, observer,
             );
             lines.means_what_is_seen();
             let _loan = lines.into_inner();
-            answer
+            Ok(ran)
         }
         Err(error) => {
             let _loan = lines.into_inner();
-            refuse(alloc, Refusal::Device(error), report)
+            Err(error)
         }
     }
 }
 
 /// Runs a plan over a device that is made for it, with these first blocks, and saves the run.
-fn run_plan<M: Computer, H: Shelf, T: Sink, R: Sink, N: Nvm, O: Observer>(
+pub fn run_plan<M: Computer, H: Shelf, T: Sink, R: Sink, N: Nvm, O: Observer>(
     alloc: Global,
     source: ProgramSource,
     save: Option<&str>,
@@ -214,16 +228,23 @@ fn run_plan<M: Computer, H: Shelf, T: Sink, R: Sink, N: Nvm, O: Observer>(
     report: &mut R,
     nvm: &mut N,
     observer: &mut O,
-) -> Answer
+) -> Result<Ran, FitError>
     requires can { CanRun plan.now blocks.items }
     requires reads { ReadsFiles M.kind plan.now.geometry }
     requires unseen { O.has_seen observer.old [] }
-    ensures { let before = outside (H.stock shelf.old) (N.device nvm.old)
+    ensures runs { let before = outside (H.stock shelf.old) (N.device nvm.old)
         (T.stream terminal.old) (R.stream report.old) in
         let after = outside (H.stock shelf.new) (N.device nvm.new)
         (T.stream terminal.new) (R.stream report.new) in
         let name = option_map (λ n. n.now) save.entry in
-        RunsPlan M.kind O.has_seen (named source.entry) name plan.now blocks.items before after result observer.new }
+        IfOk result (λ ran.
+        RunsPlan M.kind O.has_seen (named source.entry) name plan.now blocks.items before after ran observer.new) }
+    ensures unfitted { let before = outside (H.stock shelf.old) (N.device nvm.old)
+        (T.stream terminal.old) (R.stream report.old) in
+        let after = outside (H.stock shelf.new) (N.device nvm.new)
+        (T.stream terminal.new) (R.stream report.new) in
+        IfErr result (λ e. IsUnfitted e before after) }
+    ensures unseen { OnErr result (O.has_seen observer.new []) }
 {
     if plan.config.gap == 0 {
         run_direct::<M, H, T, R, N, O>(
@@ -279,7 +300,7 @@ fn run_source<M: Computer, H: Shelf, T: Sink, R: Sink, N: Nvm, O: Observer>(
         start,
         digest,
     };
-    run_plan::<M, H, T, R, N, O>(
+    match run_plan::<M, H, T, R, N, O>(
         alloc,
         source,
         save.as_deref(),
@@ -290,7 +311,10 @@ fn run_source<M: Computer, H: Shelf, T: Sink, R: Sink, N: Nvm, O: Observer>(
         report,
         nvm,
         observer,
-    )
+    ) {
+        Ok(ran) => ran.answer(alloc),
+        Err(error) => refuse(alloc, Refusal::Device(error), report),
+    }
 }
 
 /// Runs a job on the machine of its scheme: `A` for `SchemeName::Thynvm`, `B` for `SchemeName::Journal`, `C` for

@@ -2,11 +2,12 @@
 ghost use Rattle.std.specs.Prelude.{[], map};
 ghost use Rattle.std.specs.String.{string_bytes};
 ghost use Rattle.thy_cli.specs.Completing.{Claim};
-ghost use Rattle.thy_cli.specs.Answering.{outside};
+ghost use Rattle.thy_cli.specs.Answering.{around, nvm_of};
 ghost use Rattle.thy_cli.specs.Machines.{by_scheme};
 ghost use Rattle.thy_cli.specs.Watching.{ClaimSeen};
 
 use crate::answer::Answer;
+use crate::comparing::compare;
 use crate::making::make;
 use crate::plain::plain_file;
 use crate::refusal::{Refusal, refuse};
@@ -22,13 +23,14 @@ use thy_shadow::Shadow;
 use thy_view::Computer;
 use thy_words::{Command, settings};
 
-/// Does what the arguments after the program's name ask for: `run FILE`, `resume IMAGE`, `bench N`, `plain FILE` or
-/// `make N OUT`, and options.
+/// Does what the arguments after the program's name ask for: `run FILE`, `resume IMAGE`, `bench N`, `compare FILE`,
+/// `plain FILE` or `make N OUT`, and options.
 ///
 /// `run` runs a program file on the machine, `bench` the one that is made from a number, and `resume` continues from a
 /// saved image. With `--scheme` the machine has another scheme of checkpoints. The console's bytes go to `terminal` when
 /// their checkpoint is committed or restored, the events' lines and a closing line to `report`; with `--save` what the
-/// run leaves on its device is put on the shelf. `plain` runs a file on the plain machine: the console's bytes go to
+/// run leaves on its device is put on the shelf. `compare` runs a file by each scheme in turn, each time over a device that
+/// is fitted anew, and reports one line for each. `plain` runs a file on the plain machine: the console's bytes go to
 /// `terminal` when it stops, the line of its end and a closing line to `report`. `make` puts the program file of a
 /// number on the shelf.
 ///
@@ -50,14 +52,15 @@ pub fn thynvm<H: Shelf, T: Sink, R: Sink, N: Nvm>(
     report: &mut R,
     nvm: &mut N,
 ) -> Answer
-    ensures { let before = outside (H.stock shelf.old) (N.device nvm.old)
+    ensures { let before = around (H.stock shelf.old) nvm.old
         (T.stream terminal.old) (R.stream report.old) in
-        let after = outside (H.stock shelf.new) (N.device nvm.new)
+        let after = around (H.stock shelf.new) nvm.new
         (T.stream terminal.new) (R.stream report.new) in
+        let nvms = nvm_of N.device N.writes in
         let machines = by_scheme ⟦<Machine<DualScheme> as Computer>⟧.kind
         ⟦<Machine<Journal> as Computer>⟧.kind
         ⟦<Machine<Shadow> as Computer>⟧.kind in
-        Claim machines (map string_bytes words.now) before after result }
+        Claim machines nvms (map string_bytes words.now) before after result }
 {
     observed(alloc, words, shelf, terminal, report, nvm, &mut Silent)
 }
@@ -66,7 +69,7 @@ pub fn thynvm<H: Shelf, T: Sink, R: Sink, N: Nvm>(
 /// which the plain machine stops. It changes nothing of what is done.
 ///
 /// The contract is that of `thynvm`, and that the observer has seen the cycles of the run of which it speaks, or the plain
-/// machine's last state; or nothing, if there is neither.
+/// machine's last state; or nothing, if there is neither. The runs of a comparison it is not shown.
 pub fn observed<H: Shelf, T: Sink, R: Sink, N: Nvm, O: Observer>(
     alloc: Global,
     words: &[String],
@@ -77,15 +80,16 @@ pub fn observed<H: Shelf, T: Sink, R: Sink, N: Nvm, O: Observer>(
     observer: &mut O,
 ) -> Answer
     requires { O.has_seen observer.old [] }
-    ensures { let before = outside (H.stock shelf.old) (N.device nvm.old)
+    ensures { let before = around (H.stock shelf.old) nvm.old
         (T.stream terminal.old) (R.stream report.old) in
-        let after = outside (H.stock shelf.new) (N.device nvm.new)
+        let after = around (H.stock shelf.new) nvm.new
         (T.stream terminal.new) (R.stream report.new) in
+        let nvms = nvm_of N.device N.writes in
         let machines = by_scheme ⟦<Machine<DualScheme> as Computer>⟧.kind
         ⟦<Machine<Journal> as Computer>⟧.kind
         ⟦<Machine<Shadow> as Computer>⟧.kind in
         let words = map string_bytes words.now in
-        ClaimSeen machines O.has_seen O.has_seen_last words before after result observer.new }
+        ClaimSeen machines nvms O.has_seen O.has_seen_last words before after result observer.new }
 {
     match settings(alloc, words) {
         Ok(Command::Run { file, job }) => {
@@ -104,6 +108,12 @@ pub fn observed<H: Shelf, T: Sink, R: Sink, N: Nvm, O: Observer>(
             let source = ProgramSource::Made(number);
             run_by_scheme::<Machine<DualScheme>, Machine<Journal>, Machine<Shadow>, H, T, R, N, O>(
                 alloc, source, job, shelf, terminal, report, nvm, observer,
+            )
+        }
+        Ok(Command::Compare { file, job }) => {
+            let name = file.as_str();
+            compare::<Machine<DualScheme>, Machine<Journal>, Machine<Shadow>, H, T, R, N>(
+                alloc, name, job, shelf, terminal, report, nvm,
             )
         }
         Ok(Command::Plain { file, job }) => {

@@ -3,7 +3,7 @@ use Rattle.std.proofs.Common.{◌≡◌, ◌≢◌, ℕ, ◌≤◌, nat_lt, Bool
 use Rattle.thy_base.specs.declared.block.Block.{Block}
 use Rattle.thy_base.specs.declared.place.Place.{Place}
 use Rattle.thy_base.specs.Device.{Device, written_to, HasFailedToWrite}
-use Rattle.thy_base.specs.Places.{in_dram, number_of, first_home}
+use Rattle.thy_base.specs.Places.{record_blocks, in_dram, number_of, first_home}
 use Rattle.thy_dram.specs.Contents.{written}
 use Rattle.thy_place.specs.Devices.{Devices, devices_of}
 use Rattle.thy_cell.specs.Cells.{seat_of, frame_at, target, last}
@@ -54,8 +54,8 @@ module _ (overlapped : ℕ) (e : Progress) (s : State) (m : Device) where
   Acting i = Acts (did_by overlapped (answer e.p e.epoch i)) m (device_after e i s m)
 
   acts-slot : (k : ℕ) → Acting (SlotItem k)
-  acts-slot k = subst (λ (d : Did). Acts d m (written_to m (slot_number e k) (slot_block e s k))) (sym (slot-did overlapped (nat_lt k 5)))
-      (slot-acts (nat_lt k 5) (slot_number e k) (slot_block e s k) m (slot-not_one e k))
+  acts-slot k = subst (λ (d : Did). Acts d m (written_to m (slot_number e k) (slot_block e s k))) (sym (slot-did overlapped (nat_lt k (record_blocks e.p))))
+      (slot-acts (nat_lt k (record_blocks e.p)) (slot_number e k) (slot_block e s k) m (slot-not_one e k))
 
   acts-page : (o : Option ℕ) → Acting (page_or_slot o)
   unfolding devices_issued
@@ -107,7 +107,7 @@ module _ (overlapped : ℕ) (e : Progress) (s : State) (m n : Device) where
   Failing i = FailsItem e i s m n → ActionFailed (did_by overlapped (answer e.p e.epoch i)) m n
 
   fails-slot : (k : ℕ) → Failing (SlotItem k)
-  fails-slot k failed = slot-fails overlapped (nat_lt k 5) (slot_number e k) (slot_block e s k) m n (slot-not_one e k) failed
+  fails-slot k failed = slot-fails overlapped (nat_lt k (record_blocks e.p)) (slot_number e k) (slot_block e s k) m n (slot-not_one e k) failed
 
   fails-page : (o : Option ℕ) → Failing (page_or_slot o)
   fails-page None failed = fails-slot 0 failed

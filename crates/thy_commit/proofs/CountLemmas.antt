@@ -5,18 +5,12 @@ use Rattle.std.proofs.lemmas.Bool.{cases_lt}
 use Rattle.std.proofs.lemmas.List.{length-replicate, length-take, length-drop, get_or-take, get_or-drop, get_or-replicate, get_or_past, get_or_append_left, get_or-append-add, ext_get_or}
 use Rattle.std.proofs.lemmas.List.Elements.{All-get_or}
 use Rattle.std.proofs.lemmas.List.FromFn.{length-map-range_with_len, get_or-map-range_with_len}
-use Rattle.thy_base.specs.declared.block.Block.{Block}
 use Rattle.thy_base.specs.declared.config.Parameters.{Parameters}
 use Rattle.thy_base.specs.Blocks.{block_bytes}
 use Rattle.thy_base.specs.Device.{zero_block}
-use Rattle.thy_base.specs.Places.{table_blocks}
 use Rattle.thy_base.proofs.BlockLemmas.{block_bytes-long}
 use Rattle.thy_base.proofs.WrittenLemmas.{written-start}
-use Rattle.thy_isa.specs.declared.state.CpuState.{CpuState}
-use Rattle.thy_record.specs.Slots.{byte_in, AreCounts, slot_block_of}
-use Rattle.thy_record.specs.TableBlocks.{table_block_of}
-use Rattle.thy_record.specs.Tables.{Tables}
-use Rattle.thy_record.proofs.SlotLemmas.{slot_block_of-table, slot_block_of-count}
+use Rattle.thy_record.specs.Slots.{byte_in, AreCounts}
 use Rattle.thy_switch.specs.Counts.{Tally, most}
 use Rattle.thy_switch.specs.LastBlocks.{last_block_of}
 use Rattle.thy_control.specs.State.{AreCountsOf}
@@ -85,16 +79,3 @@ AreCounts-lasts p c h =
           subst (λ x. x ≤ 63) (sym (byte_in-lasts c.lasts i)) few;
       rest = λ i m inside. byte_in-lasts c.lasts i ∙ get_or_past c.lasts i 0 (omega (arith, long, m));
     }
-
--- a block of the slot behind the record is one of the tables, or one of the counts
-pub slot_block-behind : (p : Parameters) (cpu : CpuState) (t : Tables) (counts : ℕ → Block) (epoch k : ℕ) (found : Block) → 5 ≤ k
-    → (k - 5 < table_blocks p → found ≡ table_block_of t (k - 5)) → (table_blocks p ≤ k - 5 → found ≡ counts (k - 5 - table_blocks p))
-    → found ≡ slot_block_of p cpu t counts epoch k
-slot_block-behind p cpu t counts epoch k found past table count = elim (cases_lt (k - 5) (table_blocks p)) as (λ _. found ≡ slot_block_of p cpu t counts epoch k) [
-  | inl l ↦
-      let e : 5 + (k - 5) ≡ k = omega arith in
-      table l ∙ sym (slot_block_of-table p cpu t counts epoch (k - 5) l) ∙ ap (slot_block_of p cpu t counts epoch) e
-  | inr m ↦
-      let e : 5 + table_blocks p + (k - 5 - table_blocks p) ≡ k = omega arith in
-      count m ∙ sym (slot_block_of-count p cpu t counts epoch (k - 5 - table_blocks p)) ∙ ap (slot_block_of p cpu t counts epoch) e
-]

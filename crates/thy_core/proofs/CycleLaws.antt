@@ -1,5 +1,5 @@
 -- Each actor's cycle, from what its call leaves.
-use Rattle.std.proofs.Common.{◌≡◌, ◌≢◌, ◌⊎◌, ℕ, ◌-◌, ◌<◌, ◌≤◌, ◌^◌, Bool, List, true, false, if◌then◌else◌, length, Some, None, Result, Ok, Err, IsErr, IfOk, OnErr, true≢false, refl, sym, ◌∙◌, ap, subst, inl, inr, arith}
+use Rattle.std.proofs.Common.{◌≡◌, ◌≢◌, ◌⊎◌, ℕ, ◌-◌, ◌<◌, ◌≤◌, ◌^◌, Bool, List, true, false, if◌then◌else◌, length, Option, Some, None, Result, Ok, Err, IsErr, IfOk, OnErr, true≢false, refl, sym, ◌∙◌, ap, subst, inl, inr, arith}
 use Rattle.thy_base.specs.declared.cause.EndCause.{EndCause}
 use Rattle.thy_base.specs.declared.nvm.NvmError.{NvmError}
 use Rattle.thy_base.specs.Marks.{mark}
@@ -8,6 +8,7 @@ use Rattle.thy_base.specs.Device.{Device, HasFailed, IsFramed, drained}
 use Rattle.thy_base.specs.Geometry.{memory_blocks}
 use Rattle.thy_cache.specs.declared.line.Flushed.{Flushed}
 use Rattle.thy_cache.specs.Contents.{Contents, dirty_count}
+use Rattle.thy_hart.specs.declared.hand.Hand.TheVariants.{Nothing as NoHand}
 use Rattle.thy_hart.specs.declared.hand.HartStep.{HartStep}
 use Rattle.thy_hart.specs.Outcomes.{given}
 use Rattle.thy_hart.specs.HartState.{HartState}
@@ -27,7 +28,7 @@ use Rattle.thy_view.specs.declared.view.View.{View}
 use Rattle.thy_view.specs.Action.{Action, Rest, ReadAt, WriteAt, Barrier as ActBarrier, Drain, after}
 use Rattle.thy_view.specs.Origin.{Origin}
 use Rattle.thy_view.specs.Told.{IsThere}
-use Rattle.thy_view.specs.Turn.{Actor, Nvm, Dram, Checkpoint, TheHart, Pressure, Does, Prepares}
+use Rattle.thy_view.specs.Turn.{Actor, front_of, Nvm, Dram, Checkpoint, Advances, Stalled, Pressure, IsHanded, HandsOn, Does, Prepares}
 use Rattle.thy_scheme.specs.declared.scheme_store.SchemeStore.{SchemeStore}
 use Rattle.thy_scheme.specs.SchemeStore.{failed_calls, held_by_scheme, IsOneCall}
 use Rattle.thy_scheme.specs.CheckpointMarks.{CheckpointMarks}
@@ -38,24 +39,25 @@ use Rattle.thy_scheme.specs.declared.boot_step.BootStep.{BootStep}
 use Rattle.thy_scheme.specs.declared.boot_step.BootStep.TheVariants.{GoesOn, Loaded, Restarted, Refused}
 use Rattle.thy_core.specs.declared.parts.MachineParts.{MachineParts}
 use Rattle.thy_core.specs.MachineParts.{machine_of, IsRestartBelow}
-use Rattle.thy_core_laws.specs.Machine.{Machine, view_of, moment_of, pressure_of}
-use Rattle.thy_core_laws.specs.Sound.{OpenNow, Sound}
-use Rattle.thy_core_laws.specs.Calls.{IsAsked, HartCall, FlushCall, retires_by, hart_did, after_hart, after_flush, after_call, after_drain, after_seal, after_engine, after_boot}
-use Rattle.thy_core_laws.specs.Rows.{IsMoment, At, HartGoes, IsSealing, SimulatesCycle}
+use Rattle.thy_core_laws.specs.Machine.{Machine, cpu_fronted, processor_of, view_of, moment_of, pressure_of}
+use Rattle.thy_core_laws.specs.Sound.{Sound}
+use Rattle.thy_core_laws.specs.Calls.{IsAsked, HartCall, FlushCall, retires_by, begun_by_hart, hart_did, after_hart, after_flush, after_call, after_drain, after_seal, after_engine, after_boot}
+use Rattle.thy_core_laws.specs.Rows.{IsMoment, At, HartAdvances, IsSealing, SimulatesCycle}
 use Rattle.thy_core.specs.Cycles.{IsEngineDue, IsTurnOf, IsAnyRun, IsCycle, HasFailedAs, HasTaken}
 use Rattle.thy_core_laws.proofs.Facts.{view-run, sound-run, holds-run, is-going}
 use Rattle.thy_core_laws.proofs.KeepsLaws.{stands, runs_behind}
+use Rattle.thy_core_laws.proofs.BegunLaws.{begun-processor, IsBegun, is-begun}
 use Rattle.thy_core_laws.proofs.BootingLaws.{sound-boot, small-boot}
 use Rattle.thy_core_laws.proofs.DrainRows.{nvm_drain_simulates, halt_simulates, dram_drain_simulates, boot_drain_simulates}
 use Rattle.thy_core_laws.proofs.CallRows.{merge_simulates, promotion_simulates}
 use Rattle.thy_core_laws.proofs.EngineRow.{engine_simulates}
 use Rattle.thy_core_laws.proofs.FlushRow.{flush_simulates}
 use Rattle.thy_core_laws.proofs.SealRow.{standing, seal_simulates}
-use Rattle.thy_core_laws.proofs.HartCases.{hart-simulates}
+use Rattle.thy_core_laws.proofs.HartCases.{hart-simulates, hart-hands-on}
 use Rattle.thy_core_laws.proofs.FailRows.{hart_fails, flush_fails, promotion_leaves, engine_leaves, boot_leaves, drain_fails}
 use Rattle.thy_core_laws.proofs.BootRow.{boot_simulates}
 
-does_boot : (step : BootStep) → Does (boot_did step) (TheHart (Some Booting))
+does_boot : (step : BootStep) → Does (boot_did step) (Stalled Booting)
 does_boot GoesOn = refl
 does_boot Loaded = refl
 does_boot (Restarted cpu epoch) = refl
@@ -98,6 +100,28 @@ due_engine lap Barrier p = tt
 due_engine lap CommitWritten p = tt
 due_engine lap (Committed epoch) p = tt
 
+-- who retired last, and whose instruction is begun, stay as they are
+handed : {begun last : Option ℕ} {next : Pressure} → next.begun ≡ begun → next.last ≡ last → IsHanded begun last next
+handed begun last = record { begun_is = begun; last_is = last }
+
+hands_engine : (lap : ℕ) (step : EngineStep) (actor : Actor) (p next : Pressure) → next.begun ≡ p.begun → next.last ≡ p.last
+    → HandsOn actor (engine_did lap step) p next
+hands_engine lap Idle actor p next b l = handed b l
+hands_engine lap Copied actor p next b l = handed b l
+hands_engine lap PageBlock actor p next b l = handed b l
+hands_engine lap StateBlock actor p next b l = handed b l
+hands_engine lap TableBlock actor p next b l = handed b l
+hands_engine lap Barrier actor p next b l = handed b l
+hands_engine lap CommitWritten actor p next b l = handed b l
+hands_engine lap (Committed epoch) actor p next b l = handed b l
+
+hands_boot : {S : Type 0} (K : SchemeOf S) (o : Origin) (m : Machine S) (t : S) (step : BootStep)
+    → HandsOn (Stalled Booting) (boot_did step) (pressure_of K m) (pressure_of K (after_boot o step t m))
+hands_boot K o m t GoesOn = handed refl refl
+hands_boot K o m t Loaded = handed refl refl
+hands_boot K o m t (Restarted cpu epoch) = handed refl refl
+hands_boot K o m t (Refused bad) = handed refl refl
+
 -- they retire no instruction
 there_boot : (o : Origin) (v : View) (step : BootStep) → IsThere o v (boot_did step)
 there_boot o v GoesOn = tt
@@ -117,55 +141,63 @@ there_engine o v lap (Committed epoch) = tt
 
 -- ---- a cycle that failed
 
+-- a step of this hart that failed leaves the processor
+pub begun_back : {S : Type 0} (hart : ℕ) (m begun next : Machine S) → ((b : ℕ) → m.begun ≡ Some b → b ≡ hart) → begun ≡ begun_by_hart hart m
+    → next.hart ≡ begun.hart → next.begun ≡ begun.begun → processor_of next ≡ processor_of m
+begun_back {S} hart m begun next own is same mine =
+    ap (λ b. cpu_fronted (front_of b) next.hart.cpu) (mine ∙ ap (λ (x : Machine S). x.begun) is)
+    ∙ ap (λ (h : HartState). cpu_fronted hart h.cpu) (same ∙ ap (λ (x : Machine S). x.hart) is)
+    ∙ begun-processor hart m.begun m.hart.cpu own
+
 module _ {S : Type 0} (K : SchemeOf S) (o : Origin) (cycles : ℕ) (m : Machine S) (n : Device) (at : IsMoment K o cycles m n) where
-  pub engine_failed : (next : Machine S) (new : Device) → IsEngineDue K m → EngineFails K o m.marks n new → StaysOf K m.scheme next.scheme → next.hart ≡ m.hart
+  pub engine_failed : (next : Machine S) (new : Device) → IsEngineDue K m → EngineFails K o m.marks n new → StaysOf K m.scheme next.scheme → processor_of next ≡ processor_of m
       → HasFailedAs K o Checkpoint m next n new
   engine_failed next new due e left hart = record {
     did = engine_did m.lap e.step;
     does = does_engine m.lap e.step;
     due = due_engine m.lap e.step (pressure_of K m);
     fails = engine_leaves K o cycles m n next.scheme new at due.0 e left;
-    hart = hart;
+    processor = hart;
   }
 
   pub promotion_failed : (next : Machine S) (new : Device) → IsSealing K o m n → K.promoting m.scheme ≡ true → PromotionFails n new → StaysOf K m.scheme next.scheme
-      → next.hart ≡ m.hart → HasFailedAs K o (TheHart (Some Sealing)) m next n new
+      → processor_of next ≡ processor_of m → HasFailedAs K o (Stalled Sealing) m next n new
   promotion_failed next new sealing promoting f left hart = record {
     did = Promoted;
     does = refl;
     due = promoting;
     fails = promotion_leaves K o cycles m n next.scheme new at sealing.phase f left;
-    hart = hart;
+    processor = hart;
   }
 
-  pub hart_failed : (next : Machine S) (new : Device) → HartGoes K o m n → IsOneAccess K m.scheme n next.scheme new → new.down ≡ true → next.hart ≡ m.hart
-      → HasFailedAs K o (TheHart None) m next n new
-  hart_failed next new goes access down hart =
-      record { did = Moved; does = refl; due = tt; fails = hart_fails K o cycles m n next.scheme new at goes access down; hart = hart }
+  pub hart_failed : (hart : ℕ) (next : Machine S) (new : Device) → HartAdvances K o m n hart → IsOneAccess K m.scheme n next.scheme new → new.down ≡ true → processor_of next ≡ processor_of m
+      → HasFailedAs K o (Advances hart) m next n new
+  hart_failed hart next new turn access down same =
+      record { did = Moved; does = (hart, refl); due = tt; fails = hart_fails K o cycles m n next.scheme new at turn.goes access down; processor = same }
 
   pub flush_failed : (next : Machine S) (new : Device) → IsSealing K o m n → K.promoting m.scheme ≡ false → dirty_count m.cache ≢ 0
-      → IsOneAccess K m.scheme n next.scheme new → new.down ≡ true → next.hart ≡ m.hart → HasFailedAs K o (TheHart (Some Sealing)) m next n new
+      → IsOneAccess K m.scheme n next.scheme new → new.down ≡ true → processor_of next ≡ processor_of m → HasFailedAs K o (Stalled Sealing) m next n new
   flush_failed next new sealing whole dirty access down hart = record {
     did = DidFlush;
     does = refl;
     due = (whole, dirty);
     fails = flush_fails K o cycles m n next.scheme new at sealing access down;
-    hart = hart;
+    processor = hart;
   }
 
-  pub boot_failed : (next : Machine S) (new : Device) → m.phase ≡ Boot → BootFails K o m.scheme n new → StaysOf K m.scheme next.scheme → next.hart ≡ m.hart
-      → HasFailedAs K o (TheHart (Some Booting)) m next n new
+  pub boot_failed : (next : Machine S) (new : Device) → m.phase ≡ Boot → BootFails K o m.scheme n new → StaysOf K m.scheme next.scheme → processor_of next ≡ processor_of m
+      → HasFailedAs K o (Stalled Booting) m next n new
   boot_failed next new e b left hart = record {
     did = boot_did b.step;
     does = does_boot b.step;
     due = due_boot b.step (pressure_of K m);
     fails = boot_leaves K o cycles m n next.scheme new at e b left;
-    hart = hart;
+    processor = hart;
   }
 
   pub land_failed : (new : Device) → HasFailed n new → IsFramed n new → HasFailedAs K o Nvm m m n new
   land_failed new failed frame =
-      record { did = NvmDrained; does = refl; due = tt; fails = drain_fails K o cycles m n new at failed frame; hart = refl }
+      record { did = NvmDrained; does = refl; due = tt; fails = drain_fails K o cycles m n new at failed frame; processor = refl }
 
 -- ---- one that is a step of the run
 
@@ -189,7 +221,7 @@ module _ {S : Type 0} (K : SchemeOf S) (o : Origin) (cycles : ℕ) (m : Machine 
       → ((p : Origin) (k : CheckpointMarks) (d : Device) → Stands K p k m.scheme d → Drains K p k m.scheme d t)
       → ((p : Origin) (d : Device) → IsBooting K p m.scheme d → BootDrains K p m.scheme d t)
       → IsCycle K o cycles Dram DramDrained m n (after_drain t m) n
-  drain_cycle t some running booting = record { does = refl; due = tt; there = tt; simulates = λ mine. drains_in m.phase t refl some running booting }
+  drain_cycle t some running booting = record { does = refl; due = tt; hands = handed refl refl; there = tt; simulates = λ mine. drains_in m.phase t refl some running booting }
 
   -- ---- the engine
 
@@ -202,6 +234,7 @@ module _ {S : Type 0} (K : SchemeOf S) (o : Origin) (cycles : ℕ) (m : Machine 
       (record {
         does = does_engine m.lap step;
         due = due_engine m.lap step (pressure_of K m);
+        hands = hands_engine m.lap step Checkpoint (pressure_of K m) (pressure_of K (after_engine step t m)) refl refl;
         there = there_engine o (view_of K o m n) m.lap step;
         simulates = λ mine. engine_simulates K o cycles m n t new step at due.0 due.1 e;
       }))
@@ -209,12 +242,12 @@ module _ {S : Type 0} (K : SchemeOf S) (o : Origin) (cycles : ℕ) (m : Machine 
   -- ---- before a seal
 
   pub promotion_cycle : (t : S) (new : Device) → IsSealing K o m n → K.promoting m.scheme ≡ true → Promotes K o m.marks m.scheme n t new
-      → IsCycle K o cycles (TheHart (Some Sealing)) Promoted m n (after_call t m) new
-  promotion_cycle t new sealing promoting p = record { does = refl; due = promoting; there = tt; simulates = λ mine. promotion_simulates K o cycles m n t new at sealing promoting p }
+      → IsCycle K o cycles (Stalled Sealing) Promoted m n (after_call t m) new
+  promotion_cycle t new sealing promoting p = record { does = refl; due = promoting; hands = handed refl refl; there = tt; simulates = λ mine. promotion_simulates K o cycles m n t new at sealing promoting p }
 
   pub merge_cycle : (t : S) → IsSealing K o m n → K.promoting m.scheme ≡ false → dirty_count m.cache ≡ 0 → K.overlaid m.scheme ≡ true → Merges K o m.marks m.scheme n t
-      → IsCycle K o cycles (TheHart (Some Sealing)) Merged m n (after_call t m) n
-  merge_cycle t sealing whole clean overlaid p = record { does = refl; due = (whole, clean, overlaid); there = tt; simulates = λ mine. merge_simulates K o cycles m n t at sealing whole clean p }
+      → IsCycle K o cycles (Stalled Sealing) Merged m n (after_call t m) n
+  merge_cycle t sealing whole clean overlaid p = record { does = refl; due = (whole, clean, overlaid); hands = handed refl refl; there = tt; simulates = λ mine. merge_simulates K o cycles m n t at sealing whole clean p }
 
   -- ---- the seal
 
@@ -225,12 +258,12 @@ module _ {S : Type 0} (K : SchemeOf S) (o : Origin) (cycles : ℕ) (m : Machine 
   pub seal_cycle : (cause : EndCause) (t : S) (next : Machine S) (epoch count : ℕ) → IsSealing K o m n → K.promoting m.scheme ≡ false
       → K.overlaid m.scheme ≡ false → dirty_count m.cache ≡ 0 → Some cause ≡ m.hart.epoch.over
       → Seals K o m.marks m.hart.cpu m.hart.epoch.number m.scheme n t → epoch ≡ m.hart.epoch.number → count ≡ m.hart.cpu.count
-      → next ≡ after_seal t m → IsCycle K o cycles (TheHart (Some Sealing)) (Sealed epoch count cause) m n next n
+      → next ≡ after_seal t m → IsCycle K o cycles (Stalled Sealing) (Sealed epoch count cause) m n next n
   seal_cycle cause t next epoch count sealing whole bare clean over p number at_count is =
-      subst (λ x. IsCycle K o cycles (TheHart (Some Sealing)) (Sealed epoch count cause) m n x n) (sym is)
-      (subst (λ e. IsCycle K o cycles (TheHart (Some Sealing)) (Sealed e count cause) m n (after_seal t m) n) (sym number)
-      (subst (λ i. IsCycle K o cycles (TheHart (Some Sealing)) (Sealed m.hart.epoch.number i cause) m n (after_seal t m) n) (sym at_count)
-      (record { does = refl; due = (whole, clean, bare); there = tt; simulates = λ mine. seal_simulates K o cycles m n t cause at sealing whole bare clean (sym over) p })))
+      subst (λ x. IsCycle K o cycles (Stalled Sealing) (Sealed epoch count cause) m n x n) (sym is)
+      (subst (λ e. IsCycle K o cycles (Stalled Sealing) (Sealed e count cause) m n (after_seal t m) n) (sym number)
+      (subst (λ i. IsCycle K o cycles (Stalled Sealing) (Sealed m.hart.epoch.number i cause) m n (after_seal t m) n) (sym at_count)
+      (record { does = refl; due = (whole, clean, bare); hands = handed refl refl; there = tt; simulates = λ mine. seal_simulates K o cycles m n t cause at sealing whole bare clean (sym over) p })))
 
   -- ---- the hart
 
@@ -239,61 +272,72 @@ module _ {S : Type 0} (K : SchemeOf S) (o : Origin) (cycles : ℕ) (m : Machine 
   runs_by (Exited v) e = absurd (cc)
   runs_by (Trapped v) e = absurd (cc)
 
-  pub hart_runs : HartGoes K o m n → m.hart.cpu.status ≡ Running
-  hart_runs goes =
-      let run = sound-run K o cycles m n at.sound goes.phase in
-      runs_by m.hart.cpu.status (run.counted.running ∙ (is-going K o cycles m n at goes).runs)
+  -- as a hart's step finds the machine
+  begun_here : (hart : ℕ) → HartAdvances K o m n hart → IsBegun K o m n hart
+  begun_here hart turn =
+      is-begun K o m n hart (sound-run K o cycles m n at.sound turn.goes.phase) (is-going K o cycles m n at turn.goes).going turn.own
 
-  pub hart_ready : HartGoes K o m n → IsReady (moment_of K m n)
-  hart_ready goes =
-      let run = sound-run K o cycles m n at.sound goes.phase in
-      let holds = holds-run K at.lawful o cycles m n at.sound goes.phase in
-      let going = is-going K o cycles m n at goes in
-      record {
+  -- while none is begun nothing is in hand
+  pub hart_rests : (hart : ℕ) → HartAdvances K o m n hart → m.begun ≡ None → m.hart.hand ≡ NoHand
+  hart_rests hart turn = (sound-run K o cycles m n at.sound turn.goes.phase).front.rests
+
+  pub hart_runs : (hart : ℕ) → HartAdvances K o m n hart → (begun_by_hart hart m).hart.cpu.status ≡ Running
+  hart_runs hart turn =
+      let run = sound-run K o cycles m n at.sound turn.goes.phase in
+      (begun_here hart turn).status
+      ∙ runs_by m.hart.cpu.status (run.counted.running ∙ (is-going K o cycles m n at turn.goes).runs)
+
+  pub hart_ready : (hart : ℕ) → HartAdvances K o m n hart → (begun : Machine S) → begun ≡ begun_by_hart hart m → IsReady (moment_of K begun n)
+  hart_ready hart turn begun is =
+      let run = sound-run K o cycles m n at.sound turn.goes.phase in
+      let holds = holds-run K at.lawful o cycles m n at.sound turn.goes.phase in
+      let going = is-going K o cycles m n at turn.goes in
+      subst (λ x. IsReady (moment_of K x n)) (sym is) (record {
         blocks = holds.memory ∙ ap memory_blocks (sym at.sound.geometry);
         agree = run.held.agree;
         ready = holds.ready going.whole;
         room = let free = at.lawful.free_is m.scheme n in omega (arith, run.held.room, free);
-        opened = subst (λ x. OpenNow x m.cache m.hart (K.holding m.scheme n).open_page) going.going run.held.opened;
-      }
+        opened = (begun_here hart turn).opened;
+      })
 
-  due_hart : (retired : Bool) (p : Pressure) → Prepares (if retired then Retired 0 else Moved) p
-  due_hart true p = tt
-  due_hart false p = tt
+  due_hart : (hart : ℕ) (retired : Bool) (p : Pressure) → Prepares (if retired then Retired hart else Moved) p
+  due_hart hart true p = tt
+  due_hart hart false p = tt
 
-  does_hart : (retired : Bool) → Does (if retired then Retired 0 else Moved) (TheHart None)
-  does_hart true = refl
-  does_hart false = refl
+  does_hart : (hart : ℕ) (retired : Bool) → Does (if retired then Retired hart else Moved) (Advances hart)
+  does_hart hart true = refl
+  does_hart hart false = (hart, refl)
 
-  -- it is hart 0, which is there
-  there_hart : HartGoes K o m n → (retired : Bool) → IsThere o (view_of K o m n) (if retired then Retired 0 else Moved)
-  there_hart goes true =
-      let shown = view-run K o m n goes.phase in
+  -- the hart is there
+  there_hart : (hart : ℕ) → HartAdvances K o m n hart → (retired : Bool) → IsThere o (view_of K o m n) (if retired then Retired hart else Moved)
+  there_hart hart turn true =
+      let shown = view-run K o m n turn.goes.phase in
       record {
-        there = refl;
-        runs = ap (λ (v : View). v.phase) shown ∙ goes.phase;
-        late = subst (λ (v : View). o.start.count ≤ v.count) (sym shown) (sound-run K o cycles m n at.sound goes.phase).counted.start;
+        there = turn.there;
+        runs = ap (λ (v : View). v.phase) shown ∙ turn.goes.phase;
+        late = subst (λ (v : View). o.start.count ≤ v.count) (sym shown) (sound-run K o cycles m n at.sound turn.goes.phase).counted.start;
       }
-  there_hart goes false = tt
+  there_hart hart turn false = tt
 
-  pub hart_cycle : (h : HartState) (c : Contents) (t : S) (new : Device) (step : HartStep) (next : Machine S) (did : Did) → HartGoes K o m n
-      → HartCall K (given o.input (K.free m.scheme) (K.under_way m.scheme)) m n h c t new step
-      → next ≡ after_hart step h c t m → did ≡ hart_did step → IsCycle K o cycles (TheHart None) did m n next new
-  hart_cycle h c t new step next did goes hs is says =
-      subst (λ x. IsCycle K o cycles (TheHart None) did m n x new) (sym is)
-      (subst (λ d. IsCycle K o cycles (TheHart None) d m n (after_hart step h c t m) new) (sym says)
+  pub hart_cycle : (hart : ℕ) (h : HartState) (c : Contents) (t : S) (new : Device) (step : HartStep) (next : Machine S) (did : Did) → HartAdvances K o m n hart
+      → HartCall K (given o.input (K.free m.scheme) (K.under_way m.scheme)) (begun_by_hart hart m) n h c t new step
+      → next ≡ after_hart hart step h c t m → did ≡ hart_did hart step → IsCycle K o cycles (Advances hart) did m n next new
+  hart_cycle hart h c t new step next did turn hs is says =
+      subst (λ x. IsCycle K o cycles (Advances hart) did m n x new) (sym is)
+      (subst (λ d. IsCycle K o cycles (Advances hart) d m n (after_hart hart step h c t m) new) (sym says)
       (record {
-        does = does_hart (retires_by step);
-        due = due_hart (retires_by step) (pressure_of K m);
-        there = there_hart goes (retires_by step);
-        simulates = hart-simulates K o cycles m n h c t new step at goes hs;
+        does = does_hart hart (retires_by step);
+        due = due_hart hart (retires_by step) (pressure_of K m);
+        hands = hart-hands-on K o cycles m n hart h c t new step at turn hs;
+        there = there_hart hart turn (retires_by step);
+        simulates = hart-simulates K o cycles m n hart h c t new step at turn hs;
       }))
 
   -- ---- a flush
 
   pub flush_cycle : (c : Contents) (t : S) (new : Device) (flushed : Flushed) → IsSealing K o m n → K.promoting m.scheme ≡ false → dirty_count m.cache ≢ 0
-      → FlushCall K m n flushed c t new → IsCycle K o cycles (TheHart (Some Sealing)) DidFlush m n (after_flush c t m) new
-  flush_cycle c t new flushed sealing whole dirty f = record { does = refl; due = (whole, dirty); there = tt; simulates = λ mine. flush_simulates K o cycles m n c t new flushed at sealing whole f }
+      → FlushCall K m n flushed c t new → IsCycle K o cycles (Stalled Sealing) DidFlush m n (after_flush c t m) new
+  flush_cycle c t new flushed sealing whole dirty f = record { does = refl; due = (whole, dirty); hands = handed refl refl; there = tt; simulates = λ mine. flush_simulates K o cycles m n c t new flushed at sealing whole f }
 
   -- ---- the boot
 
@@ -309,13 +353,14 @@ module _ {S : Type 0} (K : SchemeOf S) (o : Origin) (cycles : ℕ) (m : Machine 
 
   pub boot_cycle : (t : S) (new : Device) (step : BootStep) (next : Machine S) (did : Did) → m.phase ≡ Boot
       → BootsOn K o step m.scheme n t new → next ≡ after_boot o step t m → did ≡ boot_did step
-      → IsCycle K o cycles (TheHart (Some Booting)) did m n next new
+      → IsCycle K o cycles (Stalled Booting) did m n next new
   boot_cycle t new step next did e b is says =
-      subst (λ x. IsCycle K o cycles (TheHart (Some Booting)) did m n x new) (sym is)
-      (subst (λ d. IsCycle K o cycles (TheHart (Some Booting)) d m n (after_boot o step t m) new) (sym says)
+      subst (λ x. IsCycle K o cycles (Stalled Booting) did m n x new) (sym is)
+      (subst (λ d. IsCycle K o cycles (Stalled Booting) d m n (after_boot o step t m) new) (sym says)
       (record {
         does = does_boot step;
         due = due_boot step (pressure_of K m);
+        hands = hands_boot K o m t step;
         there = there_boot o (view_of K o m n) step;
         simulates = λ mine. boot_simulates K o cycles m n t new step at e b;
       }))
@@ -324,19 +369,19 @@ module _ {S : Type 0} (K : SchemeOf S) (o : Origin) (cycles : ℕ) (m : Machine 
 
   pub land_cycle : (new : Device) → 0 < length n.queue → new ≡ drained n → IsCycle K o cycles Nvm NvmDrained m n m new
   land_cycle new some is =
-      subst (λ d. IsCycle K o cycles Nvm NvmDrained m n m d) (sym is) (record { does = refl; due = tt; there = tt; simulates = λ mine. nvm_drain_simulates K o cycles m n at some })
+      subst (λ d. IsCycle K o cycles Nvm NvmDrained m n m d) (sym is) (record { does = refl; due = tt; hands = handed refl refl; there = tt; simulates = λ mine. nvm_drain_simulates K o cycles m n at some })
 
-  pub rest_cycle : m.phase ≡ Halt → IsCycle K o cycles (TheHart (Some Halted)) Nothing m n m n
-  rest_cycle e = record { does = refl; due = tt; there = tt; simulates = λ mine. halt_simulates K o cycles m n at e }
+  pub rest_cycle : m.phase ≡ Halt → IsCycle K o cycles (Stalled Halted) Nothing m n m n
+  rest_cycle e = record { does = refl; due = tt; hands = handed refl refl; there = tt; simulates = λ mine. halt_simulates K o cycles m n at e }
 
 -- ---- the engine works for a hart that waits
 
-waits_does : (did : Did) → Does did Checkpoint → Does did (TheHart (Some Waiting))
+waits_does : (did : Did) → Does did Checkpoint → Does did (Stalled Waiting)
 waits_does (Engine step) d = inr refl
 waits_does (DidCommit epoch overlapped) d = inr refl
 waits_does NvmDrained d = absurd (cc)
 waits_does DramDrained d = absurd (cc)
-waits_does Moved d = absurd (cc)
+waits_does Moved d = let is = d.1 in absurd (cc)
 waits_does (Retired hart) d = absurd (cc)
 waits_does DidFlush d = absurd (cc)
 waits_does Merged d = absurd (cc)
@@ -348,22 +393,46 @@ waits_does DidLoad d = absurd (cc)
 waits_does (DidRestart epoch count) d = absurd (cc)
 waits_does (DidRefuse bad) d = absurd (cc)
 
+-- what the engine does hands nothing on
+waits_hands : (did : Did) (p next : Pressure) → Does did Checkpoint → HandsOn Checkpoint did p next → HandsOn (Stalled Waiting) did p next
+waits_hands (Engine step) p next d h = h
+waits_hands (DidCommit epoch overlapped) p next d h = h
+waits_hands NvmDrained p next d h = absurd (cc)
+waits_hands DramDrained p next d h = absurd (cc)
+waits_hands Moved p next d h = let is = d.1 in absurd (cc)
+waits_hands (Retired hart) p next d h = absurd (cc)
+waits_hands DidFlush p next d h = absurd (cc)
+waits_hands Merged p next d h = absurd (cc)
+waits_hands (Sealed epoch count cause) p next d h = absurd (cc)
+waits_hands Promoted p next d h = absurd (cc)
+waits_hands Nothing p next d h = absurd (cc)
+waits_hands DidBoot p next d h = absurd (cc)
+waits_hands DidLoad p next d h = absurd (cc)
+waits_hands (DidRestart epoch count) p next d h = absurd (cc)
+waits_hands (DidRefuse bad) p next d h = absurd (cc)
+
 pub waits_cycle : {S : Type 0} (K : SchemeOf S) (o : Origin) (cycles : ℕ) (did : Did) (m next : Machine S) (n new : Device)
-    → IsCycle K o cycles Checkpoint did m n next new → IsCycle K o cycles (TheHart (Some Waiting)) did m n next new
-waits_cycle K o cycles did m next n new c = record { does = waits_does did c.does; due = c.due; there = c.there; simulates = c.simulates }
+    → IsCycle K o cycles Checkpoint did m n next new → IsCycle K o cycles (Stalled Waiting) did m n next new
+waits_cycle K o cycles did m next n new c = record {
+  does = waits_does did c.does;
+  due = c.due;
+  hands = waits_hands did (pressure_of K m) (pressure_of K next) c.does c.hands;
+  there = c.there;
+  simulates = c.simulates;
+}
 
 pub waits_failed : {S : Type 0} (K : SchemeOf S) (o : Origin) (m next : Machine S) (n new : Device)
-    → HasFailedAs K o Checkpoint m next n new → HasFailedAs K o (TheHart (Some Waiting)) m next n new
-waits_failed K o m next n new f = record { did = f.did; does = waits_does f.did f.does; due = f.due; fails = f.fails; hart = f.hart }
+    → HasFailedAs K o Checkpoint m next n new → HasFailedAs K o (Stalled Waiting) m next n new
+waits_failed K o m next n new f = record { did = f.did; does = waits_does f.did f.does; due = f.due; fails = f.fails; processor = f.processor }
 
 -- so it is by a result
 waits_simulates : {S : Type 0} (K : SchemeOf S) (o : Origin) (cycles : ℕ) (m next : Machine S) (n new : Device) (r : Result Did NvmError)
-    → IfOk r (λ did. IsCycle K o cycles Checkpoint did m n next new) → IfOk r (λ did. IsCycle K o cycles (TheHart (Some Waiting)) did m n next new)
+    → IfOk r (λ did. IsCycle K o cycles Checkpoint did m n next new) → IfOk r (λ did. IsCycle K o cycles (Stalled Waiting) did m n next new)
 waits_simulates K o cycles m next n new (Ok did) c = waits_cycle K o cycles did m next n new c
 waits_simulates K o cycles m next n new (Err e) c = tt
 
 waits_fails : {S : Type 0} (K : SchemeOf S) (o : Origin) (m next : Machine S) (n new : Device) (r : Result Did NvmError)
-    → OnErr r (HasFailedAs K o Checkpoint m next n new) → OnErr r (HasFailedAs K o (TheHart (Some Waiting)) m next n new)
+    → OnErr r (HasFailedAs K o Checkpoint m next n new) → OnErr r (HasFailedAs K o (Stalled Waiting) m next n new)
 waits_fails K o m next n new (Ok did) f = tt
 waits_fails K o m next n new (Err e) f = waits_failed K o m next n new f
 
@@ -479,7 +548,7 @@ taken_is K P Q a b m next n new r e kind taken = record {
 
 -- the engine's, for a hart that waits
 pub waits_taken : {S : Type 0} (K : SchemeOf S) (m next : Machine S) (n new : Device) (r : Result Did NvmError)
-    → HasTaken K IsAnyRun Checkpoint m n next new r → HasTaken K IsAnyRun (TheHart (Some Waiting)) m n next new r
+    → HasTaken K IsAnyRun Checkpoint m n next new r → HasTaken K IsAnyRun (Stalled Waiting) m n next new r
 waits_taken K m next n new r taken = record {
   simulates = λ o cycles any at due. waits_simulates K o cycles m next n new r (taken.simulates o cycles any at due);
   fails = λ o cycles any at due. waits_fails K o m next n new r (taken.fails o cycles any at due);

@@ -1,5 +1,5 @@
 -- What is read after the boot: the plain machine's state, and the console of the committed checkpoint.
-use Rattle.std.proofs.Common.{◌≡◌, ◌⊎◌, ℕ, ◌*◌, ◌-◌, ◌≤◌, ◌||◌, ◌&&◌, ◌==◌, not, true, false, Some, Result, Ok, Err, IfOk, List, [], length, take, drop, inl, inr, refl, sym, ◌∙◌, ap, subst, arith}
+use Rattle.std.proofs.Common.{◌≡◌, ◌⊎◌, ℕ, zero, suc, ◌*◌, ◌-◌, ◌≤◌, ◌||◌, ◌&&◌, ◌==◌, not, true, false, Some, Result, Ok, Err, IfOk, List, [], length, take, drop, inl, inr, refl, sym, ◌∙◌, ap, subst, arith}
 use Rattle.std.proofs.lemmas.Bool.{eqb-true}
 use Rattle.std.proofs.lemmas.List.{length-take, length-drop, take_min}
 use Rattle.thy_base.specs.declared.block.Block.{Block}
@@ -8,7 +8,7 @@ use Rattle.thy_base.specs.declared.config.Parameters.{Parameters}
 use Rattle.thy_base.specs.declared.bytes.Bytes.{Bytes}
 use Rattle.thy_base.specs.Bytes.{bytes_of}
 use Rattle.thy_base.specs.Device.{Device}
-use Rattle.thy_base.specs.Geometry.{program_size}
+use Rattle.thy_base.specs.Geometry.{program_size, console_room}
 use Rattle.thy_flat.specs.Flat.{flat, console_bytes}
 use Rattle.thy_flat.proofs.FlatLemmas.{flat-take}
 use Rattle.thy_flat.proofs.MemoryLaws.{room_inside}
@@ -19,20 +19,23 @@ use Rattle.thy_hart.specs.OneStep.{current}
 use Rattle.thy_isa.specs.declared.state.CpuState.{CpuState}
 use Rattle.thy_isa.specs.declared.state.MachState.{MachState}
 use Rattle.thy_isa.specs.OnBlocks.{state_from}
-use Rattle.thy_isa.specs.Step.{State, state_of, state_with}
+use Rattle.thy_isa.specs.Step.{State, state_of, state_with, fronted}
 use Rattle.thy_view.specs.declared.error.CoreError.{CoreError}
 use Rattle.thy_view.specs.declared.view.Phase.{Phase}
 use Rattle.thy_view.specs.declared.view.Phase.TheVariants.{Boot, Run, Halt}
 use Rattle.thy_view.specs.declared.view.View.{View}
 use Rattle.thy_view.specs.Kind.{CanRead, CanSnapshot, IsSnapshot, Snapshots, without_memory, IsProcessor}
 use Rattle.thy_view.specs.Origin.{Origin, at}
+use Rattle.thy_view.specs.Turn.{front_of}
 use Rattle.thy_view.specs.Views.{is_boot, is_halt, is_between}
 use Rattle.thy_scheme.specs.Scheme.{SchemeOf, CanRun}
 use Rattle.thy_scheme.specs.Laws.{IsLawful, IsCommitted}
 use Rattle.thy_core_laws.specs.Kind.{kind_over}
-use Rattle.thy_core_laws.specs.Machine.{Machine, memory_of, run_view, view_in, view_of}
+use Rattle.thy_core_laws.specs.Machine.{Machine, cpu_fronted, processor_of, hart_put_back, memory_of, run_view, view_in, view_of}
 use Rattle.thy_core_laws.specs.Sound.{SoundRun, SoundIn, Sound, SoundStopped}
 use Rattle.thy_core.specs.Reading.{IsRoomy, IsUnwritten, ReadsState}
+use Rattle.thy_isa.proofs.HartLaws.{blocks-cross}
+use Rattle.thy_core_laws.proofs.BegunLaws.{cpu-fronted-suc, fronted-twice}
 use Rattle.thy_core_laws.proofs.MomentLaws.{sound-here}
 use Rattle.thy_core.proofs.TakenLaws.{phase_in}
 
@@ -48,6 +51,26 @@ state_read h blocks s n memory console sized n_is is memory_is console_is =
     ∙ ap (λ (bytes : List ℕ). state_with h.cpu bytes console) (memory_is ∙ flat-take n blocks inside ∙ ap (λ k. take k (flat blocks)) size)
     ∙ ap (λ (bytes : List ℕ). state_with h.cpu (take (program_size h.geometry) (flat blocks)) bytes) console_is
 
+-- ---- hart 0 in front again
+
+pub console_fronted : (hart : ℕ) (c : CpuState) → (cpu_fronted hart c).console_len ≡ c.console_len
+console_fronted zero c = refl
+console_fronted (suc hart) c = ap (λ (x : CpuState). x.console_len) (cpu-fronted-suc hart c)
+
+pub put_back_sized : {S : Type 0} (m : Machine S) (blocks : List Block) → IsSized m.hart blocks → IsSized (hart_put_back m) blocks
+put_back_sized m blocks s = record {
+  range = s.range;
+  blocks = s.blocks;
+  console = subst (λ x. x ≤ console_room m.hart.geometry) (sym (console_fronted (front_of m.begun) m.hart.cpu)) s.console;
+}
+
+current_fronted : (hart : ℕ) (h : HartState) (blocks : List Block) → current (record h { cpu = cpu_fronted hart h.cpu }) blocks ≡ fronted hart (current h blocks)
+unfolding current
+current_fronted zero h blocks = refl
+current_fronted (suc hart) h blocks =
+    ap (λ (c : CpuState). current (record h { cpu = c }) blocks) (cpu-fronted-suc hart h.cpu)
+    ∙ blocks-cross h.geometry h.cpu blocks
+
 -- ---- after a step that failed
 
 -- a machine of which none has is at a moment
@@ -62,7 +85,7 @@ pub not_failed : {S : Type 0} (K : SchemeOf S) (o : Origin) (k : ℕ) (m : Machi
 not_failed K o k m n failed sound = let is = sound.unfailed in cc
 
 -- what is read of it is the processor's part
-pub processor_is : {S : Type 0} (K : SchemeOf S) (o : Origin) (before : View) (m : Machine S) (s : MachState) → state_of s ≡ state_with m.hart.cpu [] []
+pub processor_is : {S : Type 0} (K : SchemeOf S) (o : Origin) (before : View) (m : Machine S) (s : MachState) → state_of s ≡ state_with (processor_of m) [] []
     → SoundStopped K o before m → IsProcessor o before s
 processor_is K o before m s is stopped = record {
   bare = is ∙ sym (ap without_memory is);
@@ -111,7 +134,7 @@ no_hand : {S : Type 0} (K : SchemeOf S) (o : Origin) (k : ℕ) (m : Machine S) (
 no_hand K o k m n s (inl e) between =
     let run = sound-behind K o k m n s (inl e) in
     let spent : (m.spent == 0) ≡ true = sym (ap (λ phase. is_halt phase || (not (is_boot phase) && m.spent == 0)) e) ∙ between in
-    run.epoch.began (eqb-true m.spent 0 spent)
+    run.front.rests (run.epoch.began (eqb-true m.spent 0 spent))
 no_hand K o k m n s (inr e) between = ((sound-behind K o k m n s (inr e)).ended.halted e).0.hand
 
 -- so none has written a block
@@ -137,19 +160,22 @@ reads_between K l m n r reads = λ o k at between.
 
 -- if none has written a block, what was read is the plain machine's state
 pub snapshot_is : {S : Type 0} (K : SchemeOf S) (o : Origin) (k : ℕ) (m : Machine S) (n : Device) (s : MachState) → Sound K o k m n
-    → ((m.phase ≡ Run) ⊎ (m.phase ≡ Halt)) → IsUnwritten m → state_of s ≡ current m.hart (memory_of K m n)
+    → ((m.phase ≡ Run) ⊎ (m.phase ≡ Halt)) → IsUnwritten m → state_of s ≡ current (hart_put_back m) (memory_of K m n)
     → IsSnapshot o (view_of K o m n) s
 snapshot_is K o k m n s sound e calm is =
     let run = sound-behind K o k m n sound e in
     let shown = view-behind K o m n e in
-    let now : state_of s ≡ at o m.hart.cpu.count = is ∙ run.follows.current calm.unwritten in
+    let now : state_of s ≡ at o m.hart.cpu.count = is
+    ∙ current_fronted (front_of m.begun) m.hart (memory_of K m n)
+    ∙ ap (fronted (front_of m.begun)) (run.follows.current calm.unwritten)
+    ∙ fronted-twice (front_of m.begun) (at o m.hart.cpu.count) in
     subst (λ v. IsSnapshot o v s) (sym shown) (record {
       state = now;
       count = ap (λ (t : State). t.count) now ∙ run.counted.count;
     })
 
 pub snapshot_when : {S : Type 0} (K : SchemeOf S) (o : Origin) (k : ℕ) (m : Machine S) (n : Device) (r : Result MachState CoreError) → Sound K o k m n
-    → ((m.phase ≡ Run) ⊎ (m.phase ≡ Halt)) → IsUnwritten m → IfOk r (λ s. state_of s ≡ current m.hart (memory_of K m n))
+    → ((m.phase ≡ Run) ⊎ (m.phase ≡ Halt)) → IsUnwritten m → IfOk r (λ s. state_of s ≡ current (hart_put_back m) (memory_of K m n))
     → IfOk r (λ s. IsSnapshot o (view_of K o m n) s)
 snapshot_when K o k m n (Ok s) sound e calm is = snapshot_is K o k m n s sound e calm is
 snapshot_when K o k m n (Err error) sound e calm is = tt

@@ -11,7 +11,7 @@ use Rattle.thy_view.specs.declared.view.View.{View}
 use Rattle.thy_view.specs.Kind.{IsStep, LeavesSafe}
 use Rattle.thy_view.specs.Origin.{Origin, Begins}
 use Rattle.thy_view.specs.Told.{told, IsThere, HasTurn}
-use Rattle.thy_view.specs.Turn.{Actor, Does, told_at, turn_of}
+use Rattle.thy_view.specs.Turn.{Actor, Does, HandsOn, told_at, turn_of}
 use Rattle.thy_view.specs.Views.{is_halt}
 use Rattle.thy_scheme.specs.Scheme.{SchemeOf}
 use Rattle.thy_scheme.specs.Laws.{IsLawful}
@@ -63,6 +63,7 @@ step_taken K o cycles pick nvm actor m next n new r at queued is c mine at_next 
     let behind = phase_in K at.lawful o (cycles + 1) next new next.phase simulates.at_next refl in
     simulating_is_step K o cycles pick m next n new r at simulates at_next
     (subst (Does r.did) turn c.does, stall ∙ ap told_at turn, c.due)
+    (subst (λ a. HandsOn a r.did (pressure_of K m) (pressure_of K next)) turn c.hands)
     (ended ∙ ap (λ x. not (is_halt x) && is_halt next.phase) (sym before)
     ∙ ap (λ x. not (is_halt (view_of K o m n).phase) && is_halt x) (sym behind))
 
@@ -100,5 +101,5 @@ pub step_failed : {S : Type 0} (K : SchemeOf S) (o : Origin) (cycles : ℕ) (pic
     → LeavesSafe (kind_over K) o pick m (record next { failed = true }) n new
 step_failed K o cycles pick nvm actor m next n new at queued is f =
     let turn = actor_is K o cycles pick nvm actor m n at queued is in
-    failing_is_safe K o cycles pick m (record next { failed = true }) n new f.did (told_at actor) at f.fails f.hart refl
+    failing_is_safe K o cycles pick m (record next { failed = true }) n new f.did (told_at actor) at f.fails f.processor refl
     (subst (Does f.did) turn f.does, ap told_at turn, f.due)

@@ -1,21 +1,23 @@
 -- Whose turn a pick is, by what the machine holds, is as the view has it.
-use Rattle.std.proofs.Common.{◌≡◌, ◌≢◌, ℕ, zero, suc, ◌==◌, ◌&&◌, ◌||◌, not, Bool, true, false, length, is_some, if◌then◌else◌, Option, Some, None, refl, sym, ◌∙◌, ap, subst, arith}
-use Rattle.std.proofs.lemmas.Bool.{ne_eqb}
+use Rattle.std.proofs.Common.{◌≡◌, ◌≢◌, ℕ, zero, suc, ◌<◌, ◌≤◌, ◌==◌, unwrap_or, ◌&&◌, ◌||◌, not, Bool, true, false, length, is_some, if◌then◌else◌, Option, Some, None, refl, sym, ◌∙◌, ap, subst, arith}
+use Rattle.std.proofs.lemmas.Bool.{ne_eqb, eqb-true, eqb-false}
+use Rattle.thy_base.specs.declared.config.Parameters.{Parameters}
 use Rattle.thy_base.specs.declared.mark.Mark.{Mark}
 use Rattle.thy_base.specs.declared.mix.Pick.{Pick}
-use Rattle.thy_base.specs.declared.mix.Pick.TheVariants.{Hart, Engine, NvmDrain, DramDrain}
+use Rattle.thy_base.specs.declared.mix.Pick.TheVariants.{Hart, Second, Engine, NvmDrain, DramDrain}
 use Rattle.thy_base.specs.Device.{Device}
+use Rattle.thy_base.proofs.RangeLemmas.{harts_least}
 use Rattle.thy_view.specs.declared.did.Stall.{Stall}
 use Rattle.thy_view.specs.declared.did.Stall.TheVariants.{Booting, Sealing, Waiting, Halted}
 use Rattle.thy_view.specs.declared.view.Phase.{Phase}
 use Rattle.thy_view.specs.declared.view.Phase.TheVariants.{Boot, Run, Halt}
 use Rattle.thy_view.specs.Origin.{Origin, runs_at}
-use Rattle.thy_view.specs.Turn.{Nvm, Dram, Checkpoint, TheHart, has_stopped, stall_in, engine_turn, turn_of}
+use Rattle.thy_view.specs.Turn.{Nvm, Dram, Checkpoint, has_stopped, stall_in, rested, begins, hart_at, advancing, hart_turn, engine_turn, turn_of}
 use Rattle.thy_scheme.specs.Scheme.{SchemeOf}
 use Rattle.thy_core_laws.specs.Machine.{Machine, view_in, view_of, shortage_of, pressure_of}
-use Rattle.thy_core_laws.specs.Rows.{IsMoment}
-use Rattle.thy_core.specs.Turns.{stopped_now, waits_now, stall_now, hart_now, engine_now, turn_now}
-use Rattle.thy_core.specs.Cycles.{IsHartsTurn, IsTurnOf}
+use Rattle.thy_core_laws.specs.Rows.{IsMoment, HartAdvances}
+use Rattle.thy_core.specs.Turns.{stopped_now, waits_now, stall_now, hart_of, hart_now, engine_now, turn_now}
+use Rattle.thy_core.specs.Cycles.{IsTurnOf}
 use Rattle.thy_core_laws.proofs.Facts.{view-run, sound-run}
 use Rattle.thy_core_laws.proofs.BootingLaws.{view-boot, holds-boot, uncounted}
 
@@ -38,6 +40,37 @@ no_other true seals stall w s e = w (cc)
 no_other false true stall w s e = s (cc)
 no_other false false stall w s e = absurd (cc)
 
+-- a pick names one of two harts
+rested_few : (last : Option ℕ) → rested last ≤ 1
+rested_few None = omega arith
+rested_few (Some hart) = by_first (hart == 0)
+  where
+    by_first : (first : Bool) → (if first then 1 else 0) ≤ 1
+    by_first true = omega arith
+    by_first false = omega arith
+
+begins_few : (pick : Pick) (last : Option ℕ) → begins pick last ≤ 1
+begins_few Hart last = omega arith
+begins_few Second last = omega arith
+begins_few Engine last = rested_few last
+begins_few NvmDrain last = rested_few last
+begins_few DramDrain last = rested_few last
+
+-- the hart that a pick comes to is there, and is the one whose instruction is begun
+record IsOneOf (harts hart : ℕ) (begun : Option ℕ) : Type 0 where
+  there : hart < harts
+  own : (b : ℕ) → begun ≡ Some b → b ≡ hart
+
+one_of : (harts chosen : ℕ) (begun : Option ℕ) (one : Bool) → (harts == 1) ≡ one → 1 ≤ harts → chosen ≤ 1
+    → ((b : ℕ) → begun ≡ Some b → b < harts) → IsOneOf harts (if one then 0 else unwrap_or begun chosen) begun
+one_of harts chosen begun true e some few there =
+    record { there = omega (arith, some); own = λ b is. let l = there b is in omega (arith, l, eqb-true harts 1 e) }
+one_of harts chosen None false e some few there =
+    let two = eqb-false harts 1 e in
+    record { there = omega (arith, some, few, two); own = λ b is. absurd (cc) }
+one_of harts chosen (Some hart) false e some few there =
+    record { there = there hart refl; own = λ b is. let same : hart ≡ b = cc in sym same }
+
 module _ {S : Type 0} (K : SchemeOf S) (o : Origin) (cycles : ℕ) (m : Machine S) (n : Device) (at : IsMoment K o cycles m n) where
   stall_run : m.phase ≡ Run → stall_now K Run m ≡ stall_in o Run (view_of K o m n) (pressure_of K m)
   stall_run e =
@@ -59,24 +92,29 @@ module _ {S : Type 0} (K : SchemeOf S) (o : Origin) (cycles : ℕ) (m : Machine 
   stall_is Run e = stall_run e
   stall_is Halt e = refl
 
-  hart_is : hart_now K m ≡ TheHart (stall_in o (view_of K o m n).phase (view_of K o m n) (pressure_of K m))
-  hart_is =
-      ap TheHart (stall_is m.phase refl)
-      ∙ ap (λ phase. TheHart (stall_in o phase (view_of K o m n) (pressure_of K m))) (sym (phase_is m.phase refl))
+  hart_of_is : (pick : Pick) → hart_of K pick m ≡ hart_at o.geometry.harts pick (pressure_of K m)
+  hart_of_is pick = ap (λ (p : Parameters). hart_at p.harts pick (pressure_of K m)) at.sound.geometry
 
-  engine_is : (phase : Phase) → m.phase ≡ phase → engine_now K phase m ≡ engine_turn o phase (view_of K o m n) (pressure_of K m)
-  engine_is Boot e = hart_is
-  engine_is Halt e = hart_is
-  engine_is Run e =
-      ap (λ h. if K.under_way m.scheme then Checkpoint else h) hart_is
+  hart_is : (pick : Pick) → hart_now K pick m ≡ hart_turn o pick (view_of K o m n) (pressure_of K m)
+  hart_is pick =
+      ap (λ stall. advancing stall (hart_of K pick m)) (stall_is m.phase refl)
+      ∙ ap (λ phase. advancing (stall_in o phase (view_of K o m n) (pressure_of K m)) (hart_of K pick m)) (sym (phase_is m.phase refl))
+      ∙ ap (advancing (stall_in o (view_of K o m n).phase (view_of K o m n) (pressure_of K m))) (hart_of_is pick)
+
+  engine_is : (pick : Pick) (phase : Phase) → m.phase ≡ phase → engine_now K pick phase m ≡ engine_turn o pick phase (view_of K o m n) (pressure_of K m)
+  engine_is pick Boot e = hart_is pick
+  engine_is pick Halt e = hart_is pick
+  engine_is pick Run e =
+      ap (λ h. if K.under_way m.scheme then Checkpoint else h) (hart_is pick)
 
   pub turn_is : (pick : Pick) (nvm : ℕ) → turn_now K pick nvm m ≡ turn_of o pick nvm (view_of K o m n) (pressure_of K m)
-  turn_is Hart nvm = hart_is
+  turn_is Hart nvm = hart_is Hart
+  turn_is Second nvm = hart_is Second
   turn_is Engine nvm =
-      engine_is m.phase refl
-      ∙ ap (λ phase. engine_turn o phase (view_of K o m n) (pressure_of K m)) (sym (phase_is m.phase refl))
-  turn_is NvmDrain nvm = ap (λ h. if nvm == 0 then h else Nvm) hart_is
-  turn_is DramDrain nvm = ap (λ h. if K.queued m.scheme == 0 then h else Dram) hart_is
+      engine_is Engine m.phase refl
+      ∙ ap (λ phase. engine_turn o Engine phase (view_of K o m n) (pressure_of K m)) (sym (phase_is m.phase refl))
+  turn_is NvmDrain nvm = ap (λ h. if nvm == 0 then h else Nvm) (hart_is NvmDrain)
+  turn_is DramDrain nvm = ap (λ h. if K.queued m.scheme == 0 then h else Dram) (hart_is DramDrain)
 
   -- ---- what holds at the turn
 
@@ -92,48 +130,63 @@ module _ {S : Type 0} (K : SchemeOf S) (o : Origin) (cycles : ℕ) (m : Machine 
   seals_not true = λ e. absurd (cc)
   seals_not false = λ e. absurd (cc)
 
-  harts_turn : (stall : Option Stall) (phase : Phase) → m.phase ≡ phase → stall_now K phase m ≡ stall → IsHartsTurn K o m n stall
-  harts_turn None Run e is = record { phase = e; free = sym (stall_run e) ∙ is }
-  harts_turn (Some Sealing) Run e is = record { phase = e; stalled = sym (stall_run e) ∙ is }
-  harts_turn (Some Waiting) Run e is =
+  -- the hart that a pick comes to
+  one_is : (pick : Pick) → m.phase ≡ Run → IsOneOf o.geometry.harts (hart_at o.geometry.harts pick (pressure_of K m)) m.begun
+  one_is pick e =
+      let harts = o.geometry.harts in
+      one_of harts (begins pick m.last) m.begun (harts == 1) refl (harts_least o.geometry at.sound.origin.geometry) (begins_few pick m.last)
+      (sound-run K o cycles m n at.sound e).front.there
+
+  advances : (pick : Pick) → m.phase ≡ Run → stall_in o Run (view_of K o m n) (pressure_of K m) ≡ None
+      → HartAdvances K o m n (hart_of K pick m)
+  advances pick e free =
+      let one = subst (λ hart. IsOneOf o.geometry.harts hart m.begun) (sym (hart_of_is pick)) (one_is pick e) in
+      record { goes = record { phase = e; free = free }; there = one.there; own = one.own }
+
+  harts_turn : (pick : Pick) (stall : Option Stall) (phase : Phase) → m.phase ≡ phase → stall_now K phase m ≡ stall
+      → IsTurnOf K o m n (advancing stall (hart_of K pick m))
+  harts_turn pick None Run e is = advances pick e (sym (stall_run e) ∙ is)
+  harts_turn pick (Some Sealing) Run e is = record { phase = e; stalled = sym (stall_run e) ∙ is }
+  harts_turn pick (Some Waiting) Run e is =
       let waits = waiting_by (waits_now K m) (if is_some m.hart.epoch.over || K.promoting m.scheme then Some Sealing else None) refl
       (seals_not (is_some m.hart.epoch.over || K.promoting m.scheme)) is in
       (e, both (K.under_way m.scheme) (not K.overlaps || is_some m.hart.epoch.over || is_some (shortage_of K m) || stopped_now K m) waits)
-  harts_turn (Some Booting) Boot e is = e
-  harts_turn (Some Halted) Halt e is = e
-  harts_turn None Boot e is = absurd (cc)
-  harts_turn None Halt e is = absurd (cc)
-  harts_turn (Some Sealing) Boot e is = absurd (cc)
-  harts_turn (Some Sealing) Halt e is = absurd (cc)
-  harts_turn (Some Waiting) Boot e is = absurd (cc)
-  harts_turn (Some Waiting) Halt e is = absurd (cc)
-  harts_turn (Some Booting) Halt e is = absurd (cc)
-  harts_turn (Some Halted) Boot e is = absurd (cc)
-  harts_turn (Some Booting) Run e is = absurd (no_other (waits_now K m) (is_some m.hart.epoch.over || K.promoting m.scheme) Booting (λ w. cc w) (λ w. cc w) is)
-  harts_turn (Some Halted) Run e is = absurd (no_other (waits_now K m) (is_some m.hart.epoch.over || K.promoting m.scheme) Halted (λ w. cc w) (λ w. cc w) is)
+  harts_turn pick (Some Booting) Boot e is = e
+  harts_turn pick (Some Halted) Halt e is = e
+  harts_turn pick None Boot e is = absurd (cc)
+  harts_turn pick None Halt e is = absurd (cc)
+  harts_turn pick (Some Sealing) Boot e is = absurd (cc)
+  harts_turn pick (Some Sealing) Halt e is = absurd (cc)
+  harts_turn pick (Some Waiting) Boot e is = absurd (cc)
+  harts_turn pick (Some Waiting) Halt e is = absurd (cc)
+  harts_turn pick (Some Booting) Halt e is = absurd (cc)
+  harts_turn pick (Some Halted) Boot e is = absurd (cc)
+  harts_turn pick (Some Booting) Run e is = absurd (no_other (waits_now K m) (is_some m.hart.epoch.over || K.promoting m.scheme) Booting (λ w. cc w) (λ w. cc w) is)
+  harts_turn pick (Some Halted) Run e is = absurd (no_other (waits_now K m) (is_some m.hart.epoch.over || K.promoting m.scheme) Halted (λ w. cc w) (λ w. cc w) is)
 
-  at_hart : IsTurnOf K o m n (hart_now K m)
-  at_hart = harts_turn (stall_now K m.phase m) m.phase refl refl
+  at_hart : (pick : Pick) → IsTurnOf K o m n (hart_now K pick m)
+  at_hart pick = harts_turn pick (stall_now K m.phase m) m.phase refl refl
 
-  by_engine : (way : Bool) → m.phase ≡ Run → K.under_way m.scheme ≡ way → IsTurnOf K o m n (if way then Checkpoint else hart_now K m)
-  by_engine false e way = at_hart
-  by_engine true e way = (e, way)
+  by_engine : (pick : Pick) (way : Bool) → m.phase ≡ Run → K.under_way m.scheme ≡ way → IsTurnOf K o m n (if way then Checkpoint else hart_now K pick m)
+  by_engine pick false e way = at_hart pick
+  by_engine pick true e way = (e, way)
 
-  at_engine : (phase : Phase) → m.phase ≡ phase → IsTurnOf K o m n (engine_now K phase m)
-  at_engine Boot e = at_hart
-  at_engine Halt e = at_hart
-  at_engine Run e = by_engine (K.under_way m.scheme) e refl
+  at_engine : (pick : Pick) (phase : Phase) → m.phase ≡ phase → IsTurnOf K o m n (engine_now K pick phase m)
+  at_engine pick Boot e = at_hart pick
+  at_engine pick Halt e = at_hart pick
+  at_engine pick Run e = by_engine pick (K.under_way m.scheme) e refl
 
-  by_nvm : (nvm : ℕ) → nvm ≡ length n.queue → IsTurnOf K o m n (if nvm == 0 then hart_now K m else Nvm)
-  by_nvm zero e = at_hart
-  by_nvm (suc k) e = subst (λ b. IsTurnOf K o m n (if b then hart_now K m else Nvm)) (sym (ne_eqb (suc k) 0 (λ z. omega (arith, z)))) (omega (arith, e))
+  by_nvm : (nvm : ℕ) → nvm ≡ length n.queue → IsTurnOf K o m n (if nvm == 0 then hart_now K NvmDrain m else Nvm)
+  by_nvm zero e = at_hart NvmDrain
+  by_nvm (suc k) e = subst (λ b. IsTurnOf K o m n (if b then hart_now K NvmDrain m else Nvm)) (sym (ne_eqb (suc k) 0 (λ z. omega (arith, z)))) (omega (arith, e))
 
-  by_dram : (queued : ℕ) → K.queued m.scheme ≡ queued → IsTurnOf K o m n (if queued == 0 then hart_now K m else Dram)
-  by_dram zero e = at_hart
-  by_dram (suc k) e = subst (λ b. IsTurnOf K o m n (if b then hart_now K m else Dram)) (sym (ne_eqb (suc k) 0 (λ z. omega (arith, z)))) (omega (arith, e))
+  by_dram : (queued : ℕ) → K.queued m.scheme ≡ queued → IsTurnOf K o m n (if queued == 0 then hart_now K DramDrain m else Dram)
+  by_dram zero e = at_hart DramDrain
+  by_dram (suc k) e = subst (λ b. IsTurnOf K o m n (if b then hart_now K DramDrain m else Dram)) (sym (ne_eqb (suc k) 0 (λ z. omega (arith, z)))) (omega (arith, e))
 
   pub at_turn : (pick : Pick) (nvm : ℕ) → nvm ≡ length n.queue → IsTurnOf K o m n (turn_now K pick nvm m)
-  at_turn Hart nvm e = at_hart
-  at_turn Engine nvm e = at_engine m.phase refl
+  at_turn Hart nvm e = at_hart Hart
+  at_turn Second nvm e = at_hart Second
+  at_turn Engine nvm e = at_engine Engine m.phase refl
   at_turn NvmDrain nvm e = by_nvm nvm e
   at_turn DramDrain nvm e = by_dram (K.queued m.scheme) refl

@@ -1,5 +1,5 @@
 -- What a cycle promises at an actor's turn.
-use Rattle.std.specs.Prelude.{◌≡◌, ℕ, ◌<◌, true, List, length, Option, Some, None, Result, IfOk, OnErr}
+use Rattle.std.specs.Prelude.{◌≡◌, ℕ, ◌<◌, true, List, length, Result, IfOk, OnErr}
 use Rattle.thy_base.specs.declared.nvm.NvmError.{NvmError}
 use Rattle.thy_base.specs.Device.{Device, IsFramed, CountsFault}
 use Rattle.thy_record.specs.declared.start.Start.{Start}
@@ -9,30 +9,30 @@ use Rattle.thy_view.specs.declared.did.Stall.TheVariants.{Booting, Sealing, Wait
 use Rattle.thy_view.specs.declared.view.Phase.TheVariants.{Boot, Run, Halt}
 use Rattle.thy_view.specs.Origin.{Origin, Begins}
 use Rattle.thy_view.specs.Told.{IsThere, HasTurn}
-use Rattle.thy_view.specs.Turn.{Actor, Nvm, Dram, Checkpoint, TheHart, Does, Prepares}
+use Rattle.thy_view.specs.Turn.{Actor, Nvm, Dram, Checkpoint, Advances, Stalled, HandsOn, Does, Prepares}
 use Rattle.thy_scheme.specs.Scheme.{SchemeOf}
-use Rattle.thy_core_laws.specs.Machine.{Machine, view_of, pressure_of}
-use Rattle.thy_core_laws.specs.Rows.{IsMoment, At, HartGoes, IsSealing, SimulatesCycle}
+use Rattle.thy_core_laws.specs.Machine.{Machine, processor_of, view_of, pressure_of}
+use Rattle.thy_core_laws.specs.Rows.{IsMoment, At, HartAdvances, IsSealing, SimulatesCycle}
 use Rattle.thy_core_laws.specs.Failures.{Fails}
 
 -- a checkpoint is under way, after the boot
 abbrev pub IsEngineDue : {S : Type 0} → SchemeOf S → Machine S → Type 0
 IsEngineDue K m = (m.phase ≡ Run) × (K.under_way m.scheme ≡ true)
 
--- what holds at the hart's turn, by its stall
-abbrev pub IsHartsTurn : {S : Type 0} → SchemeOf S → Origin → Machine S → Device → Option Stall → Type 0
-IsHartsTurn K o m n None = HartGoes K o m n
-IsHartsTurn K o m n (Some Booting) = m.phase ≡ Boot
-IsHartsTurn K o m n (Some Sealing) = IsSealing K o m n
-IsHartsTurn K o m n (Some Waiting) = IsEngineDue K m
-IsHartsTurn K o m n (Some Halted) = m.phase ≡ Halt
+-- what holds at the turn of harts none of which advances an instruction, by the stall
+abbrev pub IsStalledBy : {S : Type 0} → SchemeOf S → Origin → Machine S → Device → Stall → Type 0
+IsStalledBy K o m n Booting = m.phase ≡ Boot
+IsStalledBy K o m n Sealing = IsSealing K o m n
+IsStalledBy K o m n Waiting = IsEngineDue K m
+IsStalledBy K o m n Halted = m.phase ≡ Halt
 
 -- and at each actor's
 abbrev pub IsTurnOf : {S : Type 0} → SchemeOf S → Origin → Machine S → Device → Actor → Type 0
 IsTurnOf K o m n Nvm = 0 < length n.queue
 IsTurnOf K o m n Dram = 0 < K.queued m.scheme
 IsTurnOf K o m n Checkpoint = IsEngineDue K m
-IsTurnOf K o m n (TheHart stall) = IsHartsTurn K o m n stall
+IsTurnOf K o m n (Advances hart) = HartAdvances K o m n hart
+IsTurnOf K o m n (Stalled stall) = IsStalledBy K o m n stall
 
 -- runs of every kind, those with this start, and those with this input
 abbrev pub IsAnyRun : Origin → Type 0
@@ -56,16 +56,17 @@ pub record CanTake {S : Type 0} (K : SchemeOf S) (P : Origin → Type 0) (actor 
 pub record IsCycle {S : Type 0} (K : SchemeOf S) (o : Origin) (cycles : ℕ) (actor : Actor) (did : Did) (m : Machine S) (n : Device) (next : Machine S) (new : Device) : Type 0 where
   pub does : Does did actor
   pub due : Prepares did (pressure_of K m)
+  pub hands : HandsOn actor did (pressure_of K m) (pressure_of K next)
   pub there : IsThere o (view_of K o m n) did
   pub simulates : HasTurn o (view_of K o m n) did → SimulatesCycle K o cycles did m n next new
 
--- a cycle of the actor's failed, and leaves what is safe, and the hart as it was
+-- a cycle of the actor's failed, and leaves what is safe, and the processor as it was
 pub record HasFailedAs {S : Type 0} (K : SchemeOf S) (o : Origin) (actor : Actor) (m next : Machine S) (n new : Device) : Type 0 where
   pub did : Did
   pub does : Does did actor
   pub due : Prepares did (pressure_of K m)
   pub fails : Fails K o did m next.scheme n new
-  pub hart : next.hart ≡ m.hart
+  pub processor : processor_of next ≡ processor_of m
 
 -- this holds in every run of this kind
 abbrev pub SimulatesAs : {S : Type 0} → SchemeOf S → (Origin → Type 0) → Actor → Machine S → Device → Machine S → Device → Result Did NvmError → Type 0

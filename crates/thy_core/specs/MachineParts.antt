@@ -1,6 +1,6 @@
 -- The parts of a machine as one, and the actors of its code.
 use Rattle.std.specs.Prelude.{ℕ, ◌<◌}
-use Rattle.thy_view.specs.Turn.{Actor, Nvm, Dram, Checkpoint, TheHart}
+use Rattle.thy_view.specs.Turn.{Actor, Nvm, Dram, Checkpoint, Advances, Stalled}
 use Rattle.thy_scheme.specs.declared.boot_step.BootStep.{BootStep}
 use Rattle.thy_scheme.specs.declared.boot_step.BootStep.TheVariants.{GoesOn, Loaded, Restarted, Refused}
 use Rattle.thy_scheme.specs.CheckpointMarks.{CheckpointMarks}
@@ -30,6 +30,8 @@ machine_of p = record {
   lap = p.lap;
   idle = p.idle;
   failed = p.failed;
+  begun = p.begun;
+  last = p.last;
 }
 
 -- an actor, as the view has it
@@ -37,7 +39,8 @@ abbrev pub actor_seen : ActorHere → Actor
 actor_seen here.Nvm = Nvm
 actor_seen here.Dram = Dram
 actor_seen here.Engine = Checkpoint
-actor_seen (here.Hart stall) = TheHart stall
+actor_seen (here.Advances hart) = Advances hart
+actor_seen (here.Stalled stall) = Stalled stall
 
 -- what a step of the boot restored is of an epoch below this
 abbrev pub IsRestartBelow : ℕ → BootStep → Type 0

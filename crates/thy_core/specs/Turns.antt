@@ -1,14 +1,14 @@
 -- Whose turn a pick is, by what the machine holds.
 use Rattle.std.specs.Prelude.{ℕ, ◌+◌, ◌==◌, ◌&&◌, ◌||◌, not, nat_lt, Bool, false, is_some, if◌then◌else◌, Option, Some, None}
 use Rattle.thy_base.specs.declared.mix.Pick.{Pick}
-use Rattle.thy_base.specs.declared.mix.Pick.TheVariants.{Hart, Engine, NvmDrain, DramDrain}
+use Rattle.thy_base.specs.declared.mix.Pick.TheVariants.{Hart, Second, Engine, NvmDrain, DramDrain}
 use Rattle.thy_view.specs.declared.did.Stall.{Stall}
 use Rattle.thy_view.specs.declared.did.Stall.TheVariants.{Booting, Sealing, Waiting, Halted}
 use Rattle.thy_view.specs.declared.view.Phase.{Phase}
 use Rattle.thy_view.specs.declared.view.Phase.TheVariants.{Boot, Run, Halt}
-use Rattle.thy_view.specs.Turn.{Actor, Nvm, Dram, Checkpoint, TheHart}
+use Rattle.thy_view.specs.Turn.{Actor, Nvm, Dram, Checkpoint, advancing, hart_at}
 use Rattle.thy_scheme.specs.Scheme.{SchemeOf}
-use Rattle.thy_core_laws.specs.Machine.{Machine, shortage_of}
+use Rattle.thy_core_laws.specs.Machine.{Machine, shortage_of, pressure_of}
 
 -- fewer entries are free than the dirty lines and the blocks need that room is to be reserved for
 abbrev pub lacks : ℕ → ℕ → Option ℕ → Bool
@@ -31,19 +31,24 @@ stall_now K Halt m = Some Halted
 stall_now K Run m =
     if waits_now K m then Some Waiting else (if is_some m.hart.epoch.over || K.promoting m.scheme then Some Sealing else None)
 
+-- the hart that a pick comes to
+abbrev pub hart_of : {S : Type 0} → SchemeOf S → Pick → Machine S → ℕ
+hart_of K pick m = hart_at m.hart.geometry.harts pick (pressure_of K m)
+
 -- its turn
-abbrev pub hart_now : {S : Type 0} → SchemeOf S → Machine S → Actor
-hart_now K m = TheHart (stall_now K m.phase m)
+abbrev pub hart_now : {S : Type 0} → SchemeOf S → Pick → Machine S → Actor
+hart_now K pick m = advancing (stall_now K m.phase m) (hart_of K pick m)
 
 -- the engine's
-abbrev pub engine_now : {S : Type 0} → SchemeOf S → Phase → Machine S → Actor
-engine_now K Boot m = hart_now K m
-engine_now K Halt m = hart_now K m
-engine_now K Run m = if K.under_way m.scheme then Checkpoint else hart_now K m
+abbrev pub engine_now : {S : Type 0} → SchemeOf S → Pick → Phase → Machine S → Actor
+engine_now K pick Boot m = hart_now K pick m
+engine_now K pick Halt m = hart_now K pick m
+engine_now K pick Run m = if K.under_way m.scheme then Checkpoint else hart_now K pick m
 
 -- whose turn a pick is
 abbrev pub turn_now : {S : Type 0} → SchemeOf S → Pick → ℕ → Machine S → Actor
-turn_now K Hart nvm m = hart_now K m
-turn_now K Engine nvm m = engine_now K m.phase m
-turn_now K NvmDrain nvm m = if nvm == 0 then hart_now K m else Nvm
-turn_now K DramDrain nvm m = if K.queued m.scheme == 0 then hart_now K m else Dram
+turn_now K Hart nvm m = hart_now K Hart m
+turn_now K Second nvm m = hart_now K Second m
+turn_now K Engine nvm m = engine_now K Engine m.phase m
+turn_now K NvmDrain nvm m = if nvm == 0 then hart_now K NvmDrain m else Nvm
+turn_now K DramDrain nvm m = if K.queued m.scheme == 0 then hart_now K DramDrain m else Dram

@@ -1,9 +1,9 @@
 //! The boot's turn.
-ghost use Rattle.std.specs.Prelude.{◌≡◌, ◌+◌, ◌-◌, ◌<◌, ◌^◌, if◌then◌else◌, Some};
+ghost use Rattle.std.specs.Prelude.{◌≡◌, ◌+◌, ◌-◌, ◌<◌, ◌^◌, if◌then◌else◌};
 ghost use Rattle.thy_isa.specs.Step.{state_of, cpu_of, is_running};
 ghost use Rattle.thy_view.specs.declared.did.Stall.TheVariants.{Booting};
 ghost use Rattle.thy_view.specs.Origin.{Origin, Begins};
-ghost use Rattle.thy_view.specs.Turn.{TheHart};
+ghost use Rattle.thy_view.specs.Turn.{Stalled};
 ghost use Rattle.thy_scheme.specs.Boots.{boot_did};
 ghost use Rattle.thy_core_laws.specs.Calls.{running_from, after_boot};
 ghost use Rattle.thy_core.specs.Cycles.{HasStart, CanTake, HasTaken};
@@ -23,8 +23,8 @@ pub(crate) fn boot<N: Nvm, S: Scheme>(
     start: &Start,
     nvm: &mut N,
 ) -> Result<Did, NvmError>
-    requires { CanTake S.scheme (HasStart start.now) (TheHart (Some Booting)) (machine_of m.old) (N.device nvm.old) }
-    ensures { HasTaken S.scheme (HasStart start.now) (TheHart (Some Booting))
+    requires { CanTake S.scheme (HasStart start.now) (Stalled Booting) (machine_of m.old) (N.device nvm.old) }
+    ensures { HasTaken S.scheme (HasStart start.now) (Stalled Booting)
         (machine_of m.old) (N.device nvm.old) (machine_of m.new) (N.device nvm.new) result }
 {
     let step = m.store.scheme.boot_step(start, nvm)?;
@@ -71,6 +71,8 @@ fn run_from<S>(m: &mut MachineParts<S>, cpu: &CpuState, epoch: u64)
         done: cpu.console_len,
         sealed: 0,
     };
+    m.begun = None;
+    m.last = None;
 }
 
 /// The phase of a machine that begins with this processor.

@@ -1,7 +1,7 @@
 //! One cycle, at the turn of an actor.
-ghost use Rattle.std.specs.Prelude.{Ok, Some};
+ghost use Rattle.std.specs.Prelude.{Ok};
 ghost use Rattle.thy_view.specs.declared.did.Stall.TheVariants.{Waiting, Halted};
-ghost use Rattle.thy_view.specs.Turn.{Nvm, TheHart};
+ghost use Rattle.thy_view.specs.Turn.{Nvm, Stalled};
 ghost use Rattle.thy_core.specs.Cycles.{IsAnyRun, HasStart, CanTake, HasTaken};
 ghost use Rattle.thy_core.specs.MachineParts.{machine_of, actor_seen};
 
@@ -31,36 +31,20 @@ pub(crate) fn cycle<N: Nvm, S: Scheme>(
         Actor::Nvm => land(m, nvm),
         Actor::Dram => Ok(drain(m, nvm)),
         Actor::Engine => checkpoint(m, nvm),
-        Actor::Hart(stall) => at_hart(m, stall, start, nvm),
+        Actor::Advances(hart) => execute(m, hart, start.input.as_slice(), nvm),
+        Actor::Stalled(why) => stalled(m, why, start, nvm),
     }
 }
 
-/// Takes the cycle of the hart, with this stall.
-fn at_hart<N: Nvm, S: Scheme>(
-    m: &mut MachineParts<S>,
-    stall: Option<Stall>,
-    start: &Start,
-    nvm: &mut N,
-) -> Result<Did, NvmError>
-    requires { CanTake S.scheme (HasStart start.now) (TheHart stall) (machine_of m.old) (N.device nvm.old) }
-    ensures { HasTaken S.scheme (HasStart start.now) (TheHart stall)
-        (machine_of m.old) (N.device nvm.old) (machine_of m.new) (N.device nvm.new) result }
-{
-    match stall {
-        None => execute(m, start.input.as_slice(), nvm),
-        Some(why) => stalled(m, why, start, nvm),
-    }
-}
-
-/// Takes the cycle of a hart that advances no instruction, for this reason.
+/// Takes the cycle of harts none of which advances an instruction, for this reason.
 fn stalled<N: Nvm, S: Scheme>(
     m: &mut MachineParts<S>,
     why: Stall,
     start: &Start,
     nvm: &mut N,
 ) -> Result<Did, NvmError>
-    requires { CanTake S.scheme (HasStart start.now) (TheHart (Some why)) (machine_of m.old) (N.device nvm.old) }
-    ensures { HasTaken S.scheme (HasStart start.now) (TheHart (Some why))
+    requires { CanTake S.scheme (HasStart start.now) (Stalled why) (machine_of m.old) (N.device nvm.old) }
+    ensures { HasTaken S.scheme (HasStart start.now) (Stalled why)
         (machine_of m.old) (N.device nvm.old) (machine_of m.new) (N.device nvm.new) result }
 {
     match why {
@@ -83,8 +67,8 @@ fn land<N: Nvm, S: Scheme>(m: &MachineParts<S>, nvm: &mut N) -> Result<Did, NvmE
 
 /// Takes an action of the engine, for the hart that waits for it.
 fn wait<N: Nvm, S: Scheme>(m: &mut MachineParts<S>, nvm: &mut N) -> Result<Did, NvmError>
-    requires { CanTake S.scheme IsAnyRun (TheHart (Some Waiting)) (machine_of m.old) (N.device nvm.old) }
-    ensures { HasTaken S.scheme IsAnyRun (TheHart (Some Waiting))
+    requires { CanTake S.scheme IsAnyRun (Stalled Waiting) (machine_of m.old) (N.device nvm.old) }
+    ensures { HasTaken S.scheme IsAnyRun (Stalled Waiting)
         (machine_of m.old) (N.device nvm.old) (machine_of m.new) (N.device nvm.new) result }
 {
     checkpoint(m, nvm)
@@ -92,7 +76,7 @@ fn wait<N: Nvm, S: Scheme>(m: &mut MachineParts<S>, nvm: &mut N) -> Result<Did, 
 
 /// Does nothing, if the machine has halted.
 fn rest<N: Nvm, S: Scheme>(m: &MachineParts<S>, nvm: &N) -> Did
-    ensures { HasTaken S.scheme IsAnyRun (TheHart (Some Halted))
+    ensures { HasTaken S.scheme IsAnyRun (Stalled Halted)
         (machine_of m.now) (N.device nvm.now) (machine_of m.now) (N.device nvm.now) (Ok result) }
 {
     Did::Nothing

@@ -1,7 +1,9 @@
-//! The hart's turn while nothing keeps it.
-ghost use Rattle.std.specs.Prelude.{◌≡◌, None, ◌+◌, ◌<◌, ◌^◌};
-ghost use Rattle.thy_view.specs.Turn.{TheHart};
-ghost use Rattle.thy_core_laws.specs.Calls.{retires_over, retires_by, hart_did, after_hart};
+//! A hart's turn while nothing keeps it.
+ghost use Rattle.std.specs.Prelude.{◌≡◌, None, Some, true, if◌then◌else◌, ◌+◌, ◌<◌, ◌^◌};
+ghost use Rattle.thy_view.specs.Turn.{Advances};
+ghost use Rattle.thy_hart.specs.declared.hand.Hand.TheVariants.{Nothing};
+ghost use Rattle.thy_core_laws.specs.Calls.{retires_over, retires_by, ends_by, begun_by_hart, hart_did, after_hart};
+ghost use Rattle.thy_core_laws.specs.Machine.{cpu_fronted};
 ghost use Rattle.thy_core.specs.Cycles.{HasInput, CanTake, HasTaken};
 ghost use Rattle.thy_core.specs.MachineParts.{machine_of};
 
@@ -11,37 +13,91 @@ use thy_hart::HartStep;
 use thy_scheme::Scheme;
 use thy_view::Did;
 
-/// Takes a step of the hart.
+/// Takes a step of this hart, whose instruction is begun if none is.
 pub(crate) fn execute<N: Nvm, S: Scheme>(
     m: &mut MachineParts<S>,
+    hart: u8,
     input: &[u8],
     nvm: &mut N,
 ) -> Result<Did, NvmError>
-    requires { CanTake S.scheme (HasInput input.now) (TheHart None) (machine_of m.old) (N.device nvm.old) }
-    ensures { HasTaken S.scheme (HasInput input.now) (TheHart None)
+    requires { CanTake S.scheme (HasInput input.now) (Advances hart) (machine_of m.old) (N.device nvm.old) }
+    ensures { HasTaken S.scheme (HasInput input.now) (Advances hart)
         (machine_of m.old) (N.device nvm.old) (machine_of m.new) (N.device nvm.new) result }
 {
+    begin(m, hart);
     let free = m.store.scheme.free();
     let under_way = m.store.scheme.under_way();
     let step = m
         .hart
         .step(&mut m.cache, &mut m.store, nvm, free, under_way, input)?;
-    Ok(count(m, step))
+    Ok(count(m, hart, step))
 }
 
-/// Counts a step of the hart, which is hart 0.
-fn count<S>(m: &mut MachineParts<S>, step: HartStep) -> Did
+/// Begins the instruction of this hart, which comes to the front if none was begun.
+fn begin<S>(m: &mut MachineParts<S>, hart: u8)
+    requires { m.old.begun ≡ None → m.old.hart.hand ≡ Nothing }
+    ensures { machine_of m.new ≡ begun_by_hart hart (machine_of m.old) }
+{
+    let begun = m.begun;
+    m.begun = Some(hart);
+    match begun {
+        None => front(m, hart),
+        Some(_) => {}
+    }
+}
+
+/// Puts this hart in front, if hart 0 is, and hart 0, if this one is.
+fn front<S>(m: &mut MachineParts<S>, hart: u8)
+    requires { m.old.hart.hand ≡ Nothing }
+    ensures { m.new ≡ record m.old { hart = record m.old.hart { cpu = cpu_fronted hart m.old.hart.cpu } } }
+{
+    if hart != 0 {
+        m.hart.cross();
+    }
+}
+
+/// Puts hart 0 in front again if this hart's instruction has ended by this step; else it stays begun.
+fn put_back<S>(m: &mut MachineParts<S>, hart: u8, step: HartStep)
+    requires { ends_by step ≡ true → m.old.hart.hand ≡ Nothing }
+    ensures { m.new ≡ record m.old {
+      hart = record m.old.hart { cpu = if ends_by step then cpu_fronted hart m.old.hart.cpu else m.old.hart.cpu };
+      begun = if ends_by step then None else Some hart;
+    } }
+{
+    if ends(step) {
+        front(m, hart);
+        m.begun = None;
+    } else {
+        m.begun = Some(hart);
+    }
+}
+
+/// Counts a step of this hart. Once its instruction has ended, hart 0 is in front again.
+fn count<S>(m: &mut MachineParts<S>, hart: u8, step: HartStep) -> Did
+    requires hand { ends_by step ≡ true → m.old.hart.hand ≡ Nothing }
     requires spent { m.old.spent + 1 < 2 ^ 64 }
     requires lap { m.old.lap + 1 < 2 ^ 64 }
-    ensures parts { machine_of m.new ≡ after_hart step m.old.hart m.old.cache m.old.store.scheme (machine_of m.old) }
-    ensures did { result ≡ hart_did step }
+    ensures parts { machine_of m.new ≡ after_hart hart step m.old.hart m.old.cache m.old.store.scheme (machine_of m.old) }
+    ensures did { result ≡ hart_did hart step }
 {
     m.spent += 1;
+    put_back(m, hart, step);
     if retires(step) {
         m.lap += 1;
-        Did::Retired(0)
+        m.last = Some(hart);
+        Did::Retired(hart)
     } else {
         Did::Moved
+    }
+}
+
+/// Whether an instruction has ended by this step: it was retired, or dropped.
+fn ends(step: HartStep) -> bool
+    ensures { result ≡ ends_by step }
+{
+    match step {
+        HartStep::Moved | HartStep::Waiting => false,
+        HartStep::Retired | HartStep::Over(_) => true,
     }
 }
 

@@ -21,7 +21,7 @@ use thy_record::Start;
 use thy_scheme::Scheme;
 use thy_view::{CoreError, Stepped};
 
-/// A hart with its cache over a scheme of checkpoints. One step is one cycle.
+/// One hart or two, with a cache over a scheme of checkpoints. One step is one cycle.
 #[derive(Drop)]
 pub struct Machine<S> {
     parts: MachineParts<S>,
@@ -83,7 +83,8 @@ impl<S: Scheme> Machine<S> {
         self.parts.failed
     }
 
-    /// One cycle: the pick's, or the hart's if the pick's actor has nothing to do. Allocates nothing.
+    /// One cycle: the pick's, or a hart's if the pick's actor has nothing to do. An instruction that is begun is
+    /// carried to its end before another one is. Allocates nothing.
     ///
     /// After an error the NVM may hold what the failed call left, and only `failed`, `snapshot` and `cut` may be called
     /// on the machine.

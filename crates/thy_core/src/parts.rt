@@ -45,4 +45,8 @@ pub(crate) struct MachineParts<S> {
     pub idle: bool,
     /// A step failed since power came on.
     pub failed: bool,
+    /// The hart whose instruction is begun, 0 or 1; it is in front. While none is, hart 0 is.
+    pub begun: Option<u8>,
+    /// The hart that retired the last instruction since the boot.
+    pub last: Option<u8>,
 }

@@ -48,6 +48,8 @@ pub(crate) fn power_on<S: Scheme>(
         lap: 0,
         idle: false,
         failed: false,
+        begun: None,
+        last: None,
     })
 }
 

@@ -2,7 +2,7 @@
 ghost use Rattle.std.specs.Prelude.{◌≡◌, ◌≢◌, Ok, None, Some, true, false, ◌+◌, ◌<◌, ◌^◌};
 ghost use Rattle.thy_cache.specs.Contents.{dirty_count};
 ghost use Rattle.thy_view.specs.declared.did.Stall.TheVariants.{Sealing};
-ghost use Rattle.thy_view.specs.Turn.{TheHart};
+ghost use Rattle.thy_view.specs.Turn.{Stalled};
 ghost use Rattle.thy_core_laws.specs.Calls.{after_seal};
 ghost use Rattle.thy_core.specs.Cycles.{IsAnyRun, CanTake, HasTaken};
 ghost use Rattle.thy_core.specs.MachineParts.{machine_of};
@@ -18,8 +18,8 @@ pub(crate) fn prepare<N: Nvm, S: Scheme>(
     m: &mut MachineParts<S>,
     nvm: &mut N,
 ) -> Result<Did, NvmError>
-    requires { CanTake S.scheme IsAnyRun (TheHart (Some Sealing)) (machine_of m.old) (N.device nvm.old) }
-    ensures { HasTaken S.scheme IsAnyRun (TheHart (Some Sealing))
+    requires { CanTake S.scheme IsAnyRun (Stalled Sealing) (machine_of m.old) (N.device nvm.old) }
+    ensures { HasTaken S.scheme IsAnyRun (Stalled Sealing)
         (machine_of m.old) (N.device nvm.old) (machine_of m.new) (N.device nvm.new) result }
 {
     if m.store.scheme.promoting() {
@@ -35,9 +35,9 @@ pub(crate) fn prepare<N: Nvm, S: Scheme>(
 
 /// Promotes a block of a page.
 fn promote<N: Nvm, S: Scheme>(m: &mut MachineParts<S>, nvm: &mut N) -> Result<Did, NvmError>
-    requires turn { CanTake S.scheme IsAnyRun (TheHart (Some Sealing)) (machine_of m.old) (N.device nvm.old) }
+    requires turn { CanTake S.scheme IsAnyRun (Stalled Sealing) (machine_of m.old) (N.device nvm.old) }
     requires promoting { S.scheme.promoting m.old.store.scheme ≡ true }
-    ensures { HasTaken S.scheme IsAnyRun (TheHart (Some Sealing))
+    ensures { HasTaken S.scheme IsAnyRun (Stalled Sealing)
         (machine_of m.old) (N.device nvm.old) (machine_of m.new) (N.device nvm.new) result }
 {
     m.store.scheme.promote_one(nvm)?;
@@ -47,10 +47,10 @@ fn promote<N: Nvm, S: Scheme>(m: &mut MachineParts<S>, nvm: &mut N) -> Result<Di
 
 /// Stores a dirty line, or makes the copy that has to come first.
 fn flush<N: Nvm, S: Scheme>(m: &mut MachineParts<S>, nvm: &mut N) -> Result<Did, NvmError>
-    requires turn { CanTake S.scheme IsAnyRun (TheHart (Some Sealing)) (machine_of m.old) (N.device nvm.old) }
+    requires turn { CanTake S.scheme IsAnyRun (Stalled Sealing) (machine_of m.old) (N.device nvm.old) }
     requires whole { S.scheme.promoting m.old.store.scheme ≡ false }
     requires dirty { dirty_count m.old.cache ≢ 0 }
-    ensures { HasTaken S.scheme IsAnyRun (TheHart (Some Sealing))
+    ensures { HasTaken S.scheme IsAnyRun (Stalled Sealing)
         (machine_of m.old) (N.device nvm.old) (machine_of m.new) (N.device nvm.new) result }
 {
     let _flushed = m.cache.flush_one(&mut m.store, nvm)?;
@@ -60,11 +60,11 @@ fn flush<N: Nvm, S: Scheme>(m: &mut MachineParts<S>, nvm: &mut N) -> Result<Did,
 
 /// Merges a block into its page.
 fn merge<N: Nvm, S: Scheme>(m: &mut MachineParts<S>, nvm: &N) -> Did
-    requires turn { CanTake S.scheme IsAnyRun (TheHart (Some Sealing)) (machine_of m.old) (N.device nvm.now) }
+    requires turn { CanTake S.scheme IsAnyRun (Stalled Sealing) (machine_of m.old) (N.device nvm.now) }
     requires whole { S.scheme.promoting m.old.store.scheme ≡ false }
     requires clean { dirty_count m.old.cache ≡ 0 }
     requires overlaid { S.scheme.overlaid m.old.store.scheme ≡ true }
-    ensures { HasTaken S.scheme IsAnyRun (TheHart (Some Sealing))
+    ensures { HasTaken S.scheme IsAnyRun (Stalled Sealing)
         (machine_of m.old) (N.device nvm.now) (machine_of m.new) (N.device nvm.now) (Ok result) }
 {
     m.store.scheme.merge_one();
@@ -74,11 +74,11 @@ fn merge<N: Nvm, S: Scheme>(m: &mut MachineParts<S>, nvm: &N) -> Did
 
 /// Seals the epoch, which is over.
 fn seal<N: Nvm, S: Scheme>(m: &mut MachineParts<S>, nvm: &N) -> Did
-    requires turn { CanTake S.scheme IsAnyRun (TheHart (Some Sealing)) (machine_of m.old) (N.device nvm.now) }
+    requires turn { CanTake S.scheme IsAnyRun (Stalled Sealing) (machine_of m.old) (N.device nvm.now) }
     requires whole { S.scheme.promoting m.old.store.scheme ≡ false }
     requires clean { dirty_count m.old.cache ≡ 0 }
     requires bare { S.scheme.overlaid m.old.store.scheme ≡ false }
-    ensures { HasTaken S.scheme IsAnyRun (TheHart (Some Sealing))
+    ensures { HasTaken S.scheme IsAnyRun (Stalled Sealing)
         (machine_of m.old) (N.device nvm.now) (machine_of m.new) (N.device nvm.now) (Ok result) }
 {
     let epoch = m.hart.epoch().epoch();

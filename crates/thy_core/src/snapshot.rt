@@ -8,7 +8,7 @@ ghost use Rattle.thy_base.specs.Bytes.{bytes_of};
 ghost use Rattle.thy_scheme.specs.Scheme.{CanRun};
 ghost use Rattle.thy_view.specs.Kind.{CanRead, CanSnapshot, SnapshotsStopped, ShowsConsole, LeavesAlonePast, HasFailedToRead};
 ghost use Rattle.thy_core_laws.specs.Kind.{kind_over};
-ghost use Rattle.thy_core_laws.specs.Machine.{memory_of};
+ghost use Rattle.thy_core_laws.specs.Machine.{cpu_fronted, memory_of, processor_of, hart_put_back};
 ghost use Rattle.thy_core.specs.MachineParts.{machine_of};
 ghost use Rattle.thy_core.specs.Reading.{ReadsState};
 
@@ -16,7 +16,7 @@ use crate::parts::MachineParts;
 use crate::reading::{MemoryVersion, read_blocks, read_console};
 use std::alloc::Global;
 use thy_base::{Bytes, Nvm, PAGE_BLOCKS};
-use thy_isa::{CpuState, MachState};
+use thy_isa::{CpuState, MachState, cross};
 use thy_scheme::Scheme;
 use thy_view::{CoreError, Phase};
 
@@ -45,7 +45,28 @@ fn bare(alloc: Global, cpu: &CpuState) -> MachState
     state_with(cpu, Bytes::new(alloc), Bytes::new(alloc))
 }
 
-/// The state of processor and memory, after the boot.
+/// A processor that has hart 0 in front with this hart there, and one that has this hart there with hart 0.
+fn fronted(hart: u8, cpu: &CpuState) -> CpuState
+    ensures { result ≡ cpu_fronted hart cpu.now }
+{
+    let mut fronted = *cpu;
+    if hart != 0 {
+        cross(&mut fronted);
+    }
+    fronted
+}
+
+/// The processor with hart 0 in front.
+fn processor<S>(m: &MachineParts<S>) -> CpuState
+    ensures { result ≡ processor_of (machine_of m.now) }
+{
+    match m.begun {
+        None => *m.hart.cpu(),
+        Some(hart) => fronted(hart, m.hart.cpu()),
+    }
+}
+
+/// The state of processor and memory, after the boot, with hart 0 in front.
 fn executing<N: Nvm, S: Scheme>(
     alloc: Global,
     m: &MachineParts<S>,
@@ -53,7 +74,8 @@ fn executing<N: Nvm, S: Scheme>(
 ) -> Result<MachState, CoreError>
     requires stands { CanRun S.scheme m.now.store.scheme (N.device nvm.old) }
     requires sized { IsSized m.now.hart (memory_of S.scheme (machine_of m.now) (N.device nvm.old)) }
-    ensures state { IfOk result (λ s. state_of s ≡ current m.now.hart (memory_of S.scheme (machine_of m.now) (N.device nvm.old))) }
+    ensures state { let memory = memory_of S.scheme (machine_of m.now) (N.device nvm.old) in
+        IfOk result (λ s. state_of s ≡ current (hart_put_back (machine_of m.now)) memory) }
     ensures same { OnOk result (N.device nvm.new ≡ N.device nvm.old) }
     ensures err { IfErr result (λ e. HasFailedToRead e (N.device nvm.old) (N.device nvm.new)) }
     ensures frame { IsFramed (N.device nvm.old) (N.device nvm.new) }
@@ -61,9 +83,15 @@ fn executing<N: Nvm, S: Scheme>(
     let numbers = m.hart.geometry().numbers();
     let blocks = PAGE_BLOCKS * (numbers.pages - numbers.console);
     let memory = read_blocks(alloc, m, MemoryVersion::Executing, 0, blocks, nvm)?;
-    let cpu = m.hart.cpu();
-    let console = read_console(alloc, m, MemoryVersion::Executing, 0, cpu.console_len, nvm)?;
-    Ok(state_with(cpu, memory, console))
+    let console = read_console(
+        alloc,
+        m,
+        MemoryVersion::Executing,
+        0,
+        m.hart.cpu().console_len,
+        nvm,
+    )?;
+    Ok(state_with(&processor(m), memory, console))
 }
 
 /// The state that a machine executes, if no instruction that is under way has written a block. In the boot, and after
@@ -81,7 +109,7 @@ pub(crate) fn snapshot<N: Nvm, S: Scheme>(
     ensures frame { IsFramed (N.device nvm.old) (N.device nvm.new) }
 {
     if m.failed {
-        return Ok(bare(alloc, m.hart.cpu()));
+        return Ok(bare(alloc, &processor(m)));
     }
     match m.phase {
         Phase::Boot => Ok(bare(alloc, m.hart.cpu())),

@@ -15,7 +15,7 @@ use thy_record::Start;
 use thy_scheme::Scheme;
 use thy_view::{Phase, Stall, Stepped};
 
-/// Takes one cycle: the pick's, or the hart's if the pick's actor has nothing to do. Notes whether it failed.
+/// Takes one cycle: the pick's, or a hart's if the pick's actor has nothing to do. Notes whether it failed.
 pub(crate) fn take_step<N: Nvm, S: Scheme>(
     m: &mut MachineParts<S>,
     pick: Pick,
@@ -51,8 +51,8 @@ fn told_stall(actor: Actor) -> Option<Stall>
     ensures { result ≡ told_at (actor_seen actor) }
 {
     match actor {
-        Actor::Nvm | Actor::Dram | Actor::Engine => None,
-        Actor::Hart(stall) => stall,
+        Actor::Nvm | Actor::Dram | Actor::Engine | Actor::Advances(_) => None,
+        Actor::Stalled(stall) => Some(stall),
     }
 }
 

@@ -2,8 +2,9 @@
 ghost use Rattle.std.specs.Prelude.{◌≡◌, is_some};
 ghost use Rattle.thy_core_laws.specs.Machine.{shortage_of};
 ghost use Rattle.thy_core.specs.MachineParts.{machine_of, actor_seen};
-ghost use Rattle.thy_core.specs.Turns.{lacks, stopped_now, waits_now, stall_now, engine_now, turn_now};
-ghost use Rattle.thy_view.specs.Turn.{TheHart};
+ghost use Rattle.thy_core.specs.Turns.{lacks, stopped_now, waits_now, stall_now, hart_of, hart_now, engine_now, turn_now};
+ghost use Rattle.thy_base.specs.declared.mix.Pick.TheVariants.{Engine as EnginePick};
+ghost use Rattle.thy_view.specs.Turn.{rested, begins};
 
 use crate::parts::MachineParts;
 use thy_base::Pick;
@@ -19,8 +20,10 @@ pub(crate) enum Actor {
     Dram,
     /// The checkpoint engine.
     Engine,
-    /// The hart, with its stall, if it advances no instruction.
-    Hart(Option<Stall>),
+    /// This hart, 0 or 1, which advances its instruction.
+    Advances(u8),
+    /// The harts, none of which advances an instruction, for this reason.
+    Stalled(Stall),
 }
 
 /// Whether fewer entries are free than the dirty lines and the blocks need that an instruction reserves room for.
@@ -79,13 +82,57 @@ fn run_stall<S: Scheme>(m: &MachineParts<S>) -> Option<Stall>
     }
 }
 
-/// Whose turn a pick is, with so many writes queued in the NVM: the hart's if the pick's actor has nothing to do.
+/// The hart that did not retire the last instruction; hart 0 at first.
+fn rested(last: Option<u8>) -> u8
+    ensures { result ≡ rested last }
+{
+    match last {
+        None => 0,
+        Some(hart) => if hart == 0 { 1 } else { 0 },
+    }
+}
+
+/// The hart whose instruction a pick begins.
+fn begins(pick: Pick, last: Option<u8>) -> u8
+    ensures { result ≡ begins pick last }
+{
+    match pick {
+        Pick::Hart => 0,
+        Pick::Second => 1,
+        Pick::Engine | Pick::NvmDrain | Pick::DramDrain => rested(last),
+    }
+}
+
+/// The hart that a pick comes to: the one whose instruction is begun. With one hart it is hart 0.
+fn hart_of<S: Scheme>(m: &MachineParts<S>, pick: Pick) -> u8
+    ensures { result ≡ hart_of S.scheme pick (machine_of m.now) }
+{
+    if m.hart.geometry().harts() == 1 {
+        return 0;
+    }
+    match m.begun {
+        Some(hart) => hart,
+        None => begins(pick, m.last),
+    }
+}
+
+/// The turn of the hart that a pick comes to, unless there is a stall.
+fn hart_turn<S: Scheme>(m: &MachineParts<S>, pick: Pick) -> Actor
+    ensures { actor_seen result ≡ hart_now S.scheme pick (machine_of m.now) }
+{
+    match hart_stall(m) {
+        None => Actor::Advances(hart_of(m, pick)),
+        Some(stall) => Actor::Stalled(stall),
+    }
+}
+
+/// Whose turn a pick is, with so many writes queued in the NVM: a hart's if the pick's actor has nothing to do.
 pub(crate) fn turn_now<S: Scheme>(m: &MachineParts<S>, pick: Pick, nvm: u64) -> Actor
     ensures { actor_seen result ≡ turn_now S.scheme pick nvm (machine_of m.now) }
 {
-    let hart = Actor::Hart(hart_stall(m));
+    let hart = hart_turn(m, pick);
     match pick {
-        Pick::Hart => hart,
+        Pick::Hart | Pick::Second => hart,
         Pick::Engine => engine_turn(m, hart),
         Pick::NvmDrain => if nvm == 0 { hart } else { Actor::Nvm },
         Pick::DramDrain => if m.store.scheme.queued() == 0 {
@@ -96,10 +143,10 @@ pub(crate) fn turn_now<S: Scheme>(m: &MachineParts<S>, pick: Pick, nvm: u64) -> 
     }
 }
 
-/// The engine's turn, if a checkpoint is under way, or else the hart's.
+/// The engine's turn, if a checkpoint is under way, or else a hart's.
 fn engine_turn<S: Scheme>(m: &MachineParts<S>, hart: Actor) -> Actor
-    requires { actor_seen hart ≡ TheHart (stall_now S.scheme m.now.phase (machine_of m.now)) }
-    ensures { actor_seen result ≡ engine_now S.scheme m.now.phase (machine_of m.now) }
+    requires { actor_seen hart ≡ hart_now S.scheme EnginePick (machine_of m.now) }
+    ensures { actor_seen result ≡ engine_now S.scheme EnginePick m.now.phase (machine_of m.now) }
 {
     match m.phase {
         Phase::Run => if m.store.scheme.under_way() {

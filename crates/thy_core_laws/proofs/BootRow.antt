@@ -6,11 +6,10 @@ use Rattle.thy_base.specs.declared.mark.Mark.{Mark}
 use Rattle.thy_base.specs.Device.{Device}
 use Rattle.thy_base.specs.Marks.{mark}
 use Rattle.thy_base.proofs.RangeLemmas.{epoch_least}
-use Rattle.thy_cache.specs.Contents.{Contents}
 use Rattle.thy_flat.proofs.MemoryLaws.{length-console_bytes}
-use Rattle.thy_hart.specs.HartState.{new_hart, next_block, reserved}
+use Rattle.thy_hart.specs.HartState.{new_hart, reserved}
 use Rattle.thy_hart.specs.Laws.{IsSized, Follows}
-use Rattle.thy_hart.specs.Moments.{IsOpenFor, moment}
+use Rattle.thy_hart.specs.Moments.{moment}
 use Rattle.thy_hart.specs.OneStep.{current}
 use Rattle.thy_hart.proofs.FollowLaws.{next-coming}
 use Rattle.thy_isa.specs.declared.state.CpuState.{CpuState}
@@ -105,10 +104,6 @@ current-from : (p : Parameters) (cpu : CpuState) (number : ℕ) (blocks : List B
 unfolding current
 current-from p cpu number blocks = refl
 
-closed_for : (c : Contents) (b : Option ℕ) → IsOpenFor c b None
-closed_for c None = refl
-closed_for c (Some b) = inl refl
-
 -- ---- behind the boot
 
 -- a machine in the boot, of the run's geometry
@@ -139,7 +134,7 @@ module _ {S : Type 0} (K : SchemeOf S) (o : Origin) (m : Machine S) (cpu : CpuSt
   held_here = record {
     agree = blank.agree blocks;
     room = let none = blank.clean in omega arith;
-    opened = subst (IsOpenFor m.cache (next_block (new_hart o.geometry cpu (epoch + 1)))) (sym booted.closed) (closed_for m.cache (next_block (new_hart o.geometry cpu (epoch + 1))));
+    opened = booted.closed;
   }
 
   follows_blocks : Follows o.input (at o cpu.count) (new_hart o.geometry cpu (epoch + 1)) blocks
@@ -173,6 +168,7 @@ module _ {S : Type 0} (K : SchemeOf S) (o : Origin) (m : Machine S) (cpu : CpuSt
     held = held_here;
     follows = subst (Follows o.input (at o cpu.count) (new_hart o.geometry cpu (epoch + 1))) (sym (blank.reads blocks)) follows_blocks;
     writes = tt;
+    front = record { there = λ h is. absurd (cc); rests = λ none. refl; over = λ over. absurd (over refl) };
     counted = record {
       start = at-late o cpu.count count_here;
       count = count_here;
@@ -184,7 +180,7 @@ module _ {S : Type 0} (K : SchemeOf S) (o : Origin) (m : Machine S) (cpu : CpuSt
     shown = record { done = console_here; sealed = λ s e. absurd (cc); ends = λ s e. absurd (cc) };
     ended = record {
       sealed = λ s e. absurd (cc);
-      halted = λ halt. (record { count_is = refl; hand = refl; over = refl }, refl);
+      halted = λ halt. (record { count_is = refl; hand = refl; over = refl; begun = refl }, refl);
       live = λ run over live. sym runs_here ∙ runs_where (is_running cpu.status) run;
     };
     paced = paced_here;
@@ -208,6 +204,8 @@ module _ {S : Type 0} (K : SchemeOf S) (o : Origin) (cycles : ℕ) (m : Machine 
     spent = b.spent;
     lap = b.lap;
     idle = b.idle;
+    begun = b.begun;
+    last = b.last;
   }
 
   goes_on : BootsOn K o GoesOn m.scheme n t new → SimulatesCycle K o cycles DidBoot (in_boot o m) n (after_boot o GoesOn t (in_boot o m)) new
@@ -228,7 +226,7 @@ module _ {S : Type 0} (K : SchemeOf S) (o : Origin) (cycles : ℕ) (m : Machine 
           small = small_step o cycles (K.boot_view o m.scheme n) (K.boot_view o t new) at.sound.small DidBoot step;
           moment = record {
             boots = b.answers.0;
-            blank = record { agree = blank.agree; reads = blank.reads; clean = blank.clean; hand = blank.hand; spent = blank.spent; lap = blank.lap; idle = blank.idle };
+            blank = record { agree = blank.agree; reads = blank.reads; clean = blank.clean; hand = blank.hand; spent = blank.spent; lap = blank.lap; idle = blank.idle; begun = blank.begun; last = blank.last };
           };
         };
         step = step;

@@ -86,7 +86,7 @@ simulates-booting {S} K o cycles did m n t new at-m phase other up boots small s
         small = subst (IsSmall (cycles + 1)) (sym new-view) small;
         moment = subst (λ x. SoundIn K o x (after_drain t m) new) (sym phase) (record {
           boots = boots;
-          blank = record { agree = blank.agree; reads = blank.reads; clean = blank.clean; hand = blank.hand; spent = blank.spent; lap = blank.lap; idle = blank.idle };
+          blank = record { agree = blank.agree; reads = blank.reads; clean = blank.clean; hand = blank.hand; spent = blank.spent; lap = blank.lap; idle = blank.idle; begun = blank.begun; last = blank.last };
         });
       };
       step = subst (λ v. CoreStep o v did (view_of K o (after_drain t m) new)) (sym old-view) (subst (CoreStep o (K.boot_view o m.scheme n) did) (sym new-view) step);

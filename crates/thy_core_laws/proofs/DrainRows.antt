@@ -36,7 +36,7 @@ module _ {S : Type 0} (K : SchemeOf S) (o : Origin) (cycles : ℕ) (m : Machine 
   -- the machine is sound with what a drain keeps
   sound_drained : (t : S) (new : Device) → K.is_sound o m.marks t new → Keeps K m.scheme n t new → SoundRun K o (after_drain t m) new
   sound_drained t new sound keeps =
-      let left = left_kept K m (after_drain t m) n new refl refl o.geometry keeps.left in
+      let left = left_kept K m (after_drain t m) n new refl refl refl o.geometry keeps.left in
       let spent = before.paced.spent in
       sound_kept K o m n t m.spent new at.lawful before sound keeps (λ none. none) (omega (arith, left, spent))
 

@@ -26,7 +26,7 @@ use Rattle.thy_core_laws.specs.Machine.{Machine, run_view, moment_of, moves_in}
 use Rattle.thy_core_laws.specs.Pace.{cycles_left, most_spent}
 use Rattle.thy_core_laws.specs.Rows.{SimulatesCycle, At, EngineSimulates}
 use Rattle.thy_core_laws.specs.Sound.{epochs_ahead, SoundRun}
-use Rattle.thy_core_laws.proofs.KeepsLaws.{run_of, runs_behind, simulates_by, left_on, held_kept, follows_kept, counted_kept, epoch_kept, hart_left_kept, paced_kept, sound_kept, up_after}
+use Rattle.thy_core_laws.proofs.KeepsLaws.{run_of, runs_behind, simulates_by, left_on, held_kept, follows_kept, front_kept, counted_kept, epoch_kept, hart_left_kept, paced_kept, sound_kept, up_after}
 use Rattle.thy_core_laws.proofs.WorkLaws.{NoMore, moves_fewer}
 
 -- ---- the phase behind a commit
@@ -61,7 +61,7 @@ module _ {S : Type 0} (K : SchemeOf S) (o : Origin) (cycles : ℕ) (m : Machine 
       → m.spent + 1 + cycles_left K o.geometry (after_engine step t m) new < most_spent K o.geometry
   spends step e =
       let spent : m.spent + cycles_left K o.geometry m n < most_spent K o.geometry = run.paced.spent in
-      let least = hart_left_kept K m (after_engine step t m) n new refl refl o.geometry e.keeps.left.merges in
+      let least = hart_left_kept K m (after_engine step t m) n new refl refl refl o.geometry e.keeps.left.merges in
       let owed = e.keeps.left.owed in
       let promotions = e.keeps.left.promotions in
       let nearer = e.nearer in
@@ -93,14 +93,15 @@ module _ {S : Type 0} (K : SchemeOf S) (o : Origin) (cycles : ℕ) (m : Machine 
 
   -- behind a step that changes marks or phase too no more is left
   left_behind : (next : Machine S) (did : Did) → Keeps K m.scheme n next.scheme new → (adds_copies did ≡ false → OwesNoMore K m.scheme n next.scheme new)
-      → next.hart ≡ m.hart → next.cache ≡ m.cache → NoMore K did m n next new
-  left_behind next did keeps owes hart cache = record {
+      → next.hart ≡ m.hart → next.cache ≡ m.cache → next.begun ≡ m.begun → NoMore K did m n next new
+  left_behind next did keeps owes hart cache begun = record {
     moves = λ e.
         let over : Option EndCause = m.hart.epoch.over in
         let same = ap₂ (λ (h : HartState) (c : Contents). moves_left (moment h c (held_by_scheme K next.scheme new))) hart cache in
-        let fewer : moves_in next.phase over (moment_of K next new) ≤ moves_in m.phase over (moment_of K m n) =
-        moves_fewer m.phase next.phase over (moment_of K m n) (moment_of K next new) phase same in
-        subst (λ (h : HartState). moves_in next.phase h.epoch.over (moment_of K next new) ≤ moves_in m.phase over (moment_of K m n)) (sym hart) fewer;
+        let fewer : moves_in next.phase over m.begun (moment_of K next new) ≤ moves_in m.phase over m.begun (moment_of K m n) =
+        moves_fewer m.phase next.phase over m.begun (moment_of K m n) (moment_of K next new) phase same in
+        subst (λ b. moves_in next.phase next.hart.epoch.over b (moment_of K next new) ≤ moves_in m.phase over m.begun (moment_of K m n)) (sym begun)
+        (subst (λ (h : HartState). moves_in next.phase h.epoch.over m.begun (moment_of K next new) ≤ moves_in m.phase over m.begun (moment_of K m n)) (sym hart) fewer);
     owed = owes;
     owed_in_all = λ e. keeps.left.owed;
     promotions = λ e. keeps.left.promotions;
@@ -120,19 +121,20 @@ module _ {S : Type 0} (K : SchemeOf S) (o : Origin) (cycles : ℕ) (m : Machine 
         unfailed = refl;
         moment = record {
           checkpoints = e.sound;
-          held = held_kept K m next n new refl refl here.lawful e.keeps.held run.held;
-          follows = follows_kept K m next n new refl refl o e.keeps.held.blocks run.follows;
+          held = held_kept K m next n new refl refl refl here.lawful e.keeps.held run.held;
+          follows = follows_kept K m next n new refl refl refl o e.keeps.held.blocks run.follows;
           writes = run.writes;
-          counted = counted_kept K m next n new refl refl o run.counted;
-          epoch = epoch_kept K m next n new refl refl o (λ none. absurd (omega (arith, none))) run.epoch;
+          front = front_kept K m next n new refl refl refl o run.front;
+          counted = counted_kept K m next n new refl refl refl o run.counted;
+          epoch = epoch_kept K m next n new refl refl refl o (λ none. absurd (omega (arith, none))) run.epoch;
           numbered = record { epoch = run.numbered.epoch; sealed = run.numbered.sealed; unwritten = λ none. absurd (cc) };
           shown = record { done = run.shown.done; sealed = run.shown.sealed; ends = run.shown.ends };
           ended = record {
-            sealed = λ a same stops. let x = run.ended.sealed a same stops in record { count_is = x.count_is; hand = x.hand; over = x.over };
+            sealed = λ a same stops. let x = run.ended.sealed a same stops in record { count_is = x.count_is; hand = x.hand; over = x.over; begun = x.begun };
             halted = λ halt. absurd (cc);
             live = run.ended.live;
           };
-          paced = paced_kept K m next n new refl refl o.geometry refl e.keeps run.paced (spends CommitWritten e);
+          paced = paced_kept K m next n new refl refl refl o.geometry refl e.keeps run.paced (spends CommitWritten e);
         };
         step = (phase, ((s, is), refl));
         acts = e.acts m.lap;
@@ -140,7 +142,7 @@ module _ {S : Type 0} (K : SchemeOf S) (o : Origin) (cycles : ℕ) (m : Machine 
         queues = e.queue;
         strides = refl;
         done = tt;
-        left = left_behind next (Engine CommitWritten) e.keeps (λ none. e.owes) refl refl;
+        left = left_behind next (Engine CommitWritten) e.keeps (λ none. e.owes) refl refl refl;
         exhausts = λ moved. absurd (cc);
       })
 
@@ -162,11 +164,12 @@ module _ {S : Type 0} (K : SchemeOf S) (o : Origin) (cycles : ℕ) (m : Machine 
         unfailed = refl;
         moment = record {
           checkpoints = e.sound;
-          held = held_kept K m next n new refl refl here.lawful e.keeps.held run.held;
-          follows = follows_kept K m next n new refl refl o e.keeps.held.blocks run.follows;
+          held = held_kept K m next n new refl refl refl here.lawful e.keeps.held run.held;
+          follows = follows_kept K m next n new refl refl refl o e.keeps.held.blocks run.follows;
           writes = run.writes;
-          counted = counted_kept K m next n new refl refl o run.counted;
-          epoch = epoch_kept K m next n new refl refl o (λ none. absurd (omega (arith, none))) run.epoch;
+          front = front_kept K m next n new refl refl refl o run.front;
+          counted = counted_kept K m next n new refl refl refl o run.counted;
+          epoch = epoch_kept K m next n new refl refl refl o (λ none. absurd (omega (arith, none))) run.epoch;
           numbered = record {
             epoch = omega (arith, ahead, run.numbered.sealed s is, ap (λ (a : Mark). a.epoch) done);
             sealed = λ a none. absurd (cc);
@@ -181,11 +184,11 @@ module _ {S : Type 0} (K : SchemeOf S) (o : Origin) (cycles : ℕ) (m : Machine 
             sealed = λ a none stops. absurd (cc);
             halted = λ halt.
                 let x = run.ended.sealed s is (stops_where m.ends (runs_at o s.count) ends halt) in
-                (record { count_is = x.count_is ∙ ap (λ (a : Mark). a.count) (sym done); hand = x.hand; over = x.over }, refl);
+                (record { count_is = x.count_is ∙ ap (λ (a : Mark). a.count) (sym done); hand = x.hand; over = x.over; begun = x.begun }, refl);
             live = λ goes over none. run.ended.live phase over
                 (subst (λ x. has_stopped o x ≡ false) (sym is) (goes_where m.ends (runs_at o s.count) ends goes));
           };
-          paced = paced_kept K m next n new refl refl o.geometry refl e.keeps run.paced (spends (Committed epoch) e);
+          paced = paced_kept K m next n new refl refl refl o.geometry refl e.keeps run.paced (spends (Committed epoch) e);
         };
         step = record {
           phase = phase;
@@ -202,7 +205,7 @@ module _ {S : Type 0} (K : SchemeOf S) (o : Origin) (cycles : ℕ) (m : Machine 
         queues = e.queue;
         strides = refl;
         done = tt;
-        left = left_behind next did e.keeps (λ none. absurd (cc)) refl refl;
+        left = left_behind next did e.keeps (λ none. absurd (cc)) refl refl refl;
         exhausts = λ moved. absurd (cc);
       })
 

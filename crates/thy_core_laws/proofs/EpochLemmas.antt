@@ -10,6 +10,7 @@ use Rattle.thy_flat.specs.declared.span.Span.{Span}
 use Rattle.thy_flat.specs.Spans.{rest_of}
 use Rattle.thy_cache.specs.Contents.{Contents, hits, victim_of, is_dirty_victim}
 use Rattle.thy_hart.specs.Moments.{Moment, touch_left, left_behind, moves_left}
+use Rattle.thy_core_laws.specs.Machine.{moves_begun}
 
 -- one instruction more is within the epoch's length
 pub retired-on : (running : Bool) (span retired : ℕ) → retired < span → HasRetired span (retired + 1) (over_after running span (retired + 1))
@@ -49,3 +50,8 @@ few_behind (Retiring e wrote) = omega arith
 
 pub few-moves : (m : Moment) → moves_left m ≤ 16
 few-moves m = omega (arith, few_touches m.cache (next_block m.hart), few_behind m.hart.hand)
+
+-- so few are left whichever hart's instruction is begun
+pub few-begun : (begun : Option ℕ) (m : Moment) → moves_begun begun (moves_left m) ≤ 16
+few-begun None m = omega arith
+few-begun (Some hart) m = few-moves m

@@ -8,7 +8,7 @@ use Rattle.thy_cache.specs.declared.line.Flushed.TheVariants.{Clean, Line as Sto
 use Rattle.thy_cache.specs.Contents.{Contents, dirty_count, HasFlushed, CountsFlushed, IsOpenForFlush}
 use Rattle.thy_view.specs.declared.did.Did.TheVariants.{Flushed as DidFlush}
 use Rattle.thy_hart.specs.Laws.{Follows}
-use Rattle.thy_view.specs.Origin.{Origin, at as at_count}
+use Rattle.thy_view.specs.Origin.{Origin}
 use Rattle.thy_scheme.specs.SchemeStore.{held_by_scheme}
 use Rattle.thy_scheme.specs.Scheme.{SchemeOf, Stands}
 use Rattle.thy_scheme.specs.Calls.{Succeeds}
@@ -17,7 +17,7 @@ use Rattle.thy_core_laws.specs.Calls.{FlushCall, after_flush}
 use Rattle.thy_core_laws.specs.Machine.{Machine, moment_of}
 use Rattle.thy_core_laws.specs.Pace.{flushes_left, hart_left, cycles_left, most_spent}
 use Rattle.thy_core_laws.specs.Rows.{At, IsSealing, FlushSimulates}
-use Rattle.thy_core_laws.specs.Sound.{OpenNow, StartsFresh, SoundRun}
+use Rattle.thy_core_laws.specs.Sound.{state_in_front, OpenNow, StartsFresh, SoundRun}
 use Rattle.thy_core_laws.proofs.CacheLemmas.{line_counted, open_for_line}
 use Rattle.thy_core_laws.proofs.SealingLaws.{IsOver, over_at}
 use Rattle.thy_core_laws.proofs.KeepsLaws.{run_of, stands, runs_behind, simulates_by}
@@ -96,7 +96,7 @@ flushing K o cycles m n flushed c t new at sealing whole f =
     let holds : RunHolds K o m.marks m.scheme n = at.lawful.run_holds o m.marks m.scheme n there in
     let over : IsOver m.hart.epoch.over (K.under_way m.scheme) = over_at K o m n sealing whole in
     let opened : IsOpenForFlush m.cache (K.holding m.scheme n).open_page =
-    subst (λ x. OpenNow x m.cache m.hart (K.holding m.scheme n).open_page) over.over_is s.held.opened in
+    subst (λ x. OpenNow x m.begun m.cache m.hart (K.holding m.scheme n).open_page) over.over_is s.held.opened in
     let less : Lessens (held_by_scheme K m.scheme n) (held_by_scheme K t new) (dirty_count m.cache) (dirty_count c) =
     lessens flushed m.cache (held_by_scheme K m.scheme n) (held_by_scheme K t new) (dirty_count c) f.more opened f.store f.dirty in
     let ready : (K.holding t new).ready ≡ true = less.ready ∙ holds.ready whole in
@@ -152,10 +152,11 @@ flush_simulates {S} K = λ o cycles m n c t new flushed at sealing whole f.
         held = record {
           agree = f.agree;
           room = omega (arith, free_is, free_now, room, less_room);
-          opened = subst (λ x. OpenNow x c m.hart (K.holding t new).open_page) (sym g.over.over_is) (f.opened g.opened);
+          opened = subst (λ x. OpenNow x m.begun c m.hart (K.holding t new).open_page) (sym g.over.over_is) (f.opened g.opened);
         };
-        follows = subst (Follows o.input (at_count o m.hart.cpu.count) m.hart) (sym f.reads) s.follows;
+        follows = subst (Follows o.input (state_in_front o m) m.hart) (sym f.reads) s.follows;
         writes = s.writes;
+        front = record { there = s.front.there; rests = s.front.rests; over = s.front.over };
         counted = record { start = s.counted.start; count = s.counted.count; processor = s.counted.processor; running = s.counted.running };
         epoch = record {
           began = λ none. absurd (omega (arith, none));
@@ -166,8 +167,8 @@ flush_simulates {S} K = λ o cycles m n c t new flushed at sealing whole f.
         numbered = record { epoch = s.numbered.epoch; sealed = s.numbered.sealed; unwritten = s.numbered.unwritten };
         shown = record { done = s.shown.done; sealed = s.shown.sealed; ends = s.shown.ends };
         ended = record {
-          sealed = λ a is stops. let e = s.ended.sealed a is stops in record { count_is = e.count_is; hand = e.hand; over = e.over };
-          halted = λ is. let e = s.ended.halted is in (record { count_is = e.0.count_is; hand = e.0.hand; over = e.0.over }, e.1);
+          sealed = λ a is stops. let e = s.ended.sealed a is stops in record { count_is = e.count_is; hand = e.hand; over = e.over; begun = e.begun };
+          halted = λ is. let e = s.ended.halted is in (record { count_is = e.0.count_is; hand = e.0.hand; over = e.0.over; begun = e.0.begun }, e.1);
           live = s.ended.live;
         };
         paced = record {
@@ -186,7 +187,7 @@ flush_simulates {S} K = λ o cycles m n c t new flushed at sealing whole f.
       strides = refl;
       done = tt;
       left = record {
-        moves = λ e. omega (arith, moves_over m.phase m.hart.epoch.over g.over.cause (moment_of K next new) g.over.over_is);
+        moves = λ e. omega (arith, moves_over m.phase m.hart.epoch.over m.begun g.over.cause (moment_of K next new) g.over.over_is);
         owed = λ e. owed;
         owed_in_all = λ e. omega (arith, owed, later);
         promotions = λ e. omega (arith, promotions);

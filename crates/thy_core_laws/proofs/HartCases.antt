@@ -8,7 +8,7 @@ use Rattle.thy_base.specs.Device.{Device}
 use Rattle.thy_cache.specs.Contents.{Contents, dirty_count}
 use Rattle.thy_epoch.specs.Epoch.{Epoch, over_after, retired_once, exhausted, HasRetired}
 use Rattle.thy_isa.specs.OnBlocks.{setting_for}
-use Rattle.thy_isa.specs.Step.{state_with, is_running, step}
+use Rattle.thy_isa.specs.Step.{state_with, fronted, is_running, step}
 use Rattle.thy_hart.specs.declared.hand.Hand.{Hand}
 use Rattle.thy_hart.specs.declared.hand.Hand.TheVariants.{Nothing, Reading, Reserving, Writing, Retiring}
 use Rattle.thy_hart.specs.declared.hand.HartStep.{HartStep}
@@ -29,19 +29,19 @@ use Rattle.thy_view.specs.Kind.{without_memory}
 use Rattle.thy_view.specs.Origin.{Origin, turn_at, at, runs_at}
 use Rattle.thy_view.specs.Pace.{Gauge}
 use Rattle.thy_view.specs.Stores.{stored_by}
-use Rattle.thy_view.specs.Turn.{Shortage, over_by}
+use Rattle.thy_view.specs.Turn.{Advances, Shortage, HandsOn, begun_by, over_by}
 use Rattle.thy_view.specs.Work.{MovesOn}
 use Rattle.thy_scheme.specs.Scheme.{SchemeOf}
 use Rattle.thy_scheme.specs.Calls.{owed_in}
 use Rattle.thy_scheme.specs.SchemeStore.{held_by_scheme}
-use Rattle.thy_core_laws.specs.Machine.{Machine, run_view, view_of, moment_of, memory_of, short_of, moves_while, gauge_in}
+use Rattle.thy_core_laws.specs.Machine.{Machine, cpu_fronted, run_view, view_of, moment_of, memory_of, pressure_of, short_of, moves_begun, moves_while, gauge_in}
 use Rattle.thy_core_laws.specs.Pace.{instructions_left, flushes_left, hart_left, cycles_left}
 use Rattle.thy_core_laws.specs.Sound.{OpenNow, IsToWrite, IsFresh, StartsFresh}
-use Rattle.thy_core_laws.specs.Calls.{IsAsked, HartCall}
-use Rattle.thy_core_laws.specs.Rows.{At, HartGoes, HartSimulates}
-use Rattle.thy_view.proofs.TurnLaws.{at-step}
-use Rattle.thy_core_laws.proofs.AtLemmas.{at-count, count-current, status-current, processor-current}
-use Rattle.thy_core_laws.proofs.EpochLemmas.{retired-on, few-moves}
+use Rattle.thy_core_laws.specs.Calls.{IsAsked, HartCall, begun_by_hart, hart_did, after_hart}
+use Rattle.thy_core_laws.specs.Rows.{At, HartGoes, HartAdvances, HartSimulates, HartHandsOn}
+use Rattle.thy_core_laws.proofs.AtLemmas.{at-hart, at-count, count-current, status-current, processor-fronted}
+use Rattle.thy_core_laws.proofs.BegunLaws.{count-fronted, status-fronted, cpu-count, cpu-status, writes_nothing, is-begun}
+use Rattle.thy_core_laws.proofs.EpochLemmas.{retired-on, few-begun}
 use Rattle.thy_core_laws.proofs.HandLaws.{hand_writes}
 use Rattle.thy_core_laws.proofs.WorkLaws.{moves_over}
 use Rattle.thy_core_laws.proofs.Facts.{view-run, sound-run, holds-run, is-going}
@@ -59,7 +59,7 @@ view-is m e f i j a b se si sa = ap (λ x. view_by m x i a) se ∙ ap (λ x. vie
 -- ---- cycles that are left
 
 left-going : {S : Type 0} (K : SchemeOf S) (p : Parameters) (m : Machine S) (n : Device) → m.hart.epoch.over ≡ None
-    → cycles_left K p m n ≡ K.engine_left m.scheme + K.promotions_left m.scheme + owed_in K m.scheme n + (instructions_left (moment_of K m n) + K.most_free p + K.most_merges p)
+    → cycles_left K p m n ≡ K.engine_left m.scheme + K.promotions_left m.scheme + owed_in K m.scheme n + (instructions_left m.begun (moment_of K m n) + K.most_free p + K.most_merges p)
 left-going K p m n e = ap (λ x. K.engine_left m.scheme + K.promotions_left m.scheme + owed_in K m.scheme n + hart_left K p x m n) e
 
 left-over : {S : Type 0} (K : SchemeOf S) (p : Parameters) (m : Machine S) (n : Device) (cause : EndCause) → m.hart.epoch.over ≡ Some cause
@@ -75,22 +75,24 @@ few-flushes most dirty merges l = by_dirty (dirty == 0)
     by_dirty false = omega arith
 
 -- the instruction's, where it moved
-instructions-moved : (old new : Moment) → new.hart.epoch ≡ old.hart.epoch → moves_left new + 1 ≤ moves_left old → instructions_left new + 1 ≤ instructions_left old
-instructions-moved old new e l =
+instructions-moved : (before now : Option ℕ) (old new : Moment) → new.hart.epoch ≡ old.hart.epoch → moves_begun now (moves_left new) + 1 ≤ moves_begun before (moves_left old)
+    → instructions_left now new + 1 ≤ instructions_left before old
+instructions-moved before now old new e l =
     let same : new.hart.epoch.span - new.hart.epoch.retired - 1 ≡ old.hart.epoch.span - old.hart.epoch.retired - 1 = ap (λ (x : Epoch). x.span - x.retired - 1) e in
     omega (arith, same, l)
 
-instructions-same : (old new : Moment) → new.hart.epoch ≡ old.hart.epoch → moves_left new ≡ moves_left old → instructions_left new ≡ instructions_left old
-instructions-same old new e l =
+instructions-same : (before now : Option ℕ) (old new : Moment) → new.hart.epoch ≡ old.hart.epoch → moves_begun now (moves_left new) ≤ moves_begun before (moves_left old)
+    → instructions_left now new ≤ instructions_left before old
+instructions-same before now old new e l =
     let same : new.hart.epoch.span - new.hart.epoch.retired - 1 ≡ old.hart.epoch.span - old.hart.epoch.retired - 1 = ap (λ (x : Epoch). x.span - x.retired - 1) e in
     omega (arith, same, l)
 
 -- and where it retired, and the epoch goes on
-instructions-retired : (old new : Moment) (b : Bool) → new.hart.epoch ≡ retired_once b old.hart.epoch → old.hart.epoch.retired + 1 < old.hart.epoch.span
-    → instructions_left new + 1 ≤ instructions_left old
-instructions-retired old new b e l =
+instructions-retired : (before now : Option ℕ) (old new : Moment) (b : Bool) → new.hart.epoch ≡ retired_once b old.hart.epoch → old.hart.epoch.retired + 1 < old.hart.epoch.span
+    → instructions_left now new + 1 ≤ instructions_left before old
+instructions-retired before now old new b e l =
     let same : new.hart.epoch.span - new.hart.epoch.retired - 1 ≡ old.hart.epoch.span - (old.hart.epoch.retired + 1) - 1 = ap (λ (x : Epoch). x.span - x.retired - 1) e in
-    omega (arith, same, l, few-moves new)
+    omega (arith, same, l, few-begun now new)
 
 -- ---- what an instruction is short of
 
@@ -137,23 +139,26 @@ moved-acts K s n t new asked up = elim asked as (λ _. Acts DidMove n new) [
   | inr access ↦ record { action = access.action; asked = access.access; left = (access.succeeds up).left }
 ]
 
-moved-spent : {S : Type 0} (K : SchemeOf S) (p : Parameters) (m : Machine S) (n : Device) (lap : ℕ) (h : HartState) (c : Contents) (t : S) (new : Device)
+moved-spent : {S : Type 0} (K : SchemeOf S) (p : Parameters) (m : Machine S) (n : Device) (hart lap : ℕ) (last : Option ℕ) (h : HartState) (c : Contents) (t : S) (new : Device)
     → m.hart.epoch.over ≡ None → h.epoch ≡ m.hart.epoch → K.engine_left t ≤ K.engine_left m.scheme → K.promotions_left t ≡ 0
     → (K.holding t new).owed ≤ (K.holding m.scheme n).owed → K.owed_later t ≤ K.owed_later m.scheme
-    → ComesNearer (moment_of K m n) (moment h c (held_by_scheme K t new))
-    → cycles_left K p (hart_on lap h c t m) new + 1 ≤ cycles_left K p m n
-moved-spent K p m n lap h c t new going e engine promotions owed later nearer = elim nearer as (λ _. cycles_left K p (hart_on lap h c t m) new + 1 ≤ cycles_left K p m n) [
-  | inl less ↦
-      let i = instructions-moved (moment_of K m n) (moment h c (held_by_scheme K t new)) e less in
-      omega (arith, left-going K p m n going, left-going K p (hart_on lap h c t m) new (ap (λ (x : Epoch). x.over) e ∙ going), engine, promotions, owed, later, i)
-  | inr same ↦
-      let i = instructions-same (moment_of K m n) (moment h c (held_by_scheme K t new)) e same.0 in
-      omega (arith, left-going K p m n going, left-going K p (hart_on lap h c t m) new (ap (λ (x : Epoch). x.over) e ∙ going), engine, promotions, same.1, later, i)
-]
+    → moves_left (moment_of K (begun_by_hart hart m) n) ≤ moves_begun m.begun (moves_left (moment_of K m n))
+    → ComesNearer (moment_of K (begun_by_hart hart m) n) (moment h c (held_by_scheme K t new))
+    → cycles_left K p (hart_on hart false lap last h c t m) new + 1 ≤ cycles_left K p m n
+moved-spent K p m n hart lap last h c t new going e engine promotions owed later fewer nearer =
+    let next = hart_on hart false lap last h c t m in
+    elim nearer as (λ _. cycles_left K p next new + 1 ≤ cycles_left K p m n) [
+      | inl less ↦
+          let i = instructions-moved m.begun (Some hart) (moment_of K m n) (moment h c (held_by_scheme K t new)) e (omega (arith, less, fewer)) in
+          omega (arith, left-going K p m n going, left-going K p next new (ap (λ (x : Epoch). x.over) e ∙ going), engine, promotions, owed, later, i)
+      | inr same ↦
+          let i = instructions-same m.begun (Some hart) (moment_of K m n) (moment h c (held_by_scheme K t new)) e (omega (arith, same.0, fewer)) in
+          omega (arith, left-going K p m n going, left-going K p next new (ap (λ (x : Epoch). x.over) e ∙ going), engine, promotions, same.1, later, i)
+    ]
 
 -- while the epoch goes on its moves are those of the instruction
-going-moves : (over : Option EndCause) (x : Moment) → over ≡ None → moves_while over x ≡ moves_left x
-going-moves over x going = ap (λ o. moves_while o x) going
+going-moves : (over : Option EndCause) (begun : Option ℕ) (x : Moment) → over ≡ None → moves_while over begun x ≡ moves_begun begun (moves_left x)
+going-moves over begun x going = ap (λ o. moves_while o begun x) going
 
 -- a copy that is owed no more was written
 copy-wrote : {S : Type 0} (K : SchemeOf S) (s : S) (n : Device) (t : S) (new : Device) → IsAsked K s n t new → new.down ≡ false
@@ -164,16 +169,23 @@ copy-wrote K s n t new asked up less = elim asked as (λ _. WritesBlock n new (K
 ]
 
 -- so the hart that moved got something done
-moved-done : {S : Type 0} (K : SchemeOf S) (m : Machine S) (n : Device) (lap : ℕ) (h : HartState) (c : Contents) (t : S) (new : Device)
+moved-done : {S : Type 0} (K : SchemeOf S) (m : Machine S) (n : Device) (hart lap : ℕ) (last : Option ℕ) (h : HartState) (c : Contents) (t : S) (new : Device)
     → m.hart.epoch.over ≡ None → h.epoch.over ≡ None → IsAsked K m.scheme n t new → new.down ≡ false
-    → ComesNearer (moment_of K m n) (moment h c (held_by_scheme K t new))
-    → MovesOn (gauge_in K Run m n) (gauge_in K Run (hart_on lap h c t m) new) (WritesBlock n new (K.dram m.scheme) (K.dram t))
-moved-done K m n lap h c t new going over asked up nearer =
-    let was = going-moves m.hart.epoch.over (moment_of K m n) going in
-    let now = going-moves h.epoch.over (moment h c (held_by_scheme K t new)) over in
-    elim nearer as (λ _. MovesOn (gauge_in K Run m n) (gauge_in K Run (hart_on lap h c t m) new) (WritesBlock n new (K.dram m.scheme) (K.dram t))) [
-      | inl less ↦ inl (omega (arith, was, now, less))
-      | inr same ↦ inr (now ∙ same.0 ∙ sym was, same.1, copy-wrote K m.scheme n t new asked up same.1)
+    → moves_left (moment_of K (begun_by_hart hart m) n) ≤ moves_begun m.begun (moves_left (moment_of K m n))
+    → ComesNearer (moment_of K (begun_by_hart hart m) n) (moment h c (held_by_scheme K t new))
+    → MovesOn (gauge_in K Run m n) (gauge_in K Run (hart_on hart false lap last h c t m) new) (WritesBlock n new (K.dram m.scheme) (K.dram t))
+moved-done K m n hart lap last h c t new going over asked up fewer nearer =
+    let next = hart_on hart false lap last h c t m in
+    let was = going-moves m.hart.epoch.over m.begun (moment_of K m n) going in
+    let now = going-moves h.epoch.over (Some hart) (moment h c (held_by_scheme K t new)) over in
+    let old = moves_left (moment_of K (begun_by_hart hart m) n) in
+    let most = moves_begun m.begun (moves_left (moment_of K m n)) in
+    elim nearer as (λ _. MovesOn (gauge_in K Run m n) (gauge_in K Run next new) (WritesBlock n new (K.dram m.scheme) (K.dram t))) [
+      | inl less ↦ inl (omega (arith, was, now, less, fewer))
+      | inr same ↦ elim (cases_eq old most) as (λ _. MovesOn (gauge_in K Run m n) (gauge_in K Run next new) (WritesBlock n new (K.dram m.scheme) (K.dram t))) [
+        | inl all ↦ inr (now ∙ same.0 ∙ all ∙ sym was, same.1, copy-wrote K m.scheme n t new asked up same.1)
+        | inr other ↦ inl (omega (arith, was, now, same.0, other, fewer))
+      ]
     ]
 
 moves-on : (old new : Gauge) (W : Type 0) → MovesOn old new W → new.moves ≤ old.moves
@@ -183,55 +195,61 @@ moves-on old new W on = elim on as (λ _. new.moves ≤ old.moves) [
 ]
 
 -- what the step leaves in hand is to write what it was to write
-step-writes : {S : Type 0} (K : SchemeOf S) (o : Origin) (cycles : ℕ) (m : Machine S) (n : Device) (h : HartState) (c : Contents) (t : S) (new : Device) (s : HartStep)
-    → At K o cycles m n → HartGoes K o m n → HartCall K (given o.input (K.free m.scheme) (K.under_way m.scheme)) m n h c t new s
-    → IsToWrite (stored_by o (at o m.hart.cpu.count)) h.hand
-step-writes K o cycles m n h c t new s at-m turn hs =
-    let run = sound-run K o cycles m n at-m.sound turn.phase in
-    subst (λ (x : HartState). IsToWrite (stored_by o (at o m.hart.cpu.count)) x.hand) (sym hs.is_step.hart)
-    (hand_writes o (given o.input (K.free m.scheme) (K.under_way m.scheme)) (moment_of K m n) (at o m.hart.cpu.count) (sym at-m.sound.geometry) refl run.follows run.writes)
+step-writes : {S : Type 0} (K : SchemeOf S) (o : Origin) (cycles : ℕ) (m : Machine S) (n : Device) (hart : ℕ) (h : HartState) (c : Contents) (t : S) (new : Device) (s : HartStep)
+    → At K o cycles m n → HartAdvances K o m n hart → HartCall K (given o.input (K.free m.scheme) (K.under_way m.scheme)) (begun_by_hart hart m) n h c t new s
+    → IsToWrite (stored_by o (fronted hart (at o m.hart.cpu.count))) h.hand
+step-writes K o cycles m n hart h c t new s at-m turn hs =
+    let run = sound-run K o cycles m n at-m.sound turn.goes.phase in
+    let begun = is-begun K o m n hart run (is-going K o cycles m n at-m turn.goes).going turn.own in
+    subst (λ (x : HartState). IsToWrite (stored_by o (fronted hart (at o m.hart.cpu.count))) x.hand) (sym hs.is_step.hart)
+    (hand_writes o (given o.input (K.free m.scheme) (K.under_way m.scheme)) (moment_of K (begun_by_hart hart m) n) (fronted hart (at o m.hart.cpu.count)) (sym at-m.sound.geometry) refl begun.follows begun.writes)
 
-moved-next : {S : Type 0} (K : SchemeOf S) (o : Origin) (cycles : ℕ) (m : Machine S) (n : Device) (h : HartState) (c : Contents) (t : S) (new : Device)
-    → At K o cycles m n → HartGoes K o m n → HartCall K (given o.input (K.free m.scheme) (K.under_way m.scheme)) m n h c t new Moved
-    → IsMoved (given o.input (K.free m.scheme) (K.under_way m.scheme)) (dirty_count m.cache) m.hart h
-    → IsNext K o cycles m n (m.lap + 0) DidMove h c t new
-moved-next K o cycles m n h c t new at-m turn hs mv =
+moved-next : {S : Type 0} (K : SchemeOf S) (o : Origin) (cycles : ℕ) (m : Machine S) (n : Device) (hart : ℕ) (h : HartState) (c : Contents) (t : S) (new : Device)
+    → At K o cycles m n → HartAdvances K o m n hart → HartCall K (given o.input (K.free m.scheme) (K.under_way m.scheme)) (begun_by_hart hart m) n h c t new Moved
+    → IsMoved (given o.input (K.free m.scheme) (K.under_way m.scheme)) (dirty_count m.cache) (begun_by_hart hart m).hart h
+    → IsNext K o cycles m n hart false (m.lap + 0) m.last DidMove h c t new
+moved-next K o cycles m n hart h c t new at-m turn hs mv =
     let w = hs.is_step in
-    let run = sound-run K o cycles m n at-m.sound turn.phase in
-    let going = is-going K o cycles m n at-m turn in
-    let on = is-on K o cycles m n h c t new Moved at-m turn hs in
+    let run = sound-run K o cycles m n at-m.sound turn.goes.phase in
+    let going = is-going K o cycles m n at-m turn.goes in
+    let begun = is-begun K o m n hart run going.going turn.own in
+    let on = is-on K o cycles m n hart h c t new Moved at-m turn hs in
     let cpu = w.leads.cpu in
+    let count : h.cpu.count ≡ m.hart.cpu.count = ap (λ x. x.count) cpu ∙ begun.count in
     let over : h.epoch.over ≡ None = ap (λ (x : Epoch). x.over) mv.epoch ∙ going.going in
-    let writes = step-writes K o cycles m n h c t new Moved at-m turn hs in
-    let done = moved-done K m n (m.lap + 0) h c t new going.going over hs.asked on.up w.nears in
-    let f = follows-on (given o.input (K.free m.scheme) (K.under_way m.scheme)) (moment_of K m n) (moment h c (held_by_scheme K t new)) Moved (at o m.hart.cpu.count)
-    (run.counted.running ∙ going.runs) w run.follows in
+    let writes = step-writes K o cycles m n hart h c t new Moved at-m turn hs in
+    let done = moved-done K m n hart (m.lap + 0) m.last h c t new going.going over hs.asked on.up begun.moves w.nears in
+    let f = follows-on (given o.input (K.free m.scheme) (K.under_way m.scheme)) (moment_of K (begun_by_hart hart m) n) (moment h c (held_by_scheme K t new)) Moved (fronted hart (at o m.hart.cpu.count))
+    (ap is_running begun.status ∙ run.counted.running ∙ going.runs) w begun.follows in
     record {
       number = ap (λ (x : Epoch). x.number) mv.epoch;
       span = ap (λ (x : Epoch). x.span) mv.epoch;
       retired = subst (λ (x : Epoch). HasRetired x.span x.retired x.over) (sym mv.epoch) run.epoch.retired;
       hand = λ not-none. absurd (not-none over);
-      opened = subst (λ x. OpenNow x c h (K.holding t new).open_page) (sym over) w.ready.opened;
+      rests = λ ends. absurd (cc);
+      ends = λ not-none. absurd (not-none over);
+      opened = subst (λ x. OpenNow x (Some hart) c h (K.holding t new).open_page) (sym over) w.ready.opened;
       counted = record {
-        start = subst (λ x. o.start.count ≤ x.count) (sym cpu) run.counted.start;
-        count = subst (λ x. (at o x.count).count ≡ x.count) (sym cpu) run.counted.count;
-        processor = subst (λ x. state_with x [] [] ≡ without_memory (at o x.count)) (sym cpu) run.counted.processor;
-        running = subst (λ x. is_running x.status ≡ runs_at o x.count) (sym cpu) run.counted.running;
+        start = subst (λ i. o.start.count ≤ i) (sym count) run.counted.start;
+        count = subst (λ i. (at o i).count ≡ i) (sym count) run.counted.count;
+        processor = ap (λ x. state_with (cpu_fronted hart x) [] []) cpu ∙ ap (λ x. state_with x [] []) begun.processor
+            ∙ run.counted.processor ∙ ap (λ i. without_memory (at o i)) (sym count);
+        running = ap (λ x. is_running x.status) cpu ∙ ap is_running begun.status ∙ run.counted.running ∙ ap (runs_at o) (sym count);
       };
-      follows = subst (λ x. Follows o.input (at o x.count) h (memory_of K (hart_on (m.lap + 0) h c t m) new)) (sym cpu) f;
-      live = λ _. subst (λ x. runs_at o x.count ≡ true) (sym cpu) going.runs;
+      follows = subst (λ i. Follows o.input (fronted hart (at o i)) h (memory_of K (hart_on hart false (m.lap + 0) m.last h c t m) new)) (sym count) f;
+      live = λ _. subst (λ i. runs_at o i ≡ true) (sym count) going.runs;
       fresh =
           let old : m.hart.epoch.retired ≡ 0 → IsFresh m.hart.hand (dirty_count m.cache) (K.storeless m.scheme)
           = subst (λ x. StartsFresh x m.hart.epoch.retired m.hart.hand (dirty_count m.cache) (K.storeless m.scheme)) going.going run.paced.fresh in
           subst (λ x. StartsFresh x h.epoch.retired h.hand (dirty_count c) (K.storeless t)) (sym over)
           (λ zero. mv.fresh (dirty_count m.cache) (dirty_count c) (K.storeless m.scheme) (K.storeless t) (old (sym (ap (λ (x : Epoch). x.retired) mv.epoch) ∙ zero)) hs.tidy hs.rests);
       strides = λ idle ends. absurd (ends over);
-      writes = subst (λ x. IsToWrite (stored_by o (at o x.count)) h.hand) (sym cpu) writes;
-      spent = moved-spent K o.geometry m n (m.lap + 0) h c t new going.going mv.epoch on.engine (on.holds.promotions on.whole) w.owed on.owed_later w.nears;
+      writes = subst (λ i. IsToWrite (stored_by o (fronted hart (at o i))) h.hand) (sym count) writes;
+      spent = moved-spent K o.geometry m n hart (m.lap + 0) m.last h c t new going.going mv.epoch on.engine (on.holds.promotions on.whole) w.owed on.owed_later begun.moves w.nears;
       done = done;
-      moves = λ e. moves-on (gauge_in K Run m n) (gauge_in K Run (hart_on (m.lap + 0) h c t m) new) (WritesBlock n new (K.dram m.scheme) (K.dram t)) done;
+      moves = λ e. moves-on (gauge_in K Run m n) (gauge_in K Run (hart_on hart false (m.lap + 0) m.last h c t m) new) (WritesBlock n new (K.dram m.scheme) (K.dram t)) done;
       owed = w.owed;
-      step = (turn.phase, going.going, going.runs, inl (view-is m h.epoch m.hart.epoch h.cpu.count m.hart.cpu.count (m.lap + 0) m.lap mv.epoch (ap (λ x. x.count) cpu) (add-zero m.lap)));
+      step = (turn.goes.phase, going.going, going.runs, inl (view-is m h.epoch m.hart.epoch h.cpu.count m.hart.cpu.count (m.lap + 0) m.lap mv.epoch count (add-zero m.lap)));
       acts = moved-acts K m.scheme n t new hs.asked on.up;
       exhausts = λ _. over ∙ sym (ap over_by mv.enough);
     }
@@ -254,46 +272,52 @@ exhausted-once K o cycles m n d free dd need at-m turn way short less few same i
   | inr some ↦ omega (arith, some)
 ]
 
-over-spent : {S : Type 0} (K : SchemeOf S) (o : Origin) (m : Machine S) (n : Device) (lap : ℕ) (h : HartState) (c : Contents) (t : S) (new : Device) (cause : EndCause)
+over-spent : {S : Type 0} (K : SchemeOf S) (o : Origin) (m : Machine S) (n : Device) (hart lap : ℕ) (last : Option ℕ) (h : HartState) (c : Contents) (t : S) (new : Device) (cause : EndCause)
     → m.hart.epoch.over ≡ None → h.epoch.over ≡ Some cause → IsOn K o m n h c t new → (K.holding t new).owed ≤ (K.holding m.scheme n).owed
-    → cycles_left K o.geometry (hart_on lap h c t m) new + 1 ≤ cycles_left K o.geometry m n
-over-spent K o m n lap h c t new cause going over on owed =
+    → cycles_left K o.geometry (hart_on hart true lap last h c t m) new + 1 ≤ cycles_left K o.geometry m n
+over-spent K o m n hart lap last h c t new cause going over on owed =
     let flushes = few-flushes (K.most_merges o.geometry) (dirty_count c) (K.merges_left t) on.holds.bounded.merges in
-    omega (arith, left-going K o.geometry m n going, left-over K o.geometry (hart_on lap h c t m) new cause over, flushes, on.engine, on.holds.promotions on.whole, owed, on.owed_later, on.room, on.holds.bounded.free)
+    omega (arith, left-going K o.geometry m n going, left-over K o.geometry (hart_on hart true lap last h c t m) new cause over, flushes, on.engine, on.holds.promotions on.whole, owed, on.owed_later, on.room, on.holds.bounded.free)
 
-exhausted-next : {S : Type 0} (K : SchemeOf S) (o : Origin) (cycles : ℕ) (m : Machine S) (n : Device) (h : HartState) (c : Contents) (t : S) (new : Device) (free dd need : ℕ)
-    → At K o cycles m n → HartGoes K o m n → HartCall K (given o.input (K.free m.scheme) (K.under_way m.scheme)) m n h c t new (Over (Exhausted free dd need))
-    → IsExhausted (given o.input (K.free m.scheme) (K.under_way m.scheme)) (dirty_count m.cache) free dd need m.hart h
-    → IsNext K o cycles m n (m.lap + 0) DidMove h c t new
-exhausted-next K o cycles m n h c t new free dd need at-m turn hs ex =
+exhausted-next : {S : Type 0} (K : SchemeOf S) (o : Origin) (cycles : ℕ) (m : Machine S) (n : Device) (hart : ℕ) (h : HartState) (c : Contents) (t : S) (new : Device) (free dd need : ℕ)
+    → At K o cycles m n → HartAdvances K o m n hart → HartCall K (given o.input (K.free m.scheme) (K.under_way m.scheme)) (begun_by_hart hart m) n h c t new (Over (Exhausted free dd need))
+    → IsExhausted (given o.input (K.free m.scheme) (K.under_way m.scheme)) (dirty_count m.cache) free dd need (begun_by_hart hart m).hart h
+    → IsNext K o cycles m n hart true (m.lap + 0) m.last DidMove h c t new
+exhausted-next K o cycles m n hart h c t new free dd need at-m turn hs ex =
     let w = hs.is_step in
-    let run = sound-run K o cycles m n at-m.sound turn.phase in
-    let going = is-going K o cycles m n at-m turn in
-    let on = is-on K o cycles m n h c t new (Over (Exhausted free dd need)) at-m turn hs in
+    let run = sound-run K o cycles m n at-m.sound turn.goes.phase in
+    let going = is-going K o cycles m n at-m turn.goes in
+    let begun = is-begun K o m n hart run going.going turn.own in
+    let on = is-on K o cycles m n hart h c t new (Over (Exhausted free dd need)) at-m turn hs in
     let cpu = w.leads.cpu in
+    let count : h.cpu.count ≡ m.hart.cpu.count = ap (λ x. x.count) cpu ∙ begun.count in
+    let shown : (cpu_fronted hart h.cpu).count ≡ m.hart.cpu.count = cpu-count hart h.cpu ∙ count in
     let over : h.epoch.over ≡ Some (Exhausted free dd need) = ap (λ (x : Epoch). x.over) ex.epoch in
-    let was = going-moves m.hart.epoch.over (moment_of K m n) going.going in
-    let now : moves_while h.epoch.over (moment_of K (hart_on (m.lap + 0) h c t m) new) ≡ 0 = moves_over Run h.epoch.over (Exhausted free dd need) (moment_of K (hart_on (m.lap + 0) h c t m) new) over in
+    let was = going-moves m.hart.epoch.over m.begun (moment_of K m n) going.going in
+    let now : moves_while h.epoch.over None (moment_of K (hart_on hart true (m.lap + 0) m.last h c t m) new) ≡ 0 = moves_over Run h.epoch.over None (Exhausted free dd need) (moment_of K (hart_on hart true (m.lap + 0) m.last h c t m) new) over in
     let some = short-moves (K.free m.scheme) (dirty_count m.cache) m.hart.hand (shortage free dd need) ex.short in
-    let done : MovesOn (gauge_in K Run m n) (gauge_in K Run (hart_on (m.lap + 0) h c t m) new) (WritesBlock n new (K.dram m.scheme) (K.dram t)) =
-    inl (omega (arith, was, now, some)) in
+    let done : MovesOn (gauge_in K Run m n) (gauge_in K Run (hart_on hart true (m.lap + 0) m.last h c t m) new) (WritesBlock n new (K.dram m.scheme) (K.dram t)) =
+    inl (omega (arith, was, now, some, begun.moves)) in
     let within : m.hart.epoch.retired < m.hart.epoch.span = subst (HasRetired m.hart.epoch.span m.hart.epoch.retired) going.going run.epoch.retired in
-    let f = follows-on (given o.input (K.free m.scheme) (K.under_way m.scheme)) (moment_of K m n) (moment h c (held_by_scheme K t new)) (Over (Exhausted free dd need)) (at o m.hart.cpu.count)
-    (run.counted.running ∙ going.runs) w run.follows in
+    let f = follows-on (given o.input (K.free m.scheme) (K.under_way m.scheme)) (moment_of K (begun_by_hart hart m) n) (moment h c (held_by_scheme K t new)) (Over (Exhausted free dd need)) (fronted hart (at o m.hart.cpu.count))
+    (ap is_running begun.status ∙ run.counted.running ∙ going.runs) w begun.follows in
     record {
       number = ap (λ (x : Epoch). x.number) ex.epoch;
       span = ap (λ (x : Epoch). x.span) ex.epoch;
       retired = subst (λ (x : Epoch). HasRetired x.span x.retired x.over) (sym ex.epoch)
           (within, record { short = ex.is_short.short; some = ex.is_short.some; few = ex.is_short.most });
       hand = λ _. w.leads.hand;
-      opened = subst (λ x. OpenNow x c h (K.holding t new).open_page) (sym over) (inl w.closed);
+      rests = λ _. w.leads.hand;
+      ends = λ _. refl;
+      opened = subst (λ x. OpenNow x None c h (K.holding t new).open_page) (sym over) (inl w.closed);
       counted = record {
-        start = subst (λ x. o.start.count ≤ x.count) (sym cpu) run.counted.start;
-        count = subst (λ x. (at o x.count).count ≡ x.count) (sym cpu) run.counted.count;
-        processor = subst (λ x. state_with x [] [] ≡ without_memory (at o x.count)) (sym cpu) run.counted.processor;
-        running = subst (λ x. is_running x.status ≡ runs_at o x.count) (sym cpu) run.counted.running;
+        start = subst (λ i. o.start.count ≤ i) (sym shown) run.counted.start;
+        count = subst (λ i. (at o i).count ≡ i) (sym shown) run.counted.count;
+        processor = ap (λ x. state_with (cpu_fronted hart x) [] []) cpu ∙ ap (λ x. state_with x [] []) begun.processor
+            ∙ run.counted.processor ∙ ap (λ i. without_memory (at o i)) (sym shown);
+        running = ap is_running (cpu-status hart h.cpu) ∙ ap (λ x. is_running x.status) cpu ∙ ap is_running begun.status ∙ run.counted.running ∙ ap (runs_at o) (sym shown);
       };
-      follows = subst (λ x. Follows o.input (at o x.count) h (memory_of K (hart_on (m.lap + 0) h c t m) new)) (sym cpu) f;
+      follows = subst (λ i. Follows o.input (fronted hart (at o i)) h (memory_of K (hart_on hart true (m.lap + 0) m.last h c t m) new)) (sym count) f;
       live = λ none. absurd (cc);
       fresh = subst (λ x. StartsFresh x h.epoch.retired h.hand (dirty_count c) (K.storeless t)) (sym over)
           (λ zero.
@@ -305,19 +329,19 @@ exhausted-next K o cycles m n h c t new free dd need at-m turn hs ex =
           let tidy = hs.tidy unreserved in
           (omega (arith, tidy, clean.0), hs.rests clean.0 ∙ clean.1));
       strides = λ idle ends.
-          (let some = exhausted-once K o cycles m n (dirty_count m.cache) free dd need at-m turn ex.idle ex.short ex.is_short.short ex.is_short.most refl idle in
+          (let some = exhausted-once K o cycles m n (dirty_count m.cache) free dd need at-m turn.goes ex.idle ex.short ex.is_short.short ex.is_short.most refl idle in
           omega (arith, some, ap (λ (x : Epoch). x.retired) ex.epoch));
-      writes = subst (IsToWrite (stored_by o (at o h.cpu.count))) (sym w.leads.hand) tt;
-      spent = over-spent K o m n (m.lap + 0) h c t new (Exhausted free dd need) going.going over on w.owed;
+      writes = writes_nothing (stored_by o (fronted hart (at o h.cpu.count))) h.hand w.leads.hand;
+      spent = over-spent K o m n hart (m.lap + 0) m.last h c t new (Exhausted free dd need) going.going over on w.owed;
       done = done;
-      moves = λ e. moves-on (gauge_in K Run m n) (gauge_in K Run (hart_on (m.lap + 0) h c t m) new) (WritesBlock n new (K.dram m.scheme) (K.dram t)) done;
+      moves = λ e. moves-on (gauge_in K Run m n) (gauge_in K Run (hart_on hart true (m.lap + 0) m.last h c t m) new) (WritesBlock n new (K.dram m.scheme) (K.dram t)) done;
       owed = w.owed;
-      step = (turn.phase, going.going, going.runs, inr (free, dd, need, ex.is_short, view-is m h.epoch (exhausted free dd need m.hart.epoch) h.cpu.count m.hart.cpu.count (m.lap + 0) m.lap ex.epoch (ap (λ x. x.count) cpu) (add-zero m.lap)));
+      step = (turn.goes.phase, going.going, going.runs, inr (free, dd, need, ex.is_short, view-is m h.epoch (exhausted free dd need m.hart.epoch) (cpu_fronted hart h.cpu).count m.hart.cpu.count (m.lap + 0) m.lap ex.epoch shown (add-zero m.lap)));
       acts = moved-acts K m.scheme n t new hs.asked on.up;
       exhausts = λ _. over ∙ sym (ap over_by ex.short);
     }
 
--- ---- an instruction retires, of hart 0, whose turn it is
+-- ---- an instruction retires, of the hart whose turn it is
 
 runs-on : (running : Bool) (span retired : ℕ) → over_after running span retired ≡ None → running ≡ true
 runs-on true span retired e = refl
@@ -331,29 +355,31 @@ fresh-retired : (over : Option EndCause) (retired : ℕ) (h : Hand) (d : ℕ) (r
 fresh-retired None retired h d r some = λ zero. absurd (omega (arith, some, zero))
 fresh-retired (Some cause) retired h d r some = λ zero. absurd (omega (arith, some, zero))
 
-opened-retired : (over : Option EndCause) (c : Contents) (h : HartState) (page : Option ℕ) → OpenNow None c h page → page ≡ None → OpenNow over c h page
-opened-retired None c h page free closed = free
-opened-retired (Some cause) c h page free closed = inl closed
+opened-retired : (over : Option EndCause) (c : Contents) (h : HartState) (page : Option ℕ) → page ≡ None → OpenNow over None c h page
+opened-retired None c h page closed = closed
+opened-retired (Some cause) c h page closed = inl closed
 
-retired-next : {S : Type 0} (K : SchemeOf S) (o : Origin) (cycles : ℕ) (m : Machine S) (n : Device) (h : HartState) (c : Contents) (t : S) (new : Device) (s : HartStep) (over : Option EndCause)
-    → At K o cycles m n → HartGoes K o m n → HartCall K (given o.input (K.free m.scheme) (K.under_way m.scheme)) m n h c t new s
-    → IsRetired (brings_line (moment_of K m n)) m.hart h over
-    → HasCome o.input m.hart (memory_of K m n) h (memory_of K (hart_on (m.lap + 1) h c t m) new) → (K.holding t new).open_page ≡ None
-    → Follows o.input (step (setting_for m.hart.geometry o.input) (at o m.hart.cpu.count)) h (memory_of K (hart_on (m.lap + 1) h c t m) new)
-    → turn_at o m.hart.cpu.count ≡ 0 → IsNext K o cycles m n (m.lap + 1) (DidRetire 0) h c t new
-retired-next K o cycles m n h c t new s over at-m turn hs rt come closed f mine =
+retired-next : {S : Type 0} (K : SchemeOf S) (o : Origin) (cycles : ℕ) (m : Machine S) (n : Device) (hart : ℕ) (h : HartState) (c : Contents) (t : S) (new : Device) (s : HartStep) (over : Option EndCause)
+    → At K o cycles m n → HartAdvances K o m n hart → HartCall K (given o.input (K.free m.scheme) (K.under_way m.scheme)) (begun_by_hart hart m) n h c t new s
+    → IsRetired (brings_line (moment_of K (begun_by_hart hart m) n)) (begun_by_hart hart m).hart h over
+    → HasCome o.input (begun_by_hart hart m).hart (memory_of K m n) h (memory_of K (hart_on hart true (m.lap + 1) (Some hart) h c t m) new) → (K.holding t new).open_page ≡ None
+    → Follows o.input (step (setting_for m.hart.geometry o.input) (fronted hart (at o m.hart.cpu.count))) h (memory_of K (hart_on hart true (m.lap + 1) (Some hart) h c t m) new)
+    → turn_at o m.hart.cpu.count ≡ hart → IsNext K o cycles m n hart true (m.lap + 1) (Some hart) (DidRetire hart) h c t new
+retired-next K o cycles m n hart h c t new s over at-m turn hs rt come closed f mine =
     let w = hs.is_step in
-    let run = sound-run K o cycles m n at-m.sound turn.phase in
-    let going = is-going K o cycles m n at-m turn in
-    let on = is-on K o cycles m n h c t new s at-m turn hs in
+    let run = sound-run K o cycles m n at-m.sound turn.goes.phase in
+    let going = is-going K o cycles m n at-m turn.goes in
+    let begun = is-begun K o m n hart run going.going turn.own in
+    let on = is-on K o cycles m n hart h c t new s at-m turn hs in
     let k = m.hart.cpu.count in
-    let memory = memory_of K (hart_on (m.lap + 1) h c t m) new in
-    let next : step (setting_for m.hart.geometry o.input) (at o k) ≡ at o (k + 1)
-    = ap (λ (p : Parameters). step (setting_for p o.input) (at o k)) at-m.sound.geometry ∙ sym (at-step o k run.counted.start mine) in
-    let is : current h memory ≡ at o (k + 1) = come.current ∙ run.follows.coming (run.counted.running ∙ going.runs) ∙ next in
-    let count-at : (at o (k + 1)).count ≡ k + 1 = at-count o k run.counted.start mine run.counted.count going.runs in
-    let count : h.cpu.count ≡ k + 1 = sym (count-current h memory) ∙ ap (λ x. x.count) is ∙ count-at in
-    let running : is_running h.cpu.status ≡ runs_at o (k + 1) = ap is_running (sym (status-current h memory)) ∙ ap (λ x. is_running x.status) is in
+    let memory = memory_of K (hart_on hart true (m.lap + 1) (Some hart) h c t m) new in
+    let next : step (setting_for m.hart.geometry o.input) (fronted hart (at o k)) ≡ fronted hart (at o (k + 1))
+    = ap (λ (p : Parameters). step (setting_for p o.input) (fronted hart (at o k))) at-m.sound.geometry ∙ sym (at-hart o k hart run.counted.start mine) in
+    let is : current h memory ≡ fronted hart (at o (k + 1)) = come.current ∙ begun.follows.coming (ap is_running begun.status ∙ run.counted.running ∙ going.runs) ∙ next in
+    let count-at : (at o (k + 1)).count ≡ k + 1 = at-count o k hart run.counted.start mine run.counted.count going.runs in
+    let count : h.cpu.count ≡ k + 1 = sym (count-current h memory) ∙ ap (λ x. x.count) is ∙ count-fronted hart (at o (k + 1)) ∙ count-at in
+    let shown : (cpu_fronted hart h.cpu).count ≡ k + 1 = cpu-count hart h.cpu ∙ count in
+    let running : is_running h.cpu.status ≡ runs_at o (k + 1) = ap is_running (sym (status-current h memory)) ∙ ap (λ x. is_running x.status) is ∙ ap is_running (status-fronted hart (at o (k + 1))) in
     let within : m.hart.epoch.retired < m.hart.epoch.span = subst (HasRetired m.hart.epoch.span m.hart.epoch.retired) going.going run.epoch.retired in
     let has : HasRetired h.epoch.span h.epoch.retired h.epoch.over
     = subst (λ (x : Epoch). HasRetired x.span x.retired x.over) (sym rt.epoch) (retired-on (is_running h.cpu.status) m.hart.epoch.span m.hart.epoch.retired within) in
@@ -363,29 +389,31 @@ retired-next K o cycles m n h c t new s over at-m turn hs rt come closed f mine 
       span = ap (λ (x : Epoch). x.span) rt.epoch;
       retired = has;
       hand = λ _. come.hand;
-      opened = opened-retired h.epoch.over c h (K.holding t new).open_page w.ready.opened closed;
+      rests = λ _. come.hand;
+      ends = λ _. refl;
+      opened = opened-retired h.epoch.over c h (K.holding t new).open_page closed;
       counted = record {
-        start = omega (arith, run.counted.start, count);
-        count = subst (λ x. (at o x).count ≡ x) (sym count) count-at;
-        processor = processor-current h memory (at o (k + 1)) is ∙ ap (λ x. without_memory (at o x)) (sym count);
-        running = running ∙ ap (runs_at o) (sym count);
+        start = omega (arith, run.counted.start, shown);
+        count = subst (λ x. (at o x).count ≡ x) (sym shown) count-at;
+        processor = processor-fronted hart h memory (at o (k + 1)) is ∙ ap (λ x. without_memory (at o x)) (sym shown);
+        running = ap is_running (cpu-status hart h.cpu) ∙ running ∙ ap (runs_at o) (sym shown);
       };
-      follows = subst (λ x. Follows o.input (at o x) h memory) (sym count) (subst (λ x. Follows o.input x h memory) next f);
+      follows = subst (λ x. Follows o.input (fronted hart (at o x)) h memory) (sym count) (subst (λ x. Follows o.input x h memory) next f);
       live = λ none. ap (runs_at o) count ∙ sym running ∙ runs-on (is_running h.cpu.status) m.hart.epoch.span (m.hart.epoch.retired + 1) (sym over-after ∙ none);
       fresh = fresh-retired h.epoch.over h.epoch.retired h.hand (dirty_count c) (K.storeless t) (omega (arith, ap (λ (x : Epoch). x.retired) rt.epoch));
       strides = λ idle ends. omega (arith, ap (λ (x : Epoch). x.retired) rt.epoch);
-      writes = subst (IsToWrite (stored_by o (at o h.cpu.count))) (sym come.hand) tt;
+      writes = subst (IsToWrite (stored_by o (fronted hart (at o h.cpu.count)))) (sym come.hand) tt;
       spent = retired-spent over rt has going.going on w.owed;
       done = tt;
       moves = λ e. absurd (cc);
       owed = w.owed;
       step = record {
         turn = mine;
-        phase = turn.phase;
+        phase = turn.goes.phase;
         over = going.going;
         runs = going.runs;
         becomes =
-            view-is m h.epoch (retired_once (is_running h.cpu.status) m.hart.epoch) h.cpu.count (k + 1) (m.lap + 1) (m.lap + 1) rt.epoch count refl
+            view-is m h.epoch (retired_once (is_running h.cpu.status) m.hart.epoch) (cpu_fronted hart h.cpu).count (k + 1) (m.lap + 1) (m.lap + 1) rt.epoch shown refl
             ∙ ap (λ x. record (busier (run_view m)) { count = k + 1; retired = m.hart.epoch.retired + 1; lap = m.lap + 1; over = x })
             (over-same o (is_running h.cpu.status) m.hart.epoch.span (m.hart.epoch.retired + 1) (k + 1) running run.epoch.span);
       };
@@ -393,15 +421,15 @@ retired-next K o cycles m n h c t new s over at-m turn hs rt come closed f mine 
       exhausts = λ e. absurd (cc);
     }
   where
-    retired-spent : (over : Option EndCause) → IsRetired (brings_line (moment_of K m n)) m.hart h over → HasRetired h.epoch.span h.epoch.retired h.epoch.over
+    retired-spent : (over : Option EndCause) → IsRetired (brings_line (moment_of K (begun_by_hart hart m) n)) (begun_by_hart hart m).hart h over → HasRetired h.epoch.span h.epoch.retired h.epoch.over
         → m.hart.epoch.over ≡ None → IsOn K o m n h c t new → (K.holding t new).owed ≤ (K.holding m.scheme n).owed
-        → cycles_left K o.geometry (hart_on (m.lap + 1) h c t m) new + 1 ≤ cycles_left K o.geometry m n
+        → cycles_left K o.geometry (hart_on hart true (m.lap + 1) (Some hart) h c t m) new + 1 ≤ cycles_left K o.geometry m n
     retired-spent None rt has going on owed =
         let less : h.epoch.retired < h.epoch.span = subst (HasRetired h.epoch.span h.epoch.retired) rt.over_is has in
-        let i = instructions-retired (moment_of K m n) (moment h c (held_by_scheme K t new)) (is_running h.cpu.status) rt.epoch
+        let i = instructions-retired m.begun None (moment_of K m n) (moment_of K (hart_on hart true (m.lap + 1) (Some hart) h c t m) new) (is_running h.cpu.status) rt.epoch
         (omega (arith, less, ap (λ (x : Epoch). x.retired) rt.epoch, ap (λ (x : Epoch). x.span) rt.epoch)) in
-        omega (arith, left-going K o.geometry m n going, left-going K o.geometry (hart_on (m.lap + 1) h c t m) new rt.over_is, on.engine, on.holds.promotions on.whole, owed, on.owed_later, i)
-    retired-spent (Some cause) rt has going on owed = over-spent K o m n (m.lap + 1) h c t new cause going rt.over_is on owed
+        omega (arith, left-going K o.geometry m n going, left-going K o.geometry (hart_on hart true (m.lap + 1) (Some hart) h c t m) new rt.over_is, on.engine, on.holds.promotions on.whole, owed, on.owed_later, i)
+    retired-spent (Some cause) rt has going on owed = over-spent K o m n hart (m.lap + 1) (Some hart) h c t new cause going rt.over_is on owed
 
 -- ---- by the answer
 
@@ -412,48 +440,71 @@ told-step K g m n h c t new s hs =
     subst (λ x. Told x (brings_line old) g (dirty_count m.cache) m.hart h) (sym hs.is_step.says)
     (subst (Told (answer_to g old) (brings_line old) g (dirty_count m.cache) m.hart) (sym hs.is_step.hart) (told g old))
 
-follows-step : {S : Type 0} (K : SchemeOf S) (o : Origin) (cycles : ℕ) (m : Machine S) (n : Device) (h : HartState) (c : Contents) (t : S) (new : Device) (s : HartStep)
-    → At K o cycles m n → HartGoes K o m n → HartCall K (given o.input (K.free m.scheme) (K.under_way m.scheme)) m n h c t new s
-    → Follows o.input (state_after s (at o m.hart.cpu.count) (step (setting_for m.hart.geometry o.input) (at o m.hart.cpu.count))) h (memory_of K (hart_on (m.lap + 1) h c t m) new)
-follows-step K o cycles m n h c t new s at-m turn hs =
-    let run = sound-run K o cycles m n at-m.sound turn.phase in
-    follows-on (given o.input (K.free m.scheme) (K.under_way m.scheme)) (moment_of K m n) (moment h c (held_by_scheme K t new)) s (at o m.hart.cpu.count)
-    (run.counted.running ∙ (is-going K o cycles m n at-m turn).runs) hs.is_step run.follows
+follows-step : {S : Type 0} (K : SchemeOf S) (o : Origin) (cycles : ℕ) (m : Machine S) (n : Device) (hart : ℕ) (h : HartState) (c : Contents) (t : S) (new : Device) (s : HartStep)
+    → At K o cycles m n → HartAdvances K o m n hart → HartCall K (given o.input (K.free m.scheme) (K.under_way m.scheme)) (begun_by_hart hart m) n h c t new s
+    → Follows o.input (state_after s (fronted hart (at o m.hart.cpu.count)) (step (setting_for m.hart.geometry o.input) (fronted hart (at o m.hart.cpu.count)))) h (memory_of K (hart_on hart true (m.lap + 1) (Some hart) h c t m) new)
+follows-step K o cycles m n hart h c t new s at-m turn hs =
+    let run = sound-run K o cycles m n at-m.sound turn.goes.phase in
+    let going = is-going K o cycles m n at-m turn.goes in
+    let begun = is-begun K o m n hart run going.going turn.own in
+    follows-on (given o.input (K.free m.scheme) (K.under_way m.scheme)) (moment_of K (begun_by_hart hart m) n) (moment h c (held_by_scheme K t new)) s (fronted hart (at o m.hart.cpu.count))
+    (ap is_running begun.status ∙ run.counted.running ∙ going.runs) hs.is_step begun.follows
 
-no-wait : {S : Type 0} (K : SchemeOf S) (o : Origin) (cycles : ℕ) (m : Machine S) (n : Device) → At K o cycles m n → HartGoes K o m n
-    → IsWaiting (given o.input (K.free m.scheme) (K.under_way m.scheme)) (dirty_count m.cache) m.hart → ⊥
-no-wait K o cycles m n at-m turn wait =
+no-wait : {S : Type 0} (K : SchemeOf S) (o : Origin) (cycles : ℕ) (m : Machine S) (n : Device) (hart : ℕ) → At K o cycles m n → HartGoes K o m n
+    → IsWaiting (given o.input (K.free m.scheme) (K.under_way m.scheme)) (dirty_count m.cache) (begun_by_hart hart m).hart → ⊥
+no-wait K o cycles m n hart at-m turn wait =
     let going = is-going K o cycles m n at-m turn in
     let no : is_some (short_of (K.free m.scheme) (dirty_count m.cache) m.hart.hand) ≡ false = ap is_some (going.enough wait.way) in
     let yes = wait.short in
     cc
 
 -- the turn at the view's count is that at the hart's
-turn-here : {S : Type 0} (K : SchemeOf S) (o : Origin) (m : Machine S) (n : Device) → m.phase ≡ Run → turn_at o (view_of K o m n).count ≡ 0
-    → turn_at o m.hart.cpu.count ≡ 0
-turn-here K o m n phase mine = subst (λ (v : View). turn_at o v.count ≡ 0) (view-run K o m n phase) mine
+turn-here : {S : Type 0} (K : SchemeOf S) (o : Origin) (m : Machine S) (n : Device) (hart : ℕ) → m.phase ≡ Run → turn_at o (view_of K o m n).count ≡ hart
+    → turn_at o m.hart.cpu.count ≡ hart
+turn-here K o m n hart phase mine = subst (λ (v : View). turn_at o v.count ≡ hart) (view-run K o m n phase) mine
 
 pub hart-simulates : {S : Type 0} (K : SchemeOf S) → HartSimulates K
-hart-simulates {S} K o cycles m n h c t new Moved at-m turn hs mine =
-    simulates-next K o cycles m n (m.lap + 0) DidMove h c t new Moved at-m turn hs (inl refl)
-    (moved-next K o cycles m n h c t new at-m turn hs (told-step K (given o.input (K.free m.scheme) (K.under_way m.scheme)) m n h c t new Moved hs))
-hart-simulates {S} K o cycles m n h c t new Retired at-m turn hs mine =
-    simulates-next K o cycles m n (m.lap + 1) (DidRetire 0) h c t new Retired at-m turn hs (inr refl)
-    (retired-next K o cycles m n h c t new Retired None at-m turn hs (told-step K (given o.input (K.free m.scheme) (K.under_way m.scheme)) m n h c t new Retired hs)
-    hs.is_step.leads hs.is_step.closed (follows-step K o cycles m n h c t new Retired at-m turn hs)
-    (turn-here K o m n turn.phase mine))
-hart-simulates {S} K o cycles m n h c t new Waiting at-m turn hs mine =
-    absurd (no-wait K o cycles m n at-m turn (told-step K (given o.input (K.free m.scheme) (K.under_way m.scheme)) m n h c t new Waiting hs))
-hart-simulates {S} K o cycles m n h c t new (Over Length) at-m turn hs mine =
-    simulates-next K o cycles m n (m.lap + 1) (DidRetire 0) h c t new (Over Length) at-m turn hs (inr refl)
-    (retired-next K o cycles m n h c t new (Over Length) (Some Length) at-m turn hs (told-step K (given o.input (K.free m.scheme) (K.under_way m.scheme)) m n h c t new (Over Length) hs)
-    hs.is_step.leads hs.is_step.closed (follows-step K o cycles m n h c t new (Over Length) at-m turn hs)
-    (turn-here K o m n turn.phase mine))
-hart-simulates {S} K o cycles m n h c t new (Over (Exhausted free dd need)) at-m turn hs mine =
-    simulates-next K o cycles m n (m.lap + 0) DidMove h c t new (Over (Exhausted free dd need)) at-m turn hs (inl refl)
-    (exhausted-next K o cycles m n h c t new free dd need at-m turn hs (told-step K (given o.input (K.free m.scheme) (K.under_way m.scheme)) m n h c t new (Over (Exhausted free dd need)) hs))
-hart-simulates {S} K o cycles m n h c t new (Over Ended) at-m turn hs mine =
-    simulates-next K o cycles m n (m.lap + 1) (DidRetire 0) h c t new (Over Ended) at-m turn hs (inr refl)
-    (retired-next K o cycles m n h c t new (Over Ended) (Some Ended) at-m turn hs (told-step K (given o.input (K.free m.scheme) (K.under_way m.scheme)) m n h c t new (Over Ended) hs)
-    hs.is_step.leads hs.is_step.closed (follows-step K o cycles m n h c t new (Over Ended) at-m turn hs)
-    (turn-here K o m n turn.phase mine))
+hart-simulates {S} K o cycles m n hart h c t new Moved at-m turn hs mine =
+    simulates-next K o cycles m n hart false (m.lap + 0) m.last DidMove h c t new Moved at-m turn hs (inl refl)
+    (moved-next K o cycles m n hart h c t new at-m turn hs (told-step K (given o.input (K.free m.scheme) (K.under_way m.scheme)) (begun_by_hart hart m) n h c t new Moved hs))
+hart-simulates {S} K o cycles m n hart h c t new Retired at-m turn hs mine =
+    simulates-next K o cycles m n hart true (m.lap + 1) (Some hart) (DidRetire hart) h c t new Retired at-m turn hs (inr refl)
+    (retired-next K o cycles m n hart h c t new Retired None at-m turn hs (told-step K (given o.input (K.free m.scheme) (K.under_way m.scheme)) (begun_by_hart hart m) n h c t new Retired hs)
+    hs.is_step.leads hs.is_step.closed (follows-step K o cycles m n hart h c t new Retired at-m turn hs)
+    (turn-here K o m n hart turn.goes.phase mine))
+hart-simulates {S} K o cycles m n hart h c t new Waiting at-m turn hs mine =
+    absurd (no-wait K o cycles m n hart at-m turn.goes (told-step K (given o.input (K.free m.scheme) (K.under_way m.scheme)) (begun_by_hart hart m) n h c t new Waiting hs))
+hart-simulates {S} K o cycles m n hart h c t new (Over Length) at-m turn hs mine =
+    simulates-next K o cycles m n hart true (m.lap + 1) (Some hart) (DidRetire hart) h c t new (Over Length) at-m turn hs (inr refl)
+    (retired-next K o cycles m n hart h c t new (Over Length) (Some Length) at-m turn hs (told-step K (given o.input (K.free m.scheme) (K.under_way m.scheme)) (begun_by_hart hart m) n h c t new (Over Length) hs)
+    hs.is_step.leads hs.is_step.closed (follows-step K o cycles m n hart h c t new (Over Length) at-m turn hs)
+    (turn-here K o m n hart turn.goes.phase mine))
+hart-simulates {S} K o cycles m n hart h c t new (Over (Exhausted free dd need)) at-m turn hs mine =
+    simulates-next K o cycles m n hart true (m.lap + 0) m.last DidMove h c t new (Over (Exhausted free dd need)) at-m turn hs (inl refl)
+    (exhausted-next K o cycles m n hart h c t new free dd need at-m turn hs (told-step K (given o.input (K.free m.scheme) (K.under_way m.scheme)) (begun_by_hart hart m) n h c t new (Over (Exhausted free dd need)) hs))
+hart-simulates {S} K o cycles m n hart h c t new (Over Ended) at-m turn hs mine =
+    simulates-next K o cycles m n hart true (m.lap + 1) (Some hart) (DidRetire hart) h c t new (Over Ended) at-m turn hs (inr refl)
+    (retired-next K o cycles m n hart h c t new (Over Ended) (Some Ended) at-m turn hs (told-step K (given o.input (K.free m.scheme) (K.under_way m.scheme)) (begun_by_hart hart m) n h c t new (Over Ended) hs)
+    hs.is_step.leads hs.is_step.closed (follows-step K o cycles m n hart h c t new (Over Ended) at-m turn hs)
+    (turn-here K o m n hart turn.goes.phase mine))
+
+-- ---- whose instruction is begun then
+
+-- by the hand that a hart's step left in hand, and what it was short of
+hands-by : {S : Type 0} (K : SchemeOf S) (o : Origin) (cycles : ℕ) (m : Machine S) (n : Device) (hart : ℕ) (h : HartState) (c : Contents) (t : S) (new : Device) (s : HartStep)
+    → At K o cycles m n → HartAdvances K o m n hart
+    → Told s (brings_line (moment_of K (begun_by_hart hart m) n)) (given o.input (K.free m.scheme) (K.under_way m.scheme)) (dirty_count m.cache) (begun_by_hart hart m).hart h
+    → HandsOn (Advances hart) (hart_did hart s) (pressure_of K m) (pressure_of K (after_hart hart s h c t m))
+hands-by K o cycles m n hart h c t new Moved at-m turn mv =
+    record { begun_is = ap (λ x. begun_by x hart) (sym mv.enough); last_is = refl }
+hands-by K o cycles m n hart h c t new Retired at-m turn rt = record { begun_is = refl; last_is = refl }
+hands-by K o cycles m n hart h c t new Waiting at-m turn wait = absurd (no-wait K o cycles m n hart at-m turn.goes wait)
+hands-by K o cycles m n hart h c t new (Over Length) at-m turn rt = record { begun_is = refl; last_is = refl }
+hands-by K o cycles m n hart h c t new (Over (Exhausted free dd need)) at-m turn ex =
+    record { begun_is = ap (λ x. begun_by x hart) (sym ex.short); last_is = refl }
+hands-by K o cycles m n hart h c t new (Over Ended) at-m turn rt = record { begun_is = refl; last_is = refl }
+
+pub hart-hands-on : {S : Type 0} (K : SchemeOf S) → HartHandsOn K
+hart-hands-on K o cycles m n hart h c t new s at-m turn hs =
+    hands-by K o cycles m n hart h c t new s at-m turn
+    (told-step K (given o.input (K.free m.scheme) (K.under_way m.scheme)) (begun_by_hart hart m) n h c t new s hs)

@@ -1,5 +1,6 @@
 -- A step of the hart leads to the next moment.
-use Rattle.std.proofs.Common.{◌≡◌, ◌≢◌, ◌⊎◌, ℕ, ◌+◌, ◌<◌, ◌≤◌, not, true, false, length, None, refl, sym, ◌∙◌, ap, subst, arith, inl, inr}
+use Rattle.std.proofs.Common.{◌≡◌, ◌≢◌, ◌⊎◌, ℕ, ◌+◌, ◌<◌, ◌≤◌, not, Bool, true, false, if◌then◌else◌, length, Option, Some, None, refl, sym, ◌∙◌, ap, subst, arith, inl, inr}
+use Rattle.thy_base.specs.declared.cause.EndCause.{EndCause}
 use Rattle.thy_base.specs.Device.{Device}
 use Rattle.thy_cache.specs.Contents.{Contents, dirty_count}
 use Rattle.thy_dram.specs.Contents.{Contents as DramContents}
@@ -25,17 +26,28 @@ use Rattle.thy_view.proofs.ActionLemmas.{acts_by}
 use Rattle.thy_scheme.specs.Scheme.{SchemeOf}
 use Rattle.thy_scheme.specs.Calls.{queued_in, OwesNoMore}
 use Rattle.thy_scheme.specs.Laws.{RunHolds}
-use Rattle.thy_core_laws.specs.Machine.{Machine, run_view, view_of, moment_of, memory_of, shortage_of, moves_while, gauge_in, gauge_of, has_read_in}
+use Rattle.thy_core_laws.specs.Machine.{Machine, cpu_fronted, run_view, view_of, moment_of, memory_of, shortage_of, moves_while, gauge_in, gauge_of, has_read_in}
 use Rattle.thy_core_laws.specs.Pace.{cycles_left, most_spent}
-use Rattle.thy_core_laws.specs.Sound.{IsSmall, OpenNow, IsToWrite, IsCounted, StartsFresh, IsPaced, SoundRun, SoundIn}
-use Rattle.thy_core_laws.specs.Calls.{IsAsked, HartCall}
-use Rattle.thy_core_laws.specs.Rows.{SimulatesCycle, At, HartGoes}
+use Rattle.thy_core_laws.specs.Sound.{IsSmall, OpenNow, IsFront, state_in_front, IsToWrite, IsCounted, StartsFresh, IsPaced, SoundRun, SoundIn}
+use Rattle.thy_core_laws.specs.Calls.{IsAsked, HartCall, begun_by_hart}
+use Rattle.thy_core_laws.specs.Rows.{SimulatesCycle, At, HartAdvances}
+use Rattle.thy_cache.specs.Flat.{flat}
+use Rattle.thy_isa.specs.Step.{fronted}
+use Rattle.thy_core_laws.proofs.BegunLaws.{fronted-twice, cpu-count, fronts-on, writes_nothing}
 use Rattle.thy_core_laws.proofs.Facts.{view-run, sound-run, is-going}
 use Rattle.thy_core_laws.proofs.SmallLaws.{small_step}
 
--- the machine after a step, which had retired so many instructions since the seal
-abbrev pub hart_on : {S : Type 0} → ℕ → HartState → Contents → S → Machine S → Machine S
-hart_on lap h c t m = record m { hart = h; cache = c; scheme = t; spent = m.spent + 1; lap = lap }
+-- the machine after a step of a hart, which had retired so many instructions since the seal; its instruction may have ended
+abbrev pub hart_on : {S : Type 0} → ℕ → Bool → ℕ → Option ℕ → HartState → Contents → S → Machine S → Machine S
+hart_on hart ended lap last h c t m = record m {
+  hart = record h { cpu = if ended then cpu_fronted hart h.cpu else h.cpu };
+  cache = c;
+  scheme = t;
+  spent = m.spent + 1;
+  lap = lap;
+  begun = if ended then None else Some hart;
+  last = last;
+}
 
 -- what does not depend on the answer
 pub record IsOn {S : Type 0} (K : SchemeOf S) (o : Origin) (m : Machine S) (n : Device) (h : HartState) (c : Contents) (t : S) (new : Device) : Type 0 where
@@ -63,13 +75,13 @@ queue-asked K s n t new asked up = elim asked as (λ _. queued_in K t new ≤ qu
   | inr access ↦ (access.succeeds up).queue
 ]
 
-pub is-on : {S : Type 0} (K : SchemeOf S) (o : Origin) (cycles : ℕ) (m : Machine S) (n : Device) (h : HartState) (c : Contents) (t : S) (new : Device) (s : HartStep)
-    → At K o cycles m n → HartGoes K o m n → HartCall K (given o.input (K.free m.scheme) (K.under_way m.scheme)) m n h c t new s → IsOn K o m n h c t new
-is-on K o cycles m n h c t new s at turn hs =
+pub is-on : {S : Type 0} (K : SchemeOf S) (o : Origin) (cycles : ℕ) (m : Machine S) (n : Device) (hart : ℕ) (h : HartState) (c : Contents) (t : S) (new : Device) (s : HartStep)
+    → At K o cycles m n → HartAdvances K o m n hart → HartCall K (given o.input (K.free m.scheme) (K.under_way m.scheme)) (begun_by_hart hart m) n h c t new s → IsOn K o m n h c t new
+is-on K o cycles m n hart h c t new s at turn hs =
     let l = at.lawful in
     let w = hs.is_step in
-    let run = sound-run K o cycles m n at.sound turn.phase in
-    let going = is-going K o cycles m n at turn in
+    let run = sound-run K o cycles m n at.sound turn.goes.phase in
+    let going = is-going K o cycles m n at turn.goes in
     let up = l.ready_up t new w.ready.ready in
     let stays = l.stays_sound o m.marks m.scheme n t new (record { sound = run.checkpoints; up = at.sound.up }) going.free hs.stays in
     record {
@@ -89,57 +101,61 @@ is-on K o cycles m n h c t new s at turn hs =
 -- ---- the next moment, by what is known of the hart
 
 -- what depends on it
-pub record IsNext {S : Type 0} (K : SchemeOf S) (o : Origin) (cycles : ℕ) (m : Machine S) (n : Device) (lap : ℕ) (did : Did) (h : HartState) (c : Contents) (t : S) (new : Device) : Type 0 where
+pub record IsNext {S : Type 0} (K : SchemeOf S) (o : Origin) (cycles : ℕ) (m : Machine S) (n : Device) (hart : ℕ) (ended : Bool) (lap : ℕ) (last : Option ℕ) (did : Did) (h : HartState) (c : Contents) (t : S) (new : Device) : Type 0 where
   pub number : h.epoch.number ≡ m.hart.epoch.number
   pub span : h.epoch.span ≡ m.hart.epoch.span
   pub retired : HasRetired h.epoch.span h.epoch.retired h.epoch.over
   pub hand : h.epoch.over ≢ None → h.hand ≡ Nothing
-  pub opened : OpenNow h.epoch.over c h (K.holding t new).open_page
-  pub counted : IsCounted o (hart_on lap h c t m)
-  pub follows : Follows o.input (at o h.cpu.count) h (memory_of K (hart_on lap h c t m) new)
-  pub writes : IsToWrite (stored_by o (at o h.cpu.count)) h.hand
+  pub opened : OpenNow h.epoch.over (if ended then None else Some hart) c h (K.holding t new).open_page
+  -- an instruction that has ended is not in hand; and it has if the epoch is over
+  pub rests : ended ≡ true → h.hand ≡ Nothing
+  pub ends : h.epoch.over ≢ None → ended ≡ true
+  pub counted : IsCounted o (hart_on hart ended lap last h c t m)
+  pub follows : Follows o.input (fronted hart (at o h.cpu.count)) h (memory_of K (hart_on hart ended lap last h c t m) new)
+  pub writes : IsToWrite (stored_by o (fronted hart (at o h.cpu.count))) h.hand
   pub live : h.epoch.over ≡ None → runs_at o h.cpu.count ≡ true
   pub fresh : StartsFresh h.epoch.over h.epoch.retired h.hand (dirty_count c) (K.storeless t)
   pub strides : m.idle ≡ true → h.epoch.over ≢ None → 1 ≤ h.epoch.retired
-  pub spent : cycles_left K o.geometry (hart_on lap h c t m) new + 1 ≤ cycles_left K o.geometry m n
-  pub step : CoreStep o (run_view m) did (run_view (hart_on lap h c t m))
+  pub spent : cycles_left K o.geometry (hart_on hart ended lap last h c t m) new + 1 ≤ cycles_left K o.geometry m n
+  pub step : CoreStep o (run_view m) did (run_view (hart_on hart ended lap last h c t m))
   pub acts : Acts did n new
-  pub done : GetsDone did (gauge_in K Run m n) (gauge_in K Run (hart_on lap h c t m) new) (WritesBlock n new (K.dram m.scheme) (K.dram t))
+  pub done : GetsDone did (gauge_in K Run m n) (gauge_in K Run (hart_on hart ended lap last h c t m) new) (WritesBlock n new (K.dram m.scheme) (K.dram t))
   pub moves : begins_instruction did ≡ false
-      → moves_while h.epoch.over (moment_of K (hart_on lap h c t m) new) ≤ moves_while m.hart.epoch.over (moment_of K m n)
+      → moves_while h.epoch.over (if ended then None else Some hart) (moment_of K (hart_on hart ended lap last h c t m) new) ≤ moves_while m.hart.epoch.over m.begun (moment_of K m n)
   pub owed : OwesNoMore K m.scheme n t new
   pub exhausts : did ≡ DidMove → h.epoch.over ≡ over_by (shortage_of K m)
 
 -- a hart's step is told as one
-abbrev pub IsHarts : Did → Type 0
-IsHarts did = (did ≡ DidMove) ⊎ (did ≡ DidRetire 0)
+abbrev pub IsHarts : ℕ → Did → Type 0
+IsHarts hart did = (did ≡ DidMove) ⊎ (did ≡ DidRetire hart)
 
-harts-dram : (did : Did) (n new : Device) (old now : DramContents) → IsHarts did → ActsOnDram n new old now → LeavesDram did n new old now
-harts-dram did n new old now harts acts = elim harts as (λ _. LeavesDram did n new old now) [
+harts-dram : (hart : ℕ) (did : Did) (n new : Device) (old now : DramContents) → IsHarts hart did → ActsOnDram n new old now → LeavesDram did n new old now
+harts-dram hart did n new old now harts acts = elim harts as (λ _. LeavesDram did n new old now) [
   | inl e ↦ subst (λ d. LeavesDram d n new old now) (sym e) acts
   | inr e ↦ subst (λ d. LeavesDram d n new old now) (sym e) acts
 ]
 
-next-run : {S : Type 0} (K : SchemeOf S) (o : Origin) (cycles : ℕ) (m : Machine S) (n : Device) (lap : ℕ) (did : Did) (h : HartState) (c : Contents) (t : S) (new : Device) (s : HartStep)
-    → At K o cycles m n → HartGoes K o m n → HartCall K (given o.input (K.free m.scheme) (K.under_way m.scheme)) m n h c t new s
-    → IsNext K o cycles m n lap did h c t new → SoundRun K o (hart_on lap h c t m) new
-next-run K o cycles m n lap did h c t new s at turn hs x =
-    let run = sound-run K o cycles m n at.sound turn.phase in
-    let going = is-going K o cycles m n at turn in
-    let on = is-on K o cycles m n h c t new s at turn hs in
+next-run : {S : Type 0} (K : SchemeOf S) (o : Origin) (cycles : ℕ) (m : Machine S) (n : Device) (hart : ℕ) (ended : Bool) (lap : ℕ) (last : Option ℕ) (did : Did) (h : HartState) (c : Contents) (t : S) (new : Device) (s : HartStep)
+    → At K o cycles m n → HartAdvances K o m n hart → HartCall K (given o.input (K.free m.scheme) (K.under_way m.scheme)) (begun_by_hart hart m) n h c t new s
+    → IsNext K o cycles m n hart ended lap last did h c t new → SoundRun K o (hart_on hart ended lap last h c t m) new
+next-run K o cycles m n hart ended lap last did h c t new s at-m turn hs x =
+    let run = sound-run K o cycles m n at-m.sound turn.goes.phase in
+    let going = is-going K o cycles m n at-m turn.goes in
+    let on = is-on K o cycles m n hart h c t new s at-m turn hs in
     record {
       checkpoints = on.sound;
-      held = record { agree = hs.is_step.ready.agree; room = on.room; opened = x.opened };
-      follows = x.follows;
-      writes = x.writes;
+      held = record { agree = hs.is_step.ready.agree; room = on.room; opened = opened_back ended h.epoch.over x.opened };
+      follows = follows_back ended x.rests x.follows;
+      writes = writes_back ended x.rests x.writes;
+      front = front_back ended x.rests x.ends;
       counted = x.counted;
       epoch = record { began = λ e. absurd (omega (arith, e)); span = x.span ∙ run.epoch.span; retired = x.retired; hand = x.hand };
       numbered = record { epoch = x.number ∙ run.numbered.epoch; sealed = run.numbered.sealed; unwritten = run.numbered.unwritten };
       shown = record { done = run.shown.done; sealed = run.shown.sealed; ends = run.shown.ends };
       ended = record {
         sealed = λ k e stopped. absurd (let no : not (runs_at o k.count) ≡ false = ap (has_stopped o) (sym e) ∙ going.lively in let yes = ap not stopped in cc);
-        halted = λ e. absurd (let p = turn.phase in cc);
-        live = λ e over still. x.live over;
+        halted = λ e. absurd (let p = turn.goes.phase in cc);
+        live = λ e over still. live_back ended (x.live over);
       };
       paced = record {
         spent = omega (arith, x.spent, run.paced.spent);
@@ -149,19 +165,48 @@ next-run K o cycles m n lap did h c t new s at turn hs x =
         promoted = λ e. on.whole;
       };
     }
+  where
+    -- hart 0 is in front again if the instruction has ended
+    follows_back : (ended : Bool) → (ended ≡ true → h.hand ≡ Nothing) → Follows o.input (fronted hart (at o h.cpu.count)) h (flat c (K.holding t new).blocks)
+        → Follows o.input (state_in_front o (hart_on hart ended lap last h c t m)) (hart_on hart ended lap last h c t m).hart (flat c (K.holding t new).blocks)
+    follows_back false rests f = f
+    follows_back true rests f =
+        subst (λ k. Follows o.input (at o k) (record h { cpu = cpu_fronted hart h.cpu }) (flat c (K.holding t new).blocks)) (sym (cpu-count hart h.cpu))
+        (subst (λ x. Follows o.input x (record h { cpu = cpu_fronted hart h.cpu }) (flat c (K.holding t new).blocks)) (fronted-twice hart (at o h.cpu.count))
+        (fronts-on hart o.input (fronted hart (at o h.cpu.count)) h (flat c (K.holding t new).blocks) (rests refl) f))
 
-next-pace : {S : Type 0} (K : SchemeOf S) (o : Origin) (cycles : ℕ) (m : Machine S) (n : Device) (lap : ℕ) (did : Did) (h : HartState) (c : Contents) (t : S) (new : Device)
-    → m.phase ≡ Run → IsHarts did → IsOn K o m n h c t new → IsPaced K o.geometry (hart_on lap h c t m) new
-    → KeepsPace (most_spent K o.geometry) (run_view m) (run_view (hart_on lap h c t m)) did (gauge_of K m n) (gauge_of K (hart_on lap h c t m) new)
-next-pace K o cycles m n lap did h c t new phase harts on paced = elim harts as (λ _. KeepsPace _ _ _ did _ _) [
-  | inl e ↦ subst (λ d. KeepsPace (most_spent K o.geometry) (run_view m) (run_view (hart_on lap h c t m)) d (gauge_of K m n) (gauge_of K (hart_on lap h c t m) new)) (sym e) (record {
+    writes_back : (ended : Bool) → (ended ≡ true → h.hand ≡ Nothing) → IsToWrite (stored_by o (fronted hart (at o h.cpu.count))) h.hand
+        → IsToWrite (stored_by o (state_in_front o (hart_on hart ended lap last h c t m))) h.hand
+    writes_back false rests w = w
+    writes_back true rests w = writes_nothing (stored_by o (state_in_front o (hart_on hart true lap last h c t m))) h.hand (rests refl)
+
+    opened_back : (ended : Bool) (over : Option EndCause) → OpenNow over (if ended then None else Some hart) c h (K.holding t new).open_page
+        → OpenNow over (if ended then None else Some hart) c (hart_on hart ended lap last h c t m).hart (K.holding t new).open_page
+    opened_back false over opened = opened
+    opened_back true None opened = opened
+    opened_back true (Some cause) opened = opened
+
+    live_back : (ended : Bool) → runs_at o h.cpu.count ≡ true → runs_at o (hart_on hart ended lap last h c t m).hart.cpu.count ≡ true
+    live_back false runs = runs
+    live_back true runs = ap (runs_at o) (cpu-count hart h.cpu) ∙ runs
+
+    front_back : (ended : Bool) → (ended ≡ true → h.hand ≡ Nothing) → (h.epoch.over ≢ None → ended ≡ true) → IsFront o (hart_on hart ended lap last h c t m)
+    front_back false rests ends =
+        record { there = λ b is. (let same : hart ≡ b = cc in subst (λ x. x < o.geometry.harts) same turn.there); rests = λ none. absurd (cc); over = λ over. absurd (let no = ends over in cc) }
+    front_back true rests ends = record { there = λ b is. absurd (cc); rests = λ none. rests refl; over = λ over. refl }
+
+next-pace : {S : Type 0} (K : SchemeOf S) (o : Origin) (cycles : ℕ) (m : Machine S) (n : Device) (hart : ℕ) (ended : Bool) (lap : ℕ) (last : Option ℕ) (did : Did) (h : HartState) (c : Contents) (t : S) (new : Device)
+    → m.phase ≡ Run → IsHarts hart did → IsOn K o m n h c t new → IsPaced K o.geometry (hart_on hart ended lap last h c t m) new
+    → KeepsPace (most_spent K o.geometry) (run_view m) (run_view (hart_on hart ended lap last h c t m)) did (gauge_of K m n) (gauge_of K (hart_on hart ended lap last h c t m) new)
+next-pace K o cycles m n hart ended lap last did h c t new phase harts on paced = elim harts as (λ _. KeepsPace _ _ _ did _ _) [
+  | inl e ↦ subst (λ d. KeepsPace (most_spent K o.geometry) (run_view m) (run_view (hart_on hart ended lap last h c t m)) d (gauge_of K m n) (gauge_of K (hart_on hart ended lap last h c t m) new)) (sym e) (record {
     spent = spent;
     queues = on.queue;
     boots = λ e. absurd (cc);
     strides = refl;
     entries = on.room;
   })
-  | inr e ↦ subst (λ d. KeepsPace (most_spent K o.geometry) (run_view m) (run_view (hart_on lap h c t m)) d (gauge_of K m n) (gauge_of K (hart_on lap h c t m) new)) (sym e) (record {
+  | inr e ↦ subst (λ d. KeepsPace (most_spent K o.geometry) (run_view m) (run_view (hart_on hart ended lap last h c t m)) d (gauge_of K m n) (gauge_of K (hart_on hart ended lap last h c t m) new)) (sym e) (record {
     spent = spent;
     queues = on.queue;
     boots = λ e. absurd (cc);
@@ -173,10 +218,10 @@ next-pace K o cycles m n lap did h c t new phase harts on paced = elim harts as 
     spent : m.spent + 1 < most_spent K o.geometry
     spent = omega (arith, paced.spent)
 
-next-works : {S : Type 0} (K : SchemeOf S) (o : Origin) (cycles : ℕ) (m : Machine S) (n : Device) (lap : ℕ) (did : Did) (h : HartState) (c : Contents) (t : S) (new : Device)
-    → IsOn K o m n h c t new → IsNext K o cycles m n lap did h c t new
-    → Works did (gauge_in K Run m n) (gauge_in K Run (hart_on lap h c t m) new) n new (K.dram m.scheme) (K.dram t)
-next-works K o cycles m n lap did h c t new on x =
+next-works : {S : Type 0} (K : SchemeOf S) (o : Origin) (cycles : ℕ) (m : Machine S) (n : Device) (hart : ℕ) (ended : Bool) (lap : ℕ) (last : Option ℕ) (did : Did) (h : HartState) (c : Contents) (t : S) (new : Device)
+    → IsOn K o m n h c t new → IsNext K o cycles m n hart ended lap last did h c t new
+    → Works did (gauge_in K Run m n) (gauge_in K Run (hart_on hart ended lap last h c t m) new) n new (K.dram m.scheme) (K.dram t)
+next-works K o cycles m n hart ended lap last did h c t new on x =
     let owed = x.owed in
     let later = on.owed_later in
     let promotions = on.holds.promotions on.whole in
@@ -190,14 +235,14 @@ next-works K o cycles m n lap did h c t new on x =
       };
     }
 
-pub simulates-next : {S : Type 0} (K : SchemeOf S) (o : Origin) (cycles : ℕ) (m : Machine S) (n : Device) (lap : ℕ) (did : Did) (h : HartState) (c : Contents) (t : S) (new : Device) (s : HartStep)
-    → At K o cycles m n → HartGoes K o m n → HartCall K (given o.input (K.free m.scheme) (K.under_way m.scheme)) m n h c t new s
-    → IsHarts did → IsNext K o cycles m n lap did h c t new → SimulatesCycle K o cycles did m n (hart_on lap h c t m) new
-simulates-next K o cycles m n lap did h c t new s at turn hs harts x =
-    let on = is-on K o cycles m n h c t new s at turn hs in
-    let run' = next-run K o cycles m n lap did h c t new s at turn hs x in
-    let old-view = view-run K o m n turn.phase in
-    let new-view = view-run K o (hart_on lap h c t m) new turn.phase in
+pub simulates-next : {S : Type 0} (K : SchemeOf S) (o : Origin) (cycles : ℕ) (m : Machine S) (n : Device) (hart : ℕ) (ended : Bool) (lap : ℕ) (last : Option ℕ) (did : Did) (h : HartState) (c : Contents) (t : S) (new : Device) (s : HartStep)
+    → At K o cycles m n → HartAdvances K o m n hart → HartCall K (given o.input (K.free m.scheme) (K.under_way m.scheme)) (begun_by_hart hart m) n h c t new s
+    → IsHarts hart did → IsNext K o cycles m n hart ended lap last did h c t new → SimulatesCycle K o cycles did m n (hart_on hart ended lap last h c t m) new
+simulates-next K o cycles m n hart ended lap last did h c t new s at turn hs harts x =
+    let on = is-on K o cycles m n hart h c t new s at turn hs in
+    let run' = next-run K o cycles m n hart ended lap last did h c t new s at turn hs x in
+    let old-view = view-run K o m n turn.goes.phase in
+    let new-view = view-run K o (hart_on hart ended lap last h c t m) new turn.goes.phase in
     record {
       at_next = record {
         origin = at.sound.origin;
@@ -206,19 +251,19 @@ simulates-next K o cycles m n lap did h c t new s at turn hs harts x =
         up = on.up;
         unfailed = at.sound.unfailed;
         small = subst (IsSmall (cycles + 1)) (sym new-view)
-            (small_step o cycles (run_view m) (run_view (hart_on lap h c t m)) (subst (IsSmall cycles) old-view at.sound.small) did x.step);
-        moment = subst (λ phase. SoundIn K o phase (hart_on lap h c t m) new) (sym turn.phase) run';
+            (small_step o cycles (run_view m) (run_view (hart_on hart ended lap last h c t m)) (subst (IsSmall cycles) old-view at.sound.small) did x.step);
+        moment = subst (λ phase. SoundIn K o phase (hart_on hart ended lap last h c t m) new) (sym turn.goes.phase) run';
       };
-      step = subst (λ v. CoreStep o v did (view_of K o (hart_on lap h c t m) new)) (sym old-view)
+      step = subst (λ v. CoreStep o v did (view_of K o (hart_on hart ended lap last h c t m) new)) (sym old-view)
           (subst (CoreStep o (run_view m) did) (sym new-view) x.step);
       acts = acts_by (K.migrates m.scheme) did n new x.acts;
-      dram = harts-dram did n new (K.dram m.scheme) (K.dram t) harts on.dram;
-      pace = subst (λ v. KeepsPace (most_spent K o.geometry) v (view_of K o (hart_on lap h c t m) new) did (gauge_of K m n) (gauge_of K (hart_on lap h c t m) new)) (sym old-view)
-          (subst (λ v. KeepsPace (most_spent K o.geometry) (run_view m) v did (gauge_of K m n) (gauge_of K (hart_on lap h c t m) new)) (sym new-view)
-          (next-pace K o cycles m n lap did h c t new turn.phase harts on run'.paced));
-      works = subst (λ p. Works did (gauge_in K p m n) (gauge_in K p (hart_on lap h c t m) new) n new (K.dram m.scheme) (K.dram t)) (sym turn.phase)
-          (next-works K o cycles m n lap did h c t new on x);
+      dram = harts-dram hart did n new (K.dram m.scheme) (K.dram t) harts on.dram;
+      pace = subst (λ v. KeepsPace (most_spent K o.geometry) v (view_of K o (hart_on hart ended lap last h c t m) new) did (gauge_of K m n) (gauge_of K (hart_on hart ended lap last h c t m) new)) (sym old-view)
+          (subst (λ v. KeepsPace (most_spent K o.geometry) (run_view m) v did (gauge_of K m n) (gauge_of K (hart_on hart ended lap last h c t m) new)) (sym new-view)
+          (next-pace K o cycles m n hart ended lap last did h c t new turn.goes.phase harts on run'.paced));
+      works = subst (λ p. Works did (gauge_in K p m n) (gauge_in K p (hart_on hart ended lap last h c t m) new) n new (K.dram m.scheme) (K.dram t)) (sym turn.goes.phase)
+          (next-works K o cycles m n hart ended lap last did h c t new on x);
       exhausts = λ e. ap (λ v. v.over) new-view ∙ x.exhausts e;
-      read = λ e. ap (λ phase. has_read_in K phase (hart_on lap h c t m)) turn.phase;
-      still = λ found r current. absurd (let both : Run ≡ Boot = sym turn.phase ∙ sym (ap (λ (v : View). v.phase) old-view) ∙ r.phase in cc);
+      read = λ e. ap (λ phase. has_read_in K phase (hart_on hart ended lap last h c t m)) turn.goes.phase;
+      still = λ found r current. absurd (let both : Run ≡ Boot = sym turn.goes.phase ∙ sym (ap (λ (v : View). v.phase) old-view) ∙ r.phase in cc);
     }

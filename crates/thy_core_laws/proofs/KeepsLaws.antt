@@ -10,7 +10,7 @@ use Rattle.thy_hart.specs.declared.hand.Hand.TheVariants.{Nothing}
 use Rattle.thy_hart.specs.HartState.{HartState, next_block, reserved}
 use Rattle.thy_hart.specs.Laws.{Follows}
 use Rattle.thy_hart.specs.Moments.{IsOpenFor, moment}
-use Rattle.thy_isa.specs.Step.{state_with, is_running}
+use Rattle.thy_isa.specs.Step.{fronted, state_with, is_running}
 use Rattle.thy_view.specs.declared.did.Did.{Did}
 use Rattle.thy_view.specs.declared.did.Did.TheVariants.{Moved}
 use Rattle.thy_view.specs.declared.view.Phase.{Phase}
@@ -22,16 +22,16 @@ use Rattle.thy_view.specs.Dram.{LeavesDram, WritesBlock}
 use Rattle.thy_view.specs.Kind.{without_memory}
 use Rattle.thy_view.specs.Origin.{Origin, at, runs_at}
 use Rattle.thy_view.specs.Pace.{Queues, Strides as StridesOn}
-use Rattle.thy_view.specs.Turn.{over_by}
+use Rattle.thy_view.specs.Turn.{front_of, over_by}
 use Rattle.thy_view.specs.Work.{adds_copies, GetsDone}
 use Rattle.thy_view.proofs.ActionLemmas.{acts_by}
 use Rattle.thy_scheme.specs.SchemeStore.{held_by_scheme}
 use Rattle.thy_scheme.specs.Scheme.{SchemeOf, Stands}
 use Rattle.thy_scheme.specs.Calls.{queued_in, OpensNone, HoldsSame, KeepsLeft, Keeps, OwesNoMore}
 use Rattle.thy_scheme.specs.Laws.{IsLawful}
-use Rattle.thy_core_laws.specs.Machine.{Machine, moment_of, memory_of, run_view, view_in, view_of, pressure_of, gauge_of, has_read_in}
+use Rattle.thy_core_laws.specs.Machine.{Machine, cpu_fronted, moment_of, memory_of, run_view, view_in, view_of, pressure_of, gauge_of, has_read_in}
 use Rattle.thy_core_laws.specs.Pace.{instructions_left, flushes_left, hart_left, cycles_left, most_spent}
-use Rattle.thy_core_laws.specs.Sound.{OpenNow, IsHeld, IsCounted, IsEpoch, StartsFresh, IsPaced, IsSmall, SoundRun, SoundIn, Sound}
+use Rattle.thy_core_laws.specs.Sound.{OpenFor, OpenNow, IsFront, state_in_front, IsHeld, IsCounted, IsEpoch, StartsFresh, IsPaced, IsSmall, SoundRun, SoundIn, Sound}
 use Rattle.thy_core_laws.specs.Rows.{SimulatesCycle, At}
 use Rattle.thy_core_laws.proofs.SmallLaws.{small_step}
 use Rattle.thy_core_laws.proofs.WorkLaws.{NoMore, moves_same, leaves_no_more}
@@ -140,16 +140,20 @@ pub none_for : (c : Contents) (b : Option ℕ) → IsOpenFor c b None
 none_for c None = refl
 none_for c (Some b) = inl refl
 
-pub none_now : (over : Option EndCause) (c : Contents) (h : HartState) → OpenNow over c h None
-none_now None c h = none_for c (next_block h)
-none_now (Some cause) c h = inl refl
+pub none_begun : (begun : Option ℕ) (c : Contents) (h : HartState) → OpenFor begun c h None
+none_begun None c h = refl
+none_begun (Some hart) c h = none_for c (next_block h)
+
+pub none_now : (over : Option EndCause) (begun : Option ℕ) (c : Contents) (h : HartState) → OpenNow over begun c h None
+none_now None begun c h = none_begun begun c h
+none_now (Some cause) begun c h = inl refl
 
 -- no page was opened, so one may be open as before
-opened_kept : (over : Option EndCause) (c : Contents) (h : HartState) (old new : Option ℕ) → OpensNone old new
-    → OpenNow over c h old → OpenNow over c h new
-opened_kept over c h old new none before = elim none as (λ _. OpenNow over c h new) [
-  | inl e ↦ subst (OpenNow over c h) (sym e) (none_now over c h)
-  | inr e ↦ subst (OpenNow over c h) (sym e) before
+opened_kept : (over : Option EndCause) (begun : Option ℕ) (c : Contents) (h : HartState) (old new : Option ℕ) → OpensNone old new
+    → OpenNow over begun c h old → OpenNow over begun c h new
+opened_kept over begun c h old new none before = elim none as (λ _. OpenNow over begun c h new) [
+  | inl e ↦ subst (OpenNow over begun c h) (sym e) (none_now over begun c h)
+  | inr e ↦ subst (OpenNow over begun c h) (sym e) before
 ]
 
 -- fewer merges leave fewer cycles
@@ -162,7 +166,7 @@ flushes_fewer most dirty old new l = first (dirty == 0)
 
 -- hart and cache are as they were
 module _ {S : Type 0} (K : SchemeOf S) (m next : Machine S) (n new : Device)
-    (hart : next.hart ≡ m.hart) (cache : next.cache ≡ m.cache) where
+    (hart : next.hart ≡ m.hart) (cache : next.cache ≡ m.cache) (begun : next.begun ≡ m.begun) where
   pub memory_kept : (K.holding next.scheme new).blocks ≡ (K.holding m.scheme n).blocks → memory_of K next new ≡ memory_of K m n
   memory_kept blocks = ap (λ c. flat c (K.holding next.scheme new).blocks) cache ∙ ap (flat m.cache) blocks
 
@@ -183,30 +187,41 @@ module _ {S : Type 0} (K : SchemeOf S) (m next : Machine S) (n new : Device)
       record {
         agree = subst (λ c. Agrees c (K.holding next.scheme new).blocks) (sym cache) (subst (Agrees m.cache) (sym same.blocks) h.agree);
         room = omega (arith, before, behind, more, room, dirty_kept, reserved_kept);
-        opened = subst (λ (x : HartState). OpenNow x.epoch.over next.cache x page) (sym hart)
-            (subst (λ c. OpenNow m.hart.epoch.over c m.hart page) (sym cache)
-            (opened_kept m.hart.epoch.over m.cache m.hart (K.holding m.scheme n).open_page page same.opened h.opened));
+        opened = subst (λ (x : HartState). OpenNow x.epoch.over next.begun next.cache x page) (sym hart)
+            (subst (λ b. OpenNow m.hart.epoch.over b next.cache m.hart page) (sym begun)
+            (subst (λ c. OpenNow m.hart.epoch.over m.begun c m.hart page) (sym cache)
+            (opened_kept m.hart.epoch.over m.begun m.cache m.hart (K.holding m.scheme n).open_page page same.opened h.opened)));
       }
 
   -- the hart is where it was
   pub follows_kept : (o : Origin) → (K.holding next.scheme new).blocks ≡ (K.holding m.scheme n).blocks
-      → Follows o.input (at o m.hart.cpu.count) m.hart (memory_of K m n)
-      → Follows o.input (at o next.hart.cpu.count) next.hart (memory_of K next new)
+      → Follows o.input (state_in_front o m) m.hart (memory_of K m n)
+      → Follows o.input (state_in_front o next) next.hart (memory_of K next new)
   follows_kept o blocks f =
-      subst (λ (c : HartState). Follows o.input (at o c.cpu.count) c (memory_of K next new)) (sym hart)
-      (subst (Follows o.input (at o m.hart.cpu.count) m.hart) (sym (memory_kept blocks)) f)
+      subst (λ b. Follows o.input (fronted (front_of b) (at o next.hart.cpu.count)) next.hart (memory_of K next new)) (sym begun)
+      (subst (λ (c : HartState). Follows o.input (fronted (front_of m.begun) (at o c.cpu.count)) c (memory_of K next new)) (sym hart)
+      (subst (Follows o.input (state_in_front o m) m.hart) (sym (memory_kept blocks)) f))
+
+  -- and so is the hart in front
+  pub front_kept : (o : Origin) → IsFront o m → IsFront o next
+  front_kept o f = record {
+    there = λ h is. f.there h (sym begun ∙ is);
+    rests = λ none. subst (λ (x : HartState). x.hand ≡ Nothing) (sym hart) (f.rests (sym begun ∙ none));
+    over = λ over. begun ∙ f.over (subst (λ (x : HartState). x.epoch.over ≢ None) hart over);
+  }
 
   pub counted_kept : (o : Origin) → IsCounted o m → IsCounted o next
   counted_kept o c = record {
     start = subst (λ (x : HartState). o.start.count ≤ x.cpu.count) (sym hart) c.start;
     count = subst (λ (x : HartState). (at o x.cpu.count).count ≡ x.cpu.count) (sym hart) c.count;
-    processor = subst (λ (x : HartState). state_with x.cpu [] [] ≡ without_memory (at o x.cpu.count)) (sym hart) c.processor;
+    processor = subst (λ b. state_with (cpu_fronted (front_of b) next.hart.cpu) [] [] ≡ without_memory (at o next.hart.cpu.count)) (sym begun)
+        (subst (λ (x : HartState). state_with (cpu_fronted (front_of m.begun) x.cpu) [] [] ≡ without_memory (at o x.cpu.count)) (sym hart) c.processor);
     running = subst (λ (x : HartState). is_running x.cpu.status ≡ runs_at o x.cpu.count) (sym hart) c.running;
   }
 
   pub epoch_kept : (o : Origin) → (next.spent ≡ 0 → m.spent ≡ 0) → IsEpoch o m → IsEpoch o next
   epoch_kept o spent e = record {
-    began = λ none. subst (λ (x : HartState). x.hand ≡ Nothing) (sym hart) (e.began (spent none));
+    began = λ none. begun ∙ e.began (spent none);
     span = subst (λ (x : HartState). x.epoch.span ≡ o.geometry.epoch) (sym hart) e.span;
     retired = subst (λ (x : HartState). HasRetired x.epoch.span x.epoch.retired x.epoch.over) (sym hart) e.retired;
     hand = subst (λ (x : HartState). x.epoch.over ≢ None → x.hand ≡ Nothing) (sym hart) e.hand;
@@ -216,8 +231,9 @@ module _ {S : Type 0} (K : SchemeOf S) (m next : Machine S) (n new : Device)
   hart_left_in : (p : Parameters) (over : Option EndCause) → K.merges_left next.scheme ≤ K.merges_left m.scheme
       → hart_left K p over next new ≤ hart_left K p over m n
   hart_left_in p None fewer =
-      let same : instructions_left (moment_of K next new) ≡ instructions_left (moment_of K m n) =
-      ap₂ (λ h c. instructions_left (moment h c (held_by_scheme K m.scheme n))) hart cache in
+      let same : instructions_left next.begun (moment_of K next new) ≡ instructions_left m.begun (moment_of K m n) =
+      ap (λ b. instructions_left b (moment_of K next new)) begun
+      ∙ ap₂ (λ h c. instructions_left m.begun (moment h c (held_by_scheme K m.scheme n))) hart cache in
       omega (arith, same)
   hart_left_in p (Some cause) fewer =
       let most : ℕ = K.most_merges p in
@@ -269,19 +285,20 @@ sound_kept K o m n t spent new l s sound keeps began below =
     let next = with_scheme t spent m in
     record {
       checkpoints = sound;
-      held = held_kept K m next n new refl refl l keeps.held s.held;
-      follows = follows_kept K m next n new refl refl o keeps.held.blocks s.follows;
+      held = held_kept K m next n new refl refl refl l keeps.held s.held;
+      follows = follows_kept K m next n new refl refl refl o keeps.held.blocks s.follows;
       writes = s.writes;
-      counted = counted_kept K m next n new refl refl o s.counted;
-      epoch = epoch_kept K m next n new refl refl o began s.epoch;
+      front = front_kept K m next n new refl refl refl o s.front;
+      counted = counted_kept K m next n new refl refl refl o s.counted;
+      epoch = epoch_kept K m next n new refl refl refl o began s.epoch;
       numbered = record { epoch = s.numbered.epoch; sealed = s.numbered.sealed; unwritten = s.numbered.unwritten };
       shown = record { done = s.shown.done; sealed = s.shown.sealed; ends = s.shown.ends };
       ended = record {
-        sealed = λ a is stops. let e = s.ended.sealed a is stops in record { count_is = e.count_is; hand = e.hand; over = e.over };
-        halted = λ is. let e = s.ended.halted is in (record { count_is = e.0.count_is; hand = e.0.hand; over = e.0.over }, e.1);
+        sealed = λ a is stops. let e = s.ended.sealed a is stops in record { count_is = e.count_is; hand = e.hand; over = e.over; begun = e.begun };
+        halted = λ is. let e = s.ended.halted is in (record { count_is = e.0.count_is; hand = e.0.hand; over = e.0.over; begun = e.0.begun }, e.1);
         live = s.ended.live;
       };
-      paced = paced_kept K m next n new refl refl o.geometry refl keeps s.paced below;
+      paced = paced_kept K m next n new refl refl refl o.geometry refl keeps s.paced below;
     }
 
 -- and no more than was is left of what it has to do
@@ -289,7 +306,7 @@ pub left_on : {S : Type 0} (K : SchemeOf S) (did : Did) (m : Machine S) (n : Dev
     → Keeps K m.scheme n t new → (adds_copies did ≡ false → OwesNoMore K m.scheme n t new) → NoMore K did m n (with_scheme t spent m) new
 left_on K did m n t spent new keeps owes = record {
   moves = λ e.
-      let same = moves_same m.phase m.hart.epoch.over (moment_of K m n) (moment_of K (with_scheme t spent m) new) refl in
+      let same = moves_same m.phase m.hart.epoch.over m.begun (moment_of K m n) (moment_of K (with_scheme t spent m) new) refl in
       omega (arith, same);
   owed = owes;
   owed_in_all = λ e. keeps.left.owed;

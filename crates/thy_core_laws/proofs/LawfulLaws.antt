@@ -18,7 +18,7 @@ use Rattle.thy_view.specs.declared.view.Phase.{Phase}
 use Rattle.thy_view.specs.declared.view.Phase.TheVariants.{Boot, Run, Halt}
 use Rattle.thy_view.specs.declared.view.View.{View}
 use Rattle.thy_view.specs.Kind.{IsPoweredOn, IsUnderWay, IsShortage, IsPressed}
-use Rattle.thy_view.specs.Origin.{Origin, at}
+use Rattle.thy_view.specs.Origin.{Origin}
 use Rattle.thy_view.specs.Stores.{blocks_in, stored_by}
 use Rattle.thy_view.specs.Turn.{Shortage}
 use Rattle.thy_view.specs.Views.{is_boot}
@@ -30,9 +30,9 @@ use Rattle.thy_scheme.specs.Laws.{RunHolds, IsLawful as IsLawfulScheme}
 use Rattle.thy_core_laws.specs.Kind.{kind_over, own_left}
 use Rattle.thy_core_laws.specs.Machine.{Machine, moment_of, short_of, shortage_of, pressure_of, boot_left_in, moves_in, gauge_in, gauge_of, run_view, view_in, view_of}
 use Rattle.thy_core_laws.specs.Pace.{most_spent}
-use Rattle.thy_core_laws.specs.Sound.{IsToWrite, SoundRun, SoundBoot, SoundIn, Sound, IsPowered}
+use Rattle.thy_core_laws.specs.Sound.{state_in_front, IsToWrite, SoundRun, SoundBoot, SoundIn, Sound, IsPowered}
 use Rattle.thy_core_laws.specs.Runs.{MachineIsLawful}
-use Rattle.thy_core_laws.proofs.EpochLemmas.{few-moves}
+use Rattle.thy_core_laws.proofs.EpochLemmas.{few-begun}
 use Rattle.thy_core_laws.proofs.MomentLaws.{sound-here, seen-alike, is_at-agrees}
 use Rattle.thy_core_laws.proofs.RunLaws.{moment_is_safe, fresh_simulates, cut_simulates}
 use Rattle.thy_core_laws.proofs.WorkLaws.{number_behind}
@@ -51,6 +51,8 @@ over_scheme p s = record {
   lap = 0;
   idle = false;
   failed = false;
+  begun = None;
+  last = None;
 }
 
 powers : {S : Type 0} (K : SchemeOf S) → IsLawfulScheme K → (p : Parameters) → (m : Machine S) × IsPowered K p m
@@ -72,6 +74,8 @@ powers K l p =
           spent = refl;
           lap = refl;
           idle = refl;
+          begun = refl;
+          last = refl;
         };
         unfailed = refl;
       },
@@ -138,9 +142,9 @@ short_free free dirty stored (Retiring effect wrote) s w e = absurd (cc)
 
 module _ {S : Type 0} (K : SchemeOf S) (o : Origin) (m : Machine S) (n : Device) (l : IsLawfulScheme K) (up : n.down ≡ false) where
   -- a shortage is real
-  short_run : (s : Shortage) → SoundRun K o m n → shortage_of K m ≡ Some s → IsShortage o (run_view m) (gauge_of K m n) s
+  short_run : (s : Shortage) → SoundRun K o m n → shortage_of K m ≡ Some s → IsShortage o (run_view m) m.begun (gauge_of K m n) s
   short_run s run e =
-      let short = short_free (K.free m.scheme) (dirty_count m.cache) (stored_by o (at o m.hart.cpu.count)) m.hart.hand s run.writes e in
+      let short = short_free (K.free m.scheme) (dirty_count m.cache) (stored_by o (state_in_front o m)) m.hart.hand s run.writes e in
       record { free = short.free; dirty = short.dirty; need = short.need; short = short.short }
 
   holds : SoundRun K o m n → RunHolds K o m.marks m.scheme n
@@ -149,11 +153,11 @@ module _ {S : Type 0} (K : SchemeOf S) (o : Origin) (m : Machine S) (n : Device)
   way_run : SoundRun K o m n → IsUnderWay m.marks.sealed (pressure_of K m)
   way_run run = let h = holds run in record { way = h.way; apart = h.apart }
 
-  moves_few : (phase : Phase) (over : Option EndCause) (x : Moment) → moves_in phase over x ≤ 16
-  moves_few Boot over x = omega arith
-  moves_few Run None x = few-moves x
-  moves_few Run (Some cause) x = omega arith
-  moves_few Halt over x = omega arith
+  moves_few : (phase : Phase) (over : Option EndCause) (begun : Option ℕ) (x : Moment) → moves_in phase over begun x ≤ 16
+  moves_few Boot over begun x = omega arith
+  moves_few Run None begun x = few-begun begun x
+  moves_few Run (Some cause) begun x = omega arith
+  moves_few Halt over begun x = omega arith
 
   few_run : (phase : Phase) → phase ≢ Boot → SoundRun K o m n → IsWithin (K.most_owed o.geometry) (K.most_promotions o.geometry) (gauge_in K phase m n)
   few_run phase behind run =
@@ -164,7 +168,7 @@ module _ {S : Type 0} (K : SchemeOf S) (o : Origin) (m : Machine S) (n : Device)
       let most_owed = b.owed in
       let most_promotions = b.promotions in
       record {
-        moves = moves_few phase m.hart.epoch.over (moment_of K m n);
+        moves = moves_few phase m.hart.epoch.over m.begun (moment_of K m n);
         owed = omega (arith, owed, later, most_owed);
         promotions = omega (arith, promotions, most_promotions);
       }
@@ -172,7 +176,7 @@ module _ {S : Type 0} (K : SchemeOf S) (o : Origin) (m : Machine S) (n : Device)
   -- ---- in each phase
 
   short_in : (phase : Phase) (s : Shortage) → SoundIn K o phase m n → shortage_of K m ≡ Some s
-      → IsShortage o (view_in K o phase m n) (gauge_of K m n) s
+      → IsShortage o (view_in K o phase m n) m.begun (gauge_of K m n) s
   short_in Boot s booting e = absurd (let none : shortage_of K m ≡ None = ap (short_of (K.free m.scheme) (dirty_count m.cache)) booting.blank.hand in cc)
   short_in Run s run e = short_run s run e
   short_in Halt s run e = short_run s run e

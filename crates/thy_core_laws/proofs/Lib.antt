@@ -18,6 +18,7 @@ pub mod RunLaws
 pub mod NearLaws
 pub mod LawfulLaws
 pub mod FailRows
+pub mod BegunLaws
 pub mod BootRow
 pub mod SealRow
 pub mod EngineRow

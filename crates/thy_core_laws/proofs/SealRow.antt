@@ -14,15 +14,15 @@ use Rattle.thy_cache.proofs.FlushLaws.{flat-clean}
 use Rattle.thy_epoch.specs.Epoch.{Epoch, next_epoch}
 use Rattle.thy_hart.specs.declared.hand.Hand.{Hand}
 use Rattle.thy_hart.specs.declared.hand.Hand.TheVariants.{Nothing, Reading, Reserving, Writing, Retiring}
-use Rattle.thy_hart.specs.HartState.{HartState, next_block, has_written}
+use Rattle.thy_hart.specs.HartState.{HartState, has_written}
 use Rattle.thy_hart.specs.Laws.{Follows}
-use Rattle.thy_hart.specs.Moments.{IsOpenFor}
 use Rattle.thy_hart.specs.OneStep.{current, coming, coming_by}
 use Rattle.thy_isa.specs.OnBlocks.{state_from}
-use Rattle.thy_isa.specs.Step.{State}
+use Rattle.thy_isa.specs.Step.{State, fronted}
 use Rattle.thy_view.specs.declared.did.Did.TheVariants.{Sealed}
 use Rattle.thy_view.specs.Action.{Rest}
 use Rattle.thy_view.specs.Origin.{Origin, at as at_count, runs_at}
+use Rattle.thy_view.specs.Turn.{front_of}
 use Rattle.thy_view.specs.Safe.{ceiling}
 use Rattle.thy_scheme.specs.Scheme.{SchemeOf}
 use Rattle.thy_scheme.specs.Calls.{OpensNone, IsTaken}
@@ -30,10 +30,10 @@ use Rattle.thy_scheme.specs.Laws.{RunHolds}
 use Rattle.thy_core_laws.specs.Calls.{after_seal}
 use Rattle.thy_core_laws.specs.Machine.{Machine, moment_of, memory_of, run_view}
 use Rattle.thy_core_laws.specs.Rows.{At, IsSealing, SealSimulates}
-use Rattle.thy_core_laws.specs.Sound.{OpenNow, epochs_ahead, IsFresh, StartsFresh, IsSmall, SoundRun}
+use Rattle.thy_core_laws.specs.Sound.{state_in_front, OpenFor, OpenNow, epochs_ahead, IsFresh, StartsFresh, IsSmall, SoundRun}
 use Rattle.thy_core_laws.proofs.CacheLemmas.{none_for_flush}
-use Rattle.thy_core_laws.proofs.EpochLemmas.{few-moves}
-use Rattle.thy_core_laws.proofs.KeepsLaws.{run_of, view_run, stands, runs_behind, none_for, simulates_by}
+use Rattle.thy_core_laws.proofs.EpochLemmas.{few-begun}
+use Rattle.thy_core_laws.proofs.KeepsLaws.{run_of, view_run, stands, runs_behind, none_begun, simulates_by}
 use Rattle.thy_scheme.proofs.RecordLemmas.{state-console}
 use Rattle.thy_view.proofs.StorableAt.{IsRecordable-at}
 use Rattle.thy_core_laws.proofs.SealingLaws.{IsOver, over_at, unsealed_at}
@@ -86,6 +86,7 @@ pub record IsStanding {S : Type 0} (K : SchemeOf S) (o : Origin) (m : Machine S)
   pub over : IsOver m.hart.epoch.over (K.under_way m.scheme)
   pub unsealed : m.marks.sealed ≡ None
   pub hand : m.hart.hand ≡ Nothing
+  pub begun : m.begun ≡ None
   pub state : state_from o.geometry m.hart.cpu (K.holding m.scheme n).blocks ≡ at_count o m.hart.cpu.count
   pub console : m.hart.cpu.console_len ≡ length (at_count o m.hart.cpu.count).console
   pub closed : (K.holding m.scheme n).open_page ≡ None
@@ -103,6 +104,7 @@ standing K o cycles m n cause at sealing whole clean over_is =
     let cpu = m.hart.cpu in
     let blocks : List Block = (K.holding m.scheme n).blocks in
     let hand : m.hart.hand ≡ Nothing = s.epoch.hand (λ none. absurd (cc)) in
+    let begun : m.begun ≡ None = s.front.over (λ none. absurd (cc)) in
     let flat_is : flat m.cache blocks ≡ blocks = flat-clean m.cache blocks clean s.held.agree in
     let sized = s.follows.sized in
     let range : IsInRange p = at.sound.origin.geometry in
@@ -110,7 +112,8 @@ standing K o cycles m n cause at sealing whole clean over_is =
     let room : cpu.console_len ≤ console_room p = subst (λ g. cpu.console_len ≤ console_room g) at.sound.geometry sized.console in
     let stands : has_written m.hart.hand ≡ false = ap has_written hand in
     let there : state_from m.hart.geometry cpu (flat m.cache blocks) ≡ at_count o cpu.count =
-    sym (current-state m.hart (flat m.cache blocks)) ∙ s.follows.current stands in
+    sym (current-state m.hart (flat m.cache blocks)) ∙ s.follows.current stands
+    ∙ ap (λ b. fronted (front_of b) (at_count o cpu.count)) begun in
     let state : state_from p cpu blocks ≡ at_count o cpu.count =
     subst (λ g. state_from g cpu blocks ≡ at_count o cpu.count) at.sound.geometry
     (subst (λ x. state_from m.hart.geometry cpu x ≡ at_count o cpu.count) flat_is there) in
@@ -120,11 +123,12 @@ standing K o cycles m n cause at sealing whole clean over_is =
     let few = at.few in
     let below : cpu.count < ceiling = omega (arith, count, few) in
     let open_for : IsOpenForFlush m.cache (K.holding m.scheme n).open_page =
-    subst (λ x. OpenNow x m.cache m.hart (K.holding m.scheme n).open_page) over_is s.held.opened in
+    subst (λ x. OpenNow x m.begun m.cache m.hart (K.holding m.scheme n).open_page) over_is s.held.opened in
     record {
       over = over;
       unsealed = unsealed;
       hand = hand;
+      begun = begun;
       state = state;
       console = sym (state-console p cpu blocks range memory room) ∙ ap (λ (x : State). length x.console) state;
       closed = none_for_flush m.cache (K.holding m.scheme n).open_page clean open_for;
@@ -160,7 +164,7 @@ seal_simulates {S} K = λ o cycles m n t cause at sealing whole bare clean over_
     let owed = holds.bounded.owed in
     let span : m.hart.epoch.span ≡ o.geometry.epoch = s.epoch.span in
     let some : 1 ≤ o.geometry.epoch = epoch_least o.geometry at.sound.origin.geometry in
-    let moves = few-moves (moment_of K next n) in
+    let moves = few-begun next.begun (moment_of K next n) in
     let free_was = at.lawful.free_is m.scheme n in
     let free_now = at.lawful.free_is t n in
     let free = p.held.free in
@@ -183,14 +187,15 @@ seal_simulates {S} K = λ o cycles m n t cause at sealing whole bare clean over_
         held = record {
           agree = subst (Agrees m.cache) (sym p.held.blocks) s.held.agree;
           room = omega (arith, room, free, free_was, free_now);
-          opened = subst (IsOpenFor m.cache (next_block next.hart)) (sym closed) (none_for m.cache (next_block next.hart));
+          opened = subst (OpenFor m.begun m.cache next.hart) (sym closed) (none_begun m.begun m.cache next.hart);
         };
-        follows = subst (Follows o.input (at_count o m.hart.cpu.count) next.hart) (ap (flat m.cache) (sym p.held.blocks))
-            (follows-epoch o.input (at_count o m.hart.cpu.count) m.hart (memory_of K m n) (next_epoch m.hart.epoch) s.follows);
+        follows = subst (Follows o.input (state_in_front o m) next.hart) (ap (flat m.cache) (sym p.held.blocks))
+            (follows-epoch o.input (state_in_front o m) m.hart (memory_of K m n) (next_epoch m.hart.epoch) s.follows);
         writes = s.writes;
+        front = record { there = s.front.there; rests = λ none. g.hand; over = λ over. g.begun };
         counted = record { start = s.counted.start; count = s.counted.count; processor = s.counted.processor; running = s.counted.running };
         epoch = record {
-          began = λ none. g.hand;
+          began = λ none. g.begun;
           span = span;
           retired = omega (arith, span, some);
           hand = λ over. g.hand;
@@ -206,7 +211,7 @@ seal_simulates {S} K = λ o cycles m n t cause at sealing whole bare clean over_
           ends = λ x is. ap not s.counted.running ∙ ap (λ (y : Mark). not (runs_at o y.count)) (some_is a x is);
         };
         ended = record {
-          sealed = λ x is stops. record { count_is = ap (λ (y : Mark). y.count) (some_is a x is); hand = g.hand; over = refl };
+          sealed = λ x is stops. record { count_is = ap (λ (y : Mark). y.count) (some_is a x is); hand = g.hand; over = refl; begun = g.begun };
           halted = λ halts. absurd (let runs = sealing.phase in cc);
           live = λ runs none going. runs_if (runs_at o m.hart.cpu.count) going;
         };

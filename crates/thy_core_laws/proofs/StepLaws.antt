@@ -3,7 +3,7 @@ use Rattle.std.proofs.Common.{◌≡◌, ℕ, ◌+◌, true, false, [], Option, 
 use Rattle.thy_base.specs.declared.mark.Mark.{Mark}
 use Rattle.thy_base.specs.Device.{Device}
 use Rattle.thy_isa.specs.Step.{state_with}
-use Rattle.thy_hart.specs.HartState.{HartState}
+use Rattle.thy_isa.specs.declared.state.CpuState.{CpuState}
 use Rattle.thy_view.specs.declared.view.Phase.{Phase}
 use Rattle.thy_view.specs.declared.view.Phase.TheVariants.{Boot, Run, Halt}
 use Rattle.thy_view.specs.declared.view.View.{View}
@@ -17,7 +17,7 @@ use Rattle.thy_scheme.specs.Boots.{IsBootView}
 use Rattle.thy_scheme.specs.Laws.{IsLawful}
 use Rattle.thy_scheme.specs.Scheme.{SchemeOf}
 use Rattle.thy_scheme.proofs.FoundLemmas.{found_unsealed}
-use Rattle.thy_core_laws.specs.Machine.{Machine, view_in, view_of, gauge_of}
+use Rattle.thy_core_laws.specs.Machine.{Machine, processor_of, view_in, view_of, gauge_of}
 use Rattle.thy_core_laws.specs.Pace.{most_spent}
 use Rattle.thy_core_laws.specs.Runs.{SimulatingIsStep, FailingIsSafe}
 use Rattle.thy_core_laws.specs.Sound.{SoundIn, Sound}
@@ -58,11 +58,12 @@ safe_for K o kept doubt found n is none safe =
     subst (λ (d : Option Mark). Safe K.decode o d None n) is (subst (λ (d : Option Mark). Safe K.decode o kept d n) none safe)
 
 pub simulating_is_step : {S : Type 0} (K : SchemeOf S) → SimulatingIsStep K
-simulating_is_step K o cycles pick m next n new r at simulates at_next turn ended = record {
+simulating_is_step K o cycles pick m next n new r at simulates at_next turn hands ended = record {
   at_next = at_next;
   step = simulates.step;
   pressed = pressed_at K at.lawful o cycles m n at.sound;
   turn = turn;
+  hands = hands;
   acts = simulates.acts;
   dram = simulates.dram;
   pace = simulates.pace;
@@ -83,7 +84,7 @@ simulating_is_step K o cycles pick m next n new r at simulates at_next turn ende
 
 -- once the boot is over, the processor is the plain machine's at the view's count
 processor_in : {S : Type 0} (K : SchemeOf S) (l : IsLawful K) (o : Origin) (m : Machine S) (n : Device) (phase : Phase) → n.down ≡ false → SoundIn K o phase m n
-    → is_boot (view_in K o phase m n).phase ≡ false → state_with m.hart.cpu [] [] ≡ without_memory (at o (view_in K o phase m n).count)
+    → is_boot (view_in K o phase m n).phase ≡ false → state_with (processor_of m) [] [] ≡ without_memory (at o (view_in K o phase m n).count)
 processor_in K l o m n Boot up s over =
     let shown = (l.boot_holds o m.scheme n (record { boots = s.boots; up = up })).shown in
     let both : true ≡ false = sym (ap is_boot (boots_phase o (K.boot_view o m.scheme n) shown)) ∙ over in
@@ -92,7 +93,7 @@ processor_in K l o m n Run up s over = s.counted.processor
 processor_in K l o m n Halt up s over = s.counted.processor
 
 pub failing_is_safe : {S : Type 0} (K : SchemeOf S) → FailingIsSafe K
-failing_is_safe K o cycles pick m next n new did stall moment fails hart failed turn = record {
+failing_is_safe K o cycles pick m next n new did stall moment fails same failed turn = record {
   acted = record { did = did; stall = stall; pressed = pressed_at K moment.lawful o cycles m n moment.sound; turn = turn; failed = fails.failed; still = fails.still };
   safe = fails.safe;
   spares = λ found was.
@@ -102,7 +103,7 @@ failing_is_safe K o cycles pick m next n new did stall moment fails hart failed 
   stopped = record {
     failed = failed;
     of_geometry = fails.of_geometry;
-    processor = λ over. ap (λ (h : HartState). state_with h.cpu [] []) hart
+    processor = λ over. ap (λ (c : CpuState). state_with c [] []) same
         ∙ processor_in K moment.lawful o m n m.phase moment.sound.up moment.sound.moment over;
   };
 }

@@ -9,33 +9,34 @@ use Rattle.thy_view.specs.declared.view.Phase.TheVariants.{Boot, Run, Halt}
 use Rattle.thy_view.specs.Work.{begins_instruction, begins_epoch, adds_copies, LeavesNoMore}
 use Rattle.thy_scheme.specs.Scheme.{SchemeOf}
 use Rattle.thy_scheme.specs.Calls.{owed_in, OwesNoMore}
-use Rattle.thy_core_laws.specs.Machine.{Machine, moment_of, moves_while, moves_in, after_boot_only, gauge_in, gauge_of}
+use Rattle.thy_core_laws.specs.Machine.{Machine, moment_of, moves_begun, moves_while, moves_in, after_boot_only, gauge_in, gauge_of}
 
 -- ---- moves
 
-pub moves_same : (phase : Phase) (over : Option EndCause) (a b : Moment) → moves_left b ≡ moves_left a → moves_in phase over b ≡ moves_in phase over a
-moves_same Boot over a b e = refl
-moves_same Run None a b e = e
-moves_same Run (Some cause) a b e = refl
-moves_same Halt over a b e = refl
+pub moves_same : (phase : Phase) (over : Option EndCause) (begun : Option ℕ) (a b : Moment) → moves_left b ≡ moves_left a
+    → moves_in phase over begun b ≡ moves_in phase over begun a
+moves_same Boot over begun a b e = refl
+moves_same Run None begun a b e = ap (moves_begun begun) e
+moves_same Run (Some cause) begun a b e = refl
+moves_same Halt over begun a b e = refl
 
 -- at most those of a hart that runs
-moves_most : (phase : Phase) (over : Option EndCause) (a : Moment) → moves_in phase over a ≤ moves_in Run over a
-moves_most Boot over a = omega arith
-moves_most Run over a = omega arith
-moves_most Halt over a = omega arith
+moves_most : (phase : Phase) (over : Option EndCause) (begun : Option ℕ) (a : Moment) → moves_in phase over begun a ≤ moves_in Run over begun a
+moves_most Boot over begun a = omega arith
+moves_most Run over begun a = omega arith
+moves_most Halt over begun a = omega arith
 
 -- behind a phase that runs there are no more
-pub moves_fewer : (before now : Phase) (over : Option EndCause) (a b : Moment) → before ≡ Run → moves_left b ≡ moves_left a
-    → moves_in now over b ≤ moves_in before over a
-moves_fewer before now over a b runs e =
-    omega (arith, moves_most now over b, moves_same Run over a b e, ap (λ p. moves_in p over a) runs)
+pub moves_fewer : (before now : Phase) (over : Option EndCause) (begun : Option ℕ) (a b : Moment) → before ≡ Run → moves_left b ≡ moves_left a
+    → moves_in now over begun b ≤ moves_in before over begun a
+moves_fewer before now over begun a b runs e =
+    omega (arith, moves_most now over begun b, moves_same Run over begun a b e, ap (λ p. moves_in p over begun a) runs)
 
 -- none once the epoch is over
-pub moves_over : (phase : Phase) (over : Option EndCause) (cause : EndCause) (a : Moment) → over ≡ Some cause → moves_in phase over a ≡ 0
-moves_over Boot over cause a e = refl
-moves_over Run over cause a e = ap (λ x. moves_while x a) e
-moves_over Halt over cause a e = refl
+pub moves_over : (phase : Phase) (over : Option EndCause) (begun : Option ℕ) (cause : EndCause) (a : Moment) → over ≡ Some cause → moves_in phase over begun a ≡ 0
+moves_over Boot over begun cause a e = refl
+moves_over Run over begun cause a e = ap (λ x. moves_while x begun a) e
+moves_over Halt over begun cause a e = refl
 
 -- ---- numbers that are none in the boot
 
@@ -49,7 +50,7 @@ number_behind Halt number behind = refl
 -- what a cycle behind the boot shows of it
 pub record NoMore {S : Type 0} (K : SchemeOf S) (did : Did) (m : Machine S) (n : Device) (next : Machine S) (new : Device) : Type 0 where
   pub moves : begins_instruction did ≡ false
-      → moves_in next.phase next.hart.epoch.over (moment_of K next new) ≤ moves_in m.phase m.hart.epoch.over (moment_of K m n)
+      → moves_in next.phase next.hart.epoch.over next.begun (moment_of K next new) ≤ moves_in m.phase m.hart.epoch.over m.begun (moment_of K m n)
   pub owed : adds_copies did ≡ false → OwesNoMore K m.scheme n next.scheme new
   pub owed_in_all : begins_epoch did ≡ false → owed_in K next.scheme new ≤ owed_in K m.scheme n
   pub promotions : begins_epoch did ≡ false → K.promotions_left next.scheme ≤ K.promotions_left m.scheme

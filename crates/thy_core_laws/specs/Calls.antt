@@ -1,5 +1,5 @@
 -- What the calls of hart and cache leave of the machine, and the machine after each cycle.
-use Rattle.std.specs.Prelude.{◌≡◌, ◌≢◌, ◌⊎◌, ℕ, ◌+◌, ◌==◌, ◌≤◌, if◌then◌else◌, not, true, false, Bool, Some}
+use Rattle.std.specs.Prelude.{◌≡◌, ◌≢◌, ◌⊎◌, ℕ, ◌+◌, ◌==◌, ◌≤◌, if◌then◌else◌, not, true, false, Bool, Option, Some, None}
 use Rattle.thy_base.specs.declared.cause.EndCause.{EndCause}
 use Rattle.thy_base.specs.declared.cause.EndCause.TheVariants.{Length, Exhausted, Ended}
 use Rattle.thy_base.specs.Device.{Device}
@@ -30,7 +30,7 @@ use Rattle.thy_scheme.specs.CheckpointMarks.{only, marks_after}
 use Rattle.thy_scheme.specs.Scheme.{SchemeOf}
 use Rattle.thy_scheme.specs.Calls.{IsOneAccess}
 use Rattle.thy_scheme.specs.SchemeStore.{held_by_scheme}
-use Rattle.thy_core_laws.specs.Machine.{Lengths, Machine, moment_of}
+use Rattle.thy_core_laws.specs.Machine.{Lengths, Machine, cpu_fronted, moment_of}
 
 -- ---- what the calls leave
 
@@ -60,6 +60,24 @@ pub record FlushCall {S : Type 0} (K : SchemeOf S) (m : Machine S) (n : Device) 
   pub sized : KeepsSize m.cache c
   pub access : IsOneAccess K m.scheme n t new
 
+-- ---- whose instruction is begun
+
+-- the processor with this hart in front: it is there already if its instruction is begun
+abbrev pub cpu_begun : ℕ → Option ℕ → CpuState → CpuState
+cpu_begun hart None c = cpu_fronted hart c
+cpu_begun hart (Some begun) c = c
+
+-- the machine as this hart's step finds it, with its instruction begun
+abbrev pub begun_by_hart : {S : Type 0} → ℕ → Machine S → Machine S
+begun_by_hart hart m = record m { hart = record m.hart { cpu = cpu_begun hart m.begun m.hart.cpu }; begun = Some hart }
+
+-- an instruction has ended by this step: it was retired, or dropped
+abbrev pub ends_by : HartStep → Bool
+ends_by Moved = false
+ends_by Retired = true
+ends_by Waiting = false
+ends_by (Over cause) = true
+
 -- ---- the machine after a cycle
 
 -- an instruction was retired, by the result of the hart's step
@@ -74,17 +92,20 @@ retires_by Retired = true
 retires_by Waiting = false
 retires_by (Over cause) = retires_over cause
 
--- the instruction is hart 0's
-abbrev pub hart_did : HartStep → Did
-hart_did step = if retires_by step then DidRetire 0 else DidMove
+-- the instruction is this hart's
+abbrev pub hart_did : ℕ → HartStep → Did
+hart_did hart step = if retires_by step then DidRetire hart else DidMove
 
-abbrev pub after_hart : {S : Type 0} → HartStep → HartState → Contents → S → Machine S → Machine S
-after_hart step h c t m = record m {
-  hart = h;
+-- after a step of this hart; once its instruction has ended, hart 0 is in front again
+abbrev pub after_hart : {S : Type 0} → ℕ → HartStep → HartState → Contents → S → Machine S → Machine S
+after_hart hart step h c t m = record m {
+  hart = record h { cpu = if ends_by step then cpu_fronted hart h.cpu else h.cpu };
   cache = c;
   scheme = t;
   spent = m.spent + 1;
   lap = m.lap + (if retires_by step then 1 else 0);
+  begun = if ends_by step then None else Some hart;
+  last = if retires_by step then Some hart else m.last;
 }
 
 -- after a line was stored
@@ -138,6 +159,8 @@ running_from cpu epoch t m = record m {
   phase = if is_running cpu.status then Run else Halt;
   marks = only (mark epoch cpu.count);
   consoles = record { done = cpu.console_len; sealed = 0 };
+  begun = None;
+  last = None;
 }
 
 abbrev pub after_boot : {S : Type 0} → Origin → BootStep → S → Machine S → Machine S

@@ -1,6 +1,6 @@
 -- Part of the claim.
 -- The machine: hart, cache and a scheme of checkpoints, and what is seen of it.
-use Rattle.std.specs.Prelude.{ℕ, ◌+◌, ◌&&◌, not, Bool, true, nat_lt, if◌then◌else◌, List, length, Option, Some, None}
+use Rattle.std.specs.Prelude.{ℕ, ◌+◌, ◌==◌, ◌&&◌, not, Bool, true, nat_lt, if◌then◌else◌, List, length, Option, Some, None}
 use Rattle.thy_base.specs.declared.block.Block.{Block}
 use Rattle.thy_base.specs.Device.{Device}
 use Rattle.thy_base.specs.declared.cause.EndCause.{EndCause}
@@ -9,13 +9,15 @@ use Rattle.thy_cache.specs.Flat.{flat}
 use Rattle.thy_hart.specs.declared.hand.Hand.{Hand}
 use Rattle.thy_hart.specs.declared.hand.Hand.TheVariants.{Nothing, Reading, Reserving, Writing, Retiring}
 use Rattle.thy_hart.specs.HartState.{HartState, blocks_of, reserved}
+use Rattle.thy_isa.specs.declared.state.CpuState.{CpuState}
+use Rattle.thy_isa.specs.Step.{cpu_crossed}
 use Rattle.thy_hart.specs.Moments.{Moment, moment, moves_left}
 use Rattle.thy_view.specs.declared.view.Phase.{Phase}
 use Rattle.thy_view.specs.declared.view.Phase.TheVariants.{Boot, Run, Halt}
 use Rattle.thy_view.specs.declared.view.View.{View}
 use Rattle.thy_view.specs.Origin.{Origin}
 use Rattle.thy_view.specs.Pace.{Gauge}
-use Rattle.thy_view.specs.Turn.{Pressure, Shortage}
+use Rattle.thy_view.specs.Turn.{Pressure, Shortage, front_of}
 use Rattle.thy_scheme.specs.CheckpointMarks.{CheckpointMarks}
 use Rattle.thy_scheme.specs.Scheme.{SchemeOf}
 use Rattle.thy_scheme.specs.SchemeStore.{held_by_scheme}
@@ -41,10 +43,26 @@ pub record Machine (S : Type 0) : Type 0 where
   pub idle : Bool
   -- a step failed since power came on
   pub failed : Bool
+  -- the hart whose instruction is begun, which is in front; while none is, hart 0 is
+  pub begun : Option ℕ
+  -- the hart that retired the last instruction since the boot
+  pub last : Option ℕ
+
+-- this hart in front of a processor that has hart 0 in front, and hart 0 again
+abbrev pub cpu_fronted : ℕ → CpuState → CpuState
+cpu_fronted hart c = if hart == 0 then c else cpu_crossed c
+
+-- the processor with hart 0 in front
+abbrev pub processor_of : {S : Type 0} → Machine S → CpuState
+processor_of m = cpu_fronted (front_of m.begun) m.hart.cpu
 
 -- hart and cache over the scheme
 abbrev pub moment_of : {S : Type 0} → SchemeOf S → Machine S → Device → Moment
 moment_of K m n = moment m.hart m.cache (held_by_scheme K m.scheme n)
+
+-- the hart as it is once hart 0 is in front
+abbrev pub hart_put_back : {S : Type 0} → Machine S → HartState
+hart_put_back m = record m.hart { cpu = processor_of m }
 
 -- memory, as it is read through the cache
 abbrev pub memory_of : {S : Type 0} → SchemeOf S → Machine S → Device → List Block
@@ -101,6 +119,8 @@ pressure_of K m = record {
   promotes = K.promoting m.scheme;
   dirty = dirty_count m.cache;
   overlaid = K.overlaid m.scheme;
+  begun = m.begun;
+  last = m.last;
 }
 
 abbrev pub boot_left_in : {S : Type 0} → SchemeOf S → Phase → Machine S → ℕ
@@ -108,15 +128,20 @@ boot_left_in K Boot m = K.boot_left m.scheme
 boot_left_in K Run m = 0
 boot_left_in K Halt m = 0
 
--- moves are left while the hart runs and its epoch is not over
-abbrev pub moves_while : Option EndCause → Moment → ℕ
-moves_while None m = moves_left m
-moves_while (Some cause) m = 0
+-- moves that are left: the most while none is begun, as the line of the other hart may have to be brought
+abbrev pub moves_begun : Option ℕ → ℕ → ℕ
+moves_begun None left = 16
+moves_begun (Some hart) left = left
 
-abbrev pub moves_in : Phase → Option EndCause → Moment → ℕ
-moves_in Boot over m = 0
-moves_in Run over m = moves_while over m
-moves_in Halt over m = 0
+-- they are left while the hart runs and its epoch is not over
+abbrev pub moves_while : Option EndCause → Option ℕ → Moment → ℕ
+moves_while None begun m = moves_begun begun (moves_left m)
+moves_while (Some cause) begun m = 0
+
+abbrev pub moves_in : Phase → Option EndCause → Option ℕ → Moment → ℕ
+moves_in Boot over begun m = 0
+moves_in Run over begun m = moves_while over begun m
+moves_in Halt over begun m = 0
 
 -- a number that is 0 in the boot, in which nothing is owed or to be promoted
 abbrev pub after_boot_only : Phase → ℕ → ℕ
@@ -131,7 +156,7 @@ gauge_in K phase m n = record {
   queued = length n.queue + K.queued m.scheme;
   free = K.free m.scheme;
   dirty = dirty_count m.cache + reserved m.hart.hand;
-  moves = moves_in phase m.hart.epoch.over (moment_of K m n);
+  moves = moves_in phase m.hart.epoch.over m.begun (moment_of K m n);
   owed = after_boot_only phase (K.holding m.scheme n).owed;
   owed_later = after_boot_only phase (K.owed_later m.scheme);
   promotions = after_boot_only phase (K.promotions_left m.scheme);

@@ -8,11 +8,11 @@ use Rattle.thy_cache.specs.Contents.{dirty_count}
 use Rattle.thy_hart.specs.Moments.{Moment, moves_left}
 use Rattle.thy_scheme.specs.Scheme.{SchemeOf}
 use Rattle.thy_scheme.specs.Calls.{owed_in}
-use Rattle.thy_core_laws.specs.Machine.{Machine, moment_of}
+use Rattle.thy_core_laws.specs.Machine.{Machine, moves_begun, moment_of}
 
 -- of the instruction in hand, or the next one, and of those that the epoch has after it: each has at most 16 moves
-abbrev pub instructions_left : Moment → ℕ
-instructions_left m = moves_left m + 1 + 17 * (m.hart.epoch.span - m.hart.epoch.retired - 1)
+abbrev pub instructions_left : Option ℕ → Moment → ℕ
+instructions_left begun m = moves_begun begun (moves_left m) + 1 + 17 * (m.hart.epoch.span - m.hart.epoch.retired - 1)
 
 -- of flushes and merges: while lines are dirty, there may be as many merges as there can be
 abbrev pub flushes_left : ℕ → ℕ → ℕ → ℕ
@@ -20,7 +20,7 @@ flushes_left most dirty merges = if dirty == 0 then merges else dirty + most
 
 -- of instructions, until the epoch is over, and of flushes and merges after them
 abbrev pub hart_left : {S : Type 0} → SchemeOf S → Parameters → Option EndCause → Machine S → Device → ℕ
-hart_left K p None m n = instructions_left (moment_of K m n) + K.most_free p + K.most_merges p
+hart_left K p None m n = instructions_left m.begun (moment_of K m n) + K.most_free p + K.most_merges p
 hart_left K p (Some cause) m n = flushes_left (K.most_merges p) (dirty_count m.cache) (K.merges_left m.scheme)
 
 -- of the epoch, without its seal

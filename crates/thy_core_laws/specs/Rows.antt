@@ -19,7 +19,7 @@ use Rattle.thy_view.specs.Dram.{LeavesDram}
 use Rattle.thy_view.specs.Origin.{Origin}
 use Rattle.thy_view.specs.Pace.{KeepsPace}
 use Rattle.thy_view.specs.Told.{HasTurn}
-use Rattle.thy_view.specs.Turn.{stall_in, over_by}
+use Rattle.thy_view.specs.Turn.{Advances, HandsOn, stall_in, over_by}
 use Rattle.thy_view.specs.Views.{IsRestarting}
 use Rattle.thy_view.specs.Work.{Works}
 use Rattle.thy_scheme.specs.declared.boot_step.BootStep.{BootStep}
@@ -30,7 +30,7 @@ use Rattle.thy_scheme.specs.Laws.{IsLawful}
 use Rattle.thy_core_laws.specs.Machine.{Machine, view_of, pressure_of, gauge_of, has_read_of}
 use Rattle.thy_core_laws.specs.Pace.{most_spent}
 use Rattle.thy_core_laws.specs.Sound.{Sound}
-use Rattle.thy_core_laws.specs.Calls.{HartCall, FlushCall, hart_did, after_hart, after_flush, after_call, after_drain, after_seal, after_engine, after_boot}
+use Rattle.thy_core_laws.specs.Calls.{HartCall, FlushCall, begun_by_hart, hart_did, after_hart, after_flush, after_call, after_drain, after_seal, after_engine, after_boot}
 
 -- a cycle that did this leads to the next moment: by a step of the view, one action of both devices, and within bounds,
 -- and gets done what it says; in a boot that found a checkpoint it leaves the NVM as it was, unless the scheme migrates
@@ -61,6 +61,12 @@ pub record HartGoes {S : Type 0} (K : SchemeOf S) (o : Origin) (m : Machine S) (
   pub phase : m.phase ≡ Run
   pub free : stall_in o Run (view_of K o m n) (pressure_of K m) ≡ None
 
+-- and so this hart advances its instruction, which is one of the geometry's: if one is begun, it is this hart's
+pub record HartAdvances {S : Type 0} (K : SchemeOf S) (o : Origin) (m : Machine S) (n : Device) (hart : ℕ) : Type 0 where
+  pub goes : HartGoes K o m n
+  pub there : hart < o.geometry.harts
+  pub own : (begun : ℕ) → m.begun ≡ Some begun → begun ≡ hart
+
 -- what comes before a seal is done, at the hart's turn
 pub record IsSealing {S : Type 0} (K : SchemeOf S) (o : Origin) (m : Machine S) (n : Device) : Type 0 where
   pub phase : m.phase ≡ Run
@@ -71,11 +77,19 @@ pub record IsSealing {S : Type 0} (K : SchemeOf S) (o : Origin) (m : Machine S) 
 -- Moved, Retired, and the end of an epoch; an instruction that is retired has its turn
 abbrev pub HartSimulates : {S : Type 0} → SchemeOf S → Type 0
 HartSimulates {S} K =
-    (o : Origin) (cycles : ℕ) (m : Machine S) (n : Device) (h : HartState) (c : Contents) (t : S) (new : Device) (step : HartStep)
-    → At K o cycles m n → HartGoes K o m n
-    → HartCall K (given o.input (K.free m.scheme) (K.under_way m.scheme)) m n h c t new step
-    → HasTurn o (view_of K o m n) (hart_did step)
-    → SimulatesCycle K o cycles (hart_did step) m n (after_hart step h c t m) new
+    (o : Origin) (cycles : ℕ) (m : Machine S) (n : Device) (hart : ℕ) (h : HartState) (c : Contents) (t : S) (new : Device) (step : HartStep)
+    → At K o cycles m n → HartAdvances K o m n hart
+    → HartCall K (given o.input (K.free m.scheme) (K.under_way m.scheme)) (begun_by_hart hart m) n h c t new step
+    → HasTurn o (view_of K o m n) (hart_did hart step)
+    → SimulatesCycle K o cycles (hart_did hart step) m n (after_hart hart step h c t m) new
+
+-- and its instruction stays the hart's until it is retired or dropped
+abbrev pub HartHandsOn : {S : Type 0} → SchemeOf S → Type 0
+HartHandsOn {S} K =
+    (o : Origin) (cycles : ℕ) (m : Machine S) (n : Device) (hart : ℕ) (h : HartState) (c : Contents) (t : S) (new : Device) (step : HartStep)
+    → At K o cycles m n → HartAdvances K o m n hart
+    → HartCall K (given o.input (K.free m.scheme) (K.under_way m.scheme)) (begun_by_hart hart m) n h c t new step
+    → HandsOn (Advances hart) (hart_did hart step) (pressure_of K m) (pressure_of K (after_hart hart step h c t m))
 
 -- ---- before a seal, and the seal
 

@@ -17,12 +17,12 @@ use Rattle.thy_view.specs.Origin.{Origin, IsOrigin}
 use Rattle.thy_view.specs.Pace.{Gauge, KeepsPace, retires}
 use Rattle.thy_view.specs.Safe.{ceiling, Safe}
 use Rattle.thy_view.specs.Told.{told, AgreeBelow, reach, HasTurn}
-use Rattle.thy_view.specs.Turn.{Turn}
+use Rattle.thy_view.specs.Turn.{Turn, HandsOn, turn_of}
 use Rattle.thy_view.specs.Views.{is_halt, halts, doubt_of}
 use Rattle.thy_scheme.specs.Scheme.{SchemeOf}
 use Rattle.thy_scheme.specs.Laws.{IsLawful as IsLawfulScheme}
 use Rattle.thy_core_laws.specs.Kind.{kind_over, left_ahead}
-use Rattle.thy_core_laws.specs.Machine.{Machine, view_of, pressure_of}
+use Rattle.thy_core_laws.specs.Machine.{Machine, processor_of, view_of, pressure_of}
 use Rattle.thy_core_laws.specs.Failures.{Fails}
 use Rattle.thy_core_laws.specs.Rows.{IsMoment, At, SimulatesCycle}
 use Rattle.thy_core_laws.specs.Sound.{Sound, IsAt, IsPowered}
@@ -71,13 +71,14 @@ SimulatingIsStep {S} K =
     (o : Origin) (cycles : ℕ) (pick : Pick) (m next : Machine S) (n new : Device) (r : Stepped)
     → At K o cycles m n → SimulatesCycle K o cycles r.did m n next new → IsAt K o (cycles + 1) next new
     → Turn o pick (length n.queue) (view_of K o m n) (pressure_of K m) r.did r.stall
+    → HandsOn (turn_of o pick (length n.queue) (view_of K o m n) (pressure_of K m)) r.did (pressure_of K m) (pressure_of K next)
     → r.ended ≡ halts (view_of K o m n) (view_of K o next new) → IsStep (kind_over K) o cycles pick m next n new r
 
--- a cycle whose action failed is a failed cycle of a machine, if the hart is as before
+-- a cycle whose action failed is a failed cycle of a machine, if the processor is as before
 abbrev pub FailingIsSafe : {S : Type 0} → SchemeOf S → Type 0
 FailingIsSafe {S} K =
     (o : Origin) (cycles : ℕ) (pick : Pick) (m next : Machine S) (n new : Device) (did : Did) (stall : Option Stall)
-    → IsMoment K o cycles m n → Fails K o did m next.scheme n new → next.hart ≡ m.hart → next.failed ≡ true
+    → IsMoment K o cycles m n → Fails K o did m next.scheme n new → processor_of next ≡ processor_of m → next.failed ≡ true
     → Turn o pick (length n.queue) (view_of K o m n) (pressure_of K m) did stall
     → LeavesSafe (kind_over K) o pick m next n new
 

@@ -14,7 +14,7 @@ use Rattle.thy_hart.specs.declared.hand.Hand.TheVariants.{Nothing, Reading, Rese
 use Rattle.thy_hart.specs.HartState.{HartState, next_block, reserved}
 use Rattle.thy_hart.specs.Moments.{IsOpenFor}
 use Rattle.thy_hart.specs.Laws.{Follows}
-use Rattle.thy_isa.specs.Step.{state_with, is_running}
+use Rattle.thy_isa.specs.Step.{State, state_with, fronted, is_running}
 use Rattle.thy_view.specs.declared.view.Phase.{Phase}
 use Rattle.thy_view.specs.declared.view.Phase.TheVariants.{Boot, Run, Halt}
 use Rattle.thy_view.specs.declared.view.View.{View}
@@ -22,10 +22,10 @@ use Rattle.thy_view.specs.Kind.{without_memory}
 use Rattle.thy_view.specs.Origin.{Origin, IsOrigin, at, runs_at}
 use Rattle.thy_view.specs.Stores.{stored_by}
 use Rattle.thy_view.specs.Told.{told, AgreeBelow, reach}
-use Rattle.thy_view.specs.Turn.{has_stopped}
+use Rattle.thy_view.specs.Turn.{front_of, has_stopped}
 use Rattle.thy_view.specs.Views.{is_boot}
 use Rattle.thy_scheme.specs.Scheme.{SchemeOf}
-use Rattle.thy_core_laws.specs.Machine.{Machine, memory_of, view_of}
+use Rattle.thy_core_laws.specs.Machine.{Machine, processor_of, memory_of, view_of}
 use Rattle.thy_core_laws.specs.Pace.{cycles_left, most_spent}
 
 -- ---- numbers that so many cycles can have reached
@@ -44,17 +44,22 @@ pub record IsSmall (cycles : ℕ) (v : View) : Type 0 where
 
 -- ---- the parts after the boot
 
--- between two steps a page may be open for the line in the way of the next block; once the epoch is over, for the first
--- dirty line
-abbrev pub OpenNow : Option EndCause → Contents → HartState → Option ℕ → Type 0
-OpenNow None c h page = IsOpenFor c (next_block h) page
-OpenNow (Some cause) c h page = IsOpenForFlush c page
+-- between two steps of an instruction a page may be open for the line in the way of the next block; while none is begun
+-- none is open
+abbrev pub OpenFor : Option ℕ → Contents → HartState → Option ℕ → Type 0
+OpenFor None c h page = page ≡ None
+OpenFor (Some hart) c h page = IsOpenFor c (next_block h) page
+
+-- once the epoch is over one may be open for the first dirty line
+abbrev pub OpenNow : Option EndCause → Option ℕ → Contents → HartState → Option ℕ → Type 0
+OpenNow None begun c h page = OpenFor begun c h page
+OpenNow (Some cause) begun c h page = IsOpenForFlush c page
 
 -- the cache reads as memory over the scheme, which has room for its dirty lines and for what is reserved
 pub record IsHeld {S : Type 0} (K : SchemeOf S) (m : Machine S) (n : Device) : Type 0 where
   pub agree : Agrees m.cache (K.holding m.scheme n).blocks
   pub room : dirty_count m.cache + reserved m.hart.hand ≤ K.free m.scheme
-  pub opened : OpenNow m.hart.epoch.over m.cache m.hart (K.holding m.scheme n).open_page
+  pub opened : OpenNow m.hart.epoch.over m.begun m.cache m.hart (K.holding m.scheme n).open_page
 
 -- before room is reserved, what the instruction in hand is to write is what the plain machine's writes
 abbrev pub IsToWrite : Span → Hand → Type 0
@@ -64,16 +69,27 @@ IsToWrite stored (Reserving e to) = (to ≡ stored) × ((to.len == 0) ≡ false)
 IsToWrite stored (Writing e to done) = Unit {0}
 IsToWrite stored (Retiring e wrote) = Unit {0}
 
--- the hart agrees with the plain machine that has retired as many instructions
+-- the plain machine that has retired as many instructions, with the hart in front that the machine has there
+abbrev pub state_in_front : {S : Type 0} → Origin → Machine S → State
+state_in_front o m = fronted (front_of m.begun) (at o m.hart.cpu.count)
+
+-- the hart that is in front is one of the geometry's; while none is begun, nothing is in hand, and none is once the epoch is
+-- over
+pub record IsFront {S : Type 0} (o : Origin) (m : Machine S) : Type 0 where
+  pub there : (hart : ℕ) → m.begun ≡ Some hart → hart < o.geometry.harts
+  pub rests : m.begun ≡ None → m.hart.hand ≡ Nothing
+  pub over : m.hart.epoch.over ≢ None → m.begun ≡ None
+
+-- the processor agrees with the plain machine that has retired as many instructions
 pub record IsCounted {S : Type 0} (o : Origin) (m : Machine S) : Type 0 where
   pub start : o.start.count ≤ m.hart.cpu.count
   pub count : (at o m.hart.cpu.count).count ≡ m.hart.cpu.count
-  pub processor : state_with m.hart.cpu [] [] ≡ without_memory (at o m.hart.cpu.count)
+  pub processor : state_with (processor_of m) [] [] ≡ without_memory (at o m.hart.cpu.count)
   pub running : is_running m.hart.cpu.status ≡ runs_at o m.hart.cpu.count
 
--- its epoch is one of this length, and no instruction is in hand before anything was spent, or once it is over
+-- its epoch is one of this length, no instruction is begun before anything was spent, and none is in hand once it is over
 pub record IsEpoch {S : Type 0} (o : Origin) (m : Machine S) : Type 0 where
-  pub began : m.spent ≡ 0 → m.hart.hand ≡ Nothing
+  pub began : m.spent ≡ 0 → m.begun ≡ None
   pub span : m.hart.epoch.span ≡ o.geometry.epoch
   pub retired : HasRetired m.hart.epoch.span m.hart.epoch.retired m.hart.epoch.over
   pub hand : m.hart.epoch.over ≢ None → m.hart.hand ≡ Nothing
@@ -99,6 +115,7 @@ pub record IsShown {S : Type 0} (o : Origin) (m : Machine S) : Type 0 where
 pub record IsStill {S : Type 0} (count : ℕ) (m : Machine S) : Type 0 where
   pub count_is : m.hart.cpu.count ≡ count
   pub hand : m.hart.hand ≡ Nothing
+  pub begun : m.begun ≡ None
   pub over : m.hart.epoch.over ≡ None
 
 -- the hart stands still once the sealed state has ended, or the machine has halted
@@ -136,8 +153,9 @@ pub record IsPaced {S : Type 0} (K : SchemeOf S) (p : Parameters) (m : Machine S
 pub record SoundRun {S : Type 0} (K : SchemeOf S) (o : Origin) (m : Machine S) (n : Device) : Type 0 where
   pub checkpoints : K.is_sound o m.marks m.scheme n
   pub held : IsHeld K m n
-  pub follows : Follows o.input (at o m.hart.cpu.count) m.hart (memory_of K m n)
-  pub writes : IsToWrite (stored_by o (at o m.hart.cpu.count)) m.hart.hand
+  pub follows : Follows o.input (state_in_front o m) m.hart (memory_of K m n)
+  pub writes : IsToWrite (stored_by o (state_in_front o m)) m.hart.hand
+  pub front : IsFront o m
   pub counted : IsCounted o m
   pub epoch : IsEpoch o m
   pub numbered : IsNumbered o m
@@ -156,6 +174,8 @@ pub record IsBlank {S : Type 0} (m : Machine S) : Type 0 where
   pub spent : m.spent ≡ 0
   pub lap : m.lap ≡ 0
   pub idle : m.idle ≡ false
+  pub begun : m.begun ≡ None
+  pub last : m.last ≡ None
 
 -- the hart is not used while the scheme boots
 pub record SoundBoot {S : Type 0} (K : SchemeOf S) (o : Origin) (m : Machine S) (n : Device) : Type 0 where
@@ -198,4 +218,4 @@ pub record IsPowered {S : Type 0} (K : SchemeOf S) (p : Parameters) (m : Machine
 pub record SoundStopped {S : Type 0} (K : SchemeOf S) (o : Origin) (before : View) (m : Machine S) : Type 0 where
   pub failed : m.failed ≡ true
   pub of_geometry : K.is_of o.geometry m.scheme
-  pub processor : is_boot before.phase ≡ false → state_with m.hart.cpu [] [] ≡ without_memory (at o before.count)
+  pub processor : is_boot before.phase ≡ false → state_with (processor_of m) [] [] ≡ without_memory (at o before.count)

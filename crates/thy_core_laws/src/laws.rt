@@ -1,13 +1,18 @@
 //! Laws of the machine, for every scheme, each the contract of a function that does nothing.
 ghost use Rattle.thy_core_laws.specs.Failures.{HartFails, FlushFails, PromotionLeaves, EngineLeaves, BootLeaves, DrainFails};
-ghost use Rattle.thy_core_laws.specs.Rows.{HartSimulates, FlushSimulates, MergeSimulates, PromotionSimulates, BootSimulates, SealSimulates, EngineSimulates, NvmDrainSimulates, DramDrainSimulates, BootDrainSimulates, HaltSimulates};
+ghost use Rattle.thy_core_laws.specs.Rows.{HartSimulates, HartHandsOn, FlushSimulates, MergeSimulates, PromotionSimulates, BootSimulates, SealSimulates, EngineSimulates, NvmDrainSimulates, DramDrainSimulates, BootDrainSimulates, HaltSimulates};
 ghost use Rattle.thy_core_laws.specs.Runs.{MomentIsSafe, CyclesComeNearer, FreshSimulates, CutSimulates, MachineIsLawful, LeadsToMoment, SimulatingIsStep, FailingIsSafe};
 
 use thy_scheme::Scheme;
 
-/// A step of the hart leads to the next moment: by a step of the view, one action on the NVM, and within bounds.
+/// A step of a hart leads to the next moment: by a step of the view, one action on the NVM, and within bounds.
 pub fn the_hart_simulates<S: Scheme>()
     ensures { HartSimulates S.scheme }
+{}
+
+/// An instruction that is begun stays its hart's until it is retired or dropped.
+pub fn the_hart_hands_on<S: Scheme>()
+    ensures { HartHandsOn S.scheme }
 {}
 
 /// A step of a flush before a seal leads to the next moment.

@@ -15,5 +15,5 @@ pub use laws::{
     a_halted_cycle_simulates, a_merge_simulates, a_moment_is_safe, a_promotion_fails_safely,
     a_promotion_simulates, a_seal_simulates, an_nvm_drain_simulates, cycles_come_nearer,
     the_boot_fails_safely, the_boot_simulates, the_engine_fails_safely, the_engine_simulates,
-    the_hart_fails_safely, the_hart_simulates, the_machine_is_lawful,
+    the_hart_fails_safely, the_hart_hands_on, the_hart_simulates, the_machine_is_lawful,
 };

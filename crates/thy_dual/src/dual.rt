@@ -53,7 +53,13 @@ impl Model for DualScheme {
 
     ghost Value = { Dual };
 
-    ghost view = { λ d. record { control = d.control; engine = d.engine; storeless = d.storeless; sealed_storeless = d.sealed_storeless; boot = d.boot } };
+    ghost view = { λ d. record {
+      control = d.control;
+      engine = d.engine;
+      storeless = d.storeless;
+      sealed_storeless = d.sealed_storeless;
+      boot = d.boot;
+    } };
 
     ghost invariant = { λ d. Fits d.engine d.control };
 }

@@ -353,15 +353,15 @@ module _ (o : Origin) (s : Dual) (n : Device) (booting : IsBooting dual_scheme o
 
   -- what was seen is the mark that was restored
   restored-view : d.stage ≡ Over Restored
-      → view_at o b.stage n ≡ boot_view (Some (mark (epoch_of d.commit) (cpu_of_record (slot_read filling_dual d)).count)) None
+      → view_at o b.stage n ≡ boot_view (Some (mark (epoch_of d.commit) (cpu_of_record d.p (slot_read filling_dual d)).count)) None
   restored-view is =
       let shows = subst (λ (x : Stage). CoreStep o v (did_of (answer_at filling_dual x d)) (seen_at o g.kept x)) is moved.shows in
-      before ∙ was-found o g n b s.control b.stage (mark (epoch_of d.commit) (cpu_of_record (slot_read filling_dual d)).count) going shows.done
+      before ∙ was-found o g n b s.control b.stage (mark (epoch_of d.commit) (cpu_of_record d.p (slot_read filling_dual d)).count) going shows.done
 
-  restarted : d.stage ≡ Over Restored → version_of d.commit ≡ VersionTwo → Restarts dual_scheme o (cpu_of_record (slot_read filling_dual d)) (epoch_of d.commit) s n t new
+  restarted : d.stage ≡ Over Restored → version_of d.commit ≡ VersionTwo → Restarts dual_scheme o (cpu_of_record d.p (slot_read filling_dual d)) (epoch_of d.commit) s n t new
   restarted is two =
       let epoch : ℕ = epoch_of d.commit in
-      let cpu : CpuState = cpu_of_record (slot_read filling_dual d) in
+      let cpu : CpuState = cpu_of_record d.p (slot_read filling_dual d) in
       let k = restored_is_booted o h new d e boots.origin moved.sound is in
       let m : Mark = k.0 in
       let over : IsBootedAt o m cpu VersionTwo h.before new e = subst (λ (f : LayoutVersion). IsBootedAt o m cpu f h.before new e) two k.4 in
@@ -379,7 +379,7 @@ module _ (o : Origin) (s : Dual) (n : Device) (booting : IsBooting dual_scheme o
       let found = migration_begins o h new d e boots.origin moved.sound is one in
       let m : Mark = found.0 in
       let there : IsMigrating o m (SlotAt 0) h new d e = found.1 in
-      let cpu : CpuState = cpu_of_record (slot_read filling_dual d) in
+      let cpu : CpuState = cpu_of_record d.p (slot_read filling_dual d) in
       let same_mark : m ≡ mark (epoch_of d.commit) cpu.count
       = mark-same m (epoch_of d.commit) cpu.count (sym there.found.epoch) (count-same o m cpu new e there.has) in
       let now : view_at o d.stage new ≡ view_at o b.stage n
@@ -516,16 +516,16 @@ module _ (o : Origin) (s : Dual) (n : Device) (booting : IsBooting dual_scheme o
     storeless = under.storeless;
   }
 
-  count-now : (cpu_of_record (slot_read filling_dual bo)).count ≡ m.count
-  count-now = count-same o m (cpu_of_record (slot_read filling_dual bo)) n s.control h.has
+  count-now : (cpu_of_record bo.p (slot_read filling_dual bo)).count ≡ m.count
+  count-now = count-same o m (cpu_of_record bo.p (slot_read filling_dual bo)) n s.control h.has
 
-  mark-now : m ≡ mark (epoch_of bo.commit) (cpu_of_record (slot_read filling_dual bo)).count
-  mark-now = mark-same m (epoch_of bo.commit) (cpu_of_record (slot_read filling_dual bo)).count (sym h.found.epoch) count-now
+  mark-now : m ≡ mark (epoch_of bo.commit) (cpu_of_record bo.p (slot_read filling_dual bo)).count
+  mark-now = mark-same m (epoch_of bo.commit) (cpu_of_record bo.p (slot_read filling_dual bo)).count (sym h.found.epoch) count-now
 
   up-now : dev.down ≡ false
   up-now = after-up (action_on bo at) n ∙ booting.up
 
-  restart-answer : answer_of filling_dual bo ≡ Restarted (cpu_of_record (slot_read filling_dual bo)) (epoch_of bo.commit)
+  restart-answer : answer_of filling_dual bo ≡ Restarted (cpu_of_record bo.p (slot_read filling_dual bo)) (epoch_of bo.commit)
   restart-answer = ap (λ (q : Stage). answer_at filling_dual q bo) over
 
   abbrev IsAnsweredNow : SchemeStep → Type 0
@@ -540,7 +540,7 @@ module _ (o : Origin) (s : Dual) (n : Device) (booting : IsBooting dual_scheme o
     record { action = action_on bo at; asked = migration-asked bo.p (slot_read filling_dual bo) (epoch_of bo.commit) at; left = refl },
   )
   answered-now None is to =
-      let cpu : CpuState = cpu_of_record (slot_read filling_dual bo) in
+      let cpu : CpuState = cpu_of_record bo.p (slot_read filling_dual bo) in
       let epoch : ℕ = epoch_of bo.commit in
       let last : at ≡ ConfirmAt = last-action bo.p at is in
       subst IsAnsweredNow (sym (ap step_of restart-answer)) (

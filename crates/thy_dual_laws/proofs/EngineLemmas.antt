@@ -5,7 +5,7 @@ use Rattle.thy_base.specs.declared.block.Block.{Block}
 use Rattle.thy_base.specs.declared.mark.Mark.{Mark}
 use Rattle.thy_base.specs.declared.config.Parameters.{Parameters}
 use Rattle.thy_base.specs.Device.{Device, block_at, newest, IsFramed}
-use Rattle.thy_base.specs.Places.{slot_blocks, image_blocks}
+use Rattle.thy_base.specs.Places.{record_blocks, slot_blocks, image_blocks}
 use Rattle.thy_crash.proofs.SavedLemmas.{next_image-commit}
 use Rattle.thy_isa.specs.OnBlocks.{state_from}
 use Rattle.thy_place.specs.Devices.{devices_of}
@@ -119,7 +119,7 @@ owes-after (Committed epoch) s n t new l = tt
 
 -- a step that fails leaves the marks, but for the commit block's write
 slot-marks : (p : Parameters) (epoch j : ℕ) (m : CheckpointMarks) → marks_after_fault (answer p epoch (SlotItem j)) m ≡ m
-slot-marks p epoch j m = by_place (nat_lt j 5) where
+slot-marks p epoch j m = by_place (nat_lt j (record_blocks p)) where
   by_place : (t : Bool) → marks_after_fault (if t then StateBlock else TableBlock) m ≡ m
   by_place true = refl
   by_place false = refl
@@ -330,7 +330,7 @@ module _ (o : Origin) (k : CheckpointMarks) (s : Dual) (n : Device) (stands : St
   sound-after (PageItem j) is a = sound-same (PageItem j) a (λ h. cc) a.versions a.tables.way_same refl (λ h. absurd (not_both false refl h)) refl refl refl
   sound-after (SlotItem j) is a =
       let more : Bool = nat_lt (j + 1) (slot_blocks e.p) in
-      subst (λ (m : CheckpointMarks). IsSoundDual o m (dual_after (SlotItem j)) (nvm_after (SlotItem j))) (sym (marks-slot k (nat_lt j 5)))
+      subst (λ (m : CheckpointMarks). IsSoundDual o m (dual_after (SlotItem j)) (nvm_after (SlotItem j))) (sym (marks-slot k (nat_lt j (record_blocks e.p))))
       (sound-same (SlotItem j) a (λ h. cc) a.versions a.tables.way_same (way-slot (j + 1) more)
       (λ h. absurd (not_both (is_settled (next_after e.p (SlotItem j))) (written-slot (j + 1) more) h)) refl refl (confirming-slot (j + 1) more))
   sound-after SettleItem is a = sound-same SettleItem a (λ h. cc) a.versions a.tables.way_same refl
@@ -346,7 +346,7 @@ module _ (o : Origin) (k : CheckpointMarks) (s : Dual) (n : Device) (stands : St
       let idle : e.next ≡ Nothing = back-item e.next c Nothing (ap back is) in absurd (not_both (is_under_way e.next) (ap is_under_way idle) on)
   due (CopyItem j) is = tt
   due (PageItem j) is = tt
-  due (SlotItem j) is = due-slot k (nat_lt j 5)
+  due (SlotItem j) is = due-slot k (nat_lt j (record_blocks e.p))
   due SettleItem is = tt
   due CommitItem is = (made.mark, sym sound.checkpoints.sealed ∙ made.sealed)
   due ConfirmItem is =

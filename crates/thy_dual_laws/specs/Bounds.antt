@@ -6,9 +6,9 @@ use Rattle.thy_base.specs.Places.{slot_blocks, count_blocks}
 use Rattle.thy_core_laws.specs.Pace.{most_spent}
 use Rattle.thy_dual_laws.specs.Scheme.{dual_scheme}
 
--- instructions, lines of the cache, entries of the block table, blocks of the page table's pages, and sixteen more
+-- instructions, lines of the cache, entries of the block table, blocks of the page table's pages, harts, and fifteen more
 abbrev pub size_of : Parameters → ℕ
-size_of p = p.epoch + p.sets * p.ways + p.btt + 64 * p.ptt + 16
+size_of p = p.epoch + p.sets * p.ways + p.btt + 64 * p.ptt + 15 + p.harts
 
 -- an epoch spends less than 64 cycles for each of them, and one for each block of counts
 abbrev pub EpochsAreShort : Type 0

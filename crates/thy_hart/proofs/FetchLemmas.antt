@@ -18,6 +18,7 @@ use Rattle.thy_isa.specs.declared.state.Cause.{Cause}
 use Rattle.thy_isa.specs.declared.state.Cause.TheVariants.{FetchMisaligned, FetchAccess}
 use Rattle.thy_isa.specs.declared.state.CpuState.{CpuState}
 use Rattle.thy_isa.specs.declared.state.Effect.{Effect}
+use Rattle.thy_isa.specs.declared.state.OtherHart.{OtherHart}
 use Rattle.thy_isa.specs.Access.{IsWithin}
 use Rattle.thy_isa.specs.Effects.{word_effect}
 use Rattle.thy_isa.specs.OnBlocks.{effect_in}
@@ -107,7 +108,7 @@ word_read c at block word four whole reads number blocks inside =
 
 pub effect_read : (p q : Parameters) (size : ℕ) (cpu : CpuState) (c : Contents) (fault : Option Cause) (word : ℕ) (e now : Effect) → q ≡ p → size ≡ program_size p
     → fault ≡ fetch_fault q.base size cpu.pc → fault ≡ None → ReadsWord c (span (cpu.pc - q.base) 4) word
-    → e ≡ word_effect word cpu.pc cpu.regs → now ≡ within q.base size e → FetchesEffect p cpu c now
+    → e ≡ word_effect word cpu.pc cpu.regs → now ≡ within q.base size cpu.other e → FetchesEffect p cpu c now
 unfolding effect_in
 effect_read p q size cpu c fault word e now same size_is fault_is none reads means is blocks whole =
     let no_fault = fetch_none p q size cpu.pc fault same size_is fault_is none in
@@ -116,17 +117,18 @@ effect_read p q size cpu c fault word e now same size_is fault_is none reads mea
     let here : ReadsWord c (span (cpu.pc - p.base) 4) word = subst (λ (g : Parameters). ReadsWord c (span (cpu.pc - g.base) 4) word) same reads in
     let inside : first_block (span (cpu.pc - p.base) 4) < length blocks = omega (arith, word_inside p cpu.pc w, whole) in
     is
-    ∙ ap (λ (g : Parameters). within g.base size e) same
-    ∙ ap (λ (n : ℕ). within p.base n e) size_is
-    ∙ ap (within p.base (program_size p)) (means ∙ ap (λ n. word_effect n cpu.pc cpu.regs) (here blocks inside))
-    ∙ ap (λ f. unless_trapped f (within p.base (program_size p) (word_effect number cpu.pc cpu.regs))) (sym no_fault)
+    ∙ ap (λ (g : Parameters). within g.base size cpu.other e) same
+    ∙ ap (λ (n : ℕ). within p.base n cpu.other e) size_is
+    ∙ ap (within p.base (program_size p) cpu.other) (means ∙ ap (λ n. word_effect n cpu.pc cpu.regs) (here blocks inside))
+    ∙ ap (λ f. unless_trapped f (within p.base (program_size p) cpu.other (word_effect number cpu.pc cpu.regs))) (sym no_fault)
 
 -- an effect that was tested
-pub tested : (p q : Parameters) (size : ℕ) (e now : Effect) → q ≡ p → size ≡ program_size p → now ≡ within q.base size e → IsWithin p.base (program_size p) now
-tested p q size e now same size_is is =
-    let by_base : within q.base size e ≡ within p.base size e = ap (λ (g : Parameters). within g.base size e) same in
-    let by_size : within p.base size e ≡ within p.base (program_size p) e = ap (λ (n : ℕ). within p.base n e) size_is in
-    subst (IsWithin p.base (program_size p)) (sym (is ∙ by_base ∙ by_size)) (within-is p.base (program_size p) e)
+pub tested : (p q : Parameters) (size : ℕ) (o : Option OtherHart) (e now : Effect) → q ≡ p → size ≡ program_size p → now ≡ within q.base size o e
+    → IsWithin p.base (program_size p) now
+tested p q size o e now same size_is is =
+    let by_base : within q.base size o e ≡ within p.base size o e = ap (λ (g : Parameters). within g.base size o e) same in
+    let by_size : within p.base size o e ≡ within p.base (program_size p) o e = ap (λ (n : ℕ). within p.base n o e) size_is in
+    subst (IsWithin p.base (program_size p)) (sym (is ∙ by_base ∙ by_size)) (within-is p.base (program_size p) o e)
 
 -- ---- the block of a fetch
 

@@ -7,8 +7,9 @@ use Rattle.thy_base.specs.declared.config.Parameters.{Parameters}
 use Rattle.thy_base.specs.Geometry.{IsInRange}
 use Rattle.thy_cache.proofs.FlatLemmas.{length-flat}
 use Rattle.thy_isa.specs.OnBlocks.{setting_for}
-use Rattle.thy_isa.specs.Step.{State, is_running, step}
+use Rattle.thy_isa.specs.Step.{State, is_running, step, crossed}
 use Rattle.thy_isa.proofs.BlockLaws.{state_from-step}
+use Rattle.thy_isa.proofs.HartLaws.{blocks-cross}
 use Rattle.thy_hart.specs.declared.hand.Hand.TheVariants.{Nothing}
 use Rattle.thy_hart.specs.declared.hand.HartStep.{HartStep}
 use Rattle.thy_hart.specs.declared.hand.HartStep.TheVariants.{Moved, Retired, Waiting, Over}
@@ -16,7 +17,7 @@ use Rattle.thy_hart.specs.HartState.{HartState, has_written}
 use Rattle.thy_hart.specs.Outcomes.{Given}
 use Rattle.thy_hart.specs.Moments.{Moment, memory_of}
 use Rattle.thy_hart.specs.OneStep.{current, coming_by, coming, IsOnTheWay, HasCome, IsDropped, IsUnmoved, Leads, LeadsOver, StaysWritten, IsStep}
-use Rattle.thy_hart.specs.Laws.{IsSized, Follows, state_after, state_over}
+use Rattle.thy_hart.specs.Laws.{IsSized, Follows, state_after, state_over, hart_crossed, CrossesOn}
 
 -- with nothing in hand the next state is to come
 pub next-coming : (input : List ℕ) (h : HartState) (memory : List Block) → IsSized h memory → h.hand ≡ Nothing → is_running h.cpu.status ≡ true
@@ -101,3 +102,17 @@ pub follows-on : (g : Given) (old new : Moment) (s : HartStep) (now : State) →
     → Follows g.input (state_after s now (step (setting_for old.hart.geometry g.input) now)) new.hart (memory_of new)
 follows-on g old new s now runs w f =
     follows-by s g.input now old.hart new.hart (memory_of old) (memory_of new) runs f (sized-after g old new s w f.sized) w.fixed w.leads w.clean w.written
+
+-- ---- the other hart comes to the front
+
+pub crosses-on : CrossesOn
+unfolding current
+crosses-on input now h memory none f =
+    let unwritten : has_written h.hand ≡ false = ap has_written none in
+    let sized : IsSized (hart_crossed h) memory = record { range = f.sized.range; blocks = f.sized.blocks; console = f.sized.console } in
+    let is : current (hart_crossed h) memory ≡ crossed now = blocks-cross h.geometry h.cpu memory ∙ ap crossed (f.current unwritten) in
+    record {
+      sized = sized;
+      current = λ _. is;
+      coming = λ running. next-coming input (hart_crossed h) memory sized none running ∙ ap (step (setting_for h.geometry input)) is;
+    }

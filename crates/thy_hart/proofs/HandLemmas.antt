@@ -11,10 +11,10 @@ use Rattle.thy_flat.proofs.SpanLaws.{head_len-most, rest_of-rest, length-head_in
 use Rattle.thy_isa.specs.declared.state.CallState.{CallState}
 use Rattle.thy_isa.specs.declared.state.CpuState.{CpuState}
 use Rattle.thy_isa.specs.declared.state.Effect.{Effect}
-use Rattle.thy_isa.specs.declared.state.Effect.TheVariants.{Next, Set, Read, Write, Environment, Trap}
+use Rattle.thy_isa.specs.declared.state.Effect.TheVariants.{Next, Set, Read, Write, Reserve, Conditional, Fail, Modify, Environment, Trap}
 use Rattle.thy_isa.specs.declared.state.Moves.{Moves}
 use Rattle.thy_isa.specs.Access.{IsWithin}
-use Rattle.thy_isa.specs.Moves.{moves_of, brings}
+use Rattle.thy_isa.specs.Moves.{moves_of, brings, outgoing_len}
 use Rattle.thy_isa.specs.OnBlocks.{calls_in}
 use Rattle.thy_isa.proofs.MoveLaws.{moves_of-spans, moves_of-enough}
 use Rattle.thy_hart.specs.declared.hand.Hand.{Hand}
@@ -104,14 +104,16 @@ pub record IsServed (p : Parameters) (e : Effect) (from to : Span) (have : ℕ) 
   pub span_from : IsSpanOf (memory_blocks p) from
   pub span_to : IsSpanOf (memory_blocks p) to
   pub most : have + from.len ≤ 64
-  pub least : to.len ≤ have + from.len
+  pub least : to.len ≤ outgoing_len e (have + from.len)
   pub number : read_len e ≤ have + from.len
 
 pub begun-sound : (p : Parameters) (e : Effect) (from to : Span) (have : ℕ) → IsServed p e from to have → IsInHand p (begun e from to) have
 begun-sound p e from to have h =
     begun_by (λ hand. IsInHand p hand have) e from to
     (λ some. record { span_from = h.span_from; span_to = h.span_to; some = some; most = h.most; least = h.least; number = h.number })
-    (λ none some. record { span_to = h.span_to; some = some; least = omega (arith, h.least); number = omega (arith, h.number) })
+    (λ none some.
+    let all : have + from.len ≡ have = omega arith in
+    record { span_to = h.span_to; some = some; least = omega (arith, h.least, ap (outgoing_len e) all); number = omega (arith, h.number) })
     (λ none end. omega (arith, h.number))
 
 -- after a block that was read
@@ -121,11 +123,12 @@ read-sound p e from to block old new hand h bytes is =
     let n : length new ≡ length old + head_len from
     = ap length bytes ∙ length-append old (head_in block from) ∙ ap (λ k. length old + k) (length-head_in block from) in
     let most = head_len-most from in
+    let all : length new + (rest_of from).len ≡ length old + from.len = omega (arith, n, most) in
     let served : IsServed p e (rest_of from) to (length new) = record {
       span_from = rest_of-span (memory_blocks p) from h.span_from;
       span_to = h.span_to;
       most = omega (arith, n, most, h.most);
-      least = omega (arith, n, most, h.least);
+      least = omega (arith, h.least, ap (outgoing_len e) all);
       number = omega (arith, n, most, h.number);
     } in
     subst (λ x. IsInHand p x (length new)) (sym is) (begun-sound p e (rest_of from) to (length new) served)
@@ -147,6 +150,10 @@ read_len-enough x input c (Next pc) = omega arith
 read_len-enough x input c (Set rd pc v) = omega arith
 read_len-enough x input c (Read rd width extend pc at) = omega arith
 read_len-enough x input c (Write width pc at v) = omega arith
+read_len-enough x input c (Reserve rd width pc at) = omega arith
+read_len-enough x input c (Conditional rd width pc at v) = omega arith
+read_len-enough x input c (Fail rd pc) = omega arith
+read_len-enough x input c (Modify op rd width pc at v) = omega arith
 read_len-enough x input c Environment = omega arith
 read_len-enough x input c (Trap cause) = omega arith
 

@@ -6,6 +6,7 @@ use Rattle.thy_cache.specs.Flat.{flat, AgreesStill, KeepsLines}
 use Rattle.thy_flat.specs.declared.span.Span.{Span}
 use Rattle.thy_flat.specs.Spans.{first_block, head_len}
 use Rattle.thy_isa.specs.declared.state.Effect.{Effect}
+use Rattle.thy_isa.specs.Moves.{outgoing}
 use Rattle.thy_hart.specs.declared.hand.Hand.TheVariants.{Nothing, Reading, Writing}
 use Rattle.thy_hart.specs.declared.hand.HartStep.TheVariants.{Moved}
 use Rattle.thy_hart.specs.HartState.{HartState, block_for, fetched_block, reserved, IsWriting}
@@ -43,8 +44,8 @@ IsMicroStep-read g c d old new e from to is reads unreserved lines cache = recor
 
 pub IsMicroStep-write : (g : Given) (c d : Contents) (old new : HartState) (e : Effect) (to : Span) (done : ℕ) → old.hand ≡ Writing e to done
     → IsWriting old.geometry e to done (length old.bytes) → new ≡ block_written e to done old
-    → WritesIn (memory_blocks old.geometry) c d to (drop done old.bytes) → AgreesStill c d → dirty_count d ≤ dirty_count c + 1 → KeepsSize c d
-    → d ≡ written_by c to (drop done old.bytes) → IsMicroStep g c d old new Moved
+    → WritesIn (memory_blocks old.geometry) c d to (drop done (outgoing e old.bytes)) → AgreesStill c d → dirty_count d ≤ dirty_count c + 1 → KeepsSize c d
+    → d ≡ written_by c to (drop done (outgoing e old.bytes)) → IsMicroStep g c d old new Moved
 IsMicroStep-write g c d old new e to done is writing hart memory agree dirty sized cache = record {
   hart = λ blocks whole. hart ∙ ap (acted_by g (dirty_count c) (flat c blocks) old) (sym is);
   says = ap (answer_by g (dirty_count c) old) (sym is);

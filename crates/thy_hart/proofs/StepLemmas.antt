@@ -17,7 +17,7 @@ use Rattle.thy_isa.specs.declared.state.Cause.{Cause}
 use Rattle.thy_isa.specs.declared.state.CpuState.{CpuState}
 use Rattle.thy_isa.specs.declared.state.Effect.{Effect}
 use Rattle.thy_isa.specs.declared.state.Effect.TheVariants.{Trap}
-use Rattle.thy_isa.specs.Moves.{moves_of, number_in}
+use Rattle.thy_isa.specs.Moves.{moves_of, number_in, outgoing}
 use Rattle.thy_isa.specs.OnBlocks.{calls_in, effect_in, bytes_in, cpu_after, blocks_after}
 use Rattle.thy_isa.specs.Step.{fetched as unless_trapped, fetch_fault, is_running}
 use Rattle.thy_isa.proofs.StorableLaws.{finished-room}
@@ -63,23 +63,23 @@ with_hand hand h = record h { hand = hand }
 
 -- an effect that begins or continues reaches the same state as its bytes do
 pub begun-coming : (input : List ℕ) (h : HartState) (m : List Block) (e : Effect) (from to : Span)
-    → coming_by input h m (begun e from to) ≡ led input h e (h.bytes ++ gathered m from) (scattered m to (h.bytes ++ gathered m from))
+    → coming_by input h m (begun e from to) ≡ led input h e (h.bytes ++ gathered m from) (scattered m to (outgoing e (h.bytes ++ gathered m from)))
 begun-coming input h m e from to =
     let all : List ℕ = h.bytes ++ gathered m from in
     let none_read : from.len ≡ 0 → h.bytes ≡ all
     = λ none. sym (append-nil h.bytes) ∙ ap (λ t. h.bytes ++ t) (sym (gathered-none m from none)) in
-    begun_by (λ hand. coming_by input h m hand ≡ led input h e all (scattered m to all)) e from to
+    begun_by (λ hand. coming_by input h m hand ≡ led input h e all (scattered m to (outgoing e all))) e from to
     (λ some. refl)
-    (λ none some. ap (λ bs. led input h e bs (scattered m to bs)) (none_read none))
-    (λ none end. ap (λ bs. led input h e bs m) (none_read none) ∙ ap (led input h e all) (sym (scattered-none m to all end)))
+    (λ none some. ap (λ bs. led input h e bs (scattered m to (outgoing e bs))) (none_read none))
+    (λ none end. ap (λ bs. led input h e bs m) (none_read none) ∙ ap (led input h e all) (sym (scattered-none m to (outgoing e all) end)))
 
 -- one that continues after a written block reaches the same state as the rest of its bytes do
 pub written-coming : (input : List ℕ) (h : HartState) (m : List Block) (e : Effect) (to : Span) (done : ℕ)
-    → coming_by input h m (written_on e to done) ≡ led input h e h.bytes (scattered m to (drop done h.bytes))
+    → coming_by input h m (written_on e to done) ≡ led input h e h.bytes (scattered m to (drop done (outgoing e h.bytes)))
 written-coming input h m e to done =
-    written_by (λ hand. coming_by input h m hand ≡ led input h e h.bytes (scattered m to (drop done h.bytes))) e to done
+    written_by (λ hand. coming_by input h m hand ≡ led input h e h.bytes (scattered m to (drop done (outgoing e h.bytes)))) e to done
     (λ some. refl)
-    (λ end. ap (led input h e h.bytes) (sym (scattered-none m to (drop done h.bytes) end)))
+    (λ end. ap (led input h e h.bytes) (sym (scattered-none m to (drop done (outgoing e h.bytes)) end)))
 
 -- ---- how near it is
 
@@ -194,7 +194,7 @@ module _ (g : Given) (c d : Contents) (h : HartState) (m : List Block) where
         leads = record {
           cpu = refl;
           coming = begun-coming g.input (block_read m e from to k) m e (rest_of from) to
-              ∙ ap (λ bs. led g.input k e bs (scattered m to bs)) (append_assoc h.bytes (head_read m from) (gathered m (rest_of from)) ∙ ap (λ t. h.bytes ++ t) (gathered-rest m from short));
+              ∙ ap (λ bs. led g.input k e bs (scattered m to (outgoing e bs))) (append_assoc h.bytes (head_read m from) (gathered m (rest_of from)) ∙ ap (λ t. h.bytes ++ t) (gathered-rest m from short));
         };
         falls = omega (arith, touch_hit c (first_block from) hit, read-falls d h.geometry h.cpu e from to short);
         unwritten = λ _. refl;
@@ -251,27 +251,28 @@ module _ (g : Given) (c d : Contents) (h : HartState) (m : List Block) where
   room-done e to dirty = room_by (nat_lt g.free (dirty + blocks_of to)) g.under_way e to g.free dirty
 
   write-done : (e : Effect) (to : Span) (done : ℕ) → IsWriting h.geometry e to done (length h.bytes) → hits c (first_block to) ≡ true
-      → IsDone g c d (with_hand (Writing e to done) h) m (block_written e to done (with_hand (Writing e to done) h)) Moved (head_put m to (drop done h.bytes))
+      → IsDone g c d (with_hand (Writing e to done) h) m (block_written e to done (with_hand (Writing e to done) h)) Moved (head_put m to (drop done (outgoing e h.bytes)))
   unfolding coming left_with
   write-done e to done w hit =
       let k = with_hand (Writing e to done) h in
-      let now = head_put m to (drop done h.bytes) in
+      let bytes = outgoing e h.bytes in
+      let now = head_put m to (drop done bytes) in
       let n = done + head_len to in
       let has : has_written (written_on e (rest_of to) n) ≡ true = written-has e (rest_of to) n (omega (arith, head_len-some to w.some)) in
       record {
         leads = record {
           cpu = refl;
           coming = written-coming g.input (block_written e to done k) now e (rest_of to) n
-              ∙ ap (λ bs. led g.input k e h.bytes (scattered now (rest_of to) bs)) (sym (drop-drop (head_len to) done h.bytes))
-              ∙ ap (led g.input k e h.bytes) (scattered-rest m to (drop done h.bytes) w.span_to.short);
+              ∙ ap (λ bs. led g.input k e h.bytes (scattered now (rest_of to) bs)) (sym (drop-drop (head_len to) done bytes))
+              ∙ ap (led g.input k e h.bytes) (scattered-rest m to (drop done bytes) w.span_to.short);
         };
         falls = omega (arith, touch_hit c (first_block to) hit, write-falls d h.geometry h.cpu e to n w.span_to.short);
         unwritten = λ none. absurd (omega (arith, none, blocks_of-least to));
         clean = λ not. cc (has, not);
         written = λ not. cc (has, not);
-        others = λ b no. head_put-others m to (drop done h.bytes) b (λ _ is. no (ap Some (sym is)));
+        others = λ b no. head_put-others m to (drop done bytes) b (λ _ is. no (ap Some (sym is)));
         fixed = refl;
-        long = AllLong-head_put m to (drop done h.bytes);
+        long = AllLong-head_put m to (drop done bytes);
         console = λ l. l;
       }
 

@@ -8,8 +8,9 @@ use Rattle.thy_flat.specs.Spans.{IsSpanOf, span, first_block, rest_of}
 use Rattle.thy_isa.specs.declared.state.Cause.{Cause}
 use Rattle.thy_isa.specs.declared.state.CpuState.{CpuState}
 use Rattle.thy_isa.specs.declared.state.Effect.{Effect}
-use Rattle.thy_isa.specs.declared.state.Effect.TheVariants.{Next, Set, Read, Write, Environment, Trap}
+use Rattle.thy_isa.specs.declared.state.Effect.TheVariants.{Next, Set, Read, Write, Reserve, Conditional, Fail, Modify, Environment, Trap}
 use Rattle.thy_isa.specs.Effects.{size_of}
+use Rattle.thy_isa.specs.Moves.{outgoing_len}
 use Rattle.thy_isa.specs.Step.{fetch_fault}
 use Rattle.thy_epoch.specs.Epoch.{Epoch}
 use Rattle.thy_epoch.specs.Epoch as epochs
@@ -88,6 +89,10 @@ read_len (Next pc) = 0
 read_len (Set rd pc v) = 0
 read_len (Read rd width extend pc at) = size_of width
 read_len (Write width pc at v) = 0
+read_len (Reserve rd width pc at) = size_of width
+read_len (Conditional rd width pc at v) = 0
+read_len (Fail rd pc) = 0
+read_len (Modify op rd width pc at v) = size_of width
 read_len Environment = 0
 read_len (Trap cause) = 0
 
@@ -97,14 +102,14 @@ pub record IsReading (p : Parameters) (e : Effect) (from to : Span) (have : ℕ)
   pub span_to : IsSpanOf (memory_blocks p) to
   pub some : 0 < from.len
   pub most : have + from.len ≤ 64
-  pub least : to.len ≤ have + from.len
+  pub least : to.len ≤ outgoing_len e (have + from.len)
   pub number : read_len e ≤ have + from.len
 
 -- bytes are still to be written: they are there
 pub record IsWriting (p : Parameters) (e : Effect) (to : Span) (done have : ℕ) : Type 0 where
   pub span_to : IsSpanOf (memory_blocks p) to
   pub some : 0 < to.len
-  pub least : done + to.len ≤ have
+  pub least : done + to.len ≤ outgoing_len e have
   pub number : read_len e ≤ have
 
 abbrev pub IsInHand : Parameters → Hand → ℕ → Type 0

@@ -7,7 +7,7 @@ use Rattle.thy_base.specs.Geometry.{IsInRange, memory_blocks, console_room}
 use Rattle.thy_cache.specs.Contents.{dirty_count}
 use Rattle.thy_cache.specs.Flat.{Agrees}
 use Rattle.thy_isa.specs.OnBlocks.{setting_for}
-use Rattle.thy_isa.specs.Step.{State, is_running, step}
+use Rattle.thy_isa.specs.Step.{State, is_running, step, crossed, cpu_crossed}
 use Rattle.thy_hart.specs.declared.hand.Hand.TheVariants.{Nothing}
 use Rattle.thy_hart.specs.declared.hand.HartStep.{HartStep}
 use Rattle.thy_hart.specs.declared.hand.HartStep.TheVariants.{Moved, Retired, Waiting, Over}
@@ -63,3 +63,13 @@ StepFollowsOn =
     (g : Given) (old new : Moment) (s : HartStep) (now : State) → is_running old.hart.cpu.status ≡ true
     → IsStep g old new s → Follows g.input now old.hart (memory_of old)
     → Follows g.input (state_after s now (step (setting_for old.hart.geometry g.input) now)) new.hart (memory_of new)
+
+-- the other hart in front of what a hart holds
+abbrev pub hart_crossed : HartState → HartState
+hart_crossed h = record h { cpu = cpu_crossed h.cpu }
+
+-- with nothing in hand, a hart that follows a state follows the crossed one once it is crossed
+abbrev pub CrossesOn : Type 0
+CrossesOn =
+    (input : List ℕ) (now : State) (h : HartState) (memory : List Block) → h.hand ≡ Nothing
+    → Follows input now h memory → Follows input (crossed now) (hart_crossed h) memory

@@ -10,6 +10,7 @@ use Rattle.thy_cache.specs.Contents.{victim_of, dirty_count, KeepsSize}
 use Rattle.thy_flat.specs.Flat.{AllLong}
 use Rattle.thy_flat.specs.Spans.{gathered, scattered}
 use Rattle.thy_isa.specs.declared.state.Effect.{Effect}
+use Rattle.thy_isa.specs.Moves.{outgoing}
 use Rattle.thy_isa.specs.OnBlocks.{state_from, effect_in, bytes_in, cpu_after, blocks_after}
 use Rattle.thy_isa.specs.Step.{State}
 use Rattle.thy_hart.specs.declared.hand.Hand.{Hand}
@@ -40,9 +41,10 @@ led_from_fetch input h memory e =
 abbrev pub coming_by : List ℕ → HartState → List Block → Hand → State
 coming_by input h memory Nothing = led_from_fetch input h memory (effect_in h.geometry h.cpu memory)
 coming_by input h memory (Reading e from to) =
-    let bytes = h.bytes ++ gathered memory from in led input h e bytes (scattered memory to bytes)
-coming_by input h memory (Reserving e to) = led input h e h.bytes (scattered memory to h.bytes)
-coming_by input h memory (Writing e to done) = led input h e h.bytes (scattered memory to (drop done h.bytes))
+    let bytes = h.bytes ++ gathered memory from in led input h e bytes (scattered memory to (outgoing e bytes))
+coming_by input h memory (Reserving e to) = led input h e h.bytes (scattered memory to (outgoing e h.bytes))
+coming_by input h memory (Writing e to done) =
+    led input h e h.bytes (scattered memory to (drop done (outgoing e h.bytes)))
 coming_by input h memory (Retiring e wrote) = led input h e h.bytes memory
 
 -- the state after the instruction in hand, or else after the next one

@@ -8,7 +8,7 @@ use Rattle.thy_flat.specs.declared.span.Span.{Span}
 use Rattle.thy_flat.specs.Spans.{first_block, first_byte, head_len, head_read, head_put, rest_of}
 use Rattle.thy_isa.specs.declared.state.CpuState.{CpuState}
 use Rattle.thy_isa.specs.declared.state.Effect.{Effect}
-use Rattle.thy_isa.specs.Moves.{moves_of, brings}
+use Rattle.thy_isa.specs.Moves.{moves_of, brings, outgoing}
 use Rattle.thy_isa.specs.OnBlocks.{calls_in, effect_in, cpu_after}
 use Rattle.thy_isa.specs.Step.{is_running}
 use Rattle.thy_epoch.specs.Epoch.{Epoch, retired_once, exhausted}
@@ -84,6 +84,10 @@ block_written e to done h = record h { hand = written_on e (rest_of to) (done + 
 abbrev pub cpu_retired : List ℕ → Effect → HartState → CpuState
 cpu_retired input e h = cpu_after h.geometry input h.cpu e h.bytes
 
+-- the hart with it
+abbrev pub finished : List ℕ → Effect → HartState → HartState
+finished input e h = record h { cpu = cpu_retired input e h }
+
 -- the epoch after it
 abbrev pub epoch_retired : List ℕ → Effect → HartState → Epoch
 epoch_retired input e h = retired_once (is_running (cpu_retired input e h).status) h.epoch
@@ -119,7 +123,7 @@ abbrev pub memory_by : List ℕ → List Block → Hand → List Block
 memory_by bytes memory Nothing = memory
 memory_by bytes memory (Reading e from to) = memory
 memory_by bytes memory (Reserving e to) = memory
-memory_by bytes memory (Writing e to done) = head_put memory to (drop done bytes)
+memory_by bytes memory (Writing e to done) = head_put memory to (drop done (outgoing e bytes))
 memory_by bytes memory (Retiring e wrote) = memory
 
 -- the cache if a block is read: its line was used last
@@ -136,5 +140,5 @@ abbrev pub cache_by : Contents → HartState → Hand → Contents
 cache_by c h Nothing = touched c (fetched_block h.geometry h.cpu)
 cache_by c h (Reading e from to) = read_from (first_block from) c
 cache_by c h (Reserving e to) = c
-cache_by c h (Writing e to done) = written_by c to (drop done h.bytes)
+cache_by c h (Writing e to done) = written_by c to (drop done (outgoing e h.bytes))
 cache_by c h (Retiring e wrote) = c

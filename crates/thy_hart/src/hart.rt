@@ -3,6 +3,8 @@ ghost use Rattle.std.specs.Prelude.{◌≡◌, ◌≢◌, ◌⊎◌, None, false
 ghost use Rattle.thy_base.specs.Device.{CountsFault};
 ghost use Rattle.thy_cache.specs.Contents.{dirty_count};
 ghost use Rattle.thy_isa.specs.declared.state.Status.TheVariants.{Running};
+ghost use Rattle.thy_isa.specs.Step.{cpu_crossed};
+ghost use Rattle.thy_hart.specs.declared.hand.Hand.TheVariants.{Nothing};
 ghost use Rattle.thy_epoch.specs.Epoch.{next_epoch};
 ghost use Rattle.thy_hart.specs.HartState.{new_hart, to_reserve};
 ghost use Rattle.thy_hart.specs.Outcomes.{given};
@@ -19,7 +21,8 @@ use thy_epoch::EpochState;
 use thy_flat::Piece;
 use thy_isa::CpuState;
 
-/// One hart of RV64IM with its epoch, which executes an instruction in micro-steps.
+/// The hart in front, of RV64IM, with its epoch and the other hart, if there are two. It executes an instruction in
+/// micro-steps.
 #[derive(Drop)]
 pub struct Hart {
     parts: HartParts,
@@ -89,6 +92,14 @@ impl Hart {
         ensures { self.new ≡ record self.old { epoch = next_epoch self.old.epoch } }
     {
         self.parts.epoch.sealed();
+    }
+
+    /// Puts the other hart in front, if there are two, while no instruction is in hand.
+    pub fn cross(&mut self)
+        requires { self.old.hand ≡ Nothing }
+        ensures { self.new ≡ record self.old { cpu = cpu_crossed self.old.cpu } }
+    {
+        thy_isa::cross(&mut self.parts.cpu);
     }
 
     /// Takes one step, a cycle. If the step touches a block that is not in the cache, it brings the line

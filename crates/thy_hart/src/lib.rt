@@ -15,6 +15,6 @@ mod micro_steps;
 pub use hand::{Hand, HartStep};
 pub use hart::Hart;
 pub use laws::{
-    a_hart_is_ready_with_no_page_open, a_step_follows_on, few_moves_are_left,
-    the_next_state_is_to_come,
+    a_hart_is_ready_with_no_page_open, a_hart_that_crosses_follows_the_other, a_step_follows_on,
+    few_moves_are_left, the_next_state_is_to_come,
 };

@@ -6,14 +6,15 @@ ghost use Rattle.arrayvec.specs.ArrayVec.{array_vec_len};
 ghost use Rattle.thy_base.specs.Geometry.{IsInRange, memory_blocks, program_size};
 ghost use Rattle.thy_cache.specs.Contents.{dirty_count, read_from, KeepsSize};
 ghost use Rattle.thy_cache.specs.Flat.{AgreesStill, KeepsLines};
-ghost use Rattle.thy_flat.specs.Spans.{span, first_block, first_byte};
+ghost use Rattle.thy_flat.specs.Spans.{IsSpanOf, span, first_block, first_byte};
 ghost use Rattle.thy_isa.specs.Access.{IsWithin};
 ghost use Rattle.thy_isa.specs.declared.state.Effect.TheVariants.{Environment};
 ghost use Rattle.thy_isa.specs.Effects.{size_of};
+ghost use Rattle.thy_isa.specs.Moves.{outgoing};
 ghost use Rattle.thy_isa.specs.OnBlocks.{calls_in};
 ghost use Rattle.thy_isa.specs.Step.{AreCallsOf};
 ghost use Rattle.thy_hart.specs.HartState.{IsReading, IsWriting, IsSoundHart, fetched_block, next_block, blocks_of, read_len, reserved, to_reserve};
-ghost use Rattle.thy_hart.specs.Outcomes.{begun_with, cpu_retired, touched, written_by, block_written, room_reserved, room_answer, retired, over_or_retired, epoch_retired, given};
+ghost use Rattle.thy_hart.specs.Outcomes.{begun_with, finished, touched, written_by, block_written, room_reserved, room_answer, retired, over_or_retired, epoch_retired, given};
 ghost use Rattle.thy_hart.specs.MicroSteps.{hart_state_of, IsFound, IsNext, ReadsWord, FetchesEffect, FetchesIn, ReadsIn, WritesIn, IsMicroStep};
 
 use crate::hand::{Hand, HartStep, LineLookup, begun, written_on};
@@ -23,7 +24,7 @@ use thy_epoch::EpochState;
 use thy_flat::{Piece, Span, take_head};
 use thy_isa::{
     CallState, CpuState, Effect, Width, add_number, brought, bytes_in, fetch_fault, finish,
-    finish_alone, is_running, moves, number_in, within, word, word_effect,
+    finish_alone, is_running, modified_bytes, moves, number_in, within, word, word_effect,
 };
 
 /// What a hart is made of.
@@ -140,7 +141,8 @@ impl HartParts {
                     len: 4,
                 };
                 let word = fetch_word(cache, at, place);
-                within(base, size, word_effect(word, self.cpu.pc, &self.cpu.regs))
+                let effect = word_effect(word, self.cpu.pc, &self.cpu.regs);
+                within(base, size, &self.cpu.other, effect)
             }
         }
     }
@@ -180,7 +182,7 @@ impl HartParts {
         self.begin::<N>(effect, input);
     }
 
-    /// The bytes at an address of program memory that a load or a store moves.
+    /// The bytes at an address of program memory that a load, a store or an atomic instruction moves.
     fn span(&self, at: u64, width: Width) -> Span
         requires { self.now.geometry.base ≤ at }
         ensures { result ≡ span (at - self.now.geometry.base) (size_of width) }
@@ -201,8 +203,16 @@ impl HartParts {
     {
         match effect {
             Effect::Environment => self.begin_call(input),
-            Effect::Read { at, width, .. } => self.hand = begun(effect, self.span(at, width), NONE),
+            Effect::Read { at, width, .. } | Effect::Reserve { at, width, .. } => {
+                self.hand = begun(effect, self.span(at, width), NONE);
+            }
             Effect::Write {
+                at,
+                width,
+                value,
+                ..
+            }
+            | Effect::Conditional {
                 at,
                 width,
                 value,
@@ -211,9 +221,12 @@ impl HartParts {
                 add_number(&mut self.bytes, width, value);
                 self.hand = begun(effect, NONE, self.span(at, width));
             }
-            Effect::Next { .. } | Effect::Set { .. } | Effect::Trap(_) => {
-                self.hand = begun(effect, NONE, NONE);
+            Effect::Modify { at, width, .. } => {
+                let span = self.span(at, width);
+                self.hand = begun(effect, span, span);
             }
+            Effect::Next { .. } | Effect::Set { .. } | Effect::Fail { .. } | Effect::Trap(_) =>
+                self.hand = begun(effect, NONE, NONE),
         }
     }
 
@@ -292,6 +305,76 @@ impl HartParts {
         HartStep::Over(EndCause::Exhausted { free, dirty, need })
     }
 
+    /// Writes those bytes of a span that fall into its first block, whose line is at this place, after `done` of these bytes.
+    fn put<N>(&self, cache: &mut Cache, place: Option<LinePlace>, bytes: &[u8], to: Span, done: u64)
+        requires range { IsInRange self.now.geometry }
+        requires span { IsSpanOf (memory_blocks self.now.geometry) to }
+        requires some { 0 < to.len }
+        requires least { done + to.len ≤ length bytes.now }
+        requires found { IsFound cache.old (Some (first_block to)) place }
+        ensures cache { cache.new ≡ written_by cache.old to (drop done bytes.now) }
+        ensures memory { WritesIn (memory_blocks self.now.geometry) cache.old cache.new to (drop done bytes.now) }
+        ensures agree { AgreesStill cache.old cache.new }
+        ensures room { dirty_count cache.new ≤ dirty_count cache.old + 1 }
+        ensures sized { KeepsSize cache.old cache.new }
+    {
+        match place {
+            Some(place) => {
+                let len = to.head_len();
+                let left = &bytes[done as usize..];
+                cache.write_at(
+                    to.first_block(),
+                    place,
+                    to.first_byte(),
+                    &left[..len as usize],
+                );
+            }
+            None => unreachable!(),
+        }
+    }
+
+    /// The same of the bytes that an effect makes of those that it has. Only an atomic memory operation makes new ones.
+    fn put_outgoing<N>(
+        &self,
+        cache: &mut Cache,
+        place: Option<LinePlace>,
+        effect: &Effect,
+        to: Span,
+        done: u64,
+    )
+        requires range { IsInRange self.now.geometry }
+        requires writing { IsWriting self.now.geometry effect.now to done (array_vec_len self.now.bytes) }
+        requires found { IsFound cache.old (Some (first_block to)) place }
+        ensures short { done + to.len < 2 ^ 64 }
+        ensures cache { cache.new ≡ written_by cache.old to (drop done (outgoing effect.now self.now.bytes.items)) }
+        ensures memory { WritesIn (memory_blocks self.now.geometry) cache.old cache.new to
+            (drop done (outgoing effect.now self.now.bytes.items)) }
+        ensures agree { AgreesStill cache.old cache.new }
+        ensures room { dirty_count cache.new ≤ dirty_count cache.old + 1 }
+        ensures sized { KeepsSize cache.old cache.new }
+    {
+        match *effect {
+            Effect::Modify {
+                op,
+                width,
+                value,
+                ..
+            } => {
+                let bytes = modified_bytes(op, width, value, self.bytes.as_slice());
+                self.put::<()>(cache, place, bytes.as_slice(), to, done);
+            }
+            Effect::Next { .. }
+            | Effect::Set { .. }
+            | Effect::Read { .. }
+            | Effect::Write { .. }
+            | Effect::Reserve { .. }
+            | Effect::Conditional { .. }
+            | Effect::Fail { .. }
+            | Effect::Environment
+            | Effect::Trap(_) => self.put::<N>(cache, place, self.bytes.as_slice(), to, done),
+        }
+    }
+
     /// Writes those bytes of a span that fall into its first block, whose line is at this place.
     fn write<N>(
         &mut self,
@@ -306,33 +389,23 @@ impl HartParts {
         requires found { IsFound cache.old (Some (first_block to)) place }
         ensures hart { hart_state_of self.new ≡ block_written effect to done (hart_state_of self.old) }
         ensures sound { IsSoundHart (hart_state_of self.new) }
-        ensures cache { cache.new ≡ written_by cache.old to (drop done self.old.bytes.items) }
-        ensures memory { WritesIn (memory_blocks self.old.geometry) cache.old cache.new to (drop done self.old.bytes.items) }
+        ensures cache { cache.new ≡ written_by cache.old to (drop done (outgoing effect self.old.bytes.items)) }
+        ensures memory { WritesIn (memory_blocks self.old.geometry) cache.old cache.new to
+            (drop done (outgoing effect self.old.bytes.items)) }
         ensures agree { AgreesStill cache.old cache.new }
         ensures room { dirty_count cache.new ≤ dirty_count cache.old + 1 }
         ensures sized { KeepsSize cache.old cache.new }
     {
-        match place {
-            Some(place) => {
-                let len = to.head_len();
-                let left = &self.bytes.as_slice()[done as usize..];
-                cache.write_at(
-                    to.first_block(),
-                    place,
-                    to.first_byte(),
-                    &left[..len as usize],
-                );
-                self.hand = written_on(effect, to.rest(), done + len);
-            }
-            None => unreachable!(),
-        }
+        self.put_outgoing::<N>(cache, place, &effect, to, done);
+        let len = to.head_len();
+        self.hand = written_on(effect, to.rest(), done + len);
     }
 
     /// Takes an effect that has read and written. Only an environment call depends on the `CallState`.
     fn finish<N>(&mut self, effect: Effect, input: &[u8])
         requires number { read_len effect ≤ array_vec_len self.old.bytes }
         requires count { self.old.cpu.count + 1 < 2 ^ 64 }
-        ensures { hart_state_of self.new ≡ record (hart_state_of self.old) { cpu = cpu_retired input.now effect (hart_state_of self.old) } }
+        ensures { hart_state_of self.new ≡ finished input.now effect (hart_state_of self.old) }
     {
         match effect {
             Effect::Environment => self.serve(input),
@@ -340,6 +413,10 @@ impl HartParts {
             | Effect::Set { .. }
             | Effect::Read { .. }
             | Effect::Write { .. }
+            | Effect::Reserve { .. }
+            | Effect::Conditional { .. }
+            | Effect::Fail { .. }
+            | Effect::Modify { .. }
             | Effect::Trap(_) => {
                 let number = number_in(&effect, self.bytes.as_slice());
                 finish_alone(&mut self.cpu, &effect, number);
@@ -351,7 +428,7 @@ impl HartParts {
     #[tactic(auto, unfolding(thy_isa::specs::Moves::number_in, thy_isa::specs::OnBlocks::cpu_after))]
     fn serve(&mut self, input: &[u8])
         requires { self.old.cpu.count + 1 < 2 ^ 64 }
-        ensures { hart_state_of self.new ≡ record (hart_state_of self.old) { cpu = cpu_retired input.now Environment (hart_state_of self.old) } }
+        ensures { hart_state_of self.new ≡ finished input.now Environment (hart_state_of self.old) }
     {
         let calls = self.calls(input.len() as u64);
         finish(&mut self.cpu, &Effect::Environment, 0, &calls);

@@ -14,9 +14,9 @@ use Rattle.thy_isa.specs.Storable.{IsByte}
 use Rattle.thy_record.specs.Commit.{epoch_of, has_zero_rest, commit_magic}
 use Rattle.thy_record.specs.Decoded.{At}
 use Rattle.thy_record.specs.Files.{blocks_of}
-use Rattle.thy_record.specs.Slots.{epoch_fault, status_fault}
+use Rattle.thy_record.specs.Slots.{epoch_fault, status_fault, second_fault, cpu_fault}
 use Rattle.thy_record.proofs.FileLemmas.{length-blocks_of}
-use Rattle.thy_record.proofs.ImageLemmas.{commit_asks, status_fault-higher}
+use Rattle.thy_record.proofs.ImageLemmas.{commit_asks, cpu_fault-higher}
 use Rattle.thy_record.proofs.TableFaultLemmas.{neither, both_none}
 use Rattle.thy_protocol.specs.Layout.{Layout, slot_places, memory_places, slot_in, memory_in, is_sized}
 use Rattle.thy_protocol.proofs.LayoutLemmas.{decode_by-whole}
@@ -38,9 +38,9 @@ use Rattle.thy_image.proofs.StateLemmas.{CanBegin-made}
 slot_higher : (p : Parameters) (slot : List Block) (epoch low high : ℕ) → low ≤ high → slot_fault p low epoch slot ≡ None → slot_fault p high epoch slot ≡ None
 unfolding slot_fault
 slot_higher p slot epoch low high most h =
-    let parts = neither (epoch_fault epoch slot) (option_or (table_fault p (table_in p slot)) (status_fault p low slot)) h in
-    let rest = neither (table_fault p (table_in p slot)) (status_fault p low slot) parts.1 in
-    both_none _ _ parts.0 (both_none _ _ rest.0 (status_fault-higher p slot low high most rest.1))
+    let parts = neither (epoch_fault epoch slot) (option_or (table_fault p (table_in p slot)) (cpu_fault p low slot)) h in
+    let rest = neither (table_fault p (table_in p slot)) (cpu_fault p low slot) parts.1 in
+    both_none _ _ parts.0 (both_none _ _ rest.0 (cpu_fault-higher p slot low high most rest.1))
 
 module _ (p : Parameters) (ceiling : ℕ) (bytes : List ℕ) (epoch : ℕ) (s : State) (h : decode_file p ceiling bytes ≡ At epoch s) where
   abbrev g : List Block
@@ -84,13 +84,14 @@ module _ (p : Parameters) (ceiling : ℕ) (bytes : List ℕ) (epoch : ℕ) (s : 
   unfolding slot_fault commit_fault
   shadow_begins are_bytes =
       let slot = slot_in l g in
-      let first = neither (epoch_fault (epoch_of (block_at g 1)) slot) (option_or (table_fault p (table_in p slot)) (status_fault p ceiling slot)) parts.2 in
-      let status = neither (table_fault p (table_in p slot)) (status_fault p ceiling slot) first.1 in
+      let first = neither (epoch_fault (epoch_of (block_at g 1)) slot) (option_or (table_fault p (table_in p slot)) (cpu_fault p ceiling slot)) parts.2 in
+      let last = neither (table_fault p (table_in p slot)) (cpu_fault p ceiling slot) first.1 in
+      let status = neither (status_fault p ceiling slot) (second_fault p slot) last.1 in
       let asks = commit_asks (word_of (block_at g 1) 0 == commit_magic VersionTwo) (nat_lt (epoch_of (block_at g 1)) ceiling) (has_zero_rest (block_at g 1)) parts.1 in
       let of_bytes = AreOfBytes-blocks_of bytes are_bytes in
       let places : List ℕ = memory_places l (block_at g 1) slot in
       CanBegin-made p ceiling epoch slot (memory_in l g) s
       (AreOfBytes-picked g (slot_places l (block_at g 1)) of_bytes)
       (AreOfBytes-picked g places of_bytes)
-      (length-map places (block_at g) ∙ length-memory_places p (table_in p slot)) status.1
+      (length-map places (block_at g) ∙ length-memory_places p (table_in p slot)) status.0
       (subst (λ e. e < ceiling) file.whole.of_epoch (ltb-true (epoch_of (block_at g 1)) ceiling asks.1)) file.whole.state_is

@@ -1,7 +1,7 @@
 -- The state that a slot and memory make: a run can begin with it.
-use Rattle.std.proofs.Common.{◌≡◌, ℕ, ◌+◌, ◌*◌, ◌/◌, ◌%◌, ◌<◌, ◌≤◌, ◌==◌, ◌&&◌, Bool, true, false, nat_le, nat_lt, if◌then◌else◌, List, length, drop, Some, None, refl, subst, sym, lit<, arith}
+use Rattle.std.proofs.Common.{◌≡◌, ℕ, ◌+◌, ◌*◌, ◌/◌, ◌%◌, ◌<◌, ◌≤◌, ◌==◌, ◌&&◌, Bool, true, false, nat_le, nat_lt, if◌then◌else◌, List, length, drop, Option, Some, None, refl, subst, sym, ◌∙◌, lit<, arith}
 use Rattle.std.specs.List.{All}
-use Rattle.std.proofs.lemmas.Bool.{le-leb, leb-true, ltb-true, and_parts}
+use Rattle.std.proofs.lemmas.Bool.{eq-eqb, eqb-true, le-leb, leb-true, ltb-true, and_parts}
 use Rattle.std.proofs.lemmas.List.{length-take}
 use Rattle.std.proofs.lemmas.List.Elements.{All-cons, All-take, All-drop, All-from_get_or}
 use Rattle.thy_base.specs.declared.block.Block.{Block}
@@ -12,14 +12,16 @@ use Rattle.thy_base.specs.Words.{word_of}
 use Rattle.thy_flat.specs.Flat.{flat}
 use Rattle.thy_flat.proofs.MemoryLaws.{length-memory_bytes}
 use Rattle.thy_isa.specs.declared.instr.Width.TheVariants.{Double}
+use Rattle.thy_isa.specs.declared.state.OtherHart.{OtherHart}
+use Rattle.thy_isa.specs.declared.state.Reservation.TheVariants.{Nothing, Word, Double as DoubleWord}
 use Rattle.thy_isa.specs.declared.state.Status.{Status}
 use Rattle.thy_isa.specs.declared.state.Status.TheVariants.{Running, Exited, Trapped}
 use Rattle.thy_isa.specs.OnBlocks.{state_from}
 use Rattle.thy_isa.specs.Step.{State, cpu_of}
-use Rattle.thy_isa.specs.Storable.{IsNumber, IsByte, IsStatus, IsStorable}
+use Rattle.thy_isa.specs.Storable.{IsNumber, IsByte, IsStatus, IsReservation, IsOther, IsOtherOf, IsStorable}
 use Rattle.thy_isa.proofs.MemoryBounds.{anywhere, number_at-number}
 use Rattle.thy_record.specs.declared.bad_image.BadImage.TheVariants.{Status as BadStatus, ConsoleLength}
-use Rattle.thy_record.specs.Cpu.{status_tag, status_value, status_of, is_status, record_word, record_words, cpu_of_record, IsRecordable}
+use Rattle.thy_record.specs.Cpu.{status_tag, status_value, status_of, is_status, record_word, record_words, other_of_record, second_of_record, cpu_of_record, IsOtherRecordable, IsRecordable}
 use Rattle.thy_record.specs.Slots.{status_fault}
 use Rattle.thy_record.proofs.CpuLemmas.{record_words-at, length-record_words}
 use Rattle.thy_image.specs.Saved.{CanBegin}
@@ -73,9 +75,41 @@ FitsSlot-faultless p ceiling slot h =
       console = leb-true (record_word slot 34) (console_room p) passed.2;
     }
 
+-- ---- the other hart
+
+IsReservation-by : (word double : Bool) (at : ℕ) → IsNumber at → IsReservation (if word then Word at else if double then DoubleWord at else Nothing)
+IsReservation-by true double at h = h
+IsReservation-by false true at h = h
+IsReservation-by false false at h = tt
+
+IsOther-made : (slot : List Block) → AreOfBytes slot → IsOther (other_of_record slot)
+unfolding other_of_record
+IsOther-made slot words = record {
+  pc = record_word-number slot 40 words;
+  registers = omega (arith, length-record_words slot 41 31);
+  numbers = All-cons IsNumber 0 (record_words slot 41 31) (lit< tt) (record_words-numbers slot 41 31 words);
+  zero_register = refl;
+  front = IsReservation-by (record_word slot 72 == 4) (record_word slot 72 == 8) (record_word slot 73) (record_word-number slot 73 words);
+  back = IsReservation-by (record_word slot 74 == 4) (record_word slot 74 == 8) (record_word slot 75) (record_word-number slot 75 words);
+}
+
+-- it is there exactly with two harts
+other_made : (p : Parameters) (two : Bool) (o : OtherHart) → (p.harts == 2) ≡ two → IsOther o → IsOtherRecordable p (if two then Some o else None)
+other_made p true o e h = (eqb-true p.harts 2 e, h)
+other_made p false o e h = λ same. let both : true ≡ false = sym (eq-eqb p.harts 2 same) ∙ e in absurd (cc)
+
+IsOtherRecordable-read : (p : Parameters) (slot : List Block) → AreOfBytes slot → IsOtherRecordable p (second_of_record p slot)
+IsOtherRecordable-read p slot words = other_made p (p.harts == 2) (other_of_record slot) refl (IsOther-made slot words)
+
+IsOtherOf-recordable : (p : Parameters) (o : Option OtherHart) → IsOtherRecordable p o → IsOtherOf o
+IsOtherOf-recordable p None h = tt
+IsOtherOf-recordable p (Some o) h = h.1
+
+-- ---- the state
+
 -- it can be stored
 IsStorable-made : (p : Parameters) (ceiling : ℕ) (slot memory : List Block) → AreOfBytes slot → AreOfBytes memory → length memory ≡ memory_blocks p
-    → FitsSlot p ceiling slot → IsStorable (program_size p) (state_from p (cpu_of_record slot) memory)
+    → FitsSlot p ceiling slot → IsStorable (program_size p) (state_from p (cpu_of_record p slot) memory)
 unfolding state_from cpu_of_record
 IsStorable-made p ceiling slot memory words blocks all fits =
     let bytes = flat-bytes memory blocks in
@@ -91,24 +125,24 @@ IsStorable-made p ceiling slot memory words blocks all fits =
       brk = record_word-number slot 35 words;
       floor = record_word-number slot 39 words;
       status = IsStatus-of (record_word slot 36) (record_word slot 37) fits.status;
-      other = tt;
+      other = IsOtherOf-recordable p (second_of_record p slot) (IsOtherRecordable-read p slot words);
     }
 
--- its count and its console are small, and there is one hart
+-- its count and its console are small, and it has the harts
 record IsSmallState (p : Parameters) (ceiling : ℕ) (s : State) : Type 0 where
   count : s.count < ceiling
   console : length s.console ≤ console_room p
-  alone : s.other ≡ None
+  other : IsOtherRecordable p s.other
 
-IsSmallState-made : (p : Parameters) (ceiling : ℕ) (slot memory : List Block) → FitsSlot p ceiling slot
-    → IsSmallState p ceiling (state_from p (cpu_of_record slot) memory)
+IsSmallState-made : (p : Parameters) (ceiling : ℕ) (slot memory : List Block) → AreOfBytes slot → FitsSlot p ceiling slot
+    → IsSmallState p ceiling (state_from p (cpu_of_record p slot) memory)
 unfolding state_from cpu_of_record
-IsSmallState-made p ceiling slot memory fits =
+IsSmallState-made p ceiling slot memory words fits =
     let rest = drop (program_size p) (flat memory) in
     record {
       count = fits.count;
       console = omega (arith, length-take (record_word slot 34) rest, fits.console);
-      alone = refl;
+      other = IsOtherRecordable-read p slot words;
     }
 
 -- such a state can be recorded
@@ -124,15 +158,15 @@ IsRecordable-small p ceiling s h small = record {
   floor = h.floor;
   count = small.count;
   status = is_status-of s.status h.status;
-  alone = small.alone;
+  other = small.other;
 }
 
 -- a run can begin with the state of a slot without a fault
 pub CanBegin-made : (p : Parameters) (ceiling epoch : ℕ) (slot memory : List Block) (s : State)
     → AreOfBytes slot → AreOfBytes memory → length memory ≡ memory_blocks p → status_fault p ceiling slot ≡ None → epoch < ceiling
-    → state_from p (cpu_of_record slot) memory ≡ s → CanBegin p ceiling epoch s
+    → state_from p (cpu_of_record p slot) memory ≡ s → CanBegin p ceiling epoch s
 CanBegin-made p ceiling epoch slot memory s words blocks all none below is =
     let fits = FitsSlot-faultless p ceiling slot none in
     let storable : IsStorable (program_size p) s = subst (IsStorable (program_size p)) is (IsStorable-made p ceiling slot memory words blocks all fits) in
-    let small : IsSmallState p ceiling s = subst (IsSmallState p ceiling) is (IsSmallState-made p ceiling slot memory fits) in
+    let small : IsSmallState p ceiling s = subst (IsSmallState p ceiling) is (IsSmallState-made p ceiling slot memory words fits) in
     record { recordable = IsRecordable-small p ceiling s storable small; storable = storable; below = below }

@@ -13,7 +13,7 @@ use Rattle.thy_record.specs.Commit.{epoch_of, version_of, is_named, has_zero_res
 use Rattle.thy_record.specs.Decoded.{At}
 use Rattle.thy_record.specs.Files.{blocks_of, decode_file, found_in}
 use Rattle.thy_record.specs.Images.{is_one, is_long, slot_numbers, slot_in, memory_numbers, memory_in, state_in, decode_image}
-use Rattle.thy_record.specs.Slots.{tables_in, epoch_fault, status_fault, count_fault, slot_fault}
+use Rattle.thy_record.specs.Slots.{tables_in, epoch_fault, status_fault, rest_fault, slot_fault}
 use Rattle.thy_record.specs.TableFaults.{tables_fault}
 use Rattle.thy_record.proofs.FileLemmas.{length-blocks_of, HasLength-file, decode_file-flat}
 use Rattle.thy_record.proofs.ImageLemmas.{IsDecoded-at, decode-filled_up, decode-higher, commit_asks}
@@ -84,10 +84,10 @@ module _ (p : Parameters) (ceiling : ℕ) (bytes : List ℕ) (epoch : ℕ) (s : 
       let version = version_of (block_at (blocks_of bytes) 1) in
       let parts = neither (epoch_fault epoch (slot_in p (blocks_of bytes)))
       (option_or (tables_fault p (tables_in p (slot_in p (blocks_of bytes)))) (option_or (status_fault p ceiling (slot_in p (blocks_of bytes)))
-      (count_fault (version_of (block_at (blocks_of bytes) 1)) p (slot_in p (blocks_of bytes))))) whole.slot_fits in
+      (rest_fault (version_of (block_at (blocks_of bytes) 1)) p (slot_in p (blocks_of bytes))))) whole.slot_fits in
       let tables = neither (tables_fault p (tables_in p (slot_in p (blocks_of bytes)))) (option_or (status_fault p ceiling (slot_in p (blocks_of bytes)))
-      (count_fault (version_of (block_at (blocks_of bytes) 1)) p (slot_in p (blocks_of bytes)))) parts.1 in
-      let status = neither (status_fault p ceiling (slot_in p (blocks_of bytes))) (count_fault (version_of (block_at (blocks_of bytes) 1)) p (slot_in p (blocks_of bytes))) tables.1 in
+      (rest_fault (version_of (block_at (blocks_of bytes) 1)) p (slot_in p (blocks_of bytes)))) parts.1 in
+      let status = neither (status_fault p ceiling (slot_in p (blocks_of bytes))) (rest_fault (version_of (block_at (blocks_of bytes) 1)) p (slot_in p (blocks_of bytes))) tables.1 in
       let asks = commit_asks (is_named (block_at (blocks_of bytes) 0) (block_at (blocks_of bytes) 1)) (nat_lt (epoch_of (block_at (blocks_of bytes) 1)) ceiling)
       (has_zero_rest (block_at (blocks_of bytes) 1)) whole.commit_fits in
       let of_bytes = AreOfBytes-blocks_of bytes are_bytes in

@@ -14,6 +14,7 @@ use Rattle.thy_flat.specs.Flat.{flat, memory_bytes, console_bytes}
 use Rattle.thy_flat.specs.Spans.{span, IsSpanOf, gathered, scattered}
 use Rattle.thy_flat.proofs.MemoryLaws.{size_inside, room_inside, length-memory_bytes, length-console_bytes}
 use Rattle.thy_flat.proofs.SpanLaws.{gathered-none, gathered-flat, scattered-none, flat-scattered}
+use Rattle.thy_isa.specs.declared.instr.Amo.{Amo}
 use Rattle.thy_isa.specs.declared.instr.Width.{Width}
 use Rattle.thy_isa.specs.declared.state.Cause.{Cause}
 use Rattle.thy_isa.specs.declared.state.Cause.TheVariants.{FetchMisaligned, FetchAccess}
@@ -22,11 +23,12 @@ use Rattle.thy_isa.specs.declared.state.Call.TheVariants.{Answer, Exit, Break, T
 use Rattle.thy_isa.specs.declared.state.CallState.{CallState}
 use Rattle.thy_isa.specs.declared.state.CpuState.{CpuState}
 use Rattle.thy_isa.specs.declared.state.Effect.{Effect}
-use Rattle.thy_isa.specs.declared.state.Effect.TheVariants.{Next, Set, Read, Write, Environment, Trap}
+use Rattle.thy_isa.specs.declared.state.Effect.TheVariants.{Next, Set, Read, Write, Reserve, Conditional, Fail, Modify, Environment, Trap}
 use Rattle.thy_isa.specs.Access.{IsWithin}
+use Rattle.thy_isa.specs.Atomics.{modified}
 use Rattle.thy_isa.specs.Calls.{IsFit, call_of}
 use Rattle.thy_isa.specs.Effects.{size_of, word_effect}
-use Rattle.thy_isa.specs.Moves.{call_moves, moves_of, call_brings, brings, number_in}
+use Rattle.thy_isa.specs.Moves.{call_moves, moves_of, call_brings, brings, number_in, outgoing}
 use Rattle.thy_isa.specs.OnBlocks.{setting_for, state_from, calls_in, effect_in, bytes_in, cpu_after, blocks_after}
 use Rattle.thy_isa.specs.Step.{State, Setting, cpu_of, state_with, call_state_of, fetch_fault, fetched, within, effect_at, read_by, call_at, memory_served, console_served, memory_by, console_by, served, finished, performed, advanced, is_running, step}
 use Rattle.thy_isa.proofs.AccessLaws.{within-is, fetched-within}
@@ -55,7 +57,7 @@ fetched_same (Some cause) e f h = refl
 pub effect_in-within : (p : Parameters) (cpu : CpuState) (blocks : List Block) → IsWithin p.base (program_size p) (effect_in p cpu blocks)
 unfolding effect_in
 effect_in-within p cpu blocks =
-    fetched-within p.base (program_size p) (fetch_fault p.base (program_size p) cpu.pc) _ (within-is p.base (program_size p) _)
+    fetched-within p.base (program_size p) (fetch_fault p.base (program_size p) cpu.pc) _ (within-is p.base (program_size p) cpu.other _)
 
 -- ---- spans of the blocks of memory
 
@@ -233,7 +235,7 @@ module _ (p : Parameters) (input : List ℕ) (cpu : CpuState) (blocks : List Blo
   moved e = brings input cpu.regs calls e ++ gathered blocks (moves_of cpu.regs calls e).from
 
   abbrev after : Effect → List Block
-  after e = scattered blocks (moves_of cpu.regs calls e).to (moved e)
+  after e = scattered blocks (moves_of cpu.regs calls e).to (outgoing e (moved e))
 
   effect-number : (e : Effect) → IsWithin p.base (program_size p) e → number_in e (moved e) ≡ read_by p.base (memory_bytes p blocks) e
   unfolding number_in read_by brings moves_of
@@ -242,6 +244,12 @@ module _ (p : Parameters) (input : List ℕ) (cpu : CpuState) (blocks : List Blo
   effect-number (Read rd width extend pc at) h =
       number-memory p blocks (at - p.base) (size_of width) whole (omega (arith, size_of-most width)) (omega (arith, h.0, h.1))
   effect-number (Write width pc at v) h = refl
+  effect-number (Reserve rd width pc at) h =
+      number-memory p blocks (at - p.base) (size_of width) whole (omega (arith, size_of-most width)) (omega (arith, h.0, h.1))
+  effect-number (Conditional rd width pc at v) h = refl
+  effect-number (Fail rd pc) h = refl
+  effect-number (Modify op rd width pc at v) h =
+      number-memory p blocks (at - p.base) (size_of width) whole (omega (arith, size_of-most width)) (omega (arith, h.0, h.1))
   effect-number Environment h = refl
   effect-number (Trap cause) h = refl
 
@@ -258,8 +266,28 @@ module _ (p : Parameters) (input : List ℕ) (cpu : CpuState) (blocks : List Blo
       ap (scattered blocks (span (at - p.base) (size_of width))) (Write-bytes pc at width v)
       ∙ ap (λ n. scattered blocks (span (at - p.base) n) (number_bytes (size_of width) v)) (sym (length-number_bytes width v))
 
+  Conditional-blocks : (rd pc at : ℕ) (width : Width) (v : ℕ)
+      → after (Conditional rd width pc at v) ≡ scattered blocks (span (at - p.base) (length (number_bytes (size_of width) v))) (number_bytes (size_of width) v)
+  unfolding moves_of brings
+  Conditional-blocks rd pc at width v = Write-blocks pc at width v
+
+  -- the number that an AMO writes
+  abbrev changed : Amo → Width → ℕ → ℕ → ℕ
+  changed op width at v = modified op width (number_at (size_of width) (memory_bytes p blocks) (at - p.base)) v
+
+  Modify-blocks : (op : Amo) (rd pc at : ℕ) (width : Width) (v : ℕ) → IsWithin p.base (program_size p) (Modify op rd width pc at v)
+      → after (Modify op rd width pc at v)
+      ≡ scattered blocks (span (at - p.base) (length (number_bytes (size_of width) (changed op width at v)))) (number_bytes (size_of width) (changed op width at v))
+  unfolding moves_of brings
+  Modify-blocks op rd pc at width v h =
+      ap (λ n. scattered blocks (span (at - p.base) (size_of width)) (number_bytes (size_of width) (modified op width n v)))
+      (number-memory p blocks (at - p.base) (size_of width) whole (omega (arith, size_of-most width)) (omega (arith, h.0, h.1)))
+      ∙ ap (λ n. scattered blocks (span (at - p.base) n) (number_bytes (size_of width) (changed op width at v)))
+      (sym (length-number_bytes width (changed op width at v)))
+
   effect_same : (e : Effect) → (moves_of cpu.regs calls e).to ≡ span 0 0 → after e ≡ blocks
-  effect_same e h = ap (λ t. scattered blocks t (moved e)) h ∙ scattered-none blocks (span 0 0) (moved e) refl
+  effect_same e h =
+      ap (λ t. scattered blocks t (outgoing e (moved e))) h ∙ scattered-none blocks (span 0 0) (outgoing e (moved e)) refl
 
   call_is : call_at g now ≡ call_of cpu.regs calls
   call_is = ap (call_of cpu.regs) calls_same
@@ -281,6 +309,16 @@ module _ (p : Parameters) (input : List ℕ) (cpu : CpuState) (blocks : List Blo
       let l = length-number_bytes width v in
       ap (memory_bytes p) (Write-blocks pc at width v)
       ∙ memory-scattered p blocks (at - p.base) (number_bytes (size_of width) v) whole (omega (arith, l, size_of-most width)) (omega (arith, l, h.0, h.1))
+  effect-memory (Reserve rd width pc at) h = ap (memory_bytes p) (effect_same (Reserve rd width pc at) refl)
+  effect-memory (Conditional rd width pc at v) h =
+      let l = length-number_bytes width v in
+      ap (memory_bytes p) (Conditional-blocks rd pc at width v)
+      ∙ memory-scattered p blocks (at - p.base) (number_bytes (size_of width) v) whole (omega (arith, l, size_of-most width)) (omega (arith, l, h.0, h.1))
+  effect-memory (Fail rd pc) h = ap (memory_bytes p) (effect_same (Fail rd pc) refl)
+  effect-memory (Modify op rd width pc at v) h =
+      let l = length-number_bytes width (changed op width at v) in
+      ap (memory_bytes p) (Modify-blocks op rd pc at width v h)
+      ∙ memory-scattered p blocks (at - p.base) (number_bytes (size_of width) (changed op width at v)) whole (omega (arith, l, size_of-most width)) (omega (arith, l, h.0, h.1))
   effect-memory Environment h = Environment-memory
   effect-memory (Trap cause) h = ap (memory_bytes p) (effect_same (Trap cause) refl)
 
@@ -293,6 +331,16 @@ module _ (p : Parameters) (input : List ℕ) (cpu : CpuState) (blocks : List Blo
       let l = length-number_bytes width v in
       ap (λ bs. console_bytes p bs cpu.console_len) (Write-blocks pc at width v)
       ∙ console-scattered p blocks (at - p.base) (number_bytes (size_of width) v) cpu.console_len whole (omega (arith, l, size_of-most width)) (omega (arith, l, h.0, h.1))
+  effect-console (Reserve rd width pc at) n h = ap (λ bs. console_bytes p bs cpu.console_len) (effect_same (Reserve rd width pc at) refl)
+  effect-console (Conditional rd width pc at v) n h =
+      let l = length-number_bytes width v in
+      ap (λ bs. console_bytes p bs cpu.console_len) (Conditional-blocks rd pc at width v)
+      ∙ console-scattered p blocks (at - p.base) (number_bytes (size_of width) v) cpu.console_len whole (omega (arith, l, size_of-most width)) (omega (arith, l, h.0, h.1))
+  effect-console (Fail rd pc) n h = ap (λ bs. console_bytes p bs cpu.console_len) (effect_same (Fail rd pc) refl)
+  effect-console (Modify op rd width pc at v) n h =
+      let l = length-number_bytes width (changed op width at v) in
+      ap (λ bs. console_bytes p bs cpu.console_len) (Modify-blocks op rd pc at width v h)
+      ∙ console-scattered p blocks (at - p.base) (number_bytes (size_of width) (changed op width at v)) cpu.console_len whole (omega (arith, l, size_of-most width)) (omega (arith, l, h.0, h.1))
   effect-console Environment n h = Environment-console
   effect-console (Trap cause) n h = ap (λ bs. console_bytes p bs cpu.console_len) (effect_same (Trap cause) refl)
 
@@ -313,14 +361,14 @@ module _ (p : Parameters) (input : List ℕ) (cpu : CpuState) (blocks : List Blo
   pub effect_in-flat : effect_in p cpu blocks ≡ effect_at p.base (state_from p cpu blocks)
   unfolding effect_in effect_at state_from
   effect_in-flat =
-      let word = λ (n : ℕ). within p.base (program_size p) (word_effect n cpu.pc cpu.regs) in
+      let word = λ (n : ℕ). within p.base (program_size p) cpu.other (word_effect n cpu.pc cpu.regs) in
       let blockwise : ℕ = number_at 4 (gathered blocks (span (cpu.pc - p.base) 4)) 0 in
       let flatly : ℕ = number_at 4 (memory_bytes p blocks) (cpu.pc - p.base) in
       fetched_same (fetch_fault p.base (program_size p) cpu.pc) (word blockwise) (word flatly)
       (λ none.
       let inside = fetch_inside p.base (program_size p) cpu.pc none in
       ap word (number-memory p blocks (cpu.pc - p.base) 4 whole (omega arith) (omega (arith, inside.0, inside.1))))
-      ∙ ap (λ n. fetched (fetch_fault p.base n cpu.pc) (within p.base n (word_effect flatly cpu.pc cpu.regs))) (sym (length-memory_bytes p blocks whole))
+      ∙ ap (λ n. fetched (fetch_fault p.base n cpu.pc) (within p.base n cpu.other (word_effect flatly cpu.pc cpu.regs))) (sym (length-memory_bytes p blocks whole))
 
   advanced_is : performed g (state_from p cpu blocks) (effect_at p.base (state_from p cpu blocks)) ≡ advanced g (state_from p cpu blocks)
   unfolding advanced

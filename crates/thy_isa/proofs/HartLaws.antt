@@ -6,9 +6,13 @@ use Rattle.thy_isa.specs.declared.state.Call.{Call}
 use Rattle.thy_isa.specs.declared.state.Call.TheVariants.{Answer, Exit, Break, Take, Give}
 use Rattle.thy_isa.specs.declared.state.CpuState.{CpuState}
 use Rattle.thy_isa.specs.declared.state.Effect.{Effect}
-use Rattle.thy_isa.specs.declared.state.Effect.TheVariants.{Next, Set, Read, Write, Environment, Trap}
+use Rattle.thy_isa.specs.declared.state.Effect.TheVariants.{Next, Set, Read, Write, Reserve, Conditional, Fail, Modify, Environment, Trap}
 use Rattle.thy_isa.specs.declared.state.OtherHart.{OtherHart}
+use Rattle.thy_isa.specs.declared.state.Reservation.{Reservation}
+use Rattle.thy_isa.specs.declared.state.Reservation.TheVariants.{Nothing}
 use Rattle.thy_isa.specs.Calls.{call_of}
+use Rattle.thy_isa.specs.Effects.{size_of}
+use Rattle.thy_isa.specs.Reservations.{reservation, written_past, reserving}
 use Rattle.thy_isa.specs.Laws.{CrossedTwice, BlocksCross, KeepsHarts, OneHartSteps, CrossingKeepsStorable}
 use Rattle.thy_isa.specs.OnBlocks.{state_from}
 use Rattle.thy_isa.specs.Step.{State, Setting, crossed, fronted, step_of, call_state_of, cpu_of, effect_at, read_by, served, finished, performed, advanced, is_running, step}
@@ -63,19 +67,27 @@ crossed_with : (s : State) (o : Option OtherHart) → is_some (crossed (with_oth
 crossed_with s None = refl
 crossed_with s (Some o) = refl
 
-crossed-harts : (s : State) → is_some (crossed s).other ≡ is_some s.other
+pub crossed-harts : (s : State) → is_some (crossed s).other ≡ is_some s.other
 crossed-harts s = crossed_with s s.other
 
 fronted-harts : (hart : ℕ) (s : State) → is_some (fronted hart s).other ≡ is_some s.other
 fronted-harts zero s = refl
 fronted-harts (suc hart) s = crossed-harts s
 
+written-harts : (at len : ℕ) (o : Option OtherHart) → is_some (written_past at len o) ≡ is_some o
+written-harts at len None = refl
+written-harts at len (Some o) = refl
+
+reserving-harts : (r : Reservation) (o : Option OtherHart) → is_some (reserving r o) ≡ is_some o
+reserving-harts r None = refl
+reserving-harts r (Some o) = refl
+
 served-harts : (c : CpuState) (call : Call) → is_some (served c call).other ≡ is_some c.other
 unfolding served
 served-harts c (Answer v) = refl
 served-harts c (Exit v) = refl
 served-harts c (Break at) = refl
-served-harts c (Take at len) = refl
+served-harts c (Take at len) = written-harts at len c.other
 served-harts c (Give at len) = refl
 
 finished-harts : (c : CpuState) (e : Effect) (number : ℕ) (calls : CallState) → is_some (finished c e number calls).other ≡ is_some c.other
@@ -83,7 +95,12 @@ unfolding finished
 finished-harts c (Next pc) number calls = refl
 finished-harts c (Set rd pc v) number calls = refl
 finished-harts c (Read rd width extend pc at) number calls = refl
-finished-harts c (Write width pc at v) number calls = refl
+finished-harts c (Write width pc at v) number calls = written-harts at (size_of width) c.other
+finished-harts c (Reserve rd width pc at) number calls = reserving-harts (reservation width at) c.other
+finished-harts c (Conditional rd width pc at v) number calls =
+    reserving-harts Nothing (written_past at (size_of width) c.other) ∙ written-harts at (size_of width) c.other
+finished-harts c (Fail rd pc) number calls = reserving-harts Nothing c.other
+finished-harts c (Modify op rd width pc at v) number calls = written-harts at (size_of width) c.other
 finished-harts c Environment number calls = served-harts c (call_of c.regs calls)
 finished-harts c (Trap cause) number calls = refl
 

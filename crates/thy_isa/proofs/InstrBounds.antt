@@ -4,9 +4,9 @@ use Rattle.std.specs.List.{All}
 use Rattle.std.specs.Option.{option_map_or}
 use Rattle.std.specs.Prelude.{IfSome}
 use Rattle.thy_isa.specs.declared.instr.Instr.{Instr}
-use Rattle.thy_isa.specs.declared.instr.Instr.TheVariants.{Lui, Auipc, Jal, Jalr, Branch, Load, Store, OpImm, Op, Fence, FenceI, Ecall, Ebreak}
+use Rattle.thy_isa.specs.declared.instr.Instr.TheVariants.{Lui, Auipc, Jal, Jalr, Branch, Load, Store, OpImm, Op, Fence, FenceI, Ecall, Ebreak, LoadReserved, StoreConditional, AtomicOp}
 use Rattle.thy_isa.specs.declared.state.Effect.{Effect}
-use Rattle.thy_isa.specs.declared.state.Effect.TheVariants.{Next, Set, Read, Write, Environment, Trap}
+use Rattle.thy_isa.specs.declared.state.Effect.TheVariants.{Next, Set, Read, Write, Reserve, Conditional, Fail, Modify, Environment, Trap}
 use Rattle.thy_isa.specs.declared.state.Cause.TheVariants.{FetchMisaligned, Illegal}
 use Rattle.thy_isa.specs.Words.{bits_of, imm_i, imm_u, shamt_of, shamt_w_of}
 use Rattle.thy_isa.specs.Table.{Row, has_row, table, first_row, instr_of}
@@ -42,7 +42,7 @@ EachRow (r ∷ rows) = ((w : ℕ) → HasNumbers (r.instr w)) × EachRow rows
 
 table-numbers : EachRow table
 table-numbers =
-    (imm_u-number, ((λ w. tt), ((λ w. tt), ((λ w. tt), ((λ w. tt), ((λ w. tt), ((λ w. tt), ((λ w. tt), ((λ w. tt), ((λ w. tt), ((λ w. tt), ((λ w. tt), ((λ w. tt), ((λ w. tt), ((λ w. tt), ((λ w. tt), ((λ w. tt), ((λ w. tt), ((λ w. tt), ((λ w. tt), ((λ w. tt), (imm_i-number, (imm_i-number, (imm_i-number, (imm_i-number, (imm_i-number, (imm_i-number, (shamt-number, (shamt-number, (shamt-number, ((λ w. tt), ((λ w. tt), ((λ w. tt), ((λ w. tt), ((λ w. tt), ((λ w. tt), ((λ w. tt), ((λ w. tt), ((λ w. tt), ((λ w. tt), (imm_i-number, (shamt_w-number, (shamt_w-number, (shamt_w-number, ((λ w. tt), ((λ w. tt), ((λ w. tt), ((λ w. tt), ((λ w. tt), ((λ w. tt), ((λ w. tt), ((λ w. tt), ((λ w. tt), ((λ w. tt), ((λ w. tt), ((λ w. tt), ((λ w. tt), ((λ w. tt), ((λ w. tt), ((λ w. tt), ((λ w. tt), ((λ w. tt), ((λ w. tt), ((λ w. tt), ((λ w. tt), ((λ w. tt), tt))))))))))))))))))))))))))))))))))))))))))))))))))))))))))))))))))
+    (imm_u-number, ((λ w. tt), ((λ w. tt), ((λ w. tt), ((λ w. tt), ((λ w. tt), ((λ w. tt), ((λ w. tt), ((λ w. tt), ((λ w. tt), ((λ w. tt), ((λ w. tt), ((λ w. tt), ((λ w. tt), ((λ w. tt), ((λ w. tt), ((λ w. tt), ((λ w. tt), ((λ w. tt), ((λ w. tt), ((λ w. tt), (imm_i-number, (imm_i-number, (imm_i-number, (imm_i-number, (imm_i-number, (imm_i-number, (shamt-number, (shamt-number, (shamt-number, ((λ w. tt), ((λ w. tt), ((λ w. tt), ((λ w. tt), ((λ w. tt), ((λ w. tt), ((λ w. tt), ((λ w. tt), ((λ w. tt), ((λ w. tt), (imm_i-number, (shamt_w-number, (shamt_w-number, (shamt_w-number, ((λ w. tt), ((λ w. tt), ((λ w. tt), ((λ w. tt), ((λ w. tt), ((λ w. tt), ((λ w. tt), ((λ w. tt), ((λ w. tt), ((λ w. tt), ((λ w. tt), ((λ w. tt), ((λ w. tt), ((λ w. tt), ((λ w. tt), ((λ w. tt), ((λ w. tt), ((λ w. tt), ((λ w. tt), ((λ w. tt), ((λ w. tt), ((λ w. tt), ((λ w. tt), ((λ w. tt), ((λ w. tt), ((λ w. tt), ((λ w. tt), ((λ w. tt), ((λ w. tt), ((λ w. tt), ((λ w. tt), ((λ w. tt), ((λ w. tt), ((λ w. tt), ((λ w. tt), ((λ w. tt), ((λ w. tt), ((λ w. tt), ((λ w. tt), ((λ w. tt), ((λ w. tt), ((λ w. tt), ((λ w. tt), ((λ w. tt), tt))))))))))))))))))))))))))))))))))))))))))))))))))))))))))))))))))))))))))))))))))))))))
 
 if_some : (b : Bool) (i : Instr) (o : Option Instr) → HasNumbers i → IfSome o HasNumbers → IfSome (if b then Some i else o) HasNumbers
 if_some true i o p q = p
@@ -58,12 +58,16 @@ instr_of-numbers w = first_row-numbers table w table-numbers
 
 -- ---- effects
 
--- the next program counter and the number written to a register are numbers of 64 bits
+-- the next program counter, the number written to a register and the address that is reserved are numbers of 64 bits
 abbrev pub EffectNumbers : Effect → Type 0
 EffectNumbers (Next pc) = IsNumber pc
 EffectNumbers (Set rd pc v) = IsNumber pc × IsNumber v
 EffectNumbers (Read rd width extend pc at) = IsNumber pc
 EffectNumbers (Write width pc at v) = IsNumber pc
+EffectNumbers (Reserve rd width pc at) = IsNumber pc × IsNumber at
+EffectNumbers (Conditional rd width pc at v) = IsNumber pc
+EffectNumbers (Fail rd pc) = IsNumber pc
+EffectNumbers (Modify op rd width pc at v) = IsNumber pc
 EffectNumbers Environment = Unit {0}
 EffectNumbers (Trap c) = Unit {0}
 
@@ -100,6 +104,9 @@ effect_of-numbers Fence pc x h q = low64_number (pc + 4)
 effect_of-numbers FenceI pc x h q = low64_number (pc + 4)
 effect_of-numbers Ecall pc x h q = tt
 effect_of-numbers Ebreak pc x h q = tt
+effect_of-numbers (LoadReserved width rd rs1) pc x h q = (low64_number (pc + 4), reg_at-number x rs1 q)
+effect_of-numbers (StoreConditional width rd rs1 rs2) pc x h q = low64_number (pc + 4)
+effect_of-numbers (AtomicOp op width rd rs1 rs2) pc x h q = low64_number (pc + 4)
 
 effect_or_illegal-numbers : (o : Option Instr) (pc : ℕ) (x : List ℕ) → IfSome o HasNumbers → All IsNumber x → EffectNumbers (option_map_or (λ i. effect_of i pc x) o (Trap Illegal))
 effect_or_illegal-numbers None pc x h q = tt

@@ -4,6 +4,7 @@ pub mod NumberBounds
 pub mod MemoryBounds
 pub mod InstrBounds
 pub mod OneRow
+pub mod RowLaws
 pub mod AccessLaws
 pub mod StorableLaws
 pub mod BlockLaws

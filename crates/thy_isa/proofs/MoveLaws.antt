@@ -11,12 +11,12 @@ use Rattle.thy_isa.specs.declared.state.Call.TheVariants.{Answer, Exit, Break, T
 use Rattle.thy_isa.specs.declared.state.CallState.{CallState}
 use Rattle.thy_isa.specs.declared.state.CpuState.{CpuState}
 use Rattle.thy_isa.specs.declared.state.Effect.{Effect}
-use Rattle.thy_isa.specs.declared.state.Effect.TheVariants.{Next, Set, Read, Write, Environment, Trap}
+use Rattle.thy_isa.specs.declared.state.Effect.TheVariants.{Next, Set, Read, Write, Reserve, Conditional, Fail, Modify, Environment, Trap}
 use Rattle.thy_isa.specs.declared.state.Moves.{Moves}
 use Rattle.thy_isa.specs.Access.{IsWithin}
 use Rattle.thy_isa.specs.Calls.{IsFit, call_of}
 use Rattle.thy_isa.specs.Effects.{size_of}
-use Rattle.thy_isa.specs.Moves.{no_moves, call_moves, moves_of, call_brings, brings}
+use Rattle.thy_isa.specs.Moves.{no_moves, call_moves, moves_of, call_brings, brings, outgoing_len}
 use Rattle.thy_isa.specs.OnBlocks.{calls_in}
 use Rattle.thy_isa.proofs.CallLaws.{call_of-fit}
 use Rattle.thy_isa.proofs.MemoryBounds.{length-number_bytes}
@@ -63,21 +63,34 @@ module _ (p : Parameters) (cpu : CpuState) (n : ℕ) (r : IsInRange p) where
       record { from = program at (size_of width) (omega (arith, size_of-most width)) h.0 h.1; to = no_span (memory_blocks p) }
   moves_of-spans x (Write width pc at v) h =
       record { from = no_span (memory_blocks p); to = program at (size_of width) (omega (arith, size_of-most width)) h.0 h.1 }
+  moves_of-spans x (Reserve rd width pc at) h =
+      record { from = program at (size_of width) (omega (arith, size_of-most width)) h.0 h.1; to = no_span (memory_blocks p) }
+  moves_of-spans x (Conditional rd width pc at v) h =
+      record { from = no_span (memory_blocks p); to = program at (size_of width) (omega (arith, size_of-most width)) h.0 h.1 }
+  moves_of-spans x (Fail rd pc) h = none (memory_blocks p)
+  moves_of-spans x (Modify op rd width pc at v) h =
+      let short : size_of width ≤ 64 = omega (arith, size_of-most width) in
+      record { from = program at (size_of width) short h.0 h.1; to = program at (size_of width) short h.0 h.1 }
   moves_of-spans x Environment h = call_moves-spans (call_of x (calls_in p cpu n)) (call_of-fit x (calls_in p cpu n))
   moves_of-spans x (Trap cause) h = none (memory_blocks p)
 
 -- ---- how many bytes
 
--- what is brought along and what is read are at most 64 bytes, and at least those that are written
-pub record IsEnough (brought : List ℕ) (m : Moves) : Type 0 where
+-- what is brought along and what is read are at most 64 bytes, and what is written of them is long enough
+pub record IsEnough (e : Effect) (brought : List ℕ) (m : Moves) : Type 0 where
+  pub most : length brought + m.from.len ≤ 64
+  pub least : m.to.len ≤ outgoing_len e (length brought + m.from.len)
+
+-- the same of a call's bytes
+record IsEnoughFor (brought : List ℕ) (m : Moves) : Type 0 where
   pub most : length brought + m.from.len ≤ 64
   pub least : m.to.len ≤ length brought + m.from.len
 
-enough_none : IsEnough [] no_moves
+enough_none : IsEnoughFor [] no_moves
 enough_none = record { most = omega arith; least = omega arith }
 
 module _ (input : List ℕ) (c : CallState) (same : c.input_len ≡ length input) where
-  call_enough : (k : Call) → IsFit c k → IsEnough (call_brings input c k) (call_moves c k)
+  call_enough : (k : Call) → IsFit c k → IsEnoughFor (call_brings input c k) (call_moves c k)
   unfolding call_brings call_moves
   call_enough (Answer v) f = enough_none
   call_enough (Exit v) f = enough_none
@@ -87,13 +100,21 @@ module _ (input : List ℕ) (c : CallState) (same : c.input_len ≡ length input
       record { most = omega (arith, l, f.0.most); least = omega (arith, l) }
   call_enough (Give at len) f = record { most = omega (arith, f.0.most); least = omega arith }
 
-  pub moves_of-enough : (x : List ℕ) (e : Effect) → IsEnough (brings input x c e) (moves_of x c e)
+  pub moves_of-enough : (x : List ℕ) (e : Effect) → IsEnough e (brings input x c e) (moves_of x c e)
   unfolding brings moves_of
-  moves_of-enough x (Next pc) = enough_none
-  moves_of-enough x (Set rd pc v) = enough_none
+  moves_of-enough x (Next pc) = record { most = omega arith; least = omega arith }
+  moves_of-enough x (Set rd pc v) = record { most = omega arith; least = omega arith }
   moves_of-enough x (Read rd width extend pc at) = record { most = omega (arith, size_of-most width); least = omega arith }
   moves_of-enough x (Write width pc at v) =
       let l = length-number_bytes width v in
       record { most = omega (arith, l, size_of-most width); least = omega (arith, l) }
-  moves_of-enough x Environment = call_enough (call_of x c) (call_of-fit x c)
-  moves_of-enough x (Trap cause) = enough_none
+  moves_of-enough x (Reserve rd width pc at) = record { most = omega (arith, size_of-most width); least = omega arith }
+  moves_of-enough x (Conditional rd width pc at v) =
+      let l = length-number_bytes width v in
+      record { most = omega (arith, l, size_of-most width); least = omega (arith, l) }
+  moves_of-enough x (Fail rd pc) = record { most = omega arith; least = omega arith }
+  moves_of-enough x (Modify op rd width pc at v) = record { most = omega (arith, size_of-most width); least = omega arith }
+  moves_of-enough x Environment =
+      let enough = call_enough (call_of x c) (call_of-fit x c) in
+      record { most = enough.most; least = enough.least }
+  moves_of-enough x (Trap cause) = record { most = omega arith; least = omega arith }

@@ -4,8 +4,8 @@ use Rattle.std.specs.Prelude.{is_some}
 use Rattle.std.proofs.lemmas.Bool.{le-leb}
 use Rattle.std.proofs.lemmas.Bool.Decides.{nat_tests}
 use Rattle.thy_isa.specs.declared.instr.Instr.{Instr}
-use Rattle.thy_isa.specs.Words.{opcode_of, funct3_of, funct7_of, funct6_of}
-use Rattle.thy_isa.specs.Table.{Pattern, F3, F37, F36, Whole, Row, has_pattern, has_row, table, first_row, instr_of, count_rows, rows_of}
+use Rattle.thy_isa.specs.Words.{opcode_of, funct3_of, funct7_of, funct6_of, funct5_of}
+use Rattle.thy_isa.specs.Table.{Pattern, F3, F37, F36, F35, Lone, Whole, Row, has_pattern, has_row, table, first_row, instr_of, count_rows, rows_of}
 
 -- two patterns ask for different numbers of one field
 abbrev clash : Pattern → Pattern → Bool
@@ -16,6 +16,10 @@ clash (F37 a c) (F3 b) = not (a == b)
 clash (F37 a c) (F37 b d) = not (a == b) || not (c == d)
 clash (F36 a c) (F3 b) = not (a == b)
 clash (F36 a c) (F36 b d) = not (a == b) || not (c == d)
+clash (F35 a c) (F35 b d) = not (a == b) || not (c == d)
+clash (F35 a c) (Lone b d) = not (a == b) || not (c == d)
+clash (Lone a c) (F35 b d) = not (a == b) || not (c == d)
+clash (Lone a c) (Lone b d) = not (a == b) || not (c == d)
 clash (Whole a) (Whole b) = not (a == b)
 clash _ _ = false
 
@@ -43,6 +47,12 @@ one_of false b h p q = q h
 differ : (x a b : ℕ) → (x == a) ≡ true → (x == b) ≡ true → not (a == b) ≡ true → ⊥
 differ x a b p q h = grind (arith, nat_tests)
 
+-- two patterns of bits 14:12 and 31:27
+differ_five : (w a b c d : ℕ) → not (a == b) || not (c == d) ≡ true → (funct3_of w == a) && (funct5_of w == c) ≡ true
+    → (funct3_of w == b) && (funct5_of w == d) ≡ true → ⊥
+differ_five w a b c d h p q =
+    one_of _ _ h (differ (funct3_of w) a b (both _ _ p).0 (both _ _ q).0) (differ (funct5_of w) c d (both _ _ p).1 (both _ _ q).1)
+
 clash_is : (p q : Pattern) (w : ℕ) → clash p q ≡ true → has_pattern p w ≡ true → has_pattern q w ≡ true → ⊥
 clash_is (F3 a) (F3 b) w h p q = differ (funct3_of w) a b p q h
 clash_is (F3 a) (F37 b d) w h p q = differ (funct3_of w) a b p (both _ _ q).0 h
@@ -53,6 +63,10 @@ clash_is (F37 a c) (F37 b d) w h p q =
 clash_is (F36 a c) (F3 b) w h p q = differ (funct3_of w) a b (both _ _ p).0 q h
 clash_is (F36 a c) (F36 b d) w h p q =
     one_of _ _ h (differ (funct3_of w) a b (both _ _ p).0 (both _ _ q).0) (differ (funct6_of w) c d (both _ _ p).1 (both _ _ q).1)
+clash_is (F35 a c) (F35 b d) w h p q = differ_five w a b c d h p q
+clash_is (F35 a c) (Lone b d) w h p q = differ_five w a b c d h p (both _ _ q).0
+clash_is (Lone a c) (F35 b d) w h p q = differ_five w a b c d h (both _ _ p).0 q
+clash_is (Lone a c) (Lone b d) w h p q = differ_five w a b c d h (both _ _ p).0 (both _ _ q).0
 clash_is (Whole a) (Whole b) w h p q = differ w a b p q h
 clash_is _ _ w h p q = absurd (cc)
 

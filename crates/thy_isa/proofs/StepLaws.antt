@@ -1,7 +1,7 @@
 -- Laws of steps: an ended state stays, and the count grows by one at each step of a state that runs.
 use Rattle.std.proofs.Common.{◌≡◌, ℕ, zero, suc, ◌+◌, Bool, true, false, refl, ap, sym, ◌∙◌, arith, add-one, add-suc, add-zero}
 use Rattle.thy_isa.specs.declared.state.Effect.{Effect}
-use Rattle.thy_isa.specs.declared.state.Effect.TheVariants.{Next, Set, Read, Write, Environment, Trap}
+use Rattle.thy_isa.specs.declared.state.Effect.TheVariants.{Next, Set, Read, Write, Reserve, Conditional, Fail, Modify, Environment, Trap}
 use Rattle.thy_isa.specs.declared.state.Call.{Call}
 use Rattle.thy_isa.specs.declared.state.Call.TheVariants.{Answer, Exit, Break, Take, Give}
 use Rattle.thy_isa.specs.declared.state.CallState.{CallState}
@@ -55,6 +55,10 @@ finished-count c (Next pc) n k = refl
 finished-count c (Set rd pc v) n k = refl
 finished-count c (Read rd width extend pc at) n k = refl
 finished-count c (Write width pc at v) n k = refl
+finished-count c (Reserve rd width pc at) n k = refl
+finished-count c (Conditional rd width pc at v) n k = refl
+finished-count c (Fail rd pc) n k = refl
+finished-count c (Modify op rd width pc at v) n k = refl
 finished-count c Environment n k = served-count c (call_of c.regs k)
 finished-count c (Trap cause) n k = refl
 

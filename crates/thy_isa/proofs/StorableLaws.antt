@@ -6,24 +6,33 @@ use Rattle.std.specs.List.{All}
 use Rattle.std.proofs.lemmas.Bool.Decides.{nat_tests}
 use Rattle.std.proofs.lemmas.List.Elements.{All-set, All-take, All-drop, All-append}
 use Rattle.thy_base.specs.Inside.{is_inside}
-use Rattle.thy_base.specs.LittleEndian.{number_bytes}
+use Rattle.thy_base.specs.LittleEndian.{number_at, number_bytes}
 use Rattle.thy_base.proofs.WrittenLemmas.{length-written}
 use Rattle.thy_isa.specs.declared.state.Status.{Status}
 use Rattle.thy_isa.specs.declared.state.Status.TheVariants.{Exited, Trapped}
 use Rattle.thy_isa.specs.declared.state.Cause.{Cause}
 use Rattle.thy_isa.specs.declared.state.Cause.TheVariants.{FetchMisaligned, FetchAccess, Illegal, Breakpoint, LoadMisaligned, LoadAccess, StoreMisaligned, StoreAccess}
 use Rattle.thy_isa.specs.declared.state.Effect.{Effect}
-use Rattle.thy_isa.specs.declared.state.Effect.TheVariants.{Next, Set, Read, Write, Environment, Trap}
+use Rattle.thy_isa.specs.declared.state.Effect.TheVariants.{Next, Set, Read, Write, Reserve, Conditional, Fail, Modify, Environment, Trap}
 use Rattle.thy_isa.specs.declared.state.Call.{Call}
 use Rattle.thy_isa.specs.declared.state.Call.TheVariants.{Answer, Exit, Break, Take, Give}
 use Rattle.thy_isa.specs.declared.state.CallState.{CallState}
 use Rattle.thy_isa.specs.declared.state.CpuState.{CpuState}
+use Rattle.thy_isa.specs.declared.state.OtherHart.{OtherHart}
+use Rattle.thy_isa.specs.declared.state.Reservation.{Reservation}
+use Rattle.thy_isa.specs.declared.state.Reservation.TheVariants.{Nothing, Word as WordAt, Double as DoubleAt}
+use Rattle.thy_isa.specs.declared.instr.Extend.TheVariants.{Sign}
+use Rattle.thy_isa.specs.declared.instr.Width.{Width}
+use Rattle.thy_isa.specs.declared.instr.Width.TheVariants.{Byte, Half, Word, Double}
+use Rattle.thy_isa.specs.Atomics.{modified}
 use Rattle.thy_isa.specs.Regs.{regs_with}
+use Rattle.thy_isa.specs.Reservations.{reservation, is_reserved, shares_block, left_by, written_past, reserving, front_of}
 use Rattle.thy_isa.specs.Calls.{a0, a1, a2, a7, refusal, few, read_of, write_of, first_sp, break_of, call_of, IsFit}
 use Rattle.thy_isa.specs.Console.{IsGrown}
 use Rattle.thy_isa.specs.Effects.{size_of}
-use Rattle.thy_isa.specs.Step.{State, Setting, cpu_of, call_state_of, cause_number, fetch_fault, within, fetched, word_at, effect_at, read_by, call_at, memory_served, console_served, memory_by, console_by, answered, served, finished, performed, advanced, is_running, step, steps}
-use Rattle.thy_isa.specs.Storable.{IsNumber, IsByte, IsStatus, IsOtherOf, IsStorable, IsReadable}
+use Rattle.thy_isa.specs.Extending.{extended}
+use Rattle.thy_isa.specs.Step.{State, Setting, cpu_of, call_state_of, cause_number, fetch_fault, aligned, if_two, within, fetched, word_at, effect_at, read_by, call_at, memory_served, console_served, memory_by, console_by, answered, served, finished, performed, advanced, is_running, step, steps}
+use Rattle.thy_isa.specs.Storable.{IsNumber, IsByte, IsStatus, IsReservation, IsOtherOf, IsStorable, IsReadable}
 use Rattle.thy_isa.specs.Access.{IsWithin}
 use Rattle.thy_isa.proofs.AccessLaws.{effect_at-within}
 use Rattle.thy_isa.proofs.CallLaws.{if_call, call_of-fit}
@@ -94,6 +103,75 @@ with_status c s h p = record {
   status = p;
   other = h.other;
 }
+
+-- the same beside another hart
+with_pc_beside : (c : CpuState) (pc : ℕ) (o : Option OtherHart) → IsCpu c → IsNumber pc → IsOtherOf o → IsCpu (record c { pc = pc; count = c.count + 1; other = o })
+with_pc_beside c pc o h p w = record {
+  pc = p;
+  registers = h.registers;
+  numbers = h.numbers;
+  zero_register = h.zero_register;
+  cursor = h.cursor;
+  brk = h.brk;
+  floor = h.floor;
+  status = h.status;
+  other = w;
+}
+
+with_register_beside : (c : CpuState) (pc rd v : ℕ) (o : Option OtherHart) → IsCpu c → IsNumber pc → IsNumber v → IsOtherOf o
+    → IsCpu (record c { pc = pc; regs = regs_with c.regs rd v; count = c.count + 1; other = o })
+with_register_beside c pc rd v o h p q w = record {
+  pc = p;
+  registers = length-regs_with c.regs rd v ∙ h.registers;
+  numbers = regs_with-numbers c.regs rd v h.numbers q;
+  zero_register = regs_with-zero c.regs rd v h.zero_register;
+  cursor = h.cursor;
+  brk = h.brk;
+  floor = h.floor;
+  status = h.status;
+  other = w;
+}
+
+-- ---- reservations
+
+reservation-is : (width : Width) (at : ℕ) → IsNumber at → IsReservation (reservation width at)
+reservation-is Byte at h = tt
+reservation-is Half at h = tt
+reservation-is Word at h = h
+reservation-is Double at h = h
+
+lost_if : (b : Bool) (r : Reservation) → IsReservation r → IsReservation (if b then Nothing else r)
+lost_if true r h = tt
+lost_if false r h = h
+
+left_by-is : (at len : ℕ) (r : Reservation) → IsReservation r → IsReservation (left_by at len r)
+left_by-is at len Nothing h = tt
+left_by-is at len (WordAt a) h = lost_if (shares_block at len a) (WordAt a) h
+left_by-is at len (DoubleAt a) h = lost_if (shares_block at len a) (DoubleAt a) h
+
+written_past-is : (at len : ℕ) (o : Option OtherHart) → IsOtherOf o → IsOtherOf (written_past at len o)
+written_past-is at len None h = tt
+written_past-is at len (Some o) h = record {
+  pc = h.pc;
+  registers = h.registers;
+  numbers = h.numbers;
+  zero_register = h.zero_register;
+  front = h.front;
+  back = left_by-is at len o.back h.back;
+}
+
+reserving-is : (r : Reservation) (o : Option OtherHart) → IsReservation r → IsOtherOf o → IsOtherOf (reserving r o)
+reserving-is r None p h = tt
+reserving-is r (Some o) p h = record {
+  pc = h.pc;
+  registers = h.registers;
+  numbers = h.numbers;
+  zero_register = h.zero_register;
+  front = p;
+  back = h.back;
+}
+
+-- ---- calls
 
 -- a result is a number of 64 bits, an exit's value a byte, and so few bytes are moved
 abbrev CallNumbers : Call → Type 0
@@ -177,7 +255,7 @@ served-keeps c calls (Take at len) a f p h =
       brk = n.brk;
       floor = n.floor;
       status = n.status;
-      other = n.other;
+      other = written_past-is at len c.other h.other;
     }
 served-keeps c calls (Give at len) a f p h =
     let n = answered-keeps c len h p in
@@ -208,22 +286,56 @@ unfolding finished
 finished-keeps c (Next pc) n k h a p q = with_pc c pc h p
 finished-keeps c (Set rd pc v) n k h a p q = with_register c pc rd v h p.0 p.1
 finished-keeps c (Read rd width extend pc at) n k h a p q = with_register c pc rd _ h p (extended-number width extend n q)
-finished-keeps c (Write width pc at v) n k h a p q = with_pc c pc h p
+finished-keeps c (Write width pc at v) n k h a p q =
+    with_pc_beside c pc (written_past at (size_of width) c.other) h p (written_past-is at (size_of width) c.other h.other)
+finished-keeps c (Reserve rd width pc at) n k h a p q =
+    with_register_beside c pc rd (extended width Sign n) (reserving (reservation width at) c.other) h p.0 (extended-number width Sign n q)
+    (reserving-is (reservation width at) c.other (reservation-is width at p.1) h.other)
+finished-keeps c (Conditional rd width pc at v) n k h a p q =
+    with_register_beside c pc rd 0 (reserving Nothing (written_past at (size_of width) c.other)) h p (lit< tt)
+    (reserving-is Nothing (written_past at (size_of width) c.other) tt (written_past-is at (size_of width) c.other h.other))
+finished-keeps c (Fail rd pc) n k h a p q =
+    with_register_beside c pc rd 1 (reserving Nothing c.other) h p (lit< tt) (reserving-is Nothing c.other tt h.other)
+finished-keeps c (Modify op rd width pc at v) n k h a p q =
+    with_register_beside c pc rd (extended width Sign n) (written_past at (size_of width) c.other) h p (extended-number width Sign n q)
+    (written_past-is at (size_of width) c.other h.other)
 finished-keeps c Environment n k h a p q = served-keeps c k (call_of c.regs k) a (call_of-fit c.regs k) (call_of-numbers c.regs k h.numbers a.brk) h
 finished-keeps c (Trap cause) n k h a p q = with_status c (Trapped (cause_number cause)) h (cause_below cause)
 
 -- ---- what the instruction at pc does
 
-within-numbers : (base size : ℕ) (e : Effect) → EffectNumbers e → EffectNumbers (within base size e)
+aligned-numbers : (base size : ℕ) (width : Width) (at : ℕ) (misaligned access : Cause) (e : Effect) → EffectNumbers e
+    → EffectNumbers (aligned base size width at misaligned access e)
+aligned-numbers base size width at misaligned access e h =
+    if_effect (at % size_of width == 0) (if is_inside base size at (size_of width) then e else Trap access) (Trap misaligned)
+    (if_effect (is_inside base size at (size_of width)) e (Trap access) h tt) tt
+
+two-numbers : (o : Option OtherHart) (e : Effect) → EffectNumbers e → EffectNumbers (if_two o e)
+two-numbers None e h = tt
+two-numbers (Some o) e h = h
+
+within-numbers : (base size : ℕ) (o : Option OtherHart) (e : Effect) → EffectNumbers e → EffectNumbers (within base size o e)
 unfolding within
-within-numbers base size (Next pc) h = h
-within-numbers base size (Set rd pc v) h = h
-within-numbers base size (Read rd width extend pc at) h =
+within-numbers base size o (Next pc) h = h
+within-numbers base size o (Set rd pc v) h = h
+within-numbers base size o (Read rd width extend pc at) h =
     if_effect (is_inside base size at (size_of width)) (Read rd width extend pc at) (Trap LoadAccess) h tt
-within-numbers base size (Write width pc at v) h =
+within-numbers base size o (Write width pc at v) h =
     if_effect (is_inside base size at (size_of width)) (Write width pc at v) (Trap StoreAccess) h tt
-within-numbers base size Environment h = tt
-within-numbers base size (Trap c) h = tt
+within-numbers base size o (Reserve rd width pc at) h =
+    two-numbers o (aligned base size width at LoadMisaligned LoadAccess (Reserve rd width pc at))
+    (aligned-numbers base size width at LoadMisaligned LoadAccess (Reserve rd width pc at) h)
+within-numbers base size o (Conditional rd width pc at v) h =
+    let e : Effect = if is_reserved (front_of o) width at then Conditional rd width pc at v else Fail rd pc in
+    two-numbers o (aligned base size width at StoreMisaligned StoreAccess e)
+    (aligned-numbers base size width at StoreMisaligned StoreAccess e
+    (if_effect (is_reserved (front_of o) width at) (Conditional rd width pc at v) (Fail rd pc) h h))
+within-numbers base size o (Fail rd pc) h = h
+within-numbers base size o (Modify op rd width pc at v) h =
+    two-numbers o (aligned base size width at StoreMisaligned StoreAccess (Modify op rd width pc at v))
+    (aligned-numbers base size width at StoreMisaligned StoreAccess (Modify op rd width pc at v) h)
+within-numbers base size o Environment h = tt
+within-numbers base size o (Trap c) h = tt
 
 fetched-numbers : (o : Option Cause) (e : Effect) → EffectNumbers e → EffectNumbers (fetched o e)
 fetched-numbers None e h = h
@@ -233,7 +345,7 @@ pub effect_at-numbers : (base : ℕ) (s : State) → All IsNumber s.regs → Eff
 unfolding effect_at
 effect_at-numbers base s h =
     fetched-numbers (fetch_fault base (length s.memory) s.pc) _
-    (within-numbers base (length s.memory) _ (word_effect-numbers (word_at base s) s.pc s.regs h))
+    (within-numbers base (length s.memory) s.other _ (word_effect-numbers (word_at base s) s.pc s.regs h))
 
 -- ---- memory
 
@@ -243,6 +355,10 @@ read_by-number base memory (Next pc) h = lit< tt
 read_by-number base memory (Set rd pc v) h = lit< tt
 read_by-number base memory (Read rd width extend pc at) h = number_at-number width memory (at - base) h
 read_by-number base memory (Write width pc at v) h = lit< tt
+read_by-number base memory (Reserve rd width pc at) h = number_at-number width memory (at - base) h
+read_by-number base memory (Conditional rd width pc at v) h = lit< tt
+read_by-number base memory (Fail rd pc) h = lit< tt
+read_by-number base memory (Modify op rd width pc at v) h = number_at-number width memory (at - base) h
 read_by-number base memory Environment h = lit< tt
 read_by-number base memory (Trap c) h = lit< tt
 
@@ -262,6 +378,13 @@ memory_by-bytes g s (Set rd pc v) i h = h
 memory_by-bytes g s (Read rd width extend pc at) i h = h
 memory_by-bytes g s (Write width pc at v) i h =
     written-bytes s.memory (at - g.base) (number_bytes (size_of width) v) h (number_bytes-bytes (size_of width) v)
+memory_by-bytes g s (Reserve rd width pc at) i h = h
+memory_by-bytes g s (Conditional rd width pc at v) i h =
+    written-bytes s.memory (at - g.base) (number_bytes (size_of width) v) h (number_bytes-bytes (size_of width) v)
+memory_by-bytes g s (Fail rd pc) i h = h
+memory_by-bytes g s (Modify op rd width pc at v) i h =
+    let new = modified op width (number_at (size_of width) s.memory (at - g.base)) v in
+    written-bytes s.memory (at - g.base) (number_bytes (size_of width) new) h (number_bytes-bytes (size_of width) new)
 memory_by-bytes g s Environment i h = memory_served-bytes g s (call_at g s) i h
 memory_by-bytes g s (Trap c) i h = h
 
@@ -285,6 +408,13 @@ length-memory_by g s (Set rd pc v) h = refl
 length-memory_by g s (Read rd width extend pc at) h = refl
 length-memory_by g s (Write width pc at v) h =
     length-written s.memory (at - g.base) (number_bytes (size_of width) v) (omega (arith, length-number_bytes width v, h.0, h.1))
+length-memory_by g s (Reserve rd width pc at) h = refl
+length-memory_by g s (Conditional rd width pc at v) h =
+    length-written s.memory (at - g.base) (number_bytes (size_of width) v) (omega (arith, length-number_bytes width v, h.0, h.1))
+length-memory_by g s (Fail rd pc) h = refl
+length-memory_by g s (Modify op rd width pc at v) h =
+    let new = modified op width (number_at (size_of width) s.memory (at - g.base)) v in
+    length-written s.memory (at - g.base) (number_bytes (size_of width) new) (omega (arith, length-number_bytes width new, h.0, h.1))
 length-memory_by g s Environment h = length-memory_served g s (call_at g s) (call_of-fit s.regs (call_state_of g s))
 length-memory_by g s (Trap c) h = refl
 
@@ -305,6 +435,10 @@ console_by-bytes g s (Next pc) m h = h
 console_by-bytes g s (Set rd pc v) m h = h
 console_by-bytes g s (Read rd width extend pc at) m h = h
 console_by-bytes g s (Write width pc at v) m h = h
+console_by-bytes g s (Reserve rd width pc at) m h = h
+console_by-bytes g s (Conditional rd width pc at v) m h = h
+console_by-bytes g s (Fail rd pc) m h = h
+console_by-bytes g s (Modify op rd width pc at v) m h = h
 console_by-bytes g s Environment m h = console_served-bytes g s (call_at g s) m h
 console_by-bytes g s (Trap c) m h = h
 
@@ -331,6 +465,10 @@ console_by-grows g s (Next pc) = IsGrown-same s.console
 console_by-grows g s (Set rd pc v) = IsGrown-same s.console
 console_by-grows g s (Read rd width extend pc at) = IsGrown-same s.console
 console_by-grows g s (Write width pc at v) = IsGrown-same s.console
+console_by-grows g s (Reserve rd width pc at) = IsGrown-same s.console
+console_by-grows g s (Conditional rd width pc at v) = IsGrown-same s.console
+console_by-grows g s (Fail rd pc) = IsGrown-same s.console
+console_by-grows g s (Modify op rd width pc at v) = IsGrown-same s.console
 console_by-grows g s Environment = console_served-grows g s (call_at g s)
 console_by-grows g s (Trap c) = IsGrown-same s.console
 
@@ -353,6 +491,10 @@ console_by-room g s (Next pc) h = h
 console_by-room g s (Set rd pc v) h = h
 console_by-room g s (Read rd width extend pc at) h = h
 console_by-room g s (Write width pc at v) h = h
+console_by-room g s (Reserve rd width pc at) h = h
+console_by-room g s (Conditional rd width pc at v) h = h
+console_by-room g s (Fail rd pc) h = h
+console_by-room g s (Modify op rd width pc at v) h = h
 console_by-room g s Environment h = console_served-room g s (call_at g s) (call_of-fit s.regs (call_state_of g s)) h
 console_by-room g s (Trap c) h = h
 
@@ -371,6 +513,10 @@ finished-room c (Next pc) n k most e h = h
 finished-room c (Set rd pc v) n k most e h = h
 finished-room c (Read rd width extend pc at) n k most e h = h
 finished-room c (Write width pc at v) n k most e h = h
+finished-room c (Reserve rd width pc at) n k most e h = h
+finished-room c (Conditional rd width pc at v) n k most e h = h
+finished-room c (Fail rd pc) n k most e h = h
+finished-room c (Modify op rd width pc at v) n k most e h = h
 finished-room c Environment n k most e h = served-room c k (call_of c.regs k) most e (call_of-fit c.regs k) h
 finished-room c (Trap cause) n k most e h = h
 
@@ -390,6 +536,10 @@ finished-cursor c (Next pc) n k e h = h
 finished-cursor c (Set rd pc v) n k e h = h
 finished-cursor c (Read rd width extend pc at) n k e h = h
 finished-cursor c (Write width pc at v) n k e h = h
+finished-cursor c (Reserve rd width pc at) n k e h = h
+finished-cursor c (Conditional rd width pc at v) n k e h = h
+finished-cursor c (Fail rd pc) n k e h = h
+finished-cursor c (Modify op rd width pc at v) n k e h = h
 finished-cursor c Environment n k e h = served-cursor c k (call_of c.regs k) e (call_of-fit c.regs k) h
 finished-cursor c (Trap cause) n k e h = h
 

@@ -4,13 +4,13 @@ use Rattle.std.specs.Prelude.{ℕ, ◌+◌, ◌-◌, ◌%◌, Bool, not, ◌==�
 use Rattle.std.specs.Option.{option_map_or}
 use Rattle.std.specs.Int.{w64, cast_signed}
 use Rattle.thy_isa.specs.declared.instr.Instr.{Instr}
-use Rattle.thy_isa.specs.declared.instr.Instr.TheVariants.{Lui, Auipc, Jal, Jalr, Branch, Load, Store, OpImm, Op, Fence, FenceI, Ecall, Ebreak}
+use Rattle.thy_isa.specs.declared.instr.Instr.TheVariants.{Lui, Auipc, Jal, Jalr, Branch, Load, Store, OpImm, Op, Fence, FenceI, Ecall, Ebreak, LoadReserved, StoreConditional, AtomicOp}
 use Rattle.thy_isa.specs.declared.instr.Cond.{Cond}
 use Rattle.thy_isa.specs.declared.instr.Cond.TheVariants.{Equal, NotEqual, Less, GreaterEqual, LessUnsigned, GreaterEqualUnsigned}
 use Rattle.thy_isa.specs.declared.instr.Width.{Width}
 use Rattle.thy_isa.specs.declared.instr.Width.TheVariants.{Byte, Half, Word, Double}
 use Rattle.thy_isa.specs.declared.state.Effect.{Effect}
-use Rattle.thy_isa.specs.declared.state.Effect.TheVariants.{Next, Set, Read, Write, Environment, Trap}
+use Rattle.thy_isa.specs.declared.state.Effect.TheVariants.{Next, Set, Read, Write, Reserve, Conditional, Modify, Environment, Trap}
 use Rattle.thy_isa.specs.declared.state.Cause.TheVariants.{FetchMisaligned, Illegal, Breakpoint}
 use Rattle.thy_isa.specs.Arith.{low64, alu_of}
 use Rattle.thy_isa.specs.Regs.{reg_at}
@@ -55,7 +55,7 @@ IsOperation (OpImm op rd rs1 imm) = Unit {0}
 IsOperation (Op op rd rs1 rs2) = Unit {0}
 IsOperation i = ⊥
 
--- what an instruction does at pc; a load or a store may have any address
+-- what an instruction does at pc; a load, a store or an atomic instruction may have any address
 unfoldable pub effect_of : Instr → ℕ → List ℕ → Effect
 effect_of (Lui rd imm) pc x = Set rd (after pc) imm
 effect_of (Auipc rd imm) pc x = Set rd (after pc) (low64 (pc + imm))
@@ -70,6 +70,9 @@ effect_of Fence pc x = Next (after pc)
 effect_of FenceI pc x = Next (after pc)
 effect_of Ecall pc x = Environment
 effect_of Ebreak pc x = Trap Breakpoint
+effect_of (LoadReserved width rd rs1) pc x = Reserve rd width (after pc) (reg_at x rs1)
+effect_of (StoreConditional width rd rs1 rs2) pc x = Conditional rd width (after pc) (reg_at x rs1) (reg_at x rs2)
+effect_of (AtomicOp op width rd rs1 rs2) pc x = Modify op rd width (after pc) (reg_at x rs1) (reg_at x rs2)
 
 -- what a word does: it is illegal if it means no instruction
 abbrev pub word_effect : ℕ → ℕ → List ℕ → Effect

@@ -6,9 +6,11 @@ use Rattle.thy_base.specs.Geometry.{IsInRange, memory_blocks, console_room}
 use Rattle.thy_isa.specs.declared.state.CpuState.{CpuState}
 use Rattle.thy_isa.specs.declared.state.Status.{Status}
 use Rattle.thy_isa.specs.declared.state.Status.TheVariants.{Trapped}
+use Rattle.thy_isa.specs.Access.{IsAtomic}
 use Rattle.thy_isa.specs.Console.{IsGrown}
+use Rattle.thy_isa.specs.Effects.{word_effect}
 use Rattle.thy_isa.specs.OnBlocks.{setting_for, state_from, effect_in, bytes_in, cpu_after, blocks_after}
-use Rattle.thy_isa.specs.Step.{State, Setting, is_running, step, crossed, cpu_crossed, step_of}
+use Rattle.thy_isa.specs.Step.{State, Setting, is_running, word_at, step, crossed, cpu_crossed, step_of}
 use Rattle.thy_isa.specs.Storable.{IsStorable, IsReadable}
 
 -- the state after the instruction at the program counter, done over the blocks of memory
@@ -48,9 +50,16 @@ CursorStaysInside =
 abbrev pub IsNotMisaligned : Status → Type 0
 IsNotMisaligned status = (status ≢ Trapped 4) × (status ≢ Trapped 6)
 
--- a load or a store may be misaligned: no step ends with such a trap
+-- a load or a store may be misaligned: with one hart no step ends with such a trap
 abbrev pub MisalignedIsServed : Type 0
-MisalignedIsServed = (g : Setting) (s : State) → is_running s.status ≡ true → IsNotMisaligned (step g s).status
+MisalignedIsServed =
+    (g : Setting) (s : State) → s.other ≡ None → is_running s.status ≡ true → IsNotMisaligned (step g s).status
+
+-- and with two harts only that of an atomic instruction
+abbrev pub AccessesAreServed : Type 0
+AccessesAreServed =
+    (g : Setting) (s : State) → (IsAtomic (word_effect (word_at g.base s) s.pc s.regs) → ⊥) → is_running s.status ≡ true
+    → IsNotMisaligned (step g s).status
 
 -- ---- two harts
 

@@ -5,6 +5,8 @@ pub mod Arith
 pub mod Effects
 pub mod Calls
 pub mod Extending
+pub mod Atomics
+pub mod Reservations
 pub mod Step
 pub mod Moves
 pub mod OnBlocks

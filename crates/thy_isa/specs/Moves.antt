@@ -8,8 +8,9 @@ use Rattle.thy_isa.specs.declared.state.Call.{Call}
 use Rattle.thy_isa.specs.declared.state.Call.TheVariants.{Answer, Exit, Break, Take, Give}
 use Rattle.thy_isa.specs.declared.state.CallState.{CallState}
 use Rattle.thy_isa.specs.declared.state.Effect.{Effect}
-use Rattle.thy_isa.specs.declared.state.Effect.TheVariants.{Next, Set, Read, Write, Environment, Trap}
+use Rattle.thy_isa.specs.declared.state.Effect.TheVariants.{Next, Set, Read, Write, Reserve, Conditional, Fail, Modify, Environment, Trap}
 use Rattle.thy_isa.specs.declared.state.Moves.{Moves}
+use Rattle.thy_isa.specs.Atomics.{modified}
 use Rattle.thy_isa.specs.Calls.{call_of}
 use Rattle.thy_isa.specs.Effects.{size_of}
 
@@ -39,6 +40,11 @@ moves_of x c (Next pc) = no_moves
 moves_of x c (Set rd pc v) = no_moves
 moves_of x c (Read rd width extend pc at) = reads (at - c.base) (size_of width)
 moves_of x c (Write width pc at v) = writes (at - c.base) (size_of width)
+moves_of x c (Reserve rd width pc at) = reads (at - c.base) (size_of width)
+moves_of x c (Conditional rd width pc at v) = writes (at - c.base) (size_of width)
+moves_of x c (Fail rd pc) = no_moves
+moves_of x c (Modify op rd width pc at v) =
+    record { from = span (at - c.base) (size_of width); to = span (at - c.base) (size_of width) }
 moves_of x c Environment = call_moves c (call_of x c)
 moves_of x c (Trap cause) = no_moves
 
@@ -56,6 +62,10 @@ brings input x c (Next pc) = []
 brings input x c (Set rd pc v) = []
 brings input x c (Read rd width extend pc at) = []
 brings input x c (Write width pc at v) = number_bytes (size_of width) v
+brings input x c (Reserve rd width pc at) = []
+brings input x c (Conditional rd width pc at v) = number_bytes (size_of width) v
+brings input x c (Fail rd pc) = []
+brings input x c (Modify op rd width pc at v) = []
 brings input x c Environment = call_brings input c (call_of x c)
 brings input x c (Trap cause) = []
 
@@ -65,5 +75,20 @@ number_in (Next pc) bytes = 0
 number_in (Set rd pc v) bytes = 0
 number_in (Read rd width extend pc at) bytes = number_at (size_of width) bytes 0
 number_in (Write width pc at v) bytes = 0
+number_in (Reserve rd width pc at) bytes = number_at (size_of width) bytes 0
+number_in (Conditional rd width pc at v) bytes = 0
+number_in (Fail rd pc) bytes = 0
+number_in (Modify op rd width pc at v) bytes = number_at (size_of width) bytes 0
 number_in Environment bytes = 0
 number_in (Trap cause) bytes = 0
+
+-- the bytes that an effect writes, from those that it brought along or has read: an AMO makes new ones
+abbrev pub outgoing : Effect → List ℕ → List ℕ
+outgoing (Modify op rd width pc at v) bytes =
+    number_bytes (size_of width) (modified op width (number_at (size_of width) bytes 0) v)
+outgoing e bytes = bytes
+
+-- how many they are, from so many
+abbrev pub outgoing_len : Effect → ℕ → ℕ
+outgoing_len (Modify op rd width pc at v) have = size_of width
+outgoing_len e have = have

@@ -11,7 +11,7 @@ use Rattle.thy_isa.specs.declared.state.CallState.{CallState}
 use Rattle.thy_isa.specs.declared.state.CpuState.{CpuState}
 use Rattle.thy_isa.specs.declared.state.Effect.{Effect}
 use Rattle.thy_isa.specs.Effects.{word_effect}
-use Rattle.thy_isa.specs.Moves.{moves_of, brings, number_in}
+use Rattle.thy_isa.specs.Moves.{moves_of, brings, number_in, outgoing}
 use Rattle.thy_isa.specs.Step.{State, Setting, state_with, fetch_fault, fetched, within, finished}
 
 -- what stays the same over a run in these numbers, with this input
@@ -39,7 +39,7 @@ calls_in p cpu input_len = record {
 unfoldable pub effect_in : Parameters → CpuState → List Block → Effect
 effect_in p cpu blocks =
     let word = number_at 4 (gathered blocks (span (cpu.pc - p.base) 4)) 0 in
-    fetched (fetch_fault p.base (program_size p) cpu.pc) (within p.base (program_size p) (word_effect word cpu.pc cpu.regs))
+    fetched (fetch_fault p.base (program_size p) cpu.pc) (within p.base (program_size p) cpu.other (word_effect word cpu.pc cpu.regs))
 
 -- the bytes that an effect moves: those that it brings along, or those that it reads
 unfoldable pub bytes_in : Parameters → List ℕ → CpuState → List Block → Effect → List ℕ
@@ -53,4 +53,5 @@ cpu_after p input cpu e bytes = finished cpu e (number_in e bytes) (calls_in p c
 
 -- the blocks after it
 unfoldable pub blocks_after : Parameters → List ℕ → CpuState → List Block → Effect → List ℕ → List Block
-blocks_after p input cpu blocks e bytes = scattered blocks (moves_of cpu.regs (calls_in p cpu (length input)) e).to bytes
+blocks_after p input cpu blocks e bytes =
+    scattered blocks (moves_of cpu.regs (calls_in p cpu (length input)) e).to (outgoing e bytes)

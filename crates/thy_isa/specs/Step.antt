@@ -10,16 +10,21 @@ use Rattle.thy_isa.specs.declared.state.Status.TheVariants.{Running, Exited, Tra
 use Rattle.thy_isa.specs.declared.state.Cause.{Cause}
 use Rattle.thy_isa.specs.declared.state.Cause.TheVariants.{FetchMisaligned, FetchAccess, Illegal, Breakpoint, LoadMisaligned, LoadAccess, StoreMisaligned, StoreAccess}
 use Rattle.thy_isa.specs.declared.state.Effect.{Effect}
-use Rattle.thy_isa.specs.declared.state.Effect.TheVariants.{Next, Set, Read, Write, Environment, Trap}
+use Rattle.thy_isa.specs.declared.state.Effect.TheVariants.{Next, Set, Read, Write, Reserve, Conditional, Fail, Modify, Environment, Trap}
 use Rattle.thy_isa.specs.declared.state.Call.{Call}
 use Rattle.thy_isa.specs.declared.state.Call.TheVariants.{Answer, Exit, Break, Take, Give}
 use Rattle.thy_isa.specs.declared.state.CallState.{CallState}
 use Rattle.thy_isa.specs.declared.state.CpuState.{CpuState}
 use Rattle.thy_isa.specs.declared.state.MachState.{MachState}
 use Rattle.thy_isa.specs.declared.state.OtherHart.{OtherHart}
+use Rattle.thy_isa.specs.declared.state.Reservation.TheVariants.{Nothing}
+use Rattle.thy_isa.specs.declared.instr.Extend.TheVariants.{Sign}
+use Rattle.thy_isa.specs.declared.instr.Width.{Width}
 use Rattle.thy_isa.specs.Regs.{regs_with}
 use Rattle.thy_isa.specs.Calls.{call_of}
 use Rattle.thy_isa.specs.Extending.{extended}
+use Rattle.thy_isa.specs.Atomics.{modified}
+use Rattle.thy_isa.specs.Reservations.{reservation, is_reserved, written_past, reserving, front_of}
 use Rattle.thy_isa.specs.Effects.{size_of, after, word_effect}
 
 -- all that a program sees
@@ -132,13 +137,34 @@ unfoldable pub fetch_fault : ℕ → ℕ → ℕ → Option Cause
 fetch_fault base size pc =
     if pc % 4 == 0 then (if is_inside base size pc 4 then None else Some FetchAccess) else Some FetchMisaligned
 
--- an effect, or the trap if it would read or write outside memory
-unfoldable pub within : ℕ → ℕ → Effect → Effect
-within base size (Read rd width extend pc at) =
+-- an effect, or the trap if its address is no multiple of its width, or outside memory
+abbrev pub aligned : ℕ → ℕ → Width → ℕ → Cause → Cause → Effect → Effect
+aligned base size width at misaligned access e =
+    if at % size_of width == 0
+    then (if is_inside base size at (size_of width) then e else Trap access)
+    else Trap misaligned
+
+-- an effect that only one of two harts can have: with one hart its instruction is illegal
+abbrev pub if_two : Option OtherHart → Effect → Effect
+if_two None e = Trap Illegal
+if_two (Some o) e = e
+
+-- An effect as the hart in front has it, beside this other hart: a trap if it would read or write outside memory. An atomic
+-- instruction is illegal with one hart, and its address has to be a multiple of its width. A store-conditional fails if its
+-- bytes are not reserved.
+unfoldable pub within : ℕ → ℕ → Option OtherHart → Effect → Effect
+within base size other (Read rd width extend pc at) =
     if is_inside base size at (size_of width) then Read rd width extend pc at else Trap LoadAccess
-within base size (Write width pc at v) =
+within base size other (Write width pc at v) =
     if is_inside base size at (size_of width) then Write width pc at v else Trap StoreAccess
-within base size e = e
+within base size other (Reserve rd width pc at) =
+    if_two other (aligned base size width at LoadMisaligned LoadAccess (Reserve rd width pc at))
+within base size other (Conditional rd width pc at v) =
+    if_two other (aligned base size width at StoreMisaligned StoreAccess
+    (if is_reserved (front_of other) width at then Conditional rd width pc at v else Fail rd pc))
+within base size other (Modify op rd width pc at v) =
+    if_two other (aligned base size width at StoreMisaligned StoreAccess (Modify op rd width pc at v))
+within base size other e = e
 
 abbrev pub fetched : Option Cause → Effect → Effect
 fetched (Some c) e = Trap c
@@ -154,11 +180,13 @@ word_at base s = number_at 4 s.memory (s.pc - base)
 unfoldable pub effect_at : ℕ → State → Effect
 effect_at base s =
     let size = length s.memory in
-    fetched (fetch_fault base size s.pc) (within base size (word_effect (word_at base s) s.pc s.regs))
+    fetched (fetch_fault base size s.pc) (within base size s.other (word_effect (word_at base s) s.pc s.regs))
 
 -- the number that an effect reads
 unfoldable pub read_by : ℕ → List ℕ → Effect → ℕ
 read_by base memory (Read rd width extend pc at) = number_at (size_of width) memory (at - base)
+read_by base memory (Reserve rd width pc at) = number_at (size_of width) memory (at - base)
+read_by base memory (Modify op rd width pc at v) = number_at (size_of width) memory (at - base)
 read_by base memory e = 0
 
 -- the environment call that the registers name
@@ -178,6 +206,10 @@ console_served g s call = s.console
 -- memory after an effect
 unfoldable pub memory_by : Setting → State → Effect → List ℕ
 memory_by g s (Write width pc at v) = written s.memory (at - g.base) (number_bytes (size_of width) v)
+memory_by g s (Conditional rd width pc at v) = written s.memory (at - g.base) (number_bytes (size_of width) v)
+memory_by g s (Modify op rd width pc at v) =
+    let old = number_at (size_of width) s.memory (at - g.base) in
+    written s.memory (at - g.base) (number_bytes (size_of width) (modified op width old v))
 memory_by g s Environment = memory_served g s (call_at g s)
 memory_by g s e = s.memory
 
@@ -195,7 +227,7 @@ unfoldable pub served : CpuState → Call → CpuState
 served c (Answer v) = answered c v
 served c (Exit v) = record c { count = c.count + 1; status = Exited v }
 served c (Break at) = record (answered c at) { brk = at }
-served c (Take at len) = record (answered c len) { cursor = c.cursor + len }
+served c (Take at len) = record (answered c len) { cursor = c.cursor + len; other = written_past at len c.other }
 served c (Give at len) = record (answered c len) { console_len = c.console_len + len }
 
 -- the rest of the state after an effect, which has read this number
@@ -204,7 +236,28 @@ finished c (Next pc) number calls = record c { pc = pc; count = c.count + 1 }
 finished c (Set rd pc v) number calls = record c { pc = pc; regs = regs_with c.regs rd v; count = c.count + 1 }
 finished c (Read rd width extend pc at) number calls =
     record c { pc = pc; regs = regs_with c.regs rd (extended width extend number); count = c.count + 1 }
-finished c (Write width pc at v) number calls = record c { pc = pc; count = c.count + 1 }
+finished c (Write width pc at v) number calls =
+    record c { pc = pc; count = c.count + 1; other = written_past at (size_of width) c.other }
+finished c (Reserve rd width pc at) number calls = record c {
+  pc = pc;
+  regs = regs_with c.regs rd (extended width Sign number);
+  count = c.count + 1;
+  other = reserving (reservation width at) c.other;
+}
+finished c (Conditional rd width pc at v) number calls = record c {
+  pc = pc;
+  regs = regs_with c.regs rd 0;
+  count = c.count + 1;
+  other = reserving Nothing (written_past at (size_of width) c.other);
+}
+finished c (Fail rd pc) number calls =
+    record c { pc = pc; regs = regs_with c.regs rd 1; count = c.count + 1; other = reserving Nothing c.other }
+finished c (Modify op rd width pc at v) number calls = record c {
+  pc = pc;
+  regs = regs_with c.regs rd (extended width Sign number);
+  count = c.count + 1;
+  other = written_past at (size_of width) c.other;
+}
 finished c Environment number calls = served c (call_of c.regs calls)
 finished c (Trap cause) number calls = record c { count = c.count + 1; status = Trapped (cause_number cause) }
 

@@ -1,8 +1,11 @@
 -- Part of the claim.
--- The instructions of RV64I 2.1, M 2.0 and Zifencei 2.0, in the order of the RISC-V unprivileged ISA manual's listings.
+-- The instructions of RV64I 2.1, M 2.0, A 2.1 and Zifencei 2.0, in the order of the RISC-V unprivileged ISA manual's
+-- listings.
 use Rattle.std.specs.Prelude.{ℕ, suc, Bool, true, ◌==◌, ◌&&◌, if◌then◌else◌, List, [], ◌∷◌, Option, Some, None}
 use Rattle.thy_isa.specs.declared.instr.Instr.{Instr}
-use Rattle.thy_isa.specs.declared.instr.Instr.TheVariants.{Lui, Auipc, Jal, Jalr, Branch, Load, Store, OpImm, Op, Fence, FenceI, Ecall, Ebreak}
+use Rattle.thy_isa.specs.declared.instr.Instr.TheVariants.{Lui, Auipc, Jal, Jalr, Branch, Load, Store, OpImm, Op, Fence, FenceI, Ecall, Ebreak, LoadReserved, StoreConditional, AtomicOp}
+use Rattle.thy_isa.specs.declared.instr.Amo.{Amo}
+use Rattle.thy_isa.specs.declared.instr.Amo.TheVariants.{Swap, Add as AmoAdd, Xor as AmoXor, And as AmoAnd, Or as AmoOr, Min, Max, Minu, Maxu}
 use Rattle.thy_isa.specs.declared.instr.Alu.{Alu}
 use Rattle.thy_isa.specs.declared.instr.Alu.TheVariants.{Add, Sub, Sll, Slt, Sltu, Xor, Srl, Sra, Or, And, Mul, Mulh, Mulhsu, Mulhu, Div, Divu, Rem, Remu, Addw, Subw, Sllw, Srlw, Sraw, Mulw, Divw, Divuw, Remw, Remuw}
 use Rattle.thy_isa.specs.declared.instr.Cond.{Cond}
@@ -11,14 +14,17 @@ use Rattle.thy_isa.specs.declared.instr.Width.{Width}
 use Rattle.thy_isa.specs.declared.instr.Width.TheVariants.{Byte, Half, Word, Double}
 use Rattle.thy_isa.specs.declared.instr.Extend.{Extend}
 use Rattle.thy_isa.specs.declared.instr.Extend.TheVariants.{Sign, Zero}
-use Rattle.thy_isa.specs.Words.{opcode_of, rd_of, funct3_of, rs1_of, rs2_of, funct7_of, funct6_of, imm_i, imm_s, imm_b, imm_u, imm_j, shamt_of, shamt_w_of}
+use Rattle.thy_isa.specs.Words.{opcode_of, rd_of, funct3_of, rs1_of, rs2_of, funct7_of, funct6_of, funct5_of, imm_i, imm_s, imm_b, imm_u, imm_j, shamt_of, shamt_w_of}
 
--- what a row asks of a word in addition to its opcode
+-- what a row asks of a word in addition to its opcode. Bits 26 and 25 of an atomic instruction, which order accesses, are
+-- ignored; `Lone` asks that bits 24:20 are 0 too
 pub data Pattern : Type 0 where
   Any : Pattern
   F3 : (f3 : ℕ) → Pattern
   F37 : (f3 f7 : ℕ) → Pattern
   F36 : (f3 f6 : ℕ) → Pattern
+  F35 : (f3 f5 : ℕ) → Pattern
+  Lone : (f3 f5 : ℕ) → Pattern
   Whole : (w : ℕ) → Pattern
 
 -- a word has the pattern
@@ -27,6 +33,8 @@ has_pattern Any w = true
 has_pattern (F3 f3) w = funct3_of w == f3
 has_pattern (F37 f3 f7) w = (funct3_of w == f3) && (funct7_of w == f7)
 has_pattern (F36 f3 f6) w = (funct3_of w == f3) && (funct6_of w == f6)
+has_pattern (F35 f3 f5) w = (funct3_of w == f3) && (funct5_of w == f5)
+has_pattern (Lone f3 f5) w = ((funct3_of w == f3) && (funct5_of w == f5)) && (rs2_of w == 0)
 has_pattern (Whole v) w = w == v
 
 -- an opcode, a pattern, and the instruction of each word that has both
@@ -63,6 +71,15 @@ shift_w f w = OpImm f (rd_of w) (rs1_of w) (shamt_w_of w)
 
 abbrev pub register : Alu → ℕ → Instr
 register f w = Op f (rd_of w) (rs1_of w) (rs2_of w)
+
+abbrev pub reserve : Width → ℕ → Instr
+reserve n w = LoadReserved n (rd_of w) (rs1_of w)
+
+abbrev pub conditional : Width → ℕ → Instr
+conditional n w = StoreConditional n (rd_of w) (rs1_of w) (rs2_of w)
+
+abbrev pub atomic : Amo → Width → ℕ → Instr
+atomic f n w = AtomicOp f n (rd_of w) (rs1_of w) (rs2_of w)
 
 -- the table
 abbrev pub table : List Row
@@ -137,7 +154,30 @@ table =
     ∷ row 0b0111011 (F37 0b100 0b0000001) (register Divw)
     ∷ row 0b0111011 (F37 0b101 0b0000001) (register Divuw)
     ∷ row 0b0111011 (F37 0b110 0b0000001) (register Remw)
-    ∷ row 0b0111011 (F37 0b111 0b0000001) (register Remuw) ∷ []
+    ∷ row 0b0111011 (F37 0b111 0b0000001) (register Remuw)
+    -- A 2.1
+    ∷ row 0b0101111 (Lone 0b010 0b00010) (reserve Word)
+    ∷ row 0b0101111 (F35 0b010 0b00011) (conditional Word)
+    ∷ row 0b0101111 (F35 0b010 0b00001) (atomic Swap Word)
+    ∷ row 0b0101111 (F35 0b010 0b00000) (atomic AmoAdd Word)
+    ∷ row 0b0101111 (F35 0b010 0b00100) (atomic AmoXor Word)
+    ∷ row 0b0101111 (F35 0b010 0b01100) (atomic AmoAnd Word)
+    ∷ row 0b0101111 (F35 0b010 0b01000) (atomic AmoOr Word)
+    ∷ row 0b0101111 (F35 0b010 0b10000) (atomic Min Word)
+    ∷ row 0b0101111 (F35 0b010 0b10100) (atomic Max Word)
+    ∷ row 0b0101111 (F35 0b010 0b11000) (atomic Minu Word)
+    ∷ row 0b0101111 (F35 0b010 0b11100) (atomic Maxu Word)
+    ∷ row 0b0101111 (Lone 0b011 0b00010) (reserve Double)
+    ∷ row 0b0101111 (F35 0b011 0b00011) (conditional Double)
+    ∷ row 0b0101111 (F35 0b011 0b00001) (atomic Swap Double)
+    ∷ row 0b0101111 (F35 0b011 0b00000) (atomic AmoAdd Double)
+    ∷ row 0b0101111 (F35 0b011 0b00100) (atomic AmoXor Double)
+    ∷ row 0b0101111 (F35 0b011 0b01100) (atomic AmoAnd Double)
+    ∷ row 0b0101111 (F35 0b011 0b01000) (atomic AmoOr Double)
+    ∷ row 0b0101111 (F35 0b011 0b10000) (atomic Min Double)
+    ∷ row 0b0101111 (F35 0b011 0b10100) (atomic Max Double)
+    ∷ row 0b0101111 (F35 0b011 0b11000) (atomic Minu Double)
+    ∷ row 0b0101111 (F35 0b011 0b11100) (atomic Maxu Double) ∷ []
 
 -- the instruction of the first of these rows that a word has
 abbrev pub first_row : List Row → ℕ → Option Instr

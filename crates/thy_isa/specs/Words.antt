@@ -34,6 +34,10 @@ funct7_of w = bits_of w 25 7
 abbrev pub funct6_of : ℕ → ℕ
 funct6_of w = bits_of w 26 6
 
+-- bits 31:27, which distinguish the atomic instructions
+abbrev pub funct5_of : ℕ → ℕ
+funct5_of w = bits_of w 27 5
+
 -- a number of n bits, extended to 64 bits by its highest bit
 abbrev pub sign_extended : ℕ → ℕ → ℕ
 sign_extended n v = if nat_lt v (2 ^ (n - 1)) then v else v + (2 ^ 64 - 2 ^ n)

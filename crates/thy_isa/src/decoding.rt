@@ -2,11 +2,11 @@
 //! unprivileged ISA manual.
 #![tactic(auto, unfolding(crate::specs::Table::instr_of))]
 
-ghost use Rattle.std.specs.Prelude.{◌≡◌, ◌+◌, ◌-◌, ◌*◌, ◌^◌, ◌<◌, ◌≤◌, nat_lt, nat_le, if◌then◌else◌, Some, is_some, ◌⊎◌};
+ghost use Rattle.std.specs.Prelude.{◌≡◌, ◌==◌, ◌+◌, ◌-◌, ◌*◌, ◌^◌, ◌<◌, ◌≤◌, nat_lt, nat_le, if◌then◌else◌, Some, None, is_some, ◌⊎◌};
 ghost use Rattle.thy_isa.specs.Words.{bits_of, opcode_of, rd_of, rs1_of, rs2_of, funct3_of, funct7_of, funct6_of, imm_i, imm_s, imm_b, imm_u, imm_j, shamt_of, shamt_w_of};
-ghost use Rattle.thy_isa.specs.Table.{instr_of, rows_of};
+ghost use Rattle.thy_isa.specs.Table.{reserve, conditional, instr_of, rows_of};
 
-use crate::instr::{Alu, Cond, Extend, Instr, Reg, Width};
+use crate::instr::{Alu, Amo, Cond, Extend, Instr, Reg, Width};
 
 /// The instruction that a word means; None exactly if it means none.
 pub fn decode(word: u32) -> Option<Instr>
@@ -35,6 +35,7 @@ pub fn decode(word: u32) -> Option<Instr>
         0b0111011 => decode_op_32(word),
         0b0001111 => decode_fence(word),
         0b1110011 => decode_system(word),
+        0b0101111 => decode_atomic(word),
         _ => None,
     }
 }
@@ -359,5 +360,71 @@ fn decode_system(word: u32) -> Option<Instr>
         0x00000073 => Some(Instr::Ecall),
         0x00100073 => Some(Instr::Ebreak),
         _ => None,
+    }
+}
+
+/// The atomic instructions, which bits 31 to 27 distinguish. Bits 26 and 25, which order accesses, are ignored.
+fn decode_atomic(word: u32) -> Option<Instr>
+    requires { opcode_of word ≡ 0b0101111 }
+    ensures { result ≡ instr_of word }
+{
+    let (op, width) = match (bits(word, 27, 5), funct3(word)) {
+        (0b00010, 0b010) => return decode_reserve(word, Width::Word),
+        (0b00010, 0b011) => return decode_reserve(word, Width::Double),
+        (0b00011, 0b010) => return Some(conditional(word, Width::Word)),
+        (0b00011, 0b011) => return Some(conditional(word, Width::Double)),
+        (0b00001, 0b010) => (Amo::Swap, Width::Word),
+        (0b00001, 0b011) => (Amo::Swap, Width::Double),
+        (0b00000, 0b010) => (Amo::Add, Width::Word),
+        (0b00000, 0b011) => (Amo::Add, Width::Double),
+        (0b00100, 0b010) => (Amo::Xor, Width::Word),
+        (0b00100, 0b011) => (Amo::Xor, Width::Double),
+        (0b01100, 0b010) => (Amo::And, Width::Word),
+        (0b01100, 0b011) => (Amo::And, Width::Double),
+        (0b01000, 0b010) => (Amo::Or, Width::Word),
+        (0b01000, 0b011) => (Amo::Or, Width::Double),
+        (0b10000, 0b010) => (Amo::Min, Width::Word),
+        (0b10000, 0b011) => (Amo::Min, Width::Double),
+        (0b10100, 0b010) => (Amo::Max, Width::Word),
+        (0b10100, 0b011) => (Amo::Max, Width::Double),
+        (0b11000, 0b010) => (Amo::Minu, Width::Word),
+        (0b11000, 0b011) => (Amo::Minu, Width::Double),
+        (0b11100, 0b010) => (Amo::Maxu, Width::Word),
+        (0b11100, 0b011) => (Amo::Maxu, Width::Double),
+        _ => return None,
+    };
+    Some(Instr::AtomicOp {
+        op,
+        width,
+        rd: rd(word),
+        rs1: rs1(word),
+        rs2: rs2(word),
+    })
+}
+
+/// The load-reserved of a word, whose field of rs2 has to be 0.
+fn decode_reserve(word: u32, width: Width) -> Option<Instr>
+    ensures { result ≡ (if rs2_of word == 0 then Some (reserve width word) else None) }
+{
+    if bits(word, 20, 5) == 0 {
+        Some(Instr::LoadReserved {
+            width,
+            rd: rd(word),
+            rs1: rs1(word),
+        })
+    } else {
+        None
+    }
+}
+
+/// The store-conditional of a word.
+fn conditional(word: u32, width: Width) -> Instr
+    ensures { result ≡ conditional width word }
+{
+    Instr::StoreConditional {
+        width,
+        rd: rd(word),
+        rs1: rs1(word),
+        rs2: rs2(word),
     }
 }

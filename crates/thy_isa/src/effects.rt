@@ -10,8 +10,8 @@ use crate::instr::{Cond, Instr, Reg, Width};
 use crate::regs::Regs;
 use crate::state::{Cause, Effect};
 
-/// What an instruction at `pc` does with these registers. A load or a store may have any address: it is
-/// not tested against the bounds of memory here; `within` does that.
+/// What an instruction at `pc` does with these registers. A load, a store or an atomic instruction may have any address: it
+/// is not tested here, nor whether the hart has reserved it; `within` does that.
 pub fn effect(instr: &Instr, pc: u64, regs: &Regs) -> Effect
     ensures { result ≡ effect_of instr.now pc regs.now }
 {
@@ -70,6 +70,38 @@ pub fn effect(instr: &Instr, pc: u64, regs: &Regs) -> Effect
         Instr::Fence | Instr::FenceI => Effect::Next { pc: next },
         Instr::Ecall => Effect::Environment,
         Instr::Ebreak => Effect::Trap(Cause::Breakpoint),
+        Instr::LoadReserved { width, rd, rs1 } => Effect::Reserve {
+            rd,
+            width,
+            pc: next,
+            at: regs.get(rs1),
+        },
+        Instr::StoreConditional {
+            width,
+            rd,
+            rs1,
+            rs2,
+        } => Effect::Conditional {
+            rd,
+            width,
+            pc: next,
+            at: regs.get(rs1),
+            value: regs.get(rs2),
+        },
+        Instr::AtomicOp {
+            op,
+            width,
+            rd,
+            rs1,
+            rs2,
+        } => Effect::Modify {
+            op,
+            rd,
+            width,
+            pc: next,
+            at: regs.get(rs1),
+            value: regs.get(rs2),
+        },
     }
 }
 
@@ -101,9 +133,10 @@ pub fn word_effect(word: u32, pc: u64, regs: &Regs) -> Effect
     }
 }
 
-/// How many bytes a load or a store moves.
+/// How many bytes a load, a store or an atomic instruction moves.
 pub fn bytes_in(width: Width) -> u64
     ensures size { result ≡ size_of width }
+    ensures some { 1 ≤ result }
     ensures range { result ≤ 8 }
 {
     match width {

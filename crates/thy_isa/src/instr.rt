@@ -37,7 +37,7 @@ impl Reg {
     }
 }
 
-/// How many bytes a load or a store moves: 1, 2, 4 or 8.
+/// How many bytes a load, a store or an atomic instruction moves: 1, 2, 4 or 8. An atomic instruction moves 4 or 8.
 #[derive(Clone, Copy, Debug, PartialEq, Eq)]
 pub enum Width {
     Byte,
@@ -98,6 +98,25 @@ pub enum Alu {
     Divuw,
     Remw,
     Remuw,
+}
+
+/// What an atomic memory operation makes of the number in memory and of rs2.
+#[derive(Clone, Copy, Debug, PartialEq, Eq)]
+pub enum Amo {
+    /// That of rs2.
+    Swap,
+    Add,
+    Xor,
+    And,
+    Or,
+    /// The smaller one, as signed numbers.
+    Min,
+    /// The larger one, as signed numbers.
+    Max,
+    /// The smaller one, as unsigned numbers.
+    Minu,
+    /// The larger one, as unsigned numbers.
+    Maxu,
 }
 
 /// An instruction. Immediates are extended to 64 bits by their sign and held in two's complement;
@@ -161,7 +180,7 @@ pub enum Instr {
         rs1: Reg,
         rs2: Reg,
     },
-    /// FENCE: nothing, on a machine with one hart.
+    /// FENCE: nothing, on a machine whose harts execute one whole instruction after another.
     Fence,
     /// FENCE.I: nothing, on a machine with one unified memory.
     FenceI,
@@ -169,4 +188,25 @@ pub enum Instr {
     Ecall,
     /// EBREAK: a breakpoint.
     Ebreak,
+    /// LR: from the address in rs1 into rd, and the hart reserves these bytes.
+    LoadReserved {
+        width: Width,
+        rd: Reg,
+        rs1: Reg,
+    },
+    /// SC: the low bytes of rs2 to the address in rs1, and 0 into rd, if the hart has reserved these bytes; else 1 into rd.
+    StoreConditional {
+        width: Width,
+        rd: Reg,
+        rs1: Reg,
+        rs2: Reg,
+    },
+    /// AMOSWAP to AMOMAXU: from the address in rs1 into rd, and back there what the operation makes of it and of rs2.
+    AtomicOp {
+        op: Amo,
+        width: Width,
+        rd: Reg,
+        rs1: Reg,
+        rs2: Reg,
+    },
 }

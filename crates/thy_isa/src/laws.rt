@@ -1,5 +1,5 @@
 //! Laws, each the contract of a function that does nothing.
-ghost use Rattle.thy_isa.specs.Laws.{BlocksCross, BlocksMakeTheStep, ConsoleGrows, ConsoleKeepsRoom, CrossedTwice, CrossingKeepsStorable, CursorStaysInside, KeepsHarts, MisalignedIsServed, OneHartSteps, StepKeepsStorable};
+ghost use Rattle.thy_isa.specs.Laws.{AccessesAreServed, BlocksCross, BlocksMakeTheStep, ConsoleGrows, ConsoleKeepsRoom, CrossedTwice, CrossingKeepsStorable, CursorStaysInside, KeepsHarts, MisalignedIsServed, OneHartSteps, StepKeepsStorable};
 
 /// An instruction that is done over the blocks of memory is a step of the plain machine, whose memory is one flat list of
 /// bytes.
@@ -16,10 +16,11 @@ pub fn what_a_step_keeps()
     ensures cursor { CursorStaysInside }
 {}
 
-/// No step of a running state ends with the trap of a misaligned load or of a misaligned store. That such accesses are
-/// carried out is part of what a step is.
+/// With one hart no step of a running state ends with the trap of a misaligned load or of a misaligned store, and with two
+/// harts none but that of an atomic instruction. That such accesses are carried out is part of what a step is.
 pub fn misaligned_accesses_are_served()
-    ensures { MisalignedIsServed }
+    ensures alone { MisalignedIsServed }
+    ensures accesses { AccessesAreServed }
 {}
 
 /// The other hart in front, and again the first one: nothing has changed. It is the same over blocks and over bytes, and

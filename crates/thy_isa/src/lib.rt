@@ -1,4 +1,4 @@
-//! The instructions of RV64IM with FENCE.I: what each word means, what each instruction computes, and what one step
+//! The instructions of RV64IMA with FENCE.I: what each word means, what each instruction computes, and what one step
 //! does to the state of the plain machine. Callers rely on `decode`, `effect`, `call`, `moves` and `finish`, the parts
 //! of a step, which equal their specifications, and on `blocks_make_the_step`: done over blocks they are the step
 //! over bytes.
@@ -9,30 +9,36 @@
 #![tactic(auto)]
 
 mod arith;
+mod atomics;
 mod decoding;
 mod effects;
 mod environment;
+mod harts;
 mod instr;
 mod laws;
 mod moving;
 mod numbers;
 mod regs;
+mod reserving;
 mod state;
 mod status;
 mod step;
 
 pub use arith::alu;
+pub use atomics::modified;
 pub use decoding::{decode, is_legal};
 pub use effects::{after, bytes_in, effect, word_effect};
 pub use environment::call;
-pub use instr::{Alu, Cond, Extend, Instr, Reg, Width};
+pub use harts::{cross, cross_state};
+pub use instr::{Alu, Amo, Cond, Extend, Instr, Reg, Width};
 pub use laws::{
     blocks_make_the_step, crossing_changes_places, misaligned_accesses_are_served,
     what_a_step_keeps, what_a_step_of_a_hart_is,
 };
-pub use moving::{add_number, brought, moves, number_in};
+pub use moving::{add_number, brought, modified_bytes, moves, number_in};
 pub use numbers::{extended, number, word};
 pub use regs::Regs;
+pub use reserving::{front_of, is_reserved, reservation, reserve, write_past};
 pub use state::{
     Call, CallState, Cause, CpuState, Effect, MachState, Moves, OtherHart, Reservation, Status,
 };

@@ -2,15 +2,17 @@
 #![tactic(auto, unfolding(crate::specs::Moves::moves_of, crate::specs::Moves::call_moves, crate::specs::Moves::brings, crate::specs::Moves::call_brings, crate::specs::Moves::number_in, thy_base::specs::LittleEndian::number_bytes))]
 
 ghost use Rattle.std.specs.Prelude.{◌≡◌, ◌+◌, ◌^◌, ◌<◌, ◌≤◌, [], ◌++◌, length};
-ghost use Rattle.thy_base.specs.LittleEndian.{number_bytes};
+ghost use Rattle.thy_base.specs.LittleEndian.{number_at, number_bytes};
 ghost use Rattle.thy_isa.specs.Access.{IsWithin, HasRead};
+ghost use Rattle.thy_isa.specs.Atomics.{modified};
 ghost use Rattle.thy_isa.specs.Calls.{call_of};
 ghost use Rattle.thy_isa.specs.Effects.{size_of};
 ghost use Rattle.thy_isa.specs.Moves.{no_moves, moves_of, call_moves, brings, call_brings, number_in};
 
+use crate::atomics::modified;
 use crate::effects::bytes_in;
 use crate::environment::call;
-use crate::instr::Width;
+use crate::instr::{Amo, Width};
 use crate::numbers::number;
 use crate::regs::Regs;
 use crate::state::{Call, CallState, Effect, Moves};
@@ -26,20 +28,30 @@ pub fn moves(regs: &Regs, calls: &CallState, effect: &Effect) -> Moves
     ensures { result ≡ moves_of regs.now calls.now effect.now }
 {
     match *effect {
-        Effect::Read { at, width, .. } => Moves {
+        Effect::Read { at, width, .. } | Effect::Reserve { at, width, .. } => Moves {
             from: Span {
                 at: at - calls.base,
                 len: bytes_in(width),
             },
             to: NONE,
         },
-        Effect::Write { at, width, .. } => Moves {
+        Effect::Write { at, width, .. } | Effect::Conditional { at, width, .. } => Moves {
             from: NONE,
             to: Span {
                 at: at - calls.base,
                 len: bytes_in(width),
             },
         },
+        Effect::Modify { at, width, .. } => {
+            let span = Span {
+                at: at - calls.base,
+                len: bytes_in(width),
+            };
+            Moves {
+                from: span,
+                to: span,
+            }
+        }
         Effect::Environment => call_moves(regs, calls),
         _ => Moves {
             from: NONE,
@@ -86,7 +98,9 @@ pub fn brought(input: &[u8], regs: &Regs, calls: &CallState, effect: &Effect) ->
 {
     let mut piece = Piece::new();
     match *effect {
-        Effect::Write { width, value, .. } => add_number(&mut piece, width, value),
+        Effect::Write { width, value, .. } | Effect::Conditional { width, value, .. } => {
+            add_number(&mut piece, width, value);
+        }
         Effect::Environment => add_input(&mut piece, input, regs, calls),
         _ => {}
     }
@@ -120,7 +134,21 @@ pub fn number_in(effect: &Effect, bytes: &[u8]) -> u64
     ensures { result ≡ number_in effect.now bytes.now }
 {
     match *effect {
-        Effect::Read { width, .. } => number(bytes, 0, width),
+        Effect::Read { width, .. } | Effect::Reserve { width, .. } | Effect::Modify { width, .. } =>
+            number(bytes, 0, width),
         _ => 0,
     }
+}
+
+/// The bytes that an atomic memory operation writes, from those that it has read and the number of rs2.
+pub fn modified_bytes(op: Amo, width: Width, value: u64, bytes: &[u8]) -> Piece
+    requires { size_of width ≤ length bytes.now }
+    ensures bytes { result.items ≡ number_bytes (size_of width) (modified op width (number_at (size_of width) bytes.now 0) value) }
+    ensures len { length result.items ≡ size_of width }
+    ensures range { size_of width ≤ 8 }
+{
+    let mut piece = Piece::new();
+    let old = number(bytes, 0, width);
+    add_number(&mut piece, width, modified(op, width, old, value));
+    piece
 }

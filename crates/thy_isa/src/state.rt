@@ -3,7 +3,7 @@
 ghost use Rattle.std.specs.Prelude.{◌≡◌};
 ghost use Rattle.thy_isa.specs.Step.{cpu_of, state_of, zero_cpu};
 
-use crate::instr::{Extend, Reg, Width};
+use crate::instr::{Amo, Extend, Reg, Width};
 use crate::regs::Regs;
 use thy_base::Bytes;
 use thy_flat::Span;
@@ -19,8 +19,8 @@ pub enum Status {
 }
 
 /// Why an instruction traps. The variants are in the order of their numbers, 0 to 7, which are the
-/// exception codes of the RISC-V privileged architecture. No load or store traps for being misaligned, so
-/// no instruction gives `LoadMisaligned` or `StoreMisaligned`; their numbers are kept.
+/// exception codes of the RISC-V privileged architecture. No load or store traps for being misaligned: only an
+/// atomic instruction, which one hart alone has not, gives `LoadMisaligned` or `StoreMisaligned`.
 #[derive(Clone, Copy, Debug, PartialEq, Eq)]
 pub enum Cause {
     FetchMisaligned,
@@ -178,6 +178,36 @@ pub enum Effect {
     },
     /// The low `width` bytes of the value go to any address.
     Write {
+        width: Width,
+        pc: u64,
+        at: u64,
+        value: u64,
+    },
+    /// The number of `width` bytes at any address, extended by its sign, becomes that of rd, and the hart reserves these bytes.
+    Reserve {
+        rd: Reg,
+        width: Width,
+        pc: u64,
+        at: u64,
+    },
+    /// The low `width` bytes of the value go to any address, and 0 becomes the number of rd. The hart reserves nothing after it.
+    Conditional {
+        rd: Reg,
+        width: Width,
+        pc: u64,
+        at: u64,
+        value: u64,
+    },
+    /// 1 becomes the number of rd, and nothing is written. The hart reserves nothing after it.
+    Fail {
+        rd: Reg,
+        pc: u64,
+    },
+    /// The number of `width` bytes at any address, extended by its sign, becomes that of rd, and what the operation makes of it
+    /// and of the value is written there.
+    Modify {
+        op: Amo,
+        rd: Reg,
         width: Width,
         pc: u64,
         at: u64,

@@ -3,15 +3,18 @@
 
 ghost use Rattle.std.specs.Prelude.{◌≡◌, ◌≢◌, ◌+◌, ◌<◌, ◌^◌};
 ghost use Rattle.thy_isa.specs.declared.state.CallState.{CallState};
+ghost use Rattle.thy_isa.specs.declared.state.Cause.TheVariants.{LoadMisaligned, LoadAccess, StoreMisaligned, StoreAccess};
 ghost use Rattle.thy_isa.specs.declared.state.Effect.TheVariants.{Environment};
+ghost use Rattle.thy_isa.specs.Access.{IsAtomic};
 ghost use Rattle.thy_isa.specs.Calls.{call_of};
-ghost use Rattle.thy_isa.specs.Step.{fetch_fault, within, cause_number, AreCallsOf, answered, served, finished};
+ghost use Rattle.thy_isa.specs.Step.{fetch_fault, aligned, within, cause_number, AreCallsOf, answered, served, finished};
 
 use crate::effects::{after, bytes_in};
 use crate::environment::call;
-use crate::instr::Reg;
+use crate::instr::{Extend, Reg, Width};
 use crate::numbers::extended;
-use crate::state::{Call, CallState, Cause, CpuState, Effect, Status};
+use crate::reserving::{front_of, is_reserved, reservation, reserve, write_past};
+use crate::state::{Call, CallState, Cause, CpuState, Effect, OtherHart, Reservation, Status};
 use thy_base::is_inside;
 
 /// Why no word can be fetched at `pc`; None exactly if one can.
@@ -27,9 +30,11 @@ pub fn fetch_fault(base: u64, size: u64, pc: u64) -> Option<Cause>
     }
 }
 
-/// The effect, or the trap if it would read or write outside memory.
-pub fn within(base: u64, size: u64, effect: Effect) -> Effect
-    ensures { result ≡ within base size effect }
+/// The effect as the hart in front has it, beside the other hart if there are two: a trap if it would read or write outside
+/// memory. An atomic instruction traps as illegal with one hart, and if its address is no multiple of its width; a
+/// store-conditional fails if its bytes are not reserved.
+pub fn within(base: u64, size: u64, other: &Option<OtherHart>, effect: Effect) -> Effect
+    ensures { result ≡ within base size other.now effect }
 {
     match effect {
         Effect::Read { at, width, .. } if !is_inside(base, size, at, bytes_in(width)) => {
@@ -38,7 +43,64 @@ pub fn within(base: u64, size: u64, effect: Effect) -> Effect
         Effect::Write { at, width, .. } if !is_inside(base, size, at, bytes_in(width)) => {
             Effect::Trap(Cause::StoreAccess)
         }
+        Effect::Reserve { .. } | Effect::Conditional { .. } | Effect::Modify { .. } => {
+            atomic_within(base, size, other, effect)
+        }
         _ => effect,
+    }
+}
+
+/// The same of an atomic instruction's effect.
+fn atomic_within(base: u64, size: u64, other: &Option<OtherHart>, effect: Effect) -> Effect
+    requires { IsAtomic effect }
+    ensures { result ≡ within base size other.now effect }
+{
+    match other {
+        None => Effect::Trap(Cause::Illegal),
+        Some(_) => match effect {
+            Effect::Reserve { width, at, .. } => aligned_load(base, size, width, at, effect),
+            Effect::Conditional {
+                rd,
+                width,
+                pc,
+                at,
+                ..
+            } => {
+                if is_reserved(front_of(other), width, at) {
+                    aligned_store(base, size, width, at, effect)
+                } else {
+                    aligned_store(base, size, width, at, Effect::Fail { rd, pc })
+                }
+            }
+            Effect::Modify { width, at, .. } => aligned_store(base, size, width, at, effect),
+            _ => unreachable!(),
+        },
+    }
+}
+
+/// The effect, or the trap of a load whose address is no multiple of its width, or outside memory.
+fn aligned_load(base: u64, size: u64, width: Width, at: u64, effect: Effect) -> Effect
+    ensures { result ≡ aligned base size width at LoadMisaligned LoadAccess effect }
+{
+    if at % bytes_in(width) != 0 {
+        Effect::Trap(Cause::LoadMisaligned)
+    } else if is_inside(base, size, at, bytes_in(width)) {
+        effect
+    } else {
+        Effect::Trap(Cause::LoadAccess)
+    }
+}
+
+/// The same of a store.
+fn aligned_store(base: u64, size: u64, width: Width, at: u64, effect: Effect) -> Effect
+    ensures { result ≡ aligned base size width at StoreMisaligned StoreAccess effect }
+{
+    if at % bytes_in(width) != 0 {
+        Effect::Trap(Cause::StoreMisaligned)
+    } else if is_inside(base, size, at, bytes_in(width)) {
+        effect
+    } else {
+        Effect::Trap(Cause::StoreAccess)
     }
 }
 
@@ -75,9 +137,10 @@ fn serve(cpu: &mut CpuState, calls: &CallState)
             answer(cpu, at);
             cpu.brk = at;
         }
-        Call::Take { len, .. } => {
+        Call::Take { at, len } => {
             answer(cpu, len);
             cpu.cursor += len;
+            write_past(&mut cpu.other, at, len);
         }
         Call::Give { len, .. } => {
             answer(cpu, len);
@@ -93,7 +156,11 @@ pub fn finish_alone(cpu: &mut CpuState, effect: &Effect, number: u64)
     ensures { (calls : CallState) → cpu.new ≡ finished cpu.old effect.now number calls }
 {
     match *effect {
-        Effect::Next { pc } | Effect::Write { pc, .. } => cpu.pc = pc,
+        Effect::Next { pc } => cpu.pc = pc,
+        Effect::Write { pc, width, at, .. } => {
+            cpu.pc = pc;
+            write_past(&mut cpu.other, at, bytes_in(width));
+        }
         Effect::Set { pc, rd, value } => {
             cpu.pc = pc;
             cpu.regs.set(rd, value);
@@ -107,6 +174,39 @@ pub fn finish_alone(cpu: &mut CpuState, effect: &Effect, number: u64)
         } => {
             cpu.pc = pc;
             cpu.regs.set(rd, extended(width, extend, number));
+        }
+        Effect::Reserve { rd, width, pc, at } => {
+            cpu.pc = pc;
+            cpu.regs.set(rd, extended(width, Extend::Sign, number));
+            reserve(&mut cpu.other, reservation(width, at));
+        }
+        Effect::Conditional {
+            rd,
+            width,
+            pc,
+            at,
+            ..
+        } => {
+            cpu.pc = pc;
+            cpu.regs.set(rd, 0);
+            write_past(&mut cpu.other, at, bytes_in(width));
+            reserve(&mut cpu.other, Reservation::Nothing);
+        }
+        Effect::Fail { rd, pc } => {
+            cpu.pc = pc;
+            cpu.regs.set(rd, 1);
+            reserve(&mut cpu.other, Reservation::Nothing);
+        }
+        Effect::Modify {
+            rd,
+            width,
+            pc,
+            at,
+            ..
+        } => {
+            cpu.pc = pc;
+            cpu.regs.set(rd, extended(width, Extend::Sign, number));
+            write_past(&mut cpu.other, at, bytes_in(width));
         }
         Effect::Environment => unreachable!(),
         Effect::Trap(cause) => cpu.status = Status::Trapped(cause_number(cause)),
@@ -127,6 +227,10 @@ pub fn finish(cpu: &mut CpuState, effect: &Effect, number: u64, calls: &CallStat
         | Effect::Set { .. }
         | Effect::Read { .. }
         | Effect::Write { .. }
+        | Effect::Reserve { .. }
+        | Effect::Conditional { .. }
+        | Effect::Fail { .. }
+        | Effect::Modify { .. }
         | Effect::Trap(_) => finish_alone(cpu, effect, number),
     }
 }

@@ -54,7 +54,13 @@ impl Model for Journal {
 
     ghost Value = { Contents };
 
-    ghost view = { λ d. record { log = d.log; engine = d.engine; storeless = d.storeless; sealed_storeless = d.sealed_storeless; boot = d.boot } };
+    ghost view = { λ d. record {
+      log = d.log;
+      engine = d.engine;
+      storeless = d.storeless;
+      sealed_storeless = d.sealed_storeless;
+      boot = d.boot;
+    } };
 
     ghost invariant = { λ d. Fits d.engine d.log };
 }

@@ -13,7 +13,7 @@ use Rattle.thy_record.specs.Commit.{is_zero, epoch_of}
 use Rattle.thy_record.specs.Cpu.{record_word}
 use Rattle.thy_record.specs.Decoded.{Nothing, Refused}
 use Rattle.thy_record.specs.Files.{blocks_of, found_in}
-use Rattle.thy_record.specs.Slots.{epoch_fault, status_fault}
+use Rattle.thy_record.specs.Slots.{epoch_fault, cpu_fault}
 use Rattle.thy_protocol.specs.Layout.{Layout, slot_in, memory_in, refused_or_at}
 use Rattle.thy_journal_image.specs.Commit.{commit_fault}
 use Rattle.thy_journal_image.specs.Files.{is_sized_file, decode_sized, decode_file, file_fault}
@@ -27,7 +27,7 @@ pub slot_epoch : (p : Parameters) (ceiling epoch : ℕ) (slot : List Block) (w :
     → Some Commit ≡ slot_fault p ceiling epoch slot
 unfolding slot_fault
 slot_epoch p ceiling epoch slot w is other =
-    sym (ap (λ b. option_or (if b then None else Some Commit) (option_or (table_fault p (table_in p slot)) (status_fault p ceiling slot)))
+    sym (ap (λ b. option_or (if b then None else Some Commit) (option_or (table_fault p (table_in p slot)) (cpu_fault p ceiling slot)))
     (ap (λ x. x == epoch) (sym is) ∙ ne_eqb w epoch other))
 
 of_epoch : (epoch : ℕ) (slot : List Block) (w : ℕ) → w ≡ record_word slot 38 → w ≡ epoch → epoch_fault epoch slot ≡ None
@@ -37,16 +37,16 @@ pub slot_table : (p : Parameters) (ceiling epoch : ℕ) (slot : List Block) (w :
     → Some bad ≡ table_fault p (table_in p slot) → Some bad ≡ slot_fault p ceiling epoch slot
 unfolding slot_fault
 slot_table p ceiling epoch slot w bad is same h =
-    ap (λ x. option_or x (status_fault p ceiling slot)) h
-    ∙ sym (ap (λ x. option_or x (option_or (table_fault p (table_in p slot)) (status_fault p ceiling slot))) (of_epoch epoch slot w is same))
+    ap (λ x. option_or x (cpu_fault p ceiling slot)) h
+    ∙ sym (ap (λ x. option_or x (option_or (table_fault p (table_in p slot)) (cpu_fault p ceiling slot))) (of_epoch epoch slot w is same))
 
 pub slot_status : (p : Parameters) (ceiling epoch : ℕ) (slot : List Block) (w : ℕ) (found : Option BadImage) → w ≡ record_word slot 38 → w ≡ epoch
-    → None ≡ table_fault p (table_in p slot) → found ≡ status_fault p ceiling slot → found ≡ slot_fault p ceiling epoch slot
+    → None ≡ table_fault p (table_in p slot) → found ≡ cpu_fault p ceiling slot → found ≡ slot_fault p ceiling epoch slot
 unfolding slot_fault
 slot_status p ceiling epoch slot w found is same h k =
     k
-    ∙ ap (λ x. option_or x (status_fault p ceiling slot)) h
-    ∙ sym (ap (λ x. option_or x (option_or (table_fault p (table_in p slot)) (status_fault p ceiling slot))) (of_epoch epoch slot w is same))
+    ∙ ap (λ x. option_or x (cpu_fault p ceiling slot)) h
+    ∙ sym (ap (λ x. option_or x (option_or (table_fault p (table_in p slot)) (cpu_fault p ceiling slot))) (of_epoch epoch slot w is same))
 
 -- ---- a file
 

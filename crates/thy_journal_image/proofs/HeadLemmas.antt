@@ -1,12 +1,12 @@
 -- Header and commit block read back as they were written, and have no fault.
-use Rattle.std.proofs.Common.{◌≡◌, ℕ, ◌^◌, ◌<◌, ◌≤◌, true, nat_lt, slice_index, None, refl, sym, ◌∙◌, ap, subst, arith}
+use Rattle.std.proofs.Common.{◌≡◌, ℕ, ◌+◌, ◌^◌, ◌<◌, ◌≤◌, true, nat_lt, slice_index, None, refl, sym, ◌∙◌, ap, subst, arith}
 use Rattle.std.proofs.lemmas.Bool.{eq-eqb, lt-ltb}
 use Rattle.thy_base.specs.declared.config.Parameters.{Parameters}
 use Rattle.thy_base.specs.declared.layout_version.LayoutVersion.TheVariants.{VersionTwo}
 use Rattle.thy_base.specs.Geometry.{IsInRange}
 use Rattle.thy_base.specs.Words.{word_of}
 use Rattle.thy_record.specs.Commit.{commit_magic, commit_of}
-use Rattle.thy_record.specs.Header.{header_magic}
+use Rattle.thy_record.specs.Header.{header_magic, harts_word}
 use Rattle.thy_base.proofs.WordLemmas.{word_of-block_of}
 use Rattle.thy_record.proofs.ReadBackLemmas.{taken, both, three, commit_word, epoch_of-commit_of, has_zero_rest-commit_of, is_zero-commit_of}
 use Rattle.thy_journal_image.specs.Header.{scheme_number, header_words, header_of, is_of_geometry, header_fault}
@@ -28,7 +28,7 @@ is_of_geometry-header_of p r =
     (three _ _ _
     (eq-eqb _ _ (header_word p 5 p.btt (omega arith) refl (omega arith)))
     (eq-eqb _ _ (header_word p 6 p.ptt (omega arith) refl (omega arith)))
-    (eq-eqb _ _ (header_word p 7 scheme_number (omega arith) refl (omega arith))))
+    (eq-eqb _ _ (header_word p 7 (scheme_number + harts_word p) (omega arith) refl (omega arith))))
 
 -- a header that was written for a geometry has no fault in an image of its length
 pub header_fault-header_of : (p : Parameters) → IsInRange p → header_fault (header_of p) p true ≡ None

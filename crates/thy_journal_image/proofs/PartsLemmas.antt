@@ -163,7 +163,7 @@ issued_decodes p ceiling n cpu table epoch memory range recordable most below h 
         table_is = ap (table_in p) all.slot ∙ reads.table_back;
         whole = h.whole;
       };
-      decodes = all.decodes ∙ ap (λ (e : ℕ). At e (state_from p (cpu_of_record (slot_of (parts_by p cpu table epoch))) memory)) epoch_same
+      decodes = all.decodes ∙ ap (λ (e : ℕ). At e (state_from p (cpu_of_record p (slot_of (parts_by p cpu table epoch))) memory)) epoch_same
           ∙ ap (λ (c : CpuState). At epoch (state_from p c memory)) reads.cpu_back;
       issued = all.issued;
     }

@@ -2,7 +2,7 @@
 -- with the blocks of that table left out.
 use Rattle.std.proofs.Common.{◌≡◌, ℕ, ◌+◌, ◌-◌, ◌*◌, ◌%◌, ◌^◌, ◌<◌, ◌≤◌, if◌then◌else◌, List, ◌++◌, length, map, take, drop, replicate, Option, Some, None, refl, sym, ◌∙◌, ap, inl, inr, arith}
 use Rattle.std.specs.Option.{option_or, option_map}
-use Rattle.std.proofs.lemmas.Bool.{cases_lt, lt-ltb}
+use Rattle.std.proofs.lemmas.Bool.{cases_lt, lt-ltb, le-ltb}
 use Rattle.std.proofs.lemmas.List.{take-append-le, drop-append-le, drop-replicate, take-replicate, take-map, drop-map, length-drop, length-replicate, get_or-replicate, get_or_past}
 use Rattle.std.proofs.Math.Seq.{drop-append-add}
 use Rattle.std.proofs.lemmas.List.FromFn.{length-map-range_with_len, get_or-map-range_with_len}
@@ -11,18 +11,18 @@ use Rattle.thy_base.specs.declared.config.Parameters.{Parameters}
 use Rattle.thy_base.specs.Device.{zero_block, block_at}
 use Rattle.thy_base.specs.Geometry.{IsInRange, memory_blocks, console_room}
 use Rattle.thy_base.specs.LittleEndian.{number_bytes}
-use Rattle.thy_base.specs.Places.{table_blocks}
+use Rattle.thy_base.specs.Places.{record_blocks, table_blocks}
 use Rattle.thy_base.specs.Words.{block_of}
 use Rattle.thy_base.proofs.RangeLemmas.{btt_eights, ptt_eights}
 use Rattle.thy_isa.specs.declared.state.CpuState.{CpuState}
 use Rattle.thy_record.specs.declared.bad_image.BadImage.{BadImage}
 use Rattle.thy_record.specs.Cpu.{cpu_block_of, BeginsWithRecord, IsRecordable}
-use Rattle.thy_record.specs.Slots.{HasTableBlocks, tables_in, epoch_fault, status_fault}
+use Rattle.thy_record.specs.Slots.{HasTableBlocks, tables_in, epoch_fault, cpu_fault}
 use Rattle.thy_record.specs.TableBlocks.{entry_word, table_block_of as full_block_of}
 use Rattle.thy_record.specs.TableFaults.{first_clash, index_rule, twice_rule, under_rule, index_fault as full_index, twice_fault as full_twice, under_fault, tables_fault}
 use Rattle.thy_record.specs.Tables.{Tables, Lists, IsTables}
 use Rattle.thy_record.proofs.ReadBackLemmas.{FitsRecord-recordable, cpu_back}
-use Rattle.thy_record.proofs.SlotLemmas.{FitBlocks-tables, length-entries_in, tables_back, epoch_fault-back, status_fault-back}
+use Rattle.thy_record.proofs.SlotLemmas.{FitBlocks-tables, length-entries_in, tables_back, epoch_fault-back, cpu_fault-back}
 use Rattle.thy_record.proofs.TableFaultLemmas.{neither, both_none, none_breaks, IsTables-faultless, IsFaultless-tables}
 use Rattle.thy_record.proofs.TableLemmas.{table_block_of-entries}
 use Rattle.thy_record.proofs.EntryLemmas.{entry_of-absent}
@@ -102,25 +102,30 @@ module _ (p : Parameters) (cpu : CpuState) (table : List (Option ℕ)) (epoch : 
       let size = length-map-range_with_len (slot_block_of p cpu table epoch) 0 (slot_blocks p) in
       get_or_past slot k zero_block (omega (arith, size, l))
 
-  record_block : (k : ℕ) → k < 5 → slot_block_of p cpu table epoch k ≡ cpu_block_of cpu epoch k
-  record_block k l = ap (λ b. if b then cpu_block_of cpu epoch k else table_block_of table (k - 5)) (lt-ltb k 5 l)
+  record_block : (k : ℕ) → k < record_blocks p → slot_block_of p cpu table epoch k ≡ cpu_block_of cpu epoch k
+  record_block k l =
+      ap (λ b. if b then cpu_block_of cpu epoch k else table_block_of table (k - record_blocks p)) (lt-ltb k (record_blocks p) l)
 
-  table_block : (k : ℕ) → slot_block_of p cpu table epoch (5 + k) ≡ table_block_of table k
-  table_block k = grind arith
+  table_block : (k : ℕ) → slot_block_of p cpu table epoch (record_blocks p + k) ≡ table_block_of table k
+  table_block k =
+      let e : record_blocks p + k - record_blocks p ≡ k = omega arith in
+      ap (λ b. if b then cpu_block_of cpu epoch (record_blocks p + k) else table_block_of table (record_blocks p + k - record_blocks p))
+      (le-ltb (record_blocks p + k) (record_blocks p) (omega arith))
+      ∙ ap (table_block_of table) e
 
-  block_behind : (k : ℕ) → k < table_blocks p → block_at slot (5 + k) ≡ full_block_of (full p table) k
+  block_behind : (k : ℕ) → k < table_blocks p → block_at slot (record_blocks p + k) ≡ full_block_of (full p table) k
   block_behind k l =
       let eights : p.btt % 8 ≡ 0 = btt_eights p range in
-      elim (cases_lt (5 + k) (slot_blocks p)) as (λ _. block_at slot (5 + k) ≡ full_block_of (full p table) k) [
+      elim (cases_lt (record_blocks p + k) (slot_blocks p)) as (λ _. block_at slot (record_blocks p + k) ≡ full_block_of (full p table) k) [
         | inl inside ↦
-            written (5 + k) inside ∙ table_block k
+            written (record_blocks p + k) inside ∙ table_block k
             ∙ block_same p table k whole.long (omega (arith, inside, eights))
         | inr past ↦
-            past_end (5 + k) past
+            past_end (record_blocks p + k) past
             ∙ sym (block_zero p table k range whole.long (omega (arith, past, eights)) l)
       ]
 
-  pub begins_with_record : BeginsWithRecord cpu epoch slot
+  pub begins_with_record : BeginsWithRecord p cpu epoch slot
   begins_with_record = record { each = λ k l. written k (omega arith) ∙ record_block k l }
 
   pub has_table_blocks : HasTableBlocks p (full p table) slot
@@ -166,9 +171,9 @@ IsTable-faultless p table long none =
 pub faultless_table : (p : Parameters) (ceiling epoch : ℕ) (slot : List Block) → slot_fault p ceiling epoch slot ≡ None → IsTable p (table_in p slot)
 unfolding slot_fault
 faultless_table p ceiling epoch slot none =
-    let rest = (neither (epoch_fault epoch slot) (option_or (table_fault p (table_in p slot)) (status_fault p ceiling slot)) none).1 in
-    let table = (neither (table_fault p (table_in p slot)) (status_fault p ceiling slot) rest).0 in
-    IsTable-faultless p (table_in p slot) (length-entries_in slot 40 p.btt) table
+    let rest = (neither (epoch_fault epoch slot) (option_or (table_fault p (table_in p slot)) (cpu_fault p ceiling slot)) none).1 in
+    let table = (neither (table_fault p (table_in p slot)) (cpu_fault p ceiling slot) rest).0 in
+    IsTable-faultless p (table_in p slot) (length-entries_in slot (8 * record_blocks p) p.btt) table
 
 -- ---- all of it reads back
 
@@ -179,16 +184,16 @@ unfolding slot_fault
 slot_reads_back p ceiling cpu table epoch range recordable whole most l =
     let slot : List Block = slot_of_checkpoint p cpu table epoch in
     let room : console_room p < 2 ^ 64 = omega arith in
-    let fits = FitsRecord-recordable p ceiling cpu epoch recordable room most l in
+    let fits = FitsRecord-recordable p ceiling cpu epoch range recordable room most l in
     let begins = begins_with_record p cpu table epoch range whole in
     let tables : tables_in p slot ≡ full p table
     = tables_back p (full p table) slot range (FitBlocks-tables p (full p table) range (IsTables-full p table whole))
     (has_table_blocks p cpu table epoch range whole) in
     let same : table_in p slot ≡ table = ap (λ (t : Tables). t.btt) tables in
     record {
-      cpu_back = cpu_back cpu epoch slot fits begins;
+      cpu_back = cpu_back p cpu epoch slot fits begins;
       table_back = same;
-      faultless = both_none _ _ (epoch_fault-back cpu epoch slot fits begins)
+      faultless = both_none _ _ (epoch_fault-back p cpu epoch slot fits begins)
           (both_none _ _ (ap (table_fault p) same ∙ table_fault-none p table whole)
-          (status_fault-back p ceiling cpu epoch slot recordable fits begins));
+          (cpu_fault-back p ceiling cpu epoch slot recordable fits begins));
     }

@@ -42,7 +42,7 @@ slot_of_checkpoint p cpu table epoch = map (slot_block_of p cpu table epoch) (ra
 -- processor and table read back from them, and they have no fault
 pub record ReadsBack (p : Parameters) (ceiling : ℕ) (cpu : CpuState) (table : List (Option ℕ)) (epoch : ℕ) (slot : List Block)
     : Type 0 where
-  pub cpu_back : cpu_of_record slot ≡ cpu
+  pub cpu_back : cpu_of_record p slot ≡ cpu
   pub table_back : table_in p slot ≡ table
   pub faultless : slot_fault p ceiling epoch slot ≡ None
 

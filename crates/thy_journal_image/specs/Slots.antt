@@ -10,7 +10,7 @@ use Rattle.thy_base.specs.Places.{record_blocks}
 use Rattle.thy_isa.specs.declared.state.CpuState.{CpuState}
 use Rattle.thy_record.specs.declared.bad_image.BadImage.{BadImage}
 use Rattle.thy_record.specs.Cpu.{cpu_block_of}
-use Rattle.thy_record.specs.Slots.{entries_in, epoch_fault, status_fault}
+use Rattle.thy_record.specs.Slots.{entries_in, epoch_fault, cpu_fault}
 use Rattle.thy_record.specs.TableBlocks.{entry_word}
 use Rattle.thy_record.specs.TableFaults.{first_clash, index_rule, twice_rule}
 use Rattle.thy_record.specs.Tables.{Lists}
@@ -49,4 +49,4 @@ table_fault p table = option_or (index_fault p table) (twice_fault table)
 -- the first fault of a slot under a commit block of this epoch
 unfoldable pub slot_fault : Parameters → ℕ → ℕ → List Block → Option BadImage
 slot_fault p ceiling epoch slot =
-    option_or (epoch_fault epoch slot) (option_or (table_fault p (table_in p slot)) (status_fault p ceiling slot))
+    option_or (epoch_fault epoch slot) (option_or (table_fault p (table_in p slot)) (cpu_fault p ceiling slot))

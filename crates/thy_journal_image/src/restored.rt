@@ -19,5 +19,5 @@ pub fn state(alloc: Global, image: &[u8], geometry: &Geometry) -> Result<MachSta
     let epoch = word(&block_in(image, 1), 1);
     let slot = slot_in(image, epoch, geometry);
     let places = places(alloc, slot, epoch % 2, geometry)?;
-    state_at(alloc, image, cpu_in(slot), &places, geometry)
+    state_at(alloc, image, cpu_in(slot, geometry), &places, geometry)
 }

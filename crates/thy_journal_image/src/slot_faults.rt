@@ -1,11 +1,11 @@
-//! The bytes of a slot: the processor's record of 320, and after it the table, eight bytes an entry.
+//! The bytes of a slot: the processor's record, 320 for each hart, and after it the table, eight bytes an entry.
 ghost use Rattle.std.specs.Prelude.{◌≡◌, ◌*◌, length};
 ghost use Rattle.thy_record.specs.Files.{blocks_of};
 ghost use Rattle.thy_journal_image.specs.Places.{slot_blocks};
 ghost use Rattle.thy_journal_image.specs.Slots.{table_in, table_fault as fault_of_table, slot_fault as fault_of_slot};
 
 use thy_base::Geometry;
-use thy_record::{BadImage, btt_in, index_fault, status_fault, twice_fault, word_in};
+use thy_record::{BadImage, btt_in, cpu_fault, index_fault, twice_fault, word_in};
 
 /// The first fault of the table in these bytes of a slot, if it has one.
 #[tactic(auto, unfolding(crate::specs::Slots::table_fault))]
@@ -19,7 +19,7 @@ fn table_fault(slot: &[u8], geometry: &Geometry) -> Option<BadImage>
 
 /// The first fault of the slot with these bytes under a commit block of this epoch, if it has one: a record of
 /// another epoch, a table that no checkpoint has, a status without meaning or a count that is not below the ceiling,
-/// a console longer than its pages.
+/// a console longer than its pages, or words of the second hart without meaning.
 pub fn slot_fault(slot: &[u8], epoch: u64, geometry: &Geometry, ceiling: u64) -> Option<BadImage>
     requires { length slot.now ≡ 64 * slot_blocks geometry.now }
     ensures { result ≡ fault_of_slot geometry.now ceiling epoch (blocks_of slot.now) }
@@ -30,5 +30,5 @@ pub fn slot_fault(slot: &[u8], epoch: u64, geometry: &Geometry, ceiling: u64) ->
     if let Some(bad) = table_fault(slot, geometry) {
         return Some(bad);
     }
-    status_fault(slot, geometry, ceiling)
+    cpu_fault(slot, geometry, ceiling)
 }

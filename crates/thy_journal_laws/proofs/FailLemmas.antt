@@ -2,6 +2,7 @@
 use Rattle.std.proofs.Common.{◌≡◌, ℕ, nat_lt, Bool, true, false, if◌then◌else◌, Option, Some, None, refl, sym, ◌∙◌, ap, subst}
 use Rattle.thy_base.specs.declared.mark.Mark.{Mark}
 use Rattle.thy_base.specs.Device.{Device}
+use Rattle.thy_base.specs.Places.{record_blocks}
 use Rattle.thy_crash.specs.Saved.{Saved, InDoubt}
 use Rattle.thy_record.specs.declared.engine_step.EngineStep.TheVariants.{StateBlock, TableBlock}
 use Rattle.thy_view.specs.Safe.{Safe}
@@ -40,7 +41,7 @@ fault_slot k true = refl
 fault_slot k false = refl
 
 fault_live : (k : CheckpointMarks) (e : Progress) (x : Option ℕ) → marks_after_fault (answer e.p e.epoch (journal_or_slot x)) k ≡ k
-fault_live k e None = fault_slot k (nat_lt 0 5)
+fault_live k e None = fault_slot k (nat_lt 0 (record_blocks e.p))
 fault_live k e (Some i) = refl
 
 fault_home : (k : CheckpointMarks) (e : Progress) (x : Option ℕ) → marks_after_fault (answer e.p e.epoch (home_or_release x)) k ≡ k
@@ -55,7 +56,7 @@ module _ (k : CheckpointMarks) (e : Progress) (s : State) (c : Checkpoints) (sea
       → doubt_of_saved (saved_failed q c) c.sealed ≡ doubt_in (marks_after_fault (answer e.p e.epoch (item q s)) k)
   doubt_failed Nothing written = none_by written
   doubt_failed (Journal from) written = none_by written ∙ ap doubt_in (sym (fault_live k e (next_live from s)))
-  doubt_failed (Slot i) written = none_by written ∙ ap doubt_in (sym (fault_slot k (nat_lt i 5)))
+  doubt_failed (Slot i) written = none_by written ∙ ap doubt_in (sym (fault_slot k (nat_lt i (record_blocks e.p))))
   doubt_failed Settle written = none_by written
   doubt_failed Commit written = sealed
   doubt_failed Confirm written = sealed ∙ sym (ap (λ (b : Bool). if b then k.sealed else None) written)

@@ -5,6 +5,7 @@ use Rattle.std.proofs.lemmas.List.Sums.{sum_by-cons}
 use Rattle.thy_base.specs.declared.block.Block.{Block}
 use Rattle.thy_base.specs.declared.mark.Mark.{Mark}
 use Rattle.thy_base.specs.Device.{Device, newest, written_to, settled}
+use Rattle.thy_base.specs.Places.{record_blocks}
 use Rattle.thy_base.proofs.DeviceLemmas.{newest-written_to_other, newest-settled}
 use Rattle.thy_crash.proofs.SavedLemmas.{next_image-commit}
 use Rattle.thy_isa.specs.OnBlocks.{state_from}
@@ -201,7 +202,7 @@ module _ (o : Origin) (k : CheckpointMarks) (s : Value) (n : Device) (h : IsSoun
   sound_slot : (j : ℕ) → item e.next l ≡ SlotItem j → is_sealing e.next ≡ true → is_confirming e.next ≡ false
       → IsSoundJournal o (marks_after (answer e.p e.epoch (SlotItem j)) k) (record s { log = t (SlotItem j); engine = f (SlotItem j) }) (d (SlotItem j))
   sound_slot j is way before =
-      subst (λ (x : CheckpointMarks). IsSoundJournal o x (record s { log = t (SlotItem j); engine = f (SlotItem j) }) (d (SlotItem j))) (sym (marks_slot k (nat_lt j 5)))
+      subst (λ (x : CheckpointMarks). IsSoundJournal o x (record s { log = t (SlotItem j); engine = f (SlotItem j) }) (d (SlotItem j))) (sym (marks_slot k (nat_lt j (record_blocks e.p))))
       (making (next_after e.p (SlotItem j)) (d (SlotItem j)) (slot_making j (nat_lt (j + 1) (slot_blocks e.p))) way before
       (held_after o e l n (SlotItem j) h.held) (keeps_i (SlotItem j) is (under e.next way)) (writes_i (SlotItem j) is)
       (works_i (SlotItem j) is (under e.next way)) (homes_i (SlotItem j) is way)

@@ -82,7 +82,7 @@ module _ (o : Origin) (m : Mark) (before : List Block) (n : Device) (b : Booting
     (geometry : b.p ≡ o.geometry) (log : l.p ≡ o.geometry) (engine : s.engine.p ≡ o.geometry) (progress : IsSoundProgress s.engine)
     (room : l.dram.room ≡ o.geometry.dramq) (before_is : before ≡ n.image) (settled : n.queue ≡ [])
     (keeps : Keeps o (layout_of o) n (Kept before) (Some m) None) (found : IsRestored filling_journal n b l)
-    (state : state_from b.p (cpu_of_record (slot_read filling_journal b)) (works l n) ≡ at o m.count) where
+    (state : state_from b.p (cpu_of_record b.p (slot_read filling_journal b)) (works l n) ≡ at o m.count) where
   abbrev e : Progress
   e = applying s.engine
 
@@ -129,8 +129,8 @@ module _ (o : Origin) (m : Mark) (before : List Block) (n : Device) (b : Booting
         ∙ ap (λ (p : Parameters). header_fault (block_at n.image 0) p true) (sym geometry)
         ∙ found.head.header_fits;
     committed = record {
-      cpu = cpu_of_record slot;
-      state = ap (λ (p : Parameters). state_from p (cpu_of_record slot) (works l n)) (sym geometry) ∙ state;
+      cpu = cpu_of_record b.p slot;
+      state = ap (λ (p : Parameters). state_from p (cpu_of_record b.p slot) (works l n)) (sym geometry) ∙ state;
     };
     rest = λ storeless idle. cc;
   }

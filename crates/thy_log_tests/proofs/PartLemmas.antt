@@ -11,7 +11,7 @@ use Rattle.thy_dram.specs.Contents.{Contents, lost}
 use Rattle.thy_dram.specs.Draws.{blocks_over, after_block}
 use Rattle.thy_isa.specs.declared.state.Status.{Status}
 use Rattle.thy_isa.specs.Step.{State as Plain}
-use Rattle.thy_record.specs.Cpu.{status_tag, status_value, is_status}
+use Rattle.thy_record.specs.Cpu.{status_tag, status_value, is_status, IsOtherRecordable}
 use Rattle.thy_view.specs.Action.{Action, Rest, ReadAt, WriteAt, Barrier, Drain, after}
 use Rattle.thy_boot.specs.declared.stage.Stage.{Stage}
 use Rattle.thy_boot.specs.declared.stage.Stage.TheVariants.{Reads, Loads, Over}
@@ -83,8 +83,8 @@ Boots-of p s dram n b c start b_is c_is state sized settled up =
     (Boots-new p s dram n start (subst (λ (x : State). IsSoundState x) c_is state) sized settled up))
 
 -- the start of a test fits the least memory, and can be recorded
-pub CanStart-least : (p : Parameters) (s : Plain) → IsInRange p → p.pages ≡ 8 → p.console ≡ 1 → IsLeastStart s → CanStart p s
-CanStart-least p s range pages room h = record {
+pub CanStart-least : (p : Parameters) (s : Plain) → IsInRange p → p.pages ≡ 8 → p.console ≡ 1 → p.harts ≡ 1 → IsLeastStart s → CanStart p s
+CanStart-least p s range pages room one h = record {
   geometry = range;
   start = record {
     regs = ap length h.regs ∙ length-replicate {A = ℕ} 32 0;
@@ -102,7 +102,7 @@ CanStart-least p s range pages room h = record {
     floor = (let e = h.floor in omega (arith, e));
     count = (let e = h.count in omega (arith, e));
     status = ap (λ (x : Status). is_status (status_tag x) (status_value x)) h.status;
-    alone = h.alone;
+    other = subst (IsOtherRecordable p) (sym h.alone) (λ two. omega (arith, one, two));
   };
 } where
   zero_below : (i : ℕ) → slice_index (replicate 32 0) i < 2 ^ 64

@@ -13,7 +13,8 @@ use Rattle.thy_isa.specs.Storable.{IsNumber, IsStorable, IsReadable}
 use Rattle.thy_isa.proofs.MemoryBounds.{anywhere}
 use Rattle.thy_elf.specs.Image.{Contents}
 use Rattle.thy_plain.specs.Start.{start_state}
-use Rattle.thy_record.specs.Cpu.{is_status, status_tag, status_value}
+use Rattle.thy_plain.proofs.StartLaws.{start_other-alone}
+use Rattle.thy_record.specs.Cpu.{is_status, status_tag, status_value, IsOtherRecordable}
 use Rattle.thy_record.specs.declared.start.Start.{Start}
 use Rattle.thy_view.specs.declared.did.Stepped.{Stepped}
 use Rattle.thy_view.specs.Booting.{found_first}
@@ -35,8 +36,8 @@ room-cut : {A : Type 0} (left : List A) (image : A) (room cuts : ℕ) → length
 room-cut left image room cuts h some = grind (arith, h, some, length-append left (image ∷ []))
 
 -- a run may start as a program is loaded
-pub IsOrigin-start : (o : Origin) (contents : Contents) → IsInRange o.geometry → o.start ≡ start_state o.geometry contents → IsStorable (program_size o.geometry) o.start → IsReadable (setting_of o) → o.kept ≡ None → IsOrigin o
-IsOrigin-start o contents range is storable readable fresh =
+pub IsOrigin-start : (o : Origin) (contents : Contents) → IsInRange o.geometry → o.start ≡ start_state o.geometry contents → IsStorable (program_size o.geometry) o.start → IsReadable (setting_of o) → o.kept ≡ None → o.geometry.harts ≡ 1 → IsOrigin o
+IsOrigin-start o contents range is storable readable fresh one =
     let console : length o.start.console ≡ 0 = ap (λ (s : State). length s.console) is in
     let count : o.start.count ≡ 0 = ap (λ (s : State). s.count) is in
     let status : o.start.status ≡ Running = ap (λ (s : State). s.status) is in
@@ -53,7 +54,7 @@ IsOrigin-start o contents range is storable readable fresh =
         floor = storable.floor;
         count = omega (arith, count);
         status = ap (λ s. is_status (status_tag s) (status_value s)) status;
-        alone = ap (λ (s : State). s.other) is;
+        other = subst (IsOtherRecordable o.geometry) (sym (ap (λ (s : State). s.other) is ∙ start_other-alone o.geometry contents.entry one)) (λ two. omega (arith, one, two));
       };
       memory = storable.memory_size;
       storable = storable;
@@ -73,13 +74,14 @@ fits K laws o shape n file blocks = record {
 
 -- power comes on for the first time
 pub IsPowered-first : {M : Type 0} (K : KindOf M) (laws : IsLawful K) → (p : Parameters) (start : Start) (m : M) (shape : Shape) (before n : Device)
-    → IsOrigin (origin_from p start) → start.kept ≡ None → K.powered p m
+    → IsOrigin (origin_from p start) → p.harts ≡ 1 → start.kept ≡ None → K.powered p m
     → shape.blocks ≡ K.blocks p → n ≡ fitted shape [] before
     → IsPowered K (powered p start m n 0 shape.cuts)
-IsPowered-first K laws p start m shape before n origin file new blocks is =
+IsPowered-first K laws p start m shape before n origin one file new blocks is =
     let o : Origin = origin_from p start in
     subst (λ (d : Device). IsPowered K (powered p start m d 0 shape.cuts)) (sym is) (record {
       at_moment = (laws.begins o m shape [] before origin new (fits K laws o shape before file blocks)).0;
+      one = one;
       few = omega arith;
       room = omega arith;
     })
@@ -91,7 +93,8 @@ pub IsPowered-stepped : {M : Type 0} (K : KindOf M) → (p : Parameters) (start 
     → IsFramed n new
     → IsPowered K (powered p start next new (k + 1) cuts)
 IsPowered-stepped K p start m next n new k cuts pick r w few step frame = record {
-  at_moment = (step.1 (has-turn (origin_from p start) (K.view (origin_from p start) m n) r.did step.0)).at_next;
+  at_moment = (step.1 (has-turn (origin_from p start) (K.view (origin_from p start) m n) r.did w.one step.0)).at_next;
+  one = w.one;
   few = few;
   room = HasRoom-framed n new cuts w.room frame;
 }
@@ -109,6 +112,7 @@ IsPowered-cut K laws p start m next n new k cuts pick w powers cut some =
     let o : Origin = origin_from p start in
     subst (λ (d : Device). IsPowered K (powered p start next d k (cuts - 1))) (sym cut.device) (record {
       at_moment = (laws.recovers o k m next n pick new.image w.at_moment powers cut.crash).0;
+      one = w.one;
       few = w.few;
       room = room-cut n.left new.image n.left_room cuts w.room some;
     })

@@ -1,5 +1,5 @@
 -- A machine of a test whose power is on, with its device.
-use Rattle.std.specs.Prelude.{ℕ, ◌+◌, ◌≤◌, ◌<◌, ◌^◌, [], length}
+use Rattle.std.specs.Prelude.{◌≡◌, ℕ, ◌+◌, ◌≤◌, ◌<◌, ◌^◌, [], length}
 use Rattle.thy_base.specs.declared.config.Parameters.{Parameters}
 use Rattle.thy_base.specs.Bytes.{bytes_of}
 use Rattle.thy_base.specs.Device.{Device}
@@ -28,8 +28,9 @@ powered p start m n cycles cuts = record { origin = origin_from p start; machine
 abbrev pub HasRoom : Device → ℕ → Type 0
 HasRoom n cuts = length n.left + cuts ≤ n.left_room
 
--- machine and device are at a moment of the run
+-- machine and device are at a moment of the run, which has one hart
 pub record IsPowered {M : Type 0} (K : KindOf M) (m : Powered M) : Type 0 where
   pub at_moment : K.is_at m.origin m.cycles m.machine m.nvm
+  pub one : m.origin.geometry.harts ≡ 1
   pub few : m.cycles < 2 ^ 62
   pub room : HasRoom m.nvm m.cuts

@@ -1,5 +1,6 @@
 //! Tests of programs on the plain machine, on the hart alone, and on the whole machine by its steps. They promise nothing
-//! that is proved; they show what no contract says: ends, checkpoints and restarts compared with the plain machine's.
+//! that is proved; they show what no contract says: ends, checkpoints and restarts compared with the plain machine's, and
+//! two harts turn by turn.
 //!
 //! Open src/machine.rt first. specs/ has what is asked of the values that tests pass on. It depends on thy_core, thy_dual,
 //! thy_waiting, thy_journal, thy_shadow, thy_hart, thy_make and thy_plain, with their dependencies; nothing depends on it.
@@ -15,3 +16,5 @@ mod made;
 mod plain;
 #[cfg(test)]
 mod support;
+#[cfg(test)]
+mod two_harts;

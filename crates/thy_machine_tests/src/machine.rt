@@ -97,6 +97,7 @@ const MOST: u64 = 5000;
 fn numbers_of(row: &Row, mix: u64) -> Parameters
     ensures pages { result.pages ≡ 8 }
     ensures console { result.console ≡ 1 }
+    ensures harts { result.harts ≡ 1 }
 {
     let (sets, ways) = row.cache;
     Parameters {
@@ -121,7 +122,8 @@ fn numbers_of(row: &Row, mix: u64) -> Parameters
 
 /// The start of a program of these words, with no input.
 fn start_for(rt: &impl Abort, alloc: Global, geometry: &Geometry, words: &[u32]) -> Start
-    requires { program_size geometry.now ≡ 28672 }
+    requires size { program_size geometry.now ≡ 28672 }
+    requires harts { geometry.now.harts ≡ 1 }
     ensures origin { IsOrigin (origin_from geometry.now result) }
     ensures made { result.kept ≡ None }
 {
@@ -202,7 +204,7 @@ impl<M: Computer> Powered<M> {
     /// One cycle.
     fn step(&mut self, rt: &impl Abort) -> Stepped {
         assert!(rt; self.cycles < 2 * MOST);
-        let pick = self.mix.next();
+        let pick = self.mix.next(1);
         let stepped = self
             .machine
             .step(pick, &self.start, &mut self.nvm)

@@ -110,7 +110,7 @@ migration_begins o g n b c origin sound is one =
     let f : IsRestored filling_dual n b c = k.5 in
     let rec : IsRecovering filling_dual g n b c = subst (λ (q : Stage). IsSoundAt filling_dual o q g n b c) is sound.so_far in
     let m : Mark = r.0 in
-    let booted : IsBooted o m (cpu_of_record slot) (version_of b.commit) g.before n c = r.4 in
+    let booted : IsBooted o m (cpu_of_record b.p slot) (version_of b.commit) g.before n c = r.4 in
     let fits : slot_fault VersionOne p ceiling m.epoch slot ≡ None
     = ap (λ (q : Parameters). slot_fault VersionOne q ceiling m.epoch slot) (sym sound.geometry)
     ∙ ap (λ (f : LayoutVersion). slot_fault f b.p ceiling m.epoch slot) (sym one)
@@ -174,8 +174,8 @@ module _ (o : Origin) (m : Mark) (g : BootImages) (b : Booting) (c : State) wher
 
   -- over a device that reads alike
   module _ (at : Migration) (n : Device) (h : Here at n) (new : Device) (alike : ReadsAlike p n new) where
-    pub has_alike : LoadsState o m (cpu_of_record slot) new c
-    has_alike = LoadsState-alike c n new h.found.tables (alike_for h.found n new alike) o m (cpu_of_record slot) h.has
+    pub has_alike : LoadsState o m (cpu_of_record b.p slot) new c
+    has_alike = LoadsState-alike c n new h.found.tables (alike_for h.found n new alike) o m (cpu_of_record b.p slot) h.has
 
     pub issued_alike : (k : ℕ) → AreIssued (image_blocks p) (migrated_parts p slot m.epoch) new (loads c n) k
         → AreIssued (image_blocks p) (migrated_parts p slot m.epoch) new (loads c new) k
@@ -292,7 +292,9 @@ module _ (o : Origin) (m : Mark) (g : BootImages) (b : Booting) (c : State) wher
     anew : IsAnew o m next c
     anew = record {
       of = record {
-        decodes = migrated.decodes ∙ ap (At m.epoch) h.has.state;
+        decodes = migrated.decodes
+            ∙ ap (λ (q : Parameters). At m.epoch (state_from p (cpu_of_record q slot) (loads c n))) (sym h.found.geometry)
+            ∙ ap (At m.epoch) h.has.state;
         counted = h.has.counted;
       };
       commit = next_image-commit (commit_of m.epoch) n (omega (arith, h.issued.sized));

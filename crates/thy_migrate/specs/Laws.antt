@@ -61,7 +61,7 @@ FailureIsSafe =
 -- it is over: the mark's checkpoint is kept in version 2, and the controller has it
 pub record HasMigrated (o : Origin) (m : Mark) (image : List Block) (n : Device) (b : Booting) (c : State) : Type 0 where
   pub keeps : Keeps o (layout_of o) n (Kept image) (Some m) None
-  pub booted : IsBooted o m (cpu_of_record (slot_read filling_dual b)) VersionTwo image n c
+  pub booted : IsBooted o m (cpu_of_record b.p (slot_read filling_dual b)) VersionTwo image n c
 
 -- after its action the migration is before the next one, or over
 abbrev pub MigratesTo : Option Migration → Origin → Mark → BootImages → Device → Booting → State → Type 0

@@ -94,7 +94,7 @@ pub record IsMigrating (o : Origin) (m : Mark) (at : Migration) (g : BootImages)
   pub found : HasFound o m g b c
   pub there : IsAction o.geometry at
   pub keeps : IsKeeping o (layout_of o) (standing_at m at g n)
-  pub has : LoadsState o m (cpu_of_record (slot_read filling_dual b)) n c
+  pub has : LoadsState o m (cpu_of_record b.p (slot_read filling_dual b)) n c
   pub issued : AreIssued (image_blocks o.geometry) (migrated_parts o.geometry (slot_read filling_dual b) m.epoch) n (loads c n) (written_before o.geometry at)
   pub made : IsMadeBefore at o m g.next c
   pub committed : IsCommittedBefore at m n

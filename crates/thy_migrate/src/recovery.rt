@@ -169,7 +169,7 @@ impl Recovery {
     fn restarted(&self) -> BootStep
         requires { length self.now.boot.slot ≡ 64 * slot_blocks self.now.boot.p }
         ensures { let b = self.now.boot in
-            result ≡ Restarted (cpu_of_record (slot_read filling_dual b)) (epoch_of b.commit) }
+            result ≡ Restarted (cpu_of_record b.p (slot_read filling_dual b)) (epoch_of b.commit) }
     {
         let commit = self.boot.commit();
         let cpu = cpu_of_slot(self.boot.geometry(), commit, self.boot.slot());

@@ -2,7 +2,7 @@
 use Rattle.std.specs.Prelude.{◌≡◌, ℕ, if◌then◌else◌, nat_le, length, Option, Some, None}
 use Rattle.thy_isa.specs.declared.state.Cause.{Cause}
 use Rattle.thy_isa.specs.declared.state.Effect.{Effect}
-use Rattle.thy_isa.specs.declared.state.Effect.TheVariants.{Read, Write}
+use Rattle.thy_isa.specs.declared.state.Effect.TheVariants.{Read, Write, Reserve, Conditional, Modify}
 use Rattle.thy_isa.specs.declared.state.Status.{Status}
 use Rattle.thy_isa.specs.declared.state.Status.TheVariants.{Trapped}
 use Rattle.thy_isa.specs.Effects.{word_effect}
@@ -14,6 +14,9 @@ use Rattle.thy_observe.specs.declared.trap.Trap.{Trap}
 abbrev pub reached : Effect → Option ℕ
 reached (Read rd width extend pc at) = Some at
 reached (Write width pc at v) = Some at
+reached (Reserve rd width pc at) = Some at
+reached (Conditional rd width pc at v) = Some at
+reached (Modify op rd width pc at v) = Some at
 reached e = None
 
 -- the word at pc, if one can be fetched there
@@ -30,7 +33,7 @@ reached_by None s = None
 reached_by (Some word) s = reached (word_effect word s.pc s.regs)
 
 -- a trap of this number in this state: its pc, which is that of the instruction that trapped, the word there, and, if a
--- load or a store trapped, its address
+-- load, a store or an atomic instruction trapped, its address
 abbrev pub trap_by : ℕ → ℕ → State → Trap
 trap_by cause base s = record {
   pc = s.pc;

@@ -12,7 +12,7 @@ pub struct Trap {
     pub pc: u64,
     /// The word there, if pc is aligned and the word is in memory.
     pub word: Option<u32>,
-    /// The address of the load or store that trapped.
+    /// The address of the load, store or atomic instruction that trapped.
     pub address: Option<u64>,
 }
 
@@ -21,7 +21,11 @@ fn reached(effect: Effect) -> Option<u64>
     ensures { result ≡ reached effect }
 {
     match effect {
-        Effect::Read { at, .. } | Effect::Write { at, .. } => Some(at),
+        Effect::Read { at, .. }
+        | Effect::Write { at, .. }
+        | Effect::Reserve { at, .. }
+        | Effect::Conditional { at, .. }
+        | Effect::Modify { at, .. } => Some(at),
         _ => None,
     }
 }

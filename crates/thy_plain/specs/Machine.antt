@@ -4,7 +4,7 @@ use Rattle.thy_base.specs.declared.config.Parameters.{Parameters}
 use Rattle.thy_base.specs.Bytes.{bytes_of}
 use Rattle.thy_elf.specs.Image.{Contents}
 use Rattle.thy_isa.specs.OnBlocks.{setting_for}
-use Rattle.thy_isa.specs.Step.{State, Setting, is_running, step, steps}
+use Rattle.thy_isa.specs.Step.{State, Setting, is_running, step, steps, step_of}
 use Rattle.thy_plain.specs.declared.setup.Setup.{Setup}
 use Rattle.thy_plain.specs.Start.{start_state}
 
@@ -20,6 +20,10 @@ loaded p image input = record { setting = setting_for p input; state = start_sta
 -- a machine after one step
 abbrev pub stepped : Machine → Machine
 stepped m = record m { state = step m.setting m.state }
+
+-- a machine after a step of a hart
+abbrev pub stepped_by : ℕ → Machine → Machine
+stepped_by hart m = record m { state = step_of m.setting hart m.state }
 
 -- a machine after k steps
 abbrev pub after_steps : ℕ → Machine → Machine

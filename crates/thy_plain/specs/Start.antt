@@ -1,9 +1,11 @@
 -- Part of the claim.
 -- The state at which a program starts.
-use Rattle.std.specs.Prelude.{ℕ, List, [], replicate, None}
+use Rattle.std.specs.Prelude.{ℕ, ◌-◌, ◌==◌, if◌then◌else◌, List, [], replicate, Option, Some, None}
 use Rattle.thy_base.specs.declared.config.Parameters.{Parameters}
 use Rattle.thy_base.specs.Geometry.{stack_top}
 use Rattle.thy_elf.specs.Image.{Contents}
+use Rattle.thy_isa.specs.declared.state.OtherHart.{OtherHart}
+use Rattle.thy_isa.specs.declared.state.Reservation.TheVariants.{Nothing}
 use Rattle.thy_isa.specs.declared.state.Status.TheVariants.{Running}
 use Rattle.thy_isa.specs.Regs.{regs_with}
 use Rattle.thy_isa.specs.Step.{State}
@@ -11,6 +13,18 @@ use Rattle.thy_isa.specs.Step.{State}
 -- the registers: all 0 but the stack pointer, x2
 unfoldable pub start_regs : Parameters → List ℕ
 start_regs p = regs_with (replicate 32 0) 2 (stack_top p)
+
+-- those of hart 1: its stack pointer is 2048 bytes below that of hart 0, and its number is in a0, x10
+unfoldable pub second_regs : Parameters → List ℕ
+second_regs p = regs_with (regs_with (replicate 32 0) 2 (stack_top p - 2048)) 10 1
+
+-- hart 1, at the same entry
+abbrev pub second_hart : Parameters → ℕ → OtherHart
+second_hart p entry = record { pc = entry; regs = second_regs p; front = Nothing; back = Nothing }
+
+-- if there are two
+abbrev pub start_other : Parameters → ℕ → Option OtherHart
+start_other p entry = if p.harts == 2 then Some (second_hart p entry) else None
 
 -- the state: at the image's entry, over its memory, with the break at its floor and an empty console
 abbrev pub start_state : Parameters → Contents → State
@@ -24,5 +38,5 @@ start_state p image = record {
   floor = image.floor;
   count = 0;
   status = Running;
-  other = None;
+  other = start_other p image.entry;
 }

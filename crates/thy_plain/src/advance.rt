@@ -5,17 +5,21 @@ ghost use Rattle.std.specs.Prelude.{◌≡◌, ◌+◌, ◌<◌, ◌≤◌, ◌^
 ghost use Rattle.thy_base.specs.Bytes.{bytes_of, room_of, written};
 ghost use Rattle.thy_base.specs.LittleEndian.{number_bytes};
 ghost use Rattle.thy_isa.specs.declared.state.Effect.TheVariants.{Environment};
+ghost use Rattle.thy_isa.specs.declared.state.Reservation.TheVariants.{Nothing};
 ghost use Rattle.thy_isa.specs.declared.state.Status.TheVariants.{Trapped};
+ghost use Rattle.thy_isa.specs.Access.{IsAtomic};
 ghost use Rattle.thy_isa.specs.Effects.{size_of, after};
 ghost use Rattle.thy_isa.specs.Regs.{regs_with};
+ghost use Rattle.thy_isa.specs.Reservations.{reserving};
 ghost use Rattle.thy_isa.specs.Step.{state_of, call_state_of, cause_number, within, performed, advanced, step};
 ghost use Rattle.thy_plain.specs.Machine.{setting_of};
 
 use crate::setup::Setup;
 use thy_base::{Bytes, is_inside};
 use thy_isa::{
-    Call, CallState, Cause, Effect, MachState, Reg, Status, Width, after, bytes_in, call,
-    cause_number, extended, fetch_fault, is_running, number, word, word_effect,
+    Call, CallState, Cause, Effect, Extend, MachState, Reg, Reservation, Status, Width, after,
+    bytes_in, call, cause_number, extended, fetch_fault, front_of, is_reserved, is_running,
+    modified, number, reservation, reserve, word, word_effect, write_past,
 };
 
 /// The register of an environment call's result.
@@ -123,6 +127,7 @@ fn serve(state: &mut MachState, setup: &Setup)
             take(&mut state.memory, to, &setup.input, from, len as usize);
             answer(state, len);
             state.cursor += len;
+            write_past(&mut state.other, at, len);
         }
         Call::Give { at, len } => {
             let from = (at - setup.base) as usize;
@@ -132,13 +137,111 @@ fn serve(state: &mut MachState, setup: &Setup)
     }
 }
 
+/// The instruction after a store-conditional that failed.
+fn fail(state: &mut MachState, rd: Reg, pc: u64)
+    requires { state.old.count < 2 ^ 63 }
+    ensures { state.new ≡ record state.old {
+      pc = pc;
+      regs = regs_with state.old.regs rd 1;
+      count = state.old.count + 1;
+      other = reserving Nothing state.old.other;
+    } }
+{
+    state.regs.set(rd, 1);
+    reserve(&mut state.other, Reservation::Nothing);
+    state.pc = pc;
+    state.count += 1;
+}
+
+/// Does what an atomic instruction does, to a state that runs. It is illegal with one hart, and traps if its address is no
+/// multiple of its width.
+fn perform_atomic(state: &mut MachState, setup: &Setup, effect: Effect)
+    requires count { state.old.count < 2 ^ 63 }
+    requires atomic { IsAtomic effect }
+    ensures state { state_of state.new ≡ performed (setting_of setup.now) (state_of state.old)
+        (within setup.now.base (length (bytes_of state.old.memory)) state.old.other effect) }
+    ensures room { room_of state.old.console ≤ room_of state.new.console }
+{
+    let size = state.memory.len() as u64;
+    match state.other {
+        None => trap(state, Cause::Illegal),
+        Some(_) => match effect {
+            Effect::Reserve { rd, width, pc, at } => {
+                if at % bytes_in(width) != 0 {
+                    trap(state, Cause::LoadMisaligned);
+                } else if is_inside(setup.base, size, at, bytes_in(width)) {
+                    let value = number(state.memory.as_slice(), (at - setup.base) as usize, width);
+                    state.regs.set(rd, extended(width, Extend::Sign, value));
+                    reserve(&mut state.other, reservation(width, at));
+                    state.pc = pc;
+                    state.count += 1;
+                } else {
+                    trap(state, Cause::LoadAccess);
+                }
+            }
+            Effect::Conditional {
+                rd,
+                width,
+                pc,
+                at,
+                value,
+            } => {
+                if at % bytes_in(width) != 0 {
+                    trap(state, Cause::StoreMisaligned);
+                } else if is_inside(setup.base, size, at, bytes_in(width)) {
+                    if is_reserved(front_of(&state.other), width, at) {
+                        write_number(&mut state.memory, (at - setup.base) as usize, width, value);
+                        state.regs.set(rd, 0);
+                        write_past(&mut state.other, at, bytes_in(width));
+                        reserve(&mut state.other, Reservation::Nothing);
+                        state.pc = pc;
+                        state.count += 1;
+                    } else {
+                        fail(state, rd, pc);
+                    }
+                } else {
+                    trap(state, Cause::StoreAccess);
+                }
+            }
+            Effect::Modify {
+                op,
+                rd,
+                width,
+                pc,
+                at,
+                value,
+            } => {
+                if at % bytes_in(width) != 0 {
+                    trap(state, Cause::StoreMisaligned);
+                } else if is_inside(setup.base, size, at, bytes_in(width)) {
+                    let from = (at - setup.base) as usize;
+                    let old = number(state.memory.as_slice(), from, width);
+                    write_number(
+                        &mut state.memory,
+                        from,
+                        width,
+                        modified(op, width, old, value),
+                    );
+                    state.regs.set(rd, extended(width, Extend::Sign, old));
+                    write_past(&mut state.other, at, bytes_in(width));
+                    state.pc = pc;
+                    state.count += 1;
+                } else {
+                    trap(state, Cause::StoreAccess);
+                }
+            }
+            _ => unreachable!(),
+        },
+    }
+}
+
 /// Does what an instruction does, to a state that runs. A load or a store outside memory traps: this is tested where
 /// each is done, so that an effect is matched only once.
 fn perform(state: &mut MachState, setup: &Setup, effect: Effect)
     requires count { state.old.count < 2 ^ 63 }
     requires room { setup.now.room ≤ room_of state.old.console }
     ensures state { state_of state.new ≡ performed (setting_of setup.now) (state_of state.old)
-        (within setup.now.base (length (bytes_of state.old.memory)) effect) }
+        (within setup.now.base (length (bytes_of state.old.memory)) state.old.other effect) }
     ensures room { room_of state.old.console ≤ room_of state.new.console }
 {
     let size = state.memory.len() as u64;
@@ -176,12 +279,17 @@ fn perform(state: &mut MachState, setup: &Setup, effect: Effect)
         } => {
             if is_inside(setup.base, size, at, bytes_in(width)) {
                 write_number(&mut state.memory, (at - setup.base) as usize, width, value);
+                write_past(&mut state.other, at, bytes_in(width));
                 state.pc = pc;
                 state.count += 1;
             } else {
                 trap(state, Cause::StoreAccess);
             }
         }
+        Effect::Reserve { .. } | Effect::Conditional { .. } | Effect::Modify { .. } => {
+            perform_atomic(state, setup, effect);
+        }
+        Effect::Fail { rd, pc } => fail(state, rd, pc),
         Effect::Environment => serve(state, setup),
         Effect::Trap(cause) => trap(state, cause),
     }

@@ -1,11 +1,11 @@
 //! The machine.
-ghost use Rattle.std.specs.Prelude.{◌≡◌, ◌+◌, ◌<◌, ◌^◌, length, IfOk};
+ghost use Rattle.std.specs.Prelude.{◌≡◌, ◌+◌, ◌<◌, ◌≤◌, ◌^◌, length, IfOk};
 ghost use Rattle.thy_base.specs.Bytes.{bytes_of};
 ghost use Rattle.thy_base.specs.Geometry.{program_size};
 ghost use Rattle.thy_elf.specs.Image.{contents_of};
 ghost use Rattle.thy_isa.specs.Step.{state_of, is_running};
 ghost use Rattle.thy_isa.specs.Storable.{IsStorable};
-ghost use Rattle.thy_plain.specs.Machine.{loaded, stepped, after_steps, StopsAt};
+ghost use Rattle.thy_plain.specs.Machine.{loaded, stepped, stepped_by, after_steps, StopsAt};
 
 use crate::advance::take_step;
 use crate::setup::Setup;
@@ -14,7 +14,7 @@ use std::alloc::{AllocError, Global};
 use std::marker::Model;
 use thy_base::{Bytes, Geometry};
 use thy_elf::Image;
-use thy_isa::{MachState, is_running};
+use thy_isa::{MachState, cross_state, is_running};
 
 /// The plain machine. Contracts see its state, and what stays the same over a run. Only `load` allocates,
 /// and no other call can fail.
@@ -69,6 +69,24 @@ impl Plain {
         ensures { self.new ≡ stepped self.old }
     {
         take_step(&mut self.state, &self.setup);
+    }
+
+    /// Takes one step of a hart, 0 or 1. An ended state stays as it is, and with one hart each step is of that one.
+    #[tactic(auto, unfolding(thy_isa::specs::Step::step_of))]
+    pub fn step_of(&mut self, hart: u8)
+        requires count { self.old.state.count < 2 ^ 63 }
+        requires hart { hart ≤ 1 }
+        ensures { self.new ≡ stepped_by hart self.old }
+    {
+        match hart {
+            0 => self.step(),
+            1 => {
+                cross_state(&mut self.state);
+                take_step(&mut self.state, &self.setup);
+                cross_state(&mut self.state);
+            }
+            _ => unreachable!(),
+        }
     }
 
     /// Takes steps until the program no longer runs, or `limit` steps are done. Returns how many it took.

@@ -1,5 +1,5 @@
 //! The state at which a program starts.
-#![tactic(auto, unfolding(crate::specs::Start::start_regs))]
+#![tactic(auto, unfolding(crate::specs::Start::start_regs, crate::specs::Start::second_regs))]
 
 ghost use Rattle.std.specs.Prelude.{◌≡◌, [], length};
 ghost use Rattle.std.specs.List.{All};
@@ -8,15 +8,21 @@ ghost use Rattle.thy_base.specs.Geometry.{program_size, stack_top};
 ghost use Rattle.thy_elf.specs.Image.{contents_of};
 ghost use Rattle.thy_isa.specs.Storable.{IsNumber, IsByte, IsStorable};
 ghost use Rattle.thy_isa.specs.Step.{state_of};
-ghost use Rattle.thy_plain.specs.Start.{start_regs, start_state};
+ghost use Rattle.thy_plain.specs.Start.{start_regs, second_regs, start_other, start_state};
 
 use std::alloc::Global;
 use thy_base::{Bytes, Geometry};
 use thy_elf::Image;
-use thy_isa::{MachState, Reg, Regs, Status};
+use thy_isa::{MachState, OtherHart, Reg, Regs, Reservation, Status};
 
 /// The number of the stack pointer.
 const SP: u8 = 2;
+
+/// The register that hart 1 has its number in.
+const A0: u8 = 10;
+
+/// How many bytes the stack pointer of hart 1 is below that of hart 0.
+const SECOND_STACK: u64 = 2048;
 
 /// The registers at the start: all 0 but the stack pointer.
 fn start_regs(geometry: &Geometry) -> Regs
@@ -26,6 +32,35 @@ fn start_regs(geometry: &Geometry) -> Regs
     let mut regs = Regs::new();
     regs.set(Reg::new(SP), geometry.stack_top());
     regs
+}
+
+/// The registers of hart 1 at the start: all 0 but the stack pointer and its number.
+fn second_regs(geometry: &Geometry) -> Regs
+    ensures { result ≡ second_regs geometry.now }
+{
+    let mut regs = Regs::new();
+    regs.set(
+        Reg::new(SP),
+        geometry.stack_top().saturating_sub(SECOND_STACK),
+    );
+    regs.set(Reg::new(A0), 1);
+    regs
+}
+
+/// Hart 1 at the start, if there are two.
+fn start_other(geometry: &Geometry, entry: u64) -> Option<OtherHart>
+    ensures { result ≡ start_other geometry.now entry }
+{
+    if geometry.numbers().harts == 2 {
+        Some(OtherHart {
+            pc: entry,
+            regs: second_regs(geometry),
+            front: Reservation::Nothing,
+            back: Reservation::Nothing,
+        })
+    } else {
+        None
+    }
 }
 
 /// Does nothing: a proof learns here what the type says of each byte.
@@ -59,7 +94,7 @@ pub(crate) fn state_over(
         floor,
         count: 0,
         status: Status::Running,
-        other: None,
+        other: start_other(geometry, entry),
     }
 }
 

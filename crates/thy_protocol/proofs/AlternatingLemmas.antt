@@ -3,13 +3,14 @@ use Rattle.std.proofs.Common.{◌≡◌, ℕ, zero, suc, ◌+◌, ◌*◌, ◌^�
 use Rattle.std.specs.List.{range_with_len, All}
 use Rattle.std.specs.Option.{option_or}
 use Rattle.std.proofs.lemmas.Bool.{eq-eqb}
-use Rattle.std.proofs.lemmas.List.{get_or-drop, get_or-map, get_or_append_left, length-append, length-replicate, length-map, ext_get_or, get_or-replicate}
+use Rattle.std.proofs.lemmas.List.{get_or-drop, get_or-map, get_or_append_left, get_or-append-add, length-append, length-replicate, length-map, ext_get_or, get_or-replicate}
 use Rattle.std.proofs.lemmas.List.FromFn.{length-map-range_with_len, get_or-map-range_with_len}
 use Rattle.std.proofs.lemmas.List.Elements.{All-nil, All-cons, All-append, All-map, All-contains}
 use Rattle.thy_base.specs.declared.block.Block.{Block}
 use Rattle.thy_base.specs.declared.config.Parameters.{Parameters}
 use Rattle.thy_base.specs.Device.{Device, block_at, zero_block, possible, settled, written_to}
 use Rattle.thy_base.specs.Geometry.{IsInRange, memory_blocks, console_room}
+use Rattle.thy_base.specs.Places.{record_blocks}
 use Rattle.thy_base.proofs.DeviceLemmas.{same_as_only, length-settled}
 use Rattle.thy_base.proofs.CrashLemmas.{Contains-stands}
 use Rattle.thy_isa.specs.declared.state.CpuState.{CpuState}
@@ -42,7 +43,7 @@ all_none a b c h k l = ap (λ x. option_or x (option_or b c)) h ∙ ap (λ x. op
 
 pub decode_by-written : (p : Parameters) (ceiling : ℕ) (cpu : CpuState) (epoch : ℕ) (g : List Block)
     → IsInRange p → IsRecordable p ceiling cpu → ceiling ≤ 2 ^ 64 → epoch < ceiling
-    → length g ≡ 2 + 2 * copy_blocks p → is_zero (block_at g 0) ≡ true → block_at g 1 ≡ commit_of epoch → IsRecordOf cpu epoch (slot_in (alternating p ceiling) g)
+    → length g ≡ 2 + 2 * copy_blocks p → is_zero (block_at g 0) ≡ true → block_at g 1 ≡ commit_of epoch → IsRecordOf p cpu epoch (slot_in (alternating p ceiling) g)
     → decode_by (alternating p ceiling) g ≡ At epoch (state_from p cpu (memory_in (alternating p ceiling) g))
 decode_by-written p ceiling cpu epoch g range r most below sized header commit slot =
     let l : Layout = alternating p ceiling in
@@ -54,9 +55,9 @@ decode_by-written p ceiling cpu epoch g range r most below sized header commit s
       faultless = all_none _ _ _
           (ap (λ t. if t then None else Some Header) (both (is_zero (block_at g 0)) (is_sized l g) header (eq-eqb (length g) (2 + 2 * copy_blocks p) sized)))
           (ap (λ b. commit_fault (block_at g 0) b ceiling) commit ∙ commit_fault-commit_of (block_at g 0) epoch ceiling below most)
-          (ap (λ x. record_fault (slot_in l g) x p ceiling) e ∙ record_fault-back p ceiling cpu epoch (slot_in l g) r room most small slot);
+          (ap (λ x. record_fault (slot_in l g) x p ceiling) e ∙ record_fault-back p ceiling cpu epoch (slot_in l g) range r room most small slot);
       of_epoch = e;
-      state_is = ap (λ c. state_from p c (memory_in l g)) (cpu_of_record-back p ceiling cpu epoch (slot_in l g) r room most small slot);
+      state_is = ap (λ c. state_from p c (memory_in l g)) (cpu_of_record-back p ceiling cpu epoch (slot_in l g) range r room most small slot);
     })
 
 -- ---- the image of a first checkpoint
@@ -69,7 +70,7 @@ All-range P a (suc n) each =
 
 -- the blocks after header and commit block
 behind : Parameters → CpuState → List Block → List Block
-behind p cpu memory = record_of cpu 0 ++ (memory ++ replicate (copy_blocks p) zero_block)
+behind p cpu memory = record_of p cpu 0 ++ (memory ++ replicate (copy_blocks p) zero_block)
 
 module _ (p : Parameters) (cpu : CpuState) (memory : List Block) (long : length memory ≡ memory_blocks p) where
   abbrev l : Layout
@@ -82,9 +83,19 @@ module _ (p : Parameters) (cpu : CpuState) (memory : List Block) (long : length 
   abbrev first : List Block
   first = zero_block ∷ commit_of 0 ∷ behind p cpu memory
 
+  long_record : length (record_of p cpu 0) ≡ record_blocks p
+  long_record = (IsRecordOf-record_of p cpu 0).long
+
   length-body : length body ≡ 2 + 2 * copy_blocks p
   unfolding behind
-  length-body = omega (arith, length-append memory (replicate (copy_blocks p) zero_block), length-replicate (copy_blocks p) zero_block)
+  length-body =
+      omega (
+        arith,
+        length-append (record_of p cpu 0) (memory ++ replicate (copy_blocks p) zero_block),
+        long_record,
+        length-append memory (replicate (copy_blocks p) zero_block),
+        length-replicate (copy_blocks p) zero_block,
+      )
 
   epoch_first : epoch_of (block_at first 1) ≡ 0
   epoch_first = epoch_of-commit_of 0 (omega arith)
@@ -94,20 +105,35 @@ module _ (p : Parameters) (cpu : CpuState) (memory : List Block) (long : length 
       let none : copy_place p 0 ≡ 2 = omega arith in
       ap (copy_place p) epoch_first ∙ none
 
-  slot_first : slot_in l first ≡ record_of cpu 0
+  -- block k of the record stands behind header and commit block
+  record_first : (k : ℕ) → k < record_blocks p → block_at first (2 + k) ≡ block_at (record_of p cpu 0) k
   unfolding behind
-  slot_first = ap (λ a. map (block_at first) (range_with_len a 5)) place_first
+  record_first k l =
+      sym (get_or-drop 2 first k zero_block)
+      ∙ get_or_append_left (record_of p cpu 0) (memory ++ replicate (copy_blocks p) zero_block) zero_block k (omega (arith, long_record))
+
+  slot_first : slot_in l first ≡ record_of p cpu 0
+  slot_first =
+      ap (λ a. map (block_at first) (range_with_len a (record_blocks p))) place_first
+      ∙ (let counted : length (map (block_at first) (range_with_len 2 (record_blocks p))) ≡ record_blocks p
+      = length-map-range_with_len (block_at first) 2 (record_blocks p) in
+      ext_get_or zero_block (map (block_at first) (range_with_len 2 (record_blocks p))) (record_of p cpu 0) (counted ∙ sym long_record)
+      (λ k below.
+      let l : k < record_blocks p = omega (arith, counted) in
+      get_or-map-range_with_len (block_at first) 2 (record_blocks p) k (2 + k) zero_block l refl ∙ record_first k l))
 
   -- block i of memory is at its place
-  block_first : (i : ℕ) → i < length memory → block_at first (copy_place p (epoch_of (block_at first 1)) + 5 + i) ≡ block_at memory i
+  block_first : (i : ℕ) → i < length memory → block_at first (copy_place p (epoch_of (block_at first 1)) + record_blocks p + i) ≡ block_at memory i
   unfolding behind
   block_first i inside =
-      ap (λ a. block_at first (a + 5 + i)) place_first
-      ∙ sym (get_or-drop 7 first i zero_block)
+      ap (λ a. block_at first (a + record_blocks p + i)) place_first
+      ∙ (let at : 2 + record_blocks p + i ≡ 2 + (length (record_of p cpu 0) + i) = omega (arith, long_record) in ap (block_at first) at)
+      ∙ sym (get_or-drop 2 first (length (record_of p cpu 0) + i) zero_block)
+      ∙ get_or-append-add (record_of p cpu 0) (memory ++ replicate (copy_blocks p) zero_block) i zero_block
       ∙ get_or_append_left memory (replicate (copy_blocks p) zero_block) zero_block i inside
 
   abbrev place_of : ℕ → ℕ
-  place_of i = copy_place p (epoch_of (block_at first 1)) + 5 + i
+  place_of i = copy_place p (epoch_of (block_at first 1)) + record_blocks p + i
 
   memory_first : memory_in l first ≡ memory
   memory_first =
@@ -130,7 +156,7 @@ module _ (p : Parameters) (cpu : CpuState) (memory : List Block) (long : length 
       All-cons Inside 0 (1 ∷ (places ++ more)) (omega arith)
       (All-cons Inside 1 (places ++ more) (omega arith)
       (All-append Inside places more
-      (All-range Inside (copy_place p (epoch_of (block_at first 1))) 5 (λ i low high. omega (arith, place_first)))
+      (All-range Inside (copy_place p (epoch_of (block_at first 1))) (record_blocks p) (λ i low high. omega (arith, place_first)))
       (All-map Inside place_of (range_with_len 0 (memory_blocks p))
       (All-range (λ i. Inside (place_of i)) 0 (memory_blocks p) (λ i low high. omega (arith, place_first))))))
 
@@ -142,7 +168,7 @@ module _ (p : Parameters) (cpu : CpuState) (memory : List Block) (long : length 
   decodes_first : IsInRange p → IsRecordable p ceiling cpu → decode_by l first ≡ At 0 (state_from p cpu memory)
   decodes_first range r =
       decode_by-written p ceiling cpu 0 first range r (omega arith) (omega arith) length-body is_zero-zero_block refl
-      (subst (IsRecordOf cpu 0) (sym slot_first) (IsRecordOf-record_of cpu 0))
+      (subst (IsRecordOf p cpu 0) (sym slot_first) (IsRecordOf-record_of p cpu 0))
       ∙ ap (λ bs. At 0 (state_from p cpu bs)) memory_first
 
 -- ---- the moves that make it

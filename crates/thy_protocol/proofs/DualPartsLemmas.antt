@@ -82,10 +82,10 @@ module _ (p : Parameters) (ceiling : ℕ) (cpu : CpuState) (t : Tables) (counts 
   pub tables_are : tables_in p slot ≡ t
   tables_are = tables_in-back p cpu t counts epoch slot range tables slot_is
 
-  pub cpu_is : cpu_of_record slot ≡ cpu
+  pub cpu_is : cpu_of_record p slot ≡ cpu
   cpu_is =
       let room : console_room p < 2 ^ 64 = omega arith in
-      cpu_back cpu epoch slot (FitsRecord-recordable p ceiling cpu epoch recordable room most small) (BeginsWithRecord-slot p cpu t counts epoch slot slot_is)
+      cpu_back p cpu epoch slot (FitsRecord-recordable p ceiling cpu epoch range recordable room most small) (BeginsWithRecord-slot p cpu t counts epoch slot slot_is)
 
   pub parts_of : ArePartsOf (dual_layouts p ceiling) (commit_of epoch) (parts_by p cpu t counts epoch)
   parts_of = record {
@@ -127,7 +127,7 @@ issued_decodes p ceiling n cpu t counts epoch memory range recordable most below
       };
       counted = ap (counts_in VersionTwo p) all.slot
           ∙ counts_back p cpu t counts epoch (slot_of (parts_by p cpu t counts epoch)) (slot_is p ceiling cpu t counts epoch range recordable most below h.tables h.counts_are);
-      decodes = all.decodes ∙ ap (λ (e : ℕ). At e (state_from p (cpu_of_record (slot_of (parts_by p cpu t counts epoch))) memory)) epoch_same
+      decodes = all.decodes ∙ ap (λ (e : ℕ). At e (state_from p (cpu_of_record p (slot_of (parts_by p cpu t counts epoch))) memory)) epoch_same
           ∙ ap (λ (c : CpuState). At epoch (state_from p c memory)) (cpu_is p ceiling cpu t counts epoch range recordable most below h.tables h.counts_are);
       issued = all.issued;
     }

@@ -1,12 +1,12 @@
 -- An image of version 1 is migrated: its checkpoint in version 2 is the next image, once its slot was issued.
-use Rattle.std.proofs.Common.{◌≡◌, ℕ, ◌+◌, ◌%◌, ◌^◌, ◌<◌, ◌≤◌, true, List, length, None, ◌∙◌, ap, arith}
+use Rattle.std.proofs.Common.{◌≡◌, ℕ, ◌+◌, ◌*◌, ◌%◌, ◌^◌, ◌<◌, ◌≤◌, true, List, length, None, ◌∙◌, ap, arith}
 use Rattle.std.specs.Option.{option_or}
 use Rattle.std.proofs.lemmas.List.FromFn.{length-map-range_with_len, get_or-map-range_with_len}
 use Rattle.thy_base.specs.declared.block.Block.{Block}
 use Rattle.thy_base.specs.declared.config.Parameters.{Parameters}
 use Rattle.thy_base.specs.declared.layout_version.LayoutVersion.TheVariants.{VersionOne, VersionTwo}
 use Rattle.thy_base.specs.Device.{Device, block_at, newest, zero_block}
-use Rattle.thy_base.specs.Places.{blocks_of_slot, place_of_slot, slot_blocks, slot_place, image_blocks}
+use Rattle.thy_base.specs.Places.{record_blocks, blocks_of_slot, place_of_slot, slot_blocks, slot_place, image_blocks}
 use Rattle.thy_isa.specs.declared.state.CpuState.{CpuState}
 use Rattle.thy_isa.specs.OnBlocks.{state_from}
 use Rattle.thy_record.specs.Commit.{commit_of, epoch_of, version_of, commit_fault}
@@ -15,7 +15,7 @@ use Rattle.thy_record.specs.Decoded.{At}
 use Rattle.thy_record.specs.Header.{header_fault}
 use Rattle.thy_record.specs.Images.{memory_numbers}
 use Rattle.thy_record.specs.Migrated.{IsWrittenAnew, MeansTheSame}
-use Rattle.thy_record.specs.Slots.{tables_in, counts_in, epoch_fault, status_fault, count_fault, slot_fault}
+use Rattle.thy_record.specs.Slots.{tables_in, counts_in, epoch_fault, status_fault, rest_fault, slot_fault}
 use Rattle.thy_record.specs.Tables.{IsTables}
 use Rattle.thy_record.specs.TableFaults.{tables_fault}
 use Rattle.thy_record.proofs.IssuingLemmas.{memory_between, slot_of_memory, half}
@@ -36,11 +36,11 @@ pub tables_of_slot : (p : Parameters) (ceiling epoch : ℕ) (slot : List Block) 
 unfolding slot_fault
 tables_of_slot p ceiling epoch slot none =
     let parts = neither (epoch_fault epoch slot)
-    (option_or (tables_fault p (tables_in p slot)) (option_or (status_fault p ceiling slot) (count_fault VersionOne p slot))) none in
-    let tables = neither (tables_fault p (tables_in p slot)) (option_or (status_fault p ceiling slot) (count_fault VersionOne p slot)) parts.1 in
+    (option_or (tables_fault p (tables_in p slot)) (option_or (status_fault p ceiling slot) (rest_fault VersionOne p slot))) none in
+    let tables = neither (tables_fault p (tables_in p slot)) (option_or (status_fault p ceiling slot) (rest_fault VersionOne p slot)) parts.1 in
     IsTables-faultless p (tables_in p slot) (record {
-      btt_length = length-entries_in slot 40 p.btt;
-      ptt_length = length-entries_in slot (40 + p.btt) p.ptt;
+      btt_length = length-entries_in slot (8 * record_blocks p) p.btt;
+      ptt_length = length-entries_in slot (8 * record_blocks p + p.btt) p.ptt;
       none = tables.0;
     })
 
@@ -112,7 +112,7 @@ module _ (p : Parameters) (ceiling epoch : ℕ) (slot : List Block) (most : ceil
         whole = tables_of_slot p ceiling epoch slot none;
       };
       counted = ap (counts_in VersionTwo p) all.slot ∙ same.no_counts;
-      decodes = all.decodes ∙ ap (λ (e : ℕ). At e (state_from p (cpu_of_record anew) memory)) epoch_is
+      decodes = all.decodes ∙ ap (λ (e : ℕ). At e (state_from p (cpu_of_record p anew) memory)) epoch_is
           ∙ ap (λ (c : CpuState). At epoch (state_from p c memory)) same.cpu_same;
       issued = all.issued;
     }

@@ -38,7 +38,7 @@ alternating p ceiling = record {
   header_bad = λ header sized. if is_zero header && sized then None else Some Header;
   commit_bad = λ header commit. commit_fault header commit ceiling;
   slot_bad = λ commit slot. record_fault slot (epoch_of commit) p ceiling;
-  state_from = λ slot memory. state_from p (cpu_of_record slot) memory;
+  state_from = λ slot memory. state_from p (cpu_of_record p slot) memory;
 }
 
 -- an image with a processor's record in the copy of an epoch decodes to that epoch, that processor and the copy's memory
@@ -47,7 +47,7 @@ WrittenDecodes =
     (p : Parameters) (ceiling : ℕ) (cpu : CpuState) (epoch : ℕ) (g : List Block)
     → IsInRange p → IsRecordable p ceiling cpu → ceiling ≤ 2 ^ 64 → epoch < ceiling
     → length g ≡ 2 + 2 * copy_blocks p → is_zero (block_at g 0) ≡ true → block_at g 1 ≡ commit_of epoch
-    → IsRecordOf cpu epoch (slot_in (alternating p ceiling) g)
+    → IsRecordOf p cpu epoch (slot_in (alternating p ceiling) g)
     → decode_by (alternating p ceiling) g ≡ At epoch (state_from p cpu (memory_in (alternating p ceiling) g))
 
 -- from a device some moves reach the checkpoint of the start, as that of epoch 0

@@ -33,7 +33,7 @@ migrated_parts p slot epoch = record {
 pub record IsMigrated (p : Parameters) (ceiling : ℕ) (n : Device) (slot : List Block) (epoch : ℕ) (memory : List Block) : Type 0 where
   pub told : IsToldBy p (next_image n (commit_of epoch)) VersionTwo epoch (tables_in p slot)
   pub counted : counts_in VersionTwo p (slot_in p (next_image n (commit_of epoch))) ≡ replicate p.pages 0
-  pub decodes : decode_by (dual_layouts p ceiling) (next_image n (commit_of epoch)) ≡ At epoch (state_from p (cpu_of_record slot) memory)
+  pub decodes : decode_by (dual_layouts p ceiling) (next_image n (commit_of epoch)) ≡ At epoch (state_from p (cpu_of_record p slot) memory)
   pub issued : IsIssued (looked_by (dual_layouts p ceiling)) n (next_image n (commit_of epoch))
 
 -- once its whole slot was issued, behind a header that has no fault, from a slot that has none

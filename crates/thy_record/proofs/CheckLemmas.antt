@@ -17,39 +17,47 @@ use Rattle.thy_record.specs.Decoded.{Nothing, Refused}
 use Rattle.thy_record.specs.Files.{blocks_of, is_long_file, decode_file, found_in}
 use Rattle.thy_record.specs.Header.{header_fault}
 use Rattle.thy_record.specs.Images.{slot_in, state_in, image_fault, refused_or_at, decode_with}
-use Rattle.thy_record.specs.Slots.{tables_in, epoch_fault, status_fault, count_fault, slot_fault}
+use Rattle.thy_record.specs.Slots.{tables_in, epoch_fault, status_fault, head_fault, count_fault, second_fault, slot_fault}
 use Rattle.thy_record.specs.TableFaults.{tables_fault}
 
 -- ---- a slot
 
-pub slot_epoch : (version : LayoutVersion) (p : Parameters) (ceiling epoch : ℕ) (slot : List Block) (w : ℕ) → w ≡ record_word slot 38 → (w ≡ epoch → ⊥)
-    → Some Commit ≡ slot_fault version p ceiling epoch slot
-unfolding slot_fault
-slot_epoch version p ceiling epoch slot w is other =
-    sym (ap (λ b. option_or (if b then None else Some Commit)
-    (option_or (tables_fault p (tables_in p slot)) (option_or (status_fault p ceiling slot) (count_fault version p slot))))
+pub head_epoch : (p : Parameters) (ceiling epoch : ℕ) (slot : List Block) (w : ℕ) → w ≡ record_word slot 38 → (w ≡ epoch → ⊥)
+    → Some Commit ≡ head_fault p ceiling epoch slot
+head_epoch p ceiling epoch slot w is other =
+    sym (ap (λ b. option_or (if b then None else Some Commit) (option_or (tables_fault p (tables_in p slot)) (status_fault p ceiling slot)))
     (ap (λ x. x == epoch) (sym is) ∙ ne_eqb w epoch other))
 
 of_epoch : (epoch : ℕ) (slot : List Block) (w : ℕ) → w ≡ record_word slot 38 → w ≡ epoch → epoch_fault epoch slot ≡ None
 of_epoch epoch slot w is same = ap (λ b. if b then None else Some Commit) (ap (λ x. x == epoch) (sym is) ∙ eq-eqb w epoch same)
 
-pub slot_tables : (version : LayoutVersion) (p : Parameters) (ceiling epoch : ℕ) (slot : List Block) (w : ℕ) (bad : BadImage) → w ≡ record_word slot 38 → w ≡ epoch
-    → Some bad ≡ tables_fault p (tables_in p slot) → Some bad ≡ slot_fault version p ceiling epoch slot
-unfolding slot_fault
-slot_tables version p ceiling epoch slot w bad is same h =
-    ap (λ x. option_or x (option_or (status_fault p ceiling slot) (count_fault version p slot))) h
-    ∙ sym (ap (λ x. option_or x (option_or (tables_fault p (tables_in p slot)) (option_or (status_fault p ceiling slot) (count_fault version p slot))))
-    (of_epoch epoch slot w is same))
+pub head_tables : (p : Parameters) (ceiling epoch : ℕ) (slot : List Block) (w : ℕ) (bad : BadImage) → w ≡ record_word slot 38 → w ≡ epoch
+    → Some bad ≡ tables_fault p (tables_in p slot) → Some bad ≡ head_fault p ceiling epoch slot
+head_tables p ceiling epoch slot w bad is same h =
+    ap (λ x. option_or x (status_fault p ceiling slot)) h
+    ∙ sym (ap (λ x. option_or x (option_or (tables_fault p (tables_in p slot)) (status_fault p ceiling slot))) (of_epoch epoch slot w is same))
 
-pub slot_status : (version : LayoutVersion) (p : Parameters) (ceiling epoch : ℕ) (slot : List Block) (w : ℕ) (found : Option BadImage) → w ≡ record_word slot 38 → w ≡ epoch
-    → None ≡ tables_fault p (tables_in p slot) → found ≡ option_or (status_fault p ceiling slot) (count_fault version p slot)
-    → found ≡ slot_fault version p ceiling epoch slot
-unfolding slot_fault
-slot_status version p ceiling epoch slot w found is same h k =
+pub head_status : (p : Parameters) (ceiling epoch : ℕ) (slot : List Block) (w : ℕ) (found : Option BadImage) → w ≡ record_word slot 38 → w ≡ epoch
+    → None ≡ tables_fault p (tables_in p slot) → found ≡ status_fault p ceiling slot → found ≡ head_fault p ceiling epoch slot
+head_status p ceiling epoch slot w found is same h k =
     k
-    ∙ ap (λ x. option_or x (option_or (status_fault p ceiling slot) (count_fault version p slot))) h
-    ∙ sym (ap (λ x. option_or x (option_or (tables_fault p (tables_in p slot)) (option_or (status_fault p ceiling slot) (count_fault version p slot))))
-    (of_epoch epoch slot w is same))
+    ∙ ap (λ x. option_or x (status_fault p ceiling slot)) h
+    ∙ sym (ap (λ x. option_or x (option_or (tables_fault p (tables_in p slot)) (status_fault p ceiling slot))) (of_epoch epoch slot w is same))
+
+-- the first of five is that of the first three, or else that of the last two
+grouped : {X : Type 0} (a b c d e : Option X)
+    → option_or (option_or (option_or a (option_or b c)) d) e ≡ option_or a (option_or b (option_or c (option_or d e)))
+grouped (Some x) b c d e = refl
+grouped None (Some x) c d e = refl
+grouped None None (Some x) d e = refl
+grouped None None None d e = refl
+
+-- record and tables, then the counts, then the other hart's words
+pub slot_fault-parts : (version : LayoutVersion) (p : Parameters) (ceiling epoch : ℕ) (slot : List Block)
+    → option_or (option_or (head_fault p ceiling epoch slot) (count_fault version p slot)) (second_fault p slot) ≡ slot_fault version p ceiling epoch slot
+unfolding slot_fault
+slot_fault-parts version p ceiling epoch slot =
+    grouped (epoch_fault epoch slot) (tables_fault p (tables_in p slot)) (status_fault p ceiling slot) (count_fault version p slot) (second_fault p slot)
 
 -- ---- an image
 

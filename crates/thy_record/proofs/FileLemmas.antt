@@ -146,11 +146,11 @@ slot_in_file p bytes commit s h is l =
 pub count_byte-blocks_of : (p : Parameters) (bytes : List ℕ) (i x : ℕ) → length bytes ≡ 64 * blocks_of_slot VersionTwo p → i < 64 * count_blocks p
     → x ≡ 64 * (record_blocks p + table_blocks p) + i → slice_index_or bytes x 0 ≡ count_byte p (blocks_of bytes) i
 count_byte-blocks_of p bytes i x long l is =
-    let at : x ≡ 64 * (5 + table_blocks p + i / 64) + i % 64 = omega arith in
+    let at : x ≡ 64 * (record_blocks p + table_blocks p + i / 64) + i % 64 = omega arith in
     ap (λ y. slice_index_or bytes y 0) at
-    ∙ sym (ap (λ (b : Block). slice_index_or b.0 (i % 64) 0) (block_at-blocks_of bytes (5 + table_blocks p + i / 64) (omega arith))
-    ∙ get_or-take 64 (drop (64 * (5 + table_blocks p + i / 64)) bytes) (i % 64) 0 (omega arith)
-    ∙ get_or-drop (64 * (5 + table_blocks p + i / 64)) bytes (i % 64) 0)
+    ∙ sym (ap (λ (b : Block). slice_index_or b.0 (i % 64) 0) (block_at-blocks_of bytes (record_blocks p + table_blocks p + i / 64) (omega arith))
+    ∙ get_or-take 64 (drop (64 * (record_blocks p + table_blocks p + i / 64)) bytes) (i % 64) 0 (omega arith)
+    ∙ get_or-drop (64 * (record_blocks p + table_blocks p + i / 64)) bytes (i % 64) 0)
 
 -- ---- as the code cuts the bytes
 

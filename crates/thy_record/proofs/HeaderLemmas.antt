@@ -6,7 +6,7 @@ use Rattle.thy_base.specs.declared.config.Parameters.{Parameters}
 use Rattle.thy_base.specs.Geometry.{IsInRange}
 use Rattle.thy_record.specs.declared.bad_image.BadImage.TheVariants.{Header, Version, Geometry}
 use Rattle.thy_base.specs.Words.{word_of}
-use Rattle.thy_record.specs.Header.{header_magic, header_words, header_of, is_of_geometry, is_of_version, header_fault}
+use Rattle.thy_record.specs.Header.{header_magic, harts_word, header_words, header_of, is_of_geometry, is_of_version, header_fault}
 use Rattle.thy_base.proofs.WordLemmas.{word_of-block_of}
 use Rattle.thy_record.proofs.ReadBackLemmas.{taken, both, three}
 
@@ -23,7 +23,7 @@ is_of_geometry-header_of p r =
     (three _ _ _
     (eq-eqb _ _ (header_word p 5 p.btt (omega arith) refl (omega arith)))
     (eq-eqb _ _ (header_word p 6 p.ptt (omega arith) refl (omega arith)))
-    (eq-eqb _ _ (header_word p 7 0 (omega arith) refl (omega arith))))
+    (eq-eqb _ _ (header_word p 7 (harts_word p) (omega arith) refl (omega arith))))
 
 is_of_version-header_of : (p : Parameters) → is_of_version (header_of p) ≡ true
 is_of_version-header_of p = ap (λ w. w == 1 || w == 2) (header_word p 1 2 (omega arith) refl (omega arith))

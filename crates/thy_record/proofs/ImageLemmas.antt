@@ -1,5 +1,5 @@
 -- What an image decodes to, by its parts.
-use Rattle.std.proofs.Common.{◌≡◌, ℕ, ◌+◌, ◌%◌, ◌^◌, ◌<◌, ◌≤◌, ◌-◌, ◌==◌, ◌&&◌, ◌||◌, Bool, true, false, nat_lt, nat_le, if◌then◌else◌, List, [], ◌∷◌, ◌++◌, length, map, replicate, Contains, Option, Some, None, refl, sym, ◌∙◌, ap, subst, inl, inr, arith}
+use Rattle.std.proofs.Common.{◌≡◌, ℕ, ◌+◌, ◌*◌, ◌%◌, ◌^◌, ◌<◌, ◌≤◌, ◌-◌, ◌==◌, ◌&&◌, ◌||◌, Bool, true, false, nat_lt, nat_le, if◌then◌else◌, List, [], ◌∷◌, ◌++◌, length, map, replicate, Contains, Option, Some, None, refl, sym, ◌∙◌, ap, subst, inl, inr, arith}
 use Rattle.std.proofs.lemmas.Bool.{cases_lt, eq-eqb, lt-ltb, ltb-true}
 use Rattle.std.proofs.lemmas.List.{length-map, length-append, length-replicate, get_or-map, get_or-replicate, get_or_past, get_or_append_left, get_or-append-add, ext_get_or}
 use Rattle.std.proofs.lemmas.List.Elements.{Contains-get_or, Contains-append_left, Contains-append_right, Contains-push}
@@ -12,7 +12,7 @@ use Rattle.thy_base.specs.declared.layout_version.LayoutVersion.{LayoutVersion}
 use Rattle.thy_base.specs.declared.layout_version.LayoutVersion.TheVariants.{VersionTwo}
 use Rattle.thy_base.specs.Device.{zero_block, block_at}
 use Rattle.thy_base.specs.Geometry.{IsInRange, console_room}
-use Rattle.thy_base.specs.Places.{blocks_of_slot, place_of_slot, blocks_one, slot_place, image_blocks}
+use Rattle.thy_base.specs.Places.{record_blocks, blocks_of_slot, place_of_slot, blocks_one, slot_place, image_blocks}
 use Rattle.thy_isa.specs.declared.state.CpuState.{CpuState}
 use Rattle.thy_isa.specs.Step.{State}
 use Rattle.thy_record.specs.declared.bad_image.BadImage.{BadImage}
@@ -24,7 +24,7 @@ use Rattle.thy_isa.specs.OnBlocks.{state_from}
 use Rattle.thy_record.specs.Header.{header_fault}
 use Rattle.thy_record.specs.Images.{slot_numbers, slot_in, memory_numbers, memory_in, state_in, image_fault, refused_or_at, decode_with, is_one, is_long, decode_image}
 use Rattle.thy_record.specs.ImageLaws.{HasCheckpoint, IsDecoded, IsAlike}
-use Rattle.thy_record.specs.Slots.{AreCounts, IsSlotOf, tables_in, epoch_fault, status_fault, count_fault, slot_fault}
+use Rattle.thy_record.specs.Slots.{AreCounts, IsSlotOf, tables_in, epoch_fault, status_fault, second_fault, cpu_fault, rest_fault, slot_fault}
 use Rattle.thy_record.specs.Tables.{Tables, IsTables}
 use Rattle.thy_record.specs.TableFaults.{tables_fault}
 use Rattle.thy_record.proofs.HeaderLemmas.{header_fault-long}
@@ -110,7 +110,7 @@ decode-written p ceiling cpu t counts epoch image r recordable s are most below 
     ∙ slot_fault-back p ceiling cpu t counts epoch (slot_in p image) r recordable s are most fits slot))
     of_epoch
     (ap (λ c. state_from p c (memory_in p (tables_in p (slot_in p image)) image))
-    (cpu_back cpu epoch (slot_in p image) (FitsRecord-recordable p ceiling cpu epoch recordable room most fits)
+    (cpu_back p cpu epoch (slot_in p image) (FitsRecord-recordable p ceiling cpu epoch r recordable room most fits)
     (BeginsWithRecord-slot p cpu t counts epoch (slot_in p image) slot))
     ∙ ap (λ u. state_from p cpu (memory_in p u image)) (tables_in-back p cpu t counts epoch (slot_in p image) r s slot))
 
@@ -136,9 +136,9 @@ IsDecoded-at p ceiling image epoch state h =
     (slot_fault (version_of (block_at image 1)) p ceiling (epoch_of (block_at image 1)) (slot_in p image)) header.1 in
     let parts = neither (epoch_fault (epoch_of (block_at image 1)) (slot_in p image))
     (option_or (tables_fault p (tables_in p (slot_in p image)))
-    (option_or (status_fault p ceiling (slot_in p image)) (count_fault (version_of (block_at image 1)) p (slot_in p image)))) rest.1 in
+    (option_or (status_fault p ceiling (slot_in p image)) (rest_fault (version_of (block_at image 1)) p (slot_in p image)))) rest.1 in
     let tables = neither (tables_fault p (tables_in p (slot_in p image)))
-    (option_or (status_fault p ceiling (slot_in p image)) (count_fault (version_of (block_at image 1)) p (slot_in p image))) parts.1 in
+    (option_or (status_fault p ceiling (slot_in p image)) (rest_fault (version_of (block_at image 1)) p (slot_in p image))) parts.1 in
     let long : is_long p (block_at image 1) (length image) ≡ true
     = header_fault-long (block_at image 0) p (is_long p (block_at image 1) (length image)) header.0 in
     record {
@@ -152,8 +152,8 @@ IsDecoded-at p ceiling image epoch state h =
         state_is = found.3;
       };
       tables = IsTables-faultless p (tables_in p (slot_in p image)) (record {
-        btt_length = length-entries_in (slot_in p image) 40 p.btt;
-        ptt_length = length-entries_in (slot_in p image) (40 + p.btt) p.ptt;
+        btt_length = length-entries_in (slot_in p image) (8 * record_blocks p) p.btt;
+        ptt_length = length-entries_in (slot_in p image) (8 * record_blocks p + p.btt) p.ptt;
         none = tables.0;
       });
     }
@@ -187,9 +187,9 @@ alike-parts p ceiling long g h zero_same one slot memory =
     (epoch_of (block_at h 1)) (state_in p g)) zero_same
     ∙ ap (λ s. if is_zero (block_at h 1) then Nothing else refused_or_at (option_or (header_fault (block_at h 0) p long)
     (option_or (commit_fault (block_at h 0) (block_at h 1) ceiling) (slot_fault (version_of (block_at h 1)) p ceiling (epoch_of (block_at h 1)) s)))
-    (epoch_of (block_at h 1)) (state_from p (cpu_of_record s) (memory_in p (tables_in p s) g))) slot
+    (epoch_of (block_at h 1)) (state_from p (cpu_of_record p s) (memory_in p (tables_in p s) g))) slot
     ∙ ap (λ m. if is_zero (block_at h 1) then Nothing else refused_or_at (image_fault p ceiling long h) (epoch_of (block_at h 1))
-    (state_from p (cpu_of_record (slot_in p h)) m)) memory
+    (state_from p (cpu_of_record p (slot_in p h)) m)) memory
 
 first_of_all : (rest : List ℕ) → Contains (0 ∷ 1 ∷ rest) 0
 first_of_all rest = Contains-append_left (0 ∷ []) (1 ∷ rest) 0 (Contains-push [] 0)
@@ -300,14 +300,19 @@ status_fault-higher p slot low high most h =
     status_gives (is_status (record_word slot 36) (record_word slot 37)) (nat_lt (record_word slot 32) high) (nat_le (record_word slot 34) (console_room p))
     asks.0 (below_higher (record_word slot 32) low high most asks.1) asks.2
 
+pub cpu_fault-higher : (p : Parameters) (slot : List Block) (low high : ℕ) → low ≤ high → cpu_fault p low slot ≡ None → cpu_fault p high slot ≡ None
+cpu_fault-higher p slot low high most h =
+    let both = neither (status_fault p low slot) (second_fault p slot) h in
+    both_none _ _ (status_fault-higher p slot low high most both.0) both.1
+
 slot_fault-higher : (version : LayoutVersion) (p : Parameters) (slot : List Block) (epoch low high : ℕ) → low ≤ high
     → slot_fault version p low epoch slot ≡ None → slot_fault version p high epoch slot ≡ None
 unfolding slot_fault
 slot_fault-higher version p slot epoch low high most h =
     let parts = neither (epoch_fault epoch slot)
-    (option_or (tables_fault p (tables_in p slot)) (option_or (status_fault p low slot) (count_fault version p slot))) h in
-    let tables = neither (tables_fault p (tables_in p slot)) (option_or (status_fault p low slot) (count_fault version p slot)) parts.1 in
-    let status = neither (status_fault p low slot) (count_fault version p slot) tables.1 in
+    (option_or (tables_fault p (tables_in p slot)) (option_or (status_fault p low slot) (rest_fault version p slot))) h in
+    let tables = neither (tables_fault p (tables_in p slot)) (option_or (status_fault p low slot) (rest_fault version p slot)) parts.1 in
+    let status = neither (status_fault p low slot) (rest_fault version p slot) tables.1 in
     all_none _ _ _ parts.0 tables.0 (both_none _ _ (status_fault-higher p slot low high most status.0) status.1)
 
 pub decode-higher : (p : Parameters) (low high : ℕ) (image : List Block) (epoch : ℕ) (state : State) → low ≤ high

@@ -1,5 +1,5 @@
 -- A slot of version 1 that is written anew in version 2 means the same.
-use Rattle.std.proofs.Common.{◌≡◌, ℕ, ◌+◌, ◌*◌, ◌/◌, ◌%◌, ◌<◌, ◌==◌, ◌&&◌, nat_lt, nat_le, if◌then◌else◌, List, ◌∷◌, map, replicate, slice_index_or, Option, Some, None, sym, ◌∙◌, ap, inl, inr, arith}
+use Rattle.std.proofs.Common.{◌≡◌, ℕ, ◌+◌, ◌*◌, ◌/◌, ◌%◌, ◌<◌, ◌==◌, ◌&&◌, ◌||◌, Bool, nat_lt, nat_le, if◌then◌else◌, List, ◌∷◌, map, replicate, slice_index_or, Option, Some, None, sym, ◌∙◌, ap, inl, inr, arith}
 use Rattle.std.proofs.lemmas.Bool.{cases_lt}
 use Rattle.std.proofs.lemmas.List.{length-replicate, get_or-replicate, get_or_past, ext_get_or}
 use Rattle.std.proofs.lemmas.List.FromFn.{length-map-range_with_len, get_or-map-range_with_len}
@@ -10,19 +10,20 @@ use Rattle.thy_base.specs.declared.config.Parameters.{Parameters}
 use Rattle.thy_base.specs.declared.layout_version.LayoutVersion.TheVariants.{VersionOne, VersionTwo}
 use Rattle.thy_base.specs.Device.{zero_block, block_at}
 use Rattle.thy_base.specs.Geometry.{console_room}
-use Rattle.thy_base.specs.Places.{table_blocks, count_blocks, slot_blocks}
+use Rattle.thy_base.specs.Places.{record_blocks, table_blocks, count_blocks, slot_blocks}
 use Rattle.thy_base.specs.Words.{word_of}
+use Rattle.thy_isa.specs.declared.state.OtherHart.{OtherHart}
 use Rattle.thy_record.specs.declared.bad_image.BadImage.{BadImage}
-use Rattle.thy_record.specs.declared.bad_image.BadImage.TheVariants.{Commit, Status as BadStatus, ConsoleLength, Count}
-use Rattle.thy_record.specs.Cpu.{status_of, is_status, record_word, record_words, cpu_of_record}
+use Rattle.thy_record.specs.declared.bad_image.BadImage.TheVariants.{Commit, Status as BadStatus, ConsoleLength, Count, Second}
+use Rattle.thy_record.specs.Cpu.{status_of, reservation_of, is_status, is_width, record_word, record_words, other_of_record, cpu_of_record}
 use Rattle.thy_record.specs.Migrated.{IsWrittenAnew, AnewMeansTheSame}
-use Rattle.thy_record.specs.Slots.{entries_in, tables_in, count_byte, counts_in, is_bad_count, count_fault, epoch_fault, status_fault, slot_fault}
+use Rattle.thy_record.specs.Slots.{entries_in, tables_in, count_byte, counts_in, is_bad_count, count_fault, epoch_fault, status_fault, second_fault, rest_fault, slot_fault}
 use Rattle.thy_record.specs.TableFaults.{tables_fault}
 use Rattle.thy_record.specs.Tables.{Tables}
 use Rattle.thy_record.specs.TableBlocks.{entry_from}
 use Rattle.thy_record.proofs.CountLemmas.{no_position, fine_count}
 use Rattle.thy_record.proofs.CpuLemmas.{record_words-at, length-record_words}
-use Rattle.thy_record.proofs.ReadBackLemmas.{no_other, same_cpu}
+use Rattle.thy_record.proofs.ReadBackLemmas.{same_other, same_cpu}
 use Rattle.thy_record.proofs.SlotLemmas.{length-entries_in, entry_at-entries_in}
 use Rattle.thy_record.proofs.TableFaultLemmas.{neither, both_none}
 
@@ -44,6 +45,9 @@ abbrev fault_of_status : ℕ → ℕ → ℕ → ℕ → ℕ → ℕ → Option 
 fault_of_status tag value count console ceiling room =
     if is_status tag value && nat_lt count ceiling then (if nat_le console room then None else Some ConsoleLength) else Some BadStatus
 
+abbrev second_test : ℕ → ℕ → ℕ → ℕ → ℕ → ℕ → Bool
+second_test a b c d e f = (is_width a && is_width b) && ((c == 0 && d == 0) && (e == 0 && f == 0))
+
 module _ (p : Parameters) (old new : List Block) (h : IsWrittenAnew p old new) where
   block_same : (k : ℕ) → block_at new k ≡ block_at old k
   block_same k = elim (cases_lt k (slot_blocks p)) as (λ _. block_at new k ≡ block_at old k) [
@@ -63,12 +67,20 @@ module _ (p : Parameters) (old new : List Block) (h : IsWrittenAnew p old new) w
       let l : k < n = omega (arith, left, below) in
       record_words-at new i n k l ∙ word_same (i + k) ∙ sym (record_words-at old i n k l))
 
-  cpu_same : cpu_of_record new ≡ cpu_of_record old
+  other_same : other_of_record new ≡ other_of_record old
+  unfolding other_of_record
+  other_same =
+      same_other _ _ _ _ _ _ _ _ (word_same 40) (ap (λ ws. 0 ∷ ws) (words_same 41 31))
+      (ap (λ w. reservation_of w (record_word new 73)) (word_same 72) ∙ ap (reservation_of (record_word old 72)) (word_same 73))
+      (ap (λ w. reservation_of w (record_word new 75)) (word_same 74) ∙ ap (reservation_of (record_word old 74)) (word_same 75))
+
+  cpu_same : cpu_of_record p new ≡ cpu_of_record p old
   unfolding cpu_of_record
   cpu_same =
       same_cpu _ _ _ _ _ _ _ _ _ _ _ _ _ _ _ _ _ _ (word_same 0) (ap (λ ws. 0 ∷ ws) (words_same 1 31)) (word_same 34) (word_same 33) (word_same 35)
       (word_same 39) (word_same 32)
-      (ap (λ t. status_of t (record_word new 37)) (word_same 36) ∙ ap (status_of (record_word old 36)) (word_same 37)) (no_other new old)
+      (ap (λ t. status_of t (record_word new 37)) (word_same 36) ∙ ap (status_of (record_word old 36)) (word_same 37))
+      (ap (λ (o : OtherHart). if p.harts == 2 then Some o else None) other_same)
 
   entries_same : (first n : ℕ) → entries_in new first n ≡ entries_in old first n
   entries_same first n =
@@ -80,14 +92,15 @@ module _ (p : Parameters) (old new : List Block) (h : IsWrittenAnew p old new) w
 
   tables_same : tables_in p new ≡ tables_in p old
   tables_same =
-      tables_of (entries_in new 40 p.btt) (entries_in new (40 + p.btt) p.ptt) (entries_in old 40 p.btt) (entries_in old (40 + p.btt) p.ptt)
-      (entries_same 40 p.btt) (entries_same (40 + p.btt) p.ptt)
+      tables_of (entries_in new (8 * record_blocks p) p.btt) (entries_in new (8 * record_blocks p + p.btt) p.ptt)
+      (entries_in old (8 * record_blocks p) p.btt) (entries_in old (8 * record_blocks p + p.btt) p.ptt)
+      (entries_same (8 * record_blocks p) p.btt) (entries_same (8 * record_blocks p + p.btt) p.ptt)
 
   -- every count is 0
   count_none : (i : ℕ) → count_byte p new i ≡ 0
   count_none i =
       ap (λ (b : Block). slice_index_or b.0 (i % 64) 0)
-      (block_same (5 + table_blocks p + i / 64) ∙ get_or_past old (5 + table_blocks p + i / 64) zero_block (omega (arith, h.short)))
+      (block_same (record_blocks p + table_blocks p + i / 64) ∙ get_or_past old (record_blocks p + table_blocks p + i / 64) zero_block (omega (arith, h.short)))
       ∙ zeros_at (i % 64)
 
   counts_none : counts_in VersionTwo p new ≡ replicate p.pages 0
@@ -103,17 +116,28 @@ module _ (p : Parameters) (old new : List Block) (h : IsWrittenAnew p old new) w
       ap (option_map Count) (no_position (is_bad_count p new) (64 * count_blocks p)
       (λ i l. fine_count (count_byte p new i) p.pages i (λ m. let none = count_none i in omega (arith, none)) (λ m. count_none i)))
 
+  second_same : second_fault p new ≡ second_fault p old
+  second_same =
+      ap (λ t. if p.harts == 1 || t then None else Some Second)
+      (ap (λ w. second_test w (record_word new 74) (record_word new 76) (record_word new 77) (record_word new 78) (record_word new 79)) (word_same 72)
+      ∙ ap (λ w. second_test (record_word old 72) w (record_word new 76) (record_word new 77) (record_word new 78) (record_word new 79)) (word_same 74)
+      ∙ ap (λ w. second_test (record_word old 72) (record_word old 74) w (record_word new 77) (record_word new 78) (record_word new 79)) (word_same 76)
+      ∙ ap (λ w. second_test (record_word old 72) (record_word old 74) (record_word old 76) w (record_word new 78) (record_word new 79)) (word_same 77)
+      ∙ ap (λ w. second_test (record_word old 72) (record_word old 74) (record_word old 76) (record_word old 77) w (record_word new 79)) (word_same 78)
+      ∙ ap (second_test (record_word old 72) (record_word old 74) (record_word old 76) (record_word old 77) (record_word old 78)) (word_same 79))
+
   -- each test says the same
   slot_fault-none : (ceiling epoch : ℕ) → slot_fault VersionOne p ceiling epoch old ≡ None → slot_fault VersionTwo p ceiling epoch new ≡ None
   unfolding slot_fault
   slot_fault-none ceiling epoch none =
       let parts = neither (epoch_fault epoch old)
-      (option_or (tables_fault p (tables_in p old)) (option_or (status_fault p ceiling old) (count_fault VersionOne p old))) none in
-      let tables = neither (tables_fault p (tables_in p old)) (option_or (status_fault p ceiling old) (count_fault VersionOne p old)) parts.1 in
-      let status = neither (status_fault p ceiling old) (count_fault VersionOne p old) tables.1 in
+      (option_or (tables_fault p (tables_in p old)) (option_or (status_fault p ceiling old) (rest_fault VersionOne p old))) none in
+      let tables = neither (tables_fault p (tables_in p old)) (option_or (status_fault p ceiling old) (rest_fault VersionOne p old)) parts.1 in
+      let status = neither (status_fault p ceiling old) (rest_fault VersionOne p old) tables.1 in
       both_none (epoch_fault epoch new) _ (epoch_same epoch ∙ parts.0)
       (both_none (tables_fault p (tables_in p new)) _ (ap (tables_fault p) tables_same ∙ tables.0)
-      (both_none (status_fault p ceiling new) _ (status_same ceiling ∙ status.0) count_fault-none))
+      (both_none (status_fault p ceiling new) _ (status_same ceiling ∙ status.0)
+      (both_none (count_fault VersionTwo p new) _ count_fault-none (second_same ∙ status.1))))
     where
       epoch_same : (epoch : ℕ) → epoch_fault epoch new ≡ epoch_fault epoch old
       epoch_same epoch = ap (λ w. fault_of_epoch w epoch) (word_same 38)

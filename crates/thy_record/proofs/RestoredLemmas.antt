@@ -19,49 +19,20 @@ use Rattle.thy_isa.specs.OnBlocks.{state_from}
 use Rattle.thy_isa.specs.Step.{State, state_with}
 use Rattle.thy_record.specs.declared.file.Found.TheVariants.{At as FoundAt}
 use Rattle.thy_record.specs.declared.bad_image.BadImage.TheVariants.{Empty}
-use Rattle.thy_base.specs.Words.{word_of}
 use Rattle.thy_record.specs.Commit.{is_zero, epoch_of, version_of}
-use Rattle.thy_record.specs.Cpu.{status_of, cpu_of_record, record_word, record_words}
 use Rattle.thy_record.specs.Decoded.{Decoded, Nothing, Refused, At}
 use Rattle.thy_record.specs.Files.{block_in, blocks_of, is_long_file, decode_file, found_in, HasCheckpointOf}
 use Rattle.thy_record.specs.Images.{slot_in, memory_numbers, memory_in, state_in, image_fault, decode_with, is_long, decode_image}
 use Rattle.thy_record.specs.Index.{AreInside}
 use Rattle.thy_record.specs.Slots.{tables_in}
 use Rattle.thy_record.specs.Tables.{Tables, place_of, IsTables}
-use Rattle.thy_record.proofs.CpuLemmas.{record_words-at, length-record_words}
 use Rattle.thy_record.proofs.EntryLemmas.{IsPlace-place_of, in_dram-place_of}
 use Rattle.thy_record.proofs.FileLemmas.{length-blocks_of, block_at-blocks_of, long_enough, HasLength-file}
 use Rattle.thy_record.proofs.HeaderLemmas.{header_fault-long}
 use Rattle.thy_record.proofs.ImageLemmas.{IsDecoded-at, at_back}
 use Rattle.thy_record.proofs.IssuingLemmas.{length-memory_numbers, memory_number}
-use Rattle.thy_record.proofs.ReadBackLemmas.{no_other, same_cpu}
 use Rattle.thy_record.proofs.TableFaultLemmas.{neither}
 use Rattle.thy_base.proofs.RangeLemmas.{console_below}
-
--- ---- the processor
-
-record_word-alike : (a b : List Block) (i : ℕ) → ((k : ℕ) → k < 5 → block_at a k ≡ block_at b k) → i < 40 → record_word a i ≡ record_word b i
-unfolding record_word
-record_word-alike a b i same l = ap (λ c. word_of c (i % 8)) (same (i / 8) (omega arith))
-
-record_words-alike : (a b : List Block) → ((k : ℕ) → k < 5 → block_at a k ≡ block_at b k) → record_words a 1 31 ≡ record_words b 1 31
-record_words-alike a b same =
-    let left = length-record_words a 1 31 in
-    let right = length-record_words b 1 31 in
-    ext_get_or 0 (record_words a 1 31) (record_words b 1 31) (left ∙ sym right)
-    (λ i below.
-    let l : i < 31 = omega (arith, left) in
-    record_words-at a 1 31 i l ∙ record_word-alike a b (1 + i) same (omega arith) ∙ sym (record_words-at b 1 31 i l))
-
--- blocks that begin alike have the same processor
-pub cpu_of_record-alike : (a b : List Block) → ((k : ℕ) → k < 5 → block_at a k ≡ block_at b k) → cpu_of_record a ≡ cpu_of_record b
-unfolding cpu_of_record
-cpu_of_record-alike a b same =
-    let word = λ (i : ℕ) (l : i < 40). record_word-alike a b i same l in
-    same_cpu _ _ _ _ _ _ _ _ _ _ _ _ _ _ _ _ _ _
-    (word 0 (omega arith)) (ap (λ ws. 0 ∷ ws) (record_words-alike a b same)) (word 34 (omega arith)) (word 33 (omega arith)) (word 35 (omega arith))
-    (word 39 (omega arith)) (word 32 (omega arith))
-    (ap (λ t. status_of t (record_word a 37)) (word 36 (omega arith)) ∙ ap (status_of (record_word b 36)) (word 37 (omega arith))) (no_other a b)
 
 -- ---- what a check has found
 

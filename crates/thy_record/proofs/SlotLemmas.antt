@@ -10,7 +10,7 @@ use Rattle.thy_base.specs.declared.config.Parameters.{Parameters}
 use Rattle.thy_base.specs.declared.layout_version.LayoutVersion.TheVariants.{VersionTwo}
 use Rattle.thy_base.specs.Device.{block_at}
 use Rattle.thy_base.specs.Geometry.{IsInRange, console_room}
-use Rattle.thy_base.specs.Places.{table_blocks, count_blocks}
+use Rattle.thy_base.specs.Places.{record_blocks, table_blocks, count_blocks}
 use Rattle.thy_isa.specs.declared.state.CpuState.{CpuState}
 use Rattle.thy_record.specs.declared.bad_image.BadImage.TheVariants.{Count}
 use Rattle.thy_record.specs.ImageLaws.{ReadsBack}
@@ -19,9 +19,9 @@ use Rattle.thy_record.specs.Cpu.{status_tag, cpu_block_of, is_status, record_wor
 use Rattle.thy_record.specs.Tables.{Tables, entry_at, Lists, IsTables}
 use Rattle.thy_record.specs.TableBlocks.{entry_word, entry_from, FitBlocks, table_words, table_block_of}
 use Rattle.thy_record.specs.TableFaults.{tables_fault}
-use Rattle.thy_record.specs.Slots.{slot_block_of, IsSlotOf, HasTableBlocks, entries_in, tables_in, byte_in, AreCounts, count_byte, counts_in, is_bad_count, count_fault, epoch_fault, status_fault, slot_fault}
+use Rattle.thy_record.specs.Slots.{slot_block_of, IsSlotOf, HasTableBlocks, entries_in, tables_in, byte_in, AreCounts, count_byte, counts_in, is_bad_count, count_fault, epoch_fault, status_fault, second_fault, cpu_fault, slot_fault}
 use Rattle.thy_base.proofs.WordLemmas.{word_of-block_of}
-use Rattle.thy_record.proofs.ReadBackLemmas.{taken, both, FitsRecord-recordable, rest_back, cpu_back, epoch_back}
+use Rattle.thy_record.proofs.ReadBackLemmas.{taken, both, FitsRecord-recordable, rest_back, cpu_back, epoch_back, second-back}
 use Rattle.thy_record.proofs.CountLemmas.{map-alike_numbers, no_position, fine_count}
 use Rattle.thy_record.proofs.TableLemmas.{entry_from-entry_word, entry_word-fits}
 use Rattle.thy_record.proofs.TableFaultLemmas.{both_none, IsFaultless-tables}
@@ -30,37 +30,41 @@ use Rattle.thy_base.proofs.RangeLemmas.{btt_eights, ptt_eights}
 -- ---- which block is which
 
 pub slot_block_of-record : (p : Parameters) (cpu : CpuState) (t : Tables) (counts : ℕ → Block) (epoch k : ℕ)
-    → k < 5 → slot_block_of p cpu t counts epoch k ≡ cpu_block_of cpu epoch k
+    → k < record_blocks p → slot_block_of p cpu t counts epoch k ≡ cpu_block_of cpu epoch k
 slot_block_of-record p cpu t counts epoch k l =
     ap (λ b. if b then cpu_block_of cpu epoch k
-    else (if nat_lt k (5 + table_blocks p) then table_block_of t (k - 5) else counts (k - (5 + table_blocks p)))) (lt-ltb k 5 l)
+    else (if nat_lt k (record_blocks p + table_blocks p) then table_block_of t (k - record_blocks p)
+    else counts (k - (record_blocks p + table_blocks p)))) (lt-ltb k (record_blocks p) l)
 
 pub slot_block_of-table : (p : Parameters) (cpu : CpuState) (t : Tables) (counts : ℕ → Block) (epoch k : ℕ)
-    → k < table_blocks p → slot_block_of p cpu t counts epoch (5 + k) ≡ table_block_of t k
+    → k < table_blocks p → slot_block_of p cpu t counts epoch (record_blocks p + k) ≡ table_block_of t k
 slot_block_of-table p cpu t counts epoch k l =
-    let e : 5 + k - 5 ≡ k = omega arith in
-    ap (λ b. if b then cpu_block_of cpu epoch (5 + k)
-    else (if nat_lt (5 + k) (5 + table_blocks p) then table_block_of t (5 + k - 5) else counts (5 + k - (5 + table_blocks p))))
-    (le-ltb (5 + k) 5 (omega arith))
-    ∙ ap (λ b. if b then table_block_of t (5 + k - 5) else counts (5 + k - (5 + table_blocks p)))
-    (lt-ltb (5 + k) (5 + table_blocks p) (omega arith))
+    let e : record_blocks p + k - record_blocks p ≡ k = omega arith in
+    ap (λ b. if b then cpu_block_of cpu epoch (record_blocks p + k)
+    else (if nat_lt (record_blocks p + k) (record_blocks p + table_blocks p) then table_block_of t (record_blocks p + k - record_blocks p)
+    else counts (record_blocks p + k - (record_blocks p + table_blocks p))))
+    (le-ltb (record_blocks p + k) (record_blocks p) (omega arith))
+    ∙ ap (λ b. if b then table_block_of t (record_blocks p + k - record_blocks p) else counts (record_blocks p + k - (record_blocks p + table_blocks p)))
+    (lt-ltb (record_blocks p + k) (record_blocks p + table_blocks p) (omega arith))
     ∙ ap (table_block_of t) e
 
 pub slot_block_of-count : (p : Parameters) (cpu : CpuState) (t : Tables) (counts : ℕ → Block) (epoch k : ℕ)
-    → slot_block_of p cpu t counts epoch (5 + table_blocks p + k) ≡ counts k
+    → slot_block_of p cpu t counts epoch (record_blocks p + table_blocks p + k) ≡ counts k
 slot_block_of-count p cpu t counts epoch k =
-    let at : ℕ = 5 + table_blocks p + k in
-    let e : 5 + table_blocks p + k - (5 + table_blocks p) ≡ k = omega arith in
-    ap (λ b. if b then cpu_block_of cpu epoch (5 + table_blocks p + k)
-    else (if nat_lt (5 + table_blocks p + k) (5 + table_blocks p) then table_block_of t (5 + table_blocks p + k - 5)
-    else counts (5 + table_blocks p + k - (5 + table_blocks p))))
-    (le-ltb (5 + table_blocks p + k) 5 (omega arith))
-    ∙ ap (λ b. if b then table_block_of t (5 + table_blocks p + k - 5) else counts (5 + table_blocks p + k - (5 + table_blocks p)))
-    (le-ltb (5 + table_blocks p + k) (5 + table_blocks p) (omega arith))
+    let at : ℕ = record_blocks p + table_blocks p + k in
+    let e : record_blocks p + table_blocks p + k - (record_blocks p + table_blocks p) ≡ k = omega arith in
+    ap (λ b. if b then cpu_block_of cpu epoch (record_blocks p + table_blocks p + k)
+    else (if nat_lt (record_blocks p + table_blocks p + k) (record_blocks p + table_blocks p)
+    then table_block_of t (record_blocks p + table_blocks p + k - record_blocks p)
+    else counts (record_blocks p + table_blocks p + k - (record_blocks p + table_blocks p))))
+    (le-ltb (record_blocks p + table_blocks p + k) (record_blocks p) (omega arith))
+    ∙ ap (λ b. if b then table_block_of t (record_blocks p + table_blocks p + k - record_blocks p)
+    else counts (record_blocks p + table_blocks p + k - (record_blocks p + table_blocks p)))
+    (le-ltb (record_blocks p + table_blocks p + k) (record_blocks p + table_blocks p) (omega arith))
     ∙ ap counts e
 
 pub BeginsWithRecord-slot : (p : Parameters) (cpu : CpuState) (t : Tables) (counts : ℕ → Block) (epoch : ℕ) (slot : List Block)
-    → IsSlotOf p cpu t counts epoch slot → BeginsWithRecord cpu epoch slot
+    → IsSlotOf p cpu t counts epoch slot → BeginsWithRecord p cpu epoch slot
 BeginsWithRecord-slot p cpu t counts epoch slot s = record {
   each = λ k l. s.each k (omega arith) ∙ slot_block_of-record p cpu t counts epoch k l;
 }
@@ -101,15 +105,15 @@ table_word p t m r fit l =
 -- an entry reads back from the slot
 entry_back : (p : Parameters) (t : Tables) (slot : List Block) (m : ℕ)
     → IsInRange p → FitBlocks p t → HasTableBlocks p t slot → m < p.btt + p.ptt
-    → entry_from (record_word slot (40 + m)) ≡ entry_at (t.btt ++ t.ptt) m
+    → entry_from (record_word slot (8 * record_blocks p + m)) ≡ entry_at (t.btt ++ t.ptt) m
 unfolding record_word
 entry_back p t slot m r fit of l =
     let btt8 : p.btt % 8 ≡ 0 = btt_eights p r in
     let ptt8 : p.ptt % 8 ≡ 0 = ptt_eights p r in
-    let block : (40 + m) / 8 ≡ 5 + m / 8 = omega arith in
-    let word : (40 + m) % 8 ≡ m % 8 = omega arith in
-    ap entry_from (ap (λ k. word_of (block_at slot k) ((40 + m) % 8)) block
-    ∙ ap (word_of (block_at slot (5 + m / 8))) word
+    let block : (8 * record_blocks p + m) / 8 ≡ record_blocks p + m / 8 = omega arith in
+    let word : (8 * record_blocks p + m) % 8 ≡ m % 8 = omega arith in
+    ap entry_from (ap (λ k. word_of (block_at slot k) ((8 * record_blocks p + m) % 8)) block
+    ∙ ap (word_of (block_at slot (record_blocks p + m / 8))) word
     ∙ ap (λ b. word_of b (m % 8)) (of.each (m / 8) (omega arith))
     ∙ table_word p t m r fit l)
     ∙ entry_from-entry_word (entry_at (t.btt ++ t.ptt) m)
@@ -134,12 +138,12 @@ tables_same a b c d h k = cc
 pub tables_back : (p : Parameters) (t : Tables) (slot : List Block)
     → IsInRange p → FitBlocks p t → HasTableBlocks p t slot → tables_in p slot ≡ t
 tables_back p t slot r fit of =
-    tables_same (entries_in slot 40 p.btt) (entries_in slot (40 + p.btt) p.ptt) t.btt t.ptt
-    (entries_back slot 40 p.btt t.btt fit.btt_length (λ i l.
+    tables_same (entries_in slot (8 * record_blocks p) p.btt) (entries_in slot (8 * record_blocks p + p.btt) p.ptt) t.btt t.ptt
+    (entries_back slot (8 * record_blocks p) p.btt t.btt fit.btt_length (λ i l.
     entry_back p t slot i r fit of (omega arith)
     ∙ get_or_append_left t.btt t.ptt None i (omega (arith, fit.btt_length))))
-    (entries_back slot (40 + p.btt) p.ptt t.ptt fit.ptt_length (λ j l.
-    let at : 40 + p.btt + j ≡ 40 + (p.btt + j) = omega arith in
+    (entries_back slot (8 * record_blocks p + p.btt) p.ptt t.ptt fit.ptt_length (λ j l.
+    let at : 8 * record_blocks p + p.btt + j ≡ 8 * record_blocks p + (p.btt + j) = omega arith in
     let from : p.btt + j ≡ length t.btt + j = omega (arith, fit.btt_length) in
     ap (λ x. entry_from (record_word slot x)) at
     ∙ entry_back p t slot (p.btt + j) r fit of (omega arith)
@@ -159,7 +163,7 @@ pub tables_in-back : (p : Parameters) (cpu : CpuState) (t : Tables) (counts : �
     → IsInRange p → IsTables p t → IsSlotOf p cpu t counts epoch slot → tables_in p slot ≡ t
 tables_in-back p cpu t counts epoch slot r s of =
     tables_back p t slot r (FitBlocks-tables p t r s)
-    (record { each = λ k l. of.each (5 + k) (omega arith) ∙ slot_block_of-table p cpu t counts epoch k l })
+    (record { each = λ k l. of.each (record_blocks p + k) (omega arith) ∙ slot_block_of-table p cpu t counts epoch k l })
 
 -- ---- the counts
 
@@ -167,7 +171,7 @@ count_byte-back : (p : Parameters) (cpu : CpuState) (t : Tables) (counts : ℕ �
     → IsSlotOf p cpu t counts epoch slot → i < 64 * count_blocks p → count_byte p slot i ≡ byte_in counts i
 count_byte-back p cpu t counts epoch slot i of l =
     ap (λ (b : Block). slice_index_or b.0 (i % 64) 0)
-    (of.each (5 + table_blocks p + i / 64) (omega arith) ∙ slot_block_of-count p cpu t counts epoch (i / 64))
+    (of.each (record_blocks p + table_blocks p + i / 64) (omega arith) ∙ slot_block_of-count p cpu t counts epoch (i / 64))
 
 -- the counts of the pages read back
 pub counts_back : (p : Parameters) (cpu : CpuState) (t : Tables) (counts : ℕ → Block) (epoch : ℕ) (slot : List Block)
@@ -187,18 +191,27 @@ count_fault-back p cpu t counts epoch slot are of =
 
 -- ---- its faults
 
-pub epoch_fault-back : (cpu : CpuState) (epoch : ℕ) (slot : List Block)
-    → FitsRecord cpu epoch → BeginsWithRecord cpu epoch slot → epoch_fault epoch slot ≡ None
-epoch_fault-back cpu epoch slot fits of = taken _ _ _ (eq-eqb _ _ (epoch_back cpu epoch slot fits of))
+pub epoch_fault-back : (p : Parameters) (cpu : CpuState) (epoch : ℕ) (slot : List Block)
+    → FitsRecord p cpu epoch → BeginsWithRecord p cpu epoch slot → epoch_fault epoch slot ≡ None
+epoch_fault-back p cpu epoch slot fits of = taken _ _ _ (eq-eqb _ _ (epoch_back p cpu epoch slot fits of))
 
 pub status_fault-back : (p : Parameters) (ceiling : ℕ) (cpu : CpuState) (epoch : ℕ) (slot : List Block)
-    → IsRecordable p ceiling cpu → FitsRecord cpu epoch → BeginsWithRecord cpu epoch slot → status_fault p ceiling slot ≡ None
+    → IsRecordable p ceiling cpu → FitsRecord p cpu epoch → BeginsWithRecord p cpu epoch slot → status_fault p ceiling slot ≡ None
 status_fault-back p ceiling cpu epoch slot r fits of =
-    let rest = λ (j : ℕ) (small : j < 8). rest_back cpu epoch slot j fits of small in
+    let rest = λ (j : ℕ) (small : j < 8). rest_back p cpu epoch slot j fits of small in
     taken _ _ _ (both _ _
     (ap (λ t. is_status t (record_word slot 37)) (rest 4 (omega arith)) ∙ ap (is_status (status_tag cpu.status)) (rest 5 (omega arith)) ∙ r.status)
     (lt-ltb _ _ (subst (λ x. x < ceiling) (sym (rest 0 (omega arith))) r.count)))
     ∙ taken _ _ _ (le-leb _ _ (subst (λ x. x ≤ console_room p) (sym (rest 2 (omega arith))) r.console))
+
+pub second_fault-back : (p : Parameters) (cpu : CpuState) (epoch : ℕ) (slot : List Block)
+    → FitsRecord p cpu epoch → BeginsWithRecord p cpu epoch slot → second_fault p slot ≡ None
+second_fault-back p cpu epoch slot fits of = taken _ _ _ (second-back p cpu epoch slot fits of)
+
+pub cpu_fault-back : (p : Parameters) (ceiling : ℕ) (cpu : CpuState) (epoch : ℕ) (slot : List Block)
+    → IsRecordable p ceiling cpu → FitsRecord p cpu epoch → BeginsWithRecord p cpu epoch slot → cpu_fault p ceiling slot ≡ None
+cpu_fault-back p ceiling cpu epoch slot r fits of =
+    both_none _ _ (status_fault-back p ceiling cpu epoch slot r fits of) (second_fault-back p cpu epoch slot fits of)
 
 -- a slot that was written has no fault
 pub slot_fault-back : (p : Parameters) (ceiling : ℕ) (cpu : CpuState) (t : Tables) (counts : ℕ → Block) (epoch : ℕ) (slot : List Block)
@@ -207,12 +220,12 @@ pub slot_fault-back : (p : Parameters) (ceiling : ℕ) (cpu : CpuState) (t : Tab
 unfolding slot_fault
 slot_fault-back p ceiling cpu t counts epoch slot r recordable s are most l of =
     let room : console_room p < 2 ^ 64 = omega arith in
-    let fits = FitsRecord-recordable p ceiling cpu epoch recordable room most l in
+    let fits = FitsRecord-recordable p ceiling cpu epoch r recordable room most l in
     let begins = BeginsWithRecord-slot p cpu t counts epoch slot of in
-    both_none _ _ (epoch_fault-back cpu epoch slot fits begins)
+    both_none _ _ (epoch_fault-back p cpu epoch slot fits begins)
     (both_none _ _ (ap (tables_fault p) (tables_in-back p cpu t counts epoch slot r s of) ∙ (IsFaultless-tables p t s).none)
     (both_none _ _ (status_fault-back p ceiling cpu epoch slot recordable fits begins)
-    (count_fault-back p cpu t counts epoch slot are of)))
+    (both_none _ _ (count_fault-back p cpu t counts epoch slot are of) (second_fault-back p cpu epoch slot fits begins))))
 
 -- all of it reads back
 pub slot_back : (p : Parameters) (ceiling : ℕ) (cpu : CpuState) (t : Tables) (counts : ℕ → Block) (epoch : ℕ) (slot : List Block)
@@ -221,7 +234,7 @@ pub slot_back : (p : Parameters) (ceiling : ℕ) (cpu : CpuState) (t : Tables) (
 slot_back p ceiling cpu t counts epoch slot r recordable s are most l of =
     let room : console_room p < 2 ^ 64 = omega arith in
     record {
-      cpu_back = cpu_back cpu epoch slot (FitsRecord-recordable p ceiling cpu epoch recordable room most l) (BeginsWithRecord-slot p cpu t counts epoch slot of);
+      cpu_back = cpu_back p cpu epoch slot (FitsRecord-recordable p ceiling cpu epoch r recordable room most l) (BeginsWithRecord-slot p cpu t counts epoch slot of);
       tables_back = tables_in-back p cpu t counts epoch slot r s of;
       counts_back = counts_back p cpu t counts epoch slot of;
       faultless = slot_fault-back p ceiling cpu t counts epoch slot r recordable s are most l of;

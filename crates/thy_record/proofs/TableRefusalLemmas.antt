@@ -7,7 +7,7 @@ use Rattle.thy_base.specs.declared.config.Parameters.{Parameters}
 use Rattle.thy_base.specs.Geometry.{memory_blocks}
 use Rattle.thy_base.specs.Store.{page_of}
 use Rattle.thy_record.specs.declared.bad_image.BadImage.{BadImage}
-use Rattle.thy_record.specs.declared.bad_image.BadImage.TheVariants.{Empty, Header, Version, Geometry, Commit, TableIndex, TableTwice, BlockUnderPage, Status, ConsoleLength, Count}
+use Rattle.thy_record.specs.declared.bad_image.BadImage.TheVariants.{Empty, Header, Version, Geometry, Commit, TableIndex, TableTwice, BlockUnderPage, Status, ConsoleLength, Count, Second}
 use Rattle.thy_record.specs.Tables.{Tables, Lists, entry_of}
 use Rattle.thy_record.specs.TableFaults.{entry_fault, first_clash, index_rule, twice_rule, under_rule, index_fault, twice_fault, under_fault, tables_fault}
 use Rattle.thy_record.specs.TableRefusals.{ListsBeyond, BlockBeyond, PageBeyond, ListTwice, BlockTwice, PageTwice, IsFirstBeyond, IsFirstTwice, IsFirstUnder, Says}
@@ -259,6 +259,7 @@ says_cases p t (BlockUnderPage i j) s = inr (inr (i, j, refl, s))
 says_cases p t Status s = absurd s
 says_cases p t ConsoleLength s = absurd s
 says_cases p t (Count i) s = absurd s
+says_cases p t Second s = absurd s
 
 twice_cases : (p : Parameters) (t : Tables) (i k : ℕ) → ListTwice p t i k
     → ((n : ℕ) × (i < k) × Lists t.btt i n × Lists t.btt k n)

@@ -28,14 +28,14 @@ abbrev pub CommitReadsBack : Type 0
 CommitReadsBack = (epoch ceiling : ℕ) → epoch < ceiling → ceiling ≤ 2 ^ 64 → CommitIsBack epoch ceiling
 
 -- processor and epoch read back from a record as they were written
-pub record RecordIsBack (cpu : CpuState) (epoch : ℕ) (blocks : List Block) : Type 0 where
-  pub cpu_back : cpu_of_record blocks ≡ cpu
+pub record RecordIsBack (p : Parameters) (cpu : CpuState) (epoch : ℕ) (blocks : List Block) : Type 0 where
+  pub cpu_back : cpu_of_record p blocks ≡ cpu
   pub epoch_back : epoch_of_record blocks ≡ epoch
 
 abbrev pub RecordReadsBack : Type 0
 RecordReadsBack =
-    (cpu : CpuState) (epoch : ℕ) (blocks : List Block)
-    → FitsRecord cpu epoch → BeginsWithRecord cpu epoch blocks → RecordIsBack cpu epoch blocks
+    (p : Parameters) (cpu : CpuState) (epoch : ℕ) (blocks : List Block)
+    → FitsRecord p cpu epoch → BeginsWithRecord p cpu epoch blocks → RecordIsBack p cpu epoch blocks
 
 -- entries of a table read back from their block
 abbrev pub EntriesReadBack : Type 0

@@ -1,16 +1,23 @@
 -- Part of the claim.
--- The record of the processor, the first five blocks of a slot.
-use Rattle.std.specs.Prelude.{◌≡◌, ℕ, zero, suc, ◌+◌, ◌*◌, ◌/◌, ◌%◌, ◌^◌, ◌<◌, ◌≤◌, true, Bool, ◌&&◌, ◌==◌, nat_lt, nat_le, if◌then◌else◌, List, [], ◌∷◌, ◌++◌, take, drop, length, slice_index, Option, None}
+-- The record of the processor, the first blocks of a slot: five, and five more if there are two harts.
+use Rattle.std.specs.Prelude.{◌≡◌, ◌≢◌, ℕ, zero, suc, ◌+◌, ◌*◌, ◌/◌, ◌%◌, ◌^◌, ◌<◌, ◌≤◌, true, Bool, ◌&&◌, ◌==◌, nat_lt, nat_le, if◌then◌else◌, List, [], ◌∷◌, ◌++◌, take, drop, length, map, replicate, slice_index, Option, Some, None, ◌||◌}
+use Rattle.std.specs.List.{range_with_len}
 use Rattle.thy_base.specs.declared.block.Block.{Block}
 use Rattle.thy_base.specs.declared.config.Parameters.{Parameters}
 use Rattle.thy_base.specs.Demands.{Demand, asked, first_fault}
 use Rattle.thy_base.specs.Device.{block_at}
 use Rattle.thy_base.specs.Geometry.{console_room}
+use Rattle.thy_base.specs.Places.{record_blocks}
 use Rattle.thy_isa.specs.declared.state.CpuState.{CpuState}
+use Rattle.thy_isa.specs.Regs.{reg_at}
+use Rattle.thy_isa.specs.declared.state.OtherHart.{OtherHart}
+use Rattle.thy_isa.specs.declared.state.Reservation.{Reservation}
+use Rattle.thy_isa.specs.declared.state.Reservation.TheVariants.{Nothing, Word, Double}
 use Rattle.thy_isa.specs.declared.state.Status.{Status}
 use Rattle.thy_isa.specs.declared.state.Status.TheVariants.{Running, Exited, Trapped}
 use Rattle.thy_record.specs.declared.bad_image.BadImage.{BadImage}
-use Rattle.thy_record.specs.declared.bad_image.BadImage.TheVariants.{Commit, Status as BadStatus, ConsoleLength}
+use Rattle.thy_isa.specs.Storable.{IsOther}
+use Rattle.thy_record.specs.declared.bad_image.BadImage.TheVariants.{Commit, Status as BadStatus, ConsoleLength, Second}
 use Rattle.thy_base.specs.Words.{word_of, block_of}
 
 -- a status as two words, a tag and a value
@@ -32,11 +39,37 @@ abbrev pub is_status : ℕ → ℕ → Bool
 is_status tag value =
     if tag == 0 then value == 0 else if tag == 1 then nat_le value 255 else tag == 2 && nat_le value 7
 
--- the forty words of a record: pc, x1 to x31, count, cursor, console length, break, status, epoch, floor
+-- a reservation as two words: the width of its bytes, 0 if there is none, and their address
+abbrev pub width_word : Reservation → ℕ
+width_word Nothing = 0
+width_word (Word at) = 4
+width_word (Double at) = 8
+
+abbrev pub place_word : Reservation → ℕ
+place_word Nothing = 0
+place_word (Word at) = at
+place_word (Double at) = at
+
+abbrev pub reservation_of : ℕ → ℕ → Reservation
+reservation_of width at = if width == 4 then Word at else if width == 8 then Double at else Nothing
+
+-- the reservations of both harts, and four zeros
+abbrev pub reserved_words : OtherHart → List ℕ
+reserved_words o =
+    width_word o.front ∷ place_word o.front ∷ width_word o.back ∷ place_word o.back ∷ 0 ∷ 0 ∷ 0 ∷ 0 ∷ []
+
+-- the forty words of the other hart: pc, x1 to x31, the reservations; zeros if there is none, which no record has room for
+abbrev pub second_words : Option OtherHart → List ℕ
+second_words None = replicate 40 0
+second_words (Some o) = o.pc ∷ (map (reg_at o.regs) (range_with_len 1 31) ++ reserved_words o)
+
+-- the words of a record, forty for each hart: pc, x1 to x31, count, cursor, console length, break, status, epoch, floor;
+-- behind them those of the other hart
 abbrev pub cpu_words : CpuState → ℕ → List ℕ
 cpu_words c epoch =
     c.pc ∷ (drop 1 c.regs
-    ++ (c.count ∷ c.cursor ∷ c.console_len ∷ c.brk ∷ status_tag c.status ∷ status_value c.status ∷ epoch ∷ c.floor ∷ []))
+    ++ (c.count ∷ c.cursor ∷ c.console_len ∷ c.brk ∷ status_tag c.status ∷ status_value c.status ∷ epoch ∷ c.floor
+    ∷ second_words c.other))
 
 -- block k of the record
 unfoldable pub cpu_block_of : CpuState → ℕ → ℕ → Block
@@ -51,35 +84,52 @@ unfoldable pub record_words : List Block → ℕ → ℕ → List ℕ
 record_words blocks i zero = []
 record_words blocks i (suc n) = record_word blocks i ∷ record_words blocks (i + 1) n
 
--- the five blocks of a record
-abbrev pub record_of : CpuState → ℕ → List Block
-record_of c epoch =
-    cpu_block_of c epoch 0 ∷ cpu_block_of c epoch 1 ∷ cpu_block_of c epoch 2 ∷ cpu_block_of c epoch 3 ∷ cpu_block_of c epoch 4 ∷ []
+-- the blocks of a record
+abbrev pub record_of : Parameters → CpuState → ℕ → List Block
+record_of p c epoch = map (cpu_block_of c epoch) (range_with_len 0 (record_blocks p))
 
 -- these blocks are a processor's record, block by block
-pub record IsRecordOf (c : CpuState) (epoch : ℕ) (blocks : List Block) : Type 0 where
-  pub five : length blocks ≡ 5
-  pub each : (k : ℕ) → k < 5 → block_at blocks k ≡ cpu_block_of c epoch k
+pub record IsRecordOf (p : Parameters) (c : CpuState) (epoch : ℕ) (blocks : List Block) : Type 0 where
+  pub long : length blocks ≡ record_blocks p
+  pub each : (k : ℕ) → k < record_blocks p → block_at blocks k ≡ cpu_block_of c epoch k
 
 -- these blocks begin with a processor's record
-pub record BeginsWithRecord (c : CpuState) (epoch : ℕ) (blocks : List Block) : Type 0 where
-  pub each : (k : ℕ) → k < 5 → block_at blocks k ≡ cpu_block_of c epoch k
+pub record BeginsWithRecord (p : Parameters) (c : CpuState) (epoch : ℕ) (blocks : List Block) : Type 0 where
+  pub each : (k : ℕ) → k < record_blocks p → block_at blocks k ≡ cpu_block_of c epoch k
+
+-- the other hart is there exactly if there are two, and it has 32 registers, of which register 0 is zero
+abbrev pub HasOther : Parameters → Option OtherHart → Type 0
+HasOther p None = p.harts ≡ 1
+HasOther p (Some o) = (p.harts ≡ 2) × (length o.regs ≡ 32) × (slice_index o.regs 0 ≡ 0)
 
 -- a processor's state and an epoch of which the record says all: 32 registers, of which register 0 is zero, numbers of
--- 64 bits, and no other hart
-pub record FitsRecord (c : CpuState) (epoch : ℕ) : Type 0 where
+-- 64 bits, and as many harts as there are
+pub record FitsRecord (p : Parameters) (c : CpuState) (epoch : ℕ) : Type 0 where
   pub regs_length : length c.regs ≡ 32
   pub regs_zero : slice_index c.regs 0 ≡ 0
-  pub words : (i : ℕ) → i < 40 → slice_index (cpu_words c epoch) i < 2 ^ 64
-  pub alone : c.other ≡ None
+  pub words : (i : ℕ) → i < 8 * record_blocks p → slice_index (cpu_words c epoch) i < 2 ^ 64
+  pub other : HasOther p c.other
 
 -- the epoch in a record
 abbrev pub epoch_of_record : List Block → ℕ
 epoch_of_record blocks = record_word blocks 38
 
--- the processor's state in a record, which has no words for another hart
-unfoldable pub cpu_of_record : List Block → CpuState
-cpu_of_record blocks = record {
+-- the other hart in a record, whose forty words are behind those of the hart in front
+unfoldable pub other_of_record : List Block → OtherHart
+other_of_record blocks = record {
+  pc = record_word blocks 40;
+  regs = 0 ∷ record_words blocks 41 31;
+  front = reservation_of (record_word blocks 72) (record_word blocks 73);
+  back = reservation_of (record_word blocks 74) (record_word blocks 75);
+}
+
+-- if the record is one of two
+abbrev pub second_of_record : Parameters → List Block → Option OtherHart
+second_of_record p blocks = if p.harts == 2 then Some (other_of_record blocks) else None
+
+-- the processor's state in a record
+unfoldable pub cpu_of_record : Parameters → List Block → CpuState
+cpu_of_record p blocks = record {
   pc = record_word blocks 0;
   regs = 0 ∷ record_words blocks 1 31;
   console_len = record_word blocks 34;
@@ -88,7 +138,7 @@ cpu_of_record blocks = record {
   floor = record_word blocks 39;
   count = record_word blocks 32;
   status = status_of (record_word blocks 36) (record_word blocks 37);
-  other = None;
+  other = second_of_record p blocks;
 }
 
 -- a record is of the commit block's epoch
@@ -102,9 +152,30 @@ status_demands p ceiling blocks =
     ∷ asked (nat_le (record_word blocks 34) (console_room p)) ConsoleLength
     ∷ []
 
+-- a width has a meaning, and the last four words are zero
+abbrev pub is_width : ℕ → Bool
+is_width w = w == 0 || w == 4 || w == 8
+
+abbrev pub are_zero : List Block → Bool
+are_zero blocks =
+    (record_word blocks 76 == 0 && record_word blocks 77 == 0) && (record_word blocks 78 == 0 && record_word blocks 79 == 0)
+
+abbrev pub is_second : List Block → Bool
+is_second blocks = (is_width (record_word blocks 72) && is_width (record_word blocks 74)) && are_zero blocks
+
+-- with two harts the words of the other one have a meaning
+abbrev pub second_demand : Parameters → List Block → Demand BadImage
+second_demand p blocks = asked (p.harts == 1 || is_second blocks) Second
+
 -- the first fault of a record under a commit block of this epoch
 unfoldable pub record_fault : List Block → ℕ → Parameters → ℕ → Option BadImage
-record_fault blocks epoch p ceiling = first_fault (epoch_demand epoch blocks ∷ status_demands p ceiling blocks)
+record_fault blocks epoch p ceiling =
+    first_fault (epoch_demand epoch blocks ∷ (status_demands p ceiling blocks ++ second_demand p blocks ∷ []))
+
+-- the other hart is there exactly if there are two, and a record can hold it
+abbrev pub IsOtherRecordable : Parameters → Option OtherHart → Type 0
+IsOtherRecordable p None = p.harts ≢ 2
+IsOtherRecordable p (Some o) = (p.harts ≡ 2) × IsOther o
 
 -- a processor's state that a record can hold, with counts below the ceiling
 pub record IsRecordable (p : Parameters) (ceiling : ℕ) (cpu : CpuState) : Type 0 where
@@ -118,4 +189,4 @@ pub record IsRecordable (p : Parameters) (ceiling : ℕ) (cpu : CpuState) : Type
   pub floor : cpu.floor < 2 ^ 64
   pub count : cpu.count < ceiling
   pub status : is_status (status_tag cpu.status) (status_value cpu.status) ≡ true
-  pub alone : cpu.other ≡ None
+  pub other : IsOtherRecordable p cpu.other

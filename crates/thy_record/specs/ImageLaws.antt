@@ -57,7 +57,7 @@ EntriesAreBlock =
 -- processor, tables and counts read back from a slot as they were written, and it has no fault
 pub record ReadsBack (p : Parameters) (ceiling : ℕ) (cpu : CpuState) (t : Tables) (counts : ℕ → Block) (epoch : ℕ)
     (slot : List Block) : Type 0 where
-  pub cpu_back : cpu_of_record slot ≡ cpu
+  pub cpu_back : cpu_of_record p slot ≡ cpu
   pub tables_back : tables_in p slot ≡ t
   pub counts_back : counts_in VersionTwo p slot ≡ map (byte_in counts) (range_with_len 0 p.pages)
   pub faultless : slot_fault VersionTwo p ceiling epoch slot ≡ None

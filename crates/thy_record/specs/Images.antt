@@ -40,7 +40,7 @@ memory_in p t image = map (block_at image) (memory_numbers p t)
 -- the state of an image's checkpoint
 abbrev pub state_in : Parameters → List Block → State
 state_in p image =
-    let slot = slot_in p image in state_from p (cpu_of_record slot) (memory_in p (tables_in p slot) image)
+    let slot = slot_in p image in state_from p (cpu_of_record p slot) (memory_in p (tables_in p slot) image)
 
 -- the first fault of an image that has a commit block; `long` says that it has the length of this geometry
 abbrev pub image_fault : Parameters → ℕ → Bool → List Block → Option BadImage

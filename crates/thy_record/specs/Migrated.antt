@@ -16,7 +16,7 @@ pub record IsWrittenAnew (p : Parameters) (old new : List Block) : Type 0 where
 
 -- it has the same processor and the same tables, counts of 0, and no fault either
 pub record MeansTheSame (p : Parameters) (ceiling epoch : ℕ) (old new : List Block) : Type 0 where
-  pub cpu_same : cpu_of_record new ≡ cpu_of_record old
+  pub cpu_same : cpu_of_record p new ≡ cpu_of_record p old
   pub tables_same : tables_in p new ≡ tables_in p old
   pub no_counts : counts_in VersionTwo p new ≡ replicate p.pages 0
   pub faultless : slot_fault VersionTwo p ceiling epoch new ≡ None

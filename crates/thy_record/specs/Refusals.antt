@@ -2,7 +2,7 @@
 -- What the refusals of an image are called.
 use Rattle.std.specs.Prelude.{ℕ, List, codes}
 use Rattle.thy_record.specs.declared.bad_image.BadImage.{BadImage}
-use Rattle.thy_record.specs.declared.bad_image.BadImage.TheVariants.{Empty, Header, Version, Geometry, Commit, TableIndex, TableTwice, BlockUnderPage, Status, ConsoleLength, Count}
+use Rattle.thy_record.specs.declared.bad_image.BadImage.TheVariants.{Empty, Header, Version, Geometry, Commit, TableIndex, TableTwice, BlockUnderPage, Status, ConsoleLength, Count, Second}
 
 -- the number and the name of each
 abbrev pub called : BadImage → ℕ × List ℕ
@@ -17,6 +17,7 @@ called (BlockUnderPage i j) = (8, codes "BlockUnderPage")
 called Status = (9, codes "Status")
 called ConsoleLength = (10, codes "ConsoleLength")
 called (Count p) = (11, codes "Count")
+called Second = (12, codes "Second")
 
 abbrev pub number_of : BadImage → ℕ
 number_of bad = (called bad).0

@@ -13,7 +13,7 @@ use Rattle.thy_base.specs.Places.{record_blocks, table_blocks, count_blocks, slo
 use Rattle.thy_isa.specs.declared.state.CpuState.{CpuState}
 use Rattle.thy_record.specs.declared.bad_image.BadImage.{BadImage}
 use Rattle.thy_record.specs.declared.bad_image.BadImage.TheVariants.{Count}
-use Rattle.thy_record.specs.Cpu.{cpu_block_of, record_word, epoch_demand, status_demands}
+use Rattle.thy_record.specs.Cpu.{cpu_block_of, record_word, epoch_demand, status_demands, second_demand}
 use Rattle.thy_record.specs.Tables.{Tables}
 use Rattle.thy_record.specs.TableBlocks.{entry_from, table_block_of}
 use Rattle.thy_record.specs.TableFaults.{tables_fault}
@@ -78,8 +78,25 @@ epoch_fault epoch slot = first_fault (epoch_demand epoch slot ∷ [])
 abbrev pub status_fault : Parameters → ℕ → List Block → Option BadImage
 status_fault p ceiling slot = first_fault (status_demands p ceiling slot)
 
+-- with two harts the other one's words have no meaning
+abbrev pub second_fault : Parameters → List Block → Option BadImage
+second_fault p slot = first_fault (second_demand p slot ∷ [])
+
+-- what is wrong with the processor besides its epoch
+abbrev pub cpu_fault : Parameters → ℕ → List Block → Option BadImage
+cpu_fault p ceiling slot = option_or (status_fault p ceiling slot) (second_fault p slot)
+
+-- what is wrong with record and tables, which both versions begin with, besides the other hart's words
+abbrev pub head_fault : Parameters → ℕ → ℕ → List Block → Option BadImage
+head_fault p ceiling epoch slot =
+    option_or (epoch_fault epoch slot) (option_or (tables_fault p (tables_in p slot)) (status_fault p ceiling slot))
+
+-- the counts, and then the other hart's words
+abbrev pub rest_fault : LayoutVersion → Parameters → List Block → Option BadImage
+rest_fault version p slot = option_or (count_fault version p slot) (second_fault p slot)
+
 -- the first fault of a slot under a commit block of this epoch
 unfoldable pub slot_fault : LayoutVersion → Parameters → ℕ → ℕ → List Block → Option BadImage
 slot_fault version p ceiling epoch slot =
     option_or (epoch_fault epoch slot)
-    (option_or (tables_fault p (tables_in p slot)) (option_or (status_fault p ceiling slot) (count_fault version p slot)))
+    (option_or (tables_fault p (tables_in p slot)) (option_or (status_fault p ceiling slot) (rest_fault version p slot)))

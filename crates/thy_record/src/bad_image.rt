@@ -13,8 +13,8 @@ pub enum BadImage {
     Header,
     /// The header's version is none that is read.
     Version,
-    /// The image was made for another geometry: base, pages, console or the size of a table differs. Or the header's
-    /// last word is not zero, or, if the layout asks for it, the image has another length.
+    /// The image was made for another geometry: base, pages, console, the size of a table, the scheme or the number of
+    /// harts differs. Or, if the layout asks for it, the image has another length.
     Geometry,
     /// The commit block does not begin with its name, or with that of version 1 behind a header of version 2; its epoch is
     /// not below the ceiling, or a word behind the epoch is not zero; or the processor's record is of another epoch.
@@ -31,6 +31,8 @@ pub enum BadImage {
     ConsoleLength,
     /// This byte of the counts is past 63, or it is past the last page and not zero.
     Count(u64),
+    /// With two harts: the width of a reservation is none of 0, 4 and 8, or a word behind the reservations is not zero.
+    Second,
 }
 
 impl BadImage {
@@ -50,6 +52,7 @@ impl BadImage {
             BadImage::Status => 9,
             BadImage::ConsoleLength => 10,
             BadImage::Count(_) => 11,
+            BadImage::Second => 12,
         }
     }
 
@@ -69,6 +72,7 @@ impl BadImage {
             BadImage::Status => "Status",
             BadImage::ConsoleLength => "ConsoleLength",
             BadImage::Count(_) => "Count",
+            BadImage::Second => "Second",
         }
     }
 }

@@ -1,10 +1,11 @@
-//! The record of the processor, the first five blocks of a slot: forty words, pc, x1 to x31, count,
-//! cursor, console length, break, the status's tag and value, epoch, floor.
-ghost use Rattle.std.specs.Prelude.{◌≡◌, ◌<◌, ◌∷◌, length, slice_index};
-ghost use Rattle.thy_record.specs.Cpu.{cpu_words, cpu_block_of, cpu_of_record, record_word, record_words, status_tag, status_value, status_of, is_status as is_status_of};
+//! The record of the processor, the first blocks of a slot. It has forty words: pc, x1 to x31, count, cursor, console
+//! length, break, the status's tag and value, epoch, floor. With two harts forty more follow: pc and x1 to x31 of the
+//! second hart, width and address of the first one's reservation and of its own, and four zeros.
+ghost use Rattle.std.specs.Prelude.{◌≡◌, ◌<◌, length, slice_index, Some};
+ghost use Rattle.thy_record.specs.Cpu.{width_word, place_word, reservation_of, is_width as is_width_of, second_words, cpu_words, cpu_block_of, status_tag, status_value, status_of, is_status as is_status_of};
 
-use thy_base::{Block, block_with, word};
-use thy_isa::{CpuState, Reg, Regs, Status};
+use thy_base::{Block, block_with};
+use thy_isa::{CpuState, OtherHart, Reg, Reservation, Status};
 
 // A status as two words.
 fn tag(status: Status) -> u64
@@ -28,7 +29,7 @@ fn value(status: Status) -> u64
 }
 
 // The status of a tag and a value; a tag over 1 is that of a trap.
-fn status_from(tag: u64, value: u64) -> Status
+pub(crate) fn status_from(tag: u64, value: u64) -> Status
     ensures { result ≡ status_of tag value }
 {
     match tag {
@@ -51,8 +52,79 @@ pub(crate) fn is_status(tag: u64, value: u64) -> bool
     }
 }
 
-// Word i of the record of a processor at an epoch.
-fn cpu_word(cpu: &CpuState, epoch: u64, i: u64) -> u64
+// A reservation as two words, the width of its bytes and their address; zeros if there is none.
+fn width(reservation: Reservation) -> u64
+    ensures { result ≡ width_word reservation }
+{
+    match reservation {
+        Reservation::Nothing => 0,
+        Reservation::Word(_) => 4,
+        Reservation::Double(_) => 8,
+    }
+}
+
+fn place(reservation: Reservation) -> u64
+    ensures { result ≡ place_word reservation }
+{
+    match reservation {
+        Reservation::Nothing => 0,
+        Reservation::Word(at) => at,
+        Reservation::Double(at) => at,
+    }
+}
+
+// The reservation of a width and an address; a width other than 4 and 8 is that of none.
+pub(crate) fn reservation_from(width: u64, at: u64) -> Reservation
+    ensures { result ≡ reservation_of width at }
+{
+    match width {
+        4 => Reservation::Word(at),
+        8 => Reservation::Double(at),
+        _ => Reservation::Nothing,
+    }
+}
+
+// Whether a word is the width of a reservation, or says that there is none.
+pub(crate) fn is_width(width: u64) -> bool
+    ensures { result ≡ is_width_of width }
+{
+    width == 0 || width == 4 || width == 8
+}
+
+// Word i of the forty of the second hart.
+fn second_word(other: &OtherHart, i: u64) -> u64
+    requires word { i < 40 }
+    ensures { result ≡ slice_index (second_words (Some other.now)) i }
+{
+    match i {
+        0 => other.pc,
+        32 => width(other.front),
+        33 => place(other.front),
+        34 => width(other.back),
+        35 => place(other.back),
+        r => {
+            if r < 32 {
+                other.regs.get(Reg::new(r as u8))
+            } else {
+                0
+            }
+        }
+    }
+}
+
+// So if there is one; else it is zero.
+fn other_word(other: &Option<OtherHart>, i: u64) -> u64
+    requires word { i < 40 }
+    ensures { result ≡ slice_index (second_words other.now) i }
+{
+    match other {
+        Some(other) => second_word(other, i),
+        None => 0,
+    }
+}
+
+// Word i of the first forty of the record of a processor at an epoch.
+fn front_word(cpu: &CpuState, epoch: u64, i: u64) -> u64
     requires word { i < 40 }
     requires regs { length cpu.now.regs ≡ 32 }
     ensures { result ≡ slice_index (cpu_words cpu.now epoch) i }
@@ -71,9 +143,23 @@ fn cpu_word(cpu: &CpuState, epoch: u64, i: u64) -> u64
     }
 }
 
-/// Block `k` of the processor's record at an epoch, 0 to 4. The processor has 32 registers.
+// Word i of the record.
+fn cpu_word(cpu: &CpuState, epoch: u64, i: u64) -> u64
+    requires word { i < 80 }
+    requires regs { length cpu.now.regs ≡ 32 }
+    ensures { result ≡ slice_index (cpu_words cpu.now epoch) i }
+{
+    if i < 40 {
+        front_word(cpu, epoch, i)
+    } else {
+        other_word(&cpu.other, i - 40)
+    }
+}
+
+/// Block `k` of the processor's record at an epoch: 0 to 4 are the hart in front's, 5 to 9 the other's, zeros if there is
+/// none. The processor has 32 registers.
 pub fn cpu_block(cpu: &CpuState, epoch: u64, k: u64) -> Block
-    requires block { k < 5 }
+    requires block { k < 10 }
     requires regs { length cpu.now.regs ≡ 32 }
     ensures { result ≡ cpu_block_of cpu.now epoch k }
 {
@@ -82,42 +168,4 @@ pub fn cpu_block(cpu: &CpuState, epoch: u64, k: u64) -> Block
         words[i] = cpu_word(cpu, epoch, 8 * k + i as u64);
     }
     block_with(&words)
-}
-
-// Word i of a record.
-#[tactic(auto, unfolding(crate::specs::Cpu::record_word))]
-fn word_at(blocks: &[Block; 5], i: u64) -> u64
-    requires { i < 40 }
-    ensures { result ≡ record_word blocks.now i }
-{
-    word(&blocks[(i / 8) as usize], i % 8)
-}
-
-// The registers of a record.
-fn regs_from(blocks: &[Block; 5]) -> Regs
-    ensures { result ≡ 0 ∷ record_words blocks.now 1 31 }
-{
-    let mut regs = Regs::new();
-    for r in 1..32u8 {
-        regs.set(Reg::new(r), word_at(blocks, r as u64));
-    }
-    regs
-}
-
-/// The processor's state in a record. A status whose tag is over 1 reads as a trap.
-#[tactic(auto, unfolding(crate::specs::Cpu::cpu_of_record))]
-pub fn cpu_state(blocks: &[Block; 5]) -> CpuState
-    ensures { result ≡ cpu_of_record blocks.now }
-{
-    CpuState {
-        pc: word_at(blocks, 0),
-        regs: regs_from(blocks),
-        console_len: word_at(blocks, 34),
-        cursor: word_at(blocks, 33),
-        brk: word_at(blocks, 35),
-        floor: word_at(blocks, 39),
-        count: word_at(blocks, 32),
-        status: status_from(word_at(blocks, 36), word_at(blocks, 37)),
-        other: None,
-    }
 }

@@ -1,6 +1,6 @@
 //! The header, block 0 of an image.
 ghost use Rattle.std.specs.Prelude.{◌≡◌};
-ghost use Rattle.thy_record.specs.Header.{header_of, header_fault as fault_of_header, is_of_geometry as of_geometry, is_of_version as of_version};
+ghost use Rattle.thy_record.specs.Header.{header_of, header_fault as fault_of_header, harts_word as word_of_harts, is_of_geometry as of_geometry, is_of_version as of_version};
 
 use crate::bad_image::BadImage;
 use thy_base::{Block, Geometry, block_with, word};
@@ -11,8 +11,16 @@ pub const HEADER_MAGIC: u64 = 0x3152_4448_4e59_4854;
 /// The version of the layout that is written.
 pub const VERSION: u64 = 2;
 
+/// What the last word of a header says of the harts: 0 with one, 256 with two. Behind it the word has the number of the
+/// scheme.
+pub fn harts_word(geometry: &Geometry) -> u64
+    ensures { result ≡ word_of_harts geometry.now }
+{
+    256 * (geometry.numbers().harts - 1)
+}
+
 /// The header of an image of this geometry: eight words, its name, the version, base, pages, console,
-/// the sizes of both tables, and a zero.
+/// the sizes of both tables, and the number of harts as `harts_word` gives it.
 pub fn header_block(geometry: &Geometry) -> Block
     ensures { result ≡ header_of geometry.now }
 {
@@ -25,13 +33,12 @@ pub fn header_block(geometry: &Geometry) -> Block
         p.console,
         p.btt,
         p.ptt,
-        0,
+        harts_word(geometry),
     ])
 }
 
 /// The first fault of a header, if it has one: another name, a version that is neither 1 nor 2, another geometry.
-/// `long` says whether the image has as many blocks as the geometry asks for; if it has not, or the last word is not
-/// zero, that is another geometry.
+/// `long` says whether the image has as many blocks as the geometry asks for; if it has not, that is another geometry.
 #[tactic(auto, unfolding(crate::specs::Header::header_fault))]
 pub fn header_fault(block: &Block, geometry: &Geometry, long: bool) -> Option<BadImage>
     ensures { result ≡ fault_of_header block.now geometry.now long }
@@ -63,6 +70,7 @@ fn is_of_geometry(block: &Block, geometry: &Geometry) -> bool
     let memory = word(block, 2) == p.base
         && word(block, 3) == p.pages
         && word(block, 4) == p.console;
-    let tables = word(block, 5) == p.btt && word(block, 6) == p.ptt && word(block, 7) == 0;
+    let harts = harts_word(geometry);
+    let tables = word(block, 5) == p.btt && word(block, 6) == p.ptt && word(block, 7) == harts;
     memory && tables
 }

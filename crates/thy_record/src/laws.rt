@@ -29,8 +29,8 @@ pub fn header_and_commit_read_back()
     ensures commit { CommitReadsBack }
 {}
 
-/// The five blocks of the processor's record read back as they were written: its state and the epoch. That takes 32
-/// registers, of which register 0 is zero, and numbers of 64 bits.
+/// The blocks of the processor's record read back as they were written: its state and the epoch. That takes as many harts as
+/// the geometry has, 32 registers of each, of which register 0 is zero, and numbers of 64 bits.
 pub fn record_reads_back()
     ensures { RecordReadsBack }
 {}

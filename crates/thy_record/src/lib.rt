@@ -28,11 +28,11 @@ pub use commit::{
     COMMIT_MAGIC_VERSION_ONE, COMMIT_MAGIC_VERSION_TWO, commit_block, commit_fault, has_zero_rest,
     is_zero, version_of,
 };
-pub use cpu::{cpu_block, cpu_state};
+pub use cpu::cpu_block;
 pub use engine_step::EngineStep;
 pub use file::{Found, check};
 pub use file_blocks::block_in;
-pub use header::{HEADER_MAGIC, VERSION, header_block, header_fault};
+pub use header::{HEADER_MAGIC, VERSION, harts_word, header_block, header_fault};
 pub use laws::{
     a_slot_anew_means_the_same, ceiling_grows, decoded_is_whole, each_block_has_its_place,
     faultless_tables, file_decodes, filled_up_decodes, free_is_not_looked_at,
@@ -42,7 +42,8 @@ pub use laws::{
 };
 pub use restored::{state, state_at};
 pub use slot::{
-    btt_in, cpu_in, listed_block, listed_count, listed_page, slot_fault, status_fault, word_in,
+    btt_in, cpu_fault, cpu_in, head_fault, listed_block, listed_count, listed_page, second_fault,
+    slot_fault, word_in,
 };
 pub use start::Start;
 pub use table_faults::{index_fault, twice_fault};

@@ -83,5 +83,5 @@ pub fn state(alloc: Global, image: &[u8], geometry: &Geometry) -> Result<MachSta
 {
     let slot = slot_in(image, &block_in(image, 1), geometry);
     let places = places(alloc, slot, geometry)?;
-    state_at(alloc, image, cpu_in(slot), &places, geometry)
+    state_at(alloc, image, cpu_in(slot, geometry), &places, geometry)
 }

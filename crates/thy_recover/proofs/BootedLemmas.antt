@@ -52,7 +52,7 @@ restored_is_booted o g n b c origin sound is =
     let m : Mark = kept.0 in
     let f : IsRestored filling_dual n b c = kept.5 in
     let rec : IsRecovering filling_dual g n b c = subst (λ (q : Stage). IsSoundAt filling_dual o q g n b c) is sound.so_far in
-    let cpu : CpuState = cpu_of_record slot in
+    let cpu : CpuState = cpu_of_record b.p slot in
     let version : LayoutVersion = version_of b.commit in
     let told : IsToldBy b.p n.image version epoch (tables0 c) = record {
       of_version = ap version_of f.head.commit_is.is;
@@ -91,7 +91,7 @@ restored_is_booted o g n b c origin sound is =
           holds = f.whole;
           state = state;
           counted = kept.3.told.counted;
-          recordable = restored-recordable o version m.count epoch slot (loads c n) origin fits state;
+          recordable = restored-recordable o version b.p m.count epoch slot (loads c n) origin fits state;
         };
       },
     )

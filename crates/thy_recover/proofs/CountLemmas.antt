@@ -12,7 +12,7 @@ use Rattle.thy_base.specs.declared.config.Parameters.{Parameters}
 use Rattle.thy_base.specs.declared.layout_version.LayoutVersion.{LayoutVersion}
 use Rattle.thy_base.specs.declared.layout_version.LayoutVersion.TheVariants.{VersionOne, VersionTwo}
 use Rattle.thy_base.specs.Device.{zero_block, block_at}
-use Rattle.thy_base.specs.Places.{table_blocks, count_blocks}
+use Rattle.thy_base.specs.Places.{record_blocks, table_blocks, count_blocks}
 use Rattle.thy_control.specs.Boot.{IsBooting, with_listed_count}
 use Rattle.thy_control.specs.CheckpointTables.{tables0}
 use Rattle.thy_control.specs.State.{State, AreSoundTables}
@@ -29,16 +29,16 @@ use Rattle.thy_recover.proofs.StartLemmas.{zeros_at}
 -- ---- the bytes of the first blocks
 
 module _ (p : Parameters) (blocks : List Block) where
-  pub byte-taken : (n i : ℕ) → 5 + table_blocks p + i / 64 < n → count_byte p (take n blocks) i ≡ count_byte p blocks i
-  byte-taken n i l = ap (λ (b : Block). slice_index_or b.0 (i % 64) 0) (get_or-take n blocks (5 + table_blocks p + i / 64) zero_block l)
+  pub byte-taken : (n i : ℕ) → record_blocks p + table_blocks p + i / 64 < n → count_byte p (take n blocks) i ≡ count_byte p blocks i
+  byte-taken n i l = ap (λ (b : Block). slice_index_or b.0 (i % 64) 0) (get_or-take n blocks (record_blocks p + table_blocks p + i / 64) zero_block l)
 
-  pub byte-past : (n i : ℕ) → n ≤ 5 + table_blocks p + i / 64 → count_byte p (take n blocks) i ≡ 0
+  pub byte-past : (n i : ℕ) → n ≤ record_blocks p + table_blocks p + i / 64 → count_byte p (take n blocks) i ≡ 0
   byte-past n i l =
       ap (λ (b : Block). slice_index_or b.0 (i % 64) 0)
-      (get_or_past (take n blocks) (5 + table_blocks p + i / 64) zero_block (omega (arith, l, length-take n blocks))) ∙ zeros_at (i % 64)
+      (get_or_past (take n blocks) (record_blocks p + table_blocks p + i / 64) zero_block (omega (arith, l, length-take n blocks))) ∙ zeros_at (i % 64)
 
   -- with one block more
-  pub byte-next : (n i : ℕ) → 5 + table_blocks p + i / 64 < n → count_byte p (take n blocks) i ≡ count_byte p (take (n + 1) blocks) i
+  pub byte-next : (n i : ℕ) → record_blocks p + table_blocks p + i / 64 < n → count_byte p (take n blocks) i ≡ count_byte p (take (n + 1) blocks) i
   byte-next n i l = byte-taken n i l ∙ sym (byte-taken (n + 1) i (omega (arith, l)))
 
 -- whether a byte is at fault
@@ -103,7 +103,7 @@ fault-stays p blocks n bad h =
     let found = some_of (position (is_bad_count p (take n blocks)) (range_with_len 0 (64 * count_blocks p))) bad h in
     let i = found.0 in
     let first = first_bad p (take n blocks) i found.1 in
-    let near : 5 + table_blocks p + i / 64 < n = elim (cases_lt (5 + table_blocks p + i / 64) n) as (λ _. 5 + table_blocks p + i / 64 < n) [
+    let near : record_blocks p + table_blocks p + i / 64 < n = elim (cases_lt (record_blocks p + table_blocks p + i / 64) n) as (λ _. record_blocks p + table_blocks p + i / 64 < n) [
       | inl l ↦ l
       | inr m ↦ let both : false ≡ true = sym (bad-zero p (take n blocks) i (byte-past p blocks n i m)) ∙ first.bad in cc
     ] in
@@ -116,10 +116,10 @@ fault-stays p blocks n bad h =
     }) ∙ ap Some found.2
 
 -- record and tables have no counts
-pub fault-head : (p : Parameters) (blocks : List Block) (n : ℕ) → n ≤ 5 + table_blocks p → count_fault VersionTwo p (take n blocks) ≡ None
+pub fault-head : (p : Parameters) (blocks : List Block) (n : ℕ) → n ≤ record_blocks p + table_blocks p → count_fault VersionTwo p (take n blocks) ≡ None
 fault-head p blocks n l = fault-none p (take n blocks) (λ i below. bad-zero p (take n blocks) i (byte-past p blocks n i (omega (arith, l))))
 
-pub counts-head : (p : Parameters) (blocks : List Block) (n : ℕ) → n < 5 + table_blocks p → counts_in VersionTwo p (take n blocks) ≡ counts_in VersionTwo p (take (n + 1) blocks)
+pub counts-head : (p : Parameters) (blocks : List Block) (n : ℕ) → n < record_blocks p + table_blocks p → counts_in VersionTwo p (take n blocks) ≡ counts_in VersionTwo p (take (n + 1) blocks)
 counts-head p blocks n l =
     map-alike_numbers (count_byte p (take n blocks)) (count_byte p (take (n + 1) blocks)) p.pages
     (λ i below. byte-past p blocks n i (omega (arith, l)) ∙ sym (byte-past p blocks (n + 1) i (omega (arith, l))))
@@ -146,10 +146,10 @@ pub record TakenTo (p : Parameters) (part : List Block) (i : ℕ) (old new : Sta
 
 -- before those of block k
 pub TakenTo-start : (p : Parameters) (blocks : List Block) (k : ℕ) (c : State) → k < count_blocks p → IsBooting c
-    → c.counts.lasts ≡ counts_in VersionTwo p (take (5 + table_blocks p + k) blocks) → count_fault VersionTwo p (take (5 + table_blocks p + k) blocks) ≡ None
-    → TakenTo p (take (5 + table_blocks p + k + 1) blocks) (64 * k) c c
+    → c.counts.lasts ≡ counts_in VersionTwo p (take (record_blocks p + table_blocks p + k) blocks) → count_fault VersionTwo p (take (record_blocks p + table_blocks p + k) blocks) ≡ None
+    → TakenTo p (take (record_blocks p + table_blocks p + k + 1) blocks) (64 * k) c c
 TakenTo-start p blocks k c inside booting lasts none =
-    let n = 5 + table_blocks p + k in
+    let n = record_blocks p + table_blocks p + k in
     let before = take n blocks in
     let right = length-map-range_with_len (count_byte p before) 0 p.pages in
     let at : (i : ℕ) → i < p.pages → slice_index_or c.counts.lasts i 0 ≡ count_byte p before i
@@ -212,18 +212,18 @@ TakenTo-more p part blocks i old new next byte h good sets = by_page (nat_lt i p
 
 -- with all of block k there is no fault, and the counts are those of the blocks
 pub taken-none : (p : Parameters) (blocks : List Block) (k i : ℕ) (old new : State) → 64 * k + 64 ≤ i
-    → TakenTo p (take (5 + table_blocks p + k + 1) blocks) i old new → count_fault VersionTwo p (take (5 + table_blocks p + k + 1) blocks) ≡ None
+    → TakenTo p (take (record_blocks p + table_blocks p + k + 1) blocks) i old new → count_fault VersionTwo p (take (record_blocks p + table_blocks p + k + 1) blocks) ≡ None
 taken-none p blocks k i old new all h =
-    let n = 5 + table_blocks p + k in
+    let n = record_blocks p + table_blocks p + k in
     fault-none p (take (n + 1) blocks) (λ j l. elim (cases_lt j i) as (λ _. is_bad_count p (take (n + 1) blocks) j ≡ false) [
       | inl below ↦ h.fine j below
       | inr past ↦ bad-zero p (take (n + 1) blocks) j (byte-past p blocks (n + 1) j (omega (arith, past, all)))
     ])
 
 pub taken-counts : (p : Parameters) (blocks : List Block) (k i : ℕ) (old new : State) → 64 * k + 64 ≤ i
-    → TakenTo p (take (5 + table_blocks p + k + 1) blocks) i old new → new.counts.lasts ≡ counts_in VersionTwo p (take (5 + table_blocks p + k + 1) blocks)
+    → TakenTo p (take (record_blocks p + table_blocks p + k + 1) blocks) i old new → new.counts.lasts ≡ counts_in VersionTwo p (take (record_blocks p + table_blocks p + k + 1) blocks)
 taken-counts p blocks k i old new all h =
-    let n = 5 + table_blocks p + k in
+    let n = record_blocks p + table_blocks p + k in
     let part = take (n + 1) blocks in
     let right = length-map-range_with_len (count_byte p part) 0 p.pages in
     ext_get_or 0 new.counts.lasts (map (count_byte p part) (range_with_len 0 p.pages)) (h.long ∙ sym right)

@@ -136,7 +136,7 @@ module _ (p : Parameters) (s : Plain) (h : CanStart p s) where
       let two = first_place j (omega (arith, b, numbers_long)) in
       omega (arith, e, one, two)
 
-  state_same : state_from p (filling_dual.cpu_in (map (parts_by p (cpu_of s) (no_tables p) no_counts 0).slot (range_with_len 0 (slot_blocks p)))) (start_blocks p s) ≡ s
+  state_same : state_from p (filling_dual.cpu_in p (map (parts_by p (cpu_of s) (no_tables p) no_counts 0).slot (range_with_len 0 (slot_blocks p)))) (start_blocks p s) ≡ s
   state_same =
       ap (λ c. state_from p c (start_blocks p s))
       (cpu_is p ceiling (cpu_of s) (no_tables p) no_counts 0 h.geometry h.recordable (omega arith) (omega arith) (IsTables-none p) (AreCounts-none p))
@@ -179,7 +179,7 @@ filling_is_lawful = record {
   most_room = λ p commit. most_slot (version_of commit) p;
   head_inside = λ p. omega arith;
   slot_inside = λ p header commit header_fits commit_fits. inside_image (version_of commit) p (_ % 2) (half _);
-  counts = λ p slot memory. count_is p (filling_dual.cpu_in slot) memory;
+  counts = λ p slot memory. count_is p (filling_dual.cpu_in p slot) memory;
   early_none = λ p commit. no_fault_yet (version_of commit) p;
   none_taken = λ c commit empty. none_taken_yet (version_of commit) c empty;
   begins = λ c n commit slot lists i m may below. absurd (omega (arith, below));

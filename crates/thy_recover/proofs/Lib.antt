@@ -6,7 +6,6 @@ pub mod WorkLemmas
 pub mod RecordLemmas
 pub mod StartLemmas
 pub mod PositionLemmas
-pub mod FaultLemmas
 pub mod SlotLemmas
 pub mod FillingLemmas
 pub mod BootedLemmas

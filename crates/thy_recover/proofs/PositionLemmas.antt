@@ -6,7 +6,7 @@ use Rattle.thy_base.specs.declared.block.Block.{Block}
 use Rattle.thy_base.specs.declared.config.Parameters.{Parameters}
 use Rattle.thy_base.specs.declared.place.Place.TheVariants.{AlternatePage, Frame}
 use Rattle.thy_base.specs.Device.{Device, newest}
-use Rattle.thy_base.specs.Places.{image_blocks, number_of}
+use Rattle.thy_base.specs.Places.{record_blocks, image_blocks, number_of}
 use Rattle.thy_dram.specs.Contents.{Contents}
 use Rattle.thy_record.specs.Slots.{tables_in}
 use Rattle.thy_record.specs.Tables.{Tables, entry_at}
@@ -23,7 +23,7 @@ use Rattle.thy_recover.proofs.LiveLemmas.{live_in_tables, framed_inside}
 
 -- the tables of a slot have as many entries as the geometry
 pub size_of : (p : Parameters) (slot : List Block) → length (tables_in p slot).ptt ≡ p.ptt
-size_of p slot = length-entries_in slot (40 + p.btt) p.ptt
+size_of p slot = length-entries_in slot (8 * record_blocks p + p.btt) p.ptt
 
 -- ---- positions
 

@@ -15,7 +15,7 @@ use Rattle.thy_isa.specs.Storable.{IsStatus, IsStorable}
 use Rattle.thy_record.specs.declared.bad_image.BadImage.{BadImage}
 use Rattle.thy_record.specs.declared.bad_image.BadImage.TheVariants.{Status as BadStatus, ConsoleLength}
 use Rattle.thy_record.specs.Cpu.{status_tag, status_value, is_status, record_word, cpu_of_record, IsRecordable}
-use Rattle.thy_record.specs.Slots.{tables_in, epoch_fault, status_fault, count_fault, slot_fault}
+use Rattle.thy_record.specs.Slots.{tables_in, epoch_fault, status_fault, rest_fault, slot_fault}
 use Rattle.thy_record.specs.TableFaults.{tables_fault}
 use Rattle.thy_view.specs.Origin.{Origin, IsOrigin, setting_of, at}
 use Rattle.thy_view.specs.Safe.{ceiling}
@@ -42,26 +42,26 @@ slot_asks : (version : LayoutVersion) (p : Parameters) (epoch : ℕ) (slot : Lis
 unfolding slot_fault
 slot_asks version p epoch slot h =
     let fits : status_fault p ceiling slot ≡ None
-    = first (status_fault p ceiling slot) (count_fault version p slot)
-    (second (tables_fault p (tables_in p slot)) (option_or (status_fault p ceiling slot) (count_fault version p slot))
-    (second (epoch_fault epoch slot) (option_or (tables_fault p (tables_in p slot)) (option_or (status_fault p ceiling slot) (count_fault version p slot))) h)) in
+    = first (status_fault p ceiling slot) (rest_fault version p slot)
+    (second (tables_fault p (tables_in p slot)) (option_or (status_fault p ceiling slot) (rest_fault version p slot))
+    (second (epoch_fault epoch slot) (option_or (tables_fault p (tables_in p slot)) (option_or (status_fault p ceiling slot) (rest_fault version p slot))) h)) in
     let both = asks (is_status (record_word slot 36) (record_word slot 37)) (nat_lt (record_word slot 32) ceiling)
     (nat_le (record_word slot 34) (console_room p)) fits in
     (ltb-true (record_word slot 32) ceiling both.0, leb-true (record_word slot 34) (console_room p) both.1)
 
 -- so its processor has a count and a console that fit
-pub slot_fits-cpu : (version : LayoutVersion) (p : Parameters) (epoch : ℕ) (slot : List Block) → slot_fault version p ceiling epoch slot ≡ None
-    → ((cpu_of_record slot).count < ceiling) × ((cpu_of_record slot).console_len ≤ console_room p)
+pub slot_fits-cpu : (version : LayoutVersion) (p q : Parameters) (epoch : ℕ) (slot : List Block) → slot_fault version p ceiling epoch slot ≡ None
+    → ((cpu_of_record q slot).count < ceiling) × ((cpu_of_record q slot).console_len ≤ console_room p)
 unfolding cpu_of_record
-slot_fits-cpu version p epoch slot h = slot_asks version p epoch slot h
+slot_fits-cpu version p q epoch slot h = slot_asks version p epoch slot h
 
 -- one that makes a state of the run, and is that of such a slot
-pub restored-recordable : (o : Origin) (version : LayoutVersion) (k epoch : ℕ) (slot memory : List Block) → IsOrigin o
+pub restored-recordable : (o : Origin) (version : LayoutVersion) (q : Parameters) (k epoch : ℕ) (slot memory : List Block) → IsOrigin o
     → slot_fault version o.geometry ceiling epoch slot ≡ None
-    → state_from o.geometry (cpu_of_record slot) memory ≡ at o k → IsRecordable o.geometry ceiling (cpu_of_record slot)
-restored-recordable o version k epoch slot memory origin fits is =
-    let fit = slot_fits-cpu version o.geometry epoch slot fits in
-    IsRecordable-at o k (cpu_of_record slot) memory origin is fit.1 fit.0
+    → state_from o.geometry (cpu_of_record q slot) memory ≡ at o k → IsRecordable o.geometry ceiling (cpu_of_record q slot)
+restored-recordable o version q k epoch slot memory origin fits is =
+    let fit = slot_fits-cpu version o.geometry q epoch slot fits in
+    IsRecordable-at o k (cpu_of_record q slot) memory origin is fit.1 fit.0
 
 -- and that of the start
 pub start-recordable : (o : Origin) → IsOrigin o → IsRecordable o.geometry ceiling (cpu_of o.start)
@@ -76,5 +76,5 @@ start-recordable o origin = record {
   floor = origin.recordable.floor;
   count = let l = origin.recordable.count in omega (arith, l);
   status = origin.recordable.status;
-  alone = origin.recordable.alone;
+  other = origin.recordable.other;
 }

@@ -11,7 +11,7 @@ use Rattle.thy_base.specs.Places.{record_blocks, table_blocks, blocks_of_slot, s
 use Rattle.thy_record.specs.Commit.{version_of}
 use Rattle.thy_record.specs.Files.{block_in, blocks_of}
 use Rattle.thy_record.specs.ImageLaws.{FaultlessTables}
-use Rattle.thy_record.specs.Slots.{tables_in, counts_in, epoch_fault, status_fault, count_fault, slot_fault}
+use Rattle.thy_record.specs.Slots.{tables_in, counts_in, epoch_fault, status_fault, count_fault, second_fault, rest_fault, slot_fault}
 use Rattle.thy_record.specs.TableFaults.{tables_fault}
 use Rattle.thy_record.specs.Tables.{Tables, IsTables, entry_at}
 use Rattle.thy_record.proofs.FileLemmas.{length-blocks_of, block_at-blocks_of, block_in-part}
@@ -65,10 +65,10 @@ slot_block_past slot bytes k is l =
 
 -- the tables of a slot have as many entries as the geometry
 pub size_of_ptt : (p : Parameters) (slot : List Block) → length (tables_in p slot).ptt ≡ p.ptt
-size_of_ptt p slot = length-entries_in slot (40 + p.btt) p.ptt
+size_of_ptt p slot = length-entries_in slot (8 * record_blocks p + p.btt) p.ptt
 
 pub size_of_btt : (p : Parameters) (slot : List Block) → length (tables_in p slot).btt ≡ p.btt
-size_of_btt p slot = length-entries_in slot 40 p.btt
+size_of_btt p slot = length-entries_in slot (8 * record_blocks p) p.btt
 
 none_of_two : {X : Type 0} (a b : Option X) → option_or a b ≡ None → (a ≡ None) × (b ≡ None)
 none_of_two None b h = (refl, h)
@@ -80,11 +80,11 @@ pub tables_fit : FaultlessTables → (version : LayoutVersion) (p : Parameters) 
 unfolding slot_fault
 tables_fit law version p ceiling epoch slot h =
     let t : Tables = tables_in p slot in
-    let rest = (none_of_two (epoch_fault epoch slot) (option_or (tables_fault p t) (option_or (status_fault p ceiling slot) (count_fault version p slot))) h).1 in
+    let rest = (none_of_two (epoch_fault epoch slot) (option_or (tables_fault p t) (option_or (status_fault p ceiling slot) (rest_fault version p slot))) h).1 in
     (law p t).found (record {
       btt_length = size_of_btt p slot;
       ptt_length = size_of_ptt p slot;
-      none = (none_of_two (tables_fault p t) (option_or (status_fault p ceiling slot) (count_fault version p slot)) rest).0;
+      none = (none_of_two (tables_fault p t) (option_or (status_fault p ceiling slot) (rest_fault version p slot)) rest).0;
     })
 
 -- and so are its counts
@@ -93,9 +93,10 @@ pub counts_fit : (version : LayoutVersion) (p : Parameters) (ceiling epoch : ℕ
 unfolding slot_fault
 counts_fit version p ceiling epoch slot h =
     let t : Tables = tables_in p slot in
-    let rest = (none_of_two (epoch_fault epoch slot) (option_or (tables_fault p t) (option_or (status_fault p ceiling slot) (count_fault version p slot))) h).1 in
-    (none_of_two (status_fault p ceiling slot) (count_fault version p slot)
-    (none_of_two (tables_fault p t) (option_or (status_fault p ceiling slot) (count_fault version p slot)) rest).1).1
+    let rest = (none_of_two (epoch_fault epoch slot) (option_or (tables_fault p t) (option_or (status_fault p ceiling slot) (rest_fault version p slot))) h).1 in
+    let last = (none_of_two (status_fault p ceiling slot) (rest_fault version p slot)
+    (none_of_two (tables_fault p t) (option_or (status_fault p ceiling slot) (rest_fault version p slot)) rest).1).1 in
+    (none_of_two (count_fault version p slot) (second_fault p slot) last).0
 
 -- what has taken up a slot lists none of its tables yet
 pub ListsUpTo-taken : (f : LayoutVersion) (p : Parameters) (slot : List Block) (c : State) → c.p ≡ p → HasTakenUp f slot c → ListsUpTo 0 0 (tables_in p slot) c

@@ -12,7 +12,7 @@ use Rattle.thy_base.specs.Device.{zero_block, block_at}
 use Rattle.thy_base.specs.Geometry.{IsInRange, memory_blocks, program_size, console_room}
 use Rattle.std.specs.List.{range_with_len}
 use Rattle.thy_base.specs.LittleEndian.{number_bytes}
-use Rattle.thy_base.specs.Places.{table_blocks, slot_blocks}
+use Rattle.thy_base.specs.Places.{record_blocks, table_blocks, slot_blocks}
 use Rattle.thy_base.specs.Store.{page_of}
 use Rattle.thy_base.proofs.BlockLemmas.{block_bytes-long}
 use Rattle.thy_base.proofs.RangeLemmas.{console_below, btt_eights, ptt_eights}
@@ -99,15 +99,15 @@ unfolding block_of number_bytes zero_block
 zero_words = refl
 
 -- block k of a start's slot behind the record
-pub start_slot-zeros : (p : Parameters) (s : State) (k : ℕ) → IsInRange p → 5 ≤ k → k < slot_blocks p → block_of (replicate 8 0) ≡ start_slot p s k
-start_slot-zeros p s k r past inside = elim (cases_lt (k - 5) (table_blocks p)) as (λ _. block_of (replicate 8 0) ≡ start_slot p s k) [
+pub start_slot-zeros : (p : Parameters) (s : State) (k : ℕ) → IsInRange p → record_blocks p ≤ k → k < slot_blocks p → block_of (replicate 8 0) ≡ start_slot p s k
+start_slot-zeros p s k r past inside = elim (cases_lt (k - record_blocks p) (table_blocks p)) as (λ _. block_of (replicate 8 0) ≡ start_slot p s k) [
   | inl l ↦
-      let e : 5 + (k - 5) ≡ k = omega arith in
-      table_block-none p (k - 5) r l ∙ sym (slot_block_of-table p (cpu_of s) (no_tables p) no_counts 0 (k - 5) l)
+      let e : record_blocks p + (k - record_blocks p) ≡ k = omega arith in
+      table_block-none p (k - record_blocks p) r l ∙ sym (slot_block_of-table p (cpu_of s) (no_tables p) no_counts 0 (k - record_blocks p) l)
       ∙ ap (slot_block_of p (cpu_of s) (no_tables p) no_counts 0) e
   | inr m ↦
-      let e : 5 + table_blocks p + (k - 5 - table_blocks p) ≡ k = omega arith in
-      zero_words ∙ sym (slot_block_of-count p (cpu_of s) (no_tables p) no_counts 0 (k - 5 - table_blocks p))
+      let e : record_blocks p + table_blocks p + (k - record_blocks p - table_blocks p) ≡ k = omega arith in
+      zero_words ∙ sym (slot_block_of-count p (cpu_of s) (no_tables p) no_counts 0 (k - record_blocks p - table_blocks p))
       ∙ ap (slot_block_of p (cpu_of s) (no_tables p) no_counts 0) e
 ]
 

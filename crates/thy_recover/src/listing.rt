@@ -15,12 +15,13 @@ ghost use Rattle.thy_recover.specs.Filling.{HasTakenUp, next_position, filling_d
 ghost use Rattle.thy_recover.specs.Listed.{ListsUpTo, AsListed};
 
 use crate::counts::take_counts;
-use thy_base::{BLOCK_SIZE, Block, Geometry, LayoutVersion, PAGE_BLOCKS, word};
+use thy_base::{BLOCK_SIZE, Block, Geometry, PAGE_BLOCKS, word};
 use thy_boot::CEILING;
 use thy_control::{Control, tables_allow_listing};
 use thy_isa::CpuState;
 use thy_record::{
-    BadImage, block_in, cpu_in, faultless_tables, listed_block, listed_page, slot_fault, version_of,
+    BadImage, block_in, cpu_in, faultless_tables, head_fault, listed_block, listed_page,
+    second_fault, version_of,
 };
 
 /// The blocks of a slot in its room: as many as the version has that the commit block names.
@@ -72,25 +73,18 @@ pub fn fault_of_slot(
         result ≡ fault_of_slot (version_named commit.now) geometry.now ceiling (epoch_of commit.now) blocks }
 {
     let blocks = slot_of(geometry, commit, slot);
-    // Version 1 is what both versions begin with: record and tables.
-    let head = BLOCK_SIZE * geometry.slot_blocks_of(LayoutVersion::VersionOne) as usize;
     let epoch = word(commit, 1);
-    let fault = slot_fault(
-        &blocks[..head],
-        LayoutVersion::VersionOne,
-        epoch,
-        geometry,
-        CEILING,
-    );
-    fault.or(early)
+    let head = head_fault(blocks, epoch, geometry, CEILING);
+    let fault = head.or(early);
+    fault.or(second_fault(blocks, geometry))
 }
 
 /// The processor of a slot.
 pub fn cpu_of_slot(geometry: &Geometry, commit: &Block, slot: &[u8]) -> CpuState
     requires { length slot.now ≡ 64 * slot_blocks geometry.now }
-    ensures { result ≡ cpu_of_record (slot_bytes filling_dual geometry.now commit.now slot.now) }
+    ensures { result ≡ cpu_of_record geometry.now (slot_bytes filling_dual geometry.now commit.now slot.now) }
 {
-    cpu_in(slot_of(geometry, commit, slot))
+    cpu_in(slot_of(geometry, commit, slot), geometry)
 }
 
 /// Block `k` of a slot; past its end that is a block of zeros.

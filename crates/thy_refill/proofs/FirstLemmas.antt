@@ -57,10 +57,10 @@ module _ (p : Parameters) (s : Plain) (h : CanStart p s) where
       no_fault p ceiling (cpu_of s) (no_table p) 0 h.geometry h.recordable (omega arith) (omega arith) (IsTable-none p) (header_of p)
       (header_fault-header_of p h.geometry)
 
-  cpu_is : cpu_of_record (slot_of (parts_by p (cpu_of s) (no_table p) 0)) ≡ cpu_of s
+  cpu_is : cpu_of_record p (slot_of (parts_by p (cpu_of s) (no_table p) 0)) ≡ cpu_of s
   cpu_is = (back p ceiling (cpu_of s) (no_table p) 0 h.geometry h.recordable (omega arith) (omega arith) (IsTable-none p)).cpu_back
 
-  pub start_state : state_from p (cpu_of_record (slot_of (parts_by p (cpu_of s) (no_table p) 0))) (start_blocks p s) ≡ s
+  pub start_state : state_from p (cpu_of_record p (slot_of (parts_by p (cpu_of s) (no_table p) 0))) (start_blocks p s) ≡ s
   start_state = ap (λ (c : CpuState). state_from p c (start_blocks p s)) cpu_is ∙ state_from-start p s h.geometry h.start
 
   pub start_some : 0 < length (first_of_start p s).parts.memory

@@ -29,7 +29,7 @@ log_is_filled = record {
   most_room = λ p commit. omega arith;
   head_inside = λ p. omega arith;
   slot_inside = λ p header commit fits also. slot_fits p (epoch_of commit % 2) (half (epoch_of commit));
-  counts = λ p slot memory. count_of p (cpu_of_record slot) memory;
+  counts = λ p slot memory. count_of p (cpu_of_record p slot) memory;
   early_none = λ p commit. refl;
   none_taken = λ s commit fresh. fresh;
   begins = λ s n commit slot lists. record { each = λ i b low listed. absurd (omega (arith, low)) };

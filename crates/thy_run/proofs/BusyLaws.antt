@@ -48,8 +48,8 @@ boots_kept false boots most old new step kept = omega (arith, step, kept)
 pub record Works {M : Type 0} (K : KindOf M) (o : Origin) (cuts : List ℕ) (w : World M) (t : Tally) : Type 0 where
   pub at_moment : K.is_at (line o w) w.cycles w.machine w.device
   pub near : w.cycles + K.ahead (line o w) w.machine w.device ≤ cycles_for K o.geometry cuts t.retired
-  pub boots : t.boots ≤ K.most_booting o.geometry
-  pub boot : (seen K o w).phase ≡ BootPhase → t.boots + (K.gauge w.machine w.device).boot_left ≤ K.most_booting o.geometry
+  pub boots : t.booted ≤ K.most_booting o.geometry
+  pub boot : (seen K o w).phase ≡ BootPhase → t.booted + (K.gauge w.machine w.device).boot_left ≤ K.most_booting o.geometry
   pub queued : t.drains + (K.gauge w.machine w.device).queued ≤ t.others
 
 module _ {M : Type 0} (K : KindOf M) (laws : IsLawful K) (o : Origin) (cuts : List ℕ) where
@@ -73,16 +73,16 @@ module _ {M : Type 0} (K : KindOf M) (laws : IsLawful K) (o : Origin) (cuts : Li
       }
 
   -- a step after the boot is none of its cycles, and the boot does not come again
-  behind : (w next : World M) (step : TakesStep K o w next) (t : Tally) → Works K o cuts w t → is_boot (seen K o w).phase ≡ false → IsBooting next (t.boots + 0)
+  behind : (w next : World M) (step : TakesStep K o w next) (t : Tally) → Works K o cuts w t → is_boot (seen K o w).phase ≡ false → IsBooting next (t.booted + 0)
   behind w next step t h up =
       let kind = kind_of (line o next) (seen K o w) (seen K o next) step.r.did (core_of K o w next step) in
       let still : is_boot (seen K o next).phase ≡ false = stays_up (line o next) (seen K o w) (seen K o next) step.r.did kind up in
       (omega (arith, h.boots), λ e. absurd (let boot : is_boot (seen K o next).phase ≡ true = ap is_boot e in cc))
 
   phases : (w next : World M) (step : TakesStep K o w next) (t : Tally) → Works K o cuts w t → (p : Phase) → (seen K o w).phase ≡ p
-      → IsBooting next (t.boots + one_if (is_boot p && not (is_drained step.r.did)))
+      → IsBooting next (t.booted + one_if (is_boot p && not (is_drained step.r.did)))
   phases w next step t h BootPhase is =
-      let kept = boots_kept (is_drained step.r.did) t.boots (K.most_booting o.geometry) _ _ (step.is_step.pace.boots (ap (λ (v : View). v.phase) step.alike ∙ is)) (h.boot is) in
+      let kept = boots_kept (is_drained step.r.did) t.booted (K.most_booting o.geometry) _ _ (step.is_step.pace.boots (ap (λ (v : View). v.phase) step.alike ∙ is)) (h.boot is) in
       (omega (arith, kept), λ e. kept)
   phases w next step t h Run is = behind w next step t h (ap is_boot is)
   phases w next step t h Halt is = behind w next step t h (ap is_boot is)

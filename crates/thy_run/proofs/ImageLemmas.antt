@@ -2,7 +2,7 @@
 use Rattle.std.proofs.Common.{◌≡◌, ℕ, suc, Some, None, List, [], ◌∷◌, ◌++◌, length, refl, ap}
 use Rattle.thy_base.specs.declared.block.Block.{Block}
 use Rattle.thy_record.specs.Decoded.{Decoded}
-use Rattle.thy_text.specs.Event.{Event, EpochEnd, Commit, Cut, Restart, Reload, Ended}
+use Rattle.thy_text.specs.Event.{Event, Scheme, EpochEnd, Commit, Cut, Restart, Reload, Ended}
 use Rattle.thy_run.specs.Cuts.{cuts_among}
 use Rattle.thy_run.specs.Images.{Found, found, HasLeft, AllFit}
 
@@ -18,6 +18,7 @@ AllFit-append read P Q s (EpochEnd epoch count cause turns ∷ vs) ws left more 
 AllFit-append read P Q s (Commit epoch cycle overlapped ∷ vs) ws left more next h = (h.0, AllFit-append read P Q (found s.means None) vs ws left more next h.1)
 AllFit-append read P Q s (Restart epoch count state ∷ vs) ws left more next h = (h.0, AllFit-append read P Q (found s.means None) vs ws left more next h.1)
 AllFit-append read P Q s (Reload ∷ vs) ws left more next h = (h.0, AllFit-append read P Q (found s.means None) vs ws left more next h.1)
+AllFit-append read P Q s (Scheme number ∷ vs) ws left more next h = (h.0, AllFit-append read P Q (found s.means None) vs ws left more next h.1)
 AllFit-append read P Q s (Ended status count cycle state ∷ vs) ws left more next h = (h.0, AllFit-append read P Q (found s.means None) vs ws left more next h.1)
 
 -- after an event that is not a cut
@@ -34,6 +35,7 @@ AllFit-ends read P Q s (EpochEnd epoch count cause turns ∷ vs) left next h = (
 AllFit-ends read P Q s (Commit epoch cycle overlapped ∷ vs) left next h = (h.0, AllFit-ends read P Q (found s.means None) vs left next h.1)
 AllFit-ends read P Q s (Restart epoch count state ∷ vs) left next h = (h.0, AllFit-ends read P Q (found s.means None) vs left next h.1)
 AllFit-ends read P Q s (Reload ∷ vs) left next h = (h.0, AllFit-ends read P Q (found s.means None) vs left next h.1)
+AllFit-ends read P Q s (Scheme number ∷ vs) left next h = (h.0, AllFit-ends read P Q (found s.means None) vs left next h.1)
 AllFit-ends read P Q s (Ended status count cycle state ∷ vs) left next h = (h.0, AllFit-ends read P Q (found s.means None) vs left next h.1)
 
 -- the first of some events, no cut among them
@@ -45,6 +47,7 @@ AllFit-part read P cycles s (EpochEnd epoch count cause turns ∷ vs) ws left h 
 AllFit-part read P cycles s (Commit epoch cycle overlapped ∷ vs) ws left h uncut last = (h.0, AllFit-part read P cycles (found s.means None) vs ws left h.1 uncut (has_left cycles s.means))
 AllFit-part read P cycles s (Restart epoch count state ∷ vs) ws left h uncut last = (h.0, AllFit-part read P cycles (found s.means None) vs ws left h.1 uncut (has_left cycles s.means))
 AllFit-part read P cycles s (Reload ∷ vs) ws left h uncut last = (h.0, AllFit-part read P cycles (found s.means None) vs ws left h.1 uncut (has_left cycles s.means))
+AllFit-part read P cycles s (Scheme number ∷ vs) ws left h uncut last = (h.0, AllFit-part read P cycles (found s.means None) vs ws left h.1 uncut (has_left cycles s.means))
 AllFit-part read P cycles s (Ended status count cycle state ∷ vs) ws left h uncut last = (h.0, AllFit-part read P cycles (found s.means None) vs ws left h.1 uncut (has_left cycles s.means))
 
 -- there is one image for each cut
@@ -56,4 +59,5 @@ AllFit-many read P s (EpochEnd epoch count cause turns ∷ vs) left h = AllFit-m
 AllFit-many read P s (Commit epoch cycle overlapped ∷ vs) left h = AllFit-many read P (found s.means None) vs left h.1
 AllFit-many read P s (Restart epoch count state ∷ vs) left h = AllFit-many read P (found s.means None) vs left h.1
 AllFit-many read P s (Reload ∷ vs) left h = AllFit-many read P (found s.means None) vs left h.1
+AllFit-many read P s (Scheme number ∷ vs) left h = AllFit-many read P (found s.means None) vs left h.1
 AllFit-many read P s (Ended status count cycle state ∷ vs) left h = AllFit-many read P (found s.means None) vs left h.1

@@ -1,28 +1,23 @@
 -- The turns that events report of a checkpoint reach its state, along the run's own turns.
-use Rattle.std.proofs.Common.{◌≡◌, ◌⊎◌, ℕ, ◌-◌, ◌≤◌, ◌==◌, ◌&&◌, Bool, true, false, if◌then◌else◌, Option, Some, None, List, [], ◌++◌, length, drop, refl, sym, ◌∙◌, ap, ap₂, subst, inl, inr, arith}
+use Rattle.std.proofs.Common.{◌≡◌, ℕ, ◌-◌, ◌≤◌, ◌==◌, ◌&&◌, Bool, true, false, if◌then◌else◌, Option, Some, None, List, [], ◌++◌, length, drop, refl, sym, ◌∙◌, ap, ap₂, subst, inl, inr, arith}
 use Rattle.std.proofs.lemmas.Bool.{and_parts, eq-eqb, eqb-true}
 use Rattle.std.proofs.lemmas.List.{length-append, length-drop, drop_all, nil_from_length}
 use Rattle.thy_base.specs.declared.mark.Mark.{Mark}
 use Rattle.thy_base.specs.Marks.{mark}
-use Rattle.thy_text.specs.Marks.{Marks, loading_marks, is_mark, turns_of, turns_told}
+use Rattle.thy_text.specs.Marks.{Marks, is_mark, turns_of, turns_told}
 use Rattle.thy_view.specs.declared.view.Phase.{Phase}
 use Rattle.thy_view.specs.declared.view.Phase.TheVariants.{Boot as BootPhase, Run, Halt}
 use Rattle.thy_view.specs.declared.view.View.{View}
 use Rattle.thy_view.specs.Origin.{Origin, at}
-use Rattle.thy_view.specs.Told.{told, AgreeBelow, reach}
+use Rattle.thy_view.specs.Told.{told, AgreeBelow}
 use Rattle.thy_view.proofs.TurnLaws.{AgreeBelow-same, turn_early, joined-agrees, at-agrees}
-use Rattle.thy_run.specs.World.{hart_count}
 use Rattle.thy_run.proofs.Fitting.{IsEither}
 
 -- turns reach a count: they are as many as are reported, and agree with the run's
 pub record LeadsTo (p : Origin) (turns : List ℕ) (count : ℕ) : Type 0 where
   pub late : p.start.count ≤ count
-  pub many : length turns ≡ turns_told hart_count (count - p.start.count)
+  pub many : length turns ≡ turns_told p.geometry.harts (count - p.start.count)
   pub agree : AgreeBelow p turns count
-
--- the run's own are as many as reach the state of a view
-abbrev pub AreTold : Origin → View → Type 0
-AreTold p v = length p.turns ≡ turns_told hart_count (reach v - p.start.count)
 
 -- those of the checkpoint that a boot found; after the boot those of the sealed one
 abbrev pub LeadsIn : Origin → View → Marks → Phase → Type 0
@@ -78,7 +73,7 @@ joined_by false p turns i k many all agree = joined-agrees p turns i k many agre
 pub start_leads : (p : Origin) → LeadsTo p [] p.start.count
 start_leads p = record {
   late = omega arith;
-  many = sym (told_zero hart_count (p.start.count - p.start.count) (omega arith));
+  many = sym (told_zero p.geometry.harts (p.start.count - p.start.count) (omega arith));
   agree = λ j less. turn_early (told p []) j less ∙ sym (turn_early p j less);
 }
 
@@ -91,12 +86,12 @@ pub leads_told : (p : Origin) (t turns : List ℕ) (count : ℕ) → AgreeBelow 
 leads_told p t turns count agree l = record { late = l.late; many = l.many; agree = λ j less. l.agree j less ∙ sym (agree j less) }
 
 -- and with the run's own after them, to the state that these reach
-pub leads_joined : (p : Origin) (turns : List ℕ) (i k : ℕ) → i ≤ k → length p.turns ≡ turns_told hart_count (k - p.start.count) → LeadsTo p turns i
+pub leads_joined : (p : Origin) (turns : List ℕ) (i k : ℕ) → i ≤ k → length p.turns ≡ turns_told p.geometry.harts (k - p.start.count) → LeadsTo p turns i
     → LeadsTo p (turns ++ drop (i - p.start.count) p.turns) k
 leads_joined p turns i k le all l = record {
   late = let late = l.late in omega (arith, late, le);
-  many = many_joined (hart_count == 1) turns p.turns p.start.count i k l.late le l.many all;
-  agree = joined_by (hart_count == 1) p turns i k l.many all l.agree;
+  many = many_joined (p.geometry.harts == 1) turns p.turns p.start.count i k l.late le l.many all;
+  agree = joined_by (p.geometry.harts == 1) p turns i k l.many all l.agree;
 }
 
 -- ---- the turns of one of two marks

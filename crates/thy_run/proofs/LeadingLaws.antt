@@ -1,31 +1,32 @@
 -- The turns that a cycle's events report reach the states of their checkpoints, and so its events are lawful.
-use Rattle.std.proofs.Common.{◌≡◌, ◌≢◌, ℕ, ◌+◌, ◌-◌, ◌≤◌, Bool, true, false, ◌&&◌, if◌then◌else◌, Option, Some, None, List, [], ◌∷◌, ◌++◌, length, drop, refl, sym, ◌∙◌, ap, subst, inl, inr, arith}
+use Rattle.std.proofs.Common.{◌≡◌, ◌≢◌, ℕ, ◌+◌, ◌-◌, ◌≤◌, Bool, true, false, if◌then◌else◌, Option, Some, None, List, [], ◌∷◌, ◌++◌, length, drop, refl, sym, ◌∙◌, ap, subst, inl, inr, arith}
 use Rattle.thy_base.specs.declared.cause.EndCause.{EndCause}
 use Rattle.thy_base.specs.declared.cause.EndCause.TheVariants.{Length, Exhausted, Ended as EndedCause}
 use Rattle.thy_base.specs.declared.mark.Mark.{Mark}
 use Rattle.thy_base.specs.Marks.{mark}
 use Rattle.thy_isa.specs.Step.{State, is_running}
 use Rattle.thy_text.specs.Event.{Event, Ended}
-use Rattle.thy_text.specs.Marks.{Marks, Course, loading_marks, marks_from, turns_of, turns_told, FitsCause, EndsEpoch, AllLawful}
+use Rattle.thy_text.specs.Marks.{Marks, loading_marks, marks_from, turns_of, turns_told, FitsCause, EndsEpoch, AllLawful}
 use Rattle.thy_text.proofs.Histories.{marks_from-append, AllLawful-append}
 use Rattle.thy_view.specs.declared.did.Did.{Did}
 use Rattle.thy_view.specs.declared.did.Did.TheVariants.{Boot, Loaded, Restarted, Refused, Moved, Retired, Flushed, Merged, Sealed, Promoted, Engine, Committed, NvmDrained, DramDrained, Nothing}
 use Rattle.thy_view.specs.declared.view.Phase.{Phase}
 use Rattle.thy_view.specs.declared.view.Phase.TheVariants.{Boot as BootPhase, Run, Halt}
 use Rattle.thy_view.specs.declared.view.View.{View}
-use Rattle.thy_view.specs.CoreStep.{CoreStep, phase_at}
+use Rattle.thy_view.specs.CoreStep.{CoreStep}
 use Rattle.thy_view.specs.Origin.{Origin, at, runs_at}
 use Rattle.thy_view.specs.Pace.{retires}
-use Rattle.thy_view.specs.Told.{told, count_of, reach}
+use Rattle.thy_view.specs.Told.{told, count_of}
 use Rattle.thy_view.specs.Views.{halts}
 use Rattle.thy_view.proofs.ReachLaws.{reach-count}
+use Rattle.thy_run.specs.Going.{AreTold}
 use Rattle.thy_run.specs.Laws.{course_of}
-use Rattle.thy_run.specs.World.{hart_count, turns_behind, did_told, reload_told, end_told, events_of}
-use Rattle.thy_run.proofs.EventLaws.{halts-view, Reloads-told, Fits-events, marks-events}
+use Rattle.thy_run.specs.World.{turns_behind, did_told, reload_told, end_told, events_of}
+use Rattle.thy_run.proofs.EventLaws.{halts-view, Reloads-told, marks-events}
 use Rattle.thy_run.proofs.Fitting.{OverFits, IsEither, BootFits, Follows, RunFits, HaltFits, FitsIn, Fits}
 use Rattle.thy_run.proofs.FittingLaws.{Fits-told}
 use Rattle.thy_run.proofs.ImageLaws.{Stays, Stays-quiet}
-use Rattle.thy_run.proofs.Leading.{LeadsTo, AreTold, LeadsIn, Leads, length-behind, start_leads, state_there, leads_joined}
+use Rattle.thy_run.proofs.Leading.{LeadsTo, LeadsIn, Leads, length-behind, start_leads, state_there, leads_joined}
 
 one_mark : (a b : Mark) → Some a ≡ Some b → a ≡ b
 one_mark a b e = cc
@@ -92,8 +93,8 @@ module _ (p : Origin) (v next : View) (m : Marks) (h : Fits p v m) (l : Leads p 
     since : v.count ≡ runs.mark.count + v.retired
     since = let f : Follows p v runs.mark None = subst (Follows p v runs.mark) s.unsealed runs.follows in f.2
 
-    all_here : length p.turns ≡ turns_told hart_count (count - p.start.count)
-    all_here = all ∙ ap (λ (n : ℕ). turns_told hart_count (n - p.start.count)) (reach-count v (behind_boot v.phase s.phase) ∙ sym s.at_count)
+    all_here : length p.turns ≡ turns_told p.geometry.harts (count - p.start.count)
+    all_here = all ∙ ap (λ (n : ℕ). turns_told p.geometry.harts (n - p.start.count)) (reach-count v (behind_boot v.phase s.phase) ∙ sym s.at_count)
 
     behind_is : turns_behind p v.done ≡ drop (runs.mark.count - p.start.count) p.turns
     behind_is = ap (λ (d : Option Mark). drop (count_of d - p.start.count) p.turns) runs.done
@@ -136,7 +137,7 @@ module _ (p : Origin) (v next : View) (m : Marks) (h : Fits p v m) (l : Leads p 
           from = up_to;
           to = let few = runs.few in omega (arith, since, s.at_count, few);
           each = ap (λ (t : List ℕ). length t) behind_is
-              ∙ length-behind hart_count p.turns p.start.count runs.mark.count count (l.kept runs.mark runs.kept).late up_to all_here;
+              ∙ length-behind p.geometry.harts p.turns p.start.count runs.mark.count count (l.kept runs.mark runs.kept).late up_to all_here;
           fits = for_cause cause (subst (OverFits p v.retired v.count) s.over runs.over);
         }
 

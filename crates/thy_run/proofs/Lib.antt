@@ -10,6 +10,7 @@ pub mod ListedLemmas
 pub mod ImageLemmas
 pub mod ImageLaws
 pub mod LeadingLaws
+pub mod ListingLemmas
 pub mod RetellLaws
 pub mod CutLaws
 pub mod WorldLaws

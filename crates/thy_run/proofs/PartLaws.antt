@@ -1,5 +1,5 @@
 -- What a device is safe for in the midst of a cycle's events, and after a step that failed.
-use Rattle.std.proofs.Common.{◌≡◌, ◌⊎◌, ℕ, ◌+◌, ◌≤◌, Bool, true, false, ◌||◌, if◌then◌else◌, Option, Some, None, List, ◌++◌, refl, sym, ◌∙◌, ap, subst, inl, inr}
+use Rattle.std.proofs.Common.{◌≡◌, ◌⊎◌, ℕ, ◌+◌, ◌≤◌, Bool, false, ◌||◌, if◌then◌else◌, Some, None, List, ◌++◌, sym, ◌∙◌, ap, subst, inl, inr}
 use Rattle.thy_base.specs.declared.cause.EndCause.{EndCause}
 use Rattle.thy_base.specs.declared.mark.Mark.{Mark}
 use Rattle.thy_base.specs.Device.{Device}
@@ -18,10 +18,11 @@ use Rattle.thy_view.specs.Views.{doubt_of}
 use Rattle.thy_run.specs.Laws.{IsSafe}
 use Rattle.thy_run.specs.World.{did_told, events_of}
 use Rattle.thy_run.proofs.CoverLaws.{Covers-fault, Covers-before, doubt_sealed, marks-part}
-use Rattle.thy_run.proofs.CutLaws.{Leaves, leaves_one, or_sealed, IsSafe-by, IsSafe-fits}
+use Rattle.thy_run.proofs.CutLaws.{leaves_one, or_sealed, IsSafe-by, IsSafe-fits}
 use Rattle.thy_run.proofs.Fitting.{Follows, RunFits, FitsIn, Fits}
 use Rattle.thy_run.proofs.FittingLaws.{Fits-told}
-use Rattle.thy_run.proofs.Leading.{AreTold, Leads}
+use Rattle.thy_run.specs.Going.{AreTold}
+use Rattle.thy_run.proofs.Leading.{Leads}
 use Rattle.thy_run.proofs.LeadingLaws.{Leads-told}
 use Rattle.thy_run.proofs.StepKinds.{Kind, keeps, loads, restores, advances, seals, commits, kind_of}
 

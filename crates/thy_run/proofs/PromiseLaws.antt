@@ -5,7 +5,6 @@ use Rattle.std.proofs.lemmas.List.Folds.{list_any-append}
 use Rattle.thy_base.specs.declared.block.Block.{Block}
 use Rattle.thy_base.specs.declared.mark.Mark.{Mark}
 use Rattle.thy_base.specs.Device.{Device}
-use Rattle.thy_view.specs.Action.{doubt_after_fault}
 use Rattle.thy_view.specs.Kind.{KindOf, IsLawful}
 use Rattle.thy_text.specs.Event.{Event}
 use Rattle.thy_text.specs.Marks.{Marks, Course, marks_from, marks_after, AllLawful}
@@ -20,12 +19,13 @@ use Rattle.thy_view.proofs.SafeLemmas.{Safe-failed}
 use Rattle.thy_run.specs.Cuts.{is_end, has_ended, cuts_among, numbered, last_cuttable, cuts_up_to}
 use Rattle.thy_run.specs.Images.{Found, HasLeft, AllFit}
 use Rattle.thy_run.specs.Laws.{course_of, marks_at, first_marks, marks_of, found_at_start, torn, IsSafe, LeavesRoom, Promise, RunKeepsPromise}
-use Rattle.thy_run.specs.Progress.{IsSoonOver}
+use Rattle.thy_run.specs.Progress.{IsSoonOver, IsPaced}
 use Rattle.thy_run.specs.Strides.{first_epoch, AllStride}
 use Rattle.thy_run.specs.Unfinished.{StepFailed, ReadFailed, TellingFailed, IsLast, AtStop}
 use Rattle.thy_run.specs.World.{World, Given, line, seen, events_of, TakesStep}
 use Rattle.thy_run.specs.declared.ending.Stop.{Stop}
 use Rattle.thy_run.specs.declared.ending.Stop.TheVariants.{Ended, Nvm, Memory, Terminal, Report, Limit}
+use Rattle.thy_run.proofs.BusyLaws.{Busy-ran}
 use Rattle.thy_run.proofs.ImageLaws.{ImagesFit, AllFit-events}
 use Rattle.thy_run.proofs.ImageLemmas.{AllFit-append, AllFit-ends, AllFit-part}
 use Rattle.thy_run.proofs.ListedLemmas.{cuts_among-append}
@@ -90,7 +90,7 @@ leaves_room given passed events n stays few left cuts = record {
 }
 
 module _ {M : Type 0} (K : KindOf M) (o : Origin) (given : Given) (w : World M) (least : 1 ≤ o.geometry.epoch) (g : Good K o given.config.cuts w) (keeps : StaysFitted given w.passed w.device)
-    (soon : IsSoonOver K o given.config.cuts w.cycles) (strode : Strode K o w) where
+    (soon : IsSoonOver K o given.config.cuts w.cycles) (paced : IsPaced K o given w.cycles) (strode : Strode K o w) where
   abbrev read : List Block → Decoded
   read = K.decode o.geometry ceiling
 
@@ -110,6 +110,7 @@ module _ {M : Type 0} (K : KindOf M) (o : Origin) (given : Given) (w : World M) 
         room = leaves_room given w.passed w.events w.device keeps g.listed.few g.stands.left fit.1;
         safe_at_return = g.stands.safe;
         soon = soon;
+        paced = paced;
         strides = strode.all;
       }
 
@@ -131,6 +132,7 @@ module _ {M : Type 0} (K : KindOf M) (o : Origin) (given : Given) (w : World M) 
             let action = f.leaves.acted.failed.action in
             IsSafe-fault K.decode (line o w) (seen K o w) m action n g.stands.fits g.stands.leads f.leaves.safe;
         soon = soon;
+        paced = paced;
         strides = p.strides;
       }
 
@@ -181,6 +183,7 @@ module _ {M : Type 0} (K : KindOf M) (o : Origin) (given : Given) (w : World M) 
         room = leaves_room given w.passed (w.events ++ part) n kept g.listed.few (ap length (left ∙ left_next) ∙ g.stands.left) (ap length same_cuts ∙ fit.1);
         safe_at_return = subst (λ (x : Marks). IsSafe K.decode o x n) (sym marks) safe;
         soon = soon;
+        paced = paced;
         strides = AllStride-part o.start.count (first_epoch o.start.count) (w.events ++ part) rest
             (subst (AllStride o.start.count (first_epoch o.start.count)) split (strode_step K o w next step strode).all);
       }
@@ -215,5 +218,6 @@ Promise-stopped K laws o given cycles events n stop origin rising s =
     let good = Good-ran K o given cycles s.last least rising s.ran in
     let same : s.last.cycles ≡ cycles = cycles-ran K o given cycles s.last s.ran in
     let soon : IsSoonOver K o given.config.cuts s.last.cycles = subst (IsSoonOver K o given.config.cuts) (sym same) (SoonOver-ran K laws o given cycles s.last s.ran) in
+    let paced : IsPaced K o given s.last.cycles = subst (IsPaced K o given) (sym same) (λ w ran. (Busy-ran K laws o given cycles w ran).paced) in
     subst (λ k. Promise K o given k events n) same
-    (stop_promise K o given s.last least good (StaysFitted-ran K o given cycles s.last s.ran) soon (strode_ran K o given cycles s.last s.ran) events n stop s.at_stop)
+    (stop_promise K o given s.last least good (StaysFitted-ran K o given cycles s.last s.ran) soon paced (strode_ran K o given cycles s.last s.ran) events n stop s.at_stop)

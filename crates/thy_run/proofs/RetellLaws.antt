@@ -1,5 +1,5 @@
 -- What holds between two cycles holds along all turns that agree as far as the machine is.
-use Rattle.std.proofs.Common.{◌≡◌, ◌⊎◌, ℕ, ◌+◌, ◌≤◌, Bool, false, List, Option, Some, None, refl, sym, ◌∙◌, ap, subst, inl, inr, arith}
+use Rattle.std.proofs.Common.{◌≡◌, ◌⊎◌, ℕ, ◌≤◌, Bool, List, Option, Some, None, refl, sym, ◌∙◌, ap, subst, inl, inr, arith}
 use Rattle.thy_base.specs.declared.cause.EndCause.{EndCause}
 use Rattle.thy_base.specs.declared.cause.EndCause.TheVariants.{Length, Exhausted, Ended as EndedCause}
 use Rattle.thy_base.specs.declared.mark.Mark.{Mark}
@@ -9,14 +9,14 @@ use Rattle.thy_text.specs.Marks.{Marks}
 use Rattle.thy_view.specs.declared.view.Phase.{Phase}
 use Rattle.thy_view.specs.declared.view.Phase.TheVariants.{Boot as BootPhase, Run, Halt}
 use Rattle.thy_view.specs.declared.view.View.{View}
-use Rattle.thy_view.specs.Origin.{Origin, at, runs_at}
+use Rattle.thy_view.specs.Origin.{Origin, runs_at}
 use Rattle.thy_view.specs.Told.{told, AgreeBelow, count_of, reach}
 use Rattle.thy_view.proofs.ReachLaws.{reach-count, reach-boot}
 use Rattle.thy_view.proofs.TurnLaws.{AgreeBelow-less, at-agrees}
 use Rattle.thy_run.specs.Images.{Found}
-use Rattle.thy_run.proofs.Fitting.{OverFits, Loading, Recovering, BootFits, Follows, RunFits, HaltFits, FitsIn, Fits}
+use Rattle.thy_run.proofs.Fitting.{OverFits, Loading, Recovering, Follows, RunFits, FitsIn, Fits}
 use Rattle.thy_run.proofs.ImageLaws.{IsFound, ImagesFit}
-use Rattle.thy_run.proofs.Leading.{LeadsTo, LeadsIn, Leads, leads_told}
+use Rattle.thy_run.proofs.Leading.{LeadsIn, Leads, leads_told}
 
 one_mark : (a b : Mark) → Some a ≡ Some b → a ≡ b
 one_mark a b e = cc
@@ -57,6 +57,13 @@ kept_in p v m Halt is f k kept =
 -- a committed mark is no further than the machine
 pub kept_within : (p : Origin) (v : View) (m : Marks) → Fits p v m → (k : Mark) → m.kept ≡ Some k → k.count ≤ reach v
 kept_within p v m h k kept = kept_in p v m v.phase refl h k kept
+
+-- and after the boot the machine is no earlier than the start
+pub late_of : (p : Origin) (v : View) (m : Marks) → Fits p v m → Leads p v m → v.phase ≡ Run → p.start.count ≤ reach v
+late_of p v m h l is =
+    let f : RunFits p v m = subst (FitsIn p v m) is h in
+    let from : p.start.count ≤ f.mark.count = (l.kept f.mark f.kept).late in
+    omega (arith, from, done_below p v f.mark v.sealed f.follows, runs_to v is)
 
 -- ---- the view
 

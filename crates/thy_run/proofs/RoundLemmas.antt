@@ -18,9 +18,9 @@ use Rattle.thy_run.specs.declared.ending.Stop.{Stop}
 use Rattle.thy_run.specs.declared.ending.Stop.TheVariants.{Ended, Nvm, Memory, Terminal, Report, Limit}
 use Rattle.thy_run.specs.declared.plan.Plan.{Plan}
 use Rattle.thy_run.specs.declared.progress.Progress.{Progress}
-use Rattle.thy_run.specs.Going.{origin_of, given_of, world_at, IsDone, IsBroken, Breaks, AwaitsCut, IsCutOffTo, Passes, ComesTo}
+use Rattle.thy_run.specs.Going.{origin_of, turns_then, given_of, world_at, IsDone, IsBroken, Breaks, AwaitsCut, IsCutOffTo, Passes, ComesTo}
 use Rattle.thy_run.specs.Sending.{Sent, Sends, Delivered}
-use Rattle.thy_run.proofs.AdvanceLemmas.{done_cut, broken_cut}
+use Rattle.thy_run.proofs.AdvanceLemmas.{cut_turns, done_cut, broken_cut}
 use Rattle.thy_run.specs.Endings.{is_memory, IsSettled, StopFits}
 use Rattle.thy_run.specs.Unfinished.{AtStop}
 use Rattle.thy_run.specs.Rounds.{round_of, Running, RunEndsAt, IsRound}
@@ -55,15 +55,15 @@ took_on : (before after : List ℕ) (x y z : Stream) → Took x y before → Sen
 took_on before after x y z one two = subst (Took x z) (sym two.grew) (Took-append x y z before two.more one two.sent)
 
 -- what was reported grew
-pub told_of : {M : Type 0} (K : KindOf M) → (plan : Plan) (p q : Progress M) (n m : Device) (k : ℕ) (r : Stepped) (bytes : List ℕ) (outcome : Outcome) → ComesTo K plan p q n m k r bytes outcome → (more : List Event) × (q.events ≡ p.events ++ more)
-told_of {M = M} K plan p q n m k r bytes Goes c = c.0.grew
-told_of {M = M} K plan p q n m k r bytes Cuts c = (_, ap (λ (w : World M). w.events) c.noted.steps.next_is)
-told_of {M = M} K plan p q n m k r bytes (Ends status) c = c.0.grew
-told_of {M = M} K plan p q n m k r bytes (Fails stop) c = c.0.grew
+pub told_of : {M : Type 0} (K : KindOf M) → (plan : Plan) (p q : Progress M) (n m : Device) (k : ℕ) (turns : List ℕ) (r : Stepped) (bytes : List ℕ) (outcome : Outcome) → ComesTo K plan p q n m k turns r bytes outcome → (more : List Event) × (q.events ≡ p.events ++ more)
+told_of {M = M} K plan p q n m k turns r bytes Goes c = c.0.grew
+told_of {M = M} K plan p q n m k turns r bytes Cuts c = (_, ap (λ (w : World M). w.events) c.noted.steps.next_is)
+told_of {M = M} K plan p q n m k turns r bytes (Ends status) c = c.0.grew
+told_of {M = M} K plan p q n m k turns r bytes (Fails stop) c = c.0.grew
 
-pub told_more : {M : Type 0} (K : KindOf M) → (plan : Plan) (p q : Progress M) (n m : Device) (k : ℕ) (r : Stepped) (bytes : List ℕ) (outcome : Outcome) → ComesTo K plan p q n m k r bytes outcome → length p.events ≤ length q.events
-told_more {M = M} K plan p q n m k r bytes outcome c =
-    let t = told_of K plan p q n m k r bytes outcome c in
+pub told_more : {M : Type 0} (K : KindOf M) → (plan : Plan) (p q : Progress M) (n m : Device) (k : ℕ) (turns : List ℕ) (r : Stepped) (bytes : List ℕ) (outcome : Outcome) → ComesTo K plan p q n m k turns r bytes outcome → length p.events ≤ length q.events
+told_more {M = M} K plan p q n m k turns r bytes outcome c =
+    let t = told_of K plan p q n m k turns r bytes outcome c in
     let e : length q.events ≡ length p.events + length t.0 = ap length t.1 ∙ length-append p.events t.0 in
     omega (arith, e)
 
@@ -94,30 +94,30 @@ delivered_all failed text x z faults took = record {
   sent = subst (λ b. Sent b z z []) (sym faults) (Took-none z);
 }
 
-module _ {M : Type 0} (K : KindOf M) (plan : Plan) (fitted : Device) (p q : Progress M) (n m : Device) (k : ℕ) (bytes : List ℕ) (terminal_failed report_failed : Bool) (t0 t1 t2 r0 r1 r2 : Stream)
-    (running : Running K plan fitted p n k t0 t1 r0 r1) (few : k < plan.geometry.limit) (sent : Sent terminal_failed t1 t2 bytes)
+module _ {M : Type 0} (K : KindOf M) (plan : Plan) (fitted : Device) (p q : Progress M) (n m : Device) (k : ℕ) (turns after : List ℕ) (bytes : List ℕ) (terminal_failed report_failed : Bool) (t0 t1 t2 r0 r1 r2 : Stream)
+    (running : Running K plan fitted p n k turns t0 t1 r0 r1) (few : k < plan.geometry.limit) (sent : Sent terminal_failed t1 t2 bytes)
     (lines : Sends (report_of plan.digest (take (length p.events) q.events)) (report_of plan.digest q.events) report_failed r1 r2) where
   abbrev told_progress : Progress M
   told_progress = record q { terminal_failed = terminal_failed; report_failed = report_failed }
 
-  ran_on : {r : Stepped} {fell : Bool} → IsDone K plan p q n m k r fell bytes → Ran K (origin_of plan) (given_of plan fitted) (k + 1) (world_at q m (k + 1))
+  ran_on : {r : Stepped} {fell : Bool} → IsDone K plan p q n m k turns after r fell bytes → Ran K (origin_of plan) (given_of plan fitted) (k + 1) (world_at q m (k + 1) after)
   ran_on d =
       let e : suc k ≡ k + 1 = omega arith in
-      subst (λ (j : ℕ). Ran K (origin_of plan) (given_of plan fitted) j (world_at q m (k + 1))) e (world_at p n k, running.goes.ran, d.cycle)
+      subst (λ (j : ℕ). Ran K (origin_of plan) (given_of plan fitted) j (world_at q m (k + 1) after)) e (world_at p n k turns, running.goes.ran, d.cycle)
 
-  shown_on : {r : Stepped} {fell : Bool} → IsDone K plan p q n m k r fell bytes → Sends (released_of (origin_of plan) p.events) (released_of (origin_of plan) q.events) terminal_failed t1 t2
+  shown_on : {r : Stepped} {fell : Bool} → IsDone K plan p q n m k turns after r fell bytes → Sends (released_of (origin_of plan) p.events) (released_of (origin_of plan) q.events) terminal_failed t1 t2
   shown_on d = record { more = bytes; grew = d.releases; sent = sent }
 
   lines_on : ((more : List Event) × (q.events ≡ p.events ++ more)) → Sends (report_of plan.digest p.events) (report_of plan.digest q.events) report_failed r1 r2
   lines_on t = read_on plan.digest report_failed p.events q.events t.0 r1 r2 t.1 lines
 
   -- the cycle is done, and a sink failed
-  done_stops : {r : Stepped} {fell : Bool} (stop : Stop) → IsDone K plan p q n m k r fell bytes → IsSinks stop
+  done_stops : {r : Stepped} {fell : Bool} (stop : Stop) → IsDone K plan p q n m k turns after r fell bytes → IsSinks stop
       → StopFits plan.geometry.limit fitted m (record { stop = stop; events = q.events; cycles = k + 1; terminal_failed = terminal_failed; report_failed = report_failed }) stop
-      → RunEndsAt K plan fitted m (record { stop = stop; events = q.events; cycles = k + 1; terminal_failed = terminal_failed; report_failed = report_failed }) t0 t2 r0 r2 (world_at q m (k + 1))
+      → RunEndsAt K plan fitted m (record { stop = stop; events = q.events; cycles = k + 1; terminal_failed = terminal_failed; report_failed = report_failed }) t0 t2 r0 r2 (world_at q m (k + 1) after)
   done_stops stop d sinks fits = (
     record {
-      stopped = record { last = world_at q m (k + 1); ran = ran_on d; at_stop = last_done stop sinks };
+      stopped = record { last = world_at q m (k + 1) after; ran = ran_on d; at_stop = last_done stop sinks };
       few = omega arith;
       settled = p.events;
       is_settled = settled_at stop sinks d;
@@ -137,7 +137,7 @@ module _ {M : Type 0} (K : KindOf M) (plan : Plan) (fitted : Device) (p q : Prog
       long Memory sinks = absurd sinks
       long Limit sinks = absurd sinks
 
-      last_done : (stop : Stop) → IsSinks stop → AtStop K (origin_of plan) plan.config.cuts (world_at q m (k + 1)) q.events m stop
+      last_done : (stop : Stop) → IsSinks stop → AtStop K (origin_of plan) plan.config.cuts (world_at q m (k + 1) after) q.events m stop
       last_done Terminal sinks = (refl, refl)
       last_done Report sinks = (refl, refl)
       last_done (Ended status) sinks = absurd sinks
@@ -145,21 +145,21 @@ module _ {M : Type 0} (K : KindOf M) (plan : Plan) (fitted : Device) (p q : Prog
       last_done Memory sinks = absurd sinks
       last_done Limit sinks = absurd sinks
 
-      settled_at : {r : Stepped} {fell : Bool} (stop : Stop) → IsSinks stop → IsDone K plan p q n m k r fell bytes → IsSettled K (origin_of plan) (given_of plan fitted) (world_at q m (k + 1)) p.events stop
-      settled_at Terminal sinks d = (k, world_at p n k, running.goes.ran, d.cycle, refl)
-      settled_at Report sinks d = (k, world_at p n k, running.goes.ran, d.cycle, refl)
+      settled_at : {r : Stepped} {fell : Bool} (stop : Stop) → IsSinks stop → IsDone K plan p q n m k turns after r fell bytes → IsSettled K (origin_of plan) (given_of plan fitted) (world_at q m (k + 1) after) p.events stop
+      settled_at Terminal sinks d = (k, world_at p n k turns, running.goes.ran, d.cycle, refl)
+      settled_at Report sinks d = (k, world_at p n k turns, running.goes.ran, d.cycle, refl)
       settled_at (Ended status) sinks d = absurd sinks
       settled_at Nvm sinks d = absurd sinks
       settled_at Memory sinks d = absurd sinks
       settled_at Limit sinks d = absurd sinks
 
   -- the cycle is done, and the program has ended
-  done_ends : {r : Stepped} {fell : Bool} (status : Status) → IsDone K plan p q n m k r fell bytes → terminal_failed ≡ false → report_failed ≡ false
+  done_ends : {r : Stepped} {fell : Bool} (status : Status) → IsDone K plan p q n m k turns after r fell bytes → terminal_failed ≡ false → report_failed ≡ false
       → StopFits plan.geometry.limit fitted m (record { stop = Ended status; events = q.events; cycles = k + 1; terminal_failed = terminal_failed; report_failed = report_failed }) (Ended status)
-      → RunEndsAt K plan fitted m (record { stop = Ended status; events = q.events; cycles = k + 1; terminal_failed = terminal_failed; report_failed = report_failed }) t0 t2 r0 r2 (world_at q m (k + 1))
+      → RunEndsAt K plan fitted m (record { stop = Ended status; events = q.events; cycles = k + 1; terminal_failed = terminal_failed; report_failed = report_failed }) t0 t2 r0 r2 (world_at q m (k + 1) after)
   done_ends status d on_terminal on_report fits = (
     record {
-      stopped = record { last = world_at q m (k + 1); ran = ran_on d; at_stop = (refl, refl) };
+      stopped = record { last = world_at q m (k + 1) after; ran = ran_on d; at_stop = (refl, refl) };
       few = omega arith;
       settled = q.events;
       is_settled = refl;
@@ -175,12 +175,12 @@ module _ {M : Type 0} (K : KindOf M) (plan : Plan) (fitted : Device) (p q : Prog
   )
 
   -- the cycle is not done
-  broken_stops : (stop : Stop) → IsBroken K plan p q n m k bytes → Breaks K plan p q n m k bytes stop
+  broken_stops : (stop : Stop) → IsBroken K plan p q n m k bytes → Breaks K plan p q n m k turns bytes stop
       → (bytes ≡ [] → terminal_failed ≡ false) → (q.events ≡ p.events → report_failed ≡ false)
-      → RunEndsAt K plan fitted m (record { stop = stop; events = q.events; cycles = k; terminal_failed = terminal_failed; report_failed = report_failed }) t0 t2 r0 r2 (world_at p n k)
+      → RunEndsAt K plan fitted m (record { stop = stop; events = q.events; cycles = k; terminal_failed = terminal_failed; report_failed = report_failed }) t0 t2 r0 r2 (world_at p n k turns)
   broken_stops stop b why on_terminal on_report = (
     record {
-      stopped = record { last = world_at p n k; ran = running.goes.ran; at_stop = begun stop why };
+      stopped = record { last = world_at p n k turns; ran = running.goes.ran; at_stop = begun stop why };
       few = omega arith;
       settled = p.events;
       is_settled = settled_at stop why;
@@ -191,7 +191,7 @@ module _ {M : Type 0} (K : KindOf M) (plan : Plan) (fitted : Device) (p q : Prog
     refl,
   )
     where
-      begun : (stop : Stop) → Breaks K plan p q n m k bytes stop → AtStop K (origin_of plan) plan.config.cuts (world_at p n k) q.events m stop
+      begun : (stop : Stop) → Breaks K plan p q n m k turns bytes stop → AtStop K (origin_of plan) plan.config.cuts (world_at p n k turns) q.events m stop
       begun Nvm f = f.0
       begun Memory f = inr f.0
       begun (Ended status) f = absurd f
@@ -199,7 +199,7 @@ module _ {M : Type 0} (K : KindOf M) (plan : Plan) (fitted : Device) (p q : Prog
       begun Report f = absurd f
       begun Limit f = absurd f
 
-      settled_at : (stop : Stop) → Breaks K plan p q n m k bytes stop → IsSettled K (origin_of plan) (given_of plan fitted) (world_at p n k) p.events stop
+      settled_at : (stop : Stop) → Breaks K plan p q n m k turns bytes stop → IsSettled K (origin_of plan) (given_of plan fitted) (world_at p n k turns) p.events stop
       settled_at Nvm f = refl
       settled_at Memory f = refl
       settled_at (Ended status) f = absurd f
@@ -207,7 +207,7 @@ module _ {M : Type 0} (K : KindOf M) (plan : Plan) (fitted : Device) (p q : Prog
       settled_at Report f = absurd f
       settled_at Limit f = absurd f
 
-      shown : (stop : Stop) → Breaks K plan p q n m k bytes stop
+      shown : (stop : Stop) → Breaks K plan p q n m k turns bytes stop
           → Delivered (is_memory stop) terminal_failed (released_of (origin_of plan) p.events) (released_of (origin_of plan) q.events) t0 t2
       shown Nvm f = delivered_on terminal_failed (released_of (origin_of plan) p.events) (released_of (origin_of plan) q.events) t0 t1 t2 running.shown_all
           (record { more = bytes; grew = ap (released_of (origin_of plan)) f.1.events ∙ sym (append-nil (released_of (origin_of plan) p.events)) ∙ ap (λ (l : List ℕ). released_of (origin_of plan) p.events ++ l) (sym f.1.none); sent = sent })
@@ -217,7 +217,7 @@ module _ {M : Type 0} (K : KindOf M) (plan : Plan) (fitted : Device) (p q : Prog
       shown Report f = absurd f
       shown Limit f = absurd f
 
-      because : (stop : Stop) → Breaks K plan p q n m k bytes stop → StopFits plan.geometry.limit fitted m (record { stop = stop; events = q.events; cycles = k; terminal_failed = terminal_failed; report_failed = report_failed }) stop
+      because : (stop : Stop) → Breaks K plan p q n m k turns bytes stop → StopFits plan.geometry.limit fitted m (record { stop = stop; events = q.events; cycles = k; terminal_failed = terminal_failed; report_failed = report_failed }) stop
       because Nvm f = (subst (λ c. Rose c m.faults) running.goes.faults f.1.rose, few, (on_terminal f.1.none, on_report f.1.events))
       because Memory f = (few, f.1 ∙ running.goes.faults)
       because (Ended status) f = absurd f
@@ -226,19 +226,21 @@ module _ {M : Type 0} (K : KindOf M) (plan : Plan) (fitted : Device) (p q : Prog
       because Limit f = absurd f
 
 -- a sink that failed stops a run that has a done cycle
-goes_round : {M : Type 0} (K : KindOf M) → (plan : Plan) (fitted : Device) (p q : Progress M) (n m : Device) (k : ℕ) (r : Stepped) (fell : Bool) (bytes : List ℕ) (terminal_failed report_failed : Bool) (t0 t1 t2 r0 r1 r2 : Stream)
-    → Running K plan fitted p n k t0 t1 r0 r1 → k < plan.geometry.limit → Sent terminal_failed t1 t2 bytes
+goes_round : {M : Type 0} (K : KindOf M) → (plan : Plan) (fitted : Device) (p q : Progress M) (n m : Device) (k : ℕ) (turns after : List ℕ) (r : Stepped) (fell : Bool) (bytes : List ℕ) (terminal_failed report_failed : Bool) (t0 t1 t2 r0 r1 r2 : Stream)
+    → Running K plan fitted p n k turns t0 t1 r0 r1 → k < plan.geometry.limit → Sent terminal_failed t1 t2 bytes
     → Sends (report_of plan.digest (take (length p.events) q.events)) (report_of plan.digest q.events) report_failed r1 r2
-    → IsDone K plan p q n m k r fell bytes × (is_halt (seen K (origin_of plan) (world_at q m (k + 1))).phase ≡ false)
-    → IsRound K plan fitted p (record q { terminal_failed = terminal_failed; report_failed = report_failed }) n m k t0 t1 t2 r0 r1 r2 (round_of Goes terminal_failed report_failed)
-goes_round {M = M} K plan fitted p q n m k r fell bytes terminal_failed true t0 t1 t2 r0 r1 r2 running few sent lines c =
-    done_stops K plan fitted p q n m k bytes terminal_failed true t0 t1 t2 r0 r1 r2 running few sent lines Report c.0 tt (refl, c.0.faults ∙ running.goes.faults)
-goes_round {M = M} K plan fitted p q n m k r fell bytes true false t0 t1 t2 r0 r1 r2 running few sent lines c =
-    done_stops K plan fitted p q n m k bytes true false t0 t1 t2 r0 r1 r2 running few sent lines Terminal c.0 tt (refl, refl, c.0.faults ∙ running.goes.faults)
-goes_round {M = M} K plan fitted p q n m k r fell bytes false false t0 t1 t2 r0 r1 r2 running few sent lines c = record {
+    → IsDone K plan p q n m k turns after r fell bytes × (is_halt (seen K (origin_of plan) (world_at q m (k + 1) after)).phase ≡ false)
+    → IsRound K plan fitted p (record q { terminal_failed = terminal_failed; report_failed = report_failed }) n m k turns after t0 t1 t2 r0 r1 r2 (round_of Goes terminal_failed report_failed)
+goes_round {M = M} K plan fitted p q n m k turns after r fell bytes terminal_failed true t0 t1 t2 r0 r1 r2 running few sent lines c =
+    done_stops K plan fitted p q n m k turns after bytes terminal_failed true t0 t1 t2 r0 r1 r2 running few sent lines Report c.0 tt (refl, c.0.faults ∙ running.goes.faults)
+goes_round {M = M} K plan fitted p q n m k turns after r fell bytes true false t0 t1 t2 r0 r1 r2 running few sent lines c =
+    done_stops K plan fitted p q n m k turns after bytes true false t0 t1 t2 r0 r1 r2 running few sent lines Terminal c.0 tt (refl, refl, c.0.faults ∙ running.goes.faults)
+goes_round {M = M} K plan fitted p q n m k turns after r fell bytes false false t0 t1 t2 r0 r1 r2 running few sent lines c = record {
   goes = record {
-    ran = ran_on K plan fitted p q n m k bytes false false t0 t1 t2 r0 r1 r2 running few sent lines c.0;
+    ran = ran_on K plan fitted p q n m k turns after bytes false false t0 t1 t2 r0 r1 r2 running few sent lines c.0;
     going = c.1;
+    listed = c.0.listed;
+    turns_room = c.0.turns_room;
     released = c.0.released;
     room = c.0.room ∙ running.goes.room;
     faults = c.0.faults ∙ running.goes.faults;
@@ -246,22 +248,22 @@ goes_round {M = M} K plan fitted p q n m k r fell bytes false false t0 t1 t2 r0 
     on_report = refl;
   };
   shown_all = took_on (released_of (origin_of plan) p.events) (released_of (origin_of plan) q.events) t0 t1 t2 running.shown_all
-      (shown_on K plan fitted p q n m k bytes false false t0 t1 t2 r0 r1 r2 running few sent lines c.0);
+      (shown_on K plan fitted p q n m k turns after bytes false false t0 t1 t2 r0 r1 r2 running few sent lines c.0);
   read_all = took_on (report_of plan.digest p.events) (report_of plan.digest q.events) r0 r1 r2 running.read_all
-      (lines_on K plan fitted p q n m k bytes false false t0 t1 t2 r0 r1 r2 running few sent lines c.0.grew);
+      (lines_on K plan fitted p q n m k turns after bytes false false t0 t1 t2 r0 r1 r2 running few sent lines c.0.grew);
 }
 
-ends_round : {M : Type 0} (K : KindOf M) → (plan : Plan) (fitted : Device) (p q : Progress M) (n m : Device) (k : ℕ) (r : Stepped) (bytes : List ℕ) (status : Status) (terminal_failed report_failed : Bool) (t0 t1 t2 r0 r1 r2 : Stream)
-    → Running K plan fitted p n k t0 t1 r0 r1 → k < plan.geometry.limit → Sent terminal_failed t1 t2 bytes
+ends_round : {M : Type 0} (K : KindOf M) → (plan : Plan) (fitted : Device) (p q : Progress M) (n m : Device) (k : ℕ) (turns : List ℕ) (r : Stepped) (bytes : List ℕ) (status : Status) (terminal_failed report_failed : Bool) (t0 t1 t2 r0 r1 r2 : Stream)
+    → Running K plan fitted p n k turns t0 t1 r0 r1 → k < plan.geometry.limit → Sent terminal_failed t1 t2 bytes
     → Sends (report_of plan.digest (take (length p.events) q.events)) (report_of plan.digest q.events) report_failed r1 r2
-    → ComesTo K plan p q n m k r bytes (Ends status)
-    → IsRound K plan fitted p (record q { terminal_failed = terminal_failed; report_failed = report_failed }) n m k t0 t1 t2 r0 r1 r2 (round_of (Ends status) terminal_failed report_failed)
-ends_round {M = M} K plan fitted p q n m k r bytes status terminal_failed true t0 t1 t2 r0 r1 r2 running few sent lines c =
-    done_stops K plan fitted p q n m k bytes terminal_failed true t0 t1 t2 r0 r1 r2 running few sent lines Report c.0 tt (refl, c.0.faults ∙ running.goes.faults)
-ends_round {M = M} K plan fitted p q n m k r bytes status true false t0 t1 t2 r0 r1 r2 running few sent lines c =
-    done_stops K plan fitted p q n m k bytes true false t0 t1 t2 r0 r1 r2 running few sent lines Terminal c.0 tt (refl, refl, c.0.faults ∙ running.goes.faults)
-ends_round {M = M} K plan fitted p q n m k r bytes status false false t0 t1 t2 r0 r1 r2 running few sent lines c =
-    done_ends K plan fitted p q n m k bytes false false t0 t1 t2 r0 r1 r2 running few sent lines status c.0 refl refl (c.2, (refl, refl), c.0.faults ∙ running.goes.faults)
+    → ComesTo K plan p q n m k turns r bytes (Ends status)
+    → IsRound K plan fitted p (record q { terminal_failed = terminal_failed; report_failed = report_failed }) n m k turns (turns_then plan turns r.did) t0 t1 t2 r0 r1 r2 (round_of (Ends status) terminal_failed report_failed)
+ends_round {M = M} K plan fitted p q n m k turns r bytes status terminal_failed true t0 t1 t2 r0 r1 r2 running few sent lines c =
+    done_stops K plan fitted p q n m k turns (turns_then plan turns r.did) bytes terminal_failed true t0 t1 t2 r0 r1 r2 running few sent lines Report c.0 tt (refl, c.0.faults ∙ running.goes.faults)
+ends_round {M = M} K plan fitted p q n m k turns r bytes status true false t0 t1 t2 r0 r1 r2 running few sent lines c =
+    done_stops K plan fitted p q n m k turns (turns_then plan turns r.did) bytes true false t0 t1 t2 r0 r1 r2 running few sent lines Terminal c.0 tt (refl, refl, c.0.faults ∙ running.goes.faults)
+ends_round {M = M} K plan fitted p q n m k turns r bytes status false false t0 t1 t2 r0 r1 r2 running few sent lines c =
+    done_ends K plan fitted p q n m k turns (turns_then plan turns r.did) bytes false false t0 t1 t2 r0 r1 r2 running few sent lines status c.0 refl refl (c.2, (refl, refl), c.0.faults ∙ running.goes.faults)
 
 -- the outcome is not that a cut is due
 abbrev pub IsTold : Outcome → Type 0
@@ -271,18 +273,18 @@ IsTold (Ends status) = Unit {0}
 IsTold (Fails stop) = Unit {0}
 
 -- a cycle that was reported is a round
-pub IsRound-told : {M : Type 0} (K : KindOf M) → (plan : Plan) (fitted : Device) (p q : Progress M) (n m : Device) (k : ℕ) (r : Stepped) (bytes : List ℕ) (outcome : Outcome) (terminal_failed report_failed : Bool) (t0 t1 t2 r0 r1 r2 : Stream)
-    → Running K plan fitted p n k t0 t1 r0 r1 → k < plan.geometry.limit → Sent terminal_failed t1 t2 bytes
+pub IsRound-told : {M : Type 0} (K : KindOf M) → (plan : Plan) (fitted : Device) (p q : Progress M) (n m : Device) (k : ℕ) (turns : List ℕ) (r : Stepped) (bytes : List ℕ) (outcome : Outcome) (terminal_failed report_failed : Bool) (t0 t1 t2 r0 r1 r2 : Stream)
+    → Running K plan fitted p n k turns t0 t1 r0 r1 → k < plan.geometry.limit → Sent terminal_failed t1 t2 bytes
     → Sends (report_of plan.digest (take (length p.events) q.events)) (report_of plan.digest q.events) report_failed r1 r2
-    → IsTold outcome → (bytes ≡ [] → terminal_failed ≡ false) → (q.events ≡ p.events → report_failed ≡ false) → ComesTo K plan p q n m k r bytes outcome
-    → IsRound K plan fitted p (record q { terminal_failed = terminal_failed; report_failed = report_failed }) n m k t0 t1 t2 r0 r1 r2 (round_of outcome terminal_failed report_failed)
-IsRound-told {M = M} K plan fitted p q n m k r bytes Goes terminal_failed report_failed t0 t1 t2 r0 r1 r2 running few sent lines did_told on_terminal on_report c =
-    goes_round K plan fitted p q n m k r false bytes terminal_failed report_failed t0 t1 t2 r0 r1 r2 running few sent lines c
-IsRound-told {M = M} K plan fitted p q n m k r bytes (Ends status) terminal_failed report_failed t0 t1 t2 r0 r1 r2 running few sent lines did_told on_terminal on_report c =
-    ends_round K plan fitted p q n m k r bytes status terminal_failed report_failed t0 t1 t2 r0 r1 r2 running few sent lines c
-IsRound-told {M = M} K plan fitted p q n m k r bytes (Fails stop) terminal_failed report_failed t0 t1 t2 r0 r1 r2 running few sent lines did_told on_terminal on_report c =
-    broken_stops K plan fitted p q n m k bytes terminal_failed report_failed t0 t1 t2 r0 r1 r2 running few sent lines stop c.0 c.1 on_terminal on_report
-IsRound-told {M = M} K plan fitted p q n m k r bytes Cuts terminal_failed report_failed t0 t1 t2 r0 r1 r2 running few sent lines did_told on_terminal on_report c = absurd did_told
+    → IsTold outcome → (bytes ≡ [] → terminal_failed ≡ false) → (q.events ≡ p.events → report_failed ≡ false) → ComesTo K plan p q n m k turns r bytes outcome
+    → IsRound K plan fitted p (record q { terminal_failed = terminal_failed; report_failed = report_failed }) n m k turns (turns_then plan turns r.did) t0 t1 t2 r0 r1 r2 (round_of outcome terminal_failed report_failed)
+IsRound-told {M = M} K plan fitted p q n m k turns r bytes Goes terminal_failed report_failed t0 t1 t2 r0 r1 r2 running few sent lines did_told on_terminal on_report c =
+    goes_round K plan fitted p q n m k turns (turns_then plan turns r.did) r false bytes terminal_failed report_failed t0 t1 t2 r0 r1 r2 running few sent lines c
+IsRound-told {M = M} K plan fitted p q n m k turns r bytes (Ends status) terminal_failed report_failed t0 t1 t2 r0 r1 r2 running few sent lines did_told on_terminal on_report c =
+    ends_round K plan fitted p q n m k turns r bytes status terminal_failed report_failed t0 t1 t2 r0 r1 r2 running few sent lines c
+IsRound-told {M = M} K plan fitted p q n m k turns r bytes (Fails stop) terminal_failed report_failed t0 t1 t2 r0 r1 r2 running few sent lines did_told on_terminal on_report c =
+    broken_stops K plan fitted p q n m k turns (turns_then plan turns r.did) bytes terminal_failed report_failed t0 t1 t2 r0 r1 r2 running few sent lines stop c.0 c.1 on_terminal on_report
+IsRound-told {M = M} K plan fitted p q n m k turns r bytes Cuts terminal_failed report_failed t0 t1 t2 r0 r1 r2 running few sent lines did_told on_terminal on_report c = absurd did_told
 
 -- an outcome but that
 pub IsTold-not : (outcome : Outcome) → (outcome ≡ Cuts → ⊥) → IsTold outcome
@@ -292,14 +294,16 @@ IsTold-not (Ends status) h = tt
 IsTold-not (Fails stop) h = tt
 
 -- a cycle without an event lets the run continue, and its sinks have taken all
-pub Running-quiet : {M : Type 0} (K : KindOf M) → (plan : Plan) (fitted : Device) (p q : Progress M) (n m : Device) (k : ℕ) (r : Stepped) (t0 t1 r0 r1 : Stream)
-    → Running K plan fitted p n k t0 t1 r0 r1 → q.events ≡ p.events → Passes K plan p q n m k r [] → Running K plan fitted q m (k + 1) t0 t1 r0 r1
-Running-quiet {M = M} K plan fitted p q n m k r t0 t1 r0 r1 running same c = record {
+pub Running-quiet : {M : Type 0} (K : KindOf M) → (plan : Plan) (fitted : Device) (p q : Progress M) (n m : Device) (k : ℕ) (turns : List ℕ) (r : Stepped) (t0 t1 r0 r1 : Stream)
+    → Running K plan fitted p n k turns t0 t1 r0 r1 → q.events ≡ p.events → Passes K plan p q n m k turns r [] → Running K plan fitted q m (k + 1) (turns_then plan turns r.did) t0 t1 r0 r1
+Running-quiet {M = M} K plan fitted p q n m k turns r t0 t1 r0 r1 running same c = record {
   goes = record {
     ran =
         let e : suc k ≡ k + 1 = omega arith in
-        subst (λ (j : ℕ). Ran K (origin_of plan) (given_of plan fitted) j (world_at q m (k + 1))) e (world_at p n k, running.goes.ran, c.0.cycle);
+        subst (λ (j : ℕ). Ran K (origin_of plan) (given_of plan fitted) j (world_at q m (k + 1) (turns_then plan turns r.did))) e (world_at p n k turns, running.goes.ran, c.0.cycle);
     going = c.1;
+    listed = c.0.listed;
+    turns_room = c.0.turns_room;
     released = c.0.released;
     room = c.0.room ∙ running.goes.room;
     faults = c.0.faults ∙ running.goes.faults;
@@ -312,24 +316,24 @@ Running-quiet {M = M} K plan fitted p q n m k r t0 t1 r0 r1 running same c = rec
 
 -- ---- a cut after a cycle
 
-module _ {M : Type 0} (K : KindOf M) (laws : IsLawful K) (plan : Plan) (fitted : Device) (p q : Progress M) (n m : Device) (k : ℕ) (r : Stepped) (bytes : List ℕ) (terminal_failed report_failed : Bool) (t0 t1 t2 r0 r1 r2 : Stream)
-    (running : Running K plan fitted p n k t0 t1 r0 r1) (few : k < plan.geometry.limit) (sent : Sent terminal_failed t1 t2 bytes) (awaits : AwaitsCut K plan p q n m k r bytes) where
+module _ {M : Type 0} (K : KindOf M) (laws : IsLawful K) (plan : Plan) (fitted : Device) (p q : Progress M) (n m : Device) (k : ℕ) (turns : List ℕ) (r : Stepped) (bytes : List ℕ) (terminal_failed report_failed : Bool) (t0 t1 t2 r0 r1 r2 : Stream)
+    (running : Running K plan fitted p n k turns t0 t1 r0 r1) (few : k < plan.geometry.limit) (sent : Sent terminal_failed t1 t2 bytes) (awaits : AwaitsCut K plan p q n m k turns r bytes) where
   -- power was cut, and the cycle was reported
   pub IsRound-cut : (q' : Progress M) (m' : Device) → IsCutOffTo K plan q q' m m' (k + 1)
       → Sends (report_of plan.digest (take (length p.events) q'.events)) (report_of plan.digest q'.events) report_failed r1 r2
-      → IsRound K plan fitted p (record q' { terminal_failed = terminal_failed; report_failed = report_failed }) n m' k t0 t1 t2 r0 r1 r2 (round_of Goes terminal_failed report_failed)
+      → IsRound K plan fitted p (record q' { terminal_failed = terminal_failed; report_failed = report_failed }) n m' k turns (cut_turns K plan (turns_then plan turns r.did) m') t0 t1 t2 r0 r1 r2 (round_of Goes terminal_failed report_failed)
   IsRound-cut q' m' cut lines =
-      goes_round K plan fitted p q' n m' k r true bytes terminal_failed report_failed t0 t1 t2 r0 r1 r2 running few sent lines
-      (done_cut K laws plan p q n m k r None bytes awaits.noted q' m' refl (k + 1) refl awaits.due cut)
+      goes_round K plan fitted p q' n m' k turns (cut_turns K plan (turns_then plan turns r.did) m') r true bytes terminal_failed report_failed t0 t1 t2 r0 r1 r2 running few sent lines
+      (done_cut K laws plan p q n m k turns r None bytes awaits.noted q' m' refl (k + 1) refl awaits.due cut)
 
   -- memory ran out, and what was made of the cycle was reported
   pub RunEnds-uncut : (bytes ≡ [] → terminal_failed ≡ false) → (q.events ≡ p.events → report_failed ≡ false)
       → Sends (report_of plan.digest (take (length p.events) q.events)) (report_of plan.digest q.events) report_failed r1 r2
-      → RunEndsAt K plan fitted m (record { stop = Memory; events = q.events; cycles = k; terminal_failed = terminal_failed; report_failed = report_failed }) t0 t2 r0 r2 (world_at p n k)
+      → RunEndsAt K plan fitted m (record { stop = Memory; events = q.events; cycles = k; terminal_failed = terminal_failed; report_failed = report_failed }) t0 t2 r0 r2 (world_at p n k turns)
   RunEnds-uncut on_terminal on_report lines =
-      let broken = broken_cut K laws plan p q n m k r None bytes awaits.noted q m refl awaits.due refl refl in
-      broken_stops K plan fitted p q n m k bytes terminal_failed report_failed t0 t1 t2 r0 r1 r2 running few sent lines Memory broken.0 broken.1 on_terminal on_report
+      let broken = broken_cut K laws plan p q n m k turns r None bytes awaits.noted q m refl awaits.due refl refl in
+      broken_stops K plan fitted p q n m k turns turns bytes terminal_failed report_failed t0 t1 t2 r0 r1 r2 running few sent lines Memory broken.0 broken.1 on_terminal on_report
 
   -- there are no fewer events than before
   pub told_awaiting : length p.events ≤ length q.events
-  told_awaiting = told_more K plan p q n m k r bytes Cuts awaits
+  told_awaiting = told_more K plan p q n m k turns r bytes Cuts awaits

@@ -11,12 +11,12 @@ use Rattle.thy_run.specs.declared.advance.Outcome.TheVariants.{Goes, Cuts, Ends,
 use Rattle.thy_run.specs.declared.ending.Ending.{Ending}
 use Rattle.thy_run.specs.declared.plan.Plan.{Plan}
 use Rattle.thy_run.specs.declared.progress.Progress.{Progress}
-use Rattle.thy_run.specs.Going.{origin_of, given_of, world_at, IsDone, AwaitsCut, ComesTo, IsCutOffTo}
+use Rattle.thy_run.specs.Going.{origin_of, turns_then, given_of, world_at, IsDone, AwaitsCut, ComesTo, IsCutOffTo}
 use Rattle.thy_run.specs.Rounds.{round_of, RunEndsAt}
 use Rattle.thy_run.specs.Seeing.{Awaited, Watched, RunEndsSeen, SeesOutcome, SeenBy}
 use Rattle.thy_run.specs.Watching.{Taken, taken, taken_in, IsListed, CanSee, CanSeeCut, Forgets, Keeps, Sees, SeesCutAfter}
 use Rattle.thy_run.specs.World.{World, Given, IsFirst}
-use Rattle.thy_run.proofs.AdvanceLemmas.{done_cut}
+use Rattle.thy_run.proofs.AdvanceLemmas.{cut_turns, done_cut}
 
 -- as many cycles are listed as are done
 pub length-listed : {M : Type 0} (K : KindOf M) (o : Origin) (given : Given) (k : ℕ) (w : World M) (seen : List Taken) → IsListed K o given k w seen → length seen ≡ k
@@ -27,100 +27,100 @@ length-listed K o given (suc k) w seen (before, earlier, c, h, is) =
     omega (arith, n, e)
 
 -- so the observer may be asked to see the next
-pub CanSee-watched : {M O : Type 0} (K : KindOf M) (has_seen : O → List Taken → Type 0) (plan : Plan) (fitted : Device) (p : Progress M) (n : Device) (k : ℕ) (o : O)
-    → Watched K has_seen plan fitted p n k o → CanSee has_seen o (k + 1)
-CanSee-watched K has_seen plan fitted p n k o (seen, listed, h) =
-    let e : length seen ≡ k = length-listed K (origin_of plan) (given_of plan fitted) k (world_at p n k) seen listed in
+pub CanSee-watched : {M O : Type 0} (K : KindOf M) (has_seen : O → List Taken → Type 0) (plan : Plan) (fitted : Device) (p : Progress M) (n : Device) (k : ℕ) (turns : List ℕ) (o : O)
+    → Watched K has_seen plan fitted p n k turns o → CanSee has_seen o (k + 1)
+CanSee-watched K has_seen plan fitted p n k turns o (seen, listed, h) =
+    let e : length seen ≡ k = length-listed K (origin_of plan) (given_of plan fitted) k (world_at p n k turns) seen listed in
     (seen, h, omega (arith, e))
 
 -- what it has seen before the first cycle
 pub Watched-first : {M O : Type 0} (K : KindOf M) (has_seen : O → List Taken → Type 0) (plan : Plan) (p : Progress M) (n : Device) (o : O)
-    → IsFirst K (origin_of plan) (given_of plan n) (world_at p n 0) → has_seen o [] → Watched K has_seen plan n p n 0 o
+    → IsFirst K (origin_of plan) (given_of plan n) (world_at p n 0 []) → has_seen o [] → Watched K has_seen plan n p n 0 [] o
 Watched-first K has_seen plan p n o first h = ([], (first, refl), h)
 
 -- it has seen a done cycle too
-Listed-done : {M O : Type 0} (K : KindOf M) (has_seen : O → List Taken → Type 0) (plan : Plan) (fitted : Device) (p q : Progress M) (n m : Device) (k : ℕ) (r : Stepped) (fell : Bool) (bytes : List ℕ) (told : ℕ) (new : O)
-    → IsDone K plan p q n m k r fell bytes → told ≡ length q.events - length p.events → (seen : List Taken) → IsListed K (origin_of plan) (given_of plan fitted) k (world_at p n k) seen
-    → has_seen new (seen ++ taken r told fell ∷ []) → Watched K has_seen plan fitted q m (k + 1) new
-Listed-done {M = M} K has_seen plan fitted p q n m k r fell bytes told new d many seen listed h =
-    let now : Taken = taken_in K (origin_of plan) plan.config.cuts plan.config.tears (world_at p n k) (world_at q m (k + 1)) d.cycle in
+Listed-done : {M O : Type 0} (K : KindOf M) (has_seen : O → List Taken → Type 0) (plan : Plan) (fitted : Device) (p q : Progress M) (n m : Device) (k : ℕ) (turns after : List ℕ) (r : Stepped) (fell : Bool) (bytes : List ℕ) (told : ℕ) (new : O)
+    → IsDone K plan p q n m k turns after r fell bytes → told ≡ length q.events - length p.events → (seen : List Taken) → IsListed K (origin_of plan) (given_of plan fitted) k (world_at p n k turns) seen
+    → has_seen new (seen ++ taken r told fell ∷ []) → Watched K has_seen plan fitted q m (k + 1) after new
+Listed-done {M = M} K has_seen plan fitted p q n m k turns after r fell bytes told new d many seen listed h =
+    let now : Taken = taken_in K (origin_of plan) plan.config.cuts plan.config.tears (world_at p n k turns) (world_at q m (k + 1) after) d.cycle in
     let same : taken r told fell ≡ now =
     ap (λ x. taken x told fell) (sym d.by_step) ∙ ap (λ x. taken d.cycle.steps.r x fell) many
     ∙ ap (λ x. taken d.cycle.steps.r (length q.events - length p.events) x) (sym d.has_fallen) in
     let e : suc k ≡ k + 1 = omega arith in (
       seen ++ taken r told fell ∷ [],
-      subst (λ (j : ℕ). IsListed K (origin_of plan) (given_of plan fitted) j (world_at q m (k + 1)) (seen ++ taken r told fell ∷ [])) e
-          (world_at p n k, seen, d.cycle, listed, ap (λ x. seen ++ x ∷ []) same),
+      subst (λ (j : ℕ). IsListed K (origin_of plan) (given_of plan fitted) j (world_at q m (k + 1) after) (seen ++ taken r told fell ∷ [])) e
+          (world_at p n k turns, seen, d.cycle, listed, ap (λ x. seen ++ x ∷ []) same),
       h,
     )
 
-pub Watched-done : {M O : Type 0} (K : KindOf M) (has_seen : O → List Taken → Type 0) (plan : Plan) (fitted : Device) (p q : Progress M) (n m : Device) (k : ℕ) (r : Stepped) (fell : Bool) (bytes : List ℕ) (told : ℕ) (old new : O)
-    → IsDone K plan p q n m k r fell bytes → told ≡ length q.events - length p.events → Watched K has_seen plan fitted p n k old → Sees has_seen old new (taken r told fell)
-    → Watched K has_seen plan fitted q m (k + 1) new
-Watched-done K has_seen plan fitted p q n m k r fell bytes told old new d many (seen, listed, h) sees =
-    Listed-done K has_seen plan fitted p q n m k r fell bytes told new d many seen listed (sees seen h)
+pub Watched-done : {M O : Type 0} (K : KindOf M) (has_seen : O → List Taken → Type 0) (plan : Plan) (fitted : Device) (p q : Progress M) (n m : Device) (k : ℕ) (turns after : List ℕ) (r : Stepped) (fell : Bool) (bytes : List ℕ) (told : ℕ) (old new : O)
+    → IsDone K plan p q n m k turns after r fell bytes → told ≡ length q.events - length p.events → Watched K has_seen plan fitted p n k turns old → Sees has_seen old new (taken r told fell)
+    → Watched K has_seen plan fitted q m (k + 1) after new
+Watched-done K has_seen plan fitted p q n m k turns after r fell bytes told old new d many (seen, listed, h) sees =
+    Listed-done K has_seen plan fitted p q n m k turns after r fell bytes told new d many seen listed (sees seen h)
 
 -- and the cycles of a run that ends where it has seen them
-pub RunEndsSeen-at : {M O : Type 0} (K : KindOf M) (has_seen : O → List Taken → Type 0) (plan : Plan) (fitted new : Device) (e : Ending) (terminal shown report read : Stream) (p : Progress M) (n : Device) (k : ℕ) (o : O)
-    → RunEndsAt K plan fitted new e terminal shown report read (world_at p n k) → e.cycles ≡ k → Watched K has_seen plan fitted p n k o
+pub RunEndsSeen-at : {M O : Type 0} (K : KindOf M) (has_seen : O → List Taken → Type 0) (plan : Plan) (fitted new : Device) (e : Ending) (terminal shown report read : Stream) (p : Progress M) (n : Device) (k : ℕ) (turns : List ℕ) (o : O)
+    → RunEndsAt K plan fitted new e terminal shown report read (world_at p n k turns) → e.cycles ≡ k → Watched K has_seen plan fitted p n k turns o
     → RunEndsSeen K has_seen plan fitted new e terminal shown report read o
-RunEndsSeen-at {M = M} K has_seen plan fitted new e terminal shown report read p n k o (ends, last) cycles (seen, listed, h) = (
+RunEndsSeen-at {M = M} K has_seen plan fitted new e terminal shown report read p n k turns o (ends, last) cycles (seen, listed, h) = (
   ends,
   (
     seen,
     subst (λ (w : World M). IsListed K (origin_of plan) (given_of plan fitted) e.cycles w seen) (sym last)
-        (subst (λ (j : ℕ). IsListed K (origin_of plan) (given_of plan fitted) j (world_at p n k) seen) (sym cycles) listed),
+        (subst (λ (j : ℕ). IsListed K (origin_of plan) (given_of plan fitted) j (world_at p n k turns) seen) (sym cycles) listed),
     h,
   ),
 )
 
 -- what it has seen after a round whose outcome it was shown
-module _ {M O : Type 0} (K : KindOf M) (has_seen : O → List Taken → Type 0) (keeps : O → List Taken → Stepped → Type 0) (plan : Plan) (fitted : Device) (p q : Progress M) (n m : Device) (k : ℕ) where
-  by_sinks : (terminal report : Bool) (old new : O) → Watched K has_seen plan fitted q m (k + 1) new
-      → SeenBy K has_seen keeps plan fitted p (record q { terminal_failed = terminal; report_failed = report }) n m k old new (round_of Goes terminal report)
-  by_sinks terminal true old new w = w
-  by_sinks true false old new w = w
-  by_sinks false false old new w = w
+module _ {M O : Type 0} (K : KindOf M) (has_seen : O → List Taken → Type 0) (keeps : O → List Taken → Stepped → Type 0) (plan : Plan) (fitted : Device) (p q : Progress M) (n m : Device) (k : ℕ) (turns : List ℕ) where
+  by_sinks : (after : List ℕ) (terminal report : Bool) (old new : O) → Watched K has_seen plan fitted q m (k + 1) after new
+      → SeenBy K has_seen keeps plan fitted p (record q { terminal_failed = terminal; report_failed = report }) n m k turns after old new (round_of Goes terminal report)
+  by_sinks after terminal true old new w = w
+  by_sinks after true false old new w = w
+  by_sinks after false false old new w = w
 
-  by_end : (status : Status) (terminal report : Bool) (old new : O) → Watched K has_seen plan fitted q m (k + 1) new
-      → SeenBy K has_seen keeps plan fitted p (record q { terminal_failed = terminal; report_failed = report }) n m k old new (round_of (Ends status) terminal report)
-  by_end status terminal true old new w = w
-  by_end status true false old new w = w
-  by_end status false false old new w = w
+  by_end : (after : List ℕ) (status : Status) (terminal report : Bool) (old new : O) → Watched K has_seen plan fitted q m (k + 1) after new
+      → SeenBy K has_seen keeps plan fitted p (record q { terminal_failed = terminal; report_failed = report }) n m k turns after old new (round_of (Ends status) terminal report)
+  by_end after status terminal true old new w = w
+  by_end after status true false old new w = w
+  by_end after status false false old new w = w
 
   pub SeenBy-shown : (r : Stepped) (bytes : List ℕ) (outcome : Outcome) (terminal report : Bool) (old new : O)
-      → (outcome ≡ Cuts → ⊥) → ComesTo K plan p q n m k r bytes outcome → Watched K has_seen plan fitted p n k old
+      → (outcome ≡ Cuts → ⊥) → ComesTo K plan p q n m k turns r bytes outcome → Watched K has_seen plan fitted p n k turns old
       → SeesOutcome has_seen keeps old new r (length q.events - length p.events) outcome
-      → SeenBy K has_seen keeps plan fitted p (record q { terminal_failed = terminal; report_failed = report }) n m k old new (round_of outcome terminal report)
+      → SeenBy K has_seen keeps plan fitted p (record q { terminal_failed = terminal; report_failed = report }) n m k turns (turns_then plan turns r.did) old new (round_of outcome terminal report)
   SeenBy-shown r bytes Goes terminal report old new uncut c w sees =
-      by_sinks terminal report old new (Watched-done K has_seen plan fitted p q n m k r false bytes (length q.events - length p.events) old new c.0 refl w sees)
+      by_sinks (turns_then plan turns r.did) terminal report old new (Watched-done K has_seen plan fitted p q n m k turns (turns_then plan turns r.did) r false bytes (length q.events - length p.events) old new c.0 refl w sees)
   SeenBy-shown r bytes (Ends status) terminal report old new uncut c w sees =
-      by_end status terminal report old new (Watched-done K has_seen plan fitted p q n m k r false bytes (length q.events - length p.events) old new c.0 refl w sees)
+      by_end (turns_then plan turns r.did) status terminal report old new (Watched-done K has_seen plan fitted p q n m k turns (turns_then plan turns r.did) r false bytes (length q.events - length p.events) old new c.0 refl w sees)
   SeenBy-shown r bytes Cuts terminal report old new uncut c w sees = absurd (uncut refl)
   SeenBy-shown r bytes (Fails stop) terminal report old new uncut c w sees = sees
 
   -- it keeps the step of a cycle after which a cut is due
-  pub Awaited-kept : (r : Stepped) (old new : O) → Watched K has_seen plan fitted p n k old → Keeps has_seen keeps old new r
-      → Awaited K keeps plan fitted p n k r new
+  pub Awaited-kept : (r : Stepped) (old new : O) → Watched K has_seen plan fitted p n k turns old → Keeps has_seen keeps old new r
+      → Awaited K keeps plan fitted p n k turns r new
   Awaited-kept r old new (seen, listed, h) kept = (seen, listed, kept seen h)
 
   -- so it may be asked to see that cycle
-  pub CanSeeCut-awaited : (r : Stepped) (o : O) → Awaited K keeps plan fitted p n k r o → CanSeeCut keeps o (k + 1)
+  pub CanSeeCut-awaited : (r : Stepped) (o : O) → Awaited K keeps plan fitted p n k turns r o → CanSeeCut keeps o (k + 1)
   CanSeeCut-awaited r o (seen, listed, h) =
-      let e : length seen ≡ k = length-listed K (origin_of plan) (given_of plan fitted) k (world_at p n k) seen listed in
+      let e : length seen ≡ k = length-listed K (origin_of plan) (given_of plan fitted) k (world_at p n k turns) seen listed in
       (seen, r, h, omega (arith, e))
 
   -- if the cut could not be made, it forgets the step
-  pub Watched-forgotten : (r : Stepped) (old new : O) → Awaited K keeps plan fitted p n k r old → Forgets has_seen keeps old new
-      → Watched K has_seen plan fitted p n k new
+  pub Watched-forgotten : (r : Stepped) (old new : O) → Awaited K keeps plan fitted p n k turns r old → Forgets has_seen keeps old new
+      → Watched K has_seen plan fitted p n k turns new
   Watched-forgotten r old new (seen, listed, h) forgets = (seen, listed, forgets seen r h)
 
 -- what it has seen after a cut
-pub Watched-cut : {M O : Type 0} (K : KindOf M) (laws : IsLawful K) (has_seen : O → List Taken → Type 0) (keeps : O → List Taken → Stepped → Type 0) (plan : Plan) (fitted : Device) (p q q' : Progress M) (n m m' : Device) (k : ℕ) (r : Stepped) (bytes : List ℕ)
+pub Watched-cut : {M O : Type 0} (K : KindOf M) (laws : IsLawful K) (has_seen : O → List Taken → Type 0) (keeps : O → List Taken → Stepped → Type 0) (plan : Plan) (fitted : Device) (p q q' : Progress M) (n m m' : Device) (k : ℕ) (turns : List ℕ) (r : Stepped) (bytes : List ℕ)
     (told first len : ℕ) (old new : O)
-    → AwaitsCut K plan p q n m k r bytes → IsCutOffTo K plan q q' m m' (k + 1) → told ≡ len - first → len ≡ length q'.events → first ≡ length p.events → Awaited K keeps plan fitted p n k r old → SeesCutAfter has_seen keeps old new told
-    → Watched K has_seen plan fitted q' m' (k + 1) new
-Watched-cut K laws has_seen keeps plan fitted p q q' n m m' k r bytes told first len old new awaits cut many all before (seen, listed, h) sees =
-    Listed-done K has_seen plan fitted p q' n m' k r true bytes told new
-    (done_cut K laws plan p q n m k r None bytes awaits.noted q' m' refl (k + 1) refl awaits.due cut).0
+    → AwaitsCut K plan p q n m k turns r bytes → IsCutOffTo K plan q q' m m' (k + 1) → told ≡ len - first → len ≡ length q'.events → first ≡ length p.events → Awaited K keeps plan fitted p n k turns r old → SeesCutAfter has_seen keeps old new told
+    → Watched K has_seen plan fitted q' m' (k + 1) (cut_turns K plan (turns_then plan turns r.did) m') new
+Watched-cut K laws has_seen keeps plan fitted p q q' n m m' k turns r bytes told first len old new awaits cut many all before (seen, listed, h) sees =
+    Listed-done K has_seen plan fitted p q' n m' k turns (cut_turns K plan (turns_then plan turns r.did) m') r true bytes told new
+    (done_cut K laws plan p q n m k turns r None bytes awaits.noted q' m' refl (k + 1) refl awaits.due cut).0
     (many ∙ ap (λ l. l - first) all ∙ ap (λ f. length q'.events - f) before) seen listed (sees seen r h)

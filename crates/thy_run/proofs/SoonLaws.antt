@@ -1,4 +1,4 @@
--- Every run is soon over: its counts stay between the start's and that of the program's end.
+-- Every run of one hart is soon over: its counts stay between the start's and that of the program's end.
 use Rattle.std.proofs.Common.{◌≡◌, ℕ, zero, suc, ◌+◌, ◌≤◌, Bool, true, false, if◌then◌else◌, List, [], Option, Some, None, refl, sym, ◌∙◌, ap, subst, inl, inr, arith}
 use Rattle.std.specs.Prelude.{◌≢◌, MatchBool}
 use Rattle.std.proofs.Math.Nat.{mul-le-mul_left}
@@ -20,6 +20,7 @@ use Rattle.thy_run.specs.World.{World, Given, seen, TakesStep, is_due, IsCutOff,
 use Rattle.thy_run.proofs.StepKinds.{Kind, keeps, loads, restores, advances, seals, commits, kind_of}
 use Rattle.thy_run.proofs.BusyLaws.{Busy-ran}
 use Rattle.thy_run.proofs.StepAlong.{core_of}
+use Rattle.thy_run.proofs.TellLaws.{one_after}
 use Rattle.thy_run.proofs.WorldLaws.{untold-ran}
 
 -- ---- counts
@@ -145,7 +146,8 @@ counts_image o t end done v (At epoch state) some h one =
 
 -- ---- runs
 
-module _ {M : Type 0} (K : KindOf M) (o : Origin) (given : Given) (end : ℕ) (some : o.start.count ≤ end) (over : runs_at (told o []) end ≡ false) where
+module _ {M : Type 0} (K : KindOf M) (o : Origin) (given : Given) (end : ℕ) (one : o.geometry.harts ≡ 1) (some : o.start.count ≤ end)
+    (over : runs_at (told o []) end ≡ false) where
   -- with no turn reported a step goes along none
   counts_stepped : (w x : World M) (step : TakesStep K o w x) (done : ℕ) → x.turns ≡ [] → Counts o end done (seen K o w) → Counts o end (done + retires step.r.did) (seen K o x)
   counts_stepped w x step done none h =
@@ -166,7 +168,8 @@ module _ {M : Type 0} (K : KindOf M) (o : Origin) (given : Given) (end : ℕ) (s
   counts_ran : (k : ℕ) (w : World M) (ran : Ran K o given k w) → Counts o end (tally_of K o given k w ran).retired (seen K o w)
   counts_ran zero w first = subst (Counts o end 0) (sym first.found) (counts_first o end o.kept some)
   counts_ran (suc k) w (before, ran, cycle) =
-      by_due before cycle.between w cycle.steps (tally_of K o given k before ran) (cycle.steps.turns_are ∙ untold-ran K o given k before ran) (counts_ran k before ran) (tear given.config.tears cycle.between.passed) (is_due K o given.config.cuts cycle.between) cycle.cut
+      by_due before cycle.between w cycle.steps (tally_of K o given k before ran)
+      (cycle.steps.turns_are ∙ one_after o.geometry.harts before.turns cycle.steps.r.did one ∙ untold-ran K o given k before one ran) (counts_ran k before ran) (tear given.config.tears cycle.between.passed) (is_due K o given.config.cuts cycle.between) cycle.cut
 
   -- no more instructions are done than the program has
   few_done : (k : ℕ) (w : World M) (ran : Ran K o given k w) → o.start.count + (tally_of K o given k w ran).retired ≤ end
@@ -176,10 +179,10 @@ module _ {M : Type 0} (K : KindOf M) (o : Origin) (given : Given) (end : ℕ) (s
       by_phase true e = let none : (tally_of K o given k w ran).retired ≡ 0 = (counts_ran k w ran).boot e in omega (arith, none, some)
       by_phase false e = let here = (counts_ran k w ran).up e in omega (arith, here.0, here.1)
 
--- every run is soon over
+-- every run of one hart is soon over
 pub SoonOver-ran : {M : Type 0} (K : KindOf M) → IsLawful K → RunIsSoonOver K
-SoonOver-ran K laws o given cycles w ran k over =
+SoonOver-ran K laws o given cycles w ran k one over =
     let t : Tally = tally_of K o given cycles w ran in
-    let few : t.retired ≤ k = (let all = few_done K o given (o.start.count + k) (omega arith) over cycles w ran in omega (arith, all)) in
+    let few : t.retired ≤ k = (let all = few_done K o given (o.start.count + k) one (omega arith) over cycles w ran in omega (arith, all)) in
     let each : ℕ = K.most_each o.geometry in
     omega (arith, (Busy-ran K laws o given cycles w ran).paced, mul-le-mul_left each few)

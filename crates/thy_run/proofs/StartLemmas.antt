@@ -1,6 +1,9 @@
 -- A run before its first cycle, and one at its limit.
 use Rattle.std.proofs.Common.{◌≡◌, ℕ, ◌+◌, false, Option, Some, None, List, [], refl, sym, ◌∙◌, ap, subst, inl, arith}
 use Rattle.thy_base.specs.declared.mark.Mark.{Mark}
+use Rattle.thy_base.specs.declared.bytes.Bytes.{Bytes}
+use Rattle.thy_base.specs.declared.mix.Mix.{Mix}
+use Rattle.thy_base.specs.Mix.{mix_start}
 use Rattle.thy_base.specs.Device.{Device}
 use Rattle.thy_base.specs.Outside.{Stream}
 use Rattle.thy_view.specs.Kind.{KindOf, IsLawful}
@@ -13,14 +16,15 @@ use Rattle.thy_view.specs.Origin.{Origin}
 use Rattle.thy_view.specs.Safe.{Safe}
 use Rattle.thy_run.specs.Cuts.{has_ended}
 use Rattle.thy_run.specs.Laws.{released_of}
-use Rattle.thy_run.specs.World.{IsFirst}
+use Rattle.thy_run.specs.World.{IsFirst, seen}
 use Rattle.thy_run.specs.declared.ending.Stop.TheVariants.{Memory, Limit}
 use Rattle.thy_run.specs.declared.plan.Plan.{Plan}
 use Rattle.thy_run.specs.declared.progress.Progress.{Progress}
 use Rattle.thy_run.specs.Going.{origin_of, given_of, world_at, IsPlanned}
 use Rattle.thy_run.specs.Sending.{Delivered}
-use Rattle.thy_run.specs.Rounds.{IsFitted, Running, RunEndsAt, first_progress}
+use Rattle.thy_run.specs.Rounds.{IsFitted, IsStarted, Running, RunEndsAt, first_progress}
 use Rattle.thy_run.proofs.AdvanceLemmas.{good_of}
+use Rattle.thy_run.proofs.ListingLemmas.{none_last}
 use Rattle.thy_run.proofs.RoundLemmas.{Took-none, delivered_all}
 use Rattle.thy_base.proofs.RangeLemmas.{limit_least}
 
@@ -30,9 +34,9 @@ first_doubt o None = refl
 first_doubt o (Some m) = refl
 
 -- power comes on for the first time
-pub first_of : {M : Type 0} (K : KindOf M) (laws : IsLawful K) → (plan : Plan) (m : M) (n : Device) → IsPlanned plan → K.powered plan.geometry m → IsFitted K plan n
-    → IsFirst K (origin_of plan) (given_of plan n) (world_at (first_progress plan m) n 0)
-first_of {M = M} K laws plan m n planned powered f =
+pub first_of : {M : Type 0} (K : KindOf M) (laws : IsLawful K) → (plan : Plan) (m : M) (t : Bytes) (n : Device) → IsPlanned plan → K.powered plan.geometry m → IsFitted K plan n
+    → IsFirst K (origin_of plan) (given_of plan n) (world_at (first_progress plan m t) n 0 [])
+first_of {M = M} K laws plan m t n planned powered f =
     let o : Origin = origin_of plan in
     let law = laws.begins o m f.shape f.start f.before planned.origin powered f.fits in
     let at_first : K.is_at o 0 m n = subst (K.is_at o 0 m) (sym f.is_fitted) law.0 in
@@ -59,16 +63,25 @@ first_going : (o : Origin) (kept : Option Mark) → is_halt (view_of_image o.sta
 first_going o None = refl
 first_going o (Some m) = refl
 
+-- a progress is the first one, whatever made its schedule and its list of events
+pub first_is : {M : Type 0} (plan : Plan) (m : M) (t : Bytes) (mix : Mix) (events : List Event) → mix ≡ mix_start plan.config.mix → events ≡ []
+    → record (first_progress plan m t) { mix = mix; events = events } ≡ first_progress plan m t
+first_is plan m t mix events by none =
+    ap (λ (x : Mix). record (first_progress plan m t) { mix = x; events = events }) by
+    ∙ ap (λ (e : List Event). record (first_progress plan m t) { events = e }) none
+
 -- the loop before its first round
-pub Running-first : {M : Type 0} (K : KindOf M) (laws : IsLawful K) → (plan : Plan) (p : Progress M) (m : M) (n : Device) (t r : Stream) → IsPlanned plan → K.powered plan.geometry m → IsFitted K plan n
-    → p ≡ first_progress plan m → Running K plan n p n 0 t t r r
-Running-first {M = M} K laws plan p m n t r planned powered f is =
+pub Running-first : {M : Type 0} (K : KindOf M) (laws : IsLawful K) → (plan : Plan) (p : Progress M) (n : Device) (t r : Stream) → IsPlanned plan → IsFitted K plan n
+    → IsStarted K plan p → Running K plan n p n 0 [] t t r r
+Running-first {M = M} K laws plan p n t r planned f started =
     let o : Origin = origin_of plan in
-    let first = first_of K laws plan m n planned powered f in
-    let here : Running K plan n (first_progress plan m) n 0 t t r r = record {
+    let first = first_of K laws plan p.machine p.turns n planned started.powered f in
+    let here : Running K plan n (first_progress plan p.machine p.turns) n 0 [] t t r r = record {
       goes = record {
         ran = first;
         going = ap (λ v. is_halt v.phase) first.found ∙ first_going o o.kept;
+        listed = started.empty ∙ sym (none_last (seen K o (world_at (first_progress plan p.machine p.turns) n 0 [])).retired);
+        turns_room = started.room;
         released = refl;
         room = ap (λ (d : Device). d.left_room) f.is_fitted ∙ ap (λ c. c + 1) f.cuts;
         faults = refl;
@@ -78,17 +91,17 @@ Running-first {M = M} K laws plan p m n t r planned powered f is =
       shown_all = Took-none t;
       read_all = Took-none r;
     } in
-    subst (λ (x : Progress M). Running K plan n x n 0 t t r r) (sym is) here
+    subst (λ (x : Progress M). Running K plan n x n 0 [] t t r r) (sym started.first) here
 
 -- no memory was found for a machine
-pub RunEnds-unpowered : {M : Type 0} (K : KindOf M) (laws : IsLawful K) → (plan : Plan) (events : List Event) (n : Device) (t r : Stream) → IsPlanned plan → IsFitted K plan n → events ≡ []
+pub RunEnds-unpowered : {M : Type 0} (K : KindOf M) (laws : IsLawful K) → (plan : Plan) (events : List Event) (b : Bytes) (n : Device) (t r : Stream) → IsPlanned plan → IsFitted K plan n → events ≡ []
     → RunEndsAt K plan n n (record { stop = Memory; events = events; cycles = 0; terminal_failed = false; report_failed = false }) t t r r
-    (world_at (first_progress plan (laws.powers plan.geometry).0) n 0)
-RunEnds-unpowered K laws plan events n t r planned f none = (
+    (world_at (first_progress plan (laws.powers plan.geometry).0 b) n 0 [])
+RunEnds-unpowered K laws plan events b n t r planned f none = (
   record {
     stopped = record {
-      last = world_at (first_progress plan (laws.powers plan.geometry).0) n 0;
-      ran = first_of K laws plan (laws.powers plan.geometry).0 n planned (laws.powers plan.geometry).1 f;
+      last = world_at (first_progress plan (laws.powers plan.geometry).0 b) n 0 [];
+      ran = first_of K laws plan (laws.powers plan.geometry).0 b n planned (laws.powers plan.geometry).1 f;
       at_stop = inl (refl, (none, refl));
     };
     few = omega arith;
@@ -102,14 +115,14 @@ RunEnds-unpowered K laws plan events n t r planned f none = (
 )
 
 -- as many cycles as the limit allows are done
-pub RunEnds-limit : {M : Type 0} (K : KindOf M) → (plan : Plan) (fit : Device) (p : Progress M) (n : Device) (k limit : ℕ) (t0 t r0 r : Stream) → IsPlanned plan → Running K plan fit p n k t0 t r0 r → k ≡ limit
-    → limit ≡ plan.geometry.limit → RunEndsAt K plan fit n (record { stop = Limit; events = p.events; cycles = limit; terminal_failed = p.terminal_failed; report_failed = p.report_failed }) t0 t r0 r (world_at p n k)
-RunEnds-limit {M = M} K plan fit p n k limit t0 t r0 r planned running same limit_is =
+pub RunEnds-limit : {M : Type 0} (K : KindOf M) → (plan : Plan) (fit : Device) (p : Progress M) (n : Device) (k : ℕ) (turns : List ℕ) (limit : ℕ) (t0 t r0 r : Stream) → IsPlanned plan → Running K plan fit p n k turns t0 t r0 r → k ≡ limit
+    → limit ≡ plan.geometry.limit → RunEndsAt K plan fit n (record { stop = Limit; events = p.events; cycles = limit; terminal_failed = p.terminal_failed; report_failed = p.report_failed }) t0 t r0 r (world_at p n k turns)
+RunEnds-limit {M = M} K plan fit p n k turns limit t0 t r0 r planned running same limit_is =
     let o : Origin = origin_of plan in
-    let going : has_ended p.events ≡ false = (good_of K plan fit p n k planned running.goes).stands.ended ∙ running.goes.going in
-    let here : RunEndsAt K plan fit n (record { stop = Limit; events = p.events; cycles = k; terminal_failed = p.terminal_failed; report_failed = p.report_failed }) t0 t r0 r (world_at p n k) = (
+    let going : has_ended p.events ≡ false = (good_of K plan fit p n k turns planned running.goes).stands.ended ∙ running.goes.going in
+    let here : RunEndsAt K plan fit n (record { stop = Limit; events = p.events; cycles = k; terminal_failed = p.terminal_failed; report_failed = p.report_failed }) t0 t r0 r (world_at p n k turns) = (
       record {
-        stopped = record { last = world_at p n k; ran = running.goes.ran; at_stop = (refl, refl) };
+        stopped = record { last = world_at p n k turns; ran = running.goes.ran; at_stop = (refl, refl) };
         few = omega (arith, same, limit_is);
         settled = p.events;
         is_settled = refl;
@@ -119,4 +132,4 @@ RunEnds-limit {M = M} K plan fit p n k limit t0 t r0 r planned running same limi
       },
       refl,
     ) in
-    subst (λ c. RunEndsAt K plan fit n (record { stop = Limit; events = p.events; cycles = c; terminal_failed = p.terminal_failed; report_failed = p.report_failed }) t0 t r0 r (world_at p n k)) same here
+    subst (λ c. RunEndsAt K plan fit n (record { stop = Limit; events = p.events; cycles = c; terminal_failed = p.terminal_failed; report_failed = p.report_failed }) t0 t r0 r (world_at p n k turns)) same here

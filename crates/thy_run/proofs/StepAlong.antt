@@ -1,13 +1,13 @@
 -- A step of a run, as one of what was seen before it.
-use Rattle.std.proofs.Common.{◌≡◌, ℕ, ◌+◌, List, ◌++◌, sym, ◌∙◌, ap, subst}
-use Rattle.thy_text.specs.Event.{Event}
+use Rattle.std.proofs.Common.{◌≡◌, ℕ, ◌+◌, ◌≤◌, List, ◌++◌, sym, ap, subst}
 use Rattle.thy_view.specs.declared.view.View.{View}
 use Rattle.thy_view.specs.CoreStep.{CoreStep}
 use Rattle.thy_view.specs.Kind.{KindOf}
 use Rattle.thy_view.specs.Origin.{Origin}
-use Rattle.thy_view.specs.Told.{told}
+use Rattle.thy_view.specs.declared.view.Phase.TheVariants.{Run}
+use Rattle.thy_view.specs.Told.{told, reach}
 use Rattle.thy_run.specs.World.{World, line, seen, turns_after, events_of, TakesStep}
-use Rattle.thy_run.proofs.Leading.{AreTold}
+use Rattle.thy_run.specs.Going.{AreTold}
 use Rattle.thy_run.proofs.TellLaws.{after_told}
 
 -- the step of the view
@@ -20,9 +20,10 @@ pub events_told : {M : Type 0} (K : KindOf M) → (o : Origin) (w x : World M) (
 events_told {M = M} K o w x step = ap (λ (y : World M). y.events) step.next_is
 
 -- and as many turns are reported after it as reach the state that it came to
-pub told_after : {M : Type 0} (K : KindOf M) → (o : Origin) (w x : World M) (step : TakesStep K o w x) → AreTold (line o w) (seen K o w) → AreTold (line o x) (seen K o x)
-told_after K o w x step all =
-    let at_after : CoreStep (told o (turns_after w.turns step.r.did)) (seen K o w) step.r.did (seen K o x) =
+pub told_after : {M : Type 0} (K : KindOf M) → (o : Origin) (w x : World M) (step : TakesStep K o w x)
+    → ((seen K o w).phase ≡ Run → o.start.count ≤ reach (seen K o w)) → AreTold (line o w) (seen K o w) → AreTold (line o x) (seen K o x)
+told_after K o w x step late all =
+    let at_after : CoreStep (told o (turns_after o.geometry.harts w.turns step.r.did)) (seen K o w) step.r.did (seen K o x) =
     subst (λ (t : List ℕ). CoreStep (told o t) (seen K o w) step.r.did (seen K o x)) step.turns_are (core_of K o w x step) in
     subst (λ (t : List ℕ). AreTold (told o t) (seen K o x)) (sym step.turns_are)
-    (after_told o w.turns (seen K o w) (seen K o x) step.r.did all at_after)
+    (after_told o w.turns (seen K o w) (seen K o x) step.r.did late all at_after)

@@ -16,8 +16,7 @@ use Rattle.thy_text.specs.Marks.{Marks, marks_from, AllLawful}
 use Rattle.thy_text.proofs.Histories.{marks_from-append, AllLawful-append}
 use Rattle.thy_view.specs.declared.did.Did.{Did}
 use Rattle.thy_view.specs.declared.did.Did.TheVariants.{Boot, Loaded, Restarted, Refused, Moved, Retired, Flushed, Merged, Sealed, Promoted, Engine, Committed, NvmDrained, DramDrained, Nothing}
-use Rattle.thy_view.specs.declared.view.Phase.{Phase}
-use Rattle.thy_view.specs.declared.view.Phase.TheVariants.{Boot as BootPhase, Run, Halt}
+use Rattle.thy_view.specs.declared.view.Phase.TheVariants.{Boot as BootPhase}
 use Rattle.thy_view.specs.declared.view.View.{View}
 use Rattle.thy_view.specs.Booting.{found_first, first_view, view_of_image}
 use Rattle.thy_base.specs.Marks.{mark}
@@ -29,18 +28,19 @@ use Rattle.thy_view.specs.Safe.{ceiling, Safe, IsOneOf}
 use Rattle.thy_view.specs.Told.{told, AgreeBelow, reach}
 use Rattle.thy_view.proofs.TurnLaws.{at-early}
 use Rattle.thy_run.specs.Cuts.{is_end, has_ended, cuts_among, numbered, last_cuttable, cuts_up_to}
+use Rattle.thy_run.specs.Going.{AreTold}
 use Rattle.thy_run.specs.Images.{Found, found, AllFit}
 use Rattle.thy_run.specs.Laws.{course_of, marks_at, first_marks, marks_of, found_at_start, MayStand, IsSafe}
-use Rattle.thy_run.specs.World.{World, line, seen, hart_count, did_told, reload_told, end_told, events_of, after_step, TakesStep, is_due, cut_off, IsCutOff, tear, Cycle, Given, IsFirst, Ran}
+use Rattle.thy_run.specs.World.{World, line, seen, did_told, reload_told, end_told, events_of, after_step, TakesStep, is_due, cut_off, IsCutOff, tear, Cycle, Given, IsFirst, Ran}
 use Rattle.thy_run.proofs.Fitting.{Fits}
 use Rattle.thy_run.proofs.CutLaws.{leaves_one, IsSafe-by, IsSafe-fits, cut_below, fits_cut, leads_cut, found_cut}
 use Rattle.thy_run.proofs.EventLaws.{Fits-events}
 use Rattle.thy_run.proofs.ImageLaws.{IsFound, ImagesFit, AllFit-events}
-use Rattle.thy_run.proofs.Leading.{LeadsTo, AreTold, Leads, told_zero, start_leads}
+use Rattle.thy_run.proofs.Leading.{LeadsTo, Leads, told_zero, start_leads}
 use Rattle.thy_run.proofs.LeadingLaws.{Leads-events, Lawful-events}
-use Rattle.thy_run.proofs.RetellLaws.{fits_told, leads_retold, images_told}
+use Rattle.thy_run.proofs.RetellLaws.{late_of, fits_told, leads_retold, images_told}
 use Rattle.thy_run.proofs.StepAlong.{core_of, told_after}
-use Rattle.thy_run.proofs.TellLaws.{after_same, kept_agrees, kept_told}
+use Rattle.thy_run.proofs.TellLaws.{one_after, after_same, kept_agrees, kept_told}
 use Rattle.thy_run.proofs.ImageLemmas.{AllFit-append}
 use Rattle.thy_run.proofs.ListedLemmas.{next_cut, cuts_among-append, numbered-take, up_none}
 use Rattle.thy_run.proofs.StepFrames.{TakesStep-framed}
@@ -131,7 +131,7 @@ module _ {M : Type 0} (K : KindOf M) (o : Origin) (w : World M) (least : 1 ≤ o
   -- and a step that retires nothing leaves the turns
   pub told_before : (x : World M) (step : TakesStep K o w x) → retires step.r.did ≡ 0 → AreTold (line o x) (seen K o w)
   told_before x step none =
-      subst (λ (t : List ℕ). AreTold (told o t) (seen K o w)) (sym (step.turns_are ∙ after_same w.turns step.r.did none)) h.told_all
+      subst (λ (t : List ℕ). AreTold (told o t) (seen K o w)) (sym (step.turns_are ∙ after_same o.geometry.harts w.turns step.r.did none)) h.told_all
 
   -- the world after a step, given as the definition has it
   stepped_coheres : (x : World M) (step : TakesStep K o w x) → Coheres K o (after_step K o w x.machine x.device x.turns step.r.did)
@@ -155,7 +155,7 @@ module _ {M : Type 0} (K : KindOf M) (o : Origin) (w : World M) (least : 1 ≤ o
       let left : x.device.left ≡ w.device.left = (TakesStep-framed K o w x step).left in
       record {
         at_moment = step.is_step.at_next;
-        told_all = told_after K o w x step h.told_all;
+        told_all = told_after K o w x step (late_of (line o w) (seen K o w) (marks_of o w.events) h.fits h.leads) h.told_all;
         fits = fits;
         leads = on;
         lawful = AllLawful-append (course_of o) (first_marks o) w.events e h.lawful
@@ -414,7 +414,7 @@ Good-first {M = M} K o given w rising f =
       stands = record {
         at_moment = subst (λ k. K.is_at (line o w) k w.machine w.device) (sym cycles) f.at_moment;
         told_all = ap (λ (t : List ℕ). length t) f.untold
-            ∙ sym (told_zero hart_count (reach (seen K o w) - o.start.count) (ap (λ v. reach v - o.start.count) f.found ∙ first_reach o o.kept));
+            ∙ sym (told_zero o.geometry.harts (reach (seen K o w) - o.start.count) (ap (λ v. reach v - o.start.count) f.found ∙ first_reach o o.kept));
         fits = subst (λ v. Fits (line o w) v (marks_of o w.events)) (sym f.found) (subst (Fits (line o w) (first_view o)) (sym marks) fits);
         leads = subst (λ v. Leads (line o w) v (marks_of o w.events)) (sym f.found) (subst (Leads (line o w) (first_view o)) (sym marks) leads);
         lawful = subst (AllLawful (course_of o) (first_marks o)) (sym none) tt;
@@ -460,8 +460,9 @@ none_due {M = M} K o x next none pick true cut =
     cut.kept ∙ ap (λ (t : List ℕ). take n t) none ∙ take_all n [] (omega arith)
 none_due {M = M} K o x next none pick false is = ap (λ (y : World M). y.turns) is ∙ none
 
-pub untold-ran : {M : Type 0} (K : KindOf M) → (o : Origin) (given : Given) (k : ℕ) (w : World M) → Ran K o given k w → w.turns ≡ []
-untold-ran {M = M} K o given zero w first = first.untold
-untold-ran {M = M} K o given (suc k) w (before, ran, cycle) =
-    none_due K o cycle.between w (cycle.steps.turns_are ∙ untold-ran K o given k before ran) (tear given.config.tears cycle.between.passed)
+pub untold-ran : {M : Type 0} (K : KindOf M) → (o : Origin) (given : Given) (k : ℕ) (w : World M) → o.geometry.harts ≡ 1 → Ran K o given k w → w.turns ≡ []
+untold-ran {M = M} K o given zero w one first = first.untold
+untold-ran {M = M} K o given (suc k) w one (before, ran, cycle) =
+    none_due K o cycle.between w
+    (cycle.steps.turns_are ∙ one_after o.geometry.harts before.turns cycle.steps.r.did one ∙ untold-ran K o given k before one ran) (tear given.config.tears cycle.between.passed)
     (is_due K o given.config.cuts cycle.between) cycle.cut

@@ -1,7 +1,8 @@
 -- The program's loop as a run.
-use Rattle.std.specs.Prelude.{◌≡◌, ◌≢◌, ◌⊎◌, ℕ, ◌+◌, ◌<◌, ◌==◌, Bool, true, false, ◌&&◌, nat_lt, slice_index, List, [], ◌∷◌, ◌++◌, length, Option, Some, None, Box}
+use Rattle.std.specs.Prelude.{◌≡◌, ◌≢◌, ◌⊎◌, ℕ, ◌+◌, ◌-◌, ◌<◌, ◌≤◌, ◌==◌, Bool, true, false, ◌&&◌, nat_lt, slice_index, List, [], ◌∷◌, ◌++◌, length, drop, Option, Some, None, Box}
 use Rattle.std.specs.declared.alloc.Global.{Global}
-use Rattle.thy_base.specs.Bytes.{bytes_of}
+use Rattle.thy_base.specs.declared.config.Parameters.{Parameters}
+use Rattle.thy_base.specs.Bytes.{bytes_of, room_of}
 use Rattle.thy_base.specs.Config.{IsRising}
 use Rattle.thy_base.specs.Counts.{Rose}
 use Rattle.thy_base.specs.Device.{Device, IsFramed, IsCut}
@@ -11,20 +12,22 @@ use Rattle.thy_isa.specs.declared.state.MachState.{MachState}
 use Rattle.thy_isa.specs.declared.state.Status.{Status}
 use Rattle.thy_isa.specs.Step.{state_of}
 use Rattle.thy_text.specs.Event.{Event, Cut}
+use Rattle.thy_text.specs.Marks.{turns_told}
 use Rattle.thy_view.specs.declared.did.Did.{Did}
-use Rattle.thy_view.specs.declared.did.Did.TheVariants.{Restarted}
+use Rattle.thy_view.specs.declared.did.Did.TheVariants.{Restarted, Retired, Sealed}
 use Rattle.thy_view.specs.declared.did.Stepped.{Stepped}
 use Rattle.thy_view.specs.declared.view.View.{View}
 use Rattle.thy_view.specs.Views.{loads, halts, is_halt}
 use Rattle.thy_view.specs.CoreStep.{CoreStep}
 use Rattle.thy_view.specs.Origin.{Origin, at, IsOrigin}
 use Rattle.thy_view.specs.Kind.{IsSnapshot, KindOf, IsStep, LeavesSafe}
+use Rattle.thy_view.specs.Told.{told, AgreeBelow, reach}
 use Rattle.thy_run.specs.Cuts.{has_ended}
 use Rattle.thy_run.specs.Due.{due_of}
 use Rattle.thy_run.specs.Endings.{EndsWith}
 use Rattle.thy_run.specs.Laws.{released_of}
 use Rattle.thy_run.specs.Unfinished.{StepFailed, TellingFailed, ReadFailed, LeftAlone}
-use Rattle.thy_run.specs.World.{World, Given, seen, TakesStep, Ran, Cycle, is_due, tear}
+use Rattle.thy_run.specs.World.{World, Given, seen, turns_after, TakesStep, Ran, Cycle, is_due, tear}
 use Rattle.thy_run.specs.declared.ending.Stop.{Stop}
 use Rattle.thy_run.specs.declared.ending.Stop.TheVariants.{Nvm, Memory}
 use Rattle.thy_run.specs.declared.advance.Outcome.{Outcome}
@@ -33,7 +36,7 @@ use Rattle.thy_run.specs.declared.gather.Readings.{Readings}
 use Rattle.thy_run.specs.declared.plan.Plan.{Plan}
 use Rattle.thy_run.specs.declared.progress.Progress.{Progress}
 
--- what the run is about; with one hart no turn is reported
+-- what the run is about, with no turn reported yet
 abbrev pub origin_of : Plan → Origin
 origin_of plan = record {
   geometry = plan.geometry;
@@ -42,6 +45,22 @@ origin_of plan = record {
   kept = plan.start.kept;
   turns = [];
 }
+
+-- the same along the turns that are reported
+abbrev pub line_of : Plan → List ℕ → Origin
+line_of plan turns = told (origin_of plan) turns
+
+-- the turns once a cycle did this
+abbrev pub turns_then : Plan → List ℕ → Did → List ℕ
+turns_then plan turns did = turns_after plan.geometry.harts turns did
+
+-- a run's own turns are as many as reach the state of a view
+abbrev pub AreTold : Origin → View → Type 0
+AreTold p v = length p.turns ≡ turns_told p.geometry.harts (reach v - p.start.count)
+
+-- the last so many of some turns
+abbrev pub last_turns : ℕ → List ℕ → List ℕ
+last_turns many turns = drop (length turns - many) turns
 
 -- what else it is given, over a device that was fitted
 abbrev pub given_of : Plan → Device → Given
@@ -52,9 +71,9 @@ pub record IsPlanned (plan : Plan) : Type 0 where
   pub origin : IsOrigin (origin_of plan)
   pub rising : IsRising 0 plan.config.cuts
 
--- the run between two cycles, of which so many are done, with its device; with one hart no turn is reported
-abbrev pub world_at : {M : Type 0} → Progress M → Device → ℕ → World M
-world_at p n cycles = record {
+-- the run between two cycles, of which so many are done, with its device and the turns reported so far
+abbrev pub world_at : {M : Type 0} → Progress M → Device → ℕ → List ℕ → World M
+world_at p n cycles turns = record {
   machine = p.machine;
   device = n;
   mix = p.mix;
@@ -62,14 +81,25 @@ world_at p n cycles = record {
   cycles = cycles;
   fresh = p.fresh;
   events = p.events;
-  turns = [];
+  turns = turns;
 }
 
--- the run continues: so many cycles were done since the device was fitted
+-- the turns that the program lists: those of the instructions that the view counts since the latest seal
+abbrev pub AreListed : {M : Type 0} → KindOf M → Plan → Progress M → Device → ℕ → List ℕ → Type 0
+AreListed K plan p n cycles turns =
+    bytes_of p.turns ≡ last_turns (seen K (origin_of plan) (world_at p n cycles turns)).retired turns
+
+-- with two harts there is room for those of an epoch
+abbrev pub HasTurnsRoom : Parameters → ℕ → Type 0
+HasTurnsRoom p room = (p.harts ≡ 1) ⊎ (p.epoch ≤ room)
+
+-- the run continues: so many cycles were done since the device was fitted, and these turns are reported
 pub record GoesOn {M : Type 0} (K : KindOf M) (plan : Plan) (fitted : Device) (p : Progress M) (n : Device) (cycles : ℕ)
-    : Type 0 where
-  pub ran : Ran K (origin_of plan) (given_of plan fitted) cycles (world_at p n cycles)
-  pub going : is_halt (seen K (origin_of plan) (world_at p n cycles)).phase ≡ false
+    (turns : List ℕ) : Type 0 where
+  pub ran : Ran K (origin_of plan) (given_of plan fitted) cycles (world_at p n cycles turns)
+  pub going : is_halt (seen K (origin_of plan) (world_at p n cycles turns)).phase ≡ false
+  pub listed : AreListed K plan p n cycles turns
+  pub turns_room : HasTurnsRoom plan.geometry (room_of p.turns)
   pub released : p.released ≡ length (released_of (origin_of plan) p.events)
   pub room : n.left_room ≡ length plan.config.cuts + 1
   pub faults : n.faults ≡ fitted.faults
@@ -78,13 +108,30 @@ pub record GoesOn {M : Type 0} (K : KindOf M) (plan : Plan) (fitted : Device) (p
 
 -- ---- a step, and what is read for its events
 
--- the machine took the schedule's next step
-pub record IsStepped {M : Type 0} (K : KindOf M) (plan : Plan) (p next : Progress M) (n new : Device) (cycles : ℕ) (r : Stepped)
-    : Type 0 where
-  pub is_step : IsStep K (origin_of plan) cycles (mix_pick p.mix) p.machine next.machine n new r
+-- the machine took the schedule's next step, along the turns that are reported once it is done, which were listed
+pub record IsStepped {M : Type 0} (K : KindOf M) (plan : Plan) (p next : Progress M) (n new : Device) (cycles : ℕ)
+    (turns : List ℕ) (r : Stepped) : Type 0 where
+  pub agree : AgreeBelow (line_of plan turns) (turns_then plan turns r.did)
+      (reach (seen K (origin_of plan) (world_at p n cycles turns)))
+  pub alike : K.view (line_of plan (turns_then plan turns r.did)) p.machine n
+      ≡ seen K (origin_of plan) (world_at p n cycles turns)
+  pub is_step : IsStep K (line_of plan (turns_then plan turns r.did)) cycles (mix_pick plan.geometry.harts p.mix) p.machine
+      next.machine n new r
   pub framed : IsFramed n new
   pub faults : new.faults ≡ n.faults
-  pub same : next ≡ record p { machine = next.machine; mix = mix_next p.mix }
+  pub same : next ≡ record p { machine = next.machine; mix = mix_next plan.geometry.harts p.mix; turns = next.turns }
+  pub listed : bytes_of next.turns ≡ turns_then plan (bytes_of p.turns) r.did
+  pub turns_room : room_of p.turns ≤ room_of next.turns
+
+-- the turns that are listed once this was done: none once the epoch was sealed
+abbrev pub list_after : Did → List ℕ → List ℕ
+list_after (Sealed epoch count cause) listed = []
+list_after did listed = listed
+
+-- there is room for the turn of what was done
+abbrev pub HasRoomToList : ℕ → List ℕ → ℕ → Did → Type 0
+HasRoomToList harts turns room (Retired hart) = (harts ≡ 1) ⊎ (length turns < room)
+HasRoomToList harts turns room did = Unit {0}
 
 -- what the reads for a step's events require
 pub record CanGather {M : Type 0} (K : KindOf M) (o : Origin) (cycles : ℕ) (v : View) (p : Progress M) (n : Device) (r : Stepped)
@@ -130,30 +177,36 @@ pub record MadeSome (made : List Event) (all : List Event) (before : List Event)
 -- ---- a cycle
 
 -- the machine's step failed with a fault of the device
-pub record IsStuck {M : Type 0} (K : KindOf M) (plan : Plan) (p next : Progress M) (n new : Device) : Type 0 where
-  pub leaves : LeavesSafe K (origin_of plan) (mix_pick p.mix) p.machine next.machine n new
+pub record IsStuck {M : Type 0} (K : KindOf M) (plan : Plan) (p next : Progress M) (n new : Device) (turns : List ℕ)
+    : Type 0 where
+  pub leaves : LeavesSafe K (line_of plan turns) (mix_pick plan.geometry.harts p.mix) p.machine next.machine n new
   pub framed : IsFramed n new
   pub rose : Rose n.faults new.faults
-  pub same : next ≡ record p { machine = next.machine; mix = mix_next p.mix }
+  pub same : next ≡ record p { machine = next.machine; mix = mix_next plan.geometry.harts p.mix }
 
 -- this step and all its events were made, and these bytes are due to the terminal
-pub record IsNoted {M : Type 0} (K : KindOf M) (plan : Plan) (p next : Progress M) (n new : Device) (cycles : ℕ) (r : Stepped)
-    (ended : Option Status) (bytes : List ℕ) : Type 0 where
-  pub steps : TakesStep K (origin_of plan) (world_at p n cycles) (world_at next new (cycles + 1))
+pub record IsNoted {M : Type 0} (K : KindOf M) (plan : Plan) (p next : Progress M) (n new : Device) (cycles : ℕ)
+    (turns : List ℕ) (r : Stepped) (ended : Option Status) (bytes : List ℕ) : Type 0 where
+  pub steps : TakesStep K (origin_of plan) (world_at p n cycles turns)
+      (world_at next new (cycles + 1) (turns_then plan turns r.did))
   pub by_step : steps.r ≡ r
-  pub is_end : IsEnd (origin_of plan) (seen K (origin_of plan) (world_at p n cycles))
-      (seen K (origin_of plan) (world_at next new (cycles + 1))) ended
+  pub is_end : IsEnd (line_of plan (turns_then plan turns r.did)) (seen K (origin_of plan) (world_at p n cycles turns))
+      (seen K (origin_of plan) (world_at next new (cycles + 1) (turns_then plan turns r.did))) ended
+  pub listed : AreListed K plan next new (cycles + 1) (turns_then plan turns r.did)
+  pub turns_room : HasTurnsRoom plan.geometry (room_of next.turns)
   pub released : next.released ≡ length (released_of (origin_of plan) next.events)
   pub releases : released_of (origin_of plan) next.events ≡ released_of (origin_of plan) p.events ++ bytes
   pub faults : new.faults ≡ n.faults
   pub on_terminal : next.terminal_failed ≡ p.terminal_failed
   pub on_report : next.report_failed ≡ p.report_failed
 
--- a cycle is done by this step, and a cut fell after it or not
-pub record IsDone {M : Type 0} (K : KindOf M) (plan : Plan) (p next : Progress M) (n new : Device) (cycles : ℕ) (r : Stepped)
-    (fell : Bool) (bytes : List ℕ) : Type 0 where
-  pub cycle : Cycle K (origin_of plan) plan.config.cuts plan.config.tears (world_at p n cycles)
-      (world_at next new (cycles + 1))
+-- a cycle is done by this step, a cut fell after it or not, and then these turns are reported
+pub record IsDone {M : Type 0} (K : KindOf M) (plan : Plan) (p next : Progress M) (n new : Device) (cycles : ℕ)
+    (turns after : List ℕ) (r : Stepped) (fell : Bool) (bytes : List ℕ) : Type 0 where
+  pub cycle : Cycle K (origin_of plan) plan.config.cuts plan.config.tears (world_at p n cycles turns)
+      (world_at next new (cycles + 1) after)
+  pub listed : AreListed K plan next new (cycles + 1) after
+  pub turns_room : HasTurnsRoom plan.geometry (room_of next.turns)
   pub by_step : cycle.steps.r ≡ r
   pub has_fallen : is_due K (origin_of plan) plan.config.cuts cycle.between ≡ fell
   pub released : next.released ≡ length (released_of (origin_of plan) next.events)
@@ -180,46 +233,49 @@ pub record IsFault {M : Type 0} (p next : Progress M) (n new : Device) (bytes : 
   pub rose : Rose n.faults new.faults
 
 -- why a cycle is not done: a fault of the device, or out of memory
-abbrev pub Breaks : {M : Type 0} → KindOf M → Plan → Progress M → Progress M → Device → Device → ℕ → List ℕ
+abbrev pub Breaks : {M : Type 0} → KindOf M → Plan → Progress M → Progress M → Device → Device → ℕ → List ℕ → List ℕ
     → Stop → Type 0
-Breaks K plan p next n new cycles bytes Nvm =
-    (StepFailed K (origin_of plan) (world_at p n cycles) next.events new
-    ⊎ TellingFailed K (origin_of plan) (world_at p n cycles) next.events
-    (ReadFailed (world_at p n cycles) next.events new))
+Breaks K plan p next n new cycles turns bytes Nvm =
+    (StepFailed K (origin_of plan) (world_at p n cycles turns) next.events new
+    ⊎ TellingFailed K (origin_of plan) (world_at p n cycles turns) next.events
+    (ReadFailed (world_at p n cycles turns) next.events new))
     × IsFault p next n new bytes
-Breaks K plan p next n new cycles bytes Memory =
-    TellingFailed K (origin_of plan) (world_at p n cycles) next.events (LeftAlone K (origin_of plan) plan.config.cuts new)
+Breaks K plan p next n new cycles turns bytes Memory =
+    TellingFailed K (origin_of plan) (world_at p n cycles turns) next.events
+    (LeftAlone K (origin_of plan) plan.config.cuts new)
     × (new.faults ≡ n.faults)
-Breaks K plan p next n new cycles bytes stop = ⊥
+Breaks K plan p next n new cycles turns bytes stop = ⊥
 
 -- a cut is due after a cycle whose events were made: the next one that is listed
-pub record AwaitsCut {M : Type 0} (K : KindOf M) (plan : Plan) (p next : Progress M) (n new : Device) (cycles : ℕ) (r : Stepped)
-    (bytes : List ℕ) : Type 0 where
-  pub noted : IsNoted K plan p next n new cycles r None bytes
+pub record AwaitsCut {M : Type 0} (K : KindOf M) (plan : Plan) (p next : Progress M) (n new : Device) (cycles : ℕ)
+    (turns : List ℕ) (r : Stepped) (bytes : List ℕ) : Type 0 where
+  pub noted : IsNoted K plan p next n new cycles turns r None bytes
   pub due : (nat_lt next.passed (length plan.config.cuts) && slice_index plan.config.cuts next.passed == cycles + 1) ≡ true
 
 -- a cycle is done by this step, no cut fell after it, and the run continues
-abbrev pub Passes : {M : Type 0} → KindOf M → Plan → Progress M → Progress M → Device → Device → ℕ → Stepped → List ℕ → Type 0
-Passes K plan p next n new cycles r bytes =
-    IsDone K plan p next n new cycles r false bytes
-    × (is_halt (seen K (origin_of plan) (world_at next new (cycles + 1))).phase ≡ false)
+abbrev pub Passes : {M : Type 0} → KindOf M → Plan → Progress M → Progress M → Device → Device → ℕ → List ℕ → Stepped
+    → List ℕ → Type 0
+Passes K plan p next n new cycles turns r bytes =
+    IsDone K plan p next n new cycles turns (turns_then plan turns r.did) r false bytes
+    × (is_halt (seen K (origin_of plan) (world_at next new (cycles + 1) (turns_then plan turns r.did))).phase ≡ false)
 
 -- the outcome of the cycle of a step
-abbrev pub ComesTo : {M : Type 0} → KindOf M → Plan → Progress M → Progress M → Device → Device → ℕ → Stepped → List ℕ
-    → Outcome → Type 0
-ComesTo K plan p next n new cycles r bytes Goes = Passes K plan p next n new cycles r bytes
-ComesTo K plan p next n new cycles r bytes Cuts = AwaitsCut K plan p next n new cycles r bytes
-ComesTo K plan p next n new cycles r bytes (Ends status) =
-    IsDone K plan p next n new cycles r false bytes
-    × (is_halt (seen K (origin_of plan) (world_at next new (cycles + 1))).phase ≡ true)
+abbrev pub ComesTo : {M : Type 0} → KindOf M → Plan → Progress M → Progress M → Device → Device → ℕ → List ℕ → Stepped
+    → List ℕ → Outcome → Type 0
+ComesTo K plan p next n new cycles turns r bytes Goes = Passes K plan p next n new cycles turns r bytes
+ComesTo K plan p next n new cycles turns r bytes Cuts = AwaitsCut K plan p next n new cycles turns r bytes
+ComesTo K plan p next n new cycles turns r bytes (Ends status) =
+    IsDone K plan p next n new cycles turns (turns_then plan turns r.did) r false bytes
+    × (is_halt (seen K (origin_of plan) (world_at next new (cycles + 1) (turns_then plan turns r.did))).phase ≡ true)
     × EndsWith next.events status
-ComesTo K plan p next n new cycles r bytes (Fails stop) =
-    IsBroken K plan p next n new cycles bytes × Breaks K plan p next n new cycles bytes stop
+ComesTo K plan p next n new cycles turns r bytes (Fails stop) =
+    IsBroken K plan p next n new cycles bytes × Breaks K plan p next n new cycles turns bytes stop
 
 -- power may be cut: the machine is at a moment of the run, and another cut is listed
 pub record CanCut {M : Type 0} (K : KindOf M) (plan : Plan) (p : Progress M) (n : Device) : Type 0 where
   pub cycles : ℕ
-  pub at_moment : K.is_at (origin_of plan) cycles p.machine n
+  pub turns : List ℕ
+  pub at_moment : K.is_at (line_of plan turns) cycles p.machine n
   pub room : length n.left < n.left_room
   pub few : p.passed < length plan.config.cuts
 
@@ -234,4 +290,8 @@ pub record IsCutOffTo {M : Type 0} (K : KindOf M) (plan : Plan) (p next : Progre
     passed = p.passed + 1;
     fresh = true;
     events = p.events ++ Cut (p.passed + 1) cycle ∷ [];
+    turns = next.turns;
   }
+  -- no turn of the epoch that executes next is listed
+  pub cleared : bytes_of next.turns ≡ []
+  pub turns_room : room_of next.turns ≡ room_of p.turns

@@ -17,15 +17,15 @@ use Rattle.thy_view.specs.Booting.{found_first}
 use Rattle.thy_view.specs.Safe.{ceiling}
 use Rattle.thy_run.specs.Cuts.{cuts_among, numbered, cuts_up_to, last_cuttable}
 use Rattle.thy_run.specs.Images.{Found, found, HasLeft, AllFit}
-use Rattle.thy_run.specs.Progress.{IsSoonOver}
+use Rattle.thy_run.specs.Progress.{IsSoonOver, IsPaced}
 use Rattle.thy_run.specs.Strides.{IsStriding}
 use Rattle.thy_run.specs.Unfinished.{Stopped}
-use Rattle.thy_run.specs.World.{Given, hart_count, tear}
+use Rattle.thy_run.specs.World.{Given, tear}
 use Rattle.thy_run.specs.declared.ending.Stop.{Stop}
 
 -- what the events of a run are checked against; it does not depend on the turns reported so far
 abbrev pub course_of : Origin → Course
-course_of o = record { at = λ k turns. at (told o turns) k; start = o.start.count; epoch = o.geometry.epoch; harts = hart_count }
+course_of o = record { at = λ k turns. at (told o turns) k; start = o.start.count; epoch = o.geometry.epoch; harts = o.geometry.harts }
 
 -- the marks before any event, at this count: the checkpoint that the start was taken from is kept, or the start is sealed
 abbrev pub marks_at : ℕ → Option Mark → Marks
@@ -86,6 +86,7 @@ pub record Promise {M : Type 0} (K : KindOf M) (o : Origin) (given : Given) (cyc
   pub room : LeavesRoom given events n
   pub safe_at_return : IsSafe K.decode o (marks_of o events) n
   pub soon : IsSoonOver K o given.config.cuts cycles
+  pub paced : IsPaced K o given cycles
   pub strides : IsStriding o.start.count events
 
 -- every run keeps it

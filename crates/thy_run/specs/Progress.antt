@@ -27,11 +27,11 @@ cycles_for K p cuts k = last_of cuts + K.most_ahead p + K.most_each p * k
 abbrev pub EndsWithin : Origin → ℕ → Type 0
 EndsWithin o k = runs_at (told o []) (o.start.count + k) ≡ false
 
--- a run has no more cycles than its program needs
+-- with one hart a run has no more cycles than its program needs
 abbrev pub IsSoonOver : {M : Type 0} → KindOf M → Origin → List ℕ → ℕ → Type 0
-IsSoonOver K o cuts cycles = (k : ℕ) → EndsWithin o k → cycles < cycles_for K o.geometry cuts k
+IsSoonOver K o cuts cycles = (k : ℕ) → o.geometry.harts ≡ 1 → EndsWithin o k → cycles < cycles_for K o.geometry cuts k
 
--- every run is soon over
+-- every run of one hart is soon over
 abbrev pub RunIsSoonOver : {M : Type 0} → KindOf M → Type 0
 RunIsSoonOver {M = M} K =
     (o : Origin) (given : Given) (cycles : ℕ) (w : World M)
@@ -44,13 +44,13 @@ pub record Tally : Type 0 where
   -- instructions retired
   pub retired : ℕ
   -- cycles of the boot, without drains
-  pub boots : ℕ
+  pub booted : ℕ
   -- cycles that drained a queue, and all others
   pub drains : ℕ
   pub others : ℕ
 
 abbrev pub nothing_done : Tally
-nothing_done = record { retired = 0; boots = 0; drains = 0; others = 0 }
+nothing_done = record { retired = 0; booted = 0; drains = 0; others = 0 }
 
 abbrev pub one_if : Bool → ℕ
 one_if b = if b then 1 else 0
@@ -59,7 +59,7 @@ one_if b = if b then 1 else 0
 abbrev pub counted : Tally → (booting : Bool) → Did → Tally
 counted t booting did = record {
   retired = t.retired + retires did;
-  boots = t.boots + one_if (booting && not (is_drained did));
+  booted = t.booted + one_if (booting && not (is_drained did));
   drains = t.drains + one_if (is_drained did);
   others = t.others + one_if (not (is_drained did));
 }
@@ -79,10 +79,16 @@ pub record IsBusy {M : Type 0} (K : KindOf M) (o : Origin) (cuts : List ℕ) (cy
   -- it has taken no more cycles than the instructions account for
   pub paced : cycles < cycles_for K o.geometry cuts t.retired
   -- the boot took no more than it may, and neither did the epoch that executes
-  pub boots : t.boots ≤ K.most_booting o.geometry
+  pub boots : t.booted ≤ K.most_booting o.geometry
   pub spent : 0 < cycles → (seen K o w).spent < K.most_spent o.geometry
   -- each drain landed a write that another cycle had queued
   pub drains : t.drains ≤ t.others
+
+-- a run of so many cycles took no more than the instructions account for that it retired since its power came on
+abbrev pub IsPaced : {M : Type 0} → KindOf M → Origin → Given → ℕ → Type 0
+IsPaced {M = M} K o given cycles =
+    (w : World M) (ran : Ran K o given cycles w)
+    → cycles < cycles_for K o.geometry given.config.cuts (tally_of K o given cycles w ran).retired
 
 -- every run is busy
 abbrev pub RunIsBusy : {M : Type 0} → KindOf M → Type 0

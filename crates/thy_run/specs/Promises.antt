@@ -1,5 +1,5 @@
 -- What the functions of the loop promise each other: each from any moment of any run.
-use Rattle.std.specs.Prelude.{◌≡◌, ℕ, ◌+◌, ◌-◌, ◌<◌, ◌^◌, ◌&&◌, true, false, Bool, List, [], length, Option, Result, IfOk, OnOk, OnErr, ◌++◌, Box}
+use Rattle.std.specs.Prelude.{◌≡◌, ℕ, ◌+◌, ◌-◌, ◌&&◌, true, false, Bool, List, [], length, Option, Result, IfOk, OnOk, OnErr, ◌++◌, Box}
 use Rattle.std.specs.declared.alloc.Global.{Global}
 use Rattle.thy_base.specs.declared.bytes.Bytes.{Bytes}
 use Rattle.thy_base.specs.declared.cause.EndCause.{EndCause}
@@ -22,32 +22,32 @@ use Rattle.thy_run.specs.Due.{due_of}
 use Rattle.thy_run.specs.declared.advance.Advance.{Advance}
 use Rattle.thy_run.specs.declared.advance.Advance.TheVariants.{Quiet, Noted}
 use Rattle.thy_run.specs.declared.advance.Outcome.{Outcome}
-use Rattle.thy_run.specs.declared.cycles.Round.{Round}
 use Rattle.thy_run.specs.declared.ending.Ending.{Ending}
 use Rattle.thy_run.specs.declared.gather.Readings.{Readings}
 use Rattle.thy_run.specs.declared.plan.Plan.{Plan}
 use Rattle.thy_run.specs.declared.progress.Progress.{Progress}
-use Rattle.thy_run.specs.Going.{origin_of, world_at, GoesOn, IsStepped, IsStuck, CanGather, MadeSome, Restores, IsEnding, IsEnd, IsGathered, IsNoted, AwaitsCut, Passes, ComesTo}
+use Rattle.thy_run.specs.Going.{origin_of, line_of, turns_then, world_at, GoesOn, IsStepped, IsStuck, CanGather, MadeSome, Restores, IsEnding, IsEnd, IsGathered, IsNoted, AwaitsCut, Passes, ComesTo}
 use Rattle.thy_run.specs.Sending.{Sinks}
 use Rattle.thy_run.specs.Seeing.{SeesOutcome}
 use Rattle.thy_run.specs.Watching.{Taken, taken, Sees}
-use Rattle.thy_run.specs.Rounds.{Running, IsRound, RunEnds}
+use Rattle.thy_run.specs.Rounds.{Running, RunEnds}
 use Rattle.thy_run.specs.World.{seen, turns_behind, did_told, end_told, events_of}
 
 -- ---- a step
 
 -- a step that succeeded is the schedule's next
-abbrev pub StepsOn : {M : Type 0} → KindOf M → Plan → Progress M → Progress M → Device → Device
+abbrev pub StepsOn : {M : Type 0} → KindOf M → Plan → Progress M → Progress M → Device → Device → ℕ
     → Result Stepped NvmError → Type 0
-StepsOn K plan p next n new result =
-    (k : ℕ) → K.is_at (origin_of plan) k p.machine n → k < 2 ^ 62
-    → IfOk result (λ r. IsStepped K plan p next n new k r)
+StepsOn K plan p next n new done result =
+    (fitted : Device) (turns : List ℕ) → GoesOn K plan fitted p n done turns
+    → IfOk result (λ r. IsStepped K plan p next n new done turns r)
 
 -- and one that failed leaves what its action may leave
-abbrev pub GetsStuck : {M : Type 0} → KindOf M → Plan → Progress M → Progress M → Device → Device
+abbrev pub GetsStuck : {M : Type 0} → KindOf M → Plan → Progress M → Progress M → Device → Device → ℕ
     → Result Stepped NvmError → Type 0
-GetsStuck K plan p next n new result =
-    (k : ℕ) → K.is_at (origin_of plan) k p.machine n → OnErr result (IsStuck K plan p next n new)
+GetsStuck K plan p next n new done result =
+    (fitted : Device) (turns : List ℕ) → GoesOn K plan fitted p n done turns
+    → OnErr result (IsStuck K plan p next n new turns)
 
 -- ---- what is read for a step's events
 
@@ -93,20 +93,23 @@ NotesRestart epoch count restored old new result =
     (o : Origin) (v : View) → Restores o (Restarted epoch count) restored
     → OnOk result (new ≡ old ++ did_told o v (Restarted epoch count) 0)
 
--- a run reports no turn after the committed checkpoint: with one hart it has none to report
-abbrev pub IsUntold : Origin → View → Type 0
-IsUntold o v = turns_behind o v.done ≡ []
+-- if what was done is an epoch's end, these are the turns after the committed checkpoint
+abbrev pub EndsWithTurns : Origin → View → Did → List ℕ → Type 0
+EndsWithTurns o v (Sealed epoch count cause) turns = turns_behind o v.done ≡ turns
+EndsWithTurns o v did turns = Unit {0}
 
 -- the event of an epoch's end is made
-abbrev pub NotesSeal : {T E : Type 0} → ℕ → ℕ → EndCause → List Event → List Event → Result T E → Type 0
-NotesSeal epoch count cause old new result =
-    (o : Origin) (v : View) → IsUntold o v → OnOk result (new ≡ old ++ did_told o v (Sealed epoch count cause) 0)
+abbrev pub NotesSeal : {T E : Type 0} → ℕ → ℕ → EndCause → List ℕ → List Event → List Event → Result T E → Type 0
+NotesSeal epoch count cause turns old new result =
+    (o : Origin) (v : View) → EndsWithTurns o v (Sealed epoch count cause) turns
+    → OnOk result (new ≡ old ++ did_told o v (Sealed epoch count cause) 0)
 
 -- the same of the events of what a step did
-abbrev pub NotesDid : {T E : Type 0} → Did → Option (Box MachState Global) → ℕ → List Event → List Event
+abbrev pub NotesDid : {T E : Type 0} → Did → List ℕ → Option (Box MachState Global) → ℕ → List Event → List Event
     → Result T E → Type 0
-NotesDid did restored cycle old new result =
-    (o : Origin) (v : View) → IsUntold o v → Restores o did restored → OnOk result (new ≡ old ++ did_told o v did cycle)
+NotesDid did turns restored cycle old new result =
+    (o : Origin) (v : View) → EndsWithTurns o v did turns → Restores o did restored
+    → OnOk result (new ≡ old ++ did_told o v did cycle)
 
 -- and that of the end
 abbrev pub NotesEnd : {T E : Type 0} → Option (Box MachState Global) → ℕ → List Event → List Event → Result T E → Type 0
@@ -119,19 +122,19 @@ AnswersEnd ended result =
     (o : Origin) (v next : View) → IsEnding o v next ended → IfOk result (λ s. IsEnd o v next s)
 
 -- all events of a step are made
-abbrev pub NotesAll : {T E : Type 0} → Did → Bool → Option (Box MachState Global) → Option (Box MachState Global) → ℕ
-    → List Event → List Event → Result T E → Type 0
-NotesAll did reload restored ended cycle old new result =
-    (o : Origin) (fresh : Bool) (v next : View) → reload ≡ (fresh && loads next) → IsUntold o v → Restores o did restored
-    → IsEnding o v next ended
+abbrev pub NotesAll : {T E : Type 0} → Did → List ℕ → Bool → Option (Box MachState Global) → Option (Box MachState Global)
+    → ℕ → List Event → List Event → Result T E → Type 0
+NotesAll did turns reload restored ended cycle old new result =
+    (o : Origin) (fresh : Bool) (v next : View) → reload ≡ (fresh && loads next) → EndsWithTurns o v did turns
+    → Restores o did restored → IsEnding o v next ended
     → OnOk result (new ≡ old ++ events_of o fresh v did next cycle)
 
 -- or the first ones, if memory ran out
-abbrev pub NotesSome : {T E : Type 0} → Did → Bool → Option (Box MachState Global) → Option (Box MachState Global) → ℕ
-    → List Event → List Event → Result T E → Type 0
-NotesSome did reload restored ended cycle old new result =
-    (o : Origin) (fresh : Bool) (v next : View) → reload ≡ (fresh && loads next) → IsUntold o v → Restores o did restored
-    → IsEnding o v next ended
+abbrev pub NotesSome : {T E : Type 0} → Did → List ℕ → Bool → Option (Box MachState Global) → Option (Box MachState Global)
+    → ℕ → List Event → List Event → Result T E → Type 0
+NotesSome did turns reload restored ended cycle old new result =
+    (o : Origin) (fresh : Bool) (v next : View) → reload ≡ (fresh && loads next) → EndsWithTurns o v did turns
+    → Restores o did restored → IsEnding o v next ended
     → OnErr result (MadeSome new (events_of o fresh v did next cycle) old)
 
 -- ---- a cycle
@@ -139,41 +142,42 @@ NotesSome did reload restored ended cycle old new result =
 -- the outcome of a cycle whose events were made
 abbrev pub ConcludesNoted : {M : Type 0} → KindOf M → Plan → Progress M → Option Status → ℕ → Outcome → Type 0
 ConcludesNoted {M = M} K plan next ended cycle outcome =
-    (fitted : Device) (p : Progress M) (n m : Device) (k : ℕ) (r : Stepped) (bytes : List ℕ)
-    → GoesOn K plan fitted p n k → IsNoted K plan p next n m k r ended bytes → cycle ≡ k + 1
-    → ComesTo K plan p next n m k r bytes outcome
+    (fitted : Device) (p : Progress M) (n m : Device) (k : ℕ) (turns : List ℕ) (r : Stepped) (bytes : List ℕ)
+    → GoesOn K plan fitted p n k turns → IsNoted K plan p next n m k turns r ended bytes → cycle ≡ k + 1
+    → ComesTo K plan p next n m k turns r bytes outcome
 
 -- what was read for the events of a step from p to q
-abbrev pub IsGatheredFor : {M : Type 0} → KindOf M → Plan → Progress M → Progress M → Device → Device → ℕ
+abbrev pub IsGatheredFor : {M : Type 0} → KindOf M → Plan → Progress M → Progress M → Device → Device → ℕ → List ℕ
     → Did → Readings → Type 0
-IsGatheredFor K plan p q n m k did readings =
-    IsGathered (origin_of plan) (seen K (origin_of plan) (world_at p n k)) (K.view (origin_of plan) q.machine m)
-    q did readings
+IsGatheredFor K plan p q n m k turns did readings =
+    IsGathered (line_of plan (turns_then plan turns did)) (seen K (origin_of plan) (world_at p n k turns))
+    (K.view (line_of plan (turns_then plan turns did)) q.machine m) q did readings
 
 -- a step was taken, and all was read for its events
 abbrev pub CanConclude : {M : Type 0} → KindOf M → Plan → Progress M → Did → Readings → ℕ → Type 0
 CanConclude {M = M} K plan q did readings cycle =
-    (fitted : Device) × (p : Progress M) × (n : Device) × (m : Device) × (k : ℕ) × (r : Stepped)
-    × GoesOn K plan fitted p n k × IsStepped K plan p q n m k r × IsGatheredFor K plan p q n m k did readings
-    × (r.did ≡ did) × (cycle ≡ k + 1)
+    (fitted : Device) × (p : Progress M) × (n : Device) × (m : Device) × (k : ℕ) × (turns : List ℕ) × (r : Stepped)
+    × GoesOn K plan fitted p n k turns × IsStepped K plan p q n m k turns r
+    × IsGatheredFor K plan p q n m k turns did readings × (r.did ≡ did) × (cycle ≡ k + 1)
 
 -- and then its cycle has this outcome
 abbrev pub Concludes : {M : Type 0} → KindOf M → Plan → Progress M → Progress M → Did → Readings → ℕ → List ℕ
     → Outcome → Type 0
 Concludes {M = M} K plan q next did readings cycle bytes outcome =
-    (fitted : Device) (p : Progress M) (n m : Device) (k : ℕ) (r : Stepped)
-    → GoesOn K plan fitted p n k → IsStepped K plan p q n m k r → IsGatheredFor K plan p q n m k did readings
-    → r.did ≡ did → cycle ≡ k + 1 → ComesTo K plan p next n m k r bytes outcome
+    (fitted : Device) (p : Progress M) (n m : Device) (k : ℕ) (turns : List ℕ) (r : Stepped)
+    → GoesOn K plan fitted p n k turns → IsStepped K plan p q n m k turns r
+    → IsGatheredFor K plan p q n m k turns did readings → r.did ≡ did → cycle ≡ k + 1
+    → ComesTo K plan p next n m k turns r bytes outcome
 
 -- from a run that continues, a cycle has this outcome; the observer has seen it, or keeps its step if a cut is due
 abbrev pub TakesCycle : {M O : Type 0} → KindOf M → (O → List Taken → Type 0) → (O → List Taken → Stepped → Type 0) → Plan
     → Progress M → Progress M → Device → Device → ℕ → O → O → Advance → Type 0
 TakesCycle K has_seen keeps plan p next n new done old_o new_o Quiet =
-    (fitted : Device) → GoesOn K plan fitted p n done
-    → (r : Stepped) × Passes K plan p next n new done r [] × Sees has_seen old_o new_o (taken r 0 false)
+    (fitted : Device) (turns : List ℕ) → GoesOn K plan fitted p n done turns
+    → (r : Stepped) × Passes K plan p next n new done turns r [] × Sees has_seen old_o new_o (taken r 0 false)
 TakesCycle K has_seen keeps plan p next n new done old_o new_o (Noted noted) =
-    (fitted : Device) → GoesOn K plan fitted p n done
-    → (r : Stepped) × ComesTo K plan p next n new done r (bytes_of noted.bytes) noted.outcome
+    (fitted : Device) (turns : List ℕ) → GoesOn K plan fitted p n done turns
+    → (r : Stepped) × ComesTo K plan p next n new done turns r (bytes_of noted.bytes) noted.outcome
     × SeesOutcome has_seen keeps old_o new_o r (length next.events - length p.events) noted.outcome
 
 -- ---- a round of the loop
@@ -181,32 +185,17 @@ TakesCycle K has_seen keeps plan p next n new done old_o new_o (Noted noted) =
 -- the run continues, and its sinks took all that was due since its start
 abbrev pub IsRunning : {M : Type 0} → KindOf M → Plan → Progress M → Device → ℕ → Sinks → Type 0
 IsRunning K plan p n done now =
-    (fitted : Device) × (t : Stream) × (r : Stream) × Running K plan fitted p n done t now.terminal r now.report
-
--- and a round has this result
-abbrev pub MakesRound : {M : Type 0} → KindOf M → Plan → Progress M → Progress M → Device → Device → ℕ
-    → Sinks → Sinks → Round → Type 0
-MakesRound K plan p next n new done before after round =
-    (fitted : Device) (t r : Stream) → Running K plan fitted p n done t before.terminal r before.report
-    → IsRound K plan fitted p next n new done t before.terminal after.terminal r before.report after.report round
+    (fitted : Device) × (turns : List ℕ) × (t : Stream) × (r : Stream)
+    × Running K plan fitted p n done turns t now.terminal r now.report
 
 -- a run that continues awaits a cut, with these bytes due to the terminal
 abbrev pub IsAwaiting : {M : Type 0} → KindOf M → Plan → Progress M → Device → ℕ → List ℕ → ℕ → Sinks → Type 0
 IsAwaiting {M = M} K plan next m done bytes first now =
-    (fitted : Device) × (p : Progress M) × (n : Device) × (t : Stream) × (r : Stream)
-    × (step : Stepped) × Running K plan fitted p n done t now.terminal r now.report
-    × AwaitsCut K plan p next n m done step bytes × (first ≡ length p.events)
+    (fitted : Device) × (p : Progress M) × (n : Device) × (turns : List ℕ) × (t : Stream) × (r : Stream)
+    × (step : Stepped) × Running K plan fitted p n done turns t now.terminal r now.report
+    × AwaitsCut K plan p next n m done turns step bytes × (first ≡ length p.events)
 
 -- a run of a plan leaves this
 abbrev pub RunsTo : {M : Type 0} → KindOf M → Plan → Device → Device → Ending → Sinks → Sinks → Type 0
 RunsTo K plan fitted new e before after =
     RunEnds K plan fitted new e before.terminal after.terminal before.report after.report
-
--- after the cut it continues
-abbrev pub CutsOn : {M : Type 0} → KindOf M → Plan → Progress M → Device → Device → ℕ → List ℕ → ℕ → Sinks → Sinks
-    → Result (Progress M) Ending → Type 0
-CutsOn {M = M} K plan next m new done bytes first before after result =
-    (fitted : Device) (p : Progress M) (n : Device) (t r : Stream) (step : Stepped)
-    → Running K plan fitted p n done t before.terminal r before.report
-    → AwaitsCut K plan p next n m done step bytes → first ≡ length p.events
-    → IfOk result (λ q. Running K plan fitted q new (done + 1) t after.terminal r after.report)

@@ -5,7 +5,6 @@ use Rattle.thy_base.specs.Device.{Device, fitted}
 use Rattle.thy_base.specs.Mix.{mix_start}
 use Rattle.thy_base.specs.Outside.{Stream, Took}
 use Rattle.thy_base.specs.declared.block.Block.{Block}
-use Rattle.thy_view.specs.declared.did.Stepped.{Stepped}
 use Rattle.thy_view.specs.Kind.{IsFittedFor, KindOf}
 use Rattle.thy_text.specs.Lines.{report_of}
 use Rattle.thy_run.specs.Laws.{released_of}
@@ -18,8 +17,9 @@ use Rattle.thy_run.specs.declared.cycles.Round.{Round}
 use Rattle.thy_run.specs.declared.cycles.Round.TheVariants.{GoesOn as RoundGoesOn, Cuts as CutsOff, Stops, Breaks as BreaksOff}
 use Rattle.thy_run.specs.declared.plan.Plan.{Plan}
 use Rattle.thy_run.specs.declared.progress.Progress.{Progress}
-use Rattle.thy_base.specs.Bytes.{bytes_of}
-use Rattle.thy_run.specs.Going.{origin_of, given_of, world_at, GoesOn, AwaitsCut}
+use Rattle.thy_base.specs.declared.bytes.Bytes.{Bytes}
+use Rattle.thy_base.specs.Bytes.{bytes_of, room_of}
+use Rattle.thy_run.specs.Going.{origin_of, given_of, world_at, HasTurnsRoom, GoesOn}
 use Rattle.thy_run.specs.World.{World}
 use Rattle.thy_run.specs.Endings.{HasRun}
 
@@ -48,8 +48,8 @@ pub record IsFitted {M : Type 0} (K : KindOf M) (plan : Plan) (n : Device) : Typ
 
 -- the run continues, and the sinks took all that was due so far
 pub record Running {M : Type 0} (K : KindOf M) (plan : Plan) (fitted : Device) (p : Progress M) (n : Device) (cycles : ℕ)
-    (terminal shown report read : Stream) : Type 0 where
-  pub goes : GoesOn K plan fitted p n cycles
+    (turns : List ℕ) (terminal shown report read : Stream) : Type 0 where
+  pub goes : GoesOn K plan fitted p n cycles turns
   pub shown_all : Took terminal shown (released_of (origin_of plan) p.events)
   pub read_all : Took report read (report_of plan.digest p.events)
 
@@ -75,27 +75,36 @@ ending_of stop p cycles = record {
   report_failed = p.report_failed;
 }
 
--- the result of a round of the loop
+-- the result of a round of the loop, before which some turns were reported, and some after it
 abbrev pub IsRound : {M : Type 0} → KindOf M → Plan → Device → Progress M → Progress M → Device → Device → ℕ
-    → Stream → Stream → Stream → Stream → Stream → Stream → Round → Type 0
-IsRound K plan fitted p next n new cycles terminal showing shown report reading read RoundGoesOn =
-    Running K plan fitted next new (cycles + 1) terminal shown report read
-IsRound K plan fitted p next n new cycles terminal showing shown report reading read (CutsOff bytes) =
-    (r : Stepped) × AwaitsCut K plan p next n new cycles r (bytes_of bytes) × (shown ≡ showing) × (read ≡ reading)
-IsRound K plan fitted p next n new cycles terminal showing shown report reading read (Stops stop) =
-    RunEndsAt K plan fitted new (ending_of stop next (cycles + 1)) terminal shown report read (world_at next new (cycles + 1))
-IsRound K plan fitted p next n new cycles terminal showing shown report reading read (BreaksOff stop) =
-    RunEndsAt K plan fitted new (ending_of stop next cycles) terminal shown report read (world_at p n cycles)
+    → List ℕ → List ℕ → Stream → Stream → Stream → Stream → Stream → Stream → Round → Type 0
+IsRound K plan fitted p next n new cycles turns after terminal showing shown report reading read RoundGoesOn =
+    Running K plan fitted next new (cycles + 1) after terminal shown report read
+IsRound K plan fitted p next n new cycles turns after terminal showing shown report reading read (CutsOff bytes) =
+    (shown ≡ showing) × (read ≡ reading)
+IsRound K plan fitted p next n new cycles turns after terminal showing shown report reading read (Stops stop) =
+    RunEndsAt K plan fitted new (ending_of stop next (cycles + 1)) terminal shown report read
+    (world_at next new (cycles + 1) after)
+IsRound K plan fitted p next n new cycles turns after terminal showing shown report reading read (BreaksOff stop) =
+    RunEndsAt K plan fitted new (ending_of stop next cycles) terminal shown report read (world_at p n cycles turns)
 
--- a run before its first cycle
-abbrev pub first_progress : {M : Type 0} → Plan → M → Progress M
-first_progress plan machine = record {
+-- a run before its first cycle, with a list for turns
+abbrev pub first_progress : {M : Type 0} → Plan → M → Bytes → Progress M
+first_progress plan machine turns = record {
   machine = machine;
   mix = mix_start plan.config.mix;
   events = [];
   passed = 0;
   released = 0;
   fresh = false;
+  turns = turns;
   terminal_failed = false;
   report_failed = false;
 }
+
+-- no turn is listed, and with two harts there is room for those of an epoch
+pub record IsStarted {M : Type 0} (K : KindOf M) (plan : Plan) (p : Progress M) : Type 0 where
+  pub powered : K.powered plan.geometry p.machine
+  pub first : p ≡ first_progress plan p.machine p.turns
+  pub empty : bytes_of p.turns ≡ []
+  pub room : HasTurnsRoom plan.geometry (room_of p.turns)

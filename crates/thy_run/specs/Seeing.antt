@@ -13,24 +13,26 @@ use Rattle.thy_run.specs.declared.ending.Ending.{Ending}
 use Rattle.thy_run.specs.declared.plan.Plan.{Plan}
 use Rattle.thy_run.specs.declared.progress.Progress.{Progress}
 use Rattle.thy_run.specs.Endings.{HasRun}
-use Rattle.thy_run.specs.Going.{origin_of, given_of, world_at, GoesOn, AwaitsCut}
-use Rattle.thy_run.specs.Rounds.{Running, RunEnds}
+use Rattle.thy_run.specs.Going.{origin_of, given_of, world_at, AwaitsCut}
+use Rattle.thy_run.specs.Rounds.{Running, IsRound, RunEnds}
 use Rattle.thy_run.specs.Sending.{Sinks}
 use Rattle.thy_run.specs.Watching.{Taken, taken, IsListed, Keeps, Sees}
 use Rattle.thy_run.specs.World.{Given}
 use Rattle.thy_view.specs.Origin.{Origin}
 
 -- an observer has seen the cycles of the run up to here
-abbrev pub Watched : {M O : Type 0} → KindOf M → (O → List Taken → Type 0) → Plan → Device → Progress M → Device → ℕ → O
-    → Type 0
-Watched K has_seen plan fitted p n cycles o =
-    (seen : List Taken) × IsListed K (origin_of plan) (given_of plan fitted) cycles (world_at p n cycles) seen × has_seen o seen
+abbrev pub Watched : {M O : Type 0} → KindOf M → (O → List Taken → Type 0) → Plan → Device → Progress M → Device → ℕ → List ℕ
+    → O → Type 0
+Watched K has_seen plan fitted p n cycles turns o =
+    (seen : List Taken)
+    × IsListed K (origin_of plan) (given_of plan fitted) cycles (world_at p n cycles turns) seen × has_seen o seen
 
 -- it has seen them, and keeps the step of the next one
 abbrev pub Awaited : {M O : Type 0} → KindOf M → (O → List Taken → Stepped → Type 0) → Plan → Device → Progress M → Device → ℕ
-    → Stepped → O → Type 0
-Awaited K keeps plan fitted p n cycles r o =
-    (seen : List Taken) × IsListed K (origin_of plan) (given_of plan fitted) cycles (world_at p n cycles) seen × keeps o seen r
+    → List ℕ → Stepped → O → Type 0
+Awaited K keeps plan fitted p n cycles turns r o =
+    (seen : List Taken)
+    × IsListed K (origin_of plan) (given_of plan fitted) cycles (world_at p n cycles turns) seen × keeps o seen r
 
 -- an observer has seen the cycles of this run
 abbrev pub HasSeenRun : {M O : Type 0} (K : KindOf M) (has_seen : O → List Taken → Type 0) (o : Origin) (given : Given)
@@ -54,35 +56,59 @@ SeesOutcome has_seen keeps old new r told (Ends status) = Sees has_seen old new 
 SeesOutcome has_seen keeps old new r told Cuts = Keeps has_seen keeps old new r
 SeesOutcome has_seen keeps old new r told (Fails stop) = new ≡ old
 
--- what it has seen after a round that came to this
+-- what it has seen after a round that came to this, before which some turns were reported, and some after it
 abbrev pub SeenBy : {M O : Type 0} → KindOf M → (O → List Taken → Type 0) → (O → List Taken → Stepped → Type 0) → Plan → Device
-    → Progress M → Progress M → Device → Device → ℕ → O → O → Round → Type 0
-SeenBy K has_seen keeps plan fitted p next n new done old_o new_o RoundGoesOn =
-    Watched K has_seen plan fitted next new (done + 1) new_o
-SeenBy K has_seen keeps plan fitted p next n new done old_o new_o (CutsOff bytes) =
-    (r : Stepped) × AwaitsCut K plan p next n new done r (bytes_of bytes) × Awaited K keeps plan fitted p n done r new_o
-SeenBy K has_seen keeps plan fitted p next n new done old_o new_o (Stops stop) =
-    Watched K has_seen plan fitted next new (done + 1) new_o
-SeenBy K has_seen keeps plan fitted p next n new done old_o new_o (BreaksOff stop) = new_o ≡ old_o
+    → Progress M → Progress M → Device → Device → ℕ → List ℕ → List ℕ → O → O → Round → Type 0
+SeenBy K has_seen keeps plan fitted p next n new done turns after old_o new_o RoundGoesOn =
+    Watched K has_seen plan fitted next new (done + 1) after new_o
+SeenBy K has_seen keeps plan fitted p next n new done turns after old_o new_o (CutsOff bytes) =
+    (r : Stepped) × AwaitsCut K plan p next n new done turns r (bytes_of bytes)
+    × Awaited K keeps plan fitted p n done turns r new_o
+SeenBy K has_seen keeps plan fitted p next n new done turns after old_o new_o (Stops stop) =
+    Watched K has_seen plan fitted next new (done + 1) after new_o
+SeenBy K has_seen keeps plan fitted p next n new done turns after old_o new_o (BreaksOff stop) = new_o ≡ old_o
 
-abbrev pub SeesRound : {M O : Type 0} → KindOf M → (O → List Taken → Type 0) → (O → List Taken → Stepped → Type 0) → Plan
-    → Progress M → Progress M → Device → Device → ℕ → O → O → Round → Type 0
-SeesRound K has_seen keeps plan p next n new done old_o new_o round =
-    (fitted : Device) → GoesOn K plan fitted p n done → Watched K has_seen plan fitted p n done old_o
-    → SeenBy K has_seen keeps plan fitted p next n new done old_o new_o round
+-- a round has this result, which the observer has seen
+pub record RoundMade {M O : Type 0} (K : KindOf M) (has_seen : O → List Taken → Type 0) (keeps : O → List Taken → Stepped → Type 0)
+    (plan : Plan) (fitted : Device) (p next : Progress M) (n new : Device) (done : ℕ) (turns : List ℕ)
+    (terminal showing shown report reading read : Stream) (old_o new_o : O) (round : Round) : Type 0 where
+  -- the turns that are reported after it
+  pub after : List ℕ
+  pub is_round : IsRound K plan fitted p next n new done turns after terminal showing shown report reading read round
+  pub seen : SeenBy K has_seen keeps plan fitted p next n new done turns after old_o new_o round
 
--- what it has seen after a cut
+-- a round of a run that continues is made so
+abbrev pub MakesRound : {M O : Type 0} → KindOf M → (O → List Taken → Type 0) → (O → List Taken → Stepped → Type 0) → Plan
+    → Progress M → Progress M → Device → Device → ℕ → Sinks → Sinks → O → O → Round → Type 0
+MakesRound K has_seen keeps plan p next n new done before after old_o new_o round =
+    (fitted : Device) (turns : List ℕ) (t u : Stream)
+    → Running K plan fitted p n done turns t before.terminal u before.report
+    → Watched K has_seen plan fitted p n done turns old_o
+    → RoundMade K has_seen keeps plan fitted p next n new done turns t before.terminal after.terminal u before.report
+    after.report old_o new_o round
+
+-- after a cut the run continues, and the observer has seen its cycle
+pub record CutMade {M O : Type 0} (K : KindOf M) (has_seen : O → List Taken → Type 0) (plan : Plan) (fitted : Device)
+    (q : Progress M) (new : Device) (done : ℕ) (terminal shown report read : Stream) (o : O) : Type 0 where
+  -- the turns that are reported after it
+  pub after : List ℕ
+  pub running : Running K plan fitted q new (done + 1) after terminal shown report read
+  pub watched : Watched K has_seen plan fitted q new (done + 1) after o
+
+-- after a cut the run continues, and the observer has seen its cycle; or it ended, and the observer has seen the others
 abbrev pub SeesCut : {M O : Type 0} → KindOf M → (O → List Taken → Type 0) → (O → List Taken → Stepped → Type 0) → Plan
     → Progress M → Device → Device → ℕ → List ℕ → ℕ → Sinks → Sinks → O → O → Result (Progress M) Ending → Type 0
 SeesCut {M = M} K has_seen keeps plan next m new done bytes first before after old_o new_o (Ok q) =
-    (fitted : Device) (p : Progress M) (n : Device) (t u : Stream) (r : Stepped)
-    → Running K plan fitted p n done t before.terminal u before.report → Awaited K keeps plan fitted p n done r old_o
-    → AwaitsCut K plan p next n m done r bytes → first ≡ length p.events
-    → Watched K has_seen plan fitted q new (done + 1) new_o
+    (fitted : Device) (p : Progress M) (n : Device) (turns : List ℕ) (t u : Stream) (r : Stepped)
+    → Running K plan fitted p n done turns t before.terminal u before.report
+    → Awaited K keeps plan fitted p n done turns r old_o
+    → AwaitsCut K plan p next n m done turns r bytes → first ≡ length p.events
+    → CutMade K has_seen plan fitted q new done t after.terminal u after.report new_o
 SeesCut {M = M} K has_seen keeps plan next m new done bytes first before after old_o new_o (Err e) =
-    (fitted : Device) (p : Progress M) (n : Device) (t u : Stream) (r : Stepped)
-    → Running K plan fitted p n done t before.terminal u before.report → Awaited K keeps plan fitted p n done r old_o
-    → AwaitsCut K plan p next n m done r bytes → first ≡ length p.events
+    (fitted : Device) (p : Progress M) (n : Device) (turns : List ℕ) (t u : Stream) (r : Stepped)
+    → Running K plan fitted p n done turns t before.terminal u before.report
+    → Awaited K keeps plan fitted p n done turns r old_o
+    → AwaitsCut K plan p next n m done turns r bytes → first ≡ length p.events
     → RunEndsSeen K has_seen plan fitted new e t after.terminal u after.report new_o
 
 -- what it has seen at the end of a run

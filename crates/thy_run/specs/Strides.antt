@@ -2,7 +2,7 @@
 -- Of two epochs in a row one retires an instruction.
 use Rattle.std.specs.Prelude.{◌≡◌, ℕ, ◌<◌, ◌==◌, Bool, true, false, List, [], ◌∷◌}
 use Rattle.thy_base.specs.Device.{Device}
-use Rattle.thy_text.specs.Event.{Event, EpochEnd, Commit, Cut, Restart, Reload, Ended}
+use Rattle.thy_text.specs.Event.{Event, Scheme, EpochEnd, Commit, Cut, Restart, Reload, Ended}
 use Rattle.thy_view.specs.Kind.{KindOf}
 use Rattle.thy_view.specs.Origin.{Origin}
 use Rattle.thy_run.specs.Unfinished.{Stopped}
@@ -27,6 +27,7 @@ epoch_after start e (Cut index cycle) = first_epoch start
 epoch_after start e (Restart epoch count state) = first_epoch count
 epoch_after start e (Commit epoch cycle overlapped) = e
 epoch_after start e Reload = e
+epoch_after start e (Scheme number) = first_epoch start
 epoch_after start e (Ended status count cycle state) = e
 
 -- after an idle epoch no epoch ends at the count at which it began
@@ -36,6 +37,7 @@ Strides e (Cut index cycle) = Unit {0}
 Strides e (Restart epoch count state) = Unit {0}
 Strides e (Commit epoch cycle overlapped) = Unit {0}
 Strides e Reload = Unit {0}
+Strides e (Scheme number) = Unit {0}
 Strides e (Ended status count cycle state) = Unit {0}
 
 -- each event after those before it

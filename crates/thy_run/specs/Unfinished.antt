@@ -19,7 +19,7 @@ pub record StepFailed {M : Type 0} (K : KindOf M) (o : Origin) (w : World M) (ev
   pub going : is_halt (seen K o w).phase ≡ false
   -- the machine that it left
   pub next : M
-  pub leaves : LeavesSafe K (line o w) (mix_pick w.mix) w.machine next w.device n
+  pub leaves : LeavesSafe K (line o w) (mix_pick o.geometry.harts w.mix) w.machine next w.device n
   pub framed : IsFramed w.device n
   pub rose : Rose w.device.faults n.faults
   pub nothing_told : events ≡ w.events

@@ -11,7 +11,7 @@ use Rattle.thy_record.specs.Decoded.{Decoded}
 use Rattle.thy_view.specs.Kind.{KindOf, IsStep}
 use Rattle.thy_text.specs.Event.{Event, EpochEnd, Commit, Cut, Restart, Reload, Ended}
 use Rattle.thy_view.specs.declared.did.Did.{Did}
-use Rattle.thy_view.specs.declared.did.Did.TheVariants.{Loaded, Restarted, Sealed, Committed}
+use Rattle.thy_view.specs.declared.did.Did.TheVariants.{Loaded, Restarted, Retired, Sealed, Committed}
 use Rattle.thy_view.specs.declared.did.Stepped.{Stepped}
 use Rattle.thy_view.specs.declared.view.View.{View}
 use Rattle.thy_view.specs.Booting.{first_view, view_of_image}
@@ -46,13 +46,10 @@ seen K o w = K.view (line o w) w.machine w.device
 
 -- ---- turns
 
--- how many harts there are
-abbrev pub hart_count : ℕ
-hart_count = 1
-
--- the turns reported once a cycle did this; with one hart none is reported
-abbrev pub turns_after : List ℕ → Did → List ℕ
-turns_after turns did = turns
+-- the turns reported once a cycle did this: with two harts also that of an instruction which retired
+abbrev pub turns_after : ℕ → List ℕ → Did → List ℕ
+turns_after harts turns (Retired hart) = if harts == 1 then turns else turns ++ hart ∷ []
+turns_after harts turns did = turns
 
 -- the turns that are kept by a cut whose image means this: those up to the checkpoint that is found
 abbrev pub turns_kept : Origin → List ℕ → Decoded → List ℕ
@@ -91,7 +88,7 @@ abbrev pub after_step : {M : Type 0} → KindOf M → Origin → World M → M �
 after_step K o w m n turns did = record w {
   machine = m;
   device = n;
-  mix = mix_next w.mix;
+  mix = mix_next o.geometry.harts w.mix;
   cycles = w.cycles + 1;
   fresh = false;
   events = w.events ++ events_of (told o turns) w.fresh (seen K o w) did (K.view (told o turns) m n) (w.cycles + 1);
@@ -103,10 +100,10 @@ after_step K o w m n turns did = record w {
 pub record TakesStep {M : Type 0} (K : KindOf M) (o : Origin) (w next : World M) : Type 0 where
   pub r : Stepped
   pub going : is_halt (seen K o w).phase ≡ false
-  pub turns_are : next.turns ≡ turns_after w.turns r.did
+  pub turns_are : next.turns ≡ turns_after o.geometry.harts w.turns r.did
   pub agree : AgreeBelow (line o w) next.turns (reach (seen K o w))
   pub alike : K.view (line o next) w.machine w.device ≡ seen K o w
-  pub is_step : IsStep K (line o next) w.cycles (mix_pick w.mix) w.machine next.machine w.device next.device r
+  pub is_step : IsStep K (line o next) w.cycles (mix_pick o.geometry.harts w.mix) w.machine next.machine w.device next.device r
   pub next_is : next ≡ after_step K o w next.machine next.device next.turns r.did
 
 -- a cut is due: the next one that is listed falls after this cycle, and the run has not ended

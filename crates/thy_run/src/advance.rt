@@ -1,12 +1,12 @@
 //! One cycle: a step of the machine, its events, and the cut that is due after it.
-ghost use Rattle.std.specs.Prelude.{◌≡◌, ◌<◌, ◌+◌, ◌^◌, ◌&&◌, ◌==◌, true, nat_lt, length, slice_index, slice_index_or, IfOk, IfErr};
-ghost use Rattle.thy_base.specs.Bytes.{bytes_of};
+ghost use Rattle.std.specs.Prelude.{◌≡◌, ◌<◌, ◌≤◌, ◌+◌, ◌^◌, ◌&&◌, ◌==◌, ◌⊎◌, ◌++◌, ◌∷◌, [], if◌then◌else◌, ℕ, List, true, nat_lt, length, slice_index, slice_index_or, IfOk, IfErr};
+ghost use Rattle.thy_base.specs.Bytes.{bytes_of, room_of};
 ghost use Rattle.thy_base.specs.Device.{Device as DeviceValue};
-ghost use Rattle.thy_view.specs.Kind.{CanStep};
-ghost use Rattle.thy_run.specs.Going.{IsPlanned, GoesOn, CanCut, IsCutOffTo};
+ghost use Rattle.thy_run.specs.Going.{IsPlanned, GoesOn, HasRoomToList, list_after, CanCut, IsCutOffTo};
 ghost use Rattle.thy_run.specs.Due.{is_told, IsQuiet};
 ghost use Rattle.thy_run.specs.Seeing.{SeesOutcome};
 ghost use Rattle.thy_run.specs.Watching.{CanSee};
+ghost use Rattle.thy_run.specs.World.{turns_after};
 ghost use Rattle.thy_run.specs.Promises.{StepsOn, GetsStuck, ConcludesNoted, CanConclude, Concludes, TakesCycle};
 
 use crate::ending::Stop;
@@ -50,20 +50,55 @@ pub enum Advance {
     Noted(Noted),
 }
 
-/// Steps the machine by the schedule's next pick.
+/// Lists a hart, if there are two. Allocates nothing.
+fn list_hart(turns: &mut Bytes, harts: u64, hart: u8)
+    requires { (harts ≡ 1) ⊎ (length (bytes_of turns.old) < room_of turns.old) }
+    ensures turns { let old = bytes_of turns.old in
+        bytes_of turns.new ≡ (if harts == 1 then old else old ++ hart ∷ []) }
+    ensures room { room_of turns.old ≤ room_of turns.new }
+{
+    if harts == 1 {
+        return;
+    }
+    match turns.extend(&[hart]) {
+        Ok(()) => {}
+        Err(_) => unreachable!(),
+    }
+}
+
+/// Lists the hart that retired an instruction, if there are two harts. Allocates nothing.
+fn list_turn(turns: &mut Bytes, harts: u64, did: Did)
+    requires { HasRoomToList harts (bytes_of turns.old) (room_of turns.old) did }
+    ensures turns { bytes_of turns.new ≡ turns_after harts (bytes_of turns.old) did }
+    ensures room { room_of turns.old ≤ room_of turns.new }
+{
+    match did {
+        Did::Retired(hart) => list_hart(turns, harts, hart),
+        _ => {}
+    }
+}
+
+/// Steps the machine by the schedule's next pick, and lists the hart if an instruction retired. So many cycles were
+/// done before.
 fn step<M: Computer, N: Nvm>(
     progress: &mut Progress<M>,
     plan: &Plan,
+    done: u64,
     nvm: &mut N,
 ) -> Result<Stepped, NvmError>
-    requires { CanStep M.kind plan.now.start progress.old.machine (N.device nvm.old) }
+    requires planned { IsPlanned plan.now }
+    requires goes { let n = N.device nvm.old in
+        (fitted : DeviceValue) × (turns : List ℕ) × GoesOn M.kind plan.now fitted progress.old n done turns }
+    requires few { done < 2 ^ 62 }
     ensures stepped { let n = N.device nvm.old in
-        StepsOn M.kind plan.now progress.old progress.new n (N.device nvm.new) result }
+        StepsOn M.kind plan.now progress.old progress.new n (N.device nvm.new) done result }
     ensures stuck { let n = N.device nvm.old in
-        GetsStuck M.kind plan.now progress.old progress.new n (N.device nvm.new) result }
+        GetsStuck M.kind plan.now progress.old progress.new n (N.device nvm.new) done result }
 {
-    let pick = progress.mix.next();
+    let harts = plan.geometry.harts();
+    let pick = progress.mix.next(harts);
     let stepped = progress.machine.step(pick, &plan.start, nvm)?;
+    list_turn(&mut progress.turns, harts, stepped.did);
     Ok(stepped)
 }
 
@@ -131,6 +166,7 @@ pub fn cut<M: Computer, N: Nvm>(
         passed,
         released,
         fresh: _,
+        mut turns,
         terminal_failed,
         report_failed,
     } = progress;
@@ -145,6 +181,7 @@ pub fn cut<M: Computer, N: Nvm>(
         return Err(events);
     }
     nvm.cut(pick);
+    turns.clear();
     Ok(Progress {
         machine,
         mix,
@@ -152,6 +189,7 @@ pub fn cut<M: Computer, N: Nvm>(
         passed: passed + 1,
         released,
         fresh: true,
+        turns,
         terminal_failed,
         report_failed,
     })
@@ -195,6 +233,17 @@ fn show<O: Observer>(
     }
 }
 
+/// Forgets the turns of an epoch, if it was sealed. Allocates nothing.
+fn end_list(turns: &mut Bytes, did: Did)
+    ensures turns { bytes_of turns.new ≡ list_after did (bytes_of turns.old) }
+    ensures room { room_of turns.new ≡ room_of turns.old }
+{
+    match did {
+        Did::Sealed(..) => turns.clear(),
+        _ => {}
+    }
+}
+
 /// Makes the events of a step, and returns the outcome of the cycle.
 fn conclude<M: Computer>(
     alloc: Global,
@@ -215,10 +264,13 @@ fn conclude<M: Computer>(
         bytes,
         ended,
     } = readings;
-    match note(&mut progress.events, did, reload, restored, ended, cycle) {
+    let turns = &progress.turns;
+    let events = &mut progress.events;
+    match note(alloc, events, did, turns, reload, restored, ended, cycle) {
         Ok(ended) => {
             progress.released += bytes.len() as u64;
             progress.fresh = false;
+            end_list(&mut progress.turns, did);
             let outcome = come_to_after(progress, plan, ended, cycle);
             Noted { bytes, outcome }
         }
@@ -241,7 +293,7 @@ pub fn take_cycle<M: Computer, N: Nvm, O: Observer>(
 ) -> Advance
     requires planned { IsPlanned plan.now }
     requires goes { let n = N.device nvm.old in
-        (fitted : DeviceValue) × GoesOn M.kind plan.now fitted progress.old n done }
+        (fitted : DeviceValue) × (turns : List ℕ) × GoesOn M.kind plan.now fitted progress.old n done turns }
     requires few { done < 2 ^ 62 }
     requires unseen { CanSee O.has_seen observer.old (done + 1) }
     ensures cycle { let n = N.device nvm.old in
@@ -250,7 +302,7 @@ pub fn take_cycle<M: Computer, N: Nvm, O: Observer>(
         TakesCycle M.kind O.has_seen O.keeps plan.now progress.old progress.new n new done o observer.new result }
     ensures quiet { result ≡ Advance.Quiet → progress.new.events ≡ progress.old.events }
 {
-    let stepped = match step(progress, plan, nvm) {
+    let stepped = match step(progress, plan, done, nvm) {
         Ok(stepped) => stepped,
         Err(_) => {
             return Advance::Noted(Noted {

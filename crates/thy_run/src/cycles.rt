@@ -1,13 +1,13 @@
 //! The cycles of a run, one after another.
 ghost use Rattle.std.specs.Prelude.{◌≡◌, ◌<◌, ◌+◌, [], length, IfOk};
-ghost use Rattle.thy_base.specs.Bytes.{bytes_of};
+ghost use Rattle.thy_base.specs.Bytes.{bytes_of, room_of};
 ghost use Rattle.thy_view.specs.Kind.{IsDramOf};
-ghost use Rattle.thy_run.specs.Going.{IsPlanned};
-ghost use Rattle.thy_run.specs.Promises.{IsRunning, MakesRound, IsAwaiting, RunsTo, CutsOn};
-ghost use Rattle.thy_run.specs.Seeing.{RunsSeen, SeesCut, SeesRound};
+ghost use Rattle.thy_run.specs.Going.{IsPlanned, HasTurnsRoom};
+ghost use Rattle.thy_run.specs.Promises.{IsRunning, IsAwaiting, RunsTo};
+ghost use Rattle.thy_run.specs.Seeing.{MakesRound, RunsSeen, SeesCut};
 ghost use Rattle.thy_run.specs.Watching.{CanSee, CanSeeCut};
 ghost use Rattle.thy_run.specs.Sending.{sinks};
-ghost use Rattle.thy_run.specs.Rounds.{ending_of, first_progress, stopped_for, round_of, IsFitted};
+ghost use Rattle.thy_run.specs.Rounds.{ending_of, stopped_for, round_of, IsFitted, IsStarted};
 
 use crate::advance::{Advance, Noted, Outcome, cut, take_cycle};
 use crate::ending::{Ending, Stop};
@@ -77,15 +77,13 @@ fn take_round<M: Computer, T: Sink, R: Sink, N: Nvm, O: Observer>(
     requires few { done < plan.now.geometry.limit }
     requires first { first ≡ length progress.old.events }
     requires unseen { CanSee O.has_seen observer.old (done + 1) }
-    ensures round { let before = sinks (T.stream terminal.old) (R.stream report.old) in
+    ensures { let before = sinks (T.stream terminal.old) (R.stream report.old) in
         let after = sinks (T.stream terminal.new) (R.stream report.new) in
         let n = N.device nvm.old in
         let new = N.device nvm.new in
-        MakesRound M.kind plan.now progress.old progress.new n new done before after result }
-    ensures seen { let n = N.device nvm.old in
-        let new = N.device nvm.new in
+        let p = progress.old in
         let o = observer.old in
-        SeesRound M.kind O.has_seen O.keeps plan.now progress.old progress.new n new done o observer.new result }
+        MakesRound M.kind O.has_seen O.keeps plan.now p progress.new n new done before after o observer.new result }
 {
     let Noted { bytes, outcome } = match take_cycle(alloc, progress, plan, done, nvm, observer) {
         Advance::Quiet => return Round::GoesOn,
@@ -128,12 +126,7 @@ fn cut_power<M: Computer, T: Sink, R: Sink, N: Nvm, O: Observer>(
         IsAwaiting M.kind plan.now progress (N.device nvm.old) done (bytes_of bytes) first before }
     requires few { done < plan.now.geometry.limit }
     requires unseen { CanSeeCut O.keeps observer.old (done + 1) }
-    ensures ok { let before = sinks (T.stream terminal.old) (R.stream report.old) in
-        let after = sinks (T.stream terminal.new) (R.stream report.new) in
-        let n = N.device nvm.old in
-        let new = N.device nvm.new in
-        CutsOn M.kind plan.now progress n new done (bytes_of bytes) first before after result }
-    ensures seen { let before = sinks (T.stream terminal.old) (R.stream report.old) in
+    ensures { let before = sinks (T.stream terminal.old) (R.stream report.old) in
         let after = sinks (T.stream terminal.new) (R.stream report.new) in
         let n = N.device nvm.old in
         let new = N.device nvm.new in
@@ -182,22 +175,6 @@ fn cut_power<M: Computer, T: Sink, R: Sink, N: Nvm, O: Observer>(
     Ok(next)
 }
 
-/// A run before its first cycle.
-fn started<M: Computer>(alloc: Global, plan: &Plan, machine: M) -> Progress<M>
-    ensures { result ≡ first_progress plan.now machine }
-{
-    Progress {
-        machine,
-        mix: Mix::new(plan.config.mix),
-        events: Events::new(alloc),
-        passed: 0,
-        released: 0,
-        fresh: false,
-        terminal_failed: false,
-        report_failed: false,
-    }
-}
-
 /// The DRAM of a machine whose power comes on for the first time.
 fn first_dram(alloc: Global, geometry: &Geometry) -> Result<Dram, AllocError>
     ensures { IfOk result (λ d. IsDramOf geometry.now d) }
@@ -212,6 +189,36 @@ fn first_machine<M: Computer>(alloc: Global, geometry: &Geometry) -> Result<M, A
     let dram = first_dram(alloc, geometry)?;
     let machine = M::power_on(alloc, geometry, dram)?;
     Ok(machine)
+}
+
+/// The list of turns before the first cycle: with two harts it has room for those of an epoch.
+fn first_turns(alloc: Global, geometry: &Geometry) -> Result<Bytes, AllocError>
+    ensures empty { IfOk result (λ turns. bytes_of turns ≡ []) }
+    ensures room { IfOk result (λ turns. HasTurnsRoom geometry.now (room_of turns)) }
+{
+    if geometry.harts() == 1 {
+        return Ok(Bytes::new(alloc));
+    }
+    Bytes::with_room(alloc, geometry.numbers().epoch as usize)
+}
+
+/// A run before its first cycle.
+fn started<M: Computer>(alloc: Global, plan: &Plan) -> Result<Progress<M>, AllocError>
+    ensures { IfOk result (IsStarted M.kind plan.now) }
+{
+    let machine = first_machine::<M>(alloc, &plan.geometry)?;
+    let turns = first_turns(alloc, &plan.geometry)?;
+    Ok(Progress {
+        machine,
+        mix: Mix::new(plan.config.mix),
+        events: Events::new(alloc),
+        passed: 0,
+        released: 0,
+        fresh: false,
+        turns,
+        terminal_failed: false,
+        report_failed: false,
+    })
 }
 
 /// Runs the machine over a device that was fitted, until the program ends or the run stops. The observer, which has seen
@@ -235,7 +242,7 @@ pub fn run<M: Computer, T: Sink, R: Sink, N: Nvm, O: Observer>(
         let n = N.device nvm.old in
         RunsSeen M.kind O.has_seen plan.now n (N.device nvm.new) result before after observer.new }
 {
-    let Ok(machine) = first_machine::<M>(alloc, &plan.geometry) else {
+    let Ok(mut progress) = started::<M>(alloc, plan) else {
         return Ending {
             stop: Stop::Memory,
             events: Events::new(alloc),
@@ -244,7 +251,6 @@ pub fn run<M: Computer, T: Sink, R: Sink, N: Nvm, O: Observer>(
             report_failed: false,
         };
     };
-    let mut progress = started(alloc, plan, machine);
     let limit = plan.geometry.numbers().limit;
     for done in 0..limit {
         let first = progress.events.len();

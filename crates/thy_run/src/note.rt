@@ -1,5 +1,6 @@
 //! The events of a step. Each is made in a function of its own, so that a cycle without one makes none.
 ghost use Rattle.std.specs.Prelude.{◌≡◌, ◌≢◌, ◌++◌, ◌∷◌, [], true, is_some, if◌then◌else◌, OnOk, OnErr, IfOk};
+ghost use Rattle.thy_base.specs.Bytes.{bytes_of};
 ghost use Rattle.thy_view.specs.Origin.{Origin};
 ghost use Rattle.thy_view.specs.declared.view.View.{View};
 ghost use Rattle.thy_run.specs.World.{did_told};
@@ -7,8 +8,8 @@ ghost use Rattle.thy_isa.specs.Step.{state_of};
 ghost use Rattle.thy_text.specs.Event.{Reload, Commit, Ended};
 ghost use Rattle.thy_run.specs.Promises.{NotesRestart, NotesSeal, NotesDid, NotesEnd, AnswersEnd, NotesAll, NotesSome};
 
-use std::alloc::AllocError;
-use thy_base::EndCause;
+use std::alloc::{AllocError, Global};
+use thy_base::{Bytes, EndCause};
 use thy_isa::{MachState, Status};
 use thy_text::{Event, Events};
 use thy_view::Did;
@@ -50,15 +51,24 @@ fn note_commit(
     })
 }
 
-/// Notes the end of an epoch.
-fn note_seal(events: &mut Events, epoch: u64, count: u64, cause: EndCause) -> Result<(), AllocError>
-    ensures ok { NotesSeal epoch count cause events.old events.new result }
+/// Notes the end of an epoch, in which these harts retired instructions.
+fn note_seal(
+    alloc: Global,
+    events: &mut Events,
+    epoch: u64,
+    count: u64,
+    cause: EndCause,
+    turns: &Bytes,
+) -> Result<(), AllocError>
+    ensures ok { NotesSeal epoch count cause (bytes_of turns.now) events.old events.new result }
     ensures err { OnErr result (events.new ≡ events.old) }
 {
+    let turns = turns.duplicate(alloc)?;
     events.push(Event::EpochEnd {
         epoch,
         count,
         cause,
+        turns,
     })
 }
 
@@ -82,20 +92,22 @@ fn note_restart(
     }
 }
 
-/// Notes what a step did, if that is an event. If there is no such event, nothing fails.
+/// Notes what a step did, if that is an event; an epoch's end has these turns. If there is no such event, nothing fails.
 fn note_did(
+    alloc: Global,
     events: &mut Events,
     did: Did,
+    turns: &Bytes,
     restored: Option<Box<MachState>>,
     cycle: u64,
 ) -> Result<(), AllocError>
-    ensures ok { NotesDid did restored cycle events.old events.new result }
+    ensures ok { NotesDid did (bytes_of turns.now) restored cycle events.old events.new result }
     ensures err { OnErr result (events.new ≡ events.old) }
     ensures due { (o : Origin) (v : View) → OnErr result (did_told o v did cycle ≢ []) }
 {
     match did {
         Did::Loaded => note_commit(events, 0, cycle, 0),
-        Did::Sealed(epoch, count, cause) => note_seal(events, epoch, count, cause),
+        Did::Sealed(epoch, count, cause) => { note_seal(alloc, events, epoch, count, cause, turns) }
         Did::Committed { epoch, overlapped } => note_commit(events, epoch, cycle, overlapped),
         Did::Restarted(epoch, count) => note_restart(events, epoch, count, restored),
         _ => Ok(()),
@@ -141,21 +153,23 @@ fn note_end(
     }
 }
 
-/// Makes the events of a step, and returns the program's status if it has ended.
+/// Makes the events of a step, an epoch's end with these turns, and returns the program's status if it has ended.
 pub fn note(
+    alloc: Global,
     events: &mut Events,
     did: Did,
+    turns: &Bytes,
     reload: bool,
     restored: Option<Box<MachState>>,
     ended: Option<Box<MachState>>,
     cycle: u64,
 ) -> Result<Option<Status>, AllocError>
-    ensures ok { NotesAll did reload restored ended cycle events.old events.new result }
+    ensures ok { NotesAll did (bytes_of turns.now) reload restored ended cycle events.old events.new result }
     ensures status { AnswersEnd ended result }
-    ensures err { NotesSome did reload restored ended cycle events.old events.new result }
+    ensures err { NotesSome did (bytes_of turns.now) reload restored ended cycle events.old events.new result }
 {
     note_reload(events, reload)?;
-    note_did(events, did, restored, cycle)?;
+    note_did(alloc, events, did, turns, restored, cycle)?;
     let status = note_end(events, ended, cycle)?;
     Ok(status)
 }

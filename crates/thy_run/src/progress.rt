@@ -1,6 +1,6 @@
 //! The state of a run between two cycles.
 
-use thy_base::Mix;
+use thy_base::{Bytes, Mix};
 use thy_text::Events;
 
 /// A run between two cycles.
@@ -16,6 +16,8 @@ pub struct Progress<M> {
     pub released: u64,
     /// No cycle was done since the last cut.
     pub fresh: bool,
+    /// With two harts, which of them retired each instruction since the latest seal, or since power came on.
+    pub turns: Bytes,
     /// The terminal has failed.
     pub terminal_failed: bool,
     /// The report has failed.

@@ -1,5 +1,6 @@
 //! Whole runs over memory: what is reported, and with which status.
 mod boots;
+mod compared;
 mod console;
 mod cuts;
 mod epochs;
@@ -15,6 +16,7 @@ mod noted;
 mod programs;
 mod saved;
 mod second_cuts;
+mod two_harts;
 
 use console::HELLO;
 use epochs::{FOUR_INSTRUCTIONS, NINE_STORES, NINE_STORES_TWICE};

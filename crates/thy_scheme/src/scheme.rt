@@ -102,7 +102,8 @@ pub trait Scheme: Drop {
     /// Lets the oldest queued write of the DRAM land.
     fn drain(&mut self)
         requires { 0 < scheme.queued self.old }
-        ensures running { (o : Origin) (k : CheckpointMarks) (n : Device) → Stands scheme o k self.old n → Drains scheme o k self.old n self.new }
+        ensures running { (o : Origin) (k : CheckpointMarks) (n : Device)
+            → Stands scheme o k self.old n → Drains scheme o k self.old n self.new }
         ensures booting { (o : Origin) (n : Device) → IsBooting scheme o self.old n → BootDrains scheme o self.old n self.new };
 
     /// Merges a block into its page. Only before a seal, with no checkpoint under way. If no block has to be merged,

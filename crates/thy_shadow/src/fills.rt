@@ -70,7 +70,7 @@ impl Fills for Relist {
     }
 
     fn cpu_in(geometry: &Geometry, commit: &Block, slot: &[u8]) -> CpuState {
-        cpu_of_slot(slot)
+        cpu_of_slot(slot, geometry)
     }
 
     fn list(geometry: &Geometry, commit: &Block, slot: &[u8], control: &mut Pool) {

@@ -55,7 +55,13 @@ impl Model for Shadow {
 
     ghost Value = { Contents };
 
-    ghost view = { λ d. record { pool = d.pool; engine = d.engine; storeless = d.storeless; sealed_storeless = d.sealed_storeless; boot = d.boot } };
+    ghost view = { λ d. record {
+      pool = d.pool;
+      engine = d.engine;
+      storeless = d.storeless;
+      sealed_storeless = d.sealed_storeless;
+      boot = d.boot;
+    } };
 
     ghost invariant = { λ d. Fits d.engine d.pool };
 }

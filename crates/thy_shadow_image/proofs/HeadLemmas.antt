@@ -1,10 +1,10 @@
 -- A header reads back as it was written, and has no fault.
-use Rattle.std.proofs.Common.{◌≡◌, ℕ, ◌^◌, ◌<◌, true, slice_index, None, refl, sym, ◌∙◌, subst, arith}
+use Rattle.std.proofs.Common.{◌≡◌, ℕ, ◌+◌, ◌^◌, ◌<◌, true, slice_index, None, refl, sym, ◌∙◌, subst, arith}
 use Rattle.std.proofs.lemmas.Bool.{eq-eqb}
 use Rattle.thy_base.specs.declared.config.Parameters.{Parameters}
 use Rattle.thy_base.specs.Geometry.{IsInRange}
 use Rattle.thy_base.specs.Words.{word_of}
-use Rattle.thy_record.specs.Header.{header_magic}
+use Rattle.thy_record.specs.Header.{header_magic, harts_word}
 use Rattle.thy_base.proofs.WordLemmas.{word_of-block_of}
 use Rattle.thy_record.proofs.ReadBackLemmas.{taken, both, three}
 use Rattle.thy_shadow_image.specs.Header.{scheme_number, header_words, header_of, is_of_geometry, header_fault}
@@ -22,7 +22,7 @@ is_of_geometry-header_of p r =
     (three _ _ _
     (eq-eqb _ _ (header_word p 5 p.btt (omega arith) refl (omega arith)))
     (eq-eqb _ _ (header_word p 6 p.ptt (omega arith) refl (omega arith)))
-    (eq-eqb _ _ (header_word p 7 scheme_number (omega arith) refl (omega arith))))
+    (eq-eqb _ _ (header_word p 7 (scheme_number + harts_word p) (omega arith) refl (omega arith))))
 
 -- a header that was written for a geometry has no fault in an image of its length
 pub header_fault-header_of : (p : Parameters) → IsInRange p → header_fault (header_of p) p true ≡ None

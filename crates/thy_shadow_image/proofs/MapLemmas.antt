@@ -5,13 +5,14 @@ use Rattle.std.proofs.Math.ListN.{drop_of_length-le}
 use Rattle.std.specs.Option.{option_or}
 use Rattle.thy_base.specs.declared.block.Block.{Block}
 use Rattle.thy_base.specs.declared.config.Parameters.{Parameters}
+use Rattle.thy_base.specs.Places.{record_blocks}
 use Rattle.thy_record.specs.Tables.{entry_at}
 use Rattle.thy_record.proofs.SlotLemmas.{length-entries_in}
 use Rattle.thy_shadow_image.specs.Places.{map_blocks}
 use Rattle.thy_shadow_image.specs.Slots.{table_in, stray, first_stray}
 
 pub table_long : (p : Parameters) (slot : List Block) → length (table_in p slot) ≡ 8 * map_blocks p
-table_long p slot = length-entries_in slot 40 (8 * map_blocks p)
+table_long p slot = length-entries_in slot (8 * record_blocks p) (8 * map_blocks p)
 
 -- one entry more was passed, or is the first stray one
 pub stray_next : (p : Parameters) (table : List (Option ℕ)) (x : ℕ) → x < length table

@@ -24,7 +24,7 @@ shadow_layouts p ceiling = record {
   header_bad = λ header sized. header_fault header p sized;
   commit_bad = λ header commit. commit_fault commit ceiling;
   slot_bad = λ commit slot. slot_fault p ceiling (epoch_of commit) slot;
-  state_from = λ slot memory. state_from p (cpu_of_record slot) memory;
+  state_from = λ slot memory. state_from p (cpu_of_record p slot) memory;
 }
 
 -- the layout of a run's own images

@@ -3,7 +3,7 @@ ghost use Rattle.std.specs.Prelude.{◌≡◌};
 ghost use Rattle.thy_shadow_image.specs.Header.{header_of, header_fault as fault_of_header, is_of_geometry as of_geometry};
 
 use thy_base::{Block, Geometry, block_with, word};
-use thy_record::{BadImage, HEADER_MAGIC};
+use thy_record::{BadImage, HEADER_MAGIC, harts_word};
 
 /// The version of the layout.
 const VERSION: u64 = 2;
@@ -12,7 +12,7 @@ const VERSION: u64 = 2;
 const SCHEME: u64 = 2;
 
 /// The header of an image of this geometry: eight words, its name, version 2, base, pages, console, the sizes of both
-/// tables, and this scheme's number, 2.
+/// tables, and this scheme's number, 2, with two harts 256 more.
 pub fn header_block(geometry: &Geometry) -> Block
     ensures { result ≡ header_of geometry.now }
 {
@@ -25,7 +25,7 @@ pub fn header_block(geometry: &Geometry) -> Block
         p.console,
         p.btt,
         p.ptt,
-        SCHEME,
+        SCHEME + harts_word(geometry),
     ])
 }
 
@@ -54,6 +54,7 @@ fn is_of_geometry(block: &Block, geometry: &Geometry) -> bool
     let memory = word(block, 2) == p.base
         && word(block, 3) == p.pages
         && word(block, 4) == p.console;
-    let tables = word(block, 5) == p.btt && word(block, 6) == p.ptt && word(block, 7) == SCHEME;
+    let scheme = SCHEME + harts_word(geometry);
+    let tables = word(block, 5) == p.btt && word(block, 6) == p.ptt && word(block, 7) == scheme;
     memory && tables
 }

@@ -10,19 +10,14 @@ use crate::places::{map_blocks, pool_pages};
 use thy_base::{BLOCK_SIZE, Geometry};
 use thy_record::{BadImage, word_in};
 
-/// How many bytes the processor's record has.
-const RECORD_SIZE: usize = 5 * BLOCK_SIZE;
-
-/// The word of a slot with which its map begins.
-const FIRST: usize = 40;
-
 // The map of a slot.
 pub(crate) fn map_in<'a>(slot: &'a [u8], geometry: &Geometry) -> &'a [u8]
     requires { length slot.now ≡ 64 * slot_blocks geometry.now }
     ensures { entries_of result.now ≡ table_in geometry.now (blocks_of slot.now) }
 {
+    let first = BLOCK_SIZE * geometry.record_blocks() as usize;
     let size = BLOCK_SIZE * map_blocks(geometry) as usize;
-    &slot[RECORD_SIZE..RECORD_SIZE + size]
+    &slot[first..first + size]
 }
 
 // The entry of a word.
@@ -41,8 +36,8 @@ pub fn listed_page(slot: &[u8], x: usize, geometry: &Geometry) -> Option<u64>
     requires entry { x < 8 * blocks_of_map geometry.now }
     ensures { result ≡ entry_at (table_in geometry.now (blocks_of slot.now)) x }
 {
-    let _numbers = geometry.numbers();
-    entry_from(word_in(slot, FIRST + x))
+    let first = 8 * geometry.record_blocks() as usize;
+    entry_from(word_in(slot, first + x))
 }
 
 // The page of the pool that has page `x` of memory in a map that a checkpoint may have.

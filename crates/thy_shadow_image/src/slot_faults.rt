@@ -1,4 +1,4 @@
-//! The faults of a slot, in its bytes: the processor's record of 320, and after it the map.
+//! The faults of a slot, in its bytes: the processor's record, 320 for each hart, and after it the map.
 ghost use Rattle.std.specs.Prelude.{◌≡◌, ◌*◌, length};
 ghost use Rattle.thy_record.specs.Files.{blocks_of};
 ghost use Rattle.thy_shadow_image.specs.Places.{slot_blocks};
@@ -6,7 +6,7 @@ ghost use Rattle.thy_shadow_image.specs.Slots.{table_in, table_fault as fault_of
 
 use crate::map::{index_fault, map_in};
 use thy_base::Geometry;
-use thy_record::{BadImage, status_fault, twice_fault, word_in};
+use thy_record::{BadImage, cpu_fault, twice_fault, word_in};
 
 // The first fault of the map in these bytes of a slot, if it has one.
 #[tactic(auto, unfolding(crate::specs::Slots::table_fault))]
@@ -20,7 +20,7 @@ fn table_fault(slot: &[u8], geometry: &Geometry) -> Option<BadImage>
 
 /// The first fault of the slot with these bytes under a commit block of this epoch, if it has one: a record of
 /// another epoch, a map that no checkpoint has, a status without meaning or a count that is not below the ceiling,
-/// a console longer than its pages.
+/// a console longer than its pages, or words of the second hart without meaning.
 pub fn slot_fault(slot: &[u8], epoch: u64, geometry: &Geometry, ceiling: u64) -> Option<BadImage>
     requires { length slot.now ≡ 64 * slot_blocks geometry.now }
     ensures { result ≡ fault_of_slot geometry.now ceiling epoch (blocks_of slot.now) }
@@ -31,5 +31,5 @@ pub fn slot_fault(slot: &[u8], epoch: u64, geometry: &Geometry, ceiling: u64) ->
     if let Some(bad) = table_fault(slot, geometry) {
         return Some(bad);
     }
-    status_fault(slot, geometry, ceiling)
+    cpu_fault(slot, geometry, ceiling)
 }

@@ -98,7 +98,7 @@ module _ (o : Origin) (m : Mark) (before : List Block) (n : Device) (b : Booting
     (idle : is_under_way s.engine.next ≡ false) (room : l.dram.room ≡ o.geometry.dramq) (before_is : before ≡ n.image)
     (settled : n.queue ≡ [])
     (keeps : Keeps o (layout_of o) n (Kept before) (Some m) None) (found : IsRestored filling_shadow n b l)
-    (state : state_from b.p (cpu_of_record (slot_read filling_shadow b)) (works l n) ≡ at o m.count) where
+    (state : state_from b.p (cpu_of_record b.p (slot_read filling_shadow b)) (works l n) ≡ at o m.count) where
   abbrev slot : List Block
   slot = slot_read filling_shadow b
 
@@ -143,10 +143,10 @@ module _ (o : Origin) (m : Mark) (before : List Block) (n : Device) (b : Booting
         ∙ ap (λ (p : Parameters). header_fault (block_at n.image 0) p true) (sym geometry)
         ∙ found.head.header_fits;
     committed = record {
-      cpu = cpu_of_record slot;
+      cpu = cpu_of_record b.p slot;
       state =
-          ap (state_from o.geometry (cpu_of_record slot)) (commits_are_works l n found.lists.unframed)
-          ∙ ap (λ (p : Parameters). state_from p (cpu_of_record slot) (works l n)) (sym geometry)
+          ap (state_from o.geometry (cpu_of_record b.p slot)) (commits_are_works l n found.lists.unframed)
+          ∙ ap (λ (p : Parameters). state_from p (cpu_of_record b.p slot) (works l n)) (sym geometry)
           ∙ state;
     };
     copies = ap (agree_by l n) found.lists.unframed.unbegun;

@@ -280,11 +280,11 @@ module _ (o : Origin) (s : Value) (n : Device) (booting : IsBooting shadow_schem
         };
       }
 
-  restarted : d.stage ≡ Over Restored → Restarts shadow_scheme o (cpu_of_record (slot_read filling_shadow d)) (epoch_of d.commit) s n t new
+  restarted : d.stage ≡ Over Restored → Restarts shadow_scheme o (cpu_of_record d.p (slot_read filling_shadow d)) (epoch_of d.commit) s n t new
   restarted is =
       let epoch : ℕ = epoch_of d.commit in
       let slot : List Block = slot_read filling_shadow d in
-      let cpu : CpuState = cpu_of_record slot in
+      let cpu : CpuState = cpu_of_record d.p slot in
       let shows = subst (λ (x : Stage). CoreStep o v (did_of (answer_at filling_shadow x d)) (seen_at o g.kept x)) is moved.shows in
       let r = restored_is_kept filling_shadow pool_is_listed o h new d e moved.sound is in
       let m : Mark = r.0 in
@@ -296,13 +296,13 @@ module _ (o : Origin) (s : Value) (n : Device) (booting : IsBooting shadow_schem
       let made_state : state_from o.geometry cpu (works e new) ≡ at o m.count
       = ap (λ (p : Parameters). state_from p cpu (works e new)) (sym moved.sound.geometry) ∙ made in
       let count : cpu.count ≡ m.count
-      = sym (pool_is_listed.counts o.geometry slot (works e new)) ∙ ap (λ (x : Plain). x.count) made_state ∙ keeps.told.counted in
+      = sym (pool_is_listed.counts d.p slot (works e new)) ∙ ap (λ (x : Plain). x.count) made ∙ keeps.told.counted in
       let is_mark : m ≡ mark epoch cpu.count
       = ap (λ (x : ℕ). mark x m.count) r.2 ∙ ap (mark epoch) (sym count) in
       let ended = restored_sound o m h.before new d s e moved.sound.geometry moved.sound.same_p
       boots.unused.engine boots.unused.progress boots.unused.idle room
       far.before_is far.read.settled keeps found made in
-      let fits = slot_fits-cpu o.geometry ceiling epoch slot
+      let fits = slot_fits-cpu o.geometry d.p ceiling epoch slot
       (subst (λ (p : Parameters). slot_fault p ceiling epoch slot ≡ None) moved.sound.geometry found.slot_fits) in
       let over : IsBooted shadow_scheme o m cpu t new = record {
         sound = ended;

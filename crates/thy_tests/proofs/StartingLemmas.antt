@@ -22,7 +22,7 @@ use Rattle.thy_boot.specs.Recovers.{HasReadAt}
 use Rattle.thy_boot.specs.Steps.{Steps, StepsAt}
 use Rattle.thy_boot.proofs.ReadLemmas.{HasRead-new}
 use Rattle.thy_isa.specs.declared.state.Status.{Status}
-use Rattle.thy_record.specs.Cpu.{status_tag, status_value, is_status}
+use Rattle.thy_record.specs.Cpu.{status_tag, status_value, is_status, IsOtherRecordable}
 use Rattle.thy_recover.specs.Filling.{CanStart, filling_dual}
 use Rattle.thy_recover.proofs.LiveLemmas.{IsFresh-new}
 use Rattle.thy_tests.specs.Beside.{all}
@@ -113,8 +113,8 @@ IsStarting-new p s dram n b c cuts w start b_is c_is tables = record {
 }
 
 -- the start of a test fits the least memory, and can be recorded
-pub CanStart-least : (p : Parameters) (s : Plain) → IsInRange p → p.pages ≡ 8 → p.console ≡ 1 → IsLeastStart s → CanStart p s
-CanStart-least p s range pages room h = record {
+pub CanStart-least : (p : Parameters) (s : Plain) → IsInRange p → p.pages ≡ 8 → p.console ≡ 1 → p.harts ≡ 1 → IsLeastStart s → CanStart p s
+CanStart-least p s range pages room one h = record {
   geometry = range;
   start = record {
     regs = ap length h.regs ∙ length-replicate {A = ℕ} 32 0;
@@ -132,7 +132,7 @@ CanStart-least p s range pages room h = record {
     floor = (let e = h.floor in omega (arith, e));
     count = (let e = h.count in omega (arith, e));
     status = ap (λ (x : Status). is_status (status_tag x) (status_value x)) h.status;
-    alone = h.alone;
+    other = subst (IsOtherRecordable p) (sym h.alone) (λ two. omega (arith, one, two));
   };
 } where
   zero_below : (i : ℕ) → slice_index (replicate 32 0) i < 2 ^ 64

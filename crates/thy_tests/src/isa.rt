@@ -2,16 +2,19 @@
 //!
 //! The tables are the output of `tools/instructions`: the words are from riscv64-linux-gnu-as, and what
 //! is expected is what qemu-riscv64 did. Its help page says what a row means. The reserved words are
-//! those near the rows of the table that riscv64-linux-gnu-objdump knows no instruction of RV64IM with
+//! those near the rows of the table that riscv64-linux-gnu-objdump knows no instruction of RV64IMA with
 //! FENCE.I for.
 
 ghost use Rattle.std.specs.Prelude.{◌≤◌, IfSome};
 
-use crate::isa_rows::{ANSWERS, BREAKS, EXITS, LOADS, MEMORY, SOURCE, STORES, VECTORS};
+use crate::isa_rows::{
+    ANSWERS, ATOMICS, BREAKS, EXITS, LOADS, MEMORY, SOURCE, STORES, UNKNOWN, VECTORS,
+};
 use crate::support::expect::expect;
 use thy_isa::{
-    Alu, Call, CallState, Cause, Effect, Reg, Regs, Width, alu, bytes_in, call, decode, extended,
-    number, word_effect,
+    Alu, Call, CallState, Cause, CpuState, Effect, OtherHart, Reg, Regs, Reservation, Width, alu,
+    bytes_in, call, cross, decode, extended, finish_alone, modified, number, within, word_effect,
+    write_past,
 };
 
 const PC: u64 = 65536;
@@ -107,6 +110,198 @@ fn loads_and_stores_at_any_address_move_what_an_emulator_moves(rt: HostRuntime) 
     }
 }
 
+/// A hart that is not in front. The one in front, and it, have reserved these bytes.
+fn beside(front: Reservation, back: Reservation) -> Option<OtherHart> {
+    Some(OtherHart {
+        pc: PC,
+        regs: Regs::new(),
+        front,
+        back,
+    })
+}
+
+/// What the hart in front does at a word, if x5 is an address and x6 another number, beside this one.
+fn atomic(word: u32, at: u64, b: u64, other: &Option<OtherHart>) -> Effect {
+    let mut regs = Regs::new();
+    regs.set(Reg::new(5), at);
+    regs.set(Reg::new(6), b);
+    within(PC, 4096, other, word_effect(word, PC, &regs))
+}
+
+/// The register that an effect writes, and the eight bytes at its address, which were `old`, or None if it is no atomic one.
+fn left(effect: Effect, old: u64) -> Option<(Reg, u64)> {
+    let mut bytes = old.to_le_bytes();
+    match effect {
+        Effect::Reserve { rd, .. } => Some((rd, old)),
+        Effect::Conditional {
+            rd,
+            width,
+            value,
+            ..
+        } => {
+            let size = bytes_in(width) as usize;
+            bytes[..size].copy_from_slice(&value.to_le_bytes()[..size]);
+            Some((rd, number(&bytes, 0, Width::Double)))
+        }
+        Effect::Modify {
+            op,
+            rd,
+            width,
+            value,
+            ..
+        } => {
+            let size = bytes_in(width) as usize;
+            let made = modified(op, width, number(&bytes, 0, width), value);
+            bytes[..size].copy_from_slice(&made.to_le_bytes()[..size]);
+            Some((rd, number(&bytes, 0, Width::Double)))
+        }
+        _ => None,
+    }
+}
+
+/// The number of an effect's width in eight bytes, if it reads one.
+fn read(effect: Effect, old: u64) -> u64 {
+    let bytes = old.to_le_bytes();
+    match effect {
+        Effect::Reserve { width, .. } | Effect::Modify { width, .. } => {
+            let _size = bytes_in(width);
+            number(&bytes, 0, width)
+        }
+        _ => 0,
+    }
+}
+
+/// What rd gets of an atomic instruction, and what the eight bytes at its address hold afterwards. They are reserved.
+fn changed(word: u32, old: u64, b: u64) -> Option<(u64, u64)> {
+    let reserved = if (word >> 12) & 1 == 0 {
+        Reservation::Word(PC)
+    } else {
+        Reservation::Double(PC)
+    };
+    let effect = atomic(word, PC, b, &beside(reserved, Reservation::Nothing));
+    let (rd, memory) = left(effect, old)?;
+    let mut cpu = CpuState::zero();
+    match effect {
+        Effect::Reserve { .. } | Effect::Conditional { .. } | Effect::Modify { .. } => {
+            finish_alone(&mut cpu, &effect, read(effect, old));
+            Some((cpu.regs.get(rd), memory))
+        }
+        _ => None,
+    }
+}
+
+#[test]
+fn an_atomic_instruction_changes_what_an_emulator_changes(rt: HostRuntime) {
+    for (word, old, b, rd, memory) in &ATOMICS {
+        expect(&rt, changed(*word, *old, *b), Some((*rd, *memory)));
+    }
+}
+
+#[test]
+fn with_one_hart_an_atomic_instruction_is_illegal(rt: HostRuntime) {
+    for (word, _, b, _, _) in &ATOMICS {
+        expect(
+            &rt,
+            atomic(*word, PC, *b, &None),
+            Effect::Trap(Cause::Illegal),
+        );
+    }
+}
+
+/// lr.d x7, (x5); sc.d x7, x6, (x5); amoadd.d x7, x6, (x5); and lr.w x7, (x5)
+const LR_D: u32 = 0x1002b3af;
+
+const SC_D: u32 = 0x1862b3af;
+
+const AMOADD_D: u32 = 0x0062b3af;
+
+const LR_W: u32 = 0x1002a3af;
+
+/// A word, how far behind the first byte of 4096 its address is, and the trap.
+static TRAPS: [(u32, u64, Cause); 6] = [
+    (LR_D, 4, Cause::LoadMisaligned),
+    (SC_D, 4, Cause::StoreMisaligned),
+    (AMOADD_D, 4, Cause::StoreMisaligned),
+    (LR_D, 4096, Cause::LoadAccess),
+    (SC_D, 4096, Cause::StoreAccess),
+    (AMOADD_D, 4096, Cause::StoreAccess),
+];
+
+#[test]
+fn harts_change_places_with_their_reservations(rt: HostRuntime) {
+    let mut cpu = CpuState::zero();
+    cpu.pc = 4;
+    cpu.other = beside(Reservation::Word(8), Reservation::Double(16));
+    let before = cpu;
+    cross(&mut cpu);
+    expect(&rt, (cpu.pc, cpu.count), (PC, 0));
+    let first = OtherHart {
+        pc: 4,
+        regs: Regs::new(),
+        front: Reservation::Double(16),
+        back: Reservation::Word(8),
+    };
+    expect(&rt, cpu.other, Some(first));
+    cross(&mut cpu);
+    expect(&rt, cpu, before);
+}
+
+#[test]
+fn an_atomic_instruction_traps_for_its_address(rt: HostRuntime) {
+    let other = beside(Reservation::Nothing, Reservation::Nothing);
+    for (word, from, cause) in &TRAPS {
+        let at = PC.wrapping_add(*from);
+        expect(&rt, atomic(*word, at, 1, &other), Effect::Trap(*cause));
+    }
+    let read = Effect::Reserve {
+        rd: Reg::new(7),
+        width: Width::Word,
+        pc: PC + 4,
+        at: PC + 4,
+    };
+    expect(&rt, atomic(LR_W, PC + 4, 1, &other), read);
+}
+
+#[test]
+fn a_store_conditional_fails_if_its_bytes_are_not_reserved(rt: HostRuntime) {
+    let fails = Effect::Fail {
+        rd: Reg::new(7),
+        pc: PC + 4,
+    };
+    let none = beside(Reservation::Nothing, Reservation::Double(PC));
+    expect(&rt, atomic(SC_D, PC, 1, &none), fails);
+    let shorter = beside(Reservation::Word(PC), Reservation::Nothing);
+    expect(&rt, atomic(SC_D, PC, 1, &shorter), fails);
+    let elsewhere = beside(Reservation::Double(PC + 8), Reservation::Nothing);
+    expect(&rt, atomic(SC_D, PC, 1, &elsewhere), fails);
+}
+
+/// What a write of `len` bytes leaves of a reservation of the last eight bytes of a block, 56 bytes behind PC.
+fn kept(at: u64, len: u64) -> bool {
+    let mut other = beside(Reservation::Double(PC + 56), Reservation::Double(PC + 56));
+    write_past(&mut other, at, len);
+    other == beside(Reservation::Double(PC + 56), Reservation::Double(PC + 56))
+}
+
+/// Where a write begins, by its distance from PC plus 64, its length, and whether the other hart's reservation is kept.
+static WRITES: [(u64, u64, bool); 8] = [
+    (120, 8, false),
+    (128, 8, true),
+    (124, 8, false),
+    (56, 8, true),
+    (60, 8, false),
+    (0, 64, true),
+    (1, 64, false),
+    (64, 1, false),
+];
+
+#[test]
+fn a_write_takes_the_other_harts_reservation_of_its_block(rt: HostRuntime) {
+    for (from, len, keeps) in &WRITES {
+        expect(&rt, kept((PC - 64).wrapping_add(*from), *len), *keeps);
+    }
+}
+
 /// What an environment call of this number and first argument does, or None if the word is not one.
 fn called(word: u32, a7: u64, a0: u64) -> Option<Call> {
     let mut regs = Regs::new();
@@ -145,6 +340,9 @@ fn environment_calls_and_breakpoints_end_as_an_emulator_ends(rt: HostRuntime) {
 #[test]
 fn a_reserved_word_means_nothing(rt: HostRuntime) {
     for word in &RESERVED {
+        expect(&rt, decode(*word), None);
+    }
+    for word in &UNKNOWN {
         expect(&rt, decode(*word), None);
     }
 }

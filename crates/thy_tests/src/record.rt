@@ -6,9 +6,9 @@ use crate::support::geometry::geometry_of;
 use std::alloc::Global;
 use std::process::Abort;
 use thy_base::{Block, Geometry, Parameters, SchemeName, word};
-use thy_isa::{CpuState, Reg, Regs, Status};
+use thy_isa::{CpuState, OtherHart, Reg, Regs, Reservation, Status};
 use thy_record::{
-    BadImage, commit_block, commit_fault, cpu_block, cpu_state, header_block, header_fault, is_zero,
+    BadImage, commit_block, commit_fault, cpu_block, cpu_in, header_block, header_fault, is_zero,
 };
 
 /// Numbers of a machine with 256 pages, one of them the console's.
@@ -123,14 +123,47 @@ fn a_record_is_its_bytes(rt: HostRuntime) {
     expect(&rt, cpu_block(&cpu, 9, 1), Block::ZERO);
     expect(&rt, cpu_block(&cpu, 9, 3), Block(REGISTERS));
     expect(&rt, cpu_block(&cpu, 9, 4), Block(LAST));
-    let blocks = [
-        Block(FIRST),
-        Block::ZERO,
-        Block::ZERO,
-        Block(REGISTERS),
-        Block(LAST),
-    ];
-    expect(&rt, cpu_state(&blocks) == cpu, true);
+    let machine = geometry(&rt, rt.alloc());
+    let _numbers = machine.numbers();
+    let mut slot = [0; 640];
+    slot[..64].copy_from_slice(&FIRST);
+    slot[192..256].copy_from_slice(&REGISTERS);
+    slot[256..320].copy_from_slice(&LAST);
+    expect(&rt, cpu_in(&slot, &machine) == cpu, true);
+}
+
+/// The sixth block of a record of two harts: pc of the second one, and its registers from x1 on.
+static SECOND: [u8; 64] = [
+    0x10, 0x00, 0x01, 0x00, 0x00, 0x00, 0x00, 0x00, 0x01, 0x02, 0x00, 0x00, 0x00, 0x00, 0x00, 0x00,
+    0x00, 0x00, 0x00, 0x00, 0x00, 0x00, 0x00, 0x00, 0x00, 0x00, 0x00, 0x00, 0x00, 0x00, 0x00, 0x00,
+    0x00, 0x00, 0x00, 0x00, 0x00, 0x00, 0x00, 0x00, 0x00, 0x00, 0x00, 0x00, 0x00, 0x00, 0x00, 0x00,
+    0x00, 0x00, 0x00, 0x00, 0x00, 0x00, 0x00, 0x00, 0x00, 0x00, 0x00, 0x00, 0x00, 0x00, 0x00, 0x00,
+];
+
+/// Its tenth block: width and address of the first hart's reservation, of the second one's, and zeros.
+static RESERVED: [u8; 64] = [
+    0x04, 0x00, 0x00, 0x00, 0x00, 0x00, 0x00, 0x00, 0x00, 0x10, 0x01, 0x00, 0x00, 0x00, 0x00, 0x00,
+    0x08, 0x00, 0x00, 0x00, 0x00, 0x00, 0x00, 0x00, 0x08, 0x10, 0x01, 0x00, 0x00, 0x00, 0x00, 0x00,
+    0x00, 0x00, 0x00, 0x00, 0x00, 0x00, 0x00, 0x00, 0x00, 0x00, 0x00, 0x00, 0x00, 0x00, 0x00, 0x00,
+    0x00, 0x00, 0x00, 0x00, 0x00, 0x00, 0x00, 0x00, 0x00, 0x00, 0x00, 0x00, 0x00, 0x00, 0x00, 0x00,
+];
+
+#[test]
+fn a_second_hart_is_its_bytes(rt: HostRuntime) {
+    let mut regs = Regs::new();
+    regs.set(Reg::new(1), 0x201);
+    let mut cpu = sample();
+    expect(&rt, cpu_block(&cpu, 9, 9), Block::ZERO);
+    cpu.other = Some(OtherHart {
+        pc: 0x10010,
+        regs,
+        front: Reservation::Word(0x11000),
+        back: Reservation::Double(0x11008),
+    });
+    expect(&rt, cpu_block(&cpu, 9, 4), Block(LAST));
+    expect(&rt, cpu_block(&cpu, 9, 5), Block(SECOND));
+    expect(&rt, cpu_block(&cpu, 9, 8), Block::ZERO);
+    expect(&rt, cpu_block(&cpu, 9, 9), Block(RESERVED));
 }
 
 /// A word of the header, another value of it, and what it is refused for then.

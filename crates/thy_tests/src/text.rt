@@ -2,12 +2,12 @@
 use crate::support::expect::expect;
 use std::alloc::Global;
 use std::process::Abort;
-use thy_base::{Bytes, EndCause, Field, Sink, SinkError};
+use thy_base::{Bytes, EndCause, Field, SchemeName, Sink, SinkError};
 use thy_isa::{MachState, Regs, Status};
 use thy_record::BadImage;
 use thy_text::{
-    Closing, Event, Events, FetchFault, digest, write_closing, write_ended, write_event,
-    write_made, write_summary,
+    Closing, Event, Events, FetchFault, History, digest, write_closing, write_ended, write_event,
+    write_made, write_scheme, write_summary,
 };
 
 /// Keeps what it is given, which is never an empty piece.
@@ -52,6 +52,7 @@ fn events_have_their_lines(rt: HostRuntime) {
     let mut page = blank(rt.alloc());
     let mut events = Events::new(rt.alloc());
     for event in [
+        Event::Scheme { number: 2 },
         Event::Commit {
             epoch: 0,
             cycle: 698,
@@ -61,6 +62,7 @@ fn events_have_their_lines(rt: HostRuntime) {
             epoch: 1,
             count: 8,
             cause: exhausted,
+            turns: Bytes::new(rt.alloc()),
         },
         Event::Cut {
             index: 1,
@@ -79,6 +81,32 @@ fn events_have_their_lines(rt: HostRuntime) {
 }
 
 #[test]
+fn an_epoch_of_two_harts_tells_how_many_instructions_each_retired(rt: HostRuntime) {
+    let exhausted = EndCause::Exhausted {
+        free: 8,
+        dirty: 9,
+        need: 1,
+    };
+    let mut page = blank(rt.alloc());
+    for (cause, turns) in [
+        (EndCause::Length, [0, 1, 0, 0, 1, 0, 0].as_slice()),
+        (exhausted, [1, 1, 1].as_slice()),
+        (EndCause::Ended, [0].as_slice()),
+    ] {
+        let event = Event::EpochEnd {
+            epoch: 1,
+            count: 8,
+            cause,
+            turns: bytes_of(&rt, rt.alloc(), turns),
+        };
+        expect(&rt, write_event(&event, false, &mut page), Ok(()));
+    }
+    let text =
+        b"epoch 1 ends at 8 by length harts 5 2\nepoch 1 ends at 8 by exhausted 8 9 1 harts 0 3\nepoch 1 ends at 8 by end harts 1 0\n";
+    expect(&rt, page.bytes.as_slice(), text.as_slice());
+}
+
+#[test]
 fn the_longest_line_of_an_event_is_written_at_once(rt: HostRuntime) {
     let most = u64::MAX;
     let cause = EndCause::Exhausted {
@@ -90,6 +118,7 @@ fn the_longest_line_of_an_event_is_written_at_once(rt: HostRuntime) {
         epoch: most,
         count: most,
         cause,
+        turns: Bytes::new(rt.alloc()),
     };
     let mut page = blank(rt.alloc());
     expect(&rt, write_event(&event, false, &mut page), Ok(()));
@@ -144,11 +173,12 @@ fn commit(overlapped: u64) -> Event {
 }
 
 /// The end of an epoch by this cause.
-fn epoch_end(cause: EndCause) -> Event {
+fn epoch_end(alloc: Global, cause: EndCause) -> Event {
     Event::EpochEnd {
         epoch: 1,
         count: 8,
         cause,
+        turns: Bytes::new(alloc),
     }
 }
 
@@ -164,24 +194,66 @@ fn a_run_is_summed_up(rt: HostRuntime) {
     expect(&rt, write_summary(&events, &mut page), Ok(()));
     for event in [
         commit(0),
-        epoch_end(exhausted),
+        epoch_end(rt.alloc(), exhausted),
         commit(5),
-        epoch_end(EndCause::Length),
+        epoch_end(rt.alloc(), EndCause::Length),
         Event::Cut {
             index: 1,
             cycle: 1391,
         },
         Event::Reload,
         commit(u64::MAX),
-        epoch_end(EndCause::Ended),
+        epoch_end(rt.alloc(), EndCause::Ended),
     ] {
         events.push(event).expect(&rt, "memory");
     }
     expect(&rt, write_summary(&events, &mut page), Ok(()));
     expect(&rt, write_made(0, 24148, &mut page), Ok(()));
+    let scheme = SchemeName::Journal;
+    expect(&rt, write_scheme(scheme, &events, 531, &mut page), Ok(()));
     let text =
-        b"summary epochs 0 early 0 overlapped 0\nsummary epochs 3 early 1 overlapped 18446744073709551620\nmade 0 24148\n";
+        b"summary epochs 0 early 0 overlapped 0\nsummary epochs 3 early 1 overlapped 18446744073709551620\nmade 0 24148\nscheme journal epochs 3 early 1 overlapped 18446744073709551620 writes 531\n";
     expect(&rt, page.bytes.as_slice(), text.as_slice());
+}
+
+/// The index of a cut; 0 for any other event.
+fn index_of(event: &Event) -> u64 {
+    match event {
+        Event::Cut { index, .. } => *index,
+        _ => 0,
+    }
+}
+
+/// Cuts of these indexes.
+fn cuts(rt: &impl Abort, alloc: Global, indexes: &[u64]) -> Events {
+    let mut events = Events::new(alloc);
+    for index in indexes {
+        let event = Event::Cut {
+            index: *index,
+            cycle: 9,
+        };
+        events.push(event).expect(rt, "memory");
+    }
+    events
+}
+
+#[test]
+fn lists_of_events_follow_one_another(rt: HostRuntime) {
+    let alloc = rt.alloc();
+    let mut first = cuts(&rt, alloc, &[1, 2]);
+    let mut more = cuts(&rt, alloc, &[3, 4, 5]);
+    first.append(&mut more).expect(&rt, "memory");
+    expect(&rt, (first.len(), more.len()), (5, 0));
+    first.pop();
+    more.pop();
+    expect(&rt, (first.len(), more.len()), (4, 0));
+    let history = History::new(first, cuts(&rt, alloc, &[5, 6]));
+    expect(&rt, (history.len(), history.last().len()), (6, 2));
+    for i in 0..history.len() {
+        expect(&rt, index_of(history.get(i)), i as u64 + 1);
+    }
+    let history = History::of(alloc, cuts(&rt, alloc, &[7]));
+    expect(&rt, (history.len(), index_of(history.get(0))), (1, 7));
 }
 
 /// Bytes in memory of their own.

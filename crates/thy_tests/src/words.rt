@@ -7,7 +7,7 @@ use thy_base::{Config, SchemeName};
 use thy_words::{Command, Job, WordsError, settings};
 
 /// Arguments of invalid usage.
-static USAGE: [&str; 48] = [
+static USAGE: [&str; 56] = [
     "thynvm",
     "thynvm|run",
     "thynvm|help",
@@ -56,10 +56,18 @@ static USAGE: [&str; 48] = [
     "thynvm|run|F|--scheme|journal|--scheme|journal",
     "thynvm|plain|F|--scheme|journal",
     "thynvm|make|7|O|--scheme|journal",
+    "thynvm|compare",
+    "thynvm|compare|F|G",
+    "thynvm|Compare|F",
+    "thynvm|compare|F|--cuts|9",
+    "thynvm|compare|F|--tears|0",
+    "thynvm|compare|F|--save|S",
+    "thynvm|compare|F|--scheme|shadow",
+    "thynvm|plain|F|--harts|2",
 ];
 
 /// Arguments of which one is not a value, and the field that it should be of.
-static WORDS: [(&str, &str); 35] = [
+static WORDS: [(&str, &str); 37] = [
     ("thynvm|run|F|--pages|x", "pages"),
     ("thynvm|run|F|--pages=-5", "pages"),
     ("thynvm|run|F|--pages=+9", "pages"),
@@ -95,10 +103,12 @@ static WORDS: [(&str, &str); 35] = [
     ("thynvm|bench|7|--scheme|journal,thynvm", "scheme"),
     ("thynvm|run|F|--scheme|x|--limit|y", "limit"),
     ("thynvm|run|F|--gap|x|--scheme|y|--pages|7", "scheme"),
+    ("thynvm|run|F|--gap|x|--harts|+2", "harts"),
+    ("thynvm|compare|F|--gap|x|--limit|y", "limit"),
 ];
 
 /// Words that give a value out of range, its field, and the value.
-static VALUES: [(&str, &str, u64); 27] = [
+static VALUES: [(&str, &str, u64); 32] = [
     ("thynvm|run|F|--base|4097", "base", 4097),
     ("thynvm|run|F|--pages|7", "pages", 7),
     ("thynvm|run|F|--pages|65537", "pages", 65537),
@@ -123,8 +133,13 @@ static VALUES: [(&str, &str, u64); 27] = [
     ("thynvm|run|F|--limit|0", "limit", 0),
     ("thynvm|run|F|--limit|1000000000001", "limit", 1000000000001),
     ("thynvm|run|F|--limit|0|--pages|7", "pages", 7),
+    ("thynvm|run|F|--harts|0", "harts", 0),
+    ("thynvm|bench|7|--harts|3", "harts", 3),
+    ("thynvm|resume|D|--gap|1000001|--harts|3", "harts", 3),
     ("thynvm|plain|F|--pages|8|--console|8", "console", 8),
     ("thynvm|resume|D|--pages|7", "pages", 7),
+    ("thynvm|compare|F|--gap|1000001", "gap", 1000001),
+    ("thynvm|compare|F|--harts|3", "harts", 3),
     ("thynvm|bench|4294967296", "n", 4294967296),
     ("thynvm|bench|4294967296|--base|4097", "n", 4294967296),
     ("thynvm|bench|4294967295|--base|4097", "base", 4097),
@@ -159,7 +174,7 @@ type Row = (
 );
 
 /// Words that ask for a command, and the command.
-static COMMANDS: [Row; 16] = [
+static COMMANDS: [Row; 18] = [
     (
         "thynvm|run|F",
         ("run", "F", 0),
@@ -242,6 +257,22 @@ static COMMANDS: [Row; 16] = [
         &[],
     ),
     (
+        "thynvm|compare|F",
+        ("compare", "F", 0),
+        (None, None, false),
+        DEFAULTS,
+        &[],
+        &[],
+    ),
+    (
+        "|compare|F|--base|8192|--pages|8|--console|2|--epoch|3|--btt|16|--ptt|24|--sets|1|--ways|5|--nvmq|6|--dramq|7|--high|9|--low|8|--mix|10|--limit|13|--harts|2|--gap|14|--input|I|--digest",
+        ("compare", "F", 0),
+        (Some("I"), None, true),
+        [8192, 8, 2, 3, 16, 24, 1, 5, 6, 7, 9, 8, 10, 13],
+        &[],
+        &[],
+    ),
+    (
         "thynvm|plain|F",
         ("plain", "F", 0),
         (None, None, false),
@@ -308,7 +339,7 @@ static COMMANDS: [Row; 16] = [
 ];
 
 /// Words that ask for a run, and the scheme of its configuration.
-static SCHEMES: [(&str, SchemeName); 8] = [
+static SCHEMES: [(&str, SchemeName); 9] = [
     ("thynvm|run|F", SchemeName::Thynvm),
     ("thynvm|run|F|--scheme|thynvm", SchemeName::Thynvm),
     ("thynvm|run|--scheme=journal|F", SchemeName::Journal),
@@ -319,6 +350,7 @@ static SCHEMES: [(&str, SchemeName); 8] = [
         "thynvm|bench|7|--gap|5|--scheme|journal",
         SchemeName::Journal,
     ),
+    ("thynvm|compare|F|--gap|5", SchemeName::Thynvm),
     ("thynvm|plain|F", SchemeName::Thynvm),
 ];
 
@@ -402,6 +434,7 @@ fn asked(command: &Command) -> Asked<'_> {
         Command::Run { file, .. } => ("run", file.as_str(), 0),
         Command::Resume { image, .. } => ("resume", image.as_str(), 0),
         Command::Bench { number, .. } => ("bench", "", *number),
+        Command::Compare { file, .. } => ("compare", file.as_str(), 0),
         Command::Plain { file, .. } => ("plain", file.as_str(), 0),
         Command::Make { number, name } => ("make", name.as_str(), *number),
     }
@@ -413,6 +446,7 @@ fn job(command: &Command) -> Option<&Job> {
         Command::Run { job, .. }
         | Command::Resume { job, .. }
         | Command::Bench { job, .. }
+        | Command::Compare { job, .. }
         | Command::Plain { job, .. } => Some(job),
         Command::Make { .. } => None,
     }

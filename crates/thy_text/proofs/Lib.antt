@@ -3,3 +3,4 @@ pub mod Taking
 pub mod Histories
 pub mod OneHartLaws
 pub mod Rewording
+pub mod HartLines

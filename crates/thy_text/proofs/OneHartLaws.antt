@@ -3,7 +3,7 @@ use Rattle.std.proofs.Common.{◌≡◌, ℕ, ◌-◌, Bool, true, false, if◌t
 use Rattle.std.proofs.lemmas.List.{nil_from_length}
 use Rattle.thy_base.specs.declared.cause.EndCause.{EndCause}
 use Rattle.thy_base.specs.declared.cause.EndCause.TheVariants.{Length, Exhausted, Ended as EndedCause}
-use Rattle.thy_text.specs.Event.{Event, EpochEnd, Commit, Cut, Restart, Reload, Ended}
+use Rattle.thy_text.specs.Event.{Event, Scheme, EpochEnd, Commit, Cut, Restart, Reload, Ended}
 use Rattle.thy_text.specs.Marks.{Marks, Course, FitsCause, Lawful, AllLawful, is_mark, marks_after, marks_from, turns_of, turns_told}
 use Rattle.thy_text.specs.OneHart.{Counts, FitsCount, LawfulAt, AllLawfulAt, IsUntold, counts_of, OneHartGoesByCounts}
 
@@ -54,6 +54,7 @@ module _ (c : Course) (m : Marks) (one : c.harts ≡ 1) (none : IsUntold m) wher
   to-at (Cut index cycle) h = h
   to-at (Restart epoch count state) h = record { marked = h.marked; whole = h.whole ∙ ap (c.at count) (turns_of-untold m none epoch count) }
   to-at Reload h = h
+  to-at (Scheme number) h = h
   to-at (Ended status count cycle state) h =
       (record { epoch = h.0.epoch; kept = h.0.kept; whole = h.0.whole ∙ ap (c.at count) none.kept; over = h.0.over }, h.1)
 
@@ -74,6 +75,7 @@ module _ (c : Course) (m : Marks) (one : c.harts ≡ 1) (none : IsUntold m) wher
   from-at (Cut index cycle) h = h
   from-at (Restart epoch count state) h = record { marked = h.marked; whole = h.whole ∙ sym (ap (c.at count) (turns_of-untold m none epoch count)) }
   from-at Reload h = h
+  from-at (Scheme number) h = h
   from-at (Ended status count cycle state) h =
       (record { epoch = h.0.epoch; kept = h.0.kept; whole = h.0.whole ∙ sym (ap (c.at count) none.kept); over = h.0.over }, h.1)
 
@@ -84,6 +86,7 @@ untold-after c m (Commit epoch cycle overlapped) none h = record { kept = none.s
 untold-after c m (Cut index cycle) none h = none
 untold-after c m (Restart epoch count state) none h = record { kept = turns_of-untold m none epoch count; sealed = refl }
 untold-after c m Reload none h = record { kept = refl; sealed = refl }
+untold-after c m (Scheme number) none h = record { kept = refl; sealed = refl }
 untold-after c m (Ended status count cycle state) none h = none
 
 -- ---- all

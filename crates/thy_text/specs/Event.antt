@@ -6,6 +6,8 @@ use Rattle.thy_isa.specs.declared.state.Status.{Status}
 use Rattle.thy_isa.specs.Step.{State}
 
 pub data Event : Type 0 where
+  -- a run by the scheme of this number begins, over a device that was just fitted
+  Scheme : (number : ℕ) → Event
   -- this epoch was sealed at this count of instructions, for this cause; the harts that retired its instructions are
   -- listed if there is more than one hart
   EpochEnd : (epoch count : ℕ) (cause : EndCause) (turns : List ℕ) → Event

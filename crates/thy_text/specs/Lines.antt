@@ -1,6 +1,6 @@
 -- Part of the claim.
 -- The lines of a report, as bytes.
-use Rattle.std.specs.Prelude.{ℕ, Bool, true, false, List, [], ◌∷◌, ◌++◌, codes}
+use Rattle.std.specs.Prelude.{ℕ, ◌==◌, Bool, true, false, List, [], ◌∷◌, ◌++◌, codes, count_by}
 use Rattle.std.specs.Fmt.{decimal}
 use Rattle.hex.specs.Hex.{encode_lower}
 use Rattle.sha2.specs.Sha256.{sha256}
@@ -8,7 +8,7 @@ use Rattle.thy_base.specs.declared.cause.EndCause.{EndCause}
 use Rattle.thy_base.specs.declared.cause.EndCause.TheVariants.{Length, Exhausted, Ended as EndedCause}
 use Rattle.thy_isa.specs.declared.state.Status.{Status}
 use Rattle.thy_isa.specs.declared.state.Status.TheVariants.{Running, Exited, Trapped}
-use Rattle.thy_text.specs.Event.{Event, EpochEnd, Commit, Cut, Restart, Reload, Ended}
+use Rattle.thy_text.specs.Event.{Event, Scheme, EpochEnd, Commit, Cut, Restart, Reload, Ended}
 
 -- texts one after another
 abbrev pub joined : List (List ℕ) → List ℕ
@@ -19,12 +19,22 @@ joined (part ∷ parts) = part ++ joined parts
 abbrev pub line_feed : List ℕ
 line_feed = 10 ∷ []
 
--- why an epoch ended, to the line's end
-abbrev pub cause_parts : EndCause → List (List ℕ)
-cause_parts Length = codes "length" ∷ line_feed ∷ []
-cause_parts (Exhausted free dirty need) =
-    codes "exhausted " ∷ decimal free ∷ codes " " ∷ decimal dirty ∷ codes " " ∷ decimal need ∷ line_feed ∷ []
-cause_parts EndedCause = codes "end" ∷ line_feed ∷ []
+-- how many of these turns are a hart's
+abbrev pub turns_by : ℕ → List ℕ → ℕ
+turns_by hart turns = count_by (λ t. t == hart) turns
+
+-- to the line's end: how many instructions each hart retired, if turns are listed
+abbrev pub harts_parts : List ℕ → List (List ℕ)
+harts_parts [] = line_feed ∷ []
+harts_parts (t ∷ ts) =
+    codes " harts " ∷ decimal (turns_by 0 (t ∷ ts)) ∷ codes " " ∷ decimal (turns_by 1 (t ∷ ts)) ∷ line_feed ∷ []
+
+-- why an epoch ended, and how many instructions each hart retired
+abbrev pub cause_parts : EndCause → List ℕ → List (List ℕ)
+cause_parts Length turns = codes "length" ∷ harts_parts turns
+cause_parts (Exhausted free dirty need) turns =
+    codes "exhausted " ∷ decimal free ∷ codes " " ∷ decimal dirty ∷ codes " " ∷ decimal need ∷ harts_parts turns
+cause_parts EndedCause turns = codes "end" ∷ harts_parts turns
 
 -- the line of memory's digest: its SHA-256, in hexadecimal digits of lower case
 abbrev pub memory_line : List ℕ → List ℕ
@@ -47,18 +57,19 @@ ended_lines digest (Exited value) count memory = state_lines digest (codes "exit
 ended_lines digest (Trapped cause) count memory = state_lines digest (codes "trap ") cause count memory
 
 -- an epoch's end, in parts
-abbrev pub epoch_end_parts : ℕ → ℕ → EndCause → List (List ℕ)
-epoch_end_parts epoch count cause =
-    codes "epoch " ∷ decimal epoch ∷ codes " ends at " ∷ decimal count ∷ codes " by " ∷ cause_parts cause
+abbrev pub epoch_end_parts : ℕ → ℕ → EndCause → List ℕ → List (List ℕ)
+epoch_end_parts epoch count cause turns =
+    codes "epoch " ∷ decimal epoch ∷ codes " ends at " ∷ decimal count ∷ codes " by " ∷ cause_parts cause turns
 
 -- the line of what happened, and after a restart and an end memory's digest, if digests are reported
 abbrev pub line_of : Bool → Event → List ℕ
-line_of digest (EpochEnd epoch count cause turns) = joined (epoch_end_parts epoch count cause)
+line_of digest (EpochEnd epoch count cause turns) = joined (epoch_end_parts epoch count cause turns)
 line_of digest (Commit epoch cycle overlapped) =
     joined (codes "commit " ∷ decimal epoch ∷ codes " overlapped " ∷ decimal overlapped ∷ line_feed ∷ [])
 line_of digest (Cut index cycle) =
     joined (codes "cut " ∷ decimal index ∷ codes " at cycle " ∷ decimal cycle ∷ line_feed ∷ [])
 line_of digest (Restart epoch count state) = state_lines digest (codes "restart ") epoch count state.memory
+line_of digest (Scheme number) = []
 line_of digest Reload = joined (codes "reload" ∷ line_feed ∷ [])
 line_of digest (Ended status count cycle state) = ended_lines digest status count state.memory
 

@@ -6,7 +6,7 @@ use Rattle.thy_base.specs.declared.cause.EndCause.TheVariants.{Length, Exhausted
 use Rattle.thy_base.specs.Marks.{mark}
 use Rattle.thy_base.specs.declared.mark.Mark.{Mark}
 use Rattle.thy_isa.specs.Step.{State, is_running}
-use Rattle.thy_text.specs.Event.{Event, EpochEnd, Commit, Cut, Restart, Reload, Ended}
+use Rattle.thy_text.specs.Event.{Event, Scheme, EpochEnd, Commit, Cut, Restart, Reload, Ended}
 
 -- the checkpoint that is committed, and the one that is sealed and may be; and the harts that retired the instructions
 -- up to each, if they are listed
@@ -38,6 +38,7 @@ marks_after start m (Commit epoch cycle overlapped) =
 marks_after start m (Restart epoch count state) =
     record { kept = Some (mark epoch count); sealed = None; kept_turns = turns_of m epoch count; sealed_turns = [] }
 marks_after start m Reload = loading_marks start
+marks_after start m (Scheme number) = loading_marks start
 marks_after start m event = m
 
 -- what events make of the marks
@@ -95,6 +96,7 @@ Lawful c m (Commit epoch cycle overlapped) = (count : ℕ) × (m.sealed ≡ Some
 Lawful c m (Cut index cycle) = Unit {0}
 Lawful c m (Restart epoch count state) = Restarts c m epoch count state
 Lawful c m Reload = m.kept ≡ None
+Lawful c m (Scheme number) = Unit {0}
 Lawful c m (Ended status count cycle state) = EndsRun c m count state × (status ≡ state.status)
 
 -- each event is lawful after those before it

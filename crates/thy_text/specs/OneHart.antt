@@ -4,7 +4,7 @@ use Rattle.thy_base.specs.declared.cause.EndCause.{EndCause}
 use Rattle.thy_base.specs.declared.cause.EndCause.TheVariants.{Length, Exhausted, Ended as EndedCause}
 use Rattle.thy_base.specs.Marks.{mark}
 use Rattle.thy_isa.specs.Step.{State, is_running}
-use Rattle.thy_text.specs.Event.{Event, EpochEnd, Commit, Cut, Restart, Reload, Ended}
+use Rattle.thy_text.specs.Event.{Event, Scheme, EpochEnd, Commit, Cut, Restart, Reload, Ended}
 use Rattle.thy_text.specs.Marks.{Marks, Course, marks_after, AllLawful}
 
 -- what events are compared with: the plain machine's state at each count, the count at which the run starts, and the
@@ -52,6 +52,7 @@ LawfulAt c m (Commit epoch cycle overlapped) = (count : ℕ) × (m.sealed ≡ So
 LawfulAt c m (Cut index cycle) = Unit {0}
 LawfulAt c m (Restart epoch count state) = RestartsAt c m epoch count state
 LawfulAt c m Reload = m.kept ≡ None
+LawfulAt c m (Scheme number) = Unit {0}
 LawfulAt c m (Ended status count cycle state) = EndsRunAt c m count state × (status ≡ state.status)
 
 -- each event is lawful after those before it

@@ -32,3 +32,14 @@ summary_parts epochs early overlapped =
 abbrev pub summary_of : List Event → List ℕ
 summary_of vs =
     joined (summary_parts (count_by ends_epoch vs) (count_by ends_early vs) (sum_by overlapped_by vs))
+
+-- the line of these sums of a run by a scheme, in parts
+abbrev pub scheme_parts : (name : List ℕ) (epochs early overlapped writes : ℕ) → List (List ℕ)
+scheme_parts name epochs early overlapped writes =
+    codes "scheme " ∷ name ∷ codes " epochs " ∷ decimal epochs ∷ codes " early " ∷ decimal early
+    ∷ codes " overlapped " ∷ decimal overlapped ∷ codes " writes " ∷ decimal writes ∷ line_feed ∷ []
+
+-- the line of a run by the scheme of this name: the same sums, and how many writes its device has taken
+abbrev pub scheme_line : List ℕ → List Event → (writes : ℕ) → List ℕ
+scheme_line name vs writes =
+    joined (scheme_parts name (count_by ends_epoch vs) (count_by ends_early vs) (sum_by overlapped_by vs) writes)

@@ -1,17 +1,23 @@
 //! An event of a run.
 
-use thy_base::EndCause;
+use thy_base::{Bytes, EndCause};
 use thy_isa::{MachState, Status};
 
 /// What happened in a run. Epochs count from 0, which is loading; a count is one of instructions that
 /// have retired; cycles count over the whole run, from 1.
 #[derive(Debug, Drop)]
 pub enum Event {
+    /// A run by the scheme of this number begins, over a device that was just fitted.
+    Scheme {
+        number: u64,
+    },
     /// The epoch was sealed at this count, for this cause.
     EpochEnd {
         epoch: u64,
         count: u64,
         cause: EndCause,
+        /// The harts that retired its instructions, in order, if there are two. With one hart none are listed.
+        turns: Bytes,
     },
     /// The sealed checkpoint of the epoch was committed. Meanwhile `overlapped` instructions retired.
     Commit {

@@ -1,5 +1,5 @@
 //! The events of a run, in order.
-ghost use Rattle.std.specs.Prelude.{◌≡◌, ◌++◌, ◌∷◌, [], ◌<◌, length, OnOk, OnErr, slice_get, Some};
+ghost use Rattle.std.specs.Prelude.{◌≡◌, ◌++◌, ◌∷◌, [], ◌<◌, ◌-◌, ◌^◌, length, take, OnOk, OnErr, slice_get, Some};
 ghost use Rattle.thy_text.specs.Seen.{event_of};
 
 use crate::Event;
@@ -41,9 +41,32 @@ impl Events {
         Ok(())
     }
 
+    /// Adds the events of another list at the end, which gives them up. If memory runs out, both lists stay.
+    pub fn append(&mut self, more: &mut Events) -> Result<(), AllocError>
+        ensures ok { OnOk result ((self.new ≡ self.old ++ more.old) × (more.new ≡ [])) }
+        ensures err { OnErr result ((self.new ≡ self.old) × (more.new ≡ more.old)) }
+    {
+        self.items.append(&mut more.items)
+    }
+
+    /// Takes away the last event, if there is one.
+    pub fn pop(&mut self)
+        ensures { self.new ≡ take (length self.old - 1) self.old }
+    {
+        let _last = self.items.pop();
+    }
+
     /// How many there are.
     pub fn len(&self) -> usize
         ensures { result ≡ length self.now }
+    {
+        self.items.len()
+    }
+
+    /// The same; two such numbers can be added.
+    pub(crate) fn short_len(&self) -> usize
+        ensures length { result ≡ length self.now }
+        ensures short { result < 2 ^ 63 }
     {
         self.items.len()
     }

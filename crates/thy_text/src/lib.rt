@@ -10,6 +10,7 @@
 mod closing;
 mod event;
 mod events;
+mod history;
 mod laws;
 mod line;
 mod memory_digest;
@@ -19,7 +20,8 @@ mod summary;
 pub use closing::{Closing, FetchFault, write_closing};
 pub use event::Event;
 pub use events::Events;
+pub use history::History;
 pub use laws::with_one_hart_events_go_by_counts;
 pub use line::{write_ended, write_event, write_made};
 pub use memory_digest::digest;
-pub use summary::write_summary;
+pub use summary::{write_scheme, write_summary};

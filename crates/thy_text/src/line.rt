@@ -1,8 +1,9 @@
 //! The lines of events.
-ghost use Rattle.std.specs.Prelude.{◌∷◌, [], ◌≢◌, OnErr};
+ghost use Rattle.std.specs.Prelude.{◌≡◌, ◌∷◌, [], ◌≢◌, ◌==◌, cond, OnErr};
 ghost use Rattle.std.specs.Fmt.{decimal};
 ghost use Rattle.thy_base.specs.Bytes.{bytes_of};
-ghost use Rattle.thy_text.specs.Lines.{joined, line_feed, line_of, state_lines, ended_lines, epoch_end_parts, made_of};
+ghost use Rattle.thy_text.specs.Lines.{joined, line_feed, line_of, state_lines, ended_lines, turns_by, harts_parts, epoch_end_parts, made_of};
+ghost use Rattle.thy_text.specs.Pieces.{tail_of};
 ghost use Rattle.thy_text.specs.Seen.{event_of};
 ghost use Rattle.thy_text.specs.Writing.{Wrote};
 
@@ -21,11 +22,13 @@ pub fn write_event<R: Sink>(event: &Event, digest: bool, report: &mut R) -> Resu
     ensures due { OnErr result (line_of digest (event_of event.now) ≢ []) }
 {
     match event {
+        Event::Scheme { .. } => Ok(()),
         Event::EpochEnd {
             epoch,
             count,
             cause,
-        } => write_epoch_end(*epoch, *count, *cause, report),
+            turns,
+        } => write_epoch_end(*epoch, *count, *cause, turns.as_slice(), report),
         Event::Commit {
             epoch,
             overlapped,
@@ -68,26 +71,84 @@ fn write_numbers<R: Sink>(
     write_pieces(&pieces, report)
 }
 
+/// The parts that tell how many instructions each hart retired in an epoch; all are empty if its turns are not listed.
+#[derive(Clone, Copy)]
+pub(crate) struct HartParts {
+    word: Piece<'static>,
+    zero: Piece<'static>,
+    between: Piece<'static>,
+    one: Piece<'static>,
+}
+
+/// 1 for a turn of this hart.
+fn turn_in(turn: u8, hart: u8) -> u64
+    ensures { result ≡ cond (turn == hart) 1 0 }
+{
+    if turn == hart { 1 } else { 0 }
+}
+
+/// How many of these turns are a hart's.
+fn count_turns(turns: &[u8], hart: u8) -> u64
+    ensures { result ≡ turns_by hart turns.now }
+{
+    let mut count = 0;
+    for turn in turns {
+        count += turn_in(*turn, hart);
+    }
+    count
+}
+
+/// The parts that tell the harts of an epoch with these turns.
+fn hart_parts(turns: &[u8]) -> HartParts
+    ensures { joined (tail_of result) ≡ joined (harts_parts turns.now) }
+{
+    if turns.is_empty() {
+        let none = Piece::Text("");
+        return HartParts {
+            word: none,
+            zero: none,
+            between: none,
+            one: none,
+        };
+    }
+    HartParts {
+        word: Piece::Text(" harts "),
+        zero: Piece::Number(count_turns(turns, 0)),
+        between: Piece::Text(" "),
+        one: Piece::Number(count_turns(turns, 1)),
+    }
+}
+
 /// Writes the line of an epoch's end.
 fn write_epoch_end<R: Sink>(
     epoch: u64,
     count: u64,
     cause: EndCause,
+    turns: &[u8],
     report: &mut R,
 ) -> Result<(), SinkError>
     ensures { Wrote result (R.stream report.old) (R.stream report.new)
-        (joined (epoch_end_parts epoch count cause)) }
+        (joined (epoch_end_parts epoch count cause turns.now)) }
 {
     let first = Piece::Text("epoch ");
     let number = Piece::Number(epoch);
     let at = Piece::Text(" ends at ");
     let place = Piece::Number(count);
     let by = Piece::Text(" by ");
+    let HartParts {
+        word,
+        zero,
+        between,
+        one,
+    } = hart_parts(turns);
     let end = Piece::Text("\n");
     match cause {
         EndCause::Length => {
             let why = Piece::Text("length");
-            write_pieces(&[first, number, at, place, by, why, end], report)
+            let pieces = [
+                first, number, at, place, by, why, word, zero, between, one, end,
+            ];
+            write_pieces(&pieces, report)
         }
         EndCause::Exhausted { free, dirty, need } => {
             let pieces = [
@@ -102,13 +163,20 @@ fn write_epoch_end<R: Sink>(
                 Piece::Number(dirty),
                 Piece::Text(" "),
                 Piece::Number(need),
+                word,
+                zero,
+                between,
+                one,
                 end,
             ];
             write_pieces(&pieces, report)
         }
         EndCause::Ended => {
             let why = Piece::Text("end");
-            write_pieces(&[first, number, at, place, by, why, end], report)
+            let pieces = [
+                first, number, at, place, by, why, word, zero, between, one, end,
+            ];
+            write_pieces(&pieces, report)
         }
     }
 }

@@ -8,9 +8,9 @@ use arrayvec::{ArrayVec, CapacityError};
 use itoa::Buffer;
 use thy_base::{Sink, SinkError};
 
-/// Room for a line that is written at once, in bytes. The longest line of an event has 132: an epoch's end by
-/// exhaustion, with five numbers of twenty digits.
-const ROOM: usize = 160;
+/// Room for a line that is written at once, in bytes. The longest line of an event has 180: an epoch's end by
+/// exhaustion with two harts, with seven numbers of twenty digits.
+const ROOM: usize = 192;
 
 /// A part of a line.
 #[derive(Clone, Copy)]

@@ -1,12 +1,13 @@
-//! The line that sums a run up.
+//! The lines that sum a run up.
 ghost use Rattle.std.specs.Prelude.{◌≡◌, cond, count_by, sum_by};
+ghost use Rattle.thy_base.specs.Schemes.{scheme_name};
 ghost use Rattle.thy_text.specs.Seen.{event_of};
-ghost use Rattle.thy_text.specs.Summary.{ends_early, ends_epoch, overlapped_by, summary_of};
+ghost use Rattle.thy_text.specs.Summary.{ends_early, ends_epoch, overlapped_by, scheme_line, summary_of};
 ghost use Rattle.thy_text.specs.Writing.{Wrote};
 
 use crate::piece::{Piece, write_pieces};
 use crate::{Event, Events};
-use thy_base::{EndCause, Sink, SinkError};
+use thy_base::{EndCause, SchemeName, Sink, SinkError};
 
 /// What a run's events sum up to.
 #[derive(Clone, Copy)]
@@ -88,6 +89,34 @@ pub fn write_summary<R: Sink>(events: &Events, report: &mut R) -> Result<(), Sin
         Piece::Number(sums.early),
         Piece::Text(" overlapped "),
         Piece::Sum(sums.overlapped),
+        Piece::Text("\n"),
+    ];
+    write_pieces(&pieces, report)
+}
+
+/// Writes the line that sums up a run by a scheme, whose device has taken so many writes. On an error the sink has taken
+/// only the first part of the line. Allocates nothing.
+pub fn write_scheme<R: Sink>(
+    scheme: SchemeName,
+    events: &Events,
+    writes: u64,
+    report: &mut R,
+) -> Result<(), SinkError>
+    ensures { Wrote result (R.stream report.old) (R.stream report.new)
+        (scheme_line (scheme_name scheme) events.now writes) }
+{
+    let sums = sums_of(events);
+    let pieces = [
+        Piece::Text("scheme "),
+        Piece::Text(scheme.name()),
+        Piece::Text(" epochs "),
+        Piece::Number(sums.epochs),
+        Piece::Text(" early "),
+        Piece::Number(sums.early),
+        Piece::Text(" overlapped "),
+        Piece::Sum(sums.overlapped),
+        Piece::Text(" writes "),
+        Piece::Number(writes),
         Piece::Text("\n"),
     ];
     write_pieces(&pieces, report)

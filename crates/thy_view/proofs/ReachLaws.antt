@@ -1,5 +1,5 @@
 -- A step reaches no less far than the view before it.
-use Rattle.std.proofs.Common.{◌≡◌, ◌≢◌, ℕ, ◌+◌, ◌≤◌, Bool, true, false, List, if◌then◌else◌, refl, sym, ◌∙◌, ap, inl, inr, arith}
+use Rattle.std.proofs.Common.{◌≡◌, ◌≢◌, ◌⊎◌, ℕ, ◌+◌, ◌-◌, ◌≤◌, Bool, true, false, List, if◌then◌else◌, refl, sym, ◌∙◌, ap, inl, inr, arith}
 use Rattle.thy_record.specs.declared.engine_step.EngineStep.{EngineStep}
 use Rattle.thy_record.specs.declared.engine_step.EngineStep.TheVariants.{Idle, Copied, PageBlock, StateBlock, TableBlock, Barrier, CommitWritten, Committed as EngineCommitted}
 use Rattle.thy_view.specs.declared.did.Did.{Did}
@@ -8,8 +8,9 @@ use Rattle.thy_view.specs.declared.view.Phase.{Phase}
 use Rattle.thy_view.specs.declared.view.Phase.TheVariants.{Boot as BootPhase, Run, Halt}
 use Rattle.thy_view.specs.declared.view.View.{View}
 use Rattle.thy_view.specs.CoreStep.{phase_at, busier, BootsTo, MovesTo, EngineTo, CoreStep}
-use Rattle.thy_view.specs.Laws.{StepsReach, RetiresReach, FindsTurns}
+use Rattle.thy_view.specs.Laws.{StepsReach, RetiresReach, StaysThere, FindsTurns}
 use Rattle.thy_view.specs.Origin.{Origin, runs_at}
+use Rattle.thy_view.specs.Pace.{retires}
 use Rattle.thy_view.specs.Told.{told, AgreeBelow, count_of, reach_in, reach, HasTurn}
 use Rattle.thy_view.proofs.TurnLaws.{AgreeBelow-same, with_turn, with_turn-agrees, with_turn-gives}
 
@@ -38,35 +39,34 @@ reach-boot v boots = ap (λ (p : Phase). reach_in p v) boots
 -- ---- steps
 
 module _ (o : Origin) (v next : View) where
-  same : next ≡ v → reach v ≤ reach next
-  same e = let is : reach next ≡ reach v = ap reach e in omega (arith, is)
+  same : next ≡ v → reach next ≡ reach v
+  same e = ap reach e
 
-  -- behind the boot a count that is no less
-  goes : v.phase ≡ Run → next.phase ≢ BootPhase → v.count ≤ next.count → reach v ≤ reach next
-  goes runs behind le = omega (arith, reach-count v (runs_on v.phase runs), reach-count next behind, le)
+  -- behind the boot the count stays
+  goes : v.phase ≡ Run → next.phase ≢ BootPhase → next.count ≡ v.count → reach next ≡ reach v
+  goes runs behind count = reach-count next behind ∙ count ∙ sym (reach-count v (runs_on v.phase runs))
 
-  runs : v.phase ≡ Run → next.phase ≡ v.phase → next.count ≡ v.count → reach v ≤ reach next
-  runs is phase count = goes is (runs_on next.phase (phase ∙ is)) (omega (arith, count))
+  runs : v.phase ≡ Run → next.phase ≡ v.phase → next.count ≡ v.count → reach next ≡ reach v
+  runs is phase count = goes is (runs_on next.phase (phase ∙ is)) count
 
-  busy : v.phase ≡ Run → next ≡ busier v → reach v ≤ reach next
+  busy : v.phase ≡ Run → next ≡ busier v → reach next ≡ reach v
   busy is e = runs is (ap (λ (w : View). w.phase) e) (ap (λ (w : View). w.count) e)
 
-  boots : v.phase ≡ BootPhase → BootsTo v next → reach v ≤ reach next
-  boots is to = elim to as (λ _. reach v ≤ reach next) [
+  boots : v.phase ≡ BootPhase → BootsTo v next → reach next ≡ reach v
+  boots is to = elim to as (λ _. reach next ≡ reach v) [
     | inl e ↦ same e
     | inr e ↦
-        let there : reach next ≡ count_of next.done = reach-boot next (ap (λ (w : View). w.phase) e.1 ∙ is) in
         let found : count_of next.done ≡ count_of v.done = ap (λ (w : View). count_of w.done) e.1 in
-        omega (arith, reach-boot v is, there, found)
+        reach-boot next (ap (λ (w : View). w.phase) e.1 ∙ is) ∙ found ∙ sym (reach-boot v is)
   ]
 
-  moves : v.phase ≡ Run → MovesTo v next → reach v ≤ reach next
-  moves is to = elim to as (λ _. reach v ≤ reach next) [
+  moves : v.phase ≡ Run → MovesTo v next → reach next ≡ reach v
+  moves is to = elim to as (λ _. reach next ≡ reach v) [
     | inl e ↦ busy is e
     | inr e ↦ runs is (ap (λ (w : View). w.phase) e.4) (ap (λ (w : View). w.count) e.4)
   ]
 
-  engine : v.phase ≡ Run → (step : EngineStep) → EngineTo step v next → reach v ≤ reach next
+  engine : v.phase ≡ Run → (step : EngineStep) → EngineTo step v next → reach next ≡ reach v
   engine is Idle e = absurd e
   engine is Copied e = busy is e
   engine is PageBlock e = busy is e
@@ -76,37 +76,69 @@ module _ (o : Origin) (v next : View) where
   engine is CommitWritten e = runs is (ap (λ (w : View). w.phase) e.1) (ap (λ (w : View). w.count) e.1)
   engine is (EngineCommitted epoch) e = absurd e
 
-  steps : (did : Did) → CoreStep o v did next → reach v ≤ reach next
-  steps Boot s = boots s.0 s.1
-  steps Loaded s =
-      let here : count_of v.done ≡ 0 = ap count_of s.none in
-      omega (arith, reach-boot v s.phase, here)
-  steps (Restarted epoch count) s =
-      let here : count_of v.done ≡ count = ap count_of s.done in
+  -- the view after a step reaches as far as the one before it, or from nowhere to the start, or one instruction further
+  abbrev Reaches : Did → Type 0
+  Reaches did =
+      (reach next ≡ reach v) ⊎ ((reach v ≡ 0) × (reach next ≡ o.start.count)) ⊎ ((retires did ≡ 1) × (reach next ≡ reach v + 1))
+
+  reaches : (did : Did) → CoreStep o v did next → Reaches did
+  reaches Boot s = inl (boots s.0 s.1)
+  reaches Loaded s =
+      let phase : next.phase ≡ Run = ap (λ (w : View). w.phase) s.becomes in
+      inr (inl (
+        reach-boot v s.phase ∙ ap count_of s.none,
+        reach-count next (runs_on next.phase phase) ∙ ap (λ (w : View). w.count) s.becomes,
+      ))
+  reaches (Restarted epoch count) s =
       let phase : next.phase ≡ phase_at o count = ap (λ (w : View). w.phase) s.becomes in
-      let there : next.count ≡ count = ap (λ (w : View). w.count) s.becomes in
-      omega (arith, reach-boot v s.phase, here, reach-count next (λ b. runs_or_halts (runs_at o count) (sym phase ∙ b)), there)
-  steps (Refused bad) s = same s.3
-  steps Moved s = moves s.0 s.3
-  steps (Retired hart) s =
+      inl (reach-count next (λ b. runs_or_halts (runs_at o count) (sym phase ∙ b))
+      ∙ ap (λ (w : View). w.count) s.becomes ∙ sym (ap count_of s.done) ∙ sym (reach-boot v s.phase))
+  reaches (Refused bad) s = inl (same s.3)
+  reaches Moved s = inl (moves s.0 s.3)
+  reaches (Retired hart) s =
       let phase : next.phase ≡ v.phase = ap (λ (w : View). w.phase) s.becomes in
-      let count : next.count ≡ v.count + 1 = ap (λ (w : View). w.count) s.becomes in
-      goes s.phase (runs_on next.phase (phase ∙ s.phase)) (omega (arith, count))
-  steps Flushed s = busy s.0 s.1
-  steps Merged s = busy s.0 s.1
-  steps Promoted s = busy s.0 s.1
-  steps (Sealed epoch count cause) s = runs s.phase (ap (λ (w : View). w.phase) s.becomes) (ap (λ (w : View). w.count) s.becomes)
-  steps (Engine step) s = engine s.0 step s.1
-  steps (Committed epoch overlapped) s =
+      inr (inr (
+        refl,
+        reach-count next (runs_on next.phase (phase ∙ s.phase))
+            ∙ ap (λ (w : View). w.count) s.becomes
+            ∙ ap (λ (n : ℕ). n + 1) (sym (reach-count v (runs_on v.phase s.phase))),
+      ))
+  reaches Flushed s = inl (busy s.0 s.1)
+  reaches Merged s = inl (busy s.0 s.1)
+  reaches Promoted s = inl (busy s.0 s.1)
+  reaches (Sealed epoch count cause) s = inl (runs s.phase (ap (λ (w : View). w.phase) s.becomes) (ap (λ (w : View). w.count) s.becomes))
+  reaches (Engine step) s = inl (engine s.0 step s.1)
+  reaches (Committed epoch overlapped) s =
       let phase : next.phase ≡ phase_at o s.count = ap (λ (w : View). w.phase) s.becomes in
-      let count : next.count ≡ v.count = ap (λ (w : View). w.count) s.becomes in
-      goes s.phase (λ b. runs_or_halts (runs_at o s.count) (sym phase ∙ b)) (omega (arith, count))
-  steps NvmDrained s = same s
-  steps DramDrained s = same s
-  steps Nothing s = same s.1
+      inl (goes s.phase (λ b. runs_or_halts (runs_at o s.count) (sym phase ∙ b)) (ap (λ (w : View). w.count) s.becomes))
+  reaches NvmDrained s = inl (same s)
+  reaches DramDrained s = inl (same s)
+  reaches Nothing s = inl (same s.1)
+
+  no_less : (did : Did) → Reaches did → reach v ≤ reach next
+  no_less did r = elim r as (λ _. reach v ≤ reach next) [
+    | inl e ↦ omega (arith, e)
+    | inr rest ↦ elim rest as (λ _. reach v ≤ reach next) [
+      | inl e ↦ (let from = e.0 in omega (arith, from))
+      | inr e ↦ (let to = e.1 in omega (arith, to))
+    ]
+  ]
+
+  no_more : (did : Did) → retires did ≡ 0 → Reaches did → reach next - o.start.count ≡ reach v - o.start.count
+  no_more did none r = elim r as (λ _. reach next - o.start.count ≡ reach v - o.start.count) [
+    | inl e ↦ ap (λ (n : ℕ). n - o.start.count) e
+    | inr rest ↦ elim rest as (λ _. reach next - o.start.count ≡ reach v - o.start.count) [
+      | inl e ↦ (let from = e.0 in let to = e.1 in omega (arith, from, to))
+      | inr e ↦ (let one = e.0 in omega (arith, one, none))
+    ]
+  ]
 
 pub steps-reach : StepsReach
-steps-reach o v next did s = steps o v next did s
+steps-reach o v next did s = no_less o v next did (reaches o v next did s)
+
+-- what retires nothing reaches no further from the start
+pub stays-there : StaysThere
+stays-there o v next did s none = no_more o v next did none (reaches o v next did s)
 
 -- and an instruction that is retired one further
 pub retires-reach : RetiresReach

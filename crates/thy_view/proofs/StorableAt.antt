@@ -1,19 +1,20 @@
 -- Every state of a run can be stored, and its processor recorded.
-use Rattle.std.proofs.Common.{◌≡◌, ℕ, ◌^◌, ◌<◌, ◌≤◌, true, List, length, slice_index, None, refl, sym, ap, ◌∙◌, subst, inl, inr, arith}
-use Rattle.std.proofs.lemmas.Bool.{cases_lt, le-leb}
+use Rattle.std.proofs.Common.{◌≡◌, ℕ, ◌^◌, ◌<◌, ◌≤◌, true, List, length, slice_index, Option, Some, None, is_some, refl, sym, ap, ◌∙◌, subst, inl, inr, arith}
+use Rattle.std.proofs.lemmas.Bool.{true≢false, cases_lt, le-leb}
 use Rattle.std.proofs.lemmas.List.{get_or_past}
 use Rattle.thy_base.specs.declared.block.Block.{Block}
 use Rattle.thy_base.specs.declared.config.Parameters.{Parameters}
 use Rattle.thy_base.specs.Geometry.{console_room, program_size}
 use Rattle.thy_isa.specs.declared.state.CpuState.{CpuState}
+use Rattle.thy_isa.specs.declared.state.OtherHart.{OtherHart}
 use Rattle.thy_isa.specs.declared.state.Status.{Status}
 use Rattle.thy_isa.specs.declared.state.Status.TheVariants.{Running, Exited, Trapped}
 use Rattle.thy_isa.specs.OnBlocks.{state_from}
 use Rattle.thy_isa.specs.Step.{State}
-use Rattle.thy_isa.specs.Storable.{IsStatus, IsStorable}
-use Rattle.thy_isa.proofs.HartLaws.{step-alone, crossed-alone, crossed-storable}
+use Rattle.thy_isa.specs.Storable.{IsStatus, IsOtherOf, IsStorable}
+use Rattle.thy_isa.proofs.HartLaws.{step-harts, crossed-harts, crossed-storable}
 use Rattle.thy_isa.proofs.StorableLaws.{step-storable}
-use Rattle.thy_record.specs.Cpu.{status_tag, status_value, is_status, IsRecordable}
+use Rattle.thy_record.specs.Cpu.{status_tag, status_value, is_status, IsOtherRecordable, IsRecordable}
 use Rattle.thy_view.specs.Origin.{Origin, IsOrigin, setting_of, at}
 use Rattle.thy_view.specs.Safe.{ceiling}
 use Rattle.thy_view.proofs.TurnLaws.{at-holds}
@@ -25,23 +26,34 @@ at-storable o k h =
       crosses = λ s there. crossed-storable (program_size o.geometry) s there;
     }) h.storable k
 
--- there is one hart
-pub at-alone : (o : Origin) (k : ℕ) → IsOrigin o → (at o k).other ≡ None
-at-alone o k h =
-    at-holds (λ s. s.other ≡ None) o (record {
-      steps = λ s alone. step-alone (setting_of o) s alone;
-      crosses = λ s alone. crossed-alone s alone;
-    }) h.recordable.alone k
+-- there are as many harts as the start has
+pub at-harts : (o : Origin) (k : ℕ) → is_some (at o k).other ≡ is_some o.start.other
+at-harts o k =
+    at-holds (λ s. is_some s.other ≡ is_some o.start.other) o (record {
+      steps = λ s same. step-harts (setting_of o) s ∙ same;
+      crosses = λ s same. crossed-harts s ∙ same;
+    }) refl k
+
+recordable_other : (p : Parameters) (a b : Option OtherHart) → IsOtherOf a → is_some a ≡ is_some b → IsOtherRecordable p b → IsOtherRecordable p a
+recordable_other p None None there same h = h
+recordable_other p None (Some b) there same h = absurd (true≢false (sym same))
+recordable_other p (Some a) None there same h = absurd (true≢false same)
+recordable_other p (Some a) (Some b) there same h = (h.0, there)
+
+-- so the other hart can be recorded
+pub at-other : (o : Origin) (k : ℕ) → IsOrigin o → IsOtherRecordable o.geometry (at o k).other
+at-other o k h =
+    recordable_other o.geometry (at o k).other o.start.other (at-storable o k h).other (at-harts o k) h.recordable.other
 
 status_fits : (status : Status) → IsStatus status → is_status (status_tag status) (status_value status) ≡ true
 status_fits Running h = refl
 status_fits (Exited v) h = le-leb v 255 (omega arith)
 status_fits (Trapped v) h = le-leb v 7 (omega arith)
 
-recordable_there : (p : Parameters) (cpu : CpuState) (memory : List Block) (size : ℕ) → IsStorable size (state_from p cpu memory) → cpu.other ≡ None
+recordable_there : (p : Parameters) (cpu : CpuState) (memory : List Block) (size : ℕ) → IsStorable size (state_from p cpu memory) → IsOtherRecordable p cpu.other
     → cpu.console_len ≤ console_room p → cpu.count < ceiling → IsRecordable p ceiling cpu
 unfolding state_from
-recordable_there p cpu memory size there alone console count = record {
+recordable_there p cpu memory size there other console count = record {
   pc = there.pc;
   regs_length = there.registers;
   regs_zero = there.zero_register;
@@ -55,7 +67,7 @@ recordable_there p cpu memory size there alone console count = record {
   floor = there.floor;
   count = count;
   status = status_fits cpu.status there.status;
-  alone = alone;
+  other = other;
 }
 
 other_from : (p : Parameters) (cpu : CpuState) (memory : List Block) → (state_from p cpu memory).other ≡ cpu.other
@@ -68,4 +80,5 @@ pub IsRecordable-at : (o : Origin) (k : ℕ) (cpu : CpuState) (memory : List Blo
 IsRecordable-at o k cpu memory origin is console count =
     recordable_there o.geometry cpu memory (program_size o.geometry)
     (subst (IsStorable (program_size o.geometry)) (sym is) (at-storable o k origin))
-    (sym (other_from o.geometry cpu memory) ∙ ap (λ (s : State). s.other) is ∙ at-alone o k origin) console count
+    (subst (IsOtherRecordable o.geometry) (sym (sym (other_from o.geometry cpu memory) ∙ ap (λ (s : State). s.other) is)) (at-other o k origin))
+    console count

@@ -5,7 +5,7 @@ use Rattle.std.proofs.lemmas.List.{length-append, length-replicate, length-take-
 use Rattle.thy_base.specs.declared.mark.Mark.{Mark}
 use Rattle.thy_isa.specs.Step.{State, Setting, crossed, step, step_of, steps}
 use Rattle.thy_record.specs.Decoded.{Decoded, Nothing as NothingFound, Refused as RefusedImage, At}
-use Rattle.thy_view.specs.Laws.{TurnsLeadTo, StaysSafe, HartZeroSteps, UntoldSteps}
+use Rattle.thy_view.specs.Laws.{TurnsLeadTo, StaysSafe, HartZeroSteps, UntoldSteps, LastTold}
 use Rattle.thy_record.specs.declared.start.Start.{Start}
 use Rattle.thy_view.specs.Origin.{Origin, IsOrigin, Begins, setting_of, turn_at, by_turns, at}
 use Rattle.thy_view.specs.Safe.{ceiling, IsOneOf}
@@ -109,6 +109,19 @@ unfolding with_turn
 with_turn-gives o k hart late =
     turn_late (told o (with_turn o k hart)) k late ∙ turned-there (k - o.start.count) hart o.turns
 
+-- one more turn listed is that of the next count
+pub last-told : LastTold
+last-told o turns hart k late many = (
+  turn_late (told o (turns ++ hart ∷ [])) k late ∙ get_or_at turns hart [] 0 (k - o.start.count) many,
+  λ j less. elim (cases_lt j o.start.count) as (λ _. turn_at (told o (turns ++ hart ∷ [])) j ≡ turn_at (told o turns) j) [
+    | inl early ↦ turn_early (told o (turns ++ hart ∷ [])) j early ∙ sym (turn_early (told o turns) j early)
+    | inr after ↦
+        turn_late (told o (turns ++ hart ∷ [])) j after
+        ∙ get_or_append_left turns (hart ∷ []) 0 (j - o.start.count) (omega (arith, less, after, many))
+        ∙ sym (turn_late (told o turns) j after)
+  ],
+)
+
 -- ---- parts of lists
 
 -- the turns told as far as a count agree below it
@@ -170,7 +183,7 @@ unfolding step_of
 step_of-keeps P g keeps zero s p = keeps.steps s p
 step_of-keeps P g keeps (suc hart) s p = keeps.crosses (step g (crossed s)) (keeps.steps (crossed s) (keeps.crosses s p))
 
-by_turns-keeps : (P : State → Type 0) (g : Setting) → IsKept P g → (turns : List ℕ) (j k : ℕ) (s : State)
+pub by_turns-keeps : (P : State → Type 0) (g : Setting) → IsKept P g → (turns : List ℕ) (j k : ℕ) (s : State)
     → j ≤ k → P (by_turns g turns j s) → P (by_turns g turns k s)
 unfolding by_turns
 by_turns-keeps P g keeps turns j zero s le p = subst (λ (i : ℕ). P (by_turns g turns i s)) (let e : j ≡ zero = omega arith in e) p
@@ -203,11 +216,6 @@ at-next o k late =
     ap (λ (i : ℕ). by_turns (setting_of o) o.turns i o.start) e
     ∙ ap (λ (h : ℕ). step_of (setting_of o) h (by_turns (setting_of o) o.turns (k - o.start.count) o.start))
     (sym (turn_from o (k - o.start.count)) ∙ ap (turn_at o) there)
-
--- by hart 0
-pub at-step : (o : Origin) (k : ℕ) → o.start.count ≤ k → turn_at o k ≡ 0 → at o (k + 1) ≡ step (setting_of o) (at o k)
-unfolding step_of
-at-step o k late turn = at-next o k late ∙ ap (λ (h : ℕ). step_of (setting_of o) h (at o k)) turn
 
 -- before the start's count there is the start
 pub at-early : (o : Origin) (k : ℕ) → k ≤ o.start.count → at o k ≡ o.start

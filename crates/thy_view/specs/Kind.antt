@@ -34,7 +34,7 @@ use Rattle.thy_view.specs.Dram.{LeavesDram}
 use Rattle.thy_view.specs.Pace.{Gauge, retires, KeepsPace}
 use Rattle.thy_view.specs.Stores.{needs_at}
 use Rattle.thy_view.specs.Told.{told, AgreeBelow, reach, IsThere, HasTurn}
-use Rattle.thy_view.specs.Turn.{Turn, Shortage, Pressure, over_by}
+use Rattle.thy_view.specs.Turn.{Turn, Shortage, Pressure, HandsOn, front_of, turn_of, over_by}
 use Rattle.thy_view.specs.Views.{IsRestarting, is_boot, is_between, is_halt, halts, loads, doubt_of}
 use Rattle.thy_view.specs.Work.{Works, IsWithin}
 
@@ -113,11 +113,11 @@ pub record IsUnderWay (sealed : Option Mark) (p : Pressure) : Type 0 where
   pub apart : p.applies ≡ true → sealed ≡ None
 
 -- A shortage is real: fewer entries are free than are needed by the lines that are dirty, with the entries that are
--- reserved, and by the blocks of memory and console that the plain machine's next instruction stores to.
-pub record IsShortage (o : Origin) (v : View) (g : Gauge) (s : Shortage) : Type 0 where
+-- reserved, and by the blocks of memory and console that the next instruction of the hart in front stores to.
+pub record IsShortage (o : Origin) (v : View) (begun : Option ℕ) (g : Gauge) (s : Shortage) : Type 0 where
   pub free : s.free ≡ g.free
   pub dirty : s.dirty ≡ g.dirty
-  pub need : s.need ≡ needs_at o v.count
+  pub need : s.need ≡ needs_at o (front_of begun) v.count
   pub short : s.free < s.dirty + s.need
 
 -- the pressure on a machine at a moment is as it reports
@@ -127,7 +127,7 @@ pub record IsPressed {M : Type 0} (K : KindOf M) (o : Origin) (m : M) (n : Devic
   -- the hart is barred exactly while one is under way and it may not run meanwhile
   pub barred : (K.pressure m).barred ≡ ((K.pressure m).under_way && not K.overlaps)
   -- a shortage is a real one
-  pub short : (s : Shortage) → (K.pressure m).short ≡ Some s → IsShortage o (K.view o m n) (K.gauge m n) s
+  pub short : (s : Shortage) → (K.pressure m).short ≡ Some s → IsShortage o (K.view o m n) (K.pressure m).begun (K.gauge m n) s
   -- what is left of an instruction, to be copied and to be promoted is bounded
   pub few : IsWithin (K.most_owed o.geometry) (K.most_promotions o.geometry) (K.gauge m n)
 
@@ -143,6 +143,7 @@ pub record IsStep {M : Type 0} (K : KindOf M) (o : Origin) (k : ℕ) (pick : Pic
   pub step : CoreStep o (K.view o m n) r.did (K.view o next new)
   pub pressed : IsPressed K o m n
   pub turn : Turn o pick (length n.queue) (K.view o m n) (K.pressure m) r.did r.stall
+  pub hands : HandsOn (turn_of o pick (length n.queue) (K.view o m n) (K.pressure m)) r.did (K.pressure m) (K.pressure next)
   pub acts : ActsBy (K.migrates m) r.did n new
   pub dram : LeavesDram r.did n new (K.dram m) (K.dram next)
   pub pace : KeepsPace (K.most_spent o.geometry) (K.view o m n) (K.view o next new) r.did (K.gauge m n) (K.gauge next new)

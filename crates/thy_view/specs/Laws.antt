@@ -1,5 +1,5 @@
 -- What holds of the plain machine by turns, and of how far views reach.
-use Rattle.std.specs.Prelude.{◌≡◌, ℕ, ◌-◌, ◌<◌, ◌≤◌, List, [], Option}
+use Rattle.std.specs.Prelude.{◌≡◌, ℕ, ◌-◌, ◌<◌, ◌≤◌, List, [], ◌∷◌, ◌++◌, length, Option}
 use Rattle.thy_base.specs.declared.mark.Mark.{Mark}
 use Rattle.thy_base.specs.Device.{Device}
 use Rattle.thy_isa.specs.Step.{steps}
@@ -7,6 +7,7 @@ use Rattle.thy_record.specs.Decoded.{Reading}
 use Rattle.thy_view.specs.declared.did.Did.{Did}
 use Rattle.thy_view.specs.declared.view.View.{View}
 use Rattle.thy_view.specs.CoreStep.{Retires, CoreStep}
+use Rattle.thy_view.specs.Pace.{retires}
 use Rattle.thy_view.specs.Origin.{Origin, setting_of, turn_at, at}
 use Rattle.thy_view.specs.Safe.{Safe}
 use Rattle.thy_view.specs.Told.{told, AgreeBelow, count_of, reach, IsThere, HasTurn}
@@ -37,6 +38,19 @@ StepsReach = (o : Origin) (v next : View) (did : Did) → CoreStep o v did next 
 -- and an instruction that is retired further than its own count
 abbrev pub RetiresReach : Type 0
 RetiresReach = (o : Origin) (v next : View) (hart : ℕ) → Retires o hart v next → v.count < reach next
+
+-- a step that retires no instruction leads to a view that reaches no further from the start
+abbrev pub StaysThere : Type 0
+StaysThere =
+    (o : Origin) (v next : View) (did : Did)
+    → CoreStep o v did next → retires did ≡ 0 → reach next - o.start.count ≡ reach v - o.start.count
+
+-- Turns that list those up to a count, and one more, give this one at the count, and agree below it with those listed
+-- before.
+abbrev pub LastTold : Type 0
+LastTold =
+    (o : Origin) (turns : List ℕ) (hart k : ℕ) → o.start.count ≤ k → length turns ≡ k - o.start.count
+    → (turn_at (told o (turns ++ hart ∷ [])) k ≡ hart) × AgreeBelow (told o turns) (turns ++ hart ∷ []) k
 
 -- whatever a cycle did, some turns that agree so far give it its hart
 abbrev pub FindsTurns : Type 0

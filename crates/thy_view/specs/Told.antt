@@ -31,10 +31,10 @@ reach_in Halt v = v.count
 abbrev pub reach : View → ℕ
 reach v = reach_in v.phase v
 
--- A hart that retired an instruction is hart 0, the only one. It did so after the boot, at a count not below the
--- start's.
+-- A hart that retired an instruction is one of those that there are. It did so after the boot, at a count not below
+-- the start's.
 pub record IsAtWork (o : Origin) (v : View) (hart : ℕ) : Type 0 where
-  pub there : hart ≡ 0
+  pub there : hart < o.geometry.harts
   pub runs : v.phase ≡ Run
   pub late : o.start.count ≤ v.count
 

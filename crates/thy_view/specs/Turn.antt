@@ -1,17 +1,17 @@
 -- Part of the claim.
 -- Who takes a cycle.
-use Rattle.std.specs.Prelude.{◌≡◌, ◌≢◌, ◌⊎◌, ℕ, ◌==◌, Bool, true, false, ◌&&◌, ◌||◌, not, is_some, option_map, if◌then◌else◌, Option, Some, None}
+use Rattle.std.specs.Prelude.{◌≡◌, ◌≢◌, ◌⊎◌, ℕ, ◌==◌, Bool, true, false, ◌&&◌, ◌||◌, not, is_some, option_map, unwrap_or, if◌then◌else◌, Option, Some, None}
 use Rattle.thy_base.specs.declared.cause.EndCause.{EndCause}
 use Rattle.thy_base.specs.declared.cause.EndCause.TheVariants.{Exhausted}
 use Rattle.thy_base.specs.declared.mark.Mark.{Mark}
 use Rattle.thy_base.specs.declared.mix.Pick.{Pick}
-use Rattle.thy_base.specs.declared.mix.Pick.TheVariants.{Hart, Engine as EnginePick, NvmDrain, DramDrain}
+use Rattle.thy_base.specs.declared.mix.Pick.TheVariants.{Hart, Second, Engine as EnginePick, NvmDrain, DramDrain}
 use Rattle.thy_view.specs.declared.view.Phase.{Phase}
 use Rattle.thy_view.specs.declared.view.Phase.TheVariants.{Boot as BootPhase, Run, Halt}
 use Rattle.thy_view.specs.declared.view.View.{View}
 use Rattle.thy_view.specs.Origin.{Origin, runs_at}
 use Rattle.thy_view.specs.declared.did.Did.{Did}
-use Rattle.thy_view.specs.declared.did.Did.TheVariants.{Moved, Retired, Flushed, Merged, Sealed, Promoted, Engine, Committed, NvmDrained, DramDrained, Nothing}
+use Rattle.thy_view.specs.declared.did.Did.TheVariants.{Moved, Retired, Flushed, Merged, Sealed, Promoted, Engine, Committed, NvmDrained, DramDrained, Nothing, Loaded, Restarted}
 use Rattle.thy_view.specs.declared.did.Stall.{Stall}
 use Rattle.thy_view.specs.declared.did.Stall.TheVariants.{Booting, Sealing, Waiting, Halted}
 
@@ -23,8 +23,10 @@ pub data Actor : Type 0 where
   Dram : Actor
   -- the checkpoint engine
   Checkpoint : Actor
-  -- the hart, with its stall, if it advances no instruction
-  TheHart : (stall : Option Stall) → Actor
+  -- a hart, which advances its instruction
+  Advances : (hart : ℕ) → Actor
+  -- the harts, none of which advances an instruction, for this reason
+  Stalled : (stall : Stall) → Actor
 
 -- the instruction in hand needs more table entries than are free
 pub record Shortage : Type 0 where
@@ -49,6 +51,31 @@ pub record Pressure : Type 0 where
   pub dirty : ℕ
   -- a block is still to be merged into its page
   pub overlaid : Bool
+  -- the hart whose instruction is begun, if one is
+  pub begun : Option ℕ
+  -- the hart that retired the last instruction since the boot
+  pub last : Option ℕ
+
+-- the hart in front: the one whose instruction is begun, or hart 0
+abbrev pub front_of : Option ℕ → ℕ
+front_of None = 0
+front_of (Some hart) = hart
+
+-- the hart that did not retire the last instruction; hart 0 at first
+abbrev pub rested : Option ℕ → ℕ
+rested None = 0
+rested (Some hart) = if hart == 0 then 1 else 0
+
+-- whose instruction a pick begins: that of the hart that it names, or of the one that rested if its own actor has
+-- nothing to do
+abbrev pub begins : Pick → Option ℕ → ℕ
+begins Hart last = 0
+begins Second last = 1
+begins pick last = rested last
+
+-- the hart that a pick comes to: the one whose instruction is begun; with one hart it is hart 0
+abbrev pub hart_at : ℕ → Pick → Pressure → ℕ
+hart_at harts pick p = if harts == 1 then 0 else unwrap_or p.begun (begins pick p.last)
 
 -- the state at a mark has ended
 abbrev pub has_stopped : Origin → Option Mark → Bool
@@ -66,25 +93,31 @@ stall_in o BootPhase v p = Some Booting
 stall_in o Halt v p = Some Halted
 stall_in o Run v p = if waits o v p then Some Waiting else (if is_some v.over || p.promotes then Some Sealing else None)
 
--- the hart's turn
-abbrev pub hart_turn : Origin → View → Pressure → Actor
-hart_turn o v p = TheHart (stall_in o v.phase v p)
+-- a hart advances its instruction unless there is a stall
+abbrev pub advancing : Option Stall → ℕ → Actor
+advancing None hart = Advances hart
+advancing (Some stall) hart = Stalled stall
+
+-- the turn of the hart that a pick comes to
+abbrev pub hart_turn : Origin → Pick → View → Pressure → Actor
+hart_turn o pick v p = advancing (stall_in o v.phase v p) (hart_at o.geometry.harts pick p)
 
 -- the engine acts if a checkpoint is under way
-abbrev pub engine_turn : Origin → Phase → View → Pressure → Actor
-engine_turn o Run v p = if p.under_way then Checkpoint else hart_turn o v p
-engine_turn o phase v p = hart_turn o v p
+abbrev pub engine_turn : Origin → Pick → Phase → View → Pressure → Actor
+engine_turn o pick Run v p = if p.under_way then Checkpoint else hart_turn o pick v p
+engine_turn o pick phase v p = hart_turn o pick v p
 
 -- whose turn a pick is, if so many writes are queued in the NVM
 abbrev pub turn_of : Origin → Pick → ℕ → View → Pressure → Actor
-turn_of o Hart nvm v p = hart_turn o v p
-turn_of o EnginePick nvm v p = engine_turn o v.phase v p
-turn_of o NvmDrain nvm v p = if nvm == 0 then hart_turn o v p else Nvm
-turn_of o DramDrain nvm v p = if p.dram == 0 then hart_turn o v p else Dram
+turn_of o Hart nvm v p = hart_turn o Hart v p
+turn_of o Second nvm v p = hart_turn o Second v p
+turn_of o EnginePick nvm v p = engine_turn o EnginePick v.phase v p
+turn_of o NvmDrain nvm v p = if nvm == 0 then hart_turn o NvmDrain v p else Nvm
+turn_of o DramDrain nvm v p = if p.dram == 0 then hart_turn o DramDrain v p else Dram
 
 -- the engine's work is done at its turn, or at that of a hart that waits for it
 abbrev pub IsEngines : Actor → Type 0
-IsEngines actor = (actor ≡ Checkpoint) ⊎ (actor ≡ TheHart (Some Waiting))
+IsEngines actor = (actor ≡ Checkpoint) ⊎ (actor ≡ Stalled Waiting)
 
 -- whose turn a cycle was that did this; what is not listed is the boot's
 abbrev pub Does : Did → Actor → Type 0
@@ -92,14 +125,14 @@ Does NvmDrained actor = actor ≡ Nvm
 Does DramDrained actor = actor ≡ Dram
 Does (Engine step) actor = IsEngines actor
 Does (Committed epoch overlapped) actor = IsEngines actor
-Does Moved actor = actor ≡ TheHart None
-Does (Retired hart) actor = actor ≡ TheHart None
-Does Flushed actor = actor ≡ TheHart (Some Sealing)
-Does Merged actor = actor ≡ TheHart (Some Sealing)
-Does (Sealed epoch count cause) actor = actor ≡ TheHart (Some Sealing)
-Does Promoted actor = actor ≡ TheHart (Some Sealing)
-Does Nothing actor = actor ≡ TheHart (Some Halted)
-Does did actor = actor ≡ TheHart (Some Booting)
+Does Moved actor = (hart : ℕ) × (actor ≡ Advances hart)
+Does (Retired hart) actor = actor ≡ Advances hart
+Does Flushed actor = actor ≡ Stalled Sealing
+Does Merged actor = actor ≡ Stalled Sealing
+Does (Sealed epoch count cause) actor = actor ≡ Stalled Sealing
+Does Promoted actor = actor ≡ Stalled Sealing
+Does Nothing actor = actor ≡ Stalled Halted
+Does did actor = actor ≡ Stalled Booting
 
 -- Before a seal the first of these is done that is left: a block is promoted, a dirty line stored, a block merged. The
 -- epoch is sealed once none is left.
@@ -112,13 +145,38 @@ Prepares did p = Unit {0}
 
 -- the stall that is reported at an actor's turn
 abbrev pub told_at : Actor → Option Stall
-told_at (TheHart stall) = stall
+told_at (Stalled stall) = Some stall
 told_at actor = None
 
 -- a pick was the turn of the actor that did this, which was due, and this stall is reported
 abbrev pub Turn : Origin → Pick → ℕ → View → Pressure → Did → Option Stall → Type 0
 Turn o pick nvm v p did stall =
     Does did (turn_of o pick nvm v p) × (stall ≡ told_at (turn_of o pick nvm v p)) × Prepares did p
+
+-- ---- whose instruction is begun
+
+-- the hart that advanced
+abbrev pub hart_in : Actor → ℕ
+hart_in (Advances hart) = hart
+hart_in actor = 0
+
+pub record IsHanded (begun last : Option ℕ) (next : Pressure) : Type 0 where
+  pub begun_is : next.begun ≡ begun
+  pub last_is : next.last ≡ last
+
+-- an instruction that is short of entries is dropped
+abbrev pub begun_by : Option Shortage → ℕ → Option ℕ
+begun_by None hart = Some hart
+begun_by (Some s) hart = None
+
+-- what a cycle makes of whose instruction is begun, and of who retired the last one: an instruction stays the hart's that
+-- began it until it is retired or dropped. When a boot ends, none is begun.
+abbrev pub HandsOn : Actor → Did → Pressure → Pressure → Type 0
+HandsOn actor Moved p next = IsHanded (begun_by p.short (hart_in actor)) p.last next
+HandsOn actor (Retired hart) p next = IsHanded None (Some hart) next
+HandsOn actor Loaded p next = IsHanded None None next
+HandsOn actor (Restarted epoch count) p next = IsHanded None None next
+HandsOn actor did p next = IsHanded p.begun p.last next
 
 -- why the epoch is over once the hart moved on: an instruction for which too few entries are free ends it
 abbrev pub over_by : Option Shortage → Option EndCause

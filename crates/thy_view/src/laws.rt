@@ -1,6 +1,6 @@
 //! Laws of what a power cut may leave, and of the plain machine by turns, each the contract of a function that does nothing.
-ghost use Rattle.thy_view.specs.OneHart.{EachHasItsTurn};
-ghost use Rattle.thy_view.specs.Laws.{TurnsLeadTo, StaysSafe, HartZeroSteps, UntoldSteps, StepsReach, RetiresReach, FindsTurns};
+ghost use Rattle.thy_view.specs.OneHart.{EachHasItsTurn, TurnsDontMatter};
+ghost use Rattle.thy_view.specs.Laws.{TurnsLeadTo, StaysSafe, HartZeroSteps, UntoldSteps, StepsReach, RetiresReach, StaysThere, LastTold, FindsTurns};
 ghost use Rattle.thy_view.specs.Safe.{SameIsNoDoubt};
 
 /// If the kept checkpoint is also the one in doubt, a power cut leaves that checkpoint. So one that is written anew,
@@ -24,14 +24,19 @@ pub fn hart_zero_takes_one_step_after_another()
     ensures { HartZeroSteps }
 {}
 
-/// So it does if no turns are listed: with one hart turns do not matter.
+/// So it does if no turns are listed.
 pub fn a_run_without_turns_is_hart_zeros()
     ensures { UntoldSteps }
 {}
 
-/// If no turns are listed, whatever a cycle did has its turn.
+/// With one hart, whatever a cycle did has its turn if no turns are listed.
 pub fn with_one_hart_each_cycle_has_its_turn()
     ensures { EachHasItsTurn }
+{}
+
+/// With one hart turns do not matter.
+pub fn with_one_hart_turns_do_not_matter()
+    ensures { TurnsDontMatter }
 {}
 
 /// The view after a step reaches at least as far as the view before it.
@@ -42,6 +47,16 @@ pub fn a_step_reaches_no_less()
 /// An instruction that is retired reaches beyond its own count.
 pub fn an_instruction_reaches_beyond_its_count()
     ensures { RetiresReach }
+{}
+
+/// A cycle that retires no instruction reaches no further than the view before it.
+pub fn what_retires_nothing_stays_there()
+    ensures { StaysThere }
+{}
+
+/// A turn that is listed last is that of the next count, and changes none before it.
+pub fn a_turn_is_told_at_the_end()
+    ensures { LastTold }
 {}
 
 /// Whatever a cycle did, some turns that agree so far give it its hart.

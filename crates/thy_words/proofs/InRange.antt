@@ -9,7 +9,7 @@ use Rattle.thy_base.specs.declared.config.Field.TheVariants.{N}
 use Rattle.thy_words.specs.Fields.{unreadable}
 use Rattle.thy_words.specs.Settings.{Answers, IsInRange, Order, most_number, named, number_fault, order_for, order_from, order_named, order_of, order_with, ranged, settings_of, value_fault, values_at, values_in, verb_of}
 use Rattle.thy_words.specs.declared.verb.Verb.{Verb}
-use Rattle.thy_words.specs.declared.verb.Verb.TheVariants.{Run, Resume, Bench, Plain, Make}
+use Rattle.thy_words.specs.declared.verb.Verb.TheVariants.{Run, Resume, Bench, Compare, Plain, Make}
 use Rattle.thy_words.specs.declared.words.Values.{Values}
 use Rattle.thy_words.specs.declared.words.Command.{Command}
 use Rattle.thy_words.specs.declared.words.WordsError.{WordsError}
@@ -51,6 +51,7 @@ order_with-range : (verb : Verb) (rows : List Row) (v : Values) → AreInRange v
 order_with-range Run rows v h = h.config
 order_with-range Resume rows v h = h.config
 order_with-range Bench rows v h = (h.config, h.number)
+order_with-range Compare rows v h = h.config
 order_with-range Plain rows v h = h.config
 order_with-range Make rows v h = h.number
 

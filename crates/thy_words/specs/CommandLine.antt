@@ -12,7 +12,7 @@ use Rattle.thy_words.specs.declared.command_line.Argument.{Argument}
 use Rattle.thy_words.specs.declared.command_line.Argument.TheVariants.{Operand, Valued, Flag}
 use Rattle.thy_base.specs.declared.config.Field.{Field}
 use Rattle.thy_base.specs.Fields.{field_name}
-use Rattle.thy_words.specs.Fields.{fields, plain_fields}
+use Rattle.thy_words.specs.Fields.{fields, compare_fields, plain_fields}
 
 -- a name that is required at its position
 abbrev pub operand_rule : Text → Rule
@@ -49,12 +49,13 @@ abbrev pub run_of : Text → (operand : Text) → App
 run_of name operand =
     command_of name (operand ∷ []) fields (codes "input" ∷ codes "save" ∷ []) (codes "digest" ∷ [])
 
--- the commands: `plain` takes of the fields only those of memory and the limit
+-- the commands: `compare` takes all fields but cuts, tears and scheme, `plain` only those of memory and the limit
 abbrev pub commands : List App
 commands =
     run_of (codes "run") (codes "FILE")
     ∷ run_of (codes "resume") (codes "IMAGE")
     ∷ run_of (codes "bench") (codes "n")
+    ∷ command_of (codes "compare") (codes "FILE" ∷ []) compare_fields (codes "input" ∷ []) (codes "digest" ∷ [])
     ∷ command_of (codes "plain") (codes "FILE" ∷ []) plain_fields (codes "input" ∷ []) (codes "digest" ∷ [])
     ∷ command_of (codes "make") (codes "n" ∷ codes "OUT" ∷ []) [] [] []
     ∷ []

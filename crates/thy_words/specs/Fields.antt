@@ -7,7 +7,7 @@ use Rattle.std.specs.Str.{bytes_eq}
 use Rattle.clap.specs.Walk.{Row, Text, first_of}
 use Rattle.thy_base.specs.declared.config.Config.{Config}
 use Rattle.thy_base.specs.declared.config.Field.{Field}
-use Rattle.thy_base.specs.declared.config.Field.TheVariants.{Base, Pages, Console, Epoch, Btt, Ptt, Sets, Ways, Nvmq, Dramq, High, Low, Mix, Cuts, Tears, Limit, Scheme, Gap, N}
+use Rattle.thy_base.specs.declared.config.Field.TheVariants.{Base, Pages, Console, Epoch, Btt, Ptt, Sets, Ways, Nvmq, Dramq, High, Low, Mix, Cuts, Tears, Limit, Scheme, Harts, Gap, N}
 use Rattle.thy_base.specs.declared.config.SchemeName.{SchemeName}
 use Rattle.thy_base.specs.declared.config.SchemeName.TheVariants.{Thynvm, Journal, Shadow}
 use Rattle.thy_base.specs.Fields.{field_name}
@@ -16,11 +16,16 @@ use Rattle.thy_words.specs.Numbers.{is_list, is_number, number_in, numbers_in}
 -- those of a configuration, in the order in which they are read, and then tested
 abbrev pub fields : List Field
 fields = Base ∷ Pages ∷ Console ∷ Epoch ∷ Btt ∷ Ptt ∷ Sets ∷ Ways ∷ Nvmq ∷ Dramq ∷ High ∷ Low
-    ∷ Mix ∷ Cuts ∷ Tears ∷ Limit ∷ Scheme ∷ Gap ∷ []
+    ∷ Mix ∷ Cuts ∷ Tears ∷ Limit ∷ Scheme ∷ Harts ∷ Gap ∷ []
 
 -- the fields that are read from the arguments: the number of a made program comes first
 abbrev pub all_fields : List Field
 all_fields = N ∷ fields
+
+-- those that `compare` has an option for
+abbrev pub compare_fields : List Field
+compare_fields = Base ∷ Pages ∷ Console ∷ Epoch ∷ Btt ∷ Ptt ∷ Sets ∷ Ways ∷ Nvmq ∷ Dramq ∷ High ∷ Low
+    ∷ Mix ∷ Limit ∷ Harts ∷ Gap ∷ []
 
 -- those that `plain` has an option for
 abbrev pub plain_fields : List Field
@@ -65,7 +70,7 @@ list_at rows f = option_map_or numbers_in (text_of rows f) []
 abbrev pub scheme_at : List Row → SchemeName
 scheme_at rows = unwrap_or (option_and_then scheme_named (text_of rows Scheme)) Thynvm
 
--- the configuration of rows in which each field is readable; no option sets the number of harts so far
+-- the configuration of rows in which each field is readable
 abbrev pub config_at : List Row → Config
 config_at rows = record {
   base = number_at rows Base 65536;
@@ -85,6 +90,6 @@ config_at rows = record {
   tears = list_at rows Tears;
   limit = number_at rows Limit 1000000000;
   scheme = scheme_at rows;
-  harts = 1;
+  harts = number_at rows Harts 1;
   gap = number_at rows Gap 0;
 }

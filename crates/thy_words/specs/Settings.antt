@@ -15,7 +15,7 @@ use Rattle.thy_base.specs.declared.config.Field.TheVariants.{N}
 use Rattle.thy_words.specs.Fields.{config_at, number_at, unreadable}
 use Rattle.thy_words.specs.CommandLine.{program}
 use Rattle.thy_words.specs.declared.verb.Verb.{Verb}
-use Rattle.thy_words.specs.declared.verb.Verb.TheVariants.{Run, Resume, Bench, Plain, Make}
+use Rattle.thy_words.specs.declared.verb.Verb.TheVariants.{Run, Resume, Bench, Compare, Plain, Make}
 use Rattle.thy_words.specs.declared.words.Values.{Values}
 use Rattle.thy_words.specs.declared.words.Job.{Job as JobStruct}
 use Rattle.thy_words.specs.declared.words.Command.{Command}
@@ -32,12 +32,13 @@ pub record Job : Type 0 where
   pub digest : Bool
 
 -- What the arguments ask for: to run the program file of this name, to resume the image of this name, to run the
--- program that is made from this number, to run a program file on the plain machine, or to put the program that is
--- made from this number under this name.
+-- program that is made from this number, to compare the runs of a program file by each scheme, to run one on the plain
+-- machine, or to put the program that is made from this number under this name.
 pub data Order : Type 0 where
   run : (file : Text) (job : Job) → Order
   resume : (image : Text) (job : Job) → Order
   bench : (number : ℕ) (job : Job) → Order
+  compare : (file : Text) (job : Job) → Order
   plain : (file : Text) (job : Job) → Order
   make : (number : ℕ) (name : Text) → Order
 
@@ -94,6 +95,7 @@ abbrev pub order_with : Verb → List Row → Values → Order
 order_with Run rows v = run (operand (codes "FILE") rows) (job_with rows v.config)
 order_with Resume rows v = resume (operand (codes "IMAGE") rows) (job_with rows v.config)
 order_with Bench rows v = bench v.number (job_with rows v.config)
+order_with Compare rows v = compare (operand (codes "FILE") rows) (job_with rows v.config)
 order_with Plain rows v = plain (operand (codes "FILE") rows) (job_with rows v.config)
 order_with Make rows v = make v.number (operand (codes "OUT") rows)
 
@@ -111,6 +113,7 @@ verb_of name =
     if bytes_eq name (codes "run") then Some Run
     else if bytes_eq name (codes "resume") then Some Resume
     else if bytes_eq name (codes "bench") then Some Bench
+    else if bytes_eq name (codes "compare") then Some Compare
     else if bytes_eq name (codes "plain") then Some Plain
     else if bytes_eq name (codes "make") then Some Make
     else None
@@ -147,6 +150,7 @@ abbrev pub order_of : Command → Order
 order_of (command.Run file job) = run (string_bytes file) (job_of job)
 order_of (command.Resume image job) = resume (string_bytes image) (job_of job)
 order_of (command.Bench number job) = bench number (job_of job)
+order_of (command.Compare file job) = compare (string_bytes file) (job_of job)
 order_of (command.Plain file job) = plain (string_bytes file) (job_of job)
 order_of (command.Make number name) = make number (string_bytes name)
 
@@ -158,5 +162,6 @@ abbrev pub IsInRange : Order → Type 0
 IsInRange (run file job) = range_fault job.config ≡ None
 IsInRange (resume image job) = range_fault job.config ≡ None
 IsInRange (bench number job) = (range_fault job.config ≡ None) × (number ≤ most_number)
+IsInRange (compare file job) = range_fault job.config ≡ None
 IsInRange (plain file job) = range_fault job.config ≡ None
 IsInRange (make number name) = number ≤ most_number

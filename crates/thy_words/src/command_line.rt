@@ -19,7 +19,7 @@ enum Argument {
 
 /// The options of `run`, `resume` and `bench`: every field of a configuration, the names of what is read and of what
 /// is saved, and whether digests of memory are reported.
-static RUN_OPTIONS: [Argument; 21] = [
+static RUN_OPTIONS: [Argument; 22] = [
     Argument::Valued("base"),
     Argument::Valued("pages"),
     Argument::Valued("console"),
@@ -37,9 +37,32 @@ static RUN_OPTIONS: [Argument; 21] = [
     Argument::Valued("tears"),
     Argument::Valued("limit"),
     Argument::Valued("scheme"),
+    Argument::Valued("harts"),
     Argument::Valued("gap"),
     Argument::Valued("input"),
     Argument::Valued("save"),
+    Argument::Flag("digest"),
+];
+
+/// The options of `compare`: those of `run` but for the scheme, cuts of power, and what is saved.
+static COMPARE_OPTIONS: [Argument; 18] = [
+    Argument::Valued("base"),
+    Argument::Valued("pages"),
+    Argument::Valued("console"),
+    Argument::Valued("epoch"),
+    Argument::Valued("btt"),
+    Argument::Valued("ptt"),
+    Argument::Valued("sets"),
+    Argument::Valued("ways"),
+    Argument::Valued("nvmq"),
+    Argument::Valued("dramq"),
+    Argument::Valued("high"),
+    Argument::Valued("low"),
+    Argument::Valued("mix"),
+    Argument::Valued("limit"),
+    Argument::Valued("harts"),
+    Argument::Valued("gap"),
+    Argument::Valued("input"),
     Argument::Flag("digest"),
 ];
 
@@ -118,13 +141,20 @@ fn bare<'a>(alloc: Global) -> Command<'a>
         .disable_help_subcommand(true)
 }
 
-/// The program, with its five commands.
+/// The program, with its six commands.
 pub(crate) fn thynvm<'a>(alloc: Global) -> Result<Command<'a>, AllocError>
     ensures { IfOk result (λ c. app_of c ≡ program) }
 {
     let program = with_command(alloc, bare(alloc), "run", "FILE", RUN_OPTIONS.as_slice())?;
     let program = with_command(alloc, program, "resume", "IMAGE", RUN_OPTIONS.as_slice())?;
     let program = with_command(alloc, program, "bench", "n", RUN_OPTIONS.as_slice())?;
+    let program = with_command(
+        alloc,
+        program,
+        "compare",
+        "FILE",
+        COMPARE_OPTIONS.as_slice(),
+    )?;
     let program = with_command(alloc, program, "plain", "FILE", PLAIN_OPTIONS.as_slice())?;
     with_command(alloc, program, "make", "n", MAKE_NAME.as_slice())
 }

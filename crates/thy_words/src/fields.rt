@@ -11,7 +11,7 @@ use std::alloc::{AllocError, Global};
 use thy_base::{Config, Field, Numbers, SchemeName};
 
 /// The fields, in the order in which they are read.
-static FIELDS: [Field; 19] = [
+static FIELDS: [Field; 20] = [
     Field::N,
     Field::Base,
     Field::Pages,
@@ -30,6 +30,7 @@ static FIELDS: [Field; 19] = [
     Field::Tears,
     Field::Limit,
     Field::Scheme,
+    Field::Harts,
     Field::Gap,
 ];
 
@@ -151,7 +152,7 @@ pub(crate) fn config_at(alloc: Global, matches: &ArgMatches<'_>) -> Result<Confi
         tears,
         limit: number_at(matches, Field::Limit, 1_000_000_000),
         scheme: scheme_at(matches),
-        harts: 1,
+        harts: number_at(matches, Field::Harts, 1),
         gap: number_at(matches, Field::Gap, 0),
     })
 }

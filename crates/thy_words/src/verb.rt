@@ -11,6 +11,8 @@ pub(crate) enum Verb {
     Resume,
     /// Run a program that is made from a number.
     Bench,
+    /// Compare a program file's runs by each scheme.
+    Compare,
     /// Run a program file on the plain machine.
     Plain,
     /// Put a program that is made from a number under a name.
@@ -27,6 +29,8 @@ pub(crate) fn verb_of(name: &str) -> Option<Verb>
         Some(Verb::Resume)
     } else if name == "bench" {
         Some(Verb::Bench)
+    } else if name == "compare" {
+        Some(Verb::Compare)
     } else if name == "plain" {
         Some(Verb::Plain)
     } else if name == "make" {

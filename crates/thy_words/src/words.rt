@@ -41,6 +41,8 @@ pub enum Command {
     Resume { image: String, job: Job },
     /// Run the program that is made from the number, and sum the run up.
     Bench { number: u64, job: Job },
+    /// Run the program file by each scheme in turn, and compare what the runs cost.
+    Compare { file: String, job: Job },
     /// Run the program file on the plain machine.
     Plain { file: String, job: Job },
     /// Put the program that is made from the number under the name.
@@ -193,6 +195,10 @@ fn order_with(
         }),
         Verb::Bench => Ok(Command::Bench {
             number: values.number,
+            job: job_with(alloc, matches, values.config)?,
+        }),
+        Verb::Compare => Ok(Command::Compare {
+            file: operand(alloc, matches, "FILE")?,
             job: job_with(alloc, matches, values.config)?,
         }),
         Verb::Plain => Ok(Command::Plain {

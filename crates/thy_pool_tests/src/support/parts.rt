@@ -88,15 +88,17 @@ pub(crate) fn cpu_at(count: u64) -> CpuState
     }
 }
 
-/// Stops the test unless a geometry is of seven pages of a program and one of the console.
+/// Stops the test unless a geometry is of seven pages of a program, one of the console, and one hart.
 fn has_least_memory(rt: &impl Abort, geometry: &Geometry)
     ensures pages { geometry.now.pages ≡ 8 }
     ensures console { geometry.now.console ≡ 1 }
+    ensures harts { geometry.now.harts ≡ 1 }
     ensures in_range { IsInRange geometry.now }
 {
     let numbers = geometry.numbers();
     assert!(rt; numbers.pages == 8);
     assert!(rt; numbers.console == 1);
+    assert!(rt; numbers.harts == 1);
 }
 
 fn new_boot(rt: &impl Abort, alloc: Global, geometry: &Geometry) -> Boot

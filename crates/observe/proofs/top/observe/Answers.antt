@@ -1,6 +1,6 @@
 use Rattle.std.proofs.Common.{refl, sym, ap, ◌∙◌, inl, inr}
 use Rattle.thy_words.specs.declared.words.WordsError.TheVariants.{Usage, Memory}
-use Rattle.thy_cli.specs.Answering.{outside}
+use Rattle.thy_cli.specs.Answering.{around}
 use Rattle.observe.specs.Observing.{is_taken_by}
 use Rattle.observe.proofs.top.observe.Goals as goal
 
@@ -31,7 +31,7 @@ pub returns-then-not-was_begun : goal.returns-then-not-was_begun
 returns-then-not-was_begun g c =
     let x = c.observed-answer.new in
     inr (record {
-      middle = outside (g.H.Shelf.stock x.shelf) (g.N.Nvm.device x.nvm) (g.T.Sink.stream x.terminal) (g.R.Sink.stream x.report);
+      middle = around (g.H.Shelf.stock x.shelf) x.nvm (g.T.Sink.stream x.terminal) (g.R.Sink.stream x.report);
       answer = c.observed-answer.result;
       tally = x.observer;
       claim = c.observed-answer.ensures;
@@ -42,7 +42,7 @@ pub returns : goal.returns
 returns g c =
     let x = c.observed-answer.new in
     inr (record {
-      middle = outside (g.H.Shelf.stock x.shelf) (g.N.Nvm.device x.nvm) (g.T.Sink.stream x.terminal) (g.R.Sink.stream x.report);
+      middle = around (g.H.Shelf.stock x.shelf) x.nvm (g.T.Sink.stream x.terminal) (g.R.Sink.stream x.report);
       answer = c.observed-answer.result;
       tally = x.observer;
       claim = c.observed-answer.ensures;
@@ -50,7 +50,7 @@ returns g c =
         text = _;
         why = c.put_text-why.result;
         put = c.put_text-why.ensures;
-        device = refl;
+        nvm = refl;
         terminal = refl;
         is_told = c.tell.ensures;
       });
@@ -60,7 +60,7 @@ pub returns-in_default : goal.returns-in_default
 returns-in_default g c =
     let x = c.observed-answer.new in
     inr (record {
-      middle = outside (g.H.Shelf.stock x.shelf) (g.N.Nvm.device x.nvm) (g.T.Sink.stream x.terminal) (g.R.Sink.stream x.report);
+      middle = around (g.H.Shelf.stock x.shelf) x.nvm (g.T.Sink.stream x.terminal) (g.R.Sink.stream x.report);
       answer = c.observed-answer.result;
       tally = x.observer;
       claim = c.observed-answer.ensures;

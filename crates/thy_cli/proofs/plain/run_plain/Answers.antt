@@ -7,6 +7,7 @@ use Rattle.thy_isa.specs.declared.state.MachState.{MachState}
 use Rattle.thy_isa.specs.Step.{state_of}
 use Rattle.thy_text.specs.Lines.{ended_lines}
 use Rattle.thy_run.specs.Sending.{Sent}
+use Rattle.thy_cli.specs.declared.answer.Answer.{Answer}
 use Rattle.thy_cli.specs.declared.refusal.Refusal.TheVariants.{Memory}
 use Rattle.thy_cli.specs.Answering.{outside}
 use Rattle.thy_cli.proofs.PlainLemmas.{IsPlainOf-ran}
@@ -42,13 +43,16 @@ returns-in-Ok-load g c = λ n job h.
     let last : MachState = c.state-state.result.now in
     let program = c.in-Ok.ensures.program job (record { numbers = numbers; reads = h.reads }) in
     let ran = IsPlainOf-ran c.args.name.now job (outside old n (g.T.Sink.stream c.args.terminal.now) (g.R.Sink.stream c.args.report.now))
-    (outside new n (g.T.Sink.stream c.write_bytes-terminal_failed.new.terminal) (g.R.Sink.stream c.answer.new.report))
+    (outside new n (g.T.Sink.stream c.write_bytes-terminal_failed.new.terminal) (g.R.Sink.stream c.stopped.new.report))
     c.in-Ok.program c.in-Ok-load.machine _ last _ _ c.write_bytes-terminal_failed.result c.write_end-report_failed.result c.plain_stop.result c.answer.result (g.R.Sink.stream c.write_end-report_failed.new.report)
     program (stock_same old new c.in-Ok.ensures.held c.in-Ok.ensures.calm)
     c.in-Ok-load.ensures.machine (ap (λ (x : Parameters). x.limit) c.numbers-limit.ensures.same) c.run-cycles.ensures.stops c.run-cycles.ensures.state c.state-state.ensures
     (subst (Sent c.write_bytes-terminal_failed.result (g.T.Sink.stream c.args.terminal.now) (g.T.Sink.stream c.write_bytes-terminal_failed.new.terminal)) c.as_slice.ensures c.write_bytes-terminal_failed.ensures.bytes)
     (subst (λ d. Sent c.write_end-report_failed.result (g.R.Sink.stream c.args.report.now) (g.R.Sink.stream c.write_end-report_failed.new.report) (ended_lines d last.status last.count (bytes_of last.memory))) (sym h.digests) c.write_end-report_failed.ensures)
-    c.plain_stop.ensures c.answer.ensures.closes (c.answer.ensures.events ∙ c.new.ensures) c.answer.ensures.cycles c.answer.ensures.status in
+    c.plain_stop.ensures c.stopped.ensures.closes
+    (ap (λ (a : Answer). a.events) c.answer.ensures ∙ c.stopped.ensures.events ∙ c.new.ensures)
+    (ap (λ (a : Answer). a.cycles) c.answer.ensures ∙ c.stopped.ensures.cycles)
+    (ap (λ (a : Answer). a.status) c.answer.ensures ∙ c.stopped.ensures.status) in
     let base = ap (λ (x : Parameters). x.base) (c.numbers.ensures.same ∙ program.geometry) in (
       (refl, inr ran.0),
       subst (λ s. g.O.Observer.has_seen_last c.see_last.new.self job.config.base s) (sym ran.1)

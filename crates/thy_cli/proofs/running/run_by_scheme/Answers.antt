@@ -1,4 +1,4 @@
-use Rattle.std.proofs.Common.{◌≡◌, sym, subst}
+use Rattle.std.proofs.Common.{sym, subst}
 use Rattle.thy_base.specs.declared.config.SchemeName.{SchemeName}
 use Rattle.thy_base.specs.Geometry.{parameters_of}
 use Rattle.thy_words.specs.Settings.{job_of}

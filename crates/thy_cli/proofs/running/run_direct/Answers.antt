@@ -1,12 +1,11 @@
-use Rattle.std.proofs.Common.{◌≡◌, ap, sym, refl, inl, ◌∙◌, arith}
+use Rattle.std.proofs.Common.{◌≡◌, ap, sym, refl, ◌∙◌, arith}
 use Rattle.thy_base.specs.declared.config.Config.{Config}
 use Rattle.thy_base.specs.declared.nvm.Shape.{Shape}
 use Rattle.thy_base.specs.Device.{Device, fitted}
 use Rattle.thy_image.proofs.LawLemmas.{some_blocks}
-use Rattle.thy_cli.specs.declared.refusal.Refusal.TheVariants.{Device as DeviceRefusal}
 use Rattle.thy_cli.specs.Answering.{Outside, outside, shape_for}
 use Rattle.thy_cli.specs.Planning.{named}
-use Rattle.thy_cli.proofs.LevellingLemmas.{IsFoundAs-direct, IsLeftAs-direct, IsRunOver-seen}
+use Rattle.thy_cli.proofs.LevellingLemmas.{IsFoundAs-direct, IsLeftAs-direct, RunOverSeen-seen}
 use Rattle.thy_cli.proofs.TopLemmas.{fitted_for_plan, shape_planned}
 use Rattle.thy_cli.proofs.running.run_direct.Goals as goal
 
@@ -20,22 +19,11 @@ fit-requires-clause-start g c =
     (fitted_for_plan g.M.Computer.kind g.met.M.Computer.lawful c.args.plan.now c.requires.reads c.args.blocks.items c.shape_of-shape.result (g.N.Nvm.device c.args.nvm.now) c.requires.can
     (ap (λ (s : Shape). s.blocks) c.shape_of-shape.ensures.shape)).fits
 
-pub returns-in-Err : goal.returns-in-Err
-returns-in-Err g c = λ job names p. (
-  inl (
-    DeviceRefusal c.in-Err.error,
-    (p.program, record { faults = refl; failed = refl }, c.in-Err.ensures.err),
-    record {
-      status = c.refuse.ensures.status;
-      events = c.refuse.ensures.events;
-      cycles = c.refuse.ensures.cycles;
-      shown_none = refl;
-      held = refl;
-      closes = c.refuse.ensures.closes;
-    },
-  ),
-  c.requires.unseen,
-)
+pub returns-in-Err-clause-unfitted : goal.returns-in-Err-clause-unfitted
+returns-in-Err-clause-unfitted g c = record { failed = c.in-Err.ensures.err; shelf = refl; terminal = refl; report = refl }
+
+pub returns-in-Err-clause-unseen : goal.returns-in-Err-clause-unseen
+returns-in-Err-clause-unseen g c = c.requires.unseen
 
 pub run_fitted-requires-clause-fitted : goal.run_fitted-requires-clause-fitted
 run_fitted-requires-clause-fitted g c = record {
@@ -50,8 +38,8 @@ run_fitted-requires-clause-fitted g c = record {
   is_fitted = c.in-Ok.ensures.ok;
 }
 
-pub returns-in-Ok : goal.returns-in-Ok
-returns-in-Ok g c = λ job names p.
+pub returns-in-Ok-clause-runs : goal.returns-in-Ok-clause-runs
+returns-in-Ok-clause-runs g c = λ job names p.
     let K = g.M.Computer.kind in
     let n : Device = g.N.Nvm.device c.args.nvm.now in
     let before : Outside = outside (g.H.Shelf.stock c.args.shelf.now) n (g.T.Sink.stream c.args.terminal.now) (g.R.Sink.stream c.args.report.now) in
@@ -59,5 +47,5 @@ returns-in-Ok g c = λ job names p.
     let none : job.config.gap ≡ 0 = ap (λ (x : Config). x.gap) (sym p.config) ∙ c.requires.direct in
     let fit : g.N.Nvm.device c.fit.new.self ≡ fitted (shape_for K job.config) c.args.blocks.items n =
     c.in-Ok.ensures.ok ∙ ap (λ s. fitted s c.args.blocks.items n) (c.shape_of-shape.ensures.shape ∙ shape_planned K (named c.args.source) job before.shelf c.args.plan.now c.args.blocks.items p) in
-    IsRunOver-seen K g.O.Observer.has_seen (named c.args.source) job before after n after.device c.run_fitted.result c.run_fitted.new.observer (IsFoundAs-direct job.config.gap n) (IsLeftAs-direct job.config.gap after.device none)
+    RunOverSeen-seen K g.O.Observer.has_seen (named c.args.source) job before p.program after n after.device c.run_fitted.result c.run_fitted.new.observer (IsFoundAs-direct job.config.gap n) (IsLeftAs-direct job.config.gap after.device none)
     (c.run_fitted.ensures.runs job c.args.blocks.items n names p fit)

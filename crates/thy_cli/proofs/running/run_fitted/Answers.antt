@@ -20,14 +20,14 @@ save_run-why-requires g c =
 pub returns-clause-runs : goal.returns-clause-runs
 returns-clause-runs g c = λ job blocks found names p fit.
     let before : Outside = outside (g.H.Shelf.stock c.args.shelf.now) found (g.T.Sink.stream c.args.terminal.now) (g.R.Sink.stream c.args.report.now) in
-    let after : Outside = outside (g.H.Shelf.stock c.save_run-why.new.shelf) (g.N.Nvm.device c.save_run-why.new.nvm) (g.T.Sink.stream c.run-ending.new.terminal) (g.R.Sink.stream c.answer.new.report) in
+    let after : Outside = outside (g.H.Shelf.stock c.save_run-why.new.shelf) (g.N.Nvm.device c.save_run-why.new.nvm) (g.T.Sink.stream c.run-ending.new.terminal) (g.R.Sink.stream c.stopped.new.report) in
     let e = c.run-ending.result in
     IsRunOf-ran g.M.Computer.kind g.met.M.Computer.lawful g.O.Observer.has_seen (named c.args.source) job (option_map (λ n. n.now) c.args.save) before after c.args.plan.now blocks
-    (g.N.Nvm.device c.args.nvm.now) (g.N.Nvm.device c.run-ending.new.nvm) e c.answer.result (g.R.Sink.stream c.run-ending.new.report) c.save_run-why.result c.run-ending.new.observer c.requires.planned p names
+    (g.N.Nvm.device c.args.nvm.now) (g.N.Nvm.device c.run-ending.new.nvm) e c.stopped.result (g.R.Sink.stream c.run-ending.new.report) c.save_run-why.result c.run-ending.new.observer c.requires.planned p names
     fit c.run-ending.ensures.seen c.save_run-why.ensures
-    (subst (λ (l : ℕ). ClosesRun e.report_failed (summary_for (named c.args.source) e.stop e.events ++ run_line l (option_map (λ n. n.now) c.args.save) e.stop c.save_run-why.result) (g.R.Sink.stream c.run-ending.new.report) (g.R.Sink.stream c.answer.new.report))
-    (ap (λ (x : Parameters). x.limit) c.numbers-limit.ensures.same) c.answer.ensures.closes)
-    c.answer.ensures.events c.answer.ensures.cycles c.answer.ensures.status
+    (subst (λ (l : ℕ). ClosesRun e.report_failed (summary_for (named c.args.source) e.stop e.events ++ run_line l (option_map (λ n. n.now) c.args.save) e.stop c.save_run-why.result) (g.R.Sink.stream c.run-ending.new.report) (g.R.Sink.stream c.stopped.new.report))
+    (ap (λ (x : Parameters). x.limit) c.numbers-limit.ensures.same) c.stopped.ensures.closes)
+    c.stopped.ensures.stop c.stopped.ensures.events c.stopped.ensures.cycles c.stopped.ensures.status
 
 pub returns-clause-stays : goal.returns-clause-stays
 returns-clause-stays g c =

@@ -1,6 +1,6 @@
-use Rattle.std.proofs.Common.{Some, refl, ◌∙◌}
+use Rattle.std.proofs.Common.{refl, ◌∙◌}
 use Rattle.thy_view.specs.declared.did.Stall.TheVariants.{Booting}
-use Rattle.thy_view.specs.Turn.{TheHart}
+use Rattle.thy_view.specs.Turn.{Stalled}
 use Rattle.thy_core.specs.Cycles.{HasStart}
 use Rattle.thy_core.specs.MachineParts.{machine_of}
 use Rattle.thy_core_laws.proofs.BootingLaws.{sound-boot}
@@ -15,7 +15,7 @@ returns-in_err-step g c =
     let next = record m { scheme = c.boot_step.new.self } in
     let new = g.N.Nvm.device c.boot_step.new.nvm in
     let failed = c.in_err-step.ensures in
-    taken_err K (HasStart c.args.start.now) (TheHart (Some Booting)) m next n new c.from_residual.result c.from_residual.ensures.0
+    taken_err K (HasStart c.args.start.now) (Stalled Booting) m next n new c.from_residual.result c.from_residual.ensures.0
     (λ o cycles begins at booting.
     let boots = (sound-boot K o cycles m n at.sound booting).boots in
     boot_failed K o cycles m n at next new booting (failed.err o begins (record { boots = boots; up = at.sound.up })) failed.left refl)

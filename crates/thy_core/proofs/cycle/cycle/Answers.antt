@@ -1,6 +1,6 @@
-use Rattle.std.proofs.Common.{Ok, ap}
-use Rattle.thy_view.specs.Turn.{Nvm, Dram, Checkpoint, TheHart}
-use Rattle.thy_core.specs.Cycles.{IsAnyRun, HasStart}
+use Rattle.std.proofs.Common.{Ok, sym, ◌∙◌, ap}
+use Rattle.thy_view.specs.Turn.{Nvm, Dram, Checkpoint, Advances, Stalled}
+use Rattle.thy_core.specs.Cycles.{IsAnyRun, HasStart, HasInput}
 use Rattle.thy_core.specs.MachineParts.{machine_of, actor_seen}
 use Rattle.thy_core.proofs.CycleLaws.{taken_is}
 use Rattle.thy_core.proofs.cycle.cycle.Goals as goal
@@ -20,7 +20,12 @@ returns-in-Engine g c =
     taken_is g.S.Scheme.scheme IsAnyRun (HasStart c.args.start.now) Checkpoint (actor_seen c.args.actor) (machine_of c.args.m.now) (machine_of c.checkpoint.new.m) (g.N.Nvm.device c.args.nvm.now) (g.N.Nvm.device c.checkpoint.new.nvm)
     c.checkpoint.result (ap actor_seen c.in-Engine.is) (λ o begins. tt) c.checkpoint.ensures
 
-pub returns-in-Hart : goal.returns-in-Hart
-returns-in-Hart g c =
-    taken_is g.S.Scheme.scheme (HasStart c.args.start.now) (HasStart c.args.start.now) (TheHart c.in-Hart.stall) (actor_seen c.args.actor) (machine_of c.args.m.now) (machine_of c.at_hart.new.m) (g.N.Nvm.device c.args.nvm.now) (g.N.Nvm.device c.at_hart.new.nvm)
-    c.at_hart.result (ap actor_seen c.in-Hart.is) (λ o begins. begins) c.at_hart.ensures
+pub returns-in-Advances : goal.returns-in-Advances
+returns-in-Advances g c =
+    taken_is g.S.Scheme.scheme (HasInput c.as_slice.result.now) (HasStart c.args.start.now) (Advances c.in-Advances.hart) (actor_seen c.args.actor) (machine_of c.args.m.now) (machine_of c.execute.new.m) (g.N.Nvm.device c.args.nvm.now) (g.N.Nvm.device c.execute.new.nvm)
+    c.execute.result (ap actor_seen c.in-Advances.is) (λ o begins. begins.input ∙ sym c.as_slice.ensures) c.execute.ensures
+
+pub returns-in-Stalled : goal.returns-in-Stalled
+returns-in-Stalled g c =
+    taken_is g.S.Scheme.scheme (HasStart c.args.start.now) (HasStart c.args.start.now) (Stalled c.in-Stalled.why) (actor_seen c.args.actor) (machine_of c.args.m.now) (machine_of c.stalled.new.m) (g.N.Nvm.device c.args.nvm.now) (g.N.Nvm.device c.stalled.new.nvm)
+    c.stalled.result (ap actor_seen c.in-Stalled.is) (λ o begins. begins) c.stalled.ensures

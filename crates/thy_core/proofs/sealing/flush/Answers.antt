@@ -1,6 +1,6 @@
-use Rattle.std.proofs.Common.{Some, Ok, refl, ap, inr}
+use Rattle.std.proofs.Common.{Ok, refl, ap, inr}
 use Rattle.thy_view.specs.declared.did.Stall.TheVariants.{Sealing}
-use Rattle.thy_view.specs.Turn.{TheHart}
+use Rattle.thy_view.specs.Turn.{Stalled}
 use Rattle.thy_core.specs.Cycles.{IsAnyRun}
 use Rattle.thy_core.specs.MachineParts.{machine_of}
 use Rattle.thy_core.proofs.CycleLaws.{taken_err, framed_once, failed_once, kept_once, flush_cycle, flush_failed}
@@ -16,7 +16,7 @@ returns-in_err-_flushed g c =
     let once = c.in_err-_flushed.ensures.once (λ is. absurd (cc)) in
     let failed = failed_once K g.N.Nvm.device c.args.m.now.store c.flush_one.new.store c.args.nvm.now c.flush_one.new.nvm
     c.requires.turn.at_moment.sound.up (inr once) c.in_err-_flushed.ensures.cause in
-    taken_err K IsAnyRun (TheHart (Some Sealing)) m next n new c.from_residual.result c.from_residual.ensures.0
+    taken_err K IsAnyRun (Stalled Sealing) m next n new c.from_residual.result c.from_residual.ensures.0
     (λ o cycles _ at sealing. flush_failed K o cycles m n at next new sealing c.requires.whole c.requires.dirty failed.0.access failed.1 refl)
     failed.0.access.frame (failed.0.counted failed.1)
 

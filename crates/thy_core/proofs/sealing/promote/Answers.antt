@@ -1,6 +1,6 @@
-use Rattle.std.proofs.Common.{Some, refl}
+use Rattle.std.proofs.Common.{refl}
 use Rattle.thy_view.specs.declared.did.Stall.TheVariants.{Sealing}
-use Rattle.thy_view.specs.Turn.{TheHart}
+use Rattle.thy_view.specs.Turn.{Stalled}
 use Rattle.thy_core.specs.Cycles.{IsAnyRun}
 use Rattle.thy_core.specs.MachineParts.{machine_of}
 use Rattle.thy_core.proofs.CycleLaws.{taken_err, stands_run, promotion_cycle, promotion_failed}
@@ -14,7 +14,7 @@ returns-in_err-promote_one g c =
     let next = record m { scheme = c.promote_one.new.self } in
     let new = g.N.Nvm.device c.promote_one.new.nvm in
     let failed = c.in_err-promote_one.ensures in
-    taken_err K IsAnyRun (TheHart (Some Sealing)) m next n new c.from_residual.result c.from_residual.ensures.0
+    taken_err K IsAnyRun (Stalled Sealing) m next n new c.from_residual.result c.from_residual.ensures.0
     (λ o cycles _ at sealing. promotion_failed K o cycles m n at next new sealing c.requires.promoting failed.err failed.left refl)
     failed.frame failed.cause
 

@@ -1,27 +1,30 @@
-use Rattle.std.proofs.Common.{◌*◌, ◌-◌, drop, ◌∙◌, ap}
+use Rattle.std.proofs.Common.{◌*◌, ◌-◌, drop, sym, ◌∙◌, ap}
 use Rattle.thy_base.specs.declared.config.Parameters.{Parameters}
 use Rattle.thy_base.specs.Bytes.{bytes_of}
 use Rattle.thy_base.specs.Device.{Device}
 use Rattle.thy_flat.specs.Flat.{console_bytes}
 use Rattle.thy_isa.specs.declared.state.CpuState.{CpuState}
 use Rattle.thy_isa.specs.Step.{state_of, state_with}
-use Rattle.thy_core_laws.specs.Machine.{memory_of}
+use Rattle.thy_view.specs.Turn.{front_of}
+use Rattle.thy_core_laws.specs.Machine.{memory_of, hart_put_back}
 use Rattle.thy_core.specs.MachineParts.{machine_of}
-use Rattle.thy_core.proofs.SnapshotLaws.{state_read}
+use Rattle.thy_core.proofs.SnapshotLaws.{state_read, console_fronted, put_back_sized}
 use Rattle.thy_core.proofs.snapshot.executing.Goals as goal
 
 pub returns-clause-state : goal.returns-clause-state
 returns-clause-state g c =
     let K = g.S.Scheme.scheme in
-    let h = c.args.m.now.hart in
     let m = machine_of c.args.m.now in
+    let h = hart_put_back m in
     let numbers = c.numbers-numbers.result in
     let memory = bytes_of c.in_ok-memory.memory in
     let console = bytes_of c.in_ok-console.console in
-    state_read h (memory_of K m (g.N.Nvm.device c.args.nvm.now)) (state_of c.state_with.result) (64 * (numbers.pages - numbers.console)) memory console c.requires.sized
+    state_read h (memory_of K m (g.N.Nvm.device c.args.nvm.now)) (state_of c.state_with.result) (64 * (numbers.pages - numbers.console)) memory console (put_back_sized m (memory_of K m (g.N.Nvm.device c.args.nvm.now)) c.requires.sized)
     (ap (λ (p : Parameters). 64 * (p.pages - p.console)) (c.numbers-numbers.ensures.same ∙ c.geometry.ensures))
-    (c.state_with.ensures ∙ ap (λ (cpu : CpuState). state_with cpu memory console) c.cpu-cpu.ensures)
+    (c.state_with.ensures ∙ ap (λ (cpu : CpuState). state_with cpu memory console) c.processor.ensures)
     c.in_ok-memory.ensures.bytes
     (c.in_ok-console.ensures.console
-    ∙ ap (λ (n : Device). drop 0 (console_bytes h.geometry (memory_of K m n) c.cpu-cpu.result.now.console_len)) c.in_ok-memory.ensures.same
-    ∙ ap (λ (cpu : CpuState). drop 0 (console_bytes h.geometry (memory_of K m (g.N.Nvm.device c.args.nvm.now)) cpu.console_len)) c.cpu-cpu.ensures)
+    ∙ ap (λ (n : Device). drop 0 (console_bytes h.geometry (memory_of K m n) c.cpu.result.now.console_len)) c.in_ok-memory.ensures.same
+    ∙ ap (λ (cpu : CpuState). drop 0 (console_bytes h.geometry (memory_of K m (g.N.Nvm.device c.args.nvm.now)) cpu.console_len)) c.cpu.ensures
+    ∙ ap (λ len. drop 0 (console_bytes h.geometry (memory_of K m (g.N.Nvm.device c.args.nvm.now)) len))
+    (sym (console_fronted (front_of m.begun) m.hart.cpu)))

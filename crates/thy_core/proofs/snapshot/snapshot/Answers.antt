@@ -27,7 +27,7 @@ returns-then-m-clause-state g c = λ o k sound unwritten.
 pub returns-then-m-clause-stopped : goal.returns-then-m-clause-stopped
 returns-then-m-clause-stopped g c = λ o before stopped.
     processor_is g.S.Scheme.scheme o before (machine_of c.args.m.now) c.bare.result
-    (c.bare.ensures ∙ ap (λ (cpu : CpuState). state_with cpu [] []) c.cpu.ensures) stopped
+    (c.bare.ensures ∙ ap (λ (cpu : CpuState). state_with cpu [] []) c.processor.ensures) stopped
 
 pub returns-in-Boot-clause-state : goal.returns-in-Boot-clause-state
 returns-in-Boot-clause-state g c = λ o k sound unwritten.

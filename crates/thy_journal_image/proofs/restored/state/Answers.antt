@@ -40,15 +40,15 @@ table_read p bytes slot has is = subst (λ (s : List Block). IsTable p (table_in
 
 -- places and processor make the state
 state_read : (p : Parameters) (g slot : List Block) (epoch : ℕ) (cpu : CpuState) (places : List ℕ) (s : State) → epoch ≡ epoch_of (block_at g 1)
-    → slot ≡ slot_in (journal_layouts p 0) g → cpu ≡ cpu_of_record slot → places ≡ memory_places p (epoch % 2) (table_in p slot)
+    → slot ≡ slot_in (journal_layouts p 0) g → cpu ≡ cpu_of_record p slot → places ≡ memory_places p (epoch % 2) (table_in p slot)
     → s ≡ state_from p cpu (map (block_at g) places)
     → (let l = journal_layouts p 0 in l.state_from (slot_in l g) (memory_in l g)) ≡ s
 state_read p g slot epoch cpu places s named of cpu_is is made =
     sym (made
     ∙ ap (λ (xs : List ℕ). state_from p cpu (map (block_at g) xs)) is
     ∙ ap (λ (c : CpuState). state_from p c (map (block_at g) (memory_places p (epoch % 2) (table_in p slot)))) cpu_is
-    ∙ ap (λ (e : ℕ). state_from p (cpu_of_record slot) (map (block_at g) (memory_places p (e % 2) (table_in p slot)))) named
-    ∙ ap (λ (x : List Block). state_from p (cpu_of_record x) (map (block_at g) (memory_places p (epoch_of (block_at g 1) % 2) (table_in p x)))) of)
+    ∙ ap (λ (e : ℕ). state_from p (cpu_of_record p slot) (map (block_at g) (memory_places p (e % 2) (table_in p slot)))) named
+    ∙ ap (λ (x : List Block). state_from p (cpu_of_record p x) (map (block_at g) (memory_places p (epoch_of (block_at g 1) % 2) (table_in p x)))) of)
 
 pub block_in-requires : goal.block_in-requires
 block_in-requires c = let long = (IsFound-checked c.args.geometry.now c.args.image.now c.requires).long in omega (arith, long)

@@ -13,5 +13,5 @@ returns-in-Some c =
 
 pub returns : goal.returns
 returns c =
-    slot_status c.args.geometry.now c.args.ceiling c.args.epoch (blocks_of c.args.slot.now) c.word_in.result c.status_fault.result c.word_in.ensures
-    c.if-word_in-epoch.false c.in_default.ensures c.status_fault.ensures
+    slot_status c.args.geometry.now c.args.ceiling c.args.epoch (blocks_of c.args.slot.now) c.word_in.result c.cpu_fault.result c.word_in.ensures
+    c.if-word_in-epoch.false c.in_default.ensures c.cpu_fault.ensures

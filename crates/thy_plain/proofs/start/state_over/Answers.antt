@@ -12,7 +12,7 @@ returns-clause-storable c =
     let bytes : All IsByte (bytes_of c.args.memory) = subst (λ (l : List ℕ). All IsByte l) c.as_slice.ensures c.are_bytes.ensures in
     let start : IsStorable _ (start_state p (record { entry = c.args.entry; floor = c.args.floor; memory = bytes_of c.args.memory })) =
     start_state-storable p _ c.start_regs.ensures.top (record { entry = c.ranges.entry.fits; floor = c.ranges.floor.fits; bytes = bytes }) in
-    rw (c.start_regs.ensures.regs, c.requires) start
+    rw (c.start_regs.ensures.regs, c.start_other.ensures, c.requires) start
 
 pub returns-clause-state : goal.returns-clause-state
 returns-clause-state c = search rules

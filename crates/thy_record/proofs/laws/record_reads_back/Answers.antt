@@ -2,7 +2,7 @@ use Rattle.thy_record.proofs.ReadBackLemmas.{cpu_back, epoch_back}
 use Rattle.thy_record.proofs.laws.record_reads_back.Goals as goal
 
 pub returns : goal.returns
-returns c = λ cpu epoch blocks fits of. record {
-  cpu_back = cpu_back cpu epoch blocks fits of;
-  epoch_back = epoch_back cpu epoch blocks fits of;
+returns c = λ p cpu epoch blocks fits of. record {
+  cpu_back = cpu_back p cpu epoch blocks fits of;
+  epoch_back = epoch_back p cpu epoch blocks fits of;
 }

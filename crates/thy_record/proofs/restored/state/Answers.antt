@@ -43,12 +43,12 @@ are_inside p bytes places slot has of is =
     (AreInside-memory p (tables_in p (slot_in p (blocks_of bytes))) bytes whole.places whole.tables)
 
 -- with the processor of the slot they make the state
-state_is : (p : Parameters) (image slot : List Block) (cpu : CpuState) (places : List ℕ) → slot ≡ slot_in p image → cpu ≡ cpu_of_record slot
+state_is : (p : Parameters) (image slot : List Block) (cpu : CpuState) (places : List ℕ) → slot ≡ slot_in p image → cpu ≡ cpu_of_record p slot
     → places ≡ memory_numbers p (tables_in p slot) → state_from p cpu (map (block_at image) places) ≡ state_in p image
 state_is p image slot cpu places of cpu_is is =
     ap (λ (xs : List ℕ). state_from p cpu (map (block_at image) xs)) is
     ∙ ap (λ (c : CpuState). state_from p c (map (block_at image) (memory_numbers p (tables_in p slot)))) cpu_is
-    ∙ ap (λ (s : List Block). state_from p (cpu_of_record s) (map (block_at image) (memory_numbers p (tables_in p s)))) of
+    ∙ ap (λ (s : List Block). state_from p (cpu_of_record p s) (map (block_at image) (memory_numbers p (tables_in p s)))) of
 
 pub state_at-requires-clause-all : goal.state_at-requires-clause-all
 state_at-requires-clause-all c =

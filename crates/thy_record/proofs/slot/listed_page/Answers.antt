@@ -1,4 +1,5 @@
-use Rattle.std.proofs.Common.{arith, ap, length, ◌+◌}
+use Rattle.std.proofs.Common.{arith, ap, length, ◌+◌, ◌*◌}
+use Rattle.thy_base.specs.Places.{record_blocks}
 use Rattle.thy_record.specs.Files.{blocks_of}
 use Rattle.thy_record.proofs.ClashLemmas.{length-table_in}
 use Rattle.thy_record.proofs.SlotLemmas.{length-entries_in}
@@ -7,4 +8,4 @@ use Rattle.thy_record.proofs.slot.listed_page.Goals as goal
 pub entry-requires : goal.entry-requires
 entry-requires c =
     let p = c.args.geometry.now in
-    omega (arith, length-table_in c.ptt_in.result.now, length-entries_in (blocks_of c.args.slot.now) (40 + p.btt) p.ptt, ap length c.ptt_in.ensures, c.requires.entry)
+    omega (arith, length-table_in c.ptt_in.result.now, length-entries_in (blocks_of c.args.slot.now) (8 * record_blocks p + p.btt) p.ptt, ap length c.ptt_in.ensures, c.requires.entry)

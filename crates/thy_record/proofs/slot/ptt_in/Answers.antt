@@ -1,5 +1,6 @@
 use Rattle.std.proofs.Common.{◌≡◌, ◌+◌, ◌*◌, ◌%◌, ap, arith}
 use Rattle.thy_base.specs.declared.config.Parameters.{Parameters}
+use Rattle.thy_base.specs.Places.{record_blocks}
 use Rattle.thy_record.proofs.FileLemmas.{table_in-slice}
 use Rattle.thy_record.proofs.slot.ptt_in.Goals as goal
 use Rattle.thy_base.proofs.RangeLemmas.{btt_eights, ptt_eights}
@@ -10,5 +11,5 @@ returns c =
     let ptt : c.numbers-p.result.ptt ≡ c.args.geometry.now.ptt = ap (λ (p : Parameters). p.ptt) c.numbers-p.ensures.same in
     let btt8 : c.args.geometry.now.btt % 8 ≡ 0 = btt_eights c.args.geometry.now c.numbers-p.ensures.in_range in
     let ptt8 : c.args.geometry.now.ptt % 8 ≡ 0 = ptt_eights c.args.geometry.now c.numbers-p.ensures.in_range in
-    table_in-slice c.args.slot.now _ (320 + 8 * c.numbers-p.result.btt) (40 + c.args.geometry.now.btt) c.args.geometry.now.ptt
-    (omega arith) (omega arith) (omega (arith, c.requires))
+    table_in-slice c.args.slot.now _ _ (8 * record_blocks c.args.geometry.now + c.args.geometry.now.btt) c.args.geometry.now.ptt
+    (omega arith) (omega (arith, c.record_size.ensures.size)) (omega (arith, c.requires))

@@ -1,31 +1,22 @@
-use Rattle.std.proofs.Common.{◌≡◌, ◌∙◌, List, Option, ℕ, ap}
+use Rattle.std.proofs.Common.{◌∙◌, List, Option, ap}
 use Rattle.std.specs.Option.{option_or}
+use Rattle.thy_base.specs.declared.block.Block.{Block}
 use Rattle.thy_base.specs.declared.config.Parameters.{Parameters}
+use Rattle.thy_record.specs.declared.bad_image.BadImage.{BadImage}
 use Rattle.thy_record.specs.Files.{blocks_of}
-use Rattle.thy_record.specs.Slots.{tables_in, status_fault}
-use Rattle.thy_record.specs.Tables.{Tables}
-use Rattle.thy_record.specs.TableFaults.{tables_fault}
-use Rattle.thy_record.proofs.CheckLemmas.{slot_epoch, slot_tables, slot_status}
+use Rattle.thy_record.specs.Slots.{head_fault, count_fault}
+use Rattle.thy_record.proofs.CheckLemmas.{slot_fault-parts}
 use Rattle.thy_record.proofs.slot.slot_fault.Goals as goal
-
--- the tables by their bytes are the slot's
-same_tables : (p : Parameters) (t : Tables) (btt ptt : List (Option ℕ)) → btt ≡ t.btt → ptt ≡ t.ptt
-    → tables_fault p (record { btt = btt; ptt = ptt }) ≡ tables_fault p t
-same_tables p t btt ptt a b = ap (λ x. tables_fault p (record { btt = x; ptt = ptt })) a ∙ ap (λ x. tables_fault p (record { btt = t.btt; ptt = x })) b
-
-pub returns-then-word_in-epoch : goal.returns-then-word_in-epoch
-returns-then-word_in-epoch c =
-    slot_epoch c.args.version c.args.geometry.now c.args.ceiling c.args.epoch (blocks_of c.args.slot.now) c.word_in.result c.word_in.ensures c.if-word_in-epoch.true
-
-pub returns-in-Some : goal.returns-in-Some
-returns-in-Some c =
-    slot_tables c.args.version c.args.geometry.now c.args.ceiling c.args.epoch (blocks_of c.args.slot.now) c.word_in.result c.in-Some.bad c.word_in.ensures c.if-word_in-epoch.false
-    (c.in-Some.ensures ∙ same_tables c.args.geometry.now (tables_in c.args.geometry.now (blocks_of c.args.slot.now)) _ _ c.btt_in.ensures c.ptt_in.ensures)
 
 pub returns : goal.returns
 returns c =
-    slot_status c.args.version c.args.geometry.now c.args.ceiling c.args.epoch (blocks_of c.args.slot.now) c.word_in.result _ c.word_in.ensures c.if-word_in-epoch.false
-    (c.in_default.ensures ∙ same_tables c.args.geometry.now (tables_in c.args.geometry.now (blocks_of c.args.slot.now)) _ _ c.btt_in.ensures c.ptt_in.ensures)
+    let p : Parameters = c.args.geometry.now in
+    let slot : List Block = blocks_of c.args.slot.now in
+    let head : Option BadImage = head_fault p c.args.ceiling c.args.epoch slot in
+    c.or-2.ensures
+    ∙ ap (λ (x : Option BadImage). option_or x c.second_fault.result)
     (c.or.ensures
-    ∙ ap (λ x. option_or x c.count_fault.result) c.status_fault.ensures
-    ∙ ap (option_or (status_fault c.args.geometry.now c.args.ceiling (blocks_of c.args.slot.now))) c.count_fault.ensures)
+    ∙ ap (λ (x : Option BadImage). option_or x c.count_fault.result) c.head_fault-head.ensures
+    ∙ ap (option_or head) c.count_fault.ensures)
+    ∙ ap (option_or (option_or head (count_fault c.args.version p slot))) c.second_fault.ensures
+    ∙ slot_fault-parts c.args.version p c.args.ceiling c.args.epoch slot

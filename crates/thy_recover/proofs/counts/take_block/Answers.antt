@@ -2,7 +2,7 @@ use Rattle.std.proofs.Common.{◌≡◌, ℕ, ◌+◌, ◌<◌, List, take, Some
 use Rattle.thy_base.specs.declared.block.Block.{Block}
 use Rattle.thy_base.specs.declared.config.Parameters.{Parameters}
 use Rattle.thy_base.specs.declared.layout_version.LayoutVersion.TheVariants.{VersionTwo}
-use Rattle.thy_base.specs.Places.{table_blocks}
+use Rattle.thy_base.specs.Places.{record_blocks, table_blocks}
 use Rattle.thy_record.specs.Files.{blocks_of}
 use Rattle.thy_recover.proofs.CountLemmas.{fault-stays, fault-head, counts-head, counts-of, TakesCounts-same}
 use Rattle.thy_recover.proofs.counts.take_block.Goals as goal
@@ -29,7 +29,7 @@ pub returns-then-next-first-clause-taken : goal.returns-then-next-first-clause-t
 returns-then-next-first-clause-taken c =
     let p : Parameters = c.args.geometry.now in
     let blocks : List Block = blocks_of c.args.slot.now in
-    let below : c.args.next < 5 + table_blocks p = omega (arith, c.if-next-first.true, c.record_blocks.ensures.blocks, c.table_blocks.ensures.blocks) in
+    let below : c.args.next < record_blocks p + table_blocks p = omega (arith, c.if-next-first.true, c.record_blocks.ensures.blocks, c.table_blocks.ensures.blocks) in
     TakesCounts-same VersionTwo p (take c.args.next blocks) (take (c.args.next + 1) blocks) c.args.control.now c.requires.geometry c.requires.taken
     (λ none.
     counts-of VersionTwo p (take c.args.next blocks) c.args.control.now c.requires.geometry c.requires.taken (fault-head p blocks c.args.next (omega (arith, below)))

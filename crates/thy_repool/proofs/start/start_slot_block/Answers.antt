@@ -1,6 +1,7 @@
 use Rattle.std.proofs.Common.{◌≡◌, ◌≤◌, ℕ, ◌-◌, Bool, if◌then◌else◌, List, Option, map, ◌∙◌, sym, ap, subst, arith}
 use Rattle.std.proofs.lemmas.Bool.{le-ltb}
 use Rattle.thy_base.specs.declared.config.Parameters.{Parameters}
+use Rattle.thy_base.specs.Places.{record_blocks}
 use Rattle.thy_base.specs.Words.{block_of}
 use Rattle.thy_isa.specs.Step.{state_of, cpu_of}
 use Rattle.thy_record.specs.Cpu.{cpu_block_of}
@@ -24,11 +25,11 @@ returns-else-k-record c =
     let p : Parameters = c.args.geometry.now in
     let k : ℕ = c.args.k in
     let r : ℕ = c.record_blocks-record.result in
-    let behind : 5 ≤ k = omega arith in
-    let place : k - r ≡ k - 5 = omega arith in
+    let behind : record_blocks p ≤ k = omega arith in
+    let place : k - r ≡ k - record_blocks p = ap (λ (n : ℕ). k - n) c.record_blocks-record.ensures.blocks in
     c.table_block.ensures
     ∙ ap (λ (es : List (Option ℕ)). block_of (map entry_word es)) c.first_entries.ensures
     ∙ block_of_eight (first_table p) (k - r)
     ∙ ap (table_block_of (first_table p)) place
     ∙ sym (ap (λ (t : Bool). if t then cpu_block_of (cpu_of (state_of c.args.state.now)) 0 k
-    else table_block_of (first_table p) (k - 5)) (le-ltb k 5 behind))
+    else table_block_of (first_table p) (k - record_blocks p)) (le-ltb k (record_blocks p) behind))

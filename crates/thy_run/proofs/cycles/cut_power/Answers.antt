@@ -7,9 +7,9 @@ use Rattle.thy_run.specs.declared.advance.Outcome.TheVariants.{Goes}
 use Rattle.thy_run.specs.declared.ending.Ending.{Ending}
 use Rattle.thy_run.specs.declared.ending.Stop.TheVariants.{Memory}
 use Rattle.thy_run.specs.Sending.{Sent, Sends}
-use Rattle.thy_run.specs.Going.{world_at}
+use Rattle.thy_run.specs.Going.{turns_then, world_at}
 use Rattle.thy_run.specs.Rounds.{round_of, RunEndsAt, IsRound}
-use Rattle.thy_run.proofs.AdvanceLemmas.{can_cut}
+use Rattle.thy_run.proofs.AdvanceLemmas.{cut_turns, can_cut}
 use Rattle.thy_run.proofs.RoundLemmas.{IsRound-cut, RunEnds-uncut}
 use Rattle.thy_run.proofs.SeeingLemmas.{RunEndsSeen-at, Watched-cut, Watched-forgotten}
 use Rattle.thy_run.proofs.cycles.cut_power.Goals as goal
@@ -17,11 +17,11 @@ use Rattle.thy_run.proofs.cycles.cut_power.Goals as goal
 pub cut-requires : goal.cut-requires
 cut-requires g c =
     let h = c.requires.awaits in
-    can_cut g.M.Computer.kind g.met.M.Computer.lawful c.args.plan.now h.1 c.args.progress h.2 (g.N.Nvm.device c.args.nvm.now) c.args.done h.5 _ (bytes_of c.args.bytes) h.7.noted
-    h.0 (c.args.done + 1) c.requires.planned h.6.goes h.7.due
+    can_cut g.M.Computer.kind g.met.M.Computer.lawful c.args.plan.now h.1 c.args.progress h.2 (g.N.Nvm.device c.args.nvm.now) c.args.done h.3 h.6 _ (bytes_of c.args.bytes) h.8.noted
+    h.0 (c.args.done + 1) c.requires.planned h.7.goes h.8.due
 
-pub returns-in-Err-clause-seen : goal.returns-in-Err-clause-seen
-returns-in-Err-clause-seen g c = λ fitted p n t r step running w awaits first.
+pub returns-in-Err : goal.returns-in-Err
+returns-in-Err g c = λ fitted p n turns t r step running w awaits first.
     let K = g.M.Computer.kind in
     let plan = c.args.plan.now in
     let q = c.args.progress in
@@ -34,20 +34,20 @@ returns-in-Err-clause-seen g c = λ fitted p n t r step running w awaits first.
     let report_failed = c.tell-failures.result.report in
     let L : ℕ → Type 0 = λ k. Sends (report_of plan.digest (take k c.in-Err.events)) (report_of plan.digest c.in-Err.events) report_failed r1 r2 in
     let Q : List Event → Type 0 = λ vs. Sends (report_of plan.digest (take (length p.events) vs)) (report_of plan.digest vs) report_failed r1 r2 in
-    let E : List Event → Type 0 = λ vs. RunEndsAt K plan fitted m (record { stop = Memory; events = vs; cycles = c.args.done; terminal_failed = terminal_failed; report_failed = report_failed }) t t2 r r2 (world_at p n c.args.done) in
-    let D : Device → Type 0 = λ d. RunEndsAt K plan fitted d (record { stop = Memory; events = c.in-Err.events; cycles = c.args.done; terminal_failed = terminal_failed; report_failed = report_failed }) t t2 r r2 (world_at p n c.args.done) in
-    RunEndsSeen-at K g.O.Observer.has_seen plan fitted (g.N.Nvm.device c.cut.new.nvm) (record { stop = Memory; events = c.in-Err.events; cycles = c.args.done; terminal_failed = terminal_failed; report_failed = report_failed }) t t2 r r2 p n c.args.done c.forget.new.self
+    let E : List Event → Type 0 = λ vs. RunEndsAt K plan fitted m (record { stop = Memory; events = vs; cycles = c.args.done; terminal_failed = terminal_failed; report_failed = report_failed }) t t2 r r2 (world_at p n c.args.done turns) in
+    let D : Device → Type 0 = λ d. RunEndsAt K plan fitted d (record { stop = Memory; events = c.in-Err.events; cycles = c.args.done; terminal_failed = terminal_failed; report_failed = report_failed }) t t2 r r2 (world_at p n c.args.done turns) in
+    RunEndsSeen-at K g.O.Observer.has_seen plan fitted (g.N.Nvm.device c.cut.new.nvm) (record { stop = Memory; events = c.in-Err.events; cycles = c.args.done; terminal_failed = terminal_failed; report_failed = report_failed }) t t2 r r2 p n c.args.done turns c.forget.new.self
     (subst D (sym c.in-Err.ensures.same)
     (subst E (sym c.in-Err.ensures.events)
-    (RunEnds-uncut K g.met.M.Computer.lawful plan fitted p q n m c.args.done step (bytes_of c.args.bytes) terminal_failed report_failed t t1 t2 r r1 r2 running c.requires.few
+    (RunEnds-uncut K g.met.M.Computer.lawful plan fitted p q n m c.args.done turns step (bytes_of c.args.bytes) terminal_failed report_failed t t1 t2 r r1 r2 running c.requires.few
     (subst (Sent terminal_failed t1 t2) c.as_slice.ensures c.tell-failures.ensures.terminal) awaits
     (λ none. c.tell-failures.ensures.on_terminal (c.as_slice.ensures ∙ none))
     (λ same. c.tell-failures.ensures.on_report (first ∙ ap length (sym (c.in-Err.ensures.events ∙ same))))
     (subst Q c.in-Err.ensures.events (subst L first c.tell-failures.ensures.report))))) refl
-    (Watched-forgotten K g.O.Observer.has_seen g.O.Observer.keeps plan fitted p q n m c.args.done step c.args.observer.now c.forget.new.self w c.forget.ensures)
+    (Watched-forgotten K g.O.Observer.has_seen g.O.Observer.keeps plan fitted p q n m c.args.done turns step c.args.observer.now c.forget.new.self w c.forget.ensures)
 
-pub returns-then-failures-clause-seen : goal.returns-then-failures-clause-seen
-returns-then-failures-clause-seen g c = λ fitted p n t r step running w awaits first.
+pub returns-then-failures : goal.returns-then-failures
+returns-then-failures g c = λ fitted p n turns t r step running w awaits first.
     let K = g.M.Computer.kind in
     let S = g.O.Observer.has_seen in
     let plan = c.args.plan.now in
@@ -61,17 +61,17 @@ returns-then-failures-clause-seen g c = λ fitted p n t r step running w awaits 
     let terminal_failed = c.tell-failures-2.result.terminal in
     let report_failed = c.tell-failures-2.result.report in
     let L : ℕ → Type 0 = λ k. Sends (report_of plan.digest (take k q.events)) (report_of plan.digest q.events) report_failed r1 r2 in
-    let round = IsRound-cut K g.met.M.Computer.lawful plan fitted p c.args.progress n m c.args.done step (bytes_of c.args.bytes) terminal_failed report_failed t t1 t2 r r1 r2 running c.requires.few
+    let round = IsRound-cut K g.met.M.Computer.lawful plan fitted p c.args.progress n m c.args.done turns step (bytes_of c.args.bytes) terminal_failed report_failed t t1 t2 r r1 r2 running c.requires.few
     (subst (Sent terminal_failed t1 t2) c.as_slice-2.ensures c.tell-failures-2.ensures.terminal) awaits q m2 c.in-Ok.ensures.ok (subst L first c.tell-failures-2.ensures.report) in
-    let P : Bool → Type 0 = λ b. IsRound K plan fitted p (record q { terminal_failed = terminal_failed; report_failed = report_failed }) n m2 c.args.done t t1 t2 r r1 r2 (round_of Goes terminal_failed b) in
-    let E : Ending → Type 0 = λ e. RunEndsAt K plan fitted m2 e t t2 r r2 (world_at q m2 (c.args.done + 1)) in
-    RunEndsSeen-at K S plan fitted m2 c.ended_by.result t t2 r r2 q m2 (c.args.done + 1) c.see_cut.new.self
+    let P : Bool → Type 0 = λ b. IsRound K plan fitted p (record q { terminal_failed = terminal_failed; report_failed = report_failed }) n m2 c.args.done turns (cut_turns K plan (turns_then plan turns step.did) m2) t t1 t2 r r1 r2 (round_of Goes terminal_failed b) in
+    let E : Ending → Type 0 = λ e. RunEndsAt K plan fitted m2 e t t2 r r2 (world_at q m2 (c.args.done + 1) (cut_turns K plan (turns_then plan turns step.did) m2)) in
+    RunEndsSeen-at K S plan fitted m2 c.ended_by.result t t2 r r2 q m2 (c.args.done + 1) (cut_turns K plan (turns_then plan turns step.did) m2) c.see_cut.new.self
     (subst E (sym c.ended_by.ensures) (subst P c.if-failures.true round)) (ap (λ (e : Ending). e.cycles) c.ended_by.ensures)
-    (Watched-cut K g.met.M.Computer.lawful S g.O.Observer.keeps plan fitted p c.args.progress q n m m2 c.args.done step (bytes_of c.args.bytes) (c.len.result - c.args.first) c.args.first c.len.result c.args.observer.now c.see_cut.new.self
+    (Watched-cut K g.met.M.Computer.lawful S g.O.Observer.keeps plan fitted p c.args.progress q n m m2 c.args.done turns step (bytes_of c.args.bytes) (c.len.result - c.args.first) c.args.first c.len.result c.args.observer.now c.see_cut.new.self
     awaits c.in-Ok.ensures.ok refl c.len.ensures first w c.see_cut.ensures)
 
-pub returns-then-failures-2-clause-seen : goal.returns-then-failures-2-clause-seen
-returns-then-failures-2-clause-seen g c = λ fitted p n t r step running w awaits first.
+pub returns-then-failures-2 : goal.returns-then-failures-2
+returns-then-failures-2 g c = λ fitted p n turns t r step running w awaits first.
     let K = g.M.Computer.kind in
     let S = g.O.Observer.has_seen in
     let plan = c.args.plan.now in
@@ -85,23 +85,17 @@ returns-then-failures-2-clause-seen g c = λ fitted p n t r step running w await
     let terminal_failed = c.tell-failures-2.result.terminal in
     let report_failed = c.tell-failures-2.result.report in
     let L : ℕ → Type 0 = λ k. Sends (report_of plan.digest (take k q.events)) (report_of plan.digest q.events) report_failed r1 r2 in
-    let round = IsRound-cut K g.met.M.Computer.lawful plan fitted p c.args.progress n m c.args.done step (bytes_of c.args.bytes) terminal_failed report_failed t t1 t2 r r1 r2 running c.requires.few
+    let round = IsRound-cut K g.met.M.Computer.lawful plan fitted p c.args.progress n m c.args.done turns step (bytes_of c.args.bytes) terminal_failed report_failed t t1 t2 r r1 r2 running c.requires.few
     (subst (Sent terminal_failed t1 t2) c.as_slice-2.ensures c.tell-failures-2.ensures.terminal) awaits q m2 c.in-Ok.ensures.ok (subst L first c.tell-failures-2.ensures.report) in
-    let P : Bool → Bool → Type 0 = λ a b. IsRound K plan fitted p (record q { terminal_failed = terminal_failed; report_failed = report_failed }) n m2 c.args.done t t1 t2 r r1 r2 (round_of Goes a b) in
-    let E : Ending → Type 0 = λ e. RunEndsAt K plan fitted m2 e t t2 r r2 (world_at q m2 (c.args.done + 1)) in
-    RunEndsSeen-at K S plan fitted m2 c.ended_by-then-failures-2.result t t2 r r2 q m2 (c.args.done + 1) c.see_cut.new.self
+    let P : Bool → Bool → Type 0 = λ a b. IsRound K plan fitted p (record q { terminal_failed = terminal_failed; report_failed = report_failed }) n m2 c.args.done turns (cut_turns K plan (turns_then plan turns step.did) m2) t t1 t2 r r1 r2 (round_of Goes a b) in
+    let E : Ending → Type 0 = λ e. RunEndsAt K plan fitted m2 e t t2 r r2 (world_at q m2 (c.args.done + 1) (cut_turns K plan (turns_then plan turns step.did) m2)) in
+    RunEndsSeen-at K S plan fitted m2 c.ended_by-then-failures-2.result t t2 r r2 q m2 (c.args.done + 1) (cut_turns K plan (turns_then plan turns step.did) m2) c.see_cut.new.self
     (subst E (sym c.ended_by-then-failures-2.ensures) (subst (λ a. P a false) c.if-failures-2.true (subst (P terminal_failed) c.if-failures.false round))) (ap (λ (e : Ending). e.cycles) c.ended_by-then-failures-2.ensures)
-    (Watched-cut K g.met.M.Computer.lawful S g.O.Observer.keeps plan fitted p c.args.progress q n m m2 c.args.done step (bytes_of c.args.bytes) (c.len.result - c.args.first) c.args.first c.len.result c.args.observer.now c.see_cut.new.self
+    (Watched-cut K g.met.M.Computer.lawful S g.O.Observer.keeps plan fitted p c.args.progress q n m m2 c.args.done turns step (bytes_of c.args.bytes) (c.len.result - c.args.first) c.args.first c.len.result c.args.observer.now c.see_cut.new.self
     awaits c.in-Ok.ensures.ok refl c.len.ensures first w c.see_cut.ensures)
 
-pub returns-clause-seen : goal.returns-clause-seen
-returns-clause-seen g c = λ fitted p n t r step running w awaits first.
-    Watched-cut g.M.Computer.kind g.met.M.Computer.lawful g.O.Observer.has_seen g.O.Observer.keeps c.args.plan.now fitted p c.args.progress c.in-Ok.next n (g.N.Nvm.device c.args.nvm.now) (g.N.Nvm.device c.cut.new.nvm) c.args.done step (bytes_of c.args.bytes)
-    (c.len.result - c.args.first) c.args.first c.len.result c.args.observer.now c.see_cut.new.self
-    awaits c.in-Ok.ensures.ok refl c.len.ensures first w c.see_cut.ensures
-
-pub returns-clause-ok : goal.returns-clause-ok
-returns-clause-ok g c = λ fitted p n t r step running awaits first.
+pub returns : goal.returns
+returns g c = λ fitted p n turns t r step running w awaits first.
     let K = g.M.Computer.kind in
     let plan = c.args.plan.now in
     let q = c.in-Ok.next in
@@ -114,7 +108,12 @@ returns-clause-ok g c = λ fitted p n t r step running awaits first.
     let terminal_failed = c.tell-failures-2.result.terminal in
     let report_failed = c.tell-failures-2.result.report in
     let L : ℕ → Type 0 = λ k. Sends (report_of plan.digest (take k q.events)) (report_of plan.digest q.events) report_failed r1 r2 in
-    let round = IsRound-cut K g.met.M.Computer.lawful plan fitted p c.args.progress n m c.args.done step (bytes_of c.args.bytes) terminal_failed report_failed t t1 t2 r r1 r2 running c.requires.few
+    let round = IsRound-cut K g.met.M.Computer.lawful plan fitted p c.args.progress n m c.args.done turns step (bytes_of c.args.bytes) terminal_failed report_failed t t1 t2 r r1 r2 running c.requires.few
     (subst (Sent terminal_failed t1 t2) c.as_slice-2.ensures c.tell-failures-2.ensures.terminal) awaits q m2 c.in-Ok.ensures.ok (subst L first c.tell-failures-2.ensures.report) in
-    let P : Bool → Bool → Type 0 = λ a b. IsRound K plan fitted p (record q { terminal_failed = terminal_failed; report_failed = report_failed }) n m2 c.args.done t t1 t2 r r1 r2 (round_of Goes a b) in
-    subst (λ a. P a false) c.if-failures-2.false (subst (P terminal_failed) c.if-failures.false round)
+    let P : Bool → Bool → Type 0 = λ a b. IsRound K plan fitted p (record q { terminal_failed = terminal_failed; report_failed = report_failed }) n m2 c.args.done turns (cut_turns K plan (turns_then plan turns step.did) m2) t t1 t2 r r1 r2 (round_of Goes a b) in
+    record {
+      after = (cut_turns K plan (turns_then plan turns step.did) m2);
+      running = subst (λ a. P a false) c.if-failures-2.false (subst (P terminal_failed) c.if-failures.false round);
+      watched = Watched-cut K g.met.M.Computer.lawful g.O.Observer.has_seen g.O.Observer.keeps plan fitted p c.args.progress q n m m2 c.args.done turns step (bytes_of c.args.bytes)
+          (c.len.result - c.args.first) c.args.first c.len.result c.args.observer.now c.see_cut.new.self awaits c.in-Ok.ensures.ok refl c.len.ensures first w c.see_cut.ensures;
+    }

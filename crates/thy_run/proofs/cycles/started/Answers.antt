@@ -1,5 +1,10 @@
-use Rattle.std.proofs.Common.{rules}
+use Rattle.thy_run.proofs.StartLemmas.{first_is}
 use Rattle.thy_run.proofs.cycles.started.Goals as goal
 
 pub returns : goal.returns
-returns c = search rules
+returns g c = record {
+  powered = c.in_ok-machine.ensures;
+  first = first_is c.args.plan.now c.in_ok-machine.machine c.in_ok-turns.turns c.new.result c.new-2.result c.new.ensures c.new-2.ensures;
+  empty = c.in_ok-turns.ensures.empty;
+  room = c.in_ok-turns.ensures.room;
+}

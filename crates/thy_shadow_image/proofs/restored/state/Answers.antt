@@ -40,14 +40,14 @@ table_read p bytes slot has is = subst (λ (s : List Block). IsMap p (table_in p
 
 -- places and processor make the state
 state_read : (p : Parameters) (g slot : List Block) (cpu : CpuState) (places : List ℕ) (s : State)
-    → slot ≡ slot_in (shadow_layouts p 0) g → cpu ≡ cpu_of_record slot → places ≡ memory_places p (table_in p slot)
+    → slot ≡ slot_in (shadow_layouts p 0) g → cpu ≡ cpu_of_record p slot → places ≡ memory_places p (table_in p slot)
     → s ≡ state_from p cpu (map (block_at g) places)
     → (let l = shadow_layouts p 0 in l.state_from (slot_in l g) (memory_in l g)) ≡ s
 state_read p g slot cpu places s of cpu_is is made =
     sym (made
     ∙ ap (λ (xs : List ℕ). state_from p cpu (map (block_at g) xs)) is
     ∙ ap (λ (c : CpuState). state_from p c (map (block_at g) (memory_places p (table_in p slot)))) cpu_is
-    ∙ ap (λ (x : List Block). state_from p (cpu_of_record x) (map (block_at g) (memory_places p (table_in p x)))) of)
+    ∙ ap (λ (x : List Block). state_from p (cpu_of_record p x) (map (block_at g) (memory_places p (table_in p x)))) of)
 
 pub block_in-requires : goal.block_in-requires
 block_in-requires c = let long = (IsFound-checked c.args.geometry.now c.args.image.now c.requires).long in omega (arith, long)

@@ -37,10 +37,10 @@ returns-in-Some-clause-cache g c =
 pub returns-in-None-clause-effect : goal.returns-in-None-clause-effect
 returns-in-None-clause-effect g c =
     effect_read c.args.self.now.geometry c.numbers-base.result c.program_size-size.result c.args.self.now.cpu c.args.cache.now c.fetch_fault.result
-    c.fetch_word-word.result c.word_effect.result c.within.result
-    c.numbers-base.ensures.same c.program_size-size.ensures.size c.fetch_fault.ensures c.in-None.is c.fetch_word-word.ensures.word c.word_effect.ensures c.within.ensures
+    c.fetch_word-word.result c.word_effect-effect.result c.within.result
+    c.numbers-base.ensures.same c.program_size-size.ensures.size c.fetch_fault.ensures c.in-None.is c.fetch_word-word.ensures.word c.word_effect-effect.ensures c.within.ensures
 
 pub returns-in-None-clause-inside : goal.returns-in-None-clause-inside
 returns-in-None-clause-inside g c =
-    tested c.args.self.now.geometry c.numbers-base.result c.program_size-size.result c.word_effect.result c.within.result
+    tested c.args.self.now.geometry c.numbers-base.result c.program_size-size.result c.args.self.now.cpu.other c.word_effect-effect.result c.within.result
     c.numbers-base.ensures.same c.program_size-size.ensures.size c.within.ensures

@@ -1,4 +1,4 @@
-use Rattle.std.proofs.Common.{◌≡◌, IfOk, OnOk, [], subst}
+use Rattle.std.proofs.Common.{◌≡◌, IfOk, OnOk, [], ◌∙◌, ap, subst}
 use Rattle.thy_base.specs.declared.config.Parameters.{Parameters}
 use Rattle.thy_base.specs.declared.nvm.Shape.{Shape}
 use Rattle.thy_base.specs.Device.{Device, fitted}
@@ -12,7 +12,8 @@ invariant_of-result g c =
     let before : Device = c.new-nvm.result.device in
     let n : Device = c.fit.new.self.device in
     IsPowered-first g.M.Computer.kind g.met.M.Computer.lawful p c.start_for-start.result c.expect-machine.result shape before n
-    c.start_for-start.ensures.origin c.start_for-start.ensures.made
+    c.start_for-start.ensures.origin (ap (λ (q : Parameters). q.harts) c.geometry_of-geometry.ensures ∙ c.numbers_of.ensures.harts)
+    c.start_for-start.ensures.made
     (subst (λ r. IfOk r (λ m. g.M.Computer.kind.powered p m)) c.expect-machine.ensures c.power_on.ensures.powered)
     c.nvm_blocks.ensures (subst (λ r. OnOk r (n ≡ fitted shape [] before)) c.expect.ensures
     (subst (λ xs. OnOk c.fit.result (n ≡ fitted shape xs before)) c.new.ensures.items c.fit.ensures.ok))

@@ -1,0 +1,94 @@
+//! What the harts have reserved.
+
+ghost use Rattle.std.specs.Prelude.{◌≡◌};
+ghost use Rattle.thy_isa.specs.Reservations.{reservation, is_reserved, shares_block, left_by, written_past, reserving, front_of};
+
+use crate::instr::Width;
+use crate::state::{OtherHart, Reservation};
+
+/// The reservation of `width` bytes at an address: nothing for a byte or a half.
+pub fn reservation(width: Width, at: u64) -> Reservation
+    ensures { result ≡ reservation width at }
+{
+    match width {
+        Width::Byte | Width::Half => Reservation::Nothing,
+        Width::Word => Reservation::Word(at),
+        Width::Double => Reservation::Double(at),
+    }
+}
+
+/// Whether exactly these bytes are reserved.
+pub fn is_reserved(reserved: Reservation, width: Width, at: u64) -> bool
+    ensures { result ≡ is_reserved reserved width at }
+{
+    match reserved {
+        Reservation::Nothing => false,
+        Reservation::Word(a) => match width {
+            Width::Word => a == at,
+            Width::Byte | Width::Half | Width::Double => false,
+        },
+        Reservation::Double(a) => match width {
+            Width::Double => a == at,
+            Width::Byte | Width::Half | Width::Word => false,
+        },
+    }
+}
+
+/// What the hart in front has reserved: nothing with one hart.
+pub fn front_of(other: &Option<OtherHart>) -> Reservation
+    ensures { result ≡ front_of other.now }
+{
+    match other {
+        None => Reservation::Nothing,
+        Some(other) => other.front,
+    }
+}
+
+/// Whether one of `len` bytes at an address is in the block of 64 that address `a` is in.
+fn shares_block(at: u64, len: u64, a: u64) -> bool
+    ensures { result ≡ shares_block at len a }
+{
+    let first = u128::from(a / 64 * 64);
+    first < u128::from(at) + u128::from(len) && u128::from(at) < first + 64
+}
+
+/// What is left of a reservation when the other hart has written `len` bytes at an address.
+fn left_by(at: u64, len: u64, reserved: Reservation) -> Reservation
+    ensures { result ≡ left_by at len reserved }
+{
+    match reserved {
+        Reservation::Nothing => Reservation::Nothing,
+        Reservation::Word(a) => {
+            if shares_block(at, len, a) {
+                Reservation::Nothing
+            } else {
+                Reservation::Word(a)
+            }
+        }
+        Reservation::Double(a) => {
+            if shares_block(at, len, a) {
+                Reservation::Nothing
+            } else {
+                Reservation::Double(a)
+            }
+        }
+    }
+}
+
+/// The hart in front has written `len` bytes at an address. The other hart, if it is there, loses a reservation in their block.
+pub fn write_past(other: &mut Option<OtherHart>, at: u64, len: u64)
+    ensures { other.new ≡ written_past at len other.old }
+{
+    if let Some(other) = other {
+        other.back = left_by(at, len, other.back);
+    }
+}
+
+/// The hart in front has this reservation now. With one hart nothing is reserved.
+pub fn reserve(other: &mut Option<OtherHart>, reserved: Reservation)
+    ensures { other.new ≡ reserving reserved other.old }
+{
+    if let Some(other) = other {
+        other.front = reserved;
+    }
+}

@@ -1,0 +1,381 @@
+//! Runs of two harts: whose turns they took, and their states against the plain machine that takes the same turns.
+ghost use Rattle.std.specs.Prelude.{◌≡◌};
+ghost use Rattle.thy_base.specs.Geometry.{program_size};
+
+use crate::runs::programs::{file_of, shelf_of};
+use crate::runs::{called_on, compare};
+use crate::support::expect::expect_at;
+use crate::support::geometry::geometry_of;
+use std::alloc::{AllocError, Global};
+use std::process::Abort;
+use std::test::Fail;
+use thy_base::{Bytes, Geometry, Parameters, SchemeName, Shelf};
+use thy_cli::{Answer, thynvm};
+use thy_elf::read;
+use thy_isa::MachState;
+use thy_nvm::MemNvm;
+use thy_out::{MemShelf, MemSink};
+use thy_plain::Plain;
+use thy_text::Event;
+
+/// Both harts add 1 to the word at 69632. Who comes second exits with 7; who came first waits in a loop of one word.
+/// `addi x5,x0,1`, `lui x6,0x11`, `amoadd.d a1,x5,(x6)`, `addi a2,x0,1`, `bne a1,x0,+8`, `jal x0,0`, `addi a0,a1,6`,
+/// `addi a7,x0,93`, `ecall`.
+static SECOND_EXITS: [u32; 9] = [
+    0x00100293, 0x00011337, 0x005335AF, 0x00100613, 0x00059463, 0x0000006F, 0x00658513, 0x05D00893,
+    0x00000073,
+];
+
+/// Each hart takes the lock at 69632 four times, by LR and SC, and adds 1 to the word beside it. Who is last to add 1 to a
+/// third word exits with what they counted, 8. `lui x6,0x11`, `addi x7,x0,4`, `addi x5,x0,1`, `addi x15,x6,16`;
+/// `lr.d a1,(x6)`, `bne a1,x0,-4`, `sc.d a2,x5,(x6)`, `bne a2,x0,-12`; `ld a3,8(x6)`, `addi a3,a3,1`, `sd a3,8(x6)`;
+/// `sd x0,(x6)`, `addi x7,x7,-1`, `bne x7,x0,-36`; `amoadd.d a4,x5,(x15)`, `bne a4,x0,+8`, `jal x0,0`, `ld a0,8(x6)`,
+/// `addi a7,x0,93`, `ecall`.
+static LOCKS: [u32; 20] = [
+    0x00011337, 0x00400393, 0x00100293, 0x01030793, 0x100335AF, 0xFE059EE3, 0x1853362F, 0xFE061AE3,
+    0x00833683, 0x00168693, 0x00D33423, 0x00033023, 0xFFF38393, 0xFC039EE3, 0x0057B72F, 0x00071463,
+    0x0000006F, 0x00833503, 0x05D00893, 0x00000073,
+];
+
+/// The smallest machine, with two harts.
+static PAIR: Parameters = Parameters {
+    base: 65536,
+    pages: 8,
+    console: 1,
+    epoch: 10000,
+    btt: 8,
+    ptt: 8,
+    sets: 16,
+    ways: 4,
+    nvmq: 16,
+    dramq: 16,
+    high: 22,
+    low: 16,
+    mix: 0,
+    limit: 1000,
+    scheme: SchemeName::Thynvm,
+    harts: 2,
+};
+
+fn pair(rt: &impl Abort, alloc: Global) -> Geometry
+    ensures { program_size result ≡ 28672 }
+{
+    geometry_of(rt, alloc, &PAIR)
+}
+
+/// The plain machine of two harts with this program file, after these turns.
+fn by_turns(rt: &impl Abort, alloc: Global, file: &[u8], turns: &[u8]) -> Plain {
+    let image = read(alloc, file, 65536, 28672).expect(rt, "an image");
+    let mut plain = Plain::load(alloc, &image, &pair(rt, alloc), Bytes::new(alloc)).expect(
+        rt, "memory",
+    );
+    for hart in turns {
+        assert!(rt; *hart <= 1 && plain.state().count < 1 << 62);
+        plain.step_of(*hart);
+    }
+    plain
+}
+
+/// Whether two states are one in all that a program sees.
+fn is_same(a: &MachState, b: &MachState) -> bool {
+    a.pc == b.pc
+        && a.regs == b.regs
+        && a.other == b.other
+        && a.count == b.count
+        && a.status == b.status
+        && a.cursor == b.cursor
+        && a.brk == b.brk
+        && a.memory.as_slice() == b.memory.as_slice()
+        && a.console.as_slice() == b.console.as_slice()
+}
+
+/// By the events so far, whose turns led to the committed checkpoint, and to the sealed one.
+#[derive(Drop)]
+struct Turns {
+    kept: Vec<u8>,
+    sealed_epoch: Option<u64>,
+    sealed: Vec<u8>,
+}
+
+/// While a file is loaded there is no turn.
+fn none(alloc: Global) -> Turns {
+    Turns {
+        kept: Vec::new(alloc),
+        sealed_epoch: None,
+        sealed: Vec::new(alloc),
+    }
+}
+
+/// The turns after one more event.
+fn with_event(alloc: Global, turns: Turns, event: &Event) -> Result<Turns, AllocError> {
+    let Turns {
+        kept,
+        sealed_epoch,
+        sealed,
+    } = turns;
+    match event {
+        Event::EpochEnd { epoch, turns, .. } => {
+            let mut all = Vec::from_slice(alloc, kept.as_slice())?;
+            all.extend_from_slice(turns.as_slice())?;
+            Ok(Turns {
+                kept,
+                sealed_epoch: Some(*epoch),
+                sealed: all,
+            })
+        }
+        Event::Commit { .. } => Ok(Turns {
+            kept: sealed,
+            sealed_epoch: None,
+            sealed: Vec::new(alloc),
+        }),
+        Event::Restart { epoch, .. } => Ok(Turns {
+            kept: if sealed_epoch == Some(*epoch) {
+                sealed
+            } else {
+                kept
+            },
+            sealed_epoch: None,
+            sealed: Vec::new(alloc),
+        }),
+        Event::Reload | Event::Scheme { .. } => Ok(none(alloc)),
+        Event::Cut { .. } | Event::Ended { .. } => Ok(Turns {
+            kept,
+            sealed_epoch,
+            sealed,
+        }),
+    }
+}
+
+/// What a call returns over this shelf.
+fn answered(alloc: Global, line: &str, shelf: &mut MemShelf) -> Result<Answer, AllocError> {
+    let mut words = Vec::new(alloc);
+    for word in line.split(' ') {
+        words.push(String::from_str(alloc, word)?)?;
+    }
+    let mut terminal = MemSink::new(alloc, 65_536, Vec::new(alloc))?;
+    let mut report = MemSink::new(alloc, 65_536, Vec::new(alloc))?;
+    let mut nvm = MemNvm::new(alloc);
+    Ok(thynvm(alloc, &words, shelf, &mut terminal, &mut report, &mut nvm))
+}
+
+/// Runs a line over this file under the name H, and compares each state of an event with that of the plain machine which
+/// takes the turns that the events before it list.
+fn expect_by_turns(
+    rt: &impl Abort,
+    alloc: Global,
+    file: &[u8],
+    line: &str,
+) -> Result<(), AllocError> {
+    let mut shelf = shelf_of(alloc, &[("H", file)])?;
+    let answer = answered(alloc, line, &mut shelf)?;
+    let mut turns = none(alloc);
+    let mut ends = 0u64;
+    for i in 0..answer.events.len() {
+        let event = answer.events.get(i);
+        turns = with_event(alloc, turns, event)?;
+        match event {
+            Event::Restart { state, .. } => {
+                let plain = by_turns(rt, alloc, file, turns.kept.as_slice());
+                assert!(rt; is_same(state, plain.state()), "{line}: event {i}");
+            }
+            Event::Ended { state, .. } => {
+                let plain = by_turns(rt, alloc, file, turns.kept.as_slice());
+                assert!(rt; is_same(state, plain.state()), "{line}: event {i}");
+                ends = ends.saturating_add(1);
+            }
+            _ => {}
+        }
+    }
+    assert!(rt; answer.status == 0 && ends > 0, "{line}");
+    Ok(())
+}
+
+/// Whether turns are these digits.
+fn are_digits(turns: &[u8], digits: &str) -> bool {
+    let digits = digits.as_bytes();
+    for (turn, digit) in turns.iter().zip(digits) {
+        if digit.wrapping_sub(b'0') != *turn {
+            return false;
+        }
+    }
+    turns.len() == digits.len()
+}
+
+/// Runs of SECOND_EXITS by the seeds 0 to 4, without a cut: the turns of the one epoch, how many of them each hart took, and
+/// the cycles.
+static SEEDS: [(&str, u64, u64, u64); 5] = [
+    ("0010010110010100101", 11, 8, 730),
+    ("0101010101010101", 8, 8, 725),
+    ("010101011010101", 7, 8, 748),
+    ("1010101001011010", 8, 8, 722),
+    ("0100100010010101011", 11, 8, 728),
+];
+
+#[test]
+fn the_hart_that_adds_second_exits(rt: HostRuntime) -> Result<(), Fail> {
+    let alloc = rt.alloc();
+    let file = file_of(alloc, 0, &SECOND_EXITS)?;
+    for (seed, (digits, zero, one, cycles)) in SEEDS.iter().enumerate() {
+        let line = format!(in alloc;
+            "thynvm run H --pages 8 --btt 8 --ptt 8 --harts 2 --mix {seed}"
+        )?;
+        let mut shelf = shelf_of(alloc, &[("H", file.as_slice())])?;
+        let answer = answered(alloc, line.as_str(), &mut shelf)?;
+        expect_at(&rt, (answer.status, answer.cycles), (0, *cycles), seed);
+        for i in 0..answer.events.len() {
+            if let Event::EpochEnd { turns, .. } = answer.events.get(i) {
+                assert!(rt; are_digits(turns.as_slice(), digits), "{line}");
+            }
+        }
+        let given = called_on(alloc, line.as_str(), &mut shelf, &[], &[])?;
+        let sum = zero.saturating_add(*one);
+        let report = format!(in alloc;
+            "commit 0 overlapped 0\n\
+             epoch 1 ends at {sum} by end harts {zero} {one}\n\
+             commit 1 overlapped 0\n\
+             exit 7 at {sum}\n"
+        )?;
+        compare(
+            &rt,
+            line.as_str(),
+            &given,
+            0,
+            "",
+            report.as_str().as_bytes(),
+        );
+    }
+    Ok(())
+}
+
+/// The same with a cut after cycle 720, which leaves the checkpoint of epoch 0: what each hart has retired in the epoch
+/// that the cut undoes, if it was sealed, and what in the one that comes after the restart; and the cycles.
+static CUT_SEEDS: [(&str, u64, u64, u64); 5] = [
+    ("epoch 1 ends at 19 by end harts 11 8\n", 10, 8, 800),
+    ("epoch 1 ends at 16 by end harts 8 8\n", 9, 8, 795),
+    ("", 8, 8, 798),
+    ("epoch 1 ends at 16 by end harts 8 8\n", 10, 8, 800),
+    ("epoch 1 ends at 19 by end harts 11 8\n", 10, 8, 799),
+];
+
+#[test]
+fn after_a_cut_the_harts_take_other_turns(rt: HostRuntime) -> Result<(), Fail> {
+    let alloc = rt.alloc();
+    let file = file_of(alloc, 0, &SECOND_EXITS)?;
+    for (seed, (before, zero, one, cycles)) in CUT_SEEDS.iter().enumerate() {
+        let line = format!(in alloc;
+            "thynvm run H --pages 8 --btt 8 --ptt 8 --harts 2 --mix {seed} --cuts 720 --tears 0"
+        )?;
+        let mut shelf = shelf_of(alloc, &[("H", file.as_slice())])?;
+        let given = called_on(alloc, line.as_str(), &mut shelf, &[], &[])?;
+        let sum = zero.saturating_add(*one);
+        let report = format!(in alloc;
+            "commit 0 overlapped 0\n\
+             {before}\
+             cut 1 at cycle 720\n\
+             restart 0 at 0\n\
+             epoch 1 ends at {sum} by end harts {zero} {one}\n\
+             commit 1 overlapped 0\n\
+             exit 7 at {sum}\n"
+        )?;
+        compare(
+            &rt,
+            line.as_str(),
+            &given,
+            0,
+            "",
+            report.as_str().as_bytes(),
+        );
+        expect_at(&rt, given.cycles, *cycles, seed);
+    }
+    Ok(())
+}
+
+/// Options under which the harts that take a lock are run: each scheme, a gap, short epochs, and tables of other sizes.
+static OPTIONS: [&str; 6] = [
+    "--epoch 7",
+    "--epoch 10 --gap 1",
+    "--epoch 13 --scheme journal",
+    "--epoch 9 --scheme shadow --gap 2",
+    "--epoch 1",
+    "--epoch 40 --sets 1 --ways 1 --nvmq 1 --dramq 1",
+];
+
+#[test]
+fn the_events_list_the_turns_of_the_plain_machine(rt: HostRuntime) -> Result<(), Fail> {
+    let alloc = rt.alloc();
+    let file = file_of(alloc, 0, &LOCKS)?;
+    for options in &OPTIONS {
+        for seed in 0..5u64 {
+            let line = format!(in alloc;
+                "thynvm run H --pages 8 --btt 8 --ptt 8 --harts 2 --mix {seed} {options}"
+            )?;
+            expect_by_turns(&rt, alloc, file.as_slice(), line.as_str())?;
+        }
+    }
+    Ok(())
+}
+
+#[test]
+fn a_lock_is_cut_at_each_cycle(rt: HostRuntime) -> Result<(), Fail> {
+    let alloc = rt.alloc();
+    let file = file_of(alloc, 0, &LOCKS)?;
+    for cycle in 530..800u64 {
+        let tear = cycle % 2;
+        let line = format!(in alloc;
+            "thynvm run H --pages 8 --btt 8 --ptt 8 --harts 2 --epoch 7 --cuts {cycle} --tears {tear}"
+        )?;
+        expect_by_turns(&rt, alloc, file.as_slice(), line.as_str())?;
+    }
+    Ok(())
+}
+
+#[test]
+fn each_run_of_a_comparison_has_its_own_turns(rt: HostRuntime) -> Result<(), Fail> {
+    let alloc = rt.alloc();
+    let file = file_of(alloc, 0, &LOCKS)?;
+    for seed in 0..3u64 {
+        let line = format!(in alloc;
+            "thynvm compare H --pages 8 --btt 8 --ptt 8 --harts 2 --epoch 7 --mix {seed}"
+        )?;
+        expect_by_turns(&rt, alloc, file.as_slice(), line.as_str())?;
+    }
+    Ok(())
+}
+
+/// Where words of a saved image's first slot with two harts stand: the second record begins at byte 68,864.
+const SECOND: usize = 68_864;
+
+/// A place of that record, a byte that is put there, and what `resume` with two harts answers.
+static RECORDS: [(usize, u8, u8, &str); 4] = [
+    (0, 0x20, 0, "restart 1 at 19\nexit 7 at 19\n"),
+    (32 * 8, 5, 5, "image 12 Second\n"),
+    (39 * 8, 1, 5, "image 12 Second\n"),
+    (32 * 8, 4, 0, "restart 1 at 19\nexit 7 at 19\n"),
+];
+
+#[test]
+fn a_saved_run_of_two_harts_has_both_records(rt: HostRuntime) -> Result<(), Fail> {
+    let alloc = rt.alloc();
+    let file = file_of(alloc, 0, &SECOND_EXITS)?;
+    let mut shelf = shelf_of(alloc, &[("H", file.as_slice())])?;
+    let line = "thynvm run H --pages 8 --btt 8 --ptt 8 --harts 2 --save D";
+    called_on(alloc, line, &mut shelf, &[], &[])?;
+    let saved = shelf
+        .fetch(alloc, "D", 67_108_864)
+        .expect(&rt, "a saved image");
+    expect_at(&rt, saved.len(), 69_376, line);
+    for (at, byte, status, report) in &RECORDS {
+        let mut image = Vec::from_slice(alloc, saved.as_slice())?;
+        if let Some(place) = image.get_mut(SECOND.saturating_add(*at)) {
+            *place = *byte;
+        }
+        assert!(rt; shelf.put(alloc, "D", image.as_slice()).is_ok());
+        let line = "thynvm resume D --pages 8 --btt 8 --ptt 8 --harts 2";
+        let given = called_on(alloc, line, &mut shelf, &[], &[])?;
+        compare(&rt, line, &given, *status, "", report.as_bytes());
+    }
+    let line = "thynvm resume D --pages 8 --btt 8 --ptt 8";
+    let given = called_on(alloc, line, &mut shelf, &[], &[])?;
+    compare(&rt, line, &given, 5, "", b"image 4 Geometry\n");
+    Ok(())
+}
