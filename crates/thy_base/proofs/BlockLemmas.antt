@@ -1,10 +1,12 @@
 -- The 64 bytes of a block.
-use Rattle.std.proofs.Common.{◌≡◌, ℕ, ◌+◌, ◌≤◌, List, ◌++◌, length, replicate, ◌∙◌, ap, arith}
-use Rattle.std.proofs.lemmas.List.{length-append, length-replicate, length-take-le, take_at}
+use Rattle.std.proofs.Common.{◌≡◌, ℕ, ◌+◌, ◌≤◌, List, ◌++◌, length, replicate, ◌∙◌, ap, arith, slice_index_or, inl, inr}
+use Rattle.std.proofs.lemmas.List.{length-append, length-replicate, length-take-le, take_at, get_or-replicate, get_or_past}
+use Rattle.std.proofs.lemmas.Bool.{cases_lt}
 use Rattle.thy_base.specs.declared.block.Block.{Block}
 use Rattle.thy_base.specs.Blocks.{block_bytes, overwritten}
 use Rattle.thy_base.specs.Bytes.{written}
 use Rattle.thy_base.proofs.WrittenLemmas.{length-written}
+use Rattle.thy_base.specs.Device.{zero_block}
 
 pub length-block_bytes : (b : Block) → length (block_bytes b) ≡ 64
 unfolding block_bytes
@@ -29,3 +31,11 @@ block_bytes-overwritten j piece b l = block_bytes-long (overwritten j piece b) (
 -- over a block that has 64 bytes it is written over its own
 pub overwritten-long : (j : ℕ) (piece : List ℕ) (b : Block) → length b.0 ≡ 64 → overwritten j piece b ≡ record { 0 = written b.0 j piece }
 overwritten-long j piece b h = ap (λ (bytes : List ℕ). let c : Block = record { 0 = written bytes j piece } in c) (block_bytes-long b h)
+
+-- each byte of a block of zeros is 0
+pub zero_block-at : (j : ℕ) → slice_index_or zero_block.0 j 0 ≡ 0
+unfolding zero_block
+zero_block-at j = elim (cases_lt j 64) as (λ _. slice_index_or (replicate {A = ℕ} 64 0) j 0 ≡ 0) [
+  | inl l ↦ get_or-replicate {A = ℕ} 64 j 0 0 l
+  | inr m ↦ get_or_past {X = ℕ} (replicate {A = ℕ} 64 0) j 0 (omega (arith, length-replicate {A = ℕ} 64 0))
+]

@@ -1,9 +1,11 @@
 -- What follows from the definitions of a device: reads, possible contents and crashes after each call.
-use Rattle.std.proofs.Common.{◌≡◌, ◌≢◌, ◌⊎◌, ℕ, ◌<◌, ◌≤◌, ◌==◌, true, false, List, [], ◌∷◌, ◌++◌, length, take, drop, slice_set, Contains, refl, sym, ◌∙◌, ap, subst, inl, inr, arith, if◌then◌else◌}
+use Rattle.std.proofs.Common.{◌≡◌, ◌≢◌, ◌⊎◌, ℕ, ◌<◌, ◌≤◌, ◌==◌, true, false, List, [], ◌∷◌, ◌++◌, length, take, drop, slice_set, Contains, refl, sym, ◌∙◌, ap, subst, inl, inr, arith, if◌then◌else◌, map, ◌+◌, length-append, length-drop}
 use Rattle.std.proofs.lemmas.Bool.{cases_eq, cases_lt, eq-eqb, ne_eqb}
-use Rattle.std.proofs.lemmas.List.{append-nil, take-append-drop, length-set, get_or_past}
+use Rattle.std.proofs.lemmas.List.{append-nil, take-append-drop, length-set, get_or_past, ext_get_or}
 use Rattle.std.proofs.lemmas.List.Elements.{Contains-push, Contains-push_cases, Contains-append_left, Contains-append_right, Contains-append_cases}
 use Rattle.std.proofs.lemmas.Grind.{common_steps}
+use Rattle.std.specs.List.{range_with_len}
+use Rattle.std.proofs.lemmas.List.FromFn.{length-map-range_with_len, get_or-map-range_with_len}
 use Rattle.thy_base.specs.declared.block.Block.{Block}
 use Rattle.thy_base.specs.declared.nvm.Write.{Write}
 use Rattle.thy_base.specs.Device.{Device, HoldsNoMore, HoldsNoMoreBut, zero_block, write_of, block_at, queued_for, newest_over, applied, possible, newest, landed, drained, settled, surplus, written_to}
@@ -162,3 +164,26 @@ length-settled n = length-applied n.image n.queue
 
 pub length-written_to : (n : Device) (at : ℕ) (block : Block) → length (written_to n at block).image ≡ length n.image
 length-written_to n at block = length-landed (surplus n) n
+
+-- functions that agree below a size make the same list of blocks
+pub map-agree : (f g : ℕ → Block) (size : ℕ) → ((b : ℕ) → b < size → f b ≡ g b) → map f (range_with_len 0 size) ≡ map g (range_with_len 0 size)
+map-agree f g size same =
+    ext_get_or zero_block (map f (range_with_len 0 size)) (map g (range_with_len 0 size))
+    (length-map-range_with_len f 0 size ∙ sym (length-map-range_with_len g 0 size))
+    (λ b l.
+    let inside : b < size = omega (arith, l, length-map-range_with_len f 0 size) in
+    get_or-map-range_with_len f 0 size b b zero_block inside (omega arith) ∙ same b inside
+    ∙ sym (get_or-map-range_with_len g 0 size b b zero_block inside (omega arith)))
+
+-- one list of writes applied and then another
+pub applied-append : (image : List Block) (ws vs : List Write) → applied image (ws ++ vs) ≡ applied (applied image ws) vs
+applied-append image [] vs = refl
+applied-append image (w ∷ ws) vs = applied-append (slice_set image w.at w.block) ws vs
+
+-- a write makes the queue longer by one at most
+pub queue-written_to : (n : Device) (at : ℕ) (block : Block) → length (written_to n at block).queue ≤ length n.queue + 1
+queue-written_to n at block = simp (length-append, length-drop) (omega arith)
+
+-- with nothing queued a read gives the block that stands
+pub newest-empty : (n : Device) (x : ℕ) → n.queue ≡ [] → newest n x ≡ block_at n.image x
+newest-empty n x e = ap (λ (q : List Write). newest_over (block_at n.image x) q x) e

@@ -1,3 +1,4 @@
+pub mod BasicLemmas
 pub mod BlockLemmas
 pub mod CrashLemmas
 pub mod DemandLemmas

@@ -1,22 +1,15 @@
 -- A number is in its range exactly if the test says so; so are numbers if their first fault is none.
-use Rattle.std.proofs.Common.{◌≡◌, ℕ, ◌%◌, ◌<◌, ◌≤◌, arith, Bool, true, false, ◌&&◌, cond, List, [], ◌∷◌, ◌++◌, Option, Some, None, refl, ap, ◌∙◌, length, ◌+◌, ◌*◌}
+use Rattle.std.proofs.Common.{◌≡◌, ℕ, ◌%◌, ◌<◌, ◌≤◌, arith, Bool, true, false, cond, List, [], ◌∷◌, ◌++◌, Option, Some, None, refl, ap, ◌∙◌, length, ◌+◌, ◌*◌, Ok}
 use Rattle.std.proofs.lemmas.Bool.Decides.{nat_tests}
 use Rattle.std.specs.Option.{option_or}
+use Rattle.std.proofs.lemmas.Bool.{and_parts, and_from}
 use Rattle.thy_base.specs.declared.config.Config.{Config}
 use Rattle.thy_base.specs.declared.config.ConfigError.{ConfigError}
 use Rattle.thy_base.specs.declared.config.Field.TheVariants.{Cuts}
 use Rattle.thy_base.specs.declared.config.Parameters.{Parameters}
-use Rattle.thy_base.specs.Config.{fault_in, fault_of, rising_rows, cut_rows, end_rows, rows_of, IsRising}
+use Rattle.thy_base.specs.Config.{fault_in, fault_of, rising_rows, cut_rows, end_rows, rows_of, IsRising, geometry_or}
 use Rattle.thy_base.specs.Geometry.{IsInRange, parameters_of, memory_rows, table_rows, queue_rows, threshold_rows, number_rows, limit_row, harts_row}
 use Rattle.thy_base.specs.Ranges.{Range, row, above, below, at_most, between, multiple_of, divisor_of, both, IsIn, is_in, Row, AreIn}
-
-both_true : (a b : Bool) → (a && b) ≡ true → (a ≡ true) × (b ≡ true)
-both_true true b h = (refl, h)
-both_true false b h = cc
-
-both_hold : (a b : Bool) → a ≡ true → b ≡ true → (a && b) ≡ true
-both_hold true b e h = h
-both_hold false b e h = cc
 
 -- what the test says
 in_test : (r : Range) (n : ℕ) → is_in r n ≡ true → IsIn r n
@@ -26,7 +19,7 @@ in_test (at_most greatest) n h = grind (arith, nat_tests)
 in_test (between least greatest) n h = grind (arith, nat_tests)
 in_test (multiple_of unit) n h = grind (arith, nat_tests)
 in_test (divisor_of whole) n h = grind (arith, nat_tests)
-in_test (both a b) n h = let each = both_true _ _ h in (in_test a n each.0, in_test b n each.1)
+in_test (both a b) n h = let each = and_parts _ _ h in (in_test a n each.0, in_test b n each.1)
 
 -- and that it says so
 test_in : (r : Range) (n : ℕ) → IsIn r n → is_in r n ≡ true
@@ -36,7 +29,7 @@ test_in (at_most greatest) n h = grind (arith, nat_tests)
 test_in (between least greatest) n h = grind (arith, nat_tests)
 test_in (multiple_of unit) n h = grind (arith, nat_tests)
 test_in (divisor_of whole) n h = grind (arith, nat_tests)
-test_in (both a b) n h = both_hold _ _ (test_in a n h.0) (test_in b n h.1)
+test_in (both a b) n h = and_from _ _ (test_in a n h.0) (test_in b n h.1)
 
 none_of : (fits : Bool) (rest : Option ConfigError) (fault : ConfigError) → cond fits rest (Some fault) ≡ None → (fits ≡ true) × (rest ≡ None)
 none_of true rest fault h = (refl, h)
@@ -143,3 +136,12 @@ harts_least p r = omega arith
 
 pub harts_most : (p : Parameters) → IsInRange p → p.harts ≤ 2
 harts_most p r = omega arith
+
+-- numbers that are a geometry are its own
+pub geometry_or-same : (fault : Option ConfigError) (numbers p : Parameters) → Ok p ≡ geometry_or fault numbers → p ≡ numbers
+geometry_or-same None numbers p e = cc
+geometry_or-same (Some fault) numbers p e = cc
+
+-- a block table has eight entries at least
+pub btt_least : (p : Parameters) → IsInRange p → 8 ≤ p.btt
+btt_least p r = r.1.1.1.1.0.0.0

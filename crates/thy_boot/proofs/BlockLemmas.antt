@@ -1,14 +1,10 @@
 -- The blocks of a start: whole ones of its memory, and its console filled up with zeros.
-use Rattle.std.proofs.Common.{◌≡◌, ℕ, zero, ◌+◌, ◌-◌, ◌<◌, ◌≤◌, inl, inr, List, ◌++◌, length, take, drop, replicate, get_or, sym, ◌∙◌, ap, arith, min}
+use Rattle.std.proofs.Common.{◌≡◌, ℕ, ◌+◌, ◌-◌, ◌<◌, ◌≤◌, inl, inr, List, ◌++◌, length, take, drop, replicate, get_or, sym, ◌∙◌, ap, arith, min}
 use Rattle.std.proofs.lemmas.Bool.{cases_lt}
-use Rattle.std.proofs.lemmas.List.{ext_get_or, length-append, length-take, length-drop, length-replicate, get_or-take, get_or-drop, get_or_append_left, get_or-append-add, get_or-replicate, get_or_past, take-append-le, drop-append-le, drop-replicate}
+use Rattle.std.proofs.lemmas.List.{ext_get_or, length-append, length-take, length-drop, length-replicate, get_or-take, get_or-drop, get_or_append_left, get_or-append-add, get_or_past, take-append-le, drop-append-le, drop-replicate}
 use Rattle.std.proofs.Math.Seq.{drop-append-add}
-
-zero_anywhere : (k i : ℕ) → get_or (replicate k zero) i zero ≡ zero
-zero_anywhere k i = elim (cases_lt i k) [
-  | inl l ↦ get_or-replicate k i 0 0 l
-  | inr l ↦ let past : length (replicate k 0) ≤ i = omega (arith, length-replicate {A = ℕ} k 0) in get_or_past (replicate k 0) i 0 past
-]
+use Rattle.thy_base.proofs.BasicLemmas.{get_or-replicate_any}
+use Rattle.thy_base.specs.declared.block.Block.{Block}
 
 -- zeros past the end of a list
 pub zeros_at : (xs : List ℕ) (k i : ℕ) → get_or (xs ++ replicate k 0) i 0 ≡ get_or xs i 0
@@ -18,7 +14,7 @@ zeros_at xs k i = elim (cases_lt i (length xs)) [
       let e : length xs + (i - length xs) ≡ i = omega arith in
       let right : get_or (xs ++ replicate k 0) i 0 ≡ get_or (replicate k 0) (i - length xs) 0
       = ap (λ j. get_or (xs ++ replicate k 0) j 0) (sym e) ∙ get_or-append-add xs (replicate k 0) (i - length xs) 0 in
-      right ∙ zero_anywhere k (i - length xs) ∙ sym (get_or_past xs i 0 l)
+      right ∙ get_or-replicate_any {A = ℕ} k (i - length xs) 0 ∙ sym (get_or_past xs i 0 l)
 ]
 
 -- reading below the end of a front
@@ -91,3 +87,22 @@ block_behind_memory memory console from k behind enough =
     let e : length memory + (from - length memory) ≡ from = omega arith in
     sym (zeros_beyond console (from - length memory) k enough)
     ∙ ap (take 64) (sym (drop-append-add memory (console ++ replicate k 0) (from - length memory)) ∙ ap (λ n. drop n (memory ++ (console ++ replicate k 0))) e)
+
+-- a block is its bytes
+pub block_of_bytes : (b : Block) (bytes : List ℕ) → b.0 ≡ bytes → b ≡ record { 0 = bytes }
+block_of_bytes b bytes e = let at : List ℕ → Block = λ bytes. record { 0 = bytes } in ap at e
+
+-- a whole block of memory
+pub memory_block : (b : Block) (memory rest seen : List ℕ) (from : ℕ) → seen ≡ memory → b.0 ≡ take 64 (drop from seen) → from + 64 ≤ length memory
+    → b ≡ record { 0 = take 64 (drop from (memory ++ rest)) }
+memory_block b memory rest seen from same is inside =
+    block_of_bytes b _ (is ∙ ap (λ xs. take 64 (drop from xs)) same ∙ block_of_memory memory rest from inside)
+
+-- a block of the console
+pub console_block : (b : Block) (memory console seen : List ℕ) (from behind k : ℕ) → seen ≡ console → behind ≡ from - length memory
+    → b.0 ≡ take 64 (drop behind seen ++ replicate 64 0) → length memory ≤ from → behind + 64 ≤ length console + k
+    → b ≡ record { 0 = take 64 (drop from (memory ++ (console ++ replicate k 0))) }
+console_block b memory console seen from behind k same at is past enough =
+    block_of_bytes b _ (is ∙ ap (λ xs. take 64 (drop behind xs ++ replicate 64 0)) same
+    ∙ ap (λ n. take 64 (drop n console ++ replicate 64 0)) at
+    ∙ block_behind_memory memory console from k past (omega arith))

@@ -4,9 +4,10 @@ use Rattle.std.specs.Option.{option_or}
 use Rattle.std.proofs.lemmas.Bool.{eq-eqb, ltb-false}
 use Rattle.thy_base.specs.declared.block.Block.{Block}
 use Rattle.thy_base.specs.declared.config.Parameters.{Parameters}
-use Rattle.thy_base.specs.declared.nvm.Write.{Write}
-use Rattle.thy_base.specs.Device.{Device, block_at, newest, newest_over}
+use Rattle.thy_base.specs.Device.{Device, block_at, newest}
 use Rattle.thy_base.proofs.WrittenLemmas.{length-written}
+use Rattle.thy_base.proofs.BasicLemmas.{none_of_two}
+use Rattle.thy_base.proofs.DeviceLemmas.{newest-empty}
 use Rattle.thy_record.specs.declared.bad_image.BadImage.{BadImage}
 use Rattle.thy_record.specs.Commit.{is_zero, epoch_of}
 use Rattle.thy_record.specs.Decoded.{Nothing, Refused as IsRefused, At}
@@ -17,18 +18,11 @@ use Rattle.thy_boot.specs.declared.stage.Stage.TheVariants.{Reads, Loads, Over}
 use Rattle.thy_boot.specs.declared.stage.ReadStage.TheVariants.{Unread, Header, Slot, Fills, Refusing}
 use Rattle.thy_boot.specs.declared.stage.End.TheVariants.{Restored, Loaded}
 use Rattle.thy_boot.specs.declared.stage.Issue.TheVariants.{Home}
-use Rattle.thy_boot.specs.Boot.{Booting, IsBoot, IsThere, new_boot, layout_in, slot_read, at_stage, at_slot, refusing_or, after_commit, after_header, after_slot, filling_or, after_fill, gone_on, first_read, early_fault, IsJudged, JudgesUnless, GoesOn}
+use Rattle.thy_boot.specs.Boot.{Booting, IsBoot, IsThere, new_boot, layout_in, slot_read, at_stage, at_slot, refusing_or, after_commit, after_header, after_slot, filling_or, after_fill, gone_on, early_fault, IsJudged, JudgesUnless, GoesOn}
 use Rattle.thy_boot.specs.Filling.{FillingOf, IsFilling, layout_at}
 use Rattle.thy_boot.specs.Reads.{slot_kept}
 use Rattle.thy_boot.specs.Recovers.{HasCommit, HasHead, HasSlot, HasTaken, HasReadAt, HasRead}
 use Rattle.thy_boot.proofs.SlotLemmas.{HasSlot-more, slot_is_whole}
-
-pub newest-settled : (n : Device) (x : ℕ) → n.queue ≡ [] → newest n x ≡ block_at n.image x
-newest-settled n x h = ap (λ (q : List Write). newest_over (block_at n.image x) q x) h
-
-none_of_two : {X : Type 0} (a b : Option X) → option_or a b ≡ None → (a ≡ None) × (b ≡ None)
-none_of_two None b h = (refl, h)
-none_of_two (Some x) b h = absurd (cc)
 
 first_two : {X : Type 0} (a b c : Option X) (x : X) → option_or a b ≡ Some x → option_or a (option_or b c) ≡ Some x
 first_two None b c x h = ap (λ o. option_or o c) h
@@ -59,7 +53,7 @@ module _ {C : Type 0} (F : FillingOf C) where
     fresh = subst (λ (s : Stage). HasReadAt F s n b c) is h.so_far
 
     there : newest n 1 ≡ block_at n.image 1
-    there = newest-settled n 1 h.settled
+    there = newest-empty n 1 h.settled
 
     by_zero : (z : Bool) → is_zero (newest n 1) ≡ z → HasReadAt F (if z then Loads (Home 0) else Reads Header) n (after_commit (newest n 1) b) c
     by_zero true e = (fresh, decode_by-zero (layout_in F b) n.image (ap is_zero (sym there) ∙ e), refl)
@@ -86,7 +80,7 @@ module _ {C : Type 0} (F : FillingOf C) where
 
     found : HasReadAt F (after_header (layout_in F b) (newest n 0) b) n (at_slot (after_header (layout_in F b) (newest n 0) b) b) c
     found =
-        subst (λ (x : Block). HasReadAt F (after_header (layout_in F b) x b) n (at_slot (after_header (layout_in F b) x b) b) c) (sym (newest-settled n 0 h.settled))
+        subst (λ (x : Block). HasReadAt F (after_header (layout_in F b) x b) n (at_slot (after_header (layout_in F b) x b) b) c) (sym (newest-empty n 0 h.settled))
         (by_fault (option_or ((layout_in F b).header_bad (block_at n.image 0) true) ((layout_in F b).commit_bad (block_at n.image 0) b.commit)) refl)
 
   -- the whole slot, judged: it is refused, or, listed by the controller, filled or restored
@@ -214,7 +208,7 @@ module _ {C : Type 0} (F : FillingOf C) where
     kept : HasSlot (layout_in F b) n.image b.commit (k + 1) w.slot
     kept =
         HasSlot-more (layout_in F b) n.image b.commit k b.slot (newest n ((layout_in F b).slot_place b.commit + k)) (omega (arith, boot.room, inside, most)) long
-        (newest-settled n ((layout_in F b).slot_place b.commit + k) h.settled) had.2
+        (newest-empty n ((layout_in F b).slot_place b.commit + k) h.settled) had.2
 
     whole : k + 1 ≡ (layout_in F b).slot_blocks b.commit → slot_read F w ≡ slot_in (layout_in F b) n.image
     whole last = slot_is_whole F n.image w (k + 1) had.1.commit_is size most last kept

@@ -1,5 +1,5 @@
 -- The blocks of a start make its state.
-use Rattle.std.proofs.Common.{◌≡◌, ℕ, suc, ◌+◌, ◌-◌, ◌*◌, ◌^◌, ◌<◌, ◌≤◌, List, [], ◌∷◌, ◌++◌, length, take, drop, replicate, refl, sym, ◌∙◌, ap, arith}
+use Rattle.std.proofs.Common.{◌≡◌, ℕ, suc, ◌+◌, ◌-◌, ◌*◌, ◌<◌, ◌≤◌, List, [], ◌∷◌, ◌++◌, length, take, drop, replicate, refl, sym, ◌∙◌, ap, arith}
 use Rattle.std.proofs.Math.Seq.{take-append_seam, drop-append_seam}
 use Rattle.std.proofs.lemmas.List.{drop-drop, take-append-drop, length-take-le, length-append, length-drop, length-replicate}
 use Rattle.std.proofs.lemmas.List.FromFn.{length-map-range_with_len, get_or-map-range_with_len}
@@ -13,23 +13,25 @@ use Rattle.thy_base.proofs.RangeLemmas.{console_below}
 use Rattle.thy_flat.specs.Flat.{flat}
 use Rattle.thy_isa.specs.OnBlocks.{state_from}
 use Rattle.thy_isa.specs.Step.{State, cpu_of, state_with}
-use Rattle.thy_record.specs.Cpu.{IsRecordable}
 use Rattle.thy_view.specs.Origin.{Origin, IsOrigin}
-use Rattle.thy_view.specs.Safe.{ceiling}
 use Rattle.thy_boot.specs.Start.{IsStartFor, CanStart, start_bytes, start_block, start_blocks}
 
-same_block : (a : Block) (bytes : List ℕ) → 64 ≤ length bytes → a.0 ≡ take 64 bytes → block_bytes a ≡ take 64 bytes
+-- a block whose own bytes are 64 of these has these
+pub same_block : (a : Block) (bytes : List ℕ) → 64 ≤ length bytes → a.0 ≡ take 64 bytes → block_bytes a ≡ take 64 bytes
 same_block a bytes l own = block_bytes-long a (ap length own ∙ length-take-le 64 bytes l) ∙ own
 
-abbrev block_from : List ℕ → ℕ → Block
+-- block i of bytes
+abbrev pub block_from : List ℕ → ℕ → Block
 block_from bytes i = record { 0 = take 64 (drop (64 * i) bytes) }
 
-next_block : (bytes : List ℕ) (i : ℕ) → block_from bytes (suc i) ≡ block_from (drop 64 bytes) i
+-- the block after the next is the next of the rest
+pub next_block : (bytes : List ℕ) (i : ℕ) → block_from bytes (suc i) ≡ block_from (drop 64 bytes) i
 next_block bytes i =
     let e : 64 + 64 * i ≡ 64 * suc i = omega arith in
     ap (λ (bs : List ℕ). block_from bs 0) (ap (λ k. drop k bytes) (sym e) ∙ sym (drop-drop (64 * i) 64 bytes))
 
-flat-blocks : (blocks : List Block) (bytes : List ℕ) → length bytes ≡ 64 * length blocks
+-- blocks that are pieces of bytes make these bytes
+pub flat-blocks : (blocks : List Block) (bytes : List ℕ) → length bytes ≡ 64 * length blocks
     → ((i : ℕ) → i < length blocks → block_at blocks i ≡ block_from bytes i) → flat blocks ≡ bytes
 unfolding flat
 flat-blocks [] [] l each = refl
@@ -54,7 +56,8 @@ length-start_bytes p s range h =
       length-replicate {A = ℕ} (console_room p - length s.console) 0,
     )
 
-start_parts : (s : State) (size : ℕ) (zeros : List ℕ) → length s.memory ≡ size
+-- memory and console of a state are found in the bytes of its start
+pub start_parts : (s : State) (size : ℕ) (zeros : List ℕ) → length s.memory ≡ size
     → state_with (cpu_of s) (take size (s.memory ++ (s.console ++ zeros))) (take (length s.console) (drop size (s.memory ++ (s.console ++ zeros)))) ≡ s
 start_parts s size zeros e =
     let first = λ (n : ℕ). state_with (cpu_of s) (take n (s.memory ++ (s.console ++ zeros))) (take (length s.console) (drop n (s.memory ++ (s.console ++ zeros)))) in

@@ -15,11 +15,10 @@ use Rattle.thy_boot.specs.declared.stage.Stage.{Stage}
 use Rattle.thy_boot.specs.declared.stage.Stage.TheVariants.{Reads, Loads, Over}
 use Rattle.thy_boot.specs.declared.stage.ReadStage.{ReadStage}
 use Rattle.thy_boot.specs.declared.stage.ReadStage.TheVariants.{Unread, Header, Slot, Fills, Refusing}
-use Rattle.thy_boot.specs.declared.stage.Issue.{Issue}
-use Rattle.thy_boot.specs.declared.stage.Issue.TheVariants.{Home, Slot as SlotBlock, Header as HeaderBlock, Settle, Commit, Confirm}
+use Rattle.thy_boot.specs.declared.stage.Issue.TheVariants.{Home}
 use Rattle.thy_boot.specs.Boot.{Booting, IsBoot, IsThere, layout_in, slot_read, at_stage, at_slot, refusing_or, after_commit, after_header, after_slot, filling_or, after_fill}
-use Rattle.thy_boot.specs.Filling.{FillingOf, First, IsFilling, layout_at}
-use Rattle.thy_boot.specs.Loads.{Takes, after_issue, issue_action}
+use Rattle.thy_boot.specs.Filling.{FillingOf, IsFilling, layout_at}
+use Rattle.thy_boot.specs.Loads.{Takes}
 use Rattle.thy_boot.specs.Reads.{read_action, read_on, slot_kept, FillsOn, IsBlock}
 use Rattle.thy_boot.specs.Recovers.{HasRead}
 use Rattle.thy_boot.specs.Steps.{ReadsOn, StepsAt, action_at, TakesStep}
@@ -169,40 +168,3 @@ module _ {C : Type 0} (F : FillingOf C) (laws : IsFilling F) where
   memory_place p s starts b inside =
       (laws.first_parts p s starts).placed.memory_inside (slice_index_or (F.first p s).parts.memory b 0)
       (Contains-get_or (F.first p s).parts.memory b 0 inside)
-
-  load_there : (f : First) (issue : Issue) (b : Booting) → IsThere F b (after_issue f issue)
-  load_there f (Home k) b = by_more (nat_lt (k + 1) (length f.parts.memory)) where
-    by_more : (t : Bool) → IsThere F b (if t then Loads (Home (k + 1)) else Loads (SlotBlock 0))
-    by_more true = tt
-    by_more false = tt
-  load_there f (SlotBlock k) b = by_more (nat_lt (k + 1) f.parts.slot_blocks) where
-    by_more : (t : Bool) → IsThere F b (if t then Loads (SlotBlock (k + 1)) else Loads HeaderBlock)
-    by_more true = tt
-    by_more false = tt
-  load_there f HeaderBlock b = tt
-  load_there f Settle b = tt
-  load_there f Commit b = tt
-  load_there f Confirm b = tt
-
-  pub takes_load : {T : Type 0} (result : Result T NvmError) (s : State) (issue : Issue) (n : Device) (b : Booting) (c : C) (m : Device) (d : Booting)
-      → b.stage ≡ Loads issue → IsBoot F b → OnOk result (d ≡ at_stage (after_issue (F.first b.p s) issue) b) → OnErr result (d ≡ b)
-      → Takes (issue_action (F.first b.p s) issue) result n m → TakesStep F result s n b c m d c
-  takes_load (Ok x) s issue n b c m d is boot goes same_boot t = record {
-    steps = subst (λ (q : Stage). StepsAt F q s n b c m d c) (sym is) (record { device = t.ok; boot = goes; control = refl });
-    fits = subst (λ (y : Booting). IsBoot F y) (sym goes)
-        (record { room = boot.room; there = load_there (F.first b.p s) issue (at_stage (after_issue (F.first b.p s) issue) b) });
-    boot = tt;
-    control = tt;
-    err = tt;
-    frame = t.frame;
-    cause = t.cause;
-  }
-  takes_load (Err x) s issue n b c m d is boot goes same_boot t = record {
-    steps = tt;
-    fits = subst (λ (y : Booting). IsBoot F y) (sym same_boot) boot;
-    boot = same_boot;
-    control = refl;
-    err = subst (λ (q : Stage). FailsTo (action_at F q s b c) n m) (sym is) t.err;
-    frame = t.frame;
-    cause = t.cause;
-  }

@@ -10,6 +10,7 @@ use Rattle.std.proofs.lemmas.List.Elements.{All-from_get_or}
 use Rattle.std.proofs.lemmas.List.Quantifiers.{position-Some}
 use Rattle.thy_base.specs.declared.block.Block.{Block}
 use Rattle.thy_base.specs.Device.{block_at}
+use Rattle.thy_base.proofs.BasicLemmas.{not_some}
 use Rattle.thy_cache.specs.declared.line.Line.{Line}
 use Rattle.thy_cache.specs.Ways.{Ways, line_at, is_dirty, has_dirty, dirty_lines, empty_ways}
 use Rattle.thy_cache.specs.Contents.{Contents, empty_cache, no_ways, set_at, set_of, index_of, line_of, dirty_line_in, HasNoneDirty, dirty_count}
@@ -18,7 +19,6 @@ use Rattle.thy_cache.proofs.LineLemmas.{passed_over, line_in-found}
 use Rattle.thy_cache.proofs.AgreeLemmas.{none_is_none}
 use Rattle.thy_cache.proofs.FlatLemmas.{flat-none}
 use Rattle.thy_cache.proofs.CountLemmas.{dirt}
-use Rattle.thy_cache.proofs.StoreLaws.{no_line}
 use Rattle.thy_cache.proofs.WriteLaws.{true_is_not_false}
 
 -- where none is found, none passes
@@ -34,7 +34,7 @@ pub none-in_set : (set : Ways) → has_dirty set ≡ false → dirty_lines set �
 none-in_set set e =
     let None_here : Option Line → Type 0 = λ o. dirt o ≤ 0 in
     let each : All None_here set.lines = All-from_get_or None_here set.lines None
-    (λ i inside. let pure = position-None is_dirty set.lines i None (no_line (position is_dirty set.lines) e) inside in
+    (λ i inside. let pure = position-None is_dirty set.lines i None (not_some (position is_dirty set.lines) e) inside in
     let none : dirt (line_at set i) ≡ 0 = ap (λ t. cond t 1 0) pure in omega (arith, none)) in
     omega (arith, sum_by-le dirt 0 set.lines each)
 

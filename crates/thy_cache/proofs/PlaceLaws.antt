@@ -2,7 +2,7 @@
 use Rattle.std.proofs.Common.{◌≡◌, ℕ, ◌<◌, List, length, true, Option, Some, None, option_and_then, refl, sym, ◌∙◌, ap, arith}
 use Rattle.std.proofs.Math.Nat.{mod-lt}
 use Rattle.std.specs.List.{count_by}
-use Rattle.std.specs.Option.{option_map, is_some}
+use Rattle.std.specs.Option.{is_some}
 use Rattle.thy_cache.specs.declared.line.Line.{Line}
 use Rattle.thy_cache.specs.declared.line.LinePlace.{LinePlace}
 use Rattle.thy_cache.specs.Ways.{Ways, is_dirty, way_of, line_at, used_for}
@@ -11,7 +11,7 @@ use Rattle.thy_cache.specs.Flat.{KeepsLines, IsWritten}
 use Rattle.thy_cache.proofs.LineLemmas.{place-way_of, held}
 use Rattle.thy_cache.proofs.AgreeLemmas.{map-Some}
 use Rattle.thy_cache.proofs.CountLemmas.{dirty_count-with_set}
-use Rattle.thy_cache.proofs.WriteLaws.{ReadsSame-peeks, used_for-lines, read-line_of, read-peeks, read-agrees, write-flat, write-hits, write-agrees, write-count}
+use Rattle.thy_cache.proofs.WriteLaws.{ReadsSame-peeks, used_for-lines, read-line_of, read-peeks, read-agrees, write-flat, write-hits, write-agrees, write-count, is_some-map}
 use Rattle.thy_cache.proofs.SizeLaws.{KeepsSize-read, KeepsSize-write}
 
 -- a block's set is one of the cache's
@@ -39,13 +39,9 @@ found_by : (ways : Ways) (b : ℕ) (o : Option ℕ) → way_of ways b ≡ o → 
 found_by ways b None e = refl
 found_by ways b (Some w) e = sym (ap is_some (held b (line_at ways w) (place-way_of ways b w e).2).1)
 
-some_map : {X Y : Type 0} (f : X → Y) (o : Option X) → is_some (option_map f o) ≡ is_some o
-some_map f None = refl
-some_map f (Some x) = refl
-
 pub place-hits : (c : Contents) (b : ℕ) → is_some (place_of c b) ≡ hits c b
 place-hits c b =
-    some_map (λ way. record { set = index_of c b; way = way }) (way_of (set_of c b) b) ∙ found_by (set_of c b) b (way_of (set_of c b) b) refl
+    is_some-map (λ way. record { set = index_of c b; way = way }) (way_of (set_of c b) b) ∙ found_by (set_of c b) b (way_of (set_of c b) b) refl
 
 -- what a read leaves, and a write
 pub KeepsLines-read : (c : Contents) (b : ℕ) → index_of c b < length c.sets → KeepsLines c (read_from b c)

@@ -1,7 +1,7 @@
 -- What a fill and a store of a line leave.
 use Rattle.std.proofs.Common.{◌≡◌, ◌≢◌, ℕ, ◌%◌, ◌<◌, true, false, cond, nat_lt, List, length, slice_index, slice_set, Option, Some, None, unwrap_or, refl, sym, ◌∙◌, ap, inl, inr, arith}
 use Rattle.std.specs.List.{position_or_len}
-use Rattle.std.specs.Option.{option_map, is_some, is_none}
+use Rattle.std.specs.Option.{option_map, is_none}
 use Rattle.std.proofs.lemmas.Bool.{cases_Bool, cases_eq}
 use Rattle.std.proofs.lemmas.List.{length-set, get_or-set_same, get_or-set_other}
 use Rattle.std.proofs.lemmas.List.Folds.{position_or_len-set}
@@ -10,6 +10,7 @@ use Rattle.thy_base.specs.Device.{zero_block, block_at}
 use Rattle.thy_base.specs.declared.store.Stored.{Stored}
 use Rattle.thy_base.specs.declared.store.Stored.TheVariants.{Done, CopyFirst}
 use Rattle.thy_base.specs.Store.{Holding, HasStored}
+use Rattle.thy_base.proofs.BasicLemmas.{not_some}
 use Rattle.thy_cache.specs.declared.line.Line.{Line}
 use Rattle.thy_cache.specs.declared.line.Victim.TheVariants.{Room, Dirty}
 use Rattle.thy_cache.specs.Ways.{Ways, line_at, line_in, is_dirty, over_line, clean, fresh_line, filled, victim_way, victim_line, used}
@@ -19,7 +20,6 @@ use Rattle.thy_cache.proofs.LineLemmas.{KeepsBlock, line_at-inside, line_in-kept
 use Rattle.thy_cache.proofs.AgreeLemmas.{SetAgrees-same, SetAgrees-over_line, SetAgrees-stored, line_in-single, some_is}
 use Rattle.thy_cache.proofs.FillLemmas.{Filling, SetAgrees-filled, line_in-filled, seen, seen-filled}
 use Rattle.thy_cache.proofs.FlatLemmas.{flat-same, set_of-same, set_of-other, line_of-kept, Agrees-with_set}
-use Rattle.thy_cache.proofs.WriteLaws.{true_is_not_false}
 
 -- what a fill of a block asks for
 pub record CanFill (c : Contents) (blocks : List Block) (b : ℕ) (block : Block) : Type 0 where
@@ -31,11 +31,6 @@ pub record CanFill (c : Contents) (blocks : List Block) (b : ℕ) (block : Block
   pub inside : b < length blocks
   pub loaded : block ≡ block_at blocks b
 
--- without a hit there is no line
-pub no_line : {X : Type 0} (o : Option X) → is_some o ≡ false → o ≡ None
-no_line None e = refl
-no_line (Some x) e = absurd (true_is_not_false e)
-
 -- it is a filling of the block's set
 pub filling : (c : Contents) (blocks : List Block) (b : ℕ) (block : Block) → CanFill c blocks b block
     → Filling (length c.sets) blocks (index_of c b) (victim_way (set_of c b)) b block (used (victim_way (set_of c b)) (set_of c b))
@@ -43,7 +38,7 @@ filling c blocks b block can = record {
   agrees = SetAgrees-same (length c.sets) blocks (index_of c b) (set_of c b) (used (victim_way (set_of c b)) (set_of c b)) refl (can.agrees.sets (index_of c b));
   way = can.way;
   room = can.room;
-  missing = no_line (line_of c b) can.missing;
+  missing = not_some (line_of c b) can.missing;
   inside = can.inside;
   own_set = refl;
   loaded = can.loaded;

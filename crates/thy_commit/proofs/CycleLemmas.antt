@@ -1,8 +1,7 @@
 -- Every item takes one of the cycles that are left.
-use Rattle.std.proofs.Common.{◌≡◌, ◌≢◌, ℕ, ◌+◌, ◌-◌, ◌*◌, ◌<◌, ◌≤◌, nat_lt, Bool, true, false, if◌then◌else◌, All, get_or, refl, sym, ◌∙◌, ap, subst, arith, Option, Some, None, is_some, Result, Ok}
+use Rattle.std.proofs.Common.{◌≡◌, ◌≢◌, ℕ, ◌+◌, ◌-◌, ◌*◌, ◌<◌, ◌≤◌, nat_lt, Bool, true, false, if◌then◌else◌, All, get_or, refl, sym, ◌∙◌, ap, subst, arith, Option, Some, None}
 use Rattle.std.proofs.lemmas.Bool.{ltb-true, ltb-false}
 use Rattle.std.proofs.lemmas.List.Sums.{sum_by-le, count_by-le-length}
-use Rattle.thy_base.specs.declared.nvm.NvmError.{NvmError}
 use Rattle.thy_base.specs.Device.{Device}
 use Rattle.thy_base.specs.declared.config.Parameters.{Parameters}
 use Rattle.thy_base.specs.Geometry.{memory_blocks}
@@ -11,19 +10,17 @@ use Rattle.thy_base.specs.Store.{page_of}
 use Rattle.thy_table.specs.Listing.{entry_at, passes}
 use Rattle.thy_table.proofs.IndexLemmas.{one_if, lists-key}
 use Rattle.thy_table.specs.declared.block_entry.BttEntry.{BttEntry}
-use Rattle.thy_table.specs.declared.block_entry.Pending.{Pending}
-use Rattle.thy_table.specs.declared.block_entry.Pending.TheVariants.{Settled, FromBuffer, FromAlternate}
+use Rattle.thy_table.specs.declared.block_entry.Pending.TheVariants.{Settled}
 use Rattle.thy_table.specs.declared.page_entry.PttEntry.{PttEntry}
 use Rattle.thy_table.specs.BlockEntry.{new_entry}
 use Rattle.thy_table.specs.PageEntry.{no_page, page_blocks}
 use Rattle.thy_control.specs.Keys.{block_key, page_key}
 use Rattle.thy_control.specs.State.{State, AreSoundTables, cell_of}
 use Rattle.thy_control.specs.Stays.{Stays}
-use Rattle.thy_control.specs.Copies.{is_pending, needs_copy, next_copy, copies_left, copied, block_listed, after_next_copy}
-use Rattle.thy_control.specs.Moves.{IsOneLess}
+use Rattle.thy_control.specs.Copies.{needs_copy, next_copy, copies_left, copied, block_listed, after_next_copy}
 use Rattle.thy_control.specs.Pages.{next_page, issues_left, writes_left, after_next_write}
-use Rattle.thy_control.proofs.CopyLemmas.{left_after as copies-after, none_left, listed-pending}
-use Rattle.thy_control.proofs.IssueLemmas.{left_after as writes-after, listed-busy}
+use Rattle.thy_control.proofs.CopyLemmas.{none_left, listed-pending, is_pending-not, pending-not_settled, copies_left-next}
+use Rattle.thy_control.proofs.IssueLemmas.{listed-busy, writes_left-next}
 use Rattle.thy_control.proofs.FindLemmas.{found_entry, entry_for-some}
 use Rattle.thy_commit.specs.declared.stage.CheckpointStage.{CheckpointStage}
 use Rattle.thy_commit.specs.declared.stage.CheckpointStage.TheVariants.{Nothing, Copies, Pages, Slot, Settle, Commit, Confirm}
@@ -32,21 +29,6 @@ use Rattle.thy_commit.specs.Progress.{Progress, state_after}
 use Rattle.thy_commit.specs.Cycles.{left_after, ItemsCount, most_cycles, StaysCount, CyclesAreFew}
 use Rattle.thy_commit.proofs.FitLemmas.{IsOfBlock, block-listed, IsOfPage, page-listed}
 use Rattle.thy_commit.proofs.ListedLemmas.{all_at, AreBelow, sum-most, at_least}
-
-copies_less : (s : State) (m : Device) → AreSoundTables s → (o : Option ℕ) → next_copy s ≡ o
-    → IsOneLess (is_some o) (copies_left s) (copies_left (after_next_copy o s m))
-copies_less s m t o h =
-    let r : Result Bool NvmError = Ok (is_some (next_copy s)) in
-    let is : IsOneLess (is_some (next_copy s)) (copies_left s) (copies_left (after_next_copy (next_copy s) s m)) =
-    copies-after s m (after_next_copy (next_copy s) s m) t (Ok (is_some (next_copy s))) refl refl in
-    subst (λ (x : Option ℕ). IsOneLess (is_some x) (copies_left s) (copies_left (after_next_copy x s m))) h is
-
-writes_less : (s : State) (m : Device) → AreSoundTables s → (o : Option ℕ) → next_page s ≡ o
-    → IsOneLess (is_some o) (writes_left s) (writes_left (after_next_write o s m))
-writes_less s m t o h =
-    let is : IsOneLess (is_some (next_page s)) (writes_left s) (writes_left (after_next_write (next_page s) s m)) =
-    writes-after s m (after_next_write (next_page s) s m) t (Ok (is_some (next_page s))) refl refl in
-    subst (λ (x : Option ℕ). IsOneLess (is_some x) (writes_left s) (writes_left (after_next_write x s m))) h is
 
 -- a copy leaves the pages as they were
 writes-copied : (b : ℕ) (s : State) (m : Device) → writes_left (copied b s m) ≡ writes_left s
@@ -65,14 +47,14 @@ module _ (e : Progress) (s : State) (m : Device) (t : AreSoundTables s) where
 
   counts-page : (o : Option ℕ) → next_page s ≡ o → left (page_or_slot o) + 1 ≡ writes_left s + (slot_blocks e.p + 3)
   counts-page None h =
-      let none = writes_less s m t None h in
+      let none = writes_left-next s m t None h in
       omega (arith, counts-slot 0 (omega arith), none.0)
-  counts-page (Some j) h = let less : writes_left (after_next_write (Some j) s m) + 1 ≡ writes_left s = writes_less s m t (Some j) h in omega (arith, less)
+  counts-page (Some j) h = let less : writes_left (after_next_write (Some j) s m) + 1 ≡ writes_left s = writes_left-next s m t (Some j) h in omega (arith, less)
 
   counts-copy : (o : Option ℕ) → next_copy s ≡ o → left (copy_or o (page_item s)) + 1 ≡ copies_left s + (writes_left s + (slot_blocks e.p + 3))
   counts-copy None h = omega (arith, counts-page (next_page s) refl, none_left s h)
   counts-copy (Some i) h =
-      let less : copies_left (after_next_copy (Some i) s m) + 1 ≡ copies_left s = copies_less s m t (Some i) h in
+      let less : copies_left (after_next_copy (Some i) s m) + 1 ≡ copies_left s = copies_left-next s m t (Some i) h in
       omega (arith, less, writes-copied (block_listed i s) s m)
 
   counts-next : (q : CheckpointStage) → ((k : ℕ) → q ≡ Slot k → k < slot_blocks e.p) → is_under_way q ≡ true → left (item q s) + 1 ≡ left_after q e.p s
@@ -88,16 +70,6 @@ pub items_count : ItemsCount
 items_count e s m sound t fits way = counts-next e s m t e.next sound.inside way
 
 -- ---- calls in between
-
-settled-pending : (q : Pending) → q ≢ Settled → is_pending q ≡ true
-settled-pending Settled h = absurd (h refl)
-settled-pending FromBuffer h = refl
-settled-pending FromAlternate h = refl
-
-pending-not : (q : Pending) → is_pending q ≡ true → q ≢ Settled
-pending-not Settled h = cc
-pending-not FromBuffer h = λ e. cc
-pending-not FromAlternate h = λ e. cc
 
 -- entries list blocks and pages of memory
 blocks-below : (s : State) (p : Parameters) → s.p ≡ p → AreSoundTables s → AreBelow block_key (memory_blocks p) s.btt.entries
@@ -127,7 +99,7 @@ module _ (s : State) (m : Device) (t : State) (n : Device) (old : AreSoundTables
       let there = found_entry block_key new_entry s.btt b (cell_of s b).i (listed-pending b s pending) in
       let is : (cell_of s b).entry ≡ there.0 = entry_for-some block_key new_entry s.btt b (cell_of s b).i there.0 (listed-pending b s pending) there.1 in
       let counts : copy_weight (Some there.0) ≡ 1
-      = ap one_if (ap needs_copy (sym is) ∙ settled-pending (cell_of s b).entry.pend pending) in
+      = ap one_if (ap needs_copy (sym is) ∙ is_pending-not (cell_of s b).entry.pend pending) in
       omega (
         arith,
         counts,
@@ -142,7 +114,7 @@ module _ (s : State) (m : Device) (t : State) (n : Device) (old : AreSoundTables
     by_test true h =
         let of_block : IsOfBlock t new e = block-listed t new i e was in
         let now : (cell_of t e.block).entry.pend ≢ Settled
-        = pending-not (cell_of t e.block).entry.pend (ap needs_copy of_block.entry ∙ h) in
+        = pending-not_settled (cell_of t e.block).entry.pend (ap needs_copy of_block.entry ∙ h) in
         let counts : 1 ≤ all_at block_key copy_weight refl s.btt.entries e.block
         = pending-counts e.block (was-pending e.block (before e.block of_block.inside) now) in
         omega (arith, ap one_if h, counts)

@@ -40,7 +40,8 @@ written-all s none b = not_to_write (cell_of s b).page.busy (cell_of s b).page.i
 
 -- ---- idle
 
-past-idle : (q : CheckpointStage) (s : State) → is_under_way q ≡ false → IsPast q s
+-- with no checkpoint under way engine and controller belong together
+pub past-idle : (q : CheckpointStage) (s : State) → is_under_way q ≡ false → IsPast q s
 past-idle Nothing s h = tt
 past-idle Copies s h = cc
 past-idle Pages s h = cc

@@ -10,6 +10,7 @@ use Rattle.thy_base.specs.declared.layout_version.LayoutVersion.TheVariants.{Ver
 use Rattle.thy_base.specs.Device.{Device, block_at}
 use Rattle.thy_base.specs.Geometry.{memory_blocks}
 use Rattle.thy_base.specs.Places.{number_of, blocks_of_slot, place_of_slot, slot_blocks, slot_place, IsApart}
+use Rattle.thy_base.proofs.BasicLemmas.{not_in_none}
 use Rattle.thy_place.specs.Devices.{NoMoreAt}
 use Rattle.thy_crash.specs.Spares.{Spares}
 use Rattle.thy_record.specs.Commit.{is_zero, epoch_of, version_of}
@@ -28,9 +29,6 @@ use Rattle.thy_record.proofs.IssuingLemmas.{old_slot_before, slot_behind}
 first_or_rest : (y x : ℕ) (xs : List ℕ) → Contains (x ∷ xs) y → (x ≡ y) ⊎ Contains xs y
 first_or_rest y x xs (zero, l, is) = inl is
 first_or_rest y x xs (suc k, l, is) = inr (k, omega arith, is)
-
-none_in : (y : ℕ) → Contains [] y → ⊥
-none_in y (k, l, is) = absurd (omega arith)
 
 -- a place that tells what an image means lies apart from memory's places, or memory has it
 abbrev pub ApartOrMemory : Parameters → Tables → ℕ → Type 0
@@ -61,7 +59,7 @@ module _ (p : Parameters) (t : Tables) (x : ℕ) where
     | inl e ↦ inl (inl (omega (arith, e)))
     | inr rest ↦ elim (first_or_rest x 1 [] rest) as (λ _. ApartOrMemory p t x) [
       | inl e ↦ inl (inl (omega (arith, e)))
-      | inr none ↦ absurd (none_in x none)
+      | inr none ↦ absurd (not_in_none x none)
     ]
   ]
   looked_by-zeros image false is inside =

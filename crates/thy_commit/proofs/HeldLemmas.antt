@@ -7,8 +7,7 @@ use Rattle.std.proofs.lemmas.List.FromFn.{length-map-range_with_len, get_or-map-
 use Rattle.std.proofs.lemmas.List.Sums.{sum_by-set, sum_by-cons}
 use Rattle.thy_base.specs.declared.block.Block.{Block}
 use Rattle.thy_base.specs.declared.config.Parameters.{Parameters}
-use Rattle.thy_base.specs.Device.{Device, written_to, zero_block, surplus}
-use Rattle.thy_base.proofs.DeviceLemmas.{length-applied, length-landed}
+use Rattle.thy_base.specs.Device.{Device, written_to, zero_block}
 use Rattle.thy_base.specs.Geometry.{memory_blocks}
 use Rattle.thy_base.specs.declared.place.Place.{Place}
 use Rattle.thy_base.specs.Places.{in_dram, number_of, image_blocks}
@@ -31,7 +30,6 @@ use Rattle.thy_cell.specs.Cells.{seat_of, frame_at, target, last}
 use Rattle.thy_cell.specs.Checkpoint.{CommitMoves, committed_by, committed_entry, page_committed_by, committed_page, page_or_none, page_issued}
 use Rattle.thy_cell.specs.Rules.{after_copy}
 use Rattle.thy_cell.specs.BetweenCheckpoints.{CopyKeeps, PageWriteKeeps, PageWriteKeepsOthers}
-use Rattle.thy_view.specs.Action.{Action, Rest, ReadAt, WriteAt, Barrier, Drain, after}
 use Rattle.thy_control.specs.declared.overlay.WorkCounts.{WorkCounts}
 use Rattle.thy_control.specs.Keys.{block_key, page_key}
 use Rattle.thy_control.specs.State.{State, AreSoundTables, IsSized, cell_of, reads, work_of}
@@ -51,6 +49,7 @@ use Rattle.thy_control.proofs.HoldingLemmas.{works-sized}
 use Rattle.thy_control.proofs.IdleLemmas.{free-committed}
 use Rattle.thy_control.proofs.IssueLemmas.{IsDue-entry, listed-busy, busy-framed}
 use Rattle.thy_control.proofs.StepMarkLemmas.{AreWorkCounts-copied, AreWorkCounts-issued}
+use Rattle.thy_view.proofs.ActionLemmas.{down-after, length-after}
 use Rattle.thy_commit.specs.declared.stage.CheckpointStage.{CheckpointStage}
 use Rattle.thy_commit.specs.declared.stage.CheckpointStage.TheVariants.{Nothing, Copies, Pages, Slot, Settle, Commit, Confirm}
 use Rattle.thy_commit.specs.Items.{Item, NoItem, CopyItem, PageItem, SlotItem, SettleItem, CommitItem, ConfirmItem, item, copy_or, page_or_slot, page_item}
@@ -287,21 +286,6 @@ module _ (s : State) (m : Device) (tables : AreSoundTables s) where
 
 -- ---- the blocks
 
--- an action leaves as many blocks on the NVM, and that as up as it was
-length-after : (a : Action) (m : Device) → length (after a m).image ≡ length m.image
-length-after Rest m = refl
-length-after (ReadAt place) m = refl
-length-after (WriteAt place block) m = length-landed (surplus m) m
-length-after Barrier m = length-applied m.image m.queue
-length-after Drain m = length-landed 1 m
-
-down-after : (a : Action) (m : Device) → (after a m).down ≡ m.down
-down-after Rest m = refl
-down-after (ReadAt place) m = refl
-down-after (WriteAt place block) m = refl
-down-after Barrier m = refl
-down-after Drain m = refl
-
 -- what a load gives, as it is moved by the item
 work-moved : (i : Item) (s : State) (m : Device) (t : State) (n : Device) → MovesVersions i s m t n → (b : ℕ) → b < memory_blocks s.p → work_of t n b ≡ work_of s m b
 work-moved NoItem s m t n h = h.work_same
@@ -354,7 +338,8 @@ dram-after SettleItem s m = record { dram_same = refl; counts_same = refl }
 dram-after CommitItem s m = record { dram_same = refl; counts_same = refl }
 dram-after ConfirmItem s m = record { dram_same = refl; counts_same = refl }
 
-works-same : (s : State) (m : Device) (t : State) (n : Device) → t.p ≡ s.p → IsSized s m → m.down ≡ false → IsSized t n → n.down ≡ false
+-- if a load of each block gives what it gave, the same blocks are held
+pub works-same : (s : State) (m : Device) (t : State) (n : Device) → t.p ≡ s.p → IsSized s m → m.down ≡ false → IsSized t n → n.down ≡ false
     → ((b : ℕ) → b < memory_blocks s.p → work_of t n b ≡ work_of s m b) → works t n ≡ works s m
 works-same s m t n p sized up sized_now up_now same =
     let size : ℕ = memory_blocks s.p in

@@ -1,15 +1,13 @@
 -- The checkpoint under way stays that of the sealed mark.
 use Rattle.std.proofs.Common.{◌≡◌, ◌≢◌, ℕ, ◌+◌, ◌<◌, ◌≤◌, nat_lt, Bool, true, false, if◌then◌else◌, length, map, refl, sym, ◌∙◌, ap, inl, arith, Option, Some, None}
 use Rattle.std.specs.List.{range_with_len}
-use Rattle.std.proofs.lemmas.List.{ext_get_or}
-use Rattle.std.proofs.lemmas.List.FromFn.{length-map-range_with_len, get_or-map-range_with_len}
 use Rattle.thy_base.specs.declared.block.Block.{Block}
 use Rattle.thy_base.specs.declared.config.Parameters.{Parameters}
 use Rattle.thy_base.specs.declared.place.Place.{Place}
-use Rattle.thy_base.specs.Device.{Device, block_at, newest, written_to, zero_block}
+use Rattle.thy_base.specs.Device.{Device, block_at, newest, written_to}
 use Rattle.thy_base.specs.Geometry.{memory_blocks}
 use Rattle.thy_base.specs.Places.{in_dram, number_of, slot_blocks, first_home}
-use Rattle.thy_base.proofs.DeviceLemmas.{newest-written_to_other, newest-settled}
+use Rattle.thy_base.proofs.DeviceLemmas.{newest-written_to_other, newest-settled, map-agree}
 use Rattle.thy_place.specs.Devices.{devices_of, written_at}
 use Rattle.thy_crash.proofs.SavedLemmas.{next_image-commit}
 use Rattle.thy_isa.specs.OnBlocks.{state_from}
@@ -37,19 +35,9 @@ use Rattle.thy_commit.proofs.ActionLemmas.{written-nvm, target-in_nvm}
 use Rattle.thy_commit.proofs.HeldLemmas.{same_p-after}
 use Rattle.thy_commit.proofs.ItemLemmas.{items_move_versions}
 
--- memory as two states have it, block by block
-blocks-same : (f g : ℕ → Block) (size : ℕ) → ((b : ℕ) → b < size → f b ≡ g b) → map f (range_with_len 0 size) ≡ map g (range_with_len 0 size)
-blocks-same f g size same =
-    ext_get_or zero_block (map f (range_with_len 0 size)) (map g (range_with_len 0 size))
-    (length-map-range_with_len f 0 size ∙ sym (length-map-range_with_len g 0 size))
-    (λ b l.
-    let inside : b < size = omega (arith, l, length-map-range_with_len f 0 size) in
-    get_or-map-range_with_len f 0 size b b zero_block inside (omega arith) ∙ same b inside
-    ∙ sym (get_or-map-range_with_len g 0 size b b zero_block inside (omega arith)))
-
 lasts-same : (s : State) (m : Device) (t : State) (n : Device) → t.p ≡ s.p → ((b : ℕ) → b < memory_blocks s.p → last_of t n b ≡ last_of s m b) → lasts t n ≡ lasts s m
 lasts-same s m t n p same =
-    ap (λ (q : Parameters). map (last_of t n) (range_with_len 0 (memory_blocks q))) p ∙ blocks-same (last_of t n) (last_of s m) (memory_blocks s.p) same
+    ap (λ (q : Parameters). map (last_of t n) (range_with_len 0 (memory_blocks q))) p ∙ map-agree (last_of t n) (last_of s m) (memory_blocks s.p) same
 
 module _ (o : Origin) (e : Progress) (s : State) (m : Device) (c : Checkpoints) (made : IsMadeFor o e s m c) where
   -- with the last versions and the header as before, and the commit block as it has to be
@@ -173,7 +161,7 @@ seal_makes o e s n c cpu mark sized up seals moment header = record {
   small = moment.small;
   recordable = moment.recordable;
   state_is =
-      ap (state_from o.geometry cpu) (blocks-same (last_of (sealed_state s) n) (work_of s n) (memory_blocks s.p) seals.last_is ∙ sym (works-sized s n sized up))
+      ap (state_from o.geometry cpu) (map-agree (last_of (sealed_state s) n) (work_of s n) (memory_blocks s.p) seals.last_is ∙ sym (works-sized s n sized up))
       ∙ moment.state_is;
   counted = moment.counted;
   header = header;

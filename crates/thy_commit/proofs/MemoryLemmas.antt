@@ -1,14 +1,12 @@
 -- With nothing left to copy or to write, every block is read at its place by the tables of the checkpoint under way.
-use Rattle.std.proofs.Common.{◌≡◌, ℕ, ◌%◌, ◌<◌, ◌≤◌, Bool, true, false, if◌then◌else◌, length, refl, sym, ◌∙◌, ap, arith}
-use Rattle.std.proofs.lemmas.List.{length-map, get_or-map, ext_get_or}
+use Rattle.std.proofs.Common.{◌≡◌, ◌%◌, ◌<◌, ◌≤◌, Bool, true, false, if◌then◌else◌, refl, sym, ◌∙◌, ap, arith}
+use Rattle.std.proofs.lemmas.List.{ext_get_or}
 use Rattle.std.proofs.lemmas.List.FromFn.{length-map-range_with_len, get_or-map-range_with_len}
 use Rattle.thy_base.specs.declared.block.Block.{Block}
-use Rattle.thy_base.specs.declared.config.Parameters.{Parameters}
 use Rattle.thy_base.specs.declared.place.Place.{Place}
 use Rattle.thy_base.specs.Device.{Device, zero_block, block_at, newest}
 use Rattle.thy_base.specs.Geometry.{memory_blocks}
 use Rattle.thy_base.specs.Places.{in_dram, number_of}
-use Rattle.thy_record.specs.Images.{memory_numbers}
 use Rattle.thy_record.specs.Issuing.{memory_read}
 use Rattle.thy_record.specs.Tables.{Tables, place_of}
 use Rattle.thy_record.proofs.EntryLemmas.{in_dram-place_of}
@@ -17,6 +15,7 @@ use Rattle.thy_cell.specs.declared.cell.Cell.{Cell}
 use Rattle.thy_cell.specs.Cells.{seat_of, frame_at, pending_at, target, last}
 use Rattle.thy_cell.specs.Checkpoint.{IsCopied}
 use Rattle.thy_cell.specs.Sound.{Holds}
+use Rattle.thy_record.proofs.IssuingLemmas.{length-memory_read, memory_read-at}
 use Rattle.thy_control.specs.State.{State, cell_of, reads, last_of}
 use Rattle.thy_control.specs.CheckpointTables.{tables1}
 use Rattle.thy_control.proofs.TablesLemmas.{AreTablesOf-under_way}
@@ -36,18 +35,6 @@ reads-nvm : (s : State) (n : Device) (x : Place) → in_dram x ≡ false → rea
 reads-nvm s n x side =
     ap (λ (d : Bool). if d then block_at s.dram.blocks (number_of s.p x) else newest n (number_of s.p x)) side
 
--- memory as it is read by tables, block by block
-memory_read-each : (p : Parameters) (t : Tables) (n : Device) (b : ℕ) → b < memory_blocks p
-    → block_at (memory_read p t n) b ≡ newest n (number_of p (place_of t b))
-memory_read-each p t n b l =
-    get_or-map (newest n) (memory_numbers p t) b 0 zero_block
-    (omega (arith, l, length-map-range_with_len (λ (k : ℕ). number_of p (place_of t k)) 0 (memory_blocks p)))
-    ∙ ap (newest n) (get_or-map-range_with_len (λ (k : ℕ). number_of p (place_of t k)) 0 (memory_blocks p) b b 0 l (omega arith))
-
-length-memory_read : (p : Parameters) (t : Tables) (n : Device) → length (memory_read p t n) ≡ memory_blocks p
-length-memory_read p t n =
-    length-map (memory_numbers p t) (newest n) ∙ length-map-range_with_len (λ (k : ℕ). number_of p (place_of t k)) 0 (memory_blocks p)
-
 pub memory_is_last : MemoryIsLast
 memory_is_last s n t hold done =
     let tables : Tables = tables1 s in
@@ -57,7 +44,7 @@ memory_is_last s n t hold done =
     let c : Cell = cell_of s b in
     let place : place_of tables b ≡ target c = (AreTablesOf-under_way s t).same_place b l in
     let side : in_dram (target c) ≡ false = ap in_dram (sym place) ∙ in_dram-place_of tables b in
-    memory_read-each s.p tables n b l
+    memory_read-at s.p tables n b l
     ∙ ap (λ (x : Place). newest n (number_of s.p x)) place
     ∙ sym (reads-nvm s n (target c) side)
     ∙ target-copied (reads s n) c (AreCopied-done s done b l) (hold b l) (omega arith)

@@ -184,7 +184,8 @@ stays_tell o e s m t n c stays told = record {
 
 -- ---- a seal
 
-idle-kept : (q : CheckpointStage) (c : Checkpoints) → is_under_way q ≡ false → saved_at q c ≡ Kept c.before
+-- with no checkpoint under way an image is what it was
+pub idle-kept : (q : CheckpointStage) (c : Checkpoints) → is_under_way q ≡ false → saved_at q c ≡ Kept c.before
 idle-kept Nothing c h = refl
 idle-kept Copies c h = cc
 idle-kept Pages c h = cc

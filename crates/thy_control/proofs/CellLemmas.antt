@@ -5,6 +5,7 @@ use Rattle.thy_base.specs.declared.place.Place.{Place}
 use Rattle.thy_base.specs.Geometry.{IsInRange, memory_blocks}
 use Rattle.thy_base.specs.Places.{IsPlace}
 use Rattle.thy_base.specs.Store.{page_of}
+use Rattle.thy_base.proofs.RangeLemmas.{btt_least}
 use Rattle.thy_table.specs.declared.block_entry.Version.{Version}
 use Rattle.thy_table.specs.declared.block_entry.Version.TheVariants.{Out, Alt}
 use Rattle.thy_table.specs.declared.block_entry.Pending.{Pending}
@@ -74,10 +75,6 @@ block-cell_of s b = key-entry_for block_key new_entry (λ n. refl) s.btt b
 
 pub page-cell_of : (s : State) (b : ℕ) → (cell_of s b).page.page ≡ page_of b
 page-cell_of s b = key-entry_for page_key no_page (λ n. refl) s.ptt (page_of b)
-
--- both tables have entries
-pub btt_least : (p : Parameters) → IsInRange p → 8 ≤ p.btt
-btt_least p r = r.1.1.1.1.0.0.0
 
 pub ptt_least : (p : Parameters) → IsInRange p → 8 ≤ p.ptt
 ptt_least p r = r.1.1.1.1.1.0.0.0

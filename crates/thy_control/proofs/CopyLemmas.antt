@@ -47,12 +47,13 @@ use Rattle.thy_control.proofs.StayLemmas.{map-block}
 use Rattle.thy_control.proofs.StepStayLemmas.{StaysTables, Outcome, LeavesGuarded-step, Stays-step, Stays-failed_step, Outcome-failed}
 use Rattle.thy_control.proofs.LiveLemmas.{used-set}
 
-is_pending-not : (q : Pending) → q ≢ Settled → is_pending q ≡ true
+-- a version is pending exactly if it is not settled
+pub is_pending-not : (q : Pending) → q ≢ Settled → is_pending q ≡ true
 is_pending-not Settled h = absurd (h refl)
 is_pending-not FromBuffer h = refl
 is_pending-not FromAlternate h = refl
 
-pending-not_settled : (q : Pending) → is_pending q ≡ true → q ≢ Settled
+pub pending-not_settled : (q : Pending) → is_pending q ≡ true → q ≢ Settled
 pending-not_settled Settled h = cc
 pending-not_settled FromBuffer h = λ e. cc
 pending-not_settled FromAlternate h = λ e. cc
@@ -178,15 +179,15 @@ KeepsAll-next law s m t sized =
     (KeepsEach-next law s m t sized (next_copy s) refl)
 
 -- one copy less is left
-left_by : (s : State) (m : Device) → AreSoundTables s → (o : Option ℕ) → next_copy s ≡ o → IsOneLess (is_some o) (copies_left s) (copies_left (after_next_copy o s m))
-left_by s m t None h = (none_left s h, none_left s h)
-left_by s m t (Some i) h = copies_left-copied (block_listed i s) s m (IsNext-entry s t i h).pending
+pub copies_left-next : (s : State) (m : Device) → AreSoundTables s → (o : Option ℕ) → next_copy s ≡ o → IsOneLess (is_some o) (copies_left s) (copies_left (after_next_copy o s m))
+copies_left-next s m t None h = (none_left s h, none_left s h)
+copies_left-next s m t (Some i) h = copies_left-copied (block_listed i s) s m (IsNext-entry s t i h).pending
 
 pub left_after : (s : State) (m : Device) (t : State) → AreSoundTables s → (r : Result Bool NvmError) → OnOk r (t ≡ after_next_copy (next_copy s) s m) → IfOk r (λ more. more ≡ is_some (next_copy s))
     → IfOk r (λ more. IsOneLess more (copies_left s) (copies_left t))
 left_after s m t tables (Ok more) e f =
     subst (λ (x : State). IsOneLess more (copies_left s) (copies_left x)) (sym e)
-    (subst (λ (x : Bool). IsOneLess x (copies_left s) (copies_left (after_next_copy (next_copy s) s m))) (sym f) (left_by s m tables (next_copy s) refl))
+    (subst (λ (x : Bool). IsOneLess x (copies_left s) (copies_left (after_next_copy (next_copy s) s m))) (sym f) (copies_left-next s m tables (next_copy s) refl))
 left_after s m t tables (Err x) e f = tt
 
 -- the parts of the code's way: the state as its fields have it

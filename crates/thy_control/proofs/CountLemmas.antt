@@ -96,7 +96,7 @@ module _ (t : State) (b : ℕ) (e : BttEntry) (listed : place_of block_key b t.b
       (ap waits now) (ap (passes (λ (e : BttEntry). waits e.pend)) is_there ∙ ap waits was)
 
 -- another entry of a page that has one
-promoted-set : (t : State) (b : ℕ) (e : PttEntry) → place_of page_key (page_of b) t.ptt ≡ Some (cell_of t b).j → is_promoted e ≡ is_promoted (cell_of t b).page
+pub promoted-set : (t : State) (b : ℕ) (e : PttEntry) → place_of page_key (page_of b) t.ptt ≡ Some (cell_of t b).j → is_promoted e ≡ is_promoted (cell_of t b).page
     → promoted (with_entry (cell_of t b).j (Some e) t.ptt) ≡ promoted t.ptt
 promoted-set t b e listed same =
     let there = found_entry page_key no_page t.ptt (page_of b) (cell_of t b).j listed in

@@ -1,6 +1,6 @@
 -- The places at which the searches of the tables start: what is found from there, and that they stay right after each step.
 use Rattle.std.proofs.Common.{◌≡◌, ◌≢◌, ℕ, ◌+◌, ◌<◌, ◌≤◌, Bool, true, false, ◌&&◌, nat_lt, length, unwrap_or, refl, sym, ◌∙◌, ap, subst, inl, inr, arith, Option, Some, None}
-use Rattle.std.proofs.lemmas.Bool.{cases_eq, cases_lt, lt-ltb}
+use Rattle.std.proofs.lemmas.Bool.{cases_eq, cases_lt, lt-ltb, false_from_ne_true, both_ways}
 use Rattle.std.proofs.lemmas.List.{get_or-set_same, get_or-set_other}
 use Rattle.thy_base.specs.declared.block.Block.{Block}
 use Rattle.thy_base.specs.Device.{Device}
@@ -221,9 +221,6 @@ AreCursors-copied b s m k pending h =
 write_due : (busy : Bool) (done : ℕ) → busy ≡ true → done < page_blocks → (busy && nat_lt done page_blocks) ≡ true
 write_due busy done b l = ap (λ (x : Bool). x && nat_lt done page_blocks) b ∙ lt-ltb done page_blocks l
 
-no_both : {x : Bool} → x ≡ true → x ≡ false → ⊥
-no_both e f = cc
-
 pub AreCursors-issued : (b : ℕ) (s : State) (m : Device) (k : Cursors) → (cell_of s b).page.busy ≡ true → (cell_of s b).page.issued < 64 → AreCursors s.ptt s.btt k
     → AreCursors (issued b s m).ptt (issued b s m).btt k
 unfolding issued
@@ -235,7 +232,7 @@ AreCursors-issued b s m k busy less h =
     record {
       copies = h.copies;
       writes = page_as s b needs_write e k.writes listed
-          (λ was. absurd (no_both (write_due (cell_of s b).page.busy (cell_of s b).page.issued busy less) was)) h.writes;
+          (λ was. absurd (both_ways _ was (write_due (cell_of s b).page.busy (cell_of s b).page.issued busy less))) h.writes;
       merges = λ n l. overlaid_as (issued b s m).ptt s.ptt framed (entry_at s.btt n) ∙ h.merges n l;
       promotions = page_as s b is_promoted e k.promotions listed (λ was. was) h.promotions;
     }
@@ -269,7 +266,7 @@ AreCursors-filled b s m k fresh bare t h =
       copies = h.copies;
       writes = page_as s b needs_write e k.writes listed (λ was. was) h.writes;
       merges = λ n l. overlaid-filled_at b s fresh m t n ∙ h.merges n l;
-      promotions = page_as s b is_promoted e k.promotions listed (λ was. absurd (no_both (is_now b s fresh bare) was)) h.promotions;
+      promotions = page_as s b is_promoted e k.promotions listed (λ was. absurd (both_ways _ was (is_now b s fresh bare))) h.promotions;
     }
 
 -- What a boot lists has no work, and is whole
@@ -281,16 +278,12 @@ AreCursors-block i b s k inside h = record {
   promotions = h.promotions;
 }
 
-not_true : (x : Bool) → (x ≡ true → ⊥) → x ≡ false
-not_true false n = refl
-not_true true n = absurd (n refl)
-
 pub AreCursors-page : (j n : ℕ) (s : State) (k : Cursors) → IsBooting s → j < length s.ptt.entries → AreCursors s.ptt s.btt k → AreCursors (with_listed_page j n s).ptt s.btt k
 AreCursors-page j n s k boot inside h =
     let now : Listing PttEntry = (with_listed_page j n s).ptt in
     record {
       copies = h.copies;
       writes = NoneBelow-set needs_write s.ptt j (Some (listed_page n)) inside k.writes k.writes (omega arith) h.writes (λ l was. refl);
-      merges = λ m l. not_true (passes (is_overlaid now) (entry_at s.btt m)) (none_over now s boot m (entry_at s.btt m) refl);
+      merges = λ m l. false_from_ne_true (passes (is_overlaid now) (entry_at s.btt m)) (none_over now s boot m (entry_at s.btt m) refl);
       promotions = NoneBelow-set is_promoted s.ptt j (Some (listed_page n)) inside k.promotions k.promotions (omega arith) h.promotions (λ l was. refl);
     }

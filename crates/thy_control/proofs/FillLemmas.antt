@@ -6,16 +6,15 @@ use Rattle.thy_table.specs.BlockEntry.{new_entry}
 use Rattle.thy_table.specs.declared.block_entry.BttEntry.{BttEntry}
 use Rattle.std.specs.List.{count_by}
 use Rattle.std.proofs.Common.{length, ◌≡◌, ◌≢◌, ℕ, ◌+◌, ◌-◌, ◌*◌, ◌<◌, ◌≤◌, ◌%◌, ◌==◌, ◌&&◌, not, if◌then◌else◌, Bool, true, false, List, get_or, refl, sym, ◌∙◌, ap, subst, inl, inr, arith, Option, Some, None, Result, Ok, Err, OnOk, OnErr, [], ◌∷◌, suc}
-use Rattle.std.proofs.lemmas.Bool.{cases_eq, and_parts, eqb-true}
-use Rattle.std.proofs.lemmas.List.{length-set}
+use Rattle.std.proofs.lemmas.Bool.{cases_eq, and_parts, eqb-true, not-true, both_ways}
 use Rattle.std.proofs.lemmas.List.Sums.{sum_by-set, sum_by-cons, get_or-le-sum_by}
-use Rattle.thy_base.specs.declared.block.Block.{Block}
 use Rattle.thy_base.specs.declared.place.Place.{Place}
 use Rattle.thy_base.specs.declared.nvm.NvmError.{NvmError}
 use Rattle.thy_base.specs.Device.{Device, IsFramed, zero_block, HasFailed}
 use Rattle.thy_base.specs.Geometry.{memory_blocks}
-use Rattle.thy_base.specs.Places.{IsPlace, number_of}
+use Rattle.thy_base.specs.Places.{number_of}
 use Rattle.thy_base.specs.Store.{page_of}
+use Rattle.thy_base.proofs.BasicLemmas.{not_and}
 use Rattle.thy_place.specs.Devices.{Devices, devices_of}
 use Rattle.thy_place.proofs.PlaceLemmas.{AreSized-written_at}
 use Rattle.thy_table.specs.Listing.{Listing, IsListing, entry_at, lists, passes, place_of, with_entry}
@@ -27,166 +26,83 @@ use Rattle.thy_table.specs.declared.page_entry.PttEntry.{PttEntry}
 use Rattle.thy_table.specs.PageEntry.{no_page, is_framed, page_blocks}
 use Rattle.thy_cell.specs.declared.cell.Cell.{Cell}
 use Rattle.thy_cell.specs.Cells.{seat_of, frame_at, penult, target, last, work}
-use Rattle.thy_cell.specs.Sound.{IsSoundCell, IsWithin, Holds, Puts}
+use Rattle.thy_cell.specs.Sound.{Holds}
 use Rattle.thy_cell.specs.Checkpoint.{with_filled}
-use Rattle.thy_cell.specs.BetweenCheckpoints.{PromotionKeeps, PromotionKeepsOthers, Keeps, ReadsSame}
-use Rattle.thy_control.specs.CheckpointTables.{tables0, tables1, page_lists}
+use Rattle.thy_cell.specs.BetweenCheckpoints.{PromotionKeeps, PromotionKeepsOthers, Keeps}
 use Rattle.thy_control.specs.Find.{entry_for}
 use Rattle.thy_control.specs.Keys.{page_key, block_key}
 use Rattle.thy_control.specs.Moves.{moved}
-use Rattle.thy_control.specs.OverCalls.{cell_same}
 use Rattle.thy_control.specs.State.{State, AreSoundTables, IsSized, cell_of, reads}
-use Rattle.thy_control.specs.Stays.{CellStays, HoldAll, Stays}
+use Rattle.thy_control.specs.Stays.{HoldAll, Stays}
 use Rattle.thy_control.specs.Versions.{KeepsCheckpoints}
 use Rattle.thy_control.specs.Pages.{block_after}
 use Rattle.thy_control.specs.Holding.{is_promoted, promoted}
 use Rattle.thy_control.specs.Promotions.{next_promotion, fills_left, unfilled, block_to_fill, devices_filled, block_filled, after_promotion, HoldsWork}
 use Rattle.thy_control.proofs.FindLemmas.{found_entry, entry_for-some}
-use Rattle.thy_control.proofs.CellLemmas.{block-cell_of, IsWithin-cell_of}
-use Rattle.thy_control.proofs.OwnLemmas.{owner, Owns-cell_of}
-use Rattle.thy_control.proofs.PageLemmas.{cell-page, same_page, live-set, cell-page_other}
+use Rattle.thy_control.proofs.CellLemmas.{IsWithin-cell_of}
+use Rattle.thy_control.proofs.OwnLemmas.{Owns-cell_of}
+use Rattle.thy_control.proofs.PageLemmas.{same_page, cell-page_other}
 use Rattle.thy_control.proofs.HoldLemmas.{IsPlace-frame_of}
-use Rattle.thy_control.proofs.IssueLemmas.{two_in_page}
-use Rattle.thy_control.proofs.StateLemmas.{place_of-index}
-use Rattle.thy_control.proofs.StayLemmas.{map-page}
-use Rattle.thy_control.proofs.StepLemmas.{Untouched, Keeps-untouched, ReadsSame-of, reads_after, puts, untouched, moved-is, none-passes}
+use Rattle.thy_control.proofs.WalkLemmas.{listed-page, next-here, next-few, not-next, IsWalk, StaysTables-walked, AreSoundTables-walked, here_now, left_as, Keeps-walked, reads-walked, IsBlockOf-entry, walked-is}
+use Rattle.thy_control.proofs.StepLemmas.{moved-is, none-passes}
 use Rattle.thy_control.proofs.StepStayLemmas.{StaysTables, LeavesGuarded-step, Stays-step, Stays-failed_step, penult-in_nvm, target-in_nvm}
 
 abbrev page_filled : PttEntry → PttEntry
 page_filled e = record e { filled = e.filled + 1 }
 
-no_both : {x : Bool} → x ≡ true → x ≡ false → ⊥
-no_both e f = cc
-
 module _ (b : ℕ) (s : State) (fresh : (cell_of s b).page.fresh ≡ true) where
   pub has_page : (cell_of s b).page ≢ no_page (page_of b)
-  has_page e = let no : (cell_of s b).page.fresh ≡ false = ap (λ (x : PttEntry). x.fresh) e in no_both fresh no
+  has_page e = let no : (cell_of s b).page.fresh ≡ false = ap (λ (x : PttEntry). x.fresh) e in both_ways _ no fresh
 
   pub listed-fresh : place_of page_key (page_of b) s.ptt ≡ Some (cell_of s b).j
-  listed-fresh = place_of-index page_key no_page s.ptt (page_of b) has_page
+  listed-fresh = listed-page b s has_page
 
   fresh-same : (k : ℕ) → page_of k ≡ page_of b → (cell_of s k).page.fresh ≡ true
   fresh-same k q = ap (λ (x : PttEntry). x.fresh) (same_page s k b q) ∙ fresh
 
-  has_page-same : (k : ℕ) → page_of k ≡ page_of b → (cell_of s k).page ≢ no_page (page_of k)
-  has_page-same k q e = let no : (cell_of s k).page.fresh ≡ false = ap (λ (x : PttEntry). x.fresh) e in no_both (fresh-same k q) no
+  -- the copy is a step of a page
+  walk : (t : AreSoundTables s) → b < memory_blocks s.p → (cell_of s b).page.filled ≡ b % 64 → PromotionKeeps → PromotionKeepsOthers
+      → IsWalk page_filled s.under_way b s (work (cell_of s b)) (frame_at (seat_of (cell_of s b)))
+  walk t l due law other = record {
+    of_page = λ e. refl;
+    way = refl;
+    has_page = has_page;
+    there = IsPlace-frame_of s b t l;
+    owns = (Owns-cell_of s b).of_page has_page;
+    here = λ old new put. law s.p s.under_way (cell_of s b) old new (IsWithin-cell_of s b t l) (t.cells b l) fresh
+        (next-here b s (λ e. e.filled) due) (next-few b s (λ e. e.filled) due b refl) put;
+    others = λ k h q ne old new same hold. other s.under_way (cell_of s k) old new (t.cells k h) (fresh-same k q)
+        (not-next b s (λ e. e.filled) due k q ne) (next-few b s (λ e. e.filled) due k q) (omega arith) same hold;
+  }
 
-  module _ (m : Device) where
-    -- every block is as it was, but for those of the page
-    pub cell-filled : (P : Cell → Cell → Type 0) (k : ℕ) → (page_of k ≡ page_of b → P (cell_of s k) (with_filled (cell_of s k)))
-        → (page_of k ≢ page_of b → P (cell_of s k) (cell_of s k)) → P (cell_of s k) (cell_of (block_filled b s m) k)
-    unfolding block_filled
-    cell-filled P k here others = cell-page page_filled (λ e. refl) s b listed-fresh P k here others
-
-    module _ (t : AreSoundTables s) (sized : IsSized s m) (l : b < memory_blocks s.p) (due : (cell_of s b).page.filled ≡ b % 64) (law : PromotionKeeps) (other : PromotionKeepsOthers) where
-      within : IsWithin s.p (seat_of (cell_of s b))
-      within = IsWithin-cell_of s b t l
-
-      less : (cell_of s b).page.filled < 64
-      less = omega (arith, due)
-
-      due_b : (cell_of s b).page.filled ≡ (cell_of s b).entry.block % 64
-      due_b = due ∙ ap (λ (n : ℕ). n % 64) (sym (block-cell_of s b))
-
-      less-same : (k : ℕ) → page_of k ≡ page_of b → (cell_of s k).page.filled < 64
-      less-same k q = omega (arith, less, ap (λ (x : PttEntry). x.filled) (same_page s k b q))
-
-      not_due : (k : ℕ) → page_of k ≡ page_of b → k ≢ b → (cell_of s k).page.filled ≢ (cell_of s k).entry.block % 64
-      not_due k q ne e =
-          let numbers : k % 64 ≢ b % 64 = two_in_page k b q ne in
-          numbers (ap (λ (n : ℕ). n % 64) (sym (block-cell_of s k)) ∙ sym e ∙ ap (λ (x : PttEntry). x.filled) (same_page s k b q) ∙ due)
-
-      -- the block itself
-      here : (old new : Place → Block) → Puts s.p (frame_at (seat_of (cell_of s b))) (old (work (cell_of s b))) old new → Keeps s.under_way old new (cell_of s b) (with_filled (cell_of s b))
-      here old new put = law s.p s.under_way (cell_of s b) old new within (t.cells b l) fresh due_b less put
-
-      -- and the others of its page
-      there : (old new : Place → Block) (k : ℕ) → k < memory_blocks s.p → page_of k ≡ page_of b → k ≢ b → ReadsSame old new (cell_of s k) → Holds old (cell_of s k)
-          → Keeps s.under_way old new (cell_of s k) (with_filled (cell_of s k))
-      there old new k h q ne same hold =
-          other s.under_way (cell_of s k) old new (t.cells k h) (fresh-same k q) (not_due k q ne) (less-same k q) (omega arith) same hold
-
-      -- the entries stay sound, whatever is read
-      sound-filled : (k : ℕ) → k < memory_blocks s.p → IsSoundCell s.under_way (cell_of (block_filled b s m) k)
-      sound-filled k h =
-          let all : Place → Block = λ x. zero_block in
-          cell-filled (λ c d. IsSoundCell s.under_way d) k
-          (λ q. elim (cases_eq k b) as (λ _. IsSoundCell s.under_way (with_filled (cell_of s k))) [
-            | inl e ↦ subst (λ (j : ℕ). IsSoundCell s.under_way (with_filled (cell_of s j))) (sym e) (here all all (record { here = refl; others = λ x is ne. refl })).sound
-            | inr ne ↦ (there all all k h q ne (record { penult_same = refl; target_same = refl; last_same = refl; work_same = refl; frame_same = refl })
-                (record { clean = λ f d e. refl; copied = λ j f. refl; issued = λ f j. refl })).sound
-          ])
-          (λ o. t.cells k h)
-
-      pub AreSoundTables-filled : IsListing page_key (block_filled b s m).ptt → AreSoundTables (block_filled b s m)
-      unfolding block_filled devices_filled
-      AreSoundTables-filled once =
-          let found = found_entry page_key no_page s.ptt (page_of b) (cell_of s b).j listed-fresh in
-          let sizes = AreSized-written_at s.p (devices_of m s.dram) (frame_at (seat_of (cell_of s b))) (reads s m (work (cell_of s b))) (record { nvm = sized.nvm; dram = t.dram_size }) in
-          record {
-            range = t.range;
-            btt_size = t.btt_size;
-            btt_numbers = t.btt_numbers;
-            btt_once = t.btt_once;
-            ptt_size = length-set s.ptt.entries (cell_of s b).j (Some (page_filled (cell_of s b).page)) ∙ t.ptt_size;
-            ptt_numbers = t.ptt_numbers;
-            ptt_once = once;
-            live_blocks = t.live_blocks;
-            live_pages = live-set s.ptt (cell_of s b).j (page_filled (cell_of s b).page) found.3 (λ bare. fresh) t.live_pages;
-            counts = t.counts;
-            dram_size = sizes.dram;
-            cells = sound-filled;
-          }
+module _ (b : ℕ) (s : State) (fresh : (cell_of s b).page.fresh ≡ true) (m : Device) (t : AreSoundTables s) (sized : IsSized s m) (l : b < memory_blocks s.p)
+    (due : (cell_of s b).page.filled ≡ b % 64) (law : PromotionKeeps) (other : PromotionKeepsOthers) where
+  pub AreSoundTables-filled : IsListing page_key (block_filled b s m).ptt → AreSoundTables (block_filled b s m)
+  unfolding block_filled devices_filled
+  AreSoundTables-filled once =
+      let sizes = AreSized-written_at s.p (devices_of m s.dram) (frame_at (seat_of (cell_of s b))) (reads s m (work (cell_of s b))) (record { nvm = sized.nvm; dram = t.dram_size }) in
+      AreSoundTables-walked (walk b s fresh t l due law other) t (devices_filled b s m).dram sizes.dram (λ bare. fresh) once
 
 module _ (law : PromotionKeeps) (other : PromotionKeepsOthers) (b : ℕ) (s : State) (fresh : (cell_of s b).page.fresh ≡ true) (m : Device)
     (t : AreSoundTables s) (sized : IsSized s m) (l : b < memory_blocks s.p) (due : (cell_of s b).page.filled ≡ b % 64) where
-  there_is : IsPlace s.p (frame_at (seat_of (cell_of s b)))
-  there_is = IsPlace-frame_of s b t l
-
-  owns : owner s (frame_at (seat_of (cell_of s b))) ≡ Some b
-  owns = (Owns-cell_of s b).of_page (has_page b s fresh)
-
-  abbrev v : Block
-  v = reads s m (work (cell_of s b))
-
-  abbrev new : Place → Block
-  new = reads_after s m b (frame_at (seat_of (cell_of s b))) v t sized there_is owns
-
-  here_now : Keeps s.under_way (reads s m) new (cell_of s b) (with_filled (cell_of s b))
-  here_now = here b s fresh m t sized l due law other (reads s m) new (puts s m b (frame_at (seat_of (cell_of s b))) v t sized there_is owns)
-
-  left_as : (k : ℕ) → k < memory_blocks s.p → k ≢ b → Untouched (reads s m) new k (cell_of s k)
-  left_as k h ne = untouched s m b (frame_at (seat_of (cell_of s b))) v t sized there_is owns k h ne
+  this : IsWalk page_filled s.under_way b s (work (cell_of s b)) (frame_at (seat_of (cell_of s b)))
+  this = walk b s fresh t l due law other
 
   -- if the places hold what they have to, every block is kept
-  pub Keeps-filled : (k : ℕ) → k < memory_blocks s.p → Holds (reads s m) (cell_of s k)
+  Keeps-filled : (k : ℕ) → k < memory_blocks s.p → Holds (reads s m) (cell_of s k)
       → Keeps s.under_way (reads s m) (reads (block_filled b s m) m) (cell_of s k) (cell_of (block_filled b s m) k)
   unfolding block_filled devices_filled
-  Keeps-filled k h hold = cell-filled b s fresh m (λ c d. Keeps s.under_way (reads s m) new c d) k
-      (λ q. elim (cases_eq k b) as (λ _. Keeps s.under_way (reads s m) new (cell_of s k) (with_filled (cell_of s k))) [
-        | inl e ↦ subst (λ (j : ℕ). Keeps s.under_way (reads s m) new (cell_of s j) (with_filled (cell_of s j))) (sym e) here_now
-        | inr ne ↦ there b s fresh m t sized l due law other (reads s m) new k h q ne
-            (ReadsSame-of (reads s m) new k (cell_of s k) (left_as k h ne) (has_page-same b s fresh k q)) hold
-      ])
-      (λ o. Keeps-untouched s.under_way (reads s m) new k (cell_of s k) (t.cells k h) (left_as k h (λ e. o (ap page_of e))))
+  Keeps-filled k h hold = Keeps-walked this t m sized (devices_filled b s m).dram k h hold
 
   -- in any case both checkpoints have every block as before
   pub checkpoints-filled : KeepsCheckpoints s m (block_filled b s m) m
   unfolding block_filled devices_filled
-  checkpoints-filled = record {
-    penult_same = λ k h. cell-filled b s fresh m (λ c d. new (penult d) ≡ reads s m (penult c)) k
-        (λ q. elim (cases_eq k b) as (λ _. new (penult (with_filled (cell_of s k))) ≡ reads s m (penult (cell_of s k))) [
-          | inl e ↦ subst (λ (j : ℕ). new (penult (with_filled (cell_of s j))) ≡ reads s m (penult (cell_of s j))) (sym e) here_now.reads.penult_same
-          | inr ne ↦ (left_as k h ne).penult_same
-        ])
-        (λ o. (left_as k h (λ e. o (ap page_of e))).penult_same);
-    last_same = λ k h. cell-filled b s fresh m (λ c d. new (last d) ≡ reads s m (last c)) k
-        (λ q. elim (cases_eq k b) as (λ _. new (last (with_filled (cell_of s k))) ≡ reads s m (last (cell_of s k))) [
-          | inl e ↦ subst (λ (j : ℕ). new (last (with_filled (cell_of s j))) ≡ reads s m (last (cell_of s j))) (sym e) here_now.reads.last_same
-          | inr ne ↦ (left_as k h ne).last_same
-        ])
-        (λ o. (left_as k h (λ e. o (ap page_of e))).last_same);
-  }
+  checkpoints-filled =
+      let here = (here_now this t m sized).reads in
+      record {
+        penult_same = λ k h. reads-walked this t m sized penult here.penult_same (λ j i q. refl) (λ j i ne. (left_as this t m sized j i ne).penult_same) (devices_filled b s m).dram k h;
+        last_same = λ k h. reads-walked this t m sized last here.last_same (λ j i q. refl) (λ j i ne. (left_as this t m sized j i ne).last_same) (devices_filled b s m).dram k h;
+      }
 
   pub held-filled : HoldAll s m → HoldsWork s m (block_filled b s m) m
   unfolding block_filled
@@ -209,13 +125,9 @@ one_or framed false f = cc
 one_or true true f = refl
 one_or false true f = refl
 
-promoted-yes : (framed fresh : Bool) → framed ≡ false → fresh ≡ true → (not framed && fresh) ≡ true
-promoted-yes true fresh f g = cc
-promoted-yes false fresh f g = g
-
 module _ (b : ℕ) (s : State) (fresh : (cell_of s b).page.fresh ≡ true) (bare : is_framed (cell_of s b).page ≡ false) where
   pub is_now : is_promoted (cell_of s b).page ≡ true
-  is_now = promoted-yes (is_framed (cell_of s b).page) (cell_of s b).page.fresh bare fresh
+  is_now = not_and (is_framed (cell_of s b).page) (cell_of s b).page.fresh bare fresh
 
   found : (e : PttEntry) × (entry_at s.ptt (cell_of s b).j ≡ Some e) × (e.page ≡ page_of b) × ((cell_of s b).j < length s.ptt.entries)
   found = found_entry page_key no_page s.ptt (page_of b) (cell_of s b).j (listed-fresh b s fresh)
@@ -301,60 +213,38 @@ pub record IsFill (s : State) (b : ℕ) : Type 0 where
   pub bare : is_framed (cell_of s b).page ≡ false
   pub due : (cell_of s b).page.filled ≡ b % 64
 
-is_not : (x : Bool) → not x ≡ true → x ≡ false
-is_not false e = refl
-is_not true e = cc
-
 pub IsFill-entry : (s : State) → AreSoundTables s → (j : ℕ) → next_promotion s ≡ Some j → IsFill s (block_to_fill j s)
 IsFill-entry s t j h = by_entry (entry_at s.ptt j) refl (first_from-first (passes is_promoted) None s.ptt.entries 0 j h).here where
   by_entry : (o : Option PttEntry) → entry_at s.ptt j ≡ o → passes is_promoted o ≡ true → IsFill s (block_to_fill j s)
   by_entry None e p = cc
   by_entry (Some x) e p =
       let both = and_parts (not (is_framed x)) x.fresh p in
-      let bare : is_framed x ≡ false = is_not (is_framed x) both.0 in
-      let here : lists page_key x.page (entry_at s.ptt j) ≡ true = lists-key page_key x.page (entry_at s.ptt j) x e refl in
-      let place : place_of page_key x.page s.ptt ≡ Some j = t.ptt_once.found j x.page here in
-      let entry : entry_for page_key no_page x.page s.ptt ≡ x = entry_for-some page_key no_page s.ptt x.page j x place e in
-      let page_inside : x.page < s.ptt.numbers = t.ptt_once.inside j x.page here in
-      let first : page_blocks * x.page < memory_blocks s.p = omega (arith, page_inside, t.ptt_numbers) in
-      let first_page : page_of (page_blocks * x.page) ≡ x.page = omega arith in
-      let of_first : (cell_of s (page_blocks * x.page)).page ≡ x = ap (λ (n : ℕ). entry_for page_key no_page n s.ptt) first_page ∙ entry in
-      let most : x.filled ≤ 64 = subst (λ (y : PttEntry). y.filled ≤ 64) of_first (t.cells (page_blocks * x.page) first).of_page.filled in
-      let not_full : x.filled ≢ 64 = λ q. no_both (ap (λ (n : ℕ). n == page_blocks) q) bare in
-      let few : x.filled < 64 = omega (arith, most, not_full) in
-      let b : ℕ = page_blocks * x.page + x.filled in
-      let page : page_of b ≡ x.page = omega (arith, few) in
-      let of_b : (cell_of s b).page ≡ x = ap (λ (n : ℕ). entry_for page_key no_page n s.ptt) page ∙ entry in
+      let bare : is_framed x ≡ false = not-true (is_framed x) both.0 in
+      let first = IsBlockOf-entry s t j x e 0 (omega arith) in
+      let most : x.filled ≤ 64 = subst (λ (y : PttEntry). y.filled ≤ 64) first.page (t.cells (page_blocks * x.page + 0) first.inside).of_page.filled in
+      let not_full : x.filled ≢ 64 = λ q. both_ways _ bare (ap (λ (n : ℕ). n == page_blocks) q) in
+      let of = IsBlockOf-entry s t j x e x.filled (omega (arith, most, not_full)) in
       subst (λ (k : ℕ). IsFill s k) (sym (ap (block_after (λ e. e.filled)) e)) (record {
-        inside = omega (arith, few, page_inside, t.ptt_numbers);
-        fresh = ap (λ (y : PttEntry). y.fresh) of_b ∙ both.1;
-        bare = ap is_framed of_b ∙ bare;
-        due = ap (λ (y : PttEntry). y.filled) of_b ∙ omega (arith, few);
+        inside = of.inside;
+        fresh = ap (λ (y : PttEntry). y.fresh) of.page ∙ both.1;
+        bare = ap is_framed of.page ∙ bare;
+        due = ap (λ (y : PttEntry). y.filled) of.page ∙ of.in_page;
       })
 
 -- a page in promotion moves no place of a checkpoint
 module _ (b : ℕ) (s : State) (fresh : (cell_of s b).page.fresh ≡ true) (m : Device) where
-  stays_tables : StaysTables s (block_filled b s m)
+  stays_tables : (t : AreSoundTables s) → b < memory_blocks s.p → (cell_of s b).page.filled ≡ b % 64 → PromotionKeeps → PromotionKeepsOthers → StaysTables s (block_filled b s m)
   unfolding block_filled
-  stays_tables = record {
-    same_p = refl;
-    same_way = refl;
-    tables0_same = ap (λ (x : List (Option ℕ)). record (tables0 s) { ptt = x })
-        (map-page (λ e. page_lists e.place e.page) s b (page_filled (cell_of s b).page) (listed-fresh b s fresh) refl);
-    tables1_same = ap (λ (x : List (Option ℕ)). record (tables1 s) { ptt = x })
-        (map-page (λ e. page_lists e.target e.page) s b (page_filled (cell_of s b).page) (listed-fresh b s fresh) refl);
-    lasts_same = refl;
-    cells = λ k l. cell-filled b s fresh m CellStays k
-        (λ q. record { penult_same = refl; target_same = refl; settled = λ h. h; busy_before = λ h. h; issued = omega arith })
-        (λ o. cell_same (cell_of s k));
-  }
+  stays_tables t l due law other = StaysTables-walked (walk b s fresh t l due law other) refl refl
+      (λ k q. record { penult_same = refl; target_same = refl; settled = λ h. h; busy_before = λ h. h; issued = omega arith })
+      (devices_filled b s m).dram
 
   pub Stays-filled : (t : AreSoundTables s) → IsSized s m → b < memory_blocks s.p → (cell_of s b).page.filled ≡ b % 64 → PromotionKeeps → PromotionKeepsOthers
       → Stays s m (block_filled b s m) m
   Stays-filled t sized l due law other =
       let y : Place = frame_at (seat_of (cell_of s b)) in
       let checkpoints = checkpoints-filled law other b s fresh m t sized l due in
-      Stays-step s y zero_block m (block_filled b s m) (IsPlace-frame_of s b t l) sized stays_tables (λ d. d)
+      Stays-step s y zero_block m (block_filled b s m) (IsPlace-frame_of s b t l) sized (stays_tables t l due law other) (λ d. d)
       (record { blocks = refl; left = refl; picks = refl; queue_room = refl; left_room = refl; fits = refl; lent = refl })
       (LeavesGuarded-step s y zero_block m m b t (IsPlace-frame_of s b t l) ((Owns-cell_of s b).of_page (has_page b s fresh))
       (penult-in_nvm s b y refl) (λ q. target-in_nvm s b y refl) (inl refl))
@@ -413,12 +303,7 @@ module _ (s w : State) (view : w ≡ s) where
       → record w { ptt = t; dram = d.dram } ≡ block_filled b s m
   unfolding block_filled
   state_is b m cell after t d is after_is t_is d_is =
-      ap (λ (x : State). record x { ptt = t; dram = d.dram }) view
-      ∙ ap (λ (x : Listing PttEntry). record s { ptt = x; dram = d.dram })
-      (t_is ∙ ap (λ (x : State). with_entry cell.j (Some after.page) x.ptt) view
-      ∙ ap (λ (c : Cell). with_entry cell.j (Some c.page) s.ptt) after_is
-      ∙ ap (λ (c : Cell). with_entry c.j (Some (page_filled c.page)) s.ptt) is)
-      ∙ ap (λ (x : Devices). record s { ptt = with_entry (cell_of s b).j (Some (page_filled (cell_of s b).page)) s.ptt; dram = x.dram }) d_is
+      walked-is page_filled s w view b cell after t d.dram (devices_filled b s m).dram is after_is t_is (ap (λ (x : Devices). x.dram) d_is)
 
 -- the numbers that the controller keeps are right after the copy
 pub marks-filled : (b : ℕ) (s : State) (fresh : (cell_of s b).page.fresh ≡ true) (m : Device) (t : AreSoundTables s) (k now : WorkCounts) → is_framed (cell_of s b).page ≡ false

@@ -1,7 +1,7 @@
 -- What the controller holds, seen as a store of blocks.
 use Rattle.std.proofs.Common.{◌≡◌, ℕ, ◌+◌, ◌<◌, ◌==◌, ◌&&◌, not, Bool, true, false, if◌then◌else◌, [], length, map, replicate, is_none, Option, None, refl, ◌∙◌, ap, arith}
 use Rattle.std.specs.List.{range_with_len, count_by}
-use Rattle.std.proofs.lemmas.Bool.{eqb-true, eq-eqb, and_parts, and_from, not_from_false}
+use Rattle.std.proofs.lemmas.Bool.{eqb-true, eq-eqb, and_parts, and_from, not_from_false, not-true}
 use Rattle.std.proofs.lemmas.List.FromFn.{length-map-range_with_len, get_or-map-range_with_len}
 use Rattle.std.proofs.lemmas.List.Folds.{sum_by-replicate}
 use Rattle.thy_base.specs.declared.block.Block.{Block}
@@ -25,17 +25,13 @@ block_if true f size b l =
     (refl, inside, get_or-map-range_with_len f 0 size b b zero_block inside at)
 block_if false f size b l = absurd (omega arith)
 
-pub not-of : (t : Bool) → not t ≡ true → t ≡ false
-not-of true h = cc
-not-of false h = refl
-
 pub AreWorks-holding : (s : State) (n : Device) (b : ℕ) → b < length (holding_of s n).blocks → AreWorks s n b
 AreWorks-holding s n b l =
     let e = block_if (length n.image == image_blocks s.p && not n.down) (work_of s n) (memory_blocks s.p) b l in
     let both = and_parts (length n.image == image_blocks s.p) (not n.down) e.0 in
     record {
       sized = record { nvm = eqb-true (length n.image) (image_blocks s.p) both.0 };
-      up = not-of n.down both.1;
+      up = not-true n.down both.1;
       inside = e.1;
       block = e.2;
     }

@@ -1,14 +1,12 @@
 -- The write of a busy page's next block: every block after it, and the tables.
-use Rattle.std.proofs.Common.{◌≡◌, ◌≢◌, ℕ, ◌+◌, ◌-◌, ◌*◌, ◌<◌, ◌≤◌, ◌%◌, ◌==◌, ◌&&◌, ◌||◌, not, nat_lt, if◌then◌else◌, Bool, true, false, All, List, get_or, refl, sym, ◌∙◌, ap, subst, inl, inr, arith, Option, Some, None, is_some, Result, Ok, Err, OnOk, OnErr, IfOk}
-use Rattle.std.proofs.lemmas.Bool.{cases_eq, and_parts, eqb-true, ltb-true, ltb-false}
-use Rattle.std.proofs.lemmas.List.{length-set, get_or_default}
+use Rattle.std.proofs.Common.{◌≡◌, ◌≢◌, ℕ, ◌+◌, ◌-◌, ◌<◌, ◌≤◌, ◌%◌, ◌==◌, ◌&&◌, ◌||◌, not, nat_lt, if◌then◌else◌, Bool, true, false, All, get_or, refl, sym, ◌∙◌, ap, subst, inl, arith, Option, Some, None, is_some, Result, Ok, Err, OnOk, OnErr, IfOk}
+use Rattle.std.proofs.lemmas.Bool.{and_parts, eqb-true, ltb-true, ltb-false, both_ways}
+use Rattle.std.proofs.lemmas.List.{get_or_default}
 use Rattle.std.proofs.lemmas.List.Sums.{sum_by-set, sum_by-le}
-use Rattle.thy_base.specs.declared.block.Block.{Block}
 use Rattle.thy_base.specs.declared.place.Place.{Place}
 use Rattle.thy_base.specs.declared.nvm.NvmError.{NvmError}
-use Rattle.thy_base.specs.Device.{Device, IsFramed, zero_block}
+use Rattle.thy_base.specs.Device.{Device, IsFramed}
 use Rattle.thy_base.specs.Geometry.{memory_blocks}
-use Rattle.thy_base.specs.Places.{IsPlace}
 use Rattle.thy_base.specs.Store.{page_of}
 use Rattle.thy_place.specs.Devices.{Devices, devices_of}
 use Rattle.thy_place.proofs.PlaceLemmas.{AreSized-written_at}
@@ -25,30 +23,24 @@ use Rattle.thy_table.specs.declared.page_entry.PttEntry.{PttEntry}
 use Rattle.thy_table.specs.PageEntry.{no_page, is_framed, page_blocks}
 use Rattle.thy_cell.specs.declared.cell.Cell.{Cell}
 use Rattle.thy_cell.specs.Cells.{Seat, seat_of, placed, frame_at, worked_at, penult, target, last, work}
-use Rattle.thy_cell.specs.Sound.{IsSoundPage, IsSoundCell, IsWithin, Holds, Puts}
+use Rattle.thy_cell.specs.Sound.{IsSoundPage, IsSoundCell, Holds}
 use Rattle.thy_cell.specs.Checkpoint.{page_issued, with_issued}
-use Rattle.thy_cell.specs.BetweenCheckpoints.{PageWriteKeeps, PageWriteKeepsOthers, Keeps, ReadsSame}
-use Rattle.thy_control.specs.CheckpointTables.{tables0, tables1, page_lists}
-use Rattle.thy_control.specs.Find.{entry_for}
+use Rattle.thy_cell.specs.BetweenCheckpoints.{PageWriteKeeps, PageWriteKeepsOthers, Keeps}
 use Rattle.thy_control.specs.Guarded.{LeavesGuarded}
 use Rattle.thy_control.specs.Keys.{page_key}
 use Rattle.thy_control.specs.Moves.{moved, IsOneLess}
-use Rattle.thy_control.specs.OverCalls.{cell_same, stays_same}
+use Rattle.thy_control.specs.OverCalls.{stays_same}
 use Rattle.thy_control.specs.State.{State, AreSoundTables, IsSized, cell_of, reads, penult_of, work_of}
-use Rattle.thy_control.specs.Stays.{CellStays, HoldAll, StaysHeld, Stays}
+use Rattle.thy_control.specs.Stays.{HoldAll, StaysHeld, Stays}
 use Rattle.thy_control.specs.Versions.{KeepsCommitted, KeepsWork}
 use Rattle.thy_control.specs.Pages.{needs_write, next_page, issues_left, writes_left, page_in, block_after, block_to_write, devices_issued, issued, devices_after_write, after_next_write, FailsWriteOf, FailsNextWrite}
 use Rattle.thy_control.proofs.FindLemmas.{found_entry, entry_for-some}
-use Rattle.thy_control.proofs.CellLemmas.{block-cell_of, IsPlace-target, IsWithin-cell_of}
-use Rattle.thy_control.proofs.OwnLemmas.{owner, Owns-cell_of, owned-target}
-use Rattle.thy_control.proofs.PageLemmas.{cell-page, same_page, live-set}
-use Rattle.thy_control.proofs.StateLemmas.{place_of-index}
-use Rattle.thy_control.proofs.StayLemmas.{map-page}
-use Rattle.thy_control.proofs.StepLemmas.{Untouched, Keeps-untouched, ReadsSame-of, reads_after, puts, untouched, moved-is}
+use Rattle.thy_control.proofs.CellLemmas.{IsPlace-target, IsWithin-cell_of}
+use Rattle.thy_control.proofs.OwnLemmas.{Owns-cell_of, owned-target}
+use Rattle.thy_control.proofs.PageLemmas.{cell-page, same_page}
+use Rattle.thy_control.proofs.StepLemmas.{moved-is}
+use Rattle.thy_control.proofs.WalkLemmas.{listed-page, next-here, next-few, not-next, IsWalk, StaysTables-walked, AreSoundTables-walked, here_now, left_as, Keeps-walked, reads-walked, IsBlockOf-entry, walked-is}
 use Rattle.thy_control.proofs.StepStayLemmas.{StaysTables, Outcome, LeavesGuarded-step, Stays-step, Stays-failed_step, Outcome-failed}
-
-no_both : {x : Bool} → x ≡ true → x ≡ false → ⊥
-no_both e f = cc
 
 -- a busy page moves in a checkpoint under way, is framed, and was not just promoted
 pub busy-framed : (u : Bool) (page : PttEntry) → IsSoundPage u page → page.busy ≡ true → is_framed page ≡ true
@@ -74,154 +66,77 @@ worked-framed NoWork false x y v seat e = cc
 worked-framed InNvm f x y v seat e = refl
 worked-framed InBuffer f x y v seat e = refl
 
--- blocks of one page that are two have two numbers in it
-pub two_in_page : (k b : ℕ) → page_of k ≡ page_of b → k ≢ b → k % 64 ≢ b % 64
-two_in_page k b q ne e = ne (omega (arith, q, e))
-
 module _ (b : ℕ) (s : State) (busy : (cell_of s b).page.busy ≡ true) where
   has_page : (cell_of s b).page ≢ no_page (page_of b)
-  has_page e = let no : (cell_of s b).page.busy ≡ false = ap (λ (x : PttEntry). x.busy) e in no_both busy no
+  has_page e = let no : (cell_of s b).page.busy ≡ false = ap (λ (x : PttEntry). x.busy) e in both_ways _ no busy
 
   pub listed-busy : place_of page_key (page_of b) s.ptt ≡ Some (cell_of s b).j
-  listed-busy = place_of-index page_key no_page s.ptt (page_of b) has_page
+  listed-busy = listed-page b s has_page
 
   busy-same : (k : ℕ) → page_of k ≡ page_of b → (cell_of s k).page.busy ≡ true
   busy-same k q = ap (λ (x : PttEntry). x.busy) (same_page s k b q) ∙ busy
 
-  has_page-same : (k : ℕ) → page_of k ≡ page_of b → (cell_of s k).page ≢ no_page (page_of k)
-  has_page-same k q e = let no : (cell_of s k).page.busy ≡ false = ap (λ (x : PttEntry). x.busy) e in no_both (busy-same k q) no
+  -- every block is as it was, but for those of the page
+  pub cell-issued : (m : Device) (P : Cell → Cell → Type 0) (k : ℕ) → (page_of k ≡ page_of b → P (cell_of s k) (with_issued (cell_of s k)))
+      → (page_of k ≢ page_of b → P (cell_of s k) (cell_of s k)) → P (cell_of s k) (cell_of (issued b s m) k)
+  unfolding issued
+  cell-issued m P k here others = cell-page page_issued (λ e. refl) s b listed-busy P k here others
 
-  module _ (m : Device) where
-    -- every block is as it was, but for those of the page
-    pub cell-issued : (P : Cell → Cell → Type 0) (k : ℕ) → (page_of k ≡ page_of b → P (cell_of s k) (with_issued (cell_of s k)))
-        → (page_of k ≢ page_of b → P (cell_of s k) (cell_of s k)) → P (cell_of s k) (cell_of (issued b s m) k)
-    unfolding issued
-    cell-issued P k here others = cell-page page_issued (λ e. refl) s b listed-busy P k here others
+  module _ (t : AreSoundTables s) (l : b < memory_blocks s.p) (due : (cell_of s b).page.issued ≡ b % 64) (law : PageWriteKeeps) (other : PageWriteKeepsOthers) where
+    moving : s.under_way ≡ true
+    moving = busy-under_way s.under_way (cell_of s b).page (t.cells b l).of_page busy
 
-    module _ (t : AreSoundTables s) (sized : IsSized s m) (l : b < memory_blocks s.p) (due : (cell_of s b).page.issued ≡ b % 64) (law : PageWriteKeeps) (other : PageWriteKeepsOthers) where
-      within : IsWithin s.p (seat_of (cell_of s b))
-      within = IsWithin-cell_of s b t l
+    sound : (k : ℕ) → k < memory_blocks s.p → IsSoundCell true (cell_of s k)
+    sound k h = subst (λ (u : Bool). IsSoundCell u (cell_of s k)) moving (t.cells k h)
 
-      moving : s.under_way ≡ true
-      moving = busy-under_way s.under_way (cell_of s b).page (t.cells b l).of_page busy
+    -- the write is a step of a page
+    walk : IsWalk page_issued true b s (frame_at (seat_of (cell_of s b))) (target (cell_of s b))
+    walk = record {
+      of_page = λ e. refl;
+      way = moving;
+      has_page = has_page;
+      there = IsPlace-target s.p (cell_of s b) (IsWithin-cell_of s b t l);
+      owns = owned-target s b (cell_of s b) (Owns-cell_of s b);
+      here = λ old new put. law s.p (cell_of s b) old new (IsWithin-cell_of s b t l) (sound b l) busy
+          (next-here b s (λ e. e.issued) due) (next-few b s (λ e. e.issued) due b refl) put;
+      others = λ k h q ne old new same hold. other (cell_of s k) old new (sound k h) (busy-same k q)
+          (not-next b s (λ e. e.issued) due k q ne) (next-few b s (λ e. e.issued) due k q) (omega arith) same hold;
+    }
 
-      sound : (k : ℕ) → k < memory_blocks s.p → IsSoundCell true (cell_of s k)
-      sound k h = subst (λ (u : Bool). IsSoundCell u (cell_of s k)) moving (t.cells k h)
-
-      less : (cell_of s b).page.issued < 64
-      less = omega (arith, due)
-
-      due_b : (cell_of s b).page.issued ≡ (cell_of s b).entry.block % 64
-      due_b = due ∙ ap (λ (n : ℕ). n % 64) (sym (block-cell_of s b))
-
-      -- what the law of the page's other blocks asks for
-      less-same : (k : ℕ) → page_of k ≡ page_of b → (cell_of s k).page.issued < 64
-      less-same k q = omega (arith, less, ap (λ (x : PttEntry). x.issued) (same_page s k b q))
-
-      not_due : (k : ℕ) → page_of k ≡ page_of b → k ≢ b → (cell_of s k).page.issued ≢ (cell_of s k).entry.block % 64
-      not_due k q ne e =
-          let numbers : k % 64 ≢ b % 64 = two_in_page k b q ne in
-          numbers (ap (λ (n : ℕ). n % 64) (sym (block-cell_of s k)) ∙ sym e ∙ ap (λ (x : PttEntry). x.issued) (same_page s k b q) ∙ due)
-
-      -- the block itself
-      here : (old new : Place → Block) → Puts s.p (target (cell_of s b)) (old (frame_at (seat_of (cell_of s b)))) old new → Keeps true old new (cell_of s b) (with_issued (cell_of s b))
-      here old new put = law s.p (cell_of s b) old new within (sound b l) busy due_b less put
-
-      -- and the others of its page
-      there : (old new : Place → Block) (k : ℕ) → k < memory_blocks s.p → page_of k ≡ page_of b → k ≢ b → ReadsSame old new (cell_of s k) → Holds old (cell_of s k)
-          → Keeps true old new (cell_of s k) (with_issued (cell_of s k))
-      there old new k h q ne same hold =
-          other (cell_of s k) old new (sound k h) (busy-same k q) (not_due k q ne) (less-same k q) (omega arith) same hold
-
-      -- the entries stay sound, whatever is read
-      sound-issued : (k : ℕ) → k < memory_blocks s.p → IsSoundCell s.under_way (cell_of (issued b s m) k)
-      sound-issued k h =
-          let all : Place → Block = λ x. zero_block in
-          subst (λ (u : Bool). IsSoundCell u (cell_of (issued b s m) k)) (sym moving)
-          (cell-issued (λ c d. IsSoundCell true d) k
-          (λ q. elim (cases_eq k b) as (λ _. IsSoundCell true (with_issued (cell_of s k))) [
-            | inl e ↦ subst (λ (j : ℕ). IsSoundCell true (with_issued (cell_of s j))) (sym e) (here all all (record { here = refl; others = λ x is ne. refl })).sound
-            | inr ne ↦ (there all all k h q ne (record { penult_same = refl; target_same = refl; last_same = refl; work_same = refl; frame_same = refl })
-                (record { clean = λ f d e. refl; copied = λ j f. refl; issued = λ f j. refl })).sound
-          ])
-          (λ o. sound k h))
-
-      pub AreSoundTables-issued : IsListing page_key (issued b s m).ptt → AreSoundTables (issued b s m)
-      unfolding issued devices_issued
-      AreSoundTables-issued once =
-          let found = found_entry page_key no_page s.ptt (page_of b) (cell_of s b).j listed-busy in
-          let sizes = AreSized-written_at s.p (devices_of m s.dram) (target (cell_of s b)) (reads s m (frame_at (seat_of (cell_of s b)))) (record { nvm = sized.nvm; dram = t.dram_size }) in
-          record {
-            range = t.range;
-            btt_size = t.btt_size;
-            btt_numbers = t.btt_numbers;
-            btt_once = t.btt_once;
-            ptt_size = length-set s.ptt.entries (cell_of s b).j (Some (page_issued (cell_of s b).page)) ∙ t.ptt_size;
-            ptt_numbers = t.ptt_numbers;
-            ptt_once = once;
-            live_blocks = t.live_blocks;
-            live_pages = live-set s.ptt (cell_of s b).j (page_issued (cell_of s b).page) found.3
-                (λ bare. absurd (no_both (busy-framed s.under_way (cell_of s b).page (t.cells b l).of_page busy) bare)) t.live_pages;
-            counts = t.counts;
-            dram_size = sizes.dram;
-            cells = sound-issued;
-          }
+module _ (b : ℕ) (s : State) (busy : (cell_of s b).page.busy ≡ true) (m : Device) (t : AreSoundTables s) (sized : IsSized s m) (l : b < memory_blocks s.p)
+    (due : (cell_of s b).page.issued ≡ b % 64) (law : PageWriteKeeps) (other : PageWriteKeepsOthers) where
+  pub AreSoundTables-issued : IsListing page_key (issued b s m).ptt → AreSoundTables (issued b s m)
+  unfolding issued devices_issued
+  AreSoundTables-issued once =
+      let sizes = AreSized-written_at s.p (devices_of m s.dram) (target (cell_of s b)) (reads s m (frame_at (seat_of (cell_of s b)))) (record { nvm = sized.nvm; dram = t.dram_size }) in
+      AreSoundTables-walked (walk b s busy t l due law other) t (devices_issued b s m).dram sizes.dram
+      (λ bare. absurd (both_ways _ bare (busy-framed s.under_way (cell_of s b).page (t.cells b l).of_page busy))) once
 
 module _ (law : PageWriteKeeps) (other : PageWriteKeepsOthers) (b : ℕ) (s : State) (busy : (cell_of s b).page.busy ≡ true) (m : Device)
     (t : AreSoundTables s) (sized : IsSized s m) (l : b < memory_blocks s.p) (due : (cell_of s b).page.issued ≡ b % 64) where
-  there_is : IsPlace s.p (target (cell_of s b))
-  there_is = IsPlace-target s.p (cell_of s b) (IsWithin-cell_of s b t l)
-
-  owns : owner s (target (cell_of s b)) ≡ Some b
-  owns = owned-target s b (cell_of s b) (Owns-cell_of s b)
-
-  abbrev v : Block
-  v = reads s m (frame_at (seat_of (cell_of s b)))
-
-  abbrev new : Place → Block
-  new = reads_after s m b (target (cell_of s b)) v t sized there_is owns
-
-  here_now : Keeps true (reads s m) new (cell_of s b) (with_issued (cell_of s b))
-  here_now = here b s busy m t sized l due law other (reads s m) new (puts s m b (target (cell_of s b)) v t sized there_is owns)
-
-  left_as : (k : ℕ) → k < memory_blocks s.p → k ≢ b → Untouched (reads s m) new k (cell_of s k)
-  left_as k h ne = untouched s m b (target (cell_of s b)) v t sized there_is owns k h ne
+  this : IsWalk page_issued true b s (frame_at (seat_of (cell_of s b))) (target (cell_of s b))
+  this = walk b s busy t l due law other
 
   -- if the places hold what they have to, every block is kept
-  pub Keeps-issued : (k : ℕ) → k < memory_blocks s.p → Holds (reads s m) (cell_of s k)
+  Keeps-issued : (k : ℕ) → k < memory_blocks s.p → Holds (reads s m) (cell_of s k)
       → Keeps true (reads s m) (reads (issued b s m) (devices_issued b s m).nvm) (cell_of s k) (cell_of (issued b s m) k)
   unfolding issued devices_issued
-  Keeps-issued k h hold = cell-issued b s busy m (λ c d. Keeps true (reads s m) new c d) k
-      (λ q. elim (cases_eq k b) as (λ _. Keeps true (reads s m) new (cell_of s k) (with_issued (cell_of s k))) [
-        | inl e ↦ subst (λ (j : ℕ). Keeps true (reads s m) new (cell_of s j) (with_issued (cell_of s j))) (sym e) here_now
-        | inr ne ↦ there b s busy m t sized l due law other (reads s m) new k h q ne
-            (ReadsSame-of (reads s m) new k (cell_of s k) (left_as k h ne) (has_page-same b s busy k q)) hold
-      ])
-      (λ o. Keeps-untouched true (reads s m) new k (cell_of s k) (sound b s busy m t sized l due law other k h)
-      (left_as k h (λ e. o (ap page_of e))))
+  Keeps-issued k h hold = Keeps-walked this t m sized (devices_issued b s m).dram k h hold
 
   -- in any case the committed version reads as before
   pub penult-issued : (k : ℕ) → k < memory_blocks s.p → penult_of (issued b s m) (devices_issued b s m).nvm k ≡ penult_of s m k
   unfolding issued devices_issued
-  penult-issued k h = cell-issued b s busy m (λ c d. new (penult d) ≡ reads s m (penult c)) k
-      (λ q. elim (cases_eq k b) as (λ _. new (penult (with_issued (cell_of s k))) ≡ reads s m (penult (cell_of s k))) [
-        | inl e ↦ subst (λ (j : ℕ). new (penult (with_issued (cell_of s j))) ≡ reads s m (penult (cell_of s j))) (sym e) here_now.reads.penult_same
-        | inr ne ↦ (left_as k h ne).penult_same
-      ])
-      (λ o. (left_as k h (λ e. o (ap page_of e))).penult_same)
+  penult-issued k h = reads-walked this t m sized penult (here_now this t m sized).reads.penult_same (λ j i q. refl)
+      (λ j i ne. (left_as this t m sized j i ne).penult_same) (devices_issued b s m).dram k h
 
   -- and so does what a load gives
   pub work-issued : (k : ℕ) → k < memory_blocks s.p → work_of (issued b s m) (devices_issued b s m).nvm k ≡ work_of s m k
   unfolding issued devices_issued
-  work-issued k h = cell-issued b s busy m (λ c d. new (work d) ≡ reads s m (work c)) k
-      (λ q. elim (cases_eq k b) as (λ _. new (work (with_issued (cell_of s k))) ≡ reads s m (work (cell_of s k))) [
-        | inl e ↦ subst (λ (j : ℕ). new (work (with_issued (cell_of s j))) ≡ reads s m (work (cell_of s j))) (sym e) here_now.reads.work_gives
-        | inr ne ↦
-            let c : Cell = cell_of s k in
-            let framed : is_framed c.page ≡ true = busy-framed s.under_way c.page (t.cells k h).of_page (busy-same b s busy k q) in
-            ap new (worked-framed c.entry.work (is_framed c.page) (last (with_issued c)) (last c) c.entry.v0 (seat_of c) framed) ∙ (left_as k h ne).work_same
-      ])
-      (λ o. (left_as k h (λ e. o (ap page_of e))).work_same)
+  work-issued k h = reads-walked this t m sized work (here_now this t m sized).reads.work_gives
+      (λ j i q.
+      let c : Cell = cell_of s j in
+      worked-framed c.entry.work (is_framed c.page) (last (with_issued c)) (last c) c.entry.v0 (seat_of c) (busy-framed s.under_way c.page (t.cells j i).of_page (busy-same b s busy j q)))
+      (λ j i ne. (left_as this t m sized j i ne).work_same) (devices_issued b s m).dram k h
 
   pub held-issued : HoldAll s m → StaysHeld s m (issued b s m) (devices_issued b s m).nvm
   unfolding issued
@@ -262,16 +177,11 @@ IsDue-entry s t j h = by_entry (entry_at s.ptt j) refl (first_from-first (passes
   by_entry (Some x) e p =
       let both = and_parts x.busy (nat_lt x.issued page_blocks) p in
       let few : x.issued < page_blocks = ltb-true x.issued page_blocks both.1 in
-      let here : lists page_key x.page (entry_at s.ptt j) ≡ true = lists-key page_key x.page (entry_at s.ptt j) x e refl in
-      let found : place_of page_key x.page s.ptt ≡ Some j = t.ptt_once.found j x.page here in
-      let entry : entry_for page_key no_page x.page s.ptt ≡ x = entry_for-some page_key no_page s.ptt x.page j x found e in
-      let b : ℕ = page_blocks * x.page + x.issued in
-      let page : page_of b ≡ x.page = omega (arith, few) in
-      let of_b : (cell_of s b).page ≡ x = ap (λ (n : ℕ). entry_for page_key no_page n s.ptt) page ∙ entry in
+      let of = IsBlockOf-entry s t j x e x.issued few in
       subst (λ (k : ℕ). IsDue s k) (sym (ap (block_after (λ e. e.issued)) e)) (record {
-        inside = omega (arith, few, t.ptt_once.inside j x.page here, t.ptt_numbers);
-        busy = ap (λ (y : PttEntry). y.busy) of_b ∙ both.0;
-        due = ap (λ (y : PttEntry). y.issued) of_b ∙ omega (arith, few);
+        inside = of.inside;
+        busy = ap (λ (y : PttEntry). y.busy) of.page ∙ both.0;
+        due = ap (λ (y : PttEntry). y.issued) of.page ∙ of.in_page;
       })
 
 pub page_in-small : (s : State) → AreSoundTables s → (j : ℕ) → page_in (entry_at s.ptt j) < memory_blocks s.p + 1
@@ -293,22 +203,13 @@ sites_apart Out Out AtHome AtAlternate x out other e = cc
 sites_apart Out Out AtAlternate AtHome x out other e = cc
 
 module _ (b : ℕ) (s : State) (busy : (cell_of s b).page.busy ≡ true) (m : Device) where
-  stays_tables : StaysTables s (issued b s m)
-  unfolding issued
-  stays_tables = record {
-    same_p = refl;
-    same_way = refl;
-    tables0_same = ap (λ (x : List (Option ℕ)). record (tables0 s) { ptt = x })
-        (map-page (λ e. page_lists e.place e.page) s b (page_issued (cell_of s b).page) (listed-busy b s busy) refl);
-    tables1_same = ap (λ (x : List (Option ℕ)). record (tables1 s) { ptt = x })
-        (map-page (λ e. page_lists e.target e.page) s b (page_issued (cell_of s b).page) (listed-busy b s busy) refl);
-    lasts_same = refl;
-    cells = λ k l. cell-issued b s busy m CellStays k
-        (λ q. record { penult_same = refl; target_same = refl; settled = λ h. h; busy_before = λ h. busy-same b s busy k q; issued = omega arith })
-        (λ o. cell_same (cell_of s k));
-  }
-
   module _ (t : AreSoundTables s) (sized : IsSized s m) (l : b < memory_blocks s.p) (due : (cell_of s b).page.issued ≡ b % 64) where
+    stays_tables : PageWriteKeeps → PageWriteKeepsOthers → StaysTables s (issued b s m)
+    unfolding issued
+    stays_tables law other = StaysTables-walked (walk b s busy t l due law other) refl refl
+        (λ k q. record { penult_same = refl; target_same = refl; settled = λ h. h; busy_before = λ h. busy-same b s busy k q; issued = omega arith })
+        (devices_issued b s m).dram
+
     guarded_by : (n : Device) → Outcome s (target (cell_of s b)) (reads s m (frame_at (seat_of (cell_of s b)))) m n → LeavesGuarded s m n
     guarded_by n outcome =
         let c : Cell = cell_of s b in
@@ -323,7 +224,7 @@ module _ (b : ℕ) (s : State) (busy : (cell_of s b).page.busy ≡ true) (m : De
     unfolding devices_issued
     Stays-issued law other up framed =
         let c : Cell = cell_of s b in
-        Stays-step s (target c) (reads s m (frame_at (seat_of c))) m (issued b s m) (IsPlace-target s.p c (IsWithin-cell_of s b t l)) sized stays_tables (λ d. let no : true ≡ false = sym d ∙ up in cc) framed
+        Stays-step s (target c) (reads s m (frame_at (seat_of c))) m (issued b s m) (IsPlace-target s.p c (IsWithin-cell_of s b t l)) sized (stays_tables law other) (λ d. let no : true ≡ false = sym d ∙ up in cc) framed
         (guarded_by (devices_issued b s m).nvm (inl refl))
         (penult-issued law other b s busy m t sized l due) (held-issued law other b s busy m t sized l due)
 
@@ -375,9 +276,10 @@ none_left s h =
     by_entry None h = omega arith
     by_entry (Some e) h = by_busy e.busy e.issued h
 
-left_by : (s : State) (m : Device) → AreSoundTables s → (o : Option ℕ) → next_page s ≡ o → IsOneLess (is_some o) (writes_left s) (writes_left (after_next_write o s m))
-left_by s m t None h = (none_left s h, none_left s h)
-left_by s m t (Some j) h =
+-- one block less is left to write
+pub writes_left-next : (s : State) (m : Device) → AreSoundTables s → (o : Option ℕ) → next_page s ≡ o → IsOneLess (is_some o) (writes_left s) (writes_left (after_next_write o s m))
+writes_left-next s m t None h = (none_left s h, none_left s h)
+writes_left-next s m t (Some j) h =
     let d = IsDue-entry s t j h in
     writes_left-issued (block_to_write j s) s m d.busy (omega (arith, d.due))
 
@@ -385,7 +287,7 @@ pub left_after : (s : State) (m : Device) (t : State) → AreSoundTables s → (
     → IfOk r (λ more. IsOneLess more (writes_left s) (writes_left t))
 left_after s m t tables (Ok more) e f =
     subst (λ (x : State). IsOneLess more (writes_left s) (writes_left x)) (sym e)
-    (subst (λ (x : Bool). IsOneLess x (writes_left s) (writes_left (after_next_write (next_page s) s m))) (sym f) (left_by s m tables (next_page s) refl))
+    (subst (λ (x : Bool). IsOneLess x (writes_left s) (writes_left (after_next_write (next_page s) s m))) (sym f) (writes_left-next s m tables (next_page s) refl))
 left_after s m t tables (Err x) e f = tt
 
 Stays-next : PageWriteKeeps → PageWriteKeepsOthers → (s : State) (m : Device) → AreSoundTables s → IsSized s m → m.down ≡ false → (o : Option ℕ) → next_page s ≡ o
@@ -419,9 +321,4 @@ module _ (s w : State) (view : w ≡ s) where
       → record w { ptt = t; dram = d.dram } ≡ issued b s m
   unfolding issued
   state_is b m found after t d is after_is t_is d_is =
-      ap (λ (x : State). record x { ptt = t; dram = d.dram }) view
-      ∙ ap (λ (x : Listing PttEntry). record s { ptt = x; dram = d.dram })
-      (t_is ∙ ap (λ (x : State). with_entry found.j (Some after.page) x.ptt) view
-      ∙ ap (λ (c : Cell). with_entry found.j (Some c.page) s.ptt) after_is
-      ∙ ap (λ (c : Cell). with_entry c.j (Some (page_issued c.page)) s.ptt) is)
-      ∙ ap (λ (x : Devices). record s { ptt = with_entry (cell_of s b).j (Some (page_issued (cell_of s b).page)) s.ptt; dram = x.dram }) d_is
+      walked-is page_issued s w view b found after t d.dram (devices_issued b s m).dram is after_is t_is (ap (λ (x : Devices). x.dram) d_is)

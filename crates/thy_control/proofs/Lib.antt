@@ -28,6 +28,7 @@ pub mod CopyLemmas
 pub mod PageLemmas
 pub mod MergeLemmas
 pub mod StepStayLemmas
+pub mod WalkLemmas
 pub mod IssueLemmas
 pub mod StepMarkLemmas
 pub mod IdleLemmas

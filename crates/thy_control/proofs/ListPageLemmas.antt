@@ -162,10 +162,6 @@ with_pages-more c n t =
     one true u = refl
     one false u = refl
 
--- the listing of pages below a number leaves the table the numbers that it can list
-pub numbers-below : (c : Tally) (n : ℕ) (t : Listing PttEntry) → n ≤ t.numbers → (with_pages (dense_below c n) t).numbers ≡ t.numbers
-numbers-below c n t l = (lists_all (dense_below c n) t (λ k d h. omega (arith, dense-below c n k d h))).numbers
-
 pub with_dense-numbers : (c : Tally) (n : ℕ) (t : Listing PttEntry) → n < t.numbers → (with_dense c n t).numbers ≡ t.numbers
 with_dense-numbers c n t l = one (is_dense c n) where
   one : (d : Bool) → (if d then with_entry_for page_key promoted_page n t else t).numbers ≡ t.numbers

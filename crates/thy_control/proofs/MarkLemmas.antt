@@ -36,12 +36,7 @@ use Rattle.thy_control.proofs.StayLemmas.{free_at}
 use Rattle.thy_control.proofs.CountLemmas.{count-set_same, promoted-cell, none-counted}
 use Rattle.thy_control.proofs.HoldingLemmas.{none_passes}
 use Rattle.thy_control.proofs.StoreLemmas.{whole_page}
-
--- tests that agree count alike
-count-alike : {X : Type 0} (p q : X → Bool) → ((x : X) → p x ≡ q x) → (xs : List X) → count_by p xs ≡ count_by q xs
-count-alike p q h [] = refl
-count-alike p q h (x ∷ xs) =
-    omega (arith, count-alike p q h xs, sum_by-cons (λ y. one_if (p y)) x xs, sum_by-cons (λ y. one_if (q y)) x xs, ap one_if (h x))
+use Rattle.thy_control.proofs.PageLemmas.{count-same}
 
 -- if some element passes, there is one
 pub counted-some : {X : Type 0} (test : X → Bool) (d : X) (xs : List X) → 0 < count_by test xs → (i : ℕ) × (i < length xs) × (test (get_or xs i d) ≡ true)
@@ -70,9 +65,6 @@ overlaid-with ToFrame b pages t = refl
 overlaid-with ToBuffer b pages t = overlaid-found pages t b (place_of block_key b t)
 overlaid-with ToNvm b pages t = overlaid-found pages t b (place_of block_key b t)
 overlaid-with PendingFirst b pages t = refl
-
-pub AreWorkCounts-with : (r : StoreRule) (b : ℕ) (s : State) (m : WorkCounts) → AreWorkCounts s.ptt s.btt m → AreWorkCounts s.ptt (btt_with r b s.btt) m
-AreWorkCounts-with r b s m h = record { overlaid_is = h.overlaid_is ∙ sym (overlaid-with r b s.ptt s.btt); promoted_is = h.promoted_is }
 
 -- another entry of a block that has one
 module _ (t : State) (b : ℕ) (e : BttEntry) (of_block : e.block ≡ b) (listed : place_of block_key b t.btt ≡ Some (cell_of t b).i) where
@@ -133,7 +125,7 @@ pub overlaid-cell : (r : StoreRule) (b : ℕ) (t : State) → store_rule (cell_o
 overlaid-cell ToFrame b t is l =
     let now : Listing PttEntry = ptt_after ToFrame (after_store ToFrame (cell_of t b)) t.ptt in
     let same : overlaid now t.btt ≡ overlaid t.ptt t.btt
-    = count-alike (passes (is_overlaid now)) (passes (is_overlaid t.ptt)) (by_entry now (λ m. framed-cell b t m l)) t.btt.entries in
+    = count-same (passes (is_overlaid now)) (passes (is_overlaid t.ptt)) (by_entry now (λ m. framed-cell b t m l)) t.btt.entries in
     omega (arith, same)
   where
     by_entry : (now : Listing PttEntry) → ((m : ℕ) → block_is_framed now m ≡ block_is_framed t.ptt m) → (o : Option BttEntry) → passes (is_overlaid now) o ≡ passes (is_overlaid t.ptt) o
@@ -177,7 +169,8 @@ IsBareState-none s none = record { bare = λ b l. record { no_overlay = λ frame
       ∙ ap (block_is_framed s.ptt) f.2 ∙ framed in
       let both : true ≡ false = sym lies ∙ counted in cc
 
-buffered : (w : Working) → is_buffered w ≡ true → w ≡ InBuffer
+-- work that is held in a buffer
+pub buffered : (w : Working) → is_buffered w ≡ true → w ≡ InBuffer
 buffered NoWork e = cc
 buffered InNvm e = cc
 buffered InBuffer e = refl

@@ -27,7 +27,7 @@ use Rattle.thy_table.proofs.FirstLemmas.{first_from-first, none-first_from}
 use Rattle.thy_table.specs.declared.block_entry.BttEntry.{BttEntry}
 use Rattle.thy_table.specs.declared.page_entry.PttEntry.{PttEntry}
 use Rattle.thy_table.specs.declared.block_entry.Working.{Working}
-use Rattle.thy_table.specs.declared.block_entry.Working.TheVariants.{NoWork, InNvm, InBuffer}
+use Rattle.thy_table.specs.declared.block_entry.Working.TheVariants.{NoWork, InBuffer}
 use Rattle.thy_table.specs.BlockEntry.{new_entry}
 use Rattle.thy_table.specs.PageEntry.{no_page, is_framed}
 use Rattle.thy_cell.specs.declared.cell.Cell.{Cell}
@@ -51,6 +51,7 @@ use Rattle.thy_control.proofs.OwnLemmas.{owner, Owns-cell_of}
 use Rattle.thy_control.proofs.PageLemmas.{count-same, block_cleared, cell-cleared_same, cell-cleared_other, cell-page_same, cell-page_other, same_page, live-set}
 use Rattle.thy_control.proofs.StepLemmas.{KeepsEach, Keeps-untouched, ReadsSame-of, reads_after, puts, untouched, holds-each, none-passes}
 use Rattle.thy_control.proofs.LiveLemmas.{used-cleared}
+use Rattle.thy_control.proofs.MarkLemmas.{buffered}
 
 -- a page that was written to
 abbrev dirty : PttEntry → PttEntry
@@ -181,11 +182,6 @@ module _ (b : ℕ) (s : State) (framed : is_framed (cell_of s b).page ≡ true) 
         by_entry None = refl
         by_entry (Some e) = ap (λ (f : Bool). is_buffered e.work && f) (framed_same e.block)
 
-in_buffer : (w : Working) → is_buffered w ≡ true → w ≡ InBuffer
-in_buffer InBuffer e = refl
-in_buffer NoWork e = cc
-in_buffer InNvm e = cc
-
 -- what is known of the entry that is merged next
 pub record IsOverlay (s : State) (b : ℕ) : Type 0 where
   pub inside : b < memory_blocks s.p
@@ -204,7 +200,7 @@ IsOverlay-entry s t i h = by_entry (entry_at s.btt i) refl (first_from-first (pa
       subst (λ (b : ℕ). IsOverlay s b) (sym (ap block_in e)) (record {
         inside = omega (arith, t.btt_once.inside i x.block here, t.btt_numbers);
         framed = both.1;
-        over = ap (λ (y : BttEntry). y.work) entry ∙ in_buffer x.work both.0;
+        over = ap (λ (y : BttEntry). y.work) entry ∙ buffered x.work both.0;
       })
 
 -- the parts of the code's way

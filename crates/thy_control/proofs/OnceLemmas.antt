@@ -1,10 +1,10 @@
 -- One action of both devices is one of the NVM.
-use Rattle.std.proofs.Common.{◌≡◌, ℕ, ◌+◌, ◌≤◌, Bool, true, false, if◌then◌else◌, length, drop, refl, sym, ◌∙◌, ap, subst, inl, inr, arith}
-use Rattle.std.proofs.lemmas.List.{length-drop, length_push}
+use Rattle.std.proofs.Common.{◌≡◌, Bool, true, false, if◌then◌else◌, refl, sym, ◌∙◌, ap, subst, inl, inr, arith}
 use Rattle.thy_base.specs.declared.block.Block.{Block}
 use Rattle.thy_base.specs.declared.place.Place.{Place}
-use Rattle.thy_base.specs.Device.{Device, written_to, write_of, surplus}
+use Rattle.thy_base.specs.Device.{written_to}
 use Rattle.thy_base.specs.Places.{IsPlace, in_dram, number_of}
+use Rattle.thy_base.proofs.DeviceLemmas.{queue-written_to}
 use Rattle.thy_dram.specs.Contents.{written}
 use Rattle.thy_place.specs.Devices.{Devices}
 use Rattle.thy_place.proofs.PlaceLemmas.{within_image}
@@ -14,9 +14,6 @@ use Rattle.thy_control.specs.State.{State}
 
 abbrev spot : (s : State) (place : Place) (block : Block) → IsPlace s.p place → in_dram place ≡ false → IsFree s (number_of s.p place) → Spot s
 spot s place block there side free = record { at = number_of s.p place; block = block; inside = within_image s.p place there side; free = free }
-
-queue-written_to : (n : Device) (at : ℕ) (block : Block) → length (written_to n at block).queue ≤ length n.queue + 1
-queue-written_to n at block = omega (arith, length-drop (surplus n) n.queue, length_push (drop (surplus n) n.queue) (write_of at block))
 
 -- a write, by the side on which its place lies
 one_write : (s : State) (place : Place) (block : Block) (side : Bool) (d : Devices) → in_dram place ≡ side → IsPlace s.p place → (side ≡ false → IsFree s (number_of s.p place))

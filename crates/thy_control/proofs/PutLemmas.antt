@@ -1,5 +1,5 @@
 -- A store of a block in its parts: what each call of it needs, and what it leaves.
-use Rattle.std.proofs.Common.{◌≡◌, ◌≢◌, ℕ, ◌<◌, Bool, true, false, length, refl, sym, ◌∙◌, ap, subst, inl, inr, arith, Some, None, Result, Ok, Err, OnErr}
+use Rattle.std.proofs.Common.{◌≡◌, ◌≢◌, ℕ, ◌<◌, Bool, true, false, length, refl, sym, ◌∙◌, ap, subst, inl, inr, arith, Some, None}
 use Rattle.std.proofs.lemmas.Bool.{cases_eq}
 use Rattle.std.proofs.lemmas.List.{length-set, get_or-set_same, get_or-set_other}
 use Rattle.thy_base.specs.declared.block.Block.{Block}
@@ -9,6 +9,7 @@ use Rattle.thy_base.specs.Device.{Device, block_at}
 use Rattle.thy_base.specs.Geometry.{memory_blocks}
 use Rattle.thy_base.specs.Places.{number_of}
 use Rattle.thy_base.specs.Store.{page_of}
+use Rattle.thy_base.proofs.RangeLemmas.{btt_least}
 use Rattle.thy_dram.specs.Contents.{Contents}
 use Rattle.thy_place.specs.Devices.{Devices, devices_of, written_at}
 use Rattle.thy_place.proofs.PlaceLemmas.{AreSized-written_at}
@@ -34,14 +35,9 @@ use Rattle.thy_control.specs.State.{State, AreCountsOf, AreSoundTables, IsSized,
 use Rattle.thy_control.specs.Rules.{with_block, with_cell, rule_for, cell_before, devices_after, state_after, IsWholeState}
 use Rattle.thy_control.proofs.CountsLemmas.{AreCountsOf-counted}
 use Rattle.thy_control.proofs.FindLemmas.{found_entry, index_for-inside, length-with, numbers-with}
-use Rattle.thy_control.proofs.CellLemmas.{btt_least, block-cell_of, page-cell_of, IsWithin-cell_of}
+use Rattle.thy_control.proofs.CellLemmas.{block-cell_of, page-cell_of, IsWithin-cell_of}
 use Rattle.thy_control.proofs.StateLemmas.{first_is_pending, IsListed, IsListed-with_block, cell-with_block_same, sound-with_block, sound-with_cell, rule-with_block, frame_is_framed}
 use Rattle.thy_control.proofs.LiveLemmas.{used-stored}
-
--- what holds whatever a result is
-pub OnErr-of : {T E P : Type 0} (r : Result T E) → P → OnErr r P
-OnErr-of (Ok x) h = tt
-OnErr-of (Err e) h = h
 
 -- if entries are free, a lowest one is
 pub has_free : (t : Listing BttEntry) → 0 < free_count t → free_place t ≡ None → ⊥

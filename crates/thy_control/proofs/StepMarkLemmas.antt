@@ -2,29 +2,27 @@
 use Rattle.std.proofs.Common.{◌≡◌, ◌≢◌, ℕ, ◌+◌, ◌<◌, Bool, true, false, ◌&&◌, refl, sym, ◌∙◌, ap, arith, Option, Some, None}
 use Rattle.thy_base.specs.Device.{Device}
 use Rattle.thy_base.specs.Geometry.{memory_blocks}
-use Rattle.thy_base.specs.Store.{page_of}
-use Rattle.thy_table.specs.Listing.{Listing, place_of, passes, with_entry}
+use Rattle.thy_table.specs.Listing.{Listing, passes}
 use Rattle.thy_table.specs.declared.block_entry.BttEntry.{BttEntry}
 use Rattle.thy_table.specs.declared.block_entry.Pending.TheVariants.{Settled}
 use Rattle.thy_table.specs.declared.block_entry.Working.TheVariants.{InBuffer}
 use Rattle.thy_table.specs.declared.page_entry.PttEntry.{PttEntry}
 use Rattle.thy_table.specs.BlockEntry.{new_entry}
-use Rattle.thy_table.specs.PageEntry.{no_page, is_framed}
+use Rattle.thy_table.specs.PageEntry.{is_framed}
 use Rattle.thy_cell.specs.declared.cell.Cell.{Cell}
 use Rattle.thy_cell.specs.Rules.{after_copy}
 use Rattle.thy_cell.specs.Checkpoint.{page_issued}
 use Rattle.thy_cell.specs.BetweenCheckpoints.{MergeKeeps, DirtyKeeps}
 use Rattle.thy_control.specs.declared.overlay.WorkCounts.{WorkCounts}
-use Rattle.thy_control.specs.Keys.{block_key, page_key}
+use Rattle.thy_control.specs.Keys.{block_key}
 use Rattle.thy_control.specs.State.{State, AreSoundTables, cell_of}
-use Rattle.thy_control.specs.Holding.{is_promoted, promoted}
 use Rattle.thy_control.specs.Seal.{block_is_framed}
 use Rattle.thy_control.specs.Overlay.{is_buffered, is_overlaid, overlaid, AreWorkCounts}
 use Rattle.thy_control.specs.Copies.{copied}
 use Rattle.thy_control.specs.Merges.{overlays, merged_block}
 use Rattle.thy_control.specs.Pages.{issued}
 use Rattle.thy_control.proofs.FindLemmas.{found_entry, entry_for-some}
-use Rattle.thy_control.proofs.CountLemmas.{count-set_same}
+use Rattle.thy_control.proofs.CountLemmas.{count-set_same, promoted-set}
 use Rattle.thy_control.proofs.PageLemmas.{count-same}
 use Rattle.thy_control.proofs.CopyLemmas.{listed-pending}
 use Rattle.thy_control.proofs.MergeLemmas.{listed_page-merge, overlays-merged}
@@ -36,14 +34,6 @@ overlaid-framed now old t same = count-same (passes (is_overlaid now)) (passes (
   by_entry : (o : Option BttEntry) → passes (is_overlaid now) o ≡ passes (is_overlaid old) o
   by_entry None = refl
   by_entry (Some e) = ap (λ (f : Bool). is_buffered e.work && f) (same e.block)
-
--- another entry of a page that is in promotion as it was
-pub promoted-set : (s : State) (b : ℕ) (e : PttEntry) → place_of page_key (page_of b) s.ptt ≡ Some (cell_of s b).j → is_promoted e ≡ is_promoted (cell_of s b).page
-    → promoted (with_entry (cell_of s b).j (Some e) s.ptt) ≡ promoted s.ptt
-promoted-set s b e listed same =
-    let there = found_entry page_key no_page s.ptt (page_of b) (cell_of s b).j listed in
-    let is : (cell_of s b).page ≡ there.0 = entry_for-some page_key no_page s.ptt (page_of b) (cell_of s b).j there.0 listed there.1 in
-    count-set_same (passes is_promoted) s.ptt.entries (cell_of s b).j (Some e) None there.3 (same ∙ ap is_promoted is ∙ sym (ap (passes is_promoted) there.1))
 
 -- a copy changes none
 pub AreWorkCounts-copied : (b : ℕ) (s : State) (m : Device) (k : WorkCounts) → (cell_of s b).entry.pend ≢ Settled → AreWorkCounts s.ptt s.btt k

@@ -1,7 +1,7 @@
 -- What a load and a store leave, seen as those of a store of blocks.
 use Rattle.std.proofs.Common.{◌≡◌, ◌≢◌, ℕ, ◌+◌, ◌<◌, ◌≤◌, ◌==◌, ◌&&◌, Bool, true, false, not, if◌then◌else◌, length, get_or, slice_set, map, refl, sym, ◌∙◌, ap, subst, inl, inr, arith, Option, Some, None, Result, Ok, Err, IfOk, OnOk, OnErr}
 use Rattle.std.specs.List.{range_with_len}
-use Rattle.std.proofs.lemmas.Bool.{cases_eq, and_parts, eqb-true}
+use Rattle.std.proofs.lemmas.Bool.{cases_eq, and_parts, eqb-true, not-true}
 use Rattle.std.proofs.lemmas.List.{length-set, get_or-set_same, get_or-set_other}
 use Rattle.std.proofs.lemmas.List.FromFn.{length-map-range_with_len, get_or-map-range_with_len, fill_by_all}
 use Rattle.thy_base.specs.declared.block.Block.{Block}
@@ -32,7 +32,7 @@ use Rattle.thy_control.specs.Versions.{PutsWork}
 use Rattle.thy_control.specs.Stays.{Stays}
 use Rattle.thy_control.specs.Holding.{works, is_promoted, waiting, promoted, holding_of}
 use Rattle.thy_control.specs.Once.{Once, Writes, KeepsCheckpointWork}
-use Rattle.thy_control.proofs.HoldingLemmas.{not-of, works-sized}
+use Rattle.thy_control.proofs.HoldingLemmas.{works-sized}
 use Rattle.thy_control.proofs.FindLemmas.{found_entry, entry_for-none, entry_for-some}
 use Rattle.thy_control.proofs.CellLemmas.{IsPlace-store}
 use Rattle.thy_control.proofs.StateLemmas.{IsListed, IsListed-with_block}
@@ -58,7 +58,7 @@ whole_page s b none (Some i) h =
 pub ready-whole : (s : State) (m : Device) → (holding_of s m).ready ≡ true → IsWholeState s × (m.down ≡ false)
 ready-whole s m h =
     let both = and_parts (promoted s.ptt == 0) (not m.down) h in
-    (record { whole = λ b l. whole_page s b (eqb-true (promoted s.ptt) 0 both.0) (place_of page_key (page_of b) s.ptt) refl }, not-of m.down both.1)
+    (record { whole = λ b l. whole_page s b (eqb-true (promoted s.ptt) 0 both.0) (place_of page_key (page_of b) s.ptt) refl }, not-true m.down both.1)
 
 -- blocks by a function that gives the same but for one number
 blocks_set : (f g : ℕ → Block) (size b : ℕ) (block : Block) → g b ≡ block → ((k : ℕ) → k < size → k ≢ b → g k ≡ f k)

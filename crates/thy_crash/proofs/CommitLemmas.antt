@@ -1,5 +1,5 @@
 -- What a commit leaves, call by call.
-use Rattle.std.proofs.Common.{◌≡◌, ◌<◌, List, length, Result, Ok, Err, OnErr, sym, ◌∙◌, ap, subst, inl, arith}
+use Rattle.std.proofs.Common.{◌≡◌, ◌<◌, List, length, sym, ◌∙◌, ap, subst, inl, arith}
 use Rattle.thy_base.specs.declared.block.Block.{Block}
 use Rattle.thy_base.specs.Device.{Device, block_at, settled, written_to, HasFailed, HasFailedToWrite, IsFramed}
 use Rattle.thy_base.proofs.DeviceLemmas.{length-settled}
@@ -9,11 +9,6 @@ use Rattle.thy_crash.specs.Saved.{Looking, IsIssued, Kept, InDoubt, IsReady, IsI
 use Rattle.thy_crash.proofs.FixedLemmas.{Reads-written}
 use Rattle.thy_crash.proofs.SavedLemmas.{left_of_saved, IsSaved-spared, IsReady-settled, IsInDoubt-written, IsInDoubt-failed, IsKept-settled}
 use Rattle.thy_crash.proofs.SparesLemmas.{Spares-failed}
-
--- a fact that holds anyway holds of an error
-pub on_err : {T E P : Type 0} (r : Result T E) → P → OnErr r P
-on_err (Ok x) p = tt
-on_err (Err e) p = p
 
 -- the first barrier failed
 pub either-unready : (block : Block) (old new : Device) → HasFailed old new → IsFramed old new → LeavesEither block old new

@@ -1,20 +1,15 @@
 -- A DRAM's ring after a call.
-use Rattle.std.proofs.Common.{◌≡◌, ℕ, ◌+◌, ◌<◌, ◌≤◌, min, nat_lt, if◌then◌else◌, List, [], ◌∷◌, ◌++◌, length, take, drop, slice_set, refl, sym, ◌∙◌, ap, arith}
+use Rattle.std.proofs.Common.{◌≡◌, ℕ, ◌+◌, ◌<◌, ◌≤◌, min, nat_lt, if◌then◌else◌, List, [], ◌∷◌, ◌++◌, length, take, drop, slice_set, sym, ◌∙◌, ap, arith}
 use Rattle.std.proofs.lemmas.List.{take-append-drop}
 use Rattle.std.proofs.lemmas.Grind.{common_steps}
 use Rattle.thy_base.specs.declared.block.Block.{Block}
 use Rattle.thy_base.specs.declared.nvm.Write.{Write}
 use Rattle.thy_base.specs.Device.{applied, surplus, written_to, write_of}
-use Rattle.thy_base.proofs.DeviceLemmas.{length-applied}
+use Rattle.thy_base.proofs.DeviceLemmas.{length-applied, applied-append}
 use Rattle.thy_ring.specs.Held.{Held, device_of, as_device, unqueued}
 use Rattle.thy_dram.specs.Contents.{contents_in, written, lost}
 use Rattle.thy_dram.specs.Draws.{blocks_over, filled}
 use Rattle.thy_dram.proofs.DrawLemmas.{blocks_over-length}
-
--- one list of writes applied and then another
-pub applied-append : (image : List Block) (ws vs : List Write) → applied image (ws ++ vs) ≡ applied (applied image ws) vs
-applied-append image [] vs = refl
-applied-append image (w ∷ ws) vs = applied-append (slice_set image w.at w.block) ws vs
 
 -- where the oldest k writes have landed and one more is queued, that place alone reads otherwise
 pub applied-push : (image : List Block) (queue : List Write) (k at : ℕ) (block : Block)

@@ -1,5 +1,5 @@
 -- Loops that write draws over bytes and blocks.
-use Rattle.std.proofs.Common.{◌≡◌, ℕ, ◌+◌, ◌<◌, ◌%◌, List, [], ◌∷◌, ◌++◌, length, take, drop, slice_set, refl, sym, ◌∙◌, ap, arith}
+use Rattle.std.proofs.Common.{◌≡◌, ℕ, ◌+◌, ◌<◌, ◌%◌, List, [], ◌∷◌, ◌++◌, length, take, drop, slice_set, refl, sym, ◌∙◌, ap, arith, suc}
 use Rattle.std.proofs.lemmas.List.{append_assoc, take_more_set, drop-set-lt, at_drop_more}
 use Rattle.thy_base.specs.declared.block.Block.{Block}
 use Rattle.thy_base.specs.Device.{zero_block}
@@ -48,3 +48,8 @@ blocks_over-length seed [] [] e = refl
 blocks_over-length seed [] (y ∷ ys) e = absurd (omega arith)
 blocks_over-length seed (x ∷ xs) [] e = absurd (omega arith)
 blocks_over-length seed (x ∷ xs) (y ∷ ys) e = ap (λ bs. drawn_block seed ∷ bs) (blocks_over-length (after_block seed) xs ys (omega arith))
+
+-- a loss of power leaves as many blocks
+pub length-over : (seed : ℕ) (xs : List Block) → length (blocks_over seed xs) ≡ length xs
+length-over seed [] = refl
+length-over seed (x ∷ xs) = ap suc (length-over (after_block seed) xs)

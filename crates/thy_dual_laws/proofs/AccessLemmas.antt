@@ -1,6 +1,6 @@
 -- What a load and a store leave: one action, and the checkpoints.
 use Rattle.std.proofs.Common.{◌≡◌, ◌⊎◌, ℕ, ◌<◌, ◌≤◌, ◌==◌, ◌&&◌, not, nat_lt, Bool, true, false, if◌then◌else◌, length, refl, sym, ◌∙◌, ap, subst, inl, inr, arith, Result, Ok, Err, OnOk, OnErr, IfOk}
-use Rattle.std.proofs.lemmas.Bool.{and_parts, eqb-true}
+use Rattle.std.proofs.lemmas.Bool.{and_parts, eqb-true, both_ways}
 use Rattle.thy_base.specs.declared.block.Block.{Block}
 use Rattle.thy_base.specs.declared.nvm.NvmError.{NvmError}
 use Rattle.thy_base.specs.declared.place.Place.{Place}
@@ -16,6 +16,7 @@ use Rattle.thy_cell.specs.Rules.{store_place}
 use Rattle.thy_cell.specs.Store.{put_by}
 use Rattle.thy_base.specs.Store.{HasStored}
 use Rattle.thy_place.specs.Devices.{Devices, devices_of, written_at}
+use Rattle.thy_place.proofs.PlaceLemmas.{down-written}
 use Rattle.thy_control.specs.Holding.{promoted, holding_of}
 use Rattle.thy_control.specs.Once.{IsOneAction, Once, AccessesNvm, FailsOnNvm, IsOneOfNvm}
 use Rattle.thy_control.specs.Rules.{rule_for, cell_before, devices_after, state_after, FailsStore}
@@ -30,9 +31,6 @@ use Rattle.thy_dual_laws.specs.Scheme.{dual_scheme}
 use Rattle.thy_dual_laws.specs.Stays.{StaysDual}
 
 -- ---- one action
-
-not_up : (d : Bool) → d ≡ false → d ≡ true → ⊥
-not_up d e f = let both : false ≡ true = sym e ∙ f in cc
 
 -- of both devices: a write is one of the DRAM, or leaves it alone
 abbrev BothAct : Devices → Devices → Type 0
@@ -74,7 +72,7 @@ module _ (s : Dual) (m : Device) (t : Dual) (n : Device) (once : Once s.control 
         action = Rest;
         access = tt;
         succeeds = λ u. record { left = same; dram = acts; queue = one.queue u; copies = λ less. writes u };
-        fails = λ d. absurd (not_up n.down down d);
+        fails = λ d. absurd (both_ways n.down down d);
         frame = once.frame;
         stays = stays;
       }
@@ -85,7 +83,7 @@ module _ (s : Dual) (m : Device) (t : Dual) (n : Device) (once : Once s.control 
         action = WriteAt x.0.at x.0.block;
         access = λ e. absurd (omega (arith, e, behind));
         succeeds = λ u. record { left = x.1; dram = acts; queue = one.queue u; copies = λ less. writes u };
-        fails = λ d. absurd (not_up n.down down d);
+        fails = λ d. absurd (both_ways n.down down d);
         frame = once.frame;
         stays = stays;
       }
@@ -94,7 +92,7 @@ module _ (s : Dual) (m : Device) (t : Dual) (n : Device) (once : Once s.control 
   failed-access (inl failed) = record {
     action = ReadAt 0;
     access = tt;
-    succeeds = λ u. absurd (not_up n.down u failed.down);
+    succeeds = λ u. absurd (both_ways n.down u failed.down);
     fails = λ d. failed;
     frame = once.frame;
     stays = stays;
@@ -104,7 +102,7 @@ module _ (s : Dual) (m : Device) (t : Dual) (n : Device) (once : Once s.control 
       record {
         action = WriteAt x.0.at x.0.block;
         access = λ e. absurd (omega (arith, e, behind));
-        succeeds = λ u. absurd (not_up n.down u x.1.down);
+        succeeds = λ u. absurd (both_ways n.down u x.1.down);
         fails = λ d. x.1;
         frame = once.frame;
         stays = stays;
@@ -122,12 +120,6 @@ module _ (s : Dual) (m : Device) (t : Dual) (n : Device) (once : Once s.control 
 room-written : (p : Parameters) (x : Place) (block : Block) (d : Devices) → (written_at p x block d).dram.room ≡ d.dram.room
 room-written p x block d = by_side (in_dram x) where
   by_side : (side : Bool) → (if side then record d { dram = written d.dram (number_of p x) block } else record d { nvm = written_to d.nvm (number_of p x) block }).dram.room ≡ d.dram.room
-  by_side true = refl
-  by_side false = refl
-
-down-written : (p : Parameters) (x : Place) (block : Block) (d : Devices) → (written_at p x block d).nvm.down ≡ d.nvm.down
-down-written p x block d = by_side (in_dram x) where
-  by_side : (side : Bool) → (if side then record d { dram = written d.dram (number_of p x) block } else record d { nvm = written_to d.nvm (number_of p x) block }).nvm.down ≡ d.nvm.down
   by_side true = refl
   by_side false = refl
 
@@ -155,7 +147,7 @@ module _ (b : ℕ) (block : Block) (s : State) (m : Device) (t : State) (n : Dev
       let d : Devices = written_at s.p there put (devices_of m s.dram) in
       subst (λ (u : State). WritesBlock m n s.dram u.dram) (sym state)
       (subst (λ (u : Device). WritesBlock m u s.dram d.dram) (sym nvm) (written-writes s.p there put (devices_of m s.dram)))
-  store-writes (Err x) state nvm err up = absurd (not_up n.down up err.failed.down)
+  store-writes (Err x) state nvm err up = absurd (both_ways n.down up err.failed.down)
 
   ready-stored : (x : Stored) → HasStored x b block (holding_of s m) (holding_of t n) → (holding_of t n).ready ≡ (holding_of s m).ready
   ready-stored Done h = h.ready

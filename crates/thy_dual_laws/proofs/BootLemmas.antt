@@ -1,5 +1,5 @@
 -- What holds in the boot.
-use Rattle.std.proofs.Common.{◌≡◌, ◌≢◌, ◌&&◌, ℕ, ◌-◌, ◌*◌, ◌<◌, ◌≤◌, [], ◌∷◌, suc, true, false, is_some, List, length, refl, sym, ◌∙◌, ap, subst, inl, inr, arith, Option, Some, None}
+use Rattle.std.proofs.Common.{◌≡◌, ◌≢◌, ◌&&◌, ℕ, ◌-◌, ◌*◌, ◌<◌, ◌≤◌, [], true, false, is_some, List, length, refl, sym, ◌∙◌, ap, subst, inl, inr, arith, Option, Some, None}
 use Rattle.std.proofs.lemmas.List.{get_or-replicate, length-replicate}
 use Rattle.thy_base.specs.declared.block.Block.{Block}
 use Rattle.thy_base.specs.declared.config.Parameters.{Parameters}
@@ -22,7 +22,6 @@ use Rattle.thy_protocol.proofs.KeepsLemmas.{finding_view-told}
 use Rattle.thy_protocol.proofs.DualLayoutsLemmas.{decode_by-dual_layouts}
 use Rattle.thy_base.specs.Places.{dram_blocks}
 use Rattle.thy_dram.specs.Contents.{Contents, lost}
-use Rattle.thy_dram.specs.Draws.{blocks_over, after_block}
 use Rattle.thy_view.specs.Kind.{IsDramOf}
 use Rattle.thy_view.specs.declared.view.View.{View}
 use Rattle.thy_view.specs.Booting.{boot_view, loading_view, view_of_image}
@@ -51,6 +50,7 @@ use Rattle.thy_record.specs.declared.bad_image.BadImage.{BadImage}
 use Rattle.thy_protocol.proofs.LayoutLemmas.{decode_by-nothing_back, decode_by-zero}
 use Rattle.thy_protocol.specs.DualLayouts.{layout_of, dual_layouts}
 use Rattle.thy_base.proofs.CrashLemmas.{Crash-image}
+use Rattle.thy_dram.proofs.DrawLemmas.{length-over}
 use Rattle.thy_migrate.specs.declared.migration.Migration.{Migration}
 use Rattle.thy_migrate.specs.Left.{left_at}
 use Rattle.thy_migrate.specs.Sound.{IsMigrating}
@@ -414,10 +414,6 @@ pub loading-is : (o : Origin) (s : Dual) (n : Device) → Boots o s n
 loading-is o s n boots = loading-by o boots.images n s.boot.boot s.control s.boot.migration boots.under_way
 
 -- ---- a loss of power
-
-length-over : (seed : ℕ) (xs : List Block) → length (blocks_over seed xs) ≡ length xs
-length-over seed [] = refl
-length-over seed (x ∷ xs) = ap suc (length-over (after_block seed) xs)
 
 -- what is left of a DRAM of its size is one with nothing queued
 pub IsDramOf-lost : (p : Parameters) (s : State) (pick : ℕ) (d : Contents) → AreSoundTables s → s.p ≡ p → s.dram.room ≡ p.dramq → d ≡ lost s.dram pick → IsDramOf p d

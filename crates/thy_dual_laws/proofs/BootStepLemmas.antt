@@ -1,6 +1,6 @@
 -- A step of the boot.
 use Rattle.std.proofs.Common.{◌≡◌, ◌≢◌, ℕ, ◌+◌, ◌≤◌, ◌||◌, nat_lt, Bool, true, false, is_some, if◌then◌else◌, List, length, refl, sym, ◌∙◌, ap, subst, inl, arith, Option, Some, None, Result, Ok, Err, IfOk, OnErr}
-use Rattle.std.proofs.lemmas.List.{length-drop}
+use Rattle.std.proofs.lemmas.Bool.{false_from_ne_true}
 use Rattle.thy_base.specs.declared.block.Block.{Block}
 use Rattle.thy_base.specs.declared.config.Parameters.{Parameters}
 use Rattle.thy_base.specs.declared.layout_version.LayoutVersion.{LayoutVersion}
@@ -33,6 +33,7 @@ use Rattle.thy_view.specs.CoreStep.{BootsTo, CoreStep}
 use Rattle.thy_view.specs.Dram.{ActsOnDram}
 use Rattle.thy_view.specs.Origin.{Origin, Begins}
 use Rattle.thy_view.specs.Safe.{Safe}
+use Rattle.thy_view.proofs.ActionLemmas.{down-after, queue-after}
 use Rattle.thy_commit.specs.Progress.{Fits}
 use Rattle.thy_commit.proofs.FitLemmas.{idle_fits}
 use Rattle.thy_boot.specs.declared.stage.Stage.{Stage}
@@ -80,15 +81,10 @@ use Rattle.thy_dual_laws.specs.Dual.{Dual, is_promoting}
 use Rattle.thy_dual_laws.specs.Scheme.{dual_scheme}
 use Rattle.thy_dual_laws.proofs.BootLemmas.{view-reads, view-migrates, loads-first, boot-holds}
 use Rattle.thy_dual_laws.proofs.BootedLemmas.{booted_is_sound, booting-whole}
-use Rattle.thy_dual_laws.proofs.ItemLemmas.{queue-written}
 use Rattle.thy_dual_laws.proofs.SafeLemmas.{Safe-read}
 
 no-false : false ≡ true → ⊥
 no-false e = cc
-
-not-true : (t : Bool) → (t ≡ true → ⊥) → t ≡ false
-not-true true h = absurd (h refl)
-not-true false h = refl
 
 -- what a step returns is what a cycle did
 did-answered : (a : BootStep) → boot_did (step_of a) ≡ did_of a
@@ -97,22 +93,6 @@ did-answered IsLoading = refl
 did-answered HasLoaded = refl
 did-answered (Restarted cpu epoch) = refl
 did-answered (Refused bad) = refl
-
--- ---- an action
-
-after-up : (a : Action) (n : Device) → (after a n).down ≡ n.down
-after-up Rest n = refl
-after-up (ReadAt place) n = refl
-after-up (WriteAt place block) n = refl
-after-up Barrier n = refl
-after-up Drain n = refl
-
-after-queue : (a : Action) (n : Device) → length (after a n).queue ≤ length n.queue + 1
-after-queue Rest n = omega arith
-after-queue (ReadAt place) n = omega arith
-after-queue (WriteAt place block) n = queue-written n place block
-after-queue Barrier n = omega arith
-after-queue Drain n = omega (arith, length-drop 1 n.queue)
 
 -- ---- how far it is
 
@@ -197,7 +177,7 @@ booted-at o t new m cpu image unused storeless up keeps over count =
       count = count;
       recordable = over.has.recordable;
       closed = refl;
-      whole = not-true (is_promoting t.control) (booting-whole t.control over.has.booting);
+      whole = false_from_ne_true (is_promoting t.control) (booting-whole t.control over.has.booting);
       storeless = storeless;
     }
 
@@ -288,7 +268,7 @@ module _ (o : Origin) (s : Dual) (n : Device) (booting : IsBooting dual_scheme o
   acts = steps_act filling_dual filling_is_lawful o.start n b s.control new d e took
 
   up : new.down ≡ false
-  up = ap (λ (x : Device). x.down) acts.left ∙ after-up acts.action n ∙ booting.up
+  up = ap (λ (x : Device). x.down) acts.left ∙ down-after acts.action n ∙ booting.up
 
   idle-now : e.under_way ≡ false
   idle-now = idle-at o h new d e d.stage refl never moved.sound.so_far
@@ -424,7 +404,7 @@ module _ (o : Origin) (s : Dual) (n : Device) (booting : IsBooting dual_scheme o
   queue-by (Loading issue) l =
       omega (
         arith,
-        after-queue (issue_action (filling_dual.first b.p o.start) issue) n,
+        queue-after (issue_action (filling_dual.first b.p o.start) issue) n,
         ap (λ (x : Device). length x.queue) l.device,
         ap (λ (x : State). x.dram.queued) l.control,
       )
@@ -523,7 +503,7 @@ module _ (o : Origin) (s : Dual) (n : Device) (booting : IsBooting dual_scheme o
   mark-now = mark-same m (epoch_of bo.commit) (cpu_of_record bo.p (slot_read filling_dual bo)).count (sym h.found.epoch) count-now
 
   up-now : dev.down ≡ false
-  up-now = after-up (action_on bo at) n ∙ booting.up
+  up-now = down-after (action_on bo at) n ∙ booting.up
 
   restart-answer : answer_of filling_dual bo ≡ Restarted (cpu_of_record bo.p (slot_read filling_dual bo)) (epoch_of bo.commit)
   restart-answer = ap (λ (q : Stage). answer_at filling_dual q bo) over
@@ -566,7 +546,7 @@ module _ (o : Origin) (s : Dual) (n : Device) (booting : IsBooting dual_scheme o
     acts = subst (λ (w : Option Migration). ActsBy (is_some w) (boot_did (step_of (answer_by (after_action bo.p at) bo))) n dev) (sym on)
         (answered-now (after_action bo.p at) refl comes-to).1;
     dram = inl refl;
-    queue = omega (arith, after-queue (action_on bo at) n);
+    queue = omega (arith, queue-after (action_on bo at) n);
     nearer = come_nearer o.start n s.boot s.control dev next_boot s.control
         (subst (λ (w : Option Migration). CanStepAt w o.start n s.boot s.control) (sym on) (migration_may_go_on o m at im n bo s.control h booting.up))
         (subst (λ (w : Option Migration). RecoveryStepsAt w o.start n s.boot s.control dev next_boot s.control) (sym on) (record { device = refl; recovery = refl; control = refl }))

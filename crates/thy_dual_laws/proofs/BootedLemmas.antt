@@ -10,7 +10,8 @@ use Rattle.thy_base.specs.declared.mark.Mark.{Mark}
 use Rattle.thy_base.specs.declared.place.Place.{Place}
 use Rattle.thy_base.specs.Device.{Device, block_at, newest, zero_block}
 use Rattle.thy_base.specs.Geometry.{memory_blocks}
-use Rattle.thy_base.specs.Places.{in_dram, number_of, image_blocks}
+use Rattle.thy_base.specs.Places.{number_of, image_blocks}
+use Rattle.thy_base.proofs.DeviceLemmas.{newest-empty}
 use Rattle.thy_crash.specs.Saved.{Saved, Kept}
 use Rattle.thy_isa.specs.declared.state.CpuState.{CpuState}
 use Rattle.thy_isa.specs.OnBlocks.{state_from}
@@ -18,13 +19,9 @@ use Rattle.thy_record.specs.Images.{memory_in, memory_numbers}
 use Rattle.thy_record.specs.Tables.{place_of as place_in}
 use Rattle.thy_table.specs.Listing.{entry_at, passes}
 use Rattle.thy_table.specs.declared.block_entry.BttEntry.{BttEntry}
-use Rattle.thy_table.specs.declared.block_entry.Version.{Version}
-use Rattle.thy_table.specs.declared.block_entry.Version.TheVariants.{Out, Alt}
 use Rattle.thy_table.specs.declared.page_entry.PttEntry.{PttEntry}
-use Rattle.thy_table.specs.declared.page_entry.Site.{Site}
-use Rattle.thy_table.specs.declared.page_entry.Site.TheVariants.{AtHome, AtAlternate}
 use Rattle.thy_cell.specs.declared.cell.Cell.{Cell}
-use Rattle.thy_cell.specs.Cells.{Seat, seat_of, placed, penult}
+use Rattle.thy_cell.specs.Cells.{seat_of, penult}
 use Rattle.thy_control.specs.Boot.{IsBooting}
 use Rattle.thy_control.specs.CheckpointTables.{tables0}
 use Rattle.thy_control.specs.Frees.{HasNoWork}
@@ -33,40 +30,35 @@ use Rattle.thy_control.specs.State.{State, AreSoundTables, cell_of, penult_of}
 use Rattle.thy_control.specs.Stays.{HoldAll}
 use Rattle.thy_control.proofs.MarkLemmas.{counted-some}
 use Rattle.thy_control.proofs.TablesLemmas.{AreTablesOf-committed}
+use Rattle.thy_control.proofs.GuardLemmas.{placed-in_nvm}
 use Rattle.thy_protocol.specs.Keeps.{Keeps}
 use Rattle.thy_protocol.specs.DualLayouts.{layout_of}
 use Rattle.thy_view.specs.Origin.{Origin}
 use Rattle.thy_commit.specs.declared.stage.CheckpointStage.{CheckpointStage}
 use Rattle.thy_commit.specs.declared.stage.CheckpointStage.TheVariants.{Nothing, Copies, Pages, Slot, Settle, Commit, Confirm}
 use Rattle.thy_commit.specs.Items.{is_under_way}
-use Rattle.thy_commit.specs.Moves.{Checkpoints, is_settled, saved_at}
+use Rattle.thy_commit.specs.Moves.{Checkpoints, is_settled}
 use Rattle.thy_commit.specs.Progress.{Progress, Fits}
 use Rattle.thy_commit.specs.Written.{HasWrittenBefore}
 use Rattle.thy_commit.proofs.FitLemmas.{idle_fits}
 use Rattle.thy_recover.specs.Filling.{loads}
 use Rattle.thy_recover.specs.Booted.{IsBooted}
-use Rattle.thy_boot.proofs.ReadLemmas.{newest-settled}
 use Rattle.thy_recover.proofs.WorkLemmas.{loads-are}
 use Rattle.thy_scheme.specs.CheckpointMarks.{only}
+use Rattle.thy_commit.proofs.TableLemmas.{idle-kept}
 use Rattle.thy_dual_laws.specs.Booted.{IsUnused, BootedIsSound}
 use Rattle.thy_dual_laws.specs.Dual.{Dual, is_promoting, penults}
 use Rattle.thy_dual_laws.specs.Sound.{is_confirming, IsSoundDual}
 
 -- ---- memory
 
--- the committed version is in the NVM
-penult_in_nvm : (v : Version) (s : Site) (x : Seat) → in_dram (placed v s x) ≡ false
-penult_in_nvm Alt s x = refl
-penult_in_nvm Out AtAlternate x = refl
-penult_in_nvm Out AtHome x = refl
-
 module _ (c : State) (n : Device) (tables : AreSoundTables c) (settled : n.queue ≡ []) where
   penult_stands : (b : ℕ) → b < memory_blocks c.p → penult_of c n b ≡ block_at n.image (number_of c.p (place_in (tables0 c) b))
   penult_stands b l =
       let x : Cell = cell_of c b in
       let there : Place = penult x in
-      ap (λ (z : Bool). if z then block_at c.dram.blocks (number_of c.p there) else newest n (number_of c.p there)) (penult_in_nvm x.entry.v0 x.page.place (seat_of x))
-      ∙ newest-settled n (number_of c.p there) settled
+      ap (λ (z : Bool). if z then block_at c.dram.blocks (number_of c.p there) else newest n (number_of c.p there)) (placed-in_nvm x.entry.v0 x.page.place (seat_of x))
+      ∙ newest-empty n (number_of c.p there) settled
       ∙ ap (λ (y : Place). block_at n.image (number_of c.p y)) (sym ((AreTablesOf-committed c tables).same_place b l))
 
   penults-are : penults c n ≡ memory_in c.p (tables0 c) n.image
@@ -104,15 +96,6 @@ booting-whole c boot some =
     by_entry j (Some e) was h = no-false (sym (ap is_promoted (boot.pages j e was)) ∙ h)
 
 -- ---- an idle engine
-
-idle-kept : (q : CheckpointStage) (c : Checkpoints) → is_under_way q ≡ false → saved_at q c ≡ Kept c.before
-idle-kept Nothing c h = refl
-idle-kept Copies c h = cc
-idle-kept Pages c h = cc
-idle-kept (Slot k) c h = cc
-idle-kept Settle c h = cc
-idle-kept Commit c h = cc
-idle-kept Confirm c h = cc
 
 idle-stands : (q : CheckpointStage) (e : Progress) (s : State) (n : Device) → is_under_way q ≡ false → HasWrittenBefore q e s n
 idle-stands Nothing e s n h = tt

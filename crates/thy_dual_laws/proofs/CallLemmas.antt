@@ -24,10 +24,10 @@ use Rattle.thy_view.specs.Origin.{Origin}
 use Rattle.thy_scheme.specs.CheckpointMarks.{CheckpointMarks}
 use Rattle.thy_scheme.specs.Scheme.{Stands}
 use Rattle.thy_scheme.specs.Calls.{Keeps, Drains, Merges, Promotes}
+use Rattle.thy_commit.proofs.HeldLemmas.{works-same}
 use Rattle.thy_dual_laws.specs.Dual.{Dual, is_promoting}
 use Rattle.thy_dual_laws.specs.Scheme.{dual_scheme}
 use Rattle.thy_dual_laws.specs.Stays.{StaysDual}
-use Rattle.thy_dual_laws.proofs.HoldsLemmas.{works-agree}
 use Rattle.thy_dual_laws.proofs.MergeLemmas.{IsMerged, IsMerged-next, IsPromoted, IsPromoted-next, WritesDram-filled}
 use Rattle.thy_dual_laws.proofs.StaysLemmas.{sound-on}
 
@@ -117,7 +117,7 @@ module _ (o : Origin) (k : CheckpointMarks) (s : Dual) (n : Device) (t : State) 
       let sized : IsSized t n = record { nvm = sound.held.sized.nvm ∙ ap image_blocks (sym stays.same_p) } in
       record {
         held = record {
-          blocks = works-agree s.control n t n stays.same_p sound.held.sized stands.up sized stands.up work.work_same;
+          blocks = works-same s.control n t n stays.same_p sound.held.sized stands.up sized stands.up work.work_same;
           free = made.free;
           opened = inl refl;
         };
@@ -182,7 +182,7 @@ module _ (o : Origin) (k : CheckpointMarks) (s : Dual) (n : Device) (t : State) 
       let sized : IsSized t new = record { nvm = ap (λ (x : Device). length x.image) same ∙ sound.held.sized.nvm ∙ ap image_blocks (sym stays.same_p) } in
       record {
         held = record {
-          blocks = works-agree s.control n t new stays.same_p sound.held.sized stands.up sized up (held sound.held.holds).work.work_same;
+          blocks = works-same s.control n t new stays.same_p sound.held.sized stands.up sized up (held sound.held.holds).work.work_same;
           free = omega (arith, ap free_count one.blocks);
           opened = inl refl;
         };

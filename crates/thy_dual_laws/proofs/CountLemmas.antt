@@ -3,8 +3,6 @@ use Rattle.std.proofs.Common.{is_none, ◌≡◌, ℕ, ◌-◌, ◌*◌, ◌≤�
 use Rattle.std.specs.List.{count_by, sum_by}
 use Rattle.std.proofs.lemmas.Bool.{ltb-false, not_from_false}
 use Rattle.std.proofs.lemmas.List.Sums.{sum_by-cons, sum_by-le, count_by-le-length}
-use Rattle.thy_base.specs.declared.config.Parameters.{Parameters}
-use Rattle.thy_base.specs.Geometry.{IsInRange}
 use Rattle.thy_table.specs.Listing.{free_count, passes}
 use Rattle.thy_table.proofs.IndexLemmas.{one_if}
 use Rattle.thy_table.specs.declared.block_entry.BttEntry.{BttEntry}
@@ -48,10 +46,6 @@ module _ (s : State) (tables : AreSoundTables s) where
       by_entry : (o : Option PttEntry) → fills_left o ≤ 64
       by_entry None = omega arith
       by_entry (Some e) = by_promoted (is_promoted e) e.filled
-
--- a block table has eight entries at least
-pub btt_least : (p : Parameters) → IsInRange p → 8 ≤ p.btt
-btt_least p r = r.1.1.1.1.0.0.0
 
 -- ---- the pages in promotion
 

@@ -1,11 +1,13 @@
 -- What a step of the engine makes of the checkpoints.
 use Rattle.std.proofs.Common.{◌≡◌, ◌≢◌, ℕ, ◌+◌, ◌≤◌, nat_lt, Bool, true, false, if◌then◌else◌, refl, sym, ◌∙◌, ap, subst, inl, arith, unwrap_or, Option, Some, None, Result, Ok, Err, OnOk, OnErr, IfOk}
+use Rattle.std.proofs.lemmas.Bool.{both_ways}
 use Rattle.thy_base.specs.declared.nvm.NvmError.{NvmError}
 use Rattle.thy_base.specs.declared.block.Block.{Block}
 use Rattle.thy_base.specs.declared.mark.Mark.{Mark}
 use Rattle.thy_base.specs.declared.config.Parameters.{Parameters}
 use Rattle.thy_base.specs.Device.{Device, block_at, newest, IsFramed}
 use Rattle.thy_base.specs.Places.{record_blocks, slot_blocks, image_blocks}
+use Rattle.thy_base.proofs.RangeLemmas.{btt_least}
 use Rattle.thy_crash.proofs.SavedLemmas.{next_image-commit}
 use Rattle.thy_isa.specs.OnBlocks.{state_from}
 use Rattle.thy_place.specs.Devices.{devices_of}
@@ -52,11 +54,11 @@ use Rattle.thy_scheme.specs.CheckpointMarks.{CheckpointMarks, only, doubt_in, ma
 use Rattle.thy_scheme.specs.Scheme.{Stands}
 use Rattle.thy_scheme.specs.Calls.{IsDue, engine_did, Keeps, OwesNoMore, OwesAfter, Engines, EngineFails}
 use Rattle.thy_view.specs.declared.did.Did.{Did}
+use Rattle.thy_scheme.proofs.RecordLemmas.{due-slot, marks-slot}
 use Rattle.thy_dual_laws.specs.Dual.{Dual, is_promoting}
 use Rattle.thy_dual_laws.specs.Scheme.{dual_scheme}
 use Rattle.thy_dual_laws.specs.Sound.{is_confirming, IsHeld, IsOfRest, HasRoom, IsRest, IsSoundDual}
 use Rattle.thy_dual_laws.proofs.BlocksLemmas.{blocks-agree}
-use Rattle.thy_dual_laws.proofs.CountLemmas.{btt_least}
 use Rattle.thy_dual_laws.proofs.ItemLemmas.{IsWrite, IsWrite-after, back, back-item, not-confirming}
 use Rattle.thy_dual_laws.proofs.SafeLemmas.{Safe-read, Safe-doubt}
 
@@ -72,14 +74,6 @@ did-same lap Barrier = refl
 did-same lap CommitWritten = refl
 did-same lap (Committed epoch) = refl
 
-marks-slot : (k : CheckpointMarks) (record_block : Bool) → marks_after (if record_block then StateBlock else TableBlock) k ≡ k
-marks-slot k true = refl
-marks-slot k false = refl
-
-due-slot : (k : CheckpointMarks) (record_block : Bool) → IsDue (if record_block then StateBlock else TableBlock) k
-due-slot k true = tt
-due-slot k false = tt
-
 way-slot : (k : ℕ) (more : Bool) → is_under_way (if more then Slot k else Settle) ≡ true
 way-slot k true = refl
 way-slot k false = refl
@@ -91,9 +85,6 @@ confirming-slot k false = refl
 written-slot : (k : ℕ) (more : Bool) → is_settled (if more then Slot k else Settle) ≡ false
 written-slot k true = refl
 written-slot k false = refl
-
-not_both : (x : Bool) → x ≡ false → x ≡ true → ⊥
-not_both x e f = let both : false ≡ true = sym e ∙ f in cc
 
 fewer-overlays : (i : Item) (s t : State) → MovesOverlays i s t → overlays t ≤ overlays s
 fewer-overlays NoItem s t h = omega (arith, h)
@@ -300,7 +291,7 @@ module _ (o : Origin) (k : CheckpointMarks) (s : Dual) (n : Device) (stands : St
           keeping = keeping ConfirmItem a;
           told = a.told;
           stands = a.stood;
-          made = λ h. absurd (not_both false refl h);
+          made = λ h. absurd (both_ways false refl h);
         };
         way = refl;
         written = refl;
@@ -325,14 +316,14 @@ module _ (o : Origin) (k : CheckpointMarks) (s : Dual) (n : Device) (stands : St
 
   sound-after : (i : Item) → item_of e c ≡ i → After i → IsSoundDual o (marks_after (answer e.p e.epoch i) k) (dual_after i) (nvm_after i)
   sound-after NoItem is a =
-      let idle : e.next ≡ Nothing = back-item e.next c Nothing (ap back is) in absurd (not_both (is_under_way e.next) (ap is_under_way idle) on)
-  sound-after (CopyItem j) is a = sound-same (CopyItem j) a (λ h. cc) a.versions a.tables.way_same refl (λ h. absurd (not_both false refl h)) refl refl refl
-  sound-after (PageItem j) is a = sound-same (PageItem j) a (λ h. cc) a.versions a.tables.way_same refl (λ h. absurd (not_both false refl h)) refl refl refl
+      let idle : e.next ≡ Nothing = back-item e.next c Nothing (ap back is) in absurd (both_ways (is_under_way e.next) (ap is_under_way idle) on)
+  sound-after (CopyItem j) is a = sound-same (CopyItem j) a (λ h. cc) a.versions a.tables.way_same refl (λ h. absurd (both_ways false refl h)) refl refl refl
+  sound-after (PageItem j) is a = sound-same (PageItem j) a (λ h. cc) a.versions a.tables.way_same refl (λ h. absurd (both_ways false refl h)) refl refl refl
   sound-after (SlotItem j) is a =
       let more : Bool = nat_lt (j + 1) (slot_blocks e.p) in
       subst (λ (m : CheckpointMarks). IsSoundDual o m (dual_after (SlotItem j)) (nvm_after (SlotItem j))) (sym (marks-slot k (nat_lt j (record_blocks e.p))))
       (sound-same (SlotItem j) a (λ h. cc) a.versions a.tables.way_same (way-slot (j + 1) more)
-      (λ h. absurd (not_both (is_settled (next_after e.p (SlotItem j))) (written-slot (j + 1) more) h)) refl refl (confirming-slot (j + 1) more))
+      (λ h. absurd (both_ways (is_settled (next_after e.p (SlotItem j))) (written-slot (j + 1) more) h)) refl refl (confirming-slot (j + 1) more))
   sound-after SettleItem is a = sound-same SettleItem a (λ h. cc) a.versions a.tables.way_same refl
       (λ h. next_image-commit (commit_of e.epoch) n (omega (arith, sound.held.sized.nvm))) refl refl refl
   sound-after CommitItem is a =
@@ -343,7 +334,7 @@ module _ (o : Origin) (k : CheckpointMarks) (s : Dual) (n : Device) (stands : St
 
   due : (i : Item) → item_of e c ≡ i → IsDue (answer e.p e.epoch i) k
   due NoItem is =
-      let idle : e.next ≡ Nothing = back-item e.next c Nothing (ap back is) in absurd (not_both (is_under_way e.next) (ap is_under_way idle) on)
+      let idle : e.next ≡ Nothing = back-item e.next c Nothing (ap back is) in absurd (both_ways (is_under_way e.next) (ap is_under_way idle) on)
   due (CopyItem j) is = tt
   due (PageItem j) is = tt
   due (SlotItem j) is = due-slot k (nat_lt j (record_blocks e.p))

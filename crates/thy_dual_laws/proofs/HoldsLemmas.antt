@@ -1,40 +1,35 @@
 -- What holds after the boot.
-use Rattle.std.proofs.Common.{◌≡◌, ℕ, ◌<◌, ◌≤◌, ◌||◌, Bool, true, false, is_some, refl, sym, ◌∙◌, ap, subst, inl, arith}
+use Rattle.std.proofs.Common.{◌≡◌, ◌≤◌, Bool, false, is_some, refl, sym, ◌∙◌, ap, subst, inl, arith}
 use Rattle.std.proofs.lemmas.List.FromFn.{length-map-range_with_len}
 use Rattle.thy_base.specs.declared.config.Parameters.{Parameters}
 use Rattle.thy_base.specs.Device.{Device, drained}
 use Rattle.thy_base.specs.Geometry.{memory_blocks}
 use Rattle.thy_base.specs.Places.{image_blocks}
 use Rattle.thy_base.proofs.DeviceLemmas.{length-drained}
+use Rattle.thy_base.proofs.BasicLemmas.{or_false}
 use Rattle.thy_cell.specs.Cells.{work}
 use Rattle.thy_control.specs.Drains.{IsUnseen}
 use Rattle.thy_control.specs.Holding.{works, promoted}
 use Rattle.thy_control.specs.Merges.{overlays}
-use Rattle.thy_control.specs.State.{State, AreSoundTables, IsSized, cell_of, penult_of, work_of}
+use Rattle.thy_control.specs.State.{AreSoundTables, IsSized, cell_of, penult_of}
 use Rattle.thy_control.proofs.CellLemmas.{IsPlace-work, IsWithin-cell_of}
 use Rattle.thy_control.proofs.DrainLemmas.{IsUnseen-nvm_drained}
-use Rattle.thy_control.proofs.HoldingLemmas.{works-sized, length-works}
+use Rattle.thy_control.proofs.HoldingLemmas.{length-works}
 use Rattle.thy_view.specs.Origin.{Origin}
 use Rattle.thy_commit.specs.Cycles.{cycles_left, most_cycles}
 use Rattle.thy_commit.proofs.CycleLemmas.{cycles_are_few}
 use Rattle.thy_scheme.specs.CheckpointMarks.{CheckpointMarks}
 use Rattle.thy_scheme.specs.Calls.{Keeps}
 use Rattle.thy_scheme.specs.Laws.{IsBounded, RunHolds}
+use Rattle.thy_commit.proofs.HeldLemmas.{works-same}
 use Rattle.thy_dual_laws.specs.Dual.{Dual}
 use Rattle.thy_dual_laws.specs.Laws.{RunIsSound}
 use Rattle.thy_dual_laws.specs.Scheme.{dual_scheme}
 use Rattle.thy_dual_laws.specs.Sound.{HasRoom, IsSoundDual}
 use Rattle.thy_dual_laws.specs.Stays.{StaysDual}
-use Rattle.thy_dual_laws.proofs.BlocksLemmas.{blocks-agree}
 use Rattle.thy_dual_laws.proofs.CountLemmas.{none-left, ready-of, free-few, owed-few, overlays-few, unfilled-few, unfilled-none}
 use Rattle.thy_dual_laws.proofs.SafeLemmas.{Safe-doubt}
 use Rattle.thy_dual_laws.proofs.StaysLemmas.{sound-on}
-
--- if a load of each block gives what it gave, the same blocks are held
-pub works-agree : (s : State) (m : Device) (t : State) (n : Device) → t.p ≡ s.p → IsSized s m → m.down ≡ false → IsSized t n → n.down ≡ false
-    → ((b : ℕ) → b < memory_blocks s.p → work_of t n b ≡ work_of s m b) → works t n ≡ works s m
-works-agree s m t n p sized up sized_now up_now same =
-    works-sized t n sized_now up_now ∙ blocks-agree (work_of t n) (work_of s m) s.p t.p p same ∙ sym (works-sized s m sized up)
 
 -- a drain of the NVM stays, and a load of each block gives what it gave
 module _ (s : Dual) (n : Device) (tables : AreSoundTables s.control) (sized : IsSized s.control n) where
@@ -54,7 +49,7 @@ module _ (s : Dual) (n : Device) (tables : AreSoundTables s.control) (sized : Is
 
   drained-works : n.down ≡ false → works s.control (drained n) ≡ works s.control n
   drained-works up =
-      works-agree s.control n s.control (drained n) refl sized up (record { nvm = length-drained n ∙ sized.nvm }) up
+      works-same s.control n s.control (drained n) refl sized up (record { nvm = length-drained n ∙ sized.nvm }) up
       (λ b l. unseen.reads_same (work (cell_of s.control b)) (IsPlace-work s.control.p (cell_of s.control b) (IsWithin-cell_of s.control b tables l)))
 
   drained-keeps : n.down ≡ false → Keeps dual_scheme s n s (drained n)
@@ -65,10 +60,6 @@ module _ (s : Dual) (n : Device) (tables : AreSoundTables s.control) (sized : Is
     storeless = refl;
     sealed_storeless = refl;
   }
-
-or_false : (b : Bool) → (b || false) ≡ b
-or_false true = refl
-or_false false = refl
 
 module _ (o : Origin) (k : CheckpointMarks) (s : Dual) (n : Device) (sound : IsSoundDual o k s n) (up : n.down ≡ false) where
   bounded : IsBounded dual_scheme o.geometry s n

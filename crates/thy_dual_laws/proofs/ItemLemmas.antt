@@ -1,12 +1,12 @@
 -- What an item of the engine leaves alone.
-use Rattle.std.proofs.Common.{◌≡◌, ◌≢◌, ℕ, ◌+◌, ◌<◌, ◌≤◌, Bool, true, false, if◌then◌else◌, length, refl, sym, inl, inr, arith, Option, Some, None, length-append, length-drop}
+use Rattle.std.proofs.Common.{◌≡◌, ◌≢◌, ℕ, ◌+◌, ◌<◌, ◌≤◌, Bool, true, false, if◌then◌else◌, length, refl, sym, inl, inr, arith, Option, Some, None}
 use Rattle.thy_base.specs.declared.block.Block.{Block}
 use Rattle.thy_base.specs.declared.config.Parameters.{Parameters}
 use Rattle.thy_base.specs.declared.place.Place.{Place}
 use Rattle.thy_base.specs.declared.place.Place.TheVariants.{Home, AlternateBlock, AlternatePage, Buffer, Frame}
 use Rattle.thy_base.specs.Device.{Device, newest, written_to, settled}
 use Rattle.thy_base.specs.Places.{in_dram, number_of}
-use Rattle.thy_base.proofs.DeviceLemmas.{newest-written_to_other, newest-settled, length-written_to, length-settled}
+use Rattle.thy_base.proofs.DeviceLemmas.{newest-written_to_other, newest-settled, length-written_to, length-settled, queue-written_to}
 use Rattle.thy_dram.specs.Contents.{written}
 use Rattle.thy_place.specs.Devices.{Devices, devices_of, read_at, written_at}
 use Rattle.thy_cell.specs.Cells.{seat_of, frame_at, target, last}
@@ -34,9 +34,6 @@ pub record IsWrite (old new : Devices) : Type 0 where
   pub header : 0 < length old.nvm.image → newest new.nvm 0 ≡ newest old.nvm 0
   pub queue : length new.nvm.queue + new.dram.queued ≤ length old.nvm.queue + old.dram.queued + 1
 
-pub queue-written : (n : Device) (at : ℕ) (block : Block) → length (written_to n at block).queue ≤ length n.queue + 1
-queue-written n at block = simp (length-append, length-drop) (omega arith)
-
 pub IsWrite-nvm : (n : Device) (at : ℕ) (block : Block) (d : Devices) → d.nvm ≡ n → at ≢ 0 → IsWrite d (record d { nvm = written_to d.nvm at block })
 IsWrite-nvm n at block d is ne = record {
   dram = inl refl;
@@ -44,7 +41,7 @@ IsWrite-nvm n at block d is ne = record {
   as_long = length-written_to d.nvm at block;
   down = refl;
   header = λ l. newest-written_to_other d.nvm at block 0 (λ e. ne (sym e)) l;
-  queue = omega (arith, queue-written d.nvm at block);
+  queue = omega (arith, queue-written_to d.nvm at block);
 }
 
 IsWrite-dram : (x : ℕ) (block : Block) (d : Devices) → IsWrite d (record d { dram = written d.dram x block })

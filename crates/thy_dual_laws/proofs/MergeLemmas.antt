@@ -22,13 +22,12 @@ use Rattle.thy_control.specs.Promotions.{fills_left, unfilled, block_to_fill, de
 use Rattle.thy_control.specs.State.{State, AreSoundTables, cell_of}
 use Rattle.thy_control.proofs.FindLemmas.{found_entry, entry_for-some}
 use Rattle.thy_control.proofs.MergeLemmas.{listed-merge, listed_page-merge, IsOverlay, IsOverlay-entry, same_p-merge}
-use Rattle.thy_control.proofs.StepMarkLemmas.{promoted-set}
+use Rattle.thy_control.proofs.CountLemmas.{promoted-set}
 use Rattle.thy_view.specs.Dram.{ActsOnDram, WritesDram}
-use Rattle.thy_commit.specs.declared.stage.CheckpointStage.{CheckpointStage}
-use Rattle.thy_commit.specs.declared.stage.CheckpointStage.TheVariants.{Nothing, Copies, Pages, Slot, Settle, Commit, Confirm}
 use Rattle.thy_commit.specs.Items.{is_under_way}
-use Rattle.thy_commit.specs.Progress.{Progress, IsPast, Fits}
+use Rattle.thy_commit.specs.Progress.{Progress, Fits}
 use Rattle.thy_commit.proofs.HeldLemmas.{unfilled-set}
+use Rattle.thy_commit.proofs.FitLemmas.{past-idle}
 
 -- ---- a merge
 
@@ -102,16 +101,6 @@ pub way-merged : (s : State) (o : Option ℕ) → (after_merge o s).under_way �
 unfolding merged_block
 way-merged s None = refl
 way-merged s (Some i) = refl
-
--- with no checkpoint under way engine and controller belong together as long as their geometries are the same
-past-idle : (q : CheckpointStage) (t : State) → is_under_way q ≡ false → IsPast q t
-past-idle Nothing t h = tt
-past-idle Copies t h = cc
-past-idle Pages t h = cc
-past-idle (Slot k) t h = cc
-past-idle Settle t h = cc
-past-idle Commit t h = cc
-past-idle Confirm t h = cc
 
 pub Fits-merged : (e : Progress) (s t : State) → Fits e s → is_under_way e.next ≡ false → t ≡ after_merge (next_merge s) s → Fits e t
 Fits-merged e s t fits idle is = record {

@@ -6,6 +6,7 @@ use Rattle.thy_base.specs.declared.layout_version.LayoutVersion.TheVariants.{Ver
 use Rattle.thy_base.specs.declared.mark.Mark.{Mark}
 use Rattle.thy_base.specs.Device.{Device, block_at}
 use Rattle.thy_base.proofs.CrashLemmas.{Crash-image}
+use Rattle.thy_base.proofs.BasicLemmas.{some_same}
 use Rattle.thy_crash.specs.Fixed.{IsFixed}
 use Rattle.thy_crash.proofs.FixedLemmas.{block_at-fixed}
 use Rattle.thy_record.specs.Commit.{epoch_of, version_of}
@@ -44,9 +45,6 @@ own-action p slot epoch Settle inside = tt
 own-action p slot epoch Commit inside = inl refl
 own-action p slot epoch Confirm inside = tt
 
-same-mark : (m found : Mark) → Some m ≡ Some found → m ≡ found
-same-mark m found e = cc
-
 migrates-found : (o : Origin) (m found : Mark) (at : Migration) (g : BootImages) (n : Device) (b : Booting) (c : State)
     → IsMigrating o m at g n b c → m ≡ found → MigratesFound o.geometry found.epoch b at
 migrates-found o m found at g n b c h is =
@@ -68,7 +66,7 @@ module _ (o : Origin) (g : BootImages) (n : Device) (b : Booting) (c : State) (f
   writes-by None way migrates done = absurd (none_migrates migrates)
   writes-by (Some at) way migrates done =
       let same : Some way.0 ≡ Some found = sym (ap (λ (v : View). v.done) (view-migrates o way.0 at g n b c way.1)) ∙ done in
-      (at, refl, migrates-found o way.0 found at g n b c way.1 (same-mark way.0 found same))
+      (at, refl, migrates-found o way.0 found at g n b c way.1 (some_same way.0 found same))
 
 pub migration_writes : MigrationWrites
 migration_writes o s n found boots migrates done =

@@ -27,11 +27,11 @@ use Rattle.thy_commit.proofs.TableLemmas.{seal_moves}
 use Rattle.thy_scheme.specs.CheckpointMarks.{CheckpointMarks}
 use Rattle.thy_scheme.specs.Scheme.{Stands}
 use Rattle.thy_scheme.specs.Calls.{IsTaken, Seals}
+use Rattle.thy_commit.proofs.HeldLemmas.{works-same}
 use Rattle.thy_dual_laws.specs.Dual.{Dual}
 use Rattle.thy_dual_laws.specs.Scheme.{dual_scheme}
 use Rattle.thy_dual_laws.specs.Sound.{IsHeld, HasCheckpoints, HasRoom, IsSoundDual}
 use Rattle.thy_dual_laws.proofs.BlocksLemmas.{blocks-agree}
-use Rattle.thy_dual_laws.proofs.HoldsLemmas.{works-agree}
 
 -- a seal leaves the geometry, and the DRAM
 same_p-sealed : (s : State) → (sealed_state s).p ≡ s.p
@@ -166,7 +166,7 @@ module _ (o : Origin) (k : CheckpointMarks) (s : Dual) (n : Device) (stands : St
   seals = record {
     sound = sound-sealed;
     held = record {
-      blocks = works-agree s.control n t n same_p sound.held.sized stands.up sized stands.up versions.work_same;
+      blocks = works-same s.control n t n same_p sound.held.sized stands.up sized stands.up versions.work_same;
       free = omega (arith, done.free);
       opened = inl refl;
     };

@@ -1,13 +1,13 @@
 -- The scheme as a store of blocks: when it holds blocks and is ready, and what stays over any number of loads and stores.
 use Rattle.std.proofs.Common.{◌≡◌, ℕ, ◌==◌, not, nat_lt, refl, sym, ◌∙◌, ap, subst, Result, Ok, Err, OnErr}
-use Rattle.std.proofs.lemmas.Bool.{and_parts, eqb-true}
+use Rattle.std.proofs.lemmas.Bool.{and_parts, eqb-true, not-true}
 use Rattle.thy_base.specs.declared.config.Parameters.{Parameters}
 use Rattle.thy_base.specs.declared.nvm.NvmError.{NvmError}
 use Rattle.thy_base.specs.Device.{Device}
 use Rattle.thy_control.specs.Holding.{promoted}
 use Rattle.thy_control.specs.State.{State, AreSoundTables}
 use Rattle.thy_control.specs.OverCalls.{stays_same, stays_on}
-use Rattle.thy_control.proofs.HoldingLemmas.{AreWorks-holding, not-of}
+use Rattle.thy_control.proofs.HoldingLemmas.{AreWorks-holding}
 use Rattle.thy_scheme.specs.Scheme.{StaysOf}
 use Rattle.thy_dual_laws.specs.Dual.{Dual, IsOf}
 use Rattle.thy_dual_laws.specs.Laws.{HeldIsUp, ReadyIsWhole, StaysOver}
@@ -20,7 +20,7 @@ held_is_up s n b l = (AreWorks-holding s.control n b l).up
 pub ready_is_whole : ReadyIsWhole
 ready_is_whole s n ready =
     let both = and_parts (promoted s.control.ptt == 0) (not n.down) ready in
-    (not-of n.down both.1, ap (λ (k : ℕ). nat_lt 0 k) (eqb-true (promoted s.control.ptt) 0 both.0))
+    (not-true n.down both.1, ap (λ (k : ℕ). nat_lt 0 k) (eqb-true (promoted s.control.ptt) 0 both.0))
 
 pub same-stays : (s : Dual) (n : Device) → StaysDual s n s n
 same-stays s n = record {

@@ -1,12 +1,12 @@
 -- What is known of a segment where no refusal is due.
-use Rattle.std.proofs.Common.{◌≡◌, ℕ, zero, suc, ◌+◌, ◌<◌, ◌≤◌, Bool, true, false, not, ◌&&◌, ◌||◌, nat_le, ◌==◌, List, [], ◌∷◌, length, Option, Some, None, refl, sym, ◌∙◌, inl, inr, arith}
+use Rattle.std.proofs.Common.{◌≡◌, ℕ, zero, suc, ◌+◌, ◌<◌, ◌≤◌, Bool, true, false, not, ◌&&◌, ◌||◌, nat_le, ◌==◌, List, [], ◌∷◌, length, None, refl, sym, ◌∙◌, inl, inr, arith}
 use Rattle.std.proofs.lemmas.Bool.Decides.{nat_tests}
 use Rattle.std.proofs.lemmas.Bool.{cases_lt}
-use Rattle.std.specs.Option.{option_or}
 use Rattle.std.specs.List.{flat_map, range_with_len}
 use Rattle.thy_base.specs.Demands.{Demand, asked, first_fault}
 use Rattle.thy_base.specs.Inside.{is_inside}
 use Rattle.thy_base.proofs.DemandLemmas.{first_fault-append}
+use Rattle.thy_base.proofs.BasicLemmas.{none_of_two}
 use Rattle.thy_elf.specs.declared.error.ElfError.{ElfError}
 use Rattle.thy_elf.specs.declared.error.ElfError.TheVariants.{FileOverMemory, SegmentOutsideFile, SegmentOutsideMemory}
 use Rattle.thy_elf.specs.declared.program_header.ProgramHeader.{ProgramHeader}
@@ -49,16 +49,11 @@ segment_fits file base size k none takes =
     let fits = fits_of p.kind p.file_size p.memory_size p.offset p.address (length file) base size takes tests.0 tests.1 tests.2 in
     record { filled = fits.0; in_file = fits.1; above = fits.2; below = fits.3 }
 
--- none of two is there if their first is none
-none_both : {A : Type 0} (x y : Option A) → option_or x y ≡ None → (x ≡ None) × (y ≡ None)
-none_both None y e = (refl, e)
-none_both (Some x) y e = absurd cc
-
 -- where no refusal of any header from a on is due, none of header k is
 demands_at : (demands : ℕ → List (Demand ElfError)) (n a k : ℕ) → first_fault (flat_map demands (range_with_len a n)) ≡ None → a ≤ k → k < a + n → first_fault (demands k) ≡ None
 demands_at demands zero a k none above below = absurd (omega arith)
 demands_at demands (suc n) a k none above below =
-    let both = none_both (first_fault (demands a)) (first_fault (flat_map demands (range_with_len (a + 1) n))) (sym (first_fault-append (demands a) (flat_map demands (range_with_len (a + 1) n))) ∙ none) in
+    let both = none_of_two (first_fault (demands a)) (first_fault (flat_map demands (range_with_len (a + 1) n))) (sym (first_fault-append (demands a) (flat_map demands (range_with_len (a + 1) n))) ∙ none) in
     elim (cases_lt a k) [
       | inl later ↦ demands_at demands n (a + 1) k both.1 (omega arith) (omega arith)
       | inr here ↦ let e : k ≡ a = omega arith in rw e both.0

@@ -1,7 +1,6 @@
 -- The bytes of a span in its one or two blocks are those of the list of bytes.
 use Rattle.std.proofs.Common.{◌≡◌, ℕ, ◌+◌, ◌-◌, ◌*◌, ◌/◌, ◌%◌, ◌<◌, ◌≤◌, ◌==◌, Bool, true, false, if◌then◌else◌, List, [], ◌++◌, length, take, drop, slice_set, refl, sym, ◌∙◌, ap, inl, inr, arith}
-use Rattle.std.proofs.lemmas.Bool.{cases_lt}
-use Rattle.std.proofs.lemmas.Bool.Decides.{nat_tests}
+use Rattle.std.proofs.lemmas.Bool.{cases_lt, eqb-true}
 use Rattle.std.proofs.lemmas.List.{append-nil, nil_from_length, length-append, length-drop, length-set, length-take-le, take_all, take-append-drop, drop-drop, get_or-set_other}
 use Rattle.std.proofs.Math.Seq.{take-add}
 use Rattle.thy_base.specs.declared.block.Block.{Block}
@@ -10,6 +9,7 @@ use Rattle.thy_base.specs.Bytes.{written}
 use Rattle.thy_base.specs.Device.{zero_block, block_at}
 use Rattle.thy_base.proofs.BlockLemmas.{length-block_bytes}
 use Rattle.thy_base.proofs.WrittenLemmas.{written-none, written-written}
+use Rattle.thy_base.proofs.BasicLemmas.{not_zero}
 use Rattle.thy_flat.specs.declared.span.Span.{Span}
 use Rattle.thy_flat.specs.Flat.{flat}
 use Rattle.thy_flat.specs.Spans.{IsSpanOf, first_block, first_byte, head_len, rest_of, head_in, head_read, gathered, head_put, scattered}
@@ -93,12 +93,6 @@ gathered-rest blocks s h =
 
 -- ---- writing
 
-test_zero : (n : ℕ) → (n == 0) ≡ true → n ≡ 0
-test_zero n h = grind (arith, nat_tests)
-
-test_some : (n : ℕ) → (n == 0) ≡ false → 0 < n
-test_some n h = grind (arith, nat_tests)
-
 -- a fact of the blocks with a piece in one of them, or as they are
 if_put : (P : List Block → Type 0) (b : Bool) (old new : List Block) → (b ≡ true → P old) → (b ≡ false → P new) → P (if b then old else new)
 if_put P true old new p q = p refl
@@ -111,11 +105,11 @@ flat-head_put blocks s bytes l enough =
     let n : length piece ≡ head_len s = length-take-le (head_len s) bytes enough in
     if_put (λ new. flat new ≡ written (flat blocks) s.at piece) (s.len == 0) blocks (block_written blocks (first_block s) (first_byte s) piece)
     (λ e.
-    let none : s.len ≡ 0 = test_zero s.len e in
+    let none : s.len ≡ 0 = eqb-true s.len 0 e in
     let zero_len : head_len s ≡ 0 = omega arith in
     sym (ap (λ k. written (flat blocks) s.at (take k bytes)) zero_len ∙ written-none (flat blocks) s.at))
     (λ e.
-    flat-block_written blocks (first_block s) (first_byte s) piece (first_inside blocks s (test_some s.len e) l) (omega (arith, n, head_len-inside s))
+    flat-block_written blocks (first_block s) (first_byte s) piece (first_inside blocks s (not_zero s.len e) l) (omega (arith, n, head_len-inside s))
     ∙ ap (λ x. written (flat blocks) x piece) (whole_place s.at))
 
 pub length-head_put : (blocks : List Block) (s : Span) (bytes : List ℕ) → length (head_put blocks s bytes) ≡ length blocks
@@ -127,7 +121,7 @@ head_put-none : (blocks : List Block) (s : Span) (bytes : List ℕ) → s.len �
 head_put-none blocks s bytes h =
     if_put (λ new. new ≡ blocks) (s.len == 0) blocks (block_written blocks (first_block s) (first_byte s) (take (head_len s) bytes))
     (λ _. refl)
-    (λ e. absurd (omega (arith, test_some s.len e)))
+    (λ e. absurd (omega (arith, not_zero s.len e)))
 
 -- over a span without bytes nothing is put
 pub scattered-none : (blocks : List Block) (s : Span) (bytes : List ℕ) → s.len ≡ 0 → scattered blocks s bytes ≡ blocks
@@ -166,7 +160,7 @@ scattered-rest blocks s bytes h =
     let more = drop (head_len r) (drop (head_len s) bytes) in
     if_put (λ new. new ≡ now) ((rest_of r).len == 0) now (block_written now (first_block (rest_of r)) (first_byte (rest_of r)) (take (head_len (rest_of r)) more))
     (λ _. refl)
-    (λ e. absurd (omega (arith, test_some (rest_of r).len e, rest_of-rest s h)))
+    (λ e. absurd (omega (arith, not_zero (rest_of r).len e, rest_of-rest s h)))
 
 -- a block in which a span has no bytes at its start is as before
 pub head_put-others : (blocks : List Block) (s : Span) (bytes : List ℕ) (b : ℕ) → (0 < s.len → b ≡ first_block s → ⊥)
@@ -175,4 +169,4 @@ head_put-others blocks s bytes b other =
     let c = overwritten (first_byte s) (take (head_len s) bytes) (block_at blocks (first_block s)) in
     if_put (λ new. block_at new b ≡ block_at blocks b) (s.len == 0) blocks (slice_set blocks (first_block s) c)
     (λ _. refl)
-    (λ e. get_or-set_other blocks (first_block s) b c zero_block (other (test_some s.len e)))
+    (λ e. get_or-set_other blocks (first_block s) b c zero_block (other (not_zero s.len e)))

@@ -1,13 +1,11 @@
 -- Lines and their places.
-use Rattle.std.proofs.Common.{◌≡◌, ◌≢◌, ◌⊎◌, ℕ, ◌+◌, ◌-◌, ◌<◌, ◌≤◌, ◌==◌, ◌||◌, nat_lt, if◌then◌else◌, true, false, Option, Some, None, is_some, refl, sym, ◌∙◌, ap, subst, inl, inr, arith}
-use Rattle.std.proofs.lemmas.Bool.{cases_eq, cases_lt, eq-eqb, ne_eqb, lt-ltb, le-ltb, true≢false}
+use Rattle.std.proofs.Common.{◌≡◌, ◌≢◌, ◌⊎◌, ℕ, ◌+◌, ◌-◌, ◌<◌, ◌≤◌, ◌==◌, ◌||◌, nat_lt, if◌then◌else◌, true, false, Option, Some, None, refl, sym, ◌∙◌, ap, subst, inl, inr, arith}
+use Rattle.std.proofs.lemmas.Bool.{cases_eq, cases_lt, eq-eqb, ne_eqb, lt-ltb, le-ltb}
+use Rattle.std.proofs.lemmas.Option.{none-some}
 use Rattle.thy_gap.specs.declared.registers.Registers.{Registers}
 use Rattle.thy_gap.specs.Lines.{IsWhole, wrapped, stepped, unstepped, place, line_at, source, moved}
 
 -- ---- the parts, by cases
-
-none_some : (x : ℕ) → None ≡ Some x → ⊥
-none_some x e = true≢false (sym (ap is_some e))
 
 pub wrapped-cases : (n p : ℕ) → ((p < n) × (wrapped n p ≡ p)) ⊎ ((n ≤ p) × (wrapped n p ≡ p - n))
 wrapped-cases n p = elim (cases_lt p n) as (λ _. ((p < n) × (wrapped n p ≡ p)) ⊎ ((n ≤ p) × (wrapped n p ≡ p - n))) [
@@ -89,9 +87,9 @@ some_is x y o a b = cc
 -- a place that has a line is that line's
 pub place-line_at : (r : Registers) (x y : ℕ) → IsWhole r → line_at r y ≡ Some x → (x < r.lines) × (place r x ≡ y)
 place-line_at r x y w h = elim (cases_eq y r.gap) as (λ _. (x < r.lines) × (place r x ≡ y)) [
-  | inl e ↦ absurd (none_some x (sym (ap (line_at r) e ∙ line_at-gap r) ∙ h))
+  | inl e ↦ absurd (none-some x (sym (ap (line_at r) e ∙ line_at-gap r) ∙ h))
   | inr other ↦ elim (cases_lt r.lines y) as (λ _. (x < r.lines) × (place r x ≡ y)) [
-    | inl l ↦ absurd (none_some x (sym (line_at-past r y l) ∙ h))
+    | inl l ↦ absurd (none-some x (sym (line_at-past r y l) ∙ h))
     | inr l ↦
         let e : unplaced r y ≡ x = some_is (unplaced r y) x (line_at r y) (line_at-some r y other l) h in
         (subst (λ z. z < r.lines) e (unplaced-within r y w other l), ap (place r) (sym e) ∙ place-unplaced r y w other l)

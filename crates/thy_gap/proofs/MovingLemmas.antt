@@ -2,11 +2,11 @@
 use Rattle.std.proofs.Common.{◌≡◌, ◌≢◌, ℕ, ◌+◌, ◌<◌, ◌≤◌, true, false, List, [], ◌∷◌, length, Contains, refl, sym, ◌∙◌, ap, subst, inl, inr, arith}
 use Rattle.std.proofs.lemmas.Bool.{cases_eq}
 use Rattle.std.proofs.lemmas.List.Elements.{All-nil}
-use Rattle.std.specs.Prelude.{is_some, Result, Ok, Err, OnErr}
+use Rattle.std.specs.Prelude.{is_some}
 use Rattle.thy_base.specs.declared.block.Block.{Block}
 use Rattle.thy_base.specs.declared.nvm.Write.{Write}
-use Rattle.thy_base.specs.Device.{Device, IsFramed, HasFailed, HasFailedToWrite, block_at, queued_for, newest_over, possible, newest, settled, written_to}
-use Rattle.thy_base.proofs.DeviceLemmas.{same_as_only, no_more-settled, no_more_but-written_to, no_more-written_to_other, newest-settled, newest-written_to, newest-written_to_other, length-settled, length-written_to}
+use Rattle.thy_base.specs.Device.{Device, IsFramed, HasFailed, HasFailedToWrite, block_at, queued_for, possible, newest, settled, written_to}
+use Rattle.thy_base.proofs.DeviceLemmas.{same_as_only, no_more-settled, no_more_but-written_to, no_more-written_to_other, newest-settled, newest-written_to, newest-written_to_other, length-settled, length-written_to, newest-empty}
 use Rattle.thy_gap.specs.declared.registers.Registers.{Registers}
 use Rattle.thy_gap.specs.Lines.{IsWhole, place, line_at, source, moved, registers_block}
 use Rattle.thy_gap.specs.Seen.{unmap, unmap_queue, seen}
@@ -19,15 +19,6 @@ use Rattle.thy_gap.proofs.LevelledLemmas.{IsLevelled-down}
 use Rattle.thy_base.proofs.CrashLemmas.{Contains-stands}
 use Rattle.std.specs.List.{All}
 use Rattle.thy_gap.proofs.SeenLemmas.{no_more-seen, length-unmap, block_at-unmap, unmap-is}
-
--- with nothing queued a read gives the block that stands
-pub newest-empty : (n : Device) (x : ℕ) → n.queue ≡ [] → newest n x ≡ block_at n.image x
-newest-empty n x e = ap (λ (q : List Write). newest_over (block_at n.image x) q x) e
-
--- at the exit of a call that failed
-pub on_err : {T E P : Type 0} (r : Result T E) → P → OnErr r P
-on_err (Ok x) p = tt
-on_err (Err e) p = p
 
 -- ---- a write and a barrier
 

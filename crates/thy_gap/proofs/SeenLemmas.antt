@@ -5,10 +5,11 @@ use Rattle.std.proofs.lemmas.Bool.{cases_eq, cases_lt, eq-eqb, ne_eqb, true≢fa
 use Rattle.std.proofs.lemmas.List.{length-set, get_or_past, ext_get_or}
 use Rattle.std.proofs.lemmas.List.FromFn.{length-map-range_with_len, get_or-map-range_with_len}
 use Rattle.std.proofs.lemmas.List.Elements.{All-head, All-tail}
+use Rattle.std.proofs.lemmas.Option.{none-some}
 use Rattle.thy_base.specs.declared.block.Block.{Block}
 use Rattle.thy_base.specs.declared.nvm.Write.{Write}
 use Rattle.thy_base.specs.Device.{Device, zero_block, write_of, block_at, queued_for, newest_over, applied, possible, newest, landed, settled, surplus, written_to, HoldsNoMore}
-use Rattle.thy_base.proofs.DeviceLemmas.{block_at-set, queued_for-append, newest_over-append}
+use Rattle.thy_base.proofs.DeviceLemmas.{block_at-set, queued_for-append, newest_over-append, applied-append}
 use Rattle.thy_gap.specs.declared.registers.Registers.{Registers}
 use Rattle.thy_gap.specs.Lines.{IsWhole, place, line_at}
 use Rattle.thy_gap.specs.Seen.{unmap, write_to, unmap_queue, seen}
@@ -35,13 +36,6 @@ unmap-is r g h same each =
 
 -- ---- writes
 
-pub applied-append : (image : List Block) (ws vs : List Write) → applied image (ws ++ vs) ≡ applied (applied image ws) vs
-applied-append image [] vs = refl
-applied-append image (w ∷ ws) vs = applied-append (slice_set image w.at w.block) ws vs
-
-none_some : (x : ℕ) → None ≡ Some x → ⊥
-none_some x e = true≢false (sym (ap is_some e))
-
 -- a place is a line's place exactly where its line is that one
 tests : (r : Registers) (at z x : ℕ) → IsWhole r → z < r.lines → x < r.lines → place r z ≡ at → (at == place r x) ≡ (z == x)
 tests r at z x w lz lx e = elim (cases_eq z x) as (λ _. (at == place r x) ≡ (z == x)) [
@@ -61,7 +55,7 @@ unmap-set r g at b None w len h =
     (λ x l.
     let here = place-within r x w l in
     block_at-set g at b (place r x) (omega (arith, here, len))
-    ∙ ap (λ t. if t then b else block_at g (place r x)) (ne_eqb at (place r x) (λ e. none_some x (sym h ∙ ap (line_at r) e ∙ line_at-place r x w l)))
+    ∙ ap (λ t. if t then b else block_at g (place r x)) (ne_eqb at (place r x) (λ e. none-some x (sym h ∙ ap (line_at r) e ∙ line_at-place r x w l)))
     ∙ sym (block_at-unmap r g x l))
 unmap-set r g at b (Some z) w len h =
     let line = place-line_at r z at w h in
@@ -88,7 +82,7 @@ unmap-applied r g (v ∷ vs) w len =
 queued_for-one : (r : Registers) (at : ℕ) (b : Block) (o : Option ℕ) (x : ℕ) → IsWhole r → x < r.lines → line_at r at ≡ o
     → queued_for (write_to o b) x ≡ queued_for (write_of at b ∷ []) (place r x)
 queued_for-one r at b None x w l h =
-    ap (λ t. if t then b ∷ [] else []) (sym (ne_eqb at (place r x) (λ e. none_some x (sym h ∙ ap (line_at r) e ∙ line_at-place r x w l))))
+    ap (λ t. if t then b ∷ [] else []) (sym (ne_eqb at (place r x) (λ e. none-some x (sym h ∙ ap (line_at r) e ∙ line_at-place r x w l))))
 queued_for-one r at b (Some z) x w l h =
     let line = place-line_at r z at w h in
     ap (λ t. if t then b ∷ [] else []) (sym (tests r at z x w line.0 l line.1))
@@ -120,7 +114,7 @@ queued_for-unmap_past r (v ∷ vs) x w l =
 newest_over-one : (r : Registers) (at : ℕ) (b c : Block) (o : Option ℕ) (x : ℕ) → IsWhole r → x < r.lines → line_at r at ≡ o
     → newest_over c (write_to o b) x ≡ newest_over c (write_of at b ∷ []) (place r x)
 newest_over-one r at b c None x w l h =
-    ap (λ t. if t then b else c) (sym (ne_eqb at (place r x) (λ e. none_some x (sym h ∙ ap (line_at r) e ∙ line_at-place r x w l))))
+    ap (λ t. if t then b else c) (sym (ne_eqb at (place r x) (λ e. none-some x (sym h ∙ ap (line_at r) e ∙ line_at-place r x w l))))
 newest_over-one r at b c (Some z) x w l h =
     let line = place-line_at r z at w h in
     ap (λ t. if t then b else c) (sym (tests r at z x w line.0 l line.1))

@@ -1,10 +1,11 @@
 -- What is next of an instruction in hand, by what is left to read and to write.
 use Rattle.std.proofs.Common.{◌≡◌, ℕ, ◌+◌, ◌<◌, ◌≤◌, ◌==◌, Bool, true, false, if◌then◌else◌, nat_lt, List, ◌++◌, length, refl, sym, ◌∙◌, ap, subst, arith}
-use Rattle.std.proofs.lemmas.Bool.Decides.{nat_tests}
 use Rattle.std.proofs.lemmas.List.{length-append}
+use Rattle.std.proofs.lemmas.Bool.{eqb-true}
 use Rattle.thy_base.specs.declared.block.Block.{Block}
 use Rattle.thy_base.specs.declared.config.Parameters.{Parameters}
 use Rattle.thy_base.specs.Geometry.{IsInRange, memory_blocks, program_size}
+use Rattle.thy_base.proofs.BasicLemmas.{not_zero}
 use Rattle.thy_flat.specs.declared.span.Span.{Span}
 use Rattle.thy_flat.specs.Spans.{IsSpanOf, first_block, head_len, rest_of, head_in}
 use Rattle.thy_flat.proofs.SpanLaws.{head_len-most, rest_of-rest, length-head_in}
@@ -24,12 +25,6 @@ use Rattle.thy_hart.specs.Outcomes.{begun, written_on, room_reserved}
 
 -- ---- choices
 
-test_zero : (n : ℕ) → (n == 0) ≡ true → n ≡ 0
-test_zero n h = grind (arith, nat_tests)
-
-test_some : (n : ℕ) → (n == 0) ≡ false → 0 < n
-test_some n h = grind (arith, nat_tests)
-
 if_hand : (P : Hand → Type 0) (b : Bool) (x y : Hand) → (b ≡ true → P x) → (b ≡ false → P y) → P (if b then x else y)
 if_hand P true x y p q = p refl
 if_hand P false x y p q = q refl
@@ -42,16 +37,16 @@ begun_by P e from to reads writes ends =
     if_hand P (from.len == 0) (if to.len == 0 then Retiring e false else Reserving e to) (Reading e from to)
     (λ none.
     if_hand P (to.len == 0) (Retiring e false) (Reserving e to)
-    (λ end. ends (test_zero from.len none) (test_zero to.len end))
-    (λ some. writes (test_zero from.len none) (test_some to.len some)))
-    (λ some. reads (test_some from.len some))
+    (λ end. ends (eqb-true from.len 0 none) (eqb-true to.len 0 end))
+    (λ some. writes (eqb-true from.len 0 none) (not_zero to.len some)))
+    (λ some. reads (not_zero from.len some))
 
 -- and of one that continues after a written block
 pub written_by : (P : Hand → Type 0) (e : Effect) (to : Span) (done : ℕ) → (0 < to.len → P (Writing e to done)) → (to.len ≡ 0 → P (Retiring e true))
     → P (written_on e to done)
 unfolding written_on
 written_by P e to done writes ends =
-    if_hand P (to.len == 0) (Retiring e true) (Writing e to done) (λ end. ends (test_zero to.len end)) (λ some. writes (test_some to.len some))
+    if_hand P (to.len == 0) (Retiring e true) (Writing e to done) (λ end. ends (eqb-true to.len 0 end)) (λ some. writes (not_zero to.len some))
 
 -- ---- spans
 
@@ -69,19 +64,21 @@ if_number : (P : ℕ → Type 0) (b : Bool) (x y : ℕ) → (b ≡ true → P x)
 if_number P true x y p q = p refl
 if_number P false x y p q = q refl
 
+-- a span lies in two blocks at most
 pub blocks_of-most : (s : Span) → blocks_of s ≤ 2
 blocks_of-most s = if_number (λ n. n ≤ 2) ((rest_of s).len == 0) 1 2 (λ _. omega arith) (λ _. omega arith)
 
+-- and in one at least
 pub blocks_of-least : (s : Span) → 1 ≤ blocks_of s
 blocks_of-least s = if_number (λ n. 1 ≤ n) ((rest_of s).len == 0) 1 2 (λ _. omega arith) (λ _. omega arith)
 
 pub blocks_of-one : (s : Span) → (rest_of s).len ≡ 0 → blocks_of s ≡ 1
 blocks_of-one s h =
-    if_number (λ n. n ≡ 1) ((rest_of s).len == 0) 1 2 (λ _. refl) (λ e. absurd (omega (arith, test_some (rest_of s).len e)))
+    if_number (λ n. n ≡ 1) ((rest_of s).len == 0) 1 2 (λ _. refl) (λ e. absurd (omega (arith, not_zero (rest_of s).len e)))
 
 pub blocks_of-two : (s : Span) → 0 < (rest_of s).len → blocks_of s ≡ 2
 blocks_of-two s h =
-    if_number (λ n. n ≡ 2) ((rest_of s).len == 0) 1 2 (λ e. absurd (omega (arith, test_zero (rest_of s).len e))) (λ _. refl)
+    if_number (λ n. n ≡ 2) ((rest_of s).len == 0) 1 2 (λ e. absurd (omega (arith, eqb-true (rest_of s).len 0 e))) (λ _. refl)
 
 -- the rest of a span lies in one block
 pub blocks_of-rest : (s : Span) → s.len ≤ 64 → blocks_of (rest_of s) ≡ 1

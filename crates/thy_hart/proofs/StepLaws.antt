@@ -10,6 +10,7 @@ use Rattle.thy_isa.specs.declared.state.CpuState.{CpuState}
 use Rattle.thy_base.specs.declared.config.Parameters.{Parameters}
 use Rattle.thy_isa.specs.Step.{fetch_fault}
 use Rattle.thy_base.specs.Geometry.{program_size}
+use Rattle.thy_base.proofs.BasicLemmas.{some_same}
 use Rattle.thy_flat.specs.Spans.{span, first_block}
 use Rattle.thy_hart.specs.declared.hand.Hand.{Hand}
 use Rattle.thy_hart.specs.declared.hand.Hand.TheVariants.{Nothing, Reading, Reserving, Writing, Retiring}
@@ -32,9 +33,6 @@ unfolding fetched_block
 fetched_block-inside p cpu b h =
     let w = unless_some (fetch_fault p.base (program_size p) cpu.pc) (first_block (span (cpu.pc - p.base) 4)) b h in
     omega (arith, w.1, word_inside p cpu.pc (fetched_inside p cpu.pc w.0))
-
-some_same : (a b : ℕ) → Some a ≡ Some b → a ≡ b
-some_same a b h = cc
 
 block_for-inside : (p : Parameters) (cpu : CpuState) (hand : Hand) (have b : ℕ) → IsInHand p hand have → block_for p cpu hand ≡ Some b → b < memory_blocks p
 block_for-inside p cpu Nothing have b w h = fetched_block-inside p cpu b h

@@ -1,5 +1,5 @@
 -- The blocks of bytes.
-use Rattle.std.proofs.Common.{◌≡◌, ℕ, ◌+◌, ◌*◌, ◌/◌, ◌%◌, ◌<◌, ◌≤◌, List, ◌++◌, length, take, drop, slice_index, map, replicate, Ok, sym, ◌∙◌, ap, subst, inl, inr, lit<, arith}
+use Rattle.std.proofs.Common.{◌≡◌, ℕ, ◌+◌, ◌*◌, ◌/◌, ◌%◌, ◌<◌, ◌≤◌, List, ◌++◌, length, drop, slice_index, map, replicate, sym, ◌∙◌, ap, subst, inl, inr, lit<, arith}
 use Rattle.std.specs.List.{All}
 use Rattle.std.proofs.lemmas.Bool.{cases_lt}
 use Rattle.std.proofs.lemmas.List.{length-take-le, length-drop, length-map, get_or_past, get_or-take, get_or-drop, get_or-map, ext_get_or}
@@ -7,16 +7,13 @@ use Rattle.std.proofs.lemmas.List.Elements.{All-append, All-replicate, All-take,
 use Rattle.thy_base.specs.declared.block.Block.{Block}
 use Rattle.thy_base.specs.Blocks.{block_bytes}
 use Rattle.thy_base.specs.Device.{zero_block, block_at}
-use Rattle.thy_base.proofs.BlockLemmas.{block_bytes-long}
 use Rattle.thy_flat.specs.Flat.{flat, AllLong}
 use Rattle.thy_flat.proofs.FlatLemmas.{length-flat, flat_at}
-use Rattle.thy_isa.specs.Step.{State}
 use Rattle.thy_isa.specs.Storable.{IsByte}
 use Rattle.thy_isa.proofs.MemoryBounds.{anywhere}
-use Rattle.thy_record.specs.declared.file.Found.TheVariants.{At as FoundAt}
-use Rattle.thy_record.specs.Decoded.{Decoded, Nothing, Refused, At}
-use Rattle.thy_record.specs.Files.{block_in, blocks_of, found_in}
+use Rattle.thy_record.specs.Files.{blocks_of}
 use Rattle.thy_record.proofs.FileLemmas.{length-blocks_of, block_at-blocks_of}
+use Rattle.thy_record.proofs.RestoredLemmas.{block_bytes-block_in}
 
 -- each is whole
 pub AllLong-blocks_of : (bytes : List ℕ) → AllLong (blocks_of bytes)
@@ -25,10 +22,6 @@ AllLong-blocks_of bytes = record {
       ap (λ (b : Block). length b.0) (block_at-blocks_of bytes k inside)
       ∙ length-take-le 64 (drop (64 * k) bytes) (omega (arith, length-drop (64 * k) bytes));
 }
-
-block_bytes-whole : (bytes : List ℕ) (k : ℕ) → k < length bytes / 64 → block_bytes (block_in bytes k) ≡ take 64 (drop (64 * k) bytes)
-block_bytes-whole bytes k l =
-    block_bytes-long (block_in bytes k) (length-take-le 64 (drop (64 * k) bytes) (omega (arith, length-drop (64 * k) bytes)))
 
 -- and together they are the bytes, if these are whole blocks
 pub flat-blocks_of : (bytes : List ℕ) (n : ℕ) → length bytes ≡ 64 * n → flat (blocks_of bytes) ≡ bytes
@@ -44,7 +37,7 @@ flat-blocks_of bytes n whole =
     ap (slice_index (flat (blocks_of bytes))) (sym at)
     ∙ flat_at (blocks_of bytes) (i / 64) (i % 64) (omega (arith, many)) small
     ∙ ap (λ (b : Block). slice_index (block_bytes b) (i % 64)) (block_at-blocks_of bytes (i / 64) inside)
-    ∙ ap (λ xs. slice_index xs (i % 64)) (block_bytes-whole bytes (i / 64) inside)
+    ∙ ap (λ xs. slice_index xs (i % 64)) (block_bytes-block_in bytes (i / 64) inside)
     ∙ get_or-take 64 (drop (64 * (i / 64)) bytes) (i % 64) 0 small
     ∙ get_or-drop (64 * (i / 64)) bytes (i % 64) 0
     ∙ ap (slice_index bytes) at)
@@ -93,10 +86,3 @@ flat-bytes blocks h =
     let there : slice_index (flat blocks) i ≡ slice_index (block_bytes (block_at blocks (i / 64))) (i % 64) =
     ap (slice_index (flat blocks)) (sym at) ∙ flat_at blocks (i / 64) (i % 64) inside (omega arith) in
     subst IsByte (sym there) (anywhere IsByte (lit< tt) (block_bytes (block_at blocks (i / 64))) (block_bytes-bytes (block_at blocks (i / 64)) (h.each (i / 64))) (i % 64)))
-
--- ---- what a check has found: a checkpoint
-
-pub found_at : (d : Decoded) (epoch : ℕ) → found_in d ≡ Ok (FoundAt epoch) → (s : State) × (d ≡ At epoch s)
-found_at Nothing epoch h = cc
-found_at (Refused bad) epoch h = cc
-found_at (At e s) epoch h = (s, let same : e ≡ epoch = cc in ap (λ x. At x s) same)

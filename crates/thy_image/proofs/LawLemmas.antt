@@ -11,11 +11,12 @@ use Rattle.thy_record.specs.declared.file.Found.TheVariants.{At as FoundAt}
 use Rattle.thy_record.specs.Decoded.{At}
 use Rattle.thy_record.specs.Files.{blocks_of, decode_file, found_in, HasCheckpointOf as HasThynvm}
 use Rattle.thy_record.specs.Images.{state_in}
+use Rattle.thy_record.proofs.RestoredLemmas.{found_at}
 use Rattle.thy_journal_image.specs.Files.{HasCheckpointOf as HasJournal, HasState as HasJournalState}
 use Rattle.thy_shadow_image.specs.Files.{HasCheckpointOf as HasShadow, HasState as HasShadowState}
 use Rattle.thy_image.specs.Meaning.{decode_by_scheme, blocks_by_scheme, file_by_scheme}
 use Rattle.thy_image.specs.Saved.{HasCheckpoint, HasState, AreOfCheckpoint, CanBegin}
-use Rattle.thy_image.proofs.BlockLemmas.{AllLong-blocks_of, found_at}
+use Rattle.thy_image.proofs.BlockLemmas.{AllLong-blocks_of}
 use Rattle.thy_image.proofs.ThynvmLemmas.{thynvm_few, thynvm_decodes, thynvm_state, thynvm_begins}
 use Rattle.thy_image.proofs.JournalLemmas.{journal_few, journal_decodes, journal_begins}
 use Rattle.thy_image.proofs.ShadowLemmas.{shadow_few, shadow_decodes, shadow_begins}

@@ -1,7 +1,7 @@
 -- The state that a slot and memory make: a run can begin with it.
 use Rattle.std.proofs.Common.{◌≡◌, ℕ, ◌+◌, ◌*◌, ◌/◌, ◌%◌, ◌<◌, ◌≤◌, ◌==◌, ◌&&◌, Bool, true, false, nat_le, nat_lt, if◌then◌else◌, List, length, drop, Option, Some, None, refl, subst, sym, ◌∙◌, lit<, arith}
 use Rattle.std.specs.List.{All}
-use Rattle.std.proofs.lemmas.Bool.{eq-eqb, eqb-true, le-leb, leb-true, ltb-true, and_parts}
+use Rattle.std.proofs.lemmas.Bool.{eq-eqb, eqb-true, leb-true, ltb-true, and_parts}
 use Rattle.std.proofs.lemmas.List.{length-take}
 use Rattle.std.proofs.lemmas.List.Elements.{All-cons, All-take, All-drop, All-from_get_or}
 use Rattle.thy_base.specs.declared.block.Block.{Block}
@@ -14,16 +14,15 @@ use Rattle.thy_flat.proofs.MemoryLaws.{length-memory_bytes}
 use Rattle.thy_isa.specs.declared.instr.Width.TheVariants.{Double}
 use Rattle.thy_isa.specs.declared.state.OtherHart.{OtherHart}
 use Rattle.thy_isa.specs.declared.state.Reservation.TheVariants.{Nothing, Word, Double as DoubleWord}
-use Rattle.thy_isa.specs.declared.state.Status.{Status}
 use Rattle.thy_isa.specs.declared.state.Status.TheVariants.{Running, Exited, Trapped}
 use Rattle.thy_isa.specs.OnBlocks.{state_from}
 use Rattle.thy_isa.specs.Step.{State, cpu_of}
 use Rattle.thy_isa.specs.Storable.{IsNumber, IsByte, IsStatus, IsReservation, IsOther, IsOtherOf, IsStorable}
 use Rattle.thy_isa.proofs.MemoryBounds.{anywhere, number_at-number}
-use Rattle.thy_record.specs.declared.bad_image.BadImage.TheVariants.{Status as BadStatus, ConsoleLength}
-use Rattle.thy_record.specs.Cpu.{status_tag, status_value, status_of, is_status, record_word, record_words, other_of_record, second_of_record, cpu_of_record, IsOtherRecordable, IsRecordable}
+use Rattle.thy_record.specs.Cpu.{status_of, is_status, record_word, record_words, other_of_record, second_of_record, cpu_of_record, IsOtherRecordable, IsRecordable}
 use Rattle.thy_record.specs.Slots.{status_fault}
-use Rattle.thy_record.proofs.CpuLemmas.{record_words-at, length-record_words}
+use Rattle.thy_record.proofs.CpuLemmas.{record_words-at, length-record_words, is_status-of}
+use Rattle.thy_record.proofs.ImageLemmas.{status_asks}
 use Rattle.thy_image.specs.Saved.{CanBegin}
 use Rattle.thy_image.proofs.BlockLemmas.{AreOfBytes, flat-bytes}
 
@@ -47,27 +46,15 @@ IsStatus-tests false false traps value h = omega (arith, leb-true value 7 (and_p
 IsStatus-of : (tag value : ℕ) → is_status tag value ≡ true → IsStatus (status_of tag value)
 IsStatus-of tag value h = IsStatus-tests (tag == 0) (tag == 1) (tag == 2) value h
 
-is_status-of : (status : Status) → IsStatus status → is_status (status_tag status) (status_value status) ≡ true
-is_status-of Running h = refl
-is_status-of (Exited v) h = le-leb v 255 (omega arith)
-is_status-of (Trapped v) h = le-leb v 7 (omega arith)
-
 -- what a slot without a fault says of its words
 record FitsSlot (p : Parameters) (ceiling : ℕ) (slot : List Block) : Type 0 where
   status : is_status (record_word slot 36) (record_word slot 37) ≡ true
   count : record_word slot 32 < ceiling
   console : record_word slot 34 ≤ console_room p
 
-status_tests : (status below room : Bool) → (if status && below then (if room then None else Some ConsoleLength) else Some BadStatus) ≡ None
-    → (status ≡ true) × (below ≡ true) × (room ≡ true)
-status_tests true true true h = (refl, refl, refl)
-status_tests true true false h = cc
-status_tests true false room h = cc
-status_tests false below room h = cc
-
 FitsSlot-faultless : (p : Parameters) (ceiling : ℕ) (slot : List Block) → status_fault p ceiling slot ≡ None → FitsSlot p ceiling slot
 FitsSlot-faultless p ceiling slot h =
-    let passed = status_tests (is_status (record_word slot 36) (record_word slot 37)) (nat_lt (record_word slot 32) ceiling)
+    let passed = status_asks (is_status (record_word slot 36) (record_word slot 37)) (nat_lt (record_word slot 32) ceiling)
     (nat_le (record_word slot 34) (console_room p)) h in
     record {
       status = passed.0;

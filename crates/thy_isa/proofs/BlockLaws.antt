@@ -388,3 +388,8 @@ module _ (p : Parameters) (input : List ℕ) (cpu : CpuState) (blocks : List Blo
       ∙ ap (performed g (state_from p cpu blocks)) effect_in-flat
       ∙ advanced_is
       ∙ sym (step-running g (state_from p cpu blocks) (runs running))
+
+-- a state has retired what its processor has
+pub count-state_from : (p : Parameters) (cpu : CpuState) (blocks : List Block) → (state_from p cpu blocks).count ≡ cpu.count
+unfolding state_from
+count-state_from p cpu blocks = refl

@@ -1,6 +1,7 @@
 -- What a call takes, gives or makes the break is fit: inside memory, within the input left, the room left, the bounds.
 use Rattle.std.proofs.Common.{◌≡◌, ℕ, ◌+◌, ◌-◌, ◌%◌, ◌<◌, ◌≤◌, ◌==◌, ◌&&◌, ◌||◌, Bool, true, false, not, nat_le, if◌then◌else◌, List, refl, arith}
 use Rattle.std.proofs.lemmas.Bool.Decides.{nat_tests}
+use Rattle.std.proofs.lemmas.Bool.{and_parts}
 use Rattle.thy_base.specs.Inside.{is_inside}
 use Rattle.thy_base.proofs.InsideLemmas.{is_inside-true}
 use Rattle.thy_isa.specs.declared.state.Call.{Call}
@@ -18,10 +19,6 @@ zero_not n h = grind (arith, nat_tests)
 
 le_not : (a b : ℕ) → nat_le a b ≡ false → b < a
 le_not a b h = grind (arith, nat_tests)
-
-both : (a b : Bool) → (a && b) ≡ true → (a ≡ true) × (b ≡ true)
-both true b h = (refl, h)
-both false b h = cc
 
 le_true : (a b : ℕ) → nat_le a b ≡ true → a ≤ b
 le_true a b h = grind (arith, nat_tests)
@@ -59,7 +56,7 @@ unfolding break_of
 break_of-fit at c =
     if_call (IsFit c) (nat_le c.floor at && nat_le (at + 65536) (first_sp c)) (Break at) (Answer c.brk)
     (λ h.
-    let bounds = both (nat_le c.floor at) (nat_le (at + 65536) (first_sp c)) h in
+    let bounds = and_parts (nat_le c.floor at) (nat_le (at + 65536) (first_sp c)) h in
     (le_true c.floor at bounds.0, le_true (at + 65536) (first_sp c) bounds.1))
     (λ _. tt)
 

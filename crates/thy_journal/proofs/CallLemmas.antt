@@ -1,5 +1,5 @@
 -- What the calls make of the journal, put together from what its parts say.
-use Rattle.std.proofs.Common.{◌≡◌, ℕ, ◌<◌, Bool, true, false, if◌then◌else◌, List, suc, [], ◌∷◌, length, None, Result, Ok, Err, IfOk, OnOk, OnErr, refl, sym, ◌∙◌, ap, subst, inl, inr, arith}
+use Rattle.std.proofs.Common.{◌≡◌, ℕ, ◌<◌, Bool, true, false, if◌then◌else◌, length, Result, Ok, Err, IfOk, OnOk, OnErr, refl, sym, ◌∙◌, ap, subst, arith}
 use Rattle.std.proofs.lemmas.List.FromFn.{length-map-range_with_len, get_or-map-range_with_len}
 use Rattle.thy_base.specs.declared.block.Block.{Block}
 use Rattle.thy_base.specs.declared.config.Parameters.{Parameters}
@@ -8,8 +8,8 @@ use Rattle.thy_base.specs.Device.{Device, HasFailed, IsFramed, block_at, zero_bl
 use Rattle.thy_base.specs.Geometry.{memory_blocks}
 use Rattle.thy_base.specs.Places.{dram_blocks}
 use Rattle.thy_dram.specs.Contents.{Contents, lost}
-use Rattle.thy_dram.specs.Draws.{blocks_over, after_block}
 use Rattle.thy_isa.specs.Step.{state_of}
+use Rattle.thy_dram.proofs.DrawLemmas.{length-over}
 use Rattle.thy_record.specs.declared.engine_step.EngineStep.{EngineStep}
 use Rattle.thy_record.specs.declared.start.Start.{Start}
 use Rattle.thy_view.specs.Action.{after, FailsTo}
@@ -26,7 +26,7 @@ use Rattle.thy_scheme.specs.Scheme.{IsBooting}
 use Rattle.thy_log.specs.Holding.{works, homes}
 use Rattle.thy_log.specs.Items.{is_applying}
 use Rattle.thy_log.specs.Progress.{Progress, Fits, action_next, engine_next, state_next, item_of}
-use Rattle.thy_log.specs.State.{State, IsSoundState, entry_for, home_of, work_of}
+use Rattle.thy_log.specs.State.{State, IsSoundState, home_of, work_of}
 use Rattle.thy_refill.specs.Filling.{filling_journal}
 use Rattle.thy_refill.proofs.LawLemmas.{log_is_filled}
 use Rattle.thy_journal_laws.specs.Journal.{Journal as Value, committed_in}
@@ -36,7 +36,7 @@ use Rattle.thy_journal_laws.proofs.AfterLemmas.{p_after}
 use Rattle.thy_journal_scheme.specs.Boots.{engine_at, step_of as answered, result_of}
 use Rattle.thy_journal_scheme.specs.Scheme.{journal_scheme}
 use Rattle.thy_journal_scheme.proofs.StayLemmas.{same-stays}
-use Rattle.thy_journal.specs.Calls.{LoadsCommitted, TakesItem, TakesBootStep}
+use Rattle.thy_journal.specs.Calls.{TakesItem, TakesBootStep}
 
 -- ---- a load
 
@@ -82,22 +82,6 @@ pub committed_home : (e : Progress) (l : State) (n : Device) (b : ℕ) → is_ap
 committed_home e l n b way low =
     ap (λ (x : Bool). block_at (if x then works l n else homes l n) b) way
     ∙ get_or-map-range_with_len (home_of l n) 0 (memory_blocks l.p) b b zero_block low (omega arith)
-
-pub loads_work : (s : Value) (n : Device) (b : ℕ) (r : Result Block NvmError) → is_applying s.engine.next ≡ true → IfOk r (λ x. x ≡ work_of s.log n b)
-    → OnErr r (entry_for s.log b ≡ None) → LoadsCommitted b s n r
-loads_work s n b (Ok x) way h side = record {
-  block = h ∙ sym (ap (λ (t : Bool). if t then work_of s.log n b else home_of s.log n b) way);
-  side = tt;
-}
-loads_work s n b (Err x) way h side = record { block = tt; side = inr side }
-
-pub loads_home : (s : Value) (n : Device) (b : ℕ) (r : Result Block NvmError) → is_applying s.engine.next ≡ false → IfOk r (λ x. x ≡ home_of s.log n b)
-    → LoadsCommitted b s n r
-loads_home s n b (Ok x) way h = record {
-  block = h ∙ sym (ap (λ (t : Bool). if t then work_of s.log n b else home_of s.log n b) way);
-  side = tt;
-}
-loads_home s n b (Err x) way h = record { block = tt; side = inl way }
 
 -- ---- a step of the engine
 
@@ -166,10 +150,6 @@ takes_boot_step start s n (Err x) t d f new is answer took = record {
 }
 
 -- ---- a loss of power
-
-length-over : (seed : ℕ) (xs : List Block) → length (blocks_over seed xs) ≡ length xs
-length-over seed [] = refl
-length-over seed (x ∷ xs) = ap suc (length-over (after_block seed) xs)
 
 -- what is left of a DRAM of its size is one with nothing queued
 pub IsDramOf-lost : (p : Parameters) (l : State) (pick : ℕ) (d : Contents) → IsSoundState l → l.p ≡ p → l.dram.room ≡ p.dramq → d ≡ lost l.dram pick → IsDramOf p d

@@ -1,6 +1,6 @@
 -- The first fault of a slot and of a file, test by test, and what a check says.
 use Rattle.std.proofs.Common.{◌≡◌, ℕ, ◌≤◌, ◌==◌, true, false, if◌then◌else◌, List, length, Option, Some, None, Ok, Err, sym, ◌∙◌, ap}
-use Rattle.std.proofs.lemmas.Bool.{eq-eqb, ne_eqb, le-ltb}
+use Rattle.std.proofs.lemmas.Bool.{ne_eqb, le-ltb}
 use Rattle.std.specs.Option.{option_or}
 use Rattle.thy_base.specs.declared.block.Block.{Block}
 use Rattle.thy_base.specs.declared.config.Parameters.{Parameters}
@@ -13,7 +13,8 @@ use Rattle.thy_record.specs.Commit.{is_zero, epoch_of}
 use Rattle.thy_record.specs.Cpu.{record_word}
 use Rattle.thy_record.specs.Decoded.{Nothing, Refused}
 use Rattle.thy_record.specs.Files.{blocks_of, found_in}
-use Rattle.thy_record.specs.Slots.{epoch_fault, cpu_fault}
+use Rattle.thy_record.specs.Slots.{cpu_fault}
+use Rattle.thy_record.proofs.CheckLemmas.{of_epoch}
 use Rattle.thy_protocol.specs.Layout.{Layout, slot_in, memory_in, refused_or_at}
 use Rattle.thy_journal_image.specs.Commit.{commit_fault}
 use Rattle.thy_journal_image.specs.Files.{is_sized_file, decode_sized, decode_file, file_fault}
@@ -29,9 +30,6 @@ unfolding slot_fault
 slot_epoch p ceiling epoch slot w is other =
     sym (ap (λ b. option_or (if b then None else Some Commit) (option_or (table_fault p (table_in p slot)) (cpu_fault p ceiling slot)))
     (ap (λ x. x == epoch) (sym is) ∙ ne_eqb w epoch other))
-
-of_epoch : (epoch : ℕ) (slot : List Block) (w : ℕ) → w ≡ record_word slot 38 → w ≡ epoch → epoch_fault epoch slot ≡ None
-of_epoch epoch slot w is same = ap (λ b. if b then None else Some Commit) (ap (λ x. x == epoch) (sym is) ∙ eq-eqb w epoch same)
 
 pub slot_table : (p : Parameters) (ceiling epoch : ℕ) (slot : List Block) (w : ℕ) (bad : BadImage) → w ≡ record_word slot 38 → w ≡ epoch
     → Some bad ≡ table_fault p (table_in p slot) → Some bad ≡ slot_fault p ceiling epoch slot

@@ -1,5 +1,5 @@
 -- What a file has that decodes to a checkpoint.
-use Rattle.std.proofs.Common.{◌≡◌, ℕ, ◌*◌, ◌%◌, ◌==◌, ◌&&◌, Bool, true, false, nat_lt, if◌then◌else◌, List, length, take, drop, Option, Some, None, Ok, refl, sym, ◌∙◌, ap, arith}
+use Rattle.std.proofs.Common.{◌≡◌, ℕ, ◌*◌, ◌%◌, ◌==◌, Bool, true, false, nat_lt, if◌then◌else◌, List, length, take, drop, None, sym, ◌∙◌, ap, arith}
 use Rattle.std.specs.List.{range_with_len}
 use Rattle.std.specs.Option.{option_or}
 use Rattle.std.proofs.lemmas.Bool.{eqb-true, eq-eqb}
@@ -7,19 +7,19 @@ use Rattle.thy_base.specs.declared.block.Block.{Block}
 use Rattle.thy_base.specs.declared.config.Parameters.{Parameters}
 use Rattle.thy_base.specs.Device.{block_at}
 use Rattle.thy_isa.specs.Step.{State}
-use Rattle.thy_record.specs.declared.bad_image.BadImage.{BadImage}
-use Rattle.thy_record.specs.declared.bad_image.BadImage.TheVariants.{Header, Version, Geometry, Empty}
-use Rattle.thy_record.specs.declared.file.Found.TheVariants.{At as FoundAt}
+use Rattle.thy_record.specs.declared.bad_image.BadImage.TheVariants.{Empty}
 use Rattle.thy_record.specs.Commit.{is_zero, epoch_of}
-use Rattle.thy_record.specs.Decoded.{Decoded, Nothing, Refused, At}
-use Rattle.thy_record.specs.Files.{blocks_of, found_in}
+use Rattle.thy_record.specs.Decoded.{Decoded, Refused, At}
+use Rattle.thy_record.specs.Files.{blocks_of}
 use Rattle.thy_record.specs.Header.{header_magic}
 use Rattle.thy_base.specs.Words.{word_of}
 use Rattle.thy_record.proofs.FileLemmas.{length-blocks_of, blocks_of-part}
 use Rattle.thy_record.proofs.IssuingLemmas.{half}
 use Rattle.thy_record.proofs.TableFaultLemmas.{neither}
-use Rattle.thy_protocol.specs.Layout.{Layout, blocks_at, slot_in, memory_in, is_sized, refused_or_at, decode_by, IsWhole}
-use Rattle.thy_protocol.proofs.LayoutLemmas.{decode_by-whole_back}
+use Rattle.thy_record.proofs.RestoredLemmas.{found_at}
+use Rattle.thy_record.proofs.HeaderLemmas.{last_asks}
+use Rattle.thy_protocol.specs.Layout.{Layout, blocks_at, slot_in, memory_in, is_sized, decode_by, IsWhole}
+use Rattle.thy_protocol.proofs.LayoutLemmas.{decode_by-whole_back, at_back}
 use Rattle.thy_journal_image.specs.Commit.{commit_fault}
 use Rattle.thy_journal_image.specs.Files.{is_sized_file, decode_sized, decode_file, file_fault, HasCheckpointOf, HasState}
 use Rattle.thy_journal_image.specs.Header.{is_of_geometry, header_fault}
@@ -43,14 +43,6 @@ slot-slice p bytes m x epoch long e f =
 -- ---- a file with a checkpoint
 
 -- a header without a fault is that of an image of its length
-last_asks : (a b c long : Bool)
-    → (if a then (if b then (if c && long then None else Some Geometry) else Some Version) else Some Header) ≡ None → long ≡ true
-last_asks true true true true h = refl
-last_asks true true true false h = cc
-last_asks true true false long h = cc
-last_asks true false c long h = cc
-last_asks false b c long h = cc
-
 header_fault-long : (b : Block) (p : Parameters) (long : Bool) → header_fault b p long ≡ None → long ≡ true
 unfolding header_fault
 header_fault-long b p long h = last_asks (word_of b 0 == header_magic) (word_of b 1 == 2) (is_of_geometry b p) long h
@@ -58,14 +50,8 @@ header_fault-long b p long h = last_asks (word_of b 0 == header_magic) (word_of 
 pub header_fault-sized : (b : Block) (p : Parameters) (bytes : List ℕ) → header_fault b p (is_sized_file p bytes) ≡ None → length bytes ≡ 64 * image_blocks p
 header_fault-sized b p bytes h = eqb-true _ _ (header_fault-long b p (is_sized_file p bytes) h)
 
-at_back : (zero : Bool) (fault : Option BadImage) (epoch found : ℕ) (state other : State)
-    → (if zero then Nothing else refused_or_at fault epoch state) ≡ At found other
-    → (zero ≡ false) × (fault ≡ None) × (epoch ≡ found) × (state ≡ other)
-at_back true fault epoch found state other h = cc
-at_back false None epoch found state other h = (refl, refl, cc, cc)
-at_back false (Some bad) epoch found state other h = cc
-
-not_short : (short : Bool) (d : Decoded) (epoch : ℕ) (state : State) → (if short then Refused Empty else d) ≡ At epoch state → d ≡ At epoch state
+-- a file that decodes is not too short
+pub not_short : (short : Bool) (d : Decoded) (epoch : ℕ) (state : State) → (if short then Refused Empty else d) ≡ At epoch state → d ≡ At epoch state
 not_short true d epoch state h = cc
 not_short false d epoch state h = h
 
@@ -108,11 +94,6 @@ table_whole p ceiling g epoch state w =
     faultless_table p ceiling (epoch_of (block_at g 1)) (slot_in (journal_layouts p ceiling) g) slot
 
 -- ---- what a check has found
-
-found_at : (d : Decoded) (epoch : ℕ) → found_in d ≡ Ok (FoundAt epoch) → (s : State) × (d ≡ At epoch s)
-found_at Nothing epoch h = cc
-found_at (Refused bad) epoch h = cc
-found_at (At e s) epoch h = (s, let same : e ≡ epoch = cc in ap (λ x. At x s) same)
 
 -- the image of a file with a checkpoint
 pub record IsFound (p : Parameters) (bytes : List ℕ) : Type 0 where

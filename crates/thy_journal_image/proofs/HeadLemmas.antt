@@ -1,6 +1,6 @@
 -- Header and commit block read back as they were written, and have no fault.
 use Rattle.std.proofs.Common.{◌≡◌, ℕ, ◌+◌, ◌^◌, ◌<◌, ◌≤◌, true, nat_lt, slice_index, None, refl, sym, ◌∙◌, ap, subst, arith}
-use Rattle.std.proofs.lemmas.Bool.{eq-eqb, lt-ltb}
+use Rattle.std.proofs.lemmas.Bool.{eq-eqb, lt-ltb, and_from}
 use Rattle.thy_base.specs.declared.config.Parameters.{Parameters}
 use Rattle.thy_base.specs.declared.layout_version.LayoutVersion.TheVariants.{VersionTwo}
 use Rattle.thy_base.specs.Geometry.{IsInRange}
@@ -8,7 +8,7 @@ use Rattle.thy_base.specs.Words.{word_of}
 use Rattle.thy_record.specs.Commit.{commit_magic, commit_of}
 use Rattle.thy_record.specs.Header.{header_magic, harts_word}
 use Rattle.thy_base.proofs.WordLemmas.{word_of-block_of}
-use Rattle.thy_record.proofs.ReadBackLemmas.{taken, both, three, commit_word, epoch_of-commit_of, has_zero_rest-commit_of, is_zero-commit_of}
+use Rattle.thy_record.proofs.ReadBackLemmas.{taken, three, commit_word, epoch_of-commit_of, has_zero_rest-commit_of, is_zero-commit_of}
 use Rattle.thy_journal_image.specs.Header.{scheme_number, header_words, header_of, is_of_geometry, header_fault}
 use Rattle.thy_journal_image.specs.Commit.{commit_fault}
 use Rattle.thy_journal_image.specs.CheckpointParts.{CommitIsBack}
@@ -20,7 +20,7 @@ header_word p i w l is fits = word_of-block_of (header_words p) i l (subst (λ x
 
 is_of_geometry-header_of : (p : Parameters) → IsInRange p → is_of_geometry (header_of p) p ≡ true
 is_of_geometry-header_of p r =
-    both _ _
+    and_from _ _
     (three _ _ _
     (eq-eqb _ _ (header_word p 2 p.base (omega arith) refl (omega arith)))
     (eq-eqb _ _ (header_word p 3 p.pages (omega arith) refl (omega arith)))
@@ -36,7 +36,7 @@ unfolding header_fault
 header_fault-header_of p r =
     taken _ _ _ (eq-eqb _ _ (header_word p 0 header_magic (omega arith) refl (omega arith)))
     ∙ taken _ _ _ (eq-eqb _ _ (header_word p 1 2 (omega arith) refl (omega arith)))
-    ∙ taken _ _ _ (both _ _ (is_of_geometry-header_of p r) refl)
+    ∙ taken _ _ _ (and_from _ _ (is_of_geometry-header_of p r) refl)
 
 -- ---- the commit block
 
@@ -45,8 +45,8 @@ pub commit_fault-commit_of : (epoch ceiling : ℕ) → epoch < ceiling → ceili
 unfolding commit_fault
 commit_fault-commit_of epoch ceiling l most =
     taken _ _ _
-    (both _ _
-    (both _ _
+    (and_from _ _
+    (and_from _ _
     (eq-eqb _ _ (commit_word epoch 0 (commit_magic VersionTwo) (omega arith) refl (omega arith)))
     (ap (λ e. nat_lt e ceiling) (epoch_of-commit_of epoch (omega arith)) ∙ lt-ltb epoch ceiling l))
     (has_zero_rest-commit_of epoch))

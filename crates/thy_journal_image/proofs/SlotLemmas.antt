@@ -1,9 +1,9 @@
 -- A slot reads back as it was written. Its blocks after the record are those of two tables whose page table lists nothing,
 -- with the blocks of that table left out.
-use Rattle.std.proofs.Common.{◌≡◌, ℕ, ◌+◌, ◌-◌, ◌*◌, ◌%◌, ◌^◌, ◌<◌, ◌≤◌, if◌then◌else◌, List, ◌++◌, length, map, take, drop, replicate, Option, Some, None, refl, sym, ◌∙◌, ap, inl, inr, arith}
+use Rattle.std.proofs.Common.{◌≡◌, ℕ, ◌+◌, ◌-◌, ◌*◌, ◌%◌, ◌^◌, ◌<◌, ◌≤◌, if◌then◌else◌, List, ◌++◌, length, map, take, drop, replicate, Option, None, refl, sym, ◌∙◌, ap, inl, inr, arith}
 use Rattle.std.specs.Option.{option_or, option_map}
 use Rattle.std.proofs.lemmas.Bool.{cases_lt, lt-ltb, le-ltb}
-use Rattle.std.proofs.lemmas.List.{take-append-le, drop-append-le, drop-replicate, take-replicate, take-map, drop-map, length-drop, length-replicate, get_or-replicate, get_or_past}
+use Rattle.std.proofs.lemmas.List.{take-append-le, drop-append-le, drop-replicate, take-replicate, take-map, drop-map, length-drop, length-replicate, get_or_past}
 use Rattle.std.proofs.Math.Seq.{drop-append-add}
 use Rattle.std.proofs.lemmas.List.FromFn.{length-map-range_with_len, get_or-map-range_with_len}
 use Rattle.thy_base.specs.declared.block.Block.{Block}
@@ -20,12 +20,12 @@ use Rattle.thy_record.specs.Cpu.{cpu_block_of, BeginsWithRecord, IsRecordable}
 use Rattle.thy_record.specs.Slots.{HasTableBlocks, tables_in, epoch_fault, cpu_fault}
 use Rattle.thy_record.specs.TableBlocks.{entry_word, table_block_of as full_block_of}
 use Rattle.thy_record.specs.TableFaults.{first_clash, index_rule, twice_rule, under_rule, index_fault as full_index, twice_fault as full_twice, under_fault, tables_fault}
-use Rattle.thy_record.specs.Tables.{Tables, Lists, IsTables}
+use Rattle.thy_record.specs.Tables.{Tables, IsTables}
 use Rattle.thy_record.proofs.ReadBackLemmas.{FitsRecord-recordable, cpu_back}
 use Rattle.thy_record.proofs.SlotLemmas.{FitBlocks-tables, length-entries_in, tables_back, epoch_fault-back, cpu_fault-back}
 use Rattle.thy_record.proofs.TableFaultLemmas.{neither, both_none, none_breaks, IsTables-faultless, IsFaultless-tables}
 use Rattle.thy_record.proofs.TableLemmas.{table_block_of-entries}
-use Rattle.thy_record.proofs.EntryLemmas.{entry_of-absent}
+use Rattle.thy_record.proofs.EntryLemmas.{entry_of-absent, lists_none}
 use Rattle.thy_base.specs.Store.{page_of}
 use Rattle.thy_journal_image.specs.Places.{slot_blocks}
 use Rattle.thy_journal_image.specs.Slots.{IsTable, table_block_of, slot_block_of, table_in, index_fault, twice_fault, table_fault, slot_fault}
@@ -35,14 +35,6 @@ use Rattle.thy_journal_image.specs.CheckpointParts.{slot_of_checkpoint, ReadsBac
 
 abbrev pub full : Parameters → List (Option ℕ) → Tables
 full p table = record { btt = table; ptt = replicate p.ptt None }
-
-pub lists_none : (n i k : ℕ) → Lists (replicate n None) i k → ⊥
-lists_none n i k l = elim (cases_lt i n) as (λ _. ⊥) [
-  | inl inside ↦ let both : Some k ≡ None = sym l.is ∙ get_or-replicate n i None None inside in absurd (cc)
-  | inr past ↦
-      let size : length (replicate {A = Option ℕ} n None) ≡ n = length-replicate n None in
-      let both : Some k ≡ None = sym l.is ∙ get_or_past (replicate n None) i None (omega (arith, size, past)) in absurd (cc)
-]
 
 pub IsTables-full : (p : Parameters) (table : List (Option ℕ)) → IsTable p table → IsTables p (full p table)
 IsTables-full p table h = record {

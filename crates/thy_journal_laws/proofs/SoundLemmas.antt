@@ -2,6 +2,7 @@
 use Rattle.std.proofs.Common.{◌≡◌, ℕ, ◌+◌, ◌%◌, ◌≤◌, nat_lt, Bool, true, false, if◌then◌else◌, List, [], ◌∷◌, length, map, Option, Some, None, option_and_then, unwrap_or, refl, sym, ◌∙◌, ap, subst, arith}
 use Rattle.std.specs.List.{sum_by}
 use Rattle.std.proofs.lemmas.List.Sums.{sum_by-cons}
+use Rattle.std.proofs.lemmas.Bool.{both_ways}
 use Rattle.thy_base.specs.declared.block.Block.{Block}
 use Rattle.thy_base.specs.declared.mark.Mark.{Mark}
 use Rattle.thy_base.specs.Device.{Device, newest, written_to, settled}
@@ -9,7 +10,6 @@ use Rattle.thy_base.specs.Places.{record_blocks}
 use Rattle.thy_base.proofs.DeviceLemmas.{newest-written_to_other, newest-settled}
 use Rattle.thy_crash.proofs.SavedLemmas.{next_image-commit}
 use Rattle.thy_isa.specs.OnBlocks.{state_from}
-use Rattle.thy_record.specs.declared.engine_step.EngineStep.TheVariants.{StateBlock, TableBlock}
 use Rattle.thy_table.proofs.IndexLemmas.{free_one}
 use Rattle.thy_view.specs.Action.{after}
 use Rattle.thy_view.specs.Origin.{Origin, at}
@@ -20,6 +20,7 @@ use Rattle.thy_journal_image.specs.Header.{header_fault}
 use Rattle.thy_journal_image.specs.Layout.{layout_of}
 use Rattle.thy_journal_image.specs.Places.{slot_blocks, slot_place, home_place, journal_place}
 use Rattle.thy_record.specs.Commit.{commit_of}
+use Rattle.thy_scheme.proofs.RecordLemmas.{marks-slot}
 use Rattle.thy_log.specs.declared.entry.Listed.{Listed}
 use Rattle.thy_log.specs.declared.stage.JournalStage.{JournalStage}
 use Rattle.thy_log.specs.declared.stage.JournalStage.TheVariants.{Nothing, Journal, Slot, Settle, Commit, Confirm, Home}
@@ -37,11 +38,6 @@ use Rattle.thy_journal_laws.proofs.WorkLemmas.{works-released}
 use Rattle.thy_journal_laws.proofs.MoveLemmas.{decoded}
 use Rattle.thy_journal_laws.proofs.ItemLemmas.{items_move, items_write, items_keep_works, items_keep_homes}
 
--- a record of the slot and one of the table leave the marks
-marks_slot : (k : CheckpointMarks) (b : Bool) → marks_after (if b then StateBlock else TableBlock) k ≡ k
-marks_slot k true = refl
-marks_slot k false = refl
-
 -- with every entry freed, all are free
 all_free : (es : List (Option Listed)) → sum_by free_one (map (option_and_then freed) es) ≡ length (map (option_and_then freed) es)
 all_free [] = refl
@@ -58,9 +54,6 @@ pub record IsMaking (q : JournalStage) : Type 0 where
 slot_making : (k : ℕ) (more : Bool) → IsMaking (if more then Slot (k + 1) else Settle)
 slot_making k true = record { sealing = refl; unsettled = refl; unconfirmed = refl; unapplied = refl }
 slot_making k false = record { sealing = refl; unsettled = refl; unconfirmed = refl; unapplied = refl }
-
-never : (b : Bool) → b ≡ false → b ≡ true → ⊥
-never b f t = let no : false ≡ true = sym f ∙ t in absurd cc
 
 module _ (o : Origin) (k : CheckpointMarks) (s : Value) (n : Device) (h : IsSoundJournal o k s n) where
   abbrev e : Progress
@@ -164,7 +157,7 @@ module _ (o : Origin) (k : CheckpointMarks) (s : Value) (n : Device) (h : IsSoun
         table = h.checkpoints.told.table;
         told = h.checkpoints.told.told;
         other_slot = λ on. h.checkpoints.told.other_slot way;
-        listed = λ on. absurd (never (is_applying q) by.unapplied on);
+        listed = λ on. absurd (both_ways (is_applying q) by.unapplied on);
       };
       written = written;
       made = λ on.
@@ -177,15 +170,15 @@ module _ (o : Origin) (k : CheckpointMarks) (s : Value) (n : Device) (h : IsSoun
             recordable = old.recordable;
             state_is = ap (state_from o.geometry e.cpu) works_same ∙ old.state_is;
             counted = old.counted;
-            commit = λ on. absurd (never (is_settled q) by.unsettled on);
-            told = λ on. absurd (never (is_settled q) by.unsettled on);
+            commit = λ on. absurd (both_ways (is_settled q) by.unsettled on);
+            told = λ on. absurd (both_ways (is_settled q) by.unsettled on);
           };
     };
     way = by.sealing ∙ sym way ∙ h.way;
     doubt = h.doubt ∙ before ∙ sym by.unconfirmed;
     header = ap (λ (b : Block). header_fault b o.geometry true) zero_same ∙ h.header;
     committed = committed_stays (record e { next = q }) m way by.unapplied homes_same;
-    rest = λ storeless still. absurd (never (is_under_way q) still (under q by.sealing));
+    rest = λ storeless still. absurd (both_ways (is_under_way q) still (under q by.sealing));
   }
 
   slot_far : (k : ℕ) → 1 ≤ slot_place e.p (e.epoch % 2) + k
@@ -202,7 +195,7 @@ module _ (o : Origin) (k : CheckpointMarks) (s : Value) (n : Device) (h : IsSoun
   sound_slot : (j : ℕ) → item e.next l ≡ SlotItem j → is_sealing e.next ≡ true → is_confirming e.next ≡ false
       → IsSoundJournal o (marks_after (answer e.p e.epoch (SlotItem j)) k) (record s { log = t (SlotItem j); engine = f (SlotItem j) }) (d (SlotItem j))
   sound_slot j is way before =
-      subst (λ (x : CheckpointMarks). IsSoundJournal o x (record s { log = t (SlotItem j); engine = f (SlotItem j) }) (d (SlotItem j))) (sym (marks_slot k (nat_lt j (record_blocks e.p))))
+      subst (λ (x : CheckpointMarks). IsSoundJournal o x (record s { log = t (SlotItem j); engine = f (SlotItem j) }) (d (SlotItem j))) (sym (marks-slot k (nat_lt j (record_blocks e.p))))
       (making (next_after e.p (SlotItem j)) (d (SlotItem j)) (slot_making j (nat_lt (j + 1) (slot_blocks e.p))) way before
       (held_after o e l n (SlotItem j) h.held) (keeps_i (SlotItem j) is (under e.next way)) (writes_i (SlotItem j) is)
       (works_i (SlotItem j) is (under e.next way)) (homes_i (SlotItem j) is way)

@@ -1,11 +1,12 @@
 -- Each block loads as before over every item, and no entry less is free.
-use Rattle.std.proofs.Common.{◌≡◌, ℕ, ◌≤◌, ◌==◌, ◌&&◌, not, Bool, if◌then◌else◌, List, [], length, refl, ◌∙◌, ap, arith}
+use Rattle.std.proofs.Common.{◌≡◌, ℕ, ◌≤◌, ◌==◌, ◌&&◌, not, Bool, if◌then◌else◌, List, [], length, ◌∙◌, ap, arith}
 use Rattle.thy_base.specs.declared.block.Block.{Block}
 use Rattle.thy_base.specs.declared.config.Parameters.{Parameters}
 use Rattle.thy_base.specs.Device.{Device}
 use Rattle.thy_table.specs.Listing.{free_count}
 use Rattle.thy_table.proofs.ListingLaws.{free_count-mapped}
-use Rattle.thy_view.specs.Action.{Action, Rest, ReadAt, WriteAt, Barrier, Drain, after}
+use Rattle.thy_view.specs.Action.{after}
+use Rattle.thy_view.proofs.ActionLemmas.{down-after, length-after}
 use Rattle.thy_journal_image.specs.Places.{image_blocks}
 use Rattle.thy_log.specs.Holding.{works, holding_of}
 use Rattle.thy_log.specs.Items.{Item, NoItem, JournalItem, SlotItem, SettleItem, CommitItem, ConfirmItem, HomeItem, ReleaseItem}
@@ -13,15 +14,8 @@ use Rattle.thy_log.specs.Keys.{freed}
 use Rattle.thy_log.specs.Progress.{Progress, action_next, state_next, item_of, state_after}
 use Rattle.thy_log.specs.State.{State}
 use Rattle.thy_journal_laws.specs.Taken.{ItemsKeepStore}
-use Rattle.thy_journal_laws.proofs.AfterLemmas.{p_after, length_after}
+use Rattle.thy_journal_laws.proofs.AfterLemmas.{p_after}
 use Rattle.thy_journal_laws.proofs.ItemLemmas.{items_keep_works}
-
-pub down_after : (a : Action) (n : Device) → (after a n).down ≡ n.down
-down_after Rest n = refl
-down_after (ReadAt place) n = refl
-down_after (WriteAt place block) n = refl
-down_after Barrier n = refl
-down_after Drain n = refl
 
 free_after : (i : Item) (s : State) → free_count s.table ≤ free_count (state_after i s).table
 free_after NoItem s = omega arith
@@ -51,8 +45,8 @@ items_keep_store o k s n h way =
     let l : State = s.log in
     record {
       blocks =
-          blocks_alike l n (state_next e l) (after (action_next e l) n) (p_after (item_of e l) l) (length_after (action_next e l) n)
-          (down_after (action_next e l) n)
+          blocks_alike l n (state_next e l) (after (action_next e l) n) (p_after (item_of e l) l) (length-after (action_next e l) n)
+          (down-after (action_next e l) n)
           (items_keep_works e l n h.held.progress h.held.state h.held.sized h.held.fits h.checkpoints.written way);
       free = free_after (item_of e l) l;
     }

@@ -5,8 +5,8 @@ use Rattle.thy_base.specs.declared.block.Block.{Block}
 use Rattle.thy_base.specs.Device.{Device, written_to, settled}
 use Rattle.thy_base.specs.Geometry.{memory_blocks}
 use Rattle.thy_base.proofs.DeviceLemmas.{newest-written_to_other, newest-settled}
+use Rattle.thy_base.proofs.BasicLemmas.{Contains-range}
 use Rattle.thy_record.proofs.ImageLemmas.{map-alike}
-use Rattle.thy_protocol.proofs.IssuingLemmas.{row_of}
 use Rattle.thy_table.specs.Listing.{entry_at, lists, mapped}
 use Rattle.thy_table.proofs.ListingLaws.{entry_at-mapped, place_of-none}
 use Rattle.thy_journal_image.specs.Places.{home_place}
@@ -24,7 +24,7 @@ work_same s m n b None h = h refl
 work_same s m n b (Some i) h = refl
 
 below : (many b : ℕ) → Contains (range_with_len 0 many) b → b < many
-below many b inside = let at = row_of 0 many b inside in let l = at.1 in let e = at.2 in omega (arith, l, e)
+below many b inside = let at = Contains-range 0 many b inside in let l = at.1 in let e = at.2 in omega (arith, l, e)
 
 -- so if each block that no entry lists reads at home as before, all load as before
 pub works_same : (s : State) (m n : Device)

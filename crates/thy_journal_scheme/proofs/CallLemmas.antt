@@ -1,30 +1,31 @@
 -- What seals, drains and items of the engine make of the checkpoints.
-use Rattle.std.proofs.Common.{◌≡◌, ◌≢◌, ℕ, ◌+◌, ◌-◌, ◌*◌, ◌%◌, ◌<◌, ◌≤◌, nat_lt, Bool, true, false, if◌then◌else◌, length, length-append, length-drop, Option, Some, None, refl, sym, ◌∙◌, ap, subst, inl, arith, Result, Ok, Err, OnOk, OnErr, IfOk}
+use Rattle.std.proofs.Common.{◌≡◌, ◌≢◌, ℕ, ◌+◌, ◌%◌, ◌<◌, ◌≤◌, nat_lt, Bool, true, false, if◌then◌else◌, length, Option, Some, None, refl, sym, ◌∙◌, ap, subst, inl, arith, Result, Ok, Err, OnOk, OnErr, IfOk}
 use Rattle.thy_base.specs.declared.block.Block.{Block}
-use Rattle.thy_base.specs.declared.mark.Mark.{Mark}
 use Rattle.thy_base.specs.declared.nvm.NvmError.{NvmError}
-use Rattle.thy_base.specs.Device.{Device, IsFramed, written_to}
+use Rattle.thy_base.specs.Device.{Device, IsFramed}
 use Rattle.thy_base.specs.Places.{record_blocks}
 use Rattle.thy_isa.specs.declared.state.CpuState.{CpuState}
 use Rattle.thy_record.specs.declared.engine_step.EngineStep.{EngineStep}
 use Rattle.thy_record.specs.declared.engine_step.EngineStep.TheVariants.{Idle, Copied, PageBlock, StateBlock, TableBlock, Barrier as IsBarrier, CommitWritten, Committed}
-use Rattle.thy_view.specs.Action.{Action, Rest, ReadAt, WriteAt, Barrier, Drain, after, FailsTo, Asks}
+use Rattle.thy_view.specs.Action.{WriteAt, after, FailsTo, Asks}
 use Rattle.thy_view.specs.Origin.{Origin}
 use Rattle.thy_scheme.specs.CheckpointMarks.{CheckpointMarks}
 use Rattle.thy_scheme.specs.Scheme.{Stands}
-use Rattle.thy_scheme.specs.Calls.{IsDue, engine_did, Keeps, Drains, Seals, Engines, EngineFails, OwesNoMore, OwesAfter}
-use Rattle.thy_journal_image.specs.Places.{slot_place, home_place, journal_place}
+use Rattle.thy_scheme.specs.Calls.{IsDue, engine_did, Keeps, Drains, Seals, Engines, EngineFails, OwesAfter}
+use Rattle.thy_journal_image.specs.Places.{slot_place}
 use Rattle.thy_record.specs.Commit.{commit_of}
+use Rattle.thy_view.proofs.ActionLemmas.{queue-after}
+use Rattle.thy_scheme.proofs.RecordLemmas.{due-slot}
 use Rattle.thy_log.specs.declared.stage.JournalStage.{JournalStage}
 use Rattle.thy_log.specs.declared.stage.JournalStage.TheVariants.{Nothing, Journal, Slot, Settle, Commit, Confirm, Home}
 use Rattle.thy_log.specs.Cycles.{cycles_left}
 use Rattle.thy_log.specs.Items.{Item, NoItem, JournalItem, SlotItem, SettleItem, CommitItem, ConfirmItem, HomeItem, ReleaseItem, item, is_under_way, next_live, journal_or_slot, home_or_release, answer}
-use Rattle.thy_log.specs.Progress.{Progress, item_of, engine_next, state_next, action_next, action_of, state_after, block_listed}
+use Rattle.thy_log.specs.Progress.{Progress, item_of, engine_next, state_next, action_next, action_of, state_after}
 use Rattle.thy_log.specs.State.{State}
 use Rattle.thy_log.specs.Stores.{after_drain}
 use Rattle.thy_log.proofs.CycleLemmas.{items_count}
 use Rattle.thy_log.proofs.DrainLemmas.{works_drained}
-use Rattle.thy_journal_laws.specs.Checkpoints.{is_sealing, is_confirming, IsMadeFor}
+use Rattle.thy_journal_laws.specs.Checkpoints.{is_sealing, is_confirming}
 use Rattle.thy_journal_laws.specs.Journal.{Journal as Value}
 use Rattle.thy_journal_laws.specs.Sound.{IsSoundJournal}
 use Rattle.thy_journal_laws.specs.Taken.{taken, device_taken, step_of, sealed}
@@ -35,23 +36,7 @@ use Rattle.thy_journal_laws.proofs.SoundLemmas.{items_keep_sound}
 use Rattle.thy_journal_laws.proofs.StoreLemmas.{items_keep_store, blocks_alike}
 use Rattle.thy_journal_scheme.specs.Scheme.{journal_scheme}
 
--- ---- one action
-
-pub queue-written : (n : Device) (at : ℕ) (block : Block) → length (written_to n at block).queue ≤ length n.queue + 1
-queue-written n at block = simp (length-append, length-drop) (omega arith)
-
-pub after-queue : (a : Action) (n : Device) → length (after a n).queue ≤ length n.queue + 1
-after-queue Rest n = omega arith
-after-queue (ReadAt place) n = omega arith
-after-queue (WriteAt place block) n = queue-written n place block
-after-queue Barrier n = omega arith
-after-queue Drain n = omega (arith, length-drop 1 n.queue)
-
 -- ---- what an item is
-
-slot_due : (k : CheckpointMarks) (first : Bool) → IsDue (if first then StateBlock else TableBlock) k
-slot_due k true = tt
-slot_due k false = tt
 
 asks_slot : (lap : ℕ) (first : Bool) (at : ℕ) (block : Block) → at ≢ 1 → Asks (engine_did lap (if first then StateBlock else TableBlock)) (WriteAt at block)
 asks_slot lap true at block other = other
@@ -103,7 +88,7 @@ module _ (o : Origin) (k : CheckpointMarks) (s : Value) (n : Device) (stands : S
   sound = stands.sound
 
   due_live : (x : Option ℕ) → IsDue (answer e.p e.epoch (journal_or_slot x)) k
-  due_live None = slot_due k (nat_lt 0 (record_blocks e.p))
+  due_live None = due-slot k (nat_lt 0 (record_blocks e.p))
   due_live (Some i) = tt
 
   due_home : (x : Option ℕ) → IsDue (answer e.p e.epoch (home_or_release x)) k
@@ -113,7 +98,7 @@ module _ (o : Origin) (k : CheckpointMarks) (s : Value) (n : Device) (stands : S
   due_by : (q : JournalStage) → e.next ≡ q → is_under_way q ≡ true → IsDue (answer e.p e.epoch (item q l)) k
   due_by Nothing is way = cc
   due_by (Journal from) is way = due_live (next_live from l)
-  due_by (Slot j) is way = slot_due k (nat_lt j (record_blocks e.p))
+  due_by (Slot j) is way = due-slot k (nat_lt j (record_blocks e.p))
   due_by Settle is way = tt
   due_by Commit is way =
       let made = sound.checkpoints.made (ap is_sealing is) in (made.mark, sym sound.checkpoints.sealed ∙ made.sealed)
@@ -139,7 +124,7 @@ module _ (o : Origin) (k : CheckpointMarks) (s : Value) (n : Device) (stands : S
   queue : length (device_taken s n).queue + (state_next e l).dram.queued ≤ length n.queue + l.dram.queued + 1
   queue =
       let same : (state_next e l).dram.queued ≡ l.dram.queued = ap (λ d. d.queued) (dram_after (item_of e l) l) in
-      omega (arith, after-queue (action_next e l) n, same)
+      omega (arith, queue-after (action_next e l) n, same)
 
   pub engines : Engines journal_scheme o k (step_of s) s n (taken s) (device_taken s n)
   engines = record {

@@ -1,6 +1,6 @@
 -- The end of a boot: the checkpoint that it found or made is the committed one.
-use Rattle.std.proofs.Common.{◌≡◌, ◌≢◌, ℕ, suc, ◌+◌, ◌-◌, ◌*◌, ◌%◌, ◌^◌, ◌<◌, ◌≤◌, Bool, true, false, if◌then◌else◌, is_none, List, [], ◌∷◌, length, map, get_or, slice_index_or, Option, Some, None, refl, sym, ◌∙◌, ap, subst, arith}
-use Rattle.std.specs.List.{range_with_len, count_by, sum_by}
+use Rattle.std.proofs.Common.{◌≡◌, ℕ, suc, ◌+◌, ◌%◌, ◌<◌, true, false, List, [], ◌∷◌, length, map, get_or, Option, Some, None, refl, sym, ◌∙◌, ap, subst, arith}
+use Rattle.std.specs.List.{range_with_len, sum_by}
 use Rattle.std.specs.Option.{option_map}
 use Rattle.std.proofs.lemmas.List.{length-map, get_or-map, get_or-replicate, ext_get_or}
 use Rattle.std.proofs.lemmas.List.FromFn.{length-map-range_with_len, get_or-map-range_with_len}
@@ -9,18 +9,17 @@ use Rattle.thy_base.specs.declared.block.Block.{Block}
 use Rattle.thy_base.specs.declared.config.Parameters.{Parameters}
 use Rattle.thy_base.specs.declared.mark.Mark.{Mark}
 use Rattle.thy_base.specs.Device.{Device, zero_block, block_at, newest}
-use Rattle.thy_base.specs.Geometry.{IsInRange, memory_blocks}
+use Rattle.thy_base.specs.Geometry.{memory_blocks}
 use Rattle.thy_base.proofs.CrashLemmas.{Crash-image}
+use Rattle.thy_base.proofs.DeviceLemmas.{newest-empty}
 use Rattle.thy_crash.specs.Saved.{Kept, IsCopy}
 use Rattle.thy_crash.proofs.SavedLemmas.{left_of_saved}
-use Rattle.thy_isa.specs.declared.state.CpuState.{CpuState}
 use Rattle.thy_isa.specs.OnBlocks.{state_from}
-use Rattle.thy_isa.specs.Step.{State as Plain, cpu_of}
+use Rattle.thy_isa.specs.Step.{cpu_of}
 use Rattle.thy_record.specs.Commit.{epoch_of, commit_of}
 use Rattle.thy_record.specs.Cpu.{cpu_of_record}
 use Rattle.thy_record.proofs.ImageLemmas.{map-alike}
 use Rattle.thy_record.proofs.ReadBackLemmas.{epoch_of-commit_of}
-use Rattle.thy_table.specs.Listing.{Listing, entry_at, free_count}
 use Rattle.thy_table.proofs.IndexLemmas.{free_one}
 use Rattle.thy_view.specs.Origin.{Origin, IsOrigin, at}
 use Rattle.thy_view.specs.Safe.{ceiling}
@@ -29,17 +28,15 @@ use Rattle.thy_protocol.specs.Keeps.{IsOf, Keeps}
 use Rattle.thy_protocol.specs.Layout.{looked_by, slot_in}
 use Rattle.thy_protocol.proofs.KeepsLemmas.{Keeps-empty, at-start}
 use Rattle.thy_protocol.proofs.LayoutLemmas.{decode_by-copy}
-use Rattle.thy_boot.specs.declared.stage.Stage.{Stage}
-use Rattle.thy_boot.specs.Boot.{Booting, layout_in, slot_read}
+use Rattle.thy_boot.specs.Boot.{Booting, slot_read}
 use Rattle.thy_boot.specs.Filling.{First}
 use Rattle.thy_boot.specs.Recovers.{IsRestored}
 use Rattle.thy_boot.specs.Sound.{BootImages, start_mark, IsLoaded}
 use Rattle.thy_boot.specs.Start.{CanStart, start_blocks}
-use Rattle.thy_boot.proofs.ReadLemmas.{newest-settled}
 use Rattle.thy_boot.proofs.StartLemmas.{state_from-start, CanStart-origin}
 use Rattle.thy_scheme.specs.CheckpointMarks.{only}
 use Rattle.thy_journal_image.specs.Places.{slot_blocks, slot_place, image_blocks}
-use Rattle.thy_journal_image.specs.Header.{header_of, header_fault}
+use Rattle.thy_journal_image.specs.Header.{header_fault}
 use Rattle.thy_journal_image.specs.Slots.{IsTable, table_in, slot_block_of}
 use Rattle.thy_journal_image.specs.Layout.{journal_layouts, layout_of}
 use Rattle.thy_journal_image.specs.CheckpointParts.{IsToldBy, parts_by}
@@ -47,17 +44,17 @@ use Rattle.thy_journal_image.proofs.HeadLemmas.{header_fault-header_of}
 use Rattle.thy_journal_image.proofs.PartsLemmas.{back}
 use Rattle.thy_log.specs.declared.entry.Listed.{Listed}
 use Rattle.thy_log.specs.declared.stage.JournalStage.{JournalStage}
-use Rattle.thy_log.specs.declared.stage.JournalStage.TheVariants.{Nothing, Home}
+use Rattle.thy_log.specs.declared.stage.JournalStage.TheVariants.{Nothing}
 use Rattle.thy_log.specs.Holding.{works, homes}
 use Rattle.thy_log.specs.Items.{is_under_way, is_applying}
 use Rattle.thy_log.specs.Keys.{block_key}
 use Rattle.thy_log.specs.Progress.{Progress, IsSoundProgress, applying}
 use Rattle.thy_log.specs.State.{State, IsSoundState, table_of, home_of, work_of, work_by}
 use Rattle.thy_log.proofs.TableLemmas.{IsTable-table_of, length-table_of, listed_at-table_of}
-use Rattle.thy_refill.specs.Filling.{filling_journal, no_table, first_of_start, IsFresh}
+use Rattle.thy_refill.specs.Filling.{filling_journal, no_table, first_of_start}
 use Rattle.thy_refill.proofs.FirstLemmas.{IsTable-none, entry_for-fresh, fresh_loads}
-use Rattle.thy_journal_laws.specs.Checkpoints.{Checkpoints, is_sealing, is_confirming, saved_at, standing_at, IsKeptBy, HasWrittenBefore}
-use Rattle.thy_journal_laws.specs.Journal.{Journal as Value, committed_in}
+use Rattle.thy_journal_laws.specs.Checkpoints.{Checkpoints, is_sealing, is_confirming, saved_at, HasWrittenBefore}
+use Rattle.thy_journal_laws.specs.Journal.{Journal as Value}
 use Rattle.thy_journal_laws.specs.Sound.{IsHeld, IsSoundJournal}
 use Rattle.thy_journal_laws.proofs.SafeLemmas.{idle_next, committed_idle}
 
@@ -125,7 +122,7 @@ module _ (o : Origin) (m : Mark) (before : List Block) (n : Device) (b : Booting
     way = refl;
     doubt = refl;
     header =
-        ap (λ (x : Block). header_fault x o.geometry true) (newest-settled n 0 settled)
+        ap (λ (x : Block). header_fault x o.geometry true) (newest-empty n 0 settled)
         ∙ ap (λ (p : Parameters). header_fault (block_at n.image 0) p true) (sym geometry)
         ∙ found.head.header_fits;
     committed = record {
@@ -183,7 +180,7 @@ module _ (o : Origin) (g : BootImages) (n : Device) (b : Booting) (s : Value) (l
 
   -- its slot is the start's
   slot_at : (i : ℕ) → i < slot_blocks p → block_at n.image (slot_place p 0 + i) ≡ slot_block_of p (cpu_of o.start) (no_table p) 0 i
-  slot_at i inside = sym (newest-settled n (slot_place p 0 + i) loaded.settled) ∙ (loaded.stood.parts.slot.each i inside).newest_is
+  slot_at i inside = sym (newest-empty n (slot_place p 0 + i) loaded.settled) ∙ (loaded.stood.parts.slot.each i inside).newest_is
 
   slot_from : (first : ℕ) → first ≡ slot_place p 0
       → map (block_at n.image) (range_with_len first (slot_blocks p)) ≡ slot_of (parts_by p (cpu_of o.start) (no_table p) 0)

@@ -1,13 +1,14 @@
 -- The scheme is lawful.
-use Rattle.std.proofs.Common.{◌≡◌, ℕ, Bool, true, false, List, length, replicate, Some, None, refl, sym, ◌∙◌, ap, arith}
+use Rattle.std.proofs.Common.{◌≡◌, ℕ, true, false, length, None, refl, sym, ◌∙◌, ap, Option}
 use Rattle.std.proofs.lemmas.List.{length-replicate}
 use Rattle.thy_base.specs.declared.config.Parameters.{Parameters}
-use Rattle.thy_base.specs.Device.{Device, zero_block}
+use Rattle.thy_base.specs.Device.{zero_block}
 use Rattle.thy_base.specs.Geometry.{IsInRange, memory_blocks}
 use Rattle.thy_base.specs.Places.{dram_blocks}
+use Rattle.thy_base.proofs.BasicLemmas.{get_or-replicate_any}
 use Rattle.thy_dram.specs.Contents.{Contents, fresh}
 use Rattle.thy_isa.specs.Step.{zero_cpu}
-use Rattle.thy_table.specs.Listing.{Listing, IsListing, entry_at, lists, empty_table}
+use Rattle.thy_table.specs.Listing.{IsListing, entry_at, lists, empty_table}
 use Rattle.thy_boot.specs.Boot.{new_boot}
 use Rattle.thy_scheme.specs.Laws.{IsLawful}
 use Rattle.thy_log.specs.declared.entry.Listed.{Listed}
@@ -20,7 +21,7 @@ use Rattle.thy_journal_scheme.specs.Boots.{IsPowered}
 use Rattle.thy_journal_scheme.specs.Scheme.{journal_scheme}
 use Rattle.thy_journal_scheme.proofs.BootLemmas.{boot_is_sound, power_finds, alike_at}
 use Rattle.thy_journal_scheme.proofs.HoldsLemmas.{run_is_sound}
-use Rattle.thy_journal_scheme.proofs.PowerLemmas.{none_at, power_is_new, zeros_are_nothing}
+use Rattle.thy_journal_scheme.proofs.PowerLemmas.{power_is_new, zeros_are_nothing}
 use Rattle.thy_journal_scheme.proofs.StayLemmas.{held_is_up, same-stays, on-stays, of-stays, stays_keep}
 
 -- ---- power can come on
@@ -39,7 +40,7 @@ first p = record {
 
 -- a table of free entries lists nothing
 none_listed : (size numbers b i : ℕ) → lists block_key b (entry_at (empty_table {E = Listed} size numbers) i) ≡ false
-none_listed size numbers b i = ap (lists block_key b) (none_at size i)
+none_listed size numbers b i = ap (lists block_key b) (get_or-replicate_any {A = Option Listed} size i None)
 
 IsListing-empty : (size numbers : ℕ) → IsListing block_key (empty_table {E = Listed} size numbers)
 IsListing-empty size numbers = record {

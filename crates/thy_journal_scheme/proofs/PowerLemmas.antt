@@ -1,13 +1,10 @@
 -- Power comes on.
-use Rattle.std.proofs.Common.{◌≡◌, ℕ, ◌+◌, ◌-◌, ◌*◌, ◌<◌, ◌≤◌, max, true, false, List, [], length, replicate, get_or, Option, Some, None, refl, sym, ◌∙◌, ap, subst, inl, inr, arith}
-use Rattle.std.proofs.lemmas.Bool.{cases_lt}
-use Rattle.std.proofs.lemmas.List.{get_or-replicate, get_or_past, length-replicate}
-use Rattle.thy_base.specs.declared.block.Block.{Block}
+use Rattle.std.proofs.Common.{◌-◌, ◌<◌, ◌≤◌, [], Option, None, sym, ◌∙◌, ap, subst, arith}
+use Rattle.std.proofs.lemmas.List.{get_or-replicate}
 use Rattle.thy_base.specs.declared.config.Parameters.{Parameters}
-use Rattle.thy_base.specs.declared.nvm.Shape.{Shape}
-use Rattle.thy_base.specs.Device.{Device, block_at, zero_block, fitted}
+use Rattle.thy_base.specs.Device.{zero_block, fitted}
+use Rattle.thy_base.proofs.BasicLemmas.{get_or-replicate_any}
 use Rattle.thy_record.specs.Commit.{is_zero}
-use Rattle.thy_record.specs.Decoded.{Nothing}
 use Rattle.thy_record.proofs.ReadBackLemmas.{is_zero-zero_block}
 use Rattle.thy_view.specs.Safe.{ceiling}
 use Rattle.thy_protocol.proofs.LayoutLemmas.{decode_by-zero}
@@ -18,23 +15,16 @@ use Rattle.thy_boot.specs.Left.{boot_left}
 use Rattle.thy_journal_image.specs.Layout.{journal_layouts}
 use Rattle.thy_table.specs.Listing.{entry_at}
 use Rattle.thy_log.specs.declared.entry.Listed.{Listed}
-use Rattle.thy_log.specs.State.{State, IsSoundState, new_state}
+use Rattle.thy_log.specs.State.{State, IsSoundState}
 use Rattle.thy_refill.specs.Filling.{filling_journal, IsFresh}
 use Rattle.thy_journal_laws.specs.Journal.{Journal as Value}
 use Rattle.thy_journal_scheme.specs.Boots.{IsPowered}
 use Rattle.thy_journal_scheme.specs.Laws.{PowerIsNew, ZerosAreNothing}
 
--- a new log lists nothing
-pub none_at : (size i : ℕ) → get_or (replicate {A = Option Listed} size None) i None ≡ None
-none_at size i = elim (cases_lt i size) as (λ _. get_or (replicate {A = Option Listed} size None) i None ≡ None) [
-  | inl l ↦ get_or-replicate size i None None l
-  | inr l ↦ get_or_past (replicate {A = Option Listed} size None) i None (omega (arith, l, length-replicate {A = Option Listed} size None))
-]
-
 pub IsFresh-new : (p : Parameters) (s : Value) → IsPowered p s → IsSoundState s.log → IsFresh s.log
 IsFresh-new p s powered state = record {
   state = state;
-  free = λ i. ap (λ (l : State). entry_at l.table i) powered.log ∙ none_at p.btt i;
+  free = λ i. ap (λ (l : State). entry_at l.table i) powered.log ∙ get_or-replicate_any {A = Option Listed} p.btt i None;
 }
 
 pub power_is_new : PowerIsNew

@@ -1,11 +1,10 @@
 -- What loads and stores keep, and when blocks are held.
-use Rattle.std.proofs.Common.{◌≡◌, ℕ, ◌+◌, ◌<◌, ◌≤◌, ◌==◌, ◌&&◌, ◌||◌, not, Bool, true, false, if◌then◌else◌, List, [], length, refl, sym, ◌∙◌, ap, subst, arith, Result, Ok, Err, OnErr}
+use Rattle.std.proofs.Common.{◌≡◌, ℕ, ◌<◌, ◌≤◌, ◌==◌, ◌&&◌, ◌||◌, not, Bool, true, false, if◌then◌else◌, List, [], length, refl, sym, ◌∙◌, ap, subst, arith, Result, Ok, Err, OnErr}
+use Rattle.std.proofs.lemmas.Bool.{not-true}
 use Rattle.thy_base.specs.declared.block.Block.{Block}
 use Rattle.thy_base.specs.declared.config.Parameters.{Parameters}
 use Rattle.thy_base.specs.declared.nvm.NvmError.{NvmError}
 use Rattle.thy_base.specs.Device.{Device}
-use Rattle.thy_view.specs.Origin.{Origin}
-use Rattle.thy_scheme.specs.CheckpointMarks.{CheckpointMarks}
 use Rattle.thy_scheme.specs.Scheme.{StaysOf}
 use Rattle.thy_journal_image.specs.Places.{image_blocks}
 use Rattle.thy_log.specs.Cycles.{cycles_left}
@@ -21,10 +20,6 @@ use Rattle.thy_journal_scheme.specs.Scheme.{journal_scheme}
 
 -- ---- as a store of blocks
 
-up_of : (down : Bool) → not down ≡ true → down ≡ false
-up_of true h = cc
-up_of false h = refl
-
 held_up : (sized down : Bool) (blocks : List Block) (b : ℕ) → b < length (if sized && not down then blocks else []) → down ≡ false
 held_up true true blocks b l = absurd (omega (arith, l))
 held_up false true blocks b l = absurd (omega (arith, l))
@@ -33,7 +28,7 @@ held_up sized false blocks b l = refl
 pub held_is_up : HeldIsUp
 held_is_up = (
   λ s n b l. held_up (length n.image == image_blocks s.log.p) n.down (works s.log n) b l,
-  λ s n ready. up_of n.down ready,
+  λ s n ready. not-true n.down ready,
 )
 
 -- ---- over any number of calls

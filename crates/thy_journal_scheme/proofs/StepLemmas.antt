@@ -1,5 +1,5 @@
 -- A step of the boot.
-use Rattle.std.proofs.Common.{◌≡◌, ◌≢◌, ℕ, ◌+◌, ◌-◌, ◌≤◌, Bool, true, false, List, length, refl, sym, ◌∙◌, ap, subst, inl, inr, arith, max, min, Option, Some, None, Result, Ok, Err, IfOk, OnErr}
+use Rattle.std.proofs.Common.{◌≡◌, ◌≢◌, ℕ, ◌+◌, ◌≤◌, Bool, true, false, List, length, refl, sym, ◌∙◌, ap, subst, inl, inr, arith, Option, Some, None, Result, Ok, Err, IfOk, OnErr}
 use Rattle.thy_base.specs.declared.block.Block.{Block}
 use Rattle.thy_base.specs.declared.config.Parameters.{Parameters}
 use Rattle.thy_base.specs.declared.mark.Mark.{Mark}
@@ -14,10 +14,10 @@ use Rattle.thy_isa.specs.Step.{State as Plain, cpu_of, state_of}
 use Rattle.thy_record.specs.declared.bad_image.BadImage.{BadImage}
 use Rattle.thy_record.specs.declared.start.Start.{Start}
 use Rattle.thy_record.specs.Commit.{epoch_of}
-use Rattle.thy_record.specs.Cpu.{IsRecordable, cpu_of_record}
+use Rattle.thy_record.specs.Cpu.{cpu_of_record}
 use Rattle.thy_view.specs.declared.did.Did.{Did}
 use Rattle.thy_view.specs.declared.view.View.{View}
-use Rattle.thy_view.specs.Action.{Action, Rest, ReadAt, WriteAt, Barrier, Drain, after, FailsTo, Asks, Acts, doubt_after_fault}
+use Rattle.thy_view.specs.Action.{Action, FailsTo, Asks, Acts, doubt_after_fault}
 use Rattle.thy_view.specs.Booting.{boot_view, loading_view}
 use Rattle.thy_view.specs.CoreStep.{BootsTo, CoreStep}
 use Rattle.thy_view.specs.Dram.{ActsOnDram}
@@ -27,10 +27,8 @@ use Rattle.thy_protocol.specs.Keeps.{Keeps, finding_view}
 use Rattle.thy_protocol.specs.Moves.{IsKeeping}
 use Rattle.thy_boot.specs.declared.stage.Stage.{Stage}
 use Rattle.thy_boot.specs.declared.stage.Stage.TheVariants.{Reads, Loads as Loading, Over}
-use Rattle.thy_boot.specs.declared.stage.ReadStage.{ReadStage}
 use Rattle.thy_boot.specs.declared.stage.ReadStage.TheVariants.{Unread, Header as ReadsHeader, Slot as ReadsSlot, Fills, Refusing}
 use Rattle.thy_boot.specs.declared.stage.End.TheVariants.{Restored, Loaded}
-use Rattle.thy_boot.specs.declared.stage.Issue.{Issue}
 use Rattle.thy_boot.specs.declared.stage.Issue.TheVariants.{Home, Slot, Header, Settle, Commit, Confirm}
 use Rattle.thy_boot.specs.declared.stage.BootStep.{BootStep}
 use Rattle.thy_boot.specs.declared.stage.BootStep.TheVariants.{Reading, Loading as IsLoading, Loaded as HasLoaded, Restarted, Refused}
@@ -39,16 +37,16 @@ use Rattle.thy_boot.specs.Filling.{First}
 use Rattle.thy_boot.specs.Laws.{IsGoing, IsMoved, failed_answer}
 use Rattle.thy_boot.specs.Left.{boot_left}
 use Rattle.thy_boot.specs.Loads.{issue_action}
-use Rattle.thy_boot.specs.Recovers.{HasReadAt, IsRestored}
+use Rattle.thy_boot.specs.Recovers.{IsRestored}
 use Rattle.thy_boot.specs.Shows.{seen_at, did_of}
 use Rattle.thy_boot.specs.Sound.{BootImages, first_of, start_mark, standing_in_boot, images_after, IsRecovering, IsSoundAt, IsLoaded as IsLoadedBoot}
-use Rattle.thy_boot.specs.Start.{CanStart}
 use Rattle.thy_boot.specs.Steps.{CanStep, Steps, StepsAt, action_at, action_of, Fails, TakesStep}
 use Rattle.thy_boot.proofs.ActLemmas.{steps_act, found_stays, steps_fill, failures_act, steps_come_nearer}
 use Rattle.thy_boot.proofs.FoundLemmas.{restored_is_kept, never_refused}
 use Rattle.thy_boot.proofs.GoOnLemmas.{sound_may_step}
 use Rattle.thy_boot.proofs.MoveLemmas.{kept_after}
 use Rattle.thy_view.proofs.StorableAt.{IsRecordable-at}
+use Rattle.thy_view.proofs.ActionLemmas.{down-after, queue-after}
 use Rattle.thy_boot.proofs.SafeLemmas.{failures_move, read_failed}
 use Rattle.thy_boot.proofs.StartLemmas.{CanStart-origin}
 use Rattle.thy_boot.proofs.StepMoveLemmas.{steps_move}
@@ -66,11 +64,9 @@ use Rattle.thy_refill.proofs.LawLemmas.{log_is_filled}
 use Rattle.thy_journal_laws.specs.Journal.{Journal as Value}
 use Rattle.thy_journal_laws.specs.Sound.{IsSoundJournal}
 use Rattle.thy_journal_laws.proofs.SealLemmas.{blocks_held}
-use Rattle.thy_journal_laws.proofs.StoreLemmas.{down_after}
 use Rattle.thy_journal_scheme.specs.Boots.{Boots, IsUnused, booted, engine_at, step_of, result_of, view_at, has_read_at}
 use Rattle.thy_journal_scheme.specs.Scheme.{journal_scheme}
 use Rattle.thy_journal_scheme.proofs.BootLemmas.{view-is, loads-first}
-use Rattle.thy_journal_scheme.proofs.CallLemmas.{after-queue}
 use Rattle.thy_journal_scheme.proofs.EndLemmas.{restored_sound, loaded_sound}
 use Rattle.thy_journal_scheme.proofs.StayLemmas.{of-same}
 
@@ -205,7 +201,7 @@ module _ (o : Origin) (s : Value) (n : Device) (booting : IsBooting journal_sche
   acts = steps_act filling_journal log_is_filled o.start n b s.log new d e steps
 
   up : new.down ≡ false
-  up = ap (λ (x : Device). x.down) acts.left ∙ down_after acts.action n ∙ booting.up
+  up = ap (λ (x : Device). x.down) acts.left ∙ down-after acts.action n ∙ booting.up
 
   room : e.dram.room ≡ o.geometry.dramq
   room = filled.1 ∙ boots.unused.room
@@ -345,7 +341,7 @@ module _ (o : Origin) (s : Value) (n : Device) (booting : IsBooting journal_sche
   queue-by (Loading issue) l =
       omega (
         arith,
-        after-queue (issue_action (filling_journal.first b.p o.start) issue) n,
+        queue-after (issue_action (filling_journal.first b.p o.start) issue) n,
         ap (λ (x : Device). length x.queue) l.device,
         ap (λ (x : State). x.dram.queued) l.control,
       )

@@ -125,7 +125,7 @@ listed_before s from i j b found l less = elim (cases_lt j from) as (λ _. j < f
 -- ---- the entry of a block
 
 -- an entry that lists a block has it
-key_of : (o : Option Listed) (b : ℕ) → lists block_key b o ≡ true → option_map block_key o ≡ Some b
+pub key_of : (o : Option Listed) (b : ℕ) → lists block_key b o ≡ true → option_map block_key o ≡ Some b
 key_of None b h = cc
 key_of (Some e) b h = ap Some (eqb-true (block_key e) b h)
 

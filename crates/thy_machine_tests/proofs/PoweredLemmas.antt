@@ -1,12 +1,12 @@
 -- What the calls of a machine leave, with its device.
-use Rattle.std.proofs.Common.{◌≡◌, ℕ, ◌+◌, ◌-◌, ◌^◌, ◌≤◌, ◌<◌, Option, None, List, [], ◌∷◌, ◌++◌, length, sym, ◌∙◌, ap, subst, lit<, arith}
-use Rattle.std.proofs.lemmas.List.{length-append}
+use Rattle.std.proofs.Common.{◌≡◌, ℕ, ◌+◌, ◌-◌, ◌≤◌, ◌<◌, Option, None, [], length, sym, ◌∙◌, ap, subst, lit<, arith, ◌^◌}
 use Rattle.thy_base.specs.declared.config.Parameters.{Parameters}
-use Rattle.thy_base.specs.declared.mix.Pick.{Pick}
 use Rattle.thy_base.specs.declared.nvm.Shape.{Shape}
 use Rattle.thy_base.specs.declared.mark.Mark.{Mark}
-use Rattle.thy_base.specs.Device.{Device, IsCut, IsFramed, fitted}
+use Rattle.thy_base.specs.Device.{Device, IsFramed, fitted, IsCut}
 use Rattle.thy_base.specs.Geometry.{IsInRange, program_size}
+use Rattle.thy_base.specs.declared.mix.Pick.{Pick}
+use Rattle.thy_base.proofs.BasicLemmas.{room-cut}
 use Rattle.thy_isa.specs.declared.state.Status.TheVariants.{Running}
 use Rattle.thy_isa.specs.Step.{State}
 use Rattle.thy_isa.specs.Storable.{IsNumber, IsStorable, IsReadable}
@@ -16,11 +16,11 @@ use Rattle.thy_plain.specs.Start.{start_state}
 use Rattle.thy_plain.proofs.StartLaws.{start_other-alone}
 use Rattle.thy_record.specs.Cpu.{is_status, status_tag, status_value, IsOtherRecordable}
 use Rattle.thy_record.specs.declared.start.Start.{Start}
-use Rattle.thy_view.specs.declared.did.Stepped.{Stepped}
 use Rattle.thy_view.specs.Booting.{found_first}
-use Rattle.thy_view.specs.Kind.{KindOf, IsLawful, IsStep, IsFittedFor}
+use Rattle.thy_view.specs.Kind.{KindOf, IsLawful, IsFittedFor, IsStep}
 use Rattle.thy_view.specs.Origin.{Origin, IsOrigin, StartsFrom, setting_of}
-use Rattle.thy_view.specs.Told.{IsThere, HasTurn}
+use Rattle.thy_view.specs.Told.{HasTurn, IsThere}
+use Rattle.thy_view.specs.declared.did.Stepped.{Stepped}
 use Rattle.thy_view.proofs.OneHartLaws.{has-turn}
 use Rattle.thy_machine_tests.specs.Powered.{HasRoom, origin_from, powered, IsPowered}
 
@@ -29,11 +29,6 @@ HasRoom-framed : (m n : Device) (cuts : ℕ) → HasRoom m cuts → IsFramed m n
 HasRoom-framed m n cuts room frame =
     subst (λ (k : ℕ). length n.left + cuts ≤ k) (sym frame.left_room)
     (subst (λ l. length l + cuts ≤ m.left_room) (sym frame.left) room)
-
--- one image more is kept
-room-cut : {A : Type 0} (left : List A) (image : A) (room cuts : ℕ) → length left + cuts ≤ room → 0 < cuts
-    → length (left ++ image ∷ []) + (cuts - 1) ≤ room
-room-cut left image room cuts h some = grind (arith, h, some, length-append left (image ∷ []))
 
 -- a run may start as a program is loaded
 pub IsOrigin-start : (o : Origin) (contents : Contents) → IsInRange o.geometry → o.start ≡ start_state o.geometry contents → IsStorable (program_size o.geometry) o.start → IsReadable (setting_of o) → o.kept ≡ None → o.geometry.harts ≡ 1 → IsOrigin o

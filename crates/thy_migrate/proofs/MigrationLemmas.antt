@@ -1,7 +1,7 @@
 -- A migration, from its beginning over each of its actions to its end.
-use Rattle.std.proofs.Common.{◌≡◌, ◌≢◌, ◌⊎◌, ℕ, ◌+◌, ◌%◌, ◌^◌, ◌<◌, ◌≤◌, ◌&&◌, nat_lt, Bool, true, false, if◌then◌else◌, List, [], ◌∷◌, length, map, take, replicate, Contains, Option, Some, None, refl, sym, ◌∙◌, ap, subst, inl, inr, arith}
+use Rattle.std.proofs.Common.{◌≡◌, ◌≢◌, ◌⊎◌, ℕ, ◌+◌, ◌%◌, ◌<◌, ◌≤◌, ◌&&◌, nat_lt, Bool, true, false, if◌then◌else◌, List, [], ◌∷◌, length, map, Contains, Some, None, refl, sym, ◌∙◌, ap, subst, inl, inr, arith}
 use Rattle.std.proofs.lemmas.Bool.{ltb-true, ltb-false}
-use Rattle.std.proofs.lemmas.List.{length-map, length-take-le}
+use Rattle.std.proofs.lemmas.List.{length-map}
 use Rattle.std.proofs.lemmas.List.FromFn.{length-range_with_len}
 use Rattle.thy_base.specs.declared.block.Block.{Block}
 use Rattle.thy_base.specs.declared.config.Parameters.{Parameters}
@@ -10,10 +10,10 @@ use Rattle.thy_base.specs.declared.layout_version.LayoutVersion.TheVariants.{Ver
 use Rattle.thy_base.specs.declared.mark.Mark.{Mark}
 use Rattle.thy_base.specs.Device.{Device, block_at, newest, written_to, settled, drained, HasFailedToWrite, IsFramed}
 use Rattle.thy_base.specs.Places.{blocks_of_slot, slot_blocks, slot_place, image_blocks, first_home, blocks_one}
-use Rattle.thy_base.proofs.DeviceLemmas.{newest-settled, newest-drained, newest-written_to_other, length-settled, length-drained, length-written_to}
+use Rattle.thy_base.proofs.DeviceLemmas.{newest-settled, newest-drained, newest-written_to_other, length-settled, newest-empty}
 use Rattle.thy_crash.specs.Fixed.{Reads}
 use Rattle.thy_crash.specs.Saved.{Saved, Kept, Ready, InDoubt, next_image, guarded}
-use Rattle.thy_crash.proofs.FixedLemmas.{Reads-written, Reads-settled, Reads-drained, ReadsFirst-drained}
+use Rattle.thy_crash.proofs.FixedLemmas.{Reads-written, Reads-settled, Reads-drained}
 use Rattle.thy_crash.proofs.SavedLemmas.{next_image-commit}
 use Rattle.thy_crash.proofs.SparesLemmas.{Spares-written, Spares-failed, Spares-failed_to_write, Spares-drained}
 use Rattle.thy_isa.specs.OnBlocks.{state_from}
@@ -21,7 +21,7 @@ use Rattle.thy_record.specs.declared.bad_image.BadImage.TheVariants.{Commit as B
 use Rattle.thy_record.specs.Commit.{commit_of, epoch_of, version_of, is_named, has_zero_rest, commit_fault}
 use Rattle.thy_record.specs.Cpu.{cpu_of_record}
 use Rattle.thy_record.specs.Decoded.{At}
-use Rattle.thy_record.specs.Images.{memory_numbers, memory_in, slot_in, looked}
+use Rattle.thy_record.specs.Images.{memory_numbers, memory_in, slot_in}
 use Rattle.thy_record.specs.Issuing.{IsToldBy, SlotBlock}
 use Rattle.thy_record.specs.Slots.{tables_in, counts_in, slot_fault}
 use Rattle.thy_record.specs.Tables.{Tables, IsTables}
@@ -32,27 +32,24 @@ use Rattle.thy_control.specs.Drains.{after_drain}
 use Rattle.thy_control.specs.State.{State, AreSoundTables}
 use Rattle.thy_control.proofs.TablesLemmas.{AreTablesOf-committed}
 use Rattle.thy_view.specs.Action.{after, FailsTo}
-use Rattle.thy_view.specs.Origin.{Origin, at as state_at}
+use Rattle.thy_view.specs.Origin.{Origin}
 use Rattle.thy_view.specs.Safe.{ceiling, Safe}
 use Rattle.thy_view.proofs.SafeLemmas.{Safe-same}
-use Rattle.thy_protocol.specs.Issuing.{AreIssued, IsElsewhere}
-use Rattle.thy_protocol.specs.Keeps.{Keeps, IsOf}
+use Rattle.thy_protocol.specs.Issuing.{AreIssued}
+use Rattle.thy_protocol.specs.Keeps.{Keeps}
 use Rattle.thy_protocol.specs.Layout.{Layout, reading, looked_by, slot_places}
 use Rattle.thy_protocol.specs.Migrated.{migrated_parts, IsMigrated}
-use Rattle.thy_protocol.specs.Moves.{Standing, standing, IsKeeping, Move, Goes, Readies, Commits, Confirms}
+use Rattle.thy_protocol.specs.Moves.{standing, IsKeeping, Move, Goes, Readies, Commits, Confirms}
 use Rattle.thy_protocol.specs.DualLayouts.{dual_layouts, layout_of}
 use Rattle.thy_protocol.proofs.IssuingLemmas.{slot_goes_on, elsewhere_keeps, drain_keeps}
 use Rattle.thy_protocol.proofs.KeepsLemmas.{IsKeeping-move, Safe-kept}
 use Rattle.thy_protocol.proofs.MigratedLemmas.{ArePlaced-migrated, migration_decodes, tables_of_slot}
 use Rattle.thy_protocol.proofs.DualLayoutsLemmas.{looked_by-dual_layouts}
 use Rattle.thy_boot.specs.declared.stage.Stage.{Stage}
-use Rattle.thy_boot.specs.declared.stage.Stage.TheVariants.{Over}
-use Rattle.thy_boot.specs.declared.stage.End.TheVariants.{Restored}
 use Rattle.thy_boot.specs.Boot.{Booting, layout_in, slot_read}
 use Rattle.thy_boot.specs.Recovers.{IsRestored}
-use Rattle.thy_boot.specs.Sound.{BootImages, IsRecovering, IsSoundAt, IsSoundBoot}
+use Rattle.thy_boot.specs.Sound.{BootImages, IsRecovering, IsSoundAt}
 use Rattle.thy_boot.proofs.FoundLemmas.{restored_is_kept}
-use Rattle.thy_boot.proofs.ReadLemmas.{newest-settled as newest-empty}
 use Rattle.thy_recover.specs.Booted.{LoadsState, IsBooted}
 use Rattle.thy_recover.specs.Filling.{loads, filling_dual}
 use Rattle.thy_recover.proofs.BootedLemmas.{restored_is_booted}
@@ -63,7 +60,7 @@ use Rattle.thy_migrate.specs.declared.migration.Migration.TheVariants.{Slot, Set
 use Rattle.thy_migrate.specs.Laws.{MigrationBegins, MigrationMayGoOn, MigrationIsSafe, FailureIsSafe, HasMigrated, MigratesTo, ActionsMigrate, DrainsKeepMigration}
 use Rattle.thy_migrate.specs.Migrating.{action_by, action_of, after_action}
 use Rattle.thy_migrate.specs.Sound.{saved_at, standing_at, images_after, HasFound, IsAnew, written_before, IsMadeBefore, IsCommittedBefore, IsMigrating}
-use Rattle.thy_migrate.specs.Steps.{IsAction, CanMigrate}
+use Rattle.thy_migrate.specs.Steps.{IsAction}
 use Rattle.thy_migrate.proofs.StateLemmas.{ReadsAlike, loads_alike, LoadsState-alike}
 
 -- ---- its beginning

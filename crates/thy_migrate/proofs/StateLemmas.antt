@@ -1,5 +1,5 @@
 -- The state of a mark that the controller loads, over a device in which memory's places and the header read as before.
-use Rattle.std.proofs.Common.{◌≡◌, ℕ, ◌+◌, ◌<◌, ◌≤◌, Bool, true, false, if◌then◌else◌, List, length, map, refl, sym, ◌∙◌, ap, subst, arith}
+use Rattle.std.proofs.Common.{◌≡◌, ℕ, ◌<◌, ◌≤◌, Bool, true, false, if◌then◌else◌, refl, ◌∙◌, ap, arith}
 use Rattle.std.specs.List.{range_with_len}
 use Rattle.thy_base.specs.declared.block.Block.{Block}
 use Rattle.thy_base.specs.declared.config.Parameters.{Parameters}
@@ -9,6 +9,7 @@ use Rattle.thy_base.specs.Device.{Device, block_at, newest}
 use Rattle.thy_base.specs.Geometry.{memory_blocks}
 use Rattle.thy_base.specs.Places.{in_dram, number_of, IsPlace, first_home, blocks_one}
 use Rattle.thy_base.proofs.PlaceLemmas.{between_slots}
+use Rattle.thy_base.proofs.BasicLemmas.{Contains-range}
 use Rattle.thy_isa.specs.declared.state.CpuState.{CpuState}
 use Rattle.thy_isa.specs.OnBlocks.{state_from}
 use Rattle.thy_record.specs.Header.{header_fault}
@@ -19,7 +20,6 @@ use Rattle.thy_control.specs.Stays.{HoldAll}
 use Rattle.thy_control.proofs.CellLemmas.{IsPlace-target, IsPlace-last, IsPlace-work, IsWithin-cell_of}
 use Rattle.thy_control.proofs.HoldLemmas.{hold_same, IsPlace-frame_of}
 use Rattle.thy_view.specs.Origin.{Origin}
-use Rattle.thy_protocol.proofs.IssuingLemmas.{row_of}
 use Rattle.thy_recover.specs.Booted.{LoadsState}
 use Rattle.thy_recover.specs.Filling.{loads}
 
@@ -49,7 +49,7 @@ module _ (c : State) (n m : Device) (tables : AreSoundTables c) (alike : ReadsAl
   pub loads_alike : loads c m ≡ loads c n
   loads_alike =
       map-alike (work_of c m) (work_of c n) (range_with_len 0 (memory_blocks c.p)) (λ b inside.
-      let at = row_of 0 (memory_blocks c.p) b inside in
+      let at = Contains-range 0 (memory_blocks c.p) b inside in
       let below = at.1 in
       let same = at.2 in
       same_place (work (cell_of c b)) (IsPlace-work c.p (cell_of c b) (IsWithin-cell_of c b tables (omega (arith, below, same)))))

@@ -1,22 +1,16 @@
 -- What the calls of a device in memory leave.
-use Rattle.std.proofs.Common.{◌≡◌, ℕ, ◌+◌, List, [], ◌∷◌, ◌++◌, take, drop, inl, refl, sym, ◌∙◌, ap, subst}
+use Rattle.std.proofs.Common.{◌≡◌, ℕ, ◌+◌, take, drop, inl, refl, sym, ◌∙◌, ap, subst}
 use Rattle.std.proofs.Math.Seq.{take-add}
 use Rattle.std.proofs.lemmas.List.{drop-drop}
 use Rattle.std.specs.Prelude.{Option, Some, None, Result, Ok, Err, OnErr, is_err, is_some}
 use Rattle.thy_base.specs.declared.block.Block.{Block}
 use Rattle.thy_base.specs.declared.nvm.NvmError.{NvmError}
-use Rattle.thy_base.specs.declared.nvm.Write.{Write}
 use Rattle.thy_base.specs.Device.{Device, HoldsNoMore, HoldsNoMoreBut, HasFailed, HasFailedToWrite, IsFramed, applied, landed, drained, settled}
-use Rattle.thy_base.proofs.DeviceLemmas.{length-applied, length-landed}
+use Rattle.thy_base.proofs.DeviceLemmas.{length-applied, length-landed, applied-append}
 use Rattle.thy_ring.specs.Held.{Held, as_device}
 use Rattle.thy_nvm.specs.declared.call_faults.Fault.{Fault}
 use Rattle.thy_nvm.specs.declared.call_faults.Fault.TheVariants.{Undone, Late}
 use Rattle.thy_nvm.specs.DeviceInMemory.{InMemory, left_after}
-
--- writes applied in order, in two parts
-pub applied-append : (image : List Block) (ws vs : List Write) → applied image (ws ++ vs) ≡ applied (applied image ws) vs
-applied-append image [] vs = refl
-applied-append image (w ∷ ws) vs = applied-append _ ws vs
 
 -- one write more has landed
 pub drained-landed : (k : ℕ) (r : Held) → as_device drained (as_device (landed k) r) ≡ as_device (landed (k + 1)) r

@@ -1,2 +1,1 @@
 pub mod TallyLemmas
-mod FetchLemmas

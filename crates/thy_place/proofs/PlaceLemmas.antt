@@ -159,3 +159,10 @@ ReadsTheSame-settled p d sized = reads_the_same p d (settled d.nvm) sized (lengt
 -- nor a drain of the DRAM
 pub ReadsTheSame-dram_drained : (p : Parameters) (d : Devices) → AreSized p d → ReadsTheSame p d (record d { dram = dram_drained d.dram })
 ReadsTheSame-dram_drained p d sized = record { same = λ place there. refl; sized = record { nvm = sized.nvm; dram = sized.dram } }
+
+-- a write at a place leaves the NVM up or down as it was
+pub down-written : (p : Parameters) (x : Place) (block : Block) (d : Devices) → (written_at p x block d).nvm.down ≡ d.nvm.down
+down-written p x block d = by_side (in_dram x) where
+  by_side : (side : Bool) → (if side then record d { dram = written d.dram (number_of p x) block } else record d { nvm = written_to d.nvm (number_of p x) block }).nvm.down ≡ d.nvm.down
+  by_side true = refl
+  by_side false = refl

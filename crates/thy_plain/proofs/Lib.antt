@@ -1,3 +1,2 @@
-pub mod FetchLaws
 pub mod RunLaws
 pub mod StartLaws

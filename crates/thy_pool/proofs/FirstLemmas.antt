@@ -1,17 +1,17 @@
 -- The table of a start, page by page.
-use Rattle.std.proofs.Common.{◌≡◌, ℕ, ◌+◌, ◌<◌, ◌≤◌, Bool, true, false, nat_lt, if◌then◌else◌, length, Option, Some, None, refl, sym, ◌∙◌, ap, inl, inr, arith}
-use Rattle.std.proofs.lemmas.Bool.{cases_Bool, cases_eq, cases_lt, lt-ltb, le-ltb}
-use Rattle.std.proofs.lemmas.List.{length-replicate, length-set}
+use Rattle.std.proofs.Common.{◌≡◌, ℕ, ◌≤◌, Bool, true, false, nat_lt, if◌then◌else◌, length, Option, Some, None, refl, sym, ◌∙◌, ap, inl, inr, arith}
+use Rattle.std.proofs.lemmas.Bool.{cases_Bool, cases_lt, lt-ltb, le-ltb}
+use Rattle.std.proofs.lemmas.List.{length-replicate}
 use Rattle.thy_base.specs.declared.config.Parameters.{Parameters}
-use Rattle.thy_table.specs.Listing.{Listing, listing, entry_at, lists, place_of, with_entry, empty_table}
+use Rattle.thy_table.specs.Listing.{Listing, listing, entry_at, lists, place_of, empty_table}
 use Rattle.thy_table.proofs.IndexLemmas.{lists-some}
-use Rattle.thy_table.proofs.ListingLaws.{entry_at-with_same, entry_at-with_other, place_of-none}
+use Rattle.thy_table.proofs.ListingLaws.{place_of-none}
 use Rattle.thy_shadow_image.specs.Places.{pool_pages}
 use Rattle.thy_pool.specs.declared.entry.Held.{Held}
 use Rattle.thy_pool.specs.Keys.{number_key, held}
 use Rattle.thy_pool.specs.Stores.{first_entry, first_entries}
 use Rattle.thy_pool.proofs.CommittingLemmas.{listing_same}
-use Rattle.thy_pool.proofs.StateLemmas.{entry_at-empty, entry_at-first, length-first, first_page}
+use Rattle.thy_pool.proofs.StateLemmas.{entry_at-empty, entry_at-first, length-first}
 
 -- the first x pages are listed
 pub record AreFirst (p : Parameters) (x : ℕ) (t : Listing Held) : Type 0 where
@@ -28,10 +28,6 @@ first_none p t e = record {
 }
 
 module _ (p : Parameters) (x : ℕ) (t : Listing Held) (h : AreFirst p x t) where
-  -- the next one is free, and not listed
-  pub first_free : entry_at t x ≡ None
-  first_free = h.each x ∙ ap (λ b. if b then first_entry p x else None) (le-ltb x x (omega arith))
-
   listed_low : (q n : ℕ) (before low : Bool) → nat_lt q x ≡ before → nat_lt q p.pages ≡ low
       → lists number_key n (if before then (if low then Some (held q) else None) else None) ≡ true → (nat_lt q x ≡ true) × (q ≡ n)
   listed_low q n true true b l h =
@@ -48,30 +44,6 @@ module _ (p : Parameters) (x : ℕ) (t : Listing Held) (h : AreFirst p x t) wher
             let no : false ≡ true = sym (le-ltb x x (omega arith)) ∙ before in absurd (cc)
         | inr unlisted ↦ unlisted
       ])
-
-  -- and then it is listed
-  pub first_more : x < p.pages → AreFirst p (x + 1) (with_entry x (Some (held x)) t)
-  first_more l =
-      let inside : x < length t.entries = omega (arith, l, h.size) in
-      record {
-        size = length-set t.entries x (Some (held x)) ∙ h.size;
-        numbers = h.numbers;
-        each =
-            λ q. elim (cases_eq q x) as
-            (λ _. entry_at (with_entry x (Some (held x)) t) q ≡ (if nat_lt q (x + 1) then first_entry p q else None)) [
-              | inl same ↦
-                  ap (entry_at (with_entry x (Some (held x)) t)) same ∙ entry_at-with_same t x (Some (held x)) inside
-                  ∙ sym (ap (λ b. if b then first_entry p q else None) (lt-ltb q (x + 1) (omega (arith, same)))
-                  ∙ ap (first_entry p) same ∙ first_page p x l)
-              | inr other ↦
-                  entry_at-with_other t x q (Some (held x)) other ∙ h.each q
-                  ∙ ap (λ b. if b then first_entry p q else None)
-                  (elim (cases_lt q x) as (λ _. nat_lt q x ≡ nat_lt q (x + 1)) [
-                    | inl below ↦ lt-ltb q x below ∙ sym (lt-ltb q (x + 1) (omega (arith, below)))
-                    | inr above ↦ le-ltb q x above ∙ sym (le-ltb q (x + 1) (omega (arith, above, other)))
-                  ])
-            ];
-      }
 
   -- with every page it is that of a start
   pub first_all : p.pages ≤ x → t ≡ listing (first_entries p) (pool_pages p)

@@ -9,6 +9,5 @@ pub mod ClaimLemmas
 pub mod CommittingLemmas
 pub mod ListedLemmas
 pub mod FirstLemmas
-pub mod AgreeLemmas
 pub mod GuardLemmas
 pub mod DrainLemmas

@@ -9,7 +9,7 @@ use Rattle.thy_base.specs.declared.config.Parameters.{Parameters}
 use Rattle.thy_base.specs.Geometry.{IsInRange}
 use Rattle.thy_base.specs.Places.{dram_blocks}
 use Rattle.thy_dram.specs.Contents.{Contents}
-use Rattle.thy_table.specs.Listing.{Listing, IsListing, listing, entry_at, lists, place_of, free_place, free_count, with_entry, added_at, added, mapped, empty_table}
+use Rattle.thy_table.specs.Listing.{Listing, IsListing, listing, entry_at, lists, place_of, free_place, with_entry, added_at, added, mapped, empty_table}
 use Rattle.thy_table.proofs.IndexLemmas.{is_some-not_none, None-is_none, lists-some}
 use Rattle.thy_table.proofs.ListingLaws.{entry_at-with_same, entry_at-with_other, entry_at-mapped, place_of-none, IsListing-put, place_of-put, place_of-put_other}
 use Rattle.thy_shadow_image.specs.Places.{pool_pages}
@@ -21,7 +21,6 @@ use Rattle.thy_pool.specs.Keys.{number_key, page_key, held, framed, freed_frame}
 use Rattle.thy_pool.specs.State.{State, state_in, IsBegun, IsSoundState, frame_of, pool_of}
 use Rattle.thy_pool.specs.Stores.{first_entry, first_entries, filled, new_state}
 use Rattle.thy_pool.proofs.CommitLemmas.{held_lists, IsListing-committed, pool_of-committed, target-committed}
-use Rattle.thy_pool.proofs.CountLemmas.{count-set_less}
 use Rattle.thy_pool.proofs.TableLemmas.{next_there}
 
 -- ---- no frame is filled
@@ -236,25 +235,6 @@ module _ (s : State) (h : IsSoundState s) (x j q : ℕ) (page : x < s.p.pages) (
 
   pub IsSoundState-filled : IsSoundState (filled j x s)
   IsSoundState-filled = subst (λ (t : State). IsSoundState t) (sym filled_state) sound
-
-  -- the page has the frame; every other one has what it had, and so has every other number its page of the pool
-  pub frame_of-filled : frame_of (filled j x s) x ≡ Some j
-  frame_of-filled =
-      ap (λ (t : State). frame_of t x) filled_state ∙ place_of-put page_key s.frames h.frames_once j (framed x) at_frame.0 unframed fits
-
-  pub frame_of-filled_other : (y : ℕ) → y ≢ x → frame_of (filled j x s) y ≡ frame_of s y
-  frame_of-filled_other y other =
-      ap (λ (t : State). frame_of t y) filled_state
-      ∙ place_of-put_other page_key s.frames h.frames_once j (framed x) y at_frame.0 at_frame.1 unframed fits other
-
-  pub pool_of-filled : (n : ℕ) → n ≢ s.p.pages + j → pool_of (filled j x s) n ≡ pool_of s n
-  pool_of-filled n other = ap (λ (t : State). pool_of t n) filled_state ∙ found_other n other
-
-  -- one frame less is free
-  pub filled_free : free_count (filled j x s).frames + 1 ≡ free_count s.frames
-  filled_free =
-      ap (λ (t : State). free_count t.frames + 1) filled_state
-      ∙ count-set_less is_none s.frames.entries j (Some (framed x)) None at_frame.0 refl (ap is_none at_frame.1)
 
 -- ---- the frames are committed
 

@@ -1,8 +1,7 @@
 -- A layout of two copies: what is written decodes, and a first checkpoint can be made.
-use Rattle.std.proofs.Common.{◌≡◌, ℕ, zero, suc, ◌+◌, ◌*◌, ◌^◌, ◌<◌, ◌≤◌, true, if◌then◌else◌, List, [], ◌∷◌, ◌++◌, length, map, replicate, Contains, Option, Some, None, refl, sym, ◌∙◌, ap, subst, inl, arith}
+use Rattle.std.proofs.Common.{◌≡◌, ℕ, zero, suc, ◌+◌, ◌*◌, ◌^◌, ◌<◌, ◌≤◌, true, if◌then◌else◌, List, [], ◌∷◌, ◌++◌, length, map, replicate, Contains, Some, None, refl, sym, ◌∙◌, ap, subst, inl, arith}
 use Rattle.std.specs.List.{range_with_len, All}
-use Rattle.std.specs.Option.{option_or}
-use Rattle.std.proofs.lemmas.Bool.{eq-eqb}
+use Rattle.std.proofs.lemmas.Bool.{eq-eqb, and_from}
 use Rattle.std.proofs.lemmas.List.{get_or-drop, get_or-map, get_or_append_left, get_or-append-add, length-append, length-replicate, length-map, ext_get_or, get_or-replicate}
 use Rattle.std.proofs.lemmas.List.FromFn.{length-map-range_with_len, get_or-map-range_with_len}
 use Rattle.std.proofs.lemmas.List.Elements.{All-nil, All-cons, All-append, All-map, All-contains}
@@ -14,13 +13,12 @@ use Rattle.thy_base.specs.Places.{record_blocks}
 use Rattle.thy_base.proofs.DeviceLemmas.{same_as_only, length-settled}
 use Rattle.thy_base.proofs.CrashLemmas.{Contains-stands}
 use Rattle.thy_isa.specs.declared.state.CpuState.{CpuState}
-use Rattle.thy_record.specs.declared.bad_image.BadImage.{BadImage}
 use Rattle.thy_record.specs.declared.bad_image.BadImage.TheVariants.{Header}
 use Rattle.thy_record.specs.Commit.{is_zero, epoch_of, commit_of, commit_fault}
 use Rattle.thy_record.specs.Cpu.{IsRecordOf, IsRecordable, record_of, record_fault}
 use Rattle.thy_record.specs.Decoded.{At}
 use Rattle.thy_isa.specs.OnBlocks.{state_from}
-use Rattle.thy_record.proofs.ReadBackLemmas.{both, epoch_of-commit_of, commit_fault-commit_of, is_zero-commit_of, is_zero-zero_block, cpu_of_record-back, record_fault-back, IsRecordOf-record_of}
+use Rattle.thy_record.proofs.ReadBackLemmas.{epoch_of-commit_of, commit_fault-commit_of, is_zero-commit_of, is_zero-zero_block, cpu_of_record-back, record_fault-back, IsRecordOf-record_of}
 use Rattle.thy_crash.specs.Saved.{Kept, Ready, InDoubt, IsIssued}
 use Rattle.thy_crash.specs.Spares.{Spares}
 use Rattle.thy_crash.proofs.FixedLemmas.{Reads-written}
@@ -35,11 +33,9 @@ use Rattle.thy_protocol.specs.Alternating.{alternating, copy_blocks, copy_place,
 use Rattle.thy_protocol.proofs.LayoutLemmas.{decode_by-whole, decode_by-zero, looked_nothing, looked_parts}
 use Rattle.thy_protocol.proofs.KeepsLemmas.{at-start, Keeps-empty}
 use Rattle.thy_base.proofs.RangeLemmas.{console_most}
+use Rattle.thy_base.proofs.BasicLemmas.{all_none}
 
 -- ---- what is written decodes
-
-all_none : (a b c : Option BadImage) → a ≡ None → b ≡ None → c ≡ None → option_or a (option_or b c) ≡ None
-all_none a b c h k l = ap (λ x. option_or x (option_or b c)) h ∙ ap (λ x. option_or x c) k ∙ l
 
 pub decode_by-written : (p : Parameters) (ceiling : ℕ) (cpu : CpuState) (epoch : ℕ) (g : List Block)
     → IsInRange p → IsRecordable p ceiling cpu → ceiling ≤ 2 ^ 64 → epoch < ceiling
@@ -53,7 +49,7 @@ decode_by-written p ceiling cpu epoch g range r most below sized header commit s
     decode_by-whole l g epoch (state_from p cpu (memory_in l g)) (record {
       committed = ap is_zero commit ∙ is_zero-commit_of epoch;
       faultless = all_none _ _ _
-          (ap (λ t. if t then None else Some Header) (both (is_zero (block_at g 0)) (is_sized l g) header (eq-eqb (length g) (2 + 2 * copy_blocks p) sized)))
+          (ap (λ t. if t then None else Some Header) (and_from (is_zero (block_at g 0)) (is_sized l g) header (eq-eqb (length g) (2 + 2 * copy_blocks p) sized)))
           (ap (λ b. commit_fault (block_at g 0) b ceiling) commit ∙ commit_fault-commit_of (block_at g 0) epoch ceiling below most)
           (ap (λ x. record_fault (slot_in l g) x p ceiling) e ∙ record_fault-back p ceiling cpu epoch (slot_in l g) range r room most small slot);
       of_epoch = e;

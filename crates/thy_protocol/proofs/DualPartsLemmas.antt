@@ -1,5 +1,5 @@
 -- A checkpoint in version 2 of images: where its parts go, and that it is one once they were issued.
-use Rattle.std.proofs.Common.{◌≡◌, ℕ, zero, suc, ◌+◌, ◌%◌, ◌^◌, ◌<◌, ◌≤◌, true, List, Option, None, ◌∙◌, ap, arith}
+use Rattle.std.proofs.Common.{◌≡◌, ℕ, zero, suc, ◌+◌, ◌%◌, ◌^◌, ◌<◌, ◌≤◌, true, List, None, ◌∙◌, ap, arith}
 use Rattle.std.specs.Option.{option_or}
 use Rattle.std.proofs.lemmas.List.FromFn.{get_or-map-range_with_len}
 use Rattle.thy_base.specs.declared.block.Block.{Block}
@@ -8,9 +8,9 @@ use Rattle.thy_base.specs.declared.layout_version.LayoutVersion.TheVariants.{Ver
 use Rattle.thy_base.specs.Device.{Device, block_at, newest, zero_block, written_to}
 use Rattle.thy_base.specs.Geometry.{IsInRange, console_room}
 use Rattle.thy_base.specs.Places.{blocks_of_slot, place_of_slot, slot_blocks, slot_place, image_blocks}
+use Rattle.thy_base.proofs.BasicLemmas.{all_none}
 use Rattle.thy_isa.specs.declared.state.CpuState.{CpuState}
 use Rattle.thy_isa.specs.OnBlocks.{state_from}
-use Rattle.thy_record.specs.declared.bad_image.BadImage.{BadImage}
 use Rattle.thy_record.specs.Commit.{commit_of, epoch_of, version_of, commit_fault}
 use Rattle.thy_record.specs.Cpu.{IsRecordable, cpu_of_record}
 use Rattle.thy_record.specs.Decoded.{At}
@@ -56,9 +56,6 @@ slot_grows p old new cpu t counts epoch memory k h l is = record {
 }
 
 -- ---- the whole checkpoint
-
-pub all_none : (a b c : Option BadImage) → a ≡ None → b ≡ None → c ≡ None → option_or a (option_or b c) ≡ None
-all_none a b c h k l = ap (λ x. option_or x (option_or b c)) h ∙ ap (λ x. option_or x c) k ∙ l
 
 module _ (p : Parameters) (ceiling : ℕ) (cpu : CpuState) (t : Tables) (counts : ℕ → Block) (epoch : ℕ) (range : IsInRange p) (recordable : IsRecordable p ceiling cpu)
     (most : ceiling ≤ 2 ^ 64) (below : epoch < ceiling) (tables : IsTables p t) (counts_are : AreCounts p counts) where

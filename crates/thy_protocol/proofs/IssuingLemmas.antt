@@ -1,13 +1,14 @@
 -- What of a checkpoint was issued, over writes and drains; and that the whole of it is the next image.
-use Rattle.std.proofs.Common.{◌≡◌, ◌≢◌, ℕ, zero, suc, ◌+◌, ◌<◌, ◌≤◌, Bool, true, false, List, ◌∷◌, ◌++◌, length, map, Contains, None, refl, sym, ◌∙◌, ap, subst, inl, inr, arith}
+use Rattle.std.proofs.Common.{◌≡◌, ◌≢◌, ℕ, ◌+◌, ◌<◌, ◌≤◌, Bool, true, false, List, ◌∷◌, ◌++◌, length, map, Contains, None, refl, ◌∙◌, ap, subst, inl, inr, arith}
 use Rattle.std.specs.List.{range_with_len}
 use Rattle.std.proofs.lemmas.Bool.{cases_lt, eq-eqb}
 use Rattle.std.proofs.lemmas.List.{length-map, length-set}
 use Rattle.std.proofs.lemmas.List.Elements.{Contains-append_cases}
-use Rattle.std.proofs.lemmas.List.FromFn.{length-range_with_len, get_or-range_with_len, fill_by_all}
+use Rattle.std.proofs.lemmas.List.FromFn.{length-range_with_len, fill_by_all}
 use Rattle.thy_base.specs.declared.block.Block.{Block}
 use Rattle.thy_base.specs.Device.{Device, zero_block, block_at, applied, newest, drained, written_to}
 use Rattle.thy_base.proofs.DeviceLemmas.{length-applied, length-drained, length-written_to, newest-drained, newest-written_to_other}
+use Rattle.thy_base.proofs.BasicLemmas.{not_first, Contains-range}
 use Rattle.thy_crash.specs.Saved.{next_image}
 use Rattle.thy_crash.proofs.FixedLemmas.{ReadsFirst-elsewhere, ReadsFirst-drained, ReadsFirst-more}
 use Rattle.thy_crash.proofs.SavedLemmas.{next_image-reads, next_image-commit, IsIssued-next_image}
@@ -69,16 +70,6 @@ module _ (image_blocks : ℕ) (parts : CheckpointParts) (old new : Device) (memo
   }
 
 -- ---- the whole checkpoint
-
--- the numbers of a row
-pub row_of : (first n x : ℕ) → Contains (range_with_len first n) x → (k : ℕ) × (k < n) × (first + k ≡ x)
-row_of first n x (k, l, is) =
-    let inside : k < n = omega (arith, length-range_with_len first n) in
-    (k, inside, sym (get_or-range_with_len first n k x inside) ∙ is)
-
-not_first : (y x : ℕ) (xs : List ℕ) → x ≢ y → Contains (x ∷ xs) y → Contains xs y
-not_first y x xs other (zero, l, is) = absurd (other is)
-not_first y x xs other (suc k, l, is) = (k, omega arith, is)
 
 module _ (l : Layout) (n : Device) (commit : Block) (parts : CheckpointParts) (memory : List Block) (of : ArePartsOf l commit parts)
     (h : AreIssued l.image_blocks parts n memory parts.slot_blocks) (some : is_zero commit ≡ false) where
@@ -146,7 +137,7 @@ module _ (l : Layout) (n : Device) (commit : Block) (parts : CheckpointParts) (m
         elim (Contains-append_cases (slot_places l (block_at image 1)) (memory_places l (block_at image 1) (slot_in l image)) x
         (not_first x 1 rest one (not_first x 0 (1 ∷ rest) none inside))) as (λ _. x < l.image_blocks) [
           | inl a ↦
-              let at = row_of parts.slot_place parts.slot_blocks x (subst (λ (xs : List ℕ). Contains xs x) places_are a) in
+              let at = Contains-range parts.slot_place parts.slot_blocks x (subst (λ (xs : List ℕ). Contains xs x) places_are a) in
               let below = at.1 in
               let e = at.2 in
               omega (arith, below, e, of.placed.slot_inside)

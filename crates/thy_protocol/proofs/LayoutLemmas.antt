@@ -124,7 +124,8 @@ nothing_back true fault epoch state h = refl
 nothing_back false None epoch state h = cc
 nothing_back false (Some bad) epoch state h = cc
 
-at_back : (zero : Bool) (fault : Option BadImage) (epoch found : ℕ) (state other : State)
+-- an image that decodes to a state has a commit block without a fault, of that epoch
+pub at_back : (zero : Bool) (fault : Option BadImage) (epoch found : ℕ) (state other : State)
     → (if zero then Nothing else refused_or_at fault epoch state) ≡ At found other
     → (zero ≡ false) × (fault ≡ None) × (epoch ≡ found) × (state ≡ other)
 at_back true fault epoch found state other h = cc

@@ -7,6 +7,7 @@ use Rattle.thy_base.specs.declared.config.Parameters.{Parameters}
 use Rattle.thy_base.specs.declared.layout_version.LayoutVersion.TheVariants.{VersionOne, VersionTwo}
 use Rattle.thy_base.specs.Device.{Device, block_at, newest, zero_block}
 use Rattle.thy_base.specs.Places.{record_blocks, blocks_of_slot, place_of_slot, slot_blocks, slot_place, image_blocks}
+use Rattle.thy_base.proofs.BasicLemmas.{all_none}
 use Rattle.thy_isa.specs.declared.state.CpuState.{CpuState}
 use Rattle.thy_isa.specs.OnBlocks.{state_from}
 use Rattle.thy_record.specs.Commit.{commit_of, epoch_of, version_of, commit_fault}
@@ -29,7 +30,7 @@ use Rattle.thy_protocol.specs.Issuing.{slot_of, ArePlaced, ArePartsOf, AreIssued
 use Rattle.thy_protocol.specs.Migrated.{migrated_parts, IsMigrated, MigrationDecodes}
 use Rattle.thy_protocol.specs.DualLayouts.{dual_layouts}
 use Rattle.thy_protocol.proofs.IssuingLemmas.{issued_is_checkpoint}
-use Rattle.thy_protocol.proofs.DualPartsLemmas.{slot_fits, all_none}
+use Rattle.thy_protocol.proofs.DualPartsLemmas.{slot_fits}
 
 -- the tables of a slot without a fault
 pub tables_of_slot : (p : Parameters) (ceiling epoch : ℕ) (slot : List Block) → slot_fault VersionOne p ceiling epoch slot ≡ None → IsTables p (tables_in p slot)

@@ -28,7 +28,8 @@ head_epoch p ceiling epoch slot w is other =
     sym (ap (λ b. option_or (if b then None else Some Commit) (option_or (tables_fault p (tables_in p slot)) (status_fault p ceiling slot)))
     (ap (λ x. x == epoch) (sym is) ∙ ne_eqb w epoch other))
 
-of_epoch : (epoch : ℕ) (slot : List Block) (w : ℕ) → w ≡ record_word slot 38 → w ≡ epoch → epoch_fault epoch slot ≡ None
+-- a slot whose word of the epoch is right has no such fault
+pub of_epoch : (epoch : ℕ) (slot : List Block) (w : ℕ) → w ≡ record_word slot 38 → w ≡ epoch → epoch_fault epoch slot ≡ None
 of_epoch epoch slot w is same = ap (λ b. if b then None else Some Commit) (ap (λ x. x == epoch) (sym is) ∙ eq-eqb w epoch same)
 
 pub head_tables : (p : Parameters) (ceiling epoch : ℕ) (slot : List Block) (w : ℕ) (bad : BadImage) → w ≡ record_word slot 38 → w ≡ epoch

@@ -1,18 +1,11 @@
 -- The counts of a slot: the first that is at fault.
-use Rattle.std.proofs.Common.{◌≡◌, ℕ, ◌+◌, ◌*◌, ◌<◌, ◌≤◌, ◌==◌, ◌&&◌, ◌||◌, not, Bool, true, false, nat_lt, nat_le, List, map, get_or, Option, Some, None, refl, sym, ◌∙◌, ap, inl, inr, arith}
-use Rattle.std.proofs.lemmas.Bool.{cases_lt, le-ltb, lt-leb, ltb-false}
+use Rattle.std.proofs.Common.{◌≡◌, ℕ, ◌+◌, ◌<◌, ◌≤◌, ◌==◌, ◌&&◌, ◌||◌, not, Bool, true, false, nat_lt, nat_le, map, get_or, Option, Some, None, refl, sym, ◌∙◌, ap, inl, inr, arith}
+use Rattle.std.proofs.lemmas.Bool.{cases_lt, le-ltb, lt-leb}
 use Rattle.std.proofs.lemmas.List.{ext_get_or}
 use Rattle.std.proofs.lemmas.List.FromFn.{length-range_with_len, get_or-range_with_len, length-map-range_with_len, get_or-map-range_with_len}
 use Rattle.std.proofs.lemmas.List.Quantifiers.{position-Some}
 use Rattle.std.proofs.lemmas.Iterator.Adapters.{position_from-zero}
 use Rattle.std.specs.List.{range_with_len, position}
-use Rattle.std.specs.Option.{option_map}
-use Rattle.thy_base.specs.declared.block.Block.{Block}
-use Rattle.thy_base.specs.declared.config.Parameters.{Parameters}
-use Rattle.thy_base.specs.declared.layout_version.LayoutVersion.TheVariants.{VersionTwo}
-use Rattle.thy_base.specs.Places.{count_blocks}
-use Rattle.thy_record.specs.declared.bad_image.BadImage.TheVariants.{Count}
-use Rattle.thy_record.specs.Slots.{count_byte, is_bad_count, count_fault}
 use Rattle.thy_record.proofs.EntryLemmas.{none_at}
 
 -- what is alike at each of the first n numbers
@@ -62,24 +55,6 @@ first_is t n i (Some k) h l none here =
         | inr level ↦ let same : k ≡ i = omega arith in ap Some same
       ]
     ]
-
-none_of : {A B : Type 0} (f : A → B) (o : Option A) → option_map f o ≡ None → o ≡ None
-none_of f None h = refl
-none_of f (Some x) h = cc
-
-not_either : (a b : Bool) → (a || b) ≡ false → a ≡ false
-not_either true b h = cc
-not_either false b h = refl
-
--- no count of a slot without a fault is past 63
-pub count_within : (p : Parameters) (slot : List Block) (i : ℕ) → count_fault VersionTwo p slot ≡ None → i < 64 * count_blocks p → count_byte p slot i ≤ 63
-count_within p slot i h l =
-    let none = none_of Count (position (is_bad_count p slot) (range_with_len 0 (64 * count_blocks p))) h in
-    let fine : is_bad_count p slot i ≡ false = sym (numbered (is_bad_count p slot) (64 * count_blocks p) i l)
-    ∙ none_at (is_bad_count p slot) 0 (range_with_len 0 (64 * count_blocks p)) i 0
-    (sym (position_from-zero (is_bad_count p slot) (range_with_len 0 (64 * count_blocks p))) ∙ none)
-    (omega (arith, length-range_with_len 0 (64 * count_blocks p))) in
-    ltb-false 63 (count_byte p slot i) (not_either (nat_lt 63 (count_byte p slot i)) (nat_le p.pages i && not (count_byte p slot i == 0)) fine)
 
 -- number i is the first of the first n that does
 pub position_is : (t : ℕ → Bool) (n i : ℕ) → i < n → ((k : ℕ) → k < i → t k ≡ false) → t i ≡ true → position t (range_with_len 0 n) ≡ Some i

@@ -1,6 +1,6 @@
 -- Words of the processor's record: what was written reads back, and a plain state's record has no fault.
-use Rattle.std.proofs.Common.{◌≡◌, ℕ, zero, suc, ◌+◌, ◌*◌, ◌<◌, List, [], ◌∷◌, ◌++◌, length, map, replicate, take, drop, slice_index, slice_set, Option, Some, None, ◌≤◌, ◌-◌, inl, inr, refl, sym, ◌∙◌, ap, arith, if◌then◌else◌}
-use Rattle.std.proofs.lemmas.Bool.{cases_lt, ne_eqb}
+use Rattle.std.proofs.Common.{◌≡◌, ℕ, zero, suc, ◌+◌, ◌*◌, ◌<◌, List, [], ◌∷◌, ◌++◌, length, map, replicate, take, drop, slice_index, slice_set, Option, Some, None, ◌≤◌, ◌-◌, inl, inr, refl, sym, ◌∙◌, ap, arith, if◌then◌else◌, true}
+use Rattle.std.proofs.lemmas.Bool.{cases_lt, ne_eqb, le-leb}
 use Rattle.std.proofs.lemmas.List.{get_or-drop, get_or-take, get_or_append_left, get_or-append-add, length-append, length-drop, length-take-le, ext_get_or, length-set, take_more_set, length-replicate, get_or-replicate, get_or_past}
 use Rattle.std.proofs.lemmas.List.FromFn.{length-map-range_with_len, get_or-map-range_with_len}
 use Rattle.std.specs.List.{range_with_len}
@@ -9,8 +9,11 @@ use Rattle.std.proofs.Math.Nat.{add-zero}
 use Rattle.thy_isa.specs.Regs.{reg_at, regs_with}
 use Rattle.thy_isa.specs.declared.state.CpuState.{CpuState}
 use Rattle.thy_isa.specs.declared.state.OtherHart.{OtherHart}
+use Rattle.thy_isa.specs.Storable.{IsStatus}
+use Rattle.thy_isa.specs.declared.state.Status.{Status}
+use Rattle.thy_isa.specs.declared.state.Status.TheVariants.{Running, Exited, Trapped}
 use Rattle.thy_base.specs.Words.{block_of}
-use Rattle.thy_record.specs.Cpu.{status_tag, status_value, reserved_words, second_words, cpu_words, cpu_block_of, record_word, record_words}
+use Rattle.thy_record.specs.Cpu.{status_tag, status_value, reserved_words, second_words, cpu_words, cpu_block_of, record_word, record_words, is_status}
 
 -- ---- the words of each hart
 
@@ -213,3 +216,9 @@ regs_more blocks first regs new (suc r) at w h some l e before is after =
           ∙ ap (λ ws. 0 ∷ ws) (sym (record_words-more blocks first r))
           ∙ ap (λ n. 0 ∷ record_words blocks first n) (sym next),
     )
+
+-- a status that can be stored is one that a record may have
+pub is_status-of : (status : Status) → IsStatus status → is_status (status_tag status) (status_value status) ≡ true
+is_status-of Running h = refl
+is_status-of (Exited v) h = le-leb v 255 (omega arith)
+is_status-of (Trapped v) h = le-leb v 7 (omega arith)

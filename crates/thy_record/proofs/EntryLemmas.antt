@@ -1,7 +1,7 @@
 -- Which entry of a table lists a number, and at which place that puts a block.
-use Rattle.std.proofs.Common.{◌≡◌, ℕ, zero, suc, ◌+◌, ◌%◌, ◌/◌, ◌<◌, ◌≤◌, Bool, true, false, cond, List, [], ◌∷◌, length, take, get_or, Option, Some, None, refl, sym, ◌∙◌, ap, inl, inr, arith}
+use Rattle.std.proofs.Common.{◌≡◌, ℕ, zero, suc, ◌+◌, ◌%◌, ◌/◌, ◌<◌, ◌≤◌, Bool, true, false, cond, List, [], ◌∷◌, length, take, get_or, Option, Some, None, refl, sym, ◌∙◌, ap, inl, inr, arith, replicate}
 use Rattle.std.proofs.lemmas.Bool.{cases_lt, eq-eqb, eqb-true}
-use Rattle.std.proofs.lemmas.List.{get_or-take, get_or_past, length-take}
+use Rattle.std.proofs.lemmas.List.{get_or-take, get_or_past, length-take, length-replicate, get_or-replicate}
 use Rattle.std.proofs.lemmas.List.Quantifiers.{position-Some}
 use Rattle.std.proofs.lemmas.Iterator.Adapters.{position_from-zero}
 use Rattle.std.specs.List.{position_from}
@@ -161,3 +161,12 @@ entry_of-none table n i past none =
 -- what is found among the first k entries is before entry k
 pub entry_of-in_take : (table : List (Option ℕ)) (k n i : ℕ) → entry_of (take k table) n ≡ Some i → i < k
 entry_of-in_take table k n i h = (Lists-of_take table k i n (entry_of-Some (take k table) n i h)).0
+
+-- a table of empty entries lists nothing
+pub lists_none : (n i k : ℕ) → Lists (replicate n None) i k → ⊥
+lists_none n i k l = elim (cases_lt i n) as (λ _. ⊥) [
+  | inl inside ↦ let both : Some k ≡ None = sym l.is ∙ get_or-replicate n i None None inside in absurd (cc)
+  | inr past ↦
+      let size : length (replicate {A = Option ℕ} n None) ≡ n = length-replicate n None in
+      let both : Some k ≡ None = sym l.is ∙ get_or_past (replicate n None) i None (omega (arith, size, past)) in absurd (cc)
+]

@@ -1,6 +1,6 @@
 -- The blocks of bytes: their words, tables in them, and slots of an image.
 use Rattle.std.proofs.Common.{◌≡◌, ◌⊎◌, ℕ, zero, suc, ◌+◌, ◌-◌, ◌*◌, ◌/◌, ◌%◌, ◌<◌, ◌≤◌, Bool, true, false, ◌&&◌, ◌||◌, List, length, map, take, drop, slice_index_or, None, refl, sym, ◌∙◌, ap, subst, arith, ◌==◌, if◌then◌else◌, inl, inr}
-use Rattle.std.proofs.lemmas.Bool.{eq-eqb, eqb-true, le-ltb}
+use Rattle.std.proofs.lemmas.Bool.{eq-eqb, eqb-true, le-ltb, and_parts}
 use Rattle.std.proofs.lemmas.List.{take_all, ext_get_or, get_or-take, get_or-drop, length-drop, length-take-le, drop-drop, drop-take, take-take, length-map}
 use Rattle.std.proofs.lemmas.List.FromFn.{length-map-range_with_len, get_or-map-range_with_len, length-range_with_len}
 use Rattle.std.specs.List.{range_with_len}
@@ -29,6 +29,7 @@ use Rattle.thy_record.proofs.ClashLemmas.{length-table_in, entry_at-table_in}
 use Rattle.thy_record.proofs.ImageLemmas.{block_at-numbers}
 use Rattle.thy_record.proofs.SlotLemmas.{length-entries_in, entry_at-entries_in}
 
+-- the blocks of bytes: one for each 64 of them
 pub length-blocks_of : (bytes : List ℕ) → length (blocks_of bytes) ≡ length bytes / 64
 length-blocks_of bytes = length-map-range_with_len (block_in bytes) 0 (length bytes / 64)
 
@@ -81,16 +82,12 @@ or_cases : (a b : Bool) → (a || b) ≡ true → (a ≡ true) ⊎ (b ≡ true)
 or_cases true b h = inl refl
 or_cases false b h = inr h
 
-and_cases : (a b : Bool) → (a && b) ≡ true → (a ≡ true) × (b ≡ true)
-and_cases true b h = (refl, h)
-and_cases false b h = cc
-
 -- an image has the blocks of version 1 in any case, and behind them those of version 2 unless its commit block is of
 -- version 1
 pub long_enough : (p : Parameters) (version : LayoutVersion) (n : ℕ) → (n == image_blocks p || (is_one version && n == blocks_one p)) ≡ true → blocks_one p ≤ n
 long_enough p version n h = elim (or_cases (n == image_blocks p) (is_one version && n == blocks_one p) h) as (λ _. blocks_one p ≤ n) [
   | inl whole ↦ let e : n ≡ image_blocks p = eqb-true _ _ whole in omega arith
-  | inr old ↦ let e : n ≡ blocks_one p = eqb-true _ _ (and_cases (is_one version) (n == blocks_one p) old).1 in omega arith
+  | inr old ↦ let e : n ≡ blocks_one p = eqb-true _ _ (and_parts (is_one version) (n == blocks_one p) old).1 in omega arith
 ]
 
 slot_inside : (p : Parameters) (version : LayoutVersion) (n s : ℕ) → (n == image_blocks p || (is_one version && n == blocks_one p)) ≡ true → s < 2
@@ -115,7 +112,7 @@ pub record HasLength (p : Parameters) (bytes : List ℕ) : Type 0 where
 
 pub HasLength-file : (p : Parameters) (bytes : List ℕ) → is_long_file p bytes ≡ true → HasLength p bytes
 HasLength-file p bytes h =
-    let parts = and_cases (length bytes % 64 == 0) (is_long p (block_at (blocks_of bytes) 1) (length bytes / 64)) h in
+    let parts = and_parts (length bytes % 64 == 0) (is_long p (block_at (blocks_of bytes) 1) (length bytes / 64)) h in
     record { whole = eqb-true _ _ parts.0; long = parts.1 }
 
 -- n blocks of bytes from block x on

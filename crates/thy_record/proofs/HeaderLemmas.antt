@@ -1,6 +1,6 @@
 -- A header that was written reads back, and has no fault.
 use Rattle.std.proofs.Common.{◌≡◌, ℕ, ◌^◌, ◌<◌, Bool, true, false, ◌&&◌, ◌||◌, ◌==◌, slice_index, if◌then◌else◌, Some, None, refl, sym, ◌∙◌, ap, subst, arith}
-use Rattle.std.proofs.lemmas.Bool.{eq-eqb}
+use Rattle.std.proofs.lemmas.Bool.{eq-eqb, and_from}
 use Rattle.thy_base.specs.declared.block.Block.{Block}
 use Rattle.thy_base.specs.declared.config.Parameters.{Parameters}
 use Rattle.thy_base.specs.Geometry.{IsInRange}
@@ -8,14 +8,14 @@ use Rattle.thy_record.specs.declared.bad_image.BadImage.TheVariants.{Header, Ver
 use Rattle.thy_base.specs.Words.{word_of}
 use Rattle.thy_record.specs.Header.{header_magic, harts_word, header_words, header_of, is_of_geometry, is_of_version, header_fault}
 use Rattle.thy_base.proofs.WordLemmas.{word_of-block_of}
-use Rattle.thy_record.proofs.ReadBackLemmas.{taken, both, three}
+use Rattle.thy_record.proofs.ReadBackLemmas.{taken, three}
 
 header_word : (p : Parameters) (i w : ℕ) → i < 8 → slice_index (header_words p) i ≡ w → w < 2 ^ 64 → word_of (header_of p) i ≡ w
 header_word p i w l is fits = word_of-block_of (header_words p) i l (subst (λ x. x < 2 ^ 64) (sym is) fits) ∙ is
 
 is_of_geometry-header_of : (p : Parameters) → IsInRange p → is_of_geometry (header_of p) p ≡ true
 is_of_geometry-header_of p r =
-    both _ _
+    and_from _ _
     (three _ _ _
     (eq-eqb _ _ (header_word p 2 p.base (omega arith) refl (omega arith)))
     (eq-eqb _ _ (header_word p 3 p.pages (omega arith) refl (omega arith)))
@@ -34,9 +34,10 @@ unfolding header_fault
 header_fault-header_of p r =
     taken _ _ _ (eq-eqb _ _ (header_word p 0 header_magic (omega arith) refl (omega arith)))
     ∙ taken _ _ _ (is_of_version-header_of p)
-    ∙ taken _ _ _ (both _ _ (is_of_geometry-header_of p r) refl)
+    ∙ taken _ _ _ (and_from _ _ (is_of_geometry-header_of p r) refl)
 
-last_asks : (a b c long : Bool)
+-- a header without a fault asks for a file of its length
+pub last_asks : (a b c long : Bool)
     → (if a then (if b then (if c && long then None else Some Geometry) else Some Version) else Some Header) ≡ None → long ≡ true
 last_asks true true true true h = refl
 last_asks true true true false h = cc

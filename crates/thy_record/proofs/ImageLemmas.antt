@@ -13,6 +13,7 @@ use Rattle.thy_base.specs.declared.layout_version.LayoutVersion.TheVariants.{Ver
 use Rattle.thy_base.specs.Device.{zero_block, block_at}
 use Rattle.thy_base.specs.Geometry.{IsInRange, console_room}
 use Rattle.thy_base.specs.Places.{record_blocks, blocks_of_slot, place_of_slot, blocks_one, slot_place, image_blocks}
+use Rattle.thy_base.proofs.BasicLemmas.{all_none}
 use Rattle.thy_isa.specs.declared.state.CpuState.{CpuState}
 use Rattle.thy_isa.specs.Step.{State}
 use Rattle.thy_record.specs.declared.bad_image.BadImage.{BadImage}
@@ -66,9 +67,6 @@ decode-parts zeros fault epoch found state other a b c d =
     ∙ ap (λ f. refused_or_at f epoch state) b
     ∙ ap (λ e. At e state) c
     ∙ ap (At found) d
-
-all_none : (a b c : Option BadImage) → a ≡ None → b ≡ None → c ≡ None → option_or a (option_or b c) ≡ None
-all_none a b c h k l = both_none a (option_or b c) h (both_none b c k l)
 
 -- the slot that the commit block names is the one that was written
 pub IsSlotOf-written : (p : Parameters) (cpu : CpuState) (t : Tables) (counts : ℕ → Block) (epoch : ℕ) (image : List Block)
@@ -280,7 +278,8 @@ commit_fault-higher header b low high most h =
     let asks = commit_asks (is_named header b) (nat_lt (epoch_of b) low) (has_zero_rest b) h in
     commit_gives (is_named header b) (nat_lt (epoch_of b) high) (has_zero_rest b) asks.0 (below_higher (epoch_of b) low high most asks.1) asks.2
 
-status_asks : (status below room : Bool) → (if status && below then (if room then None else Some ConsoleLength) else Some Status) ≡ None
+-- a record whose status, count and console have no fault passes each test
+pub status_asks : (status below room : Bool) → (if status && below then (if room then None else Some ConsoleLength) else Some Status) ≡ None
     → (status ≡ true) × (below ≡ true) × (room ≡ true)
 status_asks true true true h = (refl, refl, refl)
 status_asks true true false h = cc

@@ -15,6 +15,7 @@ use Rattle.thy_base.specs.Geometry.{memory_blocks}
 use Rattle.thy_base.specs.Places.{in_dram, number_of, IsPlace, blocks_of_slot, place_of_slot, slot_blocks, slot_place, first_home, blocks_one}
 use Rattle.thy_base.specs.Store.{page_of}
 use Rattle.thy_base.proofs.PlaceLemmas.{numbers_tell, between_slots}
+use Rattle.thy_base.proofs.BasicLemmas.{not_in_none, not_first, Contains-range}
 use Rattle.thy_record.specs.Commit.{is_zero, epoch_of, version_of}
 use Rattle.thy_record.specs.Images.{slot_numbers, slot_in, memory_numbers, looked}
 use Rattle.thy_record.specs.Issuing.{Target, SlotBlock, PlaceBlock, target_number, IsTarget, IsUnused, IsFree, IsToldBy, memory_read, HasMemory}
@@ -60,12 +61,6 @@ unused_apart : (p : Parameters) (t : Tables) (x : Place) → IsTables p t → Is
 unused_apart p t x s there nvm unused inside =
     let of = memory_number_of p t (number_of p x) inside in
     unused.none of.0 of.1 (numbers_tell p (place_of t of.0) x (IsPlace-place_of p t of.0 s of.1) there (in_dram-place_of t of.0 ∙ sym nvm) of.2)
-
--- the numbers of a slot's blocks
-slot_number_of : (first n x : ℕ) → Contains (range_with_len first n) x → (k : ℕ) × (k < n) × (first + k ≡ x)
-slot_number_of first n x (k, l, is) =
-    let inside : k < n = omega (arith, length-range_with_len first n) in
-    (k, inside, sym (get_or-range_with_len first n k x inside) ∙ is)
 
 -- those of version 1 lie before the homes, those of version 2 behind all places
 pub old_slot_before : (p : Parameters) (s k : ℕ) → s < 2 → k < blocks_of_slot VersionOne p
@@ -165,13 +160,6 @@ free_of_memory p version epoch t (SlotBlock s k) tables there free inside =
 free_of_memory p VersionOne epoch t (PlaceBlock x) tables there free inside = unused_apart p t x tables there.0 there.1 free inside
 free_of_memory p VersionTwo epoch t (PlaceBlock x) tables there free inside = unused_apart p t x tables there.0 there.1 free inside
 
-not_first : (y x : ℕ) (xs : List ℕ) → x ≢ y → Contains (x ∷ xs) y → Contains xs y
-not_first y x xs other (zero, l, is) = absurd (other is)
-not_first y x xs other (suc k, l, is) = (k, omega arith, is)
-
-not_in_none : (y : ℕ) → Contains [] y → ⊥
-not_in_none y (k, l, is) = absurd (omega arith)
-
 free_looked : (p : Parameters) (image : List Block) (y : ℕ) (zeros : Bool)
     → 2 ≤ y
     → (Contains (slot_numbers p (block_at image 1)) y → ⊥)
@@ -195,7 +183,7 @@ pub free_not_looked : (p : Parameters) (image : List Block) (version : LayoutVer
 free_not_looked p image version epoch t x told there free =
     free_looked p image (target_number p x) (is_zero (block_at image 1)) (target_behind p x there)
     (λ inside.
-    let of = slot_number_of (place_of_slot (version_of (block_at image 1)) p (epoch_of (block_at image 1) % 2)) (blocks_of_slot (version_of (block_at image 1)) p)
+    let of = Contains-range (place_of_slot (version_of (block_at image 1)) p (epoch_of (block_at image 1) % 2)) (blocks_of_slot (version_of (block_at image 1)) p)
     (target_number p x) inside in
     free_of_slot p version epoch t x there free of.0 (subst (λ f. of.0 < blocks_of_slot f p) told.of_version of.1)
     (sym (ap (λ f. place_of_slot f p (epoch_of (block_at image 1) % 2) + of.0) told.of_version
@@ -212,11 +200,12 @@ nothing_looked p image x z other inside =
 
 -- ---- how memory is read
 
-length-memory_read : (p : Parameters) (t : Tables) (n : Device) → length (memory_read p t n) ≡ memory_blocks p
+-- memory as it is read by tables has all its blocks
+pub length-memory_read : (p : Parameters) (t : Tables) (n : Device) → length (memory_read p t n) ≡ memory_blocks p
 length-memory_read p t n = length-map (memory_numbers p t) (newest n) ∙ length-memory_numbers p t
 
 -- a block of memory as it is read
-memory_read-at : (p : Parameters) (t : Tables) (n : Device) (b : ℕ) → b < memory_blocks p
+pub memory_read-at : (p : Parameters) (t : Tables) (n : Device) (b : ℕ) → b < memory_blocks p
     → block_at (memory_read p t n) b ≡ newest n (number_of p (place_of t b))
 memory_read-at p t n b l =
     get_or-map (newest n) (memory_numbers p t) b 0 zero_block (omega (arith, length-memory_numbers p t))

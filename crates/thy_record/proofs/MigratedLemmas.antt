@@ -12,6 +12,7 @@ use Rattle.thy_base.specs.Device.{zero_block, block_at}
 use Rattle.thy_base.specs.Geometry.{console_room}
 use Rattle.thy_base.specs.Places.{record_blocks, table_blocks, count_blocks, slot_blocks}
 use Rattle.thy_base.specs.Words.{word_of}
+use Rattle.thy_base.proofs.BlockLemmas.{zero_block-at}
 use Rattle.thy_isa.specs.declared.state.OtherHart.{OtherHart}
 use Rattle.thy_record.specs.declared.bad_image.BadImage.{BadImage}
 use Rattle.thy_record.specs.declared.bad_image.BadImage.TheVariants.{Commit, Status as BadStatus, ConsoleLength, Count, Second}
@@ -19,23 +20,12 @@ use Rattle.thy_record.specs.Cpu.{status_of, reservation_of, is_status, is_width,
 use Rattle.thy_record.specs.Migrated.{IsWrittenAnew, AnewMeansTheSame}
 use Rattle.thy_record.specs.Slots.{entries_in, tables_in, count_byte, counts_in, is_bad_count, count_fault, epoch_fault, status_fault, second_fault, rest_fault, slot_fault}
 use Rattle.thy_record.specs.TableFaults.{tables_fault}
-use Rattle.thy_record.specs.Tables.{Tables}
 use Rattle.thy_record.specs.TableBlocks.{entry_from}
 use Rattle.thy_record.proofs.CountLemmas.{no_position, fine_count}
 use Rattle.thy_record.proofs.CpuLemmas.{record_words-at, length-record_words}
 use Rattle.thy_record.proofs.ReadBackLemmas.{same_other, same_cpu}
-use Rattle.thy_record.proofs.SlotLemmas.{length-entries_in, entry_at-entries_in}
+use Rattle.thy_record.proofs.SlotLemmas.{length-entries_in, entry_at-entries_in, tables_alike}
 use Rattle.thy_record.proofs.TableFaultLemmas.{neither, both_none}
-
-zeros_at : (j : ℕ) → slice_index_or zero_block.0 j 0 ≡ 0
-unfolding zero_block
-zeros_at j = elim (cases_lt j 64) as (λ _. slice_index_or (replicate {A = ℕ} 64 0) j 0 ≡ 0) [
-  | inl l ↦ get_or-replicate {A = ℕ} 64 j 0 0 l
-  | inr m ↦ get_or_past {X = ℕ} (replicate {A = ℕ} 64 0) j 0 (omega (arith, length-replicate {A = ℕ} 64 0))
-]
-
-tables_of : (a b c d : List (Option ℕ)) → a ≡ c → b ≡ d → (let t : Tables = record { btt = a; ptt = b } in t) ≡ (let u : Tables = record { btt = c; ptt = d } in u)
-tables_of a b c d h k = cc
 
 -- the faults of a record's words
 abbrev fault_of_epoch : ℕ → ℕ → Option BadImage
@@ -92,7 +82,7 @@ module _ (p : Parameters) (old new : List Block) (h : IsWrittenAnew p old new) w
 
   tables_same : tables_in p new ≡ tables_in p old
   tables_same =
-      tables_of (entries_in new (8 * record_blocks p) p.btt) (entries_in new (8 * record_blocks p + p.btt) p.ptt)
+      tables_alike (entries_in new (8 * record_blocks p) p.btt) (entries_in new (8 * record_blocks p + p.btt) p.ptt)
       (entries_in old (8 * record_blocks p) p.btt) (entries_in old (8 * record_blocks p + p.btt) p.ptt)
       (entries_same (8 * record_blocks p) p.btt) (entries_same (8 * record_blocks p + p.btt) p.ptt)
 
@@ -101,7 +91,7 @@ module _ (p : Parameters) (old new : List Block) (h : IsWrittenAnew p old new) w
   count_none i =
       ap (λ (b : Block). slice_index_or b.0 (i % 64) 0)
       (block_same (record_blocks p + table_blocks p + i / 64) ∙ get_or_past old (record_blocks p + table_blocks p + i / 64) zero_block (omega (arith, h.short)))
-      ∙ zeros_at (i % 64)
+      ∙ zero_block-at (i % 64)
 
   counts_none : counts_in VersionTwo p new ≡ replicate p.pages 0
   counts_none =

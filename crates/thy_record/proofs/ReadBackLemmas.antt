@@ -1,12 +1,12 @@
 -- What is written reads back, and has no fault.
 use Rattle.std.proofs.Common.{◌≡◌, ℕ, zero, suc, ◌+◌, ◌-◌, ◌*◌, ◌/◌, ◌%◌, ◌^◌, ◌<◌, ◌≤◌, ◌==◌, ◌&&◌, ◌||◌, true, false, Bool, nat_lt, nat_le, if◌then◌else◌, List, ◌∷◌, length, take, drop, slice_index, Option, Some, None, refl, sym, ◌∙◌, ap, subst, inl, inr, arith}
-use Rattle.std.proofs.lemmas.Bool.{cases_lt, eq-eqb, ne_eqb, lt-ltb, le-leb, leb-true}
+use Rattle.std.proofs.lemmas.Bool.{cases_lt, eq-eqb, ne_eqb, lt-ltb, le-leb, leb-true, and_from}
 use Rattle.std.proofs.lemmas.List.{ext_get_or}
 use Rattle.std.proofs.lemmas.List.FromFn.{length-map-range_with_len, get_or-map-range_with_len}
 use Rattle.thy_base.specs.declared.block.Block.{Block}
 use Rattle.thy_base.specs.declared.config.Parameters.{Parameters}
 use Rattle.thy_base.specs.declared.layout_version.LayoutVersion.TheVariants.{VersionOne, VersionTwo}
-use Rattle.thy_base.specs.Device.{zero_block, block_at}
+use Rattle.thy_base.specs.Device.{zero_block}
 use Rattle.thy_base.specs.LittleEndian.{number_bytes}
 use Rattle.thy_base.specs.Geometry.{IsInRange, console_room}
 use Rattle.thy_base.proofs.RangeLemmas.{harts_least, harts_most}
@@ -31,11 +31,8 @@ use Rattle.thy_record.proofs.CpuLemmas.{rest_words, cpu_words-reg, cpu_words-res
 pub taken : {X : Type 0} (t : Bool) (x y : X) → t ≡ true → (if t then x else y) ≡ x
 taken t x y h = ap (λ b. if b then x else y) h
 
-pub both : (a b : Bool) → a ≡ true → b ≡ true → (a && b) ≡ true
-both a b h k = ap (λ t. t && b) h ∙ k
-
 pub three : (a b c : Bool) → a ≡ true → b ≡ true → c ≡ true → (a && b && c) ≡ true
-three a b c h k l = both (a && b) c (both a b h k) l
+three a b c h k l = and_from (a && b) c (and_from a b h k) l
 
 -- ---- the commit block
 
@@ -60,7 +57,7 @@ is_named-commit_of header epoch =
 
 pub has_zero_rest-commit_of : (epoch : ℕ) → has_zero_rest (commit_of epoch) ≡ true
 has_zero_rest-commit_of epoch =
-    both _ _
+    and_from _ _
     (three _ _ _
     (eq-eqb _ _ (commit_word epoch 2 0 (omega arith) refl (omega arith)))
     (eq-eqb _ _ (commit_word epoch 3 0 (omega arith) refl (omega arith)))
@@ -76,8 +73,8 @@ pub commit_fault-commit_of : (header : Block) (epoch ceiling : ℕ) → epoch < 
 unfolding commit_fault
 commit_fault-commit_of header epoch ceiling l most =
     taken _ _ _
-    (both _ _
-    (both _ _
+    (and_from _ _
+    (and_from _ _
     (is_named-commit_of header epoch)
     (ap (λ e. nat_lt e ceiling) (epoch_of-commit_of epoch (omega arith)) ∙ lt-ltb epoch ceiling l))
     (has_zero_rest-commit_of epoch))
@@ -365,13 +362,13 @@ cpu_of_record-back p ceiling c epoch blocks range r room most l of =
 is_second-back : (o : OtherHart) (blocks : List Block) → HasSecond blocks (Some o) → is_second blocks ≡ true
 is_second-back o blocks has =
     let at = λ (j : ℕ) (small : j < 8). reserved_back o blocks j has small in
-    both _ _
-    (both _ _
+    and_from _ _
+    (and_from _ _
     (ap is_width (at 0 (omega arith)) ∙ is_width-word o.front)
     (ap is_width (at 2 (omega arith)) ∙ is_width-word o.back))
-    (both _ _
-    (both _ _ (eq-eqb _ _ (at 4 (omega arith))) (eq-eqb _ _ (at 5 (omega arith))))
-    (both _ _ (eq-eqb _ _ (at 6 (omega arith))) (eq-eqb _ _ (at 7 (omega arith)))))
+    (and_from _ _
+    (and_from _ _ (eq-eqb _ _ (at 4 (omega arith))) (eq-eqb _ _ (at 5 (omega arith))))
+    (and_from _ _ (eq-eqb _ _ (at 6 (omega arith))) (eq-eqb _ _ (at 7 (omega arith)))))
 
 either : (a b : Bool) → b ≡ true → (a || b) ≡ true
 either true b h = refl
@@ -395,7 +392,7 @@ no_fault : (tag value count console of epoch room ceiling : ℕ) (second : Bool)
     then (if nat_le console room then (if second then None else Some Second) else Some ConsoleLength) else Some BadStatus)
     else Some Commit) ≡ None
 no_fault tag value count console of epoch room ceiling second a b c d e =
-    taken _ _ _ (eq-eqb of epoch a) ∙ taken _ _ _ (both _ _ b (lt-ltb count ceiling c)) ∙ taken _ _ _ (le-leb console room d) ∙ taken _ _ _ e
+    taken _ _ _ (eq-eqb of epoch a) ∙ taken _ _ _ (and_from _ _ b (lt-ltb count ceiling c)) ∙ taken _ _ _ (le-leb console room d) ∙ taken _ _ _ e
 
 -- and it has no fault
 pub record_fault-back : (p : Parameters) (ceiling : ℕ) (c : CpuState) (epoch : ℕ) (blocks : List Block)

@@ -1,8 +1,8 @@
 -- The state in a file: its processor, and its memory block by block.
-use Rattle.std.proofs.Common.{◌≡◌, ℕ, ◌+◌, ◌-◌, ◌*◌, ◌/◌, ◌%◌, ◌<◌, ◌≤◌, Bool, true, false, nat_lt, if◌then◌else◌, List, ◌∷◌, ◌++◌, length, map, take, drop, slice_index_or, Ok, IfOk, sym, ◌∙◌, ap, arith}
+use Rattle.std.proofs.Common.{◌≡◌, ℕ, ◌+◌, ◌-◌, ◌*◌, ◌/◌, ◌<◌, ◌≤◌, Bool, true, false, nat_lt, if◌then◌else◌, List, ◌++◌, length, map, take, drop, slice_index_or, Ok, IfOk, sym, ◌∙◌, ap, arith}
 use Rattle.std.specs.Prelude.{Result, Err}
-use Rattle.std.proofs.lemmas.List.{length-map, length-drop, length-take-le, get_or-map, get_or-drop, ext_get_or, take_all}
-use Rattle.std.proofs.lemmas.List.FromFn.{length-range_with_len, get_or-range_with_len}
+use Rattle.std.proofs.lemmas.List.{length-map, length-drop, length-take-le, get_or-map, get_or-drop, take_all}
+use Rattle.std.proofs.lemmas.List.FromFn.{length-range_with_len}
 use Rattle.std.specs.List.{range_with_len}
 use Rattle.thy_base.specs.declared.block.Block.{Block}
 use Rattle.thy_base.specs.declared.config.Parameters.{Parameters}
@@ -36,7 +36,8 @@ use Rattle.thy_base.proofs.RangeLemmas.{console_below}
 
 -- ---- what a check has found
 
-found_at : (d : Decoded) (epoch : ℕ) → found_in d ≡ Ok (FoundAt epoch) → (s : State) × (d ≡ At epoch s)
+-- what was found is a checkpoint of that epoch
+pub found_at : (d : Decoded) (epoch : ℕ) → found_in d ≡ Ok (FoundAt epoch) → (s : State) × (d ≡ At epoch s)
 found_at Nothing epoch h = cc
 found_at (Refused bad) epoch h = cc
 found_at (At e s) epoch h = (s, let same : e ≡ epoch = cc in ap (λ x. At x s) same)
@@ -84,22 +85,12 @@ length-memory_in p t image =
     ∙ length-map (range_with_len 0 (memory_blocks p)) (λ b. number_of p (place_of t b))
     ∙ length-range_with_len 0 (memory_blocks p)
 
-pub block_at-memory_in : (p : Parameters) (t : Tables) (image : List Block) (b : ℕ) → b < memory_blocks p
-    → block_at (memory_in p t image) b ≡ block_at image (number_of p (place_of t b))
-block_at-memory_in p t image b l =
-    let plain : 0 + b ≡ b = omega arith in
-    let numbers : length (memory_numbers p t) ≡ memory_blocks p
-    = length-map (range_with_len 0 (memory_blocks p)) (λ b. number_of p (place_of t b)) ∙ length-range_with_len 0 (memory_blocks p) in
-    get_or-map (block_at image) (memory_numbers p t) b 0 zero_block (omega (arith, numbers))
-    ∙ ap (block_at image) (get_or-map (λ b. number_of p (place_of t b)) (range_with_len 0 (memory_blocks p)) b 0 0 (omega (arith, length-range_with_len 0 (memory_blocks p)))
-    ∙ ap (λ b. number_of p (place_of t b)) (get_or-range_with_len 0 (memory_blocks p) b 0 l ∙ plain))
-
 -- the number of a block's place is one that an image of either version has
 pub place_inside_image : (p : Parameters) (t : Tables) (b : ℕ) → IsTables p t → b < memory_blocks p → number_of p (place_of t b) < blocks_one p
 place_inside_image p t b s l = (between_slots p (place_of t b) (IsPlace-place_of p t b s l) (in_dram-place_of t b)).1
 
 -- the bytes of a whole block
-block_bytes-block_in : (bytes : List ℕ) (k : ℕ) → k < length bytes / 64 → block_bytes (block_in bytes k) ≡ take 64 (drop (64 * k) bytes)
+pub block_bytes-block_in : (bytes : List ℕ) (k : ℕ) → k < length bytes / 64 → block_bytes (block_in bytes k) ≡ take 64 (drop (64 * k) bytes)
 block_bytes-block_in bytes k l =
     block_bytes-long (block_in bytes k) (length-take-le 64 (drop (64 * k) bytes) (omega (arith, length-drop (64 * k) bytes)))
 

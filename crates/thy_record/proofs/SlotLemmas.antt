@@ -1,6 +1,6 @@
 -- A slot that was written reads back, and has no fault.
 use Rattle.std.proofs.Common.{◌≡◌, ℕ, ◌+◌, ◌-◌, ◌*◌, ◌/◌, ◌%◌, ◌^◌, ◌<◌, ◌≤◌, nat_lt, if◌then◌else◌, List, ◌++◌, length, map, take, drop, slice_index, slice_index_or, Option, None, sym, ◌∙◌, ap, subst, inl, inr, arith}
-use Rattle.std.proofs.lemmas.Bool.{cases_lt, eq-eqb, lt-ltb, le-ltb, le-leb}
+use Rattle.std.proofs.lemmas.Bool.{cases_lt, eq-eqb, lt-ltb, le-ltb, le-leb, and_from}
 use Rattle.std.proofs.lemmas.List.{length-map, length-append, length-take-le, length-drop, get_or-map, get_or-take, get_or-drop, get_or_append_left, get_or-append-add, ext_get_or}
 use Rattle.std.proofs.lemmas.List.FromFn.{length-map-range_with_len, get_or-map-range_with_len}
 use Rattle.std.specs.List.{range_with_len}
@@ -21,7 +21,7 @@ use Rattle.thy_record.specs.TableBlocks.{entry_word, entry_from, FitBlocks, tabl
 use Rattle.thy_record.specs.TableFaults.{tables_fault}
 use Rattle.thy_record.specs.Slots.{slot_block_of, IsSlotOf, HasTableBlocks, entries_in, tables_in, byte_in, AreCounts, count_byte, counts_in, is_bad_count, count_fault, epoch_fault, status_fault, second_fault, cpu_fault, slot_fault}
 use Rattle.thy_base.proofs.WordLemmas.{word_of-block_of}
-use Rattle.thy_record.proofs.ReadBackLemmas.{taken, both, FitsRecord-recordable, rest_back, cpu_back, epoch_back, second-back}
+use Rattle.thy_record.proofs.ReadBackLemmas.{taken, FitsRecord-recordable, rest_back, cpu_back, epoch_back, second-back}
 use Rattle.thy_record.proofs.CountLemmas.{map-alike_numbers, no_position, fine_count}
 use Rattle.thy_record.proofs.TableLemmas.{entry_from-entry_word, entry_word-fits}
 use Rattle.thy_record.proofs.TableFaultLemmas.{both_none, IsFaultless-tables}
@@ -131,14 +131,15 @@ entries_back slot first n table long each =
     ext_get_or None (entries_in slot first n) table (same ∙ sym long)
     (λ i below. let l : i < n = omega (arith, same) in entry_at-entries_in slot first n i l ∙ each i l)
 
-tables_same : (a b c d : List (Option ℕ)) → a ≡ c → b ≡ d → (let t : Tables = record { btt = a; ptt = b } in t) ≡ (let u : Tables = record { btt = c; ptt = d } in u)
-tables_same a b c d h k = cc
+-- tables are the same if both their parts are
+pub tables_alike : (a b c d : List (Option ℕ)) → a ≡ c → b ≡ d → (let t : Tables = record { btt = a; ptt = b } in t) ≡ (let u : Tables = record { btt = c; ptt = d } in u)
+tables_alike a b c d h k = cc
 
 -- tables read back as they were written
 pub tables_back : (p : Parameters) (t : Tables) (slot : List Block)
     → IsInRange p → FitBlocks p t → HasTableBlocks p t slot → tables_in p slot ≡ t
 tables_back p t slot r fit of =
-    tables_same (entries_in slot (8 * record_blocks p) p.btt) (entries_in slot (8 * record_blocks p + p.btt) p.ptt) t.btt t.ptt
+    tables_alike (entries_in slot (8 * record_blocks p) p.btt) (entries_in slot (8 * record_blocks p + p.btt) p.ptt) t.btt t.ptt
     (entries_back slot (8 * record_blocks p) p.btt t.btt fit.btt_length (λ i l.
     entry_back p t slot i r fit of (omega arith)
     ∙ get_or_append_left t.btt t.ptt None i (omega (arith, fit.btt_length))))
@@ -199,7 +200,7 @@ pub status_fault-back : (p : Parameters) (ceiling : ℕ) (cpu : CpuState) (epoch
     → IsRecordable p ceiling cpu → FitsRecord p cpu epoch → BeginsWithRecord p cpu epoch slot → status_fault p ceiling slot ≡ None
 status_fault-back p ceiling cpu epoch slot r fits of =
     let rest = λ (j : ℕ) (small : j < 8). rest_back p cpu epoch slot j fits of small in
-    taken _ _ _ (both _ _
+    taken _ _ _ (and_from _ _
     (ap (λ t. is_status t (record_word slot 37)) (rest 4 (omega arith)) ∙ ap (is_status (status_tag cpu.status)) (rest 5 (omega arith)) ∙ r.status)
     (lt-ltb _ _ (subst (λ x. x < ceiling) (sym (rest 0 (omega arith))) r.count)))
     ∙ taken _ _ _ (le-leb _ _ (subst (λ x. x ≤ console_room p) (sym (rest 2 (omega arith))) r.console))

@@ -1,11 +1,12 @@
 -- Where a boot ends: at a restart of the kept mark, or at the start.
-use Rattle.std.proofs.Common.{◌≡◌, ℕ, ◌+◌, true, List, length, map, replicate, Option, Some, None, sym, ◌∙◌, ap, subst, arith}
+use Rattle.std.proofs.Common.{◌≡◌, ℕ, true, List, length, map, replicate, None, sym, ◌∙◌, ap, subst, arith}
 use Rattle.thy_base.specs.declared.block.Block.{Block}
 use Rattle.thy_base.specs.declared.config.Parameters.{Parameters}
 use Rattle.thy_base.specs.declared.layout_version.LayoutVersion.{LayoutVersion}
 use Rattle.thy_base.specs.declared.layout_version.LayoutVersion.TheVariants.{VersionTwo}
 use Rattle.thy_base.specs.declared.mark.Mark.{Mark}
 use Rattle.thy_base.specs.Device.{block_at, newest}
+use Rattle.thy_base.proofs.DeviceLemmas.{newest-empty}
 use Rattle.thy_isa.specs.declared.state.CpuState.{CpuState}
 use Rattle.thy_isa.specs.OnBlocks.{state_from}
 use Rattle.thy_isa.specs.Step.{cpu_of}
@@ -23,8 +24,6 @@ use Rattle.thy_control.specs.CheckpointTables.{tables0}
 use Rattle.thy_control.proofs.TablesLemmas.{AreTablesOf-committed}
 use Rattle.thy_view.specs.Origin.{at}
 use Rattle.thy_view.specs.Safe.{ceiling}
-use Rattle.thy_protocol.specs.Keeps.{Keeps}
-use Rattle.thy_protocol.specs.DualLayouts.{layout_of}
 use Rattle.thy_protocol.proofs.KeepsLemmas.{at-start}
 use Rattle.thy_protocol.proofs.DualPartsLemmas.{slot_is, tables_are}
 use Rattle.thy_protocol.specs.Issuing.{slot_of}
@@ -34,14 +33,13 @@ use Rattle.thy_boot.specs.Filling.{First}
 use Rattle.thy_boot.specs.Recovers.{IsRestored}
 use Rattle.thy_boot.specs.Sound.{first_of, IsLoaded, IsRecovering, IsSoundAt}
 use Rattle.thy_boot.proofs.FoundLemmas.{restored_is_kept}
-use Rattle.thy_boot.proofs.ReadLemmas.{newest-settled}
 use Rattle.thy_boot.proofs.WrittenLemmas.{AreIssued-written}
 use Rattle.thy_recover.specs.Booted.{RestoredIsBooted, LoadedIsStarted}
-use Rattle.thy_recover.specs.Filling.{CanStart, IsEmpty, loads, filling_dual}
+use Rattle.thy_recover.specs.Filling.{CanStart, loads, filling_dual}
 use Rattle.thy_recover.specs.Start.{start_blocks, no_tables, no_counts}
 use Rattle.thy_recover.proofs.FillingLemmas.{filling_is_lawful, none_listed, all_hold, loads_first}
 use Rattle.thy_recover.proofs.RecordLemmas.{restored-recordable, start-recordable}
-use Rattle.thy_recover.proofs.StartLemmas.{IsTables-none, AreCounts-none, counts-none, length-start_blocks, state_from-start, CanStart-origin}
+use Rattle.thy_recover.proofs.StartLemmas.{IsTables-none, AreCounts-none, counts-none, state_from-start, CanStart-origin}
 
 pub restored_is_booted : RestoredIsBooted
 restored_is_booted o g n b c origin sound is =
@@ -65,7 +63,7 @@ restored_is_booted o g n b c origin sound is =
     (subst (λ (h : List Block). IsToldBy b.p h version m.epoch (tables0 c)) (sym rec.before_is)
     (subst (λ (x : ℕ). IsToldBy b.p n.image version x (tables0 c)) (sym kept.2) told)) in
     let header : header_fault (newest n 0) p true ≡ None
-    = ap (λ (x : Block). header_fault x p true) (newest-settled n 0 rec.read.settled)
+    = ap (λ (x : Block). header_fault x p true) (newest-empty n 0 rec.read.settled)
     ∙ ap (λ (q : Parameters). header_fault (block_at n.image 0) q true) (sym sound.geometry) ∙ f.head.header_fits in
     let state : state_from p cpu (loads c n) ≡ at o m.count
     = ap (λ (q : Parameters). state_from q cpu (loads c n)) (sym sound.geometry) ∙ kept.4 in

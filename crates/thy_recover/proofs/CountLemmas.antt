@@ -10,10 +10,12 @@ use Rattle.std.proofs.lemmas.Iterator.Adapters.{position_from-zero}
 use Rattle.thy_base.specs.declared.block.Block.{Block}
 use Rattle.thy_base.specs.declared.config.Parameters.{Parameters}
 use Rattle.thy_base.specs.declared.layout_version.LayoutVersion.{LayoutVersion}
-use Rattle.thy_base.specs.declared.layout_version.LayoutVersion.TheVariants.{VersionOne, VersionTwo}
-use Rattle.thy_base.specs.Device.{zero_block, block_at}
+use Rattle.thy_base.specs.declared.layout_version.LayoutVersion.TheVariants.{VersionTwo}
+use Rattle.thy_base.specs.Device.{zero_block}
 use Rattle.thy_base.specs.Places.{record_blocks, table_blocks, count_blocks}
-use Rattle.thy_control.specs.Boot.{IsBooting, with_listed_count}
+use Rattle.thy_base.proofs.BlockLemmas.{zero_block-at}
+use Rattle.thy_base.proofs.BasicLemmas.{none_of_map}
+use Rattle.thy_control.specs.Boot.{IsBooting}
 use Rattle.thy_control.specs.CheckpointTables.{tables0}
 use Rattle.thy_control.specs.State.{State, AreSoundTables}
 use Rattle.thy_record.specs.declared.bad_image.BadImage.{BadImage}
@@ -24,7 +26,6 @@ use Rattle.thy_record.proofs.CountLemmas.{map-alike_numbers, no_position, positi
 use Rattle.thy_record.proofs.EntryLemmas.{none_at}
 use Rattle.thy_recover.specs.Filling.{HasTakenUp}
 use Rattle.thy_recover.specs.Listed.{TakesCounts, SetsCount}
-use Rattle.thy_recover.proofs.StartLemmas.{zeros_at}
 
 -- ---- the bytes of the first blocks
 
@@ -35,7 +36,7 @@ module _ (p : Parameters) (blocks : List Block) where
   pub byte-past : (n i : ℕ) → n ≤ record_blocks p + table_blocks p + i / 64 → count_byte p (take n blocks) i ≡ 0
   byte-past n i l =
       ap (λ (b : Block). slice_index_or b.0 (i % 64) 0)
-      (get_or_past (take n blocks) (record_blocks p + table_blocks p + i / 64) zero_block (omega (arith, l, length-take n blocks))) ∙ zeros_at (i % 64)
+      (get_or_past (take n blocks) (record_blocks p + table_blocks p + i / 64) zero_block (omega (arith, l, length-take n blocks))) ∙ zero_block-at (i % 64)
 
   -- with one block more
   pub byte-next : (n i : ℕ) → record_blocks p + table_blocks p + i / 64 < n → count_byte p (take n blocks) i ≡ count_byte p (take (n + 1) blocks) i
@@ -52,10 +53,6 @@ bad-zero : (p : Parameters) (a : List Block) (i : ℕ) → count_byte p a i ≡ 
 bad-zero p a i zero = fine_count (count_byte p a i) p.pages i (λ l. omega (arith, zero)) (λ l. zero)
 
 -- ---- the first fault
-
-none_of : {A B : Type 0} (f : A → B) (o : Option A) → option_map f o ≡ None → o ≡ None
-none_of f None h = refl
-none_of f (Some x) h = cc
 
 some_of : (o : Option ℕ) (bad : BadImage) → option_map Count o ≡ Some bad → (i : ℕ) × (o ≡ Some i) × (Count i ≡ bad)
 some_of None bad h = cc
@@ -91,7 +88,7 @@ fault-none p blocks none = ap (option_map Count) (no_position (is_bad_count p bl
 pub none-bad : (p : Parameters) (blocks : List Block) → count_fault VersionTwo p blocks ≡ None → (i : ℕ) → i < 64 * count_blocks p → is_bad_count p blocks i ≡ false
 none-bad p blocks h i l =
     let n = 64 * count_blocks p in
-    let none = none_of Count (position (is_bad_count p blocks) (range_with_len 0 n)) h in
+    let none = none_of_map Count (position (is_bad_count p blocks) (range_with_len 0 n)) h in
     sym (numbered (is_bad_count p blocks) n i l)
     ∙ none_at (is_bad_count p blocks) 0 (range_with_len 0 n) i 0 (sym (position_from-zero (is_bad_count p blocks) (range_with_len 0 n)) ∙ none)
     (omega (arith, l, length-range_with_len 0 n))
@@ -131,7 +128,7 @@ counts-begin p =
     ext_get_or 0 (map (count_byte p []) (range_with_len 0 p.pages)) (replicate p.pages 0) (left ∙ sym (length-replicate {A = ℕ} p.pages 0))
     (λ i below.
     let l : i < p.pages = omega (arith, left, below) in
-    get_or-map-range_with_len (count_byte p []) 0 p.pages i i 0 l (omega arith) ∙ zeros_at (i % 64) ∙ sym (get_or-replicate {A = ℕ} p.pages i 0 0 l))
+    get_or-map-range_with_len (count_byte p []) 0 p.pages i i 0 l (omega arith) ∙ zero_block-at (i % 64) ∙ sym (get_or-replicate {A = ℕ} p.pages i 0 0 l))
 
 -- ---- byte by byte
 
@@ -278,7 +275,3 @@ TakesCounts-of f p before part old new same_p h tables booting same counts =
 pub TakesCounts-same : (f : LayoutVersion) (p : Parameters) (before part : List Block) (c : State) → c.p ≡ p → HasTakenUp f before c
     → (count_fault f p part ≡ None → c.counts.lasts ≡ counts_in f p part) → TakesCounts f part c c
 TakesCounts-same f p before part c same h counts = TakesCounts-of f p before part c c same h h.tables h.booting refl counts
-
--- version 1 has none
-pub TakesCounts-one : (p : Parameters) (before part : List Block) (c : State) → c.p ≡ p → HasTakenUp VersionOne before c → TakesCounts VersionOne part c c
-TakesCounts-one p before part c same h = TakesCounts-same VersionOne p before part c same h (λ none. counts-of VersionOne p before c same h refl)

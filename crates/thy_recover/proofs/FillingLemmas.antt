@@ -9,13 +9,14 @@ use Rattle.thy_base.specs.declared.place.Place.TheVariants.{Home, Frame}
 use Rattle.thy_base.specs.Device.{Device, block_at, newest}
 use Rattle.thy_base.specs.declared.layout_version.LayoutVersion.{LayoutVersion}
 use Rattle.thy_base.specs.declared.layout_version.LayoutVersion.TheVariants.{VersionOne, VersionTwo}
-use Rattle.thy_base.specs.Geometry.{IsInRange, memory_blocks}
+use Rattle.thy_base.specs.Geometry.{memory_blocks}
 use Rattle.thy_base.specs.Places.{number_of, blocks_of_slot, place_of_slot, slot_blocks, image_blocks}
 use Rattle.thy_base.proofs.RangeLemmas.{console_below}
+use Rattle.thy_base.proofs.DeviceLemmas.{newest-empty}
 use Rattle.thy_cell.specs.BetweenCheckpoints.{FrameLoads}
 use Rattle.thy_isa.specs.OnBlocks.{state_from}
 use Rattle.thy_isa.specs.Step.{State as Plain, cpu_of}
-use Rattle.thy_record.specs.Commit.{commit_of, version_of}
+use Rattle.thy_record.specs.Commit.{version_of}
 use Rattle.thy_record.specs.Header.{header_of}
 use Rattle.thy_record.specs.Images.{memory_in, memory_numbers}
 use Rattle.thy_record.specs.Slots.{tables_in, counts_in, count_fault}
@@ -36,8 +37,7 @@ use Rattle.thy_protocol.specs.DualLayouts.{dual_layouts}
 use Rattle.thy_protocol.specs.DualParts.{parts_by}
 use Rattle.thy_protocol.proofs.DualPartsLemmas.{parts_of, no_fault, cpu_is}
 use Rattle.thy_boot.specs.Filling.{IsFilling}
-use Rattle.thy_boot.proofs.ReadLemmas.{newest-settled}
-use Rattle.thy_recover.specs.Filling.{CanStart, IsEmpty, HasTakenUp, ListsSlot, loads, next_position, page_place, with_filled, filling_dual}
+use Rattle.thy_recover.specs.Filling.{CanStart, IsEmpty, HasTakenUp, ListsSlot, loads, next_position, page_place, filling_dual}
 use Rattle.thy_recover.specs.Start.{start_blocks, no_tables, no_counts}
 use Rattle.thy_recover.proofs.CountLemmas.{fault-head, counts-begin}
 use Rattle.thy_recover.proofs.PositionLemmas.{IsPosition, IsPosition-next, position_inside, position_above, place_inside, position_again, filled_next, filled_all, AreSoundTables-dram, ListsSlot-dram, lists_filled, fills_to}
@@ -166,7 +166,7 @@ module _ (c : State) (n : Device) (e : IsEmpty c) (settled : n.queue ≡ []) whe
   loads_first =
       loads-are c n e.tables e.fresh.booting all_hold settled AreTablesOf-committed
       ∙ ap (λ (t : Tables). memory_in c.p t n.image) none_listed
-      ∙ map-alike (block_at n.image) (newest n) (memory_numbers c.p (no_tables c.p)) (λ x inside. sym (newest-settled n x settled))
+      ∙ map-alike (block_at n.image) (newest n) (memory_numbers c.p (no_tables c.p)) (λ x inside. sym (newest-empty n x settled))
 
 -- ---- all of it
 

@@ -1,6 +1,5 @@
 pub mod CountLemmas
 pub mod ListedLemmas
-pub mod BlockLemmas
 pub mod LiveLemmas
 pub mod WorkLemmas
 pub mod RecordLemmas

@@ -6,11 +6,11 @@ use Rattle.thy_base.specs.declared.block.Block.{Block}
 use Rattle.thy_base.specs.declared.config.Parameters.{Parameters}
 use Rattle.thy_base.specs.declared.place.Place.TheVariants.{AlternatePage, Frame}
 use Rattle.thy_base.specs.Device.{Device, newest}
-use Rattle.thy_base.specs.Places.{record_blocks, image_blocks, number_of}
+use Rattle.thy_base.specs.Places.{image_blocks, number_of}
+use Rattle.thy_base.proofs.BasicLemmas.{some_same}
 use Rattle.thy_dram.specs.Contents.{Contents}
 use Rattle.thy_record.specs.Slots.{tables_in}
 use Rattle.thy_record.specs.Tables.{Tables, entry_at}
-use Rattle.thy_record.proofs.SlotLemmas.{length-entries_in}
 use Rattle.thy_table.specs.Listing.{entry_at as live_at, first_from}
 use Rattle.thy_table.proofs.FirstLemmas.{first_from-first, first_from-is, none-first_from}
 use Rattle.thy_cell.specs.BetweenCheckpoints.{FrameLoads}
@@ -20,10 +20,7 @@ use Rattle.thy_control.specs.State.{State, AreSoundTables, IsSized, cell_of, rea
 use Rattle.thy_control.proofs.FrameLemmas.{LoadsFrame-frame}
 use Rattle.thy_recover.specs.Filling.{position_in, next_position, page_place, with_filled, ListsSlot}
 use Rattle.thy_recover.proofs.LiveLemmas.{live_in_tables, framed_inside}
-
--- the tables of a slot have as many entries as the geometry
-pub size_of : (p : Parameters) (slot : List Block) → length (tables_in p slot).ptt ≡ p.ptt
-size_of p slot = length-entries_in slot (8 * record_blocks p + p.btt) p.ptt
+use Rattle.thy_recover.proofs.SlotLemmas.{size_of_ptt}
 
 -- ---- positions
 
@@ -36,9 +33,6 @@ pub record IsPosition (p : Parameters) (slot : List Block) (from k : ℕ) : Type
   pub here : is_some (entry_at (tables_in p slot).ptt j) ≡ true
   pub before : (i : ℕ) → from / 64 ≤ i → i < j → is_some (entry_at (tables_in p slot).ptt i) ≡ false
 
-the_same : (a b : ℕ) → Some a ≡ Some b → a ≡ b
-the_same a b e = cc
-
 pub IsPosition-next : (p : Parameters) (slot : List Block) (from k : ℕ) → next_position p slot from ≡ Some k → IsPosition p slot from k
 IsPosition-next p slot from k h = by_first (first_from is_some (from / 64) (tables_in p slot).ptt) refl h where
   by_first : (o : Option ℕ) → first_from is_some (from / 64) (tables_in p slot).ptt ≡ o → position_in from o ≡ Some k → IsPosition p slot from k
@@ -48,8 +42,8 @@ IsPosition-next p slot from k h = by_first (first_from is_some (from / 64) (tabl
       record {
         j = j;
         above = first.above;
-        inside = omega (arith, first.inside, size_of p slot);
-        is = the_same k (max from (64 * j)) (sym h);
+        inside = omega (arith, first.inside, size_of_ptt p slot);
+        is = some_same k (max from (64 * j)) (sym h);
         here = first.here;
         before = first.before;
       }
@@ -74,7 +68,7 @@ module _ (p : Parameters) (slot : List Block) (from k : ℕ) (h : IsPosition p s
   position_again =
       let ptt : List (Option ℕ) = (tables_in p slot).ptt in
       let first : first_from is_some (k / 64) ptt ≡ Some h.j
-      = first_from-is is_some None ptt (k / 64) h.j (omega (arith, entry_is)) (omega (arith, h.inside, size_of p slot)) h.here
+      = first_from-is is_some None ptt (k / 64) h.j (omega (arith, entry_is)) (omega (arith, h.inside, size_of_ptt p slot)) h.here
       (λ i above below. absurd (omega (arith, above, below, entry_is))) in
       let largest : max k (64 * h.j) ≡ k = omega (arith, h.is) in
       ap (position_in k) first ∙ ap Some largest

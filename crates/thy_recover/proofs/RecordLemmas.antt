@@ -1,23 +1,19 @@
 -- The processor that a boot ends with can be recorded.
-use Rattle.std.proofs.Common.{◌≡◌, ℕ, ◌^◌, ◌<◌, ◌≤◌, Bool, true, false, ◌&&◌, nat_lt, nat_le, if◌then◌else◌, List, length, slice_index, refl, sym, subst, inl, inr, arith, Option, Some, None}
-use Rattle.std.proofs.lemmas.Bool.{cases_lt, le-leb, leb-true, ltb-true}
+use Rattle.std.proofs.Common.{◌≡◌, ℕ, ◌<◌, ◌≤◌, nat_lt, nat_le, List, refl, arith, Option, Some, None}
+use Rattle.std.proofs.lemmas.Bool.{leb-true, ltb-true}
 use Rattle.std.specs.Option.{option_or}
 use Rattle.thy_base.specs.declared.block.Block.{Block}
 use Rattle.thy_base.specs.declared.config.Parameters.{Parameters}
 use Rattle.thy_base.specs.declared.layout_version.LayoutVersion.{LayoutVersion}
-use Rattle.thy_base.specs.Geometry.{program_size, console_room}
-use Rattle.thy_isa.specs.declared.state.CpuState.{CpuState}
-use Rattle.thy_isa.specs.declared.state.Status.{Status}
-use Rattle.thy_isa.specs.declared.state.Status.TheVariants.{Running, Exited, Trapped}
+use Rattle.thy_base.specs.Geometry.{console_room}
 use Rattle.thy_isa.specs.OnBlocks.{state_from}
 use Rattle.thy_isa.specs.Step.{cpu_of}
-use Rattle.thy_isa.specs.Storable.{IsStatus, IsStorable}
 use Rattle.thy_record.specs.declared.bad_image.BadImage.{BadImage}
-use Rattle.thy_record.specs.declared.bad_image.BadImage.TheVariants.{Status as BadStatus, ConsoleLength}
-use Rattle.thy_record.specs.Cpu.{status_tag, status_value, is_status, record_word, cpu_of_record, IsRecordable}
+use Rattle.thy_record.specs.Cpu.{is_status, record_word, cpu_of_record, IsRecordable}
 use Rattle.thy_record.specs.Slots.{tables_in, epoch_fault, status_fault, rest_fault, slot_fault}
 use Rattle.thy_record.specs.TableFaults.{tables_fault}
-use Rattle.thy_view.specs.Origin.{Origin, IsOrigin, setting_of, at}
+use Rattle.thy_record.proofs.ImageLemmas.{status_asks}
+use Rattle.thy_view.specs.Origin.{Origin, IsOrigin, at}
 use Rattle.thy_view.specs.Safe.{ceiling}
 use Rattle.thy_view.proofs.StorableAt.{IsRecordable-at}
 
@@ -25,13 +21,6 @@ use Rattle.thy_view.proofs.StorableAt.{IsRecordable-at}
 second : (a b : Option BadImage) → option_or a b ≡ None → b ≡ None
 second None b h = h
 second (Some bad) b h = cc
-
-asks : (status below room : Bool) → (if status && below then (if room then None else Some ConsoleLength) else Some BadStatus) ≡ None
-    → (below ≡ true) × (room ≡ true)
-asks true true true h = (refl, refl)
-asks true true false h = cc
-asks true false room h = cc
-asks false below room h = cc
 
 first : (a b : Option BadImage) → option_or a b ≡ None → a ≡ None
 first None b h = refl
@@ -45,9 +34,9 @@ slot_asks version p epoch slot h =
     = first (status_fault p ceiling slot) (rest_fault version p slot)
     (second (tables_fault p (tables_in p slot)) (option_or (status_fault p ceiling slot) (rest_fault version p slot))
     (second (epoch_fault epoch slot) (option_or (tables_fault p (tables_in p slot)) (option_or (status_fault p ceiling slot) (rest_fault version p slot))) h)) in
-    let both = asks (is_status (record_word slot 36) (record_word slot 37)) (nat_lt (record_word slot 32) ceiling)
+    let passed = status_asks (is_status (record_word slot 36) (record_word slot 37)) (nat_lt (record_word slot 32) ceiling)
     (nat_le (record_word slot 34) (console_room p)) fits in
-    (ltb-true (record_word slot 32) ceiling both.0, leb-true (record_word slot 34) (console_room p) both.1)
+    (ltb-true (record_word slot 32) ceiling passed.1, leb-true (record_word slot 34) (console_room p) passed.2)
 
 -- so its processor has a count and a console that fit
 pub slot_fits-cpu : (version : LayoutVersion) (p q : Parameters) (epoch : ℕ) (slot : List Block) → slot_fault version p ceiling epoch slot ≡ None

@@ -1,5 +1,5 @@
 -- The slot in its room, and a controller that lists it.
-use Rattle.std.proofs.Common.{◌≡◌, ℕ, ◌+◌, ◌*◌, ◌/◌, ◌<◌, ◌≤◌, List, length, take, Option, Some, None, refl, sym, ◌∙◌, ap, arith}
+use Rattle.std.proofs.Common.{◌≡◌, ℕ, ◌+◌, ◌*◌, ◌/◌, ◌<◌, ◌≤◌, List, length, take, Option, None, sym, ◌∙◌, ap, arith}
 use Rattle.std.specs.Option.{option_or}
 use Rattle.std.proofs.lemmas.List.{length-map, length-take-le, get_or-take, get_or_past, ext_get_or}
 use Rattle.thy_base.specs.declared.block.Block.{Block}
@@ -8,12 +8,13 @@ use Rattle.thy_base.specs.declared.layout_version.LayoutVersion.{LayoutVersion}
 use Rattle.thy_base.specs.declared.layout_version.LayoutVersion.TheVariants.{VersionOne, VersionTwo}
 use Rattle.thy_base.specs.Device.{zero_block, block_at}
 use Rattle.thy_base.specs.Places.{record_blocks, table_blocks, blocks_of_slot, slot_blocks}
+use Rattle.thy_base.proofs.BasicLemmas.{none_of_two}
 use Rattle.thy_record.specs.Commit.{version_of}
 use Rattle.thy_record.specs.Files.{block_in, blocks_of}
 use Rattle.thy_record.specs.ImageLaws.{FaultlessTables}
 use Rattle.thy_record.specs.Slots.{tables_in, counts_in, epoch_fault, status_fault, count_fault, second_fault, rest_fault, slot_fault}
 use Rattle.thy_record.specs.TableFaults.{tables_fault}
-use Rattle.thy_record.specs.Tables.{Tables, IsTables, entry_at}
+use Rattle.thy_record.specs.Tables.{Tables, IsTables}
 use Rattle.thy_record.proofs.FileLemmas.{length-blocks_of, block_at-blocks_of, block_in-part}
 use Rattle.thy_record.proofs.SlotLemmas.{length-entries_in}
 use Rattle.thy_control.specs.CheckpointTables.{tables0}
@@ -69,10 +70,6 @@ size_of_ptt p slot = length-entries_in slot (8 * record_blocks p + p.btt) p.ptt
 
 pub size_of_btt : (p : Parameters) (slot : List Block) → length (tables_in p slot).btt ≡ p.btt
 size_of_btt p slot = length-entries_in slot (8 * record_blocks p) p.btt
-
-none_of_two : {X : Type 0} (a b : Option X) → option_or a b ≡ None → (a ≡ None) × (b ≡ None)
-none_of_two None b h = (refl, h)
-none_of_two (Some x) b h = absurd (cc)
 
 -- those of one without a fault are such that a checkpoint may have
 pub tables_fit : FaultlessTables → (version : LayoutVersion) (p : Parameters) (ceiling epoch : ℕ) (slot : List Block)

@@ -1,45 +1,35 @@
 -- The checkpoint of a start: tables that list nothing, and blocks that make its state.
-use Rattle.std.proofs.Common.{◌≡◌, ℕ, suc, ◌+◌, ◌-◌, ◌*◌, ◌%◌, ◌<◌, ◌≤◌, List, [], ◌∷◌, ◌++◌, length, map, take, drop, replicate, slice_index_or, Option, Some, None, refl, sym, ◌∙◌, ap, inl, inr, arith}
-use Rattle.std.proofs.Math.Seq.{take-append_seam, drop-append_seam}
+use Rattle.std.proofs.Common.{◌≡◌, ℕ, ◌+◌, ◌-◌, ◌*◌, ◌%◌, ◌<◌, ◌≤◌, List, ◌++◌, length, map, take, drop, replicate, Option, None, refl, sym, ◌∙◌, ap, inl, inr, arith}
 use Rattle.std.proofs.lemmas.Bool.{cases_lt}
-use Rattle.std.proofs.lemmas.List.{drop-drop, drop-replicate, take-replicate, replicate-append-replicate, take-append-drop, length-take-le, length-append, length-drop, length-replicate, get_or-replicate, get_or_past, ext_get_or}
+use Rattle.std.proofs.lemmas.List.{drop-replicate, take-replicate, replicate-append-replicate, length-append, length-replicate, get_or-replicate, ext_get_or}
 use Rattle.std.proofs.lemmas.List.FromFn.{length-map-range_with_len, get_or-map-range_with_len}
-use Rattle.thy_base.specs.declared.block.Block.{Block}
 use Rattle.thy_base.specs.declared.config.Parameters.{Parameters}
 use Rattle.thy_base.specs.declared.place.Place.TheVariants.{Home}
-use Rattle.thy_base.specs.Blocks.{block_bytes}
 use Rattle.thy_base.specs.Device.{zero_block, block_at}
 use Rattle.thy_base.specs.Geometry.{IsInRange, memory_blocks, program_size, console_room}
 use Rattle.std.specs.List.{range_with_len}
 use Rattle.thy_base.specs.LittleEndian.{number_bytes}
 use Rattle.thy_base.specs.Places.{record_blocks, table_blocks, slot_blocks}
 use Rattle.thy_base.specs.Store.{page_of}
-use Rattle.thy_base.proofs.BlockLemmas.{block_bytes-long}
+use Rattle.thy_base.proofs.BlockLemmas.{zero_block-at}
 use Rattle.thy_base.proofs.RangeLemmas.{console_below, btt_eights, ptt_eights}
 use Rattle.thy_flat.specs.Flat.{flat}
 use Rattle.thy_isa.specs.OnBlocks.{state_from}
 use Rattle.thy_isa.specs.Step.{State, cpu_of, state_with}
-use Rattle.thy_record.specs.Tables.{Lists, IsTables, entry_of, place_by_entries, place_of}
+use Rattle.thy_record.specs.Tables.{IsTables, entry_of, place_by_entries, place_of}
 use Rattle.thy_record.specs.TableBlocks.{table_block_of}
 use Rattle.thy_base.specs.Words.{block_of}
-use Rattle.thy_record.proofs.EntryLemmas.{entry_of-absent}
+use Rattle.thy_record.proofs.EntryLemmas.{entry_of-absent, lists_none}
 use Rattle.thy_record.specs.Slots.{AreCounts, byte_in, slot_block_of}
 use Rattle.thy_record.proofs.SlotLemmas.{slot_block_of-table, slot_block_of-count}
 use Rattle.thy_record.proofs.TableLemmas.{table_block_of-entries}
 use Rattle.thy_view.specs.Origin.{Origin, IsOrigin}
+use Rattle.thy_boot.proofs.StartLemmas.{flat-blocks, start_parts}
 use Rattle.thy_recover.specs.Filling.{CanStart}
 use Rattle.thy_recover.specs.Start.{start_bytes, start_block, start_blocks, start_slot, no_tables, no_counts}
 use Rattle.thy_recover.proofs.RecordLemmas.{start-recordable}
 
 -- ---- tables that list nothing
-
-lists_none : (n i k : ℕ) → Lists (replicate n None) i k → ⊥
-lists_none n i k l = elim (cases_lt i n) as (λ _. ⊥) [
-  | inl inside ↦ let both : Some k ≡ None = sym l.is ∙ get_or-replicate n i None None inside in absurd (cc)
-  | inr past ↦
-      let size : length (replicate {A = Option ℕ} n None) ≡ n = length-replicate n None in
-      let both : Some k ≡ None = sym l.is ∙ get_or_past (replicate n None) i None (omega (arith, size, past)) in absurd (cc)
-]
 
 pub IsTables-none : (p : Parameters) → IsTables p (no_tables p)
 IsTables-none p = record {
@@ -71,18 +61,10 @@ table_block-none p k r inside =
     ∙ ap (take 8) (drop-replicate (8 * k) (p.btt + p.ptt) None) ∙ take-replicate 8 (p.btt + p.ptt - 8 * k) None enough) in
     table_block_of-entries (no_tables p) k (replicate 8 None) entries
 
--- so do those of counts of 0
-pub zeros_at : (j : ℕ) → slice_index_or zero_block.0 j 0 ≡ 0
-unfolding zero_block
-zeros_at j = elim (cases_lt j 64) as (λ _. slice_index_or (replicate {A = ℕ} 64 0) j 0 ≡ 0) [
-  | inl l ↦ get_or-replicate {A = ℕ} 64 j 0 0 l
-  | inr m ↦ get_or_past {X = ℕ} (replicate {A = ℕ} 64 0) j 0 (omega (arith, length-replicate {A = ℕ} 64 0))
-]
-
 pub AreCounts-none : (p : Parameters) → AreCounts p no_counts
 AreCounts-none p = record {
-  within = λ i l. let zero = zeros_at (i % 64) in omega (arith, zero);
-  rest = λ i m l. zeros_at (i % 64);
+  within = λ i l. let zero = zero_block-at (i % 64) in omega (arith, zero);
+  rest = λ i m l. zero_block-at (i % 64);
 }
 
 -- read back they are 0
@@ -92,7 +74,7 @@ counts-none pages =
     ext_get_or 0 (map (byte_in no_counts) (range_with_len 0 pages)) (replicate pages 0) (left ∙ sym (length-replicate pages 0))
     (λ i below.
     let l : i < pages = omega (arith, left) in
-    get_or-map-range_with_len (byte_in no_counts) 0 pages i i 0 l (omega arith) ∙ zeros_at (i % 64) ∙ sym (get_or-replicate {A = ℕ} pages i 0 0 l))
+    get_or-map-range_with_len (byte_in no_counts) 0 pages i i 0 l (omega arith) ∙ zero_block-at (i % 64) ∙ sym (get_or-replicate {A = ℕ} pages i 0 0 l))
 
 zero_words : block_of (replicate 8 0) ≡ zero_block
 unfolding block_of number_bytes zero_block
@@ -113,29 +95,6 @@ start_slot-zeros p s k r past inside = elim (cases_lt (k - record_blocks p) (tab
 
 -- ---- the state
 
-same_block : (a : Block) (bytes : List ℕ) → 64 ≤ length bytes → a.0 ≡ take 64 bytes → block_bytes a ≡ take 64 bytes
-same_block a bytes l own = block_bytes-long a (ap length own ∙ length-take-le 64 bytes l) ∙ own
-
-abbrev block_from : List ℕ → ℕ → Block
-block_from bytes i = record { 0 = take 64 (drop (64 * i) bytes) }
-
-next_block : (bytes : List ℕ) (i : ℕ) → block_from bytes (suc i) ≡ block_from (drop 64 bytes) i
-next_block bytes i =
-    let e : 64 + 64 * i ≡ 64 * suc i = omega arith in
-    ap (λ (bs : List ℕ). block_from bs 0) (ap (λ k. drop k bytes) (sym e) ∙ sym (drop-drop (64 * i) 64 bytes))
-
-flat-blocks : (blocks : List Block) (bytes : List ℕ) → length bytes ≡ 64 * length blocks
-    → ((i : ℕ) → i < length blocks → block_at blocks i ≡ block_from bytes i) → flat blocks ≡ bytes
-unfolding flat
-flat-blocks [] [] l each = refl
-flat-blocks [] (byte ∷ bytes) l each = absurd (omega arith)
-flat-blocks (b ∷ blocks) bytes l each =
-    let rest : flat blocks ≡ drop 64 bytes
-    = flat-blocks blocks (drop 64 bytes) (omega (arith, length-drop 64 bytes)) (λ i less. each (suc i) (omega arith) ∙ next_block bytes i) in
-    ap (λ xs. xs ++ flat blocks) (same_block b bytes (omega arith) (ap (λ (x : Block). x.0) (each 0 (omega arith))))
-    ∙ ap (λ xs. take 64 bytes ++ xs) rest
-    ∙ take-append-drop 64 bytes
-
 length-start_bytes : (p : Parameters) (s : State) → CanStart p s → length (start_bytes p s) ≡ 64 * memory_blocks p
 length-start_bytes p s h =
     let room = h.start.console in
@@ -148,15 +107,6 @@ length-start_bytes p s h =
       length-append s.console zeros,
       length-replicate {A = ℕ} (console_room p - length s.console) 0,
     )
-
-start_parts : (s : State) (size : ℕ) (zeros : List ℕ) → length s.memory ≡ size
-    → state_with (cpu_of s) (take size (s.memory ++ (s.console ++ zeros))) (take (length s.console) (drop size (s.memory ++ (s.console ++ zeros)))) ≡ s
-start_parts s size zeros e =
-    let first = λ (n : ℕ). state_with (cpu_of s) (take n (s.memory ++ (s.console ++ zeros))) (take (length s.console) (drop n (s.memory ++ (s.console ++ zeros)))) in
-    ap first (sym e)
-    ∙ ap (λ m. state_with (cpu_of s) m (take (length s.console) (drop (length s.memory) (s.memory ++ (s.console ++ zeros))))) (take-append_seam s.memory (s.console ++ zeros))
-    ∙ ap (λ bs. state_with (cpu_of s) s.memory (take (length s.console) bs)) (drop-append_seam s.memory (s.console ++ zeros))
-    ∙ ap (state_with (cpu_of s) s.memory) (take-append_seam s.console zeros)
 
 pub length-start_blocks : (p : Parameters) (s : State) → length (start_blocks p s) ≡ memory_blocks p
 length-start_blocks p s = length-map-range_with_len (start_block p s) 0 (memory_blocks p)

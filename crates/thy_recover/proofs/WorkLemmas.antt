@@ -7,25 +7,24 @@ use Rattle.thy_base.specs.declared.block.Block.{Block}
 use Rattle.thy_base.specs.declared.place.Place.{Place}
 use Rattle.thy_base.specs.Device.{Device, block_at, newest, zero_block}
 use Rattle.thy_base.specs.Geometry.{memory_blocks}
-use Rattle.thy_base.specs.Places.{in_dram, number_of}
+use Rattle.thy_base.specs.Places.{number_of}
 use Rattle.thy_base.specs.Store.{page_of}
+use Rattle.thy_base.proofs.DeviceLemmas.{newest-empty}
 use Rattle.thy_record.specs.Images.{memory_in, memory_numbers}
 use Rattle.thy_record.specs.Tables.{place_of as place_in}
 use Rattle.thy_table.specs.Listing.{place_of}
 use Rattle.thy_table.specs.declared.block_entry.BttEntry.{BttEntry}
 use Rattle.thy_table.specs.declared.block_entry.Version.{Version}
-use Rattle.thy_table.specs.declared.block_entry.Version.TheVariants.{Out, Alt}
 use Rattle.thy_table.specs.declared.block_entry.Pending.{Pending}
 use Rattle.thy_table.specs.declared.block_entry.Pending.TheVariants.{Settled}
 use Rattle.thy_table.specs.declared.block_entry.Working.{Working}
 use Rattle.thy_table.specs.declared.block_entry.Working.TheVariants.{NoWork}
 use Rattle.thy_table.specs.declared.page_entry.PttEntry.{PttEntry}
 use Rattle.thy_table.specs.declared.page_entry.Site.{Site}
-use Rattle.thy_table.specs.declared.page_entry.Site.TheVariants.{AtHome, AtAlternate}
 use Rattle.thy_table.specs.BlockEntry.{new_entry}
 use Rattle.thy_table.specs.PageEntry.{no_page, is_framed}
 use Rattle.thy_cell.specs.declared.cell.Cell.{Cell}
-use Rattle.thy_cell.specs.Cells.{Seat, seat_of, frame_at, placed, pending_at, worked_at, penult, last, work}
+use Rattle.thy_cell.specs.Cells.{seat_of, frame_at, placed, pending_at, worked_at, penult, last, work}
 use Rattle.thy_cell.specs.Sound.{Holds}
 use Rattle.thy_control.specs.Find.{entry_for}
 use Rattle.thy_control.specs.Keys.{block_key, page_key}
@@ -34,7 +33,7 @@ use Rattle.thy_control.specs.Boot.{IsBooting}
 use Rattle.thy_control.specs.CheckpointTables.{tables0, CommittedTables}
 use Rattle.thy_control.specs.Stays.{HoldAll}
 use Rattle.thy_control.proofs.FindLemmas.{found_entry, entry_for-some, entry_for-none}
-use Rattle.thy_boot.proofs.ReadLemmas.{newest-settled}
+use Rattle.thy_control.proofs.GuardLemmas.{placed-in_nvm}
 use Rattle.thy_recover.specs.Filling.{loads}
 
 -- entries with nothing under way
@@ -82,20 +81,14 @@ work_is_penult r x e p h =
     ∙ by_frame r (is_framed x.page) (frame_at (seat_of x)) (last x) (λ f. h.clean f p.dirty p.fresh)
     ∙ ap r (last_is_penult x e p)
 
--- and that is in the NVM
-placed_in_nvm : (v : Version) (s : Site) (x : Seat) → in_dram (placed v s x) ≡ false
-placed_in_nvm Alt s x = refl
-placed_in_nvm Out AtAlternate x = refl
-placed_in_nvm Out AtHome x = refl
-
 module _ (c : State) (n : Device) (sound : AreSoundTables c) (boot : IsBooting c) (holds : HoldAll c n) (settled : n.queue ≡ []) (law : CommittedTables) where
   work_stands : (b : ℕ) → b < memory_blocks c.p → work_of c n b ≡ block_at n.image (number_of c.p (place_in (tables0 c) b))
   work_stands b l =
       let x : Cell = cell_of c b in
       let at : Place = penult x in
       work_is_penult (reads c n) x (still_block c boot b) (still_page c boot (page_of b)) (holds b l)
-      ∙ ap (λ (z : Bool). if z then block_at c.dram.blocks (number_of c.p at) else newest n (number_of c.p at)) (placed_in_nvm x.entry.v0 x.page.place (seat_of x))
-      ∙ newest-settled n (number_of c.p at) settled
+      ∙ ap (λ (z : Bool). if z then block_at c.dram.blocks (number_of c.p at) else newest n (number_of c.p at)) (placed-in_nvm x.entry.v0 x.page.place (seat_of x))
+      ∙ newest-empty n (number_of c.p at) settled
       ∙ ap (λ (y : Place). block_at n.image (number_of c.p y)) (sym ((law c sound).same_place b l))
 
   -- all of memory

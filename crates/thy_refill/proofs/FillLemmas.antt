@@ -8,6 +8,7 @@ use Rattle.thy_base.specs.declared.config.Parameters.{Parameters}
 use Rattle.thy_base.specs.Device.{Device, zero_block, block_at, newest}
 use Rattle.thy_base.specs.Geometry.{memory_blocks}
 use Rattle.thy_base.specs.Places.{record_blocks}
+use Rattle.thy_base.proofs.DeviceLemmas.{newest-empty}
 use Rattle.thy_dram.specs.Contents.{written}
 use Rattle.thy_record.specs.Commit.{epoch_of}
 use Rattle.thy_record.specs.Tables.{entry_at as listed_at, Lists, entry_of}
@@ -17,7 +18,6 @@ use Rattle.thy_record.proofs.IssuingLemmas.{half}
 use Rattle.thy_record.proofs.SlotLemmas.{length-entries_in}
 use Rattle.thy_protocol.specs.Layout.{slot_in, memory_in}
 use Rattle.thy_table.proofs.FirstLemmas.{first_from-first, first_from-is, none-first_from}
-use Rattle.thy_boot.proofs.ReadLemmas.{newest-settled}
 use Rattle.thy_view.specs.Safe.{ceiling}
 use Rattle.thy_journal_image.specs.Places.{image_blocks, home_place, journal_place, place_by, place_of}
 use Rattle.thy_journal_image.specs.Slots.{table_in}
@@ -141,10 +141,10 @@ module _ (s : State) (n : Device) (slot : List Block) (listed : HasListed slot s
 
     -- a block loads as it is at its place by the slot's table
     work_stands : (b : ℕ) (o : Option ℕ) → entry_of (table_of s) b ≡ o → work_by s n b o ≡ block_at n.image (place_by s.p named b o)
-    work_stands b None is = newest-settled n (home_place s.p b) settled
+    work_stands b None is = newest-empty n (home_place s.p b) settled
     work_stands b (Some i) is =
         let lists : Lists (table_of s) i b = entry_of-Some (table_of s) b i is in
-        whole.each i b (entry_inside i b lists) lists ∙ newest-settled n (journal_place s.p named i) settled
+        whole.each i b (entry_inside i b lists) lists ∙ newest-empty n (journal_place s.p named i) settled
 
     work_placed : (b : ℕ) → work_of s n b ≡ block_at n.image (place_of s.p named (table_in s.p (slot_in (journal_layouts s.p ceiling) n.image)) b)
     work_placed b =

@@ -9,7 +9,7 @@ use Rattle.thy_isa.specs.declared.state.CpuState.{CpuState}
 use Rattle.thy_isa.specs.OnBlocks.{state_from}
 use Rattle.thy_isa.specs.Step.{State as Plain, cpu_of}
 use Rattle.thy_record.specs.Cpu.{cpu_of_record}
-use Rattle.thy_record.proofs.EntryLemmas.{entry_of-absent}
+use Rattle.thy_record.proofs.EntryLemmas.{entry_of-absent, lists_none}
 use Rattle.thy_record.proofs.ImageLemmas.{map-alike}
 use Rattle.thy_protocol.specs.Issuing.{ArePartsOf, slot_of}
 use Rattle.thy_protocol.specs.Layout.{fault_of}
@@ -25,7 +25,6 @@ use Rattle.thy_journal_image.specs.Slots.{IsTable}
 use Rattle.thy_journal_image.specs.Layout.{journal_layouts}
 use Rattle.thy_journal_image.specs.CheckpointParts.{parts_by}
 use Rattle.thy_journal_image.proofs.HeadLemmas.{header_fault-header_of}
-use Rattle.thy_journal_image.proofs.SlotLemmas.{lists_none}
 use Rattle.thy_journal_image.proofs.PartsLemmas.{length-memory_places, memory_place, parts_of, no_fault, back}
 use Rattle.thy_log.specs.Holding.{works}
 use Rattle.thy_log.specs.Keys.{block_key}

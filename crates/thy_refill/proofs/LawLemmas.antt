@@ -1,10 +1,7 @@
 -- What holds of filling the log.
-use Rattle.std.proofs.Common.{◌≡◌, ◌%◌, List, refl, ◌∙◌, ap, inr, arith}
-use Rattle.thy_base.specs.declared.block.Block.{Block}
-use Rattle.thy_base.specs.declared.config.Parameters.{Parameters}
+use Rattle.std.proofs.Common.{◌%◌, refl, ◌∙◌, ap, inr, arith}
 use Rattle.thy_base.specs.Device.{newest}
-use Rattle.thy_isa.specs.declared.state.CpuState.{CpuState}
-use Rattle.thy_isa.specs.OnBlocks.{state_from}
+use Rattle.thy_isa.proofs.BlockLaws.{count-state_from}
 use Rattle.thy_record.specs.Commit.{epoch_of}
 use Rattle.thy_record.specs.Cpu.{cpu_of_record}
 use Rattle.thy_record.proofs.IssuingLemmas.{half}
@@ -18,18 +15,13 @@ use Rattle.thy_refill.specs.Filling.{filling_journal, slot_named}
 use Rattle.thy_refill.proofs.FillLemmas.{next_above, next_found, filled_all, listed_put, filled_put, works_are_memory}
 use Rattle.thy_refill.proofs.FirstLemmas.{start_parts, start_faultless, start_state, start_some, start_whole, start_once, fresh_loads}
 
--- a state has retired what its processor has
-count_of : (p : Parameters) (cpu : CpuState) (memory : List Block) → (state_from p cpu memory).count ≡ cpu.count
-unfolding state_from
-count_of p cpu memory = refl
-
 pub log_is_filled : IsFilling filling_journal
 log_is_filled = record {
   some_slot = λ p commit. omega arith;
   most_room = λ p commit. omega arith;
   head_inside = λ p. omega arith;
   slot_inside = λ p header commit fits also. slot_fits p (epoch_of commit % 2) (half (epoch_of commit));
-  counts = λ p slot memory. count_of p (cpu_of_record p slot) memory;
+  counts = λ p slot memory. count-state_from p (cpu_of_record p slot) memory;
   early_none = λ p commit. refl;
   none_taken = λ s commit fresh. fresh;
   begins = λ s n commit slot lists. record { each = λ i b low listed. absurd (omega (arith, low)) };

@@ -1,5 +1,5 @@
 -- The table of a slot is listed, entry by entry.
-use Rattle.std.proofs.Common.{◌≡◌, ℕ, ◌+◌, ◌<◌, ◌≤◌, true, false, List, length, Option, Some, None, option_map, refl, sym, ◌∙◌, ap, subst, inl, inr, arith}
+use Rattle.std.proofs.Common.{◌≡◌, ℕ, ◌+◌, ◌<◌, ◌≤◌, false, List, length, Option, Some, None, option_map, refl, sym, ◌∙◌, ap, subst, inl, inr, arith}
 use Rattle.std.proofs.lemmas.Bool.{cases_Bool, cases_lt, cases_eq}
 use Rattle.std.proofs.lemmas.List.{ext_get_or}
 use Rattle.thy_base.specs.declared.block.Block.{Block}
@@ -7,14 +7,12 @@ use Rattle.thy_base.specs.declared.config.Parameters.{Parameters}
 use Rattle.thy_base.specs.Geometry.{memory_blocks}
 use Rattle.thy_record.specs.Tables.{entry_at as listed_at}
 use Rattle.thy_table.specs.Listing.{entry_at, lists, place_of}
-use Rattle.thy_table.proofs.IndexLemmas.{lists-some}
 use Rattle.thy_table.proofs.ListingLaws.{place_of-none, entry_at-with_same, entry_at-with_other}
 use Rattle.thy_journal_image.specs.Slots.{IsTable, table_in}
-use Rattle.thy_log.specs.declared.entry.Listed.{Listed}
 use Rattle.thy_log.specs.Keys.{block_key}
 use Rattle.thy_log.specs.State.{State, IsSoundState, table_of}
 use Rattle.thy_log.specs.Stores.{with_listing_at}
-use Rattle.thy_log.proofs.TableLemmas.{length-table_of, listed_at-table_of}
+use Rattle.thy_log.proofs.TableLemmas.{length-table_of, listed_at-table_of, key_of}
 use Rattle.thy_refill.specs.Filling.{IsFresh}
 use Rattle.thy_refill.specs.Listed.{ListsAll, ListsUpTo}
 use Rattle.thy_refill.proofs.FillLemmas.{length-table_in}
@@ -48,9 +46,6 @@ lists_on i k slot old s t h g = record {
 }
 
 -- ---- one entry
-
-key_of : (o : Option Listed) (b : ℕ) → lists block_key b o ≡ true → option_map block_key o ≡ Some b
-key_of o b h = let is = lists-some block_key b o h in ap (option_map block_key) is.1 ∙ ap Some is.2
 
 -- what the slot lists at an entry no entry lists yet
 pub not_listed : (i b : ℕ) (slot : List Block) (s : State) → IsTable s.p (table_in s.p slot) → ListsUpTo i slot s s

@@ -7,10 +7,10 @@ use Rattle.thy_base.specs.Geometry.{memory_blocks}
 use Rattle.thy_base.specs.Store.{page_of}
 use Rattle.thy_record.proofs.ImageLemmas.{map-alike}
 use Rattle.thy_protocol.specs.Layout.{slot_in, memory_in}
-use Rattle.thy_protocol.proofs.IssuingLemmas.{row_of}
+use Rattle.thy_base.proofs.BasicLemmas.{Contains-range}
 use Rattle.thy_table.specs.Listing.{lists}
 use Rattle.thy_table.proofs.ListingLaws.{place_of-none}
-use Rattle.thy_boot.proofs.ReadLemmas.{newest-settled}
+use Rattle.thy_base.proofs.DeviceLemmas.{newest-empty}
 use Rattle.thy_view.specs.Safe.{ceiling}
 use Rattle.thy_shadow_image.specs.Places.{pool_place, pool_page, place_of}
 use Rattle.thy_shadow_image.specs.Slots.{table_in}
@@ -28,7 +28,7 @@ map_twice f g (x ∷ xs) = ap (λ (r : List Block). f (g x) ∷ r) (map_twice f 
 
 -- a block of memory has a number below memory's
 pub below : (n b : ℕ) → Contains (range_with_len 0 n) b → b < n
-below n b inside = let of = row_of 0 n b inside in let l = of.1 in let is = of.2 in omega (arith, l, is)
+below n b inside = let of = Contains-range 0 n b inside in let l = of.1 in let is = of.2 in omega (arith, l, is)
 
 pub unframed_none : (s : State) (x : ℕ) → IsUnframed s → frame_of s x ≡ None
 unframed_none s x h = place_of-none page_key s.frames x (λ j. ap (lists page_key x) (h.free j))
@@ -55,5 +55,5 @@ pub works_are_memory : (s : State) (n : Device) (slot : List Block) → HasListe
     → slot_in (shadow_layouts s.p ceiling) n.image ≡ slot → works s n ≡ memory_in (shadow_layouts s.p ceiling) n.image
 works_are_memory s n slot h settled is =
     works_stand s n h.unframed
-    ∙ map-alike (newest n) (block_at n.image) (memory_places s.p (committed_table s)) (λ x inside. newest-settled n x settled)
+    ∙ map-alike (newest n) (block_at n.image) (memory_places s.p (committed_table s)) (λ x inside. newest-empty n x settled)
     ∙ ap (λ (table : List (Option ℕ)). map (block_at n.image) (memory_places s.p table)) (h.table ∙ ap (table_in s.p) (sym is))

@@ -1,6 +1,5 @@
 -- What a power cut leaves fits the marks that stood, along the turns that it keeps.
-use Rattle.std.proofs.Common.{◌≡◌, ◌⊎◌, ℕ, ◌-◌, ◌≤◌, Bool, true, false, List, [], Option, Some, None, if◌then◌else◌, refl, sym, ◌∙◌, ap, subst, inl, inr, arith}
-use Rattle.thy_base.specs.declared.block.Block.{Block}
+use Rattle.std.proofs.Common.{◌≡◌, ◌⊎◌, ℕ, ◌-◌, ◌≤◌, Bool, List, Option, Some, None, if◌then◌else◌, refl, sym, ◌∙◌, ap, subst, inl, inr, arith}
 use Rattle.thy_base.specs.declared.mark.Mark.{Mark}
 use Rattle.thy_base.specs.Device.{Device}
 use Rattle.thy_base.specs.Marks.{mark}
@@ -10,7 +9,7 @@ use Rattle.thy_view.specs.declared.view.Phase.{Phase}
 use Rattle.thy_view.specs.declared.view.Phase.TheVariants.{Boot as BootPhase, Run, Halt}
 use Rattle.thy_view.specs.declared.view.View.{View}
 use Rattle.thy_view.specs.Booting.{view_of_image}
-use Rattle.thy_view.specs.Origin.{Origin, at}
+use Rattle.thy_view.specs.Origin.{Origin}
 use Rattle.thy_view.specs.Safe.{ceiling, Safe, IsOneOf}
 use Rattle.thy_view.specs.Told.{told, AgreeBelow, count_of, reach}
 use Rattle.thy_view.specs.Views.{doubt_of}
@@ -18,7 +17,7 @@ use Rattle.thy_view.proofs.ReachLaws.{reach-count, reach-boot}
 use Rattle.thy_view.proofs.TurnLaws.{AgreeBelow-less, at-agrees}
 use Rattle.thy_run.specs.Laws.{MayStand, IsSafe, course_of}
 use Rattle.thy_run.proofs.CoverLaws.{doubt_sealed, Covers-sealed, Covers-fits}
-use Rattle.thy_run.proofs.Fitting.{IsEither, Rises, Loading, BootFits, Follows, RunFits, FitsIn, Fits, Covers}
+use Rattle.thy_run.proofs.Fitting.{IsEither, Rises, Follows, RunFits, FitsIn, Fits}
 use Rattle.thy_run.proofs.ImageLaws.{IsFound}
 use Rattle.thy_run.proofs.Leading.{LeadsTo, LeadsIn, Leads, start_leads, state_there, leads_told, turns_of-sealed, either_leads}
 use Rattle.thy_run.proofs.RetellLaws.{kept_within}

@@ -103,9 +103,6 @@ pub turns_of-sealed : (m : Marks) (epoch count : ℕ) → m.sealed ≡ Some (mar
 turns_of-sealed m epoch count sealed =
     ap (λ b. if b then m.sealed_turns else m.kept_turns) (ap (λ (s : Option Mark). is_mark s epoch count) sealed ∙ same_mark epoch count)
 
-pub turns_of-kept : (m : Marks) (epoch count : ℕ) → m.sealed ≡ None → turns_of m epoch count ≡ m.kept_turns
-turns_of-kept m epoch count none = ap (λ (s : Option Mark). if is_mark s epoch count then m.sealed_turns else m.kept_turns) none
-
 is_mark-true : (s : Option Mark) (epoch count : ℕ) → is_mark s epoch count ≡ true → s ≡ Some (mark epoch count)
 is_mark-true None epoch count is = absurd (cc)
 is_mark-true (Some k) epoch count is =

@@ -97,9 +97,6 @@ delivered_all failed text x z faults took = record {
 module _ {M : Type 0} (K : KindOf M) (plan : Plan) (fitted : Device) (p q : Progress M) (n m : Device) (k : ℕ) (turns after : List ℕ) (bytes : List ℕ) (terminal_failed report_failed : Bool) (t0 t1 t2 r0 r1 r2 : Stream)
     (running : Running K plan fitted p n k turns t0 t1 r0 r1) (few : k < plan.geometry.limit) (sent : Sent terminal_failed t1 t2 bytes)
     (lines : Sends (report_of plan.digest (take (length p.events) q.events)) (report_of plan.digest q.events) report_failed r1 r2) where
-  abbrev told_progress : Progress M
-  told_progress = record q { terminal_failed = terminal_failed; report_failed = report_failed }
-
   ran_on : {r : Stepped} {fell : Bool} → IsDone K plan p q n m k turns after r fell bytes → Ran K (origin_of plan) (given_of plan fitted) (k + 1) (world_at q m (k + 1) after)
   ran_on d =
       let e : suc k ≡ k + 1 = omega arith in
@@ -333,7 +330,3 @@ module _ {M : Type 0} (K : KindOf M) (laws : IsLawful K) (plan : Plan) (fitted :
   RunEnds-uncut on_terminal on_report lines =
       let broken = broken_cut K laws plan p q n m k turns r None bytes awaits.noted q m refl awaits.due refl refl in
       broken_stops K plan fitted p q n m k turns turns bytes terminal_failed report_failed t0 t1 t2 r0 r1 r2 running few sent lines Memory broken.0 broken.1 on_terminal on_report
-
-  -- there are no fewer events than before
-  pub told_awaiting : length p.events ≤ length q.events
-  told_awaiting = told_more K plan p q n m k turns r bytes Cuts awaits

@@ -13,7 +13,7 @@ use Rattle.thy_view.specs.Origin.{Origin, at}
 use Rattle.thy_view.specs.Pace.{Strides as KeepsIdle}
 use Rattle.thy_view.specs.Views.{is_boot, loads as is_loading, halts}
 use Rattle.thy_run.specs.Strides.{Epoch, first_epoch, epoch_after, AllStride, IsStriding, RunStrides}
-use Rattle.thy_run.specs.Unfinished.{TellingFailed, AtStop, Stopped}
+use Rattle.thy_run.specs.Unfinished.{TellingFailed, AtStop}
 use Rattle.thy_run.specs.World.{World, Given, line, seen, did_told, reload_told, end_told, events_of, TakesStep, is_due, IsCutOff, tear, Ran}
 use Rattle.thy_run.specs.declared.ending.Stop.{Stop}
 use Rattle.thy_run.specs.declared.ending.Stop.TheVariants.{Ended as EndedStop, Nvm, Memory, Terminal, Report, Limit}

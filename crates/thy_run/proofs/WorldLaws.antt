@@ -248,9 +248,6 @@ IsSafe-cut K o m pick old new cut safe = λ h crash.
 
 module _ {M : Type 0} (K : KindOf M) (o : Origin) (x next : World M) (h : Coheres K o x) (late : x.fresh ≡ false) (going : is_halt (seen K o x).phase ≡ false)
     (safe : Safe K.decode (line o x) (seen K o x).done (doubt_of (seen K o x)) x.device) (pick : ℕ) (cut : IsCutOff K o pick x next) where
-  cut_event : List Event
-  cut_event = Cut (x.passed + 1) x.cycles ∷ []
-
   -- what the image that was left decodes to
   abbrev left_image : Decoded
   left_image = K.decode o.geometry ceiling next.device.image

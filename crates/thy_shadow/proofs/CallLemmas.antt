@@ -1,5 +1,5 @@
 -- What the calls make of shadow paging, put together from what its parts say.
-use Rattle.std.proofs.Common.{◌≡◌, ℕ, ◌<◌, Bool, true, false, List, suc, [], ◌∷◌, length, Result, Ok, Err, IfOk, OnOk, OnErr, refl, sym, ◌∙◌, ap, subst, arith}
+use Rattle.std.proofs.Common.{◌≡◌, ℕ, ◌<◌, Bool, true, false, length, Result, Ok, Err, IfOk, OnOk, OnErr, refl, sym, ◌∙◌, ap, subst, arith}
 use Rattle.std.proofs.lemmas.List.FromFn.{length-map-range_with_len, get_or-map-range_with_len}
 use Rattle.thy_base.specs.declared.block.Block.{Block}
 use Rattle.thy_base.specs.declared.config.Parameters.{Parameters}
@@ -8,7 +8,7 @@ use Rattle.thy_base.specs.Device.{Device, HasFailed, IsFramed, block_at, zero_bl
 use Rattle.thy_base.specs.Geometry.{memory_blocks}
 use Rattle.thy_base.specs.Places.{dram_blocks}
 use Rattle.thy_dram.specs.Contents.{Contents, lost}
-use Rattle.thy_dram.specs.Draws.{blocks_over, after_block}
+use Rattle.thy_dram.proofs.DrawLemmas.{length-over}
 use Rattle.thy_isa.specs.Step.{state_of}
 use Rattle.thy_record.specs.declared.engine_step.EngineStep.{EngineStep}
 use Rattle.thy_record.specs.declared.start.Start.{Start}
@@ -219,10 +219,6 @@ takes_boot_step start s n (Err x) t d new answer took = record {
 }
 
 -- ---- a loss of power
-
-length-over : (seed : ℕ) (xs : List Block) → length (blocks_over seed xs) ≡ length xs
-length-over seed [] = refl
-length-over seed (x ∷ xs) = ap suc (length-over (after_block seed) xs)
 
 -- what is left of a DRAM of its size is one with nothing queued
 pub IsDramOf-lost : (p : Parameters) (l : State) (pick : ℕ) (d : Contents) → IsSoundState l

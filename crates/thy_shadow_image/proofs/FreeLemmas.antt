@@ -5,11 +5,11 @@ use Rattle.thy_base.specs.declared.block.Block.{Block}
 use Rattle.thy_base.specs.declared.config.Parameters.{Parameters}
 use Rattle.thy_base.specs.Device.{block_at}
 use Rattle.thy_base.specs.Store.{page_of}
+use Rattle.thy_base.proofs.BasicLemmas.{not_in_none, not_first, Contains-range}
 use Rattle.thy_record.specs.Commit.{is_zero, epoch_of}
 use Rattle.thy_record.specs.Tables.{Lists}
 use Rattle.thy_record.proofs.IssuingLemmas.{half}
 use Rattle.thy_protocol.specs.Layout.{Layout, slot_places, memory_places as places_by, slot_in, looked_by, parts_of}
-use Rattle.thy_protocol.proofs.IssuingLemmas.{row_of}
 use Rattle.thy_protocol.proofs.LayoutLemmas.{looked_nothing, looked_parts}
 use Rattle.thy_shadow_image.specs.Places.{slot_blocks, slot_place, pool_place}
 use Rattle.thy_shadow_image.specs.Slots.{IsMap}
@@ -59,13 +59,6 @@ free_of_memory p epoch table (PoolBlock q c) h there free inside =
     let same : page.0 ≡ q = same_page p page.0 q (of.0 % 64) c small there.1 (sym page.2 ∙ of.2) in
     free (page_of of.0) (subst (Lists table (page_of of.0)) same page.1)
 
-not_first : (y x : ℕ) (xs : List ℕ) → x ≢ y → Contains (x ∷ xs) y → Contains xs y
-not_first y x xs other (zero, l, is) = absurd (other is)
-not_first y x xs other (suc k, l, is) = (k, omega arith, is)
-
-not_in_none : (y : ℕ) → Contains [] y → ⊥
-not_in_none y (k, l, is) = absurd (omega arith)
-
 pub nothing_looked : (p : Parameters) (ceiling : ℕ) (image : List Block) (x : ℕ) → is_zero (block_at image 1) ≡ true → x ≢ 1
     → Contains (1 ∷ looked_by (shadow_layouts p ceiling) image) x → ⊥
 nothing_looked p ceiling image x z other inside =
@@ -87,7 +80,7 @@ module _ (p : Parameters) (ceiling : ℕ) (image : List Block) (epoch : ℕ) (ta
 
   not_in_slot : Contains (slot_places l (block_at image 1)) (target_place p x) → ⊥
   not_in_slot inside =
-      let of = row_of (slot_place p (epoch_of (block_at image 1) % 2)) (slot_blocks p) (target_place p x) inside in
+      let of = Contains-range (slot_place p (epoch_of (block_at image 1) % 2)) (slot_blocks p) (target_place p x) inside in
       free_of_slot p epoch table x there free of.0 of.1 (sym (ap (λ (e : ℕ). slot_place p (e % 2) + of.0) told.of_epoch) ∙ of.2)
 
   not_in_memory : Contains (places_by l (block_at image 1) (slot_in l image)) (target_place p x) → ⊥

@@ -9,16 +9,15 @@ use Rattle.thy_base.specs.declared.config.Parameters.{Parameters}
 use Rattle.thy_base.specs.Device.{Device, block_at, newest, written_to}
 use Rattle.thy_base.specs.Geometry.{IsInRange, memory_blocks}
 use Rattle.thy_base.specs.Store.{page_of}
+use Rattle.thy_base.proofs.BasicLemmas.{all_none}
 use Rattle.thy_isa.specs.declared.state.CpuState.{CpuState}
 use Rattle.thy_isa.specs.OnBlocks.{state_from}
-use Rattle.thy_record.specs.declared.bad_image.BadImage.{BadImage}
 use Rattle.thy_record.specs.Commit.{commit_of, epoch_of}
 use Rattle.thy_record.proofs.ReadBackLemmas.{epoch_of-commit_of, is_zero-commit_of}
 use Rattle.thy_record.specs.Cpu.{IsRecordable, cpu_of_record}
 use Rattle.thy_record.specs.Decoded.{At}
 use Rattle.thy_record.specs.Tables.{Lists}
 use Rattle.thy_record.proofs.IssuingLemmas.{half}
-use Rattle.thy_record.proofs.TableFaultLemmas.{both_none}
 use Rattle.thy_crash.specs.Saved.{next_image}
 use Rattle.thy_crash.proofs.SavedLemmas.{next_image-commit}
 use Rattle.thy_protocol.specs.Issuing.{slot_of, ArePlaced, ArePartsOf, IsCheckpoint}
@@ -120,9 +119,6 @@ slot_grows p old new cpu table epoch memory k h l is = record {
 }
 
 -- ---- the whole checkpoint
-
-all_none : (a b c : Option BadImage) → a ≡ None → b ≡ None → c ≡ None → option_or a (option_or b c) ≡ None
-all_none a b c h k l = both_none a (option_or b c) h (both_none b c k l)
 
 module _ (p : Parameters) (ceiling : ℕ) (cpu : CpuState) (table : List (Option ℕ)) (epoch : ℕ) (range : IsInRange p)
     (recordable : IsRecordable p ceiling cpu) (most : ceiling ≤ 2 ^ 64) (below : epoch < ceiling) (whole : IsMap p table) where

@@ -1,10 +1,10 @@
 -- What every item leaves of pool, engine and NVM.
-use Rattle.std.proofs.Common.{◌≡◌, ℕ, ◌+◌, ◌<◌, nat_lt, Bool, true, false, if◌then◌else◌, length, refl, sym, ◌∙◌, ap, arith}
+use Rattle.std.proofs.Common.{◌≡◌, ℕ, ◌+◌, ◌<◌, nat_lt, Bool, true, false, if◌then◌else◌, refl, sym, ◌∙◌, ap, arith}
 use Rattle.std.proofs.lemmas.Bool.{ltb-true}
 use Rattle.thy_base.specs.declared.config.Parameters.{Parameters}
 use Rattle.thy_base.specs.Device.{Device}
-use Rattle.thy_base.proofs.DeviceLemmas.{length-written_to, length-settled, length-drained}
-use Rattle.thy_view.specs.Action.{Action, Rest, ReadAt, WriteAt, Barrier, Drain, after}
+use Rattle.thy_view.specs.Action.{after}
+use Rattle.thy_view.proofs.ActionLemmas.{length-after}
 use Rattle.thy_view.specs.Origin.{Origin}
 use Rattle.thy_shadow_image.specs.Places.{slot_blocks, image_blocks}
 use Rattle.thy_pool.specs.declared.stage.PoolStage.TheVariants.{Slot, Settle}
@@ -55,15 +55,6 @@ next_inside p SettleItem j is = cc
 next_inside p CommitItem j is = cc
 next_inside p ConfirmItem j is = cc
 
--- ---- the NVM
-
-pub length_after : (a : Action) (n : Device) → length (after a n).image ≡ length n.image
-length_after Rest n = refl
-length_after (ReadAt place) n = refl
-length_after (WriteAt place block) n = length-written_to n place block
-length_after Barrier n = length-settled n
-length_after Drain n = length-drained n
-
 -- ---- all of it
 
 pub held_after : (o : Origin) (e : Progress) (s : State) (n : Device) (i : Item) → IsHeld o e s n
@@ -71,7 +62,7 @@ pub held_after : (o : Origin) (e : Progress) (s : State) (n : Device) (i : Item)
 held_after o e s n i h = record {
   geometry = p_after i s ∙ h.geometry;
   state = state_sound i s h.state;
-  sized = record { nvm = length_after (action_of e i s) n ∙ h.sized.nvm ∙ ap image_blocks (sym (p_after i s)) };
+  sized = record { nvm = length-after (action_of e i s) n ∙ h.sized.nvm ∙ ap image_blocks (sym (p_after i s)) };
   progress = record { regs = h.progress.regs; inside = next_inside e.p i };
   fits = record { same_p = p_after i s ∙ h.fits.same_p };
   room = room_after i s ∙ h.room;

@@ -15,7 +15,7 @@ use Rattle.thy_view.specs.Origin.{Origin}
 use Rattle.thy_protocol.specs.Layout.{looked_by}
 use Rattle.thy_protocol.specs.Moves.{IsKeeping, standing, Goes}
 use Rattle.thy_protocol.proofs.KeepsLemmas.{IsKeeping-move}
-use Rattle.thy_protocol.proofs.IssuingLemmas.{row_of}
+use Rattle.thy_base.proofs.BasicLemmas.{Contains-range}
 use Rattle.thy_scheme.specs.CheckpointMarks.{CheckpointMarks}
 use Rattle.thy_record.specs.Commit.{commit_of}
 use Rattle.thy_shadow_image.specs.Header.{header_fault}
@@ -72,7 +72,7 @@ module _ (s : State) (m n : Device) (h : IsSoundState s)
       ap (λ (k : ℕ). k == b.copied)
       (count_alike (agrees s n b.page) (agrees s m b.page) (range_with_len 0 b.copied)
       (λ c inside.
-      let row = row_of 0 b.copied c inside in
+      let row = Contains-range 0 b.copied c inside in
       let low = row.1 in
       let at = row.2 in
       let few = of.few in

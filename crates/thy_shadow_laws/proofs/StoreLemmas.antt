@@ -5,7 +5,8 @@ use Rattle.thy_base.specs.declared.config.Parameters.{Parameters}
 use Rattle.thy_base.specs.Device.{Device}
 use Rattle.thy_table.specs.Listing.{free_count}
 use Rattle.thy_table.proofs.ListingLaws.{free_count-mapped}
-use Rattle.thy_view.specs.Action.{Action, Rest, ReadAt, WriteAt, Barrier, Drain, after}
+use Rattle.thy_view.specs.Action.{after}
+use Rattle.thy_view.proofs.ActionLemmas.{down-after, length-after}
 use Rattle.thy_shadow_image.specs.Places.{image_blocks}
 use Rattle.thy_pool.specs.Holding.{works, agree_by, copies_agree, holding_of}
 use Rattle.thy_pool.specs.Items.{Item, NoItem, PageItem, SlotItem, SettleItem, CommitItem, ConfirmItem}
@@ -13,15 +14,8 @@ use Rattle.thy_pool.specs.Keys.{freed_frame}
 use Rattle.thy_pool.specs.Progress.{Progress, action_next, state_next, item_of, state_after}
 use Rattle.thy_pool.specs.State.{State}
 use Rattle.thy_shadow_laws.specs.Taken.{ItemsKeepStore}
-use Rattle.thy_shadow_laws.proofs.AfterLemmas.{p_after, length_after}
+use Rattle.thy_shadow_laws.proofs.AfterLemmas.{p_after}
 use Rattle.thy_shadow_laws.proofs.ItemLemmas.{items_keep_works}
-
-pub down_after : (a : Action) (n : Device) → (after a n).down ≡ n.down
-down_after Rest n = refl
-down_after (ReadAt place) n = refl
-down_after (WriteAt place block) n = refl
-down_after Barrier n = refl
-down_after Drain n = refl
 
 free_after : (i : Item) (s : State) → free_count s.frames ≤ free_count (state_after i s).frames
 free_after NoItem s = omega arith
@@ -62,8 +56,8 @@ items_keep_store o k s n h way =
     ap (agree_by (state_next e l) new) (unbegun_after (item_of e l) l (h.checkpoints.made way).unbegun) in
     record {
       blocks =
-          blocks_alike l n (state_next e l) new (p_after (item_of e l) l) (length_after (action_next e l) n)
-          (down_after (action_next e l) n) (copies ∙ sym h.copies)
+          blocks_alike l n (state_next e l) new (p_after (item_of e l) l) (length-after (action_next e l) n)
+          (down-after (action_next e l) n) (copies ∙ sym h.copies)
           (items_keep_works e l n h.held.progress h.held.state h.held.sized h.held.fits h.checkpoints.written way);
       free = free_after (item_of e l) l;
     }

@@ -11,7 +11,7 @@ use Rattle.thy_base.specs.Store.{page_of}
 use Rattle.thy_base.proofs.DeviceLemmas.{newest-written_to_other, newest-settled}
 use Rattle.thy_record.specs.Tables.{Lists}
 use Rattle.thy_record.proofs.ImageLemmas.{map-alike}
-use Rattle.thy_protocol.proofs.IssuingLemmas.{row_of}
+use Rattle.thy_base.proofs.BasicLemmas.{Contains-range}
 use Rattle.thy_table.specs.Listing.{entry_at, lists, mapped}
 use Rattle.thy_table.proofs.IndexLemmas.{lists-inside}
 use Rattle.thy_table.proofs.ListingLaws.{entry_at-mapped, place_of-none, place_of-lists}
@@ -34,7 +34,7 @@ work_same s m n b None h = h
 work_same s m n b (Some j) h = refl
 
 below : (many b : ℕ) → Contains (range_with_len 0 many) b → b < many
-below many b inside = let at = row_of 0 many b inside in let l = at.1 in let e = at.2 in omega (arith, l, e)
+below many b inside = let at = Contains-range 0 many b inside in let l = at.1 in let e = at.2 in omega (arith, l, e)
 
 -- so if each block reads where it was committed as before, all load as before
 pub works_same : (s : State) (m n : Device) → ((b : ℕ) → b < memory_blocks s.p → committed_of s n b ≡ committed_of s m b)

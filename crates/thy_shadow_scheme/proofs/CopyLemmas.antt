@@ -8,7 +8,7 @@ use Rattle.std.proofs.lemmas.Slice.Eq.{bytes_eq-Decides}
 use Rattle.thy_base.specs.declared.block.Block.{Block}
 use Rattle.thy_base.specs.Device.{Device, newest}
 use Rattle.thy_table.proofs.IndexLemmas.{one_if}
-use Rattle.thy_protocol.proofs.IssuingLemmas.{row_of}
+use Rattle.thy_base.proofs.BasicLemmas.{Contains-range}
 use Rattle.thy_pool.specs.declared.entry.Begun.{Begun}
 use Rattle.thy_pool.specs.Holding.{agrees, agree_by, copies_agree}
 use Rattle.thy_pool.specs.State.{State, page_place, frame_block}
@@ -48,7 +48,7 @@ all_pass f m each =
     eq-eqb (count_by f (range_with_len 0 m)) m
     (all_count f (range_with_len 0 m)
     (λ c inside.
-    let row = row_of 0 m c inside in
+    let row = Contains-range 0 m c inside in
     let l = row.1 in
     let at = row.2 in
     each c (omega (arith, l, at)))

@@ -32,7 +32,7 @@ use Rattle.thy_boot.specs.Filling.{First}
 use Rattle.thy_boot.specs.Recovers.{IsRestored}
 use Rattle.thy_boot.specs.Sound.{BootImages, start_mark, IsLoaded}
 use Rattle.thy_boot.specs.Start.{CanStart, start_blocks}
-use Rattle.thy_boot.proofs.ReadLemmas.{newest-settled}
+use Rattle.thy_base.proofs.DeviceLemmas.{newest-empty}
 use Rattle.thy_boot.proofs.StartLemmas.{state_from-start, CanStart-origin}
 use Rattle.thy_scheme.specs.CheckpointMarks.{only}
 use Rattle.thy_shadow_image.specs.CheckpointParts.{IsToldBy, parts_by}
@@ -139,7 +139,7 @@ module _ (o : Origin) (m : Mark) (before : List Block) (n : Device) (b : Booting
     way = ap is_under_way still;
     doubt = sym (ap is_confirming still);
     header =
-        ap (λ (x : Block). header_fault x o.geometry true) (newest-settled n 0 settled)
+        ap (λ (x : Block). header_fault x o.geometry true) (newest-empty n 0 settled)
         ∙ ap (λ (p : Parameters). header_fault (block_at n.image 0) p true) (sym geometry)
         ∙ found.head.header_fits;
     committed = record {
@@ -195,7 +195,7 @@ module _ (o : Origin) (g : BootImages) (n : Device) (b : Booting) (s : Value) (l
 
   -- its slot is the start's
   slot_at : (i : ℕ) → i < slot_blocks p → block_at n.image (slot_place p 0 + i) ≡ slot_block_of p (cpu_of o.start) (first_table p) 0 i
-  slot_at i inside = sym (newest-settled n (slot_place p 0 + i) loaded.settled) ∙ (loaded.stood.parts.slot.each i inside).newest_is
+  slot_at i inside = sym (newest-empty n (slot_place p 0 + i) loaded.settled) ∙ (loaded.stood.parts.slot.each i inside).newest_is
 
   slot_from : (first : ℕ) → first ≡ slot_place p 0
       → map (block_at n.image) (range_with_len first (slot_blocks p)) ≡ slot_of (parts_by p (cpu_of o.start) (first_table p) 0)

@@ -46,6 +46,7 @@ use Rattle.thy_boot.proofs.FoundLemmas.{restored_is_kept, never_refused}
 use Rattle.thy_boot.proofs.GoOnLemmas.{sound_may_step}
 use Rattle.thy_boot.proofs.MoveLemmas.{kept_after}
 use Rattle.thy_view.proofs.StorableAt.{IsRecordable-at}
+use Rattle.thy_view.proofs.ActionLemmas.{down-after}
 use Rattle.thy_boot.proofs.SafeLemmas.{failures_move, read_failed}
 use Rattle.thy_boot.proofs.StartLemmas.{CanStart-origin}
 use Rattle.thy_boot.proofs.StepMoveLemmas.{steps_move}
@@ -61,7 +62,6 @@ use Rattle.thy_repool.specs.Filling.{filling_shadow}
 use Rattle.thy_repool.proofs.LawLemmas.{pool_is_listed}
 use Rattle.thy_shadow_laws.specs.Shadow.{Shadow as Value}
 use Rattle.thy_shadow_laws.proofs.SealLemmas.{blocks_held}
-use Rattle.thy_shadow_laws.proofs.StoreLemmas.{down_after}
 use Rattle.thy_shadow_scheme.specs.Boots.{Boots, IsUnused, booted, step_of, result_of, view_at, has_read_at}
 use Rattle.thy_shadow_scheme.specs.Scheme.{shadow_scheme}
 use Rattle.thy_shadow_scheme.proofs.BootLemmas.{view-is, loads-first}
@@ -205,7 +205,7 @@ module _ (o : Origin) (s : Value) (n : Device) (booting : IsBooting shadow_schem
   acts = steps_act filling_shadow pool_is_listed o.start n b s.pool new d e steps
 
   up : new.down ≡ false
-  up = ap (λ (x : Device). x.down) acts.left ∙ down_after acts.action n ∙ booting.up
+  up = ap (λ (x : Device). x.down) acts.left ∙ down-after acts.action n ∙ booting.up
 
   room : e.dram.room ≡ o.geometry.dramq
   room = filled.1 ∙ boots.unused.room

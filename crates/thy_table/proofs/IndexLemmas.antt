@@ -65,11 +65,6 @@ module _ {E : Type 0} (key : E → ℕ) where
     | inr l ↦ let none : false ≡ true = sym (ap (lists key n) (get_or_past es i None l)) ∙ h in cc
   ]
 
-  -- what leads a group is an entry whose key it has
-  pub leads-some : (g : ℕ) (o : Option E) → leads key g o ≡ true → (e : E) × (o ≡ Some e) × (key e / 16 ≡ g)
-  leads-some g None h = cc
-  leads-some g (Some e) h = (e, refl, eqb-true (key e / 16) g h)
-
   pub leads-key : (g : ℕ) (o : Option E) (e : E) → o ≡ Some e → key e / 16 ≡ g → leads key g o ≡ true
   leads-key g o e s k = ap (leads key g) s ∙ eq-eqb (key e / 16) g k
 
@@ -84,10 +79,6 @@ module _ {E : Type 0} (key : E → ℕ) where
     | inl l ↦ l
     | inr l ↦ let none : false ≡ true = sym (ap (leads key g) (get_or_past es i None l)) ∙ h in cc
   ]
-
-  -- an entry that lists a number leads its group
-  pub lists-leads : (n : ℕ) (o : Option E) → lists key n o ≡ true → leads key (n / 16) o ≡ true
-  lists-leads n o h = let is = lists-some n o h in leads-key (n / 16) o is.0 is.1 (ap (λ m. m / 16) is.2)
 
   -- where every entry is free
   pub IsSoundTable-empty : (size numbers : ℕ) → size ≤ 2 ^ 32 → IsSoundTable key (replicate size None) numbers (replicate (numbers / 16 + 1) 0) (replicate size (replicate 16 0)) 0 size
@@ -157,10 +148,6 @@ module _ {E : Type 0} (key : E → ℕ) where
 
     pub leader-here : (i : ℕ) (e : E) → get_or es i None ≡ Some e → get_or leaders (key e / 16) 0 < length places
     leader-here i e was = omega (arith, leads-inside es (get_or leaders (key e / 16) 0) (key e / 16) (leads-here i e was), sound.as_many)
-
-    -- the leader of a group's numbers is inside the table
-    pub leader-inside : (i n : ℕ) → lists key n (get_or es i None) ≡ true → get_or leaders (n / 16) 0 < length es
-    leader-inside i n h = leads-inside es (get_or leaders (n / 16) 0) (n / 16) (sound.led i n h)
 
     -- the leader of a group with one more entry is inside the table
     pub leader_with-inside : (i g q : ℕ) → i < length es → q ≡ (if leads key g (get_or es (get_or leaders g 0) None) then get_or leaders g 0 else i) → q < length places

@@ -1,13 +1,12 @@
 -- What the calls of a driven controller leave.
-use Rattle.std.proofs.Common.{◌≡◌, ℕ, Bool, true, false, refl, sym, ◌∙◌, ap, Option, Some, None, is_some, if◌then◌else◌}
+use Rattle.std.proofs.Common.{◌≡◌, ℕ, true, false, refl, sym, ◌∙◌, ap, Option, Some, None, is_some}
 use Rattle.thy_base.specs.declared.block.Block.{Block}
-use Rattle.thy_base.specs.declared.config.Parameters.{Parameters}
-use Rattle.thy_base.specs.declared.place.Place.{Place}
-use Rattle.thy_base.specs.Device.{Device, written_to}
+use Rattle.thy_base.specs.Device.{Device}
 use Rattle.thy_base.specs.Geometry.{memory_blocks}
-use Rattle.thy_base.specs.Places.{in_dram, number_of, image_blocks}
-use Rattle.thy_dram.specs.Contents.{written}
-use Rattle.thy_place.specs.Devices.{Devices, devices_of, written_at}
+use Rattle.thy_base.specs.Places.{image_blocks}
+use Rattle.thy_base.proofs.BasicLemmas.{not_some}
+use Rattle.thy_place.specs.Devices.{devices_of}
+use Rattle.thy_place.proofs.PlaceLemmas.{down-written}
 use Rattle.thy_control.specs.Copies.{next_copy, devices_after_copy, devices_copied, after_next_copy}
 use Rattle.thy_control.specs.Merges.{after_merge, merged_block}
 use Rattle.thy_control.specs.Pages.{next_page, devices_after_write, devices_issued, after_next_write}
@@ -18,14 +17,6 @@ use Rattle.thy_control.specs.State.{State}
 use Rattle.thy_control.specs.Stays.{AreCopied, Stays}
 use Rattle.thy_control.proofs.LeftLemmas.{AreCopied-none}
 use Rattle.thy_tests.specs.Driven.{Drives}
-
--- a write at a place leaves the NVM up or down as it was
-down-written : (p : Parameters) (place : Place) (block : Block) (d : Devices) → (written_at p place block d).nvm.down ≡ d.nvm.down
-down-written p place block d = by_side (in_dram place) where
-  by_side : (t : Bool) → (if t then record d { dram = written d.dram (number_of p place) block }
-      else record d { nvm = written_to d.nvm (number_of p place) block }).nvm.down ≡ d.nvm.down
-  by_side true = refl
-  by_side false = refl
 
 -- so does a store, a copy and the write of a page's block
 pub down-after : (b : ℕ) (block : Block) (s : State) (n : Device) → (devices_after b block s n).nvm.down ≡ n.down
@@ -72,10 +63,6 @@ Drives-stays s t m n d stays same = record {
   sized = record { nvm = stays.as_long ∙ d.sized.nvm ∙ sym (ap image_blocks stays.same_p) };
   up = same ∙ d.up;
 }
-
-not_some : {E : Type 0} (o : Option E) → is_some o ≡ false → o ≡ None
-not_some None h = refl
-not_some (Some e) h = cc
 
 -- so it is once the calls for a copy and for a page's block find none
 pub AreCopied-found : (s t u : State) (m n : Device)

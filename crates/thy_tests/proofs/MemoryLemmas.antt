@@ -6,11 +6,10 @@ use Rattle.thy_base.specs.Places.{image_blocks}
 use Rattle.thy_base.specs.Geometry.{memory_blocks}
 use Rattle.thy_commit.specs.Items.{Item, NoItem, CopyItem, PageItem, SlotItem, SettleItem, CommitItem, ConfirmItem}
 use Rattle.thy_commit.specs.Progress.{Progress, Fits, device_after, device_next, engine_next, item_of}
-use Rattle.thy_control.specs.Seal.{sealed_state}
 use Rattle.thy_control.specs.State.{State}
 use Rattle.thy_control.specs.Stays.{Stays}
 use Rattle.thy_tests.specs.Memory.{MemoryParts, IsMemory, HasRoom}
-use Rattle.thy_tests.proofs.DrivenLemmas.{Drives-stays, Drives-sealed, down-copy, down-write}
+use Rattle.thy_tests.proofs.DrivenLemmas.{Drives-stays, down-copy, down-write}
 
 abbrev pub parts : Parameters → State → Progress → Device → ℕ → MemoryParts
 parts p s e n cuts = record { p = p; control = s; engine = e; nvm = n; cuts = cuts }
@@ -42,20 +41,6 @@ IsMemory-stays p e s t m n cuts w fits stays same frame = record {
   room = HasRoom-framed m n cuts w.room frame;
 }
 
--- so it is where a write of the NVM landed
-pub IsMemory-landed : (p : Parameters) (e : Progress) (s : State) (m n : Device) (cuts : ℕ)
-    → IsMemory (parts p s e m cuts) → n.down ≡ m.down → IsFramed m n → IsMemory (parts p s e n cuts)
-IsMemory-landed p e s m n cuts w same frame = record {
-  same_p = w.same_p;
-  drives = record {
-    blocks = w.drives.blocks;
-    sized = record { nvm = frame.blocks ∙ w.drives.sized.nvm };
-    up = same ∙ w.drives.up;
-  };
-  fits = w.fits;
-  room = HasRoom-framed m n cuts w.room frame;
-}
-
 -- so it is after an action of the engine
 pub IsMemory-item : (p : Parameters) (e f : Progress) (s t : State) (m n : Device) (cuts : ℕ)
     → IsMemory (parts p s e m cuts) → Fits f t → f ≡ engine_next e s → n ≡ device_next e s m → IsFramed m n
@@ -72,11 +57,3 @@ IsMemory-item p e f s t m n cuts w fits f_is n_is frame =
       fits = fits;
       room = HasRoom-framed m n cuts w.room frame;
     }
-
--- and after a seal, with which a checkpoint begins
-pub IsMemory-sealed : (p : Parameters) (e f : Progress) (s t : State) (n : Device) (cuts : ℕ)
-    → IsMemory (parts p s e n cuts) → t ≡ sealed_state s → Fits f (sealed_state s) → IsMemory (parts p t f n cuts)
-unfolding sealed_state
-IsMemory-sealed p e f s t n cuts w t_is fits =
-    subst (λ (u : State). IsMemory (parts p u f n cuts)) (sym t_is)
-    (record { same_p = w.same_p; drives = Drives-sealed s n w.drives; fits = fits; room = w.room })

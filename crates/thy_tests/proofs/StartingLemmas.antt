@@ -1,22 +1,21 @@
 -- What boots and cuts of the least memory leave.
-use Rattle.std.proofs.Common.{◌≡◌, ℕ, suc, ◌+◌, ◌-◌, ◌*◌, ◌^◌, ◌≤◌, ◌<◌, false, inl, inr, replicate, slice_index, List, [], ◌∷◌, ◌++◌, length, refl, sym, ◌∙◌, ap, subst, arith}
+use Rattle.std.proofs.Common.{◌≡◌, ℕ, ◌-◌, ◌*◌, ◌^◌, ◌<◌, false, inl, inr, replicate, slice_index, List, [], length, refl, sym, ◌∙◌, ap, subst, arith}
 use Rattle.std.proofs.lemmas.Bool.{cases_lt}
-use Rattle.std.proofs.lemmas.List.{length-append, length-replicate, get_or-replicate, get_or_past}
-use Rattle.thy_base.specs.declared.block.Block.{Block}
+use Rattle.std.proofs.lemmas.List.{length-replicate, get_or-replicate, get_or_past}
 use Rattle.thy_base.specs.declared.config.Parameters.{Parameters}
 use Rattle.thy_base.specs.Device.{Device, IsCut}
 use Rattle.thy_base.specs.Geometry.{IsInRange, memory_blocks}
 use Rattle.thy_base.specs.Places.{slot_blocks, image_blocks, dram_blocks}
+use Rattle.thy_base.proofs.BasicLemmas.{room-cut}
 use Rattle.thy_control.specs.State.{State, AreSoundTables, new_state}
 use Rattle.thy_dram.specs.Contents.{Contents, lost}
-use Rattle.thy_dram.specs.Draws.{blocks_over, after_block}
+use Rattle.thy_dram.proofs.DrawLemmas.{length-over}
 use Rattle.thy_isa.specs.Step.{State as Plain}
-use Rattle.thy_view.specs.Action.{Action, Rest, ReadAt, WriteAt, Barrier, Drain, after}
 use Rattle.thy_boot.specs.declared.stage.Stage.{Stage}
 use Rattle.thy_boot.specs.declared.stage.Stage.TheVariants.{Reads, Loads, Over}
 use Rattle.thy_boot.specs.declared.stage.ReadStage.TheVariants.{Unread, Header, Slot, Fills, Refusing}
 use Rattle.thy_boot.specs.declared.stage.End.TheVariants.{Restored, Loaded}
-use Rattle.thy_boot.specs.Boot.{Booting, answer_at, answer_of, new_boot}
+use Rattle.thy_boot.specs.Boot.{Booting, answer_at, new_boot}
 use Rattle.thy_boot.specs.Loads.{issue_action}
 use Rattle.thy_boot.specs.Recovers.{HasReadAt}
 use Rattle.thy_boot.specs.Steps.{Steps, StepsAt}
@@ -29,6 +28,7 @@ use Rattle.thy_tests.specs.Beside.{all}
 use Rattle.thy_tests.specs.Boots.{Boots, IsLeastStart}
 use Rattle.thy_tests.specs.Memory.{HasRoom}
 use Rattle.thy_tests.specs.Starting.{Off, IsOff, starting, IsStarting, is_refused}
+use Rattle.thy_view.proofs.ActionLemmas.{down-after}
 
 -- ---- steps
 
@@ -44,29 +44,13 @@ idle-at (Loads issue) n b c told read = read.0.fresh.booting.idle
 idle-at (Over Restored) n b c told read = read.lists.booting.idle
 idle-at (Over Loaded) n b c told read = absurd read
 
--- so it has after every step
-pub idle-step : (s : Plain) (n : Device) (b : Booting) (c : State) (m : Device) (d : Booting) (e : State)
-    → c.under_way ≡ false → Steps filling_dual s n b c m d e → is_refused (answer_of filling_dual d) ≡ false → e.under_way ≡ false
-idle-step s n b c m d e idle steps told = by_stage b.stage steps where
-  by_stage : (q : Stage) → StepsAt filling_dual q s n b c m d e → e.under_way ≡ false
-  by_stage (Reads r) on = idle-at d.stage m d e told on.read.so_far
-  by_stage (Loads issue) on = ap (λ (t : State). t.under_way) on.control ∙ idle
-  by_stage (Over end) on = absurd on
-
-down-action : (a : Action) (n : Device) → (after a n).down ≡ n.down
-down-action Rest n = refl
-down-action (ReadAt place) n = refl
-down-action (WriteAt place block) n = refl
-down-action Barrier n = refl
-down-action Drain n = refl
-
 -- a step leaves the NVM up or down as it was, and the geometry
 pub down-step : (s : Plain) (n : Device) (b : Booting) (c : State) (m : Device) (d : Booting) (e : State)
     → Steps filling_dual s n b c m d e → m.down ≡ n.down
 down-step s n b c m d e steps = by_stage b.stage steps where
   by_stage : (q : Stage) → StepsAt filling_dual q s n b c m d e → m.down ≡ n.down
   by_stage (Reads r) on = ap (λ (x : Device). x.down) on.device
-  by_stage (Loads issue) on = ap (λ (x : Device). x.down) on.device ∙ down-action (issue_action (filling_dual.first b.p s) issue) n
+  by_stage (Loads issue) on = ap (λ (x : Device). x.down) on.device ∙ down-after (issue_action (filling_dual.first b.p s) issue) n
   by_stage (Over end) on = absurd on
 
 pub same-step : (s : Plain) (n : Device) (b : Booting) (c : State) (m : Device) (d : Booting) (e : State)
@@ -144,15 +128,6 @@ CanStart-least p s range pages room one h = record {
   ]
 
 -- ---- cuts
-
-length-over : (seed : ℕ) (xs : List Block) → length (blocks_over seed xs) ≡ length xs
-length-over seed [] = refl
-length-over seed (x ∷ xs) = ap suc (length-over (after_block seed) xs)
-
--- one image more is kept
-pub room-cut : {A : Type 0} (left : List A) (image : A) (room cuts : ℕ) → length left + cuts ≤ room → 0 < cuts
-    → length (left ++ image ∷ []) + (cuts - 1) ≤ room
-room-cut left image room cuts h some = grind (arith, h, some, length-append left (image ∷ []))
 
 -- a cut leaves both devices with their sizes, and room for one cut less
 pub IsOff-cut : (p : Parameters) (s : State) (m n : Device) (pick : ℕ) (dram : Contents) (cuts : ℕ)

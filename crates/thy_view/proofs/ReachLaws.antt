@@ -16,8 +16,8 @@ use Rattle.thy_view.proofs.TurnLaws.{AgreeBelow-same, with_turn, with_turn-agree
 
 -- ---- phases
 
-runs_on : (p : Phase) → p ≡ Run → p ≢ BootPhase
-runs_on p is boots = let both : Run ≡ BootPhase = sym is ∙ boots in absurd (cc)
+pub runs_behind : (p : Phase) → p ≡ Run → p ≢ BootPhase
+runs_behind p is boots = let both : Run ≡ BootPhase = sym is ∙ boots in absurd (cc)
 
 runs_or_halts : (b : Bool) → (if b then Run else Halt) ≢ BootPhase
 runs_or_halts true boots = absurd (cc)
@@ -44,10 +44,10 @@ module _ (o : Origin) (v next : View) where
 
   -- behind the boot the count stays
   goes : v.phase ≡ Run → next.phase ≢ BootPhase → next.count ≡ v.count → reach next ≡ reach v
-  goes runs behind count = reach-count next behind ∙ count ∙ sym (reach-count v (runs_on v.phase runs))
+  goes runs behind count = reach-count next behind ∙ count ∙ sym (reach-count v (runs_behind v.phase runs))
 
   runs : v.phase ≡ Run → next.phase ≡ v.phase → next.count ≡ v.count → reach next ≡ reach v
-  runs is phase count = goes is (runs_on next.phase (phase ∙ is)) count
+  runs is phase count = goes is (runs_behind next.phase (phase ∙ is)) count
 
   busy : v.phase ≡ Run → next ≡ busier v → reach next ≡ reach v
   busy is e = runs is (ap (λ (w : View). w.phase) e) (ap (λ (w : View). w.count) e)
@@ -87,7 +87,7 @@ module _ (o : Origin) (v next : View) where
       let phase : next.phase ≡ Run = ap (λ (w : View). w.phase) s.becomes in
       inr (inl (
         reach-boot v s.phase ∙ ap count_of s.none,
-        reach-count next (runs_on next.phase phase) ∙ ap (λ (w : View). w.count) s.becomes,
+        reach-count next (runs_behind next.phase phase) ∙ ap (λ (w : View). w.count) s.becomes,
       ))
   reaches (Restarted epoch count) s =
       let phase : next.phase ≡ phase_at o count = ap (λ (w : View). w.phase) s.becomes in
@@ -99,9 +99,9 @@ module _ (o : Origin) (v next : View) where
       let phase : next.phase ≡ v.phase = ap (λ (w : View). w.phase) s.becomes in
       inr (inr (
         refl,
-        reach-count next (runs_on next.phase (phase ∙ s.phase))
+        reach-count next (runs_behind next.phase (phase ∙ s.phase))
             ∙ ap (λ (w : View). w.count) s.becomes
-            ∙ ap (λ (n : ℕ). n + 1) (sym (reach-count v (runs_on v.phase s.phase))),
+            ∙ ap (λ (n : ℕ). n + 1) (sym (reach-count v (runs_behind v.phase s.phase))),
       ))
   reaches Flushed s = inl (busy s.0 s.1)
   reaches Merged s = inl (busy s.0 s.1)
@@ -145,7 +145,7 @@ pub retires-reach : RetiresReach
 retires-reach o v next hart s =
     let phase : next.phase ≡ v.phase = ap (λ (w : View). w.phase) s.becomes in
     let count : next.count ≡ v.count + 1 = ap (λ (w : View). w.count) s.becomes in
-    omega (arith, reach-count next (runs_on next.phase (phase ∙ s.phase)), count)
+    omega (arith, reach-count next (runs_behind next.phase (phase ∙ s.phase)), count)
 
 -- ---- turns to come
 

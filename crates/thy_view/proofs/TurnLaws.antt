@@ -37,9 +37,6 @@ untold o j = both_zero (nat_lt j o.start.count) 0
 pub AgreeBelow-same : (o : Origin) (k : ℕ) → AgreeBelow o o.turns k
 AgreeBelow-same o k = λ j less. refl
 
-pub AgreeBelow-sym : (o : Origin) (turns : List ℕ) (k : ℕ) → AgreeBelow o turns k → AgreeBelow (told o turns) o.turns k
-AgreeBelow-sym o turns k agree = λ j less. sym (agree j less)
-
 pub AgreeBelow-on : (o : Origin) (a b : List ℕ) (k : ℕ) → AgreeBelow o a k → AgreeBelow (told o a) b k → AgreeBelow o b k
 AgreeBelow-on o a b k one two = λ j less. two j less ∙ one j less
 

@@ -3,6 +3,7 @@ use Rattle.std.proofs.Common.{◌≡◌, ◌-◌, ◌≤◌, ◌||◌, ℕ, Bool
 use Rattle.std.proofs.lemmas.Bool.{le-ltb}
 use Rattle.thy_base.specs.declared.nvm.NvmError.{NvmError}
 use Rattle.thy_base.specs.Device.{Device, HasFailed, IsFramed, settled}
+use Rattle.thy_base.proofs.BasicLemmas.{OnErr-of}
 use Rattle.thy_isa.specs.declared.state.CpuState.{CpuState}
 use Rattle.thy_record.specs.declared.engine_step.EngineStep.{EngineStep}
 use Rattle.thy_record.specs.declared.engine_step.EngineStep.TheVariants.{Barrier}
@@ -30,11 +31,6 @@ pub stands-below : (o : Origin) (k : CheckpointMarks) (w : Waiting Dual) (n : De
 stands-below o k w n stands = below-stands dual_scheme lawful never o k w n stands
 
 -- ---- by the result of a call
-
--- what holds in any case holds if it failed
-on-err : {T E : Type 0} (r : Result T E) (P : Type 0) → P → OnErr r P
-on-err (Ok x) P h = tt
-on-err (Err e) P h = h
 
 on-ok : {T E : Type 0} (r : Result T E) (P Q : Type 0) → (P → Q) → OnOk r P → OnOk r Q
 on-ok (Ok x) P Q f h = f h
@@ -77,7 +73,7 @@ engines o k w n step t left new stands on none is e =
 pub engine-fails : {T : Type 0} (r : Result T NvmError) (o : Origin) (k : CheckpointMarks) (w : Waiting Dual) (n new : Device) → Stands waiting_scheme o k w n
     → EngineFails dual_scheme o k n new → OnErr r (EngineFails waiting_scheme o k n new)
 engine-fails r o k w n new stands f =
-    on-err r (EngineFails waiting_scheme o k n new) (engine-fails-over dual_scheme lawful never o k w n stands new f)
+    OnErr-of {P = EngineFails waiting_scheme o k n new} r (engine-fails-over dual_scheme lawful never o k w n stands new f)
 
 pub barrier-made : (o : Origin) (k : CheckpointMarks) (w : Waiting Dual) (n : Device) (left : ℕ) (new : Device) → Stands waiting_scheme o k w n
     → is_waiting w ≡ true → left ≡ w.left - 1 → new ≡ settled n → Engines waiting_scheme o k Barrier w n (record w { left = left }) new
@@ -89,7 +85,7 @@ barrier-made o k w n left new stands on is settles =
 pub barrier-fails : {T : Type 0} (r : Result T NvmError) (o : Origin) (k : CheckpointMarks) (w : Waiting Dual) (n new : Device) → Stands waiting_scheme o k w n
     → HasFailed n new → IsFramed n new → OnErr r (EngineFails waiting_scheme o k n new)
 barrier-fails r o k w n new stands failed frame =
-    on-err r (EngineFails waiting_scheme o k n new) (waiting-fails dual_scheme lawful never o k w n stands new failed frame)
+    OnErr-of {P = EngineFails waiting_scheme o k n new} r (waiting-fails dual_scheme lawful never o k w n stands new failed frame)
 
 -- ---- the boot
 
@@ -101,4 +97,4 @@ boots o w n step t left new is b =
 
 pub boot-fails : {T : Type 0} (r : Result T NvmError) (o : Origin) (w : Waiting Dual) (n new : Device)
     → BootFails dual_scheme o w.below n new → OnErr r (BootFails waiting_scheme o w n new)
-boot-fails r o w n new f = on-err r (BootFails waiting_scheme o w n new) (boot-fails-over dual_scheme lawful o w n new f)
+boot-fails r o w n new f = OnErr-of {P = BootFails waiting_scheme o w n new} r (boot-fails-over dual_scheme lawful o w n new f)

@@ -8,6 +8,7 @@ use Rattle.thy_scheme.specs.CheckpointMarks.{CheckpointMarks}
 use Rattle.thy_scheme.specs.Scheme.{SchemeOf, Stands}
 use Rattle.thy_scheme.specs.Calls.{HoldsSame, OpensNone, Keeps, OwesNoMore}
 use Rattle.thy_scheme.specs.Laws.{IsLawful, RunHolds}
+use Rattle.thy_scheme.proofs.RecordLemmas.{Keeps-same}
 
 -- ---- one call after another
 
@@ -36,15 +37,6 @@ Keeps-on K a l b m c n first second = record {
   whole = λ h. second.whole (first.whole h);
   storeless = second.storeless ∙ first.storeless;
   sealed_storeless = second.sealed_storeless ∙ first.sealed_storeless;
-}
-
-Keeps-same : {S : Type 0} (K : SchemeOf S) (s : S) (n : Device) → Keeps K s n s n
-Keeps-same K s n = record {
-  held = record { blocks = refl; free = omega arith; opened = inr refl };
-  left = record { owed = omega arith; engine = omega arith; merges = omega arith; promotions = omega arith };
-  whole = λ h. h;
-  storeless = refl;
-  sealed_storeless = refl;
 }
 
 -- ---- the device

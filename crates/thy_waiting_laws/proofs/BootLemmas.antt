@@ -3,21 +3,17 @@ use Rattle.std.proofs.Common.{◌≡◌, ℕ, ◌≤◌, refl, arith}
 use Rattle.thy_base.specs.declared.mark.Mark.{Mark}
 use Rattle.thy_base.specs.Device.{Device, drained}
 use Rattle.thy_isa.specs.declared.state.CpuState.{CpuState}
-use Rattle.thy_record.specs.declared.start.Start.{Start}
 use Rattle.thy_view.specs.Origin.{Origin, IsOrigin}
 use Rattle.thy_scheme.specs.declared.boot_step.BootStep.{BootStep}
 use Rattle.thy_scheme.specs.declared.boot_step.BootStep.TheVariants.{GoesOn, Loaded, Restarted, Refused}
-use Rattle.thy_scheme.specs.Boots.{Answers, BootsOn, BootFails, BootStays, BootDrains, IsBooted}
-use Rattle.thy_scheme.specs.Scheme.{SchemeOf, IsBooting, CanBoot}
+use Rattle.thy_scheme.specs.Boots.{Answers, BootsOn, BootFails, BootStays, IsBooted}
+use Rattle.thy_scheme.specs.Scheme.{SchemeOf, IsBooting}
 use Rattle.thy_scheme.specs.Laws.{IsLawful, IsFound, BootsFound, BootHolds}
 use Rattle.thy_waiting_laws.specs.Waiting.{Waiting, barriers, left_booted}
 use Rattle.thy_waiting_laws.specs.Scheme.{IsPowered, waits_over}
 
 pub below-boots : {S : Type 0} (K : SchemeOf S) (o : Origin) (w : Waiting S) (n : Device) → IsBooting (waits_over K) o w n → IsBooting K o w.below n
 below-boots K o w n booting = record { boots = booting.boots.below; up = booting.up }
-
-pub can-boot : {S : Type 0} (K : SchemeOf S) (start : Start) (w : Waiting S) (n : Device) → CanBoot (waits_over K) start w n → CanBoot K start w.below n
-can-boot K start w n can = record { o = can.o; begins = can.begins; booting = below-boots K can.o w n can.booting }
 
 module _ {S : Type 0} (K : SchemeOf S) (laws : IsLawful K) where
   pub power-finds : (o : Origin) (w : Waiting S) (n : Device) → IsOrigin o → IsPowered K o.geometry w → IsFound (waits_over K) o n
@@ -45,11 +41,6 @@ module _ {S : Type 0} (K : SchemeOf S) (laws : IsLawful K) where
         drains = λ some. stays-over o w n w.below (drained n) booting.boots.none (holds.drains some);
         settled = holds.settled;
       }
-
-  pub boot-drains-over : (o : Origin) (w : Waiting S) (n : Device) (t : S) → IsBooting (waits_over K) o w n → BootDrains K o w.below n t
-      → BootDrains (waits_over K) o w n (record w { below = t })
-  boot-drains-over o w n t booting d =
-      record { stays = stays-over o w n t n booting.boots.none d.stays; dram = d.dram; queue = d.queue }
 
   -- where the boot is over so many barriers are left
   booted-over : (o : Origin) (m : Mark) (cpu : CpuState) (t : S) (new : Device) (left : ℕ) → left ≤ barriers → IsBooted K o m cpu t new

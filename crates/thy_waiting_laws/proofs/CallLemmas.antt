@@ -7,11 +7,12 @@ use Rattle.thy_isa.specs.declared.state.CpuState.{CpuState}
 use Rattle.thy_record.specs.declared.engine_step.EngineStep.{EngineStep}
 use Rattle.thy_record.specs.declared.engine_step.EngineStep.TheVariants.{Idle, Copied, PageBlock, StateBlock, TableBlock, Barrier, CommitWritten, Committed}
 use Rattle.thy_view.specs.declared.did.Did.{Did}
-use Rattle.thy_view.specs.Action.{Action, Rest, ReadAt, WriteAt, Barrier as BarrierAction, Drain, Acts, after}
+use Rattle.thy_view.specs.Action.{Barrier as BarrierAction, Acts}
 use Rattle.thy_view.specs.Origin.{Origin}
 use Rattle.thy_view.proofs.SafeLemmas.{Safe-failed}
+use Rattle.thy_view.proofs.ActionLemmas.{down-after}
 use Rattle.thy_scheme.specs.CheckpointMarks.{CheckpointMarks, doubt_in, marks_after}
-use Rattle.thy_scheme.specs.Scheme.{SchemeOf, Stands, CanRun}
+use Rattle.thy_scheme.specs.Scheme.{SchemeOf, Stands}
 use Rattle.thy_scheme.specs.Calls.{Succeeds, IsOneAccess, Merges, Promotes, Drains, Seals, OwesAfter, Engines, EngineFails}
 use Rattle.thy_scheme.specs.Laws.{IsLawful}
 use Rattle.thy_waiting_laws.specs.Waiting.{Waiting, barriers, is_waiting, left_after}
@@ -21,15 +22,8 @@ use Rattle.thy_waiting_laws.proofs.RunLemmas.{neither, few-to-come, way-below, c
 
 -- ---- the device stays up
 
-up_by : (action : Action) (n : Device) → n.down ≡ false → (after action n).down ≡ false
-up_by Rest n up = up
-up_by (ReadAt place) n up = up
-up_by (WriteAt place block) n up = up
-up_by BarrierAction n up = up
-up_by Drain n up = up
-
 up-after : (did : Did) (n new : Device) → n.down ≡ false → Acts did n new → new.down ≡ false
-up-after did n new up acts = ap (λ (d : Device). d.down) acts.left ∙ up_by acts.action n up
+up-after did n new up acts = ap (λ (d : Device). d.down) acts.left ∙ down-after acts.action n ∙ up
 
 -- ---- by steps of the engine
 
@@ -69,9 +63,6 @@ owes-over K (Committed epoch) v n w new h = h
 -- the scheme below it is this one
 abbrev pub over : {S : Type 0} → S → Waiting S → Waiting S
 over t w = record w { below = t }
-
-pub can-run : {S : Type 0} (K : SchemeOf S) (w : Waiting S) (n : Device) → CanRun (waits_over K) w n → CanRun K w.below n
-can-run K w n can = record { o = can.o; k = can.k; stands = record { sound = can.stands.sound.below; up = can.stands.up } }
 
 -- a load or a store
 pub one-access : {S : Type 0} (K : SchemeOf S) (w : Waiting S) (n : Device) (t : S) (new : Device)

@@ -1,6 +1,6 @@
 -- What holds behind the boot of a scheme that waits.
 use Rattle.std.proofs.Common.{◌≡◌, ℕ, ◌<◌, ◌≤◌, ◌||◌, not, Bool, true, false, is_some, nat_lt, if◌then◌else◌, refl, sym, ◌∙◌, ap, ap₂, subst, arith}
-use Rattle.std.proofs.lemmas.Bool.{ltb-true}
+use Rattle.std.proofs.lemmas.Bool.{ltb-true, not-true}
 use Rattle.thy_base.specs.Device.{Device, drained}
 use Rattle.thy_view.specs.Origin.{Origin}
 use Rattle.thy_scheme.specs.CheckpointMarks.{CheckpointMarks}
@@ -19,10 +19,6 @@ or_false false b e = e
 pub neither : (a b : Bool) → (a || b) ≡ false → (a ≡ false) × (b ≡ false)
 neither true b e = absurd (cc)
 neither false b e = (refl, e)
-
-not_true : (b : Bool) → not b ≡ true → b ≡ false
-not_true true e = absurd (cc)
-not_true false e = refl
 
 -- no more barriers are to come than come behind a commit
 pub few-to-come : (way : Bool) (left : ℕ) → left ≤ barriers → (if way then barriers else left) ≤ barriers
@@ -96,7 +92,7 @@ module _ {S : Type 0} (K : SchemeOf S) (laws : IsLawful K) (never : (s : S) → 
         → StaysSound (waits_over K) o k w t new
     stays-sound t new free stays =
         let idle : K.under_way w.below ≡ false
-        = (neither (K.under_way w.below) (is_waiting w) (not_true (is_under_way K w) free)).0 in
+        = (neither (K.under_way w.below) (is_waiting w) (not-true (is_under_way K w) free)).0 in
         let free_below : is_free_to_run K w.below ≡ true = may-run K.overlaps (K.under_way w.below) idle in
         let same : StaysSound K o k w.below t.below new
         = laws.stays_sound o k w.below n t.below new below free_below stays.below in

@@ -1,15 +1,16 @@
 use Rattle.std.proofs.lemmas.Result.{on_err_weaker, on_ok_weaker}
-use Rattle.thy_crash.proofs.CommitLemmas.{on_err, either-unready, either-unwritten, either-unsettled, commits-settled}
+use Rattle.thy_base.proofs.BasicLemmas.{OnErr-of}
+use Rattle.thy_crash.proofs.CommitLemmas.{either-unready, either-unwritten, either-unsettled, commits-settled}
 use Rattle.thy_crash.proofs.checkpoint.commit.Goals as goal
 
 pub returns-in_err-barrier-clause-failed : goal.returns-in_err-barrier-clause-failed
 returns-in_err-barrier-clause-failed g c =
-    on_err _
+    OnErr-of _
     (either-unready c.args.block.now (g.N.Nvm.device c.args.nvm.now) (g.N.Nvm.device c.barrier.new.self) c.in_err-barrier.ensures.err c.barrier.ensures.frame)
 
 pub returns-in_err-write-clause-failed : goal.returns-in_err-write-clause-failed
 returns-in_err-write-clause-failed g c =
-    on_err _
+    OnErr-of _
     (either-unwritten c.args.block.now (g.N.Nvm.device c.args.nvm.now) (g.N.Nvm.device c.barrier.new.self) (g.N.Nvm.device c.write.new.self)
     c.in_ok-barrier.ensures.ok c.in_err-write.ensures.err c.write.ensures.frame)
 

@@ -2,17 +2,18 @@ use Rattle.std.proofs.Common.{◌+◌, ◌∙◌, ap, subst, sym}
 use Rattle.std.proofs.lemmas.Result.{on_err_weaker}
 use Rattle.thy_base.specs.Device.{Device, HasFailedToWrite, newest}
 use Rattle.thy_base.specs.declared.block.Block.{Block}
+use Rattle.thy_base.proofs.BasicLemmas.{OnErr-of}
 use Rattle.thy_gap.specs.Lines.{registers_block}
-use Rattle.thy_gap.proofs.MovingLemmas.{on_err, failed_at_read, failed_at_copy, failed_at_registers}
+use Rattle.thy_gap.proofs.MovingLemmas.{failed_at_read, failed_at_copy, failed_at_registers}
 use Rattle.thy_gap.proofs.moving.move_line.Goals as goal
 
 pub returns-in_err-line-clause-err : goal.returns-in_err-line-clause-err
 returns-in_err-line-clause-err g c =
-    on_err _ (failed_at_read c.args.registers.now (g.N.Nvm.device c.args.inner.now) (g.N.Nvm.device c.read.new.self) c.requires c.in_err-line.ensures.err)
+    OnErr-of _ (failed_at_read c.args.registers.now (g.N.Nvm.device c.args.inner.now) (g.N.Nvm.device c.read.new.self) c.requires c.in_err-line.ensures.err)
 
 pub returns-in_err-put-clause-err : goal.returns-in_err-put-clause-err
 returns-in_err-put-clause-err g c =
-    on_err _
+    OnErr-of _
     (failed_at_copy c.args.registers.now (g.N.Nvm.device c.args.inner.now) (g.N.Nvm.device c.put.new.inner) c.in_ok-line.line c.requires
     (subst (λ (n : Device). HasFailedToWrite c.args.registers.now.gap c.in_ok-line.line n (g.N.Nvm.device c.put.new.inner)) c.in_ok-line.ensures.same c.in_err-put.ensures.err))
 

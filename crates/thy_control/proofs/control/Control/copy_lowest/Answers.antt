@@ -1,10 +1,10 @@
 use Rattle.std.proofs.Common.{◌≡◌, ◌≢◌, ◌<◌, ℕ, Some, sym, ◌∙◌, ap, subst, rules}
 use Rattle.thy_base.specs.Device.{Device}
 use Rattle.thy_base.specs.Geometry.{memory_blocks}
+use Rattle.thy_base.proofs.BasicLemmas.{OnErr-of}
 use Rattle.thy_table.specs.declared.block_entry.Pending.TheVariants.{Settled}
 use Rattle.thy_control.specs.State.{State, IsSized, cell_of}
 use Rattle.thy_control.specs.Copies.{next_copy, block_listed, FailsCopy}
-use Rattle.thy_control.proofs.PutLemmas.{OnErr-of}
 use Rattle.thy_control.proofs.CopyLemmas.{IsNext-entry}
 use Rattle.thy_control.proofs.control.Control.copy_lowest.Goals as goal
 

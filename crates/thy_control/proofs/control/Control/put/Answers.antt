@@ -4,6 +4,7 @@ use Rattle.thy_base.specs.declared.place.Place.{Place}
 use Rattle.thy_base.specs.Device.{Device, HasFailedToWrite}
 use Rattle.thy_base.specs.Geometry.{memory_blocks}
 use Rattle.thy_base.specs.Places.{in_dram, number_of, image_blocks, IsPlace}
+use Rattle.thy_base.proofs.BasicLemmas.{OnErr-of}
 use Rattle.thy_dram.specs.Contents.{Contents}
 use Rattle.thy_table.specs.Listing.{IsListing, free_count}
 use Rattle.thy_cell.specs.declared.cell.Cell.{Cell}
@@ -22,7 +23,7 @@ use Rattle.thy_control.specs.Cursors.{AreCursors}
 use Rattle.thy_control.proofs.CursorLemmas.{AreLowered, AreCursors-after}
 use Rattle.thy_control.proofs.MarkLemmas.{AreWorkCounts-after, marks-small, btt_most}
 use Rattle.thy_control.proofs.CellLemmas.{IsPlace-store}
-use Rattle.thy_control.proofs.PutLemmas.{has_free, Way, AreAfter, AreSoundTables-after, IsWithin-before, way_rule, way_table, way_cell, way_place, way_put, way_after, way_devices, way_all, way_state, way_failed, may_set_block, may_set_page, OnErr-of}
+use Rattle.thy_control.proofs.PutLemmas.{has_free, Way, AreAfter, AreSoundTables-after, IsWithin-before, way_rule, way_table, way_cell, way_place, way_put, way_after, way_devices, way_all, way_state, way_failed, may_set_block, may_set_page}
 use Rattle.thy_control.proofs.control.Control.put.Goals as goal
 
 pub place_for_rule-i-requires : goal.place_for_rule-i-requires

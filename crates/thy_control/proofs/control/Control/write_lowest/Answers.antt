@@ -1,9 +1,9 @@
 use Rattle.std.proofs.Common.{◌≡◌, ◌<◌, ◌%◌, ℕ, true, Some, sym, ◌∙◌, ap, subst, rules}
 use Rattle.thy_base.specs.Device.{Device}
 use Rattle.thy_base.specs.Geometry.{memory_blocks}
+use Rattle.thy_base.proofs.BasicLemmas.{OnErr-of}
 use Rattle.thy_control.specs.State.{State, IsSized, cell_of}
 use Rattle.thy_control.specs.Pages.{next_page, block_to_write, FailsWriteOf}
-use Rattle.thy_control.proofs.PutLemmas.{OnErr-of}
 use Rattle.thy_control.proofs.IssueLemmas.{IsDue-entry}
 use Rattle.thy_control.proofs.control.Control.write_lowest.Goals as goal
 

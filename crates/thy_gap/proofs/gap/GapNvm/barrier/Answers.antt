@@ -1,8 +1,8 @@
 use Rattle.std.proofs.lemmas.Grind.{common_steps}
 use Rattle.std.proofs.Common.{arith, refl, ◌∙◌, ap, sym}
+use Rattle.thy_base.proofs.BasicLemmas.{OnErr-of}
 use Rattle.thy_gap.specs.declared.registers.Registers.{Registers}
 use Rattle.thy_gap.specs.Seen.{seen}
-use Rattle.thy_gap.proofs.MovingLemmas.{on_err}
 use Rattle.thy_gap.proofs.SoundLemmas.{barrier_seen, sound_settled, sound_failed, failed_seen, rest_before_move, sound_moved, move_seen, sound_failed_to_move, failed_move_seen}
 use Rattle.thy_gap.proofs.gap.GapNvm.barrier.Goals as goal
 
@@ -11,7 +11,7 @@ invariant_of-self g c = sound_failed c.self.invariant (g.N.Nvm.device c.barrier.
 
 pub returns-in_err-barrier-clause-err : goal.returns-in_err-barrier-clause-err
 returns-in_err-barrier-clause-err g c =
-    rw (sym c.self.view_is) (on_err _ (failed_seen c.self.invariant (g.N.Nvm.device c.barrier.new.self) c.in_err-barrier.ensures.err))
+    rw (sym c.self.view_is) (OnErr-of _ (failed_seen c.self.invariant (g.N.Nvm.device c.barrier.new.self) c.in_err-barrier.ensures.err))
 
 pub invariant_of-self-then-not-due : goal.invariant_of-self-then-not-due
 invariant_of-self-then-not-due g c =
@@ -33,7 +33,7 @@ invariant_of-self-in_err-move_line g c =
 pub returns-in_err-move_line-clause-err : goal.returns-in_err-move_line-clause-err
 returns-in_err-move_line-clause-err g c =
     rw (sym c.self.view_is)
-    (on_err _
+    (OnErr-of _
     (failed_move_seen c.self.invariant (g.N.Nvm.device c.barrier.new.self) (g.N.Nvm.device c.move_line.new.inner) c.if-not-due.false c.in_ok-barrier.ensures.ok
     c.in_err-move_line.ensures.err))
 
@@ -57,4 +57,4 @@ pub returns-clause-moves : goal.returns-clause-moves
 returns-clause-moves g c = grind (arith, common_steps)
 
 pub returns-in_err-move_line-clause-stays : goal.returns-in_err-move_line-clause-stays
-returns-in_err-move_line-clause-stays g c = rw (sym c.self.view_is) (on_err _ refl)
+returns-in_err-move_line-clause-stays g c = rw (sym c.self.view_is) (OnErr-of _ refl)

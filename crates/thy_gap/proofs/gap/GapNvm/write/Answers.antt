@@ -1,8 +1,8 @@
 use Rattle.std.proofs.lemmas.Grind.{common_steps}
 use Rattle.std.proofs.Common.{◌∙◌, ap, sym, arith}
 use Rattle.thy_base.specs.Device.{written_to}
+use Rattle.thy_base.proofs.BasicLemmas.{OnErr-of}
 use Rattle.thy_gap.specs.Seen.{seen}
-use Rattle.thy_gap.proofs.MovingLemmas.{on_err}
 use Rattle.thy_gap.proofs.SoundLemmas.{line_seen, place_inside, write_seen, sound_written, sound_failed_to_write, failed_to_write_seen}
 use Rattle.thy_gap.proofs.gap.GapNvm.write.Goals as goal
 
@@ -24,7 +24,7 @@ pub returns-in_err-write-clause-err : goal.returns-in_err-write-clause-err
 returns-in_err-write-clause-err g c =
     let l = line_seen c.self.invariant c.args.at (rw (sym c.self.view_is) at c.requires.place) in
     rw (sym c.self.view_is)
-    (on_err _ (failed_to_write_seen c.self.invariant (g.N.Nvm.device c.write.new.self) c.args.at c.args.block.now l (rw c.place.ensures at c.in_err-write.ensures.err)))
+    (OnErr-of _ (failed_to_write_seen c.self.invariant (g.N.Nvm.device c.write.new.self) c.args.at c.args.block.now l (rw c.place.ensures at c.in_err-write.ensures.err)))
 
 pub invariant_of-self-2 : goal.invariant_of-self-2
 invariant_of-self-2 g c =
