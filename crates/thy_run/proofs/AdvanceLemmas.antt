@@ -1,6 +1,6 @@
 -- One cycle of the program's loop is one of a run.
 use Rattle.std.proofs.Common.{◌≡◌, ◌≢◌, ℕ, ◌+◌, ◌<◌, ◌≤◌, Bool, true, false, ◌&&◌, not, nat_lt, ◌==◌, if◌then◌else◌, Option, Some, None, List, [], ◌∷◌, ◌++◌, length, refl, sym, ◌∙◌, ap, subst, inl, inr, append-nil, append_assoc, length-append, ◌^◌, arith}
-use Rattle.std.specs.Prelude.{MatchBool, slice_index}
+use Rattle.std.specs.Prelude.{MatchBool, slice_index, is_some}
 use Rattle.std.proofs.lemmas.Bool.{ltb-true, and_parts}
 use Rattle.thy_base.specs.declared.bytes.Bytes.{Bytes}
 use Rattle.thy_base.specs.declared.mix.Mix.{Mix}
@@ -20,7 +20,7 @@ use Rattle.thy_view.specs.Booting.{view_of_image}
 use Rattle.thy_view.specs.Origin.{Begins, Origin, at}
 use Rattle.thy_view.specs.CoreStep.{CoreStep}
 use Rattle.thy_view.specs.Told.{AgreeBelow, reach, IsThere, HasTurn}
-use Rattle.thy_view.specs.Views.{is_halt, halts}
+use Rattle.thy_view.specs.Views.{is_halt, halts, loads}
 use Rattle.thy_view.specs.Safe.{ceiling}
 use Rattle.thy_view.specs.declared.error.CoreError.{CoreError}
 use Rattle.thy_view.specs.declared.error.CoreError.TheVariants.{Nvm as NvmFailed, Memory as NoMemory}
@@ -36,16 +36,27 @@ use Rattle.thy_run.proofs.ListingLemmas.{last_none, listed_next, ends_with, list
 use Rattle.thy_run.proofs.NoteLemmas.{events_due, told_or_halts}
 use Rattle.thy_run.proofs.TellLaws.{after_has, after_agrees, kept_agrees}
 use Rattle.thy_run.proofs.WorldLaws.{Good, Good-ran, events_end}
-use Rattle.thy_run.specs.declared.ending.Stop.{Stop}
 use Rattle.thy_run.specs.declared.ending.Stop.TheVariants.{Nvm, Memory}
+use Rattle.thy_run.specs.declared.gather.Readings.{Readings}
 use Rattle.thy_run.specs.declared.plan.Plan.{Plan}
 use Rattle.thy_run.specs.declared.progress.Progress.{Progress}
-use Rattle.thy_run.specs.Going.{origin_of, line_of, turns_then, AreTold, last_turns, list_after, HasTurnsRoom, given_of, world_at, IsPlanned, GoesOn, HasRoomToList, IsStepped, IsStuck, CanGather, MadeSome, IsEnd, IsNoted, IsDone, IsBroken, Breaks, AwaitsCut, Passes, CanCut, IsCutOffTo}
+use Rattle.thy_run.specs.Going.{origin_of, line_of, turns_then, AreTold, last_turns, list_after, HasTurnsRoom, given_of, world_at, IsPlanned, GoesOn, HasRoomToList, IsStepped, IsStuck, CanGather, MadeSome, Restores, IsEnding, IsEnd, IsNoted, IsDone, IsBroken, Breaks, AwaitsCut, Passes, Finishes, CanCut, IsCutOffTo}
 use Rattle.thy_run.specs.Endings.{EndsWith}
-use Rattle.thy_run.specs.Promises.{EndsWithTurns}
+use Rattle.thy_run.specs.Promises.{EndsWithTurns, IsReady}
 use Rattle.thy_run.specs.Stopping.{stop_of}
 use Rattle.thy_base.proofs.RangeLemmas.{epoch_least}
 use Rattle.thy_run.proofs.StepFrames.{TakesStep-framed}
+
+-- an option that is asked whether it is none
+pub is_none : {A : Type 0} (e : Option A) (b : Bool) → is_some e ≡ not b → b ≡ true → e ≡ None
+is_none None b h is = refl
+is_none (Some x) true h is = absurd (cc)
+is_none (Some x) false h is = absurd (cc)
+
+pub not_none : {A : Type 0} (e : Option A) (b : Bool) → is_some e ≡ not b → b ≡ false → e ≡ None → ⊥
+not_none (Some x) b h is none = absurd (cc)
+not_none None true h is none = absurd (cc)
+not_none None false h is none = absurd (cc)
 
 -- the progress after a step of the machine
 pub progress_stepped : {M : Type 0} → (p : Progress M) (m : M) (harts : ℕ) (mix : Mix) (turns : Bytes) → mix ≡ mix_next harts p.mix
@@ -125,7 +136,7 @@ module _ {M : Type 0} (K : KindOf M) (laws : IsLawful K) (plan : Plan) (p q : Pr
 
   -- the step ended the run
   pub done_ended : (status : Status) → ended ≡ Some status
-      → IsDone K plan p q n m k turns (turns_then plan turns r.did) r false bytes × (is_halt (seen K (origin_of plan) (world_at q m (k + 1) (turns_then plan turns r.did))).phase ≡ true) × EndsWith q.events status
+      → Finishes K plan p q n m k turns r bytes status
   done_ended status is =
       let v : View = seen K (origin_of plan) (world_at p n k turns) in
       let next : View = seen K (origin_of plan) (world_at q m (k + 1) (turns_then plan turns r.did)) in
@@ -153,7 +164,7 @@ module _ {M : Type 0} (K : KindOf M) (laws : IsLawful K) (plan : Plan) (p q : Pr
 
   -- the run continues, and no cut is due
   pub done_going : ended ≡ None → (cycle : ℕ) → cycle ≡ k + 1 → (nat_lt q.passed (length plan.config.cuts) && slice_index plan.config.cuts q.passed == cycle) ≡ false
-      → IsDone K plan p q n m k turns (turns_then plan turns r.did) r false bytes × (is_halt (seen K (origin_of plan) (world_at q m (k + 1) (turns_then plan turns r.did))).phase ≡ false)
+      → Passes K plan p q n m k turns r bytes
   done_going is cycle at_cycle due =
       let next : View = seen K (origin_of plan) (world_at q m (k + 1) (turns_then plan turns r.did)) in
       let due_now : (nat_lt q.passed (length plan.config.cuts) && slice_index plan.config.cuts q.passed == k + 1) ≡ false =
@@ -523,37 +534,6 @@ module _ {M : Type 0} (K : KindOf M) (laws : IsLawful K) (plan : Plan) (fitted :
         let few : length (released_of o next.events) < 2 ^ 64 = length-released o next.events planned.origin in
         omega (arith, released, sum, few)
 
-    -- ---- the same, from what the calls promise
-
-    pub noted_from : (ended : Option Status) (bytes : List ℕ) (e : List Event) (len cycle : ℕ) (did : Did) (t : Bytes)
-        → r.did ≡ did → len ≡ length bytes → cycle ≡ k + 1
-        → e ≡ q.events ++ events_of (line_of plan (turns_then plan turns did)) q.fresh (seen K (origin_of plan) (world_at p n k turns)) did (K.view (line_of plan (turns_then plan turns did)) q.machine m) cycle
-        → bytes_of t ≡ list_after did (bytes_of q.turns) → room_of q.turns ≤ room_of t
-        → bytes ≡ due_of (line_of plan (turns_then plan turns did)) q.events did (K.view (line_of plan (turns_then plan turns did)) q.machine m)
-        → IsEnd (line_of plan (turns_then plan turns did)) (seen K (origin_of plan) (world_at p n k turns)) (K.view (line_of plan (turns_then plan turns did)) q.machine m) ended
-        → IsNoted K plan p (record q { events = e; released = q.released + len; fresh = false; turns = t }) n m k turns r ended bytes
-    noted_from ended bytes e len cycle did t did_is len_is cycle_is made listed room due is_end =
-        let o : Origin = origin_of plan in
-        let v : View = seen K o (world_at p n k turns) in
-        let after_of : Did → View = λ d. K.view (line_of plan (turns_then plan turns d)) q.machine m in
-        let Made : Did → ℕ → Type 0 = λ d c. e ≡ q.events ++ events_of (line_of plan (turns_then plan turns d)) q.fresh v d (after_of d) c in
-        let Due : Did → Type 0 = λ d. bytes ≡ due_of (line_of plan (turns_then plan turns d)) q.events d (after_of d) in
-        let End : Did → Type 0 = λ d. IsEnd (line_of plan (turns_then plan turns d)) v (after_of d) ended in
-        let Lists : Did → Type 0 = λ d. bytes_of t ≡ list_after d (bytes_of q.turns) in
-        IsNoted-made (record q { events = e; released = q.released + len; fresh = false; turns = t }) ended bytes
-        (subst (Made r.did) cycle_is (subst (λ d. Made d cycle) (sym did_is) made))
-        refl (ap (λ l. q.released + l) len_is) (subst Lists (sym did_is) listed) room (subst Due (sym did_is) due) (subst End (sym did_is) is_end)
-
-    pub broken_from : (e : List Event) (bytes : List ℕ) (cycle : ℕ) (did : Did) → r.did ≡ did → cycle ≡ k + 1 → bytes ≡ []
-        → MadeSome e (events_of (line_of plan (turns_then plan turns did)) q.fresh (seen K (origin_of plan) (world_at p n k turns)) did (K.view (line_of plan (turns_then plan turns did)) q.machine m) cycle) q.events
-        → IsBroken K plan p (record q { events = e }) n m k bytes × Breaks K plan p (record q { events = e }) n m k turns bytes Memory
-    broken_from e bytes cycle did did_is cycle_is none some =
-        let v : View = seen K (origin_of plan) (world_at p n k turns) in
-        let P : Did → ℕ → Type 0 = λ d c. MadeSome e (events_of (line_of plan (turns_then plan turns d)) q.fresh v d (K.view (line_of plan (turns_then plan turns d)) q.machine m) c) q.events in
-        let some_of : P r.did (k + 1) = subst (P r.did) cycle_is (subst (λ d. P d cycle) (sym did_is) some) in
-        subst (λ (b : List ℕ). IsBroken K plan p (record q { events = e }) n m k b × Breaks K plan p (record q { events = e }) n m k turns b Memory) (sym none)
-        (IsBroken-made (record q { events = e }) some_of refl)
-
     -- ---- a quiet cycle
 
     -- a quiet step makes a cycle without an event
@@ -592,10 +572,67 @@ IsBroken-stuck {M = M} K plan fitted p q n m k turns g s =
       (inl (record { going = g.going; next = q.machine; leaves = s.leaves; framed = s.framed; rose = s.rose; nothing_told = events_q }), record { events = events_q; none = refl; rose = s.rose }),
     )
 
--- nothing is due
-pub broken_none : {M : Type 0} (K : KindOf M) → (plan : Plan) (p q : Progress M) (n m : Device) (k : ℕ) (turns : List ℕ) (bytes : List ℕ) (stop is : Stop) → bytes ≡ [] → is ≡ stop
-    → IsBroken K plan p q n m k [] × Breaks K plan p q n m k turns [] stop → IsBroken K plan p q n m k bytes × Breaks K plan p q n m k turns bytes is
-broken_none {M = M} K plan p q n m k turns bytes stop is none same h =
-    let P : List ℕ → Type 0 = λ b. IsBroken K plan p q n m k b × Breaks K plan p q n m k turns b stop in
-    let Q : Stop → Type 0 = λ s. IsBroken K plan p q n m k bytes × Breaks K plan p q n m k turns bytes s in
-    subst Q (sym same) (subst P (sym none) h)
+-- ---- a step and all that was read for its events, from what the calls promise
+
+module _ {M : Type 0} (K : KindOf M) (laws : IsLawful K) (plan : Plan) (fitted : Device) (p q : Progress M) (n m : Device) (k : ℕ) (turns : List ℕ) (r : Stepped) (readings : Readings) (cycle : ℕ) (planned : IsPlanned plan)
+    (ready : IsReady K plan fitted p q n m k turns r readings cycle) where
+  abbrev line : Origin
+  line = line_of plan (turns_then plan turns r.did)
+
+  abbrev before : View
+  before = seen K (origin_of plan) (world_at p n k turns)
+
+  abbrev after : View
+  after = K.view line q.machine m
+
+  -- it holds in every run for which this was read
+  abbrev ForReadings : (Origin → Bool → View → View → Type 0) → Type 0
+  ForReadings Holds =
+      (o : Origin) (fresh : Bool) (v next : View) → readings.reload ≡ (fresh && loads next) → EndsWithTurns o v r.did (bytes_of q.turns)
+      → Restores o r.did readings.restored → IsEnding o v next readings.ended → Holds o fresh v next
+
+  -- these events are made
+  abbrev AllMade : List Event → Type 0
+  AllMade e = ForReadings (λ o fresh v next. e ≡ q.events ++ events_of o fresh v r.did next cycle)
+
+  -- or the first of them
+  abbrev SomeMade : List Event → Type 0
+  SomeMade e = ForReadings (λ o fresh v next. MadeSome e (events_of o fresh v r.did next cycle) q.events)
+
+  of_run : (Holds : Origin → Bool → View → View → Type 0) → ForReadings Holds → Holds line q.fresh before after
+  of_run Holds all =
+      all line q.fresh before after ready.gathered.reload (ends_stepped K laws plan fitted p n k turns planned ready.goes q m r ready.stepped)
+      ready.gathered.restored ready.gathered.ended
+
+  all_of : (e : List Event) → AllMade e → e ≡ q.events ++ events_of line q.fresh before r.did after cycle
+  all_of e all = of_run (λ o fresh v next. e ≡ q.events ++ events_of o fresh v r.did next cycle) all
+
+  some_of : (e : List Event) → SomeMade e → MadeSome e (events_of line q.fresh before r.did after cycle) q.events
+  some_of e some = of_run (λ o fresh v next. MadeSome e (events_of o fresh v r.did next cycle) q.events) some
+
+  pub noted_ready : (ended : Option Status) (e : List Event) (len : ℕ) (t : Bytes) → AllMade e
+      → ((o : Origin) (v next : View) → IsEnding o v next readings.ended → IsEnd o v next ended)
+      → len ≡ length (bytes_of readings.bytes) → bytes_of t ≡ list_after r.did (bytes_of q.turns) → room_of t ≡ room_of q.turns
+      → IsNoted K plan p (record q { events = e; released = q.released + len; fresh = false; turns = t }) n m k turns r ended (bytes_of readings.bytes)
+  noted_ready ended e len t all is_end len_is listed room =
+      let Made : ℕ → Type 0 = λ c. e ≡ q.events ++ events_of line q.fresh before r.did after c in
+      IsNoted-made K laws plan fitted p n k turns planned ready.goes q m r ready.stepped (record q { events = e; released = q.released + len; fresh = false; turns = t }) ended (bytes_of readings.bytes)
+      (subst Made ready.at_cycle (all_of e all)) refl (ap (λ l. q.released + l) len_is) listed (omega (arith, room)) ready.gathered.bytes (is_end line before after ready.gathered.ended)
+
+  pub broken_ready : (e : List Event) → SomeMade e
+      → IsBroken K plan p (record q { events = e }) n m k [] × Breaks K plan p (record q { events = e }) n m k turns [] Memory
+  broken_ready e some =
+      let Made : ℕ → Type 0 = λ c. MadeSome e (events_of line q.fresh before r.did after c) q.events in
+      IsBroken-made K laws plan fitted p n k turns planned ready.goes q m r ready.stepped (record q { events = e }) (subst Made ready.at_cycle (some_of e some)) refl
+
+  -- there are no fewer events than before
+  pub more_noted : (e : List Event) → AllMade e → length q.events ≤ length e
+  more_noted e all =
+      let is : length e ≡ length q.events + _ = ap length (all_of e all) ∙ length-append q.events _ in
+      omega (arith, is)
+
+  pub more_broken : (e : List Event) → SomeMade e → length q.events ≤ length e
+  more_broken e some =
+      let made = some_of e some in
+      let is : length e ≡ length q.events + length made.part = ap length made.grew ∙ length-append q.events made.part in
+      omega (arith, is)

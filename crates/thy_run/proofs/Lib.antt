@@ -26,6 +26,6 @@ pub mod GatherLemmas
 pub mod NoteLemmas
 pub mod TellLemmas
 pub mod AdvanceLemmas
-pub mod RoundLemmas
+pub mod OutcomeLemmas
 pub mod StartLemmas
 pub mod SeeingLemmas

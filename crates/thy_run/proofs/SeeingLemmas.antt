@@ -6,14 +6,14 @@ use Rattle.thy_isa.specs.declared.state.Status.{Status}
 use Rattle.thy_view.specs.declared.did.Stepped.{Stepped}
 use Rattle.thy_view.specs.Kind.{KindOf, IsLawful}
 use Rattle.thy_view.specs.Origin.{Origin}
-use Rattle.thy_run.specs.declared.advance.Outcome.{Outcome}
-use Rattle.thy_run.specs.declared.advance.Outcome.TheVariants.{Goes, Cuts, Ends, Fails}
+use Rattle.thy_run.specs.declared.advance.Outcome.TheVariants.{Goes, Stops}
 use Rattle.thy_run.specs.declared.ending.Ending.{Ending}
+use Rattle.thy_run.specs.declared.ending.Stop.TheVariants.{Ended}
 use Rattle.thy_run.specs.declared.plan.Plan.{Plan}
 use Rattle.thy_run.specs.declared.progress.Progress.{Progress}
-use Rattle.thy_run.specs.Going.{origin_of, turns_then, given_of, world_at, IsDone, AwaitsCut, ComesTo, IsCutOffTo}
-use Rattle.thy_run.specs.Rounds.{round_of, RunEndsAt}
-use Rattle.thy_run.specs.Seeing.{Awaited, Watched, RunEndsSeen, SeesOutcome, SeenBy}
+use Rattle.thy_run.specs.Going.{origin_of, turns_then, given_of, world_at, IsDone, AwaitsCut, IsCutOffTo}
+use Rattle.thy_run.specs.Rounds.{stopped_for, RunEndsAt}
+use Rattle.thy_run.specs.Seeing.{Awaited, Watched, RunEndsSeen, SeenBy}
 use Rattle.thy_run.specs.Watching.{Taken, taken, taken_in, IsListed, CanSee, CanSeeCut, Forgets, Keeps, Sees, SeesCutAfter}
 use Rattle.thy_run.specs.World.{World, Given, IsFirst}
 use Rattle.thy_run.proofs.AdvanceLemmas.{cut_turns, done_cut}
@@ -74,30 +74,19 @@ RunEndsSeen-at {M = M} K has_seen plan fitted new e terminal shown report read p
   ),
 )
 
--- what it has seen after a round whose outcome it was shown
+-- what it has seen after a cycle
 module _ {M O : Type 0} (K : KindOf M) (has_seen : O → List Taken → Type 0) (keeps : O → List Taken → Stepped → Type 0) (plan : Plan) (fitted : Device) (p q : Progress M) (n m : Device) (k : ℕ) (turns : List ℕ) where
-  by_sinks : (after : List ℕ) (terminal report : Bool) (old new : O) → Watched K has_seen plan fitted q m (k + 1) after new
-      → SeenBy K has_seen keeps plan fitted p (record q { terminal_failed = terminal; report_failed = report }) n m k turns after old new (round_of Goes terminal report)
-  by_sinks after terminal true old new w = w
-  by_sinks after true false old new w = w
-  by_sinks after false false old new w = w
+  pub SeenBy-going : (after : List ℕ) (terminal report : Bool) (old new : O) → Watched K has_seen plan fitted q m (k + 1) after new
+      → SeenBy K has_seen keeps plan fitted p (record q { terminal_failed = terminal; report_failed = report }) n m k turns after old new (stopped_for terminal report Goes)
+  SeenBy-going after terminal true old new w = w
+  SeenBy-going after true false old new w = w
+  SeenBy-going after false false old new w = w
 
-  by_end : (after : List ℕ) (status : Status) (terminal report : Bool) (old new : O) → Watched K has_seen plan fitted q m (k + 1) after new
-      → SeenBy K has_seen keeps plan fitted p (record q { terminal_failed = terminal; report_failed = report }) n m k turns after old new (round_of (Ends status) terminal report)
-  by_end after status terminal true old new w = w
-  by_end after status true false old new w = w
-  by_end after status false false old new w = w
-
-  pub SeenBy-shown : (r : Stepped) (bytes : List ℕ) (outcome : Outcome) (terminal report : Bool) (old new : O)
-      → (outcome ≡ Cuts → ⊥) → ComesTo K plan p q n m k turns r bytes outcome → Watched K has_seen plan fitted p n k turns old
-      → SeesOutcome has_seen keeps old new r (length q.events - length p.events) outcome
-      → SeenBy K has_seen keeps plan fitted p (record q { terminal_failed = terminal; report_failed = report }) n m k turns (turns_then plan turns r.did) old new (round_of outcome terminal report)
-  SeenBy-shown r bytes Goes terminal report old new uncut c w sees =
-      by_sinks (turns_then plan turns r.did) terminal report old new (Watched-done K has_seen plan fitted p q n m k turns (turns_then plan turns r.did) r false bytes (length q.events - length p.events) old new c.0 refl w sees)
-  SeenBy-shown r bytes (Ends status) terminal report old new uncut c w sees =
-      by_end (turns_then plan turns r.did) status terminal report old new (Watched-done K has_seen plan fitted p q n m k turns (turns_then plan turns r.did) r false bytes (length q.events - length p.events) old new c.0 refl w sees)
-  SeenBy-shown r bytes Cuts terminal report old new uncut c w sees = absurd (uncut refl)
-  SeenBy-shown r bytes (Fails stop) terminal report old new uncut c w sees = sees
+  pub SeenBy-ended : (after : List ℕ) (status : Status) (terminal report : Bool) (old new : O) → Watched K has_seen plan fitted q m (k + 1) after new
+      → SeenBy K has_seen keeps plan fitted p (record q { terminal_failed = terminal; report_failed = report }) n m k turns after old new (stopped_for terminal report (Stops (Ended status)))
+  SeenBy-ended after status terminal true old new w = w
+  SeenBy-ended after status true false old new w = w
+  SeenBy-ended after status false false old new w = w
 
   -- it keeps the step of a cycle after which a cut is due
   pub Awaited-kept : (r : Stepped) (old new : O) → Watched K has_seen plan fitted p n k turns old → Keeps has_seen keeps old new r

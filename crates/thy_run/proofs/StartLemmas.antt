@@ -25,7 +25,7 @@ use Rattle.thy_run.specs.Sending.{Delivered}
 use Rattle.thy_run.specs.Rounds.{IsFitted, IsStarted, Running, RunEndsAt, first_progress}
 use Rattle.thy_run.proofs.AdvanceLemmas.{good_of}
 use Rattle.thy_run.proofs.ListingLemmas.{none_last}
-use Rattle.thy_run.proofs.RoundLemmas.{Took-none, delivered_all}
+use Rattle.thy_run.proofs.OutcomeLemmas.{Took-none, delivered_all}
 use Rattle.thy_base.proofs.RangeLemmas.{limit_least}
 
 -- the view with which a run begins has nothing in doubt
@@ -70,7 +70,7 @@ first_is plan m t mix events by none =
     ap (λ (x : Mix). record (first_progress plan m t) { mix = x; events = events }) by
     ∙ ap (λ (e : List Event). record (first_progress plan m t) { events = e }) none
 
--- the loop before its first round
+-- the loop before its first cycle
 pub Running-first : {M : Type 0} (K : KindOf M) (laws : IsLawful K) → (plan : Plan) (p : Progress M) (n : Device) (t r : Stream) → IsPlanned plan → IsFitted K plan n
     → IsStarted K plan p → Running K plan n p n 0 [] t t r r
 Running-first {M = M} K laws plan p n t r planned f started =

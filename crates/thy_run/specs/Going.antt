@@ -30,8 +30,6 @@ use Rattle.thy_run.specs.Unfinished.{StepFailed, TellingFailed, ReadFailed, Left
 use Rattle.thy_run.specs.World.{World, Given, seen, turns_after, TakesStep, Ran, Cycle, is_due, tear}
 use Rattle.thy_run.specs.declared.ending.Stop.{Stop}
 use Rattle.thy_run.specs.declared.ending.Stop.TheVariants.{Nvm, Memory}
-use Rattle.thy_run.specs.declared.advance.Outcome.{Outcome}
-use Rattle.thy_run.specs.declared.advance.Outcome.TheVariants.{Goes, Cuts, Ends, Fails}
 use Rattle.thy_run.specs.declared.gather.Readings.{Readings}
 use Rattle.thy_run.specs.declared.plan.Plan.{Plan}
 use Rattle.thy_run.specs.declared.progress.Progress.{Progress}
@@ -259,17 +257,13 @@ Passes K plan p next n new cycles turns r bytes =
     IsDone K plan p next n new cycles turns (turns_then plan turns r.did) r false bytes
     × (is_halt (seen K (origin_of plan) (world_at next new (cycles + 1) (turns_then plan turns r.did))).phase ≡ false)
 
--- the outcome of the cycle of a step
-abbrev pub ComesTo : {M : Type 0} → KindOf M → Plan → Progress M → Progress M → Device → Device → ℕ → List ℕ → Stepped
-    → List ℕ → Outcome → Type 0
-ComesTo K plan p next n new cycles turns r bytes Goes = Passes K plan p next n new cycles turns r bytes
-ComesTo K plan p next n new cycles turns r bytes Cuts = AwaitsCut K plan p next n new cycles turns r bytes
-ComesTo K plan p next n new cycles turns r bytes (Ends status) =
+-- a cycle is done by this step, and the program has ended with this status
+abbrev pub Finishes : {M : Type 0} → KindOf M → Plan → Progress M → Progress M → Device → Device → ℕ → List ℕ → Stepped
+    → List ℕ → Status → Type 0
+Finishes K plan p next n new cycles turns r bytes status =
     IsDone K plan p next n new cycles turns (turns_then plan turns r.did) r false bytes
     × (is_halt (seen K (origin_of plan) (world_at next new (cycles + 1) (turns_then plan turns r.did))).phase ≡ true)
     × EndsWith next.events status
-ComesTo K plan p next n new cycles turns r bytes (Fails stop) =
-    IsBroken K plan p next n new cycles bytes × Breaks K plan p next n new cycles turns bytes stop
 
 -- power may be cut: the machine is at a moment of the run, and another cut is listed
 pub record CanCut {M : Type 0} (K : KindOf M) (plan : Plan) (p : Progress M) (n : Device) : Type 0 where

@@ -1,5 +1,5 @@
 -- What the functions of the loop promise each other: each from any moment of any run.
-use Rattle.std.specs.Prelude.{◌≡◌, ℕ, ◌+◌, ◌-◌, ◌&&◌, true, false, Bool, List, [], length, Option, Result, IfOk, OnOk, OnErr, ◌++◌, Box}
+use Rattle.std.specs.Prelude.{◌≡◌, ℕ, ◌+◌, ◌<◌, ◌&&◌, true, Bool, List, length, Option, Result, IfOk, OnOk, OnErr, ◌++◌, Box}
 use Rattle.std.specs.declared.alloc.Global.{Global}
 use Rattle.thy_base.specs.declared.bytes.Bytes.{Bytes}
 use Rattle.thy_base.specs.declared.cause.EndCause.{EndCause}
@@ -19,17 +19,15 @@ use Rattle.thy_view.specs.Kind.{IsSnapshot, KindOf}
 use Rattle.thy_view.specs.Origin.{Origin}
 use Rattle.thy_view.specs.Views.{is_between, loads}
 use Rattle.thy_run.specs.Due.{due_of}
-use Rattle.thy_run.specs.declared.advance.Advance.{Advance}
-use Rattle.thy_run.specs.declared.advance.Advance.TheVariants.{Quiet, Noted}
 use Rattle.thy_run.specs.declared.advance.Outcome.{Outcome}
 use Rattle.thy_run.specs.declared.ending.Ending.{Ending}
 use Rattle.thy_run.specs.declared.gather.Readings.{Readings}
 use Rattle.thy_run.specs.declared.plan.Plan.{Plan}
 use Rattle.thy_run.specs.declared.progress.Progress.{Progress}
-use Rattle.thy_run.specs.Going.{origin_of, line_of, turns_then, world_at, GoesOn, IsStepped, IsStuck, CanGather, MadeSome, Restores, IsEnding, IsEnd, IsGathered, IsNoted, AwaitsCut, Passes, ComesTo}
+use Rattle.thy_run.specs.Going.{origin_of, line_of, turns_then, world_at, GoesOn, IsStepped, IsStuck, CanGather, MadeSome, Restores, IsEnding, IsEnd, IsGathered, AwaitsCut}
 use Rattle.thy_run.specs.Sending.{Sinks}
-use Rattle.thy_run.specs.Seeing.{SeesOutcome}
-use Rattle.thy_run.specs.Watching.{Taken, taken, Sees}
+use Rattle.thy_run.specs.Seeing.{Watched, CycleTaken}
+use Rattle.thy_run.specs.Watching.{Taken}
 use Rattle.thy_run.specs.Rounds.{Running, RunEnds}
 use Rattle.thy_run.specs.World.{seen, turns_behind, did_told, end_told, events_of}
 
@@ -139,13 +137,6 @@ NotesSome did turns reload restored ended cycle old new result =
 
 -- ---- a cycle
 
--- the outcome of a cycle whose events were made
-abbrev pub ConcludesNoted : {M : Type 0} → KindOf M → Plan → Progress M → Option Status → ℕ → Outcome → Type 0
-ConcludesNoted {M = M} K plan next ended cycle outcome =
-    (fitted : Device) (p : Progress M) (n m : Device) (k : ℕ) (turns : List ℕ) (r : Stepped) (bytes : List ℕ)
-    → GoesOn K plan fitted p n k turns → IsNoted K plan p next n m k turns r ended bytes → cycle ≡ k + 1
-    → ComesTo K plan p next n m k turns r bytes outcome
-
 -- what was read for the events of a step from p to q
 abbrev pub IsGatheredFor : {M : Type 0} → KindOf M → Plan → Progress M → Progress M → Device → Device → ℕ → List ℕ
     → Did → Readings → Type 0
@@ -153,34 +144,33 @@ IsGatheredFor K plan p q n m k turns did readings =
     IsGathered (line_of plan (turns_then plan turns did)) (seen K (origin_of plan) (world_at p n k turns))
     (K.view (line_of plan (turns_then plan turns did)) q.machine m) q did readings
 
--- a step was taken, and all was read for its events
-abbrev pub CanConclude : {M : Type 0} → KindOf M → Plan → Progress M → Did → Readings → ℕ → Type 0
-CanConclude {M = M} K plan q did readings cycle =
-    (fitted : Device) × (p : Progress M) × (n : Device) × (m : Device) × (k : ℕ) × (turns : List ℕ) × (r : Stepped)
-    × GoesOn K plan fitted p n k turns × IsStepped K plan p q n m k turns r
-    × IsGatheredFor K plan p q n m k turns did readings × (r.did ≡ did) × (cycle ≡ k + 1)
+-- a step was taken in a run that continues, and all was read for its events
+pub record IsReady {M : Type 0} (K : KindOf M) (plan : Plan) (fitted : Device) (p q : Progress M) (n m : Device) (k : ℕ)
+    (turns : List ℕ) (r : Stepped) (readings : Readings) (cycle : ℕ) : Type 0 where
+  pub goes : GoesOn K plan fitted p n k turns
+  pub few : k < plan.geometry.limit
+  pub stepped : IsStepped K plan p q n m k turns r
+  pub gathered : IsGatheredFor K plan p q n m k turns r.did readings
+  pub at_cycle : cycle ≡ k + 1
 
--- and then its cycle has this outcome
-abbrev pub Concludes : {M : Type 0} → KindOf M → Plan → Progress M → Progress M → Did → Readings → ℕ → List ℕ
-    → Outcome → Type 0
-Concludes {M = M} K plan q next did readings cycle bytes outcome =
-    (fitted : Device) (p : Progress M) (n m : Device) (k : ℕ) (turns : List ℕ) (r : Stepped)
-    → GoesOn K plan fitted p n k turns → IsStepped K plan p q n m k turns r
-    → IsGatheredFor K plan p q n m k turns did readings → r.did ≡ did → cycle ≡ k + 1
-    → ComesTo K plan p next n m k turns r bytes outcome
+-- so its cycle may be concluded
+abbrev pub CanConclude : {M : Type 0} → KindOf M → Plan → Progress M → Stepped → Readings → ℕ → Type 0
+CanConclude {M = M} K plan q r readings cycle =
+    (fitted : Device) × (p : Progress M) × (n : Device) × (m : Device) × (k : ℕ) × (turns : List ℕ)
+    × IsReady K plan fitted p q n m k turns r readings cycle
 
--- from a run that continues, a cycle has this outcome; the observer has seen it, or keeps its step if a cut is due
-abbrev pub TakesCycle : {M O : Type 0} → KindOf M → (O → List Taken → Type 0) → (O → List Taken → Stepped → Type 0) → Plan
-    → Progress M → Progress M → Device → Device → ℕ → O → O → Advance → Type 0
-TakesCycle K has_seen keeps plan p next n new done old_o new_o Quiet =
-    (fitted : Device) (turns : List ℕ) → GoesOn K plan fitted p n done turns
-    → (r : Stepped) × Passes K plan p next n new done turns r [] × Sees has_seen old_o new_o (taken r 0 false)
-TakesCycle K has_seen keeps plan p next n new done old_o new_o (Noted noted) =
-    (fitted : Device) (turns : List ℕ) → GoesOn K plan fitted p n done turns
-    → (r : Stepped) × ComesTo K plan p next n new done turns r (bytes_of noted.bytes) noted.outcome
-    × SeesOutcome has_seen keeps old_o new_o r (length next.events - length p.events) noted.outcome
+-- and then it comes to this
+abbrev pub Concludes : {M O : Type 0} → KindOf M → (O → List Taken → Type 0) → (O → List Taken → Stepped → Type 0)
+    → Plan → Progress M → Progress M → Stepped → Readings → ℕ → Sinks → Sinks → O → O → Outcome → Type 0
+Concludes {M = M} K has_seen keeps plan q next r readings cycle before after old_o new_o outcome =
+    (fitted : Device) (p : Progress M) (n m : Device) (k : ℕ) (turns : List ℕ) (t u : Stream)
+    → IsReady K plan fitted p q n m k turns r readings cycle
+    → Running K plan fitted p n k turns t before.terminal u before.report
+    → Watched K has_seen plan fitted p n k turns old_o
+    → CycleTaken K has_seen keeps plan fitted p next n m k turns t before.terminal after.terminal u before.report
+    after.report old_o new_o outcome
 
--- ---- a round of the loop
+-- ---- the loop
 
 -- the run continues, and its sinks took all that was due since its start
 abbrev pub IsRunning : {M : Type 0} → KindOf M → Plan → Progress M → Device → ℕ → Sinks → Type 0

@@ -9,12 +9,10 @@ use Rattle.thy_view.specs.Kind.{IsFittedFor, KindOf}
 use Rattle.thy_text.specs.Lines.{report_of}
 use Rattle.thy_run.specs.Laws.{released_of}
 use Rattle.thy_run.specs.declared.advance.Outcome.{Outcome}
-use Rattle.thy_run.specs.declared.advance.Outcome.TheVariants.{Goes, Cuts, Ends, Fails}
+use Rattle.thy_run.specs.declared.advance.Outcome.TheVariants.{Goes, Cuts, Stops, Breaks}
 use Rattle.thy_run.specs.declared.ending.Stop.{Stop}
-use Rattle.thy_run.specs.declared.ending.Stop.TheVariants.{Ended, Terminal, Report}
+use Rattle.thy_run.specs.declared.ending.Stop.TheVariants.{Terminal, Report}
 use Rattle.thy_run.specs.declared.ending.Ending.{Ending}
-use Rattle.thy_run.specs.declared.cycles.Round.{Round}
-use Rattle.thy_run.specs.declared.cycles.Round.TheVariants.{GoesOn as RoundGoesOn, Cuts as CutsOff, Stops, Breaks as BreaksOff}
 use Rattle.thy_run.specs.declared.plan.Plan.{Plan}
 use Rattle.thy_run.specs.declared.progress.Progress.{Progress}
 use Rattle.thy_base.specs.declared.bytes.Bytes.{Bytes}
@@ -24,17 +22,10 @@ use Rattle.thy_run.specs.World.{World}
 use Rattle.thy_run.specs.Endings.{HasRun}
 
 -- a stop for a sink that failed comes before the others of a cycle that is done
-abbrev pub stopped_for : (terminal report : Bool) → Round → Round
-stopped_for terminal true round = Stops Report
-stopped_for true false round = Stops Terminal
-stopped_for false false round = round
-
--- the outcome of a cycle once it was reported
-abbrev pub round_of : Outcome → (terminal report : Bool) → Round
-round_of (Fails stop) terminal report = BreaksOff stop
-round_of Goes terminal report = stopped_for terminal report RoundGoesOn
-round_of Cuts terminal report = stopped_for terminal report RoundGoesOn
-round_of (Ends status) terminal report = stopped_for terminal report (Stops (Ended status))
+abbrev pub stopped_for : (terminal report : Bool) → Outcome → Outcome
+stopped_for terminal true outcome = Stops Report
+stopped_for true false outcome = Stops Terminal
+stopped_for false false outcome = outcome
 
 -- a device that was fitted for a plan
 pub record IsFitted {M : Type 0} (K : KindOf M) (plan : Plan) (n : Device) : Type 0 where
@@ -75,17 +66,17 @@ ending_of stop p cycles = record {
   report_failed = p.report_failed;
 }
 
--- the result of a round of the loop, before which some turns were reported, and some after it
-abbrev pub IsRound : {M : Type 0} → KindOf M → Plan → Device → Progress M → Progress M → Device → Device → ℕ
-    → List ℕ → List ℕ → Stream → Stream → Stream → Stream → Stream → Stream → Round → Type 0
-IsRound K plan fitted p next n new cycles turns after terminal showing shown report reading read RoundGoesOn =
+-- what a cycle came to, before which some turns were reported, and some after it
+abbrev pub ComesTo : {M : Type 0} → KindOf M → Plan → Device → Progress M → Progress M → Device → Device → ℕ
+    → List ℕ → List ℕ → Stream → Stream → Stream → Stream → Stream → Stream → Outcome → Type 0
+ComesTo K plan fitted p next n new cycles turns after terminal showing shown report reading read Goes =
     Running K plan fitted next new (cycles + 1) after terminal shown report read
-IsRound K plan fitted p next n new cycles turns after terminal showing shown report reading read (CutsOff bytes) =
+ComesTo K plan fitted p next n new cycles turns after terminal showing shown report reading read (Cuts bytes) =
     (shown ≡ showing) × (read ≡ reading)
-IsRound K plan fitted p next n new cycles turns after terminal showing shown report reading read (Stops stop) =
+ComesTo K plan fitted p next n new cycles turns after terminal showing shown report reading read (Stops stop) =
     RunEndsAt K plan fitted new (ending_of stop next (cycles + 1)) terminal shown report read
     (world_at next new (cycles + 1) after)
-IsRound K plan fitted p next n new cycles turns after terminal showing shown report reading read (BreaksOff stop) =
+ComesTo K plan fitted p next n new cycles turns after terminal showing shown report reading read (Breaks stop) =
     RunEndsAt K plan fitted new (ending_of stop next cycles) terminal shown report read (world_at p n cycles turns)
 
 -- a run before its first cycle, with a list for turns

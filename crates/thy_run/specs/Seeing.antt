@@ -1,22 +1,20 @@
 -- What the loop promises of its observer.
-use Rattle.std.specs.Prelude.{◌≡◌, ℕ, ◌+◌, false, List, length, Result, Ok, Err}
+use Rattle.std.specs.Prelude.{◌≡◌, ℕ, ◌+◌, List, length, Result, Ok, Err}
 use Rattle.thy_base.specs.Bytes.{bytes_of}
 use Rattle.thy_base.specs.Device.{Device}
 use Rattle.thy_base.specs.Outside.{Stream}
 use Rattle.thy_view.specs.declared.did.Stepped.{Stepped}
 use Rattle.thy_view.specs.Kind.{KindOf}
 use Rattle.thy_run.specs.declared.advance.Outcome.{Outcome}
-use Rattle.thy_run.specs.declared.advance.Outcome.TheVariants.{Goes, Cuts, Ends, Fails}
-use Rattle.thy_run.specs.declared.cycles.Round.{Round}
-use Rattle.thy_run.specs.declared.cycles.Round.TheVariants.{GoesOn as RoundGoesOn, Cuts as CutsOff, Stops, Breaks as BreaksOff}
+use Rattle.thy_run.specs.declared.advance.Outcome.TheVariants.{Goes, Cuts, Stops, Breaks}
 use Rattle.thy_run.specs.declared.ending.Ending.{Ending}
 use Rattle.thy_run.specs.declared.plan.Plan.{Plan}
 use Rattle.thy_run.specs.declared.progress.Progress.{Progress}
 use Rattle.thy_run.specs.Endings.{HasRun}
 use Rattle.thy_run.specs.Going.{origin_of, given_of, world_at, AwaitsCut}
-use Rattle.thy_run.specs.Rounds.{Running, IsRound, RunEnds}
+use Rattle.thy_run.specs.Rounds.{Running, ComesTo, RunEnds}
 use Rattle.thy_run.specs.Sending.{Sinks}
-use Rattle.thy_run.specs.Watching.{Taken, taken, IsListed, Keeps, Sees}
+use Rattle.thy_run.specs.Watching.{Taken, IsListed}
 use Rattle.thy_run.specs.World.{Given}
 use Rattle.thy_view.specs.Origin.{Origin}
 
@@ -48,44 +46,37 @@ RunEndsSeen K has_seen plan fitted new e terminal shown report read observer =
     (h : RunEnds K plan fitted new e terminal shown report read)
     × HasSeenRun K has_seen (origin_of plan) (given_of plan fitted) new e terminal shown report read h observer
 
--- what an observer has seen after a cycle of this step that came to this
-abbrev pub SeesOutcome : {O : Type 0} → (O → List Taken → Type 0) → (O → List Taken → Stepped → Type 0) → O → O → Stepped → ℕ
-    → Outcome → Type 0
-SeesOutcome has_seen keeps old new r told Goes = Sees has_seen old new (taken r told false)
-SeesOutcome has_seen keeps old new r told (Ends status) = Sees has_seen old new (taken r told false)
-SeesOutcome has_seen keeps old new r told Cuts = Keeps has_seen keeps old new r
-SeesOutcome has_seen keeps old new r told (Fails stop) = new ≡ old
-
--- what it has seen after a round that came to this, before which some turns were reported, and some after it
-abbrev pub SeenBy : {M O : Type 0} → KindOf M → (O → List Taken → Type 0) → (O → List Taken → Stepped → Type 0) → Plan → Device
-    → Progress M → Progress M → Device → Device → ℕ → List ℕ → List ℕ → O → O → Round → Type 0
-SeenBy K has_seen keeps plan fitted p next n new done turns after old_o new_o RoundGoesOn =
+-- what an observer has seen after a cycle that came to this, before which some turns were reported, and some after it
+abbrev pub SeenBy : {M O : Type 0} → KindOf M → (O → List Taken → Type 0) → (O → List Taken → Stepped → Type 0)
+    → Plan → Device → Progress M → Progress M → Device → Device → ℕ → List ℕ → List ℕ → O → O → Outcome → Type 0
+SeenBy K has_seen keeps plan fitted p next n new done turns after old_o new_o Goes =
     Watched K has_seen plan fitted next new (done + 1) after new_o
-SeenBy K has_seen keeps plan fitted p next n new done turns after old_o new_o (CutsOff bytes) =
+SeenBy K has_seen keeps plan fitted p next n new done turns after old_o new_o (Cuts bytes) =
     (r : Stepped) × AwaitsCut K plan p next n new done turns r (bytes_of bytes)
     × Awaited K keeps plan fitted p n done turns r new_o
 SeenBy K has_seen keeps plan fitted p next n new done turns after old_o new_o (Stops stop) =
     Watched K has_seen plan fitted next new (done + 1) after new_o
-SeenBy K has_seen keeps plan fitted p next n new done turns after old_o new_o (BreaksOff stop) = new_o ≡ old_o
+SeenBy K has_seen keeps plan fitted p next n new done turns after old_o new_o (Breaks stop) = new_o ≡ old_o
 
--- a round has this result, which the observer has seen
-pub record RoundMade {M O : Type 0} (K : KindOf M) (has_seen : O → List Taken → Type 0) (keeps : O → List Taken → Stepped → Type 0)
-    (plan : Plan) (fitted : Device) (p next : Progress M) (n new : Device) (done : ℕ) (turns : List ℕ)
-    (terminal showing shown report reading read : Stream) (old_o new_o : O) (round : Round) : Type 0 where
+-- a cycle came to this, and the observer has seen so
+pub record CycleTaken {M O : Type 0} (K : KindOf M) (has_seen : O → List Taken → Type 0)
+    (keeps : O → List Taken → Stepped → Type 0) (plan : Plan) (fitted : Device) (p next : Progress M) (n new : Device)
+    (done : ℕ) (turns : List ℕ) (terminal showing shown report reading read : Stream) (old_o new_o : O)
+    (outcome : Outcome) : Type 0 where
   -- the turns that are reported after it
   pub after : List ℕ
-  pub is_round : IsRound K plan fitted p next n new done turns after terminal showing shown report reading read round
-  pub seen : SeenBy K has_seen keeps plan fitted p next n new done turns after old_o new_o round
+  pub comes_to : ComesTo K plan fitted p next n new done turns after terminal showing shown report reading read outcome
+  pub seen : SeenBy K has_seen keeps plan fitted p next n new done turns after old_o new_o outcome
 
--- a round of a run that continues is made so
-abbrev pub MakesRound : {M O : Type 0} → KindOf M → (O → List Taken → Type 0) → (O → List Taken → Stepped → Type 0) → Plan
-    → Progress M → Progress M → Device → Device → ℕ → Sinks → Sinks → O → O → Round → Type 0
-MakesRound K has_seen keeps plan p next n new done before after old_o new_o round =
+-- a cycle of a run that continues comes to this
+abbrev pub TakesCycle : {M O : Type 0} → KindOf M → (O → List Taken → Type 0) → (O → List Taken → Stepped → Type 0)
+    → Plan → Progress M → Progress M → Device → Device → ℕ → Sinks → Sinks → O → O → Outcome → Type 0
+TakesCycle K has_seen keeps plan p next n new done before after old_o new_o outcome =
     (fitted : Device) (turns : List ℕ) (t u : Stream)
     → Running K plan fitted p n done turns t before.terminal u before.report
     → Watched K has_seen plan fitted p n done turns old_o
-    → RoundMade K has_seen keeps plan fitted p next n new done turns t before.terminal after.terminal u before.report
-    after.report old_o new_o round
+    → CycleTaken K has_seen keeps plan fitted p next n new done turns t before.terminal after.terminal u before.report
+    after.report old_o new_o outcome
 
 -- after a cut the run continues, and the observer has seen its cycle
 pub record CutMade {M O : Type 0} (K : KindOf M) (has_seen : O → List Taken → Type 0) (plan : Plan) (fitted : Device)

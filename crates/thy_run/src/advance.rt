@@ -1,13 +1,15 @@
-//! One cycle: a step of the machine, its events, and the cut that is due after it.
+//! One cycle: a step of the machine, its events, what the sinks are due for them, and the cut that is due after it.
 ghost use Rattle.std.specs.Prelude.{◌≡◌, ◌<◌, ◌≤◌, ◌+◌, ◌^◌, ◌&&◌, ◌==◌, ◌⊎◌, ◌++◌, ◌∷◌, [], if◌then◌else◌, ℕ, List, true, nat_lt, length, slice_index, slice_index_or, IfOk, IfErr};
 ghost use Rattle.thy_base.specs.Bytes.{bytes_of, room_of};
 ghost use Rattle.thy_base.specs.Device.{Device as DeviceValue};
-ghost use Rattle.thy_run.specs.Going.{IsPlanned, GoesOn, HasRoomToList, list_after, CanCut, IsCutOffTo};
 ghost use Rattle.thy_run.specs.Due.{is_told, IsQuiet};
-ghost use Rattle.thy_run.specs.Seeing.{SeesOutcome};
+ghost use Rattle.thy_run.specs.Going.{IsPlanned, GoesOn, HasRoomToList, list_after, CanCut, IsCutOffTo};
+ghost use Rattle.thy_run.specs.Promises.{StepsOn, GetsStuck, CanConclude, Concludes, IsRunning};
+ghost use Rattle.thy_run.specs.Rounds.{stopped_for};
+ghost use Rattle.thy_run.specs.Seeing.{TakesCycle};
+ghost use Rattle.thy_run.specs.Sending.{sinks};
 ghost use Rattle.thy_run.specs.Watching.{CanSee};
 ghost use Rattle.thy_run.specs.World.{turns_after};
-ghost use Rattle.thy_run.specs.Promises.{StepsOn, GetsStuck, ConcludesNoted, CanConclude, Concludes, TakesCycle};
 
 use crate::ending::Stop;
 use crate::gather::{Readings, gather};
@@ -15,39 +17,23 @@ use crate::note::note;
 use crate::observer::Observer;
 use crate::plan::Plan;
 use crate::progress::Progress;
+use crate::tell::{Failures, tell, write_lines};
 use std::alloc::Global;
-use thy_base::{Bytes, Config, Nvm, NvmError};
-use thy_isa::Status;
+use thy_base::{Bytes, Config, Nvm, NvmError, Sink};
 use thy_text::{Event, Events};
 use thy_view::{Computer, Did, Stepped};
 
-/// The outcome of a cycle.
-#[derive(Clone, Copy)]
+/// What a cycle came to.
+#[derive(Drop)]
 pub enum Outcome {
-    /// The cycle is done, and the run continues.
+    /// It is done, and the run continues.
     Goes,
-    /// The cycle is done once the power was cut, which is due after it.
-    Cuts,
-    /// The cycle is done, and the program has ended with this status.
-    Ends(Status),
-    /// The cycle is not done, because the device or an allocation failed.
-    Fails(Stop),
-}
-
-/// The outcome of a cycle, and the bytes that the terminal is due for it.
-#[derive(Drop)]
-pub struct Noted {
-    pub bytes: Bytes,
-    pub outcome: Outcome,
-}
-
-/// A cycle, and what has to be reported of it.
-#[derive(Drop)]
-pub enum Advance {
-    /// It is done, has no event, no cut is due after it, and the observer has seen it. Most cycles are such.
-    Quiet,
-    /// The events were made that belong to its outcome.
-    Noted(Noted),
+    /// It is done once the power was cut, which is due after it. Then the terminal is due these bytes.
+    Cuts(Bytes),
+    /// It is done, and the run stops.
+    Stops(Stop),
+    /// It is not done, and the run stops.
+    Breaks(Stop),
 }
 
 /// Lists a hart, if there are two. Allocates nothing.
@@ -195,44 +181,6 @@ pub fn cut<M: Computer, N: Nvm>(
     })
 }
 
-/// The outcome of a cycle whose events were made.
-fn come_to_after<M: Computer>(
-    progress: &Progress<M>,
-    plan: &Plan,
-    ended: Option<Status>,
-    cycle: u64,
-) -> Outcome
-    requires { IsPlanned plan.now }
-    ensures { ConcludesNoted M.kind plan.now progress.now ended cycle result }
-{
-    if let Some(status) = ended {
-        return Outcome::Ends(status);
-    }
-    if is_due(&plan.config, progress.passed, cycle) {
-        return Outcome::Cuts;
-    }
-    Outcome::Goes
-}
-
-/// Lets an observer see the cycle of a step, if it is done. So many events were made in it. If a cut is due first, the
-/// observer keeps the step until then.
-fn show<O: Observer>(
-    observer: &mut O,
-    stepped: &Stepped,
-    told: usize,
-    outcome: &Outcome,
-    cycle: u64,
-)
-    requires { CanSee O.has_seen observer.old cycle }
-    ensures { SeesOutcome O.has_seen O.keeps observer.old observer.new stepped.now told outcome.now }
-{
-    match outcome {
-        Outcome::Goes | Outcome::Ends(_) => observer.see(stepped, told, cycle),
-        Outcome::Cuts => observer.keep(stepped),
-        Outcome::Fails(_) => {}
-    }
-}
-
 /// Forgets the turns of an epoch, if it was sealed. Allocates nothing.
 fn end_list(turns: &mut Bytes, did: Did)
     ensures turns { bytes_of turns.new ≡ list_after did (bytes_of turns.old) }
@@ -244,19 +192,41 @@ fn end_list(turns: &mut Bytes, did: Did)
     }
 }
 
-/// Makes the events of a step, and returns the outcome of the cycle.
-fn conclude<M: Computer>(
+/// The stop for a sink that failed, else the cycle's own outcome.
+fn stopped_for(failures: Failures, outcome: Outcome) -> Outcome
+    ensures { result ≡ stopped_for failures.terminal failures.report outcome }
+{
+    if failures.report {
+        return Outcome::Stops(Stop::Report);
+    }
+    if failures.terminal {
+        return Outcome::Stops(Stop::Terminal);
+    }
+    outcome
+}
+
+/// Makes the events of a step with what was read for them, shows the cycle to the observer, and gives the sinks what they
+/// are due. If a cut is due first, the observer keeps the step, and the sinks get nothing yet.
+fn conclude<M: Computer, T: Sink, R: Sink, O: Observer>(
     alloc: Global,
     progress: &mut Progress<M>,
     plan: &Plan,
-    did: Did,
+    stepped: &Stepped,
     readings: Readings,
     cycle: u64,
-) -> Noted
+    terminal: &mut T,
+    report: &mut R,
+    observer: &mut O,
+) -> Outcome
     requires planned { IsPlanned plan.now }
-    requires gathered { CanConclude M.kind plan.now progress.old did readings cycle }
-    ensures { let bytes = bytes_of result.bytes in
-        Concludes M.kind plan.now progress.old progress.new did readings cycle bytes result.outcome }
+    requires gathered { CanConclude M.kind plan.now progress.old stepped.now readings cycle }
+    requires unseen { CanSee O.has_seen observer.old cycle }
+    ensures { let before = sinks (T.stream terminal.old) (R.stream report.old) in
+        let after = sinks (T.stream terminal.new) (R.stream report.new) in
+        let q = progress.old in
+        let o = observer.old in
+        let r = stepped.now in
+        Concludes M.kind O.has_seen O.keeps plan.now q progress.new r readings cycle before after o observer.new result }
 {
     let Readings {
         reload,
@@ -264,69 +234,91 @@ fn conclude<M: Computer>(
         bytes,
         ended,
     } = readings;
+    let first = progress.events.len();
     let turns = &progress.turns;
     let events = &mut progress.events;
-    match note(alloc, events, did, turns, reload, restored, ended, cycle) {
-        Ok(ended) => {
-            progress.released += bytes.len() as u64;
-            progress.fresh = false;
-            end_list(&mut progress.turns, did);
-            let outcome = come_to_after(progress, plan, ended, cycle);
-            Noted { bytes, outcome }
-        }
-        Err(_) => Noted {
-            bytes: Bytes::new(alloc),
-            outcome: Outcome::Fails(Stop::Memory),
-        },
+    let Ok(ended) = note(
+        alloc,
+        events,
+        stepped.did,
+        turns,
+        reload,
+        restored,
+        ended,
+        cycle,
+    ) else {
+        progress.report_failed = write_lines(&progress.events, first, plan.digest, report);
+        return Outcome::Breaks(Stop::Memory);
+    };
+    progress.released += bytes.len() as u64;
+    progress.fresh = false;
+    end_list(&mut progress.turns, stepped.did);
+    if ended.is_none() && is_due(&plan.config, progress.passed, cycle) {
+        observer.keep(stepped);
+        return Outcome::Cuts(bytes);
+    }
+    observer.see(stepped, progress.events.len() - first, cycle);
+    let failures = tell(
+        bytes.as_slice(),
+        &progress.events,
+        first,
+        plan.digest,
+        terminal,
+        report,
+    );
+    progress.terminal_failed = failures.terminal;
+    progress.report_failed = failures.report;
+    match ended {
+        Some(status) => stopped_for(failures, Outcome::Stops(Stop::Ended(status))),
+        None => stopped_for(failures, Outcome::Goes),
     }
 }
 
-/// One cycle without the cut that may be due after it: a step of the machine, what has to be read for its
-/// events, and the events. The observer sees it, or keeps its step if a cut is due.
-pub fn take_cycle<M: Computer, N: Nvm, O: Observer>(
+/// One cycle: a step of the machine, what has to be read for its events, these events, and what the sinks are due for
+/// them. If a cut is due after it, the observer keeps the step, and the sinks get nothing yet. Most cycles have no event
+/// and no cut: then nothing is read, and no sink is called.
+pub fn take_cycle<M: Computer, T: Sink, R: Sink, N: Nvm, O: Observer>(
     alloc: Global,
     progress: &mut Progress<M>,
     plan: &Plan,
     done: u64,
+    terminal: &mut T,
+    report: &mut R,
     nvm: &mut N,
     observer: &mut O,
-) -> Advance
+) -> Outcome
     requires planned { IsPlanned plan.now }
-    requires goes { let n = N.device nvm.old in
-        (fitted : DeviceValue) × (turns : List ℕ) × GoesOn M.kind plan.now fitted progress.old n done turns }
-    requires few { done < 2 ^ 62 }
+    requires running { let before = sinks (T.stream terminal.old) (R.stream report.old) in
+        IsRunning M.kind plan.now progress.old (N.device nvm.old) done before }
+    requires few { done < plan.now.geometry.limit }
     requires unseen { CanSee O.has_seen observer.old (done + 1) }
-    ensures cycle { let n = N.device nvm.old in
+    ensures { let before = sinks (T.stream terminal.old) (R.stream report.old) in
+        let after = sinks (T.stream terminal.new) (R.stream report.new) in
+        let n = N.device nvm.old in
         let new = N.device nvm.new in
+        let p = progress.old in
         let o = observer.old in
-        TakesCycle M.kind O.has_seen O.keeps plan.now progress.old progress.new n new done o observer.new result }
-    ensures quiet { result ≡ Advance.Quiet → progress.new.events ≡ progress.old.events }
+        TakesCycle M.kind O.has_seen O.keeps plan.now p progress.new n new done before after o observer.new result }
 {
-    let stepped = match step(progress, plan, done, nvm) {
-        Ok(stepped) => stepped,
-        Err(_) => {
-            return Advance::Noted(Noted {
-                bytes: Bytes::new(alloc),
-                outcome: Outcome::Fails(Stop::Nvm),
-            });
-        }
+    let Ok(stepped) = step(progress, plan, done, nvm) else {
+        return Outcome::Breaks(Stop::Nvm);
     };
     if is_quiet(progress, plan, &stepped, done + 1) {
         observer.see(&stepped, 0, done + 1);
-        return Advance::Quiet;
+        return Outcome::Goes;
     }
     match gather(alloc, progress, &stepped, nvm) {
-        Ok(readings) => {
-            let first = progress.events.len();
-            let did = stepped.did;
-            let noted = conclude(alloc, progress, plan, did, readings, done + 1);
-            let told = progress.events.len() - first;
-            show(observer, &stepped, told, &noted.outcome, done + 1);
-            Advance::Noted(noted)
-        }
-        Err(error) => Advance::Noted(Noted {
-            bytes: Bytes::new(alloc),
-            outcome: Outcome::Fails(Stop::from(error)),
-        }),
+        Ok(readings) => conclude(
+            alloc,
+            progress,
+            plan,
+            &stepped,
+            readings,
+            done + 1,
+            terminal,
+            report,
+            observer,
+        ),
+        Err(error) => Outcome::Breaks(Stop::from(error)),
     }
 }

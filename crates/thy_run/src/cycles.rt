@@ -3,107 +3,23 @@ ghost use Rattle.std.specs.Prelude.{◌≡◌, ◌<◌, ◌+◌, [], length, IfO
 ghost use Rattle.thy_base.specs.Bytes.{bytes_of, room_of};
 ghost use Rattle.thy_view.specs.Kind.{IsDramOf};
 ghost use Rattle.thy_run.specs.Going.{IsPlanned, HasTurnsRoom};
-ghost use Rattle.thy_run.specs.Promises.{IsRunning, IsAwaiting, RunsTo};
-ghost use Rattle.thy_run.specs.Seeing.{MakesRound, RunsSeen, SeesCut};
-ghost use Rattle.thy_run.specs.Watching.{CanSee, CanSeeCut};
+ghost use Rattle.thy_run.specs.Promises.{IsAwaiting, RunsTo};
+ghost use Rattle.thy_run.specs.Seeing.{RunsSeen, SeesCut};
+ghost use Rattle.thy_run.specs.Watching.{CanSeeCut};
 ghost use Rattle.thy_run.specs.Sending.{sinks};
-ghost use Rattle.thy_run.specs.Rounds.{ending_of, stopped_for, round_of, IsFitted, IsStarted};
+ghost use Rattle.thy_run.specs.Rounds.{ending_of, IsFitted, IsStarted};
 
-use crate::advance::{Advance, Noted, Outcome, cut, take_cycle};
+use crate::advance::{Outcome, cut, take_cycle};
 use crate::ending::{Ending, Stop};
 use crate::observer::Observer;
 use crate::plan::Plan;
 use crate::progress::Progress;
-use crate::tell::{Failures, tell};
+use crate::tell::tell;
 use std::alloc::{AllocError, Global};
 use thy_base::{Bytes, Geometry, Mix, Nvm, Sink};
 use thy_dram::Dram;
 use thy_text::Events;
 use thy_view::Computer;
-
-/// The result of a round of the loop.
-#[derive(Drop)]
-pub enum Round {
-    /// The cycle is done, and the run continues.
-    GoesOn,
-    /// A cut is due after the cycle, and the terminal is due these bytes.
-    Cuts(Bytes),
-    /// The cycle is done, and the run stops.
-    Stops(Stop),
-    /// The cycle is not done, and the run stops.
-    Breaks(Stop),
-}
-
-/// The result of a cycle once it was reported: a sink that failed stops the run.
-fn come_to(outcome: Outcome, failures: Failures) -> Round
-    ensures { result ≡ round_of outcome failures.terminal failures.report }
-{
-    match outcome {
-        Outcome::Fails(stop) => Round::Breaks(stop),
-        Outcome::Goes | Outcome::Cuts => stopped_for(failures, Round::GoesOn),
-        Outcome::Ends(status) => stopped_for(failures, Round::Stops(Stop::Ended(status))),
-    }
-}
-
-/// A stop for a sink that failed, else the cycle's own result.
-fn stopped_for(failures: Failures, round: Round) -> Round
-    ensures { result ≡ stopped_for failures.terminal failures.report round }
-{
-    if failures.report {
-        return Round::Stops(Stop::Report);
-    }
-    if failures.terminal {
-        return Round::Stops(Stop::Terminal);
-    }
-    round
-}
-
-/// One cycle, and then what the sinks are due for it, if no cut is due first. `first` is the number of the events
-/// before it.
-fn take_round<M: Computer, T: Sink, R: Sink, N: Nvm, O: Observer>(
-    alloc: Global,
-    progress: &mut Progress<M>,
-    plan: &Plan,
-    done: u64,
-    first: usize,
-    terminal: &mut T,
-    report: &mut R,
-    nvm: &mut N,
-    observer: &mut O,
-) -> Round
-    requires planned { IsPlanned plan.now }
-    requires running { let before = sinks (T.stream terminal.old) (R.stream report.old) in
-        IsRunning M.kind plan.now progress.old (N.device nvm.old) done before }
-    requires few { done < plan.now.geometry.limit }
-    requires first { first ≡ length progress.old.events }
-    requires unseen { CanSee O.has_seen observer.old (done + 1) }
-    ensures { let before = sinks (T.stream terminal.old) (R.stream report.old) in
-        let after = sinks (T.stream terminal.new) (R.stream report.new) in
-        let n = N.device nvm.old in
-        let new = N.device nvm.new in
-        let p = progress.old in
-        let o = observer.old in
-        MakesRound M.kind O.has_seen O.keeps plan.now p progress.new n new done before after o observer.new result }
-{
-    let Noted { bytes, outcome } = match take_cycle(alloc, progress, plan, done, nvm, observer) {
-        Advance::Quiet => return Round::GoesOn,
-        Advance::Noted(noted) => noted,
-    };
-    if let Outcome::Cuts = outcome {
-        return Round::Cuts(bytes);
-    }
-    let failures = tell(
-        bytes.as_slice(),
-        &progress.events,
-        first,
-        plan.digest,
-        terminal,
-        report,
-    );
-    progress.terminal_failed = failures.terminal;
-    progress.report_failed = failures.report;
-    come_to(outcome, failures)
-}
 
 /// Cuts the power after a cycle, and then gives the sinks what they are due for it.
 ///
@@ -254,19 +170,18 @@ pub fn run<M: Computer, T: Sink, R: Sink, N: Nvm, O: Observer>(
     let limit = plan.geometry.numbers().limit;
     for done in 0..limit {
         let first = progress.events.len();
-        match take_round(
+        match take_cycle(
             alloc,
             &mut progress,
             plan,
             done,
-            first,
             terminal,
             report,
             nvm,
             observer,
         ) {
-            Round::GoesOn => {}
-            Round::Cuts(bytes) => {
+            Outcome::Goes => {}
+            Outcome::Cuts(bytes) => {
                 match cut_power(
                     alloc, progress, bytes, plan, done, first, terminal, report, nvm, observer,
                 ) {
@@ -274,8 +189,8 @@ pub fn run<M: Computer, T: Sink, R: Sink, N: Nvm, O: Observer>(
                     Err(ending) => return ending,
                 }
             }
-            Round::Stops(stop) => return ended_by(stop, progress, done + 1),
-            Round::Breaks(stop) => return ended_by(stop, progress, done),
+            Outcome::Stops(stop) => return ended_by(stop, progress, done + 1),
+            Outcome::Breaks(stop) => return ended_by(stop, progress, done),
         }
     }
     ended_by(Stop::Limit, progress, limit)

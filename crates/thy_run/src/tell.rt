@@ -6,7 +6,7 @@ use thy_base::Sink;
 use thy_text::{Events, write_event};
 
 /// Writes the lines of the events from `first` on, and returns whether the report failed.
-fn write_lines<R: Sink>(events: &Events, first: usize, digest: bool, report: &mut R) -> bool
+pub fn write_lines<R: Sink>(events: &Events, first: usize, digest: bool, report: &mut R) -> bool
     requires { first ≤ length events.now }
     ensures lines { TellsLines digest first events.now result (R.stream report.old) (R.stream report.new) }
     ensures none { first ≡ length events.now → result ≡ false }

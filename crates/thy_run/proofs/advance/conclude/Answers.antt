@@ -1,53 +1,167 @@
-use Rattle.std.proofs.Common.{◌≡◌, sym, subst, arith}
+use Rattle.std.proofs.Common.{◌≡◌, ◌+◌, ◌-◌, ◌∙◌, ◌&&◌, ◌==◌, ℕ, false, nat_lt, length, take, refl, sym, ap, subst, arith}
+use Rattle.std.specs.Prelude.{slice_index}
 use Rattle.thy_base.specs.Bytes.{bytes_of}
-use Rattle.thy_view.specs.declared.did.Did.{Did}
-use Rattle.thy_run.specs.Due.{due_of}
-use Rattle.thy_run.specs.World.{seen}
-use Rattle.thy_run.specs.Promises.{EndsWithTurns}
-use Rattle.thy_run.specs.Going.{origin_of, line_of, turns_then, world_at}
-use Rattle.thy_run.proofs.AdvanceLemmas.{ends_stepped, few_released, noted_from, broken_from}
+use Rattle.thy_text.specs.Lines.{report_of}
+use Rattle.thy_run.specs.declared.advance.Outcome.{Outcome}
+use Rattle.thy_run.specs.declared.progress.Progress.{Progress}
+use Rattle.thy_run.specs.Going.{turns_then}
+use Rattle.thy_run.specs.Rounds.{ComesTo}
+use Rattle.thy_run.specs.Seeing.{SeenBy}
+use Rattle.thy_run.specs.Sending.{Sent, Sends}
+use Rattle.thy_run.proofs.AdvanceLemmas.{few_released, noted_ready, broken_ready, more_noted, more_broken, awaits_cut, done_going, done_ended, is_none, not_none}
+use Rattle.thy_run.proofs.OutcomeLemmas.{ComesTo-going, ComesTo-ended, ComesTo-short}
+use Rattle.thy_run.proofs.SeeingLemmas.{Awaited-kept, Watched-done, SeenBy-going, SeenBy-ended}
+use Rattle.thy_run.proofs.advance.conclude.Goals.{else-is_none-via-then-is_none+else-is_due, else-is_none-via-else-is_none}
 use Rattle.thy_run.proofs.advance.conclude.Goals as goal
 
 pub overflow_add-progress : goal.overflow_add-progress
 overflow_add-progress g c =
-    let K = g.M.Computer.kind in
-    let laws = g.met.M.Computer.lawful in
-    let plan = c.args.plan.now in
-    let q = c.args.progress.now in
     let h = c.requires.gathered in
-    let D : Did → Type 0 = λ d. bytes_of c.args.readings.bytes ≡ due_of (line_of plan (turns_then plan h.5 d)) q.events d (K.view (line_of plan (turns_then plan h.5 d)) q.machine h.3) in
-    let few = few_released K laws plan h.0 h.1 h.2 h.4 h.5 c.requires.planned h.7 q h.3 h.6 h.8 (bytes_of c.args.readings.bytes) (subst D (sym h.10) h.9.bytes) in
+    let few = few_released g.M.Computer.kind g.met.M.Computer.lawful c.args.plan.now h.0 h.1 h.2 h.4 h.5 c.requires.planned h.6.goes c.args.progress.now h.3 c.args.stepped.now h.6.stepped
+    (bytes_of c.args.readings.bytes) h.6.gathered.bytes in
     omega (arith, few, c.len.ensures)
 
-pub returns-in-Ok : goal.returns-in-Ok
-returns-in-Ok g c = λ fitted p n m k turns r goes stepped gathered did cycle.
-    let K = g.M.Computer.kind in
-    let laws = g.met.M.Computer.lawful in
-    let plan = c.args.plan.now in
-    let q = c.args.progress.now in
-    let o = line_of plan (turns_then plan turns c.args.did) in
-    let v = seen K (origin_of plan) (world_at p n k turns) in
-    let next = K.view o q.machine m in
-    let E : Did → Type 0 = λ d. EndsWithTurns (line_of plan (turns_then plan turns d)) v d (bytes_of q.turns) in
-    let ends = subst E did (ends_stepped K laws plan fitted p n k turns c.requires.planned goes q m r stepped) in
-    c.come_to_after-outcome.ensures fitted p n m k turns r (bytes_of c.args.readings.bytes) goes
-    (noted_from K laws plan fitted p n k turns c.requires.planned goes q m r stepped c.in-Ok.ended (bytes_of c.args.readings.bytes) c.note.new.events c.len.result
-    c.args.cycle c.args.did c.end_list.new.turns did c.len.ensures cycle
-    (c.in-Ok.ensures.ok o q.fresh v next gathered.reload ends gathered.restored gathered.ended) c.end_list.ensures.turns (omega (arith, c.end_list.ensures.room))
-    gathered.bytes (c.in-Ok.ensures.status o v next gathered.ended))
-    cycle
+-- there are no fewer events than before
+pub write_lines-progress-requires : goal.write_lines-progress-requires
+write_lines-progress-requires g c =
+    let h = c.requires.gathered in
+    let more = more_broken g.M.Computer.kind g.met.M.Computer.lawful c.args.plan.now h.0 h.1 c.args.progress.now h.2 h.3 h.4 h.5 c.args.stepped.now c.args.readings c.args.cycle c.requires.planned h.6
+    c.note.new.events c.in_default.ensures.err in
+    omega (arith, more, c.len-first.ensures)
 
-pub returns-in-Err : goal.returns-in-Err
-returns-in-Err g c = λ fitted p n m k turns r goes stepped gathered did cycle.
+pub overflow_sub-len : goal.overflow_sub-len
+overflow_sub-len g c =
+    let h = c.requires.gathered in
+    let more = more_noted g.M.Computer.kind g.met.M.Computer.lawful c.args.plan.now h.0 h.1 c.args.progress.now h.2 h.3 h.4 h.5 c.args.stepped.now c.args.readings c.args.cycle c.requires.planned h.6
+    c.note.new.events c.in-Ok.ensures.ok in
+    omega (arith, more, c.len-first.ensures, c.len-2.ensures)
+
+pub tell-failures-requires : goal.tell-failures-requires
+tell-failures-requires g c =
+    let h = c.requires.gathered in
+    let more = more_noted g.M.Computer.kind g.met.M.Computer.lawful c.args.plan.now h.0 h.1 c.args.progress.now h.2 h.3 h.4 h.5 c.args.stepped.now c.args.readings c.args.cycle c.requires.planned h.6
+    c.note.new.events c.in-Ok.ensures.ok in
+    omega (arith, more, c.len-first.ensures)
+
+-- memory ran out
+pub returns-in_default : goal.returns-in_default
+returns-in_default g c = λ fitted p n m k turns t u ready running w.
+    let K = g.M.Computer.kind in
+    let plan = c.args.plan.now in
+    let q = c.args.progress.now in
+    let e = c.note.new.events in
+    let r1 = g.R.Sink.stream c.args.report.now in
+    let r2 = g.R.Sink.stream c.write_lines-progress.new.report in
+    let report_failed = c.write_lines-progress.result in
+    let first : c.len-first.result ≡ length p.events = c.len-first.ensures ∙ ap (λ y. length y.events) ready.stepped.same in
+    let L : ℕ → Type 0 = λ i. Sends (report_of plan.digest (take i e)) (report_of plan.digest e) report_failed r1 r2 in
+    record {
+      after = turns;
+      comes_to = ComesTo-short K plan fitted p (record q { events = e }) n m k turns turns report_failed t (g.T.Sink.stream c.args.terminal.now) u r1 r2 running ready.few
+          (subst L first c.write_lines-progress.ensures.lines) (λ same. c.write_lines-progress.ensures.none (first ∙ ap length (sym same)))
+          (broken_ready K g.met.M.Computer.lawful plan fitted p q n m k turns c.args.stepped.now c.args.readings c.args.cycle c.requires.planned ready e c.in_default.ensures.err);
+      seen = refl;
+    }
+
+-- a cut is due
+pub returns-then-is_due : goal.returns-then-is_due
+returns-then-is_due g c = λ fitted p n m k turns t u ready running w.
     let K = g.M.Computer.kind in
     let laws = g.met.M.Computer.lawful in
     let plan = c.args.plan.now in
     let q = c.args.progress.now in
-    let o = line_of plan (turns_then plan turns c.args.did) in
-    let v = seen K (origin_of plan) (world_at p n k turns) in
-    let next = K.view o q.machine m in
-    let E : Did → Type 0 = λ d. EndsWithTurns (line_of plan (turns_then plan turns d)) v d (bytes_of q.turns) in
-    let ends = subst E did (ends_stepped K laws plan fitted p n k turns c.requires.planned goes q m r stepped) in
-    broken_from K laws plan fitted p n k turns c.requires.planned goes q m r stepped c.note.new.events (bytes_of c.new.result) c.args.cycle c.args.did
-    did cycle c.new.ensures
-    (c.in-Err.ensures.err o q.fresh v next gathered.reload ends gathered.restored gathered.ended)
+    let r = c.args.stepped.now in
+    let e = c.note.new.events in
+    let ended = c.in-Ok.ended in
+    let q' : Progress g.row.M.Denot = record q { events = e; released = q.released + c.len.result; fresh = false; turns = c.end_list.new.turns } in
+    let noted = noted_ready K laws plan fitted p q n m k turns r c.args.readings c.args.cycle c.requires.planned ready ended e c.len.result c.end_list.new.turns
+    c.in-Ok.ensures.ok c.in-Ok.ensures.status c.len.ensures c.end_list.ensures.turns c.end_list.ensures.room in
+    record {
+      after = turns;
+      comes_to = (refl, refl);
+      seen = (
+        r,
+        awaits_cut K laws plan p q' n m k turns r ended (bytes_of c.args.readings.bytes) noted (is_none ended c.is_none.result c.is_none.ensures c.if-is_none.true) c.args.cycle ready.at_cycle
+            (sym c.is_due.ensures ∙ c.if-is_due.true),
+        Awaited-kept K g.O.Observer.has_seen g.O.Observer.keeps plan fitted p q' n m k turns r c.args.observer.now c.keep.new.self w c.keep.ensures,
+      );
+    }
+
+-- the program has ended
+pub returns-in-Some : goal.returns-in-Some
+returns-in-Some g c = λ fitted p n m k turns t u ready running w.
+    let K = g.M.Computer.kind in
+    let laws = g.met.M.Computer.lawful in
+    let S = g.O.Observer.has_seen in
+    let plan = c.args.plan.now in
+    let q = c.args.progress.now in
+    let r = c.args.stepped.now in
+    let bytes = bytes_of c.args.readings.bytes in
+    let e = c.note.new.events in
+    let t1 = g.T.Sink.stream c.args.terminal.now in
+    let t2 = g.T.Sink.stream c.tell-failures.new.terminal in
+    let r1 = g.R.Sink.stream c.args.report.now in
+    let r2 = g.R.Sink.stream c.tell-failures.new.report in
+    let terminal_failed = c.tell-failures.result.terminal in
+    let report_failed = c.tell-failures.result.report in
+    let after = turns_then plan turns r.did in
+    let first : c.len-first.result ≡ length p.events = c.len-first.ensures ∙ ap (λ y. length y.events) ready.stepped.same in
+    let q' : Progress g.row.M.Denot = record q { events = e; released = q.released + c.len.result; fresh = false; turns = c.end_list.new.turns } in
+    let noted = noted_ready K laws plan fitted p q n m k turns r c.args.readings c.args.cycle c.requires.planned ready c.in-Ok.ended e c.len.result c.end_list.new.turns
+    c.in-Ok.ensures.ok c.in-Ok.ensures.status c.len.ensures c.end_list.ensures.turns c.end_list.ensures.room in
+    let done = done_ended K laws plan p q' n m k turns r c.in-Ok.ended bytes noted c.in-Some.status c.in-Some.is in
+    let L : ℕ → Type 0 = λ i. Sends (report_of plan.digest (take i e)) (report_of plan.digest e) report_failed r1 r2 in
+    let P : Outcome → Type 0 = λ x. ComesTo K plan fitted p (record q' { terminal_failed = terminal_failed; report_failed = report_failed }) n m k turns after t t1 t2 u r1 r2 x in
+    let Z : Outcome → Type 0 = λ x. SeenBy K S g.O.Observer.keeps plan fitted p (record q' { terminal_failed = terminal_failed; report_failed = report_failed }) n m k turns after c.args.observer.now c.see.new.self x in
+    record {
+      after = after;
+      comes_to = subst P (sym c.stopped_for.ensures)
+          (ComesTo-ended K plan fitted p q' n m k turns r bytes c.in-Some.status terminal_failed report_failed t t1 t2 u r1 r2 running ready.few
+          (subst (Sent terminal_failed t1 t2) c.as_slice.ensures c.tell-failures.ensures.terminal) (subst L first c.tell-failures.ensures.report) done);
+      seen = subst Z (sym c.stopped_for.ensures)
+          (SeenBy-ended K S g.O.Observer.keeps plan fitted p q' n m k turns after c.in-Some.status terminal_failed report_failed c.args.observer.now c.see.new.self
+          (Watched-done K S plan fitted p q' n m k turns after r false bytes (c.len-2.result - c.len-first.result) c.args.observer.now c.see.new.self done.0
+          (ap (λ l. l - c.len-first.result) c.len-2.ensures ∙ ap (λ f. length e - f) first) w c.see.ensures));
+    }
+
+-- the run continues
+pub returns : goal.returns
+returns g c = λ fitted p n m k turns t u ready running w.
+    let K = g.M.Computer.kind in
+    let laws = g.met.M.Computer.lawful in
+    let S = g.O.Observer.has_seen in
+    let plan = c.args.plan.now in
+    let q = c.args.progress.now in
+    let r = c.args.stepped.now in
+    let bytes = bytes_of c.args.readings.bytes in
+    let e = c.note.new.events in
+    let t1 = g.T.Sink.stream c.args.terminal.now in
+    let t2 = g.T.Sink.stream c.tell-failures.new.terminal in
+    let r1 = g.R.Sink.stream c.args.report.now in
+    let r2 = g.R.Sink.stream c.tell-failures.new.report in
+    let terminal_failed = c.tell-failures.result.terminal in
+    let report_failed = c.tell-failures.result.report in
+    let after = turns_then plan turns r.did in
+    let first : c.len-first.result ≡ length p.events = c.len-first.ensures ∙ ap (λ y. length y.events) ready.stepped.same in
+    let q' : Progress g.row.M.Denot = record q { events = e; released = q.released + c.len.result; fresh = false; turns = c.end_list.new.turns } in
+    let noted = noted_ready K laws plan fitted p q n m k turns r c.args.readings c.args.cycle c.requires.planned ready c.in-Ok.ended e c.len.result c.end_list.new.turns
+    c.in-Ok.ensures.ok c.in-Ok.ensures.status c.len.ensures c.end_list.ensures.turns c.end_list.ensures.room in
+    let due : (nat_lt q.passed (length plan.config.cuts) && slice_index plan.config.cuts q.passed == c.args.cycle) ≡ false =
+    elim c.else-is_none.branch [
+      | else-is_none-via-then-is_none+else-is_due w ↦ sym w.is_due.ensures ∙ w.if-is_due.false
+      | else-is_none-via-else-is_none w ↦ absurd (not_none c.in-Ok.ended c.is_none.result c.is_none.ensures w.if-is_none.false c.in-None.is)
+    ] in
+    let done = done_going K laws plan p q' n m k turns r c.in-Ok.ended bytes noted c.in-None.is c.args.cycle ready.at_cycle due in
+    let L : ℕ → Type 0 = λ i. Sends (report_of plan.digest (take i e)) (report_of plan.digest e) report_failed r1 r2 in
+    let P : Outcome → Type 0 = λ x. ComesTo K plan fitted p (record q' { terminal_failed = terminal_failed; report_failed = report_failed }) n m k turns after t t1 t2 u r1 r2 x in
+    let Z : Outcome → Type 0 = λ x. SeenBy K S g.O.Observer.keeps plan fitted p (record q' { terminal_failed = terminal_failed; report_failed = report_failed }) n m k turns after c.args.observer.now c.see.new.self x in
+    record {
+      after = after;
+      comes_to = subst P (sym c.stopped_for-in-None.ensures)
+          (ComesTo-going K plan fitted p q' n m k turns after r false bytes terminal_failed report_failed t t1 t2 u r1 r2 running ready.few
+          (subst (Sent terminal_failed t1 t2) c.as_slice.ensures c.tell-failures.ensures.terminal) (subst L first c.tell-failures.ensures.report) done);
+      seen = subst Z (sym c.stopped_for-in-None.ensures)
+          (SeenBy-going K S g.O.Observer.keeps plan fitted p q' n m k turns after terminal_failed report_failed c.args.observer.now c.see.new.self
+          (Watched-done K S plan fitted p q' n m k turns after r false bytes (c.len-2.result - c.len-first.result) c.args.observer.now c.see.new.self done.0
+          (ap (λ l. l - c.len-first.result) c.len-2.ensures ∙ ap (λ f. length e - f) first) w c.see.ensures));
+    }

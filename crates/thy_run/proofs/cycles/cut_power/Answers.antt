@@ -8,9 +8,9 @@ use Rattle.thy_run.specs.declared.ending.Ending.{Ending}
 use Rattle.thy_run.specs.declared.ending.Stop.TheVariants.{Memory}
 use Rattle.thy_run.specs.Sending.{Sent, Sends}
 use Rattle.thy_run.specs.Going.{turns_then, world_at}
-use Rattle.thy_run.specs.Rounds.{round_of, RunEndsAt, IsRound}
+use Rattle.thy_run.specs.Rounds.{stopped_for, RunEndsAt, ComesTo}
 use Rattle.thy_run.proofs.AdvanceLemmas.{cut_turns, can_cut}
-use Rattle.thy_run.proofs.RoundLemmas.{IsRound-cut, RunEnds-uncut}
+use Rattle.thy_run.proofs.OutcomeLemmas.{ComesTo-cut, RunEnds-uncut}
 use Rattle.thy_run.proofs.SeeingLemmas.{RunEndsSeen-at, Watched-cut, Watched-forgotten}
 use Rattle.thy_run.proofs.cycles.cut_power.Goals as goal
 
@@ -61,12 +61,12 @@ returns-then-failures g c = λ fitted p n turns t r step running w awaits first.
     let terminal_failed = c.tell-failures-2.result.terminal in
     let report_failed = c.tell-failures-2.result.report in
     let L : ℕ → Type 0 = λ k. Sends (report_of plan.digest (take k q.events)) (report_of plan.digest q.events) report_failed r1 r2 in
-    let round = IsRound-cut K g.met.M.Computer.lawful plan fitted p c.args.progress n m c.args.done turns step (bytes_of c.args.bytes) terminal_failed report_failed t t1 t2 r r1 r2 running c.requires.few
+    let comes_to = ComesTo-cut K g.met.M.Computer.lawful plan fitted p c.args.progress n m c.args.done turns step (bytes_of c.args.bytes) terminal_failed report_failed t t1 t2 r r1 r2 running c.requires.few
     (subst (Sent terminal_failed t1 t2) c.as_slice-2.ensures c.tell-failures-2.ensures.terminal) awaits q m2 c.in-Ok.ensures.ok (subst L first c.tell-failures-2.ensures.report) in
-    let P : Bool → Type 0 = λ b. IsRound K plan fitted p (record q { terminal_failed = terminal_failed; report_failed = report_failed }) n m2 c.args.done turns (cut_turns K plan (turns_then plan turns step.did) m2) t t1 t2 r r1 r2 (round_of Goes terminal_failed b) in
+    let P : Bool → Type 0 = λ b. ComesTo K plan fitted p (record q { terminal_failed = terminal_failed; report_failed = report_failed }) n m2 c.args.done turns (cut_turns K plan (turns_then plan turns step.did) m2) t t1 t2 r r1 r2 (stopped_for terminal_failed b Goes) in
     let E : Ending → Type 0 = λ e. RunEndsAt K plan fitted m2 e t t2 r r2 (world_at q m2 (c.args.done + 1) (cut_turns K plan (turns_then plan turns step.did) m2)) in
     RunEndsSeen-at K S plan fitted m2 c.ended_by.result t t2 r r2 q m2 (c.args.done + 1) (cut_turns K plan (turns_then plan turns step.did) m2) c.see_cut.new.self
-    (subst E (sym c.ended_by.ensures) (subst P c.if-failures.true round)) (ap (λ (e : Ending). e.cycles) c.ended_by.ensures)
+    (subst E (sym c.ended_by.ensures) (subst P c.if-failures.true comes_to)) (ap (λ (e : Ending). e.cycles) c.ended_by.ensures)
     (Watched-cut K g.met.M.Computer.lawful S g.O.Observer.keeps plan fitted p c.args.progress q n m m2 c.args.done turns step (bytes_of c.args.bytes) (c.len.result - c.args.first) c.args.first c.len.result c.args.observer.now c.see_cut.new.self
     awaits c.in-Ok.ensures.ok refl c.len.ensures first w c.see_cut.ensures)
 
@@ -85,12 +85,12 @@ returns-then-failures-2 g c = λ fitted p n turns t r step running w awaits firs
     let terminal_failed = c.tell-failures-2.result.terminal in
     let report_failed = c.tell-failures-2.result.report in
     let L : ℕ → Type 0 = λ k. Sends (report_of plan.digest (take k q.events)) (report_of plan.digest q.events) report_failed r1 r2 in
-    let round = IsRound-cut K g.met.M.Computer.lawful plan fitted p c.args.progress n m c.args.done turns step (bytes_of c.args.bytes) terminal_failed report_failed t t1 t2 r r1 r2 running c.requires.few
+    let comes_to = ComesTo-cut K g.met.M.Computer.lawful plan fitted p c.args.progress n m c.args.done turns step (bytes_of c.args.bytes) terminal_failed report_failed t t1 t2 r r1 r2 running c.requires.few
     (subst (Sent terminal_failed t1 t2) c.as_slice-2.ensures c.tell-failures-2.ensures.terminal) awaits q m2 c.in-Ok.ensures.ok (subst L first c.tell-failures-2.ensures.report) in
-    let P : Bool → Bool → Type 0 = λ a b. IsRound K plan fitted p (record q { terminal_failed = terminal_failed; report_failed = report_failed }) n m2 c.args.done turns (cut_turns K plan (turns_then plan turns step.did) m2) t t1 t2 r r1 r2 (round_of Goes a b) in
+    let P : Bool → Bool → Type 0 = λ a b. ComesTo K plan fitted p (record q { terminal_failed = terminal_failed; report_failed = report_failed }) n m2 c.args.done turns (cut_turns K plan (turns_then plan turns step.did) m2) t t1 t2 r r1 r2 (stopped_for a b Goes) in
     let E : Ending → Type 0 = λ e. RunEndsAt K plan fitted m2 e t t2 r r2 (world_at q m2 (c.args.done + 1) (cut_turns K plan (turns_then plan turns step.did) m2)) in
     RunEndsSeen-at K S plan fitted m2 c.ended_by-then-failures-2.result t t2 r r2 q m2 (c.args.done + 1) (cut_turns K plan (turns_then plan turns step.did) m2) c.see_cut.new.self
-    (subst E (sym c.ended_by-then-failures-2.ensures) (subst (λ a. P a false) c.if-failures-2.true (subst (P terminal_failed) c.if-failures.false round))) (ap (λ (e : Ending). e.cycles) c.ended_by-then-failures-2.ensures)
+    (subst E (sym c.ended_by-then-failures-2.ensures) (subst (λ a. P a false) c.if-failures-2.true (subst (P terminal_failed) c.if-failures.false comes_to))) (ap (λ (e : Ending). e.cycles) c.ended_by-then-failures-2.ensures)
     (Watched-cut K g.met.M.Computer.lawful S g.O.Observer.keeps plan fitted p c.args.progress q n m m2 c.args.done turns step (bytes_of c.args.bytes) (c.len.result - c.args.first) c.args.first c.len.result c.args.observer.now c.see_cut.new.self
     awaits c.in-Ok.ensures.ok refl c.len.ensures first w c.see_cut.ensures)
 
@@ -108,12 +108,12 @@ returns g c = λ fitted p n turns t r step running w awaits first.
     let terminal_failed = c.tell-failures-2.result.terminal in
     let report_failed = c.tell-failures-2.result.report in
     let L : ℕ → Type 0 = λ k. Sends (report_of plan.digest (take k q.events)) (report_of plan.digest q.events) report_failed r1 r2 in
-    let round = IsRound-cut K g.met.M.Computer.lawful plan fitted p c.args.progress n m c.args.done turns step (bytes_of c.args.bytes) terminal_failed report_failed t t1 t2 r r1 r2 running c.requires.few
+    let comes_to = ComesTo-cut K g.met.M.Computer.lawful plan fitted p c.args.progress n m c.args.done turns step (bytes_of c.args.bytes) terminal_failed report_failed t t1 t2 r r1 r2 running c.requires.few
     (subst (Sent terminal_failed t1 t2) c.as_slice-2.ensures c.tell-failures-2.ensures.terminal) awaits q m2 c.in-Ok.ensures.ok (subst L first c.tell-failures-2.ensures.report) in
-    let P : Bool → Bool → Type 0 = λ a b. IsRound K plan fitted p (record q { terminal_failed = terminal_failed; report_failed = report_failed }) n m2 c.args.done turns (cut_turns K plan (turns_then plan turns step.did) m2) t t1 t2 r r1 r2 (round_of Goes a b) in
+    let P : Bool → Bool → Type 0 = λ a b. ComesTo K plan fitted p (record q { terminal_failed = terminal_failed; report_failed = report_failed }) n m2 c.args.done turns (cut_turns K plan (turns_then plan turns step.did) m2) t t1 t2 r r1 r2 (stopped_for a b Goes) in
     record {
       after = (cut_turns K plan (turns_then plan turns step.did) m2);
-      running = subst (λ a. P a false) c.if-failures-2.false (subst (P terminal_failed) c.if-failures.false round);
+      running = subst (λ a. P a false) c.if-failures-2.false (subst (P terminal_failed) c.if-failures.false comes_to);
       watched = Watched-cut K g.met.M.Computer.lawful g.O.Observer.has_seen g.O.Observer.keeps plan fitted p c.args.progress q n m m2 c.args.done turns step (bytes_of c.args.bytes)
           (c.len.result - c.args.first) c.args.first c.len.result c.args.observer.now c.see_cut.new.self awaits c.in-Ok.ensures.ok refl c.len.ensures first w c.see_cut.ensures;
     }

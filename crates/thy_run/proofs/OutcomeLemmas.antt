@@ -1,4 +1,4 @@
--- A cycle that was reported is a round of the loop.
+-- What a cycle came to, once it was reported.
 use Rattle.std.proofs.Common.{◌≡◌, ℕ, suc, ◌+◌, ◌<◌, ◌≤◌, Bool, true, false, None, Some, List, [], ◌∷◌, ◌++◌, length, take, refl, sym, ◌∙◌, ap, subst, inr, append-nil, length-append, arith}
 use Rattle.thy_base.specs.Counts.{Rose}
 use Rattle.thy_base.specs.Device.{Device}
@@ -12,24 +12,27 @@ use Rattle.thy_isa.specs.declared.state.Status.{Status}
 use Rattle.thy_view.specs.declared.did.Stepped.{Stepped}
 use Rattle.thy_view.specs.Views.{is_halt}
 use Rattle.thy_run.specs.World.{World, Ran, seen}
-use Rattle.thy_run.specs.declared.advance.Outcome.{Outcome}
-use Rattle.thy_run.specs.declared.advance.Outcome.TheVariants.{Goes, Cuts, Ends, Fails}
+use Rattle.thy_run.specs.declared.advance.Outcome.TheVariants.{Goes, Stops, Breaks as BreaksOff}
 use Rattle.thy_run.specs.declared.ending.Stop.{Stop}
 use Rattle.thy_run.specs.declared.ending.Stop.TheVariants.{Ended, Nvm, Memory, Terminal, Report, Limit}
 use Rattle.thy_run.specs.declared.plan.Plan.{Plan}
 use Rattle.thy_run.specs.declared.progress.Progress.{Progress}
-use Rattle.thy_run.specs.Going.{origin_of, turns_then, given_of, world_at, IsDone, IsBroken, Breaks, AwaitsCut, IsCutOffTo, Passes, ComesTo}
+use Rattle.thy_run.specs.Going.{origin_of, turns_then, given_of, world_at, IsDone, IsBroken, Breaks, AwaitsCut, IsCutOffTo, Passes, Finishes}
 use Rattle.thy_run.specs.Sending.{Sent, Sends, Delivered}
 use Rattle.thy_run.proofs.AdvanceLemmas.{cut_turns, done_cut, broken_cut}
 use Rattle.thy_run.specs.Endings.{is_memory, IsSettled, StopFits}
 use Rattle.thy_run.specs.Unfinished.{AtStop}
-use Rattle.thy_run.specs.Rounds.{round_of, Running, RunEndsAt, IsRound}
+use Rattle.thy_run.specs.Rounds.{stopped_for, Running, RunEndsAt, ComesTo}
 
 -- ---- lines
 
 first_same : {A : Type 0} (xs ys : List A) → take (length xs) (xs ++ ys) ≡ xs
 first_same [] ys = refl
 first_same (x ∷ xs) ys = ap (λ l. x ∷ l) (first_same xs ys)
+
+take-all : {A : Type 0} (xs : List A) → take (length xs) xs ≡ xs
+take-all [] = refl
+take-all (x ∷ xs) = ap (λ l. x ∷ l) (take-all xs)
 
 -- the report is due the lines of all events
 read_on : (digest failed : Bool) (before after more : List Event) (y z : Stream) → after ≡ before ++ more
@@ -54,20 +57,7 @@ delivered_on failed before after x y z one two = record {
 took_on : (before after : List ℕ) (x y z : Stream) → Took x y before → Sends before after false y z → Took x z after
 took_on before after x y z one two = subst (Took x z) (sym two.grew) (Took-append x y z before two.more one two.sent)
 
--- what was reported grew
-pub told_of : {M : Type 0} (K : KindOf M) → (plan : Plan) (p q : Progress M) (n m : Device) (k : ℕ) (turns : List ℕ) (r : Stepped) (bytes : List ℕ) (outcome : Outcome) → ComesTo K plan p q n m k turns r bytes outcome → (more : List Event) × (q.events ≡ p.events ++ more)
-told_of {M = M} K plan p q n m k turns r bytes Goes c = c.0.grew
-told_of {M = M} K plan p q n m k turns r bytes Cuts c = (_, ap (λ (w : World M). w.events) c.noted.steps.next_is)
-told_of {M = M} K plan p q n m k turns r bytes (Ends status) c = c.0.grew
-told_of {M = M} K plan p q n m k turns r bytes (Fails stop) c = c.0.grew
-
-pub told_more : {M : Type 0} (K : KindOf M) → (plan : Plan) (p q : Progress M) (n m : Device) (k : ℕ) (turns : List ℕ) (r : Stepped) (bytes : List ℕ) (outcome : Outcome) → ComesTo K plan p q n m k turns r bytes outcome → length p.events ≤ length q.events
-told_more {M = M} K plan p q n m k turns r bytes outcome c =
-    let t = told_of K plan p q n m k turns r bytes outcome c in
-    let e : length q.events ≡ length p.events + length t.0 = ap length t.1 ∙ length-append p.events t.0 in
-    omega (arith, e)
-
--- ---- rounds
+-- ---- a cycle with no cut
 
 -- a sink failed
 abbrev IsSinks : Stop → Type 0
@@ -222,17 +212,17 @@ module _ {M : Type 0} (K : KindOf M) (plan : Plan) (fitted : Device) (p q : Prog
       because Report f = absurd f
       because Limit f = absurd f
 
--- a sink that failed stops a run that has a done cycle
-goes_round : {M : Type 0} (K : KindOf M) → (plan : Plan) (fitted : Device) (p q : Progress M) (n m : Device) (k : ℕ) (turns after : List ℕ) (r : Stepped) (fell : Bool) (bytes : List ℕ) (terminal_failed report_failed : Bool) (t0 t1 t2 r0 r1 r2 : Stream)
+-- a sink that failed stops a run that has a done cycle, and else it continues
+pub ComesTo-going : {M : Type 0} (K : KindOf M) → (plan : Plan) (fitted : Device) (p q : Progress M) (n m : Device) (k : ℕ) (turns after : List ℕ) (r : Stepped) (fell : Bool) (bytes : List ℕ) (terminal_failed report_failed : Bool) (t0 t1 t2 r0 r1 r2 : Stream)
     → Running K plan fitted p n k turns t0 t1 r0 r1 → k < plan.geometry.limit → Sent terminal_failed t1 t2 bytes
     → Sends (report_of plan.digest (take (length p.events) q.events)) (report_of plan.digest q.events) report_failed r1 r2
     → IsDone K plan p q n m k turns after r fell bytes × (is_halt (seen K (origin_of plan) (world_at q m (k + 1) after)).phase ≡ false)
-    → IsRound K plan fitted p (record q { terminal_failed = terminal_failed; report_failed = report_failed }) n m k turns after t0 t1 t2 r0 r1 r2 (round_of Goes terminal_failed report_failed)
-goes_round {M = M} K plan fitted p q n m k turns after r fell bytes terminal_failed true t0 t1 t2 r0 r1 r2 running few sent lines c =
+    → ComesTo K plan fitted p (record q { terminal_failed = terminal_failed; report_failed = report_failed }) n m k turns after t0 t1 t2 r0 r1 r2 (stopped_for terminal_failed report_failed Goes)
+ComesTo-going {M = M} K plan fitted p q n m k turns after r fell bytes terminal_failed true t0 t1 t2 r0 r1 r2 running few sent lines c =
     done_stops K plan fitted p q n m k turns after bytes terminal_failed true t0 t1 t2 r0 r1 r2 running few sent lines Report c.0 tt (refl, c.0.faults ∙ running.goes.faults)
-goes_round {M = M} K plan fitted p q n m k turns after r fell bytes true false t0 t1 t2 r0 r1 r2 running few sent lines c =
+ComesTo-going {M = M} K plan fitted p q n m k turns after r fell bytes true false t0 t1 t2 r0 r1 r2 running few sent lines c =
     done_stops K plan fitted p q n m k turns after bytes true false t0 t1 t2 r0 r1 r2 running few sent lines Terminal c.0 tt (refl, refl, c.0.faults ∙ running.goes.faults)
-goes_round {M = M} K plan fitted p q n m k turns after r fell bytes false false t0 t1 t2 r0 r1 r2 running few sent lines c = record {
+ComesTo-going {M = M} K plan fitted p q n m k turns after r fell bytes false false t0 t1 t2 r0 r1 r2 running few sent lines c = record {
   goes = record {
     ran = ran_on K plan fitted p q n m k turns after bytes false false t0 t1 t2 r0 r1 r2 running few sent lines c.0;
     going = c.1;
@@ -250,45 +240,46 @@ goes_round {M = M} K plan fitted p q n m k turns after r fell bytes false false 
       (lines_on K plan fitted p q n m k turns after bytes false false t0 t1 t2 r0 r1 r2 running few sent lines c.0.grew);
 }
 
-ends_round : {M : Type 0} (K : KindOf M) → (plan : Plan) (fitted : Device) (p q : Progress M) (n m : Device) (k : ℕ) (turns : List ℕ) (r : Stepped) (bytes : List ℕ) (status : Status) (terminal_failed report_failed : Bool) (t0 t1 t2 r0 r1 r2 : Stream)
+-- or it ends
+pub ComesTo-ended : {M : Type 0} (K : KindOf M) → (plan : Plan) (fitted : Device) (p q : Progress M) (n m : Device) (k : ℕ) (turns : List ℕ) (r : Stepped) (bytes : List ℕ) (status : Status) (terminal_failed report_failed : Bool) (t0 t1 t2 r0 r1 r2 : Stream)
     → Running K plan fitted p n k turns t0 t1 r0 r1 → k < plan.geometry.limit → Sent terminal_failed t1 t2 bytes
     → Sends (report_of plan.digest (take (length p.events) q.events)) (report_of plan.digest q.events) report_failed r1 r2
-    → ComesTo K plan p q n m k turns r bytes (Ends status)
-    → IsRound K plan fitted p (record q { terminal_failed = terminal_failed; report_failed = report_failed }) n m k turns (turns_then plan turns r.did) t0 t1 t2 r0 r1 r2 (round_of (Ends status) terminal_failed report_failed)
-ends_round {M = M} K plan fitted p q n m k turns r bytes status terminal_failed true t0 t1 t2 r0 r1 r2 running few sent lines c =
+    → Finishes K plan p q n m k turns r bytes status
+    → ComesTo K plan fitted p (record q { terminal_failed = terminal_failed; report_failed = report_failed }) n m k turns (turns_then plan turns r.did) t0 t1 t2 r0 r1 r2 (stopped_for terminal_failed report_failed (Stops (Ended status)))
+ComesTo-ended {M = M} K plan fitted p q n m k turns r bytes status terminal_failed true t0 t1 t2 r0 r1 r2 running few sent lines c =
     done_stops K plan fitted p q n m k turns (turns_then plan turns r.did) bytes terminal_failed true t0 t1 t2 r0 r1 r2 running few sent lines Report c.0 tt (refl, c.0.faults ∙ running.goes.faults)
-ends_round {M = M} K plan fitted p q n m k turns r bytes status true false t0 t1 t2 r0 r1 r2 running few sent lines c =
+ComesTo-ended {M = M} K plan fitted p q n m k turns r bytes status true false t0 t1 t2 r0 r1 r2 running few sent lines c =
     done_stops K plan fitted p q n m k turns (turns_then plan turns r.did) bytes true false t0 t1 t2 r0 r1 r2 running few sent lines Terminal c.0 tt (refl, refl, c.0.faults ∙ running.goes.faults)
-ends_round {M = M} K plan fitted p q n m k turns r bytes status false false t0 t1 t2 r0 r1 r2 running few sent lines c =
+ComesTo-ended {M = M} K plan fitted p q n m k turns r bytes status false false t0 t1 t2 r0 r1 r2 running few sent lines c =
     done_ends K plan fitted p q n m k turns (turns_then plan turns r.did) bytes false false t0 t1 t2 r0 r1 r2 running few sent lines status c.0 refl refl (c.2, (refl, refl), c.0.faults ∙ running.goes.faults)
 
--- the outcome is not that a cut is due
-abbrev pub IsTold : Outcome → Type 0
-IsTold Goes = Unit {0}
-IsTold Cuts = ⊥
-IsTold (Ends status) = Unit {0}
-IsTold (Fails stop) = Unit {0}
+-- a cycle was begun, and none of its events was made
+pub ComesTo-untold : {M : Type 0} (K : KindOf M) → (plan : Plan) (fitted : Device) (p q : Progress M) (n m : Device) (k : ℕ) (turns after : List ℕ) (stop : Stop) (t0 t1 r0 r1 : Stream)
+    → Running K plan fitted p n k turns t0 t1 r0 r1 → k < plan.geometry.limit → q.events ≡ p.events
+    → IsBroken K plan p q n m k [] × Breaks K plan p q n m k turns [] stop
+    → ComesTo K plan fitted p q n m k turns after t0 t1 t1 r0 r1 r1 (BreaksOff stop)
+ComesTo-untold {M = M} K plan fitted p q n m k turns after stop t0 t1 r0 r1 running few same (broken, why) =
+    let on_terminal : q.terminal_failed ≡ false = broken.on_terminal ∙ running.goes.on_terminal in
+    let on_report : q.report_failed ≡ false = broken.on_report ∙ running.goes.on_report in
+    let L : ℕ → Type 0 = λ i. Sends (report_of plan.digest (take i q.events)) (report_of plan.digest q.events) false r1 r1 in
+    let all : Sends (report_of plan.digest (take (length q.events) q.events)) (report_of plan.digest q.events) false r1 r1 =
+    record { more = []; grew = sym (append-nil (report_of plan.digest q.events)) ∙ ap (λ (l : List Event). report_of plan.digest l ++ []) (sym (take-all q.events)); sent = Took-none r1 } in
+    broken_stops K plan fitted p q n m k turns after [] q.terminal_failed q.report_failed t0 t1 t1 r0 r1 r1 running few
+    (subst (λ b. Sent b t1 t1 []) (sym on_terminal) (Took-none t1))
+    (subst (λ b. Sends (report_of plan.digest (take (length p.events) q.events)) (report_of plan.digest q.events) b r1 r1) (sym on_report) (subst L (ap length same) all))
+    stop broken why (λ _. on_terminal) (λ _. on_report)
 
--- a cycle that was reported is a round
-pub IsRound-told : {M : Type 0} (K : KindOf M) → (plan : Plan) (fitted : Device) (p q : Progress M) (n m : Device) (k : ℕ) (turns : List ℕ) (r : Stepped) (bytes : List ℕ) (outcome : Outcome) (terminal_failed report_failed : Bool) (t0 t1 t2 r0 r1 r2 : Stream)
-    → Running K plan fitted p n k turns t0 t1 r0 r1 → k < plan.geometry.limit → Sent terminal_failed t1 t2 bytes
+-- memory ran out for its events, of which the first were made, and the report was given their lines
+pub ComesTo-short : {M : Type 0} (K : KindOf M) → (plan : Plan) (fitted : Device) (p q : Progress M) (n m : Device) (k : ℕ) (turns after : List ℕ) (report_failed : Bool) (t0 t1 r0 r1 r2 : Stream)
+    → Running K plan fitted p n k turns t0 t1 r0 r1 → k < plan.geometry.limit
     → Sends (report_of plan.digest (take (length p.events) q.events)) (report_of plan.digest q.events) report_failed r1 r2
-    → IsTold outcome → (bytes ≡ [] → terminal_failed ≡ false) → (q.events ≡ p.events → report_failed ≡ false) → ComesTo K plan p q n m k turns r bytes outcome
-    → IsRound K plan fitted p (record q { terminal_failed = terminal_failed; report_failed = report_failed }) n m k turns (turns_then plan turns r.did) t0 t1 t2 r0 r1 r2 (round_of outcome terminal_failed report_failed)
-IsRound-told {M = M} K plan fitted p q n m k turns r bytes Goes terminal_failed report_failed t0 t1 t2 r0 r1 r2 running few sent lines did_told on_terminal on_report c =
-    goes_round K plan fitted p q n m k turns (turns_then plan turns r.did) r false bytes terminal_failed report_failed t0 t1 t2 r0 r1 r2 running few sent lines c
-IsRound-told {M = M} K plan fitted p q n m k turns r bytes (Ends status) terminal_failed report_failed t0 t1 t2 r0 r1 r2 running few sent lines did_told on_terminal on_report c =
-    ends_round K plan fitted p q n m k turns r bytes status terminal_failed report_failed t0 t1 t2 r0 r1 r2 running few sent lines c
-IsRound-told {M = M} K plan fitted p q n m k turns r bytes (Fails stop) terminal_failed report_failed t0 t1 t2 r0 r1 r2 running few sent lines did_told on_terminal on_report c =
-    broken_stops K plan fitted p q n m k turns (turns_then plan turns r.did) bytes terminal_failed report_failed t0 t1 t2 r0 r1 r2 running few sent lines stop c.0 c.1 on_terminal on_report
-IsRound-told {M = M} K plan fitted p q n m k turns r bytes Cuts terminal_failed report_failed t0 t1 t2 r0 r1 r2 running few sent lines did_told on_terminal on_report c = absurd did_told
-
--- an outcome but that
-pub IsTold-not : (outcome : Outcome) → (outcome ≡ Cuts → ⊥) → IsTold outcome
-IsTold-not Goes h = tt
-IsTold-not Cuts h = h refl
-IsTold-not (Ends status) h = tt
-IsTold-not (Fails stop) h = tt
+    → (q.events ≡ p.events → report_failed ≡ false)
+    → IsBroken K plan p q n m k [] × Breaks K plan p q n m k turns [] Memory
+    → ComesTo K plan fitted p (record q { report_failed = report_failed }) n m k turns after t0 t1 t1 r0 r1 r2 (BreaksOff Memory)
+ComesTo-short {M = M} K plan fitted p q n m k turns after report_failed t0 t1 r0 r1 r2 running few lines on_report (broken, why) =
+    let on_terminal : q.terminal_failed ≡ false = broken.on_terminal ∙ running.goes.on_terminal in
+    broken_stops K plan fitted p q n m k turns after [] q.terminal_failed report_failed t0 t1 t1 r0 r1 r2 running few
+    (subst (λ b. Sent b t1 t1 []) (sym on_terminal) (Took-none t1)) lines Memory broken why (λ _. on_terminal) on_report
 
 -- a cycle without an event lets the run continue, and its sinks have taken all
 pub Running-quiet : {M : Type 0} (K : KindOf M) → (plan : Plan) (fitted : Device) (p q : Progress M) (n m : Device) (k : ℕ) (turns : List ℕ) (r : Stepped) (t0 t1 r0 r1 : Stream)
@@ -316,11 +307,11 @@ Running-quiet {M = M} K plan fitted p q n m k turns r t0 t1 r0 r1 running same c
 module _ {M : Type 0} (K : KindOf M) (laws : IsLawful K) (plan : Plan) (fitted : Device) (p q : Progress M) (n m : Device) (k : ℕ) (turns : List ℕ) (r : Stepped) (bytes : List ℕ) (terminal_failed report_failed : Bool) (t0 t1 t2 r0 r1 r2 : Stream)
     (running : Running K plan fitted p n k turns t0 t1 r0 r1) (few : k < plan.geometry.limit) (sent : Sent terminal_failed t1 t2 bytes) (awaits : AwaitsCut K plan p q n m k turns r bytes) where
   -- power was cut, and the cycle was reported
-  pub IsRound-cut : (q' : Progress M) (m' : Device) → IsCutOffTo K plan q q' m m' (k + 1)
+  pub ComesTo-cut : (q' : Progress M) (m' : Device) → IsCutOffTo K plan q q' m m' (k + 1)
       → Sends (report_of plan.digest (take (length p.events) q'.events)) (report_of plan.digest q'.events) report_failed r1 r2
-      → IsRound K plan fitted p (record q' { terminal_failed = terminal_failed; report_failed = report_failed }) n m' k turns (cut_turns K plan (turns_then plan turns r.did) m') t0 t1 t2 r0 r1 r2 (round_of Goes terminal_failed report_failed)
-  IsRound-cut q' m' cut lines =
-      goes_round K plan fitted p q' n m' k turns (cut_turns K plan (turns_then plan turns r.did) m') r true bytes terminal_failed report_failed t0 t1 t2 r0 r1 r2 running few sent lines
+      → ComesTo K plan fitted p (record q' { terminal_failed = terminal_failed; report_failed = report_failed }) n m' k turns (cut_turns K plan (turns_then plan turns r.did) m') t0 t1 t2 r0 r1 r2 (stopped_for terminal_failed report_failed Goes)
+  ComesTo-cut q' m' cut lines =
+      ComesTo-going K plan fitted p q' n m' k turns (cut_turns K plan (turns_then plan turns r.did) m') r true bytes terminal_failed report_failed t0 t1 t2 r0 r1 r2 running few sent lines
       (done_cut K laws plan p q n m k turns r None bytes awaits.noted q' m' refl (k + 1) refl awaits.due cut)
 
   -- memory ran out, and what was made of the cycle was reported
