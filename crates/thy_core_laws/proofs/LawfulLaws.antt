@@ -19,8 +19,8 @@ use Rattle.thy_view.specs.declared.view.Phase.TheVariants.{Boot, Run, Halt}
 use Rattle.thy_view.specs.declared.view.View.{View}
 use Rattle.thy_view.specs.Kind.{IsPoweredOn, IsUnderWay, IsShortage, IsPressed}
 use Rattle.thy_view.specs.Origin.{Origin}
-use Rattle.thy_view.specs.Stores.{blocks_in, stored_by}
-use Rattle.thy_view.specs.Turn.{Shortage}
+use Rattle.thy_view.specs.Stores.{blocks_in, stored_by, needs_at}
+use Rattle.thy_view.specs.Turn.{Shortage, front_of}
 use Rattle.thy_view.specs.Views.{is_boot}
 use Rattle.thy_view.specs.Work.{IsWithin}
 use Rattle.thy_scheme.specs.Boots.{IsBootView}
@@ -143,9 +143,23 @@ short_free free dirty stored (Retiring effect wrote) s w e = absurd (cc)
 module _ {S : Type 0} (K : SchemeOf S) (o : Origin) (m : Machine S) (n : Device) (l : IsLawfulScheme K) (up : n.down ≡ false) where
   -- a shortage is real
   short_run : (s : Shortage) → SoundRun K o m n → shortage_of K m ≡ Some s → IsShortage o (run_view m) m.begun (gauge_of K m n) s
-  short_run s run e =
-      let short = short_free (K.free m.scheme) (dirty_count m.cache) (stored_by o (state_in_front o m)) m.hart.hand s run.writes e in
-      record { free = short.free; dirty = short.dirty; need = short.need; short = short.short }
+  short_run s run e = of_begun m.begun refl
+    where
+      of_begun : (begun : Option ℕ) → m.begun ≡ begun → IsShortage o (run_view m) m.begun (gauge_of K m n) s
+      of_begun None is = absurd (
+          let none : shortage_of K m ≡ None = ap (short_of (K.free m.scheme) (dirty_count m.cache)) (run.front.rests is) in cc)
+      of_begun (Some hart) is =
+          let short = short_free (K.free m.scheme) (dirty_count m.cache) (stored_by o (state_in_front o m)) m.hart.hand s run.writes e in
+          let front : needs_at o (front_of m.begun) m.hart.cpu.count ≡ needs_at o hart m.hart.cpu.count =
+          ap (λ b. needs_at o (front_of b) m.hart.cpu.count) is in
+          record {
+            hart = hart;
+            is_begun = is;
+            free = short.free;
+            dirty = short.dirty;
+            need = short.need ∙ front;
+            short = short.short;
+          }
 
   holds : SoundRun K o m n → RunHolds K o m.marks m.scheme n
   holds run = l.run_holds o m.marks m.scheme n (record { sound = run.checkpoints; up = up })

@@ -63,7 +63,7 @@ impl Plain {
         })
     }
 
-    /// Takes one step. An ended state stays as it is.
+    /// Takes one step of hart 0. An ended state stays as it is.
     pub fn step(&mut self)
         requires { self.old.state.count < 2 ^ 63 }
         ensures { self.new ≡ stepped self.old }
@@ -89,7 +89,7 @@ impl Plain {
         }
     }
 
-    /// Takes steps until the program no longer runs, or `limit` steps are done. Returns how many it took.
+    /// Takes steps until the program no longer runs, or `limit` steps are done. Returns how many it took. All are hart 0's.
     pub fn run(&mut self, limit: u64) -> u64
         requires { self.old.state.count + limit < 2 ^ 63 }
         ensures stops { StopsAt self.old limit result }

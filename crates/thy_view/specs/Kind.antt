@@ -34,7 +34,7 @@ use Rattle.thy_view.specs.Dram.{LeavesDram}
 use Rattle.thy_view.specs.Pace.{Gauge, retires, KeepsPace}
 use Rattle.thy_view.specs.Stores.{needs_at}
 use Rattle.thy_view.specs.Told.{told, AgreeBelow, reach, IsThere, HasTurn}
-use Rattle.thy_view.specs.Turn.{Turn, Shortage, Pressure, HandsOn, front_of, turn_of, over_by}
+use Rattle.thy_view.specs.Turn.{Turn, Shortage, Pressure, HandsOn, turn_of, over_by}
 use Rattle.thy_view.specs.Views.{IsRestarting, is_boot, is_between, is_halt, halts, loads, doubt_of}
 use Rattle.thy_view.specs.Work.{Works, IsWithin}
 
@@ -112,12 +112,14 @@ pub record IsUnderWay (sealed : Option Mark) (p : Pressure) : Type 0 where
   pub way : p.under_way ≡ (is_some sealed || p.applies)
   pub apart : p.applies ≡ true → sealed ≡ None
 
--- A shortage is real: fewer entries are free than are needed by the lines that are dirty, with the entries that are
--- reserved, and by the blocks of memory and console that the next instruction of the hart in front stores to.
+-- A shortage is real: it is that of an instruction which is begun, and fewer entries are free than are needed by the lines
+-- that are dirty, with the entries that are reserved, and by the blocks of memory and console that it stores to.
 pub record IsShortage (o : Origin) (v : View) (begun : Option ℕ) (g : Gauge) (s : Shortage) : Type 0 where
+  pub hart : ℕ
+  pub is_begun : begun ≡ Some hart
   pub free : s.free ≡ g.free
   pub dirty : s.dirty ≡ g.dirty
-  pub need : s.need ≡ needs_at o (front_of begun) v.count
+  pub need : s.need ≡ needs_at o hart v.count
   pub short : s.free < s.dirty + s.need
 
 -- the pressure on a machine at a moment is as it reports

@@ -16,7 +16,7 @@ pub enum Did {
     Refused(BadImage),
     /// The hart moved on within an instruction.
     Moved,
-    /// An instruction was retired, by this hart. There is only hart 0.
+    /// An instruction was retired, by this hart, 0 or 1.
     Retired(u8),
     /// A dirty cache line was stored at the epoch's end.
     Flushed,
