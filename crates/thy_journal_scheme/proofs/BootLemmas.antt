@@ -1,13 +1,11 @@
 -- What holds in the boot.
-use Rattle.std.proofs.Common.{◌≡◌, ◌≢◌, ◌&&◌, ℕ, ◌-◌, ◌*◌, ◌<◌, ◌≤◌, [], suc, true, false, List, length, refl, sym, ◌∙◌, ap, subst, inl, inr, arith, Option, Some, None}
+use Rattle.std.proofs.Common.{◌≡◌, ◌≢◌, ◌&&◌, ℕ, ◌*◌, ◌<◌, [], true, false, List, length, refl, sym, ◌∙◌, ap, subst, inl, inr, arith, Option, Some, None}
 use Rattle.std.proofs.lemmas.List.{length-replicate}
 use Rattle.thy_base.specs.declared.block.Block.{Block}
 use Rattle.thy_base.specs.declared.config.Parameters.{Parameters}
 use Rattle.thy_base.specs.declared.mark.Mark.{Mark}
 use Rattle.thy_base.specs.Device.{Device, block_at, drained}
 use Rattle.thy_base.specs.Marks.{mark}
-use Rattle.thy_base.specs.Geometry.{IsInRange}
-use Rattle.thy_base.specs.Places.{dram_blocks}
 use Rattle.thy_isa.specs.Step.{State as Plain}
 use Rattle.thy_record.specs.declared.bad_image.BadImage.{BadImage}
 use Rattle.thy_record.specs.Commit.{is_zero}
@@ -19,7 +17,6 @@ use Rattle.thy_view.specs.Safe.{ceiling, Safe}
 use Rattle.thy_view.specs.Told.{told}
 use Rattle.thy_view.specs.Views.{doubt_of, loads}
 use Rattle.thy_protocol.specs.Keeps.{Tells, TellsAll, finding_view}
-use Rattle.thy_protocol.specs.Layout.{decode_by}
 use Rattle.thy_protocol.specs.Moves.{IsKeeping}
 use Rattle.thy_protocol.proofs.KeepsLemmas.{finding_view-told}
 use Rattle.thy_protocol.proofs.LayoutLemmas.{decode_by-nothing_back}
@@ -42,7 +39,7 @@ use Rattle.thy_scheme.specs.Boots.{IsBootView, BootStays, BootDrains}
 use Rattle.thy_scheme.specs.Laws.{IsOwn, IsFound, BootsFound, BootHolds}
 use Rattle.thy_journal_image.specs.Places.{image_blocks, slot_blocks}
 use Rattle.thy_journal_image.specs.Layout.{decode_journal, layout_of}
-use Rattle.thy_log.specs.State.{State, IsSoundState, new_state}
+use Rattle.thy_log.specs.State.{State}
 use Rattle.thy_log.specs.Stores.{after_drain}
 use Rattle.thy_log.proofs.DrainLemmas.{IsSoundState-drained}
 use Rattle.thy_refill.specs.Filling.{filling_journal, IsFresh}

@@ -1,5 +1,5 @@
 -- What holds after the boot.
-use Rattle.std.proofs.Common.{◌≡◌, ℕ, ◌+◌, ◌<◌, ◌≤◌, ◌||◌, not, Bool, true, false, if◌then◌else◌, is_none, is_some, List, [], length, Option, Some, None, refl, sym, ◌∙◌, ap, subst, inl, arith}
+use Rattle.std.proofs.Common.{◌≡◌, ℕ, ◌<◌, ◌≤◌, ◌||◌, Bool, true, false, if◌then◌else◌, is_none, is_some, List, length, Option, Some, None, refl, sym, ◌∙◌, ap, subst, inl, arith}
 use Rattle.std.proofs.lemmas.Bool.{not_from_false}
 use Rattle.std.proofs.lemmas.List.FromFn.{length-map-range_with_len}
 use Rattle.std.proofs.lemmas.List.Sums.{count_by-le-length}
@@ -21,11 +21,10 @@ use Rattle.thy_log.specs.declared.stage.JournalStage.TheVariants.{Nothing, Journ
 use Rattle.thy_log.specs.Cycles.{cycles_left, most_cycles}
 use Rattle.thy_log.specs.Holding.{works, homes}
 use Rattle.thy_log.specs.Items.{is_under_way, is_applying}
-use Rattle.thy_log.specs.Progress.{Progress}
 use Rattle.thy_log.specs.State.{State, IsSoundState, home_of, work_of}
 use Rattle.thy_log.proofs.CycleLemmas.{cycles_are_few}
 use Rattle.thy_journal_laws.specs.Checkpoints.{is_sealing}
-use Rattle.thy_journal_laws.specs.Journal.{Journal as Value, committed_in}
+use Rattle.thy_journal_laws.specs.Journal.{Journal as Value}
 use Rattle.thy_journal_laws.specs.Sound.{IsSoundJournal}
 use Rattle.thy_journal_laws.specs.Taken.{ReadsSame}
 use Rattle.thy_journal_laws.proofs.DrainLemmas.{same_reads_keep}

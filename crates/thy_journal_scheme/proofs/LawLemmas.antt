@@ -1,5 +1,5 @@
 -- The laws of the calls, and of a step of the boot.
-use Rattle.std.proofs.Common.{◌≡◌, ℕ, ◌+◌, ◌*◌, ◌<◌, ◌≤◌, true, false, max, arith}
+use Rattle.std.proofs.Common.{ℕ, ◌+◌, ◌≤◌, max, arith}
 use Rattle.thy_base.specs.Geometry.{memory_blocks}
 use Rattle.thy_journal_image.specs.Places.{slot_blocks}
 use Rattle.thy_journal_scheme.specs.Laws.{BootsAreShort, DrainsKeep, EpochsAreShort, ItemsAreSteps, SealsKeep, StepsBoot}

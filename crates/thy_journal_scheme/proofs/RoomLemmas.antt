@@ -1,22 +1,16 @@
 -- An epoch begins with every entry free, so its first instruction has room.
-use Rattle.std.proofs.Common.{◌≡◌, ℕ, ◌+◌, ◌<◌, ◌≤◌, nat_lt, Bool, true, false, if◌then◌else◌, Option, Some, None, refl, sym, ◌∙◌, ap, subst, ltb-true, arith}
+use Rattle.std.proofs.Common.{◌≡◌, ℕ, ◌+◌, ◌<◌, ◌≤◌, nat_lt, Bool, true, false, if◌then◌else◌, Option, Some, None, refl, ◌∙◌, ap, subst, ltb-true, arith}
 use Rattle.thy_base.specs.declared.cause.EndCause.{EndCause}
 use Rattle.thy_base.specs.declared.config.Parameters.{Parameters}
-use Rattle.thy_base.specs.Device.{Device}
 use Rattle.thy_cache.specs.Contents.{dirty_count}
 use Rattle.thy_hart.specs.declared.hand.Hand.{Hand}
 use Rattle.thy_hart.specs.declared.hand.Hand.TheVariants.{Nothing, Reading, Reserving, Writing, Retiring}
 use Rattle.thy_hart.specs.HartState.{blocks_of}
 use Rattle.thy_hart.proofs.HandLemmas.{blocks_of-most}
 use Rattle.thy_view.specs.declared.view.Phase.{Phase}
-use Rattle.thy_view.specs.declared.view.Phase.TheVariants.{Run}
-use Rattle.thy_view.specs.Origin.{Origin}
 use Rattle.thy_view.specs.Turn.{Shortage}
-use Rattle.thy_scheme.specs.CheckpointMarks.{CheckpointMarks}
-use Rattle.thy_core_laws.specs.Machine.{Machine, short_of}
-use Rattle.thy_core_laws.specs.Sound.{Sound, SoundIn, SoundRun, IsFresh, StartsFresh}
-use Rattle.thy_log.specs.Items.{is_under_way}
-use Rattle.thy_journal_laws.specs.Journal.{Journal}
+use Rattle.thy_core_laws.specs.Machine.{short_of}
+use Rattle.thy_core_laws.specs.Sound.{SoundIn, SoundRun, IsFresh, StartsFresh}
 use Rattle.thy_journal_scheme.specs.Laws.{EntriesAreFree, FirstHasRoom}
 use Rattle.thy_journal_scheme.specs.Scheme.{journal_scheme}
 use Rattle.thy_journal_scheme.proofs.HoldsLemmas.{some-free}

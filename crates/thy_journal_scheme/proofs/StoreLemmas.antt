@@ -1,8 +1,7 @@
 -- A store changes one block, and a load gives it.
-use Rattle.std.proofs.Common.{◌≡◌, ◌≢◌, ℕ, ◌+◌, ◌<◌, ◌≤◌, ◌==◌, ◌&&◌, not, Bool, true, false, if◌then◌else◌, is_none, List, [], length, map, slice_set, Option, Some, None, unwrap_or, min, refl, sym, ◌∙◌, ap, subst, inl, inr, arith}
-use Rattle.std.specs.List.{range_with_len}
+use Rattle.std.proofs.Common.{◌≡◌, ◌≢◌, ℕ, ◌+◌, ◌<◌, ◌≤◌, ◌==◌, ◌&&◌, not, Bool, true, false, if◌then◌else◌, is_none, List, [], length, slice_set, Option, Some, None, unwrap_or, refl, sym, ◌∙◌, ap, subst, inl, inr, arith}
 use Rattle.std.specs.Option.{option_or}
-use Rattle.std.proofs.lemmas.Bool.{cases_eq, eqb-true, not_from_false}
+use Rattle.std.proofs.lemmas.Bool.{cases_eq, eqb-true}
 use Rattle.std.proofs.lemmas.List.{length-set, get_or-set_same, get_or-set_other, ext_get_or}
 use Rattle.std.proofs.lemmas.List.FromFn.{length-map-range_with_len, get_or-map-range_with_len}
 use Rattle.std.proofs.lemmas.List.Quantifiers.{position-Some}
@@ -11,19 +10,18 @@ use Rattle.thy_base.specs.declared.block.Block.{Block}
 use Rattle.thy_base.specs.declared.store.Stored.TheVariants.{Done}
 use Rattle.thy_base.specs.Device.{Device, zero_block, block_at}
 use Rattle.thy_base.specs.Geometry.{memory_blocks}
-use Rattle.thy_base.specs.Places.{dram_blocks}
 use Rattle.thy_base.specs.Store.{IsStored}
 use Rattle.thy_dram.specs.Contents.{written}
-use Rattle.thy_table.specs.Listing.{Listing, IsListing, entry_at, lists, place_of, free_place, free_count, with_entry, added_at}
+use Rattle.thy_table.specs.Listing.{Listing, IsListing, entry_at, place_of, free_place, free_count, with_entry, added_at}
 use Rattle.thy_table.proofs.IndexLemmas.{None-is_none, free_one, lists-some, lists-inside, some-counted}
 use Rattle.thy_table.proofs.ListingLaws.{place_of-lists, IsListing-put, place_of-put, place_of-put_other}
 use Rattle.thy_view.specs.Action.{Rest}
 use Rattle.thy_scheme.specs.Calls.{IsOneAccess, Stores}
 use Rattle.thy_journal_image.specs.Places.{image_blocks}
 use Rattle.thy_log.specs.declared.entry.Listed.{Listed}
-use Rattle.thy_log.specs.Holding.{works, holding_of}
+use Rattle.thy_log.specs.Holding.{works}
 use Rattle.thy_log.specs.Keys.{block_key, listing_of}
-use Rattle.thy_log.specs.State.{State, IsSoundState, entry_for, buffer_of, work_by, work_of}
+use Rattle.thy_log.specs.State.{State, IsSoundState, entry_for, work_by, work_of}
 use Rattle.thy_log.specs.Stores.{after_store, put_into, store_entry, listing_for, with_listing}
 use Rattle.thy_log.proofs.StateLemmas.{IsSoundState-table, IsSoundState-dram}
 use Rattle.thy_journal_laws.specs.Journal.{Journal as Value}

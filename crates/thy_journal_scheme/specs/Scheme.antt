@@ -1,6 +1,6 @@
 -- Part of the claim.
 -- What is seen of the journal as a scheme.
-use Rattle.std.specs.Prelude.{true, false}
+use Rattle.std.specs.Prelude.{false}
 use Rattle.thy_table.specs.Listing.{free_count}
 use Rattle.thy_boot.specs.declared.stage.Stage.TheVariants.{Reads}
 use Rattle.thy_boot.specs.declared.stage.ReadStage.TheVariants.{Unread}

@@ -1,6 +1,5 @@
 -- Each step of boot or migration leaves fewer actions.
-use Rattle.std.proofs.Common.{◌≡◌, ◌≢◌, ℕ, ◌+◌, ◌-◌, ◌<◌, ◌≤◌, nat_lt, Bool, true, false, if◌then◌else◌, length, Option, Some, None, refl, sym, ◌∙◌, ap, subst, arith}
-use Rattle.std.proofs.lemmas.Bool.{ltb-true, ltb-false}
+use Rattle.std.proofs.Common.{◌≡◌, ◌≢◌, ℕ, ◌+◌, ◌≤◌, nat_lt, Bool, true, false, if◌then◌else◌, length, Option, Some, None, refl, sym, ◌∙◌, ap, subst, arith}
 use Rattle.thy_base.specs.declared.block.Block.{Block}
 use Rattle.thy_base.specs.declared.config.Parameters.{Parameters}
 use Rattle.thy_base.specs.declared.layout_version.LayoutVersion.{LayoutVersion}
@@ -8,14 +7,12 @@ use Rattle.thy_base.specs.declared.layout_version.LayoutVersion.TheVariants.{Ver
 use Rattle.thy_base.specs.Device.{Device}
 use Rattle.thy_base.specs.Places.{slot_blocks}
 use Rattle.thy_isa.specs.Step.{State as Plain}
-use Rattle.thy_record.specs.declared.bad_image.BadImage.{BadImage}
 use Rattle.thy_record.specs.Commit.{version_of}
 use Rattle.thy_control.specs.State.{State}
 use Rattle.thy_boot.specs.declared.stage.Stage.{Stage}
 use Rattle.thy_boot.specs.declared.stage.Stage.TheVariants.{Reads, Loads, Over}
 use Rattle.thy_boot.specs.declared.stage.ReadStage.{ReadStage}
 use Rattle.thy_boot.specs.declared.stage.ReadStage.TheVariants.{Unread, Header, Slot as SlotAt, Fills, Refusing}
-use Rattle.thy_boot.specs.declared.stage.End.{End}
 use Rattle.thy_boot.specs.declared.stage.End.TheVariants.{Restored, Loaded}
 use Rattle.thy_boot.specs.declared.stage.Issue.{Issue}
 use Rattle.thy_boot.specs.declared.stage.Issue.TheVariants.{Home, Slot as SlotBlock, Header as HeaderBlock, Settle as SettleAll, Commit as CommitBlock, Confirm as ConfirmAll}
@@ -24,7 +21,7 @@ use Rattle.thy_boot.specs.Filling.{First}
 use Rattle.thy_boot.specs.Left.{boot_left}
 use Rattle.thy_boot.specs.Loads.{after_issue}
 use Rattle.thy_boot.specs.Reads.{read_on}
-use Rattle.thy_boot.specs.Steps.{CanStep as CanBoot, Steps as BootSteps, StepsAt as BootStepsAt}
+use Rattle.thy_boot.specs.Steps.{CanStep as CanBoot, StepsAt as BootStepsAt}
 use Rattle.thy_boot.proofs.ActLemmas.{steps_come_nearer}
 use Rattle.thy_boot.proofs.NearerLemmas.{left_most}
 use Rattle.thy_recover.specs.Filling.{filling_dual}
@@ -32,7 +29,7 @@ use Rattle.thy_recover.proofs.FillingLemmas.{filling_is_lawful}
 use Rattle.thy_migrate.specs.declared.migration.Migration.{Migration}
 use Rattle.thy_migrate.specs.declared.migration.Migration.TheVariants.{Slot, Settle, Commit, Confirm}
 use Rattle.thy_migrate.specs.Laws.{StepsComeNearer}
-use Rattle.thy_migrate.specs.Left.{most_migration, migration_left, migration_after, owed_at, left_at, recovery_left}
+use Rattle.thy_migrate.specs.Left.{most_migration, migration_left, migration_after, owed_at, left_at}
 use Rattle.thy_migrate.specs.Migrating.{Recovering, begun_from, begun_at, after_action}
 use Rattle.thy_migrate.specs.Steps.{IsAction, CanMigrate, CanStepAt, StepsAt, BootsOn, Migrates}
 

@@ -1,11 +1,9 @@
 -- What holds of a migration of a run.
-use Rattle.std.specs.Prelude.{◌≡◌, ◌≢◌, ℕ, ◌+◌, ◌≤◌, false, List, Option, Some, None}
+use Rattle.std.specs.Prelude.{◌≡◌, ◌≢◌, ◌+◌, ◌≤◌, false, List, Option, Some, None}
 use Rattle.thy_base.specs.declared.block.Block.{Block}
-use Rattle.thy_base.specs.declared.config.Parameters.{Parameters}
 use Rattle.thy_base.specs.declared.layout_version.LayoutVersion.TheVariants.{VersionOne, VersionTwo}
 use Rattle.thy_base.specs.declared.mark.Mark.{Mark}
 use Rattle.thy_base.specs.Device.{Device, IsFramed, drained}
-use Rattle.thy_base.specs.Places.{slot_blocks, slot_place}
 use Rattle.thy_crash.specs.Saved.{Kept}
 use Rattle.thy_isa.specs.Step.{State as Plain}
 use Rattle.thy_record.specs.declared.bad_image.BadImage.{BadImage}
@@ -13,7 +11,7 @@ use Rattle.thy_record.specs.Commit.{version_of}
 use Rattle.thy_record.specs.Cpu.{cpu_of_record}
 use Rattle.thy_control.specs.Drains.{after_drain}
 use Rattle.thy_control.specs.State.{State, AreSoundTables}
-use Rattle.thy_view.specs.Action.{Action, WriteAt, after, FailsTo}
+use Rattle.thy_view.specs.Action.{after, FailsTo}
 use Rattle.thy_view.specs.Origin.{Origin, IsOrigin}
 use Rattle.thy_view.specs.Safe.{Safe}
 use Rattle.thy_protocol.specs.Keeps.{Keeps}

@@ -1,12 +1,10 @@
 -- What a step makes of boot, migration, controller and NVM.
-use Rattle.std.specs.Prelude.{◌≡◌, ℕ, ◌<◌, false, length, Option, Some, None, Result, OnOk, OnErr}
+use Rattle.std.specs.Prelude.{◌≡◌, ◌<◌, false, length, Option, Some, None, Result, OnOk, OnErr}
 use Rattle.thy_base.specs.declared.config.Parameters.{Parameters}
-use Rattle.thy_base.specs.declared.layout_version.LayoutVersion.TheVariants.{VersionOne}
 use Rattle.thy_base.specs.declared.nvm.NvmError.{NvmError}
 use Rattle.thy_base.specs.Device.{Device, IsFramed, CountsFault}
 use Rattle.thy_base.specs.Places.{slot_blocks, image_blocks}
 use Rattle.thy_isa.specs.Step.{State as Plain}
-use Rattle.thy_record.specs.Commit.{version_of}
 use Rattle.thy_control.specs.State.{State}
 use Rattle.thy_view.specs.Action.{after, FailsTo}
 use Rattle.thy_boot.specs.declared.stage.Stage.TheVariants.{Over}

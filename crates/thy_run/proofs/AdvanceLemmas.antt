@@ -171,6 +171,15 @@ module _ {M : Type 0} (K : KindOf M) (laws : IsLawful K) (plan : Plan) (p q : Pr
       subst (λ c. (nat_lt q.passed (length plan.config.cuts) && slice_index plan.config.cuts q.passed == c) ≡ false) at_cycle due in
       (done_uncut (going_due (is_halt next.phase) _ (going_on is) due_now), going_on is)
 
+  -- in either case the cycle is done with no cut
+  pub done_noted : (cycle : ℕ) → cycle ≡ k + 1 → (ended ≡ None → (nat_lt q.passed (length plan.config.cuts) && slice_index plan.config.cuts q.passed == cycle) ≡ false)
+      → IsDone K plan p q n m k turns (turns_then plan turns r.did) r false bytes
+  done_noted cycle at_cycle undue = by_end ended refl
+    where
+      by_end : (e : Option Status) → ended ≡ e → IsDone K plan p q n m k turns (turns_then plan turns r.did) r false bytes
+      by_end None is = (done_going is cycle at_cycle (undue is)).0
+      by_end (Some status) is = (done_ended status is).0
+
   -- the run continues, and a cut is due
   pub awaits_cut : ended ≡ None → (cycle : ℕ) → cycle ≡ k + 1 → (nat_lt q.passed (length plan.config.cuts) && slice_index plan.config.cuts q.passed == cycle) ≡ true
       → AwaitsCut K plan p q n m k turns r bytes

@@ -12,7 +12,7 @@ use Rattle.thy_isa.specs.declared.state.Status.{Status}
 use Rattle.thy_view.specs.declared.did.Stepped.{Stepped}
 use Rattle.thy_view.specs.Views.{is_halt}
 use Rattle.thy_run.specs.World.{World, Ran, seen}
-use Rattle.thy_run.specs.declared.advance.Outcome.TheVariants.{Goes, Stops, Breaks as BreaksOff}
+use Rattle.thy_run.specs.declared.advance.Outcome.TheVariants.{Breaks as BreaksOff}
 use Rattle.thy_run.specs.declared.ending.Stop.{Stop}
 use Rattle.thy_run.specs.declared.ending.Stop.TheVariants.{Ended, Nvm, Memory, Terminal, Report, Limit}
 use Rattle.thy_run.specs.declared.plan.Plan.{Plan}
@@ -22,7 +22,7 @@ use Rattle.thy_run.specs.Sending.{Sent, Sends, Delivered}
 use Rattle.thy_run.proofs.AdvanceLemmas.{cut_turns, done_cut, broken_cut}
 use Rattle.thy_run.specs.Endings.{is_memory, IsSettled, StopFits}
 use Rattle.thy_run.specs.Unfinished.{AtStop}
-use Rattle.thy_run.specs.Rounds.{stopped_for, Running, RunEndsAt, ComesTo}
+use Rattle.thy_run.specs.Rounds.{sink_stop, ending_of, Running, RunEndsAt, ComesTo}
 
 -- ---- lines
 
@@ -212,17 +212,32 @@ module _ {M : Type 0} (K : KindOf M) (plan : Plan) (fitted : Device) (p q : Prog
       because Report f = absurd f
       because Limit f = absurd f
 
--- a sink that failed stops a run that has a done cycle, and else it continues
-pub ComesTo-going : {M : Type 0} (K : KindOf M) → (plan : Plan) (fitted : Device) (p q : Progress M) (n m : Device) (k : ℕ) (turns after : List ℕ) (r : Stepped) (fell : Bool) (bytes : List ℕ) (terminal_failed report_failed : Bool) (t0 t1 t2 r0 r1 r2 : Stream)
+-- the cycle is done, and a sink failed
+pub ends_unheard : {M : Type 0} (K : KindOf M) (plan : Plan) (fitted : Device) (p q : Progress M) (n m : Device) (k : ℕ) (turns after : List ℕ) (r : Stepped) (fell : Bool) (bytes : List ℕ) (terminal_failed report_failed : Bool) (t0 t1 t2 r0 r1 r2 : Stream)
+    → Running K plan fitted p n k turns t0 t1 r0 r1 → k < plan.geometry.limit → Sent terminal_failed t1 t2 bytes
+    → Sends (report_of plan.digest (take (length p.events) q.events)) (report_of plan.digest q.events) report_failed r1 r2
+    → IsDone K plan p q n m k turns after r fell bytes → (stop : Stop) → sink_stop terminal_failed report_failed ≡ Some stop
+    → RunEndsAt K plan fitted m (ending_of stop (record q { terminal_failed = terminal_failed; report_failed = report_failed }) (k + 1)) t0 t2 r0 r2 (world_at q m (k + 1) after)
+ends_unheard {M = M} K plan fitted p q n m k turns after r fell bytes terminal_failed true t0 t1 t2 r0 r1 r2 running few sent lines d stop is =
+    let same : Report ≡ stop = (cc) in
+    subst (λ (x : Stop). RunEndsAt K plan fitted m (ending_of x (record q { terminal_failed = terminal_failed; report_failed = true }) (k + 1)) t0 t2 r0 r2 (world_at q m (k + 1) after)) same
+    (done_stops K plan fitted p q n m k turns after bytes terminal_failed true t0 t1 t2 r0 r1 r2 running few sent lines Report d tt (refl, d.faults ∙ running.goes.faults))
+ends_unheard {M = M} K plan fitted p q n m k turns after r fell bytes true false t0 t1 t2 r0 r1 r2 running few sent lines d stop is =
+    let same : Terminal ≡ stop = (cc) in
+    subst (λ (x : Stop). RunEndsAt K plan fitted m (ending_of x (record q { terminal_failed = true; report_failed = false }) (k + 1)) t0 t2 r0 r2 (world_at q m (k + 1) after)) same
+    (done_stops K plan fitted p q n m k turns after bytes true false t0 t1 t2 r0 r1 r2 running few sent lines Terminal d tt (refl, refl, d.faults ∙ running.goes.faults))
+ends_unheard {M = M} K plan fitted p q n m k turns after r fell bytes false false t0 t1 t2 r0 r1 r2 running few sent lines d stop is = absurd (cc)
+
+-- it is done, and the run continues
+pub Running-done : {M : Type 0} (K : KindOf M) (plan : Plan) (fitted : Device) (p q : Progress M) (n m : Device) (k : ℕ) (turns after : List ℕ) (r : Stepped) (fell : Bool) (bytes : List ℕ) (terminal_failed report_failed : Bool) (t0 t1 t2 r0 r1 r2 : Stream)
     → Running K plan fitted p n k turns t0 t1 r0 r1 → k < plan.geometry.limit → Sent terminal_failed t1 t2 bytes
     → Sends (report_of plan.digest (take (length p.events) q.events)) (report_of plan.digest q.events) report_failed r1 r2
     → IsDone K plan p q n m k turns after r fell bytes × (is_halt (seen K (origin_of plan) (world_at q m (k + 1) after)).phase ≡ false)
-    → ComesTo K plan fitted p (record q { terminal_failed = terminal_failed; report_failed = report_failed }) n m k turns after t0 t1 t2 r0 r1 r2 (stopped_for terminal_failed report_failed Goes)
-ComesTo-going {M = M} K plan fitted p q n m k turns after r fell bytes terminal_failed true t0 t1 t2 r0 r1 r2 running few sent lines c =
-    done_stops K plan fitted p q n m k turns after bytes terminal_failed true t0 t1 t2 r0 r1 r2 running few sent lines Report c.0 tt (refl, c.0.faults ∙ running.goes.faults)
-ComesTo-going {M = M} K plan fitted p q n m k turns after r fell bytes true false t0 t1 t2 r0 r1 r2 running few sent lines c =
-    done_stops K plan fitted p q n m k turns after bytes true false t0 t1 t2 r0 r1 r2 running few sent lines Terminal c.0 tt (refl, refl, c.0.faults ∙ running.goes.faults)
-ComesTo-going {M = M} K plan fitted p q n m k turns after r fell bytes false false t0 t1 t2 r0 r1 r2 running few sent lines c = record {
+    → sink_stop terminal_failed report_failed ≡ None
+    → Running K plan fitted (record q { terminal_failed = terminal_failed; report_failed = report_failed }) m (k + 1) after t0 t2 r0 r2
+Running-done {M = M} K plan fitted p q n m k turns after r fell bytes terminal_failed true t0 t1 t2 r0 r1 r2 running few sent lines c none = absurd (cc)
+Running-done {M = M} K plan fitted p q n m k turns after r fell bytes true false t0 t1 t2 r0 r1 r2 running few sent lines c none = absurd (cc)
+Running-done {M = M} K plan fitted p q n m k turns after r fell bytes false false t0 t1 t2 r0 r1 r2 running few sent lines c none = record {
   goes = record {
     ran = ran_on K plan fitted p q n m k turns after bytes false false t0 t1 t2 r0 r1 r2 running few sent lines c.0;
     going = c.1;
@@ -240,17 +255,15 @@ ComesTo-going {M = M} K plan fitted p q n m k turns after r fell bytes false fal
       (lines_on K plan fitted p q n m k turns after bytes false false t0 t1 t2 r0 r1 r2 running few sent lines c.0.grew);
 }
 
--- or it ends
-pub ComesTo-ended : {M : Type 0} (K : KindOf M) → (plan : Plan) (fitted : Device) (p q : Progress M) (n m : Device) (k : ℕ) (turns : List ℕ) (r : Stepped) (bytes : List ℕ) (status : Status) (terminal_failed report_failed : Bool) (t0 t1 t2 r0 r1 r2 : Stream)
+-- it is done, and the program has ended
+pub ends_finished : {M : Type 0} (K : KindOf M) (plan : Plan) (fitted : Device) (p q : Progress M) (n m : Device) (k : ℕ) (turns : List ℕ) (r : Stepped) (bytes : List ℕ) (status : Status) (terminal_failed report_failed : Bool) (t0 t1 t2 r0 r1 r2 : Stream)
     → Running K plan fitted p n k turns t0 t1 r0 r1 → k < plan.geometry.limit → Sent terminal_failed t1 t2 bytes
     → Sends (report_of plan.digest (take (length p.events) q.events)) (report_of plan.digest q.events) report_failed r1 r2
-    → Finishes K plan p q n m k turns r bytes status
-    → ComesTo K plan fitted p (record q { terminal_failed = terminal_failed; report_failed = report_failed }) n m k turns (turns_then plan turns r.did) t0 t1 t2 r0 r1 r2 (stopped_for terminal_failed report_failed (Stops (Ended status)))
-ComesTo-ended {M = M} K plan fitted p q n m k turns r bytes status terminal_failed true t0 t1 t2 r0 r1 r2 running few sent lines c =
-    done_stops K plan fitted p q n m k turns (turns_then plan turns r.did) bytes terminal_failed true t0 t1 t2 r0 r1 r2 running few sent lines Report c.0 tt (refl, c.0.faults ∙ running.goes.faults)
-ComesTo-ended {M = M} K plan fitted p q n m k turns r bytes status true false t0 t1 t2 r0 r1 r2 running few sent lines c =
-    done_stops K plan fitted p q n m k turns (turns_then plan turns r.did) bytes true false t0 t1 t2 r0 r1 r2 running few sent lines Terminal c.0 tt (refl, refl, c.0.faults ∙ running.goes.faults)
-ComesTo-ended {M = M} K plan fitted p q n m k turns r bytes status false false t0 t1 t2 r0 r1 r2 running few sent lines c =
+    → Finishes K plan p q n m k turns r bytes status → sink_stop terminal_failed report_failed ≡ None
+    → RunEndsAt K plan fitted m (ending_of (Ended status) (record q { terminal_failed = terminal_failed; report_failed = report_failed }) (k + 1)) t0 t2 r0 r2 (world_at q m (k + 1) (turns_then plan turns r.did))
+ends_finished {M = M} K plan fitted p q n m k turns r bytes status terminal_failed true t0 t1 t2 r0 r1 r2 running few sent lines c none = absurd (cc)
+ends_finished {M = M} K plan fitted p q n m k turns r bytes status true false t0 t1 t2 r0 r1 r2 running few sent lines c none = absurd (cc)
+ends_finished {M = M} K plan fitted p q n m k turns r bytes status false false t0 t1 t2 r0 r1 r2 running few sent lines c none =
     done_ends K plan fitted p q n m k turns (turns_then plan turns r.did) bytes false false t0 t1 t2 r0 r1 r2 running few sent lines status c.0 refl refl (c.2, (refl, refl), c.0.faults ∙ running.goes.faults)
 
 -- a cycle was begun, and none of its events was made
@@ -306,13 +319,23 @@ Running-quiet {M = M} K plan fitted p q n m k turns r t0 t1 r0 r1 running same c
 
 module _ {M : Type 0} (K : KindOf M) (laws : IsLawful K) (plan : Plan) (fitted : Device) (p q : Progress M) (n m : Device) (k : ℕ) (turns : List ℕ) (r : Stepped) (bytes : List ℕ) (terminal_failed report_failed : Bool) (t0 t1 t2 r0 r1 r2 : Stream)
     (running : Running K plan fitted p n k turns t0 t1 r0 r1) (few : k < plan.geometry.limit) (sent : Sent terminal_failed t1 t2 bytes) (awaits : AwaitsCut K plan p q n m k turns r bytes) where
-  -- power was cut, and the cycle was reported
-  pub ComesTo-cut : (q' : Progress M) (m' : Device) → IsCutOffTo K plan q q' m m' (k + 1)
+  -- power was cut, the cycle was reported, and a sink failed
+  pub ends_cut : (q' : Progress M) (m' : Device) → IsCutOffTo K plan q q' m m' (k + 1)
       → Sends (report_of plan.digest (take (length p.events) q'.events)) (report_of plan.digest q'.events) report_failed r1 r2
-      → ComesTo K plan fitted p (record q' { terminal_failed = terminal_failed; report_failed = report_failed }) n m' k turns (cut_turns K plan (turns_then plan turns r.did) m') t0 t1 t2 r0 r1 r2 (stopped_for terminal_failed report_failed Goes)
-  ComesTo-cut q' m' cut lines =
-      ComesTo-going K plan fitted p q' n m' k turns (cut_turns K plan (turns_then plan turns r.did) m') r true bytes terminal_failed report_failed t0 t1 t2 r0 r1 r2 running few sent lines
-      (done_cut K laws plan p q n m k turns r None bytes awaits.noted q' m' refl (k + 1) refl awaits.due cut)
+      → (stop : Stop) → sink_stop terminal_failed report_failed ≡ Some stop
+      → RunEndsAt K plan fitted m' (ending_of stop (record q' { terminal_failed = terminal_failed; report_failed = report_failed }) (k + 1)) t0 t2 r0 r2 (world_at q' m' (k + 1) (cut_turns K plan (turns_then plan turns r.did) m'))
+  ends_cut q' m' cut lines stop is =
+      ends_unheard K plan fitted p q' n m' k turns (cut_turns K plan (turns_then plan turns r.did) m') r true bytes terminal_failed report_failed t0 t1 t2 r0 r1 r2 running few sent lines
+      (done_cut K laws plan p q n m k turns r None bytes awaits.noted q' m' refl (k + 1) refl awaits.due cut).0 stop is
+
+  -- or the run continues
+  pub Running-cut : (q' : Progress M) (m' : Device) → IsCutOffTo K plan q q' m m' (k + 1)
+      → Sends (report_of plan.digest (take (length p.events) q'.events)) (report_of plan.digest q'.events) report_failed r1 r2
+      → sink_stop terminal_failed report_failed ≡ None
+      → Running K plan fitted (record q' { terminal_failed = terminal_failed; report_failed = report_failed }) m' (k + 1) (cut_turns K plan (turns_then plan turns r.did) m') t0 t2 r0 r2
+  Running-cut q' m' cut lines none =
+      Running-done K plan fitted p q' n m' k turns (cut_turns K plan (turns_then plan turns r.did) m') r true bytes terminal_failed report_failed t0 t1 t2 r0 r1 r2 running few sent lines
+      (done_cut K laws plan p q n m k turns r None bytes awaits.noted q' m' refl (k + 1) refl awaits.due cut) none
 
   -- memory ran out, and what was made of the cycle was reported
   pub RunEnds-uncut : (bytes ≡ [] → terminal_failed ≡ false) → (q.events ≡ p.events → report_failed ≡ false)

@@ -1,19 +1,16 @@
 -- What an observer of the loop has seen.
-use Rattle.std.proofs.Common.{◌≡◌, ℕ, suc, zero, ◌+◌, ◌-◌, Bool, true, false, None, List, [], ◌∷◌, ◌++◌, length, refl, sym, ◌∙◌, ap, subst, length-append, arith}
+use Rattle.std.proofs.Common.{◌≡◌, ℕ, suc, zero, ◌+◌, ◌-◌, Bool, true, None, List, [], ◌∷◌, ◌++◌, length, refl, sym, ◌∙◌, ap, subst, length-append, arith}
 use Rattle.thy_base.specs.Device.{Device}
 use Rattle.thy_base.specs.Outside.{Stream}
-use Rattle.thy_isa.specs.declared.state.Status.{Status}
 use Rattle.thy_view.specs.declared.did.Stepped.{Stepped}
 use Rattle.thy_view.specs.Kind.{KindOf, IsLawful}
 use Rattle.thy_view.specs.Origin.{Origin}
-use Rattle.thy_run.specs.declared.advance.Outcome.TheVariants.{Goes, Stops}
 use Rattle.thy_run.specs.declared.ending.Ending.{Ending}
-use Rattle.thy_run.specs.declared.ending.Stop.TheVariants.{Ended}
 use Rattle.thy_run.specs.declared.plan.Plan.{Plan}
 use Rattle.thy_run.specs.declared.progress.Progress.{Progress}
 use Rattle.thy_run.specs.Going.{origin_of, turns_then, given_of, world_at, IsDone, AwaitsCut, IsCutOffTo}
-use Rattle.thy_run.specs.Rounds.{stopped_for, RunEndsAt}
-use Rattle.thy_run.specs.Seeing.{Awaited, Watched, RunEndsSeen, SeenBy}
+use Rattle.thy_run.specs.Rounds.{RunEndsAt}
+use Rattle.thy_run.specs.Seeing.{Awaited, Watched, RunEndsSeen}
 use Rattle.thy_run.specs.Watching.{Taken, taken, taken_in, IsListed, CanSee, CanSeeCut, Forgets, Keeps, Sees, SeesCutAfter}
 use Rattle.thy_run.specs.World.{World, Given, IsFirst}
 use Rattle.thy_run.proofs.AdvanceLemmas.{cut_turns, done_cut}
@@ -74,20 +71,8 @@ RunEndsSeen-at {M = M} K has_seen plan fitted new e terminal shown report read p
   ),
 )
 
--- what it has seen after a cycle
+-- if a cut is due after a cycle
 module _ {M O : Type 0} (K : KindOf M) (has_seen : O → List Taken → Type 0) (keeps : O → List Taken → Stepped → Type 0) (plan : Plan) (fitted : Device) (p q : Progress M) (n m : Device) (k : ℕ) (turns : List ℕ) where
-  pub SeenBy-going : (after : List ℕ) (terminal report : Bool) (old new : O) → Watched K has_seen plan fitted q m (k + 1) after new
-      → SeenBy K has_seen keeps plan fitted p (record q { terminal_failed = terminal; report_failed = report }) n m k turns after old new (stopped_for terminal report Goes)
-  SeenBy-going after terminal true old new w = w
-  SeenBy-going after true false old new w = w
-  SeenBy-going after false false old new w = w
-
-  pub SeenBy-ended : (after : List ℕ) (status : Status) (terminal report : Bool) (old new : O) → Watched K has_seen plan fitted q m (k + 1) after new
-      → SeenBy K has_seen keeps plan fitted p (record q { terminal_failed = terminal; report_failed = report }) n m k turns after old new (stopped_for terminal report (Stops (Ended status)))
-  SeenBy-ended after status terminal true old new w = w
-  SeenBy-ended after status true false old new w = w
-  SeenBy-ended after status false false old new w = w
-
   -- it keeps the step of a cycle after which a cut is due
   pub Awaited-kept : (r : Stepped) (old new : O) → Watched K has_seen plan fitted p n k turns old → Keeps has_seen keeps old new r
       → Awaited K keeps plan fitted p n k turns r new

@@ -1,5 +1,5 @@
 -- The program's loop over cycles, with what its sinks take.
-use Rattle.std.specs.Prelude.{◌≡◌, ℕ, ◌+◌, Bool, true, false, List, [], length}
+use Rattle.std.specs.Prelude.{◌≡◌, ℕ, ◌+◌, Bool, true, false, Option, Some, None, List, [], length}
 use Rattle.thy_base.specs.declared.nvm.Shape.{Shape}
 use Rattle.thy_base.specs.Device.{Device, fitted}
 use Rattle.thy_base.specs.Mix.{mix_start}
@@ -21,11 +21,11 @@ use Rattle.thy_run.specs.Going.{origin_of, given_of, world_at, HasTurnsRoom, Goe
 use Rattle.thy_run.specs.World.{World}
 use Rattle.thy_run.specs.Endings.{HasRun}
 
--- a stop for a sink that failed comes before the others of a cycle that is done
-abbrev pub stopped_for : (terminal report : Bool) → Outcome → Outcome
-stopped_for terminal true outcome = Stops Report
-stopped_for true false outcome = Stops Terminal
-stopped_for false false outcome = outcome
+-- a sink that failed stops a run whose cycle is done
+abbrev pub sink_stop : (terminal report : Bool) → Option Stop
+sink_stop terminal true = Some Report
+sink_stop true false = Some Terminal
+sink_stop false false = None
 
 -- a device that was fitted for a plan
 pub record IsFitted {M : Type 0} (K : KindOf M) (plan : Plan) (n : Device) : Type 0 where

@@ -5,7 +5,6 @@ ghost use Rattle.thy_base.specs.Device.{Device as DeviceValue};
 ghost use Rattle.thy_run.specs.Due.{is_told, IsQuiet};
 ghost use Rattle.thy_run.specs.Going.{IsPlanned, GoesOn, HasRoomToList, list_after, CanCut, IsCutOffTo};
 ghost use Rattle.thy_run.specs.Promises.{StepsOn, GetsStuck, CanConclude, Concludes, IsRunning};
-ghost use Rattle.thy_run.specs.Rounds.{stopped_for};
 ghost use Rattle.thy_run.specs.Seeing.{TakesCycle};
 ghost use Rattle.thy_run.specs.Sending.{sinks};
 ghost use Rattle.thy_run.specs.Watching.{CanSee};
@@ -17,7 +16,7 @@ use crate::note::note;
 use crate::observer::Observer;
 use crate::plan::Plan;
 use crate::progress::Progress;
-use crate::tell::{Failures, tell, write_lines};
+use crate::tell::{tell, write_lines};
 use std::alloc::Global;
 use thy_base::{Bytes, Config, Nvm, NvmError, Sink};
 use thy_text::{Event, Events};
@@ -192,19 +191,6 @@ fn end_list(turns: &mut Bytes, did: Did)
     }
 }
 
-/// The stop for a sink that failed, else the cycle's own outcome.
-fn stopped_for(failures: Failures, outcome: Outcome) -> Outcome
-    ensures { result ≡ stopped_for failures.terminal failures.report outcome }
-{
-    if failures.report {
-        return Outcome::Stops(Stop::Report);
-    }
-    if failures.terminal {
-        return Outcome::Stops(Stop::Terminal);
-    }
-    outcome
-}
-
 /// Makes the events of a step with what was read for them, shows the cycle to the observer, and gives the sinks what they
 /// are due. If a cut is due first, the observer keeps the step, and the sinks get nothing yet.
 fn conclude<M: Computer, T: Sink, R: Sink, O: Observer>(
@@ -268,9 +254,12 @@ fn conclude<M: Computer, T: Sink, R: Sink, O: Observer>(
     );
     progress.terminal_failed = failures.terminal;
     progress.report_failed = failures.report;
+    if let Some(stop) = failures.stop() {
+        return Outcome::Stops(stop);
+    }
     match ended {
-        Some(status) => stopped_for(failures, Outcome::Stops(Stop::Ended(status))),
-        None => stopped_for(failures, Outcome::Goes),
+        Some(status) => Outcome::Stops(Stop::Ended(status)),
+        None => Outcome::Goes,
     }
 }
 

@@ -82,13 +82,10 @@ fn cut_power<M: Computer, T: Sink, R: Sink, N: Nvm, O: Observer>(
     next.terminal_failed = failures.terminal;
     next.report_failed = failures.report;
     observer.see_cut(next.events.len() - first, done + 1);
-    if failures.report {
-        return Err(ended_by(Stop::Report, next, done + 1));
+    match failures.stop() {
+        Some(stop) => Err(ended_by(stop, next, done + 1)),
+        None => Ok(next),
     }
-    if failures.terminal {
-        return Err(ended_by(Stop::Terminal, next, done + 1));
-    }
-    Ok(next)
 }
 
 /// The DRAM of a machine whose power comes on for the first time.

@@ -1,7 +1,9 @@
 //! Reporting what happened: bytes to the terminal, lines to the report.
 ghost use Rattle.std.specs.Prelude.{◌≡◌, ◌≤◌, false, length, []};
+ghost use Rattle.thy_run.specs.Rounds.{sink_stop};
 ghost use Rattle.thy_run.specs.Sending.{Sent, TellsLines};
 
+use crate::ending::Stop;
 use thy_base::Sink;
 use thy_text::{Events, write_event};
 
@@ -35,6 +37,21 @@ pub fn write_bytes<T: Sink>(bytes: &[u8], terminal: &mut T) -> bool
 pub struct Failures {
     pub terminal: bool,
     pub report: bool,
+}
+
+impl Failures {
+    /// The stop of a run whose cycle is done, if a sink failed.
+    pub fn stop(self) -> Option<Stop>
+        ensures { result ≡ sink_stop self.terminal self.report }
+    {
+        if self.report {
+            return Some(Stop::Report);
+        }
+        if self.terminal {
+            return Some(Stop::Terminal);
+        }
+        None
+    }
 }
 
 /// Reports a cycle: the terminal's bytes first, and then the lines of the events from `first` on. If one of

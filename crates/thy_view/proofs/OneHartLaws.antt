@@ -1,6 +1,6 @@
 -- With one hart no turn need be told, and turns do not matter.
 use Rattle.std.proofs.Common.{◌≡◌, ℕ, zero, suc, ◌-◌, ◌<◌, List, [], get_or, None, refl, sym, ◌∙◌, ap, arith}
-use Rattle.thy_isa.specs.Step.{State, Setting, step, steps}
+use Rattle.thy_isa.specs.Step.{State, Setting, step}
 use Rattle.thy_isa.proofs.HartLaws.{step-alone, crossed-alone, step_of-alone}
 use Rattle.thy_view.specs.declared.did.Did.TheVariants.{Boot, Loaded, Restarted, Refused, Moved, Retired, Flushed, Merged, Sealed, Promoted, Engine, Committed, NvmDrained, DramDrained, Nothing}
 use Rattle.thy_view.specs.OneHart.{EachHasItsTurn, TurnsDontMatter}

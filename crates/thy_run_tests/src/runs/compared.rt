@@ -2,13 +2,15 @@
 //!
 //! With eight pages and tables of eight entries, loading writes 512 homes, a slot, the header and the commit block. A slot
 //! has six blocks in the journal's layout and in that of shadow paging, and eight in thynvm's.
-use crate::runs::{Given, called_on, called_over, compare, expect, files, has, ran};
+use crate::runs::console::READ_INPUT;
+use crate::runs::programs::{file_of, shelf_of};
+use crate::runs::{Given, called, called_on, called_over, compare, expect, files, has, ran};
 use std::alloc::{AllocError, Global};
 use std::process::Abort;
 use std::test::Fail;
 use thy_base::{Nvm, SchemeName};
 use thy_cli::{Answer, thynvm};
-use thy_isa::MachState;
+use thy_isa::{MachState, Status};
 use thy_nvm::MemNvm;
 use thy_out::{MemShelf, MemSink};
 use thy_text::{Event, write_ended};
@@ -121,6 +123,25 @@ fn what_is_not_compared_has_its_line(rt: HostRuntime) -> Result<(), Fail> {
     let alloc = rt.alloc();
     for (line, status, report) in &REFUSALS {
         expect(&rt, alloc, line, *status, report)?;
+    }
+    Ok(())
+}
+
+/// Calls of the shelf that fail, the first being 1: file and input are fetched once, so there is no third.
+static FETCHES: [(u64, u8, &str); 3] = [
+    (1, 3, "fetch F failed\n"),
+    (2, 3, "fetch S failed\n"),
+    (3, 0, ALL),
+];
+
+#[test]
+fn file_and_input_are_fetched_once(rt: HostRuntime) -> Result<(), Fail> {
+    let alloc = rt.alloc();
+    let line = "thynvm compare F --input S --pages 8 --btt 8 --ptt 8";
+    for (failing, status, report) in &FETCHES {
+        let shelf = MemShelf::new(files(alloc)?, Vec::from_slice(alloc, &[*failing])?);
+        let given = called(alloc, line, shelf, &[], &[])?;
+        compare(&rt, line, &given, *status, "", report.as_bytes());
     }
     Ok(())
 }
@@ -271,6 +292,28 @@ fn each_run_begins_with_its_scheme(rt: HostRuntime) -> Result<(), Fail> {
             }
         }
     }
+    Ok(())
+}
+
+/// The program that reads up to ten bytes of its input exits with how many it was given.
+#[test]
+fn each_run_reads_the_same_input(rt: HostRuntime) -> Result<(), Fail> {
+    let alloc = rt.alloc();
+    let program = file_of(alloc, 0, &READ_INPUT)?;
+    let mut shelf = shelf_of(alloc, &[("R", program.as_slice()), ("A", b"abcd")])?;
+    let line = "thynvm compare R --input A --pages 8 --btt 8 --ptt 8";
+    let answer = answered(alloc, line, &mut shelf)?;
+    let mut ends = 0;
+    for i in 0..answer.events.len() {
+        if let Event::Ended { status, state, .. } = answer.events.get(i) {
+            assert!(rt;
+                *status == Status::Exited(4) && state.cursor == 4,
+                "{line}: event {i}"
+            );
+            ends += 1;
+        }
+    }
+    assert!(rt; ends == 3, "{line}");
     Ok(())
 }
 

@@ -1,4 +1,4 @@
-use Rattle.std.proofs.Common.{refl, ◌∙◌, ap, arith}
+use Rattle.std.proofs.Common.{◌∙◌, ap, arith}
 use Rattle.thy_control.specs.Seal.{with_dense}
 use Rattle.thy_control.proofs.ListPageLemmas.{with_dense-numbers, with_pages-more}
 use Rattle.thy_control.proofs.seal.list_each_dense.Goals as goal

@@ -1,4 +1,4 @@
-use Rattle.std.proofs.Common.{◌≡◌, ◌*◌, ◌/◌, ◌<◌, ◌≤◌, ◌∙◌, length, arith}
+use Rattle.std.proofs.Common.{◌∙◌, arith}
 use Rattle.thy_base.specs.Device.{zero_block}
 use Rattle.thy_boot.specs.Boot.{slot_bytes}
 use Rattle.thy_recover.specs.Filling.{filling_dual}

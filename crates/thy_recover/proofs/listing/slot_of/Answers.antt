@@ -1,4 +1,4 @@
-use Rattle.std.proofs.Common.{◌≡◌, ◌*◌, ◌∙◌, ap, arith}
+use Rattle.std.proofs.Common.{◌≡◌, ◌*◌, ◌∙◌, ap}
 use Rattle.thy_base.specs.Places.{blocks_of_slot}
 use Rattle.thy_record.specs.Commit.{version_of}
 use Rattle.thy_recover.proofs.SlotLemmas.{slot_is_first}

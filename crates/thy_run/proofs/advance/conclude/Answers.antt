@@ -1,16 +1,13 @@
-use Rattle.std.proofs.Common.{◌≡◌, ◌+◌, ◌-◌, ◌∙◌, ◌&&◌, ◌==◌, ℕ, false, nat_lt, length, take, refl, sym, ap, subst, arith}
+use Rattle.std.proofs.Common.{◌≡◌, ◌+◌, ◌-◌, ◌∙◌, ◌&&◌, ◌==◌, ℕ, None, false, nat_lt, length, take, refl, sym, ap, subst, arith}
 use Rattle.std.specs.Prelude.{slice_index}
 use Rattle.thy_base.specs.Bytes.{bytes_of}
 use Rattle.thy_text.specs.Lines.{report_of}
-use Rattle.thy_run.specs.declared.advance.Outcome.{Outcome}
 use Rattle.thy_run.specs.declared.progress.Progress.{Progress}
 use Rattle.thy_run.specs.Going.{turns_then}
-use Rattle.thy_run.specs.Rounds.{ComesTo}
-use Rattle.thy_run.specs.Seeing.{SeenBy}
 use Rattle.thy_run.specs.Sending.{Sent, Sends}
-use Rattle.thy_run.proofs.AdvanceLemmas.{few_released, noted_ready, broken_ready, more_noted, more_broken, awaits_cut, done_going, done_ended, is_none, not_none}
-use Rattle.thy_run.proofs.OutcomeLemmas.{ComesTo-going, ComesTo-ended, ComesTo-short}
-use Rattle.thy_run.proofs.SeeingLemmas.{Awaited-kept, Watched-done, SeenBy-going, SeenBy-ended}
+use Rattle.thy_run.proofs.AdvanceLemmas.{few_released, noted_ready, broken_ready, more_noted, more_broken, awaits_cut, done_going, done_ended, done_noted, is_none, not_none}
+use Rattle.thy_run.proofs.OutcomeLemmas.{ends_unheard, ends_finished, Running-done, ComesTo-short}
+use Rattle.thy_run.proofs.SeeingLemmas.{Awaited-kept, Watched-done}
 use Rattle.thy_run.proofs.advance.conclude.Goals.{else-is_none-via-then-is_none+else-is_due, else-is_none-via-else-is_none}
 use Rattle.thy_run.proofs.advance.conclude.Goals as goal
 
@@ -87,7 +84,7 @@ returns-then-is_due g c = λ fitted p n m k turns t u ready running w.
       );
     }
 
--- the program has ended
+-- a sink failed
 pub returns-in-Some : goal.returns-in-Some
 returns-in-Some g c = λ fitted p n m k turns t u ready running w.
     let K = g.M.Computer.kind in
@@ -98,6 +95,7 @@ returns-in-Some g c = λ fitted p n m k turns t u ready running w.
     let r = c.args.stepped.now in
     let bytes = bytes_of c.args.readings.bytes in
     let e = c.note.new.events in
+    let ended = c.in-Ok.ended in
     let t1 = g.T.Sink.stream c.args.terminal.now in
     let t2 = g.T.Sink.stream c.tell-failures.new.terminal in
     let r1 = g.R.Sink.stream c.args.report.now in
@@ -107,21 +105,56 @@ returns-in-Some g c = λ fitted p n m k turns t u ready running w.
     let after = turns_then plan turns r.did in
     let first : c.len-first.result ≡ length p.events = c.len-first.ensures ∙ ap (λ y. length y.events) ready.stepped.same in
     let q' : Progress g.row.M.Denot = record q { events = e; released = q.released + c.len.result; fresh = false; turns = c.end_list.new.turns } in
-    let noted = noted_ready K laws plan fitted p q n m k turns r c.args.readings c.args.cycle c.requires.planned ready c.in-Ok.ended e c.len.result c.end_list.new.turns
+    let noted = noted_ready K laws plan fitted p q n m k turns r c.args.readings c.args.cycle c.requires.planned ready ended e c.len.result c.end_list.new.turns
     c.in-Ok.ensures.ok c.in-Ok.ensures.status c.len.ensures c.end_list.ensures.turns c.end_list.ensures.room in
-    let done = done_ended K laws plan p q' n m k turns r c.in-Ok.ended bytes noted c.in-Some.status c.in-Some.is in
     let L : ℕ → Type 0 = λ i. Sends (report_of plan.digest (take i e)) (report_of plan.digest e) report_failed r1 r2 in
-    let P : Outcome → Type 0 = λ x. ComesTo K plan fitted p (record q' { terminal_failed = terminal_failed; report_failed = report_failed }) n m k turns after t t1 t2 u r1 r2 x in
-    let Z : Outcome → Type 0 = λ x. SeenBy K S g.O.Observer.keeps plan fitted p (record q' { terminal_failed = terminal_failed; report_failed = report_failed }) n m k turns after c.args.observer.now c.see.new.self x in
+    let sent = subst (Sent terminal_failed t1 t2) c.as_slice.ensures c.tell-failures.ensures.terminal in
+    let lines = subst L first c.tell-failures.ensures.report in
+    let many : c.len-2.result - c.len-first.result ≡ length e - length p.events = ap (λ l. l - c.len-first.result) c.len-2.ensures ∙ ap (λ f. length e - f) first in
+    let undue : ended ≡ None → (nat_lt q.passed (length plan.config.cuts) && slice_index plan.config.cuts q.passed == c.args.cycle) ≡ false = λ none.
+    elim c.else-is_none.branch [
+      | else-is_none-via-then-is_none+else-is_due w ↦ sym w.is_due.ensures ∙ w.if-is_due.false
+      | else-is_none-via-else-is_none w ↦ absurd (not_none c.in-Ok.ended c.is_none.result c.is_none.ensures w.if-is_none.false none)
+    ] in
+    let done = done_noted K laws plan p q' n m k turns r ended bytes noted c.args.cycle ready.at_cycle undue in
     record {
       after = after;
-      comes_to = subst P (sym c.stopped_for.ensures)
-          (ComesTo-ended K plan fitted p q' n m k turns r bytes c.in-Some.status terminal_failed report_failed t t1 t2 u r1 r2 running ready.few
-          (subst (Sent terminal_failed t1 t2) c.as_slice.ensures c.tell-failures.ensures.terminal) (subst L first c.tell-failures.ensures.report) done);
-      seen = subst Z (sym c.stopped_for.ensures)
-          (SeenBy-ended K S g.O.Observer.keeps plan fitted p q' n m k turns after c.in-Some.status terminal_failed report_failed c.args.observer.now c.see.new.self
-          (Watched-done K S plan fitted p q' n m k turns after r false bytes (c.len-2.result - c.len-first.result) c.args.observer.now c.see.new.self done.0
-          (ap (λ l. l - c.len-first.result) c.len-2.ensures ∙ ap (λ f. length e - f) first) w c.see.ensures));
+      comes_to = ends_unheard K plan fitted p q' n m k turns after r false bytes terminal_failed report_failed t t1 t2 u r1 r2 running ready.few sent lines done c.in-Some.stop (sym c.in-Some.ensures);
+      seen = Watched-done K S plan fitted p q' n m k turns after r false bytes (c.len-2.result - c.len-first.result) c.args.observer.now c.see.new.self done many w c.see.ensures;
+    }
+
+-- the program has ended
+pub returns-in-Some-ended : goal.returns-in-Some-ended
+returns-in-Some-ended g c = λ fitted p n m k turns t u ready running w.
+    let K = g.M.Computer.kind in
+    let laws = g.met.M.Computer.lawful in
+    let S = g.O.Observer.has_seen in
+    let plan = c.args.plan.now in
+    let q = c.args.progress.now in
+    let r = c.args.stepped.now in
+    let bytes = bytes_of c.args.readings.bytes in
+    let e = c.note.new.events in
+    let ended = c.in-Ok.ended in
+    let t1 = g.T.Sink.stream c.args.terminal.now in
+    let t2 = g.T.Sink.stream c.tell-failures.new.terminal in
+    let r1 = g.R.Sink.stream c.args.report.now in
+    let r2 = g.R.Sink.stream c.tell-failures.new.report in
+    let terminal_failed = c.tell-failures.result.terminal in
+    let report_failed = c.tell-failures.result.report in
+    let after = turns_then plan turns r.did in
+    let first : c.len-first.result ≡ length p.events = c.len-first.ensures ∙ ap (λ y. length y.events) ready.stepped.same in
+    let q' : Progress g.row.M.Denot = record q { events = e; released = q.released + c.len.result; fresh = false; turns = c.end_list.new.turns } in
+    let noted = noted_ready K laws plan fitted p q n m k turns r c.args.readings c.args.cycle c.requires.planned ready ended e c.len.result c.end_list.new.turns
+    c.in-Ok.ensures.ok c.in-Ok.ensures.status c.len.ensures c.end_list.ensures.turns c.end_list.ensures.room in
+    let L : ℕ → Type 0 = λ i. Sends (report_of plan.digest (take i e)) (report_of plan.digest e) report_failed r1 r2 in
+    let sent = subst (Sent terminal_failed t1 t2) c.as_slice.ensures c.tell-failures.ensures.terminal in
+    let lines = subst L first c.tell-failures.ensures.report in
+    let many : c.len-2.result - c.len-first.result ≡ length e - length p.events = ap (λ l. l - c.len-first.result) c.len-2.ensures ∙ ap (λ f. length e - f) first in
+    let done = done_ended K laws plan p q' n m k turns r ended bytes noted c.in-Some-ended.status c.in-Some-ended.is in
+    record {
+      after = after;
+      comes_to = ends_finished K plan fitted p q' n m k turns r bytes c.in-Some-ended.status terminal_failed report_failed t t1 t2 u r1 r2 running ready.few sent lines done (sym c.in_default-stop.ensures);
+      seen = Watched-done K S plan fitted p q' n m k turns after r false bytes (c.len-2.result - c.len-first.result) c.args.observer.now c.see.new.self done.0 many w c.see.ensures;
     }
 
 -- the run continues
@@ -135,6 +168,7 @@ returns g c = λ fitted p n m k turns t u ready running w.
     let r = c.args.stepped.now in
     let bytes = bytes_of c.args.readings.bytes in
     let e = c.note.new.events in
+    let ended = c.in-Ok.ended in
     let t1 = g.T.Sink.stream c.args.terminal.now in
     let t2 = g.T.Sink.stream c.tell-failures.new.terminal in
     let r1 = g.R.Sink.stream c.args.report.now in
@@ -144,24 +178,20 @@ returns g c = λ fitted p n m k turns t u ready running w.
     let after = turns_then plan turns r.did in
     let first : c.len-first.result ≡ length p.events = c.len-first.ensures ∙ ap (λ y. length y.events) ready.stepped.same in
     let q' : Progress g.row.M.Denot = record q { events = e; released = q.released + c.len.result; fresh = false; turns = c.end_list.new.turns } in
-    let noted = noted_ready K laws plan fitted p q n m k turns r c.args.readings c.args.cycle c.requires.planned ready c.in-Ok.ended e c.len.result c.end_list.new.turns
+    let noted = noted_ready K laws plan fitted p q n m k turns r c.args.readings c.args.cycle c.requires.planned ready ended e c.len.result c.end_list.new.turns
     c.in-Ok.ensures.ok c.in-Ok.ensures.status c.len.ensures c.end_list.ensures.turns c.end_list.ensures.room in
-    let due : (nat_lt q.passed (length plan.config.cuts) && slice_index plan.config.cuts q.passed == c.args.cycle) ≡ false =
+    let L : ℕ → Type 0 = λ i. Sends (report_of plan.digest (take i e)) (report_of plan.digest e) report_failed r1 r2 in
+    let sent = subst (Sent terminal_failed t1 t2) c.as_slice.ensures c.tell-failures.ensures.terminal in
+    let lines = subst L first c.tell-failures.ensures.report in
+    let many : c.len-2.result - c.len-first.result ≡ length e - length p.events = ap (λ l. l - c.len-first.result) c.len-2.ensures ∙ ap (λ f. length e - f) first in
+    let undue : ended ≡ None → (nat_lt q.passed (length plan.config.cuts) && slice_index plan.config.cuts q.passed == c.args.cycle) ≡ false = λ none.
     elim c.else-is_none.branch [
       | else-is_none-via-then-is_none+else-is_due w ↦ sym w.is_due.ensures ∙ w.if-is_due.false
-      | else-is_none-via-else-is_none w ↦ absurd (not_none c.in-Ok.ended c.is_none.result c.is_none.ensures w.if-is_none.false c.in-None.is)
+      | else-is_none-via-else-is_none w ↦ absurd (not_none c.in-Ok.ended c.is_none.result c.is_none.ensures w.if-is_none.false none)
     ] in
-    let done = done_going K laws plan p q' n m k turns r c.in-Ok.ended bytes noted c.in-None.is c.args.cycle ready.at_cycle due in
-    let L : ℕ → Type 0 = λ i. Sends (report_of plan.digest (take i e)) (report_of plan.digest e) report_failed r1 r2 in
-    let P : Outcome → Type 0 = λ x. ComesTo K plan fitted p (record q' { terminal_failed = terminal_failed; report_failed = report_failed }) n m k turns after t t1 t2 u r1 r2 x in
-    let Z : Outcome → Type 0 = λ x. SeenBy K S g.O.Observer.keeps plan fitted p (record q' { terminal_failed = terminal_failed; report_failed = report_failed }) n m k turns after c.args.observer.now c.see.new.self x in
+    let done = done_going K laws plan p q' n m k turns r ended bytes noted c.in-None.is c.args.cycle ready.at_cycle (undue c.in-None.is) in
     record {
       after = after;
-      comes_to = subst P (sym c.stopped_for-in-None.ensures)
-          (ComesTo-going K plan fitted p q' n m k turns after r false bytes terminal_failed report_failed t t1 t2 u r1 r2 running ready.few
-          (subst (Sent terminal_failed t1 t2) c.as_slice.ensures c.tell-failures.ensures.terminal) (subst L first c.tell-failures.ensures.report) done);
-      seen = subst Z (sym c.stopped_for-in-None.ensures)
-          (SeenBy-going K S g.O.Observer.keeps plan fitted p q' n m k turns after terminal_failed report_failed c.args.observer.now c.see.new.self
-          (Watched-done K S plan fitted p q' n m k turns after r false bytes (c.len-2.result - c.len-first.result) c.args.observer.now c.see.new.self done.0
-          (ap (λ l. l - c.len-first.result) c.len-2.ensures ∙ ap (λ f. length e - f) first) w c.see.ensures));
+      comes_to = Running-done K plan fitted p q' n m k turns after r false bytes terminal_failed report_failed t t1 t2 u r1 r2 running ready.few sent lines done (sym c.in_default-stop.ensures);
+      seen = Watched-done K S plan fitted p q' n m k turns after r false bytes (c.len-2.result - c.len-first.result) c.args.observer.now c.see.new.self done.0 many w c.see.ensures;
     }

@@ -1,4 +1,4 @@
-use Rattle.std.proofs.Common.{◌≡◌, ◌+◌, ◌*◌, ◌<◌, ◌≤◌, length, List, sym, ◌∙◌, ap, subst, arith}
+use Rattle.std.proofs.Common.{◌≡◌, ◌+◌, ◌<◌, ◌≤◌, List, sym, ◌∙◌, ap, subst, arith}
 use Rattle.thy_base.specs.declared.block.Block.{Block}
 use Rattle.thy_base.specs.Device.{Device, newest}
 use Rattle.thy_boot.specs.declared.stage.Stage.{Stage}
