@@ -6,6 +6,7 @@ use crate::trap::{add_trap, trap_in};
 use std::alloc::{AllocError, Global};
 use thy_cli::Answer;
 use thy_observe::{Calls, Tally};
+use thy_text::Telling;
 use thy_words::Command;
 
 /// What has to be known of the arguments.
@@ -13,6 +14,7 @@ use thy_words::Command;
 pub struct Asked {
     /// The address of the first byte of memory.
     base: u64,
+    harts: u64,
     /// The program runs on the plain machine.
     plain: bool,
 }
@@ -25,14 +27,17 @@ impl Asked {
             | Some(Command::Resume { job, .. })
             | Some(Command::Bench { job, .. }) => Asked {
                 base: job.config.base,
+                harts: job.config.harts,
                 plain: false,
             },
             Some(Command::Plain { job, .. }) => Asked {
                 base: job.config.base,
+                harts: job.config.harts,
                 plain: true,
             },
             Some(Command::Compare { .. }) | Some(Command::Make { .. }) | None => Asked {
                 base: 0,
+                harts: 1,
                 plain: false,
             },
         }
@@ -60,7 +65,11 @@ pub fn text_of(
         add_trap(alloc, &mut text, tally.trap())?;
         return Ok(Some(text));
     }
-    let Some(lost) = add_lines(alloc, &mut text, tally, answer.events.last())? else {
+    let telling = Telling {
+        digest: false,
+        harts: asked.harts,
+    };
+    let Some(lost) = add_lines(alloc, &mut text, tally, telling, answer.events.last())? else {
         return Ok(None);
     };
     add_trap(alloc, &mut text, trap_in(answer.events.last(), asked.base))?;

@@ -1,11 +1,12 @@
 -- The lines of events, one after another.
-use Rattle.std.proofs.Common.{◌≡◌, ℕ, ◌+◌, ◌<◌, Bool, true, false, List, [], ◌∷◌, ◌++◌, take, drop, length, refl, sym, ◌∙◌, ap, append_assoc, Some}
+use Rattle.std.proofs.Common.{◌≡◌, ℕ, ◌+◌, ◌<◌, true, false, List, [], ◌∷◌, ◌++◌, take, drop, length, refl, sym, ◌∙◌, ap, append_assoc, Some}
 use Rattle.std.specs.Prelude.{◌≢◌, slice_get}
 use Rattle.std.specs.Prelude.{Result, Ok, Err, OnOk, OnErr, is_err}
 use Rattle.std.proofs.lemmas.List.{take_more, take-append-drop}
 use Rattle.std.proofs.lemmas.Option.{get_or_from_slice_get, slice_get_within}
 use Rattle.thy_base.specs.Outside.{Stream, Took, TookPart}
 use Rattle.thy_base.proofs.Streams.{Took-append, TookPart-append, TookPart-more}
+use Rattle.thy_text.specs.declared.telling.Telling.{Telling}
 use Rattle.thy_text.specs.Event.{Event, Reload}
 use Rattle.thy_text.specs.Lines.{line_of, report_of}
 use Rattle.thy_text.proofs.Histories.{report_of-append, report_of-more}
@@ -20,35 +21,35 @@ last_none [] ys e = e
 last_none (x ∷ xs) ys e = absurd (cc)
 
 -- the first lines and one more
-one_more : (digest : Bool) (events : List Event) (i : ℕ) (v : Event) → i < length events → slice_get events i ≡ Some v
-    → report_of digest (take (i + 1) events) ≡ report_of digest (take i events) ++ line_of digest v
-one_more digest events i v within is =
-    ap (report_of digest) (take_more events i Reload within ∙ ap (λ (x : Event). take i events ++ x ∷ []) (get_or_from_slice_get events i v Reload is))
-    ∙ report_of-more digest (take i events) v
+one_more : (telling : Telling) (events : List Event) (i : ℕ) (v : Event) → i < length events → slice_get events i ≡ Some v
+    → report_of telling (take (i + 1) events) ≡ report_of telling (take i events) ++ line_of telling v
+one_more telling events i v within is =
+    ap (report_of telling) (take_more events i Reload within ∙ ap (λ (x : Event). take i events ++ x ∷ []) (get_or_from_slice_get events i v Reload is))
+    ∙ report_of-more telling (take i events) v
 
-pub lines_more : (digest : Bool) (events : List Event) (i : ℕ) (v : Event) (before : List ℕ) (a b c : Stream) → slice_get events i ≡ Some v
-    → Sends before (report_of digest (take i events)) false a b → Took b c (line_of digest v) → Sends before (report_of digest (take (i + 1) events)) false a c
-lines_more digest events i v before a b c is so_far took = let within = slice_get_within events i v is in record {
-  more = so_far.more ++ line_of digest v;
-  grew = one_more digest events i v within is ∙ ap (λ (l : List ℕ). l ++ line_of digest v) so_far.grew ∙ append_assoc before so_far.more (line_of digest v);
-  sent = Took-append a b c so_far.more (line_of digest v) so_far.sent took;
+pub lines_more : (telling : Telling) (events : List Event) (i : ℕ) (v : Event) (before : List ℕ) (a b c : Stream) → slice_get events i ≡ Some v
+    → Sends before (report_of telling (take i events)) false a b → Took b c (line_of telling v) → Sends before (report_of telling (take (i + 1) events)) false a c
+lines_more telling events i v before a b c is so_far took = let within = slice_get_within events i v is in record {
+  more = so_far.more ++ line_of telling v;
+  grew = one_more telling events i v within is ∙ ap (λ (l : List ℕ). l ++ line_of telling v) so_far.grew ∙ append_assoc before so_far.more (line_of telling v);
+  sent = Took-append a b c so_far.more (line_of telling v) so_far.sent took;
 }
 
 -- the report failed at a line: it was to take all the rest too
-pub lines_failed : (digest : Bool) (events : List Event) (i : ℕ) (v : Event) (before : List ℕ) (a b c : Stream) → slice_get events i ≡ Some v
-    → Sends before (report_of digest (take i events)) false a b → TookPart b c (line_of digest v) → line_of digest v ≢ [] → Sends before (report_of digest events) true a c
-lines_failed digest events i v before a b c is so_far took due =
+pub lines_failed : (telling : Telling) (events : List Event) (i : ℕ) (v : Event) (before : List ℕ) (a b c : Stream) → slice_get events i ≡ Some v
+    → Sends before (report_of telling (take i events)) false a b → TookPart b c (line_of telling v) → line_of telling v ≢ [] → Sends before (report_of telling events) true a c
+lines_failed telling events i v before a b c is so_far took due =
     let within = slice_get_within events i v is in
-    let rest : List ℕ = report_of digest (drop (i + 1) events) in
-    let whole : report_of digest events ≡ report_of digest (take (i + 1) events) ++ rest =
-    ap (report_of digest) (sym (take-append-drop (i + 1) events)) ∙ report_of-append digest (take (i + 1) events) (drop (i + 1) events) in
+    let rest : List ℕ = report_of telling (drop (i + 1) events) in
+    let whole : report_of telling events ≡ report_of telling (take (i + 1) events) ++ rest =
+    ap (report_of telling) (sym (take-append-drop (i + 1) events)) ∙ report_of-append telling (take (i + 1) events) (drop (i + 1) events) in
     record {
-      more = so_far.more ++ line_of digest v ++ rest;
-      grew = whole ∙ ap (λ (l : List ℕ). l ++ rest) (one_more digest events i v within is ∙ ap (λ (l : List ℕ). l ++ line_of digest v) so_far.grew)
-          ∙ ap (λ (l : List ℕ). l ++ rest) (append_assoc before so_far.more (line_of digest v)) ∙ append_assoc before (so_far.more ++ line_of digest v) rest;
+      more = so_far.more ++ line_of telling v ++ rest;
+      grew = whole ∙ ap (λ (l : List ℕ). l ++ rest) (one_more telling events i v within is ∙ ap (λ (l : List ℕ). l ++ line_of telling v) so_far.grew)
+          ∙ ap (λ (l : List ℕ). l ++ rest) (append_assoc before so_far.more (line_of telling v)) ∙ append_assoc before (so_far.more ++ line_of telling v) rest;
       sent = (
-        TookPart-more a c (so_far.more ++ line_of digest v) rest (TookPart-append a b c so_far.more (line_of digest v) so_far.sent took),
-        λ none. due (first_none (line_of digest v) rest (last_none so_far.more (line_of digest v ++ rest) (sym (append_assoc so_far.more (line_of digest v) rest) ∙ none))),
+        TookPart-more a c (so_far.more ++ line_of telling v) rest (TookPart-append a b c so_far.more (line_of telling v) so_far.sent took),
+        λ none. due (first_none (line_of telling v) rest (last_none so_far.more (line_of telling v ++ rest) (sym (append_assoc so_far.more (line_of telling v) rest) ∙ none))),
       );
     }
 

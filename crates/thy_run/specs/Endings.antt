@@ -14,7 +14,7 @@ use Rattle.thy_run.specs.Cuts.{has_ended}
 use Rattle.thy_run.specs.Laws.{released_of}
 use Rattle.thy_run.specs.Sending.{Delivered}
 use Rattle.thy_run.specs.Unfinished.{Stopped}
-use Rattle.thy_run.specs.World.{World, Given, Cycle, Ran}
+use Rattle.thy_run.specs.World.{World, Given, Cycle, Ran, telling}
 use Rattle.thy_run.specs.declared.ending.Stop.{Stop}
 use Rattle.thy_run.specs.declared.ending.Stop.TheVariants.{Ended, Nvm, Memory, Terminal, Report, Limit}
 use Rattle.thy_run.specs.declared.ending.Ending.{Ending}
@@ -70,5 +70,5 @@ pub record HasRun {M : Type 0} (K : KindOf M) (o : Origin) (given : Given) (new 
   pub settled : List Event
   pub is_settled : IsSettled K o given stopped.last settled e.stop
   pub shown_all : Delivered (is_memory e.stop) e.terminal_failed (released_of o settled) (released_of o e.events) terminal shown
-  pub read_all : Delivered false e.report_failed (report_of given.digest settled) (report_of given.digest e.events) report read
+  pub read_all : Delivered false e.report_failed (report_of (telling given) settled) (report_of (telling given) e.events) report read
   pub stop_fits : StopFits o.geometry.limit given.fitted new e e.stop

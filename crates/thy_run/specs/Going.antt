@@ -11,6 +11,7 @@ use Rattle.thy_dram.specs.Contents.{lost}
 use Rattle.thy_isa.specs.declared.state.MachState.{MachState}
 use Rattle.thy_isa.specs.declared.state.Status.{Status}
 use Rattle.thy_isa.specs.Step.{state_of}
+use Rattle.thy_text.specs.declared.telling.Telling.{Telling}
 use Rattle.thy_text.specs.Event.{Event, Cut}
 use Rattle.thy_text.specs.Marks.{turns_told}
 use Rattle.thy_view.specs.declared.did.Did.{Did}
@@ -63,6 +64,10 @@ last_turns many turns = drop (length turns - many) turns
 -- what else it is given, over a device that was fitted
 abbrev pub given_of : Plan → Device → Given
 given_of plan fitted = record { config = plan.config; digest = plan.digest; fitted = fitted }
+
+-- how its events are told
+abbrev pub telling_of : Plan → Telling
+telling_of plan = record { digest = plan.digest; harts = plan.config.harts }
 
 -- its start is one of a run, and the listed cuts rise
 pub record IsPlanned (plan : Plan) : Type 0 where

@@ -9,6 +9,7 @@ use Rattle.thy_base.specs.Mix.{mix_start, mix_pick, mix_next}
 use Rattle.thy_dram.specs.Contents.{lost}
 use Rattle.thy_record.specs.Decoded.{Decoded}
 use Rattle.thy_view.specs.Kind.{KindOf, IsStep}
+use Rattle.thy_text.specs.declared.telling.Telling.{Telling}
 use Rattle.thy_text.specs.Event.{Event, EpochEnd, Commit, Cut, Restart, Reload, Ended}
 use Rattle.thy_view.specs.declared.did.Did.{Did}
 use Rattle.thy_view.specs.declared.did.Did.TheVariants.{Loaded, Restarted, Retired, Sealed, Committed}
@@ -148,6 +149,10 @@ pub record Given : Type 0 where
   pub config : Config
   pub digest : Bool
   pub fitted : Device
+
+-- how its events are told
+abbrev pub telling : Given → Telling
+telling given = record { digest = given.digest; harts = given.config.harts }
 
 -- power comes on for the first time, over a device that was fitted; no turn is reported yet
 pub record IsFirst {M : Type 0} (K : KindOf M) (o : Origin) (given : Given) (w : World M) : Type 0 where

@@ -19,7 +19,7 @@ use crate::progress::Progress;
 use crate::tell::{tell, write_lines};
 use std::alloc::Global;
 use thy_base::{Bytes, Config, Nvm, NvmError, Sink};
-use thy_text::{Event, Events};
+use thy_text::{Event, Events, Telling};
 use thy_view::{Computer, Did, Stepped};
 
 /// What a cycle came to.
@@ -223,6 +223,10 @@ fn conclude<M: Computer, T: Sink, R: Sink, O: Observer>(
     let first = progress.events.len();
     let turns = &progress.turns;
     let events = &mut progress.events;
+    let telling = Telling {
+        digest: plan.digest,
+        harts: plan.config.harts,
+    };
     let Ok(ended) = note(
         alloc,
         events,
@@ -233,7 +237,7 @@ fn conclude<M: Computer, T: Sink, R: Sink, O: Observer>(
         ended,
         cycle,
     ) else {
-        progress.report_failed = write_lines(&progress.events, first, plan.digest, report);
+        progress.report_failed = write_lines(&progress.events, first, telling, report);
         return Outcome::Breaks(Stop::Memory);
     };
     progress.released += bytes.len() as u64;
@@ -248,7 +252,7 @@ fn conclude<M: Computer, T: Sink, R: Sink, O: Observer>(
         bytes.as_slice(),
         &progress.events,
         first,
-        plan.digest,
+        telling,
         terminal,
         report,
     );

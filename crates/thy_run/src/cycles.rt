@@ -18,7 +18,7 @@ use crate::tell::tell;
 use std::alloc::{AllocError, Global};
 use thy_base::{Bytes, Geometry, Mix, Nvm, Sink};
 use thy_dram::Dram;
-use thy_text::Events;
+use thy_text::{Events, Telling};
 use thy_view::Computer;
 
 /// Cuts the power after a cycle, and then gives the sinks what they are due for it.
@@ -50,18 +50,15 @@ fn cut_power<M: Computer, T: Sink, R: Sink, N: Nvm, O: Observer>(
         let bytes = bytes_of bytes in
         SeesCut M.kind O.has_seen O.keeps plan.now progress n new done bytes first before after o observer.new result }
 {
+    let telling = Telling {
+        digest: plan.digest,
+        harts: plan.config.harts,
+    };
     let mut next = match cut(alloc, progress, plan, done + 1, nvm) {
         Ok(next) => next,
         Err(events) => {
             observer.forget();
-            let failures = tell(
-                bytes.as_slice(),
-                &events,
-                first,
-                plan.digest,
-                terminal,
-                report,
-            );
+            let failures = tell(bytes.as_slice(), &events, first, telling, terminal, report);
             return Err(Ending {
                 stop: Stop::Memory,
                 events,
@@ -75,7 +72,7 @@ fn cut_power<M: Computer, T: Sink, R: Sink, N: Nvm, O: Observer>(
         bytes.as_slice(),
         &next.events,
         first,
-        plan.digest,
+        telling,
         terminal,
         report,
     );

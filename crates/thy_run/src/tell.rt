@@ -5,16 +5,16 @@ ghost use Rattle.thy_run.specs.Sending.{Sent, TellsLines};
 
 use crate::ending::Stop;
 use thy_base::Sink;
-use thy_text::{Events, write_event};
+use thy_text::{Events, Telling, write_event};
 
 /// Writes the lines of the events from `first` on, and returns whether the report failed.
-pub fn write_lines<R: Sink>(events: &Events, first: usize, digest: bool, report: &mut R) -> bool
+pub fn write_lines<R: Sink>(events: &Events, first: usize, telling: Telling, report: &mut R) -> bool
     requires { first ≤ length events.now }
-    ensures lines { TellsLines digest first events.now result (R.stream report.old) (R.stream report.new) }
+    ensures lines { TellsLines telling first events.now result (R.stream report.old) (R.stream report.new) }
     ensures none { first ≡ length events.now → result ≡ false }
 {
     for i in first..events.len() {
-        if write_event(events.get(i), digest, report).is_err() {
+        if write_event(events.get(i), telling, report).is_err() {
             return true;
         }
     }
@@ -60,18 +60,18 @@ pub fn tell<T: Sink, R: Sink>(
     bytes: &[u8],
     events: &Events,
     first: usize,
-    digest: bool,
+    telling: Telling,
     terminal: &mut T,
     report: &mut R,
 ) -> Failures
     requires { first ≤ length events.now }
     ensures terminal { Sent result.terminal (T.stream terminal.old) (T.stream terminal.new) bytes.now }
-    ensures report { TellsLines digest first events.now result.report
+    ensures report { TellsLines telling first events.now result.report
         (R.stream report.old) (R.stream report.new) }
     ensures on_terminal { bytes.now ≡ [] → result.terminal ≡ false }
     ensures on_report { first ≡ length events.now → result.report ≡ false }
 {
     let terminal = write_bytes(bytes, terminal);
-    let report = write_lines(events, first, digest, report);
+    let report = write_lines(events, first, telling, report);
     Failures { terminal, report }
 }

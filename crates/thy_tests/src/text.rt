@@ -6,8 +6,26 @@ use thy_base::{Bytes, EndCause, Field, SchemeName, Sink, SinkError};
 use thy_isa::{MachState, Regs, Status};
 use thy_record::BadImage;
 use thy_text::{
-    Closing, Event, Events, FetchFault, History, digest, write_closing, write_ended, write_event,
-    write_made, write_scheme, write_summary,
+    Closing, Event, Events, FetchFault, History, Telling, digest, write_closing, write_ended,
+    write_event, write_made, write_scheme, write_summary,
+};
+
+/// How events of one hart are told, without digests.
+const ALONE: Telling = Telling {
+    digest: false,
+    harts: 1,
+};
+
+/// The same with digests.
+const DIGESTING: Telling = Telling {
+    digest: true,
+    harts: 1,
+};
+
+/// How events of two harts are told.
+const PAIR: Telling = Telling {
+    digest: false,
+    harts: 2,
 };
 
 /// Keeps what it is given, which is never an empty piece.
@@ -73,7 +91,7 @@ fn events_have_their_lines(rt: HostRuntime) {
         events.push(event).expect(&rt, "memory");
     }
     for i in 0..events.len() {
-        expect(&rt, write_event(events.get(i), false, &mut page), Ok(()));
+        expect(&rt, write_event(events.get(i), ALONE, &mut page), Ok(()));
     }
     let text =
         b"commit 0 overlapped 0\nepoch 1 ends at 8 by exhausted 8 9 1\ncut 1 at cycle 1391\nreload\n";
@@ -92,6 +110,7 @@ fn an_epoch_of_two_harts_tells_how_many_instructions_each_retired(rt: HostRuntim
         (EndCause::Length, [0, 1, 0, 0, 1, 0, 0].as_slice()),
         (exhausted, [1, 1, 1].as_slice()),
         (EndCause::Ended, [0].as_slice()),
+        (exhausted, [0; 0].as_slice()),
     ] {
         let event = Event::EpochEnd {
             epoch: 1,
@@ -99,10 +118,10 @@ fn an_epoch_of_two_harts_tells_how_many_instructions_each_retired(rt: HostRuntim
             cause,
             turns: bytes_of(&rt, rt.alloc(), turns),
         };
-        expect(&rt, write_event(&event, false, &mut page), Ok(()));
+        expect(&rt, write_event(&event, PAIR, &mut page), Ok(()));
     }
     let text =
-        b"epoch 1 ends at 8 by length harts 5 2\nepoch 1 ends at 8 by exhausted 8 9 1 harts 0 3\nepoch 1 ends at 8 by end harts 1 0\n";
+        b"epoch 1 ends at 8 by length harts 5 2\nepoch 1 ends at 8 by exhausted 8 9 1 harts 0 3\nepoch 1 ends at 8 by end harts 1 0\nepoch 1 ends at 8 by exhausted 8 9 1 harts 0 0\n";
     expect(&rt, page.bytes.as_slice(), text.as_slice());
 }
 
@@ -121,7 +140,7 @@ fn the_longest_line_of_an_event_is_written_at_once(rt: HostRuntime) {
         turns: Bytes::new(rt.alloc()),
     };
     let mut page = blank(rt.alloc());
-    expect(&rt, write_event(&event, false, &mut page), Ok(()));
+    expect(&rt, write_event(&event, ALONE, &mut page), Ok(()));
     let digits = 5 * 20;
     let words = b"epoch  ends at  by exhausted   \n".len();
     expect(&rt, page.bytes.len(), words + digits);
@@ -298,7 +317,7 @@ fn memory_has_its_digest(rt: HostRuntime) {
         count: 7,
         state: zeros,
     };
-    expect(&rt, write_event(&restart, true, &mut page), Ok(()));
+    expect(&rt, write_event(&restart, DIGESTING, &mut page), Ok(()));
     let text =
         b"exit 3 at 7\nexit 3 at 7\nmemory ba7816bf8f01cfea414140de5dae2223b00361a396177a9cb410ff61f20015ad\nrestart 2 at 7\nmemory ad7facb2586fc6e966c004d7d1d16b024f5805ff7cb47c7a85dabd8b48892ca7\n";
     expect(&rt, page.bytes.as_slice(), text.as_slice());

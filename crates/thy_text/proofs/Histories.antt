@@ -1,6 +1,7 @@
 -- Events that come after others.
-use Rattle.std.proofs.Common.{◌≡◌, ℕ, Bool, List, [], ◌∷◌, ◌++◌, refl, sym, ap, ◌∙◌, append_assoc, append-nil}
+use Rattle.std.proofs.Common.{◌≡◌, ℕ, List, [], ◌∷◌, ◌++◌, refl, sym, ap, ◌∙◌, append_assoc, append-nil}
 use Rattle.thy_text.specs.Event.{Event}
+use Rattle.thy_text.specs.declared.telling.Telling.{Telling}
 use Rattle.thy_text.specs.Lines.{line_of, report_of}
 use Rattle.thy_text.specs.Marks.{Marks, marks_after, marks_from, Course, AllLawful}
 
@@ -15,13 +16,13 @@ AllLawful-append c m [] ws before more = more
 AllLawful-append c m (v ∷ vs) ws before more = (before.0, AllLawful-append c (marks_after c.start m v) vs ws before.1 more)
 
 -- the lines of more events
-pub report_of-append : (digest : Bool) (vs ws : List Event) → report_of digest (vs ++ ws) ≡ report_of digest vs ++ report_of digest ws
-report_of-append digest [] ws = refl
-report_of-append digest (v ∷ vs) ws =
-    ap (λ l. line_of digest v ++ l) (report_of-append digest vs ws)
-    ∙ sym (append_assoc (line_of digest v) (report_of digest vs) (report_of digest ws))
+pub report_of-append : (telling : Telling) (vs ws : List Event) → report_of telling (vs ++ ws) ≡ report_of telling vs ++ report_of telling ws
+report_of-append telling [] ws = refl
+report_of-append telling (v ∷ vs) ws =
+    ap (λ l. line_of telling v ++ l) (report_of-append telling vs ws)
+    ∙ sym (append_assoc (line_of telling v) (report_of telling vs) (report_of telling ws))
 
 -- the line of one more event
-pub report_of-more : (digest : Bool) (vs : List Event) (v : Event) → report_of digest (vs ++ v ∷ []) ≡ report_of digest vs ++ line_of digest v
-report_of-more digest vs v =
-    report_of-append digest vs (v ∷ []) ∙ ap (λ l. report_of digest vs ++ l) (append-nil (line_of digest v))
+pub report_of-more : (telling : Telling) (vs : List Event) (v : Event) → report_of telling (vs ++ v ∷ []) ≡ report_of telling vs ++ line_of telling v
+report_of-more telling vs v =
+    report_of-append telling vs (v ∷ []) ∙ ap (λ l. report_of telling vs ++ l) (append-nil (line_of telling v))

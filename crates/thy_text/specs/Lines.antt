@@ -1,6 +1,6 @@
 -- Part of the claim.
 -- The lines of a report, as bytes.
-use Rattle.std.specs.Prelude.{ℕ, ◌==◌, Bool, true, false, List, [], ◌∷◌, ◌++◌, codes, count_by}
+use Rattle.std.specs.Prelude.{ℕ, ◌==◌, if◌then◌else◌, Bool, true, false, List, [], ◌∷◌, ◌++◌, codes, count_by}
 use Rattle.std.specs.Fmt.{decimal}
 use Rattle.hex.specs.Hex.{encode_lower}
 use Rattle.sha2.specs.Sha256.{sha256}
@@ -8,6 +8,7 @@ use Rattle.thy_base.specs.declared.cause.EndCause.{EndCause}
 use Rattle.thy_base.specs.declared.cause.EndCause.TheVariants.{Length, Exhausted, Ended as EndedCause}
 use Rattle.thy_isa.specs.declared.state.Status.{Status}
 use Rattle.thy_isa.specs.declared.state.Status.TheVariants.{Running, Exited, Trapped}
+use Rattle.thy_text.specs.declared.telling.Telling.{Telling}
 use Rattle.thy_text.specs.Event.{Event, Scheme, EpochEnd, Commit, Cut, Restart, Reload, Ended}
 
 -- texts one after another
@@ -23,18 +24,18 @@ line_feed = 10 ∷ []
 abbrev pub turns_by : ℕ → List ℕ → ℕ
 turns_by hart turns = count_by (λ t. t == hart) turns
 
--- to the line's end: how many instructions each hart retired, if turns are listed
-abbrev pub harts_parts : List ℕ → List (List ℕ)
-harts_parts [] = line_feed ∷ []
-harts_parts (t ∷ ts) =
-    codes " harts " ∷ decimal (turns_by 0 (t ∷ ts)) ∷ codes " " ∷ decimal (turns_by 1 (t ∷ ts)) ∷ line_feed ∷ []
+-- to the line's end: with two harts, how many instructions each retired
+abbrev pub harts_parts : (harts : ℕ) → List ℕ → List (List ℕ)
+harts_parts harts turns =
+    if harts == 1 then line_feed ∷ []
+    else codes " harts " ∷ decimal (turns_by 0 turns) ∷ codes " " ∷ decimal (turns_by 1 turns) ∷ line_feed ∷ []
 
--- why an epoch ended, and how many instructions each hart retired
-abbrev pub cause_parts : EndCause → List ℕ → List (List ℕ)
-cause_parts Length turns = codes "length" ∷ harts_parts turns
-cause_parts (Exhausted free dirty need) turns =
-    codes "exhausted " ∷ decimal free ∷ codes " " ∷ decimal dirty ∷ codes " " ∷ decimal need ∷ harts_parts turns
-cause_parts EndedCause turns = codes "end" ∷ harts_parts turns
+-- why an epoch ended, and with two harts how many instructions each retired
+abbrev pub cause_parts : (harts : ℕ) → EndCause → List ℕ → List (List ℕ)
+cause_parts harts Length turns = codes "length" ∷ harts_parts harts turns
+cause_parts harts (Exhausted free dirty need) turns =
+    codes "exhausted " ∷ decimal free ∷ codes " " ∷ decimal dirty ∷ codes " " ∷ decimal need ∷ harts_parts harts turns
+cause_parts harts EndedCause turns = codes "end" ∷ harts_parts harts turns
 
 -- the line of memory's digest: its SHA-256, in hexadecimal digits of lower case
 abbrev pub memory_line : List ℕ → List ℕ
@@ -57,26 +58,26 @@ ended_lines digest (Exited value) count memory = state_lines digest (codes "exit
 ended_lines digest (Trapped cause) count memory = state_lines digest (codes "trap ") cause count memory
 
 -- an epoch's end, in parts
-abbrev pub epoch_end_parts : ℕ → ℕ → EndCause → List ℕ → List (List ℕ)
-epoch_end_parts epoch count cause turns =
-    codes "epoch " ∷ decimal epoch ∷ codes " ends at " ∷ decimal count ∷ codes " by " ∷ cause_parts cause turns
+abbrev pub epoch_end_parts : (harts epoch count : ℕ) → EndCause → List ℕ → List (List ℕ)
+epoch_end_parts harts epoch count cause turns =
+    codes "epoch " ∷ decimal epoch ∷ codes " ends at " ∷ decimal count ∷ codes " by " ∷ cause_parts harts cause turns
 
 -- the line of what happened, and after a restart and an end memory's digest, if digests are reported
-abbrev pub line_of : Bool → Event → List ℕ
-line_of digest (EpochEnd epoch count cause turns) = joined (epoch_end_parts epoch count cause turns)
-line_of digest (Commit epoch cycle overlapped) =
+abbrev pub line_of : Telling → Event → List ℕ
+line_of telling (EpochEnd epoch count cause turns) = joined (epoch_end_parts telling.harts epoch count cause turns)
+line_of telling (Commit epoch cycle overlapped) =
     joined (codes "commit " ∷ decimal epoch ∷ codes " overlapped " ∷ decimal overlapped ∷ line_feed ∷ [])
-line_of digest (Cut index cycle) =
+line_of telling (Cut index cycle) =
     joined (codes "cut " ∷ decimal index ∷ codes " at cycle " ∷ decimal cycle ∷ line_feed ∷ [])
-line_of digest (Restart epoch count state) = state_lines digest (codes "restart ") epoch count state.memory
-line_of digest (Scheme number) = []
-line_of digest Reload = joined (codes "reload" ∷ line_feed ∷ [])
-line_of digest (Ended status count cycle state) = ended_lines digest status count state.memory
+line_of telling (Restart epoch count state) = state_lines telling.digest (codes "restart ") epoch count state.memory
+line_of telling (Scheme number) = []
+line_of telling Reload = joined (codes "reload" ∷ line_feed ∷ [])
+line_of telling (Ended status count cycle state) = ended_lines telling.digest status count state.memory
 
 -- the lines of all that happened
-abbrev pub report_of : Bool → List Event → List ℕ
-report_of digest [] = []
-report_of digest (v ∷ vs) = line_of digest v ++ report_of digest vs
+abbrev pub report_of : Telling → List Event → List ℕ
+report_of telling [] = []
+report_of telling (v ∷ vs) = line_of telling v ++ report_of telling vs
 
 -- the line of a made program: its number and its length
 abbrev pub made_of : ℕ → ℕ → List ℕ

@@ -16,6 +16,7 @@ mod line;
 mod memory_digest;
 mod piece;
 mod summary;
+mod telling;
 
 pub use closing::{Closing, FetchFault, write_closing};
 pub use event::Event;
@@ -25,3 +26,4 @@ pub use laws::with_one_hart_events_go_by_counts;
 pub use line::{write_ended, write_event, write_made};
 pub use memory_digest::digest;
 pub use summary::{write_scheme, write_summary};
+pub use telling::Telling;

@@ -7,19 +7,23 @@ ghost use Rattle.thy_text.specs.Pieces.{tail_of};
 ghost use Rattle.thy_text.specs.Seen.{event_of};
 ghost use Rattle.thy_text.specs.Writing.{Wrote};
 
-use crate::Event;
 use crate::memory_digest::write_digest;
 use crate::piece::{Piece, write_pieces};
+use crate::{Event, Telling};
 use thy_base::{EndCause, Sink, SinkError};
 use thy_isa::{MachState, Status};
 
-/// Writes the line of an event at once. With `digest`, the line of a restart and that of an end are
+/// Writes the line of an event at once. If digests are told, the line of a restart and that of an end are
 /// followed by the line of memory's digest, at once too. On an error the sink has taken only the
 /// first part of these lines. Allocates nothing.
-pub fn write_event<R: Sink>(event: &Event, digest: bool, report: &mut R) -> Result<(), SinkError>
+pub fn write_event<R: Sink>(
+    event: &Event,
+    telling: Telling,
+    report: &mut R,
+) -> Result<(), SinkError>
     ensures wrote { Wrote result (R.stream report.old) (R.stream report.new)
-        (line_of digest (event_of event.now)) }
-    ensures due { OnErr result (line_of digest (event_of event.now) ≢ []) }
+        (line_of telling (event_of event.now)) }
+    ensures due { OnErr result (line_of telling (event_of event.now) ≢ []) }
 {
     match event {
         Event::Scheme { .. } => Ok(()),
@@ -28,7 +32,14 @@ pub fn write_event<R: Sink>(event: &Event, digest: bool, report: &mut R) -> Resu
             count,
             cause,
             turns,
-        } => write_epoch_end(*epoch, *count, *cause, turns.as_slice(), report),
+        } => write_epoch_end(
+            *epoch,
+            *count,
+            *cause,
+            telling.harts,
+            turns.as_slice(),
+            report,
+        ),
         Event::Commit {
             epoch,
             overlapped,
@@ -39,14 +50,14 @@ pub fn write_event<R: Sink>(event: &Event, digest: bool, report: &mut R) -> Resu
             epoch,
             count,
             state,
-        } => write_state("restart ", *epoch, *count, state, digest, report),
+        } => write_state("restart ", *epoch, *count, state, telling.digest, report),
         Event::Reload => write_pieces(&[Piece::Text("reload"), Piece::Text("\n")], report),
         Event::Ended {
             status,
             count,
             state,
             ..
-        } => write_end(*status, *count, state, digest, report),
+        } => write_end(*status, *count, state, telling.digest, report),
     }
 }
 
@@ -71,7 +82,7 @@ fn write_numbers<R: Sink>(
     write_pieces(&pieces, report)
 }
 
-/// The parts that tell how many instructions each hart retired in an epoch; all are empty if its turns are not listed.
+/// The parts that tell how many instructions each of two harts retired in an epoch; with one hart all are empty.
 #[derive(Clone, Copy)]
 pub(crate) struct HartParts {
     word: Piece<'static>,
@@ -99,10 +110,10 @@ fn count_turns(turns: &[u8], hart: u8) -> u64
 }
 
 /// The parts that tell the harts of an epoch with these turns.
-fn hart_parts(turns: &[u8]) -> HartParts
-    ensures { joined (tail_of result) ≡ joined (harts_parts turns.now) }
+fn hart_parts(harts: u64, turns: &[u8]) -> HartParts
+    ensures { joined (tail_of result) ≡ joined (harts_parts harts turns.now) }
 {
-    if turns.is_empty() {
+    if harts == 1 {
         let none = Piece::Text("");
         return HartParts {
             word: none,
@@ -124,11 +135,12 @@ fn write_epoch_end<R: Sink>(
     epoch: u64,
     count: u64,
     cause: EndCause,
+    harts: u64,
     turns: &[u8],
     report: &mut R,
 ) -> Result<(), SinkError>
     ensures { Wrote result (R.stream report.old) (R.stream report.new)
-        (joined (epoch_end_parts epoch count cause turns.now)) }
+        (joined (epoch_end_parts harts epoch count cause turns.now)) }
 {
     let first = Piece::Text("epoch ");
     let number = Piece::Number(epoch);
@@ -140,7 +152,7 @@ fn write_epoch_end<R: Sink>(
         zero,
         between,
         one,
-    } = hart_parts(turns);
+    } = hart_parts(harts, turns);
     let end = Piece::Text("\n");
     match cause {
         EndCause::Length => {

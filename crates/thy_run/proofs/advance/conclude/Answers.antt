@@ -3,7 +3,7 @@ use Rattle.std.specs.Prelude.{slice_index}
 use Rattle.thy_base.specs.Bytes.{bytes_of}
 use Rattle.thy_text.specs.Lines.{report_of}
 use Rattle.thy_run.specs.declared.progress.Progress.{Progress}
-use Rattle.thy_run.specs.Going.{turns_then}
+use Rattle.thy_run.specs.Going.{turns_then, telling_of}
 use Rattle.thy_run.specs.Sending.{Sent, Sends}
 use Rattle.thy_run.proofs.AdvanceLemmas.{few_released, noted_ready, broken_ready, more_noted, more_broken, awaits_cut, done_going, done_ended, done_noted, is_none, not_none}
 use Rattle.thy_run.proofs.OutcomeLemmas.{ends_unheard, ends_finished, Running-done, ComesTo-short}
@@ -51,7 +51,7 @@ returns-in_default g c = λ fitted p n m k turns t u ready running w.
     let r2 = g.R.Sink.stream c.write_lines-progress.new.report in
     let report_failed = c.write_lines-progress.result in
     let first : c.len-first.result ≡ length p.events = c.len-first.ensures ∙ ap (λ y. length y.events) ready.stepped.same in
-    let L : ℕ → Type 0 = λ i. Sends (report_of plan.digest (take i e)) (report_of plan.digest e) report_failed r1 r2 in
+    let L : ℕ → Type 0 = λ i. Sends (report_of (telling_of plan) (take i e)) (report_of (telling_of plan) e) report_failed r1 r2 in
     record {
       after = turns;
       comes_to = ComesTo-short K plan fitted p (record q { events = e }) n m k turns turns report_failed t (g.T.Sink.stream c.args.terminal.now) u r1 r2 running ready.few
@@ -107,7 +107,7 @@ returns-in-Some g c = λ fitted p n m k turns t u ready running w.
     let q' : Progress g.row.M.Denot = record q { events = e; released = q.released + c.len.result; fresh = false; turns = c.end_list.new.turns } in
     let noted = noted_ready K laws plan fitted p q n m k turns r c.args.readings c.args.cycle c.requires.planned ready ended e c.len.result c.end_list.new.turns
     c.in-Ok.ensures.ok c.in-Ok.ensures.status c.len.ensures c.end_list.ensures.turns c.end_list.ensures.room in
-    let L : ℕ → Type 0 = λ i. Sends (report_of plan.digest (take i e)) (report_of plan.digest e) report_failed r1 r2 in
+    let L : ℕ → Type 0 = λ i. Sends (report_of (telling_of plan) (take i e)) (report_of (telling_of plan) e) report_failed r1 r2 in
     let sent = subst (Sent terminal_failed t1 t2) c.as_slice.ensures c.tell-failures.ensures.terminal in
     let lines = subst L first c.tell-failures.ensures.report in
     let many : c.len-2.result - c.len-first.result ≡ length e - length p.events = ap (λ l. l - c.len-first.result) c.len-2.ensures ∙ ap (λ f. length e - f) first in
@@ -146,7 +146,7 @@ returns-in-Some-ended g c = λ fitted p n m k turns t u ready running w.
     let q' : Progress g.row.M.Denot = record q { events = e; released = q.released + c.len.result; fresh = false; turns = c.end_list.new.turns } in
     let noted = noted_ready K laws plan fitted p q n m k turns r c.args.readings c.args.cycle c.requires.planned ready ended e c.len.result c.end_list.new.turns
     c.in-Ok.ensures.ok c.in-Ok.ensures.status c.len.ensures c.end_list.ensures.turns c.end_list.ensures.room in
-    let L : ℕ → Type 0 = λ i. Sends (report_of plan.digest (take i e)) (report_of plan.digest e) report_failed r1 r2 in
+    let L : ℕ → Type 0 = λ i. Sends (report_of (telling_of plan) (take i e)) (report_of (telling_of plan) e) report_failed r1 r2 in
     let sent = subst (Sent terminal_failed t1 t2) c.as_slice.ensures c.tell-failures.ensures.terminal in
     let lines = subst L first c.tell-failures.ensures.report in
     let many : c.len-2.result - c.len-first.result ≡ length e - length p.events = ap (λ l. l - c.len-first.result) c.len-2.ensures ∙ ap (λ f. length e - f) first in
@@ -180,7 +180,7 @@ returns g c = λ fitted p n m k turns t u ready running w.
     let q' : Progress g.row.M.Denot = record q { events = e; released = q.released + c.len.result; fresh = false; turns = c.end_list.new.turns } in
     let noted = noted_ready K laws plan fitted p q n m k turns r c.args.readings c.args.cycle c.requires.planned ready ended e c.len.result c.end_list.new.turns
     c.in-Ok.ensures.ok c.in-Ok.ensures.status c.len.ensures c.end_list.ensures.turns c.end_list.ensures.room in
-    let L : ℕ → Type 0 = λ i. Sends (report_of plan.digest (take i e)) (report_of plan.digest e) report_failed r1 r2 in
+    let L : ℕ → Type 0 = λ i. Sends (report_of (telling_of plan) (take i e)) (report_of (telling_of plan) e) report_failed r1 r2 in
     let sent = subst (Sent terminal_failed t1 t2) c.as_slice.ensures c.tell-failures.ensures.terminal in
     let lines = subst L first c.tell-failures.ensures.report in
     let many : c.len-2.result - c.len-first.result ≡ length e - length p.events = ap (λ l. l - c.len-first.result) c.len-2.ensures ∙ ap (λ f. length e - f) first in

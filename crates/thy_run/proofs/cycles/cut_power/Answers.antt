@@ -6,7 +6,7 @@ use Rattle.thy_text.specs.Lines.{report_of}
 use Rattle.thy_run.specs.declared.ending.Ending.{Ending}
 use Rattle.thy_run.specs.declared.ending.Stop.TheVariants.{Memory}
 use Rattle.thy_run.specs.Sending.{Sent, Sends}
-use Rattle.thy_run.specs.Going.{turns_then, world_at}
+use Rattle.thy_run.specs.Going.{turns_then, world_at, telling_of}
 use Rattle.thy_run.specs.Rounds.{RunEndsAt}
 use Rattle.thy_run.proofs.AdvanceLemmas.{cut_turns, can_cut}
 use Rattle.thy_run.proofs.OutcomeLemmas.{ends_cut, Running-cut, RunEnds-uncut}
@@ -31,8 +31,8 @@ returns-in-Err g c = λ fitted p n turns t r step running w awaits first.
     let r2 = g.R.Sink.stream c.tell-failures.new.report in
     let terminal_failed = c.tell-failures.result.terminal in
     let report_failed = c.tell-failures.result.report in
-    let L : ℕ → Type 0 = λ k. Sends (report_of plan.digest (take k c.in-Err.events)) (report_of plan.digest c.in-Err.events) report_failed r1 r2 in
-    let Q : List Event → Type 0 = λ vs. Sends (report_of plan.digest (take (length p.events) vs)) (report_of plan.digest vs) report_failed r1 r2 in
+    let L : ℕ → Type 0 = λ k. Sends (report_of (telling_of plan) (take k c.in-Err.events)) (report_of (telling_of plan) c.in-Err.events) report_failed r1 r2 in
+    let Q : List Event → Type 0 = λ vs. Sends (report_of (telling_of plan) (take (length p.events) vs)) (report_of (telling_of plan) vs) report_failed r1 r2 in
     let E : List Event → Type 0 = λ vs. RunEndsAt K plan fitted m (record { stop = Memory; events = vs; cycles = c.args.done; terminal_failed = terminal_failed; report_failed = report_failed }) t t2 r r2 (world_at p n c.args.done turns) in
     let D : Device → Type 0 = λ d. RunEndsAt K plan fitted d (record { stop = Memory; events = c.in-Err.events; cycles = c.args.done; terminal_failed = terminal_failed; report_failed = report_failed }) t t2 r r2 (world_at p n c.args.done turns) in
     RunEndsSeen-at K g.O.Observer.has_seen plan fitted (g.N.Nvm.device c.cut.new.nvm) (record { stop = Memory; events = c.in-Err.events; cycles = c.args.done; terminal_failed = terminal_failed; report_failed = report_failed }) t t2 r r2 p n c.args.done turns c.forget.new.self
@@ -65,7 +65,7 @@ returns-in-Some g c = λ fitted p n turns t r step running w awaits first.
     let terminal_failed = c.tell-failures-2.result.terminal in
     let report_failed = c.tell-failures-2.result.report in
     let after = cut_turns K plan (turns_then plan turns step.did) m2 in
-    let L : ℕ → Type 0 = λ i. Sends (report_of plan.digest (take i next.events)) (report_of plan.digest next.events) report_failed r1 r2 in
+    let L : ℕ → Type 0 = λ i. Sends (report_of (telling_of plan) (take i next.events)) (report_of (telling_of plan) next.events) report_failed r1 r2 in
     let sent = subst (Sent terminal_failed t1 t2) c.as_slice-2.ensures c.tell-failures-2.ensures.terminal in
     let lines = subst L first c.tell-failures-2.ensures.report in
     let watched = Watched-cut K laws S g.O.Observer.keeps plan fitted p q next n m m2 k turns step bytes (c.len.result - c.args.first) c.args.first c.len.result c.args.observer.now c.see_cut.new.self
@@ -96,7 +96,7 @@ returns g c = λ fitted p n turns t r step running w awaits first.
     let terminal_failed = c.tell-failures-2.result.terminal in
     let report_failed = c.tell-failures-2.result.report in
     let after = cut_turns K plan (turns_then plan turns step.did) m2 in
-    let L : ℕ → Type 0 = λ i. Sends (report_of plan.digest (take i next.events)) (report_of plan.digest next.events) report_failed r1 r2 in
+    let L : ℕ → Type 0 = λ i. Sends (report_of (telling_of plan) (take i next.events)) (report_of (telling_of plan) next.events) report_failed r1 r2 in
     let sent = subst (Sent terminal_failed t1 t2) c.as_slice-2.ensures c.tell-failures-2.ensures.terminal in
     let lines = subst L first c.tell-failures-2.ensures.report in
     let watched = Watched-cut K laws S g.O.Observer.keeps plan fitted p q next n m m2 k turns step bytes (c.len.result - c.args.first) c.args.first c.len.result c.args.observer.now c.see_cut.new.self

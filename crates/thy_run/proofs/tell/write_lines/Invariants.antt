@@ -5,4 +5,4 @@ use Rattle.thy_run.proofs.tell.write_lines.Given as goal
 
 abbrev pub invariant-loop-i : goal.invariant-loop-i
 invariant-loop-i g l =
-    Sends (report_of l.digest (take l.first l.events)) (report_of l.digest (take l.i l.events)) false (g.R.Sink.stream l.fn.report) (g.R.Sink.stream l.report)
+    Sends (report_of l.telling (take l.first l.events)) (report_of l.telling (take l.i l.events)) false (g.R.Sink.stream l.fn.report) (g.R.Sink.stream l.report)
