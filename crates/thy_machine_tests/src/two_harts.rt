@@ -99,7 +99,12 @@ static ADDS: [u32; 4] = [0x00011337, 0x00100293, 0x100335AF, 0x1853362F];
 #[test]
 fn a_conditional_store_of_reserved_bytes_stores(rt: HostRuntime) {
     let plain = after(&rt, rt.alloc(), &ADDS, &[0, 0, 0]);
-    have_reserved(&rt, &plain, Reservation::Double(69632), Reservation::Nothing);
+    have_reserved(
+        &rt,
+        &plain,
+        Reservation::Double(69632),
+        Reservation::Nothing,
+    );
     keeps(&rt, &plain, 0, 0);
     let plain = after(&rt, rt.alloc(), &ADDS, &[0, 0, 0, 0]);
     hold(&rt, &plain, 12, 0, 0);
@@ -111,7 +116,11 @@ fn a_conditional_store_of_reserved_bytes_stores(rt: HostRuntime) {
 #[test]
 fn the_second_hart_begins_at_the_entry_with_its_own_stack(rt: HostRuntime) {
     let plain = after(&rt, rt.alloc(), &ADDS, &[0, 0, 0, 0]);
-    expect(&rt, (plain.state().pc, second(&rt, &plain).pc), (65552, 65536));
+    expect(
+        &rt,
+        (plain.state().pc, second(&rt, &plain).pc),
+        (65552, 65536),
+    );
     hold(&rt, &plain, 2, 93952, 91904);
     hold(&rt, &plain, 10, 0, 1);
     hold(&rt, &plain, 6, 69632, 0);
@@ -193,7 +202,12 @@ fn status_of(cause: u64) -> Status {
 fn an_atomic_instruction_traps_for_its_address(rt: HostRuntime) {
     for (word, (within, behind)) in ATOMIC.iter().zip(&TRAPS) {
         // `lui x6,0x11`, `addi x6,x6,4`, or `lui x6,0x17`.
-        let plain = after(&rt, rt.alloc(), &[0x00011337, 0x00430313, *word], &[0, 0, 0]);
+        let plain = after(
+            &rt,
+            rt.alloc(),
+            &[0x00011337, 0x00430313, *word],
+            &[0, 0, 0],
+        );
         stands(&rt, plain.state(), status_of(*within), 3);
         let plain = after(&rt, rt.alloc(), &[0x00017337, *word], &[0, 0]);
         stands(&rt, plain.state(), status_of(*behind), 2);
@@ -229,7 +243,11 @@ fn a_write_takes_the_others_reservation_of_its_blocks(rt: HostRuntime) {
         // `lui x6,0x11`, `addi x7,x6,56`, `lr.d a1,(x7)`.
         let words = [0x00011337, 0x03830393, 0x1003B5AF, *word];
         let plain = after(&rt, rt.alloc(), &words, &[0, 0, 0, 1, 1, 1, 1]);
-        let kept = if *stays { reserved } else { Reservation::Nothing };
+        let kept = if *stays {
+            reserved
+        } else {
+            Reservation::Nothing
+        };
         let other = second(&rt, &plain);
         expect_at(&rt, (other.front, other.back), (kept, reserved), *word);
     }
@@ -250,7 +268,11 @@ fn bytes_that_are_read_take_the_others_reservation_of_their_blocks(rt: HostRunti
         let turns = [0, 0, 0, 1, 1, 1, 1, 1, 1, 1, 1];
         let plain = after_reading(&rt, rt.alloc(), &words, &turns, &[7; 64]);
         hold(&rt, &plain, 10, 0, 64);
-        let kept = if *stays { reserved } else { Reservation::Nothing };
+        let kept = if *stays {
+            reserved
+        } else {
+            Reservation::Nothing
+        };
         have_reserved(&rt, &plain, kept, reserved);
     }
 }
