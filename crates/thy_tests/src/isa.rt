@@ -160,14 +160,26 @@ fn left(effect: Effect, old: u64) -> Option<(Reg, u64)> {
 }
 
 /// The number of an effect's width in eight bytes, if it reads one.
-fn read(effect: Effect, old: u64) -> u64 {
+fn read(effect: &Effect, old: u64) -> u64 {
     let bytes = old.to_le_bytes();
     match effect {
         Effect::Reserve { width, .. } | Effect::Modify { width, .. } => {
-            let _size = bytes_in(width);
-            number(&bytes, 0, width)
+            let _size = bytes_in(*width);
+            number(&bytes, 0, *width)
         }
         _ => 0,
+    }
+}
+
+/// What a register holds after an effect that has read these eight bytes, or None if it is no atomic one.
+fn register_after(effect: &Effect, rd: Reg, old: u64) -> Option<u64> {
+    let mut cpu = CpuState::zero();
+    match effect {
+        Effect::Reserve { .. } | Effect::Conditional { .. } | Effect::Modify { .. } => {
+            finish_alone(&mut cpu, effect, read(effect, old));
+            Some(cpu.regs.get(rd))
+        }
+        _ => None,
     }
 }
 
@@ -178,16 +190,10 @@ fn changed(word: u32, old: u64, b: u64) -> Option<(u64, u64)> {
     } else {
         Reservation::Double(PC)
     };
-    let effect = atomic(word, PC, b, &beside(reserved, Reservation::Nothing));
-    let (rd, memory) = left(effect, old)?;
-    let mut cpu = CpuState::zero();
-    match effect {
-        Effect::Reserve { .. } | Effect::Conditional { .. } | Effect::Modify { .. } => {
-            finish_alone(&mut cpu, &effect, read(effect, old));
-            Some((cpu.regs.get(rd), memory))
-        }
-        _ => None,
-    }
+    let other = beside(reserved, Reservation::Nothing);
+    let (rd, memory) = left(atomic(word, PC, b, &other), old)?;
+    let number = register_after(&atomic(word, PC, b, &other), rd, old)?;
+    Some((number, memory))
 }
 
 #[test]
@@ -262,18 +268,22 @@ fn an_atomic_instruction_traps_for_its_address(rt: HostRuntime) {
     expect(&rt, atomic(LR_W, PC + 4, 1, &other), read);
 }
 
-#[test]
-fn a_store_conditional_fails_if_its_bytes_are_not_reserved(rt: HostRuntime) {
-    let fails = Effect::Fail {
+/// The failure of a store conditional into x7.
+fn failure() -> Effect {
+    Effect::Fail {
         rd: Reg::new(7),
         pc: PC + 4,
-    };
+    }
+}
+
+#[test]
+fn a_store_conditional_fails_if_its_bytes_are_not_reserved(rt: HostRuntime) {
     let none = beside(Reservation::Nothing, Reservation::Double(PC));
-    expect(&rt, atomic(SC_D, PC, 1, &none), fails);
+    expect(&rt, atomic(SC_D, PC, 1, &none), failure());
     let shorter = beside(Reservation::Word(PC), Reservation::Nothing);
-    expect(&rt, atomic(SC_D, PC, 1, &shorter), fails);
+    expect(&rt, atomic(SC_D, PC, 1, &shorter), failure());
     let elsewhere = beside(Reservation::Double(PC + 8), Reservation::Nothing);
-    expect(&rt, atomic(SC_D, PC, 1, &elsewhere), fails);
+    expect(&rt, atomic(SC_D, PC, 1, &elsewhere), failure());
 }
 
 /// What a write of `len` bytes leaves of a reservation of the last eight bytes of a block, 56 bytes behind PC.

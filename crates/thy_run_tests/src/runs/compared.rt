@@ -303,14 +303,14 @@ fn each_run_reads_the_same_input(rt: HostRuntime) -> Result<(), Fail> {
     let mut shelf = shelf_of(alloc, &[("R", program.as_slice()), ("A", b"abcd")])?;
     let line = "thynvm compare R --input A --pages 8 --btt 8 --ptt 8";
     let answer = answered(alloc, line, &mut shelf)?;
-    let mut ends = 0;
+    let mut ends = 0_u64;
     for i in 0..answer.events.len() {
         if let Event::Ended { status, state, .. } = answer.events.get(i) {
             assert!(rt;
                 *status == Status::Exited(4) && state.cursor == 4,
                 "{line}: event {i}"
             );
-            ends += 1;
+            ends = ends.wrapping_add(1);
         }
     }
     assert!(rt; ends == 3, "{line}");
@@ -349,7 +349,7 @@ fn expect_one_end(
     let plain = called_on(alloc, "thynvm plain M --digest", &mut shelf, &[], &[])?;
     let line = format!(in alloc; "thynvm compare M {options}")?;
     let answer = answered(alloc, line.as_str(), &mut shelf)?;
-    let mut ends = 0;
+    let mut ends = 0_u64;
     for i in 0..answer.events.len() {
         if let Event::Ended { state, .. } = answer.events.get(i) {
             let is_told = is_told_so(alloc, state, plain.report.as_slice())?;
@@ -359,7 +359,7 @@ fn expect_one_end(
                     assert!(rt; is_same(state, other), "{line}: events {k} and {i}");
                 }
             }
-            ends += 1;
+            ends = ends.wrapping_add(1);
         }
     }
     assert!(rt; ends == 3 && answer.status == 0, "{line}");
