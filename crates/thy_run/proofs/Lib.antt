@@ -29,3 +29,4 @@ pub mod AdvanceLemmas
 pub mod OutcomeLemmas
 pub mod StartLemmas
 pub mod SeeingLemmas
+pub mod QuietLemmas

@@ -18,7 +18,7 @@ use Rattle.thy_run.specs.declared.ending.Stop.{Stop}
 use Rattle.thy_run.specs.declared.ending.Stop.TheVariants.{Ended, Nvm, Memory, Terminal, Report, Limit}
 use Rattle.thy_run.specs.declared.plan.Plan.{Plan}
 use Rattle.thy_run.specs.declared.progress.Progress.{Progress}
-use Rattle.thy_run.specs.Going.{origin_of, turns_then, given_of, world_at, IsDone, IsBroken, Breaks, AwaitsCut, IsCutOffTo, Passes, Finishes, telling_of}
+use Rattle.thy_run.specs.Going.{origin_of, turns_then, given_of, world_at, IsDone, IsBroken, Breaks, AwaitsCut, IsCutOffTo, Finishes, telling_of}
 use Rattle.thy_run.specs.Sending.{Sent, Sends, Delivered}
 use Rattle.thy_run.proofs.AdvanceLemmas.{cut_turns, done_cut, broken_cut}
 use Rattle.thy_run.specs.Endings.{is_memory, IsSettled, StopFits}
@@ -294,27 +294,6 @@ ComesTo-short {M = M} K plan fitted p q n m k turns after report_failed t0 t1 r0
     let on_terminal : q.terminal_failed ≡ false = broken.on_terminal ∙ running.goes.on_terminal in
     broken_stops K plan fitted p q n m k turns after [] q.terminal_failed report_failed t0 t1 t1 r0 r1 r2 running few
     (subst (λ b. Sent b t1 t1 []) (sym on_terminal) (Took-none t1)) lines Memory broken why (λ _. on_terminal) on_report
-
--- a cycle without an event lets the run continue, and its sinks have taken all
-pub Running-quiet : {M : Type 0} (K : KindOf M) → (plan : Plan) (fitted : Device) (p q : Progress M) (n m : Device) (k : ℕ) (turns : List ℕ) (r : Stepped) (t0 t1 r0 r1 : Stream)
-    → Running K plan fitted p n k turns t0 t1 r0 r1 → q.events ≡ p.events → Passes K plan p q n m k turns r [] → Running K plan fitted q m (k + 1) (turns_then plan turns r.did) t0 t1 r0 r1
-Running-quiet {M = M} K plan fitted p q n m k turns r t0 t1 r0 r1 running same c = record {
-  goes = record {
-    ran =
-        let e : suc k ≡ k + 1 = omega arith in
-        subst (λ (j : ℕ). Ran K (origin_of plan) (given_of plan fitted) j (world_at q m (k + 1) (turns_then plan turns r.did))) e (world_at p n k turns, running.goes.ran, c.0.cycle);
-    going = c.1;
-    listed = c.0.listed;
-    turns_room = c.0.turns_room;
-    released = c.0.released;
-    room = c.0.room ∙ running.goes.room;
-    faults = c.0.faults ∙ running.goes.faults;
-    on_terminal = c.0.on_terminal ∙ running.goes.on_terminal;
-    on_report = c.0.on_report ∙ running.goes.on_report;
-  };
-  shown_all = subst (λ (l : List Event). Took t0 t1 (released_of (origin_of plan) l)) (sym same) running.shown_all;
-  read_all = subst (λ (l : List Event). Took r0 r1 (report_of (telling_of plan) l)) (sym same) running.read_all;
-}
 
 -- ---- a cut after a cycle
 

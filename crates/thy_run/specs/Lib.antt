@@ -13,4 +13,5 @@ pub mod Going
 pub mod Stopping
 pub mod Rounds
 pub mod Seeing
+pub mod Quiet
 pub mod Promises

@@ -137,6 +137,12 @@ NotesSome did turns reload restored ended cycle old new result =
 
 -- ---- a cycle
 
+-- a step was taken in a run that continues, in which so many cycles are done
+abbrev pub HasStepped : {M : Type 0} → KindOf M → Plan → Progress M → Device → ℕ → Stepped → Type 0
+HasStepped {M = M} K plan q m done r =
+    (fitted : Device) × (p : Progress M) × (n : Device) × (turns : List ℕ) × GoesOn K plan fitted p n done turns
+    × IsStepped K plan p q n m done turns r
+
 -- what was read for the events of a step from p to q
 abbrev pub IsGatheredFor : {M : Type 0} → KindOf M → Plan → Progress M → Progress M → Device → Device → ℕ → List ℕ
     → Did → Readings → Type 0
@@ -171,12 +177,6 @@ Concludes {M = M} K has_seen keeps plan q next r readings cycle before after old
     after.report old_o new_o outcome
 
 -- ---- the loop
-
--- the run continues, and its sinks took all that was due since its start
-abbrev pub IsRunning : {M : Type 0} → KindOf M → Plan → Progress M → Device → ℕ → Sinks → Type 0
-IsRunning K plan p n done now =
-    (fitted : Device) × (turns : List ℕ) × (t : Stream) × (r : Stream)
-    × Running K plan fitted p n done turns t now.terminal r now.report
 
 -- a run that continues awaits a cut, with these bytes due to the terminal
 abbrev pub IsAwaiting : {M : Type 0} → KindOf M → Plan → Progress M → Device → ℕ → List ℕ → ℕ → Sinks → Type 0

@@ -11,7 +11,7 @@ use Rattle.thy_run.specs.declared.ending.Ending.{Ending}
 use Rattle.thy_run.specs.declared.plan.Plan.{Plan}
 use Rattle.thy_run.specs.declared.progress.Progress.{Progress}
 use Rattle.thy_run.specs.Endings.{HasRun}
-use Rattle.thy_run.specs.Going.{origin_of, given_of, world_at, AwaitsCut}
+use Rattle.thy_run.specs.Going.{origin_of, given_of, world_at, IsStepped, AwaitsCut}
 use Rattle.thy_run.specs.Rounds.{Running, ComesTo, RunEnds}
 use Rattle.thy_run.specs.Sending.{Sinks}
 use Rattle.thy_run.specs.Watching.{Taken, IsListed}
@@ -68,11 +68,12 @@ pub record CycleTaken {M O : Type 0} (K : KindOf M) (has_seen : O → List Taken
   pub comes_to : ComesTo K plan fitted p next n new done turns after terminal showing shown report reading read outcome
   pub seen : SeenBy K has_seen keeps plan fitted p next n new done turns after old_o new_o outcome
 
--- a cycle of a run that continues comes to this
-abbrev pub TakesCycle : {M O : Type 0} → KindOf M → (O → List Taken → Type 0) → (O → List Taken → Stepped → Type 0)
-    → Plan → Progress M → Progress M → Device → Device → ℕ → Sinks → Sinks → O → O → Outcome → Type 0
-TakesCycle K has_seen keeps plan p next n new done before after old_o new_o outcome =
-    (fitted : Device) (turns : List ℕ) (t u : Stream)
+-- a cycle whose step was taken from a run that continues comes to this
+abbrev pub Reports : {M O : Type 0} → KindOf M → (O → List Taken → Type 0) → (O → List Taken → Stepped → Type 0)
+    → Plan → Progress M → Progress M → Device → Device → ℕ → Stepped → Sinks → Sinks → O → O → Outcome → Type 0
+Reports {M = M} K has_seen keeps plan q next m new done r before after old_o new_o outcome =
+    (fitted : Device) (p : Progress M) (n : Device) (turns : List ℕ) (t u : Stream)
+    → IsStepped K plan p q n m done turns r
     → Running K plan fitted p n done turns t before.terminal u before.report
     → Watched K has_seen plan fitted p n done turns old_o
     → CycleTaken K has_seen keeps plan fitted p next n new done turns t before.terminal after.terminal u before.report

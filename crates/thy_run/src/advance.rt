@@ -1,11 +1,12 @@
-//! One cycle: a step of the machine, its events, what the sinks are due for them, and the cut that is due after it.
-ghost use Rattle.std.specs.Prelude.{◌≡◌, ◌<◌, ◌≤◌, ◌+◌, ◌^◌, ◌&&◌, ◌==◌, ◌⊎◌, ◌++◌, ◌∷◌, [], if◌then◌else◌, ℕ, List, true, nat_lt, length, slice_index, slice_index_or, IfOk, IfErr};
+//! One cycle: a step of the machine, and if it has something to report, its events, what the sinks are due for them, and
+//! the cut that is due after it.
+ghost use Rattle.std.specs.Prelude.{◌≡◌, ◌↔◌, ◌<◌, ◌≤◌, ◌+◌, ◌^◌, ◌&&◌, ◌==◌, ◌⊎◌, ◌++◌, ◌∷◌, [], if◌then◌else◌, ℕ, List, true, nat_lt, length, slice_index, slice_index_or, IfOk, IfErr};
 ghost use Rattle.thy_base.specs.Bytes.{bytes_of, room_of};
 ghost use Rattle.thy_base.specs.Device.{Device as DeviceValue};
 ghost use Rattle.thy_run.specs.Due.{is_told, IsQuiet};
 ghost use Rattle.thy_run.specs.Going.{IsPlanned, GoesOn, HasRoomToList, list_after, CanCut, IsCutOffTo};
-ghost use Rattle.thy_run.specs.Promises.{StepsOn, GetsStuck, CanConclude, Concludes, IsRunning};
-ghost use Rattle.thy_run.specs.Seeing.{TakesCycle};
+ghost use Rattle.thy_run.specs.Promises.{StepsOn, GetsStuck, HasStepped, CanConclude, Concludes};
+ghost use Rattle.thy_run.specs.Seeing.{Reports};
 ghost use Rattle.thy_run.specs.Sending.{sinks};
 ghost use Rattle.thy_run.specs.Watching.{CanSee};
 ghost use Rattle.thy_run.specs.World.{turns_after};
@@ -36,6 +37,7 @@ pub enum Outcome {
 }
 
 /// Lists a hart, if there are two. Allocates nothing.
+#[inline(always)]
 fn list_hart(turns: &mut Bytes, harts: u64, hart: u8)
     requires { (harts ≡ 1) ⊎ (length (bytes_of turns.old) < room_of turns.old) }
     ensures turns { let old = bytes_of turns.old in
@@ -52,6 +54,7 @@ fn list_hart(turns: &mut Bytes, harts: u64, hart: u8)
 }
 
 /// Lists the hart that retired an instruction, if there are two harts. Allocates nothing.
+#[inline(always)]
 fn list_turn(turns: &mut Bytes, harts: u64, did: Did)
     requires { HasRoomToList harts (bytes_of turns.old) (room_of turns.old) did }
     ensures turns { bytes_of turns.new ≡ turns_after harts (bytes_of turns.old) did }
@@ -65,7 +68,8 @@ fn list_turn(turns: &mut Bytes, harts: u64, did: Did)
 
 /// Steps the machine by the schedule's next pick, and lists the hart if an instruction retired. So many cycles were
 /// done before.
-fn step<M: Computer, N: Nvm>(
+#[inline(always)]
+pub fn step<M: Computer, N: Nvm>(
     progress: &mut Progress<M>,
     plan: &Plan,
     done: u64,
@@ -88,6 +92,7 @@ fn step<M: Computer, N: Nvm>(
 }
 
 /// Whether a cut falls after this cycle: the next one that is listed.
+#[inline(always)]
 fn is_due(config: &Config, passed: usize, cycle: u64) -> bool
     ensures { let cuts = config.now.cuts in
         result ≡ (nat_lt passed (length cuts) && slice_index cuts passed == cycle) }
@@ -96,6 +101,7 @@ fn is_due(config: &Config, passed: usize, cycle: u64) -> bool
 }
 
 /// Whether what was done has an event of its own.
+#[inline(always)]
 fn is_told(did: Did) -> bool
     ensures { result ≡ is_told did }
 {
@@ -106,8 +112,9 @@ fn is_told(did: Did) -> bool
 }
 
 /// Whether a step has no event, and no cut is due after it.
-fn is_quiet<M>(progress: &Progress<M>, plan: &Plan, stepped: &Stepped, cycle: u64) -> bool
-    ensures { result ≡ true → IsQuiet plan.now.config.cuts progress.now stepped.now cycle }
+#[inline(always)]
+pub fn is_quiet<M>(progress: &Progress<M>, plan: &Plan, stepped: &Stepped, cycle: u64) -> bool
+    ensures { result ≡ true ↔ IsQuiet plan.now.config.cuts progress.now stepped.now cycle }
 {
     !is_told(stepped.did)
         && !stepped.ended
@@ -267,13 +274,14 @@ fn conclude<M: Computer, T: Sink, R: Sink, O: Observer>(
     }
 }
 
-/// One cycle: a step of the machine, what has to be read for its events, these events, and what the sinks are due for
-/// them. If a cut is due after it, the observer keeps the step, and the sinks get nothing yet. Most cycles have no event
-/// and no cut: then nothing is read, and no sink is called.
-pub fn take_cycle<M: Computer, T: Sink, R: Sink, N: Nvm, O: Observer>(
+/// Reports a cycle whose step is taken: what has to be read for its events, these events, and what the sinks are due for
+/// them. So many cycles were done before. If a cut is due after it, the observer keeps the step, and the sinks get nothing
+/// yet.
+pub fn report_cycle<M: Computer, T: Sink, R: Sink, N: Nvm, O: Observer>(
     alloc: Global,
     progress: &mut Progress<M>,
     plan: &Plan,
+    stepped: Stepped,
     done: u64,
     terminal: &mut T,
     report: &mut R,
@@ -281,25 +289,17 @@ pub fn take_cycle<M: Computer, T: Sink, R: Sink, N: Nvm, O: Observer>(
     observer: &mut O,
 ) -> Outcome
     requires planned { IsPlanned plan.now }
-    requires running { let before = sinks (T.stream terminal.old) (R.stream report.old) in
-        IsRunning M.kind plan.now progress.old (N.device nvm.old) done before }
+    requires stepped { HasStepped M.kind plan.now progress.old (N.device nvm.old) done stepped }
     requires few { done < plan.now.geometry.limit }
     requires unseen { CanSee O.has_seen observer.old (done + 1) }
     ensures { let before = sinks (T.stream terminal.old) (R.stream report.old) in
         let after = sinks (T.stream terminal.new) (R.stream report.new) in
         let n = N.device nvm.old in
         let new = N.device nvm.new in
-        let p = progress.old in
+        let q = progress.old in
         let o = observer.old in
-        TakesCycle M.kind O.has_seen O.keeps plan.now p progress.new n new done before after o observer.new result }
+        Reports M.kind O.has_seen O.keeps plan.now q progress.new n new done stepped before after o observer.new result }
 {
-    let Ok(stepped) = step(progress, plan, done, nvm) else {
-        return Outcome::Breaks(Stop::Nvm);
-    };
-    if is_quiet(progress, plan, &stepped, done + 1) {
-        observer.see(&stepped, 0, done + 1);
-        return Outcome::Goes;
-    }
     match gather(alloc, progress, &stepped, nvm) {
         Ok(readings) => conclude(
             alloc,

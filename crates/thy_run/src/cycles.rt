@@ -9,11 +9,12 @@ ghost use Rattle.thy_run.specs.Watching.{CanSeeCut};
 ghost use Rattle.thy_run.specs.Sending.{sinks};
 ghost use Rattle.thy_run.specs.Rounds.{ending_of, IsFitted, IsStarted};
 
-use crate::advance::{Outcome, cut, take_cycle};
+use crate::advance::{Outcome, cut, report_cycle};
 use crate::ending::{Ending, Stop};
 use crate::observer::Observer;
 use crate::plan::Plan;
 use crate::progress::Progress;
+use crate::quiet::{Pause, run_quiet};
 use crate::tell::tell;
 use std::alloc::{AllocError, Global};
 use thy_base::{Bytes, Geometry, Mix, Nvm, Sink};
@@ -161,14 +162,21 @@ pub fn run<M: Computer, T: Sink, R: Sink, N: Nvm, O: Observer>(
             report_failed: false,
         };
     };
-    let limit = plan.geometry.numbers().limit;
-    for done in 0..limit {
+    let mut done = 0;
+    loop {
+        let (now, pause) = run_quiet(&mut progress, plan, done, nvm, observer);
+        let stepped = match pause {
+            Pause::Limit => return ended_by(Stop::Limit, progress, now),
+            Pause::Stuck => return ended_by(Stop::Nvm, progress, now),
+            Pause::Steps(stepped) => stepped,
+        };
         let first = progress.events.len();
-        match take_cycle(
+        match report_cycle(
             alloc,
             &mut progress,
             plan,
-            done,
+            stepped,
+            now,
             terminal,
             report,
             nvm,
@@ -177,17 +185,17 @@ pub fn run<M: Computer, T: Sink, R: Sink, N: Nvm, O: Observer>(
             Outcome::Goes => {}
             Outcome::Cuts(bytes) => {
                 match cut_power(
-                    alloc, progress, bytes, plan, done, first, terminal, report, nvm, observer,
+                    alloc, progress, bytes, plan, now, first, terminal, report, nvm, observer,
                 ) {
                     Ok(next) => progress = next,
                     Err(ending) => return ending,
                 }
             }
-            Outcome::Stops(stop) => return ended_by(stop, progress, done + 1),
-            Outcome::Breaks(stop) => return ended_by(stop, progress, done),
+            Outcome::Stops(stop) => return ended_by(stop, progress, now + 1),
+            Outcome::Breaks(stop) => return ended_by(stop, progress, now),
         }
+        done = now + 1;
     }
-    ended_by(Stop::Limit, progress, limit)
 }
 
 fn ended_by<M: Computer>(stop: Stop, progress: Progress<M>, cycles: u64) -> Ending

@@ -14,6 +14,7 @@ mod note;
 mod observer;
 mod plan;
 mod progress;
+mod quiet;
 mod tell;
 
 pub use cycles::run;

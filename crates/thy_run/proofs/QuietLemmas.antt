@@ -1,0 +1,136 @@
+-- Cycles with nothing to report, one after another.
+use Rattle.std.proofs.Common.{◌≡◌, ◌<◌, ◌^◌, ℕ, suc, ◌+◌, false, List, [], length, sym, ◌∙◌, ◌≤◌, ap, subst, refl, arith}
+use Rattle.thy_base.specs.declared.config.Parameters.{Parameters}
+use Rattle.thy_base.specs.Device.{Device}
+use Rattle.thy_base.specs.Geometry.{IsInRange}
+use Rattle.thy_base.specs.Outside.{Stream, Took}
+use Rattle.thy_text.specs.Lines.{report_of}
+use Rattle.thy_text.specs.Event.{Event}
+use Rattle.thy_view.specs.declared.did.Stepped.{Stepped}
+use Rattle.thy_view.specs.Kind.{KindOf, IsLawful}
+use Rattle.thy_run.specs.declared.plan.Plan.{Plan}
+use Rattle.thy_run.specs.declared.progress.Progress.{Progress}
+use Rattle.thy_run.specs.Due.{IsQuiet}
+use Rattle.thy_run.specs.Going.{origin_of, given_of, turns_then, world_at, telling_of, IsPlanned, GoesOn, IsStepped, Passes}
+use Rattle.thy_run.specs.Laws.{released_of}
+use Rattle.thy_run.specs.Promises.{HasStepped}
+use Rattle.thy_run.specs.Quiet.{IsWatched, IsLed, IsPaused, RunsQuietly}
+use Rattle.thy_run.specs.Rounds.{Running, RunEndsAt, ending_of}
+use Rattle.thy_run.specs.Seeing.{Watched, RunEndsSeen}
+use Rattle.thy_run.specs.declared.ending.Ending.{Ending}
+use Rattle.thy_run.specs.declared.ending.Stop.TheVariants.{Nvm, Limit as AtLimit}
+use Rattle.thy_run.specs.declared.quiet.Pause.{Pause}
+use Rattle.thy_run.specs.declared.quiet.Pause.TheVariants.{Limit, Steps, Stuck}
+use Rattle.thy_run.specs.Watching.{Taken, CanSee, Sees, taken}
+use Rattle.thy_run.specs.World.{Ran}
+use Rattle.thy_run.proofs.AdvanceLemmas.{quiet_goes, IsBroken-stuck}
+use Rattle.thy_run.proofs.OutcomeLemmas.{ComesTo-untold}
+use Rattle.thy_run.proofs.SeeingLemmas.{CanSee-watched, Watched-done, RunEndsSeen-at}
+use Rattle.thy_run.proofs.StartLemmas.{RunEnds-limit}
+
+-- a cycle that passes lets the run continue
+passes_on : {M : Type 0} (K : KindOf M) (plan : Plan) (fitted : Device) (p q : Progress M) (n m : Device) (k : ℕ) (turns : List ℕ) (r : Stepped) → GoesOn K plan fitted p n k turns → Passes K plan p q n m k turns r [] → GoesOn K plan fitted q m (k + 1) (turns_then plan turns r.did)
+passes_on K plan fitted p q n m k turns r goes c = record {
+  ran =
+      let e : suc k ≡ k + 1 = omega arith in
+      subst (λ (j : ℕ). Ran K (origin_of plan) (given_of plan fitted) j (world_at q m (k + 1) (turns_then plan turns r.did))) e (world_at p n k turns, goes.ran, c.0.cycle);
+  going = c.1;
+  listed = c.0.listed;
+  turns_room = c.0.turns_room;
+  released = c.0.released;
+  room = c.0.room ∙ goes.room;
+  faults = c.0.faults ∙ goes.faults;
+  on_terminal = c.0.on_terminal ∙ goes.on_terminal;
+  on_report = c.0.on_report ∙ goes.on_report;
+}
+
+-- and so does a row of quiet cycles with one more
+pub IsLed-on : {M O : Type 0} (K : KindOf M) (laws : IsLawful K) (has_seen : O → List Taken → Type 0) (plan : Plan) (fitted : Device) (p q next : Progress M) (n new : Device) (done now : ℕ) (r : Stepped) (o o' : O)
+    → IsPlanned plan → (led : IsLed K has_seen plan fitted p q n done now o) → IsStepped K plan q next n new now led.turns r → IsQuiet plan.config.cuts next r (now + 1) → Sees has_seen o o' (taken r 0 false)
+    → IsLed K has_seen plan fitted p next new done (now + 1) o'
+IsLed-on K laws has_seen plan fitted p q next n new done now r o o' planned led stepped quiet sees =
+    let same : next.events ≡ q.events = ap (λ y. y.events) stepped.same in
+    let e : length next.events ≡ length q.events = ap (λ (l : List Event). length l) same in
+    let passes = quiet_goes K laws plan fitted q n now led.turns planned led.goes next new r stepped quiet in
+    record {
+      turns = turns_then plan led.turns r.did;
+      goes = passes_on K plan fitted q next n new now led.turns r led.goes passes;
+      watched = Watched-done K has_seen plan fitted q next n new now led.turns (turns_then plan led.turns r.did) r false [] 0 o o' passes.0 (omega (arith, e)) led.watched sees;
+      untold = same ∙ led.untold;
+      more = omega (arith, led.more);
+    }
+
+-- with sinks that had taken all that was due, and were given nothing meanwhile
+pub Running-led : {M O : Type 0} (K : KindOf M) (has_seen : O → List Taken → Type 0) (plan : Plan) (fitted : Device) (p q : Progress M) (n m : Device) (k now : ℕ) (turns : List ℕ) (o : O) (t0 t1 r0 r1 : Stream)
+    → Running K plan fitted p n k turns t0 t1 r0 r1 → (led : IsLed K has_seen plan fitted p q m k now o) → Running K plan fitted q m now led.turns t0 t1 r0 r1
+Running-led K has_seen plan fitted p q n m k now turns o t0 t1 r0 r1 running led = record {
+  goes = led.goes;
+  shown_all = subst (λ (l : List Event). Took t0 t1 (released_of (origin_of plan) l)) (sym led.untold) running.shown_all;
+  read_all = subst (λ (l : List Event). Took r0 r1 (report_of (telling_of plan) l)) (sym led.untold) running.read_all;
+}
+
+-- the limit is far below 2^64
+pub few_cycles : (plan : Plan) (now : ℕ) → IsPlanned plan → now < plan.geometry.limit → now + 1 < 2 ^ 64
+few_cycles plan now planned few = let most = limit_most plan.geometry planned.origin.geometry in omega (arith, few, most)
+  where
+    limit_most : (p : Parameters) → IsInRange p → p.limit < 2 ^ 62
+    limit_most p r = omega arith
+
+-- ---- the run at one moment
+
+-- it continues, its sinks took all that was due since they were t0 and r0, and the observer has seen its cycles
+pub record IsAt {M O : Type 0} (K : KindOf M) (has_seen : O → List Taken → Type 0) (plan : Plan) (fitted : Device) (t0 r0 : Stream) (p : Progress M) (n : Device) (done : ℕ) (t r : Stream) (o : O) : Type 0 where
+  pub turns : List ℕ
+  pub running : Running K plan fitted p n done turns t0 t r0 r
+  pub watched : Watched K has_seen plan fitted p n done turns o
+  pub few : done ≤ plan.geometry.limit
+
+module _ {M O : Type 0} {K : KindOf M} {has_seen : O → List Taken → Type 0} {plan : Plan} {fitted : Device} {t0 r0 : Stream} {p : Progress M} {n : Device} {done : ℕ} {t r : Stream} {o : O}
+    (here : IsAt K has_seen plan fitted t0 r0 p n done t r o) where
+  pub IsWatched-at : IsWatched K has_seen plan p n done o
+  IsWatched-at = (fitted, here.turns, here.running.goes, here.watched)
+
+-- quiet cycles were taken from such a moment
+module _ {M O : Type 0} {K : KindOf M} {has_seen : O → List Taken → Type 0} {plan : Plan} {fitted : Device} {t0 r0 : Stream} {p : Progress M} {n : Device} {done : ℕ} {t r : Stream} {o : O}
+    (here : IsAt K has_seen plan fitted t0 r0 p n done t r o) (next : Progress M) (new : Device) (now : ℕ) (o' : O) where
+  pub paused_at : (pause why : Pause) → pause ≡ why → RunsQuietly K has_seen plan p next n new done o o' now pause → IsPaused K has_seen plan fitted p next new done o' now why
+  paused_at pause why is quietly = subst (IsPaused K has_seen plan fitted p next new done o' now) is (quietly fitted here.turns here.running.goes here.watched)
+
+  -- the sinks took all that was due until they ended, too
+  pub Running-then : (pause : Pause) (paused : IsPaused K has_seen plan fitted p next new done o' now pause) → Running K plan fitted paused.progress paused.device now paused.led.turns t0 t r0 r
+  Running-then pause paused = Running-led K has_seen plan fitted p paused.progress n paused.device done now here.turns o' t0 t r0 r here.running paused.led
+
+  -- until none was left
+  pub ends_limit : IsPlanned plan → (e : Ending) → e ≡ ending_of AtLimit next now → IsPaused K has_seen plan fitted p next new done o' now Limit → RunEndsSeen K has_seen plan fitted new e t0 t r0 r o'
+  ends_limit planned e is paused =
+      let q = paused.progress in
+      let m = paused.device in
+      let led = paused.led in
+      let ends : RunEndsAt K plan fitted m (ending_of AtLimit q now) t0 t r0 r (world_at q m now led.turns) =
+      RunEnds-limit K plan fitted q m now led.turns now t0 t r0 r planned (Running-then Limit paused) refl paused.stops.0 in
+      RunEndsSeen-at K has_seen plan fitted new e t0 t r0 r q m now led.turns o'
+      (subst (λ (d : Device). RunEndsAt K plan fitted d e t0 t r0 r (world_at q m now led.turns)) (sym paused.stops.2)
+      (subst (λ (x : Ending). RunEndsAt K plan fitted m x t0 t r0 r (world_at q m now led.turns)) (ap (λ (y : Progress M). ending_of AtLimit y now) (sym paused.stops.1) ∙ sym is) ends))
+      (ap (λ (x : Ending). x.cycles) is) led.watched
+
+  -- until a step failed
+  pub ends_stuck : (e : Ending) → e ≡ ending_of Nvm next now → IsPaused K has_seen plan fitted p next new done o' now Stuck → RunEndsSeen K has_seen plan fitted new e t0 t r0 r o'
+  ends_stuck e is paused =
+      let q = paused.progress in
+      let m = paused.device in
+      let led = paused.led in
+      let stuck = paused.stops.1 in
+      let running = Running-then Stuck paused in
+      let ends : RunEndsAt K plan fitted new (ending_of Nvm next now) t0 t r0 r (world_at q m now led.turns) =
+      ComesTo-untold K plan fitted q next m new now led.turns led.turns Nvm t0 t r0 r running paused.stops.0 (ap (λ (y : Progress M). y.events) stuck.same)
+      (IsBroken-stuck K plan fitted q next m new now led.turns running.goes stuck) in
+      RunEndsSeen-at K has_seen plan fitted new e t0 t r0 r q m now led.turns o'
+      (subst (λ (x : Ending). RunEndsAt K plan fitted new x t0 t r0 r (world_at q m now led.turns)) (sym is) ends)
+      (ap (λ (x : Ending). x.cycles) is) led.watched
+
+  -- until a step had something to report
+  pub HasStepped-then : (x : Stepped) → IsPaused K has_seen plan fitted p next new done o' now (Steps x) → HasStepped K plan next new now x
+  HasStepped-then x paused = (fitted, paused.progress, paused.device, paused.led.turns, paused.led.goes, paused.stops.1)
+
+  pub CanSee-then : (x : Stepped) → IsPaused K has_seen plan fitted p next new done o' now (Steps x) → CanSee has_seen o' (now + 1)
+  CanSee-then x paused = CanSee-watched K has_seen plan fitted paused.progress paused.device now paused.led.turns o' paused.led.watched

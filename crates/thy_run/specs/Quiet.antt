@@ -1,0 +1,51 @@
+-- Cycles with nothing to report, one after another. No sink has a part in them.
+use Rattle.std.specs.Prelude.{◌≡◌, ◌≤◌, ◌<◌, ◌+◌, ℕ, List}
+use Rattle.thy_base.specs.Device.{Device}
+use Rattle.thy_view.specs.Kind.{KindOf}
+use Rattle.thy_run.specs.declared.plan.Plan.{Plan}
+use Rattle.thy_run.specs.declared.progress.Progress.{Progress}
+use Rattle.thy_run.specs.declared.quiet.Pause.{Pause}
+use Rattle.thy_run.specs.declared.quiet.Pause.TheVariants.{Limit, Steps, Stuck}
+use Rattle.thy_run.specs.Due.{IsQuiet}
+use Rattle.thy_run.specs.Going.{GoesOn, IsStepped, IsStuck}
+use Rattle.thy_run.specs.Seeing.{Watched}
+use Rattle.thy_run.specs.Watching.{Taken}
+
+-- the run continues, and the observer has seen its cycles
+abbrev pub IsWatched : {M O : Type 0} → KindOf M → (O → List Taken → Type 0) → Plan → Progress M → Device → ℕ → O → Type 0
+IsWatched K has_seen plan p n done o =
+    (fitted : Device) × (turns : List ℕ) × GoesOn K plan fitted p n done turns × Watched K has_seen plan fitted p n done turns o
+
+-- any number of cycles without an event led from p to q, where so many are done; the observer has seen them all
+pub record IsLed {M O : Type 0} (K : KindOf M) (has_seen : O → List Taken → Type 0) (plan : Plan) (fitted : Device)
+    (p q : Progress M) (n : Device) (done now : ℕ) (o : O) : Type 0 where
+  -- the turns that are reported there
+  pub turns : List ℕ
+  pub goes : GoesOn K plan fitted q n now turns
+  pub watched : Watched K has_seen plan fitted q n now turns o
+  pub untold : q.events ≡ p.events
+  pub more : done ≤ now
+
+-- the next cycle is not quiet: its step from q has something to report, or failed; or none is left
+abbrev pub StopsAt : {M : Type 0} → KindOf M → Plan → Progress M → Progress M → Device → Device → ℕ → List ℕ → Pause → Type 0
+StopsAt K plan q next n new now turns Limit = (now ≡ plan.geometry.limit) × (next ≡ q) × (new ≡ n)
+StopsAt K plan q next n new now turns (Steps r) =
+    (now < plan.geometry.limit) × IsStepped K plan q next n new now turns r
+    × (IsQuiet plan.config.cuts next r (now + 1) → ⊥)
+StopsAt K plan q next n new now turns Stuck = (now < plan.geometry.limit) × IsStuck K plan q next n new turns
+
+-- where the quiet cycles ended, and why
+pub record IsPaused {M O : Type 0} (K : KindOf M) (has_seen : O → List Taken → Type 0) (plan : Plan) (fitted : Device)
+    (p next : Progress M) (new : Device) (done : ℕ) (o : O) (now : ℕ) (pause : Pause) : Type 0 where
+  pub progress : Progress M
+  pub device : Device
+  pub led : IsLed K has_seen plan fitted p progress device done now o
+  pub stops : StopsAt K plan progress next device new now led.turns pause
+
+-- the quiet cycles of a run that continues come to this
+abbrev pub RunsQuietly : {M O : Type 0} → KindOf M → (O → List Taken → Type 0) → Plan → Progress M → Progress M
+    → Device → Device → ℕ → O → O → ℕ → Pause → Type 0
+RunsQuietly K has_seen plan p next n new done old_o new_o now pause =
+    (fitted : Device) (turns : List ℕ) → GoesOn K plan fitted p n done turns
+    → Watched K has_seen plan fitted p n done turns old_o
+    → IsPaused K has_seen plan fitted p next new done new_o now pause
