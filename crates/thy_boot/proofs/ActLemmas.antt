@@ -7,6 +7,7 @@ use Rattle.thy_base.specs.Device.{Device, newest}
 use Rattle.thy_isa.specs.Step.{State}
 use Rattle.thy_record.specs.declared.bad_image.BadImage.{BadImage}
 use Rattle.thy_view.specs.Action.{Rest, FailsTo, IsBootAction, Asks, Acts}
+use Rattle.thy_view.specs.Booting.{boot_did}
 use Rattle.thy_view.specs.Dram.{ActsOnDram}
 use Rattle.thy_boot.specs.declared.stage.Stage.{Stage}
 use Rattle.thy_boot.specs.declared.stage.Stage.TheVariants.{Reads, Loads, Over}
@@ -21,12 +22,12 @@ use Rattle.thy_boot.specs.Left.{reads_left, loads_left_at, boot_left}
 use Rattle.thy_boot.specs.Loads.{IsIssue, after_issue, issue_action}
 use Rattle.thy_boot.specs.Reads.{read_action, slot_kept, FillsOn}
 use Rattle.thy_boot.specs.Recovers.{HasReadAt, IsNearer}
-use Rattle.thy_boot.specs.Shows.{seen_at, did_of}
+use Rattle.thy_boot.specs.Shows.{seen_at}
 use Rattle.thy_boot.specs.Steps.{CanStepAt, StepsAt, action_at}
 use Rattle.thy_boot.specs.Laws.{StepsAct, FoundStays, failed_answer, FailuresAct, StepsFill, StepsComeNearer}
 use Rattle.thy_protocol.specs.Issuing.{slot_of}
 
-load_asks : (f : First) (issue : Issue) → Asks (did_of (failed_answer (Loads issue))) (issue_action f issue)
+load_asks : (f : First) (issue : Issue) → Asks (boot_did (failed_answer (Loads issue))) (issue_action f issue)
 load_asks f (Home b) = tt
 load_asks f (Slot k) = tt
 load_asks f Header = tt
@@ -35,13 +36,13 @@ load_asks f Commit = tt
 load_asks f Confirm = refl
 
 module _ {C : Type 0} (F : FillingOf C) (laws : IsFilling F) where
-  load_acts : (f : First) (issue : Issue) (d : Booting) → Asks (did_of (answer_at F (after_issue f issue) d)) (issue_action f issue)
+  load_acts : (f : First) (issue : Issue) (d : Booting) → Asks (boot_did (answer_at F (after_issue f issue) d)) (issue_action f issue)
   load_acts f (Home b) d = by_more (nat_lt (b + 1) (length f.parts.memory)) where
-    by_more : (t : Bool) → Asks (did_of (answer_at F (if t then Loads (Home (b + 1)) else Loads (Slot 0)) d)) (issue_action f (Home b))
+    by_more : (t : Bool) → Asks (boot_did (answer_at F (if t then Loads (Home (b + 1)) else Loads (Slot 0)) d)) (issue_action f (Home b))
     by_more true = tt
     by_more false = tt
   load_acts f (Slot k) d = by_more (nat_lt (k + 1) f.parts.slot_blocks) where
-    by_more : (t : Bool) → Asks (did_of (answer_at F (if t then Loads (Slot (k + 1)) else Loads Header) d)) (issue_action f (Slot k))
+    by_more : (t : Bool) → Asks (boot_did (answer_at F (if t then Loads (Slot (k + 1)) else Loads Header) d)) (issue_action f (Slot k))
     by_more true = tt
     by_more false = tt
   load_acts f Header d = tt
@@ -49,7 +50,7 @@ module _ {C : Type 0} (F : FillingOf C) (laws : IsFilling F) where
   load_acts f Commit d = tt
   load_acts f Confirm d = refl
 
-  read_acts : (q : Stage) (m : Device) (d : Booting) (e : C) → HasReadAt F q m d e → Asks (did_of (answer_at F q d)) Rest
+  read_acts : (q : Stage) (m : Device) (d : Booting) (e : C) → HasReadAt F q m d e → Asks (boot_did (answer_at F q d)) Rest
   read_acts (Reads Unread) m d e f = tt
   read_acts (Reads ReadsHeader) m d e f = tt
   read_acts (Reads (ReadsSlot next)) m d e f = tt
@@ -61,11 +62,11 @@ module _ {C : Type 0} (F : FillingOf C) (laws : IsFilling F) where
 
   pub steps_act : StepsAct F
   steps_act s n b c m d e steps = by_stage b.stage steps where
-    by_stage : (q : Stage) → StepsAt F q s n b c m d e → Acts (did_of (answer_of F d)) n m
+    by_stage : (q : Stage) → StepsAt F q s n b c m d e → Acts (boot_did (answer_of F d)) n m
     by_stage (Reads r) on = record { action = Rest; asked = read_acts d.stage m d e on.read.so_far; left = on.device }
     by_stage (Loads issue) l = record {
       action = issue_action (F.first b.p s) issue;
-      asked = subst (λ (x : Booting). Asks (did_of (answer_of F x)) (issue_action (F.first b.p s) issue)) (sym l.boot)
+      asked = subst (λ (x : Booting). Asks (boot_did (answer_of F x)) (issue_action (F.first b.p s) issue)) (sym l.boot)
           (load_acts (F.first b.p s) issue (at_stage (after_issue (F.first b.p s) issue) b));
       left = l.device;
     }
@@ -88,7 +89,7 @@ module _ {C : Type 0} (F : FillingOf C) (laws : IsFilling F) where
 
   pub failures_act : FailuresAct F
   failures_act s b c n m fails = by_stage b.stage fails where
-    by_stage : (q : Stage) → FailsTo (action_at F q s b c) n m → Asks (did_of (failed_answer q)) (action_at F q s b c)
+    by_stage : (q : Stage) → FailsTo (action_at F q s b c) n m → Asks (boot_did (failed_answer q)) (action_at F q s b c)
     by_stage (Reads r) f = read_asks b c r n m f
     by_stage (Loads issue) f = load_asks (F.first b.p s) issue
     by_stage (Over end) f = absurd f

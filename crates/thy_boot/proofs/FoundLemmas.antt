@@ -10,7 +10,7 @@ use Rattle.thy_isa.specs.Step.{State}
 use Rattle.thy_record.specs.declared.bad_image.BadImage.{BadImage}
 use Rattle.thy_record.specs.Commit.{epoch_of}
 use Rattle.thy_record.specs.Decoded.{Decoded, Nothing, Refused as IsRefused, At}
-use Rattle.thy_view.specs.Booting.{boot_view, loading_view, view_of_image}
+use Rattle.thy_view.specs.Booting.{boot_view, loading_view, view_of_image, boot_did}
 use Rattle.thy_view.specs.CoreStep.{CoreStep}
 use Rattle.thy_view.specs.Origin.{Origin, at}
 use Rattle.thy_view.specs.declared.did.Did.TheVariants.{Restarted as HasRestarted}
@@ -28,7 +28,7 @@ use Rattle.thy_boot.specs.declared.stage.Issue.TheVariants.{Home}
 use Rattle.thy_boot.specs.Boot.{Booting, layout_in, slot_read, answer_at}
 use Rattle.thy_boot.specs.Filling.{FillingOf, IsFilling, layout_at}
 use Rattle.thy_boot.specs.Recovers.{HasReadAt, HasRead, IsRestored}
-use Rattle.thy_boot.specs.Shows.{is_written, restored_view, seen_at, did_of}
+use Rattle.thy_boot.specs.Shows.{is_written, restored_view, seen_at}
 use Rattle.thy_boot.specs.Sound.{BootImages, layout_for, first_of, start_mark, sealed_by, saved_loading, standing_in_boot, HasLoadedBefore, IsRecovering, IsSoundAt}
 use Rattle.thy_boot.specs.Laws.{ShowsImage, RestoredIsKept, NeverRefused}
 
@@ -115,7 +115,7 @@ module _ {C : Type 0} (F : FillingOf C) (laws : IsFilling F) where
         found-mark o (layout_for F o) g.before g.kept (epoch_of d.commit) state told (decoded (At (epoch_of d.commit) state) f.found)
 
     abbrev Shows : Stage → Type 0
-    Shows q = CoreStep o (finding_view o.start.count g.kept) (did_of (answer_at F q d)) (seen_at o g.kept q)
+    Shows q = CoreStep o (finding_view o.start.count g.kept) (boot_did (answer_at F q d)) (seen_at o g.kept q)
 
     pub shows : (q : Stage) → HasReadAt F q m d e → Shows q
     shows (Reads Unread) f = (boots o.start.count g.kept, inl refl)

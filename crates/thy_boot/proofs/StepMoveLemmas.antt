@@ -6,6 +6,7 @@ use Rattle.thy_base.specs.Device.{Device}
 use Rattle.thy_crash.specs.Saved.{Kept, guarded}
 use Rattle.thy_crash.proofs.SparesLemmas.{Spares-same}
 use Rattle.thy_view.specs.Action.{after}
+use Rattle.thy_view.specs.Booting.{boot_did}
 use Rattle.thy_view.specs.CoreStep.{CoreStep}
 use Rattle.thy_view.specs.Origin.{Origin}
 use Rattle.thy_protocol.specs.Layout.{looked_by}
@@ -19,7 +20,7 @@ use Rattle.thy_boot.specs.declared.stage.Issue.TheVariants.{Home, Slot, Header, 
 use Rattle.thy_boot.specs.Boot.{Booting, at_stage, answer_at, answer_of}
 use Rattle.thy_boot.specs.Filling.{FillingOf, First, IsFilling}
 use Rattle.thy_boot.specs.Loads.{after_issue, issue_action}
-use Rattle.thy_boot.specs.Shows.{seen_at, did_of}
+use Rattle.thy_boot.specs.Shows.{seen_at}
 use Rattle.thy_boot.specs.Sound.{BootImages, layout_for, first_of, sealed_by, standing_in_boot, images_after, IsRecovering, IsLoading, IsSoundAt, IsSoundBoot}
 use Rattle.thy_boot.specs.Steps.{ReadsOn, LoadsOn, StepsAt}
 use Rattle.thy_boot.specs.Laws.{StepsMove}
@@ -32,19 +33,19 @@ module _ {C : Type 0} (F : FillingOf C) (laws : IsFilling F) where
   Outcome o g n q m d e =
       Move o (layout_for F o) (standing_in_boot o q g n) (standing_in_boot o d.stage (images_after (first_of F o) q n g) m)
       × IsSoundBoot F o (images_after (first_of F o) q n g) m d e
-      × CoreStep o (seen_at o g.kept q) (did_of (answer_of F d)) (seen_at o g.kept d.stage)
+      × CoreStep o (seen_at o g.kept q) (boot_did (answer_of F d)) (seen_at o g.kept d.stage)
 
   -- how the view changes while the program is loaded
   load_shows : (o : Origin) (kept : Option Mark) (f : First) (issue : Issue) (d : Booting)
-      → CoreStep o (seen_at o kept (Loads issue)) (did_of (answer_at F (after_issue f issue) d)) (seen_at o kept (after_issue f issue))
+      → CoreStep o (seen_at o kept (Loads issue)) (boot_did (answer_at F (after_issue f issue) d)) (seen_at o kept (after_issue f issue))
   load_shows o kept f (Home b) d = by_more (nat_lt (b + 1) (length f.parts.memory)) where
     by_more : (t : Bool) → (let next : Stage = if t then Loads (Home (b + 1)) else Loads (Slot 0) in
-        CoreStep o (seen_at o kept (Loads (Home b))) (did_of (answer_at F next d)) (seen_at o kept next))
+        CoreStep o (seen_at o kept (Loads (Home b))) (boot_did (answer_at F next d)) (seen_at o kept next))
     by_more true = (refl, inl refl)
     by_more false = (refl, inl refl)
   load_shows o kept f (Slot k) d = by_more (nat_lt (k + 1) f.parts.slot_blocks) where
     by_more : (t : Bool) → (let next : Stage = if t then Loads (Slot (k + 1)) else Loads Header in
-        CoreStep o (seen_at o kept (Loads (Slot k))) (did_of (answer_at F next d)) (seen_at o kept next))
+        CoreStep o (seen_at o kept (Loads (Slot k))) (boot_did (answer_at F next d)) (seen_at o kept next))
     by_more true = (refl, inl refl)
     by_more false = (refl, inl refl)
   load_shows o kept f Header d = (refl, inl refl)

@@ -9,14 +9,14 @@ use Rattle.thy_base.specs.Device.{zero_block}
 use Rattle.thy_record.specs.declared.bad_image.BadImage.{BadImage}
 use Rattle.thy_record.specs.Commit.{is_zero, epoch_of}
 use Rattle.thy_record.specs.Files.{blocks_of}
+use Rattle.thy_view.specs.declared.boot_step.BootStep.{BootStep}
+use Rattle.thy_view.specs.declared.boot_step.BootStep.TheVariants.{GoesOn as Continues, Loaded as HasLoaded, Restarted, Refused}
 use Rattle.thy_protocol.specs.Layout.{Layout}
 use Rattle.thy_boot.specs.declared.stage.Stage.{Stage}
 use Rattle.thy_boot.specs.declared.stage.Stage.TheVariants.{Reads, Loads, Over}
 use Rattle.thy_boot.specs.declared.stage.ReadStage.TheVariants.{Header, Slot, Fills, Refusing, Unread}
 use Rattle.thy_boot.specs.declared.stage.End.TheVariants.{Restored, Loaded}
 use Rattle.thy_boot.specs.declared.stage.Issue.TheVariants.{Home}
-use Rattle.thy_boot.specs.declared.stage.BootStep.{BootStep}
-use Rattle.thy_boot.specs.declared.stage.BootStep.TheVariants.{Reading, Loading as IsLoading, Loaded as HasLoaded, Restarted, Refused}
 use Rattle.thy_boot.specs.Filling.{FillingOf, IsLeft, TakesUp, ListsOn, layout_at}
 
 -- its stage, with the commit block, and the bytes of the slot, as far as they were read, and the fault that its blocks
@@ -66,8 +66,8 @@ pub record IsBoot {C : Type 0} (F : FillingOf C) (b : Booting) : Type 0 where
 -- what a step returns that left the boot in this state
 abbrev pub answer_at : {C : Type 0} → FillingOf C → Stage → Booting → BootStep
 answer_at F (Reads (Refusing bad)) b = Refused bad
-answer_at F (Reads r) b = Reading
-answer_at F (Loads issue) b = IsLoading
+answer_at F (Reads r) b = Continues
+answer_at F (Loads issue) b = Continues
 answer_at F (Over Restored) b = Restarted (F.cpu_in b.p (slot_read F b)) (epoch_of b.commit)
 answer_at F (Over Loaded) b = HasLoaded
 

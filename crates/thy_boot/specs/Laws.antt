@@ -7,8 +7,10 @@ use Rattle.thy_crash.specs.Saved.{Kept, InDoubt}
 use Rattle.thy_isa.specs.Step.{State}
 use Rattle.thy_record.specs.declared.bad_image.BadImage.{BadImage}
 use Rattle.thy_record.specs.Commit.{epoch_of}
+use Rattle.thy_view.specs.declared.boot_step.BootStep.{BootStep}
+use Rattle.thy_view.specs.declared.boot_step.BootStep.TheVariants.{GoesOn, Loaded}
 use Rattle.thy_view.specs.Action.{Asks, Acts, doubt_after_fault}
-use Rattle.thy_view.specs.Booting.{view_of_image}
+use Rattle.thy_view.specs.Booting.{view_of_image, boot_did}
 use Rattle.thy_view.specs.CoreStep.{CoreStep}
 use Rattle.thy_view.specs.Dram.{ActsOnDram}
 use Rattle.thy_view.specs.Origin.{Origin, IsOrigin, at}
@@ -23,13 +25,11 @@ use Rattle.thy_boot.specs.declared.stage.ReadStage.{ReadStage}
 use Rattle.thy_boot.specs.declared.stage.ReadStage.TheVariants.{Refusing}
 use Rattle.thy_boot.specs.declared.stage.End.TheVariants.{Restored}
 use Rattle.thy_boot.specs.declared.stage.Issue.TheVariants.{Commit, Confirm}
-use Rattle.thy_boot.specs.declared.stage.BootStep.{BootStep}
-use Rattle.thy_boot.specs.declared.stage.BootStep.TheVariants.{Reading, Loading as IsLoading, Loaded as HasLoaded}
 use Rattle.thy_boot.specs.Boot.{Booting, new_boot, layout_in, slot_read, answer_of}
 use Rattle.thy_boot.specs.Filling.{FillingOf}
 use Rattle.thy_boot.specs.Left.{boot_left}
 use Rattle.thy_boot.specs.Recovers.{HasRead, IsRestored}
-use Rattle.thy_boot.specs.Shows.{seen_at, did_of}
+use Rattle.thy_boot.specs.Shows.{seen_at}
 use Rattle.thy_boot.specs.Sound.{BootImages, start_mark, layout_for, first_of, standing_in_boot, images_after, IsSoundBoot}
 use Rattle.thy_boot.specs.Steps.{CanStep, Steps, action_of, Fails}
 
@@ -77,7 +77,7 @@ pub record IsMoved {C : Type 0} (F : FillingOf C) (o : Origin) (g : BootImages) 
   pub move : Move o (layout_for F o) (standing_in_boot o b.stage g n)
       (standing_in_boot o d.stage (images_after (first_of F o) b.stage n g) m)
   pub sound : IsSoundBoot F o (images_after (first_of F o) b.stage n g) m d e
-  pub shows : CoreStep o (seen_at o g.kept b.stage) (did_of (answer_of F d)) (seen_at o g.kept d.stage)
+  pub shows : CoreStep o (seen_at o g.kept b.stage) (boot_did (answer_of F d)) (seen_at o g.kept d.stage)
 
 -- every step of a run's boot is one, and the boot is one of the run afterwards
 abbrev pub StepsMove : {C : Type 0} → FillingOf C → Type 0
@@ -146,7 +146,7 @@ ShowsImage {C} F =
 abbrev pub StepsAct : {C : Type 0} → FillingOf C → Type 0
 StepsAct {C} F =
     (s : State) (n : Device) (b : Booting) (c : C) (m : Device) (d : Booting) (e : C)
-    → Steps F s n b c m d e → Acts (did_of (answer_of F d)) n m
+    → Steps F s n b c m d e → Acts (boot_did (answer_of F d)) n m
 
 -- if a checkpoint was found, a step leaves the NVM as it was
 abbrev pub FoundStays : {C : Type 0} → FillingOf C → Type 0
@@ -156,15 +156,14 @@ FoundStays {C} F =
 
 -- what a step that failed was to return: that the program is loaded, if it was loading's last, else that the boot continues
 abbrev pub failed_answer : Stage → BootStep
-failed_answer (Loads Confirm) = HasLoaded
-failed_answer (Loads issue) = IsLoading
-failed_answer stage = Reading
+failed_answer (Loads Confirm) = Loaded
+failed_answer stage = GoesOn
 
 -- it failed in its one action, which was asked for by that
 abbrev pub FailuresAct : {C : Type 0} → FillingOf C → Type 0
 FailuresAct {C} F =
     (s : State) (b : Booting) (c : C) (n m : Device)
-    → Fails F s b c n m → Asks (did_of (failed_answer b.stage)) (action_of F s b c)
+    → Fails F s b c n m → Asks (boot_did (failed_answer b.stage)) (action_of F s b c)
 
 -- the DRAM has one write more at most, and of the controller is left what listing and filling leave
 abbrev pub StepsFill : {C : Type 0} → FillingOf C → Type 0

@@ -3,8 +3,6 @@
 use Rattle.std.specs.Prelude.{◌+◌, true, false, Bool, Option, Some, None}
 use Rattle.thy_base.specs.declared.mark.Mark.{Mark}
 use Rattle.thy_base.specs.Marks.{mark}
-use Rattle.thy_view.specs.declared.did.Did.{Did}
-use Rattle.thy_view.specs.declared.did.Did.TheVariants.{Boot, Loaded as HasLoaded, Restarted as HasRestarted, Refused as HasRefused}
 use Rattle.thy_view.specs.declared.view.Phase.TheVariants.{Run}
 use Rattle.thy_view.specs.declared.view.View.{View}
 use Rattle.thy_view.specs.Booting.{boot_view, loading_view}
@@ -16,8 +14,6 @@ use Rattle.thy_boot.specs.declared.stage.Stage.TheVariants.{Reads, Loads, Over}
 use Rattle.thy_boot.specs.declared.stage.End.TheVariants.{Restored, Loaded}
 use Rattle.thy_boot.specs.declared.stage.Issue.{Issue}
 use Rattle.thy_boot.specs.declared.stage.Issue.TheVariants.{Confirm}
-use Rattle.thy_boot.specs.declared.stage.BootStep.{BootStep}
-use Rattle.thy_boot.specs.declared.stage.BootStep.TheVariants.{Reading, Loading as IsLoading, Loaded as IsLoaded, Restarted, Refused}
 
 -- loading's commit block was written
 abbrev pub is_written : Issue → Bool
@@ -40,11 +36,3 @@ seen_at o kept (Reads r) = finding_view o.start.count kept
 seen_at o kept (Loads issue) = record (loading_view o.start.count) { written = is_written issue }
 seen_at o kept (Over Restored) = restored_view o kept
 seen_at o kept (Over Loaded) = loaded_view o
-
--- what a cycle did that was a step of the boot
-abbrev pub did_of : BootStep → Did
-did_of Reading = Boot
-did_of IsLoading = Boot
-did_of IsLoaded = HasLoaded
-did_of (Restarted cpu epoch) = HasRestarted epoch cpu.count
-did_of (Refused bad) = HasRefused bad

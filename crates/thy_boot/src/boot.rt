@@ -5,11 +5,12 @@ ghost use Rattle.thy_boot.specs.Boot.{IsBoot, new_boot, answer_of};
 ghost use Rattle.thy_boot.specs.Steps.{CanStep, TakesStep};
 
 use crate::fills::Fills;
-use crate::stage::{BootStep, End, ReadStage, Stage};
+use crate::stage::{End, ReadStage, Stage};
 use std::alloc::{AllocError, Global};
 use std::marker::Model;
 use thy_base::{BLOCK_SIZE, Block, Geometry, Nvm, NvmError, word};
 use thy_record::{BadImage, Start};
+use thy_view::BootStep;
 
 /// A boot, with the commit block and the bytes of the slot, as far as they were read. Only `new` allocates: the room for
 /// the slot.
@@ -80,7 +81,7 @@ impl Boot {
 
     /// Takes one action of the NVM: reads the next block of the checkpoint there, or, if there is none, takes the next
     /// action of loading the start. Once the image was found at fault, it takes none, and returns the refusal at each step.
-    /// If the NVM failed, boot and controller are as before.
+    /// If the NVM failed, boot and controller are as before. If the boot goes on, its stage says whether it reads or loads.
     pub fn step<F: Fills, N: Nvm>(
         &mut self,
         control: &mut F::Control,
@@ -126,8 +127,7 @@ impl Boot {
     {
         match self.stage {
             Stage::Reads(ReadStage::Refusing(bad)) => BootStep::Refused(bad),
-            Stage::Reads(_) => BootStep::Reading,
-            Stage::Loads(_) => BootStep::Loading,
+            Stage::Reads(_) | Stage::Loads(_) => BootStep::GoesOn,
             Stage::Over(End::Restored) => {
                 let cpu = F::cpu_in(&self.geometry, &self.commit, &self.slot);
                 BootStep::Restarted(cpu, word(&self.commit, 1))

@@ -22,5 +22,5 @@ pub use laws::{
     a_restart_is_the_kept_one, drains_keep_the_boot, failed_steps_are_moves, steps_act_once,
     steps_are_moves, steps_come_nearer, steps_queue_one_write,
 };
-pub use stage::{BootStep, End, Issue, ReadStage, Stage};
+pub use stage::{End, Issue, ReadStage, Stage};
 pub use start::start_block;

@@ -1,5 +1,4 @@
-//! The stages of a boot, and what its steps return.
-use thy_isa::CpuState;
+//! The stages of a boot.
 use thy_record::BadImage;
 
 /// What loading does next.
@@ -52,19 +51,4 @@ pub enum Stage {
     Loads(Issue),
     /// It is over.
     Over(End),
-}
-
-/// What a step of a boot returns.
-#[derive(Clone, Copy, Debug, PartialEq, Eq)]
-pub enum BootStep {
-    /// A block was read, and more are to be read.
-    Reading,
-    /// There is no checkpoint, and loading continues.
-    Loading,
-    /// The program is loaded, as the checkpoint of epoch 0.
-    Loaded,
-    /// The checkpoint of this epoch was restored, with this state of the processor.
-    Restarted(CpuState, u64),
-    /// The image is refused. This comes again at each later step.
-    Refused(BadImage),
 }

@@ -19,6 +19,8 @@ use Rattle.thy_isa.specs.declared.state.Status.TheVariants.{Running, Exited, Tra
 use Rattle.thy_isa.specs.Step.{is_running}
 use Rattle.thy_record.specs.declared.engine_step.EngineStep.{EngineStep}
 use Rattle.thy_record.specs.declared.engine_step.EngineStep.TheVariants.{Idle, Copied, PageBlock, StateBlock, TableBlock, Barrier, CommitWritten, Committed}
+use Rattle.thy_view.specs.declared.boot_step.BootStep.{BootStep}
+use Rattle.thy_view.specs.declared.boot_step.BootStep.TheVariants.{GoesOn, Loaded, Restarted, Refused}
 use Rattle.thy_view.specs.declared.did.Did.{Did}
 use Rattle.thy_view.specs.declared.did.Did.TheVariants.{Moved, Retired, Flushed as DidFlush, Merged, Sealed, Promoted, Engine, Committed as DidCommit, NvmDrained, DramDrained, Nothing, Boot as DidBoot, Loaded as DidLoad, Restarted as DidRestart, Refused as DidRefuse}
 use Rattle.thy_view.specs.declared.did.Stall.TheVariants.{Booting, Sealing, Waiting, Halted}
@@ -26,6 +28,7 @@ use Rattle.thy_view.specs.declared.view.Phase.{Phase}
 use Rattle.thy_view.specs.declared.view.Phase.TheVariants.{Boot, Run, Halt}
 use Rattle.thy_view.specs.declared.view.View.{View}
 use Rattle.thy_view.specs.Action.{Action, Rest, ReadAt, WriteAt, Barrier as ActBarrier, Drain, after}
+use Rattle.thy_view.specs.Booting.{boot_did}
 use Rattle.thy_view.specs.Origin.{Origin}
 use Rattle.thy_view.specs.Told.{IsThere}
 use Rattle.thy_view.specs.Turn.{Actor, front_of, Nvm, Dram, Checkpoint, Advances, Stalled, Pressure, IsHanded, HandsOn, Does, Prepares}
@@ -34,9 +37,7 @@ use Rattle.thy_scheme.specs.SchemeStore.{failed_calls, held_by_scheme, IsOneCall
 use Rattle.thy_scheme.specs.CheckpointMarks.{CheckpointMarks}
 use Rattle.thy_scheme.specs.Scheme.{SchemeOf, StaysOf, Stands, IsBooting}
 use Rattle.thy_scheme.specs.Calls.{IsOneAccess, Merges, Promotes, PromotionFails, Drains, Seals, Engines, EngineFails, engine_did}
-use Rattle.thy_scheme.specs.Boots.{BootsOn, BootFails, BootDrains, boot_did}
-use Rattle.thy_scheme.specs.declared.boot_step.BootStep.{BootStep}
-use Rattle.thy_scheme.specs.declared.boot_step.BootStep.TheVariants.{GoesOn, Loaded, Restarted, Refused}
+use Rattle.thy_scheme.specs.Boots.{BootsOn, BootFails, BootDrains}
 use Rattle.thy_core.specs.declared.parts.MachineParts.{MachineParts}
 use Rattle.thy_core.specs.MachineParts.{machine_of, IsRestartBelow}
 use Rattle.thy_core_laws.specs.Machine.{Machine, cpu_fronted, processor_of, view_of, moment_of, pressure_of}

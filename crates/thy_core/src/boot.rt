@@ -2,9 +2,9 @@
 ghost use Rattle.std.specs.Prelude.{◌≡◌, ◌+◌, ◌-◌, ◌<◌, ◌^◌, if◌then◌else◌};
 ghost use Rattle.thy_isa.specs.Step.{state_of, cpu_of, is_running};
 ghost use Rattle.thy_view.specs.declared.did.Stall.TheVariants.{Booting};
+ghost use Rattle.thy_view.specs.Booting.{boot_did};
 ghost use Rattle.thy_view.specs.Origin.{Origin, Begins};
 ghost use Rattle.thy_view.specs.Turn.{Stalled};
-ghost use Rattle.thy_scheme.specs.Boots.{boot_did};
 ghost use Rattle.thy_core_laws.specs.Calls.{running_from, after_boot};
 ghost use Rattle.thy_core.specs.Cycles.{HasStart, CanTake, HasTaken};
 ghost use Rattle.thy_core.specs.MachineParts.{machine_of, IsRestartBelow};
@@ -14,8 +14,8 @@ use thy_base::{Mark, Nvm, NvmError};
 use thy_hart::Hart;
 use thy_isa::{CpuState, MachState, is_running};
 use thy_record::Start;
-use thy_scheme::{BootStep, Scheme};
-use thy_view::{Did, Phase};
+use thy_scheme::Scheme;
+use thy_view::{BootStep, Did, Phase};
 
 /// Takes one action of the boot.
 pub(crate) fn boot<N: Nvm, S: Scheme>(

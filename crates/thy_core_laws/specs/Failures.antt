@@ -6,12 +6,13 @@ use Rattle.thy_view.specs.declared.did.Did.{Did}
 use Rattle.thy_view.specs.declared.did.Did.TheVariants.{Moved, Flushed, Promoted, NvmDrained}
 use Rattle.thy_view.specs.declared.view.Phase.TheVariants.{Boot, Run}
 use Rattle.thy_view.specs.Action.{ActionFailedBy, doubt_after_fault}
+use Rattle.thy_view.specs.Booting.{boot_did}
 use Rattle.thy_view.specs.Origin.{Origin}
 use Rattle.thy_view.specs.Safe.{Safe}
 use Rattle.thy_view.specs.Views.{IsRestarting}
 use Rattle.thy_scheme.specs.Scheme.{SchemeOf, StaysOf}
 use Rattle.thy_scheme.specs.Calls.{IsOneAccess, PromotionFails, EngineFails, engine_did}
-use Rattle.thy_scheme.specs.Boots.{BootFails, boot_did}
+use Rattle.thy_scheme.specs.Boots.{BootFails}
 use Rattle.thy_core_laws.specs.Machine.{Machine, view_of}
 use Rattle.thy_core_laws.specs.Rows.{IsMoment, HartGoes, IsSealing}
 

@@ -9,11 +9,13 @@ use Rattle.thy_hart.specs.declared.hand.HartStep.{HartStep}
 use Rattle.thy_hart.specs.Outcomes.{given}
 use Rattle.thy_hart.specs.HartState.{HartState}
 use Rattle.thy_record.specs.declared.engine_step.EngineStep.{EngineStep}
+use Rattle.thy_view.specs.declared.boot_step.BootStep.{BootStep}
 use Rattle.thy_view.specs.declared.did.Did.{Did}
 use Rattle.thy_view.specs.declared.did.Did.TheVariants.{Moved, Flushed as DidFlush, Merged, Promoted, Sealed, NvmDrained, DramDrained, Nothing}
 use Rattle.thy_view.specs.declared.did.Stall.TheVariants.{Sealing}
 use Rattle.thy_view.specs.declared.view.Phase.TheVariants.{Boot, Run, Halt}
 use Rattle.thy_view.specs.Action.{ActsBy}
+use Rattle.thy_view.specs.Booting.{boot_did}
 use Rattle.thy_view.specs.CoreStep.{CoreStep}
 use Rattle.thy_view.specs.Dram.{LeavesDram}
 use Rattle.thy_view.specs.Origin.{Origin}
@@ -22,10 +24,9 @@ use Rattle.thy_view.specs.Told.{HasTurn}
 use Rattle.thy_view.specs.Turn.{Advances, HandsOn, stall_in, over_by}
 use Rattle.thy_view.specs.Views.{IsRestarting}
 use Rattle.thy_view.specs.Work.{Works}
-use Rattle.thy_scheme.specs.declared.boot_step.BootStep.{BootStep}
 use Rattle.thy_scheme.specs.Scheme.{SchemeOf}
 use Rattle.thy_scheme.specs.Calls.{Merges, Promotes, Drains, Seals, Engines, engine_did}
-use Rattle.thy_scheme.specs.Boots.{BootsOn, BootDrains, boot_did}
+use Rattle.thy_scheme.specs.Boots.{BootsOn, BootDrains}
 use Rattle.thy_scheme.specs.Laws.{IsLawful}
 use Rattle.thy_core_laws.specs.Machine.{Machine, view_of, pressure_of, gauge_of, has_read_of}
 use Rattle.thy_core_laws.specs.Pace.{most_spent}

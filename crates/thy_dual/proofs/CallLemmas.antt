@@ -4,19 +4,18 @@ use Rattle.thy_base.specs.declared.block.Block.{Block}
 use Rattle.thy_base.specs.declared.nvm.NvmError.{NvmError}
 use Rattle.thy_base.specs.declared.store.Stored.{Stored}
 use Rattle.thy_base.specs.Device.{Device}
-use Rattle.thy_isa.specs.Step.{State as Plain, state_of}
+use Rattle.thy_isa.specs.Step.{state_of}
 use Rattle.thy_record.specs.declared.engine_step.EngineStep.{EngineStep}
 use Rattle.thy_record.specs.declared.start.Start.{Start}
 use Rattle.thy_control.specs.Promotions.{next_promotion, after_promotion, ReadsNvm, FillsNext}
 use Rattle.thy_control.specs.Rules.{rule_for, state_after, devices_after, FailsStore}
 use Rattle.thy_control.specs.State.{State}
 use Rattle.thy_control.specs.StoredTables.{answer_of as answer_by}
+use Rattle.thy_view.specs.declared.boot_step.BootStep.{BootStep}
 use Rattle.thy_commit.specs.Items.{answer}
 use Rattle.thy_commit.specs.Progress.{Progress, item_of, engine_next, state_next, device_next, FailsNext}
-use Rattle.thy_boot.specs.declared.stage.BootStep.{BootStep as Recovered}
 use Rattle.thy_migrate.specs.Migrating.{Recovering, answer_of}
 use Rattle.thy_migrate.specs.Steps.{TakesStep}
-use Rattle.thy_dual_laws.specs.Boots.{step_of, result_of}
 use Rattle.thy_dual_laws.specs.Dual.{Dual, is_promoting}
 use Rattle.thy_dual.specs.Calls.{stored_since, StoresByRule, with_control, PromotesNext, TakesItem, TakesBootStep}
 
@@ -82,20 +81,7 @@ takes_item s n (Err e) t f new said engine state nvm kept kept_control err = rec
 }
 
 -- a step of boot or migration
-answered : (r : Result Recovered NvmError) (d : Recovering) → IfOk r (λ a. a ≡ answer_of d) → IfOk (result_of r) (λ step. step ≡ step_of (answer_of d))
-answered (Ok a) d h = ap step_of h
-answered (Err e) d h = h
-
-taken : (r : Result Recovered NvmError) (s : Plain) (n : Device) (b : Recovering) (c : State) (new : Device) (d : Recovering) (e : State)
-    → TakesStep r s n b c new d e → TakesStep (result_of r) s n b c new d e
-taken (Ok a) s n b c new d e h = record { steps = h.steps; fits = h.fits; recovery = h.recovery; control = h.control; err = h.err; frame = h.frame; cause = h.cause }
-taken (Err x) s n b c new d e h = record { steps = h.steps; fits = h.fits; recovery = h.recovery; control = h.control; err = h.err; frame = h.frame; cause = h.cause }
-
-pub takes_boot_step : (start : Start) (s : Dual) (n : Device) (r : Result Recovered NvmError) (t : State) (d : Recovering) (new : Device)
+pub takes_boot_step : (start : Start) (s : Dual) (n : Device) (r : Result BootStep NvmError) (t : State) (d : Recovering) (new : Device)
     → IfOk r (λ a. a ≡ answer_of d) → TakesStep r (state_of start.state) n s.boot s.control new d t
-    → TakesBootStep start s n (result_of r) (record s { control = t; boot = d }) new
-takes_boot_step start s n r t d new said took = record {
-  answer = answered r d said;
-  steps = taken r (state_of start.state) n s.boot s.control new d t took;
-  others = refl;
-}
+    → TakesBootStep start s n r (record s { control = t; boot = d }) new
+takes_boot_step start s n r t d new said took = record { answer = said; steps = took; others = refl }

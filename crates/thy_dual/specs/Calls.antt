@@ -20,12 +20,11 @@ use Rattle.thy_control.specs.Rules.{rule_for, state_after, devices_after, FailsS
 use Rattle.thy_control.specs.Seal.{sealed_state}
 use Rattle.thy_control.specs.State.{State, cell_of, work_of, penult_of, new_state}
 use Rattle.thy_control.specs.StoredTables.{answer_of as answer_by}
+use Rattle.thy_view.specs.declared.boot_step.BootStep.{BootStep}
 use Rattle.thy_commit.specs.Items.{is_under_way, answer}
 use Rattle.thy_commit.specs.Progress.{begun, item_of, engine_next, state_next, device_next, FailsNext}
 use Rattle.thy_migrate.specs.Migrating.{new_recovery, answer_of}
 use Rattle.thy_migrate.specs.Steps.{TakesStep}
-use Rattle.thy_scheme.specs.declared.boot_step.BootStep.{BootStep}
-use Rattle.thy_dual_laws.specs.Boots.{step_of}
 use Rattle.thy_dual_laws.specs.Dual.{Dual, is_overlaid, is_promoting}
 
 -- ---- a new scheme
@@ -147,6 +146,6 @@ pub record TakesItem (s : Dual) (n : Device)
 -- boot and migration afterwards determine the result; engine and marks are as they were
 pub record TakesBootStep (start : Start) (s : Dual) (n : Device)
     (result : Result BootStep NvmError) (t : Dual) (new : Device) : Type 0 where
-  pub answer : IfOk result (λ step. step ≡ step_of (answer_of t.boot))
+  pub answer : IfOk result (λ step. step ≡ answer_of t.boot)
   pub steps : TakesStep result (state_of start.state) n s.boot s.control new t.boot t.control
   pub others : t ≡ record s { control = t.control; boot = t.boot }

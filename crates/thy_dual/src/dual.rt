@@ -15,7 +15,7 @@ ghost use Rattle.thy_scheme.specs.CheckpointMarks.{CheckpointMarks};
 ghost use Rattle.thy_scheme.specs.Scheme.{StaysOf, Stands, CanRun, IsBooting, CanBoot};
 ghost use Rattle.thy_scheme.specs.Calls.{IsOneAccess, Stores, Merges, Promotes, PromotionFails, TakesNoAction, Drains, Seals, Engines, EngineFails};
 ghost use Rattle.thy_scheme.specs.Boots.{BootsOn, BootFails, BootDrains};
-ghost use Rattle.thy_dual_laws.specs.Boots.{Boots, IsPowered, has_read_at, loads_at, step_of, result_of, view_at};
+ghost use Rattle.thy_dual_laws.specs.Boots.{Boots, IsPowered, has_read_at, loads_at, view_at};
 ghost use Rattle.thy_dual_laws.specs.Dual.{IsOf, is_overlaid, is_promoting, penults};
 ghost use Rattle.thy_dual_laws.specs.Scheme.{dual_scheme};
 ghost use Rattle.thy_dual_laws.specs.Stays.{StaysDual};
@@ -25,14 +25,15 @@ ghost use Rattle.thy_dual.specs.Calls.{drained, merged, PromotesNext, sealed, Ta
 use std::alloc::{AllocError, Global};
 use std::marker::Model;
 use thy_base::{Block, Geometry, Nvm, NvmError, Stored};
-use thy_boot::{BootStep as Recovered, Stage};
+use thy_boot::Stage;
 use thy_commit::{Engine, items_are_moves, items_keep_the_store, items_move_versions};
 use thy_control::{Control, blocks_are_works};
 use thy_dram::Dram;
 use thy_isa::CpuState;
 use thy_migrate::Recovery;
 use thy_record::{EngineStep, Start};
-use thy_scheme::{BootStep, Scheme};
+use thy_scheme::Scheme;
+use thy_view::BootStep;
 
 /// The scheme of both tables: its controller keeps two checkpoints of all blocks in addition to the work, and its engine
 /// writes the next one into the NVM while the hart runs.
@@ -71,28 +72,6 @@ fn is_loading(stage: Stage) -> bool
     match stage {
         Stage::Loads(_) => true,
         Stage::Reads(_) | Stage::Over(_) => false,
-    }
-}
-
-/// What a step of the boot returns, as a scheme returns it.
-fn scheme_step(step: Recovered) -> BootStep
-    ensures { result ≡ step_of step }
-{
-    match step {
-        Recovered::Reading | Recovered::Loading => BootStep::GoesOn,
-        Recovered::Loaded => BootStep::Loaded,
-        Recovered::Restarted(cpu, epoch) => BootStep::Restarted(cpu, epoch),
-        Recovered::Refused(bad) => BootStep::Refused(bad),
-    }
-}
-
-/// The same if the NVM may have failed.
-fn scheme_result(answer: Result<Recovered, NvmError>) -> Result<BootStep, NvmError>
-    ensures { result ≡ result_of answer }
-{
-    match answer {
-        Ok(step) => Ok(scheme_step(step)),
-        Err(error) => Err(error),
     }
 }
 
@@ -322,7 +301,7 @@ impl Scheme for DualScheme {
     {
         let result = self.boot.step(&mut self.control, start, nvm);
         self.control.tables();
-        scheme_result(result)
+        result
     }
 
     fn loading(&self) -> bool

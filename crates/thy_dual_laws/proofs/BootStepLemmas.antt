@@ -7,7 +7,7 @@ use Rattle.thy_base.specs.declared.layout_version.LayoutVersion.{LayoutVersion}
 use Rattle.thy_base.specs.declared.layout_version.LayoutVersion.TheVariants.{VersionOne, VersionTwo}
 use Rattle.thy_base.specs.declared.mark.Mark.{Mark}
 use Rattle.thy_base.specs.declared.nvm.NvmError.{NvmError}
-use Rattle.thy_base.specs.Device.{Device, HasFailed, IsFramed, CountsFault}
+use Rattle.thy_base.specs.Device.{Device, HasFailed, IsFramed}
 use Rattle.thy_base.specs.Marks.{mark}
 use Rattle.thy_base.specs.Places.{slot_blocks, image_blocks}
 use Rattle.thy_crash.specs.Saved.{Kept}
@@ -24,11 +24,12 @@ use Rattle.thy_control.proofs.HoldingLemmas.{works-sized}
 use Rattle.thy_protocol.specs.Keeps.{Keeps, finding_view}
 use Rattle.thy_protocol.specs.Moves.{IsKeeping}
 use Rattle.thy_protocol.specs.DualLayouts.{layout_of}
-use Rattle.thy_view.specs.declared.did.Did.{Did}
+use Rattle.thy_view.specs.declared.boot_step.BootStep.{BootStep}
+use Rattle.thy_view.specs.declared.boot_step.BootStep.TheVariants.{GoesOn, Restarted}
 use Rattle.thy_view.specs.declared.did.Did.TheVariants.{Boot}
 use Rattle.thy_view.specs.declared.view.View.{View}
-use Rattle.thy_view.specs.Action.{Action, Rest, ReadAt, WriteAt, Barrier, Drain, after, FailsTo, IsRead, IsBootAction, EndsRestart, AsksBy, Asks, ActsBy, Acts, is_commit_write, doubt_after_fault}
-use Rattle.thy_view.specs.Booting.{boot_view, loading_view}
+use Rattle.thy_view.specs.Action.{Action, Rest, ReadAt, WriteAt, Barrier, Drain, after, FailsTo, IsRead, IsBootAction, EndsRestart, AsksBy, ActsBy, Acts, is_commit_write, doubt_after_fault}
+use Rattle.thy_view.specs.Booting.{boot_view, loading_view, boot_did}
 use Rattle.thy_view.specs.CoreStep.{BootsTo, CoreStep}
 use Rattle.thy_view.specs.Dram.{ActsOnDram}
 use Rattle.thy_view.specs.Origin.{Origin, Begins}
@@ -41,18 +42,15 @@ use Rattle.thy_boot.specs.declared.stage.Stage.TheVariants.{Reads, Loads as Load
 use Rattle.thy_boot.specs.declared.stage.ReadStage.{ReadStage}
 use Rattle.thy_boot.specs.declared.stage.ReadStage.TheVariants.{Unread, Header as ReadsHeader, Slot as ReadsSlot, Fills, Refusing}
 use Rattle.thy_boot.specs.declared.stage.End.TheVariants.{Restored, Loaded}
-use Rattle.thy_boot.specs.declared.stage.BootStep.{BootStep}
-use Rattle.thy_boot.specs.declared.stage.BootStep.TheVariants.{Reading, Loading as IsLoading, Loaded as HasLoaded, Restarted, Refused}
 use Rattle.thy_boot.specs.Boot.{Booting, IsBoot, slot_read, answer_at, answer_of}
 use Rattle.thy_boot.specs.Left.{boot_left}
 use Rattle.thy_boot.specs.Laws.{IsGoing, IsMoved, failed_answer}
 use Rattle.thy_boot.specs.Loads.{issue_action}
-use Rattle.thy_boot.specs.Shows.{seen_at, did_of}
+use Rattle.thy_boot.specs.Shows.{seen_at}
 use Rattle.thy_boot.specs.Sound.{BootImages, start_mark, first_of, standing_in_boot, images_after, IsSoundAt, IsSoundBoot as IsBootOf}
 use Rattle.thy_boot.specs.Steps.{CanStep, Steps, StepsAt, action_at, action_of, Fails}
 use Rattle.thy_boot.proofs.StepMoveLemmas.{steps_move}
 use Rattle.thy_boot.proofs.SafeLemmas.{failures_move, read_failed}
-use Rattle.thy_dual_laws.proofs.StoreLemmas.{of-same}
 use Rattle.thy_boot.proofs.MoveLemmas.{kept_after}
 use Rattle.thy_boot.proofs.NearerLemmas.{left_most}
 use Rattle.thy_boot.proofs.FoundLemmas.{never_refused}
@@ -71,11 +69,9 @@ use Rattle.thy_migrate.specs.Sound.{images_after as images_on, IsMigrating}
 use Rattle.thy_migrate.specs.Steps.{CanStepAt, CanStep as CanRecover, StepsAt as RecoveryStepsAt, Steps as RecoverySteps, FailsAt, TakesStep}
 use Rattle.thy_migrate.proofs.MigrationLemmas.{migration_begins, migration_may_go_on, failure_is_safe, actions_migrate}
 use Rattle.thy_migrate.proofs.NearerLemmas.{come_nearer}
-use Rattle.thy_scheme.specs.declared.boot_step.BootStep.{BootStep as SchemeStep}
-use Rattle.thy_scheme.specs.declared.boot_step.BootStep.TheVariants.{GoesOn}
-use Rattle.thy_scheme.specs.Boots.{boot_did, IsBooted, Loads, Restarts, Answers, BootsOn, BootFails}
-use Rattle.thy_scheme.specs.Scheme.{StaysOf, IsBooting, CanBoot}
-use Rattle.thy_dual_laws.specs.Boots.{Boots, IsUnderWay, step_of, result_of, view_at, has_read_at}
+use Rattle.thy_scheme.specs.Boots.{IsBooted, Loads, Restarts, Answers, BootsOn, BootFails}
+use Rattle.thy_scheme.specs.Scheme.{IsBooting, CanBoot}
+use Rattle.thy_dual_laws.specs.Boots.{Boots, IsUnderWay, view_at, has_read_at}
 use Rattle.thy_dual_laws.specs.Booted.{IsUnused}
 use Rattle.thy_dual_laws.specs.Dual.{Dual, is_promoting}
 use Rattle.thy_dual_laws.specs.Scheme.{dual_scheme}
@@ -85,14 +81,6 @@ use Rattle.thy_dual_laws.proofs.SafeLemmas.{Safe-read}
 
 no-false : false ≡ true → ⊥
 no-false e = cc
-
--- what a step returns is what a cycle did
-did-answered : (a : BootStep) → boot_did (step_of a) ≡ did_of a
-did-answered Reading = refl
-did-answered IsLoading = refl
-did-answered HasLoaded = refl
-did-answered (Restarted cpu epoch) = refl
-did-answered (Refused bad) = refl
 
 -- ---- how far it is
 
@@ -264,7 +252,7 @@ module _ (o : Origin) (s : Dual) (n : Device) (booting : IsBooting dual_scheme o
   read : has_read_at d.stage ≡ true
   read = read-on b d same d.stage nearer
 
-  acts : Acts (did_of (answer_of filling_dual d)) n new
+  acts : Acts (boot_did (answer_of filling_dual d)) n new
   acts = steps_act filling_dual filling_is_lawful o.start n b s.control new d e took
 
   up : new.down ≡ false
@@ -321,7 +309,7 @@ module _ (o : Origin) (s : Dual) (n : Device) (booting : IsBooting dual_scheme o
 
   loaded : d.stage ≡ Over Loaded → Loads dual_scheme o s n t new
   loaded is =
-      let shows = subst (λ (x : Stage). CoreStep o v (did_of (answer_at filling_dual x d)) (seen_at o g.kept x)) is moved.shows in
+      let shows = subst (λ (x : Stage). CoreStep o v (boot_did (answer_at filling_dual x d)) (seen_at o g.kept x)) is moved.shows in
       let was : WasLoading o g n b s.control b.stage = was-loading o g n b s.control b.stage going shows.written sound.keeps in
       let keeps : IsKeeping o (layout_of o) (standing_in_boot o (Over Loaded) h new) = subst (λ (x : Stage). IsKeeping o (layout_of o) (standing_in_boot o x h new)) is moved.sound.keeps in
       let far : IsStarted o h new e = loaded_is_started o h new d e boots.origin moved.sound is in
@@ -335,7 +323,7 @@ module _ (o : Origin) (s : Dual) (n : Device) (booting : IsBooting dual_scheme o
   restored-view : d.stage ≡ Over Restored
       → view_at o b.stage n ≡ boot_view (Some (mark (epoch_of d.commit) (cpu_of_record d.p (slot_read filling_dual d)).count)) None
   restored-view is =
-      let shows = subst (λ (x : Stage). CoreStep o v (did_of (answer_at filling_dual x d)) (seen_at o g.kept x)) is moved.shows in
+      let shows = subst (λ (x : Stage). CoreStep o v (boot_did (answer_at filling_dual x d)) (seen_at o g.kept x)) is moved.shows in
       before ∙ was-found o g n b s.control b.stage (mark (epoch_of d.commit) (cpu_of_record d.p (slot_read filling_dual d)).count) going shows.done
 
   restarted : d.stage ≡ Over Restored → version_of d.commit ≡ VersionTwo → Restarts dual_scheme o (cpu_of_record d.p (slot_read filling_dual d)) (epoch_of d.commit) s n t new
@@ -368,8 +356,8 @@ module _ (o : Origin) (s : Dual) (n : Device) (booting : IsBooting dual_scheme o
 
   -- ---- by the result
 
-  answers-at : (q : Stage) → d.stage ≡ q → r.migration ≡ None → CoreStep o v (did_of (answer_at filling_dual q d)) (seen_at o g.kept q)
-      → Answers dual_scheme o (step_of (answer_at filling_dual q d)) s n t new
+  answers-at : (q : Stage) → d.stage ≡ q → r.migration ≡ None → CoreStep o v (boot_did (answer_at filling_dual q d)) (seen_at o g.kept q)
+      → Answers dual_scheme o (answer_at filling_dual q d) s n t new
   answers-at (Reads Unread) is none shows = goes-on (Reads Unread) is tt none shows.1
   answers-at (Reads ReadsHeader) is none shows = goes-on (Reads ReadsHeader) is tt none shows.1
   answers-at (Reads (ReadsSlot next)) is none shows = goes-on (Reads (ReadsSlot next)) is tt none shows.1
@@ -381,20 +369,17 @@ module _ (o : Origin) (s : Dual) (n : Device) (booting : IsBooting dual_scheme o
   answers-at (Over Loaded) is none shows = loaded is
 
   -- a read, if a migration begins
-  asked-at : (q : Stage) → q ≡ Over Restored → Acts (did_of (answer_at filling_dual q d)) n new → Acts Boot n new
+  asked-at : (q : Stage) → q ≡ Over Restored → Acts (boot_did (answer_at filling_dual q d)) n new → Acts Boot n new
   asked-at (Reads x) is acts = cc
   asked-at (Loading issue) is acts = cc
   asked-at (Over Loaded) is acts = cc
   asked-at (Over Restored) is acts = record { action = acts.action; asked = read-asked acts.action acts.asked; left = acts.left }
 
   abbrev IsAnswered : BootStep → Type 0
-  IsAnswered a = Answers dual_scheme o (step_of a) s n t new × Acts (boot_did (step_of a)) n new
+  IsAnswered a = Answers dual_scheme o a s n t new × Acts (boot_did a) n new
 
   answered : (w : Option Migration) → r.migration ≡ w → IsAnswered (answer_by w d)
-  answered None none = (
-    answers-at d.stage refl none moved.shows,
-    subst (λ (x : Did). Acts x n new) (sym (did-answered (answer_of filling_dual d))) acts,
-  )
+  answered None none = (answers-at d.stage refl none moved.shows, acts)
   answered (Some at) on =
       let back = begun-back d.stage d.commit at (sym begun ∙ on) in
       (begins back.0 back.1 (on ∙ ap Some back.2), asked-at d.stage back.0 acts)
@@ -410,10 +395,10 @@ module _ (o : Origin) (s : Dual) (n : Device) (booting : IsBooting dual_scheme o
       )
   queue-by (Over end) l = absurd l
 
-  boot-on : BootsOn dual_scheme o (step_of (answer_of_recovery r)) s n t new
+  boot-on : BootsOn dual_scheme o (answer_of_recovery r) s n t new
   boot-on = record {
     answers = (answered r.migration refl).0;
-    acts = subst (λ (w : Option Migration). ActsBy (is_some w) (boot_did (step_of (answer_of_recovery r))) n new) (sym idle) (answered r.migration refl).1;
+    acts = subst (λ (w : Option Migration). ActsBy (is_some w) (boot_did (answer_of_recovery r)) n new) (sym idle) (answered r.migration refl).1;
     dram = acted.0;
     queue = queue-by b.stage took;
     nearer = come_nearer o.start n s.boot s.control new r e
@@ -508,10 +493,10 @@ module _ (o : Origin) (s : Dual) (n : Device) (booting : IsBooting dual_scheme o
   restart-answer : answer_of filling_dual bo ≡ Restarted (cpu_of_record bo.p (slot_read filling_dual bo)) (epoch_of bo.commit)
   restart-answer = ap (λ (q : Stage). answer_at filling_dual q bo) over
 
-  abbrev IsAnsweredNow : SchemeStep → Type 0
+  abbrev IsAnsweredNow : BootStep → Type 0
   IsAnsweredNow a = Answers dual_scheme o a s n after_it dev × ActsBy true (boot_did a) n dev
 
-  answered-now : (w : Option Migration) → after_action bo.p at ≡ w → MigratesTo w o m next_images dev bo s.control → IsAnsweredNow (step_of (answer_by w bo))
+  answered-now : (w : Option Migration) → after_action bo.p at ≡ w → MigratesTo w o m next_images dev bo s.control → IsAnsweredNow (answer_by w bo)
   answered-now (Some k) is to = (
     (
       still-under (Some k) is (m, to),
@@ -523,7 +508,7 @@ module _ (o : Origin) (s : Dual) (n : Device) (booting : IsBooting dual_scheme o
       let cpu : CpuState = cpu_of_record bo.p (slot_read filling_dual bo) in
       let epoch : ℕ = epoch_of bo.commit in
       let last : at ≡ ConfirmAt = last-action bo.p at is in
-      subst IsAnsweredNow (sym (ap step_of restart-answer)) (
+      subst IsAnsweredNow (sym restart-answer) (
         record {
           view = seen-now ∙ ap (λ (x : Mark). boot_view (Some x) None) mark-now;
           booted = subst (λ (x : Mark). IsBooted dual_scheme o x cpu after_it dev) mark-now
@@ -540,10 +525,10 @@ module _ (o : Origin) (s : Dual) (n : Device) (booting : IsBooting dual_scheme o
         record { action = action_on bo at; asked = subst (λ (k : Migration). EndsRestart true (action_on bo k)) (sym last) tt; left = refl },
       )
 
-  migration-on : BootsOn dual_scheme o (step_of (answer_by (after_action bo.p at) bo)) s n after_it dev
+  migration-on : BootsOn dual_scheme o (answer_by (after_action bo.p at) bo) s n after_it dev
   migration-on = record {
     answers = (answered-now (after_action bo.p at) refl comes-to).0;
-    acts = subst (λ (w : Option Migration). ActsBy (is_some w) (boot_did (step_of (answer_by (after_action bo.p at) bo))) n dev) (sym on)
+    acts = subst (λ (w : Option Migration). ActsBy (is_some w) (boot_did (answer_by (after_action bo.p at) bo)) n dev) (sym on)
         (answered-now (after_action bo.p at) refl comes-to).1;
     dram = inl refl;
     queue = omega (arith, queue-after (action_on bo at) n);
@@ -582,11 +567,11 @@ module _ (o : Origin) (s : Dual) (n : Device) (booting : IsBooting dual_scheme o
       let answer : BootStep = failed_answer b.stage in
       let before : view_at o b.stage n ≡ seen = view-reads o boots.images n b s.control sound going in
       record {
-        step = step_of answer;
+        step = answer;
         acted = record {
           action = action;
-          asked = subst (λ (w : Option Migration). AsksBy (is_some w) (boot_did (step_of answer)) action) (sym idle)
-              (subst (λ (x : Did). Asks x action) (sym (did-answered answer)) (failures_act filling_dual filling_is_lawful o.start b s.control n new fails));
+          asked = subst (λ (w : Option Migration). AsksBy (is_some w) (boot_did answer) action) (sym idle)
+              (failures_act filling_dual filling_is_lawful o.start b s.control n new fails);
           failed = fails;
         };
         safe = subst (λ (x : View). Safe decode_image o x.done (doubt_after_fault action x) new) (sym before) safe;
@@ -619,7 +604,7 @@ module _ (o : Origin) (s : Dual) (n : Device) (booting : IsBooting dual_scheme o
   way w = IsUnderWay w o booting.boots.images n s.boot.boot s.control
 
   abbrev Result-is : Device → Recovering → State → Type 0
-  Result-is new r e = BootsOn dual_scheme o (step_of (answer_of_recovery r)) s n (record s { control = e; boot = r }) new
+  Result-is new r e = BootsOn dual_scheme o (answer_of_recovery r) s n (record s { control = e; boot = r }) new
 
   took-on : (w : Option Migration) → s.boot.migration ≡ w → way w → RecoverySteps o.start n s.boot s.control new r e → RecoveryStepsAt w o.start n s.boot s.control new r e
       → IsBoot filling_dual r.boot → Result-is new r e
@@ -640,27 +625,19 @@ module _ (o : Origin) (s : Dual) (n : Device) (booting : IsBooting dual_scheme o
   fails-on (Some at) is there fails framed = migration_fails o s n booting new at there.0 is there.1 fails framed
 
   pub boots-by : (result : Result BootStep NvmError) → IfOk result (λ a. a ≡ answer_of_recovery r) → Took result
-      → IfOk (result_of result) (λ step. BootsOn dual_scheme o step s n (record s { control = e; boot = r }) new)
+      → IfOk result (λ step. BootsOn dual_scheme o step s n (record s { control = e; boot = r }) new)
   boots-by (Ok a) is took =
-      subst (λ (x : BootStep). BootsOn dual_scheme o (step_of x) s n (record s { control = e; boot = r }) new) (sym is)
+      subst (λ (x : BootStep). BootsOn dual_scheme o x s n (record s { control = e; boot = r }) new) (sym is)
       (took-on s.boot.migration refl booting.boots.under_way took.steps took.steps took.fits)
   boots-by (Err x) is took = tt
 
-  pub fails-by : (result : Result BootStep NvmError) → Took result → OnErr (result_of result) (BootFails dual_scheme o s n new)
+  pub fails-by : (result : Result BootStep NvmError) → Took result → OnErr result (BootFails dual_scheme o s n new)
   fails-by (Ok a) took = tt
   fails-by (Err x) took = fails-on s.boot.migration refl booting.boots.under_way took.err took.frame
 
   pub fits-by : (result : Result BootStep NvmError) → Took result → Fits s.engine s.control → Fits s.engine e
   fits-by (Ok a) took was = fits-on s.boot.migration refl booting.boots.under_way took.steps took.steps took.fits was
   fits-by (Err x) took was = subst (λ (c : State). Fits s.engine c) (sym took.control) was
-
-pub cause-by : (r : Result BootStep NvmError) (old new : ℕ) → CountsFault r old new → CountsFault (result_of r) old new
-cause-by (Ok a) old new h = h
-cause-by (Err x) old new h = h
-
-pub of-by : (r : Result BootStep NvmError) (s t : Dual) → OnErr r (t.control ≡ s.control) → OnErr (result_of r) (StaysOf dual_scheme s t)
-of-by (Ok a) s t as_was = tt
-of-by (Err x) s t as_was = of-same s t as_was
 
 -- with the start of a run
 pub took-for : (o : Origin) (start : Start) → Begins o start → (result : Result BootStep NvmError) (n : Device) (r : Recovering) (c : State) (new : Device) (t : Recovering) (e : State)

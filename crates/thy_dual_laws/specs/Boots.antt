@@ -1,9 +1,8 @@
 -- Part of the claim.
 -- The boot of a run, and what is seen of it.
-use Rattle.std.specs.Prelude.{◌≡◌, true, false, Bool, Option, Some, None, Result, Ok, Err}
+use Rattle.std.specs.Prelude.{◌≡◌, true, false, Bool, Option, Some, None}
 use Rattle.thy_base.specs.declared.config.Parameters.{Parameters}
 use Rattle.thy_base.specs.declared.mark.Mark.{Mark}
-use Rattle.thy_base.specs.declared.nvm.NvmError.{NvmError}
 use Rattle.thy_base.specs.Device.{Device}
 use Rattle.thy_base.specs.Geometry.{IsInRange}
 use Rattle.thy_base.specs.Places.{slot_blocks}
@@ -17,8 +16,6 @@ use Rattle.thy_view.specs.Safe.{ceiling}
 use Rattle.thy_control.specs.State.{State, AreSoundTables, new_state}
 use Rattle.thy_commit.specs.Items.{is_under_way}
 use Rattle.thy_commit.specs.Progress.{IsSoundProgress}
-use Rattle.thy_boot.specs.declared.stage.BootStep.{BootStep}
-use Rattle.thy_boot.specs.declared.stage.BootStep.TheVariants.{Reading, Loading as IsLoading, Loaded as HasLoaded, Restarted, Refused}
 use Rattle.thy_boot.specs.declared.stage.Stage.{Stage}
 use Rattle.thy_boot.specs.declared.stage.Stage.TheVariants.{Reads, Loads}
 use Rattle.thy_boot.specs.declared.stage.ReadStage.TheVariants.{Unread}
@@ -29,8 +26,6 @@ use Rattle.thy_boot.specs.Sound.{BootImages, IsSoundBoot as IsBootOf}
 use Rattle.thy_recover.specs.Filling.{filling_dual}
 use Rattle.thy_migrate.specs.declared.migration.Migration.{Migration}
 use Rattle.thy_migrate.specs.Sound.{IsMigrating}
-use Rattle.thy_scheme.specs.declared.boot_step.BootStep.{BootStep as SchemeStep}
-use Rattle.thy_scheme.specs.declared.boot_step.BootStep.TheVariants.{GoesOn, Loaded as SchemeLoaded, Restarted as SchemeRestarted, Refused as SchemeRefused}
 use Rattle.thy_dual_laws.specs.Booted.{IsUnused}
 use Rattle.thy_dual_laws.specs.Dual.{Dual}
 
@@ -63,18 +58,6 @@ has_read_at stage = true
 abbrev pub loads_at : Stage → Bool
 loads_at (Loads issue) = true
 loads_at stage = false
-
--- what a step of the boot returns, as a scheme returns it; the same if the NVM may have failed
-abbrev pub step_of : BootStep → SchemeStep
-step_of Reading = GoesOn
-step_of IsLoading = GoesOn
-step_of HasLoaded = SchemeLoaded
-step_of (Restarted cpu epoch) = SchemeRestarted cpu epoch
-step_of (Refused bad) = SchemeRefused bad
-
-abbrev pub result_of : Result BootStep NvmError → Result SchemeStep NvmError
-result_of (Ok step) = Ok (step_of step)
-result_of (Err e) = Err e
 
 -- power has just come on
 pub record IsPowered (p : Parameters) (s : Dual) : Type 0 where

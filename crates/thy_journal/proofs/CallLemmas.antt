@@ -12,10 +12,10 @@ use Rattle.thy_isa.specs.Step.{state_of}
 use Rattle.thy_dram.proofs.DrawLemmas.{length-over}
 use Rattle.thy_record.specs.declared.engine_step.EngineStep.{EngineStep}
 use Rattle.thy_record.specs.declared.start.Start.{Start}
+use Rattle.thy_view.specs.declared.boot_step.BootStep.{BootStep}
 use Rattle.thy_view.specs.Action.{after, FailsTo}
 use Rattle.thy_view.specs.Kind.{IsDramOf}
 use Rattle.thy_view.specs.Origin.{Origin}
-use Rattle.thy_boot.specs.declared.stage.BootStep.{BootStep}
 use Rattle.thy_boot.specs.declared.stage.Stage.{Stage}
 use Rattle.thy_boot.specs.declared.stage.Stage.TheVariants.{Reads, Loads, Over}
 use Rattle.thy_boot.specs.declared.stage.End.TheVariants.{Restored, Loaded}
@@ -33,7 +33,7 @@ use Rattle.thy_journal_laws.specs.Journal.{Journal as Value, committed_in}
 use Rattle.thy_journal_laws.specs.Stays.{StaysJournal}
 use Rattle.thy_journal_laws.specs.Taken.{step_of}
 use Rattle.thy_journal_laws.proofs.AfterLemmas.{p_after}
-use Rattle.thy_journal_scheme.specs.Boots.{engine_at, step_of as answered, result_of}
+use Rattle.thy_journal_scheme.specs.Boots.{engine_at}
 use Rattle.thy_journal_scheme.specs.Scheme.{journal_scheme}
 use Rattle.thy_journal_scheme.proofs.StayLemmas.{same-stays}
 use Rattle.thy_journal.specs.Calls.{TakesItem, TakesBootStep}
@@ -137,15 +137,10 @@ boot_fits o s n booting new d t f is (Err x) took fits = record {
 pub takes_boot_step : (start : Start) (s : Value) (n : Device) (r : Result BootStep NvmError) (t : State) (d : Booting) (f : Progress) (new : Device)
     → f ≡ engine_at d.stage s.engine → IfOk r (λ a. a ≡ answer_of filling_journal d)
     → TakesStep filling_journal r (state_of start.state) n s.boot s.log new d t
-    → TakesBootStep start s n (result_of r) (record s { log = t; engine = f; boot = d }) new
-takes_boot_step start s n (Ok a) t d f new is answer took = record {
-  answer = ap answered answer;
-  steps = record { steps = took.steps; fits = took.fits; boot = tt; control = tt; err = tt; frame = took.frame; cause = took.cause };
-  others = ap (λ (x : Progress). record s { log = t; engine = x; boot = d }) is;
-}
-takes_boot_step start s n (Err x) t d f new is answer took = record {
-  answer = tt;
-  steps = record { steps = tt; fits = took.fits; boot = took.boot; control = took.control; err = took.err; frame = took.frame; cause = took.cause };
+    → TakesBootStep start s n r (record s { log = t; engine = f; boot = d }) new
+takes_boot_step start s n r t d f new is answer took = record {
+  answer = answer;
+  steps = took;
   others = ap (λ (x : Progress). record s { log = t; engine = x; boot = d }) is;
 }
 

@@ -11,10 +11,10 @@ use Rattle.thy_dram.specs.Contents.{Contents}
 use Rattle.thy_isa.specs.Step.{state_of}
 use Rattle.thy_record.specs.declared.engine_step.EngineStep.{EngineStep}
 use Rattle.thy_record.specs.declared.start.Start.{Start}
+use Rattle.thy_view.specs.declared.boot_step.BootStep.{BootStep}
 use Rattle.thy_view.specs.Action.{FailsTo}
 use Rattle.thy_boot.specs.Boot.{new_boot, answer_of}
 use Rattle.thy_boot.specs.Steps.{TakesStep}
-use Rattle.thy_scheme.specs.declared.boot_step.BootStep.{BootStep}
 use Rattle.thy_log.specs.Items.{is_under_way, is_applying}
 use Rattle.thy_log.specs.Progress.{action_next}
 use Rattle.thy_log.specs.State.{new_state, entry_for, home_of, work_of}
@@ -22,7 +22,7 @@ use Rattle.thy_log.specs.Stores.{after_store, after_drain}
 use Rattle.thy_refill.specs.Filling.{filling_journal}
 use Rattle.thy_journal_laws.specs.Journal.{Journal}
 use Rattle.thy_journal_laws.specs.Taken.{taken, device_taken, step_of}
-use Rattle.thy_journal_scheme.specs.Boots.{booted, step_of as answered}
+use Rattle.thy_journal_scheme.specs.Boots.{booted}
 
 -- ---- a new journal
 
@@ -80,6 +80,6 @@ pub record TakesItem (s : Journal) (n : Device) (result : Result EngineStep NvmE
 -- the boot's stage afterwards determines the result; after a restart the engine begins to apply the journal
 pub record TakesBootStep (start : Start) (s : Journal) (n : Device) (result : Result BootStep NvmError) (t : Journal) (new : Device)
     : Type 0 where
-  pub answer : IfOk result (λ step. step ≡ answered (answer_of filling_journal t.boot))
+  pub answer : IfOk result (λ step. step ≡ answer_of filling_journal t.boot)
   pub steps : TakesStep filling_journal result (state_of start.state) n s.boot s.log new t.boot t.log
   pub others : t ≡ booted t.boot t.log s

@@ -18,7 +18,7 @@ ghost use Rattle.thy_log.specs.Items.{is_under_way, is_applying};
 ghost use Rattle.thy_journal_laws.specs.Journal.{IsOf, committed_in};
 ghost use Rattle.thy_journal_laws.specs.Stays.{StaysJournal};
 ghost use Rattle.thy_journal_laws.specs.Taken.{sealed};
-ghost use Rattle.thy_journal_scheme.specs.Boots.{Boots, IsPowered, engine_at, has_read_at, loads_at, step_of, result_of, view_at};
+ghost use Rattle.thy_journal_scheme.specs.Boots.{Boots, IsPowered, engine_at, has_read_at, loads_at, view_at};
 ghost use Rattle.thy_journal_scheme.specs.Scheme.{journal_scheme};
 ghost use Rattle.thy_journal.specs.Calls.{IsNew, LoadsWork, LoadsCommitted, StoresInBuffer, drained, TakesItem, TakesBootStep};
 
@@ -26,14 +26,15 @@ use crate::fills::Refill;
 use std::alloc::{AllocError, Global};
 use std::marker::Model;
 use thy_base::{Block, Geometry, Nvm, NvmError, Stored};
-use thy_boot::{Boot, BootStep as Booted, End, Stage};
+use thy_boot::{Boot, End, Stage};
 use thy_dram::Dram;
 use thy_isa::CpuState;
 use thy_journal_image::blocks;
 use thy_journal_scheme::{calls_keep_the_run, what_is_held_stays};
 use thy_log::{Engine, Log};
 use thy_record::{EngineStep, Start};
-use thy_scheme::{BootStep, Scheme};
+use thy_scheme::Scheme;
+use thy_view::BootStep;
 
 /// The redo journal: its log holds what was stored since the last checkpoint, and its engine writes that into the NVM
 /// while the hart waits.
@@ -82,28 +83,6 @@ fn begin_to_apply(stage: Stage, engine: &mut Engine)
     match stage {
         Stage::Over(End::Restored) => engine.apply(),
         Stage::Over(End::Loaded) | Stage::Reads(_) | Stage::Loads(_) => {}
-    }
-}
-
-/// What a step of the boot returns, as a scheme returns it.
-fn scheme_step(step: Booted) -> BootStep
-    ensures { result ≡ step_of step }
-{
-    match step {
-        Booted::Reading | Booted::Loading => BootStep::GoesOn,
-        Booted::Loaded => BootStep::Loaded,
-        Booted::Restarted(cpu, epoch) => BootStep::Restarted(cpu, epoch),
-        Booted::Refused(bad) => BootStep::Refused(bad),
-    }
-}
-
-/// The same if the NVM may have failed.
-fn scheme_result(answer: Result<Booted, NvmError>) -> Result<BootStep, NvmError>
-    ensures { result ≡ result_of answer }
-{
-    match answer {
-        Ok(step) => Ok(scheme_step(step)),
-        Err(error) => Err(error),
     }
 }
 
@@ -317,7 +296,7 @@ impl Scheme for Journal {
         self.log.sound();
         let stage = self.boot.stage();
         begin_to_apply(stage, &mut self.engine);
-        scheme_result(result)
+        result
     }
 
     fn loading(&self) -> bool

@@ -30,7 +30,7 @@ use Rattle.thy_refill.specs.Filling.{filling_journal}
 use Rattle.thy_journal_laws.specs.Journal.{Journal}
 use Rattle.thy_journal_laws.specs.Stays.{StaysJournal}
 use Rattle.thy_journal_laws.specs.Taken.{taken, device_taken, step_of, sealed}
-use Rattle.thy_journal_scheme.specs.Boots.{booted, step_of as answered}
+use Rattle.thy_journal_scheme.specs.Boots.{booted}
 use Rattle.thy_journal_scheme.specs.Scheme.{journal_scheme}
 
 -- blocks are held, and can be stored, only while the NVM is up
@@ -106,7 +106,7 @@ StepsBoot =
     (o : Origin) (s : Journal) (n : Device) (new : Device) (d : Booting) (e : State)
     → IsBooting journal_scheme o s n → Steps filling_journal o.start n s.boot s.log new d e
     → IsBoot filling_journal d → IsSoundState e
-    → BootsOn journal_scheme o (answered (answer_of filling_journal d)) s n (booted d e s) new
+    → BootsOn journal_scheme o (answer_of filling_journal d) s n (booted d e s) new
 
 -- the scheme is lawful
 abbrev pub JournalIsLawful : Type 0

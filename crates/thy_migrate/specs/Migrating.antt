@@ -8,12 +8,12 @@ use Rattle.thy_base.specs.declared.layout_version.LayoutVersion.TheVariants.{Ver
 use Rattle.thy_base.specs.Device.{block_at}
 use Rattle.thy_base.specs.Places.{slot_blocks, slot_place}
 use Rattle.thy_record.specs.Commit.{commit_of, epoch_of, version_of}
+use Rattle.thy_view.specs.declared.boot_step.BootStep.{BootStep}
+use Rattle.thy_view.specs.declared.boot_step.BootStep.TheVariants.{GoesOn}
 use Rattle.thy_view.specs.Action.{Action, WriteAt, Barrier}
 use Rattle.thy_boot.specs.declared.stage.Stage.{Stage}
 use Rattle.thy_boot.specs.declared.stage.Stage.TheVariants.{Over}
 use Rattle.thy_boot.specs.declared.stage.End.TheVariants.{Restored}
-use Rattle.thy_boot.specs.declared.stage.BootStep.{BootStep}
-use Rattle.thy_boot.specs.declared.stage.BootStep.TheVariants.{Reading}
 use Rattle.thy_boot.specs.Boot.{Booting, empty_boot, slot_read, answer_of as answer_of_boot}
 use Rattle.thy_recover.specs.Filling.{filling_dual}
 use Rattle.thy_migrate.specs.declared.migration.Migration.{Migration}
@@ -58,7 +58,7 @@ after_action p Confirm = None
 -- what a step returns: while a migration is under way, that there is more to do
 abbrev pub answer_at : Option Migration → Booting → BootStep
 answer_at None b = answer_of_boot filling_dual b
-answer_at (Some at) b = Reading
+answer_at (Some at) b = GoesOn
 
 abbrev pub answer_of : Recovering → BootStep
 answer_of r = answer_at r.migration r.boot

@@ -2,9 +2,9 @@
 ghost use Rattle.std.specs.Prelude.{◌≡◌, ◌*◌, ◌<◌, length, Some, None, IfOk, OnOk, OnErr};
 ghost use Rattle.thy_base.specs.Device.{block_at};
 ghost use Rattle.thy_base.specs.Places.{slot_blocks};
+ghost use Rattle.thy_view.specs.declared.boot_step.BootStep.TheVariants.{Restarted};
 ghost use Rattle.thy_boot.specs.declared.stage.Stage.TheVariants.{Over};
 ghost use Rattle.thy_boot.specs.declared.stage.End.TheVariants.{Restored};
-ghost use Rattle.thy_boot.specs.declared.stage.BootStep.TheVariants.{Restarted};
 ghost use Rattle.thy_boot.specs.Boot.{IsBoot, slot_read};
 ghost use Rattle.thy_boot.specs.Loads.{Takes};
 ghost use Rattle.thy_isa.specs.Step.{state_of};
@@ -19,10 +19,11 @@ use crate::migration::Migration;
 use std::alloc::{AllocError, Global};
 use std::marker::Model;
 use thy_base::{Block, Geometry, LayoutVersion, Nvm, NvmError, word};
-use thy_boot::{Boot, BootStep, End, Stage};
+use thy_boot::{Boot, End, Stage};
 use thy_control::Control;
 use thy_record::{Start, commit_block, version_of};
 use thy_recover::{cpu_of_slot, slot_block};
+use thy_view::BootStep;
 
 /// A boot, and what its migration does next, if one is under way.
 #[derive(Drop)]
@@ -105,7 +106,7 @@ impl Recovery {
     }
 
     /// Takes one action of the NVM: the boot's next, or, while it migrates, the migration's. The boot's end is that of the
-    /// migration, if there is one: until then a step returns `Reading`. If the NVM failed, boot, migration and controller
+    /// migration, if there is one: until then a step returns `GoesOn`. If the NVM failed, boot, migration and controller
     /// are as before.
     pub fn step<N: Nvm>(
         &mut self,
@@ -143,7 +144,7 @@ impl Recovery {
         self.migration = begun(self.boot.stage(), self.boot.commit());
         match self.migration {
             None => Ok(answer),
-            Some(_) => Ok(BootStep::Reading),
+            Some(_) => Ok(BootStep::GoesOn),
         }
     }
 
@@ -161,7 +162,7 @@ impl Recovery {
         self.migration = next_after(self.boot.geometry(), at);
         match self.migration {
             None => Ok(self.restarted()),
-            Some(_) => Ok(BootStep::Reading),
+            Some(_) => Ok(BootStep::GoesOn),
         }
     }
 

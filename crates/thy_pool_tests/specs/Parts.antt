@@ -7,8 +7,8 @@ use Rattle.thy_base.specs.Places.{dram_blocks}
 use Rattle.thy_dram.specs.Contents.{Contents}
 use Rattle.thy_isa.specs.declared.state.Status.TheVariants.{Running}
 use Rattle.thy_isa.specs.Step.{State as Plain}
-use Rattle.thy_boot.specs.declared.stage.BootStep.{BootStep}
-use Rattle.thy_boot.specs.declared.stage.BootStep.TheVariants.{Reading, Loading}
+use Rattle.thy_view.specs.declared.boot_step.BootStep.{BootStep}
+use Rattle.thy_view.specs.declared.boot_step.BootStep.TheVariants.{GoesOn}
 use Rattle.thy_boot.specs.Boot.{Booting, IsBoot}
 use Rattle.thy_boot.specs.Start.{CanStart}
 use Rattle.thy_boot.specs.Steps.{CanStep}
@@ -55,8 +55,7 @@ pub record Boots (s : Plain) (n : Device) (b : Booting) (c : State) : Type 0 whe
 
 -- what was returned says that it continues
 abbrev pub goes_on : BootStep → Bool
-goes_on Reading = true
-goes_on Loading = true
+goes_on GoesOn = true
 goes_on told = false
 
 -- a start of the least memory, whose registers are zero

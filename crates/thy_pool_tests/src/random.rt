@@ -10,9 +10,9 @@ use crate::support::parts::{Booted, Off, Parts, cpu_at};
 use std::alloc::Global;
 use std::process::Abort;
 use thy_base::{Block, Bytes, Lcg, Parameters, SchemeName};
-use thy_boot::BootStep;
 use thy_isa::{CpuState, MachState, Regs, Status};
 use thy_record::{EngineStep, Start};
+use thy_view::BootStep;
 
 /// How many frames there are.
 const FRAMES: usize = 8;

@@ -8,17 +8,15 @@ use Rattle.thy_isa.specs.declared.state.CpuState.{CpuState}
 use Rattle.thy_isa.specs.OnBlocks.{state_from}
 use Rattle.thy_isa.specs.Step.{cpu_of}
 use Rattle.thy_record.specs.Cpu.{IsRecordable}
-use Rattle.thy_view.specs.declared.did.Did.{Did}
-use Rattle.thy_view.specs.declared.did.Did.TheVariants.{Boot, Loaded, Restarted, Refused}
+use Rattle.thy_view.specs.declared.boot_step.BootStep.{BootStep}
+use Rattle.thy_view.specs.declared.boot_step.BootStep.TheVariants.{GoesOn, Loaded, Restarted, Refused}
 use Rattle.thy_view.specs.declared.view.View.{View}
 use Rattle.thy_view.specs.Action.{ActsBy, ActionFailedBy, doubt_after_fault}
-use Rattle.thy_view.specs.Booting.{boot_view, loading_view}
+use Rattle.thy_view.specs.Booting.{boot_view, loading_view, boot_did}
 use Rattle.thy_view.specs.CoreStep.{BootsTo}
 use Rattle.thy_view.specs.Dram.{ActsOnDram}
 use Rattle.thy_view.specs.Origin.{Origin, at}
 use Rattle.thy_view.specs.Safe.{ceiling, Safe}
-use Rattle.thy_scheme.specs.declared.boot_step.BootStep.{BootStep}
-use Rattle.thy_scheme.specs.declared.boot_step.BootStep.TheVariants.{GoesOn, Loaded as IsLoaded, Restarted as IsRestarted, Refused as IsRefused}
 use Rattle.thy_scheme.specs.CheckpointMarks.{only}
 use Rattle.thy_scheme.specs.Scheme.{SchemeOf}
 use Rattle.thy_scheme.specs.Calls.{queued_in}
@@ -28,13 +26,6 @@ abbrev pub IsBootView : Origin → View → Type 0
 IsBootView o v =
     ((m : Mark) × (v ≡ boot_view (Some m) None))
     ⊎ ((o.kept ≡ None) × ((v ≡ loading_view o.start.count) ⊎ (v ≡ record (loading_view o.start.count) { written = true })))
-
--- what a cycle did, by the result of the boot's step
-abbrev pub boot_did : BootStep → Did
-boot_did GoesOn = Boot
-boot_did IsLoaded = Loaded
-boot_did (IsRestarted cpu epoch) = Restarted epoch cpu.count
-boot_did (IsRefused bad) = Refused bad
 
 -- the boot is over: the checkpoint of a mark is the committed one, and memory is its
 pub record IsBooted {S : Type 0} (K : SchemeOf S) (o : Origin) (m : Mark) (cpu : CpuState) (t : S) (new : Device) : Type 0 where
@@ -60,9 +51,9 @@ pub record Restarts {S : Type 0} (K : SchemeOf S) (o : Origin) (cpu : CpuState) 
 -- by the result of the step; no image of a run is refused
 abbrev pub Answers : {S : Type 0} → SchemeOf S → Origin → BootStep → S → Device → S → Device → Type 0
 Answers K o GoesOn s n t new = K.boots o t new × BootsTo (K.boot_view o s n) (K.boot_view o t new)
-Answers K o IsLoaded s n t new = Loads K o s n t new
-Answers K o (IsRestarted cpu epoch) s n t new = Restarts K o cpu epoch s n t new
-Answers K o (IsRefused bad) s n t new = ⊥
+Answers K o Loaded s n t new = Loads K o s n t new
+Answers K o (Restarted cpu epoch) s n t new = Restarts K o cpu epoch s n t new
+Answers K o (Refused bad) s n t new = ⊥
 
 -- a step of the boot, whose first one reads the commit block; if a checkpoint was found it leaves the NVM as it was, unless
 -- the boot migrates

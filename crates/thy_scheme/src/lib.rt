@@ -7,10 +7,8 @@
 //! thy_cli.
 #![tactic(auto)]
 
-mod boot_step;
 mod scheme;
 mod scheme_store;
 
-pub use boot_step::BootStep;
 pub use scheme::Scheme;
 pub use scheme_store::SchemeStore;

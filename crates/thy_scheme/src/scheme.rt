@@ -13,12 +13,12 @@ ghost use Rattle.thy_scheme.specs.Calls.{IsOneAccess, Stores, Merges, Promotes, 
 ghost use Rattle.thy_scheme.specs.Boots.{BootsOn, BootFails, BootDrains};
 ghost use Rattle.thy_scheme.specs.Laws.{IsLawful};
 
-use crate::BootStep;
 use std::alloc::{AllocError, Global};
 use thy_base::{Block, Geometry, Nvm, NvmError, Stored};
 use thy_dram::Dram;
 use thy_isa::CpuState;
 use thy_record::{EngineStep, Start};
+use thy_view::BootStep;
 
 /// A scheme of checkpoints: memory over a DRAM and an NVM, of which it keeps a committed version while the next one is
 /// made. It has the boot, which finds the committed version, and the engine, which makes the next.

@@ -12,10 +12,10 @@ use Rattle.thy_dram.proofs.DrawLemmas.{length-over}
 use Rattle.thy_isa.specs.Step.{state_of}
 use Rattle.thy_record.specs.declared.engine_step.EngineStep.{EngineStep}
 use Rattle.thy_record.specs.declared.start.Start.{Start}
+use Rattle.thy_view.specs.declared.boot_step.BootStep.{BootStep}
 use Rattle.thy_view.specs.Action.{after, FailsTo}
 use Rattle.thy_view.specs.Kind.{IsDramOf}
 use Rattle.thy_view.specs.Origin.{Origin}
-use Rattle.thy_boot.specs.declared.stage.BootStep.{BootStep}
 use Rattle.thy_boot.specs.Boot.{Booting, answer_of}
 use Rattle.thy_boot.specs.Steps.{TakesStep}
 use Rattle.thy_boot.proofs.StepMoveLemmas.{steps_move}
@@ -32,7 +32,7 @@ use Rattle.thy_shadow_laws.specs.Shadow.{Shadow as Value}
 use Rattle.thy_shadow_laws.specs.Stays.{StaysShadow}
 use Rattle.thy_shadow_laws.specs.Taken.{step_of}
 use Rattle.thy_shadow_laws.proofs.AfterLemmas.{p_after}
-use Rattle.thy_shadow_scheme.specs.Boots.{booted, step_of as answered, result_of}
+use Rattle.thy_shadow_scheme.specs.Boots.{booted}
 use Rattle.thy_shadow_scheme.specs.Laws.{storeless_by, stored}
 use Rattle.thy_shadow_scheme.specs.Scheme.{shadow_scheme}
 use Rattle.thy_shadow_scheme.proofs.StayLemmas.{same-stays}
@@ -198,25 +198,8 @@ boot_fits o s n booting new d t (Err x) took fits = record { same_p = ap (λ (l 
 
 pub takes_boot_step : (start : Start) (s : Value) (n : Device) (r : Result BootStep NvmError) (t : State) (d : Booting) (new : Device)
     → IfOk r (λ a. a ≡ answer_of filling_shadow d) → TakesStep filling_shadow r (state_of start.state) n s.boot s.pool new d t
-    → TakesBootStep start s n (result_of r) (booted d t s) new
-takes_boot_step start s n (Ok a) t d new answer took = record {
-  answer = ap answered answer;
-  steps = record { steps = took.steps; fits = took.fits; boot = tt; control = tt; err = tt; frame = took.frame; cause = took.cause };
-  others = refl;
-}
-takes_boot_step start s n (Err x) t d new answer took = record {
-  answer = tt;
-  steps = record {
-    steps = tt;
-    fits = took.fits;
-    boot = took.boot;
-    control = took.control;
-    err = took.err;
-    frame = took.frame;
-    cause = took.cause;
-  };
-  others = refl;
-}
+    → TakesBootStep start s n r (booted d t s) new
+takes_boot_step start s n r t d new answer took = record { answer = answer; steps = took; others = refl }
 
 -- ---- a loss of power
 

@@ -11,10 +11,10 @@ use Rattle.thy_dram.specs.Contents.{Contents}
 use Rattle.thy_isa.specs.Step.{state_of}
 use Rattle.thy_record.specs.declared.engine_step.EngineStep.{EngineStep}
 use Rattle.thy_record.specs.declared.start.Start.{Start}
+use Rattle.thy_view.specs.declared.boot_step.BootStep.{BootStep}
 use Rattle.thy_view.specs.Action.{FailsTo}
 use Rattle.thy_boot.specs.Boot.{new_boot, answer_of}
 use Rattle.thy_boot.specs.Steps.{TakesStep}
-use Rattle.thy_scheme.specs.declared.boot_step.BootStep.{BootStep}
 use Rattle.thy_pool.specs.Items.{is_under_way}
 use Rattle.thy_pool.specs.Progress.{action_next}
 use Rattle.thy_pool.specs.State.{frame_of, committed_of, work_of}
@@ -22,7 +22,7 @@ use Rattle.thy_pool.specs.Stores.{after_drain, new_state, store_action, store_ca
 use Rattle.thy_repool.specs.Filling.{filling_shadow}
 use Rattle.thy_shadow_laws.specs.Shadow.{Shadow}
 use Rattle.thy_shadow_laws.specs.Taken.{taken, device_taken, step_of}
-use Rattle.thy_shadow_scheme.specs.Boots.{booted, step_of as answered}
+use Rattle.thy_shadow_scheme.specs.Boots.{booted}
 use Rattle.thy_shadow_scheme.specs.Laws.{storeless_by, stored}
 
 -- ---- a new one
@@ -84,6 +84,6 @@ pub record TakesItem (s : Shadow) (n : Device) (result : Result EngineStep NvmEr
 -- the boot's stage afterwards determines the result
 pub record TakesBootStep (start : Start) (s : Shadow) (n : Device) (result : Result BootStep NvmError) (t : Shadow) (new : Device)
     : Type 0 where
-  pub answer : IfOk result (λ step. step ≡ answered (answer_of filling_shadow t.boot))
+  pub answer : IfOk result (λ step. step ≡ answer_of filling_shadow t.boot)
   pub steps : TakesStep filling_shadow result (state_of start.state) n s.boot s.pool new t.boot t.pool
   pub others : t ≡ booted t.boot t.pool s

@@ -18,7 +18,7 @@ ghost use Rattle.thy_pool.specs.Items.{is_under_way};
 ghost use Rattle.thy_shadow_laws.specs.Shadow.{IsOf};
 ghost use Rattle.thy_shadow_laws.specs.Stays.{StaysShadow};
 ghost use Rattle.thy_shadow_laws.specs.Taken.{sealed};
-ghost use Rattle.thy_shadow_scheme.specs.Boots.{Boots, IsPowered, has_read_at, loads_at, step_of, result_of, view_at};
+ghost use Rattle.thy_shadow_scheme.specs.Boots.{Boots, IsPowered, has_read_at, loads_at, view_at};
 ghost use Rattle.thy_shadow_scheme.specs.Scheme.{shadow_scheme};
 ghost use Rattle.thy_shadow.specs.Calls.{IsNew, LoadsWork, LoadsCommitted, StoresInFrame, storeless_of, drained, TakesItem, TakesBootStep};
 
@@ -26,14 +26,15 @@ use crate::fills::Relist;
 use std::alloc::{AllocError, Global};
 use std::marker::Model;
 use thy_base::{Block, Geometry, Nvm, NvmError, Stored};
-use thy_boot::{Boot, BootStep as Booted, Stage};
+use thy_boot::{Boot, Stage};
 use thy_dram::Dram;
 use thy_isa::CpuState;
 use thy_pool::{Engine, Pool};
 use thy_record::{EngineStep, Start};
-use thy_scheme::{BootStep, Scheme};
+use thy_scheme::Scheme;
 use thy_shadow_image::blocks;
 use thy_shadow_scheme::{calls_keep_the_run, what_is_held_stays};
+use thy_view::BootStep;
 
 /// Shadow paging: its pool holds in frames the pages that were stored to since the last checkpoint, and its engine
 /// writes these into the NVM while the hart waits.
@@ -84,28 +85,6 @@ fn storeless_after(answer: &Result<Stored, NvmError>, storeless: bool) -> bool
     match answer {
         Ok(Stored::Done) => false,
         Ok(Stored::CopyFirst) | Err(_) => storeless,
-    }
-}
-
-/// What a step of the boot returns, as a scheme returns it.
-fn scheme_step(step: Booted) -> BootStep
-    ensures { result ≡ step_of step }
-{
-    match step {
-        Booted::Reading | Booted::Loading => BootStep::GoesOn,
-        Booted::Loaded => BootStep::Loaded,
-        Booted::Restarted(cpu, epoch) => BootStep::Restarted(cpu, epoch),
-        Booted::Refused(bad) => BootStep::Refused(bad),
-    }
-}
-
-/// The same if the NVM may have failed.
-fn scheme_result(answer: Result<Booted, NvmError>) -> Result<BootStep, NvmError>
-    ensures { result ≡ result_of answer }
-{
-    match answer {
-        Ok(step) => Ok(scheme_step(step)),
-        Err(error) => Err(error),
     }
 }
 
@@ -313,7 +292,7 @@ impl Scheme for Shadow {
     {
         let result = self.boot.step::<Relist, N>(&mut self.pool, start, nvm);
         self.pool.sound();
-        scheme_result(result)
+        result
     }
 
     fn loading(&self) -> bool

@@ -4,7 +4,7 @@ use Rattle.thy_base.specs.declared.block.Block.{Block}
 use Rattle.thy_base.specs.declared.config.Parameters.{Parameters}
 use Rattle.thy_base.specs.declared.mark.Mark.{Mark}
 use Rattle.thy_base.specs.declared.nvm.NvmError.{NvmError}
-use Rattle.thy_base.specs.Device.{Device, HasFailed, IsFramed, CountsFault}
+use Rattle.thy_base.specs.Device.{Device, HasFailed, IsFramed}
 use Rattle.thy_base.specs.Marks.{mark}
 use Rattle.thy_crash.specs.Saved.{Kept}
 use Rattle.thy_dram.specs.Contents.{Contents}
@@ -15,10 +15,10 @@ use Rattle.thy_record.specs.declared.bad_image.BadImage.{BadImage}
 use Rattle.thy_record.specs.declared.start.Start.{Start}
 use Rattle.thy_record.specs.Commit.{epoch_of}
 use Rattle.thy_record.specs.Cpu.{cpu_of_record}
-use Rattle.thy_view.specs.declared.did.Did.{Did}
+use Rattle.thy_view.specs.declared.boot_step.BootStep.{BootStep}
 use Rattle.thy_view.specs.declared.view.View.{View}
-use Rattle.thy_view.specs.Action.{Action, FailsTo, Asks, Acts, doubt_after_fault}
-use Rattle.thy_view.specs.Booting.{boot_view, loading_view}
+use Rattle.thy_view.specs.Action.{Action, FailsTo, Acts, doubt_after_fault}
+use Rattle.thy_view.specs.Booting.{boot_view, loading_view, boot_did}
 use Rattle.thy_view.specs.CoreStep.{BootsTo, CoreStep}
 use Rattle.thy_view.specs.Dram.{ActsOnDram}
 use Rattle.thy_view.specs.Origin.{Origin, Begins, at}
@@ -30,15 +30,13 @@ use Rattle.thy_boot.specs.declared.stage.Stage.TheVariants.{Reads, Loads as Load
 use Rattle.thy_boot.specs.declared.stage.ReadStage.TheVariants.{Unread, Header as ReadsHeader, Slot as ReadsSlot, Fills, Refusing}
 use Rattle.thy_boot.specs.declared.stage.End.TheVariants.{Restored, Loaded}
 use Rattle.thy_boot.specs.declared.stage.Issue.TheVariants.{Home, Slot, Header, Settle, Commit, Confirm}
-use Rattle.thy_boot.specs.declared.stage.BootStep.{BootStep}
-use Rattle.thy_boot.specs.declared.stage.BootStep.TheVariants.{Reading, Loading as IsLoading, Loaded as HasLoaded, Restarted, Refused}
 use Rattle.thy_boot.specs.Boot.{Booting, IsBoot, slot_read, answer_at, answer_of}
 use Rattle.thy_boot.specs.Filling.{First}
 use Rattle.thy_boot.specs.Laws.{IsGoing, IsMoved, failed_answer}
 use Rattle.thy_boot.specs.Left.{boot_left}
 use Rattle.thy_boot.specs.Loads.{issue_action}
 use Rattle.thy_boot.specs.Recovers.{IsRestored}
-use Rattle.thy_boot.specs.Shows.{seen_at, did_of}
+use Rattle.thy_boot.specs.Shows.{seen_at}
 use Rattle.thy_boot.specs.Sound.{BootImages, first_of, standing_in_boot, images_after, IsRecovering, IsSoundAt, IsLoaded as IsLoadedBoot}
 use Rattle.thy_boot.specs.Steps.{CanStep, Steps, StepsAt, action_at, action_of, Fails, TakesStep}
 use Rattle.thy_boot.proofs.ActLemmas.{steps_act, found_stays, steps_fill, failures_act, steps_come_nearer}
@@ -50,8 +48,8 @@ use Rattle.thy_view.proofs.ActionLemmas.{down-after}
 use Rattle.thy_boot.proofs.SafeLemmas.{failures_move, read_failed}
 use Rattle.thy_boot.proofs.StartLemmas.{CanStart-origin}
 use Rattle.thy_boot.proofs.StepMoveLemmas.{steps_move}
-use Rattle.thy_scheme.specs.Boots.{boot_did, IsBooted, Loads, Restarts, Answers, BootsOn, BootFails}
-use Rattle.thy_scheme.specs.Scheme.{StaysOf, IsBooting, CanBoot}
+use Rattle.thy_scheme.specs.Boots.{IsBooted, Loads, Restarts, Answers, BootsOn, BootFails}
+use Rattle.thy_scheme.specs.Scheme.{IsBooting, CanBoot}
 use Rattle.thy_shadow_image.specs.Places.{image_blocks}
 use Rattle.thy_shadow_image.specs.Layout.{decode_shadow, layout_of}
 use Rattle.thy_shadow_image.specs.Slots.{slot_fault}
@@ -62,23 +60,14 @@ use Rattle.thy_repool.specs.Filling.{filling_shadow}
 use Rattle.thy_repool.proofs.LawLemmas.{pool_is_listed}
 use Rattle.thy_shadow_laws.specs.Shadow.{Shadow as Value}
 use Rattle.thy_shadow_laws.proofs.SealLemmas.{blocks_held}
-use Rattle.thy_shadow_scheme.specs.Boots.{Boots, IsUnused, booted, step_of, result_of, view_at, has_read_at}
+use Rattle.thy_shadow_scheme.specs.Boots.{Boots, IsUnused, booted, view_at, has_read_at}
 use Rattle.thy_shadow_scheme.specs.Scheme.{shadow_scheme}
 use Rattle.thy_shadow_scheme.proofs.BootLemmas.{view-is, loads-first}
 use Rattle.thy_shadow_scheme.proofs.CallLemmas.{after-queue}
 use Rattle.thy_shadow_scheme.proofs.EndLemmas.{restored_sound, loaded_sound}
-use Rattle.thy_shadow_scheme.proofs.StayLemmas.{of-same}
 
 no-false : false ≡ true → ⊥
 no-false e = cc
-
--- what a step returns is what a cycle did
-did-answered : (a : BootStep) → boot_did (step_of a) ≡ did_of a
-did-answered Reading = refl
-did-answered IsLoading = refl
-did-answered HasLoaded = refl
-did-answered (Restarted cpu epoch) = refl
-did-answered (Refused bad) = refl
 
 -- ---- the DRAM
 
@@ -201,7 +190,7 @@ module _ (o : Origin) (s : Value) (n : Device) (booting : IsBooting shadow_schem
   read : has_read_at d.stage ≡ true
   read = read-on b d b.stage d.stage same nearer
 
-  acts : Acts (did_of (answer_of filling_shadow d)) n new
+  acts : Acts (boot_did (answer_of filling_shadow d)) n new
   acts = steps_act filling_shadow pool_is_listed o.start n b s.pool new d e steps
 
   up : new.down ≡ false
@@ -258,7 +247,7 @@ module _ (o : Origin) (s : Value) (n : Device) (booting : IsBooting shadow_schem
 
   loaded : d.stage ≡ Over Loaded → Loads shadow_scheme o s n t new
   loaded is =
-      let shows = subst (λ (x : Stage). CoreStep o v (did_of (answer_at filling_shadow x d)) (seen_at o g.kept x)) is moved.shows in
+      let shows = subst (λ (x : Stage). CoreStep o v (boot_did (answer_at filling_shadow x d)) (seen_at o g.kept x)) is moved.shows in
       let was : WasLoading o g n b s.pool b.stage = was-loading o g n b s.pool b.stage boots.going shows.written boots.sound.keeps in
       let keeps : IsKeeping o (layout_of o) (standing_in_boot o (Over Loaded) h new)
       = subst (λ (x : Stage). IsKeeping o (layout_of o) (standing_in_boot o x h new)) is moved.sound.keeps in
@@ -285,7 +274,7 @@ module _ (o : Origin) (s : Value) (n : Device) (booting : IsBooting shadow_schem
       let epoch : ℕ = epoch_of d.commit in
       let slot : List Block = slot_read filling_shadow d in
       let cpu : CpuState = cpu_of_record d.p slot in
-      let shows = subst (λ (x : Stage). CoreStep o v (did_of (answer_at filling_shadow x d)) (seen_at o g.kept x)) is moved.shows in
+      let shows = subst (λ (x : Stage). CoreStep o v (boot_did (answer_at filling_shadow x d)) (seen_at o g.kept x)) is moved.shows in
       let r = restored_is_kept filling_shadow pool_is_listed o h new d e moved.sound is in
       let m : Mark = r.0 in
       let keeps : Keeps o (layout_of o) new (Kept h.before) (Some m) None = r.3 in
@@ -320,8 +309,8 @@ module _ (o : Origin) (s : Value) (n : Device) (booting : IsBooting shadow_schem
 
   -- ---- by the result
 
-  answers-at : (q : Stage) → d.stage ≡ q → CoreStep o v (did_of (answer_at filling_shadow q d)) (seen_at o g.kept q)
-      → Answers shadow_scheme o (step_of (answer_at filling_shadow q d)) s n t new
+  answers-at : (q : Stage) → d.stage ≡ q → CoreStep o v (boot_did (answer_at filling_shadow q d)) (seen_at o g.kept q)
+      → Answers shadow_scheme o (answer_at filling_shadow q d) s n t new
   answers-at (Reads Unread) is shows = goes-on (Reads Unread) is tt shows.1
   answers-at (Reads ReadsHeader) is shows = goes-on (Reads ReadsHeader) is tt shows.1
   answers-at (Reads (ReadsSlot next)) is shows = goes-on (Reads (ReadsSlot next)) is tt shows.1
@@ -343,10 +332,10 @@ module _ (o : Origin) (s : Value) (n : Device) (booting : IsBooting shadow_schem
       )
   queue-by (Over end) l = absurd l
 
-  pub boots_on : BootsOn shadow_scheme o (step_of (answer_of filling_shadow d)) s n t new
+  pub boots_on : BootsOn shadow_scheme o (answer_of filling_shadow d) s n t new
   boots_on = record {
     answers = answers-at d.stage refl moved.shows;
-    acts = subst (λ (x : Did). Acts x n new) (sym (did-answered (answer_of filling_shadow d))) acts;
+    acts = acts;
     dram = filled.0;
     queue = queue-by b.stage steps;
     nearer = nearer;
@@ -376,11 +365,10 @@ module _ (o : Origin) (s : Value) (n : Device) (booting : IsBooting shadow_schem
       fails framed).safe in
       let answer : BootStep = failed_answer s.boot.stage in
       record {
-        step = step_of answer;
+        step = answer;
         acted = record {
           action = action;
-          asked = subst (λ (x : Did). Asks x action) (sym (did-answered answer))
-              (failures_act filling_shadow pool_is_listed o.start s.boot s.pool n new fails);
+          asked = failures_act filling_shadow pool_is_listed o.start s.boot s.pool n new fails;
           failed = fails;
         };
         safe = subst (λ (x : View). Safe decode_shadow o x.done (doubt_after_fault action x) new) (sym (view-is o s n boots)) safe;
@@ -397,23 +385,15 @@ module _ (o : Origin) (s : Value) (n : Device) (booting : IsBooting shadow_schem
   Took r = TakesStep filling_shadow r o.start n s.boot s.pool new d e
 
   pub boots-by : (r : Result BootStep NvmError) → IfOk r (λ a. a ≡ answer_of filling_shadow d) → Took r
-      → IfOk (result_of r) (λ step. BootsOn shadow_scheme o step s n (booted d e s) new)
+      → IfOk r (λ step. BootsOn shadow_scheme o step s n (booted d e s) new)
   boots-by (Ok a) is took =
-      subst (λ (x : BootStep). BootsOn shadow_scheme o (step_of x) s n (booted d e s) new) (sym is)
+      subst (λ (x : BootStep). BootsOn shadow_scheme o x s n (booted d e s) new) (sym is)
       (boots_on o s n booting new d e took.steps boot state)
   boots-by (Err x) is took = tt
 
-  pub boot-fails-by : (r : Result BootStep NvmError) → Took r → OnErr (result_of r) (BootFails shadow_scheme o s n new)
+  pub boot-fails-by : (r : Result BootStep NvmError) → Took r → OnErr r (BootFails shadow_scheme o s n new)
   boot-fails-by (Ok a) took = tt
   boot-fails-by (Err x) took = boot_fails o s n booting new took.err took.frame
-
-pub cause-by : (r : Result BootStep NvmError) (old new : ℕ) → CountsFault r old new → CountsFault (result_of r) old new
-cause-by (Ok a) old new h = h
-cause-by (Err x) old new h = h
-
-pub of-by : (r : Result BootStep NvmError) (s t : Value) → OnErr r (t.pool ≡ s.pool) → OnErr (result_of r) (StaysOf shadow_scheme s t)
-of-by (Ok a) s t as_was = tt
-of-by (Err x) s t as_was = of-same s t as_was
 
 -- with the start of a run
 pub took-for : (o : Origin) (start : Start) → Begins o start

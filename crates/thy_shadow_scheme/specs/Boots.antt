@@ -1,8 +1,7 @@
 -- Part of the claim.
 -- The boot of a run, and what is seen of it.
-use Rattle.std.specs.Prelude.{◌≡◌, true, false, Bool, Result, Ok, Err}
+use Rattle.std.specs.Prelude.{◌≡◌, true, false, Bool}
 use Rattle.thy_base.specs.declared.config.Parameters.{Parameters}
-use Rattle.thy_base.specs.declared.nvm.NvmError.{NvmError}
 use Rattle.thy_base.specs.Device.{Device}
 use Rattle.thy_base.specs.Geometry.{IsInRange}
 use Rattle.thy_dram.specs.Contents.{Contents}
@@ -11,8 +10,6 @@ use Rattle.thy_view.specs.Booting.{loading_view, view_of_image}
 use Rattle.thy_view.specs.Kind.{IsDramOf}
 use Rattle.thy_view.specs.Origin.{Origin, IsOrigin}
 use Rattle.thy_view.specs.Safe.{ceiling}
-use Rattle.thy_boot.specs.declared.stage.BootStep.{BootStep}
-use Rattle.thy_boot.specs.declared.stage.BootStep.TheVariants.{Reading, Loading as IsLoading, Loaded as HasLoaded, Restarted, Refused}
 use Rattle.thy_boot.specs.declared.stage.Stage.{Stage}
 use Rattle.thy_boot.specs.declared.stage.Stage.TheVariants.{Reads, Loads}
 use Rattle.thy_boot.specs.declared.stage.ReadStage.TheVariants.{Unread}
@@ -20,8 +17,6 @@ use Rattle.thy_boot.specs.Boot.{Booting, IsBoot, new_boot}
 use Rattle.thy_boot.specs.Laws.{IsGoing}
 use Rattle.thy_boot.specs.Shows.{is_written}
 use Rattle.thy_boot.specs.Sound.{BootImages, IsSoundBoot as IsBootOf}
-use Rattle.thy_scheme.specs.declared.boot_step.BootStep.{BootStep as SchemeStep}
-use Rattle.thy_scheme.specs.declared.boot_step.BootStep.TheVariants.{GoesOn, Loaded as SchemeLoaded, Restarted as SchemeRestarted, Refused as SchemeRefused}
 use Rattle.thy_shadow_image.specs.Layout.{decode_shadow}
 use Rattle.thy_pool.specs.Items.{is_under_way}
 use Rattle.thy_pool.specs.Progress.{IsSoundProgress}
@@ -70,18 +65,6 @@ loads_at stage = false
 -- shadow paging after a step of the boot; with a checkpoint restored nothing is left to do
 abbrev pub booted : Booting → State → Shadow → Shadow
 booted boot pool s = record s { pool = pool; boot = boot }
-
--- what a step of the boot returns, as a scheme returns it; the same if the NVM may have failed
-abbrev pub step_of : BootStep → SchemeStep
-step_of Reading = GoesOn
-step_of IsLoading = GoesOn
-step_of HasLoaded = SchemeLoaded
-step_of (Restarted cpu epoch) = SchemeRestarted cpu epoch
-step_of (Refused bad) = SchemeRefused bad
-
-abbrev pub result_of : Result BootStep NvmError → Result SchemeStep NvmError
-result_of (Ok step) = Ok (step_of step)
-result_of (Err e) = Err e
 
 -- power has just come on
 pub record IsPowered (p : Parameters) (s : Shadow) : Type 0 where

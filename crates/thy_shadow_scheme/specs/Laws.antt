@@ -31,7 +31,7 @@ use Rattle.thy_repool.specs.Filling.{filling_shadow}
 use Rattle.thy_shadow_laws.specs.Shadow.{Shadow}
 use Rattle.thy_shadow_laws.specs.Stays.{StaysShadow}
 use Rattle.thy_shadow_laws.specs.Taken.{taken, device_taken, step_of, sealed}
-use Rattle.thy_shadow_scheme.specs.Boots.{booted, step_of as answered}
+use Rattle.thy_shadow_scheme.specs.Boots.{booted}
 use Rattle.thy_shadow_scheme.specs.Scheme.{shadow_scheme}
 
 -- blocks are held, and can be stored, only while the NVM is up
@@ -107,7 +107,7 @@ StepsBoot =
     (o : Origin) (s : Shadow) (n : Device) (new : Device) (d : Booting) (e : State)
     → IsBooting shadow_scheme o s n → Steps filling_shadow o.start n s.boot s.pool new d e
     → IsBoot filling_shadow d → IsSoundState e
-    → BootsOn shadow_scheme o (answered (answer_of filling_shadow d)) s n (booted d e s) new
+    → BootsOn shadow_scheme o (answer_of filling_shadow d) s n (booted d e s) new
 
 -- the scheme is lawful
 abbrev pub ShadowIsLawful : Type 0

@@ -5,8 +5,8 @@ use Rattle.thy_base.specs.Device.{Device}
 use Rattle.thy_dram.specs.Contents.{Contents}
 use Rattle.thy_isa.specs.Step.{State as Plain}
 use Rattle.thy_control.specs.State.{State, new_state}
-use Rattle.thy_boot.specs.declared.stage.BootStep.{BootStep}
-use Rattle.thy_boot.specs.declared.stage.BootStep.TheVariants.{Reading, Loading}
+use Rattle.thy_view.specs.declared.boot_step.BootStep.{BootStep}
+use Rattle.thy_view.specs.declared.boot_step.BootStep.TheVariants.{GoesOn}
 use Rattle.thy_boot.specs.Boot.{Booting, IsBoot}
 use Rattle.thy_boot.specs.Steps.{CanStep}
 use Rattle.thy_isa.specs.declared.state.Status.TheVariants.{Running}
@@ -35,8 +35,7 @@ pub record IsLeastStart (s : Plain) : Type 0 where
 
 -- what was returned says that it continues
 abbrev pub goes_on : BootStep → Bool
-goes_on Reading = true
-goes_on Loading = true
+goes_on GoesOn = true
 goes_on told = false
 
 -- a controller is a new one of a geometry

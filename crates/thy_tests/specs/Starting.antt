@@ -7,8 +7,8 @@ use Rattle.thy_base.specs.Places.{image_blocks, dram_blocks}
 use Rattle.thy_control.specs.State.{State}
 use Rattle.thy_dram.specs.Contents.{Contents}
 use Rattle.thy_isa.specs.Step.{State as Plain}
-use Rattle.thy_boot.specs.declared.stage.BootStep.{BootStep}
-use Rattle.thy_boot.specs.declared.stage.BootStep.TheVariants.{Refused}
+use Rattle.thy_view.specs.declared.boot_step.BootStep.{BootStep}
+use Rattle.thy_view.specs.declared.boot_step.BootStep.TheVariants.{Refused}
 use Rattle.thy_boot.specs.Boot.{Booting}
 use Rattle.thy_tests.specs.Beside.{all}
 use Rattle.thy_tests.specs.Boots.{Boots}

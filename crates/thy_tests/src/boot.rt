@@ -10,13 +10,14 @@ use crate::support::starting::{has_least_memory, new_boot};
 use std::alloc::Global;
 use std::process::Abort;
 use thy_base::{Block, Bytes, Geometry, Nvm, Parameters, SchemeName, Shape};
-use thy_boot::{Boot, BootStep, a_boot_may_go_on};
+use thy_boot::{Boot, End, Issue, Stage, a_boot_may_go_on};
 use thy_control::Control;
 use thy_dram::Dram;
 use thy_isa::{CpuState, MachState, Regs, Status};
 use thy_migrate::DualFills;
 use thy_nvm::MemNvm;
 use thy_record::Start;
+use thy_view::BootStep;
 
 /// The least memory: seven pages of the program and one of the console.
 fn least() -> Parameters
@@ -113,7 +114,7 @@ fn steps<N: Nvm>(
     for taken in 1..most {
         let told = step(rt, boot, control, start, nvm);
         match told {
-            BootStep::Reading | BootStep::Loading => {}
+            BootStep::GoesOn => {}
             BootStep::Loaded | BootStep::Restarted(_, _) | BootStep::Refused(_) => {
                 return (taken, told);
             }
@@ -122,8 +123,8 @@ fn steps<N: Nvm>(
     (most, step(rt, boot, control, start, nvm))
 }
 
-/// Boots a machine whose power came on, and returns how many steps that took, what the last one returned, and which blocks
-/// a load then gives: the first one of memory, and two of the console.
+/// Boots a machine whose power came on, and returns how many steps that took, what the last one returned, the boot's
+/// stage after it, and which blocks a load then gives: the first one of memory, and two of the console.
 fn boot<N: Nvm>(rt: &impl Abort, alloc: Global, nvm: &mut N, most: u64) -> Booted
     requires some { 1 ≤ most }
     requires ready { IsReady (N.device nvm.old) }
@@ -139,6 +140,7 @@ fn boot<N: Nvm>(rt: &impl Abort, alloc: Global, nvm: &mut N, most: u64) -> Boote
     Booted {
         taken,
         told,
+        stage: boot.stage(),
         first: control.load(0, nvm).expect(rt, "a load"),
         console: control.load(448, nvm).expect(rt, "a load"),
         behind: control.load(449, nvm).expect(rt, "a load"),
@@ -150,18 +152,20 @@ fn boot<N: Nvm>(rt: &impl Abort, alloc: Global, nvm: &mut N, most: u64) -> Boote
 struct Booted {
     taken: u64,
     told: BootStep,
+    stage: Stage,
     first: Block,
     console: Block,
     behind: Block,
 }
 
-/// Its result once memory is the start's.
-fn with_start(taken: u64, told: BootStep) -> Booted {
+/// Its result once it is over, and memory is the start's.
+fn with_start(taken: u64, told: BootStep, end: End) -> Booted {
     let mut behind = Block::ZERO;
     behind.put(0, &[33; 6]);
     Booted {
         taken,
         told,
+        stage: Stage::Over(end),
         first: Block([7; 64]),
         console: Block([33; 64]),
         behind,
@@ -196,12 +200,15 @@ fn a_start_is_loaded_and_found_again(rt: HostRuntime) {
     };
     nvm.fit(alloc, &shape, Vec::new(alloc))
         .expect(&rt, "a device");
-    expect(&rt, boot(&rt, alloc, &mut nvm, 524).told, BootStep::Loading);
+    let loading = boot(&rt, alloc, &mut nvm, 524);
+    expect(&rt, loading.told, BootStep::GoesOn);
+    expect(&rt, loading.stage, Stage::Loads(Issue::Confirm));
     nvm.cut(7);
     let loaded = boot(&rt, alloc, &mut nvm, 1000);
-    expect(&rt, loaded, with_start(525, BootStep::Loaded));
+    let ended = with_start(525, BootStep::Loaded, End::Loaded);
+    expect(&rt, loaded, ended);
     nvm.cut(8);
     let found = boot(&rt, alloc, &mut nvm, 1000);
     let restarted = BootStep::Restarted(processor(), 0);
-    expect(&rt, found, with_start(10, restarted));
+    expect(&rt, found, with_start(10, restarted, End::Restored));
 }

@@ -11,9 +11,9 @@ use crate::support::starting::{Off, Starting, Taken};
 use std::alloc::Global;
 use std::process::Abort;
 use thy_base::{Block, Bytes, Parameters, SchemeName, Stored};
-use thy_boot::BootStep;
 use thy_isa::{MachState, Regs, Status};
 use thy_record::{EngineStep, Start};
+use thy_view::BootStep;
 
 /// The least memory: seven pages of the program and one of the console. A page is stored to densely by more than 22 stores
 /// of an epoch, and seldom by fewer than 16.

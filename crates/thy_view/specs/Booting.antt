@@ -1,8 +1,12 @@
 -- Part of the claim.
--- What is seen of a machine that boots.
+-- What is seen of a machine that boots, and what its steps do.
 use Rattle.std.specs.Prelude.{ℕ, false, Option, Some, None}
 use Rattle.thy_base.specs.declared.mark.Mark.{Mark}
 use Rattle.thy_record.specs.Decoded.{Decoded, Nothing, Refused, At}
+use Rattle.thy_view.specs.declared.boot_step.BootStep.{BootStep}
+use Rattle.thy_view.specs.declared.boot_step.BootStep.TheVariants.{GoesOn, Loaded, Restarted, Refused as IsRefused}
+use Rattle.thy_view.specs.declared.did.Did.{Did}
+use Rattle.thy_view.specs.declared.did.Did.TheVariants.{Boot as DidBoot, Loaded as DidLoad, Restarted as DidRestart, Refused as DidRefuse}
 use Rattle.thy_view.specs.declared.view.Phase.TheVariants.{Boot}
 use Rattle.thy_view.specs.declared.view.View.{View}
 use Rattle.thy_view.specs.Origin.{Origin}
@@ -41,3 +45,10 @@ found_first o (Some m) = At m.epoch o.start
 -- the view with which a run begins
 abbrev pub first_view : Origin → View
 first_view o = view_of_image o.start.count (found_first o o.kept)
+
+-- what a cycle did that was a step of the boot, by what the step reports
+abbrev pub boot_did : BootStep → Did
+boot_did GoesOn = DidBoot
+boot_did Loaded = DidLoad
+boot_did (Restarted cpu epoch) = DidRestart epoch cpu.count
+boot_did (IsRefused bad) = DidRefuse bad

@@ -1,17 +1,19 @@
-//! The machine as it is seen from above: what a cycle did, the view that it changes, and the trait of machines,
-//! `Computer`. Its definitions say which changes are steps, and what a power cut may leave at each of them. The laws
-//! of runs and the top call depend only on `Computer`.
+//! The machine as it is seen from above: what a cycle did, what a step of the boot reports, the view that a cycle
+//! changes, and the trait of machines, `Computer`. Its definitions say which changes are steps, and what a power cut
+//! may leave at each of them. The laws of runs and the top call depend only on `Computer`.
 //!
 //! Open specs/Kind.antt first, then specs/CoreStep.antt, and src/computer.rt. It stands on thy_base, thy_flat, thy_isa,
 //! thy_dram and thy_record; on it stand thy_scheme, thy_protocol, thy_run and what is above them.
 #![tactic(auto)]
 
+mod boot_step;
 mod computer;
 mod did;
 mod error;
 mod laws;
 mod view;
 
+pub use boot_step::BootStep;
 pub use computer::Computer;
 pub use did::{Did, Stall, Stepped};
 pub use error::CoreError;

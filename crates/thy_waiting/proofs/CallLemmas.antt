@@ -7,8 +7,8 @@ use Rattle.thy_base.proofs.BasicLemmas.{OnErr-of}
 use Rattle.thy_isa.specs.declared.state.CpuState.{CpuState}
 use Rattle.thy_record.specs.declared.engine_step.EngineStep.{EngineStep}
 use Rattle.thy_record.specs.declared.engine_step.EngineStep.TheVariants.{Barrier}
+use Rattle.thy_view.specs.declared.boot_step.BootStep.{BootStep}
 use Rattle.thy_view.specs.Origin.{Origin}
-use Rattle.thy_scheme.specs.declared.boot_step.BootStep.{BootStep}
 use Rattle.thy_scheme.specs.Boots.{BootsOn, BootFails}
 use Rattle.thy_scheme.specs.Calls.{Merges, Promotes, Drains, Seals, Engines, EngineFails}
 use Rattle.thy_scheme.specs.CheckpointMarks.{CheckpointMarks}

@@ -10,7 +10,7 @@ use Rattle.thy_dram.specs.Contents.{Contents}
 use Rattle.thy_record.specs.declared.engine_step.EngineStep.{EngineStep}
 use Rattle.thy_record.specs.declared.engine_step.EngineStep.TheVariants.{Barrier}
 use Rattle.thy_record.specs.declared.start.Start.{Start}
-use Rattle.thy_scheme.specs.declared.boot_step.BootStep.{BootStep}
+use Rattle.thy_view.specs.declared.boot_step.BootStep.{BootStep}
 use Rattle.thy_scheme.specs.Scheme.{SchemeOf}
 use Rattle.thy_dual_laws.specs.Dual.{Dual}
 use Rattle.thy_dual_laws.specs.Scheme.{dual_scheme}

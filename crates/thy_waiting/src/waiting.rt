@@ -30,7 +30,8 @@ use thy_dram::Dram;
 use thy_dual::DualScheme;
 use thy_isa::CpuState;
 use thy_record::{EngineStep, Start};
-use thy_scheme::{BootStep, Scheme};
+use thy_scheme::Scheme;
+use thy_view::BootStep;
 
 /// How many barriers follow a commit or a restart.
 const BARRIERS: u64 = 3;

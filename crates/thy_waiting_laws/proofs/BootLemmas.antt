@@ -3,9 +3,9 @@ use Rattle.std.proofs.Common.{◌≡◌, ℕ, ◌≤◌, refl, arith}
 use Rattle.thy_base.specs.declared.mark.Mark.{Mark}
 use Rattle.thy_base.specs.Device.{Device, drained}
 use Rattle.thy_isa.specs.declared.state.CpuState.{CpuState}
+use Rattle.thy_view.specs.declared.boot_step.BootStep.{BootStep}
+use Rattle.thy_view.specs.declared.boot_step.BootStep.TheVariants.{GoesOn, Loaded, Restarted, Refused}
 use Rattle.thy_view.specs.Origin.{Origin, IsOrigin}
-use Rattle.thy_scheme.specs.declared.boot_step.BootStep.{BootStep}
-use Rattle.thy_scheme.specs.declared.boot_step.BootStep.TheVariants.{GoesOn, Loaded, Restarted, Refused}
 use Rattle.thy_scheme.specs.Boots.{Answers, BootsOn, BootFails, BootStays, IsBooted}
 use Rattle.thy_scheme.specs.Scheme.{SchemeOf, IsBooting}
 use Rattle.thy_scheme.specs.Laws.{IsLawful, IsFound, BootsFound, BootHolds}

@@ -2,8 +2,8 @@
 use Rattle.std.specs.Prelude.{ℕ, nat_lt, Bool}
 use Rattle.thy_record.specs.declared.engine_step.EngineStep.{EngineStep}
 use Rattle.thy_record.specs.declared.engine_step.EngineStep.TheVariants.{Committed}
-use Rattle.thy_scheme.specs.declared.boot_step.BootStep.{BootStep}
-use Rattle.thy_scheme.specs.declared.boot_step.BootStep.TheVariants.{Restarted}
+use Rattle.thy_view.specs.declared.boot_step.BootStep.{BootStep}
+use Rattle.thy_view.specs.declared.boot_step.BootStep.TheVariants.{Restarted}
 
 pub record Waiting (S : Type 0) : Type 0 where
   pub below : S

@@ -14,7 +14,7 @@ use std::alloc::Global;
 use std::marker::Model;
 use std::process::Abort;
 use thy_base::{Block, Geometry, Nvm, Shape};
-use thy_boot::{Boot, BootStep, a_boot_may_go_on};
+use thy_boot::{Boot, a_boot_may_go_on};
 use thy_dram::Dram;
 use thy_isa::{CpuState, Regs, Status};
 use thy_journal::Refill;
@@ -22,6 +22,7 @@ use thy_journal_image::blocks;
 use thy_log::{Engine, Log};
 use thy_nvm::MemNvm;
 use thy_record::{EngineStep, Start};
+use thy_view::BootStep;
 
 /// Both devices while the power is off, and how many cuts are to come at most.
 #[derive(Drop)]
@@ -151,7 +152,7 @@ fn steps<N: Nvm>(
     for _ in 1..most {
         let told = step(rt, boot, log, start, nvm);
         match told {
-            BootStep::Reading | BootStep::Loading => {}
+            BootStep::GoesOn => {}
             BootStep::Loaded | BootStep::Restarted(_, _) | BootStep::Refused(_) => return told,
         }
     }
@@ -206,7 +207,7 @@ impl Off {
         match told {
             BootStep::Restarted(_, _) => engine.apply(),
             BootStep::Refused(_) => panic!(rt; "refused"),
-            BootStep::Reading | BootStep::Loading | BootStep::Loaded => {}
+            BootStep::GoesOn | BootStep::Loaded => {}
         }
         let parts = Parts {
             geometry,
@@ -216,7 +217,7 @@ impl Off {
             cuts,
         };
         match told {
-            BootStep::Reading | BootStep::Loading => Booted::Cut(parts.cut(rt, pick)),
+            BootStep::GoesOn => Booted::Cut(parts.cut(rt, pick)),
             _ => Booted::Over(parts, told),
         }
     }

@@ -14,7 +14,7 @@ use std::alloc::Global;
 use std::marker::Model;
 use std::process::Abort;
 use thy_base::{Block, Geometry, Nvm, Shape, Stored};
-use thy_boot::{Boot, BootStep, a_boot_may_go_on};
+use thy_boot::{Boot, a_boot_may_go_on};
 use thy_dram::Dram;
 use thy_isa::{CpuState, Regs, Status};
 use thy_nvm::MemNvm;
@@ -22,6 +22,7 @@ use thy_pool::{Engine, Pool};
 use thy_record::{EngineStep, Start};
 use thy_shadow::Relist;
 use thy_shadow_image::blocks;
+use thy_view::BootStep;
 
 /// Both devices while the power is off, and how many cuts are to come at most.
 #[derive(Drop)]
@@ -152,7 +153,7 @@ fn steps<N: Nvm>(
     for _ in 1..most {
         let told = step(rt, boot, pool, start, nvm);
         match told {
-            BootStep::Reading | BootStep::Loading => {}
+            BootStep::GoesOn => {}
             BootStep::Loaded | BootStep::Restarted(_, _) | BootStep::Refused(_) => return told,
         }
     }
@@ -215,7 +216,7 @@ impl Off {
             cuts,
         };
         match told {
-            BootStep::Reading | BootStep::Loading => Booted::Cut(parts.cut(rt, pick)),
+            BootStep::GoesOn => Booted::Cut(parts.cut(rt, pick)),
             _ => Booted::Over(parts, told),
         }
     }

@@ -15,12 +15,13 @@ use std::alloc::Global;
 use std::marker::Model;
 use std::process::Abort;
 use thy_base::{Geometry, Nvm, Shape};
-use thy_boot::{Boot, BootStep, Issue, Stage, a_boot_may_go_on};
+use thy_boot::{Boot, Issue, Stage, a_boot_may_go_on};
 use thy_control::Control;
 use thy_dram::Dram;
 use thy_migrate::DualFills;
 use thy_nvm::MemNvm;
 use thy_record::Start;
+use thy_view::BootStep;
 
 /// A machine whose power is off: both devices, and how many cuts are to come at most.
 #[derive(Drop)]
@@ -182,7 +183,7 @@ impl Starting {
         } = self;
         let told = step(rt, &mut boot, &mut control, &start, &mut nvm);
         match told {
-            BootStep::Reading | BootStep::Loading => Taken::Going(Starting {
+            BootStep::GoesOn => Taken::Going(Starting {
                 geometry,
                 start,
                 boot,

@@ -1,16 +1,16 @@
 use Rattle.std.proofs.Common.{sym, subst, IfOk, OnErr, Result}
 use Rattle.thy_base.specs.declared.nvm.NvmError.{NvmError}
-use Rattle.thy_base.specs.Device.{Device, CountsFault}
-use Rattle.thy_boot.specs.declared.stage.BootStep.{BootStep}
+use Rattle.thy_base.specs.Device.{Device}
+use Rattle.thy_view.specs.declared.boot_step.BootStep.{BootStep}
 use Rattle.thy_migrate.specs.Migrating.{Recovering}
 use Rattle.thy_migrate.specs.Steps.{TakesStep}
 use Rattle.thy_control.specs.State.{State}
-use Rattle.thy_scheme.specs.declared.boot_step.BootStep.{BootStep as SchemeStep}
 use Rattle.thy_scheme.specs.Boots.{BootsOn, BootFails}
 use Rattle.thy_scheme.specs.Scheme.{StaysOf, IsBooting, CanBoot}
 use Rattle.thy_dual_laws.specs.Dual.{Dual}
 use Rattle.thy_dual_laws.specs.Scheme.{dual_scheme}
-use Rattle.thy_dual_laws.proofs.BootStepLemmas.{boots-by, fails-by, fits-by, cause-by, of-by, took-for, may-step, boot-fits}
+use Rattle.thy_dual_laws.proofs.StoreLemmas.{of-failed}
+use Rattle.thy_dual_laws.proofs.BootStepLemmas.{boots-by, fails-by, fits-by, took-for, may-step, boot-fits}
 use Rattle.thy_dual.specs.Calls.{TakesBootStep}
 use Rattle.thy_dual.proofs.CallLemmas.{takes_boot_step}
 use Rattle.thy_dual.proofs.dual.DualSchemeScheme.boot_step.Goals as goal
@@ -48,9 +48,8 @@ returns-clause-ok g c = λ o begins booting.
     let e = c.step-result.ensures in
     let booting_v : IsBooting dual_scheme o v n = subst (λ (s : Dual). IsBooting dual_scheme o s n) (sym c.self.view_is) booting in
     let took : TakesStep r o.start n v.boot v.control new d t = took-for o c.args.start.now begins r n v.boot v.control new d t e.step in
-    subst (λ (s : Dual). IfOk c.scheme_result.result (λ step. BootsOn dual_scheme o step s n (record v { control = t; boot = d }) new)) c.self.view_is
-    (subst (λ (x : Result SchemeStep NvmError). IfOk x (λ step. BootsOn dual_scheme o step v n (record v { control = t; boot = d }) new)) (sym c.scheme_result.ensures)
-    (boots-by o v n booting_v new d t c.tables.ensures r e.answer took))
+    subst (λ (s : Dual). IfOk r (λ step. BootsOn dual_scheme o step s n (record v { control = t; boot = d }) new)) c.self.view_is
+    (boots-by o v n booting_v new d t c.tables.ensures r e.answer took)
 
 pub returns-clause-err : goal.returns-clause-err
 returns-clause-err g c = λ o begins booting.
@@ -62,24 +61,18 @@ returns-clause-err g c = λ o begins booting.
     let r : Result BootStep NvmError = c.step-result.result in
     let booting_v : IsBooting dual_scheme o v n = subst (λ (s : Dual). IsBooting dual_scheme o s n) (sym c.self.view_is) booting in
     let took : TakesStep r o.start n v.boot v.control new d t = took-for o c.args.start.now begins r n v.boot v.control new d t c.step-result.ensures.step in
-    subst (λ (s : Dual). OnErr c.scheme_result.result (BootFails dual_scheme o s n new)) c.self.view_is
-    (subst (λ (x : Result SchemeStep NvmError). OnErr x (BootFails dual_scheme o v n new)) (sym c.scheme_result.ensures)
-    (fails-by o v n booting_v new d t c.tables.ensures r took))
+    subst (λ (s : Dual). OnErr r (BootFails dual_scheme o s n new)) c.self.view_is
+    (fails-by o v n booting_v new d t c.tables.ensures r took)
 
 pub returns-clause-left : goal.returns-clause-left
 returns-clause-left g c =
     let v : Dual = record { control = c.self.inside.control; engine = c.self.inside.engine; storeless = c.self.inside.storeless; sealed_storeless = c.self.inside.sealed_storeless; boot = c.self.inside.boot } in
     let next : Dual = record v { control = c.step-result.new.control; boot = c.step-result.new.self } in
-    subst (λ (s : Dual). OnErr c.scheme_result.result (StaysOf dual_scheme s next)) c.self.view_is
-    (subst (λ (x : Result SchemeStep NvmError). OnErr x (StaysOf dual_scheme v next)) (sym c.scheme_result.ensures)
-    (of-by c.step-result.result v next c.step-result.ensures.step.control))
+    subst (λ (s : Dual). OnErr c.step-result.result (StaysOf dual_scheme s next)) c.self.view_is
+    (of-failed c.step-result.result v next c.step-result.ensures.step.control)
 
 pub returns-clause-cause : goal.returns-clause-cause
-returns-clause-cause g c =
-    let n : Device = g.N.Nvm.device c.args.nvm.now in
-    let new : Device = g.N.Nvm.device c.step-result.new.nvm in
-    subst (λ (x : Result SchemeStep NvmError). CountsFault x n.faults new.faults) (sym c.scheme_result.ensures)
-    (cause-by c.step-result.result n.faults new.faults c.step-result.ensures.step.cause)
+returns-clause-cause g c = c.step-result.ensures.step.cause
 
 pub returns-clause-made : goal.returns-clause-made
 returns-clause-made g c =
@@ -89,6 +82,6 @@ returns-clause-made g c =
     let d : Recovering = c.step-result.new.self in
     let t : State = c.step-result.new.control in
     let e = c.step-result.ensures in
-    subst (λ (s : Dual). TakesBootStep c.args.start.now s n c.scheme_result.result (record v { control = t; boot = d }) new) c.self.view_is
-    (subst (λ (x : Result SchemeStep NvmError). TakesBootStep c.args.start.now v n x (record v { control = t; boot = d }) new) (sym c.scheme_result.ensures)
-    (takes_boot_step c.args.start.now v n c.step-result.result t d new e.answer e.step))
+    let r : Result BootStep NvmError = c.step-result.result in
+    subst (λ (s : Dual). TakesBootStep c.args.start.now s n r (record v { control = t; boot = d }) new) c.self.view_is
+    (takes_boot_step c.args.start.now v n r t d new e.answer e.step)

@@ -1,20 +1,20 @@
 use Rattle.std.proofs.Common.{◌≡◌, sym, ◌∙◌, ap, subst, IfOk, OnErr, Result}
 use Rattle.thy_base.specs.declared.nvm.NvmError.{NvmError}
-use Rattle.thy_base.specs.Device.{Device, CountsFault}
-use Rattle.thy_boot.specs.declared.stage.BootStep.{BootStep}
+use Rattle.thy_base.specs.Device.{Device}
+use Rattle.thy_view.specs.declared.boot_step.BootStep.{BootStep}
 use Rattle.thy_boot.specs.declared.stage.Stage.{Stage}
 use Rattle.thy_boot.specs.Boot.{Booting}
 use Rattle.thy_boot.specs.Steps.{TakesStep}
-use Rattle.thy_scheme.specs.declared.boot_step.BootStep.{BootStep as SchemeStep}
 use Rattle.thy_scheme.specs.Boots.{BootsOn, BootFails}
 use Rattle.thy_scheme.specs.Scheme.{StaysOf, IsBooting, CanBoot}
 use Rattle.thy_log.specs.Progress.{Progress}
 use Rattle.thy_log.specs.State.{State}
 use Rattle.thy_refill.specs.Filling.{filling_journal}
 use Rattle.thy_journal_laws.specs.Journal.{Journal as Value}
-use Rattle.thy_journal_scheme.specs.Boots.{engine_at, result_of}
+use Rattle.thy_journal_scheme.specs.Boots.{engine_at}
 use Rattle.thy_journal_scheme.specs.Scheme.{journal_scheme}
-use Rattle.thy_journal_scheme.proofs.StepLemmas.{boots-by, boot-fails-by, cause-by, of-by, took-for, may-step}
+use Rattle.thy_journal_scheme.proofs.StayLemmas.{of-failed}
+use Rattle.thy_journal_scheme.proofs.StepLemmas.{boots-by, boot-fails-by, took-for, may-step}
 use Rattle.thy_journal.specs.Calls.{TakesBootStep}
 use Rattle.thy_journal.proofs.CallLemmas.{boot_fits, takes_boot_step}
 use Rattle.thy_journal.proofs.journal.JournalScheme.boot_step.Goals as goal
@@ -55,10 +55,9 @@ returns-clause-ok g c = λ o begins booting.
     let is : f ≡ engine_at d.stage v.engine = c.begin_to_apply.ensures ∙ ap (λ (q : Stage). engine_at q v.engine) c.stage-stage.ensures in
     let booting_v : IsBooting journal_scheme o v n = subst (λ (s : Value). IsBooting journal_scheme o s n) (sym c.self.view_is) booting in
     let took : TakesStep filling_journal r o.start n v.boot v.log new d t = took-for o c.args.start.now begins r n v.boot v.log new d t c.step-result.ensures.step in
-    subst (λ (s : Value). IfOk c.scheme_result.result (λ step. BootsOn journal_scheme o step s n (record v { log = t; engine = f; boot = d }) new)) c.self.view_is
-    (subst (λ (x : Result SchemeStep NvmError). IfOk x (λ step. BootsOn journal_scheme o step v n (record v { log = t; engine = f; boot = d }) new)) (sym c.scheme_result.ensures)
-    (subst (λ (x : Progress). IfOk (result_of r) (λ step. BootsOn journal_scheme o step v n (record v { log = t; engine = x; boot = d }) new)) (sym is)
-    (boots-by o v n booting_v new d t took.fits c.sound.ensures r c.step-result.ensures.answer took)))
+    subst (λ (s : Value). IfOk r (λ step. BootsOn journal_scheme o step s n (record v { log = t; engine = f; boot = d }) new)) c.self.view_is
+    (subst (λ (x : Progress). IfOk r (λ step. BootsOn journal_scheme o step v n (record v { log = t; engine = x; boot = d }) new)) (sym is)
+    (boots-by o v n booting_v new d t took.fits c.sound.ensures r c.step-result.ensures.answer took))
 
 pub returns-clause-err : goal.returns-clause-err
 returns-clause-err g c = λ o begins booting.
@@ -70,24 +69,18 @@ returns-clause-err g c = λ o begins booting.
     let r : Result BootStep NvmError = c.step-result.result in
     let booting_v : IsBooting journal_scheme o v n = subst (λ (s : Value). IsBooting journal_scheme o s n) (sym c.self.view_is) booting in
     let took : TakesStep filling_journal r o.start n v.boot v.log new d t = took-for o c.args.start.now begins r n v.boot v.log new d t c.step-result.ensures.step in
-    subst (λ (s : Value). OnErr c.scheme_result.result (BootFails journal_scheme o s n new)) c.self.view_is
-    (subst (λ (x : Result SchemeStep NvmError). OnErr x (BootFails journal_scheme o v n new)) (sym c.scheme_result.ensures)
-    (boot-fails-by o v n booting_v new d t took.fits c.sound.ensures r took))
+    subst (λ (s : Value). OnErr r (BootFails journal_scheme o s n new)) c.self.view_is
+    (boot-fails-by o v n booting_v new d t took.fits c.sound.ensures r took)
 
 pub returns-clause-left : goal.returns-clause-left
 returns-clause-left g c =
     let v : Value = record { log = c.self.inside.log; engine = c.self.inside.engine; storeless = c.self.inside.storeless; sealed_storeless = c.self.inside.sealed_storeless; boot = c.self.inside.boot } in
     let next : Value = record v { log = c.step-result.new.control; engine = c.begin_to_apply.new.engine; boot = c.step-result.new.self } in
-    subst (λ (s : Value). OnErr c.scheme_result.result (StaysOf journal_scheme s next)) c.self.view_is
-    (subst (λ (x : Result SchemeStep NvmError). OnErr x (StaysOf journal_scheme v next)) (sym c.scheme_result.ensures)
-    (of-by c.step-result.result v next c.step-result.ensures.step.control))
+    subst (λ (s : Value). OnErr c.step-result.result (StaysOf journal_scheme s next)) c.self.view_is
+    (of-failed c.step-result.result v next c.step-result.ensures.step.control)
 
 pub returns-clause-cause : goal.returns-clause-cause
-returns-clause-cause g c =
-    let n : Device = g.N.Nvm.device c.args.nvm.now in
-    let new : Device = g.N.Nvm.device c.step-result.new.nvm in
-    subst (λ (x : Result SchemeStep NvmError). CountsFault x n.faults new.faults) (sym c.scheme_result.ensures)
-    (cause-by c.step-result.result n.faults new.faults c.step-result.ensures.step.cause)
+returns-clause-cause g c = c.step-result.ensures.step.cause
 
 pub returns-clause-made : goal.returns-clause-made
 returns-clause-made g c =
@@ -98,6 +91,6 @@ returns-clause-made g c =
     let t : State = c.step-result.new.control in
     let f : Progress = c.begin_to_apply.new.engine in
     let is : f ≡ engine_at d.stage v.engine = c.begin_to_apply.ensures ∙ ap (λ (q : Stage). engine_at q v.engine) c.stage-stage.ensures in
-    subst (λ (s : Value). TakesBootStep c.args.start.now s n c.scheme_result.result (record v { log = t; engine = f; boot = d }) new) c.self.view_is
-    (subst (λ (x : Result SchemeStep NvmError). TakesBootStep c.args.start.now v n x (record v { log = t; engine = f; boot = d }) new) (sym c.scheme_result.ensures)
-    (takes_boot_step c.args.start.now v n c.step-result.result t d f new is c.step-result.ensures.answer c.step-result.ensures.step))
+    let r : Result BootStep NvmError = c.step-result.result in
+    subst (λ (s : Value). TakesBootStep c.args.start.now s n r (record v { log = t; engine = f; boot = d }) new) c.self.view_is
+    (takes_boot_step c.args.start.now v n r t d f new is c.step-result.ensures.answer c.step-result.ensures.step)

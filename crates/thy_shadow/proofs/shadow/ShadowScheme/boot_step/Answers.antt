@@ -1,17 +1,17 @@
 use Rattle.std.proofs.Common.{sym, subst, IfOk, OnErr, Result}
 use Rattle.thy_base.specs.declared.nvm.NvmError.{NvmError}
-use Rattle.thy_base.specs.Device.{Device, CountsFault}
-use Rattle.thy_boot.specs.declared.stage.BootStep.{BootStep}
+use Rattle.thy_base.specs.Device.{Device}
+use Rattle.thy_view.specs.declared.boot_step.BootStep.{BootStep}
 use Rattle.thy_boot.specs.Boot.{Booting}
 use Rattle.thy_boot.specs.Steps.{TakesStep}
-use Rattle.thy_scheme.specs.declared.boot_step.BootStep.{BootStep as SchemeStep}
 use Rattle.thy_scheme.specs.Boots.{BootsOn, BootFails}
 use Rattle.thy_scheme.specs.Scheme.{StaysOf, IsBooting, CanBoot}
 use Rattle.thy_pool.specs.State.{State}
 use Rattle.thy_repool.specs.Filling.{filling_shadow}
 use Rattle.thy_shadow_laws.specs.Shadow.{Shadow as Value}
 use Rattle.thy_shadow_scheme.specs.Scheme.{shadow_scheme}
-use Rattle.thy_shadow_scheme.proofs.StepLemmas.{boots-by, boot-fails-by, cause-by, of-by, took-for, may-step}
+use Rattle.thy_shadow_scheme.proofs.StayLemmas.{of-failed}
+use Rattle.thy_shadow_scheme.proofs.StepLemmas.{boots-by, boot-fails-by, took-for, may-step}
 use Rattle.thy_shadow.specs.Calls.{TakesBootStep}
 use Rattle.thy_shadow.proofs.CallLemmas.{boot_fits, takes_boot_step}
 use Rattle.thy_shadow.specs.contracts.shadow.Shadow.{the_view}
@@ -56,9 +56,8 @@ returns-clause-ok g c = λ o begins booting.
     let took : TakesStep filling_shadow r o.start n v.boot v.pool new d t
     = took-for o c.args.start.now begins r n v.boot v.pool new d t c.step-result.ensures.step in
     let next : Value = record v { pool = t; boot = d } in
-    subst (λ (s : Value). IfOk c.scheme_result.result (λ step. BootsOn shadow_scheme o step s n next new)) c.self.view_is
-    (subst (λ (x : Result SchemeStep NvmError). IfOk x (λ step. BootsOn shadow_scheme o step v n next new)) (sym c.scheme_result.ensures)
-    (boots-by o v n booting_v new d t took.fits c.sound.ensures r c.step-result.ensures.answer took))
+    subst (λ (s : Value). IfOk r (λ step. BootsOn shadow_scheme o step s n next new)) c.self.view_is
+    (boots-by o v n booting_v new d t took.fits c.sound.ensures r c.step-result.ensures.answer took)
 
 pub returns-clause-err : goal.returns-clause-err
 returns-clause-err g c = λ o begins booting.
@@ -71,24 +70,18 @@ returns-clause-err g c = λ o begins booting.
     let booting_v : IsBooting shadow_scheme o v n = subst (λ (s : Value). IsBooting shadow_scheme o s n) (sym c.self.view_is) booting in
     let took : TakesStep filling_shadow r o.start n v.boot v.pool new d t
     = took-for o c.args.start.now begins r n v.boot v.pool new d t c.step-result.ensures.step in
-    subst (λ (s : Value). OnErr c.scheme_result.result (BootFails shadow_scheme o s n new)) c.self.view_is
-    (subst (λ (x : Result SchemeStep NvmError). OnErr x (BootFails shadow_scheme o v n new)) (sym c.scheme_result.ensures)
-    (boot-fails-by o v n booting_v new d t took.fits c.sound.ensures r took))
+    subst (λ (s : Value). OnErr r (BootFails shadow_scheme o s n new)) c.self.view_is
+    (boot-fails-by o v n booting_v new d t took.fits c.sound.ensures r took)
 
 pub returns-clause-left : goal.returns-clause-left
 returns-clause-left g c =
     let v : Value = the_view c.self.inside in
     let next : Value = record v { pool = c.step-result.new.control; boot = c.step-result.new.self } in
-    subst (λ (s : Value). OnErr c.scheme_result.result (StaysOf shadow_scheme s next)) c.self.view_is
-    (subst (λ (x : Result SchemeStep NvmError). OnErr x (StaysOf shadow_scheme v next)) (sym c.scheme_result.ensures)
-    (of-by c.step-result.result v next c.step-result.ensures.step.control))
+    subst (λ (s : Value). OnErr c.step-result.result (StaysOf shadow_scheme s next)) c.self.view_is
+    (of-failed c.step-result.result v next c.step-result.ensures.step.control)
 
 pub returns-clause-cause : goal.returns-clause-cause
-returns-clause-cause g c =
-    let n : Device = g.N.Nvm.device c.args.nvm.now in
-    let new : Device = g.N.Nvm.device c.step-result.new.nvm in
-    subst (λ (x : Result SchemeStep NvmError). CountsFault x n.faults new.faults) (sym c.scheme_result.ensures)
-    (cause-by c.step-result.result n.faults new.faults c.step-result.ensures.step.cause)
+returns-clause-cause g c = c.step-result.ensures.step.cause
 
 pub returns-clause-made : goal.returns-clause-made
 returns-clause-made g c =
@@ -98,6 +91,6 @@ returns-clause-made g c =
     let d : Booting = c.step-result.new.self in
     let t : State = c.step-result.new.control in
     let next : Value = record v { pool = t; boot = d } in
-    subst (λ (s : Value). TakesBootStep c.args.start.now s n c.scheme_result.result next new) c.self.view_is
-    (subst (λ (x : Result SchemeStep NvmError). TakesBootStep c.args.start.now v n x next new) (sym c.scheme_result.ensures)
-    (takes_boot_step c.args.start.now v n c.step-result.result t d new c.step-result.ensures.answer c.step-result.ensures.step))
+    let r : Result BootStep NvmError = c.step-result.result in
+    subst (λ (s : Value). TakesBootStep c.args.start.now s n r next new) c.self.view_is
+    (takes_boot_step c.args.start.now v n r t d new c.step-result.ensures.answer c.step-result.ensures.step)
