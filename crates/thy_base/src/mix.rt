@@ -57,15 +57,35 @@ impl Mix {
     }
 }
 
+/// The actor after this one.
 fn pick_after(harts: u64, pick: Pick) -> Pick
     ensures { result ≡ after_pick harts pick }
 {
+    if harts == 1 {
+        after_of_four(pick)
+    } else {
+        after_of_five(pick)
+    }
+}
+
+/// The actor after this one, with one hart.
+fn after_of_four(pick: Pick) -> Pick
+    ensures { result ≡ after_pick 1 pick }
+{
     match pick {
-        Pick::Hart => if harts == 1 {
-            Pick::Engine
-        } else {
-            Pick::Second
-        },
+        Pick::Hart | Pick::Second => Pick::Engine,
+        Pick::Engine => Pick::NvmDrain,
+        Pick::NvmDrain => Pick::DramDrain,
+        Pick::DramDrain => Pick::Hart,
+    }
+}
+
+/// The actor after this one, with two.
+fn after_of_five(pick: Pick) -> Pick
+    ensures { result ≡ after_pick 2 pick }
+{
+    match pick {
+        Pick::Hart => Pick::Second,
         Pick::Second => Pick::Engine,
         Pick::Engine => Pick::NvmDrain,
         Pick::NvmDrain => Pick::DramDrain,

@@ -18,6 +18,7 @@ use thy_scheme::Scheme;
 use thy_view::{BootStep, Did, Phase};
 
 /// Takes one action of the boot.
+#[inline(never)]
 pub(crate) fn boot<N: Nvm, S: Scheme>(
     m: &mut MachineParts<S>,
     start: &Start,

@@ -13,6 +13,7 @@ use thy_scheme::Scheme;
 use thy_view::{Did, Phase};
 
 /// Takes one action of the checkpoint that is under way.
+#[inline(always)]
 pub(crate) fn checkpoint<N: Nvm, S: Scheme>(
     m: &mut MachineParts<S>,
     nvm: &mut N,

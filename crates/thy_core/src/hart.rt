@@ -1,5 +1,5 @@
 //! A hart's turn while nothing keeps it.
-ghost use Rattle.std.specs.Prelude.{◌≡◌, None, Some, true, if◌then◌else◌, ◌+◌, ◌<◌, ◌^◌};
+ghost use Rattle.std.specs.Prelude.{◌≡◌, ℕ, None, Some, true, ◌+◌, ◌<◌, ◌^◌};
 ghost use Rattle.thy_view.specs.Turn.{Advances};
 ghost use Rattle.thy_hart.specs.declared.hand.Hand.TheVariants.{Nothing};
 ghost use Rattle.thy_core_laws.specs.Calls.{retires_over, retires_by, ends_by, begun_by_hart, hart_did, after_hart};
@@ -35,14 +35,13 @@ pub(crate) fn execute<N: Nvm, S: Scheme>(
 
 /// Begins the instruction of this hart, which comes to the front if none was begun.
 fn begin<S>(m: &mut MachineParts<S>, hart: u8)
-    requires { m.old.begun ≡ None → m.old.hart.hand ≡ Nothing }
+    requires own { (begun : ℕ) → m.old.begun ≡ Some begun → begun ≡ hart }
+    requires hand { m.old.begun ≡ None → m.old.hart.hand ≡ Nothing }
     ensures { machine_of m.new ≡ begun_by_hart hart (machine_of m.old) }
 {
-    let begun = m.begun;
-    m.begun = Some(hart);
-    match begun {
-        None => front(m, hart),
-        Some(_) => {}
+    if m.begun.is_none() {
+        m.begun = Some(hart);
+        front(m, hart);
     }
 }
 
@@ -56,24 +55,9 @@ fn front<S>(m: &mut MachineParts<S>, hart: u8)
     }
 }
 
-/// Puts hart 0 in front again if this hart's instruction has ended by this step; else it stays begun.
-fn put_back<S>(m: &mut MachineParts<S>, hart: u8, step: HartStep)
-    requires { ends_by step ≡ true → m.old.hart.hand ≡ Nothing }
-    ensures { m.new ≡ record m.old {
-      hart = record m.old.hart { cpu = if ends_by step then cpu_fronted hart m.old.hart.cpu else m.old.hart.cpu };
-      begun = if ends_by step then None else Some hart;
-    } }
-{
-    if ends(step) {
-        front(m, hart);
-        m.begun = None;
-    } else {
-        m.begun = Some(hart);
-    }
-}
-
 /// Counts a step of this hart. Once its instruction has ended, hart 0 is in front again.
 fn count<S>(m: &mut MachineParts<S>, hart: u8, step: HartStep) -> Did
+    requires begun { m.old.begun ≡ Some hart }
     requires hand { ends_by step ≡ true → m.old.hart.hand ≡ Nothing }
     requires spent { m.old.spent + 1 < 2 ^ 64 }
     requires lap { m.old.lap + 1 < 2 ^ 64 }
@@ -81,11 +65,15 @@ fn count<S>(m: &mut MachineParts<S>, hart: u8, step: HartStep) -> Did
     ensures did { result ≡ hart_did hart step }
 {
     m.spent += 1;
-    put_back(m, hart, step);
+    if !ends(step) {
+        return Did::Moved;
+    }
+    front(m, hart);
+    m.begun = None;
     if retires(step) {
         m.lap += 1;
         m.last = Some(hart);
-        Did::Retired(hart)
+        Did::Retired(hart as u32)
     } else {
         Did::Moved
     }

@@ -14,6 +14,7 @@ use thy_scheme::Scheme;
 use thy_view::Did;
 
 /// Promotes a block of a page, or stores a dirty line, or merges a block into its page, or else seals the epoch.
+#[inline(never)]
 pub(crate) fn prepare<N: Nvm, S: Scheme>(
     m: &mut MachineParts<S>,
     nvm: &mut N,

@@ -117,6 +117,7 @@ fn hart_of<S: Scheme>(m: &MachineParts<S>, pick: Pick) -> u8
 }
 
 /// The turn of the hart that a pick comes to, unless there is a stall.
+#[inline(always)]
 fn hart_turn<S: Scheme>(m: &MachineParts<S>, pick: Pick) -> Actor
     ensures { actor_seen result ≡ hart_now S.scheme pick (machine_of m.now) }
 {
@@ -127,6 +128,7 @@ fn hart_turn<S: Scheme>(m: &MachineParts<S>, pick: Pick) -> Actor
 }
 
 /// Whose turn a pick is, with so many writes queued in the NVM: a hart's if the pick's actor has nothing to do.
+#[inline(always)]
 pub(crate) fn turn_now<S: Scheme>(m: &MachineParts<S>, pick: Pick, nvm: u64) -> Actor
     ensures { actor_seen result ≡ turn_now S.scheme pick nvm (machine_of m.now) }
 {

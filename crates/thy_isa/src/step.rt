@@ -33,6 +33,7 @@ pub fn fetch_fault(base: u64, size: u64, pc: u64) -> Option<Cause>
 /// The effect as the hart in front has it, beside the other hart if there are two: a trap if it would read or write outside
 /// memory. An atomic instruction traps as illegal with one hart, and if its address is no multiple of its width; a
 /// store-conditional fails if its bytes are not reserved.
+#[inline(always)]
 pub fn within(base: u64, size: u64, other: &Option<OtherHart>, effect: Effect) -> Effect
     ensures { result ≡ within base size other.now effect }
 {
@@ -150,6 +151,7 @@ fn serve(cpu: &mut CpuState, calls: &CallState)
 }
 
 /// Takes an effect that is not an environment call, memory aside. `number` is what was read if the effect reads.
+#[inline(always)]
 pub fn finish_alone(cpu: &mut CpuState, effect: &Effect, number: u64)
     requires count { cpu.old.count + 1 < 2 ^ 64 }
     requires alone { effect.now ≢ Environment }

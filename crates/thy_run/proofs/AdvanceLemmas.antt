@@ -13,13 +13,13 @@ use Rattle.thy_isa.specs.declared.state.Status.{Status}
 use Rattle.thy_record.specs.Decoded.{Decoded, Nothing as NothingLeft, Refused as RefusedImage, At}
 use Rattle.thy_text.specs.Event.{Event, Cut, Ended as EndedEvent}
 use Rattle.thy_view.specs.declared.did.Did.{Did}
-use Rattle.thy_view.specs.declared.did.Did.TheVariants.{Loaded, Restarted, Sealed, Committed}
+use Rattle.thy_view.specs.declared.did.Did.TheVariants.{Loaded, Restarted, Retired, Sealed, Committed}
 use Rattle.thy_view.specs.declared.did.Stepped.{Stepped}
 use Rattle.thy_view.specs.declared.view.View.{View}
 use Rattle.thy_view.specs.Booting.{view_of_image}
 use Rattle.thy_view.specs.Origin.{Begins, Origin, at}
 use Rattle.thy_view.specs.CoreStep.{CoreStep}
-use Rattle.thy_view.specs.Told.{AgreeBelow, reach, IsThere, HasTurn}
+use Rattle.thy_view.specs.Told.{AgreeBelow, reach, IsAtWork, IsThere, HasTurn}
 use Rattle.thy_view.specs.Views.{is_halt, halts, loads}
 use Rattle.thy_view.specs.Safe.{ceiling}
 use Rattle.thy_view.specs.declared.error.CoreError.{CoreError}
@@ -44,7 +44,7 @@ use Rattle.thy_run.specs.Going.{origin_of, line_of, turns_then, AreTold, last_tu
 use Rattle.thy_run.specs.Endings.{EndsWith}
 use Rattle.thy_run.specs.Promises.{EndsWithTurns, IsReady}
 use Rattle.thy_run.specs.Stopping.{stop_of}
-use Rattle.thy_base.proofs.RangeLemmas.{epoch_least}
+use Rattle.thy_base.proofs.RangeLemmas.{epoch_least, harts_most}
 use Rattle.thy_run.proofs.StepFrames.{TakesStep-framed}
 
 -- an option that is asked whether it is none
@@ -305,6 +305,7 @@ list_quiet did l h = refl
 
 -- what a step that succeeded is, along the turns that are reported once it is done
 pub record StepsAlong {M : Type 0} (K : KindOf M) (plan : Plan) (p : Progress M) (n : Device) (k : ℕ) (turns : List ℕ) (pick : Pick) (next : M) (m : Device) (r : Stepped) : Type 0 where
+  pub there : IsThere (line_of plan turns) (seen K (origin_of plan) (world_at p n k turns)) r.did
   pub agree : AgreeBelow (line_of plan turns) (turns_then plan turns r.did) (reach (seen K (origin_of plan) (world_at p n k turns)))
   pub alike : K.view (line_of plan (turns_then plan turns r.did)) p.machine n ≡ seen K (origin_of plan) (world_at p n k turns)
   pub is_step : IsStep K (line_of plan (turns_then plan turns r.did)) k pick p.machine next n m r
@@ -335,6 +336,7 @@ module _ {M : Type 0} (K : KindOf M) (laws : IsLawful K) (plan : Plan) (fitted :
       let alike : K.view (line_of plan (turns_then plan turns r.did)) p.machine n ≡ v = (laws.seen_alike (line_of plan turns) (turns_then plan turns r.did) k p.machine n at_of agree).view in
       let at_then : K.is_at (line_of plan (turns_then plan turns r.did)) k p.machine n = laws.agrees (line_of plan turns) (turns_then plan turns r.did) k p.machine n at_of agree in
       record {
+        there = there;
         agree = agree;
         alike = alike;
         is_step = (simulates (line_of plan (turns_then plan turns r.did)) k (begins_of (turns_then plan turns r.did)) at_then few).1 (subst (λ (w : View). HasTurn (line_of plan (turns_then plan turns r.did)) w r.did) (sym alike) mine);
@@ -349,6 +351,16 @@ module _ {M : Type 0} (K : KindOf M) (laws : IsLawful K) (plan : Plan) (fitted :
       let core : CoreStep (line_of plan (turns_then plan turns r.did)) v r.did after = subst (λ (w : View). CoreStep (line_of plan (turns_then plan turns r.did)) w r.did after) s.alike s.is_step.step in
       list_room (origin_of plan) turns (turns_then plan turns r.did) v after (marks_of (origin_of plan) p.events) (bytes_of p.turns) (room_of p.turns) r.did
       (good_of K plan fitted p n k turns planned g).stands.fits g.listed g.turns_room core
+
+  -- as few harts there are, its number is a byte
+  pub steps_hart : (pick : Pick) (next : M) (m : Device) (r : Stepped) → StepsAlong K plan p n k turns pick next m r
+      → (hart : ℕ) → r.did ≡ Retired hart → hart < 2 ^ 8
+  steps_hart pick next m r s hart is =
+      let v : View = seen K (origin_of plan) (world_at p n k turns) in
+      let at_work : IsAtWork (line_of plan turns) v hart = subst (IsThere (line_of plan turns) v) is s.there in
+      let few : plan.geometry.harts ≤ 2 = harts_most plan.geometry planned.origin.geometry in
+      let low : hart < plan.geometry.harts = at_work.there in
+      omega (arith, few, low)
 
   -- ---- what is made of it
 

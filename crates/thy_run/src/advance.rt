@@ -10,6 +10,7 @@ ghost use Rattle.thy_run.specs.Seeing.{Reports};
 ghost use Rattle.thy_run.specs.Sending.{sinks};
 ghost use Rattle.thy_run.specs.Watching.{CanSee};
 ghost use Rattle.thy_run.specs.World.{turns_after};
+ghost use Rattle.thy_view.specs.declared.did.Did.TheVariants.{Retired};
 
 use crate::ending::Stop;
 use crate::gather::{Readings, gather};
@@ -56,12 +57,13 @@ fn list_hart(turns: &mut Bytes, harts: u64, hart: u8)
 /// Lists the hart that retired an instruction, if there are two harts. Allocates nothing.
 #[inline(always)]
 fn list_turn(turns: &mut Bytes, harts: u64, did: Did)
-    requires { HasRoomToList harts (bytes_of turns.old) (room_of turns.old) did }
+    requires room { HasRoomToList harts (bytes_of turns.old) (room_of turns.old) did }
+    requires hart { (hart : ℕ) → did ≡ Retired hart → hart < 2 ^ 8 }
     ensures turns { bytes_of turns.new ≡ turns_after harts (bytes_of turns.old) did }
     ensures room { room_of turns.old ≤ room_of turns.new }
 {
     match did {
-        Did::Retired(hart) => list_hart(turns, harts, hart),
+        Did::Retired(hart) => list_hart(turns, harts, hart as u8),
         _ => {}
     }
 }

@@ -17,7 +17,7 @@ pub enum Did {
     /// The hart moved on within an instruction.
     Moved,
     /// An instruction was retired, by this hart, 0 or 1.
-    Retired(u8),
+    Retired(u32),
     /// A dirty cache line was stored at the epoch's end.
     Flushed,
     /// A block was merged into its page at the epoch's end.

@@ -10,8 +10,11 @@ use Rattle.thy_core.specs.MachineParts.{machine_of}
 use Rattle.thy_core.proofs.CycleLaws.{taken_err, framed_once, failed_once, kept_once, hart_rests, hart_runs, hart_ready, hart_call, hart_cycle, hart_failed, begun_back}
 use Rattle.thy_core.proofs.hart.execute.Goals as goal
 
-pub begin-requires : goal.begin-requires
-begin-requires g c =
+pub begin-requires-clause-own : goal.begin-requires-clause-own
+begin-requires-clause-own g c = c.requires.turn.own
+
+pub begin-requires-clause-hand : goal.begin-requires-clause-hand
+begin-requires-clause-hand g c =
     let take = c.requires in
     hart_rests g.S.Scheme.scheme take.o take.cycles (machine_of c.args.m.now) (g.N.Nvm.device c.args.nvm.now) take.at_moment c.args.hart take.turn
 
@@ -42,6 +45,9 @@ returns-in_err-step g c =
     (λ o cycles input at turn. hart_failed K o cycles m n at c.args.hart next new turn access failed.1
     (begun_back c.args.hart m begun next turn.own c.begin.ensures c.in_err-step.ensures.hart refl))
     failed.0.access.frame (failed.0.counted failed.1)
+
+pub count-requires-clause-begun : goal.count-requires-clause-begun
+count-requires-clause-begun g c = ap (λ (m : Machine _). m.begun) c.begin.ensures
 
 pub count-requires-clause-hand : goal.count-requires-clause-hand
 count-requires-clause-hand g c = ended-hand c.in_ok-step.step c.in_ok-step.ensures.step

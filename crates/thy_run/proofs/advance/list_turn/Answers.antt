@@ -14,7 +14,7 @@ unlisted harts turns did other = refl
 pub list_hart-requires : goal.list_hart-requires
 list_hart-requires c =
     let R : Did → Type 0 = λ did. HasRoomToList c.args.harts (bytes_of c.args.turns.now) (room_of c.args.turns.now) did in
-    subst R c.in-Retired.is c.requires
+    subst R c.in-Retired.is c.requires.room
 
 pub returns-in-Retired-clause-turns : goal.returns-in-Retired-clause-turns
 returns-in-Retired-clause-turns c =

@@ -6,7 +6,7 @@ use Rattle.thy_view.specs.Kind.{LeavesSafe}
 use Rattle.thy_run.specs.Going.{line_of, HasRoomToList}
 use Rattle.thy_run.specs.World.{turns_after}
 use Rattle.thy_run.proofs.TellLemmas.{OnErr-any}
-use Rattle.thy_run.proofs.AdvanceLemmas.{StepsAlong, progress_stepped, begins_of, at_of, can_step, steps_of, steps_room}
+use Rattle.thy_run.proofs.AdvanceLemmas.{StepsAlong, progress_stepped, begins_of, at_of, can_step, steps_of, steps_room, steps_hart}
 use Rattle.thy_run.proofs.advance.step.Goals as goal
 
 pub step-requires : goal.step-requires
@@ -14,8 +14,8 @@ step-requires g c =
     let h = c.requires.goes in
     can_step g.M.Computer.kind g.met.M.Computer.lawful c.args.plan.now h.0 c.args.progress.now (g.N.Nvm.device c.args.nvm.now) c.args.done h.1 c.requires.planned h.2 c.requires.few
 
-pub list_turn-requires : goal.list_turn-requires
-list_turn-requires g c =
+pub list_turn-requires-clause-room : goal.list_turn-requires-clause-room
+list_turn-requires-clause-room g c =
     let K = g.M.Computer.kind in
     let laws = g.met.M.Computer.lawful in
     let plan = c.args.plan.now in
@@ -28,6 +28,19 @@ list_turn-requires g c =
     let R : ℕ → Type 0 = λ harts. HasRoomToList harts (bytes_of p.turns) (room_of p.turns) c.in_ok-stepped.stepped.did in
     subst R (sym c.harts-harts.ensures.harts)
     (steps_room K laws plan h.0 p n c.args.done h.1 c.requires.planned h.2 c.next-pick.result c.step.new.self m c.in_ok-stepped.stepped s)
+
+pub list_turn-requires-clause-hart : goal.list_turn-requires-clause-hart
+list_turn-requires-clause-hart g c =
+    let K = g.M.Computer.kind in
+    let laws = g.met.M.Computer.lawful in
+    let plan = c.args.plan.now in
+    let p = c.args.progress.now in
+    let n = g.N.Nvm.device c.args.nvm.now in
+    let m = g.N.Nvm.device c.step.new.nvm in
+    let h = c.requires.goes in
+    let s = steps_of K laws plan h.0 p n c.args.done h.1 c.requires.planned h.2 c.next-pick.result c.step.new.self m c.in_ok-stepped.stepped c.requires.few
+    (λ o i begins at few. c.in_ok-stepped.ensures.steps o i begins at few) in
+    steps_hart K laws plan h.0 p n c.args.done h.1 c.requires.planned h.2 c.next-pick.result c.step.new.self m c.in_ok-stepped.stepped s
 
 pub returns-in_err-stepped-clause-stuck : goal.returns-in_err-stepped-clause-stuck
 returns-in_err-stepped-clause-stuck g c = λ fitted turns goes.
