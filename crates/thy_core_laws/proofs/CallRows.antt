@@ -1,5 +1,5 @@
 -- A merge, and a promotion, simulate the run.
-use Rattle.std.proofs.Common.{◌≡◌, ◌≢◌, ℕ, ◌+◌, ◌<◌, ◌≤◌, refl, sym, subst, arith}
+use Rattle.std.proofs.Common.{◌≡◌, ◌≢◌, ℕ, ◌+◌, ◌<◌, ◌≤◌, refl, sym, subst, inr, arith}
 use Rattle.thy_cache.specs.Contents.{dirty_count}
 use Rattle.thy_view.specs.declared.did.Did.TheVariants.{Merged, Promoted}
 use Rattle.thy_view.specs.declared.view.Phase.TheVariants.{Boot}
@@ -76,10 +76,10 @@ merge_simulates {S} K = λ o cycles m n t at sealing whole clean p.
           (omega (arith, spent, hart_left, owed, engine, promotions));
       step = (sealing.phase, refl);
       acts = record { action = Rest; asked = refl; left = refl };
-      dram = p.dram;
+      dram = inr p.writes;
       queues = omega (arith, queue);
       strides = refl;
-      done = tt;
+      done = inr p.writes;
       left = left_on K Merged m n t (m.spent + 1) n p.keeps (λ e. p.owes);
       exhausts = λ is. absurd (cc);
     })

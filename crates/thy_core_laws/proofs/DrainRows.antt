@@ -1,5 +1,5 @@
 -- Drains simulate the run, in each phase, and so do cycles that do nothing.
-use Rattle.std.proofs.Common.{◌≡◌, ◌≢◌, ℕ, ◌+◌, ◌<◌, Bool, true, false, List, [], ◌∷◌, drop, length, refl, ap, inl, inr, arith}
+use Rattle.std.proofs.Common.{◌≡◌, ◌≢◌, ℕ, ◌+◌, ◌<◌, Bool, true, false, List, [], ◌∷◌, drop, length, refl, ap, inr, arith}
 use Rattle.thy_base.specs.declared.nvm.Write.{Write}
 use Rattle.thy_base.specs.Device.{Device, drained}
 use Rattle.thy_view.specs.declared.did.Did.TheVariants.{NvmDrained, DramDrained, Nothing}
@@ -53,7 +53,7 @@ module _ {S : Type 0} (K : SchemeOf S) (o : Origin) (cycles : ℕ) (m : Machine 
         moment = sound_drained m.scheme (drained n) (holds.drained_sound some) (holds.drained_keeps some);
         step = refl;
         acts = record { action = Drain; asked = refl; left = refl };
-        dram = inl refl;
+        dram = refl;
         queues = omega (arith, drained_queue n some);
         strides = refl;
         done = tt;
@@ -105,7 +105,7 @@ halt_simulates {S} K = λ o cycles m n at phase.
       moment = sound_drained K o cycles m n at behind m.scheme n sound (keeps_itself K m.scheme n);
       step = (phase, refl);
       acts = record { action = Rest; asked = refl; left = refl };
-      dram = inl refl;
+      dram = refl;
       queues = omega arith;
       strides = refl;
       done = tt;
@@ -123,7 +123,7 @@ nvm_booting K o cycles m n at phase some =
     let small = small-boot K o cycles m n at.sound phase in
     simulates-booting K o cycles NvmDrained m n m.scheme (drained n) at phase (λ e. absurd (cc)) at.sound.up stays.boots
     (small_step o cycles (K.boot_view o m.scheme n) (K.boot_view o m.scheme (drained n)) small NvmDrained stays.view)
-    stays.view (record { action = Drain; asked = refl; left = refl }) (inl refl) (omega (arith, drained_queue n some)) (omega arith) refl
+    stays.view (record { action = Drain; asked = refl; left = refl }) refl (omega (arith, drained_queue n some)) (omega arith) refl
     tt
     (λ e. absurd (omega (arith, some, ap (λ (q : List Write). length q) e)))
     (λ found done current. absurd (omega (arith, some, ap (λ (q : List Write). length q) (holds.settled found done current))))

@@ -14,15 +14,15 @@ use Rattle.thy_view.specs.declared.did.Did.TheVariants.{Engine, Committed as Did
 use Rattle.thy_view.specs.declared.view.Phase.TheVariants.{Boot, Run, Halt}
 use Rattle.thy_view.specs.Action.{Acts}
 use Rattle.thy_view.specs.CoreStep.{phase_at, busier, CoreStep}
-use Rattle.thy_view.specs.Dram.{ActsOnDram}
+use Rattle.thy_view.specs.Dram.{ActsOnDram, WritesBlock}
 use Rattle.thy_view.specs.Origin.{Origin, at, runs_at}
 use Rattle.thy_view.specs.Turn.{has_stopped}
-use Rattle.thy_view.specs.Work.{adds_copies}
+use Rattle.thy_view.specs.Work.{adds_copies, GetsDone}
 use Rattle.thy_scheme.specs.SchemeStore.{held_by_scheme}
 use Rattle.thy_scheme.specs.Scheme.{SchemeOf}
 use Rattle.thy_scheme.specs.Calls.{queued_in, Keeps, OwesNoMore, Engines, engine_did}
 use Rattle.thy_core_laws.specs.Calls.{after_call, phase_after, after_engine}
-use Rattle.thy_core_laws.specs.Machine.{Machine, run_view, moment_of, moves_in}
+use Rattle.thy_core_laws.specs.Machine.{Machine, run_view, moment_of, moves_in, gauge_of}
 use Rattle.thy_core_laws.specs.Pace.{cycles_left, most_spent}
 use Rattle.thy_core_laws.specs.Rows.{SimulatesCycle, At, EngineSimulates}
 use Rattle.thy_core_laws.specs.Sound.{epochs_ahead, SoundRun}
@@ -67,12 +67,16 @@ module _ {S : Type 0} (K : SchemeOf S) (o : Origin) (cycles : ℕ) (m : Machine 
       let nearer = e.nearer in
       omega (arith, spent, least, owed, promotions, nearer)
 
+  -- that the step did what it tells
+  abbrev HasDone : EngineStep → Type 0
+  HasDone step = GetsDone (Engine step) (gauge_of K m n) (gauge_of K (after_call t m) new) (WritesBlock n new (K.dram m.scheme) (K.dram t))
+
   -- an item of the checkpoint leaves its marks
   item : (step : EngineStep) → K.is_sound o m.marks t new → Keeps K m.scheme n t new → OwesNoMore K m.scheme n t new → Acts (Engine step) n new → ActsOnDram n new (K.dram m.scheme) (K.dram t)
-      → queued_in K t new ≤ queued_in K m.scheme n + 1
+      → HasDone step → queued_in K t new ≤ queued_in K m.scheme n + 1
       → m.spent + 1 + cycles_left K o.geometry (after_call t m) new < most_spent K o.geometry
       → CoreStep o (run_view m) (Engine step) (busier (run_view m)) → SimulatesCycle K o cycles (Engine step) m n (after_call t m) new
-  item step sound keeps owes acts dram queue below moves =
+  item step sound keeps owes acts dram done queue below moves =
       simulates_by K o cycles (Engine step) m n (after_call t m) new here behind
       (record {
         behind = behind;
@@ -86,7 +90,7 @@ module _ {S : Type 0} (K : SchemeOf S) (o : Origin) (cycles : ℕ) (m : Machine 
         dram = dram;
         queues = queue;
         strides = refl;
-        done = tt;
+        done = done;
         left = left_on K (Engine step) m n t (m.spent + 1) new keeps (λ e. owes);
         exhausts = λ is. absurd (cc);
       })
@@ -108,9 +112,9 @@ module _ {S : Type 0} (K : SchemeOf S) (o : Origin) (cycles : ℕ) (m : Machine 
   }
 
   -- the commit block
-  commit_written : (s : Mark) → m.marks.sealed ≡ Some s → Engines K o m.marks CommitWritten m.scheme n t new
+  commit_written : m.marks.written ≡ false → (s : Mark) → m.marks.sealed ≡ Some s → Engines K o m.marks CommitWritten m.scheme n t new
       → SimulatesCycle K o cycles (Engine CommitWritten) m n (after_engine CommitWritten t m) new
-  commit_written s is e =
+  commit_written unwritten s is e =
       let next : Machine S = after_engine CommitWritten t m in
       simulates_by K o cycles (Engine CommitWritten) m n next new here behind
       (record {
@@ -136,7 +140,7 @@ module _ {S : Type 0} (K : SchemeOf S) (o : Origin) (cycles : ℕ) (m : Machine 
           };
           paced = paced_kept K m next n new refl refl refl o.geometry refl e.keeps run.paced (spends CommitWritten e);
         };
-        step = (phase, ((s, is), refl));
+        step = (phase, (unwritten, (s, is), refl));
         acts = e.acts m.lap;
         dram = e.dram;
         queues = e.queue;
@@ -212,12 +216,12 @@ module _ {S : Type 0} (K : SchemeOf S) (o : Origin) (cycles : ℕ) (m : Machine 
   engine_in : (step : EngineStep) → K.under_way m.scheme ≡ true → Engines K o m.marks step m.scheme n t new
       → SimulatesCycle K o cycles (engine_did m.lap step) m n (after_engine step t m) new
   engine_in Idle way e = absurd e.due
-  engine_in Copied way e = item Copied e.sound e.keeps e.owes (e.acts m.lap) e.dram e.queue (spends Copied e) (phase, refl)
-  engine_in PageBlock way e = item PageBlock e.sound e.keeps e.owes (e.acts m.lap) e.dram e.queue (spends PageBlock e) (phase, refl)
-  engine_in StateBlock way e = item StateBlock e.sound e.keeps e.owes (e.acts m.lap) e.dram e.queue (spends StateBlock e) (phase, refl)
-  engine_in TableBlock way e = item TableBlock e.sound e.keeps e.owes (e.acts m.lap) e.dram e.queue (spends TableBlock e) (phase, refl)
-  engine_in Barrier way e = item Barrier e.sound e.keeps e.owes (e.acts m.lap) e.dram e.queue (spends Barrier e) (phase, refl)
-  engine_in CommitWritten way e = let s = e.due in commit_written s.0 s.1 e
+  engine_in Copied way e = item Copied e.sound e.keeps e.owes (e.acts m.lap) e.dram (e.writes refl) e.queue (spends Copied e) (phase, refl)
+  engine_in PageBlock way e = item PageBlock e.sound e.keeps e.owes (e.acts m.lap) e.dram (e.writes refl) e.queue (spends PageBlock e) (phase, refl)
+  engine_in StateBlock way e = item StateBlock e.sound e.keeps e.owes (e.acts m.lap) e.dram (e.writes refl) e.queue (spends StateBlock e) (phase, refl)
+  engine_in TableBlock way e = item TableBlock e.sound e.keeps e.owes (e.acts m.lap) e.dram (e.writes refl) e.queue (spends TableBlock e) (phase, refl)
+  engine_in Barrier way e = item Barrier e.sound e.keeps e.owes (e.acts m.lap) e.dram tt e.queue (spends Barrier e) (phase, refl)
+  engine_in CommitWritten way e = let d = e.due in commit_written d.0 d.1.0 d.1.1 e
   engine_in (Committed epoch) way e = let d = e.due in committed epoch d.1.0 d.1.1 d.1.2 d.0 e
 
 pub engine_simulates : {S : Type 0} (K : SchemeOf S) → EngineSimulates K

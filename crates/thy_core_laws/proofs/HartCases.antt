@@ -251,6 +251,7 @@ moved-next K o cycles m n hart h c t new at-m turn hs mv =
       owed = w.owed;
       step = (turn.goes.phase, going.going, going.runs, inl (view-is m h.epoch m.hart.epoch h.cpu.count m.hart.cpu.count (m.lap + 0) m.lap mv.epoch count (add-zero m.lap)));
       acts = moved-acts K m.scheme n t new hs.asked on.up;
+      retires = λ e. absurd (cc);
       exhausts = λ _. over ∙ sym (ap over_by mv.enough);
     }
 
@@ -338,6 +339,7 @@ exhausted-next K o cycles m n hart h c t new free dd need at-m turn hs ex =
       owed = w.owed;
       step = (turn.goes.phase, going.going, going.runs, inr (free, dd, need, ex.is_short, view-is m h.epoch (exhausted free dd need m.hart.epoch) (cpu_fronted hart h.cpu).count m.hart.cpu.count (m.lap + 0) m.lap ex.epoch shown (add-zero m.lap)));
       acts = moved-acts K m.scheme n t new hs.asked on.up;
+      retires = λ e. absurd (cc);
       exhausts = λ _. over ∙ sym (ap over_by ex.short);
     }
 
@@ -418,6 +420,7 @@ retired-next K o cycles m n hart h c t new s over at-m turn hs rt come closed f 
             (over-same o (is_running h.cpu.status) m.hart.epoch.span (m.hart.epoch.retired + 1) (k + 1) running run.epoch.span);
       };
       acts = record { action = Rest; asked = refl; left = (hs.untouched rt.touches).1 };
+      retires = λ _. ap K.dram (hs.untouched rt.touches).0;
       exhausts = λ e. absurd (cc);
     }
   where

@@ -124,15 +124,17 @@ pub record IsNext {S : Type 0} (K : SchemeOf S) (o : Origin) (cycles : ℕ) (m :
       → moves_while h.epoch.over (if ended then None else Some hart) (moment_of K (hart_on hart ended lap last h c t m) new) ≤ moves_while m.hart.epoch.over m.begun (moment_of K m n)
   pub owed : OwesNoMore K m.scheme n t new
   pub exhausts : did ≡ DidMove → h.epoch.over ≡ over_by (shortage_of K m)
+  pub retires : did ≡ DidRetire hart → K.dram t ≡ K.dram m.scheme
 
 -- a hart's step is told as one
 abbrev pub IsHarts : ℕ → Did → Type 0
 IsHarts hart did = (did ≡ DidMove) ⊎ (did ≡ DidRetire hart)
 
-harts-dram : (hart : ℕ) (did : Did) (n new : Device) (old now : DramContents) → IsHarts hart did → ActsOnDram n new old now → LeavesDram did n new old now
-harts-dram hart did n new old now harts acts = elim harts as (λ _. LeavesDram did n new old now) [
+harts-dram : (hart : ℕ) (did : Did) (n new : Device) (old now : DramContents) → IsHarts hart did → ActsOnDram n new old now → (did ≡ DidRetire hart → now ≡ old)
+    → LeavesDram did n new old now
+harts-dram hart did n new old now harts acts retires = elim harts as (λ _. LeavesDram did n new old now) [
   | inl e ↦ subst (λ d. LeavesDram d n new old now) (sym e) acts
-  | inr e ↦ subst (λ d. LeavesDram d n new old now) (sym e) acts
+  | inr e ↦ subst (λ d. LeavesDram d n new old now) (sym e) (retires e)
 ]
 
 next-run : {S : Type 0} (K : SchemeOf S) (o : Origin) (cycles : ℕ) (m : Machine S) (n : Device) (hart : ℕ) (ended : Bool) (lap : ℕ) (last : Option ℕ) (did : Did) (h : HartState) (c : Contents) (t : S) (new : Device) (s : HartStep)
@@ -257,7 +259,7 @@ simulates-next K o cycles m n hart ended lap last did h c t new s at turn hs har
       step = subst (λ v. CoreStep o v did (view_of K o (hart_on hart ended lap last h c t m) new)) (sym old-view)
           (subst (CoreStep o (run_view m) did) (sym new-view) x.step);
       acts = acts_by (K.migrates m.scheme) did n new x.acts;
-      dram = harts-dram hart did n new (K.dram m.scheme) (K.dram t) harts on.dram;
+      dram = harts-dram hart did n new (K.dram m.scheme) (K.dram t) harts on.dram x.retires;
       pace = subst (λ v. KeepsPace (most_spent K o.geometry) v (view_of K o (hart_on hart ended lap last h c t m) new) did (gauge_of K m n) (gauge_of K (hart_on hart ended lap last h c t m) new)) (sym old-view)
           (subst (λ v. KeepsPace (most_spent K o.geometry) (run_view m) v did (gauge_of K m n) (gauge_of K (hart_on hart ended lap last h c t m) new)) (sym new-view)
           (next-pace K o cycles m n hart ended lap last did h c t new turn.goes.phase harts on run'.paced));

@@ -134,7 +134,7 @@ module _ (most : ℕ) (o : Origin) (v next : View) (old new : Gauge) where
   engine Barrier pace phase e queued idle = busy (Engine Barrier) pace phase e queued idle
   engine CommitWritten pace phase e queued idle =
       nearer most v next old new pace.spent 0 queued
-      (let l = spends most v next old new pace.spent true phase (ap (λ (w : View). w.phase) e.1 ∙ phase) (ap (λ (w : View). w.spent) e.1) (ap (λ (w : View). w.retired) e.1) idle in omega arith)
+      (let l = spends most v next old new pace.spent true phase (ap (λ (w : View). w.phase) e.2 ∙ phase) (ap (λ (w : View). w.spent) e.2) (ap (λ (w : View). w.retired) e.2) idle in omega arith)
   engine (EngineCommitted epoch) pace phase e queued idle = absurd e
 
   boots : (did : Did) → KeepsPace most v next did old new → v.phase ≡ Boot → BootsTo v next → new.queued ≤ old.queued + 1 → new.boot_left + 1 ≤ old.boot_left

@@ -232,7 +232,7 @@ seal_simulates {S} K = λ o cycles m n t cause at sealing whole bare clean over_
         becomes = refl;
       };
       acts = record { action = Rest; asked = refl; left = refl };
-      dram = inl p.dram;
+      dram = p.dram;
       queues = omega (arith, queue);
       done = tt;
       left = record { moves = λ e. absurd (cc); owed = λ e. absurd (cc); owed_in_all = λ e. absurd (cc); promotions = λ e. absurd (cc) };

@@ -67,7 +67,7 @@ module _ (o : Origin) (k : ℕ) (v next : View) (h : IsSmall k v) where
   engine TableBlock e = busy e
   engine Barrier e = busy e
   engine CommitWritten e =
-      kept_small k v next h (ap (λ w. w.epoch) e.1) (ap (λ w. w.count) e.1) (let n = ap (λ w. w.spent) e.1 in omega (arith, n)) (ap (λ w. w.lap) e.1) (ap (λ w. w.done) e.1) (ap (λ w. w.sealed) e.1)
+      kept_small k v next h (ap (λ w. w.epoch) e.2) (ap (λ w. w.count) e.2) (let n = ap (λ w. w.spent) e.2 in omega (arith, n)) (ap (λ w. w.lap) e.2) (ap (λ w. w.done) e.2) (ap (λ w. w.sealed) e.2)
   engine (EngineCommitted epoch) e = absurd e
 
   -- a step of the view

@@ -28,7 +28,7 @@ use Rattle.thy_commit.proofs.HeldLemmas.{works-same}
 use Rattle.thy_dual_laws.specs.Dual.{Dual, is_promoting}
 use Rattle.thy_dual_laws.specs.Scheme.{dual_scheme}
 use Rattle.thy_dual_laws.specs.Stays.{StaysDual}
-use Rattle.thy_dual_laws.proofs.MergeLemmas.{IsMerged, IsMerged-next, IsPromoted, IsPromoted-next, WritesDram-filled}
+use Rattle.thy_dual_laws.proofs.MergeLemmas.{IsMerged, IsMerged-next, WritesDram-merged, IsPromoted, IsPromoted-next, WritesDram-filled}
 use Rattle.thy_dual_laws.proofs.StaysLemmas.{sound-on}
 
 -- without work no buffer lies over a frame
@@ -132,12 +132,21 @@ module _ (o : Origin) (k : CheckpointMarks) (s : Dual) (n : Device) (t : State) 
         sealed_storeless = refl;
       }
 
+  -- a block is left, so one was written
+  merge-writes : (at : Option ℕ) → next_merge s.control ≡ at → WritesDram n n s.control.dram t.dram
+  merge-writes None e =
+      let kept : t ≡ s.control = is ∙ ap (λ (x : Option ℕ). after_merge x s.control) e in
+      absurd (omega (arith, left, ap overlays kept))
+  merge-writes (Some i) e =
+      let merged_is : t ≡ after_merge (Some i) s.control = is ∙ ap (λ (x : Option ℕ). after_merge x s.control) e in
+      subst (λ (x : State). WritesDram n n s.control.dram x.dram) (sym merged_is) (WritesDram-merged s.control n i)
+
   pub merges : Merges dual_scheme o k s n merged
   merges = record {
     sound = sound-on o k s n merged n stands.sound merge-stays stands.up;
     keeps = merge-keeps;
     owes = made.owed;
-    dram = made.dram n;
+    writes = merge-writes (next_merge s.control) refl;
     queue = made.queue;
     nearer = omega (arith, left);
   }

@@ -59,7 +59,7 @@ use Rattle.thy_dual_laws.specs.Dual.{Dual, is_promoting}
 use Rattle.thy_dual_laws.specs.Scheme.{dual_scheme}
 use Rattle.thy_dual_laws.specs.Sound.{is_confirming, IsHeld, IsOfRest, HasRoom, IsRest, IsSoundDual}
 use Rattle.thy_dual_laws.proofs.BlocksLemmas.{blocks-agree}
-use Rattle.thy_dual_laws.proofs.ItemLemmas.{IsWrite, IsWrite-after, back, back-item, not-confirming}
+use Rattle.thy_dual_laws.proofs.ItemLemmas.{IsWrite, IsWrite-after, IsWritten-after, back, back-item, not-confirming}
 use Rattle.thy_dual_laws.proofs.SafeLemmas.{Safe-read, Safe-doubt}
 
 -- ---- how steps are reported
@@ -339,7 +339,9 @@ module _ (o : Origin) (k : CheckpointMarks) (s : Dual) (n : Device) (stands : St
   due (PageItem j) is = tt
   due (SlotItem j) is = due-slot k (nat_lt j (record_blocks e.p))
   due SettleItem is = tt
-  due CommitItem is = (made.mark, sym sound.checkpoints.sealed ∙ made.sealed)
+  due CommitItem is =
+      let commit : e.next ≡ Commit = back-item e.next c Commit (ap back is) in
+      (sound.written ∙ ap is_confirming commit, (made.mark, sym sound.checkpoints.sealed ∙ made.sealed))
   due ConfirmItem is =
       let confirm : e.next ≡ Confirm = back-item e.next c Confirm (ap back is) in
       (sound.written ∙ ap is_confirming confirm, (made.mark, sym sound.checkpoints.sealed ∙ made.sealed, made.of_epoch))
@@ -374,6 +376,7 @@ module _ (o : Origin) (k : CheckpointMarks) (s : Dual) (n : Device) (stands : St
         owes = owes-after (answer e.p e.epoch (item_of e c)) s n (record s { control = state_next e c n; engine = engine_next e c }) (device_next e c n) a.store.holding.owed;
         acts = acts-as;
         dram = (IsWrite-after e (item_of e c) c n).dram;
+        writes = λ h. inl (IsWritten-after e (item_of e c) c n h);
         queue = (IsWrite-after e (item_of e c) c n).queue;
         nearer = omega (arith, count);
       }

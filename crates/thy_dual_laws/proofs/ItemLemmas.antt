@@ -1,5 +1,6 @@
 -- What an item of the engine leaves alone.
 use Rattle.std.proofs.Common.{◌≡◌, ◌≢◌, ℕ, ◌+◌, ◌<◌, ◌≤◌, Bool, true, false, if◌then◌else◌, length, refl, sym, inl, inr, arith, Option, Some, None}
+use Rattle.std.proofs.lemmas.Bool.{both_ways}
 use Rattle.thy_base.specs.declared.block.Block.{Block}
 use Rattle.thy_base.specs.declared.config.Parameters.{Parameters}
 use Rattle.thy_base.specs.declared.place.Place.{Place}
@@ -14,12 +15,14 @@ use Rattle.thy_record.specs.Commit.{commit_of}
 use Rattle.thy_control.specs.Commit.{committed_state}
 use Rattle.thy_control.specs.Copies.{next_copy, block_listed, copied, devices_copied}
 use Rattle.thy_control.specs.Pages.{next_page, block_to_write, issued, devices_issued}
-use Rattle.thy_control.specs.State.{State, cell_of}
-use Rattle.thy_view.specs.Dram.{ActsOnDram}
+use Rattle.thy_control.specs.State.{State, cell_of, reads}
+use Rattle.thy_view.specs.Dram.{ActsOnDram, WritesNvm}
 use Rattle.thy_commit.specs.declared.stage.CheckpointStage.{CheckpointStage}
 use Rattle.thy_commit.specs.declared.stage.CheckpointStage.TheVariants.{Nothing, Copies, Pages, Slot, Settle, Commit, Confirm}
-use Rattle.thy_commit.specs.Items.{Item, NoItem, CopyItem, PageItem, SlotItem, SettleItem, CommitItem, ConfirmItem, item, copy_or, page_or_slot, page_item}
+use Rattle.thy_commit.specs.Items.{Item, NoItem, CopyItem, PageItem, SlotItem, SettleItem, CommitItem, ConfirmItem, item, answer, copy_or, page_or_slot, page_item}
 use Rattle.thy_commit.specs.Progress.{Progress, slot_number, slot_block, state_after, device_after}
+use Rattle.thy_commit.proofs.ActionLemmas.{written-nvm, target-in_nvm}
+use Rattle.thy_scheme.specs.Calls.{writes_block}
 use Rattle.thy_dual_laws.specs.Sound.{is_confirming}
 
 -- ---- one write
@@ -96,6 +99,25 @@ IsWrite-after e (SlotItem k) s n = IsWrite-nvm n (slot_number e k) (slot_block e
 IsWrite-after e SettleItem s n = IsWrite-settled n s
 IsWrite-after e CommitItem s n = IsWrite-nvm n 1 (commit_of e.epoch) (devices_of n s.dram) refl (λ h. absurd (omega (arith, h)))
 IsWrite-after e ConfirmItem s n = IsWrite-settled n s
+
+-- and one that is told as a block's write is one of the NVM
+pub IsWritten-after : (e : Progress) (i : Item) (s : State) (n : Device) → writes_block (answer e.p e.epoch i) ≡ true → WritesNvm n (device_after e i s n)
+unfolding devices_copied devices_issued
+IsWritten-after e NoItem s n h = absurd (both_ways false refl h)
+IsWritten-after e (CopyItem i) s n h =
+    let b : ℕ = block_listed i s in
+    let y : Place = target (cell_of s b) in
+    let v : Block = reads s n (last (cell_of s b)) in
+    record { at = number_of s.p y; block = v; left = written-nvm (in_dram y) (number_of s.p y) v (devices_of n s.dram) (target-in_nvm s b) }
+IsWritten-after e (PageItem j) s n h =
+    let b : ℕ = block_to_write j s in
+    let y : Place = target (cell_of s b) in
+    let v : Block = reads s n (frame_at (seat_of (cell_of s b))) in
+    record { at = number_of s.p y; block = v; left = written-nvm (in_dram y) (number_of s.p y) v (devices_of n s.dram) (target-in_nvm s b) }
+IsWritten-after e (SlotItem k) s n h = record { at = slot_number e k; block = slot_block e s k; left = refl }
+IsWritten-after e SettleItem s n h = absurd (both_ways false refl h)
+IsWritten-after e CommitItem s n h = absurd (both_ways false refl h)
+IsWritten-after e ConfirmItem s n h = absurd (both_ways false refl h)
 
 -- ---- the engine
 

@@ -31,9 +31,8 @@ use Rattle.thy_commit.proofs.FitLemmas.{past-idle}
 
 -- ---- a merge
 
--- no fewer entries are free, no more buffers wait, the promotions are as they were, and the DRAM was written once at most
+-- no fewer entries are free, no more buffers wait, and the promotions are as they were
 pub record IsMerged (s t : State) : Type 0 where
-  pub dram : (n : Device) → ActsOnDram n n s.dram t.dram
   pub room : t.dram.room ≡ s.dram.room
   pub queue : t.dram.queued ≤ s.dram.queued + 1
   pub free : free_count s.btt ≤ free_count t.btt
@@ -71,12 +70,6 @@ module _ (s : State) (b : ℕ) (over : IsOverlay s b) where
   is-merged : IsMerged s (merged_block b s)
   unfolding merged_block dram_merged
   is-merged = record {
-    dram = λ n. inr (record {
-      at = number_of s.p (frame_at (seat_of (cell_of s b)));
-      block = block_at s.dram.blocks (number_of s.p (buffer_at (seat_of (cell_of s b))));
-      left = refl;
-      nvm = refl;
-    });
     room = refl;
     queue = omega arith;
     free = free-cleared s.btt c.i block-there;
@@ -87,7 +80,6 @@ module _ (s : State) (b : ℕ) (over : IsOverlay s b) where
 
 pub IsMerged-next : (s : State) → AreSoundTables s → (o : Option ℕ) → next_merge s ≡ o → IsMerged s (after_merge o s)
 IsMerged-next s tables None h = record {
-  dram = λ n. inl refl;
   room = refl;
   queue = omega arith;
   free = omega arith;
@@ -96,6 +88,18 @@ IsMerged-next s tables None h = record {
   unfilled_same = refl;
 }
 IsMerged-next s tables (Some i) h = is-merged s (block_listed i s) (IsOverlay-entry s tables i h)
+
+-- a block that is merged is written into its page's frame
+pub WritesDram-merged : (s : State) (n : Device) (i : ℕ) → WritesDram n n s.dram (after_merge (Some i) s).dram
+unfolding merged_block dram_merged
+WritesDram-merged s n i =
+    let b : ℕ = block_listed i s in
+    record {
+      at = number_of s.p (frame_at (seat_of (cell_of s b)));
+      block = block_at s.dram.blocks (number_of s.p (buffer_at (seat_of (cell_of s b))));
+      left = refl;
+      nvm = refl;
+    }
 
 pub way-merged : (s : State) (o : Option ℕ) → (after_merge o s).under_way ≡ s.under_way
 unfolding merged_block

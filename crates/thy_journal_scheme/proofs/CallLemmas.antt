@@ -1,5 +1,6 @@
 -- What seals, drains and items of the engine make of the checkpoints.
 use Rattle.std.proofs.Common.{◌≡◌, ◌≢◌, ℕ, ◌+◌, ◌%◌, ◌<◌, ◌≤◌, nat_lt, Bool, true, false, if◌then◌else◌, length, Option, Some, None, refl, sym, ◌∙◌, ap, subst, inl, arith, Result, Ok, Err, OnOk, OnErr, IfOk}
+use Rattle.std.proofs.lemmas.Bool.{both_ways}
 use Rattle.thy_base.specs.declared.block.Block.{Block}
 use Rattle.thy_base.specs.declared.nvm.NvmError.{NvmError}
 use Rattle.thy_base.specs.Device.{Device, IsFramed}
@@ -8,11 +9,12 @@ use Rattle.thy_isa.specs.declared.state.CpuState.{CpuState}
 use Rattle.thy_record.specs.declared.engine_step.EngineStep.{EngineStep}
 use Rattle.thy_record.specs.declared.engine_step.EngineStep.TheVariants.{Idle, Copied, PageBlock, StateBlock, TableBlock, Barrier as IsBarrier, CommitWritten, Committed}
 use Rattle.thy_view.specs.Action.{WriteAt, after, FailsTo, Asks}
+use Rattle.thy_view.specs.Dram.{WritesNvm}
 use Rattle.thy_view.specs.Origin.{Origin}
 use Rattle.thy_scheme.specs.CheckpointMarks.{CheckpointMarks}
 use Rattle.thy_scheme.specs.Scheme.{Stands}
-use Rattle.thy_scheme.specs.Calls.{IsDue, engine_did, Keeps, Drains, Seals, Engines, EngineFails, OwesAfter}
-use Rattle.thy_journal_image.specs.Places.{slot_place}
+use Rattle.thy_scheme.specs.Calls.{IsDue, writes_block, engine_did, Keeps, Drains, Seals, Engines, EngineFails, OwesAfter}
+use Rattle.thy_journal_image.specs.Places.{slot_place, home_place, journal_place}
 use Rattle.thy_record.specs.Commit.{commit_of}
 use Rattle.thy_view.proofs.ActionLemmas.{queue-after}
 use Rattle.thy_scheme.proofs.RecordLemmas.{due-slot}
@@ -20,8 +22,8 @@ use Rattle.thy_log.specs.declared.stage.JournalStage.{JournalStage}
 use Rattle.thy_log.specs.declared.stage.JournalStage.TheVariants.{Nothing, Journal, Slot, Settle, Commit, Confirm, Home}
 use Rattle.thy_log.specs.Cycles.{cycles_left}
 use Rattle.thy_log.specs.Items.{Item, NoItem, JournalItem, SlotItem, SettleItem, CommitItem, ConfirmItem, HomeItem, ReleaseItem, item, is_under_way, next_live, journal_or_slot, home_or_release, answer}
-use Rattle.thy_log.specs.Progress.{Progress, item_of, engine_next, state_next, action_next, action_of, state_after}
-use Rattle.thy_log.specs.State.{State}
+use Rattle.thy_log.specs.Progress.{Progress, block_listed, slot_block, item_of, engine_next, state_next, action_next, action_of, state_after}
+use Rattle.thy_log.specs.State.{State, buffer_of}
 use Rattle.thy_log.specs.Stores.{after_drain}
 use Rattle.thy_log.proofs.CycleLemmas.{items_count}
 use Rattle.thy_log.proofs.DrainLemmas.{works_drained}
@@ -53,6 +55,17 @@ item_asks lap e s CommitItem = (commit_of e.epoch, refl)
 item_asks lap e s ConfirmItem = refl
 item_asks lap e s (HomeItem i) = λ q. omega (arith, q)
 item_asks lap e s ReleaseItem = refl
+
+-- and one that is told as a block's write is one
+item_writes : (e : Progress) (s : State) (n : Device) (i : Item) → writes_block (answer e.p e.epoch i) ≡ true → WritesNvm n (after (action_of e i s) n)
+item_writes e s n NoItem h = absurd (both_ways false refl h)
+item_writes e s n (JournalItem i) h = record { at = journal_place e.p (e.epoch % 2) i; block = buffer_of s i; left = refl }
+item_writes e s n (SlotItem k) h = record { at = slot_place e.p (e.epoch % 2) + k; block = slot_block e s k; left = refl }
+item_writes e s n SettleItem h = absurd (both_ways false refl h)
+item_writes e s n CommitItem h = absurd (both_ways false refl h)
+item_writes e s n ConfirmItem h = absurd (both_ways false refl h)
+item_writes e s n (HomeItem i) h = record { at = home_place e.p (block_listed i s); block = buffer_of s i; left = refl }
+item_writes e s n ReleaseItem h = absurd (both_ways false refl h)
 
 dram_after : (i : Item) (s : State) → (state_after i s).dram ≡ s.dram
 dram_after NoItem s = refl
@@ -101,7 +114,8 @@ module _ (o : Origin) (k : CheckpointMarks) (s : Value) (n : Device) (stands : S
   due_by (Slot j) is way = due-slot k (nat_lt j (record_blocks e.p))
   due_by Settle is way = tt
   due_by Commit is way =
-      let made = sound.checkpoints.made (ap is_sealing is) in (made.mark, sym sound.checkpoints.sealed ∙ made.sealed)
+      let made = sound.checkpoints.made (ap is_sealing is) in
+      (sound.doubt ∙ ap is_confirming is, (made.mark, sym sound.checkpoints.sealed ∙ made.sealed))
   due_by Confirm is way =
       let made = sound.checkpoints.made (ap is_sealing is) in
       (sound.doubt ∙ ap is_confirming is, (made.mark, sym sound.checkpoints.sealed ∙ made.sealed, made.of_epoch))
@@ -134,6 +148,7 @@ module _ (o : Origin) (k : CheckpointMarks) (s : Value) (n : Device) (stands : S
     owes = owes_none (step_of s) s n (taken s) (device_taken s n);
     acts = λ lap. record { action = action_next e l; asked = item_asks lap e l (item_of e l); left = refl };
     dram = inl (dram_after (item_of e l) l);
+    writes = λ h. inl (item_writes e l n (item_of e l) h);
     queue = queue;
     nearer = count;
   }

@@ -72,7 +72,7 @@ module _ (o : Origin) (v next : View) (m : Marks) (least : 1 ≤ o.geometry.epoc
   engine phase TableBlock e = busy phase e
   engine phase Barrier e = busy phase e
   engine phase (EngineCommitted epoch) e = absurd e
-  engine phase CommitWritten ((s, is), e) =
+  engine phase CommitWritten (unwritten, (s, is), e) =
       let f : RunFits o v m = of_phase o v m Run phase h in
       let w : View = record (busier v) { written = true } in
       let follows : Follows o w f.mark w.sealed =

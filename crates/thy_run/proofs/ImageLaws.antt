@@ -50,7 +50,7 @@ stays_engine v next StateBlock e = stays_busy v next e
 stays_engine v next TableBlock e = stays_busy v next e
 stays_engine v next Barrier e = stays_busy v next e
 stays_engine v next (EngineCommitted epoch) e = absurd e
-stays_engine v next CommitWritten e = record { phase = ap (λ w. w.phase) e.1; done = ap (λ w. w.done) e.1 }
+stays_engine v next CommitWritten e = record { phase = ap (λ w. w.phase) e.2; done = ap (λ w. w.done) e.2 }
 
 some_event : (v : Event) {A : Type 0} → v ∷ [] ≡ [] → A
 some_event v e = absurd (cc)

@@ -64,7 +64,7 @@ same_engine v next PageBlock e = same_busy v next e
 same_engine v next StateBlock e = same_busy v next e
 same_engine v next TableBlock e = same_busy v next e
 same_engine v next Barrier e = same_busy v next e
-same_engine v next CommitWritten e = ap (λ (w : View). w.retired) e.1
+same_engine v next CommitWritten e = ap (λ (w : View). w.retired) e.2
 same_engine v next (EngineCommitted epoch) e = absurd e
 
 -- in a boot none is

@@ -1,5 +1,5 @@
 -- What the calls of a scheme promise after the boot.
-use Rattle.std.specs.Prelude.{◌≡◌, ◌⊎◌, ℕ, ◌+◌, ◌<◌, ◌≤◌, true, false, length, Option, Some, None, Result, OnErr}
+use Rattle.std.specs.Prelude.{◌≡◌, ◌⊎◌, ℕ, ◌+◌, ◌<◌, ◌≤◌, Bool, true, false, length, Option, Some, None, Result, OnErr}
 use Rattle.thy_base.specs.declared.mark.Mark.{Mark}
 use Rattle.thy_base.specs.declared.nvm.NvmError.{NvmError}
 use Rattle.thy_base.specs.Device.{Device, IsFramed, HasFailed}
@@ -11,11 +11,11 @@ use Rattle.thy_isa.specs.declared.state.CpuState.{CpuState}
 use Rattle.thy_isa.specs.OnBlocks.{state_from}
 use Rattle.thy_record.specs.Cpu.{IsRecordable}
 use Rattle.thy_record.specs.declared.engine_step.EngineStep.{EngineStep}
-use Rattle.thy_record.specs.declared.engine_step.EngineStep.TheVariants.{Idle, CommitWritten, Committed}
+use Rattle.thy_record.specs.declared.engine_step.EngineStep.TheVariants.{Idle, Copied, PageBlock, StateBlock, TableBlock, CommitWritten, Committed}
 use Rattle.thy_view.specs.declared.did.Did.{Did}
 use Rattle.thy_view.specs.declared.did.Did.TheVariants.{Engine, Promoted, Committed as DidCommit}
 use Rattle.thy_view.specs.Action.{Action, IsAccess, after, FailsTo, Acts, ActionFailed}
-use Rattle.thy_view.specs.Dram.{ActsOnDram, WritesBlock}
+use Rattle.thy_view.specs.Dram.{ActsOnDram, WritesDram, WritesBlock}
 use Rattle.thy_view.specs.Origin.{Origin, at}
 use Rattle.thy_view.specs.Safe.{ceiling, Safe}
 use Rattle.thy_scheme.specs.CheckpointMarks.{CheckpointMarks, doubt_in, marks_after, marks_after_fault}
@@ -84,12 +84,12 @@ OwesNoMore K s n t new = (K.holding t new).owed ≤ (K.holding s n).owed
 
 -- ---- the calls
 
--- one block is merged into its page
+-- one block is merged into its page, which is written in the DRAM
 pub record Merges {S : Type 0} (K : SchemeOf S) (o : Origin) (k : CheckpointMarks) (s : S) (n : Device) (t : S) : Type 0 where
   pub sound : K.is_sound o k t n
   pub keeps : Keeps K s n t n
   pub owes : OwesNoMore K s n t n
-  pub dram : ActsOnDram n n (K.dram s) (K.dram t)
+  pub writes : WritesDram n n (K.dram s) (K.dram t)
   pub queue : K.queued t ≤ K.queued s + 1
   pub nearer : K.merges_left t + 1 ≡ K.merges_left s
 
@@ -143,13 +143,21 @@ pub record Seals {S : Type 0} (K : SchemeOf S) (o : Origin) (k : CheckpointMarks
   pub storeless : K.storeless t ≡ true
   pub sealed_storeless : K.sealed_storeless t ≡ K.storeless s
 
--- a step of the engine is due: the commit block is written and the epoch committed only while an epoch is sealed, in
--- this order; the other steps also apply what a committed checkpoint has written
+-- a step of the engine is due: the commit block is written, once, and then the epoch committed, only while it is sealed;
+-- the other steps also apply what a committed checkpoint has written
 abbrev pub IsDue : EngineStep → CheckpointMarks → Type 0
 IsDue Idle k = ⊥
-IsDue CommitWritten k = (m : Mark) × (k.sealed ≡ Some m)
+IsDue CommitWritten k = (k.written ≡ false) × ((m : Mark) × (k.sealed ≡ Some m))
 IsDue (Committed epoch) k = (k.written ≡ true) × ((m : Mark) × (k.sealed ≡ Some m) × (m.epoch ≡ epoch))
 IsDue step k = Unit {0}
+
+-- a step that writes a block; the others are barriers and the commit block's write
+abbrev pub writes_block : EngineStep → Bool
+writes_block Copied = true
+writes_block PageBlock = true
+writes_block StateBlock = true
+writes_block TableBlock = true
+writes_block step = false
 
 -- what a cycle did with this step, if so many instructions were retired since the seal
 abbrev pub engine_did : ℕ → EngineStep → Did
@@ -169,6 +177,7 @@ pub record Engines {S : Type 0} (K : SchemeOf S) (o : Origin) (k : CheckpointMar
   pub owes : OwesAfter step K s n t new
   pub acts : (lap : ℕ) → Acts (engine_did lap step) n new
   pub dram : ActsOnDram n new (K.dram s) (K.dram t)
+  pub writes : writes_block step ≡ true → WritesBlock n new (K.dram s) (K.dram t)
   pub queue : queued_in K t new ≤ queued_in K s n + 1
   pub nearer : K.engine_left t + 1 ≤ K.engine_left s
 

@@ -1,5 +1,6 @@
 -- What seals, drains and items of the engine make of the checkpoints.
 use Rattle.std.proofs.Common.{◌≡◌, ◌≢◌, ℕ, ◌+◌, ◌-◌, ◌*◌, ◌/◌, ◌%◌, ◌<◌, ◌≤◌, nat_lt, Bool, true, false, is_some, if◌then◌else◌, length, length-append, length-drop, None, refl, sym, ◌∙◌, ap, subst, inl, inr, arith, Result, Ok, Err, OnOk, OnErr, IfOk}
+use Rattle.std.proofs.lemmas.Bool.{both_ways}
 use Rattle.thy_base.specs.declared.block.Block.{Block}
 use Rattle.thy_base.specs.declared.config.Parameters.{Parameters}
 use Rattle.thy_base.specs.declared.nvm.NvmError.{NvmError}
@@ -10,10 +11,11 @@ use Rattle.thy_record.specs.declared.engine_step.EngineStep.{EngineStep}
 use Rattle.thy_record.specs.declared.engine_step.EngineStep.TheVariants.{StateBlock, TableBlock}
 use Rattle.thy_table.specs.Listing.{entry_at, free_count}
 use Rattle.thy_view.specs.Action.{Action, Rest, ReadAt, WriteAt, Barrier, Drain, after, FailsTo, Asks}
+use Rattle.thy_view.specs.Dram.{WritesNvm}
 use Rattle.thy_view.specs.Origin.{Origin}
 use Rattle.thy_scheme.specs.CheckpointMarks.{CheckpointMarks}
 use Rattle.thy_scheme.specs.Scheme.{Stands}
-use Rattle.thy_scheme.specs.Calls.{IsDue, engine_did, owed_in, Keeps, Drains, Seals, Engines, EngineFails, OwesAfter}
+use Rattle.thy_scheme.specs.Calls.{IsDue, writes_block, engine_did, owed_in, Keeps, Drains, Seals, Engines, EngineFails, OwesAfter}
 use Rattle.thy_record.specs.Commit.{commit_of}
 use Rattle.thy_shadow_image.specs.Places.{slot_place}
 use Rattle.thy_pool.specs.declared.stage.PoolStage.{PoolStage}
@@ -22,8 +24,8 @@ use Rattle.thy_pool.specs.Commit.{sealed_state}
 use Rattle.thy_pool.specs.Cycles.{cycles_left}
 use Rattle.thy_pool.specs.Holding.{copied_by, opened_by}
 use Rattle.thy_pool.specs.Items.{Item, NoItem, PageItem, SlotItem, SettleItem, CommitItem, ConfirmItem, item, is_under_way, answer}
-use Rattle.thy_pool.specs.Progress.{Progress, item_of, engine_next, state_next, action_next, action_of, state_after}
-use Rattle.thy_pool.specs.State.{State}
+use Rattle.thy_pool.specs.Progress.{Progress, slot_block, item_of, engine_next, state_next, action_next, action_of, state_after}
+use Rattle.thy_pool.specs.State.{State, frame_block, target_place}
 use Rattle.thy_pool.specs.Stores.{after_drain}
 use Rattle.thy_pool.proofs.CycleLemmas.{items_count}
 use Rattle.thy_pool.proofs.DrainLemmas.{works_drained}
@@ -73,6 +75,15 @@ item_asks lap e s SettleItem = refl
 item_asks lap e s CommitItem = (commit_of e.epoch, refl)
 item_asks lap e s ConfirmItem = refl
 
+-- and one that is told as a block's write is one
+item_writes : (e : Progress) (s : State) (n : Device) (i : Item) → writes_block (answer e.p e.epoch i) ≡ true → WritesNvm n (after (action_of e i s) n)
+item_writes e s n NoItem h = absurd (both_ways false refl h)
+item_writes e s n (PageItem x) h = record { at = target_place s (x / 64) (x % 64); block = frame_block s (x / 64) (x % 64); left = refl }
+item_writes e s n (SlotItem k) h = record { at = slot_place e.p (e.epoch % 2) + k; block = slot_block e s k; left = refl }
+item_writes e s n SettleItem h = absurd (both_ways false refl h)
+item_writes e s n CommitItem h = absurd (both_ways false refl h)
+item_writes e s n ConfirmItem h = absurd (both_ways false refl h)
+
 dram_after : (i : Item) (s : State) → (state_after i s).dram ≡ s.dram
 dram_after NoItem s = refl
 dram_after (PageItem x) s = refl
@@ -119,7 +130,8 @@ module _ (o : Origin) (k : CheckpointMarks) (s : Value) (n : Device) (stands : S
   due_by (Slot j) is way = slot_due k (nat_lt j (record_blocks e.p))
   due_by Settle is way = tt
   due_by Commit is way =
-      let made = sound.checkpoints.made (ap is_under_way is) in (made.mark, sym sound.checkpoints.sealed ∙ made.sealed)
+      let made = sound.checkpoints.made (ap is_under_way is) in
+      (sound.doubt ∙ ap is_confirming is, (made.mark, sym sound.checkpoints.sealed ∙ made.sealed))
   due_by Confirm is way =
       let made = sound.checkpoints.made (ap is_under_way is) in
       (sound.doubt ∙ ap is_confirming is, (made.mark, sym sound.checkpoints.sealed ∙ made.sealed, made.of_epoch))
@@ -163,6 +175,7 @@ module _ (o : Origin) (k : CheckpointMarks) (s : Value) (n : Device) (stands : S
     owes = owes_item (item_of e l) s n (engine_next e l) (device_taken s n);
     acts = λ lap. record { action = action_next e l; asked = item_asks lap e l (item_of e l); left = refl };
     dram = inl (dram_after (item_of e l) l);
+    writes = λ h. inl (item_writes e l n (item_of e l) h);
     queue = queue;
     nearer = count;
   }

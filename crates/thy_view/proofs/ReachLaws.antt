@@ -73,7 +73,7 @@ module _ (o : Origin) (v next : View) where
   engine is StateBlock e = busy is e
   engine is TableBlock e = busy is e
   engine is Barrier e = busy is e
-  engine is CommitWritten e = runs is (ap (λ (w : View). w.phase) e.1) (ap (λ (w : View). w.count) e.1)
+  engine is CommitWritten e = runs is (ap (λ (w : View). w.phase) e.2) (ap (λ (w : View). w.count) e.2)
   engine is (EngineCommitted epoch) e = absurd e
 
   -- the view after a step reaches as far as the one before it, or from nowhere to the start, or one instruction further

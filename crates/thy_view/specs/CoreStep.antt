@@ -43,10 +43,10 @@ MovesTo v next =
 abbrev pub BootsTo : View → View → Type 0
 BootsTo v next = (next ≡ v) ⊎ ((v.done ≡ None) × (next ≡ record v { written = true }))
 
--- the engine goes on; with a checkpoint under way it is never idle
+-- the engine goes on; with a checkpoint under way it is never idle, and writes the commit block once
 abbrev pub EngineTo : EngineStep → View → View → Type 0
 EngineTo Idle v next = ⊥
-EngineTo CommitWritten v next = ((m : Mark) × (v.sealed ≡ Some m)) × (next ≡ record (busier v) { written = true })
+EngineTo CommitWritten v next = (v.written ≡ false) × ((m : Mark) × (v.sealed ≡ Some m)) × (next ≡ record (busier v) { written = true })
 EngineTo (EngineCommitted epoch) v next = ⊥
 EngineTo step v next = next ≡ busier v
 

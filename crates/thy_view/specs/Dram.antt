@@ -5,7 +5,7 @@ use Rattle.thy_base.specs.declared.block.Block.{Block}
 use Rattle.thy_base.specs.Device.{Device, written_to}
 use Rattle.thy_dram.specs.Contents.{Contents, written, drained}
 use Rattle.thy_view.specs.declared.did.Did.{Did}
-use Rattle.thy_view.specs.declared.did.Did.TheVariants.{DramDrained}
+use Rattle.thy_view.specs.declared.did.Did.TheVariants.{Retired, Sealed, NvmDrained, DramDrained, Nothing}
 
 -- one block of it was written, and the NVM is as before
 pub record WritesDram (n new : Device) (old now : Contents) : Type 0 where
@@ -28,7 +28,12 @@ WritesBlock n new old now = WritesNvm n new ⊎ WritesDram n new old now
 abbrev pub ActsOnDram : Device → Device → Contents → Contents → Type 0
 ActsOnDram n new old now = (now ≡ old) ⊎ WritesDram n new old now
 
--- a drain of it lets its oldest write land; no other cycle does, but by a write into a full queue
+-- a drain of it lets its oldest write land; no other cycle does, but by a write into a full queue. A cycle that retires
+-- an instruction, seals, drains the NVM or does nothing writes no block of it
 abbrev pub LeavesDram : Did → Device → Device → Contents → Contents → Type 0
 LeavesDram DramDrained n new old now = now ≡ drained old
+LeavesDram (Retired hart) n new old now = now ≡ old
+LeavesDram (Sealed epoch count cause) n new old now = now ≡ old
+LeavesDram NvmDrained n new old now = now ≡ old
+LeavesDram Nothing n new old now = now ≡ old
 LeavesDram did n new old now = ActsOnDram n new old now

@@ -4,7 +4,8 @@ use Rattle.std.specs.Prelude.{◌≡◌, ◌⊎◌, ℕ, ◌+◌, ◌≤◌, Boo
 use Rattle.thy_base.specs.Device.{Device}
 use Rattle.thy_dram.specs.Contents.{Contents}
 use Rattle.thy_view.specs.declared.did.Did.{Did}
-use Rattle.thy_view.specs.declared.did.Did.TheVariants.{Loaded, Restarted, Moved, Retired, Sealed, Promoted, Committed}
+use Rattle.thy_view.specs.declared.did.Did.TheVariants.{Loaded, Restarted, Moved, Retired, Merged, Sealed, Promoted, Engine, Committed}
+use Rattle.thy_record.specs.declared.engine_step.EngineStep.TheVariants.{Copied, PageBlock, StateBlock, TableBlock}
 use Rattle.thy_view.specs.Dram.{WritesBlock}
 use Rattle.thy_view.specs.Pace.{Gauge}
 
@@ -36,6 +37,11 @@ MovesOn old new Wrote = (new.moves + 1 ≤ old.moves) ⊎ ((new.moves ≡ old.mo
 abbrev pub GetsDone : Did → Gauge → Gauge → Type 0 → Type 0
 GetsDone Moved old new Wrote = MovesOn old new Wrote
 GetsDone Promoted old new Wrote = (new.promotions + 1 ≤ old.promotions) × Wrote
+GetsDone Merged old new Wrote = Wrote
+GetsDone (Engine Copied) old new Wrote = Wrote
+GetsDone (Engine PageBlock) old new Wrote = Wrote
+GetsDone (Engine StateBlock) old new Wrote = Wrote
+GetsDone (Engine TableBlock) old new Wrote = Wrote
 GetsDone did old new Wrote = Unit {0}
 
 -- no more is left than before, unless something begins

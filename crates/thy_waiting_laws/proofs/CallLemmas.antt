@@ -1,6 +1,6 @@
 -- What a call of the scheme below makes of the one that waits, and what a barrier does.
 use Rattle.std.proofs.Common.{◌≡◌, ℕ, ◌-◌, ◌<◌, ◌≤◌, Bool, true, false, is_some, if◌then◌else◌, Option, Some, None, refl, sym, ◌∙◌, ap, inl, arith}
-use Rattle.std.proofs.lemmas.Bool.{ltb-true, ltb-false}
+use Rattle.std.proofs.lemmas.Bool.{both_ways, ltb-true, ltb-false}
 use Rattle.thy_base.specs.declared.mark.Mark.{Mark}
 use Rattle.thy_base.specs.Device.{Device, HasFailed, IsFramed, settled}
 use Rattle.thy_isa.specs.declared.state.CpuState.{CpuState}
@@ -93,7 +93,7 @@ module _ {S : Type 0} (K : SchemeOf S) (laws : IsLawful K) (never : (s : S) → 
     sound = record { below = m.sound; few = stands.sound.few; apart = stands.sound.apart };
     keeps = keeps-over K laws never w n (over t w) n m.keeps (let same = same-come t n (record { sound = m.sound; up = stands.up }) in omega (arith, same));
     owes = m.owes;
-    dram = m.dram;
+    writes = m.writes;
     queue = m.queue;
     nearer = m.nearer;
   }
@@ -154,6 +154,7 @@ module _ {S : Type 0} (K : SchemeOf S) (laws : IsLawful K) (never : (s : S) → 
         owes = owes-over K step w n next new e.owes;
         acts = e.acts;
         dram = e.dram;
+        writes = e.writes;
         queue = e.queue;
         nearer = let nearer = e.nearer in omega (arith, nearer, before, come);
       }
@@ -183,6 +184,7 @@ module _ {S : Type 0} (K : SchemeOf S) (laws : IsLawful K) (never : (s : S) → 
         owes = s.owes;
         acts = λ lap. record { action = BarrierAction; asked = refl; left = refl };
         dram = inl refl;
+        writes = λ writes. absurd (both_ways false refl writes);
         queue = omega arith;
         nearer = omega (arith, before, come, some);
       }
