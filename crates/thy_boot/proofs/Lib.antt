@@ -10,6 +10,7 @@ pub mod GoOnLemmas
 pub mod StepMoveLemmas
 pub mod BootDrainLemmas
 pub mod ActLemmas
+pub mod CountLemmas
 pub mod TakesLemmas
 pub mod StartLemmas
 pub mod BlockLemmas

@@ -1,6 +1,7 @@
 pub mod Filling
 pub mod Boot
 pub mod Loads
+pub mod Counts
 pub mod Left
 pub mod Reads
 pub mod Recovers

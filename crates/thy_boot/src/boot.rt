@@ -2,7 +2,8 @@
 ghost use Rattle.std.specs.Prelude.{◌≡◌, ◌+◌, ◌*◌, ◌≤◌, ◌<◌, length, IfOk, OnOk, OnErr};
 ghost use Rattle.thy_isa.specs.Step.{state_of};
 ghost use Rattle.thy_boot.specs.Boot.{IsBoot, new_boot, answer_of};
-ghost use Rattle.thy_boot.specs.Steps.{CanStep, TakesStep};
+ghost use Rattle.thy_boot.specs.Counts.{Counts};
+ghost use Rattle.thy_boot.specs.Steps.{CanStep, TakesStep, action_of};
 
 use crate::fills::Fills;
 use crate::stage::{End, ReadStage, Stage};
@@ -96,6 +97,10 @@ impl Boot {
         // what was read is what the image means. An action of loading equals its definition.
         ensures step { let s = state_of start.now.state in
             TakesStep F.filling result s (N.device nvm.old) self.old control.old (N.device nvm.new) self.new control.new }
+
+        // Reading writes nothing, and an action of loading is counted once.
+        ensures writes { let action = action_of F.filling (state_of start.now.state) self.old control.old in
+            Counts action result (N.writes nvm.old) (N.writes nvm.new) }
     {
         self.take_next::<F, N>(control, start, nvm)?;
         Ok(self.answer::<F>())
@@ -110,8 +115,10 @@ impl Boot {
     ) -> Result<(), NvmError>
         requires can { CanStep F.filling (state_of start.now.state) (N.device nvm.old) self.old control.old }
         requires fits { IsBoot F.filling self.old }
-        ensures { let s = state_of start.now.state in
+        ensures step { let s = state_of start.now.state in
             TakesStep F.filling result s (N.device nvm.old) self.old control.old (N.device nvm.new) self.new control.new }
+        ensures writes { let action = action_of F.filling (state_of start.now.state) self.old control.old in
+            Counts action result (N.writes nvm.old) (N.writes nvm.new) }
     {
         match self.stage() {
             Stage::Reads(at) => self.read_next::<F, N>(at, control, nvm),

@@ -118,7 +118,8 @@ pub trait Fills: Drop {
         ensures ok { let block = newest (N.device nvm.old) (filling.fill_place control.old commit.now k) in
             OnOk result (control.new ≡ filling.with_fill commit.now k block control.old) }
         ensures err { OnErr result (control.new ≡ control.old) }
-        ensures nvm { Takes (ReadAt (filling.fill_place control.old commit.now k)) result (N.device nvm.old) (N.device nvm.new) };
+        ensures nvm { Takes (ReadAt (filling.fill_place control.old commit.now k)) result (N.device nvm.old) (N.device nvm.new) }
+        ensures same_writes { N.writes nvm.new ≡ N.writes nvm.old };
 
     /// How many blocks memory has.
     fn memory_blocks(geometry: &Geometry) -> u64

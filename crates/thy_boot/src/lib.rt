@@ -18,9 +18,10 @@ mod start;
 pub use boot::Boot;
 pub use fills::{CEILING, Fills};
 pub use laws::{
-    a_boot_is_safe, a_boot_may_go_on, a_boot_shows_the_image, a_new_boot_is_one_of_the_run,
-    a_restart_is_the_kept_one, drains_keep_the_boot, failed_steps_are_moves, steps_act_once,
-    steps_are_moves, steps_come_nearer, steps_queue_one_write,
+    a_boot_is_safe, a_boot_may_go_on, a_boot_shows_the_image, a_new_boot_has_read_nothing,
+    a_new_boot_is_one_of_the_run, a_restart_is_the_kept_one, drains_keep_the_boot,
+    failed_steps_are_moves, steps_act_once, steps_are_moves, steps_come_nearer,
+    steps_queue_one_write,
 };
 pub use stage::{End, Issue, ReadStage, Stage};
 pub use start::start_block;

@@ -3,6 +3,7 @@ ghost use Rattle.std.specs.Prelude.{◌≡◌, false, length, OnOk, OnErr};
 ghost use Rattle.thy_isa.specs.Step.{state_of};
 ghost use Rattle.thy_boot.specs.Boot.{at_stage};
 ghost use Rattle.thy_boot.specs.Filling.{layout_at};
+ghost use Rattle.thy_boot.specs.Counts.{Counts};
 ghost use Rattle.thy_boot.specs.Loads.{IsIssue, CanLoad, Takes, after_issue, issue_action};
 
 use crate::boot::Boot;
@@ -59,8 +60,10 @@ fn take_issue<F: Fills, N: Nvm>(
     requires issue { IsIssue (F.filling.first geometry.now (state_of state.now)) issue }
     requires sized { length (N.device nvm.old).image ≡ (layout_at F.filling geometry.now).image_blocks }
     requires up { (N.device nvm.old).down ≡ false }
-    ensures { let f = F.filling.first geometry.now (state_of state.now) in
+    ensures nvm { let f = F.filling.first geometry.now (state_of state.now) in
         Takes (issue_action f issue) result (N.device nvm.old) (N.device nvm.new) }
+    ensures writes { let f = F.filling.first geometry.now (state_of state.now) in
+        Counts (issue_action f issue) result (N.writes nvm.old) (N.writes nvm.new) }
 {
     match issue {
         Issue::Home(b) => {
@@ -96,6 +99,8 @@ impl Boot {
         ensures kept { OnErr result (self.new ≡ self.old) }
         ensures nvm { let f = F.filling.first self.old.p (state_of state.now) in
             Takes (issue_action f issue) result (N.device nvm.old) (N.device nvm.new) }
+        ensures writes { let f = F.filling.first self.old.p (state_of state.now) in
+            Counts (issue_action f issue) result (N.writes nvm.old) (N.writes nvm.new) }
     {
         take_issue::<F, N>(&self.geometry, issue, state, nvm)?;
         self.stage = stage_after::<F>(&self.geometry, issue, state);

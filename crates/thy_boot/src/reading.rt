@@ -64,6 +64,7 @@ impl Boot {
         ensures boot { OnErr result (self.new ≡ self.old) }
         ensures control { OnErr result (control.new ≡ control.old) }
         ensures nvm { Takes (read_action F.filling self.old control.old at) result (N.device nvm.old) (N.device nvm.new) }
+        ensures same_writes { N.writes nvm.new ≡ N.writes nvm.old }
     {
         match at {
             ReadStage::Unread => self.read_commit(nvm),
@@ -80,6 +81,7 @@ impl Boot {
         ensures state { OnOk result (self.new ≡ after_commit (newest (N.device nvm.old) 1) self.old) }
         ensures kept { OnErr result (self.new ≡ self.old) }
         ensures reads { Takes (ReadAt 1) result (N.device nvm.old) (N.device nvm.new) }
+        ensures same_writes { N.writes nvm.new ≡ N.writes nvm.old }
     {
         let commit = nvm.read(1)?;
         self.commit = commit;
@@ -94,6 +96,7 @@ impl Boot {
             OnOk result (self.new ≡ at_slot next self.old) }
         ensures kept { OnErr result (self.new ≡ self.old) }
         ensures reads { Takes (ReadAt 0) result (N.device nvm.old) (N.device nvm.new) }
+        ensures same_writes { N.writes nvm.new ≡ N.writes nvm.old }
     {
         let header = nvm.read(0)?;
         let of_commit = F::commit_fault(&self.geometry, &header, &self.commit);
@@ -119,6 +122,7 @@ impl Boot {
         ensures boot { OnErr result (self.new ≡ self.old) }
         ensures control { OnErr result (control.new ≡ control.old) }
         ensures nvm { Takes (read_action F.filling self.old control.old (Slot next)) result (N.device nvm.old) (N.device nvm.new) }
+        ensures same_writes { N.writes nvm.new ≡ N.writes nvm.old }
     {
         self.read_block::<F, N>(next, nvm)?;
         self.go_on::<F>(next, control);
@@ -136,6 +140,7 @@ impl Boot {
         ensures kept { OnErr result (self.new ≡ self.old) }
         ensures reads { let at = (layout_in F.filling self.old).slot_place self.old.commit + next in
             Takes (ReadAt at) result (N.device nvm.old) (N.device nvm.new) }
+        ensures same_writes { N.writes nvm.new ≡ N.writes nvm.old }
     {
         let at = F::slot_at(&self.geometry, &self.commit, next);
         let block = nvm.read(at)?;
@@ -214,6 +219,7 @@ impl Boot {
         ensures boot { OnErr result (self.new ≡ self.old) }
         ensures control { OnErr result (control.new ≡ control.old) }
         ensures nvm { Takes (read_action F.filling self.old control.old (FillsAt k)) result (N.device nvm.old) (N.device nvm.new) }
+        ensures same_writes { N.writes nvm.new ≡ N.writes nvm.old }
     {
         let _positions = F::most_fills(&self.geometry);
         F::fill(control, &self.commit, k, nvm)?;

@@ -1,7 +1,9 @@
 //! One cycle, at the turn of an actor.
-ghost use Rattle.std.specs.Prelude.{Ok};
+ghost use Rattle.std.specs.Prelude.{◌≡◌, Ok};
 ghost use Rattle.thy_view.specs.declared.did.Stall.TheVariants.{Waiting, Halted};
+ghost use Rattle.thy_view.specs.declared.view.Phase.TheVariants.{Boot};
 ghost use Rattle.thy_view.specs.Turn.{Nvm, Stalled};
+ghost use Rattle.thy_scheme.specs.Restart.{WritesNothing};
 ghost use Rattle.thy_core.specs.Cycles.{IsAnyRun, HasStart, CanTake, HasTaken};
 ghost use Rattle.thy_core.specs.MachineParts.{machine_of, actor_seen};
 
@@ -24,8 +26,10 @@ pub(crate) fn cycle<N: Nvm, S: Scheme>(
     nvm: &mut N,
 ) -> Result<Did, NvmError>
     requires { CanTake S.scheme (HasStart start.now) (actor_seen actor) (machine_of m.old) (N.device nvm.old) }
-    ensures { HasTaken S.scheme (HasStart start.now) (actor_seen actor)
+    ensures taken { HasTaken S.scheme (HasStart start.now) (actor_seen actor)
         (machine_of m.old) (N.device nvm.old) (machine_of m.new) (N.device nvm.new) result }
+    ensures no_writes { let scheme = m.old.store.scheme in m.old.phase ≡ Boot
+        → WritesNothing S.scheme scheme (N.device nvm.old) (N.writes nvm.old) (N.writes nvm.new) }
 {
     match actor {
         Actor::Nvm => land(m, nvm),
@@ -44,8 +48,10 @@ fn stalled<N: Nvm, S: Scheme>(
     nvm: &mut N,
 ) -> Result<Did, NvmError>
     requires { CanTake S.scheme (HasStart start.now) (Stalled why) (machine_of m.old) (N.device nvm.old) }
-    ensures { HasTaken S.scheme (HasStart start.now) (Stalled why)
+    ensures taken { HasTaken S.scheme (HasStart start.now) (Stalled why)
         (machine_of m.old) (N.device nvm.old) (machine_of m.new) (N.device nvm.new) result }
+    ensures no_writes { let scheme = m.old.store.scheme in m.old.phase ≡ Boot
+        → WritesNothing S.scheme scheme (N.device nvm.old) (N.writes nvm.old) (N.writes nvm.new) }
 {
     match why {
         Stall::Booting => boot(m, start, nvm),
@@ -58,8 +64,9 @@ fn stalled<N: Nvm, S: Scheme>(
 /// Lets the oldest queued write of the NVM land.
 fn land<N: Nvm, S: Scheme>(m: &MachineParts<S>, nvm: &mut N) -> Result<Did, NvmError>
     requires { CanTake S.scheme IsAnyRun Nvm (machine_of m.now) (N.device nvm.old) }
-    ensures { HasTaken S.scheme IsAnyRun Nvm
+    ensures taken { HasTaken S.scheme IsAnyRun Nvm
         (machine_of m.now) (N.device nvm.old) (machine_of m.now) (N.device nvm.new) result }
+    ensures same_writes { N.writes nvm.new ≡ N.writes nvm.old }
 {
     nvm.drain()?;
     Ok(Did::NvmDrained)

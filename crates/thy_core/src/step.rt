@@ -2,6 +2,7 @@
 ghost use Rattle.std.specs.Prelude.{◌≡◌, ◌&&◌, not, is_err};
 ghost use Rattle.thy_base.specs.Device.{IsFramed, CountsFault};
 ghost use Rattle.thy_view.specs.Kind.{CanStep, Simulates, FailsSafe};
+ghost use Rattle.thy_view.specs.Restart.{RestartsUnwritten};
 ghost use Rattle.thy_view.specs.Turn.{told_at};
 ghost use Rattle.thy_view.specs.Views.{is_halt};
 ghost use Rattle.thy_core_laws.specs.Kind.{kind_over};
@@ -29,6 +30,8 @@ pub(crate) fn take_step<N: Nvm, S: Scheme>(
         (machine_of m.old) (machine_of m.new) (N.device nvm.old) (N.device nvm.new) result }
     ensures frame { IsFramed (N.device nvm.old) (N.device nvm.new) }
     ensures cause { CountsFault result (N.device nvm.old).faults (N.device nvm.new).faults }
+    ensures no_writes { let kind = kind_over S.scheme in
+        RestartsUnwritten kind (machine_of m.old) (N.device nvm.old) (N.writes nvm.old) (N.writes nvm.new) }
     ensures failed { m.new.failed ≡ is_err result }
 {
     let before = m.phase;

@@ -15,6 +15,7 @@ ghost use Rattle.thy_scheme.specs.CheckpointMarks.{CheckpointMarks};
 ghost use Rattle.thy_scheme.specs.Scheme.{StaysOf, Stands, CanRun, IsBooting, CanBoot};
 ghost use Rattle.thy_scheme.specs.Calls.{IsOneAccess, Stores, Merges, Promotes, PromotionFails, TakesNoAction, Drains, Seals, Engines, EngineFails};
 ghost use Rattle.thy_scheme.specs.Boots.{BootsOn, BootFails, BootDrains};
+ghost use Rattle.thy_scheme.specs.Restart.{WritesNothing};
 ghost use Rattle.thy_dual_laws.specs.Boots.{Boots, IsPowered, has_read_at, loads_at, view_at};
 ghost use Rattle.thy_dual_laws.specs.Dual.{IsOf, is_overlaid, is_promoting, penults};
 ghost use Rattle.thy_dual_laws.specs.Scheme.{dual_scheme};
@@ -121,6 +122,7 @@ impl Scheme for DualScheme {
         ensures stays { StaysDual self.now (N.device nvm.old) self.now (N.device nvm.new) }
         ensures frame { IsFramed (N.device nvm.old) (N.device nvm.new) }
         ensures cause { CountsFault result (N.device nvm.old).faults (N.device nvm.new).faults }
+        ensures same_writes { N.writes nvm.new ≡ N.writes nvm.old }
     {
         blocks_are_works();
         self.control.load(b, nvm)
@@ -158,6 +160,7 @@ impl Scheme for DualScheme {
         ensures err { OnErr result (HasFailed (N.device nvm.old) (N.device nvm.new)) }
         ensures frame { IsFramed (N.device nvm.old) (N.device nvm.new) }
         ensures cause { CountsFault result (N.device nvm.old).faults (N.device nvm.new).faults }
+        ensures same_writes { N.writes nvm.new ≡ N.writes nvm.old }
     {
         self.control.committed(b, nvm)
     }
@@ -237,6 +240,7 @@ impl Scheme for DualScheme {
         ensures left { OnErr result (StaysOf dual_scheme self.old self.new) }
         ensures frame { IsFramed (N.device nvm.old) (N.device nvm.new) }
         ensures cause { CountsFault result (N.device nvm.old).faults (N.device nvm.new).faults }
+        ensures same_writes { N.writes nvm.new ≡ N.writes nvm.old }
     {
         if self.control.promoting() {
             self.control.promote_one(nvm)?;
@@ -298,6 +302,7 @@ impl Scheme for DualScheme {
         ensures left { OnErr result (StaysOf dual_scheme self.old self.new) }
         ensures frame { IsFramed (N.device nvm.old) (N.device nvm.new) }
         ensures cause { CountsFault result (N.device nvm.old).faults (N.device nvm.new).faults }
+        ensures no_writes { WritesNothing dual_scheme self.old (N.device nvm.old) (N.writes nvm.old) (N.writes nvm.new) }
     {
         let result = self.boot.step(&mut self.control, start, nvm);
         self.control.tables();

@@ -12,6 +12,7 @@ ghost use Rattle.thy_scheme.specs.CheckpointMarks.{CheckpointMarks};
 ghost use Rattle.thy_scheme.specs.Scheme.{StaysOf, Stands, CanRun, IsBooting, CanBoot};
 ghost use Rattle.thy_scheme.specs.Calls.{IsOneAccess, Stores, Merges, Promotes, PromotionFails, TakesNoAction, Drains, Seals, Engines, EngineFails};
 ghost use Rattle.thy_scheme.specs.Boots.{BootsOn, BootFails, BootDrains};
+ghost use Rattle.thy_scheme.specs.Restart.{WritesNothing};
 ghost use Rattle.thy_journal_image.specs.Places.{image_blocks};
 ghost use Rattle.thy_log.specs.Holding.{holding_of};
 ghost use Rattle.thy_log.specs.Items.{is_under_way, is_applying};
@@ -131,6 +132,7 @@ impl Scheme for Journal {
         ensures stays { StaysJournal self.now (N.device nvm.old) self.now (N.device nvm.new) }
         ensures frame { IsFramed (N.device nvm.old) (N.device nvm.new) }
         ensures cause { CountsFault result (N.device nvm.old).faults (N.device nvm.new).faults }
+        ensures same_writes { N.writes nvm.new ≡ N.writes nvm.old }
     {
         what_is_held_stays();
         self.log.load(b, nvm)
@@ -167,6 +169,7 @@ impl Scheme for Journal {
         ensures err { OnErr result (HasFailed (N.device nvm.old) (N.device nvm.new)) }
         ensures frame { IsFramed (N.device nvm.old) (N.device nvm.new) }
         ensures cause { CountsFault result (N.device nvm.old).faults (N.device nvm.new).faults }
+        ensures same_writes { N.writes nvm.new ≡ N.writes nvm.old }
     {
         if self.engine.applies() {
             self.log.load(b, nvm)
@@ -240,6 +243,7 @@ impl Scheme for Journal {
         ensures left { OnErr result (StaysOf journal_scheme self.old self.new) }
         ensures frame { IsFramed (N.device nvm.old) (N.device nvm.new) }
         ensures cause { CountsFault result (N.device nvm.old).faults (N.device nvm.new).faults }
+        ensures same_writes { N.writes nvm.new ≡ N.writes nvm.old }
     {
         let _left_alone = &*nvm;
         Ok(())
@@ -291,6 +295,7 @@ impl Scheme for Journal {
         ensures left { OnErr result (StaysOf journal_scheme self.old self.new) }
         ensures frame { IsFramed (N.device nvm.old) (N.device nvm.new) }
         ensures cause { CountsFault result (N.device nvm.old).faults (N.device nvm.new).faults }
+        ensures no_writes { WritesNothing journal_scheme self.old (N.device nvm.old) (N.writes nvm.old) (N.writes nvm.new) }
     {
         let result = self.boot.step::<Refill, N>(&mut self.log, start, nvm);
         self.log.sound();

@@ -3,3 +3,4 @@ pub mod Steps
 pub mod Sound
 pub mod Left
 pub mod Laws
+pub mod Counts

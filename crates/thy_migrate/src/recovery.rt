@@ -6,12 +6,14 @@ ghost use Rattle.thy_view.specs.declared.boot_step.BootStep.TheVariants.{Restart
 ghost use Rattle.thy_boot.specs.declared.stage.Stage.TheVariants.{Over};
 ghost use Rattle.thy_boot.specs.declared.stage.End.TheVariants.{Restored};
 ghost use Rattle.thy_boot.specs.Boot.{IsBoot, slot_read};
+ghost use Rattle.thy_boot.specs.Counts.{Counts};
 ghost use Rattle.thy_boot.specs.Loads.{Takes};
 ghost use Rattle.thy_isa.specs.Step.{state_of};
 ghost use Rattle.thy_record.specs.Commit.{epoch_of};
 ghost use Rattle.thy_record.specs.Cpu.{cpu_of_record};
 ghost use Rattle.thy_recover.specs.Filling.{filling_dual};
 ghost use Rattle.thy_migrate.specs.Migrating.{new_recovery, begun_at, after_action, action_of, answer_of};
+ghost use Rattle.thy_migrate.specs.Counts.{CountsStep};
 ghost use Rattle.thy_migrate.specs.Steps.{CanMigrate, CanStep, TakesStep, IsAction};
 
 use crate::fills::DualFills;
@@ -72,7 +74,8 @@ fn next_after(geometry: &Geometry, at: Migration) -> Option<Migration>
 fn take_action<N: Nvm>(boot: &Boot, at: Migration, nvm: &mut N) -> Result<(), NvmError>
     requires can { CanMigrate at (N.device nvm.old) boot.now }
     requires room { length boot.now.slot ≡ 64 * slot_blocks boot.now.p }
-    ensures { Takes (action_of boot.now at) result (N.device nvm.old) (N.device nvm.new) }
+    ensures nvm { Takes (action_of boot.now at) result (N.device nvm.old) (N.device nvm.new) }
+    ensures writes { Counts (action_of boot.now at) result (N.writes nvm.old) (N.writes nvm.new) }
 {
     let epoch = word(boot.commit(), 1);
     match at {
@@ -119,6 +122,8 @@ impl Recovery {
         ensures answer { IfOk result (λ answer. answer ≡ answer_of self.new) }
         ensures step { let s = state_of start.now.state in
             TakesStep result s (N.device nvm.old) self.old control.old (N.device nvm.new) self.new control.new }
+        ensures writes { let s = state_of start.now.state in
+            CountsStep result s self.old control.old (N.writes nvm.old) (N.writes nvm.new) }
     {
         match self.migration {
             None => self.boot_next(control, start, nvm),
@@ -139,6 +144,8 @@ impl Recovery {
         ensures answer { IfOk result (λ answer. answer ≡ answer_of self.new) }
         ensures step { let s = state_of start.now.state in
             TakesStep result s (N.device nvm.old) self.old control.old (N.device nvm.new) self.new control.new }
+        ensures writes { let s = state_of start.now.state in
+            CountsStep result s self.old control.old (N.writes nvm.old) (N.writes nvm.new) }
     {
         let answer = self.boot.step::<DualFills, N>(control, start, nvm)?;
         self.migration = begun(self.boot.stage(), self.boot.commit());
@@ -157,6 +164,7 @@ impl Recovery {
         ensures state { OnOk result (self.new ≡ record self.old { migration = after_action self.old.boot.p at }) }
         ensures kept { OnErr result (self.new ≡ self.old) }
         ensures nvm { Takes (action_of self.old.boot at) result (N.device nvm.old) (N.device nvm.new) }
+        ensures writes { Counts (action_of self.old.boot at) result (N.writes nvm.old) (N.writes nvm.new) }
     {
         take_action(&self.boot, at, nvm)?;
         self.migration = next_after(self.boot.geometry(), at);

@@ -150,6 +150,7 @@ impl Pool {
         ensures side { OnErr result (frame_of self.now (page_of b) ≡ None) }
         ensures frame { IsFramed (N.device nvm.old) (N.device nvm.new) }
         ensures cause { CountsFault result (N.device nvm.old).faults (N.device nvm.new).faults }
+        ensures same_writes { N.writes nvm.new ≡ N.writes nvm.old }
     {
         self.sound();
         match self.frames.find(b / 64) {
@@ -167,6 +168,7 @@ impl Pool {
         ensures err { OnErr result (HasFailed (N.device nvm.old) (N.device nvm.new)) }
         ensures frame { IsFramed (N.device nvm.old) (N.device nvm.new) }
         ensures cause { CountsFault result (N.device nvm.old).faults (N.device nvm.new).faults }
+        ensures same_writes { N.writes nvm.new ≡ N.writes nvm.old }
     {
         let at = self.place(b / 64, b % 64);
         nvm.read(at)

@@ -33,13 +33,15 @@ use Rattle.thy_boot.specs.Filling.{First}
 use Rattle.thy_boot.specs.Recovers.{IsRestored}
 use Rattle.thy_boot.specs.Sound.{first_of, IsLoaded, IsRecovering, IsSoundAt}
 use Rattle.thy_boot.proofs.FoundLemmas.{restored_is_kept}
+use Rattle.thy_boot.specs.Start.{CanStart, start_blocks}
+use Rattle.thy_boot.proofs.StartLemmas.{state_from-start, CanStart-origin}
 use Rattle.thy_boot.proofs.WrittenLemmas.{AreIssued-written}
 use Rattle.thy_recover.specs.Booted.{RestoredIsBooted, LoadedIsStarted}
-use Rattle.thy_recover.specs.Filling.{CanStart, loads, filling_dual}
-use Rattle.thy_recover.specs.Start.{start_blocks, no_tables, no_counts}
+use Rattle.thy_recover.specs.Filling.{loads, filling_dual}
+use Rattle.thy_recover.specs.Start.{no_tables, no_counts}
 use Rattle.thy_recover.proofs.FillingLemmas.{filling_is_lawful, none_listed, all_hold, loads_first}
-use Rattle.thy_recover.proofs.RecordLemmas.{restored-recordable, start-recordable}
-use Rattle.thy_recover.proofs.StartLemmas.{IsTables-none, AreCounts-none, counts-none, state_from-start, CanStart-origin}
+use Rattle.thy_recover.proofs.RecordLemmas.{restored-recordable}
+use Rattle.thy_recover.proofs.StartLemmas.{IsTables-none, AreCounts-none, counts-none}
 
 pub restored_is_booted : RestoredIsBooted
 restored_is_booted o g n b c origin sound is =
@@ -107,7 +109,7 @@ loaded_is_started o g n b c origin sound is =
     ∙ ap (λ (q : Parameters). map (newest n) (memory_numbers q (no_tables q))) sound.same_p
     ∙ (AreIssued-written _ f long n far.stood.parts).memory_is in
     let state : state_from p (cpu_of o.start) (loads c n) ≡ o.start
-    = ap (state_from p (cpu_of o.start)) memory ∙ state_from-start p o.start can in
+    = ap (state_from p (cpu_of o.start)) memory ∙ state_from-start p o.start can.geometry can.start in
     let slot_same : slot_in p g.next ≡ slot_of f.parts = far.made.slot in
     let lasts : counts_in VersionTwo p (slot_in p g.next) ≡ c.counts.lasts
     = ap (counts_in VersionTwo p) slot_same
@@ -133,7 +135,7 @@ loaded_is_started o g n b c origin sound is =
           holds = all_hold c n far.fresh far.settled;
           state = state ∙ sym (at-start o);
           counted = ap (λ s. s.count) (at-start o);
-          recordable = start-recordable o origin;
+          recordable = can.recordable;
         };
       };
       tables = tables;

@@ -37,13 +37,15 @@ use Rattle.thy_protocol.specs.DualLayouts.{dual_layouts}
 use Rattle.thy_protocol.specs.DualParts.{parts_by}
 use Rattle.thy_protocol.proofs.DualPartsLemmas.{parts_of, no_fault, cpu_is}
 use Rattle.thy_boot.specs.Filling.{IsFilling}
-use Rattle.thy_recover.specs.Filling.{CanStart, IsEmpty, HasTakenUp, ListsSlot, loads, next_position, page_place, filling_dual}
-use Rattle.thy_recover.specs.Start.{start_blocks, no_tables, no_counts}
+use Rattle.thy_boot.specs.Start.{CanStart, start_blocks}
+use Rattle.thy_boot.proofs.StartLemmas.{length-start_blocks, state_from-start, CanStart-origin}
+use Rattle.thy_recover.specs.Filling.{IsEmpty, HasTakenUp, ListsSlot, loads, next_position, page_place, filling_dual}
+use Rattle.thy_recover.specs.Start.{no_tables, no_counts}
 use Rattle.thy_recover.proofs.CountLemmas.{fault-head, counts-begin}
 use Rattle.thy_recover.proofs.PositionLemmas.{IsPosition, IsPosition-next, position_inside, position_above, place_inside, position_again, filled_next, filled_all, AreSoundTables-dram, ListsSlot-dram, lists_filled, fills_to}
 use Rattle.thy_recover.proofs.LiveLemmas.{live_in_tables}
 use Rattle.thy_recover.proofs.SlotLemmas.{least_slot, most_slot}
-use Rattle.thy_recover.proofs.StartLemmas.{IsTables-none, AreCounts-none, place_of-none, length-start_blocks, state_from-start, CanStart-origin}
+use Rattle.thy_recover.proofs.StartLemmas.{IsTables-none, AreCounts-none, place_of-none}
 use Rattle.thy_recover.proofs.WorkLemmas.{loads-are}
 
 -- ---- places
@@ -140,7 +142,7 @@ module _ (p : Parameters) (s : Plain) (h : CanStart p s) where
   state_same =
       ap (λ c. state_from p c (start_blocks p s))
       (cpu_is p ceiling (cpu_of s) (no_tables p) no_counts 0 h.geometry h.recordable (omega arith) (omega arith) (IsTables-none p) (AreCounts-none p))
-      ∙ state_from-start p s h
+      ∙ state_from-start p s h.geometry h.start
 
 -- a controller that lists nothing has memory at home
 module _ (c : State) (n : Device) (e : IsEmpty c) (settled : n.queue ≡ []) where

@@ -51,19 +51,3 @@ pub restored-recordable : (o : Origin) (version : LayoutVersion) (q : Parameters
 restored-recordable o version q k epoch slot memory origin fits is =
     let fit = slot_fits-cpu version o.geometry q epoch slot fits in
     IsRecordable-at o k (cpu_of_record q slot) memory origin is fit.1 fit.0
-
--- and that of the start
-pub start-recordable : (o : Origin) → IsOrigin o → IsRecordable o.geometry ceiling (cpu_of o.start)
-start-recordable o origin = record {
-  pc = origin.recordable.pc;
-  regs_length = origin.recordable.regs_length;
-  regs_zero = origin.recordable.regs_zero;
-  regs = origin.recordable.regs;
-  console = origin.recordable.console;
-  cursor = origin.recordable.cursor;
-  brk = origin.recordable.brk;
-  floor = origin.recordable.floor;
-  count = let l = origin.recordable.count in omega (arith, l);
-  status = origin.recordable.status;
-  other = origin.recordable.other;
-}

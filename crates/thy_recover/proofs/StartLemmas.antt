@@ -1,21 +1,19 @@
--- The checkpoint of a start: tables that list nothing, and blocks that make its state.
+-- The slot of a start: tables that list nothing, and counts of 0.
 use Rattle.std.proofs.Common.{◌≡◌, ℕ, ◌+◌, ◌-◌, ◌*◌, ◌%◌, ◌<◌, ◌≤◌, List, ◌++◌, length, map, take, drop, replicate, Option, None, refl, sym, ◌∙◌, ap, inl, inr, arith}
 use Rattle.std.proofs.lemmas.Bool.{cases_lt}
-use Rattle.std.proofs.lemmas.List.{drop-replicate, take-replicate, replicate-append-replicate, length-append, length-replicate, get_or-replicate, ext_get_or}
+use Rattle.std.proofs.lemmas.List.{drop-replicate, take-replicate, replicate-append-replicate, length-replicate, get_or-replicate, ext_get_or}
 use Rattle.std.proofs.lemmas.List.FromFn.{length-map-range_with_len, get_or-map-range_with_len}
 use Rattle.thy_base.specs.declared.config.Parameters.{Parameters}
 use Rattle.thy_base.specs.declared.place.Place.TheVariants.{Home}
-use Rattle.thy_base.specs.Device.{zero_block, block_at}
-use Rattle.thy_base.specs.Geometry.{IsInRange, memory_blocks, program_size, console_room}
+use Rattle.thy_base.specs.Device.{zero_block}
+use Rattle.thy_base.specs.Geometry.{IsInRange}
 use Rattle.std.specs.List.{range_with_len}
 use Rattle.thy_base.specs.LittleEndian.{number_bytes}
 use Rattle.thy_base.specs.Places.{record_blocks, table_blocks, slot_blocks}
 use Rattle.thy_base.specs.Store.{page_of}
 use Rattle.thy_base.proofs.BlockLemmas.{zero_block-at}
-use Rattle.thy_base.proofs.RangeLemmas.{console_below, btt_eights, ptt_eights}
-use Rattle.thy_flat.specs.Flat.{flat}
-use Rattle.thy_isa.specs.OnBlocks.{state_from}
-use Rattle.thy_isa.specs.Step.{State, cpu_of, state_with}
+use Rattle.thy_base.proofs.RangeLemmas.{btt_eights, ptt_eights}
+use Rattle.thy_isa.specs.Step.{State, cpu_of}
 use Rattle.thy_record.specs.Tables.{IsTables, entry_of, place_by_entries, place_of}
 use Rattle.thy_record.specs.TableBlocks.{table_block_of}
 use Rattle.thy_base.specs.Words.{block_of}
@@ -23,11 +21,7 @@ use Rattle.thy_record.proofs.EntryLemmas.{entry_of-absent, lists_none}
 use Rattle.thy_record.specs.Slots.{AreCounts, byte_in, slot_block_of}
 use Rattle.thy_record.proofs.SlotLemmas.{slot_block_of-table, slot_block_of-count}
 use Rattle.thy_record.proofs.TableLemmas.{table_block_of-entries}
-use Rattle.thy_view.specs.Origin.{Origin, IsOrigin}
-use Rattle.thy_boot.proofs.StartLemmas.{flat-blocks, start_parts}
-use Rattle.thy_recover.specs.Filling.{CanStart}
-use Rattle.thy_recover.specs.Start.{start_bytes, start_block, start_blocks, start_slot, no_tables, no_counts}
-use Rattle.thy_recover.proofs.RecordLemmas.{start-recordable}
+use Rattle.thy_recover.specs.Start.{start_slot, no_tables, no_counts}
 
 -- ---- tables that list nothing
 
@@ -92,44 +86,3 @@ start_slot-zeros p s k r past inside = elim (cases_lt (k - record_blocks p) (tab
       zero_words ∙ sym (slot_block_of-count p (cpu_of s) (no_tables p) no_counts 0 (k - record_blocks p - table_blocks p))
       ∙ ap (slot_block_of p (cpu_of s) (no_tables p) no_counts 0) e
 ]
-
--- ---- the state
-
-length-start_bytes : (p : Parameters) (s : State) → CanStart p s → length (start_bytes p s) ≡ 64 * memory_blocks p
-length-start_bytes p s h =
-    let room = h.start.console in
-    let least = console_below p h.geometry in
-    let size = h.start.memory in
-    let zeros : List ℕ = replicate (console_room p - length s.console) 0 in
-    omega (
-      arith,
-      length-append s.memory (s.console ++ zeros),
-      length-append s.console zeros,
-      length-replicate {A = ℕ} (console_room p - length s.console) 0,
-    )
-
-pub length-start_blocks : (p : Parameters) (s : State) → length (start_blocks p s) ≡ memory_blocks p
-length-start_blocks p s = length-map-range_with_len (start_block p s) 0 (memory_blocks p)
-
-pub block_at-start_blocks : (p : Parameters) (s : State) (b : ℕ) → b < memory_blocks p → block_at (start_blocks p s) b ≡ start_block p s b
-block_at-start_blocks p s b inside = get_or-map-range_with_len (start_block p s) 0 (memory_blocks p) b b zero_block inside (omega arith)
-
--- the start's blocks and its processor make the start
-pub state_from-start : (p : Parameters) (s : State) → CanStart p s → state_from p (cpu_of s) (start_blocks p s) ≡ s
-unfolding state_from
-state_from-start p s h =
-    let bytes : List ℕ = start_bytes p s in
-    let long : length (start_blocks p s) ≡ memory_blocks p = length-start_blocks p s in
-    let all : flat (start_blocks p s) ≡ bytes
-    = flat-blocks (start_blocks p s) bytes (length-start_bytes p s h ∙ ap (λ n. 64 * n) (sym long))
-    (λ i l. block_at-start_blocks p s i (omega (arith, l, long))) in
-    ap (λ bs. state_with (cpu_of s) (take (program_size p) bs) (take (length s.console) (drop (program_size p) bs))) all
-    ∙ start_parts s (program_size p) (replicate (console_room p - length s.console) 0) h.start.memory
-
--- the start of a run can be recorded
-pub CanStart-origin : (o : Origin) → IsOrigin o → CanStart o.geometry o.start
-CanStart-origin o h = record {
-  geometry = h.geometry;
-  start = record { regs = h.recordable.regs_length; memory = h.memory; console = h.recordable.console };
-  recordable = start-recordable o h;
-}

@@ -27,8 +27,9 @@ use Rattle.thy_boot.specs.declared.stage.Stage.TheVariants.{Over}
 use Rattle.thy_boot.specs.declared.stage.End.TheVariants.{Restored, Loaded}
 use Rattle.thy_boot.specs.Boot.{Booting, slot_read}
 use Rattle.thy_boot.specs.Sound.{BootImages, start_mark, IsSoundBoot}
+use Rattle.thy_boot.specs.Start.{start_blocks}
 use Rattle.thy_recover.specs.Filling.{loads, filling_dual}
-use Rattle.thy_recover.specs.Start.{start_blocks, no_tables}
+use Rattle.thy_recover.specs.Start.{no_tables}
 
 -- over a device the controller has the state of a mark: memory as it loads it and this processor make it, and the next
 -- checkpoint's record can hold the processor

@@ -7,12 +7,12 @@ use Rattle.thy_base.specs.declared.config.Parameters.{Parameters}
 use Rattle.thy_base.specs.declared.layout_version.LayoutVersion.{LayoutVersion}
 use Rattle.thy_base.specs.declared.place.Place.TheVariants.{AlternatePage, Frame}
 use Rattle.thy_base.specs.Device.{Device}
-use Rattle.thy_base.specs.Geometry.{IsInRange, memory_blocks}
+use Rattle.thy_base.specs.Geometry.{memory_blocks}
 use Rattle.thy_base.specs.Places.{number_of, slot_blocks}
 use Rattle.thy_dram.specs.Contents.{written}
 use Rattle.thy_isa.specs.Step.{State as Plain, cpu_of}
 use Rattle.thy_record.specs.Commit.{commit_of, version_of}
-use Rattle.thy_record.specs.Cpu.{cpu_of_record, IsRecordable}
+use Rattle.thy_record.specs.Cpu.{cpu_of_record}
 use Rattle.thy_record.specs.Header.{header_of}
 use Rattle.thy_record.specs.Slots.{tables_in, counts_in, count_fault}
 use Rattle.thy_record.specs.Tables.{entry_at}
@@ -23,11 +23,11 @@ use Rattle.thy_control.specs.Boot.{IsBooting, MayFrame, framed_block}
 use Rattle.thy_control.specs.CheckpointTables.{tables0}
 use Rattle.thy_control.specs.Drains.{after_drain}
 use Rattle.thy_control.specs.Stays.{HoldAll}
-use Rattle.thy_view.specs.Safe.{ceiling}
 use Rattle.thy_protocol.specs.DualLayouts.{dual_layouts}
 use Rattle.thy_protocol.specs.DualParts.{parts_by}
 use Rattle.thy_boot.specs.Filling.{FillingOf, First}
-use Rattle.thy_recover.specs.Start.{IsStartFor, start_blocks, no_tables, no_counts}
+use Rattle.thy_boot.specs.Start.{CanStart, start_blocks}
+use Rattle.thy_recover.specs.Start.{no_tables, no_counts}
 
 -- the position itself, if its entry lists a page, else the first block of the next page that is listed
 abbrev pub position_in : ℕ → Option ℕ → Option ℕ
@@ -84,12 +84,6 @@ first_of_start p s = record {
   parts = parts_by p (cpu_of s) (no_tables p) no_counts 0;
   memory = start_blocks p s;
 }
-
--- a start can be recorded
-pub record CanStart (p : Parameters) (s : Plain) : Type 0 where
-  pub geometry : IsInRange p
-  pub start : IsStartFor p s
-  pub recordable : IsRecordable p ceiling (cpu_of s)
 
 -- listing and filling leave the counts of the stores of this epoch, and the room of the DRAM's queue, which has one
 -- write more at most

@@ -4,3 +4,4 @@ pub mod Calls
 pub mod Boots
 pub mod Laws
 pub mod SchemeStore
+pub mod Restart

@@ -11,6 +11,7 @@ ghost use Rattle.thy_scheme.specs.CheckpointMarks.{CheckpointMarks};
 ghost use Rattle.thy_scheme.specs.Scheme.{SchemeOf, StaysOf, Stands, CanRun, IsBooting, CanBoot};
 ghost use Rattle.thy_scheme.specs.Calls.{IsOneAccess, Stores, Merges, Promotes, PromotionFails, TakesNoAction, Drains, Seals, Engines, EngineFails};
 ghost use Rattle.thy_scheme.specs.Boots.{BootsOn, BootFails, BootDrains};
+ghost use Rattle.thy_scheme.specs.Restart.{WritesNothing};
 ghost use Rattle.thy_scheme.specs.Laws.{IsLawful};
 
 use std::alloc::{AllocError, Global};
@@ -52,7 +53,8 @@ pub trait Scheme: Drop {
         ensures kept { IsKeptByLoad (scheme.holding self.now (N.device nvm.old)) (scheme.holding self.now (N.device nvm.new)) }
         ensures stays { scheme.stays self.now (N.device nvm.old) self.now (N.device nvm.new) }
         ensures frame { IsFramed (N.device nvm.old) (N.device nvm.new) }
-        ensures cause { CountsFault result (N.device nvm.old).faults (N.device nvm.new).faults };
+        ensures cause { CountsFault result (N.device nvm.old).faults (N.device nvm.new).faults }
+        ensures same_writes { N.writes nvm.new ≡ N.writes nvm.old };
 
     /// Stores block `b` of memory, or makes the copy that has to come first.
     fn store<N: Nvm>(&mut self, b: u64, block: &Block, nvm: &mut N) -> Result<Stored, NvmError>
@@ -73,7 +75,8 @@ pub trait Scheme: Drop {
         ensures same { OnOk result (N.device nvm.new ≡ N.device nvm.old) }
         ensures err { OnErr result (HasFailed (N.device nvm.old) (N.device nvm.new)) }
         ensures frame { IsFramed (N.device nvm.old) (N.device nvm.new) }
-        ensures cause { CountsFault result (N.device nvm.old).faults (N.device nvm.new).faults };
+        ensures cause { CountsFault result (N.device nvm.old).faults (N.device nvm.new).faults }
+        ensures same_writes { N.writes nvm.new ≡ N.writes nvm.old };
 
     /// How many table entries are free.
     fn free(&self) -> u64
@@ -125,7 +128,8 @@ pub trait Scheme: Drop {
         ensures err { OnErr result (PromotionFails (N.device nvm.old) (N.device nvm.new)) }
         ensures left { OnErr result (StaysOf scheme self.old self.new) }
         ensures frame { IsFramed (N.device nvm.old) (N.device nvm.new) }
-        ensures cause { CountsFault result (N.device nvm.old).faults (N.device nvm.new).faults };
+        ensures cause { CountsFault result (N.device nvm.old).faults (N.device nvm.new).faults }
+        ensures same_writes { N.writes nvm.new ≡ N.writes nvm.old };
 
     /// Seals an epoch: the checkpoint of memory as it is, and of this processor, is under way then.
     fn seal(&mut self, cpu: &CpuState, epoch: u64)
@@ -157,7 +161,8 @@ pub trait Scheme: Drop {
             → OnErr result (BootFails scheme o self.old (N.device nvm.old) (N.device nvm.new)) }
         ensures left { OnErr result (StaysOf scheme self.old self.new) }
         ensures frame { IsFramed (N.device nvm.old) (N.device nvm.new) }
-        ensures cause { CountsFault result (N.device nvm.old).faults (N.device nvm.new).faults };
+        ensures cause { CountsFault result (N.device nvm.old).faults (N.device nvm.new).faults }
+        ensures no_writes { WritesNothing scheme self.old (N.device nvm.old) (N.writes nvm.old) (N.writes nvm.new) };
 
     /// Whether the boot has found that there is no checkpoint.
     fn loading(&self) -> bool

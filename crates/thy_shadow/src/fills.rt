@@ -92,6 +92,7 @@ impl Fills for Relist {
         ensures ok { OnOk result (control.new ≡ control.old) }
         ensures err { OnErr result (control.new ≡ control.old) }
         ensures nvm { Takes (ReadAt 0) result (N.device nvm.old) (N.device nvm.new) }
+        ensures same_writes { N.writes nvm.new ≡ N.writes nvm.old }
     {
         nvm.read(0)?;
         Ok(())

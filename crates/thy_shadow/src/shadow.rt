@@ -12,6 +12,7 @@ ghost use Rattle.thy_scheme.specs.CheckpointMarks.{CheckpointMarks};
 ghost use Rattle.thy_scheme.specs.Scheme.{StaysOf, Stands, CanRun, IsBooting, CanBoot};
 ghost use Rattle.thy_scheme.specs.Calls.{IsOneAccess, Stores, Merges, Promotes, PromotionFails, TakesNoAction, Drains, Seals, Engines, EngineFails};
 ghost use Rattle.thy_scheme.specs.Boots.{BootsOn, BootFails, BootDrains};
+ghost use Rattle.thy_scheme.specs.Restart.{WritesNothing};
 ghost use Rattle.thy_shadow_image.specs.Places.{image_blocks};
 ghost use Rattle.thy_pool.specs.Holding.{commits, holding_of};
 ghost use Rattle.thy_pool.specs.Items.{is_under_way};
@@ -133,6 +134,7 @@ impl Scheme for Shadow {
         ensures stays { StaysShadow self.now (N.device nvm.old) self.now (N.device nvm.new) }
         ensures frame { IsFramed (N.device nvm.old) (N.device nvm.new) }
         ensures cause { CountsFault result (N.device nvm.old).faults (N.device nvm.new).faults }
+        ensures same_writes { N.writes nvm.new ≡ N.writes nvm.old }
     {
         what_is_held_stays();
         self.pool.load(b, nvm)
@@ -168,6 +170,7 @@ impl Scheme for Shadow {
         ensures err { OnErr result (HasFailed (N.device nvm.old) (N.device nvm.new)) }
         ensures frame { IsFramed (N.device nvm.old) (N.device nvm.new) }
         ensures cause { CountsFault result (N.device nvm.old).faults (N.device nvm.new).faults }
+        ensures same_writes { N.writes nvm.new ≡ N.writes nvm.old }
     {
         self.pool.committed(b, nvm)
     }
@@ -237,6 +240,7 @@ impl Scheme for Shadow {
         ensures left { OnErr result (StaysOf shadow_scheme self.old self.new) }
         ensures frame { IsFramed (N.device nvm.old) (N.device nvm.new) }
         ensures cause { CountsFault result (N.device nvm.old).faults (N.device nvm.new).faults }
+        ensures same_writes { N.writes nvm.new ≡ N.writes nvm.old }
     {
         let _left_alone = &*nvm;
         Ok(())
@@ -289,6 +293,7 @@ impl Scheme for Shadow {
         ensures left { OnErr result (StaysOf shadow_scheme self.old self.new) }
         ensures frame { IsFramed (N.device nvm.old) (N.device nvm.new) }
         ensures cause { CountsFault result (N.device nvm.old).faults (N.device nvm.new).faults }
+        ensures no_writes { WritesNothing shadow_scheme self.old (N.device nvm.old) (N.writes nvm.old) (N.writes nvm.new) }
     {
         let result = self.boot.step::<Relist, N>(&mut self.pool, start, nvm);
         self.pool.sound();

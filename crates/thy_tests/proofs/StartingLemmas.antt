@@ -22,7 +22,8 @@ use Rattle.thy_boot.specs.Steps.{Steps, StepsAt}
 use Rattle.thy_boot.proofs.ReadLemmas.{HasRead-new}
 use Rattle.thy_isa.specs.declared.state.Status.{Status}
 use Rattle.thy_record.specs.Cpu.{status_tag, status_value, is_status, IsOtherRecordable}
-use Rattle.thy_recover.specs.Filling.{CanStart, filling_dual}
+use Rattle.thy_boot.specs.Start.{CanStart}
+use Rattle.thy_recover.specs.Filling.{filling_dual}
 use Rattle.thy_recover.proofs.LiveLemmas.{IsFresh-new}
 use Rattle.thy_tests.specs.Beside.{all}
 use Rattle.thy_tests.specs.Boots.{Boots, IsLeastStart}

@@ -10,7 +10,8 @@ use Rattle.thy_view.specs.declared.boot_step.BootStep.TheVariants.{GoesOn}
 use Rattle.thy_boot.specs.Boot.{Booting, IsBoot}
 use Rattle.thy_boot.specs.Steps.{CanStep}
 use Rattle.thy_isa.specs.declared.state.Status.TheVariants.{Running}
-use Rattle.thy_recover.specs.Filling.{CanStart, filling_dual}
+use Rattle.thy_boot.specs.Start.{CanStart}
+use Rattle.thy_recover.specs.Filling.{filling_dual}
 
 -- it may take a step, with this start
 pub record Boots (s : Plain) (n : Device) (b : Booting) (c : State) : Type 0 where

@@ -13,3 +13,4 @@ pub mod Told
 pub mod OneHart
 pub mod Kind
 pub mod Laws
+pub mod Restart

@@ -4,6 +4,7 @@ ghost use Rattle.thy_base.specs.Device.{Device, IsFramed, CountsFault};
 ghost use Rattle.thy_dram.specs.Contents.{lost};
 ghost use Rattle.thy_view.specs.Kind.{KindOf, IsLawful, CanStep, CanRead, CanSnapshot, IsDramOf, Simulates, FailsSafe, Snapshots, SnapshotsStopped, ShowsConsole, LeavesAlonePast, TellsLoading, HasFailedToRead};
 ghost use Rattle.thy_view.specs.Origin.{Origin};
+ghost use Rattle.thy_view.specs.Restart.{RestartsUnwritten};
 ghost use Rattle.thy_view.specs.declared.view.View.{View};
 
 use crate::{CoreError, Stepped};
@@ -41,7 +42,8 @@ pub trait Computer: Drop {
         ensures steps { Simulates kind start.now pick self.old self.new (N.device nvm.old) (N.device nvm.new) result }
         ensures safe { FailsSafe kind start.now pick self.old self.new (N.device nvm.old) (N.device nvm.new) result }
         ensures frame { IsFramed (N.device nvm.old) (N.device nvm.new) }
-        ensures cause { CountsFault result (N.device nvm.old).faults (N.device nvm.new).faults };
+        ensures cause { CountsFault result (N.device nvm.old).faults (N.device nvm.new).faults }
+        ensures no_writes { RestartsUnwritten kind self.old (N.device nvm.old) (N.writes nvm.old) (N.writes nvm.new) };
 
     /// Whether a step has failed since power came on.
     fn failed(&self) -> bool

@@ -14,6 +14,7 @@ ghost use Rattle.thy_scheme.specs.CheckpointMarks.{CheckpointMarks};
 ghost use Rattle.thy_scheme.specs.Scheme.{StaysOf, Stands, CanRun, IsBooting, CanBoot};
 ghost use Rattle.thy_scheme.specs.Calls.{IsOneAccess, Stores, Merges, Promotes, PromotionFails, TakesNoAction, Drains, Seals, Engines, EngineFails};
 ghost use Rattle.thy_scheme.specs.Boots.{BootsOn, BootFails, BootDrains};
+ghost use Rattle.thy_scheme.specs.Restart.{WritesNothing};
 ghost use Rattle.thy_dual_laws.specs.Boots.{has_read_at, loads_at, view_at};
 ghost use Rattle.thy_dual_laws.specs.Dual.{IsOf, is_overlaid, is_promoting, penults};
 ghost use Rattle.thy_dual_laws.specs.Scheme.{dual_scheme};
@@ -132,6 +133,7 @@ impl Scheme for WaitingScheme {
         ensures stays { Stays dual_scheme self.now (N.device nvm.old) self.now (N.device nvm.new) }
         ensures frame { IsFramed (N.device nvm.old) (N.device nvm.new) }
         ensures cause { CountsFault result (N.device nvm.old).faults (N.device nvm.new).faults }
+        ensures same_writes { N.writes nvm.new ≡ N.writes nvm.old }
     {
         self.below.load(b, nvm)
     }
@@ -163,6 +165,7 @@ impl Scheme for WaitingScheme {
         ensures err { OnErr result (HasFailed (N.device nvm.old) (N.device nvm.new)) }
         ensures frame { IsFramed (N.device nvm.old) (N.device nvm.new) }
         ensures cause { CountsFault result (N.device nvm.old).faults (N.device nvm.new).faults }
+        ensures same_writes { N.writes nvm.new ≡ N.writes nvm.old }
     {
         self.below.committed(b, nvm)
     }
@@ -238,6 +241,7 @@ impl Scheme for WaitingScheme {
         ensures left { OnErr result (StaysOf waiting_scheme self.old self.new) }
         ensures frame { IsFramed (N.device nvm.old) (N.device nvm.new) }
         ensures cause { CountsFault result (N.device nvm.old).faults (N.device nvm.new).faults }
+        ensures same_writes { N.writes nvm.new ≡ N.writes nvm.old }
     {
         self.below.promote_one(nvm)
     }
@@ -292,6 +296,7 @@ impl Scheme for WaitingScheme {
         ensures left { OnErr result (StaysOf waiting_scheme self.old self.new) }
         ensures frame { IsFramed (N.device nvm.old) (N.device nvm.new) }
         ensures cause { CountsFault result (N.device nvm.old).faults (N.device nvm.new).faults }
+        ensures no_writes { WritesNothing waiting_scheme self.old (N.device nvm.old) (N.writes nvm.old) (N.writes nvm.new) }
     {
         let step = self.below.boot_step(start, nvm)?;
         self.left = left_booted(&step);

@@ -84,6 +84,7 @@ impl Control {
         requires sized { IsSized self.old (N.device nvm.old) }
         ensures copies { CopiesFrame j k self.old (N.device nvm.old) result self.new (N.device nvm.new) }
         ensures booting { IsBooting self.new }
+        ensures same_writes { N.writes nvm.new ≡ N.writes nvm.old }
 
         // Both checkpoints have every block as before, and the places of this one hold what they have to.
         ensures keeps { OnOk result (KeepsCheckpoints self.old (N.device nvm.old) self.new (N.device nvm.new)) }
@@ -99,7 +100,8 @@ impl Control {
         requires entry { j < self.old.p.ptt }
         requires block { k < 64 }
         requires sized { IsSized self.old (N.device nvm.old) }
-        ensures { CopiesFrame j k self.old (N.device nvm.old) result self.new (N.device nvm.new) }
+        ensures copies { CopiesFrame j k self.old (N.device nvm.old) result self.new (N.device nvm.new) }
+        ensures same_writes { N.writes nvm.new ≡ N.writes nvm.old }
     {
         self.tables();
         let from = Place::AlternatePage { entry: j, block: k };

@@ -1,7 +1,7 @@
 use Rattle.std.proofs.Common.{sym, ◌∙◌, arith}
 use Rattle.thy_isa.specs.Step.{state_of}
+use Rattle.thy_boot.proofs.StartLemmas.{block_at-start_blocks}
 use Rattle.thy_recover.proofs.FillingLemmas.{first_place, numbers_long}
-use Rattle.thy_recover.proofs.StartLemmas.{block_at-start_blocks}
 use Rattle.thy_recover.proofs.start.first_memory.Goals as goal
 
 pub home-requires : goal.home-requires

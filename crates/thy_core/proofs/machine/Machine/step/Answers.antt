@@ -1,5 +1,6 @@
 use Rattle.std.proofs.Common.{subst}
 use Rattle.thy_view.specs.Kind.{Simulates, FailsSafe}
+use Rattle.thy_view.specs.Restart.{RestartsUnwritten}
 use Rattle.thy_core_laws.specs.Kind.{kind_over}
 use Rattle.thy_core_laws.specs.Machine.{Machine}
 use Rattle.thy_core.specs.MachineParts.{machine_of}
@@ -14,3 +15,8 @@ pub returns-clause-safe : goal.returns-clause-safe
 returns-clause-safe g c =
     subst (λ (m : Machine g.row.S.Denot). FailsSafe (kind_over g.S.Scheme.scheme) c.args.start.now c.args.pick m (machine_of c.take_step.new.m) (g.N.Nvm.device c.args.nvm.now)
     (g.N.Nvm.device c.take_step.new.nvm) c.take_step.result) c.self.view_is c.take_step.ensures.safe
+
+pub returns-clause-no_writes : goal.returns-clause-no_writes
+returns-clause-no_writes g c =
+    subst (λ (m : Machine g.row.S.Denot). RestartsUnwritten (kind_over g.S.Scheme.scheme) m (g.N.Nvm.device c.args.nvm.now)
+    (g.N.Nvm.writes c.args.nvm.now) (g.N.Nvm.writes c.take_step.new.nvm)) c.self.view_is c.take_step.ensures.no_writes

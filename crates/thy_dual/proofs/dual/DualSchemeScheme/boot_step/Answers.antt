@@ -1,18 +1,21 @@
-use Rattle.std.proofs.Common.{sym, subst, IfOk, OnErr, Result}
+use Rattle.std.proofs.Common.{◌≡◌, Some, is_some, false, sym, subst, IfOk, OnErr, Result}
 use Rattle.thy_base.specs.declared.nvm.NvmError.{NvmError}
 use Rattle.thy_base.specs.Device.{Device}
 use Rattle.thy_view.specs.declared.boot_step.BootStep.{BootStep}
+use Rattle.thy_isa.specs.Step.{state_of}
 use Rattle.thy_migrate.specs.Migrating.{Recovering}
 use Rattle.thy_migrate.specs.Steps.{TakesStep}
 use Rattle.thy_control.specs.State.{State}
 use Rattle.thy_scheme.specs.Boots.{BootsOn, BootFails}
 use Rattle.thy_scheme.specs.Scheme.{StaysOf, IsBooting, CanBoot}
+use Rattle.thy_dual_laws.specs.Boots.{view_at}
 use Rattle.thy_dual_laws.specs.Dual.{Dual}
 use Rattle.thy_dual_laws.specs.Scheme.{dual_scheme}
 use Rattle.thy_dual_laws.proofs.StoreLemmas.{of-failed}
 use Rattle.thy_dual_laws.proofs.BootStepLemmas.{boots-by, fails-by, fits-by, took-for, may-step, boot-fits}
 use Rattle.thy_dual.specs.Calls.{TakesBootStep}
 use Rattle.thy_dual.proofs.CallLemmas.{takes_boot_step}
+use Rattle.thy_dual.proofs.CountLemmas.{writes_nothing}
 use Rattle.thy_dual.proofs.dual.DualSchemeScheme.boot_step.Goals as goal
 
 pub step-result-requires-clause-can : goal.step-result-requires-clause-can
@@ -85,3 +88,14 @@ returns-clause-made g c =
     let r : Result BootStep NvmError = c.step-result.result in
     subst (λ (s : Dual). TakesBootStep c.args.start.now s n r (record v { control = t; boot = d }) new) c.self.view_is
     (takes_boot_step c.args.start.now v n r t d new e.answer e.step)
+
+pub returns-clause-no_writes : goal.returns-clause-no_writes
+returns-clause-no_writes g c = λ o m boots done rests.
+    let v : Dual = record { control = c.self.inside.control; engine = c.self.inside.engine; storeless = c.self.inside.storeless; sealed_storeless = c.self.inside.sealed_storeless; boot = c.self.inside.boot } in
+    let n : Device = g.N.Nvm.device c.args.nvm.now in
+    let old = g.N.Nvm.writes c.args.nvm.now in
+    let new = g.N.Nvm.writes c.step-result.new.nvm in
+    let seen : (view_at o v.boot.boot.stage n).done ≡ Some m
+    = subst (λ (s : Dual). (view_at o s.boot.boot.stage n).done ≡ Some m) (sym c.self.view_is) done in
+    let rests_v : is_some v.boot.migration ≡ false = subst (λ (s : Dual). is_some s.boot.migration ≡ false) (sym c.self.view_is) rests in
+    writes_nothing o n m c.step-result.result old new (state_of c.args.start.now.state) v.control v.boot.migration v.boot seen rests_v c.step-result.ensures.writes

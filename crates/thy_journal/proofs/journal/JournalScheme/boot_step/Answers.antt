@@ -1,6 +1,7 @@
-use Rattle.std.proofs.Common.{◌≡◌, sym, ◌∙◌, ap, subst, IfOk, OnErr, Result}
+use Rattle.std.proofs.Common.{◌≡◌, Some, sym, ◌∙◌, ap, subst, IfOk, OnErr, Result}
 use Rattle.thy_base.specs.declared.nvm.NvmError.{NvmError}
 use Rattle.thy_base.specs.Device.{Device}
+use Rattle.thy_isa.specs.Step.{state_of}
 use Rattle.thy_view.specs.declared.boot_step.BootStep.{BootStep}
 use Rattle.thy_boot.specs.declared.stage.Stage.{Stage}
 use Rattle.thy_boot.specs.Boot.{Booting}
@@ -11,12 +12,13 @@ use Rattle.thy_log.specs.Progress.{Progress}
 use Rattle.thy_log.specs.State.{State}
 use Rattle.thy_refill.specs.Filling.{filling_journal}
 use Rattle.thy_journal_laws.specs.Journal.{Journal as Value}
-use Rattle.thy_journal_scheme.specs.Boots.{engine_at}
+use Rattle.thy_journal_scheme.specs.Boots.{view_at, engine_at}
 use Rattle.thy_journal_scheme.specs.Scheme.{journal_scheme}
 use Rattle.thy_journal_scheme.proofs.StayLemmas.{of-failed}
 use Rattle.thy_journal_scheme.proofs.StepLemmas.{boots-by, boot-fails-by, took-for, may-step}
 use Rattle.thy_journal.specs.Calls.{TakesBootStep}
 use Rattle.thy_journal.proofs.CallLemmas.{boot_fits, takes_boot_step}
+use Rattle.thy_journal.proofs.CountLemmas.{writes_nothing}
 use Rattle.thy_journal.proofs.journal.JournalScheme.boot_step.Goals as goal
 
 pub step-result-requires-clause-can : goal.step-result-requires-clause-can
@@ -94,3 +96,13 @@ returns-clause-made g c =
     let r : Result BootStep NvmError = c.step-result.result in
     subst (λ (s : Value). TakesBootStep c.args.start.now s n r (record v { log = t; engine = f; boot = d }) new) c.self.view_is
     (takes_boot_step c.args.start.now v n r t d f new is c.step-result.ensures.answer c.step-result.ensures.step)
+
+pub returns-clause-no_writes : goal.returns-clause-no_writes
+returns-clause-no_writes g c = λ o m boots done rests.
+    let v : Value = record { log = c.self.inside.log; engine = c.self.inside.engine; storeless = c.self.inside.storeless; sealed_storeless = c.self.inside.sealed_storeless; boot = c.self.inside.boot } in
+    let n : Device = g.N.Nvm.device c.args.nvm.now in
+    let old = g.N.Nvm.writes c.args.nvm.now in
+    let new = g.N.Nvm.writes c.step-result.new.nvm in
+    let seen : (view_at o v.boot.stage n).done ≡ Some m
+    = subst (λ (s : Value). (view_at o s.boot.stage n).done ≡ Some m) (sym c.self.view_is) done in
+    writes_nothing o n m c.step-result.result old new (state_of c.args.start.now.state) v.boot v.log v.boot.stage seen c.step-result.ensures.writes

@@ -1,6 +1,7 @@
-use Rattle.std.proofs.Common.{sym, subst, IfOk, OnErr, Result}
+use Rattle.std.proofs.Common.{◌≡◌, Some, sym, subst, IfOk, OnErr, Result}
 use Rattle.thy_base.specs.declared.nvm.NvmError.{NvmError}
 use Rattle.thy_base.specs.Device.{Device}
+use Rattle.thy_isa.specs.Step.{state_of}
 use Rattle.thy_view.specs.declared.boot_step.BootStep.{BootStep}
 use Rattle.thy_boot.specs.Boot.{Booting}
 use Rattle.thy_boot.specs.Steps.{TakesStep}
@@ -9,11 +10,13 @@ use Rattle.thy_scheme.specs.Scheme.{StaysOf, IsBooting, CanBoot}
 use Rattle.thy_pool.specs.State.{State}
 use Rattle.thy_repool.specs.Filling.{filling_shadow}
 use Rattle.thy_shadow_laws.specs.Shadow.{Shadow as Value}
+use Rattle.thy_shadow_scheme.specs.Boots.{view_at}
 use Rattle.thy_shadow_scheme.specs.Scheme.{shadow_scheme}
 use Rattle.thy_shadow_scheme.proofs.StayLemmas.{of-failed}
 use Rattle.thy_shadow_scheme.proofs.StepLemmas.{boots-by, boot-fails-by, took-for, may-step}
 use Rattle.thy_shadow.specs.Calls.{TakesBootStep}
 use Rattle.thy_shadow.proofs.CallLemmas.{boot_fits, takes_boot_step}
+use Rattle.thy_shadow.proofs.CountLemmas.{writes_nothing}
 use Rattle.thy_shadow.specs.contracts.shadow.Shadow.{the_view}
 use Rattle.thy_shadow.proofs.shadow.ShadowScheme.boot_step.Goals as goal
 
@@ -94,3 +97,13 @@ returns-clause-made g c =
     let r : Result BootStep NvmError = c.step-result.result in
     subst (λ (s : Value). TakesBootStep c.args.start.now s n r next new) c.self.view_is
     (takes_boot_step c.args.start.now v n r t d new c.step-result.ensures.answer c.step-result.ensures.step)
+
+pub returns-clause-no_writes : goal.returns-clause-no_writes
+returns-clause-no_writes g c = λ o m boots done rests.
+    let v : Value = the_view c.self.inside in
+    let n : Device = g.N.Nvm.device c.args.nvm.now in
+    let old = g.N.Nvm.writes c.args.nvm.now in
+    let new = g.N.Nvm.writes c.step-result.new.nvm in
+    let seen : (view_at o v.boot.stage n).done ≡ Some m
+    = subst (λ (s : Value). (view_at o s.boot.stage n).done ≡ Some m) (sym c.self.view_is) done in
+    writes_nothing o n m c.step-result.result old new (state_of c.args.start.now.state) v.boot v.pool v.boot.stage seen c.step-result.ensures.writes
