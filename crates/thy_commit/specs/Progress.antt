@@ -7,6 +7,7 @@ use Rattle.thy_base.specs.declared.nvm.NvmError.{NvmError}
 use Rattle.thy_base.specs.Device.{Device, written_to, settled, HasFailed, HasFailedToWrite, IsFramed, CountsFault}
 use Rattle.thy_base.specs.Places.{slot_blocks, slot_place}
 use Rattle.thy_isa.specs.declared.state.CpuState.{CpuState}
+use Rattle.thy_isa.specs.Step.{zero_cpu}
 use Rattle.thy_record.specs.Commit.{commit_of}
 use Rattle.thy_record.specs.Slots.{slot_block_of}
 use Rattle.thy_switch.specs.LastBlocks.{last_block_of}
@@ -27,6 +28,10 @@ pub record Progress : Type 0 where
   -- the processor as it was sealed, and the epoch that was sealed
   pub cpu : CpuState
   pub epoch : ℕ
+
+-- an engine with nothing to do
+abbrev pub new_engine : Parameters → Progress
+new_engine p = record { p = p; next = Nothing; cpu = zero_cpu; epoch = 0 }
 
 -- it has the registers, and a block of the slot comes next only if the slot has it
 pub record IsSoundProgress (e : Progress) : Type 0 where

@@ -14,7 +14,7 @@ use thy_control::Control;
 use thy_isa::CpuState;
 use thy_record::{EngineStep, commit_block, cpu_block};
 
-/// The checkpoint engine. It takes one action on the NVM a cycle.
+/// The checkpoint engine. Each step makes of the NVM what one action makes of it.
 #[derive(Drop)]
 pub struct Engine {
     geometry: Geometry,
@@ -54,12 +54,11 @@ fn slot_step(geometry: &Geometry, k: u64) -> EngineStep
 impl Engine {
     ghost use Rattle.thy_base.specs.Places.{slot_blocks};
     ghost use Rattle.thy_commit.specs.Items.{SlotItem, SettleItem, CommitItem, ConfirmItem, is_under_way, copy_item, page_item, next_after, answer};
-    ghost use Rattle.thy_commit.specs.Progress.{begun, Fits, IsSoundProgress, IsDone, slot_block, Ends, item_of, engine_next, state_next, device_next, FailsNext};
+    ghost use Rattle.thy_commit.specs.Progress.{new_engine, begun, Fits, IsSoundProgress, IsDone, slot_block, Ends, item_of, engine_next, state_next, device_next, FailsNext};
 
     /// An engine with no checkpoint under way.
     pub fn new(geometry: &Geometry) -> Engine
-        ensures geometry { result.p ≡ geometry.now }
-        ensures idle { is_under_way result.next ≡ false }
+        ensures { result ≡ new_engine geometry.now }
     {
         Engine {
             geometry: *geometry,
@@ -105,8 +104,9 @@ impl Engine {
         }
     }
 
-    /// Takes one action: nothing if no checkpoint is under way. A copy or a page that is not left costs no cycle. If the
-    /// NVM failed, engine and controller are as they were, and only the place of a write that failed may hold more.
+    /// Takes one action: nothing if no checkpoint is under way. A copy or a page that is not left takes no step of
+    /// its own. If the NVM failed, engine and controller are as they were, and only the place of a write that failed may
+    /// hold more.
     ///
     /// The result names the item. `Copied`, `PageBlock`, `StateBlock` and `TableBlock` differ in nothing else: each
     /// is a write that leaves the commit block alone, and no contract above this one distinguishes them.

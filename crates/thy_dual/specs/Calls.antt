@@ -21,8 +21,8 @@ use Rattle.thy_control.specs.Seal.{sealed_state}
 use Rattle.thy_control.specs.State.{State, cell_of, work_of, penult_of, new_state}
 use Rattle.thy_control.specs.StoredTables.{answer_of as answer_by}
 use Rattle.thy_view.specs.declared.boot_step.BootStep.{BootStep}
-use Rattle.thy_commit.specs.Items.{is_under_way, answer}
-use Rattle.thy_commit.specs.Progress.{begun, item_of, engine_next, state_next, device_next, FailsNext}
+use Rattle.thy_commit.specs.Items.{answer}
+use Rattle.thy_commit.specs.Progress.{new_engine, begun, item_of, engine_next, state_next, device_next, FailsNext}
 use Rattle.thy_migrate.specs.Migrating.{new_recovery, answer_of}
 use Rattle.thy_migrate.specs.Steps.{TakesStep}
 use Rattle.thy_dual_laws.specs.Dual.{Dual, is_overlaid, is_promoting}
@@ -33,8 +33,7 @@ use Rattle.thy_dual_laws.specs.Dual.{Dual, is_overlaid, is_promoting}
 pub record IsNew (p : Parameters) (dram : Contents) (s : Dual) : Type 0 where
   pub control : s.control ≡ new_state p dram
   pub boot : s.boot ≡ new_recovery p
-  pub engine : s.engine.p ≡ p
-  pub idle : is_under_way s.engine.next ≡ false
+  pub engine : s.engine ≡ new_engine p
   pub storeless : s.storeless ≡ true
   pub sealed_storeless : s.sealed_storeless ≡ false
 

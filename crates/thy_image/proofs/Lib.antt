@@ -4,3 +4,4 @@ pub mod ThynvmLemmas
 pub mod JournalLemmas
 pub mod ShadowLemmas
 pub mod LawLemmas
+pub mod OwnLemmas

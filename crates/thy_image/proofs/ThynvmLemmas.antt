@@ -58,8 +58,8 @@ module _ (p : Parameters) (ceiling : ℕ) (bytes : List ℕ) (epoch : ℕ) (s : 
   thynvm_few = saved.most
 
   -- its blocks decode to the same
-  blocks_decode : decode_image p ceiling (blocks_of bytes) ≡ At epoch s
-  blocks_decode =
+  pub thynvm_blocks : decode_image p ceiling (blocks_of bytes) ≡ At epoch s
+  thynvm_blocks =
       sym (decode_file-flat p ceiling (blocks_of bytes) (AllLong-blocks_of bytes) (let least = saved.least in omega arith))
       ∙ ap (decode_file p ceiling) (flat-blocks_of bytes (length (blocks_of bytes)) saved.whole)
       ∙ h
@@ -69,16 +69,16 @@ module _ (p : Parameters) (ceiling : ℕ) (bytes : List ℕ) (epoch : ℕ) (s : 
   thynvm_decodes high most =
       let few = saved.most in
       decode-filled_up p high (image_blocks p - length (blocks_of bytes)) epoch s (blocks_of bytes)
-      (decode-higher p ceiling high (blocks_of bytes) epoch s most blocks_decode) (omega arith)
+      (decode-higher p ceiling high (blocks_of bytes) epoch s most thynvm_blocks) (omega arith)
 
   pub thynvm_state : state_in p (blocks_of bytes) ≡ s
-  thynvm_state = (IsDecoded-at p ceiling (blocks_of bytes) epoch s blocks_decode).whole.state_is
+  thynvm_state = (IsDecoded-at p ceiling (blocks_of bytes) epoch s thynvm_blocks).whole.state_is
 
   pub thynvm_begins : All IsByte bytes → CanBegin p ceiling epoch s
   unfolding slot_fault commit_fault
   thynvm_begins are_bytes =
       let g : List Block = blocks_of bytes in
-      let whole = (IsDecoded-at p ceiling (blocks_of bytes) epoch s blocks_decode).whole in
+      let whole = (IsDecoded-at p ceiling (blocks_of bytes) epoch s thynvm_blocks).whole in
       let commit = block_at (blocks_of bytes) 1 in
       let slot = slot_in p (blocks_of bytes) in
       let version = version_of (block_at (blocks_of bytes) 1) in

@@ -1,2 +1,3 @@
 pub mod Meaning
 pub mod Saved
+pub mod Own

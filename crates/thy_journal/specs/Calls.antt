@@ -15,8 +15,8 @@ use Rattle.thy_view.specs.declared.boot_step.BootStep.{BootStep}
 use Rattle.thy_view.specs.Action.{FailsTo}
 use Rattle.thy_boot.specs.Boot.{new_boot, answer_of}
 use Rattle.thy_boot.specs.Steps.{TakesStep}
-use Rattle.thy_log.specs.Items.{is_under_way, is_applying}
-use Rattle.thy_log.specs.Progress.{action_next}
+use Rattle.thy_log.specs.Items.{is_applying}
+use Rattle.thy_log.specs.Progress.{new_engine, action_next}
 use Rattle.thy_log.specs.State.{new_state, entry_for, home_of, work_of}
 use Rattle.thy_log.specs.Stores.{after_store, after_drain}
 use Rattle.thy_refill.specs.Filling.{filling_journal}
@@ -30,8 +30,7 @@ use Rattle.thy_journal_scheme.specs.Boots.{booted}
 pub record IsNew (p : Parameters) (dram : Contents) (s : Journal) : Type 0 where
   pub log : s.log ≡ new_state p dram
   pub boot : s.boot ≡ new_boot filling_journal p
-  pub engine : s.engine.p ≡ p
-  pub idle : is_under_way s.engine.next ≡ false
+  pub engine : s.engine ≡ new_engine p
   pub storeless : s.storeless ≡ true
   pub sealed_storeless : s.sealed_storeless ≡ false
 

@@ -1,4 +1,4 @@
-//! Where an image has each block of memory: one list of numbers, made once from the table of its slot.
+//! Where an image has each block of memory: one list of numbers, made from the table of its slot.
 ghost use Rattle.std.specs.Prelude.{◌≡◌, ◌*◌, ◌<◌, ℕ, [], length, IfOk, IfSome};
 ghost use Rattle.thy_base.specs.Geometry.{memory_blocks};
 ghost use Rattle.thy_record.specs.Files.{blocks_of};

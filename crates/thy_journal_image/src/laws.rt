@@ -1,6 +1,7 @@
 //! Laws of the layout, each the contract of a function that does nothing.
 ghost use Rattle.thy_journal_image.specs.Free.{FreeIsNotLooked, NothingIsLooked};
 ghost use Rattle.thy_journal_image.specs.CheckpointParts.{HeaderReadsBack, CommitReadsBack, SlotReadsBack, FaultlessIsTable, IssuedDecodes};
+ghost use Rattle.thy_journal_image.specs.TableRefusals.{FoundIsSo, SoIsFound};
 
 /// A header reads back as one without a fault, and a commit block as one of its epoch.
 pub fn header_and_commit_read_back()
@@ -13,6 +14,13 @@ pub fn header_and_commit_read_back()
 pub fn a_slot_reads_back()
     ensures slot { SlotReadsBack }
     ensures table { FaultlessIsTable }
+{}
+
+/// A refusal of a table names the first entry that lists what memory has not; if there is none, the first that lists
+/// what an earlier one does, and that one. A table has no other refusal.
+pub fn refusals_name_the_first_entries()
+    ensures found { FoundIsSo }
+    ensures so { SoIsFound }
 {}
 
 /// With the whole slot issued, and under a header without a fault, the next image decodes to the checkpoint and names its

@@ -10,8 +10,7 @@ use thy_base::{Geometry, word};
 use thy_isa::MachState;
 use thy_record::{block_in, cpu_in, state_at};
 
-/// The state of the checkpoint in the bytes of a file. A `check` of these bytes has found one. The table is gone
-/// through once, and each block of memory is copied once.
+/// The state of the checkpoint in the bytes of a file. A `check` of these bytes has found one.
 pub fn state(alloc: Global, image: &[u8], geometry: &Geometry) -> Result<MachState, AllocError>
     requires { HasCheckpointOf geometry.now image.now }
     ensures { IfOk result (λ m. HasState geometry.now image.now (state_of m)) }

@@ -1,5 +1,5 @@
 -- The laws of the calls, and of a step of the boot.
-use Rattle.std.proofs.Common.{ℕ, ◌+◌, ◌≤◌, max, arith}
+use Rattle.std.proofs.Common.{◌≡◌, ◌+◌, ◌-◌, max, refl, ap, arith}
 use Rattle.thy_base.specs.Geometry.{memory_blocks}
 use Rattle.thy_journal_image.specs.Places.{slot_blocks}
 use Rattle.thy_journal_scheme.specs.Laws.{BootsAreShort, DrainsKeep, EpochsAreShort, ItemsAreSteps, SealsKeep, StepsBoot}
@@ -18,11 +18,10 @@ drains_keep o k s n stands some = drains o k s n stands some
 pub steps_boot : StepsBoot
 steps_boot o s n new d e booting steps boot state = boots_on o s n booting new d e steps boot state
 
-max-few : (a b : ℕ) → max a b ≤ a + b
-max-few a b = omega arith
-
 pub boots_are_short : BootsAreShort
-boots_are_short p = (omega (arith, max-few (memory_blocks p + slot_blocks p + 4) (1 + slot_blocks p + p.btt)), omega arith)
+boots_are_short p =
+    let all : memory_blocks p - 0 ≡ memory_blocks p = omega arith in
+    (ap (λ k. 1 + max (k + slot_blocks p + 4) (1 + slot_blocks p + p.btt)) all, refl)
 
 pub epochs_are_short : EpochsAreShort
 epochs_are_short p = omega arith

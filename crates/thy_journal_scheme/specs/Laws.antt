@@ -1,5 +1,5 @@
 -- What holds of the scheme.
-use Rattle.std.specs.Prelude.{◌≡◌, ℕ, ◌+◌, ◌*◌, ◌<◌, ◌≤◌, true, false, [], length, None}
+use Rattle.std.specs.Prelude.{◌≡◌, ℕ, ◌+◌, ◌*◌, ◌<◌, ◌≤◌, max, true, false, [], length, None}
 use Rattle.thy_base.specs.declared.config.Parameters.{Parameters}
 use Rattle.thy_base.specs.declared.nvm.Shape.{Shape}
 use Rattle.thy_base.specs.declared.block.Block.{Block}
@@ -130,14 +130,14 @@ StoresKeep =
     → IsSoundState s.log → b < length (journal_scheme.holding s n).blocks → 0 < (journal_scheme.holding s n).free
     → Stores journal_scheme Done b block s n (stored b block s) n × IsOneAccess journal_scheme s n (stored b block s) n
 
--- a boot takes an action for each of memory's blocks, two for each of the slot's, one for each entry of the table,
--- and eight more, at the most; and so a checkpoint two for each entry, one for each of the slot's blocks, and four
--- more
+-- a boot reads the commit block, and then it writes memory's blocks, the slot's and four more, or it reads the header,
+-- the slot and a block for each entry of the table; a checkpoint takes two actions for each entry, one for each of the
+-- slot's blocks, and four more
 abbrev pub BootsAreShort : Type 0
 BootsAreShort =
     (p : Parameters)
-    → (journal_scheme.most_booting p ≤ memory_blocks p + 2 * slot_blocks p + p.btt + 8)
-    × (journal_scheme.most_engine p ≤ 2 * p.btt + slot_blocks p + 4)
+    → (journal_scheme.most_booting p ≡ 1 + max (memory_blocks p + slot_blocks p + 4) (1 + slot_blocks p + p.btt))
+    × (journal_scheme.most_engine p ≡ 2 * p.btt + (slot_blocks p + 4))
 
 -- an epoch spends fewer cycles than 17 for each of its instructions, three for each entry of the table, one for each of
 -- the slot's blocks, and five more

@@ -30,8 +30,8 @@ pub fn calls_keep_the_run()
 {}
 
 /// A new journal boots what the image means; whatever a cut leaves meanwhile is what is seen; and if a step ends the
-/// boot, the checkpoint that was found or made is the committed one. Boots and checkpoints are short, and none
-/// migrates.
+/// boot, the checkpoint that was found or made is the committed one. The bounds on the actions of boots
+/// and checkpoints are what the layout asks for, and no boot migrates.
 pub fn a_boot_is_sound()
     ensures power { PowerIsNew }
     ensures zeros { ZerosAreNothing }

@@ -6,6 +6,7 @@ use Rattle.thy_base.specs.declared.config.Parameters.{Parameters}
 use Rattle.thy_base.specs.declared.nvm.NvmError.{NvmError}
 use Rattle.thy_base.specs.Device.{Device, IsFramed, CountsFault}
 use Rattle.thy_isa.specs.declared.state.CpuState.{CpuState}
+use Rattle.thy_isa.specs.Step.{zero_cpu}
 use Rattle.thy_table.specs.Listing.{entry_at}
 use Rattle.thy_view.specs.Action.{Action, Rest, WriteAt, Barrier, after, FailsTo}
 use Rattle.thy_journal_image.specs.Places.{slot_blocks, slot_place, home_place, journal_place}
@@ -14,7 +15,7 @@ use Rattle.thy_journal_image.specs.Slots.{slot_block_of}
 use Rattle.thy_log.specs.declared.engine.Done.{Done}
 use Rattle.thy_log.specs.declared.entry.Listed.{Listed}
 use Rattle.thy_log.specs.declared.stage.JournalStage.{JournalStage}
-use Rattle.thy_log.specs.declared.stage.JournalStage.TheVariants.{Journal, Slot, Home}
+use Rattle.thy_log.specs.declared.stage.JournalStage.TheVariants.{Nothing, Journal, Slot, Home}
 use Rattle.thy_log.specs.Items.{Item, NoItem, JournalItem, SlotItem, SettleItem, CommitItem, ConfirmItem, HomeItem, ReleaseItem, item, next_after, answer}
 use Rattle.thy_log.specs.State.{State, table_of, buffer_of}
 use Rattle.thy_log.specs.Stores.{released}
@@ -26,6 +27,10 @@ pub record Progress : Type 0 where
   -- the processor as it was sealed, and the epoch that was sealed
   pub cpu : CpuState
   pub epoch : ℕ
+
+-- an engine with nothing to do
+abbrev pub new_engine : Parameters → Progress
+new_engine p = record { p = p; next = Nothing; cpu = zero_cpu; epoch = 0 }
 
 -- it has the registers, and a block of the slot comes next only if the slot has it
 pub record IsSoundProgress (e : Progress) : Type 0 where

@@ -11,7 +11,7 @@ use thy_isa::CpuState;
 use thy_journal_image::{slot as slot_number, slot_blocks as blocks_of_slot};
 use thy_record::{EngineStep, commit_block, cpu_block};
 
-/// The checkpoint engine. It takes one action on the NVM a cycle.
+/// The checkpoint engine. Each step makes of the NVM what one action makes of it.
 #[derive(Drop)]
 pub struct Engine {
     geometry: Geometry,
@@ -52,14 +52,13 @@ impl Engine {
     ghost use Rattle.thy_record.specs.Commit.{commit_of};
     ghost use Rattle.thy_journal_image.specs.Places.{slot_blocks};
     ghost use Rattle.thy_log.specs.Items.{SlotItem, SettleItem, CommitItem, ConfirmItem, HomeItem, ReleaseItem, JournalItem, is_under_way, is_applying, item, next_after, answer};
-    ghost use Rattle.thy_log.specs.Progress.{begun, applying, Fits, IsSoundProgress, slot_block, block_listed, Ends, item_of, engine_next, state_next, action_next};
+    ghost use Rattle.thy_log.specs.Progress.{new_engine, begun, applying, Fits, IsSoundProgress, slot_block, block_listed, Ends, item_of, engine_next, state_next, action_next};
     ghost use Rattle.thy_log.specs.State.{IsSized};
     ghost use Rattle.thy_view.specs.Action.{after, FailsTo};
 
     /// An engine with nothing to do.
     pub fn new(geometry: &Geometry) -> Engine
-        ensures geometry { result.p ≡ geometry.now }
-        ensures idle { is_under_way result.next ≡ false }
+        ensures { result ≡ new_engine geometry.now }
     {
         Engine {
             geometry: *geometry,
@@ -124,8 +123,8 @@ impl Engine {
         }
     }
 
-    /// Takes one action: nothing if there is nothing to do. Looking for a live entry costs no cycle. If the NVM
-    /// failed, engine and log are as they were, and only the place of a write that failed may hold more.
+    /// Takes one action: nothing if there is nothing to do. A free entry takes no step of its own. If the NVM failed,
+    /// engine and log are as they were, and only the place of a write that failed may hold more.
     pub fn step<N: Nvm>(&mut self, log: &mut Log, nvm: &mut N) -> Result<EngineStep, NvmError>
         requires fits { Fits self.old log.old }
         requires sized { IsSized log.old (N.device nvm.old) }

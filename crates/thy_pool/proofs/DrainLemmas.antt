@@ -24,6 +24,7 @@ IsSoundState-dram s now h long = record {
   frames_once = h.frames_once;
   mapped = h.mapped;
   claimed = h.claimed;
+  lowest = h.lowest;
   dense = h.dense;
   begun = λ b is. let of = h.begun b is in record { page = of.page; unframed = of.unframed; few = of.few; room = of.room };
 }

@@ -1,19 +1,22 @@
--- No item writes into a page of the pool that the committed map lists.
-use Rattle.std.proofs.Common.{◌≡◌, ◌≢◌, ℕ, zero, suc, ◌+◌, ◌/◌, ◌%◌, ◌<◌, ◌≤◌, Bool, true, false, if◌then◌else◌, Some, is_some, refl, sym, ◌∙◌, ap, arith}
+-- No item writes into a page of the pool that the committed map lists, and each frame goes to the lowest one.
+use Rattle.std.proofs.Common.{◌≡◌, ◌≢◌, ℕ, zero, suc, ◌+◌, ◌-◌, ◌/◌, ◌%◌, ◌<◌, ◌≤◌, Bool, true, false, if◌then◌else◌, Some, is_some, refl, sym, ◌∙◌, ap, inl, inr, arith}
+use Rattle.std.proofs.lemmas.Bool.{cases_lt}
 use Rattle.thy_base.specs.declared.block.Block.{Block}
 use Rattle.thy_base.specs.declared.config.Parameters.{Parameters}
 use Rattle.thy_record.specs.Tables.{Lists}
 use Rattle.thy_table.specs.Listing.{entry_at}
+use Rattle.thy_table.proofs.IndexLemmas.{lists-key}
 use Rattle.thy_view.specs.Action.{WriteAt}
 use Rattle.thy_shadow_image.specs.Places.{slot_blocks, slot_place, first_pool, pool_place, pool_page}
 use Rattle.thy_pool.specs.declared.stage.PoolStage.{PoolStage}
 use Rattle.thy_pool.specs.declared.stage.PoolStage.TheVariants.{Nothing, Pages, Slot, Settle, Commit, Confirm}
-use Rattle.thy_pool.specs.Guarded.{CommittedIsSpared}
+use Rattle.thy_pool.specs.Guarded.{CommittedIsSpared, IsUsedBelow, ByMap, ByFrame}
+use Rattle.thy_pool.specs.Keys.{number_key}
 use Rattle.thy_pool.specs.Items.{PageItem, SlotItem, item}
 use Rattle.thy_pool.specs.Progress.{Progress, Fits, action_of}
-use Rattle.thy_pool.specs.State.{State, IsSoundState, target, target_place, committed_table}
+use Rattle.thy_pool.specs.State.{State, IsSoundState, pool_of, target, target_place, committed_table}
 use Rattle.thy_pool.proofs.CommitLemmas.{some_of}
-use Rattle.thy_pool.proofs.TableLemmas.{target_free}
+use Rattle.thy_pool.proofs.TableLemmas.{listed_at-table_by, entry_page, target_free}
 
 -- both slots end before the pool
 pub slot_before : (p : Parameters) (i : ℕ) → i < 2 → slot_place p i + slot_blocks p ≤ first_pool p
@@ -61,3 +64,22 @@ module _ (e : Progress) (s : State) (at : ℕ) (block : Block) (x q c : ℕ) (so
 pub spared : CommittedIsSpared
 spared e s at block x q c progress sound fits way act lists below =
     by_stage e s at block x q c sound fits lists below e.next progress.inside act
+
+-- ---- where frames go
+
+-- a page before that of a frame has a page of memory, or is that of a lower frame
+pub target_lowest : (s : State) (j q r : ℕ) → IsSoundState s → target s j ≡ Some q → r < q → IsUsedBelow s j r
+target_lowest s j q r h goes l =
+    let of = h.lowest j q r goes l in
+    let below = of.below in
+    let found : pool_of s of.held.number ≡ Some r
+    = h.pool_once.found r of.held.number (lists-key number_key of.held.number (entry_at s.pool r) of.held of.here refl) in
+    elim (cases_lt of.held.number s.p.pages) as (λ _. IsUsedBelow s j r) [
+      | inl page ↦ ByMap of.held.number (record {
+        is = listed_at-table_by s.p (pool_of s) of.held.number (omega (arith, page))
+            ∙ entry_page s.p (pool_of s) of.held.number page ∙ found;
+      })
+      | inr frame ↦
+          let number : s.p.pages + (of.held.number - s.p.pages) ≡ of.held.number = omega (arith, frame) in
+          ByFrame (of.held.number - s.p.pages) (omega (arith, frame, below)) (ap (pool_of s) number ∙ found)
+    ]

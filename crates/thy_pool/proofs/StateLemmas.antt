@@ -1,5 +1,5 @@
 -- The pool stays sound over what its calls make of it.
-use Rattle.std.proofs.Common.{◌≡◌, ◌≢◌, ℕ, ◌+◌, ◌<◌, ◌≤◌, Bool, true, false, nat_lt, if◌then◌else◌, length, replicate, Option, Some, None, is_none, is_some, refl, sym, ◌∙◌, ap, subst, inl, inr, arith}
+use Rattle.std.proofs.Common.{◌≡◌, ◌≢◌, ℕ, ◌+◌, ◌-◌, ◌<◌, ◌≤◌, Bool, true, false, nat_lt, if◌then◌else◌, length, replicate, Option, Some, None, is_none, is_some, refl, sym, ◌∙◌, ap, subst, inl, inr, arith}
 use Rattle.std.specs.Option.{option_and_then}
 use Rattle.std.proofs.lemmas.Bool.{cases_Bool, cases_eq, cases_lt, lt-ltb, ltb-true, le-ltb}
 use Rattle.std.proofs.lemmas.List.{length-map, length-set, length-replicate, get_or-replicate, get_or_past}
@@ -10,7 +10,7 @@ use Rattle.thy_base.specs.Geometry.{IsInRange}
 use Rattle.thy_base.specs.Places.{dram_blocks}
 use Rattle.thy_dram.specs.Contents.{Contents}
 use Rattle.thy_table.specs.Listing.{Listing, IsListing, listing, entry_at, lists, place_of, free_place, with_entry, added_at, added, mapped, empty_table}
-use Rattle.thy_table.proofs.IndexLemmas.{is_some-not_none, None-is_none, lists-some}
+use Rattle.thy_table.proofs.IndexLemmas.{is_some-not_none, None-is_none, lists-some, lists-key}
 use Rattle.thy_table.proofs.ListingLaws.{entry_at-with_same, entry_at-with_other, entry_at-mapped, place_of-none, IsListing-put, place_of-put, place_of-put_other}
 use Rattle.thy_shadow_image.specs.Places.{pool_pages}
 use Rattle.thy_pool.specs.declared.entry.Begun.{Begun}
@@ -18,9 +18,9 @@ use Rattle.thy_pool.specs.declared.entry.Framed.{Framed}
 use Rattle.thy_pool.specs.declared.entry.Held.{Held}
 use Rattle.thy_pool.specs.Commit.{sealed_state, committed_pool, committed_state}
 use Rattle.thy_pool.specs.Keys.{number_key, page_key, held, framed, freed_frame}
-use Rattle.thy_pool.specs.State.{State, state_in, IsBegun, IsSoundState, frame_of, pool_of}
+use Rattle.thy_pool.specs.State.{State, state_in, IsBegun, IsSoundState, ListsBelow, frame_of, pool_of}
 use Rattle.thy_pool.specs.Stores.{first_entry, first_entries, filled, new_state}
-use Rattle.thy_pool.proofs.CommitLemmas.{held_lists, IsListing-committed, pool_of-committed, target-committed}
+use Rattle.thy_pool.proofs.CommitLemmas.{held_lists, some_of, IsListing-committed, pool_of-committed, target-committed}
 use Rattle.thy_pool.proofs.TableLemmas.{next_there}
 
 -- ---- no frame is filled
@@ -45,6 +45,7 @@ IsSoundState-idle p pool frames dram range pool_size pool_numbers frames_size fr
       frames_once = frames_once;
       mapped = mapped;
       claimed = λ j. ap is_some (free j) ∙ sym (ap is_some (unclaimed j));
+      lowest = λ j q r goes below. let no : None ≡ Some q = sym (unclaimed j) ∙ goes in absurd (cc);
       dense = λ i j l some. let no : false ≡ true = sym (ap is_some (free j)) ∙ some in absurd (cc);
       begun = λ b is. (cc);
     }
@@ -123,6 +124,7 @@ IsSoundState-begun s b h of = record {
   frames_once = h.frames_once;
   mapped = h.mapped;
   claimed = h.claimed;
+  lowest = h.lowest;
   dense = h.dense;
   begun = λ c is. begun_for_one s b c of is;
 }
@@ -139,6 +141,7 @@ IsSoundState-sealed s h = record {
   frames_once = h.frames_once;
   mapped = h.mapped;
   claimed = h.claimed;
+  lowest = h.lowest;
   dense = h.dense;
   begun = λ c is. (cc);
 }
@@ -207,6 +210,57 @@ module _ (s : State) (h : IsSoundState s) (x j q : ℕ) (page : x < s.p.pages) (
         ap is_some (elsewhere i other) ∙ h.claimed i ∙ sym (ap is_some (found_other (s.p.pages + i) apart))
   ]
 
+  -- a frame at a number that the pool lists is filled, and so it is below the lowest free one
+  filled_below : (k t : ℕ) → pool_of s (s.p.pages + k) ≡ Some t → k < j
+  filled_below k t goes = elim (cases_lt k j) as (λ _. k < j) [
+    | inl below ↦ below
+    | inr over ↦
+        let full : is_some (entry_at s.frames k) ≡ true = h.claimed k ∙ ap is_some goes in
+        elim (cases_eq k j) as (λ _. k < j) [
+          | inl same ↦
+              let no : false ≡ true = sym (ap is_some (ap (entry_at s.frames) same ∙ at_frame.1)) ∙ full in absurd (cc)
+          | inr other ↦
+              let no : false ≡ true = sym (ap is_some at_frame.1) ∙ h.dense j k (omega (arith, over, other)) full in absurd (cc)
+        ]
+  ]
+
+  -- so each number that the pool lists is below the new one
+  number_below : (t : ℕ) (e : Held) → entry_at s.pool t ≡ Some e → e.number < s.p.pages + j
+  number_below t e is = elim (cases_lt e.number s.p.pages) as (λ _. e.number < s.p.pages + j) [
+    | inl page ↦ omega (arith, page)
+    | inr frame ↦
+        let listed : pool_of s e.number ≡ Some t
+        = h.pool_once.found t e.number (lists-key number_key e.number (entry_at s.pool t) e is refl) in
+        let number : s.p.pages + (e.number - s.p.pages) ≡ e.number = omega (arith, frame) in
+        let below = filled_below (e.number - s.p.pages) t (ap (pool_of s) number ∙ listed) in
+        omega (arith, frame, below)
+  ]
+
+  lowest_new : (t : ℕ) → t < q → ListsBelow s.pool (s.p.pages + j) t
+  lowest_new t l =
+      let of = some_of (entry_at s.pool t) (at_place.2 t l) in
+      record { held = of.0; here = of.1; below = number_below t of.0 of.1 }
+
+  -- what was listed at a page still is
+  listed_still : (n t : ℕ) → ListsBelow s.pool n t → ListsBelow pool n t
+  listed_still n t of = record {
+    held = of.held;
+    here = entry_at-with_other s.pool q t (Some (held (s.p.pages + j)))
+        (λ e. let no : Some of.held ≡ None = sym of.here ∙ ap (entry_at s.pool) e ∙ at_place.1 in cc) ∙ of.here;
+    below = of.below;
+  }
+
+  lowest_by : (i r t : ℕ) → place_of number_key (s.p.pages + i) pool ≡ Some r → t < r → ListsBelow pool (s.p.pages + i) t
+  lowest_by i r t goes l = elim (cases_eq i j) as (λ _. ListsBelow pool (s.p.pages + i) t) [
+    | inl same ↦
+        let at : r ≡ q = (let now = ap (λ k. place_of number_key (s.p.pages + k) pool) same in let found_at = found in cc) in
+        subst (λ (k : ℕ). ListsBelow pool (s.p.pages + k) t) (sym same)
+        (listed_still (s.p.pages + j) t (lowest_new t (omega (arith, at, l))))
+    | inr other ↦
+        let apart : s.p.pages + i ≢ s.p.pages + j = λ e. other (omega (arith, e)) in
+        listed_still (s.p.pages + i) t (h.lowest i r t (sym (found_other (s.p.pages + i) apart) ∙ goes) l)
+  ]
+
   dense_by : (i k : ℕ) → i < k → is_some (entry_at frames k) ≡ true → is_some (entry_at frames i) ≡ true
   dense_by i k l some = elim (cases_eq i j) as (λ _. is_some (entry_at frames i) ≡ true) [
     | inl same ↦ ap is_some (ap (entry_at frames) same ∙ here)
@@ -229,6 +283,7 @@ module _ (s : State) (h : IsSoundState s) (x j q : ℕ) (page : x < s.p.pages) (
     frames_once = IsListing-put page_key s.frames h.frames_once j (framed x) at_frame.0 unframed fits;
     mapped = λ y l. ap is_some (found_other y (λ e. absurd (omega (arith, e, l)))) ∙ h.mapped y l;
     claimed = claimed_by;
+    lowest = lowest_by;
     dense = dense_by;
     begun = λ c is. (cc);
   }

@@ -6,13 +6,14 @@ use Rattle.thy_base.specs.declared.config.Parameters.{Parameters}
 use Rattle.thy_base.specs.declared.nvm.NvmError.{NvmError}
 use Rattle.thy_base.specs.Device.{Device, IsFramed, CountsFault}
 use Rattle.thy_isa.specs.declared.state.CpuState.{CpuState}
+use Rattle.thy_isa.specs.Step.{zero_cpu}
 use Rattle.thy_view.specs.Action.{Action, Rest, WriteAt, Barrier, after, FailsTo}
 use Rattle.thy_record.specs.Commit.{commit_of}
 use Rattle.thy_journal_image.specs.Slots.{slot_block_of}
 use Rattle.thy_shadow_image.specs.Places.{slot_blocks, slot_place}
 use Rattle.thy_pool.specs.declared.engine.Done.{Done}
 use Rattle.thy_pool.specs.declared.stage.PoolStage.{PoolStage}
-use Rattle.thy_pool.specs.declared.stage.PoolStage.TheVariants.{Pages, Slot}
+use Rattle.thy_pool.specs.declared.stage.PoolStage.TheVariants.{Nothing, Pages, Slot}
 use Rattle.thy_pool.specs.Items.{Item, NoItem, PageItem, SlotItem, SettleItem, CommitItem, ConfirmItem, item, next_after, answer}
 use Rattle.thy_pool.specs.State.{State, next_table, frame_block, target_place}
 use Rattle.thy_pool.specs.Commit.{committed_state}
@@ -24,6 +25,10 @@ pub record Progress : Type 0 where
   -- the processor as it was sealed, and the epoch that was sealed
   pub cpu : CpuState
   pub epoch : ℕ
+
+-- an engine with nothing to do
+abbrev pub new_engine : Parameters → Progress
+new_engine p = record { p = p; next = Nothing; cpu = zero_cpu; epoch = 0 }
 
 -- it has the registers, and a block of the slot comes next only if the slot has it
 pub record IsSoundProgress (e : Progress) : Type 0 where

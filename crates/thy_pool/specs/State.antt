@@ -100,6 +100,12 @@ pub record IsBegun (s : State) (b : Begun) : Type 0 where
   pub few : b.copied ≤ 64
   pub room : 0 < free_count s.frames
 
+-- entry q of the pool lists a number below this one
+pub record ListsBelow (pool : Listing Held) (n q : ℕ) : Type 0 where
+  pub held : Held
+  pub here : entry_at pool q ≡ Some held
+  pub below : held.number < n
+
 pub record IsSoundState (s : State) : Type 0 where
   pub range : IsInRange s.p
   pub pool_size : length s.pool.entries ≡ pool_pages s.p
@@ -113,6 +119,8 @@ pub record IsSoundState (s : State) : Type 0 where
   -- every page of memory has a page of the pool, and every filled frame one more
   pub mapped : (x : ℕ) → x < s.p.pages → is_some (pool_of s x) ≡ true
   pub claimed : (j : ℕ) → is_some (entry_at s.frames j) ≡ is_some (target s j)
+  -- before the page of the pool that frame j goes to each has a page of memory, or is that of a lower frame
+  pub lowest : (j q r : ℕ) → target s j ≡ Some q → r < q → ListsBelow s.pool (s.p.pages + j) r
   -- frames are filled from the lowest on
   pub dense : (i j : ℕ) → i < j → is_some (entry_at s.frames j) ≡ true → is_some (entry_at s.frames i) ≡ true
   pub begun : (b : Begun) → s.begun ≡ Some b → IsBegun s b

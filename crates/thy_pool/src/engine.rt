@@ -11,7 +11,7 @@ use thy_isa::CpuState;
 use thy_record::{EngineStep, commit_block, cpu_block};
 use thy_shadow_image::{slot as slot_number, slot_blocks as blocks_of_slot};
 
-/// The checkpoint engine. It takes one action on the NVM a cycle.
+/// The checkpoint engine. Each step makes of the NVM what one action makes of it.
 #[derive(Drop)]
 pub struct Engine {
     geometry: Geometry,
@@ -52,14 +52,13 @@ impl Engine {
     ghost use Rattle.thy_record.specs.Commit.{commit_of};
     ghost use Rattle.thy_shadow_image.specs.Places.{slot_blocks};
     ghost use Rattle.thy_pool.specs.Items.{SlotItem, SettleItem, CommitItem, ConfirmItem, PageItem, is_under_way, item, next_after, answer};
-    ghost use Rattle.thy_pool.specs.Progress.{begun, Fits, IsSoundProgress, slot_block, Ends, item_of, engine_next, state_next, action_next};
+    ghost use Rattle.thy_pool.specs.Progress.{new_engine, begun, Fits, IsSoundProgress, slot_block, Ends, item_of, engine_next, state_next, action_next};
     ghost use Rattle.thy_pool.specs.State.{IsSized};
     ghost use Rattle.thy_view.specs.Action.{after, FailsTo};
 
     /// An engine with nothing to do.
     pub fn new(geometry: &Geometry) -> Engine
-        ensures geometry { result.p ≡ geometry.now }
-        ensures idle { is_under_way result.next ≡ false }
+        ensures { result ≡ new_engine geometry.now }
     {
         Engine {
             geometry: *geometry,

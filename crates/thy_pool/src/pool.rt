@@ -93,7 +93,7 @@ impl Pool {
         })
     }
 
-    /// Tables and DRAM have their sizes, no page is listed twice, and the pool has a page for each frame.
+    /// Tables and DRAM have their sizes, no page is listed twice, and each filled frame has a page of the pool.
     pub fn sound(&self)
         ensures { IsSoundState self.now }
     {

@@ -15,8 +15,7 @@ use Rattle.thy_view.specs.declared.boot_step.BootStep.{BootStep}
 use Rattle.thy_view.specs.Action.{FailsTo}
 use Rattle.thy_boot.specs.Boot.{new_boot, answer_of}
 use Rattle.thy_boot.specs.Steps.{TakesStep}
-use Rattle.thy_pool.specs.Items.{is_under_way}
-use Rattle.thy_pool.specs.Progress.{action_next}
+use Rattle.thy_pool.specs.Progress.{new_engine, action_next}
 use Rattle.thy_pool.specs.State.{frame_of, committed_of, work_of}
 use Rattle.thy_pool.specs.Stores.{after_drain, new_state, store_action, store_case, stored_by}
 use Rattle.thy_repool.specs.Filling.{filling_shadow}
@@ -32,8 +31,7 @@ use Rattle.thy_shadow_scheme.specs.Laws.{storeless_by, stored}
 pub record IsNew (p : Parameters) (dram : Contents) (s : Shadow) : Type 0 where
   pub pool : s.pool ≡ new_state p dram
   pub boot : s.boot ≡ new_boot filling_shadow p
-  pub engine : s.engine.p ≡ p
-  pub idle : is_under_way s.engine.next ≡ false
+  pub engine : s.engine ≡ new_engine p
   pub storeless : s.storeless ≡ true
   pub sealed_storeless : s.sealed_storeless ≡ false
 

@@ -1,5 +1,6 @@
 pub mod FitLemmas
 pub mod MapFaultLemmas
+pub mod TableRefusalLemmas
 pub mod HeadLemmas
 pub mod SlotLemmas
 pub mod PartsLemmas

@@ -15,7 +15,7 @@ use Rattle.thy_shadow_image.specs.Slots.{IsMap, stray, first_stray, index_fault,
 -- ---- entry by entry
 
 -- a page of memory without a fault has a page of the pool
-has_page : (p : Parameters) (x : ℕ) (e : Option ℕ) → stray p x e ≡ None → x < p.pages → (q : ℕ) × (e ≡ Some q)
+pub has_page : (p : Parameters) (x : ℕ) (e : Option ℕ) → stray p x e ≡ None → x < p.pages → (q : ℕ) × (e ≡ Some q)
 has_page p x None h l =
     let test = lt-ltb x p.pages l in
     let both : Some (TableIndex x) ≡ None = sym (ap (λ b. if b then Some (TableIndex x) else None) test) ∙ h in absurd (cc)
@@ -27,7 +27,7 @@ both_so x true false h = cc
 both_so x false b h = cc
 
 -- and an entry without a fault that lists one is of a page of memory, and lists one of the pool
-lists_right : (p : Parameters) (x q : ℕ) → stray p x (Some q) ≡ None → (x < p.pages) × (q < pool_pages p)
+pub lists_right : (p : Parameters) (x q : ℕ) → stray p x (Some q) ≡ None → (x < p.pages) × (q < pool_pages p)
 lists_right p x q h =
     let so = both_so x (nat_lt x p.pages) (nat_lt q (pool_pages p)) h in
     (ltb-true x p.pages so.0, ltb-true q (pool_pages p) so.1)
@@ -65,7 +65,7 @@ first_stray-each p k (e ∷ es) h =
     let next : k + 1 + i ≡ k + suc i = omega arith in
     ap (λ x. stray p x (entry_at es i)) next ∙ h (suc i) (omega arith)))
 
-each_stray : (p : Parameters) (table : List (Option ℕ)) (x : ℕ) → index_fault p table ≡ None → x < length table → stray p x (entry_at table x) ≡ None
+pub each_stray : (p : Parameters) (table : List (Option ℕ)) (x : ℕ) → index_fault p table ≡ None → x < length table → stray p x (entry_at table x) ≡ None
 each_stray p table x h l = ap (λ y. stray p y (entry_at table x)) (sym (zero-add x)) ∙ first_stray-None p 0 table h x l
 
 -- ---- no page of the pool twice

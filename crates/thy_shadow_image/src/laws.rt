@@ -1,6 +1,7 @@
 //! Laws of the layout, each the contract of a function that does nothing.
 ghost use Rattle.thy_shadow_image.specs.Free.{FreeIsNotLooked, NothingIsLooked};
 ghost use Rattle.thy_shadow_image.specs.CheckpointParts.{HeaderReadsBack, SlotReadsBack, FaultlessIsMap, IssuedDecodes};
+ghost use Rattle.thy_shadow_image.specs.TableRefusals.{FoundIsSo, SoIsFound};
 
 /// A header reads back as one without a fault.
 pub fn a_header_reads_back()
@@ -12,6 +13,14 @@ pub fn a_header_reads_back()
 pub fn a_slot_reads_back()
     ensures slot { SlotReadsBack }
     ensures map { FaultlessIsMap }
+{}
+
+/// A refusal of a map names the first entry that is empty though memory has its page, that lists a page which the pool
+/// has not, or that lists one though memory has no such page. If there is none, it names the first that lists what an
+/// earlier one does, and that one. A map has no other refusal.
+pub fn refusals_name_the_first_entries()
+    ensures found { FoundIsSo }
+    ensures so { SoIsFound }
 {}
 
 /// With the whole slot issued, and under a header without a fault, the next image decodes to the checkpoint and names

@@ -20,6 +20,7 @@ pub use file::check;
 pub use header::{header_block, header_fault};
 pub use laws::{
     a_checkpoint_is_issued, a_header_reads_back, a_slot_reads_back, free_is_not_looked_at,
+    refusals_name_the_first_entries,
 };
 pub use map::listed_page;
 pub use places::{blocks, map_blocks, pool, pool_pages, slot, slot_blocks};

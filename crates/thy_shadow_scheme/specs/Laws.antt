@@ -146,13 +146,14 @@ FailedStoresKeep =
     → b < length (shadow_scheme.holding s n).blocks → FailsTo (store_action (store_case b s.pool) b s.pool) n new → IsFramed n new
     → IsOneAccess shadow_scheme s n s new
 
--- a boot takes an action for each of memory's blocks, two for each of the slot's, and eight more, at the most; and so a
--- checkpoint one for each block of the frames, one for each of the slot's, and three more
+-- a boot that loads reads the commit block, and then it writes memory's blocks, the slot's and four more; one that
+-- restores reads less. A checkpoint takes an action for each block of the frames, one for each of the slot's, and three
+-- more
 abbrev pub BootsAreShort : Type 0
 BootsAreShort =
     (p : Parameters)
-    → (shadow_scheme.most_booting p ≤ memory_blocks p + 2 * slot_blocks p + 8)
-    × (shadow_scheme.most_engine p ≤ 64 * p.ptt + slot_blocks p + 3)
+    → (shadow_scheme.most_booting p ≡ 1 + (memory_blocks p + slot_blocks p + 4))
+    × (shadow_scheme.most_engine p ≡ 64 * p.ptt + (slot_blocks p + 3))
 
 -- an epoch spends fewer cycles than 17 for each of its instructions, 129 for each frame, one for each of the slot's
 -- blocks, and four more
