@@ -7,3 +7,4 @@ pub mod RegisterLemmas
 pub mod RoundLemmas
 pub mod SeenLemmas
 pub mod SoundLemmas
+pub mod TurnLemmas

@@ -73,7 +73,7 @@ moves-on r (suc k) l =
     ∙ moved-down (turned r) (r.lines - suc k)
 
 -- a round
-round_of : (r : Registers) → IsWhole r → moved_times (r.lines + 1) r ≡ gap_at (turned r) r.gap
+pub round_of : (r : Registers) → IsWhole r → moved_times (r.lines + 1) r ≡ gap_at (turned r) r.gap
 round_of r w =
     let many : r.lines + 1 ≡ r.lines - r.gap + suc r.gap = omega (arith, w.gap) in
     let back : r.lines - (r.lines - r.gap) ≡ r.gap = omega (arith, w.gap) in

@@ -1,5 +1,5 @@
 -- The laws of wear levelling after Start-Gap.
-use Rattle.std.specs.Prelude.{◌≡◌, ◌≢◌, ◌⊎◌, ℕ, ◌+◌, ◌%◌, ◌<◌, ◌≤◌}
+use Rattle.std.specs.Prelude.{◌≡◌, ◌≢◌, ◌⊎◌, ℕ, ◌+◌, ◌*◌, ◌%◌, ◌<◌, ◌≤◌}
 use Rattle.thy_gap.specs.declared.registers.Registers.{Registers}
 use Rattle.thy_gap.specs.Lines.{IsWhole, stepped, place, source, moved, moved_times}
 
@@ -53,3 +53,9 @@ abbrev pub RoundMovesEach : Type 0
 RoundMovesEach =
     (r : Registers) (x : ℕ) → IsWhole r → x < r.lines
     → (k : ℕ) × (k ≤ r.lines) × (place (moved_times k r) x ≡ source (moved_times k r))
+
+-- within as many rounds as there are lines, each line comes to each place
+abbrev pub EachPlaceComes : Type 0
+EachPlaceComes =
+    (r : Registers) (x y : ℕ) → IsWhole r → x < r.lines → y ≤ r.lines
+    → (k : ℕ) × (k ≤ r.lines * (r.lines + 1)) × (place (moved_times k r) x ≡ y)

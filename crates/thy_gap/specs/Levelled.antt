@@ -17,7 +17,7 @@ pub record Levelled (N : Type 0) : Type 0 where
   pub every : ℕ
   -- the registers in hand
   pub registers : Registers
-  -- how many writes succeeded since the last move or fit; it saturates
+  -- how many writes succeeded since the last barrier that moved a line, or the fit; it saturates
   pub since : ℕ
   -- how many cuts there were since the last fit
   pub cuts : ℕ

@@ -13,14 +13,14 @@ use thy_base::{Block, FitError, Nvm, NvmError, Shape};
 
 /// A device of n blocks, its lines, over an inner device of n + 2. Whenever a number of writes were made, the next barrier
 /// moves one line by one place, so that a line that is written often wears each place in turn. The last place, that of the
-/// registers, does not wander: it takes one write with each move.
+/// registers, does not wander: they are written there with each move.
 #[derive(Drop)]
 pub struct Gap<N: Nvm> {
     inner: N,
     // After how many writes a barrier moves a line.
     every: u64,
     registers: Registers,
-    // How many writes succeeded since the last move or fit. Saturates.
+    // How many writes succeeded since the last barrier that moved a line, or the fit. Saturates.
     since: u64,
     // How many cuts there were since the last fit.
     cuts: u64,
@@ -197,7 +197,8 @@ impl<N: Nvm> Nvm for Gap<N> {
         self.inner.drain()
     }
 
-    /// Then moves a line, exactly if `every` writes or more were made since the last move or fit.
+    /// Then moves a line, exactly if `every` writes or more were made since the last barrier that did and succeeded, or
+    /// the fit.
     fn barrier(&mut self) -> Result<(), NvmError>
         requires { (shown N.device self.old).down ≡ false }
         ensures ok { OnOk result (shown N.device self.new ≡ settled (shown N.device self.old)) }

@@ -1,4 +1,4 @@
-//! Each call of the inner device fails late in turn, and then power is cut.
+//! Each call of the inner device fails in turn, before it has done anything or late, and then power is cut.
 ghost use Rattle.std.specs.Prelude.{◌≡◌, ◌<◌, ◌≤◌, false, length};
 ghost use Rattle.thy_base.specs.Device.{IsFramed};
 
@@ -51,9 +51,8 @@ fn may_be_left(line: u8, made: u8, block: &Block) -> bool
     stood || made < 8 && line == made % 4 && *block == block_of(made)
 }
 
-/// Eight steps over a device whose call of this number fails late, a cut, and the other steps.
-fn fails_at(rt: &impl Abort, alloc: Global, call: u64, pick: u64) {
-    let inner = MemNvm::late(alloc, &[call]).expect(rt, "memory");
+/// Eight steps over a device whose call of this number fails, a cut, and the other steps.
+fn fails_at(rt: &impl Abort, alloc: Global, inner: MemNvm, call: u64, pick: u64) {
     let mut gap = four_lines(rt, alloc, inner);
     let made = steps(&mut gap, 0);
     expect_at(rt, made < 8, call > 0, call);
@@ -80,8 +79,11 @@ fn expect_lines<N: Nvm>(rt: &impl Abort, nvm: &mut N, call: u64)
 fn each_call_may_fail_before_a_cut(rt: HostRuntime) {
     // No call has the number 0.
     for call in 0..CALLS + 1 {
-        fails_at(&rt, rt.alloc(), call, 0);
-        fails_at(&rt, rt.alloc(), call, 1);
-        fails_at(&rt, rt.alloc(), call, 7);
+        for pick in [0, 1, 7] {
+            let early = MemNvm::failing(rt.alloc(), &[call]).expect(&rt, "memory");
+            fails_at(&rt, rt.alloc(), early, call, pick);
+            let late = MemNvm::late(rt.alloc(), &[call]).expect(&rt, "memory");
+            fails_at(&rt, rt.alloc(), late, call, pick);
+        }
     }
 }

@@ -1,7 +1,8 @@
 -- What a writer of std holds, as what a sink has taken.
-use Rattle.std.proofs.Common.{◌≡◌, ℕ, ◌+◌, ◌<◌, ◌≤◌, Result, Ok, Err, OnErr, IfSome, length-append, refl, List, [], ◌++◌, take, drop, length, ◌-◌, arith, Option, Some, None, ap, subst, sym, ◌∙◌, append_assoc}
+use Rattle.std.proofs.Common.{◌≡◌, ℕ, ◌+◌, ◌<◌, ◌≤◌, Result, Ok, Err, OnOk, OnErr, IfSome, length-append, refl, List, [], ◌++◌, take, drop, length, ◌-◌, arith, Option, Some, None, ap, subst, sym, ◌∙◌, append_assoc}
 use Rattle.std.proofs.Math.Seq.{take-add}
 use Rattle.std.proofs.lemmas.List.{take_rest, append-nil}
+use Rattle.std.proofs.lemmas.Option.{none-some}
 use Rattle.std.specs.Io.KnownBytes.{Keeps, Appends, Consumes}
 use Rattle.thy_base.specs.Device.{CountsFault}
 use Rattle.thy_base.specs.Outside.{Stream, Grew, Took, TookPart, Fetched}
@@ -67,14 +68,27 @@ LosesAtMost-append n a b c some more one two few =
 pub LosesAtMost-keeps : (n : ℕ) (a b c : Option (List ℕ)) (some : List ℕ) → Consumes a b some → Keeps b c → length some ≤ n → LosesAtMost n a c
 LosesAtMost-keeps n a b c some one two few = record { bytes = some; read = Consumes-keeps a b c some one two; few = few }
 
+-- bytes that are the same stay
+pub Keeps-same : (b c : Option (List ℕ)) → c ≡ b → Keeps b c
+Keeps-same None c e = tt
+Keeps-same (Some x) None e = absurd (none-some x e)
+Keeps-same (Some x) (Some y) e = cc
+
+-- a sink took all of these bytes, and what was asked of it then did not fail
+pub Took-behind : {E : Type 0} (last : Result Unit E) (a b c : Stream) (bytes : List ℕ) → Took a b bytes → Keeps b.taken c.taken
+    → CountsFault last b.faults c.faults → OnOk last (Took a c bytes)
+Took-behind (Ok done) a b c bytes took keeps count =
+    record { taken = Grew-keeps a.taken b.taken c.taken bytes took.taken keeps; faults = cc }
+Took-behind (Err e) a b c bytes took keeps count = tt
+
 -- a sink took all of these bytes, and what was asked of it then failed or did not
-pub TookPart-behind : {E : Type 0} (last : Result Unit E) (a b c : Stream) (bytes : List ℕ) → Took a b bytes → c.taken ≡ b.taken
+pub TookPart-behind : {E : Type 0} (last : Result Unit E) (a b c : Stream) (bytes : List ℕ) → Took a b bytes → Keeps b.taken c.taken
     → CountsFault last b.faults c.faults → OnErr last (TookPart a c bytes)
-TookPart-behind (Ok done) a b c bytes took same count = tt
-TookPart-behind (Err e) a b c bytes took same count = record {
+TookPart-behind (Ok done) a b c bytes took keeps count = tt
+TookPart-behind (Err e) a b c bytes took keeps count = record {
   part = bytes;
   rest = [];
   split = sym (append-nil bytes);
-  taken = λ had e. same ∙ took.taken had e;
+  taken = Grew-keeps a.taken b.taken c.taken bytes took.taken keeps;
   rose = record { no_less = omega (arith, took.faults, count.no_less); more = omega (arith, took.faults, count.more) };
 }

@@ -4,4 +4,4 @@ pub mod Replacing
 pub mod Spring
 pub mod Tape
 pub mod Untold
-pub mod Writers
+pub mod Written

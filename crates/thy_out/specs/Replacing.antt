@@ -1,20 +1,10 @@
--- Files that are written, and what a put makes of the files of the system.
-use Rattle.std.specs.Prelude.{ℕ, Bool, List, Option, Result, Ok, Err}
+-- What a put makes of the files of the system.
+use Rattle.std.specs.Prelude.{◌≡◌, ℕ, Bool, true, false, if◌then◌else◌, Result, Ok, Err}
+use Rattle.std.specs.declared.io.ErrorKind.{ErrorKind}
+use Rattle.std.specs.declared.io.ErrorKind.TheVariants.{PermissionDenied, ReadOnlyFilesystem, InvalidFilename, AlreadyExists, ResourceBusy, Unsupported}
 use Rattle.thy_base.specs.Counts.{next}
-use Rattle.thy_base.specs.Outside.{Stream}
 use Rattle.thy_out.specs.declared.disk.Replaced.{Replaced}
 use Rattle.thy_out.specs.declared.disk.Replaced.TheVariants.{Done, Refused, Failed}
-
--- a file that is written: the bytes that it took, if they are known; whether all of them were synced; how many of its
--- calls failed
-pub record Written : Type 0 where
-  pub taken : Option (List ℕ)
-  pub synced : Bool
-  pub failures : ℕ
-
--- it takes bytes as a sink does
-abbrev pub stream_of : Written → Stream
-stream_of file = record { taken = file.taken; faults = file.failures }
 
 -- the files of the system: how many puts were done, and how many failed at a call
 pub record Tally : Type 0 where
@@ -32,8 +22,22 @@ abbrev pub counted : {E : Type 0} → Tally → Result Unit E → Tally
 counted tally (Ok done) = one_done tally
 counted tally (Err e) = one_failed tally
 
--- a put that is refused counts as neither
-abbrev pub counted_as : Tally → Replaced → Tally
-counted_as tally Done = one_done tally
-counted_as tally Refused = tally
-counted_as tally Failed = one_failed tally
+-- an error of this kind says that the system does not let a file be made, or renamed, in this place
+abbrev pub refuses : ErrorKind → Bool
+refuses PermissionDenied = true
+refuses ReadOnlyFilesystem = true
+refuses InvalidFilename = true
+refuses AlreadyExists = true
+refuses ResourceBusy = true
+refuses Unsupported = true
+refuses _ = false
+
+-- what an error makes of a put by a new file
+abbrev pub ended_by : ErrorKind → Replaced
+ended_by kind = if refuses kind then Refused kind else Failed
+
+-- it is refused only with such an error, and then counts neither as done nor as failed
+abbrev pub CountsAs : Tally → Tally → Replaced → Type 0
+CountsAs old new Done = new ≡ one_done old
+CountsAs old new (Refused kind) = (refuses kind ≡ true) × (new ≡ old)
+CountsAs old new Failed = new ≡ one_failed old

@@ -1,22 +1,17 @@
 //! The files of the system, and how a put stores bytes under a name. If it can, it makes a new file beside the name
 //! and then renames that over it, so that the name has its old bytes or all of the new ones at each moment.
-ghost use Rattle.std.specs.Prelude.{◌≡◌, ◌≢◌, ◌++◌, codes, IfSome, IfOk, OnOk, OnErr, true};
-ghost use Rattle.thy_out.specs.Replacing.{one_done, one_failed, counted, counted_as};
+ghost use Rattle.std.specs.Prelude.{◌≡◌, ◌≢◌, IfOk, OnOk, OnErr, true};
+ghost use Rattle.std.specs.IoError.{error_kind};
+ghost use Rattle.thy_out.specs.Replacing.{one_done, one_failed, counted, refuses, ended_by, CountsAs};
 
+use crate::side::Side;
 use crate::target::Target;
-use arrayvec::ArrayString;
 use std::fs::{Files, Metadata, OpenFile, OpenOptions};
 use std::io::{Error, ErrorKind};
 use std::marker::Model;
 use std::os::unix::fs::{MetadataExt, OpenOptionsExt, lchown};
 use std::{fs, io};
 use thy_base::SinkError;
-
-/// What follows a name in the name of the file that is made beside it.
-const SUFFIX: &str = ".thynvm-new";
-
-/// The longest path that the system takes, in bytes.
-const LONGEST: usize = 4096;
 
 /// The files that the runtime reaches, and two counts: of the puts that were done, and of those that failed at a
 /// call. A name is a path.
@@ -40,9 +35,9 @@ impl<R> Model for Disk<R> {
 pub enum Replaced {
     /// The name has the new file.
     Done,
-    /// The system does not let a file be made beside the name, or take its place. The name has what it had.
-    Refused,
-    /// A call failed. The name has what it had.
+    /// The system does not let a file be made beside the name, or take its place: this kind of error says so.
+    Refused(ErrorKind),
+    /// A call failed.
     Failed,
 }
 
@@ -57,21 +52,12 @@ enum Standing {
     Other,
 }
 
-/// The name of the file that is made beside a name, unless it is too long.
-fn side_name(name: &str) -> Option<ArrayString<LONGEST>>
-    ensures { IfSome result (λ side. side.bytes ≡ name.now ++ codes ".thynvm-new") }
+/// Whether an error of this kind says that the system does not let a file be made, or renamed, in this place.
+fn is_refusal(kind: ErrorKind) -> bool
+    ensures { result ≡ refuses kind }
 {
-    let mut side = ArrayString::new();
-    if side.try_push_str(name).is_err() || side.try_push_str(SUFFIX).is_err() {
-        return None;
-    }
-    Some(side)
-}
-
-/// Whether this error says that the system does not let a file be made, or renamed, in this place.
-fn is_refusal(error: &Error) -> bool {
     matches!(
-        error.kind(),
+        kind,
         ErrorKind::PermissionDenied
             | ErrorKind::ReadOnlyFilesystem
             | ErrorKind::InvalidFilename
@@ -144,25 +130,30 @@ impl<R: Files> Disk<R> {
     }
 
     /// Removes a file that was made beside a name. If it can't be, it stays and is replaced by the next put.
-    fn remove(&self, side: &str) {
-        let _removed = fs::remove_file(&self.rt, side);
+    fn remove(&self, side: &Side) {
+        let _removed = fs::remove_file(&self.rt, side.as_str());
     }
 
     /// Makes an empty file, in place of one that an interrupted put left.
-    fn make(&self, side: &str, options: &OpenOptions) -> io::Result<R::File> {
-        if let Ok(there) = fs::symlink_metadata(&self.rt, side) {
+    fn make(&self, side: &Side, options: &OpenOptions) -> io::Result<R::File> {
+        if let Ok(there) = fs::symlink_metadata(&self.rt, side.as_str()) {
             if there.is_file() {
                 self.remove(side);
             }
         }
-        options.open(&self.rt, side)
+        options.open(&self.rt, side.as_str())
     }
 
     /// Gives a new file the owner, the group and the mode of another.
-    fn make_alike(&self, file: &R::File, side: &str, other: &Metadata) -> io::Result<()> {
+    fn make_alike(&self, file: &R::File, side: &Side, other: &Metadata) -> io::Result<()> {
         let made = file.metadata()?;
         if made.uid() != other.uid() || made.gid() != other.gid() {
-            lchown(&self.rt, side, Some(other.uid()), Some(other.gid()))?;
+            lchown(
+                &self.rt,
+                side.as_str(),
+                Some(other.uid()),
+                Some(other.gid()),
+            )?;
         }
         file.set_permissions(other.permissions())
     }
@@ -170,7 +161,7 @@ impl<R: Files> Disk<R> {
     /// Makes an empty file that can take the place of another.
     fn make_like(
         &self,
-        side: &str,
+        side: &Side,
         options: &OpenOptions,
         other: &Metadata,
     ) -> io::Result<R::File> {
@@ -186,23 +177,24 @@ impl<R: Files> Disk<R> {
 
     /// What an error makes of a put by a new file.
     fn not_done(&mut self, error: &Error) -> Replaced
-        ensures done { result ≢ Replaced.Done }
-        ensures counts { self.new ≡ counted_as self.old result }
+        ensures answer { result ≡ ended_by (error_kind error.now) }
+        ensures counts { CountsAs self.old self.new result }
     {
-        if is_refusal(error) {
-            return Replaced::Refused;
+        let kind = error.kind();
+        if is_refusal(kind) {
+            return Replaced::Refused(kind);
         }
         self.fail_with(error);
         Replaced::Failed
     }
 
     /// Renames a file over the name. It has to be synced, so that no crash leaves the name with a part of it.
-    fn rename(&mut self, file: &Target<R::File>, side: &str, name: &str) -> Replaced
+    fn rename(&mut self, file: &Target<R::File>, side: &Side, name: &str) -> Replaced
         requires synced { file.now.synced ≡ true }
         requires clean { file.now.failures ≡ 0 }
-        ensures { self.new ≡ counted_as self.old result }
+        ensures { CountsAs self.old self.new result }
     {
-        match fs::rename(&self.rt, side, name) {
+        match fs::rename(&self.rt, side.as_str(), name) {
             Ok(()) => {
                 self.succeed(file);
                 Replaced::Done
@@ -211,22 +203,36 @@ impl<R: Files> Disk<R> {
         }
     }
 
-    /// Writes bytes to a new file and has it take the place of the name.
-    fn take_place(&mut self, file: R::File, side: &str, name: &str, bytes: &[u8]) -> Replaced
-        ensures { self.new ≡ counted_as self.old result }
+    /// Writes bytes to a new file and syncs it. If that fails, the put has failed, and is counted.
+    fn fill(&mut self, file: &mut Target<R::File>, bytes: &[u8]) -> Result<(), SinkError>
+        requires clean { file.old.failures ≡ 0 }
+        ensures ok { OnOk result (self.new ≡ self.old) }
+        ensures synced { OnOk result (file.new.synced ≡ true) }
+        ensures clean { OnOk result (file.new.failures ≡ 0) }
+        ensures err { OnErr result (self.new ≡ one_failed self.old) }
     {
-        let mut file = Target::over(file);
         match file.fill(bytes) {
-            Ok(()) => self.rename(&file, side, name),
-            Err(_) => {
-                self.fail_at(&file);
-                Replaced::Failed
+            Ok(()) => Ok(()),
+            Err(error) => {
+                self.fail_at(file);
+                Err(error)
             }
         }
     }
 
+    /// Writes bytes to a new file and has it take the place of the name.
+    fn take_place(&mut self, file: R::File, side: &Side, name: &str, bytes: &[u8]) -> Replaced
+        ensures { CountsAs self.old self.new result }
+    {
+        let mut file = Target::over(file);
+        match self.fill(&mut file, bytes) {
+            Ok(()) => self.rename(&file, side, name),
+            Err(_) => Replaced::Failed,
+        }
+    }
+
     /// Makes a file beside a name, if the name refers to nothing or to a file that can be replaced.
-    fn make_beside(&self, name: &str, side: &str) -> io::Result<R::File> {
+    fn make_beside(&self, name: &str, side: &Side) -> io::Result<R::File> {
         let mut options = OpenOptions::new();
         options.write(true).create_new(true);
         match self.standing(name) {
@@ -238,16 +244,16 @@ impl<R: Files> Disk<R> {
 
     /// Puts bytes under a name by a new file, if that is possible.
     fn replace(&mut self, name: &str, bytes: &[u8]) -> Replaced
-        ensures { self.new ≡ counted_as self.old result }
+        ensures { CountsAs self.old self.new result }
     {
-        let Some(side) = side_name(name) else {
-            return Replaced::Refused;
+        let Some(side) = Side::of(name) else {
+            return Replaced::Refused(ErrorKind::InvalidFilename);
         };
-        match self.make_beside(name, side.as_str()) {
+        match self.make_beside(name, &side) {
             Ok(file) => {
-                let replaced = self.take_place(file, side.as_str(), name, bytes);
+                let replaced = self.take_place(file, &side, name, bytes);
                 if replaced != Replaced::Done {
-                    self.remove(side.as_str());
+                    self.remove(&side);
                 }
                 replaced
             }
@@ -270,7 +276,7 @@ impl<R: Files> Disk<R> {
         }
     }
 
-    /// Writes bytes into what the name itself refers to.
+    /// Writes bytes into what the name itself refers to. They are not synced, since a pipe can't be.
     fn write_over(&mut self, name: &str, bytes: &[u8]) -> Result<(), SinkError>
         ensures { self.new ≡ counted self.old result }
     {
@@ -294,7 +300,7 @@ impl<R: Files> Disk<R> {
     {
         match self.replace(name, bytes) {
             Replaced::Done => Ok(()),
-            Replaced::Refused => self.write_over(name, bytes),
+            Replaced::Refused(_) => self.write_over(name, bytes),
             Replaced::Failed => Err(SinkError::Failed),
         }
     }

@@ -1,5 +1,6 @@
 //! A shelf over the files of the system.
-ghost use Rattle.std.specs.Prelude.{◌≡◌, ◌≢◌, ◌+◌, ◌≤◌, length, Some, Err, IfOk, OnOk, IfSome};
+ghost use Rattle.std.specs.Prelude.{◌≡◌, ◌≢◌, ◌+◌, ◌≤◌, length, Some, Err, IfOk, IfErr, OnOk, IfSome};
+ghost use Rattle.std.specs.IoError.{error_kind};
 ghost use Rattle.std.specs.Io.KnownBytes.{IsAtEnd};
 ghost use Rattle.thy_base.specs.Outside.{Fetched, FetchCounts, PutCounts};
 ghost use Rattle.thy_out.specs.Replacing.{counted};
@@ -10,7 +11,7 @@ use crate::counted_reader::CountedReader;
 use crate::disk::Disk;
 use std::alloc::Global;
 use std::fs::Files;
-use std::io::{ErrorKind, Read};
+use std::io::{Error, ErrorKind, Read};
 use thy_base::{FetchError, PutError, Shelf};
 
 /// The files that the runtime reaches; a name is a path. Its contents are unknown to contracts, since others change
@@ -71,6 +72,18 @@ pub fn read_within<F: Read>(
     }
 }
 
+/// What an error of an open makes of a fetch.
+fn not_opened(error: &Error) -> FetchError
+    ensures missing { error_kind error.now ≡ ErrorKind.NotFound → result ≡ FetchError.NotThere }
+    ensures other { error_kind error.now ≢ ErrorKind.NotFound → result ≡ FetchError.Failed }
+{
+    if error.kind() == ErrorKind::NotFound {
+        FetchError::NotThere
+    } else {
+        FetchError::Failed
+    }
+}
+
 /// The bytes of the file at a path, if they are at most `limit`.
 fn read_file<R: Files>(
     disk: &Disk<R>,
@@ -82,13 +95,7 @@ fn read_file<R: Files>(
 {
     match disk.open(path) {
         Ok(file) => read_within(&mut CountedReader::over(file), alloc, limit),
-        Err(error) => {
-            if error.kind() == ErrorKind::NotFound {
-                Err(FetchError::NotThere)
-            } else {
-                Err(FetchError::Failed)
-            }
-        }
+        Err(error) => Err(not_opened(&error)),
     }
 }
 
@@ -114,6 +121,7 @@ impl<R: Files> Shelf for FileShelf<R> {
     /// a file with no other name, and the system lets a file be made there; otherwise by writing over what is there.
     fn put(&mut self, _alloc: Global, name: &str, bytes: &[u8]) -> Result<(), PutError>
         ensures faults { PutCounts name.now (untold self.old.faults) (untold self.new.faults) result }
+        ensures failed { IfErr result (λ e. e ≡ PutError.Failed) }
         ensures after { self.new.faults ≡ put_faults self.old.faults result }
         ensures done { self.new.disk ≡ counted self.old.disk result }
     {

@@ -11,6 +11,7 @@ mod disk;
 mod file_shelf;
 mod mem_shelf;
 mod mem_sink;
+mod side;
 mod std_sink;
 mod target;
 

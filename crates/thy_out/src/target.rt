@@ -1,59 +1,132 @@
-//! A file that is written and synced, whose failures are counted.
-ghost use Rattle.std.specs.Prelude.{◌≡◌, is_ok, false, OnOk, OnErr};
+//! A file or a stream that is written to, whose failures are counted.
+ghost use Rattle.std.specs.Prelude.{◌≡◌, ◌≢◌, ◌<◌, ◌≤◌, is_ok, false, length, IfOk, IfErr, OnOk, OnErr};
+ghost use Rattle.std.specs.Io.KnownBytes.{Keeps, WriteAppends};
+ghost use Rattle.std.specs.IoError.{error_kind};
 ghost use Rattle.thy_base.specs.Device.{CountsFault};
 ghost use Rattle.thy_base.specs.Outside.{Took, TookPart};
-ghost use Rattle.thy_out.specs.Replacing.{stream_of};
+ghost use Rattle.thy_out.specs.Written.{stream_of, untouched, failures_after};
 
-use crate::std_sink::write_on;
 use std::fs::OpenFile;
-use std::io::Write;
+use std::io;
+use std::io::{Error, ErrorKind, Write};
 use std::marker::Model;
 use thy_base::SinkError;
 
-/// A file that is written; whether the system has synced all that it took; and how many of its calls failed.
-/// Only a call that fails raises the count, and only a sync makes it synced.
+/// A writer; whether it was flushed, and whether it was synced, after all that it took; and how many of its calls failed.
+/// Only a call that fails raises the count.
 #[derive(Drop)]
-pub struct Target<F: Write + OpenFile> {
-    to: F,
+pub struct Target<W: Write> {
+    to: W,
+    flushed: bool,
     synced: bool,
     failures: u64,
 }
 
-impl<F: Write + OpenFile> Model for Target<F> {
-    ghost use Rattle.thy_out.specs.Replacing.{Written};
+impl<W: Write> Model for Target<W> {
+    ghost use Rattle.thy_out.specs.Written.{Written};
 
     ghost Value = { Written };
 
-    ghost view = { λ s. record { taken = F.contents s.to; synced = s.synced; failures = s.failures } };
+    ghost view = { λ s. record { taken = W.contents s.to; flushed = s.flushed; synced = s.synced; failures = s.failures } };
 }
 
-impl<F: Write + OpenFile> Target<F> {
-    /// A file of which no call has failed.
-    pub fn over(to: F) -> Target<F>
-        ensures { result ≡ record { taken = F.contents to; synced = false; failures = 0 } }
+/// Writes some bytes of a piece that has any, and again after a write that was interrupted. A writer that takes none
+/// has failed.
+fn write_on<W: Write>(to: &mut W, piece: &[u8]) -> io::Result<usize>
+    requires { 0 < length piece.now }
+    ensures some { IfOk result (λ n. (0 < n) × (n ≤ length piece.now)) }
+    ensures bytes { WriteAppends (W.contents to.old) (W.contents to.new) result piece.now }
+    ensures retried { IfErr result (λ e. error_kind e ≢ ErrorKind.Interrupted) }
+{
+    for _ in 0..u64::MAX {
+        match to.write(piece) {
+            Ok(0) => return Err(Error::from(ErrorKind::WriteZero)),
+            Ok(count) => return Ok(count),
+            Err(error) => {
+                if error.kind() != ErrorKind::Interrupted {
+                    return Err(error);
+                }
+            }
+        }
+    }
+    Err(Error::from(ErrorKind::TimedOut))
+}
+
+impl<W: Write> Target<W> {
+    /// A target of which no call has failed.
+    pub fn over(to: W) -> Target<W>
+        ensures { result ≡ untouched (W.contents to) }
     {
         Target {
             to,
+            flushed: false,
             synced: false,
             failures: 0,
         }
     }
 
+    /// Takes some bytes of a piece that has any, or fails and has taken none.
+    fn write_some(&mut self, piece: &[u8]) -> Result<usize, SinkError>
+        requires { 0 < length piece.now }
+        ensures some { IfOk result (λ n. (0 < n) × (n ≤ length piece.now)) }
+        ensures bytes { WriteAppends self.old.taken self.new.taken result piece.now }
+        ensures count { CountsFault result self.old.failures self.new.failures }
+        ensures after { self.new.failures ≡ failures_after self.old.failures result }
+        ensures flags { self.new ≡ record self.old { taken = self.new.taken; failures = self.new.failures } }
+    {
+        match write_on(&mut self.to, piece) {
+            Ok(count) => Ok(count),
+            Err(_) => {
+                self.failures = self.failures.saturating_add(1);
+                Err(SinkError::Failed)
+            }
+        }
+    }
+
     /// Takes the whole piece, or fails and has taken only the first part of it, or none. A write that was
-    /// interrupted is repeated.
+    /// interrupted is repeated, and has not failed.
     pub fn write(&mut self, piece: &[u8]) -> Result<(), SinkError>
         ensures whole { OnOk result (Took (stream_of self.old) (stream_of self.new) piece.now) }
         ensures failed { OnErr result (TookPart (stream_of self.old) (stream_of self.new) piece.now) }
+        ensures count { CountsFault result self.old.failures self.new.failures }
+        ensures after { self.new.failures ≡ failures_after self.old.failures result }
+        ensures unflushed { self.new.flushed ≡ false }
         ensures unsynced { self.new.synced ≡ false }
     {
+        self.flushed = false;
         self.synced = false;
-        if write_on(&mut self.to, piece) < piece.len() {
-            self.failures = self.failures.saturating_add(1);
-            return Err(SinkError::Failed);
+        let mut done = 0;
+        while done < piece.len() {
+            match self.write_some(&piece[done..]) {
+                Ok(count) => done += count,
+                Err(error) => return Err(error),
+            }
         }
         Ok(())
     }
 
+    /// Has the writer pass on what it took.
+    pub fn flush(&mut self) -> Result<(), SinkError>
+        ensures taken { Keeps self.old.taken self.new.taken }
+        ensures flushed { self.new.flushed ≡ is_ok result }
+        ensures count { CountsFault result self.old.failures self.new.failures }
+        ensures after { self.new.failures ≡ failures_after self.old.failures result }
+    {
+        match self.to.flush() {
+            Ok(()) => {
+                self.flushed = true;
+                Ok(())
+            }
+            Err(_) => {
+                self.flushed = false;
+                self.failures = self.failures.saturating_add(1);
+                Err(SinkError::Failed)
+            }
+        }
+    }
+}
+
+impl<F: Write + OpenFile> Target<F> {
     /// Has the system write what the file took to its device, and waits for that.
     pub fn sync(&mut self) -> Result<(), SinkError>
         ensures taken { self.new.taken ≡ self.old.taken }

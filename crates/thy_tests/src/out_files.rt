@@ -72,6 +72,32 @@ fn a_name_beside_which_no_file_can_be_made_is_written_over(rt: HostRuntime) {
     fs::remove_file(&rt, long.as_str()).expect(&rt, "the file");
 }
 
+/// A path of this many bytes, an even number, to the file `long`.
+fn long_path(rt: &(impl Abort + Alloc<A = Global>), bytes: u64) -> String {
+    let mut path = String::new(rt.alloc());
+    for _ in 2..bytes / 2 {
+        path.push_str("./").expect(rt, "memory");
+    }
+    path.push_str("long").expect(rt, "memory");
+    path
+}
+
+#[test]
+fn a_file_with_a_long_name_is_replaced_too(rt: HostRuntime) {
+    for bytes in [54, 64, 1024, 4084] {
+        fs::write(&rt, "long", b"old bytes").expect(&rt, "the file");
+        let before = fs::metadata(&rt, "long").expect(&rt, "the file");
+        let name = long_path(&rt, bytes);
+        let mut shelf = FileShelf::new(&rt);
+        expect(&rt, shelf.put(rt.alloc(), name.as_str(), b"new"), Ok(()));
+        has(&rt, "long", b"new");
+        let after = fs::metadata(&rt, "long").expect(&rt, "the file");
+        expect(&rt, after.ino() == before.ino(), false);
+        expect(&rt, is_free(&rt, "long.thynvm-new"), true);
+    }
+    fs::remove_file(&rt, "long").expect(&rt, "the file");
+}
+
 /// A call that a put makes on a new file.
 #[derive(Clone, Copy, PartialEq, Eq)]
 enum Call {
@@ -221,8 +247,9 @@ impl<F: OpenFile> OpenFile for FailingFile<F> {
 
 /// The call that fails, how, and whether the name then has the new bytes: if the system does not let a file
 /// be made or renamed there, the old one is written over.
-static FAILING: [(Call, ErrorKind, bool); 9] = [
+static FAILING: [(Call, ErrorKind, bool); 11] = [
     (Call::Make, ErrorKind::StorageFull, false),
+    (Call::Make, ErrorKind::QuotaExceeded, false),
     (Call::Make, ErrorKind::PermissionDenied, true),
     (Call::Make, ErrorKind::ReadOnlyFilesystem, true),
     (Call::Alike, ErrorKind::PermissionDenied, true),
@@ -230,6 +257,7 @@ static FAILING: [(Call, ErrorKind, bool); 9] = [
     (Call::Sync, ErrorKind::QuotaExceeded, false),
     (Call::Sync, ErrorKind::PermissionDenied, false),
     (Call::Rename, ErrorKind::StorageFull, false),
+    (Call::Rename, ErrorKind::QuotaExceeded, false),
     (Call::Rename, ErrorKind::ResourceBusy, true),
 ];
 

@@ -1,17 +1,8 @@
-use Rattle.std.proofs.Common.{arith, rules}
-use Rattle.thy_base.proofs.Streams.{TookPart-take}
-use Rattle.thy_out.proofs.Known.{Grew-keeps}
+use Rattle.thy_out.proofs.Known.{Took-behind, TookPart-behind}
 use Rattle.thy_out.proofs.std_sink.StdSinkSink.write.Goals as goal
 
-pub returns-then-taken-piece-clause-failed : goal.returns-then-taken-piece-clause-failed
-returns-then-taken-piece-clause-failed g c =
-    TookPart-take _ _ _ c.write_on-taken.result c.write_on-taken.ensures.taken
-    (record { no_less = omega arith; more = omega arith })
+pub returns-clause-whole : goal.returns-clause-whole
+returns-clause-whole g c = Took-behind c.flush.result _ _ _ _ c.in_ok-write.ensures.whole c.flush.ensures.taken c.flush.ensures.count
 
-pub returns-in-Err-clause-failed : goal.returns-in-Err-clause-failed
-returns-in-Err-clause-failed g c =
-    TookPart-take _ _ _ c.write_on-taken.result (Grew-keeps _ _ _ _ c.write_on-taken.ensures.taken c.flush.ensures.bytes)
-    (record { no_less = omega arith; more = omega arith })
-
-pub returns-in-Err-clause-after : goal.returns-in-Err-clause-after
-returns-in-Err-clause-after g c = search rules
+pub returns-clause-failed : goal.returns-clause-failed
+returns-clause-failed g c = TookPart-behind c.flush.result _ _ _ _ c.in_ok-write.ensures.whole c.flush.ensures.taken c.flush.ensures.count
