@@ -9,7 +9,7 @@ NUMBER = r"(?:0|[1-9][0-9]*)"
 
 EVENT = re.compile(rf"({NUMBER}) ({NUMBER}|-) ([a-z].*)")
 
-TRAP = re.compile(r"trap [0-9a-f]+(?: [0-9a-f]+){0,2}")
+TRAP = re.compile(r"trap [0-9a-f]+(?: [0-9a-f]+){0,2}( hart [01])?")
 
 # The totals in their order: the first word of each line, and the names of its numbers. A name of None is a number that
 # stands directly behind the first word.
@@ -22,6 +22,9 @@ TOTALS = (
     ("lost", (None,)),
     ("epochs", (None, "early", "overlapped")),
 )
+
+# The same with two harts: what each of them did stands behind the line of both.
+TOTALS_OF_TWO = (*TOTALS[:2], ("hart0", ("moved", "retired")), ("hart1", ("moved", "retired")), *TOTALS[2:])
 
 
 class Fault(Exception):
@@ -70,16 +73,17 @@ def read(lines):
         cycle, count, line = found.groups()
         events.append(Event(int(cycle), None if count == "-" else int(count), line))
         k += 1
-    trap = None
-    if k < len(lines) and TRAP.fullmatch(lines[k]):
-        trap = lines[k]
-        k += 1
-    rest = lines[k:]
+    trap = TRAP.fullmatch(lines[k]) if k < len(lines) else None
+    rest = lines[k + 1 :] if trap else lines[k:]
     if not events and not rest:
         raise Fault("it has no cycles: `observe` writes none of a run on the plain machine")
-    if len(rest) != len(TOTALS):
-        raise Fault(f"behind its events it has {len(rest)} lines, and not the {len(TOTALS)} of the totals")
-    totals = {word: totals_of(line, word, names) for line, (word, names) in zip(rest, TOTALS)}
+    two = len(rest) == len(TOTALS_OF_TWO)
+    if len(rest) != len(TOTALS) and not two:
+        wanted = f"the {len(TOTALS)} of the totals, or {len(TOTALS_OF_TWO)} with two harts"
+        raise Fault(f"behind its events it has {len(rest)} lines, and not {wanted}")
+    totals = {word: totals_of(line, word, names) for line, (word, names) in zip(rest, TOTALS_OF_TWO if two else TOTALS)}
+    if trap and two != bool(trap[1]):
+        raise Fault("its trap and its totals are not of as many harts")
     for word, whole, parts in (
         ("cycles", totals["cycles"][""], [number for name, number in totals["cycles"].items() if name]),
         ("hart", totals["cycles"]["hart"], totals["hart"].values()),
@@ -87,7 +91,13 @@ def read(lines):
     ):
         if sum(parts) != whole:
             raise Fault(f"the sum of its line '{word} ..' is {sum(parts)}, and has to be {whole}")
+    if two:
+        moved, retired = (totals["hart0"][name] + totals["hart1"][name] for name in ("moved", "retired"))
+        if retired != totals["hart"]["retired"]:
+            raise Fault(f"its harts retired {retired} instructions, and have to have retired {totals['hart']['retired']}")
+        if moved > totals["hart"]["moved"]:
+            raise Fault(f"its harts have {moved} moves, and there are {totals['hart']['moved']}")
     cycles = [event.cycle for event in events]
     if cycles != sorted(cycles) or (cycles and cycles[-1] > totals["cycles"][""] + 1):
         raise Fault("the cycles of its events do not rise, or go past the last one")
-    return Observed(events, trap, totals)
+    return Observed(events, trap[0] if trap else None, totals)

@@ -62,17 +62,19 @@ pub fn text_of(
 ) -> Result<Option<String>, AllocError> {
     let mut text = String::new(alloc);
     if asked.plain {
-        add_trap(alloc, &mut text, tally.trap())?;
+        add_trap(alloc, &mut text, tally.trap(), 1)?;
         return Ok(Some(text));
     }
+    let Asked { base, harts, .. } = asked;
+    let events = answer.events.last();
     let telling = Telling {
         digest: false,
-        harts: asked.harts,
+        harts,
     };
-    let Some(lost) = add_lines(alloc, &mut text, tally, telling, answer.events.last())? else {
+    let Some(lost) = add_lines(alloc, &mut text, tally, telling, events)? else {
         return Ok(None);
     };
-    add_trap(alloc, &mut text, trap_in(answer.events.last(), asked.base))?;
-    add_totals(alloc, &mut text, tally, calls, lost, answer.events.last())?;
+    add_trap(alloc, &mut text, trap_in(events, base, harts), harts)?;
+    add_totals(alloc, &mut text, harts, tally, calls, lost, events)?;
     Ok(Some(text))
 }

@@ -57,7 +57,7 @@ fn called_over(
     alloc: Global,
     out: &str,
     line: &str,
-    mut shelf: MemShelf,
+    shelf: &mut MemShelf,
     nvm: MemNvm,
 ) -> Result<Given, AllocError> {
     let mut words = Vec::new(alloc);
@@ -71,7 +71,7 @@ fn called_over(
         alloc,
         out,
         &words,
-        &mut shelf,
+        shelf,
         &mut terminal,
         &mut report,
         &mut nvm,
@@ -98,8 +98,8 @@ fn called(
     word: u32,
     failing: &[u64],
 ) -> Result<Given, AllocError> {
-    let shelf = shelf_of(alloc, word, failing)?;
-    called_over(alloc, out, line, shelf, MemNvm::new(alloc))
+    let mut shelf = shelf_of(alloc, word, failing)?;
+    called_over(alloc, out, line, &mut shelf, MemNvm::new(alloc))
 }
 
 /// Whether a text has a line.
@@ -227,8 +227,8 @@ fn a_cycle_that_was_broken_off_is_in_no_total(rt: HostRuntime) -> Result<(), Fai
     let alloc = rt.alloc();
     // The calls of the first three cycles are a read, a write and a drain.
     let nvm = MemNvm::failing(alloc, &[3])?;
-    let shelf = shelf_of(alloc, FIRST, &[])?;
-    let given = called_over(alloc, "O", "thynvm run F --pages 8", shelf, nvm)?;
+    let mut shelf = shelf_of(alloc, FIRST, &[])?;
+    let given = called_over(alloc, "O", "thynvm run F --pages 8", &mut shelf, nvm)?;
     assert_eq!(rt; given.status, 7);
     assert_eq!(rt;
         given.put.as_slice(),
@@ -294,5 +294,170 @@ fn an_out_that_cannot_be_put_is_told(rt: HostRuntime) -> Result<(), Fail> {
         b"trap 3 at 1\nput O failed\n".as_slice()
     );
     assert!(rt; !given.is_put);
+    Ok(())
+}
+
+/// The head of a program file of five words at the address 65536.
+static FIVE: [u8; 120] = [
+    0x7f, 0x45, 0x4c, 0x46, 0x02, 0x01, 0x01, 0x00, 0x00, 0x00, 0x00, 0x00, 0x00, 0x00, 0x00, 0x00,
+    0x02, 0x00, 0xf3, 0x00, 0x01, 0x00, 0x00, 0x00, 0x00, 0x00, 0x01, 0x00, 0x00, 0x00, 0x00, 0x00,
+    0x40, 0x00, 0x00, 0x00, 0x00, 0x00, 0x00, 0x00, 0x00, 0x00, 0x00, 0x00, 0x00, 0x00, 0x00, 0x00,
+    0x00, 0x00, 0x00, 0x00, 0x40, 0x00, 0x38, 0x00, 0x01, 0x00, 0x00, 0x00, 0x00, 0x00, 0x00, 0x00,
+    0x01, 0x00, 0x00, 0x00, 0x07, 0x00, 0x00, 0x00, 0x78, 0x00, 0x00, 0x00, 0x00, 0x00, 0x00, 0x00,
+    0x00, 0x00, 0x01, 0x00, 0x00, 0x00, 0x00, 0x00, 0x00, 0x00, 0x01, 0x00, 0x00, 0x00, 0x00, 0x00,
+    0x14, 0x00, 0x00, 0x00, 0x00, 0x00, 0x00, 0x00, 0x14, 0x00, 0x00, 0x00, 0x00, 0x00, 0x00, 0x00,
+    0x04, 0x00, 0x00, 0x00, 0x00, 0x00, 0x00, 0x00,
+];
+
+/// Hart 0 stays at `beq a0,zero,0`, and hart 1 comes to `sd t0,16(zero)`, which traps.
+static TRAPS: [u32; 5] = [0x00050063, 0x00503823, 0, 0, 0];
+
+/// Hart 0 stays at `beq a0,zero,0`. Hart 1 comes to `auipc t0,1`, and then to `sb zero,0(t0); addi t0,t0,64; jal zero,-8` again
+/// and again, so each store is to another block.
+static STORES: [u32; 5] = [0x00050063, 0x00001297, 0x00028023, 0x04028293, 0xff9ff06f];
+
+/// A shelf with the program of these words under the name F.
+fn shelf_of_five(alloc: Global, words: [u32; 5]) -> Result<MemShelf, AllocError> {
+    let mut bytes = Vec::from_slice(alloc, &FIVE[..120])?;
+    for word in words {
+        for byte in word.to_le_bytes() {
+            bytes.push(byte)?;
+        }
+    }
+    let mut files = Vec::new(alloc);
+    files.push((String::from_str(alloc, "F")?, bytes))?;
+    Ok(MemShelf::new(files, Vec::new(alloc)))
+}
+
+/// Whether a text has a line that begins so.
+fn has_start(text: &[u8], start: &str) -> bool {
+    match std::str::from_utf8(text) {
+        Ok(text) => text.lines().any(|it| it.starts_with(start)),
+        Err(_) => false,
+    }
+}
+
+/// The whole texts of runs of two harts of which hart 1 traps, worked out by the rules of docs/CONTROLLER.md. A slot of both
+/// tables has 13 blocks, of which two records of a processor are 10, and one of the journal and of shadow paging has 11.
+static TRAP_OF_HART_1: [(&str, &str); 3] = [
+    // Hart 0 begins in cycle 663, at the turn of the engine. Its first instruction has two moves, every other one of either
+    // hart has one: hart 0's in cycles 666 and 670, hart 1's in 668 and 672.
+    (
+        "thynvm run F --pages 8 --btt 8 --ptt 8 --harts 2",
+        "662 0 commit 0 overlapped 0\n\
+         674 5 epoch 1 ends at 5 by end harts 3 2\n\
+         693 5 commit 1 overlapped 0\n\
+         693 5 trap 7 at 5\n\
+         trap 10004 503823 10 hart 1\n\
+         cycles 693 boot 530 hart 12 engine 16 nvmdrain 135 dramdrain 0\n\
+         hart moved 6 retired 5 flushed 0 merged 0 promoted 0 sealed 1\n\
+         hart0 moved 4 retired 3\n\
+         hart1 moved 2 retired 2\n\
+         engine copied 0 page 0 state 10 table 3 barrier 1 commit 1 committed 1\n\
+         waiting 12\n\
+         nvm reads 449 writes 541 barriers 4\n\
+         lost 0\n\
+         epochs 1 early 0 overlapped 0\n",
+    ),
+    // Hart 0 begins in cycle 661, at its own turn.
+    (
+        "thynvm run F --pages 8 --btt 8 --harts 2 --scheme journal",
+        "660 0 commit 0 overlapped 0\n\
+         670 4 epoch 1 ends at 4 by end harts 2 2\n\
+         687 4 commit 1 overlapped 0\n\
+         687 4 trap 7 at 4\n\
+         trap 10004 503823 10 hart 1\n\
+         cycles 687 boot 528 hart 10 engine 14 nvmdrain 135 dramdrain 0\n\
+         hart moved 5 retired 4 flushed 0 merged 0 promoted 0 sealed 1\n\
+         hart0 moved 3 retired 2\n\
+         hart1 moved 2 retired 2\n\
+         engine copied 0 page 0 state 10 table 1 barrier 1 commit 1 committed 1\n\
+         waiting 11\n\
+         nvm reads 449 writes 537 barriers 4\n\
+         lost 0\n\
+         epochs 1 early 0 overlapped 0\n",
+    ),
+    (
+        "thynvm run F --pages 8 --btt 8 --harts 2 --scheme shadow",
+        "660 0 commit 0 overlapped 0\n\
+         670 4 epoch 1 ends at 4 by end harts 2 2\n\
+         687 4 commit 1 overlapped 0\n\
+         687 4 trap 7 at 4\n\
+         trap 10004 503823 10 hart 1\n\
+         cycles 687 boot 528 hart 10 engine 14 nvmdrain 135 dramdrain 0\n\
+         hart moved 5 retired 4 flushed 0 merged 0 promoted 0 sealed 1\n\
+         hart0 moved 3 retired 2\n\
+         hart1 moved 2 retired 2\n\
+         engine copied 0 page 0 state 10 table 1 barrier 1 commit 1 committed 1\n\
+         waiting 11\n\
+         nvm reads 449 writes 537 barriers 4\n\
+         lost 0\n\
+         epochs 1 early 0 overlapped 0\n",
+    ),
+];
+
+#[test]
+fn the_trap_and_the_moves_are_of_the_hart_that_retires(rt: HostRuntime) -> Result<(), Fail> {
+    let alloc = rt.alloc();
+    for (line, text) in TRAP_OF_HART_1 {
+        let mut shelf = shelf_of_five(alloc, TRAPS)?;
+        let given = called_over(alloc, "O", line, &mut shelf, MemNvm::new(alloc))?;
+        assert_eq!(rt; given.status, 1, "{line}");
+        assert_eq!(rt; given.put.as_slice(), text.as_bytes(), "{line}");
+    }
+    Ok(())
+}
+
+/// The run stops with the seal of an epoch in which hart 1 finds no room for its ninth store. Its instruction is dropped after
+/// two moves, its fetch and the reservation, and these are no hart's: 82 is two more than both have.
+static DROPPED: &str = "662 0 commit 0 overlapped 0\n\
+    810 55 epoch 1 ends at 55 by exhausted 8 8 1 harts 29 26\n\
+    cycles 810 boot 530 hart 146 engine 0 nvmdrain 134 dramdrain 0\n\
+    hart moved 82 retired 55 flushed 8 merged 0 promoted 0 sealed 1\n\
+    hart0 moved 30 retired 29\n\
+    hart1 moved 50 retired 26\n\
+    engine copied 0 page 0 state 0 table 0 barrier 0 commit 0 committed 0\n\
+    waiting 0\n\
+    nvm reads 10 writes 535 barriers 2\n\
+    lost 0\n\
+    epochs 1 early 1 overlapped 0\n";
+
+#[test]
+fn moves_of_a_dropped_instruction_are_no_harts(rt: HostRuntime) -> Result<(), Fail> {
+    let alloc = rt.alloc();
+    let line = "thynvm run F --pages 8 --btt 8 --ptt 8 --harts 2 --limit 810";
+    let mut shelf = shelf_of_five(alloc, STORES)?;
+    let given = called_over(alloc, "O", line, &mut shelf, MemNvm::new(alloc))?;
+    assert_eq!(rt; given.status, 8);
+    assert_eq!(rt; given.put.as_slice(), DROPPED.as_bytes());
+    Ok(())
+}
+
+#[test]
+fn a_resumed_run_tells_the_hart_that_it_saw(rt: HostRuntime) -> Result<(), Fail> {
+    let alloc = rt.alloc();
+    for scheme in ["thynvm", "journal", "shadow"] {
+        let options = format!(in alloc; "--pages 8 --btt 8 --ptt 8 --harts 2 --scheme {scheme}")?;
+        let mut shelf = shelf_of_five(alloc, TRAPS)?;
+        // What is saved before the trap runs to it when it is resumed.
+        let line = format!(in alloc; "thynvm run F {options} --limit 666 --save I")?;
+        let given = called_over(alloc, "P", line.as_str(), &mut shelf, MemNvm::new(alloc))?;
+        assert_eq!(rt; given.status, 8, "{scheme}");
+        let line = format!(in alloc; "thynvm resume I {options}")?;
+        let given = called_over(alloc, "O", line.as_str(), &mut shelf, MemNvm::new(alloc))?;
+        assert_eq!(rt; given.status, 1, "{scheme}");
+        let trap = has_line(given.put.as_slice(), "trap 10004 503823 10 hart 1");
+        assert!(rt; trap, "{scheme}");
+        // What is saved after it has ended, and no event of it says by which hart.
+        let line = format!(in alloc; "thynvm run F {options} --save J")?;
+        let given = called_over(alloc, "Q", line.as_str(), &mut shelf, MemNvm::new(alloc))?;
+        assert_eq!(rt; given.status, 1, "{scheme}");
+        let line = format!(in alloc; "thynvm resume J {options}")?;
+        let given = called_over(alloc, "R", line.as_str(), &mut shelf, MemNvm::new(alloc))?;
+        assert_eq!(rt; given.status, 1, "{scheme}");
+        assert!(rt; !has_start(given.put.as_slice(), "trap "), "{scheme}");
+        let none = has_line(given.put.as_slice(), "hart0 moved 0 retired 0");
+        assert!(rt; none, "{scheme}");
+    }
     Ok(())
 }

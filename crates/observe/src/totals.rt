@@ -1,7 +1,7 @@
 //! The totals of a run.
 
 use std::alloc::{AllocError, Global};
-use thy_observe::{Calls, Kind, Tally};
+use thy_observe::{Calls, Kind, Shares, Tally};
 use thy_out::MemSink;
 use thy_text::{Events, write_summary};
 
@@ -59,6 +59,15 @@ fn add_hart(alloc: Global, text: &mut String, tally: &Tally) -> Result<(), Alloc
     text.push_str(line.as_str())
 }
 
+/// Adds the lines of what each of two harts did.
+fn add_shares(alloc: Global, text: &mut String, shares: Shares) -> Result<(), AllocError> {
+    let line = format!(in alloc;
+        "hart0 moved {} retired {}\nhart1 moved {} retired {}\n",
+        shares.first.moved, shares.first.retired, shares.second.moved, shares.second.retired
+    )?;
+    text.push_str(line.as_str())
+}
+
 /// Adds the line of the checkpoint engine's cycles.
 fn add_engine(alloc: Global, text: &mut String, tally: &Tally) -> Result<(), AllocError> {
     let line = format!(in alloc;
@@ -86,13 +95,14 @@ fn add_epochs(alloc: Global, text: &mut String, events: &Events) -> Result<(), A
     Ok(())
 }
 
-/// Adds the lines of the totals.
+/// Adds the lines of the totals: with two harts, also those of each of them.
 ///
 /// # Errors
 /// Memory ran out.
 pub fn add_totals(
     alloc: Global,
     text: &mut String,
+    harts: u64,
     tally: &Tally,
     calls: &Calls,
     lost: u64,
@@ -100,6 +110,9 @@ pub fn add_totals(
 ) -> Result<(), AllocError> {
     add_cycles(alloc, text, tally)?;
     add_hart(alloc, text, tally)?;
+    if harts == 2 {
+        add_shares(alloc, text, tally.shares())?;
+    }
     add_engine(alloc, text, tally)?;
     let line = format!(in alloc;
         "waiting {}\nnvm reads {} writes {} barriers {}\nlost {}\n",

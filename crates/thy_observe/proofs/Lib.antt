@@ -1,1 +1,3 @@
 pub mod TallyLemmas
+pub mod KindLemmas
+pub mod ShareLemmas

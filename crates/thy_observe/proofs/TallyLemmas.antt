@@ -1,16 +1,19 @@
 -- The tally of one cycle more.
-use Rattle.std.proofs.Common.{◌≡◌, ℕ, ◌+◌, ◌==◌, ◌<◌, ◌≤◌, Bool, true, false, cond, Option, Some, None, List, [], ◌∷◌, ◌++◌, length, length-append, count_by, slice_index_or, slice_set, refl, sym, ◌∙◌, ap, subst, append_assoc, append-nil, arith}
+use Rattle.std.proofs.Common.{◌≡◌, ℕ, ◌+◌, ◌==◌, ◌<◌, ◌≤◌, Bool, true, false, cond, if◌then◌else◌, Option, Some, None, List, [], ◌∷◌, ◌++◌, length, length-append, count_by, slice_index_or, slice_set, refl, sym, ◌∙◌, ap, subst, append_assoc, append-nil, arith}
 use Rattle.std.proofs.lemmas.List.Sums.{sum_by_push}
 use Rattle.thy_view.specs.declared.did.Did.{Did}
 use Rattle.thy_view.specs.declared.did.Stepped.{Stepped}
 use Rattle.thy_view.specs.declared.did.Did.TheVariants.{Loaded, Restarted, Retired}
 use Rattle.thy_run.specs.Watching.{Taken}
+use Rattle.thy_observe.specs.declared.event_cycle.EventCycle.{EventCycle}
 use Rattle.thy_observe.specs.declared.event_cycle.RetiredCount.{RetiredCount}
 use Rattle.thy_observe.specs.declared.tally.Tally.{Tally}
 use Rattle.thy_observe.specs.Kinds.{kind_of, index_of, is_at, has_waited}
 use Rattle.thy_observe.specs.Tallied.{IsTally}
 use Rattle.std.proofs.lemmas.Bool.{eqb-true, eqb-false}
 use Rattle.std.proofs.lemmas.List.{get_or-set_same, get_or-set_other, length-set}
+use Rattle.thy_observe.specs.Shares.{nobodys, shares_after_step, shares_after_cut}
+use Rattle.thy_observe.proofs.ShareLemmas.{shares-one}
 use Rattle.thy_observe.specs.EventCycles.{retired_after_step, retired_after_cut, retired_after, event_cycle_of, event_cycles_from, IsShort}
 
 -- one more counts if it is one
@@ -66,13 +69,28 @@ one-at ks a i l false e =
     get_or-set_other ks a i (slice_index_or ks a 0 + 1) 0 (λ same. eqb-false a i e (sym same))
     ∙ (let z : slice_index_or ks i 0 ≡ slice_index_or ks i 0 + 0 = omega arith in z)
 
+-- what is empty as a whole is empty in each part
+first-none : {A : Type 0} (xs ys : List A) → xs ++ ys ≡ [] → xs ≡ []
+first-none [] ys none = refl
+first-none (x ∷ xs) ys none = absurd (cc)
+
+last-none : {A : Type 0} (xs ys : List A) → xs ++ ys ≡ [] → ys ≡ []
+last-none [] ys none = none
+last-none (x ∷ xs) ys none = absurd (cc)
+
+-- a cycle that is not listed made no event
+untold : (told : ℕ) (e : EventCycle) (b : Bool) → (told == 0) ≡ b → (if b then [] else e ∷ []) ≡ [] → told ≡ 0
+untold told e true is none = eqb-true told 0 is
+untold told e false is none = absurd (cc)
+
 -- a tally with one cycle more
 pub IsTally-one : (t new : Tally) (seen : List Taken) (x : Taken) → IsTally t seen → index_of (kind_of x.stepped.did) < 17
     → new.cycles ≡ length seen + 1 → new.kinds ≡ slice_set t.kinds (index_of (kind_of x.stepped.did)) (slice_index_or t.kinds (index_of (kind_of x.stepped.did)) 0 + 1)
     → new.waiting ≡ t.waiting + cond (has_waited x) 1 0 → new.retired ≡ retired_after_cut (retired_after_step t.retired x.stepped.did) x.fell
+    → new.shares ≡ shares_after_cut (shares_after_step t.shares x.stepped.did) x.fell → (x.told ≡ 0 → new.lost ≡ t.lost)
     → (new.lost ≡ false → (t.lost ≡ false) × (new.event_cycles.items ≡ t.event_cycles.items ++ event_cycle_of (length seen + 1) t.retired x))
     → IsTally new (seen ++ x ∷ [])
-IsTally-one t new seen x h within cycles kinds waiting retired event_cycles =
+IsTally-one t new seen x h within cycles kinds waiting retired shares stays event_cycles =
     let a : ℕ = index_of (kind_of x.stepped.did) in
     let few : a < length t.kinds = omega (arith, within, h.kinds) in
     record {
@@ -83,14 +101,30 @@ IsTally-one t new seen x h within cycles kinds waiting retired event_cycles =
           ∙ ap (λ k. k + cond (a == i) 1 0) (h.counts i l) ∙ sym (count-one (is_at i) seen x);
       waiting = waiting ∙ ap (λ k. k + cond (has_waited x) 1 0) h.waiting ∙ sym (count-one has_waited seen x);
       retired = retired ∙ ap (λ p. retired_after_cut (retired_after_step p x.stepped.did) x.fell) h.retired ∙ sym (retired-one None seen x);
+      shares = shares ∙ ap (λ s. shares_after_cut (shares_after_step s x.stepped.did) x.fell) h.shares ∙ sym (shares-one nobodys seen x);
       event_cycles = λ whole.
           (event_cycles whole).1 ∙ ap (λ l. l ++ event_cycle_of (length seen + 1) t.retired x) (h.event_cycles (event_cycles whole).0)
           ∙ ap (λ p. event_cycles_from 1 None seen ++ event_cycle_of (length seen + 1) p x) h.retired
           ∙ ap (λ k. event_cycles_from 1 None seen ++ event_cycle_of k (retired_after None seen) x) (let e : length seen + 1 ≡ 1 + length seen = omega arith in e)
           ∙ sym (event-cycles-one 1 None seen x);
+      whole = λ none.
+          let parts : event_cycles_from 1 None seen ++ event_cycle_of (1 + length seen) (retired_after None seen) x ≡ []
+          = sym (event-cycles-one 1 None seen x) ∙ none in
+          let last = last-none (event_cycles_from 1 None seen) (event_cycle_of (1 + length seen) (retired_after None seen) x) parts in
+          stays (untold x.told _ (x.told == 0) refl last)
+          ∙ h.whole (first-none (event_cycles_from 1 None seen) (event_cycle_of (1 + length seen) (retired_after None seen) x) parts);
     }
 
 -- what a tally keeps is in none of its numbers
 pub IsTally-kept : (t : Tally) (seen : List Taken) (kept : Option Stepped) → IsTally t seen → IsTally (record t { kept = kept }) seen
 IsTally-kept t seen kept h =
-    record { cycles = h.cycles; kinds = h.kinds; counts = h.counts; waiting = h.waiting; retired = h.retired; event_cycles = h.event_cycles }
+    record {
+      cycles = h.cycles;
+      kinds = h.kinds;
+      counts = h.counts;
+      waiting = h.waiting;
+      retired = h.retired;
+      shares = h.shares;
+      event_cycles = h.event_cycles;
+      whole = h.whole;
+    }

@@ -1,5 +1,6 @@
 -- The kinds of cycles, and how many cycles are of each.
-use Rattle.std.specs.Prelude.{ℕ, ◌==◌, Bool, true, false, List, count_by, Option, Some}
+use Rattle.std.specs.Prelude.{◌≡◌, ℕ, ◌==◌, Bool, true, false, List, length, sum_by, count_by, Option, Some}
+use Rattle.std.specs.List.{range_with_len}
 use Rattle.thy_record.specs.declared.engine_step.EngineStep.TheVariants as engine
 use Rattle.thy_view.specs.declared.did.Did.{Did}
 use Rattle.thy_view.specs.declared.did.Did.TheVariants as did
@@ -61,6 +62,10 @@ is_at i t = index_of (kind_of t.stepped.did) == i
 -- how many cycles are of the kind with this index
 abbrev pub how_many : ℕ → List Taken → ℕ
 how_many i seen = count_by (is_at i) seen
+
+-- each cycle is of one kind: all kinds together are as many as the cycles
+abbrev pub KindsAddUp : Type 0
+KindsAddUp = (seen : List Taken) → sum_by (λ i. how_many i seen) (range_with_len 0 17) ≡ length seen
 
 -- the engine took a cycle at the turn of the hart, which waited for it
 abbrev pub is_waiting : Option Stall → Bool

@@ -1,4 +1,5 @@
 pub mod Kinds
 pub mod EventCycles
+pub mod Shares
 pub mod Tallied
 pub mod Trapping

@@ -1,6 +1,6 @@
 //! The kinds of cycles.
 ghost use Rattle.std.specs.Prelude.{◌≡◌, ◌<◌};
-ghost use Rattle.thy_observe.specs.Kinds.{kind_of, index_of};
+ghost use Rattle.thy_observe.specs.Kinds.{kind_of, index_of, KindsAddUp};
 
 use thy_record::EngineStep;
 use thy_view::Did;
@@ -108,3 +108,8 @@ pub(crate) fn index_of(kind: Kind) -> usize
         Kind::Nothing => 16,
     }
 }
+
+/// Each cycle is of one kind, so the kinds add up to the cycles.
+pub fn kinds_add_up()
+    ensures { KindsAddUp }
+{}

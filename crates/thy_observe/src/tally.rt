@@ -2,6 +2,7 @@
 ghost use Rattle.std.specs.Prelude.{◌≡◌, ◌==◌, ◌++◌, ◌∷◌, [], false, if◌then◌else◌, ℕ, List, length, cond, count_by, MatchOption};
 ghost use Rattle.thy_observe.specs.Kinds.{index_of, has_waited, how_many, is_waiting};
 ghost use Rattle.thy_observe.specs.EventCycles.{event_cycles_from, retired_after};
+ghost use Rattle.thy_observe.specs.Shares.{nobodys, shares_after};
 ghost use Rattle.thy_observe.specs.Tallied.{IsTally};
 ghost use Rattle.thy_observe.specs.Trapping.{HasTrap, trap_of};
 ghost use Rattle.thy_isa.specs.Step.{State};
@@ -9,13 +10,14 @@ ghost use Rattle.thy_run.specs.Watching.{CanSee, Sees, Taken, taken};
 
 use crate::event_cycle::{EventCycle, RetiredCount, retired_after_cut, retired_after_step};
 use crate::kinds::{KINDS, Kind, index_of, kind_of};
+use crate::shares::{Shares, nobodys, shares_after_cut, shares_after_step};
 use crate::trap::{Trap, trap_of};
 use std::alloc::Global;
 use thy_isa::MachState;
 use thy_run::Observer;
 use thy_view::{Stall, Stepped};
 
-/// How many cycles there were of each kind, and in which cycles events were made.
+/// How many cycles there were of each kind, what each hart did, and in which cycles events were made.
 #[derive(Drop)]
 pub struct Tally {
     /// How many cycles there were.
@@ -26,6 +28,8 @@ pub struct Tally {
     waiting: u64,
     /// How many instructions are retired; none in a boot.
     retired: Option<RetiredCount>,
+    /// What each hart did.
+    shares: Shares,
     /// The cycles in which events were made.
     event_cycles: Vec<EventCycle>,
     /// Memory ran out for one of these.
@@ -46,9 +50,11 @@ fn waiting_in(stall: Option<Stall>) -> u64
     }
 }
 
-/// Adds a cycle if events were made in it, and returns whether one is lost, this one or an earlier one.
+/// Adds a cycle if events were made in it, and returns whether one is lost, this one or an earlier one. None is lost where
+/// none was made.
 fn add_event_cycle(event_cycles: &mut Vec<EventCycle>, lost: bool, event_cycle: EventCycle) -> bool
-    ensures { result ≡ false → (lost ≡ false)
+    ensures due { event_cycle.told ≡ 0 → result ≡ lost }
+    ensures added { result ≡ false → (lost ≡ false)
         × (event_cycles.new.items ≡ event_cycles.old.items
         ++ (if event_cycle.told == 0 then [] else event_cycle ∷ [])) }
 {
@@ -68,6 +74,7 @@ impl Tally {
             kinds: [0; KINDS],
             waiting: 0,
             retired: None,
+            shares: nobodys(),
             event_cycles: Vec::new(alloc),
             lost: false,
             kept: None,
@@ -84,6 +91,7 @@ impl Tally {
         let at = index_of(kind_of(stepped.did));
         self.kinds[at] += 1;
         self.waiting += waiting_in(stepped.stall);
+        self.shares = shares_after_cut(shares_after_step(self.shares, stepped.did), fell);
         let retired = retired_after_step(self.retired, stepped.did);
         self.retired = retired_after_cut(retired, fell);
         let event_cycle = EventCycle {
@@ -123,9 +131,16 @@ impl Tally {
         self.retired
     }
 
+    /// What each hart did.
+    pub fn shares(&self) -> Shares
+        ensures { (seen : List Taken) → IsTally self.now seen → result ≡ shares_after nobodys seen }
+    {
+        self.shares
+    }
+
     /// The trap of the plain machine, if it stopped by one.
     pub fn trap(&self) -> Option<Trap>
-        ensures { (base : ℕ) (last : State) → HasTrap self.now base last → result ≡ trap_of base last }
+        ensures { (base : ℕ) (last : State) → HasTrap self.now base last → result ≡ trap_of base 0 last }
     {
         self.trap
     }
@@ -171,6 +186,6 @@ impl Observer for Tally {
     }
 
     fn see_last(&mut self, base: u64, state: &MachState) {
-        self.trap = trap_of(base, state);
+        self.trap = trap_of(base, 0, state);
     }
 }

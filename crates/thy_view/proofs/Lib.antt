@@ -6,3 +6,4 @@ pub mod TurnLaws
 pub mod StorableAt
 pub mod OneHartLaws
 pub mod ReachLaws
+pub mod BegunLaws

@@ -1,16 +1,20 @@
--- What holds of the plain machine by turns, and of how far views reach.
-use Rattle.std.specs.Prelude.{◌≡◌, ℕ, ◌-◌, ◌<◌, ◌≤◌, List, [], ◌∷◌, ◌++◌, length, Option}
+-- What holds of the plain machine by turns, of how far views reach, and of the hart that retires an instruction.
+use Rattle.std.specs.Prelude.{◌≡◌, ℕ, ◌-◌, ◌<◌, ◌≤◌, List, [], ◌∷◌, ◌++◌, length, Option, Some}
 use Rattle.thy_base.specs.declared.mark.Mark.{Mark}
+use Rattle.thy_base.specs.declared.mix.Pick.{Pick}
 use Rattle.thy_base.specs.Device.{Device}
 use Rattle.thy_isa.specs.Step.{steps}
 use Rattle.thy_record.specs.Decoded.{Reading}
 use Rattle.thy_view.specs.declared.did.Did.{Did}
+use Rattle.thy_view.specs.declared.did.Did.TheVariants.{Retired}
+use Rattle.thy_view.specs.declared.did.Stall.{Stall}
 use Rattle.thy_view.specs.declared.view.View.{View}
 use Rattle.thy_view.specs.CoreStep.{Retires, CoreStep}
 use Rattle.thy_view.specs.Pace.{retires}
 use Rattle.thy_view.specs.Origin.{Origin, setting_of, turn_at, at}
 use Rattle.thy_view.specs.Safe.{Safe}
 use Rattle.thy_view.specs.Told.{told, AgreeBelow, count_of, reach, IsThere, HasTurn}
+use Rattle.thy_view.specs.Turn.{Pressure, Turn}
 
 -- turns that agree below a count lead to one state at it
 abbrev pub TurnsLeadTo : Type 0
@@ -57,3 +61,10 @@ abbrev pub FindsTurns : Type 0
 FindsTurns =
     (o : Origin) (v : View) (did : Did) → IsThere o v did
     → (turns : List ℕ) × AgreeBelow o turns (reach v) × HasTurn (told o turns) v did
+
+-- With two harts an instruction is retired by the hart that began it. Until then it stays begun (HandsOn). So the moves
+-- since the last one was retired, the last seal, or power came on, are those of the hart that retires the next one.
+abbrev pub BegunIsRetired : Type 0
+BegunIsRetired =
+    (o : Origin) (pick : Pick) (nvm : ℕ) (v : View) (p : Pressure) (begun hart : ℕ) (stall : Option Stall)
+    → o.geometry.harts ≡ 2 → p.begun ≡ Some begun → Turn o pick nvm v p (Retired hart) stall → hart ≡ begun

@@ -1,6 +1,7 @@
-//! Laws of what a power cut may leave, and of the plain machine by turns, each the contract of a function that does nothing.
+//! Laws of what a power cut may leave, of the plain machine by turns, and of who retires an instruction, each the contract of
+//! a function that does nothing.
 ghost use Rattle.thy_view.specs.OneHart.{EachHasItsTurn, TurnsDontMatter};
-ghost use Rattle.thy_view.specs.Laws.{TurnsLeadTo, StaysSafe, HartZeroSteps, UntoldSteps, StepsReach, RetiresReach, StaysThere, LastTold, FindsTurns};
+ghost use Rattle.thy_view.specs.Laws.{TurnsLeadTo, StaysSafe, HartZeroSteps, UntoldSteps, StepsReach, RetiresReach, StaysThere, LastTold, FindsTurns, BegunIsRetired};
 ghost use Rattle.thy_view.specs.Safe.{SameIsNoDoubt};
 
 /// If the kept checkpoint is also the one in doubt, a power cut leaves that checkpoint. So one that is written anew,
@@ -62,4 +63,9 @@ pub fn a_turn_is_told_at_the_end()
 /// Whatever a cycle did, some turns that agree so far give it its hart.
 pub fn turns_are_found_for_each_cycle()
     ensures { FindsTurns }
+{}
+
+/// With two harts an instruction that is begun is retired by the hart that began it.
+pub fn an_instruction_is_retired_by_the_hart_that_began_it()
+    ensures { BegunIsRetired }
 {}
