@@ -1,5 +1,5 @@
 -- What a call of the program does outside: what thynvm does for the same arguments, and then OUT.
-use Rattle.std.specs.Prelude.{◌≡◌, ◌⊎◌, ℕ, Bool, true, false, ◌||◌, List, Option, Some, None, Result, Ok, Err}
+use Rattle.std.specs.Prelude.{◌≡◌, ◌⊎◌, ℕ, ◌==◌, nat_lt, nat_le, Bool, true, false, ◌||◌, List, length, Option, Some, None, Result, Ok, Err}
 use Rattle.std.specs.Str.{bytes_eq}
 use Rattle.thy_base.specs.declared.outside.PutError.{PutError}
 use Rattle.thy_base.specs.Outside.{Stream}
@@ -47,20 +47,27 @@ pub record IsTurnedDown (r : Refusal) (before after : Outside) (status : ℕ) : 
   pub terminal : after.terminal ≡ before.terminal
   pub closes : Closes (told_of r).1 before.report after.report
 
--- it is refused because of OUT; or because memory ran out for the arguments
+-- why a call is refused: because of OUT; that memory ran out for the arguments needs no reason
+abbrev pub IsRefusedFor : List ℕ → List (List ℕ) → WordsError → Type 0
+IsRefusedFor out words Usage = is_taken_by out (settings_of words) ≡ true
+IsRefusedFor out words (Memory e) = Unit {0}
+IsRefusedFor out words e = ⊥
+
 abbrev pub IsTurned : List ℕ → List (List ℕ) → Outside → Outside → ℕ → WordsError → Type 0
-IsTurned out words before after status Usage =
-    (is_taken_by out (settings_of words) ≡ true) × IsTurnedDown (Words Usage) before after status
-IsTurned out words before after status (Memory e) = IsTurnedDown (Words (Memory e)) before after status
-IsTurned out words before after status e = ⊥
+IsTurned out words before after status e = IsRefusedFor out words e × IsTurnedDown (Words e) before after status
 
 -- what is reported of OUT, and the exit status: if OUT was not put, a line says so, and the status is 3
 abbrev pub IsTold : List ℕ → Option PutError → Stream → Stream → (answered status : ℕ) → Type 0
 IsTold out None old new answered status = (new ≡ old) × (status ≡ answered)
 IsTold out (Some e) old new answered status = Closes (put_line out) old new × (status ≡ 3)
 
--- bytes were put under OUT, or were not, and all else is left alone
+-- a run was begun, by its answer; one that did nothing counts as none
+abbrev pub was_begun : Answer → Bool
+was_begun a = nat_lt 0 a.cycles || nat_lt 0 (length a.events) || nat_le a.status 1 || a.status == 6 || a.status == 8
+
+-- a run was begun, and bytes were put under OUT, or were not; all else is left alone
 pub record PutsOut {N : Type 0} (out : List ℕ) (middle after : Around N) (a : Answer) (status : ℕ) : Type 0 where
+  pub begun : was_begun a ≡ true
   pub text : List ℕ
   pub why : Option PutError
   pub put : IsPut out text middle.shelf after.shelf why
@@ -72,10 +79,11 @@ pub record PutsOut {N : Type 0} (out : List ℕ) (middle after : Around N) (a : 
 abbrev pub LeavesOut : {N : Type 0} → Around N → Around N → Answer → ℕ → Type 0
 LeavesOut middle after a status = (after ≡ middle) × (status ≡ a.status)
 
--- The arguments were answered as thynvm answers them, and the tally is that of the run's cycles, or has the trap of the plain
--- machine. Then OUT was put, or nothing was.
+-- OUT is no name that the arguments have. They were answered as thynvm answers them, and the tally is that of the run's
+-- cycles, or has the trap of the plain machine. Then OUT was put, or nothing was.
 pub record IsObserved {N : Type 0} (c : Choice) (d : NvmOf N) (out : List ℕ) (words : List (List ℕ)) (before after : Around N)
     (status : ℕ) : Type 0 where
+  pub free : is_taken_by out (settings_of words) ≡ false
   pub middle : Around N
   pub answer : Answer
   pub tally : Tally

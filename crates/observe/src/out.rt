@@ -1,4 +1,6 @@
 //! The text that is put under OUT.
+ghost use Rattle.std.specs.Prelude.{◌≡◌};
+ghost use Rattle.observe.specs.Observing.{was_begun};
 
 use crate::lines::add_lines;
 use crate::totals::add_totals;
@@ -45,8 +47,11 @@ impl Asked {
 }
 
 /// Whether a run was begun, by its answer. One that did nothing counts as none.
-pub fn was_begun(answer: &Answer) -> bool {
-    answer.cycles > 0 || answer.events.len() > 0 || matches!(answer.status, 0 | 1 | 6 | 8)
+pub fn was_begun(answer: &Answer) -> bool
+    ensures { result ≡ was_begun answer.now }
+{
+    let status = answer.status;
+    answer.cycles > 0 || answer.events.len() > 0 || status <= 1 || status == 6 || status == 8
 }
 
 /// The text for an answer; none if memory ran out for what was seen.

@@ -1,12 +1,13 @@
 //! The call: what thynvm does, and then OUT.
-ghost use Rattle.std.specs.Prelude.{◌≡◌, map};
+ghost use Rattle.std.specs.Prelude.{◌≡◌, IfErr, OnOk, false, map};
 ghost use Rattle.std.specs.String.{string_bytes};
 ghost use Rattle.thy_cli.specs.Answering.{around, nvm_of};
 ghost use Rattle.thy_cli.specs.Machines.{by_scheme};
 ghost use Rattle.thy_cli.specs.Saving.{IsPut};
 ghost use Rattle.thy_run.specs.Sending.{Sent};
 ghost use Rattle.thy_text.specs.Closings.{closing_of};
-ghost use Rattle.observe.specs.Observing.{IsTold, Observed};
+ghost use Rattle.thy_words.specs.Settings.{settings_of};
+ghost use Rattle.observe.specs.Observing.{IsRefusedFor, IsTold, Observed, is_taken_by};
 
 use crate::naming::is_taken;
 use crate::out::{Asked, text_of, was_begun};
@@ -24,6 +25,25 @@ use thy_words::{WordsError, settings};
 
 /// The exit status if OUT could not be put.
 const NOT_PUT: u8 = 3;
+
+/// What has to be known of the arguments; or why the call is refused: because of OUT, or for want of memory.
+fn asked_of(alloc: Global, out: &str, words: &[String]) -> Result<Asked, WordsError>
+    ensures free { OnOk result
+        (is_taken_by out.now (settings_of (map string_bytes words.now)) ≡ false) }
+    ensures refused { IfErr result (IsRefusedFor out.now (map string_bytes words.now)) }
+{
+    match settings(alloc, words) {
+        Ok(command) => {
+            let taken = is_taken(out, &command);
+            if taken {
+                return Err(WordsError::Usage);
+            }
+            Ok(Asked::of(Some(&command)))
+        }
+        Err(WordsError::Memory(error)) => Err(WordsError::Memory(error)),
+        Err(_) => Ok(Asked::of(None)),
+    }
+}
 
 /// Puts text under OUT, and returns why it was not put, if so.
 fn put_text<H: Shelf>(alloc: Global, out: &str, text: &str, shelf: &mut H) -> Option<PutError>
@@ -79,22 +99,14 @@ pub fn observe<H: Shelf, T: Sink, R: Sink, N: Nvm + Counts>(
         ⟦<Machine<Shadow> as Computer>⟧.kind in
         Observed machines nvms out.now (map string_bytes words.now) before after result }
 {
-    let asked = match settings(alloc, words) {
-        Ok(command) => {
-            if is_taken(out, &command) {
-                return refuse(alloc, Refusal::Words(WordsError::Usage), report).status;
-            }
-            Asked::of(Some(&command))
-        }
-        Err(WordsError::Memory(error)) => {
-            let why = WordsError::Memory(error);
-            return refuse(alloc, Refusal::Words(why), report).status;
-        }
-        Err(_) => Asked::of(None),
+    let asked = match asked_of(alloc, out, words) {
+        Ok(asked) => asked,
+        Err(why) => return refuse(alloc, Refusal::Words(why), report).status,
     };
     let mut tally = Tally::new(alloc);
     let answer = observed(alloc, words, shelf, terminal, report, nvm, &mut tally);
-    if !was_begun(&answer) {
+    let begun = was_begun(&answer);
+    if !begun {
         return answer.status;
     }
     let Ok(Some(text)) = text_of(alloc, asked, &answer, &tally, &nvm.calls()) else {

@@ -29,7 +29,7 @@ pub struct Config {
     pub high: u64,
     /// The store count below which a page leaves: at most `high`.
     pub low: u64,
-    /// The seed of the schedule. 0 gives the four actors in turn.
+    /// The seed of the schedule. 0 gives the actors in turn.
     pub mix: u64,
     /// The cycles after which power is cut: at most 64, rising, the first above 0, and
     /// `pages * (cuts + 1)` at most 65536.

@@ -105,7 +105,7 @@ pub trait Nvm {
         ensures cause { CountsFault result (device self.old).faults (device self.new).faults }
         ensures same_writes { writes self.new ≡ writes self.old };
 
-    /// Lets every queued write land, in order. A device may write more of its own accord, and counts that.
+    /// Lets every queued write land, in order. A device may write more of its own accord, and may count that.
     fn barrier(&mut self) -> Result<(), NvmError>
         requires { (device self.old).down ≡ false }
         ensures ok { OnOk result (device self.new ≡ settled (device self.old)) }
@@ -114,7 +114,7 @@ pub trait Nvm {
         ensures cause { CountsFault result (device self.old).faults (device self.new).faults }
         ensures no_fewer_writes { writes self.old ≤ writes self.new };
 
-    /// Cuts the power. The pick chooses what is left. A copy of that is kept, and so is the pick; the
+    /// Cuts the power. A device may choose by the pick what is left. A copy of that is kept, and so is the pick; the
     /// device is up again.
     fn cut(&mut self, pick: u64)
         requires { length (device self.old).left < (device self.old).left_room }

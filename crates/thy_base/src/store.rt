@@ -33,7 +33,7 @@ pub trait BlockStore<N> {
     /// later ones, over any number of calls.
     ghost stays: { Self → N → Self → N → Type 0 };
 
-    /// Block `b`. Nothing changes.
+    /// Block `b`. Nothing changes if it succeeds.
     fn load(&mut self, b: u64, nvm: &mut N) -> Result<Block, NvmError>
         requires { b < length (holding self.old nvm.old).blocks }
         ensures ok { IfOk result (λ block. block ≡ block_at (holding self.old nvm.old).blocks b) }

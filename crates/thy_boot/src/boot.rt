@@ -98,7 +98,7 @@ impl Boot {
         ensures step { let s = state_of start.now.state in
             TakesStep F.filling result s (N.device nvm.old) self.old control.old (N.device nvm.new) self.new control.new }
 
-        // Reading writes nothing, and an action of loading is counted once.
+        // Reading is not counted among the NVM's writes, and an action of loading as what it is.
         ensures writes { let action = action_of F.filling (state_of start.now.state) self.old control.old in
             Counts action result (N.writes nvm.old) (N.writes nvm.new) }
     {

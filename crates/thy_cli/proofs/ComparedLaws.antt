@@ -11,6 +11,7 @@ use Rattle.thy_base.specs.Outside.{Stock, Stream}
 use Rattle.thy_isa.specs.declared.state.Status.{Status}
 use Rattle.thy_isa.specs.Step.{State, is_running}
 use Rattle.thy_text.specs.Event.{Event}
+use Rattle.thy_text.specs.History.{all_of}
 use Rattle.thy_words.specs.Settings.{Job}
 use Rattle.thy_run.specs.declared.ending.Stop.{Stop}
 use Rattle.thy_run.specs.declared.ending.Stop.TheVariants.{Ended, Nvm, Memory, Terminal, Report, Limit}
@@ -205,7 +206,7 @@ pub compare_completes : {N : Type 0} (c : Choice) (d : NvmOf N) (name : List ℕ
 compare_completes c d name job before after a s k faults one over limit (inl (r, due, nvm, refused)) = inr (refused.status ∙ program_due (file name) job before.shelf after.shelf r s faults.shelf due)
 compare_completes {N = N} c d name job before after a s k faults one over limit (inr h) =
     tells_same (left_alone s.program k) h.last.status a.status h.status
-    (tells_runs c d name job h.program.bytes h.program.input before.shelf s k faults.shelf.counts one over limit true compared (first_stage before) h.last a.events refl
+    (tells_runs c d name job h.program.bytes h.program.input before.shelf s k faults.shelf.counts one over limit true compared (first_stage before) h.last (all_of a.events) refl
     (subst (λ (y : Around N). Stayed (d.device before.nvm).faults (d.device y.nvm).faults) (sym h.left) faults.device)
     (subst (λ (y : Around N). Stayed before.terminal.faults y.terminal.faults) (sym h.left) faults.terminal)
     (λ e. absurd (cc)) h.runs)

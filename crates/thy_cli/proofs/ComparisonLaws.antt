@@ -8,6 +8,7 @@ use Rattle.thy_base.specs.Geometry.{parameters_of}
 use Rattle.thy_isa.specs.declared.state.Status.{Status}
 use Rattle.thy_isa.specs.Step.{State, is_running, steps}
 use Rattle.thy_text.specs.Event.{Event, Scheme, EpochEnd, Commit, Cut, Restart, Reload, Ended}
+use Rattle.thy_text.specs.History.{all_of}
 use Rattle.thy_text.specs.Marks.{Course, Marks, AllLawful, loading_marks, marks_after, marks_from}
 use Rattle.thy_text.specs.OneHart.{Counts, LawfulAt, AllLawfulAt, IsUntold, counts_of}
 use Rattle.thy_text.proofs.Histories.{AllLawful-append}
@@ -115,9 +116,9 @@ module _ {N : Type 0} (c : Choice) (d : NvmOf N) (x : Subject) (begins : Beginni
     -- its events are lawful after any others, because its first one makes the marks with which it begins
     lawful_run : (m : Marks) → AllLawful one m own
     lawful_run m =
-        let all : AllLawful one (loading_marks o.start.count) r.run.events =
-        subst (λ k. AllLawful k (loading_marks o.start.count) r.run.events) same_course
-        (subst (λ n. AllLawful (course_of (origin_for (under scheme x.job) p.begins p.input)) n r.run.events) same_marks r.over.ran.seen.promise.events_lawful) in
+        let all : AllLawful one (loading_marks o.start.count) (all_of r.run.events) =
+        subst (λ k. AllLawful k (loading_marks o.start.count) (all_of r.run.events)) same_course
+        (subst (λ n. AllLawful (course_of (origin_for (under scheme x.job) p.begins p.input)) n (all_of r.run.events)) same_marks r.over.ran.seen.promise.events_lawful) in
         subst (AllLawful one m) (sym r.events_are) (tt, all)
 
   -- and so are those of all runs
@@ -139,7 +140,7 @@ IsComparison-compares c d name job plan before after a p plans compares =
     let x : Subject = record { name = name; job = job; bytes = p.bytes; input = p.input } in
     let all = compares x refl plans in
     let o : Origin = origin_for job p.begins p.input in
-    let lawful : AllLawful (course_of o) (first_marks o) a.events = lawful_through c d x p.begins p.means true compared (first_stage before) all.0 a.events (first_marks o) all.1 in
+    let lawful : AllLawful (course_of o) (first_marks o) (all_of a.events) = lawful_through c d x p.begins p.means true compared (first_stage before) all.0 (all_of a.events) (first_marks o) all.1 in
     record {
       program = p;
       last = all.0;
@@ -148,5 +149,5 @@ IsComparison-compares c d name job plan before after a p plans compares =
       status = all.3;
       cycles = all.4;
       events_lawful = lawful;
-      ends_alike = λ one. ends_alike o (first_marks o) a.events one (first_untold o.start.count o.kept) lawful;
+      ends_alike = λ one. ends_alike o (first_marks o) (all_of a.events) one (first_untold o.start.count o.kept) lawful;
     }

@@ -23,6 +23,7 @@ use Rattle.thy_isa.specs.Step.{State, Setting, is_running, steps}
 use Rattle.thy_isa.proofs.StepLaws.{steps-add, steps-ended}
 use Rattle.thy_elf.specs.Image.{Contents, read_of}
 use Rattle.thy_text.specs.Event.{Event, Ended as EndedEvent}
+use Rattle.thy_text.specs.History.{all_of}
 use Rattle.thy_text.specs.Marks.{Marks, marks_after, AllLawful}
 use Rattle.thy_text.specs.OneHart.{Counts, AllLawfulAt, counts_of}
 use Rattle.thy_text.proofs.OneHartLaws.{to-counts}
@@ -260,7 +261,7 @@ module _ {M : Type 0} (K : KindOf M) (source : ProgramSource) (job : Job) (k : �
   told_end : (status : Status) → EndsWith h.ending.events status → status ≡ (left_alone s.program k).status
   told_end status e =
       let lawful : AllLawful (course_of o) (first_marks o) (e.before ++ EndedEvent status e.count e.cycle e.state ∷ []) =
-      subst (AllLawful (course_of o) (first_marks o)) (h.events ∙ e.last) h.promise.events_lawful in
+      subst (AllLawful (course_of o) (first_marks o)) (ap all_of h.events ∙ e.last) h.promise.events_lawful in
       let by_counts : AllLawfulAt (counts_of (course_of o)) (first_marks o) (e.before ++ EndedEvent status e.count e.cycle e.state ∷ []) =
       to-counts (course_of o) (first_marks o) (e.before ++ EndedEvent status e.count e.cycle e.state ∷ []) one (first_untold o.start.count o.kept) lawful in
       let end : IsEndOf (counts_of (course_of o)) status = end_lawful (counts_of (course_of o)) (first_marks o) e.before status e.count e.cycle e.state by_counts in
@@ -433,7 +434,7 @@ module _ {M : Type 0} (K : KindOf M) (source : ProgramSource) (job : Job) (k : �
       record {
         last = stopped.last;
         ran = ran;
-        events = sym (h.events ∙ last.0);
+        events = sym (ap all_of h.events ∙ last.0);
         many = more_each (K.most_each (parameters_of job.config)) k (tally_of K o given a.cycles stopped.last ran).retired (omega (arith, paced, reached, limit));
       }
 

@@ -6,13 +6,14 @@ use Rattle.thy_base.specs.declared.config.SchemeName.TheVariants.{Thynvm, Journa
 use Rattle.thy_base.specs.declared.nvm.FitError.TheVariants.{Failed as FitFailed, Memory as FitMemory}
 use Rattle.thy_base.specs.Schemes.{scheme_number}
 use Rattle.thy_text.specs.Event.{Event, Scheme}
+use Rattle.thy_text.specs.History.{all_of}
 use Rattle.thy_run.specs.declared.plan.Plan.{Plan}
 use Rattle.thy_cli.specs.declared.answer.Answer.{Answer}
 use Rattle.thy_cli.specs.declared.comparing.Compared.{Compared}
 use Rattle.thy_cli.specs.declared.refusal.Refusal.{Refusal}
 use Rattle.thy_cli.specs.declared.refusal.Refusal.TheVariants.{Words, Fetch, File, Image, Input, Device as DeviceRefusal, Memory as MemoryRefusal}
 use Rattle.thy_cli.specs.Answering.{Around, NvmOf, stop_line}
-use Rattle.thy_cli.specs.Compared.{Compares, HasNotRun, HasRunNext, IsPlanFor, RunsNext, events_of, plan_under, stage_of}
+use Rattle.thy_cli.specs.Compared.{Compares, HasNotRun, HasRunNext, IsPlanFor, RunsNext, events_of, plan_under, recorded_of, stage_of}
 use Rattle.thy_cli.specs.Comparing.{EndsBefore, NotBegun, RunsBy, RunsThrough, Stage, Subject, TakesLines, compared, first_stage, scheme_lines, terminal_for, under, with_scheme}
 use Rattle.thy_cli.specs.Machines.{Choice}
 use Rattle.thy_cli.specs.Planning.{Begins, FitsKept, answer_of, refused_status}
@@ -163,7 +164,7 @@ first_is w c h =
 -- an answer is that of what was compared
 pub record IsAnswerOf (c : Compared) (a : Answer) : Type 0 where
   pub status : a.status ≡ c.status
-  pub events : a.events ≡ events_of c
+  pub events : a.events ≡ recorded_of c
   pub cycles : a.cycles ≡ c.cycles
 
 -- the run by a scheme of a plan that was put under it
@@ -177,7 +178,7 @@ module _ {N : Type 0} (c : Choice) (d : NvmOf N) (name : List ℕ) (p : Plan) (b
         → Compares c d name p before after a
     compares up_to = λ x is plans.
         let r = up_to x is plans in
-        let all : r.0 ≡ a.events = sym (answers.events ∙ r.2 ∙ ap (λ l. l ++ r.0) begins.events) in (
+        let all : r.0 ≡ all_of a.events = sym (ap all_of answers.events ∙ r.2 ∙ ap (λ l. l ++ r.0) begins.events) in (
           stage_of after last,
           subst (λ l. RunsThrough c d x true compared (first_stage before) (stage_of after last) l) all
               (subst (λ s. RunsThrough c d x true compared s (stage_of after last) r.0) (first_is before nothing begins) r.1),

@@ -10,6 +10,7 @@ use Rattle.thy_isa.specs.Step.{State, state_of, is_running, steps}
 use Rattle.thy_base.specs.Geometry.{parameters_of}
 use Rattle.thy_plain.specs.Machine.{Machine, loaded, after_steps, StopsAt as MachineStops}
 use Rattle.thy_plain.specs.Start.{start_state}
+use Rattle.thy_text.specs.History.{of_run}
 use Rattle.thy_text.specs.Lines.{ended_lines}
 use Rattle.thy_words.specs.Settings.{Job}
 use Rattle.thy_cli.specs.declared.answer.Answer.{Answer}
@@ -53,7 +54,7 @@ stops_at job b contents input limit k is s = record {
 pub IsPlainOf-ran : (name : List ℕ) (job : Job) (before after : Outside) (p : Program) (first last : Machine) (s : MachState) (limit k : ℕ) (terminal_failed report_failed : Bool) (stop : Stop) (a : Answer) (told : Stream) → IsProgramOf (file name) job before.shelf p
     → after.shelf ≡ before.shelf → first ≡ loaded p.geometry (contents_of p.image) (bytes_of p.input) → limit ≡ p.geometry.limit → MachineStops first limit k → last ≡ after_steps k first → state_of s ≡ last.state
     → Sent terminal_failed before.terminal after.terminal (bytes_of s.console) → Sent report_failed before.report told (ended_lines job.digest s.status s.count (bytes_of s.memory)) → stop ≡ plain_stop terminal_failed report_failed s.status
-    → ClosesRun report_failed (stop_line limit stop) told after.report → a.events ≡ [] → a.cycles ≡ k → a.status ≡ stop_status stop → (h : IsPlainOf name job before after a) × (h.last ≡ state_of s)
+    → ClosesRun report_failed (stop_line limit stop) told after.report → a.events ≡ of_run [] → a.cycles ≡ k → a.status ≡ stop_status stop → (h : IsPlainOf name job before after a) × (h.last ≡ state_of s)
 IsPlainOf-ran name job before after p first last s limit k terminal_failed report_failed stop a told program faults is bound stops done state shown read why closes events cycles status =
     let contents : Contents = contents_of p.image in
     let input : List ℕ = program.program.input in

@@ -44,6 +44,7 @@ use Rattle.thy_run.specs.World.{Given}
 use Rattle.thy_run.proofs.PromiseLaws.{Promise-stopped}
 use Rattle.thy_run.proofs.WorldLaws.{IsSafe-cut}
 use Rattle.thy_text.specs.Event.{Event}
+use Rattle.thy_text.specs.History.{all_of, of_run}
 use Rattle.thy_cli.specs.declared.answer.Answer.{Answer}
 use Rattle.thy_cli.specs.declared.answer.Ran.{Ran}
 use Rattle.thy_run.specs.declared.ending.Ending.{Ending}
@@ -212,13 +213,13 @@ IsRunOf-ran K laws has_seen source job save before after plan blocks d stood e r
           subst (λ l. ClosesRun e.report_failed (summary_for source e.stop e.events ++ run_line l job.save e.stop why) told after.report)
           (ap (λ (x : Parameters). x.limit) (planned_numbers source job before.shelf plan blocks p))
           (subst (λ n. ClosesRun e.report_failed (summary_for source e.stop e.events ++ run_line plan.geometry.limit n e.stop why) told after.report) (sym names) closes);
-      events = events;
+      events = ap of_run events;
       cycles = cycles;
       status = status;
       promise =
-          subst (λ k. Promise K (origin_of plan) (given_of plan d) k a.events stood) (sym cycles)
+          subst (λ k. Promise K (origin_of plan) (given_of plan d) k (all_of a.events) stood) (sym cycles)
           (subst (λ vs. Promise K (origin_of plan) (given_of plan d) e.cycles vs stood) (sym events) promise);
-      safe = safe_saved K (origin_of plan) a.events job.save (saves e.stop) job.config stood after.device before.shelf after.shelf why put
+      safe = safe_saved K (origin_of plan) (all_of a.events) job.save (saves e.stop) job.config stood after.device before.shelf after.shelf why put
           (subst (λ vs. IsSafeFor K (origin_of plan) vs stood) (sym events) promise.safe_at_return);
     } in
     let Run : Origin → Given → Type 0 = λ x y. (h : IsRunFrom K x y source job before after a) × (h.ending.stop ≡ r.stop) × HasSeenFrom K has_seen x y source job before after a h observer in

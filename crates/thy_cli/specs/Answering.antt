@@ -22,6 +22,7 @@ use Rattle.thy_text.specs.declared.closing.Closing.TheVariants as closing
 use Rattle.thy_text.specs.declared.closing.FetchFault.TheVariants as fault
 use Rattle.thy_text.specs.Closings.{closing_of}
 use Rattle.thy_text.specs.Event.{Event}
+use Rattle.thy_text.specs.History.{all_of, of_run}
 use Rattle.thy_text.specs.Lines.{joined, line_feed, ended_lines, made_of}
 use Rattle.thy_text.specs.Summary.{summary_of}
 use Rattle.thy_words.specs.declared.words.WordsError.{WordsError}
@@ -131,7 +132,7 @@ Closes line old new = (failed : Bool) × Sent failed old new line
 -- a call that began no run: a line says why, and what the shelf holds stays
 pub record IsRefused (r : Refusal) (before after : Outside) (a : Answer) : Type 0 where
   pub status : a.status ≡ (told_of r).0
-  pub events : a.events ≡ []
+  pub events : a.events ≡ of_run []
   pub cycles : a.cycles ≡ 0
   pub shown_none : after.terminal ≡ before.terminal
   pub held : after.shelf.held ≡ before.shelf.held
@@ -211,11 +212,11 @@ pub record IsRunFrom {M : Type 0} (K : KindOf M) (o : Origin) (given : Given) (s
   pub saved : SavesUnder job.save (saves ending.stop) job.config stood after.device before.shelf after.shelf why
   pub closes : ClosesRun ending.report_failed
       (summary_for source ending.stop ending.events ++ run_line job.config.limit job.save ending.stop why) told after.report
-  pub events : a.events ≡ ending.events
+  pub events : a.events ≡ of_run ending.events
   pub cycles : a.cycles ≡ ending.cycles
   pub status : a.status ≡ run_status ending.stop why
-  pub promise : Promise K o given a.cycles a.events stood
-  pub safe : IsSafeFor K o a.events after.device
+  pub promise : Promise K o given a.cycles (all_of a.events) stood
+  pub safe : IsSafeFor K o (all_of a.events) after.device
 
 -- a run of a program was begun, over a device that was fitted for it, and stopped
 abbrev pub IsRunOf : {M : Type 0} (K : KindOf M) (source : ProgramSource) (job : Job) (before : Outside)
@@ -233,7 +234,7 @@ pub record IsRunOverOf {M : Type 0} (K : KindOf M) (source : ProgramSource) (job
   pub is_found : IsFoundAs job.config.gap before.device found
   pub is_left : IsLeftAs job.config.gap after.device left
   pub seen : IsRunOf K source job (with_device found before) program (with_device left after) a
-  pub back : IsHandedBack K (origin_for job program.begins program.input) job.config.gap a.cycles a.events
+  pub back : IsHandedBack K (origin_for job program.begins program.input) job.config.gap a.cycles (all_of a.events)
       (images_of_save job.save (saves seen.ending.stop)) after.device
   pub put : PutsThrough job.config.gap job.save (saves seen.ending.stop) after.device before.shelf after.shelf seen.why
 
@@ -276,7 +277,7 @@ pub record IsPlainOf (name : List ℕ) (job : Job) (before after : Outside) (a :
   pub read_all : Sent report_failed before.report told (end_lines job last)
   pub closes : ClosesRun report_failed (stop_line job.config.limit (plain_stop terminal_failed report_failed last.status)) told after.report
   pub status : a.status ≡ stop_status (plain_stop terminal_failed report_failed last.status)
-  pub events : a.events ≡ []
+  pub events : a.events ≡ of_run []
 
 -- ---- the made program
 
@@ -292,7 +293,7 @@ pub record MakeAnswered (n : ℕ) (name : List ℕ) (before after : Outside) (a 
   pub put : IsPut name (made_file n) before.shelf after.shelf why
   pub status : a.status ≡ (made_told n name why).0
   pub closes : Closes (made_told n name why).1 before.report after.report
-  pub events : a.events ≡ []
+  pub events : a.events ≡ of_run []
   pub cycles : a.cycles ≡ 0
   pub shown_none : after.terminal ≡ before.terminal
   pub device : after.device ≡ before.device

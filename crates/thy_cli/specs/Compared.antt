@@ -5,6 +5,7 @@ use Rattle.thy_base.specs.Geometry.{parameters_of}
 use Rattle.thy_base.specs.Outside.{Stock}
 use Rattle.thy_base.specs.Schemes.{scheme_number}
 use Rattle.thy_text.specs.Event.{Event, Scheme}
+use Rattle.thy_text.specs.History.{Recorded, all_of}
 use Rattle.thy_words.specs.Settings.{Job}
 use Rattle.thy_run.specs.declared.plan.Plan.{Plan}
 use Rattle.thy_view.specs.Kind.{KindOf}
@@ -29,8 +30,12 @@ plan_under scheme p = record p {
 abbrev pub stage_of : {N : Type 0} → Around N → Compared → Stage N
 stage_of w c = record { around = w; report_failed = c.report_failed; status = c.status; cycles = c.cycles }
 
+-- the events, in two lists
+abbrev pub recorded_of : Compared → Recorded
+recorded_of c = record { earlier = c.earlier; last = c.last }
+
 abbrev pub events_of : Compared → List Event
-events_of c = c.earlier ++ c.last
+events_of c = all_of (recorded_of c)
 
 -- what a run sees whose report nobody reads
 abbrev pub seen_alone : {N : Type 0} → NvmOf N → Around N → Outside
@@ -77,5 +82,5 @@ pub record IsPlanFor (x : Subject) (stock : Stock) (p : Plan) (scheme : SchemeNa
 abbrev pub Compares : {N : Type 0} → Choice → NvmOf N → List ℕ → Plan → Around N → Around N → Answer → Type 0
 Compares {N = N} c d name p before after a =
     (x : Subject) → x.name ≡ name → ((scheme : SchemeName) → IsPlanFor x before.shelf p scheme)
-    → (last : Stage N) × RunsThrough c d x true compared (first_stage before) last a.events
+    → (last : Stage N) × RunsThrough c d x true compared (first_stage before) last (all_of a.events)
     × (last.around ≡ after) × (a.status ≡ last.status) × (a.cycles ≡ last.cycles)

@@ -10,6 +10,7 @@ use Rattle.thy_base.specs.Schemes.{scheme_name, scheme_number}
 use Rattle.thy_isa.specs.declared.state.Status.{Status}
 use Rattle.thy_isa.specs.Step.{State}
 use Rattle.thy_text.specs.Event.{Event, Scheme, Ended}
+use Rattle.thy_text.specs.History.{all_of}
 use Rattle.thy_text.specs.Marks.{AllLawful}
 use Rattle.thy_text.specs.Summary.{scheme_line}
 use Rattle.thy_words.specs.Settings.{Job}
@@ -88,9 +89,9 @@ pub record RunsBy {N : Type 0} (c : Choice) (d : NvmOf N) (x : Subject) (first :
   pub same_bytes : over.program.bytes ≡ x.bytes
   pub same_input : over.program.input ≡ x.input
   pub quiet : first ≡ false → new.around.terminal ≡ old.around.terminal
-  pub events_are : events ≡ Scheme (scheme_number scheme) ∷ run.events
+  pub events_are : events ≡ Scheme (scheme_number scheme) ∷ all_of run.events
   pub lines : TakesLines old.report_failed new.report_failed
-      (scheme_lines scheme run.events (d.writes new.around.nvm) ++ stop_line x.job.config.limit over.ran.seen.ending.stop)
+      (scheme_lines scheme (all_of run.events) (d.writes new.around.nvm) ++ stop_line x.job.config.limit over.ran.seen.ending.stop)
       old.around.report new.around.report
   pub status : new.status ≡ run.status
   pub cycles : new.cycles ≡ run.cycles
@@ -136,13 +137,13 @@ pub record IsComparison {N : Type 0} (c : Choice) (d : NvmOf N) (name : List ℕ
   pub program : IsProgram (file name) job before.shelf
   pub last : Stage N
   pub runs : RunsThrough c d (record { name = name; job = job; bytes = program.bytes; input = program.input }) true compared
-      (first_stage before) last a.events
+      (first_stage before) last (all_of a.events)
   pub left : last.around ≡ after
   pub status : a.status ≡ last.status
   pub cycles : a.cycles ≡ last.cycles
   pub events_lawful : AllLawful (course_of (origin_for job program.begins program.input))
-      (first_marks (origin_for job program.begins program.input)) a.events
-  pub ends_alike : job.config.harts ≡ 1 → EndAlike a.events
+      (first_marks (origin_for job program.begins program.input)) (all_of a.events)
+  pub ends_alike : job.config.harts ≡ 1 → EndAlike (all_of a.events)
 
 -- the result of a comparison: there is no program, and the device is left alone; or one was compared
 abbrev pub CompareAnswered : {N : Type 0} → Choice → NvmOf N → List ℕ → Job → Around N → Around N → Answer → Type 0

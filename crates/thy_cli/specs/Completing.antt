@@ -9,6 +9,7 @@ use Rattle.thy_isa.specs.Step.{State, is_running}
 use Rattle.thy_run.specs.Progress.{cycles_for, tally_of}
 use Rattle.thy_run.specs.declared.ending.Stop.TheVariants.{Ended}
 use Rattle.thy_run.specs.World.{World, Given, Ran}
+use Rattle.thy_text.specs.History.{all_of}
 use Rattle.thy_view.specs.Kind.{KindOf}
 use Rattle.thy_view.specs.Origin.{Origin, at}
 use Rattle.thy_words.specs.Settings.{Job, Order, run, resume, bench, compare, plain, make, settings_of}
@@ -67,7 +68,7 @@ RunCompletes c words before after a =
 pub record HasRetired {M : Type 0} (K : KindOf M) (o : Origin) (given : Given) (a : Answer) (k : ℕ) : Type 0 where
   pub last : World M
   pub ran : Ran K o given a.cycles last
-  pub events : last.events ≡ a.events
+  pub events : last.events ≡ all_of a.events
   pub many : k ≤ (tally_of K o given a.cycles last ran).retired
 
 -- With two harts the schedule decides whether and when the program ends. It does, if the limit is not below the cycles

@@ -19,6 +19,7 @@ use Rattle.thy_run.specs.Going.{origin_of, IsPlanned}
 use Rattle.thy_run.specs.declared.plan.Plan.{Plan}
 use Rattle.thy_run.specs.Watching.{Taken}
 use Rattle.thy_text.specs.Event.{Event}
+use Rattle.thy_text.specs.History.{of_run}
 use Rattle.thy_view.specs.Kind.{KindOf}
 use Rattle.thy_view.specs.Origin.{IsOrigin}
 use Rattle.thy_view.specs.Safe.{ceiling}
@@ -163,7 +164,7 @@ pub record HasStayed (old new : Device) : Type 0 where
 
 -- a run that was begun and has stopped, as the result of a call
 abbrev pub answer_of : Ran → Answer
-answer_of r = record { status = r.status; events = r.events; cycles = r.cycles }
+answer_of r = record { status = r.status; events = of_run r.events; cycles = r.cycles }
 
 -- the device was not fitted, for this reason, and nothing else was done
 pub record IsUnfitted (e : FitError) (before after : Outside) : Type 0 where

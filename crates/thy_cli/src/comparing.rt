@@ -10,7 +10,7 @@ ghost use Rattle.thy_text.specs.Event.{Scheme};
 ghost use Rattle.thy_text.specs.Seen.{event_of};
 ghost use Rattle.thy_words.specs.Settings.{job_of};
 ghost use Rattle.thy_cli.specs.Answering.{around, nvm_of, stop_line};
-ghost use Rattle.thy_cli.specs.Compared.{Compares, RunsNext, events_of, plan_under};
+ghost use Rattle.thy_cli.specs.Compared.{Compares, RunsNext, events_of, plan_under, recorded_of};
 ghost use Rattle.thy_cli.specs.Comparing.{CompareAnswered, TakesLines, scheme_lines};
 ghost use Rattle.thy_cli.specs.Machines.{by_scheme};
 ghost use Rattle.thy_cli.specs.Planning.{CanRun, refused_line, refused_status};
@@ -46,13 +46,13 @@ impl Sink for Nowhere {
 /// What was compared so far.
 #[derive(Drop)]
 struct Compared {
-    /// The events before those of the run that was begun last.
+    /// The events before those of the run that was begun last; the event of its scheme is the last of these.
     earlier: Events,
-    /// Those of that run.
+    /// Those of that run. If another was to begin and did not, they are among the earlier ones.
     last: Events,
-    /// Its status.
+    /// The status of that run, or of the other one, which did not begin.
     status: u8,
-    /// Its cycles.
+    /// The cycles of that run.
     cycles: u64,
     /// A line could not be written.
     report_failed: bool,
@@ -78,7 +78,7 @@ impl Compared {
     /// The result of the call.
     fn answer(self) -> Answer
         ensures status { result.status ≡ self.status }
-        ensures events { result.events ≡ events_of self }
+        ensures events { result.events ≡ recorded_of self }
         ensures cycles { result.cycles ≡ self.cycles }
     {
         Answer {

@@ -1,6 +1,7 @@
 //! Why a call begins no run.
 ghost use Rattle.std.specs.Prelude.{◌≡◌, []};
 ghost use Rattle.thy_text.specs.Closings.{closing_of};
+ghost use Rattle.thy_text.specs.History.{of_run};
 ghost use Rattle.thy_cli.specs.Answering.{file_line, Closes};
 ghost use Rattle.thy_cli.specs.Planning.{refused_status, refused_line};
 
@@ -80,7 +81,7 @@ pub fn told_of(refusal: Refusal<'_>) -> (u8, Closing<'_>)
 /// Reports why no run was begun, and returns the result of such a call.
 pub fn refuse<R: Sink>(alloc: Global, refusal: Refusal, report: &mut R) -> Answer
     ensures status { result.status ≡ refused_status refusal.entry }
-    ensures events { result.events ≡ [] }
+    ensures events { result.events ≡ of_run [] }
     ensures cycles { result.cycles ≡ 0 }
     ensures closes { Closes (refused_line refusal.entry)
         (R.stream report.old) (R.stream report.new) }

@@ -9,7 +9,7 @@ pub enum CheckpointStage {
     Copies,
     /// A block of a page that the controller has still to write; if none is left, the slot's first block.
     Pages,
-    /// Block `k` of the slot: first the processor's record, and then both tables.
+    /// Block `k` of the slot: first the processor's record, then both tables, and then the counts of pages.
     Slot(u64),
     /// The barrier after all of these.
     Settle,

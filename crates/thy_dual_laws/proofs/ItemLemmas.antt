@@ -100,7 +100,7 @@ IsWrite-after e SettleItem s n = IsWrite-settled n s
 IsWrite-after e CommitItem s n = IsWrite-nvm n 1 (commit_of e.epoch) (devices_of n s.dram) refl (λ h. absurd (omega (arith, h)))
 IsWrite-after e ConfirmItem s n = IsWrite-settled n s
 
--- and one that is told as a block's write is one of the NVM
+-- and one that is reported as a block's write is one of the NVM
 pub IsWritten-after : (e : Progress) (i : Item) (s : State) (n : Device) → writes_block (answer e.p e.epoch i) ≡ true → WritesNvm n (device_after e i s n)
 unfolding devices_copied devices_issued
 IsWritten-after e NoItem s n h = absurd (both_ways false refl h)

@@ -2,3 +2,4 @@ pub mod Refusal
 pub mod Header
 pub mod ProgramHeader
 pub mod Image
+pub mod Texts

@@ -1,6 +1,7 @@
 //! Why a file is not an image.
 ghost use Rattle.std.specs.Prelude.{◌≡◌};
 ghost use Rattle.thy_elf.specs.Refusal.{index_of, name_of, number_of};
+ghost use Rattle.thy_elf.specs.Texts.{text_of};
 
 use std::alloc::AllocError;
 use thiserror::Error;
@@ -8,42 +9,28 @@ use thiserror::Error;
 /// Why a file cannot be loaded, in the order in which it is checked; a number is the index of the program header at
 /// fault, from 0. `Memory` is not a refusal: the file is an image, but there is not enough memory to hold it.
 #[derive(Clone, Copy, PartialEq, Eq, Debug, Error)]
+#[error("{}", self.text())]
 pub enum ElfError {
-    #[error("the file has fewer than 64 bytes, too few for an ELF header")]
     TooShort,
-    #[error("the file does not begin with 7F 45 4C 46: it is not an ELF file")]
     NotElf,
-    #[error("the file is not of the 64-bit class: build it for rv64 (-mabi=lp64)")]
     NotClass64,
-    #[error("the file is not little-endian: build it with -mlittle-endian")]
     NotLittle,
-    #[error("the file's ELF version is not 1")]
     BadVersion,
-    #[error("the file is not an executable at fixed addresses: link it with -static -no-pie, and not with -c or -shared")]
     NotExec,
-    #[error("the file is not for RISC-V: build it with riscv64-unknown-elf-gcc")]
     NotRiscv,
-    #[error("the file has compressed instructions: build it, and all that is linked to it, with -march=rv64im")]
     NeedsCompressed,
-    #[error("the file passes floating-point numbers in registers: build it, and all that is linked to it, with -mabi=lp64")]
     NeedsFloat,
-    #[error("the file is built for the sixteen registers of RVE: build it, and all that is linked to it, with -march=rv64im -mabi=lp64")]
     IsRve,
-    #[error("the file's ELF header is not of 64 bytes, or its program headers are not of 56")]
     BadHeaderSize,
-    #[error("the file has 65535 program headers or more")]
     TooManyHeaders,
-    #[error("the file ends before its last program header: it was cut short")]
     HeadersOutside,
-    #[error("the file is to be loaded by a dynamic loader: link it with -static -no-pie")]
     NeedsLoader,
-    #[error("program header {0}: more bytes in the file than in memory")]
+    #[error("program header {0}: {text}", text = self.text())]
     FileOverMemory(u64),
-    #[error("program header {0}: the file ends before the segment's last byte: it was cut short")]
+    #[error("program header {0}: {text}", text = self.text())]
     SegmentOutsideFile(u64),
-    #[error("program header {0}: the segment is not within program memory: link it there (-Wl,-Ttext-segment=ADDRESS), or give more pages")]
+    #[error("program header {0}: {text}", text = self.text())]
     SegmentOutsideMemory(u64),
-    #[error("there is no memory for the image")]
     Memory(AllocError),
 }
 
@@ -97,6 +84,44 @@ impl ElfError {
             ElfError::SegmentOutsideFile(_) => "SegmentOutsideFile",
             ElfError::SegmentOutsideMemory(_) => "SegmentOutsideMemory",
             ElfError::Memory(_) => "Memory",
+        }
+    }
+
+    /// What is wrong with the file, and how it is to be made. `Display` writes it, after the index of the program header
+    /// at fault.
+    pub fn text(&self) -> &'static str
+        ensures { result.now ≡ text_of self.now }
+    {
+        match self {
+            ElfError::TooShort => "the file has fewer than 64 bytes, too few for an ELF header",
+            ElfError::NotElf => "the file does not begin with 7F 45 4C 46: it is not an ELF file",
+            ElfError::NotClass64 =>
+                "the file is not of the 64-bit class: build it for rv64 (-mabi=lp64)",
+            ElfError::NotLittle => "the file is not little-endian: build it with -mlittle-endian",
+            ElfError::BadVersion => "the file's ELF version is not 1",
+            ElfError::NotExec =>
+                "the file is not an executable at fixed addresses: link it with -static -no-pie, and not with -c or -shared",
+            ElfError::NotRiscv =>
+                "the file is not for RISC-V: build it with riscv64-unknown-elf-gcc",
+            ElfError::NeedsCompressed =>
+                "the file has compressed instructions: build it, and all that is linked to it, with -march=rv64im",
+            ElfError::NeedsFloat =>
+                "the file passes floating-point numbers in registers: build it, and all that is linked to it, with -mabi=lp64",
+            ElfError::IsRve =>
+                "the file is built for the sixteen registers of RVE: build it, and all that is linked to it, with -march=rv64im -mabi=lp64",
+            ElfError::BadHeaderSize =>
+                "the file's ELF header is not of 64 bytes, or its program headers are not of 56",
+            ElfError::TooManyHeaders => "the file has 65535 program headers or more",
+            ElfError::HeadersOutside =>
+                "the file ends before its last program header: it was cut short",
+            ElfError::NeedsLoader =>
+                "the file is to be loaded by a dynamic loader: link it with -static -no-pie",
+            ElfError::FileOverMemory(_) => "more bytes in the file than in memory",
+            ElfError::SegmentOutsideFile(_) =>
+                "the file ends before the segment's last byte: it was cut short",
+            ElfError::SegmentOutsideMemory(_) =>
+                "the segment is not within program memory: link it there (-Wl,-Ttext-segment=ADDRESS), or give more pages",
+            ElfError::Memory(_) => "there is no memory for the image",
         }
     }
 

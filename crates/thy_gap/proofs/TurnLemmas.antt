@@ -8,7 +8,7 @@ use Rattle.thy_gap.specs.Lines.{IsWhole, wrapped, unstepped, place, source, move
 use Rattle.thy_gap.proofs.LineLemmas.{wrapped-cases, stepped-cases, unstepped-cases, source-within, place-moved_line}
 use Rattle.thy_gap.proofs.RoundLemmas.{round_of}
 
--- moves behind moves
+-- moves after moves
 moved_times-add : (a b : ℕ) (r : Registers) → moved_times (a + b) r ≡ moved_times a (moved_times b r)
 moved_times-add zero b r = let e : 0 + b ≡ b = omega arith in ap (λ n. moved_times n r) e
 moved_times-add (suc a) b r =

@@ -154,7 +154,7 @@ image_is_of_one p q low high e f image s t one other h k =
     one_header p.scheme q.scheme p q (block_at image 0) refl refl one other
     (image_tells p.scheme p low e image s h) (image_tells q.scheme q high f image t k)
 
--- the blocks of a file with a checkpoint are an image of it, whether or not zeros are behind them
+-- the blocks of a file with a checkpoint are an image of it, whether or not zeros follow them
 blocks_mean : (a : SchemeName) (p : Parameters) (ceiling epoch : ℕ) (bytes : List ℕ) (s : State)
     → file_by_scheme a p ceiling bytes ≡ At epoch s → decode_by_scheme a p ceiling (blocks_of bytes) ≡ At epoch s
 blocks_mean Thynvm p ceiling epoch bytes s h = thynvm_blocks p ceiling bytes epoch s h

@@ -18,7 +18,7 @@ or_none (Some bad) = refl
 none_under : (table : List (Option ℕ)) → under_fault (alone table) ≡ None
 none_under table = none_breaks (under_rule []) table (λ i b l. refl)
 
--- of a table alone no other fault is told
+-- of a table alone no other fault is named
 alone_fault : (p : Parameters) (table : List (Option ℕ)) → tables_fault p (alone table) ≡ table_fault p table
 unfolding tables_fault table_fault
 alone_fault p table =

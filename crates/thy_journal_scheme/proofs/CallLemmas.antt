@@ -56,7 +56,7 @@ item_asks lap e s ConfirmItem = refl
 item_asks lap e s (HomeItem i) = λ q. omega (arith, q)
 item_asks lap e s ReleaseItem = refl
 
--- and one that is told as a block's write is one
+-- and one that is reported as a block's write is one
 item_writes : (e : Progress) (s : State) (n : Device) (i : Item) → writes_block (answer e.p e.epoch i) ≡ true → WritesNvm n (after (action_of e i s) n)
 item_writes e s n NoItem h = absurd (both_ways false refl h)
 item_writes e s n (JournalItem i) h = record { at = journal_place e.p (e.epoch % 2) i; block = buffer_of s i; left = refl }

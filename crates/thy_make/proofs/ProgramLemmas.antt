@@ -1,11 +1,12 @@
 -- Draws, one after another, and how long programs are.
-use Rattle.std.proofs.Common.{◌≡◌, ℕ, zero, suc, ◌+◌, ◌-◌, ◌*◌, ◌<◌, List, [], ◌∷◌, ◌++◌, length, map, refl, sym, ◌∙◌, ap, arith, length-append}
+use Rattle.std.proofs.Common.{◌≡◌, ℕ, zero, suc, ◌+◌, ◌-◌, ◌*◌, ◌<◌, List, [], ◌∷◌, ◌++◌, length, map, slice_get, Some, refl, sym, ◌∙◌, ap, arith, length-append}
 use Rattle.std.proofs.lemmas.List.{append_assoc, append-nil, map-append, length-map}
 use Rattle.std.specs.List.{flat_map}
 use Rattle.thy_base.specs.Lcg.{lcg_next, lcg_draw}
 use Rattle.thy_isa.specs.declared.instr.Instr.{Instr}
+use Rattle.thy_isa.specs.declared.instr.Instr.TheVariants.{Jal}
 use Rattle.thy_make.specs.Encode.{encoded}
-use Rattle.thy_make.specs.Program.{draws, store_of, opening, closing, made_program, made_words}
+use Rattle.thy_make.specs.Program.{draws, minus, store_of, opening, closing, made_program, made_words}
 
 -- of draws that are left, the first and those behind it
 draws-more : (k i state : ℕ) → i < k
@@ -67,6 +68,21 @@ length-made_program n =
     let stores = length-stores (draws 2000 n) in
     let rest = length-append (flat_map store_of (draws 2000 n)) closing in
     omega (arith, drawn, stores, rest)
+
+-- an element after a list is one of the list that follows
+slice_get-behind : {A : Type 0} (xs ys : List A) (n i : ℕ) → n ≡ length xs + i → slice_get (xs ++ ys) n ≡ slice_get ys i
+slice_get-behind [] ys n i e = let same : n ≡ i = omega (arith, e) in ap (λ k. slice_get ys k) same
+slice_get-behind (x ∷ xs) ys zero i e = absurd (omega (arith, e))
+slice_get-behind (x ∷ xs) ys (suc n) i e = slice_get-behind xs ys n i (omega (arith, e))
+
+-- the jump stands after the opening, the stores and two more instructions
+pub loops : (n : ℕ) → slice_get (made_program n) 6003 ≡ Some (Jal 0 (minus (4 * (6003 - length opening))))
+unfolding made_program
+loops n =
+    let stores : List Instr = flat_map store_of (draws 2000 n) in
+    let drawn = length-draws 2000 n in
+    let many = length-stores (draws 2000 n) in
+    slice_get-behind opening (stores ++ closing) 6003 6002 refl ∙ slice_get-behind stores closing 6002 2 (omega (arith, drawn, many))
 
 pub length-made_words : (n : ℕ) → length (made_words n) ≡ 6007
 length-made_words n = length-map (made_program n) encoded ∙ length-made_program n

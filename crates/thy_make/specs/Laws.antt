@@ -1,17 +1,22 @@
 -- What made programs are.
-use Rattle.std.specs.Prelude.{◌≡◌, ℕ, ◌+◌, ◌*◌, ◌^◌, ◌%◌, ◌-◌, ◌≤◌, ◌++◌, length, replicate, Some, Ok}
+use Rattle.std.specs.Prelude.{◌≡◌, ℕ, ◌+◌, ◌*◌, ◌^◌, ◌%◌, ◌-◌, ◌≤◌, ◌++◌, length, replicate, slice_get, Some, Ok}
 use Rattle.std.specs.List.{All, flat_map}
 use Rattle.thy_base.specs.LittleEndian.{number_bytes}
 use Rattle.thy_elf.specs.Image.{Contents, read_of}
 use Rattle.thy_isa.specs.declared.instr.Instr.{Instr}
+use Rattle.thy_isa.specs.declared.instr.Instr.TheVariants.{Jal}
 use Rattle.thy_isa.specs.Table.{instr_of}
 use Rattle.thy_make.specs.Encode.{encoded}
 use Rattle.thy_make.specs.File.{made_file}
-use Rattle.thy_make.specs.Program.{page_of, offset_of, made_program, made_words}
+use Rattle.thy_make.specs.Program.{minus, page_of, offset_of, opening, made_program, made_words}
 
 -- how many instructions a program has
 abbrev pub ProgramsHaveOneLength : Type 0
 ProgramsHaveOneLength = (n : ℕ) → length (made_program n) ≡ 6007
+
+-- instruction 6003, from 0, jumps back to the first store, which is the first one after the opening
+abbrev pub ProgramsLoop : Type 0
+ProgramsLoop = (n : ℕ) → slice_get (made_program n) 6003 ≡ Some (Jal 0 (minus (4 * (6003 - length opening))))
 
 -- how many bytes a file has
 abbrev pub FilesHaveOneLength : Type 0

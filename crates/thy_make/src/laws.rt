@@ -1,10 +1,15 @@
 //! Laws of made programs, each the contract of a function that does nothing.
-ghost use Rattle.thy_make.specs.Laws.{FilesAreImages, FilesHaveOneLength, ProgramsHaveOneLength, StoresAreInReach, WordsMeanTheProgram};
+ghost use Rattle.thy_make.specs.Laws.{FilesAreImages, FilesHaveOneLength, ProgramsHaveOneLength, ProgramsLoop, StoresAreInReach, WordsMeanTheProgram};
 
 /// Every program has 6007 instructions, and its file 24,148 bytes.
 pub fn made_files_are_long()
     ensures program { ProgramsHaveOneLength }
     ensures file { FilesHaveOneLength }
+{}
+
+/// The jump of every program goes back to its first store.
+pub fn made_programs_loop()
+    ensures { ProgramsLoop }
 {}
 
 /// Each word of a program means the instruction that it stands for.

@@ -6,7 +6,8 @@
 //! `moves_are_safe`.
 //!
 //! Open specs/Keeps.antt first, then specs/Moves.antt, and src/laws.rt. It depends on thy_base, thy_crash, thy_flat,
-//! thy_isa, thy_record and thy_view; thy_commit and thy_recover, and the scheme above them, depend on it.
+//! thy_isa, thy_record and thy_view; thy_boot, thy_commit, the images of the journal and of shadow paging, and what stands on
+//! these depend on it.
 #![tactic(auto)]
 
 mod laws;

@@ -75,7 +75,7 @@ item_asks lap e s SettleItem = refl
 item_asks lap e s CommitItem = (commit_of e.epoch, refl)
 item_asks lap e s ConfirmItem = refl
 
--- and one that is told as a block's write is one
+-- and one that is reported as a block's write is one
 item_writes : (e : Progress) (s : State) (n : Device) (i : Item) → writes_block (answer e.p e.epoch i) ≡ true → WritesNvm n (after (action_of e i s) n)
 item_writes e s n NoItem h = absurd (both_ways false refl h)
 item_writes e s n (PageItem x) h = record { at = target_place s (x / 64) (x % 64); block = frame_block s (x / 64) (x % 64); left = refl }

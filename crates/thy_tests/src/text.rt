@@ -10,7 +10,7 @@ use thy_text::{
     write_event, write_made, write_scheme, write_summary,
 };
 
-/// How events of one hart are told, without digests.
+/// How events of one hart are reported, without digests.
 const ALONE: Telling = Telling {
     digest: false,
     harts: 1,
@@ -22,7 +22,7 @@ const DIGESTING: Telling = Telling {
     harts: 1,
 };
 
-/// How events of two harts are told.
+/// How events of two harts are reported.
 const PAIR: Telling = Telling {
     digest: false,
     harts: 2,
@@ -272,6 +272,7 @@ fn lists_of_events_follow_one_another(rt: HostRuntime) {
         expect(&rt, index_of(history.get(i)), i as u64 + 1);
     }
     let history = History::of(alloc, cuts(&rt, alloc, &[7]));
+    expect(&rt, history.last().len(), 1);
     assert!(rt; history.len() == 1);
     expect(&rt, index_of(history.get(0)), 7);
 }

@@ -1,5 +1,6 @@
 pub mod Closings
 pub mod Event
+pub mod History
 pub mod Lines
 pub mod Marks
 pub mod OneHart

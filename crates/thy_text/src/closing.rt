@@ -59,7 +59,8 @@ enum Entries {
     Two(u64, u64),
 }
 
-/// Writes the closing line: at once, unless it has a name that makes it longer than the lines of events.
+/// Writes the closing line: at once (which is tested, and in no contract), unless it has a name that makes it longer than
+/// the lines of events.
 /// On an error the sink has taken only the first part of the line. Allocates nothing.
 pub fn write_closing<R: Sink>(closing: Closing, report: &mut R) -> Result<(), SinkError>
     ensures { Wrote result (R.stream report.old) (R.stream report.new) (closing_of closing.entry) }

@@ -1,14 +1,14 @@
-//! The events of a call, in two parts.
-ghost use Rattle.std.specs.Prelude.{◌≡◌, ◌++◌, ◌<◌, List, length, slice_get, Some};
-ghost use Rattle.thy_text.specs.Event.{Event as EventValue};
+//! The events of a call, in two lists.
+ghost use Rattle.std.specs.Prelude.{◌≡◌, ◌<◌, length, slice_get, Some};
+ghost use Rattle.thy_text.specs.History.{all_of, of_run};
 ghost use Rattle.thy_text.specs.Seen.{event_of};
 
 use crate::{Event, Events};
 use std::alloc::Global;
 use std::marker::Model;
 
-/// The events of a call, in order: those of the run that was begun last, after the ones before them. The two parts are
-/// not joined, because that can fail for want of memory.
+/// The events of a call, in order, in two lists: the last one is that of the run that was begun last. They are not
+/// joined, because memory may run out in that.
 #[derive(Debug, Drop)]
 pub struct History {
     earlier: Events,
@@ -16,25 +16,24 @@ pub struct History {
 }
 
 impl Model for History {
-    ghost use Rattle.std.specs.Prelude.{List, ◌++◌};
-    ghost use Rattle.thy_text.specs.Event.{Event as EventValue};
+    ghost use Rattle.thy_text.specs.History.{Recorded};
 
-    ghost Value = { List EventValue };
+    ghost Value = { Recorded };
 
-    ghost view = { λ h. h.earlier ++ h.last };
+    ghost view = { λ h. record { earlier = h.earlier; last = h.last } };
 }
 
 impl History {
-    /// Events, and then those of the run that was begun last.
+    /// Events, and then those of the last list.
     pub fn new(earlier: Events, last: Events) -> History
-        ensures { result ≡ earlier ++ last }
+        ensures { result ≡ record { earlier = earlier; last = last } }
     {
         History { earlier, last }
     }
 
-    /// The events of one run, or none. Allocates nothing.
+    /// The events of one run, or none: all are in the last list. Allocates nothing.
     pub fn of(alloc: Global, events: Events) -> History
-        ensures { result ≡ events }
+        ensures { result ≡ of_run events }
     {
         History {
             earlier: Events::new(alloc),
@@ -42,24 +41,25 @@ impl History {
         }
     }
 
-    /// Those of the run that was begun last.
+    /// The last list. If the call made one run, it has all events; in a comparison it has those of the run that was begun
+    /// last, without the one of its scheme, and none if a run after that was to begin and did not.
     pub fn last(&self) -> &Events
-        ensures { (before : List EventValue) × (self.now ≡ before ++ result.now) }
+        ensures { result.now ≡ self.now.last }
     {
         &self.last
     }
 
-    /// How many there are.
+    /// How many there are in both.
     pub fn len(&self) -> usize
-        ensures { result ≡ length self.now }
+        ensures { result ≡ length (all_of self.now) }
     {
         self.earlier.short_len() + self.last.short_len()
     }
 
-    /// Event `i`, from 0.
+    /// Event `i` of all, from 0.
     pub fn get(&self, i: usize) -> &Event
-        requires { i < length self.now }
-        ensures { slice_get self.now i ≡ Some (event_of result.now) }
+        requires { i < length (all_of self.now) }
+        ensures { slice_get (all_of self.now) i ≡ Some (event_of result.now) }
     {
         let earlier = self.earlier.len();
         if i < earlier {

@@ -13,9 +13,9 @@ use crate::{Event, Telling};
 use thy_base::{EndCause, Sink, SinkError};
 use thy_isa::{MachState, Status};
 
-/// Writes the line of an event at once. If digests are told, the line of a restart and that of an end are
-/// followed by the line of memory's digest, at once too. On an error the sink has taken only the
-/// first part of these lines. Allocates nothing.
+/// Writes the line of an event. If digests are reported, the line of a restart and that of an end are followed by the
+/// line of memory's digest. On an error the sink has taken only the first part of these lines. Each line is given to
+/// the sink at once (which is tested, and in no contract). Allocates nothing.
 pub fn write_event<R: Sink>(
     event: &Event,
     telling: Telling,

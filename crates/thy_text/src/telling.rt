@@ -1,6 +1,6 @@
-//! How events are told.
+//! How events are reported.
 
-/// How the events of a run are told.
+/// How the events of a run are reported.
 #[derive(Clone, Copy, Debug, PartialEq, Eq)]
 pub struct Telling {
     /// Whether the lines of restarts and ends are followed by digests of memory.

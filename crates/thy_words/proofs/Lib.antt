@@ -1,3 +1,4 @@
 pub mod Folding
 pub mod InRange
 pub mod Naming
+pub mod Needing

@@ -1,5 +1,5 @@
 //! What the arguments ask for.
-ghost use Rattle.std.specs.Prelude.{◌≡◌, IfOk, map, option_map};
+ghost use Rattle.std.specs.Prelude.{◌≡◌, IfOk, IfErr, map, option_map};
 ghost use Rattle.std.specs.String.{string_bytes};
 ghost use Rattle.clap.specs.Matches.{found_of};
 ghost use Rattle.clap.specs.Simple.{subcommand_rows_of};
@@ -7,7 +7,7 @@ ghost use Rattle.clap.specs.Values.{kind_of};
 ghost use Rattle.clap.specs.Walk.{first_of, rows_of};
 ghost use Rattle.thy_base.specs.Config.{fault_of as range_fault};
 ghost use Rattle.thy_words.specs.Settings.{Answers, IsInRange, ShowsOrMemory, job_of, job_with, number_fault, operand, order_for, order_in, order_named, order_of, order_with, ranged, settings_of, value_fault, values_at, values_in};
-ghost use Rattle.thy_words.specs.Refused.{is_out_of_memory, refused};
+ghost use Rattle.thy_words.specs.Refused.{NeedsMemory, is_out_of_memory, refused};
 
 use crate::command_line::thynvm;
 use crate::fields::{config_at, has_flag, number_at, text_of, unreadable};
@@ -124,9 +124,10 @@ fn values_at(alloc: Global, matches: &ArgMatches<'_>) -> Result<Values, AllocErr
     })
 }
 
-/// The values of what `clap` found for a command's arguments.
+/// The values of what `clap` found for a command's arguments. A field that is unreadable is found without memory.
 fn values_in(alloc: Global, matches: &ArgMatches<'_>) -> Result<Values, WordsError>
-    ensures { ShowsOrMemory (λ v. v) (values_in (rows_of (found_of matches.now))) result }
+    ensures exact { ShowsOrMemory (λ v. v) (values_in (rows_of (found_of matches.now))) result }
+    ensures memory { IfErr result (NeedsMemory (values_in (rows_of (found_of matches.now)))) }
 {
     match unreadable(matches) {
         Some(field) => Err(WordsError::Word(field)),
@@ -214,7 +215,8 @@ fn order_with(
 
 /// A command, of what `clap` found for its arguments.
 fn order_for(alloc: Global, verb: Verb, matches: &ArgMatches<'_>) -> Result<Command, WordsError>
-    ensures { Answers (order_for verb (rows_of (found_of matches.now))) result }
+    ensures exact { Answers (order_for verb (rows_of (found_of matches.now))) result }
+    ensures memory { IfErr result (NeedsMemory (order_for verb (rows_of (found_of matches.now)))) }
 {
     let values = values_in(alloc, matches)?;
     match order_with(alloc, verb, matches, values) {
@@ -225,7 +227,9 @@ fn order_for(alloc: Global, verb: Verb, matches: &ArgMatches<'_>) -> Result<Comm
 
 /// What the arguments ask for, by the command's name and what `clap` found after it.
 fn order_in(alloc: Global, name: &str, found: &ArgMatches<'_>) -> Result<Command, WordsError>
-    ensures { Answers (order_in (name.now, rows_of (found_of found.now))) result }
+    ensures exact { Answers (order_in (name.now, rows_of (found_of found.now))) result }
+    ensures memory { IfErr result
+        (NeedsMemory (order_in (name.now, rows_of (found_of found.now)))) }
 {
     match verb_of(name) {
         Some(verb) => order_for(alloc, verb, found),
@@ -233,9 +237,10 @@ fn order_in(alloc: Global, name: &str, found: &ArgMatches<'_>) -> Result<Command
     }
 }
 
-/// What the arguments ask for, by what `clap` found in them.
+/// What the arguments ask for, by what `clap` found in them. That there is no command is found without memory too.
 fn order(alloc: Global, matches: &ArgMatches<'_>) -> Result<Command, WordsError>
-    ensures { Answers (order_named (subcommand_rows_of matches.now)) result }
+    ensures exact { Answers (order_named (subcommand_rows_of matches.now)) result }
+    ensures memory { IfErr result (NeedsMemory (order_named (subcommand_rows_of matches.now))) }
 {
     match matches.subcommand() {
         Some((name, found)) => order_in(alloc, name, found),
@@ -265,7 +270,8 @@ fn refused(error: &clap::Error) -> WordsError
 ///
 /// Invalid usage is refused as `Usage`. Else the first field whose text is not a value of it is refused as `Word`, and
 /// else the first that is out of range as `Value`. The number of a made program is the first field, those of the
-/// configuration follow in their order.
+/// configuration follow in their order. All this holds unless memory ran out; once `clap` has read the words, `Usage` and
+/// `Word` are found without any.
 pub fn settings(alloc: Global, words: &[String]) -> Result<Command, WordsError>
     ensures exact { Answers (settings_of (map string_bytes words.now)) result }
     ensures in_range { IfOk result (λ command. IsInRange (order_of command)) }

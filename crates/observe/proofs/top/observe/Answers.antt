@@ -1,36 +1,22 @@
-use Rattle.std.proofs.Common.{refl, sym, ap, ◌∙◌, inl, inr}
-use Rattle.thy_words.specs.declared.words.WordsError.TheVariants.{Usage, Memory}
+use Rattle.std.proofs.Common.{refl, sym, ◌∙◌, inl, inr}
 use Rattle.thy_cli.specs.Answering.{around}
-use Rattle.observe.specs.Observing.{is_taken_by}
 use Rattle.observe.proofs.top.observe.Goals as goal
 
-pub returns-then-is_taken : goal.returns-then-is_taken
-returns-then-is_taken g c =
+pub returns-in-Err : goal.returns-in-Err
+returns-in-Err g c =
     inl (
-      Usage,
+      c.in-Err.why,
       (
-        ap (is_taken_by c.args.out.now) c.in-Ok.ensures.exact ∙ sym c.is_taken.ensures ∙ c.if-is_taken.true,
+        c.in-Err.ensures.refused,
         record { is_status = c.refuse.ensures.status; shelf = refl; device = refl; terminal = refl; closes = c.refuse.ensures.closes },
       ),
     )
 
-pub returns-in-Err-Memory : goal.returns-in-Err-Memory
-returns-in-Err-Memory g c =
-    inl (
-      Memory c.in-Err-Memory.error,
-      record {
-        is_status = c.refuse-in-Err-Memory.ensures.status;
-        shelf = refl;
-        device = refl;
-        terminal = refl;
-        closes = c.refuse-in-Err-Memory.ensures.closes;
-      },
-    )
-
-pub returns-then-not-was_begun : goal.returns-then-not-was_begun
-returns-then-not-was_begun g c =
+pub returns-then-not-begun : goal.returns-then-not-begun
+returns-then-not-begun g c =
     let x = c.observed-answer.new in
     inr (record {
+      free = c.in-Ok.ensures.free;
       middle = around (g.H.Shelf.stock x.shelf) x.nvm (g.T.Sink.stream x.terminal) (g.R.Sink.stream x.report);
       answer = c.observed-answer.result;
       tally = x.observer;
@@ -42,11 +28,13 @@ pub returns : goal.returns
 returns g c =
     let x = c.observed-answer.new in
     inr (record {
+      free = c.in-Ok.ensures.free;
       middle = around (g.H.Shelf.stock x.shelf) x.nvm (g.T.Sink.stream x.terminal) (g.R.Sink.stream x.report);
       answer = c.observed-answer.result;
       tally = x.observer;
       claim = c.observed-answer.ensures;
       ends = inr (record {
+        begun = sym c.was_begun-begun.ensures ∙ c.if-not-begun.false;
         text = _;
         why = c.put_text-why.result;
         put = c.put_text-why.ensures;
@@ -60,6 +48,7 @@ pub returns-in_default : goal.returns-in_default
 returns-in_default g c =
     let x = c.observed-answer.new in
     inr (record {
+      free = c.in-Ok.ensures.free;
       middle = around (g.H.Shelf.stock x.shelf) x.nvm (g.T.Sink.stream x.terminal) (g.R.Sink.stream x.report);
       answer = c.observed-answer.result;
       tally = x.observer;

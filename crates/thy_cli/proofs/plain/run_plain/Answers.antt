@@ -5,6 +5,7 @@ use Rattle.thy_base.specs.Geometry.{parameters_of}
 use Rattle.thy_base.specs.Outside.{Stock}
 use Rattle.thy_isa.specs.declared.state.MachState.{MachState}
 use Rattle.thy_isa.specs.Step.{state_of}
+use Rattle.thy_text.specs.History.{of_run}
 use Rattle.thy_text.specs.Lines.{ended_lines}
 use Rattle.thy_run.specs.Sending.{Sent}
 use Rattle.thy_cli.specs.declared.answer.Answer.{Answer}
@@ -50,7 +51,7 @@ returns-in-Ok-load g c = λ n job h.
     (subst (Sent c.write_bytes-terminal_failed.result (g.T.Sink.stream c.args.terminal.now) (g.T.Sink.stream c.write_bytes-terminal_failed.new.terminal)) c.as_slice.ensures c.write_bytes-terminal_failed.ensures.bytes)
     (subst (λ d. Sent c.write_end-report_failed.result (g.R.Sink.stream c.args.report.now) (g.R.Sink.stream c.write_end-report_failed.new.report) (ended_lines d last.status last.count (bytes_of last.memory))) (sym h.digests) c.write_end-report_failed.ensures)
     c.plain_stop.ensures c.stopped.ensures.closes
-    (ap (λ (a : Answer). a.events) c.answer.ensures ∙ c.stopped.ensures.events ∙ c.new.ensures)
+    (ap (λ (a : Answer). a.events) c.answer.ensures ∙ ap of_run (c.stopped.ensures.events ∙ c.new.ensures))
     (ap (λ (a : Answer). a.cycles) c.answer.ensures ∙ c.stopped.ensures.cycles)
     (ap (λ (a : Answer). a.status) c.answer.ensures ∙ c.stopped.ensures.status) in
     let base = ap (λ (x : Parameters). x.base) (c.numbers.ensures.same ∙ program.geometry) in (

@@ -54,7 +54,7 @@ returns-in-Ok-try_get_matches_from c =
     let no_fault : fault_of program ws ≡ [] = ap (λ a. fault_of a ws) (sym app_is) ∙ parsed.kinds (ap is_simple_and_free app_is ∙ is_free_program) in
     let rows_are : subcommand_rows_of c.in-Ok-try_get_matches_from.matches ≡ named ws =
     (parsed.matches (ap is_simple app_is ∙ is_simple_program)).1 ∙ ap (λ a. subcommand_of a ws) app_is ∙ named_without_fault ws no_fault in
-    let exact : Answers (settings_of ws) c.order.result = subst (λ o. Answers (order_named o) c.order.result) rows_are c.order.ensures in
+    let exact : Answers (settings_of ws) c.order.result = subst (λ o. Answers (order_named o) c.order.result) rows_are c.order.ensures.exact in
     record { exact = exact; in_range = answers-range ws c.order.result exact }
 
 pub returns-in-Err-try_get_matches_from-clause-exact : goal.returns-in-Err-try_get_matches_from-clause-exact

@@ -39,3 +39,11 @@ returns-then-overlay-clause-none c = λ none.
     let off : is_overlaid v.control ≡ false = subst (λ (s : Dual). is_overlaid s.control ≡ false) (sym c.self.view_is) none in
     let both : true ≡ false = sym on ∙ off in
     absurd cc
+
+pub returns-else-overlay-clause-some : goal.returns-else-overlay-clause-some
+returns-else-overlay-clause-some c = λ some o k n stands.
+    let v : Dual = record { control = c.self.inside.control; engine = c.self.inside.engine; storeless = c.self.inside.storeless; sealed_storeless = c.self.inside.sealed_storeless; boot = c.self.inside.boot } in
+    let off : is_overlaid v.control ≡ false = sym c.overlay.ensures.overlay ∙ c.if-overlay.false in
+    let on : is_overlaid v.control ≡ true = subst (λ (s : Dual). is_overlaid s.control ≡ true) (sym c.self.view_is) some in
+    let both : true ≡ false = sym on ∙ off in
+    absurd cc
