@@ -3,6 +3,7 @@ use Rattle.std.specs.Prelude.{◌≡◌, ◌⊎◌, ℕ, ◌==◌, nat_lt, nat_l
 use Rattle.std.specs.Str.{bytes_eq}
 use Rattle.thy_base.specs.declared.outside.PutError.{PutError}
 use Rattle.thy_base.specs.Outside.{Stream}
+use Rattle.thy_text.specs.History.{all_of}
 use Rattle.thy_words.specs.declared.words.WordsError.{WordsError}
 use Rattle.thy_words.specs.declared.words.WordsError.TheVariants.{Usage, Memory}
 use Rattle.thy_words.specs.Settings.{Job, Order, run, resume, bench, compare, plain, make, settings_of}
@@ -63,7 +64,7 @@ IsTold out (Some e) old new answered status = Closes (put_line out) old new × (
 
 -- a run was begun, by its answer; one that did nothing counts as none
 abbrev pub was_begun : Answer → Bool
-was_begun a = nat_lt 0 a.cycles || nat_lt 0 (length a.events) || nat_le a.status 1 || a.status == 6 || a.status == 8
+was_begun a = nat_lt 0 a.cycles || nat_lt 0 (length (all_of a.events)) || nat_le a.status 1 || a.status == 6 || a.status == 8
 
 -- a run was begun, and bytes were put under OUT, or were not; all else is left alone
 pub record PutsOut {N : Type 0} (out : List ℕ) (middle after : Around N) (a : Answer) (status : ℕ) : Type 0 where

@@ -26,7 +26,7 @@ use thy_words::{WordsError, settings};
 /// The exit status if OUT could not be put.
 const NOT_PUT: u8 = 3;
 
-/// What has to be known of the arguments; or why the call is refused: because of OUT, or for want of memory.
+/// What has to be known of the arguments; or why the call is refused: because of OUT, or because memory ran out.
 fn asked_of(alloc: Global, out: &str, words: &[String]) -> Result<Asked, WordsError>
     ensures free { OnOk result
         (is_taken_by out.now (settings_of (map string_bytes words.now)) ≡ false) }

@@ -70,7 +70,6 @@ fn list_turn(turns: &mut Bytes, harts: u64, did: Did)
 
 /// Steps the machine by the schedule's next pick, and lists the hart if an instruction retired. So many cycles were
 /// done before.
-#[inline(always)]
 pub fn step<M: Computer, N: Nvm>(
     progress: &mut Progress<M>,
     plan: &Plan,
