@@ -1,5 +1,5 @@
 //! The tally of a run's cycles.
-ghost use Rattle.std.specs.Prelude.{◌≡◌, ◌==◌, ◌++◌, ◌∷◌, [], false, if◌then◌else◌, ℕ, List, length, cond, count_by, MatchOption};
+ghost use Rattle.std.specs.Prelude.{◌≡◌, ◌==◌, ◌++◌, ◌∷◌, [], true, false, if◌then◌else◌, ℕ, List, length, cond, count_by, IfNone, MatchOption};
 ghost use Rattle.thy_observe.specs.Kinds.{index_of, has_waited, how_many, is_waiting};
 ghost use Rattle.thy_observe.specs.EventCycles.{event_cycles_from, retired_after};
 ghost use Rattle.thy_observe.specs.Shares.{nobodys, shares_after};
@@ -147,8 +147,9 @@ impl Tally {
 
     /// The cycles in which events were made; none if memory ran out for one of them.
     pub fn event_cycles(&self) -> Option<&[EventCycle]>
-        ensures { (seen : List Taken) → IsTally self.now seen
+        ensures cycles { (seen : List Taken) → IsTally self.now seen
             → MatchOption result (Unit {0}) (λ cycles. cycles.now ≡ event_cycles_from 1 None seen) }
+        ensures lost { IfNone result (self.now.lost ≡ true) }
     {
         if self.lost {
             return None;
