@@ -1,5 +1,5 @@
 -- Facts of tests, options, results and lists that several crates need, and std has not.
-use Rattle.std.proofs.Common.{◌≡◌, ℕ, ◌==◌, ◌<◌, Bool, true, false, not, ◌&&◌, ◌||◌, if◌then◌else◌, replicate, get_or, Option, Some, None, is_some, unwrap_or, Result, Ok, Err, OnErr, refl, ◌∙◌, ap, inl, inr, arith, [], Contains, ◌≢◌, zero, suc, List, ◌∷◌, ◌+◌, sym, ◌-◌, ◌≤◌, ◌++◌, length}
+use Rattle.std.proofs.Common.{◌≡◌, ℕ, ◌==◌, ◌<◌, Bool, true, false, not, ◌&&◌, ◌||◌, replicate, get_or, Option, Some, None, is_some, unwrap_or, Result, Ok, Err, OnErr, refl, ◌∙◌, ap, inl, inr, arith, [], Contains, ◌≢◌, zero, suc, List, ◌∷◌, ◌+◌, sym, ◌-◌, ◌≤◌, ◌++◌, length}
 use Rattle.std.proofs.lemmas.Bool.{cases_lt}
 use Rattle.std.proofs.lemmas.Bool.Decides.{nat_tests}
 use Rattle.std.proofs.lemmas.List.{get_or-replicate, get_or_past, length-replicate, length-append}
@@ -29,11 +29,6 @@ some_same a b e = ap (λ o. unwrap_or o a) e
 pub not_some : {A : Type 0} (o : Option A) → is_some o ≡ false → o ≡ None
 not_some None h = refl
 not_some (Some x) h = cc
-
--- what is there if a test passes, and is none if not, is there
-pub some_if : {A : Type 0} (test : Bool) (o : Option A) (x : A) → (if test then o else None) ≡ Some x → o ≡ Some x
-some_if true o x e = e
-some_if false o x e = absurd (cc)
 
 -- if the first of two options that is there is none, both are none
 pub none_of_two : {A : Type 0} (a b : Option A) → option_or a b ≡ None → (a ≡ None) × (b ≡ None)

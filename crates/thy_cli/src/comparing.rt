@@ -48,7 +48,8 @@ impl Sink for Nowhere {
 struct Compared {
     /// The events before those of the run that was begun last; the event of its scheme is the last of these.
     earlier: Events,
-    /// Those of that run. If another was to begin and did not, they are among the earlier ones.
+    /// Those of that run. If another was to begin and did not, they are among the earlier ones, unless memory ran out for
+    /// that.
     last: Events,
     /// The status of that run, or of the other one, which did not begin.
     status: u8,

@@ -1,8 +1,7 @@
 -- Each actor's cycle, from what its call leaves.
-use Rattle.std.proofs.Common.{◌≡◌, ◌≢◌, ◌⊎◌, ℕ, ◌-◌, ◌<◌, ◌≤◌, ◌^◌, Bool, List, true, false, if◌then◌else◌, length, Option, Some, None, Result, Ok, Err, IsErr, IfOk, OnErr, true≢false, refl, sym, ◌∙◌, ap, subst, inl, inr, arith}
+use Rattle.std.proofs.Common.{◌≡◌, ◌≢◌, ◌⊎◌, ℕ, ◌-◌, ◌<◌, ◌≤◌, Bool, List, true, false, if◌then◌else◌, length, Option, Some, None, Result, Ok, Err, IsErr, IfOk, OnErr, true≢false, refl, sym, ◌∙◌, ap, subst, inl, inr, arith}
 use Rattle.thy_base.specs.declared.cause.EndCause.{EndCause}
 use Rattle.thy_base.specs.declared.nvm.NvmError.{NvmError}
-use Rattle.thy_base.specs.Marks.{mark}
 use Rattle.thy_base.specs.Counts.{Rose}
 use Rattle.thy_base.specs.Device.{Device, HasFailed, IsFramed, drained}
 use Rattle.thy_base.specs.Geometry.{memory_blocks}
@@ -39,7 +38,7 @@ use Rattle.thy_scheme.specs.Scheme.{SchemeOf, StaysOf, Stands, IsBooting}
 use Rattle.thy_scheme.specs.Calls.{IsOneAccess, Merges, Promotes, PromotionFails, Drains, Seals, Engines, EngineFails, engine_did}
 use Rattle.thy_scheme.specs.Boots.{BootsOn, BootFails, BootDrains}
 use Rattle.thy_core.specs.declared.parts.MachineParts.{MachineParts}
-use Rattle.thy_core.specs.MachineParts.{machine_of, IsRestartBelow}
+use Rattle.thy_core.specs.MachineParts.{machine_of}
 use Rattle.thy_core_laws.specs.Machine.{Machine, cpu_fronted, processor_of, view_of, moment_of, pressure_of}
 use Rattle.thy_core_laws.specs.Sound.{Sound}
 use Rattle.thy_core_laws.specs.Calls.{IsAsked, HartCall, FlushCall, retires_by, begun_by_hart, hart_did, after_hart, after_flush, after_call, after_drain, after_seal, after_engine, after_boot}
@@ -48,7 +47,7 @@ use Rattle.thy_core.specs.Cycles.{IsEngineDue, IsTurnOf, IsAnyRun, IsCycle, HasF
 use Rattle.thy_core_laws.proofs.Facts.{view-run, sound-run, holds-run, is-going}
 use Rattle.thy_core_laws.proofs.KeepsLaws.{stands, runs_behind}
 use Rattle.thy_core_laws.proofs.BegunLaws.{begun-processor, IsBegun, is-begun}
-use Rattle.thy_core_laws.proofs.BootingLaws.{sound-boot, small-boot}
+use Rattle.thy_core_laws.proofs.BootingLaws.{sound-boot}
 use Rattle.thy_core_laws.proofs.DrainRows.{nvm_drain_simulates, halt_simulates, dram_drain_simulates, boot_drain_simulates}
 use Rattle.thy_core_laws.proofs.CallRows.{merge_simulates, promotion_simulates}
 use Rattle.thy_core_laws.proofs.EngineRow.{engine_simulates}
@@ -341,16 +340,6 @@ module _ {S : Type 0} (K : SchemeOf S) (o : Origin) (cycles : ℕ) (m : Machine 
   flush_cycle c t new flushed sealing whole dirty f = record { does = refl; due = (whole, dirty); hands = handed refl refl; there = tt; simulates = λ mine. flush_simulates K o cycles m n c t new flushed at sealing whole f }
 
   -- ---- the boot
-
-  pub boot_below : (t : S) (new : Device) (step : BootStep) → m.phase ≡ Boot → BootsOn K o step m.scheme n t new → IsRestartBelow (2 ^ 64 - 1) step
-  boot_below t new GoesOn e b = tt
-  boot_below t new Loaded e b = tt
-  boot_below t new (Refused bad) e b = tt
-  boot_below t new (Restarted cpu epoch) e b =
-      let small = small-boot K o cycles m n at.sound e in
-      let mark_small = small.done (mark epoch cpu.count) (ap (λ v. v.done) b.answers.view) in
-      let few = at.few in
-      omega (arith, mark_small.epoch, few)
 
   pub boot_cycle : (t : S) (new : Device) (step : BootStep) (next : Machine S) (did : Did) → m.phase ≡ Boot
       → BootsOn K o step m.scheme n t new → next ≡ after_boot o step t m → did ≡ boot_did step

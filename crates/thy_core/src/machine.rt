@@ -6,9 +6,10 @@ ghost use Rattle.thy_view.specs.declared.view.View.{View};
 ghost use Rattle.thy_view.specs.Kind.{CanStep, CanRead, CanSnapshot, Simulates, FailsSafe, IsDramOf, SnapshotsStopped, ShowsConsole, LeavesAlonePast, TellsLoading, HasFailedToRead};
 ghost use Rattle.thy_view.specs.Origin.{Origin};
 ghost use Rattle.thy_view.specs.Restart.{RestartsUnwritten};
+ghost use Rattle.thy_isa.specs.Step.{zero_cpu};
 ghost use Rattle.thy_core_laws.specs.Kind.{kind_over};
 ghost use Rattle.thy_core_laws.specs.Sound.{IsAt, SoundStopped, IsPowered};
-ghost use Rattle.thy_core.specs.Reading.{ReadsState};
+ghost use Rattle.thy_core.specs.Reading.{ReadsBare, ReadsState, ShowsNone};
 
 use crate::parts::MachineParts;
 use crate::step::take_step;
@@ -54,6 +55,7 @@ impl<S: Scheme> Machine<S> {
     ) -> Result<Machine<S>, AllocError>
         requires { IsDramOf geometry.now dram }
         ensures powered { IfOk result (λ m. IsPowered S.scheme geometry.now m) }
+        ensures processor { IfOk result (λ m. m.hart.cpu ≡ zero_cpu) }
         ensures dram { IfOk result (λ m. S.scheme.dram m.scheme ≡ dram) }
     {
         let parts = power::power_on(alloc, geometry, dram)?;
@@ -116,6 +118,7 @@ impl<S: Scheme> Machine<S> {
     pub fn snapshot<N: Nvm>(&self, alloc: Global, nvm: &mut N) -> Result<MachState, CoreError>
         requires { CanSnapshot (kind_over S.scheme) self.now (N.device nvm.old) }
         ensures state { ReadsState S.scheme self.now (N.device nvm.old) result }
+        ensures bare { ReadsBare self.now result }
         ensures stopped { SnapshotsStopped (kind_over S.scheme) self.now result }
         ensures same { OnOk result (N.device nvm.new ≡ N.device nvm.old) }
         ensures err { IfErr result (λ e. HasFailedToRead e (N.device nvm.old) (N.device nvm.new)) }
@@ -133,6 +136,7 @@ impl<S: Scheme> Machine<S> {
         requires { CanRead (kind_over S.scheme) self.now (N.device nvm.old) }
         ensures console { ShowsConsole (kind_over S.scheme) from self.now (N.device nvm.old) result }
         ensures past { LeavesAlonePast (kind_over S.scheme) from self.now (N.device nvm.old) (N.device nvm.new) result }
+        ensures booting { ShowsNone self.now result }
         ensures same { OnOk result (N.device nvm.new ≡ N.device nvm.old) }
         ensures err { IfErr result (λ e. HasFailedToRead e (N.device nvm.old) (N.device nvm.new)) }
         ensures frame { IsFramed (N.device nvm.old) (N.device nvm.new) }

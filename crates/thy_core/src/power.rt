@@ -5,6 +5,7 @@ ghost use Rattle.thy_dram.specs.Contents.{lost};
 ghost use Rattle.thy_view.specs.declared.view.View.{View};
 ghost use Rattle.thy_view.specs.Kind.{IsDramOf, TellsLoading};
 ghost use Rattle.thy_view.specs.Origin.{Origin};
+ghost use Rattle.thy_isa.specs.Step.{zero_cpu};
 ghost use Rattle.thy_core_laws.specs.Kind.{kind_over};
 ghost use Rattle.thy_core.specs.MachineParts.{machine_of};
 ghost use Rattle.thy_core_laws.specs.Sound.{IsAt, SoundStopped, IsPowered};
@@ -27,6 +28,7 @@ pub(crate) fn power_on<S: Scheme>(
 ) -> Result<MachineParts<S>, AllocError>
     requires { IsDramOf geometry.now dram }
     ensures powered { IfOk result (λ m. IsPowered S.scheme geometry.now (machine_of m)) }
+    ensures processor { IfOk result (λ m. (machine_of m).hart.cpu ≡ zero_cpu) }
     ensures dram { IfOk result (λ m. S.scheme.dram m.store.scheme ≡ dram) }
 {
     let numbers = geometry.numbers();

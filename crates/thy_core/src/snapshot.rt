@@ -10,7 +10,7 @@ ghost use Rattle.thy_view.specs.Kind.{CanRead, CanSnapshot, SnapshotsStopped, Sh
 ghost use Rattle.thy_core_laws.specs.Kind.{kind_over};
 ghost use Rattle.thy_core_laws.specs.Machine.{cpu_fronted, memory_of, processor_of, hart_put_back};
 ghost use Rattle.thy_core.specs.MachineParts.{machine_of};
-ghost use Rattle.thy_core.specs.Reading.{ReadsState};
+ghost use Rattle.thy_core.specs.Reading.{ReadsBare, ReadsState, ShowsNone};
 
 use crate::parts::MachineParts;
 use crate::reading::{MemoryVersion, read_blocks, read_console};
@@ -103,6 +103,7 @@ pub(crate) fn snapshot<N: Nvm, S: Scheme>(
 ) -> Result<MachState, CoreError>
     requires { CanSnapshot (kind_over S.scheme) (machine_of m.now) (N.device nvm.old) }
     ensures state { ReadsState S.scheme (machine_of m.now) (N.device nvm.old) result }
+    ensures bare { ReadsBare (machine_of m.now) result }
     ensures stopped { SnapshotsStopped (kind_over S.scheme) (machine_of m.now) result }
     ensures same { OnOk result (N.device nvm.new ≡ N.device nvm.old) }
     ensures err { IfErr result (λ e. HasFailedToRead e (N.device nvm.old) (N.device nvm.new)) }
@@ -117,7 +118,7 @@ pub(crate) fn snapshot<N: Nvm, S: Scheme>(
     }
 }
 
-/// Once the boot is over, the console of the committed checkpoint from byte `from` on.
+/// Once the boot is over, the console of the committed checkpoint from byte `from` on; before that no bytes.
 pub(crate) fn console<N: Nvm, S: Scheme>(
     alloc: Global,
     m: &MachineParts<S>,
@@ -128,6 +129,7 @@ pub(crate) fn console<N: Nvm, S: Scheme>(
     ensures console { ShowsConsole (kind_over S.scheme) from (machine_of m.now) (N.device nvm.old) result }
     ensures past { LeavesAlonePast (kind_over S.scheme) from (machine_of m.now)
         (N.device nvm.old) (N.device nvm.new) result }
+    ensures booting { ShowsNone (machine_of m.now) result }
     ensures same { OnOk result (N.device nvm.new ≡ N.device nvm.old) }
     ensures err { IfErr result (λ e. HasFailedToRead e (N.device nvm.old) (N.device nvm.new)) }
     ensures frame { IsFramed (N.device nvm.old) (N.device nvm.new) }

@@ -61,10 +61,6 @@ boots_spent o v shown = elim shown as (λ _. v.spent ≡ 0) [
 
 -- ---- the phase behind a boot
 
-behind_boot : (runs : Bool) → (if runs then Run else Halt) ≢ Boot
-behind_boot true = λ e. absurd (cc)
-behind_boot false = λ e. absurd (cc)
-
 runs_where : (runs : Bool) → (if runs then Run else Halt) ≡ Run → runs ≡ true
 runs_where true e = refl
 runs_where false e = absurd (cc)

@@ -25,10 +25,6 @@ whole-unmoved n some room = record { start = some; gap = omega arith; room = roo
 
 -- ---- the inner image
 
--- what stands behind the start
-rest_of : ℕ → ℕ → Block → List Block
-rest_of n k b = replicate (n + 1 - k) zero_block ++ b ∷ []
-
 length-rest : (n k : ℕ) (b : Block) → k ≤ n → length (replicate (n + 1 - k) zero_block ++ b ∷ []) ≡ n + 2 - k
 length-rest n k b l = omega (arith, length-append (replicate (n + 1 - k) zero_block) (b ∷ []), length-replicate (n + 1 - k) zero_block, l)
 

@@ -76,9 +76,6 @@ module _ (e : Progress) (s : State) (m : Device) (sound : IsSoundState s) (sized
   long : length m.image ≡ image_blocks e.p
   long = sized.nvm ∙ ap image_blocks same
 
-  pub few : length s.table.entries ≡ e.p.btt
-  few = sound.size ∙ ap (λ (q : Parameters). q.btt) same
-
   abbrev at : ℕ → ℕ
   at i = journal_place e.p (e.epoch % 2) i
 

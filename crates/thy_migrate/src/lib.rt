@@ -1,7 +1,7 @@
-//! The boot of this scheme: thy_boot's, over what thy_recover fills, and after it, if the image that was found is of
-//! version 1, its migration. That writes the same checkpoint anew in version 2, one action a cycle: the slot of its epoch, a
-//! barrier, the commit block of the same epoch, and a barrier. Callers rely on `Recovery::step` and on the laws: whatever a
-//! cut leaves of a migration is the checkpoint that was found, whole.
+//! The boot of the scheme of both tables (`--scheme thynvm`): thy_boot's, over what thy_recover fills. After it, if the
+//! image that was found is of version 1, comes the migration. That writes the same checkpoint anew in version 2, one
+//! action a cycle: the slot of its epoch, a barrier, the commit block of the same epoch, and a barrier. Callers rely on
+//! `Recovery::step` and on the laws: whatever a cut leaves of a migration is the checkpoint that was found, whole.
 //!
 //! Open specs/Migrating.antt first, then specs/Sound.antt, and src/recovery.rt. It depends on thy_recover and its
 //! dependencies; thy_dual_laws and thy_dual depend on it.

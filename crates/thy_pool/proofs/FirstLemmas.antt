@@ -1,9 +1,8 @@
 -- The table of a start, page by page.
-use Rattle.std.proofs.Common.{◌≡◌, ℕ, ◌≤◌, Bool, true, false, nat_lt, if◌then◌else◌, length, Option, Some, None, refl, sym, ◌∙◌, ap, inl, inr, arith}
+use Rattle.std.proofs.Common.{◌≡◌, ℕ, ◌≤◌, Bool, true, false, nat_lt, if◌then◌else◌, length, Some, None, refl, sym, ◌∙◌, ap, inl, inr, arith}
 use Rattle.std.proofs.lemmas.Bool.{cases_Bool, cases_lt, lt-ltb, le-ltb}
-use Rattle.std.proofs.lemmas.List.{length-replicate}
 use Rattle.thy_base.specs.declared.config.Parameters.{Parameters}
-use Rattle.thy_table.specs.Listing.{Listing, listing, entry_at, lists, place_of, empty_table}
+use Rattle.thy_table.specs.Listing.{Listing, listing, entry_at, lists, place_of}
 use Rattle.thy_table.proofs.IndexLemmas.{lists-some}
 use Rattle.thy_table.proofs.ListingLaws.{place_of-none}
 use Rattle.thy_shadow_image.specs.Places.{pool_pages}
@@ -11,21 +10,13 @@ use Rattle.thy_pool.specs.declared.entry.Held.{Held}
 use Rattle.thy_pool.specs.Keys.{number_key, held}
 use Rattle.thy_pool.specs.Stores.{first_entry, first_entries}
 use Rattle.thy_pool.proofs.CommittingLemmas.{listing_same}
-use Rattle.thy_pool.proofs.StateLemmas.{entry_at-empty, entry_at-first, length-first}
+use Rattle.thy_pool.proofs.StateLemmas.{entry_at-first, length-first}
 
 -- the first x pages are listed
 pub record AreFirst (p : Parameters) (x : ℕ) (t : Listing Held) : Type 0 where
   pub size : length t.entries ≡ pool_pages p
   pub numbers : t.numbers ≡ pool_pages p
   pub each : (q : ℕ) → entry_at t q ≡ (if nat_lt q x then first_entry p q else None)
-
-pub first_none : (p : Parameters) (t : Listing Held) → t ≡ empty_table (pool_pages p) (pool_pages p) → AreFirst p 0 t
-first_none p t e = record {
-  size = ap (λ (u : Listing Held). length u.entries) e ∙ length-replicate {A = Option Held} (pool_pages p) None;
-  numbers = ap (λ (u : Listing Held). u.numbers) e;
-  each = λ q. ap (λ (u : Listing Held). entry_at u q) e ∙ entry_at-empty (pool_pages p) (pool_pages p) q
-      ∙ sym (ap (λ b. if b then first_entry p q else None) (le-ltb q 0 (omega arith)));
-}
 
 module _ (p : Parameters) (x : ℕ) (t : Listing Held) (h : AreFirst p x t) where
   listed_low : (q n : ℕ) (before low : Bool) → nat_lt q x ≡ before → nat_lt q p.pages ≡ low

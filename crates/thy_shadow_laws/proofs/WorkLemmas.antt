@@ -139,9 +139,6 @@ module _ (s : State) (h : IsSoundState s) where
       let small : q < pool_pages s.p = target_small j q of.1 in
       subst (λ (y : ℕ). y < length m.image) (sym (target_is j c some)) (omega (arith, small, l, sized.nvm))
 
-  pub target_behind : (j c : ℕ) → first_pool s.p ≤ target_place s j c
-  target_behind j c = omega arith
-
   -- two blocks of filled frames that go to one place are one block
   pub one_target : (i j c d : ℕ) → c < 64 → d < 64 → is_some (entry_at s.frames i) ≡ true → is_some (entry_at s.frames j) ≡ true
       → target_place s i c ≡ target_place s j d → (i ≡ j) × (c ≡ d)

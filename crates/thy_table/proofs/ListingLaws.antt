@@ -1,5 +1,5 @@
 -- Where numbers are listed after each change of a table, for those that stand on it.
-use Rattle.std.proofs.Common.{◌≡◌, ◌≢◌, ℕ, ◌<◌, ◌≤◌, true, false, eqb, List, [], ◌∷◌, length, map, Option, Some, None, option_and_then, refl, sym, ◌∙◌, ap, inl, inr, arith}
+use Rattle.std.proofs.Common.{◌≡◌, ◌≢◌, ℕ, ◌<◌, ◌≤◌, true, false, List, [], ◌∷◌, length, map, Option, Some, None, option_and_then, refl, sym, ◌∙◌, ap, inl, inr, arith}
 use Rattle.std.specs.List.{sum_by}
 use Rattle.std.proofs.lemmas.Bool.{cases_Bool, cases_eq, cases_lt, ne_eqb}
 use Rattle.std.proofs.lemmas.List.{length-map, get_or-set_same, get_or-set_other, get_or_past, get_or-map}
@@ -116,17 +116,6 @@ module _ {E : Type 0} (key : E → ℕ) where
             | inr s ↦ s
           ],
         ))
-
-    pub place_of-set : (i : ℕ) (e : E) (n : ℕ) → lists key (key e) (entry_at t i) ≡ true → place_of key n (with_entry i (Some e) t) ≡ place_of key n t
-    place_of-set i e n was = place_of-as t (with_entry i (Some e) t) n (IsListing-set i e was)
-        (λ j. elim (cases_eq j i) as (λ _. lists key n (entry_at (with_entry i (Some e) t) j) ≡ lists key n (entry_at t j)) [
-          | inl s ↦
-              let old = lists-some key (key e) (entry_at t i) was in
-              ap (λ m. lists key n (entry_at (with_entry i (Some e) t) m)) s
-              ∙ ap (lists key n) (entry_at-with_same t i (Some e) (lists-inside key t.entries i (key e) was))
-              ∙ ap (λ m. eqb m n) (sym old.2) ∙ sym (ap (lists key n) old.1) ∙ sym (ap (λ m. lists key n (entry_at t m)) s)
-          | inr s ↦ ap (lists key n) (entry_at-with_other t i j (Some e) s)
-        ])
 
     -- one entry more, of a number that was not listed
     pub IsListing-put : (i : ℕ) (e : E) → i < length t.entries → place_of key (key e) t ≡ None → key e < t.numbers → IsListing key (with_entry i (Some e) t)

@@ -18,10 +18,6 @@ use Rattle.thy_dual.specs.Calls.{IsNew as IsNewBelow, StoresByRule, PromotesNext
 use Rattle.thy_waiting_laws.specs.Waiting.{Waiting, left_after, left_booted}
 use Rattle.thy_waiting_laws.specs.Scheme.{waits_over}
 
--- it waits over the scheme of both tables
-abbrev pub WaitingDual : Type 0
-WaitingDual = Waiting Dual
-
 abbrev pub waiting_scheme : SchemeOf (Waiting Dual)
 waiting_scheme = waits_over dual_scheme
 

@@ -13,7 +13,7 @@ use Rattle.thy_view.proofs.SafeLemmas.{Safe-failed}
 use Rattle.thy_view.proofs.ActionLemmas.{down-after}
 use Rattle.thy_scheme.specs.CheckpointMarks.{CheckpointMarks, doubt_in, marks_after}
 use Rattle.thy_scheme.specs.Scheme.{SchemeOf, Stands}
-use Rattle.thy_scheme.specs.Calls.{Succeeds, IsOneAccess, Merges, Promotes, Drains, Seals, OwesAfter, Engines, EngineFails}
+use Rattle.thy_scheme.specs.Calls.{Merges, Promotes, Drains, Seals, OwesAfter, Engines, EngineFails}
 use Rattle.thy_scheme.specs.Laws.{IsLawful}
 use Rattle.thy_waiting_laws.specs.Waiting.{Waiting, barriers, is_waiting, left_after}
 use Rattle.thy_waiting_laws.specs.Scheme.{is_under_way, to_come, waits_over}
@@ -63,19 +63,6 @@ owes-over K (Committed epoch) v n w new h = h
 -- the scheme below it is this one
 abbrev pub over : {S : Type 0} → S → Waiting S → Waiting S
 over t w = record w { below = t }
-
--- a load or a store
-pub one-access : {S : Type 0} (K : SchemeOf S) (w : Waiting S) (n : Device) (t : S) (new : Device)
-    → IsOneAccess K w.below n t new → IsOneAccess (waits_over K) w n (over t w) new
-one-access K w n t new once = record {
-  action = once.action;
-  access = once.access;
-  succeeds = λ up. let done : Succeeds K once.action w.below n t new = once.succeeds up in
-      record { left = done.left; dram = done.dram; queue = done.queue; copies = done.copies };
-  fails = once.fails;
-  frame = once.frame;
-  stays = record { below = once.stays; same = refl };
-}
 
 module _ {S : Type 0} (K : SchemeOf S) (laws : IsLawful K) (never : (s : S) → K.applies s ≡ false) (o : Origin) (k : CheckpointMarks) (w : Waiting S) (n : Device)
     (stands : Stands (waits_over K) o k w n) where

@@ -2,7 +2,7 @@ use Rattle.std.proofs.Common.{subst}
 use Rattle.thy_view.specs.Kind.{SnapshotsStopped}
 use Rattle.thy_core_laws.specs.Kind.{kind_over}
 use Rattle.thy_core_laws.specs.Machine.{Machine}
-use Rattle.thy_core.specs.Reading.{ReadsState}
+use Rattle.thy_core.specs.Reading.{ReadsBare, ReadsState}
 use Rattle.thy_core.proofs.machine.Machine.snapshot.Goals as goal
 
 pub returns-clause-state : goal.returns-clause-state
@@ -13,3 +13,6 @@ returns-clause-state g c =
 pub returns-clause-stopped : goal.returns-clause-stopped
 returns-clause-stopped g c =
     subst (λ (m : Machine g.row.S.Denot). SnapshotsStopped (kind_over g.S.Scheme.scheme) m c.snapshot.result) c.self.view_is c.snapshot.ensures.stopped
+
+pub returns-clause-bare : goal.returns-clause-bare
+returns-clause-bare g c = subst (λ (m : Machine g.row.S.Denot). ReadsBare m c.snapshot.result) c.self.view_is c.snapshot.ensures.bare
