@@ -1,5 +1,6 @@
 //! Runs whose NVM fails at one call: they stop there, are saved, and resume over a device that does not fail.
-use crate::runs::{Given, called_on, called_over, files, ran};
+use crate::support::calls::{Given, called_on, called_over, ran};
+use crate::support::programs::files;
 use std::alloc::{AllocError, Global};
 use std::process::Abort;
 use std::test::Fail;

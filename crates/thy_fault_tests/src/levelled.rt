@@ -1,5 +1,6 @@
 //! Runs with levelled wear, compared with the same runs without.
-use crate::runs::{Given, called_on, called_over, compare, files, ran};
+use crate::support::calls::{Given, called_on, called_over, compare, ran};
+use crate::support::programs::files;
 use std::alloc::{AllocError, Global};
 use std::process::Abort;
 use std::test::Fail;

@@ -1,9 +1,9 @@
 //! Program files and images that are cut short or have a field at its end, and files that are too long: each is refused by
 //! its line.
-use crate::runs::programs::shelf_of;
-use crate::runs::{EXIT_SEVEN, called, called_on, compare, files};
+use crate::support::calls::{called, called_on, compare};
 use crate::support::expect::expect_at;
 use crate::support::geometry::geometry_of;
+use crate::support::programs::{EXIT_SEVEN, files, shelf_of};
 use std::alloc::{AllocError, Global};
 use std::process::Abort;
 use std::test::Fail;

@@ -1,7 +1,7 @@
 //! A shelf that records under which names its calls failed.
 ghost use Rattle.std.specs.Prelude.{◌≡◌, ◌<◌, ◌++◌, ◌∷◌, [], OnOk, IfOk, vec_len, vec_capacity};
 ghost use Rattle.std.specs.String.{string_bytes};
-ghost use Rattle.thy_run_tests.specs.Naming.{names_of};
+ghost use Rattle.thy_fault_tests.specs.Naming.{names_of};
 
 use std::alloc::{AllocError, Global};
 use thy_base::{FetchError, PutError, Shelf};
@@ -49,7 +49,7 @@ impl NamingShelf {
 }
 
 impl Shelf for NamingShelf {
-    ghost use Rattle.thy_run_tests.specs.Naming.{naming};
+    ghost use Rattle.thy_fault_tests.specs.Naming.{naming};
 
     ghost stock = { λ s. naming s.shelf s.failed.items };
 

@@ -1,6 +1,7 @@
 //! Calls on a shelf that records under which names its calls failed.
-use crate::runs::{called_over, compare, files};
+use crate::support::calls::{called_over, compare};
 use crate::support::naming::NamingShelf;
+use crate::support::programs::files;
 use std::alloc::{AllocError, Global};
 use std::process::Abort;
 use std::test::Fail;

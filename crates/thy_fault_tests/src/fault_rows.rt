@@ -1,6 +1,7 @@
 //! The program that exits with 7 over an NVM that fails at one call, each in turn: what is reported, and how the saved
 //! image resumes, by a table worked out by hand.
-use crate::runs::{called_on, called_over, compare, files};
+use crate::support::calls::{called_on, called_over, compare};
+use crate::support::programs::files;
 use std::alloc::{AllocError, Global};
 use std::process::Abort;
 use std::test::Fail;

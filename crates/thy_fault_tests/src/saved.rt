@@ -1,8 +1,6 @@
 //! Runs that are saved and resumed.
-use crate::runs::console::{GREET, READ_INPUT};
-use crate::runs::epochs::NINE_STORES;
-use crate::runs::programs::{file_of, shelf_of};
-use crate::runs::{called_on, compare};
+use crate::support::calls::{called_on, compare};
+use crate::support::programs::{GREET, NINE_STORES, READ_INPUT, file_of, shelf_of};
 use std::alloc::{AllocError, Global};
 use std::process::Abort;
 use std::test::Fail;

@@ -1,6 +1,6 @@
 //! The program that exits with 7, cut once in its first cycle or in that which writes the last commit block, and once more
 //! at each cycle of the boot after that: whole reports.
-use crate::runs::expect;
+use crate::support::calls::expect;
 use std::alloc::{AllocError, Global};
 use std::process::Abort;
 use std::test::Fail;

@@ -1,5 +1,6 @@
 //! Runs of programs that have an input which they do not read.
-use crate::runs::{EXIT_SEVEN, called, compare, expect, files};
+use crate::support::calls::{called, compare, expect};
+use crate::support::programs::{EXIT_SEVEN, files};
 use std::alloc::{AllocError, Global};
 use std::test::Fail;
 use thy_out::MemShelf;

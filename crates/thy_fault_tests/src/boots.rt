@@ -1,7 +1,6 @@
 //! Runs whose power is cut again while it comes on, and boots between whose steps queued writes land.
-use crate::runs::console::GREET;
-use crate::runs::programs::{file_of, shelf_of};
-use crate::runs::{EXIT_SEVEN, Given, called, has};
+use crate::support::calls::{Given, called, has};
+use crate::support::programs::{EXIT_SEVEN, GREET, file_of, shelf_of};
 use std::alloc::{AllocError, Global};
 use std::process::Abort;
 use std::test::Fail;

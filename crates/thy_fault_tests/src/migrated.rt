@@ -1,6 +1,6 @@
 //! A saved image of layout version 1, resumed: its boot writes the checkpoint anew in version 2.
-use crate::runs::programs::shelf_of;
-use crate::runs::{Given, called_on, called_over, compare};
+use crate::support::calls::{Given, called_on, called_over, compare};
+use crate::support::programs::shelf_of;
 use std::alloc::{AllocError, Global};
 use std::process::Abort;
 use std::test::Fail;
