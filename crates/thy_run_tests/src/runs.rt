@@ -1,21 +1,11 @@
 //! Whole runs over memory: what is reported, and with which status.
-mod boots;
 mod compared;
 mod console;
 mod cuts;
 mod epochs;
-mod fault_rows;
-mod faults;
-mod hostile;
-mod inputs;
-mod levelled;
 mod made;
-mod migrated;
 mod misaligned;
-mod noted;
 mod programs;
-mod saved;
-mod second_cuts;
 mod two_harts;
 
 use console::HELLO;

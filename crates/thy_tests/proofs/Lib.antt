@@ -1,3 +1,0 @@
-mod DrivenLemmas
-mod MemoryLemmas
-mod StartingLemmas

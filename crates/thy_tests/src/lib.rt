@@ -6,29 +6,17 @@
 #![tactic(auto)]
 
 #[cfg(test)]
-mod boot;
-#[cfg(test)]
 mod cache;
 #[cfg(test)]
 mod calls;
-#[cfg(test)]
-mod controller;
-#[cfg(test)]
-mod controller_epochs;
-#[cfg(test)]
-mod controller_rows;
 #[cfg(test)]
 mod counts;
 #[cfg(test)]
 mod crash;
 #[cfg(test)]
-mod cuts;
-#[cfg(test)]
 mod dram;
 #[cfg(test)]
 mod elf;
-#[cfg(test)]
-mod engine_rows;
 #[cfg(test)]
 mod epochs;
 #[cfg(test)]

@@ -1,0 +1,3 @@
+mod DrivenLemmas
+mod MemoryLemmas
+mod StartingLemmas

@@ -1,0 +1,5 @@
+pub mod Beside
+pub mod Boots
+pub mod Driven
+pub mod Memory
+pub mod Starting

@@ -1,0 +1,214 @@
+//! The boot over the simulated NVM: what it loads into zeros, and what it finds after cuts.
+ghost use Rattle.std.specs.Prelude.{◌≡◌, ◌≤◌, true, length};
+ghost use Rattle.thy_base.specs.Device.{IsFramed};
+ghost use Rattle.thy_isa.specs.Step.{state_of};
+ghost use Rattle.thy_control_tests.specs.Boots.{Boots, IsLeastStart, IsNew, IsReady, goes_on};
+
+use crate::support::expect::expect;
+use crate::support::geometry::geometry_of;
+use crate::support::starting::{has_least_memory, new_boot};
+use std::alloc::Global;
+use std::process::Abort;
+use thy_base::{Block, Bytes, Geometry, Nvm, Parameters, SchemeName, Shape};
+use thy_boot::{Boot, End, Issue, Stage, a_boot_may_go_on};
+use thy_control::Control;
+use thy_dram::Dram;
+use thy_isa::{CpuState, MachState, Regs, Status};
+use thy_migrate::DualFills;
+use thy_nvm::MemNvm;
+use thy_record::Start;
+use thy_view::BootStep;
+
+/// The least memory: seven pages of the program and one of the console.
+fn least() -> Parameters
+    ensures pages { result.pages ≡ 8 }
+    ensures console { result.console ≡ 1 }
+    ensures btt { result.btt ≡ 8 }
+    ensures ptt { result.ptt ≡ 8 }
+{
+    Parameters {
+        base: 65536,
+        pages: 8,
+        console: 1,
+        epoch: 1,
+        btt: 8,
+        ptt: 8,
+        sets: 1,
+        ways: 1,
+        nvmq: 4,
+        dramq: 4,
+        high: 22,
+        low: 16,
+        mix: 0,
+        limit: 1,
+        scheme: SchemeName::Thynvm,
+        harts: 1,
+    }
+}
+
+/// A start whose memory is full of sevens, and whose console has 70 exclamation marks.
+fn start_of(rt: &impl Abort, alloc: Global) -> Start
+    ensures { IsLeastStart (state_of result.state) }
+{
+    let memory = vec![in alloc; 7u8; 28672].expect(rt, "memory");
+    let console = vec![in alloc; 33u8; 70].expect(rt, "memory");
+    let state = MachState {
+        pc: 65540,
+        regs: Regs::new(),
+        memory: Bytes::from_vec(memory),
+        console: Bytes::from_vec(console),
+        cursor: 3,
+        brk: 65600,
+        floor: 65600,
+        count: 5,
+        status: Status::Running,
+        other: None,
+    };
+    Start {
+        state,
+        kept: None,
+        input: Bytes::new(alloc),
+    }
+}
+
+/// The controller of a machine whose power came on.
+fn controller(rt: &impl Abort, alloc: Global, geometry: &Geometry) -> Control
+    ensures { IsNew geometry.now result }
+{
+    let dram = Dram::new(alloc, geometry.dram_blocks(), 4).expect(rt, "memory");
+    Control::new(alloc, geometry, dram).expect(rt, "memory")
+}
+
+/// Takes a step, and returns what it returned.
+fn step<N: Nvm>(
+    rt: &impl Abort,
+    boot: &mut Boot,
+    control: &mut Control,
+    start: &Start,
+    nvm: &mut N,
+) -> BootStep
+    requires { Boots (state_of start.now.state) (N.device nvm.old) boot.old control.old }
+    ensures on { goes_on result ≡ true → Boots (state_of start.now.state) (N.device nvm.new) boot.new control.new }
+    ensures same_p { control.new.p ≡ control.old.p }
+    ensures frame { IsFramed (N.device nvm.old) (N.device nvm.new) }
+{
+    a_boot_may_go_on::<DualFills>();
+    boot.step::<DualFills, N>(control, start, nvm)
+        .expect(rt, "a step")
+}
+
+/// Takes so many steps, or fewer if the boot is over before. Returns how many it took, and what the last one returned.
+fn steps<N: Nvm>(
+    rt: &impl Abort,
+    boot: &mut Boot,
+    control: &mut Control,
+    start: &Start,
+    nvm: &mut N,
+    most: u64,
+) -> (u64, BootStep)
+    requires boots { Boots (state_of start.now.state) (N.device nvm.old) boot.old control.old }
+    requires some { 1 ≤ most }
+    ensures same_p { control.new.p ≡ control.old.p }
+    ensures frame { IsFramed (N.device nvm.old) (N.device nvm.new) }
+{
+    for taken in 1..most {
+        let told = step(rt, boot, control, start, nvm);
+        match told {
+            BootStep::GoesOn => {}
+            BootStep::Loaded | BootStep::Restarted(_, _) | BootStep::Refused(_) => {
+                return (taken, told);
+            }
+        }
+    }
+    (most, step(rt, boot, control, start, nvm))
+}
+
+/// Boots a machine whose power came on, and returns how many steps that took, what the last one returned, the boot's
+/// stage after it, and which blocks a load then gives: the first one of memory, and two of the console.
+fn boot<N: Nvm>(rt: &impl Abort, alloc: Global, nvm: &mut N, most: u64) -> Booted
+    requires some { 1 ≤ most }
+    requires ready { IsReady (N.device nvm.old) }
+    ensures { IsFramed (N.device nvm.old) (N.device nvm.new) }
+{
+    let geometry = geometry_of(rt, alloc, &least());
+    let start = start_of(rt, alloc);
+    has_least_memory(rt, &geometry);
+    let mut boot = new_boot(rt, alloc, &geometry);
+    let mut control = controller(rt, alloc, &geometry);
+    control.tables();
+    let (taken, told) = steps(rt, &mut boot, &mut control, &start, nvm, most);
+    Booted {
+        taken,
+        told,
+        stage: boot.stage(),
+        first: control.load(0, nvm).expect(rt, "a load"),
+        console: control.load(448, nvm).expect(rt, "a load"),
+        behind: control.load(449, nvm).expect(rt, "a load"),
+    }
+}
+
+/// The result of a boot.
+#[derive(Clone, Copy, Debug, PartialEq, Eq)]
+struct Booted {
+    taken: u64,
+    told: BootStep,
+    stage: Stage,
+    first: Block,
+    console: Block,
+    behind: Block,
+}
+
+/// Its result once it is over, and memory is the start's.
+fn with_start(taken: u64, told: BootStep, end: End) -> Booted {
+    let mut behind = Block::ZERO;
+    behind.put(0, &[33; 6]);
+    Booted {
+        taken,
+        told,
+        stage: Stage::Over(end),
+        first: Block([7; 64]),
+        console: Block([33; 64]),
+        behind,
+    }
+}
+
+/// The processor of the start.
+fn processor() -> CpuState {
+    CpuState {
+        pc: 65540,
+        regs: Regs::new(),
+        console_len: 70,
+        cursor: 3,
+        brk: 65600,
+        floor: 65600,
+        count: 5,
+        status: Status::Running,
+        other: None,
+    }
+}
+
+// A boot reads the commit block, and then loads 512 blocks of memory, 8 of the slot and the header, and has two barriers and
+// the commit block between them. Its recovery reads the commit block, the header and 8 blocks of the slot.
+#[test]
+fn a_start_is_loaded_and_found_again(rt: HostRuntime) {
+    let alloc = rt.alloc();
+    let mut nvm = MemNvm::new(alloc);
+    let shape = Shape {
+        blocks: 1064,
+        queue: 4,
+        cuts: 3,
+    };
+    nvm.fit(alloc, &shape, Vec::new(alloc))
+        .expect(&rt, "a device");
+    let loading = boot(&rt, alloc, &mut nvm, 524);
+    expect(&rt, loading.told, BootStep::GoesOn);
+    expect(&rt, loading.stage, Stage::Loads(Issue::Confirm));
+    nvm.cut(7);
+    let loaded = boot(&rt, alloc, &mut nvm, 1000);
+    let ended = with_start(525, BootStep::Loaded, End::Loaded);
+    expect(&rt, loaded, ended);
+    nvm.cut(8);
+    let found = boot(&rt, alloc, &mut nvm, 1000);
+    let restarted = BootStep::Restarted(processor(), 0);
+    expect(&rt, found, with_start(10, restarted, End::Restored));
+}

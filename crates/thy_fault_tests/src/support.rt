@@ -1,0 +1,6 @@
+//! What the tests of this crate share; no test stands here.
+pub(crate) mod calls;
+pub(crate) mod expect;
+pub(crate) mod geometry;
+pub(crate) mod naming;
+pub(crate) mod programs;
