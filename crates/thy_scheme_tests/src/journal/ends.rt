@@ -1,8 +1,10 @@
 //! How programs end with the journal that have no store, or none that is in doubt: as with any scheme of checkpoints.
-use crate::support::calls::{expect, expect_of};
+use crate::support::calls::{JOURNAL, SMALL, called, compare, expect};
 use crate::support::programs::{EXIT_SEVEN, file_of, patched};
 use std::alloc::{AllocError, Global};
+use std::process::Abort;
 use std::test::Fail;
+use thy_out::MemShelf;
 
 /// Reports of programs that trap, and of one that exits.
 const TRAPS_2: &str =
@@ -16,6 +18,23 @@ const TRAPS_1: &str =
 
 const EXITS: &str =
     "commit 0 overlapped 0\nepoch 1 ends at 3 by end\ncommit 1 overlapped 0\nexit 7 at 3\n";
+
+/// Runs a file alone with the options of these tests, and compares status and report; nothing is printed.
+fn expect_of(
+    rt: &impl Abort,
+    alloc: Global,
+    file: &[u8],
+    status: u8,
+    report: &str,
+) -> Result<(), AllocError> {
+    let mut held = Vec::new(alloc);
+    held.push((String::from_str(alloc, "F")?, Vec::from_slice(alloc, file)?))?;
+    let mut shelf = MemShelf::new(held, Vec::new(alloc));
+    let line = format!(in alloc; "thynvm run F {SMALL} {JOURNAL}")?;
+    let given = called(alloc, line.as_str(), &mut shelf)?;
+    compare(rt, report, &given, status, "", report);
+    Ok(())
+}
 
 /// The program file that exits with 7: a header of 64 bytes and one program header of 56, and then 12 bytes.
 fn exits_with_seven(alloc: Global) -> Result<Vec<u8>, AllocError> {
@@ -110,10 +129,10 @@ fn an_access_over_two_blocks_is_carried_out(rt: HostRuntime) -> Result<(), Fail>
     let alloc = rt.alloc();
     let report =
         "commit 0 overlapped 0\nepoch 1 ends at 5 by end\ncommit 1 overlapped 0\nexit 255 at 5\n";
-    expect(&rt, alloc, "run T", 0, report)?;
+    expect(&rt, alloc, JOURNAL, "run T", 0, report)?;
     let report =
         "commit 0 overlapped 0\nepoch 1 ends at 1 by end\ncommit 1 overlapped 0\ntrap 5 at 1\n";
-    expect(&rt, alloc, "run O", 1, report)?;
+    expect(&rt, alloc, JOURNAL, "run O", 1, report)?;
     Ok(())
 }
 

@@ -7,8 +7,15 @@ use thy_cli::thynvm;
 use thy_nvm::MemNvm;
 use thy_out::{MemShelf, MemSink};
 
-/// The options of these tests: the smallest memory and tables, and the journal.
-pub(crate) const SMALL: &str = "--pages 8 --btt 8 --ptt 8 --scheme journal";
+/// The schemes of these tests, by their words.
+pub(crate) const JOURNAL: &str = "journal";
+
+pub(crate) const SHADOW: &str = "shadow";
+
+pub(crate) static SCHEMES: [&str; 2] = [JOURNAL, SHADOW];
+
+/// The options of these tests, up to the scheme's word, which follows them: the smallest memory and tables.
+pub(crate) const SMALL: &str = "--pages 8 --btt 8 --ptt 8 --scheme";
 
 /// What a call gave.
 #[derive(Drop)]
@@ -88,34 +95,18 @@ pub(crate) fn expect_on(
     Ok(())
 }
 
-/// Calls over the files of these tests with these arguments and the options of these tests, and compares status and
-/// report; nothing is printed.
+/// Calls over the files of these tests with these arguments, the options of these tests and this scheme, and compares
+/// status and report; nothing is printed.
 pub(crate) fn expect(
     rt: &impl Abort,
     alloc: Global,
+    scheme: &str,
     arguments: &str,
     status: u8,
     report: &str,
 ) -> Result<(), AllocError> {
-    let line = format!(in alloc; "thynvm {arguments} {SMALL}")?;
+    let line = format!(in alloc; "thynvm {arguments} {SMALL} {scheme}")?;
     expect_on(rt, alloc, &mut shelf(alloc)?, line.as_str(), status, report)
-}
-
-/// Runs a file alone with the options of these tests, and compares status and report; nothing is printed.
-pub(crate) fn expect_of(
-    rt: &impl Abort,
-    alloc: Global,
-    file: &[u8],
-    status: u8,
-    report: &str,
-) -> Result<(), AllocError> {
-    let mut held = Vec::new(alloc);
-    held.push((String::from_str(alloc, "F")?, Vec::from_slice(alloc, file)?))?;
-    let mut shelf = MemShelf::new(held, Vec::new(alloc));
-    let line = format!(in alloc; "thynvm run F {SMALL}")?;
-    let given = called(alloc, line.as_str(), &mut shelf)?;
-    compare(rt, report, &given, status, "", report);
-    Ok(())
 }
 
 /// Whether a text has a piece in it.

@@ -1,6 +1,6 @@
 //! The program that exits with 7 over an NVM that fails at one call, each in turn: what is reported, and how the saved
 //! image resumes, by a table worked out by hand.
-use crate::support::calls::{SMALL, called, called_over, compare, shelf};
+use crate::support::calls::{SCHEMES, SMALL, called, called_over, compare, shelf};
 use crate::support::programs::shelf_with;
 use std::alloc::{AllocError, Global};
 use std::process::Abort;
@@ -27,8 +27,8 @@ struct Commit {
 
 /// Each cycle up to loading's last barrier, in cycle 696, is one call: the commit block of epoch 0 is written in cycle 695.
 /// After the barrier come the read of the block that has the program, the five blocks of the processor's record and one of
-/// the table, with two drains in between, a barrier, the commit block of epoch 1, a drain that lets it land, and its barrier:
-/// calls 697 to 709.
+/// the table, or of the map, with two drains in between, a barrier, the commit block of epoch 1, a drain that lets it land,
+/// and its barrier: calls 697 to 709.
 const STARTED: Commit = Commit {
     call: 695,
     is_drained: false,
@@ -101,19 +101,20 @@ impl Fault {
 fn fail_and_go_on(
     rt: &impl Abort,
     alloc: Global,
+    scheme: &str,
     fault: Fault,
     resumed: (u8, &str),
 ) -> Result<(), AllocError> {
     let mut shelf = shelf(alloc)?;
     let tear = if fault.lands { 1 } else { 0 };
-    let line = format!(in alloc; "thynvm run F {SMALL} --save I --tears {tear}")?;
+    let line = format!(in alloc; "thynvm run F {SMALL} {scheme} --save I --tears {tear}")?;
     let mut nvm = fault.nvm(alloc)?;
     let given = called_over(alloc, line.as_str(), &mut shelf, &[], &mut nvm)?;
     let told = fault.told();
     let report = format!(in alloc; "{told}nvm failed\n")?;
-    let at = format!(in alloc; "{fault:?}")?;
+    let at = format!(in alloc; "{scheme} {fault:?}")?;
     compare(rt, at.as_str(), &given, 7, "", report.as_str());
-    let line = format!(in alloc; "thynvm resume I {SMALL}")?;
+    let line = format!(in alloc; "thynvm resume I {SMALL} {scheme}")?;
     let given = called(alloc, line.as_str(), &mut shelf)?;
     let (status, report) = resumed;
     compare(rt, at.as_str(), &given, status, "", report);
@@ -139,21 +140,24 @@ static ROWS: [(u64, bool, bool, &str); 12] = [
 
 #[test]
 fn the_last_commit_block_and_its_barrier_may_fail(rt: HostRuntime) -> Result<(), Fail> {
-    for (call, is_late, lands, report) in &ROWS {
-        let fault = Fault {
-            call: *call,
-            is_late: *is_late,
-            lands: *lands,
-        };
-        fail_and_go_on(&rt, rt.alloc(), fault, (0, report))?;
+    for scheme in &SCHEMES {
+        for (call, is_late, lands, report) in &ROWS {
+            let fault = Fault {
+                call: *call,
+                is_late: *is_late,
+                lands: *lands,
+            };
+            fail_and_go_on(&rt, rt.alloc(), scheme, fault, (0, report))?;
+        }
     }
     Ok(())
 }
 
 /// Each call up to the last barrier.
-fn fail_anywhere(
+pub(crate) fn fail_anywhere(
     rt: &impl Abort,
     alloc: Global,
+    scheme: &str,
     is_late: bool,
     lands: bool,
 ) -> Result<(), AllocError> {
@@ -163,32 +167,8 @@ fn fail_anywhere(
             is_late,
             lands,
         };
-        fail_and_go_on(rt, alloc, fault, fault.goes_on())?;
+        fail_and_go_on(rt, alloc, scheme, fault, fault.goes_on())?;
     }
-    Ok(())
-}
-
-#[test]
-fn any_call_may_fail_and_no_write_lands(rt: HostRuntime) -> Result<(), Fail> {
-    fail_anywhere(&rt, rt.alloc(), false, false)?;
-    Ok(())
-}
-
-#[test]
-fn any_call_may_fail_and_every_write_lands(rt: HostRuntime) -> Result<(), Fail> {
-    fail_anywhere(&rt, rt.alloc(), false, true)?;
-    Ok(())
-}
-
-#[test]
-fn any_call_may_fail_late_and_no_write_lands(rt: HostRuntime) -> Result<(), Fail> {
-    fail_anywhere(&rt, rt.alloc(), true, false)?;
-    Ok(())
-}
-
-#[test]
-fn any_call_may_fail_late_and_every_write_lands(rt: HostRuntime) -> Result<(), Fail> {
-    fail_anywhere(&rt, rt.alloc(), true, true)?;
     Ok(())
 }
 
@@ -196,11 +176,13 @@ fn any_call_may_fail_late_and_every_write_lands(rt: HostRuntime) -> Result<(), F
 #[test]
 fn a_save_behind_a_fault_may_fail_too(rt: HostRuntime) -> Result<(), Fail> {
     let alloc = rt.alloc();
-    let mut shelf = shelf_with(alloc, &[2])?;
-    let mut nvm = MemNvm::failing(alloc, &[ENDED_BY])?;
-    let line = format!(in alloc; "thynvm run F {SMALL} --save I")?;
-    let given = called_over(alloc, line.as_str(), &mut shelf, &[], &mut nvm)?;
-    let report = format!(in alloc; "{SEALED}put I failed\n")?;
-    compare(&rt, line.as_str(), &given, 3, "", report.as_str());
+    for scheme in &SCHEMES {
+        let mut shelf = shelf_with(alloc, &[2])?;
+        let mut nvm = MemNvm::failing(alloc, &[ENDED_BY])?;
+        let line = format!(in alloc; "thynvm run F {SMALL} {scheme} --save I")?;
+        let given = called_over(alloc, line.as_str(), &mut shelf, &[], &mut nvm)?;
+        let report = format!(in alloc; "{SEALED}put I failed\n")?;
+        compare(&rt, line.as_str(), &given, 3, "", report.as_str());
+    }
     Ok(())
 }

@@ -1,0 +1,47 @@
+//! Saved images of the journal, and refusals of their table.
+use crate::images::{expect_at_lengths, expect_refused, held, run_in_pieces, saved};
+use crate::support::calls::JOURNAL;
+use std::test::Fail;
+
+/// The offset of the table of the first slot in bytes, and its first entry: block 436, which the ninth store is to.
+const TABLE: usize = 448;
+
+static ENTRY: [u8; 8] = [0xb5, 0x01, 0, 0, 0, 0, 0, 0];
+
+/// Bytes of the image that are other ones, with the report: the scheme's number in the header, and the table behind the
+/// record of the processor in the first slot.
+static PATCHES: [(usize, &[u8], &str); 4] = [
+    (56, &[2], "image 4 Geometry\n"),
+    (456, &[1, 2], "image 6 TableIndex 1\n"),
+    (
+        456,
+        &[0xb5, 0x01, 0, 0, 0, 0, 0, 0],
+        "image 7 TableTwice 0 1\n",
+    ),
+    (448, &[1, 2], "image 6 TableIndex 0\n"),
+];
+
+#[test]
+fn each_refusal_of_a_table_has_its_line(rt: HostRuntime) -> Result<(), Fail> {
+    let alloc = rt.alloc();
+    let mut shelf = saved(&rt, alloc, JOURNAL)?;
+    let image = held(&rt, alloc, &mut shelf, "W");
+    assert!(rt; image.len() == 64 * 542);
+    assert!(rt; image.get(TABLE..TABLE + 8) == Some(ENTRY.as_slice()));
+    expect_refused(&rt, alloc, JOURNAL, &mut shelf, image.as_slice(), &PATCHES)?;
+    Ok(())
+}
+
+/// The image has 542 blocks.
+#[test]
+fn an_image_is_refused_at_every_length_but_its_own(rt: HostRuntime) -> Result<(), Fail> {
+    expect_at_lengths(&rt, rt.alloc(), JOURNAL, 542)?;
+    Ok(())
+}
+
+/// The limits are in cycles of the first commit and of the application behind it.
+#[test]
+fn a_run_in_pieces_ends_as_one_run(rt: HostRuntime) -> Result<(), Fail> {
+    run_in_pieces(&rt, rt.alloc(), JOURNAL, 770)?;
+    Ok(())
+}

@@ -1,0 +1,75 @@
+//! Saved images of shadow paging, and refusals of their map.
+use crate::images::{expect_at_lengths, expect_refused, held, run_in_pieces, saved};
+use crate::support::calls::{SHADOW, called, expect_on, shelf};
+use crate::support::programs::patched;
+use std::test::Fail;
+use thy_base::Shelf;
+
+/// The offset of the map of the first slot in bytes, and its eight words. The first checkpoint wrote page 6 to page 8 of the
+/// pool, which was the lowest that was free, and so the second one to page 6, which that had freed.
+const MAP: usize = 448;
+
+static WORDS: [u8; 64] = [
+    1, 0, 0, 0, 0, 0, 0, 0, 2, 0, 0, 0, 0, 0, 0, 0, 3, 0, 0, 0, 0, 0, 0, 0, 4, 0, 0, 0, 0, 0, 0, 0,
+    5, 0, 0, 0, 0, 0, 0, 0, 6, 0, 0, 0, 0, 0, 0, 0, 7, 0, 0, 0, 0, 0, 0, 0, 8, 0, 0, 0, 0, 0, 0, 0,
+];
+
+/// Bytes of the image that are other ones, with the report: the scheme's number in the header, and the map behind the record
+/// of the processor in the first slot. The pool has 16 pages.
+static PATCHES: [(usize, &[u8], &str); 5] = [
+    (56, &[1], "image 4 Geometry\n"),
+    (448, &[0], "image 6 TableIndex 0\n"),
+    (504, &[17], "image 6 TableIndex 7\n"),
+    (456, &[1], "image 7 TableTwice 0 1\n"),
+    (504, &[6], "image 7 TableTwice 5 7\n"),
+];
+
+#[test]
+fn each_refusal_of_a_map_has_its_line(rt: HostRuntime) -> Result<(), Fail> {
+    let alloc = rt.alloc();
+    let mut shelf = saved(&rt, alloc, SHADOW)?;
+    let image = held(&rt, alloc, &mut shelf, "W");
+    assert!(rt; image.len() == 64 * 1038);
+    assert!(rt; image.get(MAP..MAP + 64) == Some(WORDS.as_slice()));
+    expect_refused(&rt, alloc, SHADOW, &mut shelf, image.as_slice(), &PATCHES)?;
+    Ok(())
+}
+
+/// With nine pages the map has two blocks, and its words behind the ninth stand for no page. The pool has 17 pages.
+static PAST_THE_LAST: [(usize, &[u8], &str); 3] = [
+    (512, &[18], "image 6 TableIndex 8\n"),
+    (520, &[1], "image 6 TableIndex 9\n"),
+    (568, &[1], "image 6 TableIndex 15\n"),
+];
+
+#[test]
+fn a_map_lists_nothing_past_the_last_page(rt: HostRuntime) -> Result<(), Fail> {
+    let alloc = rt.alloc();
+    let mut shelf = shelf(alloc)?;
+    let sizes = "--pages 9 --btt 8 --ptt 8 --scheme shadow";
+    let line = format!(in alloc; "thynvm run N {sizes} --save W")?;
+    let given = called(alloc, line.as_str(), &mut shelf)?;
+    assert!(rt; given.status == 0);
+    let image = held(&rt, alloc, &mut shelf, "W");
+    let line = format!(in alloc; "thynvm resume X {sizes}")?;
+    for (at, bytes, report) in &PAST_THE_LAST {
+        let other = patched(alloc, image.as_slice(), *at, bytes)?;
+        assert!(rt; shelf.put(alloc, "X", other.as_slice()).is_ok());
+        expect_on(&rt, alloc, &mut shelf, line.as_str(), 5, report)?;
+    }
+    Ok(())
+}
+
+/// The image has 1038 blocks.
+#[test]
+fn an_image_is_refused_at_every_length_but_its_own(rt: HostRuntime) -> Result<(), Fail> {
+    expect_at_lengths(&rt, rt.alloc(), SHADOW, 1038)?;
+    Ok(())
+}
+
+/// The limits are in cycles of the copies, of the first commit and behind it.
+#[test]
+fn a_run_in_pieces_ends_as_one_run(rt: HostRuntime) -> Result<(), Fail> {
+    run_in_pieces(&rt, rt.alloc(), SHADOW, 880)?;
+    Ok(())
+}
