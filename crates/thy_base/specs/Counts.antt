@@ -10,3 +10,9 @@ next n = min (n + 1) (2 ^ 64 - 1)
 pub record Rose (old new : ℕ) : Type 0 where
   pub no_less : old ≤ new
   pub more : next old ≤ new
+
+-- it rose, by one
+pub record RoseByOne (old new : ℕ) : Type 0 where
+  pub no_less : old ≤ new
+  pub more : next old ≤ new
+  pub by_one : new ≤ old + 1

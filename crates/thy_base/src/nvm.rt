@@ -45,7 +45,7 @@ pub enum FitError {
 /// that was queued for it, each place by itself.
 ///
 /// Only `fit` allocates, also for what the cuts to come keep. Every `fit` counts, except that one which is
-/// out of memory may not. A call that fails counts a fault, unless it was out of memory, and leaves the device
+/// out of memory may not. A call that fails counts one fault, unless it was out of memory, and leaves the device
 /// down until it is fitted again or its power is cut. Writes that succeed are counted since the last fit. All these
 /// counts saturate at the last value of a `u64`.
 pub trait Nvm {

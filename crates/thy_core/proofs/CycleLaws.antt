@@ -2,7 +2,7 @@
 use Rattle.std.proofs.Common.{◌≡◌, ◌≢◌, ◌⊎◌, ℕ, ◌-◌, ◌<◌, ◌≤◌, Bool, List, true, false, if◌then◌else◌, length, Option, Some, None, Result, Ok, Err, IsErr, IfOk, OnErr, true≢false, refl, sym, ◌∙◌, ap, subst, inl, inr, arith}
 use Rattle.thy_base.specs.declared.cause.EndCause.{EndCause}
 use Rattle.thy_base.specs.declared.nvm.NvmError.{NvmError}
-use Rattle.thy_base.specs.Counts.{Rose}
+use Rattle.thy_base.specs.Counts.{RoseByOne}
 use Rattle.thy_base.specs.Device.{Device, HasFailed, IsFramed, drained}
 use Rattle.thy_base.specs.Geometry.{memory_blocks}
 use Rattle.thy_cache.specs.declared.line.Flushed.{Flushed}
@@ -446,13 +446,13 @@ framed_once K device a b x y (inl same) = subst (λ z. IsFramed (device x) (devi
 framed_once K device a b x y (inr once) = once.access.frame
 
 -- one that failed left the NVM down
-down_now : (old new : Bool) → old ≡ false → Rose (if old then 1 else 0) (if new then 1 else 0) → new ≡ true
+down_now : (old new : Bool) → old ≡ false → RoseByOne (if old then 1 else 0) (if new then 1 else 0) → new ≡ true
 down_now old true up rose = refl
 down_now true false up rose = absurd (cc)
 down_now false false up rose = absurd (let more = rose.more in omega (arith, more))
 
 pub failed_once : {S N : Type 0} (K : SchemeOf S) (device : N → Device) (a b : SchemeStore S) (x y : N) → (device x).down ≡ false
-    → CalledOnce K device a x b y → Rose (failed_calls (device x)) (failed_calls (device y))
+    → CalledOnce K device a x b y → RoseByOne (failed_calls (device x)) (failed_calls (device y))
     → IsOneCall K a.scheme (device x) b.scheme (device y) × ((device y).down ≡ true)
 failed_once K device a b x y up (inl same) rose =
     let down = down_now (device x).down (device y).down up rose in
@@ -518,7 +518,7 @@ hart_call K device o p b x y h c step input free way i f w s once stays untouche
 -- a cycle whose call failed, by what the exit of the call returns
 pub taken_err : {S : Type 0} (K : SchemeOf S) (P : Origin → Type 0) (actor : Actor) (m next : Machine S) (n new : Device) (r : Result Did NvmError) → IsErr r
     → ((o : Origin) (cycles : ℕ) → P o → IsMoment K o cycles m n → IsTurnOf K o m n actor → HasFailedAs K o actor m next n new)
-    → IsFramed n new → Rose n.faults new.faults → HasTaken K P actor m n next new r
+    → IsFramed n new → RoseByOne n.faults new.faults → HasTaken K P actor m n next new r
 taken_err K P actor m next n new (Ok did) is fails frame rose = absurd (true≢false (sym is))
 taken_err K P actor m next n new (Err e) is fails frame rose = record { simulates = λ o cycles q at turn. tt; fails = fails; frame = frame; cause = rose }
 

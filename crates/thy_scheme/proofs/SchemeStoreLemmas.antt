@@ -2,7 +2,7 @@
 use Rattle.std.proofs.Common.{◌≡◌, ℕ, ◌<◌, Bool, true, false, length, Result, Ok, Err, OnOk, OnErr, refl, ap, ◌∙◌, inl, arith, if◌then◌else◌}
 use Rattle.thy_base.specs.declared.block.Block.{Block}
 use Rattle.thy_base.specs.declared.nvm.NvmError.{NvmError}
-use Rattle.thy_base.specs.Counts.{Rose}
+use Rattle.thy_base.specs.Counts.{RoseByOne}
 use Rattle.thy_base.specs.Device.{Device, HasFailed, IsFramed, CountsFault}
 use Rattle.thy_view.specs.Action.{ReadAt}
 use Rattle.thy_scheme.specs.Scheme.{SchemeOf}
@@ -39,7 +39,7 @@ load_once K l s n new b (Err e) inside stays frame same failed = record {
 
 -- a call that failed is counted
 pub failure_counts : {T : Type 0} (result : Result T NvmError) (n new : Device) → OnOk result (new.down ≡ false) → CountsFault result n.faults new.faults
-    → new.down ≡ true → Rose n.faults new.faults
+    → new.down ≡ true → RoseByOne n.faults new.faults
 failure_counts (Ok x) n new up counts dead = absurd (cc)
 failure_counts (Err e) n new up counts dead = counts
 
@@ -49,9 +49,9 @@ pub load_up : {S : Type 0} (K : SchemeOf S) (l : IsLawful K) (s : S) (n new : De
 load_up K l s n new b (Ok block) inside same = ap (λ (d : Device). d.down) same ∙ l.up s n b inside
 load_up K l s n new b (Err e) inside same = tt
 
-pub rises : (old new : Bool) → old ≡ false → new ≡ true → Rose (if old then 1 else 0) (if new then 1 else 0)
+pub rises : (old new : Bool) → old ≡ false → new ≡ true → RoseByOne (if old then 1 else 0) (if new then 1 else 0)
 rises true new o n = absurd (cc)
-rises false true o n = record { no_less = omega arith; more = omega arith }
+rises false true o n = record { no_less = omega arith; more = omega arith; by_one = omega arith }
 rises false false o n = absurd (cc)
 
 pub load_counts : {S : Type 0} (K : SchemeOf S) (l : IsLawful K) (s : S) (n new : Device) (b : ℕ) (result : Result Block NvmError)

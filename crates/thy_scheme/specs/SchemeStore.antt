@@ -1,7 +1,7 @@
 -- Part of the claim.
 -- A scheme as a store of blocks.
 use Rattle.std.specs.Prelude.{◌≡◌, ℕ, true, if◌then◌else◌}
-use Rattle.thy_base.specs.Counts.{Rose}
+use Rattle.thy_base.specs.Counts.{RoseByOne}
 use Rattle.thy_base.specs.Device.{Device}
 use Rattle.thy_base.specs.Store.{Holding}
 use Rattle.thy_scheme.specs.Scheme.{SchemeOf}
@@ -10,7 +10,7 @@ use Rattle.thy_scheme.specs.Calls.{IsOneAccess}
 -- one load or store, whose failure the NVM has counted
 pub record IsOneCall {S : Type 0} (K : SchemeOf S) (s : S) (n : Device) (t : S) (new : Device) : Type 0 where
   pub access : IsOneAccess K s n t new
-  pub counted : new.down ≡ true → Rose n.faults new.faults
+  pub counted : new.down ≡ true → RoseByOne n.faults new.faults
 
 -- how many calls have failed since power came on: none, or one, after which no call is made any more
 abbrev pub failed_calls : Device → ℕ
