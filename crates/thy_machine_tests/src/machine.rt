@@ -11,9 +11,9 @@ mod journal;
 mod shadow;
 mod waiting;
 
-use crate::plain::{image_of, start_with};
 use crate::support::expect::{expect, expect_at};
 use crate::support::geometry::geometry_of;
+use crate::support::starts::{image_of, start_with};
 use std::alloc::Global;
 use std::marker::Model;
 use std::process::Abort;

@@ -1,14 +1,14 @@
-//! Tests of single crates, by their calls. They promise nothing that is proved; they show what no contract says: tables
-//! from outside, printed text, and rows worked out by hand.
+//! Tests of single crates, by their calls: devices, the cache, tables, counts, epochs, spans, files and streams. They
+//! promise nothing that is proved; they show what no contract says: what an operating system answers, and rows worked out
+//! by hand.
 //!
 //! Open src/lib.rt's list of files first, then the file of the crate in question. specs/ has what is asked of the values
-//! that tests pass on. It depends on the crates that it tests; nothing depends on it.
+//! that tests pass on. It depends on the crates that it tests; nothing depends on it. thy_format_tests has the tests of
+//! what reads and writes formats.
 #![tactic(auto)]
 
 #[cfg(test)]
 mod cache;
-#[cfg(test)]
-mod calls;
 #[cfg(test)]
 mod counts;
 #[cfg(test)]
@@ -16,17 +16,9 @@ mod crash;
 #[cfg(test)]
 mod dram;
 #[cfg(test)]
-mod elf;
-#[cfg(test)]
 mod epochs;
 #[cfg(test)]
 mod flat;
-#[cfg(test)]
-mod image;
-#[cfg(test)]
-mod isa;
-#[cfg(test)]
-mod isa_rows;
 #[cfg(test)]
 mod nvm;
 #[cfg(test)]
@@ -38,12 +30,6 @@ mod out_reader;
 #[cfg(test)]
 mod out_sink;
 #[cfg(test)]
-mod record;
-#[cfg(test)]
 mod support;
 #[cfg(test)]
 mod tables;
-#[cfg(test)]
-mod text;
-#[cfg(test)]
-mod words;

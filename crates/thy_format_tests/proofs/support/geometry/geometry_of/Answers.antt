@@ -2,7 +2,7 @@ use Rattle.std.proofs.Common.{sym, ◌∙◌}
 use Rattle.thy_base.specs.Config.{fault_of}
 use Rattle.thy_base.specs.Geometry.{parameters_of}
 use Rattle.thy_base.proofs.RangeLemmas.{geometry_or-same}
-use Rattle.thy_tests.proofs.support.geometry.geometry_of.Goals as goal
+use Rattle.thy_format_tests.proofs.support.geometry.geometry_of.Goals as goal
 
 pub returns : goal.returns
 returns g c =

@@ -37,7 +37,7 @@ struct Scarce {
 
 impl BlockStore<()> for Scarce {
     ghost use Rattle.std.specs.Prelude.{◌≡◌, not};
-    ghost use Rattle.thy_machine_tests.specs.Scarce.{scarce};
+    ghost use Rattle.thy_plain_tests.specs.Scarce.{scarce};
 
     ghost holding = { λ s n. scarce s.blocks.items s.free s.copies s.page };
 
