@@ -46,7 +46,7 @@ use Rattle.thy_boot_laws.proofs.LoadingLemmas.{unread-at, loads_if_none}
 use Rattle.thy_boot_laws.proofs.PowerLemmas.{own_has_mark, new-is_boot}
 use Rattle.thy_dual_laws.specs.Boots.{Boots, IsUnderWay, IsPowered}
 use Rattle.thy_dual_laws.specs.Dual.{Dual}
-use Rattle.thy_dual_laws.specs.Laws.{BootIsSound, PowerFinds, PowerIsNew, ZerosAreNothing}
+use Rattle.thy_boot_laws.specs.Schemes.{BootIsSound, PowerFinds, PowerIsNew, ZerosAreNothing}
 use Rattle.thy_dual_laws.specs.Scheme.{dual_scheme}
 use Rattle.thy_dual_laws.proofs.SafeLemmas.{Safe-read}
 
@@ -168,7 +168,7 @@ module _ (o : Origin) (s : Dual) (n : Device) (boots : Boots o s n) where
         settled-by o boots.images n s.boot.boot s.control s.boot.migration m boots.under_way (sym (ap (λ (v : View). v.done) seen) ∙ found) idle;
   }
 
-pub boot_is_sound : BootIsSound
+pub boot_is_sound : BootIsSound dual_scheme
 boot_is_sound o s n booting = boot-holds o s n booting.boots
 
 -- ---- drains of the DRAM
@@ -246,17 +246,17 @@ module _ (o : Origin) (s : Dual) (n : Device) (origin : IsOrigin o) (powered : I
   boots-found : BootsFound dual_scheme o s n
   boots-found = record { boots = boots-first; view = ap (λ (b : Booting). view_at decode_image o b.stage n) powered.boot_is }
 
-pub power_finds : PowerFinds
+pub power_finds : PowerFinds dual_scheme
 power_finds o s n origin powered found = boots-found o s n origin powered found
 
-pub power_is_new : PowerIsNew
+pub power_is_new : PowerIsNew dual_scheme
 power_is_new p s powered = record {
   queued = ap (λ (c : State). c.dram.queued) powered.controller ∙ powered.is_dram.empty;
   boot_left = subst (λ (w : Option Migration). left_at w s.boot.boot ≤ dual_scheme.most_booting p) (sym powered.no_migration)
       (subst (λ (b : Booting). left_at None b ≤ dual_scheme.most_booting p) (sym powered.boot_is) (omega arith));
 }
 
-pub zeros_are_nothing : ZerosAreNothing
+pub zeros_are_nothing : ZerosAreNothing dual_scheme
 zeros_are_nothing p shape n same =
     let some : 1 < shape.blocks - 0 = omega (arith, same) in
     let long : length (fitted shape [] n).image ≡ image_blocks p = length-replicate (shape.blocks - 0) zero_block ∙ omega (arith, same) in

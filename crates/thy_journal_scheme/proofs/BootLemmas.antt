@@ -29,7 +29,7 @@ use Rattle.thy_refill.specs.Filling.{filling_journal, IsFresh}
 use Rattle.thy_refill.proofs.LawLemmas.{log_is_filled}
 use Rattle.thy_journal_laws.specs.Journal.{Journal as Value}
 use Rattle.thy_journal_scheme.specs.Boots.{Boots, IsPowered}
-use Rattle.thy_journal_scheme.specs.Laws.{BootIsSound, PowerFinds}
+use Rattle.thy_boot_laws.specs.Schemes.{BootIsSound, PowerFinds}
 use Rattle.thy_journal_scheme.specs.Scheme.{journal_scheme}
 use Rattle.thy_journal_scheme.proofs.PowerLemmas.{IsFresh-new}
 
@@ -85,7 +85,7 @@ module _ (o : Origin) (s : Value) (n : Device) (boots : Boots o s n) where
         (sym (ap (λ (v : View). v.done) (view-is o s n boots)) ∙ found);
   }
 
-pub boot_is_sound : BootIsSound
+pub boot_is_sound : BootIsSound journal_scheme
 boot_is_sound o s n booting = boot-holds o s n booting.boots
 
 -- ---- drains of the DRAM
@@ -158,7 +158,7 @@ module _ (o : Origin) (s : Value) (n : Device) (origin : IsOrigin o) (powered : 
   boots-found : BootsFound journal_scheme o s n
   boots-found = record { boots = boots-first; view = ap (λ (b : Booting). view_at decode_journal o b.stage n) powered.boot }
 
-pub power_finds : PowerFinds
+pub power_finds : PowerFinds journal_scheme
 power_finds o s n origin powered found = boots-found o s n origin powered found
 
 -- ---- whether it loads

@@ -23,7 +23,7 @@ use Rattle.thy_journal_scheme.specs.Scheme.{journal_scheme}
 use Rattle.thy_journal_scheme.proofs.BootLemmas.{boot_is_sound, power_finds}
 use Rattle.thy_journal_scheme.proofs.HoldsLemmas.{run_is_sound}
 use Rattle.thy_journal_scheme.proofs.PowerLemmas.{power_is_new, zeros_are_nothing}
-use Rattle.thy_journal_scheme.proofs.StayLemmas.{held_is_up, same-stays, on-stays, of-stays, stays_keep}
+use Rattle.thy_journal_scheme.proofs.StayLemmas.{held_is_up, ready_is_up, same-stays, on-stays, of-stays, stays_keep}
 use Rattle.thy_journal_image.specs.Layout.{decode_journal}
 
 -- ---- power can come on
@@ -89,8 +89,8 @@ lawful = record {
   boot_holds = boot_is_sound;
   boot_alike = λ o turns s n. alike_at decode_journal o turns s.boot.stage n;
   run_holds = run_is_sound;
-  up = held_is_up.0;
-  ready_up = held_is_up.1;
+  up = held_is_up;
+  ready_up = ready_is_up;
   ready_whole = λ s n ready. refl;
   free_is = λ s n. refl;
   queued_is = λ s. refl;

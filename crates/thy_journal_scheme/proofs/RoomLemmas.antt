@@ -6,7 +6,8 @@ use Rattle.thy_cache.specs.Contents.{dirty_count}
 use Rattle.thy_view.specs.declared.view.Phase.{Phase}
 use Rattle.thy_core_laws.specs.Sound.{SoundIn, SoundRun, IsFresh, StartsFresh}
 use Rattle.thy_boot_laws.proofs.RoomLemmas.{no-shortage}
-use Rattle.thy_journal_scheme.specs.Laws.{EntriesAreFree, FirstHasRoom}
+use Rattle.thy_boot_laws.specs.Schemes.{FirstHasRoom}
+use Rattle.thy_journal_scheme.specs.Laws.{EntriesAreFree}
 use Rattle.thy_journal_scheme.specs.Scheme.{journal_scheme}
 use Rattle.thy_journal_scheme.proofs.HoldsLemmas.{some-free}
 
@@ -14,7 +15,7 @@ pub entries_are_free : EntriesAreFree
 entries_are_free o k s n stands storeless idle =
     stands.sound.rest storeless idle ∙ stands.sound.held.state.size ∙ ap (λ (p : Parameters). p.btt) stands.sound.held.geometry
 
-pub first_has_room : FirstHasRoom
+pub first_has_room : FirstHasRoom journal_scheme
 first_has_room o cycles m n sound runs going zero idle =
     let run : SoundRun journal_scheme o m n = subst (λ (phase : Phase). SoundIn journal_scheme o phase m n) runs sound.moment in
     let dirty : ℕ = dirty_count m.cache in

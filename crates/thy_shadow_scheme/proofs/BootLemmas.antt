@@ -29,7 +29,7 @@ use Rattle.thy_repool.specs.Filling.{filling_shadow, IsFresh}
 use Rattle.thy_repool.proofs.LawLemmas.{pool_is_listed}
 use Rattle.thy_shadow_laws.specs.Shadow.{Shadow as Value}
 use Rattle.thy_shadow_scheme.specs.Boots.{Boots, IsPowered}
-use Rattle.thy_shadow_scheme.specs.Laws.{BootIsSound, PowerFinds}
+use Rattle.thy_boot_laws.specs.Schemes.{BootIsSound, PowerFinds}
 use Rattle.thy_shadow_scheme.specs.Scheme.{shadow_scheme}
 use Rattle.thy_shadow_scheme.proofs.PowerLemmas.{IsFresh-new}
 
@@ -85,7 +85,7 @@ module _ (o : Origin) (s : Value) (n : Device) (boots : Boots o s n) where
         (sym (ap (λ (v : View). v.done) (view-is o s n boots)) ∙ found);
   }
 
-pub boot_is_sound : BootIsSound
+pub boot_is_sound : BootIsSound shadow_scheme
 boot_is_sound o s n booting = boot-holds o s n booting.boots
 
 -- ---- drains of the DRAM
@@ -160,7 +160,7 @@ module _ (o : Origin) (s : Value) (n : Device) (origin : IsOrigin o) (powered : 
   boots-found : BootsFound shadow_scheme o s n
   boots-found = record { boots = boots-first; view = ap (λ (b : Booting). view_at decode_shadow o b.stage n) powered.boot }
 
-pub power_finds : PowerFinds
+pub power_finds : PowerFinds shadow_scheme
 power_finds o s n origin powered found = boots-found o s n origin powered found
 
 -- ---- whether it loads

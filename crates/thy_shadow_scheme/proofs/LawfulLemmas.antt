@@ -27,7 +27,7 @@ use Rattle.thy_shadow_scheme.specs.Scheme.{shadow_scheme}
 use Rattle.thy_shadow_scheme.proofs.BootLemmas.{boot_is_sound, power_finds}
 use Rattle.thy_shadow_scheme.proofs.HoldsLemmas.{run_is_sound}
 use Rattle.thy_shadow_scheme.proofs.PowerLemmas.{power_is_new, zeros_are_nothing}
-use Rattle.thy_shadow_scheme.proofs.StayLemmas.{held_is_up, same-stays, on-stays, of-stays, stays_keep}
+use Rattle.thy_shadow_scheme.proofs.StayLemmas.{held_is_up, ready_is_up, same-stays, on-stays, of-stays, stays_keep}
 
 -- ---- power can come on
 
@@ -98,8 +98,8 @@ lawful = record {
   boot_holds = boot_is_sound;
   boot_alike = λ o turns s n. alike_at decode_shadow o turns s.boot.stage n;
   run_holds = run_is_sound;
-  up = held_is_up.0;
-  ready_up = held_is_up.1;
+  up = held_is_up;
+  ready_up = ready_is_up;
   ready_whole = λ s n ready. refl;
   free_is = λ s n. refl;
   queued_is = λ s. refl;

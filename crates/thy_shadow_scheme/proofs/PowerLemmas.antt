@@ -23,7 +23,8 @@ use Rattle.thy_pool.proofs.TableLemmas.{table_by-same}
 use Rattle.thy_repool.specs.Filling.{filling_shadow, first_table, IsFresh}
 use Rattle.thy_shadow_laws.specs.Shadow.{Shadow as Value}
 use Rattle.thy_shadow_scheme.specs.Boots.{IsPowered}
-use Rattle.thy_shadow_scheme.specs.Laws.{PowerIsNew, ZerosAreNothing}
+use Rattle.thy_boot_laws.specs.Schemes.{PowerIsNew, ZerosAreNothing}
+use Rattle.thy_shadow_scheme.specs.Scheme.{shadow_scheme}
 
 -- ---- a new pool has every page of memory in the page of the pool with its number
 
@@ -52,7 +53,7 @@ IsFresh-new p s powered state = record {
 
 -- ---- what is left to do
 
-pub power_is_new : PowerIsNew
+pub power_is_new : PowerIsNew shadow_scheme
 power_is_new p s powered = record {
   queued = ap (λ (l : State). l.dram.queued) powered.pool ∙ powered.is_dram.empty;
   boot_left =
@@ -60,7 +61,7 @@ power_is_new p s powered = record {
       (sym powered.boot) (omega arith);
 }
 
-pub zeros_are_nothing : ZerosAreNothing
+pub zeros_are_nothing : ZerosAreNothing shadow_scheme
 zeros_are_nothing p shape n same =
     let some : 1 < shape.blocks - 0 = omega (arith, same) in
     decode_by-zero (shadow_layouts p ceiling) (fitted shape [] n).image

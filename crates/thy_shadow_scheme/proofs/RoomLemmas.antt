@@ -6,7 +6,8 @@ use Rattle.thy_cache.specs.Contents.{dirty_count}
 use Rattle.thy_view.specs.declared.view.Phase.{Phase}
 use Rattle.thy_core_laws.specs.Sound.{SoundIn, SoundRun, IsFresh, StartsFresh}
 use Rattle.thy_boot_laws.proofs.RoomLemmas.{no-shortage}
-use Rattle.thy_shadow_scheme.specs.Laws.{FramesAreFree, FirstHasRoom}
+use Rattle.thy_boot_laws.specs.Schemes.{FirstHasRoom}
+use Rattle.thy_shadow_scheme.specs.Laws.{FramesAreFree}
 use Rattle.thy_shadow_scheme.specs.Scheme.{shadow_scheme}
 use Rattle.thy_shadow_scheme.proofs.HoldsLemmas.{some-free}
 
@@ -14,7 +15,7 @@ pub frames_are_free : FramesAreFree
 frames_are_free o k s n stands storeless idle =
     stands.sound.rest storeless idle ∙ stands.sound.held.state.frames_size ∙ ap (λ (p : Parameters). p.ptt) stands.sound.held.geometry
 
-pub first_has_room : FirstHasRoom
+pub first_has_room : FirstHasRoom shadow_scheme
 first_has_room o cycles m n sound runs going zero idle =
     let run : SoundRun shadow_scheme o m n = subst (λ (phase : Phase). SoundIn shadow_scheme o phase m n) runs sound.moment in
     let dirty : ℕ = dirty_count m.cache in
