@@ -32,13 +32,10 @@ use Rattle.thy_boot.proofs.NearerLemmas.{left_most}
 use Rattle.thy_boot.proofs.SafeLemmas.{read_failed}
 use Rattle.thy_boot_laws.specs.Seen.{view_at, has_read_at}
 use Rattle.thy_boot_laws.specs.Laws.{FewerHasRead, FoundFailsUnwritten}
-use Rattle.thy_boot_laws.proofs.ViewLemmas.{loads-first}
+use Rattle.thy_boot_laws.proofs.ViewLemmas.{loads-first, none-done}
 
 no-false : false ≡ true → ⊥
 no-false e = cc
-
-none-done : (m : Mark) → None ≡ Some m → ⊥
-none-done m d = cc
 
 pub not-unread : (q : Stage) → has_read_at q ≡ true → q ≡ Reads Unread → ⊥
 not-unread q read is = no-false (sym (ap has_read_at is) ∙ read)

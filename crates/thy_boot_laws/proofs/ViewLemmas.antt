@@ -67,7 +67,7 @@ module _ (o : Origin) (l : Layout) (g : BootImages) where
   sized-at n (Loads issue) going keeps = keeps.sized
   sized-at n (Over end) going keeps = absurd going
 
-none-done : (m : Mark) → None ≡ Some m → ⊥
+pub none-done : (m : Mark) → None ≡ Some m → ⊥
 none-done m d = cc
 
 -- ---- over any filling
