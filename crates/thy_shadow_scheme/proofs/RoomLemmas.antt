@@ -1,11 +1,7 @@
 -- An epoch begins with every frame free, so its first instruction has room.
-use Rattle.std.proofs.Common.{◌≡◌, ℕ, Option, ◌∙◌, ap, subst}
-use Rattle.thy_base.specs.declared.cause.EndCause.{EndCause}
+use Rattle.std.proofs.Common.{◌∙◌, ap}
 use Rattle.thy_base.specs.declared.config.Parameters.{Parameters}
-use Rattle.thy_cache.specs.Contents.{dirty_count}
-use Rattle.thy_view.specs.declared.view.Phase.{Phase}
-use Rattle.thy_core_laws.specs.Sound.{SoundIn, SoundRun, IsFresh, StartsFresh}
-use Rattle.thy_boot_laws.proofs.RoomLemmas.{no-shortage}
+use Rattle.thy_boot_laws.proofs.RoomLemmas.{first-room}
 use Rattle.thy_boot_laws.specs.Schemes.{FirstHasRoom}
 use Rattle.thy_shadow_scheme.specs.Laws.{FramesAreFree}
 use Rattle.thy_shadow_scheme.specs.Scheme.{shadow_scheme}
@@ -16,11 +12,5 @@ frames_are_free o k s n stands storeless idle =
     stands.sound.rest storeless idle ∙ stands.sound.held.state.frames_size ∙ ap (λ (p : Parameters). p.ptt) stands.sound.held.geometry
 
 pub first_has_room : FirstHasRoom shadow_scheme
-first_has_room o cycles m n sound runs going zero idle =
-    let run : SoundRun shadow_scheme o m n = subst (λ (phase : Phase). SoundIn shadow_scheme o phase m n) runs sound.moment in
-    let dirty : ℕ = dirty_count m.cache in
-    let fresh : m.hart.epoch.retired ≡ 0 → IsFresh m.hart.hand dirty m.scheme.storeless
-    = subst (λ (over : Option EndCause). StartsFresh over m.hart.epoch.retired m.hart.hand dirty m.scheme.storeless)
-    going run.paced.fresh in
-    no-shortage (shadow_scheme.free m.scheme) dirty m.scheme.storeless m.hart.hand (fresh zero)
-    (λ storeless. some-free m.scheme.pool run.checkpoints.held.state (run.checkpoints.rest storeless idle))
+first_has_room =
+    first-room shadow_scheme (λ o k s n sound storeless idle. some-free s.pool sound.held.state (sound.rest storeless idle))
