@@ -1,5 +1,5 @@
 -- A step of the boot.
-use Rattle.std.proofs.Common.{◌≡◌, ◌≢◌, ℕ, ◌+◌, ◌≤◌, ◌||◌, nat_lt, Bool, true, false, is_some, if◌then◌else◌, List, length, refl, sym, ◌∙◌, ap, subst, inl, arith, Option, Some, None, Result, Ok, Err, IfOk, OnErr}
+use Rattle.std.proofs.Common.{◌≡◌, ◌≢◌, ℕ, ◌+◌, ◌≤◌, ◌||◌, nat_lt, Bool, true, false, is_some, if◌then◌else◌, List, refl, sym, ◌∙◌, ap, subst, inl, arith, Option, Some, None, Result, Ok, Err, IfOk, OnErr}
 use Rattle.std.proofs.lemmas.Bool.{false_from_ne_true}
 use Rattle.thy_base.specs.declared.block.Block.{Block}
 use Rattle.thy_base.specs.declared.config.Parameters.{Parameters}
@@ -7,7 +7,7 @@ use Rattle.thy_base.specs.declared.layout_version.LayoutVersion.{LayoutVersion}
 use Rattle.thy_base.specs.declared.layout_version.LayoutVersion.TheVariants.{VersionOne, VersionTwo}
 use Rattle.thy_base.specs.declared.mark.Mark.{Mark}
 use Rattle.thy_base.specs.declared.nvm.NvmError.{NvmError}
-use Rattle.thy_base.specs.Device.{Device, HasFailed, IsFramed}
+use Rattle.thy_base.specs.Device.{Device, IsFramed}
 use Rattle.thy_base.specs.Marks.{mark}
 use Rattle.thy_base.specs.Places.{slot_blocks, image_blocks}
 use Rattle.thy_crash.specs.Saved.{Kept}
@@ -21,7 +21,7 @@ use Rattle.thy_record.specs.Cpu.{cpu_of_record}
 use Rattle.thy_record.specs.Images.{decode_image}
 use Rattle.thy_control.specs.State.{State, AreSoundTables, IsSized}
 use Rattle.thy_control.proofs.HoldingLemmas.{works-sized}
-use Rattle.thy_protocol.specs.Keeps.{Keeps, finding_view}
+use Rattle.thy_protocol.specs.Keeps.{Keeps}
 use Rattle.thy_protocol.specs.Moves.{IsKeeping}
 use Rattle.thy_protocol.specs.DualLayouts.{layout_of}
 use Rattle.thy_view.specs.declared.boot_step.BootStep.{BootStep}
@@ -29,7 +29,7 @@ use Rattle.thy_view.specs.declared.boot_step.BootStep.TheVariants.{GoesOn, Resta
 use Rattle.thy_view.specs.declared.did.Did.TheVariants.{Boot}
 use Rattle.thy_view.specs.declared.view.View.{View}
 use Rattle.thy_view.specs.Action.{Action, Rest, ReadAt, WriteAt, Barrier, Drain, after, FailsTo, IsRead, IsBootAction, EndsRestart, AsksBy, ActsBy, Acts, is_commit_write, doubt_after_fault}
-use Rattle.thy_view.specs.Booting.{boot_view, loading_view, boot_did}
+use Rattle.thy_view.specs.Booting.{boot_view, boot_did}
 use Rattle.thy_view.specs.CoreStep.{BootsTo, CoreStep}
 use Rattle.thy_view.specs.Dram.{ActsOnDram}
 use Rattle.thy_view.specs.Origin.{Origin, Begins}
@@ -45,14 +45,11 @@ use Rattle.thy_boot.specs.declared.stage.End.TheVariants.{Restored, Loaded}
 use Rattle.thy_boot.specs.Boot.{Booting, IsBoot, slot_read, answer_at, answer_of}
 use Rattle.thy_boot.specs.Left.{boot_left}
 use Rattle.thy_boot.specs.Laws.{IsGoing, IsMoved, failed_answer}
-use Rattle.thy_boot.specs.Loads.{issue_action}
 use Rattle.thy_boot.specs.Shows.{seen_at}
 use Rattle.thy_boot.specs.Sound.{BootImages, start_mark, first_of, standing_in_boot, images_after, IsSoundAt, IsSoundBoot as IsBootOf}
-use Rattle.thy_boot.specs.Steps.{CanStep, Steps, StepsAt, action_at, action_of, Fails}
+use Rattle.thy_boot.specs.Steps.{CanStep, Steps, action_of, Fails}
 use Rattle.thy_boot.proofs.StepMoveLemmas.{steps_move}
-use Rattle.thy_boot.proofs.SafeLemmas.{failures_move, read_failed}
-use Rattle.thy_boot.proofs.MoveLemmas.{kept_after}
-use Rattle.thy_boot.proofs.NearerLemmas.{left_most}
+use Rattle.thy_boot.proofs.SafeLemmas.{failures_move}
 use Rattle.thy_boot.proofs.FoundLemmas.{never_refused}
 use Rattle.thy_boot.specs.Recovers.{HasReadAt}
 use Rattle.thy_recover.specs.Booted.{IsStarted, LoadsState, IsBooted as IsBootedAt}
@@ -71,41 +68,15 @@ use Rattle.thy_migrate.proofs.MigrationLemmas.{migration_begins, migration_may_g
 use Rattle.thy_migrate.proofs.NearerLemmas.{come_nearer}
 use Rattle.thy_scheme.specs.Boots.{IsBooted, Loads, Restarts, Answers, BootsOn, BootFails}
 use Rattle.thy_scheme.specs.Scheme.{IsBooting, CanBoot}
-use Rattle.thy_dual_laws.specs.Boots.{Boots, IsUnderWay, view_at, has_read_at}
+use Rattle.thy_boot_laws.specs.Seen.{view_at, has_read_at}
+use Rattle.thy_boot_laws.proofs.StepLemmas.{not-unread, kept-on, WasLoading, was-loading, was-found, fewer_has_read, found_fails_unwritten, queue-on}
+use Rattle.thy_dual_laws.specs.Boots.{Boots, IsUnderWay}
 use Rattle.thy_dual_laws.specs.Booted.{IsUnused}
 use Rattle.thy_dual_laws.specs.Dual.{Dual, is_promoting}
 use Rattle.thy_dual_laws.specs.Scheme.{dual_scheme}
-use Rattle.thy_dual_laws.proofs.BootLemmas.{view-reads, view-migrates, loads-first, boot-holds}
+use Rattle.thy_dual_laws.proofs.BootLemmas.{view-reads, view-migrates, boot-holds}
 use Rattle.thy_dual_laws.proofs.BootedLemmas.{booted_is_sound, booting-whole}
 use Rattle.thy_dual_laws.proofs.SafeLemmas.{Safe-read}
-
-no-false : false ≡ true → ⊥
-no-false e = cc
-
--- ---- how far it is
-
--- no stage has more left than the first, so after a step the commit block was read
-read-on : (b d : Booting) → d.p ≡ b.p → (r : Stage) → boot_left filling_dual d r + 1 ≤ boot_left filling_dual b b.stage → has_read_at r ≡ true
-read-on b d same (Reads Unread) less =
-    let most = left_most filling_dual filling_is_lawful b b.stage in
-    let first : boot_left filling_dual d (Reads Unread) ≡ boot_left filling_dual b (Reads Unread)
-    = ap (λ (p : Parameters). boot_left filling_dual (record b { p = p }) (Reads Unread)) same in
-    absurd (omega (arith, less, most, first))
-read-on b d same (Reads ReadsHeader) less = refl
-read-on b d same (Reads (ReadsSlot next)) less = refl
-read-on b d same (Reads (Fills k)) less = refl
-read-on b d same (Reads (Refusing bad)) less = refl
-read-on b d same (Loading issue) less = refl
-read-on b d same (Over end) less = refl
-
-not-unread : (q : Stage) → has_read_at q ≡ true → q ≡ Reads Unread → ⊥
-not-unread q read is = no-false (sym (ap has_read_at is) ∙ read)
-
--- the mark that is kept stays
-kept-on : (o : Origin) (q : Stage) (n : Device) (g : BootImages) → (images_after (first_of filling_dual o) q n g).kept ≡ g.kept
-kept-on o (Reads r) n g = refl
-kept-on o (Loading issue) n g = kept_after (first_of filling_dual o) issue n g
-kept-on o (Over end) n g = refl
 
 -- ---- the controller has no checkpoint under way
 
@@ -122,35 +93,6 @@ module _ (o : Origin) (g : BootImages) (n : Device) (b : Booting) (c : State) wh
   idle-at (Loading issue) is good far = far.fresh.fresh.booting.idle
   idle-at (Over Restored) is good far = (subst (λ (x : Stage). HasReadAt filling_dual x n b c) is far.read.so_far).lists.booting.idle
   idle-at (Over Loaded) is good far = far.fresh.fresh.booting.idle
-
-  -- ---- what was seen before the boot was over
-
-  unwritten : (kept : Option Mark) → (finding_view o.start.count kept).written ≡ true → ⊥
-  unwritten None w = no-false w
-  unwritten (Some m) w = no-false w
-
-  -- if the commit block of loading was written, the run began without a checkpoint
-  abbrev WasLoading : Stage → Type 0
-  WasLoading q = (o.kept ≡ None) × (seen_at o g.kept q ≡ record (loading_view o.start.count) { written = true })
-
-  was-loading : (q : Stage) → IsGoing q → (seen_at o g.kept q).written ≡ true → IsKeeping o (layout_of o) (standing_in_boot o q g n) → WasLoading q
-  was-loading (Reads r) going w keeps = absurd (unwritten g.kept w)
-  was-loading (Loading issue) going w keeps =
-      (loads-first o g n b c issue keeps.told, ap (λ (t : Bool). record (loading_view o.start.count) { written = t }) w)
-  was-loading (Over end) going w keeps = absurd going
-
-  found-mark : (kept : Option Mark) (m : Mark) → (finding_view o.start.count kept).done ≡ Some m → finding_view o.start.count kept ≡ boot_view (Some m) None
-  found-mark None m d = cc
-  found-mark (Some k) m d = ap (λ (x : Option Mark). boot_view x None) d
-
-  none-done : (m : Mark) → None ≡ Some m → ⊥
-  none-done m d = cc
-
-  -- if a checkpoint was found, that is all that was seen
-  was-found : (q : Stage) (m : Mark) → IsGoing q → (seen_at o g.kept q).done ≡ Some m → seen_at o g.kept q ≡ boot_view (Some m) None
-  was-found (Reads r) m going d = found-mark g.kept m d
-  was-found (Loading issue) m going d = absurd (none-done m d)
-  was-found (Over end) m going d = absurd going
 
 -- ---- the boot is over
 
@@ -238,7 +180,7 @@ module _ (o : Origin) (s : Dual) (n : Device) (booting : IsBooting dual_scheme o
   same = moved.sound.geometry ∙ sym sound.geometry
 
   kept : h.kept ≡ g.kept
-  kept = kept-on o b.stage n g
+  kept = kept-on (first_of filling_dual o) b.stage n g
 
   never : (bad : BadImage) → d.stage ≢ Reads (Refusing bad)
   never bad = never_refused filling_dual filling_is_lawful o h new d e bad moved.sound
@@ -250,7 +192,7 @@ module _ (o : Origin) (s : Dual) (n : Device) (booting : IsBooting dual_scheme o
   nearer = steps_come_nearer filling_dual filling_is_lawful o.start n b s.control new d e can took good
 
   read : has_read_at d.stage ≡ true
-  read = read-on b d same d.stage nearer
+  read = fewer_has_read filling_dual filling_is_lawful b d d.stage same nearer
 
   acts : Acts (boot_did (answer_of filling_dual d)) n new
   acts = steps_act filling_dual filling_is_lawful o.start n b s.control new d e took
@@ -287,7 +229,7 @@ module _ (o : Origin) (s : Dual) (n : Device) (booting : IsBooting dual_scheme o
     storeless = boots.storeless;
   }
 
-  before : view_at o b.stage n ≡ seen_at o g.kept b.stage
+  before : view_at decode_image o b.stage n ≡ seen_at o g.kept b.stage
   before = view-reads o g n b s.control sound going
 
   abbrev v : View
@@ -295,14 +237,14 @@ module _ (o : Origin) (s : Dual) (n : Device) (booting : IsBooting dual_scheme o
 
   -- ---- it continues
 
-  goes-on : (q : Stage) → d.stage ≡ q → IsGoing q → r.migration ≡ None → BootsTo v (seen_at o g.kept q) → Boots o t new × BootsTo (view_at o b.stage n) (view_at o d.stage new)
+  goes-on : (q : Stage) → d.stage ≡ q → IsGoing q → r.migration ≡ None → BootsTo v (seen_at o g.kept q) → Boots o t new × BootsTo (view_at decode_image o b.stage n) (view_at decode_image o d.stage new)
   goes-on q is goes none to =
       let on-going : IsGoing d.stage = subst (λ (x : Stage). IsGoing x) (sym is) goes in
       let on : Boots o t new = boots-on (subst (λ (w : Option Migration). IsUnderWay w o h new d e) (sym none) (moved.sound, on-going)) in
-      let now : view_at o d.stage new ≡ seen_at o g.kept q
+      let now : view_at decode_image o d.stage new ≡ seen_at o g.kept q
       = view-reads o h new d e moved.sound on-going ∙ ap (λ (k : Option Mark). seen_at o k d.stage) kept ∙ ap (λ (x : Stage). seen_at o g.kept x) is in (
         on,
-        subst (λ (x : View). BootsTo x (view_at o d.stage new)) (sym before) (subst (λ (x : View). BootsTo v x) (sym now) to),
+        subst (λ (x : View). BootsTo x (view_at decode_image o d.stage new)) (sym before) (subst (λ (x : View). BootsTo v x) (sym now) to),
       )
 
   -- ---- it is over
@@ -310,7 +252,7 @@ module _ (o : Origin) (s : Dual) (n : Device) (booting : IsBooting dual_scheme o
   loaded : d.stage ≡ Over Loaded → Loads dual_scheme o s n t new
   loaded is =
       let shows = subst (λ (x : Stage). CoreStep o v (boot_did (answer_at filling_dual x d)) (seen_at o g.kept x)) is moved.shows in
-      let was : WasLoading o g n b s.control b.stage = was-loading o g n b s.control b.stage going shows.written sound.keeps in
+      let was : WasLoading o g b.stage = was-loading o (layout_of o) g n b.stage going shows.written sound.keeps in
       let keeps : IsKeeping o (layout_of o) (standing_in_boot o (Over Loaded) h new) = subst (λ (x : Stage). IsKeeping o (layout_of o) (standing_in_boot o x h new)) is moved.sound.keeps in
       let far : IsStarted o h new e = loaded_is_started o h new d e boots.origin moved.sound is in
       record {
@@ -321,10 +263,10 @@ module _ (o : Origin) (s : Dual) (n : Device) (booting : IsBooting dual_scheme o
 
   -- what was seen is the mark that was restored
   restored-view : d.stage ≡ Over Restored
-      → view_at o b.stage n ≡ boot_view (Some (mark (epoch_of d.commit) (cpu_of_record d.p (slot_read filling_dual d)).count)) None
+      → view_at decode_image o b.stage n ≡ boot_view (Some (mark (epoch_of d.commit) (cpu_of_record d.p (slot_read filling_dual d)).count)) None
   restored-view is =
       let shows = subst (λ (x : Stage). CoreStep o v (boot_did (answer_at filling_dual x d)) (seen_at o g.kept x)) is moved.shows in
-      before ∙ was-found o g n b s.control b.stage (mark (epoch_of d.commit) (cpu_of_record d.p (slot_read filling_dual d)).count) going shows.done
+      before ∙ was-found o g b.stage (mark (epoch_of d.commit) (cpu_of_record d.p (slot_read filling_dual d)).count) going shows.done
 
   restarted : d.stage ≡ Over Restored → version_of d.commit ≡ VersionTwo → Restarts dual_scheme o (cpu_of_record d.p (slot_read filling_dual d)) (epoch_of d.commit) s n t new
   restarted is two =
@@ -342,7 +284,7 @@ module _ (o : Origin) (s : Dual) (n : Device) (booting : IsBooting dual_scheme o
 
   -- ---- or the image that was found is of version 1
 
-  begins : d.stage ≡ Over Restored → version_of d.commit ≡ VersionOne → r.migration ≡ Some (SlotAt 0) → Boots o t new × BootsTo (view_at o b.stage n) (view_at o d.stage new)
+  begins : d.stage ≡ Over Restored → version_of d.commit ≡ VersionOne → r.migration ≡ Some (SlotAt 0) → Boots o t new × BootsTo (view_at decode_image o b.stage n) (view_at decode_image o d.stage new)
   begins is one on =
       let found = migration_begins o h new d e boots.origin moved.sound is one in
       let m : Mark = found.0 in
@@ -350,7 +292,7 @@ module _ (o : Origin) (s : Dual) (n : Device) (booting : IsBooting dual_scheme o
       let cpu : CpuState = cpu_of_record d.p (slot_read filling_dual d) in
       let same_mark : m ≡ mark (epoch_of d.commit) cpu.count
       = mark-same m (epoch_of d.commit) cpu.count (sym there.found.epoch) (count-same o m cpu new e there.has) in
-      let now : view_at o d.stage new ≡ view_at o b.stage n
+      let now : view_at decode_image o d.stage new ≡ view_at decode_image o b.stage n
       = view-migrates o m (SlotAt 0) h new d e there ∙ ap (λ (x : Mark). boot_view (Some x) None) same_mark ∙ sym (restored-view is) in
       (boots-on (subst (λ (w : Option Migration). IsUnderWay w o h new d e) (sym on) (m, there)), inl now)
 
@@ -384,23 +326,12 @@ module _ (o : Origin) (s : Dual) (n : Device) (booting : IsBooting dual_scheme o
       let back = begun-back d.stage d.commit at (sym begun ∙ on) in
       (begins back.0 back.1 (on ∙ ap Some back.2), asked-at d.stage back.0 acts)
 
-  queue-by : (q : Stage) → StepsAt filling_dual q o.start n b s.control new d e → length new.queue + e.dram.queued ≤ length n.queue + s.control.dram.queued + 1
-  queue-by (Reads x) on = omega (arith, filled.most, ap (λ (x : Device). length x.queue) on.device)
-  queue-by (Loading issue) l =
-      omega (
-        arith,
-        queue-after (issue_action (filling_dual.first b.p o.start) issue) n,
-        ap (λ (x : Device). length x.queue) l.device,
-        ap (λ (x : State). x.dram.queued) l.control,
-      )
-  queue-by (Over end) l = absurd l
-
   boot-on : BootsOn dual_scheme o (answer_of_recovery r) s n t new
   boot-on = record {
     answers = (answered r.migration refl).0;
     acts = subst (λ (w : Option Migration). ActsBy (is_some w) (boot_did (answer_of_recovery r)) n new) (sym idle) (answered r.migration refl).1;
     dram = acted.0;
-    queue = queue-by b.stage took;
+    queue = queue-on filling_dual o.start n b s.control new d e b.stage took acted.0;
     nearer = come_nearer o.start n s.boot s.control new r e
         (subst (λ (w : Option Migration). CanStepAt w o.start n s.boot s.control) (sym idle) can) steps good;
     read = read;
@@ -450,7 +381,7 @@ module _ (o : Origin) (s : Dual) (n : Device) (booting : IsBooting dual_scheme o
   abbrev after_it : Dual
   after_it = record s { boot = next_boot }
 
-  seen-now : view_at o bo.stage n ≡ boot_view (Some m) None
+  seen-now : view_at decode_image o bo.stage n ≡ boot_view (Some m) None
   seen-now = view-migrates o m at im n bo s.control h
 
   over : bo.stage ≡ Over Restored
@@ -542,13 +473,6 @@ module _ (o : Origin) (s : Dual) (n : Device) (booting : IsBooting dual_scheme o
 
 -- ---- one that failed
 
--- if a checkpoint was found a step reads, and one that failed wrote nothing
-found-reads : (o : Origin) (kept : Option Mark) (m : Mark) (b : Booting) (c : State) (n new : Device) (q : Stage) → (seen_at o kept q).done ≡ Some m
-    → FailsTo (action_at filling_dual q o.start b c) n new → HasFailed n new
-found-reads o kept m b c n new (Reads r) done f = read_failed filling_dual filling_is_lawful b c r n new f
-found-reads o kept m b c n new (Loading issue) done f = let both : None ≡ Some m = done in absurd (cc)
-found-reads o kept m b c n new (Over end) done f = absurd f
-
 none-either : (t : Bool) → (let k : Option Mark = if t then None else None in k) ≡ None
 none-either true = refl
 none-either false = refl
@@ -565,7 +489,7 @@ module _ (o : Origin) (s : Dual) (n : Device) (booting : IsBooting dual_scheme o
       = Safe-read o seen.done (doubt_after_fault action seen) new (framed.blocks ∙ (boot-holds o s n boots).sized)
       (failures_move filling_dual filling_is_lawful o boots.images n b s.control new boots.origin sound going fails framed).safe in
       let answer : BootStep = failed_answer b.stage in
-      let before : view_at o b.stage n ≡ seen = view-reads o boots.images n b s.control sound going in
+      let before : view_at decode_image o b.stage n ≡ seen = view-reads o boots.images n b s.control sound going in
       record {
         step = answer;
         acted = record {
@@ -576,7 +500,8 @@ module _ (o : Origin) (s : Dual) (n : Device) (booting : IsBooting dual_scheme o
         };
         safe = subst (λ (x : View). Safe decode_image o x.done (doubt_after_fault action x) new) (sym before) safe;
         still = λ m found waits.
-            found-reads o boots.images.kept m b s.control n new b.stage (sym (ap (λ (x : View). x.done) before) ∙ found) fails;
+            found_fails_unwritten filling_dual filling_is_lawful o boots.images.kept m b s.control n new b.stage
+            (sym (ap (λ (x : View). x.done) before) ∙ found) fails;
       }
 
   migration_fails : (at : Migration) (m : Mark) → s.boot.migration ≡ Some at → IsMigrating o m at booting.boots.images n s.boot.boot s.control

@@ -23,7 +23,7 @@ use Rattle.thy_scheme.specs.Calls.{Keeps}
 use Rattle.thy_scheme.specs.Laws.{IsBounded, RunHolds}
 use Rattle.thy_commit.proofs.HeldLemmas.{works-same}
 use Rattle.thy_dual_laws.specs.Dual.{Dual}
-use Rattle.thy_dual_laws.specs.Laws.{RunIsSound}
+use Rattle.thy_boot_laws.specs.Schemes.{RunIsSound}
 use Rattle.thy_dual_laws.specs.Scheme.{dual_scheme}
 use Rattle.thy_dual_laws.specs.Sound.{HasRoom, IsSoundDual}
 use Rattle.thy_dual_laws.specs.Stays.{StaysDual}
@@ -103,5 +103,5 @@ module _ (o : Origin) (k : CheckpointMarks) (s : Dual) (n : Device) (sound : IsS
         drained_owes = λ some. omega arith;
       }
 
-pub run_is_sound : RunIsSound
+pub run_is_sound : RunIsSound dual_scheme
 run_is_sound o k s n stands = run-holds o k s n stands.sound stands.up

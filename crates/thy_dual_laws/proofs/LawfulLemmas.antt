@@ -1,8 +1,8 @@
 -- The scheme is lawful.
-use Rattle.std.proofs.Common.{◌≡◌, ℕ, Bool, true, false, List, length, refl, arith}
+use Rattle.std.proofs.Common.{◌≡◌, ℕ, Bool, true, false, length, refl, arith}
 use Rattle.std.proofs.lemmas.List.{length-replicate}
 use Rattle.thy_base.specs.declared.config.Parameters.{Parameters}
-use Rattle.thy_base.specs.Device.{Device, zero_block}
+use Rattle.thy_base.specs.Device.{zero_block}
 use Rattle.thy_base.specs.Places.{dram_blocks}
 use Rattle.thy_cell.specs.BetweenCheckpoints.{NewIsSound}
 use Rattle.thy_dram.specs.Contents.{Contents, fresh}
@@ -10,19 +10,17 @@ use Rattle.thy_isa.specs.Step.{zero_cpu}
 use Rattle.thy_control.specs.State.{new_state}
 use Rattle.thy_control.proofs.NewLemmas.{AreSoundTables-new}
 use Rattle.thy_commit.specs.declared.stage.CheckpointStage.TheVariants.{Nothing, Slot as SlotNext}
-use Rattle.thy_boot.specs.declared.stage.Stage.{Stage}
-use Rattle.thy_boot.specs.declared.stage.Stage.TheVariants.{Reads, Loads, Over}
 use Rattle.thy_migrate.specs.Migrating.{new_recovery}
-use Rattle.thy_view.specs.Origin.{Origin}
-use Rattle.thy_view.specs.Told.{told}
 use Rattle.thy_scheme.specs.Laws.{IsLawful}
-use Rattle.thy_dual_laws.specs.Boots.{IsPowered, view_at}
+use Rattle.thy_boot_laws.proofs.ViewLemmas.{alike_at}
+use Rattle.thy_dual_laws.specs.Boots.{IsPowered}
 use Rattle.thy_dual_laws.specs.Dual.{Dual}
 use Rattle.thy_dual_laws.specs.Scheme.{dual_scheme}
 use Rattle.thy_dual_laws.proofs.BootLemmas.{boot_is_sound, power_finds, power_is_new, zeros_are_nothing}
 use Rattle.thy_dual_laws.proofs.HoldsLemmas.{run_is_sound}
 use Rattle.thy_dual_laws.proofs.StaysLemmas.{stays_keep}
 use Rattle.thy_dual_laws.proofs.StoreLemmas.{held_is_up, ready_is_whole, same-stays, on-stays, of-stays}
+use Rattle.thy_record.specs.Images.{decode_image}
 
 -- ---- power can come on
 
@@ -61,14 +59,6 @@ powered p =
       sealed_storeless = refl;
     }
 
--- ---- what is seen of a boot
-
--- it depends on the image, and on no turn
-alike_at : (o : Origin) (turns : List ℕ) (stage : Stage) (n : Device) → view_at (told o turns) stage n ≡ view_at o stage n
-alike_at o turns (Reads r) n = refl
-alike_at o turns (Loads issue) n = refl
-alike_at o turns (Over end) n = refl
-
 -- ---- the laws
 
 pub lawful : IsLawful dual_scheme
@@ -78,7 +68,7 @@ lawful = record {
   finds_nothing = zeros_are_nothing;
   finds = power_finds;
   boot_holds = boot_is_sound;
-  boot_alike = λ o turns s n. alike_at o turns s.boot.boot.stage n;
+  boot_alike = λ o turns s n. alike_at decode_image o turns s.boot.boot.stage n;
   run_holds = run_is_sound;
   up = held_is_up;
   ready_up = λ s n ready. (ready_is_whole s n ready).0;

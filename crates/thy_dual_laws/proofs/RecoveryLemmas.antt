@@ -10,19 +10,21 @@ use Rattle.thy_base.proofs.BasicLemmas.{some_same}
 use Rattle.thy_crash.specs.Fixed.{IsFixed}
 use Rattle.thy_crash.proofs.FixedLemmas.{block_at-fixed}
 use Rattle.thy_record.specs.Commit.{epoch_of, version_of}
+use Rattle.thy_record.specs.Images.{decode_image}
 use Rattle.thy_control.specs.State.{State}
 use Rattle.thy_view.specs.declared.view.View.{View}
 use Rattle.thy_view.specs.Action.{ActsBy, ActionFailedBy}
 use Rattle.thy_view.specs.Origin.{Origin}
 use Rattle.thy_boot.specs.Boot.{Booting, slot_read}
 use Rattle.thy_boot.specs.Sound.{BootImages}
+use Rattle.thy_boot_laws.specs.Seen.{view_at}
 use Rattle.thy_recover.specs.Filling.{filling_dual}
 use Rattle.thy_migrate.specs.declared.migration.Migration.{Migration}
 use Rattle.thy_migrate.specs.declared.migration.Migration.TheVariants.{Slot, Settle, Commit, Confirm}
 use Rattle.thy_migrate.specs.Migrating.{action_by}
 use Rattle.thy_migrate.specs.Sound.{IsMigrating}
 use Rattle.thy_migrate.specs.Steps.{IsAction}
-use Rattle.thy_dual_laws.specs.Boots.{IsUnderWay, view_at}
+use Rattle.thy_dual_laws.specs.Boots.{IsUnderWay}
 use Rattle.thy_dual_laws.specs.Recovery.{StepsLeaveNvm, FailuresWriteNothing, IsOfMigration, MigratesFound, MigrationWrites, VersionTwoStays}
 use Rattle.thy_dual_laws.proofs.BootLemmas.{view-migrates}
 
@@ -61,7 +63,7 @@ none_migrates : false ≡ true → ⊥
 none_migrates e = cc
 
 module _ (o : Origin) (g : BootImages) (n : Device) (b : Booting) (c : State) (found : Mark) where
-  writes-by : (w : Option Migration) → IsUnderWay w o g n b c → is_some w ≡ true → (view_at o b.stage n).done ≡ Some found
+  writes-by : (w : Option Migration) → IsUnderWay w o g n b c → is_some w ≡ true → (view_at decode_image o b.stage n).done ≡ Some found
       → (at : Migration) × (w ≡ Some at) × MigratesFound o.geometry found.epoch b at
   writes-by None way migrates done = absurd (none_migrates migrates)
   writes-by (Some at) way migrates done =

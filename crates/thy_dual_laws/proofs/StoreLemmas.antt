@@ -10,11 +10,12 @@ use Rattle.thy_control.specs.OverCalls.{stays_same, stays_on}
 use Rattle.thy_control.proofs.HoldingLemmas.{AreWorks-holding}
 use Rattle.thy_scheme.specs.Scheme.{StaysOf}
 use Rattle.thy_dual_laws.specs.Dual.{Dual, IsOf}
-use Rattle.thy_dual_laws.specs.Laws.{HeldIsUp, ReadyIsWhole, StaysOver}
+use Rattle.thy_boot_laws.specs.Schemes.{HeldIsUp, StaysOver}
+use Rattle.thy_dual_laws.specs.Laws.{ReadyIsWhole}
 use Rattle.thy_dual_laws.specs.Scheme.{dual_scheme}
 use Rattle.thy_dual_laws.specs.Stays.{RestsOn, PromotesOn, StaysDual}
 
-pub held_is_up : HeldIsUp
+pub held_is_up : HeldIsUp dual_scheme
 held_is_up s n b l = (AreWorks-holding s.control n b l).up
 
 pub ready_is_whole : ReadyIsWhole
@@ -73,5 +74,5 @@ pub of-kept : {T : Type 0} (r : Result T NvmError) (s t : Dual) â†’ t.control â‰
 of-kept (Ok x) s t same = tt
 of-kept (Err e) s t same = of-same s t same
 
-pub stays_over : StaysOver
+pub stays_over : StaysOver dual_scheme
 stays_over = (same-stays, on-stays)

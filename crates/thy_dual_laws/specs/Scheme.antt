@@ -11,8 +11,9 @@ use Rattle.thy_commit.specs.Cycles.{cycles_left, most_cycles}
 use Rattle.thy_commit.specs.Items.{is_under_way}
 use Rattle.thy_migrate.specs.Left.{recovery_left}
 use Rattle.thy_migrate.specs.Migrating.{new_recovery}
+use Rattle.thy_boot_laws.specs.Seen.{view_at, has_read_at}
 use Rattle.thy_scheme.specs.Scheme.{SchemeOf}
-use Rattle.thy_dual_laws.specs.Boots.{Boots, IsPowered, view_at, has_read_at}
+use Rattle.thy_dual_laws.specs.Boots.{Boots, IsPowered}
 use Rattle.thy_dual_laws.specs.Dual.{Dual, IsOf, is_overlaid, is_promoting, penults}
 use Rattle.thy_dual_laws.specs.Sound.{IsSoundDual}
 use Rattle.thy_dual_laws.specs.Stays.{StaysDual}
@@ -38,7 +39,7 @@ dual_scheme = record {
   free = λ s. free_count s.control.btt;
   is_sound = IsSoundDual;
   boots = Boots;
-  boot_view = λ o s n. view_at o s.boot.boot.stage n;
+  boot_view = λ o s n. view_at decode_image o s.boot.boot.stage n;
   has_read = λ s. has_read_at s.boot.boot.stage;
   migrates = λ s. is_some s.boot.migration;
   boot_left = λ s. recovery_left s.boot;

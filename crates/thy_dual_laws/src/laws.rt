@@ -1,8 +1,10 @@
 //! Laws of the scheme, each the contract of a function that does nothing.
 ghost use Rattle.thy_dual_laws.specs.Booted.{BootedIsSound};
 ghost use Rattle.thy_dual_laws.specs.Bounds.{BootsAreShort, EpochsAreShort};
-ghost use Rattle.thy_dual_laws.specs.Laws.{BootIsSound, PowerFinds, PowerIsNew, ZerosAreNothing};
-ghost use Rattle.thy_dual_laws.specs.Laws.{HeldIsUp, NothingIsBarred, ReadyIsWhole, RunIsSound, StaysKeep, StaysOver};
+ghost use Rattle.thy_boot_laws.specs.Schemes.{BootIsSound, HeldIsUp, PowerFinds, PowerIsNew, RunIsSound, StaysOver};
+ghost use Rattle.thy_boot_laws.specs.Schemes.{ZerosAreNothing};
+ghost use Rattle.thy_dual_laws.specs.Laws.{NothingIsBarred, ReadyIsWhole, StaysKeep};
+ghost use Rattle.thy_dual_laws.specs.Scheme.{dual_scheme};
 ghost use Rattle.thy_dual_laws.specs.Recovery.{FailuresWriteNothing, MigrationWrites, StepsLeaveNvm, VersionTwoStays};
 
 /// Loads and stores keep the checkpoints, those that fail too, and bring the engine no more to do.
@@ -13,7 +15,7 @@ pub fn stays_keep_the_checkpoints()
 /// After the boot, while the NVM is up, memory is held whole, what a cut may leave is safe, no number is above its maximum,
 /// and writes of the NVM may land.
 pub fn a_run_is_sound()
-    ensures { RunIsSound }
+    ensures { RunIsSound dual_scheme }
 {}
 
 /// The hart may run during every checkpoint.
@@ -30,23 +32,23 @@ pub fn where_a_boot_ends_is_sound()
 /// In the boot, whatever a cut leaves is what is seen: the checkpoint that was found, or what is loaded; writes of
 /// the NVM may land, and before the commit block was read nothing is queued in the DRAM.
 pub fn a_boot_is_sound()
-    ensures { BootIsSound }
+    ensures { BootIsSound dual_scheme }
 {}
 
 /// A scheme whose power has just come on has nothing queued in its DRAM. Over an NVM of a run that has nothing queued
 /// either it boots what the image means; one of zeros means nothing.
 pub fn a_boot_finds_the_image()
-    ensures finds { PowerFinds }
-    ensures new { PowerIsNew }
-    ensures zeros { ZerosAreNothing }
+    ensures finds { PowerFinds dual_scheme }
+    ensures new { PowerIsNew dual_scheme }
+    ensures zeros { ZerosAreNothing dual_scheme }
 {}
 
 /// As a store of blocks the scheme holds blocks, and is ready, only while the NVM is up, and is ready only if no page
 /// is being promoted. What stays over a call does so if nothing happens, and over one call after another.
 pub fn what_is_held_stays()
-    ensures up { HeldIsUp }
+    ensures up { HeldIsUp dual_scheme }
     ensures ready { ReadyIsWhole }
-    ensures over { StaysOver }
+    ensures over { StaysOver dual_scheme }
 {}
 
 /// An epoch of a machine over the scheme spends less than 64 cycles for each of its instructions, lines of the cache,

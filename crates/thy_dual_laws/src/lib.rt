@@ -2,7 +2,7 @@
 //! it, `a_run_is_sound` the first.
 //!
 //! Open specs/Dual.antt first, then specs/Sound.antt, and src/laws.rt. It depends on thy_commit, thy_migrate,
-//! thy_scheme, for one bound on thy_core_laws, and on their dependencies; thy_dual depends on it.
+//! thy_scheme, thy_boot_laws, for one bound on thy_core_laws, and on their dependencies; thy_dual depends on it.
 #![tactic(auto)]
 
 mod laws;

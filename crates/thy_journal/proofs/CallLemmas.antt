@@ -2,19 +2,14 @@
 use Rattle.std.proofs.Common.{◌≡◌, ℕ, ◌<◌, Bool, true, false, if◌then◌else◌, length, Result, Ok, Err, IfOk, OnOk, OnErr, refl, sym, ◌∙◌, ap, subst, arith}
 use Rattle.std.proofs.lemmas.List.FromFn.{length-map-range_with_len, get_or-map-range_with_len}
 use Rattle.thy_base.specs.declared.block.Block.{Block}
-use Rattle.thy_base.specs.declared.config.Parameters.{Parameters}
 use Rattle.thy_base.specs.declared.nvm.NvmError.{NvmError}
 use Rattle.thy_base.specs.Device.{Device, HasFailed, IsFramed, block_at, zero_block}
 use Rattle.thy_base.specs.Geometry.{memory_blocks}
-use Rattle.thy_base.specs.Places.{dram_blocks}
-use Rattle.thy_dram.specs.Contents.{Contents, lost}
 use Rattle.thy_isa.specs.Step.{state_of}
-use Rattle.thy_dram.proofs.DrawLemmas.{length-over}
 use Rattle.thy_record.specs.declared.engine_step.EngineStep.{EngineStep}
 use Rattle.thy_record.specs.declared.start.Start.{Start}
 use Rattle.thy_view.specs.declared.boot_step.BootStep.{BootStep}
 use Rattle.thy_view.specs.Action.{after, FailsTo}
-use Rattle.thy_view.specs.Kind.{IsDramOf}
 use Rattle.thy_view.specs.Origin.{Origin}
 use Rattle.thy_boot.specs.declared.stage.Stage.{Stage}
 use Rattle.thy_boot.specs.declared.stage.Stage.TheVariants.{Reads, Loads, Over}
@@ -26,7 +21,7 @@ use Rattle.thy_scheme.specs.Scheme.{IsBooting}
 use Rattle.thy_log.specs.Holding.{works, homes}
 use Rattle.thy_log.specs.Items.{is_applying}
 use Rattle.thy_log.specs.Progress.{Progress, Fits, action_next, engine_next, state_next, item_of}
-use Rattle.thy_log.specs.State.{State, IsSoundState, home_of, work_of}
+use Rattle.thy_log.specs.State.{State, home_of, work_of}
 use Rattle.thy_refill.specs.Filling.{filling_journal}
 use Rattle.thy_refill.proofs.LawLemmas.{log_is_filled}
 use Rattle.thy_journal_laws.specs.Journal.{Journal as Value, committed_in}
@@ -143,13 +138,3 @@ takes_boot_step start s n r t d f new is answer took = record {
   steps = took;
   others = ap (λ (x : Progress). record s { log = t; engine = x; boot = d }) is;
 }
-
--- ---- a loss of power
-
--- what is left of a DRAM of its size is one with nothing queued
-pub IsDramOf-lost : (p : Parameters) (l : State) (pick : ℕ) (d : Contents) → IsSoundState l → l.p ≡ p → l.dram.room ≡ p.dramq → d ≡ lost l.dram pick → IsDramOf p d
-IsDramOf-lost p l pick d sound same room is = subst (λ (x : Contents). IsDramOf p x) (sym is) (record {
-  blocks = length-over pick l.dram.blocks ∙ sound.dram_size ∙ ap dram_blocks same;
-  room = room;
-  empty = refl;
-})

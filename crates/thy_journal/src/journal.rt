@@ -13,13 +13,15 @@ ghost use Rattle.thy_scheme.specs.Scheme.{StaysOf, Stands, CanRun, IsBooting, Ca
 ghost use Rattle.thy_scheme.specs.Calls.{IsOneAccess, Stores, Merges, Promotes, PromotionFails, TakesNoAction, Drains, Seals, Engines, EngineFails};
 ghost use Rattle.thy_scheme.specs.Boots.{BootsOn, BootFails, BootDrains};
 ghost use Rattle.thy_scheme.specs.Restart.{WritesNothing};
+ghost use Rattle.thy_boot_laws.specs.Seen.{has_read_at, loads_at, view_at};
+ghost use Rattle.thy_journal_image.specs.Layout.{decode_journal};
 ghost use Rattle.thy_journal_image.specs.Places.{image_blocks};
 ghost use Rattle.thy_log.specs.Holding.{holding_of};
 ghost use Rattle.thy_log.specs.Items.{is_under_way, is_applying};
 ghost use Rattle.thy_journal_laws.specs.Journal.{IsOf, committed_in};
 ghost use Rattle.thy_journal_laws.specs.Stays.{StaysJournal};
 ghost use Rattle.thy_journal_laws.specs.Taken.{sealed};
-ghost use Rattle.thy_journal_scheme.specs.Boots.{Boots, IsPowered, engine_at, has_read_at, loads_at, view_at};
+ghost use Rattle.thy_journal_scheme.specs.Boots.{Boots, IsPowered, engine_at};
 ghost use Rattle.thy_journal_scheme.specs.Scheme.{journal_scheme};
 ghost use Rattle.thy_journal.specs.Calls.{IsNew, LoadsWork, LoadsCommitted, StoresInBuffer, drained, TakesItem, TakesBootStep};
 
@@ -308,7 +310,7 @@ impl Scheme for Journal {
         ensures stage { result ≡ loads_at self.now.boot.stage }
         ensures found { let stage = self.now.boot.stage in
             (o : Origin) (n : Device) → Boots o self.now n
-            → result ≡ (has_read_at stage && loads (view_at o stage n)) }
+            → result ≡ (has_read_at stage && loads (view_at decode_journal o stage n)) }
     {
         is_loading(self.boot.stage())
     }

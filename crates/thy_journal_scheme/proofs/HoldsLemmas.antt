@@ -32,7 +32,7 @@ use Rattle.thy_journal_laws.proofs.SafeLemmas.{IsSoundJournal-safe}
 use Rattle.thy_journal_laws.proofs.SealLemmas.{blocks_held}
 use Rattle.thy_journal_laws.proofs.StoreLemmas.{blocks_alike}
 use Rattle.thy_journal_laws.proofs.WorkLemmas.{works_same}
-use Rattle.thy_journal_scheme.specs.Laws.{RunIsSound}
+use Rattle.thy_boot_laws.specs.Schemes.{RunIsSound}
 use Rattle.thy_journal_scheme.specs.Scheme.{journal_scheme}
 
 -- ---- what is under way
@@ -145,5 +145,5 @@ module _ (o : Origin) (k : CheckpointMarks) (s : Value) (n : Device) (sound : Is
         drained_owes = λ some. omega arith;
       }
 
-pub run_is_sound : RunIsSound
+pub run_is_sound : RunIsSound journal_scheme
 run_is_sound o k s n stands = run-holds o k s n stands.sound stands.up

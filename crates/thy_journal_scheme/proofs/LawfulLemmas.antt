@@ -11,6 +11,7 @@ use Rattle.thy_isa.specs.Step.{zero_cpu}
 use Rattle.thy_table.specs.Listing.{IsListing, entry_at, lists, empty_table}
 use Rattle.thy_boot.specs.Boot.{new_boot}
 use Rattle.thy_scheme.specs.Laws.{IsLawful}
+use Rattle.thy_boot_laws.proofs.ViewLemmas.{alike_at}
 use Rattle.thy_log.specs.declared.entry.Listed.{Listed}
 use Rattle.thy_log.specs.declared.stage.JournalStage.TheVariants.{Nothing, Slot as SlotNext}
 use Rattle.thy_log.specs.Keys.{block_key}
@@ -19,10 +20,11 @@ use Rattle.thy_refill.specs.Filling.{filling_journal}
 use Rattle.thy_journal_laws.specs.Journal.{Journal as Value}
 use Rattle.thy_journal_scheme.specs.Boots.{IsPowered}
 use Rattle.thy_journal_scheme.specs.Scheme.{journal_scheme}
-use Rattle.thy_journal_scheme.proofs.BootLemmas.{boot_is_sound, power_finds, alike_at}
+use Rattle.thy_journal_scheme.proofs.BootLemmas.{boot_is_sound, power_finds}
 use Rattle.thy_journal_scheme.proofs.HoldsLemmas.{run_is_sound}
 use Rattle.thy_journal_scheme.proofs.PowerLemmas.{power_is_new, zeros_are_nothing}
-use Rattle.thy_journal_scheme.proofs.StayLemmas.{held_is_up, same-stays, on-stays, of-stays, stays_keep}
+use Rattle.thy_journal_scheme.proofs.StayLemmas.{held_is_up, ready_is_up, same-stays, on-stays, of-stays, stays_keep}
+use Rattle.thy_journal_image.specs.Layout.{decode_journal}
 
 -- ---- power can come on
 
@@ -85,10 +87,10 @@ lawful = record {
   finds_nothing = zeros_are_nothing;
   finds = power_finds;
   boot_holds = boot_is_sound;
-  boot_alike = λ o turns s n. alike_at o turns s.boot.stage n;
+  boot_alike = λ o turns s n. alike_at decode_journal o turns s.boot.stage n;
   run_holds = run_is_sound;
-  up = held_is_up.0;
-  ready_up = held_is_up.1;
+  up = held_is_up;
+  ready_up = ready_is_up;
   ready_whole = λ s n ready. refl;
   free_is = λ s n. refl;
   queued_is = λ s. refl;

@@ -19,7 +19,8 @@ use Rattle.thy_log.specs.State.{State, IsSoundState}
 use Rattle.thy_refill.specs.Filling.{filling_journal, IsFresh}
 use Rattle.thy_journal_laws.specs.Journal.{Journal as Value}
 use Rattle.thy_journal_scheme.specs.Boots.{IsPowered}
-use Rattle.thy_journal_scheme.specs.Laws.{PowerIsNew, ZerosAreNothing}
+use Rattle.thy_boot_laws.specs.Schemes.{PowerIsNew, ZerosAreNothing}
+use Rattle.thy_journal_scheme.specs.Scheme.{journal_scheme}
 
 pub IsFresh-new : (p : Parameters) (s : Value) → IsPowered p s → IsSoundState s.log → IsFresh s.log
 IsFresh-new p s powered state = record {
@@ -27,7 +28,7 @@ IsFresh-new p s powered state = record {
   free = λ i. ap (λ (l : State). entry_at l.table i) powered.log ∙ get_or-replicate_any {A = Option Listed} p.btt i None;
 }
 
-pub power_is_new : PowerIsNew
+pub power_is_new : PowerIsNew journal_scheme
 power_is_new p s powered = record {
   queued = ap (λ (l : State). l.dram.queued) powered.log ∙ powered.is_dram.empty;
   boot_left =
@@ -35,7 +36,7 @@ power_is_new p s powered = record {
       (sym powered.boot) (omega arith);
 }
 
-pub zeros_are_nothing : ZerosAreNothing
+pub zeros_are_nothing : ZerosAreNothing journal_scheme
 zeros_are_nothing p shape n same =
     let some : 1 < shape.blocks - 0 = omega (arith, same) in
     decode_by-zero (journal_layouts p ceiling) (fitted shape [] n).image

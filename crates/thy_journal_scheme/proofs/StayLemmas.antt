@@ -15,7 +15,7 @@ use Rattle.thy_log.specs.State.{State, IsSoundState}
 use Rattle.thy_journal_laws.specs.Journal.{Journal as Value, IsOf}
 use Rattle.thy_journal_laws.specs.Stays.{RestsOn, StaysJournal}
 use Rattle.thy_journal_laws.proofs.SafeLemmas.{stays_keep_sound}
-use Rattle.thy_journal_scheme.specs.Laws.{HeldIsUp, StaysKeep, StaysOver}
+use Rattle.thy_boot_laws.specs.Schemes.{HeldIsUp, ReadyIsUp, StaysKeep, StaysOver}
 use Rattle.thy_journal_scheme.specs.Scheme.{journal_scheme}
 
 -- ---- as a store of blocks
@@ -25,11 +25,11 @@ held_up true true blocks b l = absurd (omega (arith, l))
 held_up false true blocks b l = absurd (omega (arith, l))
 held_up sized false blocks b l = refl
 
-pub held_is_up : HeldIsUp
-held_is_up = (
-  λ s n b l. held_up (length n.image == image_blocks s.log.p) n.down (works s.log n) b l,
-  λ s n ready. not-true n.down ready,
-)
+pub held_is_up : HeldIsUp journal_scheme
+held_is_up s n b l = held_up (length n.image == image_blocks s.log.p) n.down (works s.log n) b l
+
+pub ready_is_up : ReadyIsUp journal_scheme
+ready_is_up s n ready = not-true n.down ready
 
 -- ---- over any number of calls
 
@@ -68,7 +68,7 @@ on-stays a m b n c o first second = record {
       was ∙ first.same (sym (ap (λ (d : Device). d.down) was) ∙ up);
 }
 
-pub stays_over : StaysOver
+pub stays_over : StaysOver journal_scheme
 stays_over = (same-stays, on-stays)
 
 pub of-stays : (s : Value) (n : Device) (t : Value) (new : Device) → StaysJournal s n t new → (p : Parameters) → IsOf p s → IsOf p t
@@ -97,7 +97,7 @@ idle_of : (way : Bool) → (false || not way) ≡ true → way ≡ false
 idle_of true h = cc
 idle_of false h = refl
 
-pub stays_keep : StaysKeep
+pub stays_keep : StaysKeep journal_scheme
 stays_keep o k s n t new stands free stays =
     let both = stays_keep_sound o k s n t new stands.sound (idle_of (is_under_way s.engine.next) free) stays in
     record {

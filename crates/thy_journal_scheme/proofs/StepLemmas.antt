@@ -1,13 +1,12 @@
 -- A step of the boot.
-use Rattle.std.proofs.Common.{◌≡◌, ◌≢◌, ℕ, ◌+◌, ◌≤◌, Bool, true, false, List, length, refl, sym, ◌∙◌, ap, subst, inl, inr, arith, Option, Some, None, Result, Ok, Err, IfOk, OnErr}
+use Rattle.std.proofs.Common.{◌≡◌, ◌≢◌, ℕ, ◌+◌, ◌≤◌, true, false, List, length, refl, sym, ◌∙◌, ap, subst, Option, Some, None, Result, Ok, Err, IfOk, OnErr}
 use Rattle.thy_base.specs.declared.block.Block.{Block}
 use Rattle.thy_base.specs.declared.config.Parameters.{Parameters}
 use Rattle.thy_base.specs.declared.mark.Mark.{Mark}
 use Rattle.thy_base.specs.declared.nvm.NvmError.{NvmError}
-use Rattle.thy_base.specs.Device.{Device, HasFailed, IsFramed}
+use Rattle.thy_base.specs.Device.{Device, IsFramed}
 use Rattle.thy_base.specs.Marks.{mark}
 use Rattle.thy_crash.specs.Saved.{Kept}
-use Rattle.thy_dram.specs.Contents.{Contents}
 use Rattle.thy_isa.specs.declared.state.CpuState.{CpuState}
 use Rattle.thy_isa.specs.OnBlocks.{state_from}
 use Rattle.thy_isa.specs.Step.{State as Plain, cpu_of, state_of}
@@ -17,40 +16,38 @@ use Rattle.thy_record.specs.Commit.{epoch_of}
 use Rattle.thy_record.specs.Cpu.{cpu_of_record}
 use Rattle.thy_view.specs.declared.boot_step.BootStep.{BootStep}
 use Rattle.thy_view.specs.declared.view.View.{View}
-use Rattle.thy_view.specs.Action.{Action, FailsTo, Acts, doubt_after_fault}
-use Rattle.thy_view.specs.Booting.{boot_view, loading_view, boot_did}
+use Rattle.thy_view.specs.Action.{Action, Acts, doubt_after_fault}
+use Rattle.thy_view.specs.Booting.{boot_did}
 use Rattle.thy_view.specs.CoreStep.{BootsTo, CoreStep}
 use Rattle.thy_view.specs.Dram.{ActsOnDram}
 use Rattle.thy_view.specs.Origin.{Origin, Begins, at}
 use Rattle.thy_view.specs.Safe.{ceiling, Safe}
-use Rattle.thy_protocol.specs.Keeps.{Keeps, finding_view}
+use Rattle.thy_protocol.specs.Keeps.{Keeps}
 use Rattle.thy_protocol.specs.Moves.{IsKeeping}
 use Rattle.thy_boot.specs.declared.stage.Stage.{Stage}
 use Rattle.thy_boot.specs.declared.stage.Stage.TheVariants.{Reads, Loads as Loading, Over}
 use Rattle.thy_boot.specs.declared.stage.ReadStage.TheVariants.{Unread, Header as ReadsHeader, Slot as ReadsSlot, Fills, Refusing}
 use Rattle.thy_boot.specs.declared.stage.End.TheVariants.{Restored, Loaded}
-use Rattle.thy_boot.specs.declared.stage.Issue.TheVariants.{Home, Slot, Header, Settle, Commit, Confirm}
 use Rattle.thy_boot.specs.Boot.{Booting, IsBoot, slot_read, answer_at, answer_of}
-use Rattle.thy_boot.specs.Filling.{First}
 use Rattle.thy_boot.specs.Laws.{IsGoing, IsMoved, failed_answer}
 use Rattle.thy_boot.specs.Left.{boot_left}
-use Rattle.thy_boot.specs.Loads.{issue_action}
 use Rattle.thy_boot.specs.Recovers.{IsRestored}
 use Rattle.thy_boot.specs.Shows.{seen_at}
 use Rattle.thy_boot.specs.Sound.{BootImages, first_of, start_mark, standing_in_boot, images_after, IsRecovering, IsSoundAt, IsLoaded as IsLoadedBoot}
-use Rattle.thy_boot.specs.Steps.{CanStep, Steps, StepsAt, action_at, action_of, Fails, TakesStep}
+use Rattle.thy_boot.specs.Steps.{CanStep, Steps, action_of, Fails, TakesStep}
 use Rattle.thy_boot.proofs.ActLemmas.{steps_act, found_stays, steps_fill, failures_act, steps_come_nearer}
 use Rattle.thy_boot.proofs.FoundLemmas.{restored_is_kept, never_refused}
 use Rattle.thy_boot.proofs.GoOnLemmas.{sound_may_step}
-use Rattle.thy_boot.proofs.MoveLemmas.{kept_after}
 use Rattle.thy_view.proofs.StorableAt.{IsRecordable-at}
-use Rattle.thy_view.proofs.ActionLemmas.{down-after, queue-after}
-use Rattle.thy_boot.proofs.SafeLemmas.{failures_move, read_failed}
+use Rattle.thy_view.proofs.ActionLemmas.{down-after}
+use Rattle.thy_boot.proofs.SafeLemmas.{failures_move}
 use Rattle.thy_boot.proofs.StartLemmas.{CanStart-origin}
 use Rattle.thy_boot.proofs.StepMoveLemmas.{steps_move}
 use Rattle.thy_scheme.specs.Boots.{IsBooted, Loads, Restarts, Answers, BootsOn, BootFails}
 use Rattle.thy_scheme.specs.CheckpointMarks.{only}
 use Rattle.thy_scheme.specs.Scheme.{IsBooting, CanBoot}
+use Rattle.thy_boot_laws.specs.Seen.{view_at, has_read_at}
+use Rattle.thy_boot_laws.proofs.StepLemmas.{not-unread, kept-on, WasLoading, was-loading, was-found, fewer_has_read, found_fails_unwritten, queue-on}
 use Rattle.thy_journal_image.specs.Places.{image_blocks}
 use Rattle.thy_journal_image.specs.Layout.{decode_journal, layout_of}
 use Rattle.thy_journal_image.specs.Slots.{slot_fault}
@@ -62,86 +59,10 @@ use Rattle.thy_refill.proofs.LawLemmas.{log_is_filled}
 use Rattle.thy_journal_laws.specs.Journal.{Journal as Value}
 use Rattle.thy_journal_laws.specs.Sound.{IsSoundJournal}
 use Rattle.thy_journal_laws.proofs.SealLemmas.{blocks_held}
-use Rattle.thy_journal_scheme.specs.Boots.{Boots, IsUnused, booted, engine_at, view_at, has_read_at}
+use Rattle.thy_journal_scheme.specs.Boots.{Boots, IsUnused, booted, engine_at}
 use Rattle.thy_journal_scheme.specs.Scheme.{journal_scheme}
-use Rattle.thy_journal_scheme.proofs.BootLemmas.{view-is, loads-first}
+use Rattle.thy_journal_scheme.proofs.BootLemmas.{view-is}
 use Rattle.thy_journal_scheme.proofs.EndLemmas.{restored_sound, loaded_sound}
-
-no-false : false ≡ true → ⊥
-no-false e = cc
-
--- ---- the DRAM
-
--- one write more is queued at most
-queued-by : (n new : Device) (old now : Contents) → ActsOnDram n new old now → now.queued ≤ old.queued + 1
-queued-by n new old now acts = elim acts as (λ _. now.queued ≤ old.queued + 1) [
-  | inl same ↦ omega (arith, ap (λ (d : Contents). d.queued) same)
-  | inr write ↦ omega (arith, ap (λ (d : Contents). d.queued) write.left)
-]
-
--- ---- how far it is
-
--- only a new boot has read nothing, and it has no more left than any
-read-on : (b d : Booting) (q r : Stage) → d.p ≡ b.p → boot_left filling_journal d r + 1 ≤ boot_left filling_journal b q → has_read_at r ≡ true
-read-on b d q (Reads Unread) same less = absurd (most q (subst (λ (p : Parameters). boot_left filling_journal (record d { p = p }) (Reads Unread) + 1 ≤ boot_left filling_journal b q) same less)) where
-  most : (q : Stage) → boot_left filling_journal (record d { p = b.p }) (Reads Unread) + 1 ≤ boot_left filling_journal b q → ⊥
-  most (Reads Unread) l = omega (arith, l)
-  most (Reads ReadsHeader) l = omega (arith, l)
-  most (Reads (ReadsSlot next)) l = omega (arith, l)
-  most (Reads (Fills k)) l = omega (arith, l)
-  most (Reads (Refusing bad)) l = omega (arith, l)
-  most (Loading (Home c)) l = omega (arith, l)
-  most (Loading (Slot k)) l = omega (arith, l)
-  most (Loading Header) l = omega (arith, l)
-  most (Loading Settle) l = omega (arith, l)
-  most (Loading Commit) l = omega (arith, l)
-  most (Loading Confirm) l = omega (arith, l)
-  most (Over end) l = omega (arith, l)
-read-on b d q (Reads ReadsHeader) same less = refl
-read-on b d q (Reads (ReadsSlot next)) same less = refl
-read-on b d q (Reads (Fills k)) same less = refl
-read-on b d q (Reads (Refusing bad)) same less = refl
-read-on b d q (Loading issue) same less = refl
-read-on b d q (Over end) same less = refl
-
-not-unread : (q : Stage) → has_read_at q ≡ true → q ≡ Reads Unread → ⊥
-not-unread q read is = no-false (sym (ap has_read_at is) ∙ read)
-
--- the mark that is kept stays
-kept-on : (f : First) (q : Stage) (n : Device) (g : BootImages) → (images_after f q n g).kept ≡ g.kept
-kept-on f (Reads r) n g = refl
-kept-on f (Loading issue) n g = kept_after f issue n g
-kept-on f (Over end) n g = refl
-
--- ---- what was seen before the boot was over
-
-module _ (o : Origin) (g : BootImages) (n : Device) (b : Booting) (c : State) where
-  unwritten : (kept : Option Mark) → (finding_view o.start.count kept).written ≡ true → ⊥
-  unwritten None w = no-false w
-  unwritten (Some m) w = no-false w
-
-  -- if the commit block of loading was written, the run began without a checkpoint
-  abbrev WasLoading : Stage → Type 0
-  WasLoading q = (o.kept ≡ None) × (seen_at o g.kept q ≡ record (loading_view o.start.count) { written = true })
-
-  was-loading : (q : Stage) → IsGoing q → (seen_at o g.kept q).written ≡ true → IsKeeping o (layout_of o) (standing_in_boot o q g n) → WasLoading q
-  was-loading (Reads r) going w keeps = absurd (unwritten g.kept w)
-  was-loading (Loading issue) going w keeps =
-      (loads-first o g n b c issue keeps.told, ap (λ (t : Bool). record (loading_view o.start.count) { written = t }) w)
-  was-loading (Over end) going w keeps = absurd going
-
-  found-mark : (kept : Option Mark) (m : Mark) → (finding_view o.start.count kept).done ≡ Some m → finding_view o.start.count kept ≡ boot_view (Some m) None
-  found-mark None m d = cc
-  found-mark (Some k) m d = ap (λ (x : Option Mark). boot_view x None) d
-
-  none-done : (m : Mark) → None ≡ Some m → ⊥
-  none-done m d = cc
-
-  -- if a checkpoint was found, that is all that was seen
-  was-found : (q : Stage) (m : Mark) → IsGoing q → (seen_at o g.kept q).done ≡ Some m → seen_at o g.kept q ≡ boot_view (Some m) None
-  was-found (Reads r) m going d = found-mark g.kept m d
-  was-found (Loading issue) m going d = absurd (none-done m d)
-  was-found (Over end) m going d = absurd going
 
 -- ---- a step that was taken
 
@@ -184,7 +105,7 @@ module _ (o : Origin) (s : Value) (n : Device) (booting : IsBooting journal_sche
       (λ bad. never_refused filling_journal log_is_filled o g n b s.log bad boots.sound)
 
   read : has_read_at d.stage ≡ true
-  read = read-on b d b.stage d.stage same nearer
+  read = fewer_has_read filling_journal log_is_filled b d d.stage same nearer
 
   acts : Acts (boot_did (answer_of filling_journal d)) n new
   acts = steps_act filling_journal log_is_filled o.start n b s.log new d e steps
@@ -231,7 +152,7 @@ module _ (o : Origin) (s : Value) (n : Device) (booting : IsBooting journal_sche
     storeless = boots.storeless;
   }
 
-  before : view_at o b.stage n ≡ seen_at o g.kept b.stage
+  before : view_at decode_journal o b.stage n ≡ seen_at o g.kept b.stage
   before = view-is o s n boots
 
   abbrev v : View
@@ -239,13 +160,13 @@ module _ (o : Origin) (s : Value) (n : Device) (booting : IsBooting journal_sche
 
   -- ---- it continues
 
-  goes-on : (q : Stage) → d.stage ≡ q → IsGoing q → BootsTo v (seen_at o g.kept q) → Boots o t new × BootsTo (view_at o b.stage n) (view_at o d.stage new)
+  goes-on : (q : Stage) → d.stage ≡ q → IsGoing q → BootsTo v (seen_at o g.kept q) → Boots o t new × BootsTo (view_at decode_journal o b.stage n) (view_at decode_journal o d.stage new)
   goes-on q is going to =
       let on : Boots o t new = boots-on (subst (λ (x : Stage). IsGoing x) (sym is) going) in
-      let now : view_at o d.stage new ≡ seen_at o g.kept q
+      let now : view_at decode_journal o d.stage new ≡ seen_at o g.kept q
       = view-is o t new on ∙ ap (λ (k : Option Mark). seen_at o k d.stage) kept ∙ ap (λ (x : Stage). seen_at o g.kept x) is in (
         on,
-        subst (λ (x : View). BootsTo x (view_at o d.stage new)) (sym before) (subst (λ (x : View). BootsTo v x) (sym now) to),
+        subst (λ (x : View). BootsTo x (view_at decode_journal o d.stage new)) (sym before) (subst (λ (x : View). BootsTo v x) (sym now) to),
       )
 
   -- ---- it is over
@@ -256,7 +177,7 @@ module _ (o : Origin) (s : Value) (n : Device) (booting : IsBooting journal_sche
   loaded : d.stage ≡ Over Loaded → Loads journal_scheme o s n t new
   loaded is =
       let shows = subst (λ (x : Stage). CoreStep o v (boot_did (answer_at filling_journal x d)) (seen_at o g.kept x)) is moved.shows in
-      let was : WasLoading o g n b s.log b.stage = was-loading o g n b s.log b.stage boots.going shows.written boots.sound.keeps in
+      let was : WasLoading o g b.stage = was-loading o (layout_of o) g n b.stage boots.going shows.written boots.sound.keeps in
       let keeps : IsKeeping o (layout_of o) (standing_in_boot o (Over Loaded) h new)
       = subst (λ (x : Stage). IsKeeping o (layout_of o) (standing_in_boot o x h new)) is moved.sound.keeps in
       let far : IsLoadedBoot filling_journal o h new e = subst (λ (x : Stage). IsSoundAt filling_journal o x h new d e) is moved.sound.so_far in
@@ -307,7 +228,7 @@ module _ (o : Origin) (s : Value) (n : Device) (booting : IsBooting journal_sche
         storeless = boots.storeless;
       } in
       record {
-        view = before ∙ was-found o g n b s.log b.stage (mark epoch cpu.count) boots.going shows.done;
+        view = before ∙ was-found o g b.stage (mark epoch cpu.count) boots.going shows.done;
         booted = subst (λ (x : Mark). IsBooted journal_scheme o x cpu t new) is_mark over;
       }
 
@@ -324,24 +245,12 @@ module _ (o : Origin) (s : Value) (n : Device) (booting : IsBooting journal_sche
   answers-at (Over Restored) is shows = restarted is
   answers-at (Over Loaded) is shows = loaded is
 
-  queue-by : (q : Stage) → StepsAt filling_journal q o.start n b s.log new d e
-      → length new.queue + e.dram.queued ≤ length n.queue + s.log.dram.queued + 1
-  queue-by (Reads r) on = omega (arith, queued-by n new s.log.dram e.dram filled.0, ap (λ (x : Device). length x.queue) on.device)
-  queue-by (Loading issue) l =
-      omega (
-        arith,
-        queue-after (issue_action (filling_journal.first b.p o.start) issue) n,
-        ap (λ (x : Device). length x.queue) l.device,
-        ap (λ (x : State). x.dram.queued) l.control,
-      )
-  queue-by (Over end) l = absurd l
-
   pub boots_on : BootsOn journal_scheme o (answer_of filling_journal d) s n t new
   boots_on = record {
     answers = answers-at d.stage refl moved.shows;
     acts = acts;
     dram = filled.0;
-    queue = queue-by b.stage steps;
+    queue = queue-on filling_journal o.start n b s.log new d e b.stage steps filled.0;
     nearer = nearer;
     read = read;
     still = λ m found current.
@@ -349,13 +258,6 @@ module _ (o : Origin) (s : Value) (n : Device) (booting : IsBooting journal_sche
   }
 
 -- ---- one that failed
-
--- if a checkpoint was found a step reads, and one that failed wrote nothing
-found-reads : (o : Origin) (kept : Option Mark) (m : Mark) (b : Booting) (c : State) (n new : Device) (q : Stage) → (seen_at o kept q).done ≡ Some m
-    → FailsTo (action_at filling_journal q o.start b c) n new → HasFailed n new
-found-reads o kept m b c n new (Reads r) done f = read_failed filling_journal log_is_filled b c r n new f
-found-reads o kept m b c n new (Loading issue) done f = let both : None ≡ Some m = done in absurd (cc)
-found-reads o kept m b c n new (Over end) done f = absurd f
 
 module _ (o : Origin) (s : Value) (n : Device) (booting : IsBooting journal_scheme o s n) (new : Device) where
   boot_fails : Fails filling_journal o.start s.boot s.log n new → IsFramed n new → BootFails journal_scheme o s n new
@@ -375,7 +277,8 @@ module _ (o : Origin) (s : Value) (n : Device) (booting : IsBooting journal_sche
         };
         safe = subst (λ (x : View). Safe decode_journal o x.done (doubt_after_fault action x) new) (sym (view-is o s n boots)) safe;
         still = λ m found current.
-            found-reads o boots.images.kept m s.boot s.log n new s.boot.stage (sym (ap (λ (x : View). x.done) (view-is o s n boots)) ∙ found) fails;
+            found_fails_unwritten filling_journal log_is_filled o boots.images.kept m s.boot s.log n new s.boot.stage
+            (sym (ap (λ (x : View). x.done) (view-is o s n boots)) ∙ found) fails;
       }
 
 -- ---- by the boot's result

@@ -1,82 +1,30 @@
 -- What holds of the scheme.
-use Rattle.std.specs.Prelude.{◌≡◌, ℕ, ◌+◌, ◌*◌, ◌<◌, ◌≤◌, max, true, false, [], length, None}
+use Rattle.std.specs.Prelude.{◌≡◌, ℕ, ◌+◌, ◌*◌, ◌<◌, ◌≤◌, max, true, false, length}
 use Rattle.thy_base.specs.declared.config.Parameters.{Parameters}
-use Rattle.thy_base.specs.declared.nvm.Shape.{Shape}
 use Rattle.thy_base.specs.declared.block.Block.{Block}
 use Rattle.thy_base.specs.declared.store.Stored.TheVariants.{Done}
-use Rattle.thy_base.specs.Device.{Device, IsFramed, block_at, fitted}
+use Rattle.thy_base.specs.Device.{Device, IsFramed, block_at}
 use Rattle.thy_base.specs.Geometry.{memory_blocks}
 use Rattle.thy_isa.specs.declared.state.CpuState.{CpuState}
-use Rattle.thy_record.specs.Decoded.{Nothing}
-use Rattle.thy_view.specs.declared.view.Phase.TheVariants.{Run}
 use Rattle.thy_view.specs.Action.{FailsTo}
-use Rattle.thy_view.specs.Origin.{Origin, IsOrigin}
-use Rattle.thy_view.specs.Safe.{ceiling}
+use Rattle.thy_view.specs.Origin.{Origin}
 use Rattle.thy_boot.specs.Boot.{Booting, IsBoot, answer_of}
 use Rattle.thy_boot.specs.Steps.{Steps}
 use Rattle.thy_scheme.specs.Boots.{BootsOn}
 use Rattle.thy_scheme.specs.Calls.{Drains, Engines, EngineFails, IsOneAccess, Seals, Stores}
 use Rattle.thy_scheme.specs.CheckpointMarks.{CheckpointMarks}
 use Rattle.thy_scheme.specs.Scheme.{Stands, IsBooting}
-use Rattle.thy_scheme.specs.Laws.{IsFound, IsLawful, IsNew, BootsFound, BootHolds, RunHolds, StaysSound, is_free_to_run}
-use Rattle.thy_core_laws.specs.Machine.{Machine, is_barred, shortage_of}
+use Rattle.thy_scheme.specs.Laws.{IsLawful}
 use Rattle.thy_core_laws.specs.Pace.{most_spent}
-use Rattle.thy_core_laws.specs.Sound.{Sound}
 use Rattle.thy_journal_image.specs.Places.{image_blocks, slot_blocks}
 use Rattle.thy_log.specs.Progress.{action_next}
 use Rattle.thy_log.specs.State.{State, IsSoundState, work_of}
 use Rattle.thy_log.specs.Stores.{after_drain, after_store}
 use Rattle.thy_refill.specs.Filling.{filling_journal}
 use Rattle.thy_journal_laws.specs.Journal.{Journal}
-use Rattle.thy_journal_laws.specs.Stays.{StaysJournal}
 use Rattle.thy_journal_laws.specs.Taken.{taken, device_taken, step_of, sealed}
 use Rattle.thy_journal_scheme.specs.Boots.{booted}
 use Rattle.thy_journal_scheme.specs.Scheme.{journal_scheme}
-
--- blocks are held, and can be stored, only while the NVM is up
-abbrev pub HeldIsUp : Type 0
-HeldIsUp =
-    ((s : Journal) (n : Device) (b : ℕ) → b < length (journal_scheme.holding s n).blocks → n.down ≡ false)
-    × ((s : Journal) (n : Device) → (journal_scheme.holding s n).ready ≡ true → n.down ≡ false)
-
--- what stays does so if nothing happens, and over one call after another
-abbrev pub StaysOver : Type 0
-StaysOver =
-    ((s : Journal) (n : Device) → StaysJournal s n s n)
-    × ((a : Journal) (m : Device) (b : Journal) (n : Device) (c : Journal) (o : Device)
-    → StaysJournal a m b n → StaysJournal b n c o → StaysJournal a m c o)
-
--- what stays keeps the checkpoints, whether or not a call failed
-abbrev pub StaysKeep : Type 0
-StaysKeep =
-    (o : Origin) (k : CheckpointMarks) (s : Journal) (n : Device) (t : Journal) (new : Device)
-    → Stands journal_scheme o k s n → is_free_to_run journal_scheme s ≡ true → StaysJournal s n t new
-    → StaysSound journal_scheme o k s t new
-
--- what holds after the boot
-abbrev pub RunIsSound : Type 0
-RunIsSound =
-    (o : Origin) (k : CheckpointMarks) (s : Journal) (n : Device) → Stands journal_scheme o k s n → RunHolds journal_scheme o k s n
-
--- nothing is queued in the DRAM of one whose power has just come on, and no more is left to do than there may be
-abbrev pub PowerIsNew : Type 0
-PowerIsNew = (p : Parameters) (s : Journal) → journal_scheme.powered p s → IsNew journal_scheme p s
-
--- zeros are no checkpoint
-abbrev pub ZerosAreNothing : Type 0
-ZerosAreNothing =
-    (p : Parameters) (shape : Shape) (n : Device)
-    → shape.blocks ≡ journal_scheme.blocks p → journal_scheme.decode p ceiling (fitted shape [] n).image ≡ Nothing
-
--- what a cut leaves in the boot is what is seen, and drains of the NVM change nothing of it
-abbrev pub BootIsSound : Type 0
-BootIsSound = (o : Origin) (s : Journal) (n : Device) → IsBooting journal_scheme o s n → BootHolds journal_scheme o s n
-
--- a scheme whose power has just come on boots what the image means
-abbrev pub PowerFinds : Type 0
-PowerFinds =
-    (o : Origin) (s : Journal) (n : Device)
-    → IsOrigin o → journal_scheme.powered o.geometry s → IsFound journal_scheme o n → BootsFound journal_scheme o s n
 
 -- every step of the engine keeps the checkpoints, and one that failed is safe
 abbrev pub ItemsAreSteps : Type 0
@@ -144,15 +92,6 @@ BootsAreShort =
 abbrev pub EpochsAreShort : Type 0
 EpochsAreShort = (p : Parameters) → most_spent journal_scheme p ≤ 17 * p.epoch + 3 * p.btt + slot_blocks p + 5
 
--- nothing is ever migrated: there is one form of its images
-abbrev pub NeverMigrates : Type 0
-NeverMigrates = (s : Journal) → journal_scheme.migrates s ≡ false
-
--- the hart is barred exactly while a checkpoint is under way
-abbrev pub HartIsBarred : Type 0
-HartIsBarred =
-    (m : Machine Journal) → is_barred journal_scheme m ≡ journal_scheme.under_way m.scheme
-
 -- every entry is free if nothing was stored since the last seal and nothing is under way
 abbrev pub EntriesAreFree : Type 0
 EntriesAreFree =
@@ -160,12 +99,3 @@ EntriesAreFree =
     → Stands journal_scheme o k s n
     → journal_scheme.storeless s ≡ true → journal_scheme.under_way s ≡ false
     → journal_scheme.free s ≡ o.geometry.btt
-
--- A machine whose epoch goes on and has retired no instruction is not short of entries, once nothing is under way. So no
--- epoch ends for want of entries before its first instruction.
-abbrev pub FirstHasRoom : Type 0
-FirstHasRoom =
-    (o : Origin) (cycles : ℕ) (m : Machine Journal) (n : Device)
-    → Sound journal_scheme o cycles m n → m.phase ≡ Run
-    → m.hart.epoch.over ≡ None → m.hart.epoch.retired ≡ 0
-    → journal_scheme.under_way m.scheme ≡ false → shortage_of journal_scheme m ≡ None

@@ -6,6 +6,7 @@ use Rattle.thy_boot.specs.declared.stage.Stage.TheVariants.{Reads}
 use Rattle.thy_boot.specs.declared.stage.ReadStage.TheVariants.{Unread}
 use Rattle.thy_boot.specs.Boot.{new_boot}
 use Rattle.thy_boot.specs.Left.{boot_left}
+use Rattle.thy_boot_laws.specs.Seen.{view_at, has_read_at}
 use Rattle.thy_scheme.specs.Scheme.{SchemeOf}
 use Rattle.thy_journal_image.specs.Places.{image_blocks}
 use Rattle.thy_journal_image.specs.Layout.{decode_journal}
@@ -16,7 +17,7 @@ use Rattle.thy_refill.specs.Filling.{filling_journal}
 use Rattle.thy_journal_laws.specs.Journal.{Journal, IsOf, committed_in}
 use Rattle.thy_journal_laws.specs.Sound.{IsSoundJournal}
 use Rattle.thy_journal_laws.specs.Stays.{StaysJournal}
-use Rattle.thy_journal_scheme.specs.Boots.{Boots, IsPowered, view_at, has_read_at}
+use Rattle.thy_journal_scheme.specs.Boots.{Boots, IsPowered}
 
 abbrev pub journal_scheme : SchemeOf Journal
 journal_scheme = record {
@@ -39,7 +40,7 @@ journal_scheme = record {
   free = λ s. free_count s.log.table;
   is_sound = IsSoundJournal;
   boots = Boots;
-  boot_view = λ o s n. view_at o s.boot.stage n;
+  boot_view = λ o s n. view_at decode_journal o s.boot.stage n;
   has_read = λ s. has_read_at s.boot.stage;
   migrates = λ s. false;
   boot_left = λ s. boot_left filling_journal s.boot s.boot.stage;

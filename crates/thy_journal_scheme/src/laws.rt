@@ -1,14 +1,17 @@
 //! Laws of the scheme, each the contract of a function that does nothing.
-ghost use Rattle.thy_journal_scheme.specs.Laws.{BootIsSound, BootsAreShort, DrainsKeep, EntriesAreFree, EpochsAreShort};
-ghost use Rattle.thy_journal_scheme.specs.Laws.{FirstHasRoom, HartIsBarred, HeldIsUp, HeldIsWork, ItemsAreSteps};
-ghost use Rattle.thy_journal_scheme.specs.Laws.{JournalIsLawful, NeverMigrates, PowerFinds, PowerIsNew, RunIsSound};
-ghost use Rattle.thy_journal_scheme.specs.Laws.{SealsKeep, StaysKeep, StaysOver, StepsBoot, StoresKeep, ZerosAreNothing};
+ghost use Rattle.thy_boot_laws.specs.Schemes.{BootIsSound, FirstHasRoom, HartIsBarred, HeldIsUp, NeverMigrates};
+ghost use Rattle.thy_boot_laws.specs.Schemes.{PowerFinds, PowerIsNew, ReadyIsUp, RunIsSound, StaysKeep, StaysOver};
+ghost use Rattle.thy_boot_laws.specs.Schemes.{ZerosAreNothing};
+ghost use Rattle.thy_journal_scheme.specs.Laws.{BootsAreShort, DrainsKeep, EntriesAreFree, EpochsAreShort, HeldIsWork};
+ghost use Rattle.thy_journal_scheme.specs.Laws.{ItemsAreSteps, JournalIsLawful, SealsKeep, StepsBoot, StoresKeep};
+ghost use Rattle.thy_journal_scheme.specs.Scheme.{journal_scheme};
 
 /// Blocks are held and stored only while the NVM is up, and what loads and stores keep they keep over any number of
 /// calls. A block that is held is that of a load; a store changes that block alone, by one write of the DRAM.
 pub fn what_is_held_stays()
-    ensures up { HeldIsUp }
-    ensures over { StaysOver }
+    ensures up { HeldIsUp journal_scheme }
+    ensures ready { ReadyIsUp journal_scheme }
+    ensures over { StaysOver journal_scheme }
     ensures works { HeldIsWork }
     ensures stores { StoresKeep }
 {}
@@ -18,8 +21,8 @@ pub fn what_is_held_stays()
 /// is bounded; and a write of the NVM that lands changes nothing. While nothing is under way, loads and stores keep
 /// the checkpoints.
 pub fn a_run_is_sound()
-    ensures run { RunIsSound }
-    ensures stays { StaysKeep }
+    ensures run { RunIsSound journal_scheme }
+    ensures stays { StaysKeep journal_scheme }
 {}
 
 /// Every step of the engine keeps the checkpoints, and one that failed is safe; so do seals and drains of the DRAM.
@@ -33,18 +36,18 @@ pub fn calls_keep_the_run()
 /// boot, the checkpoint that was found or made is the committed one. The bounds on the actions of boots
 /// and checkpoints are what the layout asks for, and no boot migrates.
 pub fn a_boot_is_sound()
-    ensures power { PowerIsNew }
-    ensures zeros { ZerosAreNothing }
-    ensures finds { PowerFinds }
-    ensures boot { BootIsSound }
+    ensures power { PowerIsNew journal_scheme }
+    ensures zeros { ZerosAreNothing journal_scheme }
+    ensures finds { PowerFinds journal_scheme }
+    ensures boot { BootIsSound journal_scheme }
     ensures steps { StepsBoot }
     ensures short { BootsAreShort }
-    ensures never { NeverMigrates }
+    ensures never { NeverMigrates journal_scheme }
 {}
 
 /// The hart waits for each checkpoint, until its journal is applied: nothing overlaps.
 pub fn a_checkpoint_bars_the_hart()
-    ensures { HartIsBarred }
+    ensures { HartIsBarred journal_scheme }
 {}
 
 /// An epoch spends fewer cycles of hart and engine than 17 for each of its instructions, three for each entry of the
@@ -57,7 +60,7 @@ pub fn epochs_are_short()
 /// instruction of an epoch always has room: none ends for want of entries before it has retired one.
 pub fn an_epoch_begins_with_every_entry_free()
     ensures free { EntriesAreFree }
-    ensures room { FirstHasRoom }
+    ensures room { FirstHasRoom journal_scheme }
 {}
 
 /// The journal is a lawful scheme.

@@ -2,19 +2,14 @@
 use Rattle.std.proofs.Common.{◌≡◌, ℕ, ◌<◌, Bool, true, false, length, Result, Ok, Err, IfOk, OnOk, OnErr, refl, sym, ◌∙◌, ap, subst, arith}
 use Rattle.std.proofs.lemmas.List.FromFn.{length-map-range_with_len, get_or-map-range_with_len}
 use Rattle.thy_base.specs.declared.block.Block.{Block}
-use Rattle.thy_base.specs.declared.config.Parameters.{Parameters}
 use Rattle.thy_base.specs.declared.nvm.NvmError.{NvmError}
 use Rattle.thy_base.specs.Device.{Device, HasFailed, IsFramed, block_at, zero_block}
 use Rattle.thy_base.specs.Geometry.{memory_blocks}
-use Rattle.thy_base.specs.Places.{dram_blocks}
-use Rattle.thy_dram.specs.Contents.{Contents, lost}
-use Rattle.thy_dram.proofs.DrawLemmas.{length-over}
 use Rattle.thy_isa.specs.Step.{state_of}
 use Rattle.thy_record.specs.declared.engine_step.EngineStep.{EngineStep}
 use Rattle.thy_record.specs.declared.start.Start.{Start}
 use Rattle.thy_view.specs.declared.boot_step.BootStep.{BootStep}
 use Rattle.thy_view.specs.Action.{after, FailsTo}
-use Rattle.thy_view.specs.Kind.{IsDramOf}
 use Rattle.thy_view.specs.Origin.{Origin}
 use Rattle.thy_boot.specs.Boot.{Booting, answer_of}
 use Rattle.thy_boot.specs.Steps.{TakesStep}
@@ -24,7 +19,7 @@ use Rattle.thy_base.specs.declared.store.Stored.{Stored}
 use Rattle.thy_scheme.specs.Calls.{IsOneAccess, Stores}
 use Rattle.thy_pool.specs.Holding.{commits}
 use Rattle.thy_pool.specs.Progress.{Progress, Fits, action_next, engine_next, state_next, item_of}
-use Rattle.thy_pool.specs.State.{State, IsSoundState, committed_of}
+use Rattle.thy_pool.specs.State.{State, committed_of}
 use Rattle.thy_pool.specs.Stores.{StoreCase, Into, Fill, Copy, after_store, store_action, store_case, stored_by}
 use Rattle.thy_repool.specs.Filling.{filling_shadow}
 use Rattle.thy_repool.proofs.LawLemmas.{pool_is_listed}
@@ -200,14 +195,3 @@ pub takes_boot_step : (start : Start) (s : Value) (n : Device) (r : Result BootS
     → IfOk r (λ a. a ≡ answer_of filling_shadow d) → TakesStep filling_shadow r (state_of start.state) n s.boot s.pool new d t
     → TakesBootStep start s n r (booted d t s) new
 takes_boot_step start s n r t d new answer took = record { answer = answer; steps = took; others = refl }
-
--- ---- a loss of power
-
--- what is left of a DRAM of its size is one with nothing queued
-pub IsDramOf-lost : (p : Parameters) (l : State) (pick : ℕ) (d : Contents) → IsSoundState l
-    → l.p ≡ p → l.dram.room ≡ p.dramq → d ≡ lost l.dram pick → IsDramOf p d
-IsDramOf-lost p l pick d sound same room is = subst (λ (x : Contents). IsDramOf p x) (sym is) (record {
-  blocks = length-over pick l.dram.blocks ∙ sound.dram_size ∙ ap dram_blocks same;
-  room = room;
-  empty = refl;
-})

@@ -1,3 +1,2 @@
 mod CallLemmas
 mod FillLemmas
-mod CountLemmas

@@ -13,13 +13,15 @@ ghost use Rattle.thy_scheme.specs.Scheme.{StaysOf, Stands, CanRun, IsBooting, Ca
 ghost use Rattle.thy_scheme.specs.Calls.{IsOneAccess, Stores, Merges, Promotes, PromotionFails, TakesNoAction, Drains, Seals, Engines, EngineFails};
 ghost use Rattle.thy_scheme.specs.Boots.{BootsOn, BootFails, BootDrains};
 ghost use Rattle.thy_scheme.specs.Restart.{WritesNothing};
+ghost use Rattle.thy_boot_laws.specs.Seen.{has_read_at, loads_at, view_at};
+ghost use Rattle.thy_shadow_image.specs.Layout.{decode_shadow};
 ghost use Rattle.thy_shadow_image.specs.Places.{image_blocks};
 ghost use Rattle.thy_pool.specs.Holding.{commits, holding_of};
 ghost use Rattle.thy_pool.specs.Items.{is_under_way};
 ghost use Rattle.thy_shadow_laws.specs.Shadow.{IsOf};
 ghost use Rattle.thy_shadow_laws.specs.Stays.{StaysShadow};
 ghost use Rattle.thy_shadow_laws.specs.Taken.{sealed};
-ghost use Rattle.thy_shadow_scheme.specs.Boots.{Boots, IsPowered, has_read_at, loads_at, view_at};
+ghost use Rattle.thy_shadow_scheme.specs.Boots.{Boots, IsPowered};
 ghost use Rattle.thy_shadow_scheme.specs.Scheme.{shadow_scheme};
 ghost use Rattle.thy_shadow.specs.Calls.{IsNew, LoadsWork, LoadsCommitted, StoresInFrame, storeless_of, drained, TakesItem, TakesBootStep};
 
@@ -304,7 +306,7 @@ impl Scheme for Shadow {
         ensures stage { result ≡ loads_at self.now.boot.stage }
         ensures found { let stage = self.now.boot.stage in
             (o : Origin) (n : Device) → Boots o self.now n
-            → result ≡ (has_read_at stage && loads (view_at o stage n)) }
+            → result ≡ (has_read_at stage && loads (view_at decode_shadow o stage n)) }
     {
         is_loading(self.boot.stage())
     }

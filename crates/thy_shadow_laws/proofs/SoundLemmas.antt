@@ -9,7 +9,6 @@ use Rattle.thy_base.specs.Places.{record_blocks}
 use Rattle.thy_base.proofs.DeviceLemmas.{newest-written_to_other, newest-settled}
 use Rattle.thy_crash.proofs.SavedLemmas.{next_image-commit}
 use Rattle.thy_isa.specs.OnBlocks.{state_from}
-use Rattle.thy_record.specs.declared.engine_step.EngineStep.TheVariants.{StateBlock, TableBlock}
 use Rattle.thy_table.specs.Listing.{entry_at}
 use Rattle.thy_table.proofs.IndexLemmas.{free_one}
 use Rattle.thy_view.specs.Action.{after}
@@ -18,6 +17,7 @@ use Rattle.thy_view.specs.Safe.{ceiling}
 use Rattle.thy_protocol.specs.Moves.{IsKeeping}
 use Rattle.thy_protocol.proofs.KeepsLemmas.{IsKeeping-move}
 use Rattle.thy_scheme.specs.CheckpointMarks.{CheckpointMarks, only, marks_after}
+use Rattle.thy_scheme.proofs.RecordLemmas.{marks-slot}
 use Rattle.thy_record.specs.Commit.{commit_of}
 use Rattle.thy_shadow_image.specs.CheckpointParts.{IsToldBy}
 use Rattle.thy_shadow_image.specs.Header.{header_fault}
@@ -40,11 +40,6 @@ use Rattle.thy_shadow_laws.specs.Taken.{ItemsKeepSound}
 use Rattle.thy_shadow_laws.proofs.AfterLemmas.{held_after}
 use Rattle.thy_shadow_laws.proofs.MoveLemmas.{decoded}
 use Rattle.thy_shadow_laws.proofs.ItemLemmas.{items_move, items_write, items_keep_works, items_keep_commits, commit_makes_works}
-
--- a record of the slot and one of the map leave the marks
-marks_slot : (k : CheckpointMarks) (b : Bool) → marks_after (if b then StateBlock else TableBlock) k ≡ k
-marks_slot k true = refl
-marks_slot k false = refl
 
 -- with every frame freed, all are free
 all_free : (es : List (Option Framed))
@@ -198,7 +193,7 @@ module _ (o : Origin) (k : CheckpointMarks) (s : Value) (n : Device) (h : IsSoun
       (record s { pool = t (SlotItem j); engine = f (SlotItem j) }) (d (SlotItem j))
   sound_slot j is way before =
       subst (λ (x : CheckpointMarks). IsSoundShadow o x (record s { pool = t (SlotItem j); engine = f (SlotItem j) }) (d (SlotItem j)))
-      (sym (marks_slot k (nat_lt j (record_blocks e.p))))
+      (sym (marks-slot k (nat_lt j (record_blocks e.p))))
       (making (next_after e.p (SlotItem j)) (d (SlotItem j)) (slot_making j (nat_lt (j + 1) (slot_blocks e.p))) way before
       (held_after o e l n (SlotItem j) h.held) (keeps_i (SlotItem j) is way) (writes_i (SlotItem j) is)
       (works_i (SlotItem j) is way) (commits_i (SlotItem j) is way)

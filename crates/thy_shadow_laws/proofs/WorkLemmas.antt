@@ -18,6 +18,7 @@ use Rattle.thy_table.proofs.ListingLaws.{entry_at-mapped, place_of-none, place_o
 use Rattle.thy_shadow_image.specs.Places.{map_blocks, pool_pages, first_pool, image_blocks, pool_place, pool_page, place_of}
 use Rattle.thy_shadow_image.specs.CheckpointParts.{memory_places}
 use Rattle.thy_shadow_image.proofs.PartsLemmas.{place_behind}
+use Rattle.thy_shadow_image.proofs.FreeLemmas.{same_page}
 use Rattle.thy_pool.specs.declared.entry.Framed.{Framed}
 use Rattle.thy_pool.specs.Commit.{committed_state}
 use Rattle.thy_pool.specs.Holding.{works, commits}
@@ -112,10 +113,6 @@ pub commits_placed : (s : State) (n : Device) → map (newest n) (memory_places 
 commits_placed s n = places_read s.p (committed_table s) n (committed_of s n) (λ b l. ap (newest n) (place_committed s b l))
 
 -- ---- the pages that frames go to
-
--- blocks of the pool that have one number are of one page
-same_page : (p : Parameters) (q r c d : ℕ) → c < 64 → d < 64 → pool_place p q c ≡ pool_place p r d → q ≡ r
-same_page p q r c d l m e = omega (arith, e)
 
 module _ (s : State) (h : IsSoundState s) where
   -- a filled frame has a page of the pool

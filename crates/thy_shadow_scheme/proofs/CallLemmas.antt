@@ -1,21 +1,23 @@
 -- What seals, drains and items of the engine make of the checkpoints.
-use Rattle.std.proofs.Common.{◌≡◌, ◌≢◌, ℕ, ◌+◌, ◌-◌, ◌*◌, ◌/◌, ◌%◌, ◌<◌, ◌≤◌, nat_lt, Bool, true, false, is_some, if◌then◌else◌, length, length-append, length-drop, None, refl, sym, ◌∙◌, ap, subst, inl, inr, arith, Result, Ok, Err, OnOk, OnErr, IfOk}
+use Rattle.std.proofs.Common.{◌≡◌, ◌≢◌, ℕ, ◌+◌, ◌-◌, ◌*◌, ◌/◌, ◌%◌, ◌<◌, ◌≤◌, nat_lt, Bool, true, false, is_some, if◌then◌else◌, length, None, refl, sym, ◌∙◌, ap, subst, inl, inr, arith, Result, Ok, Err, OnOk, OnErr, IfOk}
 use Rattle.std.proofs.lemmas.Bool.{both_ways}
 use Rattle.thy_base.specs.declared.block.Block.{Block}
 use Rattle.thy_base.specs.declared.config.Parameters.{Parameters}
 use Rattle.thy_base.specs.declared.nvm.NvmError.{NvmError}
-use Rattle.thy_base.specs.Device.{Device, IsFramed, written_to}
+use Rattle.thy_base.specs.Device.{Device, IsFramed}
 use Rattle.thy_base.specs.Places.{record_blocks}
 use Rattle.thy_isa.specs.declared.state.CpuState.{CpuState}
 use Rattle.thy_record.specs.declared.engine_step.EngineStep.{EngineStep}
 use Rattle.thy_record.specs.declared.engine_step.EngineStep.TheVariants.{StateBlock, TableBlock}
 use Rattle.thy_table.specs.Listing.{entry_at, free_count}
-use Rattle.thy_view.specs.Action.{Action, Rest, ReadAt, WriteAt, Barrier, Drain, after, FailsTo, Asks}
+use Rattle.thy_view.specs.Action.{WriteAt, after, FailsTo, Asks}
 use Rattle.thy_view.specs.Dram.{WritesNvm}
 use Rattle.thy_view.specs.Origin.{Origin}
+use Rattle.thy_view.proofs.ActionLemmas.{queue-after}
 use Rattle.thy_scheme.specs.CheckpointMarks.{CheckpointMarks}
 use Rattle.thy_scheme.specs.Scheme.{Stands}
 use Rattle.thy_scheme.specs.Calls.{IsDue, writes_block, engine_did, owed_in, Keeps, Drains, Seals, Engines, EngineFails, OwesAfter}
+use Rattle.thy_scheme.proofs.RecordLemmas.{due-slot}
 use Rattle.thy_record.specs.Commit.{commit_of}
 use Rattle.thy_shadow_image.specs.Places.{slot_place}
 use Rattle.thy_pool.specs.declared.stage.PoolStage.{PoolStage}
@@ -42,23 +44,7 @@ use Rattle.thy_shadow_laws.proofs.StoreLemmas.{items_keep_store, blocks_alike, u
 use Rattle.thy_shadow_scheme.specs.Scheme.{shadow_scheme}
 use Rattle.thy_shadow_scheme.proofs.OwedLemmas.{owed_under_way, owed_most}
 
--- ---- one action
-
-pub queue-written : (n : Device) (at : ℕ) (block : Block) → length (written_to n at block).queue ≤ length n.queue + 1
-queue-written n at block = simp (length-append, length-drop) (omega arith)
-
-pub after-queue : (a : Action) (n : Device) → length (after a n).queue ≤ length n.queue + 1
-after-queue Rest n = omega arith
-after-queue (ReadAt place) n = omega arith
-after-queue (WriteAt place block) n = queue-written n place block
-after-queue Barrier n = omega arith
-after-queue Drain n = omega (arith, length-drop 1 n.queue)
-
 -- ---- what an item is
-
-slot_due : (k : CheckpointMarks) (first : Bool) → IsDue (if first then StateBlock else TableBlock) k
-slot_due k true = tt
-slot_due k false = tt
 
 asks_slot : (lap : ℕ) (first : Bool) (at : ℕ) (block : Block) → at ≢ 1
     → Asks (engine_did lap (if first then StateBlock else TableBlock)) (WriteAt at block)
@@ -122,12 +108,12 @@ module _ (o : Origin) (k : CheckpointMarks) (s : Value) (n : Device) (stands : S
 
   due_frame : (x : ℕ) (some : Bool) → IsDue (answer e.p e.epoch (if some then PageItem x else SlotItem 0)) k
   due_frame x true = tt
-  due_frame x false = slot_due k (nat_lt 0 (record_blocks e.p))
+  due_frame x false = due-slot k (nat_lt 0 (record_blocks e.p))
 
   due_by : (q : PoolStage) → e.next ≡ q → is_under_way q ≡ true → IsDue (answer e.p e.epoch (item q l)) k
   due_by Nothing is way = cc
   due_by (Pages x) is way = due_frame x (is_some (entry_at l.frames (x / 64)))
-  due_by (Slot j) is way = slot_due k (nat_lt j (record_blocks e.p))
+  due_by (Slot j) is way = due-slot k (nat_lt j (record_blocks e.p))
   due_by Settle is way = tt
   due_by Commit is way =
       let made = sound.checkpoints.made (ap is_under_way is) in
@@ -165,7 +151,7 @@ module _ (o : Origin) (k : CheckpointMarks) (s : Value) (n : Device) (stands : S
   queue : length (device_taken s n).queue + (state_next e l).dram.queued ≤ length n.queue + l.dram.queued + 1
   queue =
       let same : (state_next e l).dram.queued ≡ l.dram.queued = ap (λ d. d.queued) (dram_after (item_of e l) l) in
-      omega (arith, after-queue (action_next e l) n, same)
+      omega (arith, queue-after (action_next e l) n, same)
 
   pub engines : Engines shadow_scheme o k (step_of s) s n (taken s) (device_taken s n)
   engines = record {

@@ -1,7 +1,7 @@
 -- The blocks of frames, and the lowest free frame.
-use Rattle.std.proofs.Common.{◌≡◌, ◌≢◌, ℕ, ◌*◌, ◌<◌, nat_lt, Bool, true, false, if◌then◌else◌, List, length, map, slice_set, Option, Some, None, unwrap_or, refl, sym, ◌∙◌, ap, inl, inr, arith}
+use Rattle.std.proofs.Common.{◌≡◌, ◌≢◌, ℕ, ◌<◌, List, length, map, slice_set, Option, Some, None, unwrap_or, refl, sym, ◌∙◌, ap, inl, inr, arith}
 use Rattle.std.specs.List.{range_with_len}
-use Rattle.std.proofs.lemmas.Bool.{cases_eq, ltb-true}
+use Rattle.std.proofs.lemmas.Bool.{cases_eq}
 use Rattle.std.proofs.lemmas.List.{length-set, get_or-set_same, get_or-set_other, ext_get_or}
 use Rattle.std.proofs.lemmas.List.FromFn.{length-map-range_with_len, get_or-map-range_with_len}
 use Rattle.thy_base.specs.declared.block.Block.{Block}
@@ -12,13 +12,11 @@ use Rattle.thy_base.specs.Places.{number_of}
 use Rattle.thy_table.specs.Listing.{entry_at, free_place, free_count}
 use Rattle.thy_table.proofs.IndexLemmas.{lists-inside, some-counted}
 use Rattle.thy_table.proofs.ListingLaws.{place_of-lists}
-use Rattle.thy_shadow_image.specs.Places.{map_blocks}
 use Rattle.thy_pool.specs.Commit.{page_by}
 use Rattle.thy_pool.specs.Keys.{page_key, framed}
-use Rattle.thy_pool.specs.State.{State, IsSoundState, frame_of, table_by, frame_block}
+use Rattle.thy_pool.specs.State.{State, IsSoundState, frame_of, frame_block}
 use Rattle.thy_pool.specs.Stores.{free_frame, put_into}
 use Rattle.thy_pool.proofs.CommitLemmas.{framed_is}
-use Rattle.thy_pool.proofs.TableLemmas.{length-table_by, listed_at-table_by}
 
 -- ---- lists
 
@@ -43,19 +41,6 @@ map_set size f g b block small here there =
           ∙ sym (get_or-map-range_with_len g 0 size c c zero_block below (omega arith))
           ∙ sym (get_or-set_other (map g (range_with_len 0 size)) b c block zero_block other)
     ])
-
--- maps that have each page at one place are alike
-pub table_alike : (p : Parameters) (of to : ℕ → Option ℕ) → ((x : ℕ) → x < p.pages → of x ≡ to x) → table_by p of ≡ table_by p to
-table_alike p of to same =
-    let size = length-table_by p of in
-    ext_get_or None (table_by p of) (table_by p to) (size ∙ sym (length-table_by p to))
-    (λ x inside.
-    let l : x < 8 * map_blocks p = omega (arith, inside, size) in
-    listed_at-table_by p of x l ∙ by_page x (nat_lt x p.pages) refl ∙ sym (listed_at-table_by p to x l))
-  where
-    by_page : (x : ℕ) (low : Bool) → nat_lt x p.pages ≡ low → (if low then of x else None) ≡ (if low then to x else None)
-    by_page x true l = same x (ltb-true x p.pages l)
-    by_page x false l = refl
 
 -- ---- blocks of frames
 

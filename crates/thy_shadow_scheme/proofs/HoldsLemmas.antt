@@ -24,7 +24,7 @@ use Rattle.thy_shadow_laws.proofs.SafeLemmas.{IsSoundShadow-safe}
 use Rattle.thy_shadow_laws.proofs.SealLemmas.{blocks_held}
 use Rattle.thy_shadow_laws.proofs.StoreLemmas.{blocks_alike}
 use Rattle.thy_shadow_laws.proofs.WorkLemmas.{works_same, committed_inside}
-use Rattle.thy_shadow_scheme.specs.Laws.{RunIsSound}
+use Rattle.thy_boot_laws.specs.Schemes.{RunIsSound}
 use Rattle.thy_shadow_scheme.specs.Scheme.{shadow_scheme}
 use Rattle.thy_shadow_scheme.proofs.OwedLemmas.{free-few, owed_most}
 
@@ -117,5 +117,5 @@ module _ (o : Origin) (k : CheckpointMarks) (s : Value) (n : Device) (sound : Is
         drained_owes = λ some. omega arith;
       }
 
-pub run_is_sound : RunIsSound
+pub run_is_sound : RunIsSound shadow_scheme
 run_is_sound o k s n stands = run-holds o k s n stands.sound stands.up

@@ -12,7 +12,9 @@ use Rattle.thy_table.proofs.IndexLemmas.{lists-key_of}
 use Rattle.thy_table.proofs.ListingLaws.{IsListing-once}
 use Rattle.thy_boot.specs.Boot.{new_boot}
 use Rattle.thy_scheme.specs.Laws.{IsLawful}
+use Rattle.thy_boot_laws.proofs.ViewLemmas.{alike_at}
 use Rattle.thy_shadow_image.specs.Places.{pool_pages}
+use Rattle.thy_shadow_image.specs.Layout.{decode_shadow}
 use Rattle.thy_pool.specs.declared.entry.Framed.{Framed}
 use Rattle.thy_pool.specs.declared.stage.PoolStage.TheVariants.{Nothing, Slot as SlotNext}
 use Rattle.thy_pool.specs.Keys.{number_key, page_key, held}
@@ -22,10 +24,10 @@ use Rattle.thy_repool.specs.Filling.{filling_shadow}
 use Rattle.thy_shadow_laws.specs.Shadow.{Shadow as Value}
 use Rattle.thy_shadow_scheme.specs.Boots.{IsPowered}
 use Rattle.thy_shadow_scheme.specs.Scheme.{shadow_scheme}
-use Rattle.thy_shadow_scheme.proofs.BootLemmas.{boot_is_sound, power_finds, alike_at}
+use Rattle.thy_shadow_scheme.proofs.BootLemmas.{boot_is_sound, power_finds}
 use Rattle.thy_shadow_scheme.proofs.HoldsLemmas.{run_is_sound}
 use Rattle.thy_shadow_scheme.proofs.PowerLemmas.{power_is_new, zeros_are_nothing}
-use Rattle.thy_shadow_scheme.proofs.StayLemmas.{held_is_up, same-stays, on-stays, of-stays, stays_keep}
+use Rattle.thy_shadow_scheme.proofs.StayLemmas.{held_is_up, ready_is_up, same-stays, on-stays, of-stays, stays_keep}
 
 -- ---- power can come on
 
@@ -94,10 +96,10 @@ lawful = record {
   finds_nothing = zeros_are_nothing;
   finds = power_finds;
   boot_holds = boot_is_sound;
-  boot_alike = λ o turns s n. alike_at o turns s.boot.stage n;
+  boot_alike = λ o turns s n. alike_at decode_shadow o turns s.boot.stage n;
   run_holds = run_is_sound;
-  up = held_is_up.0;
-  ready_up = held_is_up.1;
+  up = held_is_up;
+  ready_up = ready_is_up;
   ready_whole = λ s n ready. refl;
   free_is = λ s n. refl;
   queued_is = λ s. refl;

@@ -14,7 +14,8 @@ use Rattle.thy_pool.specs.State.{State, IsSoundState}
 use Rattle.thy_shadow_laws.specs.Shadow.{Shadow as Value, IsOf}
 use Rattle.thy_shadow_laws.specs.Stays.{RestsOn, StaysShadow}
 use Rattle.thy_shadow_laws.proofs.SafeLemmas.{stays_keep_sound}
-use Rattle.thy_shadow_scheme.specs.Laws.{HeldIsUp, StaysKeep, StaysOver}
+use Rattle.thy_boot_laws.specs.Schemes.{HeldIsUp, ReadyIsUp, StaysKeep, StaysOver}
+use Rattle.thy_shadow_scheme.specs.Scheme.{shadow_scheme}
 use Rattle.thy_shadow_scheme.specs.Scheme.{shadow_scheme, owed_with_commit}
 
 -- ---- as a store of blocks
@@ -29,11 +30,11 @@ held_up true true agree blocks b l = absurd (omega (arith, l))
 held_up false true agree blocks b l = absurd (omega (arith, l))
 held_up sized false agree blocks b l = refl
 
-pub held_is_up : HeldIsUp
-held_is_up = (
-  λ s n b l. held_up (length n.image == image_blocks s.pool.p) n.down (copies_agree s.pool n) (works s.pool n) b l,
-  λ s n ready. up_of n.down ready,
-)
+pub held_is_up : HeldIsUp shadow_scheme
+held_is_up s n b l = held_up (length n.image == image_blocks s.pool.p) n.down (copies_agree s.pool n) (works s.pool n) b l
+
+pub ready_is_up : ReadyIsUp shadow_scheme
+ready_is_up s n ready = up_of n.down ready
 
 -- ---- over any number of calls
 
@@ -82,7 +83,7 @@ on-stays a m b n c o first second = record {
       was ∙ first.same (sym (ap (λ (d : Device). d.down) was) ∙ up);
 }
 
-pub stays_over : StaysOver
+pub stays_over : StaysOver shadow_scheme
 stays_over = (same-stays, on-stays)
 
 pub of-stays : (s : Value) (n : Device) (t : Value) (new : Device) → StaysShadow s n t new → (p : Parameters) → IsOf p s → IsOf p t
@@ -116,7 +117,7 @@ none_later : (way : Bool) (owed most : ℕ) → way ≡ false → (if way then o
 none_later true owed most h = cc
 none_later false owed most h = omega arith
 
-pub stays_keep : StaysKeep
+pub stays_keep : StaysKeep shadow_scheme
 stays_keep o k s n t new stands free stays =
     let idle : is_under_way s.engine.next ≡ false = idle_of (is_under_way s.engine.next) free in
     let both = stays_keep_sound o k s n t new stands.sound idle stays in

@@ -31,12 +31,13 @@ use Rattle.thy_pool.specs.Stores.{StoreCase, Into, Fill, Copy, copies_by, copies
 use Rattle.thy_pool.proofs.DrainLemmas.{IsSoundState-dram}
 use Rattle.thy_pool.proofs.RoomLemmas.{room as pool_has_room}
 use Rattle.thy_pool.proofs.StateLemmas.{IsSoundState-filled, IsSoundState-begun, free_first}
+use Rattle.thy_pool.proofs.TableLemmas.{table_by-same}
 use Rattle.thy_shadow_laws.specs.Shadow.{Shadow as Value}
 use Rattle.thy_shadow_laws.specs.Stays.{StaysShadow}
 use Rattle.thy_shadow_scheme.specs.Laws.{FailedStoresKeep, HeldIsWork, StoresKeep, storeless_by}
 use Rattle.thy_shadow_scheme.specs.Scheme.{shadow_scheme}
 use Rattle.thy_shadow_scheme.proofs.CopyLemmas.{AreCopied, begun_copied, are_copied, all_pass, block_same}
-use Rattle.thy_shadow_scheme.proofs.FrameLemmas.{map_set, table_alike, apart_frame, apart_block, put_here, put_there, frame_inside, frame_has, one_page, free_found, free_is}
+use Rattle.thy_shadow_scheme.proofs.FrameLemmas.{map_set, apart_frame, apart_block, put_here, put_there, frame_inside, frame_has, one_page, free_found, free_is}
 
 -- ---- what is held
 
@@ -267,7 +268,7 @@ module _ (b : ℕ) (block : Block) (s : State) (n : Device) (sound : IsSoundStat
           (λ e. omega (arith, e, l))
 
       pub table_full : committed_table full ≡ committed_table s
-      table_full = table_alike s.p (pool_of full) (pool_of s) pool_there
+      table_full = table_by-same s.p (pool_of full) (pool_of s) pool_there
 
       abbrev put : State
       put = put_into j c block full

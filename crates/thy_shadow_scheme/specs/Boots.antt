@@ -1,23 +1,17 @@
 -- Part of the claim.
--- The boot of a run, and what is seen of it.
-use Rattle.std.specs.Prelude.{◌≡◌, true, false, Bool}
+-- The boot of a run.
+use Rattle.std.specs.Prelude.{◌≡◌, true, false}
 use Rattle.thy_base.specs.declared.config.Parameters.{Parameters}
 use Rattle.thy_base.specs.Device.{Device}
 use Rattle.thy_base.specs.Geometry.{IsInRange}
 use Rattle.thy_dram.specs.Contents.{Contents}
-use Rattle.thy_view.specs.declared.view.View.{View}
-use Rattle.thy_view.specs.Booting.{loading_view, view_of_image}
 use Rattle.thy_view.specs.Kind.{IsDramOf}
 use Rattle.thy_view.specs.Origin.{Origin, IsOrigin}
-use Rattle.thy_view.specs.Safe.{ceiling}
-use Rattle.thy_boot.specs.declared.stage.Stage.{Stage}
-use Rattle.thy_boot.specs.declared.stage.Stage.TheVariants.{Reads, Loads}
+use Rattle.thy_boot.specs.declared.stage.Stage.TheVariants.{Reads}
 use Rattle.thy_boot.specs.declared.stage.ReadStage.TheVariants.{Unread}
 use Rattle.thy_boot.specs.Boot.{Booting, IsBoot, new_boot}
 use Rattle.thy_boot.specs.Laws.{IsGoing}
-use Rattle.thy_boot.specs.Shows.{is_written}
 use Rattle.thy_boot.specs.Sound.{BootImages, IsSoundBoot as IsBootOf}
-use Rattle.thy_shadow_image.specs.Layout.{decode_shadow}
 use Rattle.thy_pool.specs.Items.{is_under_way}
 use Rattle.thy_pool.specs.Progress.{IsSoundProgress}
 use Rattle.thy_pool.specs.State.{State, IsSoundState}
@@ -46,21 +40,6 @@ pub record Boots (o : Origin) (s : Shadow) (n : Device) : Type 0 where
   pub unused : IsUnused o s
   pub unread : s.boot.stage ≡ Reads Unread → s.pool.dram.queued ≡ 0
   pub storeless : s.storeless ≡ true
-
--- what is seen: while it loads, whether the commit block was written, and before what the image means
-abbrev pub view_at : Origin → Stage → Device → View
-view_at o (Loads issue) n = record (loading_view o.start.count) { written = is_written issue }
-view_at o stage n = view_of_image o.start.count (decode_shadow o.geometry ceiling n.image)
-
--- the commit block was read
-abbrev pub has_read_at : Stage → Bool
-has_read_at (Reads Unread) = false
-has_read_at stage = true
-
--- there is no checkpoint
-abbrev pub loads_at : Stage → Bool
-loads_at (Loads issue) = true
-loads_at stage = false
 
 -- shadow paging after a step of the boot; with a checkpoint restored nothing is left to do
 abbrev pub booted : Booting → State → Shadow → Shadow

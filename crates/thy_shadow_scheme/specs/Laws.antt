@@ -1,83 +1,31 @@
 -- What holds of the scheme.
-use Rattle.std.specs.Prelude.{◌≡◌, Bool, ℕ, ◌+◌, ◌*◌, ◌<◌, ◌≤◌, true, false, [], length, None}
+use Rattle.std.specs.Prelude.{◌≡◌, Bool, ℕ, ◌+◌, ◌*◌, ◌<◌, ◌≤◌, true, false, length}
 use Rattle.thy_base.specs.declared.config.Parameters.{Parameters}
-use Rattle.thy_base.specs.declared.nvm.Shape.{Shape}
 use Rattle.thy_base.specs.declared.block.Block.{Block}
 use Rattle.thy_base.specs.declared.store.Stored.{Stored}
 use Rattle.thy_base.specs.declared.store.Stored.TheVariants.{Done, CopyFirst}
-use Rattle.thy_base.specs.Device.{Device, IsFramed, block_at, fitted}
+use Rattle.thy_base.specs.Device.{Device, IsFramed, block_at}
 use Rattle.thy_base.specs.Geometry.{memory_blocks}
 use Rattle.thy_isa.specs.declared.state.CpuState.{CpuState}
-use Rattle.thy_record.specs.Decoded.{Nothing}
-use Rattle.thy_view.specs.declared.view.Phase.TheVariants.{Run}
 use Rattle.thy_view.specs.Action.{FailsTo}
-use Rattle.thy_view.specs.Origin.{Origin, IsOrigin}
-use Rattle.thy_view.specs.Safe.{ceiling}
+use Rattle.thy_view.specs.Origin.{Origin}
 use Rattle.thy_boot.specs.Boot.{Booting, IsBoot, answer_of}
 use Rattle.thy_boot.specs.Steps.{Steps}
 use Rattle.thy_scheme.specs.Boots.{BootsOn}
 use Rattle.thy_scheme.specs.Calls.{Drains, Engines, EngineFails, IsOneAccess, Seals, Stores}
 use Rattle.thy_scheme.specs.CheckpointMarks.{CheckpointMarks}
 use Rattle.thy_scheme.specs.Scheme.{Stands, IsBooting}
-use Rattle.thy_scheme.specs.Laws.{IsFound, IsLawful, IsNew, BootsFound, BootHolds, RunHolds, StaysSound, is_free_to_run}
-use Rattle.thy_core_laws.specs.Machine.{Machine, is_barred, shortage_of}
+use Rattle.thy_scheme.specs.Laws.{IsLawful}
 use Rattle.thy_core_laws.specs.Pace.{most_spent}
-use Rattle.thy_core_laws.specs.Sound.{Sound}
 use Rattle.thy_shadow_image.specs.Places.{image_blocks, slot_blocks}
 use Rattle.thy_pool.specs.Progress.{action_next}
 use Rattle.thy_pool.specs.State.{State, IsSoundState, work_of}
 use Rattle.thy_pool.specs.Stores.{after_drain, after_store, store_action, store_case, stored_by}
 use Rattle.thy_repool.specs.Filling.{filling_shadow}
 use Rattle.thy_shadow_laws.specs.Shadow.{Shadow}
-use Rattle.thy_shadow_laws.specs.Stays.{StaysShadow}
 use Rattle.thy_shadow_laws.specs.Taken.{taken, device_taken, step_of, sealed}
 use Rattle.thy_shadow_scheme.specs.Boots.{booted}
 use Rattle.thy_shadow_scheme.specs.Scheme.{shadow_scheme}
-
--- blocks are held, and can be stored, only while the NVM is up
-abbrev pub HeldIsUp : Type 0
-HeldIsUp =
-    ((s : Shadow) (n : Device) (b : ℕ) → b < length (shadow_scheme.holding s n).blocks → n.down ≡ false)
-    × ((s : Shadow) (n : Device) → (shadow_scheme.holding s n).ready ≡ true → n.down ≡ false)
-
--- what stays does so if nothing happens, and over one call after another
-abbrev pub StaysOver : Type 0
-StaysOver =
-    ((s : Shadow) (n : Device) → StaysShadow s n s n)
-    × ((a : Shadow) (m : Device) (b : Shadow) (n : Device) (c : Shadow) (o : Device)
-    → StaysShadow a m b n → StaysShadow b n c o → StaysShadow a m c o)
-
--- what stays keeps the checkpoints, whether or not a call failed
-abbrev pub StaysKeep : Type 0
-StaysKeep =
-    (o : Origin) (k : CheckpointMarks) (s : Shadow) (n : Device) (t : Shadow) (new : Device)
-    → Stands shadow_scheme o k s n → is_free_to_run shadow_scheme s ≡ true → StaysShadow s n t new
-    → StaysSound shadow_scheme o k s t new
-
--- what holds after the boot
-abbrev pub RunIsSound : Type 0
-RunIsSound =
-    (o : Origin) (k : CheckpointMarks) (s : Shadow) (n : Device) → Stands shadow_scheme o k s n → RunHolds shadow_scheme o k s n
-
--- nothing is queued in the DRAM of one whose power has just come on, and no more is left to do than there may be
-abbrev pub PowerIsNew : Type 0
-PowerIsNew = (p : Parameters) (s : Shadow) → shadow_scheme.powered p s → IsNew shadow_scheme p s
-
--- zeros are no checkpoint
-abbrev pub ZerosAreNothing : Type 0
-ZerosAreNothing =
-    (p : Parameters) (shape : Shape) (n : Device)
-    → shape.blocks ≡ shadow_scheme.blocks p → shadow_scheme.decode p ceiling (fitted shape [] n).image ≡ Nothing
-
--- what a cut leaves in the boot is what is seen, and drains of the NVM change nothing of it
-abbrev pub BootIsSound : Type 0
-BootIsSound = (o : Origin) (s : Shadow) (n : Device) → IsBooting shadow_scheme o s n → BootHolds shadow_scheme o s n
-
--- a scheme whose power has just come on boots what the image means
-abbrev pub PowerFinds : Type 0
-PowerFinds =
-    (o : Origin) (s : Shadow) (n : Device)
-    → IsOrigin o → shadow_scheme.powered o.geometry s → IsFound shadow_scheme o n → BootsFound shadow_scheme o s n
 
 -- every step of the engine keeps the checkpoints, and one that failed is safe
 abbrev pub ItemsAreSteps : Type 0
@@ -160,15 +108,6 @@ BootsAreShort =
 abbrev pub EpochsAreShort : Type 0
 EpochsAreShort = (p : Parameters) → most_spent shadow_scheme p ≤ 17 * p.epoch + 129 * p.ptt + slot_blocks p + 4
 
--- nothing is ever migrated: there is one form of its images
-abbrev pub NeverMigrates : Type 0
-NeverMigrates = (s : Shadow) → shadow_scheme.migrates s ≡ false
-
--- the hart is barred exactly while a checkpoint is under way
-abbrev pub HartIsBarred : Type 0
-HartIsBarred =
-    (m : Machine Shadow) → is_barred shadow_scheme m ≡ shadow_scheme.under_way m.scheme
-
 -- every frame is free if nothing was stored since the last seal and nothing is under way
 abbrev pub FramesAreFree : Type 0
 FramesAreFree =
@@ -176,12 +115,3 @@ FramesAreFree =
     → Stands shadow_scheme o k s n
     → shadow_scheme.storeless s ≡ true → shadow_scheme.under_way s ≡ false
     → shadow_scheme.free s ≡ o.geometry.ptt
-
--- A machine whose epoch goes on and has retired no instruction is not short of frames, once nothing is under way. So no
--- epoch ends for want of frames before its first instruction.
-abbrev pub FirstHasRoom : Type 0
-FirstHasRoom =
-    (o : Origin) (cycles : ℕ) (m : Machine Shadow) (n : Device)
-    → Sound shadow_scheme o cycles m n → m.phase ≡ Run
-    → m.hart.epoch.over ≡ None → m.hart.epoch.retired ≡ 0
-    → shadow_scheme.under_way m.scheme ≡ false → shortage_of shadow_scheme m ≡ None

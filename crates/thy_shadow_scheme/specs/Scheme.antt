@@ -6,6 +6,7 @@ use Rattle.thy_boot.specs.declared.stage.Stage.TheVariants.{Reads}
 use Rattle.thy_boot.specs.declared.stage.ReadStage.TheVariants.{Unread}
 use Rattle.thy_boot.specs.Boot.{new_boot}
 use Rattle.thy_boot.specs.Left.{boot_left}
+use Rattle.thy_boot_laws.specs.Seen.{view_at, has_read_at}
 use Rattle.thy_scheme.specs.Scheme.{SchemeOf}
 use Rattle.thy_shadow_image.specs.Places.{image_blocks}
 use Rattle.thy_shadow_image.specs.Layout.{decode_shadow}
@@ -16,7 +17,7 @@ use Rattle.thy_repool.specs.Filling.{filling_shadow}
 use Rattle.thy_shadow_laws.specs.Shadow.{Shadow, IsOf}
 use Rattle.thy_shadow_laws.specs.Sound.{IsSoundShadow}
 use Rattle.thy_shadow_laws.specs.Stays.{StaysShadow}
-use Rattle.thy_shadow_scheme.specs.Boots.{Boots, IsPowered, view_at, has_read_at}
+use Rattle.thy_shadow_scheme.specs.Boots.{Boots, IsPowered}
 
 -- the copies that are owed more once the checkpoint that is under way is committed: then every frame is free
 abbrev pub owed_with_commit : Shadow → ℕ
@@ -44,7 +45,7 @@ shadow_scheme = record {
   free = λ s. free_count s.pool.frames;
   is_sound = IsSoundShadow;
   boots = Boots;
-  boot_view = λ o s n. view_at o s.boot.stage n;
+  boot_view = λ o s n. view_at decode_shadow o s.boot.stage n;
   has_read = λ s. has_read_at s.boot.stage;
   migrates = λ s. false;
   boot_left = λ s. boot_left filling_shadow s.boot s.boot.stage;

@@ -1,7 +1,7 @@
 //! Shadow paging as a scheme of checkpoints: what is seen of it, and what holds of that.
 //!
 //! Open specs/Scheme.antt first, then specs/Boots.antt, and src/laws.rt. It depends on thy_shadow_laws, thy_repool,
-//! for three laws on thy_core_laws, and on their dependencies.
+//! thy_boot_laws, for one bound on thy_core_laws, and on their dependencies.
 #![tactic(auto)]
 
 mod laws;

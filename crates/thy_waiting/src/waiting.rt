@@ -6,6 +6,7 @@ ghost use Rattle.thy_base.specs.Places.{image_blocks};
 ghost use Rattle.thy_base.specs.Store.{IsKeptByLoad};
 ghost use Rattle.thy_dram.specs.Contents.{lost};
 ghost use Rattle.thy_table.specs.Listing.{free_count};
+ghost use Rattle.thy_record.specs.Images.{decode_image};
 ghost use Rattle.thy_control.specs.Holding.{holding_of};
 ghost use Rattle.thy_view.specs.Kind.{IsDramOf};
 ghost use Rattle.thy_view.specs.Origin.{Origin, Begins};
@@ -15,7 +16,7 @@ ghost use Rattle.thy_scheme.specs.Scheme.{StaysOf, Stands, CanRun, IsBooting, Ca
 ghost use Rattle.thy_scheme.specs.Calls.{IsOneAccess, Stores, Merges, Promotes, PromotionFails, TakesNoAction, Drains, Seals, Engines, EngineFails};
 ghost use Rattle.thy_scheme.specs.Boots.{BootsOn, BootFails, BootDrains};
 ghost use Rattle.thy_scheme.specs.Restart.{WritesNothing};
-ghost use Rattle.thy_dual_laws.specs.Boots.{has_read_at, loads_at, view_at};
+ghost use Rattle.thy_boot_laws.specs.Seen.{has_read_at, loads_at, view_at};
 ghost use Rattle.thy_dual_laws.specs.Dual.{IsOf, is_overlaid, is_promoting, penults};
 ghost use Rattle.thy_dual_laws.specs.Scheme.{dual_scheme};
 ghost use Rattle.thy_dual.specs.Calls.{IsSized, LoadsWork, LoadsCommitted, merged, sealed, drained};
@@ -307,7 +308,7 @@ impl Scheme for WaitingScheme {
         ensures stage { result ≡ loads_at self.now.below.boot.boot.stage }
         ensures found { let stage = self.now.below.boot.boot.stage in
             (o : Origin) (n : Device) → Boots dual_scheme o self.now n
-            → result ≡ (has_read_at stage && loads (view_at o stage n)) }
+            → result ≡ (has_read_at stage && loads (view_at decode_image o stage n)) }
     {
         self.below.loading()
     }

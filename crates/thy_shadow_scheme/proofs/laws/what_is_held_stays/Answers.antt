@@ -1,9 +1,12 @@
 use Rattle.thy_shadow_scheme.proofs.StoreLemmas.{held_is_work, stores_keep, failed_stores_keep}
-use Rattle.thy_shadow_scheme.proofs.StayLemmas.{held_is_up, stays_over}
+use Rattle.thy_shadow_scheme.proofs.StayLemmas.{held_is_up, ready_is_up, stays_over}
 use Rattle.thy_shadow_scheme.proofs.laws.what_is_held_stays.Goals as goal
 
 pub returns-clause-up : goal.returns-clause-up
 returns-clause-up c = held_is_up
+
+pub returns-clause-ready : goal.returns-clause-ready
+returns-clause-ready c = ready_is_up
 
 pub returns-clause-over : goal.returns-clause-over
 returns-clause-over c = stays_over

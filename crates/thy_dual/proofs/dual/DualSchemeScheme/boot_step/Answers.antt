@@ -8,7 +8,7 @@ use Rattle.thy_migrate.specs.Steps.{TakesStep}
 use Rattle.thy_control.specs.State.{State}
 use Rattle.thy_scheme.specs.Boots.{BootsOn, BootFails}
 use Rattle.thy_scheme.specs.Scheme.{StaysOf, IsBooting, CanBoot}
-use Rattle.thy_dual_laws.specs.Boots.{view_at}
+use Rattle.thy_boot_laws.specs.Seen.{view_at}
 use Rattle.thy_dual_laws.specs.Dual.{Dual}
 use Rattle.thy_dual_laws.specs.Scheme.{dual_scheme}
 use Rattle.thy_dual_laws.proofs.StoreLemmas.{of-failed}
@@ -16,6 +16,7 @@ use Rattle.thy_dual_laws.proofs.BootStepLemmas.{boots-by, fails-by, fits-by, too
 use Rattle.thy_dual.specs.Calls.{TakesBootStep}
 use Rattle.thy_dual.proofs.CallLemmas.{takes_boot_step}
 use Rattle.thy_dual.proofs.CountLemmas.{writes_nothing}
+use Rattle.thy_record.specs.Images.{decode_image}
 use Rattle.thy_dual.proofs.dual.DualSchemeScheme.boot_step.Goals as goal
 
 pub step-result-requires-clause-can : goal.step-result-requires-clause-can
@@ -95,7 +96,7 @@ returns-clause-no_writes g c = λ o m boots done rests.
     let n : Device = g.N.Nvm.device c.args.nvm.now in
     let old = g.N.Nvm.writes c.args.nvm.now in
     let new = g.N.Nvm.writes c.step-result.new.nvm in
-    let seen : (view_at o v.boot.boot.stage n).done ≡ Some m
-    = subst (λ (s : Dual). (view_at o s.boot.boot.stage n).done ≡ Some m) (sym c.self.view_is) done in
+    let seen : (view_at decode_image o v.boot.boot.stage n).done ≡ Some m
+    = subst (λ (s : Dual). (view_at decode_image o s.boot.boot.stage n).done ≡ Some m) (sym c.self.view_is) done in
     let rests_v : is_some v.boot.migration ≡ false = subst (λ (s : Dual). is_some s.boot.migration ≡ false) (sym c.self.view_is) rests in
     writes_nothing o n m c.step-result.result old new (state_of c.args.start.now.state) v.control v.boot.migration v.boot seen rests_v c.step-result.ensures.writes

@@ -1,7 +1,8 @@
 use Rattle.std.proofs.Common.{sym, ◌∙◌, ap, subst}
+use Rattle.thy_base.specs.Places.{dram_blocks}
 use Rattle.thy_dram.specs.Contents.{lost}
 use Rattle.thy_dual_laws.specs.Dual.{Dual, IsOf}
-use Rattle.thy_dual_laws.proofs.BootLemmas.{IsDramOf-lost}
+use Rattle.thy_boot_laws.proofs.PowerLemmas.{IsDramOf-lost}
 use Rattle.thy_dual.proofs.dual.DualSchemeScheme.cut.Goals as goal
 
 pub returns-clause-drawn : goal.returns-clause-drawn
@@ -10,4 +11,4 @@ returns-clause-drawn c = c.cut.ensures ∙ ap (λ (s : Dual). lost s.control.dra
 pub returns-clause-sized : goal.returns-clause-sized
 returns-clause-sized c = λ p is_of.
     let h = subst (λ (s : Dual). IsOf p s) (sym c.self.view_is) is_of in
-    IsDramOf-lost p c.self.inside.control c.args.pick c.cut.result h.tables h.same_p h.room c.cut.ensures
+    IsDramOf-lost p c.self.inside.control.dram c.args.pick c.cut.result (h.tables.dram_size ∙ ap dram_blocks h.same_p) h.room c.cut.ensures

@@ -1,5 +1,5 @@
 use Rattle.std.proofs.Common.{◌∙◌, ap}
-use Rattle.thy_dual_laws.specs.Boots.{loads_at}
+use Rattle.thy_boot_laws.specs.Seen.{loads_at}
 use Rattle.thy_dual_laws.specs.Dual.{Dual}
 use Rattle.thy_dual_laws.proofs.BootLemmas.{loading-is}
 use Rattle.thy_dual.proofs.dual.DualSchemeScheme.loading.Goals as goal

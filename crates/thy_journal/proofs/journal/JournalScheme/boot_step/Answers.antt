@@ -8,17 +8,19 @@ use Rattle.thy_boot.specs.Boot.{Booting}
 use Rattle.thy_boot.specs.Steps.{TakesStep}
 use Rattle.thy_scheme.specs.Boots.{BootsOn, BootFails}
 use Rattle.thy_scheme.specs.Scheme.{StaysOf, IsBooting, CanBoot}
+use Rattle.thy_boot_laws.specs.Seen.{view_at}
+use Rattle.thy_boot_laws.proofs.StepLemmas.{writes_nothing}
 use Rattle.thy_log.specs.Progress.{Progress}
 use Rattle.thy_log.specs.State.{State}
 use Rattle.thy_refill.specs.Filling.{filling_journal}
 use Rattle.thy_journal_laws.specs.Journal.{Journal as Value}
-use Rattle.thy_journal_scheme.specs.Boots.{view_at, engine_at}
+use Rattle.thy_journal_scheme.specs.Boots.{engine_at}
 use Rattle.thy_journal_scheme.specs.Scheme.{journal_scheme}
 use Rattle.thy_journal_scheme.proofs.StayLemmas.{of-failed}
 use Rattle.thy_journal_scheme.proofs.StepLemmas.{boots-by, boot-fails-by, took-for, may-step}
 use Rattle.thy_journal.specs.Calls.{TakesBootStep}
 use Rattle.thy_journal.proofs.CallLemmas.{boot_fits, takes_boot_step}
-use Rattle.thy_journal.proofs.CountLemmas.{writes_nothing}
+use Rattle.thy_journal_image.specs.Layout.{decode_journal}
 use Rattle.thy_journal.proofs.journal.JournalScheme.boot_step.Goals as goal
 
 pub step-result-requires-clause-can : goal.step-result-requires-clause-can
@@ -103,6 +105,6 @@ returns-clause-no_writes g c = λ o m boots done rests.
     let n : Device = g.N.Nvm.device c.args.nvm.now in
     let old = g.N.Nvm.writes c.args.nvm.now in
     let new = g.N.Nvm.writes c.step-result.new.nvm in
-    let seen : (view_at o v.boot.stage n).done ≡ Some m
-    = subst (λ (s : Value). (view_at o s.boot.stage n).done ≡ Some m) (sym c.self.view_is) done in
-    writes_nothing o n m c.step-result.result old new (state_of c.args.start.now.state) v.boot v.log v.boot.stage seen c.step-result.ensures.writes
+    let seen : (view_at decode_journal o v.boot.stage n).done ≡ Some m
+    = subst (λ (s : Value). (view_at decode_journal o s.boot.stage n).done ≡ Some m) (sym c.self.view_is) done in
+    writes_nothing filling_journal decode_journal o n m c.step-result.result old new (state_of c.args.start.now.state) v.boot v.log v.boot.stage seen c.step-result.ensures.writes

@@ -1,6 +1,6 @@
 use Rattle.std.proofs.Common.{◌∙◌, ap}
 use Rattle.thy_journal_laws.specs.Journal.{Journal as Value}
-use Rattle.thy_journal_scheme.specs.Boots.{loads_at}
+use Rattle.thy_boot_laws.specs.Seen.{loads_at}
 use Rattle.thy_journal_scheme.proofs.BootLemmas.{loading-is}
 use Rattle.thy_journal.proofs.journal.JournalScheme.loading.Goals as goal
 

@@ -50,7 +50,7 @@ returns-clause-up g c =
     let n : Device = g.N.Nvm.device c.args.nvm.now in
     let inside = subst (λ (s : Value). c.args.b < length (holding_of s.log n).blocks) (sym c.self.view_is) c.requires.inside in
     let room = subst (λ (s : Value). 0 < (holding_of s.log n).free) (sym c.self.view_is) c.requires.room in
-    c.what_is_held_stays.ensures.up.0 v n c.args.b inside
+    c.what_is_held_stays.ensures.up v n c.args.b inside
 
 pub returns-clause-once : goal.returns-clause-once
 returns-clause-once g c =

@@ -7,17 +7,18 @@ use Rattle.thy_boot.specs.Boot.{Booting}
 use Rattle.thy_boot.specs.Steps.{TakesStep}
 use Rattle.thy_scheme.specs.Boots.{BootsOn, BootFails}
 use Rattle.thy_scheme.specs.Scheme.{StaysOf, IsBooting, CanBoot}
+use Rattle.thy_boot_laws.specs.Seen.{view_at}
+use Rattle.thy_boot_laws.proofs.StepLemmas.{writes_nothing}
 use Rattle.thy_pool.specs.State.{State}
 use Rattle.thy_repool.specs.Filling.{filling_shadow}
 use Rattle.thy_shadow_laws.specs.Shadow.{Shadow as Value}
-use Rattle.thy_shadow_scheme.specs.Boots.{view_at}
 use Rattle.thy_shadow_scheme.specs.Scheme.{shadow_scheme}
 use Rattle.thy_shadow_scheme.proofs.StayLemmas.{of-failed}
 use Rattle.thy_shadow_scheme.proofs.StepLemmas.{boots-by, boot-fails-by, took-for, may-step}
 use Rattle.thy_shadow.specs.Calls.{TakesBootStep}
 use Rattle.thy_shadow.proofs.CallLemmas.{boot_fits, takes_boot_step}
-use Rattle.thy_shadow.proofs.CountLemmas.{writes_nothing}
 use Rattle.thy_shadow.specs.contracts.shadow.Shadow.{the_view}
+use Rattle.thy_shadow_image.specs.Layout.{decode_shadow}
 use Rattle.thy_shadow.proofs.shadow.ShadowScheme.boot_step.Goals as goal
 
 pub step-result-requires-clause-can : goal.step-result-requires-clause-can
@@ -104,6 +105,6 @@ returns-clause-no_writes g c = λ o m boots done rests.
     let n : Device = g.N.Nvm.device c.args.nvm.now in
     let old = g.N.Nvm.writes c.args.nvm.now in
     let new = g.N.Nvm.writes c.step-result.new.nvm in
-    let seen : (view_at o v.boot.stage n).done ≡ Some m
-    = subst (λ (s : Value). (view_at o s.boot.stage n).done ≡ Some m) (sym c.self.view_is) done in
-    writes_nothing o n m c.step-result.result old new (state_of c.args.start.now.state) v.boot v.pool v.boot.stage seen c.step-result.ensures.writes
+    let seen : (view_at decode_shadow o v.boot.stage n).done ≡ Some m
+    = subst (λ (s : Value). (view_at decode_shadow o s.boot.stage n).done ≡ Some m) (sym c.self.view_is) done in
+    writes_nothing filling_shadow decode_shadow o n m c.step-result.result old new (state_of c.args.start.now.state) v.boot v.pool v.boot.stage seen c.step-result.ensures.writes

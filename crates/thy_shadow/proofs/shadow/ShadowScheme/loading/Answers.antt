@@ -1,6 +1,6 @@
 use Rattle.std.proofs.Common.{◌∙◌, ap}
 use Rattle.thy_shadow_laws.specs.Shadow.{Shadow as Value}
-use Rattle.thy_shadow_scheme.specs.Boots.{loads_at}
+use Rattle.thy_boot_laws.specs.Seen.{loads_at}
 use Rattle.thy_shadow_scheme.proofs.BootLemmas.{loading-is}
 use Rattle.thy_shadow.proofs.shadow.ShadowScheme.loading.Goals as goal
 

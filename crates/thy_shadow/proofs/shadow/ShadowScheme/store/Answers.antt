@@ -85,7 +85,7 @@ returns-clause-up g c =
     let storeless : Bool = c.storeless_after-self-inside.result in
     let r : Result Stored NvmError = c.store-answer.result in
     let inside = subst (λ (s : Value). c.args.b < length (holding_of s.pool n).blocks) (sym c.self.view_is) c.requires.inside in
-    let up = c.what_is_held_stays.ensures.up.0 v n c.args.b inside in
+    let up = c.what_is_held_stays.ensures.up v n c.args.b inside in
     store_up c.args.b c.args.block.now n v p storeless new r up c.store-answer.ensures.same
 
 pub returns-clause-err : goal.returns-clause-err

@@ -1,0 +1,5 @@
+pub mod ViewLemmas
+pub mod LoadingLemmas
+pub mod PowerLemmas
+pub mod StepLemmas
+pub mod RoomLemmas

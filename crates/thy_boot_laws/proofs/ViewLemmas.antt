@@ -1,0 +1,109 @@
+-- What is seen of a boot of a run that is not over.
+use Rattle.std.proofs.Common.{◌≡◌, ℕ, [], List, length, refl, sym, ◌∙◌, ap, inl, inr, Option, Some, None}
+use Rattle.thy_base.specs.declared.block.Block.{Block}
+use Rattle.thy_base.specs.declared.mark.Mark.{Mark}
+use Rattle.thy_base.specs.Device.{Device}
+use Rattle.thy_record.specs.Decoded.{Reading}
+use Rattle.thy_view.specs.Booting.{loading_view, view_of_image}
+use Rattle.thy_view.specs.Origin.{Origin}
+use Rattle.thy_view.specs.Safe.{ceiling}
+use Rattle.thy_view.specs.Told.{told}
+use Rattle.thy_protocol.specs.Keeps.{Tells, TellsAll, finding_view}
+use Rattle.thy_protocol.specs.Layout.{Layout, decode_by}
+use Rattle.thy_protocol.specs.Moves.{IsKeeping}
+use Rattle.thy_protocol.proofs.KeepsLemmas.{finding_view-told}
+use Rattle.thy_boot.specs.declared.stage.Stage.{Stage}
+use Rattle.thy_boot.specs.declared.stage.Stage.TheVariants.{Reads, Loads, Over}
+use Rattle.thy_boot.specs.declared.stage.Issue.{Issue}
+use Rattle.thy_boot.specs.declared.stage.Issue.TheVariants.{Home, Slot, Header, Settle, Commit, Confirm}
+use Rattle.thy_boot.specs.Boot.{Booting}
+use Rattle.thy_boot.specs.Filling.{FillingOf}
+use Rattle.thy_boot.specs.Laws.{IsGoing}
+use Rattle.thy_boot.specs.Shows.{is_written, seen_at}
+use Rattle.thy_boot.specs.Sound.{BootImages, layout_for, start_mark, saved_loading, standing_in_boot, IsRecovering, IsSoundAt, IsSoundBoot}
+use Rattle.thy_scheme.specs.Boots.{IsBootView}
+use Rattle.thy_boot_laws.specs.Seen.{view_at}
+use Rattle.thy_boot_laws.specs.Laws.{IsReadBy, ViewIsKept, FoundIsSettled}
+
+-- it depends on the image, and on no turn
+pub alike_at : (read : Reading) (o : Origin) (turns : List ℕ) (stage : Stage) (n : Device)
+    → view_at read (told o turns) stage n ≡ view_at read o stage n
+alike_at read o turns (Reads r) n = refl
+alike_at read o turns (Loads issue) n = refl
+alike_at read o turns (Over end) n = refl
+
+-- ---- it is a view of a boot
+
+module _ (o : Origin) (l : Layout) (g : BootImages) where
+  shown-finding : (kept : Option Mark) → Tells o l g.before kept → IsBootView o (finding_view o.start.count kept)
+  shown-finding None tells = inr (tells.1, inl refl)
+  shown-finding (Some m) tells = inl (m, refl)
+
+  shown-loading : (issue : Issue) → o.kept ≡ None → IsBootView o (record (loading_view o.start.count) { written = is_written issue })
+  shown-loading (Home k) none = inr (none, inl refl)
+  shown-loading (Slot k) none = inr (none, inl refl)
+  shown-loading Header none = inr (none, inl refl)
+  shown-loading Settle none = inr (none, inl refl)
+  shown-loading Commit none = inr (none, inl refl)
+  shown-loading Confirm none = inr (none, inr refl)
+
+  -- a run that loads began without a checkpoint
+  pub loads-first : (issue : Issue) → TellsAll o l (saved_loading issue g) None (Some (start_mark o)) → o.kept ≡ None
+  loads-first (Home k) told = told.1
+  loads-first (Slot k) told = told.1
+  loads-first Header told = told.1
+  loads-first Settle told = told.1
+  loads-first Commit told = told.0.1
+  loads-first Confirm told = told.0.1
+
+  shown-at : (n : Device) (q : Stage) → IsGoing q → IsKeeping o l (standing_in_boot o q g n) → IsBootView o (seen_at o g.kept q)
+  shown-at n (Reads r) going keeps = shown-finding g.kept keeps.told
+  shown-at n (Loads issue) going keeps = shown-loading issue (loads-first issue keeps.told)
+  shown-at n (Over end) going keeps = absurd going
+
+  -- the image has its length
+  sized-at : (n : Device) (q : Stage) → IsGoing q → IsKeeping o l (standing_in_boot o q g n) → length n.image ≡ l.image_blocks
+  sized-at n (Reads r) going keeps = keeps.sized
+  sized-at n (Loads issue) going keeps = keeps.sized
+  sized-at n (Over end) going keeps = absurd going
+
+pub none-done : (m : Mark) → None ≡ Some m → ⊥
+none-done m d = cc
+
+-- ---- over any filling
+
+module _ {C : Type 0} (F : FillingOf C) where
+  -- while it reads, what the image means is the mark that is kept
+  pub view-reading : (read : Reading) (o : Origin) (g : BootImages) (n : Device) (b : Booting) (c : C)
+      → IsReadBy F read → IsRecovering F g n b c → length n.image ≡ (layout_for F o).image_blocks → Tells o (layout_for F o) g.before g.kept
+      → view_of_image o.start.count (read o.geometry ceiling n.image) ≡ finding_view o.start.count g.kept
+  view-reading read o g n b c reads recovering sized tells =
+      ap (view_of_image o.start.count) (reads o.geometry n.image sized)
+      ∙ ap (λ (x : List Block). view_of_image o.start.count (decode_by (layout_for F o) x)) (sym recovering.before_is)
+      ∙ finding_view-told o (layout_for F o) g.before g.kept o.start.count tells
+
+  view-at : (read : Reading) (o : Origin) (g : BootImages) (n : Device) (b : Booting) (c : C) (q : Stage)
+      → IsReadBy F read → IsGoing q → IsKeeping o (layout_for F o) (standing_in_boot o q g n) → IsSoundAt F o q g n b c
+      → view_at read o q n ≡ seen_at o g.kept q
+  view-at read o g n b c (Reads r) reads going keeps far = view-reading read o g n b c reads far keeps.sized keeps.told
+  view-at read o g n b c (Loads issue) reads going keeps far = refl
+  view-at read o g n b c (Over end) reads going keeps far = absurd going
+
+  settled-at : (o : Origin) (g : BootImages) (n : Device) (b : Booting) (c : C) (q : Stage) (m : Mark)
+      → IsGoing q → (seen_at o g.kept q).done ≡ Some m → IsSoundAt F o q g n b c → n.queue ≡ []
+  settled-at o g n b c (Reads r) m going found far = far.read.settled
+  settled-at o g n b c (Loads issue) m going found far = absurd (none-done m found)
+  settled-at o g n b c (Over end) m going found far = absurd going
+
+  pub view_is_kept : ViewIsKept F
+  view_is_kept read o g n b c reads sound going = (
+    view-at read o g n b c b.stage reads going sound.keeps sound.so_far,
+    shown-at o (layout_for F o) g n b.stage going sound.keeps,
+  )
+
+  pub found_is_settled : FoundIsSettled F
+  found_is_settled o g n b c m sound going found = settled-at o g n b c b.stage m going found sound.so_far
+
+  pub sized-is : (o : Origin) (g : BootImages) (n : Device) (b : Booting) (c : C)
+      → IsSoundBoot F o g n b c → IsGoing b.stage → length n.image ≡ (layout_for F o).image_blocks
+  sized-is o g n b c sound going = sized-at o (layout_for F o) g n b.stage going sound.keeps
