@@ -10,12 +10,12 @@ use Rattle.thy_words.specs.Settings.{Job, Order, run, resume, bench, compare, pl
 use Rattle.thy_observe.specs.declared.tally.Tally.{Tally}
 use Rattle.thy_observe.specs.Tallied.{IsTally}
 use Rattle.thy_observe.specs.Trapping.{HasTrap}
-use Rattle.thy_cli.specs.declared.answer.Answer.{Answer}
-use Rattle.thy_cli.specs.declared.refusal.Refusal.{Refusal}
-use Rattle.thy_cli.specs.declared.refusal.Refusal.TheVariants.{Words}
-use Rattle.thy_cli.specs.Answering.{Around, NvmOf, Outside, Closes, outside_of, put_line, told_of}
-use Rattle.thy_cli.specs.Machines.{Choice}
-use Rattle.thy_cli.specs.Saving.{IsPut}
+use Rattle.thy_answer.specs.declared.answer.Answer.{Answer}
+use Rattle.thy_answer.specs.declared.refusal.Refusal.{Refusal}
+use Rattle.thy_answer.specs.declared.refusal.Refusal.TheVariants.{Words}
+use Rattle.thy_answer.specs.Answering.{Around, NvmOf, Outside, Closes, outside_of, put_line, told_of}
+use Rattle.thy_answer.specs.Machines.{Choice}
+use Rattle.thy_answer.specs.Saving.{IsPut}
 use Rattle.thy_cli.specs.Watching.{ClaimSeen}
 
 -- OUT is this name

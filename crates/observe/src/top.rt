@@ -1,9 +1,9 @@
 //! The call: what thynvm does, and then OUT.
 ghost use Rattle.std.specs.Prelude.{◌≡◌, IfErr, OnOk, false, map};
 ghost use Rattle.std.specs.String.{string_bytes};
-ghost use Rattle.thy_cli.specs.Answering.{around, nvm_of};
-ghost use Rattle.thy_cli.specs.Machines.{by_scheme};
-ghost use Rattle.thy_cli.specs.Saving.{IsPut};
+ghost use Rattle.thy_answer.specs.Answering.{around, nvm_of};
+ghost use Rattle.thy_answer.specs.Machines.{by_scheme};
+ghost use Rattle.thy_answer.specs.Saving.{IsPut};
 ghost use Rattle.thy_run.specs.Sending.{Sent};
 ghost use Rattle.thy_text.specs.Closings.{closing_of};
 ghost use Rattle.thy_words.specs.Settings.{settings_of};

@@ -1,90 +1,16 @@
 -- What is claimed of a call follows from what its result is.
-use Rattle.std.proofs.Common.{◌≡◌, ℕ, ◌≤◌, false, Option, Some, None, List, refl, ◌∙◌, subst, inl, inr}
-use Rattle.std.specs.Prelude.{Ok, ◌⊎◌}
-use Rattle.thy_base.specs.declared.outside.PutError.{PutError}
-use Rattle.thy_base.specs.declared.outside.PutError.TheVariants.{Failed as PutFailed, Memory as PutMemory}
-use Rattle.thy_isa.specs.Step.{State, is_running}
-use Rattle.thy_words.specs.Settings.{Job, Order, compare, plain, make, settings_of}
+use Rattle.std.specs.Prelude.{ℕ, List}
+use Rattle.thy_isa.specs.Step.{State}
 use Rattle.thy_run.specs.Watching.{Taken}
-use Rattle.thy_cli.specs.declared.answer.Answer.{Answer}
-use Rattle.thy_cli.specs.Answering.{Around, NvmOf, Outside, MakeAnswered, PlainAnswered, RunAnswered, made_told, outside_of}
-use Rattle.thy_cli.specs.Completing.{IsAsked, IsCalm, left_alone, run_of, TellsEnd, RunCompletes, PairCompletes, CompareCompletes, PlainCompletes, MakeCompletes}
-use Rattle.thy_cli.specs.Machines.{Choice}
-use Rattle.thy_cli.specs.Orders.{Answered, OrderAnswered, WordsRefused}
-use Rattle.thy_cli.specs.Saving.{PutCounted}
-use Rattle.thy_cli.specs.Sources.{ProgramSource, file, made, image}
-use Rattle.thy_cli.specs.Watching.{HasSeenCall, ClaimSeen}
-use Rattle.thy_cli.proofs.CompleteLaws.{by_faults, order_same, pair_completes, program_due, put_calm, run_completes, stands_of, words_due}
-use Rattle.thy_cli.proofs.ComparedLaws.{compare_completes}
+use Rattle.thy_answer.specs.declared.answer.Answer.{Answer}
+use Rattle.thy_answer.specs.Answering.{Around, NvmOf}
+use Rattle.thy_answer.specs.Machines.{Choice}
+use Rattle.thy_answer.specs.Orders.{Answered}
+use Rattle.thy_answer.specs.Watching.{HasSeenCall}
+use Rattle.thy_complete.proofs.AnsweredLaws.{Completes-run, Completes-pair, Completes-compare, Completes-plain, Completes-make}
+use Rattle.thy_cli.specs.Watching.{ClaimSeen}
 
-module _ {N : Type 0} (c : Choice) (d : NvmOf N) (words : List (List ℕ)) (before after : Around N) (a : Answer) where
-  abbrev old : Outside
-  old = outside_of d before
-
-  abbrev new : Outside
-  new = outside_of d after
-
-  -- the result of the order of a run is that of its source
-  order_answered : (source : ProgramSource) (job : Job) → OrderAnswered c d (run_of source job) before after a → RunAnswered (c job.config.scheme).kind source job old new a
-  order_answered (file name) job h = h
-  order_answered (made n) job h = h
-  order_answered (image name) job h = h
-
-  -- a refusal of words that ask for something is for want of memory
-  refused_words : (order : Order) → settings_of words ≡ Ok order → WordsRefused d words before after a → a.status ≡ 9
-  refused_words order asked (e, due, shelf, nvm, refused) = refused.status ∙ words_due words order e asked due
-
-  -- the result is that of the order that is asked for
-  asked_for : (order other : Order) → settings_of words ≡ Ok order → settings_of words ≡ Ok other → OrderAnswered c d other before after a → OrderAnswered c d order before after a
-  asked_for order other asked is h = subst (λ x. OrderAnswered c d x before after a) (order_same words order other asked is) h
-
-  -- a result completes the run that is asked for
-  pub Completes-run : Answered c d words before after a → RunCompletes c words old new a
-  Completes-run (inl refused) source job i k faults one over limit = inr (refused_words (run_of source job) i.asked refused)
-  Completes-run (inr (order, asked, h)) source job i k faults one over limit =
-      run_completes (c job.config.scheme).kind words old new a source job i k faults one over limit
-      (order_answered source job (asked_for (run_of source job) order i.asked asked h))
-
-  -- with two harts too
-  pub Completes-pair : Answered c d words before after a → PairCompletes c words old new a
-  Completes-pair (inl refused) source job i k faults two limit = inr (inr (inl (refused_words (run_of source job) i.asked refused)))
-  Completes-pair (inr (order, asked, h)) source job i k faults two limit =
-      pair_completes (c job.config.scheme).kind words old new a source job i k faults limit
-      (order_answered source job (asked_for (run_of source job) order i.asked asked h))
-
-  plain_completes : (name : List ℕ) (job : Job) (i : IsAsked (plain name job) (file name) job words old.shelf) (k : ℕ) → IsCalm old new
-      → is_running (left_alone i.program k).status ≡ false → k ≤ job.config.limit → PlainAnswered name job old new a → TellsEnd (left_alone i.program k) a
-  plain_completes name job i k faults over limit (device, inl (r, due, refused)) =
-      inr (refused.status ∙ program_due (file name) job old.shelf new.shelf r (stands_of i) faults.shelf due)
-  plain_completes name job i k faults over limit (device, inr ran) = by_faults name job k old new a (stands_of i) faults over limit ran ran.terminal_failed ran.report_failed refl refl
-
-  -- and the one on the plain machine
-  pub Completes-plain : Answered c d words before after a → PlainCompletes words old new a
-  Completes-plain (inl refused) name job i k faults over limit = inr (refused_words (plain name job) i.asked refused)
-  Completes-plain (inr (order, asked, h)) name job i k faults over limit =
-      plain_completes name job i k faults over limit (asked_for (plain name job) order i.asked asked h)
-
-  -- a made program is put, unless memory ran out
-  make_told : (n : ℕ) (name : List ℕ) (why : Option PutError) → IsCalm old new → a.status ≡ (made_told n name why).0 → PutCounted name old.shelf new.shelf why
-      → (a.status ≡ 0) ⊎ (a.status ≡ 9)
-  make_told n name None faults is counted = inl is
-  make_told n name (Some PutFailed) faults is counted = put_calm name old.shelf new.shelf faults.shelf counted
-  make_told n name (Some (PutMemory e)) faults is counted = inr is
-
-  make_completes : (n : ℕ) (name : List ℕ) → IsCalm old new → MakeAnswered n name old new a → (a.status ≡ 0) ⊎ (a.status ≡ 9)
-  make_completes n name faults h = make_told n name h.why faults h.status h.put.counted
-
-  pub Completes-make : Answered c d words before after a → MakeCompletes words old new a
-  Completes-make (inl refused) n name asked faults = inr (refused_words (make n name) asked refused)
-  Completes-make (inr (order, is, h)) n name asked faults = make_completes n name faults (asked_for (make n name) order asked is h)
-
-  -- and each run of a comparison
-  pub Completes-compare : Answered c d words before after a → CompareCompletes c words old new a
-  Completes-compare (inl refused) name job i k faults one over limit = inr (refused_words (compare name job) i.asked refused)
-  Completes-compare (inr (order, asked, h)) name job i k faults one over limit =
-      compare_completes c d name job before after a (stands_of i) k faults one over limit (asked_for (compare name job) order i.asked asked h)
-
--- so what is claimed of a call follows from what its result is, and from what its observer has seen
+-- what is claimed of a call follows from what its result is, and from what its observer has seen
 pub ClaimSeen-answered : {N O : Type 0} (c : Choice) (d : NvmOf N) (has_seen : O → List Taken → Type 0) (has_seen_last : O → ℕ → State → Type 0) (words : List (List ℕ)) (before after : Around N) (a : Answer) (observer : O)
     → (h : Answered c d words before after a) → HasSeenCall c d has_seen has_seen_last words before after a h observer → ClaimSeen c d has_seen has_seen_last words before after a observer
 ClaimSeen-answered c d has_seen has_seen_last words before after a observer h has = (

@@ -1,12 +1,1 @@
-pub mod ClosingLaws
-pub mod PlainLemmas
-pub mod TopLemmas
-pub mod LevellingLemmas
-pub mod CompleteLaws
-pub mod ComparingLaws
-pub mod ComparedLaws
-pub mod NextLaws
-pub mod ComparisonLaws
 pub mod ClaimLaws
-pub mod SavingLemmas
-pub mod RestoringLaws

@@ -1,12 +1,2 @@
-pub mod Sources
-pub mod Saving
-pub mod Levelling
-pub mod Restoring
-pub mod Answering
-pub mod Comparing
-pub mod Orders
 pub mod Completing
-pub mod Machines
 pub mod Watching
-pub mod Planning
-pub mod Compared

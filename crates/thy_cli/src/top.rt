@@ -2,26 +2,20 @@
 ghost use Rattle.std.specs.Prelude.{[], map};
 ghost use Rattle.std.specs.String.{string_bytes};
 ghost use Rattle.thy_cli.specs.Completing.{Claim};
-ghost use Rattle.thy_cli.specs.Answering.{around, nvm_of};
-ghost use Rattle.thy_cli.specs.Machines.{by_scheme};
+ghost use Rattle.thy_answer.specs.Answering.{around, nvm_of};
+ghost use Rattle.thy_answer.specs.Machines.{by_scheme};
 ghost use Rattle.thy_cli.specs.Watching.{ClaimSeen};
 
-use crate::answer::Answer;
-use crate::comparing::compare;
-use crate::making::make;
-use crate::plain::plain_file;
-use crate::refusal::{Refusal, refuse};
-use crate::running::run_by_scheme;
-use crate::source::ProgramSource;
 use std::alloc::Global;
+use thy_answer::Answer;
 use thy_base::{Nvm, Shelf, Sink};
 use thy_core::Machine;
 use thy_dual::DualScheme;
 use thy_journal::Journal;
+use thy_order::carry_out;
 use thy_run::{Observer, Silent};
 use thy_shadow::Shadow;
 use thy_view::Computer;
-use thy_words::{Command, settings};
 
 /// Does what the arguments after the program's name ask for: `run FILE`, `resume IMAGE`, `bench N`, `compare FILE`,
 /// `plain FILE` or `make N OUT`, and options.
@@ -91,35 +85,7 @@ pub fn observed<H: Shelf, T: Sink, R: Sink, N: Nvm, O: Observer>(
         let words = map string_bytes words.now in
         ClaimSeen machines nvms O.has_seen O.has_seen_last words before after result observer.new }
 {
-    match settings(alloc, words) {
-        Ok(Command::Run { file, job }) => {
-            let source = ProgramSource::File(file.as_str());
-            run_by_scheme::<Machine<DualScheme>, Machine<Journal>, Machine<Shadow>, H, T, R, N, O>(
-                alloc, source, job, shelf, terminal, report, nvm, observer,
-            )
-        }
-        Ok(Command::Resume { image, job }) => {
-            let source = ProgramSource::Image(image.as_str());
-            run_by_scheme::<Machine<DualScheme>, Machine<Journal>, Machine<Shadow>, H, T, R, N, O>(
-                alloc, source, job, shelf, terminal, report, nvm, observer,
-            )
-        }
-        Ok(Command::Bench { number, job }) => {
-            let source = ProgramSource::Made(number);
-            run_by_scheme::<Machine<DualScheme>, Machine<Journal>, Machine<Shadow>, H, T, R, N, O>(
-                alloc, source, job, shelf, terminal, report, nvm, observer,
-            )
-        }
-        Ok(Command::Compare { file, job }) => {
-            let name = file.as_str();
-            compare::<Machine<DualScheme>, Machine<Journal>, Machine<Shadow>, H, T, R, N>(
-                alloc, name, job, shelf, terminal, report, nvm,
-            )
-        }
-        Ok(Command::Plain { file, job }) => {
-            plain_file(alloc, file.as_str(), job, shelf, terminal, report, observer)
-        }
-        Ok(Command::Make { number, name }) => make(alloc, number, name.as_str(), shelf, report),
-        Err(error) => refuse(alloc, Refusal::Words(error), report),
-    }
+    carry_out::<Machine<DualScheme>, Machine<Journal>, Machine<Shadow>, H, T, R, N, O>(
+        alloc, words, shelf, terminal, report, nvm, observer,
+    )
 }

@@ -1,18 +1,18 @@
 -- How long epochs and boots can be.
 use Rattle.std.specs.Prelude.{ℕ, ◌+◌, ◌*◌, ◌<◌, ◌≤◌}
 use Rattle.thy_base.specs.declared.config.Parameters.{Parameters}
-use Rattle.thy_base.specs.Geometry.{memory_blocks}
-use Rattle.thy_base.specs.Places.{slot_blocks, count_blocks}
+use Rattle.thy_base.specs.Geometry.{IsInRange, memory_blocks}
+use Rattle.thy_base.specs.Places.{slot_blocks}
 use Rattle.thy_core_laws.specs.Pace.{most_spent}
 use Rattle.thy_dual_laws.specs.Scheme.{dual_scheme}
 
--- instructions, lines of the cache, entries of the block table, blocks of the page table's pages, harts, and fifteen more
+-- instructions, lines of the cache, entries of the block table, blocks of the page table's pages, and sixteen more
 abbrev pub size_of : Parameters → ℕ
-size_of p = p.epoch + p.sets * p.ways + p.btt + 64 * p.ptt + 15 + p.harts
+size_of p = p.epoch + p.sets * p.ways + p.btt + 64 * p.ptt + 16
 
--- an epoch spends less than 64 cycles for each of them, and one for each block of counts
+-- an epoch spends less than 64 cycles for each of them, if each number is in its range
 abbrev pub EpochsAreShort : Type 0
-EpochsAreShort = (p : Parameters) → most_spent dual_scheme p < 64 * size_of p + count_blocks p
+EpochsAreShort = (p : Parameters) → IsInRange p → most_spent dual_scheme p < 64 * size_of p
 
 -- a boot takes an action for each of memory's blocks, two for each of the slot's, 64 for each entry of the page table,
 -- and eight more, at the most

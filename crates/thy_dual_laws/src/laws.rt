@@ -51,9 +51,9 @@ pub fn what_is_held_stays()
     ensures over { StaysOver dual_scheme }
 {}
 
-/// An epoch of a machine over the scheme spends less than 64 cycles for each of its instructions, lines of the cache,
-/// entries of the block table, blocks of the pages that its page table can list, and harts, and fifteen more, and one for
-/// each block of the slot's counts. A boot takes at most an action for each of memory's blocks, two for each of the
+/// If each number of the configuration is in its range, an epoch of a machine over the scheme spends less than 64 cycles
+/// for each of its instructions, lines of the cache, entries of the block table, and blocks of the pages that its page
+/// table can list, and for sixteen more. A boot takes at most an action for each of memory's blocks, two for each of the
 /// slot's, 64 for each entry of the page table, and eight more.
 pub fn epochs_and_boots_are_short()
     ensures epochs { EpochsAreShort }

@@ -207,14 +207,14 @@ module _ {every since cuts : ℕ} {r : Registers} {n : Device} (i : IsSoundGap e
       ap (λ (g : List Block). registers_of r.lines (block_at g (r.lines + 1))) last
       ∙ ap (λ k. registers_of k (block_at new.image (k + 1))) lines
 
-  pub cut_seen : (pick : ℕ) (new : Device) (s : Registers) → 0 < r.lines → IsCut pick n new
+  pub cut_seen : (pick : ℕ) (new : Device) (s : Registers) (writes : ℕ) → 0 < r.lines → IsCut pick n new
       → s ≡ registers_of r.lines (block_at (slice_index_or new.left cuts []) (r.lines + 1))
-      → IsCut pick (seen r n) (seen s new) × IsSoundGap every s since (cuts + 1) new
-  cut_seen pick new s l c e =
+      → IsCut pick (seen r n) (seen s new) × IsSoundGap every s writes (cuts + 1) new
+  cut_seen pick new s writes l c e =
       let d = i.fitted l in
       let both = IsCut-seen r cuts pick n new d c in
       let some : 0 < (registers_in new.image).lines = omega (arith, l, d.blocks, c.crash.same_length) in
-      subst (λ (q : Registers). IsCut pick (seen r n) (seen q new) × IsSoundGap every q since (cuts + 1) new) (sym (e ∙ registers_after_cut pick new l c)) (
+      subst (λ (q : Registers). IsCut pick (seen r n) (seen q new) × IsSoundGap every q writes (cuts + 1) new) (sym (e ∙ registers_after_cut pick new l c)) (
         both.0,
         record {
           some = i.some;

@@ -1,5 +1,5 @@
 -- A levelled device, and what holds of it.
-use Rattle.std.specs.Prelude.{◌≡◌, ◌≢◌, ℕ, ◌+◌, ◌-◌, ◌<◌, ◌≤◌, ◌^◌, nat_lt, if◌then◌else◌, true, false, List, [], ◌∷◌, ◌++◌, length, replicate, All, Contains, is_some}
+use Rattle.std.specs.Prelude.{◌≡◌, ◌≢◌, ℕ, ◌+◌, ◌-◌, ◌<◌, ◌≤◌, ◌^◌, ◌==◌, nat_lt, if◌then◌else◌, true, false, List, [], ◌∷◌, ◌++◌, length, replicate, All, Contains, is_some}
 use Rattle.thy_base.specs.declared.block.Block.{Block}
 use Rattle.thy_base.specs.declared.nvm.Shape.{Shape}
 use Rattle.thy_base.specs.declared.nvm.Write.{Write}
@@ -17,7 +17,7 @@ pub record Levelled (N : Type 0) : Type 0 where
   pub every : ℕ
   -- the registers in hand
   pub registers : Registers
-  -- how many writes succeeded since the last barrier that moved a line, or the fit; it saturates
+  -- how many writes succeeded since the last move of a line, or the fit; it saturates
   pub since : ℕ
   -- how many cuts there were since the last fit
   pub cuts : ℕ
@@ -68,9 +68,19 @@ HasMovedIfDue old new = new ≡ record old {
 abbrev pub settled_and_moved : {N : Type 0} → Levelled N → Device → Device
 settled_and_moved g n = if nat_lt g.since g.every then settled n else line_moved g.registers (settled n)
 
--- after a cut that left this inner image: the registers are those of the image, and the writes since the last move count
+-- The writes that count towards the next move after a cut, with these registers before it and those of the image that it
+-- left: none if the cut completed a move that had failed, which takes the gap to another place.
+abbrev pub counted_on : Registers → Registers → ℕ → ℕ
+counted_on before left since = if left.gap == before.gap then since else 0
+
+-- after a cut that left this inner image: the registers are those of the image
 abbrev pub HasCut : {N : Type 0} → List Block → Levelled N → Levelled N → Type 0
-HasCut image old new = new ≡ record old { inner = new.inner; registers = registers_in image; cuts = old.cuts + 1 }
+HasCut image old new = new ≡ record old {
+  inner = new.inner;
+  registers = registers_in image;
+  since = counted_on old.registers (registers_in image) old.since;
+  cuts = old.cuts + 1;
+}
 
 -- ---- the invariant
 

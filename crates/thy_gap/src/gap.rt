@@ -1,7 +1,7 @@
 //! A device whose lines wander over an inner one.
 ghost use Rattle.std.specs.Prelude.{◌≡◌, ◌+◌, ◌^◌, ◌<◌, ◌≤◌, false, length, IfOk, OnOk, OnErr, IfErr, slice_index_or, []};
 ghost use Rattle.thy_base.specs.Device.{newest, block_at, written_to, drained, settled, fitted, IsCut, IsFramed, HasFailed, HasFailedToWrite, HasFailedToFit, CountsFault, CountsWrite};
-ghost use Rattle.thy_gap.specs.Levelled.{over as levelled_over, shown, first_image, inner_fitted, IsOver, HasFitted, HasWritten, HasMovedIfDue, settled_and_moved, HasCut};
+ghost use Rattle.thy_gap.specs.Levelled.{over as levelled_over, shown, first_image, inner_fitted, IsOver, HasFitted, HasWritten, HasMovedIfDue, settled_and_moved, HasCut, counted_on};
 ghost use Rattle.thy_gap.specs.Lines.{place as place_of_line};
 ghost use Rattle.thy_gap.specs.Meaning.{ImageMeansSeen, CrashMeansSeen, LeftMeansSeen};
 
@@ -20,7 +20,7 @@ pub struct Gap<N: Nvm> {
     // After how many writes a barrier moves a line.
     every: u64,
     registers: Registers,
-    // How many writes succeeded since the last barrier that moved a line, or the fit. Saturates.
+    // How many writes succeeded since the last move of a line, or the fit. Saturates.
     since: u64,
     // How many cuts there were since the last fit.
     cuts: u64,
@@ -96,6 +96,14 @@ fn first_blocks(start: Vec<Block>, lines: u64) -> Result<Vec<Block>, AllocError>
     image.resize(lines as usize + 1, Block::ZERO)?;
     image.push(Registers::unmoved(lines).block())?;
     Ok(image)
+}
+
+/// How many writes count towards the next move after a cut, with these registers before it and those of the image that it
+/// left: none if the cut completed a move, which takes the gap to another place.
+fn counted_on(before: Registers, left: Registers, since: u64) -> u64
+    ensures { result ≡ counted_on before left since }
+{
+    if left.gap == before.gap { since } else { 0 }
 }
 
 impl<N: Nvm> Nvm for Gap<N> {
@@ -197,8 +205,8 @@ impl<N: Nvm> Nvm for Gap<N> {
         self.inner.drain()
     }
 
-    /// Then moves a line, exactly if `every` writes or more were made since the last barrier that did and succeeded, or
-    /// the fit.
+    /// Then moves a line, exactly if `every` writes or more were made since the last move that succeeded or that a cut
+    /// completed, or the fit.
     fn barrier(&mut self) -> Result<(), NvmError>
         requires { (shown N.device self.old).down ≡ false }
         ensures ok { OnOk result (shown N.device self.new ≡ settled (shown N.device self.old)) }
@@ -221,7 +229,8 @@ impl<N: Nvm> Nvm for Gap<N> {
         Ok(())
     }
 
-    /// The registers are those of the image that is left: those in hand, or those of a move that it completes.
+    /// The registers are those of the image that is left: those in hand, or those of a move that failed and that the cut
+    /// completes. From such a move on the writes are counted anew.
     fn cut(&mut self, pick: u64)
         requires { length (shown N.device self.old).left < (shown N.device self.old).left_room }
         ensures cut { IsCut pick (shown N.device self.old) (shown N.device self.new) }
@@ -230,7 +239,9 @@ impl<N: Nvm> Nvm for Gap<N> {
         ensures same_writes { N.writes self.new.inner ≡ N.writes self.old.inner }
     {
         self.inner.cut(pick);
-        self.registers = registers_kept(&self.inner, self.registers.lines, self.cuts);
+        let registers = registers_kept(&self.inner, self.registers.lines, self.cuts);
+        self.since = counted_on(self.registers, registers, self.since);
+        self.registers = registers;
         self.cuts += 1;
     }
 

@@ -3,7 +3,7 @@
 //! `a_checkpoint_can_begin_a_run`. No image is one of two schemes: `an_image_is_of_one_scheme`.
 //!
 //! Open specs/Meaning.antt first, then src/file.rt. It depends on thy_record, thy_journal_image and thy_shadow_image, one
-//! for each scheme, and on their dependencies; thy_cli depends on it.
+//! for each scheme, and on their dependencies; thy_answer and thy_files depend on it.
 #![tactic(auto)]
 
 mod file;

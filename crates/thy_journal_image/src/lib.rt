@@ -4,7 +4,7 @@
 //! block.
 //!
 //! Open specs/Places.antt first, then specs/Slots.antt and specs/Layout.antt, and src/laws.rt. It depends on thy_base,
-//! thy_crash, thy_flat, thy_isa, thy_record, thy_view and thy_protocol; thy_log and the scheme above it depend on it.
+//! thy_crash, thy_isa, thy_record, thy_view and thy_protocol; thy_log and the scheme above it depend on it.
 #![tactic(auto)]
 
 mod commit;

@@ -1,1 +1,3 @@
+pub mod LogParts
+pub mod PoolParts
 pub mod Powered

@@ -5,7 +5,7 @@
 //! thy_crash then say what is left of a run's checkpoints by each call, in the marks that the machine shows:
 //! `moves_are_safe`.
 //!
-//! Open specs/Keeps.antt first, then specs/Moves.antt, and src/laws.rt. It depends on thy_base, thy_crash, thy_flat,
+//! Open specs/Keeps.antt first, then specs/Moves.antt, and src/laws.rt. It depends on thy_base, thy_crash,
 //! thy_isa, thy_record and thy_view; thy_boot, thy_commit, the images of the journal and of shadow paging, and what stands on
 //! these depend on it.
 #![tactic(auto)]

@@ -4,7 +4,7 @@
 //! bytes of a file mean, and on `written_decodes` and `decoded_is_whole`: what was written decodes, and what decodes is
 //! whole.
 //!
-//! Open specs/Images.antt first, then specs/Files.antt, and src/file.rt. It depends on thy_base, thy_crash, thy_flat and
+//! Open specs/Images.antt first, then specs/Files.antt, and src/file.rt. It depends on thy_base, thy_flat and
 //! thy_isa; thy_text and all from thy_control on depend on it.
 #![tactic(auto)]
 

@@ -2,7 +2,8 @@
 //! left of the queued writes (`every_run_keeps_its_promise`); and the loop that makes a run, `run`.
 //!
 //! Open specs/World.antt first, then specs/Promises.antt, and src/cycles.rt. It depends on thy_text, thy_view and their
-//! dependencies, and is proved for every machine of the trait `Computer`; thy_cli depends on it.
+//! dependencies, and is proved for every machine of the trait `Computer`; thy_answer and
+//! thy_execute depend on it.
 #![tactic(auto)]
 
 mod advance;

@@ -4,7 +4,7 @@
 //! slot, and `check` and `state` over those of a file.
 //!
 //! Open specs/Places.antt first, then specs/Slots.antt and specs/Layout.antt, and src/laws.rt. It depends on thy_base,
-//! thy_crash, thy_flat, thy_isa, thy_record, thy_view and thy_protocol, and on thy_journal_image for the commit block.
+//! thy_crash, thy_isa, thy_record, thy_view and thy_protocol, and on thy_journal_image for the commit block.
 #![tactic(auto)]
 
 mod file;

@@ -5,7 +5,7 @@
 //! not say this: the sink's calls are counted in a test.
 //!
 //! Open specs/Lines.antt first, then specs/Marks.antt, and src/event.rt. It stands on thy_base, thy_isa and thy_record;
-//! on it stand thy_run and thy_cli.
+//! on it stand thy_run and thy_answer.
 #![tactic(auto)]
 
 mod closing;

@@ -62,6 +62,41 @@ fn runs_of_made_programs_are_summed_up(rt: HostRuntime) -> Result<(), Fail> {
     Ok(())
 }
 
+/// The report of a made program that runs in one epoch, without its sums.
+const UNSUMMED: &[u8] =
+    b"commit 0 overlapped 0\nepoch 1 ends at 48027 by end\ncommit 1 overlapped 0\nexit 128 at 48027\n";
+
+/// The report refuses the line of a made file, and then that of a run's sums. The file and the image are there all the same,
+/// and a save that failed keeps its status.
+#[test]
+fn a_report_that_refuses_sums_has_failed(rt: HostRuntime) -> Result<(), Fail> {
+    let alloc = rt.alloc();
+    let mut shelf = empty(alloc, &[])?;
+    let line = "thynvm make 0 OUT";
+    let given = called_on(alloc, line, &mut shelf, &[], &[1])?;
+    compare(&rt, line, &given, 6, "", b"");
+    let line = "thynvm plain OUT";
+    let given = called_on(alloc, line, &mut shelf, &[], &[])?;
+    compare(&rt, line, &given, 0, "", b"exit 128 at 48027\n");
+    let bench = "thynvm bench 0 --btt 4096 --epoch 1000000 --save IMAGE";
+    let given = called_on(alloc, bench, &mut shelf, &[], &[5])?;
+    compare(&rt, bench, &given, 6, "", UNSUMMED);
+    let line = "thynvm resume IMAGE --btt 4096 --epoch 1000000";
+    let given = called_on(alloc, line, &mut shelf, &[], &[])?;
+    compare(
+        &rt,
+        line,
+        &given,
+        0,
+        "",
+        b"restart 1 at 48027\nexit 128 at 48027\n",
+    );
+    let mut shelf = empty(alloc, &[1])?;
+    let given = called_on(alloc, bench, &mut shelf, &[], &[5])?;
+    compare(&rt, bench, &given, 3, "", UNSUMMED);
+    Ok(())
+}
+
 /// What is reported if no page is promoted and enough entries are free, between its first line and the number of
 /// overlapped instructions.
 static EPOCHS: [&str; 6] = [

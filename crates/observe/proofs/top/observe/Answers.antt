@@ -1,5 +1,5 @@
 use Rattle.std.proofs.Common.{refl, sym, ◌∙◌, inl, inr}
-use Rattle.thy_cli.specs.Answering.{around}
+use Rattle.thy_answer.specs.Answering.{around}
 use Rattle.observe.proofs.top.observe.Goals as goal
 
 pub returns-in-Err : goal.returns-in-Err

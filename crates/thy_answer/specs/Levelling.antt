@@ -1,0 +1,66 @@
+-- Part of the claim.
+-- The device that a run sees: the one that is handed in, or, with a gap, the levelled lines that it holds.
+use Rattle.std.specs.Prelude.{◌≡◌, ℕ, ◌+◌, ◌==◌, if◌then◌else◌, Bool, true, List, map, length, take, Option, Some, None}
+use Rattle.thy_base.specs.declared.block.Block.{Block}
+use Rattle.thy_base.specs.declared.outside.PutError.{PutError}
+use Rattle.thy_base.specs.Device.{Device, Crash}
+use Rattle.thy_base.specs.Outside.{Stock}
+use Rattle.thy_flat.specs.Flat.{flat}
+use Rattle.thy_gap.specs.Seen.{unmapped}
+use Rattle.thy_record.specs.Decoded.{Reading}
+use Rattle.thy_text.specs.Event.{Event}
+use Rattle.thy_view.specs.Kind.{KindOf}
+use Rattle.thy_view.specs.Origin.{Origin}
+use Rattle.thy_view.specs.Safe.{ceiling}
+use Rattle.thy_run.specs.Cuts.{cuts_among}
+use Rattle.thy_run.specs.Images.{HasLeft, AllFit}
+use Rattle.thy_run.specs.Laws.{IsSafe, marks_of, found_at_start}
+use Rattle.thy_answer.specs.Saving.{IsPut}
+
+-- what an image of the device is to a run: itself; with a gap, the lines that it holds by its own registers
+abbrev pub through : ℕ → List Block → List Block
+through gap g = if gap == 0 then g else unmapped g
+
+-- what the run sees before: the device itself; with a gap, one with its counts, and a fit makes all else
+pub record IsFoundAs (gap : ℕ) (handed seen : Device) : Type 0 where
+  pub direct : gap ≡ 0 → seen ≡ handed
+  pub faults : seen.faults ≡ handed.faults
+  pub fits : seen.fits ≡ handed.fits
+
+-- what it sees afterwards: the device itself; with a gap, what the images of the device are to it, and all else the same
+pub record IsLeftAs (gap : ℕ) (handed seen : Device) : Type 0 where
+  pub direct : gap ≡ 0 → seen ≡ handed
+  pub image : through gap handed.image ≡ seen.image
+  pub crash : (g : List Block) → Crash handed g → Crash seen (through gap g)
+  pub left : map (through gap) handed.left ≡ seen.left
+  pub picks : seen.picks ≡ handed.picks
+  pub queue_room : seen.queue_room ≡ handed.queue_room
+  pub left_room : seen.left_room ≡ handed.left_room
+  pub down : seen.down ≡ handed.down
+  pub faults : seen.faults ≡ handed.faults
+  pub fits : seen.fits ≡ handed.fits
+
+-- ---- what follows for the device that is handed back, without the one that the run saw
+
+-- what the images of the device mean
+abbrev pub read_through : ℕ → Reading → Reading
+read_through gap read = λ p limit g. read p limit (through gap g)
+
+-- how many images a save leaves
+abbrev pub images_of_save : Option (List ℕ) → Bool → ℕ
+images_of_save (Some name) true = 1
+images_of_save name due = 0
+
+-- It is safe for the marks of the events; each restart is what the cut before it left; and each cut left one image, and a
+-- save's one more.
+pub record IsHandedBack {M : Type 0} (K : KindOf M) (o : Origin) (gap cycles : ℕ) (events : List Event) (saved : ℕ)
+    (n : Device) : Type 0 where
+  pub safe_at_return : IsSafe (read_through gap K.decode) o (marks_of o events) n
+  pub restarts_decode : AllFit (read_through gap K.decode o.geometry ceiling) (HasLeft cycles) (found_at_start o) events
+      (take (length (cuts_among events)) n.left)
+  pub images : length n.left ≡ length (cuts_among events) + saved
+
+-- what a save put on the shelf is what the image is to the run that it left; and without one the shelf is left alone
+abbrev pub PutsThrough : ℕ → Option (List ℕ) → Bool → Device → Stock → Stock → Option PutError → Type 0
+PutsThrough gap (Some name) true left old new why = IsPut name (flat (through gap left.image)) old new why
+PutsThrough gap name due left old new why = (new ≡ old) × (why ≡ None)

@@ -1,0 +1,9 @@
+pub mod Sources
+pub mod Saving
+pub mod Levelling
+pub mod Answering
+pub mod Machines
+pub mod Comparing
+pub mod Orders
+pub mod Watching
+pub mod Kept

@@ -1,6 +1,0 @@
-use Rattle.std.proofs.Common.{◌≡◌, take}
-use Rattle.thy_record.specs.Files.{blocks_of}
-use Rattle.thy_cli.proofs.restoring.whole_blocks.Given as goal
-
-abbrev pub invariant-loop-k : goal.invariant-loop-k
-invariant-loop-k l = l.blocks.items ≡ take l.k (blocks_of l.bytes)

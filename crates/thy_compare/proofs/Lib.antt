@@ -1,0 +1,3 @@
+pub mod ComparingLaws
+pub mod NextLaws
+pub mod ComparisonLaws

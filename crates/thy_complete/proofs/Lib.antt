@@ -1,0 +1,3 @@
+pub mod CompleteLaws
+pub mod ComparedLaws
+pub mod AnsweredLaws

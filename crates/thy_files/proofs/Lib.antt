@@ -1,0 +1,3 @@
+pub mod RestoringLaws
+pub mod SavingLemmas
+pub mod BeginningLemmas

@@ -1,0 +1,19 @@
+use Rattle.std.proofs.Common.{◌≡◌, sym, subst}
+use Rattle.std.specs.Result.{IfErr}
+use Rattle.thy_base.specs.Outside.{Stock}
+use Rattle.thy_answer.specs.Kept.{named}
+use Rattle.thy_answer.specs.Sources.{ProgramDue}
+use Rattle.thy_answer.proofs.ShelfLemmas.{stock_same}
+use Rattle.thy_files.proofs.beginning.prepare.Goals as goal
+
+pub returns-in-Err-clause-refusal : goal.returns-in-Err-clause-refusal
+returns-in-Err-clause-refusal g c = λ job h. c.in-Err.ensures.refusal job h.reads
+
+pub returns-in-Ok-clause-refusal : goal.returns-in-Ok-clause-refusal
+returns-in-Ok-clause-refusal g c = λ job h.
+    let old : Stock = g.H.Shelf.stock c.args.shelf.now in
+    let new : Stock = g.H.Shelf.stock c.fetch_both.new.shelf in
+    let same : new ≡ old = stock_same old new c.in-Ok.ensures.held c.in-Ok.ensures.calm in
+    subst (λ s. IfErr c.begin.result (ProgramDue (named c.args.source) job old s)) (sym same)
+    (c.begin.ensures.refusal job old
+    (record { numbers = h.numbers; in_range = c.requires; both = c.in-Ok.ensures.fetched job h.reads }))

@@ -1,0 +1,309 @@
+//! Log, engine and boot of a redo journal of the least memory, and the NVM below them: what its calls are made of. Each call
+//! here tests what it requires, and stops the test if that does not hold.
+ghost use Rattle.std.specs.Prelude.{◌≡◌, ◌<◌, ◌≤◌, true, false, length};
+ghost use Rattle.thy_base.specs.Device.{IsFramed};
+ghost use Rattle.thy_base.specs.Geometry.{IsInRange};
+ghost use Rattle.thy_base.specs.Places.{dram_blocks};
+ghost use Rattle.thy_boot.specs.Boot.{new_boot};
+ghost use Rattle.thy_isa.specs.Step.{state_of};
+ghost use Rattle.thy_log.specs.State.{new_state};
+ghost use Rattle.thy_refill.specs.Filling.{filling_journal};
+ghost use Rattle.thy_machine_tests.specs.LogParts.{Boots, IsLeastStart, goes_on};
+
+use std::alloc::Global;
+use std::marker::Model;
+use std::process::Abort;
+use thy_base::{Block, Geometry, Nvm, Shape};
+use thy_boot::{Boot, a_boot_may_go_on};
+use thy_dram::Dram;
+use thy_isa::{CpuState, Regs, Status};
+use thy_journal::Refill;
+use thy_journal_image::blocks;
+use thy_log::{Engine, Log};
+use thy_nvm::MemNvm;
+use thy_record::{EngineStep, Start};
+use thy_view::BootStep;
+
+/// Both devices while the power is off, and how many cuts are to come at most.
+#[derive(Drop)]
+pub(crate) struct Off {
+    geometry: Geometry,
+    dram: Dram,
+    nvm: MemNvm,
+    cuts: u64,
+}
+
+impl Model for Off {
+    ghost use Rattle.thy_machine_tests.specs.LogParts.{Off as IsValue, IsOff, off};
+
+    ghost Value = { IsValue };
+
+    ghost view = { λ m. off m.geometry m.dram m.nvm.device m.cuts };
+
+    ghost invariant = { λ m. IsOff (off m.geometry m.dram m.nvm.device m.cuts) };
+}
+
+/// Log, engine and NVM once the boot is over.
+#[derive(Drop)]
+pub(crate) struct Parts {
+    geometry: Geometry,
+    log: Log,
+    engine: Engine,
+    nvm: MemNvm,
+    cuts: u64,
+}
+
+impl Model for Parts {
+    ghost use Rattle.thy_machine_tests.specs.LogParts.{Parts as IsValue, AreParts, parts};
+
+    ghost Value = { IsValue };
+
+    ghost view = { λ m. parts m.geometry m.log m.engine m.nvm.device m.cuts };
+
+    ghost invariant = { λ m. AreParts (parts m.geometry m.log m.engine m.nvm.device m.cuts) };
+}
+
+/// What comes of a boot.
+#[derive(Drop)]
+pub(crate) enum Booted {
+    /// It is over, with what was returned.
+    Over(Parts, BootStep),
+    /// The power was cut before.
+    Cut(Off),
+}
+
+/// A processor that retired so many instructions.
+pub(crate) fn cpu_at(count: u64) -> CpuState
+    ensures { length result.regs ≡ 32 }
+{
+    CpuState {
+        pc: 0,
+        regs: Regs::new(),
+        console_len: 0,
+        cursor: 0,
+        brk: 0,
+        floor: 0,
+        count,
+        status: Status::Running,
+        other: None,
+    }
+}
+
+/// Stops the test unless a geometry is of seven pages of a program, one of the console, and one hart.
+fn has_least_memory(rt: &impl Abort, geometry: &Geometry)
+    ensures pages { geometry.now.pages ≡ 8 }
+    ensures console { geometry.now.console ≡ 1 }
+    ensures harts { geometry.now.harts ≡ 1 }
+    ensures in_range { IsInRange geometry.now }
+{
+    let numbers = geometry.numbers();
+    assert!(rt; numbers.pages == 8);
+    assert!(rt; numbers.console == 1);
+    assert!(rt; numbers.harts == 1);
+}
+
+fn new_boot(rt: &impl Abort, alloc: Global, geometry: &Geometry) -> Boot
+    ensures { result ≡ new_boot filling_journal geometry.now }
+{
+    Boot::new::<Refill>(alloc, geometry).expect(rt, "memory")
+}
+
+fn new_log(rt: &impl Abort, alloc: Global, geometry: &Geometry, dram: Dram) -> Log
+    requires { length dram.blocks ≡ dram_blocks geometry.now }
+    ensures { result ≡ new_state geometry.now dram }
+{
+    Log::new(alloc, geometry, dram).expect(rt, "memory")
+}
+
+/// Takes a step of the boot, and returns what it returned.
+fn step<N: Nvm>(
+    rt: &impl Abort,
+    boot: &mut Boot,
+    log: &mut Log,
+    start: &Start,
+    nvm: &mut N,
+) -> BootStep
+    requires { Boots (state_of start.now.state) (N.device nvm.old) boot.old log.old }
+    ensures on { goes_on result ≡ true → Boots (state_of start.now.state) (N.device nvm.new) boot.new log.new }
+    ensures same_p { log.new.p ≡ log.old.p }
+    ensures up { (N.device nvm.new).down ≡ false }
+    ensures frame { IsFramed (N.device nvm.old) (N.device nvm.new) }
+{
+    a_boot_may_go_on::<Refill>();
+    log.sound();
+    boot.step::<Refill, N>(log, start, nvm).expect(rt, "a step")
+}
+
+/// Takes so many steps, or fewer if the boot is over before, and returns what the last one returned.
+fn steps<N: Nvm>(
+    rt: &impl Abort,
+    boot: &mut Boot,
+    log: &mut Log,
+    start: &Start,
+    nvm: &mut N,
+    most: u64,
+) -> BootStep
+    requires boots { Boots (state_of start.now.state) (N.device nvm.old) boot.old log.old }
+    requires some { 1 ≤ most }
+    ensures same_p { log.new.p ≡ log.old.p }
+    ensures up { (N.device nvm.new).down ≡ false }
+    ensures frame { IsFramed (N.device nvm.old) (N.device nvm.new) }
+{
+    for _ in 1..most {
+        let told = step(rt, boot, log, start, nvm);
+        match told {
+            BootStep::GoesOn => {}
+            BootStep::Loaded | BootStep::Restarted(_, _) | BootStep::Refused(_) => return told,
+        }
+    }
+    step(rt, boot, log, start, nvm)
+}
+
+impl Off {
+    /// Two devices that hold zeros: the machine was never on.
+    pub(crate) fn new(rt: &impl Abort, alloc: Global, geometry: Geometry, cuts: u64) -> Off {
+        has_least_memory(rt, &geometry);
+        let shape = Shape {
+            blocks: blocks(&geometry),
+            queue: 4,
+            cuts,
+        };
+        let mut nvm = MemNvm::new(alloc);
+        nvm.fit(alloc, &shape, Vec::new(alloc))
+            .expect(rt, "a device");
+        Off {
+            geometry,
+            dram: Dram::new(alloc, geometry.dram_blocks(), 4).expect(rt, "memory"),
+            nvm,
+            cuts,
+        }
+    }
+
+    /// The power comes on, and the boot takes its steps. After so many it is cut again, with one pick for both devices,
+    /// unless the boot is over. The image must not be refused.
+    pub(crate) fn boot(
+        self,
+        rt: &impl Abort,
+        alloc: Global,
+        start: &Start,
+        most: u64,
+        pick: u64,
+    ) -> Booted
+        requires start { IsLeastStart (state_of start.now.state) }
+        requires some { 1 ≤ most }
+    {
+        let Off {
+            geometry,
+            dram,
+            mut nvm,
+            cuts,
+        } = self;
+        has_least_memory(rt, &geometry);
+        let mut boot = new_boot(rt, alloc, &geometry);
+        let mut log = new_log(rt, alloc, &geometry, dram);
+        log.sound();
+        let told = steps(rt, &mut boot, &mut log, start, &mut nvm, most);
+        let mut engine = Engine::new(&geometry);
+        match told {
+            BootStep::Restarted(_, _) => engine.apply(),
+            BootStep::Refused(_) => panic!(rt; "refused"),
+            BootStep::GoesOn | BootStep::Loaded => {}
+        }
+        let parts = Parts {
+            geometry,
+            log,
+            engine,
+            nvm,
+            cuts,
+        };
+        match told {
+            BootStep::GoesOn => Booted::Cut(parts.cut(rt, pick)),
+            _ => Booted::Over(parts, told),
+        }
+    }
+}
+
+impl Parts {
+    pub(crate) fn free(&self) -> u64 {
+        self.log.free()
+    }
+
+    pub(crate) fn under_way(&self) -> bool {
+        self.engine.under_way()
+    }
+
+    /// Whether the journal of the committed checkpoint is applied.
+    pub(crate) fn applies(&self) -> bool {
+        self.engine.applies()
+    }
+
+    pub(crate) fn load(&mut self, rt: &impl Abort, b: u64) -> Block
+        requires inside { b < 512 }
+    {
+        self.log.load(b, &mut self.nvm).expect(rt, "a load")
+    }
+
+    /// The block as the committed checkpoint has it.
+    pub(crate) fn committed(&mut self, rt: &impl Abort, b: u64) -> Block
+        requires inside { b < 512 }
+    {
+        if self.engine.applies() {
+            self.log.load(b, &mut self.nvm).expect(rt, "a load")
+        } else {
+            self.log.home(b, &mut self.nvm).expect(rt, "a load")
+        }
+    }
+
+    #[tactic(auto, unfolding(thy_log::specs::Stores::after_store))]
+    pub(crate) fn store(&mut self, rt: &impl Abort, b: u64, block: &Block)
+        requires inside { b < 512 }
+    {
+        let free = self.log.free();
+        assert!(rt; free > 0);
+        self.log.store(b, block);
+    }
+
+    /// Seals the epoch with a processor that retired so many instructions: its checkpoint begins.
+    pub(crate) fn seal(&mut self, rt: &impl Abort, epoch: u64, count: u64) {
+        let under_way = self.engine.under_way();
+        assert!(rt; !under_way);
+        self.engine.begin(&cpu_at(count), epoch);
+    }
+
+    /// One action of the engine.
+    pub(crate) fn step(&mut self, rt: &impl Abort) -> EngineStep {
+        self.engine
+            .step(&mut self.log, &mut self.nvm)
+            .expect(rt, "a step")
+    }
+
+    /// Lets the oldest write that is queued in the NVM land, and returns whether there was one.
+    pub(crate) fn drain_nvm(&mut self, rt: &impl Abort) -> bool {
+        if self.nvm.queued() > 0 {
+            self.nvm.drain().expect(rt, "a drain");
+            return true;
+        }
+        false
+    }
+
+    /// Lets the oldest write that is queued in the DRAM land, if there is one.
+    pub(crate) fn drain_dram(&mut self) {
+        if self.log.queued() > 0 {
+            self.log.drain();
+        }
+    }
+
+    /// Cuts the power of both devices with one pick.
+    pub(crate) fn cut(self, rt: &impl Abort, pick: u64) -> Off {
+        assert!(rt; self.cuts > 0);
+        self.log.sound();
+        let mut nvm = self.nvm;
+        nvm.cut(pick);
+        Off {
+            geometry: self.geometry,
+            dram: self.log.cut(pick),
+            nvm,
+            cuts: self.cuts - 1,
+        }
+    }
+}

@@ -1,0 +1,307 @@
+//! Pool, engine and boot of shadow paging over the least memory, and the NVM below them: what its calls are made of. Each call
+//! here tests what it requires, and stops the test if that does not hold.
+ghost use Rattle.std.specs.Prelude.{◌≡◌, ◌<◌, ◌≤◌, true, false, length};
+ghost use Rattle.thy_base.specs.Device.{IsFramed};
+ghost use Rattle.thy_base.specs.Geometry.{IsInRange};
+ghost use Rattle.thy_base.specs.Places.{dram_blocks};
+ghost use Rattle.thy_boot.specs.Boot.{new_boot};
+ghost use Rattle.thy_isa.specs.Step.{state_of};
+ghost use Rattle.thy_pool.specs.Stores.{new_state};
+ghost use Rattle.thy_repool.specs.Filling.{filling_shadow};
+ghost use Rattle.thy_machine_tests.specs.PoolParts.{Boots, IsLeastStart, goes_on};
+
+use std::alloc::Global;
+use std::marker::Model;
+use std::process::Abort;
+use thy_base::{Block, Geometry, Nvm, Shape, Stored};
+use thy_boot::{Boot, a_boot_may_go_on};
+use thy_dram::Dram;
+use thy_isa::{CpuState, Regs, Status};
+use thy_nvm::MemNvm;
+use thy_pool::{Engine, Pool};
+use thy_record::{EngineStep, Start};
+use thy_shadow::Relist;
+use thy_shadow_image::blocks;
+use thy_view::BootStep;
+
+/// Both devices while the power is off, and how many cuts are to come at most.
+#[derive(Drop)]
+pub(crate) struct Off {
+    geometry: Geometry,
+    dram: Dram,
+    nvm: MemNvm,
+    cuts: u64,
+}
+
+impl Model for Off {
+    ghost use Rattle.thy_machine_tests.specs.PoolParts.{Off as IsValue, IsOff, off};
+
+    ghost Value = { IsValue };
+
+    ghost view = { λ m. off m.geometry m.dram m.nvm.device m.cuts };
+
+    ghost invariant = { λ m. IsOff (off m.geometry m.dram m.nvm.device m.cuts) };
+}
+
+/// Pool, engine and NVM once the boot is over.
+#[derive(Drop)]
+pub(crate) struct Parts {
+    geometry: Geometry,
+    pool: Pool,
+    engine: Engine,
+    nvm: MemNvm,
+    cuts: u64,
+}
+
+impl Model for Parts {
+    ghost use Rattle.thy_machine_tests.specs.PoolParts.{Parts as IsValue, AreParts, parts};
+
+    ghost Value = { IsValue };
+
+    ghost view = { λ m. parts m.geometry m.pool m.engine m.nvm.device m.cuts };
+
+    ghost invariant = { λ m. AreParts (parts m.geometry m.pool m.engine m.nvm.device m.cuts) };
+}
+
+/// What comes of a boot.
+#[derive(Drop)]
+pub(crate) enum Booted {
+    /// It is over, with what was returned.
+    Over(Parts, BootStep),
+    /// The power was cut before.
+    Cut(Off),
+}
+
+/// A processor that retired so many instructions.
+pub(crate) fn cpu_at(count: u64) -> CpuState
+    ensures { length result.regs ≡ 32 }
+{
+    CpuState {
+        pc: 0,
+        regs: Regs::new(),
+        console_len: 0,
+        cursor: 0,
+        brk: 0,
+        floor: 0,
+        count,
+        status: Status::Running,
+        other: None,
+    }
+}
+
+/// Stops the test unless a geometry is of seven pages of a program, one of the console, and one hart.
+fn has_least_memory(rt: &impl Abort, geometry: &Geometry)
+    ensures pages { geometry.now.pages ≡ 8 }
+    ensures console { geometry.now.console ≡ 1 }
+    ensures harts { geometry.now.harts ≡ 1 }
+    ensures in_range { IsInRange geometry.now }
+{
+    let numbers = geometry.numbers();
+    assert!(rt; numbers.pages == 8);
+    assert!(rt; numbers.console == 1);
+    assert!(rt; numbers.harts == 1);
+}
+
+fn new_boot(rt: &impl Abort, alloc: Global, geometry: &Geometry) -> Boot
+    ensures { result ≡ new_boot filling_shadow geometry.now }
+{
+    Boot::new::<Relist>(alloc, geometry).expect(rt, "memory")
+}
+
+fn new_pool(rt: &impl Abort, alloc: Global, geometry: &Geometry, dram: Dram) -> Pool
+    requires { length dram.blocks ≡ dram_blocks geometry.now }
+    ensures { result ≡ new_state geometry.now dram }
+{
+    Pool::new(alloc, geometry, dram).expect(rt, "memory")
+}
+
+/// Takes a step of the boot, and returns what it returned.
+fn step<N: Nvm>(
+    rt: &impl Abort,
+    boot: &mut Boot,
+    pool: &mut Pool,
+    start: &Start,
+    nvm: &mut N,
+) -> BootStep
+    requires { Boots (state_of start.now.state) (N.device nvm.old) boot.old pool.old }
+    ensures on { goes_on result ≡ true → Boots (state_of start.now.state) (N.device nvm.new) boot.new pool.new }
+    ensures same_p { pool.new.p ≡ pool.old.p }
+    ensures up { (N.device nvm.new).down ≡ false }
+    ensures frame { IsFramed (N.device nvm.old) (N.device nvm.new) }
+{
+    a_boot_may_go_on::<Relist>();
+    pool.sound();
+    boot.step::<Relist, N>(pool, start, nvm)
+        .expect(rt, "a step")
+}
+
+/// Takes so many steps, or fewer if the boot is over before, and returns what the last one returned.
+fn steps<N: Nvm>(
+    rt: &impl Abort,
+    boot: &mut Boot,
+    pool: &mut Pool,
+    start: &Start,
+    nvm: &mut N,
+    most: u64,
+) -> BootStep
+    requires boots { Boots (state_of start.now.state) (N.device nvm.old) boot.old pool.old }
+    requires some { 1 ≤ most }
+    ensures same_p { pool.new.p ≡ pool.old.p }
+    ensures up { (N.device nvm.new).down ≡ false }
+    ensures frame { IsFramed (N.device nvm.old) (N.device nvm.new) }
+{
+    for _ in 1..most {
+        let told = step(rt, boot, pool, start, nvm);
+        match told {
+            BootStep::GoesOn => {}
+            BootStep::Loaded | BootStep::Restarted(_, _) | BootStep::Refused(_) => return told,
+        }
+    }
+    step(rt, boot, pool, start, nvm)
+}
+
+impl Off {
+    /// Two devices that hold zeros: the machine was never on.
+    pub(crate) fn new(rt: &impl Abort, alloc: Global, geometry: Geometry, cuts: u64) -> Off {
+        has_least_memory(rt, &geometry);
+        let shape = Shape {
+            blocks: blocks(&geometry),
+            queue: 4,
+            cuts,
+        };
+        let mut nvm = MemNvm::new(alloc);
+        nvm.fit(alloc, &shape, Vec::new(alloc))
+            .expect(rt, "a device");
+        Off {
+            geometry,
+            dram: Dram::new(alloc, geometry.dram_blocks(), 4).expect(rt, "memory"),
+            nvm,
+            cuts,
+        }
+    }
+
+    /// The power comes on, and the boot takes its steps. After so many it is cut again, with one pick for both devices,
+    /// unless the boot is over. The image must not be refused.
+    pub(crate) fn boot(
+        self,
+        rt: &impl Abort,
+        alloc: Global,
+        start: &Start,
+        most: u64,
+        pick: u64,
+    ) -> Booted
+        requires start { IsLeastStart (state_of start.now.state) }
+        requires some { 1 ≤ most }
+    {
+        let Off {
+            geometry,
+            dram,
+            mut nvm,
+            cuts,
+        } = self;
+        has_least_memory(rt, &geometry);
+        let mut boot = new_boot(rt, alloc, &geometry);
+        let mut pool = new_pool(rt, alloc, &geometry, dram);
+        pool.sound();
+        let told = steps(rt, &mut boot, &mut pool, start, &mut nvm, most);
+        let engine = Engine::new(&geometry);
+        if let BootStep::Refused(_) = told {
+            panic!(rt; "refused");
+        }
+        let parts = Parts {
+            geometry,
+            pool,
+            engine,
+            nvm,
+            cuts,
+        };
+        match told {
+            BootStep::GoesOn => Booted::Cut(parts.cut(rt, pick)),
+            _ => Booted::Over(parts, told),
+        }
+    }
+}
+
+impl Parts {
+    pub(crate) fn free(&self) -> u64 {
+        self.pool.free()
+    }
+
+    pub(crate) fn under_way(&self) -> bool {
+        self.engine.under_way()
+    }
+
+    pub(crate) fn load(&mut self, rt: &impl Abort, b: u64) -> Block
+        requires inside { b < 512 }
+    {
+        self.pool.load(b, &mut self.nvm).expect(rt, "a load")
+    }
+
+    /// The block as the committed checkpoint has it.
+    pub(crate) fn committed(&mut self, rt: &impl Abort, b: u64) -> Block
+        requires inside { b < 512 }
+    {
+        self.pool.committed(b, &mut self.nvm).expect(rt, "a load")
+    }
+
+    /// One call of a store: whether it is done, or a copy came first.
+    pub(crate) fn store(&mut self, rt: &impl Abort, b: u64, block: &Block) -> bool
+        requires inside { b < 512 }
+    {
+        let free = self.pool.free();
+        assert!(rt; free > 0);
+        match self
+            .pool
+            .store(b, block, &mut self.nvm)
+            .expect(rt, "a store")
+        {
+            Stored::Done => true,
+            Stored::CopyFirst => false,
+        }
+    }
+
+    /// Seals the epoch with a processor that retired so many instructions: its checkpoint begins.
+    pub(crate) fn seal(&mut self, rt: &impl Abort, epoch: u64, count: u64) {
+        let under_way = self.engine.under_way();
+        assert!(rt; !under_way);
+        self.engine.begin(&cpu_at(count), epoch);
+        self.pool.seal();
+    }
+
+    /// One action of the engine.
+    pub(crate) fn step(&mut self, rt: &impl Abort) -> EngineStep {
+        self.engine
+            .step(&mut self.pool, &mut self.nvm)
+            .expect(rt, "a step")
+    }
+
+    /// Lets the oldest write that is queued in the NVM land, and returns whether there was one.
+    pub(crate) fn drain_nvm(&mut self, rt: &impl Abort) -> bool {
+        if self.nvm.queued() > 0 {
+            self.nvm.drain().expect(rt, "a drain");
+            return true;
+        }
+        false
+    }
+
+    /// Lets the oldest write that is queued in the DRAM land, if there is one.
+    pub(crate) fn drain_dram(&mut self) {
+        if self.pool.queued() > 0 {
+            self.pool.drain();
+        }
+    }
+
+    /// Cuts the power of both devices with one pick.
+    pub(crate) fn cut(self, rt: &impl Abort, pick: u64) -> Off {
+        assert!(rt; self.cuts > 0);
+        self.pool.sound();
+        let mut nvm = self.nvm;
+        nvm.cut(pick);
+        Off {
+            geometry: self.geometry,
+            dram: self.pool.cut(pick),
+            nvm,
+            cuts: self.cuts - 1,
+        }
+    }
+}
