@@ -1,7 +1,7 @@
 -- Part of the claim.
 -- The places of both devices, and the numbers of the blocks that they have. The NVM has the header (block 0), the
 -- commit block (block 1), two slots of version 1, the places of memory's blocks, and behind them two slots of version 2.
-use Rattle.std.specs.Prelude.{◌≡◌, ◌⊎◌, ℕ, ◌+◌, ◌-◌, ◌*◌, ◌/◌, ◌<◌, ◌≤◌, Bool, true, false}
+use Rattle.std.specs.Prelude.{◌≡◌, ◌⊎◌, ℕ, ◌+◌, ◌-◌, ◌*◌, ◌/◌, ◌<◌, ◌≤◌, ◌==◌, Bool, true, false}
 use Rattle.thy_base.specs.declared.config.Parameters.{Parameters}
 use Rattle.thy_base.specs.declared.layout_version.LayoutVersion.{LayoutVersion}
 use Rattle.thy_base.specs.declared.layout_version.LayoutVersion.TheVariants.{VersionOne, VersionTwo}
@@ -9,9 +9,13 @@ use Rattle.thy_base.specs.declared.place.Place.{Place}
 use Rattle.thy_base.specs.declared.place.Place.TheVariants.{Home, AlternateBlock, AlternatePage, Buffer, Frame}
 use Rattle.thy_base.specs.Geometry.{memory_blocks}
 
--- how many blocks the processor's record has: five, and five more for the second hart if there is one
+-- how many blocks the record of one hart has
+abbrev pub hart_blocks : ℕ
+hart_blocks = 5
+
+-- how many the processor's record has: those of one hart, and as many more for the second hart if there is one
 abbrev pub record_blocks : Parameters → ℕ
-record_blocks p = 5 + 5 * (p.harts - 1)
+record_blocks p = hart_blocks + hart_blocks * (p.harts - 1)
 
 -- how many the block table and the page table have, eight entries a block
 abbrev pub table_blocks : Parameters → ℕ
@@ -21,9 +25,14 @@ table_blocks p = p.btt / 8 + p.ptt / 8
 abbrev pub count_blocks : Parameters → ℕ
 count_blocks p = (p.pages + 63) / 64
 
--- how many blocks a slot has: record and tables, and in version 2 the counts
+-- version 1 knows one hart only: with two, there is no image of that version
+abbrev pub knows_version_one : Parameters → Bool
+knows_version_one p = p.harts == 1
+
+-- how many blocks a slot has: in version 1 the record of one hart and the tables, whatever the harts; in version 2 the
+-- processor's record, the tables, and the counts
 abbrev pub blocks_of_slot : LayoutVersion → Parameters → ℕ
-blocks_of_slot VersionOne p = record_blocks p + table_blocks p
+blocks_of_slot VersionOne p = hart_blocks + table_blocks p
 blocks_of_slot VersionTwo p = record_blocks p + table_blocks p + count_blocks p
 
 -- the first of the homes of memory's blocks; after them come the alternate blocks, and then the alternate pages

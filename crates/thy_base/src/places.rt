@@ -5,10 +5,13 @@ ghost use Rattle.thy_base.specs.Places.{NumbersTellPlaces, PlacesAreBetweenSlots
 use crate::page::{BLOCK_COUNTS, PAGE_BLOCKS};
 use crate::{Geometry, LayoutVersion, Place};
 
+/// How many blocks the record of one hart has.
+const HART_BLOCKS: u64 = 5;
+
 impl Geometry {
     ghost use Rattle.thy_base.specs.declared.place.Place.TheVariants.{Home as AtHome, AlternateBlock as AtAlternateBlock, AlternatePage as AtAlternatePage, Buffer as AtBuffer, Frame as AtFrame};
     ghost use Rattle.thy_base.specs.Geometry.{IsInRange, memory_blocks};
-    ghost use Rattle.thy_base.specs.Places.{record_blocks, table_blocks, count_blocks, blocks_of_slot, place_of_slot, first_home, blocks_one, slot_blocks, slot_place, image_blocks, dram_blocks, number_of, IsPlace};
+    ghost use Rattle.thy_base.specs.Places.{record_blocks, table_blocks, count_blocks, knows_version_one, blocks_of_slot, place_of_slot, first_home, blocks_one, slot_blocks, slot_place, image_blocks, dram_blocks, number_of, IsPlace};
 
     /// How many blocks an image of the NVM has.
     pub fn blocks(&self) -> u64
@@ -41,7 +44,7 @@ impl Geometry {
         ensures blocks { result ≡ record_blocks self.now }
         ensures in_range { IsInRange self.now }
     {
-        5 * self.numbers().harts
+        HART_BLOCKS * self.numbers().harts
     }
 
     /// How many blocks both tables have, eight entries a block.
@@ -61,14 +64,22 @@ impl Geometry {
         self.numbers().pages.div_ceil(BLOCK_COUNTS)
     }
 
-    /// How many blocks each of the two slots of a version has: the processor's record and both tables, and in version 2 the
-    /// counts.
+    /// Whether there are images of version 1: they know one hart only.
+    pub fn knows_version_one(&self) -> bool
+        ensures knows { result ≡ knows_version_one self.now }
+        ensures in_range { IsInRange self.now }
+    {
+        self.numbers().harts == 1
+    }
+
+    /// How many blocks each of the two slots of a version has: in version 1 the record of one hart and both tables, whatever
+    /// the harts; in version 2 the processor's record, both tables, and the counts.
     pub fn slot_blocks_of(&self, version: LayoutVersion) -> u64
         ensures blocks { result ≡ blocks_of_slot version self.now }
         ensures in_range { IsInRange self.now }
     {
         match version {
-            LayoutVersion::VersionOne => self.record_blocks() + self.table_blocks(),
+            LayoutVersion::VersionOne => HART_BLOCKS + self.table_blocks(),
             LayoutVersion::VersionTwo => self.record_blocks()
                 + self.table_blocks()
                 + self.count_blocks(),

@@ -72,7 +72,7 @@ module _ (p : Parameters) (t : Tables) (x : ℕ) where
           | inr third ↦ elim (first_or_rest x 1 (slots ++ memory) third) as (λ _. ApartOrMemory p t x) [
             | inl e ↦ inl (inl (omega (arith, e)))
             | inr behind ↦ elim (Contains-append_cases slots memory x behind) as (λ _. ApartOrMemory p t x) [
-              | inl a ↦ inl (in_slot (version_of (block_at image 1)) (epoch_of (block_at image 1) % 2) (omega arith) a)
+              | inl a ↦ inl (in_slot (version_of p (block_at image 1)) (epoch_of (block_at image 1) % 2) (omega arith) a)
               | inr b ↦ inr (in_memory (subst (λ (u : Tables). Contains (memory_numbers p u) x) is b))
             ]
           ]

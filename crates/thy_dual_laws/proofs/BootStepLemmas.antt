@@ -129,12 +129,12 @@ read-asked Barrier h = absurd h
 read-asked Drain h = absurd h
 
 -- a migration begins after a checkpoint of version 1
-begun-back : (q : Stage) (commit : Block) (at : Migration) → begun_at q commit ≡ Some at → (q ≡ Over Restored) × (version_of commit ≡ VersionOne) × (at ≡ SlotAt 0)
-begun-back (Reads r) commit at h = cc
-begun-back (Loading issue) commit at h = cc
-begun-back (Over Loaded) commit at h = cc
-begun-back (Over Restored) commit at h = by_version (version_of commit) refl h where
-  by_version : (f : LayoutVersion) → version_of commit ≡ f → begun_from f ≡ Some at → (let q : Stage = Over Restored in q ≡ Over Restored) × (version_of commit ≡ VersionOne) × (at ≡ SlotAt 0)
+begun-back : (p : Parameters) (q : Stage) (commit : Block) (at : Migration) → begun_at p q commit ≡ Some at → (q ≡ Over Restored) × (version_of p commit ≡ VersionOne) × (at ≡ SlotAt 0)
+begun-back p (Reads r) commit at h = cc
+begun-back p (Loading issue) commit at h = cc
+begun-back p (Over Loaded) commit at h = cc
+begun-back p (Over Restored) commit at h = by_version (version_of p commit) refl h where
+  by_version : (f : LayoutVersion) → version_of p commit ≡ f → begun_from f ≡ Some at → (let q : Stage = Over Restored in q ≡ Over Restored) × (version_of p commit ≡ VersionOne) × (at ≡ SlotAt 0)
   by_version VersionOne e h = (refl, e, cc)
   by_version VersionTwo e h = cc
 
@@ -145,7 +145,7 @@ not-begun VersionTwo h = refl
 module _ (o : Origin) (s : Dual) (n : Device) (booting : IsBooting dual_scheme o s n) (new : Device) (r : Recovering) (e : State)
     (steps : RecoverySteps o.start n s.boot s.control new r e) (boot : IsBoot filling_dual r.boot) (tables : AreSoundTables e)
     (sound : IsBootOf filling_dual o booting.boots.images n s.boot.boot s.control) (going : IsGoing s.boot.boot.stage) (idle : s.boot.migration ≡ None)
-    (took : Steps filling_dual o.start n s.boot.boot s.control new r.boot e) (begun : r.migration ≡ begun_at r.boot.stage r.boot.commit) where
+    (took : Steps filling_dual o.start n s.boot.boot s.control new r.boot e) (begun : r.migration ≡ begun_at r.boot.p r.boot.stage r.boot.commit) where
   abbrev boots : Boots o s n
   boots = booting.boots
 
@@ -268,7 +268,7 @@ module _ (o : Origin) (s : Dual) (n : Device) (booting : IsBooting dual_scheme o
       let shows = subst (λ (x : Stage). CoreStep o v (boot_did (answer_at filling_dual x d)) (seen_at o g.kept x)) is moved.shows in
       before ∙ was-found o g b.stage (mark (epoch_of d.commit) (cpu_of_record d.p (slot_read filling_dual d)).count) going shows.done
 
-  restarted : d.stage ≡ Over Restored → version_of d.commit ≡ VersionTwo → Restarts dual_scheme o (cpu_of_record d.p (slot_read filling_dual d)) (epoch_of d.commit) s n t new
+  restarted : d.stage ≡ Over Restored → version_of d.p d.commit ≡ VersionTwo → Restarts dual_scheme o (cpu_of_record d.p (slot_read filling_dual d)) (epoch_of d.commit) s n t new
   restarted is two =
       let epoch : ℕ = epoch_of d.commit in
       let cpu : CpuState = cpu_of_record d.p (slot_read filling_dual d) in
@@ -284,7 +284,7 @@ module _ (o : Origin) (s : Dual) (n : Device) (booting : IsBooting dual_scheme o
 
   -- ---- or the image that was found is of version 1
 
-  begins : d.stage ≡ Over Restored → version_of d.commit ≡ VersionOne → r.migration ≡ Some (SlotAt 0) → Boots o t new × BootsTo (view_at decode_image o b.stage n) (view_at decode_image o d.stage new)
+  begins : d.stage ≡ Over Restored → version_of d.p d.commit ≡ VersionOne → r.migration ≡ Some (SlotAt 0) → Boots o t new × BootsTo (view_at decode_image o b.stage n) (view_at decode_image o d.stage new)
   begins is one on =
       let found = migration_begins o h new d e boots.origin moved.sound is one in
       let m : Mark = found.0 in
@@ -307,7 +307,7 @@ module _ (o : Origin) (s : Dual) (n : Device) (booting : IsBooting dual_scheme o
   answers-at (Reads (Refusing bad)) is none shows = absurd (never bad is)
   answers-at (Loading issue) is none shows = goes-on (Loading issue) is tt none shows.1
   answers-at (Over Restored) is none shows =
-      restarted is (not-begun (version_of d.commit) (sym (ap (λ (q : Stage). begun_at q d.commit) is) ∙ sym begun ∙ none))
+      restarted is (not-begun (version_of d.p d.commit) (sym (ap (λ (q : Stage). begun_at d.p q d.commit) is) ∙ sym begun ∙ none))
   answers-at (Over Loaded) is none shows = loaded is
 
   -- a read, if a migration begins
@@ -323,7 +323,7 @@ module _ (o : Origin) (s : Dual) (n : Device) (booting : IsBooting dual_scheme o
   answered : (w : Option Migration) → r.migration ≡ w → IsAnswered (answer_by w d)
   answered None none = (answers-at d.stage refl none moved.shows, acts)
   answered (Some at) on =
-      let back = begun-back d.stage d.commit at (sym begun ∙ on) in
+      let back = begun-back d.p d.stage d.commit at (sym begun ∙ on) in
       (begins back.0 back.1 (on ∙ ap Some back.2), asked-at d.stage back.0 acts)
 
   boot-on : BootsOn dual_scheme o (answer_of_recovery r) s n t new

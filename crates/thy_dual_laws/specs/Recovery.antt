@@ -61,7 +61,7 @@ IsOfMigration p epoch action = ⊥
 
 -- a boot that migrates has found a checkpoint of version 1, and its action is one of these
 pub record MigratesFound (p : Parameters) (epoch : ℕ) (b : Booting) (at : Migration) : Type 0 where
-  pub old : version_of b.commit ≡ VersionOne
+  pub old : version_of b.p b.commit ≡ VersionOne
   pub own : IsOfMigration p epoch (action_of b at)
 
 abbrev pub MigrationWrites : Type 0
@@ -75,5 +75,5 @@ MigrationWrites =
 -- itself has only its last barrier to come.
 abbrev pub VersionTwoStays : Type 0
 VersionTwoStays =
-    (o : Origin) (s : Dual) (n : Device) → Boots o s n → version_of (block_at n.image 1) ≡ VersionTwo
+    (o : Origin) (s : Dual) (n : Device) → Boots o s n → version_of o.geometry (block_at n.image 1) ≡ VersionTwo
     → (dual_scheme.migrates s ≡ false) ⊎ (s.boot.migration ≡ Some Confirm)

@@ -7,7 +7,7 @@ use std::alloc::{AllocError, Global};
 use std::process::Abort;
 use std::test::Fail;
 use thy_base::{BLOCK_SIZE, Geometry, Parameters, SchemeName};
-use thy_isa::{MachState, Status};
+use thy_isa::{MachState, OtherHart, Reg, Regs, Reservation, Status};
 use thy_record::{BadImage, Found, check, header_block, state, table_block};
 
 /// The smallest machine: 8 pages, one of them the console's, and 8 entries in each table. Its image has the header,
@@ -38,6 +38,9 @@ const CEILING: u64 = 1 << 62;
 
 /// The bytes `THYNCMT1`, with which a commit block of version 1 begins.
 const ONE: u64 = 0x3154_4d43_4e59_4854;
+
+/// The bytes `THYNCMT2`, with which one of version 2 does.
+const TWO: u64 = 0x3254_4d43_4e59_4854;
 
 /// The first word of slot 1, block 1056.
 const SLOT: usize = 8448;
@@ -87,14 +90,13 @@ static WORDS: [(usize, u64); 18] = [
     (COUNTS, 0x0100_0000_0000_003f),
 ];
 
-/// An image with a checkpoint: block 0 at its home, block 5 in alternate block 0 and block 131 in alternate page 1,
-/// with something else at the homes of these two; the console's first block, 448, at its home.
-fn image(alloc: Global) -> Result<Vec<u8>, AllocError> {
-    let mut image = vec![in alloc; 0u8; BLOCK_SIZE * BLOCKS]?;
-    let bytes = image.as_mut_slice();
+/// Writes a checkpoint over zeros: the two names, words, and memory's blocks, of which block 0 is at its home, block 5 in
+/// alternate block 0 and block 131 in alternate page 1, with something else at the homes of these two; the console's first
+/// block, 448, is at its home.
+fn fill(bytes: &mut [u8], words: &[(usize, u64)]) {
     put_bytes(bytes, 0, b"THYNHDR1");
     put_bytes(bytes, 1, b"THYNCMT2");
-    for (word, value) in &WORDS {
+    for (word, value) in words {
         put(bytes, *word, *value);
     }
     put_bytes(bytes, 16, b"first");
@@ -103,6 +105,12 @@ fn image(alloc: Global) -> Result<Vec<u8>, AllocError> {
     put_bytes(bytes, 16 + 131, b"stale too");
     put_bytes(bytes, 536 + 64 + 3, b"of page two");
     put_bytes(bytes, 16 + 448, b"Hi, stale");
+}
+
+/// An image with a checkpoint.
+fn image(alloc: Global) -> Result<Vec<u8>, AllocError> {
+    let mut image = vec![in alloc; 0u8; BLOCK_SIZE * BLOCKS]?;
+    fill(image.as_mut_slice(), &WORDS);
     Ok(image)
 }
 
@@ -204,6 +212,120 @@ fn an_image_of_version_1_is_read_from_its_own_slot(rt: HostRuntime) -> Result<()
     put(image.as_mut_slice(), 1, 2);
     let found = check(&image, &geometry, CEILING);
     expect(&rt, found, Err(BadImage::Commit));
+    Ok(())
+}
+
+/// The same machine with two harts. Header, commit block, homes, alternate blocks and alternate pages stand where they do
+/// with one hart, and the slots have 13 blocks, of which two records are ten, from block 1048 and block 1061 on: 1074 blocks.
+static NUMBERS_OF_TWO: Parameters = Parameters {
+    base: 65536,
+    pages: 8,
+    console: 1,
+    epoch: 1000,
+    btt: 8,
+    ptt: 8,
+    sets: 1,
+    ways: 1,
+    nvmq: 1,
+    dramq: 1,
+    high: 8,
+    low: 2,
+    mix: 0,
+    limit: 1000,
+    scheme: SchemeName::Thynvm,
+    harts: 2,
+};
+
+const BLOCKS_OF_TWO: usize = 1074;
+
+/// The first word of its slot 1, block 1061.
+const SLOT_OF_TWO: usize = 8488;
+
+/// The words of an image of two harts: the same, but the header's last, and behind the words of the first hart those of the
+/// second: its pc, x1 and x31, width and address of the first hart's reservation, and of its own. Both tables and the counts
+/// come after these forty words.
+static WORDS_OF_TWO: [(usize, u64); 26] = [
+    (1, 2),
+    (2, 65536),
+    (3, 8),
+    (4, 1),
+    (5, 8),
+    (6, 8),
+    (7, 256),
+    (9, 3),
+    (SLOT_OF_TWO, 0x10008),
+    (SLOT_OF_TWO + 1, 0x101),
+    (SLOT_OF_TWO + 32, 11),
+    (SLOT_OF_TWO + 33, 12),
+    (SLOT_OF_TWO + 34, 2),
+    (SLOT_OF_TWO + 35, 14),
+    (SLOT_OF_TWO + 38, 3),
+    (SLOT_OF_TWO + 39, 15),
+    (SLOT_OF_TWO + 40, 0x10010),
+    (SLOT_OF_TWO + 41, 0x201),
+    (SLOT_OF_TWO + 71, 0x21f),
+    (SLOT_OF_TWO + 72, 4),
+    (SLOT_OF_TWO + 73, 0x11000),
+    (SLOT_OF_TWO + 74, 8),
+    (SLOT_OF_TWO + 75, 0x11008),
+    (SLOT_OF_TWO + 80, 6),
+    (SLOT_OF_TWO + 89, 3),
+    (SLOT_OF_TWO + 96, 0x0100_0000_0000_003f),
+];
+
+fn image_of_two(alloc: Global) -> Result<Vec<u8>, AllocError> {
+    let mut image = vec![in alloc; 0u8; BLOCK_SIZE * BLOCKS_OF_TWO]?;
+    fill(image.as_mut_slice(), &WORDS_OF_TWO);
+    Ok(image)
+}
+
+#[test]
+fn an_image_of_two_harts_has_both_records(rt: HostRuntime) -> Result<(), Fail> {
+    let geometry = geometry_of(&rt, rt.alloc(), &NUMBERS_OF_TWO);
+    expect(&rt, geometry.blocks(), 1074);
+    let image = image_of_two(rt.alloc())?;
+    expect(&rt, image.len(), 68_736);
+    expect(&rt, starts(&image, &header_block(&geometry).0), true);
+    expect(&rt, check(&image, &geometry, CEILING), Ok(Found::At(3)));
+    let state = restored(rt.alloc(), &image, &geometry)?.expect(&rt, "a checkpoint");
+    expect(&rt, (state.pc, state.count), (0x10008, 11));
+    let mut regs = Regs::new();
+    regs.set(Reg::new(1), 0x201);
+    regs.set(Reg::new(31), 0x21f);
+    let other = OtherHart {
+        pc: 0x10010,
+        regs,
+        front: Reservation::Word(0x11000),
+        back: Reservation::Double(0x11008),
+    };
+    expect(&rt, state.other, Some(other));
+    let memory = state.memory.as_slice();
+    expect(&rt, has(memory, 0, b"first"), true);
+    expect(&rt, has(memory, 5, b"fifth"), true);
+    expect(&rt, has(memory, 131, b"of page two"), true);
+    Ok(())
+}
+
+/// With two harts there is no image of version 1. The version in its header, the name in its commit block, how many bytes
+/// it has, and what it is refused for: those of the length of version 1 have 1048 blocks.
+static NOT_OF_TWO: [(u64, u64, usize, BadImage); 5] = [
+    (1, TWO, 68_736, BadImage::Version),
+    (1, ONE, 67_072, BadImage::Version),
+    (2, ONE, 67_072, BadImage::Geometry),
+    (2, TWO, 67_072, BadImage::Geometry),
+    (2, ONE, 68_736, BadImage::Commit),
+];
+
+#[test]
+fn no_image_of_two_harts_is_of_version_1(rt: HostRuntime) -> Result<(), Fail> {
+    let geometry = geometry_of(&rt, rt.alloc(), &NUMBERS_OF_TWO);
+    for (row, (version, name, bytes, bad)) in NOT_OF_TWO.iter().enumerate() {
+        let mut image = image_of_two(rt.alloc())?;
+        put(image.as_mut_slice(), 1, *version);
+        put(image.as_mut_slice(), 8, *name);
+        let found = check(front(&image, *bytes), &geometry, CEILING);
+        expect_at(&rt, found, Err(*bad), row);
+    }
     Ok(())
 }
 

@@ -97,7 +97,7 @@ thynvm_tells : (p : Parameters) (b : Block) (long : Bool) → header_fault b p l
 unfolding header_fault
 thynvm_tells p b long h =
     tells p b 0 (harts_word p) (omega arith)
-    (geometry_asks (word_of b 0 == header_magic) (is_of_version b) (is_of_geometry b p) long h)
+    (geometry_asks (word_of b 0 == header_magic) (is_of_version p b) (is_of_geometry b p) long h)
 
 journal_tells : (p : Parameters) (b : Block) (long : Bool) → journal_fault b p long ≡ None → Tells journal_number p b
 unfolding journal_fault

@@ -30,7 +30,7 @@ long_cases false true other h = inr h
 long_cases false false other h = cc
 
 long_most : (p : Parameters) (commit : Block) (n : ℕ) → is_long p commit n ≡ true → n ≤ image_blocks p
-long_most p commit n h = elim (long_cases (n == image_blocks p) (is_one (version_of commit)) (n == blocks_one p) h) as (λ _. n ≤ image_blocks p) [
+long_most p commit n h = elim (long_cases (n == image_blocks p) (is_one (version_of p commit)) (n == blocks_one p) h) as (λ _. n ≤ image_blocks p) [
   | inl whole ↦ let e : n ≡ image_blocks p = eqb-true _ _ whole in omega arith
   | inr old ↦ let e : n ≡ blocks_one p = eqb-true _ _ old in omega arith
 ]
@@ -81,13 +81,13 @@ module _ (p : Parameters) (ceiling : ℕ) (bytes : List ℕ) (epoch : ℕ) (s : 
       let whole = (IsDecoded-at p ceiling (blocks_of bytes) epoch s thynvm_blocks).whole in
       let commit = block_at (blocks_of bytes) 1 in
       let slot = slot_in p (blocks_of bytes) in
-      let version = version_of (block_at (blocks_of bytes) 1) in
+      let version = version_of p (block_at (blocks_of bytes) 1) in
       let parts = neither (epoch_fault epoch (slot_in p (blocks_of bytes)))
       (option_or (tables_fault p (tables_in p (slot_in p (blocks_of bytes)))) (option_or (status_fault p ceiling (slot_in p (blocks_of bytes)))
-      (rest_fault (version_of (block_at (blocks_of bytes) 1)) p (slot_in p (blocks_of bytes))))) whole.slot_fits in
+      (rest_fault (version_of p (block_at (blocks_of bytes) 1)) p (slot_in p (blocks_of bytes))))) whole.slot_fits in
       let tables = neither (tables_fault p (tables_in p (slot_in p (blocks_of bytes)))) (option_or (status_fault p ceiling (slot_in p (blocks_of bytes)))
-      (rest_fault (version_of (block_at (blocks_of bytes) 1)) p (slot_in p (blocks_of bytes)))) parts.1 in
-      let status = neither (status_fault p ceiling (slot_in p (blocks_of bytes))) (rest_fault (version_of (block_at (blocks_of bytes) 1)) p (slot_in p (blocks_of bytes))) tables.1 in
+      (rest_fault (version_of p (block_at (blocks_of bytes) 1)) p (slot_in p (blocks_of bytes)))) parts.1 in
+      let status = neither (status_fault p ceiling (slot_in p (blocks_of bytes))) (rest_fault (version_of p (block_at (blocks_of bytes) 1)) p (slot_in p (blocks_of bytes))) tables.1 in
       let asks = commit_asks (is_named (block_at (blocks_of bytes) 0) (block_at (blocks_of bytes) 1)) (nat_lt (epoch_of (block_at (blocks_of bytes) 1)) ceiling)
       (has_zero_rest (block_at (blocks_of bytes) 1)) whole.commit_fits in
       let of_bytes = AreOfBytes-blocks_of bytes are_bytes in

@@ -86,7 +86,7 @@ epoch_below header commit h =
     ltb-true (epoch_of commit) ceiling (asks_epoch (is_named header commit) (nat_lt (epoch_of commit) ceiling) (has_zero_rest commit) h)
 
 -- the slot that was read has as many blocks as its version
-slot_long : (p : Parameters) (b : Booting) (n : Device) {c : State} → b.p ≡ p → version_of b.commit ≡ VersionOne → IsRestored filling_dual n b c
+slot_long : (p : Parameters) (b : Booting) (n : Device) {c : State} → b.p ≡ p → version_of b.p b.commit ≡ VersionOne → IsRestored filling_dual n b c
     → length (slot_read filling_dual b) ≡ blocks_of_slot VersionOne p
 slot_long p b n same one f =
     let l : Layout = layout_in filling_dual b in
@@ -107,11 +107,11 @@ migration_begins o g n b c origin sound is one =
     let f : IsRestored filling_dual n b c = k.5 in
     let rec : IsRecovering filling_dual g n b c = subst (λ (q : Stage). IsSoundAt filling_dual o q g n b c) is sound.so_far in
     let m : Mark = r.0 in
-    let booted : IsBooted o m (cpu_of_record b.p slot) (version_of b.commit) g.before n c = r.4 in
+    let booted : IsBooted o m (cpu_of_record b.p slot) (version_of b.p b.commit) g.before n c = r.4 in
     let fits : slot_fault VersionOne p ceiling m.epoch slot ≡ None
     = ap (λ (q : Parameters). slot_fault VersionOne q ceiling m.epoch slot) (sym sound.geometry)
     ∙ ap (λ (f : LayoutVersion). slot_fault f b.p ceiling m.epoch slot) (sym one)
-    ∙ ap (λ (e : ℕ). slot_fault (version_of b.commit) b.p ceiling e slot) r.2 ∙ f.slot_fits in
+    ∙ ap (λ (e : ℕ). slot_fault (version_of b.p b.commit) b.p ceiling e slot) r.2 ∙ f.slot_fits in
     let listed : tables_in p slot ≡ tables0 c
     = ap (λ (q : Parameters). tables_in q slot) (sym sound.same_p) ∙ sym f.lists.are in
     let keeps : Keeps o (layout_of o) n (Kept g.before) (Some m) None = r.3 in

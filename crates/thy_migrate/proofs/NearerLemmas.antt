@@ -61,14 +61,14 @@ most_from d VersionOne = omega arith
 most_from d VersionTwo = omega arith
 
 most_at : (d : Booting) (q : Stage) → q ≢ Reads Unread
-    → with_migration d q (begun_at q d.commit) ≤ boot_left filling_dual d q + migration_after d.p (version_of d.commit)
+    → with_migration d q (begun_at d.p q d.commit) ≤ boot_left filling_dual d q + migration_after d.p (version_of d.p d.commit)
 most_at d (Reads Unread) other = absurd (other refl)
 most_at d (Reads Header) other = omega arith
 most_at d (Reads (SlotAt next)) other = omega arith
 most_at d (Reads (Fills k)) other = omega arith
 most_at d (Reads (Refusing bad)) other = omega arith
 most_at d (Loads issue) other = omega arith
-most_at d (Over Restored) other = most_from d (version_of d.commit)
+most_at d (Over Restored) other = most_from d (version_of d.p d.commit)
 most_at d (Over Loaded) other = omega arith
 
 one_at_most : (p : Parameters) (version : LayoutVersion) → migration_after p version ≤ most_migration p
@@ -80,14 +80,14 @@ left_is d None = refl
 left_is d (Some at) = refl
 
 -- loading is followed by no migration
-loads_on : (d : Booting) (f : First) (issue : Issue) → with_migration d (after_issue f issue) (begun_at (after_issue f issue) d.commit) ≡ boot_left filling_dual d (after_issue f issue)
+loads_on : (d : Booting) (f : First) (issue : Issue) → with_migration d (after_issue f issue) (begun_at d.p (after_issue f issue) d.commit) ≡ boot_left filling_dual d (after_issue f issue)
 loads_on d f (Home k) = by_more (nat_lt (k + 1) (length f.parts.memory)) where
-  by_more : (t : Bool) → with_migration d (if t then Loads (Home (k + 1)) else Loads (SlotBlock 0)) (begun_at (if t then Loads (Home (k + 1)) else Loads (SlotBlock 0)) d.commit)
+  by_more : (t : Bool) → with_migration d (if t then Loads (Home (k + 1)) else Loads (SlotBlock 0)) (begun_at d.p (if t then Loads (Home (k + 1)) else Loads (SlotBlock 0)) d.commit)
       ≡ boot_left filling_dual d (if t then Loads (Home (k + 1)) else Loads (SlotBlock 0))
   by_more true = omega arith
   by_more false = omega arith
 loads_on d f (SlotBlock k) = by_more (nat_lt (k + 1) f.parts.slot_blocks) where
-  by_more : (t : Bool) → with_migration d (if t then Loads (SlotBlock (k + 1)) else Loads HeaderBlock) (begun_at (if t then Loads (SlotBlock (k + 1)) else Loads HeaderBlock) d.commit)
+  by_more : (t : Bool) → with_migration d (if t then Loads (SlotBlock (k + 1)) else Loads HeaderBlock) (begun_at d.p (if t then Loads (SlotBlock (k + 1)) else Loads HeaderBlock) d.commit)
       ≡ boot_left filling_dual d (if t then Loads (SlotBlock (k + 1)) else Loads HeaderBlock)
   by_more true = omega arith
   by_more false = omega arith
@@ -99,7 +99,7 @@ loads_on d f ConfirmAll = omega arith
 module _ (s : Plain) (n : Device) (b : Booting) (c : State) (m : Device) (d : Booting) (e : State)
     (nearer : boot_left filling_dual d d.stage + 1 ≤ boot_left filling_dual b b.stage) where
   abbrev IsNearer : Stage → Type 0
-  IsNearer q = with_migration d d.stage (begun_at d.stage d.commit) + 1 ≤ boot_left filling_dual b q + owed_at b.p b.commit q
+  IsNearer q = with_migration d d.stage (begun_at d.p d.stage d.commit) + 1 ≤ boot_left filling_dual b q + owed_at b.p b.commit q
 
   -- the commit block was read
   not_unread : d.p ≡ b.p → d.stage ≢ Reads Unread
@@ -112,18 +112,18 @@ module _ (s : Plain) (n : Device) (b : Booting) (c : State) (m : Device) (d : Bo
 
   reads_nearer : (r : ReadStage) → b.stage ≡ Reads r → d.p ≡ b.p → (r ≢ Unread → d.commit ≡ b.commit) → IsNearer (Reads r)
   reads_nearer r is same keeps = by_stage r is keeps where
-    most : with_migration d d.stage (begun_at d.stage d.commit) ≤ boot_left filling_dual d d.stage + migration_after d.p (version_of d.commit)
+    most : with_migration d d.stage (begun_at d.p d.stage d.commit) ≤ boot_left filling_dual d d.stage + migration_after d.p (version_of d.p d.commit)
     most = most_at d d.stage (not_unread same)
 
     less : (q : Stage) → b.stage ≡ q → boot_left filling_dual d d.stage + 1 ≤ boot_left filling_dual b q
     less q is = subst (λ (x : Stage). boot_left filling_dual d d.stage + 1 ≤ boot_left filling_dual b x) is nearer
 
-    after : d.commit ≡ b.commit → migration_after d.p (version_of d.commit) ≡ migration_after b.p (version_of b.commit)
-    after e = ap (λ (p : Parameters). migration_after p (version_of d.commit)) same ∙ ap (λ (x : Block). migration_after b.p (version_of x)) e
+    after : d.commit ≡ b.commit → migration_after d.p (version_of d.p d.commit) ≡ migration_after b.p (version_of b.p b.commit)
+    after e = ap (λ (p : Parameters). migration_after p (version_of p d.commit)) same ∙ ap (λ (x : Block). migration_after b.p (version_of b.p x)) e
 
     by_stage : (r : ReadStage) → b.stage ≡ Reads r → (r ≢ Unread → d.commit ≡ b.commit) → IsNearer (Reads r)
     by_stage Unread is keeps =
-        let few = one_at_most d.p (version_of d.commit) in
+        let few = one_at_most d.p (version_of d.p d.commit) in
         let room : most_migration d.p ≡ most_migration b.p = ap most_migration same in
         let left = less (Reads Unread) is in
         omega (arith, most, few, room, left)
@@ -144,8 +144,8 @@ module _ (s : Plain) (n : Device) (b : Booting) (c : State) (m : Device) (d : Bo
   boot_nearer (Loads issue) is on =
       let f : First = filling_dual.first b.p s in
       let at : d.stage ≡ after_issue f issue = ap (λ (x : Booting). x.stage) on.boot in
-      let none : with_migration d d.stage (begun_at d.stage d.commit) ≡ boot_left filling_dual d d.stage
-      = subst (λ (q : Stage). with_migration d q (begun_at q d.commit) ≡ boot_left filling_dual d q) (sym at) (loads_on d f issue) in
+      let none : with_migration d d.stage (begun_at d.p d.stage d.commit) ≡ boot_left filling_dual d d.stage
+      = subst (λ (q : Stage). with_migration d q (begun_at d.p q d.commit) ≡ boot_left filling_dual d q) (sym at) (loads_on d f issue) in
       let left : boot_left filling_dual d d.stage + 1 ≤ boot_left filling_dual b (Loads issue)
       = subst (λ (x : Stage). boot_left filling_dual d d.stage + 1 ≤ boot_left filling_dual b x) is nearer in
       omega (arith, none, left)
@@ -160,7 +160,7 @@ come_nearer s n r c m t e can steps good = by_migration r.migration refl where
       let on : BootsOn s n r c m t e = subst (λ (o : Option Migration). StepsAt o s n r c m t e) is steps in
       let may : CanBoot filling_dual s n r.boot c = subst (λ (o : Option Migration). CanStepAt o s n r c) is can in
       let nearer = steps_come_nearer filling_dual filling_is_lawful s n r.boot c m t.boot e may on.boot good in
-      let left : left_at t.migration t.boot ≡ with_migration t.boot t.boot.stage (begun_at t.boot.stage t.boot.commit)
+      let left : left_at t.migration t.boot ≡ with_migration t.boot t.boot.stage (begun_at t.boot.p t.boot.stage t.boot.commit)
       = left_is t.boot t.migration ∙ ap (with_migration t.boot t.boot.stage) on.migration in
       let less = boot_nearer s n r.boot c m t.boot e nearer r.boot.stage refl on.boot in
       omega (arith, left, less)

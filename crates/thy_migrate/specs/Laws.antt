@@ -35,7 +35,7 @@ use Rattle.thy_migrate.specs.Steps.{CanMigrate, CanStep, Steps}
 abbrev pub MigrationBegins : Type 0
 MigrationBegins =
     (o : Origin) (g : BootImages) (n : Device) (b : Booting) (c : State)
-    → IsOrigin o → IsSoundBoot filling_dual o g n b c → b.stage ≡ Over Restored → version_of b.commit ≡ VersionOne
+    → IsOrigin o → IsSoundBoot filling_dual o g n b c → b.stage ≡ Over Restored → version_of b.p b.commit ≡ VersionOne
     → (m : Mark) × IsMigrating o m (Slot 0) g n b c
 
 -- it may take its action while the NVM is up

@@ -43,13 +43,13 @@ migration_after p VersionTwo = 0
 
 abbrev pub owed_at : Parameters → Block → Stage → ℕ
 owed_at p commit (Reads Unread) = most_migration p
-owed_at p commit (Reads r) = migration_after p (version_of commit)
+owed_at p commit (Reads r) = migration_after p (version_of p commit)
 owed_at p commit (Loads issue) = 0
 owed_at p commit (Over end) = 0
 
 -- so that many are left
 abbrev pub left_at : Option Migration → Booting → ℕ
-left_at None b = stage_left (boot_numbers (version_of b.commit) b.p) b.stage + owed_at b.p b.commit b.stage
+left_at None b = stage_left (boot_numbers (version_of b.p b.commit) b.p) b.stage + owed_at b.p b.commit b.stage
 left_at (Some at) b = migration_left b.p at
 
 abbrev pub recovery_left : Recovering → ℕ

@@ -33,9 +33,9 @@ abbrev pub begun_from : LayoutVersion → Option Migration
 begun_from VersionOne = Some (Slot 0)
 begun_from VersionTwo = None
 
-abbrev pub begun_at : Stage → Block → Option Migration
-begun_at (Over Restored) commit = begun_from (version_of commit)
-begun_at stage commit = None
+abbrev pub begun_at : Parameters → Stage → Block → Option Migration
+begun_at p (Over Restored) commit = begun_from (version_of p commit)
+begun_at p stage commit = None
 
 -- block k is written to the slot of this epoch in version 2: block k of the slot that was found, and zeros behind it; the
 -- commit block is of the same epoch

@@ -56,7 +56,7 @@ pub record HasFound (o : Origin) (m : Mark) (g : BootImages) (b : Booting) (c : 
   pub same_p : c.p ≡ o.geometry
   pub tables : AreSoundTables c
   pub restored : b.stage ≡ Over Restored
-  pub version : version_of b.commit ≡ VersionOne
+  pub version : version_of b.p b.commit ≡ VersionOne
   pub epoch : epoch_of b.commit ≡ m.epoch
   pub kept : g.kept ≡ Some m
   pub small : m.epoch < ceiling

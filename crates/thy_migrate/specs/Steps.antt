@@ -39,7 +39,7 @@ CanStep s n r c = CanStepAt r.migration s n r c
 -- the boot took one; at its end a migration may begin
 pub record BootsOn (s : Plain) (n : Device) (r : Recovering) (c : State) (m : Device) (t : Recovering) (e : State) : Type 0 where
   pub boot : BootSteps filling_dual s n r.boot c m t.boot e
-  pub migration : t.migration ≡ begun_at t.boot.stage t.boot.commit
+  pub migration : t.migration ≡ begun_at t.boot.p t.boot.stage t.boot.commit
 
 -- the migration took its action, and comes to the next one
 pub record Migrates (at : Migration) (n : Device) (r : Recovering) (c : State) (m : Device) (t : Recovering) (e : State) : Type 0 where

@@ -27,11 +27,11 @@ impl Fills for DualFills {
     }
 
     fn slot_blocks(geometry: &Geometry, commit: &Block) -> u64 {
-        geometry.slot_blocks_of(version_of(commit))
+        geometry.slot_blocks_of(version_of(commit, geometry))
     }
 
     fn slot_at(geometry: &Geometry, commit: &Block, next: u64) -> u64 {
-        geometry.slot_of(version_of(commit), word(commit, 1) % 2) + next
+        geometry.slot_of(version_of(commit, geometry), word(commit, 1) % 2) + next
     }
 
     fn header_fault(geometry: &Geometry, header: &Block) -> Option<BadImage> {

@@ -43,11 +43,11 @@ impl Model for Recovery {
 }
 
 // A migration begins if the boot has restored a checkpoint of version 1.
-fn begun(stage: Stage, commit: &Block) -> Option<Migration>
-    ensures { result ≡ begun_at stage commit.now }
+fn begun(geometry: &Geometry, stage: Stage, commit: &Block) -> Option<Migration>
+    ensures { result ≡ begun_at geometry.now stage commit.now }
 {
     match stage {
-        Stage::Over(End::Restored) => match version_of(commit) {
+        Stage::Over(End::Restored) => match version_of(commit, geometry) {
             LayoutVersion::VersionOne => Some(Migration::Slot(0)),
             LayoutVersion::VersionTwo => None,
         },
@@ -148,7 +148,7 @@ impl Recovery {
             CountsStep result s self.old control.old (N.writes nvm.old) (N.writes nvm.new) }
     {
         let answer = self.boot.step::<DualFills, N>(control, start, nvm)?;
-        self.migration = begun(self.boot.stage(), self.boot.commit());
+        self.migration = begun(self.boot.geometry(), self.boot.stage(), self.boot.commit());
         match self.migration {
             None => Ok(answer),
             Some(_) => Ok(BootStep::GoesOn),

@@ -68,8 +68,8 @@ module _ (p : Parameters) (ceiling : ℕ) (cpu : CpuState) (t : Tables) (counts 
   epoch_is : epoch_of (commit_of epoch) ≡ epoch
   epoch_is = epoch_of-commit_of epoch small
 
-  version_is : version_of (commit_of epoch) ≡ VersionTwo
-  version_is = version_of-commit_of epoch
+  version_is : version_of p (commit_of epoch) ≡ VersionTwo
+  version_is = version_of-commit_of p epoch
 
   pub slot_is : IsSlotOf p cpu t counts epoch slot
   slot_is = record {
@@ -94,10 +94,10 @@ module _ (p : Parameters) (ceiling : ℕ) (cpu : CpuState) (t : Tables) (counts 
 
   pub no_fault : (header : Block) → header_fault header p true ≡ None
       → option_or (header_fault header p true) (option_or (commit_fault header (commit_of epoch) ceiling)
-      (slot_fault (version_of (commit_of epoch)) p ceiling (epoch_of (commit_of epoch)) slot)) ≡ None
+      (slot_fault (version_of p (commit_of epoch)) p ceiling (epoch_of (commit_of epoch)) slot)) ≡ None
   no_fault header fits =
       all_none (header_fault header p true) (commit_fault header (commit_of epoch) ceiling)
-      (slot_fault (version_of (commit_of epoch)) p ceiling (epoch_of (commit_of epoch)) slot) fits
+      (slot_fault (version_of p (commit_of epoch)) p ceiling (epoch_of (commit_of epoch)) slot) fits
       (commit_fault-commit_of header epoch ceiling below most)
       (ap (λ f. slot_fault f p ceiling (epoch_of (commit_of epoch)) slot) version_is
       ∙ ap (λ (e : ℕ). slot_fault VersionTwo p ceiling e slot) epoch_is
@@ -117,7 +117,7 @@ issued_decodes p ceiling n cpu t counts epoch memory range recordable most below
     next_image-commit (commit_of epoch) n (omega (arith, h.parts.sized)) in
     record {
       told = record {
-        of_version = ap version_of commit_same ∙ version_is p ceiling cpu t counts epoch range recordable most below h.tables h.counts_are;
+        of_version = ap (version_of p) commit_same ∙ version_is p ceiling cpu t counts epoch range recordable most below h.tables h.counts_are;
         of_epoch = ap epoch_of commit_same ∙ epoch_same;
         tables = ap (tables_in p) all.slot ∙ tables_are p ceiling cpu t counts epoch range recordable most below h.tables h.counts_are;
         whole = h.tables;

@@ -72,8 +72,8 @@ module _ (p : Parameters) (ceiling epoch : ℕ) (slot : List Block) (most : ceil
   epoch_is : epoch_of (commit_of epoch) ≡ epoch
   epoch_is = epoch_of-commit_of epoch (omega (arith, most, below))
 
-  version_is : version_of (commit_of epoch) ≡ VersionTwo
-  version_is = version_of-commit_of epoch
+  version_is : version_of p (commit_of epoch) ≡ VersionTwo
+  version_is = version_of-commit_of p epoch
 
   parts_of : ArePartsOf (dual_layouts p ceiling) (commit_of epoch) (migrated_parts p slot epoch)
   parts_of = record {
@@ -85,10 +85,10 @@ module _ (p : Parameters) (ceiling epoch : ℕ) (slot : List Block) (most : ceil
 
   no_fault : (header : Block) → header_fault header p true ≡ None
       → option_or (header_fault header p true) (option_or (commit_fault header (commit_of epoch) ceiling)
-      (slot_fault (version_of (commit_of epoch)) p ceiling (epoch_of (commit_of epoch)) anew)) ≡ None
+      (slot_fault (version_of p (commit_of epoch)) p ceiling (epoch_of (commit_of epoch)) anew)) ≡ None
   no_fault header fits =
       all_none (header_fault header p true) (commit_fault header (commit_of epoch) ceiling)
-      (slot_fault (version_of (commit_of epoch)) p ceiling (epoch_of (commit_of epoch)) anew) fits
+      (slot_fault (version_of p (commit_of epoch)) p ceiling (epoch_of (commit_of epoch)) anew) fits
       (commit_fault-commit_of header epoch ceiling below most)
       (ap (λ f. slot_fault f p ceiling (epoch_of (commit_of epoch)) anew) version_is
       ∙ ap (λ (e : ℕ). slot_fault VersionTwo p ceiling e anew) epoch_is
@@ -107,7 +107,7 @@ module _ (p : Parameters) (ceiling epoch : ℕ) (slot : List Block) (most : ceil
     pub is_migrated : IsMigrated p ceiling n slot epoch memory
     is_migrated = record {
       told = record {
-        of_version = ap version_of commit_same ∙ version_is;
+        of_version = ap (version_of p) commit_same ∙ version_is;
         of_epoch = ap epoch_of commit_same ∙ epoch_is;
         tables = ap (tables_in p) all.slot ∙ same.tables_same;
         whole = tables_of_slot p ceiling epoch slot none;

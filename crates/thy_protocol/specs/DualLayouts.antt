@@ -19,12 +19,12 @@ abbrev pub dual_layouts : Layouts
 dual_layouts p ceiling = record {
   image_blocks = image_blocks p;
   memory_blocks = memory_blocks p;
-  slot_place = λ commit. place_of_slot (version_of commit) p (epoch_of commit % 2);
-  slot_blocks = λ commit. blocks_of_slot (version_of commit) p;
+  slot_place = λ commit. place_of_slot (version_of p commit) p (epoch_of commit % 2);
+  slot_blocks = λ commit. blocks_of_slot (version_of p commit) p;
   place = λ commit slot b. number_of p (place_of (tables_in p slot) b);
   header_bad = λ header sized. header_fault header p sized;
   commit_bad = λ header commit. commit_fault header commit ceiling;
-  slot_bad = λ commit slot. slot_fault (version_of commit) p ceiling (epoch_of commit) slot;
+  slot_bad = λ commit slot. slot_fault (version_of p commit) p ceiling (epoch_of commit) slot;
   state_from = λ slot memory. state_from p (cpu_of_record p slot) memory;
 }
 

@@ -65,7 +65,7 @@ slot_fault-parts version p ceiling epoch slot =
 -- the fault of the slot that the commit block names
 abbrev pub slot_fault_in : Parameters → ℕ → List Block → Option BadImage
 slot_fault_in p ceiling image =
-    slot_fault (version_of (block_at image 1)) p ceiling (epoch_of (block_at image 1)) (slot_in p image)
+    slot_fault (version_of p (block_at image 1)) p ceiling (epoch_of (block_at image 1)) (slot_in p image)
 
 abbrev pub commit_fault_in : ℕ → List Block → Option BadImage
 commit_fault_in ceiling image = commit_fault (block_at image 0) (block_at image 1) ceiling

@@ -134,10 +134,19 @@ blocks_of-part bytes x n inside =
 
 -- the slot of an image's checkpoint stands in its bytes
 pub slot_in_file : (p : Parameters) (bytes : List ℕ) (commit : Block) (s : ℕ) → is_long_file p bytes ≡ true → commit ≡ block_at (blocks_of bytes) 1
-    → s < 2 → place_of_slot (version_of commit) p s + blocks_of_slot (version_of commit) p ≤ length bytes / 64
+    → s < 2 → place_of_slot (version_of p commit) p s + blocks_of_slot (version_of p commit) p ≤ length bytes / 64
 slot_in_file p bytes commit s h is l =
-    subst (λ c. place_of_slot (version_of c) p s + blocks_of_slot (version_of c) p ≤ length bytes / 64) (sym is)
-    (slot_inside p (version_of (block_at (blocks_of bytes) 1)) (length bytes / 64) s (HasLength-file p bytes h).long l)
+    subst (λ c. place_of_slot (version_of p c) p s + blocks_of_slot (version_of p c) p ≤ length bytes / 64) (sym is)
+    (slot_inside p (version_of p (block_at (blocks_of bytes) 1)) (length bytes / 64) s (HasLength-file p bytes h).long l)
+
+-- and ends within them
+pub slot_end : (p : Parameters) (bytes : List ℕ) (commit : Block) (s place count : ℕ) → is_long_file p bytes ≡ true → commit ≡ block_at (blocks_of bytes) 1
+    → s < 2 → place ≡ place_of_slot (version_of p commit) p s → count ≡ blocks_of_slot (version_of p commit) p → 64 * place + 64 * count ≤ length bytes
+slot_end p bytes commit s place count h is l at of =
+    let inside : place + count ≤ length bytes / 64
+    = subst (λ (x : ℕ). x + count ≤ length bytes / 64) (sym at)
+    (subst (λ (y : ℕ). place_of_slot (version_of p commit) p s + y ≤ length bytes / 64) (sym of) (slot_in_file p bytes commit s h is l)) in
+    omega (arith, inside)
 
 -- byte i of the counts of a slot
 pub count_byte-blocks_of : (p : Parameters) (bytes : List ℕ) (i x : ℕ) → length bytes ≡ 64 * blocks_of_slot VersionTwo p → i < 64 * count_blocks p
@@ -157,15 +166,15 @@ table_in-slice bytes m x first n e f inside =
     ap (λ k. table_in (take k (drop x bytes))) e ∙ ap (λ k. table_in (take (8 * n) (drop k bytes))) f ∙ table_in-part bytes first n inside
 
 pub slot-slice : (p : Parameters) (bytes : List ℕ) (m x epoch : ℕ) (commit : Block) → is_long_file p bytes ≡ true
-    → commit ≡ block_at (blocks_of bytes) 1 → epoch ≡ epoch_of commit → m ≡ 64 * blocks_of_slot (version_of commit) p
-    → x ≡ 64 * place_of_slot (version_of commit) p (epoch % 2)
+    → commit ≡ block_at (blocks_of bytes) 1 → epoch ≡ epoch_of commit → m ≡ 64 * blocks_of_slot (version_of p commit) p
+    → x ≡ 64 * place_of_slot (version_of p commit) p (epoch % 2)
     → blocks_of (take m (drop x bytes)) ≡ slot_in p (blocks_of bytes)
 slot-slice p bytes m x epoch commit long is named e f =
     ap (λ k. blocks_of (take k (drop x bytes))) e
-    ∙ ap (λ k. blocks_of (take (64 * blocks_of_slot (version_of commit) p) (drop k bytes))) f
-    ∙ blocks_of-part bytes (place_of_slot (version_of commit) p (epoch % 2)) (blocks_of_slot (version_of commit) p)
+    ∙ ap (λ k. blocks_of (take (64 * blocks_of_slot (version_of p commit) p) (drop k bytes))) f
+    ∙ blocks_of-part bytes (place_of_slot (version_of p commit) p (epoch % 2)) (blocks_of_slot (version_of p commit) p)
     (slot_in_file p bytes commit (epoch % 2) long is (omega arith))
-    ∙ ap (λ k. map (block_at (blocks_of bytes)) (range_with_len (place_of_slot (version_of commit) p (k % 2)) (blocks_of_slot (version_of commit) p))) named
+    ∙ ap (λ k. map (block_at (blocks_of bytes)) (range_with_len (place_of_slot (version_of p commit) p (k % 2)) (blocks_of_slot (version_of p commit) p))) named
     ∙ ap (λ c. map (block_at (blocks_of bytes)) (slot_numbers p c)) is
 
 -- ---- a file of an image's bytes

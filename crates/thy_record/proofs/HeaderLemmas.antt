@@ -4,6 +4,7 @@ use Rattle.std.proofs.lemmas.Bool.{eq-eqb, and_from}
 use Rattle.thy_base.specs.declared.block.Block.{Block}
 use Rattle.thy_base.specs.declared.config.Parameters.{Parameters}
 use Rattle.thy_base.specs.Geometry.{IsInRange}
+use Rattle.thy_base.specs.Places.{knows_version_one}
 use Rattle.thy_record.specs.declared.bad_image.BadImage.TheVariants.{Header, Version, Geometry}
 use Rattle.thy_base.specs.Words.{word_of}
 use Rattle.thy_record.specs.Header.{header_magic, harts_word, header_words, header_of, is_of_geometry, is_of_version, header_fault}
@@ -25,8 +26,8 @@ is_of_geometry-header_of p r =
     (eq-eqb _ _ (header_word p 6 p.ptt (omega arith) refl (omega arith)))
     (eq-eqb _ _ (header_word p 7 (harts_word p) (omega arith) refl (omega arith))))
 
-is_of_version-header_of : (p : Parameters) → is_of_version (header_of p) ≡ true
-is_of_version-header_of p = ap (λ w. w == 1 || w == 2) (header_word p 1 2 (omega arith) refl (omega arith))
+is_of_version-header_of : (p : Parameters) → is_of_version p (header_of p) ≡ true
+is_of_version-header_of p = ap (λ w. w == 2 || (w == 1 && knows_version_one p)) (header_word p 1 2 (omega arith) refl (omega arith))
 
 -- a header that was written for a geometry has no fault in an image of its length
 pub header_fault-header_of : (p : Parameters) → IsInRange p → header_fault (header_of p) p true ≡ None
@@ -48,4 +49,4 @@ last_asks false b c long h = cc
 -- a header without fault is that of an image of its length
 pub header_fault-long : (b : Block) (p : Parameters) (long : Bool) → header_fault b p long ≡ None → long ≡ true
 unfolding header_fault
-header_fault-long b p long h = last_asks (word_of b 0 == header_magic) (is_of_version b) (is_of_geometry b p) long h
+header_fault-long b p long h = last_asks (word_of b 0 == header_magic) (is_of_version p b) (is_of_geometry b p) long h

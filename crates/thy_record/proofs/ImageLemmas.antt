@@ -51,11 +51,11 @@ map-alike f g xs each =
     ∙ each _ (Contains-get_or xs k 0 l)
     ∙ sym (get_or-map g xs k 0 zero_block l))
 
-pub block_at-slot_in : (p : Parameters) (image : List Block) (k : ℕ) → k < blocks_of_slot (version_of (block_at image 1)) p
-    → block_at (slot_in p image) k ≡ block_at image (place_of_slot (version_of (block_at image 1)) p (epoch_of (block_at image 1) % 2) + k)
+pub block_at-slot_in : (p : Parameters) (image : List Block) (k : ℕ) → k < blocks_of_slot (version_of p (block_at image 1)) p
+    → block_at (slot_in p image) k ≡ block_at image (place_of_slot (version_of p (block_at image 1)) p (epoch_of (block_at image 1) % 2) + k)
 block_at-slot_in p image k l =
-    block_at-numbers (block_at image) (place_of_slot (version_of (block_at image 1)) p (epoch_of (block_at image 1) % 2))
-    (blocks_of_slot (version_of (block_at image 1)) p) k l
+    block_at-numbers (block_at image) (place_of_slot (version_of p (block_at image 1)) p (epoch_of (block_at image 1) % 2))
+    (blocks_of_slot (version_of p (block_at image 1)) p) k l
 
 -- ---- what is written decodes
 
@@ -72,7 +72,7 @@ decode-parts zeros fault epoch found state other a b c d =
 pub IsSlotOf-written : (p : Parameters) (cpu : CpuState) (t : Tables) (counts : ℕ → Block) (epoch : ℕ) (image : List Block)
     → epoch < 2 ^ 64 → HasCheckpoint p image cpu t counts epoch → IsSlotOf p cpu t counts epoch (slot_in p image)
 IsSlotOf-written p cpu t counts epoch image fits has =
-    let version : version_of (block_at image 1) ≡ VersionTwo = ap version_of has.commit ∙ version_of-commit_of epoch in
+    let version : version_of p (block_at image 1) ≡ VersionTwo = ap (version_of p) has.commit ∙ version_of-commit_of p epoch in
     record {
       each = λ k l.
           block_at-slot_in p image k (subst (λ f. k < blocks_of_slot f p) (sym version) l)
@@ -83,7 +83,7 @@ IsSlotOf-written p cpu t counts epoch image fits has =
 
 -- so many blocks as an image has are enough, whatever its commit block names
 pub is_long-whole : (p : Parameters) (commit : Block) (n : ℕ) → n ≡ image_blocks p → is_long p commit n ≡ true
-is_long-whole p commit n e = ap (λ t. t || (is_one (version_of commit) && n == blocks_one p)) (eq-eqb _ _ e)
+is_long-whole p commit n e = ap (λ t. t || (is_one (version_of p commit) && n == blocks_one p)) (eq-eqb _ _ e)
 
 pub decode-written : (p : Parameters) (ceiling : ℕ) (cpu : CpuState) (t : Tables) (counts : ℕ → Block) (epoch : ℕ) (image : List Block)
     → IsInRange p → IsRecordable p ceiling cpu → IsTables p t → AreCounts p counts → ceiling ≤ 2 ^ 64 → epoch < ceiling
@@ -94,7 +94,7 @@ decode-written p ceiling cpu t counts epoch image r recordable s are most below 
     let fits : epoch < 2 ^ 64 = omega arith in
     let room : console_room p < 2 ^ 64 = omega arith in
     let of_epoch : epoch_of (block_at image 1) ≡ epoch = ap epoch_of has.commit ∙ epoch_of-commit_of epoch fits in
-    let version : version_of (block_at image 1) ≡ VersionTwo = ap version_of has.commit ∙ version_of-commit_of epoch in
+    let version : version_of p (block_at image 1) ≡ VersionTwo = ap (version_of p) has.commit ∙ version_of-commit_of p epoch in
     let slot = IsSlotOf-written p cpu t counts epoch image fits has in
     let long = is_long-whole p (block_at image 1) (length image) has.long in
     decode-parts (is_zero (block_at image 1)) (image_fault p ceiling (is_long p (block_at image 1) (length image)) image) (epoch_of (block_at image 1)) epoch
@@ -129,14 +129,14 @@ IsDecoded-at p ceiling image epoch state h =
     (state_in p image) state h in
     let header = neither (header_fault (block_at image 0) p (is_long p (block_at image 1) (length image)))
     (option_or (commit_fault (block_at image 0) (block_at image 1) ceiling)
-    (slot_fault (version_of (block_at image 1)) p ceiling (epoch_of (block_at image 1)) (slot_in p image))) found.1 in
+    (slot_fault (version_of p (block_at image 1)) p ceiling (epoch_of (block_at image 1)) (slot_in p image))) found.1 in
     let rest = neither (commit_fault (block_at image 0) (block_at image 1) ceiling)
-    (slot_fault (version_of (block_at image 1)) p ceiling (epoch_of (block_at image 1)) (slot_in p image)) header.1 in
+    (slot_fault (version_of p (block_at image 1)) p ceiling (epoch_of (block_at image 1)) (slot_in p image)) header.1 in
     let parts = neither (epoch_fault (epoch_of (block_at image 1)) (slot_in p image))
     (option_or (tables_fault p (tables_in p (slot_in p image)))
-    (option_or (status_fault p ceiling (slot_in p image)) (rest_fault (version_of (block_at image 1)) p (slot_in p image)))) rest.1 in
+    (option_or (status_fault p ceiling (slot_in p image)) (rest_fault (version_of p (block_at image 1)) p (slot_in p image)))) rest.1 in
     let tables = neither (tables_fault p (tables_in p (slot_in p image)))
-    (option_or (status_fault p ceiling (slot_in p image)) (rest_fault (version_of (block_at image 1)) p (slot_in p image))) parts.1 in
+    (option_or (status_fault p ceiling (slot_in p image)) (rest_fault (version_of p (block_at image 1)) p (slot_in p image))) parts.1 in
     let long : is_long p (block_at image 1) (length image) ≡ true
     = header_fault-long (block_at image 0) p (is_long p (block_at image 1) (length image)) header.0 in
     record {
@@ -146,7 +146,7 @@ IsDecoded-at p ceiling image epoch state h =
         long = long;
         header_fits = sym (ap (header_fault (block_at image 0) p) long) ∙ header.0;
         commit_fits = rest.0;
-        slot_fits = sym (ap (λ e. slot_fault (version_of (block_at image 1)) p ceiling e (slot_in p image)) found.2) ∙ rest.1;
+        slot_fits = sym (ap (λ e. slot_fault (version_of p (block_at image 1)) p ceiling e (slot_in p image)) found.2) ∙ rest.1;
         state_is = found.3;
       };
       tables = IsTables-faultless p (tables_in p (slot_in p image)) (record {
@@ -179,12 +179,12 @@ alike-parts : (p : Parameters) (ceiling : ℕ) (long : Bool) (g h : List Block)
 unfolding decode_with
 alike-parts p ceiling long g h zero_same one slot memory =
     ap (λ b. if is_zero b then Nothing else refused_or_at (option_or (header_fault (block_at g 0) p long)
-    (option_or (commit_fault (block_at g 0) b ceiling) (slot_fault (version_of b) p ceiling (epoch_of b) (slot_in p g)))) (epoch_of b) (state_in p g)) one
+    (option_or (commit_fault (block_at g 0) b ceiling) (slot_fault (version_of p b) p ceiling (epoch_of b) (slot_in p g)))) (epoch_of b) (state_in p g)) one
     ∙ ap (λ b. if is_zero (block_at h 1) then Nothing else refused_or_at (option_or (header_fault b p long)
-    (option_or (commit_fault b (block_at h 1) ceiling) (slot_fault (version_of (block_at h 1)) p ceiling (epoch_of (block_at h 1)) (slot_in p g))))
+    (option_or (commit_fault b (block_at h 1) ceiling) (slot_fault (version_of p (block_at h 1)) p ceiling (epoch_of (block_at h 1)) (slot_in p g))))
     (epoch_of (block_at h 1)) (state_in p g)) zero_same
     ∙ ap (λ s. if is_zero (block_at h 1) then Nothing else refused_or_at (option_or (header_fault (block_at h 0) p long)
-    (option_or (commit_fault (block_at h 0) (block_at h 1) ceiling) (slot_fault (version_of (block_at h 1)) p ceiling (epoch_of (block_at h 1)) s)))
+    (option_or (commit_fault (block_at h 0) (block_at h 1) ceiling) (slot_fault (version_of p (block_at h 1)) p ceiling (epoch_of (block_at h 1)) s)))
     (epoch_of (block_at h 1)) (state_from p (cpu_of_record p s) (memory_in p (tables_in p s) g))) slot
     ∙ ap (λ m. if is_zero (block_at h 1) then Nothing else refused_or_at (image_fault p ceiling long h) (epoch_of (block_at h 1))
     (state_from p (cpu_of_record p (slot_in p h)) m)) memory
@@ -324,6 +324,6 @@ decode-higher p low high image epoch state most h =
     (all_none _ _ _
     (ap (header_fault (block_at image 0) p) w.long ∙ w.header_fits)
     (commit_fault-higher (block_at image 0) (block_at image 1) low high most w.commit_fits)
-    (ap (λ e. slot_fault (version_of (block_at image 1)) p high e (slot_in p image)) w.of_epoch
-    ∙ slot_fault-higher (version_of (block_at image 1)) p (slot_in p image) epoch low high most w.slot_fits))
+    (ap (λ e. slot_fault (version_of p (block_at image 1)) p high e (slot_in p image)) w.of_epoch
+    ∙ slot_fault-higher (version_of p (block_at image 1)) p (slot_in p image) epoch low high most w.slot_fits))
     w.of_epoch w.state_is

@@ -183,7 +183,7 @@ pub free_not_looked : (p : Parameters) (image : List Block) (version : LayoutVer
 free_not_looked p image version epoch t x told there free =
     free_looked p image (target_number p x) (is_zero (block_at image 1)) (target_behind p x there)
     (λ inside.
-    let of = Contains-range (place_of_slot (version_of (block_at image 1)) p (epoch_of (block_at image 1) % 2)) (blocks_of_slot (version_of (block_at image 1)) p)
+    let of = Contains-range (place_of_slot (version_of p (block_at image 1)) p (epoch_of (block_at image 1) % 2)) (blocks_of_slot (version_of p (block_at image 1)) p)
     (target_number p x) inside in
     free_of_slot p version epoch t x there free of.0 (subst (λ f. of.0 < blocks_of_slot f p) told.of_version of.1)
     (sym (ap (λ f. place_of_slot f p (epoch_of (block_at image 1) % 2) + of.0) told.of_version

@@ -6,6 +6,7 @@ pub mod CountLemmas
 pub mod TableFaultLemmas
 pub mod TableRefusalLemmas
 pub mod HeaderLemmas
+pub mod VersionLemmas
 pub mod SlotLemmas
 pub mod ImageLemmas
 pub mod ClashLemmas

@@ -10,7 +10,7 @@ use Rattle.thy_base.specs.Device.{zero_block}
 use Rattle.thy_base.specs.LittleEndian.{number_bytes}
 use Rattle.thy_base.specs.Geometry.{IsInRange, console_room}
 use Rattle.thy_base.proofs.RangeLemmas.{harts_least, harts_most}
-use Rattle.thy_base.specs.Places.{record_blocks}
+use Rattle.thy_base.specs.Places.{record_blocks, knows_version_one}
 use Rattle.thy_isa.proofs.MemoryBounds.{anywhere}
 use Rattle.thy_isa.specs.Regs.{reg_at}
 use Rattle.thy_isa.specs.declared.state.CpuState.{CpuState}
@@ -45,10 +45,10 @@ pub epoch_of-commit_of : (epoch : ℕ) → epoch < 2 ^ 64 → epoch_of (commit_o
 epoch_of-commit_of epoch l = commit_word epoch 1 epoch (omega arith) refl l
 
 -- it names version 2
-pub version_of-commit_of : (epoch : ℕ) → version_of (commit_of epoch) ≡ VersionTwo
-version_of-commit_of epoch =
+pub version_of-commit_of : (p : Parameters) (epoch : ℕ) → version_of p (commit_of epoch) ≡ VersionTwo
+version_of-commit_of p epoch =
     let name : word_of (commit_of epoch) 0 ≡ commit_magic VersionTwo = commit_word epoch 0 (commit_magic VersionTwo) (omega arith) refl (omega arith) in
-    ap (λ w. if w == commit_magic VersionOne then VersionOne else VersionTwo) name
+    ap (λ w. if w == commit_magic VersionOne && knows_version_one p then VersionOne else VersionTwo) name
 
 is_named-commit_of : (header : Block) (epoch : ℕ) → is_named header (commit_of epoch) ≡ true
 is_named-commit_of header epoch =

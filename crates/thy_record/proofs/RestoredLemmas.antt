@@ -73,7 +73,7 @@ IsWholeFile-found p bytes h =
     ap (λ b. decode_with p h.ceiling b (blocks_of bytes)) (long ∙ sym file) ∙ decodes in
     record {
       long = file;
-      places = long_enough p (version_of (block_at (blocks_of bytes) 1)) (length bytes / 64) has.long;
+      places = long_enough p (version_of p (block_at (blocks_of bytes) 1)) (length bytes / 64) has.long;
       tables = (IsDecoded-at p h.ceiling (blocks_of bytes) h.epoch at.0 as_image).tables;
     }
 

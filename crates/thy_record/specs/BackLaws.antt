@@ -17,11 +17,11 @@ use Rattle.thy_base.specs.Words.{word_of, block_of}
 abbrev pub HeaderReadsBack : Type 0
 HeaderReadsBack = (p : Parameters) → IsInRange p → header_fault (header_of p) p true ≡ None
 
--- a commit block is not zero, names its epoch and version 2, and has no fault behind any header
+-- a commit block is not zero, names its epoch and version 2, whatever the geometry, and has no fault behind any header
 pub record CommitIsBack (epoch ceiling : ℕ) : Type 0 where
   pub committed : is_zero (commit_of epoch) ≡ false
   pub of_epoch : epoch_of (commit_of epoch) ≡ epoch
-  pub of_version : version_of (commit_of epoch) ≡ VersionTwo
+  pub of_version : (p : Parameters) → version_of p (commit_of epoch) ≡ VersionTwo
   pub fits : (header : Block) → commit_fault header (commit_of epoch) ceiling ≡ None
 
 abbrev pub CommitReadsBack : Type 0

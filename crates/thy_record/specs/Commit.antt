@@ -4,9 +4,11 @@ use Rattle.std.specs.Prelude.{ℕ, Bool, ◌&&◌, ◌||◌, ◌==◌, nat_lt, i
 use Rattle.std.specs.List.{list_all}
 use Rattle.byteorder.specs.Endian.{little_number}
 use Rattle.thy_base.specs.declared.block.Block.{Block}
+use Rattle.thy_base.specs.declared.config.Parameters.{Parameters}
 use Rattle.thy_base.specs.declared.layout_version.LayoutVersion.{LayoutVersion}
 use Rattle.thy_base.specs.declared.layout_version.LayoutVersion.TheVariants.{VersionOne, VersionTwo}
 use Rattle.thy_base.specs.Demands.{asked, first_fault}
+use Rattle.thy_base.specs.Places.{knows_version_one}
 use Rattle.thy_record.specs.declared.bad_image.BadImage.{BadImage}
 use Rattle.thy_record.specs.declared.bad_image.BadImage.TheVariants.{Commit}
 use Rattle.thy_base.specs.Words.{word_of, block_of}
@@ -31,9 +33,9 @@ is_zero b = list_all (λ byte. byte == 0) b.0
 abbrev pub epoch_of : Block → ℕ
 epoch_of b = word_of b 1
 
--- the version of its slot
-abbrev pub version_of : Block → LayoutVersion
-version_of b = if word_of b 0 == commit_magic VersionOne then VersionOne else VersionTwo
+-- the version of its slot; with two harts there is no slot of version 1
+abbrev pub version_of : Parameters → Block → LayoutVersion
+version_of p b = if word_of b 0 == commit_magic VersionOne && knows_version_one p then VersionOne else VersionTwo
 
 -- it names a version; version 1 only behind a header of version 1
 abbrev pub is_named : Block → Block → Bool

@@ -5,6 +5,7 @@ use Rattle.byteorder.specs.Endian.{little_number}
 use Rattle.thy_base.specs.declared.block.Block.{Block}
 use Rattle.thy_base.specs.declared.config.Parameters.{Parameters}
 use Rattle.thy_base.specs.Demands.{asked, first_fault}
+use Rattle.thy_base.specs.Places.{knows_version_one}
 use Rattle.thy_record.specs.declared.bad_image.BadImage.{BadImage}
 use Rattle.thy_record.specs.declared.bad_image.BadImage.TheVariants.{Header, Version, Geometry}
 use Rattle.thy_base.specs.Words.{word_of, block_of}
@@ -30,14 +31,14 @@ is_of_geometry b p =
     (word_of b 2 == p.base && word_of b 3 == p.pages && word_of b 4 == p.console)
     && (word_of b 5 == p.btt && word_of b 6 == p.ptt && word_of b 7 == harts_word p)
 
--- its version is 1 or 2
-abbrev pub is_of_version : Block → Bool
-is_of_version b = word_of b 1 == 1 || word_of b 1 == 2
+-- its version is 2, or with one hart 1
+abbrev pub is_of_version : Parameters → Block → Bool
+is_of_version p b = word_of b 1 == 2 || (word_of b 1 == 1 && knows_version_one p)
 
 -- the first fault of a header; `long` says that the image has the length of this geometry
 unfoldable pub header_fault : Block → Parameters → Bool → Option BadImage
 header_fault b p long =
     first_fault (asked (word_of b 0 == header_magic) Header
-    ∷ asked (is_of_version b) Version
+    ∷ asked (is_of_version p b) Version
     ∷ asked (is_of_geometry b p && long) Geometry
     ∷ [])

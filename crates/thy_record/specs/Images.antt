@@ -23,7 +23,7 @@ use Rattle.thy_record.specs.Tables.{Tables, place_of}
 -- the numbers of the blocks of the slot that a commit block names
 abbrev pub slot_numbers : Parameters → Block → List ℕ
 slot_numbers p commit =
-    range_with_len (place_of_slot (version_of commit) p (epoch_of commit % 2)) (blocks_of_slot (version_of commit) p)
+    range_with_len (place_of_slot (version_of p commit) p (epoch_of commit % 2)) (blocks_of_slot (version_of p commit) p)
 
 -- the slot of an image's checkpoint
 abbrev pub slot_in : Parameters → List Block → List Block
@@ -48,7 +48,7 @@ image_fault p ceiling long image =
     let commit = block_at image 1 in
     option_or (header_fault (block_at image 0) p long)
     (option_or (commit_fault (block_at image 0) commit ceiling)
-    (slot_fault (version_of commit) p ceiling (epoch_of commit) (slot_in p image)))
+    (slot_fault (version_of p commit) p ceiling (epoch_of commit) (slot_in p image)))
 
 -- a refusal if there is a fault, else the checkpoint
 abbrev pub refused_or_at : Option BadImage → ℕ → State → Decoded
@@ -65,9 +65,10 @@ abbrev pub is_one : LayoutVersion → Bool
 is_one VersionOne = true
 is_one VersionTwo = false
 
--- so many blocks are those of an image; with a commit block of version 1 it may have those of that version
+-- so many blocks are those of an image; with a commit block of version 1, and so with one hart, those of that version are
+-- enough
 abbrev pub is_long : Parameters → Block → ℕ → Bool
-is_long p commit n = n == image_blocks p || (is_one (version_of commit) && n == blocks_one p)
+is_long p commit n = n == image_blocks p || (is_one (version_of p commit) && n == blocks_one p)
 
 -- what an image decodes to, with epochs and counts below a ceiling
 abbrev pub decode_image : Parameters → ℕ → List Block → Decoded
@@ -86,5 +87,5 @@ pub record IsWholeImage (p : Parameters) (ceiling : ℕ) (image : List Block) (e
   pub long : is_long p (block_at image 1) (length image) ≡ true
   pub header_fits : header_fault (block_at image 0) p true ≡ None
   pub commit_fits : commit_fault (block_at image 0) (block_at image 1) ceiling ≡ None
-  pub slot_fits : slot_fault (version_of (block_at image 1)) p ceiling epoch (slot_in p image) ≡ None
+  pub slot_fits : slot_fault (version_of p (block_at image 1)) p ceiling epoch (slot_in p image) ≡ None
   pub state_is : state_in p image ≡ state

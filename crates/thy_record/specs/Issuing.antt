@@ -59,7 +59,7 @@ EmptyPageIsUnused = (p : Parameters) (t : Tables) (j k : ℕ) → entry_at t.ptt
 
 -- an image has the checkpoint of this epoch, in a slot of this version, with these tables
 pub record IsToldBy (p : Parameters) (image : List Block) (version : LayoutVersion) (epoch : ℕ) (t : Tables) : Type 0 where
-  pub of_version : version_of (block_at image 1) ≡ version
+  pub of_version : version_of p (block_at image 1) ≡ version
   pub of_epoch : epoch_of (block_at image 1) ≡ epoch
   pub tables : tables_in p (slot_in p image) ≡ t
   pub whole : IsTables p t

@@ -3,7 +3,7 @@ ghost use Rattle.std.specs.Prelude.{◌≡◌};
 ghost use Rattle.thy_record.specs.Commit.{commit_of, version_of as version_named, is_named as names_version, commit_fault as fault_of_commit, is_zero as has_zeros, has_zero_rest as zero_rest};
 
 use crate::bad_image::BadImage;
-use thy_base::{Block, LayoutVersion, block_with, word};
+use thy_base::{Block, Geometry, LayoutVersion, block_with, word};
 
 /// The bytes `THYNCMT1`, with which a commit block of version 1 begins, as a number.
 pub const COMMIT_MAGIC_VERSION_ONE: u64 = 0x3154_4d43_4e59_4854;
@@ -26,11 +26,11 @@ pub fn is_zero(block: &Block) -> bool
     block.0.iter().all(|byte| *byte == 0)
 }
 
-/// The version of the slot that a commit block names.
-pub fn version_of(block: &Block) -> LayoutVersion
-    ensures { result ≡ version_named block.now }
+/// The version of the slot that a commit block names; with two harts there is no slot of version 1.
+pub fn version_of(block: &Block, geometry: &Geometry) -> LayoutVersion
+    ensures { result ≡ version_named geometry.now block.now }
 {
-    if word(block, 0) == COMMIT_MAGIC_VERSION_ONE {
+    if word(block, 0) == COMMIT_MAGIC_VERSION_ONE && geometry.knows_version_one() {
         LayoutVersion::VersionOne
     } else {
         LayoutVersion::VersionTwo

@@ -26,22 +26,24 @@ pub enum Found {
 pub(crate) fn slot_in<'a>(image: &'a [u8], commit: &Block, geometry: &Geometry) -> &'a [u8]
     requires long { is_long_file geometry.now image.now ≡ true }
     requires commit { commit.now ≡ block_at (blocks_of image.now) 1 }
-    ensures length { length result.now ≡ 64 * blocks_of_slot (version_named commit.now) geometry.now }
+    ensures length { length result.now ≡ 64 * blocks_of_slot (version_named geometry.now commit.now) geometry.now }
     ensures slot { blocks_of result.now ≡ slot_of_image geometry.now (blocks_of image.now) }
 {
-    let version = version_of(commit);
+    let version = version_of(commit, geometry);
     let first = BLOCK_SIZE * geometry.slot_of(version, word(commit, 1) % 2) as usize;
     &image[first..first + BLOCK_SIZE * geometry.slot_blocks_of(version) as usize]
 }
 
-// Whether a file has the whole blocks of an image: those of version 2, or, with a commit block of version 1, those of that.
+// Whether a file has the whole blocks of an image: those of version 2, or, with a commit block of version 1 and one hart,
+// those of that version.
 fn is_long(image: &[u8], commit: &Block, geometry: &Geometry) -> bool
     requires commit { commit.now ≡ block_at (blocks_of image.now) 1 }
     ensures { result ≡ is_long_file geometry.now image.now }
 {
     let size = image.len() as u64;
     let count = size / BLOCK_SIZE as u64;
-    let old = version_of(commit) == LayoutVersion::VersionOne && count == geometry.blocks_one();
+    let version = version_of(commit, geometry);
+    let old = version == LayoutVersion::VersionOne && count == geometry.blocks_one();
     size.is_multiple_of(BLOCK_SIZE as u64) && (count == geometry.blocks() || old)
 }
 
@@ -59,7 +61,8 @@ fn image_fault(image: &[u8], commit: &Block, geometry: &Geometry, ceiling: u64) 
         return Some(bad);
     }
     let slot = slot_in(image, commit, geometry);
-    slot_fault(slot, version_of(commit), word(commit, 1), geometry, ceiling)
+    let version = version_of(commit, geometry);
+    slot_fault(slot, version, word(commit, 1), geometry, ceiling)
 }
 
 /// What the bytes of a file have for a geometry: nothing, if there are at least 128 of them and the commit block is

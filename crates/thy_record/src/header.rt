@@ -37,7 +37,8 @@ pub fn header_block(geometry: &Geometry) -> Block
     ])
 }
 
-/// The first fault of a header, if it has one: another name, a version that is neither 1 nor 2, another geometry.
+/// The first fault of a header, if it has one: another name, a version that is not 2 and, with one hart, not 1 either, another
+/// geometry.
 /// `long` says whether the image has as many blocks as the geometry asks for; if it has not, that is another geometry.
 #[tactic(auto, unfolding(crate::specs::Header::header_fault))]
 pub fn header_fault(block: &Block, geometry: &Geometry, long: bool) -> Option<BadImage>
@@ -45,7 +46,7 @@ pub fn header_fault(block: &Block, geometry: &Geometry, long: bool) -> Option<Ba
 {
     if word(block, 0) != HEADER_MAGIC {
         Some(BadImage::Header)
-    } else if !is_of_version(block) {
+    } else if !is_of_version(block, geometry) {
         Some(BadImage::Version)
     } else if is_of_geometry(block, geometry) && long {
         None
@@ -54,12 +55,12 @@ pub fn header_fault(block: &Block, geometry: &Geometry, long: bool) -> Option<Ba
     }
 }
 
-// Whether the version of a header is one of those that are read.
-fn is_of_version(block: &Block) -> bool
-    ensures { result ≡ of_version block.now }
+// Whether the version of a header is one of those that are read: version 1 with one hart only.
+fn is_of_version(block: &Block, geometry: &Geometry) -> bool
+    ensures { result ≡ of_version geometry.now block.now }
 {
     let version = word(block, 1);
-    version == 1 || version == VERSION
+    version == VERSION || (version == 1 && geometry.knows_version_one())
 }
 
 // Whether the numbers of a header are those of the geometry.

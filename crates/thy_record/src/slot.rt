@@ -258,7 +258,8 @@ pub fn slot_fault(
     geometry: &Geometry,
     ceiling: u64,
 ) -> Option<BadImage>
-    requires { length slot.now ≡ 64 * blocks_of_slot version geometry.now }
+    requires slot { length slot.now ≡ 64 * blocks_of_slot version geometry.now }
+    requires room { 64 * (record_blocks geometry.now + table_blocks geometry.now) ≤ length slot.now }
     ensures { result ≡ fault_of_slot version geometry.now ceiling epoch (blocks_of slot.now) }
 {
     let head = head_fault(slot, epoch, geometry, ceiling);

@@ -53,9 +53,9 @@ restored_is_booted o g n b c origin sound is =
     let f : IsRestored filling_dual n b c = kept.5 in
     let rec : IsRecovering filling_dual g n b c = subst (λ (q : Stage). IsSoundAt filling_dual o q g n b c) is sound.so_far in
     let cpu : CpuState = cpu_of_record b.p slot in
-    let version : LayoutVersion = version_of b.commit in
+    let version : LayoutVersion = version_of b.p b.commit in
     let told : IsToldBy b.p n.image version epoch (tables0 c) = record {
-      of_version = ap version_of f.head.commit_is.is;
+      of_version = ap (version_of b.p) f.head.commit_is.is;
       of_epoch = ap epoch_of f.head.commit_is.is;
       tables = ap (tables_in b.p) (sym f.slot_is) ∙ ap (λ (q : Parameters). tables_in q slot) (sym rec.read.same_p) ∙ sym f.lists.are;
       whole = subst (λ (q : Parameters). IsTables q (tables0 c)) rec.read.same_p (AreTablesOf-committed c f.lists.tables).valid;
@@ -69,13 +69,13 @@ restored_is_booted o g n b c origin sound is =
     ∙ ap (λ (q : Parameters). header_fault (block_at n.image 0) q true) (sym sound.geometry) ∙ f.head.header_fits in
     let state : state_from p cpu (loads c n) ≡ at o m.count
     = ap (λ (q : Parameters). state_from q cpu (loads c n)) (sym sound.geometry) ∙ kept.4 in
-    let fits : slot_fault (version_of b.commit) p ceiling epoch slot ≡ None
-    = ap (λ (q : Parameters). slot_fault (version_of b.commit) q ceiling epoch slot) (sym sound.geometry) ∙ f.slot_fits in
+    let fits : slot_fault (version_of b.p b.commit) p ceiling epoch slot ≡ None
+    = ap (λ (q : Parameters). slot_fault (version_of b.p b.commit) q ceiling epoch slot) (sym sound.geometry) ∙ f.slot_fits in
     let lasts : counts_in version p (slot_in p g.before) ≡ c.counts.lasts
     = ap (λ (q : Parameters). counts_in version q (slot_in q g.before)) (sym sound.geometry)
     ∙ ap (λ (h : List Block). counts_in version b.p (slot_in b.p h)) rec.before_is
     ∙ ap (counts_in version b.p) (sym f.slot_is)
-    ∙ ap (λ (q : Parameters). counts_in version q slot) (sym rec.read.same_p)
+    ∙ ap (λ (q : Parameters). counts_in (version_of q b.commit) q slot) (sym rec.read.same_p)
     ∙ sym f.lists.counts in (
       m,
       kept.1,
@@ -118,7 +118,7 @@ loaded_is_started o g n b c origin sound is =
     ∙ counts-none p.pages
     ∙ ap (λ (q : Parameters). replicate q.pages 0) (sym sound.same_p) ∙ sym far.fresh.fresh.no_counts in
     let told : IsToldBy p g.next VersionTwo 0 (no_tables p) = record {
-      of_version = ap version_of far.made.commit ∙ version_of-commit_of 0;
+      of_version = ap (version_of p) far.made.commit ∙ version_of-commit_of p 0;
       of_epoch = ap epoch_of far.made.commit ∙ epoch_of-commit_of 0 (omega arith);
       tables = ap (tables_in p) far.made.slot
           ∙ tables_are p ceiling (cpu_of o.start) (no_tables p) no_counts 0 can.geometry can.recordable (omega arith) (omega arith) (IsTables-none p) (AreCounts-none p);

@@ -25,6 +25,7 @@ use Rattle.thy_record.proofs.HeaderLemmas.{header_fault-header_of}
 use Rattle.thy_record.proofs.ImageLemmas.{map-alike}
 use Rattle.thy_record.proofs.IssuingLemmas.{half}
 use Rattle.thy_record.proofs.ReadBackLemmas.{epoch_of-commit_of, is_zero-commit_of}
+use Rattle.thy_record.proofs.VersionLemmas.{least_slot}
 use Rattle.thy_control.specs.CheckpointTables.{tables0}
 use Rattle.thy_control.specs.State.{State}
 use Rattle.thy_control.specs.Stays.{HoldAll}
@@ -44,7 +45,7 @@ use Rattle.thy_recover.specs.Start.{no_tables, no_counts}
 use Rattle.thy_recover.proofs.CountLemmas.{fault-head, counts-begin}
 use Rattle.thy_recover.proofs.PositionLemmas.{IsPosition, IsPosition-next, position_inside, position_above, place_inside, position_again, filled_next, filled_all, AreSoundTables-dram, ListsSlot-dram, lists_filled, fills_to}
 use Rattle.thy_recover.proofs.LiveLemmas.{live_in_tables}
-use Rattle.thy_recover.proofs.SlotLemmas.{least_slot, most_slot}
+use Rattle.thy_recover.proofs.SlotLemmas.{most_slot}
 use Rattle.thy_recover.proofs.StartLemmas.{IsTables-none, AreCounts-none, place_of-none}
 use Rattle.thy_recover.proofs.WorkLemmas.{loads-are}
 
@@ -177,13 +178,13 @@ frame_loads = grind arith
 
 pub filling_is_lawful : IsFilling filling_dual
 filling_is_lawful = record {
-  some_slot = λ p commit. let least = least_slot (version_of commit) p in omega (arith, least);
-  most_room = λ p commit. most_slot (version_of commit) p;
+  some_slot = λ p commit. let least = least_slot p commit in omega (arith, least);
+  most_room = λ p commit. most_slot (version_of p commit) p;
   head_inside = λ p. omega arith;
-  slot_inside = λ p header commit header_fits commit_fits. inside_image (version_of commit) p (_ % 2) (half _);
+  slot_inside = λ p header commit header_fits commit_fits. inside_image (version_of p commit) p (_ % 2) (half _);
   counts = λ p slot memory. count_is p (filling_dual.cpu_in p slot) memory;
-  early_none = λ p commit. no_fault_yet (version_of commit) p;
-  none_taken = λ c commit empty. none_taken_yet (version_of commit) c empty;
+  early_none = λ p commit. no_fault_yet (version_of p commit) p;
+  none_taken = λ c commit empty. none_taken_yet (version_of c.p commit) c empty;
   begins = λ c n commit slot lists i m may below. absurd (omega (arith, below));
   next = λ c n commit slot from k lists filled next.
       let at : IsPosition c.p slot from k = IsPosition-next c.p slot from k next in (
@@ -214,7 +215,7 @@ filling_is_lawful = record {
       (holds, memory_same c n commit slot from lists none settled is holds);
   drain_p = λ c. refl;
   drain_fresh = fresh_drained;
-  drain_taken = λ c commit blocks taken. taken_drained (version_of commit) blocks c taken;
+  drain_taken = λ c commit blocks taken. taken_drained (version_of c.p commit) blocks c taken;
   drain_lists = λ c commit slot lists. ListsSlot-dram commit slot c (filling_dual.drained c).dram refl lists;
   drain_filled = λ c n k filled i m may below. filled i m (record { listed = may.listed; inside = may.inside }) below;
   drain_whole = λ c n holds. holds;

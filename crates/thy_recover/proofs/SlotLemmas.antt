@@ -1,5 +1,5 @@
 -- The slot in its room, and a controller that lists it.
-use Rattle.std.proofs.Common.{◌≡◌, ℕ, ◌+◌, ◌*◌, ◌/◌, ◌<◌, ◌≤◌, List, length, take, Option, None, sym, ◌∙◌, ap, arith}
+use Rattle.std.proofs.Common.{◌≡◌, ℕ, ◌+◌, ◌*◌, ◌/◌, ◌<◌, ◌≤◌, List, length, take, Option, None, sym, ◌∙◌, ap, subst, arith}
 use Rattle.std.specs.Option.{option_or}
 use Rattle.std.proofs.lemmas.List.{length-map, length-take-le, get_or-take, get_or_past, ext_get_or}
 use Rattle.thy_base.specs.declared.block.Block.{Block}
@@ -25,11 +25,7 @@ use Rattle.thy_recover.specs.Filling.{HasTakenUp, filling_dual}
 use Rattle.thy_recover.specs.Listed.{HaveFirst, ListsUpTo, AsListed, TakesCounts}
 use Rattle.thy_recover.proofs.CountLemmas.{counts-of}
 
--- a slot of either version has the record and the tables, and fits into the room
-pub least_slot : (f : LayoutVersion) (p : Parameters) → record_blocks p + table_blocks p ≤ blocks_of_slot f p
-least_slot VersionOne p = omega arith
-least_slot VersionTwo p = omega arith
-
+-- a slot of either version fits into the room
 pub most_slot : (f : LayoutVersion) (p : Parameters) → blocks_of_slot f p ≤ slot_blocks p
 most_slot VersionOne p = omega arith
 most_slot VersionTwo p = omega arith
@@ -50,11 +46,11 @@ blocks_of-take bytes n inside =
 
 -- those of the slot in its room
 pub slot_is_first : (p : Parameters) (commit : Block) (bytes : List ℕ) (size : ℕ) → length bytes ≡ 64 * slot_blocks p
-    → size ≡ 64 * blocks_of_slot (version_of commit) p → blocks_of (take size bytes) ≡ slot_bytes filling_dual p commit bytes
+    → size ≡ 64 * blocks_of_slot (version_of p commit) p → blocks_of (take size bytes) ≡ slot_bytes filling_dual p commit bytes
 slot_is_first p commit bytes size room is =
-    let most = most_slot (version_of commit) p in
+    let most = most_slot (version_of p commit) p in
     ap (λ x. blocks_of (take x bytes)) is
-    ∙ blocks_of-take bytes (blocks_of_slot (version_of commit) p) (omega (arith, most, room))
+    ∙ blocks_of-take bytes (blocks_of_slot (version_of p commit) p) (omega (arith, most, room))
 
 -- block k of the slot that these bytes are, inside it and past its end
 pub slot_block_inside : (slot : List Block) (bytes : List ℕ) (k : ℕ) → blocks_of bytes ≡ slot → k < length bytes / 64 → block_in bytes k ≡ block_at slot k
@@ -127,14 +123,14 @@ IsLeft-as c d same_p same_dram counts = record {
   };
 }
 
-pub TakesUp-counts : (commit : Block) (blocks : List Block) (c d : State) → TakesCounts (version_of commit) blocks c d → TakesUp filling_dual commit blocks c d
+pub TakesUp-counts : (commit : Block) (blocks : List Block) (c d : State) → TakesCounts (version_of c.p commit) blocks c d → TakesUp filling_dual commit blocks c d
 TakesUp-counts commit blocks c d h = record {
-  taken = h.taken;
+  taken = subst (λ (q : Parameters). HasTakenUp (version_of q commit) blocks d) (sym (ap (λ (x : State). x.p) h.same)) h.taken;
   left = IsLeft-as c d (ap (λ (x : State). x.p) h.same) (ap (λ (x : State). x.dram) h.same) (ap (λ (x : State). x.counts.counts) h.same);
 }
 
-pub lists_on : (p : Parameters) (commit : Block) (slot : List Block) (c d : State) → c.p ≡ p → HasTakenUp (version_of commit) slot c
-    → count_fault (version_of commit) p slot ≡ None → AreSoundTables d → AsListed p.btt p.ptt (tables_in p slot) c d → ListsOn filling_dual commit slot c d
+pub lists_on : (p : Parameters) (commit : Block) (slot : List Block) (c d : State) → c.p ≡ p → HasTakenUp (version_of p commit) slot c
+    → count_fault (version_of p commit) p slot ≡ None → AreSoundTables d → AsListed p.btt p.ptt (tables_in p slot) c d → ListsOn filling_dual commit slot c d
 lists_on p commit slot c d same taken fits tables l =
     let same_p : d.p ≡ c.p = ap (λ (x : State). x.p) l.same in
     let all_p : d.p ≡ p = same_p ∙ same in
@@ -144,8 +140,8 @@ lists_on p commit slot c d same taken fits tables l =
         booting = l.lists.booting;
         are = all_listed p.btt p.ptt (tables_in p slot) (tables0 d) (size_of_btt p slot) (size_of_ptt p slot) l.lists.have
             ∙ ap (λ (q : Parameters). tables_in q slot) (sym all_p);
-        counts = ap (λ (x : State). x.counts.lasts) l.same ∙ counts-of (version_of commit) p slot c same taken fits
-            ∙ ap (λ (q : Parameters). counts_in (version_of commit) q slot) (sym all_p);
+        counts = ap (λ (x : State). x.counts.lasts) l.same ∙ counts-of (version_of p commit) p slot c same taken fits
+            ∙ ap (λ (q : Parameters). counts_in (version_of q commit) q slot) (sym all_p);
       };
       left = IsLeft-as c d same_p (ap (λ (x : State). x.dram) l.same) (ap (λ (x : State). x.counts.counts) l.same);
     }

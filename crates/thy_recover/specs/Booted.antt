@@ -55,7 +55,7 @@ RestoredIsBooted =
     (o : Origin) (g : BootImages) (n : Device) (b : Booting) (c : State)
     → IsOrigin o → IsSoundBoot filling_dual o g n b c → b.stage ≡ Over Restored
     → (m : Mark) × (g.kept ≡ Some m) × (m.epoch ≡ epoch_of b.commit) × Keeps o (layout_of o) n (Kept g.before) (Some m) None
-    × IsBooted o m (cpu_of_record b.p (slot_read filling_dual b)) (version_of b.commit) g.before n c
+    × IsBooted o m (cpu_of_record b.p (slot_read filling_dual b)) (version_of b.p b.commit) g.before n c
 
 -- after loading these are the start's, with tables that list nothing
 pub record IsStarted (o : Origin) (g : BootImages) (n : Device) (c : State) : Type 0 where

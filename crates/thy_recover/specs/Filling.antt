@@ -74,7 +74,7 @@ pub record ListsSlot (commit : Block) (slot : List Block) (c : State) : Type 0 w
   pub tables : AreSoundTables c
   pub booting : IsBooting c
   pub are : tables0 c ≡ tables_in c.p slot
-  pub counts : c.counts.lasts ≡ counts_in (version_of commit) c.p slot
+  pub counts : c.counts.lasts ≡ counts_in (version_of c.p commit) c.p slot
 
 -- what a start makes of an empty NVM: every block of memory at home, and tables that list nothing
 abbrev pub first_of_start : Parameters → Plain → First
@@ -101,8 +101,8 @@ filling_dual = record {
   dram = λ c. c.dram;
   drained = after_drain;
   fresh = IsEmpty;
-  early_fault = λ p commit blocks. count_fault (version_of commit) p blocks;
-  taken = λ commit blocks c. HasTakenUp (version_of commit) blocks c;
+  early_fault = λ p commit blocks. count_fault (version_of p commit) p blocks;
+  taken = λ commit blocks c. HasTakenUp (version_of c.p commit) blocks c;
   lists = ListsSlot;
   filled = λ c n k. (i m : ℕ) → MayFrame i m c → 64 * i + m < k → Holds (reads c n) (cell_of c (framed_block i m c));
   whole = HoldAll;

@@ -27,10 +27,10 @@ use thy_record::{
 /// The blocks of a slot in its room: as many as the version has that the commit block names.
 fn slot_of<'a>(geometry: &Geometry, commit: &Block, room: &'a [u8]) -> &'a [u8]
     requires { length room.now ≡ 64 * slot_blocks geometry.now }
-    ensures length { length result.now ≡ 64 * blocks_of_slot (version_named commit.now) geometry.now }
+    ensures length { length result.now ≡ 64 * blocks_of_slot (version_named geometry.now commit.now) geometry.now }
     ensures blocks { blocks_of result.now ≡ slot_bytes filling_dual geometry.now commit.now room.now }
 {
-    let size = BLOCK_SIZE * geometry.slot_blocks_of(version_of(commit)) as usize;
+    let size = BLOCK_SIZE * geometry.slot_blocks_of(version_of(commit, geometry)) as usize;
     &room[..size]
 }
 
@@ -44,19 +44,20 @@ pub fn take_up(
     control: &mut Control,
 ) -> Option<BadImage>
     requires room { length slot.now ≡ 64 * slot_blocks geometry.now }
-    requires inside { next < blocks_of_slot (version_named commit.now) geometry.now }
+    requires inside { next < blocks_of_slot (version_named geometry.now commit.now) geometry.now }
     requires geometry { control.old.p ≡ geometry.now }
     requires fault { let blocks = slot_bytes filling_dual geometry.now commit.now slot.now in
-        fault ≡ count_fault (version_named commit.now) geometry.now (take next blocks) }
+        fault ≡ count_fault (version_named geometry.now commit.now) geometry.now (take next blocks) }
     requires taken { let blocks = slot_bytes filling_dual geometry.now commit.now slot.now in
-        HasTakenUp (version_named commit.now) (take next blocks) control.old }
+        HasTakenUp (version_named control.old.p commit.now) (take next blocks) control.old }
     ensures fault { let blocks = slot_bytes filling_dual geometry.now commit.now slot.now in
-        result ≡ count_fault (version_named commit.now) geometry.now (take (next + 1) blocks) }
+        result ≡ count_fault (version_named geometry.now commit.now) geometry.now (take (next + 1) blocks) }
     ensures taken { let blocks = slot_bytes filling_dual geometry.now commit.now slot.now in
         TakesUp filling_dual commit.now (take (next + 1) blocks) control.old control.new }
 {
     let blocks = slot_of(geometry, commit, slot);
-    take_counts(blocks, version_of(commit), geometry, next, fault, control)
+    let version = version_of(commit, geometry);
+    take_counts(blocks, version, geometry, next, fault, control)
 }
 
 /// The fault of a slot; `early` is the first of its counts.
@@ -68,9 +69,9 @@ pub fn fault_of_slot(
 ) -> Option<BadImage>
     requires room { length slot.now ≡ 64 * slot_blocks geometry.now }
     requires early { let blocks = slot_bytes filling_dual geometry.now commit.now slot.now in
-        early ≡ count_fault (version_named commit.now) geometry.now blocks }
+        early ≡ count_fault (version_named geometry.now commit.now) geometry.now blocks }
     ensures { let blocks = slot_bytes filling_dual geometry.now commit.now slot.now in
-        result ≡ fault_of_slot (version_named commit.now) geometry.now ceiling (epoch_of commit.now) blocks }
+        result ≡ fault_of_slot (version_named geometry.now commit.now) geometry.now ceiling (epoch_of commit.now) blocks }
 {
     let blocks = slot_of(geometry, commit, slot);
     let epoch = word(commit, 1);
@@ -118,9 +119,9 @@ pub fn list_slot(geometry: &Geometry, commit: &Block, slot: &[u8], control: &mut
     requires room { length slot.now ≡ 64 * slot_blocks geometry.now }
     requires geometry { control.old.p ≡ geometry.now }
     requires taken { let blocks = slot_bytes filling_dual geometry.now commit.now slot.now in
-        HasTakenUp (version_named commit.now) blocks control.old }
+        HasTakenUp (version_named control.old.p commit.now) blocks control.old }
     requires fits { let blocks = slot_bytes filling_dual geometry.now commit.now slot.now in
-        fault_of_slot (version_named commit.now) geometry.now ceiling (epoch_of commit.now) blocks ≡ None }
+        fault_of_slot (version_named geometry.now commit.now) geometry.now ceiling (epoch_of commit.now) blocks ≡ None }
     ensures { ListsOn filling_dual commit.now (slot_bytes filling_dual geometry.now commit.now slot.now) control.old control.new }
 {
     faultless_tables();

@@ -342,8 +342,9 @@ fn each_run_of_a_comparison_has_its_own_turns(rt: HostRuntime) -> Result<(), Fai
     Ok(())
 }
 
-/// Where words of a saved image's first slot with two harts stand: the second record begins at byte 68,864.
-const SECOND: usize = 68_864;
+/// Where the second record of a saved image of epoch 1 begins: its slot is the one from block 1061 on, 13 behind 1048, and
+/// the record five blocks on, from block 1066.
+const SECOND: usize = 68_224;
 
 /// A place of that record, a byte that is put there, and what `resume` with two harts answers.
 static RECORDS: [(usize, u8, u8, &str); 4] = [
@@ -363,7 +364,7 @@ fn a_saved_run_of_two_harts_has_both_records(rt: HostRuntime) -> Result<(), Fail
     let saved = shelf
         .fetch(alloc, "D", 67_108_864)
         .expect(&rt, "a saved image");
-    expect_at(&rt, saved.len(), 69_376, line);
+    expect_at(&rt, saved.len(), 68_736, line);
     for (at, byte, status, report) in &RECORDS {
         let mut image = Vec::from_slice(alloc, saved.as_slice())?;
         if let Some(place) = image.get_mut(SECOND.saturating_add(*at)) {

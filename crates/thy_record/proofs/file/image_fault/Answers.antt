@@ -9,6 +9,7 @@ use Rattle.thy_record.specs.Slots.{slot_fault}
 use Rattle.thy_record.proofs.HeaderLemmas.{header_fault-long}
 use Rattle.thy_record.proofs.CheckLemmas.{image_header, image_commit, image_slot}
 use Rattle.thy_record.proofs.FileLemmas.{block_at-blocks_of}
+use Rattle.thy_record.proofs.VersionLemmas.{least_slot}
 use Rattle.thy_record.proofs.file.image_fault.Goals as goal
 
 -- the header that the code reads
@@ -40,6 +41,9 @@ slot_in-slot-requires-clause-long c =
     header_fault-long (block_at (blocks_of c.args.image.now) 0) c.args.geometry.now (is_long_file c.args.geometry.now c.args.image.now)
     (sym (c.in_default.ensures ∙ header_same c.args.geometry.now c.args.image.now c.block_in-header.result c.is_long.result c.requires.some c.block_in-header.ensures c.is_long.ensures))
 
+pub slot_fault-requires-clause-room : goal.slot_fault-requires-clause-room
+slot_fault-requires-clause-room c = omega (arith, c.slot_in-slot.ensures.length, least_slot c.args.geometry.now c.args.commit.now)
+
 pub returns : goal.returns
 returns c =
     image_slot c.args.geometry.now c.args.ceiling (is_long_file c.args.geometry.now c.args.image.now) (blocks_of c.args.image.now) c.slot_fault.result
@@ -48,6 +52,6 @@ returns c =
     ∙ ap (λ h. commit_fault h c.args.commit.now c.args.ceiling) (first_block c.args.image.now c.block_in-header.result c.requires.some c.block_in-header.ensures)
     ∙ ap (λ b. commit_fault (block_at (blocks_of c.args.image.now) 0) b c.args.ceiling) c.requires.commit)
     (c.slot_fault.ensures
-    ∙ ap (λ f. slot_fault f c.args.geometry.now c.args.ceiling c.word.result (blocks_of c.slot_in-slot.result.now)) (c.version_of.ensures ∙ ap version_of c.requires.commit)
-    ∙ ap (λ e. slot_fault (version_of (block_at (blocks_of c.args.image.now) 1)) c.args.geometry.now c.args.ceiling e (blocks_of c.slot_in-slot.result.now)) (c.word.ensures ∙ ap epoch_of c.requires.commit)
-    ∙ ap (slot_fault (version_of (block_at (blocks_of c.args.image.now) 1)) c.args.geometry.now c.args.ceiling (epoch_of (block_at (blocks_of c.args.image.now) 1))) c.slot_in-slot.ensures.slot)
+    ∙ ap (λ f. slot_fault f c.args.geometry.now c.args.ceiling c.word.result (blocks_of c.slot_in-slot.result.now)) (c.version_of-version.ensures ∙ ap (version_of c.args.geometry.now) c.requires.commit)
+    ∙ ap (λ e. slot_fault (version_of c.args.geometry.now (block_at (blocks_of c.args.image.now) 1)) c.args.geometry.now c.args.ceiling e (blocks_of c.slot_in-slot.result.now)) (c.word.ensures ∙ ap epoch_of c.requires.commit)
+    ∙ ap (slot_fault (version_of c.args.geometry.now (block_at (blocks_of c.args.image.now) 1)) c.args.geometry.now c.args.ceiling (epoch_of (block_at (blocks_of c.args.image.now) 1))) c.slot_in-slot.ensures.slot)

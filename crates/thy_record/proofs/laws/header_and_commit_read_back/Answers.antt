@@ -10,6 +10,6 @@ pub returns-clause-commit : goal.returns-clause-commit
 returns-clause-commit c = λ epoch ceiling below most. record {
   committed = is_zero-commit_of epoch;
   of_epoch = epoch_of-commit_of epoch (omega arith);
-  of_version = version_of-commit_of epoch;
+  of_version = λ p. version_of-commit_of p epoch;
   fits = λ header. commit_fault-commit_of header epoch ceiling below most;
 }

@@ -15,6 +15,7 @@ use Rattle.thy_record.specs.Tables.{Tables, IsTables}
 use Rattle.thy_record.proofs.FileLemmas.{block_at-blocks_of}
 use Rattle.thy_record.proofs.IssuingLemmas.{length-memory_numbers}
 use Rattle.thy_record.proofs.RestoredLemmas.{IsWholeFile-found, AreInside-memory, if_ok}
+use Rattle.thy_record.proofs.VersionLemmas.{least_slot}
 use Rattle.thy_record.proofs.restored.state.Goals as goal
 
 pub slot_in-slot-requires-clause-long : goal.slot_in-slot-requires-clause-long
@@ -24,6 +25,12 @@ pub slot_in-slot-requires-clause-commit : goal.slot_in-slot-requires-clause-comm
 slot_in-slot-requires-clause-commit c =
     let long = (IsWholeFile-found c.args.geometry.now c.args.image.now c.requires).places in
     c.block_in.ensures ∙ sym (block_at-blocks_of c.args.image.now 1 (omega (arith, long)))
+
+pub places-requires-clause-slot : goal.places-requires-clause-slot
+places-requires-clause-slot c = omega (arith, c.slot_in-slot.ensures.length, least_slot c.args.geometry.now c.block_in.result)
+
+pub cpu_in-requires : goal.cpu_in-requires
+cpu_in-requires c = omega (arith, c.slot_in-slot.ensures.length, least_slot c.args.geometry.now c.block_in.result)
 
 pub places-requires-clause-tables : goal.places-requires-clause-tables
 places-requires-clause-tables c =

@@ -1,4 +1,4 @@
-use Rattle.std.proofs.Common.{◌≡◌, ℕ, List, Option, ◌∙◌, ap}
+use Rattle.std.proofs.Common.{◌≡◌, ℕ, List, Option, ◌∙◌, ap, arith}
 use Rattle.std.specs.Option.{option_or}
 use Rattle.thy_base.specs.declared.block.Block.{Block}
 use Rattle.thy_base.specs.declared.config.Parameters.{Parameters}
@@ -8,15 +8,22 @@ use Rattle.thy_record.specs.Commit.{epoch_of, version_of}
 use Rattle.thy_record.specs.Files.{blocks_of}
 use Rattle.thy_record.specs.Slots.{head_fault, second_fault, count_fault}
 use Rattle.thy_record.proofs.CheckLemmas.{slot_fault-parts}
+use Rattle.thy_record.proofs.VersionLemmas.{least_slot}
 use Rattle.thy_view.specs.Safe.{ceiling}
 use Rattle.thy_boot.specs.Boot.{slot_bytes}
 use Rattle.thy_recover.specs.Filling.{filling_dual}
 use Rattle.thy_recover.proofs.listing.fault_of_slot.Goals as goal
 
+pub head_fault-head-requires : goal.head_fault-head-requires
+head_fault-head-requires c = omega (arith, c.slot_of-blocks.ensures.length, least_slot c.args.geometry.now c.args.commit.now)
+
+pub second_fault-requires : goal.second_fault-requires
+second_fault-requires c = omega (arith, c.slot_of-blocks.ensures.length, least_slot c.args.geometry.now c.args.commit.now)
+
 pub returns : goal.returns
 returns c =
     let p : Parameters = c.args.geometry.now in
-    let version : LayoutVersion = version_of c.args.commit.now in
+    let version : LayoutVersion = version_of p c.args.commit.now in
     let epoch : ℕ = epoch_of c.args.commit.now in
     let blocks : List Block = slot_bytes filling_dual p c.args.commit.now c.args.slot.now in
     let bad : Option BadImage = head_fault p ceiling epoch blocks in
