@@ -1,5 +1,5 @@
 -- What follows from the definitions of a device: reads, possible contents and crashes after each call.
-use Rattle.std.proofs.Common.{◌≡◌, ◌≢◌, ◌⊎◌, ℕ, ◌<◌, ◌≤◌, ◌==◌, true, false, List, [], ◌∷◌, ◌++◌, length, take, drop, slice_set, Contains, refl, sym, ◌∙◌, ap, subst, inl, inr, arith, if◌then◌else◌, map, ◌+◌, length-append, length-drop}
+use Rattle.std.proofs.Common.{◌≡◌, ◌≢◌, ◌⊎◌, ℕ, ◌<◌, ◌≤◌, ◌==◌, Bool, true, false, Result, Ok, Err, OnOk, OnErr, List, [], ◌∷◌, ◌++◌, length, take, drop, slice_set, Contains, refl, sym, ◌∙◌, ap, subst, inl, inr, arith, if◌then◌else◌, map, ◌+◌, length-append, length-drop}
 use Rattle.std.proofs.lemmas.Bool.{cases_eq, cases_lt, eq-eqb, ne_eqb}
 use Rattle.std.proofs.lemmas.List.{append-nil, take-append-drop, length-set, get_or_past, ext_get_or}
 use Rattle.std.proofs.lemmas.List.Elements.{Contains-push, Contains-push_cases, Contains-append_left, Contains-append_right, Contains-append_cases}
@@ -8,7 +8,8 @@ use Rattle.std.specs.List.{range_with_len}
 use Rattle.std.proofs.lemmas.List.FromFn.{length-map-range_with_len, get_or-map-range_with_len}
 use Rattle.thy_base.specs.declared.block.Block.{Block}
 use Rattle.thy_base.specs.declared.nvm.Write.{Write}
-use Rattle.thy_base.specs.Device.{Device, HoldsNoMore, HoldsNoMoreBut, zero_block, write_of, block_at, queued_for, newest_over, applied, possible, newest, landed, drained, settled, surplus, written_to}
+use Rattle.thy_base.specs.Counts.{RoseByOne}
+use Rattle.thy_base.specs.Device.{Device, failed_calls, CountsOneFault, HoldsNoMore, HoldsNoMoreBut, zero_block, write_of, block_at, queued_for, newest_over, applied, possible, newest, landed, drained, settled, surplus, written_to}
 
 -- the blocks queued by one list of writes and then by another
 pub queued_for-append : (ws vs : List Write) (x : ℕ) → queued_for (ws ++ vs) x ≡ queued_for ws x ++ queued_for vs x
@@ -187,3 +188,16 @@ queue-written_to n at block = simp (length-append, length-drop) (omega arith)
 -- with nothing queued a read gives the block that stands
 pub newest-empty : (n : Device) (x : ℕ) → n.queue ≡ [] → newest n x ≡ block_at n.image x
 newest-empty n x e = ap (λ (q : List Write). newest_over (block_at n.image x) q x) e
+
+-- ---- whether a call has failed
+
+rises : (old new : Bool) → old ≡ false → new ≡ true → RoseByOne (if old then 1 else 0) (if new then 1 else 0)
+rises true new o n = absurd (cc)
+rises false true o n = record { no_less = omega arith; more = omega arith; by_one = omega arith }
+rises false false o n = absurd (cc)
+
+-- over a device that was up, by whether it is down
+pub counts_once : {T E : Type 0} (result : Result T E) (n new : Device) → n.down ≡ false → OnOk result (new.down ≡ false)
+    → OnErr result (new.down ≡ true) → CountsOneFault result (failed_calls n) (failed_calls new)
+counts_once (Ok x) n new was up down = ap (λ (d : Bool). if d then 1 else 0) (up ∙ sym was)
+counts_once (Err e) n new was up down = rises n.down new.down was down

@@ -7,7 +7,7 @@ use Rattle.thy_base.specs.declared.nvm.Shape.{Shape}
 use Rattle.thy_base.specs.declared.nvm.Write.{Write}
 use Rattle.thy_base.specs.declared.nvm.FitError.{FitError}
 use Rattle.thy_base.specs.declared.nvm.FitError.TheVariants.{Failed, Memory}
-use Rattle.thy_base.specs.Counts.{RoseByOne, next}
+use Rattle.thy_base.specs.Counts.{Rose, RoseByOne, next}
 
 -- a block of zeros
 unfoldable pub zero_block : Block
@@ -29,7 +29,7 @@ pub record Device : Type 0 where
   pub left_room : ℕ
   -- a call has failed since the last fit or cut
   pub down : Bool
-  -- how many calls have failed
+  -- a count of faults, which every call that fails raises
   pub faults : ℕ
   -- how many times it was fitted, successfully or not; a fit that was out of memory may not count; the count saturates
   pub fits : ℕ
@@ -158,9 +158,18 @@ pub record HasFailedToWrite (at : ℕ) (block : Block) (old new : Device) : Type
   pub down : new.down ≡ true
   pub no_more : HoldsNoMoreBut at block old new
 
--- the count stays if a call succeeds, and rose by one if it fails
+-- how many calls have failed since the last fit or cut: none, or one, because a device that is down is neither read nor
+-- written
+abbrev pub failed_calls : Device → ℕ
+failed_calls n = if n.down then 1 else 0
+
+-- the count stays if a call succeeds, and rose if it fails
 abbrev pub CountsFault : {T E : Type 0} → Result T E → ℕ → ℕ → Type 0
-CountsFault result old new = MatchResult result (λ _. new ≡ old) (λ _. RoseByOne old new)
+CountsFault result old new = MatchResult result (λ _. new ≡ old) (λ _. Rose old new)
+
+-- the count stays if a call succeeds, and rose by one if it fails
+abbrev pub CountsOneFault : {T E : Type 0} → Result T E → ℕ → ℕ → Type 0
+CountsOneFault result old new = MatchResult result (λ _. new ≡ old) (λ _. RoseByOne old new)
 
 -- the count of writes has one more if a write succeeds, and stays if it fails
 abbrev pub CountsWrite : {T E : Type 0} → Result T E → ℕ → ℕ → Type 0
@@ -170,5 +179,5 @@ CountsWrite result old new = MatchResult result (λ _. new ≡ next old) (λ _. 
 -- counted
 abbrev pub HasFailedToFit : FitError → Device → Device → Type 0
 HasFailedToFit Failed old new =
-    HasFailed old new × IsFramed (record old { fits = next old.fits }) new × RoseByOne old.faults new.faults
+    HasFailed old new × IsFramed (record old { fits = next old.fits }) new × Rose old.faults new.faults
 HasFailedToFit (Memory e) old new = (new ≡ old) ⊎ (new ≡ record old { fits = next old.fits })

@@ -45,9 +45,10 @@ pub enum FitError {
 /// that was queued for it, each place by itself.
 ///
 /// Only `fit` allocates, also for what the cuts to come keep. Every `fit` counts, except that one which is
-/// out of memory may not. A call that fails counts one fault, unless it was out of memory, and leaves the device
-/// down until it is fitted again or its power is cut. Writes that succeed are counted since the last fit. All these
-/// counts saturate at the last value of a `u64`.
+/// out of memory may not. A call that fails counts at least one fault, unless it was out of memory, and leaves the device
+/// down until it is fitted again or its power is cut. A device that is down may not be read, written, drained or asked
+/// for a barrier. Writes that succeed are counted since the last fit. All these counts saturate at the last value of a
+/// `u64`.
 pub trait Nvm {
     /// What the device holds.
     ghost device: { Self → Device };
@@ -77,7 +78,8 @@ pub trait Nvm {
 
     /// The newest block queued for a place, else the one that has landed there.
     fn read(&mut self, at: u64) -> Result<Block, NvmError>
-        requires { at < length (device self.old).image }
+        requires place { at < length (device self.old).image }
+        requires up { (device self.old).down ≡ false }
         ensures ok { IfOk result (λ block. block ≡ newest (device self.old) at) }
         ensures same { OnOk result (device self.new ≡ device self.old) }
         ensures err { OnErr result (HasFailed (device self.old) (device self.new)) }

@@ -1,6 +1,6 @@
 //! Stores of blocks: what a cache loads from and stores to.
 ghost use Rattle.std.specs.Prelude.{◌≡◌, ◌<◌, true, length, IfOk, OnOk};
-ghost use Rattle.thy_base.specs.Device.{block_at, CountsFault};
+ghost use Rattle.thy_base.specs.Device.{block_at, CountsOneFault};
 ghost use Rattle.thy_base.specs.Store.{Holding, IsKeptByLoad, HasStored};
 
 use crate::{Block, NvmError};
@@ -41,7 +41,7 @@ pub trait BlockStore<N> {
         ensures kept { IsKeptByLoad (holding self.old nvm.old) (holding self.new nvm.new) }
         ensures loads { loads self.old nvm.old self.new nvm.new }
         ensures once { once self.old nvm.old self.new nvm.new }
-        ensures cause { CountsFault result (holding self.old nvm.old).faults (holding self.new nvm.new).faults };
+        ensures cause { CountsOneFault result (holding self.old nvm.old).faults (holding self.new nvm.new).faults };
 
     /// Stores block `b`, or makes the copy that has to come first.
     fn store(&mut self, b: u64, block: &Block, nvm: &mut N) -> Result<Stored, NvmError>
@@ -50,7 +50,7 @@ pub trait BlockStore<N> {
         requires room { 0 < (holding self.old nvm.old).free }
         ensures ok { IfOk result (λ stored. HasStored stored b block.now (holding self.old nvm.old) (holding self.new nvm.new)) }
         ensures once { once self.old nvm.old self.new nvm.new }
-        ensures cause { CountsFault result (holding self.old nvm.old).faults (holding self.new nvm.new).faults };
+        ensures cause { CountsOneFault result (holding self.old nvm.old).faults (holding self.new nvm.new).faults };
 
     /// What stays does so over one call.
     ghost once_stays: { (a : Self) (m : N) (b : Self) (n : N) → once a m b n → stays a m b n };

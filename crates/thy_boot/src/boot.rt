@@ -1,5 +1,5 @@
 //! The boot.
-ghost use Rattle.std.specs.Prelude.{◌≡◌, ◌+◌, ◌*◌, ◌≤◌, ◌<◌, length, IfOk, OnOk, OnErr};
+ghost use Rattle.std.specs.Prelude.{◌≡◌, ◌+◌, ◌*◌, ◌≤◌, ◌<◌, false, length, IfOk, OnOk, OnErr};
 ghost use Rattle.thy_isa.specs.Step.{state_of};
 ghost use Rattle.thy_boot.specs.Boot.{IsBoot, new_boot, answer_of};
 ghost use Rattle.thy_boot.specs.Counts.{Counts};
@@ -91,6 +91,7 @@ impl Boot {
     ) -> Result<BootStep, NvmError>
         requires can { CanStep F.filling (state_of start.now.state) (N.device nvm.old) self.old control.old }
         requires fits { IsBoot F.filling self.old }
+        requires up { (N.device nvm.old).down ≡ false }
         ensures answer { IfOk result (λ answer. answer ≡ answer_of F.filling self.new) }
 
         // A read leaves the NVM as it was; boot and controller become what the definition makes of its block, and
@@ -115,6 +116,7 @@ impl Boot {
     ) -> Result<(), NvmError>
         requires can { CanStep F.filling (state_of start.now.state) (N.device nvm.old) self.old control.old }
         requires fits { IsBoot F.filling self.old }
+        requires up { (N.device nvm.old).down ≡ false }
         ensures step { let s = state_of start.now.state in
             TakesStep F.filling result s (N.device nvm.old) self.old control.old (N.device nvm.new) self.new control.new }
         ensures writes { let action = action_of F.filling (state_of start.now.state) self.old control.old in

@@ -1,5 +1,5 @@
 //! What a scheme says of its images to the boot.
-ghost use Rattle.std.specs.Prelude.{◌≡◌, ◌+◌, ◌*◌, ◌<◌, true, length, take, None, OnOk, OnErr, slice_index_or};
+ghost use Rattle.std.specs.Prelude.{◌≡◌, ◌+◌, ◌*◌, ◌<◌, true, false, length, take, None, OnOk, OnErr, slice_index_or};
 ghost use Rattle.thy_base.specs.Device.{newest, block_at};
 ghost use Rattle.thy_isa.specs.Step.{state_of};
 ghost use Rattle.thy_view.specs.Action.{ReadAt};
@@ -115,6 +115,7 @@ pub trait Fills: Drop {
     ) -> Result<(), NvmError>
         requires next { IsNext filling commit.now control.old k }
         requires sized { length (N.device nvm.old).image ≡ (layout_at filling (filling.p control.old)).image_blocks }
+        requires up { (N.device nvm.old).down ≡ false }
         ensures ok { let block = newest (N.device nvm.old) (filling.fill_place control.old commit.now k) in
             OnOk result (control.new ≡ filling.with_fill commit.now k block control.old) }
         ensures err { OnErr result (control.new ≡ control.old) }

@@ -1,5 +1,5 @@
 //! Reading: each step reads one block of the NVM, up to the last that determines what the image means.
-ghost use Rattle.std.specs.Prelude.{◌≡◌, ◌+◌, ◌*◌, ◌<◌, ◌≤◌, length, None, OnOk, OnErr};
+ghost use Rattle.std.specs.Prelude.{◌≡◌, ◌+◌, ◌*◌, ◌<◌, ◌≤◌, false, length, None, OnOk, OnErr};
 ghost use Rattle.thy_base.specs.Bytes.{written};
 ghost use Rattle.thy_base.specs.Device.{newest};
 ghost use Rattle.thy_view.specs.Action.{ReadAt};
@@ -58,6 +58,7 @@ impl Boot {
         requires stage { self.old.stage ≡ Reads at }
         requires fits { IsBoot F.filling self.old }
         requires read { HasRead F.filling (N.device nvm.old) self.old control.old }
+        requires up { (N.device nvm.old).down ≡ false }
         ensures goes { OnOk result (self.new ≡ read_on F.filling at (N.device nvm.old) self.old) }
         ensures fills { OnOk result (FillsOn F.filling at (N.device nvm.old) self.old control.old control.new) }
         ensures block { OnOk result (IsBlock F.filling at (N.device nvm.old) self.old) }
@@ -77,7 +78,8 @@ impl Boot {
 
     /// Reads the commit block.
     fn read_commit<N: Nvm>(&mut self, nvm: &mut N) -> Result<(), NvmError>
-        requires { 1 < length (N.device nvm.old).image }
+        requires place { 1 < length (N.device nvm.old).image }
+        requires up { (N.device nvm.old).down ≡ false }
         ensures state { OnOk result (self.new ≡ after_commit (newest (N.device nvm.old) 1) self.old) }
         ensures kept { OnErr result (self.new ≡ self.old) }
         ensures reads { Takes (ReadAt 1) result (N.device nvm.old) (N.device nvm.new) }
@@ -91,7 +93,8 @@ impl Boot {
 
     /// Reads the header, and judges it, and then the commit block.
     fn read_header<F: Fills, N: Nvm>(&mut self, nvm: &mut N) -> Result<(), NvmError>
-        requires { 0 < length (N.device nvm.old).image }
+        requires place { 0 < length (N.device nvm.old).image }
+        requires up { (N.device nvm.old).down ≡ false }
         ensures state { let next = after_header (layout_in F.filling self.old) (newest (N.device nvm.old) 0) self.old in
             OnOk result (self.new ≡ at_slot next self.old) }
         ensures kept { OnErr result (self.new ≡ self.old) }
@@ -116,6 +119,7 @@ impl Boot {
         requires stage { self.old.stage ≡ Reads (Slot next) }
         requires fits { IsBoot F.filling self.old }
         requires read { HasRead F.filling (N.device nvm.old) self.old control.old }
+        requires up { (N.device nvm.old).down ≡ false }
         ensures goes { OnOk result (self.new ≡ read_on F.filling (Slot next) (N.device nvm.old) self.old) }
         ensures fills { OnOk result (FillsOn F.filling (Slot next) (N.device nvm.old) self.old control.old control.new) }
         ensures block { OnOk result (IsBlock F.filling (Slot next) (N.device nvm.old) self.old) }
@@ -135,6 +139,7 @@ impl Boot {
         requires image { let l = layout_in F.filling self.old in l.slot_place self.old.commit + next < l.image_blocks }
         requires room { 64 * next + 64 ≤ length self.old.slot }
         requires sized { length (N.device nvm.old).image ≡ (layout_in F.filling self.old).image_blocks }
+        requires up { (N.device nvm.old).down ≡ false }
         ensures state { OnOk result (self.new ≡ slot_kept F.filling next (N.device nvm.old) self.old) }
         ensures block { OnOk result (IsBlock F.filling (Slot next) (N.device nvm.old) self.old) }
         ensures kept { OnErr result (self.new ≡ self.old) }
@@ -214,6 +219,7 @@ impl Boot {
         requires stage { self.old.stage ≡ Reads (FillsAt k) }
         requires fits { IsBoot F.filling self.old }
         requires read { HasRead F.filling (N.device nvm.old) self.old control.old }
+        requires up { (N.device nvm.old).down ≡ false }
         ensures goes { OnOk result (self.new ≡ read_on F.filling (FillsAt k) (N.device nvm.old) self.old) }
         ensures fills { OnOk result (FillsOn F.filling (FillsAt k) (N.device nvm.old) self.old control.old control.new) }
         ensures boot { OnErr result (self.new ≡ self.old) }

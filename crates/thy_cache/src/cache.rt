@@ -1,6 +1,6 @@
 //! The cache.
 ghost use Rattle.std.specs.Prelude.{◌≡◌, ◌≢◌, ◌<◌, ◌≤◌, ◌+◌, ◌↔◌, Ok, Some, true, false, if◌then◌else◌, length, position, is_some, IfOk, IfSome, IfNone, OnOk, OnErr};
-ghost use Rattle.thy_base.specs.Device.{block_at, CountsFault};
+ghost use Rattle.thy_base.specs.Device.{block_at, CountsOneFault};
 ghost use Rattle.thy_base.specs.Store.{IsKeptByLoad};
 ghost use Rattle.thy_cache.specs.Ways.{is_dirty, line_at, victim_way, has_dirty};
 ghost use Rattle.thy_cache.specs.Contents.{Contents, empty_cache, set_at, set_of, index_of, victim_line_of, is_dirty_victim, cleaned_at, filled_with, evicted_for, stored_at, dirty_set, dirty_way, dirty_line, HasNoneDirty, IsSized, KeepsSize, KeepsOpen, flushed_from, HasFlushed, CountsFlushed, StoresLine, CountsStored, line_of, place_of, peeked, hits, victim_of, dirty_count, read_from, written_at};
@@ -209,7 +209,7 @@ impl Cache {
         ensures loads { S.loads store.old nvm.old store.new nvm.new }
         ensures kept { IsKeptByLoad (S.holding store.old nvm.old) (S.holding store.new nvm.new) }
         ensures stays { S.stays store.old nvm.old store.new nvm.new }
-        ensures cause { CountsFault result (S.holding store.old nvm.old).faults (S.holding store.new nvm.new).faults }
+        ensures cause { CountsOneFault result (S.holding store.old nvm.old).faults (S.holding store.new nvm.new).faults }
     {
         let block = store.load(b, nvm)?;
         self.place(b, &block);
@@ -268,7 +268,7 @@ impl Cache {
         // The store makes one store.
         ensures once { S.once store.old nvm.old store.new nvm.new }
         ensures stays { S.stays store.old nvm.old store.new nvm.new }
-        ensures cause { CountsFault result (S.holding store.old nvm.old).faults (S.holding store.new nvm.new).faults }
+        ensures cause { CountsOneFault result (S.holding store.old nvm.old).faults (S.holding store.new nvm.new).faults }
     {
         let line = self.line_at(set, way);
         match store.store(line.at, &line.block, nvm)? {
@@ -310,7 +310,7 @@ impl Cache {
         // The store makes one store.
         ensures once { S.once store.old nvm.old store.new nvm.new }
         ensures stays { S.stays store.old nvm.old store.new nvm.new }
-        ensures cause { CountsFault result (S.holding store.old nvm.old).faults (S.holding store.new nvm.new).faults }
+        ensures cause { CountsOneFault result (S.holding store.old nvm.old).faults (S.holding store.new nvm.new).faults }
     {
         let (set, way) = self.victim_place(b);
         self.store_line(set, way, store, nvm)
@@ -362,7 +362,7 @@ impl Cache {
         ensures once { result ≢ Ok Flushed.Clean → S.once store.old nvm.old store.new nvm.new }
         ensures untouched { result ≡ Ok Flushed.Clean → (store.new ≡ store.old) × (nvm.new ≡ nvm.old) }
         ensures stays { S.stays store.old nvm.old store.new nvm.new }
-        ensures cause { CountsFault result (S.holding store.old nvm.old).faults (S.holding store.new nvm.new).faults }
+        ensures cause { CountsOneFault result (S.holding store.old nvm.old).faults (S.holding store.new nvm.new).faults }
     {
         let Some((set, way)) = self.dirty_place() else {
             return Ok(Flushed::Clean);

@@ -11,7 +11,7 @@ use Rattle.thy_base.specs.declared.outside.FetchError.TheVariants.{Failed as Fet
 use Rattle.thy_base.specs.declared.outside.PutError.{PutError}
 use Rattle.thy_base.specs.declared.outside.PutError.TheVariants.{Failed as PutFailed, Memory as PutMemory}
 use Rattle.thy_base.specs.declared.config.Config.{Config}
-use Rattle.thy_base.specs.Counts.{Rose, RoseByOne}
+use Rattle.thy_base.specs.Counts.{Rose}
 use Rattle.thy_base.specs.Device.{Device, HasFailedToFit}
 use Rattle.thy_base.specs.Geometry.{parameters_of, program_size}
 use Rattle.thy_base.specs.Outside.{Stock, Files, Stream, HasNotFailed, HasFailedUnder}
@@ -57,9 +57,6 @@ use Rattle.thy_answer.proofs.EndLaws.{at_is, same_end}
 -- a count that stayed did not rise
 pub not_risen : {A : Type 0} (old new : ℕ) → Stayed old new → Rose old new → A
 not_risen old new s r = absurd (omega (arith, s.same, s.counts, r.more))
-
-not_risen_by_one : {A : Type 0} (old new : ℕ) → Stayed old new → RoseByOne old new → A
-not_risen_by_one old new s r = absurd (omega (arith, s.same, s.counts, r.more))
 
 -- a sink whose count stayed did not fail
 not_failed : {A : Type 0} (short failed : Bool) (settled text : List ℕ) (old new : Stream) → Stayed old.faults new.faults → Delivered short failed settled text old new
@@ -200,7 +197,7 @@ means_none source job stock r s (bytes, fetched, input, reads, means) =
     absurd (cc)
 
 pub device_due : (e : FitError) (n m : Device) → Stayed n.faults m.faults → HasFailedToFit e n m → refused_status (DeviceRefusal e) ≡ 9
-device_due FitFailed n m faults due = not_risen_by_one n.faults m.faults faults due.2
+device_due FitFailed n m faults due = not_risen n.faults m.faults faults due.2
 device_due (FitMemory e) n m faults due = refl
 
 -- only if memory runs out
@@ -320,7 +317,7 @@ module _ {M : Type 0} (K : KindOf M) (source : ProgramSource) (job : Job) (k : �
       not_failed false h.ending.report_failed _ _ before.report h.told (subst (λ (x : Stream). Stayed before.report.faults x.faults) closed faults.report) h.ran.read_all report_failed
   by_stop Nvm is saved =
       let same : after.device.faults ≡ h.stood.faults = save_counts job.save (saves h.ending.stop) job.config h.stood after.device before.shelf after.shelf h.why h.saved in
-      not_risen_by_one before.device.faults h.stood.faults (subst (Stayed before.device.faults) same faults.device) (fits Nvm is).0
+      not_risen before.device.faults h.stood.faults (subst (Stayed before.device.faults) same faults.device) (fits Nvm is).0
   by_stop Limit is saved =
       let reached : h.ending.cycles ≡ job.config.limit = (fits Limit is).0 in
       absurd (omega (arith, few, reached, h.cycles))
@@ -496,7 +493,7 @@ module _ {M : Type 0} (K : KindOf M) (source : ProgramSource) (job : Job) (k : �
   pair_by_stop Nvm is saved =
       let fits = subst (StopFits (parameters_of job.config).limit (given_for K job program.begins before.device).fitted h.stood h.ending) is h.ran.stop_fits in
       let same : after.device.faults ≡ h.stood.faults = save_counts job.save (saves h.ending.stop) job.config h.stood after.device before.shelf after.shelf h.why h.saved in
-      not_risen_by_one before.device.faults h.stood.faults (subst (Stayed before.device.faults) same faults.device) fits.0
+      not_risen before.device.faults h.stood.faults (subst (Stayed before.device.faults) same faults.device) fits.0
   pair_by_stop Limit is saved = inr (inr (inr (before.device, retired_by is)))
 
   pair_by_save : (why : Option PutError) → h.why ≡ why → Pairs K job (origin_for job program.begins program.input) (given_for K job program.begins) a k

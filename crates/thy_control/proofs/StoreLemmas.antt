@@ -181,6 +181,12 @@ stored_by b block s m t n (Ok x) e f a w sized up room stays =
     (HasStored-by b block s m t n sized up stays (rule_for b s) counted (subst (λ (y : Stored). PutsWork y b block s m t n) a w))
 stored_by b block s m t n (Err x) e f a w sized up room stays = tt
 
+-- a store that succeeded left the NVM up
+pub up-stored : (b : ℕ) (block : Block) (s : State) (m n : Device) (r : Result Stored NvmError) → 0 < free_count s.btt → m.down ≡ false
+    → OnOk r (n ≡ (devices_after b block s m).nvm) → OnOk r (n.down ≡ false)
+up-stored b block s m n (Ok x) room up is = ap (λ (d : Device). d.down) is ∙ (AreCounted-after b block s m room).down ∙ up
+up-stored b block s m n (Err e) room up is = tt
+
 -- one action of both devices
 dram-after : (b : ℕ) (block : Block) (s : State) (m : Device) → (state_after b block s m).dram ≡ (devices_after b block s m).dram
 unfolding state_after

@@ -4,7 +4,7 @@ use Rattle.std.specs.Prelude.{◌≡◌, ℕ, ◌<◌, ◌==◌, Bool, true, fal
 use Rattle.std.specs.List.{range_with_len}
 use Rattle.thy_base.specs.declared.block.Block.{Block}
 use Rattle.thy_base.specs.declared.config.Parameters.{Parameters}
-use Rattle.thy_base.specs.Device.{Device, block_at}
+use Rattle.thy_base.specs.Device.{Device, failed_calls, block_at}
 use Rattle.thy_base.specs.Geometry.{memory_blocks}
 use Rattle.thy_base.specs.Places.{image_blocks}
 use Rattle.thy_base.specs.Store.{Holding}
@@ -45,7 +45,7 @@ promoted t = count_by (passes is_promoted) t.entries
 abbrev pub holding_of : State → Device → Holding
 holding_of s n = record {
   blocks = works s n;
-  faults = n.faults;
+  faults = failed_calls n;
   free = free_count s.btt;
   ready = promoted s.ptt == 0 && not n.down;
   open_page = None;

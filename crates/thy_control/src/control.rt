@@ -278,6 +278,7 @@ impl Control {
     fn read<N: Nvm>(&self, place: Place, nvm: &mut N) -> Result<Block, NvmError>
         requires place { IsPlace self.now.p place }
         requires sized { IsSized self.now (N.device nvm.old) }
+        requires up { (N.device nvm.old).down ≡ false }
         ensures ok { IfOk result (λ block. block ≡ reads self.now (N.device nvm.old) place) }
         ensures same { OnOk result (N.device nvm.new ≡ N.device nvm.old) }
         ensures err { OnErr result (HasFailed (N.device nvm.old) (N.device nvm.new)) }
@@ -293,6 +294,7 @@ impl Control {
     pub fn committed<N: Nvm>(&self, b: u64, nvm: &mut N) -> Result<Block, NvmError>
         requires block { b < memory_blocks self.now.p }
         requires sized { IsSized self.now (N.device nvm.old) }
+        requires up { (N.device nvm.old).down ≡ false }
         ensures ok { IfOk result (λ block. block ≡ penult_of self.now (N.device nvm.old) b) }
         ensures same { OnOk result (N.device nvm.new ≡ N.device nvm.old) }
         ensures stays { Stays self.now (N.device nvm.old) self.now (N.device nvm.new) }
@@ -310,6 +312,7 @@ impl Control {
     pub fn load<N: Nvm>(&self, b: u64, nvm: &mut N) -> Result<Block, NvmError>
         requires block { b < memory_blocks self.now.p }
         requires sized { IsSized self.now (N.device nvm.old) }
+        requires up { (N.device nvm.old).down ≡ false }
         ensures ok { IfOk result (λ block. block ≡ work_of self.now (N.device nvm.old) b) }
         ensures same { OnOk result (N.device nvm.new ≡ N.device nvm.old) }
         ensures stays { Stays self.now (N.device nvm.old) self.now (N.device nvm.new) }

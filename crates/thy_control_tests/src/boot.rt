@@ -1,5 +1,5 @@
 //! The boot over the simulated NVM: what it loads into zeros, and what it finds after cuts.
-ghost use Rattle.std.specs.Prelude.{◌≡◌, ◌≤◌, true, length};
+ghost use Rattle.std.specs.Prelude.{◌≡◌, ◌≤◌, true, false, length};
 ghost use Rattle.thy_base.specs.Device.{IsFramed};
 ghost use Rattle.thy_isa.specs.Step.{state_of};
 ghost use Rattle.thy_control_tests.specs.Boots.{Boots, IsLeastStart, IsNew, IsReady, goes_on};
@@ -90,6 +90,7 @@ fn step<N: Nvm>(
     requires { Boots (state_of start.now.state) (N.device nvm.old) boot.old control.old }
     ensures on { goes_on result ≡ true → Boots (state_of start.now.state) (N.device nvm.new) boot.new control.new }
     ensures same_p { control.new.p ≡ control.old.p }
+    ensures up { (N.device nvm.new).down ≡ false }
     ensures frame { IsFramed (N.device nvm.old) (N.device nvm.new) }
 {
     a_boot_may_go_on::<DualFills>();
@@ -109,6 +110,7 @@ fn steps<N: Nvm>(
     requires boots { Boots (state_of start.now.state) (N.device nvm.old) boot.old control.old }
     requires some { 1 ≤ most }
     ensures same_p { control.new.p ≡ control.old.p }
+    ensures up { (N.device nvm.new).down ≡ false }
     ensures frame { IsFramed (N.device nvm.old) (N.device nvm.new) }
 {
     for taken in 1..most {

@@ -2,8 +2,8 @@
 use Rattle.std.proofs.Common.{◌≡◌, ◌≢◌, ◌⊎◌, ℕ, ◌-◌, ◌<◌, ◌≤◌, Bool, List, true, false, if◌then◌else◌, length, Option, Some, None, Result, Ok, Err, IsErr, IfOk, OnErr, true≢false, refl, sym, ◌∙◌, ap, subst, inl, inr, arith}
 use Rattle.thy_base.specs.declared.cause.EndCause.{EndCause}
 use Rattle.thy_base.specs.declared.nvm.NvmError.{NvmError}
-use Rattle.thy_base.specs.Counts.{RoseByOne}
-use Rattle.thy_base.specs.Device.{Device, HasFailed, IsFramed, drained}
+use Rattle.thy_base.specs.Counts.{Rose, RoseByOne}
+use Rattle.thy_base.specs.Device.{Device, HasFailed, IsFramed, failed_calls, drained}
 use Rattle.thy_base.specs.Geometry.{memory_blocks}
 use Rattle.thy_cache.specs.declared.line.Flushed.{Flushed}
 use Rattle.thy_cache.specs.Contents.{Contents, dirty_count}
@@ -32,7 +32,7 @@ use Rattle.thy_view.specs.Origin.{Origin}
 use Rattle.thy_view.specs.Told.{IsThere}
 use Rattle.thy_view.specs.Turn.{Actor, front_of, Nvm, Dram, Checkpoint, Advances, Stalled, Pressure, IsHanded, HandsOn, Does, Prepares}
 use Rattle.thy_scheme.specs.declared.scheme_store.SchemeStore.{SchemeStore}
-use Rattle.thy_scheme.specs.SchemeStore.{failed_calls, held_by_scheme, IsOneCall}
+use Rattle.thy_scheme.specs.SchemeStore.{held_by_scheme, IsOneCall}
 use Rattle.thy_scheme.specs.CheckpointMarks.{CheckpointMarks}
 use Rattle.thy_scheme.specs.Scheme.{SchemeOf, StaysOf, Stands, IsBooting}
 use Rattle.thy_scheme.specs.Calls.{IsOneAccess, Merges, Promotes, PromotionFails, Drains, Seals, Engines, EngineFails, engine_did}
@@ -518,7 +518,7 @@ hart_call K device o p b x y h c step input free way i f w s once stays untouche
 -- a cycle whose call failed, by what the exit of the call returns
 pub taken_err : {S : Type 0} (K : SchemeOf S) (P : Origin → Type 0) (actor : Actor) (m next : Machine S) (n new : Device) (r : Result Did NvmError) → IsErr r
     → ((o : Origin) (cycles : ℕ) → P o → IsMoment K o cycles m n → IsTurnOf K o m n actor → HasFailedAs K o actor m next n new)
-    → IsFramed n new → RoseByOne n.faults new.faults → HasTaken K P actor m n next new r
+    → IsFramed n new → Rose n.faults new.faults → HasTaken K P actor m n next new r
 taken_err K P actor m next n new (Ok did) is fails frame rose = absurd (true≢false (sym is))
 taken_err K P actor m next n new (Err e) is fails frame rose = record { simulates = λ o cycles q at turn. tt; fails = fails; frame = frame; cause = rose }
 

@@ -164,7 +164,8 @@ impl<N: Nvm> Nvm for Gap<N> {
     }
 
     fn read(&mut self, at: u64) -> Result<Block, NvmError>
-        requires { at < length (shown N.device self.old).image }
+        requires place { at < length (shown N.device self.old).image }
+        requires up { (shown N.device self.old).down ≡ false }
         ensures ok { IfOk result (λ block. block ≡ newest (shown N.device self.old) at) }
         ensures same { OnOk result (shown N.device self.new ≡ shown N.device self.old) }
         ensures err { OnErr result (HasFailed (shown N.device self.old) (shown N.device self.new)) }

@@ -1,6 +1,6 @@
 //! A line that is missing.
 ghost use Rattle.std.specs.Prelude.{◌≡◌, true, false, ◌<◌, ◌≤◌, length, OnOk, OnErr};
-ghost use Rattle.thy_base.specs.Device.{CountsFault};
+ghost use Rattle.thy_base.specs.Device.{CountsOneFault};
 ghost use Rattle.thy_cache.specs.Contents.{hits, dirty_count, KeepsSize};
 ghost use Rattle.thy_cache.specs.Flat.{Agrees};
 ghost use Rattle.thy_hart.specs.Bring.{IsBrought};
@@ -30,7 +30,7 @@ pub(crate) fn bring<N, S: BlockStore<N>>(
     ensures once { S.once store.old nvm.old store.new nvm.new }
     ensures loads { dirty_count cache.old ≡ 0 → S.loads store.old nvm.old store.new nvm.new }
     ensures stays { S.stays store.old nvm.old store.new nvm.new }
-    ensures cause { CountsFault result (S.holding store.old nvm.old).faults (S.holding store.new nvm.new).faults }
+    ensures cause { CountsOneFault result (S.holding store.old nvm.old).faults (S.holding store.new nvm.new).faults }
 {
     match cache.victim(b) {
         Victim::Dirty(_) => match cache.evict(b, store, nvm) {

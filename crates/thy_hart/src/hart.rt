@@ -1,6 +1,6 @@
 //! The hart and its calls.
 ghost use Rattle.std.specs.Prelude.{◌≡◌, ◌≢◌, ◌⊎◌, None, false, ◌+◌, ◌<◌, ◌^◌, IfOk, OnErr};
-ghost use Rattle.thy_base.specs.Device.{CountsFault};
+ghost use Rattle.thy_base.specs.Device.{CountsOneFault};
 ghost use Rattle.thy_cache.specs.Contents.{dirty_count};
 ghost use Rattle.thy_isa.specs.declared.state.Status.TheVariants.{Running};
 ghost use Rattle.thy_isa.specs.Step.{cpu_crossed};
@@ -135,7 +135,7 @@ impl Hart {
         ensures loads { dirty_count cache.old ≡ 0
             → ((store.new ≡ store.old) × (nvm.new ≡ nvm.old)) ⊎ S.loads store.old nvm.old store.new nvm.new }
         ensures stays { S.stays store.old nvm.old store.new nvm.new }
-        ensures cause { CountsFault result (S.holding store.old nvm.old).faults (S.holding store.new nvm.new).faults }
+        ensures cause { CountsOneFault result (S.holding store.old nvm.old).faults (S.holding store.new nvm.new).faults }
     {
         match self.parts.next(cache) {
             LineLookup::Act(place) => Ok(

@@ -3,7 +3,7 @@
 use Rattle.std.specs.Prelude.{◌==◌, ◌&&◌, not, if◌then◌else◌, List, [], length, map, None}
 use Rattle.std.specs.List.{range_with_len}
 use Rattle.thy_base.specs.declared.block.Block.{Block}
-use Rattle.thy_base.specs.Device.{Device}
+use Rattle.thy_base.specs.Device.{Device, failed_calls}
 use Rattle.thy_base.specs.Geometry.{memory_blocks}
 use Rattle.thy_base.specs.Store.{Holding}
 use Rattle.thy_table.specs.Listing.{free_count}
@@ -21,7 +21,7 @@ homes s n = map (home_of s n) (range_with_len 0 (memory_blocks s.p))
 abbrev pub holding_of : State → Device → Holding
 holding_of s n = record {
   blocks = if length n.image == image_blocks s.p && not n.down then works s n else [];
-  faults = n.faults;
+  faults = failed_calls n;
   free = free_count s.table;
   ready = not n.down;
   open_page = None;

@@ -100,6 +100,7 @@ impl Log {
     pub fn load<N: Nvm>(&self, b: u64, nvm: &mut N) -> Result<Block, NvmError>
         requires block { b < memory_blocks self.now.p }
         requires sized { IsSized self.now (N.device nvm.old) }
+        requires up { (N.device nvm.old).down ≡ false }
         ensures ok { IfOk result (λ block. block ≡ work_of self.now (N.device nvm.old) b) }
         ensures same { OnOk result (N.device nvm.new ≡ N.device nvm.old) }
         ensures err { OnErr result (HasFailed (N.device nvm.old) (N.device nvm.new)) }
@@ -119,6 +120,7 @@ impl Log {
     pub fn home<N: Nvm>(&self, b: u64, nvm: &mut N) -> Result<Block, NvmError>
         requires block { b < memory_blocks self.now.p }
         requires sized { IsSized self.now (N.device nvm.old) }
+        requires up { (N.device nvm.old).down ≡ false }
         ensures ok { IfOk result (λ block. block ≡ home_of self.now (N.device nvm.old) b) }
         ensures same { OnOk result (N.device nvm.new ≡ N.device nvm.old) }
         ensures err { OnErr result (HasFailed (N.device nvm.old) (N.device nvm.new)) }
@@ -212,6 +214,7 @@ impl Log {
         requires slot { s < 2 }
         requires entry { i < self.old.p.btt }
         requires sized { IsSized self.old (N.device nvm.old) }
+        requires up { (N.device nvm.old).down ≡ false }
         ensures ok { OnOk result (self.new ≡ filled s i (N.device nvm.old) self.old) }
         ensures kept { OnErr result (self.new ≡ self.old) }
         ensures same { OnOk result (N.device nvm.new ≡ N.device nvm.old) }

@@ -1,5 +1,5 @@
 //! The boot, and after it the migration.
-ghost use Rattle.std.specs.Prelude.{◌≡◌, ◌*◌, ◌<◌, length, Some, None, IfOk, OnOk, OnErr};
+ghost use Rattle.std.specs.Prelude.{◌≡◌, ◌*◌, ◌<◌, false, length, Some, None, IfOk, OnOk, OnErr};
 ghost use Rattle.thy_base.specs.Device.{block_at};
 ghost use Rattle.thy_base.specs.Places.{slot_blocks};
 ghost use Rattle.thy_view.specs.declared.boot_step.BootStep.TheVariants.{Restarted};
@@ -119,6 +119,7 @@ impl Recovery {
     ) -> Result<BootStep, NvmError>
         requires can { CanStep (state_of start.now.state) (N.device nvm.old) self.old control.old }
         requires fits { IsBoot filling_dual self.old.boot }
+        requires up { (N.device nvm.old).down ≡ false }
         ensures answer { IfOk result (λ answer. answer ≡ answer_of self.new) }
         ensures step { let s = state_of start.now.state in
             TakesStep result s (N.device nvm.old) self.old control.old (N.device nvm.new) self.new control.new }
@@ -141,6 +142,7 @@ impl Recovery {
         requires idle { self.old.migration ≡ None }
         requires can { CanStep (state_of start.now.state) (N.device nvm.old) self.old control.old }
         requires fits { IsBoot filling_dual self.old.boot }
+        requires up { (N.device nvm.old).down ≡ false }
         ensures answer { IfOk result (λ answer. answer ≡ answer_of self.new) }
         ensures step { let s = state_of start.now.state in
             TakesStep result s (N.device nvm.old) self.old control.old (N.device nvm.new) self.new control.new }

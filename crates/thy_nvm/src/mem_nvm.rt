@@ -1,6 +1,6 @@
 //! A device that lies in the memory of the host.
 ghost use Rattle.std.specs.Prelude.{◌≡◌, ◌<◌, ◌≤◌, false, length, is_err, is_some, IfOk, OnOk, OnErr, IfErr, slice_index_or, []};
-ghost use Rattle.thy_base.specs.Counts.{RoseByOne};
+ghost use Rattle.thy_base.specs.Counts.{Rose};
 ghost use Rattle.thy_base.specs.Device.{Device, newest, block_at, written_to, drained, settled, fitted, IsCut, IsFramed, HasFailed, HasFailedToWrite, HasFailedToFit, CountsFault, CountsWrite};
 ghost use Rattle.thy_nvm.specs.DeviceInMemory.{InMemory, fresh_device, with_device, on_device, IsFit, IsFresh, written, with_write, half_settled, failed, left_after, IsCall};
 ghost use Rattle.thy_nvm.specs.Pick.{cut_by};
@@ -92,7 +92,7 @@ impl MemNvm {
     /// A call has failed.
     fn fail(&mut self) -> NvmError
         ensures failed { self.new ≡ with_device self.old (failed self.old.device) }
-        ensures rose { RoseByOne self.old.device.faults self.new.device.faults }
+        ensures rose { Rose self.old.device.faults self.new.device.faults }
     {
         self.down = true;
         self.faults = self.faults.saturating_add(1);
@@ -234,7 +234,8 @@ impl Nvm for MemNvm {
     }
 
     fn read(&mut self, at: u64) -> Result<Block, NvmError>
-        requires { at < length self.old.device.image }
+        requires place { at < length self.old.device.image }
+        requires up { self.old.device.down ≡ false }
         ensures exact { IsCall (λ m. m) (λ n. n) self.old result self.new }
         ensures ok { IfOk result (λ block. block ≡ newest self.old.device at) }
         ensures same { OnOk result (self.new.device ≡ self.old.device) }

@@ -4,7 +4,7 @@ use Rattle.std.proofs.Math.Seq.{take-add}
 use Rattle.std.proofs.lemmas.List.{take_rest, append-nil}
 use Rattle.std.proofs.lemmas.Option.{none-some}
 use Rattle.std.specs.Io.KnownBytes.{Keeps, Appends, Consumes}
-use Rattle.thy_base.specs.Device.{CountsFault}
+use Rattle.thy_base.specs.Device.{CountsOneFault}
 use Rattle.thy_base.specs.Outside.{Stream, Grew, Took, TookPart, Fetched}
 use Rattle.thy_base.specs.declared.outside.FetchError.TheVariants.{TooLong}
 use Rattle.thy_out.specs.Spring.{LosesAtMost}
@@ -76,14 +76,14 @@ Keeps-same (Some x) (Some y) e = cc
 
 -- a sink took all of these bytes, and what was asked of it then did not fail
 pub Took-behind : {E : Type 0} (last : Result Unit E) (a b c : Stream) (bytes : List ℕ) → Took a b bytes → Keeps b.taken c.taken
-    → CountsFault last b.faults c.faults → OnOk last (Took a c bytes)
+    → CountsOneFault last b.faults c.faults → OnOk last (Took a c bytes)
 Took-behind (Ok done) a b c bytes took keeps count =
     record { taken = Grew-keeps a.taken b.taken c.taken bytes took.taken keeps; faults = cc }
 Took-behind (Err e) a b c bytes took keeps count = tt
 
 -- a sink took all of these bytes, and what was asked of it then failed or did not
 pub TookPart-behind : {E : Type 0} (last : Result Unit E) (a b c : Stream) (bytes : List ℕ) → Took a b bytes → Keeps b.taken c.taken
-    → CountsFault last b.faults c.faults → OnErr last (TookPart a c bytes)
+    → CountsOneFault last b.faults c.faults → OnErr last (TookPart a c bytes)
 TookPart-behind (Ok done) a b c bytes took keeps count = tt
 TookPart-behind (Err e) a b c bytes took keeps count = record {
   part = bytes;

@@ -3,7 +3,7 @@ ghost use Rattle.std.specs.Prelude.{◌≡◌, ◌≢◌, IfErr};
 ghost use Rattle.std.specs.Io.KnownBytes.{ReadConsumes};
 ghost use Rattle.std.specs.Io.{ReadsAtMost};
 ghost use Rattle.std.specs.IoError.{error_kind};
-ghost use Rattle.thy_base.specs.Device.{CountsFault};
+ghost use Rattle.thy_base.specs.Device.{CountsOneFault};
 
 use std::io;
 use std::io::{Error, ErrorKind, Read};
@@ -57,7 +57,7 @@ impl<F: Read> CountedReader<F> {
         ensures bound { ReadsAtMost result to.new }
         ensures bytes { ReadConsumes self.old.left self.new.left result to.new }
         ensures retried { IfErr result (λ e. error_kind e ≢ ErrorKind.Interrupted) }
-        ensures count { CountsFault result self.old.failures self.new.failures }
+        ensures count { CountsOneFault result self.old.failures self.new.failures }
     {
         match read_on(&mut self.from, to) {
             Ok(count) => Ok(count),

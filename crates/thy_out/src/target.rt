@@ -2,7 +2,7 @@
 ghost use Rattle.std.specs.Prelude.{◌≡◌, ◌≢◌, ◌<◌, ◌≤◌, is_ok, false, length, IfOk, IfErr, OnOk, OnErr};
 ghost use Rattle.std.specs.Io.KnownBytes.{Keeps, WriteAppends};
 ghost use Rattle.std.specs.IoError.{error_kind};
-ghost use Rattle.thy_base.specs.Device.{CountsFault};
+ghost use Rattle.thy_base.specs.Device.{CountsOneFault};
 ghost use Rattle.thy_base.specs.Outside.{Took, TookPart};
 ghost use Rattle.thy_out.specs.Written.{stream_of, untouched, failures_after};
 
@@ -70,7 +70,7 @@ impl<W: Write> Target<W> {
         requires { 0 < length piece.now }
         ensures some { IfOk result (λ n. (0 < n) × (n ≤ length piece.now)) }
         ensures bytes { WriteAppends self.old.taken self.new.taken result piece.now }
-        ensures count { CountsFault result self.old.failures self.new.failures }
+        ensures count { CountsOneFault result self.old.failures self.new.failures }
         ensures after { self.new.failures ≡ failures_after self.old.failures result }
         ensures flags { self.new ≡ record self.old { taken = self.new.taken; failures = self.new.failures } }
     {
@@ -88,7 +88,7 @@ impl<W: Write> Target<W> {
     pub fn write(&mut self, piece: &[u8]) -> Result<(), SinkError>
         ensures whole { OnOk result (Took (stream_of self.old) (stream_of self.new) piece.now) }
         ensures failed { OnErr result (TookPart (stream_of self.old) (stream_of self.new) piece.now) }
-        ensures count { CountsFault result self.old.failures self.new.failures }
+        ensures count { CountsOneFault result self.old.failures self.new.failures }
         ensures after { self.new.failures ≡ failures_after self.old.failures result }
         ensures unflushed { self.new.flushed ≡ false }
         ensures unsynced { self.new.synced ≡ false }
@@ -109,7 +109,7 @@ impl<W: Write> Target<W> {
     pub fn flush(&mut self) -> Result<(), SinkError>
         ensures taken { Keeps self.old.taken self.new.taken }
         ensures flushed { self.new.flushed ≡ is_ok result }
-        ensures count { CountsFault result self.old.failures self.new.failures }
+        ensures count { CountsOneFault result self.old.failures self.new.failures }
         ensures after { self.new.failures ≡ failures_after self.old.failures result }
     {
         match self.to.flush() {
@@ -131,7 +131,7 @@ impl<F: Write + OpenFile> Target<F> {
     pub fn sync(&mut self) -> Result<(), SinkError>
         ensures taken { self.new.taken ≡ self.old.taken }
         ensures synced { self.new.synced ≡ is_ok result }
-        ensures count { CountsFault result self.old.failures self.new.failures }
+        ensures count { CountsOneFault result self.old.failures self.new.failures }
     {
         match self.to.sync_all() {
             Ok(()) => {

@@ -23,6 +23,7 @@ pub fn read_place<N: Nvm>(
 ) -> Result<Block, NvmError>
     requires place { IsPlace geometry.now place }
     requires sized { AreSized geometry.now (devices_of (N.device nvm.old) dram.now) }
+    requires up { (N.device nvm.old).down ≡ false }
     ensures ok { let devices = devices_of (N.device nvm.old) dram.now in
         IfOk result (λ block. block ≡ read_at geometry.now devices place) }
     ensures same { OnOk result (N.device nvm.new ≡ N.device nvm.old) }

@@ -3,7 +3,7 @@
 use Rattle.std.specs.Prelude.{ℕ, ◌-◌, ◌*◌, ◌==◌, ◌&&◌, not, if◌then◌else◌, Bool, true, List, [], length, map, count_by, bytes_eq, Option, Some, None}
 use Rattle.std.specs.List.{range_with_len}
 use Rattle.thy_base.specs.declared.block.Block.{Block}
-use Rattle.thy_base.specs.Device.{Device, newest}
+use Rattle.thy_base.specs.Device.{Device, failed_calls, newest}
 use Rattle.thy_base.specs.Geometry.{memory_blocks}
 use Rattle.thy_base.specs.Store.{Holding}
 use Rattle.thy_table.specs.Listing.{free_count}
@@ -45,7 +45,7 @@ copies_agree s n = agree_by s n s.begun
 abbrev pub holding_of : State → Device → Holding
 holding_of s n = record {
   blocks = if length n.image == image_blocks s.p && not n.down && copies_agree s n then works s n else [];
-  faults = n.faults;
+  faults = failed_calls n;
   free = free_count s.frames;
   ready = not n.down;
   open_page = opened_by s.begun;

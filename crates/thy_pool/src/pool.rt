@@ -144,6 +144,7 @@ impl Pool {
     pub fn load<N: Nvm>(&self, b: u64, nvm: &mut N) -> Result<Block, NvmError>
         requires block { b < memory_blocks self.now.p }
         requires sized { IsSized self.now (N.device nvm.old) }
+        requires up { (N.device nvm.old).down ≡ false }
         ensures ok { IfOk result (λ block. block ≡ work_of self.now (N.device nvm.old) b) }
         ensures same { OnOk result (N.device nvm.new ≡ N.device nvm.old) }
         ensures err { OnErr result (HasFailed (N.device nvm.old) (N.device nvm.new)) }
@@ -163,6 +164,7 @@ impl Pool {
     pub fn committed<N: Nvm>(&self, b: u64, nvm: &mut N) -> Result<Block, NvmError>
         requires block { b < memory_blocks self.now.p }
         requires sized { IsSized self.now (N.device nvm.old) }
+        requires up { (N.device nvm.old).down ≡ false }
         ensures ok { IfOk result (λ block. block ≡ committed_of self.now (N.device nvm.old) b) }
         ensures same { OnOk result (N.device nvm.new ≡ N.device nvm.old) }
         ensures err { OnErr result (HasFailed (N.device nvm.old) (N.device nvm.new)) }
@@ -181,6 +183,7 @@ impl Pool {
         requires block { b < memory_blocks self.old.p }
         requires room { 0 < free_count self.old.frames }
         requires sized { IsSized self.old (N.device nvm.old) }
+        requires up { (N.device nvm.old).down ≡ false }
         ensures answer { IfOk result (λ stored. stored ≡ stored_by (store_case b self.old)) }
         ensures pool { OnOk result (self.new ≡ after_store b block.now (N.device nvm.old) self.old) }
         ensures kept { OnErr result (self.new ≡ self.old) }
@@ -235,6 +238,7 @@ impl Pool {
         requires unframed { frame_of self.old x ≡ None }
         requires room { 0 < free_count self.old.frames }
         requires sized { IsSized self.old (N.device nvm.old) }
+        requires up { (N.device nvm.old).down ≡ false }
         ensures pool { let block = newest (N.device nvm.old) (page_place self.old x k) in
             OnOk result (self.new ≡ copied_into (lowest_frame self.old) x k block self.old) }
         ensures kept { OnErr result (self.new ≡ self.old) }

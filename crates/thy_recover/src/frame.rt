@@ -1,5 +1,5 @@
 //! A position, filled: a block of a listed page, copied into its frame.
-ghost use Rattle.std.specs.Prelude.{◌≡◌, length, OnOk, OnErr};
+ghost use Rattle.std.specs.Prelude.{◌≡◌, false, length, OnOk, OnErr};
 ghost use Rattle.thy_base.specs.Device.{newest};
 ghost use Rattle.thy_base.specs.Places.{image_blocks};
 ghost use Rattle.thy_boot.specs.Filling.{IsNext};
@@ -19,6 +19,7 @@ pub fn fill<N: Nvm>(
 ) -> Result<(), NvmError>
     requires next { IsNext filling_dual commit.now control.old k }
     requires sized { length (N.device nvm.old).image ≡ image_blocks control.old.p }
+    requires up { (N.device nvm.old).down ≡ false }
     ensures ok { let block = newest (N.device nvm.old) (page_place control.old k) in
         OnOk result (control.new ≡ with_filled k block control.old) }
     ensures err { OnErr result (control.new ≡ control.old) }

@@ -6,7 +6,7 @@ use Rattle.thy_base.specs.declared.bytes.Bytes.{Bytes}
 use Rattle.thy_base.specs.declared.mix.Mix.{Mix}
 use Rattle.thy_base.specs.declared.mix.Pick.{Pick}
 use Rattle.thy_base.specs.Bytes.{bytes_of, room_of}
-use Rattle.thy_base.specs.Counts.{RoseByOne}
+use Rattle.thy_base.specs.Counts.{Rose}
 use Rattle.thy_base.specs.Device.{Device, IsFramed, cut_to}
 use Rattle.thy_base.specs.Mix.{mix_next}
 use Rattle.thy_isa.specs.declared.state.Status.{Status}
@@ -535,7 +535,7 @@ module _ {M : Type 0} (K : KindOf M) (laws : IsLawful K) (plan : Plan) (fitted :
             → IsBroken K plan p q n m' k [] × Breaks K plan p q n m' k turns [] (stop_of e)
         by_error NvmFailed f broken all some telling events = (
           broken,
-          (inr (telling (ReadFailed (world_at p n k turns) q.events m') (record { due = some; nothing_told = events; failed = f.0; framed = framed; rose = f.1 })), record { events = events; none = refl; rose = subst (λ c. RoseByOne c m'.faults) s.faults f.1 }),
+          (inr (telling (ReadFailed (world_at p n k turns) q.events m') (record { due = some; nothing_told = events; failed = f.0; framed = framed; rose = f.1 })), record { events = events; none = refl; rose = subst (λ c. Rose c m'.faults) s.faults f.1 }),
         )
         by_error (NoMemory x) f broken all some telling events = (broken, (telling (LeftAlone K (origin_of plan) plan.config.cuts m') (f, inl some), ap (λ (d : Device). d.faults) f ∙ s.faults))
 

@@ -1,6 +1,6 @@
 -- What a cycle came to, once it was reported.
 use Rattle.std.proofs.Common.{◌≡◌, ℕ, suc, ◌+◌, ◌<◌, Bool, true, false, None, Some, List, [], ◌∷◌, ◌++◌, length, take, refl, sym, ◌∙◌, ap, subst, inr, append-nil, arith}
-use Rattle.thy_base.specs.Counts.{RoseByOne}
+use Rattle.thy_base.specs.Counts.{Rose}
 use Rattle.thy_base.specs.Device.{Device}
 use Rattle.thy_base.specs.Outside.{Stream, Took}
 use Rattle.thy_base.proofs.Streams.{Took-append}
@@ -206,7 +206,7 @@ module _ {M : Type 0} (K : KindOf M) (plan : Plan) (fitted : Device) (p q : Prog
       shown Limit f = absurd f
 
       because : (stop : Stop) → Breaks K plan p q n m k turns bytes stop → StopFits plan.geometry.limit fitted m (record { stop = stop; events = q.events; cycles = k; terminal_failed = terminal_failed; report_failed = report_failed }) stop
-      because Nvm f = (subst (λ c. RoseByOne c m.faults) running.goes.faults f.1.rose, few, (on_terminal f.1.none, on_report f.1.events))
+      because Nvm f = (subst (λ c. Rose c m.faults) running.goes.faults f.1.rose, few, (on_terminal f.1.none, on_report f.1.events))
       because Memory f = (few, f.1 ∙ running.goes.faults)
       because (Ended status) f = absurd f
       because Terminal f = absurd f

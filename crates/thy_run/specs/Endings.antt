@@ -1,7 +1,7 @@
 -- Part of the claim.
 -- What a run leaves at its end: its last state, what its sinks took, and why it stopped.
 use Rattle.std.specs.Prelude.{◌≡◌, ℕ, ◌<◌, ◌≤◌, Bool, true, false, List, [], ◌∷◌, ◌++◌}
-use Rattle.thy_base.specs.Counts.{RoseByOne}
+use Rattle.thy_base.specs.Counts.{Rose}
 use Rattle.thy_base.specs.Device.{Device}
 use Rattle.thy_base.specs.Outside.{Stream}
 use Rattle.thy_isa.specs.declared.state.Status.{Status}
@@ -54,7 +54,7 @@ IsHeard e = (e.terminal_failed ≡ false) × (e.report_failed ≡ false)
 -- what a stop says of a run whose limit is so many cycles, between the device after its fit and the device that is left
 abbrev pub StopFits : ℕ → Device → Device → Ending → Stop → Type 0
 StopFits limit old new e (Ended status) = EndsWith e.events status × IsHeard e × (new.faults ≡ old.faults)
-StopFits limit old new e Nvm = RoseByOne old.faults new.faults × (e.cycles < limit) × IsHeard e
+StopFits limit old new e Nvm = Rose old.faults new.faults × (e.cycles < limit) × IsHeard e
 StopFits limit old new e Memory = (e.cycles < limit) × (new.faults ≡ old.faults)
 StopFits limit old new e Terminal = (e.terminal_failed ≡ true) × (e.report_failed ≡ false) × (new.faults ≡ old.faults)
 StopFits limit old new e Report = (e.report_failed ≡ true) × (new.faults ≡ old.faults)

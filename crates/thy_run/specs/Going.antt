@@ -4,7 +4,7 @@ use Rattle.std.specs.declared.alloc.Global.{Global}
 use Rattle.thy_base.specs.declared.config.Parameters.{Parameters}
 use Rattle.thy_base.specs.Bytes.{bytes_of, room_of}
 use Rattle.thy_base.specs.Config.{IsRising}
-use Rattle.thy_base.specs.Counts.{RoseByOne}
+use Rattle.thy_base.specs.Counts.{Rose}
 use Rattle.thy_base.specs.Device.{Device, IsFramed, IsCut}
 use Rattle.thy_base.specs.Mix.{mix_pick, mix_next}
 use Rattle.thy_dram.specs.Contents.{lost}
@@ -184,7 +184,7 @@ pub record IsStuck {M : Type 0} (K : KindOf M) (plan : Plan) (p next : Progress 
     : Type 0 where
   pub leaves : LeavesSafe K (line_of plan turns) (mix_pick plan.geometry.harts p.mix) p.machine next.machine n new
   pub framed : IsFramed n new
-  pub rose : RoseByOne n.faults new.faults
+  pub rose : Rose n.faults new.faults
   pub same : next ≡ record p { machine = next.machine; mix = mix_next plan.geometry.harts p.mix }
 
 -- this step and all its events were made, and these bytes are due to the terminal
@@ -229,11 +229,11 @@ pub record IsBroken {M : Type 0} (K : KindOf M) (plan : Plan) (p next : Progress
   pub on_terminal : next.terminal_failed ≡ p.terminal_failed
   pub on_report : next.report_failed ≡ p.report_failed
 
--- a device's fault broke it: its count rose by one
+-- a device's fault broke it: its count rose
 pub record IsFault {M : Type 0} (p next : Progress M) (n new : Device) (bytes : List ℕ) : Type 0 where
   pub events : next.events ≡ p.events
   pub none : bytes ≡ []
-  pub rose : RoseByOne n.faults new.faults
+  pub rose : Rose n.faults new.faults
 
 -- why a cycle is not done: a fault of the device, or out of memory
 abbrev pub Breaks : {M : Type 0} → KindOf M → Plan → Progress M → Progress M → Device → Device → ℕ → List ℕ → List ℕ

@@ -1,7 +1,7 @@
 -- Part of the claim.
 -- A cycle that was begun and is not done, and what is left by a run that stopped.
 use Rattle.std.specs.Prelude.{◌≡◌, ◌≢◌, ◌⊎◌, ℕ, true, false, List, [], ◌++◌}
-use Rattle.thy_base.specs.Counts.{RoseByOne}
+use Rattle.thy_base.specs.Counts.{Rose}
 use Rattle.thy_base.specs.Device.{Device, HasFailed, IsFramed}
 use Rattle.thy_base.specs.Mix.{mix_pick}
 use Rattle.thy_view.specs.Kind.{KindOf, LeavesSafe}
@@ -21,7 +21,7 @@ pub record StepFailed {M : Type 0} (K : KindOf M) (o : Origin) (w : World M) (ev
   pub next : M
   pub leaves : LeavesSafe K (line o w) (mix_pick o.geometry.harts w.mix) w.machine next w.device n
   pub framed : IsFramed w.device n
-  pub rose : RoseByOne w.device.faults n.faults
+  pub rose : Rose w.device.faults n.faults
   pub nothing_told : events ≡ w.events
 
 -- a read for the events of a step failed with a fault of the device: there was one to be made, and none was
@@ -30,7 +30,7 @@ pub record ReadFailed {M : Type 0} (w : World M) (events : List Event) (n : Devi
   pub nothing_told : events ≡ w.events
   pub failed : HasFailed next.device n
   pub framed : IsFramed next.device n
-  pub rose : RoseByOne next.device.faults n.faults
+  pub rose : Rose next.device.faults n.faults
 
 -- an allocation failed for an event of a step, or for the cut that is due after it, and the device was left alone
 abbrev pub LeftAlone : {M : Type 0} → KindOf M → Origin → List ℕ → Device → World M → List Event → Type 0

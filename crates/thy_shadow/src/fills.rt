@@ -1,5 +1,5 @@
 //! What the boot lists.
-ghost use Rattle.std.specs.Prelude.{◌≡◌, length, OnOk, OnErr};
+ghost use Rattle.std.specs.Prelude.{◌≡◌, false, length, OnOk, OnErr};
 ghost use Rattle.thy_view.specs.Action.{ReadAt};
 ghost use Rattle.thy_boot.specs.Loads.{Takes};
 ghost use Rattle.thy_shadow_image.specs.Places.{image_blocks};
@@ -89,6 +89,7 @@ impl Fills for Relist {
     // No position is ever filled, so this reads a block and keeps the pool as it is.
     fn fill<N: Nvm>(control: &mut Pool, commit: &Block, k: u64, nvm: &mut N) -> Result<(), NvmError>
         requires sized { length (N.device nvm.old).image ≡ image_blocks control.old.p }
+        requires up { (N.device nvm.old).down ≡ false }
         ensures ok { OnOk result (control.new ≡ control.old) }
         ensures err { OnErr result (control.new ≡ control.old) }
         ensures nvm { Takes (ReadAt 0) result (N.device nvm.old) (N.device nvm.new) }

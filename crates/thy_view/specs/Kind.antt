@@ -9,7 +9,7 @@ use Rattle.thy_base.specs.declared.bytes.Bytes.{Bytes}
 use Rattle.thy_base.specs.declared.mark.Mark.{Mark}
 use Rattle.thy_base.specs.declared.nvm.NvmError.{NvmError}
 use Rattle.thy_base.specs.Bytes.{bytes_of}
-use Rattle.thy_base.specs.Counts.{RoseByOne}
+use Rattle.thy_base.specs.Counts.{Rose}
 use Rattle.thy_base.specs.Device.{Device, Crash, HasFailed, cut_to, fitted}
 use Rattle.thy_base.specs.Places.{dram_blocks}
 use Rattle.thy_dram.specs.Contents.{Contents}
@@ -239,7 +239,7 @@ TellsLoading K m loading =
 
 -- after a call that was to read the device: it failed, or memory ran out and the device is as it was
 abbrev pub HasFailedToRead : CoreError → Device → Device → Type 0
-HasFailedToRead Nvm old new = HasFailed old new × RoseByOne old.faults new.faults
+HasFailedToRead Nvm old new = HasFailed old new × Rose old.faults new.faults
 HasFailedToRead (Memory e) old new = new ≡ old
 
 -- ---- the laws

@@ -1,6 +1,6 @@
 //! What a boot does: it lists what the committed checkpoint lists, with the counts of pages if its slot has these, and
 //! loads the frames of the listed pages.
-ghost use Rattle.std.specs.Prelude.{◌≡◌, ◌<◌, OnOk};
+ghost use Rattle.std.specs.Prelude.{◌≡◌, ◌<◌, false, OnOk};
 
 use super::Control;
 use thy_base::{Nvm, NvmError, Place};
@@ -82,6 +82,7 @@ impl Control {
         requires booting { IsBooting self.old }
         requires may { MayFrame j k self.old }
         requires sized { IsSized self.old (N.device nvm.old) }
+        requires up { (N.device nvm.old).down ≡ false }
         ensures copies { CopiesFrame j k self.old (N.device nvm.old) result self.new (N.device nvm.new) }
         ensures booting { IsBooting self.new }
         ensures same_writes { N.writes nvm.new ≡ N.writes nvm.old }
@@ -100,6 +101,7 @@ impl Control {
         requires entry { j < self.old.p.ptt }
         requires block { k < 64 }
         requires sized { IsSized self.old (N.device nvm.old) }
+        requires up { (N.device nvm.old).down ≡ false }
         ensures copies { CopiesFrame j k self.old (N.device nvm.old) result self.new (N.device nvm.new) }
         ensures same_writes { N.writes nvm.new ≡ N.writes nvm.old }
     {

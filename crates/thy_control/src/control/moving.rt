@@ -45,6 +45,7 @@ pub(super) fn move_to_dram<N: Nvm>(
     requires to { IsPlace geometry.now to }
     requires target { in_dram to ≡ true }
     requires sized { AreSized geometry.now (devices_of (N.device nvm.old) dram.old) }
+    requires up { (N.device nvm.old).down ≡ false }
     ensures ok { let old = devices_of (N.device nvm.old) dram.old in
         OnOk result (devices_of (N.device nvm.new) dram.new ≡ moved geometry.now from to old) }
     ensures same { OnOk result (N.device nvm.new ≡ N.device nvm.old) }

@@ -67,6 +67,7 @@ impl Control {
     /// read from the NVM; then nothing is written.
     pub fn promote_one<N: Nvm>(&mut self, nvm: &mut N) -> Result<(), NvmError>
         requires sized { IsSized self.old (N.device nvm.old) }
+        requires up { (N.device nvm.old).down ≡ false }
         requires promoting { 0 < promoted self.old.ptt }
 
         // One block less is left.
@@ -113,6 +114,7 @@ impl Control {
     /// Copies the next block of the lowest page in promotion into its frame.
     fn fill_lowest<N: Nvm>(&mut self, nvm: &mut N) -> Result<(), NvmError>
         requires sized { IsSized self.old (N.device nvm.old) }
+        requires up { (N.device nvm.old).down ≡ false }
         requires promoting { 0 < promoted self.old.ptt }
         ensures fills { FillsNext self.old (N.device nvm.old) result self.new (N.device nvm.new) }
         ensures side { OnErr result (ReadsNvm (next_promotion self.old) self.old) }
@@ -135,6 +137,7 @@ impl Control {
         requires unframed { IsFramedPage (cell_of self.old b).page ≡ false }
         requires due { (cell_of self.old b).page.filled ≡ b % 64 }
         requires sized { IsSized self.old (N.device nvm.old) }
+        requires up { (N.device nvm.old).down ≡ false }
         ensures fills { FillsBlock b self.old (N.device nvm.old) result self.new (N.device nvm.new) }
         ensures side { OnErr result (in_dram (work_place (cell_of self.old b)) ≡ false) }
         ensures same_writes { N.writes nvm.new ≡ N.writes nvm.old }

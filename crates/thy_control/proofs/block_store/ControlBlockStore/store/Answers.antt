@@ -1,6 +1,10 @@
+use Rattle.std.proofs.Common.{◌≡◌, false}
+use Rattle.std.proofs.lemmas.Result.{on_err_weaker}
 use Rattle.thy_base.specs.Device.{Device}
+use Rattle.thy_base.proofs.DeviceLemmas.{counts_once}
+use Rattle.thy_control.specs.Rules.{FailsStore}
 use Rattle.thy_control.specs.State.{State}
-use Rattle.thy_control.proofs.StoreLemmas.{ready-whole, stored_by, once_stored}
+use Rattle.thy_control.proofs.StoreLemmas.{ready-whole, stored_by, up-stored, once_stored}
 use Rattle.thy_control.proofs.block_store.ControlBlockStore.store.Goals as goal
 
 pub store-requires-clause-block : goal.store-requires-clause-block
@@ -30,3 +34,13 @@ returns-clause-once g c =
     let inside = (c.blocks_are_works.ensures.works s m c.args.b c.requires.inside).inside in
     once_stored c.args.b c.args.block.now s m c.store.new.self (g.N.Nvm.device c.store.new.nvm) c.store.result
     c.store.ensures.state c.store.ensures.nvm c.store.ensures.kept c.store.ensures.err c.tables.ensures inside c.requires.room c.store.ensures.free c.store.ensures.frame c.store.ensures.stays
+
+pub returns-clause-cause : goal.returns-clause-cause
+returns-clause-cause g c =
+    let s : State = c.args.self.now in
+    let m : Device = g.N.Nvm.device c.args.nvm.now in
+    let n : Device = g.N.Nvm.device c.store.new.nvm in
+    let up : m.down ≡ false = (ready-whole s m c.requires.ready).1 in
+    counts_once c.store.result m n up
+    (up-stored c.args.b c.args.block.now s m n c.store.result c.requires.room up c.store.ensures.nvm)
+    (on_err_weaker c.store.result (λ (failed : FailsStore c.args.b c.args.block.now s m n). failed.failed.down) c.store.ensures.err)

@@ -100,3 +100,6 @@ returns-clause-no_writes g c = λ o m boots done rests.
     = subst (λ (s : Dual). (view_at decode_image o s.boot.boot.stage n).done ≡ Some m) (sym c.self.view_is) done in
     let rests_v : is_some v.boot.migration ≡ false = subst (λ (s : Dual). is_some s.boot.migration ≡ false) (sym c.self.view_is) rests in
     writes_nothing o n m c.step-result.result old new (state_of c.args.start.now.state) v.control v.boot.migration v.boot seen rests_v c.step-result.ensures.writes
+
+pub step-result-requires-clause-up : goal.step-result-requires-clause-up
+step-result-requires-clause-up g c = c.requires.boots.booting.up

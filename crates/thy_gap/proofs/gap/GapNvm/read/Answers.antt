@@ -6,11 +6,11 @@ use Rattle.thy_gap.proofs.gap.GapNvm.read.Goals as goal
 
 pub place-requires-clause-line : goal.place-requires-clause-line
 place-requires-clause-line g c =
-    line_seen c.self.invariant c.args.at (rw (sym c.self.view_is) at c.requires)
+    line_seen c.self.invariant c.args.at (rw (sym c.self.view_is) at c.requires.place)
 
-pub read-requires : goal.read-requires
-read-requires g c =
-    let l = line_seen c.self.invariant c.args.at (rw (sym c.self.view_is) at c.requires) in
+pub read-requires-clause-place : goal.read-requires-clause-place
+read-requires-clause-place g c =
+    let l = line_seen c.self.invariant c.args.at (rw (sym c.self.view_is) at c.requires.place) in
     omega (arith, c.place.ensures, place_inside c.self.invariant c.args.at l)
 
 pub invariant_of-self : goal.invariant_of-self
@@ -21,7 +21,7 @@ invariant_of-self g c =
 
 pub returns-clause-ok : goal.returns-clause-ok
 returns-clause-ok g c =
-    let l = line_seen c.self.invariant c.args.at (rw (sym c.self.view_is) at c.requires) in
+    let l = line_seen c.self.invariant c.args.at (rw (sym c.self.view_is) at c.requires.place) in
     rw (sym c.self.view_is)
     (IfOk-weaker c.read.result _ _
     (λ block e. e ∙ ap (newest (g.N.Nvm.device c.self.inside.inner)) c.place.ensures ∙ read_seen c.self.invariant c.args.at l)

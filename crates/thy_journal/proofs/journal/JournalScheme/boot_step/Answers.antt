@@ -108,3 +108,6 @@ returns-clause-no_writes g c = λ o m boots done rests.
     let seen : (view_at decode_journal o v.boot.stage n).done ≡ Some m
     = subst (λ (s : Value). (view_at decode_journal o s.boot.stage n).done ≡ Some m) (sym c.self.view_is) done in
     writes_nothing filling_journal decode_journal o n m c.step-result.result old new (state_of c.args.start.now.state) v.boot v.log v.boot.stage seen c.step-result.ensures.writes
+
+pub step-result-requires-clause-up : goal.step-result-requires-clause-up
+step-result-requires-clause-up g c = c.requires.boots.booting.up

@@ -36,3 +36,9 @@ returns-else-applies-clause-ok g c =
     subst (λ (s : Value). IfOk c.home.result (λ block. block ≡ block_at (committed_in s.engine s.log n) c.args.b)) c.self.view_is
     (ok_same c.home.result (home_of c.self.inside.log n c.args.b) (block_at (committed_in c.self.inside.engine c.self.inside.log n) c.args.b)
     c.home.ensures.ok (sym (committed_home c.self.inside.engine c.self.inside.log n c.args.b (sym c.applies.ensures ∙ c.if-applies.false) low)))
+
+pub load-requires-clause-up : goal.load-requires-clause-up
+load-requires-clause-up g c = c.requires.stands.stands.up
+
+pub home-requires-clause-up : goal.home-requires-clause-up
+home-requires-clause-up g c = c.requires.stands.stands.up

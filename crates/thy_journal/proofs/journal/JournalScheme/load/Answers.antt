@@ -34,3 +34,10 @@ pub returns-clause-stays : goal.returns-clause-stays
 returns-clause-stays g c =
     load_stays c.args.self.now (g.N.Nvm.device c.args.nvm.now) (g.N.Nvm.device c.load.new.nvm) c.load.result c.load.ensures.same c.load.ensures.err
     c.load.ensures.frame
+
+pub load-requires-clause-up : goal.load-requires-clause-up
+load-requires-clause-up g c =
+    let v : Value = record { log = c.self.inside.log; engine = c.self.inside.engine; storeless = c.self.inside.storeless; sealed_storeless = c.self.inside.sealed_storeless; boot = c.self.inside.boot } in
+    let n : Device = g.N.Nvm.device c.args.nvm.now in
+    let inside = subst (λ (s : Value). c.args.b < length (holding_of s.log n).blocks) (sym c.self.view_is) c.requires in
+    c.what_is_held_stays.ensures.up v n c.args.b inside

@@ -31,3 +31,6 @@ returns-clause-ok g c =
     subst (λ (s : Value). IfOk c.committed.result (λ block. block ≡ block_at (commits s.pool n) c.args.b)) c.self.view_is
     (ok_same c.committed.result (committed_of c.self.inside.pool n c.args.b) (block_at (commits c.self.inside.pool n) c.args.b)
     c.committed.ensures.ok (sym (committed_is c.self.inside.pool n c.args.b low)))
+
+pub committed-requires-clause-up : goal.committed-requires-clause-up
+committed-requires-clause-up g c = c.requires.stands.stands.up

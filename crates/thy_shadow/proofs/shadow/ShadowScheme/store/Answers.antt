@@ -113,3 +113,10 @@ returns-clause-once g c =
     let is = c.storeless_after-self-inside.ensures in
     subst (λ (s : Value). IsOneAccess shadow_scheme s n (record v { pool = p; storeless = storeless }) new) c.self.view_is
     (store_once c.args.b c.args.block.now n v p storeless new r both.1 failed e.answer e.pool e.kept e.same e.err e.frame is)
+
+pub store-answer-requires-clause-up : goal.store-answer-requires-clause-up
+store-answer-requires-clause-up g c =
+    let v : Value = the_view c.self.inside in
+    let n : Device = g.N.Nvm.device c.args.nvm.now in
+    let inside = subst (λ (s : Value). c.args.b < length (holding_of s.pool n).blocks) (sym c.self.view_is) c.requires.inside in
+    c.what_is_held_stays.ensures.up v n c.args.b inside
