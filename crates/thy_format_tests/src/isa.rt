@@ -190,7 +190,7 @@ fn changed(word: u32, old: u64, b: u64) -> Option<(u64, u64)> {
     } else {
         Reservation::Double(PC)
     };
-    let other = beside(reserved, Reservation::Nothing);
+    let other = beside(reserved, Reservation::Nothing(0));
     let (rd, memory) = left(atomic(word, PC, b, &other), old)?;
     let number = register_after(&atomic(word, PC, b, &other), rd, old)?;
     Some((number, memory))
@@ -254,7 +254,7 @@ fn harts_change_places_with_their_reservations(rt: HostRuntime) {
 
 #[test]
 fn an_atomic_instruction_traps_for_its_address(rt: HostRuntime) {
-    let other = beside(Reservation::Nothing, Reservation::Nothing);
+    let other = beside(Reservation::Nothing(0), Reservation::Nothing(0));
     for (word, from, cause) in &TRAPS {
         let at = PC.wrapping_add(*from);
         expect(&rt, atomic(*word, at, 1, &other), Effect::Trap(*cause));
@@ -278,11 +278,11 @@ fn failure() -> Effect {
 
 #[test]
 fn a_store_conditional_fails_if_its_bytes_are_not_reserved(rt: HostRuntime) {
-    let none = beside(Reservation::Nothing, Reservation::Double(PC));
+    let none = beside(Reservation::Nothing(0), Reservation::Double(PC));
     expect(&rt, atomic(SC_D, PC, 1, &none), failure());
-    let shorter = beside(Reservation::Word(PC), Reservation::Nothing);
+    let shorter = beside(Reservation::Word(PC), Reservation::Nothing(0));
     expect(&rt, atomic(SC_D, PC, 1, &shorter), failure());
-    let elsewhere = beside(Reservation::Double(PC + 8), Reservation::Nothing);
+    let elsewhere = beside(Reservation::Double(PC + 8), Reservation::Nothing(0));
     expect(&rt, atomic(SC_D, PC, 1, &elsewhere), failure());
 }
 

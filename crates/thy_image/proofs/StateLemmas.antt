@@ -64,10 +64,10 @@ FitsSlot-faultless p ceiling slot h =
 
 -- ---- the other hart
 
-IsReservation-by : (word double : Bool) (at : ℕ) → IsNumber at → IsReservation (if word then Word at else if double then DoubleWord at else Nothing)
+IsReservation-by : (word double : Bool) (at : ℕ) → IsNumber at → IsReservation (if word then Word at else if double then DoubleWord at else Nothing at)
 IsReservation-by true double at h = h
 IsReservation-by false true at h = h
-IsReservation-by false false at h = tt
+IsReservation-by false false at h = h
 
 IsOther-made : (slot : List Block) → AreOfBytes slot → IsOther (other_of_record slot)
 unfolding other_of_record

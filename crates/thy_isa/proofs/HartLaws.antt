@@ -98,8 +98,8 @@ finished-harts c (Read rd width extend pc at) number calls = refl
 finished-harts c (Write width pc at v) number calls = written-harts at (size_of width) c.other
 finished-harts c (Reserve rd width pc at) number calls = reserving-harts (reservation width at) c.other
 finished-harts c (Conditional rd width pc at v) number calls =
-    reserving-harts Nothing (written_past at (size_of width) c.other) ∙ written-harts at (size_of width) c.other
-finished-harts c (Fail rd pc) number calls = reserving-harts Nothing c.other
+    reserving-harts (Nothing 0) (written_past at (size_of width) c.other) ∙ written-harts at (size_of width) c.other
+finished-harts c (Fail rd pc) number calls = reserving-harts (Nothing 0) c.other
 finished-harts c (Modify op rd width pc at v) number calls = written-harts at (size_of width) c.other
 finished-harts c Environment number calls = served-harts c (call_of c.regs calls)
 finished-harts c (Trap cause) number calls = refl

@@ -135,17 +135,17 @@ with_register_beside c pc rd v o h p q w = record {
 -- ---- reservations
 
 reservation-is : (width : Width) (at : ℕ) → IsNumber at → IsReservation (reservation width at)
-reservation-is Byte at h = tt
-reservation-is Half at h = tt
+reservation-is Byte at h = lit< tt
+reservation-is Half at h = lit< tt
 reservation-is Word at h = h
 reservation-is Double at h = h
 
-lost_if : (b : Bool) (r : Reservation) → IsReservation r → IsReservation (if b then Nothing else r)
-lost_if true r h = tt
+lost_if : (b : Bool) (r : Reservation) → IsReservation r → IsReservation (if b then Nothing 0 else r)
+lost_if true r h = lit< tt
 lost_if false r h = h
 
 left_by-is : (at len : ℕ) (r : Reservation) → IsReservation r → IsReservation (left_by at len r)
-left_by-is at len Nothing h = tt
+left_by-is at len (Nothing a) h = h
 left_by-is at len (WordAt a) h = lost_if (shares_block at len a) (WordAt a) h
 left_by-is at len (DoubleAt a) h = lost_if (shares_block at len a) (DoubleAt a) h
 
@@ -292,10 +292,10 @@ finished-keeps c (Reserve rd width pc at) n k h a p q =
     with_register_beside c pc rd (extended width Sign n) (reserving (reservation width at) c.other) h p.0 (extended-number width Sign n q)
     (reserving-is (reservation width at) c.other (reservation-is width at p.1) h.other)
 finished-keeps c (Conditional rd width pc at v) n k h a p q =
-    with_register_beside c pc rd 0 (reserving Nothing (written_past at (size_of width) c.other)) h p (lit< tt)
-    (reserving-is Nothing (written_past at (size_of width) c.other) tt (written_past-is at (size_of width) c.other h.other))
+    with_register_beside c pc rd 0 (reserving (Nothing 0) (written_past at (size_of width) c.other)) h p (lit< tt)
+    (reserving-is (Nothing 0) (written_past at (size_of width) c.other) (lit< tt) (written_past-is at (size_of width) c.other h.other))
 finished-keeps c (Fail rd pc) n k h a p q =
-    with_register_beside c pc rd 1 (reserving Nothing c.other) h p (lit< tt) (reserving-is Nothing c.other tt h.other)
+    with_register_beside c pc rd 1 (reserving (Nothing 0) c.other) h p (lit< tt) (reserving-is (Nothing 0) c.other (lit< tt) h.other)
 finished-keeps c (Modify op rd width pc at v) n k h a p q =
     with_register_beside c pc rd (extended width Sign n) (written_past at (size_of width) c.other) h p (extended-number width Sign n q)
     (written_past-is at (size_of width) c.other h.other)

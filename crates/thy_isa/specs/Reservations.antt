@@ -2,6 +2,8 @@
 -- What a hart has reserved, and what becomes of it. A load-reserved reserves the bytes that it reads, in place of what its
 -- hart had reserved before; a store-conditional writes only if exactly its bytes are reserved. A hart loses its reservation by
 -- its own store-conditional, and by each write of the other hart to the block of 64 bytes that it is in. Nothing else takes it.
+-- A hart that has reserved nothing has an address too, which means nothing: 0, unless an image has another one there. That
+-- one stays until the hart's next load-reserved or store-conditional.
 use Rattle.std.specs.Prelude.{ℕ, ◌+◌, ◌*◌, ◌/◌, ◌==◌, ◌&&◌, nat_lt, Bool, false, if◌then◌else◌, Option, Some, None}
 use Rattle.thy_isa.specs.declared.instr.Width.{Width}
 use Rattle.thy_isa.specs.declared.instr.Width.TheVariants.{Byte, Half, Word, Double}
@@ -11,14 +13,14 @@ use Rattle.thy_isa.specs.declared.state.Reservation.TheVariants.{Nothing, Word a
 
 -- the reservation of this many bytes at an address: a byte or a half is never reserved
 abbrev pub reservation : Width → ℕ → Reservation
-reservation Byte at = Nothing
-reservation Half at = Nothing
+reservation Byte at = Nothing 0
+reservation Half at = Nothing 0
 reservation Word at = WordAt at
 reservation Double at = DoubleAt at
 
 -- exactly these bytes are reserved
 abbrev pub is_reserved : Reservation → Width → ℕ → Bool
-is_reserved Nothing width at = false
+is_reserved (Nothing a) width at = false
 is_reserved (WordAt a) Byte at = false
 is_reserved (WordAt a) Half at = false
 is_reserved (WordAt a) Word at = a == at
@@ -35,9 +37,9 @@ shares_block at len a =
 
 -- what a write of these bytes by the other hart leaves of a reservation
 abbrev pub left_by : ℕ → ℕ → Reservation → Reservation
-left_by at len Nothing = Nothing
-left_by at len (WordAt a) = if shares_block at len a then Nothing else WordAt a
-left_by at len (DoubleAt a) = if shares_block at len a then Nothing else DoubleAt a
+left_by at len (Nothing a) = Nothing a
+left_by at len (WordAt a) = if shares_block at len a then Nothing 0 else WordAt a
+left_by at len (DoubleAt a) = if shares_block at len a then Nothing 0 else DoubleAt a
 
 -- the hart in front has written these bytes: what is left of the other one's reservation
 abbrev pub written_past : ℕ → ℕ → Option OtherHart → Option OtherHart
@@ -51,5 +53,5 @@ reserving r (Some o) = Some (record o { front = r })
 
 -- the reservation of the hart in front: with one hart there is none
 abbrev pub front_of : Option OtherHart → Reservation
-front_of None = Nothing
+front_of None = Nothing 0
 front_of (Some o) = o.front

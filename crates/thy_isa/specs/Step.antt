@@ -248,10 +248,10 @@ finished c (Conditional rd width pc at v) number calls = record c {
   pc = pc;
   regs = regs_with c.regs rd 0;
   count = c.count + 1;
-  other = reserving Nothing (written_past at (size_of width) c.other);
+  other = reserving (Nothing 0) (written_past at (size_of width) c.other);
 }
 finished c (Fail rd pc) number calls =
-    record c { pc = pc; regs = regs_with c.regs rd 1; count = c.count + 1; other = reserving Nothing c.other }
+    record c { pc = pc; regs = regs_with c.regs rd 1; count = c.count + 1; other = reserving (Nothing 0) c.other }
 finished c (Modify op rd width pc at v) number calls = record c {
   pc = pc;
   regs = regs_with c.regs rd (extended width Sign number);

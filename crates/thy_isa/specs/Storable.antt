@@ -22,9 +22,9 @@ IsStatus Running = Unit {0}
 IsStatus (Exited v) = v < 256
 IsStatus (Trapped v) = v < 8
 
--- an address is a number of 64 bits
+-- an address is a number of 64 bits, also one with which nothing is reserved
 abbrev pub IsReservation : Reservation → Type 0
-IsReservation Nothing = Unit {0}
+IsReservation (Nothing at) = IsNumber at
 IsReservation (Word at) = IsNumber at
 IsReservation (Double at) = IsNumber at
 

@@ -11,7 +11,7 @@ pub fn reservation(width: Width, at: u64) -> Reservation
     ensures { result ≡ reservation width at }
 {
     match width {
-        Width::Byte | Width::Half => Reservation::Nothing,
+        Width::Byte | Width::Half => Reservation::Nothing(0),
         Width::Word => Reservation::Word(at),
         Width::Double => Reservation::Double(at),
     }
@@ -22,7 +22,7 @@ pub fn is_reserved(reserved: Reservation, width: Width, at: u64) -> bool
     ensures { result ≡ is_reserved reserved width at }
 {
     match reserved {
-        Reservation::Nothing => false,
+        Reservation::Nothing(_) => false,
         Reservation::Word(a) => match width {
             Width::Word => a == at,
             Width::Byte | Width::Half | Width::Double => false,
@@ -39,7 +39,7 @@ pub fn front_of(other: &Option<OtherHart>) -> Reservation
     ensures { result ≡ front_of other.now }
 {
     match other {
-        None => Reservation::Nothing,
+        None => Reservation::Nothing(0),
         Some(other) => other.front,
     }
 }
@@ -57,17 +57,17 @@ fn left_by(at: u64, len: u64, reserved: Reservation) -> Reservation
     ensures { result ≡ left_by at len reserved }
 {
     match reserved {
-        Reservation::Nothing => Reservation::Nothing,
+        Reservation::Nothing(a) => Reservation::Nothing(a),
         Reservation::Word(a) => {
             if shares_block(at, len, a) {
-                Reservation::Nothing
+                Reservation::Nothing(0)
             } else {
                 Reservation::Word(a)
             }
         }
         Reservation::Double(a) => {
             if shares_block(at, len, a) {
-                Reservation::Nothing
+                Reservation::Nothing(0)
             } else {
                 Reservation::Double(a)
             }

@@ -36,7 +36,8 @@ pub enum Cause {
 /// What a hart has reserved: the bytes of its last load-reserved, by their width.
 #[derive(Clone, Copy, Debug, PartialEq, Eq)]
 pub enum Reservation {
-    Nothing,
+    /// No bytes. The address means nothing: it is 0, unless an image has another with a width of 0.
+    Nothing(u64),
     /// The 4 bytes at this address.
     Word(u64),
     /// The 8 bytes at this address.

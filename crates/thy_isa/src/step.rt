@@ -192,12 +192,12 @@ pub fn finish_alone(cpu: &mut CpuState, effect: &Effect, number: u64)
             cpu.pc = pc;
             cpu.regs.set(rd, 0);
             write_past(&mut cpu.other, at, bytes_in(width));
-            reserve(&mut cpu.other, Reservation::Nothing);
+            reserve(&mut cpu.other, Reservation::Nothing(0));
         }
         Effect::Fail { rd, pc } => {
             cpu.pc = pc;
             cpu.regs.set(rd, 1);
-            reserve(&mut cpu.other, Reservation::Nothing);
+            reserve(&mut cpu.other, Reservation::Nothing(0));
         }
         Effect::Modify {
             rd,

@@ -50,8 +50,8 @@ second_hart-is p entry top h = record {
   registers = length-second_regs p;
   numbers = second_regs-numbers p top;
   zero_register = second_regs-zero p;
-  front = tt;
-  back = tt;
+  front = lit< tt;
+  back = lit< tt;
 }
 
 if_other : (b : Bool) (o : OtherHart) → IsOther o → IsOtherOf (if b then Some o else None)

@@ -20,7 +20,7 @@ second_regs p = regs_with (regs_with (replicate 32 0) 2 (stack_top p - 2048)) 10
 
 -- hart 1, at the same entry
 abbrev pub second_hart : Parameters → ℕ → OtherHart
-second_hart p entry = record { pc = entry; regs = second_regs p; front = Nothing; back = Nothing }
+second_hart p entry = record { pc = entry; regs = second_regs p; front = Nothing 0; back = Nothing 0 }
 
 -- if there are two
 abbrev pub start_other : Parameters → ℕ → Option OtherHart

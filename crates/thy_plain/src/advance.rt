@@ -144,11 +144,11 @@ fn fail(state: &mut MachState, rd: Reg, pc: u64)
       pc = pc;
       regs = regs_with state.old.regs rd 1;
       count = state.old.count + 1;
-      other = reserving Nothing state.old.other;
+      other = reserving (Nothing 0) state.old.other;
     } }
 {
     state.regs.set(rd, 1);
-    reserve(&mut state.other, Reservation::Nothing);
+    reserve(&mut state.other, Reservation::Nothing(0));
     state.pc = pc;
     state.count += 1;
 }
@@ -193,7 +193,7 @@ fn perform_atomic(state: &mut MachState, setup: &Setup, effect: Effect)
                         write_number(&mut state.memory, (at - setup.base) as usize, width, value);
                         state.regs.set(rd, 0);
                         write_past(&mut state.other, at, bytes_in(width));
-                        reserve(&mut state.other, Reservation::Nothing);
+                        reserve(&mut state.other, Reservation::Nothing(0));
                         state.pc = pc;
                         state.count += 1;
                     } else {

@@ -55,8 +55,8 @@ fn start_other(geometry: &Geometry, entry: u64) -> Option<OtherHart>
         Some(OtherHart {
             pc: entry,
             regs: second_regs(geometry),
-            front: Reservation::Nothing,
-            back: Reservation::Nothing,
+            front: Reservation::Nothing(0),
+            back: Reservation::Nothing(0),
         })
     } else {
         None

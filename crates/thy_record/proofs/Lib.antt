@@ -16,3 +16,4 @@ pub mod IssuingLemmas
 pub mod IndexLemmas
 pub mod RestoredLemmas
 pub mod MigratedLemmas
+pub mod AgainLemmas

@@ -107,22 +107,22 @@ status_back (Trapped v) = refl
 
 -- a reservation's words
 place_fits : (r : Reservation) → IsReservation r → place_word r < 2 ^ 64
-place_fits Nothing h = omega arith
+place_fits (Nothing at) h = h
 place_fits (Word at) h = h
 place_fits (Double at) h = h
 
 width_fits : (r : Reservation) → width_word r < 2 ^ 64
-width_fits Nothing = omega arith
+width_fits (Nothing at) = omega arith
 width_fits (Word at) = omega arith
 width_fits (Double at) = omega arith
 
 reservation_back : (r : Reservation) → reservation_of (width_word r) (place_word r) ≡ r
-reservation_back Nothing = refl
+reservation_back (Nothing at) = refl
 reservation_back (Word at) = refl
 reservation_back (Double at) = refl
 
 pub is_width-word : (r : Reservation) → is_width (width_word r) ≡ true
-is_width-word Nothing = refl
+is_width-word (Nothing at) = refl
 is_width-word (Word at) = refl
 is_width-word (Double at) = refl
 

@@ -39,19 +39,19 @@ abbrev pub is_status : ℕ → ℕ → Bool
 is_status tag value =
     if tag == 0 then value == 0 else if tag == 1 then nat_le value 255 else tag == 2 && nat_le value 7
 
--- a reservation as two words: the width of its bytes, 0 if there is none, and their address
+-- a reservation as two words: the width of its bytes, 0 if there is none, and the address
 abbrev pub width_word : Reservation → ℕ
-width_word Nothing = 0
+width_word (Nothing at) = 0
 width_word (Word at) = 4
 width_word (Double at) = 8
 
 abbrev pub place_word : Reservation → ℕ
-place_word Nothing = 0
+place_word (Nothing at) = at
 place_word (Word at) = at
 place_word (Double at) = at
 
 abbrev pub reservation_of : ℕ → ℕ → Reservation
-reservation_of width at = if width == 4 then Word at else if width == 8 then Double at else Nothing
+reservation_of width at = if width == 4 then Word at else if width == 8 then Double at else Nothing at
 
 -- the reservations of both harts, and four zeros
 abbrev pub reserved_words : OtherHart → List ℕ

@@ -52,12 +52,12 @@ pub(crate) fn is_status(tag: u64, value: u64) -> bool
     }
 }
 
-// A reservation as two words, the width of its bytes and their address; zeros if there is none.
+// A reservation as two words, the width of its bytes, which is 0 if there is none, and the address.
 fn width(reservation: Reservation) -> u64
     ensures { result ≡ width_word reservation }
 {
     match reservation {
-        Reservation::Nothing => 0,
+        Reservation::Nothing(_) => 0,
         Reservation::Word(_) => 4,
         Reservation::Double(_) => 8,
     }
@@ -67,7 +67,7 @@ fn place(reservation: Reservation) -> u64
     ensures { result ≡ place_word reservation }
 {
     match reservation {
-        Reservation::Nothing => 0,
+        Reservation::Nothing(at) => at,
         Reservation::Word(at) => at,
         Reservation::Double(at) => at,
     }
@@ -80,7 +80,7 @@ pub(crate) fn reservation_from(width: u64, at: u64) -> Reservation
     match width {
         4 => Reservation::Word(at),
         8 => Reservation::Double(at),
-        _ => Reservation::Nothing,
+        _ => Reservation::Nothing(at),
     }
 }
 

@@ -1,5 +1,5 @@
 //! Laws of the tables, of images and of what leaves them alone, each the contract of a function that does nothing.
-ghost use Rattle.thy_record.specs.BackLaws.{HeaderReadsBack, CommitReadsBack, RecordReadsBack, EntriesReadBack, TablesReadBack};
+ghost use Rattle.thy_record.specs.BackLaws.{HeaderReadsBack, CommitReadsBack, RecordReadsBack, RecordIsWrittenAgain, EntriesReadBack, TablesReadBack};
 ghost use Rattle.thy_record.specs.ImageLaws.{FaultlessTables, BlocksHavePlaces, PlacesAreOwn, EntriesAreBlock, SlotReadsBack, FileDecodes, WrittenDecodes, DecodedIsWhole, LookedDecides, CeilingGrows, FilledUpDecodes};
 ghost use Rattle.thy_record.specs.Issuing.{ListedHomeIsUnused, PagedHomeIsUnused, EmptyEntryIsUnused, EmptyPageIsUnused, FreeIsNotLooked, NothingIsLooked, PlacedIsMemory, MemoryIsPlaced};
 ghost use Rattle.thy_record.specs.Migrated.{AnewMeansTheSame};
@@ -33,6 +33,12 @@ pub fn header_and_commit_read_back()
 /// the geometry has, 32 registers of each, of which register 0 is zero, and numbers of 64 bits.
 pub fn record_reads_back()
     ensures { RecordReadsBack }
+{}
+
+/// A record without a fault that is read and then written, with its epoch, has the same words, the address of a reservation of no
+/// bytes among them.
+pub fn a_record_is_written_again()
+    ensures { RecordIsWrittenAgain }
 {}
 
 /// A block of a table reads back as it was written, entry by entry; and so do both tables from their blocks in a slot,

@@ -34,11 +34,11 @@ pub use file::{Found, check};
 pub use file_blocks::block_in;
 pub use header::{HEADER_MAGIC, VERSION, harts_word, header_block, header_fault};
 pub use laws::{
-    a_slot_anew_means_the_same, ceiling_grows, decoded_is_whole, each_block_has_its_place,
-    faultless_tables, file_decodes, filled_up_decodes, free_is_not_looked_at,
-    header_and_commit_read_back, looked_decides, memory_is_read_at_its_places, record_reads_back,
-    refusals_name_the_first_entries, slot_reads_back, tables_read_back, unused_places,
-    written_decodes,
+    a_record_is_written_again, a_slot_anew_means_the_same, ceiling_grows, decoded_is_whole,
+    each_block_has_its_place, faultless_tables, file_decodes, filled_up_decodes,
+    free_is_not_looked_at, header_and_commit_read_back, looked_decides,
+    memory_is_read_at_its_places, record_reads_back, refusals_name_the_first_entries,
+    slot_reads_back, tables_read_back, unused_places, written_decodes,
 };
 pub use restored::{state, state_at};
 pub use slot::{

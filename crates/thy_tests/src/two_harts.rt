@@ -103,12 +103,17 @@ fn a_conditional_store_of_reserved_bytes_stores(rt: HostRuntime) {
         &rt,
         &plain,
         Reservation::Double(69632),
-        Reservation::Nothing,
+        Reservation::Nothing(0),
     );
     keeps(&rt, &plain, 0, 0);
     let plain = after(&rt, rt.alloc(), &ADDS, &[0, 0, 0, 0]);
     hold(&rt, &plain, 12, 0, 0);
-    have_reserved(&rt, &plain, Reservation::Nothing, Reservation::Nothing);
+    have_reserved(
+        &rt,
+        &plain,
+        Reservation::Nothing(0),
+        Reservation::Nothing(0),
+    );
     keeps(&rt, &plain, 1, 0);
     stands(&rt, plain.state(), Status::Running, 4);
 }
@@ -132,7 +137,12 @@ fn who_stores_first_takes_the_others_reservation(rt: HostRuntime) {
     let reserved = Reservation::Double(69632);
     have_reserved(&rt, &plain, reserved, reserved);
     let plain = after(&rt, rt.alloc(), &ADDS, &[0, 0, 0, 1, 1, 1, 1]);
-    have_reserved(&rt, &plain, Reservation::Nothing, Reservation::Nothing);
+    have_reserved(
+        &rt,
+        &plain,
+        Reservation::Nothing(0),
+        Reservation::Nothing(0),
+    );
     let plain = after(&rt, rt.alloc(), &ADDS, &[0, 0, 0, 1, 1, 1, 1, 0]);
     hold(&rt, &plain, 12, 1, 0);
     keeps(&rt, &plain, 1, 0);
@@ -177,7 +187,12 @@ static OTHER_WIDTH: [u32; 5] = [0x00011337, 0x00100293, 0x100325AF, 0x1853362F, 
 #[test]
 fn a_conditional_store_of_another_width_uses_the_reservation_up(rt: HostRuntime) {
     let plain = after(&rt, rt.alloc(), &OTHER_WIDTH, &[0, 0, 0]);
-    have_reserved(&rt, &plain, Reservation::Word(69632), Reservation::Nothing);
+    have_reserved(
+        &rt,
+        &plain,
+        Reservation::Word(69632),
+        Reservation::Nothing(0),
+    );
     let plain = after(&rt, rt.alloc(), &OTHER_WIDTH, &[0, 0, 0, 0, 0]);
     hold(&rt, &plain, 12, 1, 0);
     hold(&rt, &plain, 13, 1, 0);
@@ -246,7 +261,7 @@ fn a_write_takes_the_others_reservation_of_its_blocks(rt: HostRuntime) {
         let kept = if *stays {
             reserved
         } else {
-            Reservation::Nothing
+            Reservation::Nothing(0)
         };
         let other = second(&rt, &plain);
         expect_at(&rt, (other.front, other.back), (kept, reserved), *word);
@@ -271,7 +286,7 @@ fn bytes_that_are_read_take_the_others_reservation_of_their_blocks(rt: HostRunti
         let kept = if *stays {
             reserved
         } else {
-            Reservation::Nothing
+            Reservation::Nothing(0)
         };
         have_reserved(&rt, &plain, kept, reserved);
     }

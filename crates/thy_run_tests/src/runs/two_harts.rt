@@ -380,3 +380,46 @@ fn a_saved_run_of_two_harts_has_both_records(rt: HostRuntime) -> Result<(), Fail
     compare(&rt, line, &given, 5, "", b"image 4 Geometry\n");
     Ok(())
 }
+
+/// Where words 72 to 79 of the record stand in slot 0 of such an image, which begins at block 1048: they are its tenth block.
+const RESERVED: usize = 67_648;
+
+/// Those words if neither hart has reserved anything, with the addresses 0x123450 and 0x11008. The second one is in the block
+/// that hart 0 writes to.
+static ADDRESSES: [u8; 64] = [
+    0x00, 0x00, 0x00, 0x00, 0x00, 0x00, 0x00, 0x00, 0x50, 0x34, 0x12, 0x00, 0x00, 0x00, 0x00, 0x00,
+    0x00, 0x00, 0x00, 0x00, 0x00, 0x00, 0x00, 0x00, 0x08, 0x10, 0x01, 0x00, 0x00, 0x00, 0x00, 0x00,
+    0x00, 0x00, 0x00, 0x00, 0x00, 0x00, 0x00, 0x00, 0x00, 0x00, 0x00, 0x00, 0x00, 0x00, 0x00, 0x00,
+    0x00, 0x00, 0x00, 0x00, 0x00, 0x00, 0x00, 0x00, 0x00, 0x00, 0x00, 0x00, 0x00, 0x00, 0x00, 0x00,
+];
+
+/// The run stops before its seal at cycle 710, with the checkpoint of epoch 0. What is resumed from it ends with that of epoch
+/// 1, in slot 1, which begins 13 blocks after slot 0.
+#[test]
+fn addresses_with_nothing_reserved_are_saved_again(rt: HostRuntime) -> Result<(), Fail> {
+    let alloc = rt.alloc();
+    let file = file_of(alloc, 0, &SECOND_EXITS)?;
+    let mut shelf = shelf_of(alloc, &[("H", file.as_slice())])?;
+    let line = "thynvm run H --pages 8 --btt 8 --ptt 8 --harts 2 --limit 700 --save D";
+    let given = called_on(alloc, line, &mut shelf, &[], &[])?;
+    expect_at(&rt, given.status, 8, line);
+    let mut image = shelf
+        .fetch(alloc, "D", 67_108_864)
+        .expect(&rt, "a saved image");
+    for (i, byte) in ADDRESSES.iter().enumerate() {
+        if let Some(place) = image.get_mut(RESERVED.saturating_add(i)) {
+            *place = *byte;
+        }
+    }
+    assert!(rt; shelf.put(alloc, "D", image.as_slice()).is_ok());
+    let line = "thynvm resume D --pages 8 --btt 8 --ptt 8 --harts 2 --save D";
+    let given = called_on(alloc, line, &mut shelf, &[], &[])?;
+    expect_at(&rt, given.status, 0, line);
+    let saved = shelf
+        .fetch(alloc, "D", 67_108_864)
+        .expect(&rt, "a saved image");
+    assert!(rt; saved.len() == 68_736);
+    let words = &saved.as_slice()[68_480..68_544];
+    expect_at(&rt, words, ADDRESSES.as_slice(), line);
+    Ok(())
+}
