@@ -46,7 +46,7 @@ use Rattle.thy_core_laws.proofs.EpochLemmas.{few-moves}
 use Rattle.thy_core_laws.proofs.KeepsLaws.{up_after}
 use Rattle.thy_core_laws.proofs.LawfulLaws.{boots_phase}
 use Rattle.thy_core_laws.proofs.SmallLaws.{small_step}
-use Rattle.thy_core_laws.proofs.WorkLaws.{booting_no_more}
+use Rattle.thy_core_laws.proofs.WorkLaws.{booting_no_more, uses_none}
 
 -- ---- the view of a boot
 
@@ -236,6 +236,7 @@ module _ {S : Type 0} (K : SchemeOf S) (o : Origin) (cycles : ℕ) (m : Machine 
           entries = omega (arith, unreserved, clean);
         };
         works = record { done = tt; left = booting_no_more K DidBoot (in_boot o m) (after_boot o GoesOn t (in_boot o m)) n new };
+        dirties = inl (uses_none K (in_boot o m) (after_boot o GoesOn t (in_boot o m)) n new (omega arith) refl);
         exhausts = λ moved. absurd (cc);
         read = λ empty. b.read;
         still = λ found r current. b.still found r.done current;
@@ -280,6 +281,7 @@ module _ {S : Type 0} (K : SchemeOf S) (o : Origin) (cycles : ℕ) (m : Machine 
           entries = omega (arith, clean);
         };
         works = works;
+        dirties = inl (uses_none K (in_boot o m) next n new (omega arith) (sym blank.hand));
         exhausts = λ moved. absurd (other moved);
         read = λ empty. read_in K o next new runs;
         still = λ found r current. still found r.done current;

@@ -23,7 +23,7 @@ use Rattle.thy_core_laws.specs.Machine.{Machine, view_in, view_of, gauge_in, boo
 use Rattle.thy_core_laws.specs.Sound.{IsSmall, SoundBoot, SoundIn, Sound}
 use Rattle.thy_core_laws.specs.Calls.{after_drain}
 use Rattle.thy_core_laws.specs.Rows.{SimulatesCycle, At}
-use Rattle.thy_core_laws.proofs.WorkLaws.{booting_no_more}
+use Rattle.thy_core_laws.proofs.WorkLaws.{booting_no_more, uses_none}
 
 pub view-boot : {S : Type 0} (K : SchemeOf S) (o : Origin) (m : Machine S) (n : Device) → m.phase ≡ Boot → view_of K o m n ≡ K.boot_view o m.scheme n
 view-boot K o m n e = ap (λ phase. view_in K o phase m n) e
@@ -101,6 +101,7 @@ simulates-booting {S} K o cycles did m n t new at-m phase other up boots small s
       };
       works = subst (λ x. Works did (gauge_in K x m n) (gauge_in K x (after_drain t m) new) n new (K.dram m.scheme) (K.dram t)) (sym phase)
           (record { done = done; left = booting_no_more K did m (after_drain t m) n new });
+      dirties = inl (uses_none K m (after_drain t m) n new (omega arith) refl);
       exhausts = λ e. absurd (other e);
       read = λ e. ap (λ x. has_read_in K x (after_drain t m)) phase ∙ read e;
       still = λ found r current. still found (sym (ap (λ (v : View). v.done) old-view) ∙ r.done) current;

@@ -42,6 +42,8 @@ promotion_simulates {S} K = λ o cycles m n t new at sealing whole p.
           let promoted_is = number_behind m.phase (K.promotions_left t) behind in
           (omega (arith, promoted_was, promoted_is, nearer), p.writes);
       left = left_on K Promoted m n t (m.spent + 1) new p.keeps (λ e. p.owes);
+      fewer = omega arith;
+      hand = refl;
       exhausts = λ is. absurd (cc);
     })
 
@@ -81,5 +83,7 @@ merge_simulates {S} K = λ o cycles m n t at sealing whole clean p.
       strides = refl;
       done = inr p.writes;
       left = left_on K Merged m n t (m.spent + 1) n p.keeps (λ e. p.owes);
+      fewer = omega arith;
+      hand = refl;
       exhausts = λ is. absurd (cc);
     })

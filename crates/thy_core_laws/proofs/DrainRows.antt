@@ -58,6 +58,8 @@ module _ {S : Type 0} (K : SchemeOf S) (o : Origin) (cycles : ℕ) (m : Machine 
         strides = refl;
         done = tt;
         left = left_on K NvmDrained m n m.scheme m.spent (drained n) (holds.drained_keeps some) (λ e. holds.drained_owes some);
+        fewer = omega arith;
+        hand = refl;
         exhausts = λ is. absurd (cc);
       })
 
@@ -79,6 +81,8 @@ dram_drain_simulates {S} K = λ o cycles m n t at behind some drains.
       strides = refl;
       done = tt;
       left = left_on K DramDrained m n t m.spent n drains.keeps (λ e. drains.owes);
+      fewer = omega arith;
+      hand = refl;
       exhausts = λ is. absurd (cc);
     })
 
@@ -110,6 +114,8 @@ halt_simulates {S} K = λ o cycles m n at phase.
       strides = refl;
       done = tt;
       left = left_on K Nothing m n m.scheme m.spent n (keeps_itself K m.scheme n) (λ e. omega arith);
+      fewer = omega arith;
+      hand = refl;
       exhausts = λ is. absurd (cc);
     })
 

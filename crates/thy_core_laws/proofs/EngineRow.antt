@@ -92,6 +92,8 @@ module _ {S : Type 0} (K : SchemeOf S) (o : Origin) (cycles : ℕ) (m : Machine 
         strides = refl;
         done = done;
         left = left_on K (Engine step) m n t (m.spent + 1) new keeps (λ e. owes);
+        fewer = omega arith;
+        hand = refl;
         exhausts = λ is. absurd (cc);
       })
 
@@ -147,6 +149,8 @@ module _ {S : Type 0} (K : SchemeOf S) (o : Origin) (cycles : ℕ) (m : Machine 
         strides = refl;
         done = tt;
         left = left_behind next (Engine CommitWritten) e.keeps (λ none. e.owes) refl refl refl;
+        fewer = omega arith;
+        hand = refl;
         exhausts = λ moved. absurd (cc);
       })
 
@@ -210,6 +214,8 @@ module _ {S : Type 0} (K : SchemeOf S) (o : Origin) (cycles : ℕ) (m : Machine 
         strides = refl;
         done = tt;
         left = left_behind next did e.keeps (λ none. absurd (cc)) refl refl refl;
+        fewer = omega arith;
+        hand = refl;
         exhausts = λ moved. absurd (cc);
       })
 

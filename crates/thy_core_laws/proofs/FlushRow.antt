@@ -192,5 +192,7 @@ flush_simulates {S} K = λ o cycles m n c t new flushed at sealing whole f.
         owed_in_all = λ e. omega (arith, owed, later);
         promotions = λ e. omega (arith, promotions);
       };
+      fewer = g.less.fewer;
+      hand = refl;
       exhausts = λ is. absurd (cc);
     })

@@ -7,13 +7,15 @@ use Rattle.thy_base.specs.declared.config.Parameters.{Parameters}
 use Rattle.thy_base.specs.Device.{Device}
 use Rattle.thy_cache.specs.Contents.{Contents, dirty_count}
 use Rattle.thy_epoch.specs.Epoch.{Epoch, over_after, retired_once, exhausted, HasRetired}
+use Rattle.thy_flat.specs.declared.span.Span.{Span}
+use Rattle.thy_isa.specs.declared.state.Effect.{Effect}
 use Rattle.thy_isa.specs.OnBlocks.{setting_for}
 use Rattle.thy_isa.specs.Step.{state_with, fronted, is_running, step}
 use Rattle.thy_hart.specs.declared.hand.Hand.{Hand}
 use Rattle.thy_hart.specs.declared.hand.Hand.TheVariants.{Nothing, Reading, Reserving, Writing, Retiring}
 use Rattle.thy_hart.specs.declared.hand.HartStep.{HartStep}
 use Rattle.thy_hart.specs.declared.hand.HartStep.TheVariants.{Moved, Retired, Waiting, Over}
-use Rattle.thy_hart.specs.HartState.{HartState, reserved, blocks_of}
+use Rattle.thy_hart.specs.HartState.{HartState, reserved, has_reserved, blocks_of}
 use Rattle.thy_hart.specs.Outcomes.{Given, given}
 use Rattle.thy_hart.specs.Moments.{Moment, moment, brings_line, left_behind, moves_left}
 use Rattle.thy_hart.specs.OneStep.{current, ComesNearer, HasCome, answer_to}
@@ -28,13 +30,13 @@ use Rattle.thy_view.specs.Dram.{WritesBlock}
 use Rattle.thy_view.specs.Kind.{without_memory}
 use Rattle.thy_view.specs.Origin.{Origin, turn_at, at, runs_at}
 use Rattle.thy_view.specs.Pace.{Gauge}
-use Rattle.thy_view.specs.Stores.{stored_by}
+use Rattle.thy_view.specs.Stores.{blocks_in, stored_by, UsesEntries, ReservesEntries, Dirties}
 use Rattle.thy_view.specs.Turn.{Advances, Shortage, HandsOn, begun_by, over_by}
 use Rattle.thy_view.specs.Work.{MovesOn}
 use Rattle.thy_scheme.specs.Scheme.{SchemeOf}
 use Rattle.thy_scheme.specs.Calls.{owed_in}
 use Rattle.thy_scheme.specs.SchemeStore.{held_by_scheme}
-use Rattle.thy_core_laws.specs.Machine.{Machine, cpu_fronted, run_view, view_of, moment_of, memory_of, pressure_of, short_of, moves_begun, moves_while, gauge_in}
+use Rattle.thy_core_laws.specs.Machine.{Machine, cpu_fronted, run_view, view_of, moment_of, memory_of, pressure_of, short_of, moves_begun, moves_while, gauge_in, gauge_of}
 use Rattle.thy_core_laws.specs.Pace.{instructions_left, flushes_left, hart_left, cycles_left}
 use Rattle.thy_core_laws.specs.Sound.{OpenNow, IsToWrite, IsFresh, StartsFresh}
 use Rattle.thy_core_laws.specs.Calls.{IsAsked, HartCall, begun_by_hart, hart_did, after_hart}
@@ -45,7 +47,7 @@ use Rattle.thy_core_laws.proofs.EpochLemmas.{retired-on, few-begun}
 use Rattle.thy_core_laws.proofs.HandLaws.{hand_writes}
 use Rattle.thy_core_laws.proofs.WorkLaws.{moves_over}
 use Rattle.thy_core_laws.proofs.Facts.{view-run, sound-run, holds-run, is-going}
-use Rattle.thy_core_laws.proofs.ToldLemmas.{shortage, IsRetired, IsMoved, IsExhausted, IsWaiting, Told, told}
+use Rattle.thy_core_laws.proofs.ToldLemmas.{shortage, IsRetired, KeepsEntries, TakesEntries, EntriesBy, IsMoved, IsExhausted, IsWaiting, Told, told}
 use Rattle.thy_core_laws.proofs.HartRow.{hart_on, IsOn, is-on, IsNext, simulates-next}
 
 -- ---- the view, by the parts of the hart that it shows
@@ -194,6 +196,62 @@ moves-on old new W on = elim on as (λ _. new.moves ≤ old.moves) [
   | inr same ↦ omega (arith, same.0)
 ]
 
+-- ---- the lines that are dirty
+
+-- once an instruction has ended nothing is reserved
+ended-entries : {S : Type 0} (K : SchemeOf S) (m : Machine S) (n : Device) (hart lap : ℕ) (last : Option ℕ) (h : HartState) (c : Contents) (t : S) (new : Device)
+    → h.hand ≡ Nothing → dirty_count c ≤ dirty_count m.cache + (reserved m.hart.hand - reserved h.hand)
+    → UsesEntries (pressure_of K m) (pressure_of K (hart_on hart true lap last h c t m)) (gauge_of K m n) (gauge_of K (hart_on hart true lap last h c t m) new)
+ended-entries K m n hart lap last h c t new gone tidy =
+    let none : reserved h.hand ≡ 0 = ap reserved gone in
+    record { entries = omega (arith, none); lines = omega (arith, none, tidy); once = λ some. absurd (some refl) }
+
+-- what is to be written next lies in as many blocks as the plain machine's instruction stores to
+blocks-stored : (stored : Span) (e : Effect) (to : Span) (hand : Hand) → IsToWrite stored hand → hand ≡ Reserving e to → blocks_of to ≡ blocks_in stored
+blocks-stored stored e to hand writes is =
+    let w : IsToWrite stored (Reserving e to) = subst (IsToWrite stored) is writes in
+    sym (ap (λ (b : Bool). if b then 0 else blocks_of to) w.1) ∙ ap blocks_in w.0
+
+module _ {S : Type 0} (K : SchemeOf S) (o : Origin) (m : Machine S) (n : Device) (hart lap : ℕ) (last : Option ℕ) (h : HartState) (c : Contents) (t : S) (new : Device)
+    (tidy : dirty_count c ≤ dirty_count m.cache + (reserved m.hart.hand - reserved h.hand)) where
+  -- an instruction that goes on
+  goes-entries : KeepsEntries m.hart.hand h.hand
+      → UsesEntries (pressure_of K m) (pressure_of K (hart_on hart false lap last h c t m)) (gauge_of K m n) (gauge_of K (hart_on hart false lap last h c t m) new)
+  goes-entries kept =
+      let less = kept.entries in
+      record { entries = omega (arith, less); lines = omega (arith, less, tidy); once = λ some. kept.once }
+
+  -- one that reserves entries is begun
+  takes-entries : ((b : ℕ) → m.begun ≡ Some b → b ≡ hart) → (m.begun ≡ None → m.hart.hand ≡ Nothing)
+      → IsToWrite (stored_by o (fronted hart (at o m.hart.cpu.count))) m.hart.hand → TakesEntries m.hart.hand h.hand
+      → ReservesEntries o (run_view m) (pressure_of K m) (pressure_of K (hart_on hart false lap last h c t m)) (gauge_of K m n) (gauge_of K (hart_on hart false lap last h c t m) new)
+  takes-entries own rests writes taken =
+      let zero : reserved m.hart.hand ≡ 0 = ap reserved taken.was in
+      record {
+        hart = hart;
+        is_begun = begun_is m.begun refl;
+        none = omega (arith, zero);
+        entries = ap (λ k. dirty_count c + k)
+            (ap reserved taken.becomes ∙ blocks-stored (stored_by o (fronted hart (at o m.hart.cpu.count))) taken.effect taken.span m.hart.hand writes taken.was);
+        lines = omega (arith, zero, tidy);
+        had_not = ap has_reserved taken.was;
+        has = ap has_reserved taken.becomes;
+      }
+    where
+      begun_is : (begun : Option ℕ) → m.begun ≡ begun → m.begun ≡ Some hart
+      begun_is None is = absurd (let no : Nothing ≡ Reserving taken.effect taken.span = sym (rests is) ∙ taken.was in cc)
+      begun_is (Some b) is = is ∙ ap Some (own b is)
+
+  -- what a step that moves on makes of them
+  moved-dirties : ((b : ℕ) → m.begun ≡ Some b → b ≡ hart) → (m.begun ≡ None → m.hart.hand ≡ Nothing)
+      → IsToWrite (stored_by o (fronted hart (at o m.hart.cpu.count))) m.hart.hand → EntriesBy m.hart.hand h.hand
+      → Dirties o (run_view m) DidMove (pressure_of K m) (pressure_of K (hart_on hart false lap last h c t m)) (gauge_of K m n) (gauge_of K (hart_on hart false lap last h c t m) new)
+  moved-dirties own rests writes entries =
+      elim entries as (λ _. Dirties o (run_view m) DidMove (pressure_of K m) (pressure_of K (hart_on hart false lap last h c t m)) (gauge_of K m n) (gauge_of K (hart_on hart false lap last h c t m) new)) [
+        | inl kept ↦ inl (goes-entries kept)
+        | inr taken ↦ inr (refl, takes-entries own rests writes taken)
+      ]
+
 -- what the step leaves in hand is to write what it was to write
 step-writes : {S : Type 0} (K : SchemeOf S) (o : Origin) (cycles : ℕ) (m : Machine S) (n : Device) (hart : ℕ) (h : HartState) (c : Contents) (t : S) (new : Device) (s : HartStep)
     → At K o cycles m n → HartAdvances K o m n hart → HartCall K (given o.input (K.free m.scheme) (K.under_way m.scheme)) (begun_by_hart hart m) n h c t new s
@@ -241,8 +299,9 @@ moved-next K o cycles m n hart h c t new at-m turn hs mv =
       fresh =
           let old : m.hart.epoch.retired ≡ 0 → IsFresh m.hart.hand (dirty_count m.cache) (K.storeless m.scheme)
           = subst (λ x. StartsFresh x m.hart.epoch.retired m.hart.hand (dirty_count m.cache) (K.storeless m.scheme)) going.going run.paced.fresh in
+          let tidy : reserved m.hart.hand ≡ 0 → dirty_count c ≤ dirty_count m.cache = λ none. omega (arith, hs.tidy, none) in
           subst (λ x. StartsFresh x h.epoch.retired h.hand (dirty_count c) (K.storeless t)) (sym over)
-          (λ zero. mv.fresh (dirty_count m.cache) (dirty_count c) (K.storeless m.scheme) (K.storeless t) (old (sym (ap (λ (x : Epoch). x.retired) mv.epoch) ∙ zero)) hs.tidy hs.rests);
+          (λ zero. mv.fresh (dirty_count m.cache) (dirty_count c) (K.storeless m.scheme) (K.storeless t) (old (sym (ap (λ (x : Epoch). x.retired) mv.epoch) ∙ zero)) tidy hs.rests);
       strides = λ idle ends. absurd (ends over);
       writes = subst (λ i. IsToWrite (stored_by o (fronted hart (at o i))) h.hand) (sym count) writes;
       spent = moved-spent K o.geometry m n hart (m.lap + 0) m.last h c t new going.going mv.epoch on.engine (on.holds.promotions on.whole) w.owed on.owed_later begun.moves w.nears;
@@ -253,6 +312,7 @@ moved-next K o cycles m n hart h c t new at-m turn hs mv =
       acts = moved-acts K m.scheme n t new hs.asked on.up;
       retires = λ e. absurd (cc);
       exhausts = λ _. over ∙ sym (ap over_by mv.enough);
+      dirties = moved-dirties K o m n hart (m.lap + 0) m.last h c t new hs.tidy turn.own run.front.rests begun.writes mv.entries;
     }
 
 -- ---- the epoch is exhausted
@@ -327,8 +387,8 @@ exhausted-next K o cycles m n hart h c t new free dd need at-m turn hs ex =
           let was = old (sym (ap (λ (x : Epoch). x.retired) ex.epoch) ∙ zero) in
           let clean = fresh-short (K.free m.scheme) (dirty_count m.cache) m.hart.hand (shortage free dd need) (dirty_count m.cache) (K.storeless m.scheme) ex.short was in
           let unreserved = short-reserved (K.free m.scheme) (dirty_count m.cache) m.hart.hand (shortage free dd need) ex.short in
-          let tidy = hs.tidy unreserved in
-          (omega (arith, tidy, clean.0), hs.rests clean.0 ∙ clean.1));
+          let tidy = hs.tidy in
+          (omega (arith, tidy, unreserved, clean.0), hs.rests clean.0 ∙ clean.1));
       strides = λ idle ends.
           (let some = exhausted-once K o cycles m n (dirty_count m.cache) free dd need at-m turn.goes ex.idle ex.short ex.is_short.short ex.is_short.most refl idle in
           omega (arith, some, ap (λ (x : Epoch). x.retired) ex.epoch));
@@ -341,6 +401,7 @@ exhausted-next K o cycles m n hart h c t new free dd need at-m turn hs ex =
       acts = moved-acts K m.scheme n t new hs.asked on.up;
       retires = λ e. absurd (cc);
       exhausts = λ _. over ∙ sym (ap over_by ex.short);
+      dirties = inl (ended-entries K m n hart (m.lap + 0) m.last h c t new w.leads.hand hs.tidy);
     }
 
 -- ---- an instruction retires, of the hart whose turn it is
@@ -422,6 +483,7 @@ retired-next K o cycles m n hart h c t new s over at-m turn hs rt come closed f 
       acts = record { action = Rest; asked = refl; left = (hs.untouched rt.touches).1 };
       retires = λ _. ap K.dram (hs.untouched rt.touches).0;
       exhausts = λ e. absurd (cc);
+      dirties = inl (ended-entries K m n hart (m.lap + 1) (Some hart) h c t new come.hand hs.tidy);
     }
   where
     retired-spent : (over : Option EndCause) → IsRetired (brings_line (moment_of K (begun_by_hart hart m) n)) (begun_by_hart hart m).hart h over → HasRetired h.epoch.span h.epoch.retired h.epoch.over

@@ -19,14 +19,14 @@ use Rattle.thy_view.specs.CoreStep.{CoreStep}
 use Rattle.thy_view.specs.Dram.{ActsOnDram, LeavesDram, WritesBlock}
 use Rattle.thy_view.specs.Origin.{Origin, at, runs_at}
 use Rattle.thy_view.specs.Pace.{KeepsPace}
-use Rattle.thy_view.specs.Stores.{stored_by}
+use Rattle.thy_view.specs.Stores.{stored_by, Dirties}
 use Rattle.thy_view.specs.Turn.{has_stopped, over_by}
 use Rattle.thy_view.specs.Work.{begins_instruction, GetsDone, Works}
 use Rattle.thy_view.proofs.ActionLemmas.{acts_by}
 use Rattle.thy_scheme.specs.Scheme.{SchemeOf}
 use Rattle.thy_scheme.specs.Calls.{queued_in, OwesNoMore}
 use Rattle.thy_scheme.specs.Laws.{RunHolds}
-use Rattle.thy_core_laws.specs.Machine.{Machine, cpu_fronted, run_view, view_of, moment_of, memory_of, shortage_of, moves_while, gauge_in, gauge_of, has_read_in}
+use Rattle.thy_core_laws.specs.Machine.{Machine, cpu_fronted, run_view, view_of, moment_of, memory_of, shortage_of, pressure_of, moves_while, gauge_in, gauge_of, has_read_in}
 use Rattle.thy_core_laws.specs.Pace.{cycles_left, most_spent}
 use Rattle.thy_core_laws.specs.Sound.{IsSmall, OpenNow, IsFront, state_in_front, IsToWrite, IsCounted, StartsFresh, IsPaced, SoundRun, SoundIn}
 use Rattle.thy_core_laws.specs.Calls.{IsAsked, HartCall, begun_by_hart}
@@ -125,6 +125,7 @@ pub record IsNext {S : Type 0} (K : SchemeOf S) (o : Origin) (cycles : ℕ) (m :
   pub owed : OwesNoMore K m.scheme n t new
   pub exhausts : did ≡ DidMove → h.epoch.over ≡ over_by (shortage_of K m)
   pub retires : did ≡ DidRetire hart → K.dram t ≡ K.dram m.scheme
+  pub dirties : Dirties o (run_view m) did (pressure_of K m) (pressure_of K (hart_on hart ended lap last h c t m)) (gauge_of K m n) (gauge_of K (hart_on hart ended lap last h c t m) new)
 
 -- a hart's step is told as one
 abbrev pub IsHarts : ℕ → Did → Type 0
@@ -265,6 +266,7 @@ simulates-next K o cycles m n hart ended lap last did h c t new s at turn hs har
           (next-pace K o cycles m n hart ended lap last did h c t new turn.goes.phase harts on run'.paced));
       works = subst (λ p. Works did (gauge_in K p m n) (gauge_in K p (hart_on hart ended lap last h c t m) new) n new (K.dram m.scheme) (K.dram t)) (sym turn.goes.phase)
           (next-works K o cycles m n hart ended lap last did h c t new on x);
+      dirties = subst (λ v. Dirties o v did (pressure_of K m) (pressure_of K (hart_on hart ended lap last h c t m)) (gauge_of K m n) (gauge_of K (hart_on hart ended lap last h c t m) new)) (sym old-view) x.dirties;
       exhausts = λ e. ap (λ v. v.over) new-view ∙ x.exhausts e;
       read = λ e. ap (λ phase. has_read_in K phase (hart_on hart ended lap last h c t m)) turn.goes.phase;
       still = λ found r current. absurd (let both : Run ≡ Boot = sym turn.goes.phase ∙ sym (ap (λ (v : View). v.phase) old-view) ∙ r.phase in cc);

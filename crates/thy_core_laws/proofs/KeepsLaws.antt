@@ -34,7 +34,7 @@ use Rattle.thy_core_laws.specs.Pace.{instructions_left, flushes_left, hart_left,
 use Rattle.thy_core_laws.specs.Sound.{OpenFor, OpenNow, IsFront, state_in_front, IsHeld, IsCounted, IsEpoch, StartsFresh, IsPaced, IsSmall, SoundRun, SoundIn, Sound}
 use Rattle.thy_core_laws.specs.Rows.{SimulatesCycle, At}
 use Rattle.thy_core_laws.proofs.SmallLaws.{small_step}
-use Rattle.thy_core_laws.proofs.WorkLaws.{NoMore, moves_same, leaves_no_more}
+use Rattle.thy_core_laws.proofs.WorkLaws.{NoMore, moves_same, leaves_no_more, uses_none}
 
 -- ---- behind the boot
 
@@ -92,6 +92,8 @@ pub record GoesOn {S : Type 0} (K : SchemeOf S) (o : Origin) (did : Did) (m : Ma
   pub strides : StridesOn did m.hart.epoch.retired m.idle next.idle
   pub done : GetsDone did (gauge_of K m n) (gauge_of K next new) (WritesBlock n new (K.dram m.scheme) (K.dram next.scheme))
   pub left : NoMore K did m n next new
+  pub fewer : dirty_count next.cache ≤ dirty_count m.cache
+  pub hand : next.hart.hand ≡ m.hart.hand
   pub exhausts : did ≡ Moved → next.hart.epoch.over ≡ over_by (pressure_of K m).short
 
 module _ {S : Type 0} (K : SchemeOf S) (o : Origin) (cycles : ℕ) (did : Did)
@@ -128,6 +130,7 @@ module _ {S : Type 0} (K : SchemeOf S) (o : Origin) (cycles : ℕ) (did : Did)
           entries = g.moment.held.room;
         };
         works = record { done = g.done; left = leaves_no_more K did m n next new behind g.behind g.left };
+        dirties = inl (uses_none K m next n new g.fewer g.hand);
         exhausts = λ is. ap (λ (v : View). v.over) now ∙ g.exhausts is;
         read = λ nothing. has_read_is K o next.phase next g.behind;
         still = λ found r current. absurd (behind (sym (ap (λ (v : View). v.phase) old) ∙ r.phase));

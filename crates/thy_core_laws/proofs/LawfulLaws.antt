@@ -19,7 +19,7 @@ use Rattle.thy_view.specs.declared.view.Phase.TheVariants.{Boot, Run, Halt}
 use Rattle.thy_view.specs.declared.view.View.{View}
 use Rattle.thy_view.specs.Kind.{IsPoweredOn, IsUnderWay, IsShortage, IsPressed}
 use Rattle.thy_view.specs.Origin.{Origin}
-use Rattle.thy_view.specs.Stores.{blocks_in, stored_by, needs_at}
+use Rattle.thy_view.specs.Stores.{blocks_in, stored_by, needs_at, CountsLines}
 use Rattle.thy_view.specs.Turn.{Shortage, front_of}
 use Rattle.thy_view.specs.Views.{is_boot}
 use Rattle.thy_view.specs.Work.{IsWithin}
@@ -106,6 +106,7 @@ powered_on K l o k m n s on empty =
     ap (λ p. own_left (most_spent K o.geometry) p (view_of K o m n) (gauge_of K m n)) phase in
     record {
       queued = omega (arith, none, queued);
+      clean = omega (arith, on.blank.clean, ap reserved on.blank.hand);
       boot_left = omega (arith, boots, left);
       ahead = omega (arith, none, queued, left, boots, own);
     }
@@ -187,7 +188,16 @@ module _ {S : Type 0} (K : SchemeOf S) (o : Origin) (m : Machine S) (n : Device)
         promotions = omega (arith, promotions, most_promotions);
       }
 
+  -- while no instruction is begun none is in hand, so nothing is reserved
+  counts_by : (m.begun ≡ None → m.hart.hand ≡ Nothing) → CountsLines (pressure_of K m) (gauge_of K m n)
+  counts_by rests = record { lines = omega arith; unreserved = λ none. omega (arith, ap reserved (rests none)) }
+
   -- ---- in each phase
+
+  counts_in : (phase : Phase) → SoundIn K o phase m n → CountsLines (pressure_of K m) (gauge_of K m n)
+  counts_in Boot booting = counts_by (λ none. booting.blank.hand)
+  counts_in Run run = counts_by run.front.rests
+  counts_in Halt run = counts_by run.front.rests
 
   short_in : (phase : Phase) (s : Shortage) → SoundIn K o phase m n → shortage_of K m ≡ Some s
       → IsShortage o (view_in K o phase m n) m.begun (gauge_of K m n) s
@@ -215,6 +225,7 @@ pressed_at K l o k m n sound = record {
   under_way = way_in K o m n l sound.up m.phase sound.moment;
   barred = refl;
   short = λ s. short_in K o m n l sound.up m.phase s sound.moment;
+  counts = counts_in K o m n l sound.up m.phase sound.moment;
   few = few_in K o m n l sound.up m.phase sound.moment;
 }
 

@@ -237,5 +237,7 @@ seal_simulates {S} K = λ o cycles m n t cause at sealing whole bare clean over_
       done = tt;
       left = record { moves = λ e. absurd (cc); owed = λ e. absurd (cc); owed_in_all = λ e. absurd (cc); promotions = λ e. absurd (cc) };
       strides = (λ idle. s.paced.strides idle (λ none. absurd (cc)), refl);
+      fewer = omega arith;
+      hand = refl;
       exhausts = λ is. absurd (cc);
     })

@@ -68,6 +68,7 @@ simulating_is_step K o cycles pick m next n new r at simulates at_next turn hand
   dram = simulates.dram;
   pace = simulates.pace;
   works = simulates.works;
+  dirties = simulates.dirties;
   nears = cycles_come_nearer (most_spent K o.geometry) o (view_of K o m n) (view_of K o next new) r.did (gauge_of K m n) (gauge_of K next new)
       (fresh_in K at.lawful o cycles m n at.sound m.phase refl) simulates.step simulates.pace;
   exhausts = simulates.exhausts;

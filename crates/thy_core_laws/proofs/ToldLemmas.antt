@@ -1,12 +1,12 @@
 -- What the hart's answer tells of the epoch and of the room.
-use Rattle.std.proofs.Common.{◌≡◌, ℕ, ◌+◌, ◌==◌, ◌≤◌, Bool, true, false, if◌then◌else◌, Option, Some, None, is_some, List, [], length, refl, sym, ◌∙◌, ap, subst, arith}
+use Rattle.std.proofs.Common.{◌≡◌, ◌⊎◌, ℕ, ◌+◌, ◌==◌, ◌≤◌, Bool, true, false, if◌then◌else◌, Option, Some, None, is_some, List, [], length, refl, sym, ◌∙◌, ap, subst, inl, inr, arith}
 use Rattle.std.proofs.lemmas.Bool.{ltb-true}
 use Rattle.thy_base.specs.declared.block.Block.{Block}
 use Rattle.thy_base.specs.declared.cause.EndCause.{EndCause}
 use Rattle.thy_base.specs.declared.cause.EndCause.TheVariants.{Length, Exhausted, Ended}
 use Rattle.thy_epoch.specs.Epoch.{over_after, retired_once, exhausted}
 use Rattle.thy_flat.specs.declared.span.Span.{Span}
-use Rattle.thy_flat.specs.Spans.{rest_of}
+use Rattle.thy_flat.specs.Spans.{head_len, rest_of}
 use Rattle.thy_isa.specs.declared.state.Effect.{Effect}
 use Rattle.thy_isa.specs.OnBlocks.{calls_in, effect_in}
 use Rattle.thy_isa.specs.Moves.{moves_of}
@@ -15,10 +15,11 @@ use Rattle.thy_hart.specs.declared.hand.Hand.{Hand}
 use Rattle.thy_hart.specs.declared.hand.Hand.TheVariants.{Nothing, Reading, Reserving, Writing, Retiring}
 use Rattle.thy_hart.specs.declared.hand.HartStep.{HartStep}
 use Rattle.thy_hart.specs.declared.hand.HartStep.TheVariants.{Moved, Retired, Waiting, Over}
-use Rattle.thy_hart.specs.HartState.{HartState, block_for, blocks_of, reserved}
+use Rattle.thy_hart.specs.HartState.{HartState, block_for, blocks_of, reserved, has_reserved}
 use Rattle.thy_hart.specs.Outcomes.{Given, begun, written_on, fetched, is_short, room_reserved, room_answer, cpu_retired, retired, over_or_retired, acted_by, answer_by}
 use Rattle.thy_hart.specs.Moments.{Moment, memory_of, is_missing, brings_line}
 use Rattle.thy_hart.specs.OneStep.{hart_after, answer_to}
+use Rattle.thy_hart.proofs.HandLemmas.{written_by, blocks_of-two, blocks_of-most}
 use Rattle.thy_cache.specs.Contents.{dirty_count}
 use Rattle.thy_view.specs.CoreStep.{IsShort}
 use Rattle.thy_view.specs.Turn.{Shortage}
@@ -45,10 +46,27 @@ pub record IsExhausted (g : Given) (dirty free d need : ℕ) (old new : HartStat
   pub is_short : IsShort free d need
   pub idle : g.under_way ≡ false
 
+-- no entry is reserved, and those of the instruction were reserved if they were before
+pub record KeepsEntries (old new : Hand) : Type 0 where
+  pub entries : reserved new ≤ reserved old
+  pub once : has_reserved new ≡ has_reserved old
+
+-- entries are reserved for what is to be written
+pub record TakesEntries (old new : Hand) : Type 0 where
+  pub effect : Effect
+  pub span : Span
+  pub was : old ≡ Reserving effect span
+  pub becomes : new ≡ Writing effect span 0
+
+-- what a step that moves on makes of the entries of the instruction in hand
+abbrev pub EntriesBy : Hand → Hand → Type 0
+EntriesBy old new = KeepsEntries old new ⊎ TakesEntries old new
+
 pub record IsMoved (g : Given) (dirty : ℕ) (old new : HartState) : Type 0 where
   pub epoch : new.epoch ≡ old.epoch
   pub enough : short_of g.free dirty old.hand ≡ None
   pub fresh : KeepsFresh old.hand new.hand
+  pub entries : EntriesBy old.hand new.hand
 
 pub record IsWaiting (g : Given) (dirty : ℕ) (old : HartState) : Type 0 where
   pub way : g.under_way ≡ true
@@ -104,7 +122,36 @@ fresh-written e to done d s = by_len (to.len == 0)
     by_len true = tt
     by_len false = tt
 
+-- ---- entries
+
+-- an effect that begins or continues after a read reserves none
+entries-begun : (old : Hand) (e : Effect) (from to : Span) → has_reserved old ≡ false → KeepsEntries old (begun e from to)
+unfolding begun
+entries-begun old e from to had-not = by_len (from.len == 0) (to.len == 0)
+  where
+    by_len : (a b : Bool) → KeepsEntries old (if a then (if b then Retiring e false else Reserving e to) else Reading e from to)
+    by_len true true = record { entries = omega arith; once = sym had-not }
+    by_len true false = record { entries = omega arith; once = sym had-not }
+    by_len false b = record { entries = omega arith; once = sym had-not }
+
+-- nor does one that continues after a written block
+entries-written : (old : Hand) (e : Effect) (to : Span) (done now : ℕ) → old ≡ Writing e to done → KeepsEntries old (written_on e (rest_of to) now)
+entries-written old e to done now is =
+    written_by (λ hand. KeepsEntries old hand) e (rest_of to) now
+    (λ some. record { entries = omega (arith, ap reserved is, blocks_of-two to some, blocks_of-most (rest_of to)); once = sym (ap has_reserved is) })
+    (λ end. record { entries = omega arith; once = sym (ap has_reserved is) })
+
+entries-same : (h : Hand) → KeepsEntries h h
+entries-same h = record { entries = omega arith; once = refl }
+
 -- ---- each micro-step
+
+fetched-entries : (input : List ℕ) (memory : List Block) (h : HartState) → h.hand ≡ Nothing → KeepsEntries h.hand (fetched input memory h).hand
+unfolding fetched
+fetched-entries input memory h none =
+    let e = effect_in h.geometry h.cpu memory in
+    let moves = moves_of h.cpu.regs (calls_in h.geometry h.cpu (length input)) e in
+    entries-begun h.hand e moves.from moves.to (ap has_reserved none)
 
 fetched-on : (input : List ℕ) (memory : List Block) (h : HartState) → CarriesOn (fetched input memory h).hand
 unfolding fetched
@@ -121,6 +168,7 @@ fetched-told b g dirty m none = record {
   fresh =
       let next = (fetched g.input (memory_of m) m.hart).hand in
       subst (λ h. KeepsFresh h next) (sym none) (early Nothing next refl (λ d r f. f) (fetched-on g.input (memory_of m) m.hart));
+  entries = inl (fetched-entries g.input (memory_of m) m.hart none);
 }
 
 over-never : (running : Bool) (span retired : ℕ) (b : Bool) (g : Given) (dirty : ℕ) (old new : HartState)
@@ -168,6 +216,7 @@ reserved-told b g dirty h e to is = by_room (is_short g.free dirty to) refl g.un
       epoch = refl;
       enough = ap (short_of g.free dirty) is ∙ ap (λ t. if t then Some (shortage g.free dirty (blocks_of to)) else None) s;
       fresh = λ d _ r _ f tidy rests. tt;
+      entries = inr (record { effect = e; span = to; was = is; becomes = refl });
     }
 
 acted-told : (g : Given) (m : Moment) (hand : Hand) → m.hart.hand ≡ hand → brings_line m ≡ false
@@ -177,12 +226,14 @@ acted-told g m (Reading e from to) is touches = record {
   epoch = refl;
   enough = ap (short_of g.free (dirty_count m.cache)) is;
   fresh = subst (λ h. KeepsFresh h (begun e (rest_of from) to)) (sym is) (early (Reading e from to) (begun e (rest_of from) to) refl (λ d r f. f) (fresh-begun e (rest_of from) to));
+  entries = inl (entries-begun m.hart.hand e (rest_of from) to (ap has_reserved is));
 }
 acted-told g m (Reserving e to) is touches = reserved-told (brings_line m) g (dirty_count m.cache) m.hart e to is
 acted-told g m (Writing e to done) is touches = record {
   epoch = refl;
   enough = ap (short_of g.free (dirty_count m.cache)) is;
   fresh = λ d x r s f tidy rests. fresh-written e (rest_of to) _ x s;
+  entries = inl (entries-written m.hart.hand e to done (done + head_len to) is);
 }
 acted-told g m (Retiring e wrote) is touches =
     over-never (is_running (cpu_retired g.input e m.hart).status) m.hart.epoch.span (m.hart.epoch.retired + 1) (brings_line m) g (dirty_count m.cache) m.hart (retired g.input e m.hart) refl touches refl
@@ -203,5 +254,5 @@ told g m = by_line (brings_line m) refl
     by_line : (b : Bool) → brings_line m ≡ b
         → Told (if b then Moved else answer_by g (dirty_count m.cache) m.hart m.hart.hand) (brings_line m) g (dirty_count m.cache) m.hart
         (if b then m.hart else acted_by g (dirty_count m.cache) (memory_of m) m.hart m.hart.hand)
-    by_line true e = record { epoch = refl; enough = brought-short g m (dirty_count m.cache) m.hart.hand refl e; fresh = fresh-same m.hart.hand }
+    by_line true e = record { epoch = refl; enough = brought-short g m (dirty_count m.cache) m.hart.hand refl e; fresh = fresh-same m.hart.hand; entries = inl (entries-same m.hart.hand) }
     by_line false e = acted-told g m m.hart.hand refl e

@@ -1,15 +1,19 @@
--- What is left of an instruction, of copies and of promotions, in each phase, and what a call of the scheme leaves of it.
+-- What is left of an instruction, of copies and of promotions, in each phase, and what a call of the scheme leaves of it; and
+-- what a cycle leaves of the dirty lines that does not touch the hart.
 use Rattle.std.proofs.Common.{◌≡◌, ◌≢◌, ℕ, ◌≤◌, false, Option, Some, None, refl, ap, arith}
 use Rattle.thy_base.specs.declared.cause.EndCause.{EndCause}
 use Rattle.thy_base.specs.Device.{Device}
+use Rattle.thy_cache.specs.Contents.{dirty_count}
+use Rattle.thy_hart.specs.HartState.{reserved, has_reserved}
 use Rattle.thy_hart.specs.Moments.{Moment, moves_left}
 use Rattle.thy_view.specs.declared.did.Did.{Did}
 use Rattle.thy_view.specs.declared.view.Phase.{Phase}
 use Rattle.thy_view.specs.declared.view.Phase.TheVariants.{Boot, Run, Halt}
+use Rattle.thy_view.specs.Stores.{UsesEntries}
 use Rattle.thy_view.specs.Work.{begins_instruction, begins_epoch, adds_copies, LeavesNoMore}
 use Rattle.thy_scheme.specs.Scheme.{SchemeOf}
 use Rattle.thy_scheme.specs.Calls.{owed_in, OwesNoMore}
-use Rattle.thy_core_laws.specs.Machine.{Machine, moment_of, moves_begun, moves_while, moves_in, after_boot_only, gauge_in, gauge_of}
+use Rattle.thy_core_laws.specs.Machine.{Machine, moment_of, moves_begun, moves_while, moves_in, after_boot_only, pressure_of, gauge_in, gauge_of}
 
 -- ---- moves
 
@@ -76,3 +80,12 @@ pub booting_no_more : {S : Type 0} (K : SchemeOf S) (did : Did) (m next : Machin
     → LeavesNoMore did (gauge_in K Boot m n) (gauge_in K Boot next new)
 booting_no_more K did m next n new =
     record { moves = λ e. omega arith; owed = λ e. omega arith; owed_in_all = λ e. omega arith; promotions = λ e. omega arith }
+
+-- ---- dirty lines
+
+-- with the instruction in hand as it was, and no more dirty lines, no entry is reserved
+pub uses_none : {S : Type 0} (K : SchemeOf S) (m next : Machine S) (n new : Device) → dirty_count next.cache ≤ dirty_count m.cache → next.hart.hand ≡ m.hart.hand
+    → UsesEntries (pressure_of K m) (pressure_of K next) (gauge_of K m n) (gauge_of K next new)
+uses_none K m next n new fewer same =
+    let kept : reserved next.hart.hand ≡ reserved m.hart.hand = ap reserved same in
+    record { entries = omega (arith, kept); lines = omega (arith, fewer, kept); once = λ begun. ap has_reserved same }

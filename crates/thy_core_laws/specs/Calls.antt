@@ -1,5 +1,5 @@
 -- What the calls of hart and cache leave of the machine, and the machine after each cycle.
-use Rattle.std.specs.Prelude.{◌≡◌, ◌≢◌, ◌⊎◌, ℕ, ◌+◌, ◌==◌, ◌≤◌, if◌then◌else◌, not, true, false, Bool, Option, Some, None}
+use Rattle.std.specs.Prelude.{◌≡◌, ◌≢◌, ◌⊎◌, ℕ, ◌+◌, ◌-◌, ◌==◌, ◌≤◌, if◌then◌else◌, not, true, false, Bool, Option, Some, None}
 use Rattle.thy_base.specs.declared.cause.EndCause.{EndCause}
 use Rattle.thy_base.specs.declared.cause.EndCause.TheVariants.{Length, Exhausted, Ended}
 use Rattle.thy_base.specs.Device.{Device}
@@ -44,8 +44,8 @@ pub record HartCall {S : Type 0} (K : SchemeOf S) (g : Given) (m : Machine S) (n
   pub asked : IsAsked K m.scheme n t new
   pub stays : K.stays m.scheme n t new
   pub untouched : brings_line (moment_of K m n) ≡ false → (t ≡ m.scheme) × (new ≡ n)
-  -- no line becomes dirty before room is reserved, and without a dirty line nothing is stored
-  pub tidy : reserved m.hart.hand ≡ 0 → dirty_count c ≤ dirty_count m.cache
+  -- a line becomes dirty only as room that was reserved is used for it, and without a dirty line nothing is stored
+  pub tidy : dirty_count c ≤ dirty_count m.cache + (reserved m.hart.hand - reserved h.hand)
   pub rests : dirty_count m.cache ≡ 0 → K.storeless t ≡ K.storeless m.scheme
 
 -- a step of a flush left this cache and scheme; it was not the last

@@ -8,7 +8,7 @@ use Rattle.thy_cache.specs.Contents.{Contents, dirty_count}
 use Rattle.thy_cache.specs.Flat.{flat}
 use Rattle.thy_hart.specs.declared.hand.Hand.{Hand}
 use Rattle.thy_hart.specs.declared.hand.Hand.TheVariants.{Nothing, Reading, Reserving, Writing, Retiring}
-use Rattle.thy_hart.specs.HartState.{HartState, blocks_of, reserved}
+use Rattle.thy_hart.specs.HartState.{HartState, blocks_of, reserved, has_reserved as hand_reserved}
 use Rattle.thy_isa.specs.declared.state.CpuState.{CpuState}
 use Rattle.thy_isa.specs.Step.{cpu_crossed}
 use Rattle.thy_hart.specs.Moments.{Moment, moment, moves_left}
@@ -156,6 +156,7 @@ gauge_in K phase m n = record {
   queued = length n.queue + K.queued m.scheme;
   free = K.free m.scheme;
   dirty = dirty_count m.cache + reserved m.hart.hand;
+  has_reserved = hand_reserved m.hart.hand;
   moves = moves_in phase m.hart.epoch.over m.begun (moment_of K m n);
   owed = after_boot_only phase (K.holding m.scheme n).owed;
   owed_later = after_boot_only phase (K.owed_later m.scheme);

@@ -20,6 +20,7 @@ use Rattle.thy_view.specs.CoreStep.{CoreStep}
 use Rattle.thy_view.specs.Dram.{LeavesDram}
 use Rattle.thy_view.specs.Origin.{Origin}
 use Rattle.thy_view.specs.Pace.{KeepsPace}
+use Rattle.thy_view.specs.Stores.{Dirties}
 use Rattle.thy_view.specs.Told.{HasTurn}
 use Rattle.thy_view.specs.Turn.{Advances, HandsOn, stall_in, over_by}
 use Rattle.thy_view.specs.Views.{IsRestarting}
@@ -34,7 +35,8 @@ use Rattle.thy_core_laws.specs.Sound.{Sound}
 use Rattle.thy_core_laws.specs.Calls.{HartCall, FlushCall, begun_by_hart, hart_did, after_hart, after_flush, after_call, after_drain, after_seal, after_engine, after_boot}
 
 -- a cycle that did this leads to the next moment: by a step of the view, one action of both devices, and within bounds,
--- and gets done what it says; in a boot that found a checkpoint it leaves the NVM as it was, unless the scheme migrates
+-- and gets done what it says; lines become dirty only as the instruction in hand stores to them; in a boot that found a
+-- checkpoint it leaves the NVM as it was, unless the scheme migrates
 pub record SimulatesCycle {S : Type 0} (K : SchemeOf S) (o : Origin) (cycles : ℕ) (did : Did) (m : Machine S) (n : Device) (next : Machine S) (new : Device) : Type 0 where
   pub at_next : Sound K o (cycles + 1) next new
   pub step : CoreStep o (view_of K o m n) did (view_of K o next new)
@@ -42,6 +44,7 @@ pub record SimulatesCycle {S : Type 0} (K : SchemeOf S) (o : Origin) (cycles : �
   pub dram : LeavesDram did n new (K.dram m.scheme) (K.dram next.scheme)
   pub pace : KeepsPace (most_spent K o.geometry) (view_of K o m n) (view_of K o next new) did (gauge_of K m n) (gauge_of K next new)
   pub works : Works did (gauge_of K m n) (gauge_of K next new) n new (K.dram m.scheme) (K.dram next.scheme)
+  pub dirties : Dirties o (view_of K o m n) did (pressure_of K m) (pressure_of K next) (gauge_of K m n) (gauge_of K next new)
   pub exhausts : did ≡ Moved → (view_of K o next new).over ≡ over_by (pressure_of K m).short
   pub read : n.queue ≡ [] → has_read_of K next ≡ true
   pub still : (found : Mark) → IsRestarting (view_of K o m n) found → K.migrates m.scheme ≡ false → new ≡ n

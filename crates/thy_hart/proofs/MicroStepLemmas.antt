@@ -12,7 +12,7 @@ use Rattle.thy_hart.specs.declared.hand.HartStep.TheVariants.{Moved}
 use Rattle.thy_hart.specs.HartState.{HartState, block_for, fetched_block, reserved, IsWriting}
 use Rattle.thy_hart.specs.Outcomes.{Given, block_written, acted_by, answer_by, memory_by, touched, written_by, cache_by}
 use Rattle.thy_hart.specs.MicroSteps.{FetchesIn, ReadsIn, WritesIn, IsMicroStep}
-use Rattle.thy_hart.proofs.HandLemmas.{blocks_of-least, written_on-reserved}
+use Rattle.thy_hart.proofs.HandLemmas.{written_on-reserved}
 
 pub IsMicroStep-fetch : (g : Given) (c d : Contents) (old new : HartState) → old.hand ≡ Nothing → FetchesIn g.input c old new → reserved new.hand ≡ 0 → KeepsLines c d
     → d ≡ touched c (fetched_block old.geometry old.cpu) → IsMicroStep g c d old new Moved
@@ -22,7 +22,7 @@ IsMicroStep-fetch g c d old new is fetches unreserved lines cache = record {
   memory = λ blocks whole. lines.flat blocks ∙ ap (memory_by old.bytes (flat c blocks)) (sym is);
   agree = lines.agree;
   room = λ room. omega (arith, lines.dirty, unreserved, room);
-  tidy = λ _. omega (arith, lines.dirty);
+  tidy = omega (arith, lines.dirty);
   cache = cache ∙ ap (cache_by c old) (sym is);
   untouched = λ none. cache ∙ ap (touched c) (sym (ap (block_for old.geometry old.cpu) is) ∙ none);
   sized = lines.sized;
@@ -36,7 +36,7 @@ IsMicroStep-read g c d old new e from to is reads unreserved lines cache = recor
   memory = λ blocks whole. lines.flat blocks ∙ ap (memory_by old.bytes (flat c blocks)) (sym is);
   agree = lines.agree;
   room = λ room. omega (arith, lines.dirty, unreserved, room);
-  tidy = λ _. omega (arith, lines.dirty);
+  tidy = omega (arith, lines.dirty);
   cache = cache ∙ ap (cache_by c old) (sym is);
   untouched = λ none. let e = sym (ap (block_for old.geometry old.cpu) is) ∙ none in cc e;
   sized = lines.sized;
@@ -52,7 +52,7 @@ IsMicroStep-write g c d old new e to done is writing hart memory agree dirty siz
   memory = λ blocks whole. memory blocks whole ∙ ap (memory_by old.bytes (flat c blocks)) (sym is);
   agree = agree;
   room = λ room. omega (arith, room, dirty, ap reserved is, ap (λ (h : HartState). reserved h.hand) hart, written_on-reserved e to (done + head_len to) writing.span_to.short);
-  tidy = λ none. absurd (omega (arith, none, ap reserved is, blocks_of-least to));
+  tidy = omega (arith, dirty, ap reserved is, ap (λ (h : HartState). reserved h.hand) hart, written_on-reserved e to (done + head_len to) writing.span_to.short);
   cache = cache ∙ ap (cache_by c old) (sym is);
   untouched = λ none. let e = sym (ap (block_for old.geometry old.cpu) is) ∙ none in cc e;
   sized = sized;

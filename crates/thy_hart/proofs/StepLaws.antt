@@ -75,7 +75,7 @@ IsStep-brought g b h c d old new r is miss w =
       written = λ e. e;
       others = λ x _. ap (λ m. block_at m x) w.memory;
       brought = λ x _ at. subst (λ y. BringsLine (victim_of c y) y c old d) (some_same b x (sym is ∙ at)) w.line;
-      tidy = λ _. w.tidy;
+      tidy = omega (arith, w.tidy);
       used = λ no. let e = sym brought ∙ no in cc e;
       alone = λ no. let e = sym brought ∙ no in cc e;
       untouched = λ none. let e = sym is ∙ none in cc e;

@@ -75,6 +75,14 @@ to_reserve (Reserving e to) = Some (blocks_of to)
 to_reserve (Writing e to done) = None
 to_reserve (Retiring e wrote) = None
 
+-- it has reserved room for the blocks that it writes
+abbrev pub has_reserved : Hand → Bool
+has_reserved Nothing = false
+has_reserved (Reading e from to) = false
+has_reserved (Reserving e to) = false
+has_reserved (Writing e to done) = true
+has_reserved (Retiring e wrote) = wrote
+
 -- it has written a block
 abbrev pub has_written : Hand → Bool
 has_written Nothing = false

@@ -1,5 +1,5 @@
 -- The parts of a hart as one state, and what a micro-step makes of them over every store of blocks.
-use Rattle.std.specs.Prelude.{◌≡◌, ℕ, ◌+◌, ◌<◌, ◌≤◌, true, false, List, length, Option, Some, None}
+use Rattle.std.specs.Prelude.{◌≡◌, ℕ, ◌+◌, ◌-◌, ◌<◌, ◌≤◌, true, false, List, length, Option, Some, None}
 use Rattle.thy_base.specs.declared.block.Block.{Block}
 use Rattle.thy_base.specs.declared.config.Parameters.{Parameters}
 use Rattle.thy_base.specs.Geometry.{memory_blocks}
@@ -71,7 +71,7 @@ pub record IsMicroStep (g : Given) (c d : Contents) (old new : HartState) (step 
       → flat d blocks ≡ memory_by old.bytes (flat c blocks) old.hand
   pub agree : AgreesStill c d
   pub room : dirty_count c + reserved old.hand ≤ g.free → dirty_count d + reserved new.hand ≤ g.free
-  pub tidy : reserved old.hand ≡ 0 → dirty_count d ≤ dirty_count c
+  pub tidy : dirty_count d ≤ dirty_count c + (reserved old.hand - reserved new.hand)
   pub cache : d ≡ cache_by c old old.hand
   pub untouched : next_block old ≡ None → d ≡ c
   pub sized : KeepsSize c d

@@ -1,5 +1,5 @@
 -- One step of the hart.
-use Rattle.std.specs.Prelude.{◌≡◌, ◌⊎◌, ℕ, ◌+◌, ◌≤◌, true, false, if◌then◌else◌, List, ◌++◌, drop, Some, None}
+use Rattle.std.specs.Prelude.{◌≡◌, ◌⊎◌, ℕ, ◌+◌, ◌-◌, ◌≤◌, true, false, if◌then◌else◌, List, ◌++◌, drop, Some, None}
 use Rattle.thy_base.specs.declared.block.Block.{Block}
 use Rattle.thy_base.specs.declared.cause.EndCause.{EndCause}
 use Rattle.thy_base.specs.declared.cause.EndCause.TheVariants.{Length, Exhausted, Ended}
@@ -139,8 +139,8 @@ pub record IsStep (g : Given) (old new : Moment) (step : HartStep) : Type 0 wher
   pub brought : (b : ℕ) → brings_line old ≡ true → next_block old.hart ≡ Some b
       → BringsLine (victim_of old.cache b) b old.cache old.held new.cache
   pub used : brings_line old ≡ false → new.cache ≡ cache_by old.cache old.hart old.hart.hand
-  -- no line becomes dirty before its room is reserved
-  pub tidy : reserved old.hart.hand ≡ 0 → dirty_count new.cache ≤ dirty_count old.cache
+  -- a line becomes dirty only as room that was reserved is used for it
+  pub tidy : dirty_count new.cache ≤ dirty_count old.cache + (reserved old.hart.hand - reserved new.hart.hand)
   -- the store is left alone if no line is brought, and the cache if no block is touched
   pub alone : brings_line old ≡ false → new.held ≡ old.held
   pub untouched : next_block old.hart ≡ None → new.cache ≡ old.cache

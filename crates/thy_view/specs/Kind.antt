@@ -32,7 +32,7 @@ use Rattle.thy_view.specs.Safe.{ceiling, Safe}
 use Rattle.thy_view.specs.Action.{ActsBy, ActionFailedBy, doubt_after_fault}
 use Rattle.thy_view.specs.Dram.{LeavesDram}
 use Rattle.thy_view.specs.Pace.{Gauge, retires, KeepsPace}
-use Rattle.thy_view.specs.Stores.{needs_at}
+use Rattle.thy_view.specs.Stores.{needs_at, CountsLines, Dirties}
 use Rattle.thy_view.specs.Told.{told, AgreeBelow, reach, IsThere, HasTurn}
 use Rattle.thy_view.specs.Turn.{Turn, Shortage, Pressure, HandsOn, turn_of, over_by}
 use Rattle.thy_view.specs.Views.{IsRestarting, is_boot, is_between, is_halt, halts, loads, doubt_of}
@@ -130,6 +130,8 @@ pub record IsPressed {M : Type 0} (K : KindOf M) (o : Origin) (m : M) (n : Devic
   pub barred : (K.pressure m).barred ≡ ((K.pressure m).under_way && not K.overlaps)
   -- a shortage is a real one
   pub short : (s : Shortage) → (K.pressure m).short ≡ Some s → IsShortage o (K.view o m n) (K.pressure m).begun (K.gauge m n) s
+  -- the dirty lines are counted, and what is reserved
+  pub counts : CountsLines (K.pressure m) (K.gauge m n)
   -- what is left of an instruction, to be copied and to be promoted is bounded
   pub few : IsWithin (K.most_owed o.geometry) (K.most_promotions o.geometry) (K.gauge m n)
 
@@ -137,9 +139,10 @@ pub record IsPressed {M : Type 0} (K : KindOf M) (o : Origin) (m : M) (n : Devic
 -- a power cut then leaves is the committed checkpoint, whole, or the one in doubt. A step that finds an empty queue,
 -- as the boot's first does, reads the commit block if that is still to be read. It acts on the device once, or reads
 -- it and writes one block of the DRAM, keeps within the bounds, decreases the measure `ahead` unless the machine has
--- halted or an instruction retires, and completes what it reports. The pressure on the machine before it, which decides
--- its turn, is as reported. In a boot that found a checkpoint it leaves the device as it was, unless the machine
--- migrates; and whatever a cut then leaves is that checkpoint.
+-- halted or an instruction retires, and completes what it reports. Lines of the cache become dirty only as the
+-- instruction in hand stores to them. The pressure on the machine before it, which decides its turn, is as reported. In a
+-- boot that found a checkpoint it leaves the device as it was, unless the machine migrates; and whatever a cut then leaves
+-- is that checkpoint.
 pub record IsStep {M : Type 0} (K : KindOf M) (o : Origin) (k : ℕ) (pick : Pick) (m next : M) (n new : Device) (r : Stepped) : Type 0 where
   pub at_next : K.is_at o (k + 1) next new
   pub step : CoreStep o (K.view o m n) r.did (K.view o next new)
@@ -150,6 +153,7 @@ pub record IsStep {M : Type 0} (K : KindOf M) (o : Origin) (k : ℕ) (pick : Pic
   pub dram : LeavesDram r.did n new (K.dram m) (K.dram next)
   pub pace : KeepsPace (K.most_spent o.geometry) (K.view o m n) (K.view o next new) r.did (K.gauge m n) (K.gauge next new)
   pub works : Works r.did (K.gauge m n) (K.gauge next new) n new (K.dram m) (K.dram next)
+  pub dirties : Dirties o (K.view o m n) r.did (K.pressure m) (K.pressure next) (K.gauge m n) (K.gauge next new)
   pub nears : is_halt (K.view o m n).phase ≡ false → K.ahead o next new + 1 ≤ K.ahead o m n + K.most_each o.geometry * retires r.did
   pub exhausts : r.did ≡ Moved → (K.view o next new).over ≡ over_by (K.pressure m).short
   pub ended : r.ended ≡ halts (K.view o m n) (K.view o next new)
@@ -254,6 +258,7 @@ pub record IsFittedFor {M : Type 0} (K : KindOf M) (o : Origin) (shape : Shape) 
 -- a machine whose power has just come on, over a device with an empty queue
 pub record IsPoweredOn {M : Type 0} (K : KindOf M) (o : Origin) (m : M) (n : Device) : Type 0 where
   pub queued : (K.gauge m n).queued ≡ 0
+  pub clean : (K.gauge m n).dirty ≡ 0
   pub boot_left : (K.gauge m n).boot_left ≤ K.most_booting o.geometry
   pub ahead : K.ahead o m n ≤ K.most_ahead o.geometry
 
@@ -277,7 +282,7 @@ pub record IsLawful {M : Type 0} (K : KindOf M) : Type 0 where
   pub recovers : (o : Origin) (k : ℕ) (m next : M) (n : Device) (pick : ℕ) (g : List Block)
       → K.is_at o k m n → K.powered o.geometry next → Crash n g
       → K.is_at o k next (cut_to n pick g) × (K.view o next (cut_to n pick g) ≡ view_of_image o.start.count (K.decode o.geometry ceiling g))
-  -- when power comes on nothing is queued, and what lies ahead is bounded
+  -- when power comes on nothing is queued, no line is dirty, and what lies ahead is bounded
   pub powered_on : (o : Origin) (k : ℕ) (m : M) (n : Device)
       → K.is_at o k m n → K.powered o.geometry m → n.queue ≡ [] → IsPoweredOn K o m n
   -- at a moment no step has failed

@@ -17,6 +17,8 @@ pub record Gauge : Type 0 where
   pub free : ℕ
   -- lines of the cache that are dirty, and entries that the instruction in hand has reserved
   pub dirty : ℕ
+  -- that instruction has reserved an entry for each block that it stores to
+  pub has_reserved : Bool
   -- moves that the instruction in hand, or else the next one, has left in the epoch that executes
   pub moves : ℕ
   -- copies that may have to come before stores, those that the next commit may add, and blocks that are to be promoted

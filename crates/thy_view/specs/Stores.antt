@@ -1,11 +1,16 @@
 -- Part of the claim.
--- How many blocks a hart's next instruction stores to.
-use Rattle.std.specs.Prelude.{ℕ, ◌==◌, if◌then◌else◌}
+-- How many blocks a hart's next instruction stores to, and which lines of the cache become dirty by it.
+use Rattle.std.specs.Prelude.{◌≡◌, ◌≢◌, ◌⊎◌, ℕ, ◌+◌, ◌-◌, ◌≤◌, ◌==◌, true, false, if◌then◌else◌, Some, None}
 use Rattle.thy_flat.specs.declared.span.Span.{Span}
 use Rattle.thy_flat.specs.Spans.{rest_of}
 use Rattle.thy_isa.specs.Moves.{moves_of}
 use Rattle.thy_isa.specs.Step.{State, call_state_of, effect_at, fronted}
+use Rattle.thy_view.specs.declared.did.Did.{Did}
+use Rattle.thy_view.specs.declared.did.Did.TheVariants.{Moved}
+use Rattle.thy_view.specs.declared.view.View.{View}
 use Rattle.thy_view.specs.Origin.{Origin, setting_of, at}
+use Rattle.thy_view.specs.Pace.{Gauge}
+use Rattle.thy_view.specs.Turn.{Pressure}
 
 -- how many blocks a span lies in, which has at most 64 bytes
 abbrev pub blocks_in : Span → ℕ
@@ -18,3 +23,37 @@ stored_by o s = (moves_of s.regs (call_state_of (setting_of o) s) (effect_at o.g
 -- how many blocks a hart's instruction stores to that comes next at a count
 abbrev pub needs_at : Origin → ℕ → ℕ → ℕ
 needs_at o hart k = blocks_in (stored_by o (fronted hart (at o k)))
+
+-- ---- the lines of the cache that are dirty
+
+-- entries that the instruction in hand has reserved and not used yet, which a gauge counts with the dirty lines
+abbrev pub reserved_by : Pressure → Gauge → ℕ
+reserved_by p g = g.dirty - p.dirty
+
+-- a gauge counts the dirty lines, and with them what is reserved, which is nothing while no instruction is begun
+pub record CountsLines (p : Pressure) (g : Gauge) : Type 0 where
+  pub lines : p.dirty ≤ g.dirty
+  pub unreserved : p.begun ≡ None → g.dirty ≡ p.dirty
+
+-- No entry is reserved, and a line becomes dirty only as a reserved entry is used for it. An instruction that has reserved
+-- its entries has done so until it ends.
+pub record UsesEntries (old new : Pressure) (before after : Gauge) : Type 0 where
+  pub entries : reserved_by new after ≤ reserved_by old before
+  pub lines : after.dirty ≤ before.dirty
+  pub once : new.begun ≢ None → after.has_reserved ≡ before.has_reserved
+
+-- The instruction that is begun reserves an entry for each block that it stores to, which it had not done before. No line
+-- becomes dirty.
+pub record ReservesEntries (o : Origin) (v : View) (old new : Pressure) (before after : Gauge) : Type 0 where
+  pub hart : ℕ
+  pub is_begun : old.begun ≡ Some hart
+  pub none : before.dirty ≡ old.dirty
+  pub entries : after.dirty ≡ new.dirty + needs_at o hart v.count
+  pub lines : new.dirty ≤ old.dirty
+  pub had_not : before.has_reserved ≡ false
+  pub has : after.has_reserved ≡ true
+
+-- what a cycle that did this makes of the dirty lines: only a hart that moved reserves entries
+abbrev pub Dirties : Origin → View → Did → Pressure → Pressure → Gauge → Gauge → Type 0
+Dirties o v did old new before after =
+    UsesEntries old new before after ⊎ ((did ≡ Moved) × ReservesEntries o v old new before after)
