@@ -34,7 +34,7 @@ use Rattle.thy_core_laws.specs.Sound.{state_in_front, IsToWrite, SoundRun, Sound
 use Rattle.thy_core_laws.specs.Runs.{MachineIsLawful}
 use Rattle.thy_core_laws.proofs.EpochLemmas.{few-begun}
 use Rattle.thy_core_laws.proofs.MomentLaws.{sound-here, seen-alike, is_at-agrees}
-use Rattle.thy_core_laws.proofs.RunLaws.{moment_is_safe, fresh_simulates, cut_simulates}
+use Rattle.thy_core_laws.proofs.RunLaws.{moment_is_safe, fresh_simulates, kept_in, left_simulates, cut_simulates}
 use Rattle.thy_core_laws.proofs.WorkLaws.{number_behind}
 
 -- a machine over a scheme, with nothing counted
@@ -235,6 +235,8 @@ machine_is_lawful K l = record {
   finds_nothing = l.finds_nothing;
   begins = λ o m shape start n. fresh_simulates K o m shape start n l;
   recovers = λ o k m next n pick g at. cut_simulates K o k m next n pick g l (sound-here K o k m n at);
+  finds = λ o k m next n left at. left_simulates K o k m next n left l (sound-here K o k m n at);
+  sized = λ o k m n at. let sound = sound-here K o k m n at in (kept_in K o m n m.phase l sound.up sound.moment).1;
   powered_on = λ o k m n at. powered_on K l o k m n (sound-here K o k m n at);
   unfailed = λ o k m n at. (sound-here K o k m n at).unfailed;
   tells_failure = λ o before m stopped. stopped.failed;

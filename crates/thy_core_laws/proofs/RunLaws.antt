@@ -20,7 +20,8 @@ use Rattle.thy_scheme.specs.Scheme.{SchemeOf}
 use Rattle.thy_scheme.specs.Laws.{IsOwn, IsFound, IsLawful as IsLawfulScheme}
 use Rattle.thy_core_laws.specs.Machine.{Machine, view_in, view_of}
 use Rattle.thy_core_laws.specs.Sound.{IsSmallMark, IsSmall, SoundIn, Sound, IsAt, IsPowered}
-use Rattle.thy_core_laws.specs.Runs.{MomentIsSafe, FreshSimulates, CutSimulates}
+use Rattle.thy_core_laws.specs.Runs.{MomentIsSafe, FreshSimulates, CutSimulates, LeftSimulates}
+use Rattle.thy_view.proofs.AgainLaws.{sealed_in}
 use Rattle.thy_view.proofs.TurnLaws.{at-agrees, at-early, IsOrigin-told}
 
 -- ---- a moment is safe
@@ -141,16 +142,12 @@ own_of o kept sealed (Refused bad) one none = one
 own_of o kept sealed (At epoch state) one none = one.1
 
 -- its mark is one of the view's
-flag_some : (flag : Bool) (sealed : Option Mark) (m : Mark) → (if flag then sealed else None) ≡ Some m → sealed ≡ Some m
-flag_some true sealed m e = e
-flag_some false sealed m e = absurd (cc)
-
-small_cut : (o : Origin) (k : ℕ) (v : View) (d : Decoded) → IsSmall k v → IsOneOf o v.done (doubt_of v) d → IsSmallIn k d
-small_cut o k v Nothing small one = tt
-small_cut o k v (Refused bad) small one = tt
-small_cut o k v (At epoch state) small one = elim one.0 as (λ _. IsSmallMark k (mark epoch state.count)) [
+small_left : (o : Origin) (k : ℕ) (v : View) (d : Decoded) → IsSmall k v → IsOneOf o v.done v.sealed d → IsSmallIn k d
+small_left o k v Nothing small one = tt
+small_left o k v (Refused bad) small one = tt
+small_left o k v (At epoch state) small one = elim one.0 as (λ _. IsSmallMark k (mark epoch state.count)) [
   | inl e ↦ small.done (mark epoch state.count) e
-  | inr e ↦ small.sealed (mark epoch state.count) (flag_some v.written v.sealed (mark epoch state.count) e)
+  | inr e ↦ small.sealed (mark epoch state.count) e
 ]
 
 -- where a boot has found no checkpoint the run began with none
@@ -160,7 +157,7 @@ boot_kept o v shown none = elim shown as (λ _. o.kept ≡ None) [
   | inr s ↦ s.0
 ]
 
-kept_in : {S : Type 0} (K : SchemeOf S) (o : Origin) (m : Machine S) (n : Device) (phase : Phase) → IsLawfulScheme K → n.down ≡ false → SoundIn K o phase m n
+pub kept_in : {S : Type 0} (K : SchemeOf S) (o : Origin) (m : Machine S) (n : Device) (phase : Phase) → IsLawfulScheme K → n.down ≡ false → SoundIn K o phase m n
     → ((view_in K o phase m n).done ≡ None → o.kept ≡ None) × (length n.image ≡ K.blocks o.geometry)
 kept_in K o m n Boot lawful up s =
     let holds = lawful.boot_holds o m.scheme n (record { boots = s.boots; up = up }) in
@@ -168,17 +165,21 @@ kept_in K o m n Boot lawful up s =
 kept_in K o m n Run lawful up s = (λ none. absurd (cc), (lawful.run_holds o m.marks m.scheme n (record { sound = s.checkpoints; up = up })).sized)
 kept_in K o m n Halt lawful up s = (λ none. absurd (cc), (lawful.run_holds o m.marks m.scheme n (record { sound = s.checkpoints; up = up })).sized)
 
+pub left_simulates : {S : Type 0} (K : SchemeOf S) → LeftSimulates K
+left_simulates K o cycles m next n left lawful s on is =
+    let v = view_of K o m n in
+    let d = K.decode o.geometry ceiling left.image in
+    let own = own_of o v.done v.sealed d is.means (kept_in K o m n m.phase lawful s.up s.moment).0 in
+    let found : IsFound K o left = record { up = is.up; sized = is.blocks; settled = is.settled; own = own } in
+    let small = found_small o cycles d s.origin own (small_left o cycles v d s.small is.means) in
+    (is_at-found K o cycles next left lawful s.origin on found small, view_found K o cycles next left lawful s.origin on found)
+
 pub cut_simulates : {S : Type 0} (K : SchemeOf S) → CutSimulates K
 cut_simulates K o cycles m next n pick g lawful s on crash =
-    let new = cut_to n pick g in
-    let kept = kept_in K o m n m.phase lawful s.up s.moment in
-    let one = moment_is_safe K o cycles m n lawful s g crash in
-    let own = own_of o (view_of K o m n).done (doubt_of (view_of K o m n)) (K.decode o.geometry ceiling g) one kept.0 in
-    let found : IsFound K o new = record {
+    let v = view_of K o m n in
+    left_simulates K o cycles m next n (cut_to n pick g) lawful s on (record {
       up = refl;
-      sized = crash.same_length ∙ kept.1;
       settled = refl;
-      own = own;
-    } in
-    let small = found_small o cycles (K.decode o.geometry ceiling g) s.origin own (small_cut o cycles (view_of K o m n) (K.decode o.geometry ceiling g) s.small one) in
-    (is_at-found K o cycles next new lawful s.origin on found small, view_found K o cycles next new lawful s.origin on found)
+      blocks = crash.same_length ∙ (kept_in K o m n m.phase lawful s.up s.moment).1;
+      means = sealed_in o v.written v.done v.sealed (K.decode o.geometry ceiling g) (moment_is_safe K o cycles m n lawful s g crash);
+    })

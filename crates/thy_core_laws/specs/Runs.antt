@@ -12,7 +12,7 @@ use Rattle.thy_view.specs.declared.view.Phase.TheVariants.{Boot}
 use Rattle.thy_view.specs.declared.view.View.{View}
 use Rattle.thy_view.specs.Booting.{first_view, view_of_image}
 use Rattle.thy_view.specs.CoreStep.{CoreStep}
-use Rattle.thy_view.specs.Kind.{IsLawful, IsFittedFor, IsStep, LeavesSafe}
+use Rattle.thy_view.specs.Kind.{IsLawful, IsFittedFor, IsLeft, IsStep, LeavesSafe}
 use Rattle.thy_view.specs.Origin.{Origin, IsOrigin}
 use Rattle.thy_view.specs.Pace.{Gauge, KeepsPace, retires}
 use Rattle.thy_view.specs.Safe.{ceiling, Safe}
@@ -48,6 +48,14 @@ CutSimulates {S} K =
     → IsLawfulScheme K → Sound K o cycles m n → IsPowered K o.geometry next → Crash n g
     → IsAt K o cycles next (cut_to n pick g)
     × (view_of K o next (cut_to n pick g) ≡ view_of_image o.start.count (K.decode o.geometry ceiling g))
+
+-- So does power that comes on over any device that the run may have left, also by a step that failed.
+abbrev pub LeftSimulates : {S : Type 0} → SchemeOf S → Type 0
+LeftSimulates {S} K =
+    (o : Origin) (cycles : ℕ) (m next : Machine S) (n left : Device)
+    → IsLawfulScheme K → Sound K o cycles m n → IsPowered K o.geometry next → IsLeft (kind_over K) o (view_of K o m n) left
+    → IsAt K o cycles next left
+    × (view_of K o next left ≡ view_of_image o.start.count (K.decode o.geometry ceiling left.image))
 
 -- a cycle of a machine that has not halted decreases the measure by one, and only a retired instruction raises it
 abbrev pub CyclesComeNearer : Type 0

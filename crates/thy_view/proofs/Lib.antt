@@ -7,3 +7,4 @@ pub mod StorableAt
 pub mod OneHartLaws
 pub mod ReachLaws
 pub mod BegunLaws
+pub mod AgainLaws

@@ -28,7 +28,7 @@ use Rattle.thy_view.specs.declared.view.View.{View}
 use Rattle.thy_view.specs.Booting.{view_of_image, found_first, first_view}
 use Rattle.thy_view.specs.CoreStep.{CoreStep}
 use Rattle.thy_view.specs.Origin.{Origin, IsOrigin, Begins, at}
-use Rattle.thy_view.specs.Safe.{ceiling, Safe}
+use Rattle.thy_view.specs.Safe.{ceiling, IsOneOf, Safe}
 use Rattle.thy_view.specs.Action.{ActsBy, ActionFailedBy, doubt_after_fault}
 use Rattle.thy_view.specs.Dram.{LeavesDram}
 use Rattle.thy_view.specs.Pace.{Gauge, retires, KeepsPace}
@@ -255,6 +255,14 @@ pub record IsFittedFor {M : Type 0} (K : KindOf M) (o : Origin) (shape : Shape) 
   pub long : AllLong start
   pub found : K.decode o.geometry ceiling (fitted shape start n).image ≡ found_first o o.kept
 
+-- a device that a run may have left which was at a moment with this view: it is up, nothing is queued, it has its size, and its
+-- image means the kept mark or the sealed one
+pub record IsLeft {M : Type 0} (K : KindOf M) (o : Origin) (v : View) (n : Device) : Type 0 where
+  pub up : n.down ≡ false
+  pub settled : n.queue ≡ []
+  pub blocks : length n.image ≡ K.blocks o.geometry
+  pub means : IsOneOf o v.done v.sealed (K.decode o.geometry ceiling n.image)
+
 -- a machine whose power has just come on, over a device with an empty queue
 pub record IsPoweredOn {M : Type 0} (K : KindOf M) (o : Origin) (m : M) (n : Device) : Type 0 where
   pub queued : (K.gauge m n).queued ≡ 0
@@ -282,6 +290,12 @@ pub record IsLawful {M : Type 0} (K : KindOf M) : Type 0 where
   pub recovers : (o : Origin) (k : ℕ) (m next : M) (n : Device) (pick : ℕ) (g : List Block)
       → K.is_at o k m n → K.powered o.geometry next → Crash n g
       → K.is_at o k next (cut_to n pick g) × (K.view o next (cut_to n pick g) ≡ view_of_image o.start.count (K.decode o.geometry ceiling g))
+  -- and so does power that comes on over any device that the run may have left, also by a step that failed
+  pub finds : (o : Origin) (k : ℕ) (m next : M) (n left : Device)
+      → K.is_at o k m n → K.powered o.geometry next → IsLeft K o (K.view o m n) left
+      → K.is_at o k next left × (K.view o next left ≡ view_of_image o.start.count (K.decode o.geometry ceiling left.image))
+  -- the device has its size at every moment
+  pub sized : (o : Origin) (k : ℕ) (m : M) (n : Device) → K.is_at o k m n → length n.image ≡ K.blocks o.geometry
   -- when power comes on nothing is queued, no line is dirty, and what lies ahead is bounded
   pub powered_on : (o : Origin) (k : ℕ) (m : M) (n : Device)
       → K.is_at o k m n → K.powered o.geometry m → n.queue ≡ [] → IsPoweredOn K o m n

@@ -14,3 +14,4 @@ pub mod OneHart
 pub mod Kind
 pub mod Laws
 pub mod Restart
+pub mod Again

@@ -1,8 +1,11 @@
-//! Laws of what a power cut may leave, of the plain machine by turns, and of who retires an instruction, each the contract of
-//! a function that does nothing.
+//! Laws of what a power cut may leave, of the plain machine by turns, of who retires an instruction, and of what follows a
+//! fault, each the contract of a function that does nothing.
 ghost use Rattle.thy_view.specs.OneHart.{EachHasItsTurn, TurnsDontMatter};
 ghost use Rattle.thy_view.specs.Laws.{TurnsLeadTo, StaysSafe, HartZeroSteps, UntoldSteps, StepsReach, RetiresReach, StaysThere, LastTold, FindsTurns, BegunIsRetired};
 ghost use Rattle.thy_view.specs.Safe.{SameIsNoDoubt};
+ghost use Rattle.thy_view.specs.Again.{GoesOn};
+
+use crate::Computer;
 
 /// If the kept checkpoint is also the one in doubt, a power cut leaves that checkpoint. So one that is written anew,
 /// in another form of the image, is never in doubt.
@@ -68,4 +71,10 @@ pub fn turns_are_found_for_each_cycle()
 /// With two harts an instruction that is begun is retired by the hart that began it.
 pub fn an_instruction_is_retired_by_the_hart_that_began_it()
     ensures { BegunIsRetired }
+{}
+
+/// After a step that failed power can be cut and come on again: that leads to a moment of the same run, whose view is what the
+/// image means that the cut left.
+pub fn a_run_goes_on_after_a_fault<M: Computer>()
+    ensures { GoesOn M.kind }
 {}

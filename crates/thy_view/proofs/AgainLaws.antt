@@ -1,0 +1,36 @@
+-- A run goes on after a step that failed, once power was cut and has come on again.
+use Rattle.std.proofs.Common.{◌≡◌, ◌⊎◌, Bool, true, false, ◌||◌, if◌then◌else◌, Option, Some, None, refl, ◌∙◌, inl, inr}
+use Rattle.thy_base.specs.declared.mark.Mark.{Mark}
+use Rattle.thy_base.specs.Device.{cut_to}
+use Rattle.thy_base.specs.Marks.{mark}
+use Rattle.thy_record.specs.Decoded.{Decoded, Nothing, Refused, At}
+use Rattle.thy_view.specs.declared.view.View.{View}
+use Rattle.thy_view.specs.Action.{Action, is_commit_write, doubt_after_fault}
+use Rattle.thy_view.specs.Again.{GoesOn}
+use Rattle.thy_view.specs.Kind.{KindOf, IsLawful}
+use Rattle.thy_view.specs.Origin.{Origin}
+use Rattle.thy_view.specs.Safe.{ceiling, IsOneOf}
+
+-- a mark that is in doubt is the sealed one
+flag_some : (flag : Bool) (sealed : Option Mark) (m : Mark) → (if flag then sealed else None) ≡ Some m → sealed ≡ Some m
+flag_some true sealed m e = e
+flag_some false sealed m e = absurd (cc)
+
+-- so what means the kept mark or the one in doubt means the kept or the sealed one
+pub sealed_in : (o : Origin) (flag : Bool) (kept sealed : Option Mark) (d : Decoded)
+    → IsOneOf o kept (if flag then sealed else None) d → IsOneOf o kept sealed d
+sealed_in o flag kept sealed Nothing one = one
+sealed_in o flag kept sealed (Refused bad) one = one
+sealed_in o flag kept sealed (At epoch state) one =
+    let is = mark epoch state.count in
+    (elim one.0 as (λ _. (kept ≡ Some is) ⊎ (sealed ≡ Some is)) [ inl e ↦ inl e | inr e ↦ inr (flag_some flag sealed is e) ], one.1)
+
+pub goes_on : {M : Type 0} (K : KindOf M) → IsLawful K → GoesOn K
+goes_on K laws o k pick m stopped next n new tear g at leaves framed powered crash =
+    let v = K.view o m n in
+    laws.finds o k m next n (cut_to new tear g) at powered (record {
+      up = refl;
+      settled = refl;
+      blocks = crash.same_length ∙ (framed.blocks ∙ laws.sized o k m n at);
+      means = sealed_in o (is_commit_write leaves.acted.failed.action || v.written) v.done v.sealed (K.decode o.geometry ceiling g) (leaves.safe g crash);
+    })

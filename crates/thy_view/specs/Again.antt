@@ -1,0 +1,17 @@
+-- A run goes on after a step that failed, once power was cut and has come on again.
+use Rattle.std.specs.Prelude.{◌≡◌, ℕ, List}
+use Rattle.thy_base.specs.declared.block.Block.{Block}
+use Rattle.thy_base.specs.declared.mix.Pick.{Pick}
+use Rattle.thy_base.specs.Device.{Device, IsFramed, Crash, cut_to}
+use Rattle.thy_view.specs.Booting.{view_of_image}
+use Rattle.thy_view.specs.Kind.{KindOf, LeavesSafe}
+use Rattle.thy_view.specs.Origin.{Origin}
+use Rattle.thy_view.specs.Safe.{ceiling}
+
+-- After a step that failed, any cut of power leads to a moment of the same run, whose view is what the image means that was left.
+abbrev pub GoesOn : {M : Type 0} → KindOf M → Type 0
+GoesOn {M} K =
+    (o : Origin) (k : ℕ) (pick : Pick) (m stopped next : M) (n new : Device) (tear : ℕ) (g : List Block)
+    → K.is_at o k m n → LeavesSafe K o pick m stopped n new → IsFramed n new → K.powered o.geometry next → Crash new g
+    → K.is_at o k next (cut_to new tear g)
+    × (K.view o next (cut_to new tear g) ≡ view_of_image o.start.count (K.decode o.geometry ceiling g))
