@@ -1,13 +1,15 @@
-"""Reads what `./thynvm observe OUT ..` has written (docs/FORMATS.md, "What `observe` writes"), for the scripts beside it.
+"""Reads what `./thynvm observe OUT ..` has written (docs/FORMATS.md, "What `observe` writes").
 
 It is outside of what is proved: it reads the text by itself, and refuses one that is not whole or whose sums are wrong."""
 
 import re
 from dataclasses import dataclass
+from typing import Optional
 
-NUMBER = r"(?:0|[1-9][0-9]*)"
+from lib import report
+from lib.report import NUMBER
 
-EVENT = re.compile(rf"({NUMBER}) ({NUMBER}|-) ([a-z].*)")
+EVENT = re.compile(rf"{NUMBER} (0|[1-9][0-9]*|-) ([a-z].*)")
 
 TRAP = re.compile(r"trap [0-9a-f]+(?: [0-9a-f]+){0,2}( hart [01])?")
 
@@ -36,8 +38,19 @@ class Event:
     """A line of an event: its cycle, how many instructions were retired then (None for a cut in a boot), and the report's line."""
 
     cycle: int
-    count: int | None
+    count: Optional[int]
     line: str
+
+    @property
+    def word(self):
+        """The first word of the report's line."""
+        return self.line.partition(" ")[0]
+
+    @property
+    def told(self):
+        """What the report's line says, or None if it is none of an event."""
+        found = report.event_of(self.line)
+        return None if isinstance(found, report.Closing) else found
 
 
 @dataclass
@@ -45,7 +58,7 @@ class Observed:
     """What a run came to."""
 
     events: list
-    trap: str | None
+    trap: Optional[str]
     totals: dict  # first word: name: number; what stands directly behind the first word has the name ""
 
     def number(self, word, name=""):
@@ -59,7 +72,7 @@ def looks_observed(lines):
 
 def totals_of(line, word, names):
     """The numbers of a line of totals, by their names."""
-    parts = "".join(rf" ({NUMBER})" if name is None else rf" {name} ({NUMBER})" for name in names)
+    parts = "".join(f" {NUMBER}" if name is None else f" {name} {NUMBER}" for name in names)
     found = re.fullmatch(word + parts, line)
     if not found:
         raise Fault(f"this is not the line '{word} ..' of the totals: {line}")

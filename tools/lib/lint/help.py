@@ -1,23 +1,24 @@
-#!/usr/bin/env python3
-"""Compares the options of the help page with docs/USING.md and with what the program takes."""
+"""Compares the options of the help page with docs/USING.md, with what the program takes, and with the scripts' own table."""
 
-import argparse
 import os
 import re
 import subprocess
-import sys
 import tempfile
+
+from lib import program, repository
+from lib.options import Refused
+from lib.lint.sources import text_of, verdict
+
+SUBJECT = "the options of the help page with docs/USING.md, the code and the program"
 
 ABOUT = """Compares the nineteen fields of `./thynvm --help`, their names, defaults and ranges, with those of three others: the
 defaults in crates/thy_words/src/fields.rt, the table in docs/USING.md, and the program. The program is called with the ends
 of each range, and with the numbers beside them, on a file that is not there: a value in range answers `fetch`, another
 `value` with the field's name. Of the schemes each name answers `fetch`, and another `word scheme`. The names of all
-options, also of those that are no field, are compared with those that tools/explain knows; and so are the options of
-`compare`, which the page has by those that it does not take, with the program.
+options, also of those that are no field, and the defaults are compared with those in tools/lib/program.py, by which the
+scripts go; and so are the options of `compare`, which the page has by those that it does not take, with the program.
 
 Exit status: 0 all agree; 1 some differ; 2 invalid usage, or there is no program to call."""
-
-TOP = os.path.dirname(os.path.dirname(os.path.realpath(__file__)))
 
 # The document whose table of options is compared.
 DOCUMENT = "docs/USING.md"
@@ -26,19 +27,16 @@ DOCUMENT = "docs/USING.md"
 COLUMNS = (slice(2, 14), slice(14, 27), slice(27, 60))
 
 # Options whose value is a name or none: no field, and no range.
-NAMES = ("input", "save", "digest")
+NAMES = (*program.NAMES, *program.FLAGS)
 
-
-def text_of(path):
-    with open(os.path.join(TOP, path), encoding="utf-8") as file:
-        return file.read()
+# Where the scripts have the options.
+TABLE = "tools/lib/program.py"
 
 
 def help_rows():
     """The table of the help page: of each field its default and its range."""
-    page = subprocess.run([os.path.join(TOP, "thynvm"), "--help"], stdout=subprocess.PIPE, check=True, text=True).stdout
     rows, here = {}, None
-    for line in page.splitlines():
+    for line in repository.help_page().splitlines():
         name, default, said = (line[column].strip() for column in COLUMNS)
         if line.startswith("  --"):
             here = name[2:]
@@ -82,26 +80,24 @@ def document_rows():
     return rows
 
 
-def explained():
-    """The options that the script's lines of help know."""
-    lists = re.findall(r"^(?:SHARED|ALL) = \(.*\)$", text_of("tools/explain"), re.M)
-    return set(re.findall(r'"(\w+)"', " ".join(lists)))
+def table_defaults():
+    """The defaults that the scripts have, by the field."""
+    return {name: str(field.default or "none" if name in program.LISTS else field.default) for name, field in program.FIELDS.items()}
 
 
 def compared(page):
     """The options of `compare`: those of the page but for the ones that it names, those in the program's source, and those
     of which the program knows when it is called."""
-    text = subprocess.run([os.path.join(TOP, "thynvm"), "--help"], stdout=subprocess.PIPE, check=True, text=True).stdout
-    without = re.search(r"It takes all but (.*?)\.", text, re.S)
+    without = re.search(r"It takes all but (.*?)\.", repository.help_page(), re.S)
     code = re.search(r"static COMPARE_OPTIONS.*?\];", text_of("crates/thy_words/src/command_line.rt"), re.S)
     told = {*page, *NAMES} - set(re.findall(r"--(\w+)", without[1] if without else ""))
     return told, set(re.findall(r'"(\w+)"', code[0] if code else ""))
 
 
-def is_taken(program, name, folder):
+def is_taken(called, name, folder):
     """Whether `compare` takes an option, by its answer for a file that is not there."""
-    value = [] if name == "digest" else [{"scheme": "journal", "cuts": "5", "tears": "0"}.get(name, "none" if name in NAMES else "8")]
-    call = [program, "compare", os.path.join(folder, "none"), f"--{name}", *value]
+    value = [] if name in program.FLAGS else [{"scheme": "journal", "cuts": "5", "tears": "0"}.get(name, "none" if name in NAMES else "8")]
+    call = [called, "compare", os.path.join(folder, "none"), f"--{name}", *value]
     done = subprocess.run(call, stdout=subprocess.DEVNULL, stderr=subprocess.PIPE, text=True)
     return done.stderr != "usage\n"
 
@@ -145,48 +141,65 @@ def tries(name, said):
     return good, bad
 
 
-def answer(program, words, folder):
+def answer(called, words, folder):
     """The last line of the report of a run of a file that is not there."""
-    call = [*program, "run", os.path.join(folder, "none"), *words]
+    call = [called, "run", os.path.join(folder, "none"), *words]
     lines = subprocess.run(call, stdout=subprocess.DEVNULL, stderr=subprocess.PIPE, text=True).stderr.splitlines()
     return lines[-1] if lines else ""
 
 
-def main():
-    parser = argparse.ArgumentParser(prog="help-agrees", description=ABOUT, formatter_class=argparse.RawDescriptionHelpFormatter)
-    parser.add_argument("--program", default=os.path.join(TOP, "crates/thynvm/out/thynvm"), help="the program to call")
-    options = parser.parse_args()
-    if not os.access(options.program, os.X_OK):
-        parser.error(f"there is no program {options.program}: a call of ./thynvm builds it")
-    page, code, document, differ = help_rows(), code_defaults(), document_rows(), []
+def differences(called):
+    """How they differ."""
+    page, code, document, table = help_rows(), code_defaults(), document_rows(), table_defaults()
     for name in sorted({*page, *code, *document}):
         if name not in page or name not in code or name not in document:
-            differ.append(f"--{name} is not in all three")
+            yield f"--{name} is not in all three"
             continue
-        default, said = page[name]
+        default, range_said = page[name]
         if not default == code[name] == document[name][0]:
-            differ.append(f"--{name}: the default is {default}, {code[name]} in the program, {document[name][0]} in {DOCUMENT}")
-        if plain(said) != plain(document[name][1]):
-            differ.append(f"--{name}: the range is '{said}', in {DOCUMENT} '{document[name][1]}'")
-        with tempfile.TemporaryDirectory() as folder:
-            refusal = "word scheme" if name == "scheme" else f"value {name} "
-            for wanted, cases in zip(("fetch ", refusal), tries(name, said)):
-                for words in cases:
-                    line = answer([options.program], words, folder)
-                    if not line.startswith(wanted):
-                        differ.append(f"{' '.join(words)}: '{line}', and not '{wanted}..'")
-    for name in sorted({*page, *NAMES} ^ explained()):
-        differ.append(f"--{name} is in only one of the help page and tools/explain")
+            yield f"--{name}: the default is {default}, {code[name]} in the program, {document[name][0]} in {DOCUMENT}"
+        if plain(range_said) != plain(document[name][1]):
+            yield f"--{name}: the range is '{range_said}', in {DOCUMENT} '{document[name][1]}'"
+        if table.get(name, default) != default:
+            yield f"--{name}: the default is {default}, in {TABLE} {table[name]}"
+        yield from wrong_answers(called, name, range_said)
+    for name in sorted({*page, *NAMES} ^ set(program.OPTIONS)):
+        yield f"--{name} is in only one of the help page and {TABLE}"
     told, known = compared(page)
     for name in sorted(told ^ known):
-        differ.append(f"compare --{name} is in only one of the help page and the program's source")
+        yield f"compare --{name} is in only one of the help page and the program's source"
+    for name in sorted(told ^ set(program.COMPARED)):
+        yield f"compare --{name} is in only one of the help page and {TABLE}"
     with tempfile.TemporaryDirectory() as folder:
         for name in sorted({*page, *NAMES}):
-            if is_taken(options.program, name, folder) != (name in told):
-                differ.append(f"compare --{name}: the program and the help page differ")
-    print("\n".join(differ) or f"{len(page)} options agree")
-    return 1 if differ else 0
+            if is_taken(called, name, folder) != (name in told):
+                yield f"compare --{name}: the program and the help page differ"
 
 
-if __name__ == "__main__":
-    sys.exit(main())
+def wrong_answers(called, name, range_said):
+    """The values of a field that the program does not answer as its range has it."""
+    refusal = "word scheme" if name == "scheme" else f"value {name} "
+    with tempfile.TemporaryDirectory() as folder:
+        for wanted, cases in zip(("fetch ", refusal), tries(name, range_said)):
+            for words in cases:
+                line = answer(called, words, folder)
+                if not line.startswith(wanted):
+                    yield f"{' '.join(words)}: '{line}', and not '{wanted}..'"
+
+
+def add_to(parser):
+    """The options of this part."""
+    parser.add_program()
+
+
+def check(words=None):
+    """Compares, and prints what differs. The status."""
+    called = repository.PROGRAM if words is None else words.program
+    if not repository.is_built(called):
+        raise Refused(f"there is no program {called}: a call of ./thynvm builds it")
+    return verdict(list(differences(called)), f"{len(help_rows())} options agree")
+
+
+def work(words):
+    """Does the same with the program that is named. The status."""
+    return check(words)

@@ -1,25 +1,25 @@
-#!/usr/bin/env python3
-"""Makes the map of the crates from crates.txt, and compares docs/ARCHITECTURE.md with it."""
+"""Compares the map of the crates in docs/ARCHITECTURE.md with crates.txt, and makes it anew."""
 
-import argparse
-import os
 import re
 import sys
 
-ABOUT = """Prints the map of docs/ARCHITECTURE.md: a table for each layer, with a row for each crate. The columns 'crate' and 'stands on'
-are made from crates.txt; the layers and the other columns are the page's. A crate that the page does not have yet is printed in
-a last table, and a crate that crates.txt does not list is left out. In the column 'stands on' a crate of this repository stands
-without its 'thy_'.
+from lib.lint.sources import Unreadable, below_of, text_of, verdict, without_start
 
-With --picture it prints docs/layers.svg instead: the layers from top to bottom, and in each layer a line from each crate to those
-of the same layer that it stands on directly. With --check it compares: the page has to have exactly the crates of crates.txt, each
-once and in the order of crates.txt within its layer, with what it stands on; no crate may stand on one of a layer above its own;
-and docs/layers.svg has to be the picture. With --above CRATE it prints the crates that stand on this one, directly or not: they are
-proved anew when it changes.
+SUBJECT = "the map and the picture in docs/ARCHITECTURE.md with crates.txt"
+
+ABOUT = """Compares the map of docs/ARCHITECTURE.md with crates.txt: the page has to have exactly the crates of crates.txt, each once and
+in the order of crates.txt within its layer, with what it stands on; no crate may stand on one of a layer above its own; and
+docs/layers.svg has to be the picture.
+
+With --print it prints the map instead: a table for each layer, with a row for each crate. The columns 'crate' and 'stands on' are
+made from crates.txt; the layers and the other columns are the page's. A crate that the page does not have yet is printed in a
+last table, and a crate that crates.txt does not list is left out. In the column 'stands on' a crate of this repository stands
+without its 'thy_'. With --picture it prints docs/layers.svg: the layers from top to bottom, and in each layer a line from each
+crate to those of the same layer that it stands on directly. With --above CRATE it prints the crates that stand on this one,
+directly or not: they are proved anew when it changes.
 
 Exit status: 0 printed, or nothing differs; 1 something differs; 2 invalid usage, or something cannot be read."""
 
-TOP = os.path.dirname(os.path.dirname(os.path.realpath(__file__)))
 PAGE = "docs/ARCHITECTURE.md"
 PICTURE = "docs/layers.svg"
 SECTION = "## The map"
@@ -28,23 +28,6 @@ NOT_PLACED = "Not placed yet"
 
 # Sizes in the picture: of a letter, of a row, of a box, of the space between boxes, and of the column with the layers' names.
 LETTER, ROW, BOX, SPACE, NAMES = 6.7, 32, 18, 14, 210
-
-
-class Unreadable(Exception):
-    """What cannot be found or read."""
-
-
-def text_of(path):
-    try:
-        with open(os.path.join(TOP, path), encoding="utf-8") as file:
-            return file.read()
-    except OSError as fault:
-        raise Unreadable(f"{path}: {fault.strerror}") from None
-
-
-def crates_in(text):
-    """What crates.txt says: of each crate, lowest first, what it stands on."""
-    return {crate: others.split() for crate, others in re.findall(r"^(\w+)[^:#\n]*:(.*)$", text, re.M)}
 
 
 def layers_in(text):
@@ -66,7 +49,7 @@ def layers_in(text):
 
 
 def shown(others):
-    return ", ".join(other.removeprefix("thy_") for other in others)
+    return ", ".join(without_start(other, "thy_") for other in others)
 
 
 def listing(crates, layers):
@@ -105,7 +88,7 @@ def differences(crates, layers):
         if named.count(crate) > 1:
             yield f"{PAGE} has {crate} more than once"
     if text_of(PICTURE) != picture(crates, layers):
-        yield f"{PICTURE} is not what tools/map --picture prints"
+        yield f"{PICTURE} is not what tools/lint map --picture prints"
 
 
 def below(crates, crate):
@@ -156,7 +139,7 @@ def places_of(crates, bands):
 def picture(crates, layers):
     """The picture of the layers, as a text of SVG."""
     bands = {}
-    for name, rows in reversed(layers.items()):
+    for name, rows in reversed(list(layers.items())):
         bands[name] = rows_of(crates, [row[0] for row in rows if row[0] in crates])
     boxes, edges, wide, high = places_of(crates, bands)
     out = [f'<svg xmlns="http://www.w3.org/2000/svg" width="{wide:.0f}" height="{high:.0f}" font-family="monospace" font-size="11">']
@@ -181,32 +164,36 @@ def picture(crates, layers):
     return "\n".join([*out, "</svg>"]) + "\n"
 
 
-def main():
-    parser = argparse.ArgumentParser(prog="map", description=ABOUT, formatter_class=argparse.RawDescriptionHelpFormatter)
-    parser.add_argument("--check", action="store_true", help=f"compare {PAGE} and {PICTURE} with crates.txt")
+def both():
+    """What crates.txt says, and what the page says."""
+    return below_of(text_of("crates.txt")), layers_in(text_of(PAGE))
+
+
+def add_to(parser):
+    """The options of this part."""
+    parser.add_argument("--print", action="store_true", help="print the map instead")
     parser.add_argument("--picture", action="store_true", help="print the picture")
     parser.add_argument("--above", metavar="CRATE", help="print the crates that stand on this one")
-    options = parser.parse_args()
-    try:
-        crates, layers = crates_in(text_of("crates.txt")), layers_in(text_of(PAGE))
-        if options.above:
-            if options.above not in crates:
-                raise Unreadable(f"a crate {options.above} in crates.txt")
-            print("\n".join(crate for crate in crates if options.above in below(crates, crate)))
-            return 0
-        if options.picture:
-            sys.stdout.write(picture(crates, layers))
-            return 0
-        if not options.check:
-            print("\n".join(listing(crates, layers)).rstrip())
-            return 0
-        differ = list(differences(crates, layers))
-    except Unreadable as fault:
-        print(f"map: cannot read {fault}", file=sys.stderr)
-        return 2
-    print("\n".join(differ) or f"{PAGE} has the {len(crates)} crates of crates.txt")
-    return 1 if differ else 0
 
 
-if __name__ == "__main__":
-    sys.exit(main())
+def check(_words=None):
+    """Compares, and prints what differs. The status."""
+    crates, layers = both()
+    return verdict(list(differences(crates, layers)), f"{PAGE} has the {len(crates)} crates of crates.txt")
+
+
+def work(words):
+    """Does what the options of this part say. The status."""
+    crates, layers = both()
+    if words.above:
+        if words.above not in crates:
+            raise Unreadable(f"a crate {words.above} in crates.txt")
+        print("\n".join(crate for crate in crates if words.above in below(crates, crate)))
+        return 0
+    if words.picture:
+        sys.stdout.write(picture(crates, layers))
+        return 0
+    if words.print:
+        print("\n".join(listing(crates, layers)).rstrip())
+        return 0
+    return check()

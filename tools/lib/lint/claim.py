@@ -1,26 +1,29 @@
-#!/usr/bin/env python3
 """Walks from the contract of `thynvm` to every definition that the claim rests on."""
 
-import argparse
 import glob
 import os
 import re
-import sys
 from collections import defaultdict
 
-ABOUT = """Prints the files of definitions that the claim reaches, crate by crate, each after those of its crate that it uses, and
-how many lines of each are reached. The claim is the contract of `thynvm` in crates/thy_cli/src/top.rt. The walk goes from
-the names in this contract to their definitions, from these to the names that they mention, and so on. A definition that
-nothing mentions does not count, even if it stands in the same file, and neither does a comment. The contract rests on the
-traits of shelf, sinks and device too, and on the ghost members of the machines' types.
+from lib.lint.sources import Unreadable, text_of, verdict, without_start
+from lib.repository import TOP
 
-With --check the list is compared with the order of reading in docs/THEOREM.md: the table there has to name exactly these
-files, and no file in a row above one that it uses. And exactly these files have to be marked as such by their first line;
---mark marks them.
+SUBJECT = "the files that the claim reaches with docs/THEOREM.md, and their first lines"
+
+ABOUT = """Compares the files of definitions that the claim reaches with the order of reading in docs/THEOREM.md: the table there has
+to name exactly these files, and no file in a row above one that it uses. And exactly these files have to be marked as such by
+their first line; --mark marks them.
+
+The claim is the contract of `thynvm` in crates/thy_cli/src/top.rt. The walk goes from the names in this contract to their
+definitions, from these to the names that they mention, and so on. A definition that nothing mentions does not count, even if it
+stands in the same file, and neither does a comment. The contract rests on the traits of shelf, sinks and device too, and on the
+ghost members of the machines' types.
+
+With --list the files are printed, crate by crate, each after those of its crate that it uses, and how many lines of each are
+reached; with --names the definitions too.
 
 Exit status: 0 printed, or nothing differs; 1 something differs; 2 invalid usage, or something cannot be read."""
 
-TOP = os.path.dirname(os.path.dirname(os.path.realpath(__file__)))
 CONTRACT = "crates/thy_cli/src/top.rt"
 DOCUMENT = "docs/THEOREM.md"
 SECTION = "## The order of reading"
@@ -34,18 +37,6 @@ OPAQUE = {"is_at"}
 NAME = re.compile(r"(?<![\w'.])[A-Za-z_][\w']*")
 FIELD = re.compile(r"\.([A-Za-z_][\w']*)")
 HEAD = re.compile(r"((?:abbrev|unfoldable|opaque|pub|record|data) )+([\w']+)|()([\w']+) :")
-
-
-class Unreadable(Exception):
-    """What cannot be found or read."""
-
-
-def text_of(path):
-    try:
-        with open(os.path.join(TOP, path), encoding="utf-8") as file:
-            return file.read()
-    except OSError as fault:
-        raise Unreadable(f"{path}: {fault.strerror}") from None
 
 
 def found(pattern, text, what):
@@ -79,7 +70,7 @@ class File:
         for line in text.splitlines():
             if line.startswith("module ") or HEAD.match(line):
                 indent = "  " if line.startswith("module ") else ""
-            line = line.removeprefix(indent)
+            line = without_start(line, indent)
             head = HEAD.match(line)
             name = (head[2] or head[4]) if head else name
             if name and line.strip() and not line.lstrip().startswith("--"):
@@ -130,7 +121,7 @@ class Walk:
         if not os.path.isdir(os.path.join(TOP, "crates", crate)):
             self.elsewhere[module.replace(".specs.", ", ")].add(name)
         elif inner.startswith("declared."):
-            self.elsewhere[f"{crate}, src"].add(inner.removesuffix(".TheVariants").split(".")[-1])
+            self.elsewhere[f"{crate}, src"].add(inner.replace(".TheVariants", "").split(".")[-1])
         else:
             file = self.file(crate, inner.replace(".", "/"))
             if user and user is not file:
@@ -280,7 +271,7 @@ def mark(walk):
         text = text_of(path)
         if text.startswith(MARK) != (path in reached):
             with open(os.path.join(TOP, path), "w", encoding="utf-8") as file:
-                file.write(MARK + text if path in reached else text.removeprefix(MARK))
+                file.write(MARK + text if path in reached else without_start(text, MARK))
             yield path
 
 
@@ -289,30 +280,29 @@ def mismarked(walk):
     reached = {f"crates/{file.crate}/specs/{file.title}" for file in walk.reached}
     for path in specs():
         if text_of(path).startswith(MARK) != (path in reached):
-            yield f"{path} is {'not ' if path in reached else ''}marked as part of the claim: tools/claim --mark"
+            yield f"{path} is {'not ' if path in reached else ''}marked as part of the claim: tools/lint claim --mark"
 
 
-def main():
-    parser = argparse.ArgumentParser(prog="claim", description=ABOUT, formatter_class=argparse.RawDescriptionHelpFormatter)
-    parser.add_argument("--check", action="store_true", help=f"compare the list with {DOCUMENT}")
-    parser.add_argument("--mark", action="store_true", help="mark these files as part of the claim, and no others")
+def add_to(parser):
+    """The options of this part."""
+    parser.add_argument("--list", action="store_true", help="print the files instead, with their numbers of lines")
     parser.add_argument("--names", action="store_true", help="print the names of the definitions too")
-    options = parser.parse_args()
-    try:
-        walk = walk_claim()
-        if options.mark:
-            print("\n".join(mark(walk)) or "nothing to mark")
-            return 0
-        if not options.check:
-            print("\n".join(listing(walk, options.names)))
-            return 0
-        differ = [*differences(walk), *mismarked(walk)]
-    except Unreadable as fault:
-        print(f"claim: cannot read {fault}", file=sys.stderr)
-        return 2
-    print("\n".join(differ) or f"{DOCUMENT} lists the {len(walk.reached)} files that the claim reaches, and they are marked")
-    return 1 if differ else 0
+    parser.add_argument("--mark", action="store_true", help="mark these files as part of the claim, and no others")
 
 
-if __name__ == "__main__":
-    sys.exit(main())
+def check(_words=None):
+    """Compares, and prints what differs. The status."""
+    walk = walk_claim()
+    differ = [*differences(walk), *mismarked(walk)]
+    return verdict(differ, f"{DOCUMENT} lists the {len(walk.reached)} files that the claim reaches, and they are marked")
+
+
+def work(words):
+    """Does what the options of this part say. The status."""
+    if words.mark:
+        print("\n".join(mark(walk_claim())) or "nothing to mark")
+        return 0
+    if words.list or words.names:
+        print("\n".join(listing(walk_claim(), words.names)))
+        return 0
+    return check()

@@ -1,11 +1,12 @@
-#!/usr/bin/env python3
 """Looks up the names that the documents have in back quotes."""
 
-import argparse
 import os
 import re
-import subprocess
-import sys
+
+from lib import repository
+from lib.lint.sources import below_of, text_of, verdict, without_start
+
+SUBJECT = "the names in back quotes in the documents with the sources"
 
 ABOUT = """Looks up each name that README.md, CONTRIBUTING.md and docs/*.md have in back quotes, and prints those that are nowhere.
 
@@ -21,8 +22,6 @@ If the text names the crate or the file, the name has to be defined there: `Keep
 heading that names files of crates, a name has to be defined in such a crate or in one that it stands on, directly or not.
 
 Exit status: 0 all names are found; 1 some are not; 2 invalid usage."""
-
-TOP = os.path.dirname(os.path.dirname(os.path.realpath(__file__)))
 
 # Words in back quotes that are no names of this repository.
 OTHERS = {
@@ -42,13 +41,8 @@ SINGLE = re.compile(r"[A-Za-z_][\w']*(?:(?:::|\.)[A-Za-z_][\w']*)*(?:\(\))?")
 TELLING = re.compile(r"\b(?:\w+_\w+|[A-Z][a-z]+[A-Z]\w*|[a-z]+[A-Z]\w*)")
 FILE = re.compile(r"(?!.*/\d)[\w.*-]+/[\w.*/-]*|[\w*-]+\.(?:antt|rt|md|py|txt|elf|svg|edit)")
 OPTION = re.compile(r"--[a-z]\w*")
-# Functions and constants of a script.
-IN_SCRIPTS = re.compile(r"^(?:def (\w+)|([A-Z]+) = |(\w+)\(\) \{)", re.M)
-
-
-def text_of(path):
-    with open(os.path.join(TOP, path), encoding="utf-8") as file:
-        return file.read()
+# Functions, classes and constants of a script; of several constants in a line the text that names them.
+IN_SCRIPTS = re.compile(r"^(?:(?:def|class) (\w+)|(\w+)\(\) \{)|^ *([A-Z][A-Z_]*(?:, [A-Z][A-Z_]*)*) = ", re.M)
 
 
 def names_in_code(text):
@@ -76,20 +70,19 @@ class Repository:
     """What there is to be named."""
 
     def __init__(self):
-        listed = subprocess.run(["git", "ls-files"], cwd=TOP, stdout=subprocess.PIPE, check=True, text=True).stdout
-        self.files = listed.splitlines()
+        self.files = repository.tracked()
         self.below = {}
-        for crate, others in re.findall(r"^(\w+):(.*)$", text_of("crates.txt"), re.M):
-            direct = set(others.split())
-            self.below[crate] = direct.union(*(self.below.get(other, ()) for other in direct))
+        for crate, others in below_of(text_of("crates.txt")).items():
+            self.below[crate] = set(others).union(*(self.below.get(other, ()) for other in others))
         self.names = {path: self.names_in(path) for path in self.files if re.fullmatch(r"crates/.*\.(rt|antt)", path)}
         self.others = KNOWN | set(self.below) | set().union(*self.below.values())
-        tools = [path for path in self.files if path.startswith("tools/")]
+        tools = [path for path in self.files if path.startswith("tools/") and not path.startswith("tools/tests/")]
         examples = [path for path in self.files if path.startswith("examples/")]
         self.others.update(os.path.splitext(os.path.basename(path))[0] for path in tools + examples)
         scripts = [text_of(path) for path in ("thynvm", *tools)]
         self.others.update(OPTION.findall("\n".join(scripts)))
-        self.others.update(name for script in scripts for found in IN_SCRIPTS.findall(script) for name in found if name)
+        found = [text for script in scripts for texts in IN_SCRIPTS.findall(script) for text in texts if text]
+        self.others.update(name for text in found for name in text.split(", "))
 
     def names_in(self, path):
         return (names_in_code if path.endswith(".rt") else names_in_definitions)(text_of(path))
@@ -106,7 +99,7 @@ class Repository:
 
     def has_file(self, path):
         """Whether there is such a file or folder, as seen from the top, from a crate, or by its name alone."""
-        pattern = re.escape(path.removeprefix("./").rstrip("/")).replace(r"\*", r"[^/]*")
+        pattern = re.escape(without_start(path, "./").rstrip("/")).replace(r"\*", r"[^/]*")
         return any(re.search(rf"(?:^|/){pattern}(?:/|$)", file) for file in self.files)
 
     def file_defines(self, path, name):
@@ -161,19 +154,20 @@ def missing(repository, words, behind, crates):
             yield name, f"{place} and what it stands on" if place else "the repository"
 
 
-def main():
-    parser = argparse.ArgumentParser(prog="names", description=ABOUT, formatter_class=argparse.RawDescriptionHelpFormatter)
-    parser.parse_args()
-    repository, wrong, count = Repository(), [], 0
-    documents = [path for path in repository.files if re.fullmatch(r"README\.md|CONTRIBUTING\.md|docs/[^/]*\.md", path)]
+def add_to(_parser):
+    """This part has no options."""
+
+
+def check(_words=None):
+    """Looks the names up, and prints those that are nowhere. The status."""
+    here, wrong, count = Repository(), [], 0
+    documents = [path for path in here.files if re.fullmatch(r"README\.md|CONTRIBUTING\.md|docs/[^/]*\.md", path)]
     for document in documents:
         for line, words, behind, crates in spans_of(text_of(document)):
             count += len(names_of(words))
-            for name, place in missing(repository, words, behind, crates):
+            for name, place in missing(here, words, behind, crates):
                 wrong.append(f"{document}:{line}: `{words}`: {name} is not in {place}")
-    print("\n".join(wrong) or f"{count} names in {len(documents)} documents are found")
-    return 1 if wrong else 0
+    return verdict(wrong, f"{count} names in {len(documents)} documents are found")
 
 
-if __name__ == "__main__":
-    sys.exit(main())
+work = check

@@ -1,0 +1,1 @@
+"""The parts of `tools/lint`: each compares documents with what they describe."""

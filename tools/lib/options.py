@@ -1,0 +1,72 @@
+"""How a script is called: its options, its help page, its refusals in a line, and how it ends."""
+
+import argparse
+import os
+import sys
+
+from lib import repository
+
+
+class Refused(Exception):
+    """Why a script goes no further, in words for the one who called."""
+
+
+class Parser(argparse.ArgumentParser):
+    """The options of a script. What has no place among them is refused in a line on standard error, with the status 2."""
+
+    def __init__(self, prog, about, **more):
+        super().__init__(prog=prog, description=about, formatter_class=argparse.RawDescriptionHelpFormatter, **more)
+
+    def error(self, message):
+        self.exit(2, f"{self.prog}: {' '.join(message.splitlines())}\n")
+
+    def add_program(self, name="--program", default=repository.PROGRAM, **more):
+        """The option that names a program to call, in place of the one that is built in the repository."""
+        self.add_argument(name, default=default, **{"help": "the program to call", **more})
+
+    def check_program(self, program):
+        """Refuses a call for which there is no program."""
+        if not repository.is_built(program):
+            self.error(f"there is no program {program}: a call of ./thynvm builds it")
+
+
+def positive(text):
+    """A number above 0."""
+    value = int(text)
+    if value <= 0:
+        raise ValueError
+    return value
+
+
+def refuse(prog, fault, status=2):
+    """Says in a line why a script goes no further; its status."""
+    print(f"{prog}: {fault}", file=sys.stderr)
+    return status
+
+
+def finish(prog, work, refused, lists=False):
+    """Does the work of a script; its status. If the work is refused, or a file cannot be read or written, that is said in a
+    line, and the status is `refused`. One that lists may be left by its reader, as `head` leaves it, which is no fault."""
+    try:
+        return work()
+    except (Refused, OSError) as fault:
+        if lists and isinstance(fault, BrokenPipeError):
+            # Nothing more is to be written at the end either.
+            os.dup2(os.open(os.devnull, os.O_WRONLY), 1)
+            return 0
+        return refuse(prog, fault, refused)
+
+
+def lines_of(name):
+    """The lines of a file, or of standard input if the name is `-`."""
+    if name == "-":
+        return sys.stdin.read().splitlines()
+    with open(name, encoding="utf-8") as file:
+        return file.read().splitlines()
+
+
+def write_lines(name, lines):
+    """Puts lines into a file."""
+    text = "".join(f"{line}\n" for line in lines)
+    with open(name, "w", encoding="utf-8") as file:
+        file.write(text)

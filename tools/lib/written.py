@@ -1,0 +1,106 @@
+"""Texts that were written by hand, as `observe` and the report have them, and the tables that tools/epochs makes of them."""
+
+# What `observe` has to write of CONTROLLER.md's example: the program that ends with 7, at eight pages and eight entries in each
+# table.
+EXAMPLE = """700 0 commit 0 overlapped 0
+708 3 epoch 1 ends at 3 by end
+722 3 commit 1 overlapped 0
+722 3 exit 7 at 3
+cycles 722 boot 525 hart 8 engine 11 nvmdrain 178 dramdrain 0
+hart moved 4 retired 3 flushed 0 merged 0 promoted 0 sealed 1
+engine copied 0 page 0 state 5 table 3 barrier 1 commit 1 committed 1
+waiting 7
+nvm reads 449 writes 531 barriers 4
+lost 0
+epochs 1 early 0 overlapped 0
+"""
+
+# A run with a cut in a loading, and one while a checkpoint is under way. Eight pages. The numbers are made up; their sums are
+# right, and the boots are those of eight entries in each table: 1 read and 74 writes until the cut, 1 read, 522 writes and 2
+# barriers of the loading, and 10 reads of the recovery.
+CUTS = """100 - cut 1 at cycle 100
+101 0 reload
+800 0 commit 0 overlapped 0
+1000 60 epoch 1 ends at 60 by length
+1100 80 commit 1 overlapped 20
+1300 120 epoch 2 ends at 120 by length
+1350 130 cut 2 at cycle 1350
+1360 60 restart 1 at 60
+1560 120 epoch 2 ends at 120 by length
+1660 140 commit 2 overlapped 20
+1700 150 epoch 3 ends at 150 by exhausted 1 1 1
+1750 150 commit 3 overlapped 0
+1800 160 epoch 4 ends at 160 by end
+1850 160 commit 4 overlapped 0
+1850 160 exit 0 at 160
+cycles 1850 boot 610 hart 700 engine 50 nvmdrain 480 dramdrain 10
+hart moved 460 retired 230 flushed 4 merged 1 promoted 0 sealed 5
+engine copied 2 page 0 state 25 table 11 barrier 4 commit 4 committed 4
+waiting 20
+nvm reads 938 writes 645 barriers 10
+lost 70
+epochs 5 early 1 overlapped 40
+"""
+
+# A run of two harts of which hart 1 traps. Its numbers are those of a test of crates/observe.
+TWO_HARTS = """662 0 commit 0 overlapped 0
+674 5 epoch 1 ends at 5 by end harts 3 2
+693 5 commit 1 overlapped 0
+693 5 trap 7 at 5
+trap 10004 503823 10 hart 1
+cycles 693 boot 530 hart 12 engine 16 nvmdrain 135 dramdrain 0
+hart moved 6 retired 5 flushed 0 merged 0 promoted 0 sealed 1
+hart0 moved 4 retired 3
+hart1 moved 2 retired 2
+engine copied 0 page 0 state 10 table 3 barrier 1 commit 1 committed 1
+waiting 12
+nvm reads 449 writes 541 barriers 4
+lost 0
+epochs 1 early 0 overlapped 0
+"""
+
+BARS_OF_TWO_HARTS = """epoch begin end from to why committed cut
+1 662 674 0 5 end 693 -
+"""
+
+BARS_OF_CUTS = """epoch begin end from to why committed cut
+1 800 1000 0 60 length 1100 -
+2 1000 1300 60 120 length - -
+3 1300 1350 120 130 - - 2
+2 1360 1560 60 120 length 1660 -
+3 1560 1700 120 150 exhausted 1750 -
+4 1700 1800 150 160 end 1850 -
+"""
+
+BARS_OF_EXAMPLE = """epoch begin end from to why committed cut
+1 700 708 0 3 end 722 -
+"""
+
+# A resumed run that its limit stops, as a report and as an OUT.
+REPORT = """restart 1 at 60
+epoch 2 ends at 120 by length
+commit 2 overlapped 20
+limit 500
+"""
+
+RESUMED = """10 60 restart 1 at 60
+210 120 epoch 2 ends at 120 by length
+310 140 commit 2 overlapped 20
+cycles 500 boot 10 hart 460 engine 11 nvmdrain 19 dramdrain 0
+hart moved 300 retired 159 flushed 0 merged 0 promoted 0 sealed 1
+engine copied 0 page 0 state 5 table 3 barrier 1 commit 1 committed 1
+waiting 0
+nvm reads 500 writes 9 barriers 2
+lost 0
+epochs 1 early 0 overlapped 20
+"""
+
+BARS_OF_REPORT = """epoch begin end most why committed cut
+2 60 120 - length 140 -
+3 120 140 - - - -
+"""
+
+BARS_OF_RESUMED = """epoch begin end from to why committed cut
+2 10 210 60 120 length 310 -
+3 210 500 120 - - - -
+"""

@@ -1,0 +1,79 @@
+"""tools/examples, with a program that is a script, and with the program itself."""
+
+from lib import repository
+from tests.support import CopyTest, ToolTest, needs_program
+
+ZEROS = "0" * 64
+
+# A program that exits with 7, also through the two cuts of exit_seven in the table of the script.
+PROGRAM = f"""
+[ "$1" != run ] || echo 'cut 1 at cycle 721
+restart 0 at 0
+cut 2 at cycle 726
+restart 0 at 0' >&2
+echo 'exit 7 at 3
+memory {ZEROS}' >&2
+"""
+
+LEFT = """exit_seven: build is left out: riscv64-unknown-elf-gcc is not installed
+exit_seven: qemu is left out: qemu-riscv64 does not load it
+"""
+
+
+class Examples(CopyTest):
+    tool = "examples"
+
+    def setUp(self):
+        super().setUp()
+        self.stub = self.program(PROGRAM)
+        self.examples()
+
+    def try_out(self, *names, text=PROGRAM):
+        self.program(text)
+        return self.call(*names, env=self.without("cat"))
+
+    def test_help(self):
+        self.has_help()
+
+    def test_one_that_agrees(self):
+        done = self.try_out("exit_seven")
+        self.assertEqual((done.out, done.err, done.status), (f"{LEFT}exit_seven: plain, cuts agree\n", "", 0))
+
+    def test_others_that_do_not(self):
+        plain = "exit_seven: plain: it does not exit with 7: status 0, exit 8 at 3; memory 0"
+        cuts = "exit_seven: cuts: --btt 8 --ptt 8 --cuts 721,726 --tears 0,0: "
+        for text, said in (
+            (PROGRAM.replace("exit 7", "exit 8"), plain),
+            (f"echo x\n{PROGRAM}", "exit_seven: plain: it prints something else"),
+            (PROGRAM.replace("cut 2 at cycle 726\n", ""), f"{cuts}the run ended before its last cut"),
+            (f"{PROGRAM}\n[ $1 = plain ] || exit 3", f"{cuts}status 3, exit 7 at 3; memory {ZEROS}, and not exit 7 at 3; memory {ZEROS}"),
+            (PROGRAM.replace("restart 0 at 0", "reload"), "exit_seven: cuts: no run went on from a checkpoint"),
+        ):
+            done = self.try_out("exit_seven", text=text)
+            with self.subTest(said=said):
+                self.assertIn(said, done.out)
+                self.assertEqual((done.err, done.status), ("", 1))
+
+    def test_a_pair(self):
+        # With two harts there is no `plain`; what it prints is its file `output`.
+        output = repository.example("two_harts", "output")
+        text = f"cat {output}\ncase \"$*\" in *--cuts*) echo 'cut 1 at cycle 5000\ncut 2 at cycle 9000' >&2 ;; esac\necho 'exit 0 at 3\nmemory {ZEROS}' >&2\n"
+        done = self.try_out("two_harts", text=text)
+        self.assertIn("two_harts: pair agree\n", done.out)
+        self.assertEqual(done.status, 0)
+
+    def test_refusals(self):
+        self.refuses("there is no example none, other", "other", "none", "hello")
+        self.refuses("there is no program /none: a call of ./thynvm builds it", "--program", "/none")
+        self.refuses("unrecognized arguments: -x", "-x")
+
+
+@needs_program()
+class WithTheProgram(ToolTest):
+    tool = "examples"
+
+    def test_some(self):
+        done = self.call("exit_seven", "greet")
+        self.assertRegex(done.out, r"(?m)^exit_seven: .*plain, cuts agree$")
+        self.assertRegex(done.out, r"(?m)^greet: .*plain, cuts agree$")
+        self.assertEqual((done.err, done.status), ("", 0))

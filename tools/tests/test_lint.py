@@ -1,0 +1,233 @@
+"""tools/lint: in a small repository, where each difference is made; and in this one, for which nothing may differ."""
+
+import os
+import subprocess
+import unittest
+
+from lib import repository
+from lib.lint import claim, help, names
+from tests.support import CopyTest, ToolTest, needs, needs_program
+
+CRATES = """# one line a crate, lowest first
+low: other
+middle: low
+high: low middle
+"""
+
+MAP = """# The page
+
+## The map
+
+### The lower layer
+
+| crate | what it is | stands on | its contract in one sentence |
+|---|---|---|---|
+| low | a thing | other | it holds |
+| middle | more | low | it holds too |
+
+### The upper layer
+
+| crate | what it is | stands on | its contract in one sentence |
+|---|---|---|---|
+| high | most | low, middle | all holds |
+
+## More
+"""
+
+# The map as it is printed: the page's section without its heading.
+PRINTED = MAP.split("## The map\n\n")[1].split("\n## More")[0]
+
+CODE = "pub fn read_it(x: u64) -> u64 { x }\n\npub struct Table {\n    entries: u64,\n}\n"
+
+NAMES = "# Names\n\n`read_it` reads `entries` of `Table`, as `crates/low/src/lib.rt` says.\n"
+
+
+class Map(CopyTest):
+    tool = "lint"
+
+    def setUp(self):
+        super().setUp()
+        self.file("crates.txt", CRATES)
+        self.file("docs/ARCHITECTURE.md", MAP)
+        self.file("docs/layers.svg", self.call("map", "--picture").out)
+
+    def differs(self, said):
+        self.prints(f"{said}\n", "map", status=1)
+
+    def test_nothing_differs(self):
+        self.prints("docs/ARCHITECTURE.md has the 3 crates of crates.txt\n", "map")
+
+    def test_what_is_printed(self):
+        self.prints(f"{PRINTED}", "map", "--print")
+        self.prints("middle\nhigh\n", "map", "--above", "low")
+        self.prints("\n", "map", "--above", "high")
+
+    def test_the_picture(self):
+        root = self.is_picture("docs/layers.svg")
+        texts = [text.firstChild.data for text in root.getElementsByTagName("text")]
+        self.assertEqual(texts, ["The upper layer", "The lower layer", "high", "middle", "low"])
+        # In the lower layer a line leads from middle to low.
+        self.assertEqual(len(root.getElementsByTagName("line")), 1)
+
+    def test_differences(self):
+        page = "docs/ARCHITECTURE.md"
+        for old, new, said in (
+            ("| low, middle |", "| low |", f"{page}: high stands on 'low', in crates.txt on 'low, middle'"),
+            ("| high | most", "| none | most", f"{page} does not have high\n{page} has none, which crates.txt does not list"),
+        ):
+            self.file(page, MAP.replace(old, new))
+            done = self.call("map")
+            with self.subTest(said=said):
+                self.assertTrue(set(said.splitlines()) <= set(done.out.splitlines()), done.out)
+                self.assertEqual((done.err, done.status), ("", 1))
+        self.file(page, MAP)
+        self.file("docs/layers.svg", "<svg/>")
+        self.differs("docs/layers.svg is not what tools/lint map --picture prints")
+
+    def test_an_order_that_is_wrong(self):
+        rows = "| low | a thing | other | it holds |\n", "| middle | more | low | it holds too |\n"
+        self.file("docs/ARCHITECTURE.md", MAP.replace("".join(rows), "".join(reversed(rows))))
+        self.assertIn("the crates of the layer 'The lower layer' are not in the order of crates.txt\n", self.call("map").out)
+        self.file("docs/ARCHITECTURE.md", MAP)
+        self.file("crates.txt", CRATES.replace("low: other", "low: high"))
+        self.assertIn("low stands on high of a layer above its own\n", self.call("map").out)
+
+    def test_refusals(self):
+        self.refuses("cannot read a crate none in crates.txt", "map", "--above", "none")
+        self.file("docs/ARCHITECTURE.md", "# Another\n")
+        self.refuses("cannot read `## The map` in docs/ARCHITECTURE.md", "map")
+        os.remove(self.path("docs/ARCHITECTURE.md"))
+        self.refuses("cannot read docs/ARCHITECTURE.md: No such file or directory", "map")
+
+
+@needs("git")
+class Names(CopyTest):
+    tool = "lint"
+
+    def names(self, text, code=CODE):
+        self.file("crates.txt", CRATES)
+        self.file("crates/low/src/lib.rt", code)
+        self.file("thynvm", "run_it() {\n    :\n}\n")
+        self.file("README.md", text)
+        for words in (["init", "-q"], ["add", "crates.txt", "crates", "thynvm", "README.md", "tools"]):
+            subprocess.run(["git", *words], cwd=self.folder, check=True)
+        return self.call("names")
+
+    def test_names_that_are_found(self):
+        done = self.names(NAMES + "\n`run_it` and `check_map`; `low`, `image`, `--picture` and `if`.\n")
+        self.assertEqual((done.out, done.err, done.status), ("10 names in 1 documents are found\n", "", 0))
+
+    def test_names_that_are_nowhere(self):
+        for text, said in (
+            ("`read_that`", "README.md:1: `read_that`: read_that is not in the repository"),
+            ("a\n`Table::entrys`", "README.md:2: `Table::entrys`: Table::entrys is not in the repository"),
+            ("`lib/none.py`", "README.md:1: `lib/none.py`: lib/none.py is not in the repository"),
+            ("`--nowhere`", "README.md:1: `--nowhere`: --nowhere is not in the repository"),
+            ("`read_it` (`crates/middle/src`)", "README.md:1: `crates/middle/src`: crates/middle/src is not in the repository"),
+            ("the words `of Reading_it all`", "README.md:1: `of Reading_it all`: Reading_it is not in the repository"),
+        ):
+            done = self.names(f"{text}\n")
+            with self.subTest(text=text):
+                self.assertIn(f"{said}\n", done.out)
+                self.assertEqual((done.err, done.status), ("", 1))
+
+
+class Claim(ToolTest):
+    """In this repository: what the claim reaches is not made again here."""
+
+    tool = "lint"
+
+    def test_nothing_differs(self):
+        done = self.call("claim")
+        self.assertRegex(done.out, r"\Adocs/THEOREM.md lists the \d+ files that the claim reaches, and they are marked\n\Z")
+        self.assertEqual((done.err, done.status), ("", 0))
+
+    def test_the_list(self):
+        # The table of docs/THEOREM.md has the same files.
+        done = self.call("claim", "--list")
+        files = [line.split()[1] for line in done.out.splitlines() if line.endswith(".antt")]
+        section = repository.text_of("docs/THEOREM.md").split("## The order of reading\n")[1].split("\n## ")[0]
+        self.assertEqual(done.status, 0)
+        for file in files:
+            self.assertIn(f"`{file}`", section)
+        self.assertIn(f"\n{len(files)} files, ", done.out)
+
+    def test_names(self):
+        done = self.call("claim", "--names")
+        self.assertEqual(done.status, 0)
+        self.assertIn(" definitions\n", done.out)
+
+
+class ClaimElsewhere(CopyTest):
+    tool = "lint"
+
+    def test_refusals(self):
+        self.refuses("cannot read crates/thy_cli/src/top.rt: No such file or directory", "claim")
+        self.file("crates/thy_cli/src/top.rt", "pub fn another() {\n}\n")
+        self.refuses("cannot read the contract of `thynvm`", "claim")
+        self.file("crates/thy_cli/src/top.rt", "pub fn thynvm<S: Shelf>(\n)\n{\n}\n")
+        self.refuses("cannot read the trait Shelf", "claim")
+
+
+class Parts(unittest.TestCase):
+    """Parts of the walk, over texts of a few lines."""
+
+    def test_what_a_file_brings_in(self):
+        uses = claim.Uses("use Rattle.low.specs.Things.{One, Two as Other}\n  ghost use Rattle.std.list as list\n")
+        self.assertEqual(uses.names, {"One": ("low.specs.Things", "One"), "Other": ("low.specs.Things", "Two")})
+        self.assertEqual(uses.modules, {"list": "std.list"})
+
+    def test_the_table_of_the_page(self):
+        text = "## The order of reading\n\n| | crate | read | skim |\n|---|---|---|---|\n| 1 | low | `One.antt`, `Two.antt` | |\n| 2 | high | | `Three.antt` |\n\n## More\n"
+        self.assertEqual(claim.rows_of(text), [[("low", "One.antt"), ("low", "Two.antt")], [("high", "Three.antt")]])
+
+    def test_ranges_that_are_tried(self):
+        # The ends of a range are taken, and the numbers beside them refused.
+        self.assertEqual(help.tries("gap", "at most 5"), ([["--gap", "0"], ["--gap", "1"], ["--gap", "5"]], [["--gap", "6"]]))
+        good, bad = help.tries("btt", "8 to 4096, multiple of 8")
+        self.assertEqual(good, [["--btt", "8"], ["--btt", "16"], ["--btt", "4096"]])
+        self.assertEqual(bad, [["--btt", "7"], ["--btt", "4104"], ["--btt", "9"]])
+        self.assertEqual(help.tries("scheme", "a, b or c")[1], [["--scheme", "A"], ["--scheme", "bs"], ["--scheme", "0"]])
+
+    def test_names_of_sources(self):
+        code = "pub fn read_it() {}\npub struct Table {\n    pub entries: u64,\n}\n// fn not_this\nimpl Table {\n}\n"
+        self.assertTrue({"read_it", "Table", "entries", "Table::"} <= names.names_in_code(code))
+        self.assertNotIn("not_this", names.names_in_code(code))
+        definitions = 'abbrev one : Nat := 1\npub record Two := { }\nthree : "put failed"\n-- four : Nat\n'
+        self.assertTrue({"one", "Two", "three", "put", "failed"} <= names.names_in_definitions(definitions))
+        self.assertNotIn("four", names.names_in_definitions(definitions))
+
+
+class Help(CopyTest):
+    tool = "lint"
+
+    def test_refusals(self):
+        self.refuses("there is no program /none: a call of ./thynvm builds it", "help", "--program", "/none")
+
+
+class Whole(ToolTest):
+    tool = "lint"
+
+    def test_help_pages(self):
+        self.has_help()
+        for part in ("help", "claim", "map", "names"):
+            done = self.call(part, "--help")
+            self.assertEqual((done.err, done.status), ("", 0))
+            self.assertIn(f"usage: lint {part}", done.out)
+            self.assertIn("Exit status: ", done.out)
+
+    def test_refusals(self):
+        self.refuses("invalid choice: 'x'", "x")
+        self.refuses("unrecognized arguments: --check", "map", "--check")
+
+    def test_map_and_names_of_this_repository(self):
+        self.assertRegex(self.call("map").out, r"\Adocs/ARCHITECTURE.md has the \d+ crates of crates.txt\n\Z")
+        with open(repository.path("docs/layers.svg"), encoding="utf-8") as file:
+            self.prints(file.read(), "map", "--picture")
+
+    @needs("git")
+    @needs_program()
+    def test_all_parts(self):
+        done = self.call()
+        self.assertEqual((len(done.out.splitlines()), done.err, done.status), (4, "", 0), done.out)
+        self.assertIn("19 options agree\n", done.out)
