@@ -1,6 +1,9 @@
 """tools/image, on images that are made by hand."""
 
-from tests.support import ToolTest
+import struct
+import subprocess
+
+from tests.support import ToolTest, needs
 from tests.made_images import Made, words
 
 REGISTERS = "zero ra sp gp tp t0 t1 t2 s0 s1 a0 a1 a2 a3 a4 a5 a6 a7 s2 s3 s4 s5 s6 s7 s8 s9 s10 s11 t3 t4 t5 t6".split()
@@ -148,3 +151,130 @@ class Image(ToolTest):
         self.assertEqual((done.err, done.status), ("image: these are not addresses: x\n", 2))
         done = self.call(name, "--memory", "0-65536")
         self.assertEqual((done.err, done.status), ("image: program memory is 0x10000 to 0x17000, and 0-65536 is not in it\n", 2))
+
+
+# A core of one hart over seven pages, up to its note: the file's header, the headers of note and memory, and the note's own.
+CORE_HEAD = (
+    "7f454c46 02010100 00000000 00000000 0400f300 01000000 00000000 00000000"
+    "40000000 00000000 00000000 00000000 00000000 40003800 02000000 00000000"
+    "04000000 00000000 b0000000 00000000 00000000 00000000 00000000 00000000"
+    "8c010000 00000000 00000000 00000000 04000000 00000000"
+    "01000000 07000000 00100000 00000000 00000100 00000000 00000000 00000000"
+    "00700000 00000000 00700000 00000000 00100000 00000000"
+    "05000000 78010000 01000000 434f5245 00000000"
+)
+
+# Where the first note's content is, and how many bytes a note has.
+CONTENT, NOTE = 0xC4, 396
+
+# Functions that are called: _start calls outer, and outer inner. Each instruction has four bytes.
+FRAMES = """    .text
+    .globl _start
+_start:
+    jal outer
+    .type outer, @function
+outer:
+    .cfi_startproc
+    addi sp, sp, -16
+    .cfi_def_cfa_offset 16
+    sd ra, 8(sp)
+    .cfi_offset ra, -8
+    jal inner
+    j .
+    .cfi_endproc
+    .type inner, @function
+inner:
+    .cfi_startproc
+    nop
+    ret
+    .cfi_endproc
+"""
+
+
+class Core(ToolTest):
+    tool = "image"
+
+    def core(self, made):
+        """The bytes of the core of an image."""
+        image, name = self.file("image", made.bytes), self.path("core")
+        self.prints("", "--core", image, name)
+        with open(name, "rb") as file:
+            return file.read()
+
+    def test_bytes(self):
+        core = self.core(Made().put(16, b"ABC"))
+        self.assertEqual(len(core), 4096 + 7 * 4096)
+        self.assertEqual(core[:CONTENT].hex(), CORE_HEAD.replace(" ", ""))
+        # Signal 0, process 1, pc and x1 to x31, and eight bytes that say nothing.
+        note = bytes(32) + struct.pack("<I", 1) + bytes(76) + words(65540, *range(101, 132)) + bytes(8)
+        self.assertEqual(core[CONTENT : CONTENT + 376], note)
+        self.assertEqual(core[CONTENT + 376 :], bytes(4096 - CONTENT - 376) + b"ABC" + bytes(7 * 4096 - 3))
+
+    def test_memory_of_each_layout(self):
+        # Block 5 of memory, at byte 320, stands in an alternate block, in the journal of slot 1, or in a page of the pool.
+        for made in (
+            Made().entry(2, 6).put(530, b"here").put(16 + 5, b"home"),
+            Made(version=1).entry(2, 6).put(530, b"here").put(16 + 5, b"home"),
+            Made(scheme=1).entry(2, 6).put(536, b"here").put(14 + 5, b"home"),
+            Made(scheme=2).entry(0, 9).put(14 + 64 * 8 + 5, b"here").put(14 + 5, b"home"),
+        ):
+            core = self.core(made)
+            self.assertEqual((core[4096:4416], core[4416:4424]), (bytes(320), b"here\0\0\0\0"))
+            self.assertEqual(core[:CONTENT].hex(), CORE_HEAD.replace(" ", ""))
+
+    def test_two_harts(self):
+        core = self.core(Made(harts=2, status=2, number=7))
+        # The notes have 792 bytes; a store outside memory is SIGSEGV.
+        self.assertEqual(struct.unpack_from("<Q", core, 64 + 32), (792,))
+        for hart, pc, first in ((0, 65540, 100), (1, 65544, 200)):
+            content = core[CONTENT + NOTE * hart :]
+            self.assertEqual(struct.unpack_from("<H18xI", content, 12), (11, hart + 1))
+            self.assertEqual(content[112:368], words(pc, *(first + k for k in range(1, 32))))
+
+    def test_signals(self):
+        # As Linux has them: SIGBUS 7, SIGSEGV 11, SIGILL 4, SIGTRAP 5. A program that runs or has exited has none.
+        for status, number, signal in (
+            *((2, trap, signal) for trap, signal in enumerate((7, 11, 4, 5, 7, 11, 7, 11))),
+            (0, 0, 0),
+            (1, 5, 0),
+        ):
+            core = self.core(Made(status=status, number=number))
+            self.assertEqual(core[CONTENT + 12], signal)
+
+    @needs("gdb-multiarch", "riscv64-unknown-elf-gcc")
+    def test_in_gdb(self):
+        source, program, name = self.file("frames.s", FRAMES), self.path("frames.elf"), self.path("core")
+        gcc = ["riscv64-unknown-elf-gcc", "-march=rv64im", "-mabi=lp64", "-nostdlib", "-static", "-g", "-Wl,-Ttext=0x10000"]
+        subprocess.run([*gcc, "-o", program, source], check=True)
+        # pc is at the return of inner, ra behind the call in outer, and on the stack is what is behind the call in _start.
+        made = Made(harts=2)
+        for k, number in ((0, 0x10018), (1, 0x10010), (2, 0x16FF0), (40, 0x10014), (41, 0x10010), (42, 0x16FF0)):
+            made.word(made.slot, k, number)
+        made.word(16 + 447, 7, 0x10004)
+        self.prints("", "--core", self.file("image", made.bytes), name)
+        asked = ["bt", "print $x31", "x/gx $sp + 8", "thread 2", "bt 1", "print $a0"]
+        gdb = ["gdb-multiarch", "-q", "-nx", "-batch", *(word for command in asked for word in ("-ex", command)), program, name]
+        out = subprocess.run(gdb, capture_output=True, text=True, check=True).stdout
+        for line in (
+            r"#0  inner \(\) at .*frames\.s:19",
+            r"#1  0x0*10010 in outer \(\) at .*frames\.s:12",
+            r"#2  0x0*10004 in _start \(\) at .*frames\.s:4",
+            r"\$1 = 131",
+            r"0x16ff8:\s+0x0*10004",
+            r"#0  inner \(\) at .*frames\.s:18",
+            r"\$2 = 210",
+        ):
+            self.assertRegex(out, rf"(?m)^{line}$")
+
+    def test_refusals(self):
+        name = self.file("image", Made().bytes)
+        self.refuses("--core needs two names, IMAGE and CORE", "--core", name)
+        self.refuses("the following arguments are required: IMAGE", "--core")
+        self.refuses("--core shows no memory: the core has all of it", "--core", name, self.path("core"), "--memory")
+        self.refuses(f"{name} is the image itself", "--core", name, name)
+        self.refuses("No such file", "--core", self.path("none"), self.path("core"))
+        self.refuses("No such file", "--core", name, self.path("none", "core"))
+        bad = self.file("bad", Made().put(1, words(*[0] * 8)).bytes)
+        self.refuses("it holds no checkpoint", "--core", bad, self.path("core"))
+        with open(name, "rb") as file:
+            self.assertEqual(file.read(), Made().bytes)
