@@ -41,12 +41,14 @@ ssize_t read(int descriptor, void *to, size_t length) {
     return (ssize_t)done;
 }
 
+// If the console has room for a part only, it takes that part, and the call fails. So a program that looks at what its calls
+// return learns of each byte that was lost.
 ssize_t write(int descriptor, const void *from, size_t length) {
     size_t done = 0;
     do {
         long taken = write_some(descriptor, (const char *)from + done, length - done);
         if (taken < 0) {
-            return done > 0 ? (ssize_t)done : fail((int)-taken);
+            return fail((int)-taken);
         }
         done += (size_t)taken;
     } while (done < length);
@@ -65,13 +67,21 @@ int close(int descriptor) {
     return is_open(descriptor) ? 0 : fail(EBADF);
 }
 
+// The end of memory, or 0 where the stack is at the end of memory: crt0.s has it.
+extern unsigned long __memory_end;
+
+// The machine's break ends 65536 bytes below the first stack pointer. If the stack is below the program, the heap goes on
+// behind the greatest break, up to the end of memory.
 void *sbrk(ptrdiff_t more) {
-    unsigned long end = move_break(0);
+    static unsigned long last;
+    unsigned long break_now = move_break(0);
+    unsigned long end = last > break_now ? last : break_now;
     unsigned long wanted = end + (unsigned long)more;
-    if (move_break(wanted) != wanted) {
+    if (move_break(wanted) != wanted && (wanted < break_now || wanted > __memory_end)) {
         errno = ENOMEM;
         return (void *)-1;
     }
+    last = wanted;
     return (void *)end;
 }
 

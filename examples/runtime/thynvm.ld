@@ -1,5 +1,7 @@
 /* Where a program stands in the memory of thynvm: from the default base, 65536, on. The machine's loader takes
-   the two segments; the heap begins behind them, at the break, and the stack comes down from the end of memory. */
+   the two segments; the heap begins behind them, at the break. The stack of a program that starts by crt0.s comes
+   down to the base, from where the program begins. One with a start of its own, which names no __stack_size, begins
+   at the base, and its stack comes down from the end of memory. */
 ENTRY(_start)
 
 PHDRS
@@ -14,6 +16,9 @@ PROVIDE(exit = _exit);
 SECTIONS
 {
     . = 65536;
+    __stack_begin = .;
+    . += DEFINED(__stack_size) ? __stack_size : 0;
+    __stack_end = .;
     .text : { *(.text.start) *(.text .text.*) } :code
     .rodata : { *(.rodata .rodata.* .srodata .srodata.*) } :code
     . = ALIGN(4096);

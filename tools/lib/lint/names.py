@@ -27,7 +27,7 @@ Exit status: 0 all names are found; 1 some are not; 2 invalid usage."""
 OTHERS = {
     "words of Rust and of the prover": "if impl requires search Abort",
     "instructions of the guest": "ld bne ecall",
-    "functions and streams of C": "malloc memcpy memset stdin stdout stderr",
+    "functions and streams of C": "malloc memcpy memmove memset memcmp printf write stdin stdout stderr",
     "variables of the environment": "THYNVM_HELP THYNVM_ANSWER_SECONDS",
     "a program of others": "parallel",
     "words of ELF files and of gcc": "e_phoff p_vaddr p_memsz init_array rv64im_zifencei",
