@@ -45,10 +45,16 @@ class Tutorial(CopyTest):
         done = self.call("--write")
         self.assertEqual((done.err, done.status, self.read("docs/TUTORIAL.md")), ("", 0, PAGE))
 
+    def test_the_other_page(self):
+        self.file("docs/DEBUGGING.md", PAGE)
+        self.page("    $ echo other\n")
+        self.prints("", "debugging")
+
     def test_what_is_left_there_goes(self):
         self.page(PAGE)
         self.file("tutorial/old")
         self.prints("")
 
     def test_refusals(self):
-        self.refuses("unrecognized arguments: x", "x")
+        self.refuses("there is no page x: the pages are tutorial, debugging", "x")
+        self.refuses("unrecognized arguments: y", "tutorial", "y")
