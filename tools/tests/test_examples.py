@@ -1,6 +1,8 @@
 """tools/examples, with a program that is a script, and with the program itself."""
 
-from lib import repository
+import subprocess
+
+from lib import report, repository
 from tests.support import CopyTest, ToolTest, needs_program
 
 ZEROS = "0" * 64
@@ -77,3 +79,30 @@ class WithTheProgram(ToolTest):
         self.assertRegex(done.out, r"(?m)^exit_seven: .*plain, cuts agree$")
         self.assertRegex(done.out, r"(?m)^greet: .*plain, cuts agree$")
         self.assertEqual((done.err, done.status), ("", 0))
+
+    def test_those_of_other_kinds(self):
+        # In C++, for two harts with a library, over an input that grows, and the one of docs/DEBUGGING.md.
+        done = self.call("accounts", "primes", "tally", "sums")
+        for line in ("accounts: .*plain, cuts", "primes: .*pair", "tally: .*plain, cuts", "sums: .*plain, cuts"):
+            self.assertRegex(done.out, rf"(?m)^{line} agree$")
+        self.assertEqual((done.err, done.status), ("", 0))
+
+    def test_an_input_that_grows(self):
+        # Each call has one part more of the input, and goes on from what the one before has saved, the last through a cut.
+        program, image, source = repository.example("tally"), self.path("image"), self.path("input")
+        printed = []
+        for command, part, words, status in (
+            (["run", program], "first", ["--limit", "60000", "--save", image], 8),
+            (["resume", image], "second", ["--limit", "40000", "--save", image], 8),
+            (["resume", image], "third", ["--cuts", "3000"], 0),
+        ):
+            with open(repository.example("tally", part), "rb") as more, open(source, "ab") as file:
+                file.write(more.read())
+            call = [repository.PROGRAM, *command, "--pages", "32", "--input", source, *words]
+            done = subprocess.run(call, capture_output=True, text=True)
+            self.assertEqual(done.returncode, status, done.stderr)
+            printed.append(done.stdout)
+        self.assertEqual(printed, ["5\n12\n", "5\n12\n10\n110\n", "5\n12\n10\n110\n111\nthat is all\n"])
+        self.assertEqual(report.events(done.stderr.splitlines(), report.Cut), [report.Cut(1, 3000)])
+        plain = [repository.PROGRAM, "plain", program, "--input", repository.example("tally", "whole")]
+        self.assertEqual(printed[-1], subprocess.run(plain, capture_output=True, text=True).stdout)
