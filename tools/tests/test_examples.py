@@ -3,7 +3,7 @@
 import subprocess
 
 from lib import report, repository
-from tests.support import CopyTest, ToolTest, needs_program
+from tests.support import CopyTest, ToolTest, loaded, needs_program
 
 ZEROS = "0" * 64
 
@@ -64,6 +64,18 @@ class Examples(CopyTest):
         self.assertIn("two_harts: pair agree\n", done.out)
         self.assertEqual(done.status, 0)
 
+    def test_what_rust_needs(self):
+        tool = loaded("examples")
+        made = tool.rustc
+        tool.RUST = "0.1.2"
+        self.assertEqual(made(), "")
+        self.assertEqual(tool.missing_rust(), "rustc 0.1.2 is not installed")
+        tool.rustc = lambda: "rustc"
+        tool.RUST_SOURCE = self.path("none")
+        self.assertEqual(tool.missing_rust(), "rust-src is not installed")
+        tool.RUST_SOURCE = self.folder
+        self.assertEqual(tool.missing_rust(), "")
+
     def test_refusals(self):
         self.refuses("there is no example none, other", "other", "none", "hello")
         self.refuses("there is no program /none: a call of ./thynvm builds it", "--program", "/none")
@@ -81,9 +93,10 @@ class WithTheProgram(ToolTest):
         self.assertEqual((done.err, done.status), ("", 0))
 
     def test_those_of_other_kinds(self):
-        # In C++, for two harts with a library, over an input that grows, and the one of docs/DEBUGGING.md.
-        done = self.call("accounts", "primes", "tally", "sums")
-        for line in ("accounts: .*plain, cuts", "primes: .*pair", "tally: .*plain, cuts", "sums: .*plain, cuts"):
+        # For two harts with a library, in C++, in Rust, over an input that grows, and the one of docs/DEBUGGING.md.
+        names = ("accounts", "checksums", "tally", "sums")
+        done = self.call("primes", *names)
+        for line in ("primes: .*pair", *(f"{name}: .*plain, cuts" for name in names)):
             self.assertRegex(done.out, rf"(?m)^{line} agree$")
         self.assertEqual((done.err, done.status), ("", 0))
 
