@@ -77,6 +77,30 @@ class QuickRt(CopyTest):
     def test_another_kit_is_called_as_it_is(self):
         self.prints("another: check -x\n", "--longest-way", "check", "-x", status=4, env=self.beside(rt='echo "another: $*"; exit 4'))
 
+    def test_several_crates(self):
+        # Three for each processor, and none without 2,500 MB that are free; but at least one.
+        script = loaded("quick-rt")
+        for processors, free, number in ((4, 30000, 12), (4, 29999, 11), (4, 100000, 12), (1, 2500, 1), (2, 0, 1)):
+            self.assertEqual(script.workers(processors, free), number)
+        env = self.beside(rt='case $1 in help) echo "rt all check --jobs N" ;; *) echo "another: $*" ;; esac')
+        self.assertRegex(self.call("--several-crates", "all", "check", env=env).out, r"\Aanother: all check --jobs [1-9]\d*\n\Z")
+        self.prints("another: all check\n", "--several-crates", "all", "check", env=self.beside(rt='echo "another: $*"'))
+
+    def test_free_memory(self):
+        script = loaded("quick-rt")
+        proc = self.file("meminfo", "MemTotal: 9000000 kB\nMemAvailable:    8192000 kB\n")
+        groups = self.path("groups")
+        self.assertEqual(script.free_memory(proc, groups), 8000)
+        self.file("groups/memory.max", "max\n")
+        self.file("groups/memory.stat", f"file 5\nanon {1000 << 20}\nanon_thp 7\n")
+        self.assertEqual(script.free_memory(proc, groups), 8000)
+        self.file("groups/memory.max", f"{5000 << 20}\n")
+        self.assertEqual(script.free_memory(proc, groups), 4000)
+        self.file("groups/memory/memory.limit_in_bytes", f"{3000 << 20}\n")
+        self.file("groups/memory/memory.stat", f"total_rss {500 << 20}\n")
+        self.assertEqual(script.free_memory(proc, groups), 2500)
+        self.assertEqual(script.free_memory(self.path("none"), self.path("none")), 0)
+
     def test_longest_ways(self):
         # A crate without code counts 8,000; right has 8,000 bytes of it. So the way through right is 32,000, that through left 24,000.
         script = loaded("quick-rt")

@@ -1,0 +1,116 @@
+"""The words of a call of ./thynvm, taken apart as the script and the program take them."""
+
+import difflib
+
+from lib import program
+from lib.program import OPERANDS
+
+# Words of the script alone.
+QUIET, OBSERVE, BUILD = "--quiet", "observe", "build"
+
+# What is missing if a call ends before its command, or before OUT.
+COMMANDS = ", ".join(list(OPERANDS)[:-1]) + f" or {list(OPERANDS)[-1]}"
+NO_OUT = "observe needs OUT, the name under which text is put, and then a call"
+
+
+def nearest(word, words, dashes=""):
+    """Which of some words is nearest to another, as the end of a sentence; nothing where none is near."""
+    found = difflib.get_close_matches(word, words, n=1)
+    return f"; the nearest is {dashes}{found[0]}" if found else ""
+
+
+class Call:
+    """The words of a call; `fault` is the first that has no place, in words. `out` is the OUT of observe, or None."""
+
+    def __init__(self, words):
+        self.operands, self.options, self.fault, self.out = [], {}, "", None
+        rest = list(words)
+        is_quiet = rest[:1] == [QUIET]
+        if is_quiet:
+            rest.pop(0)
+        if rest[:1] == [BUILD]:
+            self.fault = f"{BUILD} is a command only as the first word" if is_quiet else f"{BUILD} takes no other word"
+        elif rest[:1] == [OBSERVE]:
+            # A command in the place of OUT, and none behind it, is the call's own.
+            if len(rest) < 3 or rest[1] in OPERANDS and rest[2] not in OPERANDS:
+                self.fault = NO_OUT
+            else:
+                self.out = rest[1]
+            rest = rest[2:]
+        self.command = rest[0] if rest else ""
+        self.known = program.options_of(self.command)
+        self.fault = self.fault or self.command_fault(rest)
+        self.take(rest[1:])
+
+    def command_fault(self, rest):
+        """What is wrong with the first word."""
+        if not rest:
+            return f"a command is missing: {COMMANDS}"
+        if self.command in OPERANDS:
+            return ""
+        if self.command.startswith("-"):
+            return f"{self.command} stands before the command"
+        if self.command in (OBSERVE, BUILD):
+            return f"{self.command} is a command only as the first word"
+        return f"there is no command {self.command}{nearest(self.command, OPERANDS)}"
+
+    def take(self, rest):
+        """Takes the words after the command, up to a fault."""
+        wanted = OPERANDS.get(self.command, ())
+        while rest and not self.fault:
+            word = rest.pop(0)
+            if word == "--":
+                self.operands += rest
+                break
+            if word.startswith("--"):
+                self.fault = self.option(word[2:], rest)
+            elif word.startswith("-") and word != "-":
+                self.fault = f"{word} is not an option: each has two dashes, as --pages"
+            else:
+                self.operands.append(word)
+        if not self.fault and len(self.operands) > len(wanted):
+            self.fault = f"'{self.operands[len(wanted)]}' is one word too many: {self.command} takes {' '.join(wanted)}"
+        elif not self.fault and len(self.operands) < len(wanted):
+            self.fault = f"{self.command} needs {' '.join(wanted[len(self.operands):])}"
+
+    def option(self, word, rest):
+        """Takes an option, and its value where that is a word of its own; or says what is wrong."""
+        name, equals, value = word.partition("=")
+        if name not in self.known:
+            if name in program.OPTIONS:
+                return f"{self.command} does not take --{name}"
+            return f"there is no option --{name}{nearest(name, self.known, '--')}"
+        if name in self.options:
+            return f"--{name} stands twice"
+        if name in program.FLAGS:
+            self.options[name] = ""
+            return f"--{name} takes no value" if equals else ""
+        if not equals:
+            if not rest:
+                return f"--{name} needs a value"
+            if rest[0].startswith("-") and rest[0] != "-":
+                return f"--{name} needs a value; one that begins with a dash is given as --{name}={rest[0]}"
+            value = rest.pop(0)
+        self.options[name] = value
+        return ""
+
+    def number(self, name):
+        """The number that an option has, given or by default."""
+        return int(self.options.get(name, program.FIELDS[name].default))
+
+    def numbers(self, name):
+        """The numbers of a list; none if it is not given."""
+        return [int(number) for number in self.options[name].split(",")] if name in self.options else []
+
+    @property
+    def scheme(self):
+        return self.options.get("scheme", program.FIELDS["scheme"].default)
+
+    def read(self):
+        """The files that the call reads, in their order."""
+        files = self.operands[:1] if self.command in ("run", "plain", "resume", "compare") else []
+        return files + [self.options[name] for name in ["input"] if name in self.options]
+
+    def written(self):
+        """The file that the call writes, beside OUT; or None."""
+        return self.operands[1] if self.command == "make" and len(self.operands) > 1 else self.options.get("save")

@@ -1,0 +1,1 @@
+"""A program that runs, with what is said of it while it does."""
