@@ -31,6 +31,16 @@ def content(stream):
     return os.pread(stream, os.fstat(stream).st_size, 0)
 
 
+class Wrong(Exception):
+    """What is wrong with an answer."""
+
+
+def wants(holds, text, line=None):
+    """Says what is wrong, and with which line of a report, unless something holds."""
+    if not holds:
+        raise Wrong(text if line is None else f"{text}: {line!r}")
+
+
 class Late(Exception):
     """A call has not ended."""
 

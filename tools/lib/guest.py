@@ -9,6 +9,9 @@ ZERO, RA, SP, T0, T1, T2, S0, S1 = 0, 1, 2, 5, 6, 7, 8, 9
 A0, A1, A2, A7, S2, S3, S4, S5, S6, S7 = 10, 11, 12, 17, 18, 19, 20, 21, 22, 23
 T3, T4, T5, T6 = 28, 29, 30, 31
 
+# The opcodes of the instructions that a machine with one hart has.
+OPCODES = (0x03, 0x0F, 0x13, 0x17, 0x1B, 0x23, 0x33, 0x37, 0x3B, 0x63, 0x67, 0x6F, 0x73)
+
 ECALL, EBREAK, FENCE, FENCE_I = 0x00000073, 0x00100073, 0x0FF0000F, 0x0000100F
 
 # The numbers of the calls.

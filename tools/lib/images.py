@@ -14,7 +14,6 @@ PER_PAGE = PAGE // BLOCK
 # The bytes with which header and commit block begin; of the commit block they name the version.
 HEADER = b"THYNHDR1"
 COMMITS = {1: b"THYNCMT1", 2: b"THYNCMT2"}
-VERSIONS = {name: version for version, name in COMMITS.items()}
 
 # What the option --scheme calls the scheme of a number.
 SCHEME_NAMES = {number: name for name, number in SCHEMES.items()}

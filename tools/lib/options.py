@@ -11,6 +11,11 @@ class Refused(Exception):
     """Why a script goes no further, in words for the one who called."""
 
 
+def in_a_line(text):
+    """What is said in several lines, as one."""
+    return " ".join(line.strip() for line in str(text).splitlines() if line.strip())
+
+
 class Parser(argparse.ArgumentParser):
     """The options of a script. What has no place among them is refused in a line on standard error, with the status 2."""
 
@@ -18,7 +23,7 @@ class Parser(argparse.ArgumentParser):
         super().__init__(prog=prog, description=about, formatter_class=argparse.RawDescriptionHelpFormatter, **more)
 
     def error(self, message):
-        self.exit(2, f"{self.prog}: {' '.join(message.splitlines())}\n")
+        self.exit(2, f"{self.prog}: {in_a_line(message)}\n")
 
     def add_program(self, name="--program", default=repository.PROGRAM, **more):
         """The option that names a program to call, in place of the one that is built in the repository."""
@@ -38,9 +43,17 @@ def positive(text):
     return value
 
 
+def seconds(text):
+    """A time above 0."""
+    value = float(text)
+    if not 0 < value < float("inf"):
+        raise ValueError
+    return value
+
+
 def refuse(prog, fault, status=2):
     """Says in a line why a script goes no further; its status."""
-    print(f"{prog}: {fault}", file=sys.stderr)
+    print(f"{prog}: {in_a_line(fault)}", file=sys.stderr)
     return status
 
 
@@ -48,7 +61,11 @@ def finish(prog, work, refused, lists=False):
     """Does the work of a script; its status. If the work is refused, or a file cannot be read or written, that is said in a
     line, and the status is `refused`. One that lists may be left by its reader, as `head` leaves it, which is no fault."""
     try:
-        return work()
+        status = work()
+        if lists:
+            # What is still to be written may find that the reader has left, too.
+            sys.stdout.flush()
+        return status
     except (Refused, OSError) as fault:
         if lists and isinstance(fault, BrokenPipeError):
             # Nothing more is to be written at the end either.
@@ -57,12 +74,15 @@ def finish(prog, work, refused, lists=False):
         return refuse(prog, fault, refused)
 
 
-def lines_of(name):
-    """The lines of a file, or of standard input if the name is `-`."""
-    if name == "-":
-        return sys.stdin.read().splitlines()
-    with open(name, encoding="utf-8") as file:
-        return file.read().splitlines()
+def lines_of(name, what):
+    """The lines of a file, or of standard input if the name is `-`. What cannot be read is refused, as what it is."""
+    try:
+        if name == "-":
+            return sys.stdin.read().splitlines()
+        with open(name, encoding="utf-8") as file:
+            return file.read().splitlines()
+    except (OSError, UnicodeDecodeError) as fault:
+        raise Refused(f"{what} cannot be read: {fault}") from None
 
 
 def write_lines(name, lines):

@@ -47,5 +47,5 @@ def help_page():
 
 def tracked():
     """The paths of the files that the repository keeps, as seen from its top."""
-    listed = subprocess.run(["git", "ls-files"], cwd=TOP, stdout=subprocess.PIPE, check=True, universal_newlines=True)
+    listed = subprocess.run(["git", "ls-files"], cwd=TOP, capture_output=True, check=True, universal_newlines=True)
     return listed.stdout.splitlines()

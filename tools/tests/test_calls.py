@@ -40,6 +40,13 @@ class Calls(ToolTest):
         status = self.made("while :; do :; done", seconds=1)[0]
         self.assertEqual(calls.fault_of(status, 1), "no answer within 1 seconds of processor time")
 
+    def test_what_is_wrong(self):
+        calls.wants(True, "never said")
+        for line, said in ((None, "it is not so"), ("reload", "it is not so: 'reload'")):
+            with self.assertRaises(calls.Wrong) as wrong:
+                calls.wants(False, "it is not so", line)
+            self.assertEqual(str(wrong.exception), said)
+
     def test_files_of_a_case(self):
         self.file("case/program", "x")
         place = calls.kept(self.path("kept"), self.path("case"), "it is wrong", ["true", "sh -c 'exit 3'"])

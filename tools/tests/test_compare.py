@@ -15,7 +15,8 @@ esac
 """
 
 # Makes the calls of its input one after the other.
-PARALLEL = "while read -r line; do sh -c \"$line\"; done"
+GNU = "[ $1 != --version ] || { echo GNU parallel; exit; }\n"
+PARALLEL = GNU + "while read -r line; do sh -c \"$line\"; done"
 
 HEADINGS = "program\toptions\tscheme\tepochs\tearly\toverlapped\twrites\tinstructions\n"
 
@@ -90,9 +91,11 @@ class Compare(CopyTest):
 
     def test_refusals_of_the_place(self):
         words = ["--program", "a.elf", "--configuration", "", "--table"]
-        self.refuses("GNU parallel is not installed (Debian: parallel)", *words, "a", env=self.without(), status=1)
+        self.refuses("parallel is not in PATH", *words, "a", env=self.without(), status=1)
         self.refuses("cannot be written", *words, self.path("none", "table"), env=self.with_parallel, status=1)
-        self.refuses("parallel has failed: no", *words, "a", env=self.beside(parallel="echo no >&2; exit 1"), status=1)
+        self.refuses("the parallel in PATH is not that of GNU", *words, "a", env=self.beside(parallel="echo another"), status=1)
+        failing = self.beside(parallel=f"{GNU}echo no >&2; echo more >&2; exit 1")
+        self.refuses("parallel has failed: no more", *words, "a", env=failing, status=1)
         os.remove(self.path("crates/thynvm/out/thynvm"))
         self.refuses("the program is not built: a call of ./thynvm builds it", *words, "a", status=1)
 

@@ -47,9 +47,8 @@ class CycleCost(CopyTest):
         self.prints(wanted, env=self.beside(valgrind=VALGRIND), status=1)
 
     def test_a_valgrind_that_fails(self):
-        done = self.call(env=self.beside(valgrind="echo it is not so >&2; exit 1"))
-        self.assertEqual((done.out, done.status), ("", 1))
-        self.assertEqual(done.err, "cycle-cost: callgrind counted nothing:\nit is not so\n\n")
+        self.refuses("callgrind counted nothing: it is not so", env=self.beside(valgrind="echo one line >&2; echo it is not so >&2; exit 1"))
+        self.refuses("callgrind counted nothing: it said nothing", env=self.beside(valgrind="exit 1"))
 
     def test_without_valgrind(self):
         self.prints("cycle-cost: valgrind is not installed: nothing was counted\n", env=self.without())

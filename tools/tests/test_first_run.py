@@ -2,6 +2,7 @@
 
 import os
 import subprocess
+import sys
 
 from tests.support import CopyTest, needs
 
@@ -49,6 +50,17 @@ class FirstRun(CopyTest):
         clone = done.out.splitlines()[-1].split("the clone is ")[1]
         self.assertTrue(os.path.exists(os.path.join(clone, "README.md")))
         subprocess.run(["rm", "-r", os.path.dirname(clone)], check=True)
+
+    def test_a_signal(self):
+        os.mkdir(self.path("temporary"))
+        env = {**self.repository(), "TMPDIR": self.path("temporary")}
+        command = [sys.executable, f"{self.tools}/first-run"]
+        with subprocess.Popen(command, env=env, stdout=subprocess.PIPE, stderr=subprocess.PIPE, text=True) as call:
+            self.assertEqual(call.stderr.readline(), "not proved yet: exit 7 at 3\n")
+            call.terminate()
+            call.communicate(timeout=60)
+        # The clone is removed.
+        self.assertEqual((call.returncode, os.listdir(self.path("temporary"))), (143, []))
 
     def test_refusals(self):
         self.refuses("unrecognized arguments: x", "x")

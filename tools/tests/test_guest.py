@@ -61,6 +61,10 @@ class Instructions(unittest.TestCase):
             with self.subTest(text=text):
                 self.assertEqual(word, known[text])
 
+    def test_opcodes(self):
+        # Those of all words of the assembler but the atomic ones, and that of ecall, which has no comment there.
+        self.assertEqual({word & 0x7F for word in by_assembler().values()} - {0x2F} | {0x73}, set(guest.OPCODES))
+
     def test_offsets_of_stores(self):
         # sd t0,-8(sp); sw t1,2047(t0); sb zero,-2048(a0)
         stores = guest.store(3, T0, guest.SP, -8), guest.store(2, T1, T0, 2047), guest.store(0, ZERO, guest.A0, -2048)

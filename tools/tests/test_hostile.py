@@ -5,8 +5,9 @@ import struct
 import unittest
 
 from lib import repository
+from lib.calls import Wrong
 from lib.hostile_calls import rules
-from lib.hostile_calls.answers import Answer, Plan, Report, Wrong, compare, judge_comparison, judge_refusal, judge_run
+from lib.hostile_calls.answers import Answer, Plan, Report, compare, judge_comparison, judge_refusal, judge_run
 from lib.hostile_calls.rules import RESUMED, Due, Image, read_image, settings
 from tests.support import CopyTest, ToolTest, needs_program
 from tests.made_images import Made, words
@@ -293,6 +294,11 @@ class Hostile(CopyTest):
         self.refuses("there is no program /none: a call of ./thynvm builds it", "--program", "/none")
         self.refuses("argument --only: invalid choice: 'x'", "--only", "x")
         self.refuses("argument --seed: invalid int value: 'x'", "--seed", "x")
+        for name in ("--count", "--jobs", "--memory"):
+            self.refuses(f"argument {name}: invalid positive value: '0'", name, 0)
+        self.refuses("argument --seconds: invalid seconds value: '-1'", "--seconds=-1")
+        self.refuses("--allocs makes no case of another kind", "--allocs", "--only", "elf")
+        self.refuses("--allocs has the cases 0 to 12", "--allocs", "--case", 13)
         self.refuses("unrecognized arguments: x", "x")
 
     def test_a_program_that_is_wrong(self):
@@ -314,6 +320,10 @@ class WithTheProgram(ToolTest):
         done = self.call("--seed", random.randrange(10**6), "--count", 10, "--jobs", 2)
         self.assertEqual((done.err, done.status), ("", 0), done.out)
         self.assertRegex(done.out, r"\n40 cases of seed \d+, 0 wrong\n\Z")
+
+    def test_one_call_whose_memory_is_refused(self):
+        done = self.call("--allocs", "--case", 9)
+        self.assertRegex(done.out, r"\n1 cases of seed 1, 0 wrong\n\Z")
 
     def test_one_case(self):
         done = self.call("--only", "input", "--case", 5)

@@ -1,7 +1,9 @@
 """tools/image, on images that are made by hand."""
 
+import os
 import struct
 import subprocess
+import sys
 
 from tests.support import ToolTest, needs
 from tests.made_images import Made, words
@@ -147,10 +149,18 @@ class Image(ToolTest):
         self.refuses("the following arguments are required: IMAGE")
         self.refuses("--memory shows the memory of one image", name, name, "--memory")
         self.refuses("unrecognized arguments: --pages", name, "--pages")
-        done = self.call(name, "--memory", "x")
-        self.assertEqual((done.err, done.status), ("image: these are not addresses: x\n", 2))
-        done = self.call(name, "--memory", "0-65536")
-        self.assertEqual((done.err, done.status), ("image: program memory is 0x10000 to 0x17000, and 0-65536 is not in it\n", 2))
+        self.refuses("these are not addresses: x", name, "--memory", "x")
+        self.refuses("program memory is 0x10000 to 0x17000, and 0-65536 is not in it", name, "--memory", "0-65536")
+
+    def test_a_reader_that_has_enough(self):
+        other = self.image(Made(epoch=6), "other")
+        for more in ([], [other]):
+            reading, writing = os.pipe()
+            os.close(reading)
+            command = [sys.executable, f"{self.tools}/image", self.image(Made()), *more]
+            done = subprocess.run(command, stdout=writing, stderr=subprocess.PIPE)
+            os.close(writing)
+            self.assertEqual((done.stderr, done.returncode), (b"", 0))
 
 
 # A core of one hart over seven pages, up to its note: the file's header, the headers of note and memory, and the note's own.

@@ -54,13 +54,18 @@ class Kills(CopyTest):
 
     def test_programs_that_end_otherwise(self):
         self.program("exit 3")
-        done = self.call(env={**os.environ, "TMPDIR": self.folder})
+        os.mkdir(self.path("temporary"))
+        done = self.call(env={**os.environ, "TMPDIR": self.path("temporary")})
         self.assertRegex(done.err, r"\Akills: .*/thynvm run .* --limit 1000000 --save .*: status 3\n\Z")
-        self.assertEqual((done.out, done.status), ("", 1))
+        self.assertEqual((done.out, done.status), ("", 2))
+        # No case is kept, as none was wrong.
+        self.assertEqual(os.listdir(self.path("temporary")), [])
 
     def test_refusals(self):
         self.refuses("unrecognized arguments: x", "x")
-        self.refuses("argument --count: invalid int value: 'x'", "--count", "x")
+        self.refuses("argument --count: invalid positive value: 'x'", "--count", "x")
+        self.refuses("argument --count: invalid positive value: '0'", "--count", 0)
+        self.refuses("argument --pages: invalid positive value: '-8'", "--pages", -8)
         self.refuses("the program is not built; ./thynvm builds it")
 
 

@@ -94,6 +94,8 @@ class Map(CopyTest):
 
     def test_refusals(self):
         self.refuses("cannot read a crate none in crates.txt", "map", "--above", "none")
+        self.file("docs/ARCHITECTURE.md", MAP.replace("| middle | more | low | it", "| middle | more | it"))
+        self.refuses("cannot read the row of middle in docs/ARCHITECTURE.md, which has 3 cells", "map")
         self.file("docs/ARCHITECTURE.md", "# Another\n")
         self.refuses("cannot read `## The map` in docs/ARCHITECTURE.md", "map")
         os.remove(self.path("docs/ARCHITECTURE.md"))
@@ -130,6 +132,15 @@ class Names(CopyTest):
             with self.subTest(text=text):
                 self.assertIn(f"{said}\n", done.out)
                 self.assertEqual((done.err, done.status), ("", 1))
+
+
+class NamesElsewhere(CopyTest):
+    tool = "lint"
+
+    def test_refusals(self):
+        # Where git does not look for a repository in the folders above.
+        self.refuses("cannot read the list of files: git ls-files has failed", "names", env={**os.environ, "GIT_CEILING_DIRECTORIES": os.path.dirname(self.folder)})
+        self.refuses("cannot read the list of files: git is not in PATH", "names", env=self.without())
 
 
 class Claim(ToolTest):
@@ -203,6 +214,11 @@ class Help(CopyTest):
 
     def test_refusals(self):
         self.refuses("there is no program /none: a call of ./thynvm builds it", "help", "--program", "/none")
+        program = self.program("exit 0")
+        self.script("thynvm", repository.text_of("thynvm"))
+        self.refuses("cannot read crates/thy_words/src/fields.rt: No such file or directory", "help", "--program", program)
+        self.file("crates/thy_words/src/fields.rt", "")
+        self.refuses("cannot read the default of --scheme in crates/thy_words/src/fields.rt", "help", "--program", program)
 
 
 class Whole(ToolTest):

@@ -1,11 +1,12 @@
 """Options, refusals, and how a script ends."""
 
 import io
+import tempfile
 import unittest
 from contextlib import redirect_stderr, redirect_stdout
 
 from lib import options
-from lib.options import Parser, Refused, finish, positive
+from lib.options import Parser, Refused, finish, positive, seconds
 
 
 def call(work):
@@ -56,12 +57,33 @@ class Options(unittest.TestCase):
             with self.assertRaises(ValueError):
                 positive(text)
 
+    def test_seconds(self):
+        self.assertEqual(seconds("0.5"), 0.5)
+        for text in ("0", "-1", "nan", "inf", "x"):
+            with self.assertRaises(ValueError):
+                seconds(text)
+
+    def test_what_has_several_lines_is_said_in_one(self):
+        said = "\nline 0: it is not so\n\n  and ends\n"
+        self.assertEqual(call(lambda: finish("tool", lambda: refuse(said), 1)), ("", "tool: line 0: it is not so and ends\n", 1))
+        self.assertEqual(call(lambda: self.parser().error("a\nb")), ("", "tool: a b\n", 2))
+
     def test_how_a_script_ends(self):
         self.assertEqual(call(lambda: finish("tool", lambda: 5, 2)), ("", "", 5))
         self.assertEqual(call(lambda: finish("tool", refuse, 2)), ("", "tool: it is not so\n", 2))
         self.assertEqual(call(lambda: finish("tool", refuse, 1)), ("", "tool: it is not so\n", 1))
 
-    def test_a_file_that_is_not_there(self):
-        out, err, status = call(lambda: finish("tool", lambda: options.lines_of("/none/file"), 1))
-        self.assertEqual((out, status), ("", 1))
-        self.assertRegex(err, r"\Atool: .*/none/file.*\n\Z")
+    def test_files_that_cannot_be_read(self):
+        with tempfile.NamedTemporaryFile() as file:
+            file.write(b"\xff")
+            file.flush()
+            for name, why in (("/none/file", ".*/none/file.*"), (file.name, ".*can't decode byte 0xff.*")):
+                out, err, status = call(lambda: finish("tool", lambda: options.lines_of(name, "the list"), 1))
+                self.assertEqual((out, status), ("", 1))
+                self.assertRegex(err, rf"\Atool: the list cannot be read: {why}\n\Z")
+
+    def test_lines(self):
+        with tempfile.NamedTemporaryFile() as file:
+            file.write(b"a b\n\nc")
+            file.flush()
+            self.assertEqual(options.lines_of(file.name, "the list"), ["a b", "", "c"])

@@ -3,12 +3,13 @@
 import hashlib
 import unittest
 
+from lib.calls import Wrong
 from lib.drawing import Draw
 from lib.random_runs.cases import Piece, is_starved, other_geometry, outside
 from lib.random_runs.drawn import Geometry, Memory, Pace, drawn_geometry, drawn_memory, drawn_pace, promised, said
 from lib.random_runs.pairs import Cell, pair_program
 from lib.random_runs.programs import drawn_program, memory_for, with_second_hart
-from lib.random_runs.reports import Answer, Guest, Known, Mark, Wrong, read_report
+from lib.random_runs.reports import Answer, Guest, Known, Mark, read_report
 from tests.support import CopyTest, ToolTest, needs_program
 
 
@@ -181,6 +182,8 @@ class Random(CopyTest):
         self.refuses("there is no program /none: a call of ./thynvm builds it", "--program", "/none")
         self.refuses("unknown: --pages 8", "--program", program, "--pages", 8)
         self.refuses("argument --runs: invalid positive value: '0'", "--runs", 0)
+        self.refuses("argument --memory: invalid positive value: '0'", "--memory", 0)
+        self.refuses("argument --seconds: invalid seconds value: '0'", "--seconds", 0)
         self.refuses("argument --harts: invalid choice: '3'", "--harts", 3)
         self.refuses("argument --scheme: invalid choice: 'x'", "--scheme", "x")
         refusing = self.script("refusing", "#!/bin/sh\necho 'fetch a missing' >&2\nexit 3\n")

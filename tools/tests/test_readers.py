@@ -8,6 +8,9 @@ from tests.support import ToolTest, needs_observer
 # and six of texts, and one for each of six options. With gnuplot there are as many pictures of tools/epochs as tables.
 CALLS = 5 + 1 + 1 + 1 + 14 + 6 + (5 if shutil.which("gnuplot") else 0)
 
+# What a program that reports nothing comes to, and one that writes another text.
+WRONG = "observe\nstatus 0\nsomething else\ncuts "
+
 NOT_BUILT = "thynvm or observe is not built: tools/cuts and what observe writes are left out\n"
 
 
@@ -23,6 +26,12 @@ class Readers(ToolTest):
     @needs_observer
     def test_with_the_programs(self):
         self.prints(f"{CALLS + 3} calls of scripts are as they have to be\n")
+
+    def test_programs_that_are_wrong(self):
+        program = self.script("program", "#!/bin/sh\nexit 3\n")
+        observer = self.script("observer", "#!/bin/sh\necho something else >$1\n")
+        done = self.call("--program", program, "--observe", observer)
+        self.assertEqual((done.out[: len(WRONG)], done.err, done.status), (WRONG, "", 1))
 
     def test_refusals(self):
         self.refuses("unrecognized arguments: x", "x")

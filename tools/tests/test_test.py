@@ -41,6 +41,21 @@ class Test(CopyTest):
         self.assertIn("tests.test_one.Some.test_bad\nTraceback", done.out)
         self.assertEqual((done.out.splitlines()[-1], done.err, done.status), ("1 passed, 1 failed", "", 1))
 
+    def test_parts_that_fail(self):
+        self.file("tools/tests/__init__.py")
+        parts = "    def test_bad(self):\n        for k in range(3):\n            with self.subTest(k=k):\n                self.assertEqual(k, 3)\n"
+        good = "import unittest\nclass Some(unittest.TestCase):\n    def test_good(self):\n        pass\n"
+        self.file("tools/tests/test_one.py", good + parts)
+        done = self.call("one")
+        self.assertEqual((done.out.splitlines()[-1], done.err, done.status), ("1 passed, 3 failed", "", 1))
+
+    def test_a_class_that_cannot_begin(self):
+        self.file("tools/tests/__init__.py")
+        before = "    @classmethod\n    def setUpClass(cls):\n        raise OSError\n"
+        self.file("tools/tests/test_one.py", f"import unittest\nclass Some(unittest.TestCase):\n{before}    def test_good(self):\n        pass\n")
+        done = self.call("one")
+        self.assertEqual((done.out.splitlines()[-1], done.err, done.status), ("0 passed, 1 failed", "", 1))
+
     def test_a_process_that_ends(self):
         self.file("tools/tests/__init__.py")
         self.file("tools/tests/test_one.py", "import os\n" + TESTS.format(number="os.kill(os.getpid(), 9)"))

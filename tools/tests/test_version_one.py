@@ -74,7 +74,7 @@ class VersionOne(CopyTest):
         self.assertEqual(running[2:5], ["epoch 6 ends at 1237 by end", "commit 6 overlapped 0", "exit 7 at 1237"])
 
     def check(self, wrong):
-        os.replace(self.program(PROGRAM.format(wrong=wrong)), self.path("thynvm"))
+        self.program(PROGRAM.format(wrong=wrong))
         return self.call("--check", self.path("images"))
 
     def test_checks(self):
@@ -87,6 +87,10 @@ class VersionOne(CopyTest):
     def test_refusals(self):
         self.refuses("the following arguments are required: DIR")
         self.refuses("unrecognized arguments: x", "a", "x")
+        self.refuses("File exists", self.file("images"))
+        self.refuses("there is no program", "--check", self.path("other"))
+        self.refuses("there is no program /none", "--check", "--program", "/none", self.path("other"))
+        self.assertFalse(os.path.exists(self.path("other")))
 
 
 @needs_program()

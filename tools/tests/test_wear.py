@@ -58,6 +58,7 @@ class Wear(CopyTest):
             ("block:x", "the count of stores is not a number: x"),
             ("made:x", "the made program's number is not a number: x"),
             ("made:1:x", "the count of runs is not a number: x"),
+            ("made:4294967296", "there is no made program 4294967296: they are 0 to 4294967295"),
             (self.file("list", "1\nx\n"), "a store is not a number: x"),
             (self.path("none"), "the stores cannot be read"),
         ):

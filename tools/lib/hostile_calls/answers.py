@@ -6,18 +6,10 @@ from collections import Counter
 from dataclasses import dataclass, field
 
 from lib import calls, report
+from lib.calls import wants
 from lib.guest import made_file
 from lib.hostile_calls.rules import RESUMED, RUN, Checkpoint, Due, closings, image_refusal, read_image, settings, test_file
 from lib.program import MOST_BYTES, MOST_IMAGE_BYTES, OPERANDS, SCHEMES
-
-
-class Wrong(Exception):
-    """What is wrong with an answer."""
-
-
-def wants(holds, text, line=None):
-    if not holds:
-        raise Wrong(text if line is None else f"{text}: {line!r}")
 
 
 @dataclass

@@ -5,7 +5,7 @@ import os
 from functools import lru_cache
 
 from lib import guest, repository
-from lib.guest import LINKED, made_file
+from lib.guest import LINKED, OPCODES, made_file
 from lib.hostile_calls import images
 from lib.hostile_calls.answers import against_plain, fetch
 from lib.hostile_calls.drawn import listed, mutate_bytes, near, schedule, with_number
@@ -13,8 +13,6 @@ from lib.hostile_calls.rules import Image, number_at, settings
 from lib.images import BLOCK, PAGE
 from lib.program import FIELDS, FLAGS, LISTS, MOST_BYTES, MOST_IMAGE_BYTES, MOST_NUMBER, OPTIONS, SCHEMES, options_of
 
-
-OPCODES = (0x03, 0x0F, 0x13, 0x17, 0x1B, 0x23, 0x33, 0x37, 0x3B, 0x63, 0x67, 0x6F, 0x73)
 CALLS = (63, 64, 93, 94, 214, 2, 93)
 # Bits 31 to 27 of LR, SC, and the AMOs.
 ATOMIC = (0b00010, 0b00011, 0b00001, 0b00000, 0b00100, 0b01100, 0b01000, 0b10000, 0b10100, 0b11000, 0b11100)

@@ -6,7 +6,8 @@ import tempfile
 from functools import lru_cache
 
 from lib import repository
-from lib.hostile_calls.answers import Caller, Wrong, compare, fetch, wants
+from lib.calls import Wrong, wants
+from lib.hostile_calls.answers import Caller, compare, fetch
 from lib.hostile_calls.drawn import mutate_bytes, near, schedule, with_number
 from lib.hostile_calls.rules import RUN, Due, Image, number_at, read_image, settings
 from lib.images import BLOCK, PAGE

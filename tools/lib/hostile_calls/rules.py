@@ -318,6 +318,6 @@ def read_image(data, v, ceiling):
     if v["harts"] == 2:
         # The widths of both reservations, and the zeros behind them.
         widths = record[images.FIRST_WIDTH], record[images.SECOND_WIDTH]
-        test(all(width in images.WIDTHS for width in widths) and not any(record[76:]), 12)
+        test(all(width in images.WIDTHS for width in widths) and not any(record[k] for k in images.SECOND_ZEROS), 12)
     memory, end = layout.memory(data, epoch, first, second), PAGE * (v["pages"] - v["console"])
     return Checkpoint(epoch, count, cursor, status, number, memory[end : end + length], memory[:end])

@@ -9,10 +9,10 @@ from collections import Counter
 from concurrent.futures import ProcessPoolExecutor
 
 from lib import calls
-from lib.calls import MOST_WAITING
+from lib.calls import MOST_WAITING, Wrong, wants
 from lib.drawing import Draw
 from lib.hostile_calls import cases, images
-from lib.hostile_calls.answers import Answer, Caller, Wrong, lines_of, wants
+from lib.hostile_calls.answers import Answer, Caller, lines_of
 from lib.images import PAGE
 
 KINDS = {"elf": cases.elf_case, "image": images.image_case, "words": cases.words_case, "input": cases.input_case}
@@ -151,7 +151,7 @@ AT_ONCE = 32
 def every_case(options):
     """Makes the cases that are asked for, and shows what they came to. The status."""
     if options.allocs:
-        numbered = [("allocs", number) for number in range(len(ALLOCATING))]
+        numbered = [("allocs", number) for number in range(len(ALLOCATING)) if options.case in (None, number)]
     else:
         numbers = range(options.count) if options.case is None else [options.case]
         numbered = [(kind, k) for k in numbers for kind in KINDS if options.only in (None, kind)]

@@ -7,7 +7,7 @@ import tempfile
 
 from lib import program, repository
 from lib.options import Refused
-from lib.lint.sources import text_of, verdict
+from lib.lint.sources import Unreadable, text_of, verdict
 
 SUBJECT = "the options of the help page with docs/USING.md, the code and the program"
 
@@ -18,10 +18,11 @@ of each range, and with the numbers beside them, on a file that is not there: a 
 options, also of those that are no field, and the defaults are compared with those in tools/lib/program.py, by which the
 scripts go; and so are the options of `compare`, which the page has by those that it does not take, with the program.
 
-Exit status: 0 all agree; 1 some differ; 2 invalid usage, or there is no program to call."""
+Exit status: 0 all agree; 1 some differ; 2 invalid usage, something cannot be read, or there is no program to call."""
 
-# The document whose table of options is compared.
+# The document whose table of options is compared, and the code that has the defaults.
 DOCUMENT = "docs/USING.md"
+CODE = "crates/thy_words/src/fields.rt"
 
 # Where a list of options stands in the help page, and the columns of its table.
 COLUMNS = (slice(2, 14), slice(14, 27), slice(27, 60))
@@ -50,10 +51,13 @@ def help_rows():
 
 def code_defaults():
     """The defaults that the program has, by the field."""
-    found = re.findall(r"number_at\(matches, Field::(\w+), ([0-9_]+)\)", text_of("crates/thy_words/src/fields.rt"))
-    lists = re.findall(r"list_at\(alloc, matches, Field::(\w+)\)", text_of("crates/thy_words/src/fields.rt"))
+    text = text_of(CODE)
+    found = re.findall(r"number_at\(matches, Field::(\w+), ([0-9_]+)\)", text)
+    lists = re.findall(r"list_at\(alloc, matches, Field::(\w+)\)", text)
     defaults = {name.lower(): number.replace("_", "") for name, number in found if name != "N"}
-    scheme = re.search(r"scheme_named\(text\)\.unwrap_or\(SchemeName::(\w+)\)", text_of("crates/thy_words/src/fields.rt"))
+    scheme = re.search(r"scheme_named\(text\)\.unwrap_or\(SchemeName::(\w+)\)", text)
+    if scheme is None:
+        raise Unreadable(f"the default of --scheme in {CODE}")
     return {**defaults, **{name.lower(): "none" for name in lists}, "scheme": scheme[1].lower()}
 
 

@@ -43,6 +43,8 @@ def layers_in(text):
             if not layers:
                 raise Unreadable(f"the layer of a row in {PAGE}")
             rows.append([cell.strip() for cell in line.strip().strip("|").split("|")])
+            if len(rows[-1]) != 4:
+                raise Unreadable(f"the row of {rows[-1][0]} in {PAGE}, which has {len(rows[-1])} cells")
     if not any(layers.values()):
         raise Unreadable(f"a layer with a crate in {PAGE}")
     return layers

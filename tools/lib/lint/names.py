@@ -2,9 +2,10 @@
 
 import os
 import re
+import subprocess
 
 from lib import repository
-from lib.lint.sources import below_of, text_of, verdict, without_start
+from lib.lint.sources import Unreadable, below_of, text_of, verdict, without_start
 
 SUBJECT = "the names in back quotes in the documents with the sources"
 
@@ -21,7 +22,7 @@ If the text names the crate or the file, the name has to be defined there: `Keep
 (`crates/thy_cli/specs/Completing.antt`). In a table that has a crate in its first column, or behind a number, and below a
 heading that names files of crates, a name has to be defined in such a crate or in one that it stands on, directly or not.
 
-Exit status: 0 all names are found; 1 some are not; 2 invalid usage."""
+Exit status: 0 all names are found; 1 some are not; 2 invalid usage, or something cannot be read."""
 
 # Words in back quotes that are no names of this repository.
 OTHERS = {
@@ -66,11 +67,21 @@ def names_in_definitions(text):
     return names
 
 
+def tracked():
+    """The paths of the files that the repository keeps."""
+    try:
+        return repository.tracked()
+    except FileNotFoundError:
+        raise Unreadable("the list of files: git is not in PATH") from None
+    except subprocess.CalledProcessError:
+        raise Unreadable("the list of files: git ls-files has failed") from None
+
+
 class Repository:
     """What there is to be named."""
 
     def __init__(self):
-        self.files = repository.tracked()
+        self.files = tracked()
         self.below = {}
         for crate, others in below_of(text_of("crates.txt")).items():
             self.below[crate] = set(others).union(*(self.below.get(other, ()) for other in others))

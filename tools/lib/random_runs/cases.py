@@ -3,13 +3,14 @@
 import argparse
 from dataclasses import dataclass, replace
 
+from lib.calls import wants
 from lib.drawing import Draw
 from lib.guest import LINKED, segments_of
 from lib.images import PAGE
 from lib.program import FIELDS, SCHEMES
 from lib.random_runs.drawn import DEFAULTS, Geometry, Memory, Pace, cycles_of, drawn_geometry, drawn_pace, patience, promised, size_in
 from lib.random_runs.programs import drawn_guest
-from lib.random_runs.reports import START, Caller, Plain, read_report, wants
+from lib.random_runs.reports import START, Caller, Plain, read_report
 
 # How many instructions `plain` is given; a run whose program does not end within them has fewer cycles in all.
 PLAIN_LIMIT = 200_000

@@ -4,13 +4,14 @@ import struct
 from dataclasses import dataclass, field
 
 from lib import guest, repository
+from lib.calls import wants
 from lib.guest import A0, A1, A2, A7, RA, S0, S1, S2, S3, S5, SP, T0, T1, T2, T3, T4, T5, T6, ZERO
-from lib.guest import AMOS, BRK, EBREAK, ECALL, EXIT, EXIT_GROUP, FENCE_I, LINKED, LR, READ, SC, WRITE, Code
+from lib.guest import AMOS, BRK, EBREAK, ECALL, EXIT, EXIT_GROUP, FENCE_I, LINKED, LR, OPCODES, READ, SC, WRITE, Code
 from lib.guest import add, addi, andi, atomic, auipc, beq, bne, jal, jalr, load, mul, op, ori, remu, slli, srli, store, xor
 from lib.images import PAGE
 from lib.random_runs.drawn import Memory, drawn_memory, drawn_pages, size_in
 from lib.random_runs.pairs import pair_program
-from lib.random_runs.reports import Guest, Known, wants
+from lib.random_runs.reports import Guest, Known
 
 TEMPORARY = (T0, T1, T2, T3, T4, T5, T6)
 
@@ -214,9 +215,6 @@ def drawn_program(rng, memory, harts):
     rest = rng.choice((0, rng.randrange(area.size), area.size))
     data = [(start, rng.randbytes(min(rest, 3000)), rest)] if rng.random() < 0.3 else []
     return guest.elf(memory.base, [(memory.base, code.data, rng.choice((0, room))), *data])
-
-
-OPCODES = (0x03, 0x0F, 0x13, 0x17, 0x1B, 0x23, 0x33, 0x37, 0x3B, 0x63, 0x67, 0x6F, 0x73)
 
 
 def random_words(rng, memory):

@@ -7,16 +7,8 @@ from dataclasses import dataclass, field
 from typing import Optional
 
 from lib import calls, report
+from lib.calls import wants
 from lib.random_runs.drawn import DEFAULTS, said
-
-
-class Wrong(Exception):
-    """What is wrong with an answer."""
-
-
-def wants(holds, text):
-    if not holds:
-        raise Wrong(text)
 
 
 @dataclass

@@ -11,11 +11,12 @@ from collections import Counter
 from concurrent.futures import ProcessPoolExecutor
 
 from lib import calls, repository
+from lib.calls import Wrong
 from lib.drawing import Draw
 from lib.program import SCHEMES
 from lib.random_runs.cases import Case
 from lib.random_runs.drawn import DEFAULTS
-from lib.random_runs.reports import Caller, Wrong
+from lib.random_runs.reports import Caller
 
 
 def one_case(options, folder, number):
