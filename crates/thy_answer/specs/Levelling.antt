@@ -7,7 +7,7 @@ use Rattle.thy_base.specs.Device.{Device, Crash}
 use Rattle.thy_base.specs.Outside.{Stock}
 use Rattle.thy_flat.specs.Flat.{flat}
 use Rattle.thy_gap.specs.Seen.{unmapped}
-use Rattle.thy_record.specs.Decoded.{Reading}
+use Rattle.thy_layout.specs.Decoded.{Reading}
 use Rattle.thy_text.specs.Event.{Event}
 use Rattle.thy_view.specs.Kind.{KindOf}
 use Rattle.thy_view.specs.Origin.{Origin}

@@ -17,9 +17,9 @@ use Rattle.thy_isa.specs.Step.{State}
 use Rattle.thy_isa.specs.Storable.{IsByte}
 use Rattle.thy_make.specs.File.{made_file}
 use Rattle.thy_plain.specs.Start.{start_state}
-use Rattle.thy_record.specs.declared.bad_image.BadImage.TheVariants.{Empty}
-use Rattle.thy_record.specs.Decoded.{Decoded, Nothing, Refused, At}
-use Rattle.thy_record.specs.Files.{blocks_of}
+use Rattle.thy_layout.specs.declared.bad_image.BadImage.TheVariants.{Empty}
+use Rattle.thy_layout.specs.Decoded.{Decoded, Nothing, Refused, At}
+use Rattle.thy_layout.specs.Files.{blocks_of}
 use Rattle.thy_image.specs.Meaning.{decode_bytes}
 use Rattle.thy_view.specs.Origin.{Origin}
 use Rattle.thy_words.specs.Settings.{Job}

@@ -10,7 +10,7 @@ use crate::closing::close;
 use std::alloc::{AllocError, Global};
 use thy_base::{FetchError, FitError, Sink};
 use thy_elf::ElfError;
-use thy_record::BadImage;
+use thy_layout::BadImage;
 use thy_text::{Closing, Events, FetchFault, History};
 use thy_words::WordsError;
 

@@ -29,7 +29,7 @@ pub record Device : Type 0 where
   pub left_room : ℕ
   -- a call has failed since the last fit or cut
   pub down : Bool
-  -- a count of faults, which every call that fails raises
+  -- a count of faults, which each fault raises, up to its last value
   pub faults : ℕ
   -- how many times it was fitted, successfully or not; a fit that was out of memory may not count; the count saturates
   pub fits : ℕ

@@ -1,7 +1,7 @@
 -- Part of the claim.
 -- The places of both devices, and the numbers of the blocks that they have. The NVM has the header (block 0), the
 -- commit block (block 1), two slots of version 1, the places of memory's blocks, and behind them two slots of version 2.
-use Rattle.std.specs.Prelude.{◌≡◌, ◌⊎◌, ℕ, ◌+◌, ◌-◌, ◌*◌, ◌/◌, ◌<◌, ◌≤◌, ◌==◌, Bool, true, false}
+use Rattle.std.specs.Prelude.{◌≡◌, ◌⊎◌, ℕ, ◌+◌, ◌-◌, ◌*◌, ◌/◌, ◌<◌, ◌≤◌, Bool, true, false}
 use Rattle.thy_base.specs.declared.config.Parameters.{Parameters}
 use Rattle.thy_base.specs.declared.layout_version.LayoutVersion.{LayoutVersion}
 use Rattle.thy_base.specs.declared.layout_version.LayoutVersion.TheVariants.{VersionOne, VersionTwo}
@@ -24,10 +24,6 @@ table_blocks p = p.btt / 8 + p.ptt / 8
 -- and the counts of the epoch before, 64 pages a block
 abbrev pub count_blocks : Parameters → ℕ
 count_blocks p = (p.pages + 63) / 64
-
--- version 1 knows one hart only: with two, there is no image of that version
-abbrev pub knows_version_one : Parameters → Bool
-knows_version_one p = p.harts == 1
 
 -- how many blocks a slot has: in version 1 the record of one hart and the tables, whatever the harts; in version 2 the
 -- processor's record, the tables, and the counts

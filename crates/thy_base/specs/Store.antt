@@ -9,7 +9,7 @@ use Rattle.thy_base.specs.declared.store.Stored.TheVariants.{Done, CopyFirst}
 pub record Holding : Type 0 where
   -- what a load of each block gives
   pub blocks : List Block
-  -- how many calls have failed
+  -- how many calls have failed since power came on
   pub faults : ℕ
   -- how many stores there is room for
   pub free : ℕ

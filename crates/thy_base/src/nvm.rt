@@ -46,9 +46,9 @@ pub enum FitError {
 ///
 /// Only `fit` allocates, also for what the cuts to come keep. Every `fit` counts, except that one which is
 /// out of memory may not. A call that fails counts at least one fault, unless it was out of memory, and leaves the device
-/// down until it is fitted again or its power is cut. A device that is down may not be read, written, drained or asked
-/// for a barrier. Writes that succeed are counted since the last fit. All these counts saturate at the last value of a
-/// `u64`.
+/// down until it is fitted again or its power is cut. A device that is down may not be read, written, drained, or asked
+/// for a barrier or for the number of queued writes. Writes that succeed are counted since the last fit. All these counts
+/// saturate at the last value of a `u64`.
 pub trait Nvm {
     /// What the device holds.
     ghost device: { Self → Device };

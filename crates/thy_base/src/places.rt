@@ -11,7 +11,7 @@ const HART_BLOCKS: u64 = 5;
 impl Geometry {
     ghost use Rattle.thy_base.specs.declared.place.Place.TheVariants.{Home as AtHome, AlternateBlock as AtAlternateBlock, AlternatePage as AtAlternatePage, Buffer as AtBuffer, Frame as AtFrame};
     ghost use Rattle.thy_base.specs.Geometry.{IsInRange, memory_blocks};
-    ghost use Rattle.thy_base.specs.Places.{record_blocks, table_blocks, count_blocks, knows_version_one, blocks_of_slot, place_of_slot, first_home, blocks_one, slot_blocks, slot_place, image_blocks, dram_blocks, number_of, IsPlace};
+    ghost use Rattle.thy_base.specs.Places.{record_blocks, table_blocks, count_blocks, blocks_of_slot, place_of_slot, first_home, blocks_one, slot_blocks, slot_place, image_blocks, dram_blocks, number_of, IsPlace};
 
     /// How many blocks an image of the NVM has.
     pub fn blocks(&self) -> u64
@@ -62,14 +62,6 @@ impl Geometry {
         ensures in_range { IsInRange self.now }
     {
         self.numbers().pages.div_ceil(BLOCK_COUNTS)
-    }
-
-    /// Whether there are images of version 1: they know one hart only.
-    pub fn knows_version_one(&self) -> bool
-        ensures knows { result ≡ knows_version_one self.now }
-        ensures in_range { IsInRange self.now }
-    {
-        self.numbers().harts == 1
     }
 
     /// How many blocks each of the two slots of a version has: in version 1 the record of one hart and both tables, whatever

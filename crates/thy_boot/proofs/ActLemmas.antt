@@ -1,11 +1,10 @@
 -- A step acts once on the NVM, queues one write of the DRAM at most, and comes nearer.
-use Rattle.std.proofs.Common.{◌≡◌, ◌≢◌, ℕ, ◌+◌, ◌≤◌, nat_lt, Bool, true, false, if◌then◌else◌, length, Option, Some, None, refl, sym, ◌∙◌, ap, subst, inl, arith}
-use Rattle.std.proofs.lemmas.List.{length-map}
-use Rattle.std.proofs.lemmas.List.FromFn.{length-range_with_len}
-use Rattle.thy_base.specs.declared.config.Parameters.{Parameters}
+use Rattle.std.proofs.Common.{◌≡◌, ◌≢◌, ◌+◌, ◌≤◌, nat_lt, Bool, true, false, if◌then◌else◌, length, Option, Some, None, refl, sym, ap, subst, inl, arith}
 use Rattle.thy_base.specs.Device.{Device, newest}
+use Rattle.thy_base.specs.Geometry.{memory_blocks}
 use Rattle.thy_isa.specs.Step.{State}
-use Rattle.thy_record.specs.declared.bad_image.BadImage.{BadImage}
+use Rattle.thy_layout.specs.declared.bad_image.BadImage.{BadImage}
+use Rattle.thy_layout.specs.Commit.{commit_of}
 use Rattle.thy_view.specs.Action.{Rest, FailsTo, IsBootAction, Asks, Acts}
 use Rattle.thy_view.specs.Booting.{boot_did}
 use Rattle.thy_view.specs.Dram.{ActsOnDram}
@@ -16,8 +15,8 @@ use Rattle.thy_boot.specs.declared.stage.ReadStage.TheVariants.{Unread, Header a
 use Rattle.thy_boot.specs.declared.stage.End.TheVariants.{Restored, Loaded}
 use Rattle.thy_boot.specs.declared.stage.Issue.{Issue}
 use Rattle.thy_boot.specs.declared.stage.Issue.TheVariants.{Home, Slot, Header, Settle, Commit, Confirm}
-use Rattle.thy_boot.specs.Boot.{Booting, layout_in, slot_read, at_stage, answer_at, answer_of, JudgesUnless}
-use Rattle.thy_boot.specs.Filling.{FillingOf, First, IsFilling, layout_at}
+use Rattle.thy_boot.specs.Boot.{Booting, layout_in, slot_fault, at_stage, answer_at, answer_of, has_more, IsJudged, GoesOn}
+use Rattle.thy_boot.specs.Filling.{FillingOf, First, IsFilling, first_by}
 use Rattle.thy_boot.specs.Left.{reads_left, loads_left_at, boot_left}
 use Rattle.thy_boot.specs.Loads.{IsIssue, after_issue, issue_action}
 use Rattle.thy_boot.specs.Reads.{read_action, slot_kept, FillsOn}
@@ -25,7 +24,7 @@ use Rattle.thy_boot.specs.Recovers.{HasReadAt, IsNearer}
 use Rattle.thy_boot.specs.Shows.{seen_at}
 use Rattle.thy_boot.specs.Steps.{CanStepAt, StepsAt, action_at}
 use Rattle.thy_boot.specs.Laws.{StepsAct, FoundStays, failed_answer, FailuresAct, StepsFill, StepsComeNearer}
-use Rattle.thy_protocol.specs.Issuing.{slot_of}
+use Rattle.thy_boot.proofs.LoadLemmas.{length-first}
 
 load_asks : (f : First) (issue : Issue) → Asks (boot_did (failed_answer (Loads issue))) (issue_action f issue)
 load_asks f (Home b) = tt
@@ -65,9 +64,9 @@ module _ {C : Type 0} (F : FillingOf C) (laws : IsFilling F) where
     by_stage : (q : Stage) → StepsAt F q s n b c m d e → Acts (boot_did (answer_of F d)) n m
     by_stage (Reads r) on = record { action = Rest; asked = read_acts d.stage m d e on.read.so_far; left = on.device }
     by_stage (Loads issue) l = record {
-      action = issue_action (F.first b.p s) issue;
-      asked = subst (λ (x : Booting). Asks (boot_did (answer_of F x)) (issue_action (F.first b.p s) issue)) (sym l.boot)
-          (load_acts (F.first b.p s) issue (at_stage (after_issue (F.first b.p s) issue) b));
+      action = issue_action (first_by F b.p s) issue;
+      asked = subst (λ (x : Booting). Asks (boot_did (answer_of F x)) (issue_action (first_by F b.p s) issue)) (sym l.boot)
+          (load_acts (first_by F b.p s) issue (at_stage (after_issue (first_by F b.p s) issue) b));
       left = l.device;
     }
     by_stage (Over end) l = absurd l
@@ -91,7 +90,7 @@ module _ {C : Type 0} (F : FillingOf C) (laws : IsFilling F) where
   failures_act s b c n m fails = by_stage b.stage fails where
     by_stage : (q : Stage) → FailsTo (action_at F q s b c) n m → Asks (boot_did (failed_answer q)) (action_at F q s b c)
     by_stage (Reads r) f = read_asks b c r n m f
-    by_stage (Loads issue) f = load_asks (F.first b.p s) issue
+    by_stage (Loads issue) f = load_asks (first_by F b.p s) issue
     by_stage (Over end) f = absurd f
 
   -- ---- the DRAM
@@ -102,17 +101,18 @@ module _ {C : Type 0} (F : FillingOf C) (laws : IsFilling F) where
   same_fills : (n : Device) (c e : C) → e ≡ c → Filled n c e
   same_fills n c e h = subst (λ (x : C). Filled n c x) (sym h) (inl refl, laws.same_keeps c)
 
-  judged_fills : (n : Device) (z : Bool) (o : Option BadImage) (next : ℕ) (b : Booting) (c e : C) → JudgesUnless F z o next b c e → Filled n c e
-  judged_fills n true o next b c e h = (inl h.left.same_dram, h.left.keeps)
-  judged_fills n false None next b c e h = (inl h.left.same_dram, h.left.keeps)
-  judged_fills n false (Some bad) next b c e h = (inl h.same_dram, h.keeps)
+  judged_fills : (n : Device) (o : Option BadImage) (b : Booting) (c e : C) → IsJudged F o b c e → Filled n c e
+  judged_fills n None b c e h = (inl h.left.same_dram, h.left.keeps)
+  judged_fills n (Some bad) b c e h = same_fills n c e h
+
+  goes_fill : (n : Device) (z : Bool) (b : Booting) (c e : C) → GoesOn F z b c e → Filled n c e
+  goes_fill n true b c e h = same_fills n c e h
+  goes_fill n false b c e h = judged_fills n (slot_fault F b) b c e h
 
   reads_fill : (r : ReadStage) (n : Device) (b : Booting) (c e : C) → FillsOn F r n b c e → Filled n c e
   reads_fill Unread n b c e f = same_fills n c e f
   reads_fill ReadsHeader n b c e f = same_fills n c e f
-  reads_fill (ReadsSlot next) n b c e f =
-      let w : Booting = slot_kept F next n b in
-      judged_fills n (nat_lt (next + 1) ((layout_in F w).slot_blocks w.commit)) ((layout_in F w).slot_bad w.commit (slot_read F w)) next w c e f
+  reads_fill (ReadsSlot next) n b c e f = goes_fill n (has_more F next b) (slot_kept F next n b) c e f
   reads_fill (Fills k) n b c e f =
       subst (λ (x : C). Filled n c x) (sym f) (laws.fill_acts c n b.commit k, laws.fill_keeps c b.commit k (newest n (F.fill_place c b.commit k)))
   reads_fill (Refusing bad) n b c e f = same_fills n c e f
@@ -128,36 +128,28 @@ module _ {C : Type 0} (F : FillingOf C) (laws : IsFilling F) where
 
   -- ---- how many are left
 
-  module _ (p : Parameters) (s : State) (starts : F.starts p s) where
-    abbrev f : First
-    f = F.first p s
+  load_nearer : (b : Booting) (s : State) (issue : Issue) → IsIssue (first_by F b.p s) issue
+      → boot_left F b (after_issue (first_by F b.p s) issue) + 1 ≤ loads_left_at F b.p issue
+  load_nearer b s issue inside = by_issue issue inside where
+    long : length (first_by F b.p s).parts.memory ≡ memory_blocks b.p
+    long = length-first F laws b.p s
 
-    -- what is written of memory is as long as memory, and the slot has its room
-    pub memory_long : length f.parts.memory ≡ (layout_at F p).memory_blocks
-    memory_long =
-        ap length (sym (laws.first_parts p s starts).memory) ∙ length-map _ ((layout_at F p).place f.commit (slot_of f.parts))
-        ∙ length-range_with_len 0 (layout_at F p).memory_blocks
+    room : (layout_in F b).slot_blocks (commit_of 0) ≤ (layout_in F b).most_slot
+    room = (laws.laid.slot b.p (commit_of 0)).most
 
-    slot_room : f.parts.slot_blocks ≤ F.most_slot p
-    slot_room = subst (λ (k : ℕ). k ≤ F.most_slot p) (laws.first_parts p s starts).slot_blocks (laws.most_room p f.commit)
-
-    load_nearer : (b : Booting) → b.p ≡ p → (issue : Issue) → IsIssue f issue → boot_left F b (after_issue f issue) + 1 ≤ loads_left_at F b.p issue
-    load_nearer b same issue inside =
-        subst (λ (x : Parameters). boot_left F (record b { p = x }) (after_issue f issue) + 1 ≤ loads_left_at F x issue) (sym same) (by_issue issue inside)
-      where
-        by_issue : (issue : Issue) → IsIssue f issue → boot_left F (record b { p = p }) (after_issue f issue) + 1 ≤ loads_left_at F p issue
-        by_issue (Home k) inside = by_more (nat_lt (k + 1) (length f.parts.memory)) where
-          by_more : (t : Bool) → boot_left F (record b { p = p }) (if t then Loads (Home (k + 1)) else Loads (Slot 0)) + 1 ≤ loads_left_at F p (Home k)
-          by_more true = omega (arith, inside, memory_long)
-          by_more false = omega (arith, inside, memory_long)
-        by_issue (Slot k) inside = by_more (nat_lt (k + 1) f.parts.slot_blocks) where
-          by_more : (t : Bool) → boot_left F (record b { p = p }) (if t then Loads (Slot (k + 1)) else Loads Header) + 1 ≤ loads_left_at F p (Slot k)
-          by_more true = omega (arith, inside, slot_room)
-          by_more false = omega (arith, inside, slot_room)
-        by_issue Header inside = omega arith
-        by_issue Settle inside = omega arith
-        by_issue Commit inside = omega arith
-        by_issue Confirm inside = omega arith
+    by_issue : (issue : Issue) → IsIssue (first_by F b.p s) issue → boot_left F b (after_issue (first_by F b.p s) issue) + 1 ≤ loads_left_at F b.p issue
+    by_issue (Home k) inside = by_more (nat_lt (k + 1) (length (first_by F b.p s).parts.memory)) where
+      by_more : (t : Bool) → boot_left F b (if t then Loads (Home (k + 1)) else Loads (Slot 0)) + 1 ≤ loads_left_at F b.p (Home k)
+      by_more true = omega (arith, inside, long)
+      by_more false = omega (arith, inside, long)
+    by_issue (Slot k) inside = by_more (nat_lt (k + 1) ((layout_in F b).slot_blocks (commit_of 0))) where
+      by_more : (t : Bool) → boot_left F b (if t then Loads (Slot (k + 1)) else Loads Header) + 1 ≤ loads_left_at F b.p (Slot k)
+      by_more true = omega (arith, inside, room)
+      by_more false = omega (arith, inside, room)
+    by_issue Header inside = omega arith
+    by_issue Settle inside = omega arith
+    by_issue Commit inside = omega arith
+    by_issue Confirm inside = omega arith
 
   read_nearer : (b : Booting) (r : ReadStage) (d : Booting) → IsNearer F b r d → ((bad : BadImage) → Reads r ≢ Reads (Refusing bad))
       → boot_left F d d.stage + 1 ≤ reads_left F b r
@@ -173,7 +165,7 @@ module _ {C : Type 0} (F : FillingOf C) (laws : IsFilling F) where
         → boot_left F d d.stage + 1 ≤ boot_left F b q
     by_stage (Reads r) can on other = read_nearer b r d on.nearer other
     by_stage (Loads issue) can l other =
-        let q : Stage = after_issue (F.first b.p s) issue in
+        let q : Stage = after_issue (first_by F b.p s) issue in
         subst (λ (x : Booting). boot_left F x x.stage + 1 ≤ loads_left_at F b.p issue) (sym l.boot)
-        (load_nearer b.p s can.start (at_stage q b) refl issue can.there)
+        (load_nearer (at_stage q b) s issue can.there)
     by_stage (Over end) can l other = absurd l

@@ -6,19 +6,19 @@ use Rattle.thy_base.specs.declared.nvm.Write.{Write}
 use Rattle.thy_base.specs.Device.{Device, drained, applied}
 use Rattle.thy_crash.specs.Saved.{Kept, guarded, Saved}
 use Rattle.thy_crash.proofs.SparesLemmas.{Spares-drained}
-use Rattle.thy_record.specs.Commit.{epoch_of}
-use Rattle.thy_record.specs.Decoded.{At}
+use Rattle.thy_layout.specs.Commit.{epoch_of}
+use Rattle.thy_layout.specs.Decoded.{At}
 use Rattle.thy_view.specs.Origin.{Origin}
-use Rattle.thy_protocol.specs.Layout.{looked_by}
+use Rattle.thy_layout.specs.Layout.{state_by, looked_by}
 use Rattle.thy_protocol.specs.Moves.{standing, Move, Goes}
 use Rattle.thy_protocol.proofs.KeepsLemmas.{IsKeeping-move}
 use Rattle.thy_boot.specs.declared.stage.Stage.{Stage}
 use Rattle.thy_boot.specs.declared.stage.Stage.TheVariants.{Reads, Loads, Over}
 use Rattle.thy_boot.specs.declared.stage.ReadStage.TheVariants.{Unread, Header, Slot, Fills, Refusing}
 use Rattle.thy_boot.specs.declared.stage.End.TheVariants.{Restored, Loaded}
-use Rattle.thy_boot.specs.Boot.{Booting, layout_in, slot_read, first_read}
+use Rattle.thy_boot.specs.Boot.{Booting, layout_in, slot_read}
 use Rattle.thy_boot.specs.Filling.{FillingOf, IsFilling}
-use Rattle.thy_boot.specs.Recovers.{HasReadAt}
+use Rattle.thy_boot.specs.Recovers.{HasListed, HasReadAt}
 use Rattle.thy_boot.specs.Sound.{BootImages, layout_for, first_of, start_mark, sealed_by, saved_loading, standing_in_boot, IsRecovering, IsSoundAt, IsSoundBoot}
 use Rattle.thy_boot.specs.Laws.{DrainsKeepBoot, DrainsMove}
 use Rattle.thy_boot.proofs.WrittenLemmas.{stood-drained}
@@ -64,29 +64,25 @@ module _ {C : Type 0} (F : FillingOf C) (laws : IsFilling F) where
     by_stage (Over Loaded) at = still (Over Loaded) at.settled at
 
   -- a drain of the DRAM leaves what was read
-  read-drained : (q : Stage) (n : Device) (b : Booting) (c : C) → HasReadAt F q n b c → HasReadAt F q n b (F.drained c)
-  read-drained (Reads Unread) n b c h = laws.drain_fresh c h
-  read-drained (Reads Header) n b c h = (laws.drain_fresh c h.0, h.1)
-  read-drained (Reads (Slot next)) n b c h = (record { taken = laws.drain_taken c b.commit (first_read F next b) h.0.taken; fault = h.0.fault }, h.1, h.2)
-  read-drained (Reads (Fills k)) n b c h = (
-    record {
-      head = h.0.head;
-      slot_is = h.0.slot_is;
-      slot_fits = h.0.slot_fits;
-      lists = laws.drain_lists c b.commit (slot_read F b) h.0.lists;
-      filled = laws.drain_filled c n k h.0.filled;
-    },
-    h.1,
-  )
-  read-drained (Reads (Refusing bad)) n b c h = h
-  read-drained (Loads issue) n b c h = (laws.drain_fresh c h.0, h.1, h.2)
-  read-drained (Over Restored) n b c h = record {
-    lists = laws.drain_lists c b.commit (slot_read F b) h.lists;
+  listed-drained : (n : Device) (b : Booting) (c : C) → HasListed F n b c → HasListed F n b (F.drained c)
+  listed-drained n b c h = record {
     head = h.head;
     slot_is = h.slot_is;
     slot_fits = h.slot_fits;
+    lists = laws.drain_lists c b.commit (slot_read F b) h.lists;
+  }
+
+  read-drained : (q : Stage) (n : Device) (b : Booting) (c : C) → HasReadAt F q n b c → HasReadAt F q n b (F.drained c)
+  read-drained (Reads Unread) n b c h = laws.drain_fresh c h
+  read-drained (Reads Header) n b c h = (laws.drain_fresh c h.0, h.1)
+  read-drained (Reads (Slot next)) n b c h = (laws.drain_fresh c h.0, h.1, h.2)
+  read-drained (Reads (Fills k)) n b c h = (listed-drained n b c h.0, laws.drain_filled c n k h.1, h.2)
+  read-drained (Reads (Refusing bad)) n b c h = h
+  read-drained (Loads issue) n b c h = (laws.drain_fresh c h.0, h.1, h.2)
+  read-drained (Over Restored) n b c h = record {
+    listed = listed-drained n b c h.listed;
     whole = laws.drain_whole c n h.whole;
-    found = h.found ∙ ap (λ (m : List Block). At (epoch_of b.commit) ((layout_in F b).state_from (slot_read F b) m)) (sym (laws.drain_loads c n));
+    found = h.found ∙ ap (λ (m : List Block). At (epoch_of b.commit) (state_by (layout_in F b) (slot_read F b) m)) (sym (laws.drain_loads c n));
   }
   read-drained (Over Loaded) n b c h = absurd h
 

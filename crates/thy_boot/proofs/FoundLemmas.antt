@@ -6,17 +6,21 @@ use Rattle.thy_base.specs.declared.mark.Mark.{Mark}
 use Rattle.thy_base.specs.Device.{Device}
 use Rattle.thy_crash.specs.Saved.{Kept}
 use Rattle.thy_isa.specs.declared.state.CpuState.{CpuState}
+use Rattle.thy_isa.specs.OnBlocks.{state_from}
 use Rattle.thy_isa.specs.Step.{State}
-use Rattle.thy_record.specs.declared.bad_image.BadImage.{BadImage}
-use Rattle.thy_record.specs.Commit.{epoch_of}
-use Rattle.thy_record.specs.Decoded.{Decoded, Nothing, Refused as IsRefused, At}
+use Rattle.thy_isa.proofs.BlockLaws.{count-state_from}
+use Rattle.thy_layout.specs.declared.bad_image.BadImage.{BadImage}
+use Rattle.thy_layout.specs.Commit.{epoch_of}
+use Rattle.thy_layout.specs.Cpu.{cpu_of_record}
+use Rattle.thy_layout.specs.Decoded.{Decoded, Nothing, Refused as IsRefused, At}
 use Rattle.thy_view.specs.Booting.{boot_view, loading_view, view_of_image, boot_did}
 use Rattle.thy_view.specs.CoreStep.{CoreStep}
 use Rattle.thy_view.specs.Origin.{Origin, at}
+use Rattle.thy_view.specs.Safe.{ceiling}
 use Rattle.thy_view.specs.declared.did.Did.TheVariants.{Restarted as HasRestarted}
 use Rattle.thy_view.specs.declared.view.Phase.TheVariants.{Boot as BootPhase}
 use Rattle.thy_protocol.specs.Keeps.{Keeps, Tells, finding_view}
-use Rattle.thy_protocol.specs.Layout.{Layout, decode_by}
+use Rattle.thy_layout.specs.Layout.{Layout, state_by, decode_by}
 use Rattle.thy_protocol.specs.Moves.{Standing, standing, IsKeeping}
 use Rattle.thy_protocol.proofs.KeepsLemmas.{finding_view-told}
 use Rattle.thy_boot.specs.declared.stage.Stage.{Stage}
@@ -30,15 +34,17 @@ use Rattle.thy_boot.specs.Filling.{FillingOf, IsFilling, layout_at}
 use Rattle.thy_boot.specs.Recovers.{HasReadAt, HasRead, IsRestored}
 use Rattle.thy_boot.specs.Shows.{is_written, restored_view, seen_at}
 use Rattle.thy_boot.specs.Sound.{BootImages, layout_for, first_of, start_mark, sealed_by, saved_loading, standing_in_boot, HasLoadedBefore, IsRecovering, IsSoundAt}
+use Rattle.thy_boot.specs.Start.{CanStart}
 use Rattle.thy_boot.specs.Laws.{ShowsImage, RestoredIsKept, NeverRefused}
+use Rattle.thy_boot.proofs.LoadLemmas.{first-some}
 
 -- ---- what an image means to a run
 
-found-none : (o : Origin) (l : Layout) (before : List Block) (kept : Option Mark) → Tells o l before kept → decode_by l before ≡ Nothing → kept ≡ None
+found-none : (o : Origin) (l : Layout) (before : List Block) (kept : Option Mark) → Tells o l before kept → decode_by l ceiling before ≡ Nothing → kept ≡ None
 found-none o l before None t e = refl
 found-none o l before (Some m) is e = let both : Nothing ≡ At m.epoch (at o m.count) = sym e ∙ is.decodes in absurd (cc)
 
-pub never-bad : (o : Origin) (l : Layout) (before : List Block) (kept : Option Mark) (bad : BadImage) → Tells o l before kept → decode_by l before ≡ IsRefused bad → ⊥
+pub never-bad : (o : Origin) (l : Layout) (before : List Block) (kept : Option Mark) (bad : BadImage) → Tells o l before kept → decode_by l ceiling before ≡ IsRefused bad → ⊥
 never-bad o l before None bad t e = let both : Nothing ≡ IsRefused bad = sym t.0 ∙ e in absurd (cc)
 never-bad o l before (Some m) bad is e = let both : At m.epoch (at o m.count) ≡ IsRefused bad = sym is.decodes ∙ e in absurd (cc)
 
@@ -51,7 +57,7 @@ pub record IsFoundAt (o : Origin) (kept : Option Mark) (epoch : ℕ) (state : St
   pub counted : (at o m.count).count ≡ m.count
 
 found-mark : (o : Origin) (l : Layout) (before : List Block) (kept : Option Mark) (epoch : ℕ) (state : State)
-    → Tells o l before kept → decode_by l before ≡ At epoch state → IsFoundAt o kept epoch state
+    → Tells o l before kept → decode_by l ceiling before ≡ At epoch state → IsFoundAt o kept epoch state
 found-mark o l before None epoch state t e = let both : Nothing ≡ At epoch state = sym t.0 ∙ e in absurd (cc)
 found-mark o l before (Some m) epoch state is e =
     let both : At m.epoch (at o m.count) ≡ At epoch state = sym is.decodes ∙ e in
@@ -72,10 +78,10 @@ restores o m = record { phase = refl; done = refl; unsealed = refl; unwritten = 
 module _ {C : Type 0} (F : FillingOf C) (laws : IsFilling F) where
   module _ (o : Origin) (g : BootImages) (m : Device) (d : Booting) (e : C) (before_is : g.before ≡ m.image)
       (same : d.p ≡ o.geometry) (told : Tells o (layout_for F o) g.before g.kept) (read : HasRead F m d e) where
-    pub decoded : (x : Decoded) → decode_by (layout_in F d) m.image ≡ x → decode_by (layout_for F o) g.before ≡ x
-    decoded x h = ap (decode_by (layout_for F o)) before_is ∙ ap (λ (p : Parameters). decode_by (layout_at F p) m.image) (sym same) ∙ h
+    pub decoded : (x : Decoded) → decode_by (layout_in F d) ceiling m.image ≡ x → decode_by (layout_for F o) ceiling g.before ≡ x
+    decoded x h = ap (decode_by (layout_for F o) ceiling) before_is ∙ ap (λ (p : Parameters). decode_by (layout_at F p) ceiling m.image) (sym same) ∙ h
 
-    none_kept : decode_by (layout_in F d) m.image ≡ Nothing → g.kept ≡ None
+    none_kept : decode_by (layout_in F d) ceiling m.image ≡ Nothing → g.kept ≡ None
     none_kept h = found-none o (layout_for F o) g.before g.kept told (decoded Nothing h)
 
     pub stands : (q : Stage) → HasReadAt F q m d e → reading_of o g m ≡ standing_in_boot o q g m
@@ -96,12 +102,12 @@ module _ {C : Type 0} (F : FillingOf C) (laws : IsFilling F) where
       slot = record { each = λ i l. absurd (omega (arith, l)) };
     }
 
-    pub found-sound : F.starts o.geometry o.start → (q : Stage) → HasReadAt F q m d e → IsSoundAt F o q g m d e
+    pub found-sound : CanStart o.geometry o.start → (q : Stage) → HasReadAt F q m d e → IsSoundAt F o q g m d e
     found-sound starts (Reads r) f = recovering
     found-sound starts (Loads issue) f = subst (λ (i : Issue). IsSoundAt F o (Loads i) g m d e) (sym f.2) (record {
       none = none_kept f.1;
       fresh = f.0;
-      there = laws.first_some o.geometry o.start starts;
+      there = first-some F laws o.geometry o.start starts;
       made = tt;
       stood = first;
     })
@@ -109,9 +115,9 @@ module _ {C : Type 0} (F : FillingOf C) (laws : IsFilling F) where
     found-sound starts (Over Loaded) f = absurd f
 
     -- what was found at a restart
-    pub found-restored : IsRestored F m d e → IsFoundAt o g.kept (epoch_of d.commit) ((layout_in F d).state_from (slot_read F d) (F.loads e m))
+    pub found-restored : IsRestored F m d e → IsFoundAt o g.kept (epoch_of d.commit) (state_by (layout_in F d) (slot_read F d) (F.loads e m))
     found-restored f =
-        let state : State = (layout_in F d).state_from (slot_read F d) (F.loads e m) in
+        let state : State = state_by (layout_in F d) (slot_read F d) (F.loads e m) in
         found-mark o (layout_for F o) g.before g.kept (epoch_of d.commit) state told (decoded (At (epoch_of d.commit) state) f.found)
 
     abbrev Shows : Stage → Type 0
@@ -130,9 +136,10 @@ module _ {C : Type 0} (F : FillingOf C) (laws : IsFilling F) where
     shows (Over Restored) f =
         let found = found-restored f in
         let epoch : ℕ = epoch_of d.commit in
-        let cpu : CpuState = F.cpu_in d.p (slot_read F d) in
+        let cpu : CpuState = cpu_of_record d.p (slot_read F d) in
         let count : found.m.count ≡ cpu.count
-        = sym (ap (λ (s : State). s.count) found.state_is ∙ found.counted) ∙ laws.counts d.p (slot_read F d) (F.loads e m) in
+        = sym (ap (λ (s : State). s.count) found.state_is ∙ found.counted) ∙ ap (λ (p : Parameters). (state_from p (cpu_of_record p (slot_read F d)) (F.loads e m)).count) (laws.laid.of d.p)
+        ∙ count-state_from d.p cpu (F.loads e m) in
         subst (λ (k : Option Mark). CoreStep o (finding_view o.start.count k) (HasRestarted epoch cpu.count) (restored_view o k)) (sym found.kept_is)
         (subst (λ (c : ℕ). CoreStep o (boot_view (Some found.m) None) (HasRestarted epoch c) (restored_view o (Some found.m))) count
         (subst (λ (x : ℕ). CoreStep o (boot_view (Some found.m) None) (HasRestarted x found.m.count) (restored_view o (Some found.m))) found.epoch_is (restores o found.m)))
@@ -146,7 +153,7 @@ module _ {C : Type 0} (F : FillingOf C) (laws : IsFilling F) where
       let k : IsKeeping o (layout_for F o) (reading_of o g n) = subst (λ (q : Stage). IsKeeping o (layout_for F o) (standing_in_boot o q g n)) is sound.keeps in
       ap (seen_at o g.kept) is
       ∙ sym (finding_view-told o (layout_for F o) g.before g.kept o.start.count k.told)
-      ∙ ap (λ (h : List Block). view_of_image o.start.count (decode_by (layout_for F o) h)) rec.before_is
+      ∙ ap (λ (h : List Block). view_of_image o.start.count (decode_by (layout_for F o) ceiling h)) rec.before_is
 
   -- ---- its end
 
@@ -164,5 +171,5 @@ module _ {C : Type 0} (F : FillingOf C) (laws : IsFilling F) where
   never_refused o g n b c bad sound is =
       let at : IsRecovering F g n b c = subst (λ (q : Stage). IsSoundAt F o q g n b c) is sound.so_far in
       let k : IsKeeping o (layout_for F o) (reading_of o g n) = subst (λ (q : Stage). IsKeeping o (layout_for F o) (standing_in_boot o q g n)) is sound.keeps in
-      let f : decode_by (layout_in F b) n.image ≡ IsRefused bad = subst (λ (q : Stage). HasReadAt F q n b c) is at.read.so_far in
+      let f : decode_by (layout_in F b) ceiling n.image ≡ IsRefused bad = subst (λ (q : Stage). HasReadAt F q n b c) is at.read.so_far in
       never-bad o (layout_for F o) g.before g.kept bad k.told (decoded o g n b c at.before_is sound.geometry k.told at.read (IsRefused bad) f)

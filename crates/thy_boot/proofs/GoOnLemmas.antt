@@ -1,5 +1,5 @@
 -- A boot of a run begins, and continues step by step.
-use Rattle.std.proofs.Common.{◌≡◌, ℕ, ◌+◌, ◌<◌, nat_lt, Bool, true, false, if◌then◌else◌, List, length, refl, sym, ◌∙◌, ap, subst}
+use Rattle.std.proofs.Common.{◌≡◌, ◌+◌, ◌<◌, nat_lt, Bool, true, false, if◌then◌else◌, List, length, refl, sym, ◌∙◌, ap, subst}
 use Rattle.std.proofs.lemmas.Bool.{ltb-true}
 use Rattle.thy_base.specs.declared.block.Block.{Block}
 use Rattle.thy_base.specs.declared.config.Parameters.{Parameters}
@@ -15,13 +15,16 @@ use Rattle.thy_boot.specs.declared.stage.Stage.TheVariants.{Reads, Loads, Over}
 use Rattle.thy_boot.specs.declared.stage.Issue.{Issue}
 use Rattle.thy_boot.specs.declared.stage.Issue.TheVariants.{Home, Slot, Header, Settle, Commit, Confirm}
 use Rattle.thy_boot.specs.Boot.{Booting, at_stage}
-use Rattle.thy_boot.specs.Filling.{FillingOf, First, IsFilling, layout_at}
+use Rattle.thy_boot.specs.Filling.{FillingOf, First, IsFilling, layout_at, first_by}
 use Rattle.thy_boot.specs.Loads.{IsIssue, after_issue, issue_action}
 use Rattle.thy_boot.specs.Recovers.{HasReadAt, HasRead}
 use Rattle.thy_boot.specs.Sound.{layout_for, sealed_by, standing_in_boot, IsSoundAt}
+use Rattle.thy_boot.specs.Start.{CanStart}
 use Rattle.thy_boot.specs.Steps.{CanStepAt, StepsAt}
 use Rattle.thy_boot.specs.Laws.{NewIsSound, SoundMayStep, MayGoOn, IsGoing}
+use Rattle.thy_boot.proofs.LoadLemmas.{slot_some, first-some}
 use Rattle.thy_boot.proofs.ReadLemmas.{HasRead-new}
+use Rattle.thy_boot.proofs.StartLemmas.{CanStart-origin}
 use Rattle.thy_boot.proofs.WrittenLemmas.{place_in}
 
 -- an action of loading leaves the device up and as long as it was
@@ -76,8 +79,8 @@ module _ {C : Type 0} (F : FillingOf C) (laws : IsFilling F) where
     by_stage : (q : Stage) → IsSoundAt F o q g n b c → IsKeeping o (layout_for F o) (standing_in_boot o q g n) → IsGoing q → CanStepAt F q o.start n b c
     by_stage (Reads r) at k going = at.read
     by_stage (Loads issue) at k going = record {
-      start = subst (λ (p : Parameters). F.starts p o.start) (sym sound.geometry) (laws.origin_starts o origin);
-      there = subst (λ (p : Parameters). IsIssue (F.first p o.start) issue) (sym sound.geometry) at.there;
+      start = subst (λ (p : Parameters). CanStart p o.start) (sym sound.geometry) (CanStart-origin o origin);
+      there = subst (λ (p : Parameters). IsIssue (first_by F p o.start) issue) (sym sound.geometry) at.there;
       sized = k.sized ∙ ap (λ (p : Parameters). (layout_at F p).image_blocks) (sym sound.geometry);
       up = up;
     }
@@ -87,37 +90,34 @@ module _ {C : Type 0} (F : FillingOf C) (laws : IsFilling F) where
   pub may_go_on : MayGoOn F
   may_go_on s n b c m d e start up can steps going = by_stage b.stage can steps where
     -- what may be read or loaded next, by the stage
-    next_read : (q : Stage) → HasReadAt F q m d e → IsGoing q → F.starts d.p s → HasRead F m d e → m.down ≡ false → CanStepAt F q s m d e
+    next_read : (q : Stage) → HasReadAt F q m d e → IsGoing q → CanStart d.p s → HasRead F m d e → m.down ≡ false → CanStepAt F q s m d e
     next_read (Reads r) f going start read up = read
     next_read (Loads issue) f going start read up = record {
       start = start;
-      there = subst (λ (i : Issue). IsIssue (F.first d.p s) i) (sym f.2) (laws.first_some d.p s start);
+      there = subst (λ (i : Issue). IsIssue (first_by F d.p s) i) (sym f.2) (first-some F laws d.p s start);
       sized = read.sized;
       up = up;
     }
     next_read (Over end) f going start read up = absurd going
 
-    next_load : (q : Stage) → IsLoads (F.first b.p s) q → (x : Device) → length x.image ≡ (layout_at F b.p).image_blocks → x.down ≡ false → IsGoing q
+    next_load : (q : Stage) → IsLoads (first_by F b.p s) q → (x : Device) → length x.image ≡ (layout_at F b.p).image_blocks → x.down ≡ false → IsGoing q
         → CanStepAt F q s x (at_stage q b) c
     next_load (Reads r) loads x sized up going = absurd loads
     next_load (Loads issue) loads x sized up going = record { start = start; there = loads; sized = sized; up = up }
     next_load (Over end) loads x sized up going = absurd going
 
-    some : 0 < (F.first b.p s).parts.slot_blocks
-    some = subst (λ (k : ℕ). 0 < k) (laws.first_parts b.p s start).slot_blocks (laws.some_slot b.p (F.first b.p s).commit)
-
     by_stage : (q : Stage) → CanStepAt F q s n b c → StepsAt F q s n b c m d e → (d.p ≡ b.p) × (m.down ≡ false) × CanStepAt F d.stage s m d e
     by_stage (Reads r) can on =
         let still : m.down ≡ false = ap (λ (x : Device). x.down) on.device ∙ up in
-        let fits : F.starts d.p s = subst (λ (p : Parameters). F.starts p s) (sym on.same_p) start in
+        let fits : CanStart d.p s = subst (λ (p : Parameters). CanStart p s) (sym on.same_p) start in
         (on.same_p, still, next_read d.stage on.read.so_far going fits on.read still)
     by_stage (Loads issue) can l =
-        let f : First = F.first b.p s in
+        let f : First = first_by F b.p s in
         let q : Stage = after_issue f issue in
         let x : Device = after (issue_action f issue) n in
         let still : x.down ≡ false = down-after f issue n ∙ up in
         let going_q : IsGoing q = subst (λ (y : Booting). IsGoing y.stage) l.boot going in
-        let next : CanStepAt F q s x (at_stage q b) c = next_load q (loads-after f some issue) x (length-after f issue n ∙ can.sized) still going_q in (
+        let next : CanStepAt F q s x (at_stage q b) c = next_load q (loads-after f (slot_some F laws b.p f.commit) issue) x (length-after f issue n ∙ can.sized) still going_q in (
           ap (λ (y : Booting). y.p) l.boot,
           ap (λ (y : Device). y.down) l.device ∙ still,
           subst (λ (y : Device). CanStepAt F d.stage s y d e) (sym l.device)

@@ -3,6 +3,7 @@ pub mod ReadLemmas
 pub mod NearerLemmas
 pub mod WrittenLemmas
 pub mod LoadLemmas
+pub mod LoadedLemmas
 pub mod MoveLemmas
 pub mod FoundLemmas
 pub mod SafeLemmas
@@ -14,4 +15,3 @@ pub mod CountLemmas
 pub mod TakesLemmas
 pub mod StartLemmas
 pub mod BlockLemmas
-pub mod JudgeLemmas

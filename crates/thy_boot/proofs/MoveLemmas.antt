@@ -7,14 +7,15 @@ use Rattle.thy_crash.specs.Fixed.{Reads as ReadsAs}
 use Rattle.thy_crash.specs.Saved.{Kept, InDoubt, IsIssued, next_image, guarded}
 use Rattle.thy_crash.proofs.SavedLemmas.{next_image-commit}
 use Rattle.thy_crash.proofs.SparesLemmas.{Spares-written, Spares-failed, Spares-failed_to_write}
-use Rattle.thy_record.specs.Decoded.{Nothing}
+use Rattle.thy_layout.specs.Decoded.{Nothing}
 use Rattle.thy_view.specs.Action.{after, FailsTo}
 use Rattle.thy_view.specs.Origin.{Origin}
+use Rattle.thy_view.specs.Safe.{ceiling}
 use Rattle.thy_protocol.specs.Issuing.{ArePlaced, slot_of}
 use Rattle.thy_protocol.specs.Keeps.{IsOf}
-use Rattle.thy_protocol.specs.Layout.{Layout, slot_in, decode_by, looked_by}
+use Rattle.thy_layout.specs.Layout.{Layout, slot_in, decode_by, looked_by}
 use Rattle.thy_protocol.specs.Moves.{Standing, standing, IsKeeping, Move, Goes, Readies, Commits, Confirms}
-use Rattle.thy_protocol.proofs.LayoutLemmas.{decode_by-nothing_back, looked_nothing}
+use Rattle.thy_layout.proofs.LayoutLemmas.{decode_by-nothing_back, looked_nothing}
 use Rattle.thy_boot.specs.declared.stage.Stage.{Stage}
 use Rattle.thy_boot.specs.declared.stage.Stage.TheVariants.{Reads, Loads, Over}
 use Rattle.thy_boot.specs.declared.stage.End.TheVariants.{Restored, Loaded}
@@ -24,48 +25,43 @@ use Rattle.thy_boot.specs.Boot.{Booting}
 use Rattle.thy_boot.specs.Filling.{FillingOf, First, IsFilling}
 use Rattle.thy_boot.specs.Loads.{IsIssue, after_issue, issue_action}
 use Rattle.thy_boot.specs.Sound.{BootImages, layout_for, first_of, start_mark, standing_in_boot, images_after, HasWrittenWholeFirst, HasLoadedBefore, IsFirstImage, IsMade, IsSoundAt}
+use Rattle.thy_boot.specs.Start.{CanStart}
 use Rattle.thy_boot.specs.Laws.{standing_after_fault}
-use Rattle.thy_boot.proofs.LoadLemmas.{first-checkpoint}
+use Rattle.thy_boot.proofs.LoadLemmas.{first-whole, first-placed, first-checkpoint}
 use Rattle.thy_boot.proofs.WrittenLemmas.{place_in, behind, AreIssued-written, StandsAt}
 
 -- if there is no checkpoint, the commit block alone determines that
-alone : (l : Layout) (before : List Block) (x : ℕ) → decode_by l before ≡ Nothing → x ≢ 1 → ¬ Contains (1 ∷ looked_by l before) x
+alone : (l : Layout) (before : List Block) (x : ℕ) → decode_by l ceiling before ≡ Nothing → x ≢ 1 → ¬ Contains (1 ∷ looked_by l before) x
 alone l before x nothing other inside =
     let only : Contains (1 ∷ 1 ∷ []) x
-    = subst (λ (xs : List ℕ). Contains (1 ∷ xs) x) (looked_nothing l before (decode_by-nothing_back l before nothing)) inside in
+    = subst (λ (xs : List ℕ). Contains (1 ∷ xs) x) (looked_nothing l before (decode_by-nothing_back l ceiling before nothing)) inside in
     elim (Contains-push_cases (1 ∷ []) 1 x only) as (λ _. ⊥) [
       | inl first ↦ elim (Contains-push_cases [] 1 x first) as (λ _. ⊥) [ inl none ↦ absurd (omega (arith, none.1)) | inr e ↦ other (sym e) ]
       | inr e ↦ other (sym e)
     ]
 
-module _ {C : Type 0} (F : FillingOf C) (laws : IsFilling F) (o : Origin) (starts : F.starts o.geometry o.start) where
+module _ {C : Type 0} (F : FillingOf C) (laws : IsFilling F) (o : Origin) (can : CanStart o.geometry o.start) where
   abbrev l : Layout
   l = layout_for F o
 
   abbrev f : First
   f = first_of F o
 
-  pub placed : ArePlaced l.image_blocks f.parts
-  placed = (laws.first_parts o.geometry o.start starts).placed
-
-  pub once : (i j : ℕ) → i < length f.parts.memory → j < length f.parts.memory → place_in f i ≡ place_in f j → i ≡ j
-  once i j a b e = laws.first_once o.geometry o.start i j starts a b e
-
-  pub some : 0 < f.parts.slot_blocks
-  some = subst (λ (k : ℕ). 0 < k) (laws.first_parts o.geometry o.start starts).slot_blocks (laws.some_slot o.geometry f.commit)
+  placed : ArePlaced l.image_blocks f.parts
+  placed = first-placed F laws o.geometry o.start can
 
   -- before the first barrier
   abbrev before_of : BootImages → Device → Standing
   before_of g n = standing n (Kept g.before) None (Some (start_mark o))
 
   -- a write of another place than the commit block's, and one that failed
-  writes : (g : BootImages) (n : Device) (x : ℕ) (block : Block) → decode_by l g.before ≡ Nothing → x ≢ 1
+  writes : (g : BootImages) (n : Device) (x : ℕ) (block : Block) → decode_by l ceiling g.before ≡ Nothing → x ≢ 1
       → Move o l (before_of g n) (before_of g (written_to n x block))
   writes g n x block nothing other =
       Goes (Kept g.before) None (Some (start_mark o)) n (written_to n x block)
       (Spares-written (1 ∷ looked_by l g.before) x block n (written_to n x block) (alone l g.before x nothing other) refl)
 
-  fails_write : (g : BootImages) (n m : Device) (x : ℕ) (block : Block) → decode_by l g.before ≡ Nothing → x ≢ 1
+  fails_write : (g : BootImages) (n m : Device) (x : ℕ) (block : Block) → decode_by l ceiling g.before ≡ Nothing → x ≢ 1
       → HasFailedToWrite x block n m → IsFramed n m → Move o l (before_of g n) (before_of g m)
   fails_write g n m x block nothing other failed framed =
       Goes (Kept g.before) None (Some (start_mark o)) n m
@@ -73,7 +69,7 @@ module _ {C : Type 0} (F : FillingOf C) (laws : IsFilling F) (o : Origin) (start
 
   -- no block of memory or slot goes to the commit block
   pub home_elsewhere : (b : ℕ) → b < length f.parts.memory → place_in f b ≢ 1
-  home_elsewhere b inside e = let past = behind l.image_blocks f placed once b inside in omega (arith, e, past)
+  home_elsewhere b inside e = let past = behind l.image_blocks f placed b inside in omega (arith, e, past)
 
   pub slot_elsewhere : (k : ℕ) → f.parts.slot_place + k ≢ 1
   slot_elsewhere k e = omega (arith, e, placed.slot_behind)
@@ -82,7 +78,7 @@ module _ {C : Type 0} (F : FillingOf C) (laws : IsFilling F) (o : Origin) (start
   module _ (n : Device) (w : HasWrittenWholeFirst l.image_blocks f n) where
     whole : IsOf o l (next_image n f.commit) (start_mark o) × IsIssued (looked_by l) n (next_image n f.commit)
         × (slot_in l (next_image n f.commit) ≡ slot_of f.parts)
-    whole = first-checkpoint F laws o starts n (AreIssued-written l.image_blocks f (laws.first_whole o.geometry o.start starts) n w.parts) w.header
+    whole = first-checkpoint F laws o can n (AreIssued-written l.image_blocks f (first-whole F laws o.geometry o.start) n w.parts) w.header
 
     pub IsFirstImage-written : IsFirstImage o l f (next_image n f.commit)
     IsFirstImage-written = record {
@@ -136,7 +132,7 @@ module _ {C : Type 0} (F : FillingOf C) (laws : IsFilling F) (o : Origin) (start
 
     -- what holds at a stage of loading, or after it, makes a boot of the run
     pub sound_at : (b : Booting) (c : C) (h : BootImages) (m : Device) → F.fresh c → h.kept ≡ None → (q : Stage)
-        → StandsAt l.image_blocks f placed once q m → MadeAt q h.next → IsSoundAt F o q h m b c
+        → StandsAt l.image_blocks f q m → MadeAt q h.next → IsSoundAt F o q h m b c
     sound_at b c h m fresh none (Reads r) stands made = absurd stands
     sound_at b c h m fresh none (Loads issue) stands made = record { none = none; fresh = fresh; there = stands.0; made = made; stood = stands.1 }
     sound_at b c h m fresh none (Over Restored) stands made = absurd stands

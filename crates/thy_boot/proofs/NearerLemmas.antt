@@ -1,14 +1,13 @@
 -- Each step leaves fewer actions.
-use Rattle.std.proofs.Common.{◌≡◌, ℕ, ◌+◌, ◌-◌, ◌<◌, ◌≤◌, Bool, true, false, nat_lt, if◌then◌else◌, refl, arith, Option, Some, None}
-use Rattle.std.specs.Option.{option_or}
+use Rattle.std.proofs.Common.{◌≡◌, ℕ, ◌+◌, ◌-◌, ◌<◌, ◌≤◌, Bool, true, false, if◌then◌else◌, refl, arith, Option, Some, None}
 use Rattle.thy_base.specs.declared.block.Block.{Block}
-use Rattle.thy_record.specs.declared.bad_image.BadImage.{BadImage}
-use Rattle.thy_record.specs.Commit.{is_zero}
+use Rattle.thy_layout.specs.declared.bad_image.BadImage.{BadImage}
+use Rattle.thy_layout.specs.Commit.{is_zero}
 use Rattle.thy_boot.specs.declared.stage.Stage.{Stage}
 use Rattle.thy_boot.specs.declared.stage.Stage.TheVariants.{Reads, Loads, Over}
 use Rattle.thy_boot.specs.declared.stage.ReadStage.TheVariants.{Unread, Header, Slot, Fills, Refusing}
 use Rattle.thy_boot.specs.declared.stage.Issue.TheVariants.{Home, Slot as SlotBlock, Header as HeaderBlock, Settle, Commit, Confirm}
-use Rattle.thy_boot.specs.Boot.{Booting, layout_in, slot_read, at_stage, at_slot, refusing_or, after_commit, after_header, after_slot, filling_or, after_fill, gone_on}
+use Rattle.thy_boot.specs.Boot.{Booting, layout_in, slot_read, slot_fault, at_stage, refusing_or, after_commit, head_fault, after_header, after_slot, filling_or, filling_from, has_more, gone_on}
 use Rattle.thy_boot.specs.Filling.{FillingOf, IsFilling}
 use Rattle.thy_boot.specs.Left.{reads_left, boot_left}
 use Rattle.thy_boot.specs.Recovers.{IsNearer}
@@ -20,43 +19,40 @@ module _ {C : Type 0} (F : FillingOf C) (laws : IsFilling F) where
     by_test true = omega arith
     by_test false = omega arith
 
-  pub nearer_header : (b : Booting) (block : Block) → IsNearer F b Header (at_slot (after_header (layout_in F b) block b) b)
-  nearer_header b block = by_fault (option_or ((layout_in F b).header_bad block true) ((layout_in F b).commit_bad block b.commit)) where
-    most : (layout_in F b).slot_blocks b.commit ≤ F.most_slot b.p
-    most = laws.most_room b.p b.commit
+  room : (b : Booting) → (layout_in F b).slot_blocks b.commit ≤ (layout_in F b).most_slot
+  room b = (laws.laid.slot b.p b.commit).most
 
-    by_fault : (o : Option BadImage) → boot_left F (at_slot (after_header (layout_in F b) block b) b) (refusing_or o (Reads (Slot 0))) < reads_left F b Header
-    by_fault None = omega (arith, most)
+  pub nearer_header : (b : Booting) (block : Block) → IsNearer F b Header (at_stage (after_header (layout_in F b) block b) b)
+  nearer_header b block = by_fault (head_fault (layout_in F b) block b.commit) where
+    by_fault : (o : Option BadImage) → boot_left F (at_stage (after_header (layout_in F b) block b) b) (refusing_or o (Reads (Slot 0))) < reads_left F b Header
+    by_fault None = omega (arith, room b)
     by_fault (Some bad) = omega arith
 
   -- from a position on
-  nearer_next : (b : Booting) (from : ℕ) → boot_left F b (filling_or (F.next_fill b.p b.commit (slot_read F b) from)) ≤ F.most_fills b.p - from
+  nearer_next : (b : Booting) (from : ℕ) → boot_left F b (filling_from F from b) ≤ F.most_fills b.p - from
   nearer_next b from = by_next (F.next_fill b.p b.commit (slot_read F b) from) refl where
     by_next : (o : Option ℕ) → F.next_fill b.p b.commit (slot_read F b) from ≡ o → boot_left F b (filling_or o) ≤ F.most_fills b.p - from
     by_next None e = omega arith
     by_next (Some k) e = let above = laws.above b.p b.commit (slot_read F b) from k e in omega (arith, above.0)
 
   pub nearer_slot : (b : Booting) (k : ℕ) → k < (layout_in F b).slot_blocks b.commit → boot_left F (gone_on F k b) (gone_on F k b).stage < reads_left F b (Slot k)
-  nearer_slot b k inside = by_test (nat_lt (k + 1) ((layout_in F b).slot_blocks b.commit)) where
-    next : boot_left F b (filling_or (F.next_fill b.p b.commit (slot_read F b) 0)) ≤ F.most_fills b.p - 0
-    next = nearer_next b 0
-
+  nearer_slot b k inside = by_test (has_more F k b) where
     by_next : (o : Option ℕ) → boot_left F b (filling_or o) ≤ F.most_fills b.p - 0 → boot_left F (gone_on F k b) (filling_or o) < reads_left F b (Slot k)
     by_next None less = omega (arith, inside)
     by_next (Some j) less = omega (arith, inside, less)
 
-    by_fault : (o : Option BadImage)
-        → boot_left F (gone_on F k b) (refusing_or o (filling_or (F.next_fill b.p b.commit (slot_read F b) 0))) < reads_left F b (Slot k)
-    by_fault None = by_next (F.next_fill b.p b.commit (slot_read F b) 0) next
+    by_fault : (o : Option BadImage) → boot_left F (gone_on F k b) (refusing_or o (filling_from F 0 b)) < reads_left F b (Slot k)
+    by_fault None = by_next (F.next_fill b.p b.commit (slot_read F b) 0) (nearer_next b 0)
     by_fault (Some bad) = omega (arith, inside)
 
     by_test : (z : Bool) → boot_left F (gone_on F k b) (if z then Reads (Slot (k + 1)) else after_slot F b) < reads_left F b (Slot k)
     by_test true = omega (arith, inside)
-    by_test false = by_fault ((layout_in F b).slot_bad b.commit (slot_read F b))
+    by_test false = by_fault (slot_fault F b)
 
-  pub nearer_fill : (b : Booting) (k : ℕ) → k < F.most_fills b.p → IsNearer F b (Fills k) (at_stage (after_fill F k b) b)
+  pub nearer_fill : (b : Booting) (k : ℕ) → k < F.most_fills b.p → IsNearer F b (Fills k) (at_stage (filling_from F (k + 1) b) b)
   nearer_fill b k inside = by_next (F.next_fill b.p b.commit (slot_read F b) (k + 1)) (nearer_next b (k + 1)) where
-    by_next : (o : Option ℕ) → boot_left F b (filling_or o) ≤ F.most_fills b.p - (k + 1) → boot_left F (at_stage (after_fill F k b) b) (filling_or o) < reads_left F b (Fills k)
+    by_next : (o : Option ℕ) → boot_left F b (filling_or o) ≤ F.most_fills b.p - (k + 1)
+        → boot_left F (at_stage (filling_from F (k + 1) b) b) (filling_or o) < reads_left F b (Fills k)
     by_next None less = omega (arith, inside)
     by_next (Some j) less = omega (arith, inside, less)
 
@@ -64,7 +60,7 @@ module _ {C : Type 0} (F : FillingOf C) (laws : IsFilling F) where
   pub left_most : (b : Booting) (q : Stage) → boot_left F b q ≤ boot_left F b (Reads Unread)
   left_most b (Reads Unread) = omega arith
   left_most b (Reads Header) = omega arith
-  left_most b (Reads (Slot next)) = let most = laws.most_room b.p b.commit in omega (arith, most)
+  left_most b (Reads (Slot next)) = omega (arith, room b)
   left_most b (Reads (Fills k)) = omega arith
   left_most b (Reads (Refusing bad)) = omega arith
   left_most b (Loads (Home k)) = omega arith

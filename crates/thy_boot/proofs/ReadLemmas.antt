@@ -1,27 +1,28 @@
 -- What each read makes of what was read so far, whatever the layout and whatever is filled.
-use Rattle.std.proofs.Common.{◌≡◌, ℕ, ◌+◌, ◌*◌, ◌<◌, ◌≤◌, nat_lt, Bool, true, false, if◌then◌else◌, List, [], length, refl, sym, ◌∙◌, ap, subst, arith, Option, Some, None}
+use Rattle.std.proofs.Common.{◌≡◌, ℕ, ◌+◌, ◌*◌, ◌<◌, ◌≤◌, Bool, true, false, if◌then◌else◌, List, [], length, refl, sym, ◌∙◌, ap, subst, arith, Option, Some, None}
 use Rattle.std.specs.Option.{option_or}
-use Rattle.std.proofs.lemmas.Bool.{eq-eqb, ltb-false}
+use Rattle.std.proofs.lemmas.Bool.{ltb-false}
 use Rattle.thy_base.specs.declared.block.Block.{Block}
 use Rattle.thy_base.specs.declared.config.Parameters.{Parameters}
 use Rattle.thy_base.specs.Device.{Device, block_at, newest}
 use Rattle.thy_base.proofs.WrittenLemmas.{length-written}
 use Rattle.thy_base.proofs.BasicLemmas.{none_of_two}
 use Rattle.thy_base.proofs.DeviceLemmas.{newest-empty}
-use Rattle.thy_record.specs.declared.bad_image.BadImage.{BadImage}
-use Rattle.thy_record.specs.Commit.{is_zero, epoch_of}
-use Rattle.thy_record.specs.Decoded.{Nothing, Refused as IsRefused, At}
-use Rattle.thy_protocol.specs.Layout.{Layout, is_sized, slot_in, memory_in, fault_of, refused_or_at, decode_by}
-use Rattle.thy_protocol.proofs.LayoutLemmas.{decode_by-zero}
+use Rattle.thy_layout.specs.declared.bad_image.BadImage.{BadImage}
+use Rattle.thy_layout.specs.Commit.{is_zero, epoch_of}
+use Rattle.thy_layout.specs.Decoded.{Nothing, Refused as IsRefused, At}
+use Rattle.thy_layout.specs.Layout.{Layout, header_bad, commit_bad, state_by, slot_in, memory_in, is_sized, fault_of, refused_or_at, decode_by}
+use Rattle.thy_layout.proofs.LayoutLemmas.{sized_if_long, decode_by-zero}
+use Rattle.thy_view.specs.Safe.{ceiling}
 use Rattle.thy_boot.specs.declared.stage.Stage.{Stage}
 use Rattle.thy_boot.specs.declared.stage.Stage.TheVariants.{Reads, Loads, Over}
 use Rattle.thy_boot.specs.declared.stage.ReadStage.TheVariants.{Unread, Header, Slot, Fills, Refusing}
 use Rattle.thy_boot.specs.declared.stage.End.TheVariants.{Restored, Loaded}
 use Rattle.thy_boot.specs.declared.stage.Issue.TheVariants.{Home}
-use Rattle.thy_boot.specs.Boot.{Booting, IsBoot, IsThere, new_boot, layout_in, slot_read, at_stage, at_slot, refusing_or, after_commit, after_header, after_slot, filling_or, after_fill, gone_on, early_fault, IsJudged, JudgesUnless, GoesOn}
+use Rattle.thy_boot.specs.Boot.{Booting, IsBoot, IsThere, new_boot, layout_in, slot_read, slot_fault, at_stage, refusing_or, after_commit, head_fault, after_header, after_slot, filling_or, filling_from, has_more, gone_on, IsJudged, GoesOn}
 use Rattle.thy_boot.specs.Filling.{FillingOf, IsFilling, layout_at}
 use Rattle.thy_boot.specs.Reads.{slot_kept}
-use Rattle.thy_boot.specs.Recovers.{HasCommit, HasHead, HasSlot, HasTaken, HasReadAt, HasRead}
+use Rattle.thy_boot.specs.Recovers.{HasCommit, HasHead, HasSlot, HasListed, HasReadAt, HasRead}
 use Rattle.thy_boot.proofs.SlotLemmas.{HasSlot-more, slot_is_whole}
 
 first_two : {X : Type 0} (a b c : Option X) (x : X) → option_or a b ≡ Some x → option_or a (option_or b c) ≡ Some x
@@ -33,17 +34,17 @@ last_one a b c o ha hb hc = ap (λ z. option_or z (option_or b c)) ha ∙ ap (λ
 
 -- an image with a commit block, by its first fault
 decode-fault : (l : Layout) (g : List Block) (commit : Block) (o : Option BadImage) → HasCommit g commit → length g ≡ l.image_blocks
-    → fault_of l true (block_at g 0) commit (slot_in l g) ≡ o
-    → decode_by l g ≡ refused_or_at o (epoch_of commit) (l.state_from (slot_in l g) (memory_in l g))
+    → fault_of l ceiling true (block_at g 0) commit (slot_in l g) ≡ o
+    → decode_by l ceiling g ≡ refused_or_at o (epoch_of commit) (state_by l (slot_in l g) (memory_in l g))
 unfolding decode_by
 decode-fault l g commit o c long h =
     ap (λ (b : Block). if is_zero b then Nothing
-    else refused_or_at (fault_of l (is_sized l g) (block_at g 0) b (slot_in l g)) (epoch_of b) (l.state_from (slot_in l g) (memory_in l g))) c.is
+    else refused_or_at (fault_of l ceiling (is_sized l g) (block_at g 0) b (slot_in l g)) (epoch_of b) (state_by l (slot_in l g) (memory_in l g))) c.is
     ∙ ap (λ (t : Bool). if t then Nothing
-    else refused_or_at (fault_of l (is_sized l g) (block_at g 0) commit (slot_in l g)) (epoch_of commit) (l.state_from (slot_in l g) (memory_in l g))) c.committed
-    ∙ ap (λ (t : Bool). refused_or_at (fault_of l t (block_at g 0) commit (slot_in l g)) (epoch_of commit) (l.state_from (slot_in l g) (memory_in l g)))
-    (eq-eqb (length g) l.image_blocks long)
-    ∙ ap (λ (f : Option BadImage). refused_or_at f (epoch_of commit) (l.state_from (slot_in l g) (memory_in l g))) h
+    else refused_or_at (fault_of l ceiling (is_sized l g) (block_at g 0) commit (slot_in l g)) (epoch_of commit) (state_by l (slot_in l g) (memory_in l g))) c.committed
+    ∙ ap (λ (t : Bool). refused_or_at (fault_of l ceiling t (block_at g 0) commit (slot_in l g)) (epoch_of commit) (state_by l (slot_in l g) (memory_in l g)))
+    (sized_if_long l g long)
+    ∙ ap (λ (f : Option BadImage). refused_or_at f (epoch_of commit) (state_by l (slot_in l g) (memory_in l g))) h
 
 module _ {C : Type 0} (F : FillingOf C) where
   -- the commit block
@@ -56,32 +57,35 @@ module _ {C : Type 0} (F : FillingOf C) where
     there = newest-empty n 1 h.settled
 
     by_zero : (z : Bool) → is_zero (newest n 1) ≡ z → HasReadAt F (if z then Loads (Home 0) else Reads Header) n (after_commit (newest n 1) b) c
-    by_zero true e = (fresh, decode_by-zero (layout_in F b) n.image (ap is_zero (sym there) ∙ e), refl)
+    by_zero true e = (fresh, decode_by-zero (layout_in F b) ceiling n.image (ap is_zero (sym there) ∙ e), refl)
     by_zero false e = (fresh, record { committed = e; is = sym there })
 
   -- the header
-  pub header-found : (n : Device) (b : Booting) (c : C) → IsFilling F → b.stage ≡ Reads Header → HasRead F n b c
-      → HasRead F n (at_slot (after_header (layout_in F b) (newest n 0) b) b) c
-  header-found n b c laws is h = record { same_p = h.same_p; sized = h.sized; settled = h.settled; so_far = found } where
-    had : F.fresh c × HasCommit n.image b.commit
-    had = subst (λ (s : Stage). HasReadAt F s n b c) is h.so_far
+  module _ (n : Device) (b : Booting) (c : C) (is : b.stage ≡ Reads Header) (h : HasRead F n b c) where
+    header_had : F.fresh c × HasCommit n.image b.commit
+    header_had = subst (λ (s : Stage). HasReadAt F s n b c) is h.so_far
 
-    by_fault : (o : Option BadImage) → option_or ((layout_in F b).header_bad (block_at n.image 0) true) ((layout_in F b).commit_bad (block_at n.image 0) b.commit) ≡ o
-        → HasReadAt F (refusing_or o (Reads (Slot 0))) n (at_slot (refusing_or o (Reads (Slot 0))) b) c
+    by_fault : (o : Option BadImage) → head_fault (layout_in F b) (block_at n.image 0) b.commit ≡ o
+        → HasReadAt F (refusing_or o (Reads (Slot 0))) n (at_stage (refusing_or o (Reads (Slot 0))) b) c
     by_fault None e =
-        let both = none_of_two ((layout_in F b).header_bad (block_at n.image 0) true) ((layout_in F b).commit_bad (block_at n.image 0) b.commit) e in (
-          record { taken = laws.none_taken c b.commit had.0; fault = sym (laws.early_none b.p b.commit) },
-          record { commit_is = had.1; header_fits = both.0; commit_fits = both.1 },
+        let both = none_of_two (header_bad (layout_in F b) (block_at n.image 0) true) (commit_bad ceiling (block_at n.image 0) b.commit) e in (
+          header_had.0,
+          record { commit_is = header_had.1; header_fits = both.0; commit_fits = both.1 },
           record { each = λ k less. absurd (omega (arith, less)) },
         )
     by_fault (Some bad) e =
-        decode-fault (layout_in F b) n.image b.commit (Some bad) had.1 h.sized
-        (first_two ((layout_in F b).header_bad (block_at n.image 0) true) ((layout_in F b).commit_bad (block_at n.image 0) b.commit) ((layout_in F b).slot_bad b.commit (slot_in (layout_in F b) n.image)) bad e)
+        decode-fault (layout_in F b) n.image b.commit (Some bad) header_had.1 h.sized
+        (first_two (header_bad (layout_in F b) (block_at n.image 0) true) (commit_bad ceiling (block_at n.image 0) b.commit)
+        ((layout_in F b).slot_bad ceiling b.commit (slot_in (layout_in F b) n.image)) bad e)
 
-    found : HasReadAt F (after_header (layout_in F b) (newest n 0) b) n (at_slot (after_header (layout_in F b) (newest n 0) b) b) c
-    found =
-        subst (λ (x : Block). HasReadAt F (after_header (layout_in F b) x b) n (at_slot (after_header (layout_in F b) x b) b) c) (sym (newest-empty n 0 h.settled))
-        (by_fault (option_or ((layout_in F b).header_bad (block_at n.image 0) true) ((layout_in F b).commit_bad (block_at n.image 0) b.commit)) refl)
+    pub header-found : HasRead F n (at_stage (after_header (layout_in F b) (newest n 0) b) b) c
+    header-found = record {
+      same_p = h.same_p;
+      sized = h.sized;
+      settled = h.settled;
+      so_far = subst (λ (x : Block). HasReadAt F (after_header (layout_in F b) x b) n (at_stage (after_header (layout_in F b) x b) b) c)
+          (sym (newest-empty n 0 h.settled)) (by_fault (head_fault (layout_in F b) (block_at n.image 0) b.commit) refl);
+    }
 
   -- the whole slot, judged: it is refused, or, listed by the controller, filled or restored
   module _ (n : Device) (b : Booting) (c : C) (laws : IsFilling F) (same : F.p c ≡ b.p) (settled : n.queue ≡ []) (sized : length n.image ≡ (layout_in F b).image_blocks)
@@ -92,20 +96,22 @@ module _ {C : Type 0} (F : FillingOf C) where
     abbrev slot : List Block
     slot = slot_read F b
 
-    meaning : (o : Option BadImage) → l.slot_bad b.commit slot ≡ o
-        → decode_by l n.image ≡ refused_or_at o (epoch_of b.commit) (l.state_from (slot_in l n.image) (memory_in l n.image))
+    meaning : (o : Option BadImage) → slot_fault F b ≡ o
+        → decode_by l ceiling n.image ≡ refused_or_at o (epoch_of b.commit) (state_by l (slot_in l n.image) (memory_in l n.image))
     meaning o e =
         decode-fault l n.image b.commit o head.commit_is sized
-        (last_one (l.header_bad (block_at n.image 0) true) (l.commit_bad (block_at n.image 0) b.commit) (l.slot_bad b.commit (slot_in l n.image)) o
-        head.header_fits head.commit_fits (ap (l.slot_bad b.commit) (sym whole) ∙ e))
+        (last_one (header_bad l (block_at n.image 0) true) (commit_bad ceiling (block_at n.image 0) b.commit) (l.slot_bad ceiling b.commit (slot_in l n.image)) o
+        head.header_fits head.commit_fits (ap (l.slot_bad ceiling b.commit) (sym whole) ∙ e))
 
-    pub refused : (bad : BadImage) → l.slot_bad b.commit slot ≡ Some bad → decode_by l n.image ≡ IsRefused bad
+    pub refused : (bad : BadImage) → slot_fault F b ≡ Some bad → decode_by l ceiling n.image ≡ IsRefused bad
     refused bad e = meaning (Some bad) e
 
     -- from a position on
-    pub filling-found : (from : ℕ) → l.slot_bad b.commit slot ≡ None → F.lists b.commit slot c → F.filled c n from
-        → HasReadAt F (filling_or (F.next_fill b.p b.commit slot from)) n b c
+    pub filling-found : (from : ℕ) → slot_fault F b ≡ None → F.lists b.commit slot c → F.filled c n from → HasReadAt F (filling_from F from b) n b c
     filling-found from fits lists filled = by_next (F.next_fill b.p b.commit slot from) refl where
+      listed : HasListed F n b c
+      listed = record { head = head; slot_is = whole; slot_fits = fits; lists = lists }
+
       by_next : (o : Option ℕ) → F.next_fill b.p b.commit slot from ≡ o → HasReadAt F (filling_or o) n b c
       by_next None e =
           let none : F.next_fill (F.p c) b.commit slot from ≡ None = ap (λ p. F.next_fill p b.commit slot from) same ∙ e in
@@ -114,134 +120,111 @@ module _ {C : Type 0} (F : FillingOf C) where
           let ended = laws.ends c n b.commit slot from lists filled none settled long head.commit_is.is slot_is in
           let memory : F.loads c n ≡ memory_in l n.image = ended.1 ∙ ap (λ p. memory_in (layout_at F p) n.image) same in
           record {
-            lists = lists;
-            head = head;
-            slot_is = whole;
-            slot_fits = fits;
+            listed = listed;
             whole = ended.0;
-            found = meaning None fits ∙ ap (λ s. At (epoch_of b.commit) (l.state_from s (memory_in l n.image))) (sym whole)
-                ∙ ap (λ m. At (epoch_of b.commit) (l.state_from slot m)) (sym memory);
+            found = meaning None fits ∙ ap (λ s. At (epoch_of b.commit) (state_by l s (memory_in l n.image))) (sym whole)
+                ∙ ap (λ m. At (epoch_of b.commit) (state_by l slot m)) (sym memory);
           }
       by_next (Some k) e =
           let some : F.next_fill (F.p c) b.commit slot from ≡ Some k = ap (λ p. F.next_fill p b.commit slot from) same ∙ e in
-          let there = laws.next c n b.commit slot from k lists filled some in (
-            record { head = head; slot_is = whole; slot_fits = fits; lists = lists; filled = there.2 },
-            ap (λ p. F.next_fill p b.commit slot k) (sym same) ∙ there.3,
-          )
+          let there = laws.next c n b.commit slot from k lists filled some in
+          (listed, there.2, ap (λ p. F.next_fill p b.commit slot k) (sym same) ∙ there.3)
 
   -- what was read does not depend on the stage that the boot has
+  relist : (s : Stage) (n : Device) (b : Booting) (c : C) → HasListed F n b c → HasListed F n (at_stage s b) c
+  relist s n b c h = record { head = h.head; slot_is = h.slot_is; slot_fits = h.slot_fits; lists = h.lists }
+
   pub restage : (q s : Stage) (n : Device) (b : Booting) (c : C) → HasReadAt F q n b c → HasReadAt F q n (at_stage s b) c
   restage (Reads Unread) s n b c h = h
   restage (Reads Header) s n b c h = h
-  restage (Reads (Slot next)) s n b c h = (record { taken = h.0.taken; fault = h.0.fault }, h.1, h.2)
-  restage (Reads (Fills k)) s n b c h = (
-    record { head = h.0.head; slot_is = h.0.slot_is; slot_fits = h.0.slot_fits; lists = h.0.lists; filled = h.0.filled },
-    h.1,
-  )
+  restage (Reads (Slot next)) s n b c h = h
+  restage (Reads (Fills k)) s n b c h = (relist s n b c h.0, h.1, h.2)
   restage (Reads (Refusing bad)) s n b c h = h
   restage (Loads issue) s n b c h = h
-  restage (Over Restored) s n b c h = record { lists = h.lists; head = h.head; slot_is = h.slot_is; slot_fits = h.slot_fits; whole = h.whole; found = h.found }
+  restage (Over Restored) s n b c h = record { listed = relist s n b c h.listed; whole = h.whole; found = h.found }
   restage (Over Loaded) s n b c h = h
-
-  -- nor, past the slot's blocks, on the fault that it has noted
-  abbrev IsPast : Stage → Type 0
-  IsPast (Reads (Slot next)) = ⊥
-  IsPast q = Unit {0}
-
-  refault : (q : Stage) (f : Option BadImage) (n : Device) (b : Booting) (c : C) → IsPast q → HasReadAt F q n b c → HasReadAt F q n (record b { fault = f }) c
-  refault (Reads Unread) f n b c past h = h
-  refault (Reads Header) f n b c past h = h
-  refault (Reads (Slot next)) f n b c past h = absurd past
-  refault (Reads (Fills k)) f n b c past h = (
-    record { head = h.0.head; slot_is = h.0.slot_is; slot_fits = h.0.slot_fits; lists = h.0.lists; filled = h.0.filled },
-    h.1,
-  )
-  refault (Reads (Refusing bad)) f n b c past h = h
-  refault (Loads issue) f n b c past h = h
-  refault (Over Restored) f n b c past h = record { lists = h.lists; head = h.head; slot_is = h.slot_is; slot_fits = h.slot_fits; whole = h.whole; found = h.found }
-  refault (Over Loaded) f n b c past h = h
-
-  not_taken : (o : Option BadImage) (next : Option ℕ) → IsPast (refusing_or o (filling_or next))
-  not_taken None None = tt
-  not_taken None (Some k) = tt
-  not_taken (Some bad) next = tt
 
   -- a position was filled with what its read gave
   pub fill-found : (n : Device) (b : Booting) (c : C) (k : ℕ) → IsFilling F → b.stage ≡ Reads (Fills k) → HasRead F n b c
-      → HasRead F n (at_stage (after_fill F k b) b) (F.with_fill b.commit k (newest n (F.fill_place c b.commit k)) c)
+      → HasRead F n (at_stage (filling_from F (k + 1) b) b) (F.with_fill b.commit k (newest n (F.fill_place c b.commit k)) c)
   fill-found n b c k laws is h =
       let had : HasReadAt F (Reads (Fills k)) n b c = subst (λ (s : Stage). HasReadAt F s n b c) is h.so_far in
-      let listed = had.0 in
-      let some : F.next_fill (F.p c) b.commit (slot_read F b) k ≡ Some k = ap (λ p. F.next_fill p b.commit (slot_read F b) k) h.same_p ∙ had.1 in
+      let listed : HasListed F n b c = had.0 in
+      let some : F.next_fill (F.p c) b.commit (slot_read F b) k ≡ Some k = ap (λ p. F.next_fill p b.commit (slot_read F b) k) h.same_p ∙ had.2 in
       let long : length n.image ≡ (layout_at F (F.p c)).image_blocks = h.sized ∙ ap (λ p. (layout_at F p).image_blocks) (sym h.same_p) in
-      let filled = laws.fills c n b.commit (slot_read F b) k listed.lists listed.filled some h.settled long listed.head.commit_is.is in
+      let filled = laws.fills c n b.commit (slot_read F b) k listed.lists had.1 some h.settled long listed.head.commit_is.is in
       let d : C = F.with_fill b.commit k (newest n (F.fill_place c b.commit k)) c in
       let same : F.p d ≡ b.p = filled.2 ∙ h.same_p in
       record {
         same_p = same;
         sized = h.sized;
         settled = h.settled;
-        so_far = restage (after_fill F k b) (after_fill F k b) n b d
+        so_far = restage (filling_from F (k + 1) b) (filling_from F (k + 1) b) n b d
             (filling-found n b d laws same h.settled h.sized listed.head listed.slot_is (k + 1) listed.slot_fits filled.0 filled.1);
       }
 
-  -- a block of the slot was kept, and the last of them was judged
+  -- a block of the slot was kept, and with the last of them the slot was judged
   module _ (n : Device) (b : Booting) (c d : C) (k : ℕ) (laws : IsFilling F) (boot : IsBoot F b) (is : b.stage ≡ Reads (Slot k)) (h : HasRead F n b c)
       (long : length (newest n ((layout_in F b).slot_place b.commit + k)).0 ≡ 64) where
+    abbrev lay : Layout
+    lay = layout_in F b
+
+    abbrev block : Block
+    block = newest n (lay.slot_place b.commit + k)
+
     abbrev w : Booting
     w = slot_kept F k n b
 
-    had : HasTaken F b c k × HasHead (layout_in F b) n.image b.commit × HasSlot (layout_in F b) n.image b.commit k b.slot
+    had : F.fresh c × HasHead lay n.image b.commit × HasSlot lay n.image b.commit k b.slot
     had = subst (λ (s : Stage). HasReadAt F s n b c) is h.so_far
 
-    most : (layout_in F b).slot_blocks b.commit ≤ F.most_slot b.p
-    most = laws.most_room b.p b.commit
+    most : lay.slot_blocks b.commit ≤ lay.most_slot
+    most = (laws.laid.slot b.p b.commit).most
 
-    inside : k < (layout_in F b).slot_blocks b.commit
+    inside : k < lay.slot_blocks b.commit
     inside = subst (λ (s : Stage). IsThere F b s) is boot.there
 
-    size : length w.slot ≡ 64 * F.most_slot b.p
-    size =
-        length-written b.slot (64 * k) (newest n ((layout_in F b).slot_place b.commit + k)).0 (omega (arith, boot.room, inside, most, long))
-        ∙ boot.room
+    size : length w.slot ≡ 64 * lay.most_slot
+    size = length-written b.slot (64 * k) block.0 (omega (arith, boot.room, inside, most, long)) ∙ boot.room
 
-    kept : HasSlot (layout_in F b) n.image b.commit (k + 1) w.slot
+    kept : HasSlot lay n.image b.commit (k + 1) w.slot
     kept =
-        HasSlot-more (layout_in F b) n.image b.commit k b.slot (newest n ((layout_in F b).slot_place b.commit + k)) (omega (arith, boot.room, inside, most)) long
-        (newest-empty n ((layout_in F b).slot_place b.commit + k) h.settled) had.2
+        HasSlot-more lay n.image b.commit k b.slot block (omega (arith, boot.room, inside, most)) long
+        (newest-empty n (lay.slot_place b.commit + k) h.settled) had.2
 
-    whole : k + 1 ≡ (layout_in F b).slot_blocks b.commit → slot_read F w ≡ slot_in (layout_in F b) n.image
+    whole : k + 1 ≡ lay.slot_blocks b.commit → slot_read F w ≡ slot_in lay n.image
     whole last = slot_is_whole F n.image w (k + 1) had.1.commit_is size most last kept
 
-    judged_p : (o : Option BadImage) → IsJudged F o w c d → F.p d ≡ b.p
-    judged_p None j = j.left.same_p ∙ h.same_p
-    judged_p (Some bad) j = j.same_p ∙ h.same_p
-
-    judged : (o : Option BadImage) → k + 1 ≡ (layout_in F b).slot_blocks b.commit → (layout_in F w).slot_bad w.commit (slot_read F w) ≡ o → IsJudged F o w c d
-        → HasReadAt F (refusing_or o (filling_or (F.next_fill w.p w.commit (slot_read F w) 0))) n w d
+    judged : (o : Option BadImage) → k + 1 ≡ lay.slot_blocks b.commit → slot_fault F w ≡ o → IsJudged F o w c d
+        → HasReadAt F (refusing_or o (filling_from F 0 w)) n w d
     judged None last e j =
-        filling-found n w d laws (judged_p None j) h.settled h.sized had.1 (whole last) 0 e j.lists
+        filling-found n w d laws (j.left.same_p ∙ h.same_p) h.settled h.sized had.1 (whole last) 0 e j.lists
         (laws.begins d n w.commit (slot_read F w) j.lists)
-    judged (Some bad) last e j = refused n w d laws (judged_p (Some bad) j) h.settled h.sized had.1 (whole last) bad e
+    judged (Some bad) last e j = refused n w d laws (ap F.p j ∙ h.same_p) h.settled h.sized had.1 (whole last) bad e
 
-    go_on : (z : Bool) → nat_lt (k + 1) ((layout_in F b).slot_blocks b.commit) ≡ z → JudgesUnless F z ((layout_in F w).slot_bad w.commit (slot_read F w)) k w c d
-        → HasReadAt F (if z then Reads (Slot (k + 1)) else after_slot F w) n (record w { fault = early_fault F (k + 1) w }) d
-    go_on true e j = (record { taken = j.taken; fault = refl }, had.1, kept)
+    go_on : (z : Bool) → has_more F k w ≡ z → GoesOn F z w c d → HasReadAt F (if z then Reads (Slot (k + 1)) else after_slot F w) n w d
+    go_on true e j = (subst F.fresh (sym j) had.0, had.1, kept)
     go_on false e j =
-        let past = ltb-false (k + 1) ((layout_in F b).slot_blocks b.commit) e in
-        refault (after_slot F w) (early_fault F (k + 1) w) n w d
-        (not_taken ((layout_in F w).slot_bad w.commit (slot_read F w)) (F.next_fill w.p w.commit (slot_read F w) 0))
-        (judged ((layout_in F w).slot_bad w.commit (slot_read F w)) (omega (arith, inside, past)) refl j)
+        let past = ltb-false (k + 1) (lay.slot_blocks b.commit) e in
+        judged (slot_fault F w) (omega (arith, inside, past)) refl j
 
-    same_after : (z : Bool) → JudgesUnless F z ((layout_in F w).slot_bad w.commit (slot_read F w)) k w c d → F.p d ≡ b.p
-    same_after true j = j.left.same_p ∙ h.same_p
-    same_after false j = judged_p ((layout_in F w).slot_bad w.commit (slot_read F w)) j
+    same_judged : (o : Option BadImage) → IsJudged F o w c d → F.p d ≡ F.p c
+    same_judged None j = j.left.same_p
+    same_judged (Some bad) j = ap F.p j
 
-    pub slot-found : GoesOn F k w c d → HasRead F n (gone_on F k w) d
+    same_after : (z : Bool) → GoesOn F z w c d → F.p d ≡ F.p c
+    same_after true j = ap F.p j
+    same_after false j = same_judged (slot_fault F w) j
+
+    pub slot-found : GoesOn F (has_more F k w) w c d → HasRead F n (gone_on F k w) d
     slot-found j =
-        let more : Bool = nat_lt (k + 1) ((layout_in F b).slot_blocks b.commit) in
-        let q : Stage = if more then Reads (Slot (k + 1)) else after_slot F w in
-        record { same_p = same_after more j; sized = h.sized; settled = h.settled; so_far = restage q q n (record w { fault = early_fault F (k + 1) w }) d (go_on more refl j) }
+        let q : Stage = if has_more F k w then Reads (Slot (k + 1)) else after_slot F w in
+        record {
+          same_p = same_after (has_more F k w) j ∙ h.same_p;
+          sized = h.sized;
+          settled = h.settled;
+          so_far = restage q q n w d (go_on (has_more F k w) refl j);
+        }
 
   -- a new boot
   pub HasRead-new : (p : Parameters) (n : Device) (c : C) → F.fresh c → F.p c ≡ p → length n.image ≡ (layout_in F (new_boot F p)).image_blocks → n.queue ≡ []

@@ -12,7 +12,7 @@ use Rattle.thy_view.specs.Origin.{Origin}
 use Rattle.thy_view.specs.Safe.{Safe}
 use Rattle.thy_view.specs.Views.{doubt_of}
 use Rattle.thy_protocol.specs.Keeps.{doubt_in, finding_view}
-use Rattle.thy_protocol.specs.Layout.{looked_by, reading}
+use Rattle.thy_layout.specs.Layout.{looked_by, reading}
 use Rattle.thy_protocol.specs.Moves.{Standing, standing, IsKeeping, Move, Goes}
 use Rattle.thy_protocol.proofs.KeepsLemmas.{IsKeeping-move, Safe-kept}
 use Rattle.thy_boot.specs.declared.stage.Stage.{Stage}
@@ -23,15 +23,17 @@ use Rattle.thy_boot.specs.declared.stage.End.TheVariants.{Restored, Loaded}
 use Rattle.thy_boot.specs.declared.stage.Issue.{Issue}
 use Rattle.thy_boot.specs.declared.stage.Issue.TheVariants.{Home, Slot, Header, Settle, Commit, Confirm}
 use Rattle.thy_boot.specs.Boot.{Booting}
-use Rattle.thy_boot.specs.Filling.{FillingOf, First, IsFilling}
+use Rattle.thy_boot.specs.Filling.{FillingOf, First, IsFilling, first_by}
 use Rattle.thy_boot.specs.Loads.{IsIssue, issue_action}
 use Rattle.thy_boot.specs.Reads.{read_action}
 use Rattle.thy_boot.specs.Shows.{is_written, restored_view, seen_at}
 use Rattle.thy_boot.specs.Sound.{BootImages, layout_for, first_of, start_mark, sealed_by, saved_loading, standing_in_boot, IsMade, IsSoundAt}
+use Rattle.thy_boot.specs.Start.{CanStart}
 use Rattle.thy_boot.specs.Steps.{action_at}
 use Rattle.thy_boot.specs.Laws.{SoundIsSafe, IsGoing, standing_after_fault, FailuresMove}
 use Rattle.thy_boot.proofs.FoundLemmas.{reading_of}
 use Rattle.thy_boot.proofs.MoveLemmas.{load_fails, home_elsewhere, slot_elsewhere}
+use Rattle.thy_boot.proofs.StartLemmas.{CanStart-origin}
 
 -- by the stage of loading, the images that a cut may leave after a failure
 abbrev failed_saved : Issue → BootImages → Saved
@@ -129,7 +131,7 @@ module _ {C : Type 0} (F : FillingOf C) (laws : IsFilling F) where
         seen_safe o m a g.kept spared (kept o g m (IsKeeping-move o (layout_for F o) (reading_of o g n) (reading_of o g m) move k)),
       )
 
-  module _ (o : Origin) (starts : F.starts o.geometry o.start) (g : BootImages) where
+  module _ (o : Origin) (starts : CanStart o.geometry o.start) (g : BootImages) where
     abbrev f : First
     f = first_of F o
 
@@ -163,8 +165,8 @@ module _ {C : Type 0} (F : FillingOf C) (laws : IsFilling F) where
           → FailsTo (action_at F q o.start b c) n m → Failure o g n q (action_at F q o.start b c) m
       by_stage (Reads r) there k going f = read_failure o g n m (read_action F b c r) (reads_no_commit b c r) k (read_failed b c r n m f) framed
       by_stage (Loads issue) there k going f =
-          let starts : F.starts o.geometry o.start = laws.origin_starts o origin in
-          subst (λ (p : Parameters). Failure o g n (Loads issue) (issue_action (F.first p o.start) issue) m) (sym sound.geometry)
+          let starts : CanStart o.geometry o.start = CanStart-origin o origin in
+          subst (λ (p : Parameters). Failure o g n (Loads issue) (issue_action (first_by F p o.start) issue) m) (sym sound.geometry)
           (load_failure o starts g n m issue there.there k there.made
-          (subst (λ (p : Parameters). FailsTo (issue_action (F.first p o.start) issue) n m) sound.geometry f) framed)
+          (subst (λ (p : Parameters). FailsTo (issue_action (first_by F p o.start) issue) n m) sound.geometry f) framed)
       by_stage (Over end) there k going f = absurd going

@@ -2,13 +2,14 @@
 use Rattle.std.proofs.Common.{◌≡◌, ℕ, ◌+◌, ◌*◌, ◌/◌, ◌-◌, ◌<◌, ◌≤◌, List, ◌++◌, length, map, take, drop, refl, sym, ◌∙◌, ap, subst, inl, inr, arith}
 use Rattle.std.specs.List.{range_with_len}
 use Rattle.std.proofs.lemmas.Bool.{cases_eq}
-use Rattle.std.proofs.lemmas.List.{length-map, ext_get_or, length-take, length-drop, drop-append-le, take-append-le, drop-take, take-take, take_at, drop_at, get_or-take}
+use Rattle.std.proofs.lemmas.List.{length-map, ext_get_or, length-take, length-take-le, length-drop, drop-append-le, take-append-le, drop-take, take-take, take_at, drop_at, get_or-take}
 use Rattle.std.proofs.lemmas.List.FromFn.{length-range_with_len, get_or-map-range_with_len}
 use Rattle.thy_base.specs.declared.block.Block.{Block}
 use Rattle.thy_base.specs.Bytes.{written}
 use Rattle.thy_base.specs.Device.{block_at, zero_block}
-use Rattle.thy_record.specs.Files.{block_in, blocks_of}
-use Rattle.thy_protocol.specs.Layout.{Layout, slot_in}
+use Rattle.thy_layout.specs.Files.{block_in, blocks_of}
+use Rattle.thy_layout.specs.Layout.{Layout, slot_in}
+use Rattle.thy_layout.proofs.FileLemmas.{length-blocks_of, block_at-blocks_of, block_in-part}
 use Rattle.thy_boot.specs.Boot.{Booting, layout_in, slot_read}
 use Rattle.thy_boot.specs.Filling.{FillingOf}
 use Rattle.thy_boot.specs.Recovers.{HasCommit, HasSlot}
@@ -66,11 +67,25 @@ whole_blocks g slot room z first size most each =
     ∙ each i inside
     ∙ sym (get_or-map-range_with_len (block_at g) first z i (first + i) zero_block inside refl))
 
+-- the blocks of the first bytes
+pub blocks_of-take : (bytes : List ℕ) (n : ℕ) → 64 * n ≤ length bytes → blocks_of (take (64 * n) bytes) ≡ take n (blocks_of bytes)
+blocks_of-take bytes n inside =
+    let part : length (take (64 * n) bytes) ≡ 64 * n = length-take-le (64 * n) bytes inside in
+    let left : length (blocks_of (take (64 * n) bytes)) ≡ n = omega (arith, length-blocks_of (take (64 * n) bytes), part) in
+    let right : length (take n (blocks_of bytes)) ≡ n = length-take-le n (blocks_of bytes) (omega (arith, length-blocks_of bytes)) in
+    ext_get_or zero_block (blocks_of (take (64 * n) bytes)) (take n (blocks_of bytes)) (left ∙ sym right)
+    (λ k below.
+    let l : k < n = omega (arith, left) in
+    let plain : 0 + k ≡ k = omega arith in
+    block_at-blocks_of (take (64 * n) bytes) k (omega (arith, part))
+    ∙ block_in-part bytes 0 n k l ∙ ap (block_in bytes) plain
+    ∙ sym (get_or-take n (blocks_of bytes) k zero_block l ∙ block_at-blocks_of bytes k (omega arith)))
+
 -- all of them are the slot
-pub slot_is_whole : {C : Type 0} (F : FillingOf C) (g : List Block) (b : Booting) (k : ℕ) → HasCommit g b.commit → length b.slot ≡ 64 * F.most_slot b.p
-    → (layout_in F b).slot_blocks b.commit ≤ F.most_slot b.p → k ≡ (layout_in F b).slot_blocks b.commit → HasSlot (layout_in F b) g b.commit k b.slot
+pub slot_is_whole : {C : Type 0} (F : FillingOf C) (g : List Block) (b : Booting) (k : ℕ) → HasCommit g b.commit → length b.slot ≡ 64 * (layout_in F b).most_slot
+    → (layout_in F b).slot_blocks b.commit ≤ (layout_in F b).most_slot → k ≡ (layout_in F b).slot_blocks b.commit → HasSlot (layout_in F b) g b.commit k b.slot
     → slot_read F b ≡ slot_in (layout_in F b) g
 slot_is_whole F g b k commit room most all h =
     let l : Layout = layout_in F b in
-    whole_blocks g b.slot (F.most_slot b.p) (l.slot_blocks b.commit) (l.slot_place b.commit) room most (λ i inside. h.each i (omega (arith, inside, all)))
+    whole_blocks g b.slot l.most_slot (l.slot_blocks b.commit) (l.slot_place b.commit) room most (λ i inside. h.each i (omega (arith, inside, all)))
     ∙ ap (λ (x : Block). map (block_at g) (range_with_len (l.slot_place x) (l.slot_blocks x))) (sym commit.is)

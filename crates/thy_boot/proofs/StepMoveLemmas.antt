@@ -9,7 +9,7 @@ use Rattle.thy_view.specs.Action.{after}
 use Rattle.thy_view.specs.Booting.{boot_did}
 use Rattle.thy_view.specs.CoreStep.{CoreStep}
 use Rattle.thy_view.specs.Origin.{Origin}
-use Rattle.thy_protocol.specs.Layout.{looked_by}
+use Rattle.thy_layout.specs.Layout.{looked_by}
 use Rattle.thy_protocol.specs.Moves.{Standing, IsKeeping, Move, Goes}
 use Rattle.thy_protocol.proofs.KeepsLemmas.{IsKeeping-move}
 use Rattle.thy_boot.specs.declared.stage.Stage.{Stage}
@@ -18,13 +18,16 @@ use Rattle.thy_boot.specs.declared.stage.ReadStage.{ReadStage}
 use Rattle.thy_boot.specs.declared.stage.Issue.{Issue}
 use Rattle.thy_boot.specs.declared.stage.Issue.TheVariants.{Home, Slot, Header, Settle, Commit, Confirm}
 use Rattle.thy_boot.specs.Boot.{Booting, at_stage, answer_at, answer_of}
-use Rattle.thy_boot.specs.Filling.{FillingOf, First, IsFilling}
+use Rattle.thy_boot.specs.Filling.{FillingOf, First, IsFilling, first_by}
 use Rattle.thy_boot.specs.Loads.{after_issue, issue_action}
 use Rattle.thy_boot.specs.Shows.{seen_at}
 use Rattle.thy_boot.specs.Sound.{BootImages, layout_for, first_of, sealed_by, standing_in_boot, images_after, IsRecovering, IsLoading, IsSoundAt, IsSoundBoot}
+use Rattle.thy_boot.specs.Start.{CanStart}
 use Rattle.thy_boot.specs.Steps.{ReadsOn, LoadsOn, StepsAt}
 use Rattle.thy_boot.specs.Laws.{StepsMove}
-use Rattle.thy_boot.proofs.MoveLemmas.{load_moves, made_on, sound_at, kept_after, placed, once, some}
+use Rattle.thy_boot.proofs.LoadLemmas.{slot_some, first-placed, first-once}
+use Rattle.thy_boot.proofs.MoveLemmas.{load_moves, made_on, sound_at, kept_after}
+use Rattle.thy_boot.proofs.StartLemmas.{CanStart-origin}
 use Rattle.thy_boot.proofs.WrittenLemmas.{stands_on}
 use Rattle.thy_boot.proofs.FoundLemmas.{reading_of, stands, found-sound, shows}
 
@@ -53,7 +56,7 @@ module _ {C : Type 0} (F : FillingOf C) (laws : IsFilling F) where
   load_shows o kept f Commit d = (refl, inr (refl, refl))
   load_shows o kept f Confirm d = record { phase = refl; none = refl; written = refl; sealed = refl; becomes = refl }
 
-  module _ (o : Origin) (starts : F.starts o.geometry o.start) (g : BootImages) (n : Device) (b : Booting) (c : C) (geometry : b.p ≡ o.geometry) where
+  module _ (o : Origin) (starts : CanStart o.geometry o.start) (g : BootImages) (n : Device) (b : Booting) (c : C) (geometry : b.p ≡ o.geometry) where
     read_outcome : (r : ReadStage) (m : Device) (d : Booting) (e : C) → IsRecovering F g n b c → IsKeeping o (layout_for F o) (reading_of o g n)
         → ReadsOn F r n b c m d e → Outcome o g n (Reads r) m d e
     read_outcome r m d e rec k on =
@@ -87,7 +90,8 @@ module _ {C : Type 0} (F : FillingOf C) (laws : IsFilling F) where
             same_p = same;
             keeps = IsKeeping-move o (layout_for F o) (standing_in_boot o (Loads issue) g n) (standing_in_boot o (after_issue f issue) h m) move k;
             so_far = sound_at F laws o starts g n (at_stage (after_issue f issue) b) c h m at.fresh (kept_after f issue n g ∙ at.none) (after_issue f issue)
-                (stands_on (layout_for F o).image_blocks f (placed F laws o starts) (once F laws o starts) (some F laws o starts) issue n at.there at.stood)
+                (stands_on (layout_for F o).image_blocks f (first-placed F laws o.geometry o.start starts) (first-once F laws o.geometry o.start starts)
+                (slot_some F laws o.geometry f.commit) issue n at.there at.stood)
                 (made_on F laws o starts g n issue at.made at.stood);
           },
           load_shows o g.kept f issue (at_stage (after_issue f issue) b),
@@ -96,8 +100,8 @@ module _ {C : Type 0} (F : FillingOf C) (laws : IsFilling F) where
     load_outcome_is : F.p c ≡ o.geometry → (issue : Issue) (m : Device) (d : Booting) (e : C) → IsLoading F o issue g n c
         → IsKeeping o (layout_for F o) (standing_in_boot o (Loads issue) g n) → LoadsOn F o.start issue n b c m d e → Outcome o g n (Loads issue) m d e
     load_outcome_is same issue m d e at k l =
-        let m_is : m ≡ after (issue_action f issue) n = l.device ∙ ap (λ (p : Parameters). after (issue_action (F.first p o.start) issue) n) geometry in
-        let d_is : d ≡ at_stage (after_issue f issue) b = l.boot ∙ ap (λ (p : Parameters). at_stage (after_issue (F.first p o.start) issue) b) geometry in
+        let m_is : m ≡ after (issue_action f issue) n = l.device ∙ ap (λ (p : Parameters). after (issue_action (first_by F p o.start) issue) n) geometry in
+        let d_is : d ≡ at_stage (after_issue f issue) b = l.boot ∙ ap (λ (p : Parameters). at_stage (after_issue (first_by F p o.start) issue) b) geometry in
         subst (λ (x : Device). Outcome o g n (Loads issue) x d e) (sym m_is)
         (subst (λ (x : Booting). Outcome o g n (Loads issue) (after (issue_action f issue) n) x e) (sym d_is)
         (subst (λ (x : C). Outcome o g n (Loads issue) (after (issue_action f issue) n) (at_stage (after_issue f issue) b) x) (sym l.control)
@@ -108,8 +112,8 @@ module _ {C : Type 0} (F : FillingOf C) (laws : IsFilling F) where
       let r = by_stage b.stage sound.so_far sound.keeps steps in
       record { move = r.0; sound = r.1; shows = r.2 }
     where
-      starts : F.starts o.geometry o.start
-      starts = laws.origin_starts o origin
+      starts : CanStart o.geometry o.start
+      starts = CanStart-origin o origin
 
       by_stage : (q : Stage) → IsSoundAt F o q g n b c → IsKeeping o (layout_for F o) (standing_in_boot o q g n) → StepsAt F q o.start n b c m d e
           → Outcome o g n q m d e

@@ -1,41 +1,39 @@
 -- A step that was taken, put together of what its calls left.
-use Rattle.std.proofs.Common.{◌≡◌, ℕ, ◌+◌, ◌*◌, ◌<◌, ◌≤◌, nat_lt, Bool, true, false, if◌then◌else◌, length, slice_index_or, Option, Some, None, Result, Ok, Err, OnOk, OnErr, refl, sym, ◌∙◌, ap, subst, arith}
-use Rattle.std.specs.Option.{option_or}
+use Rattle.std.proofs.Common.{◌≡◌, ℕ, ◌+◌, ◌*◌, ◌<◌, Bool, true, false, if◌then◌else◌, length, Option, Some, None, Result, Ok, Err, OnOk, OnErr, refl, sym, ◌∙◌, ap, subst, arith}
 use Rattle.std.proofs.lemmas.Bool.{ltb-true}
-use Rattle.std.proofs.lemmas.List.Elements.{Contains-get_or}
-use Rattle.thy_base.specs.declared.config.Parameters.{Parameters}
 use Rattle.thy_base.specs.declared.nvm.NvmError.{NvmError}
 use Rattle.thy_base.specs.Device.{Device, newest}
 use Rattle.thy_base.proofs.WrittenLemmas.{length-written}
 use Rattle.thy_isa.specs.Step.{State}
-use Rattle.thy_record.specs.declared.bad_image.BadImage.{BadImage}
-use Rattle.thy_record.specs.Commit.{is_zero}
+use Rattle.thy_layout.specs.declared.bad_image.BadImage.{BadImage}
+use Rattle.thy_layout.specs.Commit.{is_zero}
 use Rattle.thy_view.specs.Action.{after, FailsTo}
 use Rattle.thy_boot.specs.declared.stage.Stage.{Stage}
 use Rattle.thy_boot.specs.declared.stage.Stage.TheVariants.{Reads, Loads, Over}
 use Rattle.thy_boot.specs.declared.stage.ReadStage.{ReadStage}
 use Rattle.thy_boot.specs.declared.stage.ReadStage.TheVariants.{Unread, Header, Slot, Fills, Refusing}
 use Rattle.thy_boot.specs.declared.stage.Issue.TheVariants.{Home}
-use Rattle.thy_boot.specs.Boot.{Booting, IsBoot, IsThere, layout_in, slot_read, at_stage, at_slot, refusing_or, after_commit, after_header, after_slot, filling_or, after_fill}
-use Rattle.thy_boot.specs.Filling.{FillingOf, IsFilling, layout_at}
+use Rattle.thy_boot.specs.Boot.{Booting, IsBoot, IsThere, layout_in, slot_read, slot_fault, at_stage, refusing_or, after_commit, head_fault, after_header, after_slot, filling_or, filling_from, has_more}
+use Rattle.thy_boot.specs.Filling.{FillingOf, IsFilling}
 use Rattle.thy_boot.specs.Loads.{Takes}
 use Rattle.thy_boot.specs.Reads.{read_action, read_on, slot_kept, FillsOn, IsBlock}
 use Rattle.thy_boot.specs.Recovers.{HasRead}
 use Rattle.thy_boot.specs.Steps.{ReadsOn, StepsAt, action_at, TakesStep}
+use Rattle.thy_boot.proofs.LoadLemmas.{slot_some}
 use Rattle.thy_boot.proofs.NearerLemmas.{nearer_commit, nearer_header, nearer_slot, nearer_fill}
 use Rattle.thy_boot.proofs.ReadLemmas.{commit-found, header-found, slot-found, fill-found}
 
 module _ {C : Type 0} (F : FillingOf C) (laws : IsFilling F) where
   -- what is read next is there
-  next_there : (b : Booting) (from : ℕ) → IsThere F b (filling_or (F.next_fill b.p b.commit (slot_read F b) from))
+  next_there : (b : Booting) (from : ℕ) → IsThere F b (filling_from F from b)
   next_there b from = by_next (F.next_fill b.p b.commit (slot_read F b) from) refl where
     by_next : (o : Option ℕ) → F.next_fill b.p b.commit (slot_read F b) from ≡ o → IsThere F b (filling_or o)
     by_next None e = tt
     by_next (Some k) e = let above = laws.above b.p b.commit (slot_read F b) from k e in above.1
 
   slot_there : (b : Booting) → IsThere F b (after_slot F b)
-  slot_there b = by_fault ((layout_in F b).slot_bad b.commit (slot_read F b)) where
-    by_fault : (o : Option BadImage) → IsThere F b (refusing_or o (filling_or (F.next_fill b.p b.commit (slot_read F b) 0)))
+  slot_there b = by_fault (slot_fault F b) where
+    by_fault : (o : Option BadImage) → IsThere F b (refusing_or o (filling_from F 0 b))
     by_fault None = next_there b 0
     by_fault (Some bad) = tt
 
@@ -58,28 +56,25 @@ module _ {C : Type 0} (F : FillingOf C) (laws : IsFilling F) where
     by_zero true = tt
     by_zero false = tt
   fits_read Header n b is boot block =
-      record { room = boot.room; there = by_fault (option_or ((layout_in F b).header_bad (newest n 0) true) ((layout_in F b).commit_bad (newest n 0) b.commit)) }
+      record { room = boot.room; there = by_fault (head_fault (layout_in F b) (newest n 0) b.commit) }
     where
-      by_fault : (o : Option BadImage) → IsThere F (at_slot (after_header (layout_in F b) (newest n 0) b) b) (refusing_or o (Reads (Slot 0)))
-      by_fault None = laws.some_slot b.p b.commit
+      by_fault : (o : Option BadImage) → IsThere F (at_stage (after_header (layout_in F b) (newest n 0) b) b) (refusing_or o (Reads (Slot 0)))
+      by_fault None = slot_some F laws b.p b.commit
       by_fault (Some bad) = tt
-  fits_read (Slot k) n b is boot block = record { room = size; there = by_more (nat_lt (k + 1) ((layout_in F b).slot_blocks b.commit)) refl } where
-    w : Booting
-    w = slot_kept F k n b
-
-    size : length (slot_kept F k n b).slot ≡ 64 * F.most_slot b.p
+  fits_read (Slot k) n b is boot block = record { room = size; there = by_more (has_more F k b) refl } where
+    size : length (slot_kept F k n b).slot ≡ 64 * (layout_in F b).most_slot
     size =
         let inside = inside_of b k is boot in
-        let most : (layout_in F b).slot_blocks b.commit ≤ F.most_slot b.p = laws.most_room b.p b.commit in
+        let most = (laws.laid.slot b.p b.commit).most in
         length-written b.slot (64 * k) (newest n ((layout_in F b).slot_place b.commit + k)).0 (omega (arith, boot.room, inside, most, block)) ∙ boot.room
 
-    by_more : (z : Bool) → nat_lt (k + 1) ((layout_in F b).slot_blocks b.commit) ≡ z
+    by_more : (z : Bool) → has_more F k b ≡ z
         → IsThere F (read_on F (Slot k) n b) (if z then Reads (Slot (k + 1)) else after_slot F (slot_kept F k n b))
     by_more true e = ltb-true (k + 1) ((layout_in F b).slot_blocks b.commit) e
     by_more false e = same_there (after_slot F (slot_kept F k n b)) (slot_kept F k n b) (read_on F (Slot k) n b) refl refl (slot_there (slot_kept F k n b))
   fits_read (Fills k) n b is boot block = record {
     room = boot.room;
-    there = same_there (after_fill F k b) b (at_stage (after_fill F k b) b) refl refl (next_there b (k + 1));
+    there = same_there (filling_from F (k + 1) b) b (at_stage (filling_from F (k + 1) b) b) refl refl (next_there b (k + 1));
   }
   fits_read (Refusing bad) n b is boot block = boot
 
@@ -99,7 +94,7 @@ module _ {C : Type 0} (F : FillingOf C) (laws : IsFilling F) where
     device = refl;
     boot = refl;
     control = f;
-    read = subst (λ (x : C). HasRead F n (at_slot (after_header (layout_in F b) (newest n 0) b) b) x) (sym f) (header-found F n b c laws is h);
+    read = subst (λ (x : C). HasRead F n (at_stage (after_header (layout_in F b) (newest n 0) b) b) x) (sym f) (header-found F n b c is h);
     nearer = nearer_header F laws b (newest n 0);
   }
   reads_on (Slot k) n b c e is boot h block f = record {
@@ -115,7 +110,7 @@ module _ {C : Type 0} (F : FillingOf C) (laws : IsFilling F) where
     device = refl;
     boot = refl;
     control = f;
-    read = subst (λ (x : C). HasRead F n (at_stage (after_fill F k b) b) x) (sym f) (fill-found F n b c k laws is h);
+    read = subst (λ (x : C). HasRead F n (at_stage (filling_from F (k + 1) b) b) x) (sym f) (fill-found F n b c k laws is h);
     nearer = nearer_fill F laws b k (subst (λ (s : Stage). IsThere F b s) is boot.there);
   }
   reads_on (Refusing bad) n b c e is boot h block f = record {
@@ -159,12 +154,3 @@ module _ {C : Type 0} (F : FillingOf C) (laws : IsFilling F) where
     frame = t.frame;
     cause = t.cause;
   }
-
-  -- ---- an action of loading
-
-  -- a block of a start's memory goes into the image
-  pub memory_place : (p : Parameters) (s : State) → F.starts p s → (b : ℕ) → b < length (F.first p s).parts.memory
-      → slice_index_or (F.first p s).parts.memory b 0 < (layout_at F p).image_blocks
-  memory_place p s starts b inside =
-      (laws.first_parts p s starts).placed.memory_inside (slice_index_or (F.first p s).parts.memory b 0)
-      (Contains-get_or (F.first p s).parts.memory b 0 inside)

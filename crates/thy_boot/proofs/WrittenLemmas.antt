@@ -72,21 +72,30 @@ module _ (blocks : ℕ) (f : First) where
         slot = w.slot;
       }
 
+  is_of_memory : (b : ℕ) → b < length f.parts.memory → Contains f.parts.memory (place_in f b)
+  is_of_memory b l = Contains-get_or f.parts.memory b 0 l
+
+  pub behind : ArePlaced blocks f.parts → (b : ℕ) → b < length f.parts.memory → 2 ≤ place_in f b
+  behind placed b l = placed.memory_behind (place_in f b) (is_of_memory b l)
+
+  pub home_inside : ArePlaced blocks f.parts → (b : ℕ) → b < length f.parts.memory → place_in f b < blocks
+  home_inside placed b l = placed.memory_inside (place_in f b) (is_of_memory b l)
+
+  -- what holds at a stage of loading, or after it
+  abbrev pub StandsAt : Stage → Device → Type 0
+  StandsAt (Loads issue) n = IsIssue f issue × HasLoadedBefore blocks f issue n
+  StandsAt (Over Loaded) n = HasWrittenWholeFirst blocks f n × (n.queue ≡ [])
+  StandsAt q n = ⊥
+
   module _ (placed : ArePlaced blocks f.parts)
       (once : (i j : ℕ) → i < length f.parts.memory → j < length f.parts.memory → place_in f i ≡ place_in f j → i ≡ j) where
-    pub is_of_memory : (b : ℕ) → b < length f.parts.memory → Contains f.parts.memory (place_in f b)
-    is_of_memory b l = Contains-get_or f.parts.memory b 0 l
-
-    pub behind : (b : ℕ) → b < length f.parts.memory → 2 ≤ place_in f b
-    behind b l = placed.memory_behind (place_in f b) (is_of_memory b l)
-
     -- the write of header or commit block
     low : (h k : ℕ) (n : Device) (x : ℕ) (block : Block) → h ≤ length f.parts.memory → x < 2 → HasWrittenFirst blocks f h k n
         → HasWrittenFirst blocks f h k (written_to n x block)
     low h k n x block most below w = record {
       sized = length-written_to n x block ∙ w.sized;
       memory = λ b l.
-          let past = behind b (omega (arith, l, most)) in
+          let past = behind placed b (omega (arith, l, most)) in
           Reads-elsewhere (place_in f b) (block_at f.memory b) x block n (written_to n x block) (w.memory b l) (λ e. omega (arith, e, past, below)) refl;
       slot = ReadsFirst-elsewhere f.parts.slot_place f.parts.slot k x block n (written_to n x block) w.slot
           (λ i l e. omega (arith, e, placed.slot_behind, below)) refl;
@@ -95,17 +104,18 @@ module _ (blocks : ℕ) (f : First) where
     -- one block of memory more
     home : (b : ℕ) (n : Device) → b < length f.parts.memory → HasWrittenFirst blocks f b 0 n
         → HasWrittenFirst blocks f (b + 1) 0 (written_to n (place_in f b) (block_at f.memory b))
-    home b n inside w =
+    home b n low w =
         let x : ℕ = place_in f b in
+        let within : x < blocks = home_inside placed b low in
         let block : Block = block_at f.memory b in
-        let there : x < length n.image = (let l = placed.memory_inside x (is_of_memory b inside) in omega (arith, l, w.sized)) in
+        let there : x < length n.image = omega (arith, within, w.sized) in
         record {
           sized = length-written_to n x block ∙ w.sized;
           memory = λ i l. elim (cases_eq i b) as (λ _. ReadsAs (written_to n x block) (place_in f i) (block_at f.memory i)) [
             | inl e ↦ subst (λ (j : ℕ). ReadsAs (written_to n x block) (place_in f j) (block_at f.memory j)) (sym e) (Reads-written x block n (written_to n x block) there refl)
             | inr ne ↦
                 Reads-elsewhere (place_in f i) (block_at f.memory i) x block n (written_to n x block) (w.memory i (omega arith))
-                (λ e. let same = once i b (omega (arith, inside)) inside e in omega arith) refl
+                (λ e. let same = once i b (omega (arith, low)) low e in omega arith) refl
           ];
           slot = record { each = λ i l. absurd (omega (arith, l)) };
         }
@@ -123,12 +133,6 @@ module _ (blocks : ℕ) (f : First) where
               (λ e. placed.apart k inside (subst (Contains f.parts.memory) e (is_of_memory b l))) refl;
           slot = ReadsFirst-more f.parts.slot_place f.parts.slot k n (written_to n x block) w.slot (omega (arith, inside, placed.slot_inside, w.sized)) refl;
         }
-
-    -- what holds at a stage of loading, or after it
-    abbrev pub StandsAt : Stage → Device → Type 0
-    StandsAt (Loads issue) n = IsIssue f issue × HasLoadedBefore blocks f issue n
-    StandsAt (Over Loaded) n = HasWrittenWholeFirst blocks f n × (n.queue ≡ [])
-    StandsAt q n = ⊥
 
     -- every action leaves what has to hold before the next one
     pub stands_on : 0 < f.parts.slot_blocks → (issue : Issue) (n : Device) → IsIssue f issue → HasLoadedBefore blocks f issue n

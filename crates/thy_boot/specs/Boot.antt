@@ -6,34 +6,34 @@ use Rattle.thy_base.specs.declared.block.Block.{Block}
 use Rattle.thy_base.specs.declared.config.Parameters.{Parameters}
 use Rattle.thy_base.specs.Bytes.{written}
 use Rattle.thy_base.specs.Device.{zero_block}
-use Rattle.thy_record.specs.declared.bad_image.BadImage.{BadImage}
-use Rattle.thy_record.specs.Commit.{is_zero, epoch_of}
-use Rattle.thy_record.specs.Files.{blocks_of}
+use Rattle.thy_layout.specs.declared.bad_image.BadImage.{BadImage}
+use Rattle.thy_layout.specs.Commit.{is_zero, epoch_of}
+use Rattle.thy_layout.specs.Cpu.{cpu_of_record}
+use Rattle.thy_layout.specs.Files.{blocks_of}
+use Rattle.thy_layout.specs.Layout.{Layout, header_bad, commit_bad}
 use Rattle.thy_view.specs.declared.boot_step.BootStep.{BootStep}
 use Rattle.thy_view.specs.declared.boot_step.BootStep.TheVariants.{GoesOn as Continues, Loaded as HasLoaded, Restarted, Refused}
-use Rattle.thy_protocol.specs.Layout.{Layout}
+use Rattle.thy_view.specs.Safe.{ceiling}
 use Rattle.thy_boot.specs.declared.stage.Stage.{Stage}
 use Rattle.thy_boot.specs.declared.stage.Stage.TheVariants.{Reads, Loads, Over}
 use Rattle.thy_boot.specs.declared.stage.ReadStage.TheVariants.{Header, Slot, Fills, Refusing, Unread}
 use Rattle.thy_boot.specs.declared.stage.End.TheVariants.{Restored, Loaded}
 use Rattle.thy_boot.specs.declared.stage.Issue.TheVariants.{Home}
-use Rattle.thy_boot.specs.Filling.{FillingOf, IsLeft, TakesUp, ListsOn, layout_at}
+use Rattle.thy_boot.specs.Filling.{FillingOf, ListsOn, layout_at}
 
--- its stage, with the commit block, and the bytes of the slot, as far as they were read, and the fault that its blocks
--- have by themselves
+-- its stage, with the commit block, and the bytes of the slot, as far as they were read
 pub record Booting : Type 0 where
   pub p : Parameters
   pub commit : Block
   pub slot : List ℕ
   pub stage : Stage
-  pub fault : Option BadImage
 
 -- a new one has read nothing, and has room for so many blocks of a slot
 abbrev pub empty_boot : ℕ → Parameters → Booting
-empty_boot room p = record { p = p; commit = zero_block; slot = replicate (64 * room) 0; stage = Reads Unread; fault = None }
+empty_boot room p = record { p = p; commit = zero_block; slot = replicate (64 * room) 0; stage = Reads Unread }
 
 abbrev pub new_boot : {C : Type 0} → FillingOf C → Parameters → Booting
-new_boot F p = empty_boot (F.most_slot p) p
+new_boot F p = empty_boot (layout_at F p).most_slot p
 
 -- its layout
 abbrev pub layout_in : {C : Type 0} → FillingOf C → Booting → Layout
@@ -46,12 +46,9 @@ slot_bytes F p commit bytes = take ((layout_at F p).slot_blocks commit) (blocks_
 abbrev pub slot_read : {C : Type 0} → FillingOf C → Booting → List Block
 slot_read F b = slot_bytes F b.p b.commit b.slot
 
--- the first blocks of it, and the fault that they have by themselves
-abbrev pub first_read : {C : Type 0} → FillingOf C → ℕ → Booting → List Block
-first_read F k b = take k (slot_read F b)
-
-abbrev pub early_fault : {C : Type 0} → FillingOf C → ℕ → Booting → Option BadImage
-early_fault F k b = F.early_fault b.p b.commit (first_read F k b)
+-- its first fault
+abbrev pub slot_fault : {C : Type 0} → FillingOf C → Booting → Option BadImage
+slot_fault F b = (layout_in F b).slot_bad ceiling b.commit (slot_read F b)
 
 -- what is read next is there
 abbrev pub IsThere : {C : Type 0} → FillingOf C → Booting → Stage → Type 0
@@ -60,7 +57,7 @@ IsThere F b (Reads (Fills k)) = k < F.most_fills b.p
 IsThere F b _ = Unit {0}
 
 pub record IsBoot {C : Type 0} (F : FillingOf C) (b : Booting) : Type 0 where
-  pub room : length b.slot ≡ 64 * F.most_slot b.p
+  pub room : length b.slot ≡ 64 * (layout_in F b).most_slot
   pub there : IsThere F b b.stage
 
 -- what a step returns that left the boot in this state
@@ -68,7 +65,7 @@ abbrev pub answer_at : {C : Type 0} → FillingOf C → Stage → Booting → Bo
 answer_at F (Reads (Refusing bad)) b = Refused bad
 answer_at F (Reads r) b = Continues
 answer_at F (Loads issue) b = Continues
-answer_at F (Over Restored) b = Restarted (F.cpu_in b.p (slot_read F b)) (epoch_of b.commit)
+answer_at F (Over Restored) b = Restarted (cpu_of_record b.p (slot_read F b)) (epoch_of b.commit)
 answer_at F (Over Loaded) b = HasLoaded
 
 abbrev pub answer_of : {C : Type 0} → FillingOf C → Booting → BootStep
@@ -81,6 +78,10 @@ abbrev pub refusing_or : Option BadImage → Stage → Stage
 refusing_or None next = next
 refusing_or (Some bad) next = Reads (Refusing bad)
 
+-- the boot at another stage
+abbrev pub at_stage : Stage → Booting → Booting
+at_stage stage b = record b { stage = stage }
+
 -- the commit block; if it is zero, the program is loaded from its first block on
 abbrev pub stage_of_commit : Block → Stage
 stage_of_commit block = if is_zero block then Loads (Home 0) else Reads Header
@@ -88,53 +89,43 @@ stage_of_commit block = if is_zero block then Loads (Home 0) else Reads Header
 abbrev pub after_commit : Block → Booting → Booting
 after_commit block b = record b { commit = block; stage = stage_of_commit block }
 
--- the header, after the commit block
+-- the header, after the commit block: the first fault of both, and the stage
+abbrev pub head_fault : Layout → Block → Block → Option BadImage
+head_fault l header commit = option_or (header_bad l header true) (commit_bad ceiling header commit)
+
 abbrev pub after_header : Layout → Block → Booting → Stage
-after_header l block b = refusing_or (option_or (l.header_bad block true) (l.commit_bad block b.commit)) (Reads (Slot 0))
+after_header l header b = refusing_or (head_fault l header b.commit) (Reads (Slot 0))
 
 -- the next position is filled; if there is none, all is restored
 abbrev pub filling_or : Option ℕ → Stage
 filling_or None = Over Restored
 filling_or (Some k) = Reads (Fills k)
 
+-- from a position on
+abbrev pub filling_from : {C : Type 0} → FillingOf C → ℕ → Booting → Stage
+filling_from F from b = filling_or (F.next_fill b.p b.commit (slot_read F b) from)
+
 -- the whole slot
 abbrev pub after_slot : {C : Type 0} → FillingOf C → Booting → Stage
-after_slot F b =
-    refusing_or ((layout_in F b).slot_bad b.commit (slot_read F b)) (filling_or (F.next_fill b.p b.commit (slot_read F b) 0))
+after_slot F b = refusing_or (slot_fault F b) (filling_from F 0 b)
 
--- the boot at another stage, and with a block of the slot
-abbrev pub at_stage : Stage → Booting → Booting
-at_stage stage b = record b { stage = stage }
-
--- the boot once the header was read: it has no block of the slot
-abbrev pub at_slot : Stage → Booting → Booting
-at_slot stage b = record b { stage = stage; fault = None }
-
+-- the boot with a block of the slot
 abbrev pub with_slot_block : ℕ → Block → Booting → Booting
 with_slot_block k block b = record b { slot = written b.slot (64 * k) block.0 }
 
--- the boot after block `next` of the slot was kept, and the last of them was judged
+-- the slot has more blocks than up to this one
+abbrev pub has_more : {C : Type 0} → FillingOf C → ℕ → Booting → Bool
+has_more F next b = nat_lt (next + 1) ((layout_in F b).slot_blocks b.commit)
+
+-- the boot after block `next` of the slot was kept: with the last of them the slot is judged
 abbrev pub gone_on : {C : Type 0} → FillingOf C → ℕ → Booting → Booting
-gone_on F next b = record b {
-  stage = if nat_lt (next + 1) ((layout_in F b).slot_blocks b.commit) then Reads (Slot (next + 1)) else after_slot F b;
-  fault = early_fault F (next + 1) b;
-}
+gone_on F next b = at_stage (if has_more F next b then Reads (Slot (next + 1)) else after_slot F b) b
 
--- a position
-abbrev pub after_fill : {C : Type 0} → FillingOf C → ℕ → Booting → Stage
-after_fill F k b = filling_or (F.next_fill b.p b.commit (slot_read F b) (k + 1))
-
--- if the slot has no fault the controller lists it
+-- if it has no fault the controller lists it
 abbrev pub IsJudged : {C : Type 0} → FillingOf C → Option BadImage → Booting → C → C → Type 0
 IsJudged F None b old new = ListsOn F b.commit (slot_read F b) old new
-IsJudged F (Some bad) b old new = IsLeft F old new
+IsJudged F (Some bad) b old new = new ≡ old
 
--- each block is taken up; with the last one, the slot is judged
-abbrev pub JudgesUnless : {C : Type 0} → FillingOf C → Bool → Option BadImage → ℕ → Booting → C → C → Type 0
-JudgesUnless F true fault next b old new = TakesUp F b.commit (first_read F (next + 1) b) old new
-JudgesUnless F false fault next b old new = IsJudged F fault b old new
-
-abbrev pub GoesOn : {C : Type 0} → FillingOf C → ℕ → Booting → C → C → Type 0
-GoesOn F next b old new =
-    JudgesUnless F (nat_lt (next + 1) ((layout_in F b).slot_blocks b.commit))
-    ((layout_in F b).slot_bad b.commit (slot_read F b)) next b old new
+abbrev pub GoesOn : {C : Type 0} → FillingOf C → Bool → Booting → C → C → Type 0
+GoesOn F true b old new = new ≡ old
+GoesOn F false b old new = IsJudged F (slot_fault F b) b old new

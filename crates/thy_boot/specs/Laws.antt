@@ -5,8 +5,8 @@ use Rattle.thy_base.specs.declared.mark.Mark.{Mark}
 use Rattle.thy_base.specs.Device.{Device, drained, IsFramed}
 use Rattle.thy_crash.specs.Saved.{Kept, InDoubt}
 use Rattle.thy_isa.specs.Step.{State}
-use Rattle.thy_record.specs.declared.bad_image.BadImage.{BadImage}
-use Rattle.thy_record.specs.Commit.{epoch_of}
+use Rattle.thy_layout.specs.declared.bad_image.BadImage.{BadImage}
+use Rattle.thy_layout.specs.Commit.{epoch_of}
 use Rattle.thy_view.specs.declared.boot_step.BootStep.{BootStep}
 use Rattle.thy_view.specs.declared.boot_step.BootStep.TheVariants.{GoesOn, Loaded}
 use Rattle.thy_view.specs.Action.{Asks, Acts, doubt_after_fault}
@@ -14,10 +14,10 @@ use Rattle.thy_view.specs.Booting.{view_of_image, boot_did}
 use Rattle.thy_view.specs.CoreStep.{CoreStep}
 use Rattle.thy_view.specs.Dram.{ActsOnDram}
 use Rattle.thy_view.specs.Origin.{Origin, IsOrigin, at}
-use Rattle.thy_view.specs.Safe.{Safe}
+use Rattle.thy_view.specs.Safe.{ceiling, Safe}
 use Rattle.thy_view.specs.Views.{doubt_of}
 use Rattle.thy_protocol.specs.Keeps.{Keeps, Tells}
-use Rattle.thy_protocol.specs.Layout.{decode_by, reading}
+use Rattle.thy_layout.specs.Layout.{state_by, decode_by, reading}
 use Rattle.thy_protocol.specs.Moves.{Standing, standing, Move}
 use Rattle.thy_boot.specs.declared.stage.Stage.{Stage}
 use Rattle.thy_boot.specs.declared.stage.Stage.TheVariants.{Reads, Loads, Over}
@@ -31,6 +31,7 @@ use Rattle.thy_boot.specs.Left.{boot_left}
 use Rattle.thy_boot.specs.Recovers.{HasRead, IsRestored}
 use Rattle.thy_boot.specs.Shows.{seen_at}
 use Rattle.thy_boot.specs.Sound.{BootImages, start_mark, layout_for, first_of, standing_in_boot, images_after, IsSoundBoot}
+use Rattle.thy_boot.specs.Start.{CanStart}
 use Rattle.thy_boot.specs.Steps.{CanStep, Steps, action_of, Fails}
 
 -- a new boot with a controller that lists nothing has read nothing of the image in the NVM
@@ -68,7 +69,7 @@ SoundIsSafe {C} F =
 abbrev pub MayGoOn : {C : Type 0} → FillingOf C → Type 0
 MayGoOn {C} F =
     (s : State) (n : Device) (b : Booting) (c : C) (m : Device) (d : Booting) (e : C)
-    → F.starts b.p s → n.down ≡ false → CanStep F s n b c → Steps F s n b c m d e → IsGoing d.stage
+    → CanStart b.p s → n.down ≡ false → CanStep F s n b c → Steps F s n b c m d e → IsGoing d.stage
     → (d.p ≡ b.p) × (m.down ≡ false) × CanStep F s m d e
 
 -- a step is a move of the run's checkpoints
@@ -110,7 +111,7 @@ RestoredIsKept {C} F =
     (o : Origin) (g : BootImages) (n : Device) (b : Booting) (c : C)
     → IsSoundBoot F o g n b c → b.stage ≡ Over Restored
     → (m : Mark) × (g.kept ≡ Some m) × (m.epoch ≡ epoch_of b.commit) × Keeps o (layout_for F o) n (Kept g.before) (Some m) None
-    × ((layout_in F b).state_from (slot_read F b) (F.loads c n) ≡ at o m.count) × IsRestored F n b c
+    × (state_by (layout_in F b) (slot_read F b) (F.loads c n) ≡ at o m.count) × IsRestored F n b c
 
 -- the boot of a run is never refused
 abbrev pub NeverRefused : {C : Type 0} → FillingOf C → Type 0
@@ -138,7 +139,7 @@ abbrev pub ShowsImage : {C : Type 0} → FillingOf C → Type 0
 ShowsImage {C} F =
     (o : Origin) (g : BootImages) (n : Device) (b : Booting) (c : C) (r : ReadStage)
     → IsSoundBoot F o g n b c → b.stage ≡ Reads r
-    → seen_at o g.kept b.stage ≡ view_of_image o.start.count (decode_by (layout_for F o) n.image)
+    → seen_at o g.kept b.stage ≡ view_of_image o.start.count (decode_by (layout_for F o) ceiling n.image)
 
 -- ---- actions
 

@@ -2,6 +2,7 @@
 -- How many actions a boot has left, at most.
 use Rattle.std.specs.Prelude.{ℕ, ◌+◌, ◌-◌, max}
 use Rattle.thy_base.specs.declared.config.Parameters.{Parameters}
+use Rattle.thy_base.specs.Geometry.{memory_blocks}
 use Rattle.thy_boot.specs.declared.stage.Stage.{Stage}
 use Rattle.thy_boot.specs.declared.stage.Stage.TheVariants.{Reads, Loads, Over}
 use Rattle.thy_boot.specs.declared.stage.ReadStage.{ReadStage}
@@ -44,14 +45,14 @@ stage_left k (Over end) = 0
 -- so over a scheme
 abbrev pub numbers_of : {C : Type 0} → FillingOf C → Booting → BootNumbers
 numbers_of F b = record {
-  memory = (layout_at F b.p).memory_blocks;
+  memory = memory_blocks b.p;
   slot = (layout_in F b).slot_blocks b.commit;
-  most_slot = F.most_slot b.p;
+  most_slot = (layout_in F b).most_slot;
   fills = F.most_fills b.p;
 }
 
 abbrev pub loads_left_at : {C : Type 0} → FillingOf C → Parameters → Issue → ℕ
-loads_left_at F p issue = loads_left (layout_at F p).memory_blocks (F.most_slot p) issue
+loads_left_at F p issue = loads_left (memory_blocks p) (layout_at F p).most_slot issue
 
 abbrev pub reads_left : {C : Type 0} → FillingOf C → Booting → ReadStage → ℕ
 reads_left F b r = reads_left_in (numbers_of F b) r

@@ -1,4 +1,4 @@
--- Loading: what each of its actions writes, and what comes next. What is written is the scheme's `first`.
+-- Loading: what each of its actions writes, and what comes next. What is written is the start's checkpoint.
 use Rattle.std.specs.Prelude.{◌≡◌, ◌+◌, ◌<◌, nat_lt, false, if◌then◌else◌, length, slice_index_or, Result, OnOk, OnErr}
 use Rattle.thy_base.specs.declared.nvm.NvmError.{NvmError}
 use Rattle.thy_base.specs.Device.{Device, block_at, IsFramed, CountsFault}
@@ -10,7 +10,8 @@ use Rattle.thy_boot.specs.declared.stage.End.TheVariants.{Loaded}
 use Rattle.thy_boot.specs.declared.stage.Issue.{Issue}
 use Rattle.thy_boot.specs.declared.stage.Issue.TheVariants.{Home, Slot, Header, Settle, Commit, Confirm}
 use Rattle.thy_boot.specs.Boot.{Booting, layout_in}
-use Rattle.thy_boot.specs.Filling.{FillingOf, First}
+use Rattle.thy_boot.specs.Filling.{FillingOf, First, first_by}
+use Rattle.thy_boot.specs.Start.{CanStart}
 
 -- what is written next is there
 abbrev pub IsIssue : First → Issue → Type 0
@@ -38,8 +39,8 @@ after_issue f Confirm = Over Loaded
 
 -- loading may take an action: the start can be recorded, what is written is there, and the device is of the size, and up
 pub record CanLoad {C : Type 0} (F : FillingOf C) (s : State) (issue : Issue) (n : Device) (b : Booting) : Type 0 where
-  pub start : F.starts b.p s
-  pub there : IsIssue (F.first b.p s) issue
+  pub start : CanStart b.p s
+  pub there : IsIssue (first_by F b.p s) issue
   pub sized : length n.image ≡ (layout_in F b).image_blocks
   pub up : n.down ≡ false
 

@@ -4,7 +4,7 @@ use Rattle.thy_base.specs.Device.{Device, newest}
 use Rattle.thy_view.specs.Action.{Action, Rest, ReadAt}
 use Rattle.thy_boot.specs.declared.stage.ReadStage.{ReadStage}
 use Rattle.thy_boot.specs.declared.stage.ReadStage.TheVariants.{Unread, Header, Slot, Fills, Refusing}
-use Rattle.thy_boot.specs.Boot.{Booting, layout_in, at_stage, at_slot, after_commit, after_header, after_fill, with_slot_block, gone_on, GoesOn}
+use Rattle.thy_boot.specs.Boot.{Booting, layout_in, at_stage, after_commit, after_header, filling_from, with_slot_block, has_more, gone_on, GoesOn}
 use Rattle.thy_boot.specs.Filling.{FillingOf}
 
 -- one block is read, by the stage; for a refusal that comes again none is
@@ -22,15 +22,14 @@ slot_kept F next n b = with_slot_block next (newest n ((layout_in F b).slot_plac
 -- the boot after the read
 abbrev pub read_on : {C : Type 0} → FillingOf C → ReadStage → Device → Booting → Booting
 read_on F Unread n b = after_commit (newest n 1) b
-read_on F Header n b = at_slot (after_header (layout_in F b) (newest n 0) b) b
+read_on F Header n b = at_stage (after_header (layout_in F b) (newest n 0) b) b
 read_on F (Slot next) n b = gone_on F next (slot_kept F next n b)
-read_on F (Fills k) n b = at_stage (after_fill F k b) b
+read_on F (Fills k) n b = at_stage (filling_from F (k + 1) b) b
 read_on F (Refusing bad) n b = b
 
--- the controller after it: a block of the slot is taken up, with the last it lists the checkpoint, and a position is
--- filled with its block
+-- the controller after it: with the last block of the slot it lists the checkpoint, and a position is filled with its block
 abbrev pub FillsOn : {C : Type 0} → FillingOf C → ReadStage → Device → Booting → C → C → Type 0
-FillsOn F (Slot next) n b old new = GoesOn F next (slot_kept F next n b) old new
+FillsOn F (Slot next) n b old new = GoesOn F (has_more F next b) (slot_kept F next n b) old new
 FillsOn F (Fills k) n b old new = new ≡ F.with_fill b.commit k (newest n (F.fill_place old b.commit k)) old
 FillsOn F _ n b old new = new ≡ old
 

@@ -2,17 +2,18 @@
 use Rattle.std.specs.Prelude.{◌≡◌, ℕ, ◌+◌, ◌<◌, true, false, List, [], length, Some, None}
 use Rattle.thy_base.specs.declared.block.Block.{Block}
 use Rattle.thy_base.specs.Device.{Device, block_at}
-use Rattle.thy_record.specs.Commit.{is_zero, epoch_of}
-use Rattle.thy_record.specs.Decoded.{Nothing, Refused as IsRefused, At}
-use Rattle.thy_record.specs.Files.{block_in}
-use Rattle.thy_protocol.specs.Layout.{Layout, slot_in, decode_by}
+use Rattle.thy_layout.specs.Commit.{is_zero, epoch_of}
+use Rattle.thy_layout.specs.Decoded.{Nothing, Refused as IsRefused, At}
+use Rattle.thy_layout.specs.Files.{block_in}
+use Rattle.thy_layout.specs.Layout.{Layout, header_bad, commit_bad, state_by, slot_in, decode_by}
+use Rattle.thy_view.specs.Safe.{ceiling}
 use Rattle.thy_boot.specs.declared.stage.Stage.{Stage}
 use Rattle.thy_boot.specs.declared.stage.Stage.TheVariants.{Reads, Loads, Over}
 use Rattle.thy_boot.specs.declared.stage.ReadStage.{ReadStage}
 use Rattle.thy_boot.specs.declared.stage.ReadStage.TheVariants.{Unread, Header, Slot, Fills, Refusing}
 use Rattle.thy_boot.specs.declared.stage.End.TheVariants.{Restored, Loaded}
 use Rattle.thy_boot.specs.declared.stage.Issue.TheVariants.{Home}
-use Rattle.thy_boot.specs.Boot.{Booting, layout_in, slot_read, first_read, early_fault}
+use Rattle.thy_boot.specs.Boot.{Booting, layout_in, slot_read, slot_fault}
 use Rattle.thy_boot.specs.Filling.{FillingOf}
 use Rattle.thy_boot.specs.Left.{reads_left, boot_left}
 
@@ -24,46 +25,37 @@ pub record HasCommit (g : List Block) (commit : Block) : Type 0 where
 -- and header and commit block have no fault
 pub record HasHead (l : Layout) (g : List Block) (commit : Block) : Type 0 where
   pub commit_is : HasCommit g commit
-  pub header_fits : l.header_bad (block_at g 0) true ≡ None
-  pub commit_fits : l.commit_bad (block_at g 0) commit ≡ None
+  pub header_fits : header_bad l (block_at g 0) true ≡ None
+  pub commit_fits : commit_bad ceiling (block_at g 0) commit ≡ None
 
 -- the first blocks of these bytes are those of the slot
 pub record HasSlot (l : Layout) (g : List Block) (commit : Block) (n : ℕ) (slot : List ℕ) : Type 0 where
   pub each : (k : ℕ) → k < n → block_in slot k ≡ block_at g (l.slot_place commit + k)
 
--- its first blocks were taken up, and their fault is known
-pub record HasTaken {C : Type 0} (F : FillingOf C) (b : Booting) (c : C) (k : ℕ) : Type 0 where
-  pub taken : F.taken b.commit (first_read F k b) c
-  pub fault : b.fault ≡ early_fault F k b
-
--- the slot was read and has no fault, and the controller lists it, filled below a position
-pub record HasListed {C : Type 0} (F : FillingOf C) (n : Device) (b : Booting) (c : C) (k : ℕ) : Type 0 where
+-- the slot was read and has no fault, and the controller lists it
+pub record HasListed {C : Type 0} (F : FillingOf C) (n : Device) (b : Booting) (c : C) : Type 0 where
   pub head : HasHead (layout_in F b) n.image b.commit
   pub slot_is : slot_read F b ≡ slot_in (layout_in F b) n.image
-  pub slot_fits : (layout_in F b).slot_bad b.commit (slot_read F b) ≡ None
+  pub slot_fits : slot_fault F b ≡ None
   pub lists : F.lists b.commit (slot_read F b) c
-  pub filled : F.filled c n k
 
 -- all is filled, and memory is the image's
 pub record IsRestored {C : Type 0} (F : FillingOf C) (n : Device) (b : Booting) (c : C) : Type 0 where
-  pub lists : F.lists b.commit (slot_read F b) c
-  pub head : HasHead (layout_in F b) n.image b.commit
-  pub slot_is : slot_read F b ≡ slot_in (layout_in F b) n.image
-  pub slot_fits : (layout_in F b).slot_bad b.commit (slot_read F b) ≡ None
+  pub listed : HasListed F n b c
   pub whole : F.whole c n
-  pub found : decode_by (layout_in F b) n.image
-      ≡ At (epoch_of b.commit) ((layout_in F b).state_from (slot_read F b) (F.loads c n))
+  pub found : decode_by (layout_in F b) ceiling n.image
+      ≡ At (epoch_of b.commit) (state_by (layout_in F b) (slot_read F b) (F.loads c n))
 
 -- by the stage, what was read of the image in the NVM
 abbrev pub HasReadAt : {C : Type 0} → FillingOf C → Stage → Device → Booting → C → Type 0
 HasReadAt F (Reads Unread) n b c = F.fresh c
 HasReadAt F (Reads Header) n b c = F.fresh c × HasCommit n.image b.commit
 HasReadAt F (Reads (Slot next)) n b c =
-    HasTaken F b c next × HasHead (layout_in F b) n.image b.commit × HasSlot (layout_in F b) n.image b.commit next b.slot
+    F.fresh c × HasHead (layout_in F b) n.image b.commit × HasSlot (layout_in F b) n.image b.commit next b.slot
 HasReadAt F (Reads (Fills k)) n b c =
-    HasListed F n b c k × (F.next_fill b.p b.commit (slot_read F b) k ≡ Some k)
-HasReadAt F (Reads (Refusing bad)) n b c = decode_by (layout_in F b) n.image ≡ IsRefused bad
-HasReadAt F (Loads issue) n b c = F.fresh c × (decode_by (layout_in F b) n.image ≡ Nothing) × (issue ≡ Home 0)
+    HasListed F n b c × F.filled c n k × (F.next_fill b.p b.commit (slot_read F b) k ≡ Some k)
+HasReadAt F (Reads (Refusing bad)) n b c = decode_by (layout_in F b) ceiling n.image ≡ IsRefused bad
+HasReadAt F (Loads issue) n b c = F.fresh c × (decode_by (layout_in F b) ceiling n.image ≡ Nothing) × (issue ≡ Home 0)
 HasReadAt F (Over Restored) n b c = IsRestored F n b c
 HasReadAt F (Over Loaded) n b c = ⊥
 

@@ -9,7 +9,7 @@ use Rattle.thy_crash.specs.Saved.{Saved, Kept, Ready, InDoubt, next_image}
 use Rattle.thy_view.specs.Origin.{Origin}
 use Rattle.thy_protocol.specs.Keeps.{IsOf}
 use Rattle.thy_protocol.specs.Issuing.{slot_of}
-use Rattle.thy_protocol.specs.Layout.{Layout, slot_in}
+use Rattle.thy_layout.specs.Layout.{Layout, slot_in}
 use Rattle.thy_protocol.specs.Moves.{Standing, standing, IsKeeping}
 use Rattle.thy_boot.specs.declared.stage.Stage.{Stage}
 use Rattle.thy_boot.specs.declared.stage.Stage.TheVariants.{Reads as Reading, Loads, Over}
@@ -18,7 +18,7 @@ use Rattle.thy_boot.specs.declared.stage.Issue.{Issue}
 use Rattle.thy_boot.specs.declared.stage.Issue.TheVariants.{Home, Slot, Header, Settle, Commit, Confirm}
 use Rattle.thy_boot.specs.Boot.{Booting}
 use Rattle.thy_boot.specs.Loads.{IsIssue}
-use Rattle.thy_boot.specs.Filling.{FillingOf, First, layout_at}
+use Rattle.thy_boot.specs.Filling.{FillingOf, First, layout_at, first_by}
 use Rattle.thy_boot.specs.Recovers.{HasRead}
 
 -- the layout of a run's images, and what its start makes
@@ -26,7 +26,7 @@ abbrev pub layout_for : {C : Type 0} → FillingOf C → Origin → Layout
 layout_for F o = layout_at F o.geometry
 
 abbrev pub first_of : {C : Type 0} → FillingOf C → Origin → First
-first_of F o = F.first o.geometry o.start
+first_of F o = first_by F o.geometry o.start
 
 -- the mark of the start's checkpoint
 abbrev pub start_mark : Origin → Mark

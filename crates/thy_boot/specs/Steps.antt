@@ -9,7 +9,7 @@ use Rattle.thy_boot.specs.declared.stage.Stage.TheVariants.{Reads, Loads, Over}
 use Rattle.thy_boot.specs.declared.stage.ReadStage.{ReadStage}
 use Rattle.thy_boot.specs.declared.stage.Issue.{Issue}
 use Rattle.thy_boot.specs.Boot.{Booting, IsBoot, at_stage}
-use Rattle.thy_boot.specs.Filling.{FillingOf}
+use Rattle.thy_boot.specs.Filling.{FillingOf, first_by}
 use Rattle.thy_boot.specs.Loads.{CanLoad, after_issue, issue_action}
 use Rattle.thy_boot.specs.Reads.{read_action, read_on, FillsOn}
 use Rattle.thy_boot.specs.Recovers.{HasRead, IsNearer}
@@ -37,8 +37,8 @@ pub record ReadsOn {C : Type 0} (F : FillingOf C) (r : ReadStage) (n : Device) (
 -- the action of loading was taken
 pub record LoadsOn {C : Type 0} (F : FillingOf C) (s : State) (issue : Issue) (n : Device) (b : Booting) (c : C) (m : Device)
     (d : Booting) (e : C) : Type 0 where
-  pub device : m ≡ after (issue_action (F.first b.p s) issue) n
-  pub boot : d ≡ at_stage (after_issue (F.first b.p s) issue) b
+  pub device : m ≡ after (issue_action (first_by F b.p s) issue) n
+  pub boot : d ≡ at_stage (after_issue (first_by F b.p s) issue) b
   pub control : e ≡ c
 
 -- a step that was taken; after the boot there is none
@@ -53,7 +53,7 @@ Steps F s n b c m d e = StepsAt F b.stage s n b c m d e
 -- the action of a step, if it has to read or to write
 abbrev pub action_at : {C : Type 0} → FillingOf C → Stage → State → Booting → C → Action
 action_at F (Reads r) s b c = read_action F b c r
-action_at F (Loads issue) s b c = issue_action (F.first b.p s) issue
+action_at F (Loads issue) s b c = issue_action (first_by F b.p s) issue
 action_at F (Over end) s b c = Rest
 
 abbrev pub action_of : {C : Type 0} → FillingOf C → State → Booting → C → Action

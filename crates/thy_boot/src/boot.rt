@@ -1,7 +1,8 @@
 //! The boot.
-ghost use Rattle.std.specs.Prelude.{◌≡◌, ◌+◌, ◌*◌, ◌≤◌, ◌<◌, false, length, IfOk, OnOk, OnErr};
+ghost use Rattle.std.specs.Prelude.{◌≡◌, ◌*◌, ◌≤◌, false, length, take, IfOk};
 ghost use Rattle.thy_isa.specs.Step.{state_of};
-ghost use Rattle.thy_boot.specs.Boot.{IsBoot, new_boot, answer_of};
+ghost use Rattle.thy_layout.specs.Files.{blocks_of};
+ghost use Rattle.thy_boot.specs.Boot.{IsBoot, layout_in, new_boot, slot_read, answer_of};
 ghost use Rattle.thy_boot.specs.Counts.{Counts};
 ghost use Rattle.thy_boot.specs.Steps.{CanStep, TakesStep, action_of};
 
@@ -10,7 +11,7 @@ use crate::stage::{End, ReadStage, Stage};
 use std::alloc::{AllocError, Global};
 use std::marker::Model;
 use thy_base::{BLOCK_SIZE, Block, Geometry, Nvm, NvmError, word};
-use thy_record::{BadImage, Start};
+use thy_layout::{ImageLayout, Start, cpu_in};
 use thy_view::BootStep;
 
 /// A boot, with the commit block and the bytes of the slot, as far as they were read. Only `new` allocates: the room for
@@ -21,8 +22,6 @@ pub struct Boot {
     pub(crate) commit: Block,
     pub(crate) slot: Vec<u8>,
     pub(crate) stage: Stage,
-    /// The fault that the blocks of the slot have by themselves that were read.
-    pub(crate) fault: Option<BadImage>,
 }
 
 impl Model for Boot {
@@ -30,8 +29,16 @@ impl Model for Boot {
 
     ghost Value = { Booting };
 
-    ghost view = { λ b.
-        record { p = b.geometry; commit = b.commit; slot = b.slot.items; stage = b.stage; fault = b.fault } };
+    ghost view = { λ b. record { p = b.geometry; commit = b.commit; slot = b.slot.items; stage = b.stage } };
+}
+
+// The first blocks of these bytes.
+fn first_blocks(bytes: &[u8], count: u64) -> &[u8]
+    requires { 64 * count ≤ length bytes.now }
+    ensures length { length result.now ≡ 64 * count }
+    ensures blocks { blocks_of result.now ≡ take count (blocks_of bytes.now) }
+{
+    &bytes[..BLOCK_SIZE * count as usize]
 }
 
 impl Boot {
@@ -40,7 +47,7 @@ impl Boot {
     pub fn new<F: Fills>(alloc: Global, geometry: &Geometry) -> Result<Boot, AllocError>
         ensures { IfOk result (λ boot. boot ≡ new_boot F.filling geometry.now) }
     {
-        let size = BLOCK_SIZE * F::most_slot(geometry) as usize;
+        let size = BLOCK_SIZE * F::Images::most_slot(geometry) as usize;
         let mut slot = Vec::with_capacity(alloc, size)?;
         slot.resize(size, 0)?;
         Ok(Boot {
@@ -48,7 +55,6 @@ impl Boot {
             commit: Block::ZERO,
             slot,
             stage: Stage::Reads(ReadStage::Unread),
-            fault: None,
         })
     }
 
@@ -73,11 +79,14 @@ impl Boot {
         &self.commit
     }
 
-    /// The room of the slot, with the bytes that were read.
-    pub fn slot(&self) -> &[u8]
-        ensures { result.now ≡ self.now.slot }
+    /// The bytes of the slot that the commit block names, as far as they were read.
+    pub fn slot<F: Fills>(&self) -> &[u8]
+        requires { length self.now.slot ≡ 64 * (layout_in F.filling self.now).most_slot }
+        ensures length { length result.now ≡ 64 * (layout_in F.filling self.now).slot_blocks self.now.commit }
+        ensures blocks { blocks_of result.now ≡ slot_read F.filling self.now }
     {
-        &self.slot
+        let blocks = F::Images::slot_blocks(&self.geometry, &self.commit);
+        first_blocks(&self.slot, blocks)
     }
 
     /// Takes one action of the NVM: reads the next block of the checkpoint there, or, if there is none, takes the next
@@ -130,15 +139,15 @@ impl Boot {
     }
 
     /// What a step returns that left the boot in this state.
-    fn answer<F: Fills>(&self) -> BootStep
-        requires { length self.now.slot ≡ 64 * F.filling.most_slot self.now.p }
+    pub fn answer<F: Fills>(&self) -> BootStep
+        requires { length self.now.slot ≡ 64 * (layout_in F.filling self.now).most_slot }
         ensures { result ≡ answer_of F.filling self.now }
     {
         match self.stage {
             Stage::Reads(ReadStage::Refusing(bad)) => BootStep::Refused(bad),
             Stage::Reads(_) | Stage::Loads(_) => BootStep::GoesOn,
             Stage::Over(End::Restored) => {
-                let cpu = F::cpu_in(&self.geometry, &self.commit, &self.slot);
+                let cpu = cpu_in(self.slot::<F>(), &self.geometry);
                 BootStep::Restarted(cpu, word(&self.commit, 1))
             }
             Stage::Over(End::Loaded) => BootStep::Loaded,

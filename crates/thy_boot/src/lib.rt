@@ -1,6 +1,6 @@
 //! The boot of any scheme. After power came on it reads the checkpoint in the NVM, a block a cycle, and gives it to a
 //! controller. If there is none, it loads the start of a run: that becomes the checkpoint of epoch 0. A scheme's
-//! `Fills` says how images are laid out, what a slot lists, and which blocks are read into the controller. Callers
+//! `Fills` says how images are laid out, and which blocks are read into the controller. Callers
 //! rely on `Boot::step` and on the laws.
 //!
 //! Open specs/Filling.antt first, then specs/Boot.antt and specs/Recovers.antt, src/fills.rt and src/boot.rt. It depends on
@@ -24,4 +24,3 @@ pub use laws::{
     steps_queue_one_write,
 };
 pub use stage::{End, Issue, ReadStage, Stage};
-pub use start::start_block;

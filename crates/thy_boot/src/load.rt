@@ -1,42 +1,44 @@
 //! Loading: if the NVM has no checkpoint, that of the start is written, as epoch 0.
 ghost use Rattle.std.specs.Prelude.{◌≡◌, false, length, OnOk, OnErr};
 ghost use Rattle.thy_isa.specs.Step.{state_of};
+ghost use Rattle.thy_layout.specs.Header.{header_of};
 ghost use Rattle.thy_boot.specs.Boot.{at_stage};
-ghost use Rattle.thy_boot.specs.Filling.{layout_at};
+ghost use Rattle.thy_boot.specs.Filling.{layout_at, first_by};
 ghost use Rattle.thy_boot.specs.Counts.{Counts};
 ghost use Rattle.thy_boot.specs.Loads.{IsIssue, CanLoad, Takes, after_issue, issue_action};
+ghost use Rattle.thy_boot.specs.Start.{CanStart};
 
 use crate::boot::Boot;
 use crate::fills::Fills;
+use crate::reading::slot_at;
 use crate::stage::{End, Issue, Stage};
-use thy_base::{Geometry, Nvm, NvmError};
+use crate::start::start_block;
+use thy_base::{Block, Geometry, Nvm, NvmError};
 use thy_isa::MachState;
+use thy_layout::{ImageLayout, commit_block, header_block_of};
+
+/// The header of the images of a geometry.
+fn header<F: Fills>(geometry: &Geometry) -> Block
+    ensures { result ≡ header_of (layout_at F.filling geometry.now).scheme geometry.now }
+{
+    header_block_of(F::Images::scheme(geometry), geometry)
+}
 
 /// How many blocks of memory are written.
 fn blocks_of_memory<F: Fills>(geometry: &Geometry, state: &MachState) -> u64
-    requires { F.filling.starts geometry.now (state_of state.now) }
-    ensures { result ≡ length (F.filling.first geometry.now (state_of state.now)).parts.memory }
+    ensures { result ≡ length (first_by F.filling geometry.now (state_of state.now)).parts.memory }
 {
     let _state = state;
-    F::memory_blocks(geometry)
-}
-
-/// How many blocks of the slot.
-fn blocks_of_slot<F: Fills>(geometry: &Geometry, state: &MachState) -> u64
-    requires { F.filling.starts geometry.now (state_of state.now) }
-    ensures { result ≡ (F.filling.first geometry.now (state_of state.now)).parts.slot_blocks }
-{
-    F::slot_blocks(geometry, &F::first_commit(geometry, state))
+    geometry.memory_blocks()
 }
 
 /// The stage after an action of loading.
 fn stage_after<F: Fills>(geometry: &Geometry, issue: Issue, state: &MachState) -> Stage
-    requires start { F.filling.starts geometry.now (state_of state.now) }
-    requires issue { IsIssue (F.filling.first geometry.now (state_of state.now)) issue }
-    ensures { result ≡ after_issue (F.filling.first geometry.now (state_of state.now)) issue }
+    requires { IsIssue (first_by F.filling geometry.now (state_of state.now)) issue }
+    ensures { result ≡ after_issue (first_by F.filling geometry.now (state_of state.now)) issue }
 {
     let memory = blocks_of_memory::<F>(geometry, state);
-    let slot = blocks_of_slot::<F>(geometry, state);
+    let slot = F::Images::slot_blocks(geometry, &commit_block(0));
     match issue {
         Issue::Home(b) if b + 1 < memory => Stage::Loads(Issue::Home(b + 1)),
         Issue::Home(_) => Stage::Loads(Issue::Slot(0)),
@@ -56,27 +58,27 @@ fn take_issue<F: Fills, N: Nvm>(
     state: &MachState,
     nvm: &mut N,
 ) -> Result<(), NvmError>
-    requires start { F.filling.starts geometry.now (state_of state.now) }
-    requires issue { IsIssue (F.filling.first geometry.now (state_of state.now)) issue }
+    requires start { CanStart geometry.now (state_of state.now) }
+    requires issue { IsIssue (first_by F.filling geometry.now (state_of state.now)) issue }
     requires sized { length (N.device nvm.old).image ≡ (layout_at F.filling geometry.now).image_blocks }
     requires up { (N.device nvm.old).down ≡ false }
-    ensures nvm { let f = F.filling.first geometry.now (state_of state.now) in
+    ensures nvm { let f = first_by F.filling geometry.now (state_of state.now) in
         Takes (issue_action f issue) result (N.device nvm.old) (N.device nvm.new) }
-    ensures writes { let f = F.filling.first geometry.now (state_of state.now) in
+    ensures writes { let f = first_by F.filling geometry.now (state_of state.now) in
         Counts (issue_action f issue) result (N.writes nvm.old) (N.writes nvm.new) }
 {
     match issue {
         Issue::Home(b) => {
-            let (place, block) = F::first_memory(geometry, state, b);
-            nvm.write(place, &block)
+            let place = F::first_place(geometry, state, b);
+            nvm.write(place, &start_block(geometry, state, b))
         }
         Issue::Slot(k) => {
-            let (place, block) = F::first_slot(geometry, state, k);
-            nvm.write(place, &block)
+            let place = slot_at::<F>(geometry, &commit_block(0), k);
+            nvm.write(place, &F::first_slot(geometry, state, k))
         }
-        Issue::Header => nvm.write(0, &F::first_header(geometry, state)),
+        Issue::Header => nvm.write(0, &header::<F>(geometry)),
         Issue::Settle | Issue::Confirm => nvm.barrier(),
-        Issue::Commit => nvm.write(1, &F::first_commit(geometry, state)),
+        Issue::Commit => nvm.write(1, &commit_block(0)),
     }
 }
 
@@ -94,12 +96,12 @@ impl Boot {
     ) -> Result<(), NvmError>
         requires stage { self.old.stage ≡ Loads issue }
         requires can { CanLoad F.filling (state_of state.now) issue (N.device nvm.old) self.old }
-        ensures boot { let f = F.filling.first self.old.p (state_of state.now) in
+        ensures boot { let f = first_by F.filling self.old.p (state_of state.now) in
             OnOk result (self.new ≡ at_stage (after_issue f issue) self.old) }
         ensures kept { OnErr result (self.new ≡ self.old) }
-        ensures nvm { let f = F.filling.first self.old.p (state_of state.now) in
+        ensures nvm { let f = first_by F.filling self.old.p (state_of state.now) in
             Takes (issue_action f issue) result (N.device nvm.old) (N.device nvm.new) }
-        ensures writes { let f = F.filling.first self.old.p (state_of state.now) in
+        ensures writes { let f = first_by F.filling self.old.p (state_of state.now) in
             Counts (issue_action f issue) result (N.writes nvm.old) (N.writes nvm.new) }
     {
         take_issue::<F, N>(&self.geometry, issue, state, nvm)?;

@@ -3,17 +3,18 @@ ghost use Rattle.std.specs.Prelude.{◌≡◌, ◌+◌, ◌*◌, ◌<◌, ◌≤
 ghost use Rattle.thy_base.specs.Bytes.{written};
 ghost use Rattle.thy_base.specs.Device.{newest};
 ghost use Rattle.thy_view.specs.Action.{ReadAt};
-ghost use Rattle.thy_boot.specs.Boot.{IsBoot, layout_in, slot_read, at_stage, at_slot, stage_of_commit, after_commit, after_header, after_slot};
-ghost use Rattle.thy_boot.specs.Boot.{refusing_or, filling_or, gone_on, IsJudged, GoesOn};
+ghost use Rattle.thy_boot.specs.Boot.{IsBoot, layout_in, slot_fault, at_stage, stage_of_commit, after_commit, after_header, after_slot};
+ghost use Rattle.thy_boot.specs.Boot.{refusing_or, filling_from, has_more, gone_on, IsJudged, GoesOn};
+ghost use Rattle.thy_boot.specs.Filling.{layout_at};
 ghost use Rattle.thy_boot.specs.Loads.{Takes};
 ghost use Rattle.thy_boot.specs.Reads.{read_action, read_on, slot_kept, FillsOn, IsBlock};
-ghost use Rattle.thy_boot.specs.Recovers.{HasRead, HasTaken};
+ghost use Rattle.thy_boot.specs.Recovers.{HasRead};
 
 use crate::boot::Boot;
-use crate::fills::Fills;
+use crate::fills::{CEILING, Fills};
 use crate::stage::{End, Issue, ReadStage, Stage};
-use thy_base::{BLOCK_SIZE, Block, Nvm, NvmError};
-use thy_record::{BadImage, is_zero};
+use thy_base::{BLOCK_SIZE, Block, Geometry, Nvm, NvmError};
+use thy_layout::{BadImage, ImageLayout, commit_fault, header_fault_in, is_zero};
 
 /// Writes a block over the bytes of block `k`.
 fn keep_block(bytes: &mut [u8], k: usize, block: &Block)
@@ -41,6 +42,15 @@ fn refusing_or(fault: Option<BadImage>, next: Stage) -> Stage
         Some(bad) => Stage::Reads(ReadStage::Refusing(bad)),
         None => next,
     }
+}
+
+/// The place of block `next` of the slot of a commit block.
+pub(crate) fn slot_at<F: Fills>(geometry: &Geometry, commit: &Block, next: u64) -> u64
+    requires { let l = layout_at F.filling geometry.now in l.slot_place commit.now + next < l.image_blocks }
+    ensures { result ≡ (layout_at F.filling geometry.now).slot_place commit.now + next }
+{
+    let _few = F::Images::blocks(geometry);
+    F::Images::slot_place(geometry, commit) + next
 }
 
 impl Boot {
@@ -96,16 +106,15 @@ impl Boot {
         requires place { 0 < length (N.device nvm.old).image }
         requires up { (N.device nvm.old).down ≡ false }
         ensures state { let next = after_header (layout_in F.filling self.old) (newest (N.device nvm.old) 0) self.old in
-            OnOk result (self.new ≡ at_slot next self.old) }
+            OnOk result (self.new ≡ at_stage next self.old) }
         ensures kept { OnErr result (self.new ≡ self.old) }
         ensures reads { Takes (ReadAt 0) result (N.device nvm.old) (N.device nvm.new) }
         ensures same_writes { N.writes nvm.new ≡ N.writes nvm.old }
     {
         let header = nvm.read(0)?;
-        let of_commit = F::commit_fault(&self.geometry, &header, &self.commit);
-        let fault = F::header_fault(&self.geometry, &header).or(of_commit);
+        let of_commit = commit_fault(&header, &self.commit, CEILING);
+        let fault = header_fault_in::<F::Images>(&self.geometry, &header, true).or(of_commit);
         self.stage = refusing_or(fault, Stage::Reads(ReadStage::Slot(0)));
-        self.fault = None;
         Ok(())
     }
 
@@ -135,7 +144,6 @@ impl Boot {
 
     /// Reads that block, and keeps its bytes.
     fn read_block<F: Fills, N: Nvm>(&mut self, next: u64, nvm: &mut N) -> Result<(), NvmError>
-        requires inside { next < (layout_in F.filling self.old).slot_blocks self.old.commit }
         requires image { let l = layout_in F.filling self.old in l.slot_place self.old.commit + next < l.image_blocks }
         requires room { 64 * next + 64 ≤ length self.old.slot }
         requires sized { length (N.device nvm.old).image ≡ (layout_in F.filling self.old).image_blocks }
@@ -147,30 +155,21 @@ impl Boot {
             Takes (ReadAt at) result (N.device nvm.old) (N.device nvm.new) }
         ensures same_writes { N.writes nvm.new ≡ N.writes nvm.old }
     {
-        let at = F::slot_at(&self.geometry, &self.commit, next);
-        let block = nvm.read(at)?;
+        let block = nvm.read(slot_at::<F>(&self.geometry, &self.commit, next))?;
         keep_block(&mut self.slot, next as usize, &block);
         Ok(())
     }
 
-    /// Takes up block `next` of the slot, and continues; with the last, the slot is judged.
+    /// Continues after block `next` of the slot; with the last, the slot is judged.
     fn go_on<F: Fills>(&mut self, next: u64, control: &mut F::Control)
         requires inside { next < (layout_in F.filling self.old).slot_blocks self.old.commit }
-        requires room { length self.old.slot ≡ 64 * F.filling.most_slot self.old.p }
+        requires room { length self.old.slot ≡ 64 * (layout_in F.filling self.old).most_slot }
         requires geometry { F.filling.p control.old ≡ self.old.p }
-        requires taken { HasTaken F.filling self.old control.old next }
+        requires fresh { F.filling.fresh control.old }
         ensures boot { self.new ≡ gone_on F.filling next self.old }
-        ensures control { GoesOn F.filling next self.old control.old control.new }
+        ensures control { GoesOn F.filling (has_more F.filling next self.old) self.old control.old control.new }
     {
-        self.fault = F::take_up(
-            &self.geometry,
-            &self.commit,
-            &self.slot,
-            next,
-            self.fault,
-            control,
-        );
-        let blocks = F::slot_blocks(&self.geometry, &self.commit);
+        let blocks = F::Images::slot_blocks(&self.geometry, &self.commit);
         if next + 1 < blocks {
             self.stage = Stage::Reads(ReadStage::Slot(next + 1));
         } else {
@@ -180,18 +179,17 @@ impl Boot {
 
     /// Judges the slot: if it has no fault, the controller lists it.
     fn judge<F: Fills>(&mut self, control: &mut F::Control)
-        requires room { length self.old.slot ≡ 64 * F.filling.most_slot self.old.p }
+        requires room { length self.old.slot ≡ 64 * (layout_in F.filling self.old).most_slot }
         requires geometry { F.filling.p control.old ≡ self.old.p }
-        requires taken { F.filling.taken self.old.commit (slot_read F.filling self.old) control.old }
-        requires fault { self.old.fault ≡ F.filling.early_fault self.old.p self.old.commit (slot_read F.filling self.old) }
+        requires fresh { F.filling.fresh control.old }
         ensures boot { self.new ≡ at_stage (after_slot F.filling self.old) self.old }
-        ensures control { let fault = (layout_in F.filling self.old).slot_bad self.old.commit (slot_read F.filling self.old) in
-            IsJudged F.filling fault self.old control.old control.new }
+        ensures control { IsJudged F.filling (slot_fault F.filling self.old) self.old control.old control.new }
     {
-        match F::slot_fault(&self.geometry, &self.commit, &self.slot, self.fault) {
+        let slot = self.slot::<F>();
+        match F::Images::slot_fault(&self.geometry, &self.commit, slot, CEILING) {
             Some(bad) => self.stage = Stage::Reads(ReadStage::Refusing(bad)),
             None => {
-                F::list(&self.geometry, &self.commit, &self.slot, control);
+                F::list(&self.geometry, &self.commit, slot, control);
                 self.go_to_fill::<F>(0);
             }
         }
@@ -199,11 +197,10 @@ impl Boot {
 
     /// Goes to the first position from one on that has to be filled; if there is none, all is restored.
     fn go_to_fill<F: Fills>(&mut self, from: u64)
-        requires { length self.old.slot ≡ 64 * F.filling.most_slot self.old.p }
-        ensures { let next = F.filling.next_fill self.old.p self.old.commit (slot_read F.filling self.old) from in
-            self.new ≡ at_stage (filling_or next) self.old }
+        requires { length self.old.slot ≡ 64 * (layout_in F.filling self.old).most_slot }
+        ensures { self.new ≡ at_stage (filling_from F.filling from self.old) self.old }
     {
-        self.stage = match F::next_fill(&self.geometry, &self.commit, &self.slot, from) {
+        self.stage = match F::next_fill(&self.geometry, &self.commit, self.slot::<F>(), from) {
             Some(k) => Stage::Reads(ReadStage::Fills(k)),
             None => Stage::Over(End::Restored),
         };

@@ -1,5 +1,5 @@
 //! The stages of a boot.
-use thy_record::BadImage;
+use thy_layout::BadImage;
 
 /// What loading does next.
 #[derive(Clone, Copy, Debug, PartialEq, Eq)]

@@ -1,17 +1,18 @@
 //! The blocks that a start makes of memory, and its processor.
 ghost use Rattle.std.specs.Prelude.{◌≡◌, ◌<◌, ◌≤◌, ◌+◌, length, take, drop, ◌++◌, replicate};
+ghost use Rattle.thy_base.specs.Device.{block_at};
 ghost use Rattle.thy_base.specs.Geometry.{memory_blocks};
-ghost use Rattle.thy_isa.specs.Step.{state_of, cpu_of};
-ghost use Rattle.thy_boot.specs.Start.{IsStartFor, start_block};
+ghost use Rattle.thy_isa.specs.Step.{state_of};
+ghost use Rattle.thy_boot.specs.Start.{IsStartFor, start_blocks};
 
 use thy_base::{BLOCK_SIZE, Block, Geometry};
 use thy_isa::MachState;
 
 /// Block `b` of a start: its memory, and after that its console filled up with zeros.
-pub fn start_block(geometry: &Geometry, state: &MachState, b: u64) -> Block
+pub(crate) fn start_block(geometry: &Geometry, state: &MachState, b: u64) -> Block
     requires place { b < memory_blocks geometry.now }
     requires start { IsStartFor geometry.now (state_of state.now) }
-    ensures { result ≡ start_block geometry.now (state_of state.now) b }
+    ensures { result ≡ block_at (start_blocks geometry.now (state_of state.now)) b }
 {
     let size = geometry.program_size();
     let from = BLOCK_SIZE as u64 * b;

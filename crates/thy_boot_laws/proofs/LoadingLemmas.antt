@@ -3,17 +3,17 @@ use Rattle.std.proofs.Common.{◌≡◌, ◌≢◌, ◌&&◌, true, false, List,
 use Rattle.thy_base.specs.declared.block.Block.{Block}
 use Rattle.thy_base.specs.declared.mark.Mark.{Mark}
 use Rattle.thy_base.specs.Device.{Device, block_at}
-use Rattle.thy_record.specs.declared.bad_image.BadImage.{BadImage}
-use Rattle.thy_record.specs.Commit.{is_zero}
-use Rattle.thy_record.specs.Decoded.{Reading}
+use Rattle.thy_layout.specs.declared.bad_image.BadImage.{BadImage}
+use Rattle.thy_layout.specs.Commit.{is_zero}
+use Rattle.thy_layout.specs.Decoded.{Reading}
 use Rattle.thy_view.specs.Booting.{view_of_image}
 use Rattle.thy_view.specs.Origin.{Origin}
 use Rattle.thy_view.specs.Safe.{ceiling}
 use Rattle.thy_view.specs.Views.{loads}
 use Rattle.thy_protocol.specs.Keeps.{Tells, finding_view}
-use Rattle.thy_protocol.specs.Layout.{Layout}
+use Rattle.thy_layout.specs.Layout.{Layout}
 use Rattle.thy_protocol.specs.Moves.{IsKeeping}
-use Rattle.thy_protocol.proofs.LayoutLemmas.{decode_by-nothing_back}
+use Rattle.thy_layout.proofs.LayoutLemmas.{decode_by-nothing_back}
 use Rattle.thy_boot.specs.declared.stage.Stage.{Stage}
 use Rattle.thy_boot.specs.declared.stage.Stage.TheVariants.{Reads, Loads, Over}
 use Rattle.thy_boot.specs.declared.stage.ReadStage.{ReadStage}
@@ -42,7 +42,7 @@ kept-some : (o : Origin) (l : Layout) (g : BootImages) (n : Device) (kept : Opti
     → is_zero (block_at n.image 1) ≡ false → loads (finding_view o.start.count kept) ≡ false
 kept-some o l g n (Some m) before tells committed = refl
 kept-some o l g n None before tells committed =
-    let zero : is_zero (block_at g.before 1) ≡ true = decode_by-nothing_back l g.before tells.0 in
+    let zero : is_zero (block_at g.before 1) ≡ true = decode_by-nothing_back l ceiling g.before tells.0 in
     let both : false ≡ true = sym committed ∙ ap (λ (x : List Block). is_zero (block_at x 1)) (sym before) ∙ zero in
     cc
 

@@ -9,20 +9,20 @@ use Rattle.thy_base.specs.Places.{dram_blocks}
 use Rattle.thy_dram.specs.Contents.{Contents, lost}
 use Rattle.thy_dram.proofs.DrawLemmas.{length-over}
 use Rattle.thy_isa.specs.Step.{State}
-use Rattle.thy_record.specs.Decoded.{Decoded, Nothing, Refused, At}
+use Rattle.thy_layout.specs.Decoded.{Decoded, Nothing, Refused, At}
 use Rattle.thy_view.specs.Kind.{IsDramOf}
 use Rattle.thy_view.specs.Origin.{Origin}
 use Rattle.thy_view.specs.Safe.{ceiling}
 use Rattle.thy_protocol.specs.Keeps.{Tells}
-use Rattle.thy_protocol.specs.Layout.{Layout, decode_by}
+use Rattle.thy_layout.specs.Layout.{Layout, decode_by}
 use Rattle.thy_boot.specs.Boot.{IsBoot, new_boot}
-use Rattle.thy_boot.specs.Filling.{FillingOf}
+use Rattle.thy_boot.specs.Filling.{FillingOf, layout_at}
 use Rattle.thy_boot.specs.Sound.{layout_for}
 use Rattle.thy_scheme.specs.Laws.{IsOwn}
 use Rattle.thy_boot_laws.specs.Laws.{OwnHasMark}
 
 -- the mark of an image that is the run's own
-own-mark : (o : Origin) (l : Layout) (n : Device) (d : Decoded) → decode_by l n.image ≡ d → IsOwn o d
+own-mark : (o : Origin) (l : Layout) (n : Device) (d : Decoded) → decode_by l ceiling n.image ≡ d → IsOwn o d
     → (kept : Option Mark) × Tells o l n.image kept
 own-mark o l n Nothing is own = (None, (is, own))
 own-mark o l n (Refused bad) is own = absurd own
@@ -38,7 +38,7 @@ module _ {C : Type 0} (F : FillingOf C) where
 
   -- a new boot has room for a slot
   pub new-is_boot : (p : Parameters) → IsBoot F (new_boot F p)
-  new-is_boot p = record { room = length-replicate (64 * F.most_slot p) 0; there = tt }
+  new-is_boot p = record { room = length-replicate (64 * (layout_at F p).most_slot) 0; there = tt }
 
 -- what is left of a DRAM of its size is one with nothing queued
 pub IsDramOf-lost : (p : Parameters) (old : Contents) (pick : ℕ) (new : Contents)

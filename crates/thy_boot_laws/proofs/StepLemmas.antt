@@ -6,20 +6,20 @@ use Rattle.thy_base.specs.declared.nvm.NvmError.{NvmError}
 use Rattle.thy_base.specs.Device.{Device}
 use Rattle.thy_dram.specs.Contents.{Contents}
 use Rattle.thy_isa.specs.Step.{State}
-use Rattle.thy_record.specs.Decoded.{Reading}
+use Rattle.thy_layout.specs.Decoded.{Reading}
 use Rattle.thy_view.specs.Booting.{boot_view, loading_view}
 use Rattle.thy_view.specs.Dram.{ActsOnDram}
 use Rattle.thy_view.specs.Origin.{Origin}
 use Rattle.thy_view.proofs.ActionLemmas.{queue-after}
 use Rattle.thy_protocol.specs.Keeps.{finding_view}
-use Rattle.thy_protocol.specs.Layout.{Layout}
+use Rattle.thy_layout.specs.Layout.{Layout}
 use Rattle.thy_protocol.specs.Moves.{IsKeeping}
 use Rattle.thy_boot.specs.declared.stage.Stage.{Stage}
 use Rattle.thy_boot.specs.declared.stage.Stage.TheVariants.{Reads, Loads, Over}
 use Rattle.thy_boot.specs.declared.stage.ReadStage.TheVariants.{Unread, Header, Slot, Fills, Refusing}
 use Rattle.thy_boot.specs.Boot.{Booting}
 use Rattle.thy_boot.specs.Counts.{Counts}
-use Rattle.thy_boot.specs.Filling.{FillingOf, First, IsFilling}
+use Rattle.thy_boot.specs.Filling.{FillingOf, First, IsFilling, first_by}
 use Rattle.thy_boot.specs.Laws.{IsGoing}
 use Rattle.thy_boot.specs.Left.{boot_left}
 use Rattle.thy_boot.specs.Loads.{issue_action}
@@ -126,7 +126,7 @@ module _ {C : Type 0} (F : FillingOf C) (s : State) (n : Device) (b : Booting) (
   queue-on (Loads issue) on acts =
       omega (
         arith,
-        queue-after (issue_action (F.first b.p s) issue) n,
+        queue-after (issue_action (first_by F b.p s) issue) n,
         ap (λ (x : Device). length x.queue) on.device,
         ap (λ (x : C). (F.dram x).queued) on.control,
       )

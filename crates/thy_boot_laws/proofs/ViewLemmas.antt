@@ -3,13 +3,13 @@ use Rattle.std.proofs.Common.{◌≡◌, ℕ, [], List, length, refl, sym, ◌�
 use Rattle.thy_base.specs.declared.block.Block.{Block}
 use Rattle.thy_base.specs.declared.mark.Mark.{Mark}
 use Rattle.thy_base.specs.Device.{Device}
-use Rattle.thy_record.specs.Decoded.{Reading}
+use Rattle.thy_layout.specs.Decoded.{Reading}
 use Rattle.thy_view.specs.Booting.{loading_view, view_of_image}
 use Rattle.thy_view.specs.Origin.{Origin}
 use Rattle.thy_view.specs.Safe.{ceiling}
 use Rattle.thy_view.specs.Told.{told}
 use Rattle.thy_protocol.specs.Keeps.{Tells, TellsAll, finding_view}
-use Rattle.thy_protocol.specs.Layout.{Layout, decode_by}
+use Rattle.thy_layout.specs.Layout.{Layout, decode_by}
 use Rattle.thy_protocol.specs.Moves.{IsKeeping}
 use Rattle.thy_protocol.proofs.KeepsLemmas.{finding_view-told}
 use Rattle.thy_boot.specs.declared.stage.Stage.{Stage}
@@ -79,7 +79,7 @@ module _ {C : Type 0} (F : FillingOf C) where
       → view_of_image o.start.count (read o.geometry ceiling n.image) ≡ finding_view o.start.count g.kept
   view-reading read o g n b c reads recovering sized tells =
       ap (view_of_image o.start.count) (reads o.geometry n.image sized)
-      ∙ ap (λ (x : List Block). view_of_image o.start.count (decode_by (layout_for F o) x)) (sym recovering.before_is)
+      ∙ ap (λ (x : List Block). view_of_image o.start.count (decode_by (layout_for F o) ceiling x)) (sym recovering.before_is)
       ∙ finding_view-told o (layout_for F o) g.before g.kept o.start.count tells
 
   view-at : (read : Reading) (o : Origin) (g : BootImages) (n : Device) (b : Booting) (c : C) (q : Stage)

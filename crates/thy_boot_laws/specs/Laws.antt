@@ -4,13 +4,13 @@ use Rattle.thy_base.specs.declared.block.Block.{Block}
 use Rattle.thy_base.specs.declared.config.Parameters.{Parameters}
 use Rattle.thy_base.specs.declared.mark.Mark.{Mark}
 use Rattle.thy_base.specs.Device.{Device, HasFailed}
-use Rattle.thy_record.specs.Decoded.{Reading}
+use Rattle.thy_layout.specs.Decoded.{Reading}
 use Rattle.thy_view.specs.Action.{FailsTo}
 use Rattle.thy_view.specs.Origin.{Origin}
 use Rattle.thy_view.specs.Safe.{ceiling}
 use Rattle.thy_view.specs.Views.{loads}
 use Rattle.thy_protocol.specs.Keeps.{Tells}
-use Rattle.thy_protocol.specs.Layout.{decode_by}
+use Rattle.thy_layout.specs.Layout.{decode_by}
 use Rattle.thy_boot.specs.declared.stage.Stage.{Stage}
 use Rattle.thy_boot.specs.Boot.{Booting}
 use Rattle.thy_boot.specs.Filling.{FillingOf, layout_at}
@@ -27,7 +27,7 @@ use Rattle.thy_boot_laws.specs.Seen.{view_at, has_read_at, loads_at}
 abbrev pub IsReadBy : {C : Type 0} → FillingOf C → Reading → Type 0
 IsReadBy F read =
     (p : Parameters) (g : List Block)
-    → length g ≡ (layout_at F p).image_blocks → read p ceiling g ≡ decode_by (layout_at F p) g
+    → length g ≡ (layout_at F p).image_blocks → read p ceiling g ≡ decode_by (layout_at F p) ceiling g
 
 -- what is seen is the mark that is kept, as the trait of schemes has it
 abbrev pub ViewIsKept : {C : Type 0} → FillingOf C → Type 0

@@ -7,8 +7,8 @@ use Rattle.thy_base.specs.Places.{record_blocks, in_dram, number_of, first_home}
 use Rattle.thy_dram.specs.Contents.{written}
 use Rattle.thy_place.specs.Devices.{Devices, devices_of}
 use Rattle.thy_cell.specs.Cells.{seat_of, frame_at, target, last}
-use Rattle.thy_record.specs.Commit.{commit_of}
-use Rattle.thy_record.specs.declared.engine_step.EngineStep.TheVariants.{Copied, PageBlock, StateBlock, TableBlock}
+use Rattle.thy_layout.specs.Commit.{commit_of}
+use Rattle.thy_layout.specs.declared.engine_step.EngineStep.TheVariants.{Copied, PageBlock, StateBlock, TableBlock}
 use Rattle.thy_view.specs.declared.did.Did.{Did}
 use Rattle.thy_view.specs.declared.did.Did.TheVariants.{Engine}
 use Rattle.thy_view.specs.Action.{Rest, ReadAt, WriteAt, Barrier, Acts, ActionFailed}

@@ -13,8 +13,11 @@ use Rattle.thy_base.specs.Places.{number_of, blocks_of_slot, place_of_slot, slot
 use Rattle.thy_base.proofs.BasicLemmas.{not_in_none}
 use Rattle.thy_place.specs.Devices.{NoMoreAt}
 use Rattle.thy_crash.specs.Spares.{Spares}
-use Rattle.thy_record.specs.Commit.{is_zero, epoch_of, version_of}
-use Rattle.thy_record.specs.Images.{slot_numbers, slot_in, memory_numbers, looked}
+use Rattle.thy_layout.specs.Commit.{is_zero, epoch_of, version_of}
+use Rattle.thy_layout.specs.Layout.{slot_places, looked_by}
+use Rattle.thy_record.specs.DualLayouts.{dual_layouts}
+use Rattle.thy_record.specs.Images.{slot_in, memory_numbers}
+use Rattle.thy_record.specs.Number.{scheme_number}
 use Rattle.thy_record.specs.Issuing.{IsToldBy}
 use Rattle.thy_record.specs.Slots.{tables_in}
 use Rattle.thy_record.specs.Tables.{Tables, place_of}
@@ -53,7 +56,7 @@ module _ (p : Parameters) (t : Tables) (x : ℕ) where
       (k, inside, sym (get_or-map-range_with_len (λ (b : ℕ). number_of p (place_of t b)) 0 (memory_blocks p) k k x inside (omega arith)) ∙ is)
 
   looked_by-zeros : (image : List Block) (zeros : Bool) → tables_in p (slot_in p image) ≡ t
-      → Contains (1 ∷ (if zeros then 1 ∷ [] else 0 ∷ 1 ∷ (slot_numbers p (block_at image 1) ++ memory_numbers p (tables_in p (slot_in p image))))) x
+      → Contains (1 ∷ (if zeros then 1 ∷ [] else 0 ∷ 1 ∷ (slot_places (dual_layouts p) (block_at image 1) ++ memory_numbers p (tables_in p (slot_in p image))))) x
       → ApartOrMemory p t x
   looked_by-zeros image true is inside = elim (first_or_rest x 1 (1 ∷ []) inside) as (λ _. ApartOrMemory p t x) [
     | inl e ↦ inl (inl (omega (arith, e)))
@@ -63,7 +66,7 @@ module _ (p : Parameters) (t : Tables) (x : ℕ) where
     ]
   ]
   looked_by-zeros image false is inside =
-      let slots : List ℕ = slot_numbers p (block_at image 1) in
+      let slots : List ℕ = slot_places (dual_layouts p) (block_at image 1) in
       let memory : List ℕ = memory_numbers p (tables_in p (slot_in p image)) in
       elim (first_or_rest x 1 (0 ∷ 1 ∷ (slots ++ memory)) inside) as (λ _. ApartOrMemory p t x) [
         | inl e ↦ inl (inl (omega (arith, e)))
@@ -72,7 +75,7 @@ module _ (p : Parameters) (t : Tables) (x : ℕ) where
           | inr third ↦ elim (first_or_rest x 1 (slots ++ memory) third) as (λ _. ApartOrMemory p t x) [
             | inl e ↦ inl (inl (omega (arith, e)))
             | inr behind ↦ elim (Contains-append_cases slots memory x behind) as (λ _. ApartOrMemory p t x) [
-              | inl a ↦ inl (in_slot (version_of p (block_at image 1)) (epoch_of (block_at image 1) % 2) (omega arith) a)
+              | inl a ↦ inl (in_slot (version_of scheme_number p (block_at image 1)) (epoch_of (block_at image 1) % 2) (omega arith) a)
               | inr b ↦ inr (in_memory (subst (λ (u : Tables). Contains (memory_numbers p u) x) is b))
             ]
           ]
@@ -80,12 +83,14 @@ module _ (p : Parameters) (t : Tables) (x : ℕ) where
       ]
 
 pub looked_cases : (p : Parameters) (image : List Block) (version : LayoutVersion) (epoch : ℕ) (t : Tables) (x : ℕ) → IsToldBy p image version epoch t
-    → Contains (1 ∷ looked p image) x → ApartOrMemory p t x
+    → Contains (1 ∷ looked_by (dual_layouts p) image) x → ApartOrMemory p t x
+unfolding looked_by
 looked_cases p image version epoch t x told inside = looked_by-zeros p t x image (is_zero (block_at image 1)) told.tables inside
 
 -- so what keeps both checkpoints of the controller spares the committed one's image
 pub Spares-stays : (s : State) (m : Device) (t : State) (n : Device) (image : List Block) (version : LayoutVersion) (epoch : ℕ)
-    → AreSoundTables s → Stays s m t n → IsToldBy s.p image version epoch (tables0 s) → Spares (1 ∷ looked s.p image) m n
+    → AreSoundTables s → Stays s m t n → IsToldBy s.p image version epoch (tables0 s)
+    → Spares (1 ∷ looked_by (dual_layouts s.p) image) m n
 Spares-stays s m t n image version epoch tables stays told = record {
   as_long = stays.as_long;
   no_more = λ x inside. (elim (looked_cases s.p image version epoch (tables0 s) x told inside) as (λ _. NoMoreAt x m n) [
@@ -98,7 +103,8 @@ Spares-stays s m t n image version epoch tables stays told = record {
 
 -- and with every block copied and written, that of the one under way
 pub Spares-stays_next : (s : State) (m : Device) (t : State) (n : Device) (image : List Block) (version : LayoutVersion) (epoch : ℕ)
-    → AreSoundTables s → Stays s m t n → AreCopied s → IsToldBy s.p image version epoch (tables1 s) → Spares (1 ∷ looked s.p image) m n
+    → AreSoundTables s → Stays s m t n → AreCopied s → IsToldBy s.p image version epoch (tables1 s)
+    → Spares (1 ∷ looked_by (dual_layouts s.p) image) m n
 Spares-stays_next s m t n image version epoch tables stays copied told = record {
   as_long = stays.as_long;
   no_more = λ x inside. (elim (looked_cases s.p image version epoch (tables1 s) x told inside) as (λ _. NoMoreAt x m n) [

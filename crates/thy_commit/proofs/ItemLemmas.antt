@@ -8,7 +8,7 @@ use Rattle.thy_base.proofs.DeviceLemmas.{newest-written_to_other}
 use Rattle.thy_base.proofs.PlaceLemmas.{between_slots}
 use Rattle.thy_place.specs.Devices.{devices_of}
 use Rattle.thy_place.proofs.PlaceLemmas.{ReadsTheSame-settled}
-use Rattle.thy_record.specs.Commit.{commit_of}
+use Rattle.thy_layout.specs.Commit.{commit_of}
 use Rattle.thy_record.proofs.IssuingLemmas.{slot_behind}
 use Rattle.thy_cell.specs.declared.cell.Cell.{Cell}
 use Rattle.thy_cell.specs.Cells.{seat_of, frame_at, penult, target, last, work}

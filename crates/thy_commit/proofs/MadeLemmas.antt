@@ -11,8 +11,9 @@ use Rattle.thy_base.proofs.DeviceLemmas.{newest-written_to_other, newest-settled
 use Rattle.thy_place.specs.Devices.{devices_of, written_at}
 use Rattle.thy_crash.proofs.SavedLemmas.{next_image-commit}
 use Rattle.thy_isa.specs.OnBlocks.{state_from}
-use Rattle.thy_record.specs.Commit.{commit_of}
-use Rattle.thy_record.specs.Header.{header_fault}
+use Rattle.thy_layout.specs.Commit.{commit_of}
+use Rattle.thy_layout.specs.Header.{header_fault}
+use Rattle.thy_record.specs.Number.{scheme_number}
 use Rattle.thy_cell.specs.Cells.{seat_of, frame_at, target, last}
 use Rattle.thy_cell.specs.Checkpoint.{CommitMoves}
 use Rattle.thy_cell.specs.BetweenCheckpoints.{CopyKeeps, PageWriteKeeps, PageWriteKeepsOthers}
@@ -51,7 +52,7 @@ module _ (o : Origin) (e : Progress) (s : State) (m : Device) (c : Checkpoints) 
     recordable = made.recordable;
     state_is = ap (state_from o.geometry e.cpu) same ∙ made.state_is;
     counted = made.counted;
-    header = ap (λ (b : Block). header_fault b o.geometry true) header ∙ made.header;
+    header = ap (λ (b : Block). header_fault scheme_number b o.geometry true) header ∙ made.header;
     commit = commit;
   }
 

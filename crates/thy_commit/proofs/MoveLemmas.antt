@@ -11,13 +11,12 @@ use Rattle.thy_crash.specs.Fixed.{Reads}
 use Rattle.thy_crash.specs.Saved.{Saved, Kept, IsIssued, next_image, Ready, InDoubt}
 use Rattle.thy_crash.specs.Spares.{Spares}
 use Rattle.thy_crash.proofs.SparesLemmas.{Spares-written, Spares-failed, Spares-failed_to_write}
-use Rattle.thy_record.specs.Commit.{commit_of}
-use Rattle.thy_record.specs.Decoded.{At}
-use Rattle.thy_record.specs.Images.{looked}
+use Rattle.thy_layout.specs.Commit.{commit_of}
+use Rattle.thy_layout.specs.Decoded.{At}
 use Rattle.thy_record.specs.Issuing.{SlotBlock, IsToldBy}
-use Rattle.thy_protocol.specs.DualParts.{IsIssuing, IsIssuedCheckpoint}
+use Rattle.thy_record.specs.DualParts.{IsIssuing, IsIssuedCheckpoint}
 use Rattle.thy_record.proofs.IssuingLemmas.{free_not_looked}
-use Rattle.thy_protocol.proofs.DualPartsLemmas.{issued_decodes}
+use Rattle.thy_record.proofs.DualPartsLemmas.{issued_decodes}
 use Rattle.thy_view.specs.Origin.{Origin, at}
 use Rattle.thy_view.specs.Safe.{ceiling}
 use Rattle.thy_cell.specs.BetweenCheckpoints.{CopyKeeps, PageWriteKeeps, PageWriteKeepsOthers}
@@ -29,10 +28,9 @@ use Rattle.thy_control.specs.Stays.{Stays}
 use Rattle.thy_control.proofs.CopyLemmas.{IsNext-entry, Stays-copied, Stays-not_copied}
 use Rattle.thy_control.proofs.IssueLemmas.{IsDue-entry, Stays-issued, Stays-not_issued}
 use Rattle.thy_protocol.specs.Keeps.{IsOf}
-use Rattle.thy_protocol.specs.Layout.{looked_by}
+use Rattle.thy_layout.specs.Layout.{looked_by}
 use Rattle.thy_protocol.specs.Moves.{standing, Move, Goes, Readies, Commits, Confirms}
-use Rattle.thy_protocol.proofs.DualLayoutsLemmas.{looked_by-dual_layouts}
-use Rattle.thy_protocol.specs.DualLayouts.{layout_of}
+use Rattle.thy_record.specs.DualLayouts.{dual_layouts, layout_of}
 use Rattle.thy_commit.specs.declared.stage.CheckpointStage.{CheckpointStage}
 use Rattle.thy_commit.specs.declared.stage.CheckpointStage.TheVariants.{Nothing, Copies, Pages, Slot, Settle, Commit, Confirm}
 use Rattle.thy_commit.specs.Items.{Item, SlotItem, item, is_under_way, copy_or, page_or_slot, page_item, next_after}
@@ -45,14 +43,9 @@ use Rattle.thy_commit.proofs.CountLemmas.{lasts_read_back, length-lasts}
 use Rattle.thy_commit.proofs.GuardLemmas.{Spares-stays, Spares-stays_next, Spares-two}
 use Rattle.thy_commit.proofs.DoneLemmas.{AreCopied-done}
 
--- the layout looks where images of the run look
-spares-layout : (o : Origin) (before : List Block) (m n : Device) → Spares (1 ∷ looked o.geometry before) m n
-    → Spares (1 ∷ looked_by (layout_of o) before) m n
-spares-layout o before m n h = subst (λ (xs : List ℕ). Spares (1 ∷ xs) m n) (sym (looked_by-dual_layouts o.geometry ceiling before)) h
-
-goes : (o : Origin) (c : Checkpoints) (m n : Device) → Spares (1 ∷ looked o.geometry c.before) m n
+goes : (o : Origin) (c : Checkpoints) (m n : Device) → Spares (1 ∷ looked_by (layout_of o) c.before) m n
     → Move o (layout_of o) (standing m (Kept c.before) c.kept c.sealed) (standing n (Kept c.before) c.kept c.sealed)
-goes o c m n h = Goes (Kept c.before) c.kept c.sealed m n (spares-layout o c.before m n h)
+goes o c m n h = Goes (Kept c.before) c.kept c.sealed m n h
 
 -- before the first barrier
 slot-kept : (k : ℕ) (more : Bool) (c : Checkpoints) → saved_at (if more then Slot (k + 1) else Settle) c ≡ Kept c.before
@@ -65,7 +58,7 @@ goes-stays : (o : Origin) (e : Progress) (s : State) (m : Device) (t : State) (n
     → Move o (layout_of o) (standing m (Kept c.before) c.kept c.sealed) (standing n (Kept c.before) c.kept c.sealed)
 goes-stays o e s m t n c tables same stays kept =
     let p : s.p ≡ o.geometry = same ∙ kept.geometry in
-    goes o c m n (subst (λ (q : Parameters). Spares (1 ∷ looked q c.before) m n) p
+    goes o c m n (subst (λ (q : Parameters). Spares (1 ∷ looked_by (dual_layouts q) c.before) m n) p
     (Spares-stays s m t n c.before VersionTwo kept.epoch tables stays (subst (λ (q : Parameters). IsToldBy q c.before VersionTwo kept.epoch (tables0 s)) (sym p) kept.told)))
 
 module _ (copy : CopyKeeps) (write : PageWriteKeeps) (others : PageWriteKeepsOthers) (o : Origin) (e : Progress) (s : State) (m : Device) (c : Checkpoints)
@@ -83,9 +76,9 @@ module _ (copy : CopyKeeps) (write : PageWriteKeeps) (others : PageWriteKeepsOth
       let number : slot_place o.geometry (e.epoch % 2) + k ≡ slot_number e k = ap (λ (q : Parameters). slot_place q (e.epoch % 2) + k) (sym p) in
       let two : e.epoch % 2 < 2 = omega arith in
       goes o c m (device_after e (SlotItem k) s m)
-      (Spares-written (1 ∷ looked o.geometry c.before) (slot_number e k) (slot_block e s k) m (device_after e (SlotItem k) s m)
+      (Spares-written (1 ∷ looked_by (layout_of o) c.before) (slot_number e k) (slot_block e s k) m (device_after e (SlotItem k) s m)
       (λ there. free_not_looked o.geometry c.before VersionTwo kept.epoch (tables0 s) (SlotBlock (e.epoch % 2) k) kept.told (two, inside) (kept.other_slot way)
-      (subst (λ (x : ℕ). Contains (1 ∷ looked o.geometry c.before) x) (sym number) there)) refl)
+      (subst (λ (x : ℕ). Contains (1 ∷ looked_by (layout_of o) c.before) x) (sym number) there)) refl)
 
   goes-slot : (k : ℕ) → k < slot_blocks e.p → Going (SlotItem k)
   goes-slot k l framed =
@@ -187,16 +180,8 @@ next_is_told o e s m c tables fits h settle geometry made = by_next e.next settl
 
 -- ---- calls in between
 
--- what spares the places of both images spares the places of the two
-spares-both : (o : Origin) (before next : List Block) (m n : Device) → Spares (1 ∷ looked o.geometry before) m n → Spares (1 ∷ looked o.geometry next) m n
-    → Spares (1 ∷ (looked_by (layout_of o) before ++ looked_by (layout_of o) next)) m n
-spares-both o before next m n first second =
-    let a : Spares (1 ∷ looked_by (layout_of o) before) m n = spares-layout o before m n first in
-    let b : Spares (1 ∷ looked_by (layout_of o) next) m n = spares-layout o next m n second in
-    Spares-two (looked_by (layout_of o) before) (looked_by (layout_of o) next) m n a b
-
-goes-all : (o : Origin) (c : Checkpoints) (m n : Device) (q : CheckpointStage) → Spares (1 ∷ looked o.geometry c.before) m n
-    → (is_settled q ≡ true → Spares (1 ∷ looked o.geometry c.next) m n)
+goes-all : (o : Origin) (c : Checkpoints) (m n : Device) (q : CheckpointStage) → Spares (1 ∷ looked_by (layout_of o) c.before) m n
+    → (is_settled q ≡ true → Spares (1 ∷ looked_by (layout_of o) c.next) m n)
     → Move o (layout_of o) (standing m (saved_at q c) c.kept c.sealed) (standing n (saved_at q c) c.kept c.sealed)
 goes-all o c m n Nothing first second = goes o c m n first
 goes-all o c m n Copies first second = goes o c m n first
@@ -204,9 +189,9 @@ goes-all o c m n Pages first second = goes o c m n first
 goes-all o c m n (Slot k) first second = goes o c m n first
 goes-all o c m n Settle first second = goes o c m n first
 goes-all o c m n Commit first second =
-    Goes (Ready c.before c.next) c.kept c.sealed m n (spares-both o c.before c.next m n first (second refl))
+    Goes (Ready c.before c.next) c.kept c.sealed m n (Spares-two (looked_by (layout_of o) c.before) (looked_by (layout_of o) c.next) m n first (second refl))
 goes-all o c m n Confirm first second =
-    Goes (InDoubt c.before c.next) c.kept c.sealed m n (spares-both o c.before c.next m n first (second refl))
+    Goes (InDoubt c.before c.next) c.kept c.sealed m n (Spares-two (looked_by (layout_of o) c.before) (looked_by (layout_of o) c.next) m n first (second refl))
 
 written-done : (q : CheckpointStage) (s : State) → is_settled q ≡ true → IsPast q s → IsDone s
 written-done Nothing s h past = cc
@@ -221,9 +206,9 @@ pub stays_move : StaysMove
 stays_move o e s m t n c tables fits stays told =
     let p : s.p ≡ o.geometry = fits.same_p ∙ told.kept.geometry in
     goes-all o c m n e.next
-    (subst (λ (q : Parameters). Spares (1 ∷ looked q c.before) m n) p
+    (subst (λ (q : Parameters). Spares (1 ∷ looked_by (dual_layouts q) c.before) m n) p
     (Spares-stays s m t n c.before VersionTwo told.kept.epoch tables stays (subst (λ (q : Parameters). IsToldBy q c.before VersionTwo told.kept.epoch (tables0 s)) (sym p) told.kept.told)))
-    (λ written. subst (λ (q : Parameters). Spares (1 ∷ looked q c.next) m n) p
+    (λ written. subst (λ (q : Parameters). Spares (1 ∷ looked_by (dual_layouts q) c.next) m n) p
     (Spares-stays_next s m t n c.next VersionTwo e.epoch tables stays (AreCopied-done s (written-done e.next s written fits.past))
     (subst (λ (q : Parameters). IsToldBy q c.next VersionTwo e.epoch (tables1 s)) (sym p) (told.next written).told)))
 
@@ -246,9 +231,9 @@ module _ (o : Origin) (e : Progress) (s : State) (m n : Device) (c : Checkpoints
       let number : slot_place o.geometry (e.epoch % 2) + k ≡ slot_number e k = ap (λ (q : Parameters). slot_place q (e.epoch % 2) + k) (sym p) in
       let two : e.epoch % 2 < 2 = omega arith in
       goes o c m n
-      (Spares-failed_to_write (1 ∷ looked o.geometry c.before) (slot_number e k) (slot_block e s k) m n
+      (Spares-failed_to_write (1 ∷ looked_by (layout_of o) c.before) (slot_number e k) (slot_block e s k) m n
       (λ there. free_not_looked o.geometry c.before VersionTwo kept.epoch (tables0 s) (SlotBlock (e.epoch % 2) k) kept.told (two, inside) other
-      (subst (λ (x : ℕ). Contains (1 ∷ looked o.geometry c.before) x) (sym number) there)) failed framed)
+      (subst (λ (x : ℕ). Contains (1 ∷ looked_by (layout_of o) c.before) x) (sym number) there)) failed framed)
 
   fails-page : (x : Option ℕ) → next_page s ≡ x → HasOther → Failing (page_or_slot x)
   fails-page None h other failed = fails-slot 0 (omega arith) other failed
@@ -269,7 +254,7 @@ module _ (o : Origin) (e : Progress) (s : State) (m n : Device) (c : Checkpoints
   fails-next Copies inside failed other made = fails-copy (next_copy s) refl (other refl) failed
   fails-next Pages inside failed other made = fails-page (next_page s) refl (other refl) failed
   fails-next (Slot k) inside failed other made = fails-slot k (inside k refl) (other refl) failed
-  fails-next Settle inside failed other made = goes o c m n (Spares-failed (1 ∷ looked o.geometry c.before) m n failed framed)
+  fails-next Settle inside failed other made = goes o c m n (Spares-failed (1 ∷ looked_by (layout_of o) c.before) m n failed framed)
   fails-next Commit inside failed other made =
       let has : HasNext e c = made refl in
       let write : HasFailedToWrite 1 (block_at c.next 1) m n = subst (λ (b : Block). HasFailedToWrite 1 b m n) (sym has.commit) failed in

@@ -24,8 +24,9 @@ use Rattle.thy_control.proofs.MovedTablesLemmas.{CommitsTables-committed, tables
 use Rattle.thy_control.proofs.StayLemmas.{map-block, map-page}
 use Rattle.thy_protocol.specs.Keeps.{IsOf, Tells, TellsAll}
 use Rattle.thy_protocol.specs.Moves.{Standing, standing, Move, Seals}
-use Rattle.thy_protocol.proofs.LayoutLemmas.{decode_by-whole_back}
-use Rattle.thy_protocol.specs.DualLayouts.{layout_of}
+use Rattle.thy_layout.proofs.LayoutLemmas.{decode_by-whole_back}
+use Rattle.thy_view.specs.Safe.{ceiling}
+use Rattle.thy_record.specs.DualLayouts.{layout_of}
 use Rattle.thy_base.specs.declared.mark.Mark.{Mark}
 use Rattle.thy_commit.specs.declared.stage.CheckpointStage.{CheckpointStage}
 use Rattle.thy_commit.specs.declared.stage.CheckpointStage.TheVariants.{Nothing, Copies, Pages, Slot, Settle, Commit, Confirm}
@@ -208,7 +209,7 @@ module _ (o : Origin) (e : Progress) (s : State) (n : Device) (c : Checkpoints) 
       let all : TellsAll o (layout_of o) (saved_at e.next c) c.kept c.sealed = seal.keeping.told in
       let tells : Tells o (layout_of o) c.before c.kept = subst (λ (x : Saved). TellsAll o (layout_of o) x c.kept c.sealed) idle all in
       let is : IsOf o (layout_of o) c.before seal.done = subst (λ (x : Option Mark). Tells o (layout_of o) c.before x) seal.kept tells in
-      let whole = decode_by-whole_back (layout_of o) c.before seal.done.epoch (at o seal.done.count) is.decodes in
+      let whole = decode_by-whole_back (layout_of o) ceiling c.before seal.done.epoch (at o seal.done.count) is.decodes in
       sym told.kept.told.of_epoch ∙ whole.of_epoch
 
   told-sealed : (cpu : CpuState) → AreTold o (begun cpu mark.epoch e) (sealed_state s) (sealing mark c)

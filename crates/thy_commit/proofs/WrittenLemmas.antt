@@ -8,11 +8,11 @@ use Rattle.thy_base.specs.Places.{slot_blocks, slot_place, image_blocks, IsApart
 use Rattle.thy_base.proofs.DeviceLemmas.{length-written_to, length-settled}
 use Rattle.thy_crash.specs.Fixed.{Reads, ReadsFirst}
 use Rattle.thy_crash.proofs.FixedLemmas.{Reads-written, Reads-settled, ReadsFirst-elsewhere}
-use Rattle.thy_record.specs.Commit.{commit_of}
+use Rattle.thy_layout.specs.Commit.{commit_of}
 use Rattle.thy_record.specs.Issuing.{memory_read}
 use Rattle.thy_record.specs.Slots.{AreCounts, slot_block_of}
 use Rattle.thy_record.specs.Tables.{Tables, IsTables}
-use Rattle.thy_protocol.proofs.DualPartsLemmas.{slot_grows}
+use Rattle.thy_record.proofs.DualPartsLemmas.{slot_grows}
 use Rattle.thy_control.specs.State.{State, AreSoundTables, IsSized}
 use Rattle.thy_control.specs.CheckpointTables.{tables1}
 use Rattle.thy_control.specs.Copies.{next_copy}

@@ -1,8 +1,8 @@
 -- Every item is one action on the NVM, as a cycle that did it has to be.
 use Rattle.std.specs.Prelude.{ℕ}
 use Rattle.thy_base.specs.Device.{Device}
-use Rattle.thy_record.specs.declared.engine_step.EngineStep.{EngineStep}
-use Rattle.thy_record.specs.declared.engine_step.EngineStep.TheVariants.{Committed as EngineCommitted}
+use Rattle.thy_layout.specs.declared.engine_step.EngineStep.{EngineStep}
+use Rattle.thy_layout.specs.declared.engine_step.EngineStep.TheVariants.{Committed as EngineCommitted}
 use Rattle.thy_view.specs.declared.did.Did.{Did}
 use Rattle.thy_view.specs.declared.did.Did.TheVariants.{Engine, Committed}
 use Rattle.thy_view.specs.Action.{Acts, ActionFailed}

@@ -8,7 +8,7 @@ use Rattle.thy_control.specs.State.{State, AreSoundTables}
 use Rattle.thy_control.specs.Seal.{sealed_state}
 use Rattle.thy_control.specs.Stays.{Stays}
 use Rattle.thy_protocol.specs.Moves.{IsKeeping, Move}
-use Rattle.thy_protocol.specs.DualLayouts.{layout_of}
+use Rattle.thy_record.specs.DualLayouts.{layout_of}
 use Rattle.thy_commit.specs.Items.{is_under_way}
 use Rattle.thy_commit.specs.Progress.{Progress, Fits, begun, item_of, engine_next, state_next}
 use Rattle.thy_commit.specs.Written.{Stands}

@@ -4,8 +4,9 @@ use Rattle.thy_base.specs.declared.mark.Mark.{Mark}
 use Rattle.thy_base.specs.Device.{Device, newest}
 use Rattle.thy_isa.specs.declared.state.CpuState.{CpuState}
 use Rattle.thy_isa.specs.OnBlocks.{state_from}
-use Rattle.thy_record.specs.Cpu.{IsRecordable}
-use Rattle.thy_record.specs.Header.{header_fault}
+use Rattle.thy_layout.specs.Cpu.{IsRecordable}
+use Rattle.thy_layout.specs.Header.{header_fault}
+use Rattle.thy_record.specs.Number.{scheme_number}
 use Rattle.thy_view.specs.Origin.{Origin, at}
 use Rattle.thy_view.specs.Safe.{ceiling}
 use Rattle.thy_control.specs.State.{State, AreSoundTables, IsSized}
@@ -44,5 +45,5 @@ abbrev pub SealMakes : Type 0
 SealMakes =
     (o : Origin) (e : Progress) (s : State) (n : Device) (c : Checkpoints) (cpu : CpuState) (mark : Mark)
     → IsSized s n → n.down ≡ false → Seals s (sealed_state s) n → IsMomentOf o s n cpu mark
-    → header_fault (newest n 0) o.geometry true ≡ None
+    → header_fault scheme_number (newest n 0) o.geometry true ≡ None
     → IsMadeFor o (begun cpu mark.epoch e) (sealed_state s) n (sealing mark c)

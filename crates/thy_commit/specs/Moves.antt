@@ -6,9 +6,10 @@ use Rattle.thy_base.specs.declared.layout_version.LayoutVersion.TheVariants.{Ver
 use Rattle.thy_base.specs.Device.{Device, block_at, newest, IsFramed}
 use Rattle.thy_crash.specs.Saved.{Saved, Kept, Ready, InDoubt, next_image}
 use Rattle.thy_isa.specs.OnBlocks.{state_from}
-use Rattle.thy_record.specs.Commit.{commit_of}
-use Rattle.thy_record.specs.Cpu.{IsRecordable}
-use Rattle.thy_record.specs.Header.{header_fault}
+use Rattle.thy_layout.specs.Commit.{commit_of}
+use Rattle.thy_layout.specs.Cpu.{IsRecordable}
+use Rattle.thy_layout.specs.Header.{header_fault}
+use Rattle.thy_record.specs.Number.{scheme_number}
 use Rattle.thy_record.specs.Images.{slot_in}
 use Rattle.thy_record.specs.Issuing.{IsToldBy}
 use Rattle.thy_record.specs.Slots.{counts_in}
@@ -18,7 +19,7 @@ use Rattle.thy_control.specs.State.{State, AreSoundTables, IsSized}
 use Rattle.thy_control.specs.CheckpointTables.{tables0, tables1}
 use Rattle.thy_control.specs.Stays.{HoldAll, Stays}
 use Rattle.thy_protocol.specs.Moves.{Standing, standing, Move}
-use Rattle.thy_protocol.specs.DualLayouts.{layout_of}
+use Rattle.thy_record.specs.DualLayouts.{layout_of}
 use Rattle.thy_commit.specs.declared.stage.CheckpointStage.{CheckpointStage}
 use Rattle.thy_commit.specs.declared.stage.CheckpointStage.TheVariants.{Settle, Commit, Confirm}
 use Rattle.thy_commit.specs.Items.{Item, SettleItem, ConfirmItem, is_under_way}
@@ -89,7 +90,7 @@ pub record IsMadeFor (o : Origin) (e : Progress) (s : State) (n : Device) (c : C
   pub recordable : IsRecordable o.geometry ceiling e.cpu
   pub state_is : state_from o.geometry e.cpu (lasts s n) ≡ at o mark.count
   pub counted : (at o mark.count).count ≡ mark.count
-  pub header : header_fault (newest n 0) o.geometry true ≡ None
+  pub header : header_fault scheme_number (newest n 0) o.geometry true ≡ None
   pub commit : is_settled e.next ≡ true → block_at c.next 1 ≡ commit_of e.epoch
 
 -- so every item is a move

@@ -8,7 +8,7 @@ use Rattle.thy_base.specs.Device.{Device, written_to, settled, HasFailed, HasFai
 use Rattle.thy_base.specs.Places.{slot_blocks, slot_place}
 use Rattle.thy_isa.specs.declared.state.CpuState.{CpuState}
 use Rattle.thy_isa.specs.Step.{zero_cpu}
-use Rattle.thy_record.specs.Commit.{commit_of}
+use Rattle.thy_layout.specs.Commit.{commit_of}
 use Rattle.thy_record.specs.Slots.{slot_block_of}
 use Rattle.thy_switch.specs.LastBlocks.{last_block_of}
 use Rattle.thy_control.specs.State.{State}

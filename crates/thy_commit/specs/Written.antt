@@ -3,8 +3,8 @@ use Rattle.std.specs.Prelude.{◌≡◌, ℕ, false}
 use Rattle.thy_base.specs.Device.{Device}
 use Rattle.thy_base.specs.Places.{slot_blocks}
 use Rattle.thy_crash.specs.Fixed.{Reads}
-use Rattle.thy_record.specs.Commit.{commit_of}
-use Rattle.thy_protocol.specs.DualParts.{IsIssuing}
+use Rattle.thy_layout.specs.Commit.{commit_of}
+use Rattle.thy_record.specs.DualParts.{IsIssuing}
 use Rattle.thy_switch.specs.LastBlocks.{last_block_of}
 use Rattle.thy_control.specs.State.{State, AreSoundTables, IsSized}
 use Rattle.thy_control.specs.CheckpointTables.{tables1}

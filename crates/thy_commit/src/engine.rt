@@ -2,8 +2,8 @@
 ghost use Rattle.std.specs.Prelude.{◌≡◌, ◌<◌, false, true, length, nat_lt, if◌then◌else◌, IfOk, OnOk, OnErr};
 ghost use Rattle.thy_base.specs.Device.{IsFramed, CountsFault, HasFailed, HasFailedToWrite, settled, written_to};
 ghost use Rattle.thy_base.specs.Places.{record_blocks};
-ghost use Rattle.thy_record.specs.Commit.{commit_of};
-ghost use Rattle.thy_record.specs.declared.engine_step.EngineStep.TheVariants.{StateBlock as IsStateBlock, TableBlock as IsTableBlock};
+ghost use Rattle.thy_layout.specs.Commit.{commit_of};
+ghost use Rattle.thy_layout.specs.declared.engine_step.EngineStep.TheVariants.{StateBlock as IsStateBlock, TableBlock as IsTableBlock};
 ghost use Rattle.thy_control.specs.Seal.{sealed_state};
 ghost use Rattle.thy_control.specs.State.{State, IsSized};
 
@@ -12,7 +12,7 @@ use std::marker::Model;
 use thy_base::{Block, Geometry, Nvm, NvmError};
 use thy_control::Control;
 use thy_isa::CpuState;
-use thy_record::{EngineStep, commit_block, cpu_block};
+use thy_layout::{EngineStep, commit_block, cpu_block};
 
 /// The checkpoint engine. Each step makes of the NVM what one action makes of it.
 #[derive(Drop)]

@@ -7,7 +7,8 @@ use Rattle.thy_base.specs.declared.config.Parameters.{Parameters}
 use Rattle.thy_base.specs.Geometry.{memory_blocks}
 use Rattle.thy_base.specs.Store.{page_of}
 use Rattle.thy_dram.specs.Contents.{Contents}
-use Rattle.thy_record.specs.Tables.{Lists, IsTables, entry_at as table_entry}
+use Rattle.thy_layout.specs.Entries.{Lists, entry_at as table_entry}
+use Rattle.thy_record.specs.Tables.{IsTables}
 use Rattle.thy_table.specs.Listing.{Listing, IsListing, entry_at, lists, place_of, with_entry}
 use Rattle.thy_table.proofs.IndexLemmas.{lists-some}
 use Rattle.thy_table.proofs.ListingLaws.{entry_at-with_same, entry_at-with_other, place_of-none, IsListing-put, place_of-put, place_of-put_other}

@@ -4,8 +4,9 @@ use Rattle.std.proofs.lemmas.Bool.{cases_lt}
 use Rattle.std.proofs.lemmas.List.{length-append, length-drop, length-take-le, length-take, get_or_past, get_or-take, get_or-drop, get_or_append_left, get_or-append-add, ext_get_or}
 use Rattle.thy_base.specs.declared.config.Parameters.{Parameters}
 use Rattle.thy_base.specs.Geometry.{IsInRange}
-use Rattle.thy_record.specs.Tables.{Tables, entry_at, Lists, IsTables}
-use Rattle.thy_record.specs.TableBlocks.{HaveWords}
+use Rattle.thy_layout.specs.Entries.{entry_at, Lists}
+use Rattle.thy_record.specs.Tables.{Tables, IsTables}
+use Rattle.thy_layout.specs.Entries.{HaveWords}
 use Rattle.thy_control.specs.TableBlocks.{entries_of}
 
 -- the entries of a block of tables are eight

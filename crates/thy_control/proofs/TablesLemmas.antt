@@ -7,8 +7,9 @@ use Rattle.thy_base.specs.Geometry.{memory_blocks}
 use Rattle.thy_base.specs.Store.{page_of}
 use Rattle.thy_table.specs.Listing.{Listing, IsListing, entry_at, lists, place_of}
 use Rattle.thy_table.proofs.IndexLemmas.{lists-key}
-use Rattle.thy_record.specs.Tables.{Tables, Lists, entry_of, place_by_entries, place_of as place_in, IsTables}
-use Rattle.thy_record.proofs.EntryLemmas.{entry_of-absent, entry_of-listed}
+use Rattle.thy_layout.specs.Entries.{Lists, entry_of}
+use Rattle.thy_record.specs.Tables.{Tables, place_by_entries, place_of as place_in, IsTables}
+use Rattle.thy_layout.proofs.EntryLemmas.{entry_of-absent, entry_of-listed}
 use Rattle.thy_table.specs.declared.block_entry.BttEntry.{BttEntry}
 use Rattle.thy_table.specs.declared.block_entry.Version.{Version}
 use Rattle.thy_table.specs.declared.block_entry.Version.TheVariants.{Out, Alt}

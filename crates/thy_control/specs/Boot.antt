@@ -9,7 +9,8 @@ use Rattle.thy_base.specs.Geometry.{memory_blocks}
 use Rattle.thy_base.specs.Places.{number_of}
 use Rattle.thy_base.specs.Store.{page_of}
 use Rattle.thy_dram.specs.Contents.{Contents, written}
-use Rattle.thy_record.specs.Tables.{Tables, IsTables, entry_at as table_entry}
+use Rattle.thy_layout.specs.Entries.{entry_at as table_entry}
+use Rattle.thy_record.specs.Tables.{Tables, IsTables}
 use Rattle.thy_table.specs.Listing.{entry_at, place_of, with_entry}
 use Rattle.thy_table.specs.declared.block_entry.BttEntry.{BttEntry}
 use Rattle.thy_table.specs.declared.page_entry.PttEntry.{PttEntry}

@@ -16,12 +16,13 @@ use Rattle.thy_boot.specs.declared.stage.Stage.TheVariants.{Reads, Loads, Over}
 use Rattle.thy_boot.specs.declared.stage.ReadStage.TheVariants.{Unread, Header, Slot, Fills, Refusing}
 use Rattle.thy_boot.specs.declared.stage.End.TheVariants.{Restored, Loaded}
 use Rattle.thy_boot.specs.Boot.{Booting, answer_at, new_boot}
+use Rattle.thy_boot.specs.Filling.{first_by}
 use Rattle.thy_boot.specs.Loads.{issue_action}
 use Rattle.thy_boot.specs.Recovers.{HasReadAt}
 use Rattle.thy_boot.specs.Steps.{Steps, StepsAt}
 use Rattle.thy_boot.proofs.ReadLemmas.{HasRead-new}
 use Rattle.thy_isa.specs.declared.state.Status.{Status}
-use Rattle.thy_record.specs.Cpu.{status_tag, status_value, is_status, IsOtherRecordable}
+use Rattle.thy_layout.specs.Cpu.{status_tag, status_value, is_status, IsOtherRecordable}
 use Rattle.thy_boot.specs.Start.{CanStart}
 use Rattle.thy_recover.specs.Filling.{filling_dual}
 use Rattle.thy_recover.proofs.LiveLemmas.{IsFresh-new}
@@ -38,11 +39,11 @@ idle-at : (stage : Stage) (n : Device) (b : Booting) (c : State)
     → is_refused (answer_at filling_dual stage b) ≡ false → HasReadAt filling_dual stage n b c → c.under_way ≡ false
 idle-at (Reads Unread) n b c told read = read.fresh.booting.idle
 idle-at (Reads Header) n b c told read = read.0.fresh.booting.idle
-idle-at (Reads (Slot next)) n b c told read = read.0.taken.booting.idle
+idle-at (Reads (Slot next)) n b c told read = read.0.fresh.booting.idle
 idle-at (Reads (Fills k)) n b c told read = read.0.lists.booting.idle
 idle-at (Reads (Refusing bad)) n b c told read = cc
 idle-at (Loads issue) n b c told read = read.0.fresh.booting.idle
-idle-at (Over Restored) n b c told read = read.lists.booting.idle
+idle-at (Over Restored) n b c told read = read.listed.lists.booting.idle
 idle-at (Over Loaded) n b c told read = absurd read
 
 -- a step leaves the NVM up or down as it was, and the geometry
@@ -51,7 +52,7 @@ pub down-step : (s : Plain) (n : Device) (b : Booting) (c : State) (m : Device) 
 down-step s n b c m d e steps = by_stage b.stage steps where
   by_stage : (q : Stage) → StepsAt filling_dual q s n b c m d e → m.down ≡ n.down
   by_stage (Reads r) on = ap (λ (x : Device). x.down) on.device
-  by_stage (Loads issue) on = ap (λ (x : Device). x.down) on.device ∙ down-after (issue_action (filling_dual.first b.p s) issue) n
+  by_stage (Loads issue) on = ap (λ (x : Device). x.down) on.device ∙ down-after (issue_action (first_by filling_dual b.p s) issue) n
   by_stage (Over end) on = absurd on
 
 pub same-step : (s : Plain) (n : Device) (b : Booting) (c : State) (m : Device) (d : Booting) (e : State)

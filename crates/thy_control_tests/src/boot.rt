@@ -16,7 +16,7 @@ use thy_dram::Dram;
 use thy_isa::{CpuState, MachState, Regs, Status};
 use thy_migrate::DualFills;
 use thy_nvm::MemNvm;
-use thy_record::Start;
+use thy_layout::Start;
 use thy_view::BootStep;
 
 /// The least memory: seven pages of the program and one of the console.

@@ -12,7 +12,7 @@ use std::alloc::Global;
 use std::process::Abort;
 use thy_base::{Block, Bytes, Parameters, SchemeName, Stored};
 use thy_isa::{MachState, Regs, Status};
-use thy_record::{EngineStep, Start};
+use thy_layout::{EngineStep, Start};
 use thy_view::BootStep;
 
 /// The least memory: seven pages of the program and one of the console. A page is stored to densely by more than 22 stores

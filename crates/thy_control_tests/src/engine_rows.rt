@@ -7,7 +7,7 @@ use crate::support::memory::Memory;
 use std::alloc::Global;
 use std::process::Abort;
 use thy_base::{Block, Parameters, SchemeName, Stored};
-use thy_record::EngineStep;
+use thy_layout::EngineStep;
 
 /// The least memory, with a block table of so many entries. A page is stored to densely by more than 22 stores of an
 /// epoch, and no longer by fewer than 16. A slot has 7 blocks, and one for each 8 entries of the block table.

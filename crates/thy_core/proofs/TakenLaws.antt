@@ -2,7 +2,7 @@
 use Rattle.std.proofs.Common.{◌≡◌, ℕ, ◌+◌, ◌<◌, ◌^◌, ◌&&◌, not, true, false, length, refl, sym, ◌∙◌, ap, subst}
 use Rattle.thy_base.specs.declared.mix.Pick.{Pick}
 use Rattle.thy_base.specs.Device.{Device}
-use Rattle.thy_record.specs.declared.start.Start.{Start}
+use Rattle.thy_layout.specs.declared.start.Start.{Start}
 use Rattle.thy_view.specs.declared.did.Did.{Did}
 use Rattle.thy_view.specs.declared.did.Stepped.{Stepped}
 use Rattle.thy_view.specs.declared.view.Phase.{Phase}

@@ -14,7 +14,7 @@ use crate::parts::{Checkpoints, Consoles, MachineParts};
 use thy_base::{Mark, Nvm, NvmError};
 use thy_hart::Hart;
 use thy_isa::{CpuState, MachState, is_running};
-use thy_record::Start;
+use thy_layout::Start;
 use thy_scheme::Scheme;
 use thy_view::{BootStep, Did, Phase};
 

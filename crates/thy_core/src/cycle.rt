@@ -14,7 +14,7 @@ use crate::parts::MachineParts;
 use crate::sealing::prepare;
 use crate::turn::Actor;
 use thy_base::{Nvm, NvmError};
-use thy_record::Start;
+use thy_layout::Start;
 use thy_scheme::Scheme;
 use thy_view::{Did, Stall};
 

@@ -19,7 +19,7 @@ use std::marker::Model;
 use thy_base::{Bytes, Geometry, Nvm, NvmError, Pick};
 use thy_dram::Dram;
 use thy_isa::MachState;
-use thy_record::Start;
+use thy_layout::Start;
 use thy_scheme::Scheme;
 use thy_view::{CoreError, Stepped};
 

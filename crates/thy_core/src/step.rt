@@ -12,7 +12,7 @@ use crate::cycle::cycle;
 use crate::parts::MachineParts;
 use crate::turn::{Actor, turn_now};
 use thy_base::{Nvm, NvmError, Pick};
-use thy_record::Start;
+use thy_layout::Start;
 use thy_scheme::Scheme;
 use thy_view::{Phase, Stall, Stepped};
 

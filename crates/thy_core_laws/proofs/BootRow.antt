@@ -30,6 +30,7 @@ use Rattle.thy_view.specs.CoreStep.{phase_at, CoreStep}
 use Rattle.thy_view.specs.Dram.{LeavesDram}
 use Rattle.thy_view.specs.Pace.{Queues, Boots as Ends, Strides as StridesOn}
 use Rattle.thy_view.specs.Origin.{Origin, StartsFrom, IsOrigin, at, runs_at}
+use Rattle.thy_view.specs.Views.{is_boot}
 use Rattle.thy_view.specs.Work.{Works}
 use Rattle.thy_scheme.specs.SchemeStore.{held_by_scheme}
 use Rattle.thy_scheme.specs.Boots.{IsBootView, IsBooted, BootsOn}
@@ -191,6 +192,10 @@ module _ {S : Type 0} (K : SchemeOf S) (o : Origin) (cycles : ℕ) (m : Machine 
   shown : IsBootView o (K.boot_view o m.scheme n)
   shown = (at.lawful.boot_holds o m.scheme n boots).shown
 
+  -- its view is in the boot
+  not_behind : is_boot (K.boot_view o m.scheme n).phase ≡ false → ⊥
+  not_behind run = let both : true ≡ false = sym (ap is_boot (boots_phase o (K.boot_view o m.scheme n) shown)) ∙ run in cc
+
   blank_on : IsBlank m
   blank_on = let b = at.sound.moment.blank in record {
     agree = b.agree;
@@ -236,7 +241,7 @@ module _ {S : Type 0} (K : SchemeOf S) (o : Origin) (cycles : ℕ) (m : Machine 
           entries = omega (arith, unreserved, clean);
         };
         works = record { done = tt; left = booting_no_more K DidBoot (in_boot o m) (after_boot o GoesOn t (in_boot o m)) n new };
-        dirties = inl (uses_none K (in_boot o m) (after_boot o GoesOn t (in_boot o m)) n new (omega arith) refl);
+        dirties = inl (uses_none K o (in_boot o m) (after_boot o GoesOn t (in_boot o m)) n new (omega arith) refl (λ run. absurd (not_behind run)));
         exhausts = λ moved. absurd (cc);
         read = λ empty. b.read;
         still = λ found r current. b.still found r.done current;
@@ -281,7 +286,7 @@ module _ {S : Type 0} (K : SchemeOf S) (o : Origin) (cycles : ℕ) (m : Machine 
           entries = omega (arith, clean);
         };
         works = works;
-        dirties = inl (uses_none K (in_boot o m) next n new (omega arith) (sym blank.hand));
+        dirties = inl (uses_none K o (in_boot o m) next n new (omega arith) (sym blank.hand) (λ run. absurd (not_behind run)));
         exhausts = λ moved. absurd (other moved);
         read = λ empty. read_in K o next new runs;
         still = λ found r current. still found r.done current;

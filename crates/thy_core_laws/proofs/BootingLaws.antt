@@ -14,6 +14,7 @@ use Rattle.thy_view.specs.CoreStep.{CoreStep}
 use Rattle.thy_view.specs.Dram.{LeavesDram, WritesBlock}
 use Rattle.thy_view.specs.Origin.{Origin}
 use Rattle.thy_view.specs.Pace.{Queues, Boots, Strides}
+use Rattle.thy_view.specs.Views.{is_boot}
 use Rattle.thy_view.specs.Work.{GetsDone, Works}
 use Rattle.thy_view.proofs.ActionLemmas.{acts_by}
 use Rattle.thy_scheme.specs.Scheme.{SchemeOf}
@@ -76,6 +77,8 @@ simulates-booting {S} K o cycles did m n t new at-m phase other up boots small s
     let blank = (sound-boot K o cycles m n at-m.sound phase).blank in
     let none = uncounted o (K.boot_view o t new) (at-m.lawful.boot_holds o t new (record { boots = boots; up = up })).shown in
     let clean : dirty_count m.cache + reserved m.hart.hand ≤ K.free t = omega (arith, blank.clean, ap reserved blank.hand) in
+    let was = uncounted o (K.boot_view o m.scheme n) (holds-boot K at-m.lawful o cycles m n at-m.sound phase).shown in
+    let in_boot : is_boot (view_of K o m n).phase ≡ true = ap (λ (v : View). is_boot v.phase) old-view ∙ ap is_boot was.phase in
     record {
       at_next = record {
         origin = at-m.sound.origin;
@@ -101,7 +104,7 @@ simulates-booting {S} K o cycles did m n t new at-m phase other up boots small s
       };
       works = subst (λ x. Works did (gauge_in K x m n) (gauge_in K x (after_drain t m) new) n new (K.dram m.scheme) (K.dram t)) (sym phase)
           (record { done = done; left = booting_no_more K did m (after_drain t m) n new });
-      dirties = inl (uses_none K m (after_drain t m) n new (omega arith) refl);
+      dirties = inl (uses_none K o m (after_drain t m) n new (omega arith) refl (λ run. absurd (let both : true ≡ false = sym in_boot ∙ run in cc)));
       exhausts = λ e. absurd (other e);
       read = λ e. ap (λ x. has_read_in K x (after_drain t m)) phase ∙ read e;
       still = λ found r current. still found (sym (ap (λ (v : View). v.done) old-view) ∙ r.done) current;

@@ -11,7 +11,7 @@ use Rattle.thy_core_laws.specs.Pace.{flushes_left, hart_left, cycles_left, most_
 use Rattle.thy_core_laws.specs.Rows.{MergeSimulates, PromotionSimulates}
 use Rattle.thy_core_laws.specs.Sound.{SoundRun}
 use Rattle.thy_core_laws.proofs.SealingLaws.{IsOver, over_at}
-use Rattle.thy_core_laws.proofs.KeepsLaws.{run_of, runs_behind, simulates_by, left_on, hart_left_kept, sound_kept, up_after}
+use Rattle.thy_core_laws.proofs.KeepsLaws.{run_of, runs_behind, simulates_by, takes_none, left_on, hart_left_kept, sound_kept, up_after}
 use Rattle.thy_core_laws.proofs.WorkLaws.{number_behind}
 
 pub promotion_simulates : {S : Type 0} (K : SchemeOf S) → PromotionSimulates K
@@ -43,6 +43,7 @@ promotion_simulates {S} K = λ o cycles m n t new at sealing whole p.
           (omega (arith, promoted_was, promoted_is, nearer), p.writes);
       left = left_on K Promoted m n t (m.spent + 1) new p.keeps (λ e. p.owes);
       fewer = omega arith;
+      room = takes_none K m n t new at.lawful p.keeps.held;
       hand = refl;
       exhausts = λ is. absurd (cc);
     })
@@ -84,6 +85,7 @@ merge_simulates {S} K = λ o cycles m n t at sealing whole clean p.
       done = inr p.writes;
       left = left_on K Merged m n t (m.spent + 1) n p.keeps (λ e. p.owes);
       fewer = omega arith;
+      room = takes_none K m n t n at.lawful p.keeps.held;
       hand = refl;
       exhausts = λ is. absurd (cc);
     })

@@ -15,7 +15,7 @@ use Rattle.thy_core_laws.specs.Machine.{Machine}
 use Rattle.thy_core_laws.specs.Rows.{SimulatesCycle, At, NvmDrainSimulates, DramDrainSimulates, BootDrainSimulates, HaltSimulates}
 use Rattle.thy_core_laws.specs.Sound.{SoundRun}
 use Rattle.thy_core_laws.proofs.BootingLaws.{holds-boot, small-boot, simulates-booting}
-use Rattle.thy_core_laws.proofs.KeepsLaws.{run_of, stands, left_kept, left_on, simulates_by, sound_kept}
+use Rattle.thy_core_laws.proofs.KeepsLaws.{run_of, stands, takes_none, left_kept, left_on, simulates_by, sound_kept}
 use Rattle.thy_core_laws.proofs.SmallLaws.{small_step}
 
 -- of a queue that is not empty one write lands
@@ -59,6 +59,7 @@ module _ {S : Type 0} (K : SchemeOf S) (o : Origin) (cycles : ℕ) (m : Machine 
         done = tt;
         left = left_on K NvmDrained m n m.scheme m.spent (drained n) (holds.drained_keeps some) (λ e. holds.drained_owes some);
         fewer = omega arith;
+        room = omega arith;
         hand = refl;
         exhausts = λ is. absurd (cc);
       })
@@ -82,6 +83,7 @@ dram_drain_simulates {S} K = λ o cycles m n t at behind some drains.
       done = tt;
       left = left_on K DramDrained m n t m.spent n drains.keeps (λ e. drains.owes);
       fewer = omega arith;
+      room = takes_none K m n t n at.lawful drains.keeps.held;
       hand = refl;
       exhausts = λ is. absurd (cc);
     })
@@ -115,6 +117,7 @@ halt_simulates {S} K = λ o cycles m n at phase.
       done = tt;
       left = left_on K Nothing m n m.scheme m.spent n (keeps_itself K m.scheme n) (λ e. omega arith);
       fewer = omega arith;
+      room = omega arith;
       hand = refl;
       exhausts = λ is. absurd (cc);
     })

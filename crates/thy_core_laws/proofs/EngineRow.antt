@@ -7,8 +7,8 @@ use Rattle.thy_base.specs.Marks.{mark}
 use Rattle.thy_cache.specs.Contents.{Contents}
 use Rattle.thy_hart.specs.HartState.{HartState}
 use Rattle.thy_hart.specs.Moments.{moment, moves_left}
-use Rattle.thy_record.specs.declared.engine_step.EngineStep.{EngineStep}
-use Rattle.thy_record.specs.declared.engine_step.EngineStep.TheVariants.{Idle, Copied, PageBlock, StateBlock, TableBlock, Barrier, CommitWritten, Committed}
+use Rattle.thy_layout.specs.declared.engine_step.EngineStep.{EngineStep}
+use Rattle.thy_layout.specs.declared.engine_step.EngineStep.TheVariants.{Idle, Copied, PageBlock, StateBlock, TableBlock, Barrier, CommitWritten, Committed}
 use Rattle.thy_view.specs.declared.did.Did.{Did}
 use Rattle.thy_view.specs.declared.did.Did.TheVariants.{Engine, Committed as DidCommit}
 use Rattle.thy_view.specs.declared.view.Phase.TheVariants.{Boot, Run, Halt}
@@ -26,7 +26,7 @@ use Rattle.thy_core_laws.specs.Machine.{Machine, run_view, moment_of, moves_in, 
 use Rattle.thy_core_laws.specs.Pace.{cycles_left, most_spent}
 use Rattle.thy_core_laws.specs.Rows.{SimulatesCycle, At, EngineSimulates}
 use Rattle.thy_core_laws.specs.Sound.{epochs_ahead, SoundRun}
-use Rattle.thy_core_laws.proofs.KeepsLaws.{run_of, runs_behind, simulates_by, left_on, held_kept, follows_kept, front_kept, counted_kept, epoch_kept, hart_left_kept, paced_kept, sound_kept, up_after}
+use Rattle.thy_core_laws.proofs.KeepsLaws.{run_of, runs_behind, simulates_by, takes_none, left_on, held_kept, follows_kept, front_kept, counted_kept, epoch_kept, hart_left_kept, paced_kept, sound_kept, up_after}
 use Rattle.thy_core_laws.proofs.WorkLaws.{NoMore, moves_fewer}
 
 -- ---- the phase behind a commit
@@ -93,6 +93,7 @@ module _ {S : Type 0} (K : SchemeOf S) (o : Origin) (cycles : ℕ) (m : Machine 
         done = done;
         left = left_on K (Engine step) m n t (m.spent + 1) new keeps (λ e. owes);
         fewer = omega arith;
+        room = takes_none K m n t new here.lawful keeps.held;
         hand = refl;
         exhausts = λ is. absurd (cc);
       })
@@ -150,6 +151,7 @@ module _ {S : Type 0} (K : SchemeOf S) (o : Origin) (cycles : ℕ) (m : Machine 
         done = tt;
         left = left_behind next (Engine CommitWritten) e.keeps (λ none. e.owes) refl refl refl;
         fewer = omega arith;
+        room = takes_none K m n t new here.lawful e.keeps.held;
         hand = refl;
         exhausts = λ moved. absurd (cc);
       })
@@ -215,6 +217,7 @@ module _ {S : Type 0} (K : SchemeOf S) (o : Origin) (cycles : ℕ) (m : Machine 
         done = tt;
         left = left_behind next did e.keeps (λ none. absurd (cc)) refl refl refl;
         fewer = omega arith;
+        room = takes_none K m n t new here.lawful e.keeps.held;
         hand = refl;
         exhausts = λ moved. absurd (cc);
       })

@@ -193,6 +193,7 @@ flush_simulates {S} K = λ o cycles m n c t new flushed at sealing whole f.
         promotions = λ e. omega (arith, promotions);
       };
       fewer = g.less.fewer;
+      room = omega (arith, free_is, free_now, less_room);
       hand = refl;
       exhausts = λ is. absurd (cc);
     })

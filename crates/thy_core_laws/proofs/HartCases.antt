@@ -47,7 +47,7 @@ use Rattle.thy_core_laws.proofs.EpochLemmas.{retired-on, few-begun}
 use Rattle.thy_core_laws.proofs.HandLaws.{hand_writes}
 use Rattle.thy_core_laws.proofs.WorkLaws.{moves_over}
 use Rattle.thy_core_laws.proofs.Facts.{view-run, sound-run, holds-run, is-going}
-use Rattle.thy_core_laws.proofs.ToldLemmas.{shortage, IsRetired, KeepsEntries, TakesEntries, EntriesBy, IsMoved, IsExhausted, IsWaiting, Told, told}
+use Rattle.thy_core_laws.proofs.ToldLemmas.{shortage, IsRetired, KeepsEntries, TakesEntries, EntriesBy, IsMoved, IsExhausted, IsWaiting, Told, reserving-brings, told}
 use Rattle.thy_core_laws.proofs.HartRow.{hart_on, IsOn, is-on, IsNext, simulates-next}
 
 -- ---- the view, by the parts of the hart that it shows
@@ -201,10 +201,11 @@ moves-on old new W on = elim on as (λ _. new.moves ≤ old.moves) [
 -- once an instruction has ended nothing is reserved
 ended-entries : {S : Type 0} (K : SchemeOf S) (m : Machine S) (n : Device) (hart lap : ℕ) (last : Option ℕ) (h : HartState) (c : Contents) (t : S) (new : Device)
     → h.hand ≡ Nothing → dirty_count c ≤ dirty_count m.cache + (reserved m.hart.hand - reserved h.hand)
-    → UsesEntries (pressure_of K m) (pressure_of K (hart_on hart true lap last h c t m)) (gauge_of K m n) (gauge_of K (hart_on hart true lap last h c t m) new)
-ended-entries K m n hart lap last h c t new gone tidy =
+    → dirty_count c + K.free m.scheme ≤ dirty_count m.cache + (reserved m.hart.hand - reserved h.hand) + K.free t
+    → UsesEntries (run_view m) (pressure_of K m) (pressure_of K (hart_on hart true lap last h c t m)) (gauge_of K m n) (gauge_of K (hart_on hart true lap last h c t m) new)
+ended-entries K m n hart lap last h c t new gone tidy room =
     let none : reserved h.hand ≡ 0 = ap reserved gone in
-    record { entries = omega (arith, none); lines = omega (arith, none, tidy); once = λ some. absurd (some refl) }
+    record { entries = omega (arith, none); lines = omega (arith, none, tidy); room = λ run. omega (arith, none, room); once = λ some. absurd (some refl) }
 
 -- what is to be written next lies in as many blocks as the plain machine's instruction stores to
 blocks-stored : (stored : Span) (e : Effect) (to : Span) (hand : Hand) → IsToWrite stored hand → hand ≡ Reserving e to → blocks_of to ≡ blocks_in stored
@@ -213,13 +214,15 @@ blocks-stored stored e to hand writes is =
     sym (ap (λ (b : Bool). if b then 0 else blocks_of to) w.1) ∙ ap blocks_in w.0
 
 module _ {S : Type 0} (K : SchemeOf S) (o : Origin) (m : Machine S) (n : Device) (hart lap : ℕ) (last : Option ℕ) (h : HartState) (c : Contents) (t : S) (new : Device)
-    (tidy : dirty_count c ≤ dirty_count m.cache + (reserved m.hart.hand - reserved h.hand)) where
+    (tidy : dirty_count c ≤ dirty_count m.cache + (reserved m.hart.hand - reserved h.hand))
+    (room : dirty_count c + K.free m.scheme ≤ dirty_count m.cache + (reserved m.hart.hand - reserved h.hand) + K.free t)
+    (left : (e : Effect) (to : Span) → m.hart.hand ≡ Reserving e to → t ≡ m.scheme) where
   -- an instruction that goes on
   goes-entries : KeepsEntries m.hart.hand h.hand
-      → UsesEntries (pressure_of K m) (pressure_of K (hart_on hart false lap last h c t m)) (gauge_of K m n) (gauge_of K (hart_on hart false lap last h c t m) new)
+      → UsesEntries (run_view m) (pressure_of K m) (pressure_of K (hart_on hart false lap last h c t m)) (gauge_of K m n) (gauge_of K (hart_on hart false lap last h c t m) new)
   goes-entries kept =
       let less = kept.entries in
-      record { entries = omega (arith, less); lines = omega (arith, less, tidy); once = λ some. kept.once }
+      record { entries = omega (arith, less); lines = omega (arith, less, tidy); room = λ run. omega (arith, less, room); once = λ some. kept.once }
 
   -- one that reserves entries is begun
   takes-entries : ((b : ℕ) → m.begun ≡ Some b → b ≡ hart) → (m.begun ≡ None → m.hart.hand ≡ Nothing)
@@ -234,6 +237,7 @@ module _ {S : Type 0} (K : SchemeOf S) (o : Origin) (m : Machine S) (n : Device)
         entries = ap (λ k. dirty_count c + k)
             (ap reserved taken.becomes ∙ blocks-stored (stored_by o (fronted hart (at o m.hart.cpu.count))) taken.effect taken.span m.hart.hand writes taken.was);
         lines = omega (arith, zero, tidy);
+        free = omega (arith, ap K.free (left taken.effect taken.span taken.was));
         had_not = ap has_reserved taken.was;
         has = ap has_reserved taken.becomes;
       }
@@ -277,6 +281,8 @@ moved-next K o cycles m n hart h c t new at-m turn hs mv =
     let over : h.epoch.over ≡ None = ap (λ (x : Epoch). x.over) mv.epoch ∙ going.going in
     let writes = step-writes K o cycles m n hart h c t new Moved at-m turn hs in
     let done = moved-done K m n hart (m.lap + 0) m.last h c t new going.going over hs.asked on.up begun.moves w.nears in
+    let left : (e : Effect) (to : Span) → m.hart.hand ≡ Reserving e to → t ≡ m.scheme
+    = λ e to is. (hs.untouched (reserving-brings (moment_of K (begun_by_hart hart m) n) e to is)).0 in
     let f = follows-on (given o.input (K.free m.scheme) (K.under_way m.scheme)) (moment_of K (begun_by_hart hart m) n) (moment h c (held_by_scheme K t new)) Moved (fronted hart (at o m.hart.cpu.count))
     (ap is_running begun.status ∙ run.counted.running ∙ going.runs) w begun.follows in
     record {
@@ -312,7 +318,7 @@ moved-next K o cycles m n hart h c t new at-m turn hs mv =
       acts = moved-acts K m.scheme n t new hs.asked on.up;
       retires = λ e. absurd (cc);
       exhausts = λ _. over ∙ sym (ap over_by mv.enough);
-      dirties = moved-dirties K o m n hart (m.lap + 0) m.last h c t new hs.tidy turn.own run.front.rests begun.writes mv.entries;
+      dirties = moved-dirties K o m n hart (m.lap + 0) m.last h c t new hs.tidy on.taken left turn.own run.front.rests begun.writes mv.entries;
     }
 
 -- ---- the epoch is exhausted
@@ -401,7 +407,7 @@ exhausted-next K o cycles m n hart h c t new free dd need at-m turn hs ex =
       acts = moved-acts K m.scheme n t new hs.asked on.up;
       retires = λ e. absurd (cc);
       exhausts = λ _. over ∙ sym (ap over_by ex.short);
-      dirties = inl (ended-entries K m n hart (m.lap + 0) m.last h c t new w.leads.hand hs.tidy);
+      dirties = inl (ended-entries K m n hart (m.lap + 0) m.last h c t new w.leads.hand hs.tidy on.taken);
     }
 
 -- ---- an instruction retires, of the hart whose turn it is
@@ -483,7 +489,7 @@ retired-next K o cycles m n hart h c t new s over at-m turn hs rt come closed f 
       acts = record { action = Rest; asked = refl; left = (hs.untouched rt.touches).1 };
       retires = λ _. ap K.dram (hs.untouched rt.touches).0;
       exhausts = λ e. absurd (cc);
-      dirties = inl (ended-entries K m n hart (m.lap + 1) (Some hart) h c t new come.hand hs.tidy);
+      dirties = inl (ended-entries K m n hart (m.lap + 1) (Some hart) h c t new come.hand hs.tidy on.taken);
     }
   where
     retired-spent : (over : Option EndCause) → IsRetired (brings_line (moment_of K (begun_by_hart hart m) n)) (begun_by_hart hart m).hart h over → HasRetired h.epoch.span h.epoch.retired h.epoch.over

@@ -1,5 +1,5 @@
 -- A step of the hart leads to the next moment.
-use Rattle.std.proofs.Common.{◌≡◌, ◌≢◌, ◌⊎◌, ℕ, ◌+◌, ◌<◌, ◌≤◌, not, Bool, true, false, if◌then◌else◌, length, Option, Some, None, refl, sym, ◌∙◌, ap, subst, arith, inl, inr}
+use Rattle.std.proofs.Common.{◌≡◌, ◌≢◌, ◌⊎◌, ℕ, ◌+◌, ◌-◌, ◌<◌, ◌≤◌, not, Bool, true, false, if◌then◌else◌, length, Option, Some, None, refl, sym, ◌∙◌, ap, subst, arith, inl, inr}
 use Rattle.thy_base.specs.declared.cause.EndCause.{EndCause}
 use Rattle.thy_base.specs.Device.{Device}
 use Rattle.thy_cache.specs.Contents.{Contents, dirty_count}
@@ -58,6 +58,8 @@ pub record IsOn {S : Type 0} (K : SchemeOf S) (o : Origin) (m : Machine S) (n : 
   pub engine : K.engine_left t ≤ K.engine_left m.scheme
   pub sealed_storeless : K.sealed_storeless t ≡ K.sealed_storeless m.scheme
   pub room : dirty_count c + reserved h.hand ≤ K.free t
+  -- no more entries are taken than lines go clean and reserved ones are used
+  pub taken : dirty_count c + K.free m.scheme ≤ dirty_count m.cache + (reserved m.hart.hand - reserved h.hand) + K.free t
   pub geometry : h.geometry ≡ o.geometry
   pub owed_later : K.owed_later t ≤ K.owed_later m.scheme
   pub dram : ActsOnDram n new (K.dram m.scheme) (K.dram t)
@@ -84,6 +86,7 @@ is-on K o cycles m n hart h c t new s at turn hs =
     let going = is-going K o cycles m n at turn.goes in
     let up = l.ready_up t new w.ready.ready in
     let stays = l.stays_sound o m.marks m.scheme n t new (record { sound = run.checkpoints; up = at.sound.up }) going.free hs.stays in
+    let taken : dirty_count c + (K.holding m.scheme n).free ≤ dirty_count m.cache + (reserved m.hart.hand - reserved h.hand) + (K.holding t new).free = w.room in
     record {
       up = up;
       whole = l.ready_whole t new w.ready.ready;
@@ -92,6 +95,7 @@ is-on K o cycles m n hart h c t new s at turn hs =
       engine = stays.engine;
       sealed_storeless = stays.sealed_storeless;
       room = omega (arith, w.ready.room, l.free_is t new);
+      taken = omega (arith, taken, l.free_is m.scheme n, l.free_is t new);
       geometry = w.fixed ∙ at.sound.geometry;
       owed_later = stays.owed_later;
       dram = dram-asked K m.scheme n t new hs.asked up;

@@ -93,6 +93,8 @@ pub record GoesOn {S : Type 0} (K : SchemeOf S) (o : Origin) (did : Did) (m : Ma
   pub done : GetsDone did (gauge_of K m n) (gauge_of K next new) (WritesBlock n new (K.dram m.scheme) (K.dram next.scheme))
   pub left : NoMore K did m n next new
   pub fewer : dirty_count next.cache ≤ dirty_count m.cache
+  -- no more entries are taken than lines go clean
+  pub room : dirty_count next.cache + K.free m.scheme ≤ dirty_count m.cache + K.free next.scheme
   pub hand : next.hart.hand ≡ m.hart.hand
   pub exhausts : did ≡ Moved → next.hart.epoch.over ≡ over_by (pressure_of K m).short
 
@@ -130,13 +132,22 @@ module _ {S : Type 0} (K : SchemeOf S) (o : Origin) (cycles : ℕ) (did : Did)
           entries = g.moment.held.room;
         };
         works = record { done = g.done; left = leaves_no_more K did m n next new behind g.behind g.left };
-        dirties = inl (uses_none K m next n new g.fewer g.hand);
+        dirties = inl (uses_none K o m next n new g.fewer g.hand (λ run. g.room));
         exhausts = λ is. ap (λ (v : View). v.over) now ∙ g.exhausts is;
         read = λ nothing. has_read_is K o next.phase next g.behind;
         still = λ found r current. absurd (behind (sym (ap (λ (v : View). v.phase) old) ∙ r.phase));
       }
 
 -- ---- what stays over a call of the scheme
+
+-- no entry is taken
+pub takes_none : {S : Type 0} (K : SchemeOf S) (m : Machine S) (n : Device) (t : S) (new : Device) → IsLawful K
+    → HoldsSame (K.holding m.scheme n) (K.holding t new) → dirty_count m.cache + K.free m.scheme ≤ dirty_count m.cache + K.free t
+takes_none K m n t new l same =
+    let before : (K.holding m.scheme n).free ≡ K.free m.scheme = l.free_is m.scheme n in
+    let behind : (K.holding t new).free ≡ K.free t = l.free_is t new in
+    let more : (K.holding m.scheme n).free ≤ (K.holding t new).free = same.free in
+    omega (arith, before, behind, more)
 
 -- no page need be open
 pub none_for : (c : Contents) (b : Option ℕ) → IsOpenFor c b None

@@ -11,7 +11,7 @@ use Rattle.thy_cache.proofs.SizeLaws.{IsSized-empty}
 use Rattle.thy_flat.specs.declared.span.Span.{Span}
 use Rattle.thy_hart.specs.declared.hand.Hand.{Hand}
 use Rattle.thy_hart.specs.declared.hand.Hand.TheVariants.{Nothing, Reading, Reserving, Writing, Retiring}
-use Rattle.thy_hart.specs.HartState.{new_hart, blocks_of, reserved}
+use Rattle.thy_hart.specs.HartState.{new_hart, blocks_of, reserved, has_reserved}
 use Rattle.thy_hart.specs.Moments.{Moment}
 use Rattle.thy_isa.specs.Step.{zero_cpu}
 use Rattle.thy_view.specs.declared.view.Phase.{Phase}
@@ -34,7 +34,7 @@ use Rattle.thy_core_laws.specs.Sound.{state_in_front, IsToWrite, SoundRun, Sound
 use Rattle.thy_core_laws.specs.Runs.{MachineIsLawful}
 use Rattle.thy_core_laws.proofs.EpochLemmas.{few-begun}
 use Rattle.thy_core_laws.proofs.MomentLaws.{sound-here, seen-alike, is_at-agrees}
-use Rattle.thy_core_laws.proofs.RunLaws.{moment_is_safe, fresh_simulates, kept_in, left_simulates, cut_simulates}
+use Rattle.thy_core_laws.proofs.RunLaws.{moment_is_safe, fresh_simulates, kept_in, left_simulates}
 use Rattle.thy_core_laws.proofs.WorkLaws.{number_behind}
 
 -- a machine over a scheme, with nothing counted
@@ -112,14 +112,15 @@ powered_on K l o k m n s on empty =
     }
 
 -- what an instruction is short of, where it is to write this
-record IsShortOf (entries lines : ℕ) (stored : Span) (s : Shortage) : Type 0 where
+record IsShortOf (hand : Hand) (entries lines : ℕ) (stored : Span) (s : Shortage) : Type 0 where
   free : s.free ≡ entries
   dirty : s.dirty ≡ lines
+  had_not : has_reserved hand ≡ false
   need : s.need ≡ blocks_in stored
   short : s.free < s.dirty + s.need
 
 short_free : (free dirty : ℕ) (stored : Span) (hand : Hand) (s : Shortage) → IsToWrite stored hand → short_of free dirty hand ≡ Some s
-    → IsShortOf free (dirty + reserved hand) stored s
+    → IsShortOf hand free (dirty + reserved hand) stored s
 short_free free dirty stored Nothing s w e = absurd (cc)
 short_free free dirty stored (Reading effect from to) s w e = absurd (cc)
 short_free free dirty stored (Reserving effect to) s w e = told (nat_lt free (dirty + blocks_of to)) refl e
@@ -129,12 +130,12 @@ short_free free dirty stored (Reserving effect to) s w e = told (nat_lt free (di
 
     told : (less : Bool) → nat_lt free (dirty + blocks_of to) ≡ less
         → (if less then Some (record { free = free; dirty = dirty; need = blocks_of to }) else None) ≡ Some s
-        → IsShortOf free (dirty + 0) stored s
+        → IsShortOf (Reserving effect to) free (dirty + 0) stored s
     told true less e =
         let same : record { free = free; dirty = dirty; need = blocks_of to } ≡ s = cc in
         let below : free < dirty + blocks_of to = ltb-true free (dirty + blocks_of to) less in
-        subst (IsShortOf free (dirty + 0) stored) same
-        (record { free = refl; dirty = omega arith; need = some; short = below })
+        subst (IsShortOf (Reserving effect to) free (dirty + 0) stored) same
+        (record { free = refl; dirty = omega arith; had_not = refl; need = some; short = below })
     told false less e = absurd (cc)
 short_free free dirty stored (Writing effect to done) s w e = absurd (cc)
 short_free free dirty stored (Retiring effect wrote) s w e = absurd (cc)
@@ -158,6 +159,7 @@ module _ {S : Type 0} (K : SchemeOf S) (o : Origin) (m : Machine S) (n : Device)
             is_begun = is;
             free = short.free;
             dirty = short.dirty;
+            had_not = short.had_not;
             need = short.need ∙ front;
             short = short.short;
           }
@@ -188,9 +190,9 @@ module _ {S : Type 0} (K : SchemeOf S) (o : Origin) (m : Machine S) (n : Device)
         promotions = omega (arith, promotions, most_promotions);
       }
 
-  -- while no instruction is begun none is in hand, so nothing is reserved
+  -- while no instruction is begun none is in hand, so nothing is reserved, and none has reserved
   counts_by : (m.begun ≡ None → m.hart.hand ≡ Nothing) → CountsLines (pressure_of K m) (gauge_of K m n)
-  counts_by rests = record { lines = omega arith; unreserved = λ none. omega (arith, ap reserved (rests none)) }
+  counts_by rests = record { lines = omega arith; unreserved = λ none. omega (arith, ap reserved (rests none)); unmarked = λ none. ap has_reserved (rests none) }
 
   -- ---- in each phase
 
@@ -234,7 +236,6 @@ machine_is_lawful K l = record {
   powers = powers K l;
   finds_nothing = l.finds_nothing;
   begins = λ o m shape start n. fresh_simulates K o m shape start n l;
-  recovers = λ o k m next n pick g at. cut_simulates K o k m next n pick g l (sound-here K o k m n at);
   finds = λ o k m next n left at. left_simulates K o k m next n left l (sound-here K o k m n at);
   sized = λ o k m n at. let sound = sound-here K o k m n at in (kept_in K o m n m.phase l sound.up sound.moment).1;
   powered_on = λ o k m n at. powered_on K l o k m n (sound-here K o k m n at);

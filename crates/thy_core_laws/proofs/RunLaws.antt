@@ -1,12 +1,12 @@
--- How a run of the machine begins, and what a power cut leads to.
-use Rattle.std.proofs.Common.{◌≡◌, ℕ, ◌-◌, ◌≤◌, Bool, true, false, if◌then◌else◌, List, length, replicate, Option, Some, None, refl, sym, ◌∙◌, ap, subst, arith, inl, inr}
+-- How a run of the machine begins, and what power that comes on leads to.
+use Rattle.std.proofs.Common.{◌≡◌, ℕ, ◌-◌, ◌≤◌, false, List, length, replicate, Option, Some, None, refl, sym, ◌∙◌, ap, subst, arith, inl, inr}
 use Rattle.std.proofs.lemmas.List.{length-append, length-replicate}
 use Rattle.thy_base.specs.declared.block.Block.{Block}
 use Rattle.thy_base.specs.declared.mark.Mark.{Mark}
 use Rattle.thy_base.specs.declared.nvm.Shape.{Shape}
-use Rattle.thy_base.specs.Device.{Device, zero_block, cut_to, fitted}
+use Rattle.thy_base.specs.Device.{Device, zero_block, fitted}
 use Rattle.thy_base.specs.Marks.{mark}
-use Rattle.thy_record.specs.Decoded.{Decoded, Nothing, Refused, At}
+use Rattle.thy_layout.specs.Decoded.{Decoded, Nothing, Refused, At}
 use Rattle.thy_view.specs.declared.view.Phase.{Phase}
 use Rattle.thy_view.specs.declared.view.Phase.TheVariants.{Boot, Run, Halt}
 use Rattle.thy_view.specs.declared.view.View.{View}
@@ -20,8 +20,7 @@ use Rattle.thy_scheme.specs.Scheme.{SchemeOf}
 use Rattle.thy_scheme.specs.Laws.{IsOwn, IsFound, IsLawful as IsLawfulScheme}
 use Rattle.thy_core_laws.specs.Machine.{Machine, view_in, view_of}
 use Rattle.thy_core_laws.specs.Sound.{IsSmallMark, IsSmall, SoundIn, Sound, IsAt, IsPowered}
-use Rattle.thy_core_laws.specs.Runs.{MomentIsSafe, FreshSimulates, CutSimulates, LeftSimulates}
-use Rattle.thy_view.proofs.AgainLaws.{sealed_in}
+use Rattle.thy_core_laws.specs.Runs.{MomentIsSafe, FreshSimulates, LeftSimulates}
 use Rattle.thy_view.proofs.TurnLaws.{at-agrees, at-early, IsOrigin-told}
 
 -- ---- a moment is safe
@@ -133,9 +132,9 @@ fresh_simulates K o m shape start n lawful origin on fit =
     let means : view_of_image o.start.count (K.decode o.geometry ceiling new.image) ≡ first_view o = ap (view_of_image o.start.count) fit.found in
     (is_at-found K o 0 m new lawful origin on found (subst (IsSmall 0) (sym means) (found_small o 0 (found_first o o.kept) origin (own_first o o.kept refl) (small_first o o.kept origin origin.starts))), view_found K o 0 m new lawful origin on found ∙ means)
 
--- ---- a power cut
+-- ---- power that comes on again
 
--- the image of a cut is the run's own
+-- the image that was left is the run's own
 own_of : (o : Origin) (kept sealed : Option Mark) (d : Decoded) → IsOneOf o kept sealed d → (kept ≡ None → o.kept ≡ None) → IsOwn o d
 own_of o kept sealed Nothing one none = none one
 own_of o kept sealed (Refused bad) one none = one
@@ -173,13 +172,3 @@ left_simulates K o cycles m next n left lawful s on is =
     let found : IsFound K o left = record { up = is.up; sized = is.blocks; settled = is.settled; own = own } in
     let small = found_small o cycles d s.origin own (small_left o cycles v d s.small is.means) in
     (is_at-found K o cycles next left lawful s.origin on found small, view_found K o cycles next left lawful s.origin on found)
-
-pub cut_simulates : {S : Type 0} (K : SchemeOf S) → CutSimulates K
-cut_simulates K o cycles m next n pick g lawful s on crash =
-    let v = view_of K o m n in
-    left_simulates K o cycles m next n (cut_to n pick g) lawful s on (record {
-      up = refl;
-      settled = refl;
-      blocks = crash.same_length ∙ (kept_in K o m n m.phase lawful s.up s.moment).1;
-      means = sealed_in o v.written v.done v.sealed (K.decode o.geometry ceiling g) (moment_is_safe K o cycles m n lawful s g crash);
-    })

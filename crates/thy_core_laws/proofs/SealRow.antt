@@ -33,7 +33,7 @@ use Rattle.thy_core_laws.specs.Rows.{At, IsSealing, SealSimulates}
 use Rattle.thy_core_laws.specs.Sound.{state_in_front, OpenFor, OpenNow, epochs_ahead, IsFresh, StartsFresh, IsSmall, SoundRun}
 use Rattle.thy_core_laws.proofs.CacheLemmas.{none_for_flush}
 use Rattle.thy_core_laws.proofs.EpochLemmas.{few-begun}
-use Rattle.thy_core_laws.proofs.KeepsLaws.{run_of, view_run, stands, runs_behind, none_begun, simulates_by}
+use Rattle.thy_core_laws.proofs.KeepsLaws.{run_of, view_run, stands, runs_behind, takes_none, none_begun, simulates_by}
 use Rattle.thy_scheme.proofs.RecordLemmas.{state-console}
 use Rattle.thy_view.proofs.StorableAt.{IsRecordable-at}
 use Rattle.thy_core_laws.proofs.SealingLaws.{IsOver, over_at, unsealed_at}
@@ -238,6 +238,7 @@ seal_simulates {S} K = λ o cycles m n t cause at sealing whole bare clean over_
       left = record { moves = λ e. absurd (cc); owed = λ e. absurd (cc); owed_in_all = λ e. absurd (cc); promotions = λ e. absurd (cc) };
       strides = (λ idle. s.paced.strides idle (λ none. absurd (cc)), refl);
       fewer = omega arith;
+      room = takes_none K m n t n at.lawful p.held;
       hand = refl;
       exhausts = λ is. absurd (cc);
     })

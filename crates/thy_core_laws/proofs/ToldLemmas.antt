@@ -238,12 +238,16 @@ acted-told g m (Writing e to done) is touches = record {
 acted-told g m (Retiring e wrote) is touches =
     over-never (is_running (cpu_retired g.input e m.hart).status) m.hart.epoch.span (m.hart.epoch.retired + 1) (brings_line m) g (dirty_count m.cache) m.hart (retired g.input e m.hart) refl touches refl
 
+-- an instruction that reserves its entries brings no line
+pub reserving-brings : (m : Moment) (e : Effect) (to : Span) → m.hart.hand ≡ Reserving e to → brings_line m ≡ false
+reserving-brings m e to is = ap (λ h. is_missing m.cache (block_for m.hart.geometry m.hart.cpu h)) is
+
 -- a line is brought only for a hand that has no shortage
 brought-short : (g : Given) (m : Moment) (dirty : ℕ) (hand : Hand) → m.hart.hand ≡ hand → brings_line m ≡ true → short_of g.free dirty hand ≡ None
 brought-short g m dirty Nothing is b = refl
 brought-short g m dirty (Reading e from to) is b = refl
 brought-short g m dirty (Reserving e to) is b =
-    let no : brings_line m ≡ false = ap (λ h. is_missing m.cache (block_for m.hart.geometry m.hart.cpu h)) is in
+    let no : brings_line m ≡ false = reserving-brings m e to is in
     absurd (cc)
 brought-short g m dirty (Writing e to done) is b = refl
 brought-short g m dirty (Retiring e wrote) is b = refl

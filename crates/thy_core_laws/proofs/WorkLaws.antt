@@ -1,6 +1,6 @@
 -- What is left of an instruction, of copies and of promotions, in each phase, and what a call of the scheme leaves of it; and
 -- what a cycle leaves of the dirty lines that does not touch the hart.
-use Rattle.std.proofs.Common.{◌≡◌, ◌≢◌, ℕ, ◌≤◌, false, Option, Some, None, refl, ap, arith}
+use Rattle.std.proofs.Common.{◌≡◌, ◌≢◌, ℕ, ◌+◌, ◌≤◌, false, Option, Some, None, refl, ap, arith}
 use Rattle.thy_base.specs.declared.cause.EndCause.{EndCause}
 use Rattle.thy_base.specs.Device.{Device}
 use Rattle.thy_cache.specs.Contents.{dirty_count}
@@ -9,11 +9,13 @@ use Rattle.thy_hart.specs.Moments.{Moment, moves_left}
 use Rattle.thy_view.specs.declared.did.Did.{Did}
 use Rattle.thy_view.specs.declared.view.Phase.{Phase}
 use Rattle.thy_view.specs.declared.view.Phase.TheVariants.{Boot, Run, Halt}
+use Rattle.thy_view.specs.Origin.{Origin}
 use Rattle.thy_view.specs.Stores.{UsesEntries}
+use Rattle.thy_view.specs.Views.{is_boot}
 use Rattle.thy_view.specs.Work.{begins_instruction, begins_epoch, adds_copies, LeavesNoMore}
 use Rattle.thy_scheme.specs.Scheme.{SchemeOf}
 use Rattle.thy_scheme.specs.Calls.{owed_in, OwesNoMore}
-use Rattle.thy_core_laws.specs.Machine.{Machine, moment_of, moves_begun, moves_while, moves_in, after_boot_only, pressure_of, gauge_in, gauge_of}
+use Rattle.thy_core_laws.specs.Machine.{Machine, moment_of, moves_begun, moves_while, moves_in, after_boot_only, view_of, pressure_of, gauge_in, gauge_of}
 
 -- ---- moves
 
@@ -83,9 +85,12 @@ booting_no_more K did m next n new =
 
 -- ---- dirty lines
 
--- with the instruction in hand as it was, and no more dirty lines, no entry is reserved
-pub uses_none : {S : Type 0} (K : SchemeOf S) (m next : Machine S) (n new : Device) → dirty_count next.cache ≤ dirty_count m.cache → next.hart.hand ≡ m.hart.hand
-    → UsesEntries (pressure_of K m) (pressure_of K next) (gauge_of K m n) (gauge_of K next new)
-uses_none K m next n new fewer same =
+-- with the instruction in hand as it was, and no more dirty lines, no entry is reserved; after the boot none may be taken but
+-- for lines that went clean
+pub uses_none : {S : Type 0} (K : SchemeOf S) (o : Origin) (m next : Machine S) (n new : Device) → dirty_count next.cache ≤ dirty_count m.cache
+    → next.hart.hand ≡ m.hart.hand
+    → (is_boot (view_of K o m n).phase ≡ false → dirty_count next.cache + K.free m.scheme ≤ dirty_count m.cache + K.free next.scheme)
+    → UsesEntries (view_of K o m n) (pressure_of K m) (pressure_of K next) (gauge_of K m n) (gauge_of K next new)
+uses_none K o m next n new fewer same room =
     let kept : reserved next.hart.hand ≡ reserved m.hart.hand = ap reserved same in
-    record { entries = omega (arith, kept); lines = omega (arith, fewer, kept); once = λ begun. ap has_reserved same }
+    record { entries = omega (arith, kept); lines = omega (arith, fewer, kept); room = λ run. omega (arith, kept, room run); once = λ begun. ap has_reserved same }

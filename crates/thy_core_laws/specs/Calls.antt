@@ -17,8 +17,8 @@ use Rattle.thy_hart.specs.Moments.{moment, brings_line}
 use Rattle.thy_hart.specs.OneStep.{IsStep}
 use Rattle.thy_isa.specs.declared.state.CpuState.{CpuState}
 use Rattle.thy_isa.specs.Step.{cpu_of, is_running}
-use Rattle.thy_record.specs.declared.engine_step.EngineStep.{EngineStep}
-use Rattle.thy_record.specs.declared.engine_step.EngineStep.TheVariants.{Committed}
+use Rattle.thy_layout.specs.declared.engine_step.EngineStep.{EngineStep}
+use Rattle.thy_layout.specs.declared.engine_step.EngineStep.TheVariants.{Committed}
 use Rattle.thy_view.specs.declared.boot_step.BootStep.{BootStep}
 use Rattle.thy_view.specs.declared.boot_step.BootStep.TheVariants.{GoesOn, Loaded, Restarted, Refused}
 use Rattle.thy_view.specs.declared.did.Did.{Did}
@@ -44,7 +44,7 @@ pub record HartCall {S : Type 0} (K : SchemeOf S) (g : Given) (m : Machine S) (n
   pub asked : IsAsked K m.scheme n t new
   pub stays : K.stays m.scheme n t new
   pub untouched : brings_line (moment_of K m n) ≡ false → (t ≡ m.scheme) × (new ≡ n)
-  -- a line becomes dirty only as room that was reserved is used for it, and without a dirty line nothing is stored
+  -- no more lines become dirty than reserved room is used, and without a dirty line nothing is stored
   pub tidy : dirty_count c ≤ dirty_count m.cache + (reserved m.hart.hand - reserved h.hand)
   pub rests : dirty_count m.cache ≡ 0 → K.storeless t ≡ K.storeless m.scheme
 

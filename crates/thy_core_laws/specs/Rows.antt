@@ -8,7 +8,7 @@ use Rattle.thy_cache.specs.Contents.{Contents, dirty_count}
 use Rattle.thy_hart.specs.declared.hand.HartStep.{HartStep}
 use Rattle.thy_hart.specs.Outcomes.{given}
 use Rattle.thy_hart.specs.HartState.{HartState}
-use Rattle.thy_record.specs.declared.engine_step.EngineStep.{EngineStep}
+use Rattle.thy_layout.specs.declared.engine_step.EngineStep.{EngineStep}
 use Rattle.thy_view.specs.declared.boot_step.BootStep.{BootStep}
 use Rattle.thy_view.specs.declared.did.Did.{Did}
 use Rattle.thy_view.specs.declared.did.Did.TheVariants.{Moved, Flushed as DidFlush, Merged, Promoted, Sealed, NvmDrained, DramDrained, Nothing}
@@ -35,8 +35,8 @@ use Rattle.thy_core_laws.specs.Sound.{Sound}
 use Rattle.thy_core_laws.specs.Calls.{HartCall, FlushCall, begun_by_hart, hart_did, after_hart, after_flush, after_call, after_drain, after_seal, after_engine, after_boot}
 
 -- a cycle that did this leads to the next moment: by a step of the view, one action of both devices, and within bounds,
--- and gets done what it says; lines become dirty only as the instruction in hand stores to them; in a boot that found a
--- checkpoint it leaves the NVM as it was, unless the scheme migrates
+-- and gets done what it says; no more lines become dirty than entries are used that the instruction in hand has reserved; in a
+-- boot that found a checkpoint it leaves the NVM as it was, unless the scheme migrates
 pub record SimulatesCycle {S : Type 0} (K : SchemeOf S) (o : Origin) (cycles : ℕ) (did : Did) (m : Machine S) (n : Device) (next : Machine S) (new : Device) : Type 0 where
   pub at_next : Sound K o (cycles + 1) next new
   pub step : CoreStep o (view_of K o m n) did (view_of K o next new)

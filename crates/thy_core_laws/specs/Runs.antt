@@ -1,9 +1,9 @@
--- How a run of the machine begins, what a power cut leads to, and that every cycle decreases the number of cycles
+-- How a run of the machine begins, what power that comes on leads to, and that every cycle decreases the number of cycles
 -- left.
 use Rattle.std.specs.Prelude.{◌≡◌, ℕ, ◌+◌, ◌*◌, ◌≤◌, true, false, List, length, Option}
 use Rattle.thy_base.specs.declared.block.Block.{Block}
 use Rattle.thy_base.specs.declared.nvm.Shape.{Shape}
-use Rattle.thy_base.specs.Device.{Device, Crash, cut_to, fitted}
+use Rattle.thy_base.specs.Device.{Device, fitted}
 use Rattle.thy_base.specs.declared.mix.Pick.{Pick}
 use Rattle.thy_view.specs.declared.did.Did.{Did}
 use Rattle.thy_view.specs.declared.did.Stall.{Stall}
@@ -40,16 +40,8 @@ FreshSimulates {S} K =
     → IsLawfulScheme K → IsOrigin o → IsPowered K o.geometry m → IsFittedFor (kind_over K) o shape start n
     → IsAt K o 0 m (fitted shape start n) × (view_of K o m (fitted shape start n) ≡ first_view o)
 
--- A power cut leads to a moment of the same run, whose view is that of the image that was left. The turns after the
--- checkpoint found are lost with it.
-abbrev pub CutSimulates : {S : Type 0} → SchemeOf S → Type 0
-CutSimulates {S} K =
-    (o : Origin) (cycles : ℕ) (m next : Machine S) (n : Device) (pick : ℕ) (g : List Block)
-    → IsLawfulScheme K → Sound K o cycles m n → IsPowered K o.geometry next → Crash n g
-    → IsAt K o cycles next (cut_to n pick g)
-    × (view_of K o next (cut_to n pick g) ≡ view_of_image o.start.count (K.decode o.geometry ceiling g))
-
--- So does power that comes on over any device that the run may have left, also by a step that failed.
+-- Power that comes on over a device which a cut may have left, also after a step that failed, leads to a moment of the same
+-- run, whose view is what the image means. The turns after the checkpoint found are lost with it.
 abbrev pub LeftSimulates : {S : Type 0} → SchemeOf S → Type 0
 LeftSimulates {S} K =
     (o : Origin) (cycles : ℕ) (m next : Machine S) (n left : Device)

@@ -1,7 +1,7 @@
 //! Laws of the machine, for every scheme, each the contract of a function that does nothing.
 ghost use Rattle.thy_core_laws.specs.Failures.{HartFails, FlushFails, PromotionLeaves, EngineLeaves, BootLeaves, DrainFails};
 ghost use Rattle.thy_core_laws.specs.Rows.{HartSimulates, HartHandsOn, FlushSimulates, MergeSimulates, PromotionSimulates, BootSimulates, SealSimulates, EngineSimulates, NvmDrainSimulates, DramDrainSimulates, BootDrainSimulates, HaltSimulates};
-ghost use Rattle.thy_core_laws.specs.Runs.{MomentIsSafe, CyclesComeNearer, FreshSimulates, CutSimulates, MachineIsLawful, LeadsToMoment, SimulatingIsStep, FailingIsSafe};
+ghost use Rattle.thy_core_laws.specs.Runs.{MomentIsSafe, CyclesComeNearer, FreshSimulates, LeftSimulates, MachineIsLawful, LeadsToMoment, SimulatingIsStep, FailingIsSafe};
 
 use thy_scheme::Scheme;
 
@@ -46,9 +46,10 @@ pub fn a_fresh_start_simulates<S: Scheme>()
     ensures { FreshSimulates S.scheme }
 {}
 
-/// A power cut leads to a moment of the same run, whose view is what the image means that was left.
-pub fn a_cut_simulates<S: Scheme>()
-    ensures { CutSimulates S.scheme }
+/// Power that comes on over a device which a cut may have left, also after a step that failed, leads to a moment of the same
+/// run, whose view is what the image means.
+pub fn power_that_comes_on_simulates<S: Scheme>()
+    ensures { LeftSimulates S.scheme }
 {}
 
 /// So the machine keeps the laws of machines.

@@ -5,8 +5,8 @@ use Rattle.thy_base.specs.declared.nvm.NvmError.{NvmError}
 use Rattle.thy_base.specs.declared.store.Stored.{Stored}
 use Rattle.thy_base.specs.Device.{Device}
 use Rattle.thy_isa.specs.Step.{state_of}
-use Rattle.thy_record.specs.declared.engine_step.EngineStep.{EngineStep}
-use Rattle.thy_record.specs.declared.start.Start.{Start}
+use Rattle.thy_layout.specs.declared.engine_step.EngineStep.{EngineStep}
+use Rattle.thy_layout.specs.declared.start.Start.{Start}
 use Rattle.thy_control.specs.Promotions.{next_promotion, after_promotion, ReadsNvm, FillsNext}
 use Rattle.thy_control.specs.Rules.{rule_for, state_after, devices_after, FailsStore}
 use Rattle.thy_control.specs.State.{State}

@@ -12,7 +12,7 @@ use Rattle.thy_recover.specs.Filling.{filling_dual}
 use Rattle.thy_migrate.specs.declared.migration.Migration.{Migration}
 use Rattle.thy_migrate.specs.Counts.{CountsAt}
 use Rattle.thy_migrate.specs.Migrating.{Recovering}
-use Rattle.thy_record.specs.Images.{decode_image}
+use Rattle.thy_record.specs.DualLayouts.{decode_image}
 
 module _ {T : Type 0} (o : Origin) (n : Device) (m : Mark) (result : Result T NvmError) (old new : ℕ) (s : Plain) (c : State) where
   pub writes_nothing : (w : Option Migration) (r : Recovering) → (view_at decode_image o r.boot.stage n).done ≡ Some m → is_some w ≡ false

@@ -10,8 +10,8 @@ use Rattle.thy_base.specs.Places.{in_dram}
 use Rattle.thy_dram.specs.Contents.{Contents}
 use Rattle.thy_isa.specs.declared.state.CpuState.{CpuState}
 use Rattle.thy_isa.specs.Step.{state_of}
-use Rattle.thy_record.specs.declared.engine_step.EngineStep.{EngineStep}
-use Rattle.thy_record.specs.declared.start.Start.{Start}
+use Rattle.thy_layout.specs.declared.engine_step.EngineStep.{EngineStep}
+use Rattle.thy_layout.specs.declared.start.Start.{Start}
 use Rattle.thy_cell.specs.Cells.{work}
 use Rattle.thy_control.specs.Drains.{after_drain}
 use Rattle.thy_control.specs.Merges.{next_merge, after_merge}

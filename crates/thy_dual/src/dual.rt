@@ -7,7 +7,7 @@ ghost use Rattle.thy_base.specs.Store.{IsKeptByLoad};
 ghost use Rattle.thy_dram.specs.Contents.{lost};
 ghost use Rattle.thy_table.specs.Listing.{free_count};
 ghost use Rattle.thy_commit.specs.Items.{is_under_way};
-ghost use Rattle.thy_record.specs.Images.{decode_image};
+ghost use Rattle.thy_record.specs.DualLayouts.{decode_image};
 ghost use Rattle.thy_control.specs.Holding.{holding_of};
 ghost use Rattle.thy_view.specs.Kind.{IsDramOf};
 ghost use Rattle.thy_view.specs.Origin.{Origin, Begins};
@@ -34,7 +34,7 @@ use thy_control::{Control, blocks_are_works};
 use thy_dram::Dram;
 use thy_isa::CpuState;
 use thy_migrate::Recovery;
-use thy_record::{EngineStep, Start};
+use thy_layout::{EngineStep, Start};
 use thy_scheme::Scheme;
 use thy_view::BootStep;
 

@@ -1,19 +1,17 @@
 -- What holds in the boot.
 use Rattle.std.proofs.Common.{◌≡◌, ◌&&◌, ◌-◌, ◌<◌, ◌≤◌, [], true, false, is_some, length, refl, sym, ◌∙◌, ap, subst, inl, inr, arith, Option, Some, None}
-use Rattle.std.proofs.lemmas.List.{get_or-replicate, length-replicate}
+use Rattle.std.proofs.lemmas.List.{get_or-replicate}
 use Rattle.thy_base.specs.declared.mark.Mark.{Mark}
 use Rattle.thy_base.specs.Device.{Device, zero_block, fitted, drained}
 use Rattle.thy_base.specs.Marks.{mark}
 use Rattle.thy_base.specs.Places.{image_blocks}
-use Rattle.thy_record.specs.Commit.{is_zero}
-use Rattle.thy_record.specs.Decoded.{Decoded, Nothing, Refused, At}
-use Rattle.thy_record.specs.Images.{decode_image}
-use Rattle.thy_record.proofs.ReadBackLemmas.{is_zero-zero_block}
+use Rattle.thy_layout.specs.Commit.{is_zero}
+use Rattle.thy_layout.specs.Decoded.{Decoded, Nothing, Refused, At}
+use Rattle.thy_layout.proofs.ReadBackLemmas.{is_zero-zero_block}
 use Rattle.thy_control.specs.Drains.{after_drain}
 use Rattle.thy_control.proofs.DrainLemmas.{takes_one}
 use Rattle.thy_control.specs.State.{State, AreSoundTables, new_state}
 use Rattle.thy_protocol.specs.Keeps.{Tells, finding_view}
-use Rattle.thy_protocol.proofs.DualLayoutsLemmas.{decode_by-dual_layouts}
 use Rattle.thy_view.specs.declared.view.View.{View}
 use Rattle.thy_view.specs.Booting.{boot_view, view_of_image}
 use Rattle.thy_view.specs.Origin.{Origin, IsOrigin}
@@ -30,8 +28,8 @@ use Rattle.thy_boot.proofs.GoOnLemmas.{new_is_sound}
 use Rattle.thy_recover.specs.Filling.{IsEmpty, filling_dual}
 use Rattle.thy_recover.proofs.FillingLemmas.{filling_is_lawful}
 use Rattle.thy_recover.proofs.LiveLemmas.{IsFresh-new}
-use Rattle.thy_protocol.proofs.LayoutLemmas.{decode_by-zero}
-use Rattle.thy_protocol.specs.DualLayouts.{dual_layouts}
+use Rattle.thy_layout.proofs.LayoutLemmas.{decode_by-zero}
+use Rattle.thy_record.specs.DualLayouts.{dual_layouts, decode_image}
 use Rattle.thy_base.proofs.CrashLemmas.{Crash-image}
 use Rattle.thy_migrate.specs.declared.migration.Migration.{Migration}
 use Rattle.thy_migrate.specs.Left.{left_at}
@@ -48,12 +46,11 @@ use Rattle.thy_dual_laws.specs.Boots.{Boots, IsUnderWay, IsPowered}
 use Rattle.thy_dual_laws.specs.Dual.{Dual}
 use Rattle.thy_boot_laws.specs.Schemes.{BootIsSound, PowerFinds, PowerIsNew, ZerosAreNothing}
 use Rattle.thy_dual_laws.specs.Scheme.{dual_scheme}
-use Rattle.thy_dual_laws.proofs.SafeLemmas.{Safe-read}
 
 -- ---- what is seen
 
 is_read : IsReadBy filling_dual decode_image
-is_read p g sized = sym (decode_by-dual_layouts p ceiling g sized)
+is_read p g sized = refl
 
 -- what is seen of it is what holds of the mark that is kept
 pub view-reads : (o : Origin) (g : BootImages) (n : Device) (b : Booting) (c : State) → IsBootOf filling_dual o g n b c → IsGoing b.stage
@@ -73,7 +70,7 @@ view-kept o m (At epoch state) h = elim h.0 as (λ _. boot_view (Some (mark epoc
 
 module _ (o : Origin) (m : Mark) (at : Migration) (g : BootImages) (n : Device) (b : Booting) (c : State) (h : IsMigrating o m at g n b c) where
   pub safe-migrating : Safe decode_image o (Some m) None n
-  safe-migrating = Safe-read o (Some m) None n h.issued.sized (migration_is_safe o m at g n b c h)
+  safe-migrating = migration_is_safe o m at g n b c h
 
   pub view-migrates : view_at decode_image o b.stage n ≡ boot_view (Some m) None
   view-migrates =
@@ -104,9 +101,7 @@ module _ (o : Origin) (g : BootImages) (n : Device) (b : Booting) (c : State) wh
   sized-by (Some at) h = h.1.issued.sized
 
   safe-by : (w : Option Migration) → IsUnderWay w o g n b c → Safe decode_image o (seen_by w o g.kept b.stage).done (doubt_of (seen_by w o g.kept b.stage)) n
-  safe-by None h =
-      let seen : View = seen_at o g.kept b.stage in
-      Safe-read o seen.done (doubt_of seen) n (sized-by None h) (sound_is_safe filling_dual filling_is_lawful o g n b c h.0)
+  safe-by None h = sound_is_safe filling_dual filling_is_lawful o g n b c h.0
   safe-by (Some at) h =
       subst (λ (v : View). Safe decode_image o v.done (doubt_of v) n) (kept-view h.0 h.1.found.kept) (safe-migrating o h.0 at g n b c h.1)
 
@@ -259,9 +254,8 @@ power_is_new p s powered = record {
 pub zeros_are_nothing : ZerosAreNothing dual_scheme
 zeros_are_nothing p shape n same =
     let some : 1 < shape.blocks - 0 = omega (arith, same) in
-    let long : length (fitted shape [] n).image ≡ image_blocks p = length-replicate (shape.blocks - 0) zero_block ∙ omega (arith, same) in
-    sym (decode_by-dual_layouts p ceiling (fitted shape [] n).image long)
-    ∙ decode_by-zero (dual_layouts p ceiling) (fitted shape [] n).image (ap is_zero (get_or-replicate (shape.blocks - 0) 1 zero_block zero_block some) ∙ is_zero-zero_block)
+    decode_by-zero (dual_layouts p) ceiling (fitted shape [] n).image
+    (ap is_zero (get_or-replicate (shape.blocks - 0) 1 zero_block zero_block some) ∙ is_zero-zero_block)
 
 -- ---- whether it loads
 

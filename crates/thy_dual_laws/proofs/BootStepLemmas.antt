@@ -14,16 +14,16 @@ use Rattle.thy_crash.specs.Saved.{Kept}
 use Rattle.thy_isa.specs.declared.state.CpuState.{CpuState}
 use Rattle.thy_isa.specs.OnBlocks.{state_from}
 use Rattle.thy_isa.specs.Step.{State as Plain, cpu_of, state_of}
-use Rattle.thy_record.specs.declared.bad_image.BadImage.{BadImage}
-use Rattle.thy_record.specs.declared.start.Start.{Start}
-use Rattle.thy_record.specs.Commit.{epoch_of, version_of}
-use Rattle.thy_record.specs.Cpu.{cpu_of_record}
-use Rattle.thy_record.specs.Images.{decode_image}
+use Rattle.thy_layout.specs.declared.bad_image.BadImage.{BadImage}
+use Rattle.thy_layout.specs.declared.start.Start.{Start}
+use Rattle.thy_layout.specs.Commit.{epoch_of, version_of}
+use Rattle.thy_layout.specs.Cpu.{cpu_of_record}
+use Rattle.thy_record.specs.Number.{scheme_number}
 use Rattle.thy_control.specs.State.{State, AreSoundTables, IsSized}
 use Rattle.thy_control.proofs.HoldingLemmas.{works-sized}
 use Rattle.thy_protocol.specs.Keeps.{Keeps}
 use Rattle.thy_protocol.specs.Moves.{IsKeeping}
-use Rattle.thy_protocol.specs.DualLayouts.{layout_of}
+use Rattle.thy_record.specs.DualLayouts.{layout_of, decode_image}
 use Rattle.thy_view.specs.declared.boot_step.BootStep.{BootStep}
 use Rattle.thy_view.specs.declared.boot_step.BootStep.TheVariants.{GoesOn, Restarted}
 use Rattle.thy_view.specs.declared.did.Did.TheVariants.{Boot}
@@ -53,9 +53,9 @@ use Rattle.thy_boot.proofs.SafeLemmas.{failures_move}
 use Rattle.thy_boot.proofs.FoundLemmas.{never_refused}
 use Rattle.thy_boot.specs.Recovers.{HasReadAt}
 use Rattle.thy_recover.specs.Booted.{IsStarted, LoadsState, IsBooted as IsBootedAt}
-use Rattle.thy_recover.specs.Filling.{HasFilled, filling_dual, loads}
+use Rattle.thy_recover.specs.Filling.{HasFilled, filling_dual}
 use Rattle.thy_recover.proofs.BootedLemmas.{restored_is_booted, loaded_is_started}
-use Rattle.thy_recover.proofs.FillingLemmas.{filling_is_lawful, count_is}
+use Rattle.thy_recover.proofs.FillingLemmas.{filling_is_lawful}
 use Rattle.thy_boot.proofs.ActLemmas.{steps_act, found_stays, steps_fill, failures_act, steps_come_nearer}
 use Rattle.thy_boot.proofs.GoOnLemmas.{sound_may_step}
 use Rattle.thy_migrate.specs.declared.migration.Migration.{Migration}
@@ -74,9 +74,8 @@ use Rattle.thy_dual_laws.specs.Boots.{Boots, IsUnderWay}
 use Rattle.thy_dual_laws.specs.Booted.{IsUnused}
 use Rattle.thy_dual_laws.specs.Dual.{Dual, is_promoting}
 use Rattle.thy_dual_laws.specs.Scheme.{dual_scheme}
-use Rattle.thy_dual_laws.proofs.BootLemmas.{view-reads, view-migrates, boot-holds}
+use Rattle.thy_dual_laws.proofs.BootLemmas.{view-reads, view-migrates}
 use Rattle.thy_dual_laws.proofs.BootedLemmas.{booted_is_sound, booting-whole}
-use Rattle.thy_dual_laws.proofs.SafeLemmas.{Safe-read}
 
 -- ---- the controller has no checkpoint under way
 
@@ -84,14 +83,14 @@ module _ (o : Origin) (g : BootImages) (n : Device) (b : Booting) (c : State) wh
   idle-read : (r : ReadStage) → ((bad : BadImage) → Reads r ≢ Reads (Refusing bad)) → HasReadAt filling_dual (Reads r) n b c → c.under_way ≡ false
   idle-read Unread good h = h.fresh.booting.idle
   idle-read ReadsHeader good h = h.0.fresh.booting.idle
-  idle-read (ReadsSlot next) good h = h.0.taken.booting.idle
+  idle-read (ReadsSlot next) good h = h.0.fresh.booting.idle
   idle-read (Fills k) good h = h.0.lists.booting.idle
   idle-read (Refusing bad) good h = absurd (good bad refl)
 
   idle-at : (q : Stage) → b.stage ≡ q → ((bad : BadImage) → q ≢ Reads (Refusing bad)) → IsSoundAt filling_dual o q g n b c → c.under_way ≡ false
   idle-at (Reads r) is good far = idle-read r good (subst (λ (x : Stage). HasReadAt filling_dual x n b c) is far.read.so_far)
   idle-at (Loading issue) is good far = far.fresh.fresh.booting.idle
-  idle-at (Over Restored) is good far = (subst (λ (x : Stage). HasReadAt filling_dual x n b c) is far.read.so_far).lists.booting.idle
+  idle-at (Over Restored) is good far = (subst (λ (x : Stage). HasReadAt filling_dual x n b c) is far.read.so_far).listed.lists.booting.idle
   idle-at (Over Loaded) is good far = far.fresh.fresh.booting.idle
 
 -- ---- the boot is over
@@ -113,7 +112,8 @@ booted-at o t new m cpu image unused storeless up keeps over count =
 
 -- the mark has the count of the processor
 count-same : (o : Origin) (m : Mark) (cpu : CpuState) (n : Device) (c : State) → LoadsState o m cpu n c → cpu.count ≡ m.count
-count-same o m cpu n c has = sym (count_is o.geometry cpu (loads c n)) ∙ ap (λ (x : Plain). x.count) has.state ∙ has.counted
+unfolding state_from
+count-same o m cpu n c has = ap (λ (x : Plain). x.count) has.state ∙ has.counted
 
 mark-same : (m : Mark) (epoch count : ℕ) → m.epoch ≡ epoch → count ≡ m.count → m ≡ mark epoch count
 mark-same m epoch count e k = ap (λ (x : ℕ). mark x m.count) e ∙ ap (mark epoch) (sym k)
@@ -129,12 +129,12 @@ read-asked Barrier h = absurd h
 read-asked Drain h = absurd h
 
 -- a migration begins after a checkpoint of version 1
-begun-back : (p : Parameters) (q : Stage) (commit : Block) (at : Migration) → begun_at p q commit ≡ Some at → (q ≡ Over Restored) × (version_of p commit ≡ VersionOne) × (at ≡ SlotAt 0)
+begun-back : (p : Parameters) (q : Stage) (commit : Block) (at : Migration) → begun_at p q commit ≡ Some at → (q ≡ Over Restored) × (version_of scheme_number p commit ≡ VersionOne) × (at ≡ SlotAt 0)
 begun-back p (Reads r) commit at h = cc
 begun-back p (Loading issue) commit at h = cc
 begun-back p (Over Loaded) commit at h = cc
-begun-back p (Over Restored) commit at h = by_version (version_of p commit) refl h where
-  by_version : (f : LayoutVersion) → version_of p commit ≡ f → begun_from f ≡ Some at → (let q : Stage = Over Restored in q ≡ Over Restored) × (version_of p commit ≡ VersionOne) × (at ≡ SlotAt 0)
+begun-back p (Over Restored) commit at h = by_version (version_of scheme_number p commit) refl h where
+  by_version : (f : LayoutVersion) → version_of scheme_number p commit ≡ f → begun_from f ≡ Some at → (let q : Stage = Over Restored in q ≡ Over Restored) × (version_of scheme_number p commit ≡ VersionOne) × (at ≡ SlotAt 0)
   by_version VersionOne e h = (refl, e, cc)
   by_version VersionTwo e h = cc
 
@@ -268,7 +268,7 @@ module _ (o : Origin) (s : Dual) (n : Device) (booting : IsBooting dual_scheme o
       let shows = subst (λ (x : Stage). CoreStep o v (boot_did (answer_at filling_dual x d)) (seen_at o g.kept x)) is moved.shows in
       before ∙ was-found o g b.stage (mark (epoch_of d.commit) (cpu_of_record d.p (slot_read filling_dual d)).count) going shows.done
 
-  restarted : d.stage ≡ Over Restored → version_of d.p d.commit ≡ VersionTwo → Restarts dual_scheme o (cpu_of_record d.p (slot_read filling_dual d)) (epoch_of d.commit) s n t new
+  restarted : d.stage ≡ Over Restored → version_of scheme_number d.p d.commit ≡ VersionTwo → Restarts dual_scheme o (cpu_of_record d.p (slot_read filling_dual d)) (epoch_of d.commit) s n t new
   restarted is two =
       let epoch : ℕ = epoch_of d.commit in
       let cpu : CpuState = cpu_of_record d.p (slot_read filling_dual d) in
@@ -284,7 +284,7 @@ module _ (o : Origin) (s : Dual) (n : Device) (booting : IsBooting dual_scheme o
 
   -- ---- or the image that was found is of version 1
 
-  begins : d.stage ≡ Over Restored → version_of d.p d.commit ≡ VersionOne → r.migration ≡ Some (SlotAt 0) → Boots o t new × BootsTo (view_at decode_image o b.stage n) (view_at decode_image o d.stage new)
+  begins : d.stage ≡ Over Restored → version_of scheme_number d.p d.commit ≡ VersionOne → r.migration ≡ Some (SlotAt 0) → Boots o t new × BootsTo (view_at decode_image o b.stage n) (view_at decode_image o d.stage new)
   begins is one on =
       let found = migration_begins o h new d e boots.origin moved.sound is one in
       let m : Mark = found.0 in
@@ -307,7 +307,7 @@ module _ (o : Origin) (s : Dual) (n : Device) (booting : IsBooting dual_scheme o
   answers-at (Reads (Refusing bad)) is none shows = absurd (never bad is)
   answers-at (Loading issue) is none shows = goes-on (Loading issue) is tt none shows.1
   answers-at (Over Restored) is none shows =
-      restarted is (not-begun (version_of d.p d.commit) (sym (ap (λ (q : Stage). begun_at d.p q d.commit) is) ∙ sym begun ∙ none))
+      restarted is (not-begun (version_of scheme_number d.p d.commit) (sym (ap (λ (q : Stage). begun_at d.p q d.commit) is) ∙ sym begun ∙ none))
   answers-at (Over Loaded) is none shows = loaded is
 
   -- a read, if a migration begins
@@ -486,8 +486,7 @@ module _ (o : Origin) (s : Dual) (n : Device) (booting : IsBooting dual_scheme o
       let seen : View = seen_at o boots.images.kept b.stage in
       let action : Action = action_of filling_dual o.start b s.control in
       let safe : Safe decode_image o seen.done (doubt_after_fault action seen) new
-      = Safe-read o seen.done (doubt_after_fault action seen) new (framed.blocks ∙ (boot-holds o s n boots).sized)
-      (failures_move filling_dual filling_is_lawful o boots.images n b s.control new boots.origin sound going fails framed).safe in
+      = (failures_move filling_dual filling_is_lawful o boots.images n b s.control new boots.origin sound going fails framed).safe in
       let answer : BootStep = failed_answer b.stage in
       let before : view_at decode_image o b.stage n ≡ seen = view-reads o boots.images n b s.control sound going in
       record {
@@ -510,7 +509,7 @@ module _ (o : Origin) (s : Dual) (n : Device) (booting : IsBooting dual_scheme o
       let b : Booting = s.boot.boot in
       let action : Action = action_on b at in
       let safe : Safe decode_image o (Some m) None new
-      = Safe-read o (Some m) None new (framed.blocks ∙ h.issued.sized) (failure_is_safe o m at booting.boots.images n new b s.control h fails framed) in
+      = failure_is_safe o m at booting.boots.images n new b s.control h fails framed in
       record {
         step = GoesOn;
         acted = record { action = action; asked = migration-asked b.p (slot_read filling_dual b) (epoch_of b.commit) at; failed = fails };

@@ -15,7 +15,8 @@ use Rattle.thy_base.proofs.DeviceLemmas.{newest-empty}
 use Rattle.thy_crash.specs.Saved.{Saved, Kept}
 use Rattle.thy_isa.specs.declared.state.CpuState.{CpuState}
 use Rattle.thy_isa.specs.OnBlocks.{state_from}
-use Rattle.thy_record.specs.Images.{memory_in, memory_numbers}
+use Rattle.thy_layout.specs.Layout.{blocks_at}
+use Rattle.thy_record.specs.Images.{memory_numbers}
 use Rattle.thy_record.specs.Tables.{place_of as place_in}
 use Rattle.thy_table.specs.Listing.{entry_at, passes}
 use Rattle.thy_table.specs.declared.block_entry.BttEntry.{BttEntry}
@@ -32,7 +33,7 @@ use Rattle.thy_control.proofs.MarkLemmas.{counted-some}
 use Rattle.thy_control.proofs.TablesLemmas.{AreTablesOf-committed}
 use Rattle.thy_control.proofs.GuardLemmas.{placed-in_nvm}
 use Rattle.thy_protocol.specs.Keeps.{Keeps}
-use Rattle.thy_protocol.specs.DualLayouts.{layout_of}
+use Rattle.thy_record.specs.DualLayouts.{layout_of}
 use Rattle.thy_view.specs.Origin.{Origin}
 use Rattle.thy_commit.specs.declared.stage.CheckpointStage.{CheckpointStage}
 use Rattle.thy_commit.specs.declared.stage.CheckpointStage.TheVariants.{Nothing, Copies, Pages, Slot, Settle, Commit, Confirm}
@@ -61,14 +62,14 @@ module _ (c : State) (n : Device) (tables : AreSoundTables c) (settled : n.queue
       ∙ newest-empty n (number_of c.p there) settled
       ∙ ap (λ (y : Place). block_at n.image (number_of c.p y)) (sym ((AreTablesOf-committed c tables).same_place b l))
 
-  penults-are : penults c n ≡ memory_in c.p (tables0 c) n.image
+  penults-are : penults c n ≡ blocks_at n.image (memory_numbers c.p (tables0 c))
   penults-are =
       let size : ℕ = memory_blocks c.p in
       let num : ℕ → ℕ = λ b. number_of c.p (place_in (tables0 c) b) in
       let size_a : length (penults c n) ≡ size = length-map (range_with_len 0 size) (penult_of c n) ∙ length-range_with_len 0 size in
       let size_n : length (memory_numbers c.p (tables0 c)) ≡ size = length-map (range_with_len 0 size) num ∙ length-range_with_len 0 size in
-      let size_b : length (memory_in c.p (tables0 c) n.image) ≡ size = length-map (memory_numbers c.p (tables0 c)) (block_at n.image) ∙ size_n in
-      ext_get_or zero_block (penults c n) (memory_in c.p (tables0 c) n.image) (size_a ∙ sym size_b)
+      let size_b : length (blocks_at n.image (memory_numbers c.p (tables0 c))) ≡ size = length-map (memory_numbers c.p (tables0 c)) (block_at n.image) ∙ size_n in
+      ext_get_or zero_block (penults c n) (blocks_at n.image (memory_numbers c.p (tables0 c))) (size_a ∙ sym size_b)
       (λ i l.
       let inside : i < size = omega (arith, l, size_a) in
       get_or-map-range_with_len (penult_of c n) 0 size i i zero_block inside (omega arith) ∙ penult_stands i inside

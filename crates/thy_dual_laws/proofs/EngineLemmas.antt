@@ -11,11 +11,11 @@ use Rattle.thy_base.proofs.RangeLemmas.{btt_least}
 use Rattle.thy_crash.proofs.SavedLemmas.{next_image-commit}
 use Rattle.thy_isa.specs.OnBlocks.{state_from}
 use Rattle.thy_place.specs.Devices.{devices_of}
-use Rattle.thy_record.specs.Commit.{commit_of}
-use Rattle.thy_record.specs.Header.{header_fault}
-use Rattle.thy_record.specs.Images.{decode_image}
-use Rattle.thy_record.specs.declared.engine_step.EngineStep.{EngineStep}
-use Rattle.thy_record.specs.declared.engine_step.EngineStep.TheVariants.{Idle, Copied, PageBlock, StateBlock, TableBlock, Barrier, CommitWritten, Committed}
+use Rattle.thy_layout.specs.Commit.{commit_of}
+use Rattle.thy_layout.specs.Header.{header_fault}
+use Rattle.thy_record.specs.Number.{scheme_number}
+use Rattle.thy_layout.specs.declared.engine_step.EngineStep.{EngineStep}
+use Rattle.thy_layout.specs.declared.engine_step.EngineStep.TheVariants.{Idle, Copied, PageBlock, StateBlock, TableBlock, Barrier, CommitWritten, Committed}
 use Rattle.thy_table.specs.Listing.{free_count}
 use Rattle.thy_control.specs.Copies.{next_copy}
 use Rattle.thy_control.specs.Frees.{HasNoWork}
@@ -24,7 +24,7 @@ use Rattle.thy_control.specs.Pages.{next_page}
 use Rattle.thy_control.specs.State.{State, AreSoundTables, penult_of, last_of}
 use Rattle.thy_control.specs.Stays.{HoldAll}
 use Rattle.thy_protocol.specs.Moves.{standing, IsKeeping, Move}
-use Rattle.thy_protocol.specs.DualLayouts.{dual_layouts, layout_of}
+use Rattle.thy_record.specs.DualLayouts.{dual_layouts, layout_of, decode_image}
 use Rattle.thy_protocol.proofs.KeepsLemmas.{IsKeeping-move, Safe-kept}
 use Rattle.thy_crash.specs.Saved.{InDoubt}
 use Rattle.thy_view.specs.Action.{Acts, ActionFailed}
@@ -60,7 +60,7 @@ use Rattle.thy_dual_laws.specs.Scheme.{dual_scheme}
 use Rattle.thy_dual_laws.specs.Sound.{is_confirming, IsHeld, IsOfRest, HasRoom, IsRest, IsSoundDual}
 use Rattle.thy_dual_laws.proofs.BlocksLemmas.{blocks-agree}
 use Rattle.thy_dual_laws.proofs.ItemLemmas.{IsWrite, IsWrite-after, IsWritten-after, back, back-item, not-confirming}
-use Rattle.thy_dual_laws.proofs.SafeLemmas.{Safe-read, Safe-doubt}
+use Rattle.thy_dual_laws.proofs.SafeLemmas.{Safe-doubt}
 
 -- ---- how steps are reported
 
@@ -205,8 +205,8 @@ module _ (o : Origin) (k : CheckpointMarks) (s : Dual) (n : Device) (stands : St
       room = wrote.room ∙ sound.held.room;
     }
 
-    header : header_fault (newest (nvm_after i) 0) o.geometry true ≡ None
-    header = ap (λ (b : Block). header_fault b o.geometry true) (wrote.header (omega (arith, sound.held.sized.nvm))) ∙ sound.header
+    header : header_fault scheme_number (newest (nvm_after i) 0) o.geometry true ≡ None
+    header = ap (λ (b : Block). header_fault scheme_number b o.geometry true) (wrote.header (omega (arith, sound.held.sized.nvm))) ∙ sound.header
 
     keeping : IsKeeping o (layout_of o) (standing_at (record e { next = next_after e.p i }) (nvm_after i) (checkpoints_after i e n images))
     keeping = IsKeeping-move o (layout_of o) (standing_at e n images)
@@ -402,7 +402,7 @@ module _ (o : Origin) (k : CheckpointMarks) (s : Dual) (n : Device) (stands : St
   failed-safe Confirm new is keeps = safe-other Confirm new is keeps refl
   failed-safe Commit new is keeps =
       let safe : Safe decode_image o images.kept images.sealed new
-      = Safe-read o images.kept images.sealed new keeps.sized (Safe-kept dual_layouts o new (InDoubt images.before images.next) images.kept images.sealed keeps) in
+      = Safe-kept dual_layouts o new (InDoubt images.before images.next) images.kept images.sealed keeps in
       subst (λ (m : Option Mark). Safe decode_image o m k.sealed new) sound.checkpoints.kept
       (subst (λ (m : Option Mark). Safe decode_image o images.kept m new) sound.checkpoints.sealed safe)
 

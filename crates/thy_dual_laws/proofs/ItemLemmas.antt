@@ -11,7 +11,7 @@ use Rattle.thy_base.proofs.DeviceLemmas.{newest-written_to_other, newest-settled
 use Rattle.thy_dram.specs.Contents.{written}
 use Rattle.thy_place.specs.Devices.{Devices, devices_of, read_at, written_at}
 use Rattle.thy_cell.specs.Cells.{seat_of, frame_at, target, last}
-use Rattle.thy_record.specs.Commit.{commit_of}
+use Rattle.thy_layout.specs.Commit.{commit_of}
 use Rattle.thy_control.specs.Commit.{committed_state}
 use Rattle.thy_control.specs.Copies.{next_copy, block_listed, copied, devices_copied}
 use Rattle.thy_control.specs.Pages.{next_page, block_to_write, issued, devices_issued}

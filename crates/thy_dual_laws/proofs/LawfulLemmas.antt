@@ -20,7 +20,7 @@ use Rattle.thy_dual_laws.proofs.BootLemmas.{boot_is_sound, power_finds, power_is
 use Rattle.thy_dual_laws.proofs.HoldsLemmas.{run_is_sound}
 use Rattle.thy_dual_laws.proofs.StaysLemmas.{stays_keep}
 use Rattle.thy_dual_laws.proofs.StoreLemmas.{held_is_up, ready_is_whole, same-stays, on-stays, of-stays}
-use Rattle.thy_record.specs.Images.{decode_image}
+use Rattle.thy_record.specs.DualLayouts.{decode_image}
 
 -- ---- power can come on
 

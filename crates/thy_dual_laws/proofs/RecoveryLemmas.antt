@@ -9,8 +9,9 @@ use Rattle.thy_base.proofs.CrashLemmas.{Crash-image}
 use Rattle.thy_base.proofs.BasicLemmas.{some_same}
 use Rattle.thy_crash.specs.Fixed.{IsFixed}
 use Rattle.thy_crash.proofs.FixedLemmas.{block_at-fixed}
-use Rattle.thy_record.specs.Commit.{epoch_of, version_of}
-use Rattle.thy_record.specs.Images.{decode_image}
+use Rattle.thy_layout.specs.Commit.{epoch_of, version_of}
+use Rattle.thy_record.specs.DualLayouts.{decode_image}
+use Rattle.thy_record.specs.Number.{scheme_number}
 use Rattle.thy_control.specs.State.{State}
 use Rattle.thy_view.specs.declared.view.View.{View}
 use Rattle.thy_view.specs.Action.{ActsBy, ActionFailedBy}
@@ -79,12 +80,12 @@ migration_writes o s n found boots migrates done =
 one_is_not_two : VersionOne ≡ VersionTwo → ⊥
 one_is_not_two e = cc
 
-module _ (o : Origin) (g : BootImages) (n : Device) (b : Booting) (c : State) (two : version_of o.geometry (block_at n.image 1) ≡ VersionTwo) where
+module _ (o : Origin) (g : BootImages) (n : Device) (b : Booting) (c : State) (two : version_of scheme_number o.geometry (block_at n.image 1) ≡ VersionTwo) where
   -- the image that is kept until the commit block is written is of version 1
   not-kept : (m : Mark) (at : Migration) → IsMigrating o m at g n b c → IsFixed n 1 (block_at g.before 1) → ⊥
   not-kept m at h fixed =
       let same : block_at n.image 1 ≡ block_at g.before 1 = block_at-fixed n n.image 1 (block_at g.before 1) fixed (Crash-image n) in
-      one_is_not_two (sym h.found.told.of_version ∙ sym (ap (version_of o.geometry) same) ∙ two)
+      one_is_not_two (sym h.found.told.of_version ∙ sym (ap (version_of scheme_number o.geometry) same) ∙ two)
 
   stays-at : (m : Mark) (at : Migration) → IsMigrating o m at g n b c → at ≡ Confirm
   stays-at m (Slot k) h = absurd (not-kept m (Slot k) h h.keeps.saved.commit)

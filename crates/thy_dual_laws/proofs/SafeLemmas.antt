@@ -1,30 +1,19 @@
 -- What the NVM keeps of the checkpoints is safe.
-use Rattle.std.proofs.Common.{◌≡◌, Bool, length, if◌then◌else◌, refl, sym, ◌∙◌, ap, subst, Option, Some, None}
+use Rattle.std.proofs.Common.{◌≡◌, Bool, if◌then◌else◌, refl, sym, ◌∙◌, ap, subst, Option, Some, None}
 use Rattle.thy_base.specs.declared.mark.Mark.{Mark}
 use Rattle.thy_base.specs.Device.{Device}
-use Rattle.thy_base.specs.Places.{image_blocks}
-use Rattle.thy_record.specs.Decoded.{Decoded}
-use Rattle.thy_record.specs.Images.{decode_image}
 use Rattle.thy_view.specs.Origin.{Origin}
-use Rattle.thy_view.specs.Safe.{ceiling, IsOneOf, Safe}
+use Rattle.thy_view.specs.Safe.{Safe}
 use Rattle.thy_protocol.specs.Keeps.{doubt_in}
-use Rattle.thy_protocol.specs.Layout.{reading}
 use Rattle.thy_protocol.specs.Moves.{IsKeeping}
-use Rattle.thy_protocol.specs.DualLayouts.{dual_layouts, layout_of}
+use Rattle.thy_record.specs.DualLayouts.{dual_layouts, layout_of, decode_image}
 use Rattle.thy_protocol.proofs.KeepsLemmas.{Safe-kept}
-use Rattle.thy_protocol.proofs.DualLayoutsLemmas.{decode_by-dual_layouts}
 use Rattle.thy_commit.specs.declared.stage.CheckpointStage.{CheckpointStage}
 use Rattle.thy_commit.specs.declared.stage.CheckpointStage.TheVariants.{Nothing, Copies, Pages, Slot, Settle, Commit, Confirm}
 use Rattle.thy_commit.specs.Moves.{Checkpoints, saved_at, standing_at}
 use Rattle.thy_commit.specs.Progress.{Progress}
 use Rattle.thy_scheme.specs.CheckpointMarks.{CheckpointMarks, doubt_in as doubt_of}
 use Rattle.thy_dual_laws.specs.Sound.{is_confirming}
-
--- images of the run's length are read by their layout
-pub Safe-read : (o : Origin) (kept sealed : Option Mark) (n : Device) → length n.image ≡ image_blocks o.geometry
-    → Safe (reading dual_layouts) o kept sealed n → Safe decode_image o kept sealed n
-Safe-read o kept sealed n sized safe g crash =
-    subst (λ (d : Decoded). IsOneOf o kept sealed d) (decode_by-dual_layouts o.geometry ceiling g (crash.same_length ∙ sized)) (safe g crash)
 
 -- the mark in doubt is the sealed one, if the engine waits for the last barrier
 doubt-at : (q : CheckpointStage) (c : Checkpoints) → doubt_in (saved_at q c) c.sealed ≡ (if is_confirming q then c.sealed else None)
@@ -45,4 +34,4 @@ module _ (o : Origin) (k : CheckpointMarks) (e : Progress) (n : Device) (c : Che
       = doubt-at e.next c ∙ ap (λ (w : Bool). if w then c.sealed else None) (sym written) ∙ ap (λ (m : Option Mark). if k.written then m else None) sealed in
       subst (λ (m : Option Mark). Safe decode_image o m (doubt_of k) n) kept
       (subst (λ (m : Option Mark). Safe decode_image o c.kept m n) doubt
-      (Safe-read o c.kept (doubt_in (saved_at e.next c) c.sealed) n keeping.sized (Safe-kept dual_layouts o n (saved_at e.next c) c.kept c.sealed keeping)))
+      (Safe-kept dual_layouts o n (saved_at e.next c) c.kept c.sealed keeping))

@@ -15,7 +15,7 @@ use Rattle.thy_control.specs.Stays.{HoldAll}
 use Rattle.thy_control.specs.Versions.{KeepsCommitted}
 use Rattle.thy_control.proofs.HoldingLemmas.{works-sized}
 use Rattle.thy_protocol.proofs.KeepsLemmas.{IsKeeping-move}
-use Rattle.thy_protocol.specs.DualLayouts.{layout_of}
+use Rattle.thy_record.specs.DualLayouts.{layout_of}
 use Rattle.thy_view.specs.Origin.{Origin}
 use Rattle.thy_commit.specs.Items.{is_under_way}
 use Rattle.thy_commit.specs.Chain.{IsNextSeal, sealing, IsSealed}

@@ -5,8 +5,8 @@ use Rattle.thy_base.specs.declared.config.Parameters.{Parameters}
 use Rattle.thy_base.specs.Device.{Device, newest}
 use Rattle.thy_base.specs.Places.{image_blocks}
 use Rattle.thy_isa.specs.OnBlocks.{state_from}
-use Rattle.thy_record.specs.Header.{header_fault}
-use Rattle.thy_record.specs.Images.{decode_image}
+use Rattle.thy_layout.specs.Header.{header_fault}
+use Rattle.thy_record.specs.Number.{scheme_number}
 use Rattle.thy_table.specs.Listing.{Listing, entry_at, free_count, mapped}
 use Rattle.thy_table.specs.declared.block_entry.BttEntry.{BttEntry}
 use Rattle.thy_control.specs.Frees.{HasNoWork, settled}
@@ -14,7 +14,7 @@ use Rattle.thy_control.specs.State.{State, AreSoundTables, IsSized, penult_of, l
 use Rattle.thy_control.specs.Stays.{HoldAll, Stays, StaysUp, StaysHeld}
 use Rattle.thy_protocol.specs.Moves.{IsKeeping}
 use Rattle.thy_protocol.proofs.KeepsLemmas.{IsKeeping-move}
-use Rattle.thy_protocol.specs.DualLayouts.{layout_of}
+use Rattle.thy_record.specs.DualLayouts.{layout_of, decode_image}
 use Rattle.thy_view.specs.Origin.{Origin}
 use Rattle.thy_view.specs.Safe.{Safe}
 use Rattle.thy_commit.specs.Items.{is_under_way}
@@ -50,8 +50,8 @@ module _ (o : Origin) (e : Progress) (s : State) (n : Device) (t : State) (new :
     held : StaysHeld s n t new
     held = between.held holds
 
-    header-on : (p : Parameters) → header_fault (newest n 0) p true ≡ None → header_fault (newest new 0) p true ≡ None
-    header-on p h = ap (λ (b : Block). header_fault b p true) (between.apart_reads 0 (inl (omega arith)) (omega arith)) ∙ h
+    header-on : (p : Parameters) → header_fault scheme_number (newest n 0) p true ≡ None → header_fault scheme_number (newest new 0) p true ≡ None
+    header-on p h = ap (λ (b : Block). header_fault scheme_number b p true) (between.apart_reads 0 (inl (omega arith)) (omega arith)) ∙ h
 
     lasts-on : lasts t new ≡ lasts s n
     lasts-on = blocks-agree (last_of t new) (last_of s n) s.p t.p stays.same_p held.last_same

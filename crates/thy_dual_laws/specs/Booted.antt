@@ -9,7 +9,7 @@ use Rattle.thy_isa.specs.declared.state.CpuState.{CpuState}
 use Rattle.thy_view.specs.Origin.{Origin}
 use Rattle.thy_control.specs.State.{AreSoundTables}
 use Rattle.thy_protocol.specs.Keeps.{Keeps}
-use Rattle.thy_protocol.specs.DualLayouts.{layout_of}
+use Rattle.thy_record.specs.DualLayouts.{layout_of}
 use Rattle.thy_commit.specs.Items.{is_under_way}
 use Rattle.thy_commit.specs.Progress.{IsSoundProgress}
 use Rattle.thy_recover.specs.Booted.{IsBooted}

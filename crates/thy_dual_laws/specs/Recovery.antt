@@ -7,7 +7,8 @@ use Rattle.thy_base.specs.declared.mark.Mark.{Mark}
 use Rattle.thy_base.specs.declared.mix.Pick.{Pick}
 use Rattle.thy_base.specs.Device.{Device, HasFailed, block_at}
 use Rattle.thy_base.specs.Places.{slot_blocks, slot_place}
-use Rattle.thy_record.specs.Commit.{version_of}
+use Rattle.thy_layout.specs.Commit.{version_of}
+use Rattle.thy_record.specs.Number.{scheme_number}
 use Rattle.thy_view.specs.declared.did.Did.{Did}
 use Rattle.thy_view.specs.declared.did.Stepped.{Stepped}
 use Rattle.thy_view.specs.declared.view.Phase.TheVariants.{Boot}
@@ -61,7 +62,7 @@ IsOfMigration p epoch action = ⊥
 
 -- a boot that migrates has found a checkpoint of version 1, and its action is one of these
 pub record MigratesFound (p : Parameters) (epoch : ℕ) (b : Booting) (at : Migration) : Type 0 where
-  pub old : version_of b.p b.commit ≡ VersionOne
+  pub old : version_of scheme_number b.p b.commit ≡ VersionOne
   pub own : IsOfMigration p epoch (action_of b at)
 
 abbrev pub MigrationWrites : Type 0
@@ -75,5 +76,5 @@ MigrationWrites =
 -- itself has only its last barrier to come.
 abbrev pub VersionTwoStays : Type 0
 VersionTwoStays =
-    (o : Origin) (s : Dual) (n : Device) → Boots o s n → version_of o.geometry (block_at n.image 1) ≡ VersionTwo
+    (o : Origin) (s : Dual) (n : Device) → Boots o s n → version_of scheme_number o.geometry (block_at n.image 1) ≡ VersionTwo
     → (dual_scheme.migrates s ≡ false) ⊎ (s.boot.migration ≡ Some Confirm)

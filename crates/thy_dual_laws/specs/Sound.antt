@@ -4,14 +4,15 @@ use Rattle.thy_base.specs.declared.mark.Mark.{Mark}
 use Rattle.thy_base.specs.Device.{Device, newest}
 use Rattle.thy_isa.specs.declared.state.CpuState.{CpuState}
 use Rattle.thy_isa.specs.OnBlocks.{state_from}
-use Rattle.thy_record.specs.Header.{header_fault}
+use Rattle.thy_layout.specs.Header.{header_fault}
 use Rattle.thy_table.specs.Listing.{free_count}
 use Rattle.thy_control.specs.Frees.{HasNoWork}
 use Rattle.thy_control.specs.Seal.{sealed_state}
 use Rattle.thy_control.specs.State.{State, AreSoundTables, IsSized}
 use Rattle.thy_control.specs.Stays.{HoldAll}
 use Rattle.thy_protocol.specs.Moves.{IsKeeping}
-use Rattle.thy_protocol.specs.DualLayouts.{layout_of}
+use Rattle.thy_record.specs.Number.{scheme_number}
+use Rattle.thy_record.specs.DualLayouts.{layout_of}
 use Rattle.thy_view.specs.Origin.{Origin, at}
 use Rattle.thy_commit.specs.declared.stage.CheckpointStage.{CheckpointStage}
 use Rattle.thy_commit.specs.declared.stage.CheckpointStage.TheVariants.{Confirm}
@@ -78,6 +79,6 @@ pub record IsSoundDual (o : Origin) (k : CheckpointMarks) (s : Dual) (n : Device
   -- a mark is sealed exactly if a checkpoint is under way
   pub way : is_under_way s.engine.next ≡ is_some k.sealed
   pub written : k.written ≡ is_confirming s.engine.next
-  pub header : header_fault (newest n 0) o.geometry true ≡ None
+  pub header : header_fault scheme_number (newest n 0) o.geometry true ≡ None
   pub committed : HasState o k.done s.control n
   pub rest : IsRest s

@@ -18,7 +18,7 @@ use Rattle.thy_gap.specs.Lines.{no_lines}
 use Rattle.thy_gap.specs.Meaning.{ImageMeansSeen, CrashMeansSeen, LeftMeansSeen}
 use Rattle.thy_gap.specs.Seen.{seen, unmapped}
 use Rattle.thy_gap.proofs.SeenLemmas.{length-unmap}
-use Rattle.thy_record.specs.Decoded.{Decoded}
+use Rattle.thy_layout.specs.Decoded.{Decoded}
 use Rattle.thy_text.specs.Event.{Event, Scheme, EpochEnd, Commit, Cut, Restart, Reload, Ended}
 use Rattle.thy_view.specs.Kind.{KindOf}
 use Rattle.thy_view.specs.Origin.{Origin}

@@ -14,7 +14,7 @@ use Rattle.thy_base.specs.Outside.{Stock, Stream}
 use Rattle.thy_base.specs.Bytes.{bytes_of}
 use Rattle.thy_image.specs.Meaning.{decode_of, blocks_of_image}
 use Rattle.thy_isa.specs.Step.{state_of}
-use Rattle.thy_record.specs.declared.start.Start.{Start}
+use Rattle.thy_layout.specs.declared.start.Start.{Start}
 use Rattle.thy_words.specs.Settings.{Job}
 use Rattle.thy_view.specs.Booting.{found_first}
 use Rattle.thy_view.specs.Kind.{KindOf, IsLawful, IsFittedFor}

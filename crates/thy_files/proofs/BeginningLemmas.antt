@@ -11,14 +11,14 @@ use Rattle.thy_isa.specs.declared.state.Status.TheVariants.{Running}
 use Rattle.thy_isa.specs.Storable.{IsNumber, IsOtherOf, IsStorable, IsReadable}
 use Rattle.thy_base.specs.Bytes.{bytes_of}
 use Rattle.thy_base.specs.Marks.{mark}
-use Rattle.thy_record.specs.Decoded.{At}
-use Rattle.thy_record.specs.Files.{blocks_of}
+use Rattle.thy_layout.specs.Decoded.{At}
+use Rattle.thy_layout.specs.Files.{blocks_of}
 use Rattle.thy_image.specs.Meaning.{decode_bytes}
 use Rattle.thy_image.proofs.LawLemmas.{file_is_image}
 use Rattle.thy_isa.specs.Step.{State, state_of}
 use Rattle.thy_isa.proofs.MemoryBounds.{anywhere}
-use Rattle.thy_record.specs.declared.start.Start.{Start}
-use Rattle.thy_record.specs.Cpu.{is_status, status_tag, status_value, IsOtherRecordable}
+use Rattle.thy_layout.specs.declared.start.Start.{Start}
+use Rattle.thy_layout.specs.Cpu.{is_status, status_tag, status_value, IsOtherRecordable}
 use Rattle.thy_elf.specs.declared.error.ElfError.{ElfError}
 use Rattle.thy_elf.specs.declared.image.Image.{Image}
 use Rattle.thy_elf.specs.Image.{Contents, contents_of, read_of}

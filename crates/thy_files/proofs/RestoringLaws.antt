@@ -10,9 +10,9 @@ use Rattle.thy_base.specs.Device.{zero_block}
 use Rattle.thy_base.specs.Geometry.{IsInRange}
 use Rattle.thy_base.specs.Marks.{mark}
 use Rattle.thy_isa.specs.Storable.{IsByte, IsReadable}
-use Rattle.thy_record.specs.Decoded.{At}
-use Rattle.thy_record.specs.Files.{block_in, blocks_of}
-use Rattle.thy_record.proofs.FileLemmas.{length-blocks_of, block_at-blocks_of}
+use Rattle.thy_layout.specs.Decoded.{At}
+use Rattle.thy_layout.specs.Files.{block_in, blocks_of}
+use Rattle.thy_layout.proofs.FileLemmas.{length-blocks_of, block_at-blocks_of}
 use Rattle.thy_image.specs.Meaning.{decode_by_scheme, blocks_by_scheme, decode_bytes}
 use Rattle.thy_image.proofs.LawLemmas.{file_begins}
 use Rattle.thy_view.specs.Kind.{KindOf}
@@ -39,7 +39,7 @@ blocks_all bytes k past = take_all k (blocks_of bytes) (omega (arith, length-blo
 pub IsOrigin-restored : (o : Origin) (bytes : List ℕ) (epoch : ℕ) → IsInRange o.geometry → All IsByte bytes → IsReadable (setting_of o)
     → decode_bytes o.geometry (2 ^ 62) bytes ≡ At epoch o.start → o.kept ≡ Some (mark epoch o.start.count) → IsOrigin o
 IsOrigin-restored o bytes epoch range are_bytes readable saved kept =
-    let begins = file_begins o.geometry.scheme o.geometry (2 ^ 62) bytes epoch o.start are_bytes saved in
+    let begins = file_begins o.geometry (2 ^ 62) bytes epoch o.start are_bytes saved in
     record {
       geometry = range;
       recordable = begins.recordable;

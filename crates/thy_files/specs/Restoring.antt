@@ -5,9 +5,9 @@ use Rattle.thy_base.specs.declared.config.Parameters.{Parameters}
 use Rattle.thy_base.specs.Bytes.{bytes_of}
 use Rattle.thy_base.specs.Marks.{mark}
 use Rattle.thy_isa.specs.Step.{state_of}
-use Rattle.thy_record.specs.declared.file.Found.TheVariants.{At as FoundAt}
-use Rattle.thy_record.specs.Decoded.{At}
-use Rattle.thy_record.specs.Files.{blocks_of, found_in}
+use Rattle.thy_layout.specs.declared.found.Found.TheVariants.{At as FoundAt}
+use Rattle.thy_layout.specs.Decoded.{At}
+use Rattle.thy_layout.specs.Files.{blocks_of, found_in}
 use Rattle.thy_image.specs.Meaning.{decode_of, blocks_of_image, decode_bytes}
 use Rattle.thy_view.specs.Kind.{KindOf}
 use Rattle.thy_files.specs.declared.restoring.Beginning.{Beginning}

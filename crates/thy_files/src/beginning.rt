@@ -13,8 +13,8 @@ use std::alloc::Global;
 use thy_answer::{ProgramSource, Refusal};
 use thy_base::{Geometry, Shelf};
 use thy_image::check;
+use thy_layout::{BadImage, Found, Start};
 use thy_plain::start_of;
-use thy_record::{BadImage, Found, Start};
 
 /// The epochs and counts of a saved image are below this.
 const SAVED_CEILING: u64 = 1 << 62;

@@ -1,13 +1,13 @@
 //! What a run begins with that resumes from a saved image.
 ghost use Rattle.std.specs.Prelude.{◌≡◌, IfOk};
 ghost use Rattle.thy_base.specs.Bytes.{bytes_of};
-ghost use Rattle.thy_record.specs.Files.{blocks_of};
+ghost use Rattle.thy_layout.specs.Files.{blocks_of};
 ghost use Rattle.thy_files.specs.Restoring.{IsFoundAt, IsRestored};
 
 use std::alloc::{AllocError, Global};
 use thy_base::{BLOCK_SIZE, Block, Bytes, Geometry, Mark};
 use thy_image::state;
-use thy_record::{Start, block_in};
+use thy_layout::{Start, block_in};
 
 /// What a run begins with: a start, and the first blocks of its device.
 #[derive(Drop)]

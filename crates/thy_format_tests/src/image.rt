@@ -8,7 +8,8 @@ use std::process::Abort;
 use std::test::Fail;
 use thy_base::{BLOCK_SIZE, Geometry, Parameters, SchemeName};
 use thy_isa::{MachState, OtherHart, Reg, Regs, Reservation, Status};
-use thy_record::{BadImage, Found, check, header_block, state, table_block};
+use thy_layout::{BadImage, Found, table_block};
+use thy_record::{check, header_block, state};
 
 /// The smallest machine: 8 pages, one of them the console's, and 8 entries in each table. Its image has the header,
 /// the commit block, 512 homes from block 16 on, 8 alternate blocks from block 528 on, 8 alternate pages of 64 blocks

@@ -7,9 +7,8 @@ use std::alloc::Global;
 use std::process::Abort;
 use thy_base::{Block, Geometry, Parameters, SchemeName, word};
 use thy_isa::{CpuState, OtherHart, Reg, Regs, Reservation, Status};
-use thy_record::{
-    BadImage, commit_block, commit_fault, cpu_block, cpu_in, header_block, header_fault, is_zero,
-};
+use thy_layout::{BadImage, commit_block, commit_fault, cpu_block, cpu_in, is_zero};
+use thy_record::{header_block, header_fault};
 
 /// Numbers of a machine with 256 pages, one of them the console's.
 static NUMBERS: Parameters = Parameters {

@@ -4,7 +4,7 @@ use std::alloc::Global;
 use std::process::Abort;
 use thy_base::{Bytes, EndCause, Field, SchemeName, Sink, SinkError};
 use thy_isa::{MachState, Regs, Status};
-use thy_record::BadImage;
+use thy_layout::BadImage;
 use thy_text::{
     Closing, Event, Events, FetchFault, History, Telling, digest, write_closing, write_ended,
     write_event, write_made, write_scheme, write_summary,

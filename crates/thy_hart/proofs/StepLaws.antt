@@ -76,6 +76,7 @@ IsStep-brought g b h c d old new r is miss w =
       others = λ x _. ap (λ m. block_at m x) w.memory;
       brought = λ x _ at. subst (λ y. BringsLine (victim_of c y) y c old d) (some_same b x (sym is ∙ at)) w.line;
       tidy = omega (arith, w.tidy);
+      room = omega (arith, w.room);
       used = λ no. let e = sym brought ∙ no in cc e;
       alone = λ no. let e = sym brought ∙ no in cc e;
       untouched = λ none. let e = sym is ∙ none in cc e;
@@ -160,6 +161,7 @@ IsStep-acted g h k c d held step free s r hit a =
       brought = λ b is _. let e = sym missing ∙ is in cc e;
       used = λ _. a.cache;
       tidy = a.tidy;
+      room = omega (arith, a.tidy);
       alone = λ _. refl;
       untouched = a.untouched;
       ready = record {

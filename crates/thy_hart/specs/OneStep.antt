@@ -139,8 +139,11 @@ pub record IsStep (g : Given) (old new : Moment) (step : HartStep) : Type 0 wher
   pub brought : (b : ℕ) → brings_line old ≡ true → next_block old.hart ≡ Some b
       → BringsLine (victim_of old.cache b) b old.cache old.held new.cache
   pub used : brings_line old ≡ false → new.cache ≡ cache_by old.cache old.hart old.hart.hand
-  -- a line becomes dirty only as room that was reserved is used for it
+  -- no more lines become dirty than reserved room is used, and no more room is taken than that makes up for, with the lines
+  -- that go clean
   pub tidy : dirty_count new.cache ≤ dirty_count old.cache + (reserved old.hart.hand - reserved new.hart.hand)
+  pub room : dirty_count new.cache + old.held.free
+      ≤ dirty_count old.cache + (reserved old.hart.hand - reserved new.hart.hand) + new.held.free
   -- the store is left alone if no line is brought, and the cache if no block is touched
   pub alone : brings_line old ≡ false → new.held ≡ old.held
   pub untouched : next_block old.hart ≡ None → new.cache ≡ old.cache

@@ -2,7 +2,7 @@
 use Rattle.std.proofs.Common.{◌≡◌, ℕ, ◌+◌, ◌*◌, ◌/◌, ◌%◌, ◌<◌, ◌≤◌, List, ◌++◌, length, drop, slice_index, map, replicate, sym, ◌∙◌, ap, subst, inl, inr, lit<, arith}
 use Rattle.std.specs.List.{All}
 use Rattle.std.proofs.lemmas.Bool.{cases_lt}
-use Rattle.std.proofs.lemmas.List.{length-take-le, length-drop, length-map, get_or_past, get_or-take, get_or-drop, get_or-map, ext_get_or}
+use Rattle.std.proofs.lemmas.List.{length-take-le, length-drop, length-map, get_or_past, get_or-map}
 use Rattle.std.proofs.lemmas.List.Elements.{All-append, All-replicate, All-take, All-drop, All-from_get_or}
 use Rattle.thy_base.specs.declared.block.Block.{Block}
 use Rattle.thy_base.specs.Blocks.{block_bytes}
@@ -11,9 +11,8 @@ use Rattle.thy_flat.specs.Flat.{flat, AllLong}
 use Rattle.thy_flat.proofs.FlatLemmas.{length-flat, flat_at}
 use Rattle.thy_isa.specs.Storable.{IsByte}
 use Rattle.thy_isa.proofs.MemoryBounds.{anywhere}
-use Rattle.thy_record.specs.Files.{blocks_of}
-use Rattle.thy_record.proofs.FileLemmas.{length-blocks_of, block_at-blocks_of}
-use Rattle.thy_record.proofs.RestoredLemmas.{block_bytes-block_in}
+use Rattle.thy_layout.specs.Files.{blocks_of}
+use Rattle.thy_layout.proofs.FileLemmas.{length-blocks_of, block_at-blocks_of}
 
 -- each is whole
 pub AllLong-blocks_of : (bytes : List ℕ) → AllLong (blocks_of bytes)
@@ -22,25 +21,6 @@ AllLong-blocks_of bytes = record {
       ap (λ (b : Block). length b.0) (block_at-blocks_of bytes k inside)
       ∙ length-take-le 64 (drop (64 * k) bytes) (omega (arith, length-drop (64 * k) bytes));
 }
-
--- and together they are the bytes, if these are whole blocks
-pub flat-blocks_of : (bytes : List ℕ) (n : ℕ) → length bytes ≡ 64 * n → flat (blocks_of bytes) ≡ bytes
-flat-blocks_of bytes n whole =
-    let all = length-flat (blocks_of bytes) in
-    let many = length-blocks_of bytes in
-    let same : length (flat (blocks_of bytes)) ≡ length bytes = omega (arith, all, many) in
-    ext_get_or 0 (flat (blocks_of bytes)) bytes same
-    (λ i below.
-    let inside : i / 64 < length bytes / 64 = omega (arith, same) in
-    let small : i % 64 < 64 = omega arith in
-    let at : 64 * (i / 64) + i % 64 ≡ i = omega arith in
-    ap (slice_index (flat (blocks_of bytes))) (sym at)
-    ∙ flat_at (blocks_of bytes) (i / 64) (i % 64) (omega (arith, many)) small
-    ∙ ap (λ (b : Block). slice_index (block_bytes b) (i % 64)) (block_at-blocks_of bytes (i / 64) inside)
-    ∙ ap (λ xs. slice_index xs (i % 64)) (block_bytes-block_in bytes (i / 64) inside)
-    ∙ get_or-take 64 (drop (64 * (i / 64)) bytes) (i % 64) 0 small
-    ∙ get_or-drop (64 * (i / 64)) bytes (i % 64) 0
-    ∙ ap (slice_index bytes) at)
 
 -- ---- their bytes
 

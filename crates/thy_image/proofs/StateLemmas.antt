@@ -19,10 +19,10 @@ use Rattle.thy_isa.specs.OnBlocks.{state_from}
 use Rattle.thy_isa.specs.Step.{State, cpu_of}
 use Rattle.thy_isa.specs.Storable.{IsNumber, IsByte, IsStatus, IsReservation, IsOther, IsOtherOf, IsStorable}
 use Rattle.thy_isa.proofs.MemoryBounds.{anywhere, number_at-number}
-use Rattle.thy_record.specs.Cpu.{status_of, is_status, record_word, record_words, other_of_record, second_of_record, cpu_of_record, IsOtherRecordable, IsRecordable}
-use Rattle.thy_record.specs.Slots.{status_fault}
-use Rattle.thy_record.proofs.CpuLemmas.{record_words-at, length-record_words, is_status-of}
-use Rattle.thy_record.proofs.ImageLemmas.{status_asks}
+use Rattle.thy_layout.specs.Cpu.{status_of, is_status, record_word, record_words, other_of_record, second_of_record, cpu_of_record, IsOtherRecordable, IsRecordable}
+use Rattle.thy_layout.specs.Slots.{status_fault}
+use Rattle.thy_layout.proofs.CpuLemmas.{record_words-at, length-record_words, is_status-of}
+use Rattle.thy_layout.proofs.AskingLemmas.{status_asks}
 use Rattle.thy_image.specs.Saved.{CanBegin}
 use Rattle.thy_image.proofs.BlockLemmas.{AreOfBytes, flat-bytes}
 

@@ -4,40 +4,36 @@ use Rattle.std.specs.Prelude.{ℕ, List}
 use Rattle.thy_base.specs.declared.config.Parameters.{Parameters}
 use Rattle.thy_base.specs.declared.config.SchemeName.{SchemeName}
 use Rattle.thy_base.specs.declared.config.SchemeName.TheVariants.{Thynvm, Journal, Shadow}
-use Rattle.thy_base.specs.Places.{image_blocks}
-use Rattle.thy_record.specs.Decoded.{Decoded, Reading}
-use Rattle.thy_record.specs.Files.{decode_file}
-use Rattle.thy_record.specs.Images.{decode_image}
-use Rattle.thy_journal_image.specs.Files.{decode_file as decode_journal_file}
-use Rattle.thy_journal_image.specs.Layout.{decode_journal}
-use Rattle.thy_journal_image.specs.Places.{image_blocks as journal_blocks}
-use Rattle.thy_shadow_image.specs.Files.{decode_file as decode_shadow_file}
-use Rattle.thy_shadow_image.specs.Layout.{decode_shadow}
-use Rattle.thy_shadow_image.specs.Places.{image_blocks as shadow_blocks}
+use Rattle.thy_layout.specs.Decoded.{Decoded, Reading}
+use Rattle.thy_layout.specs.Files.{decode_file}
+use Rattle.thy_layout.specs.Layout.{Layout, Layouts, reading}
+use Rattle.thy_record.specs.DualLayouts.{dual_layouts}
+use Rattle.thy_journal_image.specs.Layout.{journal_layouts}
+use Rattle.thy_shadow_image.specs.Layout.{shadow_layouts}
+
+-- how a scheme lays out its images
+abbrev pub layouts_by_scheme : SchemeName → Layouts
+layouts_by_scheme Thynvm = dual_layouts
+layouts_by_scheme Journal = journal_layouts
+layouts_by_scheme Shadow = shadow_layouts
+
+abbrev pub own_layout : Parameters → Layout
+own_layout p = layouts_by_scheme p.scheme p
 
 -- what an image of the NVM decodes to, with epochs and counts below a ceiling
 abbrev pub decode_by_scheme : SchemeName → Reading
-decode_by_scheme Thynvm = decode_image
-decode_by_scheme Journal = decode_journal
-decode_by_scheme Shadow = decode_shadow
+decode_by_scheme scheme = reading (layouts_by_scheme scheme)
 
 abbrev pub decode_of : Reading
 decode_of p ceiling image = decode_by_scheme p.scheme p ceiling image
 
 -- how many blocks it has
 abbrev pub blocks_by_scheme : SchemeName → Parameters → ℕ
-blocks_by_scheme Thynvm p = image_blocks p
-blocks_by_scheme Journal p = journal_blocks p
-blocks_by_scheme Shadow p = shadow_blocks p
+blocks_by_scheme scheme p = (layouts_by_scheme scheme p).image_blocks
 
 abbrev pub blocks_of_image : Parameters → ℕ
 blocks_of_image p = blocks_by_scheme p.scheme p
 
 -- what the bytes of a file decode to
-abbrev pub file_by_scheme : SchemeName → Parameters → ℕ → List ℕ → Decoded
-file_by_scheme Thynvm p ceiling bytes = decode_file p ceiling bytes
-file_by_scheme Journal p ceiling bytes = decode_journal_file p ceiling bytes
-file_by_scheme Shadow p ceiling bytes = decode_shadow_file p ceiling bytes
-
 abbrev pub decode_bytes : Parameters → ℕ → List ℕ → Decoded
-decode_bytes p ceiling bytes = file_by_scheme p.scheme p ceiling bytes
+decode_bytes p ceiling bytes = decode_file (own_layout p) ceiling bytes

@@ -3,7 +3,7 @@ use Rattle.std.specs.Prelude.{◌≡◌, ℕ, ◌<◌, List}
 use Rattle.thy_base.specs.declared.block.Block.{Block}
 use Rattle.thy_base.specs.declared.config.Parameters.{Parameters}
 use Rattle.thy_isa.specs.Step.{State}
-use Rattle.thy_record.specs.Decoded.{At}
+use Rattle.thy_layout.specs.Decoded.{At}
 use Rattle.thy_image.specs.Meaning.{decode_of, decode_bytes}
 
 -- parameters name the same scheme, harts and geometry

@@ -1,5 +1,5 @@
 -- What a file that has a checkpoint is to a run that begins with it.
-use Rattle.std.specs.Prelude.{◌≡◌, ℕ, ◌-◌, ◌<◌, ◌≤◌, List, ◌++◌, length, replicate, Ok}
+use Rattle.std.specs.Prelude.{◌≡◌, ℕ, ◌-◌, ◌<◌, ◌≤◌, List, ◌++◌, length, replicate}
 use Rattle.std.specs.List.{All}
 use Rattle.thy_base.specs.declared.block.Block.{Block}
 use Rattle.thy_base.specs.declared.config.Parameters.{Parameters}
@@ -8,22 +8,10 @@ use Rattle.thy_base.specs.Geometry.{program_size}
 use Rattle.thy_flat.specs.Flat.{AllLong}
 use Rattle.thy_isa.specs.Step.{State, cpu_of}
 use Rattle.thy_isa.specs.Storable.{IsByte, IsStorable}
-use Rattle.thy_record.specs.declared.file.Found.TheVariants.{At as FoundAt}
-use Rattle.thy_record.specs.Cpu.{IsRecordable}
-use Rattle.thy_record.specs.Decoded.{At}
-use Rattle.thy_record.specs.Files.{blocks_of, found_in}
+use Rattle.thy_layout.specs.Cpu.{IsRecordable}
+use Rattle.thy_layout.specs.Decoded.{At}
+use Rattle.thy_layout.specs.Files.{blocks_of}
 use Rattle.thy_image.specs.Meaning.{decode_of, blocks_of_image, decode_bytes}
-
--- a check of these bytes finds a checkpoint, below some ceiling
-pub record HasCheckpoint (p : Parameters) (bytes : List ℕ) : Type 0 where
-  pub ceiling : ℕ
-  pub epoch : ℕ
-  pub found : found_in (decode_bytes p ceiling bytes) ≡ Ok (FoundAt epoch)
-
--- whatever the ceiling, the checkpoint that is found has this state
-abbrev pub HasState : Parameters → List ℕ → State → Type 0
-HasState p bytes s =
-    (ceiling epoch : ℕ) → found_in (decode_bytes p ceiling bytes) ≡ Ok (FoundAt epoch) → decode_bytes p ceiling bytes ≡ At epoch s
 
 -- blocks with zeros behind them, up to the length of an image
 abbrev pub filled_up : Parameters → List Block → List Block

@@ -1,14 +1,16 @@
 //! The check of an image that stands in a file, and the state of its checkpoint.
 ghost use Rattle.std.specs.Prelude.{◌≡◌, IfOk};
 ghost use Rattle.thy_isa.specs.Step.{state_of};
-ghost use Rattle.thy_record.specs.Files.{found_in};
-ghost use Rattle.thy_image.specs.Meaning.{decode_bytes};
-ghost use Rattle.thy_image.specs.Saved.{HasCheckpoint, HasState};
+ghost use Rattle.thy_layout.specs.Files.{found_in, HasCheckpointOf, HasState};
+ghost use Rattle.thy_image.specs.Meaning.{own_layout, decode_bytes};
 
 use std::alloc::{AllocError, Global};
 use thy_base::{Geometry, SchemeName};
 use thy_isa::MachState;
-use thy_record::{BadImage, Found};
+use thy_journal_image::JournalImages;
+use thy_layout::{BadImage, Found, check_image, state_of_image};
+use thy_record::ThynvmImages;
+use thy_shadow_image::ShadowImages;
 
 /// What the bytes of a file have for a geometry: nothing, if there are at least 128 of them and the commit block is
 /// all zero; else the first of the refusals that its scheme has; else the checkpoint of an epoch. Epochs and counts have
@@ -17,20 +19,20 @@ pub fn check(image: &[u8], geometry: &Geometry, ceiling: u64) -> Result<Found, B
     ensures { result ≡ found_in (decode_bytes geometry.now ceiling image.now) }
 {
     match geometry.numbers().scheme {
-        SchemeName::Thynvm => thy_record::check(image, geometry, ceiling),
-        SchemeName::Journal => thy_journal_image::check(image, geometry, ceiling),
-        SchemeName::Shadow => thy_shadow_image::check(image, geometry, ceiling),
+        SchemeName::Thynvm => check_image::<ThynvmImages>(image, geometry, ceiling),
+        SchemeName::Journal => check_image::<JournalImages>(image, geometry, ceiling),
+        SchemeName::Shadow => check_image::<ShadowImages>(image, geometry, ceiling),
     }
 }
 
 /// The state of the checkpoint in the bytes of a file. A `check` of these bytes has found one.
 pub fn state(alloc: Global, image: &[u8], geometry: &Geometry) -> Result<MachState, AllocError>
-    requires { HasCheckpoint geometry.now image.now }
-    ensures { IfOk result (λ m. HasState geometry.now image.now (state_of m)) }
+    requires { HasCheckpointOf (own_layout geometry.now) image.now }
+    ensures { IfOk result (λ m. HasState (own_layout geometry.now) image.now (state_of m)) }
 {
     match geometry.numbers().scheme {
-        SchemeName::Thynvm => thy_record::state(alloc, image, geometry),
-        SchemeName::Journal => thy_journal_image::state(alloc, image, geometry),
-        SchemeName::Shadow => thy_shadow_image::state(alloc, image, geometry),
+        SchemeName::Thynvm => state_of_image::<ThynvmImages>(alloc, image, geometry),
+        SchemeName::Journal => state_of_image::<JournalImages>(alloc, image, geometry),
+        SchemeName::Shadow => state_of_image::<ShadowImages>(alloc, image, geometry),
     }
 }

@@ -3,7 +3,7 @@
 -- hart had reserved before; a store-conditional writes only if exactly its bytes are reserved. A hart loses its reservation by
 -- its own store-conditional, and by each write of the other hart to the block of 64 bytes that it is in. Nothing else takes it.
 -- A hart that has reserved nothing has an address too, which means nothing: 0, unless an image has another one there. That
--- one stays until the hart's next load-reserved or store-conditional.
+-- one stays until the hart's next load-reserved or store-conditional that does not trap.
 use Rattle.std.specs.Prelude.{ℕ, ◌+◌, ◌*◌, ◌/◌, ◌==◌, ◌&&◌, nat_lt, Bool, false, if◌then◌else◌, Option, Some, None}
 use Rattle.thy_isa.specs.declared.instr.Width.{Width}
 use Rattle.thy_isa.specs.declared.instr.Width.TheVariants.{Byte, Half, Word, Double}

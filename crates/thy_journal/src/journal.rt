@@ -34,8 +34,8 @@ use thy_dram::Dram;
 use thy_isa::CpuState;
 use thy_journal_image::blocks;
 use thy_journal_scheme::{calls_keep_the_run, what_is_held_stays};
+use thy_layout::{EngineStep, Start};
 use thy_log::{Engine, Log};
-use thy_record::{EngineStep, Start};
 use thy_scheme::Scheme;
 use thy_view::BootStep;
 

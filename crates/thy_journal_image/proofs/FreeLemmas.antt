@@ -1,17 +1,16 @@
 -- Which writes leave a checkpoint alone.
-use Rattle.std.proofs.Common.{◌≡◌, ◌≢◌, ℕ, zero, suc, ◌+◌, ◌%◌, ◌<◌, ◌≤◌, Bool, true, false, List, [], ◌∷◌, ◌++◌, Contains, Option, Some, None, refl, sym, ◌∙◌, ap, subst, inl, inr, arith}
-use Rattle.std.proofs.lemmas.List.Elements.{Contains-append_cases}
+use Rattle.std.proofs.Common.{◌≡◌, ◌≢◌, ℕ, zero, suc, ◌+◌, ◌%◌, ◌<◌, ◌≤◌, List, ◌∷◌, Contains, Option, Some, None, refl, sym, ◌∙◌, ap, subst, arith}
 use Rattle.thy_base.specs.declared.block.Block.{Block}
 use Rattle.thy_base.specs.declared.config.Parameters.{Parameters}
 use Rattle.thy_base.specs.Device.{block_at}
 use Rattle.thy_base.specs.Geometry.{memory_blocks}
-use Rattle.thy_base.proofs.BasicLemmas.{not_in_none, not_first, Contains-range}
-use Rattle.thy_record.specs.Commit.{is_zero, epoch_of}
-use Rattle.thy_record.specs.Tables.{Lists, entry_of}
-use Rattle.thy_record.proofs.EntryLemmas.{entry_of-Some, entry_of-None, Lists-inside}
-use Rattle.thy_record.proofs.IssuingLemmas.{half}
-use Rattle.thy_protocol.specs.Layout.{Layout, slot_places, memory_places as places_by, slot_in, looked_by, parts_of}
-use Rattle.thy_protocol.proofs.LayoutLemmas.{looked_nothing, looked_parts}
+use Rattle.thy_base.proofs.BasicLemmas.{Contains-range}
+use Rattle.thy_layout.specs.Commit.{epoch_of}
+use Rattle.thy_layout.specs.Entries.{Lists, entry_of}
+use Rattle.thy_layout.proofs.EntryLemmas.{entry_of-Some, entry_of-None, Lists-inside}
+use Rattle.thy_layout.proofs.AskingLemmas.{half}
+use Rattle.thy_layout.specs.Layout.{Layout, slot_places, memory_places as places_by, slot_in, looked_by}
+use Rattle.thy_layout.proofs.LookedLemmas.{not_looked}
 use Rattle.thy_journal_image.specs.Places.{slot_blocks, slot_place, journal_place, first_home, place_by}
 use Rattle.thy_journal_image.specs.Slots.{IsTable, table_in}
 use Rattle.thy_journal_image.specs.Layout.{journal_layouts}
@@ -79,20 +78,10 @@ free_of_memory p epoch table x h there free inside =
     let e = of.2 in
     free_by p epoch table x of.0 (entry_of table of.0) h there free of.1 refl (subst (λ y. first_home p ≤ y) (sym e) behind) e
 
-pub nothing_looked : (p : Parameters) (ceiling : ℕ) (image : List Block) (x : ℕ) → is_zero (block_at image 1) ≡ true → x ≢ 1
-    → Contains (1 ∷ looked_by (journal_layouts p ceiling) image) x → ⊥
-nothing_looked p ceiling image x z other inside =
-    let one : 1 ≢ x = λ e. other (sym e) in
-    let only : Contains (1 ∷ 1 ∷ []) x = subst (λ (xs : List ℕ). Contains (1 ∷ xs) x) (looked_nothing (journal_layouts p ceiling) image z) inside in
-    not_in_none x (not_first x 1 [] one (not_first x 1 (1 ∷ []) one only))
-
-module _ (p : Parameters) (ceiling : ℕ) (image : List Block) (epoch : ℕ) (table : List (Option ℕ)) (x : Target)
-    (told : IsToldBy p ceiling image epoch table) (there : IsTarget p x) (free : IsFree epoch table x) where
+module _ (p : Parameters) (image : List Block) (epoch : ℕ) (table : List (Option ℕ)) (x : Target)
+    (told : IsToldBy p image epoch table) (there : IsTarget p x) (free : IsFree epoch table x) where
   abbrev l : Layout
-  l = journal_layouts p ceiling
-
-  abbrev rest : List ℕ
-  rest = slot_places l (block_at image 1) ++ places_by l (block_at image 1) (slot_in l image)
+  l = journal_layouts p
 
   places_are : places_by l (block_at image 1) (slot_in l image) ≡ memory_places p (epoch % 2) table
   places_are =
@@ -108,23 +97,5 @@ module _ (p : Parameters) (ceiling : ℕ) (image : List Block) (epoch : ℕ) (ta
   not_in_memory inside =
       free_of_memory p epoch table x told.whole there free (subst (λ (xs : List ℕ). Contains xs (target_place p x)) places_are inside)
 
-  not_in_parts : Contains (1 ∷ parts_of l image) (target_place p x) → ⊥
-  not_in_parts inside =
-      let far = target_behind p x there in
-      let one : 1 ≢ target_place p x = λ e. omega (arith, far, e) in
-      let none : 0 ≢ target_place p x = λ e. omega (arith, far, e) in
-      elim (Contains-append_cases (slot_places l (block_at image 1)) (places_by l (block_at image 1) (slot_in l image)) (target_place p x)
-      (not_first (target_place p x) 1 rest one (not_first (target_place p x) 0 (1 ∷ rest) none (not_first (target_place p x) 1 (0 ∷ 1 ∷ rest) one inside)))) as (λ _. ⊥) [
-        | inl a ↦ not_in_slot a
-        | inr b ↦ not_in_memory b
-      ]
-
-  by_commit : (zeros : Bool) → is_zero (block_at image 1) ≡ zeros → Contains (1 ∷ looked_by l image) (target_place p x) → ⊥
-  by_commit true z inside =
-      let far = target_behind p x there in
-      nothing_looked p ceiling image (target_place p x) z (λ e. omega (arith, far, e)) inside
-  by_commit false z inside =
-      not_in_parts (subst (λ (xs : List ℕ). Contains (1 ∷ xs) (target_place p x)) (looked_parts l image z) inside)
-
   pub free_not_looked : Contains (1 ∷ looked_by l image) (target_place p x) → ⊥
-  free_not_looked inside = by_commit (is_zero (block_at image 1)) refl inside
+  free_not_looked inside = not_looked l image (target_place p x) (target_behind p x there) not_in_slot not_in_memory inside

@@ -1,19 +1,16 @@
 -- The numbers of memory's places, entry by entry of the table.
-use Rattle.std.proofs.Common.{◌≡◌, ℕ, ◌+◌, ◌*◌, ◌<◌, List, [], length, take, slice_set, slice_index_or, Option, Some, None, refl, sym, ◌∙◌, ap, inl, inr, arith}
+use Rattle.std.proofs.Common.{◌≡◌, ℕ, ◌+◌, ◌<◌, List, [], length, take, slice_set, slice_index_or, Option, Some, None, refl, sym, ◌∙◌, ap, inl, inr, arith}
 use Rattle.std.proofs.lemmas.Bool.{cases_eq}
 use Rattle.std.proofs.lemmas.List.{length-set, get_or-set_same, get_or-set_other, ext_get_or}
 use Rattle.thy_base.specs.declared.config.Parameters.{Parameters}
 use Rattle.thy_base.specs.Geometry.{memory_blocks}
-use Rattle.thy_record.specs.Files.{blocks_of}
-use Rattle.thy_record.specs.Index.{AreInside}
-use Rattle.thy_record.specs.Tables.{entry_at, Lists, entry_of}
-use Rattle.thy_record.proofs.FileLemmas.{length-blocks_of}
-use Rattle.thy_record.proofs.IndexLemmas.{entry_of-take_here, entry_of-take_other}
+use Rattle.thy_layout.specs.Entries.{entry_at, Lists, entry_of}
+use Rattle.thy_layout.proofs.EntryLemmas.{entry_of-take_here, entry_of-take_other}
 use Rattle.thy_journal_image.specs.Index.{with_block}
 use Rattle.thy_journal_image.specs.CheckpointParts.{memory_places}
-use Rattle.thy_journal_image.specs.Places.{home_place, journal_place, image_blocks, place_by, place_of}
+use Rattle.thy_journal_image.specs.Places.{home_place, journal_place, place_by, place_of}
 use Rattle.thy_journal_image.specs.Slots.{IsTable}
-use Rattle.thy_journal_image.proofs.PartsLemmas.{length-memory_places, memory_place, place_by_behind}
+use Rattle.thy_journal_image.proofs.PartsLemmas.{length-memory_places, memory_place}
 
 -- a list that has them one by one
 places_are : (p : Parameters) (s : ℕ) (table : List (Option ℕ)) (index : List ℕ) → length index ≡ memory_blocks p
@@ -56,15 +53,3 @@ module _ (p : Parameters) (s : ℕ) (table : List (Option ℕ)) (i : ℕ) (t : I
   pub block_listed : (old new : List ℕ) → old ≡ memory_places p s (take i table) → new ≡ with_block p s i (entry_at table i) old
       → new ≡ memory_places p s (take (i + 1) table)
   block_listed old new before after = after ∙ ap (with_block p s i (entry_at table i)) before ∙ block_by (entry_at table i) refl
-
--- ---- in a file
-
--- each is a block of the image
-pub places_inside : (p : Parameters) (bytes : List ℕ) (s : ℕ) (table : List (Option ℕ)) → length bytes ≡ 64 * image_blocks p → IsTable p table → s < 2
-    → AreInside (blocks_of bytes) (memory_places p s table)
-places_inside p bytes s table long whole l = record {
-  each = λ k below.
-      let small : k < memory_blocks p = omega (arith, below, length-memory_places p s table) in
-      let inside = (place_by_behind p s table k (entry_of table k) whole l small refl).1 in
-      omega (arith, memory_place p s table k 0 small, inside, length-blocks_of bytes, long);
-}

@@ -1,9 +1,6 @@
-pub mod HeadLemmas
 pub mod SlotLemmas
 pub mod TableRefusalLemmas
 pub mod PartsLemmas
 pub mod FreeLemmas
-pub mod FitLemmas
-pub mod FaultLemmas
-pub mod FileLemmas
 pub mod IndexLemmas
+pub mod LayoutLemmas

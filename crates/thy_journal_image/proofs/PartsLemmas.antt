@@ -11,25 +11,24 @@ use Rattle.thy_base.specs.Geometry.{IsInRange, memory_blocks}
 use Rattle.thy_base.proofs.BasicLemmas.{all_none}
 use Rattle.thy_isa.specs.declared.state.CpuState.{CpuState}
 use Rattle.thy_isa.specs.OnBlocks.{state_from}
-use Rattle.thy_record.specs.Commit.{epoch_of, commit_of}
-use Rattle.thy_record.specs.Cpu.{IsRecordable, cpu_of_record}
-use Rattle.thy_record.specs.Decoded.{At}
-use Rattle.thy_record.specs.Tables.{entry_of}
-use Rattle.thy_record.proofs.EntryLemmas.{entry_of-Some, Lists-inside}
-use Rattle.thy_record.proofs.IssuingLemmas.{half}
-use Rattle.thy_record.proofs.ReadBackLemmas.{epoch_of-commit_of, is_zero-commit_of}
+use Rattle.thy_layout.specs.Commit.{epoch_of, commit_of, commit_fault}
+use Rattle.thy_layout.specs.Cpu.{IsRecordable, cpu_of_record}
+use Rattle.thy_layout.specs.Decoded.{At}
+use Rattle.thy_layout.specs.Header.{header_fault}
+use Rattle.thy_layout.specs.TableSlots.{slot_block_of}
+use Rattle.thy_layout.specs.Entries.{entry_of}
+use Rattle.thy_layout.proofs.EntryLemmas.{entry_of-Some, Lists-inside}
+use Rattle.thy_layout.proofs.AskingLemmas.{half}
+use Rattle.thy_layout.proofs.ReadBackLemmas.{epoch_of-commit_of, commit_fault-commit_of, is_zero-commit_of}
 use Rattle.thy_crash.specs.Saved.{next_image}
 use Rattle.thy_crash.proofs.SavedLemmas.{next_image-commit}
 use Rattle.thy_protocol.specs.Issuing.{slot_of, ArePlaced, ArePartsOf, IsCheckpoint}
-use Rattle.thy_protocol.specs.Layout.{Layout}
+use Rattle.thy_layout.specs.Layout.{Layout}
 use Rattle.thy_protocol.proofs.IssuingLemmas.{slot_goes_on, issued_is_checkpoint}
-use Rattle.thy_journal_image.specs.Places.{slot_blocks, slot_place, first_home, image_blocks, place_by, place_of}
-use Rattle.thy_journal_image.specs.Header.{header_fault}
-use Rattle.thy_journal_image.specs.Commit.{commit_fault}
-use Rattle.thy_journal_image.specs.Slots.{IsTable, slot_block_of, table_in, slot_fault}
+use Rattle.thy_journal_image.specs.Places.{scheme_number, slot_blocks, slot_place, first_home, image_blocks, place_by, place_of}
+use Rattle.thy_journal_image.specs.Slots.{IsTable, table_in, slot_fault}
 use Rattle.thy_journal_image.specs.Layout.{journal_layouts}
 use Rattle.thy_journal_image.specs.CheckpointParts.{ReadsBack, memory_places, parts_by, IsIssuing, IsIssuedCheckpoint}
-use Rattle.thy_journal_image.proofs.HeadLemmas.{commit_fault-commit_of}
 use Rattle.thy_journal_image.proofs.SlotLemmas.{slot_reads_back}
 
 -- ---- the places of memory
@@ -125,7 +124,7 @@ module _ (p : Parameters) (ceiling : ℕ) (cpu : CpuState) (table : List (Option
   pub back : ReadsBack p ceiling cpu table epoch slot
   back = slot_reads_back p ceiling cpu table epoch range recordable whole most small
 
-  pub parts_of : ArePartsOf (journal_layouts p ceiling) (commit_of epoch) (parts_by p cpu table epoch)
+  pub parts_of : ArePartsOf (journal_layouts p) (commit_of epoch) (parts_by p cpu table epoch)
   parts_of = record {
     placed = ArePlaced-parts p cpu table epoch whole;
     slot_place = ap (λ (e : ℕ). slot_place p (e % 2)) epoch_is;
@@ -133,21 +132,21 @@ module _ (p : Parameters) (ceiling : ℕ) (cpu : CpuState) (table : List (Option
     memory = ap (λ (e : ℕ). memory_places p (e % 2) (table_in p slot)) epoch_is ∙ ap (memory_places p (epoch % 2)) back.table_back;
   }
 
-  pub no_fault : (header : Block) → header_fault header p true ≡ None
-      → option_or (header_fault header p true) (option_or (commit_fault (commit_of epoch) ceiling) (slot_fault p ceiling (epoch_of (commit_of epoch)) slot)) ≡ None
+  pub no_fault : (header : Block) → header_fault scheme_number header p true ≡ None
+      → option_or (header_fault scheme_number header p true) (option_or (commit_fault header (commit_of epoch) ceiling) (slot_fault p ceiling (epoch_of (commit_of epoch)) slot)) ≡ None
   no_fault header fits =
-      all_none (header_fault header p true) (commit_fault (commit_of epoch) ceiling) (slot_fault p ceiling (epoch_of (commit_of epoch)) slot) fits
-      (commit_fault-commit_of epoch ceiling below most)
+      all_none (header_fault scheme_number header p true) (commit_fault header (commit_of epoch) ceiling) (slot_fault p ceiling (epoch_of (commit_of epoch)) slot) fits
+      (commit_fault-commit_of header epoch ceiling below most)
       (ap (λ (e : ℕ). slot_fault p ceiling e slot) epoch_is ∙ back.faultless)
 
 pub issued_decodes : (p : Parameters) (ceiling : ℕ) (n : Device) (cpu : CpuState) (table : List (Option ℕ)) (epoch : ℕ) (memory : List Block)
     → IsInRange p → IsRecordable p ceiling cpu → ceiling ≤ 2 ^ 64 → epoch < ceiling
-    → IsIssuing p n cpu table epoch memory (slot_blocks p) → header_fault (newest n 0) p true ≡ None
+    → IsIssuing p n cpu table epoch memory (slot_blocks p) → header_fault scheme_number (newest n 0) p true ≡ None
     → IsIssuedCheckpoint p ceiling n cpu table epoch memory
 issued_decodes p ceiling n cpu table epoch memory range recordable most below h header =
-    let l : Layout = journal_layouts p ceiling in
-    let all : IsCheckpoint l n (commit_of epoch) (parts_by p cpu table epoch) memory =
-    issued_is_checkpoint l n (commit_of epoch) (parts_by p cpu table epoch) memory (parts_of p ceiling cpu table epoch range recordable most below h.whole) h.parts
+    let l : Layout = journal_layouts p in
+    let all : IsCheckpoint l ceiling n (commit_of epoch) (parts_by p cpu table epoch) memory =
+    issued_is_checkpoint l ceiling n (commit_of epoch) (parts_by p cpu table epoch) memory (parts_of p ceiling cpu table epoch range recordable most below h.whole) h.parts
     (is_zero-commit_of epoch) (no_fault p ceiling cpu table epoch range recordable most below h.whole (newest n 0) header) in
     let epoch_same = epoch_is p ceiling cpu table epoch range recordable most below h.whole in
     let reads = back p ceiling cpu table epoch range recordable most below h.whole in

@@ -1,36 +1,42 @@
--- The refusal of a table that is found is the only one that is so: it is that of two tables, of which the other has no
--- entries.
-use Rattle.std.proofs.Common.{◌≡◌, ℕ, List, [], length, Option, Some, None, refl, sym, ◌∙◌, ap}
-use Rattle.std.specs.Option.{option_or}
+-- The refusal of a table that is found is the only one that is so: it names the first entries.
+use Rattle.std.proofs.Common.{◌≡◌, ℕ, List, Option, Some, None, sym, ◌∙◌, ap, arith, zero-add}
 use Rattle.thy_base.specs.declared.config.Parameters.{Parameters}
-use Rattle.thy_record.specs.declared.bad_image.BadImage.{BadImage}
-use Rattle.thy_record.specs.TableFaults.{under_rule, under_fault, tables_fault}
-use Rattle.thy_record.specs.TableRefusals.{Says}
-use Rattle.thy_record.proofs.TableFaultLemmas.{none_breaks}
-use Rattle.thy_record.proofs.TableRefusalLemmas.{tables_say, found_of_says}
-use Rattle.thy_journal_image.specs.Slots.{index_fault, twice_fault, table_fault}
-use Rattle.thy_journal_image.specs.TableRefusals.{alone}
+use Rattle.thy_base.specs.Geometry.{memory_blocks}
+use Rattle.thy_layout.specs.declared.bad_image.BadImage.{BadImage}
+use Rattle.thy_layout.specs.declared.bad_image.BadImage.TheVariants.{TableIndex}
+use Rattle.thy_layout.specs.EntryFaults.{index_rule}
+use Rattle.thy_layout.specs.TableRefusals.{IsFirstWrong, Says}
+use Rattle.thy_layout.proofs.EntryFaultLemmas.{unbroken, index_asks}
+use Rattle.thy_layout.proofs.EntryRefusalLemmas.{first, index_breaks}
+use Rattle.thy_layout.proofs.TableRefusalLemmas.{found_says, found_if_so}
+use Rattle.thy_journal_image.specs.Slots.{index_fault, table_fault}
+use Rattle.thy_journal_image.specs.TableRefusals.{ListsBeyond}
 
-or_none : (found : Option BadImage) → option_or found None ≡ found
-or_none None = refl
-or_none (Some bad) = refl
+index_names : (p : Parameters) (table : List (Option ℕ)) (bad : BadImage) → index_fault p table ≡ Some bad
+    → (i : ℕ) × (bad ≡ TableIndex i) × IsFirstWrong (ListsBeyond p table) i
+index_names p table bad h =
+    let of = first (index_rule 0 (memory_blocks p)) table bad h in
+    let broken = index_breaks 0 (memory_blocks p) of.entry of.number bad of.breaks in
+    let named : bad ≡ TableIndex of.entry = sym broken.1 ∙ ap TableIndex (zero-add of.entry) in
+    let is : IsFirstWrong (ListsBeyond p table) of.entry = record {
+      here = record { block = of.number; lists = of.lists; over = broken.0 };
+      least = λ k l there.
+          let below = index_asks 0 (memory_blocks p) k there.block (of.least k there.block l there.lists) in
+          let over = there.over in
+          omega arith;
+    } in
+    (of.entry, named, is)
 
-none_under : (table : List (Option ℕ)) → under_fault (alone table) ≡ None
-none_under table = none_breaks (under_rule []) table (λ i b l. refl)
+none_beyond : (p : Parameters) (table : List (Option ℕ)) → index_fault p table ≡ None → (i : ℕ) → ListsBeyond p table i → ⊥
+none_beyond p table h i there =
+    let below = index_asks 0 (memory_blocks p) i there.block (unbroken (index_rule 0 (memory_blocks p)) table h i there.block there.lists) in
+    let over = there.over in
+    omega arith
 
--- of a table alone no other fault is named
-alone_fault : (p : Parameters) (table : List (Option ℕ)) → tables_fault p (alone table) ≡ table_fault p table
-unfolding tables_fault table_fault
-alone_fault p table =
-    ap (λ x. option_or x (option_or (option_or (twice_fault table) None) (under_fault (alone table)))) (or_none (index_fault p table))
-    ∙ ap (λ x. option_or (index_fault p table) (option_or x (under_fault (alone table)))) (or_none (twice_fault table))
-    ∙ ap (λ x. option_or (index_fault p table) (option_or (twice_fault table) x)) (none_under table)
-    ∙ ap (option_or (index_fault p table)) (or_none (twice_fault table))
+pub table_says : (p : Parameters) (table : List (Option ℕ)) (bad : BadImage) → table_fault p table ≡ Some bad → Says (ListsBeyond p table) table bad
+unfolding table_fault
+table_says p table bad h = found_says (ListsBeyond p table) table (index_fault p table) (index_names p table) (none_beyond p table) bad h
 
-pub table_says : (p : Parameters) (table : List (Option ℕ)) (bad : BadImage) → length table ≡ p.btt → table_fault p table ≡ Some bad
-    → Says p (alone table) bad
-table_says p table bad long h = tables_say p (alone table) bad long (alone_fault p table ∙ h)
-
-pub found_if_so : (p : Parameters) (table : List (Option ℕ)) (bad : BadImage) → length table ≡ p.btt → Says p (alone table) bad
-    → table_fault p table ≡ Some bad
-found_if_so p table bad long s = sym (alone_fault p table) ∙ found_of_says p (alone table) bad long s
+pub table_found : (p : Parameters) (table : List (Option ℕ)) (bad : BadImage) → Says (ListsBeyond p table) table bad → table_fault p table ≡ Some bad
+unfolding table_fault
+table_found p table bad s = found_if_so (ListsBeyond p table) table (index_fault p table) (index_names p table) (none_beyond p table) bad s

@@ -1,12 +1,10 @@
 -- Which writes leave a checkpoint of the journal alone.
-use Rattle.std.specs.Prelude.{◌≡◌, ◌≢◌, ℕ, ◌+◌, ◌%◌, ◌<◌, true, List, ◌∷◌, Contains, Option}
+use Rattle.std.specs.Prelude.{◌≢◌, ℕ, ◌+◌, ◌%◌, ◌<◌, List, ◌∷◌, Contains, Option}
 use Rattle.thy_base.specs.declared.block.Block.{Block}
 use Rattle.thy_base.specs.declared.config.Parameters.{Parameters}
-use Rattle.thy_base.specs.Device.{block_at}
 use Rattle.thy_base.specs.Geometry.{memory_blocks}
-use Rattle.thy_record.specs.Commit.{is_zero}
-use Rattle.thy_record.specs.Tables.{Lists}
-use Rattle.thy_protocol.specs.Layout.{looked_by}
+use Rattle.thy_layout.specs.Entries.{Lists}
+use Rattle.thy_layout.specs.Layout.{looked_by}
 use Rattle.thy_journal_image.specs.Places.{slot_blocks, slot_place, home_place, journal_place}
 use Rattle.thy_journal_image.specs.Layout.{journal_layouts}
 use Rattle.thy_journal_image.specs.CheckpointParts.{IsToldBy}
@@ -39,12 +37,6 @@ IsFree epoch table (HomeBlock b) = (i : ℕ) × Lists table i b
 -- it is none of the blocks that determine what the image of that checkpoint means
 abbrev pub FreeIsNotLooked : Type 0
 FreeIsNotLooked =
-    (p : Parameters) (ceiling : ℕ) (image : List Block) (epoch : ℕ) (table : List (Option ℕ)) (x : Target)
-    → IsToldBy p ceiling image epoch table → IsTarget p x → IsFree epoch table x
-    → ¬ Contains (1 ∷ looked_by (journal_layouts p ceiling) image) (target_place p x)
-
--- of an image without a checkpoint no block but the commit block is
-abbrev pub NothingIsLooked : Type 0
-NothingIsLooked =
-    (p : Parameters) (ceiling : ℕ) (image : List Block) (x : ℕ) → is_zero (block_at image 1) ≡ true → x ≢ 1
-    → ¬ Contains (1 ∷ looked_by (journal_layouts p ceiling) image) x
+    (p : Parameters) (image : List Block) (epoch : ℕ) (table : List (Option ℕ)) (x : Target)
+    → IsToldBy p image epoch table → IsTarget p x → IsFree epoch table x
+    → ¬ Contains (1 ∷ looked_by (journal_layouts p) image) (target_place p x)

@@ -1,10 +1,7 @@
 pub mod Places
-pub mod Header
-pub mod Commit
 pub mod Slots
 pub mod TableRefusals
 pub mod Layout
 pub mod CheckpointParts
 pub mod Free
-pub mod Files
 pub mod Index

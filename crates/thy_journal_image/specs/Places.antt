@@ -5,7 +5,11 @@ use Rattle.std.specs.Prelude.{ℕ, ◌+◌, ◌*◌, ◌/◌, List, Option, Some
 use Rattle.thy_base.specs.declared.config.Parameters.{Parameters}
 use Rattle.thy_base.specs.Geometry.{memory_blocks}
 use Rattle.thy_base.specs.Places.{record_blocks}
-use Rattle.thy_record.specs.Tables.{entry_of}
+use Rattle.thy_layout.specs.Entries.{entry_of}
+
+-- the number of this scheme, which its header has
+abbrev pub scheme_number : ℕ
+scheme_number = 1
 
 -- how many blocks a slot has: the processor's record, and the table, eight entries a block
 abbrev pub slot_blocks : Parameters → ℕ

@@ -1,9 +1,21 @@
-//! The numbers of an image's blocks.
+//! The numbers of an image's blocks, and its header.
 ghost use Rattle.std.specs.Prelude.{◌≡◌, ◌<◌};
 ghost use Rattle.thy_base.specs.Geometry.{IsInRange, memory_blocks};
-ghost use Rattle.thy_journal_image.specs.Places.{slot_blocks as blocks_of_slot, slot_place, image_blocks, home_place, journal_place};
+ghost use Rattle.thy_layout.specs.Header.{header_of};
+ghost use Rattle.thy_journal_image.specs.Places.{scheme_number, slot_blocks as blocks_of_slot, slot_place, image_blocks, home_place, journal_place};
 
-use thy_base::Geometry;
+use thy_base::{Block, Geometry};
+use thy_layout::header_block_of;
+
+/// The number of this scheme.
+pub const SCHEME: u64 = 1;
+
+/// The header of an image of this geometry.
+pub fn header_block(geometry: &Geometry) -> Block
+    ensures { result ≡ header_of scheme_number geometry.now }
+{
+    header_block_of(SCHEME, geometry)
+}
 
 /// How many blocks an image has.
 pub fn blocks(geometry: &Geometry) -> u64

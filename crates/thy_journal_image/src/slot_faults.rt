@@ -1,11 +1,29 @@
 //! The bytes of a slot: the processor's record, 320 for each hart, and after it the table, eight bytes an entry.
-ghost use Rattle.std.specs.Prelude.{◌≡◌, ◌*◌, length};
-ghost use Rattle.thy_record.specs.Files.{blocks_of};
+ghost use Rattle.std.specs.Prelude.{◌≡◌, ◌*◌, ◌<◌, length};
+ghost use Rattle.thy_layout.specs.Entries.{entry_at};
+ghost use Rattle.thy_layout.specs.Files.{blocks_of, table_in as entries_of};
 ghost use Rattle.thy_journal_image.specs.Places.{slot_blocks};
 ghost use Rattle.thy_journal_image.specs.Slots.{table_in, table_fault as fault_of_table, slot_fault as fault_of_slot};
 
 use thy_base::Geometry;
-use thy_record::{BadImage, btt_in, cpu_fault, index_fault, twice_fault, word_in};
+use thy_layout::{BadImage, entry, fault_with_table, index_fault, table_behind, twice_fault};
+
+// The table of a slot.
+fn table_of<'a>(slot: &'a [u8], geometry: &Geometry) -> &'a [u8]
+    requires { length slot.now ≡ 64 * slot_blocks geometry.now }
+    ensures { entries_of result.now ≡ table_in geometry.now (blocks_of slot.now) }
+{
+    table_behind(slot, geometry.numbers().btt as usize, geometry)
+}
+
+/// The block that entry `i` of the table in these bytes of a slot lists; none if the entry is empty.
+pub fn listed_block(slot: &[u8], i: usize, geometry: &Geometry) -> Option<u64>
+    requires slot { length slot.now ≡ 64 * slot_blocks geometry.now }
+    requires entry { i < geometry.now.btt }
+    ensures { result ≡ entry_at (table_in geometry.now (blocks_of slot.now)) i }
+{
+    entry(table_of(slot, geometry), i)
+}
 
 /// The first fault of the table in these bytes of a slot, if it has one.
 #[tactic(auto, unfolding(crate::specs::Slots::table_fault))]
@@ -13,7 +31,7 @@ fn table_fault(slot: &[u8], geometry: &Geometry) -> Option<BadImage>
     requires { length slot.now ≡ 64 * slot_blocks geometry.now }
     ensures { result ≡ fault_of_table geometry.now (table_in geometry.now (blocks_of slot.now)) }
 {
-    let table = btt_in(slot, geometry);
+    let table = table_of(slot, geometry);
     index_fault(table, 0, geometry.memory_blocks()).or(twice_fault(table, 0))
 }
 
@@ -24,11 +42,5 @@ pub fn slot_fault(slot: &[u8], epoch: u64, geometry: &Geometry, ceiling: u64) ->
     requires { length slot.now ≡ 64 * slot_blocks geometry.now }
     ensures { result ≡ fault_of_slot geometry.now ceiling epoch (blocks_of slot.now) }
 {
-    if word_in(slot, 38) != epoch {
-        return Some(BadImage::Commit);
-    }
-    if let Some(bad) = table_fault(slot, geometry) {
-        return Some(bad);
-    }
-    cpu_fault(slot, geometry, ceiling)
+    fault_with_table(slot, epoch, table_fault(slot, geometry), geometry, ceiling)
 }

@@ -4,13 +4,13 @@ use Rattle.thy_base.specs.declared.block.Block.{Block}
 use Rattle.thy_base.specs.declared.config.Parameters.{Parameters}
 use Rattle.thy_base.specs.Device.{Device, newest, written_to, settled}
 use Rattle.thy_base.specs.Geometry.{memory_blocks}
-use Rattle.thy_record.specs.Tables.{Lists}
-use Rattle.thy_record.proofs.EntryLemmas.{entry_of-Some, entry_of-None}
-use Rattle.thy_record.proofs.IssuingLemmas.{half}
-use Rattle.thy_record.proofs.ImageLemmas.{map-alike}
+use Rattle.thy_layout.specs.Entries.{Lists}
+use Rattle.thy_layout.proofs.EntryLemmas.{entry_of-Some, entry_of-None}
+use Rattle.thy_layout.proofs.AskingLemmas.{half}
+use Rattle.thy_layout.proofs.AskingLemmas.{map-alike}
 use Rattle.thy_view.specs.Action.{after}
 use Rattle.thy_journal_image.specs.Places.{slot_blocks, slot_place, first_home, home_place, journal_place}
-use Rattle.thy_record.specs.Commit.{commit_of}
+use Rattle.thy_layout.specs.Commit.{commit_of}
 use Rattle.thy_journal_image.proofs.PartsLemmas.{slot_behind}
 use Rattle.thy_log.specs.declared.stage.JournalStage.{JournalStage}
 use Rattle.thy_log.specs.declared.stage.JournalStage.TheVariants.{Nothing, Journal, Slot, Settle, Commit, Confirm, Home}

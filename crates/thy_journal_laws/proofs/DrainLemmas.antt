@@ -8,17 +8,17 @@ use Rattle.thy_crash.specs.Fixed.{Reads}
 use Rattle.thy_crash.specs.Saved.{guarded}
 use Rattle.thy_crash.proofs.SparesLemmas.{Spares-no_more}
 use Rattle.thy_isa.specs.OnBlocks.{state_from}
-use Rattle.thy_record.specs.Tables.{Lists}
-use Rattle.thy_record.proofs.EntryLemmas.{Lists-inside}
+use Rattle.thy_layout.specs.Entries.{Lists}
+use Rattle.thy_layout.proofs.EntryLemmas.{Lists-inside}
 use Rattle.thy_view.specs.Origin.{Origin}
-use Rattle.thy_protocol.specs.Layout.{looked_by}
+use Rattle.thy_layout.specs.Layout.{looked_by}
 use Rattle.thy_protocol.specs.Moves.{IsKeeping, standing, Goes}
 use Rattle.thy_protocol.proofs.KeepsLemmas.{IsKeeping-move}
 use Rattle.thy_scheme.specs.CheckpointMarks.{CheckpointMarks}
-use Rattle.thy_journal_image.specs.Header.{header_fault}
 use Rattle.thy_journal_image.specs.Layout.{layout_of}
-use Rattle.thy_journal_image.specs.Places.{slot_blocks, home_place, journal_place, image_blocks}
-use Rattle.thy_record.specs.Commit.{commit_of}
+use Rattle.thy_journal_image.specs.Places.{scheme_number, slot_blocks, home_place, journal_place, image_blocks}
+use Rattle.thy_layout.specs.Commit.{commit_of}
+use Rattle.thy_layout.specs.Header.{header_fault}
 use Rattle.thy_log.specs.declared.stage.JournalStage.{JournalStage}
 use Rattle.thy_log.specs.declared.stage.JournalStage.TheVariants.{Nothing, Journal, Slot, Settle, Commit, Confirm, Home}
 use Rattle.thy_log.specs.Holding.{works, homes}
@@ -131,7 +131,7 @@ module _ (o : Origin) (k : CheckpointMarks) (s : Value) (m n : Device) (h : IsSo
     };
     way = h.way;
     doubt = h.doubt;
-    header = ap (λ (b : Block). header_fault b o.geometry true) (r.reads 0 (omega (arith, h.held.sized.nvm))) ∙ h.header;
+    header = ap (λ (b : Block). header_fault scheme_number b o.geometry true) (r.reads 0 (omega (arith, h.held.sized.nvm))) ∙ h.header;
     committed = record {
       cpu = h.committed.cpu;
       state =

@@ -9,19 +9,19 @@ use Rattle.thy_crash.specs.Fixed.{Reads}
 use Rattle.thy_crash.specs.Saved.{Saved, Kept, Ready, InDoubt, next_image}
 use Rattle.thy_crash.specs.Spares.{Spares}
 use Rattle.thy_crash.proofs.SparesLemmas.{Spares-settled, Spares-failed}
-use Rattle.thy_record.specs.Decoded.{At}
-use Rattle.thy_record.specs.Tables.{Lists}
+use Rattle.thy_layout.specs.Decoded.{At}
+use Rattle.thy_layout.specs.Entries.{Lists}
 use Rattle.thy_view.specs.Action.{after, FailsTo}
 use Rattle.thy_view.specs.Origin.{Origin, at}
 use Rattle.thy_view.specs.Safe.{ceiling}
 use Rattle.thy_protocol.specs.Keeps.{IsOf}
-use Rattle.thy_protocol.specs.Layout.{looked_by}
+use Rattle.thy_layout.specs.Layout.{looked_by}
 use Rattle.thy_protocol.specs.Moves.{standing, Move, Goes, Readies, Commits, Confirms, LeavesAlone}
 use Rattle.thy_protocol.proofs.KeepsLemmas.{Spares-action, Spares-failed_action}
-use Rattle.thy_journal_image.specs.Places.{slot_blocks, slot_place, home_place, journal_place}
-use Rattle.thy_record.specs.Commit.{commit_of}
+use Rattle.thy_journal_image.specs.Places.{scheme_number, slot_blocks, slot_place, home_place, journal_place}
+use Rattle.thy_layout.specs.Commit.{commit_of}
+use Rattle.thy_layout.specs.Header.{header_fault}
 use Rattle.thy_journal_image.specs.Free.{Target, SlotBlock, JournalBlock, HomeBlock, target_place, IsTarget, IsFree}
-use Rattle.thy_journal_image.specs.Header.{header_fault}
 use Rattle.thy_journal_image.specs.Layout.{layout_of}
 use Rattle.thy_journal_image.specs.CheckpointParts.{IsIssuing, IsIssuedCheckpoint}
 use Rattle.thy_journal_image.proofs.FreeLemmas.{free_not_looked}
@@ -53,7 +53,7 @@ module _ (o : Origin) (e : Progress) (s : State) (c : Checkpoints) (state : IsSo
 
   leaves_target : (x : Target) (y : ℕ) → IsTarget o.geometry x → IsFree kept.epoch kept.table x → y ≡ target_place o.geometry x → Contains spared y → ⊥
   leaves_target x y there free is inside =
-      free_not_looked o.geometry ceiling c.before kept.epoch kept.table x kept.told there free (subst (λ (z : ℕ). Contains spared z) is inside)
+      free_not_looked o.geometry c.before kept.epoch kept.table x kept.told there free (subst (λ (z : ℕ). Contains spared z) is inside)
 
   leaves_journal : is_sealing e.next ≡ true → (i : ℕ) → i < e.p.btt → LeavesAlone spared (action_of e (JournalItem i) s)
   leaves_journal way i l = λ inside.
@@ -83,7 +83,7 @@ module _ (o : Origin) (e : Progress) (s : State) (c : Checkpoints) (state : IsSo
 -- ---- the next image
 
 module _ (o : Origin) (e : Progress) (s : State) (m : Device) (c : Checkpoints) (state : IsSoundState s) (geometry : s.p ≡ o.geometry) (same : s.p ≡ e.p)
-    (header : header_fault (newest m 0) o.geometry true ≡ None) (made : IsMadeFor o e s m c) (written : HasWrittenSlot e s m (slot_blocks e.p)) where
+    (header : header_fault scheme_number (newest m 0) o.geometry true ≡ None) (made : IsMadeFor o e s m c) (written : HasWrittenSlot e s m (slot_blocks e.p)) where
   abbrev made_image : List Block
   made_image = next_image m (commit_of e.epoch)
 
@@ -139,7 +139,7 @@ module _ (o : Origin) (e : Progress) (s : State) (m : Device) (c : Checkpoints) 
 
 module _ (o : Origin) (e : Progress) (s : State) (m : Device) (c : Checkpoints) (state : IsSoundState s) (geometry : s.p ≡ o.geometry) (same : s.p ≡ e.p)
     (kept : IsKeptBy o e s c.before) where
-  pub moves_next : (header : header_fault (newest m 0) o.geometry true ≡ None) (q : JournalStage) → e.next ≡ q → ((k : ℕ) → q ≡ Slot k → k < slot_blocks e.p) → HasWrittenBefore q e s m → is_under_way q ≡ true
+  pub moves_next : (header : header_fault scheme_number (newest m 0) o.geometry true ≡ None) (q : JournalStage) → e.next ≡ q → ((k : ℕ) → q ≡ Slot k → k < slot_blocks e.p) → HasWrittenBefore q e s m → is_under_way q ≡ true
       → (is_sealing q ≡ true → IsMadeFor o e s m c)
       → Move o (layout_of o) (standing m (saved_at q c) c.kept c.sealed)
       (standing_at (record e { next = next_after e.p (item q s) }) (after (action_of e (item q s) s) m) (checkpoints_after (item q s) e m c))

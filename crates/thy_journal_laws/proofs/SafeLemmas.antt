@@ -13,7 +13,7 @@ use Rattle.thy_table.specs.Listing.{Listing, free_count}
 use Rattle.thy_view.specs.Origin.{Origin}
 use Rattle.thy_view.specs.Safe.{Safe}
 use Rattle.thy_protocol.specs.Keeps.{doubt_in as doubt_of_saved}
-use Rattle.thy_protocol.specs.Layout.{reading, looked_by}
+use Rattle.thy_layout.specs.Layout.{reading, looked_by}
 use Rattle.thy_protocol.specs.Moves.{IsKeeping, standing, Move, Goes}
 use Rattle.thy_protocol.proofs.KeepsLemmas.{Safe-kept, IsKeeping-move}
 use Rattle.thy_scheme.specs.CheckpointMarks.{CheckpointMarks, doubt_in}

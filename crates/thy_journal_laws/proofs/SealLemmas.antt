@@ -7,11 +7,12 @@ use Rattle.thy_crash.specs.Saved.{Kept}
 use Rattle.thy_isa.specs.declared.state.CpuState.{CpuState}
 use Rattle.thy_isa.specs.OnBlocks.{state_from}
 use Rattle.thy_view.specs.Origin.{Origin, at}
+use Rattle.thy_view.specs.Safe.{ceiling}
 use Rattle.thy_protocol.specs.Keeps.{Tells}
-use Rattle.thy_protocol.specs.Layout.{IsWhole}
+use Rattle.thy_layout.specs.Layout.{IsWhole}
 use Rattle.thy_protocol.specs.Moves.{IsKeeping, standing, Seals}
 use Rattle.thy_protocol.proofs.KeepsLemmas.{IsKeeping-move}
-use Rattle.thy_protocol.proofs.LayoutLemmas.{decode_by-whole_back}
+use Rattle.thy_layout.proofs.LayoutLemmas.{decode_by-whole_back}
 use Rattle.thy_scheme.specs.Calls.{IsTaken}
 use Rattle.thy_scheme.specs.CheckpointMarks.{CheckpointMarks}
 use Rattle.thy_journal_image.specs.Layout.{layout_of}
@@ -49,8 +50,8 @@ module _ (o : Origin) (k : CheckpointMarks) (cpu : CpuState) (epoch : ℕ) (m : 
   kept_epoch =
       let told : Tells o (layout_of o) h.images.before (Some k.done)
       = subst (λ (x : Option Mark). Tells o (layout_of o) h.images.before x) h.checkpoints.kept keeping_idle.told in
-      let whole : IsWhole (layout_of o) h.images.before k.done.epoch (at o k.done.count)
-      = decode_by-whole_back (layout_of o) h.images.before k.done.epoch (at o k.done.count) told.decodes in
+      let whole : IsWhole (layout_of o) ceiling h.images.before k.done.epoch (at o k.done.count)
+      = decode_by-whole_back (layout_of o) ceiling h.images.before k.done.epoch (at o k.done.count) told.decodes in
       sym h.checkpoints.told.told.of_epoch ∙ whole.of_epoch
 
   other : epoch % 2 ≢ h.checkpoints.told.epoch % 2

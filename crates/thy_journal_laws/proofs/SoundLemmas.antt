@@ -16,10 +16,10 @@ use Rattle.thy_view.specs.Origin.{Origin, at}
 use Rattle.thy_protocol.specs.Moves.{IsKeeping}
 use Rattle.thy_protocol.proofs.KeepsLemmas.{IsKeeping-move}
 use Rattle.thy_scheme.specs.CheckpointMarks.{CheckpointMarks, only, marks_after}
-use Rattle.thy_journal_image.specs.Header.{header_fault}
 use Rattle.thy_journal_image.specs.Layout.{layout_of}
-use Rattle.thy_journal_image.specs.Places.{slot_blocks, slot_place, home_place, journal_place}
-use Rattle.thy_record.specs.Commit.{commit_of}
+use Rattle.thy_journal_image.specs.Places.{scheme_number, slot_blocks, slot_place, home_place, journal_place}
+use Rattle.thy_layout.specs.Commit.{commit_of}
+use Rattle.thy_layout.specs.Header.{header_fault}
 use Rattle.thy_scheme.proofs.RecordLemmas.{marks-slot}
 use Rattle.thy_log.specs.declared.entry.Listed.{Listed}
 use Rattle.thy_log.specs.declared.stage.JournalStage.{JournalStage}
@@ -176,7 +176,7 @@ module _ (o : Origin) (k : CheckpointMarks) (s : Value) (n : Device) (h : IsSoun
     };
     way = by.sealing ∙ sym way ∙ h.way;
     doubt = h.doubt ∙ before ∙ sym by.unconfirmed;
-    header = ap (λ (b : Block). header_fault b o.geometry true) zero_same ∙ h.header;
+    header = ap (λ (b : Block). header_fault scheme_number b o.geometry true) zero_same ∙ h.header;
     committed = committed_stays (record e { next = q }) m way by.unapplied homes_same;
     rest = λ storeless still. absurd (both_ways (is_under_way q) still (under q by.sealing));
   }
@@ -238,7 +238,7 @@ module _ (o : Origin) (k : CheckpointMarks) (s : Value) (n : Device) (h : IsSoun
         };
         way = sym sealing ∙ h.way;
         doubt = h.doubt ∙ ap is_confirming is;
-        header = ap (λ (b : Block). header_fault b o.geometry true) zero_settled ∙ h.header;
+        header = ap (λ (b : Block). header_fault scheme_number b o.geometry true) zero_settled ∙ h.header;
         committed = committed_stays (f SettleItem) (d SettleItem) sealing refl (homes_i SettleItem due sealing);
         rest = λ storeless still. cc;
       }
@@ -277,7 +277,7 @@ module _ (o : Origin) (k : CheckpointMarks) (s : Value) (n : Device) (h : IsSoun
         };
         way = sym sealing ∙ h.way;
         doubt = refl;
-        header = ap (λ (b : Block). header_fault b o.geometry true) (zero_written 1 (commit_of e.epoch) (omega arith)) ∙ h.header;
+        header = ap (λ (b : Block). header_fault scheme_number b o.geometry true) (zero_written 1 (commit_of e.epoch) (omega arith)) ∙ h.header;
         committed = committed_stays (f CommitItem) (d CommitItem) sealing refl (homes_i CommitItem due sealing);
         rest = λ storeless still. cc;
       }
@@ -308,7 +308,7 @@ module _ (o : Origin) (k : CheckpointMarks) (s : Value) (n : Device) (h : IsSoun
         };
         way = refl;
         doubt = refl;
-        header = ap (λ (b : Block). header_fault b o.geometry true) zero_settled ∙ h.header;
+        header = ap (λ (b : Block). header_fault scheme_number b o.geometry true) zero_settled ∙ h.header;
         committed = record {
           cpu = e.cpu;
           state =
@@ -344,7 +344,7 @@ module _ (o : Origin) (k : CheckpointMarks) (s : Value) (n : Device) (h : IsSoun
         };
         way = sym (ap is_sealing is) ∙ h.way;
         doubt = h.doubt ∙ ap is_confirming is;
-        header = ap (λ (b : Block). header_fault b o.geometry true) (zero_written (home_place e.p (block_listed i l)) (buffer_of l i) (omega arith)) ∙ h.header;
+        header = ap (λ (b : Block). header_fault scheme_number b o.geometry true) (zero_written (home_place e.p (block_listed i l)) (buffer_of l i) (omega arith)) ∙ h.header;
         committed = record {
           cpu = h.committed.cpu;
           state =
@@ -379,7 +379,7 @@ module _ (o : Origin) (k : CheckpointMarks) (s : Value) (n : Device) (h : IsSoun
         };
         way = sym (ap is_sealing is) ∙ h.way;
         doubt = h.doubt ∙ ap is_confirming is;
-        header = ap (λ (b : Block). header_fault b o.geometry true) zero_settled ∙ h.header;
+        header = ap (λ (b : Block). header_fault scheme_number b o.geometry true) zero_settled ∙ h.header;
         committed = record {
           cpu = h.committed.cpu;
           state =

@@ -6,7 +6,7 @@ use Rattle.thy_base.specs.Device.{Device, written_to, settled}
 use Rattle.thy_base.specs.Geometry.{memory_blocks}
 use Rattle.thy_base.proofs.DeviceLemmas.{newest-written_to_other, newest-settled}
 use Rattle.thy_base.proofs.BasicLemmas.{Contains-range}
-use Rattle.thy_record.proofs.ImageLemmas.{map-alike}
+use Rattle.thy_layout.proofs.AskingLemmas.{map-alike}
 use Rattle.thy_table.specs.Listing.{entry_at, lists, mapped}
 use Rattle.thy_table.proofs.ListingLaws.{entry_at-mapped, place_of-none}
 use Rattle.thy_journal_image.specs.Places.{home_place}

@@ -9,14 +9,15 @@ use Rattle.thy_base.specs.Device.{Device, zero_block, block_at, newest, written_
 use Rattle.thy_base.specs.Geometry.{memory_blocks}
 use Rattle.thy_base.proofs.DeviceLemmas.{newest-written_to, newest-written_to_other, newest-settled, length-written_to, length-settled}
 use Rattle.thy_crash.proofs.FixedLemmas.{Reads-written}
-use Rattle.thy_record.specs.Tables.{Lists, entry_at, entry_of}
-use Rattle.thy_record.proofs.ImageLemmas.{map-alike}
-use Rattle.thy_record.proofs.EntryLemmas.{entry_of-Some}
-use Rattle.thy_record.proofs.IssuingLemmas.{half}
+use Rattle.thy_layout.specs.Entries.{Lists, entry_at, entry_of}
+use Rattle.thy_layout.proofs.AskingLemmas.{map-alike}
+use Rattle.thy_layout.proofs.EntryLemmas.{entry_of-Some}
+use Rattle.thy_layout.proofs.AskingLemmas.{half}
 use Rattle.thy_view.specs.Action.{after}
 use Rattle.thy_journal_image.specs.Places.{slot_blocks, slot_place, image_blocks, first_home, home_place, journal_place, place_by, place_of}
-use Rattle.thy_record.specs.Commit.{commit_of}
-use Rattle.thy_journal_image.specs.Slots.{IsTable, slot_block_of}
+use Rattle.thy_layout.specs.Commit.{commit_of}
+use Rattle.thy_layout.specs.TableSlots.{slot_block_of}
+use Rattle.thy_journal_image.specs.Slots.{IsTable}
 use Rattle.thy_journal_image.specs.CheckpointParts.{memory_places, IsIssuing}
 use Rattle.thy_journal_image.proofs.PartsLemmas.{slot_behind, slot_grows, ArePlaced-parts}
 use Rattle.thy_log.specs.declared.stage.JournalStage.{JournalStage}

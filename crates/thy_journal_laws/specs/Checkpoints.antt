@@ -6,13 +6,13 @@ use Rattle.thy_base.specs.Device.{Device, block_at, newest}
 use Rattle.thy_crash.specs.Fixed.{Reads}
 use Rattle.thy_crash.specs.Saved.{Saved, Kept, Ready, InDoubt, next_image}
 use Rattle.thy_isa.specs.OnBlocks.{state_from}
-use Rattle.thy_record.specs.Cpu.{IsRecordable}
-use Rattle.thy_record.specs.Tables.{Lists}
+use Rattle.thy_layout.specs.Cpu.{IsRecordable}
+use Rattle.thy_layout.specs.Entries.{Lists}
 use Rattle.thy_view.specs.Origin.{Origin, at}
 use Rattle.thy_view.specs.Safe.{ceiling}
 use Rattle.thy_protocol.specs.Moves.{Standing, standing}
 use Rattle.thy_journal_image.specs.Places.{slot_blocks, home_place, journal_place}
-use Rattle.thy_record.specs.Commit.{commit_of}
+use Rattle.thy_layout.specs.Commit.{commit_of}
 use Rattle.thy_journal_image.specs.CheckpointParts.{IsIssuing, IsToldBy}
 use Rattle.thy_log.specs.declared.stage.JournalStage.{JournalStage}
 use Rattle.thy_log.specs.declared.stage.JournalStage.TheVariants.{Nothing, Journal, Slot, Settle, Commit, Confirm, Home}
@@ -63,7 +63,7 @@ checkpoints_after i e m c = c
 pub record IsKeptBy (o : Origin) (e : Progress) (s : State) (before : List Block) : Type 0 where
   pub epoch : ℕ
   pub table : List (Option ℕ)
-  pub told : IsToldBy o.geometry ceiling before epoch table
+  pub told : IsToldBy o.geometry before epoch table
   pub other_slot : is_sealing e.next ≡ true → e.epoch % 2 ≢ epoch % 2
   pub listed : is_applying e.next ≡ true → table ≡ table_of s
 
@@ -77,7 +77,7 @@ pub record IsMadeFor (o : Origin) (e : Progress) (s : State) (n : Device) (c : C
   pub state_is : state_from o.geometry e.cpu (works s n) ≡ at o mark.count
   pub counted : (at o mark.count).count ≡ mark.count
   pub commit : is_settled e.next ≡ true → block_at c.next 1 ≡ commit_of e.epoch
-  pub told : is_settled e.next ≡ true → IsToldBy o.geometry ceiling c.next e.epoch (table_of s)
+  pub told : is_settled e.next ≡ true → IsToldBy o.geometry c.next e.epoch (table_of s)
 
 -- ---- what is written before an item
 

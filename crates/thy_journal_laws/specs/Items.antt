@@ -5,7 +5,8 @@ use Rattle.thy_crash.specs.Saved.{InDoubt}
 use Rattle.thy_view.specs.Action.{after, FailsTo}
 use Rattle.thy_view.specs.Origin.{Origin}
 use Rattle.thy_protocol.specs.Moves.{Standing, standing, Move}
-use Rattle.thy_journal_image.specs.Header.{header_fault}
+use Rattle.thy_layout.specs.Header.{header_fault}
+use Rattle.thy_journal_image.specs.Places.{scheme_number}
 use Rattle.thy_journal_image.specs.Layout.{layout_of}
 use Rattle.thy_log.specs.declared.stage.JournalStage.{JournalStage}
 use Rattle.thy_log.specs.declared.stage.JournalStage.TheVariants.{Commit}
@@ -21,7 +22,7 @@ use Rattle.thy_journal_laws.specs.Sound.{IsHeld}
 abbrev pub ItemsMove : Type 0
 ItemsMove =
     (o : Origin) (e : Progress) (s : State) (m : Device) (c : Checkpoints)
-    → IsHeld o e s m → IsKeptBy o e s c.before → header_fault (newest m 0) o.geometry true ≡ None
+    → IsHeld o e s m → IsKeptBy o e s c.before → header_fault scheme_number (newest m 0) o.geometry true ≡ None
     → HasWritten e s m → is_under_way e.next ≡ true → (is_sealing e.next ≡ true → IsMadeFor o e s m c)
     → Move o (layout_of o) (standing_at e m c)
     (standing_at (engine_next e s) (after (action_next e s) m) (checkpoints_after (item_of e s) e m c))

@@ -8,7 +8,8 @@ use Rattle.thy_table.specs.Listing.{free_count}
 use Rattle.thy_view.specs.Origin.{Origin, at}
 use Rattle.thy_protocol.specs.Moves.{IsKeeping}
 use Rattle.thy_scheme.specs.CheckpointMarks.{CheckpointMarks}
-use Rattle.thy_journal_image.specs.Header.{header_fault}
+use Rattle.thy_layout.specs.Header.{header_fault}
+use Rattle.thy_journal_image.specs.Places.{scheme_number}
 use Rattle.thy_journal_image.specs.Layout.{layout_of}
 use Rattle.thy_log.specs.Items.{is_under_way}
 use Rattle.thy_log.specs.Progress.{Progress, IsSoundProgress, Fits}
@@ -46,7 +47,7 @@ pub record IsSoundJournal (o : Origin) (k : CheckpointMarks) (s : Journal) (n : 
   -- a mark is sealed exactly while its checkpoint is made
   pub way : is_sealing s.engine.next ≡ is_some k.sealed
   pub doubt : k.written ≡ is_confirming s.engine.next
-  pub header : header_fault (newest n 0) o.geometry true ≡ None
+  pub header : header_fault scheme_number (newest n 0) o.geometry true ≡ None
   pub committed : HasState o k.done s.engine s.log n
   -- if nothing was stored since the last seal, and that is applied, every entry is free
   pub rest : s.storeless ≡ true → is_under_way s.engine.next ≡ false → free_count s.log.table ≡ length s.log.table.entries

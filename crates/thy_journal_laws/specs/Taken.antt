@@ -3,11 +3,11 @@ use Rattle.std.specs.Prelude.{◌≡◌, ℕ, ◌<◌, ◌≤◌, true, false, l
 use Rattle.thy_base.specs.declared.mark.Mark.{Mark}
 use Rattle.thy_base.specs.Device.{Device, newest, HoldsNoMore, IsFramed}
 use Rattle.thy_isa.specs.declared.state.CpuState.{CpuState}
-use Rattle.thy_record.specs.declared.engine_step.EngineStep.{EngineStep}
+use Rattle.thy_layout.specs.declared.engine_step.EngineStep.{EngineStep}
 use Rattle.thy_view.specs.Action.{after, FailsTo}
 use Rattle.thy_view.specs.Origin.{Origin}
 use Rattle.thy_view.specs.Safe.{Safe}
-use Rattle.thy_protocol.specs.Layout.{reading}
+use Rattle.thy_layout.specs.Layout.{reading}
 use Rattle.thy_scheme.specs.Calls.{IsTaken}
 use Rattle.thy_scheme.specs.CheckpointMarks.{CheckpointMarks, doubt_in, marks_after, marks_after_fault}
 use Rattle.thy_journal_image.specs.Layout.{journal_layouts}

@@ -6,8 +6,8 @@ use Rattle.thy_base.specs.declared.nvm.NvmError.{NvmError}
 use Rattle.thy_base.specs.Device.{Device, IsFramed}
 use Rattle.thy_base.specs.Places.{record_blocks}
 use Rattle.thy_isa.specs.declared.state.CpuState.{CpuState}
-use Rattle.thy_record.specs.declared.engine_step.EngineStep.{EngineStep}
-use Rattle.thy_record.specs.declared.engine_step.EngineStep.TheVariants.{Idle, Copied, PageBlock, StateBlock, TableBlock, Barrier as IsBarrier, CommitWritten, Committed}
+use Rattle.thy_layout.specs.declared.engine_step.EngineStep.{EngineStep}
+use Rattle.thy_layout.specs.declared.engine_step.EngineStep.TheVariants.{Idle, Copied, PageBlock, StateBlock, TableBlock, Barrier as IsBarrier, CommitWritten, Committed}
 use Rattle.thy_view.specs.Action.{WriteAt, after, FailsTo, Asks}
 use Rattle.thy_view.specs.Dram.{WritesNvm}
 use Rattle.thy_view.specs.Origin.{Origin}
@@ -15,7 +15,7 @@ use Rattle.thy_scheme.specs.CheckpointMarks.{CheckpointMarks}
 use Rattle.thy_scheme.specs.Scheme.{Stands}
 use Rattle.thy_scheme.specs.Calls.{IsDue, writes_block, engine_did, Keeps, Drains, Seals, Engines, EngineFails, OwesAfter}
 use Rattle.thy_journal_image.specs.Places.{slot_place, home_place, journal_place}
-use Rattle.thy_record.specs.Commit.{commit_of}
+use Rattle.thy_layout.specs.Commit.{commit_of}
 use Rattle.thy_view.proofs.ActionLemmas.{queue-after}
 use Rattle.thy_scheme.proofs.RecordLemmas.{due-slot}
 use Rattle.thy_log.specs.declared.stage.JournalStage.{JournalStage}

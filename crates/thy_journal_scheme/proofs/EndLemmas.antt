@@ -1,47 +1,38 @@
 -- The end of a boot: the checkpoint that it found or made is the committed one.
-use Rattle.std.proofs.Common.{◌≡◌, ℕ, suc, ◌+◌, ◌%◌, ◌<◌, true, false, List, [], ◌∷◌, length, map, get_or, Option, Some, None, refl, sym, ◌∙◌, ap, subst, arith}
+use Rattle.std.proofs.Common.{◌≡◌, ℕ, suc, true, false, List, [], ◌∷◌, length, get_or, Option, Some, None, refl, sym, ◌∙◌, ap, subst, arith}
 use Rattle.std.specs.List.{range_with_len, sum_by}
 use Rattle.std.specs.Option.{option_map}
-use Rattle.std.proofs.lemmas.List.{length-map, get_or-map, get_or-replicate, ext_get_or}
-use Rattle.std.proofs.lemmas.List.FromFn.{length-map-range_with_len, get_or-map-range_with_len}
+use Rattle.std.proofs.lemmas.List.{get_or-replicate, ext_get_or}
 use Rattle.std.proofs.lemmas.List.Sums.{sum_by-cons}
 use Rattle.thy_base.specs.declared.block.Block.{Block}
 use Rattle.thy_base.specs.declared.config.Parameters.{Parameters}
 use Rattle.thy_base.specs.declared.mark.Mark.{Mark}
-use Rattle.thy_base.specs.Device.{Device, zero_block, block_at, newest}
+use Rattle.thy_base.specs.Device.{Device, block_at}
 use Rattle.thy_base.specs.Geometry.{memory_blocks}
-use Rattle.thy_base.proofs.CrashLemmas.{Crash-image}
 use Rattle.thy_base.proofs.DeviceLemmas.{newest-empty}
-use Rattle.thy_crash.specs.Saved.{Kept, IsCopy}
-use Rattle.thy_crash.proofs.SavedLemmas.{left_of_saved}
+use Rattle.thy_crash.specs.Saved.{Kept}
 use Rattle.thy_isa.specs.OnBlocks.{state_from}
 use Rattle.thy_isa.specs.Step.{cpu_of}
-use Rattle.thy_record.specs.Commit.{epoch_of, commit_of}
-use Rattle.thy_record.specs.Cpu.{cpu_of_record}
-use Rattle.thy_record.proofs.ImageLemmas.{map-alike}
-use Rattle.thy_record.proofs.ReadBackLemmas.{epoch_of-commit_of}
+use Rattle.thy_layout.specs.Commit.{epoch_of}
+use Rattle.thy_layout.specs.Cpu.{cpu_of_record}
+use Rattle.thy_layout.proofs.AskingLemmas.{map-alike}
+use Rattle.thy_layout.proofs.ReadBackLemmas.{epoch_of-commit_of}
 use Rattle.thy_table.proofs.IndexLemmas.{free_one}
 use Rattle.thy_view.specs.Origin.{Origin, IsOrigin, at}
-use Rattle.thy_view.specs.Safe.{ceiling}
-use Rattle.thy_protocol.specs.Issuing.{slot_of}
-use Rattle.thy_protocol.specs.Keeps.{IsOf, Keeps}
-use Rattle.thy_protocol.specs.Layout.{looked_by, slot_in}
-use Rattle.thy_protocol.proofs.KeepsLemmas.{Keeps-empty, at-start}
-use Rattle.thy_protocol.proofs.LayoutLemmas.{decode_by-copy}
+use Rattle.thy_protocol.specs.Keeps.{Keeps}
+use Rattle.thy_layout.specs.Layout.{slot_in}
+use Rattle.thy_layout.specs.Header.{header_fault}
 use Rattle.thy_boot.specs.Boot.{Booting, slot_read}
-use Rattle.thy_boot.specs.Filling.{First}
 use Rattle.thy_boot.specs.Recovers.{IsRestored}
 use Rattle.thy_boot.specs.Sound.{BootImages, start_mark, IsLoaded}
-use Rattle.thy_boot.specs.Start.{CanStart, start_blocks}
-use Rattle.thy_boot.proofs.StartLemmas.{state_from-start, CanStart-origin}
+use Rattle.thy_boot.specs.Start.{CanStart}
+use Rattle.thy_boot.proofs.LoadedLemmas.{loaded-state, loaded-header}
+use Rattle.thy_boot.proofs.StartLemmas.{CanStart-origin}
 use Rattle.thy_scheme.specs.CheckpointMarks.{only}
-use Rattle.thy_journal_image.specs.Places.{slot_blocks, slot_place, image_blocks}
-use Rattle.thy_journal_image.specs.Header.{header_fault}
-use Rattle.thy_journal_image.specs.Slots.{IsTable, table_in, slot_block_of}
+use Rattle.thy_journal_image.specs.Places.{scheme_number, image_blocks}
+use Rattle.thy_journal_image.specs.Slots.{IsTable, table_in}
 use Rattle.thy_journal_image.specs.Layout.{journal_layouts, layout_of}
-use Rattle.thy_journal_image.specs.CheckpointParts.{IsToldBy, parts_by}
-use Rattle.thy_journal_image.proofs.HeadLemmas.{header_fault-header_of}
-use Rattle.thy_journal_image.proofs.PartsLemmas.{back}
+use Rattle.thy_journal_image.specs.CheckpointParts.{IsToldBy}
 use Rattle.thy_log.specs.declared.entry.Listed.{Listed}
 use Rattle.thy_log.specs.declared.stage.JournalStage.{JournalStage}
 use Rattle.thy_log.specs.declared.stage.JournalStage.TheVariants.{Nothing}
@@ -51,8 +42,9 @@ use Rattle.thy_log.specs.Keys.{block_key}
 use Rattle.thy_log.specs.Progress.{Progress, IsSoundProgress, applying}
 use Rattle.thy_log.specs.State.{State, IsSoundState, table_of, home_of, work_of, work_by}
 use Rattle.thy_log.proofs.TableLemmas.{IsTable-table_of, length-table_of, listed_at-table_of}
-use Rattle.thy_refill.specs.Filling.{filling_journal, no_table, first_of_start}
-use Rattle.thy_refill.proofs.FirstLemmas.{IsTable-none, entry_for-fresh, fresh_loads}
+use Rattle.thy_refill.specs.Filling.{filling_journal, no_table}
+use Rattle.thy_refill.proofs.FirstLemmas.{IsTable-none, table_first, entry_for-fresh}
+use Rattle.thy_refill.proofs.LawLemmas.{log_is_filled}
 use Rattle.thy_journal_laws.specs.Checkpoints.{Checkpoints, is_sealing, is_confirming, saved_at, HasWrittenBefore}
 use Rattle.thy_journal_laws.specs.Journal.{Journal as Value}
 use Rattle.thy_journal_laws.specs.Sound.{IsHeld, IsSoundJournal}
@@ -89,21 +81,21 @@ module _ (o : Origin) (m : Mark) (before : List Block) (n : Device) (b : Booting
   table_is : table_in o.geometry (slot_in (layout_of o) before) ≡ table_of l
   table_is =
       ap (λ (i : List Block). table_in o.geometry (slot_in (layout_of o) i)) before_is
-      ∙ ap (λ (p : Parameters). table_in p (slot_in (journal_layouts p ceiling) n.image)) (sym geometry)
-      ∙ ap (table_in b.p) (sym found.slot_is)
+      ∙ ap (λ (p : Parameters). table_in p (slot_in (journal_layouts p) n.image)) (sym geometry)
+      ∙ ap (table_in b.p) (sym found.listed.slot_is)
       ∙ ap (λ (p : Parameters). table_in p slot) (geometry ∙ sym log)
-      ∙ sym found.lists.table
+      ∙ sym found.listed.lists.table
 
-  told : IsToldBy o.geometry ceiling before (epoch_of b.commit) (table_of l)
+  told : IsToldBy o.geometry before (epoch_of b.commit) (table_of l)
   told = record {
-    of_epoch = ap (λ (i : List Block). epoch_of (block_at i 1)) before_is ∙ ap epoch_of found.head.commit_is.is;
+    of_epoch = ap (λ (i : List Block). epoch_of (block_at i 1)) before_is ∙ ap epoch_of found.listed.head.commit_is.is;
     table_is = table_is;
-    whole = subst (λ (p : Parameters). IsTable p (table_of l)) log (IsTable-table_of l found.lists.state);
+    whole = subst (λ (p : Parameters). IsTable p (table_of l)) log (IsTable-table_of l found.listed.lists.state);
   }
 
   pub restored_sound : IsSoundJournal o (only m) (record s { log = l; engine = applying s.engine; boot = b }) n
   restored_sound = record {
-    held = held_by o e l n found.lists.state log engine (record { regs = progress.regs; inside = λ k is. cc }) room keeps.sized;
+    held = held_by o e l n found.listed.lists.state log engine (record { regs = progress.regs; inside = λ k is. cc }) room keeps.sized;
     images = images_of before m;
     checkpoints = record {
       kept = refl;
@@ -122,9 +114,9 @@ module _ (o : Origin) (m : Mark) (before : List Block) (n : Device) (b : Booting
     way = refl;
     doubt = refl;
     header =
-        ap (λ (x : Block). header_fault x o.geometry true) (newest-empty n 0 settled)
-        ∙ ap (λ (p : Parameters). header_fault (block_at n.image 0) p true) (sym geometry)
-        ∙ found.head.header_fits;
+        ap (λ (x : Block). header_fault scheme_number x o.geometry true) (newest-empty n 0 settled)
+        ∙ ap (λ (p : Parameters). header_fault scheme_number (block_at n.image 0) p true) (sym geometry)
+        ∙ found.listed.head.header_fits;
     committed = record {
       cpu = cpu_of_record b.p slot;
       state = ap (λ (p : Parameters). state_from p (cpu_of_record b.p slot) (works l n)) (sym geometry) ∙ state;
@@ -150,54 +142,11 @@ module _ (o : Origin) (g : BootImages) (n : Device) (b : Booting) (s : Value) (l
   abbrev en : Progress
   en = s.engine
 
-  abbrev f : First
-  f = first_of_start p o.start
-
   start : CanStart p o.start
   start = CanStart-origin o origin
 
   nothing : en.next ≡ Nothing
   nothing = idle_next en.next idle
-
-  -- nothing is queued, so the image is that of the start
-  copy : IsCopy (looked_by (layout_of o)) g.next n.image
-  copy = left_of_saved (looked_by (layout_of o)) n (Kept g.next) n.image keeps.saved (Crash-image n)
-
-  commit_is : block_at n.image 1 ≡ commit_of 0
-  commit_is = copy.commit ∙ loaded.made.commit
-
-  is_of : IsOf o (layout_of o) n.image (start_mark o)
-  is_of = record {
-    decodes = decode_by-copy (layout_of o) g.next n.image copy ∙ loaded.made.of.decodes;
-    counted = loaded.made.of.counted;
-  }
-
-  kept : Keeps o (layout_of o) n (Kept n.image) (Some (start_mark o)) None
-  kept = Keeps-empty o (layout_of o) n (Some (start_mark o)) None keeps.sized loaded.settled is_of
-
-  epoch_is : epoch_of (block_at n.image 1) ≡ 0
-  epoch_is = ap epoch_of commit_is ∙ epoch_of-commit_of 0 (omega arith)
-
-  -- its slot is the start's
-  slot_at : (i : ℕ) → i < slot_blocks p → block_at n.image (slot_place p 0 + i) ≡ slot_block_of p (cpu_of o.start) (no_table p) 0 i
-  slot_at i inside = sym (newest-empty n (slot_place p 0 + i) loaded.settled) ∙ (loaded.stood.parts.slot.each i inside).newest_is
-
-  slot_from : (first : ℕ) → first ≡ slot_place p 0
-      → map (block_at n.image) (range_with_len first (slot_blocks p)) ≡ slot_of (parts_by p (cpu_of o.start) (no_table p) 0)
-  slot_from first is =
-      let long = length-map-range_with_len (block_at n.image) first (slot_blocks p) in
-      let also = length-map-range_with_len (slot_block_of p (cpu_of o.start) (no_table p) 0) 0 (slot_blocks p) in
-      ext_get_or zero_block (map (block_at n.image) (range_with_len first (slot_blocks p)))
-      (slot_of (parts_by p (cpu_of o.start) (no_table p) 0)) (long ∙ sym also)
-      (λ i low.
-      let inside : i < slot_blocks p = omega (arith, low, long) in
-      get_or-map-range_with_len (block_at n.image) first (slot_blocks p) i (first + i) zero_block inside (omega arith)
-      ∙ ap (λ (x : ℕ). block_at n.image (x + i)) is
-      ∙ slot_at i inside
-      ∙ sym (get_or-map-range_with_len (slot_block_of p (cpu_of o.start) (no_table p) 0) 0 (slot_blocks p) i i zero_block inside (omega arith)))
-
-  slot_is : slot_in (layout_of o) n.image ≡ slot_of (parts_by p (cpu_of o.start) (no_table p) 0)
-  slot_is = slot_from (slot_place p (epoch_of (block_at n.image 1) % 2)) (ap (λ (x : ℕ). slot_place p (x % 2)) epoch_is)
 
   -- the log lists nothing
   table_free : table_of l ≡ no_table p
@@ -208,37 +157,21 @@ module _ (o : Origin) (g : BootImages) (n : Device) (b : Booting) (s : Value) (l
       listed_at-table_of l i ∙ ap (option_map block_key) (loaded.fresh.free i)
       ∙ sym (get_or-replicate p.btt i None None (omega (arith, low, size))))
 
-  told_first : IsToldBy p ceiling n.image 0 (table_of l)
+  told_first : IsToldBy p g.next 0 (table_of l)
   told_first = record {
-    of_epoch = epoch_is;
-    table_is =
-        ap (table_in p) slot_is
-        ∙ (back p ceiling (cpu_of o.start) (no_table p) 0 start.geometry start.recordable (omega arith) (omega arith) (IsTable-none p)).table_back
-        ∙ sym table_free;
+    of_epoch = ap epoch_of loaded.made.commit ∙ epoch_of-commit_of 0 (omega arith);
+    table_is = ap (table_in p) loaded.made.slot ∙ table_first p o.start start.geometry ∙ sym table_free;
     whole = subst (IsTable p) (sym table_free) (IsTable-none p);
   }
 
   -- memory is the start's, at home
-  homes_loaded : homes l n ≡ map (newest n) f.parts.memory
-  homes_loaded =
+  at_home : homes l n ≡ works l n
+  at_home =
       map-alike (home_of l n) (work_of l n) (range_with_len 0 (memory_blocks l.p))
       (λ c inside. sym (ap (work_by l n c) (entry_for-fresh l c loaded.fresh)))
-      ∙ fresh_loads l n o.start loaded.fresh
-      ∙ ap (λ (q : Parameters). map (newest n) (first_of_start q o.start).parts.memory) log
 
-  memory_is : map (newest n) f.parts.memory ≡ start_blocks p o.start
-  memory_is =
-      let long = length-map f.parts.memory (newest n) in
-      let also : length (start_blocks p o.start) ≡ memory_blocks p = length-map-range_with_len _ 0 (memory_blocks p) in
-      let both : length f.parts.memory ≡ memory_blocks p = length-map-range_with_len _ 0 (memory_blocks p) in
-      ext_get_or zero_block (map (newest n) f.parts.memory) (start_blocks p o.start) (long ∙ both ∙ sym also)
-      (λ i low.
-      let inside : i < length f.parts.memory = omega (arith, low, long) in
-      get_or-map (newest n) f.parts.memory i 0 zero_block inside ∙ (loaded.stood.parts.memory i inside).newest_is)
-
-  made_state : state_from p (cpu_of o.start) (homes l n) ≡ at o o.start.count
-  made_state =
-      ap (state_from p (cpu_of o.start)) (homes_loaded ∙ memory_is) ∙ state_from-start p o.start start.geometry start.start ∙ sym (at-start o)
+  made_state : state_from p (cpu_of o.start) (works l n) ≡ at o o.start.count
+  made_state = loaded-state filling_journal log_is_filled o origin g n l log loaded
 
   not_way : (q : JournalStage) → q ≡ Nothing → is_sealing q ≡ true → ⊥
   not_way q is way = let no : false ≡ true = sym (ap is_sealing is) ∙ way in absurd cc
@@ -249,12 +182,12 @@ module _ (o : Origin) (g : BootImages) (n : Device) (b : Booting) (s : Value) (l
   sound_then : IsSoundJournal o (only (start_mark o)) (record s { log = l; boot = b }) n
   sound_then = record {
     held = held_by o en l n loaded.fresh.state log engine progress room keeps.sized;
-    images = images_of n.image (start_mark o);
+    images = images_of g.next (start_mark o);
     checkpoints = record {
       kept = refl;
       sealed = refl;
       keeping =
-          subst (λ (q : JournalStage). Keeps o (layout_of o) n (saved_at q (images_of n.image (start_mark o))) (Some (start_mark o)) None) (sym nothing) kept;
+          subst (λ (q : JournalStage). Keeps o (layout_of o) n (saved_at q (images_of g.next (start_mark o))) (Some (start_mark o)) None) (sym nothing) keeps;
       told = record {
         epoch = 0;
         table = table_of l;
@@ -267,20 +200,14 @@ module _ (o : Origin) (g : BootImages) (n : Device) (b : Booting) (s : Value) (l
     };
     way = ap is_sealing nothing;
     doubt = sym (ap is_confirming nothing);
-    header = ap (λ (x : Block). header_fault x p true) loaded.stood.header.newest_is ∙ header_fault-header_of p start.geometry;
+    header = loaded-header filling_journal log_is_filled o origin g n l log loaded;
     committed = record {
       cpu = cpu_of o.start;
-      state = ap (state_from p (cpu_of o.start)) (committed_idle en l n nothing) ∙ made_state;
+      state = ap (state_from p (cpu_of o.start)) (committed_idle en l n nothing ∙ at_home) ∙ made_state;
     };
     rest = λ storeless still. none_free l.table.entries (λ i. loaded.fresh.free i);
   }
 
-  -- and memory is the start's
-  works_loaded : works l n ≡ homes l n
-  works_loaded =
-      map-alike (work_of l n) (home_of l n) (range_with_len 0 (memory_blocks l.p))
-      (λ c inside. ap (work_by l n c) (entry_for-fresh l c loaded.fresh))
-
   pub loaded_sound : IsSoundJournal o (only (start_mark o)) (record s { log = l; boot = b }) n
       × (state_from o.geometry (cpu_of o.start) (works l n) ≡ at o o.start.count)
-  loaded_sound = (sound_then, ap (state_from p (cpu_of o.start)) works_loaded ∙ made_state)
+  loaded_sound = (sound_then, made_state)

@@ -10,10 +10,12 @@ use Rattle.thy_crash.specs.Saved.{Kept}
 use Rattle.thy_isa.specs.declared.state.CpuState.{CpuState}
 use Rattle.thy_isa.specs.OnBlocks.{state_from}
 use Rattle.thy_isa.specs.Step.{State as Plain, cpu_of, state_of}
-use Rattle.thy_record.specs.declared.bad_image.BadImage.{BadImage}
-use Rattle.thy_record.specs.declared.start.Start.{Start}
-use Rattle.thy_record.specs.Commit.{epoch_of}
-use Rattle.thy_record.specs.Cpu.{cpu_of_record}
+use Rattle.thy_isa.proofs.BlockLaws.{count-state_from}
+use Rattle.thy_layout.specs.declared.bad_image.BadImage.{BadImage}
+use Rattle.thy_layout.specs.declared.start.Start.{Start}
+use Rattle.thy_layout.specs.Commit.{epoch_of}
+use Rattle.thy_layout.specs.Cpu.{cpu_of_record}
+use Rattle.thy_layout.proofs.SlotLemmas.{fits_cpu}
 use Rattle.thy_view.specs.declared.boot_step.BootStep.{BootStep}
 use Rattle.thy_view.specs.declared.view.View.{View}
 use Rattle.thy_view.specs.Action.{Action, Acts, doubt_after_fault}
@@ -49,9 +51,7 @@ use Rattle.thy_scheme.specs.Scheme.{IsBooting, CanBoot}
 use Rattle.thy_boot_laws.specs.Seen.{view_at, has_read_at}
 use Rattle.thy_boot_laws.proofs.StepLemmas.{not-unread, kept-on, WasLoading, was-loading, was-found, fewer_has_read, found_fails_unwritten, queue-on}
 use Rattle.thy_journal_image.specs.Places.{image_blocks}
-use Rattle.thy_journal_image.specs.Layout.{decode_journal, layout_of}
-use Rattle.thy_journal_image.specs.Slots.{slot_fault}
-use Rattle.thy_journal_image.proofs.FitLemmas.{slot_fits-cpu}
+use Rattle.thy_journal_image.specs.Layout.{journal_layouts, decode_journal, layout_of}
 use Rattle.thy_log.specs.Holding.{works}
 use Rattle.thy_log.specs.State.{State, IsSoundState}
 use Rattle.thy_refill.specs.Filling.{filling_journal}
@@ -211,13 +211,14 @@ module _ (o : Origin) (s : Value) (n : Device) (booting : IsBooting journal_sche
       let made_state : state_from o.geometry cpu (works e new) ≡ at o m.count
       = ap (λ (p : Parameters). state_from p cpu (works e new)) (sym moved.sound.geometry) ∙ made in
       let count : cpu.count ≡ m.count
-      = sym (log_is_filled.counts d.p slot (works e new)) ∙ ap (λ (x : Plain). x.count) made ∙ keeps.told.counted in
+      = sym (count-state_from d.p cpu (works e new)) ∙ ap (λ (x : Plain). x.count) made ∙ keeps.told.counted in
       let is_mark : m ≡ mark epoch cpu.count
       = ap (λ (x : ℕ). mark x m.count) r.2 ∙ ap (mark epoch) (sym count) in
       let ended = restored_sound o m h.before new d s e moved.sound.geometry moved.sound.same_p boots.unused.engine boots.unused.progress room
       far.before_is far.read.settled keeps found made in
-      let fits = slot_fits-cpu o.geometry d.p ceiling epoch slot
-      (subst (λ (p : Parameters). slot_fault p ceiling epoch slot ≡ None) moved.sound.geometry found.slot_fits) in
+      let fits = fits_cpu o.geometry d.p ceiling slot
+      (log_is_filled.laid.cpu o.geometry ceiling d.commit slot
+      (subst (λ (p : Parameters). (journal_layouts p).slot_bad ceiling d.commit slot ≡ None) moved.sound.geometry found.listed.slot_fits)) in
       let over : IsBooted journal_scheme o m cpu t new = record {
         sound = subst (λ (q : Stage). IsSoundJournal o (only m) (with_engine q) new) (sym is) ended;
         state = ap (state_from o.geometry cpu) (blocks_are keeps.sized) ∙ made_state;

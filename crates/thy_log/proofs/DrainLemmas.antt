@@ -4,7 +4,7 @@ use Rattle.std.specs.List.{range_with_len}
 use Rattle.thy_base.specs.Device.{Device}
 use Rattle.thy_base.specs.Geometry.{memory_blocks}
 use Rattle.thy_dram.specs.Contents.{drained}
-use Rattle.thy_record.proofs.ImageLemmas.{map-alike}
+use Rattle.thy_layout.proofs.AskingLemmas.{map-alike}
 use Rattle.thy_log.specs.Holding.{works}
 use Rattle.thy_log.specs.State.{State, IsSoundState, entry_for, work_by, work_of}
 use Rattle.thy_log.specs.Stores.{after_drain}

@@ -1,18 +1,14 @@
 -- The log's table as that of a checkpoint, and its entries, block by block.
-use Rattle.std.proofs.Common.{◌≡◌, ℕ, ◌+◌, ◌*◌, ◌^◌, ◌-◌, ◌<◌, ◌≤◌, true, false, List, length, map, take, drop, Option, Some, None, refl, sym, ◌∙◌, ap, subst, inl, inr, arith}
+use Rattle.std.proofs.Common.{◌≡◌, ℕ, ◌-◌, ◌<◌, ◌≤◌, true, false, length, Option, Some, None, refl, sym, ◌∙◌, ap, subst, inl, inr, arith}
 use Rattle.std.specs.Option.{option_map}
 use Rattle.std.proofs.lemmas.Bool.{cases_lt, eq-eqb, eqb-true}
-use Rattle.std.proofs.lemmas.List.{take-map, drop-map, length-map, length-drop, length-take-le, length-take, get_or-map, get_or_past, get_or-take, get_or-drop, ext_get_or}
-use Rattle.thy_base.specs.declared.config.Parameters.{Parameters}
-use Rattle.thy_base.specs.Geometry.{IsInRange}
-use Rattle.thy_record.specs.Tables.{entry_at as listed_at, Lists, entry_of}
-use Rattle.thy_record.proofs.EntryLemmas.{Lists-inside, entry_of-absent, entry_of-listed}
-use Rattle.thy_record.specs.TableBlocks.{entry_word, HaveWords}
-use Rattle.thy_base.specs.Words.{block_of}
+use Rattle.std.proofs.lemmas.List.{length-map, get_or-map, get_or_past}
+use Rattle.thy_layout.specs.Entries.{entry_at as listed_at, Lists, entry_of}
+use Rattle.thy_layout.proofs.EntryLemmas.{Lists-inside, entry_of-absent, entry_of-listed}
 use Rattle.thy_table.specs.Listing.{entry_at, lists, passes}
 use Rattle.thy_table.proofs.FirstLemmas.{first_from-first, none-first_from}
 use Rattle.thy_table.proofs.ListingLaws.{found-once, place_of-lists, none-lists}
-use Rattle.thy_journal_image.specs.Slots.{IsTable, table_block_of}
+use Rattle.thy_journal_image.specs.Slots.{IsTable}
 use Rattle.thy_log.specs.declared.entry.Listed.{Listed}
 use Rattle.thy_log.specs.Keys.{block_key}
 use Rattle.thy_log.specs.Items.{is_live, next_live}
@@ -44,39 +40,6 @@ IsTable-table_of s h = record {
   long = length-table_of s ∙ h.size;
   blocks = λ i b l. subst (λ (n : ℕ). b < n) h.numbers (h.once.inside i b (lists_of s i b l));
   once = λ i k b l m. found-once block_key s.table h.once i k b (lists_of s i b l) (lists_of s k b m);
-}
-
--- ---- eight entries
-
-abbrev pub eight_of : List (Option ℕ) → ℕ → List (Option ℕ)
-eight_of table k = take 8 (drop (8 * k) table)
-
-pub eight_are : (table : List (Option ℕ)) (k : ℕ) (entries : List (Option ℕ)) → 8 * k + 8 ≤ length table → length entries ≡ 8
-    → ((j : ℕ) → j < 8 → listed_at entries j ≡ listed_at table (8 * k + j)) → entries ≡ eight_of table k
-eight_are table k entries l long each =
-    let size : length (eight_of table k) ≡ 8 = length-take-le 8 (drop (8 * k) table) (omega (arith, length-drop (8 * k) table)) in
-    ext_get_or None entries (eight_of table k) (long ∙ sym size)
-    (λ j inside.
-    let below : j < 8 = omega (arith, long) in
-    each j below ∙ sym (get_or-take 8 (drop (8 * k) table) j None below ∙ get_or-drop (8 * k) table j None))
-
--- they are a block of the table
-pub block_of_eight : (table : List (Option ℕ)) (k : ℕ) → block_of (map entry_word (eight_of table k)) ≡ table_block_of table k
-unfolding table_block_of
-block_of_eight table k = sym (ap block_of (ap (take 8) (drop-map entry_word (8 * k) table) ∙ take-map entry_word 8 (drop (8 * k) table)))
-
--- each has a word
-pub HaveWords-eight : (p : Parameters) (table : List (Option ℕ)) (k : ℕ) → IsInRange p → IsTable p table → HaveWords (eight_of table k)
-HaveWords-eight p table k r h = record {
-  each = λ i n l. elim (cases_lt i 8) as (λ _. n < 2 ^ 64 - 1) [
-    | inl low ↦
-        let at : listed_at (eight_of table k) i ≡ listed_at table (8 * k + i) = get_or-take 8 (drop (8 * k) table) i None low ∙ get_or-drop (8 * k) table i None in
-        let small = h.blocks (8 * k + i) n (record { is = sym at ∙ l.is }) in
-        omega arith
-    | inr high ↦
-        let past : listed_at (eight_of table k) i ≡ None = get_or_past (eight_of table k) i None (omega (arith, length-take 8 (drop (8 * k) table))) in
-        let no : None ≡ Some n = sym past ∙ l.is in cc
-  ];
 }
 
 -- ---- live entries

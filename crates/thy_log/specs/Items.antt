@@ -3,8 +3,8 @@
 use Rattle.std.specs.Prelude.{ℕ, ◌+◌, nat_lt, Bool, true, false, if◌then◌else◌, Option, Some, None}
 use Rattle.thy_base.specs.declared.config.Parameters.{Parameters}
 use Rattle.thy_base.specs.Places.{record_blocks}
-use Rattle.thy_record.specs.declared.engine_step.EngineStep.{EngineStep}
-use Rattle.thy_record.specs.declared.engine_step.EngineStep.TheVariants.{Idle, Copied, StateBlock, TableBlock, Barrier, CommitWritten, Committed}
+use Rattle.thy_layout.specs.declared.engine_step.EngineStep.{EngineStep}
+use Rattle.thy_layout.specs.declared.engine_step.EngineStep.TheVariants.{Idle, Copied, StateBlock, TableBlock, Barrier, CommitWritten, Committed}
 use Rattle.thy_table.specs.Listing.{next_from}
 use Rattle.thy_journal_image.specs.Places.{slot_blocks}
 use Rattle.thy_log.specs.declared.entry.Listed.{Listed}

@@ -10,8 +10,8 @@ use Rattle.thy_isa.specs.Step.{zero_cpu}
 use Rattle.thy_table.specs.Listing.{entry_at}
 use Rattle.thy_view.specs.Action.{Action, Rest, WriteAt, Barrier, after, FailsTo}
 use Rattle.thy_journal_image.specs.Places.{slot_blocks, slot_place, home_place, journal_place}
-use Rattle.thy_record.specs.Commit.{commit_of}
-use Rattle.thy_journal_image.specs.Slots.{slot_block_of}
+use Rattle.thy_layout.specs.Commit.{commit_of}
+use Rattle.thy_layout.specs.TableSlots.{slot_block_of}
 use Rattle.thy_log.specs.declared.engine.Done.{Done}
 use Rattle.thy_log.specs.declared.entry.Listed.{Listed}
 use Rattle.thy_log.specs.declared.stage.JournalStage.{JournalStage}

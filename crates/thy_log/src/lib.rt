@@ -3,7 +3,7 @@
 //! `Log` and `Engine` equal their specifications in table and devices, which speak of no run.
 //!
 //! Open specs/State.antt first, then specs/Items.antt and specs/Progress.antt, and src/log.rt. It depends on thy_dram,
-//! thy_table, thy_record, thy_view, thy_journal_image and their dependencies; the scheme above it depends on it.
+//! thy_table, thy_layout, thy_view, thy_journal_image and their dependencies; the scheme above it depends on it.
 #![tactic(auto)]
 
 mod engine;

@@ -4,7 +4,7 @@ ghost use Rattle.std.specs.Option.{option_map};
 ghost use Rattle.thy_base.specs.Device.{HasFailed, HasFailedToWrite, IsFramed, CountsFault, written_to};
 ghost use Rattle.thy_base.specs.Geometry.{memory_blocks};
 ghost use Rattle.thy_base.specs.Places.{dram_blocks};
-ghost use Rattle.thy_record.specs.Tables.{entry_at as listed_at};
+ghost use Rattle.thy_layout.specs.Entries.{entry_at as listed_at};
 ghost use Rattle.thy_table.specs.Listing.{free_count, entry_at, place_of};
 ghost use Rattle.thy_log.specs.Keys.{block_key};
 ghost use Rattle.thy_log.specs.Progress.{listed_by};
@@ -15,7 +15,7 @@ use std::marker::Model;
 use thy_base::{Block, Geometry, Nvm, NvmError};
 use thy_dram::Dram;
 use thy_journal_image::{home as home_number, journal as journal_number};
-use thy_record::table_block;
+use thy_layout::table_block;
 use thy_table::Table;
 
 /// Blocks of memory as they were stored last: those that the table lists in the buffers of their entries, all others
@@ -61,7 +61,7 @@ impl Log {
     ghost use Rattle.std.specs.Prelude.{Some};
     ghost use Rattle.thy_dram.specs.Contents.{lost};
     ghost use Rattle.thy_journal_image.specs.Places.{home_place, journal_place};
-    ghost use Rattle.thy_journal_image.specs.Slots.{table_block_of};
+    ghost use Rattle.thy_layout.specs.TableSlots.{table_block_of};
     ghost use Rattle.thy_log.specs.Items.{next_live};
     ghost use Rattle.thy_log.specs.Progress.{block_listed};
     ghost use Rattle.thy_log.specs.State.{IsSoundState, IsSized, table_of, entry_for, home_of, buffer_of, work_of, new_state};

@@ -1,3 +1,4 @@
+mod LeastLemmas
 mod LogLemmas
 mod PoolLemmas
 mod PoweredLemmas

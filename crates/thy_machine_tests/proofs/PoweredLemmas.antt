@@ -14,13 +14,14 @@ use Rattle.thy_isa.proofs.MemoryBounds.{anywhere}
 use Rattle.thy_elf.specs.Image.{Contents}
 use Rattle.thy_plain.specs.Start.{start_state}
 use Rattle.thy_plain.proofs.StartLaws.{start_other-alone}
-use Rattle.thy_record.specs.Cpu.{is_status, status_tag, status_value, IsOtherRecordable}
-use Rattle.thy_record.specs.declared.start.Start.{Start}
+use Rattle.thy_layout.specs.Cpu.{is_status, status_tag, status_value, IsOtherRecordable}
+use Rattle.thy_layout.specs.declared.start.Start.{Start}
 use Rattle.thy_view.specs.Booting.{found_first}
 use Rattle.thy_view.specs.Kind.{KindOf, IsLawful, IsFittedFor, IsStep}
 use Rattle.thy_view.specs.Origin.{Origin, IsOrigin, StartsFrom, setting_of}
 use Rattle.thy_view.specs.Told.{HasTurn, IsThere}
 use Rattle.thy_view.specs.declared.did.Stepped.{Stepped}
+use Rattle.thy_view.proofs.AgainLaws.{goes_on_after_cut}
 use Rattle.thy_view.proofs.OneHartLaws.{has-turn}
 use Rattle.thy_machine_tests.specs.Powered.{HasRoom, origin_from, powered, IsPowered}
 
@@ -106,7 +107,7 @@ pub IsPowered-cut : {M : Type 0} (K : KindOf M) (laws : IsLawful K) → (p : Par
 IsPowered-cut K laws p start m next n new k cuts pick w powers cut some =
     let o : Origin = origin_from p start in
     subst (λ (d : Device). IsPowered K (powered p start next d k (cuts - 1))) (sym cut.device) (record {
-      at_moment = (laws.recovers o k m next n pick new.image w.at_moment powers cut.crash).0;
+      at_moment = (goes_on_after_cut K laws o k m next n pick new.image w.at_moment powers cut.crash).0;
       one = w.one;
       few = w.few;
       room = room-cut n.left new.image n.left_room cuts w.room some;

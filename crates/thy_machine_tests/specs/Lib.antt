@@ -1,3 +1,4 @@
+pub mod Least
 pub mod LogParts
 pub mod PoolParts
 pub mod Powered

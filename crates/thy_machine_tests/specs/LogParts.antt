@@ -1,14 +1,10 @@
 -- Log, engine and boot of a redo journal that a test drives, and the NVM below them.
-use Rattle.std.specs.Prelude.{◌≡◌, ℕ, ◌+◌, ◌≤◌, Bool, true, false, [], length, replicate, None}
+use Rattle.std.specs.Prelude.{◌≡◌, ℕ, false, [], length}
 use Rattle.thy_base.specs.declared.config.Parameters.{Parameters}
 use Rattle.thy_base.specs.Device.{Device}
 use Rattle.thy_base.specs.Geometry.{memory_blocks}
 use Rattle.thy_base.specs.Places.{dram_blocks}
-use Rattle.thy_dram.specs.Contents.{Contents}
-use Rattle.thy_isa.specs.declared.state.Status.TheVariants.{Running}
 use Rattle.thy_isa.specs.Step.{State as Plain}
-use Rattle.thy_view.specs.declared.boot_step.BootStep.{BootStep}
-use Rattle.thy_view.specs.declared.boot_step.BootStep.TheVariants.{GoesOn}
 use Rattle.thy_boot.specs.Boot.{Booting, IsBoot}
 use Rattle.thy_boot.specs.Start.{CanStart}
 use Rattle.thy_boot.specs.Steps.{CanStep}
@@ -16,25 +12,7 @@ use Rattle.thy_journal_image.specs.Places.{image_blocks}
 use Rattle.thy_log.specs.Progress.{Progress}
 use Rattle.thy_log.specs.State.{State}
 use Rattle.thy_refill.specs.Filling.{filling_journal}
-
--- how many blocks the least memory has
-abbrev pub all : ℕ
-all = 512
-
--- the NVM has room for so many cuts
-abbrev pub HasRoom : Device → ℕ → Type 0
-HasRoom n cuts = length n.left + cuts ≤ n.left_room
-
--- what a loss of power leaves
-pub record Off : Type 0 where
-  pub p : Parameters
-  pub dram : Contents
-  pub nvm : Device
-  -- how many cuts are to come at most
-  pub cuts : ℕ
-
-abbrev pub off : Parameters → Contents → Device → ℕ → Off
-off p dram n cuts = record { p = p; dram = dram; nvm = n; cuts = cuts }
+use Rattle.thy_machine_tests.specs.Least.{all, HasRoom, Off}
 
 -- both devices have the sizes of the least memory; the NVM is up, with nothing queued
 pub record IsOff (m : Off) : Type 0 where
@@ -52,24 +30,6 @@ pub record Boots (s : Plain) (n : Device) (b : Booting) (c : State) : Type 0 whe
   pub same_p : c.p ≡ b.p
   pub fits : IsBoot filling_journal b
   pub may : CanStep filling_journal s n b c
-
--- what was returned says that it continues
-abbrev pub goes_on : BootStep → Bool
-goes_on GoesOn = true
-goes_on told = false
-
--- a start of the least memory, whose registers are zero
-pub record IsLeastStart (s : Plain) : Type 0 where
-  pub regs : s.regs ≡ replicate 32 0
-  pub memory : length s.memory ≡ 28672
-  pub console : length s.console ≡ 70
-  pub pc : s.pc ≡ 65540
-  pub cursor : s.cursor ≡ 3
-  pub brk : s.brk ≡ 65600
-  pub floor : s.floor ≡ 65600
-  pub count : s.count ≡ 5
-  pub status : s.status ≡ Running
-  pub alone : s.other ≡ None
 
 -- after the boot: log, engine and NVM
 pub record Parts : Type 0 where

@@ -24,7 +24,7 @@ use thy_dual::DualScheme;
 use thy_isa::{CpuState, MachState, Status};
 use thy_nvm::MemNvm;
 use thy_plain::{Plain, are_bytes, start_of};
-use thy_record::{EngineStep, Start};
+use thy_layout::{EngineStep, Start};
 use thy_view::{Computer, Did, Stepped};
 
 /// A program, and the result of its run without cuts.

@@ -1,5 +1,5 @@
 -- A migration, from its beginning over each of its actions to its end.
-use Rattle.std.proofs.Common.{◌≡◌, ◌≢◌, ◌⊎◌, ℕ, ◌+◌, ◌%◌, ◌<◌, ◌≤◌, ◌&&◌, nat_lt, Bool, true, false, if◌then◌else◌, List, [], ◌∷◌, length, map, Contains, Some, None, refl, sym, ◌∙◌, ap, subst, inl, inr, arith}
+use Rattle.std.proofs.Common.{◌≡◌, ◌≢◌, ◌⊎◌, ℕ, ◌+◌, ◌%◌, ◌<◌, ◌≤◌, ◌&&◌, nat_lt, Bool, true, false, if◌then◌else◌, List, [], length, map, Contains, Some, None, refl, sym, ◌∙◌, ap, subst, inl, inr, arith}
 use Rattle.std.proofs.lemmas.Bool.{ltb-true, ltb-false}
 use Rattle.std.proofs.lemmas.List.{length-map}
 use Rattle.std.proofs.lemmas.List.FromFn.{length-range_with_len}
@@ -17,16 +17,18 @@ use Rattle.thy_crash.proofs.FixedLemmas.{Reads-written, Reads-settled, Reads-dra
 use Rattle.thy_crash.proofs.SavedLemmas.{next_image-commit}
 use Rattle.thy_crash.proofs.SparesLemmas.{Spares-written, Spares-failed, Spares-failed_to_write, Spares-drained}
 use Rattle.thy_isa.specs.OnBlocks.{state_from}
-use Rattle.thy_record.specs.declared.bad_image.BadImage.TheVariants.{Commit as BadCommit}
-use Rattle.thy_record.specs.Commit.{commit_of, epoch_of, version_of, is_named, has_zero_rest, commit_fault}
-use Rattle.thy_record.specs.Cpu.{cpu_of_record}
-use Rattle.thy_record.specs.Decoded.{At}
-use Rattle.thy_record.specs.Images.{memory_numbers, memory_in, slot_in}
+use Rattle.thy_layout.specs.declared.bad_image.BadImage.TheVariants.{Commit as BadCommit}
+use Rattle.thy_layout.specs.Commit.{commit_of, epoch_of, version_of, is_named, has_zero_rest, commit_fault}
+use Rattle.thy_layout.specs.Cpu.{cpu_of_record}
+use Rattle.thy_layout.specs.Decoded.{At}
+use Rattle.thy_record.specs.Images.{memory_numbers, slot_in}
+use Rattle.thy_record.specs.Number.{scheme_number}
 use Rattle.thy_record.specs.Issuing.{IsToldBy, SlotBlock}
 use Rattle.thy_record.specs.Slots.{tables_in, counts_in, slot_fault}
 use Rattle.thy_record.specs.Tables.{Tables, IsTables}
-use Rattle.thy_record.proofs.ImageLemmas.{map-alike}
-use Rattle.thy_record.proofs.IssuingLemmas.{free_not_looked, half, slot_behind}
+use Rattle.thy_layout.proofs.AskingLemmas.{map-alike}
+use Rattle.thy_layout.proofs.AskingLemmas.{half}
+use Rattle.thy_record.proofs.IssuingLemmas.{free_not_looked, slot_behind}
 use Rattle.thy_control.specs.CheckpointTables.{tables0}
 use Rattle.thy_control.specs.Drains.{after_drain}
 use Rattle.thy_control.specs.State.{State, AreSoundTables}
@@ -37,14 +39,14 @@ use Rattle.thy_view.specs.Safe.{ceiling, Safe}
 use Rattle.thy_view.proofs.SafeLemmas.{Safe-same}
 use Rattle.thy_protocol.specs.Issuing.{AreIssued}
 use Rattle.thy_protocol.specs.Keeps.{Keeps}
-use Rattle.thy_protocol.specs.Layout.{Layout, reading, looked_by, slot_places}
-use Rattle.thy_protocol.specs.Migrated.{migrated_parts, IsMigrated}
+use Rattle.thy_layout.specs.Layout.{Layout, reading, blocks_at, looked_by, slot_places}
+use Rattle.thy_record.specs.Migration.{migrated_parts, IsMigrated}
 use Rattle.thy_protocol.specs.Moves.{standing, IsKeeping, Move, Goes, Readies, Commits, Confirms}
-use Rattle.thy_protocol.specs.DualLayouts.{dual_layouts, layout_of}
+use Rattle.thy_record.specs.DualLayouts.{dual_layouts, layout_of}
 use Rattle.thy_protocol.proofs.IssuingLemmas.{slot_goes_on, elsewhere_keeps, drain_keeps}
 use Rattle.thy_protocol.proofs.KeepsLemmas.{IsKeeping-move, Safe-kept}
-use Rattle.thy_protocol.proofs.MigratedLemmas.{ArePlaced-migrated, migration_decodes, tables_of_slot}
-use Rattle.thy_protocol.proofs.DualLayoutsLemmas.{looked_by-dual_layouts}
+use Rattle.thy_record.proofs.ImageLemmas.{tables_of_slot}
+use Rattle.thy_record.proofs.MigrationLemmas.{ArePlaced-migrated, migration_decodes}
 use Rattle.thy_boot.specs.declared.stage.Stage.{Stage}
 use Rattle.thy_boot.specs.Boot.{Booting, layout_in, slot_read}
 use Rattle.thy_boot.specs.Recovers.{IsRestored}
@@ -66,12 +68,12 @@ use Rattle.thy_migrate.proofs.StateLemmas.{ReadsAlike, loads_alike, LoadsState-a
 -- ---- its beginning
 
 -- with nothing queued, what the controller loads is what the places of its tables hold
-memory_is : (p : Parameters) (c : State) (n : Device) (slot : List Block) → c.p ≡ p → tables_in p slot ≡ tables0 c → n.queue ≡ [] → loads c n ≡ memory_in c.p (tables0 c) n.image
+memory_is : (p : Parameters) (c : State) (n : Device) (slot : List Block) → c.p ≡ p → tables_in p slot ≡ tables0 c → n.queue ≡ [] → loads c n ≡ blocks_at n.image (memory_numbers c.p (tables0 c))
     → map (newest n) (memory_numbers p (tables_in p slot)) ≡ loads c n
 memory_is p c n slot same listed settled are =
     map-alike (newest n) (block_at n.image) (memory_numbers p (tables_in p slot)) (λ x inside. newest-empty n x settled)
-    ∙ ap (λ (t : Tables). memory_in p t n.image) listed
-    ∙ ap (λ (q : Parameters). memory_in q (tables0 c) n.image) (sym same)
+    ∙ ap (λ (t : Tables). blocks_at n.image (memory_numbers p t)) listed
+    ∙ ap (λ (q : Parameters). blocks_at n.image (memory_numbers q (tables0 c))) (sym same)
     ∙ sym are
 
 -- a commit block without a fault has an epoch below the ceiling
@@ -86,15 +88,15 @@ epoch_below header commit h =
     ltb-true (epoch_of commit) ceiling (asks_epoch (is_named header commit) (nat_lt (epoch_of commit) ceiling) (has_zero_rest commit) h)
 
 -- the slot that was read has as many blocks as its version
-slot_long : (p : Parameters) (b : Booting) (n : Device) {c : State} → b.p ≡ p → version_of b.p b.commit ≡ VersionOne → IsRestored filling_dual n b c
+slot_long : (p : Parameters) (b : Booting) (n : Device) {c : State} → b.p ≡ p → version_of scheme_number b.p b.commit ≡ VersionOne → IsRestored filling_dual n b c
     → length (slot_read filling_dual b) ≡ blocks_of_slot VersionOne p
 slot_long p b n same one f =
     let l : Layout = layout_in filling_dual b in
     let commit : Block = block_at n.image 1 in
-    ap length f.slot_is
+    ap length f.listed.slot_is
     ∙ length-map (slot_places l commit) (block_at n.image)
     ∙ length-range_with_len (l.slot_place commit) (l.slot_blocks commit)
-    ∙ ap l.slot_blocks f.head.commit_is.is
+    ∙ ap l.slot_blocks f.listed.head.commit_is.is
     ∙ ap (λ (f : LayoutVersion). blocks_of_slot f b.p) one
     ∙ ap (blocks_of_slot VersionOne) same
 
@@ -107,13 +109,13 @@ migration_begins o g n b c origin sound is one =
     let f : IsRestored filling_dual n b c = k.5 in
     let rec : IsRecovering filling_dual g n b c = subst (λ (q : Stage). IsSoundAt filling_dual o q g n b c) is sound.so_far in
     let m : Mark = r.0 in
-    let booted : IsBooted o m (cpu_of_record b.p slot) (version_of b.p b.commit) g.before n c = r.4 in
+    let booted : IsBooted o m (cpu_of_record b.p slot) (version_of scheme_number b.p b.commit) g.before n c = r.4 in
     let fits : slot_fault VersionOne p ceiling m.epoch slot ≡ None
     = ap (λ (q : Parameters). slot_fault VersionOne q ceiling m.epoch slot) (sym sound.geometry)
     ∙ ap (λ (f : LayoutVersion). slot_fault f b.p ceiling m.epoch slot) (sym one)
-    ∙ ap (λ (e : ℕ). slot_fault (version_of b.p b.commit) b.p ceiling e slot) r.2 ∙ f.slot_fits in
+    ∙ ap (λ (e : ℕ). slot_fault (version_of scheme_number b.p b.commit) b.p ceiling e slot) r.2 ∙ f.listed.slot_fits in
     let listed : tables_in p slot ≡ tables0 c
-    = ap (λ (q : Parameters). tables_in q slot) (sym sound.same_p) ∙ sym f.lists.are in
+    = ap (λ (q : Parameters). tables_in q slot) (sym sound.same_p) ∙ sym f.listed.lists.are in
     let keeps : Keeps o (layout_of o) n (Kept g.before) (Some m) None = r.3 in
     let settled : n.queue ≡ [] = rec.read.settled in (
       m,
@@ -121,12 +123,12 @@ migration_begins o g n b c origin sound is one =
         found = record {
           geometry = sound.geometry;
           same_p = sound.same_p;
-          tables = f.lists.tables;
+          tables = f.listed.lists.tables;
           restored = is;
           version = one;
           epoch = sym r.2;
           kept = r.1;
-          small = subst (λ (e : ℕ). e < ceiling) (sym r.2) (epoch_below (block_at n.image 0) b.commit f.head.commit_fits);
+          small = subst (λ (e : ℕ). e < ceiling) (sym r.2) (epoch_below (block_at n.image 0) b.commit f.listed.head.commit_fits);
           long = slot_long p b n sound.geometry one f;
           fits = fits;
           told = subst (λ (f : LayoutVersion). IsToldBy p g.before f m.epoch (tables0 c)) one booted.told;
@@ -139,7 +141,7 @@ migration_begins o g n b c origin sound is one =
         issued = record {
           sized = keeps.sized;
           memory_is = memory_is p c n slot sound.same_p listed settled
-              (loads-are c n f.lists.tables f.lists.booting f.whole settled AreTablesOf-committed);
+              (loads-are c n f.listed.lists.tables f.listed.lists.booting f.whole settled AreTablesOf-committed);
           slot = record { each = λ i l. absurd (omega (arith, l)) };
         };
         made = tt;
@@ -204,13 +206,12 @@ module _ (o : Origin) (m : Mark) (g : BootImages) (b : Booting) (c : State) wher
 
   -- the tables of the slot that was found are those of a checkpoint
   valid : HasFound o m g b c → IsTables p (tables_in p slot)
-  valid found = tables_of_slot p ceiling m.epoch slot found.fits
+  valid found = tables_of_slot VersionOne p ceiling m.epoch slot found.fits
 
   -- the new slot is free
   slot_free : HasFound o m g b c → (k : ℕ) → k < slot_blocks p → ¬ Contains (guarded (looked_by (layout_of o)) (Kept g.before)) (slot_place p (m.epoch % 2) + k)
   slot_free found k l inside =
-      free_not_looked p g.before VersionOne m.epoch (tables0 c) (SlotBlock (m.epoch % 2) k) found.told (half m.epoch, l) tt
-      (subst (λ (xs : List ℕ). Contains (1 ∷ xs) (slot_place p (m.epoch % 2) + k)) (looked_by-dual_layouts p ceiling g.before) inside)
+      free_not_looked p g.before VersionOne m.epoch (tables0 c) (SlotBlock (m.epoch % 2) k) found.told (half m.epoch, l) tt inside
 
   -- ---- a block of the slot
 

@@ -7,7 +7,8 @@ use Rattle.thy_base.specs.declared.layout_version.LayoutVersion.TheVariants.{Ver
 use Rattle.thy_base.specs.Device.{Device}
 use Rattle.thy_base.specs.Places.{slot_blocks}
 use Rattle.thy_isa.specs.Step.{State as Plain}
-use Rattle.thy_record.specs.Commit.{version_of}
+use Rattle.thy_layout.specs.Commit.{version_of}
+use Rattle.thy_record.specs.Number.{scheme_number}
 use Rattle.thy_control.specs.State.{State}
 use Rattle.thy_boot.specs.declared.stage.Stage.{Stage}
 use Rattle.thy_boot.specs.declared.stage.Stage.TheVariants.{Reads, Loads, Over}
@@ -17,7 +18,7 @@ use Rattle.thy_boot.specs.declared.stage.End.TheVariants.{Restored, Loaded}
 use Rattle.thy_boot.specs.declared.stage.Issue.{Issue}
 use Rattle.thy_boot.specs.declared.stage.Issue.TheVariants.{Home, Slot as SlotBlock, Header as HeaderBlock, Settle as SettleAll, Commit as CommitBlock, Confirm as ConfirmAll}
 use Rattle.thy_boot.specs.Boot.{Booting}
-use Rattle.thy_boot.specs.Filling.{First}
+use Rattle.thy_boot.specs.Filling.{First, first_by}
 use Rattle.thy_boot.specs.Left.{boot_left}
 use Rattle.thy_boot.specs.Loads.{after_issue}
 use Rattle.thy_boot.specs.Reads.{read_on}
@@ -61,14 +62,14 @@ most_from d VersionOne = omega arith
 most_from d VersionTwo = omega arith
 
 most_at : (d : Booting) (q : Stage) → q ≢ Reads Unread
-    → with_migration d q (begun_at d.p q d.commit) ≤ boot_left filling_dual d q + migration_after d.p (version_of d.p d.commit)
+    → with_migration d q (begun_at d.p q d.commit) ≤ boot_left filling_dual d q + migration_after d.p (version_of scheme_number d.p d.commit)
 most_at d (Reads Unread) other = absurd (other refl)
 most_at d (Reads Header) other = omega arith
 most_at d (Reads (SlotAt next)) other = omega arith
 most_at d (Reads (Fills k)) other = omega arith
 most_at d (Reads (Refusing bad)) other = omega arith
 most_at d (Loads issue) other = omega arith
-most_at d (Over Restored) other = most_from d (version_of d.p d.commit)
+most_at d (Over Restored) other = most_from d (version_of scheme_number d.p d.commit)
 most_at d (Over Loaded) other = omega arith
 
 one_at_most : (p : Parameters) (version : LayoutVersion) → migration_after p version ≤ most_migration p
@@ -112,18 +113,18 @@ module _ (s : Plain) (n : Device) (b : Booting) (c : State) (m : Device) (d : Bo
 
   reads_nearer : (r : ReadStage) → b.stage ≡ Reads r → d.p ≡ b.p → (r ≢ Unread → d.commit ≡ b.commit) → IsNearer (Reads r)
   reads_nearer r is same keeps = by_stage r is keeps where
-    most : with_migration d d.stage (begun_at d.p d.stage d.commit) ≤ boot_left filling_dual d d.stage + migration_after d.p (version_of d.p d.commit)
+    most : with_migration d d.stage (begun_at d.p d.stage d.commit) ≤ boot_left filling_dual d d.stage + migration_after d.p (version_of scheme_number d.p d.commit)
     most = most_at d d.stage (not_unread same)
 
     less : (q : Stage) → b.stage ≡ q → boot_left filling_dual d d.stage + 1 ≤ boot_left filling_dual b q
     less q is = subst (λ (x : Stage). boot_left filling_dual d d.stage + 1 ≤ boot_left filling_dual b x) is nearer
 
-    after : d.commit ≡ b.commit → migration_after d.p (version_of d.p d.commit) ≡ migration_after b.p (version_of b.p b.commit)
-    after e = ap (λ (p : Parameters). migration_after p (version_of p d.commit)) same ∙ ap (λ (x : Block). migration_after b.p (version_of b.p x)) e
+    after : d.commit ≡ b.commit → migration_after d.p (version_of scheme_number d.p d.commit) ≡ migration_after b.p (version_of scheme_number b.p b.commit)
+    after e = ap (λ (p : Parameters). migration_after p (version_of scheme_number p d.commit)) same ∙ ap (λ (x : Block). migration_after b.p (version_of scheme_number b.p x)) e
 
     by_stage : (r : ReadStage) → b.stage ≡ Reads r → (r ≢ Unread → d.commit ≡ b.commit) → IsNearer (Reads r)
     by_stage Unread is keeps =
-        let few = one_at_most d.p (version_of d.p d.commit) in
+        let few = one_at_most d.p (version_of scheme_number d.p d.commit) in
         let room : most_migration d.p ≡ most_migration b.p = ap most_migration same in
         let left = less (Reads Unread) is in
         omega (arith, most, few, room, left)
@@ -142,7 +143,7 @@ module _ (s : Plain) (n : Device) (b : Booting) (c : State) (m : Device) (d : Bo
   boot_nearer : (q : Stage) → b.stage ≡ q → BootStepsAt filling_dual q s n b c m d e → IsNearer q
   boot_nearer (Reads r) is on = reads_nearer r is on.same_p (λ other. ap (λ (x : Booting). x.commit) on.boot ∙ commit_kept r n other)
   boot_nearer (Loads issue) is on =
-      let f : First = filling_dual.first b.p s in
+      let f : First = first_by filling_dual b.p s in
       let at : d.stage ≡ after_issue f issue = ap (λ (x : Booting). x.stage) on.boot in
       let none : with_migration d d.stage (begun_at d.p d.stage d.commit) ≡ boot_left filling_dual d d.stage
       = subst (λ (q : Stage). with_migration d q (begun_at d.p q d.commit) ≡ boot_left filling_dual d q) (sym at) (loads_on d f issue) in

@@ -12,8 +12,9 @@ use Rattle.thy_base.proofs.PlaceLemmas.{between_slots}
 use Rattle.thy_base.proofs.BasicLemmas.{Contains-range}
 use Rattle.thy_isa.specs.declared.state.CpuState.{CpuState}
 use Rattle.thy_isa.specs.OnBlocks.{state_from}
-use Rattle.thy_record.specs.Header.{header_fault}
-use Rattle.thy_record.proofs.ImageLemmas.{map-alike}
+use Rattle.thy_layout.specs.Header.{header_fault}
+use Rattle.thy_layout.proofs.AskingLemmas.{map-alike}
+use Rattle.thy_record.specs.Number.{scheme_number}
 use Rattle.thy_cell.specs.Cells.{seat_of, frame_at, target, last, work}
 use Rattle.thy_control.specs.State.{State, AreSoundTables, cell_of, work_of, reads}
 use Rattle.thy_control.specs.Stays.{HoldAll}
@@ -57,7 +58,7 @@ module _ (c : State) (n m : Device) (tables : AreSoundTables c) (alike : ReadsAl
   pub LoadsState-alike : (o : Origin) (k : Mark) (cpu : CpuState) → LoadsState o k cpu n c → LoadsState o k cpu m c
   LoadsState-alike o k cpu has = record {
     booting = has.booting;
-    header = ap (λ (b : Block). header_fault b o.geometry true) alike.header ∙ has.header;
+    header = ap (λ (b : Block). header_fault scheme_number b o.geometry true) alike.header ∙ has.header;
     holds = still has.holds;
     state = ap (state_from o.geometry cpu) loads_alike ∙ has.state;
     counted = has.counted;

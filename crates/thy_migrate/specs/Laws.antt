@@ -6,17 +6,18 @@ use Rattle.thy_base.specs.declared.mark.Mark.{Mark}
 use Rattle.thy_base.specs.Device.{Device, IsFramed, drained}
 use Rattle.thy_crash.specs.Saved.{Kept}
 use Rattle.thy_isa.specs.Step.{State as Plain}
-use Rattle.thy_record.specs.declared.bad_image.BadImage.{BadImage}
-use Rattle.thy_record.specs.Commit.{version_of}
-use Rattle.thy_record.specs.Cpu.{cpu_of_record}
+use Rattle.thy_layout.specs.declared.bad_image.BadImage.{BadImage}
+use Rattle.thy_layout.specs.Commit.{version_of}
+use Rattle.thy_layout.specs.Cpu.{cpu_of_record}
 use Rattle.thy_control.specs.Drains.{after_drain}
 use Rattle.thy_control.specs.State.{State, AreSoundTables}
 use Rattle.thy_view.specs.Action.{after, FailsTo}
 use Rattle.thy_view.specs.Origin.{Origin, IsOrigin}
 use Rattle.thy_view.specs.Safe.{Safe}
 use Rattle.thy_protocol.specs.Keeps.{Keeps}
-use Rattle.thy_protocol.specs.Layout.{reading}
-use Rattle.thy_protocol.specs.DualLayouts.{dual_layouts, layout_of}
+use Rattle.thy_layout.specs.Layout.{reading}
+use Rattle.thy_record.specs.Number.{scheme_number}
+use Rattle.thy_record.specs.DualLayouts.{dual_layouts, layout_of}
 use Rattle.thy_boot.specs.declared.stage.Stage.TheVariants.{Reads, Over}
 use Rattle.thy_boot.specs.declared.stage.ReadStage.TheVariants.{Refusing}
 use Rattle.thy_boot.specs.declared.stage.End.TheVariants.{Restored}
@@ -35,7 +36,7 @@ use Rattle.thy_migrate.specs.Steps.{CanMigrate, CanStep, Steps}
 abbrev pub MigrationBegins : Type 0
 MigrationBegins =
     (o : Origin) (g : BootImages) (n : Device) (b : Booting) (c : State)
-    → IsOrigin o → IsSoundBoot filling_dual o g n b c → b.stage ≡ Over Restored → version_of b.p b.commit ≡ VersionOne
+    → IsOrigin o → IsSoundBoot filling_dual o g n b c → b.stage ≡ Over Restored → version_of scheme_number b.p b.commit ≡ VersionOne
     → (m : Mark) × IsMigrating o m (Slot 0) g n b c
 
 -- it may take its action while the NVM is up

@@ -7,7 +7,8 @@ use Rattle.thy_base.specs.declared.layout_version.LayoutVersion.{LayoutVersion}
 use Rattle.thy_base.specs.declared.layout_version.LayoutVersion.TheVariants.{VersionOne, VersionTwo}
 use Rattle.thy_base.specs.Geometry.{memory_blocks}
 use Rattle.thy_base.specs.Places.{slot_blocks, blocks_of_slot}
-use Rattle.thy_record.specs.Commit.{version_of}
+use Rattle.thy_layout.specs.Commit.{version_of}
+use Rattle.thy_record.specs.Number.{scheme_number}
 use Rattle.thy_boot.specs.declared.stage.Stage.{Stage}
 use Rattle.thy_boot.specs.declared.stage.Stage.TheVariants.{Reads, Loads, Over}
 use Rattle.thy_boot.specs.declared.stage.ReadStage.TheVariants.{Unread}
@@ -43,13 +44,13 @@ migration_after p VersionTwo = 0
 
 abbrev pub owed_at : Parameters → Block → Stage → ℕ
 owed_at p commit (Reads Unread) = most_migration p
-owed_at p commit (Reads r) = migration_after p (version_of p commit)
+owed_at p commit (Reads r) = migration_after p (version_of scheme_number p commit)
 owed_at p commit (Loads issue) = 0
 owed_at p commit (Over end) = 0
 
 -- so that many are left
 abbrev pub left_at : Option Migration → Booting → ℕ
-left_at None b = stage_left (boot_numbers (version_of b.p b.commit) b.p) b.stage + owed_at b.p b.commit b.stage
+left_at None b = stage_left (boot_numbers (version_of scheme_number b.p b.commit) b.p) b.stage + owed_at b.p b.commit b.stage
 left_at (Some at) b = migration_left b.p at
 
 abbrev pub recovery_left : Recovering → ℕ

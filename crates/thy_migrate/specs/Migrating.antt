@@ -7,7 +7,8 @@ use Rattle.thy_base.specs.declared.layout_version.LayoutVersion.{LayoutVersion}
 use Rattle.thy_base.specs.declared.layout_version.LayoutVersion.TheVariants.{VersionOne, VersionTwo}
 use Rattle.thy_base.specs.Device.{block_at}
 use Rattle.thy_base.specs.Places.{slot_blocks, slot_place}
-use Rattle.thy_record.specs.Commit.{commit_of, epoch_of, version_of}
+use Rattle.thy_layout.specs.Commit.{commit_of, epoch_of, version_of}
+use Rattle.thy_record.specs.Number.{scheme_number}
 use Rattle.thy_view.specs.declared.boot_step.BootStep.{BootStep}
 use Rattle.thy_view.specs.declared.boot_step.BootStep.TheVariants.{GoesOn}
 use Rattle.thy_view.specs.Action.{Action, WriteAt, Barrier}
@@ -34,7 +35,7 @@ begun_from VersionOne = Some (Slot 0)
 begun_from VersionTwo = None
 
 abbrev pub begun_at : Parameters → Stage → Block → Option Migration
-begun_at p (Over Restored) commit = begun_from (version_of p commit)
+begun_at p (Over Restored) commit = begun_from (version_of scheme_number p commit)
 begun_at p stage commit = None
 
 -- block k is written to the slot of this epoch in version 2: block k of the slot that was found, and zeros behind it; the

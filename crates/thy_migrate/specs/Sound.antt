@@ -8,8 +8,9 @@ use Rattle.thy_base.specs.Device.{Device, block_at}
 use Rattle.thy_base.specs.Places.{blocks_of_slot, slot_blocks, image_blocks}
 use Rattle.thy_crash.specs.Fixed.{Reads}
 use Rattle.thy_crash.specs.Saved.{Saved, Kept, Ready, InDoubt, next_image}
-use Rattle.thy_record.specs.Commit.{commit_of, epoch_of, version_of}
-use Rattle.thy_record.specs.Cpu.{cpu_of_record}
+use Rattle.thy_layout.specs.Commit.{commit_of, epoch_of, version_of}
+use Rattle.thy_layout.specs.Cpu.{cpu_of_record}
+use Rattle.thy_record.specs.Number.{scheme_number}
 use Rattle.thy_record.specs.Images.{slot_in}
 use Rattle.thy_record.specs.Issuing.{IsToldBy}
 use Rattle.thy_record.specs.Slots.{tables_in, counts_in, slot_fault}
@@ -19,9 +20,9 @@ use Rattle.thy_view.specs.Origin.{Origin}
 use Rattle.thy_view.specs.Safe.{ceiling}
 use Rattle.thy_protocol.specs.Issuing.{AreIssued}
 use Rattle.thy_protocol.specs.Keeps.{IsOf}
-use Rattle.thy_protocol.specs.Migrated.{migrated_parts}
+use Rattle.thy_record.specs.Migration.{migrated_parts}
 use Rattle.thy_protocol.specs.Moves.{Standing, standing, IsKeeping}
-use Rattle.thy_protocol.specs.DualLayouts.{layout_of}
+use Rattle.thy_record.specs.DualLayouts.{layout_of}
 use Rattle.thy_boot.specs.declared.stage.Stage.TheVariants.{Over}
 use Rattle.thy_boot.specs.declared.stage.End.TheVariants.{Restored}
 use Rattle.thy_boot.specs.Boot.{Booting, slot_read}
@@ -56,7 +57,7 @@ pub record HasFound (o : Origin) (m : Mark) (g : BootImages) (b : Booting) (c : 
   pub same_p : c.p ≡ o.geometry
   pub tables : AreSoundTables c
   pub restored : b.stage ≡ Over Restored
-  pub version : version_of b.p b.commit ≡ VersionOne
+  pub version : version_of scheme_number b.p b.commit ≡ VersionOne
   pub epoch : epoch_of b.commit ≡ m.epoch
   pub kept : g.kept ≡ Some m
   pub small : m.epoch < ceiling

@@ -1,16 +1,11 @@
 //! The boot, and after it the migration.
-ghost use Rattle.std.specs.Prelude.{◌≡◌, ◌*◌, ◌<◌, false, length, Some, None, IfOk, OnOk, OnErr};
+ghost use Rattle.std.specs.Prelude.{◌≡◌, ◌*◌, false, length, Some, None, IfOk, OnOk, OnErr};
 ghost use Rattle.thy_base.specs.Device.{block_at};
 ghost use Rattle.thy_base.specs.Places.{slot_blocks};
-ghost use Rattle.thy_view.specs.declared.boot_step.BootStep.TheVariants.{Restarted};
-ghost use Rattle.thy_boot.specs.declared.stage.Stage.TheVariants.{Over};
-ghost use Rattle.thy_boot.specs.declared.stage.End.TheVariants.{Restored};
 ghost use Rattle.thy_boot.specs.Boot.{IsBoot, slot_read};
 ghost use Rattle.thy_boot.specs.Counts.{Counts};
 ghost use Rattle.thy_boot.specs.Loads.{Takes};
 ghost use Rattle.thy_isa.specs.Step.{state_of};
-ghost use Rattle.thy_record.specs.Commit.{epoch_of};
-ghost use Rattle.thy_record.specs.Cpu.{cpu_of_record};
 ghost use Rattle.thy_recover.specs.Filling.{filling_dual};
 ghost use Rattle.thy_migrate.specs.Migrating.{new_recovery, begun_at, after_action, action_of, answer_of};
 ghost use Rattle.thy_migrate.specs.Counts.{CountsStep};
@@ -20,11 +15,11 @@ use crate::fills::DualFills;
 use crate::migration::Migration;
 use std::alloc::{AllocError, Global};
 use std::marker::Model;
-use thy_base::{Block, Geometry, LayoutVersion, Nvm, NvmError, word};
+use thy_base::{BLOCK_SIZE, Block, Geometry, LayoutVersion, Nvm, NvmError, word};
 use thy_boot::{Boot, End, Stage};
 use thy_control::Control;
-use thy_record::{Start, commit_block, version_of};
-use thy_recover::{cpu_of_slot, slot_block};
+use thy_layout::{Start, block_in, commit_block};
+use thy_record::version_of;
 use thy_view::BootStep;
 
 /// A boot, and what its migration does next, if one is under way.
@@ -70,6 +65,19 @@ fn next_after(geometry: &Geometry, at: Migration) -> Option<Migration>
     }
 }
 
+// Block `k` of the slot that was read; past its end that is a block of zeros.
+fn slot_block(boot: &Boot, k: u64) -> Block
+    requires { length boot.now.slot ≡ 64 * slot_blocks boot.now.p }
+    ensures { result ≡ block_at (slot_read filling_dual boot.now) k }
+{
+    let blocks = boot.slot::<DualFills>();
+    if k < (blocks.len() / BLOCK_SIZE) as u64 {
+        block_in(blocks, k as usize)
+    } else {
+        Block::ZERO
+    }
+}
+
 // Takes an action.
 fn take_action<N: Nvm>(boot: &Boot, at: Migration, nvm: &mut N) -> Result<(), NvmError>
     requires can { CanMigrate at (N.device nvm.old) boot.now }
@@ -81,8 +89,7 @@ fn take_action<N: Nvm>(boot: &Boot, at: Migration, nvm: &mut N) -> Result<(), Nv
     match at {
         Migration::Slot(k) => {
             let place = boot.geometry().slot(epoch % 2) + k;
-            let block = slot_block(boot.geometry(), boot.commit(), boot.slot(), k);
-            nvm.write(place, &block)
+            nvm.write(place, &slot_block(boot, k))
         }
         Migration::Settle | Migration::Confirm => nvm.barrier(),
         Migration::Commit => nvm.write(1, &commit_block(epoch)),
@@ -171,19 +178,8 @@ impl Recovery {
         take_action(&self.boot, at, nvm)?;
         self.migration = next_after(self.boot.geometry(), at);
         match self.migration {
-            None => Ok(self.restarted()),
+            None => Ok(self.boot.answer::<DualFills>()),
             Some(_) => Ok(BootStep::GoesOn),
         }
-    }
-
-    // The end of both.
-    fn restarted(&self) -> BootStep
-        requires { length self.now.boot.slot ≡ 64 * slot_blocks self.now.boot.p }
-        ensures { let b = self.now.boot in
-            result ≡ Restarted (cpu_of_record b.p (slot_read filling_dual b)) (epoch_of b.commit) }
-    {
-        let commit = self.boot.commit();
-        let cpu = cpu_of_slot(self.boot.geometry(), commit, self.boot.slot());
-        BootStep::Restarted(cpu, word(commit, 1))
     }
 }

@@ -1,7 +1,7 @@
 -- The kinds of cycles, and how many cycles are of each.
 use Rattle.std.specs.Prelude.{◌≡◌, ℕ, ◌==◌, Bool, true, false, List, length, sum_by, count_by, Option, Some}
 use Rattle.std.specs.List.{range_with_len}
-use Rattle.thy_record.specs.declared.engine_step.EngineStep.TheVariants as engine
+use Rattle.thy_layout.specs.declared.engine_step.EngineStep.TheVariants as engine
 use Rattle.thy_view.specs.declared.did.Did.{Did}
 use Rattle.thy_view.specs.declared.did.Did.TheVariants as did
 use Rattle.thy_view.specs.declared.did.Stall.{Stall}

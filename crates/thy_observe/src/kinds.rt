@@ -2,7 +2,7 @@
 ghost use Rattle.std.specs.Prelude.{◌≡◌, ◌<◌};
 ghost use Rattle.thy_observe.specs.Kinds.{kind_of, index_of, KindsAddUp};
 
-use thy_record::EngineStep;
+use thy_layout::EngineStep;
 use thy_view::Did;
 
 /// What kind of cycle it was.

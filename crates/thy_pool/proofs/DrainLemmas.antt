@@ -5,7 +5,7 @@ use Rattle.thy_base.specs.Device.{Device}
 use Rattle.thy_base.specs.Geometry.{memory_blocks}
 use Rattle.thy_base.specs.Store.{page_of}
 use Rattle.thy_dram.specs.Contents.{Contents, drained}
-use Rattle.thy_record.proofs.ImageLemmas.{map-alike}
+use Rattle.thy_layout.proofs.AskingLemmas.{map-alike}
 use Rattle.thy_pool.specs.Holding.{works}
 use Rattle.thy_pool.specs.State.{State, IsSoundState, frame_of, work_by, work_of}
 use Rattle.thy_pool.specs.Stores.{after_drain}

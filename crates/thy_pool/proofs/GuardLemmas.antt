@@ -3,7 +3,7 @@ use Rattle.std.proofs.Common.{◌≡◌, ◌≢◌, ℕ, zero, suc, ◌+◌, ◌
 use Rattle.std.proofs.lemmas.Bool.{cases_lt}
 use Rattle.thy_base.specs.declared.block.Block.{Block}
 use Rattle.thy_base.specs.declared.config.Parameters.{Parameters}
-use Rattle.thy_record.specs.Tables.{Lists}
+use Rattle.thy_layout.specs.Entries.{Lists}
 use Rattle.thy_table.specs.Listing.{entry_at}
 use Rattle.thy_table.proofs.IndexLemmas.{lists-key}
 use Rattle.thy_view.specs.Action.{WriteAt}

@@ -2,7 +2,6 @@ pub mod CountLemmas
 pub mod CycleLemmas
 pub mod CommitLemmas
 pub mod TableLemmas
-pub mod EightLemmas
 pub mod StateLemmas
 pub mod RoomLemmas
 pub mod ClaimLemmas

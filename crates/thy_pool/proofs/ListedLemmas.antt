@@ -4,7 +4,7 @@ use Rattle.std.specs.Option.{option_and_then}
 use Rattle.std.proofs.lemmas.Bool.{cases_Bool, cases_eq, cases_lt, le-ltb}
 use Rattle.std.proofs.lemmas.List.{length-map, length-set, ext_get_or}
 use Rattle.thy_base.specs.declared.config.Parameters.{Parameters}
-use Rattle.thy_record.specs.Tables.{Lists, entry_at as listed_at}
+use Rattle.thy_layout.specs.Entries.{Lists, entry_at as listed_at}
 use Rattle.thy_table.specs.Listing.{Listing, IsListing, entry_at, lists, place_of, with_entry, mapped}
 use Rattle.thy_table.proofs.ListingLaws.{entry_at-with_same, entry_at-with_other, entry_at-mapped, place_of-none}
 use Rattle.thy_shadow_image.specs.Places.{map_blocks}

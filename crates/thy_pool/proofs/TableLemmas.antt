@@ -4,8 +4,8 @@ use Rattle.std.proofs.lemmas.Bool.{lt-ltb, ltb-true}
 use Rattle.std.proofs.lemmas.List.{ext_get_or}
 use Rattle.std.proofs.lemmas.List.FromFn.{length-map-range_with_len, get_or-map-range_with_len}
 use Rattle.thy_base.specs.declared.config.Parameters.{Parameters}
-use Rattle.thy_record.specs.Tables.{Lists, entry_at as listed_at}
-use Rattle.thy_record.proofs.EntryLemmas.{Lists-inside}
+use Rattle.thy_layout.specs.Entries.{Lists, entry_at as listed_at}
+use Rattle.thy_layout.proofs.EntryLemmas.{Lists-inside}
 use Rattle.thy_table.specs.Listing.{entry_at}
 use Rattle.thy_table.proofs.IndexLemmas.{lists-inside}
 use Rattle.thy_table.proofs.ListingLaws.{place_of-lists}

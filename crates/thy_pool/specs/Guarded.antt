@@ -1,7 +1,7 @@
 -- What the engine never writes, where frames go, and that the pool never lacks a page.
 use Rattle.std.specs.Prelude.{◌≡◌, ◌≢◌, ℕ, ◌<◌, true, Some}
 use Rattle.thy_base.specs.declared.block.Block.{Block}
-use Rattle.thy_record.specs.Tables.{Lists}
+use Rattle.thy_layout.specs.Entries.{Lists}
 use Rattle.thy_table.specs.Listing.{free_count}
 use Rattle.thy_view.specs.Action.{WriteAt}
 use Rattle.thy_shadow_image.specs.Places.{pool_place}

@@ -1,6 +1,6 @@
 -- What the boot lists in a pool: the map of a slot.
 use Rattle.std.specs.Prelude.{◌≡◌, ℕ, ◌<◌, List, length, Option, Some}
-use Rattle.thy_record.specs.Tables.{Lists}
+use Rattle.thy_layout.specs.Entries.{Lists}
 use Rattle.thy_table.specs.Listing.{Listing, entry_at}
 use Rattle.thy_pool.specs.declared.entry.Held.{Held}
 use Rattle.thy_pool.specs.Keys.{held}

@@ -8,8 +8,8 @@ use Rattle.thy_base.specs.Device.{Device, IsFramed, CountsFault}
 use Rattle.thy_isa.specs.declared.state.CpuState.{CpuState}
 use Rattle.thy_isa.specs.Step.{zero_cpu}
 use Rattle.thy_view.specs.Action.{Action, Rest, WriteAt, Barrier, after, FailsTo}
-use Rattle.thy_record.specs.Commit.{commit_of}
-use Rattle.thy_journal_image.specs.Slots.{slot_block_of}
+use Rattle.thy_layout.specs.Commit.{commit_of}
+use Rattle.thy_layout.specs.TableSlots.{slot_block_of}
 use Rattle.thy_shadow_image.specs.Places.{slot_blocks, slot_place}
 use Rattle.thy_pool.specs.declared.engine.Done.{Done}
 use Rattle.thy_pool.specs.declared.stage.PoolStage.{PoolStage}

@@ -2,13 +2,13 @@
 ghost use Rattle.std.specs.Prelude.{◌≡◌, ◌<◌, false, length, nat_lt, if◌then◌else◌, IfOk, OnOk, OnErr};
 ghost use Rattle.thy_base.specs.Device.{IsFramed, CountsFault, HasFailed, HasFailedToWrite, settled, written_to};
 ghost use Rattle.thy_base.specs.Places.{record_blocks};
-ghost use Rattle.thy_record.specs.declared.engine_step.EngineStep.TheVariants.{StateBlock as IsStateBlock, TableBlock as IsTableBlock};
+ghost use Rattle.thy_layout.specs.declared.engine_step.EngineStep.TheVariants.{StateBlock as IsStateBlock, TableBlock as IsTableBlock};
 
 use crate::{Pool, PoolStage};
 use std::marker::Model;
 use thy_base::{Block, Geometry, Nvm, NvmError};
 use thy_isa::CpuState;
-use thy_record::{EngineStep, commit_block, cpu_block};
+use thy_layout::{EngineStep, commit_block, cpu_block};
 use thy_shadow_image::{slot as slot_number, slot_blocks as blocks_of_slot};
 
 /// The checkpoint engine. Each step makes of the NVM what one action makes of it.
@@ -49,7 +49,7 @@ fn slot_step(geometry: &Geometry, k: u64) -> EngineStep
 }
 
 impl Engine {
-    ghost use Rattle.thy_record.specs.Commit.{commit_of};
+    ghost use Rattle.thy_layout.specs.Commit.{commit_of};
     ghost use Rattle.thy_shadow_image.specs.Places.{slot_blocks};
     ghost use Rattle.thy_pool.specs.Items.{SlotItem, SettleItem, CommitItem, ConfirmItem, PageItem, is_under_way, item, next_after, answer};
     ghost use Rattle.thy_pool.specs.Progress.{new_engine, begun, Fits, IsSoundProgress, slot_block, Ends, item_of, engine_next, state_next, action_next};

@@ -4,7 +4,7 @@
 //! the old ones. `Pool` and `Engine` are exact in tables and devices.
 //!
 //! Open specs/State.antt first, then specs/Stores.antt, specs/Commit.antt and specs/Progress.antt, and src/pool.rt.
-//! It depends on thy_dram, thy_table, thy_record, thy_view, thy_shadow_image and their dependencies; the scheme above
+//! It depends on thy_dram, thy_table, thy_layout, thy_view, thy_shadow_image and their dependencies; the scheme above
 //! it depends on it.
 #![tactic(auto)]
 

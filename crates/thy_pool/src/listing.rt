@@ -1,6 +1,6 @@
 //! What the map of a slot lists, given to the pool's table.
 ghost use Rattle.std.specs.Prelude.{◌≡◌, ◌+◌, ◌*◌, ◌<◌, length};
-ghost use Rattle.thy_record.specs.Files.{blocks_of};
+ghost use Rattle.thy_layout.specs.Files.{blocks_of};
 ghost use Rattle.thy_shadow_image.specs.Places.{slot_blocks, pool_pages};
 ghost use Rattle.thy_shadow_image.specs.Slots.{IsMap, table_in};
 ghost use Rattle.thy_pool.specs.Listed.{HoldsMap};

@@ -5,8 +5,8 @@ ghost use Rattle.thy_base.specs.Device.{HasFailed, HasFailedToWrite, IsFramed, C
 ghost use Rattle.thy_base.specs.Geometry.{memory_blocks};
 ghost use Rattle.thy_base.specs.Places.{dram_blocks};
 ghost use Rattle.thy_base.specs.Store.{page_of};
-ghost use Rattle.thy_record.specs.Files.{blocks_of};
-ghost use Rattle.thy_record.specs.Tables.{entry_at as listed_at};
+ghost use Rattle.thy_layout.specs.Files.{blocks_of};
+ghost use Rattle.thy_layout.specs.Entries.{entry_at as listed_at};
 ghost use Rattle.thy_table.specs.Listing.{Listing, listing, free_count, entry_at, place_of};
 ghost use Rattle.thy_view.specs.Action.{after, FailsTo};
 ghost use Rattle.thy_shadow_image.specs.Places.{map_blocks, slot_blocks, image_blocks, pool_pages as pages_of_pool, pool_page};
@@ -20,7 +20,7 @@ use std::alloc::{AllocError, Global};
 use std::marker::Model;
 use thy_base::{Block, Geometry, Nvm, NvmError, Stored};
 use thy_dram::Dram;
-use thy_record::table_block;
+use thy_layout::table_block;
 use thy_shadow_image::{pool as pool_number, pool_pages};
 use thy_table::Table;
 
@@ -67,7 +67,7 @@ fn first_pages(geometry: &Geometry, pool: &mut Table<Held>)
 
 impl Pool {
     ghost use Rattle.thy_dram.specs.Contents.{lost};
-    ghost use Rattle.thy_journal_image.specs.Slots.{table_block_of};
+    ghost use Rattle.thy_layout.specs.TableSlots.{table_block_of};
     ghost use Rattle.thy_pool.specs.Commit.{sealed_state, committed_state};
     ghost use Rattle.thy_pool.specs.State.{IsSoundState, IsSized, frame_of, pool_of, target, next_page, next_table, committed_table, page_place, target_place, frame_block, committed_of, work_of};
     ghost use Rattle.thy_pool.specs.Stores.{copies_for, free_frame as lowest_frame, store_case, stored_by, store_action, put_into, filled, copied_into, after_store, after_drain, new_state};

@@ -1,7 +1,7 @@
 -- What of a checkpoint was issued, over writes and drains; and that the whole of it is the next image.
 use Rattle.std.proofs.Common.{◌≡◌, ◌≢◌, ℕ, ◌+◌, ◌<◌, ◌≤◌, Bool, true, false, List, ◌∷◌, ◌++◌, length, map, Contains, None, refl, ◌∙◌, ap, subst, inl, inr, arith}
 use Rattle.std.specs.List.{range_with_len}
-use Rattle.std.proofs.lemmas.Bool.{cases_lt, eq-eqb}
+use Rattle.std.proofs.lemmas.Bool.{cases_lt}
 use Rattle.std.proofs.lemmas.List.{length-map, length-set}
 use Rattle.std.proofs.lemmas.List.Elements.{Contains-append_cases}
 use Rattle.std.proofs.lemmas.List.FromFn.{length-range_with_len, fill_by_all}
@@ -12,11 +12,11 @@ use Rattle.thy_base.proofs.BasicLemmas.{not_first, Contains-range}
 use Rattle.thy_crash.specs.Saved.{next_image}
 use Rattle.thy_crash.proofs.FixedLemmas.{ReadsFirst-elsewhere, ReadsFirst-drained, ReadsFirst-more}
 use Rattle.thy_crash.proofs.SavedLemmas.{next_image-reads, next_image-commit, IsIssued-next_image}
-use Rattle.thy_record.specs.Commit.{is_zero, epoch_of}
-use Rattle.thy_record.proofs.ImageLemmas.{map-alike, block_at-numbers}
-use Rattle.thy_protocol.specs.Layout.{Layout, slot_places, memory_places, slot_in, memory_in, fault_of, fault_in, parts_of, looked_by}
+use Rattle.thy_layout.specs.Commit.{is_zero, epoch_of}
+use Rattle.thy_layout.proofs.AskingLemmas.{map-alike, block_at-numbers}
+use Rattle.thy_layout.specs.Layout.{Layout, state_by, slot_places, memory_places, slot_in, memory_in, fault_of, fault_in, parts_of, looked_by}
 use Rattle.thy_protocol.specs.Issuing.{CheckpointParts, slot_of, ArePlaced, AreIssued, IsElsewhere, ArePartsOf, IsCheckpoint}
-use Rattle.thy_protocol.proofs.LayoutLemmas.{decode_by-whole, looked_parts}
+use Rattle.thy_layout.proofs.LayoutLemmas.{sized_if_long, decode_by-whole, looked_parts}
 
 -- ---- writes and drains
 
@@ -71,7 +71,7 @@ module _ (image_blocks : ℕ) (parts : CheckpointParts) (old new : Device) (memo
 
 -- ---- the whole checkpoint
 
-module _ (l : Layout) (n : Device) (commit : Block) (parts : CheckpointParts) (memory : List Block) (of : ArePartsOf l commit parts)
+module _ (l : Layout) (ceiling : ℕ) (n : Device) (commit : Block) (parts : CheckpointParts) (memory : List Block) (of : ArePartsOf l commit parts)
     (h : AreIssued l.image_blocks parts n memory parts.slot_blocks) (some : is_zero commit ≡ false) where
   abbrev image : List Block
   image = next_image n commit
@@ -119,12 +119,12 @@ module _ (l : Layout) (n : Device) (commit : Block) (parts : CheckpointParts) (m
       next_image-reads commit n x (omega (arith, high, h.sized)) (λ e. omega (arith, low, e)))
       ∙ h.memory_is
 
-  faultless : fault_of l true (newest n 0) commit (slot_of parts) ≡ None → fault_in l image ≡ None
+  faultless : fault_of l ceiling true (newest n 0) commit (slot_of parts) ≡ None → fault_in l ceiling image ≡ None
   faultless none =
-      ap (λ (s : Bool). fault_of l s (block_at image 0) (block_at image 1) (slot_in l image)) (eq-eqb (length image) l.image_blocks length_is)
-      ∙ ap (λ (b : Block). fault_of l true b (block_at image 1) (slot_in l image)) header_is
-      ∙ ap (λ (b : Block). fault_of l true (newest n 0) b (slot_in l image)) commit_is
-      ∙ ap (fault_of l true (newest n 0) commit) slot_is
+      ap (λ (s : Bool). fault_of l ceiling s (block_at image 0) (block_at image 1) (slot_in l image)) (sized_if_long l image length_is)
+      ∙ ap (λ (b : Block). fault_of l ceiling true b (block_at image 1) (slot_in l image)) header_is
+      ∙ ap (λ (b : Block). fault_of l ceiling true (newest n 0) b (slot_in l image)) commit_is
+      ∙ ap (fault_of l ceiling true (newest n 0) commit) slot_is
       ∙ none
 
   looked_inside : (x : ℕ) → Contains (parts_of l image) x → x < l.image_blocks
@@ -145,17 +145,17 @@ module _ (l : Layout) (n : Device) (commit : Block) (parts : CheckpointParts) (m
         ]
   ]
 
-  pub issued_is_checkpoint : fault_of l true (newest n 0) commit (slot_of parts) ≡ None → IsCheckpoint l n commit parts memory
+  pub issued_is_checkpoint : fault_of l ceiling true (newest n 0) commit (slot_of parts) ≡ None → IsCheckpoint l ceiling n commit parts memory
   issued_is_checkpoint none =
       let committed : is_zero (block_at image 1) ≡ false = ap is_zero commit_is ∙ some in
       record {
         slot = slot_is;
         memory_is = memory_in_is;
-        decodes = decode_by-whole l image (epoch_of commit) (l.state_from (slot_of parts) memory) (record {
+        decodes = decode_by-whole l ceiling image (epoch_of commit) (state_by l (slot_of parts) memory) (record {
           committed = committed;
           faultless = faultless none;
           of_epoch = ap epoch_of commit_is;
-          state_is = ap (λ (s : List Block). l.state_from s (memory_in l image)) slot_is ∙ ap (l.state_from (slot_of parts)) memory_in_is;
+          state_is = ap (λ (s : List Block). state_by l s (memory_in l image)) slot_is ∙ ap (state_by l (slot_of parts)) memory_in_is;
         });
         issued = IsIssued-next_image (looked_by l) commit n
             (λ x inside.

@@ -4,7 +4,7 @@ use Rattle.thy_base.specs.declared.block.Block.{Block}
 use Rattle.thy_base.specs.declared.mark.Mark.{Mark}
 use Rattle.thy_base.specs.Device.{Device, Crash, IsCut, IsFramed, block_at, settled, written_to, drained}
 use Rattle.thy_base.proofs.DeviceLemmas.{length-settled, length-written_to}
-use Rattle.thy_record.specs.Decoded.{Decoded, At}
+use Rattle.thy_layout.specs.Decoded.{Decoded, At}
 use Rattle.thy_crash.specs.Saved.{Saved, Kept, Ready, InDoubt, IsCopy, IsLeft, IsIssued, guarded}
 use Rattle.thy_crash.specs.Fixed.{Reads}
 use Rattle.thy_crash.specs.Spares.{Spares}
@@ -17,19 +17,19 @@ use Rattle.thy_view.specs.Booting.{boot_view, found_first, view_of_image}
 use Rattle.thy_view.specs.Origin.{Origin, IsOrigin, StartsFrom, at}
 use Rattle.thy_view.specs.Safe.{ceiling, Safe, IsOneOf}
 use Rattle.thy_base.specs.Marks.{mark}
-use Rattle.thy_protocol.specs.Layout.{Layout, Layouts, decode_by, reading, looked_by}
+use Rattle.thy_layout.specs.Layout.{Layout, Layouts, decode_by, reading, looked_by}
 use Rattle.thy_protocol.specs.Keeps.{IsOf, Tells, TellsNext, TellsAll, Keeps, doubt_in, finding_view}
 use Rattle.thy_protocol.specs.Moves.{Standing, IsKeeping, CommitsTo, Move, Goes, Seals, Readies, Commits, Confirms, Moves, Rests, Then, LeavesAlone}
-use Rattle.thy_protocol.proofs.LayoutLemmas.{decode_by-copy}
+use Rattle.thy_layout.proofs.LayoutLemmas.{decode_by-copy}
 
 -- ---- what a cut leaves
 
 -- a copy of a mark's checkpoint is that mark's
 IsOf-copy : (o : Origin) (l : Layout) (h g : List Block) (m : Mark) → IsCopy (looked_by l) h g → IsOf o l h m → IsOf o l g m
-IsOf-copy o l h g m c is = record { decodes = decode_by-copy l h g c ∙ is.decodes; counted = is.counted }
+IsOf-copy o l h g m c is = record { decodes = decode_by-copy l ceiling h g c ∙ is.decodes; counted = is.counted }
 
 Tells-copy : (o : Origin) (l : Layout) (h g : List Block) (kept : Option Mark) → IsCopy (looked_by l) h g → Tells o l h kept → Tells o l g kept
-Tells-copy o l h g None c t = (decode_by-copy l h g c ∙ t.0, t.1)
+Tells-copy o l h g None c t = (decode_by-copy l ceiling h g c ∙ t.0, t.1)
 Tells-copy o l h g (Some m) c is = IsOf-copy o l h g m c is
 
 TellsNext-copy : (o : Origin) (l : Layout) (h g : List Block) (sealed : Option Mark)
@@ -61,17 +61,17 @@ one_of_mark o kept doubt m d decodes counted which =
     subst (IsOneOf o kept doubt) (sym decodes)
     (subst (λ (k : ℕ). (kept ≡ Some (mark m.epoch k)) ⊎ (doubt ≡ Some (mark m.epoch k))) (sym counted) which, ap (at o) (sym counted))
 
-one_of_kept : (o : Origin) (l : Layout) (g : List Block) (kept doubt : Option Mark) → Tells o l g kept → IsOneOf o kept doubt (decode_by l g)
+one_of_kept : (o : Origin) (l : Layout) (g : List Block) (kept doubt : Option Mark) → Tells o l g kept → IsOneOf o kept doubt (decode_by l ceiling g)
 one_of_kept o l g None doubt t = subst (IsOneOf o None doubt) (sym t.0) refl
-one_of_kept o l g (Some m) doubt is = one_of_mark o (Some m) doubt m (decode_by l g) is.decodes is.counted (inl refl)
+one_of_kept o l g (Some m) doubt is = one_of_mark o (Some m) doubt m (decode_by l ceiling g) is.decodes is.counted (inl refl)
 
 pub Safe-kept : (layouts : Layouts) (o : Origin) (n : Device) (s : Saved) (kept sealed : Option Mark)
-    → Keeps o (layouts o.geometry ceiling) n s kept sealed → Safe (reading layouts) o kept (doubt_in s sealed) n
+    → Keeps o (layouts o.geometry) n s kept sealed → Safe (reading layouts) o kept (doubt_in s sealed) n
 Safe-kept layouts o n s kept sealed k = λ g c.
-    let l : Layout = layouts o.geometry ceiling in
-    elim (found o l n s kept sealed g k c) as (λ _. IsOneOf o kept (doubt_in s sealed) (decode_by l g)) [
+    let l : Layout = layouts o.geometry in
+    elim (found o l n s kept sealed g k c) as (λ _. IsOneOf o kept (doubt_in s sealed) (decode_by l ceiling g)) [
       | inl old ↦ one_of_kept o l g kept (doubt_in s sealed) old
-      | inr new ↦ one_of_mark o kept (doubt_in s sealed) new.0 (decode_by l g) new.2.decodes new.2.counted (inr new.1)
+      | inr new ↦ one_of_mark o kept (doubt_in s sealed) new.0 (decode_by l ceiling g) new.2.decodes new.2.counted (inr new.1)
     ]
 
 -- what is safe for the mark in doubt is safe for the sealed one
@@ -82,7 +82,7 @@ safe_for_both layouts o n (Ready before next) kept sealed safe = Safe-doubt (rea
 safe_for_both layouts o n (InDoubt before next) kept sealed safe = safe
 
 pub Safe-sealed : (layouts : Layouts) (o : Origin) (n : Device) (s : Saved) (kept sealed : Option Mark)
-    → Keeps o (layouts o.geometry ceiling) n s kept sealed → Safe (reading layouts) o kept sealed n
+    → Keeps o (layouts o.geometry) n s kept sealed → Safe (reading layouts) o kept sealed n
 Safe-sealed layouts o n s kept sealed k = safe_for_both layouts o n s kept sealed (Safe-kept layouts o n s kept sealed k)
 
 -- ---- what a boot finds
@@ -90,21 +90,21 @@ Safe-sealed layouts o n s kept sealed k = safe_for_both layouts o n s kept seale
 pub at-start : (o : Origin) → at o o.start.count ≡ o.start
 at-start o = at-early o o.start.count (omega arith)
 
-IsOf-first : (o : Origin) (l : Layout) (g : List Block) (m : Mark) → m.count ≡ o.start.count → decode_by l g ≡ At m.epoch o.start → IsOf o l g m
+IsOf-first : (o : Origin) (l : Layout) (g : List Block) (m : Mark) → m.count ≡ o.start.count → decode_by l ceiling g ≡ At m.epoch o.start → IsOf o l g m
 IsOf-first o l g m same decodes =
     let start : at o m.count ≡ o.start = ap (at o) same ∙ at-start o in
     record { decodes = decodes ∙ ap (At m.epoch) (sym start); counted = ap (λ s. s.count) start ∙ sym same }
 
 first_told : (o : Origin) (l : Layout) (g : List Block) (kept : Option Mark)
-    → o.kept ≡ kept → StartsFrom kept o.start → decode_by l g ≡ found_first o kept → Tells o l g kept
+    → o.kept ≡ kept → StartsFrom kept o.start → decode_by l ceiling g ≡ found_first o kept → Tells o l g kept
 first_told o l g None is starts found = (found, is)
 first_told o l g (Some m) is starts found = IsOf-first o l g m starts.0 found
 
-pub Tells-first : (o : Origin) (l : Layout) (g : List Block) → IsOrigin o → decode_by l g ≡ found_first o o.kept → Tells o l g o.kept
+pub Tells-first : (o : Origin) (l : Layout) (g : List Block) → IsOrigin o → decode_by l ceiling g ≡ found_first o o.kept → Tells o l g o.kept
 Tells-first o l g origin found = first_told o l g o.kept refl origin.starts found
 
 pub finding_view-told : (o : Origin) (l : Layout) (g : List Block) (kept : Option Mark) (count : ℕ)
-    → Tells o l g kept → view_of_image count (decode_by l g) ≡ finding_view count kept
+    → Tells o l g kept → view_of_image count (decode_by l ceiling g) ≡ finding_view count kept
 finding_view-told o l g None count t = ap (view_of_image count) t.0
 finding_view-told o l g (Some m) count is =
     ap (view_of_image count) is.decodes ∙ ap (λ k. boot_view (Some (mark m.epoch k)) None) is.counted
@@ -182,10 +182,10 @@ IsKeeping-moves o l a b (Then first mid last moves move) k =
     IsKeeping-move o l mid last move (IsKeeping-moves o l first mid moves k)
 
 pub Safe-moves : (layouts : Layouts) (o : Origin) (a b : Standing)
-    → IsKeeping o (layouts o.geometry ceiling) a → Moves o (layouts o.geometry ceiling) a b
-    → IsKeeping o (layouts o.geometry ceiling) b × Safe (reading layouts) o b.kept (doubt_in b.saved b.sealed) b.device
+    → IsKeeping o (layouts o.geometry) a → Moves o (layouts o.geometry) a b
+    → IsKeeping o (layouts o.geometry) b × Safe (reading layouts) o b.kept (doubt_in b.saved b.sealed) b.device
 Safe-moves layouts o a b k moves =
-    let after : IsKeeping o (layouts o.geometry ceiling) b = IsKeeping-moves o (layouts o.geometry ceiling) a b moves k in
+    let after : IsKeeping o (layouts o.geometry) b = IsKeeping-moves o (layouts o.geometry) a b moves k in
     (after, Safe-kept layouts o b.device b.saved b.kept b.sealed after)
 
 -- ---- what a cycle's action spares

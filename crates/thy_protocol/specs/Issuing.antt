@@ -1,4 +1,3 @@
--- Part of the claim.
 -- How a checkpoint is written in any layout while another one is kept: what of it was issued so far.
 use Rattle.std.specs.Prelude.{◌≡◌, ◌≢◌, ℕ, ◌+◌, ◌<◌, ◌≤◌, true, false, List, length, map, Contains, None}
 use Rattle.std.specs.List.{range_with_len}
@@ -6,9 +5,9 @@ use Rattle.thy_base.specs.declared.block.Block.{Block}
 use Rattle.thy_base.specs.Device.{Device, newest, drained, written_to}
 use Rattle.thy_crash.specs.Fixed.{ReadsFirst}
 use Rattle.thy_crash.specs.Saved.{IsIssued, next_image}
-use Rattle.thy_record.specs.Commit.{is_zero, epoch_of}
-use Rattle.thy_record.specs.Decoded.{At}
-use Rattle.thy_protocol.specs.Layout.{Layout, slot_in, memory_in, memory_places, fault_of, decode_by, looked_by}
+use Rattle.thy_layout.specs.Commit.{is_zero, epoch_of}
+use Rattle.thy_layout.specs.Decoded.{At}
+use Rattle.thy_layout.specs.Layout.{Layout, state_by, slot_in, memory_in, memory_places, fault_of, decode_by, looked_by}
 
 -- the places that the parts of a checkpoint are written to: the blocks of its slot, one after the other, and those of
 -- memory
@@ -77,17 +76,17 @@ pub record ArePartsOf (l : Layout) (commit : Block) (parts : CheckpointParts) : 
   pub slot_blocks : l.slot_blocks commit ≡ parts.slot_blocks
   pub memory : memory_places l commit (slot_of parts) ≡ parts.memory
 
--- with the commit block the next image is the checkpoint, and it lacks no other write
-pub record IsCheckpoint (l : Layout) (n : Device) (commit : Block) (parts : CheckpointParts) (memory : List Block) : Type 0 where
+-- with the commit block the next image is the checkpoint, with epochs and counts below a ceiling, and it lacks no other write
+pub record IsCheckpoint (l : Layout) (ceiling : ℕ) (n : Device) (commit : Block) (parts : CheckpointParts) (memory : List Block) : Type 0 where
   pub slot : slot_in l (next_image n commit) ≡ slot_of parts
   pub memory_is : memory_in l (next_image n commit) ≡ memory
-  pub decodes : decode_by l (next_image n commit) ≡ At (epoch_of commit) (l.state_from (slot_of parts) memory)
+  pub decodes : decode_by l ceiling (next_image n commit) ≡ At (epoch_of commit) (state_by l (slot_of parts) memory)
   pub issued : IsIssued (looked_by l) n (next_image n commit)
 
 -- this holds with the whole slot issued, and no fault in header, commit block and slot
 abbrev pub IssuedIsCheckpoint : Type 0
 IssuedIsCheckpoint =
-    (l : Layout) (n : Device) (commit : Block) (parts : CheckpointParts) (memory : List Block)
+    (l : Layout) (ceiling : ℕ) (n : Device) (commit : Block) (parts : CheckpointParts) (memory : List Block)
     → ArePartsOf l commit parts → AreIssued l.image_blocks parts n memory parts.slot_blocks
-    → is_zero commit ≡ false → fault_of l true (newest n 0) commit (slot_of parts) ≡ None
-    → IsCheckpoint l n commit parts memory
+    → is_zero commit ≡ false → fault_of l ceiling true (newest n 0) commit (slot_of parts) ≡ None
+    → IsCheckpoint l ceiling n commit parts memory

@@ -3,21 +3,22 @@ use Rattle.std.specs.Prelude.{◌≡◌, ℕ, List, length, Option, Some, None}
 use Rattle.thy_base.specs.declared.block.Block.{Block}
 use Rattle.thy_base.specs.declared.mark.Mark.{Mark}
 use Rattle.thy_base.specs.Device.{Device}
-use Rattle.thy_record.specs.Decoded.{Nothing, At}
+use Rattle.thy_layout.specs.Decoded.{Nothing, At}
 use Rattle.thy_crash.specs.Saved.{Saved, Kept, Ready, InDoubt, IsSaved}
 use Rattle.thy_view.specs.declared.view.View.{View}
 use Rattle.thy_view.specs.Booting.{boot_view, loading_view}
 use Rattle.thy_view.specs.Origin.{Origin, at}
-use Rattle.thy_protocol.specs.Layout.{Layout, decode_by, looked_by}
+use Rattle.thy_view.specs.Safe.{ceiling}
+use Rattle.thy_layout.specs.Layout.{Layout, decode_by, looked_by}
 
 -- an image is the checkpoint of a mark: its epoch, and the plain machine's state at its count
 pub record IsOf (o : Origin) (l : Layout) (h : List Block) (m : Mark) : Type 0 where
-  pub decodes : decode_by l h ≡ At m.epoch (at o m.count)
+  pub decodes : decode_by l ceiling h ≡ At m.epoch (at o m.count)
   pub counted : (at o m.count).count ≡ m.count
 
 -- an image is the checkpoint of the mark that is kept; if none is, it has none, and the run began without
 abbrev pub Tells : Origin → Layout → List Block → Option Mark → Type 0
-Tells o l h None = (decode_by l h ≡ Nothing) × (o.kept ≡ None)
+Tells o l h None = (decode_by l ceiling h ≡ Nothing) × (o.kept ≡ None)
 Tells o l h (Some m) = IsOf o l h m
 
 -- the next image is the checkpoint of the mark that is sealed

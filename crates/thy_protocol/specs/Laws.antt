@@ -1,48 +1,19 @@
 -- What holds of every layout, and of a run's checkpoints in it.
-use Rattle.std.specs.Prelude.{◌≡◌, ◌⊎◌, ℕ, true, List, [], length, Option, Some, None}
+use Rattle.std.specs.Prelude.{◌≡◌, ◌⊎◌, ℕ, List, [], length, Option, Some, None}
 use Rattle.thy_base.specs.declared.block.Block.{Block}
 use Rattle.thy_base.specs.declared.mark.Mark.{Mark}
-use Rattle.thy_base.specs.Device.{Device, block_at, IsCut, IsFramed}
-use Rattle.thy_isa.specs.Step.{State}
-use Rattle.thy_record.specs.Commit.{is_zero}
-use Rattle.thy_record.specs.Decoded.{Nothing, At}
-use Rattle.thy_crash.specs.Saved.{Saved, Kept, IsCopy}
+use Rattle.thy_base.specs.Device.{Device, IsCut, IsFramed}
+use Rattle.thy_crash.specs.Saved.{Saved, Kept}
 use Rattle.thy_crash.specs.Spares.{Spares}
 use Rattle.thy_view.specs.Action.{Action, after, FailsTo}
 use Rattle.thy_view.specs.Booting.{found_first, view_of_image}
 use Rattle.thy_view.specs.Origin.{Origin, IsOrigin}
 use Rattle.thy_view.specs.Safe.{ceiling, Safe}
-use Rattle.thy_protocol.specs.Layout.{Layout, Layouts, decode_by, reading, looked_by, IsWhole}
+use Rattle.thy_layout.specs.Layout.{Layout, Layouts, decode_by, reading}
 use Rattle.thy_protocol.specs.Keeps.{Keeps, Tells, doubt_in, finding_view}
 use Rattle.thy_protocol.specs.Moves.{Standing, IsKeeping, Moves, LeavesAlone}
 
 -- ---- layouts
-
--- a copy of an image, at all places that determine what it means, means the same
-abbrev pub LookedDecides : Type 0
-LookedDecides = (l : Layout) (h g : List Block) → IsCopy (looked_by l) h g → decode_by l g ≡ decode_by l h
-
--- and the same places determine it
-abbrev pub CopiesLookAlike : Type 0
-CopiesLookAlike = (l : Layout) (h g : List Block) → IsCopy (looked_by l) h g → looked_by l g ≡ looked_by l h
-
--- an image means nothing exactly if its commit block is zero
-abbrev pub ZeroIsNothing : Type 0
-ZeroIsNothing = (l : Layout) (g : List Block) → is_zero (block_at g 1) ≡ true → decode_by l g ≡ Nothing
-
-abbrev pub NothingIsZero : Type 0
-NothingIsZero = (l : Layout) (g : List Block) → decode_by l g ≡ Nothing → is_zero (block_at g 1) ≡ true
-
--- it means an epoch and a state exactly if it is whole
-abbrev pub WholeDecodes : Type 0
-WholeDecodes =
-    (l : Layout) (g : List Block) (epoch : ℕ) (state : State)
-    → IsWhole l g epoch state → decode_by l g ≡ At epoch state
-
-abbrev pub DecodedIsWhole : Type 0
-DecodedIsWhole =
-    (l : Layout) (g : List Block) (epoch : ℕ) (state : State)
-    → decode_by l g ≡ At epoch state → IsWhole l g epoch state
 
 -- ---- checkpoints
 
@@ -50,20 +21,20 @@ DecodedIsWhole =
 abbrev pub KeptIsSafe : Type 0
 KeptIsSafe =
     (layouts : Layouts) (o : Origin) (n : Device) (s : Saved) (kept sealed : Option Mark)
-    → Keeps o (layouts o.geometry ceiling) n s kept sealed → Safe (reading layouts) o kept (doubt_in s sealed) n
+    → Keeps o (layouts o.geometry) n s kept sealed → Safe (reading layouts) o kept (doubt_in s sealed) n
 
 -- hence it is the one kept or the one sealed, which a failed call may leave too
 abbrev pub KeptIsSafeForBoth : Type 0
 KeptIsSafeForBoth =
     (layouts : Layouts) (o : Origin) (n : Device) (s : Saved) (kept sealed : Option Mark)
-    → Keeps o (layouts o.geometry ceiling) n s kept sealed → Safe (reading layouts) o kept sealed n
+    → Keeps o (layouts o.geometry) n s kept sealed → Safe (reading layouts) o kept sealed n
 
 -- after any number of moves too
 abbrev pub MovesAreSafe : Type 0
 MovesAreSafe =
     (layouts : Layouts) (o : Origin) (a b : Standing)
-    → IsKeeping o (layouts o.geometry ceiling) a → Moves o (layouts o.geometry ceiling) a b
-    → IsKeeping o (layouts o.geometry ceiling) b × Safe (reading layouts) o b.kept (doubt_in b.saved b.sealed) b.device
+    → IsKeeping o (layouts o.geometry) a → Moves o (layouts o.geometry) a b
+    → IsKeeping o (layouts o.geometry) b × Safe (reading layouts) o b.kept (doubt_in b.saved b.sealed) b.device
 
 -- a cut leaves a device that keeps the checkpoint that was kept, or the one in doubt
 abbrev pub CutKeeps : Type 0
@@ -84,13 +55,13 @@ EmptyKeeps =
 abbrev pub FirstIsTold : Type 0
 FirstIsTold =
     (o : Origin) (l : Layout) (g : List Block)
-    → IsOrigin o → decode_by l g ≡ found_first o o.kept → Tells o l g o.kept
+    → IsOrigin o → decode_by l ceiling g ≡ found_first o o.kept → Tells o l g o.kept
 
 -- the view of a boot is that of the mark whose checkpoint it finds
 abbrev pub BootShows : Type 0
 BootShows =
     (o : Origin) (l : Layout) (g : List Block) (kept : Option Mark) (count : ℕ)
-    → Tells o l g kept → view_of_image count (decode_by l g) ≡ finding_view count kept
+    → Tells o l g kept → view_of_image count (decode_by l ceiling g) ≡ finding_view count kept
 
 -- ---- what a cycle's action spares
 

@@ -1,9 +1,4 @@
-pub mod Layout
 pub mod Issuing
 pub mod Keeps
 pub mod Moves
-pub mod Alternating
 pub mod Laws
-pub mod DualLayouts
-pub mod DualParts
-pub mod Migrated

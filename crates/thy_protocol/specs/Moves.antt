@@ -8,7 +8,7 @@ use Rattle.thy_crash.specs.Saved.{Saved, Kept, Ready, InDoubt, IsIssued, guarded
 use Rattle.thy_crash.specs.Spares.{Spares}
 use Rattle.thy_view.specs.Action.{Action, Rest, ReadAt, WriteAt, Barrier, Drain}
 use Rattle.thy_view.specs.Origin.{Origin}
-use Rattle.thy_protocol.specs.Layout.{Layout, looked_by}
+use Rattle.thy_layout.specs.Layout.{Layout, looked_by}
 use Rattle.thy_protocol.specs.Keeps.{IsOf, Keeps}
 
 -- a device, the images that a cut may leave, and the marks kept and sealed

@@ -6,7 +6,7 @@ use Rattle.std.proofs.lemmas.List.FromFn.{length-range_with_len, get_or-range_wi
 use Rattle.std.proofs.lemmas.List.Quantifiers.{position-Some}
 use Rattle.std.proofs.lemmas.Iterator.Adapters.{position_from-zero}
 use Rattle.std.specs.List.{range_with_len, position}
-use Rattle.thy_record.proofs.EntryLemmas.{none_at}
+use Rattle.thy_layout.proofs.EntryLemmas.{none_at}
 
 -- what is alike at each of the first n numbers
 pub map-alike_numbers : (f g : ℕ → ℕ) (n : ℕ) → ((i : ℕ) → i < n → f i ≡ g i) → map f (range_with_len 0 n) ≡ map g (range_with_len 0 n)
@@ -36,12 +36,15 @@ none_is t n (Some i) h none =
 pub no_position : (t : ℕ → Bool) (n : ℕ) → ((i : ℕ) → i < n → t i ≡ false) → position t (range_with_len 0 n) ≡ None
 no_position t n none = none_is t n (position t (range_with_len 0 n)) refl none
 
+-- if none of them is found, none does
+pub none_passes : (t : ℕ → Bool) (n : ℕ) → position t (range_with_len 0 n) ≡ None → (i : ℕ) → i < n → t i ≡ false
+none_passes t n h i l =
+    sym (numbered t n i l)
+    ∙ none_at t 0 (range_with_len 0 n) i 0 (sym (position_from-zero t (range_with_len 0 n)) ∙ h) (omega (arith, length-range_with_len 0 n))
+
 first_is : (t : ℕ → Bool) (n i : ℕ) (found : Option ℕ) → position t (range_with_len 0 n) ≡ found
     → i < n → ((k : ℕ) → k < i → t k ≡ false) → t i ≡ true → found ≡ Some i
-first_is t n i None h l none here =
-    let no : t i ≡ false = sym (numbered t n i l)
-    ∙ none_at t 0 (range_with_len 0 n) i 0 (sym (position_from-zero t (range_with_len 0 n)) ∙ h) (omega (arith, length-range_with_len 0 n)) in
-    cc
+first_is t n i None h l none here = let no = none_passes t n h i l in cc
 first_is t n i (Some k) h l none here =
     let at = position-Some t (range_with_len 0 n) k 0 h in
     let inside : k < n = omega (arith, at.0, length-range_with_len 0 n) in

@@ -1,46 +1,17 @@
 -- The numbers of memory's places, entry by entry of both tables.
 use Rattle.std.proofs.Common.{◌≡◌, ℕ, ◌+◌, ◌*◌, ◌%◌, ◌<◌, List, [], length, take, slice_set, slice_index_or, Option, Some, None, refl, sym, ◌∙◌, ap, subst, inl, inr, arith}
-use Rattle.std.proofs.lemmas.Bool.{cases_lt, cases_eq}
+use Rattle.std.proofs.lemmas.Bool.{cases_eq}
 use Rattle.std.proofs.lemmas.List.{length-set, get_or-set_same, get_or-set_other, ext_get_or}
 use Rattle.thy_base.specs.declared.config.Parameters.{Parameters}
 use Rattle.thy_base.specs.declared.place.Place.TheVariants.{Home, AlternateBlock}
 use Rattle.thy_base.specs.Geometry.{memory_blocks}
 use Rattle.thy_base.specs.Places.{number_of}
 use Rattle.thy_base.specs.Store.{page_of}
+use Rattle.thy_layout.proofs.EntryLemmas.{entry_of-take_here, entry_of-take_other}
 use Rattle.thy_record.specs.Index.{index_by, ListsOnce, with_block, HasPageOf}
-use Rattle.thy_record.specs.Tables.{entry_at, Lists, entry_of, place_by_entries, place_in_page}
-use Rattle.thy_record.proofs.EntryLemmas.{entry_of-Some, entry_of-None, entry_of-absent, entry_of-listed, entry_of-before, entry_of-found, Lists-take, Lists-of_take}
+use Rattle.thy_layout.specs.Entries.{entry_at, Lists, entry_of}
+use Rattle.thy_record.specs.Tables.{place_by_entries, place_in_page}
 use Rattle.thy_record.proofs.IssuingLemmas.{length-memory_numbers, memory_number}
-
--- ---- one entry more
-
--- the entry lists a number, and no other does: it is found
-pub entry_of-take_here : (table : List (Option ℕ)) (i n : ℕ) → Lists table i n → ((k : ℕ) → Lists table k n → k ≡ i)
-    → entry_of (take (i + 1) table) n ≡ Some i
-entry_of-take_here table i n l only =
-    entry_of-listed (take (i + 1) table) n i (Lists-take table (i + 1) i n (omega arith) l) (λ k h. only k (Lists-of_take table (i + 1) k n h).1)
-
--- it does not list the number: what is found stays
-pub entry_of-take_other : (table : List (Option ℕ)) (i n : ℕ) → (Lists table i n → ⊥) → entry_of (take (i + 1) table) n ≡ entry_of (take i table) n
-entry_of-take_other table i n not = by_found (entry_of (take i table) n) refl where
-  by_found : (o : Option ℕ) → entry_of (take i table) n ≡ o → entry_of (take (i + 1) table) n ≡ entry_of (take i table) n
-  by_found None h =
-      entry_of-absent (take (i + 1) table) n (λ k l.
-      let of = Lists-of_take table (i + 1) k n l in
-      elim (cases_lt k i) as (λ _. ⊥) [
-        | inl below ↦ entry_of-None (take i table) n k h (Lists-take table i k n below of.1)
-        | inr above ↦ let same : k ≡ i = omega (arith, of.0) in not (subst (λ j. Lists table j n) same of.1)
-      ])
-      ∙ sym h
-  by_found (Some k) h =
-      let of = Lists-of_take table i k n (entry_of-Some (take i table) n k h) in
-      let inside : k < i + 1 = omega (arith, of.0) in
-      sym (entry_of-found (take (i + 1) table) n k
-      (λ j below l.
-      let small : j < i = omega (arith, of.0) in
-      entry_of-before (take i table) n k j h below (Lists-take table i j n small (Lists-of_take table (i + 1) j n l).1))
-      (Lists-take table (i + 1) k n inside of.1))
-      ∙ sym h
 
 -- ---- the numbers
 

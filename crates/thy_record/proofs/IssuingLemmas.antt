@@ -1,7 +1,6 @@
 -- Which writes leave a checkpoint alone, and at which places memory is read.
-use Rattle.std.proofs.Common.{◌≡◌, ◌≢◌, ℕ, zero, suc, ◌+◌, ◌%◌, ◌<◌, ◌≤◌, Bool, true, false, if◌then◌else◌, List, [], ◌∷◌, ◌++◌, length, get_or, Contains, Option, Some, None, refl, sym, ◌∙◌, ap, subst, inl, inr, arith}
+use Rattle.std.proofs.Common.{◌≡◌, ◌≢◌, ℕ, zero, suc, ◌+◌, ◌%◌, ◌<◌, ◌≤◌, false, List, ◌∷◌, length, get_or, Contains, Option, Some, None, refl, sym, ◌∙◌, ap, subst, arith}
 use Rattle.std.proofs.lemmas.List.{length-map, get_or-map, ext_get_or}
-use Rattle.std.proofs.lemmas.List.Elements.{Contains-append_cases}
 use Rattle.std.proofs.lemmas.List.FromFn.{length-range_with_len, get_or-range_with_len}
 use Rattle.std.specs.List.{range_with_len}
 use Rattle.thy_base.specs.declared.block.Block.{Block}
@@ -15,13 +14,20 @@ use Rattle.thy_base.specs.Geometry.{memory_blocks}
 use Rattle.thy_base.specs.Places.{in_dram, number_of, IsPlace, blocks_of_slot, place_of_slot, slot_blocks, slot_place, first_home, blocks_one}
 use Rattle.thy_base.specs.Store.{page_of}
 use Rattle.thy_base.proofs.PlaceLemmas.{numbers_tell, between_slots}
-use Rattle.thy_base.proofs.BasicLemmas.{not_in_none, not_first, Contains-range}
-use Rattle.thy_record.specs.Commit.{is_zero, epoch_of, version_of}
-use Rattle.thy_record.specs.Images.{slot_numbers, slot_in, memory_numbers, looked}
+use Rattle.thy_base.proofs.BasicLemmas.{Contains-range}
+use Rattle.thy_layout.specs.Commit.{epoch_of, version_of}
+use Rattle.thy_layout.specs.Layout.{slot_places, looked_by}
+use Rattle.thy_layout.proofs.LookedLemmas.{not_looked}
+use Rattle.thy_record.specs.DualLayouts.{dual_layouts}
+use Rattle.thy_record.specs.Images.{slot_in, memory_numbers}
+use Rattle.thy_record.specs.Number.{scheme_number}
 use Rattle.thy_record.specs.Issuing.{Target, SlotBlock, PlaceBlock, target_number, IsTarget, IsUnused, IsFree, IsToldBy, memory_read, HasMemory}
 use Rattle.thy_record.specs.Slots.{tables_in}
-use Rattle.thy_record.specs.Tables.{Tables, entry_at, Lists, entry_of, place_by_entries, place_of, IsTables}
-use Rattle.thy_record.proofs.EntryLemmas.{entry_of-Some, entry_of-None, IsPlace-place_of, in_dram-place_of}
+use Rattle.thy_layout.specs.Entries.{entry_at, Lists, entry_of}
+use Rattle.thy_record.specs.Tables.{Tables, place_by_entries, place_of, IsTables}
+use Rattle.thy_layout.proofs.EntryLemmas.{entry_of-Some, entry_of-None}
+use Rattle.thy_record.proofs.EntryLemmas.{IsPlace-place_of, in_dram-place_of}
+use Rattle.thy_layout.proofs.AskingLemmas.{half}
 
 -- ---- the numbers of memory's places
 
@@ -128,9 +134,6 @@ IsUnused-empty_page p t j k empty = record {
 
 -- ---- what is free is not looked at
 
-pub half : (epoch : ℕ) → epoch % 2 < 2
-half epoch = omega arith
-
 target_behind : (p : Parameters) (x : Target) → IsTarget p x → 2 ≤ target_number p x
 target_behind p (SlotBlock s k) there = let behind = slot_behind p s k in omega arith
 target_behind p (PlaceBlock x) there = let between = (between_slots p x there.0 there.1).0 in omega arith
@@ -160,43 +163,22 @@ free_of_memory p version epoch t (SlotBlock s k) tables there free inside =
 free_of_memory p VersionOne epoch t (PlaceBlock x) tables there free inside = unused_apart p t x tables there.0 there.1 free inside
 free_of_memory p VersionTwo epoch t (PlaceBlock x) tables there free inside = unused_apart p t x tables there.0 there.1 free inside
 
-free_looked : (p : Parameters) (image : List Block) (y : ℕ) (zeros : Bool)
-    → 2 ≤ y
-    → (Contains (slot_numbers p (block_at image 1)) y → ⊥)
-    → (Contains (memory_numbers p (tables_in p (slot_in p image))) y → ⊥)
-    → Contains (1 ∷ (if zeros then 1 ∷ [] else 0 ∷ 1 ∷ (slot_numbers p (block_at image 1) ++ memory_numbers p (tables_in p (slot_in p image))))) y → ⊥
-free_looked p image y true far slot memory inside =
-    let one : 1 ≢ y = λ e. omega arith in
-    not_in_none y (not_first y 1 [] one (not_first y 1 (1 ∷ []) one inside))
-free_looked p image y false far slot memory inside =
-    let one : 1 ≢ y = λ e. omega arith in
-    let none : 0 ≢ y = λ e. omega arith in
-    let rest = slot_numbers p (block_at image 1) ++ memory_numbers p (tables_in p (slot_in p image)) in
-    elim (Contains-append_cases (slot_numbers p (block_at image 1)) (memory_numbers p (tables_in p (slot_in p image))) y
-    (not_first y 1 rest one (not_first y 0 (1 ∷ rest) none (not_first y 1 (0 ∷ 1 ∷ rest) one inside)))) as (λ _. ⊥) [
-      | inl a ↦ slot a
-      | inr b ↦ memory b
-    ]
+module _ (p : Parameters) (image : List Block) (version : LayoutVersion) (epoch : ℕ) (t : Tables) (x : Target)
+    (told : IsToldBy p image version epoch t) (there : IsTarget p x) (free : IsFree p version epoch t x) where
+  not_in_slot : Contains (slot_places (dual_layouts p) (block_at image 1)) (target_number p x) → ⊥
+  not_in_slot inside =
+      let of = Contains-range (place_of_slot (version_of scheme_number p (block_at image 1)) p (epoch_of (block_at image 1) % 2)) (blocks_of_slot (version_of scheme_number p (block_at image 1)) p)
+      (target_number p x) inside in
+      free_of_slot p version epoch t x there free of.0 (subst (λ f. of.0 < blocks_of_slot f p) told.of_version of.1)
+      (sym (ap (λ f. place_of_slot f p (epoch_of (block_at image 1) % 2) + of.0) told.of_version
+      ∙ ap (λ e. place_of_slot version p (e % 2) + of.0) told.of_epoch) ∙ of.2)
 
-pub free_not_looked : (p : Parameters) (image : List Block) (version : LayoutVersion) (epoch : ℕ) (t : Tables) (x : Target)
-    → IsToldBy p image version epoch t → IsTarget p x → IsFree p version epoch t x → Contains (1 ∷ looked p image) (target_number p x) → ⊥
-free_not_looked p image version epoch t x told there free =
-    free_looked p image (target_number p x) (is_zero (block_at image 1)) (target_behind p x there)
-    (λ inside.
-    let of = Contains-range (place_of_slot (version_of p (block_at image 1)) p (epoch_of (block_at image 1) % 2)) (blocks_of_slot (version_of p (block_at image 1)) p)
-    (target_number p x) inside in
-    free_of_slot p version epoch t x there free of.0 (subst (λ f. of.0 < blocks_of_slot f p) told.of_version of.1)
-    (sym (ap (λ f. place_of_slot f p (epoch_of (block_at image 1) % 2) + of.0) told.of_version
-    ∙ ap (λ e. place_of_slot version p (e % 2) + of.0) told.of_epoch) ∙ of.2))
-    (λ inside. free_of_memory p version epoch t x told.whole there free (subst (λ u. Contains (memory_numbers p u) (target_number p x)) told.tables inside))
+  not_in_memory : Contains (memory_numbers p (tables_in p (slot_in p image))) (target_number p x) → ⊥
+  not_in_memory inside =
+      free_of_memory p version epoch t x told.whole there free (subst (λ u. Contains (memory_numbers p u) (target_number p x)) told.tables inside)
 
-pub nothing_looked : (p : Parameters) (image : List Block) (x : ℕ) → is_zero (block_at image 1) ≡ true → x ≢ 1 → Contains (1 ∷ looked p image) x → ⊥
-nothing_looked p image x z other inside =
-    let one : 1 ≢ x = λ e. other (sym e) in
-    let all = slot_numbers p (block_at image 1) ++ memory_numbers p (tables_in p (slot_in p image)) in
-    let only : Contains (1 ∷ 1 ∷ []) x
-    = subst (λ b. Contains (1 ∷ (if b then 1 ∷ [] else 0 ∷ 1 ∷ (slot_numbers p (block_at image 1) ++ memory_numbers p (tables_in p (slot_in p image))))) x) z inside in
-    not_in_none x (not_first x 1 [] one (not_first x 1 (1 ∷ []) one only))
+  pub free_not_looked : Contains (1 ∷ looked_by (dual_layouts p) image) (target_number p x) → ⊥
+  free_not_looked inside = not_looked (dual_layouts p) image (target_number p x) (target_behind p x there) not_in_slot not_in_memory inside
 
 -- ---- how memory is read
 

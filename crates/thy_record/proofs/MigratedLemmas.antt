@@ -4,7 +4,7 @@ use Rattle.std.proofs.lemmas.Bool.{cases_lt}
 use Rattle.std.proofs.lemmas.List.{length-replicate, get_or-replicate, get_or_past, ext_get_or}
 use Rattle.std.proofs.lemmas.List.FromFn.{length-map-range_with_len, get_or-map-range_with_len}
 use Rattle.std.specs.List.{range_with_len}
-use Rattle.std.specs.Option.{option_or, option_map}
+use Rattle.std.specs.Option.{option_map}
 use Rattle.thy_base.specs.declared.block.Block.{Block}
 use Rattle.thy_base.specs.declared.config.Parameters.{Parameters}
 use Rattle.thy_base.specs.declared.layout_version.LayoutVersion.TheVariants.{VersionOne, VersionTwo}
@@ -14,18 +14,21 @@ use Rattle.thy_base.specs.Places.{record_blocks, table_blocks, count_blocks, slo
 use Rattle.thy_base.specs.Words.{word_of}
 use Rattle.thy_base.proofs.BlockLemmas.{zero_block-at}
 use Rattle.thy_isa.specs.declared.state.OtherHart.{OtherHart}
-use Rattle.thy_record.specs.declared.bad_image.BadImage.{BadImage}
-use Rattle.thy_record.specs.declared.bad_image.BadImage.TheVariants.{Commit, Status as BadStatus, ConsoleLength, Count, Second}
-use Rattle.thy_record.specs.Cpu.{status_of, reservation_of, is_status, is_width, record_word, record_words, other_of_record, cpu_of_record}
+use Rattle.thy_layout.specs.declared.bad_image.BadImage.{BadImage}
+use Rattle.thy_layout.specs.declared.bad_image.BadImage.TheVariants.{Commit, Status as BadStatus, ConsoleLength, Count, Second}
+use Rattle.thy_layout.specs.Cpu.{status_of, reservation_of, is_status, is_width, record_word, record_words, other_of_record, cpu_of_record}
 use Rattle.thy_record.specs.Migrated.{IsWrittenAnew, AnewMeansTheSame}
-use Rattle.thy_record.specs.Slots.{entries_in, tables_in, count_byte, counts_in, is_bad_count, count_fault, epoch_fault, status_fault, second_fault, rest_fault, slot_fault}
+use Rattle.thy_layout.specs.Slots.{entries_in, epoch_fault, status_fault, second_fault}
+use Rattle.thy_record.specs.Slots.{tables_in, count_byte, counts_in, is_bad_count, count_fault, slot_fault}
 use Rattle.thy_record.specs.TableFaults.{tables_fault}
-use Rattle.thy_record.specs.TableBlocks.{entry_from}
+use Rattle.thy_layout.specs.Entries.{entry_from}
 use Rattle.thy_record.proofs.CountLemmas.{no_position, fine_count}
-use Rattle.thy_record.proofs.CpuLemmas.{record_words-at, length-record_words}
-use Rattle.thy_record.proofs.ReadBackLemmas.{same_other, same_cpu}
-use Rattle.thy_record.proofs.SlotLemmas.{length-entries_in, entry_at-entries_in, tables_alike}
-use Rattle.thy_record.proofs.TableFaultLemmas.{neither, both_none}
+use Rattle.thy_record.proofs.ImageLemmas.{slot_parts}
+use Rattle.thy_layout.proofs.CpuLemmas.{record_words-at, length-record_words}
+use Rattle.thy_layout.proofs.ReadBackLemmas.{same_other, same_cpu}
+use Rattle.thy_layout.proofs.SlotLemmas.{length-entries_in, entry_at-entries_in}
+use Rattle.thy_record.proofs.SlotLemmas.{tables_alike}
+use Rattle.thy_layout.proofs.EntryFaultLemmas.{both_none}
 
 -- the faults of a record's words
 abbrev fault_of_epoch : ℕ → ℕ → Option BadImage
@@ -120,14 +123,11 @@ module _ (p : Parameters) (old new : List Block) (h : IsWrittenAnew p old new) w
   slot_fault-none : (ceiling epoch : ℕ) → slot_fault VersionOne p ceiling epoch old ≡ None → slot_fault VersionTwo p ceiling epoch new ≡ None
   unfolding slot_fault
   slot_fault-none ceiling epoch none =
-      let parts = neither (epoch_fault epoch old)
-      (option_or (tables_fault p (tables_in p old)) (option_or (status_fault p ceiling old) (rest_fault VersionOne p old))) none in
-      let tables = neither (tables_fault p (tables_in p old)) (option_or (status_fault p ceiling old) (rest_fault VersionOne p old)) parts.1 in
-      let status = neither (status_fault p ceiling old) (rest_fault VersionOne p old) tables.1 in
+      let parts = slot_parts VersionOne p ceiling epoch old none in
       both_none (epoch_fault epoch new) _ (epoch_same epoch ∙ parts.0)
-      (both_none (tables_fault p (tables_in p new)) _ (ap (tables_fault p) tables_same ∙ tables.0)
-      (both_none (status_fault p ceiling new) _ (status_same ceiling ∙ status.0)
-      (both_none (count_fault VersionTwo p new) _ count_fault-none (second_same ∙ status.1))))
+      (both_none (tables_fault p (tables_in p new)) _ (ap (tables_fault p) tables_same ∙ parts.1)
+      (both_none (status_fault p ceiling new) _ (status_same ceiling ∙ parts.2)
+      (both_none (count_fault VersionTwo p new) _ count_fault-none (second_same ∙ parts.3))))
     where
       epoch_same : (epoch : ℕ) → epoch_fault epoch new ≡ epoch_fault epoch old
       epoch_same epoch = ap (λ w. fault_of_epoch w epoch) (word_same 38)

@@ -1,8 +1,7 @@
 -- A slot that was written reads back, and has no fault.
 use Rattle.std.proofs.Common.{◌≡◌, ℕ, ◌+◌, ◌-◌, ◌*◌, ◌/◌, ◌%◌, ◌^◌, ◌<◌, ◌≤◌, nat_lt, if◌then◌else◌, List, ◌++◌, length, map, take, drop, slice_index, slice_index_or, Option, None, sym, ◌∙◌, ap, subst, inl, inr, arith}
-use Rattle.std.proofs.lemmas.Bool.{cases_lt, eq-eqb, lt-ltb, le-ltb, le-leb, and_from}
+use Rattle.std.proofs.lemmas.Bool.{cases_lt, lt-ltb, le-ltb}
 use Rattle.std.proofs.lemmas.List.{length-map, length-append, length-take-le, length-drop, get_or-map, get_or-take, get_or-drop, get_or_append_left, get_or-append-add, ext_get_or}
-use Rattle.std.proofs.lemmas.List.FromFn.{length-map-range_with_len, get_or-map-range_with_len}
 use Rattle.std.specs.List.{range_with_len}
 use Rattle.std.specs.Option.{option_map}
 use Rattle.thy_base.specs.declared.block.Block.{Block}
@@ -12,20 +11,25 @@ use Rattle.thy_base.specs.Device.{block_at}
 use Rattle.thy_base.specs.Geometry.{IsInRange, console_room}
 use Rattle.thy_base.specs.Places.{record_blocks, table_blocks, count_blocks}
 use Rattle.thy_isa.specs.declared.state.CpuState.{CpuState}
-use Rattle.thy_record.specs.declared.bad_image.BadImage.TheVariants.{Count}
+use Rattle.thy_layout.specs.declared.bad_image.BadImage.TheVariants.{Count}
 use Rattle.thy_record.specs.ImageLaws.{ReadsBack}
 use Rattle.thy_base.specs.Words.{word_of}
-use Rattle.thy_record.specs.Cpu.{status_tag, cpu_block_of, is_status, record_word, BeginsWithRecord, FitsRecord, IsRecordable}
-use Rattle.thy_record.specs.Tables.{Tables, entry_at, Lists, IsTables}
-use Rattle.thy_record.specs.TableBlocks.{entry_word, entry_from, FitBlocks, table_words, table_block_of}
+use Rattle.thy_layout.specs.Cpu.{cpu_block_of, record_word, BeginsWithRecord, IsRecordable}
+use Rattle.thy_layout.specs.Entries.{entry_at, Lists}
+use Rattle.thy_record.specs.Tables.{Tables, IsTables}
+use Rattle.thy_layout.specs.Entries.{entry_word, entry_from}
+use Rattle.thy_record.specs.TableBlocks.{FitBlocks, table_words, table_block_of}
 use Rattle.thy_record.specs.TableFaults.{tables_fault}
-use Rattle.thy_record.specs.Slots.{slot_block_of, IsSlotOf, HasTableBlocks, entries_in, tables_in, byte_in, AreCounts, count_byte, counts_in, is_bad_count, count_fault, epoch_fault, status_fault, second_fault, cpu_fault, slot_fault}
+use Rattle.thy_layout.specs.Slots.{entries_in}
+use Rattle.thy_record.specs.Slots.{slot_block_of, IsSlotOf, HasTableBlocks, tables_in, byte_in, AreCounts, count_byte, counts_in, is_bad_count, count_fault, slot_fault}
 use Rattle.thy_base.proofs.WordLemmas.{word_of-block_of}
-use Rattle.thy_record.proofs.ReadBackLemmas.{taken, FitsRecord-recordable, rest_back, cpu_back, epoch_back, second-back}
+use Rattle.thy_layout.proofs.ReadBackLemmas.{FitsRecord-recordable, cpu_back}
 use Rattle.thy_record.proofs.CountLemmas.{map-alike_numbers, no_position, fine_count}
-use Rattle.thy_record.proofs.TableLemmas.{entry_from-entry_word, entry_word-fits}
-use Rattle.thy_record.proofs.TableFaultLemmas.{both_none, IsFaultless-tables}
+use Rattle.thy_layout.proofs.EntryWordLemmas.{entry_from-entry_word, entry_word-fits}
+use Rattle.thy_layout.proofs.EntryFaultLemmas.{both_none}
+use Rattle.thy_record.proofs.TableFaultLemmas.{IsFaultless-tables}
 use Rattle.thy_base.proofs.RangeLemmas.{btt_eights, ptt_eights}
+use Rattle.thy_layout.proofs.SlotLemmas.{length-entries_in, entry_at-entries_in, epoch_fault-back, status_fault-back, second_fault-back}
 
 -- ---- which block is which
 
@@ -118,12 +122,6 @@ entry_back p t slot m r fit of l =
     ∙ table_word p t m r fit l)
     ∙ entry_from-entry_word (entry_at (t.btt ++ t.ptt) m)
 
-pub length-entries_in : (slot : List Block) (first n : ℕ) → length (entries_in slot first n) ≡ n
-length-entries_in slot first n = length-map-range_with_len (λ i. entry_from (record_word slot (first + i))) 0 n
-
-pub entry_at-entries_in : (slot : List Block) (first n i : ℕ) → i < n → entry_at (entries_in slot first n) i ≡ entry_from (record_word slot (first + i))
-entry_at-entries_in slot first n i l = get_or-map-range_with_len (λ i. entry_from (record_word slot (first + i))) 0 n i i None l (omega arith)
-
 entries_back : (slot : List Block) (first n : ℕ) (table : List (Option ℕ)) → length table ≡ n
     → ((i : ℕ) → i < n → entry_from (record_word slot (first + i)) ≡ entry_at table i) → entries_in slot first n ≡ table
 entries_back slot first n table long each =
@@ -191,28 +189,6 @@ count_fault-back p cpu t counts epoch slot are of =
     (λ m. count_byte-back p cpu t counts epoch slot i of l ∙ are.rest i m l)))
 
 -- ---- its faults
-
-pub epoch_fault-back : (p : Parameters) (cpu : CpuState) (epoch : ℕ) (slot : List Block)
-    → FitsRecord p cpu epoch → BeginsWithRecord p cpu epoch slot → epoch_fault epoch slot ≡ None
-epoch_fault-back p cpu epoch slot fits of = taken _ _ _ (eq-eqb _ _ (epoch_back p cpu epoch slot fits of))
-
-pub status_fault-back : (p : Parameters) (ceiling : ℕ) (cpu : CpuState) (epoch : ℕ) (slot : List Block)
-    → IsRecordable p ceiling cpu → FitsRecord p cpu epoch → BeginsWithRecord p cpu epoch slot → status_fault p ceiling slot ≡ None
-status_fault-back p ceiling cpu epoch slot r fits of =
-    let rest = λ (j : ℕ) (small : j < 8). rest_back p cpu epoch slot j fits of small in
-    taken _ _ _ (and_from _ _
-    (ap (λ t. is_status t (record_word slot 37)) (rest 4 (omega arith)) ∙ ap (is_status (status_tag cpu.status)) (rest 5 (omega arith)) ∙ r.status)
-    (lt-ltb _ _ (subst (λ x. x < ceiling) (sym (rest 0 (omega arith))) r.count)))
-    ∙ taken _ _ _ (le-leb _ _ (subst (λ x. x ≤ console_room p) (sym (rest 2 (omega arith))) r.console))
-
-pub second_fault-back : (p : Parameters) (cpu : CpuState) (epoch : ℕ) (slot : List Block)
-    → FitsRecord p cpu epoch → BeginsWithRecord p cpu epoch slot → second_fault p slot ≡ None
-second_fault-back p cpu epoch slot fits of = taken _ _ _ (second-back p cpu epoch slot fits of)
-
-pub cpu_fault-back : (p : Parameters) (ceiling : ℕ) (cpu : CpuState) (epoch : ℕ) (slot : List Block)
-    → IsRecordable p ceiling cpu → FitsRecord p cpu epoch → BeginsWithRecord p cpu epoch slot → cpu_fault p ceiling slot ≡ None
-cpu_fault-back p ceiling cpu epoch slot r fits of =
-    both_none _ _ (status_fault-back p ceiling cpu epoch slot r fits of) (second_fault-back p cpu epoch slot fits of)
 
 -- a slot that was written has no fault
 pub slot_fault-back : (p : Parameters) (ceiling : ℕ) (cpu : CpuState) (t : Tables) (counts : ℕ → Block) (epoch : ℕ) (slot : List Block)

@@ -5,22 +5,28 @@ use Rattle.thy_base.specs.declared.block.Block.{Block}
 use Rattle.thy_base.specs.declared.config.Parameters.{Parameters}
 use Rattle.thy_base.specs.declared.layout_version.LayoutVersion.{LayoutVersion}
 use Rattle.thy_base.specs.declared.layout_version.LayoutVersion.TheVariants.{VersionOne, VersionTwo}
-use Rattle.thy_base.specs.Places.{record_blocks, table_blocks, knows_version_one, blocks_of_slot}
+use Rattle.thy_base.specs.Places.{hart_blocks, record_blocks, table_blocks, blocks_of_slot}
 use Rattle.thy_base.specs.Words.{word_of}
-use Rattle.thy_record.specs.Commit.{commit_magic, version_of}
+use Rattle.thy_layout.specs.Commit.{commit_magic, version_of}
+use Rattle.thy_layout.specs.Header.{last_word, knows_version_one}
+use Rattle.thy_record.specs.Number.{scheme_number}
 
 one_by : (named knows : Bool) → (if named && knows then VersionOne else VersionTwo) ≡ VersionOne → knows ≡ true
 one_by true true h = refl
 one_by true false h = cc
 one_by false knows h = cc
 
-pub one_hart : (p : Parameters) (b : Block) → version_of p b ≡ VersionOne → p.harts ≡ 1
-one_hart p b h = eqb-true _ _ (one_by (word_of b 0 == commit_magic VersionOne) (knows_version_one p) h)
+one_record : (p : Parameters) (b : Block) → version_of scheme_number p b ≡ VersionOne → record_blocks p ≡ hart_blocks
+one_record p b h =
+    let none : last_word scheme_number p ≡ 0
+    = eqb-true _ _ (one_by (word_of b 0 == commit_magic VersionOne) (knows_version_one scheme_number p) h) in
+    omega (arith, none)
 
-least_with : (f : LayoutVersion) (p : Parameters) → (f ≡ VersionOne → p.harts ≡ 1) → record_blocks p + table_blocks p ≤ blocks_of_slot f p
-least_with VersionOne p one = let same : p.harts ≡ 1 = one refl in omega (arith, same)
+least_with : (f : LayoutVersion) (p : Parameters) → (f ≡ VersionOne → record_blocks p ≡ hart_blocks)
+    → record_blocks p + table_blocks p ≤ blocks_of_slot f p
+least_with VersionOne p one = let same : record_blocks p ≡ hart_blocks = one refl in omega (arith, same)
 least_with VersionTwo p one = omega arith
 
 -- the slot that a commit block names has the record and the tables
-pub least_slot : (p : Parameters) (b : Block) → record_blocks p + table_blocks p ≤ blocks_of_slot (version_of p b) p
-least_slot p b = least_with (version_of p b) p (one_hart p b)
+pub least_slot : (p : Parameters) (b : Block) → record_blocks p + table_blocks p ≤ blocks_of_slot (version_of scheme_number p b) p
+least_slot p b = least_with (version_of scheme_number p b) p (one_record p b)

@@ -1,24 +1,26 @@
 -- What is written reads back, said of whole images.
-use Rattle.std.specs.Prelude.{◌≡◌, ℕ, ◌+◌, ◌*◌, ◌%◌, ◌^◌, ◌<◌, ◌≤◌, true, false, List, ◌++◌, length, map, take, drop, replicate, Contains, Option, None}
+use Rattle.std.specs.Prelude.{◌≡◌, ℕ, ◌+◌, ◌*◌, ◌%◌, ◌^◌, ◌<◌, ◌≤◌, true, false, List, ◌++◌, length, map, take, drop, Option, None}
 use Rattle.std.specs.List.{range_with_len}
 use Rattle.thy_base.specs.declared.block.Block.{Block}
 use Rattle.thy_base.specs.declared.config.Parameters.{Parameters}
 use Rattle.thy_base.specs.declared.layout_version.LayoutVersion.TheVariants.{VersionTwo}
-use Rattle.thy_base.specs.Device.{block_at, zero_block}
+use Rattle.thy_base.specs.Device.{block_at}
 use Rattle.thy_base.specs.Geometry.{IsInRange, memory_blocks}
 use Rattle.thy_base.specs.Places.{in_dram, IsPlace, slot_blocks, slot_place, image_blocks}
-use Rattle.thy_flat.specs.Flat.{flat, AllLong}
 use Rattle.thy_isa.specs.declared.state.CpuState.{CpuState}
 use Rattle.thy_isa.specs.Step.{State}
-use Rattle.thy_record.specs.Commit.{commit_of}
-use Rattle.thy_record.specs.Cpu.{cpu_of_record, IsRecordable}
-use Rattle.thy_record.specs.Decoded.{At}
+use Rattle.thy_layout.specs.Commit.{commit_of}
+use Rattle.thy_layout.specs.Cpu.{cpu_of_record, IsRecordable}
+use Rattle.thy_layout.specs.Decoded.{At}
 use Rattle.thy_isa.specs.OnBlocks.{state_from}
-use Rattle.thy_record.specs.Files.{decode_file}
-use Rattle.thy_record.specs.Header.{header_fault}
-use Rattle.thy_record.specs.Images.{slot_in, memory_in, decode_image, looked, IsWholeImage}
+use Rattle.thy_record.specs.Number.{scheme_number}
+use Rattle.thy_layout.specs.Header.{header_fault}
+use Rattle.thy_layout.specs.Layout.{blocks_at}
+use Rattle.thy_record.specs.DualLayouts.{decode_image}
+use Rattle.thy_record.specs.Images.{slot_in, memory_numbers}
 use Rattle.thy_record.specs.Slots.{slot_block_of, byte_in, AreCounts, IsSlotOf, tables_in, counts_in, slot_fault}
-use Rattle.thy_record.specs.TableBlocks.{entry_word, table_block_of}
+use Rattle.thy_layout.specs.Entries.{entry_word}
+use Rattle.thy_record.specs.TableBlocks.{table_block_of}
 use Rattle.thy_record.specs.Tables.{Tables, place_of, IsTables}
 use Rattle.thy_base.specs.Words.{block_of}
 use Rattle.thy_record.specs.TableFaults.{tables_fault}
@@ -71,7 +73,7 @@ SlotReadsBack =
 -- an image has a checkpoint's commit block and slot, and a header without a fault
 pub record HasCheckpoint (p : Parameters) (image : List Block) (cpu : CpuState) (t : Tables) (counts : ℕ → Block) (epoch : ℕ) : Type 0 where
   pub long : length image ≡ image_blocks p
-  pub header_fits : header_fault (block_at image 0) p true ≡ None
+  pub header_fits : header_fault scheme_number (block_at image 0) p true ≡ None
   pub commit : block_at image 1 ≡ commit_of epoch
   pub slot : (k : ℕ) → k < slot_blocks p → block_at image (slot_place p (epoch % 2) + k) ≡ slot_block_of p cpu t counts epoch k
 
@@ -81,42 +83,10 @@ WrittenDecodes =
     (p : Parameters) (ceiling : ℕ) (cpu : CpuState) (t : Tables) (counts : ℕ → Block) (epoch : ℕ) (image : List Block)
     → IsInRange p → IsRecordable p ceiling cpu → IsTables p t → AreCounts p counts → ceiling ≤ 2 ^ 64 → epoch < ceiling
     → HasCheckpoint p image cpu t counts epoch
-    → decode_image p ceiling image ≡ At epoch (state_from p cpu (memory_in p t image))
+    → decode_image p ceiling image ≡ At epoch (state_from p cpu (blocks_at image (memory_numbers p t)))
 
--- an image that decodes to a checkpoint is whole, and its tables are
-pub record IsDecoded (p : Parameters) (ceiling : ℕ) (image : List Block) (epoch : ℕ) (state : State) : Type 0 where
-  pub whole : IsWholeImage p ceiling image epoch state
-  pub tables : IsTables p (tables_in p (slot_in p image))
-
-abbrev pub DecodedIsWhole : Type 0
-DecodedIsWhole =
+-- an image that decodes to a checkpoint has tables that a checkpoint may have
+abbrev pub DecodedHasTables : Type 0
+DecodedHasTables =
     (p : Parameters) (ceiling : ℕ) (image : List Block) (epoch : ℕ) (state : State)
-    → decode_image p ceiling image ≡ At epoch state → IsDecoded p ceiling image epoch state
-
--- images that agree at the blocks that determine what one of them means decode alike
-pub record IsAlike (p : Parameters) (g h : List Block) : Type 0 where
-  pub as_long : length g ≡ length h
-  pub each : (x : ℕ) → Contains (looked p h) x → block_at g x ≡ block_at h x
-
-abbrev pub LookedDecides : Type 0
-LookedDecides =
-    (p : Parameters) (ceiling : ℕ) (g h : List Block) → IsAlike p g h → decode_image p ceiling g ≡ decode_image p ceiling h
-
--- what decodes below a ceiling decodes to the same below a higher one
-abbrev pub CeilingGrows : Type 0
-CeilingGrows =
-    (p : Parameters) (low high : ℕ) (image : List Block) (epoch : ℕ) (state : State) → low ≤ high
-    → decode_image p low image ≡ At epoch state → decode_image p high image ≡ At epoch state
-
--- an image that is filled up with zeros to the length of version 2 means the same
-abbrev pub FilledUpDecodes : Type 0
-FilledUpDecodes =
-    (p : Parameters) (ceiling k epoch : ℕ) (state : State) (image : List Block)
-    → decode_image p ceiling image ≡ At epoch state → length image + k ≡ image_blocks p
-    → decode_image p ceiling (image ++ replicate k zero_block) ≡ At epoch state
-
--- a file of an image's bytes means what the image does
-abbrev pub FileDecodes : Type 0
-FileDecodes =
-    (p : Parameters) (ceiling : ℕ) (image : List Block) → AllLong image → 2 ≤ length image
-    → decode_file p ceiling (flat image) ≡ decode_image p ceiling image
+    → decode_image p ceiling image ≡ At epoch state → IsTables p (tables_in p (slot_in p image))

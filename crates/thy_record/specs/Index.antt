@@ -1,14 +1,11 @@
 -- Where an image has each block of memory, as one list of numbers: so far as both tables were gone through.
-use Rattle.std.specs.Prelude.{◌≡◌, ◌≢◌, ℕ, ◌+◌, ◌*◌, ◌<◌, List, length, map, take, drop, slice_set, slice_index_or, Option, Some, None}
-use Rattle.thy_base.specs.declared.block.Block.{Block}
+use Rattle.std.specs.Prelude.{◌≡◌, ◌≢◌, ℕ, ◌+◌, ◌*◌, ◌<◌, List, slice_set, slice_index_or, Option, Some, None}
 use Rattle.thy_base.specs.declared.config.Parameters.{Parameters}
 use Rattle.thy_base.specs.declared.place.Place.TheVariants.{AlternateBlock, AlternatePage}
-use Rattle.thy_base.specs.Device.{block_at}
 use Rattle.thy_base.specs.Places.{number_of}
 use Rattle.thy_base.specs.Store.{page_of}
-use Rattle.thy_flat.specs.Flat.{flat}
 use Rattle.thy_record.specs.Images.{memory_numbers}
-use Rattle.thy_record.specs.Tables.{Lists}
+use Rattle.thy_layout.specs.Entries.{Lists}
 
 -- the number of each block's place, by these entries of the block table and of the page table
 abbrev pub index_by : Parameters → List (Option ℕ) → List (Option ℕ) → List ℕ
@@ -33,11 +30,3 @@ pub record HasPage (p : Parameters) (j page : ℕ) (old new : List ℕ) : Type 0
 abbrev pub HasPageOf : Parameters → ℕ → Option ℕ → List ℕ → List ℕ → Type 0
 HasPageOf p j None old new = new ≡ old
 HasPageOf p j (Some page) old new = HasPage p j page old new
-
--- these are numbers of an image's blocks
-pub record AreInside (image : List Block) (places : List ℕ) : Type 0 where
-  pub each : (k : ℕ) → k < length places → slice_index_or places k 0 < length image
-
--- the bytes of n blocks of an image, from the first of these places on
-abbrev pub bytes_at : List Block → List ℕ → ℕ → ℕ → List ℕ
-bytes_at image places first n = flat (take n (drop first (map (block_at image) places)))

@@ -1,5 +1,5 @@
 -- Which writes leave a checkpoint alone, and at which places memory is read.
-use Rattle.std.specs.Prelude.{◌≡◌, ◌≢◌, ℕ, ◌+◌, ◌%◌, ◌<◌, true, false, List, ◌∷◌, length, map, Contains, None}
+use Rattle.std.specs.Prelude.{◌≡◌, ◌≢◌, ℕ, ◌+◌, ◌%◌, ◌<◌, false, List, ◌∷◌, length, map, Contains, None}
 use Rattle.thy_base.specs.declared.block.Block.{Block}
 use Rattle.thy_base.specs.declared.config.Parameters.{Parameters}
 use Rattle.thy_base.specs.declared.layout_version.LayoutVersion.{LayoutVersion}
@@ -10,10 +10,14 @@ use Rattle.thy_base.specs.Device.{Device, block_at, newest}
 use Rattle.thy_base.specs.Geometry.{memory_blocks}
 use Rattle.thy_base.specs.Places.{in_dram, number_of, IsPlace, slot_blocks, slot_place}
 use Rattle.thy_base.specs.Store.{page_of}
-use Rattle.thy_record.specs.Commit.{is_zero, epoch_of, version_of}
-use Rattle.thy_record.specs.Images.{slot_in, memory_numbers, looked}
+use Rattle.thy_layout.specs.Commit.{epoch_of, version_of}
+use Rattle.thy_layout.specs.Layout.{looked_by}
+use Rattle.thy_record.specs.DualLayouts.{dual_layouts}
+use Rattle.thy_record.specs.Images.{slot_in, memory_numbers}
+use Rattle.thy_record.specs.Number.{scheme_number}
 use Rattle.thy_record.specs.Slots.{tables_in}
-use Rattle.thy_record.specs.Tables.{Tables, entry_at, Lists, place_of, IsTables}
+use Rattle.thy_layout.specs.Entries.{entry_at, Lists}
+use Rattle.thy_record.specs.Tables.{Tables, place_of, IsTables}
 
 -- ---- which writes leave a checkpoint alone
 
@@ -59,7 +63,7 @@ EmptyPageIsUnused = (p : Parameters) (t : Tables) (j k : ℕ) → entry_at t.ptt
 
 -- an image has the checkpoint of this epoch, in a slot of this version, with these tables
 pub record IsToldBy (p : Parameters) (image : List Block) (version : LayoutVersion) (epoch : ℕ) (t : Tables) : Type 0 where
-  pub of_version : version_of p (block_at image 1) ≡ version
+  pub of_version : version_of scheme_number p (block_at image 1) ≡ version
   pub of_epoch : epoch_of (block_at image 1) ≡ epoch
   pub tables : tables_in p (slot_in p image) ≡ t
   pub whole : IsTables p t
@@ -68,13 +72,8 @@ pub record IsToldBy (p : Parameters) (image : List Block) (version : LayoutVersi
 abbrev pub FreeIsNotLooked : Type 0
 FreeIsNotLooked =
     (p : Parameters) (image : List Block) (version : LayoutVersion) (epoch : ℕ) (t : Tables) (x : Target)
-    → IsToldBy p image version epoch t → IsTarget p x → IsFree p version epoch t x → ¬ Contains (1 ∷ looked p image) (target_number p x)
-
--- of an image without a checkpoint no block but the commit block is
-abbrev pub NothingIsLooked : Type 0
-NothingIsLooked =
-    (p : Parameters) (image : List Block) (x : ℕ) → is_zero (block_at image 1) ≡ true → x ≢ 1
-    → ¬ Contains (1 ∷ looked p image) x
+    → IsToldBy p image version epoch t → IsTarget p x → IsFree p version epoch t x
+    → ¬ Contains (1 ∷ looked_by (dual_layouts p) image) (target_number p x)
 
 -- ---- how memory is read
 

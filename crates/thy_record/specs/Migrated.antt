@@ -5,7 +5,7 @@ use Rattle.thy_base.specs.declared.config.Parameters.{Parameters}
 use Rattle.thy_base.specs.declared.layout_version.LayoutVersion.TheVariants.{VersionOne, VersionTwo}
 use Rattle.thy_base.specs.Device.{block_at}
 use Rattle.thy_base.specs.Places.{blocks_of_slot, slot_blocks}
-use Rattle.thy_record.specs.Cpu.{cpu_of_record}
+use Rattle.thy_layout.specs.Cpu.{cpu_of_record}
 use Rattle.thy_record.specs.Slots.{tables_in, counts_in, slot_fault}
 
 -- each block of the new slot is that of the old one; past its end that is a block of zeros

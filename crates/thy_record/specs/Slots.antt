@@ -1,22 +1,22 @@
 -- Part of the claim.
 -- A slot: the processor's record, behind it the two tables, and in version 2 the counts of pages.
-use Rattle.std.specs.Prelude.{◌≡◌, ℕ, ◌+◌, ◌-◌, ◌*◌, ◌/◌, ◌%◌, ◌<◌, ◌≤◌, ◌==◌, nat_lt, nat_le, Bool, ◌&&◌, ◌||◌, not, if◌then◌else◌, List, [], ◌∷◌, map, replicate, slice_index_or, Option, None}
+use Rattle.std.specs.Prelude.{◌≡◌, ℕ, ◌+◌, ◌-◌, ◌*◌, ◌/◌, ◌%◌, ◌<◌, ◌≤◌, ◌==◌, nat_lt, nat_le, Bool, ◌&&◌, ◌||◌, not, if◌then◌else◌, List, map, replicate, slice_index_or, Option, None}
 use Rattle.std.specs.List.{range_with_len, position}
 use Rattle.std.specs.Option.{option_or, option_map}
 use Rattle.thy_base.specs.declared.block.Block.{Block}
 use Rattle.thy_base.specs.declared.config.Parameters.{Parameters}
 use Rattle.thy_base.specs.declared.layout_version.LayoutVersion.{LayoutVersion}
 use Rattle.thy_base.specs.declared.layout_version.LayoutVersion.TheVariants.{VersionOne, VersionTwo}
-use Rattle.thy_base.specs.Demands.{first_fault}
 use Rattle.thy_base.specs.Device.{block_at}
 use Rattle.thy_base.specs.Places.{record_blocks, table_blocks, count_blocks, slot_blocks}
 use Rattle.thy_isa.specs.declared.state.CpuState.{CpuState}
-use Rattle.thy_record.specs.declared.bad_image.BadImage.{BadImage}
-use Rattle.thy_record.specs.declared.bad_image.BadImage.TheVariants.{Count}
-use Rattle.thy_record.specs.Cpu.{cpu_block_of, record_word, epoch_demand, status_demands, second_demand}
+use Rattle.thy_layout.specs.declared.bad_image.BadImage.{BadImage}
+use Rattle.thy_layout.specs.declared.bad_image.BadImage.TheVariants.{Count}
+use Rattle.thy_layout.specs.Cpu.{cpu_block_of}
 use Rattle.thy_record.specs.Tables.{Tables}
-use Rattle.thy_record.specs.TableBlocks.{entry_from, table_block_of}
+use Rattle.thy_record.specs.TableBlocks.{table_block_of}
 use Rattle.thy_record.specs.TableFaults.{tables_fault}
+use Rattle.thy_layout.specs.Slots.{entries_in, epoch_fault, status_fault, second_fault}
 
 -- block k of the slot of a checkpoint of version 2, with these blocks of counts
 abbrev pub slot_block_of : Parameters → CpuState → Tables → (ℕ → Block) → ℕ → ℕ → Block
@@ -42,10 +42,6 @@ pub record AreCounts (p : Parameters) (counts : ℕ → Block) : Type 0 where
   pub within : (i : ℕ) → i < p.pages → byte_in counts i ≤ 63
   pub rest : (i : ℕ) → p.pages ≤ i → i < 64 * count_blocks p → byte_in counts i ≡ 0
 
--- n entries of a slot, the first of them in word `first`
-abbrev pub entries_in : List Block → ℕ → ℕ → List (Option ℕ)
-entries_in slot first n = map (λ i. entry_from (record_word slot (first + i))) (range_with_len 0 n)
-
 -- the tables of a slot, eight words a block: the block table after the record, the page table after that
 abbrev pub tables_in : Parameters → List Block → Tables
 tables_in p slot = record {
@@ -69,22 +65,6 @@ is_bad_count p slot i = nat_lt 63 (count_byte p slot i) || (nat_le p.pages i && 
 abbrev pub count_fault : LayoutVersion → Parameters → List Block → Option BadImage
 count_fault VersionOne p slot = None
 count_fault VersionTwo p slot = option_map Count (position (is_bad_count p slot) (range_with_len 0 (64 * count_blocks p)))
-
--- the record is of another epoch than the commit block
-abbrev pub epoch_fault : ℕ → List Block → Option BadImage
-epoch_fault epoch slot = first_fault (epoch_demand epoch slot ∷ [])
-
--- status or count have no meaning, or the console is longer than its pages
-abbrev pub status_fault : Parameters → ℕ → List Block → Option BadImage
-status_fault p ceiling slot = first_fault (status_demands p ceiling slot)
-
--- with two harts the other one's words have no meaning
-abbrev pub second_fault : Parameters → List Block → Option BadImage
-second_fault p slot = first_fault (second_demand p slot ∷ [])
-
--- what is wrong with the processor besides its epoch
-abbrev pub cpu_fault : Parameters → ℕ → List Block → Option BadImage
-cpu_fault p ceiling slot = option_or (status_fault p ceiling slot) (second_fault p slot)
 
 -- what is wrong with record and tables, which both versions begin with, besides the other hart's words
 abbrev pub head_fault : Parameters → ℕ → ℕ → List Block → Option BadImage

@@ -3,9 +3,10 @@ use Rattle.std.specs.Prelude.{◌≡◌, ℕ, ◌+◌, ◌<◌, ◌≤◌, lengt
 use Rattle.thy_base.specs.declared.config.Parameters.{Parameters}
 use Rattle.thy_base.specs.Geometry.{memory_blocks}
 use Rattle.thy_base.specs.Store.{page_of}
-use Rattle.thy_record.specs.declared.bad_image.BadImage.{BadImage}
-use Rattle.thy_record.specs.declared.bad_image.BadImage.TheVariants.{TableIndex, TableTwice, BlockUnderPage}
-use Rattle.thy_record.specs.Tables.{Tables, Lists}
+use Rattle.thy_layout.specs.declared.bad_image.BadImage.{BadImage}
+use Rattle.thy_layout.specs.declared.bad_image.BadImage.TheVariants.{TableIndex, TableTwice, BlockUnderPage}
+use Rattle.thy_layout.specs.Entries.{Lists}
+use Rattle.thy_record.specs.Tables.{Tables}
 use Rattle.thy_record.specs.TableFaults.{tables_fault}
 
 -- an entry lists a block or a page that memory has not; the page table's entries are counted after the block table's

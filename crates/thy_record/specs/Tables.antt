@@ -1,12 +1,12 @@
 -- Part of the claim.
 -- The two tables of a checkpoint, and the place at which it has each block of memory.
-use Rattle.std.specs.Prelude.{◌≡◌, ℕ, ◌%◌, ◌==◌, ◌<◌, Bool, false, List, length, slice_index_or, Option, Some, None}
-use Rattle.std.specs.List.{position}
+use Rattle.std.specs.Prelude.{◌≡◌, ℕ, ◌%◌, ◌<◌, List, length, Option, Some, None}
 use Rattle.thy_base.specs.declared.config.Parameters.{Parameters}
 use Rattle.thy_base.specs.declared.place.Place.{Place}
 use Rattle.thy_base.specs.declared.place.Place.TheVariants.{Home, AlternateBlock, AlternatePage}
 use Rattle.thy_base.specs.Geometry.{memory_blocks}
 use Rattle.thy_base.specs.Store.{page_of}
+use Rattle.thy_layout.specs.Entries.{Lists, entry_of}
 
 -- an entry of a table lists a number or is empty
 pub record Tables : Type 0 where
@@ -14,23 +14,6 @@ pub record Tables : Type 0 where
   pub btt : List (Option ℕ)
   -- the page table: the page of memory that each alternate page holds
   pub ptt : List (Option ℕ)
-
--- entry i of a table, which is empty past its end
-abbrev pub entry_at : List (Option ℕ) → ℕ → Option ℕ
-entry_at table i = slice_index_or table i None
-
--- entry i of a table lists this number
-pub record Lists (table : List (Option ℕ)) (i n : ℕ) : Type 0 where
-  pub is : entry_at table i ≡ Some n
-
--- an entry lists this number
-abbrev pub is_entry_of : ℕ → Option ℕ → Bool
-is_entry_of n None = false
-is_entry_of n (Some m) = m == n
-
--- the first entry that lists this number
-abbrev pub entry_of : List (Option ℕ) → ℕ → Option ℕ
-entry_of table n = position (is_entry_of n) table
 
 -- the place of a block, by the entry of the page table that lists its page
 abbrev pub place_in_page : Option ℕ → ℕ → Place

@@ -2,16 +2,16 @@
 ghost use Rattle.std.specs.Prelude.{◌≡◌, ◌+◌, ◌*◌, ◌/◌, ◌<◌, ◌≤◌, ℕ, List, [], Option, length, IfOk, IfSome};
 ghost use Rattle.thy_base.specs.Geometry.{memory_blocks};
 ghost use Rattle.thy_base.specs.Places.{record_blocks, table_blocks};
-ghost use Rattle.thy_record.specs.Files.{blocks_of, table_in};
+ghost use Rattle.thy_layout.specs.Files.{blocks_of, table_in};
 ghost use Rattle.thy_record.specs.Images.{memory_numbers};
 ghost use Rattle.thy_record.specs.Index.{index_by, ListsOnce, with_block, HasPage, HasPageOf};
 ghost use Rattle.thy_record.specs.Slots.{tables_in};
 ghost use Rattle.thy_record.specs.Tables.{IsTables};
 
 use crate::slot::{btt_in, ptt_in};
-use crate::table_faults::entry;
 use std::alloc::{AllocError, Global};
 use thy_base::{Geometry, PAGE_BLOCKS, Place};
+use thy_layout::entry;
 
 // All of memory at home.
 fn homes(alloc: Global, geometry: &Geometry) -> Result<Vec<u64>, AllocError>

@@ -1,106 +1,22 @@
 //! The bytes of a slot: the processor's record, 320 for each hart, behind it the block table and the page table, and in
 //! version 2 the counts of pages.
-ghost use Rattle.std.specs.Prelude.{◌≡◌, ◌+◌, ◌*◌, ◌/◌, ◌<◌, ◌≤◌, ◌∷◌, length};
+ghost use Rattle.std.specs.Prelude.{◌≡◌, ◌+◌, ◌*◌, ◌/◌, ◌<◌, ◌≤◌, length};
 ghost use Rattle.thy_base.specs.declared.layout_version.LayoutVersion.TheVariants.{VersionTwo};
-ghost use Rattle.thy_base.specs.Geometry.{IsInRange};
 ghost use Rattle.thy_base.specs.Places.{record_blocks, table_blocks, count_blocks, blocks_of_slot};
-ghost use Rattle.thy_record.specs.Cpu.{record_word, record_words, other_of_record, second_of_record, cpu_of_record, is_second as is_second_of};
-ghost use Rattle.thy_record.specs.Files.{blocks_of, table_in};
-ghost use Rattle.thy_record.specs.Tables.{entry_at};
-ghost use Rattle.thy_record.specs.Slots.{tables_in, count_byte, is_bad_count as is_bad_byte, status_fault as fault_of_status, count_fault as fault_of_counts, second_fault as fault_of_second, cpu_fault as fault_of_cpu, head_fault as fault_of_head, slot_fault as fault_of_slot};
+ghost use Rattle.thy_layout.specs.Files.{blocks_of, table_in};
+ghost use Rattle.thy_layout.specs.Entries.{entry_at};
+ghost use Rattle.thy_record.specs.Slots.{tables_in, count_byte, is_bad_count as is_bad_byte, count_fault as fault_of_counts, head_fault as fault_of_head, slot_fault as fault_of_slot};
 
-use crate::bad_image::BadImage;
-use crate::cpu::{is_status, is_width, reservation_from, status_from};
-use crate::table_faults::{entry, tables_fault};
-use byteorder::{ByteOrder, LittleEndian};
+use crate::table_faults::tables_fault;
 use thy_base::{BLOCK_COUNTS, BLOCK_SIZE, Geometry, LayoutVersion};
-use thy_isa::{CpuState, OtherHart, Reg, Regs};
-
-/// Word `i` of a slot.
-pub fn word_in(slot: &[u8], i: usize) -> u64
-    requires { i / 8 < length slot.now / 64 }
-    ensures { result ≡ record_word (blocks_of slot.now) i }
-{
-    LittleEndian::read_u64(&slot[8 * i..])
-}
-
-// Where the processor's record ends in the bytes of a slot.
-fn record_size(geometry: &Geometry) -> usize
-    ensures size { result ≡ 64 * record_blocks geometry.now }
-    ensures in_range { IsInRange geometry.now }
-{
-    BLOCK_SIZE * geometry.record_blocks() as usize
-}
-
-// The registers of a hart in a slot's record; `first` is the word of x1, 1 or 41.
-fn regs_in(slot: &[u8], first: usize) -> Regs
-    requires first { first < 48 }
-    requires inside { (first + 30) / 8 < length slot.now / 64 }
-    ensures { result ≡ 0 ∷ record_words (blocks_of slot.now) first 31 }
-{
-    let mut regs = Regs::new();
-    for r in 1..32u8 {
-        regs.set(Reg::new(r), word_in(slot, first + r as usize - 1));
-    }
-    regs
-}
-
-// The second hart in a slot's record. A width without meaning reads as no reservation.
-#[tactic(auto, unfolding(crate::specs::Cpu::other_of_record))]
-fn other_in(slot: &[u8]) -> OtherHart
-    requires { 10 ≤ length slot.now / 64 }
-    ensures { result ≡ other_of_record (blocks_of slot.now) }
-{
-    OtherHart {
-        pc: word_in(slot, 40),
-        regs: regs_in(slot, 41),
-        front: reservation_from(word_in(slot, 72), word_in(slot, 73)),
-        back: reservation_from(word_in(slot, 74), word_in(slot, 75)),
-    }
-}
-
-// So if there are two harts.
-fn second_in(slot: &[u8], geometry: &Geometry) -> Option<OtherHart>
-    requires { record_blocks geometry.now ≤ length slot.now / 64 }
-    ensures other { result ≡ second_of_record geometry.now (blocks_of slot.now) }
-    ensures in_range { IsInRange geometry.now }
-{
-    if geometry.numbers().harts == 2 {
-        Some(other_in(slot))
-    } else {
-        None
-    }
-}
-
-/// The processor's state in the bytes of a slot. A status whose tag is over 1 reads as a trap, a width of a reservation
-/// without meaning as no reservation.
-#[tactic(auto, unfolding(crate::specs::Cpu::cpu_of_record))]
-pub fn cpu_in(slot: &[u8], geometry: &Geometry) -> CpuState
-    requires { record_blocks geometry.now ≤ length slot.now / 64 }
-    ensures { result ≡ cpu_of_record geometry.now (blocks_of slot.now) }
-{
-    let other = second_in(slot, geometry);
-    CpuState {
-        pc: word_in(slot, 0),
-        regs: regs_in(slot, 1),
-        console_len: word_in(slot, 34),
-        cursor: word_in(slot, 33),
-        brk: word_in(slot, 35),
-        floor: word_in(slot, 39),
-        count: word_in(slot, 32),
-        status: status_from(word_in(slot, 36), word_in(slot, 37)),
-        other,
-    }
-}
+use thy_layout::{BadImage, entry, record_size, second_fault, status_fault, table_behind, word_in};
 
 /// The block table of a slot, which stands behind the processor's record.
 pub fn btt_in<'a>(slot: &'a [u8], geometry: &Geometry) -> &'a [u8]
     requires { 64 * (record_blocks geometry.now + geometry.now.btt / 8) ≤ length slot.now }
     ensures { table_in result.now ≡ (tables_in geometry.now (blocks_of slot.now)).btt }
 {
-    let first = record_size(geometry);
-    let entries = geometry.numbers().btt as usize;
-    &slot[first..first + 8 * entries]
+    table_behind(slot, geometry.numbers().btt as usize, geometry)
 }
 
 // The page table of a slot.
@@ -129,21 +45,6 @@ pub fn listed_page(slot: &[u8], j: usize, geometry: &Geometry) -> Option<u64>
     ensures { result ≡ entry_at (tables_in geometry.now (blocks_of slot.now)).ptt j }
 {
     entry(ptt_in(slot, geometry), j)
-}
-
-// A status or a count without meaning, or a console longer than its pages.
-fn status_fault(slot: &[u8], geometry: &Geometry, ceiling: u64) -> Option<BadImage>
-    requires { record_blocks geometry.now ≤ length slot.now / 64 }
-    ensures { result ≡ fault_of_status geometry.now ceiling (blocks_of slot.now) }
-{
-    let stands = is_status(word_in(slot, 36), word_in(slot, 37)) && word_in(slot, 32) < ceiling;
-    if !stands {
-        Some(BadImage::Status)
-    } else if word_in(slot, 34) <= geometry.console_room() {
-        None
-    } else {
-        Some(BadImage::ConsoleLength)
-    }
 }
 
 // Byte i of the counts of a slot.
@@ -197,40 +98,6 @@ fn bad_count(slot: &[u8], geometry: &Geometry) -> Option<BadImage>
         }
     }
     None
-}
-
-// Whether the words of the second hart have a meaning: the widths of both reservations, and four zeros.
-fn is_second(slot: &[u8]) -> bool
-    requires { 10 ≤ length slot.now / 64 }
-    ensures { result ≡ is_second_of (blocks_of slot.now) }
-{
-    let widths = is_width(word_in(slot, 72)) && is_width(word_in(slot, 74));
-    let zeros = (word_in(slot, 76) == 0 && word_in(slot, 77) == 0)
-        && (word_in(slot, 78) == 0 && word_in(slot, 79) == 0);
-    widths && zeros
-}
-
-/// The fault of the second hart's words, with two harts: a width of a reservation without meaning, or a word behind the
-/// reservations that is not zero.
-pub fn second_fault(slot: &[u8], geometry: &Geometry) -> Option<BadImage>
-    requires { record_blocks geometry.now ≤ length slot.now / 64 }
-    ensures { result ≡ fault_of_second geometry.now (blocks_of slot.now) }
-{
-    if geometry.numbers().harts == 1 || is_second(slot) {
-        None
-    } else {
-        Some(BadImage::Second)
-    }
-}
-
-/// What is wrong with the processor in these bytes of a slot besides its epoch: a status without meaning or a count of
-/// instructions that is not below the ceiling, a console longer than its pages, or words of the second hart without
-/// meaning.
-pub fn cpu_fault(slot: &[u8], geometry: &Geometry, ceiling: u64) -> Option<BadImage>
-    requires { record_blocks geometry.now ≤ length slot.now / 64 }
-    ensures { result ≡ fault_of_cpu geometry.now ceiling (blocks_of slot.now) }
-{
-    status_fault(slot, geometry, ceiling).or(second_fault(slot, geometry))
 }
 
 /// The first fault of record and tables, with which a slot of either version begins, under a commit block of this epoch: a

@@ -1,76 +1,11 @@
 //! The faults of tables, over the bytes of each, eight an entry.
-ghost use Rattle.std.specs.Prelude.{◌≡◌, ◌+◌, ◌*◌, ◌/◌, ◌<◌, ◌≤◌, length, IfSome};
-ghost use Rattle.thy_record.specs.Files.{table_in, tables_from};
-ghost use Rattle.thy_record.specs.Tables.{entry_at, entry_of as entry_that_lists};
-ghost use Rattle.thy_record.specs.TableFaults.{first_clash, index_rule, twin_of, twice_rule, under_rule, tables_fault as fault_of_tables};
+ghost use Rattle.std.specs.Prelude.{◌≡◌, ◌/◌};
+ghost use Rattle.thy_layout.specs.Files.{table_in};
+ghost use Rattle.thy_layout.specs.EntryFaults.{first_clash};
+ghost use Rattle.thy_record.specs.TableFaults.{under_rule, tables_fault as fault_of_tables};
 
-use crate::bad_image::BadImage;
-use crate::tables::entry_from_word;
-use byteorder::{ByteOrder, LittleEndian};
 use thy_base::{Geometry, PAGE_BLOCKS};
-
-// Entry i of a table.
-pub(crate) fn entry(table: &[u8], i: usize) -> Option<u64>
-    requires { i < length table.now / 8 }
-    ensures { result ≡ entry_at (table_in table.now) i }
-{
-    entry_from_word(LittleEndian::read_u64(&table[8 * i..]))
-}
-
-// The first entry of a table that lists a number.
-pub(crate) fn entry_of(table: &[u8], number: u64) -> Option<usize>
-    ensures { result ≡ entry_that_lists (table_in table.now) number }
-{
-    for i in 0..table.len() / 8 {
-        if let Some(listed) = entry(table, i)
-            && listed == number
-        {
-            return Some(i);
-        }
-    }
-    None
-}
-
-/// The first entry of a table that lists a number which is not below the limit. `before` entries have lower numbers than
-/// the table's.
-pub fn index_fault(table: &[u8], before: u64, limit: u64) -> Option<BadImage>
-    requires { before ≤ 4096 }
-    ensures { result ≡ first_clash (index_rule before limit) 0 (table_in table.now) }
-{
-    for i in 0..table.len() / 8 {
-        if let Some(number) = entry(table, i)
-            && number >= limit
-        {
-            return Some(BadImage::TableIndex(before + i as u64));
-        }
-    }
-    None
-}
-
-// The entry before entry k that lists what that does.
-fn twin(table: &[u8], k: usize) -> Option<usize>
-    requires { k < length table.now / 8 }
-    ensures twin { result ≡ twin_of (table_in table.now) k (entry_at (table_in table.now) k) }
-    ensures before { IfSome result (λ i. i < k) }
-{
-    match entry(table, k) {
-        None => None,
-        Some(number) => entry_of(&table[..8 * k], number),
-    }
-}
-
-/// The first entry of a table that lists what an earlier one does, counted in the same way.
-pub fn twice_fault(table: &[u8], before: u64) -> Option<BadImage>
-    requires { before ≤ 4096 }
-    ensures { result ≡ first_clash (twice_rule before (table_in table.now)) 0 (table_in table.now) }
-{
-    for k in 0..table.len() / 8 {
-        if let Some(i) = twin(table, k) {
-            return Some(BadImage::TableTwice(before + i as u64, before + k as u64));
-        }
-    }
-    None
-}
+use thy_layout::{BadImage, entry, entry_of, index_fault, twice_fault};
 
 // The first entry of the block table that lists a block of a page that the page table lists.
 fn under_fault(btt: &[u8], ptt: &[u8]) -> Option<BadImage>
@@ -89,7 +24,8 @@ fn under_fault(btt: &[u8], ptt: &[u8]) -> Option<BadImage>
 /// The first fault of the tables with these bytes, if they have one.
 #[tactic(auto, unfolding(crate::specs::TableFaults::tables_fault))]
 pub(crate) fn tables_fault(btt: &[u8], ptt: &[u8], geometry: &Geometry) -> Option<BadImage>
-    ensures { result ≡ fault_of_tables geometry.now (tables_from btt.now ptt.now) }
+    ensures { result
+        ≡ fault_of_tables geometry.now (record { btt = table_in btt.now; ptt = table_in ptt.now }) }
 {
     let p = geometry.numbers();
     let index = index_fault(btt, 0, geometry.memory_blocks()).or(index_fault(ptt, p.btt, p.pages));

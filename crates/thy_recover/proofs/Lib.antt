@@ -2,7 +2,6 @@ pub mod CountLemmas
 pub mod ListedLemmas
 pub mod LiveLemmas
 pub mod WorkLemmas
-pub mod RecordLemmas
 pub mod StartLemmas
 pub mod PositionLemmas
 pub mod SlotLemmas

@@ -4,7 +4,8 @@ use Rattle.std.proofs.lemmas.Bool.{cases_eq, cases_lt}
 use Rattle.std.proofs.lemmas.List.{length-set, get_or-set_same, get_or-set_other}
 use Rattle.thy_base.specs.declared.config.Parameters.{Parameters}
 use Rattle.thy_base.specs.Store.{page_of}
-use Rattle.thy_record.specs.Tables.{Tables, Lists, IsTables, entry_at}
+use Rattle.thy_layout.specs.Entries.{Lists, entry_at}
+use Rattle.thy_record.specs.Tables.{Tables, IsTables}
 use Rattle.thy_control.specs.State.{State, AreSoundTables}
 use Rattle.thy_control.specs.CheckpointTables.{tables0}
 use Rattle.thy_control.specs.Boot.{MayListBlock, MayListPage, TablesMayListBlock, TablesMayListPage, with_block, with_page}

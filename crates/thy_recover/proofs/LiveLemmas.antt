@@ -4,7 +4,7 @@ use Rattle.std.proofs.Math.ListN.{get_or-map}
 use Rattle.thy_base.specs.Geometry.{memory_blocks}
 use Rattle.thy_dram.specs.Contents.{Contents}
 use Rattle.thy_base.specs.declared.config.Parameters.{Parameters}
-use Rattle.thy_record.specs.Tables.{entry_at}
+use Rattle.thy_layout.specs.Entries.{entry_at}
 use Rattle.thy_table.specs.Listing.{entry_at as live_at}
 use Rattle.thy_table.proofs.IndexLemmas.{lists-key}
 use Rattle.thy_table.specs.declared.block_entry.BttEntry.{BttEntry}

@@ -10,7 +10,8 @@ use Rattle.thy_base.specs.Places.{image_blocks, number_of}
 use Rattle.thy_base.proofs.BasicLemmas.{some_same}
 use Rattle.thy_dram.specs.Contents.{Contents}
 use Rattle.thy_record.specs.Slots.{tables_in}
-use Rattle.thy_record.specs.Tables.{Tables, entry_at}
+use Rattle.thy_layout.specs.Entries.{entry_at}
+use Rattle.thy_record.specs.Tables.{Tables}
 use Rattle.thy_table.specs.Listing.{entry_at as live_at, first_from}
 use Rattle.thy_table.proofs.FirstLemmas.{first_from-first, first_from-is, none-first_from}
 use Rattle.thy_cell.specs.BetweenCheckpoints.{FrameLoads}

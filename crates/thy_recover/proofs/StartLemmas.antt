@@ -1,26 +1,39 @@
 -- The slot of a start: tables that list nothing, and counts of 0.
-use Rattle.std.proofs.Common.{◌≡◌, ℕ, ◌+◌, ◌-◌, ◌*◌, ◌%◌, ◌<◌, ◌≤◌, List, ◌++◌, length, map, take, drop, replicate, Option, None, refl, sym, ◌∙◌, ap, inl, inr, arith}
+use Rattle.std.proofs.Common.{◌≡◌, ℕ, ◌+◌, ◌-◌, ◌*◌, ◌%◌, ◌<◌, ◌≤◌, List, ◌++◌, map, take, drop, replicate, slice_index_or, Option, None, refl, sym, ◌∙◌, ap, subst, inl, inr, arith}
 use Rattle.std.proofs.lemmas.Bool.{cases_lt}
 use Rattle.std.proofs.lemmas.List.{drop-replicate, take-replicate, replicate-append-replicate, length-replicate, get_or-replicate, ext_get_or}
 use Rattle.std.proofs.lemmas.List.FromFn.{length-map-range_with_len, get_or-map-range_with_len}
+use Rattle.thy_base.specs.declared.block.Block.{Block}
 use Rattle.thy_base.specs.declared.config.Parameters.{Parameters}
+use Rattle.thy_base.specs.declared.layout_version.LayoutVersion.{LayoutVersion}
+use Rattle.thy_base.specs.declared.layout_version.LayoutVersion.TheVariants.{VersionTwo}
 use Rattle.thy_base.specs.declared.place.Place.TheVariants.{Home}
 use Rattle.thy_base.specs.Device.{zero_block}
-use Rattle.thy_base.specs.Geometry.{IsInRange}
+use Rattle.thy_base.specs.Geometry.{IsInRange, memory_blocks}
 use Rattle.std.specs.List.{range_with_len}
 use Rattle.thy_base.specs.LittleEndian.{number_bytes}
-use Rattle.thy_base.specs.Places.{record_blocks, table_blocks, slot_blocks}
+use Rattle.thy_base.specs.Places.{number_of, record_blocks, table_blocks, blocks_of_slot, slot_blocks}
 use Rattle.thy_base.specs.Store.{page_of}
 use Rattle.thy_base.proofs.BlockLemmas.{zero_block-at}
 use Rattle.thy_base.proofs.RangeLemmas.{btt_eights, ptt_eights}
 use Rattle.thy_isa.specs.Step.{State, cpu_of}
-use Rattle.thy_record.specs.Tables.{IsTables, entry_of, place_by_entries, place_of}
+use Rattle.thy_layout.specs.Entries.{entry_of}
+use Rattle.thy_record.specs.Tables.{IsTables, place_by_entries, place_of}
 use Rattle.thy_record.specs.TableBlocks.{table_block_of}
 use Rattle.thy_base.specs.Words.{block_of}
-use Rattle.thy_record.proofs.EntryLemmas.{entry_of-absent, lists_none}
-use Rattle.thy_record.specs.Slots.{AreCounts, byte_in, slot_block_of}
-use Rattle.thy_record.proofs.SlotLemmas.{slot_block_of-table, slot_block_of-count}
+use Rattle.thy_layout.proofs.EntryLemmas.{entry_of-absent, lists_none}
+use Rattle.thy_layout.specs.Commit.{commit_of, epoch_of, version_of}
+use Rattle.thy_layout.proofs.ReadBackLemmas.{epoch_of-commit_of, version_of-commit_of}
+use Rattle.thy_record.specs.ImageLaws.{ReadsBack}
+use Rattle.thy_record.specs.Images.{memory_numbers}
+use Rattle.thy_record.specs.Number.{scheme_number}
+use Rattle.thy_record.specs.Slots.{AreCounts, IsSlotOf, byte_in, slot_block_of, slot_fault}
+use Rattle.thy_record.proofs.SlotLemmas.{slot_block_of-table, slot_block_of-count, tables_in-back, slot_back}
 use Rattle.thy_record.proofs.TableLemmas.{table_block_of-entries}
+use Rattle.thy_view.specs.Safe.{ceiling}
+use Rattle.thy_boot.specs.Filling.{first_slot_of, first_by}
+use Rattle.thy_boot.specs.Start.{CanStart}
+use Rattle.thy_recover.specs.Filling.{filling_dual}
 use Rattle.thy_recover.specs.Start.{start_slot, no_tables, no_counts}
 
 -- ---- tables that list nothing
@@ -86,3 +99,41 @@ start_slot-zeros p s k r past inside = elim (cases_lt (k - record_blocks p) (tab
       zero_words ∙ sym (slot_block_of-count p (cpu_of s) (no_tables p) no_counts 0 (k - record_blocks p - table_blocks p))
       ∙ ap (slot_block_of p (cpu_of s) (no_tables p) no_counts 0) e
 ]
+
+-- ---- its slot, read back
+
+-- a commit block of epoch 0 is of version 2
+pub start_version : (p : Parameters) → version_of scheme_number p (commit_of 0) ≡ VersionTwo
+start_version p = version_of-commit_of scheme_number p 0
+
+module _ (p : Parameters) (s : State) where
+  abbrev slot : List Block
+  slot = first_slot_of filling_dual p s
+
+  first_slot_is : IsSlotOf p (cpu_of s) (no_tables p) no_counts 0 slot
+  first_slot_is = record {
+    each = λ k l. get_or-map-range_with_len (start_slot p s) 0 (blocks_of_slot (version_of scheme_number p (commit_of 0)) p) k k zero_block
+        (subst (λ (f : LayoutVersion). k < blocks_of_slot f p) (sym (start_version p)) l) (omega arith);
+  }
+
+  -- memory is to go home
+  pub first_memory : IsInRange p → (first_by filling_dual p s).parts.memory ≡ memory_numbers p (no_tables p)
+  first_memory range = ap (memory_numbers p) (tables_in-back p (cpu_of s) (no_tables p) no_counts 0 slot range (IsTables-none p) first_slot_is)
+
+  module _ (can : CanStart p s) where
+    pub first_back : ReadsBack p ceiling (cpu_of s) (no_tables p) no_counts 0 slot
+    first_back =
+        slot_back p ceiling (cpu_of s) (no_tables p) no_counts 0 slot can.geometry can.recordable (IsTables-none p) (AreCounts-none p)
+        (omega arith) (omega arith) first_slot_is
+
+    pub first_faultless : slot_fault (version_of scheme_number p (commit_of 0)) p ceiling (epoch_of (commit_of 0)) slot ≡ None
+    first_faultless =
+        ap (λ (f : LayoutVersion). slot_fault f p ceiling (epoch_of (commit_of 0)) slot) (start_version p)
+        ∙ ap (λ (e : ℕ). slot_fault VersionTwo p ceiling e slot) (epoch_of-commit_of 0 (omega arith)) ∙ first_back.faultless
+
+    -- each block at its home
+    pub first_place : (b : ℕ) → b < memory_blocks p → slice_index_or (first_by filling_dual p s).parts.memory b 0 ≡ number_of p (Home b)
+    first_place b inside =
+        ap (λ (xs : List ℕ). slice_index_or xs b 0) (first_memory can.geometry)
+        ∙ get_or-map-range_with_len (λ (b : ℕ). number_of p (place_of (no_tables p) b)) 0 (memory_blocks p) b b 0 inside (omega arith)
+        ∙ ap (number_of p) (place_of-none p b)

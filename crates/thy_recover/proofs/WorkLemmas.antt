@@ -10,7 +10,8 @@ use Rattle.thy_base.specs.Geometry.{memory_blocks}
 use Rattle.thy_base.specs.Places.{number_of}
 use Rattle.thy_base.specs.Store.{page_of}
 use Rattle.thy_base.proofs.DeviceLemmas.{newest-empty}
-use Rattle.thy_record.specs.Images.{memory_in, memory_numbers}
+use Rattle.thy_layout.specs.Layout.{blocks_at}
+use Rattle.thy_record.specs.Images.{memory_numbers}
 use Rattle.thy_record.specs.Tables.{place_of as place_in}
 use Rattle.thy_table.specs.Listing.{place_of}
 use Rattle.thy_table.specs.declared.block_entry.BttEntry.{BttEntry}
@@ -92,14 +93,14 @@ module _ (c : State) (n : Device) (sound : AreSoundTables c) (boot : IsBooting c
       ∙ ap (λ (y : Place). block_at n.image (number_of c.p y)) (sym ((law c sound).same_place b l))
 
   -- all of memory
-  pub loads-are : loads c n ≡ memory_in c.p (tables0 c) n.image
+  pub loads-are : loads c n ≡ blocks_at n.image (memory_numbers c.p (tables0 c))
   loads-are =
       let size : ℕ = memory_blocks c.p in
       let num : ℕ → ℕ = λ b. number_of c.p (place_in (tables0 c) b) in
       let size_a : length (loads c n) ≡ size = length-map (range_with_len 0 size) (work_of c n) ∙ length-range_with_len 0 size in
       let size_n : length (memory_numbers c.p (tables0 c)) ≡ size = length-map (range_with_len 0 size) num ∙ length-range_with_len 0 size in
-      let size_b : length (memory_in c.p (tables0 c) n.image) ≡ size = length-map (memory_numbers c.p (tables0 c)) (block_at n.image) ∙ size_n in
-      ext_get_or zero_block (loads c n) (memory_in c.p (tables0 c) n.image) (size_a ∙ sym size_b)
+      let size_b : length (blocks_at n.image (memory_numbers c.p (tables0 c))) ≡ size = length-map (memory_numbers c.p (tables0 c)) (block_at n.image) ∙ size_n in
+      ext_get_or zero_block (loads c n) (blocks_at n.image (memory_numbers c.p (tables0 c))) (size_a ∙ sym size_b)
       (λ i l.
       let inside : i < size = omega (arith, l, size_a) in
       get_or-map-range_with_len (work_of c n) 0 size i i zero_block inside (omega arith) ∙ work_stands i inside

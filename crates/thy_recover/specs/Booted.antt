@@ -9,9 +9,10 @@ use Rattle.thy_crash.specs.Saved.{Kept}
 use Rattle.thy_isa.specs.declared.state.CpuState.{CpuState}
 use Rattle.thy_isa.specs.OnBlocks.{state_from}
 use Rattle.thy_isa.specs.Step.{cpu_of}
-use Rattle.thy_record.specs.Commit.{epoch_of, version_of}
-use Rattle.thy_record.specs.Cpu.{cpu_of_record, IsRecordable}
-use Rattle.thy_record.specs.Header.{header_fault}
+use Rattle.thy_layout.specs.Commit.{epoch_of, version_of}
+use Rattle.thy_layout.specs.Cpu.{cpu_of_record, IsRecordable}
+use Rattle.thy_layout.specs.Header.{header_fault}
+use Rattle.thy_record.specs.Number.{scheme_number}
 use Rattle.thy_record.specs.Images.{slot_in}
 use Rattle.thy_record.specs.Issuing.{IsToldBy}
 use Rattle.thy_record.specs.Slots.{counts_in}
@@ -22,7 +23,7 @@ use Rattle.thy_control.specs.Stays.{HoldAll}
 use Rattle.thy_view.specs.Origin.{Origin, IsOrigin, at}
 use Rattle.thy_view.specs.Safe.{ceiling}
 use Rattle.thy_protocol.specs.Keeps.{Keeps}
-use Rattle.thy_protocol.specs.DualLayouts.{layout_of}
+use Rattle.thy_record.specs.DualLayouts.{layout_of}
 use Rattle.thy_boot.specs.declared.stage.Stage.TheVariants.{Over}
 use Rattle.thy_boot.specs.declared.stage.End.TheVariants.{Restored, Loaded}
 use Rattle.thy_boot.specs.Boot.{Booting, slot_read}
@@ -35,7 +36,7 @@ use Rattle.thy_recover.specs.Start.{no_tables}
 -- checkpoint's record can hold the processor
 pub record LoadsState (o : Origin) (m : Mark) (cpu : CpuState) (n : Device) (c : State) : Type 0 where
   pub booting : IsBooting c
-  pub header : header_fault (newest n 0) o.geometry true ≡ None
+  pub header : header_fault scheme_number (newest n 0) o.geometry true ≡ None
   pub holds : HoldAll c n
   pub state : state_from o.geometry cpu (loads c n) ≡ at o m.count
   pub counted : (at o m.count).count ≡ m.count
@@ -55,7 +56,7 @@ RestoredIsBooted =
     (o : Origin) (g : BootImages) (n : Device) (b : Booting) (c : State)
     → IsOrigin o → IsSoundBoot filling_dual o g n b c → b.stage ≡ Over Restored
     → (m : Mark) × (g.kept ≡ Some m) × (m.epoch ≡ epoch_of b.commit) × Keeps o (layout_of o) n (Kept g.before) (Some m) None
-    × IsBooted o m (cpu_of_record b.p (slot_read filling_dual b)) (version_of b.p b.commit) g.before n c
+    × IsBooted o m (cpu_of_record b.p (slot_read filling_dual b)) (version_of scheme_number b.p b.commit) g.before n c
 
 -- after loading these are the start's, with tables that list nothing
 pub record IsStarted (o : Origin) (g : BootImages) (n : Device) (c : State) : Type 0 where

@@ -4,18 +4,15 @@ use Rattle.std.specs.Prelude.{◌≡◌, ℕ, ◌+◌, ◌*◌, ◌/◌, ◌%◌
 use Rattle.std.specs.List.{range_with_len}
 use Rattle.thy_base.specs.declared.block.Block.{Block}
 use Rattle.thy_base.specs.declared.config.Parameters.{Parameters}
-use Rattle.thy_base.specs.declared.layout_version.LayoutVersion.{LayoutVersion}
 use Rattle.thy_base.specs.declared.place.Place.TheVariants.{AlternatePage, Frame}
 use Rattle.thy_base.specs.Device.{Device}
 use Rattle.thy_base.specs.Geometry.{memory_blocks}
-use Rattle.thy_base.specs.Places.{number_of, slot_blocks}
+use Rattle.thy_base.specs.Places.{number_of}
 use Rattle.thy_dram.specs.Contents.{written}
-use Rattle.thy_isa.specs.Step.{State as Plain, cpu_of}
-use Rattle.thy_record.specs.Commit.{commit_of, version_of}
-use Rattle.thy_record.specs.Cpu.{cpu_of_record}
-use Rattle.thy_record.specs.Header.{header_of}
-use Rattle.thy_record.specs.Slots.{tables_in, counts_in, count_fault}
-use Rattle.thy_record.specs.Tables.{entry_at}
+use Rattle.thy_layout.specs.Commit.{version_of}
+use Rattle.thy_record.specs.Number.{scheme_number}
+use Rattle.thy_record.specs.Slots.{tables_in, counts_in}
+use Rattle.thy_layout.specs.Entries.{entry_at}
 use Rattle.thy_table.specs.Listing.{first_from}
 use Rattle.thy_cell.specs.Sound.{Holds}
 use Rattle.thy_control.specs.State.{State, AreSoundTables, cell_of, work_of, reads}
@@ -23,11 +20,9 @@ use Rattle.thy_control.specs.Boot.{IsBooting, MayFrame, framed_block}
 use Rattle.thy_control.specs.CheckpointTables.{tables0}
 use Rattle.thy_control.specs.Drains.{after_drain}
 use Rattle.thy_control.specs.Stays.{HoldAll}
-use Rattle.thy_protocol.specs.DualLayouts.{dual_layouts}
-use Rattle.thy_protocol.specs.DualParts.{parts_by}
-use Rattle.thy_boot.specs.Filling.{FillingOf, First}
-use Rattle.thy_boot.specs.Start.{CanStart, start_blocks}
-use Rattle.thy_recover.specs.Start.{no_tables, no_counts}
+use Rattle.thy_record.specs.DualLayouts.{dual_layouts}
+use Rattle.thy_boot.specs.Filling.{FillingOf}
+use Rattle.thy_recover.specs.Start.{start_slot}
 
 -- the position itself, if its entry lists a page, else the first block of the next page that is listed
 abbrev pub position_in : ℕ → Option ℕ → Option ℕ
@@ -60,30 +55,12 @@ pub record IsEmpty (c : State) : Type 0 where
   pub tables : AreSoundTables c
   pub fresh : IsFresh c
 
--- its tables are sound and it lists nothing, and it has the counts that these first blocks of a slot have, unless one of
--- them is at fault. A block that is not there has counts of 0
-pub record HasTakenUp (version : LayoutVersion) (blocks : List Block) (c : State) : Type 0 where
-  pub tables : AreSoundTables c
-  pub booting : IsBooting c
-  pub no_blocks : (k : ℕ) → entry_at (tables0 c).btt k ≡ None
-  pub no_pages : (k : ℕ) → entry_at (tables0 c).ptt k ≡ None
-  pub counts : count_fault version c.p blocks ≡ None → c.counts.lasts ≡ counts_in version c.p blocks
-
 -- its tables are sound, it lists what those of a slot do, and it has the slot's counts
 pub record ListsSlot (commit : Block) (slot : List Block) (c : State) : Type 0 where
   pub tables : AreSoundTables c
   pub booting : IsBooting c
   pub are : tables0 c ≡ tables_in c.p slot
-  pub counts : c.counts.lasts ≡ counts_in (version_of c.p commit) c.p slot
-
--- what a start makes of an empty NVM: every block of memory at home, and tables that list nothing
-abbrev pub first_of_start : Parameters → Plain → First
-first_of_start p s = record {
-  header = header_of p;
-  commit = commit_of 0;
-  parts = parts_by p (cpu_of s) (no_tables p) no_counts 0;
-  memory = start_blocks p s;
-}
+  pub counts : c.counts.lasts ≡ counts_in (version_of scheme_number c.p commit) c.p slot
 
 -- listing and filling leave the counts of the stores of this epoch, and the room of the DRAM's queue, which has one
 -- write more at most
@@ -95,14 +72,10 @@ pub record HasFilled (c e : State) : Type 0 where
 abbrev pub filling_dual : FillingOf State
 filling_dual = record {
   layouts = dual_layouts;
-  most_slot = slot_blocks;
-  cpu_in = cpu_of_record;
   p = λ c. c.p;
   dram = λ c. c.dram;
   drained = after_drain;
   fresh = IsEmpty;
-  early_fault = λ p commit blocks. count_fault (version_of p commit) p blocks;
-  taken = λ commit blocks c. HasTakenUp (version_of c.p commit) blocks c;
   lists = ListsSlot;
   filled = λ c n k. (i m : ℕ) → MayFrame i m c → 64 * i + m < k → Holds (reads c n) (cell_of c (framed_block i m c));
   whole = HoldAll;
@@ -112,6 +85,5 @@ filling_dual = record {
   with_fill = λ commit k block c. with_filled k block c;
   keeps = HasFilled;
   loads = loads;
-  starts = CanStart;
-  first = first_of_start;
+  first_slot = start_slot;
 }

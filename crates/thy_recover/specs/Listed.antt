@@ -1,15 +1,10 @@
 -- A controller that lists what a checkpoint's tables list, as far as they were gone through.
-use Rattle.std.specs.Prelude.{◌≡◌, ℕ, ◌<◌, ◌≤◌, nat_lt, Bool, true, false, List, length, Option, Some, None}
-use Rattle.thy_base.specs.declared.block.Block.{Block}
-use Rattle.thy_base.specs.declared.config.Parameters.{Parameters}
-use Rattle.thy_base.specs.declared.layout_version.LayoutVersion.{LayoutVersion}
-use Rattle.thy_record.specs.declared.bad_image.BadImage.{BadImage}
-use Rattle.thy_record.specs.Slots.{count_byte}
-use Rattle.thy_record.specs.Tables.{Tables, entry_at}
+use Rattle.std.specs.Prelude.{◌≡◌, ℕ, ◌<◌, ◌≤◌, List, length, None}
+use Rattle.thy_layout.specs.Entries.{entry_at}
+use Rattle.thy_record.specs.Tables.{Tables}
 use Rattle.thy_control.specs.State.{State}
 use Rattle.thy_control.specs.CheckpointTables.{tables0}
-use Rattle.thy_control.specs.Boot.{IsBooting, with_listed_count}
-use Rattle.thy_recover.specs.Filling.{HasTakenUp}
+use Rattle.thy_control.specs.Boot.{IsBooting}
 
 -- tables have the first i entries of one table and the first j of the other, and are empty from there on
 pub record HaveFirst (i j : ℕ) (t u : Tables) : Type 0 where
@@ -30,16 +25,6 @@ pub record AsListed (i j : ℕ) (t : Tables) (old new : State) : Type 0 where
   pub lists : ListsUpTo i j t new
   pub same : record new { btt = old.btt; ptt = old.ptt } ≡ old
 
--- a count that is not at fault was set, if it is one of a page
-abbrev pub SetsCount : Bool → Parameters → List Block → ℕ → State → State → Type 0
-SetsCount true p slot i old new = (new ≡ with_listed_count i (count_byte p slot i) old) × IsBooting new
-SetsCount false p slot i old new = new ≡ old
-
-abbrev pub TakesCount : Parameters → List Block → ℕ → State → State → Option BadImage → Type 0
-TakesCount p slot i old new None = SetsCount (nat_lt i p.pages) p slot i old new
-TakesCount p slot i old new (Some bad) = new ≡ old
-
--- a controller has taken up the first blocks of a slot of a version, and is else as before
-pub record TakesCounts (version : LayoutVersion) (blocks : List Block) (old new : State) : Type 0 where
-  pub taken : HasTakenUp version blocks new
-  pub same : record new { counts = record new.counts { lasts = old.counts.lasts } } ≡ old
+-- the controller with these counts of the epoch before
+abbrev pub with_lasts : List ℕ → State → State
+with_lasts lasts c = record c { counts = record c.counts { lasts = lasts } }

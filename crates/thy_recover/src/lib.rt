@@ -14,5 +14,5 @@ mod start;
 
 pub use frame::fill;
 pub use laws::{a_loaded_start_is_the_first, a_restart_is_the_kept_one, the_filling_is_lawful};
-pub use listing::{cpu_of_slot, fault_of_slot, list_slot, next_fill, slot_block, take_up};
-pub use start::{first_memory, first_slot};
+pub use listing::{list_slot, next_fill};
+pub use start::{first_place, first_slot};

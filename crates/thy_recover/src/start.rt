@@ -1,41 +1,32 @@
-//! The blocks of the checkpoint that a start makes.
-ghost use Rattle.std.specs.Prelude.{◌≡◌, ◌<◌, ◌+◌, length, slice_index_or};
-ghost use Rattle.thy_base.specs.Device.{block_at};
-ghost use Rattle.thy_base.specs.Places.{slot_blocks};
+//! The checkpoint that a start makes.
+ghost use Rattle.std.specs.Prelude.{◌≡◌, ◌<◌, slice_index_or};
+ghost use Rattle.thy_base.specs.Geometry.{memory_blocks};
+ghost use Rattle.thy_boot.specs.Filling.{first_by};
+ghost use Rattle.thy_boot.specs.Start.{CanStart};
 ghost use Rattle.thy_isa.specs.Step.{state_of};
-ghost use Rattle.thy_boot.specs.Start.{CanStart, IsStartFor};
-ghost use Rattle.thy_recover.specs.Filling.{first_of_start};
+ghost use Rattle.thy_layout.specs.Commit.{commit_of};
+ghost use Rattle.thy_record.specs.DualLayouts.{dual_layouts};
+ghost use Rattle.thy_recover.specs.Filling.{filling_dual};
 ghost use Rattle.thy_recover.specs.Start.{start_slot};
 
 use thy_base::{Block, Geometry, block_with};
-use thy_boot::start_block;
 use thy_isa::MachState;
-use thy_record::cpu_block;
+use thy_layout::cpu_block;
 
-/// The place that block `b` of a start's memory is written to, and that block.
-pub fn first_memory(geometry: &Geometry, state: &MachState, b: u64) -> (u64, Block)
+/// The place that block `b` of a start's memory is written to: its home.
+pub fn first_place(geometry: &Geometry, state: &MachState, b: u64) -> u64
     requires start { CanStart geometry.now (state_of state.now) }
-    requires inside { b < length (first_of_start geometry.now (state_of state.now)).parts.memory }
-    ensures place { result.0 ≡ slice_index_or (first_of_start geometry.now (state_of state.now)).parts.memory b 0 }
-    ensures block { result.1 ≡ block_at (first_of_start geometry.now (state_of state.now)).memory b }
+    requires inside { b < memory_blocks geometry.now }
+    ensures { result ≡ slice_index_or (first_by filling_dual geometry.now (state_of state.now)).parts.memory b 0 }
 {
-    (geometry.home(b), start_block(geometry, state, b))
-}
-
-/// The place that block `k` of its slot is written to, and that block.
-pub fn first_slot(geometry: &Geometry, state: &MachState, k: u64) -> (u64, Block)
-    requires start { CanStart geometry.now (state_of state.now) }
-    requires inside { k < (first_of_start geometry.now (state_of state.now)).parts.slot_blocks }
-    ensures place { result.0 ≡ (first_of_start geometry.now (state_of state.now)).parts.slot_place + k }
-    ensures block { result.1 ≡ (first_of_start geometry.now (state_of state.now)).parts.slot k }
-{
-    (geometry.slot(0) + k, start_slot_block(geometry, state, k))
+    let _state = state;
+    geometry.home(b)
 }
 
 /// Block `k` of a start's slot: the processor's record at epoch 0, and behind it tables that list nothing and counts of 0.
-fn start_slot_block(geometry: &Geometry, state: &MachState, k: u64) -> Block
-    requires place { k < slot_blocks geometry.now }
-    requires start { IsStartFor geometry.now (state_of state.now) }
+pub fn first_slot(geometry: &Geometry, state: &MachState, k: u64) -> Block
+    requires start { CanStart geometry.now (state_of state.now) }
+    requires inside { k < (dual_layouts geometry.now).slot_blocks (commit_of 0) }
     ensures { result ≡ start_slot geometry.now (state_of state.now) k }
 {
     let _numbers = geometry.numbers();

@@ -1,8 +1,9 @@
 -- The buffers are filled from the journal, one entry after the other.
-use Rattle.std.proofs.Common.{◌≡◌, ℕ, ◌+◌, ◌*◌, ◌<◌, ◌≤◌, true, false, List, [], ◌∷◌, length, map, slice_set, is_some, Option, Some, None, refl, sym, ◌∙◌, ap, subst, inl, inr, arith}
+use Rattle.std.proofs.Common.{◌≡◌, ℕ, ◌+◌, ◌*◌, ◌<◌, ◌≤◌, true, false, List, [], length, slice_set, is_some, Option, Some, None, refl, sym, ◌∙◌, ap, subst, inl, inr, arith}
 use Rattle.std.specs.List.{range_with_len}
 use Rattle.std.proofs.lemmas.Bool.{cases_lt, cases_eq}
 use Rattle.std.proofs.lemmas.List.{length-set, get_or-set_same, get_or-set_other}
+use Rattle.std.proofs.lemmas.Simd.{map-map}
 use Rattle.thy_base.specs.declared.block.Block.{Block}
 use Rattle.thy_base.specs.declared.config.Parameters.{Parameters}
 use Rattle.thy_base.specs.Device.{Device, zero_block, block_at, newest}
@@ -10,15 +11,14 @@ use Rattle.thy_base.specs.Geometry.{memory_blocks}
 use Rattle.thy_base.specs.Places.{record_blocks}
 use Rattle.thy_base.proofs.DeviceLemmas.{newest-empty}
 use Rattle.thy_dram.specs.Contents.{written}
-use Rattle.thy_record.specs.Commit.{epoch_of}
-use Rattle.thy_record.specs.Tables.{entry_at as listed_at, Lists, entry_of}
-use Rattle.thy_record.proofs.EntryLemmas.{entry_of-Some, Lists-inside}
-use Rattle.thy_record.proofs.ImageLemmas.{map-alike}
-use Rattle.thy_record.proofs.IssuingLemmas.{half}
-use Rattle.thy_record.proofs.SlotLemmas.{length-entries_in}
-use Rattle.thy_protocol.specs.Layout.{slot_in, memory_in}
+use Rattle.thy_layout.specs.Commit.{epoch_of}
+use Rattle.thy_layout.specs.Entries.{entry_at as listed_at, Lists, entry_of}
+use Rattle.thy_layout.proofs.EntryLemmas.{entry_of-Some, Lists-inside}
+use Rattle.thy_layout.proofs.AskingLemmas.{map-alike}
+use Rattle.thy_layout.proofs.AskingLemmas.{half}
+use Rattle.thy_layout.proofs.SlotLemmas.{length-entries_in}
+use Rattle.thy_layout.specs.Layout.{slot_in, memory_in}
 use Rattle.thy_table.proofs.FirstLemmas.{first_from-first, first_from-is, none-first_from}
-use Rattle.thy_view.specs.Safe.{ceiling}
 use Rattle.thy_journal_image.specs.Places.{image_blocks, home_place, journal_place, place_by, place_of}
 use Rattle.thy_journal_image.specs.Slots.{table_in}
 use Rattle.thy_journal_image.specs.Layout.{journal_layouts}
@@ -28,10 +28,6 @@ use Rattle.thy_log.specs.Stores.{put_into}
 use Rattle.thy_log.proofs.StateLemmas.{IsSoundState-dram}
 use Rattle.thy_log.proofs.TableLemmas.{entry_for-is, length-table_of}
 use Rattle.thy_refill.specs.Filling.{HasListed, AreFilled, slot_named, next_entry}
-
-pub map_twice : (f : ℕ → Block) (g : ℕ → ℕ) (xs : List ℕ) → map (λ (x : ℕ). f (g x)) xs ≡ map f (map g xs)
-map_twice f g [] = refl
-map_twice f g (x ∷ xs) = ap (λ (r : List Block). f (g x) ∷ r) (map_twice f g xs)
 
 pub length-table_in : (p : Parameters) (slot : List Block) → length (table_in p slot) ≡ p.btt
 length-table_in p slot = length-entries_in slot (8 * record_blocks p) p.btt
@@ -135,7 +131,7 @@ module _ (s : State) (n : Device) (slot : List Block) (listed : HasListed slot s
 
   -- ---- all is filled
 
-  module _ (settled : n.queue ≡ []) (slot_is : slot_in (journal_layouts s.p ceiling) n.image ≡ slot) (whole : AreFilled s n s.p.btt) where
+  module _ (settled : n.queue ≡ []) (slot_is : slot_in (journal_layouts s.p) n.image ≡ slot) (whole : AreFilled s n s.p.btt) where
     abbrev named : ℕ
     named = slot_named (block_at n.image 1)
 
@@ -146,16 +142,15 @@ module _ (s : State) (n : Device) (slot : List Block) (listed : HasListed slot s
         let lists : Lists (table_of s) i b = entry_of-Some (table_of s) b i is in
         whole.each i b (entry_inside i b lists) lists ∙ newest-empty n (journal_place s.p named i) settled
 
-    work_placed : (b : ℕ) → work_of s n b ≡ block_at n.image (place_of s.p named (table_in s.p (slot_in (journal_layouts s.p ceiling) n.image)) b)
+    work_placed : (b : ℕ) → work_of s n b ≡ block_at n.image (place_of s.p named (table_in s.p (slot_in (journal_layouts s.p) n.image)) b)
     work_placed b =
         ap (work_by s n b) (sym (entry_for-is s b listed.state))
         ∙ work_stands b (entry_of (table_of s) b) refl
         ∙ ap (λ (t : List (Option ℕ)). block_at n.image (place_of s.p named t b)) (listed.table ∙ ap (table_in s.p) (sym slot_is))
 
-    pub works_are_memory : works s n ≡ memory_in (journal_layouts s.p ceiling) n.image
+    pub works_are_memory : works s n ≡ memory_in (journal_layouts s.p) n.image
     works_are_memory =
-        map-alike (work_of s n)
-        (λ (b : ℕ). block_at n.image (place_of s.p named (table_in s.p (slot_in (journal_layouts s.p ceiling) n.image)) b))
-        (range_with_len 0 (memory_blocks s.p)) (λ b inside. work_placed b)
-        ∙ map_twice (block_at n.image) (place_of s.p named (table_in s.p (slot_in (journal_layouts s.p ceiling) n.image)))
-        (range_with_len 0 (memory_blocks s.p))
+        let place : ℕ → ℕ = place_of s.p named (table_in s.p (slot_in (journal_layouts s.p) n.image)) in
+        let blocks : List ℕ = range_with_len 0 (memory_blocks s.p) in
+        map-alike (work_of s n) (λ (b : ℕ). block_at n.image (place b)) blocks (λ b inside. work_placed b)
+        ∙ sym (map-map (block_at n.image) place blocks)

@@ -1,29 +1,17 @@
 -- What holds of filling the log.
-use Rattle.std.proofs.Common.{◌%◌, refl, ◌∙◌, ap, inr, arith}
+use Rattle.std.proofs.Common.{refl, inr, arith}
 use Rattle.thy_base.specs.Device.{newest}
-use Rattle.thy_isa.proofs.BlockLaws.{count-state_from}
-use Rattle.thy_record.specs.Commit.{epoch_of}
-use Rattle.thy_record.specs.Cpu.{cpu_of_record}
-use Rattle.thy_record.proofs.IssuingLemmas.{half}
-use Rattle.thy_record.proofs.ReadBackLemmas.{epoch_of-commit_of, is_zero-commit_of}
 use Rattle.thy_boot.specs.Filling.{IsFilling}
-use Rattle.thy_boot.proofs.StartLemmas.{CanStart-origin}
 use Rattle.thy_journal_image.specs.Places.{journal_place}
-use Rattle.thy_journal_image.proofs.PartsLemmas.{slot_fits}
+use Rattle.thy_journal_image.proofs.LayoutLemmas.{journal_are_layouts}
 use Rattle.thy_log.proofs.DrainLemmas.{works_drained, IsSoundState-drained}
 use Rattle.thy_refill.specs.Filling.{filling_journal, slot_named}
 use Rattle.thy_refill.proofs.FillLemmas.{next_above, next_found, filled_all, listed_put, filled_put, works_are_memory}
-use Rattle.thy_refill.proofs.FirstLemmas.{start_parts, start_faultless, start_state, start_some, start_whole, start_once, fresh_loads}
+use Rattle.thy_refill.proofs.FirstLemmas.{start_fits, start_cpu, fresh_loads}
 
 pub log_is_filled : IsFilling filling_journal
 log_is_filled = record {
-  some_slot = λ p commit. omega arith;
-  most_room = λ p commit. omega arith;
-  head_inside = λ p. omega arith;
-  slot_inside = λ p header commit fits also. slot_fits p (epoch_of commit % 2) (half (epoch_of commit));
-  counts = λ p slot memory. count-state_from p (cpu_of_record p slot) memory;
-  early_none = λ p commit. refl;
-  none_taken = λ s commit fresh. fresh;
+  laid = journal_are_layouts;
   begins = λ s n commit slot lists. record { each = λ i b low listed. absurd (omega (arith, low)) };
   next = λ s n commit slot from k lists filled found. next_found s n slot lists from filled commit k found;
   above = λ p commit slot from k found. next_above p slot from k found;
@@ -40,24 +28,15 @@ log_is_filled = record {
   });
   fill_keeps = λ s commit k block. refl;
   same_keeps = λ s. refl;
-  left_keeps = λ s t u left keeps. keeps ∙ ap (λ x. x.room) left.same_dram;
   ends = λ s n commit slot from lists filled none settled long is slot_is.
       let whole = filled_all s n slot lists from filled none in (whole, works_are_memory s n slot lists settled slot_is whole);
   drain_p = λ s. refl;
   drain_fresh = λ s fresh. record { state = IsSoundState-drained s fresh.state; free = fresh.free };
-  drain_taken = λ s commit blocks fresh. record { state = IsSoundState-drained s fresh.state; free = fresh.free };
   drain_lists = λ s commit slot lists. record { state = IsSoundState-drained s lists.state; table = lists.table };
   drain_filled = λ s n k filled. record { each = filled.each };
   drain_whole = λ s n filled. record { each = filled.each };
   drain_loads = λ s n. works_drained s n;
-  origin_starts = CanStart-origin;
-  first_committed = λ p s starts. is_zero-commit_of 0;
-  first_epoch = λ p s starts. epoch_of-commit_of 0 (omega arith);
-  first_parts = start_parts;
-  first_some = start_some;
-  first_once = λ p s i j starts l m same. start_once p s starts i j l m same;
-  first_whole = start_whole;
-  first_faultless = start_faultless;
-  first_state = start_state;
+  first_fits = start_fits;
+  first_cpu = start_cpu;
   first_loads = λ s n start fresh settled. fresh_loads s n start fresh;
 }

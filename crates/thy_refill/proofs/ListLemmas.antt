@@ -5,16 +5,18 @@ use Rattle.std.proofs.lemmas.List.{ext_get_or}
 use Rattle.thy_base.specs.declared.block.Block.{Block}
 use Rattle.thy_base.specs.declared.config.Parameters.{Parameters}
 use Rattle.thy_base.specs.Geometry.{memory_blocks}
-use Rattle.thy_record.specs.Tables.{entry_at as listed_at}
+use Rattle.thy_dram.specs.Contents.{Contents}
+use Rattle.thy_layout.specs.Entries.{entry_at as listed_at}
 use Rattle.thy_table.specs.Listing.{entry_at, lists, place_of}
 use Rattle.thy_table.proofs.ListingLaws.{place_of-none, entry_at-with_same, entry_at-with_other}
+use Rattle.thy_boot.specs.Filling.{ListsOn}
 use Rattle.thy_journal_image.specs.Slots.{IsTable, table_in}
 use Rattle.thy_log.specs.Keys.{block_key}
 use Rattle.thy_log.specs.State.{State, IsSoundState, table_of}
 use Rattle.thy_log.specs.Stores.{with_listing_at}
 use Rattle.thy_log.proofs.TableLemmas.{length-table_of, listed_at-table_of, key_of}
-use Rattle.thy_refill.specs.Filling.{IsFresh}
-use Rattle.thy_refill.specs.Listed.{ListsAll, ListsUpTo}
+use Rattle.thy_refill.specs.Filling.{IsFresh, filling_journal}
+use Rattle.thy_refill.specs.Listed.{ListsUpTo}
 use Rattle.thy_refill.proofs.FillLemmas.{length-table_in}
 
 pub lists_start : (slot : List Block) (s : State) → IsFresh s → ListsUpTo 0 slot s s
@@ -97,8 +99,9 @@ lists_none_more i slot s h is = record {
 
 -- ---- all of them
 
-pub lists_all : (slot : List Block) (old s : State) (i : ℕ) → old.p.btt ≤ i → ListsUpTo i slot old s → ListsAll slot old s
-lists_all slot old s i past h =
+pub lists_all : (slot : List Block) (old s : State) (i : ℕ) → old.p.btt ≤ i → ListsUpTo i slot old s
+    → (commit : Block) → ListsOn filling_journal commit slot old s
+lists_all slot old s i past h commit =
     let btt : s.p.btt ≡ old.p.btt = ap (λ (p : Parameters). p.btt) h.same_p in
     let long : length (table_of s) ≡ s.p.btt = length-table_of s ∙ h.state.size in
     record {
@@ -110,8 +113,7 @@ lists_all slot old s i past h =
             listed_at-table_of s j ∙ h.below j (omega (arith, l, long, btt, past))
             ∙ ap (λ (p : Parameters). listed_at (table_in p slot) j) (sym h.same_p));
       };
-      same_p = h.same_p;
-      same_dram = h.same_dram;
+      left = record { same_p = h.same_p; same_dram = h.same_dram; keeps = ap (λ (d : Contents). d.room) h.same_dram };
     }
 
 -- ---- for a log of a geometry

@@ -5,9 +5,9 @@ use Rattle.thy_base.specs.declared.config.Parameters.{Parameters}
 use Rattle.thy_base.specs.Geometry.{IsInRange}
 use Rattle.thy_base.specs.Words.{block_of}
 use Rattle.thy_base.proofs.RangeLemmas.{btt_eights}
-use Rattle.thy_record.specs.TableBlocks.{entry_word}
-use Rattle.thy_journal_image.specs.Slots.{table_block_of}
-use Rattle.thy_log.proofs.TableLemmas.{eight_of, block_of_eight}
+use Rattle.thy_layout.specs.Entries.{entry_word}
+use Rattle.thy_layout.specs.TableSlots.{table_block_of}
+use Rattle.thy_layout.proofs.EightLemmas.{eight_of, block_of_eight}
 use Rattle.thy_refill.specs.Filling.{no_table}
 
 pub table_block-none : (p : Parameters) (k : ℕ) → IsInRange p → k < p.btt / 8 → block_of (replicate 8 0) ≡ table_block_of (no_table p) k

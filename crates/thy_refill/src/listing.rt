@@ -1,22 +1,25 @@
 //! What the table of a slot lists, given to the log.
 ghost use Rattle.std.specs.Prelude.{◌≡◌, ◌+◌, ◌*◌, ◌<◌, length};
-ghost use Rattle.thy_record.specs.Files.{blocks_of};
+ghost use Rattle.thy_base.specs.declared.block.Block.{Block};
+ghost use Rattle.thy_layout.specs.Files.{blocks_of};
+ghost use Rattle.thy_boot.specs.Filling.{ListsOn};
 ghost use Rattle.thy_journal_image.specs.Places.{slot_blocks};
 ghost use Rattle.thy_journal_image.specs.Slots.{IsTable, table_in};
-ghost use Rattle.thy_refill.specs.Filling.{IsFresh};
-ghost use Rattle.thy_refill.specs.Listed.{ListsAll, ListsUpTo};
+ghost use Rattle.thy_refill.specs.Filling.{IsFresh, filling_journal};
+ghost use Rattle.thy_refill.specs.Listed.{ListsUpTo};
 
 use thy_base::Geometry;
+use thy_journal_image::listed_block;
 use thy_log::Log;
-use thy_record::listed_block;
 
-/// Lists in a log that lists nothing what the table of a slot does, each block at the slot's entry.
+/// Lists in a log that lists nothing what the table of a slot does, each block at the slot's entry. So it lists the
+/// slot's checkpoint, whatever the commit block.
 pub fn list_all(slot: &[u8], geometry: &Geometry, log: &mut Log)
     requires slot { length slot.now ≡ 64 * slot_blocks geometry.now }
     requires geometry { log.old.p ≡ geometry.now }
     requires table { IsTable geometry.now (table_in geometry.now (blocks_of slot.now)) }
     requires fresh { IsFresh log.old }
-    ensures { ListsAll (blocks_of slot.now) log.old log.new }
+    ensures { (commit : Block) → ListsOn filling_journal commit (blocks_of slot.now) log.old log.new }
 {
     let entries = geometry.numbers().btt as usize;
     for i in 0..entries {

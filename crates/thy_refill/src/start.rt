@@ -1,19 +1,19 @@
 //! The slot of the checkpoint that a start makes.
 ghost use Rattle.std.specs.Prelude.{◌≡◌, ◌<◌};
 ghost use Rattle.thy_isa.specs.Step.{state_of, cpu_of};
-ghost use Rattle.thy_boot.specs.Start.{IsStartFor};
+ghost use Rattle.thy_boot.specs.Start.{CanStart};
 ghost use Rattle.thy_journal_image.specs.Places.{slot_blocks};
-ghost use Rattle.thy_journal_image.specs.Slots.{slot_block_of};
+ghost use Rattle.thy_layout.specs.TableSlots.{slot_block_of};
 ghost use Rattle.thy_refill.specs.Filling.{no_table};
 
 use thy_base::{Block, Geometry, block_with};
 use thy_isa::MachState;
-use thy_record::cpu_block;
+use thy_layout::cpu_block;
 
 /// Block `k` of a start's slot: the processor's record at epoch 0, and after it a table that lists nothing.
 pub fn start_slot_block(geometry: &Geometry, state: &MachState, k: u64) -> Block
     requires place { k < slot_blocks geometry.now }
-    requires start { IsStartFor geometry.now (state_of state.now) }
+    requires start { CanStart geometry.now (state_of state.now) }
     ensures { result ≡ slot_block_of geometry.now (cpu_of (state_of state.now)) (no_table geometry.now) 0 k }
 {
     let _numbers = geometry.numbers();

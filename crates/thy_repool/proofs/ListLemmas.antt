@@ -1,17 +1,17 @@
 -- While no frame is filled, each block loads as it is at its place by the committed map.
-use Rattle.std.proofs.Common.{◌≡◌, ℕ, ◌%◌, ◌<◌, List, [], ◌∷◌, map, Contains, Option, None, refl, sym, ◌∙◌, ap, arith}
+use Rattle.std.proofs.Common.{◌≡◌, ℕ, ◌%◌, ◌<◌, List, [], map, Contains, Option, None, sym, ◌∙◌, ap, arith}
 use Rattle.std.specs.List.{range_with_len}
+use Rattle.std.proofs.lemmas.Simd.{map-map}
 use Rattle.thy_base.specs.declared.block.Block.{Block}
 use Rattle.thy_base.specs.Device.{Device, block_at, newest}
 use Rattle.thy_base.specs.Geometry.{memory_blocks}
 use Rattle.thy_base.specs.Store.{page_of}
-use Rattle.thy_record.proofs.ImageLemmas.{map-alike}
-use Rattle.thy_protocol.specs.Layout.{slot_in, memory_in}
+use Rattle.thy_layout.proofs.AskingLemmas.{map-alike}
+use Rattle.thy_layout.specs.Layout.{slot_in, memory_in}
 use Rattle.thy_base.proofs.BasicLemmas.{Contains-range}
 use Rattle.thy_table.specs.Listing.{lists}
 use Rattle.thy_table.proofs.ListingLaws.{place_of-none}
 use Rattle.thy_base.proofs.DeviceLemmas.{newest-empty}
-use Rattle.thy_view.specs.Safe.{ceiling}
 use Rattle.thy_shadow_image.specs.Places.{pool_place, pool_page, place_of}
 use Rattle.thy_shadow_image.specs.Slots.{table_in}
 use Rattle.thy_shadow_image.specs.Layout.{shadow_layouts}
@@ -21,10 +21,6 @@ use Rattle.thy_pool.specs.Keys.{page_key}
 use Rattle.thy_pool.specs.State.{State, frame_of, pool_of, committed_place, committed_table, work_by, work_of}
 use Rattle.thy_pool.proofs.TableLemmas.{listed_at-table_by, entry_page}
 use Rattle.thy_repool.specs.Filling.{IsUnframed, HasListed}
-
-pub map_twice : (f : ℕ → Block) (g : ℕ → ℕ) (xs : List ℕ) → map (λ (x : ℕ). f (g x)) xs ≡ map f (map g xs)
-map_twice f g [] = refl
-map_twice f g (x ∷ xs) = ap (λ (r : List Block). f (g x) ∷ r) (map_twice f g xs)
 
 -- a block of memory has a number below memory's
 pub below : (n b : ℕ) → Contains (range_with_len 0 n) b → b < n
@@ -48,11 +44,11 @@ pub works_stand : (s : State) (n : Device) → IsUnframed s → works s n ≡ ma
 works_stand s n h =
     map-alike (work_of s n) (λ (b : ℕ). newest n (place_of s.p (committed_table s) b)) (range_with_len 0 (memory_blocks s.p))
     (λ b inside. work_stands s n b h (below (memory_blocks s.p) b inside))
-    ∙ map_twice (newest n) (place_of s.p (committed_table s)) (range_with_len 0 (memory_blocks s.p))
+    ∙ sym (map-map (newest n) (place_of s.p (committed_table s)) (range_with_len 0 (memory_blocks s.p)))
 
 -- so with the map of the image's slot listed, memory is the image's
 pub works_are_memory : (s : State) (n : Device) (slot : List Block) → HasListed slot s → n.queue ≡ []
-    → slot_in (shadow_layouts s.p ceiling) n.image ≡ slot → works s n ≡ memory_in (shadow_layouts s.p ceiling) n.image
+    → slot_in (shadow_layouts s.p) n.image ≡ slot → works s n ≡ memory_in (shadow_layouts s.p) n.image
 works_are_memory s n slot h settled is =
     works_stand s n h.unframed
     ∙ map-alike (newest n) (block_at n.image) (memory_places s.p (committed_table s)) (λ x inside. newest-empty n x settled)

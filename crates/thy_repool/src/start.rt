@@ -1,15 +1,15 @@
 //! The slot of the checkpoint that a start makes.
 ghost use Rattle.std.specs.Prelude.{◌≡◌, ◌*◌, ◌<◌, take, drop};
 ghost use Rattle.thy_isa.specs.Step.{state_of, cpu_of};
-ghost use Rattle.thy_record.specs.Tables.{entry_at as listed_at};
-ghost use Rattle.thy_boot.specs.Start.{IsStartFor};
-ghost use Rattle.thy_journal_image.specs.Slots.{slot_block_of};
+ghost use Rattle.thy_layout.specs.Entries.{entry_at as listed_at};
+ghost use Rattle.thy_boot.specs.Start.{CanStart};
+ghost use Rattle.thy_layout.specs.TableSlots.{slot_block_of};
 ghost use Rattle.thy_shadow_image.specs.Places.{map_blocks, slot_blocks};
 ghost use Rattle.thy_repool.specs.Filling.{first_table};
 
 use thy_base::{Block, Geometry};
 use thy_isa::MachState;
-use thy_record::{cpu_block, table_block};
+use thy_layout::{cpu_block, table_block};
 
 // What a start's map lists at entry `x`: page `x` of the pool, or nothing past memory's last page.
 fn first_entry(geometry: &Geometry, x: u64) -> Option<u64>
@@ -37,7 +37,7 @@ fn first_entries(geometry: &Geometry, k: u64) -> [Option<u64>; 8]
 /// has the page of the pool with its number.
 pub fn start_slot_block(geometry: &Geometry, state: &MachState, k: u64) -> Block
     requires place { k < slot_blocks geometry.now }
-    requires start { IsStartFor geometry.now (state_of state.now) }
+    requires start { CanStart geometry.now (state_of state.now) }
     ensures { result ≡ slot_block_of geometry.now (cpu_of (state_of state.now)) (first_table geometry.now) 0 k }
 {
     let _numbers = geometry.numbers();

@@ -10,7 +10,7 @@ use Rattle.thy_base.specs.Counts.{Rose}
 use Rattle.thy_base.specs.Device.{Device, IsFramed, cut_to}
 use Rattle.thy_base.specs.Mix.{mix_next}
 use Rattle.thy_isa.specs.declared.state.Status.{Status}
-use Rattle.thy_record.specs.Decoded.{Decoded, Nothing as NothingLeft, Refused as RefusedImage, At}
+use Rattle.thy_layout.specs.Decoded.{Decoded, Nothing as NothingLeft, Refused as RefusedImage, At}
 use Rattle.thy_text.specs.Event.{Event, Cut, Ended as EndedEvent}
 use Rattle.thy_view.specs.declared.did.Did.{Did}
 use Rattle.thy_view.specs.declared.did.Did.TheVariants.{Loaded, Restarted, Retired, Sealed, Committed}
@@ -25,6 +25,7 @@ use Rattle.thy_view.specs.Safe.{ceiling}
 use Rattle.thy_view.specs.declared.error.CoreError.{CoreError}
 use Rattle.thy_view.specs.declared.error.CoreError.TheVariants.{Nvm as NvmFailed, Memory as NoMemory}
 use Rattle.thy_view.specs.Kind.{HasFailedToRead, KindOf, IsLawful, IsStep, CanStep}
+use Rattle.thy_view.proofs.AgainLaws.{goes_on_after_cut}
 use Rattle.thy_run.specs.Laws.{marks_of, released_of}
 use Rattle.thy_run.specs.Cuts.{is_end}
 use Rattle.thy_run.specs.Due.{due_of, is_told, shows_console, IsQuiet, IsTold}
@@ -202,7 +203,7 @@ module _ {M : Type 0} (K : KindOf M) (laws : IsLawful K) (plan : Plan) (p q : Pr
       let device : m' ≡ cut_to m (tear plan.config.tears q.passed) m'.image = cut.cut.device in
       let left : Decoded = K.decode o.geometry ceiling m'.image in
       let kept : AgreeBelow (line_of plan (turns_then plan turns r.did)) (cut_turns K plan (turns_then plan turns r.did) m') (reach (view_of_image o.start.count left)) = kept_agrees o (turns_then plan turns r.did) left in
-      let law = laws.recovers (line_of plan (turns_then plan turns r.did)) (k + 1) q.machine q'.machine m (tear plan.config.tears q.passed) m'.image noted.steps.is_step.at_next cut.powered cut.cut.crash in
+      let law = goes_on_after_cut K laws (line_of plan (turns_then plan turns r.did)) (k + 1) q.machine q'.machine m (tear plan.config.tears q.passed) m'.image noted.steps.is_step.at_next cut.powered cut.cut.crash in
       let was : K.view (line_of plan (turns_then plan turns r.did)) q'.machine m' ≡ view_of_image o.start.count left = ap (K.view (line_of plan (turns_then plan turns r.did)) q'.machine) device ∙ law.1 in
       let was_at : K.is_at (line_of plan (turns_then plan turns r.did)) (k + 1) q'.machine m' = subst (λ d. K.is_at (line_of plan (turns_then plan turns r.did)) (k + 1) q'.machine d) (sym device) law.0 in
       let so_far : AgreeBelow (line_of plan (turns_then plan turns r.did)) (cut_turns K plan (turns_then plan turns r.did) m') (reach (K.view (line_of plan (turns_then plan turns r.did)) q'.machine m')) =

@@ -3,7 +3,7 @@ use Rattle.std.proofs.Common.{◌≡◌, ◌⊎◌, ℕ, ◌-◌, ◌≤◌, Boo
 use Rattle.thy_base.specs.declared.mark.Mark.{Mark}
 use Rattle.thy_base.specs.Device.{Device}
 use Rattle.thy_base.specs.Marks.{mark}
-use Rattle.thy_record.specs.Decoded.{Decoded, Reading, Nothing as NothingLeft, Refused as RefusedImage, At}
+use Rattle.thy_layout.specs.Decoded.{Decoded, Reading, Nothing as NothingLeft, Refused as RefusedImage, At}
 use Rattle.thy_text.specs.Marks.{Marks, loading_marks, turns_of}
 use Rattle.thy_view.specs.declared.view.Phase.{Phase}
 use Rattle.thy_view.specs.declared.view.Phase.TheVariants.{Boot as BootPhase, Run, Halt}

@@ -3,7 +3,7 @@ use Rattle.std.proofs.Common.{◌≡◌, ◌⊎◌, ℕ, ◌≤◌, Bool, false,
 use Rattle.thy_base.specs.declared.cause.EndCause.{EndCause}
 use Rattle.thy_base.specs.declared.mark.Mark.{Mark}
 use Rattle.thy_base.specs.Device.{Device}
-use Rattle.thy_record.specs.Decoded.{Reading}
+use Rattle.thy_layout.specs.Decoded.{Reading}
 use Rattle.thy_text.specs.Event.{Event}
 use Rattle.thy_text.specs.Marks.{Marks, marks_from}
 use Rattle.thy_view.specs.declared.did.Did.{Did}

@@ -12,7 +12,7 @@ use Rattle.thy_text.specs.OneHart.{IsUntold}
 use Rattle.thy_text.proofs.Histories.{marks_from-append}
 use Rattle.thy_view.specs.CoreStep.{CoreStep}
 use Rattle.thy_view.specs.Origin.{Origin}
-use Rattle.thy_record.specs.Decoded.{Decoded}
+use Rattle.thy_layout.specs.Decoded.{Decoded}
 use Rattle.thy_view.specs.Safe.{ceiling, Safe}
 use Rattle.thy_view.specs.Views.{doubt_of}
 use Rattle.thy_view.proofs.SafeLemmas.{Safe-failed}

@@ -2,7 +2,7 @@
 -- How the images that the cuts left determine the restarts after them.
 use Rattle.std.specs.Prelude.{◌≡◌, ◌≢◌, ℕ, ◌<◌, List, [], ◌∷◌, Option, Some, None}
 use Rattle.thy_base.specs.declared.block.Block.{Block}
-use Rattle.thy_record.specs.Decoded.{Decoded, Nothing, At}
+use Rattle.thy_layout.specs.Decoded.{Decoded, Nothing, At}
 use Rattle.thy_text.specs.Event.{Event, Cut, Restart, Reload}
 
 -- what a restart can find: what the latest image means, and the cycle of the cut that left it if no event came since

@@ -5,7 +5,7 @@ use Rattle.thy_base.specs.Config.{IsRising}
 use Rattle.thy_base.specs.declared.mark.Mark.{Mark}
 use Rattle.thy_base.specs.declared.block.Block.{Block}
 use Rattle.thy_base.specs.Device.{Device, Crash, IsCut}
-use Rattle.thy_record.specs.Decoded.{Decoded, Nothing, Refused, At, Reading}
+use Rattle.thy_layout.specs.Decoded.{Decoded, Nothing, Refused, At, Reading}
 use Rattle.thy_view.specs.Kind.{KindOf}
 use Rattle.thy_text.specs.Event.{Event}
 use Rattle.thy_base.specs.Marks.{mark}

@@ -1,7 +1,7 @@
 //! What a run is to do.
 
 use thy_base::{Config, Geometry};
-use thy_record::Start;
+use thy_layout::Start;
 
 /// What a run is to do: its program, and how it is run.
 #[derive(Debug, Drop)]

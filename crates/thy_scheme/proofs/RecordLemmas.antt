@@ -7,7 +7,7 @@ use Rattle.thy_base.specs.Device.{Device}
 use Rattle.thy_flat.proofs.MemoryLaws.{length-console_bytes}
 use Rattle.thy_isa.specs.declared.state.CpuState.{CpuState}
 use Rattle.thy_isa.specs.OnBlocks.{state_from}
-use Rattle.thy_record.specs.declared.engine_step.EngineStep.TheVariants.{StateBlock, TableBlock}
+use Rattle.thy_layout.specs.declared.engine_step.EngineStep.TheVariants.{StateBlock, TableBlock}
 use Rattle.thy_scheme.specs.Scheme.{SchemeOf}
 use Rattle.thy_scheme.specs.Calls.{Keeps, IsDue}
 use Rattle.thy_scheme.specs.CheckpointMarks.{CheckpointMarks, marks_after}

@@ -7,7 +7,7 @@ use Rattle.thy_dram.specs.Contents.{drained}
 use Rattle.thy_isa.specs.declared.state.CpuState.{CpuState}
 use Rattle.thy_isa.specs.OnBlocks.{state_from}
 use Rattle.thy_isa.specs.Step.{cpu_of}
-use Rattle.thy_record.specs.Cpu.{IsRecordable}
+use Rattle.thy_layout.specs.Cpu.{IsRecordable}
 use Rattle.thy_view.specs.declared.boot_step.BootStep.{BootStep}
 use Rattle.thy_view.specs.declared.boot_step.BootStep.TheVariants.{GoesOn, Loaded, Restarted, Refused}
 use Rattle.thy_view.specs.declared.view.View.{View}

@@ -9,9 +9,9 @@ use Rattle.thy_base.specs.declared.block.Block.{Block}
 use Rattle.thy_dram.specs.Contents.{drained}
 use Rattle.thy_isa.specs.declared.state.CpuState.{CpuState}
 use Rattle.thy_isa.specs.OnBlocks.{state_from}
-use Rattle.thy_record.specs.Cpu.{IsRecordable}
-use Rattle.thy_record.specs.declared.engine_step.EngineStep.{EngineStep}
-use Rattle.thy_record.specs.declared.engine_step.EngineStep.TheVariants.{Idle, Copied, PageBlock, StateBlock, TableBlock, CommitWritten, Committed}
+use Rattle.thy_layout.specs.Cpu.{IsRecordable}
+use Rattle.thy_layout.specs.declared.engine_step.EngineStep.{EngineStep}
+use Rattle.thy_layout.specs.declared.engine_step.EngineStep.TheVariants.{Idle, Copied, PageBlock, StateBlock, TableBlock, CommitWritten, Committed}
 use Rattle.thy_view.specs.declared.did.Did.{Did}
 use Rattle.thy_view.specs.declared.did.Did.TheVariants.{Engine, Promoted, Committed as DidCommit}
 use Rattle.thy_view.specs.Action.{Action, IsAccess, after, FailsTo, Acts, ActionFailed}

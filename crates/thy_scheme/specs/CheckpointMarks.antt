@@ -2,8 +2,8 @@
 -- The checkpoints of a machine whose boot is over.
 use Rattle.std.specs.Prelude.{true, false, if◌then◌else◌, Bool, Option, None, unwrap_or}
 use Rattle.thy_base.specs.declared.mark.Mark.{Mark}
-use Rattle.thy_record.specs.declared.engine_step.EngineStep.{EngineStep}
-use Rattle.thy_record.specs.declared.engine_step.EngineStep.TheVariants.{CommitWritten, Committed}
+use Rattle.thy_layout.specs.declared.engine_step.EngineStep.{EngineStep}
+use Rattle.thy_layout.specs.declared.engine_step.EngineStep.TheVariants.{CommitWritten, Committed}
 
 pub record CheckpointMarks : Type 0 where
   -- the committed checkpoint

@@ -7,7 +7,7 @@ use Rattle.thy_base.specs.Device.{Device, drained, fitted}
 use Rattle.thy_base.specs.Geometry.{memory_blocks}
 use Rattle.thy_isa.specs.declared.state.CpuState.{CpuState}
 use Rattle.thy_isa.specs.OnBlocks.{state_from}
-use Rattle.thy_record.specs.Decoded.{Decoded, Nothing, Refused, At}
+use Rattle.thy_layout.specs.Decoded.{Decoded, Nothing, Refused, At}
 use Rattle.thy_view.specs.Booting.{view_of_image}
 use Rattle.thy_view.specs.Origin.{Origin, IsOrigin, at}
 use Rattle.thy_view.specs.Safe.{ceiling, Safe}

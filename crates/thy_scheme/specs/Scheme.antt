@@ -6,8 +6,8 @@ use Rattle.thy_base.specs.declared.config.Parameters.{Parameters}
 use Rattle.thy_base.specs.Device.{Device}
 use Rattle.thy_base.specs.Store.{Holding}
 use Rattle.thy_dram.specs.Contents.{Contents}
-use Rattle.thy_record.specs.Decoded.{Reading}
-use Rattle.thy_record.specs.declared.start.Start.{Start}
+use Rattle.thy_layout.specs.Decoded.{Reading}
+use Rattle.thy_layout.specs.declared.start.Start.{Start}
 use Rattle.thy_view.specs.declared.view.View.{View}
 use Rattle.thy_view.specs.Origin.{Origin, Begins}
 use Rattle.thy_scheme.specs.CheckpointMarks.{CheckpointMarks}

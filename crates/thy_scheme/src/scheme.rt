@@ -18,7 +18,7 @@ use std::alloc::{AllocError, Global};
 use thy_base::{Block, Geometry, Nvm, NvmError, Stored};
 use thy_dram::Dram;
 use thy_isa::CpuState;
-use thy_record::{EngineStep, Start};
+use thy_layout::{EngineStep, Start};
 use thy_view::BootStep;
 
 /// A scheme of checkpoints: memory over a DRAM and an NVM, of which it keeps a committed version while the next one is

@@ -1,11 +1,8 @@
-pub mod FitLemmas
 pub mod MapFaultLemmas
 pub mod TableRefusalLemmas
-pub mod HeadLemmas
 pub mod SlotLemmas
 pub mod PartsLemmas
 pub mod FreeLemmas
 pub mod MapLemmas
-pub mod FaultLemmas
-pub mod FileLemmas
 pub mod IndexLemmas
+pub mod LayoutLemmas

@@ -1,16 +1,15 @@
 -- A map has no fault exactly if a checkpoint may have it.
-use Rattle.std.proofs.Common.{◌≡◌, ℕ, zero, suc, ◌+◌, ◌*◌, ◌<◌, Bool, true, false, ◌&&◌, nat_lt, if◌then◌else◌, List, [], ◌∷◌, length, take, Option, Some, None, refl, sym, ◌∙◌, ap, inl, inr, arith, zero-add}
+use Rattle.std.proofs.Common.{◌≡◌, ℕ, zero, suc, ◌+◌, ◌*◌, ◌<◌, Bool, true, false, ◌&&◌, nat_lt, if◌then◌else◌, List, [], ◌∷◌, length, Option, Some, None, refl, sym, ◌∙◌, ap, inl, inr, arith, zero-add}
 use Rattle.std.proofs.lemmas.Bool.{cases_lt, lt-ltb, ltb-true}
 use Rattle.std.proofs.Math.Nat.{add-zero}
-use Rattle.std.specs.Option.{option_map}
 use Rattle.thy_base.specs.declared.config.Parameters.{Parameters}
-use Rattle.thy_record.specs.declared.bad_image.BadImage.TheVariants.{TableIndex}
-use Rattle.thy_record.specs.Tables.{Lists, entry_at}
-use Rattle.thy_record.specs.TableFaults.{twice_rule}
-use Rattle.thy_record.proofs.EntryLemmas.{Lists-inside, Lists-of_take, entry_of-absent}
-use Rattle.thy_record.proofs.TableFaultLemmas.{neither, both_none, unbroken, none_breaks, twice_asks}
+use Rattle.thy_layout.specs.declared.bad_image.BadImage.TheVariants.{TableIndex}
+use Rattle.thy_layout.specs.Entries.{Lists, entry_at}
+use Rattle.thy_layout.specs.EntryFaults.{twice_fault}
+use Rattle.thy_layout.proofs.EntryLemmas.{Lists-inside}
+use Rattle.thy_layout.proofs.EntryFaultLemmas.{neither, both_none, once, no_twins}
 use Rattle.thy_shadow_image.specs.Places.{map_blocks, pool_pages}
-use Rattle.thy_shadow_image.specs.Slots.{IsMap, stray, first_stray, index_fault, twice_fault, table_fault}
+use Rattle.thy_shadow_image.specs.Slots.{IsMap, stray, first_stray, index_fault, table_fault}
 
 -- ---- entry by entry
 
@@ -68,22 +67,6 @@ first_stray-each p k (e ∷ es) h =
 pub each_stray : (p : Parameters) (table : List (Option ℕ)) (x : ℕ) → index_fault p table ≡ None → x < length table → stray p x (entry_at table x) ≡ None
 each_stray p table x h l = ap (λ y. stray p y (entry_at table x)) (sym (zero-add x)) ∙ first_stray-None p 0 table h x l
 
--- ---- no page of the pool twice
-
-pub once : (table : List (Option ℕ)) → twice_fault table ≡ None → (x y q : ℕ) → Lists table x q → Lists table y q → x ≡ y
-once table h x y q a b = elim (cases_lt x y) as (λ _. x ≡ y) [
-  | inl below ↦ absurd (twice_asks 0 table x y q (unbroken (twice_rule 0 table) table h y q b) below a)
-  | inr above ↦ elim (cases_lt y x) as (λ _. x ≡ y) [
-    | inl over ↦ absurd (twice_asks 0 table y x q (unbroken (twice_rule 0 table) table h x q a) over b)
-    | inr level ↦ omega arith
-  ]
-]
-
-pub no_twins : (table : List (Option ℕ)) → ((x y q : ℕ) → Lists table x q → Lists table y q → x ≡ y) → twice_fault table ≡ None
-no_twins table one = none_breaks (twice_rule 0 table) table
-    (λ k n b. ap (option_map _) (entry_of-absent (take k table) n
-    (λ i l. let of = Lists-of_take table k i n l in let same = one i k n of.1 b in let low = of.0 in omega (arith, same, low))))
-
 -- ---- both ways
 
 pub IsMap-faultless : (p : Parameters) (table : List (Option ℕ)) → length table ≡ 8 * map_blocks p → table_fault p table ≡ None → IsMap p table
@@ -100,7 +83,7 @@ IsMap-faultless p table long none =
           (of.0, record { is = of.1 });
       of_page = λ x q l. (right x q l).0;
       in_pool = λ x q l. (right x q l).1;
-      once = once table parts.1;
+      once = once 0 table parts.1;
     }
 
 pub table_fault-none : (p : Parameters) (table : List (Option ℕ)) → IsMap p table → table_fault p table ≡ None
@@ -112,4 +95,4 @@ table_fault-none p table h =
     ∙ none_right p i (entry_at table i)
     (λ q is. let lists : Lists table i q = record { is = is } in (h.of_page i q lists, h.in_pool i q lists))
     (λ empty inside. let of = (h.mapped i inside).1 in let is = of.is in cc)))
-    (no_twins table h.once)
+    (no_twins 0 table h.once)

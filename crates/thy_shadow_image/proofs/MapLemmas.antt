@@ -6,8 +6,8 @@ use Rattle.std.specs.Option.{option_or}
 use Rattle.thy_base.specs.declared.block.Block.{Block}
 use Rattle.thy_base.specs.declared.config.Parameters.{Parameters}
 use Rattle.thy_base.specs.Places.{record_blocks}
-use Rattle.thy_record.specs.Tables.{entry_at}
-use Rattle.thy_record.proofs.SlotLemmas.{length-entries_in}
+use Rattle.thy_layout.specs.Entries.{entry_at}
+use Rattle.thy_layout.proofs.SlotLemmas.{length-entries_in}
 use Rattle.thy_shadow_image.specs.Places.{map_blocks}
 use Rattle.thy_shadow_image.specs.Slots.{table_in, stray, first_stray}
 

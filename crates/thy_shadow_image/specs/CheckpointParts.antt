@@ -1,4 +1,3 @@
--- Part of the claim.
 -- How a checkpoint of shadow paging is written: where its parts go, and that it is one once they were issued.
 use Rattle.std.specs.Prelude.{◌≡◌, ℕ, ◌%◌, ◌^◌, ◌<◌, ◌≤◌, true, List, map, Option, None}
 use Rattle.std.specs.List.{range_with_len}
@@ -9,22 +8,18 @@ use Rattle.thy_base.specs.Geometry.{IsInRange, memory_blocks}
 use Rattle.thy_crash.specs.Saved.{IsIssued, next_image}
 use Rattle.thy_isa.specs.declared.state.CpuState.{CpuState}
 use Rattle.thy_isa.specs.OnBlocks.{state_from}
-use Rattle.thy_record.specs.Commit.{commit_of, epoch_of}
-use Rattle.thy_record.specs.Cpu.{IsRecordable, cpu_of_record}
-use Rattle.thy_record.specs.Decoded.{At}
+use Rattle.thy_layout.specs.Commit.{commit_of, epoch_of}
+use Rattle.thy_layout.specs.Cpu.{IsRecordable, cpu_of_record}
+use Rattle.thy_layout.specs.Decoded.{At}
+use Rattle.thy_layout.specs.Header.{header_fault}
 use Rattle.thy_protocol.specs.Issuing.{CheckpointParts, AreIssued}
-use Rattle.thy_protocol.specs.Layout.{decode_by, looked_by, slot_in}
-use Rattle.thy_journal_image.specs.Slots.{slot_block_of}
-use Rattle.thy_shadow_image.specs.Places.{slot_blocks, slot_place, image_blocks, place_of}
-use Rattle.thy_shadow_image.specs.Header.{header_of, header_fault}
+use Rattle.thy_layout.specs.Layout.{decode_by, looked_by, slot_in}
+use Rattle.thy_layout.specs.TableSlots.{slot_block_of}
+use Rattle.thy_shadow_image.specs.Places.{scheme_number, slot_blocks, slot_place, image_blocks, place_of}
 use Rattle.thy_shadow_image.specs.Slots.{IsMap, table_in, slot_fault}
 use Rattle.thy_shadow_image.specs.Layout.{shadow_layouts}
 
--- ---- what is written reads back, block by block
-
--- a header has no fault in an image of its length
-abbrev pub HeaderReadsBack : Type 0
-HeaderReadsBack = (p : Parameters) → IsInRange p → header_fault (header_of p) p true ≡ None
+-- ---- a slot that is written reads back
 
 -- the blocks of the slot of a checkpoint
 abbrev pub slot_of_checkpoint : Parameters → CpuState → List (Option ℕ) → ℕ → List Block
@@ -71,22 +66,22 @@ pub record IsIssuing (p : Parameters) (n : Device) (cpu : CpuState) (table : Lis
   pub parts : AreIssued (image_blocks p) (parts_by p cpu table epoch) n memory k
 
 -- an image has the checkpoint of this epoch, with this map
-pub record IsToldBy (p : Parameters) (ceiling : ℕ) (image : List Block) (epoch : ℕ) (table : List (Option ℕ)) : Type 0 where
+pub record IsToldBy (p : Parameters) (image : List Block) (epoch : ℕ) (table : List (Option ℕ)) : Type 0 where
   pub of_epoch : epoch_of (block_at image 1) ≡ epoch
-  pub table_is : table_in p (slot_in (shadow_layouts p ceiling) image) ≡ table
+  pub table_is : table_in p (slot_in (shadow_layouts p) image) ≡ table
   pub whole : IsMap p table
 
 -- the next image, with the commit block of this epoch, is the checkpoint, tells its map, and lacks no other write
 pub record IsIssuedCheckpoint (p : Parameters) (ceiling : ℕ) (n : Device) (cpu : CpuState) (table : List (Option ℕ)) (epoch : ℕ)
     (memory : List Block) : Type 0 where
-  pub told : IsToldBy p ceiling (next_image n (commit_of epoch)) epoch table
-  pub decodes : decode_by (shadow_layouts p ceiling) (next_image n (commit_of epoch)) ≡ At epoch (state_from p cpu memory)
-  pub issued : IsIssued (looked_by (shadow_layouts p ceiling)) n (next_image n (commit_of epoch))
+  pub told : IsToldBy p (next_image n (commit_of epoch)) epoch table
+  pub decodes : decode_by (shadow_layouts p) ceiling (next_image n (commit_of epoch)) ≡ At epoch (state_from p cpu memory)
+  pub issued : IsIssued (looked_by (shadow_layouts p)) n (next_image n (commit_of epoch))
 
 -- with the whole slot issued, and any header there that has no fault
 abbrev pub IssuedDecodes : Type 0
 IssuedDecodes =
     (p : Parameters) (ceiling : ℕ) (n : Device) (cpu : CpuState) (table : List (Option ℕ)) (epoch : ℕ) (memory : List Block)
     → IsInRange p → IsRecordable p ceiling cpu → ceiling ≤ 2 ^ 64 → epoch < ceiling
-    → IsIssuing p n cpu table epoch memory (slot_blocks p) → header_fault (newest n 0) p true ≡ None
+    → IsIssuing p n cpu table epoch memory (slot_blocks p) → header_fault scheme_number (newest n 0) p true ≡ None
     → IsIssuedCheckpoint p ceiling n cpu table epoch memory

@@ -1,11 +1,9 @@
 -- Which writes leave a checkpoint of shadow paging alone.
-use Rattle.std.specs.Prelude.{◌≡◌, ◌≢◌, ℕ, ◌+◌, ◌%◌, ◌<◌, true, List, ◌∷◌, Contains, Option}
+use Rattle.std.specs.Prelude.{◌≢◌, ℕ, ◌+◌, ◌%◌, ◌<◌, List, ◌∷◌, Contains, Option}
 use Rattle.thy_base.specs.declared.block.Block.{Block}
 use Rattle.thy_base.specs.declared.config.Parameters.{Parameters}
-use Rattle.thy_base.specs.Device.{block_at}
-use Rattle.thy_record.specs.Commit.{is_zero}
-use Rattle.thy_record.specs.Tables.{Lists}
-use Rattle.thy_protocol.specs.Layout.{looked_by}
+use Rattle.thy_layout.specs.Entries.{Lists}
+use Rattle.thy_layout.specs.Layout.{looked_by}
 use Rattle.thy_shadow_image.specs.Places.{slot_blocks, slot_place, pool_pages, pool_place}
 use Rattle.thy_shadow_image.specs.Layout.{shadow_layouts}
 use Rattle.thy_shadow_image.specs.CheckpointParts.{IsToldBy}
@@ -34,12 +32,6 @@ IsFree epoch table (PoolBlock q c) = (x : ℕ) → Lists table x q → ⊥
 -- it is none of the blocks that tell what the image of that checkpoint means
 abbrev pub FreeIsNotLooked : Type 0
 FreeIsNotLooked =
-    (p : Parameters) (ceiling : ℕ) (image : List Block) (epoch : ℕ) (table : List (Option ℕ)) (x : Target)
-    → IsToldBy p ceiling image epoch table → IsTarget p x → IsFree epoch table x
-    → ¬ Contains (1 ∷ looked_by (shadow_layouts p ceiling) image) (target_place p x)
-
--- of an image without a checkpoint no block but the commit block is
-abbrev pub NothingIsLooked : Type 0
-NothingIsLooked =
-    (p : Parameters) (ceiling : ℕ) (image : List Block) (x : ℕ) → is_zero (block_at image 1) ≡ true → x ≢ 1
-    → ¬ Contains (1 ∷ looked_by (shadow_layouts p ceiling) image) x
+    (p : Parameters) (image : List Block) (epoch : ℕ) (table : List (Option ℕ)) (x : Target)
+    → IsToldBy p image epoch table → IsTarget p x → IsFree epoch table x
+    → ¬ Contains (1 ∷ looked_by (shadow_layouts p) image) (target_place p x)

@@ -1,35 +1,29 @@
 -- Part of the claim.
--- Images of shadow paging as a layout. Their commit block is the journal's, that of version 2.
-use Rattle.std.specs.Prelude.{◌%◌}
-use Rattle.thy_base.specs.Geometry.{memory_blocks}
-use Rattle.thy_isa.specs.OnBlocks.{state_from}
-use Rattle.thy_record.specs.Commit.{epoch_of}
-use Rattle.thy_record.specs.Cpu.{cpu_of_record}
-use Rattle.thy_record.specs.Decoded.{Reading}
-use Rattle.thy_view.specs.Origin.{Origin}
-use Rattle.thy_view.specs.Safe.{ceiling}
-use Rattle.thy_protocol.specs.Layout.{Layout, Layouts, reading}
-use Rattle.thy_journal_image.specs.Commit.{commit_fault}
-use Rattle.thy_shadow_image.specs.Places.{slot_blocks, slot_place, image_blocks, place_of}
-use Rattle.thy_shadow_image.specs.Header.{header_fault}
+-- Images of shadow paging as a layout.
+use Rattle.std.specs.Prelude.{◌%◌, None}
+use Rattle.thy_layout.specs.Commit.{epoch_of}
+use Rattle.thy_layout.specs.Decoded.{Reading}
+use Rattle.thy_layout.specs.Layout.{Layout, Layouts, reading}
+use Rattle.thy_shadow_image.specs.Places.{scheme_number, slot_blocks, slot_place, image_blocks, place_of}
 use Rattle.thy_shadow_image.specs.Slots.{table_in, slot_fault}
+use Rattle.thy_view.specs.Origin.{Origin}
 
 abbrev pub shadow_layouts : Layouts
-shadow_layouts p ceiling = record {
+shadow_layouts p = record {
+  p = p;
+  scheme = scheme_number;
   image_blocks = image_blocks p;
-  memory_blocks = memory_blocks p;
+  older_blocks = λ commit. None;
   slot_place = λ commit. slot_place p (epoch_of commit % 2);
   slot_blocks = λ commit. slot_blocks p;
+  most_slot = slot_blocks p;
   place = λ commit slot b. place_of p (table_in p slot) b;
-  header_bad = λ header sized. header_fault header p sized;
-  commit_bad = λ header commit. commit_fault commit ceiling;
-  slot_bad = λ commit slot. slot_fault p ceiling (epoch_of commit) slot;
-  state_from = λ slot memory. state_from p (cpu_of_record p slot) memory;
+  slot_bad = λ ceiling commit slot. slot_fault p ceiling (epoch_of commit) slot;
 }
 
 -- the layout of a run's own images
 abbrev pub layout_of : Origin → Layout
-layout_of o = shadow_layouts o.geometry ceiling
+layout_of o = shadow_layouts o.geometry
 
 -- what an image means
 abbrev pub decode_shadow : Reading

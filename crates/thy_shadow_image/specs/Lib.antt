@@ -1,8 +1,6 @@
 pub mod Places
-pub mod Header
 pub mod Slots
 pub mod TableRefusals
 pub mod Layout
 pub mod CheckpointParts
 pub mod Free
-pub mod Files

@@ -5,7 +5,11 @@ use Rattle.std.specs.Prelude.{ℕ, ◌+◌, ◌*◌, ◌/◌, ◌%◌, List, Opt
 use Rattle.thy_base.specs.declared.config.Parameters.{Parameters}
 use Rattle.thy_base.specs.Places.{record_blocks}
 use Rattle.thy_base.specs.Store.{page_of}
-use Rattle.thy_record.specs.Tables.{entry_at}
+use Rattle.thy_layout.specs.Entries.{entry_at}
+
+-- the number of this scheme, which its header has
+abbrev pub scheme_number : ℕ
+scheme_number = 2
 
 -- how many blocks the map of a checkpoint has, eight pages a block
 abbrev pub map_blocks : Parameters → ℕ

@@ -5,12 +5,11 @@ use Rattle.std.specs.Prelude.{◌≡◌, ℕ, ◌+◌, ◌*◌, ◌<◌, ◌&&�
 use Rattle.std.specs.Option.{option_or}
 use Rattle.thy_base.specs.declared.block.Block.{Block}
 use Rattle.thy_base.specs.declared.config.Parameters.{Parameters}
-use Rattle.thy_base.specs.Places.{record_blocks}
-use Rattle.thy_record.specs.declared.bad_image.BadImage.{BadImage}
-use Rattle.thy_record.specs.declared.bad_image.BadImage.TheVariants.{TableIndex}
-use Rattle.thy_record.specs.Slots.{entries_in, epoch_fault, cpu_fault}
-use Rattle.thy_record.specs.TableFaults.{first_clash, twice_rule}
-use Rattle.thy_record.specs.Tables.{Lists}
+use Rattle.thy_layout.specs.declared.bad_image.BadImage.{BadImage}
+use Rattle.thy_layout.specs.declared.bad_image.BadImage.TheVariants.{TableIndex}
+use Rattle.thy_layout.specs.Entries.{Lists}
+use Rattle.thy_layout.specs.EntryFaults.{twice_fault}
+use Rattle.thy_layout.specs.TableSlots.{table_of, slot_fault_by}
 use Rattle.thy_shadow_image.specs.Places.{map_blocks, pool_pages}
 
 -- a map that a checkpoint may have: it lists a page of the pool for each page of memory and for no other, none twice
@@ -23,7 +22,7 @@ pub record IsMap (p : Parameters) (table : List (Option ℕ)) : Type 0 where
 
 -- the map of a slot
 abbrev pub table_in : Parameters → List Block → List (Option ℕ)
-table_in p slot = entries_in slot (8 * record_blocks p) (8 * map_blocks p)
+table_in p slot = table_of p (8 * map_blocks p) slot
 
 -- the fault of entry x: a page of memory has none of the pool, or one that is not there; or there is no such page
 abbrev pub stray : Parameters → ℕ → Option ℕ → Option BadImage
@@ -38,15 +37,10 @@ first_stray p k (e ∷ es) = option_or (stray p k e) (first_stray p (k + 1) es)
 abbrev pub index_fault : Parameters → List (Option ℕ) → Option BadImage
 index_fault p table = first_stray p 0 table
 
--- an entry lists what an earlier one does
-abbrev pub twice_fault : List (Option ℕ) → Option BadImage
-twice_fault table = first_clash (twice_rule 0 table) 0 table
-
 -- the first fault of a map
 unfoldable pub table_fault : Parameters → List (Option ℕ) → Option BadImage
 table_fault p table = option_or (index_fault p table) (twice_fault table)
 
 -- the first fault of a slot under a commit block of this epoch
 unfoldable pub slot_fault : Parameters → ℕ → ℕ → List Block → Option BadImage
-slot_fault p ceiling epoch slot =
-    option_or (epoch_fault epoch slot) (option_or (table_fault p (table_in p slot)) (cpu_fault p ceiling slot))
+slot_fault p ceiling epoch slot = slot_fault_by (table_fault p (table_in p slot)) p ceiling epoch slot

@@ -1,7 +1,7 @@
 //! Where an image has each block of memory: one list of numbers, made from the map of its slot.
 ghost use Rattle.std.specs.Prelude.{◌≡◌, ◌*◌, ◌<◌, length, IfOk};
 ghost use Rattle.thy_base.specs.Geometry.{memory_blocks};
-ghost use Rattle.thy_record.specs.Files.{blocks_of};
+ghost use Rattle.thy_layout.specs.Files.{blocks_of};
 ghost use Rattle.thy_shadow_image.specs.CheckpointParts.{memory_places};
 ghost use Rattle.thy_shadow_image.specs.Places.{slot_blocks, place_of};
 ghost use Rattle.thy_shadow_image.specs.Slots.{IsMap, table_in};

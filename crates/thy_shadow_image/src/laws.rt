@@ -1,12 +1,7 @@
 //! Laws of the layout, each the contract of a function that does nothing.
-ghost use Rattle.thy_shadow_image.specs.Free.{FreeIsNotLooked, NothingIsLooked};
-ghost use Rattle.thy_shadow_image.specs.CheckpointParts.{HeaderReadsBack, SlotReadsBack, FaultlessIsMap, IssuedDecodes};
+ghost use Rattle.thy_shadow_image.specs.Free.{FreeIsNotLooked};
+ghost use Rattle.thy_shadow_image.specs.CheckpointParts.{SlotReadsBack, FaultlessIsMap, IssuedDecodes};
 ghost use Rattle.thy_shadow_image.specs.TableRefusals.{FoundIsSo, SoIsFound};
-
-/// A header reads back as one without a fault.
-pub fn a_header_reads_back()
-    ensures { HeaderReadsBack }
-{}
 
 /// Processor and map read back from a slot as they were written, without a fault. The map of a slot without a fault
 /// lists a page of the pool for each page of memory and for no other, none twice.
@@ -29,9 +24,7 @@ pub fn a_checkpoint_is_issued()
     ensures { IssuedDecodes }
 {}
 
-/// The other slot, and pages of the pool that the map does not list, do not decide what an image means. If it has no
-/// checkpoint, nothing but the commit block does.
+/// The other slot, and pages of the pool that the map does not list, do not decide what an image means.
 pub fn free_is_not_looked_at()
-    ensures free { FreeIsNotLooked }
-    ensures nothing { NothingIsLooked }
+    ensures { FreeIsNotLooked }
 {}

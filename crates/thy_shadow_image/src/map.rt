@@ -1,33 +1,20 @@
 //! The map in the bytes of a slot, behind the processor's record, eight bytes an entry.
 ghost use Rattle.std.specs.Prelude.{◌≡◌, ◌*◌, ◌<◌, length};
-ghost use Rattle.thy_record.specs.Files.{blocks_of, table_in as entries_of};
-ghost use Rattle.thy_record.specs.TableBlocks.{entry_from as entry_of_word};
-ghost use Rattle.thy_record.specs.Tables.{entry_at};
+ghost use Rattle.thy_layout.specs.Files.{blocks_of, table_in as entries_of};
+ghost use Rattle.thy_layout.specs.Entries.{entry_at};
 ghost use Rattle.thy_shadow_image.specs.Places.{map_blocks as blocks_of_map, slot_blocks, pool_page, pool_pages as pages_of_pool};
 ghost use Rattle.thy_shadow_image.specs.Slots.{IsMap, table_in, stray as stray_at, index_fault as fault_of_index};
 
 use crate::places::{map_blocks, pool_pages};
-use thy_base::{BLOCK_SIZE, Geometry};
-use thy_record::{BadImage, word_in};
+use thy_base::Geometry;
+use thy_layout::{BadImage, entry, table_behind};
 
 // The map of a slot.
 pub(crate) fn map_in<'a>(slot: &'a [u8], geometry: &Geometry) -> &'a [u8]
     requires { length slot.now ≡ 64 * slot_blocks geometry.now }
     ensures { entries_of result.now ≡ table_in geometry.now (blocks_of slot.now) }
 {
-    let first = BLOCK_SIZE * geometry.record_blocks() as usize;
-    let size = BLOCK_SIZE * map_blocks(geometry) as usize;
-    &slot[first..first + size]
-}
-
-// The entry of a word.
-fn entry_from(word: u64) -> Option<u64>
-    ensures { result ≡ entry_of_word word }
-{
-    match word {
-        0 => None,
-        listed => Some(listed - 1),
-    }
+    table_behind(slot, 8 * map_blocks(geometry) as usize, geometry)
 }
 
 /// The page of the pool that entry `x` of the map in these bytes of a slot lists; none if the entry is empty.
@@ -36,8 +23,7 @@ pub fn listed_page(slot: &[u8], x: usize, geometry: &Geometry) -> Option<u64>
     requires entry { x < 8 * blocks_of_map geometry.now }
     ensures { result ≡ entry_at (table_in geometry.now (blocks_of slot.now)) x }
 {
-    let first = 8 * geometry.record_blocks() as usize;
-    entry_from(word_in(slot, first + x))
+    entry(map_in(slot, geometry), x)
 }
 
 // The page of the pool that has page `x` of memory in a map that a checkpoint may have.

@@ -1,12 +1,12 @@
 //! The faults of a slot, in its bytes: the processor's record, 320 for each hart, and after it the map.
 ghost use Rattle.std.specs.Prelude.{◌≡◌, ◌*◌, length};
-ghost use Rattle.thy_record.specs.Files.{blocks_of};
+ghost use Rattle.thy_layout.specs.Files.{blocks_of};
 ghost use Rattle.thy_shadow_image.specs.Places.{slot_blocks};
 ghost use Rattle.thy_shadow_image.specs.Slots.{table_in, table_fault as fault_of_table, slot_fault as fault_of_slot};
 
 use crate::map::{index_fault, map_in};
 use thy_base::Geometry;
-use thy_record::{BadImage, cpu_fault, twice_fault, word_in};
+use thy_layout::{BadImage, fault_with_table, twice_fault};
 
 // The first fault of the map in these bytes of a slot, if it has one.
 #[tactic(auto, unfolding(crate::specs::Slots::table_fault))]
@@ -25,11 +25,5 @@ pub fn slot_fault(slot: &[u8], epoch: u64, geometry: &Geometry, ceiling: u64) ->
     requires { length slot.now ≡ 64 * slot_blocks geometry.now }
     ensures { result ≡ fault_of_slot geometry.now ceiling epoch (blocks_of slot.now) }
 {
-    if word_in(slot, 38) != epoch {
-        return Some(BadImage::Commit);
-    }
-    if let Some(bad) = table_fault(slot, geometry) {
-        return Some(bad);
-    }
-    cpu_fault(slot, geometry, ceiling)
+    fault_with_table(slot, epoch, table_fault(slot, geometry), geometry, ceiling)
 }

@@ -4,10 +4,10 @@ use Rattle.thy_base.specs.declared.block.Block.{Block}
 use Rattle.thy_base.specs.declared.config.Parameters.{Parameters}
 use Rattle.thy_base.specs.Device.{Device, newest, written_to, settled}
 use Rattle.thy_base.specs.Geometry.{memory_blocks}
-use Rattle.thy_record.proofs.IssuingLemmas.{half}
+use Rattle.thy_layout.proofs.AskingLemmas.{half}
 use Rattle.thy_view.specs.Action.{after}
 use Rattle.thy_table.specs.Listing.{entry_at}
-use Rattle.thy_record.specs.Commit.{commit_of}
+use Rattle.thy_layout.specs.Commit.{commit_of}
 use Rattle.thy_shadow_image.specs.CheckpointParts.{memory_places}
 use Rattle.thy_shadow_image.specs.Places.{slot_blocks, slot_place, first_pool}
 use Rattle.thy_shadow_image.proofs.PartsLemmas.{slot_behind}

@@ -12,15 +12,15 @@ use Rattle.thy_crash.proofs.SparesLemmas.{Spares-no_more}
 use Rattle.thy_isa.specs.OnBlocks.{state_from}
 use Rattle.thy_table.proofs.IndexLemmas.{one_if}
 use Rattle.thy_view.specs.Origin.{Origin}
-use Rattle.thy_protocol.specs.Layout.{looked_by}
+use Rattle.thy_layout.specs.Layout.{looked_by}
 use Rattle.thy_protocol.specs.Moves.{IsKeeping, standing, Goes}
 use Rattle.thy_protocol.proofs.KeepsLemmas.{IsKeeping-move}
 use Rattle.thy_base.proofs.BasicLemmas.{Contains-range}
 use Rattle.thy_scheme.specs.CheckpointMarks.{CheckpointMarks}
-use Rattle.thy_record.specs.Commit.{commit_of}
-use Rattle.thy_shadow_image.specs.Header.{header_fault}
+use Rattle.thy_layout.specs.Commit.{commit_of}
+use Rattle.thy_layout.specs.Header.{header_fault}
 use Rattle.thy_shadow_image.specs.Layout.{layout_of}
-use Rattle.thy_shadow_image.specs.Places.{slot_blocks}
+use Rattle.thy_shadow_image.specs.Places.{scheme_number, slot_blocks}
 use Rattle.thy_pool.specs.declared.entry.Begun.{Begun}
 use Rattle.thy_pool.specs.declared.stage.PoolStage.{PoolStage}
 use Rattle.thy_pool.specs.declared.stage.PoolStage.TheVariants.{Nothing, Pages, Slot, Settle, Commit, Confirm}
@@ -166,7 +166,7 @@ module _ (o : Origin) (k : CheckpointMarks) (s : Value) (m n : Device) (h : IsSo
     };
     way = h.way;
     doubt = h.doubt;
-    header = ap (λ (b : Block). header_fault b o.geometry true) (r.reads 0 (omega (arith, h.held.sized.nvm))) ∙ h.header;
+    header = ap (λ (b : Block). header_fault scheme_number b o.geometry true) (r.reads 0 (omega (arith, h.held.sized.nvm))) ∙ h.header;
     committed = record {
       cpu = h.committed.cpu;
       state = ap (state_from o.geometry h.committed.cpu) commits_are ∙ h.committed.state;

@@ -4,11 +4,11 @@ use Rattle.thy_base.specs.declared.mark.Mark.{Mark}
 use Rattle.thy_base.specs.Device.{Device}
 use Rattle.thy_base.specs.Places.{record_blocks}
 use Rattle.thy_crash.specs.Saved.{Saved, InDoubt}
-use Rattle.thy_record.specs.declared.engine_step.EngineStep.TheVariants.{StateBlock, TableBlock}
+use Rattle.thy_layout.specs.declared.engine_step.EngineStep.TheVariants.{StateBlock, TableBlock}
 use Rattle.thy_table.specs.Listing.{entry_at}
 use Rattle.thy_view.specs.Safe.{Safe}
 use Rattle.thy_protocol.specs.Keeps.{doubt_in as doubt_of_saved}
-use Rattle.thy_protocol.specs.Layout.{reading}
+use Rattle.thy_layout.specs.Layout.{reading}
 use Rattle.thy_protocol.specs.Moves.{IsKeeping, standing}
 use Rattle.thy_protocol.proofs.KeepsLemmas.{Safe-kept, IsKeeping-move}
 use Rattle.thy_scheme.specs.CheckpointMarks.{CheckpointMarks, doubt_in, marks_after_fault}

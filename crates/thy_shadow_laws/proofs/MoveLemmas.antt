@@ -9,19 +9,19 @@ use Rattle.thy_crash.specs.Fixed.{Reads}
 use Rattle.thy_crash.specs.Saved.{Saved, Kept, Ready, InDoubt, next_image}
 use Rattle.thy_crash.specs.Spares.{Spares}
 use Rattle.thy_crash.proofs.SparesLemmas.{Spares-failed}
-use Rattle.thy_record.specs.Decoded.{At}
+use Rattle.thy_layout.specs.Decoded.{At}
 use Rattle.thy_view.specs.Action.{after, FailsTo}
 use Rattle.thy_view.specs.Origin.{Origin, at}
 use Rattle.thy_view.specs.Safe.{ceiling}
 use Rattle.thy_protocol.specs.Keeps.{IsOf}
-use Rattle.thy_protocol.specs.Layout.{looked_by}
+use Rattle.thy_layout.specs.Layout.{looked_by}
 use Rattle.thy_protocol.specs.Moves.{standing, Move, Goes, Readies, Commits, Confirms, LeavesAlone}
 use Rattle.thy_protocol.proofs.KeepsLemmas.{Spares-action, Spares-failed_action}
 use Rattle.thy_table.specs.Listing.{entry_at}
-use Rattle.thy_record.specs.Commit.{commit_of}
-use Rattle.thy_shadow_image.specs.Places.{slot_blocks, slot_place, pool_pages, pool_place, pool_page}
+use Rattle.thy_layout.specs.Commit.{commit_of}
+use Rattle.thy_layout.specs.Header.{header_fault}
+use Rattle.thy_shadow_image.specs.Places.{scheme_number, slot_blocks, slot_place, pool_pages, pool_place, pool_page}
 use Rattle.thy_shadow_image.specs.Free.{Target, SlotBlock, PoolBlock, IsTarget, IsFree, target_place as place_of_target}
-use Rattle.thy_shadow_image.specs.Header.{header_fault}
 use Rattle.thy_shadow_image.specs.Layout.{layout_of}
 use Rattle.thy_shadow_image.specs.CheckpointParts.{IsIssuing, IsIssuedCheckpoint}
 use Rattle.thy_shadow_image.proofs.FreeLemmas.{free_not_looked}
@@ -55,7 +55,7 @@ module _ (o : Origin) (e : Progress) (s : State) (c : Checkpoints) (state : IsSo
   leaves_target : (x : Target) (y : ℕ) → IsTarget o.geometry x → IsFree kept.epoch (committed_table s) x → y ≡ place_of_target o.geometry x
       → Contains spared y → ⊥
   leaves_target x y there free is inside =
-      free_not_looked o.geometry ceiling c.before kept.epoch (committed_table s) x kept.told there free
+      free_not_looked o.geometry c.before kept.epoch (committed_table s) x kept.told there free
       (subst (λ (z : ℕ). Contains spared z) is inside)
 
   leaves_slot : is_under_way e.next ≡ true → (k : ℕ) → k < slot_blocks e.p → LeavesAlone spared (action_of e (SlotItem k) s)
@@ -87,7 +87,7 @@ module _ (o : Origin) (e : Progress) (s : State) (c : Checkpoints) (state : IsSo
 
 module _ (o : Origin) (e : Progress) (s : State) (m : Device) (c : Checkpoints) (state : IsSoundState s)
     (geometry : s.p ≡ o.geometry) (same : s.p ≡ e.p)
-    (header : header_fault (newest m 0) o.geometry true ≡ None) (made : IsMadeFor o e s m c)
+    (header : header_fault scheme_number (newest m 0) o.geometry true ≡ None) (made : IsMadeFor o e s m c)
     (written : HasWrittenSlot e s m (slot_blocks e.p)) where
   abbrev made_image : List Block
   made_image = next_image m (commit_of e.epoch)
@@ -144,7 +144,7 @@ module _ (o : Origin) (e : Progress) (s : State) (m : Device) (c : Checkpoints) 
 module _ (o : Origin) (e : Progress) (s : State) (m : Device) (c : Checkpoints) (state : IsSoundState s)
     (geometry : s.p ≡ o.geometry) (same : s.p ≡ e.p)
     (kept : IsKeptBy o e s c.before) (made : IsMadeFor o e s m c) where
-  pub moves_next : (header : header_fault (newest m 0) o.geometry true ≡ None) (q : PoolStage) → e.next ≡ q
+  pub moves_next : (header : header_fault scheme_number (newest m 0) o.geometry true ≡ None) (q : PoolStage) → e.next ≡ q
       → ((k : ℕ) → q ≡ Slot k → k < slot_blocks e.p) → HasWrittenBefore q e s m → is_under_way q ≡ true
       → Move o (layout_of o) (standing m (saved_at q c) c.kept c.sealed)
       (standing_at (record e { next = next_after e.p (item q s) }) (after (action_of e (item q s) s) m)

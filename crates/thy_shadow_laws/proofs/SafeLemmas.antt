@@ -9,9 +9,9 @@ use Rattle.thy_crash.proofs.SparesLemmas.{Spares-no_more}
 use Rattle.thy_isa.specs.OnBlocks.{state_from}
 use Rattle.thy_table.specs.Listing.{Listing, free_count}
 use Rattle.thy_view.specs.Origin.{Origin}
-use Rattle.thy_view.specs.Safe.{ceiling, Safe}
+use Rattle.thy_view.specs.Safe.{Safe}
 use Rattle.thy_protocol.specs.Keeps.{doubt_in as doubt_of_saved}
-use Rattle.thy_protocol.specs.Layout.{reading, looked_by}
+use Rattle.thy_layout.specs.Layout.{reading, looked_by}
 use Rattle.thy_protocol.specs.Moves.{IsKeeping, standing, Move, Goes}
 use Rattle.thy_protocol.proofs.KeepsLemmas.{Safe-kept, IsKeeping-move}
 use Rattle.thy_scheme.specs.CheckpointMarks.{CheckpointMarks, doubt_in}
@@ -111,7 +111,7 @@ module _ (o : Origin) (k : CheckpointMarks) (s : Value) (n : Device) (t : Value)
   told_then : IsKeptBy o s.engine t.pool h.images.before
   told_then = record {
     epoch = h.checkpoints.told.epoch;
-    told = subst (IsToldBy o.geometry ceiling h.images.before h.checkpoints.told.epoch) (sym stays.table) h.checkpoints.told.told;
+    told = subst (IsToldBy o.geometry h.images.before h.checkpoints.told.epoch) (sym stays.table) h.checkpoints.told.told;
     other_slot = h.checkpoints.told.other_slot;
   }
 

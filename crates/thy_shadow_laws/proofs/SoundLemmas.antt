@@ -13,16 +13,15 @@ use Rattle.thy_table.specs.Listing.{entry_at}
 use Rattle.thy_table.proofs.IndexLemmas.{free_one}
 use Rattle.thy_view.specs.Action.{after}
 use Rattle.thy_view.specs.Origin.{Origin, at}
-use Rattle.thy_view.specs.Safe.{ceiling}
 use Rattle.thy_protocol.specs.Moves.{IsKeeping}
 use Rattle.thy_protocol.proofs.KeepsLemmas.{IsKeeping-move}
 use Rattle.thy_scheme.specs.CheckpointMarks.{CheckpointMarks, only, marks_after}
 use Rattle.thy_scheme.proofs.RecordLemmas.{marks-slot}
-use Rattle.thy_record.specs.Commit.{commit_of}
+use Rattle.thy_layout.specs.Commit.{commit_of}
+use Rattle.thy_layout.specs.Header.{header_fault}
 use Rattle.thy_shadow_image.specs.CheckpointParts.{IsToldBy}
-use Rattle.thy_shadow_image.specs.Header.{header_fault}
 use Rattle.thy_shadow_image.specs.Layout.{layout_of}
-use Rattle.thy_shadow_image.specs.Places.{slot_blocks, slot_place}
+use Rattle.thy_shadow_image.specs.Places.{scheme_number, slot_blocks, slot_place}
 use Rattle.thy_pool.specs.declared.entry.Framed.{Framed}
 use Rattle.thy_pool.specs.declared.stage.PoolStage.{PoolStage}
 use Rattle.thy_pool.specs.declared.stage.PoolStage.TheVariants.{Nothing, Pages, Slot, Settle, Commit, Confirm}
@@ -171,7 +170,7 @@ module _ (o : Origin) (k : CheckpointMarks) (s : Value) (n : Device) (h : IsSoun
     };
     way = by.under_way ∙ sym way ∙ h.way;
     doubt = h.doubt ∙ before ∙ sym by.unconfirmed;
-    header = ap (λ (b : Block). header_fault b o.geometry true) zero_same ∙ h.header;
+    header = ap (λ (b : Block). header_fault scheme_number b o.geometry true) zero_same ∙ h.header;
     committed = committed_stays m commits_same;
     copies = copies_made m way;
     rest = λ storeless still. absurd (never (is_under_way q) still by.under_way);
@@ -235,7 +234,7 @@ module _ (o : Origin) (k : CheckpointMarks) (s : Value) (n : Device) (h : IsSoun
         };
         way = sym way ∙ h.way;
         doubt = h.doubt ∙ ap is_confirming is;
-        header = ap (λ (b : Block). header_fault b o.geometry true) zero_settled ∙ h.header;
+        header = ap (λ (b : Block). header_fault scheme_number b o.geometry true) zero_settled ∙ h.header;
         committed = committed_stays (d SettleItem) (commits_i SettleItem due way);
         copies = copies_made (d SettleItem) way;
         rest = λ storeless still. cc;
@@ -275,7 +274,7 @@ module _ (o : Origin) (k : CheckpointMarks) (s : Value) (n : Device) (h : IsSoun
         };
         way = sym way ∙ h.way;
         doubt = refl;
-        header = ap (λ (b : Block). header_fault b o.geometry true) (zero_written 1 (commit_of e.epoch) (omega arith)) ∙ h.header;
+        header = ap (λ (b : Block). header_fault scheme_number b o.geometry true) (zero_written 1 (commit_of e.epoch) (omega arith)) ∙ h.header;
         committed = committed_stays (d CommitItem) (commits_i CommitItem due way);
         copies = copies_made (d CommitItem) way;
         rest = λ storeless still. cc;
@@ -302,7 +301,7 @@ module _ (o : Origin) (k : CheckpointMarks) (s : Value) (n : Device) (h : IsSoun
           told = record {
             epoch = e.epoch;
             told =
-                subst (IsToldBy o.geometry ceiling c.next e.epoch) (sym (committed_table-committed l h.held.state))
+                subst (IsToldBy o.geometry c.next e.epoch) (sym (committed_table-committed l h.held.state))
                 (old.told (ap is_settled is));
             other_slot = λ on. cc;
           };
@@ -311,7 +310,7 @@ module _ (o : Origin) (k : CheckpointMarks) (s : Value) (n : Device) (h : IsSoun
         };
         way = refl;
         doubt = refl;
-        header = ap (λ (b : Block). header_fault b o.geometry true) zero_settled ∙ h.header;
+        header = ap (λ (b : Block). header_fault scheme_number b o.geometry true) zero_settled ∙ h.header;
         committed = record {
           cpu = e.cpu;
           state = ap (state_from o.geometry e.cpu) committed ∙ old.state_is ∙ ap (λ (m : Mark). at o m.count) (sym done_is);

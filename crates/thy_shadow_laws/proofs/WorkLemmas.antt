@@ -9,8 +9,8 @@ use Rattle.thy_base.specs.Device.{Device, zero_block, block_at, newest, written_
 use Rattle.thy_base.specs.Geometry.{memory_blocks}
 use Rattle.thy_base.specs.Store.{page_of}
 use Rattle.thy_base.proofs.DeviceLemmas.{newest-written_to_other, newest-settled}
-use Rattle.thy_record.specs.Tables.{Lists}
-use Rattle.thy_record.proofs.ImageLemmas.{map-alike}
+use Rattle.thy_layout.specs.Entries.{Lists}
+use Rattle.thy_layout.proofs.AskingLemmas.{map-alike}
 use Rattle.thy_base.proofs.BasicLemmas.{Contains-range}
 use Rattle.thy_table.specs.Listing.{entry_at, lists, mapped}
 use Rattle.thy_table.proofs.IndexLemmas.{lists-inside}

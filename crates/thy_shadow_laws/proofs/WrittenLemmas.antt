@@ -8,13 +8,13 @@ use Rattle.thy_base.specs.Geometry.{memory_blocks}
 use Rattle.thy_base.specs.Store.{page_of}
 use Rattle.thy_base.proofs.DeviceLemmas.{newest-written_to, newest-written_to_other, newest-settled, length-written_to, length-settled}
 use Rattle.thy_crash.proofs.FixedLemmas.{Reads-written}
-use Rattle.thy_record.proofs.ImageLemmas.{map-alike}
-use Rattle.thy_record.proofs.IssuingLemmas.{half}
+use Rattle.thy_layout.proofs.AskingLemmas.{map-alike}
+use Rattle.thy_layout.proofs.AskingLemmas.{half}
 use Rattle.thy_view.specs.Action.{after}
 use Rattle.thy_table.specs.Listing.{entry_at}
 use Rattle.thy_table.proofs.ListingLaws.{place_of-lists}
-use Rattle.thy_record.specs.Commit.{commit_of}
-use Rattle.thy_journal_image.specs.Slots.{slot_block_of}
+use Rattle.thy_layout.specs.Commit.{commit_of}
+use Rattle.thy_layout.specs.TableSlots.{slot_block_of}
 use Rattle.thy_shadow_image.specs.Places.{map_blocks, slot_blocks, slot_place, first_pool, image_blocks, pool_place, pool_page, place_of}
 use Rattle.thy_shadow_image.specs.CheckpointParts.{memory_places, IsIssuing}
 use Rattle.thy_shadow_image.specs.Slots.{IsMap}

@@ -6,12 +6,12 @@ use Rattle.thy_base.specs.Device.{Device, block_at, newest}
 use Rattle.thy_crash.specs.Fixed.{Reads}
 use Rattle.thy_crash.specs.Saved.{Saved, Kept, Ready, InDoubt, next_image}
 use Rattle.thy_isa.specs.OnBlocks.{state_from}
-use Rattle.thy_record.specs.Cpu.{IsRecordable}
+use Rattle.thy_layout.specs.Cpu.{IsRecordable}
 use Rattle.thy_table.specs.Listing.{entry_at}
 use Rattle.thy_view.specs.Origin.{Origin, at}
 use Rattle.thy_view.specs.Safe.{ceiling}
 use Rattle.thy_protocol.specs.Moves.{Standing, standing}
-use Rattle.thy_record.specs.Commit.{commit_of}
+use Rattle.thy_layout.specs.Commit.{commit_of}
 use Rattle.thy_shadow_image.specs.Places.{slot_blocks}
 use Rattle.thy_shadow_image.specs.CheckpointParts.{IsIssuing, IsToldBy}
 use Rattle.thy_pool.specs.declared.stage.PoolStage.{PoolStage}
@@ -58,7 +58,7 @@ checkpoints_after i e m c = c
 -- in the other slot
 pub record IsKeptBy (o : Origin) (e : Progress) (s : State) (before : List Block) : Type 0 where
   pub epoch : ℕ
-  pub told : IsToldBy o.geometry ceiling before epoch (committed_table s)
+  pub told : IsToldBy o.geometry before epoch (committed_table s)
   pub other_slot : is_under_way e.next ≡ true → e.epoch % 2 ≢ epoch % 2
 
 -- the checkpoint that is made is that of the sealed mark, with the pool's next map; meanwhile no frame is begun
@@ -71,7 +71,7 @@ pub record IsMadeFor (o : Origin) (e : Progress) (s : State) (n : Device) (c : C
   pub state_is : state_from o.geometry e.cpu (works s n) ≡ at o mark.count
   pub counted : (at o mark.count).count ≡ mark.count
   pub commit : is_settled e.next ≡ true → block_at c.next 1 ≡ commit_of e.epoch
-  pub told : is_settled e.next ≡ true → IsToldBy o.geometry ceiling c.next e.epoch (next_table s)
+  pub told : is_settled e.next ≡ true → IsToldBy o.geometry c.next e.epoch (next_table s)
   pub unbegun : s.begun ≡ None
 
 -- ---- what is written before an item

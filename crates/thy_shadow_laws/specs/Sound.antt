@@ -8,7 +8,8 @@ use Rattle.thy_table.specs.Listing.{free_count}
 use Rattle.thy_view.specs.Origin.{Origin, at}
 use Rattle.thy_protocol.specs.Moves.{IsKeeping}
 use Rattle.thy_scheme.specs.CheckpointMarks.{CheckpointMarks}
-use Rattle.thy_shadow_image.specs.Header.{header_fault}
+use Rattle.thy_layout.specs.Header.{header_fault}
+use Rattle.thy_shadow_image.specs.Places.{scheme_number}
 use Rattle.thy_shadow_image.specs.Layout.{layout_of}
 use Rattle.thy_pool.specs.Holding.{commits, copies_agree}
 use Rattle.thy_pool.specs.Items.{is_under_way}
@@ -47,7 +48,7 @@ pub record IsSoundShadow (o : Origin) (k : CheckpointMarks) (s : Shadow) (n : De
   -- a mark is sealed exactly while its checkpoint is made
   pub way : is_under_way s.engine.next ≡ is_some k.sealed
   pub doubt : k.written ≡ is_confirming s.engine.next
-  pub header : header_fault (newest n 0) o.geometry true ≡ None
+  pub header : header_fault scheme_number (newest n 0) o.geometry true ≡ None
   pub committed : HasState o k.done s.pool n
   -- what was copied into a frame that is begun is what the NVM has
   pub copies : copies_agree s.pool n ≡ true

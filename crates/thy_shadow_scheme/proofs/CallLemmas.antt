@@ -7,8 +7,8 @@ use Rattle.thy_base.specs.declared.nvm.NvmError.{NvmError}
 use Rattle.thy_base.specs.Device.{Device, IsFramed}
 use Rattle.thy_base.specs.Places.{record_blocks}
 use Rattle.thy_isa.specs.declared.state.CpuState.{CpuState}
-use Rattle.thy_record.specs.declared.engine_step.EngineStep.{EngineStep}
-use Rattle.thy_record.specs.declared.engine_step.EngineStep.TheVariants.{StateBlock, TableBlock}
+use Rattle.thy_layout.specs.declared.engine_step.EngineStep.{EngineStep}
+use Rattle.thy_layout.specs.declared.engine_step.EngineStep.TheVariants.{StateBlock, TableBlock}
 use Rattle.thy_table.specs.Listing.{entry_at, free_count}
 use Rattle.thy_view.specs.Action.{WriteAt, after, FailsTo, Asks}
 use Rattle.thy_view.specs.Dram.{WritesNvm}
@@ -18,7 +18,7 @@ use Rattle.thy_scheme.specs.CheckpointMarks.{CheckpointMarks}
 use Rattle.thy_scheme.specs.Scheme.{Stands}
 use Rattle.thy_scheme.specs.Calls.{IsDue, writes_block, engine_did, owed_in, Keeps, Drains, Seals, Engines, EngineFails, OwesAfter}
 use Rattle.thy_scheme.proofs.RecordLemmas.{due-slot}
-use Rattle.thy_record.specs.Commit.{commit_of}
+use Rattle.thy_layout.specs.Commit.{commit_of}
 use Rattle.thy_shadow_image.specs.Places.{slot_place}
 use Rattle.thy_pool.specs.declared.stage.PoolStage.{PoolStage}
 use Rattle.thy_pool.specs.declared.stage.PoolStage.TheVariants.{Nothing, Pages, Slot, Settle, Commit, Confirm}

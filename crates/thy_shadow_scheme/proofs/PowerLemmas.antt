@@ -4,11 +4,11 @@ use Rattle.std.proofs.lemmas.List.{get_or-replicate}
 use Rattle.thy_base.specs.declared.config.Parameters.{Parameters}
 use Rattle.thy_base.specs.Device.{zero_block, fitted}
 use Rattle.thy_dram.specs.Contents.{Contents}
-use Rattle.thy_record.specs.Commit.{is_zero}
-use Rattle.thy_record.proofs.ReadBackLemmas.{is_zero-zero_block}
+use Rattle.thy_layout.specs.Commit.{is_zero}
+use Rattle.thy_layout.proofs.ReadBackLemmas.{is_zero-zero_block}
 use Rattle.thy_table.specs.Listing.{entry_at}
 use Rattle.thy_view.specs.Safe.{ceiling}
-use Rattle.thy_protocol.proofs.LayoutLemmas.{decode_by-zero}
+use Rattle.thy_layout.proofs.LayoutLemmas.{decode_by-zero}
 use Rattle.thy_boot.specs.declared.stage.Stage.TheVariants.{Reads}
 use Rattle.thy_boot.specs.declared.stage.ReadStage.TheVariants.{Unread}
 use Rattle.thy_boot.specs.Boot.{Booting, new_boot}
@@ -64,5 +64,5 @@ power_is_new p s powered = record {
 pub zeros_are_nothing : ZerosAreNothing shadow_scheme
 zeros_are_nothing p shape n same =
     let some : 1 < shape.blocks - 0 = omega (arith, same) in
-    decode_by-zero (shadow_layouts p ceiling) (fitted shape [] n).image
+    decode_by-zero (shadow_layouts p) ceiling (fitted shape [] n).image
     (ap is_zero (get_or-replicate (shape.blocks - 0) 1 zero_block zero_block some) ∙ is_zero-zero_block)

@@ -14,7 +14,7 @@ use Rattle.thy_base.specs.Geometry.{memory_blocks}
 use Rattle.thy_base.specs.Places.{number_of}
 use Rattle.thy_base.specs.Store.{page_of, IsOpenFor}
 use Rattle.thy_dram.specs.Contents.{written}
-use Rattle.thy_record.proofs.ImageLemmas.{map-alike}
+use Rattle.thy_layout.proofs.AskingLemmas.{map-alike}
 use Rattle.thy_table.specs.Listing.{Listing, entry_at, free_place, free_count, with_entry, added_at, added}
 use Rattle.thy_table.proofs.IndexLemmas.{free_one, some-counted}
 use Rattle.thy_table.proofs.ListingLaws.{place_of-put, place_of-put_other}

@@ -3,9 +3,9 @@
 use Rattle.std.specs.Prelude.{ℕ, List, [], ◌∷◌, codes}
 use Rattle.std.specs.Fmt.{decimal}
 use Rattle.thy_base.specs.Fields.{field_name}
-use Rattle.thy_record.specs.Refusals.{number_of, name_of}
-use Rattle.thy_record.specs.declared.bad_image.BadImage.{BadImage}
-use Rattle.thy_record.specs.declared.bad_image.BadImage.TheVariants.{TableIndex, TableTwice, BlockUnderPage, Count}
+use Rattle.thy_layout.specs.Refusals.{number_of, name_of}
+use Rattle.thy_layout.specs.declared.bad_image.BadImage.{BadImage}
+use Rattle.thy_layout.specs.declared.bad_image.BadImage.TheVariants.{TableIndex, TableTwice, BlockUnderPage, Count}
 use Rattle.thy_text.specs.declared.closing.FetchFault.{FetchFault}
 use Rattle.thy_text.specs.declared.closing.FetchFault.TheVariants.{Failed, Missing, TooLong}
 use Rattle.thy_text.specs.declared.closing.Entries.{Entries}

@@ -8,7 +8,7 @@ ghost use Rattle.thy_text.specs.Writing.{Wrote};
 
 use crate::piece::{Piece, write_pieces};
 use thy_base::{Field, Sink, SinkError};
-use thy_record::BadImage;
+use thy_layout::BadImage;
 
 /// Why the bytes under a name could not be read.
 #[derive(Clone, Copy, Debug, PartialEq, Eq)]

@@ -1,12 +1,11 @@
--- A run goes on after a step that failed, once power was cut and has come on again.
+-- A run goes on once power was cut and has come on again, also after a step that failed.
 use Rattle.std.proofs.Common.{◌≡◌, ◌⊎◌, Bool, true, false, ◌||◌, if◌then◌else◌, Option, Some, None, refl, ◌∙◌, inl, inr}
 use Rattle.thy_base.specs.declared.mark.Mark.{Mark}
 use Rattle.thy_base.specs.Device.{cut_to}
 use Rattle.thy_base.specs.Marks.{mark}
-use Rattle.thy_record.specs.Decoded.{Decoded, Nothing, Refused, At}
-use Rattle.thy_view.specs.declared.view.View.{View}
-use Rattle.thy_view.specs.Action.{Action, is_commit_write, doubt_after_fault}
-use Rattle.thy_view.specs.Again.{GoesOn}
+use Rattle.thy_layout.specs.Decoded.{Decoded, Nothing, Refused, At}
+use Rattle.thy_view.specs.Action.{is_commit_write}
+use Rattle.thy_view.specs.Again.{GoesOnAfterCut, GoesOnAfterFault}
 use Rattle.thy_view.specs.Kind.{KindOf, IsLawful}
 use Rattle.thy_view.specs.Origin.{Origin}
 use Rattle.thy_view.specs.Safe.{ceiling, IsOneOf}
@@ -25,8 +24,18 @@ sealed_in o flag kept sealed (At epoch state) one =
     let is = mark epoch state.count in
     (elim one.0 as (λ _. (kept ≡ Some is) ⊎ (sealed ≡ Some is)) [ inl e ↦ inl e | inr e ↦ inr (flag_some flag sealed is e) ], one.1)
 
-pub goes_on : {M : Type 0} (K : KindOf M) → IsLawful K → GoesOn K
-goes_on K laws o k pick m stopped next n new tear g at leaves framed powered crash =
+pub goes_on_after_cut : {M : Type 0} (K : KindOf M) → IsLawful K → GoesOnAfterCut K
+goes_on_after_cut K laws o k m next n tear g at powered crash =
+    let v = K.view o m n in
+    laws.finds o k m next n (cut_to n tear g) at powered (record {
+      up = refl;
+      settled = refl;
+      blocks = crash.same_length ∙ laws.sized o k m n at;
+      means = sealed_in o v.written v.done v.sealed (K.decode o.geometry ceiling g) (laws.is_safe o k m n at g crash);
+    })
+
+pub goes_on_after_fault : {M : Type 0} (K : KindOf M) → IsLawful K → GoesOnAfterFault K
+goes_on_after_fault K laws o k pick m stopped next n new tear g at leaves framed powered crash =
     let v = K.view o m n in
     laws.finds o k m next n (cut_to new tear g) at powered (record {
       up = refl;

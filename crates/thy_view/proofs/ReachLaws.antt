@@ -1,7 +1,7 @@
 -- A step reaches no less far than the view before it.
 use Rattle.std.proofs.Common.{◌≡◌, ◌≢◌, ◌⊎◌, ℕ, ◌+◌, ◌-◌, ◌≤◌, Bool, true, false, List, if◌then◌else◌, refl, sym, ◌∙◌, ap, inl, inr, arith}
-use Rattle.thy_record.specs.declared.engine_step.EngineStep.{EngineStep}
-use Rattle.thy_record.specs.declared.engine_step.EngineStep.TheVariants.{Idle, Copied, PageBlock, StateBlock, TableBlock, Barrier, CommitWritten, Committed as EngineCommitted}
+use Rattle.thy_layout.specs.declared.engine_step.EngineStep.{EngineStep}
+use Rattle.thy_layout.specs.declared.engine_step.EngineStep.TheVariants.{Idle, Copied, PageBlock, StateBlock, TableBlock, Barrier, CommitWritten, Committed as EngineCommitted}
 use Rattle.thy_view.specs.declared.did.Did.{Did}
 use Rattle.thy_view.specs.declared.did.Did.TheVariants.{Boot, Loaded, Restarted, Refused, Moved, Retired, Flushed, Merged, Sealed, Promoted, Engine, Committed, NvmDrained, DramDrained, Nothing}
 use Rattle.thy_view.specs.declared.view.Phase.{Phase}

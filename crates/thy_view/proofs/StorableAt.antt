@@ -14,7 +14,7 @@ use Rattle.thy_isa.specs.Step.{State}
 use Rattle.thy_isa.specs.Storable.{IsStatus, IsOtherOf, IsStorable}
 use Rattle.thy_isa.proofs.HartLaws.{step-harts, crossed-harts, crossed-storable}
 use Rattle.thy_isa.proofs.StorableLaws.{step-storable}
-use Rattle.thy_record.specs.Cpu.{status_tag, status_value, is_status, IsOtherRecordable, IsRecordable}
+use Rattle.thy_layout.specs.Cpu.{status_tag, status_value, is_status, IsOtherRecordable, IsRecordable}
 use Rattle.thy_view.specs.Origin.{Origin, IsOrigin, setting_of, at}
 use Rattle.thy_view.specs.Safe.{ceiling}
 use Rattle.thy_view.proofs.TurnLaws.{at-holds}

@@ -4,9 +4,9 @@ use Rattle.std.proofs.lemmas.Bool.{cases_eq, cases_lt, lt-ltb, le-ltb}
 use Rattle.std.proofs.lemmas.List.{length-append, length-replicate, length-take-le, get_or_append_left, get_or-append_right, get_or-take, get_or-drop, get_or-replicate, get_or_at, get_or_past}
 use Rattle.thy_base.specs.declared.mark.Mark.{Mark}
 use Rattle.thy_isa.specs.Step.{State, Setting, crossed, step, step_of, steps}
-use Rattle.thy_record.specs.Decoded.{Decoded, Nothing as NothingFound, Refused as RefusedImage, At}
+use Rattle.thy_layout.specs.Decoded.{Decoded, Nothing as NothingFound, Refused as RefusedImage, At}
 use Rattle.thy_view.specs.Laws.{TurnsLeadTo, StaysSafe, HartZeroSteps, UntoldSteps, LastTold}
-use Rattle.thy_record.specs.declared.start.Start.{Start}
+use Rattle.thy_layout.specs.declared.start.Start.{Start}
 use Rattle.thy_view.specs.Origin.{Origin, IsOrigin, Begins, setting_of, turn_at, by_turns, at}
 use Rattle.thy_view.specs.Safe.{ceiling, IsOneOf}
 use Rattle.thy_view.specs.Told.{told, AgreeBelow, count_of}

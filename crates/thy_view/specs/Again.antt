@@ -1,4 +1,4 @@
--- A run goes on after a step that failed, once power was cut and has come on again.
+-- A run goes on once power was cut and has come on again, also after a step that failed.
 use Rattle.std.specs.Prelude.{◌≡◌, ℕ, List}
 use Rattle.thy_base.specs.declared.block.Block.{Block}
 use Rattle.thy_base.specs.declared.mix.Pick.{Pick}
@@ -8,9 +8,17 @@ use Rattle.thy_view.specs.Kind.{KindOf, LeavesSafe}
 use Rattle.thy_view.specs.Origin.{Origin}
 use Rattle.thy_view.specs.Safe.{ceiling}
 
--- After a step that failed, any cut of power leads to a moment of the same run, whose view is what the image means that was left.
-abbrev pub GoesOn : {M : Type 0} → KindOf M → Type 0
-GoesOn {M} K =
+-- any cut of power at a moment leads to a moment of the same run, whose view is what the image means that was left
+abbrev pub GoesOnAfterCut : {M : Type 0} → KindOf M → Type 0
+GoesOnAfterCut {M} K =
+    (o : Origin) (k : ℕ) (m next : M) (n : Device) (tear : ℕ) (g : List Block)
+    → K.is_at o k m n → K.powered o.geometry next → Crash n g
+    → K.is_at o k next (cut_to n tear g)
+    × (K.view o next (cut_to n tear g) ≡ view_of_image o.start.count (K.decode o.geometry ceiling g))
+
+-- and so does any cut after a step that failed
+abbrev pub GoesOnAfterFault : {M : Type 0} → KindOf M → Type 0
+GoesOnAfterFault {M} K =
     (o : Origin) (k : ℕ) (pick : Pick) (m stopped next : M) (n new : Device) (tear : ℕ) (g : List Block)
     → K.is_at o k m n → LeavesSafe K o pick m stopped n new → IsFramed n new → K.powered o.geometry next → Crash new g
     → K.is_at o k next (cut_to new tear g)

@@ -2,7 +2,7 @@
 -- What is seen of a machine that boots, and what its steps do.
 use Rattle.std.specs.Prelude.{ℕ, false, Option, Some, None}
 use Rattle.thy_base.specs.declared.mark.Mark.{Mark}
-use Rattle.thy_record.specs.Decoded.{Decoded, Nothing, Refused, At}
+use Rattle.thy_layout.specs.Decoded.{Decoded, Nothing, Refused, At}
 use Rattle.thy_view.specs.declared.boot_step.BootStep.{BootStep}
 use Rattle.thy_view.specs.declared.boot_step.BootStep.TheVariants.{GoesOn, Loaded, Restarted, Refused as IsRefused}
 use Rattle.thy_view.specs.declared.did.Did.{Did}

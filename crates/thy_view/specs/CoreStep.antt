@@ -9,8 +9,8 @@ use Rattle.thy_view.specs.declared.view.Phase.TheVariants.{Boot as BootPhase, Ru
 use Rattle.thy_view.specs.declared.view.View.{View}
 use Rattle.thy_view.specs.declared.did.Did.{Did}
 use Rattle.thy_view.specs.declared.did.Did.TheVariants.{Boot, Loaded, Restarted, Refused, Moved, Retired, Sealed, Engine, Committed, NvmDrained, DramDrained, Nothing}
-use Rattle.thy_record.specs.declared.engine_step.EngineStep.{EngineStep}
-use Rattle.thy_record.specs.declared.engine_step.EngineStep.TheVariants.{Idle, CommitWritten, Committed as EngineCommitted}
+use Rattle.thy_layout.specs.declared.engine_step.EngineStep.{EngineStep}
+use Rattle.thy_layout.specs.declared.engine_step.EngineStep.TheVariants.{Idle, CommitWritten, Committed as EngineCommitted}
 use Rattle.thy_view.specs.Origin.{Origin, runs_at, turn_at}
 use Rattle.thy_base.specs.Marks.{mark}
 

@@ -10,14 +10,14 @@ use Rattle.thy_base.specs.declared.mark.Mark.{Mark}
 use Rattle.thy_base.specs.declared.nvm.NvmError.{NvmError}
 use Rattle.thy_base.specs.Bytes.{bytes_of}
 use Rattle.thy_base.specs.Counts.{Rose}
-use Rattle.thy_base.specs.Device.{Device, Crash, HasFailed, cut_to, fitted}
+use Rattle.thy_base.specs.Device.{Device, HasFailed, fitted}
 use Rattle.thy_base.specs.Places.{dram_blocks}
 use Rattle.thy_dram.specs.Contents.{Contents}
 use Rattle.thy_isa.specs.declared.state.MachState.{MachState}
 use Rattle.thy_isa.specs.Step.{State, state_of}
 use Rattle.thy_flat.specs.Flat.{AllLong}
-use Rattle.thy_record.specs.Decoded.{Reading, Nothing}
-use Rattle.thy_record.specs.declared.start.Start.{Start}
+use Rattle.thy_layout.specs.Decoded.{Reading, Nothing}
+use Rattle.thy_layout.specs.declared.start.Start.{Start}
 use Rattle.thy_view.specs.declared.did.Did.{Did}
 use Rattle.thy_view.specs.declared.did.Did.TheVariants.{Moved}
 use Rattle.thy_view.specs.declared.did.Stall.{Stall}
@@ -112,13 +112,14 @@ pub record IsUnderWay (sealed : Option Mark) (p : Pressure) : Type 0 where
   pub way : p.under_way ≡ (is_some sealed || p.applies)
   pub apart : p.applies ≡ true → sealed ≡ None
 
--- A shortage is real: it is that of an instruction which is begun, and fewer entries are free than are needed by the lines
--- that are dirty, with the entries that are reserved, and by the blocks of memory and console that it stores to.
+-- A shortage is real: it is that of an instruction which is begun and has not reserved its entries yet, and fewer entries are
+-- free than are needed by the lines that are dirty and by the blocks of memory and console that it stores to.
 pub record IsShortage (o : Origin) (v : View) (begun : Option ℕ) (g : Gauge) (s : Shortage) : Type 0 where
   pub hart : ℕ
   pub is_begun : begun ≡ Some hart
   pub free : s.free ≡ g.free
   pub dirty : s.dirty ≡ g.dirty
+  pub had_not : g.has_reserved ≡ false
   pub need : s.need ≡ needs_at o hart v.count
   pub short : s.free < s.dirty + s.need
 
@@ -139,10 +140,10 @@ pub record IsPressed {M : Type 0} (K : KindOf M) (o : Origin) (m : M) (n : Devic
 -- a power cut then leaves is the committed checkpoint, whole, or the one in doubt. A step that finds an empty queue,
 -- as the boot's first does, reads the commit block if that is still to be read. It acts on the device once, or reads
 -- it and writes one block of the DRAM, keeps within the bounds, decreases the measure `ahead` unless the machine has
--- halted or an instruction retires, and completes what it reports. Lines of the cache become dirty only as the
--- instruction in hand stores to them. The pressure on the machine before it, which decides its turn, is as reported. In a
--- boot that found a checkpoint it leaves the device as it was, unless the machine migrates; and whatever a cut then leaves
--- is that checkpoint.
+-- halted or an instruction retires, and completes what it reports. No more lines of the cache become dirty than entries
+-- are used that the instruction in hand has reserved. The pressure on the machine before it, which decides its turn, is as
+-- reported. In a boot that found a checkpoint it leaves the device as it was, unless the machine migrates; and whatever a
+-- cut then leaves is that checkpoint.
 pub record IsStep {M : Type 0} (K : KindOf M) (o : Origin) (k : ℕ) (pick : Pick) (m next : M) (n new : Device) (r : Stepped) : Type 0 where
   pub at_next : K.is_at o (k + 1) next new
   pub step : CoreStep o (K.view o m n) r.did (K.view o next new)
@@ -255,7 +256,7 @@ pub record IsFittedFor {M : Type 0} (K : KindOf M) (o : Origin) (shape : Shape) 
   pub long : AllLong start
   pub found : K.decode o.geometry ceiling (fitted shape start n).image ≡ found_first o o.kept
 
--- a device that a run may have left which was at a moment with this view: it is up, nothing is queued, it has its size, and its
+-- a device over which power may come on after a moment with this view: it is up, nothing is queued, it has its size, and its
 -- image means the kept mark or the sealed one
 pub record IsLeft {M : Type 0} (K : KindOf M) (o : Origin) (v : View) (n : Device) : Type 0 where
   pub up : n.down ≡ false
@@ -286,11 +287,8 @@ pub record IsLawful {M : Type 0} (K : KindOf M) : Type 0 where
   pub begins : (o : Origin) (m : M) (shape : Shape) (start : List Block) (n : Device)
       → IsOrigin o → K.powered o.geometry m → IsFittedFor K o shape start n
       → K.is_at o 0 m (fitted shape start n) × (K.view o m (fitted shape start n) ≡ first_view o)
-  -- a power cut leads to a moment of the same run, whose view is what the image means that was left
-  pub recovers : (o : Origin) (k : ℕ) (m next : M) (n : Device) (pick : ℕ) (g : List Block)
-      → K.is_at o k m n → K.powered o.geometry next → Crash n g
-      → K.is_at o k next (cut_to n pick g) × (K.view o next (cut_to n pick g) ≡ view_of_image o.start.count (K.decode o.geometry ceiling g))
-  -- and so does power that comes on over any device that the run may have left, also by a step that failed
+  -- power that comes on over a device which a cut may have left, also after a step that failed, leads to a moment of the
+  -- same run, whose view is what the image means
   pub finds : (o : Origin) (k : ℕ) (m next : M) (n left : Device)
       → K.is_at o k m n → K.powered o.geometry next → IsLeft K o (K.view o m n) left
       → K.is_at o k next left × (K.view o next left ≡ view_of_image o.start.count (K.decode o.geometry ceiling left.image))

@@ -9,8 +9,8 @@ use Rattle.thy_isa.specs.declared.state.Status.TheVariants.{Running}
 use Rattle.thy_isa.specs.OnBlocks.{setting_for}
 use Rattle.thy_isa.specs.Step.{State, Setting, state_of, cpu_of, step_of, is_running}
 use Rattle.thy_isa.specs.Storable.{IsStorable, IsReadable}
-use Rattle.thy_record.specs.Cpu.{IsRecordable}
-use Rattle.thy_record.specs.declared.start.Start.{Start}
+use Rattle.thy_layout.specs.Cpu.{IsRecordable}
+use Rattle.thy_layout.specs.declared.start.Start.{Start}
 
 -- what a run is about
 pub record Origin : Type 0 where

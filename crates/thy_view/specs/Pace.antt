@@ -15,7 +15,7 @@ pub record Gauge : Type 0 where
   pub queued : ℕ
   -- table entries that are free
   pub free : ℕ
-  -- lines of the cache that are dirty, and entries that the instruction in hand has reserved
+  -- lines of the cache that are dirty, and entries that the instruction in hand has reserved and not used yet
   pub dirty : ℕ
   -- that instruction has reserved an entry for each block that it stores to
   pub has_reserved : Bool

@@ -3,7 +3,7 @@
 use Rattle.std.specs.Prelude.{◌≡◌, ◌⊎◌, ℕ, ◌^◌, List, Option, Some, None}
 use Rattle.thy_base.specs.declared.block.Block.{Block}
 use Rattle.thy_base.specs.Device.{Device, Crash}
-use Rattle.thy_record.specs.Decoded.{Decoded, Nothing, Refused, At, Reading}
+use Rattle.thy_layout.specs.Decoded.{Decoded, Nothing, Refused, At, Reading}
 use Rattle.thy_base.specs.declared.mark.Mark.{Mark}
 use Rattle.thy_base.specs.Marks.{mark}
 use Rattle.thy_view.specs.Origin.{Origin, at}

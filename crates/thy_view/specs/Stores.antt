@@ -1,5 +1,5 @@
 -- Part of the claim.
--- How many blocks a hart's next instruction stores to, and which lines of the cache become dirty by it.
+-- How many blocks a hart's next instruction stores to, and how many lines of the cache become dirty.
 use Rattle.std.specs.Prelude.{◌≡◌, ◌≢◌, ◌⊎◌, ℕ, ◌+◌, ◌-◌, ◌≤◌, ◌==◌, true, false, if◌then◌else◌, Some, None}
 use Rattle.thy_flat.specs.declared.span.Span.{Span}
 use Rattle.thy_flat.specs.Spans.{rest_of}
@@ -11,6 +11,7 @@ use Rattle.thy_view.specs.declared.view.View.{View}
 use Rattle.thy_view.specs.Origin.{Origin, setting_of, at}
 use Rattle.thy_view.specs.Pace.{Gauge}
 use Rattle.thy_view.specs.Turn.{Pressure}
+use Rattle.thy_view.specs.Views.{is_boot}
 
 -- how many blocks a span lies in, which has at most 64 bytes
 abbrev pub blocks_in : Span → ℕ
@@ -30,30 +31,35 @@ needs_at o hart k = blocks_in (stored_by o (fronted hart (at o k)))
 abbrev pub reserved_by : Pressure → Gauge → ℕ
 reserved_by p g = g.dirty - p.dirty
 
--- a gauge counts the dirty lines, and with them what is reserved, which is nothing while no instruction is begun
+-- A gauge counts the dirty lines, and with them what is reserved. While no instruction is begun nothing is, and none has
+-- reserved its entries.
 pub record CountsLines (p : Pressure) (g : Gauge) : Type 0 where
   pub lines : p.dirty ≤ g.dirty
   pub unreserved : p.begun ≡ None → g.dirty ≡ p.dirty
+  pub unmarked : p.begun ≡ None → g.has_reserved ≡ false
 
--- No entry is reserved, and a line becomes dirty only as a reserved entry is used for it. An instruction that has reserved
--- its entries has done so until it ends.
-pub record UsesEntries (old new : Pressure) (before after : Gauge) : Type 0 where
+-- No entry is reserved, and no more lines become dirty than reserved entries are used. After the boot no more entries are
+-- taken than dirty lines and reserved entries together become fewer. An instruction that has reserved its entries has done so
+-- until it ends.
+pub record UsesEntries (v : View) (old new : Pressure) (before after : Gauge) : Type 0 where
   pub entries : reserved_by new after ≤ reserved_by old before
   pub lines : after.dirty ≤ before.dirty
+  pub room : is_boot v.phase ≡ false → after.dirty + before.free ≤ before.dirty + after.free
   pub once : new.begun ≢ None → after.has_reserved ≡ before.has_reserved
 
--- The instruction that is begun reserves an entry for each block that it stores to, which it had not done before. No line
--- becomes dirty.
+-- The instruction that is begun reserves an entry for each block that it stores to, which it had not done before. No more
+-- lines are dirty than before, and no entry is taken.
 pub record ReservesEntries (o : Origin) (v : View) (old new : Pressure) (before after : Gauge) : Type 0 where
   pub hart : ℕ
   pub is_begun : old.begun ≡ Some hart
   pub none : before.dirty ≡ old.dirty
   pub entries : after.dirty ≡ new.dirty + needs_at o hart v.count
   pub lines : new.dirty ≤ old.dirty
+  pub free : before.free ≤ after.free
   pub had_not : before.has_reserved ≡ false
   pub has : after.has_reserved ≡ true
 
 -- what a cycle that did this makes of the dirty lines: only a hart that moved reserves entries
 abbrev pub Dirties : Origin → View → Did → Pressure → Pressure → Gauge → Gauge → Type 0
 Dirties o v did old new before after =
-    UsesEntries old new before after ⊎ ((did ≡ Moved) × ReservesEntries o v old new before after)
+    UsesEntries v old new before after ⊎ ((did ≡ Moved) × ReservesEntries o v old new before after)

@@ -5,7 +5,7 @@ use Rattle.thy_base.specs.Device.{Device}
 use Rattle.thy_dram.specs.Contents.{Contents}
 use Rattle.thy_view.specs.declared.did.Did.{Did}
 use Rattle.thy_view.specs.declared.did.Did.TheVariants.{Loaded, Restarted, Moved, Retired, Merged, Sealed, Promoted, Engine, Committed}
-use Rattle.thy_record.specs.declared.engine_step.EngineStep.TheVariants.{Copied, PageBlock, StateBlock, TableBlock}
+use Rattle.thy_layout.specs.declared.engine_step.EngineStep.TheVariants.{Copied, PageBlock, StateBlock, TableBlock}
 use Rattle.thy_view.specs.Dram.{WritesBlock}
 use Rattle.thy_view.specs.Pace.{Gauge}
 

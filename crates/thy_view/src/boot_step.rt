@@ -1,6 +1,6 @@
 //! What a step of the boot reports.
 use thy_isa::CpuState;
-use thy_record::BadImage;
+use thy_layout::BadImage;
 
 /// What a step of the boot reports.
 #[derive(Clone, Copy, Debug, PartialEq, Eq)]

@@ -12,7 +12,7 @@ use std::alloc::{AllocError, Global};
 use thy_base::{Bytes, Geometry, Nvm, NvmError, Pick};
 use thy_dram::Dram;
 use thy_isa::MachState;
-use thy_record::Start;
+use thy_layout::Start;
 
 /// A machine: hart, memory and checkpoint engine, over an NVM. One step is one cycle. Only `power_on`, `snapshot`
 /// and `console` allocate.

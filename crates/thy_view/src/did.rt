@@ -1,7 +1,7 @@
 //! What one cycle did.
 
 use thy_base::EndCause;
-use thy_record::{BadImage, EngineStep};
+use thy_layout::{BadImage, EngineStep};
 
 /// What a cycle did.
 #[derive(Clone, Copy, Debug, PartialEq, Eq)]

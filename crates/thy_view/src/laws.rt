@@ -1,9 +1,9 @@
 //! Laws of what a power cut may leave, of the plain machine by turns, of who retires an instruction, and of what follows a
-//! fault, each the contract of a function that does nothing.
+//! cut or a fault, each the contract of a function that does nothing.
 ghost use Rattle.thy_view.specs.OneHart.{EachHasItsTurn, TurnsDontMatter};
 ghost use Rattle.thy_view.specs.Laws.{TurnsLeadTo, StaysSafe, HartZeroSteps, UntoldSteps, StepsReach, RetiresReach, StaysThere, LastTold, FindsTurns, BegunIsRetired};
 ghost use Rattle.thy_view.specs.Safe.{SameIsNoDoubt};
-ghost use Rattle.thy_view.specs.Again.{GoesOn};
+ghost use Rattle.thy_view.specs.Again.{GoesOnAfterCut, GoesOnAfterFault};
 
 use crate::Computer;
 
@@ -73,8 +73,13 @@ pub fn an_instruction_is_retired_by_the_hart_that_began_it()
     ensures { BegunIsRetired }
 {}
 
-/// After a step that failed power can be cut and come on again: that leads to a moment of the same run, whose view is what the
+/// At each moment of a run power can be cut and come on again: that leads to a moment of the same run, whose view is what the
 /// image means that the cut left.
+pub fn a_run_goes_on_after_a_cut<M: Computer>()
+    ensures { GoesOnAfterCut M.kind }
+{}
+
+/// And so it can after a step that failed.
 pub fn a_run_goes_on_after_a_fault<M: Computer>()
-    ensures { GoesOn M.kind }
+    ensures { GoesOnAfterFault M.kind }
 {}

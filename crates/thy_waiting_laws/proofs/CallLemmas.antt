@@ -4,8 +4,8 @@ use Rattle.std.proofs.lemmas.Bool.{both_ways, ltb-true, ltb-false}
 use Rattle.thy_base.specs.declared.mark.Mark.{Mark}
 use Rattle.thy_base.specs.Device.{Device, HasFailed, IsFramed, settled}
 use Rattle.thy_isa.specs.declared.state.CpuState.{CpuState}
-use Rattle.thy_record.specs.declared.engine_step.EngineStep.{EngineStep}
-use Rattle.thy_record.specs.declared.engine_step.EngineStep.TheVariants.{Idle, Copied, PageBlock, StateBlock, TableBlock, Barrier, CommitWritten, Committed}
+use Rattle.thy_layout.specs.declared.engine_step.EngineStep.{EngineStep}
+use Rattle.thy_layout.specs.declared.engine_step.EngineStep.TheVariants.{Idle, Copied, PageBlock, StateBlock, TableBlock, Barrier, CommitWritten, Committed}
 use Rattle.thy_view.specs.declared.did.Did.{Did}
 use Rattle.thy_view.specs.Action.{Barrier as BarrierAction, Acts}
 use Rattle.thy_view.specs.Origin.{Origin}

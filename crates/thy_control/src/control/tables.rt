@@ -1,14 +1,14 @@
 //! The tables of the checkpoint under way, and the counts of the epoch before, as blocks.
 ghost use Rattle.std.specs.Prelude.{◌≡◌, ◌+◌, ◌-◌, ◌<◌, ◌≤◌, ◌++◌, length, map, option_and_then};
 ghost use Rattle.thy_record.specs.TableBlocks.{table_block_of};
-ghost use Rattle.thy_record.specs.Tables.{entry_at as listed_at};
+ghost use Rattle.thy_layout.specs.Entries.{entry_at as listed_at};
 ghost use Rattle.thy_switch.specs.LastBlocks.{last_block_of};
 ghost use Rattle.thy_base.specs.Places.{table_blocks, count_blocks};
 ghost use Rattle.thy_control.specs.TableBlocks.{block_due, page_due};
 
 use super::Control;
 use thy_base::Block;
-use thy_record::table_block;
+use thy_layout::table_block;
 use thy_table::{Btt, BttEntry, Ptt, PttEntry, Site, Version};
 
 /// The block that the checkpoint under way lists at an entry.

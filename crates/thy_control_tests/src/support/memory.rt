@@ -16,7 +16,8 @@ use thy_control::Control;
 use thy_dram::Dram;
 use thy_isa::{CpuState, Regs, Status};
 use thy_nvm::MemNvm;
-use thy_record::{EngineStep, Found, check, header_block, state};
+use thy_layout::{EngineStep, Found};
+use thy_record::{check, header_block, state};
 
 /// The controller, its engine and the NVM.
 #[derive(Drop)]

@@ -20,7 +20,7 @@ use thy_control::Control;
 use thy_dram::Dram;
 use thy_migrate::DualFills;
 use thy_nvm::MemNvm;
-use thy_record::Start;
+use thy_layout::Start;
 use thy_view::BootStep;
 
 /// A machine whose power is off: both devices, and how many cuts are to come at most.

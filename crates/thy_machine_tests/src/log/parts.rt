@@ -8,7 +8,8 @@ ghost use Rattle.thy_boot.specs.Boot.{new_boot};
 ghost use Rattle.thy_isa.specs.Step.{state_of};
 ghost use Rattle.thy_log.specs.State.{new_state};
 ghost use Rattle.thy_refill.specs.Filling.{filling_journal};
-ghost use Rattle.thy_machine_tests.specs.LogParts.{Boots, IsLeastStart, goes_on};
+ghost use Rattle.thy_machine_tests.specs.Least.{IsLeastStart, goes_on};
+ghost use Rattle.thy_machine_tests.specs.LogParts.{Boots};
 
 use std::alloc::Global;
 use std::marker::Model;
@@ -21,7 +22,7 @@ use thy_journal::Refill;
 use thy_journal_image::blocks;
 use thy_log::{Engine, Log};
 use thy_nvm::MemNvm;
-use thy_record::{EngineStep, Start};
+use thy_layout::{EngineStep, Start};
 use thy_view::BootStep;
 
 /// Both devices while the power is off, and how many cuts are to come at most.
@@ -34,7 +35,8 @@ pub(crate) struct Off {
 }
 
 impl Model for Off {
-    ghost use Rattle.thy_machine_tests.specs.LogParts.{Off as IsValue, IsOff, off};
+    ghost use Rattle.thy_machine_tests.specs.Least.{Off as IsValue, off};
+    ghost use Rattle.thy_machine_tests.specs.LogParts.{IsOff};
 
     ghost Value = { IsValue };
 

@@ -2,7 +2,7 @@
 //! gives is what the list of that version has.
 ghost use Rattle.std.specs.Prelude.{◌≡◌, ◌<◌, ◌≤◌, length};
 ghost use Rattle.thy_isa.specs.Step.{state_of};
-ghost use Rattle.thy_machine_tests.specs.LogParts.{IsLeastStart};
+ghost use Rattle.thy_machine_tests.specs.Least.{IsLeastStart};
 
 use crate::log::parts::{Booted, Off, Parts, cpu_at};
 use crate::support::expect::{expect, expect_at};
@@ -11,7 +11,7 @@ use std::alloc::Global;
 use std::process::Abort;
 use thy_base::{Block, Bytes, Lcg, Parameters, SchemeName};
 use thy_isa::{CpuState, MachState, Regs, Status};
-use thy_record::{EngineStep, Start};
+use thy_layout::{EngineStep, Start};
 use thy_view::BootStep;
 
 /// How many entries the table has.

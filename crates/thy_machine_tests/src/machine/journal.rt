@@ -14,7 +14,7 @@ use thy_core::Machine;
 use thy_isa::Status;
 use thy_journal::Journal;
 use thy_plain::Plain;
-use thy_record::EngineStep;
+use thy_layout::EngineStep;
 use thy_view::{Computer, Did};
 
 /// `addi a0,zero,7; addi a7,zero,93; ecall`.

@@ -16,7 +16,7 @@ use thy_base::{EndCause, Mark};
 use thy_core::Machine;
 use thy_isa::Status;
 use thy_plain::Plain;
-use thy_record::EngineStep;
+use thy_layout::EngineStep;
 use thy_shadow::Shadow;
 
 /// `lui t0,1; sub t1,sp,t0; sub t2,t1,t0; sub t3,t2,t0`, so that sp and the three lie in four pages; `sd t0,0(sp);

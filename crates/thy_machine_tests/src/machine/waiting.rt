@@ -9,7 +9,7 @@ use std::process::Abort;
 use thy_base::EndCause;
 use thy_core::Machine;
 use thy_isa::Status;
-use thy_record::EngineStep;
+use thy_layout::EngineStep;
 use thy_view::Did;
 use thy_waiting::WaitingScheme;
 

@@ -8,7 +8,8 @@ ghost use Rattle.thy_boot.specs.Boot.{new_boot};
 ghost use Rattle.thy_isa.specs.Step.{state_of};
 ghost use Rattle.thy_pool.specs.Stores.{new_state};
 ghost use Rattle.thy_repool.specs.Filling.{filling_shadow};
-ghost use Rattle.thy_machine_tests.specs.PoolParts.{Boots, IsLeastStart, goes_on};
+ghost use Rattle.thy_machine_tests.specs.Least.{IsLeastStart, goes_on};
+ghost use Rattle.thy_machine_tests.specs.PoolParts.{Boots};
 
 use std::alloc::Global;
 use std::marker::Model;
@@ -19,7 +20,7 @@ use thy_dram::Dram;
 use thy_isa::{CpuState, Regs, Status};
 use thy_nvm::MemNvm;
 use thy_pool::{Engine, Pool};
-use thy_record::{EngineStep, Start};
+use thy_layout::{EngineStep, Start};
 use thy_shadow::Relist;
 use thy_shadow_image::blocks;
 use thy_view::BootStep;
@@ -34,7 +35,8 @@ pub(crate) struct Off {
 }
 
 impl Model for Off {
-    ghost use Rattle.thy_machine_tests.specs.PoolParts.{Off as IsValue, IsOff, off};
+    ghost use Rattle.thy_machine_tests.specs.Least.{Off as IsValue, off};
+    ghost use Rattle.thy_machine_tests.specs.PoolParts.{IsOff};
 
     ghost Value = { IsValue };
 

@@ -393,19 +393,25 @@ static ADDRESSES: [u8; 64] = [
     0x00, 0x00, 0x00, 0x00, 0x00, 0x00, 0x00, 0x00, 0x00, 0x00, 0x00, 0x00, 0x00, 0x00, 0x00, 0x00,
 ];
 
-/// The run stops before its seal at cycle 710, with the checkpoint of epoch 0. What is resumed from it ends with that of epoch
-/// 1, in slot 1, which begins 13 blocks after slot 0.
-#[test]
-fn addresses_with_nothing_reserved_are_saved_again(rt: HostRuntime) -> Result<(), Fail> {
-    let alloc = rt.alloc();
-    let file = file_of(alloc, 0, &SECOND_EXITS)?;
+/// A run of this program stops before its first seal, with the checkpoint of epoch 0, which then gets these addresses beside
+/// widths of 0. What is resumed from it ends with this status, and with the checkpoint of epoch 1, in slot 1, which begins at
+/// block 1061: its record has these words, and these are its words 72 to 79.
+fn expect_resumed(
+    rt: &impl Abort,
+    alloc: Global,
+    program: &[u32],
+    status: u8,
+    words: &[(usize, u64)],
+    reserved: &[u8],
+) -> Result<(), AllocError> {
+    let file = file_of(alloc, 0, program)?;
     let mut shelf = shelf_of(alloc, &[("H", file.as_slice())])?;
     let line = "thynvm run H --pages 8 --btt 8 --ptt 8 --harts 2 --limit 700 --save D";
     let given = called_on(alloc, line, &mut shelf, &[], &[])?;
-    expect_at(&rt, given.status, 8, line);
+    expect_at(rt, given.status, 8, line);
     let mut image = shelf
         .fetch(alloc, "D", 67_108_864)
-        .expect(&rt, "a saved image");
+        .expect(rt, "a saved image");
     for (i, byte) in ADDRESSES.iter().enumerate() {
         if let Some(place) = image.get_mut(RESERVED.saturating_add(i)) {
             *place = *byte;
@@ -414,12 +420,67 @@ fn addresses_with_nothing_reserved_are_saved_again(rt: HostRuntime) -> Result<()
     assert!(rt; shelf.put(alloc, "D", image.as_slice()).is_ok());
     let line = "thynvm resume D --pages 8 --btt 8 --ptt 8 --harts 2 --save D";
     let given = called_on(alloc, line, &mut shelf, &[], &[])?;
-    expect_at(&rt, given.status, 0, line);
+    expect_at(rt, given.status, status, line);
     let saved = shelf
         .fetch(alloc, "D", 67_108_864)
-        .expect(&rt, "a saved image");
+        .expect(rt, "a saved image");
+    for (word, value) in words {
+        assert!(rt; *word < 72 && saved.len() == 68_736);
+        let at = 67_904 + *word * 8;
+        expect_at(
+            rt,
+            &saved.as_slice()[at..at + 8],
+            value.to_le_bytes().as_slice(),
+            *word,
+        );
+    }
     assert!(rt; saved.len() == 68_736);
-    let words = &saved.as_slice()[68_480..68_544];
-    expect_at(&rt, words, ADDRESSES.as_slice(), line);
+    expect_at(rt, &saved.as_slice()[68_480..68_544], reserved, line);
+    Ok(())
+}
+
+/// Its first seal is at cycle 710.
+#[test]
+fn addresses_with_nothing_reserved_are_saved_again(rt: HostRuntime) -> Result<(), Fail> {
+    expect_resumed(&rt, rt.alloc(), &SECOND_EXITS, 0, &[], ADDRESSES.as_slice())?;
+    Ok(())
+}
+
+/// Each hart counts down from 100, at two cycles or more an instruction, and then stores conditionally with nothing reserved,
+/// and adds 1 to the word at 69632. Who comes second exits with 6 more than the result of its store.
+/// `addi x7,x0,100`, `addi x7,x7,-1`, `bne x7,x0,-4`, `addi x5,x0,1`, `lui x6,0x11`, `sc.d a2,x5,(x6)`,
+/// `amoadd.d a1,x5,(x6)`, `bne a1,x0,+8`, `jal x0,0`, `addi a0,a2,6`, `addi a7,x0,93`, `ecall`.
+static STORES_UNRESERVED: [u32; 12] = [
+    0x06400393, 0xFFF38393, 0xFE039EE3, 0x00100293, 0x00011337, 0x1853362F, 0x005335AF, 0x00059463,
+    0x0000006F, 0x00660513, 0x05D00893, 0x00000073,
+];
+
+/// The same countdown, and then a conditional store to 69636, which is no multiple of 8.
+/// `lui x6,0x11`, `addi x6,x6,4`, `sc.d a2,x5,(x6)`.
+static STORES_MISALIGNED: [u32; 6] = [
+    0x06400393, 0xFFF38393, 0xFE039EE3, 0x00011337, 0x00430313, 0x1853362F,
+];
+
+/// Of the record after the first program: a2 of both harts, exited, with 7. After the second: trapped, with cause 6.
+static EXITED: [(usize, u64); 4] = [(12, 1), (52, 1), (36, 1), (37, 7)];
+
+static TRAPPED: [(usize, u64); 2] = [(36, 2), (37, 6)];
+
+/// When a hart exits from the first program both have stored in vain, and nothing is left of the addresses. The hart that comes
+/// first in the second program traps, and both addresses are left.
+#[test]
+fn a_conditional_store_clears_its_harts_address_unless_it_traps(
+    rt: HostRuntime,
+) -> Result<(), Fail> {
+    let alloc = rt.alloc();
+    expect_resumed(&rt, alloc, &STORES_UNRESERVED, 0, &EXITED, &[0; 64])?;
+    expect_resumed(
+        &rt,
+        alloc,
+        &STORES_MISALIGNED,
+        1,
+        &TRAPPED,
+        ADDRESSES.as_slice(),
+    )?;
     Ok(())
 }

@@ -1,5 +1,5 @@
 use Rattle.std.proofs.Common.{◌≡◌, take}
-use Rattle.thy_record.specs.Files.{blocks_of}
+use Rattle.thy_layout.specs.Files.{blocks_of}
 use Rattle.thy_files.proofs.restoring.whole_blocks.Given as goal
 
 abbrev pub invariant-loop-k : goal.invariant-loop-k

@@ -1,5 +1,5 @@
 use Rattle.std.proofs.Common.{◌≡◌, take}
-use Rattle.thy_record.specs.Files.{blocks_of}
+use Rattle.thy_layout.specs.Files.{blocks_of}
 use Rattle.thy_journal_image.specs.CheckpointParts.{memory_places}
 use Rattle.thy_journal_image.specs.Slots.{table_in}
 use Rattle.thy_journal_image.proofs.index.list_blocks.Given as goal

@@ -1,4 +1,4 @@
-use Rattle.thy_record.specs.Files.{blocks_of}
+use Rattle.thy_layout.specs.Files.{blocks_of}
 use Rattle.thy_shadow_image.specs.Slots.{table_in}
 use Rattle.thy_pool.specs.Listed.{HoldsMap}
 use Rattle.thy_pool.proofs.listing.list_all.Given as goal

@@ -1,6 +1,6 @@
 use Rattle.std.proofs.Common.{◌+◌, ◌<◌, ℕ, List, length, Option, Some, sym, ◌∙◌, ap, subst, arith}
-use Rattle.thy_record.specs.Files.{blocks_of}
-use Rattle.thy_record.specs.Tables.{Lists}
+use Rattle.thy_layout.specs.Files.{blocks_of}
+use Rattle.thy_layout.specs.Entries.{Lists}
 use Rattle.thy_table.specs.Listing.{Listing, place_of, with_entry}
 use Rattle.thy_shadow_image.specs.Slots.{table_in}
 use Rattle.thy_pool.specs.declared.entry.Held.{Held}

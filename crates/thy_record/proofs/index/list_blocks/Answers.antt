@@ -1,8 +1,8 @@
 use Rattle.std.proofs.Common.{◌∙◌, List, Option, ℕ, ap, arith}
 use Rattle.std.proofs.lemmas.List.{take_all}
-use Rattle.thy_record.specs.Files.{table_in}
+use Rattle.thy_layout.specs.Files.{table_in}
 use Rattle.thy_record.specs.Index.{index_by, with_block}
-use Rattle.thy_record.proofs.ClashLemmas.{length-table_in}
+use Rattle.thy_layout.proofs.ClashLemmas.{length-table_in}
 use Rattle.thy_record.proofs.IndexLemmas.{block_listed}
 use Rattle.thy_record.proofs.index.list_blocks.Goals as goal
 

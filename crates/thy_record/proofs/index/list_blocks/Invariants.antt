@@ -1,5 +1,5 @@
 use Rattle.std.proofs.Common.{◌≡◌, ℕ, List, [], Option, length, take}
-use Rattle.thy_record.specs.Files.{table_in}
+use Rattle.thy_layout.specs.Files.{table_in}
 use Rattle.thy_record.specs.Index.{index_by}
 use Rattle.thy_record.proofs.index.list_blocks.Given as goal
 

@@ -1,8 +1,8 @@
 use Rattle.std.proofs.Common.{◌∙◌, [], Option, ℕ, length, take, ap, subst, arith}
 use Rattle.std.proofs.lemmas.List.{take_all}
-use Rattle.thy_record.specs.Files.{table_in}
+use Rattle.thy_layout.specs.Files.{table_in}
 use Rattle.thy_record.specs.Index.{index_by, HasPageOf}
-use Rattle.thy_record.proofs.ClashLemmas.{length-table_in}
+use Rattle.thy_layout.proofs.ClashLemmas.{length-table_in}
 use Rattle.thy_record.proofs.IndexLemmas.{length-index_by, page_listed}
 use Rattle.thy_record.proofs.index.list_pages.Goals as goal
 

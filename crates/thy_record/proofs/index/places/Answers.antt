@@ -1,5 +1,5 @@
 use Rattle.std.proofs.Common.{◌∙◌, [], length, sym, ap}
-use Rattle.thy_record.proofs.ClashLemmas.{length-table_in}
+use Rattle.thy_layout.proofs.ClashLemmas.{length-table_in}
 use Rattle.thy_record.proofs.IndexLemmas.{length-index_by}
 use Rattle.thy_record.proofs.index.places.Goals as goal
 

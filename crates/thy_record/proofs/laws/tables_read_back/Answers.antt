@@ -1,5 +1,5 @@
 use Rattle.thy_record.proofs.SlotLemmas.{tables_back}
-use Rattle.thy_record.proofs.TableLemmas.{entry_back}
+use Rattle.thy_layout.proofs.EntryWordLemmas.{entry_back}
 use Rattle.thy_record.proofs.laws.tables_read_back.Goals as goal
 
 pub returns-clause-entries : goal.returns-clause-entries

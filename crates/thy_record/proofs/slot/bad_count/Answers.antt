@@ -2,8 +2,8 @@ use Rattle.std.proofs.Common.{◌≡◌, ◌*◌, ◌∙◌, ℕ, false, sym, ap
 use Rattle.std.specs.Option.{option_map}
 use borrow.Author.Count.{below_more}
 use Rattle.thy_base.specs.Places.{count_blocks}
-use Rattle.thy_record.specs.declared.bad_image.BadImage.TheVariants.{Count}
-use Rattle.thy_record.specs.Files.{blocks_of}
+use Rattle.thy_layout.specs.declared.bad_image.BadImage.TheVariants.{Count}
+use Rattle.thy_layout.specs.Files.{blocks_of}
 use Rattle.thy_record.specs.Slots.{is_bad_count}
 use Rattle.thy_record.proofs.CountLemmas.{no_position, position_is}
 use Rattle.thy_record.proofs.slot.bad_count.Goals as goal

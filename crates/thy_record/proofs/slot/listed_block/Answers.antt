@@ -1,8 +1,8 @@
 use Rattle.std.proofs.Common.{arith, ap, length, ◌*◌}
 use Rattle.thy_base.specs.Places.{record_blocks}
-use Rattle.thy_record.specs.Files.{blocks_of}
-use Rattle.thy_record.proofs.ClashLemmas.{length-table_in}
-use Rattle.thy_record.proofs.SlotLemmas.{length-entries_in}
+use Rattle.thy_layout.specs.Files.{blocks_of}
+use Rattle.thy_layout.proofs.ClashLemmas.{length-table_in}
+use Rattle.thy_layout.proofs.SlotLemmas.{length-entries_in}
 use Rattle.thy_record.proofs.slot.listed_block.Goals as goal
 
 pub entry-requires : goal.entry-requires

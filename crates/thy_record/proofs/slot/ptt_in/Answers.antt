@@ -1,7 +1,7 @@
 use Rattle.std.proofs.Common.{◌≡◌, ◌+◌, ◌*◌, ◌%◌, ap, arith}
 use Rattle.thy_base.specs.declared.config.Parameters.{Parameters}
 use Rattle.thy_base.specs.Places.{record_blocks}
-use Rattle.thy_record.proofs.FileLemmas.{table_in-slice}
+use Rattle.thy_layout.proofs.FileLemmas.{table_in-slice}
 use Rattle.thy_record.proofs.slot.ptt_in.Goals as goal
 use Rattle.thy_base.proofs.RangeLemmas.{btt_eights, ptt_eights}
 

@@ -1,7 +1,7 @@
 use Rattle.std.proofs.Common.{arith}
-use Rattle.thy_record.specs.Files.{table_in}
+use Rattle.thy_layout.specs.Files.{table_in}
 use Rattle.thy_record.specs.TableFaults.{under_rule}
-use Rattle.thy_record.proofs.ClashLemmas.{length-table_in, clash_none}
+use Rattle.thy_layout.proofs.ClashLemmas.{length-table_in, clash_none}
 use Rattle.thy_record.proofs.table_faults.under_fault.Goals as goal
 
 pub returns : goal.returns

@@ -1,6 +1,7 @@
 use Rattle.std.proofs.Common.{◌≡◌, drop}
-use Rattle.thy_record.specs.Files.{table_in}
-use Rattle.thy_record.specs.TableFaults.{first_clash, under_rule}
+use Rattle.thy_layout.specs.Files.{table_in}
+use Rattle.thy_layout.specs.EntryFaults.{first_clash}
+use Rattle.thy_record.specs.TableFaults.{under_rule}
 use Rattle.thy_record.proofs.table_faults.under_fault.Given as goal
 
 abbrev pub invariant-loop-i : goal.invariant-loop-i

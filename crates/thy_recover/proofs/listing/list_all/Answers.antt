@@ -1,5 +1,5 @@
 use Rattle.std.proofs.Common.{◌∙◌}
-use Rattle.thy_record.specs.Files.{blocks_of}
+use Rattle.thy_layout.specs.Files.{blocks_of}
 use Rattle.thy_record.specs.Slots.{tables_in}
 use Rattle.thy_recover.proofs.ListedLemmas.{AsListed-on, same_p-listed}
 use Rattle.thy_recover.proofs.listing.list_all.Goals as goal

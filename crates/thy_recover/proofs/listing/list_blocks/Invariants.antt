@@ -1,4 +1,4 @@
-use Rattle.thy_record.specs.Files.{blocks_of}
+use Rattle.thy_layout.specs.Files.{blocks_of}
 use Rattle.thy_record.specs.Slots.{tables_in}
 use Rattle.thy_recover.specs.Listed.{AsListed}
 use Rattle.thy_recover.proofs.listing.list_blocks.Given as goal

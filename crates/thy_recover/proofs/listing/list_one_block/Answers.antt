@@ -1,5 +1,5 @@
 use Rattle.std.proofs.Common.{sym, ◌∙◌}
-use Rattle.thy_record.specs.Files.{blocks_of}
+use Rattle.thy_layout.specs.Files.{blocks_of}
 use Rattle.thy_record.specs.Slots.{tables_in}
 use Rattle.thy_record.specs.Tables.{Tables}
 use Rattle.thy_recover.proofs.ListedLemmas.{may_block}

@@ -2,9 +2,9 @@ use Rattle.std.proofs.Common.{◌≡◌, ◌+◌, ◌*◌, ℕ, None, false, get
 use Rattle.std.proofs.lemmas.Bool.{cases_eq}
 use Rattle.thy_base.specs.declared.config.Parameters.{Parameters}
 use Rattle.thy_base.specs.Places.{record_blocks}
-use Rattle.thy_record.specs.Files.{blocks_of}
+use Rattle.thy_layout.specs.Files.{blocks_of}
 use Rattle.thy_record.specs.Slots.{tables_in}
-use Rattle.thy_record.proofs.SlotLemmas.{length-entries_in}
+use Rattle.thy_layout.proofs.SlotLemmas.{length-entries_in}
 use Rattle.thy_table.proofs.FirstLemmas.{first_from-is, first_from-none}
 use Rattle.thy_recover.proofs.listing.next_listed.Goals as goal
 

@@ -1,6 +1,6 @@
 use Rattle.std.proofs.Common.{◌∙◌, ◌+◌, ap, arith}
 use Rattle.thy_base.specs.declared.config.Parameters.{Parameters}
-use Rattle.thy_record.specs.Files.{blocks_of}
+use Rattle.thy_layout.specs.Files.{blocks_of}
 use Rattle.thy_refill.proofs.ListLemmas.{lists_start, lists_here, lists_on, lists_all}
 use Rattle.thy_refill.proofs.listing.list_all.Goals as goal
 

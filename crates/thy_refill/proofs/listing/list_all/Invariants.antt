@@ -1,4 +1,4 @@
-use Rattle.thy_record.specs.Files.{blocks_of}
+use Rattle.thy_layout.specs.Files.{blocks_of}
 use Rattle.thy_refill.specs.Listed.{ListsUpTo}
 use Rattle.thy_refill.proofs.listing.list_all.Given as goal
 

@@ -1,5 +1,5 @@
 use Rattle.std.proofs.Common.{sym, ◌∙◌}
-use Rattle.thy_record.specs.Files.{blocks_of}
+use Rattle.thy_layout.specs.Files.{blocks_of}
 use Rattle.thy_refill.proofs.ListLemmas.{listed_inside, not_listed_at}
 use Rattle.thy_refill.proofs.listing.list_one.Goals as goal
 

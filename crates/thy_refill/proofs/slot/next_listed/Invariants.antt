@@ -1,6 +1,6 @@
 use Rattle.std.proofs.Common.{◌≡◌, ℕ, ◌<◌, ◌≤◌, false, is_some}
-use Rattle.thy_record.specs.Files.{blocks_of}
-use Rattle.thy_record.specs.Tables.{entry_at}
+use Rattle.thy_layout.specs.Files.{blocks_of}
+use Rattle.thy_layout.specs.Entries.{entry_at}
 use Rattle.thy_journal_image.specs.Slots.{table_in}
 use Rattle.thy_refill.proofs.slot.next_listed.Given as goal
 

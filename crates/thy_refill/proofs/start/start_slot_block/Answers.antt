@@ -2,8 +2,8 @@ use Rattle.std.proofs.Common.{ℕ, ◌-◌, Bool, if◌then◌else◌, ◌∙◌
 use Rattle.std.proofs.lemmas.Bool.{le-ltb}
 use Rattle.thy_base.specs.Places.{record_blocks}
 use Rattle.thy_isa.specs.Step.{state_of, cpu_of}
-use Rattle.thy_record.specs.Cpu.{cpu_block_of}
-use Rattle.thy_journal_image.specs.Slots.{table_block_of}
+use Rattle.thy_layout.specs.Cpu.{cpu_block_of}
+use Rattle.thy_layout.specs.TableSlots.{table_block_of}
 use Rattle.thy_refill.specs.Filling.{no_table}
 use Rattle.thy_refill.proofs.ZeroLemmas.{table_block-none}
 use Rattle.thy_refill.proofs.start.start_slot_block.Goals as goal

@@ -1,5 +1,5 @@
 use Rattle.std.proofs.Common.{◌≡◌, ℕ, ◌+◌, ◌*◌, ◌<◌, length}
-use Rattle.thy_record.specs.Tables.{entry_at}
+use Rattle.thy_layout.specs.Entries.{entry_at}
 use Rattle.thy_repool.specs.Filling.{first_table}
 use Rattle.thy_repool.proofs.start.first_entries.Given as goal
 

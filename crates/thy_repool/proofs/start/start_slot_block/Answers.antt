@@ -4,10 +4,11 @@ use Rattle.thy_base.specs.declared.config.Parameters.{Parameters}
 use Rattle.thy_base.specs.Places.{record_blocks}
 use Rattle.thy_base.specs.Words.{block_of}
 use Rattle.thy_isa.specs.Step.{state_of, cpu_of}
-use Rattle.thy_record.specs.Cpu.{cpu_block_of}
-use Rattle.thy_record.specs.TableBlocks.{entry_word, HaveWords}
-use Rattle.thy_journal_image.specs.Slots.{table_block_of}
-use Rattle.thy_pool.proofs.EightLemmas.{HaveWords-eight, block_of_eight}
+use Rattle.thy_layout.specs.Cpu.{cpu_block_of}
+use Rattle.thy_layout.specs.Entries.{entry_word, HaveWords}
+use Rattle.thy_layout.specs.TableSlots.{table_block_of}
+use Rattle.thy_layout.proofs.EightLemmas.{HaveWords-eight, block_of_eight}
+use Rattle.thy_shadow_image.proofs.SlotLemmas.{HaveWords-map}
 use Rattle.thy_repool.specs.Filling.{first_table}
 use Rattle.thy_repool.proofs.FirstLemmas.{IsMap-first}
 use Rattle.thy_repool.proofs.start.start_slot_block.Goals as goal
@@ -18,7 +19,7 @@ table_block-requires c =
     let k : ℕ = c.args.k in
     let r : ℕ = c.record_blocks-record.result in
     subst (λ (es : List (Option ℕ)). HaveWords es) (sym c.first_entries.ensures)
-    (HaveWords-eight p (first_table p) (k - r) c.numbers-numbers.ensures.in_range (IsMap-first p))
+    (HaveWords-eight (first_table p) (k - r) (HaveWords-map p (first_table p) c.numbers-numbers.ensures.in_range (IsMap-first p)))
 
 pub returns-else-k-record : goal.returns-else-k-record
 returns-else-k-record c =

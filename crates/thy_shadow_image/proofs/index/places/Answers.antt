@@ -1,5 +1,5 @@
 use Rattle.std.proofs.Common.{arith}
-use Rattle.thy_record.specs.Files.{blocks_of}
+use Rattle.thy_layout.specs.Files.{blocks_of}
 use Rattle.thy_shadow_image.specs.Slots.{table_in}
 use Rattle.thy_shadow_image.proofs.IndexLemmas.{places_are}
 use Rattle.thy_shadow_image.proofs.index.places.Goals as goal

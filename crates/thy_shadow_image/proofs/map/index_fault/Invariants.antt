@@ -1,5 +1,5 @@
 use Rattle.std.proofs.Common.{◌≡◌, drop}
-use Rattle.thy_record.specs.Files.{blocks_of}
+use Rattle.thy_layout.specs.Files.{blocks_of}
 use Rattle.thy_shadow_image.specs.Slots.{first_stray, table_in}
 use Rattle.thy_shadow_image.proofs.map.index_fault.Given as goal
 

@@ -1,6 +1,6 @@
 use Rattle.std.proofs.Common.{sym, ap, arith}
-use Rattle.thy_record.specs.Files.{blocks_of}
-use Rattle.thy_record.specs.Tables.{Lists}
+use Rattle.thy_layout.specs.Files.{blocks_of}
+use Rattle.thy_layout.specs.Entries.{Lists}
 use Rattle.thy_shadow_image.specs.Places.{pool_page}
 use Rattle.thy_shadow_image.specs.Slots.{table_in}
 use Rattle.thy_shadow_image.proofs.map.mapped_page.Goals as goal

@@ -1,6 +1,6 @@
 use Rattle.std.proofs.Common.{◌≡◌, ◌∷◌, [], ℕ, List, refl, codes}
-use Rattle.thy_record.specs.Refusals.{number_of, name_of}
-use Rattle.thy_record.specs.declared.bad_image.BadImage.{BadImage}
+use Rattle.thy_layout.specs.Refusals.{number_of, name_of}
+use Rattle.thy_layout.specs.declared.bad_image.BadImage.{BadImage}
 use Rattle.thy_text.specs.Closings.{entries_of, image_parts, refusal_parts}
 use Rattle.thy_text.proofs.Rewording.{wrote-as}
 use Rattle.thy_text.proofs.closing.write_image.Goals as goal

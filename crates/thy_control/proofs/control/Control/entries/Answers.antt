@@ -1,5 +1,5 @@
 use Rattle.std.proofs.Common.{List, Option, ℕ, map, ap, subst, sym, ◌∙◌, refl}
-use Rattle.thy_record.specs.TableBlocks.{entry_word, HaveWords}
+use Rattle.thy_layout.specs.Entries.{entry_word, HaveWords}
 use Rattle.thy_base.specs.Words.{block_of}
 use Rattle.thy_record.proofs.TableLemmas.{table_block_of-entries}
 use Rattle.thy_control.specs.CheckpointTables.{tables1}

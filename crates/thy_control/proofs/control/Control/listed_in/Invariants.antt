@@ -1,5 +1,5 @@
 use Rattle.std.proofs.Common.{◌≡◌, ℕ, ◌+◌, ◌*◌, ◌<◌, ◌++◌, length, map, option_and_then}
-use Rattle.thy_record.specs.Tables.{entry_at}
+use Rattle.thy_layout.specs.Entries.{entry_at}
 use Rattle.thy_control.specs.TableBlocks.{block_due, page_due}
 use Rattle.thy_control.proofs.control.Control.listed_in.Given as goal
 

@@ -16,7 +16,7 @@ use Rattle.thy_dual_laws.proofs.BootStepLemmas.{boots-by, fails-by, fits-by, too
 use Rattle.thy_dual.specs.Calls.{TakesBootStep}
 use Rattle.thy_dual.proofs.CallLemmas.{takes_boot_step}
 use Rattle.thy_dual.proofs.CountLemmas.{writes_nothing}
-use Rattle.thy_record.specs.Images.{decode_image}
+use Rattle.thy_record.specs.DualLayouts.{decode_image}
 use Rattle.thy_dual.proofs.dual.DualSchemeScheme.boot_step.Goals as goal
 
 pub step-result-requires-clause-can : goal.step-result-requires-clause-can

@@ -1,6 +1,7 @@
 use Rattle.std.proofs.Common.{ℕ, ◌+◌, ◌*◌, ◌≤◌, length, arith}
 use Rattle.thy_log.specs.State.{State, table_of}
-use Rattle.thy_log.proofs.TableLemmas.{length-table_of, eight_are}
+use Rattle.thy_layout.proofs.EightLemmas.{eight_are}
+use Rattle.thy_log.proofs.TableLemmas.{length-table_of}
 use Rattle.thy_log.proofs.log.Log.listed_in.Goals as goal
 
 pub returns : goal.returns

@@ -1,5 +1,5 @@
 use Rattle.std.proofs.Common.{◌≡◌, ℕ, ◌+◌, ◌*◌, ◌<◌, length}
-use Rattle.thy_record.specs.Tables.{entry_at}
+use Rattle.thy_layout.specs.Entries.{entry_at}
 use Rattle.thy_log.specs.State.{table_of}
 use Rattle.thy_log.proofs.log.Log.listed_in.Given as goal
 

@@ -1,15 +1,17 @@
 use Rattle.std.proofs.Common.{List, Option, ℕ, map, ap, subst, sym, ◌∙◌}
-use Rattle.thy_record.specs.TableBlocks.{entry_word, HaveWords}
+use Rattle.thy_layout.specs.Entries.{entry_word, HaveWords}
 use Rattle.thy_base.specs.Words.{block_of}
 use Rattle.thy_log.specs.State.{State, table_of}
-use Rattle.thy_log.proofs.TableLemmas.{IsTable-table_of, HaveWords-eight, block_of_eight}
+use Rattle.thy_layout.proofs.EightLemmas.{HaveWords-eight, block_of_eight}
+use Rattle.thy_journal_image.proofs.SlotLemmas.{HaveWords-table}
+use Rattle.thy_log.proofs.TableLemmas.{IsTable-table_of}
 use Rattle.thy_log.proofs.log.Log.table_block.Goals as goal
 
 pub table_block-requires : goal.table_block-requires
 table_block-requires c =
     let s : State = c.args.self.now in
     subst (λ (es : List (Option ℕ)). HaveWords es) (sym c.listed_in.ensures)
-    (HaveWords-eight s.p (table_of s) c.args.k c.sound.ensures.range (IsTable-table_of s c.sound.ensures))
+    (HaveWords-eight (table_of s) c.args.k (HaveWords-table s.p (table_of s) c.sound.ensures.range (IsTable-table_of s c.sound.ensures)))
 
 pub returns : goal.returns
 returns c =

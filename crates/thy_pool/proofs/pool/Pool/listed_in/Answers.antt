@@ -1,6 +1,6 @@
 use Rattle.std.proofs.Common.{ℕ, ◌+◌, ◌*◌, ◌≤◌, length, arith}
+use Rattle.thy_layout.proofs.EightLemmas.{eight_are}
 use Rattle.thy_pool.specs.State.{State, next_page, next_table}
-use Rattle.thy_pool.proofs.EightLemmas.{eight_are}
 use Rattle.thy_pool.proofs.TableLemmas.{length-table_by}
 use Rattle.thy_pool.proofs.pool.Pool.listed_in.Goals as goal
 

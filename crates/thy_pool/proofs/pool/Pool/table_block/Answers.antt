@@ -1,8 +1,9 @@
 use Rattle.std.proofs.Common.{List, Option, ℕ, map, ap, subst, sym, ◌∙◌}
-use Rattle.thy_record.specs.TableBlocks.{entry_word, HaveWords}
+use Rattle.thy_layout.specs.Entries.{entry_word, HaveWords}
 use Rattle.thy_base.specs.Words.{block_of}
+use Rattle.thy_layout.proofs.EightLemmas.{HaveWords-eight, block_of_eight}
+use Rattle.thy_shadow_image.proofs.SlotLemmas.{HaveWords-map}
 use Rattle.thy_pool.specs.State.{State, next_table}
-use Rattle.thy_pool.proofs.EightLemmas.{HaveWords-eight, block_of_eight}
 use Rattle.thy_pool.proofs.TableLemmas.{IsMap-next}
 use Rattle.thy_pool.proofs.pool.Pool.table_block.Goals as goal
 
@@ -10,7 +11,7 @@ pub table_block-requires : goal.table_block-requires
 table_block-requires c =
     let s : State = c.args.self.now in
     subst (λ (es : List (Option ℕ)). HaveWords es) (sym c.listed_in.ensures)
-    (HaveWords-eight s.p (next_table s) c.args.k c.sound.ensures.range (IsMap-next s c.sound.ensures))
+    (HaveWords-eight (next_table s) c.args.k (HaveWords-map s.p (next_table s) c.sound.ensures.range (IsMap-next s c.sound.ensures)))
 
 pub returns : goal.returns
 returns c =

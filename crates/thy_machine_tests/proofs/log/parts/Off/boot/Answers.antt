@@ -1,5 +1,6 @@
 use Rattle.thy_isa.specs.Step.{state_of}
-use Rattle.thy_machine_tests.proofs.LogLemmas.{Boots-of, CanStart-least}
+use Rattle.thy_machine_tests.proofs.LogLemmas.{Boots-of}
+use Rattle.thy_machine_tests.proofs.LeastLemmas.{CanStart-least}
 use Rattle.thy_machine_tests.proofs.log.parts.Off.boot.Goals as goal
 
 pub steps-told-requires-clause-boots : goal.steps-told-requires-clause-boots

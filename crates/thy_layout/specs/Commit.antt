@@ -1,0 +1,52 @@
+-- Part of the claim.
+-- The commit block, block 1 of an image: the epoch of the committed checkpoint, and the layout version of its slot.
+use Rattle.std.specs.Prelude.{ℕ, Bool, ◌&&◌, ◌||◌, ◌==◌, nat_lt, if◌then◌else◌, List, [], ◌∷◌, Option, codes}
+use Rattle.std.specs.List.{list_all}
+use Rattle.byteorder.specs.Endian.{little_number}
+use Rattle.thy_base.specs.declared.block.Block.{Block}
+use Rattle.thy_base.specs.declared.config.Parameters.{Parameters}
+use Rattle.thy_base.specs.declared.layout_version.LayoutVersion.{LayoutVersion}
+use Rattle.thy_base.specs.declared.layout_version.LayoutVersion.TheVariants.{VersionOne, VersionTwo}
+use Rattle.thy_base.specs.Demands.{asked, first_fault}
+use Rattle.thy_layout.specs.declared.bad_image.BadImage.{BadImage}
+use Rattle.thy_layout.specs.declared.bad_image.BadImage.TheVariants.{Commit}
+use Rattle.thy_layout.specs.Header.{knows_version_one}
+use Rattle.thy_base.specs.Words.{word_of, block_of}
+
+-- the bytes THYNCMT1 or THYNCMT2 as a number
+abbrev pub commit_magic : LayoutVersion → ℕ
+commit_magic VersionOne = little_number 8 (codes "THYNCMT1")
+commit_magic VersionTwo = little_number 8 (codes "THYNCMT2")
+
+-- those that are written are of version 2
+abbrev pub commit_words : ℕ → List ℕ
+commit_words epoch = commit_magic VersionTwo ∷ epoch ∷ 0 ∷ 0 ∷ 0 ∷ 0 ∷ 0 ∷ 0 ∷ []
+
+abbrev pub commit_of : ℕ → Block
+commit_of epoch = block_of (commit_words epoch)
+
+-- there is no checkpoint: every byte is zero
+unfoldable pub is_zero : Block → Bool
+is_zero b = list_all (λ byte. byte == 0) b.0
+
+-- the epoch that a commit block names
+abbrev pub epoch_of : Block → ℕ
+epoch_of b = word_of b 1
+
+-- the version of its slot; there is a slot of version 1 only if that version is known
+abbrev pub version_of : ℕ → Parameters → Block → LayoutVersion
+version_of scheme p b = if word_of b 0 == commit_magic VersionOne && knows_version_one scheme p then VersionOne else VersionTwo
+
+-- it names a version; version 1 only behind a header of version 1
+abbrev pub is_named : Block → Block → Bool
+is_named header b = word_of b 0 == commit_magic VersionTwo || (word_of b 0 == commit_magic VersionOne && word_of header 1 == 1)
+
+-- the words after the epoch are zero
+abbrev pub has_zero_rest : Block → Bool
+has_zero_rest b =
+    (word_of b 2 == 0 && word_of b 3 == 0 && word_of b 4 == 0) && (word_of b 5 == 0 && word_of b 6 == 0 && word_of b 7 == 0)
+
+-- the fault of a commit block behind a header; epochs are below the ceiling
+unfoldable pub commit_fault : Block → Block → ℕ → Option BadImage
+commit_fault header b ceiling =
+    first_fault (asked ((is_named header b && nat_lt (epoch_of b) ceiling) && has_zero_rest b) Commit ∷ [])

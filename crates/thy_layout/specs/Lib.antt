@@ -1,0 +1,16 @@
+pub mod Refusals
+pub mod Header
+pub mod Commit
+pub mod Cpu
+pub mod Decoded
+pub mod Entries
+pub mod EntryFaults
+pub mod Files
+pub mod Slots
+pub mod BackLaws
+pub mod Gathered
+pub mod Layout
+pub mod LayoutLaws
+pub mod AreLayouts
+pub mod TableSlots
+pub mod TableRefusals

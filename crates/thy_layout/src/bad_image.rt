@@ -1,0 +1,78 @@
+//! Why an image is refused.
+ghost use Rattle.std.specs.Prelude.{◌≡◌};
+ghost use Rattle.thy_layout.specs.Refusals.{number_of, name_of};
+
+/// What is wrong with an image. The variants are in the order in which they are tested. Entries of the page table
+/// are counted after those of the block table, if a variant may name either.
+#[derive(Clone, Copy, Debug, PartialEq, Eq)]
+pub enum BadImage {
+    /// There is no commit block: a file has fewer than 128 bytes. Or it is all zero, if a checkpoint has to be
+    /// there; `check` says of that `Nothing`.
+    Empty,
+    /// The header does not begin with its name.
+    Header,
+    /// The header's version is none that is read.
+    Version,
+    /// The image was made for another geometry: base, pages, console, the size of a table, the scheme or the number of
+    /// harts differs. Or, if the layout asks for it, the image has another length.
+    Geometry,
+    /// The commit block does not begin with its name, or with that of version 1 behind a header of version 2; its epoch is
+    /// not below the ceiling, or a word behind the epoch is not zero; or the processor's record is of another epoch.
+    Commit,
+    /// This entry of the tables names a block or a page that is not there.
+    TableIndex(u64),
+    /// The second of these entries of a table names what the first does.
+    TableTwice(u64, u64),
+    /// This entry of the block table names a block of the page that this entry of the page table names.
+    BlockUnderPage(u64, u64),
+    /// The processor's status or count has no meaning.
+    Status,
+    /// The console is longer than its pages.
+    ConsoleLength,
+    /// This byte of the counts is past 63, or it is past the last page and not zero.
+    Count(u64),
+    /// With two harts: the width of a reservation is none of 0, 4 and 8, or a word behind the reservations is not zero.
+    Second,
+}
+
+impl BadImage {
+    /// The refusal's number, from 1 in the order in which they are tested.
+    pub fn number(&self) -> u64
+        ensures { result ≡ number_of self.now }
+    {
+        match self {
+            BadImage::Empty => 1,
+            BadImage::Header => 2,
+            BadImage::Version => 3,
+            BadImage::Geometry => 4,
+            BadImage::Commit => 5,
+            BadImage::TableIndex(_) => 6,
+            BadImage::TableTwice(_, _) => 7,
+            BadImage::BlockUnderPage(_, _) => 8,
+            BadImage::Status => 9,
+            BadImage::ConsoleLength => 10,
+            BadImage::Count(_) => 11,
+            BadImage::Second => 12,
+        }
+    }
+
+    /// The refusal's name.
+    pub fn name(&self) -> &'static str
+        ensures { result.now ≡ name_of self.now }
+    {
+        match self {
+            BadImage::Empty => "Empty",
+            BadImage::Header => "Header",
+            BadImage::Version => "Version",
+            BadImage::Geometry => "Geometry",
+            BadImage::Commit => "Commit",
+            BadImage::TableIndex(_) => "TableIndex",
+            BadImage::TableTwice(_, _) => "TableTwice",
+            BadImage::BlockUnderPage(_, _) => "BlockUnderPage",
+            BadImage::Status => "Status",
+            BadImage::ConsoleLength => "ConsoleLength",
+            BadImage::Count(_) => "Count",
+            BadImage::Second => "Second",
+        }
+    }
+}

@@ -1,0 +1,72 @@
+//! The commit block, block 1 of an image.
+ghost use Rattle.std.specs.Prelude.{◌≡◌, ◌<◌};
+ghost use Rattle.thy_layout.specs.Commit.{commit_of, version_of as version_named, is_named as names_version, commit_fault as fault_of_commit, is_zero as has_zeros, has_zero_rest as zero_rest};
+
+use crate::bad_image::BadImage;
+use crate::header::knows_version_one;
+use thy_base::{Block, Geometry, LayoutVersion, block_with, word};
+
+// The bytes `THYNCMT1`, with which a commit block of version 1 begins, as a number.
+const COMMIT_MAGIC_VERSION_ONE: u64 = 0x3154_4d43_4e59_4854;
+
+// The bytes `THYNCMT2`, with which one of version 2 does.
+const COMMIT_MAGIC_VERSION_TWO: u64 = 0x3254_4d43_4e59_4854;
+
+/// The commit block of an epoch, of version 2: its name, the epoch and six zeros.
+pub fn commit_block(epoch: u64) -> Block
+    ensures { result ≡ commit_of epoch }
+{
+    block_with(&[COMMIT_MAGIC_VERSION_TWO, epoch, 0, 0, 0, 0, 0, 0])
+}
+
+/// Whether every byte is zero: as a commit block, that there is no checkpoint.
+#[tactic(auto, unfolding(crate::specs::Commit::is_zero))]
+pub fn is_zero(block: &Block) -> bool
+    ensures { result ≡ has_zeros block.now }
+{
+    block.0.iter().all(|byte| *byte == 0)
+}
+
+/// The version of the slot that a commit block names, by the scheme of this number, which is below 256. Only scheme 0 with one
+/// hart has slots of version 1.
+pub fn version_of(scheme: u64, block: &Block, geometry: &Geometry) -> LayoutVersion
+    requires { scheme < 256 }
+    ensures { result ≡ version_named scheme geometry.now block.now }
+{
+    if word(block, 0) == COMMIT_MAGIC_VERSION_ONE && knows_version_one(scheme, geometry) {
+        LayoutVersion::VersionOne
+    } else {
+        LayoutVersion::VersionTwo
+    }
+}
+
+// Whether a commit block behind this header names a version.
+fn is_named(header: &Block, block: &Block) -> bool
+    ensures { result ≡ names_version header.now block.now }
+{
+    let name = word(block, 0);
+    name == COMMIT_MAGIC_VERSION_TWO || (name == COMMIT_MAGIC_VERSION_ONE && word(header, 1) == 1)
+}
+
+/// The fault of a commit block behind a header, if it has one: another name, or that of version 1 behind a header of
+/// version 2; an epoch that is not below the ceiling; or more than the epoch.
+#[tactic(auto, unfolding(crate::specs::Commit::commit_fault))]
+pub fn commit_fault(header: &Block, block: &Block, ceiling: u64) -> Option<BadImage>
+    ensures { result ≡ fault_of_commit header.now block.now ceiling }
+{
+    let named = is_named(header, block) && word(block, 1) < ceiling;
+    if named && has_zero_rest(block) {
+        None
+    } else {
+        Some(BadImage::Commit)
+    }
+}
+
+// Whether the words after the epoch are zero.
+fn has_zero_rest(block: &Block) -> bool
+    ensures { result ≡ zero_rest block.now }
+{
+    let first = word(block, 2) == 0 && word(block, 3) == 0 && word(block, 4) == 0;
+    let last = word(block, 5) == 0 && word(block, 6) == 0 && word(block, 7) == 0;
+    first && last
+}

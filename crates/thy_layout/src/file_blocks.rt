@@ -1,0 +1,15 @@
+//! Blocks as parts of the bytes of a file.
+ghost use Rattle.std.specs.Prelude.{◌≡◌, ◌/◌, ◌<◌, length};
+ghost use Rattle.thy_layout.specs.Files.{block_in as block_of_bytes};
+
+use thy_base::{BLOCK_SIZE, Block};
+
+/// Block `k` of bytes, 64 a block.
+pub fn block_in(bytes: &[u8], k: usize) -> Block
+    requires { k < length bytes.now / 64 }
+    ensures { result ≡ block_of_bytes bytes.now k }
+{
+    let mut block = [0; BLOCK_SIZE];
+    block.copy_from_slice(&bytes[BLOCK_SIZE * k..BLOCK_SIZE * k + BLOCK_SIZE]);
+    Block(block)
+}

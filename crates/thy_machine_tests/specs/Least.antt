@@ -1,0 +1,46 @@
+-- What tests of a scheme's parts begin with: the least memory, a start of it, and what a loss of power leaves.
+use Rattle.std.specs.Prelude.{◌≡◌, ℕ, ◌+◌, ◌≤◌, Bool, true, false, length, replicate, None}
+use Rattle.thy_base.specs.declared.config.Parameters.{Parameters}
+use Rattle.thy_base.specs.Device.{Device}
+use Rattle.thy_dram.specs.Contents.{Contents}
+use Rattle.thy_isa.specs.declared.state.Status.TheVariants.{Running}
+use Rattle.thy_isa.specs.Step.{State}
+use Rattle.thy_view.specs.declared.boot_step.BootStep.{BootStep}
+use Rattle.thy_view.specs.declared.boot_step.BootStep.TheVariants.{GoesOn}
+
+-- how many blocks the least memory has
+abbrev pub all : ℕ
+all = 512
+
+-- a start of it, whose registers are zero
+pub record IsLeastStart (s : State) : Type 0 where
+  pub regs : s.regs ≡ replicate 32 0
+  pub memory : length s.memory ≡ 28672
+  pub console : length s.console ≡ 70
+  pub pc : s.pc ≡ 65540
+  pub cursor : s.cursor ≡ 3
+  pub brk : s.brk ≡ 65600
+  pub floor : s.floor ≡ 65600
+  pub count : s.count ≡ 5
+  pub status : s.status ≡ Running
+  pub alone : s.other ≡ None
+
+-- the NVM has room for so many cuts
+abbrev pub HasRoom : Device → ℕ → Type 0
+HasRoom n cuts = length n.left + cuts ≤ n.left_room
+
+-- what a loss of power leaves
+pub record Off : Type 0 where
+  pub p : Parameters
+  pub dram : Contents
+  pub nvm : Device
+  -- how many cuts are to come at most
+  pub cuts : ℕ
+
+abbrev pub off : Parameters → Contents → Device → ℕ → Off
+off p dram n cuts = record { p = p; dram = dram; nvm = n; cuts = cuts }
+
+-- what a boot returned says that it continues
+abbrev pub goes_on : BootStep → Bool
+goes_on GoesOn = true
+goes_on told = false

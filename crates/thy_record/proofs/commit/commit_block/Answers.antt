@@ -1,5 +1,0 @@
-use Rattle.std.proofs.Common.{rules}
-use Rattle.thy_record.proofs.commit.commit_block.Goals as goal
-
-pub returns : goal.returns
-returns c = search rules

@@ -1,0 +1,5 @@
+use Rattle.thy_record.proofs.LayoutLemmas.{dual_are_layouts}
+use Rattle.thy_record.proofs.images.ThynvmImagesImageLayout.recall_laws.Goals as goal
+
+pub returns : goal.returns
+returns c = dual_are_layouts

@@ -1,8 +1,0 @@
-use Rattle.thy_record.proofs.ReadBackLemmas.{cpu_back, epoch_back}
-use Rattle.thy_record.proofs.laws.record_reads_back.Goals as goal
-
-pub returns : goal.returns
-returns c = λ p cpu epoch blocks fits of. record {
-  cpu_back = cpu_back p cpu epoch blocks fits of;
-  epoch_back = epoch_back p cpu epoch blocks fits of;
-}

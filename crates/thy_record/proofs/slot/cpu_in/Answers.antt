@@ -1,7 +1,0 @@
-use Rattle.std.proofs.Common.{rules}
-use Rattle.thy_record.specs.Cpu.{cpu_of_record}
-use Rattle.thy_record.proofs.slot.cpu_in.Goals as goal
-
-pub returns : goal.returns
-unfolding cpu_of_record
-returns c = search rules

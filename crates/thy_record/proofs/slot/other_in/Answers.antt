@@ -1,7 +1,0 @@
-use Rattle.std.proofs.Common.{rules}
-use Rattle.thy_record.specs.Cpu.{other_of_record}
-use Rattle.thy_record.proofs.slot.other_in.Goals as goal
-
-pub returns : goal.returns
-unfolding other_of_record
-returns c = search rules

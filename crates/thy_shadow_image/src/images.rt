@@ -1,0 +1,61 @@
+//! The layout of the images of shadow paging.
+use crate::index::places;
+use crate::places::{SCHEME, blocks, slot as first_of_slot, slot_blocks};
+use crate::slot_faults::slot_fault;
+use std::alloc::{AllocError, Global};
+use thy_base::{Block, Geometry, word};
+use thy_layout::{BadImage, ImageLayout};
+
+/// Images of shadow paging: a slot has a map, which lists the page of the pool that has each page of memory.
+#[derive(Drop)]
+pub struct ShadowImages;
+
+impl ImageLayout for ShadowImages {
+    ghost use Rattle.thy_shadow_image.specs.Layout.{shadow_layouts};
+
+    ghost layouts = { shadow_layouts };
+
+    fn scheme(geometry: &Geometry) -> u64 {
+        SCHEME
+    }
+
+    fn blocks(geometry: &Geometry) -> u64 {
+        blocks(geometry)
+    }
+
+    fn older_blocks(geometry: &Geometry, commit: &Block) -> Option<u64> {
+        None
+    }
+
+    fn most_slot(geometry: &Geometry) -> u64 {
+        slot_blocks(geometry)
+    }
+
+    fn slot_place(geometry: &Geometry, commit: &Block) -> u64 {
+        first_of_slot(geometry, word(commit, 1) % 2)
+    }
+
+    fn slot_blocks(geometry: &Geometry, commit: &Block) -> u64 {
+        slot_blocks(geometry)
+    }
+
+    fn slot_fault(
+        geometry: &Geometry,
+        commit: &Block,
+        slot: &[u8],
+        ceiling: u64,
+    ) -> Option<BadImage> {
+        slot_fault(slot, word(commit, 1), geometry, ceiling)
+    }
+
+    fn memory_places(
+        alloc: Global,
+        geometry: &Geometry,
+        commit: &Block,
+        slot: &[u8],
+    ) -> Result<Vec<u64>, AllocError> {
+        places(alloc, slot, geometry)
+    }
+
+    fn recall_laws() {}
+}
