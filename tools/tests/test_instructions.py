@@ -11,8 +11,9 @@ FILE = "crates/thy_format_tests/src/isa_rows.rt"
 
 
 def without_layout(text):
-    """The text with one blank between its words, and no comma before what closes; rt fmt changes no more than that."""
-    return re.sub(r",(?= *[\])])", "", " ".join(text.split()))
+    """The text with one blank between its words, none inside brackets, and no comma before what closes; rt fmt changes no more
+    than that."""
+    return re.sub(r",? (?=[\])])|(?<=[\[(]) |,(?=[\])])", "", " ".join(text.split()))
 
 
 class Instructions(CopyTest):

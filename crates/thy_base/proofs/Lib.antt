@@ -6,7 +6,6 @@ pub mod DeviceLemmas
 pub mod InsideLemmas
 pub mod LittleEndianLemmas
 pub mod LoanLemmas
-pub mod PlaceLemmas
 pub mod RangeLemmas
 pub mod Streams
 pub mod WordLemmas

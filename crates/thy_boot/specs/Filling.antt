@@ -5,6 +5,7 @@ use Rattle.std.specs.List.{range_with_len}
 use Rattle.thy_base.specs.declared.block.Block.{Block}
 use Rattle.thy_base.specs.declared.config.Parameters.{Parameters}
 use Rattle.thy_base.specs.Device.{Device, block_at, newest}
+use Rattle.thy_base.specs.Places.{commit_place}
 use Rattle.thy_dram.specs.Contents.{Contents}
 use Rattle.thy_isa.specs.Step.{State, cpu_of}
 use Rattle.thy_layout.specs.AreLayouts.{AreLayouts}
@@ -107,7 +108,7 @@ pub record IsFilling {C : Type 0} (F : FillingOf C) : Type 0 where
   -- over the image that has this commit block, filling it lists the same, and fills it
   pub fills : (c : C) (n : Device) (commit : Block) (slot : List Block) (k : ℕ)
       → F.lists commit slot c → F.filled c n k → F.next_fill (F.p c) commit slot k ≡ Some k
-      → n.queue ≡ [] → length n.image ≡ (layout_at F (F.p c)).image_blocks → block_at n.image 1 ≡ commit
+      → n.queue ≡ [] → length n.image ≡ (layout_at F (F.p c)).image_blocks → block_at n.image commit_place ≡ commit
       → F.lists commit slot (F.with_fill commit k (newest n (F.fill_place c commit k)) c)
       × F.filled (F.with_fill commit k (newest n (F.fill_place c commit k)) c) n (k + 1)
       × (F.p (F.with_fill commit k (newest n (F.fill_place c commit k)) c) ≡ F.p c)
@@ -119,7 +120,7 @@ pub record IsFilling {C : Type 0} (F : FillingOf C) : Type 0 where
   -- with none left, all is filled, and memory is the image's
   pub ends : (c : C) (n : Device) (commit : Block) (slot : List Block) (from : ℕ)
       → F.lists commit slot c → F.filled c n from → F.next_fill (F.p c) commit slot from ≡ None
-      → n.queue ≡ [] → length n.image ≡ (layout_at F (F.p c)).image_blocks → block_at n.image 1 ≡ commit
+      → n.queue ≡ [] → length n.image ≡ (layout_at F (F.p c)).image_blocks → block_at n.image commit_place ≡ commit
       → slot_in (layout_at F (F.p c)) n.image ≡ slot
       → F.whole c n × (F.loads c n ≡ memory_in (layout_at F (F.p c)) n.image)
   -- a write of the DRAM that lands changes nothing of it

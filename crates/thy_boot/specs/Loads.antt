@@ -2,6 +2,7 @@
 use Rattle.std.specs.Prelude.{◌≡◌, ◌+◌, ◌<◌, nat_lt, false, if◌then◌else◌, length, slice_index_or, Result, OnOk, OnErr}
 use Rattle.thy_base.specs.declared.nvm.NvmError.{NvmError}
 use Rattle.thy_base.specs.Device.{Device, block_at, IsFramed, CountsFault}
+use Rattle.thy_base.specs.Places.{commit_place, header_place}
 use Rattle.thy_isa.specs.Step.{State}
 use Rattle.thy_view.specs.Action.{Action, WriteAt, Barrier, after, FailsTo}
 use Rattle.thy_boot.specs.declared.stage.Stage.{Stage}
@@ -23,9 +24,9 @@ IsIssue f issue = Unit {0}
 abbrev pub issue_action : First → Issue → Action
 issue_action f (Home b) = WriteAt (slice_index_or f.parts.memory b 0) (block_at f.memory b)
 issue_action f (Slot k) = WriteAt (f.parts.slot_place + k) (f.parts.slot k)
-issue_action f Header = WriteAt 0 f.header
+issue_action f Header = WriteAt header_place f.header
 issue_action f Settle = Barrier
-issue_action f Commit = WriteAt 1 f.commit
+issue_action f Commit = WriteAt commit_place f.commit
 issue_action f Confirm = Barrier
 
 -- the stage after it

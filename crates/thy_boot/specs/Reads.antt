@@ -1,6 +1,7 @@
 -- What a step that reads does at the NVM, and what it makes of boot and controller.
 use Rattle.std.specs.Prelude.{◌≡◌, ℕ, ◌+◌, length}
 use Rattle.thy_base.specs.Device.{Device, newest}
+use Rattle.thy_base.specs.Places.{commit_place, header_place}
 use Rattle.thy_view.specs.Action.{Action, Rest, ReadAt}
 use Rattle.thy_boot.specs.declared.stage.ReadStage.{ReadStage}
 use Rattle.thy_boot.specs.declared.stage.ReadStage.TheVariants.{Unread, Header, Slot, Fills, Refusing}
@@ -9,8 +10,8 @@ use Rattle.thy_boot.specs.Filling.{FillingOf}
 
 -- one block is read, by the stage; for a refusal that comes again none is
 abbrev pub read_action : {C : Type 0} → FillingOf C → Booting → C → ReadStage → Action
-read_action F b c Unread = ReadAt 1
-read_action F b c Header = ReadAt 0
+read_action F b c Unread = ReadAt commit_place
+read_action F b c Header = ReadAt header_place
 read_action F b c (Slot next) = ReadAt ((layout_in F b).slot_place b.commit + next)
 read_action F b c (Fills k) = ReadAt (F.fill_place c b.commit k)
 read_action F b c (Refusing bad) = Rest
@@ -21,8 +22,8 @@ slot_kept F next n b = with_slot_block next (newest n ((layout_in F b).slot_plac
 
 -- the boot after the read
 abbrev pub read_on : {C : Type 0} → FillingOf C → ReadStage → Device → Booting → Booting
-read_on F Unread n b = after_commit (newest n 1) b
-read_on F Header n b = at_stage (after_header (layout_in F b) (newest n 0) b) b
+read_on F Unread n b = after_commit (newest n commit_place) b
+read_on F Header n b = at_stage (after_header (layout_in F b) (newest n header_place) b) b
 read_on F (Slot next) n b = gone_on F next (slot_kept F next n b)
 read_on F (Fills k) n b = at_stage (filling_from F (k + 1) b) b
 read_on F (Refusing bad) n b = b

@@ -2,6 +2,7 @@
 use Rattle.std.specs.Prelude.{◌≡◌, ℕ, ◌+◌, ◌<◌, true, false, List, [], length, Some, None}
 use Rattle.thy_base.specs.declared.block.Block.{Block}
 use Rattle.thy_base.specs.Device.{Device, block_at}
+use Rattle.thy_base.specs.Places.{commit_place, header_place}
 use Rattle.thy_layout.specs.Commit.{is_zero, epoch_of}
 use Rattle.thy_layout.specs.Decoded.{Nothing, Refused as IsRefused, At}
 use Rattle.thy_layout.specs.Files.{block_in}
@@ -20,13 +21,13 @@ use Rattle.thy_boot.specs.Left.{reads_left, boot_left}
 -- the commit block of an image was read
 pub record HasCommit (g : List Block) (commit : Block) : Type 0 where
   pub committed : is_zero commit ≡ false
-  pub is : block_at g 1 ≡ commit
+  pub is : block_at g commit_place ≡ commit
 
 -- and header and commit block have no fault
 pub record HasHead (l : Layout) (g : List Block) (commit : Block) : Type 0 where
   pub commit_is : HasCommit g commit
-  pub header_fits : header_bad l (block_at g 0) true ≡ None
-  pub commit_fits : commit_bad ceiling (block_at g 0) commit ≡ None
+  pub header_fits : header_bad l (block_at g header_place) true ≡ None
+  pub commit_fits : commit_bad ceiling (block_at g header_place) commit ≡ None
 
 -- the first blocks of these bytes are those of the slot
 pub record HasSlot (l : Layout) (g : List Block) (commit : Block) (n : ℕ) (slot : List ℕ) : Type 0 where

@@ -4,6 +4,7 @@ use Rattle.thy_base.specs.declared.block.Block.{Block}
 use Rattle.thy_base.specs.declared.mark.Mark.{Mark}
 use Rattle.thy_base.specs.Device.{Device, block_at}
 use Rattle.thy_base.specs.Marks.{mark}
+use Rattle.thy_base.specs.Places.{commit_place, header_place}
 use Rattle.thy_crash.specs.Fixed.{Reads, ReadsFirst}
 use Rattle.thy_crash.specs.Saved.{Saved, Kept, Ready, InDoubt, next_image}
 use Rattle.thy_view.specs.Origin.{Origin}
@@ -73,7 +74,7 @@ pub record HasWrittenFirst (image_blocks : ℕ) (f : First) (h k : ℕ) (n : Dev
 -- all of them, and the header
 pub record HasWrittenWholeFirst (image_blocks : ℕ) (f : First) (n : Device) : Type 0 where
   pub parts : HasWrittenFirst image_blocks f (length f.parts.memory) f.parts.slot_blocks n
-  pub header : Reads n 0 f.header
+  pub header : Reads n header_place f.header
 
 -- what is written before an action of loading
 abbrev pub HasLoadedBefore : ℕ → First → Issue → Device → Type 0
@@ -82,12 +83,12 @@ HasLoadedBefore blocks f (Slot k) n = HasWrittenFirst blocks f (length f.parts.m
 HasLoadedBefore blocks f Header n = HasWrittenFirst blocks f (length f.parts.memory) f.parts.slot_blocks n
 HasLoadedBefore blocks f Settle n = HasWrittenWholeFirst blocks f n
 HasLoadedBefore blocks f Commit n = HasWrittenWholeFirst blocks f n
-HasLoadedBefore blocks f Confirm n = HasWrittenWholeFirst blocks f n × Reads n 1 f.commit
+HasLoadedBefore blocks f Confirm n = HasWrittenWholeFirst blocks f n × Reads n commit_place f.commit
 
 -- from the first barrier on, the next image is the start's checkpoint
 pub record IsFirstImage (o : Origin) (l : Layout) (f : First) (image : List Block) : Type 0 where
   pub of : IsOf o l image (start_mark o)
-  pub commit : block_at image 1 ≡ f.commit
+  pub commit : block_at image commit_place ≡ f.commit
   pub slot : slot_in l image ≡ slot_of f.parts
 
 abbrev pub IsMade : Origin → Layout → First → Issue → List Block → Type 0

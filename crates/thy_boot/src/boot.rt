@@ -10,8 +10,8 @@ use crate::fills::Fills;
 use crate::stage::{End, ReadStage, Stage};
 use std::alloc::{AllocError, Global};
 use std::marker::Model;
-use thy_base::{BLOCK_SIZE, Block, Geometry, Nvm, NvmError, word};
-use thy_layout::{ImageLayout, Start, cpu_in};
+use thy_base::{BLOCK_SIZE, Block, Geometry, Nvm, NvmError};
+use thy_layout::{ImageLayout, Start, cpu_in, epoch_in};
 use thy_view::BootStep;
 
 /// A boot, with the commit block and the bytes of the slot, as far as they were read. Only `new` allocates: the room for
@@ -148,7 +148,7 @@ impl Boot {
             Stage::Reads(_) | Stage::Loads(_) => BootStep::GoesOn,
             Stage::Over(End::Restored) => {
                 let cpu = cpu_in(self.slot::<F>(), &self.geometry);
-                BootStep::Restarted(cpu, word(&self.commit, 1))
+                BootStep::Restarted(cpu, epoch_in(&self.commit))
             }
             Stage::Over(End::Loaded) => BootStep::Loaded,
         }

@@ -13,7 +13,7 @@ use crate::fills::Fills;
 use crate::reading::slot_at;
 use crate::stage::{End, Issue, Stage};
 use crate::start::start_block;
-use thy_base::{Block, Geometry, Nvm, NvmError};
+use thy_base::{Block, COMMIT_PLACE, Geometry, HEADER_PLACE, Nvm, NvmError};
 use thy_isa::MachState;
 use thy_layout::{ImageLayout, commit_block, header_block_of};
 
@@ -76,9 +76,9 @@ fn take_issue<F: Fills, N: Nvm>(
             let place = slot_at::<F>(geometry, &commit_block(0), k);
             nvm.write(place, &F::first_slot(geometry, state, k))
         }
-        Issue::Header => nvm.write(0, &header::<F>(geometry)),
+        Issue::Header => nvm.write(HEADER_PLACE, &header::<F>(geometry)),
         Issue::Settle | Issue::Confirm => nvm.barrier(),
-        Issue::Commit => nvm.write(1, &commit_block(0)),
+        Issue::Commit => nvm.write(COMMIT_PLACE, &commit_block(0)),
     }
 }
 

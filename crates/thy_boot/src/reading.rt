@@ -2,6 +2,7 @@
 ghost use Rattle.std.specs.Prelude.{◌≡◌, ◌+◌, ◌*◌, ◌<◌, ◌≤◌, false, length, None, OnOk, OnErr};
 ghost use Rattle.thy_base.specs.Bytes.{written};
 ghost use Rattle.thy_base.specs.Device.{newest};
+ghost use Rattle.thy_base.specs.Places.{commit_place, header_place};
 ghost use Rattle.thy_view.specs.Action.{ReadAt};
 ghost use Rattle.thy_boot.specs.Boot.{IsBoot, layout_in, slot_fault, at_stage, stage_of_commit, after_commit, after_header, after_slot};
 ghost use Rattle.thy_boot.specs.Boot.{refusing_or, filling_from, has_more, gone_on, IsJudged, GoesOn};
@@ -13,7 +14,7 @@ ghost use Rattle.thy_boot.specs.Recovers.{HasRead};
 use crate::boot::Boot;
 use crate::fills::{CEILING, Fills};
 use crate::stage::{End, Issue, ReadStage, Stage};
-use thy_base::{BLOCK_SIZE, Block, Geometry, Nvm, NvmError};
+use thy_base::{BLOCK_SIZE, Block, COMMIT_PLACE, Geometry, HEADER_PLACE, Nvm, NvmError};
 use thy_layout::{BadImage, ImageLayout, commit_fault, header_fault_in, is_zero};
 
 /// Writes a block over the bytes of block `k`.
@@ -88,14 +89,14 @@ impl Boot {
 
     /// Reads the commit block.
     fn read_commit<N: Nvm>(&mut self, nvm: &mut N) -> Result<(), NvmError>
-        requires place { 1 < length (N.device nvm.old).image }
+        requires place { commit_place < length (N.device nvm.old).image }
         requires up { (N.device nvm.old).down ≡ false }
-        ensures state { OnOk result (self.new ≡ after_commit (newest (N.device nvm.old) 1) self.old) }
+        ensures state { OnOk result (self.new ≡ after_commit (newest (N.device nvm.old) commit_place) self.old) }
         ensures kept { OnErr result (self.new ≡ self.old) }
-        ensures reads { Takes (ReadAt 1) result (N.device nvm.old) (N.device nvm.new) }
+        ensures reads { Takes (ReadAt commit_place) result (N.device nvm.old) (N.device nvm.new) }
         ensures same_writes { N.writes nvm.new ≡ N.writes nvm.old }
     {
-        let commit = nvm.read(1)?;
+        let commit = nvm.read(COMMIT_PLACE)?;
         self.commit = commit;
         self.stage = stage_of_commit(&commit);
         Ok(())
@@ -103,15 +104,15 @@ impl Boot {
 
     /// Reads the header, and judges it, and then the commit block.
     fn read_header<F: Fills, N: Nvm>(&mut self, nvm: &mut N) -> Result<(), NvmError>
-        requires place { 0 < length (N.device nvm.old).image }
+        requires place { header_place < length (N.device nvm.old).image }
         requires up { (N.device nvm.old).down ≡ false }
-        ensures state { let next = after_header (layout_in F.filling self.old) (newest (N.device nvm.old) 0) self.old in
+        ensures state { let next = after_header (layout_in F.filling self.old) (newest (N.device nvm.old) header_place) self.old in
             OnOk result (self.new ≡ at_stage next self.old) }
         ensures kept { OnErr result (self.new ≡ self.old) }
-        ensures reads { Takes (ReadAt 0) result (N.device nvm.old) (N.device nvm.new) }
+        ensures reads { Takes (ReadAt header_place) result (N.device nvm.old) (N.device nvm.new) }
         ensures same_writes { N.writes nvm.new ≡ N.writes nvm.old }
     {
-        let header = nvm.read(0)?;
+        let header = nvm.read(HEADER_PLACE)?;
         let of_commit = commit_fault(&header, &self.commit, CEILING);
         let fault = header_fault_in::<F::Images>(&self.geometry, &header, true).or(of_commit);
         self.stage = refusing_or(fault, Stage::Reads(ReadStage::Slot(0)));

@@ -1,8 +1,8 @@
 -- Part of the claim.
 -- A block as both tables have it, and the places of its versions.
 use Rattle.std.specs.Prelude.{ℕ, ◌%◌, Bool, true, false, if◌then◌else◌}
-use Rattle.thy_base.specs.declared.place.Place.{Place}
-use Rattle.thy_base.specs.declared.place.Place.TheVariants.{Home, AlternateBlock, AlternatePage, Buffer, Frame}
+use Rattle.thy_places.specs.declared.place.Place.{Place}
+use Rattle.thy_places.specs.declared.place.Place.TheVariants.{Home, AlternateBlock, AlternatePage, Buffer, Frame}
 use Rattle.thy_table.specs.declared.block_entry.Version.{Version}
 use Rattle.thy_table.specs.declared.block_entry.Version.TheVariants.{Out, Alt}
 use Rattle.thy_table.specs.declared.block_entry.Pending.{Pending}

@@ -1,6 +1,6 @@
 -- Where a block is stored, and what a store, and a copy that may have to come first, make of its entries.
 use Rattle.std.specs.Prelude.{Bool, true, false}
-use Rattle.thy_base.specs.declared.place.Place.{Place}
+use Rattle.thy_places.specs.declared.place.Place.{Place}
 use Rattle.thy_table.specs.declared.block_entry.Pending.{Pending}
 use Rattle.thy_table.specs.declared.block_entry.Pending.TheVariants.{Settled, FromBuffer, FromAlternate}
 use Rattle.thy_table.specs.declared.block_entry.Working.{Working}

@@ -1,9 +1,10 @@
 -- Every item is one action on the NVM.
 use Rattle.std.proofs.Common.{◌≡◌, ◌≢◌, ℕ, ◌≤◌, nat_lt, Bool, true, false, if◌then◌else◌, refl, sym, subst, inl, inr, arith, Option, Some, None}
 use Rattle.thy_base.specs.declared.block.Block.{Block}
-use Rattle.thy_base.specs.declared.place.Place.{Place}
+use Rattle.thy_places.specs.declared.place.Place.{Place}
 use Rattle.thy_base.specs.Device.{Device, written_to, HasFailedToWrite}
-use Rattle.thy_base.specs.Places.{record_blocks, in_dram, number_of, first_home}
+use Rattle.thy_base.specs.Places.{record_blocks}
+use Rattle.thy_places.specs.Places.{in_dram, number_of, first_home}
 use Rattle.thy_dram.specs.Contents.{written}
 use Rattle.thy_place.specs.Devices.{Devices, devices_of}
 use Rattle.thy_cell.specs.Cells.{seat_of, frame_at, target, last}

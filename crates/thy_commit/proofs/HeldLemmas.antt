@@ -9,8 +9,8 @@ use Rattle.thy_base.specs.declared.block.Block.{Block}
 use Rattle.thy_base.specs.declared.config.Parameters.{Parameters}
 use Rattle.thy_base.specs.Device.{Device, written_to, zero_block}
 use Rattle.thy_base.specs.Geometry.{memory_blocks}
-use Rattle.thy_base.specs.declared.place.Place.{Place}
-use Rattle.thy_base.specs.Places.{in_dram, number_of, image_blocks}
+use Rattle.thy_places.specs.declared.place.Place.{Place}
+use Rattle.thy_places.specs.Places.{in_dram, number_of, image_blocks}
 use Rattle.thy_base.specs.Store.{page_of}
 use Rattle.thy_dram.specs.Contents.{written}
 use Rattle.thy_place.specs.Devices.{Devices, devices_of}

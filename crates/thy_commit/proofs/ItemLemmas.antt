@@ -1,11 +1,11 @@
 -- What each item makes of the versions of every block.
 use Rattle.std.proofs.Common.{◌≡◌, ℕ, ◌%◌, ◌<◌, Bool, true, false, if◌then◌else◌, refl, sym, ◌∙◌, ap, subst, inl, inr, arith, Option, Some, None}
 use Rattle.thy_base.specs.declared.block.Block.{Block}
-use Rattle.thy_base.specs.declared.place.Place.{Place}
+use Rattle.thy_places.specs.declared.place.Place.{Place}
 use Rattle.thy_base.specs.Device.{Device, block_at, newest, written_to, settled}
-use Rattle.thy_base.specs.Places.{IsPlace, in_dram, number_of, slot_blocks, blocks_one, IsApart}
+use Rattle.thy_places.specs.Places.{IsPlace, in_dram, number_of, slot_blocks, blocks_one, IsApart}
 use Rattle.thy_base.proofs.DeviceLemmas.{newest-written_to_other}
-use Rattle.thy_base.proofs.PlaceLemmas.{between_slots}
+use Rattle.thy_places.proofs.PlaceLemmas.{between_slots}
 use Rattle.thy_place.specs.Devices.{devices_of}
 use Rattle.thy_place.proofs.PlaceLemmas.{ReadsTheSame-settled}
 use Rattle.thy_layout.specs.Commit.{commit_of}

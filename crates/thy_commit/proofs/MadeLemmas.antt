@@ -3,10 +3,10 @@ use Rattle.std.proofs.Common.{◌≡◌, ◌≢◌, ℕ, ◌+◌, ◌<◌, ◌�
 use Rattle.std.specs.List.{range_with_len}
 use Rattle.thy_base.specs.declared.block.Block.{Block}
 use Rattle.thy_base.specs.declared.config.Parameters.{Parameters}
-use Rattle.thy_base.specs.declared.place.Place.{Place}
+use Rattle.thy_places.specs.declared.place.Place.{Place}
 use Rattle.thy_base.specs.Device.{Device, block_at, newest, written_to}
 use Rattle.thy_base.specs.Geometry.{memory_blocks}
-use Rattle.thy_base.specs.Places.{in_dram, number_of, slot_blocks, first_home}
+use Rattle.thy_places.specs.Places.{in_dram, number_of, slot_blocks, first_home}
 use Rattle.thy_base.proofs.DeviceLemmas.{newest-written_to_other, newest-settled, map-agree}
 use Rattle.thy_place.specs.Devices.{devices_of, written_at}
 use Rattle.thy_crash.proofs.SavedLemmas.{next_image-commit}

@@ -3,10 +3,10 @@ use Rattle.std.proofs.Common.{◌≡◌, ◌%◌, ◌<◌, ◌≤◌, Bool, true
 use Rattle.std.proofs.lemmas.List.{ext_get_or}
 use Rattle.std.proofs.lemmas.List.FromFn.{length-map-range_with_len, get_or-map-range_with_len}
 use Rattle.thy_base.specs.declared.block.Block.{Block}
-use Rattle.thy_base.specs.declared.place.Place.{Place}
+use Rattle.thy_places.specs.declared.place.Place.{Place}
 use Rattle.thy_base.specs.Device.{Device, zero_block, block_at, newest}
 use Rattle.thy_base.specs.Geometry.{memory_blocks}
-use Rattle.thy_base.specs.Places.{in_dram, number_of}
+use Rattle.thy_places.specs.Places.{in_dram, number_of}
 use Rattle.thy_record.specs.Issuing.{memory_read}
 use Rattle.thy_record.specs.Tables.{Tables, place_of}
 use Rattle.thy_record.proofs.EntryLemmas.{in_dram-place_of}

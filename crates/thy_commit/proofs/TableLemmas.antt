@@ -1,9 +1,9 @@
 -- What every item makes of the tables of both checkpoints, and so of the images that have them.
 use Rattle.std.proofs.Common.{◌≡◌, ◌≢◌, ℕ, ◌+◌, ◌%◌, nat_lt, Bool, true, false, if◌then◌else◌, List, refl, sym, ◌∙◌, ap, subst, arith, Option, Some, None}
 use Rattle.thy_base.specs.declared.block.Block.{Block}
-use Rattle.thy_base.specs.declared.layout_version.LayoutVersion.TheVariants.{VersionTwo}
+use Rattle.thy_layout.specs.declared.layout_version.LayoutVersion.TheVariants.{VersionTwo}
 use Rattle.thy_base.specs.Device.{Device}
-use Rattle.thy_base.specs.Places.{slot_blocks}
+use Rattle.thy_places.specs.Places.{slot_blocks}
 use Rattle.thy_crash.specs.Saved.{Saved, Kept}
 use Rattle.thy_record.specs.Issuing.{IsToldBy}
 use Rattle.thy_record.specs.Tables.{Tables}

@@ -4,7 +4,7 @@ use Rattle.std.proofs.lemmas.Bool.{ltb-false}
 use Rattle.thy_base.specs.declared.block.Block.{Block}
 use Rattle.thy_base.specs.declared.config.Parameters.{Parameters}
 use Rattle.thy_base.specs.Device.{Device, written_to, settled}
-use Rattle.thy_base.specs.Places.{slot_blocks, slot_place, image_blocks, IsApart}
+use Rattle.thy_places.specs.Places.{slot_blocks, slot_place, image_blocks, IsApart}
 use Rattle.thy_base.proofs.DeviceLemmas.{length-written_to, length-settled}
 use Rattle.thy_crash.specs.Fixed.{Reads, ReadsFirst}
 use Rattle.thy_crash.proofs.FixedLemmas.{Reads-written, Reads-settled, ReadsFirst-elsewhere}

@@ -3,7 +3,7 @@
 use Rattle.std.specs.Prelude.{◌≡◌, ℕ, ◌+◌, ◌-◌, ◌*◌, ◌≤◌, true}
 use Rattle.thy_base.specs.declared.config.Parameters.{Parameters}
 use Rattle.thy_base.specs.Device.{Device}
-use Rattle.thy_base.specs.Places.{slot_blocks}
+use Rattle.thy_places.specs.Places.{slot_blocks}
 use Rattle.thy_control.specs.State.{State, AreSoundTables}
 use Rattle.thy_control.specs.Copies.{copies_left}
 use Rattle.thy_control.specs.Pages.{writes_left}

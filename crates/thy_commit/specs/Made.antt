@@ -2,6 +2,7 @@
 use Rattle.std.specs.Prelude.{◌≡◌, ◌≢◌, ◌<◌, true, false, None}
 use Rattle.thy_base.specs.declared.mark.Mark.{Mark}
 use Rattle.thy_base.specs.Device.{Device, newest}
+use Rattle.thy_base.specs.Places.{header_place}
 use Rattle.thy_isa.specs.declared.state.CpuState.{CpuState}
 use Rattle.thy_isa.specs.OnBlocks.{state_from}
 use Rattle.thy_layout.specs.Cpu.{IsRecordable}
@@ -45,5 +46,5 @@ abbrev pub SealMakes : Type 0
 SealMakes =
     (o : Origin) (e : Progress) (s : State) (n : Device) (c : Checkpoints) (cpu : CpuState) (mark : Mark)
     → IsSized s n → n.down ≡ false → Seals s (sealed_state s) n → IsMomentOf o s n cpu mark
-    → header_fault scheme_number (newest n 0) o.geometry true ≡ None
+    → header_fault scheme_number (newest n header_place) o.geometry true ≡ None
     → IsMadeFor o (begun cpu mark.epoch e) (sealed_state s) n (sealing mark c)

@@ -1,12 +1,13 @@
 -- The engine's items as moves of a run's checkpoints on the NVM, each in layout version 2.
-use Rattle.std.specs.Prelude.{◌≡◌, ◌≢◌, ℕ, ◌%◌, ◌<◌, Bool, true, false, List, Option, Some, None}
+use Rattle.std.specs.Prelude.{◌≡◌, ◌≢◌, ℕ, ◌<◌, Bool, true, false, List, Option, Some, None}
 use Rattle.thy_base.specs.declared.block.Block.{Block}
 use Rattle.thy_base.specs.declared.mark.Mark.{Mark}
-use Rattle.thy_base.specs.declared.layout_version.LayoutVersion.TheVariants.{VersionTwo}
+use Rattle.thy_layout.specs.declared.layout_version.LayoutVersion.TheVariants.{VersionTwo}
 use Rattle.thy_base.specs.Device.{Device, block_at, newest, IsFramed}
+use Rattle.thy_base.specs.Places.{commit_place, header_place}
 use Rattle.thy_crash.specs.Saved.{Saved, Kept, Ready, InDoubt, next_image}
 use Rattle.thy_isa.specs.OnBlocks.{state_from}
-use Rattle.thy_layout.specs.Commit.{commit_of}
+use Rattle.thy_layout.specs.Commit.{commit_of, slot_of_epoch}
 use Rattle.thy_layout.specs.Cpu.{IsRecordable}
 use Rattle.thy_layout.specs.Header.{header_fault}
 use Rattle.thy_record.specs.Number.{scheme_number}
@@ -60,7 +61,7 @@ checkpoints_after i e m c = c
 pub record HasNext (e : Progress) (c : Checkpoints) : Type 0 where
   pub mark : Mark
   pub sealed : c.sealed ≡ Some mark
-  pub commit : block_at c.next 1 ≡ commit_of e.epoch
+  pub commit : block_at c.next commit_place ≡ commit_of e.epoch
 
 -- the image that is kept has the tables of the committed checkpoint, and while one is under way the other slot; between two
 -- checkpoints it has the controller's counts
@@ -68,7 +69,7 @@ pub record IsKeptBy (o : Origin) (e : Progress) (s : State) (before : List Block
   pub geometry : e.p ≡ o.geometry
   pub epoch : ℕ
   pub told : IsToldBy o.geometry before VersionTwo epoch (tables0 s)
-  pub other_slot : is_under_way e.next ≡ true → e.epoch % 2 ≢ epoch % 2
+  pub other_slot : is_under_way e.next ≡ true → slot_of_epoch e.epoch ≢ slot_of_epoch epoch
   pub counted : is_under_way e.next ≡ false → counts_in VersionTwo o.geometry (slot_in o.geometry before) ≡ s.counts.lasts
 
 -- the image that is made has the tables and the counts of the checkpoint under way, and names its epoch
@@ -90,8 +91,8 @@ pub record IsMadeFor (o : Origin) (e : Progress) (s : State) (n : Device) (c : C
   pub recordable : IsRecordable o.geometry ceiling e.cpu
   pub state_is : state_from o.geometry e.cpu (lasts s n) ≡ at o mark.count
   pub counted : (at o mark.count).count ≡ mark.count
-  pub header : header_fault scheme_number (newest n 0) o.geometry true ≡ None
-  pub commit : is_settled e.next ≡ true → block_at c.next 1 ≡ commit_of e.epoch
+  pub header : header_fault scheme_number (newest n header_place) o.geometry true ≡ None
+  pub commit : is_settled e.next ≡ true → block_at c.next commit_place ≡ commit_of e.epoch
 
 -- so every item is a move
 abbrev pub ItemsMove : Type 0

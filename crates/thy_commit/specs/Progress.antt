@@ -1,14 +1,15 @@
 -- Part of the claim.
 -- The engine's progress, and what one cycle of it makes of the controller and of the NVM.
-use Rattle.std.specs.Prelude.{◌≡◌, ℕ, ◌+◌, ◌%◌, ◌<◌, length, Some, None, Result, IfOk, OnErr}
+use Rattle.std.specs.Prelude.{◌≡◌, ℕ, ◌+◌, ◌<◌, length, Some, None, Result, IfOk, OnErr}
 use Rattle.thy_base.specs.declared.block.Block.{Block}
 use Rattle.thy_base.specs.declared.config.Parameters.{Parameters}
 use Rattle.thy_base.specs.declared.nvm.NvmError.{NvmError}
 use Rattle.thy_base.specs.Device.{Device, written_to, settled, HasFailed, HasFailedToWrite, IsFramed, CountsFault}
-use Rattle.thy_base.specs.Places.{slot_blocks, slot_place}
+use Rattle.thy_base.specs.Places.{commit_place}
+use Rattle.thy_places.specs.Places.{slot_blocks, slot_place}
 use Rattle.thy_isa.specs.declared.state.CpuState.{CpuState}
 use Rattle.thy_isa.specs.Step.{zero_cpu}
-use Rattle.thy_layout.specs.Commit.{commit_of}
+use Rattle.thy_layout.specs.Commit.{commit_of, slot_of_epoch}
 use Rattle.thy_record.specs.Slots.{slot_block_of}
 use Rattle.thy_switch.specs.LastBlocks.{last_block_of}
 use Rattle.thy_control.specs.State.{State}
@@ -64,7 +65,7 @@ pub record Fits (e : Progress) (s : State) : Type 0 where
 
 -- the number and the block of the slot's block k
 abbrev pub slot_number : Progress → ℕ → ℕ
-slot_number e k = slot_place e.p (e.epoch % 2) + k
+slot_number e k = slot_place e.p (slot_of_epoch e.epoch) + k
 
 abbrev pub slot_block : Progress → State → ℕ → Block
 slot_block e s k = slot_block_of e.p e.cpu (tables1 s) (last_block_of s.counts.lasts) e.epoch k
@@ -86,7 +87,7 @@ device_after e (CopyItem i) s n = devices_after_copy (Some i) s n
 device_after e (PageItem j) s n = devices_after_write (Some j) s n
 device_after e (SlotItem k) s n = written_to n (slot_number e k) (slot_block e s k)
 device_after e SettleItem s n = settled n
-device_after e CommitItem s n = written_to n 1 (commit_of e.epoch)
+device_after e CommitItem s n = written_to n commit_place (commit_of e.epoch)
 device_after e ConfirmItem s n = settled n
 
 -- and if it failed
@@ -96,7 +97,7 @@ FailsItem e (CopyItem i) s m n = FailsCopy (block_listed i s) s m n
 FailsItem e (PageItem j) s m n = FailsWriteOf (block_to_write j s) s m n
 FailsItem e (SlotItem k) s m n = HasFailedToWrite (slot_number e k) (slot_block e s k) m n
 FailsItem e SettleItem s m n = HasFailed m n
-FailsItem e CommitItem s m n = HasFailedToWrite 1 (commit_of e.epoch) m n
+FailsItem e CommitItem s m n = HasFailedToWrite commit_place (commit_of e.epoch) m n
 FailsItem e ConfirmItem s m n = HasFailed m n
 
 -- an item was taken: what is returned, what comes after it, and what it makes of controller and NVM

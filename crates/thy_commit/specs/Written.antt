@@ -1,7 +1,8 @@
 -- What the NVM has of the checkpoint under way, by the stage of the engine.
 use Rattle.std.specs.Prelude.{◌≡◌, ℕ, false}
 use Rattle.thy_base.specs.Device.{Device}
-use Rattle.thy_base.specs.Places.{slot_blocks}
+use Rattle.thy_base.specs.Places.{commit_place}
+use Rattle.thy_places.specs.Places.{slot_blocks}
 use Rattle.thy_crash.specs.Fixed.{Reads}
 use Rattle.thy_layout.specs.Commit.{commit_of}
 use Rattle.thy_record.specs.DualParts.{IsIssuing}
@@ -26,7 +27,7 @@ HasWrittenBefore Pages e s n = Unit {0}
 HasWrittenBefore (Slot k) e s n = HasWrittenSlot e s n k
 HasWrittenBefore Settle e s n = HasWrittenSlot e s n (slot_blocks e.p)
 HasWrittenBefore Commit e s n = HasWrittenSlot e s n (slot_blocks e.p)
-HasWrittenBefore Confirm e s n = HasWrittenSlot e s n (slot_blocks e.p) × Reads n 1 (commit_of e.epoch)
+HasWrittenBefore Confirm e s n = HasWrittenSlot e s n (slot_blocks e.p) × Reads n commit_place (commit_of e.epoch)
 
 abbrev pub Stands : Progress → State → Device → Type 0
 Stands e s n = HasWrittenBefore e.next e s n

@@ -1,7 +1,7 @@
 //! The checkpoint engine.
 ghost use Rattle.std.specs.Prelude.{◌≡◌, ◌<◌, false, true, length, nat_lt, if◌then◌else◌, IfOk, OnOk, OnErr};
 ghost use Rattle.thy_base.specs.Device.{IsFramed, CountsFault, HasFailed, HasFailedToWrite, settled, written_to};
-ghost use Rattle.thy_base.specs.Places.{record_blocks};
+ghost use Rattle.thy_base.specs.Places.{record_blocks, commit_place};
 ghost use Rattle.thy_layout.specs.Commit.{commit_of};
 ghost use Rattle.thy_layout.specs.declared.engine_step.EngineStep.TheVariants.{StateBlock as IsStateBlock, TableBlock as IsTableBlock};
 ghost use Rattle.thy_control.specs.Seal.{sealed_state};
@@ -9,10 +9,11 @@ ghost use Rattle.thy_control.specs.State.{State, IsSized};
 
 use crate::CheckpointStage;
 use std::marker::Model;
-use thy_base::{Block, Geometry, Nvm, NvmError};
+use thy_base::{Block, COMMIT_PLACE, Geometry, Nvm, NvmError};
 use thy_control::Control;
 use thy_isa::CpuState;
-use thy_layout::{EngineStep, commit_block, cpu_block};
+use thy_layout::{EngineStep, commit_block, cpu_block, slot_of_epoch};
+use thy_places::{slot, slot_blocks as blocks_of_slot};
 
 /// The checkpoint engine. Each step makes of the NVM what one action makes of it.
 #[derive(Drop)]
@@ -52,7 +53,7 @@ fn slot_step(geometry: &Geometry, k: u64) -> EngineStep
 }
 
 impl Engine {
-    ghost use Rattle.thy_base.specs.Places.{slot_blocks};
+    ghost use Rattle.thy_places.specs.Places.{slot_blocks};
     ghost use Rattle.thy_commit.specs.Items.{SlotItem, SettleItem, CommitItem, ConfirmItem, is_under_way, copy_item, page_item, next_after, answer};
     ghost use Rattle.thy_commit.specs.Progress.{new_engine, begun, Fits, IsSoundProgress, IsDone, slot_block, Ends, item_of, engine_next, state_next, device_next, FailsNext};
 
@@ -203,7 +204,7 @@ impl Engine {
         requires up { (N.device nvm.old).down ≡ false }
         ensures { Ends (SlotItem k) self.now control.now (N.device nvm.old) result control.now (N.device nvm.new) }
     {
-        let at = self.geometry.slot(self.epoch % 2) + k;
+        let at = slot(&self.geometry, slot_of_epoch(self.epoch)) + k;
         nvm.write(at, &self.slot_block(k, control))?;
         Ok(Done {
             step: slot_step(&self.geometry, k),
@@ -230,7 +231,7 @@ impl Engine {
         requires block { k < slot_blocks self.now.p }
         ensures { result ≡ next_after self.now.p (SlotItem k) }
     {
-        let blocks = self.geometry.slot_blocks();
+        let blocks = blocks_of_slot(&self.geometry);
         if k + 1 < blocks {
             CheckpointStage::Slot(k + 1)
         } else {
@@ -257,16 +258,16 @@ impl Engine {
 
     /// Writes the commit block.
     fn write_commit<N: Nvm>(&self, nvm: &mut N) -> Result<Done, NvmError>
-        requires place { 1 < length (N.device nvm.old).image }
+        requires place { commit_place < length (N.device nvm.old).image }
         requires up { (N.device nvm.old).down ≡ false }
         ensures answer { IfOk result (λ done. done.step ≡ answer self.now.p self.now.epoch CommitItem) }
         ensures next { IfOk result (λ done. done.next ≡ next_after self.now.p CommitItem) }
-        ensures device { OnOk result (N.device nvm.new ≡ written_to (N.device nvm.old) 1 (commit_of self.now.epoch)) }
-        ensures err { OnErr result (HasFailedToWrite 1 (commit_of self.now.epoch) (N.device nvm.old) (N.device nvm.new)) }
+        ensures device { OnOk result (N.device nvm.new ≡ written_to (N.device nvm.old) commit_place (commit_of self.now.epoch)) }
+        ensures err { OnErr result (HasFailedToWrite commit_place (commit_of self.now.epoch) (N.device nvm.old) (N.device nvm.new)) }
         ensures frame { IsFramed (N.device nvm.old) (N.device nvm.new) }
         ensures cause { CountsFault result (N.device nvm.old).faults (N.device nvm.new).faults }
     {
-        nvm.write(1, &commit_block(self.epoch))?;
+        nvm.write(COMMIT_PLACE, &commit_block(self.epoch))?;
         Ok(Done {
             step: EngineStep::CommitWritten,
             next: CheckpointStage::Confirm,

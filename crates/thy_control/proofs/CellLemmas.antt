@@ -1,9 +1,9 @@
 -- The cell of a block: what it is of, and that its places are there.
 use Rattle.std.proofs.Common.{◌≡◌, ℕ, ◌<◌, Bool, true, false, if◌then◌else◌, length, refl, arith, ◌≤◌}
 use Rattle.thy_base.specs.declared.config.Parameters.{Parameters}
-use Rattle.thy_base.specs.declared.place.Place.{Place}
+use Rattle.thy_places.specs.declared.place.Place.{Place}
 use Rattle.thy_base.specs.Geometry.{IsInRange, memory_blocks}
-use Rattle.thy_base.specs.Places.{IsPlace}
+use Rattle.thy_places.specs.Places.{IsPlace}
 use Rattle.thy_base.specs.Store.{page_of}
 use Rattle.thy_base.proofs.RangeLemmas.{btt_least}
 use Rattle.thy_table.specs.declared.block_entry.Version.{Version}

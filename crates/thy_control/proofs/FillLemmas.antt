@@ -8,11 +8,11 @@ use Rattle.std.specs.List.{count_by}
 use Rattle.std.proofs.Common.{length, ◌≡◌, ◌≢◌, ℕ, ◌+◌, ◌-◌, ◌*◌, ◌<◌, ◌≤◌, ◌%◌, ◌==◌, ◌&&◌, not, if◌then◌else◌, Bool, true, false, List, get_or, refl, sym, ◌∙◌, ap, subst, inl, inr, arith, Option, Some, None, Result, Ok, Err, OnOk, OnErr, [], ◌∷◌, suc}
 use Rattle.std.proofs.lemmas.Bool.{cases_eq, and_parts, eqb-true, not-true, both_ways}
 use Rattle.std.proofs.lemmas.List.Sums.{sum_by-set, sum_by-cons, get_or-le-sum_by}
-use Rattle.thy_base.specs.declared.place.Place.{Place}
+use Rattle.thy_places.specs.declared.place.Place.{Place}
 use Rattle.thy_base.specs.declared.nvm.NvmError.{NvmError}
 use Rattle.thy_base.specs.Device.{Device, IsFramed, zero_block, HasFailed}
 use Rattle.thy_base.specs.Geometry.{memory_blocks}
-use Rattle.thy_base.specs.Places.{number_of}
+use Rattle.thy_places.specs.Places.{number_of}
 use Rattle.thy_base.specs.Store.{page_of}
 use Rattle.thy_base.proofs.BasicLemmas.{not_and}
 use Rattle.thy_place.specs.Devices.{Devices, devices_of}

@@ -2,12 +2,12 @@
 use Rattle.std.proofs.Common.{◌≡◌, ◌≢◌, ℕ, ◌<◌, ◌%◌, true, false, refl, sym, ◌∙◌, ap, subst, inl, inr, arith, Some, Result, Ok, Err, OnOk}
 use Rattle.std.proofs.lemmas.Bool.{cases_eq}
 use Rattle.thy_base.specs.declared.block.Block.{Block}
-use Rattle.thy_base.specs.declared.place.Place.{Place}
+use Rattle.thy_places.specs.declared.place.Place.{Place}
 use Rattle.thy_base.specs.declared.store.Stored.{Stored}
 use Rattle.thy_base.specs.declared.nvm.NvmError.{NvmError}
 use Rattle.thy_base.specs.Device.{Device}
 use Rattle.thy_base.specs.Geometry.{memory_blocks}
-use Rattle.thy_base.specs.Places.{IsPlace}
+use Rattle.thy_places.specs.Places.{IsPlace}
 use Rattle.thy_base.specs.Store.{page_of}
 use Rattle.thy_place.specs.Devices.{AreSized, devices_of, read_at, written_at}
 use Rattle.thy_place.proofs.PlaceLemmas.{read_at-written_same, read_at-written_other}

@@ -1,5 +1,5 @@
 -- The merge of a block's buffer into the frame of its page: every block after it, and the tables.
-use Rattle.thy_base.specs.declared.place.Place.TheVariants.{Home, AlternatePage}
+use Rattle.thy_places.specs.declared.place.Place.TheVariants.{Home, AlternatePage}
 use Rattle.thy_table.specs.declared.block_entry.Pending.{Pending}
 use Rattle.thy_table.specs.declared.block_entry.Pending.TheVariants.{Settled, FromBuffer, FromAlternate}
 use Rattle.thy_table.specs.declared.block_entry.Version.{Version}
@@ -15,10 +15,10 @@ use Rattle.std.proofs.Common.{◌≡◌, ◌≢◌, ℕ, ◌+◌, ◌<◌, Bool,
 use Rattle.std.proofs.lemmas.Bool.{cases_eq, and_parts}
 use Rattle.std.proofs.lemmas.List.{length-set}
 use Rattle.thy_base.specs.declared.block.Block.{Block}
-use Rattle.thy_base.specs.declared.place.Place.{Place}
+use Rattle.thy_places.specs.declared.place.Place.{Place}
 use Rattle.thy_base.specs.Device.{Device, zero_block, block_at}
 use Rattle.thy_base.specs.Geometry.{memory_blocks}
-use Rattle.thy_base.specs.Places.{IsPlace, number_of}
+use Rattle.thy_places.specs.Places.{IsPlace, number_of}
 use Rattle.thy_base.specs.Store.{page_of}
 use Rattle.thy_dram.specs.Contents.{Contents, written}
 use Rattle.thy_table.specs.Listing.{Listing, IsListing, entry_at, lists, passes, place_of, with_entry}

@@ -1,8 +1,8 @@
 -- The block that a place belongs to: places of two blocks are two places.
 use Rattle.std.proofs.Common.{◌≡◌, ◌≢◌, ℕ, ◌+◌, ◌*◌, ◌%◌, Bool, true, false, if◌then◌else◌, refl, sym, ◌∙◌, ap, arith, Option, Some}
 use Rattle.std.specs.Option.{option_map}
-use Rattle.thy_base.specs.declared.place.Place.{Place}
-use Rattle.thy_base.specs.declared.place.Place.TheVariants.{Home, AlternateBlock, AlternatePage, Buffer, Frame}
+use Rattle.thy_places.specs.declared.place.Place.{Place}
+use Rattle.thy_places.specs.declared.place.Place.TheVariants.{Home, AlternateBlock, AlternatePage, Buffer, Frame}
 use Rattle.thy_base.specs.Store.{page_of}
 use Rattle.thy_table.specs.Listing.{entry_at, place_of}
 use Rattle.thy_table.specs.declared.block_entry.BttEntry.{BttEntry}

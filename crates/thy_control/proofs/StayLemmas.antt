@@ -6,11 +6,11 @@ use Rattle.std.proofs.lemmas.List.Quantifiers.{position-Some}
 use Rattle.thy_table.proofs.IndexLemmas.{None-is_none}
 use Rattle.thy_base.specs.Store.{page_of}
 use Rattle.thy_base.specs.declared.block.Block.{Block}
-use Rattle.thy_base.specs.declared.place.Place.{Place}
+use Rattle.thy_places.specs.declared.place.Place.{Place}
 use Rattle.thy_base.specs.declared.store.Stored.{Stored}
 use Rattle.thy_base.specs.declared.nvm.NvmError.{NvmError}
 use Rattle.thy_base.specs.Device.{Device, HasFailed, IsFramed, newest, written_to}
-use Rattle.thy_base.specs.Places.{in_dram, number_of, IsPlace}
+use Rattle.thy_places.specs.Places.{in_dram, number_of, IsPlace}
 use Rattle.thy_base.proofs.DeviceLemmas.{newest-written_to_other}
 use Rattle.thy_dram.specs.Contents.{written}
 use Rattle.thy_place.specs.Devices.{Devices, devices_of}

@@ -2,10 +2,10 @@
 use Rattle.std.proofs.Common.{◌≡◌, ◌≢◌, ◌⊎◌, ℕ, ◌<◌, true, false, refl, sym, ◌∙◌, ap, subst, inl, inr, arith, Some}
 use Rattle.std.proofs.lemmas.Bool.{cases_eq}
 use Rattle.thy_base.specs.declared.block.Block.{Block}
-use Rattle.thy_base.specs.declared.place.Place.{Place}
+use Rattle.thy_places.specs.declared.place.Place.{Place}
 use Rattle.thy_base.specs.Device.{Device, HasFailed, HasFailedToWrite, IsFramed}
 use Rattle.thy_base.specs.Geometry.{memory_blocks}
-use Rattle.thy_base.specs.Places.{in_dram, number_of, IsPlace, IsApart}
+use Rattle.thy_places.specs.Places.{in_dram, number_of, IsPlace, IsApart}
 use Rattle.thy_place.specs.Devices.{NoMoreAt, devices_of, written_at}
 use Rattle.thy_place.proofs.PlaceLemmas.{no_more-written_other, no_more-failed_other}
 use Rattle.thy_cell.specs.Cells.{seat_of, penult, target}

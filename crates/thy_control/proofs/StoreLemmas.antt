@@ -11,7 +11,7 @@ use Rattle.thy_base.specs.declared.store.Stored.TheVariants.{Done, CopyFirst}
 use Rattle.thy_base.specs.declared.nvm.NvmError.{NvmError}
 use Rattle.thy_base.specs.Device.{Device, HasFailed, IsFramed, zero_block, written_to}
 use Rattle.thy_base.specs.Geometry.{memory_blocks}
-use Rattle.thy_base.specs.Places.{image_blocks}
+use Rattle.thy_places.specs.Places.{image_blocks}
 use Rattle.thy_base.specs.Store.{page_of, IsStored, HasStored}
 use Rattle.thy_dram.specs.Contents.{written}
 use Rattle.thy_place.specs.Devices.{Devices, devices_of}

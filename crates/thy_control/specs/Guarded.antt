@@ -2,7 +2,7 @@
 use Rattle.std.specs.Prelude.{◌≡◌, ◌≢◌, ℕ, ◌<◌, ◌≤◌, ◌%◌, true}
 use Rattle.thy_base.specs.Device.{Device}
 use Rattle.thy_base.specs.Geometry.{memory_blocks}
-use Rattle.thy_base.specs.Places.{number_of, first_home, blocks_one, IsApart}
+use Rattle.thy_places.specs.Places.{number_of, first_home, blocks_one, IsApart}
 use Rattle.thy_place.specs.Devices.{NoMoreAt}
 use Rattle.thy_table.specs.declared.block_entry.Pending.TheVariants.{Settled}
 use Rattle.thy_cell.specs.declared.cell.Cell.{Cell}

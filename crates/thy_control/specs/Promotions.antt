@@ -4,7 +4,7 @@ use Rattle.std.specs.Prelude.{◌≡◌, ℕ, false, ◌-◌, if◌then◌else�
 use Rattle.std.specs.List.{sum_by}
 use Rattle.thy_base.specs.declared.nvm.NvmError.{NvmError}
 use Rattle.thy_base.specs.Device.{Device, HasFailed}
-use Rattle.thy_base.specs.Places.{in_dram}
+use Rattle.thy_places.specs.Places.{in_dram}
 use Rattle.thy_place.specs.Devices.{Devices, devices_of}
 use Rattle.thy_table.specs.Listing.{entry_at, with_entry, next_from}
 use Rattle.thy_table.specs.declared.page_entry.PttEntry.{PttEntry}

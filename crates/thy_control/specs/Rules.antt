@@ -2,7 +2,7 @@
 use Rattle.std.specs.Prelude.{◌≡◌, ℕ, ◌<◌, false}
 use Rattle.thy_base.specs.declared.block.Block.{Block}
 use Rattle.thy_base.specs.Device.{Device, HasFailedToWrite}
-use Rattle.thy_base.specs.Places.{in_dram, number_of}
+use Rattle.thy_places.specs.Places.{in_dram, number_of}
 use Rattle.thy_base.specs.Geometry.{memory_blocks}
 use Rattle.thy_base.specs.Store.{page_of}
 use Rattle.thy_place.specs.Devices.{Devices, devices_of, written_at}

@@ -2,7 +2,8 @@
 ghost use Rattle.std.specs.Prelude.{◌≡◌, ◌≢◌, true, nat_lt, None, ◌<◌, ◌≤◌, ◌*◌, false, length, IfOk, OnOk, OnErr};
 ghost use Rattle.thy_base.specs.Device.{HasFailed, IsFramed, CountsFault, block_at};
 ghost use Rattle.thy_base.specs.Geometry.{memory_blocks};
-ghost use Rattle.thy_base.specs.Places.{dram_blocks, in_dram, number_of, IsPlace};
+ghost use Rattle.thy_base.specs.Places.{dram_blocks};
+ghost use Rattle.thy_places.specs.Places.{in_dram, number_of, IsPlace};
 ghost use Rattle.thy_table.specs.Listing.{free_count, lists, entry_at, place_of};
 ghost use Rattle.thy_table.specs.BlockEntry.{new_entry};
 ghost use Rattle.thy_table.specs.PageEntry.{no_page};
@@ -26,7 +27,7 @@ use crate::overlay::WorkCounts;
 use crate::seal::{CommitBlocks, CommitPages, seal_blocks, seal_pages};
 use std::alloc::{AllocError, Global};
 use std::marker::Model;
-use thy_base::{Block, Geometry, Nvm, NvmError, PAGE_BLOCKS, Place, Stored, page_of};
+use thy_base::{Block, Geometry, Nvm, NvmError, PAGE_BLOCKS, Stored, page_of};
 use thy_cell::{
     Cell, StoreRule, a_commit_keeps_entries_sound, a_commit_takes_the_last,
     a_listing_keeps_versions, a_seal_keeps_entries_sound, a_seal_leaves_no_work,
@@ -35,6 +36,7 @@ use thy_cell::{
 };
 use thy_dram::Dram;
 use thy_place::{read_place, write_place};
+use thy_places::Place;
 use thy_switch::Counts;
 use thy_table::{Btt, BttEntry, Ptt, PttEntry, Table};
 

@@ -3,7 +3,7 @@ use Rattle.std.proofs.Common.{◌≡◌, ℕ, true, false, refl, sym, ◌∙◌,
 use Rattle.thy_base.specs.declared.block.Block.{Block}
 use Rattle.thy_base.specs.Device.{Device}
 use Rattle.thy_base.specs.Geometry.{memory_blocks}
-use Rattle.thy_base.specs.Places.{image_blocks}
+use Rattle.thy_places.specs.Places.{image_blocks}
 use Rattle.thy_base.proofs.BasicLemmas.{not_some}
 use Rattle.thy_place.specs.Devices.{devices_of}
 use Rattle.thy_place.proofs.PlaceLemmas.{down-written}

@@ -5,7 +5,8 @@ use Rattle.std.proofs.lemmas.List.{length-replicate, get_or-replicate, get_or_pa
 use Rattle.thy_base.specs.declared.config.Parameters.{Parameters}
 use Rattle.thy_base.specs.Device.{Device, IsCut}
 use Rattle.thy_base.specs.Geometry.{IsInRange, memory_blocks}
-use Rattle.thy_base.specs.Places.{slot_blocks, image_blocks, dram_blocks}
+use Rattle.thy_places.specs.Places.{slot_blocks, image_blocks}
+use Rattle.thy_base.specs.Places.{dram_blocks}
 use Rattle.thy_base.proofs.BasicLemmas.{room-cut}
 use Rattle.thy_control.specs.State.{State, AreSoundTables, new_state}
 use Rattle.thy_dram.specs.Contents.{Contents, lost}

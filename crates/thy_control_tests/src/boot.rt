@@ -14,9 +14,9 @@ use thy_boot::{Boot, End, Issue, Stage, a_boot_may_go_on};
 use thy_control::Control;
 use thy_dram::Dram;
 use thy_isa::{CpuState, MachState, Regs, Status};
+use thy_layout::Start;
 use thy_migrate::DualFills;
 use thy_nvm::MemNvm;
-use thy_layout::Start;
 use thy_view::BootStep;
 
 /// The least memory: seven pages of the program and one of the console.

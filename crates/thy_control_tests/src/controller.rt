@@ -1,6 +1,6 @@
 //! The controller over the simulated NVM, compared with a plain list of blocks: random loads and stores of one epoch.
 ghost use Rattle.std.specs.Prelude.{◌≡◌, ◌<◌, true, false, length};
-ghost use Rattle.thy_base.specs.Places.{image_blocks};
+ghost use Rattle.thy_places.specs.Places.{image_blocks};
 ghost use Rattle.thy_control.specs.Holding.{holding_of};
 ghost use Rattle.thy_control_tests.specs.Beside.{Takes, AreLong};
 
@@ -12,6 +12,7 @@ use thy_base::{Block, BlockStore, Geometry, Lcg, Nvm, Parameters, SchemeName, Sh
 use thy_control::{Control, a_new_controller_is_ready, blocks_are_works};
 use thy_dram::Dram;
 use thy_nvm::MemNvm;
+use thy_places::{blocks, home};
 
 /// The least memory, 512 blocks. The block table has room for 64 of them.
 static LEAST: Parameters = Parameters {
@@ -185,7 +186,7 @@ fn compare<N: Nvm>(rt: &impl Abort, control: &mut Control, nvm: &mut N, beside: 
 fn drawn_image(rt: &impl Abort, alloc: Global, geometry: &Geometry, lcg: &mut Lcg) -> Vec<Block>
     ensures { length result.items ≡ image_blocks geometry.now }
 {
-    let mut image = vec![in alloc; Block::ZERO; geometry.blocks() as usize].expect(rt, "memory");
+    let mut image = vec![in alloc; Block::ZERO; blocks(geometry) as usize].expect(rt, "memory");
     for block in image.iter_mut() {
         *block = drawn(lcg);
     }
@@ -198,7 +199,7 @@ fn fit<N: Nvm>(rt: &impl Abort, alloc: Global, nvm: &mut N, geometry: &Geometry,
     ensures up { (N.device nvm.new).down ≡ false }
 {
     let shape = Shape {
-        blocks: geometry.blocks(),
+        blocks: blocks(geometry),
         queue: 4,
         cuts: 0,
     };
@@ -226,7 +227,7 @@ fn memory_of(rt: &impl Abort, alloc: Global, geometry: &Geometry, image: &[Block
     requires long { length image.now ≡ image_blocks geometry.now }
     ensures { AreLong result.start.items result.blocks.items result.stored.items }
 {
-    let home = geometry.home(0) as usize;
+    let home = home(geometry, 0) as usize;
     let memory = &image[home..home + 512];
     Beside {
         start: memory.to_vec(alloc).expect(rt, "memory"),

@@ -1,6 +1,6 @@
 //! The controller over the simulated NVM, compared with three lists of blocks: random calls of all kinds, over many epochs.
 ghost use Rattle.std.specs.Prelude.{◌≡◌, ◌<◌, true, false, length, IfSome};
-ghost use Rattle.thy_base.specs.Places.{image_blocks};
+ghost use Rattle.thy_places.specs.Places.{image_blocks};
 ghost use Rattle.thy_control_tests.specs.Driven.{Drives, AreVersions};
 
 use crate::support::driven::{
@@ -14,6 +14,7 @@ use std::process::Abort;
 use thy_base::{Block, Geometry, Lcg, Nvm, Parameters, SchemeName, Stored};
 use thy_control::Control;
 use thy_nvm::MemNvm;
+use thy_places::{blocks, home};
 
 /// How many entries the block table has.
 const ENTRIES: u64 = 16;
@@ -423,7 +424,7 @@ fn compare_all<N: Nvm>(rt: &impl Abort, control: &Control, nvm: &mut N, beside: 
 fn drawn_image(rt: &impl Abort, alloc: Global, geometry: &Geometry, lcg: &mut Lcg) -> Vec<Block>
     ensures { length result.items ≡ image_blocks geometry.now }
 {
-    let mut image = vec![in alloc; Block::ZERO; geometry.blocks() as usize].expect(rt, "memory");
+    let mut image = vec![in alloc; Block::ZERO; blocks(geometry) as usize].expect(rt, "memory");
     for block in image.iter_mut() {
         *block = drawn(lcg);
     }
@@ -437,7 +438,7 @@ fn memory_of(rt: &impl Abort, alloc: Global, geometry: &Geometry, image: &[Block
     ensures long { AreVersions result.committed.items result.last.items result.work.items }
     ensures idle { result.under_way ≡ false }
 {
-    let home = geometry.home(0) as usize;
+    let home = home(geometry, 0) as usize;
     let memory = &image[home..home + 512];
     Versions {
         committed: memory.to_vec(alloc).expect(rt, "memory"),

@@ -12,6 +12,7 @@ use std::process::Abort;
 use thy_base::{Block, Nvm, Parameters, SchemeName, Stored};
 use thy_control::Control;
 use thy_nvm::MemNvm;
+use thy_places::blocks;
 
 /// The least memory, with a block table of so many entries. A page is stored to densely by more than 22 stores of an
 /// epoch, and no longer by fewer than 16.
@@ -44,7 +45,7 @@ fn over_zeros<N: Nvm>(rt: &impl Abort, alloc: Global, btt: u64, nvm: &mut N) -> 
     ensures idle { result.under_way ≡ false }
 {
     let geometry = geometry_of(rt, alloc, &least(btt));
-    let image = vec![in alloc; Block::ZERO; geometry.blocks() as usize].expect(rt, "memory");
+    let image = vec![in alloc; Block::ZERO; blocks(&geometry) as usize].expect(rt, "memory");
     power_on(rt, alloc, &geometry, nvm, &image)
 }
 

@@ -2,6 +2,7 @@
 use Rattle.std.specs.Prelude.{◌≡◌, ◌≢◌, ℕ, ◌+◌, ◌<◌, List, [], Contains, length}
 use Rattle.thy_base.specs.declared.block.Block.{Block}
 use Rattle.thy_base.specs.Device.{Device, Crash, block_at, newest, drained, settled, written_to, IsCut, IsFramed, HasFailed, HasFailedToWrite}
+use Rattle.thy_base.specs.Places.{commit_place}
 use Rattle.thy_crash.specs.Fixed.{IsFixed, Reads, ReadsFirst}
 use Rattle.thy_crash.specs.Saved.{Looking, IsIssued, next_image, Saved, Kept, Ready, InDoubt, IsSaved, guarded, IsLeft}
 use Rattle.thy_crash.specs.Spares.{Spares}
@@ -81,21 +82,22 @@ BarrierMakesReady =
 abbrev pub CommitLeavesDoubt : Type 0
 CommitLeavesDoubt =
     (looked : Looking) (before next : List Block) (old new : Device)
-    → IsSaved looked old (Ready before next) → new ≡ written_to old 1 (block_at next 1)
+    → IsSaved looked old (Ready before next) → new ≡ written_to old commit_place (block_at next commit_place)
     → IsSaved looked new (InDoubt before next)
 
 -- also if that write fails
 abbrev pub FailedCommitLeavesDoubt : Type 0
 FailedCommitLeavesDoubt =
     (looked : Looking) (before next : List Block) (old new : Device)
-    → IsSaved looked old (Ready before next) → HasFailedToWrite 1 (block_at next 1) old new → IsFramed old new
+    → IsSaved looked old (Ready before next) → HasFailedToWrite commit_place (block_at next commit_place) old new
+    → IsFramed old new
     → IsSaved looked new (InDoubt before next)
 
 -- the barrier after it ends the doubt: the next image is kept
 abbrev pub BarrierEndsDoubt : Type 0
 BarrierEndsDoubt =
     (looked : Looking) (before next : List Block) (old new : Device)
-    → IsSaved looked old (InDoubt before next) → Reads old 1 (block_at next 1) → new ≡ settled old
+    → IsSaved looked old (InDoubt before next) → Reads old commit_place (block_at next commit_place) → new ≡ settled old
     → IsSaved looked new (Kept next)
 
 -- ---- what is written meanwhile
@@ -110,11 +112,12 @@ NextIsIssued =
 -- its blocks are those that are read
 abbrev pub NextHasReads : Type 0
 NextHasReads =
-    (commit : Block) (n : Device) (x : ℕ) → x < length n.image → x ≢ 1 → block_at (next_image n commit) x ≡ newest n x
+    (commit : Block) (n : Device) (x : ℕ) → x < length n.image → x ≢ commit_place → block_at (next_image n commit) x ≡ newest n x
 
 -- except for its commit block
 abbrev pub NextHasCommit : Type 0
-NextHasCommit = (commit : Block) (n : Device) → 1 < length n.image → block_at (next_image n commit) 1 ≡ commit
+NextHasCommit =
+    (commit : Block) (n : Device) → commit_place < length n.image → block_at (next_image n commit) commit_place ≡ commit
 
 -- a write is read at its place
 abbrev pub WriteIsRead : Type 0

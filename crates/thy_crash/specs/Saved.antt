@@ -3,6 +3,7 @@
 use Rattle.std.specs.Prelude.{◌≡◌, ◌≢◌, ◌⊎◌, ℕ, List, ◌∷◌, ◌++◌, Contains, length, slice_set}
 use Rattle.thy_base.specs.declared.block.Block.{Block}
 use Rattle.thy_base.specs.Device.{Device, block_at, applied}
+use Rattle.thy_base.specs.Places.{commit_place}
 use Rattle.thy_crash.specs.Fixed.{IsFixed, IsEither, Reads}
 
 -- which places of an image determine what it means
@@ -12,16 +13,16 @@ Looking = List Block → List ℕ
 -- Each place that determines what an image means has its block, whatever a cut leaves. The commit block is apart.
 pub record Stands (looked : Looking) (n : Device) (h : List Block) : Type 0 where
   pub as_long : length n.image ≡ length h
-  pub each : (x : ℕ) → Contains (looked h) x → x ≢ 1 → IsFixed n x (block_at h x)
+  pub each : (x : ℕ) → Contains (looked h) x → x ≢ commit_place → IsFixed n x (block_at h x)
 
 -- each of these places, but for the commit block, was written: a read gives its block
 pub record IsIssued (looked : Looking) (n : Device) (h : List Block) : Type 0 where
   pub as_long : length n.image ≡ length h
-  pub each : (x : ℕ) → Contains (looked h) x → x ≢ 1 → Reads n x (block_at h x)
+  pub each : (x : ℕ) → Contains (looked h) x → x ≢ commit_place → Reads n x (block_at h x)
 
 -- the image that all writes of a device make, with this commit block
 abbrev pub next_image : Device → Block → List Block
-next_image n commit = slice_set (applied n.image n.queue) 1 commit
+next_image n commit = slice_set (applied n.image n.queue) commit_place commit
 
 -- which images a device may have after a cut
 pub data Saved : Type 0 where
@@ -35,7 +36,7 @@ pub data Saved : Type 0 where
 -- an image stands, with its commit block
 pub record IsKept (looked : Looking) (n : Device) (before : List Block) : Type 0 where
   pub stands : Stands looked n before
-  pub commit : IsFixed n 1 (block_at before 1)
+  pub commit : IsFixed n commit_place (block_at before commit_place)
 
 -- also the next one stands, except for the commit block
 pub record IsReady (looked : Looking) (n : Device) (before next : List Block) : Type 0 where
@@ -46,7 +47,7 @@ pub record IsReady (looked : Looking) (n : Device) (before next : List Block) : 
 pub record IsInDoubt (looked : Looking) (n : Device) (before next : List Block) : Type 0 where
   pub stands : Stands looked n before
   pub next_stands : Stands looked n next
-  pub commit : IsEither n 1 (block_at before 1) (block_at next 1)
+  pub commit : IsEither n commit_place (block_at before commit_place) (block_at next commit_place)
 
 -- what a device may have after a cut is saved
 abbrev pub IsSaved : Looking → Device → Saved → Type 0
@@ -56,14 +57,14 @@ IsSaved looked n (InDoubt before next) = IsInDoubt looked n before next
 
 -- the places that no write may touch meanwhile
 abbrev pub guarded : Looking → Saved → List ℕ
-guarded looked (Kept before) = 1 ∷ looked before
-guarded looked (Ready before next) = 1 ∷ (looked before ++ looked next)
-guarded looked (InDoubt before next) = 1 ∷ (looked before ++ looked next)
+guarded looked (Kept before) = commit_place ∷ looked before
+guarded looked (Ready before next) = commit_place ∷ (looked before ++ looked next)
+guarded looked (InDoubt before next) = commit_place ∷ (looked before ++ looked next)
 
 -- an image is as long as another, and has its commit block and its blocks at all places that determine what that means
 pub record IsCopy (looked : Looking) (h g : List Block) : Type 0 where
   pub as_long : length g ≡ length h
-  pub commit : block_at g 1 ≡ block_at h 1
+  pub commit : block_at g commit_place ≡ block_at h commit_place
   pub each : (x : ℕ) → Contains (looked h) x → block_at g x ≡ block_at h x
 
 -- what a cut leaves of what is saved

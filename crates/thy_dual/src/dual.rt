@@ -2,7 +2,7 @@
 ghost use Rattle.std.specs.Prelude.{◌≡◌, ◌&&◌, ◌<◌, true, false, length, IfOk, OnOk, OnErr};
 ghost use Rattle.thy_base.specs.declared.config.Parameters.{Parameters};
 ghost use Rattle.thy_base.specs.Device.{Device, HasFailed, IsFramed, CountsFault, block_at};
-ghost use Rattle.thy_base.specs.Places.{image_blocks};
+ghost use Rattle.thy_places.specs.Places.{image_blocks};
 ghost use Rattle.thy_base.specs.Store.{IsKeptByLoad};
 ghost use Rattle.thy_dram.specs.Contents.{lost};
 ghost use Rattle.thy_table.specs.Listing.{free_count};
@@ -33,8 +33,9 @@ use thy_commit::{Engine, items_are_moves, items_keep_the_store, items_move_versi
 use thy_control::{Control, blocks_are_works};
 use thy_dram::Dram;
 use thy_isa::CpuState;
-use thy_migrate::Recovery;
 use thy_layout::{EngineStep, Start};
+use thy_migrate::Recovery;
+use thy_places::blocks;
 use thy_scheme::Scheme;
 use thy_view::BootStep;
 
@@ -88,7 +89,7 @@ impl Scheme for DualScheme {
     fn nvm_blocks(geometry: &Geometry) -> u64
         ensures { result ≡ image_blocks geometry.now }
     {
-        geometry.blocks()
+        blocks(geometry)
     }
 
     fn new(alloc: Global, geometry: &Geometry, dram: Dram) -> Result<DualScheme, AllocError>

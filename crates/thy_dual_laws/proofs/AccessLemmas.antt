@@ -3,14 +3,14 @@ use Rattle.std.proofs.Common.{◌≡◌, ◌⊎◌, ℕ, ◌<◌, ◌≤◌, ◌
 use Rattle.std.proofs.lemmas.Bool.{and_parts, eqb-true, both_ways}
 use Rattle.thy_base.specs.declared.block.Block.{Block}
 use Rattle.thy_base.specs.declared.nvm.NvmError.{NvmError}
-use Rattle.thy_base.specs.declared.place.Place.{Place}
+use Rattle.thy_places.specs.declared.place.Place.{Place}
 use Rattle.thy_base.specs.declared.store.Stored.{Stored}
 use Rattle.thy_base.specs.declared.store.Stored.TheVariants.{Done, CopyFirst}
 use Rattle.thy_base.specs.declared.config.Parameters.{Parameters}
 use Rattle.std.proofs.lemmas.List.FromFn.{length-map-range_with_len, get_or-map-range_with_len}
 use Rattle.thy_base.specs.Geometry.{memory_blocks}
 use Rattle.thy_base.specs.Device.{Device, zero_block, block_at, written_to}
-use Rattle.thy_base.specs.Places.{in_dram, number_of, first_home}
+use Rattle.thy_places.specs.Places.{in_dram, number_of, first_home}
 use Rattle.thy_dram.specs.Contents.{written}
 use Rattle.thy_cell.specs.Rules.{store_place}
 use Rattle.thy_cell.specs.Store.{put_by}

@@ -5,12 +5,12 @@ use Rattle.std.proofs.lemmas.Bool.{ltb-true}
 use Rattle.std.proofs.lemmas.List.{length-map, get_or-map, ext_get_or}
 use Rattle.std.proofs.lemmas.List.FromFn.{length-range_with_len, get_or-map-range_with_len}
 use Rattle.thy_base.specs.declared.block.Block.{Block}
-use Rattle.thy_base.specs.declared.layout_version.LayoutVersion.TheVariants.{VersionTwo}
+use Rattle.thy_layout.specs.declared.layout_version.LayoutVersion.TheVariants.{VersionTwo}
 use Rattle.thy_base.specs.declared.mark.Mark.{Mark}
-use Rattle.thy_base.specs.declared.place.Place.{Place}
+use Rattle.thy_places.specs.declared.place.Place.{Place}
 use Rattle.thy_base.specs.Device.{Device, block_at, newest, zero_block}
 use Rattle.thy_base.specs.Geometry.{memory_blocks}
-use Rattle.thy_base.specs.Places.{number_of, image_blocks}
+use Rattle.thy_places.specs.Places.{number_of, image_blocks}
 use Rattle.thy_base.proofs.DeviceLemmas.{newest-empty}
 use Rattle.thy_crash.specs.Saved.{Saved, Kept}
 use Rattle.thy_isa.specs.declared.state.CpuState.{CpuState}

@@ -1,7 +1,7 @@
 -- How long epochs and boots can be.
 use Rattle.std.proofs.Common.{ℕ, ◌+◌, ◌*◌, ◌≤◌, max, arith}
 use Rattle.thy_base.specs.Geometry.{memory_blocks}
-use Rattle.thy_base.specs.Places.{slot_blocks}
+use Rattle.thy_places.specs.Places.{slot_blocks}
 use Rattle.thy_base.proofs.RangeLemmas.{harts_most}
 use Rattle.thy_control.proofs.CellLemmas.{ptt_least}
 use Rattle.thy_dual_laws.specs.Bounds.{EpochsAreShort, BootsAreShort}

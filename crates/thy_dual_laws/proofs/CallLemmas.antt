@@ -1,6 +1,6 @@
 -- What a drain of the DRAM, a merge and a promotion keep of the checkpoints.
 use Rattle.std.proofs.Common.{◌≡◌, ℕ, ◌+◌, ◌<◌, ◌≤◌, nat_lt, ◌&&◌, true, false, length, refl, sym, ◌∙◌, ap, subst, inl, inr, arith, zero, suc, Option, Some, None}
-use Rattle.thy_base.specs.Places.{image_blocks}
+use Rattle.thy_places.specs.Places.{image_blocks}
 use Rattle.thy_base.specs.Device.{Device}
 use Rattle.thy_table.specs.Listing.{Listing, entry_at, passes, free_count}
 use Rattle.thy_table.specs.declared.block_entry.BttEntry.{BttEntry}

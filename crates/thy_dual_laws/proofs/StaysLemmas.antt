@@ -3,7 +3,7 @@ use Rattle.std.proofs.Common.{◌≡◌, ◌≤◌, Bool, true, false, sym, ◌�
 use Rattle.thy_base.specs.declared.block.Block.{Block}
 use Rattle.thy_base.specs.declared.config.Parameters.{Parameters}
 use Rattle.thy_base.specs.Device.{Device, newest}
-use Rattle.thy_base.specs.Places.{image_blocks}
+use Rattle.thy_places.specs.Places.{image_blocks}
 use Rattle.thy_isa.specs.OnBlocks.{state_from}
 use Rattle.thy_layout.specs.Header.{header_fault}
 use Rattle.thy_record.specs.Number.{scheme_number}

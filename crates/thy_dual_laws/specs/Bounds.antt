@@ -2,7 +2,7 @@
 use Rattle.std.specs.Prelude.{ℕ, ◌+◌, ◌*◌, ◌<◌, ◌≤◌}
 use Rattle.thy_base.specs.declared.config.Parameters.{Parameters}
 use Rattle.thy_base.specs.Geometry.{IsInRange, memory_blocks}
-use Rattle.thy_base.specs.Places.{slot_blocks}
+use Rattle.thy_places.specs.Places.{slot_blocks}
 use Rattle.thy_core_laws.specs.Pace.{most_spent}
 use Rattle.thy_dual_laws.specs.Scheme.{dual_scheme}
 

@@ -1,13 +1,14 @@
 -- While a machine over this scheme restores a checkpoint it writes nothing to the NVM, unless it migrates an image of
 -- version 1; and then it writes the slot of the checkpoint's epoch in version 2, and block 1, alone.
-use Rattle.std.specs.Prelude.{◌≡◌, ◌⊎◌, ℕ, ◌+◌, ◌%◌, ◌<◌, true, false, Some}
+use Rattle.std.specs.Prelude.{◌≡◌, ◌⊎◌, ℕ, ◌+◌, ◌<◌, true, false, Some}
 use Rattle.thy_base.specs.declared.config.Parameters.{Parameters}
-use Rattle.thy_base.specs.declared.layout_version.LayoutVersion.TheVariants.{VersionOne, VersionTwo}
+use Rattle.thy_layout.specs.declared.layout_version.LayoutVersion.TheVariants.{VersionOne, VersionTwo}
 use Rattle.thy_base.specs.declared.mark.Mark.{Mark}
 use Rattle.thy_base.specs.declared.mix.Pick.{Pick}
 use Rattle.thy_base.specs.Device.{Device, HasFailed, block_at}
-use Rattle.thy_base.specs.Places.{slot_blocks, slot_place}
-use Rattle.thy_layout.specs.Commit.{version_of}
+use Rattle.thy_base.specs.Places.{commit_place}
+use Rattle.thy_places.specs.Places.{slot_blocks, slot_place}
+use Rattle.thy_layout.specs.Commit.{version_of, slot_of_epoch}
 use Rattle.thy_record.specs.Number.{scheme_number}
 use Rattle.thy_view.specs.declared.did.Did.{Did}
 use Rattle.thy_view.specs.declared.did.Stepped.{Stepped}
@@ -57,7 +58,7 @@ FailuresWriteNothing =
 abbrev pub IsOfMigration : Parameters → ℕ → Action → Type 0
 IsOfMigration p epoch Barrier = Unit {0}
 IsOfMigration p epoch (WriteAt place block) =
-    (place ≡ 1) ⊎ ((k : ℕ) × (k < slot_blocks p) × (place ≡ slot_place p (epoch % 2) + k))
+    (place ≡ commit_place) ⊎ ((k : ℕ) × (k < slot_blocks p) × (place ≡ slot_place p (slot_of_epoch epoch) + k))
 IsOfMigration p epoch action = ⊥
 
 -- a boot that migrates has found a checkpoint of version 1, and its action is one of these
@@ -76,5 +77,6 @@ MigrationWrites =
 -- itself has only its last barrier to come.
 abbrev pub VersionTwoStays : Type 0
 VersionTwoStays =
-    (o : Origin) (s : Dual) (n : Device) → Boots o s n → version_of scheme_number o.geometry (block_at n.image 1) ≡ VersionTwo
+    (o : Origin) (s : Dual) (n : Device) → Boots o s n
+    → version_of scheme_number o.geometry (block_at n.image commit_place) ≡ VersionTwo
     → (dual_scheme.migrates s ≡ false) ⊎ (s.boot.migration ≡ Some Confirm)

@@ -1,7 +1,7 @@
 -- Part of the claim.
 -- What is seen of the scheme.
 use Rattle.std.specs.Prelude.{◌*◌, true, false, is_some}
-use Rattle.thy_base.specs.Places.{image_blocks}
+use Rattle.thy_places.specs.Places.{image_blocks}
 use Rattle.thy_record.specs.DualLayouts.{decode_image}
 use Rattle.thy_table.specs.Listing.{free_count}
 use Rattle.thy_control.specs.Holding.{holding_of}

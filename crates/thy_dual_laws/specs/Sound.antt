@@ -2,6 +2,7 @@
 use Rattle.std.specs.Prelude.{◌≡◌, ◌≤◌, Bool, true, false, is_some, Some, None}
 use Rattle.thy_base.specs.declared.mark.Mark.{Mark}
 use Rattle.thy_base.specs.Device.{Device, newest}
+use Rattle.thy_base.specs.Places.{header_place}
 use Rattle.thy_isa.specs.declared.state.CpuState.{CpuState}
 use Rattle.thy_isa.specs.OnBlocks.{state_from}
 use Rattle.thy_layout.specs.Header.{header_fault}
@@ -79,6 +80,6 @@ pub record IsSoundDual (o : Origin) (k : CheckpointMarks) (s : Dual) (n : Device
   -- a mark is sealed exactly if a checkpoint is under way
   pub way : is_under_way s.engine.next ≡ is_some k.sealed
   pub written : k.written ≡ is_confirming s.engine.next
-  pub header : header_fault scheme_number (newest n 0) o.geometry true ≡ None
+  pub header : header_fault scheme_number (newest n header_place) o.geometry true ≡ None
   pub committed : HasState o k.done s.control n
   pub rest : IsRest s

@@ -8,8 +8,8 @@ use std::alloc::{AllocError, Global};
 use std::process::Abort;
 use std::test::Fail;
 use thy_base::{Parameters, SchemeName, Shelf};
-use thy_out::MemShelf;
 use thy_layout::BadImage;
+use thy_out::MemShelf;
 use thy_record::check;
 
 /// Runs a file in the smallest memory, and compares status and report.

@@ -9,6 +9,7 @@ use std::test::Fail;
 use thy_base::{BLOCK_SIZE, Geometry, Parameters, SchemeName};
 use thy_isa::{MachState, OtherHart, Reg, Regs, Reservation, Status};
 use thy_layout::{BadImage, Found, table_block};
+use thy_places::blocks;
 use thy_record::{check, header_block, state};
 
 /// The smallest machine: 8 pages, one of them the console's, and 8 entries in each table. Its image has the header,
@@ -283,7 +284,7 @@ fn image_of_two(alloc: Global) -> Result<Vec<u8>, AllocError> {
 #[test]
 fn an_image_of_two_harts_has_both_records(rt: HostRuntime) -> Result<(), Fail> {
     let geometry = geometry_of(&rt, rt.alloc(), &NUMBERS_OF_TWO);
-    expect(&rt, geometry.blocks(), 1074);
+    expect(&rt, blocks(&geometry), 1074);
     let image = image_of_two(rt.alloc())?;
     expect(&rt, image.len(), 68_736);
     expect(&rt, starts(&image, &header_block(&geometry).0), true);

@@ -1,8 +1,9 @@
 //! What the boot fills.
-use thy_base::{Block, Geometry, Nvm, NvmError, word};
+use thy_base::{Block, Geometry, Nvm, NvmError};
 use thy_boot::Fills;
 use thy_isa::MachState;
 use thy_journal_image::{JournalImages, home};
+use thy_layout::{epoch_in, slot_of_epoch};
 use thy_log::Log;
 use thy_refill::{list_all, next_listed, start_slot_block};
 
@@ -40,7 +41,7 @@ impl Fills for Refill {
         k: u64,
         nvm: &mut N,
     ) -> Result<(), NvmError> {
-        control.fill(word(commit, 1) % 2, k as usize, nvm)
+        control.fill(slot_of_epoch(epoch_in(commit)), k as usize, nvm)
     }
 
     fn first_place(geometry: &Geometry, state: &MachState, b: u64) -> u64 {

@@ -1,14 +1,15 @@
 -- How a checkpoint of the journal is written: the places of its parts, and that it is one once they were issued.
-use Rattle.std.specs.Prelude.{◌≡◌, ℕ, ◌%◌, ◌^◌, ◌<◌, ◌≤◌, true, List, map, Option, None}
+use Rattle.std.specs.Prelude.{◌≡◌, ℕ, ◌^◌, ◌<◌, ◌≤◌, true, List, map, Option, None}
 use Rattle.std.specs.List.{range_with_len}
 use Rattle.thy_base.specs.declared.block.Block.{Block}
 use Rattle.thy_base.specs.declared.config.Parameters.{Parameters}
 use Rattle.thy_base.specs.Device.{Device, block_at, newest}
 use Rattle.thy_base.specs.Geometry.{IsInRange, memory_blocks}
+use Rattle.thy_base.specs.Places.{commit_place, header_place}
 use Rattle.thy_crash.specs.Saved.{IsIssued, next_image}
 use Rattle.thy_isa.specs.declared.state.CpuState.{CpuState}
 use Rattle.thy_isa.specs.OnBlocks.{state_from}
-use Rattle.thy_layout.specs.Commit.{epoch_of, commit_of}
+use Rattle.thy_layout.specs.Commit.{epoch_of, commit_of, slot_of_epoch}
 use Rattle.thy_layout.specs.Cpu.{IsRecordable, cpu_of_record}
 use Rattle.thy_layout.specs.Decoded.{At}
 use Rattle.thy_layout.specs.Header.{header_fault}
@@ -53,10 +54,10 @@ memory_places p s table = map (place_of p s table) (range_with_len 0 (memory_blo
 -- the places of its parts, with this table
 abbrev pub parts_by : Parameters → CpuState → List (Option ℕ) → ℕ → CheckpointParts
 parts_by p cpu table epoch = record {
-  slot_place = slot_place p (epoch % 2);
+  slot_place = slot_place p (slot_of_epoch epoch);
   slot_blocks = slot_blocks p;
   slot = slot_block_of p cpu table epoch;
-  memory = memory_places p (epoch % 2) table;
+  memory = memory_places p (slot_of_epoch epoch) table;
 }
 
 -- the first k blocks of its slot were issued, and memory is to be these blocks; its table is that of a checkpoint
@@ -67,7 +68,7 @@ pub record IsIssuing (p : Parameters) (n : Device) (cpu : CpuState) (table : Lis
 
 -- an image has the checkpoint of this epoch, with this table
 pub record IsToldBy (p : Parameters) (image : List Block) (epoch : ℕ) (table : List (Option ℕ)) : Type 0 where
-  pub of_epoch : epoch_of (block_at image 1) ≡ epoch
+  pub of_epoch : epoch_of (block_at image commit_place) ≡ epoch
   pub table_is : table_in p (slot_in (journal_layouts p) image) ≡ table
   pub whole : IsTable p table
 
@@ -83,5 +84,5 @@ abbrev pub IssuedDecodes : Type 0
 IssuedDecodes =
     (p : Parameters) (ceiling : ℕ) (n : Device) (cpu : CpuState) (table : List (Option ℕ)) (epoch : ℕ) (memory : List Block)
     → IsInRange p → IsRecordable p ceiling cpu → ceiling ≤ 2 ^ 64 → epoch < ceiling
-    → IsIssuing p n cpu table epoch memory (slot_blocks p) → header_fault scheme_number (newest n 0) p true ≡ None
+    → IsIssuing p n cpu table epoch memory (slot_blocks p) → header_fault scheme_number (newest n header_place) p true ≡ None
     → IsIssuedCheckpoint p ceiling n cpu table epoch memory

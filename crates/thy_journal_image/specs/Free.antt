@@ -1,10 +1,12 @@
 -- Which writes leave a checkpoint of the journal alone.
-use Rattle.std.specs.Prelude.{◌≢◌, ℕ, ◌+◌, ◌%◌, ◌<◌, List, ◌∷◌, Contains, Option}
+use Rattle.std.specs.Prelude.{◌≢◌, ℕ, ◌+◌, ◌<◌, List, ◌∷◌, Contains, Option}
 use Rattle.thy_base.specs.declared.block.Block.{Block}
 use Rattle.thy_base.specs.declared.config.Parameters.{Parameters}
 use Rattle.thy_base.specs.Geometry.{memory_blocks}
+use Rattle.thy_base.specs.Places.{commit_place}
 use Rattle.thy_layout.specs.Entries.{Lists}
 use Rattle.thy_layout.specs.Layout.{looked_by}
+use Rattle.thy_layout.specs.Commit.{slot_of_epoch}
 use Rattle.thy_journal_image.specs.Places.{slot_blocks, slot_place, home_place, journal_place}
 use Rattle.thy_journal_image.specs.Layout.{journal_layouts}
 use Rattle.thy_journal_image.specs.CheckpointParts.{IsToldBy}
@@ -30,8 +32,8 @@ IsTarget p (HomeBlock b) = b < memory_blocks p
 -- the checkpoint of an epoch with this table has nothing there: another slot, its journal, or the home of a block that is
 -- listed
 abbrev pub IsFree : ℕ → List (Option ℕ) → Target → Type 0
-IsFree epoch table (SlotBlock s k) = s ≢ epoch % 2
-IsFree epoch table (JournalBlock s i) = s ≢ epoch % 2
+IsFree epoch table (SlotBlock s k) = s ≢ slot_of_epoch epoch
+IsFree epoch table (JournalBlock s i) = s ≢ slot_of_epoch epoch
 IsFree epoch table (HomeBlock b) = (i : ℕ) × Lists table i b
 
 -- it is none of the blocks that determine what the image of that checkpoint means
@@ -39,4 +41,4 @@ abbrev pub FreeIsNotLooked : Type 0
 FreeIsNotLooked =
     (p : Parameters) (image : List Block) (epoch : ℕ) (table : List (Option ℕ)) (x : Target)
     → IsToldBy p image epoch table → IsTarget p x → IsFree epoch table x
-    → ¬ Contains (1 ∷ looked_by (journal_layouts p) image) (target_place p x)
+    → ¬ Contains (commit_place ∷ looked_by (journal_layouts p) image) (target_place p x)

@@ -3,8 +3,8 @@ use crate::index::places;
 use crate::places::{SCHEME, blocks, slot as first_of_slot, slot_blocks};
 use crate::slot_faults::slot_fault;
 use std::alloc::{AllocError, Global};
-use thy_base::{Block, Geometry, word};
-use thy_layout::{BadImage, ImageLayout};
+use thy_base::{Block, Geometry};
+use thy_layout::{BadImage, ImageLayout, epoch_in, slot_of_epoch};
 
 /// Images of the journal: a slot has one table, which lists the blocks of memory in the slot's journal.
 #[derive(Drop)]
@@ -32,7 +32,7 @@ impl ImageLayout for JournalImages {
     }
 
     fn slot_place(geometry: &Geometry, commit: &Block) -> u64 {
-        first_of_slot(geometry, word(commit, 1) % 2)
+        first_of_slot(geometry, slot_of_epoch(epoch_in(commit)))
     }
 
     fn slot_blocks(geometry: &Geometry, commit: &Block) -> u64 {
@@ -45,7 +45,7 @@ impl ImageLayout for JournalImages {
         slot: &[u8],
         ceiling: u64,
     ) -> Option<BadImage> {
-        slot_fault(slot, word(commit, 1), geometry, ceiling)
+        slot_fault(slot, epoch_in(commit), geometry, ceiling)
     }
 
     fn memory_places(
@@ -54,7 +54,7 @@ impl ImageLayout for JournalImages {
         commit: &Block,
         slot: &[u8],
     ) -> Result<Vec<u64>, AllocError> {
-        places(alloc, slot, word(commit, 1) % 2, geometry)
+        places(alloc, slot, slot_of_epoch(epoch_in(commit)), geometry)
     }
 
     fn recall_laws() {}

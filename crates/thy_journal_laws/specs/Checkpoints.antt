@@ -1,8 +1,9 @@
 -- A run's checkpoints on the NVM, by the stage of the engine.
-use Rattle.std.specs.Prelude.{◌≡◌, ◌≢◌, ℕ, ◌%◌, ◌<◌, Bool, true, false, List, Option, Some, None}
+use Rattle.std.specs.Prelude.{◌≡◌, ◌≢◌, ℕ, ◌<◌, Bool, true, false, List, Option, Some, None}
 use Rattle.thy_base.specs.declared.block.Block.{Block}
 use Rattle.thy_base.specs.declared.mark.Mark.{Mark}
 use Rattle.thy_base.specs.Device.{Device, block_at, newest}
+use Rattle.thy_base.specs.Places.{commit_place}
 use Rattle.thy_crash.specs.Fixed.{Reads}
 use Rattle.thy_crash.specs.Saved.{Saved, Kept, Ready, InDoubt, next_image}
 use Rattle.thy_isa.specs.OnBlocks.{state_from}
@@ -12,7 +13,7 @@ use Rattle.thy_view.specs.Origin.{Origin, at}
 use Rattle.thy_view.specs.Safe.{ceiling}
 use Rattle.thy_protocol.specs.Moves.{Standing, standing}
 use Rattle.thy_journal_image.specs.Places.{slot_blocks, home_place, journal_place}
-use Rattle.thy_layout.specs.Commit.{commit_of}
+use Rattle.thy_layout.specs.Commit.{commit_of, slot_of_epoch}
 use Rattle.thy_journal_image.specs.CheckpointParts.{IsIssuing, IsToldBy}
 use Rattle.thy_log.specs.declared.stage.JournalStage.{JournalStage}
 use Rattle.thy_log.specs.declared.stage.JournalStage.TheVariants.{Nothing, Journal, Slot, Settle, Commit, Confirm, Home}
@@ -64,7 +65,7 @@ pub record IsKeptBy (o : Origin) (e : Progress) (s : State) (before : List Block
   pub epoch : ℕ
   pub table : List (Option ℕ)
   pub told : IsToldBy o.geometry before epoch table
-  pub other_slot : is_sealing e.next ≡ true → e.epoch % 2 ≢ epoch % 2
+  pub other_slot : is_sealing e.next ≡ true → slot_of_epoch e.epoch ≢ slot_of_epoch epoch
   pub listed : is_applying e.next ≡ true → table ≡ table_of s
 
 -- the checkpoint that is made is that of the sealed mark
@@ -76,7 +77,7 @@ pub record IsMadeFor (o : Origin) (e : Progress) (s : State) (n : Device) (c : C
   pub recordable : IsRecordable o.geometry ceiling e.cpu
   pub state_is : state_from o.geometry e.cpu (works s n) ≡ at o mark.count
   pub counted : (at o mark.count).count ≡ mark.count
-  pub commit : is_settled e.next ≡ true → block_at c.next 1 ≡ commit_of e.epoch
+  pub commit : is_settled e.next ≡ true → block_at c.next commit_place ≡ commit_of e.epoch
   pub told : is_settled e.next ≡ true → IsToldBy o.geometry c.next e.epoch (table_of s)
 
 -- ---- what is written before an item
@@ -84,7 +85,8 @@ pub record IsMadeFor (o : Origin) (e : Progress) (s : State) (n : Device) (c : C
 -- the live entries below one have their buffers in the journal of the epoch; and they have them at the homes of their
 -- blocks
 pub record AreJournaled (e : Progress) (s : State) (n : Device) (from : ℕ) : Type 0 where
-  pub each : (i b : ℕ) → i < from → Lists (table_of s) i b → newest n (journal_place e.p (e.epoch % 2) i) ≡ buffer_of s i
+  pub each : (i b : ℕ) → i < from → Lists (table_of s) i b
+      → newest n (journal_place e.p (slot_of_epoch e.epoch) i) ≡ buffer_of s i
 
 pub record AreHome (e : Progress) (s : State) (n : Device) (from : ℕ) : Type 0 where
   pub each : (i b : ℕ) → i < from → Lists (table_of s) i b → newest n (home_place e.p b) ≡ buffer_of s i
@@ -99,7 +101,7 @@ HasWrittenBefore (Journal from) e s n = AreJournaled e s n from
 HasWrittenBefore (Slot k) e s n = HasWrittenSlot e s n k
 HasWrittenBefore Settle e s n = HasWrittenSlot e s n (slot_blocks e.p)
 HasWrittenBefore Commit e s n = HasWrittenSlot e s n (slot_blocks e.p)
-HasWrittenBefore Confirm e s n = HasWrittenSlot e s n (slot_blocks e.p) × Reads n 1 (commit_of e.epoch)
+HasWrittenBefore Confirm e s n = HasWrittenSlot e s n (slot_blocks e.p) × Reads n commit_place (commit_of e.epoch)
 HasWrittenBefore (Home from) e s n = AreHome e s n from
 
 abbrev pub HasWritten : Progress → State → Device → Type 0

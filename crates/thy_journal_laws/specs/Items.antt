@@ -1,6 +1,7 @@
 -- What every item of the engine makes of a run's checkpoints, and of memory.
 use Rattle.std.specs.Prelude.{◌≡◌, true, None}
 use Rattle.thy_base.specs.Device.{Device, newest, IsFramed}
+use Rattle.thy_base.specs.Places.{header_place}
 use Rattle.thy_crash.specs.Saved.{InDoubt}
 use Rattle.thy_view.specs.Action.{after, FailsTo}
 use Rattle.thy_view.specs.Origin.{Origin}
@@ -22,7 +23,7 @@ use Rattle.thy_journal_laws.specs.Sound.{IsHeld}
 abbrev pub ItemsMove : Type 0
 ItemsMove =
     (o : Origin) (e : Progress) (s : State) (m : Device) (c : Checkpoints)
-    → IsHeld o e s m → IsKeptBy o e s c.before → header_fault scheme_number (newest m 0) o.geometry true ≡ None
+    → IsHeld o e s m → IsKeptBy o e s c.before → header_fault scheme_number (newest m header_place) o.geometry true ≡ None
     → HasWritten e s m → is_under_way e.next ≡ true → (is_sealing e.next ≡ true → IsMadeFor o e s m c)
     → Move o (layout_of o) (standing_at e m c)
     (standing_at (engine_next e s) (after (action_next e s) m) (checkpoints_after (item_of e s) e m c))

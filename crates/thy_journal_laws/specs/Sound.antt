@@ -2,6 +2,7 @@
 use Rattle.std.specs.Prelude.{◌≡◌, true, false, is_some, length, Some, None}
 use Rattle.thy_base.specs.declared.mark.Mark.{Mark}
 use Rattle.thy_base.specs.Device.{Device, newest}
+use Rattle.thy_base.specs.Places.{header_place}
 use Rattle.thy_isa.specs.declared.state.CpuState.{CpuState}
 use Rattle.thy_isa.specs.OnBlocks.{state_from}
 use Rattle.thy_table.specs.Listing.{free_count}
@@ -47,7 +48,7 @@ pub record IsSoundJournal (o : Origin) (k : CheckpointMarks) (s : Journal) (n : 
   -- a mark is sealed exactly while its checkpoint is made
   pub way : is_sealing s.engine.next ≡ is_some k.sealed
   pub doubt : k.written ≡ is_confirming s.engine.next
-  pub header : header_fault scheme_number (newest n 0) o.geometry true ≡ None
+  pub header : header_fault scheme_number (newest n header_place) o.geometry true ≡ None
   pub committed : HasState o k.done s.engine s.log n
   -- if nothing was stored since the last seal, and that is applied, every entry is free
   pub rest : s.storeless ≡ true → is_under_way s.engine.next ≡ false → free_count s.log.table ≡ length s.log.table.entries

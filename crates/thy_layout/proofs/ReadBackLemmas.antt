@@ -4,7 +4,7 @@ use Rattle.std.proofs.lemmas.Bool.{cases_lt, eq-eqb, ne_eqb, lt-ltb, leb-true, a
 use Rattle.std.proofs.lemmas.List.{ext_get_or}
 use Rattle.thy_base.specs.declared.block.Block.{Block}
 use Rattle.thy_base.specs.declared.config.Parameters.{Parameters}
-use Rattle.thy_base.specs.declared.layout_version.LayoutVersion.TheVariants.{VersionOne, VersionTwo}
+use Rattle.thy_layout.specs.declared.layout_version.LayoutVersion.TheVariants.{VersionOne, VersionTwo}
 use Rattle.thy_base.specs.Device.{zero_block}
 use Rattle.thy_base.specs.LittleEndian.{number_bytes}
 use Rattle.thy_base.specs.Geometry.{IsInRange, console_room}

@@ -5,7 +5,7 @@ use Rattle.thy_base.specs.declared.config.Parameters.{Parameters}
 use Rattle.thy_base.specs.Geometry.{IsInRange}
 use Rattle.thy_base.specs.Places.{record_blocks}
 use Rattle.thy_isa.specs.declared.state.CpuState.{CpuState}
-use Rattle.thy_base.specs.declared.layout_version.LayoutVersion.TheVariants.{VersionTwo}
+use Rattle.thy_layout.specs.declared.layout_version.LayoutVersion.TheVariants.{VersionTwo}
 use Rattle.thy_layout.specs.Commit.{commit_magic, commit_of, is_zero, epoch_of, version_of, commit_fault}
 use Rattle.thy_layout.specs.Cpu.{cpu_words, record_word, BeginsWithRecord, FitsRecord, cpu_of_record, epoch_of_record}
 use Rattle.thy_layout.specs.Header.{knows_version_one, header_of, header_fault}

@@ -1,12 +1,12 @@
 -- Part of the claim.
 -- The commit block, block 1 of an image: the epoch of the committed checkpoint, and the layout version of its slot.
-use Rattle.std.specs.Prelude.{ℕ, Bool, ◌&&◌, ◌||◌, ◌==◌, nat_lt, if◌then◌else◌, List, [], ◌∷◌, Option, codes}
+use Rattle.std.specs.Prelude.{ℕ, Bool, ◌&&◌, ◌||◌, ◌==◌, nat_lt, if◌then◌else◌, List, [], ◌∷◌, Option, codes, ◌%◌}
 use Rattle.std.specs.List.{list_all}
 use Rattle.byteorder.specs.Endian.{little_number}
 use Rattle.thy_base.specs.declared.block.Block.{Block}
 use Rattle.thy_base.specs.declared.config.Parameters.{Parameters}
-use Rattle.thy_base.specs.declared.layout_version.LayoutVersion.{LayoutVersion}
-use Rattle.thy_base.specs.declared.layout_version.LayoutVersion.TheVariants.{VersionOne, VersionTwo}
+use Rattle.thy_layout.specs.declared.layout_version.LayoutVersion.{LayoutVersion}
+use Rattle.thy_layout.specs.declared.layout_version.LayoutVersion.TheVariants.{VersionOne, VersionTwo}
 use Rattle.thy_base.specs.Demands.{asked, first_fault}
 use Rattle.thy_layout.specs.declared.bad_image.BadImage.{BadImage}
 use Rattle.thy_layout.specs.declared.bad_image.BadImage.TheVariants.{Commit}
@@ -32,6 +32,10 @@ is_zero b = list_all (λ byte. byte == 0) b.0
 -- the epoch that a commit block names
 abbrev pub epoch_of : Block → ℕ
 epoch_of b = word_of b 1
+
+-- the slot of an epoch's checkpoint, 0 or 1: two epochs in a row have different ones
+abbrev pub slot_of_epoch : ℕ → ℕ
+slot_of_epoch epoch = epoch % 2
 
 -- the version of its slot; there is a slot of version 1 only if that version is known
 abbrev pub version_of : ℕ → Parameters → Block → LayoutVersion

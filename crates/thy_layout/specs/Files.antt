@@ -5,6 +5,7 @@ use Rattle.std.specs.List.{range_with_len}
 use Rattle.thy_base.specs.declared.block.Block.{Block}
 use Rattle.thy_base.specs.Device.{block_at}
 use Rattle.thy_base.specs.LittleEndian.{number_at}
+use Rattle.thy_base.specs.Places.{commit_place}
 use Rattle.thy_isa.specs.Step.{State}
 use Rattle.thy_layout.specs.declared.found.Found.{Found}
 use Rattle.thy_layout.specs.declared.found.Found.TheVariants.{Nothing as FoundNothing, At as FoundAt}
@@ -34,7 +35,7 @@ found_in (At epoch state) = Ok (FoundAt epoch)
 
 -- bytes are whole blocks, as many as an image has
 abbrev pub is_long_file : Layout → List ℕ → Bool
-is_long_file l bytes = length bytes % 64 == 0 && is_long l (block_at (blocks_of bytes) 1) (length bytes / 64)
+is_long_file l bytes = length bytes % 64 == 0 && is_long l (block_at (blocks_of bytes) commit_place) (length bytes / 64)
 
 -- the first fault of a file that has a commit block, with epochs and counts below a ceiling
 abbrev pub file_fault : Layout → ℕ → List ℕ → Option BadImage

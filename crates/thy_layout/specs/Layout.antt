@@ -7,6 +7,7 @@ use Rattle.thy_base.specs.declared.block.Block.{Block}
 use Rattle.thy_base.specs.declared.config.Parameters.{Parameters}
 use Rattle.thy_base.specs.Device.{block_at}
 use Rattle.thy_base.specs.Geometry.{memory_blocks}
+use Rattle.thy_base.specs.Places.{commit_place, header_place}
 use Rattle.thy_isa.specs.OnBlocks.{state_from}
 use Rattle.thy_isa.specs.Step.{State}
 use Rattle.thy_layout.specs.declared.bad_image.BadImage.{BadImage}
@@ -66,10 +67,10 @@ memory_places l commit slot = map (l.place commit slot) (range_with_len 0 (memor
 
 -- the slot that the commit block of an image names, and memory
 abbrev pub slot_in : Layout → List Block → List Block
-slot_in l g = blocks_at g (slot_places l (block_at g 1))
+slot_in l g = blocks_at g (slot_places l (block_at g commit_place))
 
 abbrev pub memory_in : Layout → List Block → List Block
-memory_in l g = blocks_at g (memory_places l (block_at g 1) (slot_in l g))
+memory_in l g = blocks_at g (memory_places l (block_at g commit_place) (slot_in l g))
 
 -- ---- what an image means
 
@@ -84,7 +85,7 @@ is_long l commit n = is_length l.image_blocks (l.older_blocks commit) n
 
 -- an image has as many blocks as the layout says
 abbrev pub is_sized : Layout → List Block → Bool
-is_sized l g = is_long l (block_at g 1) (length g)
+is_sized l g = is_long l (block_at g commit_place) (length g)
 
 -- the first fault of header, commit block and slot, with epochs and counts below a ceiling
 abbrev pub fault_of : Layout → ℕ → Bool → Block → Block → List Block → Option BadImage
@@ -93,7 +94,7 @@ fault_of l ceiling sized header commit slot =
 
 -- of blocks that are as many as the layout says, or are not; and of an image
 abbrev pub fault_sized : Layout → ℕ → Bool → List Block → Option BadImage
-fault_sized l ceiling sized g = fault_of l ceiling sized (block_at g 0) (block_at g 1) (slot_in l g)
+fault_sized l ceiling sized g = fault_of l ceiling sized (block_at g header_place) (block_at g commit_place) (slot_in l g)
 
 abbrev pub fault_in : Layout → ℕ → List Block → Option BadImage
 fault_in l ceiling g = fault_sized l ceiling (is_sized l g) g
@@ -111,7 +112,8 @@ meaning_of l ceiling sized header commit slot memory =
 
 -- what blocks mean that are as many as the layout says, or are not; and what an image means
 abbrev pub decode_sized : Layout → ℕ → Bool → List Block → Decoded
-decode_sized l ceiling sized g = meaning_of l ceiling sized (block_at g 0) (block_at g 1) (slot_in l g) (memory_in l g)
+decode_sized l ceiling sized g =
+    meaning_of l ceiling sized (block_at g header_place) (block_at g commit_place) (slot_in l g) (memory_in l g)
 
 unfoldable pub decode_by : Layout → ℕ → List Block → Decoded
 decode_by l ceiling g = decode_sized l ceiling (is_sized l g) g
@@ -122,15 +124,17 @@ reading layouts p ceiling g = decode_by (layouts p) ceiling g
 
 -- the places that determine what an image with a checkpoint means
 abbrev pub parts_of : Layout → Looking
-parts_of l h = 0 ∷ 1 ∷ (slot_places l (block_at h 1) ++ memory_places l (block_at h 1) (slot_in l h))
+parts_of l h =
+    header_place ∷ commit_place
+    ∷ (slot_places l (block_at h commit_place) ++ memory_places l (block_at h commit_place) (slot_in l h))
 
 -- the places that determine what an image means: if there is no checkpoint, the commit block alone
 unfoldable pub looked_by : Layout → Looking
-looked_by l h = if is_zero (block_at h 1) then 1 ∷ [] else parts_of l h
+looked_by l h = if is_zero (block_at h commit_place) then commit_place ∷ [] else parts_of l h
 
 -- an image is the checkpoint of an epoch, with this state
 pub record IsWhole (l : Layout) (ceiling : ℕ) (h : List Block) (epoch : ℕ) (state : State) : Type 0 where
-  pub committed : is_zero (block_at h 1) ≡ false
+  pub committed : is_zero (block_at h commit_place) ≡ false
   pub faultless : fault_in l ceiling h ≡ None
-  pub of_epoch : epoch_of (block_at h 1) ≡ epoch
+  pub of_epoch : epoch_of (block_at h commit_place) ≡ epoch
   pub state_is : state_by l (slot_in l h) (memory_in l h) ≡ state

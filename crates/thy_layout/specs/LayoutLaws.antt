@@ -3,6 +3,7 @@ use Rattle.std.specs.Prelude.{◌≡◌, ◌≢◌, ℕ, ◌+◌, ◌≤◌, tru
 use Rattle.thy_base.specs.declared.block.Block.{Block}
 use Rattle.thy_base.specs.declared.config.Parameters.{Parameters}
 use Rattle.thy_base.specs.Device.{zero_block, block_at}
+use Rattle.thy_base.specs.Places.{commit_place}
 use Rattle.thy_flat.specs.Flat.{flat, AllLong}
 use Rattle.thy_isa.specs.Step.{State}
 use Rattle.thy_layout.specs.AreLayouts.{AreLayouts}
@@ -22,10 +23,12 @@ CopiesLookAlike = (l : Layout) (h g : List Block) → IsCopy (looked_by l) h g �
 
 -- an image means nothing exactly if its commit block is zero
 abbrev pub ZeroIsNothing : Type 0
-ZeroIsNothing = (l : Layout) (ceiling : ℕ) (g : List Block) → is_zero (block_at g 1) ≡ true → decode_by l ceiling g ≡ Nothing
+ZeroIsNothing =
+    (l : Layout) (ceiling : ℕ) (g : List Block) → is_zero (block_at g commit_place) ≡ true → decode_by l ceiling g ≡ Nothing
 
 abbrev pub NothingIsZero : Type 0
-NothingIsZero = (l : Layout) (ceiling : ℕ) (g : List Block) → decode_by l ceiling g ≡ Nothing → is_zero (block_at g 1) ≡ true
+NothingIsZero =
+    (l : Layout) (ceiling : ℕ) (g : List Block) → decode_by l ceiling g ≡ Nothing → is_zero (block_at g commit_place) ≡ true
 
 -- it means an epoch and a state exactly if it is whole
 abbrev pub WholeDecodes : Type 0
@@ -41,7 +44,8 @@ DecodedIsWhole =
 -- of an image without a checkpoint no block but the commit block is looked at
 abbrev pub NothingIsLooked : Type 0
 NothingIsLooked =
-    (l : Layout) (image : List Block) (x : ℕ) → is_zero (block_at image 1) ≡ true → x ≢ 1 → ¬ Contains (1 ∷ looked_by l image) x
+    (l : Layout) (image : List Block) (x : ℕ) → is_zero (block_at image commit_place) ≡ true → x ≢ commit_place
+    → ¬ Contains (commit_place ∷ looked_by l image) x
 
 -- what decodes below a ceiling decodes to the same below a higher one
 abbrev pub CeilingGrows : Type 0

@@ -1,10 +1,11 @@
 //! The commit block, block 1 of an image.
 ghost use Rattle.std.specs.Prelude.{◌≡◌, ◌<◌};
-ghost use Rattle.thy_layout.specs.Commit.{commit_of, version_of as version_named, is_named as names_version, commit_fault as fault_of_commit, is_zero as has_zeros, has_zero_rest as zero_rest};
+ghost use Rattle.thy_layout.specs.Commit.{commit_of, version_of as version_named, is_named as names_version, commit_fault as fault_of_commit, is_zero as has_zeros, has_zero_rest as zero_rest, epoch_of as epoch_named, slot_of_epoch as slot_named};
 
 use crate::bad_image::BadImage;
 use crate::header::knows_version_one;
-use thy_base::{Block, Geometry, LayoutVersion, block_with, word};
+use crate::layout_version::LayoutVersion;
+use thy_base::{Block, Geometry, block_with, word};
 
 // The bytes `THYNCMT1`, with which a commit block of version 1 begins, as a number.
 const COMMIT_MAGIC_VERSION_ONE: u64 = 0x3154_4d43_4e59_4854;
@@ -17,6 +18,21 @@ pub fn commit_block(epoch: u64) -> Block
     ensures { result ≡ commit_of epoch }
 {
     block_with(&[COMMIT_MAGIC_VERSION_TWO, epoch, 0, 0, 0, 0, 0, 0])
+}
+
+/// The epoch that a commit block names.
+pub fn epoch_in(commit: &Block) -> u64
+    ensures { result ≡ epoch_named commit.now }
+{
+    word(commit, 1)
+}
+
+/// The slot of an epoch's checkpoint, 0 or 1: two epochs in a row have different ones.
+pub fn slot_of_epoch(epoch: u64) -> u64
+    ensures slot { result ≡ slot_named epoch }
+    ensures below { result < 2 }
+{
+    epoch % 2
 }
 
 /// Whether every byte is zero: as a commit block, that there is no checkpoint.
@@ -54,7 +70,7 @@ fn is_named(header: &Block, block: &Block) -> bool
 pub fn commit_fault(header: &Block, block: &Block, ceiling: u64) -> Option<BadImage>
     ensures { result ≡ fault_of_commit header.now block.now ceiling }
 {
-    let named = is_named(header, block) && word(block, 1) < ceiling;
+    let named = is_named(header, block) && epoch_in(block) < ceiling;
     if named && has_zero_rest(block) {
         None
     } else {

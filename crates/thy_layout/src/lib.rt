@@ -15,6 +15,7 @@ mod found;
 mod header;
 mod image_layout;
 mod laws;
+mod layout_version;
 mod reader;
 mod restored;
 mod slot;
@@ -24,7 +25,7 @@ mod table_slot;
 mod tables;
 
 pub use bad_image::BadImage;
-pub use commit::{commit_block, commit_fault, is_zero, version_of};
+pub use commit::{commit_block, commit_fault, epoch_in, is_zero, slot_of_epoch, version_of};
 pub use cpu::cpu_block;
 pub use engine_step::EngineStep;
 pub use file_blocks::block_in;
@@ -36,6 +37,7 @@ pub use laws::{
     filled_up_decodes, header_and_commit_read_back, record_reads_back,
     version_one_is_refused_if_unknown, whole_images_decode,
 };
+pub use layout_version::LayoutVersion;
 pub use reader::{check_image, header_fault_in, state_of_image};
 pub use slot::{cpu_fault, cpu_in, record_size, second_fault, status_fault, word_in};
 pub use start::Start;

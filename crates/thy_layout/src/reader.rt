@@ -1,12 +1,13 @@
 //! The one reader of images that stand in files, for every layout.
 ghost use Rattle.std.specs.Prelude.{◌≡◌, ◌*◌, ◌≤◌, true, length, IfOk};
 ghost use Rattle.thy_base.specs.Device.{block_at};
+ghost use Rattle.thy_base.specs.Places.{commit_place};
 ghost use Rattle.thy_isa.specs.Step.{state_of};
 ghost use Rattle.thy_layout.specs.Files.{blocks_of, found_in, is_long_file, file_fault, decode_file, HasCheckpointOf, HasState};
 ghost use Rattle.thy_layout.specs.Layout.{is_length, header_bad, slot_in as slot_of_image};
 
 use crate::bad_image::BadImage;
-use crate::commit::{commit_fault, is_zero};
+use crate::commit::{commit_fault, epoch_in, is_zero};
 use crate::file_blocks::block_in;
 use crate::found::Found;
 use crate::header::header_fault_of;
@@ -14,7 +15,7 @@ use crate::image_layout::ImageLayout;
 use crate::restored::state_at;
 use crate::slot::cpu_in;
 use std::alloc::{AllocError, Global};
-use thy_base::{BLOCK_SIZE, Block, Geometry, word};
+use thy_base::{BLOCK_SIZE, Block, COMMIT_PLACE, Geometry, HEADER_PLACE};
 use thy_isa::MachState;
 
 /// The first fault of a header, of an image that has as many blocks as the layout says or not.
@@ -32,7 +33,7 @@ pub fn header_fault_in<L: ImageLayout>(
 // The bytes of the slot that the commit block names.
 fn slot_in<'a, L: ImageLayout>(image: &'a [u8], commit: &Block, geometry: &Geometry) -> &'a [u8]
     requires long { is_long_file (L.layouts geometry.now) image.now ≡ true }
-    requires commit { commit.now ≡ block_at (blocks_of image.now) 1 }
+    requires commit { commit.now ≡ block_at (blocks_of image.now) commit_place }
     ensures length { length result.now ≡ 64 * (L.layouts geometry.now).slot_blocks commit.now }
     ensures slot { blocks_of result.now ≡ slot_of_image (L.layouts geometry.now) (blocks_of image.now) }
 {
@@ -54,7 +55,7 @@ fn is_enough(count: u64, blocks: u64, older: Option<u64>) -> bool
 
 // Whether a file has the whole blocks of an image.
 fn is_long<L: ImageLayout>(image: &[u8], commit: &Block, geometry: &Geometry) -> bool
-    requires commit { commit.now ≡ block_at (blocks_of image.now) 1 }
+    requires commit { commit.now ≡ block_at (blocks_of image.now) commit_place }
     ensures { result ≡ is_long_file (L.layouts geometry.now) image.now }
 {
     let size = image.len() as u64;
@@ -72,10 +73,10 @@ fn image_fault<L: ImageLayout>(
     ceiling: u64,
 ) -> Option<BadImage>
     requires some { 128 ≤ length image.now }
-    requires commit { commit.now ≡ block_at (blocks_of image.now) 1 }
+    requires commit { commit.now ≡ block_at (blocks_of image.now) commit_place }
     ensures { result ≡ file_fault (L.layouts geometry.now) ceiling image.now }
 {
-    let header = block_in(image, 0);
+    let header = block_in(image, HEADER_PLACE as usize);
     if let Some(bad) = header_fault_in::<L>(
         geometry,
         &header,
@@ -107,13 +108,13 @@ pub fn check_image<L: ImageLayout>(
     if image.len() < 2 * BLOCK_SIZE {
         return Err(BadImage::Empty);
     }
-    let commit = block_in(image, 1);
+    let commit = block_in(image, COMMIT_PLACE as usize);
     if is_zero(&commit) {
         return Ok(Found::Nothing);
     }
     match image_fault::<L>(image, &commit, geometry, ceiling) {
         Some(bad) => Err(bad),
-        None => Ok(Found::At(word(&commit, 1))),
+        None => Ok(Found::At(epoch_in(&commit))),
     }
 }
 
@@ -127,7 +128,7 @@ pub fn state_of_image<L: ImageLayout>(
     ensures { IfOk result (λ m. HasState (L.layouts geometry.now) image.now (state_of m)) }
 {
     L::recall_laws();
-    let commit = block_in(image, 1);
+    let commit = block_in(image, COMMIT_PLACE as usize);
     let slot = slot_in::<L>(image, &commit, geometry);
     let places = L::memory_places(alloc, geometry, &commit, slot)?;
     state_at(alloc, image, cpu_in(slot, geometry), &places, geometry)

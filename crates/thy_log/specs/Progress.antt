@@ -1,16 +1,17 @@
 -- Part of the claim.
 -- The engine's progress, and what one cycle of it makes of the log and of the NVM.
-use Rattle.std.specs.Prelude.{◌≡◌, ℕ, ◌+◌, ◌%◌, ◌<◌, length, Option, Some, None, Result, IfOk, OnErr}
+use Rattle.std.specs.Prelude.{◌≡◌, ℕ, ◌+◌, ◌<◌, length, Option, Some, None, Result, IfOk, OnErr}
 use Rattle.thy_base.specs.declared.block.Block.{Block}
 use Rattle.thy_base.specs.declared.config.Parameters.{Parameters}
 use Rattle.thy_base.specs.declared.nvm.NvmError.{NvmError}
 use Rattle.thy_base.specs.Device.{Device, IsFramed, CountsFault}
+use Rattle.thy_base.specs.Places.{commit_place}
 use Rattle.thy_isa.specs.declared.state.CpuState.{CpuState}
 use Rattle.thy_isa.specs.Step.{zero_cpu}
 use Rattle.thy_table.specs.Listing.{entry_at}
 use Rattle.thy_view.specs.Action.{Action, Rest, WriteAt, Barrier, after, FailsTo}
 use Rattle.thy_journal_image.specs.Places.{slot_blocks, slot_place, home_place, journal_place}
-use Rattle.thy_layout.specs.Commit.{commit_of}
+use Rattle.thy_layout.specs.Commit.{commit_of, slot_of_epoch}
 use Rattle.thy_layout.specs.TableSlots.{slot_block_of}
 use Rattle.thy_log.specs.declared.engine.Done.{Done}
 use Rattle.thy_log.specs.declared.entry.Listed.{Listed}
@@ -63,10 +64,10 @@ slot_block e s k = slot_block_of e.p e.cpu (table_of s) e.epoch k
 -- the action of an item on the NVM
 abbrev pub action_of : Progress → Item → State → Action
 action_of e NoItem s = Rest
-action_of e (JournalItem i) s = WriteAt (journal_place e.p (e.epoch % 2) i) (buffer_of s i)
-action_of e (SlotItem k) s = WriteAt (slot_place e.p (e.epoch % 2) + k) (slot_block e s k)
+action_of e (JournalItem i) s = WriteAt (journal_place e.p (slot_of_epoch e.epoch) i) (buffer_of s i)
+action_of e (SlotItem k) s = WriteAt (slot_place e.p (slot_of_epoch e.epoch) + k) (slot_block e s k)
 action_of e SettleItem s = Barrier
-action_of e CommitItem s = WriteAt 1 (commit_of e.epoch)
+action_of e CommitItem s = WriteAt commit_place (commit_of e.epoch)
 action_of e ConfirmItem s = Barrier
 action_of e (HomeItem i) s = WriteAt (home_place e.p (block_listed i s)) (buffer_of s i)
 action_of e ReleaseItem s = Barrier

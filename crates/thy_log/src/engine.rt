@@ -1,15 +1,15 @@
 //! The checkpoint engine.
 ghost use Rattle.std.specs.Prelude.{◌≡◌, ◌<◌, false, length, nat_lt, if◌then◌else◌, IfOk, OnOk, OnErr};
 ghost use Rattle.thy_base.specs.Device.{IsFramed, CountsFault, HasFailed, HasFailedToWrite, settled, written_to};
-ghost use Rattle.thy_base.specs.Places.{record_blocks};
+ghost use Rattle.thy_base.specs.Places.{record_blocks, commit_place};
 ghost use Rattle.thy_layout.specs.declared.engine_step.EngineStep.TheVariants.{StateBlock as IsStateBlock, TableBlock as IsTableBlock};
 
 use crate::{JournalStage, Log};
 use std::marker::Model;
-use thy_base::{Block, Geometry, Nvm, NvmError};
+use thy_base::{Block, COMMIT_PLACE, Geometry, Nvm, NvmError};
 use thy_isa::CpuState;
 use thy_journal_image::{slot as slot_number, slot_blocks as blocks_of_slot};
-use thy_layout::{EngineStep, commit_block, cpu_block};
+use thy_layout::{EngineStep, commit_block, cpu_block, slot_of_epoch};
 
 /// The checkpoint engine. Each step makes of the NVM what one action makes of it.
 #[derive(Drop)]
@@ -176,7 +176,7 @@ impl Engine {
         log.sound();
         match log.next_live(from) {
             Some(i) => {
-                log.write_journal(self.epoch % 2, i, nvm)?;
+                log.write_journal(slot_of_epoch(self.epoch), i, nvm)?;
                 Ok(Done {
                     step: EngineStep::Copied,
                     next: JournalStage::Journal(i + 1),
@@ -194,7 +194,7 @@ impl Engine {
         requires up { (N.device nvm.old).down ≡ false }
         ensures { Ends (SlotItem k) self.now log.now (N.device nvm.old) result log.now (N.device nvm.new) }
     {
-        let at = slot_number(&self.geometry, self.epoch % 2) + k;
+        let at = slot_number(&self.geometry, slot_of_epoch(self.epoch)) + k;
         nvm.write(at, &self.slot_block(k, log))?;
         Ok(Done {
             step: slot_step(&self.geometry, k),
@@ -248,16 +248,16 @@ impl Engine {
 
     /// Writes the commit block.
     fn write_commit<N: Nvm>(&self, nvm: &mut N) -> Result<Done, NvmError>
-        requires place { 1 < length (N.device nvm.old).image }
+        requires place { commit_place < length (N.device nvm.old).image }
         requires up { (N.device nvm.old).down ≡ false }
         ensures answer { IfOk result (λ done. done.step ≡ answer self.now.p self.now.epoch CommitItem) }
         ensures next { IfOk result (λ done. done.next ≡ next_after self.now.p CommitItem) }
-        ensures device { OnOk result (N.device nvm.new ≡ written_to (N.device nvm.old) 1 (commit_of self.now.epoch)) }
-        ensures err { OnErr result (HasFailedToWrite 1 (commit_of self.now.epoch) (N.device nvm.old) (N.device nvm.new)) }
+        ensures device { OnOk result (N.device nvm.new ≡ written_to (N.device nvm.old) commit_place (commit_of self.now.epoch)) }
+        ensures err { OnErr result (HasFailedToWrite commit_place (commit_of self.now.epoch) (N.device nvm.old) (N.device nvm.new)) }
         ensures frame { IsFramed (N.device nvm.old) (N.device nvm.new) }
         ensures cause { CountsFault result (N.device nvm.old).faults (N.device nvm.new).faults }
     {
-        nvm.write(1, &commit_block(self.epoch))?;
+        nvm.write(COMMIT_PLACE, &commit_block(self.epoch))?;
         Ok(Done {
             step: EngineStep::CommitWritten,
             next: JournalStage::Confirm,

@@ -22,9 +22,9 @@ use thy_core::Machine;
 use thy_dram::Dram;
 use thy_dual::DualScheme;
 use thy_isa::{CpuState, MachState, Status};
+use thy_layout::{EngineStep, Start};
 use thy_nvm::MemNvm;
 use thy_plain::{Plain, are_bytes, start_of};
-use thy_layout::{EngineStep, Start};
 use thy_view::{Computer, Did, Stepped};
 
 /// A program, and the result of its run without cuts.

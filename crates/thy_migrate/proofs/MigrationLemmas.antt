@@ -5,11 +5,12 @@ use Rattle.std.proofs.lemmas.List.{length-map}
 use Rattle.std.proofs.lemmas.List.FromFn.{length-range_with_len}
 use Rattle.thy_base.specs.declared.block.Block.{Block}
 use Rattle.thy_base.specs.declared.config.Parameters.{Parameters}
-use Rattle.thy_base.specs.declared.layout_version.LayoutVersion.{LayoutVersion}
-use Rattle.thy_base.specs.declared.layout_version.LayoutVersion.TheVariants.{VersionOne, VersionTwo}
+use Rattle.thy_layout.specs.declared.layout_version.LayoutVersion.{LayoutVersion}
+use Rattle.thy_layout.specs.declared.layout_version.LayoutVersion.TheVariants.{VersionOne, VersionTwo}
 use Rattle.thy_base.specs.declared.mark.Mark.{Mark}
 use Rattle.thy_base.specs.Device.{Device, block_at, newest, written_to, settled, drained, HasFailedToWrite, IsFramed}
-use Rattle.thy_base.specs.Places.{blocks_of_slot, slot_blocks, slot_place, image_blocks, first_home, blocks_one}
+use Rattle.thy_record.specs.VersionSlots.{blocks_of_slot}
+use Rattle.thy_places.specs.Places.{slot_blocks, slot_place, image_blocks, first_home, blocks_one}
 use Rattle.thy_base.proofs.DeviceLemmas.{newest-settled, newest-drained, newest-written_to_other, length-settled, newest-empty}
 use Rattle.thy_crash.specs.Fixed.{Reads}
 use Rattle.thy_crash.specs.Saved.{Saved, Kept, Ready, InDoubt, next_image, guarded}

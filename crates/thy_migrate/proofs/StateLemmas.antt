@@ -4,11 +4,11 @@ use Rattle.std.specs.List.{range_with_len}
 use Rattle.thy_base.specs.declared.block.Block.{Block}
 use Rattle.thy_base.specs.declared.config.Parameters.{Parameters}
 use Rattle.thy_base.specs.declared.mark.Mark.{Mark}
-use Rattle.thy_base.specs.declared.place.Place.{Place}
+use Rattle.thy_places.specs.declared.place.Place.{Place}
 use Rattle.thy_base.specs.Device.{Device, block_at, newest}
 use Rattle.thy_base.specs.Geometry.{memory_blocks}
-use Rattle.thy_base.specs.Places.{in_dram, number_of, IsPlace, first_home, blocks_one}
-use Rattle.thy_base.proofs.PlaceLemmas.{between_slots}
+use Rattle.thy_places.specs.Places.{in_dram, number_of, IsPlace, first_home, blocks_one}
+use Rattle.thy_places.proofs.PlaceLemmas.{between_slots}
 use Rattle.thy_base.proofs.BasicLemmas.{Contains-range}
 use Rattle.thy_isa.specs.declared.state.CpuState.{CpuState}
 use Rattle.thy_isa.specs.OnBlocks.{state_from}

@@ -1,13 +1,14 @@
 -- Part of the claim.
 -- The boot of this scheme: after it has restored a checkpoint of version 1 it writes that anew in version 2.
-use Rattle.std.specs.Prelude.{ℕ, ◌+◌, ◌%◌, nat_lt, if◌then◌else◌, List, Option, Some, None}
+use Rattle.std.specs.Prelude.{ℕ, ◌+◌, nat_lt, if◌then◌else◌, List, Option, Some, None}
 use Rattle.thy_base.specs.declared.block.Block.{Block}
 use Rattle.thy_base.specs.declared.config.Parameters.{Parameters}
-use Rattle.thy_base.specs.declared.layout_version.LayoutVersion.{LayoutVersion}
-use Rattle.thy_base.specs.declared.layout_version.LayoutVersion.TheVariants.{VersionOne, VersionTwo}
+use Rattle.thy_layout.specs.declared.layout_version.LayoutVersion.{LayoutVersion}
+use Rattle.thy_layout.specs.declared.layout_version.LayoutVersion.TheVariants.{VersionOne, VersionTwo}
 use Rattle.thy_base.specs.Device.{block_at}
-use Rattle.thy_base.specs.Places.{slot_blocks, slot_place}
-use Rattle.thy_layout.specs.Commit.{commit_of, epoch_of, version_of}
+use Rattle.thy_base.specs.Places.{commit_place}
+use Rattle.thy_places.specs.Places.{slot_blocks, slot_place}
+use Rattle.thy_layout.specs.Commit.{commit_of, epoch_of, version_of, slot_of_epoch}
 use Rattle.thy_record.specs.Number.{scheme_number}
 use Rattle.thy_view.specs.declared.boot_step.BootStep.{BootStep}
 use Rattle.thy_view.specs.declared.boot_step.BootStep.TheVariants.{GoesOn}
@@ -41,9 +42,9 @@ begun_at p stage commit = None
 -- block k is written to the slot of this epoch in version 2: block k of the slot that was found, and zeros behind it; the
 -- commit block is of the same epoch
 abbrev pub action_by : Parameters → List Block → ℕ → Migration → Action
-action_by p slot epoch (Slot k) = WriteAt (slot_place p (epoch % 2) + k) (block_at slot k)
+action_by p slot epoch (Slot k) = WriteAt (slot_place p (slot_of_epoch epoch) + k) (block_at slot k)
 action_by p slot epoch Settle = Barrier
-action_by p slot epoch Commit = WriteAt 1 (commit_of epoch)
+action_by p slot epoch Commit = WriteAt commit_place (commit_of epoch)
 action_by p slot epoch Confirm = Barrier
 
 abbrev pub action_of : Booting → Migration → Action

@@ -2,10 +2,12 @@
 use Rattle.std.specs.Prelude.{◌≡◌, ℕ, ◌<◌, List, length, replicate, Some, None}
 use Rattle.thy_base.specs.declared.block.Block.{Block}
 use Rattle.thy_base.specs.declared.config.Parameters.{Parameters}
-use Rattle.thy_base.specs.declared.layout_version.LayoutVersion.TheVariants.{VersionOne, VersionTwo}
+use Rattle.thy_layout.specs.declared.layout_version.LayoutVersion.TheVariants.{VersionOne, VersionTwo}
 use Rattle.thy_base.specs.declared.mark.Mark.{Mark}
 use Rattle.thy_base.specs.Device.{Device, block_at}
-use Rattle.thy_base.specs.Places.{blocks_of_slot, slot_blocks, image_blocks}
+use Rattle.thy_base.specs.Places.{commit_place}
+use Rattle.thy_record.specs.VersionSlots.{blocks_of_slot}
+use Rattle.thy_places.specs.Places.{slot_blocks, image_blocks}
 use Rattle.thy_crash.specs.Fixed.{Reads}
 use Rattle.thy_crash.specs.Saved.{Saved, Kept, Ready, InDoubt, next_image}
 use Rattle.thy_layout.specs.Commit.{commit_of, epoch_of, version_of}
@@ -75,7 +77,7 @@ written_before p at = slot_blocks p
 -- from the first barrier on, the next image is the mark's checkpoint in version 2, with the same tables and counts of 0
 pub record IsAnew (o : Origin) (m : Mark) (next : List Block) (c : State) : Type 0 where
   pub of : IsOf o (layout_of o) next m
-  pub commit : block_at next 1 ≡ commit_of m.epoch
+  pub commit : block_at next commit_place ≡ commit_of m.epoch
   pub told : IsToldBy o.geometry next VersionTwo m.epoch (tables0 c)
   pub no_counts : counts_in VersionTwo o.geometry (slot_in o.geometry next) ≡ replicate o.geometry.pages 0
 
@@ -87,7 +89,7 @@ IsMadeBefore Confirm o m next c = IsAnew o m next c
 
 -- its commit block was written
 abbrev pub IsCommittedBefore : Migration → Mark → Device → Type 0
-IsCommittedBefore Confirm m n = Reads n 1 (commit_of m.epoch)
+IsCommittedBefore Confirm m n = Reads n commit_place (commit_of m.epoch)
 IsCommittedBefore at m n = Unit {0}
 
 -- a migration before an action: the controller has the mark's state, and the first blocks of the new slot were written

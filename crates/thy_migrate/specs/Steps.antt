@@ -3,7 +3,7 @@ use Rattle.std.specs.Prelude.{◌≡◌, ◌<◌, false, length, Option, Some, N
 use Rattle.thy_base.specs.declared.config.Parameters.{Parameters}
 use Rattle.thy_base.specs.declared.nvm.NvmError.{NvmError}
 use Rattle.thy_base.specs.Device.{Device, IsFramed, CountsFault}
-use Rattle.thy_base.specs.Places.{slot_blocks, image_blocks}
+use Rattle.thy_places.specs.Places.{slot_blocks, image_blocks}
 use Rattle.thy_isa.specs.Step.{State as Plain}
 use Rattle.thy_control.specs.State.{State}
 use Rattle.thy_view.specs.Action.{after, FailsTo}

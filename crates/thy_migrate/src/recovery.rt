@@ -1,7 +1,7 @@
 //! The boot, and after it the migration.
 ghost use Rattle.std.specs.Prelude.{◌≡◌, ◌*◌, false, length, Some, None, IfOk, OnOk, OnErr};
 ghost use Rattle.thy_base.specs.Device.{block_at};
-ghost use Rattle.thy_base.specs.Places.{slot_blocks};
+ghost use Rattle.thy_places.specs.Places.{slot_blocks};
 ghost use Rattle.thy_boot.specs.Boot.{IsBoot, slot_read};
 ghost use Rattle.thy_boot.specs.Counts.{Counts};
 ghost use Rattle.thy_boot.specs.Loads.{Takes};
@@ -15,10 +15,11 @@ use crate::fills::DualFills;
 use crate::migration::Migration;
 use std::alloc::{AllocError, Global};
 use std::marker::Model;
-use thy_base::{BLOCK_SIZE, Block, Geometry, LayoutVersion, Nvm, NvmError, word};
+use thy_base::{BLOCK_SIZE, Block, COMMIT_PLACE, Geometry, Nvm, NvmError};
 use thy_boot::{Boot, End, Stage};
 use thy_control::Control;
-use thy_layout::{Start, block_in, commit_block};
+use thy_layout::{LayoutVersion, Start, block_in, commit_block, epoch_in, slot_of_epoch};
+use thy_places::{slot, slot_blocks as blocks_of_slot};
 use thy_record::version_of;
 use thy_view::BootStep;
 
@@ -55,7 +56,7 @@ fn next_after(geometry: &Geometry, at: Migration) -> Option<Migration>
     requires { IsAction geometry.now at }
     ensures { result ≡ after_action geometry.now at }
 {
-    let blocks = geometry.slot_blocks();
+    let blocks = blocks_of_slot(geometry);
     match at {
         Migration::Slot(k) if k + 1 < blocks => Some(Migration::Slot(k + 1)),
         Migration::Slot(_) => Some(Migration::Settle),
@@ -85,14 +86,14 @@ fn take_action<N: Nvm>(boot: &Boot, at: Migration, nvm: &mut N) -> Result<(), Nv
     ensures nvm { Takes (action_of boot.now at) result (N.device nvm.old) (N.device nvm.new) }
     ensures writes { Counts (action_of boot.now at) result (N.writes nvm.old) (N.writes nvm.new) }
 {
-    let epoch = word(boot.commit(), 1);
+    let epoch = epoch_in(boot.commit());
     match at {
         Migration::Slot(k) => {
-            let place = boot.geometry().slot(epoch % 2) + k;
+            let place = slot(boot.geometry(), slot_of_epoch(epoch)) + k;
             nvm.write(place, &slot_block(boot, k))
         }
         Migration::Settle | Migration::Confirm => nvm.barrier(),
-        Migration::Commit => nvm.write(1, &commit_block(epoch)),
+        Migration::Commit => nvm.write(COMMIT_PLACE, &commit_block(epoch)),
     }
 }
 

@@ -3,10 +3,11 @@ use Rattle.std.proofs.Common.{◌≡◌, ◌≢◌, ℕ, ◌<◌, Bool, true, fa
 use Rattle.std.proofs.lemmas.List.{length-set, get_or-set_same, get_or-set_other}
 use Rattle.thy_base.specs.declared.block.Block.{Block}
 use Rattle.thy_base.specs.declared.config.Parameters.{Parameters}
-use Rattle.thy_base.specs.declared.place.Place.{Place}
-use Rattle.thy_base.specs.declared.place.Place.TheVariants.{Home, AlternateBlock, AlternatePage, Buffer, Frame}
+use Rattle.thy_places.specs.declared.place.Place.{Place}
+use Rattle.thy_places.specs.declared.place.Place.TheVariants.{Home, AlternateBlock, AlternatePage, Buffer, Frame}
 use Rattle.thy_base.specs.Device.{Device, HasFailedToWrite, zero_block, block_at, possible, newest, drained, settled, written_to}
-use Rattle.thy_base.specs.Places.{NumbersTellPlaces, in_dram, number_of, IsPlace, image_blocks, dram_blocks}
+use Rattle.thy_places.specs.Places.{NumbersTellPlaces, in_dram, number_of, IsPlace, image_blocks}
+use Rattle.thy_base.specs.Places.{dram_blocks}
 use Rattle.thy_base.proofs.DeviceLemmas.{newest-drained, newest-settled, newest-written_to, newest-written_to_other, no_more-written_to_other, length-drained, length-settled, length-written_to}
 use Rattle.thy_dram.specs.Contents.{written, drained as dram_drained}
 use Rattle.thy_place.specs.Devices.{Devices, AreSized, NoMoreAt, read_at, written_at}

@@ -3,9 +3,10 @@
 use Rattle.std.specs.Prelude.{◌≡◌, ℕ, if◌then◌else◌, length, Contains}
 use Rattle.thy_base.specs.declared.block.Block.{Block}
 use Rattle.thy_base.specs.declared.config.Parameters.{Parameters}
-use Rattle.thy_base.specs.declared.place.Place.{Place}
+use Rattle.thy_places.specs.declared.place.Place.{Place}
 use Rattle.thy_base.specs.Device.{Device, block_at, possible, newest, written_to}
-use Rattle.thy_base.specs.Places.{in_dram, number_of, image_blocks, dram_blocks}
+use Rattle.thy_places.specs.Places.{in_dram, number_of, image_blocks}
+use Rattle.thy_base.specs.Places.{dram_blocks}
 use Rattle.thy_dram.specs.Contents.{Contents, written}
 
 -- both devices

@@ -1,11 +1,12 @@
 //! The two functions that touch a device at a place.
 ghost use Rattle.std.specs.Prelude.{◌≡◌, ◌<◌, false, OnOk, OnErr, IfOk};
 ghost use Rattle.thy_base.specs.Device.{HasFailed, HasFailedToWrite, IsFramed, CountsFault};
-ghost use Rattle.thy_base.specs.Places.{in_dram, number_of, IsPlace};
+ghost use Rattle.thy_places.specs.Places.{in_dram, number_of, IsPlace};
 ghost use Rattle.thy_place.specs.Devices.{AreSized, devices_of, read_at, written_at};
 
-use thy_base::{Block, Geometry, Nvm, NvmError, Place};
+use thy_base::{Block, Geometry, Nvm, NvmError};
 use thy_dram::Dram;
+use thy_places::{Place, number};
 
 /// Whether a place is one of the DRAM.
 fn is_in_dram(place: Place) -> bool
@@ -33,7 +34,7 @@ pub fn read_place<N: Nvm>(
     ensures cause { CountsFault result (N.device nvm.old).faults (N.device nvm.new).faults }
     ensures same_writes { N.writes nvm.new ≡ N.writes nvm.old }
 {
-    let at = geometry.number(place);
+    let at = number(geometry, place);
     if is_in_dram(place) {
         Ok(dram.read(at))
     } else {
@@ -62,7 +63,7 @@ pub fn write_place<N: Nvm>(
     ensures frame { IsFramed (N.device nvm.old) (N.device nvm.new) }
     ensures cause { CountsFault result (N.device nvm.old).faults (N.device nvm.new).faults }
 {
-    let at = geometry.number(place);
+    let at = number(geometry, place);
     if is_in_dram(place) {
         dram.write(at, block);
         Ok(())

@@ -5,10 +5,11 @@ use Rattle.thy_base.specs.declared.block.Block.{Block}
 use Rattle.thy_base.specs.declared.config.Parameters.{Parameters}
 use Rattle.thy_base.specs.declared.nvm.NvmError.{NvmError}
 use Rattle.thy_base.specs.Device.{Device, IsFramed, CountsFault}
+use Rattle.thy_base.specs.Places.{commit_place}
 use Rattle.thy_isa.specs.declared.state.CpuState.{CpuState}
 use Rattle.thy_isa.specs.Step.{zero_cpu}
 use Rattle.thy_view.specs.Action.{Action, Rest, WriteAt, Barrier, after, FailsTo}
-use Rattle.thy_layout.specs.Commit.{commit_of}
+use Rattle.thy_layout.specs.Commit.{commit_of, slot_of_epoch}
 use Rattle.thy_layout.specs.TableSlots.{slot_block_of}
 use Rattle.thy_shadow_image.specs.Places.{slot_blocks, slot_place}
 use Rattle.thy_pool.specs.declared.engine.Done.{Done}
@@ -51,9 +52,9 @@ slot_block e s k = slot_block_of e.p e.cpu (next_table s) e.epoch k
 abbrev pub action_of : Progress → Item → State → Action
 action_of e NoItem s = Rest
 action_of e (PageItem x) s = WriteAt (target_place s (x / 64) (x % 64)) (frame_block s (x / 64) (x % 64))
-action_of e (SlotItem k) s = WriteAt (slot_place e.p (e.epoch % 2) + k) (slot_block e s k)
+action_of e (SlotItem k) s = WriteAt (slot_place e.p (slot_of_epoch e.epoch) + k) (slot_block e s k)
 action_of e SettleItem s = Barrier
-action_of e CommitItem s = WriteAt 1 (commit_of e.epoch)
+action_of e CommitItem s = WriteAt commit_place (commit_of e.epoch)
 action_of e ConfirmItem s = Barrier
 
 -- the pool after an item: with the last barrier its pages are committed

@@ -5,10 +5,9 @@ use Rattle.std.specs.Prelude.{◌≡◌, ℕ, ◌+◌, ◌*◌, ◌%◌, ◌<◌
 use Rattle.std.specs.List.{range_with_len}
 use Rattle.thy_base.specs.declared.block.Block.{Block}
 use Rattle.thy_base.specs.declared.config.Parameters.{Parameters}
-use Rattle.thy_base.specs.declared.place.Place.TheVariants.{Frame}
 use Rattle.thy_base.specs.Device.{Device, block_at, newest}
 use Rattle.thy_base.specs.Geometry.{IsInRange}
-use Rattle.thy_base.specs.Places.{dram_blocks, number_of}
+use Rattle.thy_base.specs.Places.{dram_blocks, frame_place}
 use Rattle.thy_base.specs.Store.{page_of}
 use Rattle.thy_dram.specs.Contents.{Contents}
 use Rattle.thy_table.specs.Listing.{Listing, IsListing, entry_at, place_of, free_count}
@@ -81,7 +80,7 @@ target_place s j c = pool_place s.p (pool_page (target s j)) c
 
 -- block c of frame j
 abbrev pub frame_block : State → ℕ → ℕ → Block
-frame_block s j c = block_at s.dram.blocks (number_of s.p (Frame j c))
+frame_block s j c = block_at s.dram.blocks (frame_place s.p j c)
 
 -- a block as it was stored last, by the frame that has its page
 abbrev pub work_by : State → Device → ℕ → Option ℕ → Block

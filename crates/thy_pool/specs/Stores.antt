@@ -4,11 +4,10 @@ use Rattle.std.specs.Prelude.{ℕ, ◌+◌, ◌%◌, ◌==◌, nat_lt, if◌then
 use Rattle.std.specs.List.{range_with_len}
 use Rattle.thy_base.specs.declared.block.Block.{Block}
 use Rattle.thy_base.specs.declared.config.Parameters.{Parameters}
-use Rattle.thy_base.specs.declared.place.Place.TheVariants.{Frame}
 use Rattle.thy_base.specs.declared.store.Stored.{Stored}
 use Rattle.thy_base.specs.declared.store.Stored.TheVariants.{Done, CopyFirst}
 use Rattle.thy_base.specs.Device.{Device, newest}
-use Rattle.thy_base.specs.Places.{number_of}
+use Rattle.thy_base.specs.Places.{frame_place}
 use Rattle.thy_base.specs.Store.{page_of}
 use Rattle.thy_dram.specs.Contents.{Contents, written, drained}
 use Rattle.thy_table.specs.Listing.{listing, free_place, added, empty_table}
@@ -47,7 +46,7 @@ store_case b s = case_by s (page_of b) (frame_of s (page_of b))
 
 -- the pool with a block in a frame
 abbrev pub put_into : ℕ → ℕ → Block → State → State
-put_into j c block s = record s { dram = written s.dram (number_of s.p (Frame j c)) block }
+put_into j c block s = record s { dram = written s.dram (frame_place s.p j c) block }
 
 -- frame j is page x's, and the lowest free page of the pool is frame j's
 abbrev pub filled : ℕ → ℕ → State → State

@@ -1,6 +1,5 @@
 //! The pool and its frames.
 ghost use Rattle.std.specs.Prelude.{◌≡◌, ℕ, ◌+◌, ◌*◌, ◌/◌, ◌%◌, ◌<◌, ◌≤◌, true, false, is_some, length, replicate, map, take, drop, IfOk, OnOk, OnErr, None, Some};
-ghost use Rattle.thy_base.specs.declared.place.Place.TheVariants.{Frame as FrameBlock};
 ghost use Rattle.thy_base.specs.Device.{HasFailed, HasFailedToWrite, IsFramed, CountsFault, newest, written_to};
 ghost use Rattle.thy_base.specs.Geometry.{memory_blocks};
 ghost use Rattle.thy_base.specs.Places.{dram_blocks};

@@ -3,6 +3,7 @@ use Rattle.std.specs.Prelude.{◌≡◌, ◌≢◌, ℕ, ◌+◌, ◌<◌, ◌�
 use Rattle.std.specs.List.{range_with_len}
 use Rattle.thy_base.specs.declared.block.Block.{Block}
 use Rattle.thy_base.specs.Device.{Device, newest, drained, written_to}
+use Rattle.thy_base.specs.Places.{header_place}
 use Rattle.thy_crash.specs.Fixed.{ReadsFirst}
 use Rattle.thy_crash.specs.Saved.{IsIssued, next_image}
 use Rattle.thy_layout.specs.Commit.{is_zero, epoch_of}
@@ -88,5 +89,5 @@ abbrev pub IssuedIsCheckpoint : Type 0
 IssuedIsCheckpoint =
     (l : Layout) (ceiling : ℕ) (n : Device) (commit : Block) (parts : CheckpointParts) (memory : List Block)
     → ArePartsOf l commit parts → AreIssued l.image_blocks parts n memory parts.slot_blocks
-    → is_zero commit ≡ false → fault_of l ceiling true (newest n 0) commit (slot_of parts) ≡ None
+    → is_zero commit ≡ false → fault_of l ceiling true (newest n header_place) commit (slot_of parts) ≡ None
     → IsCheckpoint l ceiling n commit parts memory

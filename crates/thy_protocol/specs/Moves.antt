@@ -3,6 +3,7 @@ use Rattle.std.specs.Prelude.{◌≡◌, ◌⊎◌, List, Contains, ℕ, Option,
 use Rattle.thy_base.specs.declared.block.Block.{Block}
 use Rattle.thy_base.specs.declared.mark.Mark.{Mark}
 use Rattle.thy_base.specs.Device.{Device, block_at, written_to, settled, HasFailedToWrite, IsFramed}
+use Rattle.thy_base.specs.Places.{commit_place}
 use Rattle.thy_crash.specs.Fixed.{Reads}
 use Rattle.thy_crash.specs.Saved.{Saved, Kept, Ready, InDoubt, IsIssued, guarded}
 use Rattle.thy_crash.specs.Spares.{Spares}
@@ -27,7 +28,8 @@ IsKeeping o l a = Keeps o l a.device a.saved a.kept a.sealed
 -- the commit block of an image was written, or its write failed
 abbrev pub CommitsTo : List Block → Device → Device → Type 0
 CommitsTo next old new =
-    (new ≡ written_to old 1 (block_at next 1)) ⊎ (HasFailedToWrite 1 (block_at next 1) old new × IsFramed old new)
+    (new ≡ written_to old commit_place (block_at next commit_place))
+    ⊎ (HasFailedToWrite commit_place (block_at next commit_place) old new × IsFramed old new)
 
 pub data Move (o : Origin) (l : Layout) : Standing → Standing → Type 0 where
   -- any call that spares the guarded places
@@ -47,7 +49,7 @@ pub data Move (o : Origin) (l : Layout) : Standing → Standing → Type 0 where
       → Move o l (standing old (Ready before next) kept (Some m)) (standing new (InDoubt before next) kept (Some m))
   -- the barrier after it
   Confirms : (before next : List Block) (kept : Option Mark) (m : Mark) (old new : Device)
-      → Reads old 1 (block_at next 1) → new ≡ settled old
+      → Reads old commit_place (block_at next commit_place) → new ≡ settled old
       → Move o l (standing old (InDoubt before next) kept (Some m)) (standing new (Kept next) (Some m) None)
 
 -- any number of moves

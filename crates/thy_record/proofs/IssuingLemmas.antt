@@ -5,15 +5,16 @@ use Rattle.std.proofs.lemmas.List.FromFn.{length-range_with_len, get_or-range_wi
 use Rattle.std.specs.List.{range_with_len}
 use Rattle.thy_base.specs.declared.block.Block.{Block}
 use Rattle.thy_base.specs.declared.config.Parameters.{Parameters}
-use Rattle.thy_base.specs.declared.layout_version.LayoutVersion.{LayoutVersion}
-use Rattle.thy_base.specs.declared.layout_version.LayoutVersion.TheVariants.{VersionOne, VersionTwo}
-use Rattle.thy_base.specs.declared.place.Place.{Place}
-use Rattle.thy_base.specs.declared.place.Place.TheVariants.{Home, AlternateBlock, AlternatePage}
+use Rattle.thy_layout.specs.declared.layout_version.LayoutVersion.{LayoutVersion}
+use Rattle.thy_layout.specs.declared.layout_version.LayoutVersion.TheVariants.{VersionOne, VersionTwo}
+use Rattle.thy_places.specs.declared.place.Place.{Place}
+use Rattle.thy_places.specs.declared.place.Place.TheVariants.{Home, AlternateBlock, AlternatePage}
 use Rattle.thy_base.specs.Device.{Device, zero_block, block_at, newest}
 use Rattle.thy_base.specs.Geometry.{memory_blocks}
-use Rattle.thy_base.specs.Places.{in_dram, number_of, IsPlace, blocks_of_slot, place_of_slot, slot_blocks, slot_place, first_home, blocks_one}
+use Rattle.thy_places.specs.Places.{in_dram, number_of, IsPlace, slot_blocks, slot_place, first_home, blocks_one}
+use Rattle.thy_record.specs.VersionSlots.{blocks_of_slot, place_of_slot}
 use Rattle.thy_base.specs.Store.{page_of}
-use Rattle.thy_base.proofs.PlaceLemmas.{numbers_tell, between_slots}
+use Rattle.thy_places.proofs.PlaceLemmas.{numbers_tell, between_slots}
 use Rattle.thy_base.proofs.BasicLemmas.{Contains-range}
 use Rattle.thy_layout.specs.Commit.{epoch_of, version_of}
 use Rattle.thy_layout.specs.Layout.{slot_places, looked_by}

@@ -2,11 +2,12 @@
 use Rattle.std.proofs.Common.{◌≢◌, ℕ, ◌+◌, ◌%◌, ◌<◌, ◌≤◌, List, refl, sym, ◌∙◌, arith}
 use Rattle.thy_base.specs.declared.block.Block.{Block}
 use Rattle.thy_base.specs.declared.config.Parameters.{Parameters}
-use Rattle.thy_base.specs.declared.layout_version.LayoutVersion.{LayoutVersion}
-use Rattle.thy_base.specs.declared.layout_version.LayoutVersion.TheVariants.{VersionOne, VersionTwo}
+use Rattle.thy_layout.specs.declared.layout_version.LayoutVersion.{LayoutVersion}
+use Rattle.thy_layout.specs.declared.layout_version.LayoutVersion.TheVariants.{VersionOne, VersionTwo}
 use Rattle.thy_base.specs.Geometry.{memory_blocks}
-use Rattle.thy_base.specs.Places.{number_of, blocks_of_slot, place_of_slot, slot_blocks, first_home, blocks_one}
-use Rattle.thy_base.proofs.PlaceLemmas.{numbers_tell, between_slots}
+use Rattle.thy_places.specs.Places.{number_of, slot_blocks, first_home, blocks_one}
+use Rattle.thy_record.specs.VersionSlots.{blocks_of_slot, place_of_slot}
+use Rattle.thy_places.proofs.PlaceLemmas.{numbers_tell, between_slots}
 use Rattle.thy_layout.specs.AreLayouts.{Fits, HasPlaces, HasSlot, AreLayouts}
 use Rattle.thy_layout.specs.Commit.{epoch_of, version_of}
 use Rattle.thy_layout.proofs.AskingLemmas.{half}

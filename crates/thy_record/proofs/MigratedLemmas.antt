@@ -7,10 +7,11 @@ use Rattle.std.specs.List.{range_with_len}
 use Rattle.std.specs.Option.{option_map}
 use Rattle.thy_base.specs.declared.block.Block.{Block}
 use Rattle.thy_base.specs.declared.config.Parameters.{Parameters}
-use Rattle.thy_base.specs.declared.layout_version.LayoutVersion.TheVariants.{VersionOne, VersionTwo}
+use Rattle.thy_layout.specs.declared.layout_version.LayoutVersion.TheVariants.{VersionOne, VersionTwo}
 use Rattle.thy_base.specs.Device.{zero_block, block_at}
 use Rattle.thy_base.specs.Geometry.{console_room}
-use Rattle.thy_base.specs.Places.{record_blocks, table_blocks, count_blocks, slot_blocks}
+use Rattle.thy_base.specs.Places.{record_blocks}
+use Rattle.thy_places.specs.Places.{table_blocks, count_blocks, slot_blocks}
 use Rattle.thy_base.specs.Words.{word_of}
 use Rattle.thy_base.proofs.BlockLemmas.{zero_block-at}
 use Rattle.thy_isa.specs.declared.state.OtherHart.{OtherHart}

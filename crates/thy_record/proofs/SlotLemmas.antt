@@ -6,10 +6,11 @@ use Rattle.std.specs.List.{range_with_len}
 use Rattle.std.specs.Option.{option_map}
 use Rattle.thy_base.specs.declared.block.Block.{Block}
 use Rattle.thy_base.specs.declared.config.Parameters.{Parameters}
-use Rattle.thy_base.specs.declared.layout_version.LayoutVersion.TheVariants.{VersionTwo}
+use Rattle.thy_layout.specs.declared.layout_version.LayoutVersion.TheVariants.{VersionTwo}
 use Rattle.thy_base.specs.Device.{block_at}
 use Rattle.thy_base.specs.Geometry.{IsInRange, console_room}
-use Rattle.thy_base.specs.Places.{record_blocks, table_blocks, count_blocks}
+use Rattle.thy_base.specs.Places.{record_blocks}
+use Rattle.thy_places.specs.Places.{table_blocks, count_blocks}
 use Rattle.thy_isa.specs.declared.state.CpuState.{CpuState}
 use Rattle.thy_layout.specs.declared.bad_image.BadImage.TheVariants.{Count}
 use Rattle.thy_record.specs.ImageLaws.{ReadsBack}

@@ -3,9 +3,11 @@ use Rattle.std.proofs.Common.{◌≡◌, ◌+◌, ◌≤◌, ◌==◌, Bool, tru
 use Rattle.std.proofs.lemmas.Bool.{eqb-true}
 use Rattle.thy_base.specs.declared.block.Block.{Block}
 use Rattle.thy_base.specs.declared.config.Parameters.{Parameters}
-use Rattle.thy_base.specs.declared.layout_version.LayoutVersion.{LayoutVersion}
-use Rattle.thy_base.specs.declared.layout_version.LayoutVersion.TheVariants.{VersionOne, VersionTwo}
-use Rattle.thy_base.specs.Places.{hart_blocks, record_blocks, table_blocks, blocks_of_slot}
+use Rattle.thy_layout.specs.declared.layout_version.LayoutVersion.{LayoutVersion}
+use Rattle.thy_layout.specs.declared.layout_version.LayoutVersion.TheVariants.{VersionOne, VersionTwo}
+use Rattle.thy_base.specs.Places.{hart_blocks, record_blocks}
+use Rattle.thy_places.specs.Places.{table_blocks}
+use Rattle.thy_record.specs.VersionSlots.{blocks_of_slot}
 use Rattle.thy_base.specs.Words.{word_of}
 use Rattle.thy_layout.specs.Commit.{commit_magic, version_of}
 use Rattle.thy_layout.specs.Header.{last_word, knows_version_one}

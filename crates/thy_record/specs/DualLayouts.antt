@@ -1,11 +1,12 @@
 -- Part of the claim.
 -- Images of both versions as one layout: the commit block names the version of its slot, and all places follow from it.
-use Rattle.std.specs.Prelude.{ℕ, ◌%◌, Option, Some, None}
+use Rattle.std.specs.Prelude.{ℕ, Option, Some, None}
 use Rattle.thy_base.specs.declared.config.Parameters.{Parameters}
-use Rattle.thy_base.specs.declared.layout_version.LayoutVersion.{LayoutVersion}
-use Rattle.thy_base.specs.declared.layout_version.LayoutVersion.TheVariants.{VersionOne, VersionTwo}
-use Rattle.thy_base.specs.Places.{blocks_of_slot, place_of_slot, slot_blocks, blocks_one, image_blocks, number_of}
-use Rattle.thy_layout.specs.Commit.{epoch_of, version_of}
+use Rattle.thy_layout.specs.declared.layout_version.LayoutVersion.{LayoutVersion}
+use Rattle.thy_layout.specs.declared.layout_version.LayoutVersion.TheVariants.{VersionOne, VersionTwo}
+use Rattle.thy_record.specs.VersionSlots.{blocks_of_slot, place_of_slot}
+use Rattle.thy_places.specs.Places.{slot_blocks, blocks_one, image_blocks, number_of}
+use Rattle.thy_layout.specs.Commit.{epoch_of, version_of, slot_of_epoch}
 use Rattle.thy_layout.specs.Decoded.{Reading}
 use Rattle.thy_layout.specs.Layout.{Layout, Layouts, reading}
 use Rattle.thy_record.specs.Number.{scheme_number}
@@ -24,7 +25,7 @@ dual_layouts p = record {
   scheme = scheme_number;
   image_blocks = image_blocks p;
   older_blocks = λ commit. older_of p (version_of scheme_number p commit);
-  slot_place = λ commit. place_of_slot (version_of scheme_number p commit) p (epoch_of commit % 2);
+  slot_place = λ commit. place_of_slot (version_of scheme_number p commit) p (slot_of_epoch (epoch_of commit));
   slot_blocks = λ commit. blocks_of_slot (version_of scheme_number p commit) p;
   most_slot = slot_blocks p;
   place = λ commit slot b. number_of p (place_of (tables_in p slot) b);

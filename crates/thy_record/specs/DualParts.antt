@@ -1,15 +1,16 @@
 -- How a checkpoint is written, in version 2.
-use Rattle.std.specs.Prelude.{◌≡◌, ℕ, ◌%◌, ◌^◌, ◌<◌, ◌≤◌, true, List, map, None}
+use Rattle.std.specs.Prelude.{◌≡◌, ℕ, ◌^◌, ◌<◌, ◌≤◌, true, List, map, None}
 use Rattle.std.specs.List.{range_with_len}
 use Rattle.thy_base.specs.declared.block.Block.{Block}
 use Rattle.thy_base.specs.declared.config.Parameters.{Parameters}
-use Rattle.thy_base.specs.declared.layout_version.LayoutVersion.TheVariants.{VersionTwo}
+use Rattle.thy_layout.specs.declared.layout_version.LayoutVersion.TheVariants.{VersionTwo}
 use Rattle.thy_base.specs.Device.{Device, newest}
 use Rattle.thy_base.specs.Geometry.{IsInRange}
-use Rattle.thy_base.specs.Places.{slot_blocks, slot_place, image_blocks}
+use Rattle.thy_base.specs.Places.{header_place}
+use Rattle.thy_places.specs.Places.{slot_blocks, slot_place, image_blocks}
 use Rattle.thy_isa.specs.declared.state.CpuState.{CpuState}
 use Rattle.thy_isa.specs.OnBlocks.{state_from}
-use Rattle.thy_layout.specs.Commit.{commit_of}
+use Rattle.thy_layout.specs.Commit.{commit_of, slot_of_epoch}
 use Rattle.thy_layout.specs.Cpu.{IsRecordable}
 use Rattle.thy_layout.specs.Decoded.{At}
 use Rattle.thy_layout.specs.Header.{header_fault}
@@ -26,7 +27,7 @@ use Rattle.thy_record.specs.DualLayouts.{dual_layouts}
 -- where the parts of a checkpoint of an epoch go, with these tables and blocks of counts
 abbrev pub parts_by : Parameters → CpuState → Tables → (ℕ → Block) → ℕ → CheckpointParts
 parts_by p cpu t counts epoch = record {
-  slot_place = slot_place p (epoch % 2);
+  slot_place = slot_place p (slot_of_epoch epoch);
   slot_blocks = slot_blocks p;
   slot = slot_block_of p cpu t counts epoch;
   memory = memory_numbers p t;
@@ -54,5 +55,5 @@ abbrev pub IssuedDecodes : Type 0
 IssuedDecodes =
     (p : Parameters) (ceiling : ℕ) (n : Device) (cpu : CpuState) (t : Tables) (counts : ℕ → Block) (epoch : ℕ) (memory : List Block)
     → IsInRange p → IsRecordable p ceiling cpu → ceiling ≤ 2 ^ 64 → epoch < ceiling
-    → IsIssuing p n cpu t counts epoch memory (slot_blocks p) → header_fault scheme_number (newest n 0) p true ≡ None
+    → IsIssuing p n cpu t counts epoch memory (slot_blocks p) → header_fault scheme_number (newest n header_place) p true ≡ None
     → IsIssuedCheckpoint p ceiling n cpu t counts epoch memory

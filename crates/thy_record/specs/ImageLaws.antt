@@ -1,15 +1,16 @@
 -- What is written reads back, said of whole images.
-use Rattle.std.specs.Prelude.{◌≡◌, ℕ, ◌+◌, ◌*◌, ◌%◌, ◌^◌, ◌<◌, ◌≤◌, true, false, List, ◌++◌, length, map, take, drop, Option, None}
+use Rattle.std.specs.Prelude.{◌≡◌, ℕ, ◌+◌, ◌*◌, ◌^◌, ◌<◌, ◌≤◌, true, false, List, ◌++◌, length, map, take, drop, Option, None}
 use Rattle.std.specs.List.{range_with_len}
 use Rattle.thy_base.specs.declared.block.Block.{Block}
 use Rattle.thy_base.specs.declared.config.Parameters.{Parameters}
-use Rattle.thy_base.specs.declared.layout_version.LayoutVersion.TheVariants.{VersionTwo}
+use Rattle.thy_layout.specs.declared.layout_version.LayoutVersion.TheVariants.{VersionTwo}
 use Rattle.thy_base.specs.Device.{block_at}
 use Rattle.thy_base.specs.Geometry.{IsInRange, memory_blocks}
-use Rattle.thy_base.specs.Places.{in_dram, IsPlace, slot_blocks, slot_place, image_blocks}
+use Rattle.thy_base.specs.Places.{commit_place, header_place}
+use Rattle.thy_places.specs.Places.{in_dram, IsPlace, slot_blocks, slot_place, image_blocks}
 use Rattle.thy_isa.specs.declared.state.CpuState.{CpuState}
 use Rattle.thy_isa.specs.Step.{State}
-use Rattle.thy_layout.specs.Commit.{commit_of}
+use Rattle.thy_layout.specs.Commit.{commit_of, slot_of_epoch}
 use Rattle.thy_layout.specs.Cpu.{cpu_of_record, IsRecordable}
 use Rattle.thy_layout.specs.Decoded.{At}
 use Rattle.thy_isa.specs.OnBlocks.{state_from}
@@ -73,9 +74,10 @@ SlotReadsBack =
 -- an image has a checkpoint's commit block and slot, and a header without a fault
 pub record HasCheckpoint (p : Parameters) (image : List Block) (cpu : CpuState) (t : Tables) (counts : ℕ → Block) (epoch : ℕ) : Type 0 where
   pub long : length image ≡ image_blocks p
-  pub header_fits : header_fault scheme_number (block_at image 0) p true ≡ None
-  pub commit : block_at image 1 ≡ commit_of epoch
-  pub slot : (k : ℕ) → k < slot_blocks p → block_at image (slot_place p (epoch % 2) + k) ≡ slot_block_of p cpu t counts epoch k
+  pub header_fits : header_fault scheme_number (block_at image header_place) p true ≡ None
+  pub commit : block_at image commit_place ≡ commit_of epoch
+  pub slot : (k : ℕ) → k < slot_blocks p
+      → block_at image (slot_place p (slot_of_epoch epoch) + k) ≡ slot_block_of p cpu t counts epoch k
 
 -- it decodes to that epoch, that processor and the blocks at the places of those tables
 abbrev pub WrittenDecodes : Type 0

@@ -4,7 +4,7 @@ use Rattle.std.specs.List.{range_with_len}
 use Rattle.thy_base.specs.declared.block.Block.{Block}
 use Rattle.thy_base.specs.declared.config.Parameters.{Parameters}
 use Rattle.thy_base.specs.Geometry.{memory_blocks}
-use Rattle.thy_base.specs.Places.{number_of}
+use Rattle.thy_places.specs.Places.{number_of}
 use Rattle.thy_layout.specs.Layout.{slot_in as slot_by}
 use Rattle.thy_record.specs.DualLayouts.{dual_layouts}
 use Rattle.thy_record.specs.Tables.{Tables, place_of}

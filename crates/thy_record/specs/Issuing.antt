@@ -1,16 +1,17 @@
 -- Which writes leave a checkpoint alone, and at which places memory is read.
-use Rattle.std.specs.Prelude.{◌≡◌, ◌≢◌, ℕ, ◌+◌, ◌%◌, ◌<◌, false, List, ◌∷◌, length, map, Contains, None}
+use Rattle.std.specs.Prelude.{◌≡◌, ◌≢◌, ℕ, ◌+◌, ◌<◌, false, List, ◌∷◌, length, map, Contains, None}
 use Rattle.thy_base.specs.declared.block.Block.{Block}
 use Rattle.thy_base.specs.declared.config.Parameters.{Parameters}
-use Rattle.thy_base.specs.declared.layout_version.LayoutVersion.{LayoutVersion}
-use Rattle.thy_base.specs.declared.layout_version.LayoutVersion.TheVariants.{VersionOne, VersionTwo}
-use Rattle.thy_base.specs.declared.place.Place.{Place}
-use Rattle.thy_base.specs.declared.place.Place.TheVariants.{Home, AlternateBlock, AlternatePage}
+use Rattle.thy_layout.specs.declared.layout_version.LayoutVersion.{LayoutVersion}
+use Rattle.thy_layout.specs.declared.layout_version.LayoutVersion.TheVariants.{VersionOne, VersionTwo}
+use Rattle.thy_places.specs.declared.place.Place.{Place}
+use Rattle.thy_places.specs.declared.place.Place.TheVariants.{Home, AlternateBlock, AlternatePage}
 use Rattle.thy_base.specs.Device.{Device, block_at, newest}
 use Rattle.thy_base.specs.Geometry.{memory_blocks}
-use Rattle.thy_base.specs.Places.{in_dram, number_of, IsPlace, slot_blocks, slot_place}
+use Rattle.thy_base.specs.Places.{commit_place}
+use Rattle.thy_places.specs.Places.{in_dram, number_of, IsPlace, slot_blocks, slot_place}
 use Rattle.thy_base.specs.Store.{page_of}
-use Rattle.thy_layout.specs.Commit.{epoch_of, version_of}
+use Rattle.thy_layout.specs.Commit.{epoch_of, version_of, slot_of_epoch}
 use Rattle.thy_layout.specs.Layout.{looked_by}
 use Rattle.thy_record.specs.DualLayouts.{dual_layouts}
 use Rattle.thy_record.specs.Images.{slot_in, memory_numbers}
@@ -44,7 +45,7 @@ pub record IsUnused (p : Parameters) (t : Tables) (x : Place) : Type 0 where
 -- place that it does not use
 abbrev pub IsFree : Parameters → LayoutVersion → ℕ → Tables → Target → Type 0
 IsFree p VersionOne epoch t (SlotBlock s k) = Unit {0}
-IsFree p VersionTwo epoch t (SlotBlock s k) = s ≢ epoch % 2
+IsFree p VersionTwo epoch t (SlotBlock s k) = s ≢ slot_of_epoch epoch
 IsFree p version epoch t (PlaceBlock x) = IsUnused p t x
 
 -- the home of a block that is listed, or whose page is, is not used
@@ -63,8 +64,8 @@ EmptyPageIsUnused = (p : Parameters) (t : Tables) (j k : ℕ) → entry_at t.ptt
 
 -- an image has the checkpoint of this epoch, in a slot of this version, with these tables
 pub record IsToldBy (p : Parameters) (image : List Block) (version : LayoutVersion) (epoch : ℕ) (t : Tables) : Type 0 where
-  pub of_version : version_of scheme_number p (block_at image 1) ≡ version
-  pub of_epoch : epoch_of (block_at image 1) ≡ epoch
+  pub of_version : version_of scheme_number p (block_at image commit_place) ≡ version
+  pub of_epoch : epoch_of (block_at image commit_place) ≡ epoch
   pub tables : tables_in p (slot_in p image) ≡ t
   pub whole : IsTables p t
 
@@ -73,7 +74,7 @@ abbrev pub FreeIsNotLooked : Type 0
 FreeIsNotLooked =
     (p : Parameters) (image : List Block) (version : LayoutVersion) (epoch : ℕ) (t : Tables) (x : Target)
     → IsToldBy p image version epoch t → IsTarget p x → IsFree p version epoch t x
-    → ¬ Contains (1 ∷ looked_by (dual_layouts p) image) (target_number p x)
+    → ¬ Contains (commit_place ∷ looked_by (dual_layouts p) image) (target_number p x)
 
 -- ---- how memory is read
 

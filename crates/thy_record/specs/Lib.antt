@@ -13,3 +13,4 @@ pub mod Index
 pub mod Migrated
 pub mod DualParts
 pub mod Migration
+pub mod VersionSlots

@@ -1,12 +1,14 @@
 -- From an image of version 1 to its own checkpoint in version 2.
-use Rattle.std.specs.Prelude.{◌≡◌, ℕ, ◌%◌, ◌^◌, ◌<◌, ◌≤◌, true, List, length, replicate, None}
+use Rattle.std.specs.Prelude.{◌≡◌, ℕ, ◌^◌, ◌<◌, ◌≤◌, true, List, length, replicate, None}
 use Rattle.thy_base.specs.declared.block.Block.{Block}
 use Rattle.thy_base.specs.declared.config.Parameters.{Parameters}
-use Rattle.thy_base.specs.declared.layout_version.LayoutVersion.TheVariants.{VersionOne, VersionTwo}
+use Rattle.thy_layout.specs.declared.layout_version.LayoutVersion.TheVariants.{VersionOne, VersionTwo}
 use Rattle.thy_base.specs.Device.{Device, block_at, newest}
-use Rattle.thy_base.specs.Places.{blocks_of_slot, slot_blocks, slot_place, image_blocks}
+use Rattle.thy_base.specs.Places.{header_place}
+use Rattle.thy_record.specs.VersionSlots.{blocks_of_slot}
+use Rattle.thy_places.specs.Places.{slot_blocks, slot_place, image_blocks}
 use Rattle.thy_isa.specs.OnBlocks.{state_from}
-use Rattle.thy_layout.specs.Commit.{commit_of}
+use Rattle.thy_layout.specs.Commit.{commit_of, slot_of_epoch}
 use Rattle.thy_layout.specs.Cpu.{cpu_of_record}
 use Rattle.thy_layout.specs.Decoded.{At}
 use Rattle.thy_layout.specs.Header.{header_fault}
@@ -23,7 +25,7 @@ use Rattle.thy_record.specs.DualLayouts.{dual_layouts}
 -- memory's blocks stay where they are
 abbrev pub migrated_parts : Parameters → List Block → ℕ → CheckpointParts
 migrated_parts p slot epoch = record {
-  slot_place = slot_place p (epoch % 2);
+  slot_place = slot_place p (slot_of_epoch epoch);
   slot_blocks = slot_blocks p;
   slot = block_at slot;
   memory = memory_numbers p (tables_in p slot);
@@ -42,6 +44,6 @@ abbrev pub MigrationDecodes : Type 0
 MigrationDecodes =
     (p : Parameters) (ceiling : ℕ) (n : Device) (slot : List Block) (epoch : ℕ) (memory : List Block)
     → ceiling ≤ 2 ^ 64 → epoch < ceiling → length slot ≡ blocks_of_slot VersionOne p → slot_fault VersionOne p ceiling epoch slot ≡ None
-    → header_fault scheme_number (newest n 0) p true ≡ None
+    → header_fault scheme_number (newest n header_place) p true ≡ None
     → AreIssued (image_blocks p) (migrated_parts p slot epoch) n memory (slot_blocks p)
     → IsMigrated p ceiling n slot epoch memory

@@ -5,8 +5,8 @@ ghost use Rattle.thy_layout.specs.Header.{header_of, header_fault as fault_of_he
 ghost use Rattle.thy_record.specs.Number.{scheme_number};
 
 use crate::images::ThynvmImages;
-use thy_base::{Block, Geometry, LayoutVersion};
-use thy_layout::{BadImage, header_block_of, header_fault_in};
+use thy_base::{Block, Geometry};
+use thy_layout::{BadImage, LayoutVersion, header_block_of, header_fault_in};
 
 // The number of this scheme.
 pub(crate) const SCHEME: u64 = 0;

@@ -7,10 +7,15 @@ ghost use Rattle.thy_record.specs.DualLayouts.{dual_layouts};
 use crate::header::{SCHEME, version_of};
 use crate::index::places;
 use crate::slot::slot_fault;
+use crate::version_slots::{slot_blocks_of, slot_of};
 use std::alloc::{AllocError, Global};
-use thy_base::{Block, Geometry, LayoutVersion, word};
+use thy_base::{Block, Geometry};
 use thy_isa::MachState;
-use thy_layout::{BadImage, Found, ImageLayout, check_image, state_of_image};
+use thy_layout::{
+    BadImage, Found, ImageLayout, LayoutVersion, check_image, epoch_in, slot_of_epoch,
+    state_of_image,
+};
+use thy_places::{blocks, blocks_one};
 
 /// Images of both versions: the commit block names the version of its slot.
 #[derive(Drop)]
@@ -24,26 +29,30 @@ impl ImageLayout for ThynvmImages {
     }
 
     fn blocks(geometry: &Geometry) -> u64 {
-        geometry.blocks()
+        blocks(geometry)
     }
 
     fn older_blocks(geometry: &Geometry, commit: &Block) -> Option<u64> {
         match version_of(commit, geometry) {
-            LayoutVersion::VersionOne => Some(geometry.blocks_one()),
+            LayoutVersion::VersionOne => Some(blocks_one(geometry)),
             LayoutVersion::VersionTwo => None,
         }
     }
 
     fn most_slot(geometry: &Geometry) -> u64 {
-        geometry.slot_blocks_of(LayoutVersion::VersionTwo)
+        slot_blocks_of(geometry, LayoutVersion::VersionTwo)
     }
 
     fn slot_place(geometry: &Geometry, commit: &Block) -> u64 {
-        geometry.slot_of(version_of(commit, geometry), word(commit, 1) % 2)
+        slot_of(
+            geometry,
+            version_of(commit, geometry),
+            slot_of_epoch(epoch_in(commit)),
+        )
     }
 
     fn slot_blocks(geometry: &Geometry, commit: &Block) -> u64 {
-        geometry.slot_blocks_of(version_of(commit, geometry))
+        slot_blocks_of(geometry, version_of(commit, geometry))
     }
 
     fn slot_fault(
@@ -53,7 +62,7 @@ impl ImageLayout for ThynvmImages {
         ceiling: u64,
     ) -> Option<BadImage> {
         let version = version_of(commit, geometry);
-        slot_fault(slot, version, word(commit, 1), geometry, ceiling)
+        slot_fault(slot, version, epoch_in(commit), geometry, ceiling)
     }
 
     fn memory_places(

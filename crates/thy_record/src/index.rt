@@ -1,7 +1,8 @@
 //! Where an image has each block of memory: one list of numbers, made once from both tables of its slot.
 ghost use Rattle.std.specs.Prelude.{◌≡◌, ◌+◌, ◌*◌, ◌/◌, ◌<◌, ◌≤◌, ℕ, List, [], Option, length, IfOk, IfSome};
 ghost use Rattle.thy_base.specs.Geometry.{memory_blocks};
-ghost use Rattle.thy_base.specs.Places.{record_blocks, table_blocks};
+ghost use Rattle.thy_base.specs.Places.{record_blocks};
+ghost use Rattle.thy_places.specs.Places.{table_blocks};
 ghost use Rattle.thy_layout.specs.Files.{blocks_of, table_in};
 ghost use Rattle.thy_record.specs.Images.{memory_numbers};
 ghost use Rattle.thy_record.specs.Index.{index_by, ListsOnce, with_block, HasPage, HasPageOf};
@@ -10,8 +11,9 @@ ghost use Rattle.thy_record.specs.Tables.{IsTables};
 
 use crate::slot::{btt_in, ptt_in};
 use std::alloc::{AllocError, Global};
-use thy_base::{Geometry, PAGE_BLOCKS, Place};
+use thy_base::{Geometry, PAGE_BLOCKS};
 use thy_layout::entry;
+use thy_places::{Place, home, number};
 
 // All of memory at home.
 fn homes(alloc: Global, geometry: &Geometry) -> Result<Vec<u64>, AllocError>
@@ -20,7 +22,7 @@ fn homes(alloc: Global, geometry: &Geometry) -> Result<Vec<u64>, AllocError>
     let blocks = geometry.memory_blocks();
     let mut index = Vec::with_capacity(alloc, blocks as usize)?;
     for b in 0..blocks {
-        index.push(geometry.home(b))?;
+        index.push(home(geometry, b))?;
     }
     Ok(index)
 }
@@ -35,7 +37,7 @@ fn list_page(index: &mut [u64], entry: usize, page: u64, geometry: &Geometry)
 {
     for block in 0..PAGE_BLOCKS {
         let at = (PAGE_BLOCKS * page + block) as usize;
-        index[at] = geometry.number(Place::AlternatePage { entry, block });
+        index[at] = number(geometry, Place::AlternatePage { entry, block });
     }
 }
 
@@ -74,7 +76,7 @@ fn list_block(index: &mut [u64], entry: usize, block: Option<u64>, geometry: &Ge
 {
     match block {
         Some(block) => {
-            index[block as usize] = geometry.number(Place::AlternateBlock { entry });
+            index[block as usize] = number(geometry, Place::AlternateBlock { entry });
         }
         None => {}
     }

@@ -14,6 +14,7 @@ mod index;
 mod laws;
 mod slot;
 mod table_faults;
+mod version_slots;
 
 pub use header::{header_block, header_fault, version_of};
 pub use images::{ThynvmImages, check, state};
@@ -27,3 +28,4 @@ pub use slot::{btt_in, head_fault, listed_block, listed_count, listed_page, slot
 pub use thy_layout::{
     BadImage, EngineStep, Found, Start, commit_block, commit_fault, cpu_block, cpu_in, is_zero,
 };
+pub use version_slots::{slot_blocks_of, slot_of};

@@ -1,15 +1,20 @@
 //! The bytes of a slot: the processor's record, 320 for each hart, behind it the block table and the page table, and in
 //! version 2 the counts of pages.
 ghost use Rattle.std.specs.Prelude.{◌≡◌, ◌+◌, ◌*◌, ◌/◌, ◌<◌, ◌≤◌, length};
-ghost use Rattle.thy_base.specs.declared.layout_version.LayoutVersion.TheVariants.{VersionTwo};
-ghost use Rattle.thy_base.specs.Places.{record_blocks, table_blocks, count_blocks, blocks_of_slot};
+ghost use Rattle.thy_layout.specs.declared.layout_version.LayoutVersion.TheVariants.{VersionTwo};
+ghost use Rattle.thy_base.specs.Places.{record_blocks};
+ghost use Rattle.thy_places.specs.Places.{table_blocks, count_blocks};
+ghost use Rattle.thy_record.specs.VersionSlots.{blocks_of_slot};
 ghost use Rattle.thy_layout.specs.Files.{blocks_of, table_in};
 ghost use Rattle.thy_layout.specs.Entries.{entry_at};
 ghost use Rattle.thy_record.specs.Slots.{tables_in, count_byte, is_bad_count as is_bad_byte, count_fault as fault_of_counts, head_fault as fault_of_head, slot_fault as fault_of_slot};
 
 use crate::table_faults::tables_fault;
-use thy_base::{BLOCK_COUNTS, BLOCK_SIZE, Geometry, LayoutVersion};
-use thy_layout::{BadImage, entry, record_size, second_fault, status_fault, table_behind, word_in};
+use thy_base::{BLOCK_COUNTS, BLOCK_SIZE, Geometry};
+use thy_layout::{
+    BadImage, LayoutVersion, entry, record_size, second_fault, status_fault, table_behind, word_in,
+};
+use thy_places::{count_blocks as blocks_of_counts, table_blocks as blocks_of_tables};
 
 /// The block table of a slot, which stands behind the processor's record.
 pub fn btt_in<'a>(slot: &'a [u8], geometry: &Geometry) -> &'a [u8]
@@ -53,7 +58,7 @@ fn count_in(slot: &[u8], geometry: &Geometry, i: u64) -> u8
     requires inside { i < 64 * count_blocks geometry.now }
     ensures { result ≡ count_byte geometry.now (blocks_of slot.now) i }
 {
-    let first = BLOCK_SIZE * (geometry.record_blocks() + geometry.table_blocks()) as usize;
+    let first = BLOCK_SIZE * (geometry.record_blocks() + blocks_of_tables(geometry)) as usize;
     slot[first + i as usize]
 }
 
@@ -92,7 +97,7 @@ fn bad_count(slot: &[u8], geometry: &Geometry) -> Option<BadImage>
     requires { length slot.now ≡ 64 * blocks_of_slot VersionTwo geometry.now }
     ensures { result ≡ fault_of_counts VersionTwo geometry.now (blocks_of slot.now) }
 {
-    for i in 0..BLOCK_COUNTS * geometry.count_blocks() {
+    for i in 0..BLOCK_COUNTS * blocks_of_counts(geometry) {
         if is_bad_count(slot, geometry, i) {
             return Some(BadImage::Count(i));
         }

@@ -7,8 +7,8 @@ use Rattle.std.proofs.lemmas.List.Edits.{fill_by_more}
 use Rattle.std.proofs.lemmas.List.FromFn.{fill_by_all}
 use Rattle.thy_base.specs.declared.block.Block.{Block}
 use Rattle.thy_base.specs.declared.config.Parameters.{Parameters}
-use Rattle.thy_base.specs.declared.layout_version.LayoutVersion.TheVariants.{VersionTwo}
-use Rattle.thy_base.specs.Places.{count_blocks}
+use Rattle.thy_layout.specs.declared.layout_version.LayoutVersion.TheVariants.{VersionTwo}
+use Rattle.thy_places.specs.Places.{count_blocks}
 use Rattle.thy_base.proofs.BasicLemmas.{none_of_map}
 use Rattle.thy_control.specs.Boot.{IsBooting, with_listed_count}
 use Rattle.thy_control.specs.State.{State}
@@ -23,9 +23,9 @@ count_within p slot i none inside =
     let n = 64 * count_blocks p in
     let found = none_of_map Count (position (is_bad_count p slot) (range_with_len 0 n)) none in
     by_test (nat_lt 63 (count_byte p slot i)) refl (none_passes (is_bad_count p slot) n found i (omega arith)) where
-  by_test : (t : Bool) → nat_lt 63 (count_byte p slot i) ≡ t → (t || (nat_le p.pages i && not (count_byte p slot i == 0))) ≡ false → count_byte p slot i ≤ 63
-  by_test true e h = cc
-  by_test false e h = ltb-false 63 (count_byte p slot i) e
+      by_test : (t : Bool) → nat_lt 63 (count_byte p slot i) ≡ t → (t || (nat_le p.pages i && not (count_byte p slot i == 0))) ≡ false → count_byte p slot i ≤ 63
+      by_test true e h = cc
+      by_test false e h = ltb-false 63 (count_byte p slot i) e
 
 -- a controller has the first counts of a slot, and else those of a list as long as memory has pages
 pub record HasFirstCounts (p : Parameters) (slot : List Block) (n : ℕ) (old new : State) : Type 0 where

@@ -3,9 +3,9 @@ use Rattle.std.proofs.Common.{◌≡◌, ℕ, true, false, List, [], length, map
 use Rattle.std.proofs.lemmas.List.{length-map, length-replicate, get_or-replicate, ext_get_or}
 use Rattle.thy_base.specs.declared.block.Block.{Block}
 use Rattle.thy_base.specs.declared.config.Parameters.{Parameters}
-use Rattle.thy_base.specs.declared.place.Place.TheVariants.{Frame}
+use Rattle.thy_places.specs.declared.place.Place.TheVariants.{Frame}
 use Rattle.thy_base.specs.Device.{Device, block_at, newest}
-use Rattle.thy_base.specs.Places.{number_of}
+use Rattle.thy_places.specs.Places.{number_of}
 use Rattle.thy_base.proofs.DeviceLemmas.{newest-empty}
 use Rattle.thy_cell.specs.BetweenCheckpoints.{FrameLoads}
 use Rattle.thy_record.specs.Images.{memory_numbers}

@@ -4,9 +4,9 @@ use Rattle.std.proofs.lemmas.Bool.{cases_eq, cases_lt}
 use Rattle.std.proofs.lemmas.List.{get_or_past, length-set}
 use Rattle.thy_base.specs.declared.block.Block.{Block}
 use Rattle.thy_base.specs.declared.config.Parameters.{Parameters}
-use Rattle.thy_base.specs.declared.place.Place.TheVariants.{AlternatePage, Frame}
+use Rattle.thy_places.specs.declared.place.Place.TheVariants.{AlternatePage, Frame}
 use Rattle.thy_base.specs.Device.{Device, newest}
-use Rattle.thy_base.specs.Places.{image_blocks, number_of}
+use Rattle.thy_places.specs.Places.{image_blocks, number_of}
 use Rattle.thy_base.proofs.BasicLemmas.{some_same}
 use Rattle.thy_dram.specs.Contents.{Contents}
 use Rattle.thy_record.specs.Slots.{tables_in}

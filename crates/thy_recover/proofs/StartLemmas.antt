@@ -5,14 +5,16 @@ use Rattle.std.proofs.lemmas.List.{drop-replicate, take-replicate, replicate-app
 use Rattle.std.proofs.lemmas.List.FromFn.{length-map-range_with_len, get_or-map-range_with_len}
 use Rattle.thy_base.specs.declared.block.Block.{Block}
 use Rattle.thy_base.specs.declared.config.Parameters.{Parameters}
-use Rattle.thy_base.specs.declared.layout_version.LayoutVersion.{LayoutVersion}
-use Rattle.thy_base.specs.declared.layout_version.LayoutVersion.TheVariants.{VersionTwo}
-use Rattle.thy_base.specs.declared.place.Place.TheVariants.{Home}
+use Rattle.thy_layout.specs.declared.layout_version.LayoutVersion.{LayoutVersion}
+use Rattle.thy_layout.specs.declared.layout_version.LayoutVersion.TheVariants.{VersionTwo}
+use Rattle.thy_places.specs.declared.place.Place.TheVariants.{Home}
 use Rattle.thy_base.specs.Device.{zero_block}
 use Rattle.thy_base.specs.Geometry.{IsInRange, memory_blocks}
 use Rattle.std.specs.List.{range_with_len}
 use Rattle.thy_base.specs.LittleEndian.{number_bytes}
-use Rattle.thy_base.specs.Places.{number_of, record_blocks, table_blocks, blocks_of_slot, slot_blocks}
+use Rattle.thy_places.specs.Places.{number_of, table_blocks, slot_blocks}
+use Rattle.thy_base.specs.Places.{record_blocks}
+use Rattle.thy_record.specs.VersionSlots.{blocks_of_slot}
 use Rattle.thy_base.specs.Store.{page_of}
 use Rattle.thy_base.proofs.BlockLemmas.{zero_block-at}
 use Rattle.thy_base.proofs.RangeLemmas.{btt_eights, ptt_eights}

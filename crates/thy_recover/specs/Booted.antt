@@ -2,9 +2,10 @@
 use Rattle.std.specs.Prelude.{◌≡◌, true, List, [], Some, None}
 use Rattle.thy_base.specs.declared.block.Block.{Block}
 use Rattle.thy_base.specs.declared.mark.Mark.{Mark}
-use Rattle.thy_base.specs.declared.layout_version.LayoutVersion.{LayoutVersion}
-use Rattle.thy_base.specs.declared.layout_version.LayoutVersion.TheVariants.{VersionTwo}
+use Rattle.thy_layout.specs.declared.layout_version.LayoutVersion.{LayoutVersion}
+use Rattle.thy_layout.specs.declared.layout_version.LayoutVersion.TheVariants.{VersionTwo}
 use Rattle.thy_base.specs.Device.{Device, newest}
+use Rattle.thy_base.specs.Places.{header_place}
 use Rattle.thy_crash.specs.Saved.{Kept}
 use Rattle.thy_isa.specs.declared.state.CpuState.{CpuState}
 use Rattle.thy_isa.specs.OnBlocks.{state_from}
@@ -36,7 +37,7 @@ use Rattle.thy_recover.specs.Start.{no_tables}
 -- checkpoint's record can hold the processor
 pub record LoadsState (o : Origin) (m : Mark) (cpu : CpuState) (n : Device) (c : State) : Type 0 where
   pub booting : IsBooting c
-  pub header : header_fault scheme_number (newest n 0) o.geometry true ≡ None
+  pub header : header_fault scheme_number (newest n header_place) o.geometry true ≡ None
   pub holds : HoldAll c n
   pub state : state_from o.geometry cpu (loads c n) ≡ at o m.count
   pub counted : (at o m.count).count ≡ m.count

@@ -4,10 +4,10 @@ use Rattle.std.specs.Prelude.{◌≡◌, ℕ, ◌+◌, ◌*◌, ◌/◌, ◌%◌
 use Rattle.std.specs.List.{range_with_len}
 use Rattle.thy_base.specs.declared.block.Block.{Block}
 use Rattle.thy_base.specs.declared.config.Parameters.{Parameters}
-use Rattle.thy_base.specs.declared.place.Place.TheVariants.{AlternatePage, Frame}
+use Rattle.thy_places.specs.declared.place.Place.TheVariants.{AlternatePage, Frame}
 use Rattle.thy_base.specs.Device.{Device}
 use Rattle.thy_base.specs.Geometry.{memory_blocks}
-use Rattle.thy_base.specs.Places.{number_of}
+use Rattle.thy_places.specs.Places.{number_of}
 use Rattle.thy_dram.specs.Contents.{written}
 use Rattle.thy_layout.specs.Commit.{version_of}
 use Rattle.thy_record.specs.Number.{scheme_number}

@@ -1,23 +1,19 @@
 //! The counts of a slot, given to the controller.
 ghost use Rattle.std.specs.Prelude.{◌≡◌, ◌*◌, length, replicate, None};
-ghost use Rattle.thy_base.specs.declared.layout_version.LayoutVersion.TheVariants.{VersionTwo};
-ghost use Rattle.thy_base.specs.Places.{blocks_of_slot};
+ghost use Rattle.thy_layout.specs.declared.layout_version.LayoutVersion.TheVariants.{VersionTwo};
+ghost use Rattle.thy_record.specs.VersionSlots.{blocks_of_slot};
 ghost use Rattle.thy_control.specs.Boot.{IsBooting};
 ghost use Rattle.thy_layout.specs.Files.{blocks_of};
 ghost use Rattle.thy_record.specs.Slots.{counts_in, count_fault};
 ghost use Rattle.thy_recover.specs.Listed.{with_lasts};
 
-use thy_base::{Geometry, LayoutVersion};
+use thy_base::Geometry;
 use thy_control::Control;
+use thy_layout::LayoutVersion;
 use thy_record::listed_count;
 
 /// Sets the counts that a slot of a version has as those of the epoch before. Version 1 has none: they stay 0.
-pub fn list_counts(
-    slot: &[u8],
-    version: LayoutVersion,
-    geometry: &Geometry,
-    control: &mut Control,
-)
+pub fn list_counts(slot: &[u8], version: LayoutVersion, geometry: &Geometry, control: &mut Control)
     requires slot { length slot.now ≡ 64 * blocks_of_slot version geometry.now }
     requires geometry { control.old.p ≡ geometry.now }
     requires booting { IsBooting control.old }

@@ -1,7 +1,7 @@
 //! A position, filled: a block of a listed page, copied into its frame.
 ghost use Rattle.std.specs.Prelude.{◌≡◌, false, length, OnOk, OnErr};
 ghost use Rattle.thy_base.specs.Device.{newest};
-ghost use Rattle.thy_base.specs.Places.{image_blocks};
+ghost use Rattle.thy_places.specs.Places.{image_blocks};
 ghost use Rattle.thy_boot.specs.Filling.{IsNext};
 ghost use Rattle.thy_boot.specs.Loads.{Takes};
 ghost use Rattle.thy_recover.specs.Filling.{page_place, with_filled, filling_dual};

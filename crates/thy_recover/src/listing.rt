@@ -1,6 +1,7 @@
 //! What a slot lists, given to the controller, and which positions have to be filled.
 ghost use Rattle.std.specs.Prelude.{◌≡◌, ◌+◌, ◌*◌, ◌<◌, ◌≤◌, is_some, length, None};
-ghost use Rattle.thy_base.specs.Places.{record_blocks, table_blocks};
+ghost use Rattle.thy_base.specs.Places.{record_blocks};
+ghost use Rattle.thy_places.specs.Places.{table_blocks};
 ghost use Rattle.thy_boot.specs.Filling.{ListsOn};
 ghost use Rattle.thy_layout.specs.Files.{blocks_of};
 ghost use Rattle.thy_record.specs.DualLayouts.{dual_layouts};

@@ -12,6 +12,7 @@ ghost use Rattle.thy_recover.specs.Start.{start_slot};
 use thy_base::{Block, Geometry, block_with};
 use thy_isa::MachState;
 use thy_layout::cpu_block;
+use thy_places::home;
 
 /// The place that block `b` of a start's memory is written to: its home.
 pub fn first_place(geometry: &Geometry, state: &MachState, b: u64) -> u64
@@ -20,7 +21,7 @@ pub fn first_place(geometry: &Geometry, state: &MachState, b: u64) -> u64
     ensures { result ≡ slice_index_or (first_by filling_dual geometry.now (state_of state.now)).parts.memory b 0 }
 {
     let _state = state;
-    geometry.home(b)
+    home(geometry, b)
 }
 
 /// Block `k` of a start's slot: the processor's record at epoch 0, and behind it tables that list nothing and counts of 0.

@@ -1,11 +1,12 @@
 -- Part of the claim.
 -- What the boot fills: the log, with the checkpoint that an image has in a journal. A position is an entry of the table.
-use Rattle.std.specs.Prelude.{◌≡◌, ℕ, ◌%◌, ◌<◌, List, replicate, is_some, Option, None}
+use Rattle.std.specs.Prelude.{◌≡◌, ℕ, ◌<◌, List, replicate, is_some, Option, None}
 use Rattle.thy_base.specs.declared.block.Block.{Block}
 use Rattle.thy_base.specs.declared.config.Parameters.{Parameters}
 use Rattle.thy_base.specs.Device.{Device, block_at, newest}
+use Rattle.thy_base.specs.Places.{commit_place}
 use Rattle.thy_isa.specs.Step.{cpu_of}
-use Rattle.thy_layout.specs.Commit.{epoch_of}
+use Rattle.thy_layout.specs.Commit.{epoch_of, slot_of_epoch}
 use Rattle.thy_layout.specs.Entries.{Lists}
 use Rattle.thy_table.specs.Listing.{entry_at, first_from}
 use Rattle.thy_boot.specs.Filling.{FillingOf}
@@ -29,12 +30,12 @@ pub record HasListed (slot : List Block) (s : State) : Type 0 where
 
 -- the slot that the commit block of an image names
 abbrev pub slot_named : Block → ℕ
-slot_named commit = epoch_of commit % 2
+slot_named commit = slot_of_epoch (epoch_of commit)
 
 -- the buffers of the live entries below one hold what the journal of the image's slot holds for them
 pub record AreFilled (s : State) (n : Device) (from : ℕ) : Type 0 where
   pub each : (i b : ℕ) → i < from → Lists (table_of s) i b
-      → buffer_of s i ≡ newest n (journal_place s.p (slot_named (block_at n.image 1)) i)
+      → buffer_of s i ≡ newest n (journal_place s.p (slot_named (block_at n.image commit_place)) i)
 
 -- the first entry from one on that lists a block
 abbrev pub next_entry : Parameters → List Block → ℕ → Option ℕ

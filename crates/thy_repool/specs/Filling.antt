@@ -3,6 +3,7 @@
 use Rattle.std.specs.Prelude.{◌≡◌, ℕ, List, Option, Some, None}
 use Rattle.thy_base.specs.declared.block.Block.{Block}
 use Rattle.thy_base.specs.declared.config.Parameters.{Parameters}
+use Rattle.thy_base.specs.Places.{header_place}
 use Rattle.thy_isa.specs.Step.{cpu_of}
 use Rattle.thy_table.specs.Listing.{entry_at}
 use Rattle.thy_boot.specs.Filling.{FillingOf}
@@ -45,7 +46,7 @@ filling_shadow = record {
   whole = λ s n. Unit {0};
   next_fill = λ p commit slot from. None;
   most_fills = λ p. 0;
-  fill_place = λ s commit k. 0;
+  fill_place = λ s commit k. header_place;
   with_fill = λ commit k block s. s;
   keeps = λ s t. t.dram.room ≡ s.dram.room;
   loads = works;

@@ -1,10 +1,11 @@
 //! What the boot lists.
 ghost use Rattle.std.specs.Prelude.{◌≡◌, false, length, OnOk, OnErr};
+ghost use Rattle.thy_base.specs.Places.{header_place};
 ghost use Rattle.thy_view.specs.Action.{ReadAt};
 ghost use Rattle.thy_boot.specs.Loads.{Takes};
 ghost use Rattle.thy_shadow_image.specs.Places.{image_blocks};
 
-use thy_base::{Block, Geometry, Nvm, NvmError};
+use thy_base::{Block, Geometry, HEADER_PLACE, Nvm, NvmError};
 use thy_boot::Fills;
 use thy_isa::MachState;
 use thy_pool::Pool;
@@ -46,10 +47,10 @@ impl Fills for Relist {
         requires up { (N.device nvm.old).down ≡ false }
         ensures ok { OnOk result (control.new ≡ control.old) }
         ensures err { OnErr result (control.new ≡ control.old) }
-        ensures nvm { Takes (ReadAt 0) result (N.device nvm.old) (N.device nvm.new) }
+        ensures nvm { Takes (ReadAt header_place) result (N.device nvm.old) (N.device nvm.new) }
         ensures same_writes { N.writes nvm.new ≡ N.writes nvm.old }
     {
-        nvm.read(0)?;
+        nvm.read(HEADER_PLACE)?;
         Ok(())
     }
 

@@ -1,9 +1,11 @@
 -- Which writes leave a checkpoint of shadow paging alone.
-use Rattle.std.specs.Prelude.{◌≢◌, ℕ, ◌+◌, ◌%◌, ◌<◌, List, ◌∷◌, Contains, Option}
+use Rattle.std.specs.Prelude.{◌≢◌, ℕ, ◌+◌, ◌<◌, List, ◌∷◌, Contains, Option}
 use Rattle.thy_base.specs.declared.block.Block.{Block}
 use Rattle.thy_base.specs.declared.config.Parameters.{Parameters}
+use Rattle.thy_base.specs.Places.{commit_place}
 use Rattle.thy_layout.specs.Entries.{Lists}
 use Rattle.thy_layout.specs.Layout.{looked_by}
+use Rattle.thy_layout.specs.Commit.{slot_of_epoch}
 use Rattle.thy_shadow_image.specs.Places.{slot_blocks, slot_place, pool_pages, pool_place}
 use Rattle.thy_shadow_image.specs.Layout.{shadow_layouts}
 use Rattle.thy_shadow_image.specs.CheckpointParts.{IsToldBy}
@@ -26,7 +28,7 @@ IsTarget p (PoolBlock q c) = (q < pool_pages p) × (c < 64)
 -- the checkpoint of an epoch with this map has nothing there: another slot, or a page of the pool that the map does
 -- not list
 abbrev pub IsFree : ℕ → List (Option ℕ) → Target → Type 0
-IsFree epoch table (SlotBlock s k) = s ≢ epoch % 2
+IsFree epoch table (SlotBlock s k) = s ≢ slot_of_epoch epoch
 IsFree epoch table (PoolBlock q c) = (x : ℕ) → Lists table x q → ⊥
 
 -- it is none of the blocks that tell what the image of that checkpoint means
@@ -34,4 +36,4 @@ abbrev pub FreeIsNotLooked : Type 0
 FreeIsNotLooked =
     (p : Parameters) (image : List Block) (epoch : ℕ) (table : List (Option ℕ)) (x : Target)
     → IsToldBy p image epoch table → IsTarget p x → IsFree epoch table x
-    → ¬ Contains (1 ∷ looked_by (shadow_layouts p) image) (target_place p x)
+    → ¬ Contains (commit_place ∷ looked_by (shadow_layouts p) image) (target_place p x)

@@ -3,8 +3,8 @@ use crate::index::places;
 use crate::places::{SCHEME, blocks, slot as first_of_slot, slot_blocks};
 use crate::slot_faults::slot_fault;
 use std::alloc::{AllocError, Global};
-use thy_base::{Block, Geometry, word};
-use thy_layout::{BadImage, ImageLayout};
+use thy_base::{Block, Geometry};
+use thy_layout::{BadImage, ImageLayout, epoch_in, slot_of_epoch};
 
 /// Images of shadow paging: a slot has a map, which lists the page of the pool that has each page of memory.
 #[derive(Drop)]
@@ -32,7 +32,7 @@ impl ImageLayout for ShadowImages {
     }
 
     fn slot_place(geometry: &Geometry, commit: &Block) -> u64 {
-        first_of_slot(geometry, word(commit, 1) % 2)
+        first_of_slot(geometry, slot_of_epoch(epoch_in(commit)))
     }
 
     fn slot_blocks(geometry: &Geometry, commit: &Block) -> u64 {
@@ -45,7 +45,7 @@ impl ImageLayout for ShadowImages {
         slot: &[u8],
         ceiling: u64,
     ) -> Option<BadImage> {
-        slot_fault(slot, word(commit, 1), geometry, ceiling)
+        slot_fault(slot, epoch_in(commit), geometry, ceiling)
     }
 
     fn memory_places(

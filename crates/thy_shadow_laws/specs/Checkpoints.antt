@@ -1,8 +1,9 @@
 -- A run's checkpoints on the NVM, by the stage of the engine.
-use Rattle.std.specs.Prelude.{◌≡◌, ◌≢◌, ℕ, ◌+◌, ◌*◌, ◌%◌, ◌<◌, Bool, true, false, is_some, List, Option, Some, None}
+use Rattle.std.specs.Prelude.{◌≡◌, ◌≢◌, ℕ, ◌+◌, ◌*◌, ◌<◌, Bool, true, false, is_some, List, Option, Some, None}
 use Rattle.thy_base.specs.declared.block.Block.{Block}
 use Rattle.thy_base.specs.declared.mark.Mark.{Mark}
 use Rattle.thy_base.specs.Device.{Device, block_at, newest}
+use Rattle.thy_base.specs.Places.{commit_place}
 use Rattle.thy_crash.specs.Fixed.{Reads}
 use Rattle.thy_crash.specs.Saved.{Saved, Kept, Ready, InDoubt, next_image}
 use Rattle.thy_isa.specs.OnBlocks.{state_from}
@@ -11,7 +12,7 @@ use Rattle.thy_table.specs.Listing.{entry_at}
 use Rattle.thy_view.specs.Origin.{Origin, at}
 use Rattle.thy_view.specs.Safe.{ceiling}
 use Rattle.thy_protocol.specs.Moves.{Standing, standing}
-use Rattle.thy_layout.specs.Commit.{commit_of}
+use Rattle.thy_layout.specs.Commit.{commit_of, slot_of_epoch}
 use Rattle.thy_shadow_image.specs.Places.{slot_blocks}
 use Rattle.thy_shadow_image.specs.CheckpointParts.{IsIssuing, IsToldBy}
 use Rattle.thy_pool.specs.declared.stage.PoolStage.{PoolStage}
@@ -59,7 +60,7 @@ checkpoints_after i e m c = c
 pub record IsKeptBy (o : Origin) (e : Progress) (s : State) (before : List Block) : Type 0 where
   pub epoch : ℕ
   pub told : IsToldBy o.geometry before epoch (committed_table s)
-  pub other_slot : is_under_way e.next ≡ true → e.epoch % 2 ≢ epoch % 2
+  pub other_slot : is_under_way e.next ≡ true → slot_of_epoch e.epoch ≢ slot_of_epoch epoch
 
 -- the checkpoint that is made is that of the sealed mark, with the pool's next map; meanwhile no frame is begun
 pub record IsMadeFor (o : Origin) (e : Progress) (s : State) (n : Device) (c : Checkpoints) : Type 0 where
@@ -70,7 +71,7 @@ pub record IsMadeFor (o : Origin) (e : Progress) (s : State) (n : Device) (c : C
   pub recordable : IsRecordable o.geometry ceiling e.cpu
   pub state_is : state_from o.geometry e.cpu (works s n) ≡ at o mark.count
   pub counted : (at o mark.count).count ≡ mark.count
-  pub commit : is_settled e.next ≡ true → block_at c.next 1 ≡ commit_of e.epoch
+  pub commit : is_settled e.next ≡ true → block_at c.next commit_place ≡ commit_of e.epoch
   pub told : is_settled e.next ≡ true → IsToldBy o.geometry c.next e.epoch (next_table s)
   pub unbegun : s.begun ≡ None
 
@@ -91,7 +92,7 @@ HasWrittenBefore (Pages x) e s n = ArePaged s n x
 HasWrittenBefore (Slot k) e s n = HasWrittenSlot e s n k
 HasWrittenBefore Settle e s n = HasWrittenSlot e s n (slot_blocks e.p)
 HasWrittenBefore Commit e s n = HasWrittenSlot e s n (slot_blocks e.p)
-HasWrittenBefore Confirm e s n = HasWrittenSlot e s n (slot_blocks e.p) × Reads n 1 (commit_of e.epoch)
+HasWrittenBefore Confirm e s n = HasWrittenSlot e s n (slot_blocks e.p) × Reads n commit_place (commit_of e.epoch)
 
 abbrev pub HasWritten : Progress → State → Device → Type 0
 HasWritten e s n = HasWrittenBefore e.next e s n

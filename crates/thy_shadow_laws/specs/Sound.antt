@@ -2,6 +2,7 @@
 use Rattle.std.specs.Prelude.{◌≡◌, true, false, is_some, length, Some, None}
 use Rattle.thy_base.specs.declared.mark.Mark.{Mark}
 use Rattle.thy_base.specs.Device.{Device, newest}
+use Rattle.thy_base.specs.Places.{header_place}
 use Rattle.thy_isa.specs.declared.state.CpuState.{CpuState}
 use Rattle.thy_isa.specs.OnBlocks.{state_from}
 use Rattle.thy_table.specs.Listing.{free_count}
@@ -48,7 +49,7 @@ pub record IsSoundShadow (o : Origin) (k : CheckpointMarks) (s : Shadow) (n : De
   -- a mark is sealed exactly while its checkpoint is made
   pub way : is_under_way s.engine.next ≡ is_some k.sealed
   pub doubt : k.written ≡ is_confirming s.engine.next
-  pub header : header_fault scheme_number (newest n 0) o.geometry true ≡ None
+  pub header : header_fault scheme_number (newest n header_place) o.geometry true ≡ None
   pub committed : HasState o k.done s.pool n
   -- what was copied into a frame that is begun is what the NVM has
   pub copies : copies_agree s.pool n ≡ true

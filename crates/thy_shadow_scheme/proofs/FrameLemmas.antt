@@ -6,9 +6,8 @@ use Rattle.std.proofs.lemmas.List.{length-set, get_or-set_same, get_or-set_other
 use Rattle.std.proofs.lemmas.List.FromFn.{length-map-range_with_len, get_or-map-range_with_len}
 use Rattle.thy_base.specs.declared.block.Block.{Block}
 use Rattle.thy_base.specs.declared.config.Parameters.{Parameters}
-use Rattle.thy_base.specs.declared.place.Place.TheVariants.{Frame}
 use Rattle.thy_base.specs.Device.{zero_block, block_at}
-use Rattle.thy_base.specs.Places.{number_of}
+use Rattle.thy_base.specs.Places.{frame_place}
 use Rattle.thy_table.specs.Listing.{entry_at, free_place, free_count}
 use Rattle.thy_table.proofs.IndexLemmas.{lists-inside, some-counted}
 use Rattle.thy_table.proofs.ListingLaws.{place_of-lists}
@@ -45,17 +44,17 @@ map_set size f g b block small here there =
 -- ---- blocks of frames
 
 -- blocks of two frames, or two blocks of one, have two numbers
-pub apart_frame : (p : Parameters) (i j c d : ℕ) → c < 64 → d < 64 → i ≢ j → number_of p (Frame i c) ≢ number_of p (Frame j d)
+pub apart_frame : (p : Parameters) (i j c d : ℕ) → c < 64 → d < 64 → i ≢ j → frame_place p i c ≢ frame_place p j d
 apart_frame p i j c d l k other = λ e. other (omega (arith, e, l, k))
 
-pub apart_block : (p : Parameters) (i j c d : ℕ) → c < 64 → d < 64 → c ≢ d → number_of p (Frame i c) ≢ number_of p (Frame j d)
+pub apart_block : (p : Parameters) (i j c d : ℕ) → c < 64 → d < 64 → c ≢ d → frame_place p i c ≢ frame_place p j d
 apart_block p i j c d l k other = λ e. other (omega (arith, e, l, k))
 
 module _ (s : State) (sound : IsSoundState s) where
   -- a block that is put into a frame is there
   pub put_here : (j c : ℕ) (block : Block) → j < s.p.ptt → c < 64 → frame_block (put_into j c block s) j c ≡ block
   put_here j c block l k =
-      get_or-set_same s.dram.blocks (number_of s.p (Frame j c)) block zero_block (let size = sound.dram_size in omega (arith, size, l, k))
+      get_or-set_same s.dram.blocks (frame_place s.p j c) block zero_block (let size = sound.dram_size in omega (arith, size, l, k))
 
   -- a frame that has a page is there, and has one
   pub frame_inside : (x j : ℕ) → frame_of s x ≡ Some j → j < s.p.ptt
@@ -72,10 +71,10 @@ one_page s x y i j a b same =
     sym (ap page_by (frame_has s x i a)) ∙ ap (λ (k : ℕ). page_by (entry_at s.frames k)) same ∙ ap page_by (frame_has s y j b)
 
 -- every other block of a frame is as before
-pub put_there : (s : State) (j c : ℕ) (block : Block) (i d : ℕ) → number_of s.p (Frame i d) ≢ number_of s.p (Frame j c)
+pub put_there : (s : State) (j c : ℕ) (block : Block) (i d : ℕ) → frame_place s.p i d ≢ frame_place s.p j c
     → frame_block (put_into j c block s) i d ≡ frame_block s i d
 put_there s j c block i d other =
-    get_or-set_other s.dram.blocks (number_of s.p (Frame j c)) (number_of s.p (Frame i d)) block zero_block other
+    get_or-set_other s.dram.blocks (frame_place s.p j c) (frame_place s.p i d) block zero_block other
 
 -- ---- the lowest free frame
 

@@ -7,11 +7,10 @@ use Rattle.std.proofs.lemmas.List.FromFn.{length-map-range_with_len, get_or-map-
 use Rattle.std.proofs.lemmas.List.Sums.{sum_by-set}
 use Rattle.thy_base.specs.declared.block.Block.{Block}
 use Rattle.thy_base.specs.declared.config.Parameters.{Parameters}
-use Rattle.thy_base.specs.declared.place.Place.TheVariants.{Frame}
 use Rattle.thy_base.specs.declared.store.Stored.TheVariants.{Done}
 use Rattle.thy_base.specs.Device.{Device, zero_block, block_at, newest, HasFailed, IsFramed}
 use Rattle.thy_base.specs.Geometry.{memory_blocks}
-use Rattle.thy_base.specs.Places.{number_of}
+use Rattle.thy_base.specs.Places.{frame_place}
 use Rattle.thy_base.specs.Store.{page_of, IsOpenFor}
 use Rattle.thy_dram.specs.Contents.{written}
 use Rattle.thy_layout.proofs.AskingLemmas.{map-alike}
@@ -87,7 +86,7 @@ module _ (b : ℕ) (block : Block) (s : State) (n : Device) (sound : IsSoundStat
     into_there : (a : ℕ) (o : Option ℕ) → frame_of s (page_of a) ≡ o → a ≢ b → work_by into n a o ≡ work_by s n a o
     into_there a None is other = refl
     into_there a (Some i) is other = put_there s j c block i (a % 64)
-        (elim (cases_eq i j) as (λ _. number_of s.p (Frame i (a % 64)) ≢ number_of s.p (Frame j c)) [
+        (elim (cases_eq i j) as (λ _. frame_place s.p i (a % 64) ≢ frame_place s.p j c) [
           | inl same ↦ apart_block s.p i j (a % 64) c (omega arith) block_small
               (other_block a other (one_page s (page_of a) x i j is found same))
           | inr apart ↦ apart_frame s.p i j (a % 64) c (omega arith) block_small apart
@@ -131,8 +130,8 @@ module _ (b : ℕ) (block : Block) (s : State) (n : Device) (sound : IsSoundStat
 
     pub sound_into : IsSoundState into
     sound_into =
-        IsSoundState-dram s (written s.dram (number_of s.p (Frame j c)) block) sound
-        (length-set s.dram.blocks (number_of s.p (Frame j c)) block)
+        IsSoundState-dram s (written s.dram (frame_place s.p j c) block) sound
+        (length-set s.dram.blocks (frame_place s.p j c) block)
 
   -- ---- into no frame, since its page has none
 
@@ -197,8 +196,8 @@ module _ (b : ℕ) (block : Block) (s : State) (n : Device) (sound : IsSoundStat
       pub sound_copied : IsSoundState copied
       sound_copied =
           let put : IsSoundState (put_into j k copy s)
-          = IsSoundState-dram s (written s.dram (number_of s.p (Frame j k)) copy) sound
-          (length-set s.dram.blocks (number_of s.p (Frame j k)) copy) in
+          = IsSoundState-dram s (written s.dram (frame_place s.p j k) copy) sound
+          (length-set s.dram.blocks (frame_place s.p j k) copy) in
           IsSoundState-begun (put_into j k copy s) (begun_for x (k + 1)) put
           (record { page = page_small; unframed = unframed; few = omega (arith, few); room = room })
 
@@ -308,8 +307,8 @@ module _ (b : ℕ) (block : Block) (s : State) (n : Device) (sound : IsSoundStat
 
       pub sound_put : IsSoundState put
       sound_put =
-          IsSoundState-dram full (written s.dram (number_of s.p (Frame j c)) block) full_sound
-          (length-set s.dram.blocks (number_of s.p (Frame j c)) block)
+          IsSoundState-dram full (written s.dram (frame_place s.p j c) block) full_sound
+          (length-set s.dram.blocks (frame_place s.p j c) block)
 
       -- one frame less is free
       pub free_full : free_count frames + 1 ≡ free_count s.frames
@@ -385,9 +384,9 @@ module _ (b : ℕ) (block : Block) (s : Value) (n : Device) (sound : IsSoundStat
       access = tt;
       succeeds = λ up. record {
         left = refl;
-        dram = inr (record { at = number_of l.p (Frame j (b % 64)); block = block; left = refl; nvm = refl });
+        dram = inr (record { at = frame_place l.p j (b % 64); block = block; left = refl; nvm = refl });
         queue = omega arith;
-        copies = λ fewer. inr (record { at = number_of l.p (Frame j (b % 64)); block = block; left = refl; nvm = refl });
+        copies = λ fewer. inr (record { at = frame_place l.p j (b % 64); block = block; left = refl; nvm = refl });
       };
       fails = λ down. let no : false ≡ true = sym parts.1 ∙ down in absurd cc;
       frame = framed_same n;
@@ -431,9 +430,9 @@ module _ (b : ℕ) (block : Block) (s : Value) (n : Device) (sound : IsSoundStat
           access = tt;
           succeeds = λ up. record {
             left = refl;
-            dram = inr (record { at = number_of l.p (Frame j k); block = new; left = refl; nvm = refl });
+            dram = inr (record { at = frame_place l.p j k; block = new; left = refl; nvm = refl });
             queue = omega arith;
-            copies = λ fewer. inr (record { at = number_of l.p (Frame j k); block = new; left = refl; nvm = refl });
+            copies = λ fewer. inr (record { at = frame_place l.p j k; block = new; left = refl; nvm = refl });
           };
           fails = λ down. let no : false ≡ true = sym parts.1 ∙ down in absurd cc;
           frame = framed_same n;
@@ -489,9 +488,9 @@ module _ (b : ℕ) (block : Block) (s : Value) (n : Device) (sound : IsSoundStat
         access = tt;
         succeeds = λ up. record {
           left = refl;
-          dram = inr (record { at = number_of l.p (Frame j (b % 64)); block = block; left = refl; nvm = refl });
+          dram = inr (record { at = frame_place l.p j (b % 64); block = block; left = refl; nvm = refl });
           queue = omega arith;
-          copies = λ fewer. inr (record { at = number_of l.p (Frame j (b % 64)); block = block; left = refl; nvm = refl });
+          copies = λ fewer. inr (record { at = frame_place l.p j (b % 64); block = block; left = refl; nvm = refl });
         };
         fails = λ down. let no : false ≡ true = sym parts.1 ∙ down in absurd cc;
         frame = framed_same n;

@@ -8,6 +8,7 @@ use Rattle.thy_view.specs.declared.did.Did.{Did}
 use Rattle.thy_view.specs.declared.did.Did.TheVariants.{Boot, Loaded, Restarted, Refused, Moved, Flushed, Promoted, Engine, Committed, NvmDrained}
 use Rattle.thy_view.specs.declared.view.View.{View}
 use Rattle.thy_base.specs.Device.{Device, written_to, settled, drained, HasFailed, HasFailedToWrite}
+use Rattle.thy_base.specs.Places.{commit_place}
 
 pub data Action : Type 0 where
   -- nothing
@@ -35,7 +36,7 @@ FailsTo action old new = HasFailed old new
 abbrev pub IsAccess : Action → Type 0
 IsAccess Barrier = ⊥
 IsAccess Drain = ⊥
-IsAccess (WriteAt place block) = place ≢ 1
+IsAccess (WriteAt place block) = place ≢ commit_place
 IsAccess action = Unit {0}
 
 -- it leaves the device as it is, or reads it
@@ -61,7 +62,7 @@ AsksBy migrates NvmDrained action = action ≡ Drain
 AsksBy migrates Loaded action = action ≡ Barrier
 AsksBy migrates (Committed epoch overlapped) action = action ≡ Barrier
 AsksBy migrates (Engine EngineBarrier) action = action ≡ Barrier
-AsksBy migrates (Engine CommitWritten) action = (block : Block) × (action ≡ WriteAt 1 block)
+AsksBy migrates (Engine CommitWritten) action = (block : Block) × (action ≡ WriteAt commit_place block)
 AsksBy migrates (Engine step) action = IsAccess action
 AsksBy migrates Moved action = IsAccess action
 AsksBy migrates Flushed action = IsAccess action
@@ -95,7 +96,7 @@ ActionFailed did n new = ActionFailedBy false did n new
 
 -- it writes the commit block
 abbrev pub is_commit_write : Action → Bool
-is_commit_write (WriteAt place block) = place == 1
+is_commit_write (WriteAt place block) = place == commit_place
 is_commit_write action = false
 
 -- The mark that a cut may leave instead of the one done, after an action that failed: the sealed one, if the action

@@ -3,8 +3,9 @@
 ghost use Rattle.std.specs.Prelude.{◌≡◌, ◌<◌, false, OnOk};
 
 use super::Control;
-use thy_base::{Nvm, NvmError, Place};
+use thy_base::{Nvm, NvmError};
 use thy_cell::{a_frame_is_loaded, listed_cells_are_sound};
+use thy_places::{Place, number};
 use thy_table::{BttEntry, PttEntry};
 
 impl Control {
@@ -109,7 +110,7 @@ impl Control {
         let from = Place::AlternatePage { entry: j, block: k };
         let to = Place::Frame { entry: j, block: k };
         let block = self.read(from, nvm)?;
-        self.dram.write(self.geometry.number(to), &block);
+        self.dram.write(number(&self.geometry, to), &block);
         Ok(())
     }
 }

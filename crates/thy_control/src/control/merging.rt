@@ -9,6 +9,7 @@ use super::Control;
 use crate::cursors::goes_on;
 use crate::seal::block_is_framed;
 use thy_cell::{a_dirty_page_keeps_others, a_merge_keeps_versions};
+use thy_places::number;
 use thy_table::{BttEntry, Ptt, PttEntry, Test, Working};
 
 /// A buffer lies over the frame of its block's page, by this page table.
@@ -95,8 +96,9 @@ impl Control {
         a_dirty_page_keeps_others();
         self.tables();
         let cell = self.cell(b);
-        let block = self.dram.read(self.geometry.number(cell.buffer()));
-        self.dram.write(self.geometry.number(cell.frame()), &block);
+        let block = self.dram.read(number(&self.geometry, cell.buffer()));
+        self.dram
+            .write(number(&self.geometry, cell.frame()), &block);
         self.btt.clear(cell.i);
         self.ptt.set(
             cell.j,

@@ -1,13 +1,14 @@
 //! The move of a block from one place to another.
 ghost use Rattle.std.specs.Prelude.{◌≡◌, true, false, OnOk, OnErr};
 ghost use Rattle.thy_base.specs.Device.{HasFailed, IsFramed, CountsFault};
-ghost use Rattle.thy_base.specs.Places.{in_dram, IsPlace};
+ghost use Rattle.thy_places.specs.Places.{in_dram, IsPlace};
 ghost use Rattle.thy_place.specs.Devices.{AreSized, devices_of};
 ghost use Rattle.thy_control.specs.Moves.{moved, FailsMove};
 
-use thy_base::{Geometry, Nvm, NvmError, Place};
+use thy_base::{Geometry, Nvm, NvmError};
 use thy_dram::Dram;
 use thy_place::{read_place, write_place};
+use thy_places::{Place, number};
 
 /// Reads the block at one place, and writes it at another. If the read or the write failed, the DRAM is as before.
 pub(super) fn move_block<N: Nvm>(
@@ -57,6 +58,6 @@ pub(super) fn move_to_dram<N: Nvm>(
     ensures same_writes { N.writes nvm.new ≡ N.writes nvm.old }
 {
     let block = read_place(from, geometry, nvm, dram)?;
-    dram.write(geometry.number(to), &block);
+    dram.write(number(geometry, to), &block);
     Ok(())
 }

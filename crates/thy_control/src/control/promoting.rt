@@ -1,7 +1,7 @@
 //! The pages that are being promoted.
 ghost use Rattle.std.specs.Prelude.{◌≡◌, ◌+◌, ◌<◌, ◌*◌, ◌^◌, ◌%◌, true, false, if◌then◌else◌, length, is_some, IfOk, IfSome, OnOk, OnErr};
 ghost use Rattle.thy_base.specs.Geometry.{memory_blocks};
-ghost use Rattle.thy_base.specs.Places.{in_dram};
+ghost use Rattle.thy_places.specs.Places.{in_dram};
 ghost use Rattle.thy_cell.specs.Cells.{work as work_place};
 ghost use Rattle.thy_table.specs.PageEntry.{is_framed as IsFramedPage};
 ghost use Rattle.thy_control.specs.Pages.{page_in, block_after};

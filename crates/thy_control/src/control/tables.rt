@@ -3,12 +3,13 @@ ghost use Rattle.std.specs.Prelude.{◌≡◌, ◌+◌, ◌-◌, ◌<◌, ◌≤
 ghost use Rattle.thy_record.specs.TableBlocks.{table_block_of};
 ghost use Rattle.thy_layout.specs.Entries.{entry_at as listed_at};
 ghost use Rattle.thy_switch.specs.LastBlocks.{last_block_of};
-ghost use Rattle.thy_base.specs.Places.{table_blocks, count_blocks};
+ghost use Rattle.thy_places.specs.Places.{table_blocks, count_blocks};
 ghost use Rattle.thy_control.specs.TableBlocks.{block_due, page_due};
 
 use super::Control;
 use thy_base::Block;
 use thy_layout::table_block;
+use thy_places::table_blocks as blocks_of_tables;
 use thy_table::{Btt, BttEntry, Ptt, PttEntry, Site, Version};
 
 /// The block that the checkpoint under way lists at an entry.
@@ -75,7 +76,7 @@ impl Control {
     fn table_blocks(&self) -> u64
         ensures { result ≡ table_blocks self.now.p }
     {
-        self.geometry.table_blocks()
+        blocks_of_tables(&self.geometry)
     }
 
     /// Block `k` of the tables.

@@ -1,7 +1,7 @@
 //! A controller of the least memory with its engine, and the NVM below both. Each call tests what it requires, and stops
 //! the test if that does not hold.
 ghost use Rattle.std.specs.Prelude.{◌≡◌, ◌<◌, length, false};
-ghost use Rattle.thy_base.specs.Places.{image_blocks};
+ghost use Rattle.thy_places.specs.Places.{image_blocks};
 ghost use Rattle.thy_control_tests.specs.Driven.{Drives};
 ghost use Rattle.thy_control_tests.specs.Memory.{HasRoom};
 
@@ -15,8 +15,9 @@ use thy_commit::{Engine, engine_and_controller_fit};
 use thy_control::Control;
 use thy_dram::Dram;
 use thy_isa::{CpuState, Regs, Status};
-use thy_nvm::MemNvm;
 use thy_layout::{EngineStep, Found};
+use thy_nvm::MemNvm;
+use thy_places::blocks;
 use thy_record::{check, header_block, state};
 
 /// The controller, its engine and the NVM.
@@ -67,7 +68,7 @@ fn with_header(rt: &impl Abort, alloc: Global, geometry: &Geometry, cuts: u64) -
     ensures room { HasRoom result.device cuts }
 {
     let shape = Shape {
-        blocks: geometry.blocks(),
+        blocks: blocks(geometry),
         queue: 4,
         cuts,
     };
@@ -237,7 +238,7 @@ impl Memory {
     /// The bytes of the NVM.
     fn image(&mut self, rt: &impl Abort, alloc: Global) -> Vec<u8> {
         let mut image = Vec::new(alloc);
-        for at in 0..self.geometry.blocks() {
+        for at in 0..blocks(&self.geometry) {
             let block = self.read(rt, at);
             image.extend_from_slice(&block.0).expect(rt, "memory");
         }
@@ -246,7 +247,7 @@ impl Memory {
 
     /// A block of the NVM.
     fn read(&mut self, rt: &impl Abort, at: u64) -> Block {
-        let blocks = self.geometry.blocks();
+        let blocks = blocks(&self.geometry);
         assert!(rt; at < blocks);
         self.nvm.read(at).expect(rt, "a read")
     }

@@ -18,9 +18,10 @@ use thy_base::{Geometry, Nvm, Shape};
 use thy_boot::{Boot, Issue, Stage, a_boot_may_go_on};
 use thy_control::Control;
 use thy_dram::Dram;
+use thy_layout::Start;
 use thy_migrate::DualFills;
 use thy_nvm::MemNvm;
-use thy_layout::Start;
+use thy_places::blocks;
 use thy_view::BootStep;
 
 /// A machine whose power is off: both devices, and how many cuts are to come at most.
@@ -73,7 +74,7 @@ impl Off {
     pub(crate) fn new(rt: &impl Abort, alloc: Global, geometry: Geometry, cuts: u64) -> Off {
         has_least_memory(rt, &geometry);
         let shape = Shape {
-            blocks: geometry.blocks(),
+            blocks: blocks(&geometry),
             queue: 4,
             cuts,
         };

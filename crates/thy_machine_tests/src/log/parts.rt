@@ -20,9 +20,9 @@ use thy_dram::Dram;
 use thy_isa::{CpuState, Regs, Status};
 use thy_journal::Refill;
 use thy_journal_image::blocks;
+use thy_layout::{EngineStep, Start};
 use thy_log::{Engine, Log};
 use thy_nvm::MemNvm;
-use thy_layout::{EngineStep, Start};
 use thy_view::BootStep;
 
 /// Both devices while the power is off, and how many cuts are to come at most.

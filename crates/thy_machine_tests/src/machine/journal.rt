@@ -13,8 +13,8 @@ use thy_base::{EndCause, Mark, Nvm};
 use thy_core::Machine;
 use thy_isa::Status;
 use thy_journal::Journal;
-use thy_plain::Plain;
 use thy_layout::EngineStep;
+use thy_plain::Plain;
 use thy_view::{Computer, Did};
 
 /// `addi a0,zero,7; addi a7,zero,93; ecall`.

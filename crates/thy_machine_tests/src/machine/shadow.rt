@@ -15,8 +15,8 @@ use std::process::Abort;
 use thy_base::{EndCause, Mark};
 use thy_core::Machine;
 use thy_isa::Status;
-use thy_plain::Plain;
 use thy_layout::EngineStep;
+use thy_plain::Plain;
 use thy_shadow::Shadow;
 
 /// `lui t0,1; sub t1,sp,t0; sub t2,t1,t0; sub t3,t2,t0`, so that sp and the three lie in four pages; `sd t0,0(sp);

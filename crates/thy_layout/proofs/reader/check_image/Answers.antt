@@ -20,7 +20,7 @@ returns-in-Some g c =
 
 pub returns-in-None : goal.returns-in-None
 returns-in-None g c =
-    checked_at (g.L.ImageLayout.layouts c.args.geometry.now) c.args.ceiling c.args.image.now c.word.result (omega arith)
+    checked_at (g.L.ImageLayout.layouts c.args.geometry.now) c.args.ceiling c.args.image.now c.epoch_in.result (omega arith)
     (ap is_zero (block_at-blocks_of c.args.image.now 1 (omega arith) ∙ sym c.block_in-commit.ensures) ∙ sym c.is_zero.ensures ∙ c.if-is_zero.false)
     c.in-None.ensures
-    (c.word.ensures ∙ ap epoch_of (c.block_in-commit.ensures ∙ sym (block_at-blocks_of c.args.image.now 1 (omega arith))))
+    (c.epoch_in.ensures ∙ ap epoch_of (c.block_in-commit.ensures ∙ sym (block_at-blocks_of c.args.image.now 1 (omega arith))))

@@ -1,6 +1,6 @@
 use Rattle.std.proofs.Common.{◌<◌, ◌∙◌, subst, arith}
-use Rattle.thy_base.specs.declared.layout_version.LayoutVersion.{LayoutVersion}
-use Rattle.thy_base.specs.Places.{blocks_of_slot}
+use Rattle.thy_layout.specs.declared.layout_version.LayoutVersion.{LayoutVersion}
+use Rattle.thy_record.specs.VersionSlots.{blocks_of_slot}
 use Rattle.thy_isa.specs.Step.{state_of}
 use Rattle.thy_recover.proofs.StartLemmas.{start_version, start_slot-zeros}
 use Rattle.thy_recover.proofs.start.first_slot.Goals as goal

@@ -1,6 +1,6 @@
 use Rattle.std.proofs.Common.{◌≡◌, ◌<◌, ◌%◌, ℕ, true, false, Option, Some, OnErr, sym, ◌∙◌, ap, subst}
 use Rattle.thy_base.specs.Geometry.{memory_blocks}
-use Rattle.thy_base.specs.Places.{in_dram}
+use Rattle.thy_places.specs.Places.{in_dram}
 use Rattle.thy_table.specs.PageEntry.{is_framed}
 use Rattle.thy_cell.specs.Cells.{work}
 use Rattle.thy_control.specs.State.{State, IsSized, cell_of}

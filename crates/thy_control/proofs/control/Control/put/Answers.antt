@@ -1,9 +1,9 @@
 use Rattle.std.proofs.Common.{◌≡◌, ℕ, ◌+◌, ◌<◌, length, refl, sym, ◌∙◌, ap, subst, arith}
 use Rattle.thy_base.specs.declared.block.Block.{Block}
-use Rattle.thy_base.specs.declared.place.Place.{Place}
+use Rattle.thy_places.specs.declared.place.Place.{Place}
 use Rattle.thy_base.specs.Device.{Device, HasFailedToWrite}
 use Rattle.thy_base.specs.Geometry.{memory_blocks}
-use Rattle.thy_base.specs.Places.{in_dram, number_of, image_blocks, IsPlace}
+use Rattle.thy_places.specs.Places.{in_dram, number_of, image_blocks, IsPlace}
 use Rattle.thy_base.proofs.BasicLemmas.{OnErr-of}
 use Rattle.thy_dram.specs.Contents.{Contents}
 use Rattle.thy_table.specs.Listing.{IsListing, free_count}

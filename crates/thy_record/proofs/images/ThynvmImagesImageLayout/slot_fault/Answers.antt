@@ -1,6 +1,6 @@
 use Rattle.std.proofs.Common.{◌*◌, ◌∙◌, ℕ, sym, ap, arith}
-use Rattle.thy_base.specs.declared.layout_version.LayoutVersion.{LayoutVersion}
-use Rattle.thy_base.specs.Places.{blocks_of_slot}
+use Rattle.thy_layout.specs.declared.layout_version.LayoutVersion.{LayoutVersion}
+use Rattle.thy_record.specs.VersionSlots.{blocks_of_slot}
 use Rattle.thy_layout.specs.Commit.{version_of}
 use Rattle.thy_layout.specs.Files.{blocks_of}
 use Rattle.thy_record.specs.Number.{scheme_number}
@@ -18,6 +18,6 @@ slot_fault-requires-clause-room c = omega (arith, c.requires, least_slot c.args.
 pub returns : goal.returns
 returns c =
     c.slot_fault.ensures
-    ∙ ap (λ (f : LayoutVersion). slot_fault f c.args.geometry.now c.args.ceiling c.word.result (blocks_of c.args.slot.now)) c.version_of-version.ensures
+    ∙ ap (λ (f : LayoutVersion). slot_fault f c.args.geometry.now c.args.ceiling c.epoch_in.result (blocks_of c.args.slot.now)) c.version_of-version.ensures
     ∙ ap (λ (e : ℕ). slot_fault (version_of scheme_number c.args.geometry.now c.args.commit.now) c.args.geometry.now c.args.ceiling e (blocks_of c.args.slot.now))
-    c.word.ensures
+    c.epoch_in.ensures

@@ -10,7 +10,7 @@ state-requires g c = record {
   epoch = c.in-Ok-At.epoch;
   found = ap (λ bytes. found_in (decode_file (dual_layouts c.self-2.inside.geometry) 4611686018427387904 bytes))
       (c.deref-in-Ok-At.ensures.value ∙ sym c.deref.ensures.value)
-    ∙ sym c.check-found.ensures ∙ c.in-Ok-At.is ∙ ap Ok found;
+      ∙ sym c.check-found.ensures ∙ c.in-Ok-At.is ∙ ap Ok found;
 } where
   found : c.in-Ok-At.field-0 ≡ At c.in-Ok-At.epoch
   found = search rules

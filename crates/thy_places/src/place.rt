@@ -1,7 +1,7 @@
 //! The places of both devices.
 
-/// The place of a block of memory: in the NVM (the first three) or in the DRAM. `Geometry::number` gives the
-/// number of its block in that device. A block is one of memory, in blocks of 64 bytes from its start on, or,
+/// The place of a block of memory: in the NVM (the first three) or in the DRAM. `number` gives the number of its
+/// block in that device. A block is one of memory, in blocks of 64 bytes from its start on, or,
 /// if given with an entry of the page table, one of a page's 64. An entry is one of the block table or of the page
 /// table.
 #[derive(Clone, Copy, Debug, PartialEq, Eq)]

@@ -1,6 +1,6 @@
 -- Places of one device are told apart by their numbers, and those of the NVM lie between the slots of both versions.
 use Rattle.std.proofs.Common.{rules}
-use Rattle.thy_base.specs.Places.{NumbersTellPlaces, PlacesAreBetweenSlots}
+use Rattle.thy_places.specs.Places.{NumbersTellPlaces, PlacesAreBetweenSlots}
 
 pub numbers_tell : NumbersTellPlaces
 numbers_tell p x y l m d e = search rules

@@ -1,0 +1,32 @@
+//! The slots of both versions.
+ghost use Rattle.std.specs.Prelude.{◌≡◌, ◌<◌};
+ghost use Rattle.thy_base.specs.Geometry.{IsInRange};
+ghost use Rattle.thy_record.specs.VersionSlots.{blocks_of_slot, place_of_slot};
+
+use thy_base::Geometry;
+use thy_layout::LayoutVersion;
+use thy_places::{slot, slot_blocks, slot_blocks_one, slot_one};
+
+/// How many blocks each of the two slots of a version has: in version 1 the record of one hart and both tables, whatever
+/// the harts; in version 2 the processor's record, both tables, and the counts.
+pub fn slot_blocks_of(geometry: &Geometry, version: LayoutVersion) -> u64
+    ensures blocks { result ≡ blocks_of_slot version geometry.now }
+    ensures in_range { IsInRange geometry.now }
+{
+    match version {
+        LayoutVersion::VersionOne => slot_blocks_one(geometry),
+        LayoutVersion::VersionTwo => slot_blocks(geometry),
+    }
+}
+
+/// The first block of slot `s` of a version, 0 or 1.
+pub fn slot_of(geometry: &Geometry, version: LayoutVersion, s: u64) -> u64
+    requires { s < 2 }
+    ensures place { result ≡ place_of_slot version geometry.now s }
+    ensures in_range { IsInRange geometry.now }
+{
+    match version {
+        LayoutVersion::VersionOne => slot_one(geometry, s),
+        LayoutVersion::VersionTwo => slot(geometry, s),
+    }
+}
