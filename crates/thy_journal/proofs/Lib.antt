@@ -1,1 +1,1 @@
-mod CallLemmas
+mod BlockLemmas

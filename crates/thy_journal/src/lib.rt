@@ -1,12 +1,17 @@
 //! The redo journal: a scheme of checkpoints whose stores go into buffers of the DRAM. A checkpoint writes them into
 //! the journal of its slot, commits, and then copies each block home, while the hart waits.
 //!
-//! Open specs/Calls.antt first, and src/journal.rt. It depends on thy_log, thy_refill, thy_boot, thy_journal_scheme
-//! and their dependencies.
+//! Open src/checkpoints.rt first, then src/parts.rt. It depends on thy_log, thy_refill, thy_compose, thy_journal_laws and
+//! their dependencies.
 #![tactic(auto)]
 
+mod checkpoints;
 mod fills;
-mod journal;
+mod parts;
 
 pub use fills::Refill;
-pub use journal::Journal;
+use thy_compose::Composed;
+
+/// The redo journal: its log holds what was stored since the last checkpoint, and its engine writes that into the NVM
+/// while the hart waits.
+pub type Journal = Composed<Refill>;

@@ -1,13 +1,6 @@
 pub mod WorkLemmas
-pub mod WrittenLemmas
-pub mod CommittedLemmas
-pub mod MoveLemmas
-pub mod ItemLemmas
-pub mod SafeLemmas
-pub mod SealLemmas
-pub mod AfterLemmas
-pub mod SoundLemmas
-pub mod FailLemmas
-pub mod DrainLemmas
-pub mod DramLemmas
+pub mod PhaseLemmas
+pub mod DesignLemmas
 pub mod StoreLemmas
+pub mod PartsLemmas
+pub mod LawLemmas

@@ -1,52 +1,329 @@
--- Each block loads as before over every item, and no entry less is free.
-use Rattle.std.proofs.Common.{◌≡◌, ℕ, ◌≤◌, ◌==◌, ◌&&◌, not, Bool, if◌then◌else◌, List, [], length, ◌∙◌, ap, arith}
+-- A store changes one block, as each load of the log then shows, and leaves what loads and stores keep.
+use Rattle.std.proofs.Common.{◌≡◌, ◌≢◌, ◌⊎◌, ℕ, ◌+◌, ◌<◌, ◌≤◌, true, false, is_none, List, ◌∷◌, length, map, slice_set, Option, Some, None, unwrap_or, refl, sym, ◌∙◌, ap, subst, inl, inr, arith}
+use Rattle.std.specs.List.{range_with_len}
+use Rattle.std.specs.Option.{option_or}
+use Rattle.std.proofs.lemmas.Bool.{cases_eq}
+use Rattle.std.proofs.lemmas.List.{length-set, get_or-set_same, get_or-set_other, ext_get_or}
+use Rattle.std.proofs.lemmas.List.FromFn.{length-map-range_with_len, get_or-map-range_with_len}
+use Rattle.std.proofs.lemmas.List.Quantifiers.{position-Some}
+use Rattle.std.proofs.lemmas.List.Sums.{sum_by-set}
 use Rattle.thy_base.specs.declared.block.Block.{Block}
 use Rattle.thy_base.specs.declared.config.Parameters.{Parameters}
-use Rattle.thy_base.specs.Device.{Device}
-use Rattle.thy_table.specs.Listing.{free_count}
-use Rattle.thy_table.proofs.ListingLaws.{free_count-mapped}
-use Rattle.thy_view.specs.Action.{after}
-use Rattle.thy_view.proofs.ActionLemmas.{down-after, length-after}
-use Rattle.thy_journal_image.specs.Places.{image_blocks}
-use Rattle.thy_log.specs.Holding.{works, holding_of}
-use Rattle.thy_log.specs.Items.{Item, NoItem, JournalItem, SlotItem, SettleItem, CommitItem, ConfirmItem, HomeItem, ReleaseItem}
-use Rattle.thy_log.specs.Keys.{freed}
-use Rattle.thy_log.specs.Progress.{Progress, action_next, state_next, item_of, state_after}
-use Rattle.thy_log.specs.State.{State}
-use Rattle.thy_journal_laws.specs.Taken.{ItemsKeepStore}
-use Rattle.thy_journal_laws.proofs.AfterLemmas.{p_after}
-use Rattle.thy_journal_laws.proofs.ItemLemmas.{items_keep_works}
+use Rattle.thy_base.specs.Device.{Device, zero_block, block_at, newest, IsFramed, HasFailed}
+use Rattle.thy_base.specs.Geometry.{memory_blocks}
+use Rattle.thy_base.specs.Store.{IsStored}
+use Rattle.thy_crash.proofs.SparesLemmas.{Spares-no_more}
+use Rattle.thy_dram.specs.Contents.{written}
+use Rattle.thy_layout.specs.Layout.{looked_by}
+use Rattle.thy_table.specs.Listing.{Listing, IsListing, entry_at, place_of, free_place, free_count, with_entry, added_at}
+use Rattle.thy_table.proofs.IndexLemmas.{None-is_none, free_one, lists-some, lists-inside, some-counted}
+use Rattle.thy_table.proofs.ListingLaws.{place_of-lists, IsListing-put, place_of-put, place_of-put_other}
+use Rattle.thy_journal_image.specs.Layout.{journal_layouts}
+use Rattle.thy_journal_image.specs.Places.{image_blocks, home_place}
+use Rattle.thy_journal_image.specs.CheckpointParts.{IsToldBy}
+use Rattle.thy_log.specs.declared.entry.Listed.{Listed}
+use Rattle.thy_log.specs.Holding.{works}
+use Rattle.thy_log.specs.Keys.{block_key, listing_of}
+use Rattle.thy_log.specs.State.{State, IsSoundState, entry_for, work_by, work_of}
+use Rattle.thy_log.specs.Stores.{after_store, put_into, store_entry, listing_for, with_listing}
+use Rattle.thy_log.proofs.StateLemmas.{IsSoundState-table, IsSoundState-dram}
+use Rattle.thy_engine.specs.Items.{Phase, Resting, Making, Made, Applying}
+use Rattle.thy_parts.specs.Holding.{holding_of}
+use Rattle.thy_parts.specs.Moments.{IsMoment}
+use Rattle.thy_parts.specs.Storing.{CanStore, MakesStore, StaysAt, StaysOver, IsStoring}
+use Rattle.thy_parts.proofs.HeldLemmas.{IsHeldBlock, blocks_held, held_block}
+use Rattle.thy_journal_laws.specs.Design.{rests_at, StaysLog, journal_design}
 
-free_after : (i : Item) (s : State) → free_count s.table ≤ free_count (state_after i s).table
-free_after NoItem s = omega arith
-free_after (JournalItem i) s = omega arith
-free_after (SlotItem k) s = omega arith
-free_after SettleItem s = omega arith
-free_after CommitItem s = omega arith
-free_after ConfirmItem s = omega arith
-free_after (HomeItem i) s = omega arith
-free_after ReleaseItem s = free_count-mapped freed s.table
+-- ---- the table in which a block is listed
 
--- what is held, by the sizes of image and geometry, and by whether the NVM is up
-abbrev held_by : ℕ → ℕ → Bool → List Block → List Block
-held_by long size down blocks = if long == size && not down then blocks else []
+-- an entry lists the block, and every other block is at the place at which it was
+record IsListedAt (s : State) (b i : ℕ) (u : Listing Listed) : Type 0 where
+  here : place_of block_key b u ≡ Some i
+  others : (c : ℕ) → c ≢ b → place_of block_key c u ≡ place_of block_key c s.table
+  once : IsListing block_key u
+  long : length u.entries ≡ length s.table.entries
+  numbers : u.numbers ≡ s.table.numbers
+  inside : i < length s.table.entries
+  free : free_count s.table ≤ free_count u + 1
 
-pub blocks_alike : (s : State) (m : Device) (t : State) (n : Device) → t.p ≡ s.p → length n.image ≡ length m.image → n.down ≡ m.down
-    → works t n ≡ works s m → (holding_of t n).blocks ≡ (holding_of s m).blocks
-blocks_alike s m t n p long down same =
-    ap (λ (x : ℕ). held_by x (image_blocks t.p) n.down (works t n)) long
-    ∙ ap (λ (x : Parameters). held_by (length m.image) (image_blocks x) n.down (works t n)) p
-    ∙ ap (λ (x : Bool). held_by (length m.image) (image_blocks s.p) x (works t n)) down
-    ∙ ap (λ (x : List Block). held_by (length m.image) (image_blocks s.p) m.down x) same
+listed_some : (s : State) (b i : ℕ) → IsSoundState s → entry_for s b ≡ Some i → IsListedAt s b i s.table
+listed_some s b i sound e = record {
+  here = e;
+  others = λ c other. refl;
+  once = sound.once;
+  long = refl;
+  numbers = refl;
+  inside = lists-inside block_key s.table.entries i b (place_of-lists block_key s.table b i e);
+  free = omega arith;
+}
 
-pub items_keep_store : ItemsKeepStore
-items_keep_store o k s n h way =
-    let e : Progress = s.engine in
-    let l : State = s.log in
+listed_none : (s : State) (b i : ℕ) → IsSoundState s → b < memory_blocks s.p → entry_for s b ≡ None → free_place s.table ≡ Some i
+    → IsListedAt s b i (with_entry i (Some (listing_of b)) s.table)
+listed_none s b i sound small e found =
+    let first = position-Some is_none s.table.entries i None found in
+    let was : entry_at s.table i ≡ None = None-is_none (entry_at s.table i) first.1 in
+    let room : b < s.table.numbers = subst (λ (x : ℕ). b < x) (sym sound.numbers) small in
     record {
-      blocks =
-          blocks_alike l n (state_next e l) (after (action_next e l) n) (p_after (item_of e l) l) (length-after (action_next e l) n)
-          (down-after (action_next e l) n)
-          (items_keep_works e l n h.held.progress h.held.state h.held.sized h.held.fits h.checkpoints.written way);
-      free = free_after (item_of e l) l;
+      here = place_of-put block_key s.table sound.once i (listing_of b) first.0 e room;
+      others = λ c other. place_of-put_other block_key s.table sound.once i (listing_of b) c first.0 was e room other;
+      once = IsListing-put block_key s.table sound.once i (listing_of b) first.0 e room;
+      long = length-set s.table.entries i (Some (listing_of b));
+      numbers = refl;
+      inside = first.0;
+      free = omega (arith, sum_by-set free_one s.table.entries i (Some (listing_of b)) None first.0, ap free_one was);
     }
+
+-- ---- the log after a store
+
+after_is : (b : ℕ) (block : Block) (s : State) → after_store b block s ≡ put_into (store_entry b s) block (listing_for b s)
+unfolding after_store
+after_is b block s = refl
+
+after_some : (b : ℕ) (block : Block) (s : State) (i : ℕ) → entry_for s b ≡ Some i → after_store b block s ≡ put_into i block s
+after_some b block s i e =
+    after_is b block s
+    ∙ ap (λ (o : Option ℕ). put_into (unwrap_or (option_or o (free_place s.table)) 0) block (record s { table = with_listing o b s.table })) e
+
+after_none : (b : ℕ) (block : Block) (s : State) (i : ℕ) → entry_for s b ≡ None → free_place s.table ≡ Some i
+    → after_store b block s ≡ put_into i block (record s { table = with_entry i (Some (listing_of b)) s.table })
+after_none b block s i e found =
+    after_is b block s
+    ∙ ap (λ (o : Option ℕ). put_into (unwrap_or (option_or o (free_place s.table)) 0) block (record s { table = with_listing o b s.table })) e
+    ∙ ap (λ (o : Option ℕ). put_into (unwrap_or o 0) block (record s { table = record s.table { entries = added_at o (listing_of b) s.table.entries } })) found
+
+-- it is so with some entry and some table
+record IsStoredAt (b : ℕ) (block : Block) (s : State) : Type 0 where
+  i : ℕ
+  u : Listing Listed
+  listed : IsListedAt s b i u
+  is : after_store b block s ≡ put_into i block (record s { table = u })
+
+stored_at : (b : ℕ) (block : Block) (s : State) → IsSoundState s → b < memory_blocks s.p → 0 < free_count s.table → IsStoredAt b block s
+stored_at b block s sound small room = by_entry (entry_for s b) refl where
+  by_free : (o : Option ℕ) → free_place s.table ≡ o → entry_for s b ≡ None → IsStoredAt b block s
+  by_free None found e = let none = (some-counted s.table.entries None found).1 room in absurd cc
+  by_free (Some i) found e = record {
+    i = i;
+    u = with_entry i (Some (listing_of b)) s.table;
+    listed = listed_none s b i sound small e found;
+    is = after_none b block s i e found;
+  }
+
+  by_entry : (o : Option ℕ) → entry_for s b ≡ o → IsStoredAt b block s
+  by_entry None e = by_free (free_place s.table) refl e
+  by_entry (Some i) e = record { i = i; u = s.table; listed = listed_some s b i sound e; is = after_some b block s i e }
+
+-- ---- what it holds
+
+module _ (b : ℕ) (block : Block) (s : State) (n : Device) (sound : IsSoundState s) (small : b < memory_blocks s.p) (i : ℕ) (u : Listing Listed)
+    (l : IsListedAt s b i u) where
+  abbrev t : State
+  t = put_into i block (record s { table = u })
+
+  buffer_inside : i < length s.dram.blocks
+  buffer_inside = let low = l.inside in let size = sound.size in omega (arith, low, size, sound.dram_size)
+
+  -- an entry lists one block
+  own_entry : (c : ℕ) → c ≢ b → place_of block_key c u ≡ Some i → ⊥
+  own_entry c other e =
+      let mine = lists-some block_key b (entry_at u i) (place_of-lists block_key u b i l.here) in
+      let its = lists-some block_key c (entry_at u i) (place_of-lists block_key u c i e) in
+      let same : Some mine.0 ≡ Some its.0 = sym mine.1 ∙ its.1 in
+      let one : mine.0 ≡ its.0 = cc in
+      other (sym its.2 ∙ sym (ap block_key one) ∙ mine.2)
+
+  work_here : work_of t n b ≡ block
+  work_here = ap (work_by t n b) l.here ∙ get_or-set_same s.dram.blocks i block zero_block buffer_inside
+
+  work_there : (c : ℕ) (o : Option ℕ) → c ≢ b → place_of block_key c u ≡ o → work_by t n c o ≡ work_by s n c o
+  work_there c None other e = refl
+  work_there c (Some j) other e =
+      get_or-set_other s.dram.blocks i j block zero_block (λ (q : j ≡ i). own_entry c other (e ∙ ap Some q))
+
+  work_other : (c : ℕ) → c ≢ b → work_of t n c ≡ work_of s n c
+  work_other c other = work_there c (place_of block_key c u) other refl ∙ ap (work_by s n c) (l.others c other)
+
+  works_stored : works t n ≡ slice_set (works s n) b block
+  works_stored =
+      let size : ℕ = memory_blocks s.p in
+      let long : length (works t n) ≡ size = length-map-range_with_len (work_of t n) 0 size in
+      let old : length (works s n) ≡ size = length-map-range_with_len (work_of s n) 0 size in
+      ext_get_or zero_block (works t n) (slice_set (works s n) b block) (long ∙ sym (length-set (works s n) b block ∙ old))
+      (λ c low.
+      let below : c < size = omega (arith, low, long) in
+      let gives : block_at (works t n) c ≡ work_of t n c = get_or-map-range_with_len (work_of t n) 0 size c c zero_block below (omega arith) in
+      elim (cases_eq c b) as (λ _. block_at (works t n) c ≡ block_at (slice_set (works s n) b block) c) [
+        | inl same ↦
+            gives ∙ ap (work_of t n) same ∙ work_here
+            ∙ sym (get_or-set_same (works s n) b block zero_block (omega (arith, small, old)))
+            ∙ sym (ap (block_at (slice_set (works s n) b block)) same)
+        | inr other ↦
+            gives ∙ work_other c other
+            ∙ sym (get_or-map-range_with_len (work_of s n) 0 size c c zero_block below (omega arith))
+            ∙ sym (get_or-set_other (works s n) b c block zero_block other)
+      ])
+
+  stored_sound : IsSoundState t
+  stored_sound =
+      let listed : IsSoundState (record s { table = u }) = IsSoundState-table s.p s.table u s.dram sound l.long l.numbers l.once in
+      IsSoundState-dram s.p u s.dram (written s.dram i block) listed (length-set s.dram.blocks i block)
+
+-- ---- what it makes
+
+module _ (b : ℕ) (block : Block) (s : State) (n : Device) (can : CanStore journal_design b s n) where
+  held : IsHeldBlock journal_design s n b
+  held = held_block journal_design s n b can.inside
+
+  small : b < memory_blocks s.p
+  small = let low = held.inside in omega (arith, low, length-map-range_with_len (work_of s n) 0 (memory_blocks s.p))
+
+  at : IsStoredAt b block s
+  at = stored_at b block s can.sound small can.room
+
+  abbrev after : State
+  after = put_into at.i block (record s { table = at.u })
+
+  stores_after : IsStored b block (holding_of journal_design s n) (holding_of journal_design after n)
+  stores_after = record {
+    blocks =
+        blocks_held journal_design after n refl held.sized held.up
+        ∙ works_stored b block s n can.sound small at.i at.u at.listed
+        ∙ ap (λ (x : List Block). slice_set x b block) (sym (blocks_held journal_design s n refl held.sized held.up));
+    free = at.listed.free;
+    ready = refl;
+    closed = λ page. refl;
+    owed = λ page. omega arith;
+  }
+
+  stays_after : StaysLog s n after n
+  stays_after = record {
+    same_p = refl;
+    room = refl;
+    sound = λ h. stored_sound b block s n can.sound small at.i at.u at.listed;
+    as_long = refl;
+    no_more = λ x y h. h;
+    down = λ d. d;
+    same = λ up. refl;
+  }
+
+  makes_after : MakesStore journal_design b block s n after n
+  makes_after = record {
+    stored = stores_after;
+    dram = inr (record { at = at.i; block = block; left = refl; nvm = refl });
+    copies = λ fewer. absurd (omega (arith, fewer));
+    stays = stays_after;
+    still = λ h. let no : false ≡ true = h in absurd cc;
+  }
+
+  makes_store : MakesStore journal_design b block s n (after_store b block s) n
+  makes_store = subst (λ (x : State). MakesStore journal_design b block s n x n) (sym at.is) makes_after
+
+-- ---- what stays
+
+failed_stays : (s : State) (n m : Device) → HasFailed n m → IsFramed n m → StaysLog s n s m
+failed_stays s n m failed framed = record {
+  same_p = refl;
+  room = refl;
+  sound = λ h. h;
+  as_long = framed.blocks;
+  no_more = failed.no_more;
+  down = λ was. failed.down;
+  same = λ up. let both : true ≡ false = sym failed.down ∙ up in absurd cc;
+}
+
+on_stays : (a : State) (l : Device) (b : State) (m : Device) (c : State) (n : Device) → StaysLog a l b m → StaysLog b m c n → StaysLog a l c n
+on_stays a l b m c n first second = record {
+  same_p = second.same_p ∙ first.same_p;
+  room = second.room ∙ first.room;
+  sound = λ h. second.sound (first.sound h);
+  as_long = second.as_long ∙ first.as_long;
+  no_more = λ x y h. first.no_more x y (second.no_more x y h);
+  down = λ d. second.down (first.down d);
+  same = λ up.
+      let was : n ≡ m = second.same up in
+      was ∙ first.same (sym (ap (λ (d : Device). d.down) was) ∙ up);
+}
+
+still_rests : (phase : Phase) (s t : State) → t.table ≡ s.table → rests_at phase true s → rests_at phase true t
+still_rests Resting s t same rests = subst (λ (u : Listing Listed). free_count u ≡ length u.entries) (sym same) rests
+still_rests (Making from) s t same rests = tt
+still_rests Made s t same rests = tt
+still_rests (Applying from) s t same rests = tt
+
+rests_less : (phase : Phase) (s : State) → rests_at phase true s → rests_at phase false s
+rests_less Resting s rests = tt
+rests_less (Making from) s rests = tt
+rests_less Made s rests = tt
+rests_less (Applying from) s rests = tt
+
+-- homes go by the geometry alone
+abbrev homes_by : Device → Parameters → List Block
+homes_by n p = map (λ b. newest n (home_place p b)) (range_with_len 0 (memory_blocks p))
+
+module _ (epoch : ℕ) (s : State) (n : Device) (t : State) (m : Device) (moment : IsMoment journal_design Resting epoch s n) (stays : StaysLog s n t m) where
+  stays_idle : StaysAt journal_design Resting epoch s n t n
+  stays_idle = record {
+    moment = record {
+      sound = stays.sound moment.sound;
+      sized = moment.sized ∙ ap image_blocks (sym stays.same_p);
+      stands = stays.sound moment.sound;
+      holds = tt;
+    };
+    sealed = tt;
+    committed = ap (homes_by n) stays.same_p;
+    keeps = λ g h. record {
+      kept = h.kept;
+      table = h.table;
+      told = subst (λ (p : Parameters). IsToldBy p g h.kept h.table) (sym stays.same_p) h.told;
+      other = tt;
+      applied = tt;
+    };
+    makes = λ g h. h;
+    rests = λ b r. tt;
+    slot = tt;
+    header = refl;
+    commit = refl;
+  }
+
+  stays_resting : StaysOver journal_design Resting epoch s n t m
+  stays_resting = record {
+    kept = λ g h. Spares-no_more (1 ∷ looked_by (journal_layouts s.p) g) n m stays.no_more stays.as_long;
+    made = λ g h. Spares-no_more (1 ∷ looked_by (journal_layouts s.p) g) n m stays.no_more stays.as_long;
+    left = λ from. omega (arith, ap (λ (p : Parameters). p.btt) stays.same_p);
+    owed_later = omega arith;
+    up = λ up. subst (λ (d : Device). StaysAt journal_design Resting epoch s n t d) (sym (stays.same up)) stays_idle;
+  }
+
+stays_by : (phase : Phase) (epoch : ℕ) (s : State) (n : Device) (t : State) (m : Device) → IsMoment journal_design phase epoch s n
+    → (false ≡ true) ⊎ (phase ≡ Resting) → StaysLog s n t m → StaysOver journal_design phase epoch s n t m
+stays_by phase epoch s n t m moment (inl never) stays = absurd cc
+stays_by phase epoch s n t m moment (inr resting) stays =
+    subst (λ (p : Phase). StaysOver journal_design p epoch s n t m) (sym resting)
+    (stays_resting epoch s n t m (subst (λ (p : Phase). IsMoment journal_design p epoch s n) resting moment) stays)
+
+pub is_storing : IsStoring journal_design
+is_storing = record {
+  access = λ b block s. tt;
+  store = makes_store;
+  store_fails = λ b block s n m can failed framed. absurd failed;
+  load_fails = failed_stays;
+  stored_once = λ s b. refl;
+  still_same = λ s. refl;
+  still_on = λ a b c first second. second ∙ first;
+  still_rests = λ sealed phase s t same rests. still_rests phase s t same rests;
+  rests_less = λ sealed phase s rests. rests_less phase s rests;
+  stays_same = λ s n. record {
+    same_p = refl;
+    room = refl;
+    sound = λ h. h;
+    as_long = refl;
+    no_more = λ x y h. h;
+    down = λ d. d;
+    same = λ up. refl;
+  };
+  stays_on = on_stays;
+  stays_p = λ s n t m stays. stays.same_p;
+  stays_room = λ s n t m stays. stays.room;
+  stays_sound = λ s n t m stays. stays.sound;
+  stays = stays_by;
+}

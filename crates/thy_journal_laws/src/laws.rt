@@ -1,56 +1,41 @@
 //! Laws of the journal, each the contract of a function that does nothing.
-ghost use Rattle.thy_journal_laws.specs.Taken.{DramDrainKeeps, FailedItemsAreSafe, ItemsKeepSound, ItemsKeepStore, SameReadsKeep, SealKeepsSound, StaysKeepSound};
-ghost use Rattle.thy_journal_laws.specs.Items.{FailedItemsMove, ItemsKeepHomes, ItemsKeepWorks, ItemsMove, ItemsWrite};
+ghost use Rattle.thy_boot_laws.specs.Schemes.{FirstHasRoom, HartIsBarred, NeverMigrates};
+ghost use Rattle.thy_journal_laws.specs.Design.{journal_design};
+ghost use Rattle.thy_journal_laws.specs.Laws.{BootsAreShort, EntriesAreFree, EpochsAreShort};
+ghost use Rattle.thy_journal_laws.specs.Scheme.{journal_scheme};
+ghost use Rattle.thy_parts.specs.AreParts.{AreParts};
+ghost use Rattle.thy_scheme.specs.Laws.{IsLawful};
 
-/// Every item is a move of the run's checkpoints on the NVM: the first barrier makes the next one ready, its commit
-/// block leaves the two in doubt, the barrier after that ends the doubt, and every other item spares all places that
-/// determine what the image that is kept means. So is an item that failed: the commit block's write leaves the two in
-/// doubt, and every other item what was.
-pub fn items_are_moves()
-    ensures items { ItemsMove }
-    ensures failed { FailedItemsMove }
+/// The journal is a scheme of lawful parts.
+pub fn the_journal_is_made_of_parts()
+    ensures { AreParts journal_design }
 {}
 
-/// Every item leaves on the NVM what has to be there before the next one: the journal and the slot before it, the
-/// commit block at last, and after the commit the homes before it.
-pub fn the_checkpoint_is_written_in_turn()
-    ensures { ItemsWrite }
+/// So it is a lawful scheme.
+pub fn the_journal_is_lawful()
+    ensures { IsLawful journal_scheme }
 {}
 
-/// Each block loads as before, over every item, and no entry less is free; and while a checkpoint is made, each home
-/// reads as before.
-pub fn items_keep_memory()
-    ensures works { ItemsKeepWorks }
-    ensures homes { ItemsKeepHomes }
-    ensures store { ItemsKeepStore }
+/// The bounds on the actions of boots and checkpoints are what the layout asks for, and no boot migrates.
+pub fn boots_are_short()
+    ensures short { BootsAreShort }
+    ensures never { NeverMigrates journal_scheme }
 {}
 
-/// Loads and stores keep the checkpoints while nothing is under way; and whatever a cut leaves then is safe, also if
-/// they failed.
-pub fn stays_keep_the_checkpoints()
-    ensures { StaysKeepSound }
+/// The hart waits for each checkpoint, until its journal is applied: nothing overlaps.
+pub fn a_checkpoint_bars_the_hart()
+    ensures { HartIsBarred journal_scheme }
 {}
 
-/// With a seal the mark that the machine is at is the sealed one, and its checkpoint comes next.
-pub fn a_seal_keeps_the_checkpoints()
-    ensures { SealKeepsSound }
+/// An epoch spends fewer cycles of hart and engine than 17 for each of its instructions, three for each entry of the
+/// table, one for each block of a slot, and five more.
+pub fn epochs_are_short()
+    ensures { EpochsAreShort }
 {}
 
-/// Every item reaches the checkpoints of the marks after it: with the last barrier before the homes, the sealed mark is the
-/// committed one.
-pub fn items_keep_the_checkpoints()
-    ensures { ItemsKeepSound }
-{}
-
-/// Whatever a cut leaves after an item that failed is the committed checkpoint, whole, or the sealed one, if its
-/// commit block was written before or this was its write.
-pub fn failed_items_are_safe()
-    ensures { FailedItemsAreSafe }
-{}
-
-/// While every read gives the same, and a cut may leave no more, the checkpoints stay: so a write of the NVM may land
-/// at any moment. And so may a write of the DRAM.
-pub fn landing_keeps_the_checkpoints()
-    ensures nvm { SameReadsKeep }
-    ensures dram { DramDrainKeeps }
+/// While nothing is under way, and nothing was stored since the last seal, every entry is free. So the first
+/// instruction of an epoch always has room: none ends for want of entries before it has retired one.
+pub fn an_epoch_begins_with_every_entry_free()
+    ensures free { EntriesAreFree }
+    ensures room { FirstHasRoom journal_scheme }
 {}

@@ -1,4 +1,3 @@
 pub mod TableLemmas
 pub mod StateLemmas
-pub mod CycleLemmas
 pub mod DrainLemmas

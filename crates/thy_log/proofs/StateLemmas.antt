@@ -9,7 +9,7 @@ use Rattle.thy_table.specs.Listing.{Listing, IsListing, entry_at, lists, free_pl
 use Rattle.std.specs.Option.{option_and_then}
 use Rattle.thy_log.specs.declared.entry.Listed.{Listed}
 use Rattle.thy_log.specs.Keys.{block_key, freed}
-use Rattle.thy_log.specs.Progress.{listed_by, block_listed}
+use Rattle.thy_log.specs.Items.{listed_by, block_listed}
 use Rattle.thy_log.specs.State.{State, state_in, IsSoundState}
 
 pub length-empty : (size numbers : ℕ) → length (empty_table {E = Listed} size numbers).entries ≡ size

@@ -1,18 +1,17 @@
 -- The log's table as that of a checkpoint, and its entries, block by block.
-use Rattle.std.proofs.Common.{◌≡◌, ℕ, ◌-◌, ◌<◌, ◌≤◌, true, false, length, Option, Some, None, refl, sym, ◌∙◌, ap, subst, inl, inr, arith}
+use Rattle.std.proofs.Common.{◌≡◌, ℕ, ◌<◌, ◌≤◌, true, false, length, Option, Some, None, refl, sym, ◌∙◌, ap, subst, inl, inr, arith}
 use Rattle.std.specs.Option.{option_map}
 use Rattle.std.proofs.lemmas.Bool.{cases_lt, eq-eqb, eqb-true}
 use Rattle.std.proofs.lemmas.List.{length-map, get_or-map, get_or_past}
 use Rattle.thy_layout.specs.Entries.{entry_at as listed_at, Lists, entry_of}
 use Rattle.thy_layout.proofs.EntryLemmas.{Lists-inside, entry_of-absent, entry_of-listed}
 use Rattle.thy_table.specs.Listing.{entry_at, lists, passes}
-use Rattle.thy_table.proofs.FirstLemmas.{first_from-first, none-first_from}
+use Rattle.thy_table.proofs.FirstLemmas.{first_from-first, first_from-is, none-first_from}
 use Rattle.thy_table.proofs.ListingLaws.{found-once, place_of-lists, none-lists}
 use Rattle.thy_journal_image.specs.Slots.{IsTable}
 use Rattle.thy_log.specs.declared.entry.Listed.{Listed}
 use Rattle.thy_log.specs.Keys.{block_key}
-use Rattle.thy_log.specs.Items.{is_live, next_live}
-use Rattle.thy_log.specs.Progress.{listed_by, block_listed}
+use Rattle.thy_log.specs.Items.{is_live, next_live, listed_by, block_listed}
 use Rattle.thy_log.specs.State.{State, IsSoundState, table_of, entry_for}
 
 pub length-table_of : (s : State) → length (table_of s) ≡ length s.table.entries
@@ -43,6 +42,18 @@ IsTable-table_of s h = record {
 }
 
 -- ---- live entries
+
+-- the live entry that is found is at the place from which it was looked for, or after it, within the table; looked for from
+-- there it is found again
+pub live_at : (s : State) (from i : ℕ) → IsSoundState s → next_live from s ≡ Some i → (from ≤ i) × (i < s.p.btt)
+live_at s from i h found =
+    let first = first_from-first (passes is_live) None s.table.entries from i found in
+    (first.above, subst (λ (n : ℕ). i < n) h.size first.inside)
+
+pub live_again : (s : State) (from i : ℕ) → next_live from s ≡ Some i → next_live i s ≡ Some i
+live_again s from i found =
+    let first = first_from-first (passes is_live) None s.table.entries from i found in
+    first_from-is (passes is_live) None s.table.entries i i (omega arith) first.inside first.here (λ k above low. absurd (omega (arith, above, low)))
 
 -- a live entry lists its block
 live_by : (s : State) (i : ℕ) (o : Option Listed) → entry_at s.table i ≡ o → passes is_live o ≡ true → Lists (table_of s) i (listed_by o)

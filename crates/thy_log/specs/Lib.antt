@@ -2,6 +2,4 @@ pub mod Keys
 pub mod State
 pub mod Stores
 pub mod Items
-pub mod Progress
 pub mod Holding
-pub mod Cycles

@@ -7,7 +7,7 @@ ghost use Rattle.thy_base.specs.Places.{dram_blocks};
 ghost use Rattle.thy_layout.specs.Entries.{entry_at as listed_at};
 ghost use Rattle.thy_table.specs.Listing.{free_count, entry_at, place_of};
 ghost use Rattle.thy_log.specs.Keys.{block_key};
-ghost use Rattle.thy_log.specs.Progress.{listed_by};
+ghost use Rattle.thy_log.specs.Items.{listed_by};
 
 use crate::entry::{Listed, Live, Release};
 use std::alloc::{AllocError, Global};
@@ -62,8 +62,7 @@ impl Log {
     ghost use Rattle.thy_dram.specs.Contents.{lost};
     ghost use Rattle.thy_journal_image.specs.Places.{home_place, journal_place};
     ghost use Rattle.thy_layout.specs.TableSlots.{table_block_of};
-    ghost use Rattle.thy_log.specs.Items.{next_live};
-    ghost use Rattle.thy_log.specs.Progress.{block_listed};
+    ghost use Rattle.thy_log.specs.Items.{next_live, block_listed};
     ghost use Rattle.thy_log.specs.State.{IsSoundState, IsSized, table_of, entry_for, home_of, buffer_of, work_of, new_state};
     ghost use Rattle.thy_log.specs.Stores.{store_entry, listing_for, put_into, after_store, with_listing_at, filled, after_drain, released};
 

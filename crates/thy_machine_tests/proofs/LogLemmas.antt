@@ -1,6 +1,7 @@
 -- What boots, calls and cuts of the least memory leave.
 use Rattle.std.proofs.Common.{◌≡◌, ℕ, ◌-◌, ◌*◌, ◌<◌, false, [], length, Option, None, refl, sym, ◌∙◌, ap, subst}
 use Rattle.std.proofs.lemmas.List.{length-replicate}
+use Rattle.thy_base.specs.declared.block.Block.{Block}
 use Rattle.thy_base.specs.declared.config.Parameters.{Parameters}
 use Rattle.thy_base.specs.Device.{Device, IsCut, IsFramed}
 use Rattle.thy_base.specs.Places.{dram_blocks}
@@ -19,12 +20,14 @@ use Rattle.thy_boot.specs.Steps.{Steps, StepsAt}
 use Rattle.thy_boot.proofs.ReadLemmas.{HasRead-new}
 use Rattle.thy_journal_image.specs.Places.{slot_blocks, image_blocks}
 use Rattle.thy_log.specs.declared.entry.Listed.{Listed}
-use Rattle.thy_log.specs.Items.{Item, NoItem, JournalItem, SlotItem, SettleItem, CommitItem, ConfirmItem, HomeItem, ReleaseItem}
-use Rattle.thy_log.specs.Progress.{Progress, state_after, state_next, engine_next, action_next, item_of}
+use Rattle.thy_engine.specs.Progress.{Progress, Fits, Item, NoItem, BodyItem, SlotItem, SettleItem, CommitItem, ConfirmItem, TailItem, ReleaseItem, control_after, control_next, action_next, item_of}
+use Rattle.thy_journal_laws.specs.Design.{items_journal}
+use Rattle.thy_base.specs.Geometry.{memory_blocks}
 use Rattle.thy_log.specs.State.{State, IsSoundState, new_state}
+use Rattle.thy_log.specs.Stores.{after_store}
 use Rattle.thy_refill.specs.Filling.{filling_journal}
-use Rattle.thy_machine_tests.specs.Least.{HasRoom, off}
-use Rattle.thy_machine_tests.specs.LogParts.{IsOff, Boots, parts, AreParts}
+use Rattle.thy_machine_tests.specs.Least.{all, HasRoom, off}
+use Rattle.thy_machine_tests.specs.LogParts.{IsOff, IsBegun, Boots, parts, AreParts}
 use Rattle.thy_machine_tests.proofs.LeastLemmas.{HasRoom-framed, length-over}
 
 -- ---- steps of the boot
@@ -69,34 +72,57 @@ Boots-of p s dram n b c start b_is c_is state sized settled up =
 
 -- ---- after the boot
 
--- so they are after calls that leave the geometries, and the NVM up
-pub AreParts-on : (p : Parameters) (s t : State) (e f : Progress) (m n : Device) (cuts : ℕ) → AreParts (parts p s e m cuts)
-    → t.p ≡ s.p → f.p ≡ e.p → n.down ≡ m.down → IsFramed m n → AreParts (parts p t f n cuts)
-AreParts-on p s t e f m n cuts w log engine down frame = record {
+-- so they are after a boot
+pub AreParts-begun : (p : Parameters) (s : State) (e : Progress) (n : Device) (cuts : ℕ) → s.p ≡ p → IsSoundState s → IsBegun p e → memory_blocks p ≡ all
+    → length n.image ≡ image_blocks p → n.down ≡ false → HasRoom n cuts → AreParts (parts p s e n cuts)
+AreParts-begun p s e n cuts log sound begun blocks sized up room = record {
+  log_p = log;
+  fits = record { same_p = log ∙ sym begun.same_p; inside = λ k is. absurd (begun.no_slot k is); stands = sound };
+  blocks = blocks;
+  sized = sized;
+  up = up;
+  room = room;
+}
+
+-- a store leaves the geometry
+pub p_stored : (b : ℕ) (block : Block) (s : State) → (after_store b block s).p ≡ s.p
+unfolding after_store
+p_stored b block s = refl
+
+-- so they are after calls that leave the engine and the geometry, and the NVM up
+pub AreParts-on : (p : Parameters) (s t : State) (e : Progress) (m n : Device) (cuts : ℕ) → AreParts (parts p s e m cuts)
+    → t.p ≡ s.p → IsSoundState t → n.down ≡ m.down → IsFramed m n → AreParts (parts p t e n cuts)
+AreParts-on p s t e m n cuts w log sound down frame = record {
   log_p = log ∙ w.log_p;
-  engine_p = engine ∙ w.engine_p;
+  fits = record { same_p = log ∙ w.fits.same_p; inside = w.fits.inside; stands = sound };
   blocks = w.blocks;
   sized = frame.blocks ∙ w.sized;
   up = down ∙ w.up;
   room = HasRoom-framed m n cuts w.room frame;
 }
 
-same-item : (i : Item) (s : State) → (state_after i s).p ≡ s.p
+same-item : (i : Item) (s : State) → (control_after items_journal i s).p ≡ s.p
 same-item NoItem s = refl
-same-item (JournalItem i) s = refl
+same-item (BodyItem k) s = refl
 same-item (SlotItem k) s = refl
 same-item SettleItem s = refl
 same-item CommitItem s = refl
 same-item ConfirmItem s = refl
-same-item (HomeItem i) s = refl
+same-item (TailItem k) s = refl
 same-item ReleaseItem s = refl
 
--- so they are after an action of the engine
+-- and after an action of the engine
 pub AreParts-item : (p : Parameters) (s t : State) (e f : Progress) (m n : Device) (cuts : ℕ) → AreParts (parts p s e m cuts)
-    → t ≡ state_next e s → f ≡ engine_next e s → n ≡ after (action_next e s) m → IsFramed m n → AreParts (parts p t f n cuts)
-AreParts-item p s t e f m n cuts w log engine device frame =
-    AreParts-on p s t e f m n cuts w (ap (λ (x : State). x.p) log ∙ same-item (item_of e s) s) (ap (λ (x : Progress). x.p) engine)
-    (ap (λ (x : Device). x.down) device ∙ down-after (action_next e s) m) frame
+    → t ≡ control_next items_journal e s → Fits filling_journal items_journal f t → n ≡ after (action_next filling_journal items_journal e s m) m → IsFramed m n
+    → AreParts (parts p t f n cuts)
+AreParts-item p s t e f m n cuts w log fits device frame = record {
+  log_p = ap (λ (x : State). x.p) log ∙ same-item (item_of items_journal e s) s ∙ w.log_p;
+  fits = fits;
+  blocks = w.blocks;
+  sized = frame.blocks ∙ w.sized;
+  up = ap (λ (x : Device). x.down) device ∙ down-after (action_next filling_journal items_journal e s m) m ∙ w.up;
+  room = HasRoom-framed m n cuts w.room frame;
+}
 
 -- ---- cuts
 

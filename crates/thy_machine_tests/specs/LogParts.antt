@@ -9,7 +9,9 @@ use Rattle.thy_boot.specs.Boot.{Booting, IsBoot}
 use Rattle.thy_boot.specs.Start.{CanStart}
 use Rattle.thy_boot.specs.Steps.{CanStep}
 use Rattle.thy_journal_image.specs.Places.{image_blocks}
-use Rattle.thy_log.specs.Progress.{Progress}
+use Rattle.thy_engine.specs.declared.stage.EngineStage.TheVariants.{Slot}
+use Rattle.thy_engine.specs.Progress.{Progress, Fits}
+use Rattle.thy_journal_laws.specs.Design.{items_journal}
 use Rattle.thy_log.specs.State.{State}
 use Rattle.thy_refill.specs.Filling.{filling_journal}
 use Rattle.thy_machine_tests.specs.Least.{all, HasRoom, Off}
@@ -31,6 +33,11 @@ pub record Boots (s : Plain) (n : Device) (b : Booting) (c : State) : Type 0 whe
   pub fits : IsBoot filling_journal b
   pub may : CanStep filling_journal s n b c
 
+-- an engine with nothing to do, or with the first position of its tail
+pub record IsBegun (p : Parameters) (e : Progress) : Type 0 where
+  pub same_p : e.p ≡ p
+  pub no_slot : (k : ℕ) → e.stage ≡ Slot k → ⊥
+
 -- after the boot: log, engine and NVM
 pub record Parts : Type 0 where
   pub p : Parameters
@@ -45,7 +52,7 @@ parts p s e n cuts = record { p = p; log = s; engine = e; nvm = n; cuts = cuts }
 -- they are of one geometry, and the NVM is up
 pub record AreParts (m : Parts) : Type 0 where
   pub log_p : m.log.p ≡ m.p
-  pub engine_p : m.engine.p ≡ m.p
+  pub fits : Fits filling_journal items_journal m.engine m.log
   pub blocks : memory_blocks m.p ≡ all
   pub sized : length m.nvm.image ≡ image_blocks m.p
   pub up : m.nvm.down ≡ false

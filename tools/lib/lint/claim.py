@@ -147,13 +147,25 @@ class Walk:
         return True
 
 
+def alias_of(name):
+    """The type that a name stands for by an alias, and that type's argument or None; without an alias, the name and None."""
+    for path in sorted(glob.glob(os.path.join(TOP, "crates/*/src/*.rt"))):
+        alias = re.search(rf"^pub type {name} = (\w+)(?:<(\w+)>)?;", text_of(path), re.M)
+        if alias:
+            return alias[1], alias[2]
+    return name, None
+
+
 def ghost(walk, trait, kind, member):
-    """Follows a ghost member of a type, and answers its text."""
+    """Follows a ghost member of a type, and of the type's argument what it takes from that. Answers its text."""
+    kind, argument = alias_of(kind)
     for path in sorted(glob.glob(os.path.join(TOP, "crates/*/src/*.rt"))):
         for block in re.findall(rf"^impl(?:<[^>]*>)? {trait} for {kind}\b.*?^}}", text_of(path), re.M | re.S):
             value = re.search(rf"ghost {member} = \{{ (.*?) \}};", block, re.S)
             if value:
                 follow(walk, value[1], Uses(text_of(path)))
+                for own in FIELD.findall(value[1]) if argument else []:
+                    ghost(walk, trait, argument, own)
                 return value[1]
     raise Unreadable(f"the ghost member {member} of {kind}")
 

@@ -9,7 +9,7 @@ ghost use Rattle.thy_isa.specs.Step.{state_of};
 ghost use Rattle.thy_log.specs.State.{new_state};
 ghost use Rattle.thy_refill.specs.Filling.{filling_journal};
 ghost use Rattle.thy_machine_tests.specs.Least.{IsLeastStart, goes_on};
-ghost use Rattle.thy_machine_tests.specs.LogParts.{Boots};
+ghost use Rattle.thy_machine_tests.specs.LogParts.{Boots, IsBegun};
 
 use std::alloc::Global;
 use std::marker::Model;
@@ -17,11 +17,12 @@ use std::process::Abort;
 use thy_base::{Block, Geometry, Nvm, Shape};
 use thy_boot::{Boot, a_boot_may_go_on};
 use thy_dram::Dram;
+use thy_engine::Engine;
 use thy_isa::{CpuState, Regs, Status};
 use thy_journal::Refill;
 use thy_journal_image::blocks;
 use thy_layout::{EngineStep, Start};
-use thy_log::{Engine, Log};
+use thy_log::Log;
 use thy_nvm::MemNvm;
 use thy_view::BootStep;
 
@@ -161,6 +162,19 @@ fn steps<N: Nvm>(
     step(rt, boot, log, start, nvm)
 }
 
+/// The engine after the last step of a boot, which must not refuse the image.
+fn engine_after(rt: &impl Abort, geometry: &Geometry, told: &BootStep) -> Engine
+    ensures { IsBegun geometry.now result }
+{
+    let mut engine = Engine::new(geometry);
+    match told {
+        BootStep::Restarted(_, _) => engine.apply(),
+        BootStep::Refused(_) => panic!(rt; "refused"),
+        BootStep::GoesOn | BootStep::Loaded => {}
+    }
+    engine
+}
+
 impl Off {
     /// Two devices that hold zeros: the machine was never on.
     pub(crate) fn new(rt: &impl Abort, alloc: Global, geometry: Geometry, cuts: u64) -> Off {
@@ -205,12 +219,8 @@ impl Off {
         let mut log = new_log(rt, alloc, &geometry, dram);
         log.sound();
         let told = steps(rt, &mut boot, &mut log, start, &mut nvm, most);
-        let mut engine = Engine::new(&geometry);
-        match told {
-            BootStep::Restarted(_, _) => engine.apply(),
-            BootStep::Refused(_) => panic!(rt; "refused"),
-            BootStep::GoesOn | BootStep::Loaded => {}
-        }
+        log.sound();
+        let engine = engine_after(rt, &geometry, &told);
         let parts = Parts {
             geometry,
             log,
@@ -256,13 +266,13 @@ impl Parts {
         }
     }
 
-    #[tactic(auto, unfolding(thy_log::specs::Stores::after_store))]
     pub(crate) fn store(&mut self, rt: &impl Abort, b: u64, block: &Block)
         requires inside { b < 512 }
     {
         let free = self.log.free();
         assert!(rt; free > 0);
         self.log.store(b, block);
+        self.log.sound();
     }
 
     /// Seals the epoch with a processor that retired so many instructions: its checkpoint begins.
@@ -275,7 +285,7 @@ impl Parts {
     /// One action of the engine.
     pub(crate) fn step(&mut self, rt: &impl Abort) -> EngineStep {
         self.engine
-            .step(&mut self.log, &mut self.nvm)
+            .step::<Refill, MemNvm>(&mut self.log, &mut self.nvm)
             .expect(rt, "a step")
     }
 

@@ -1,7 +1,7 @@
 use Rattle.std.proofs.Common.{ℕ, ◌<◌, sym, ◌∙◌, ap, subst}
 use Rattle.thy_base.specs.Geometry.{memory_blocks}
 use Rattle.thy_table.specs.Listing.{entry_at}
-use Rattle.thy_log.specs.Progress.{listed_by}
+use Rattle.thy_log.specs.Items.{listed_by}
 use Rattle.thy_log.specs.State.{State}
 use Rattle.thy_log.proofs.StateLemmas.{block_listed-inside}
 use Rattle.thy_log.proofs.log.Log.listed.Goals as goal

@@ -1,0 +1,6 @@
+use Rattle.thy_parts.specs.Design.{design_of}
+use Rattle.thy_compose.proofs.CallLemmas.{drains_then}
+use Rattle.thy_compose.proofs.scheme.ComposedScheme.drain.Goals as goal
+
+pub returns-clause-running : goal.returns-clause-running
+returns-clause-running g c = λ o k n stands. drains_then (design_of g.P.Fills.filling g.P.Checkpoints.items g.P.Parts.parts) g.met.P.Parts.are_parts o k c.args.self.now c.drain_one.new.self n c.drain_one.ensures c.requires stands

@@ -1,0 +1,102 @@
+//! What the trait of schemes promises.
+use crate::composed::Composed;
+use std::alloc::{AllocError, Global};
+use thy_base::{Block, Geometry, Nvm, NvmError, Stored};
+use thy_boot::Fills;
+use thy_dram::Dram;
+use thy_engine::Checkpoints;
+use thy_isa::CpuState;
+use thy_layout::{EngineStep, ImageLayout, Start};
+use thy_parts::Parts;
+use thy_scheme::Scheme;
+use thy_view::BootStep;
+
+impl<P: Parts> Scheme for Composed<P>
+where
+    P::Control: Drop,
+{
+    ghost use Rattle.thy_parts.proofs.LawfulLemmas.{lawful as lawful_of_parts};
+    ghost use Rattle.thy_parts.specs.Design.{design_of};
+    ghost use Rattle.thy_parts.specs.Scheme.{scheme_of};
+
+    ghost scheme = { scheme_of (design_of P.filling P.items P.parts) };
+
+    fn nvm_blocks(geometry: &Geometry) -> u64 {
+        P::Images::blocks(geometry)
+    }
+
+    fn new(alloc: Global, geometry: &Geometry, dram: Dram) -> Result<Composed<P>, AllocError> {
+        Composed::power_on(alloc, geometry, dram)
+    }
+
+    fn cut(self, pick: u64) -> Dram {
+        self.power_off(pick)
+    }
+
+    fn load<N: Nvm>(&self, b: u64, nvm: &mut N) -> Result<Block, NvmError> {
+        self.load_block(b, nvm)
+    }
+
+    fn store<N: Nvm>(&mut self, b: u64, block: &Block, nvm: &mut N) -> Result<Stored, NvmError> {
+        P::sound(&self.control);
+        self.store_block(b, block, nvm)
+    }
+
+    fn committed<N: Nvm>(&self, b: u64, nvm: &mut N) -> Result<Block, NvmError> {
+        self.load_committed(b, nvm)
+    }
+
+    fn free(&self) -> u64 {
+        P::free(&self.control)
+    }
+
+    fn overlay(&self) -> bool {
+        P::overlay(&self.control)
+    }
+
+    fn promoting(&self) -> bool {
+        P::promoting(&self.control)
+    }
+
+    fn under_way(&self) -> bool {
+        self.engine.under_way()
+    }
+
+    fn overlaps() -> bool {
+        P::overlaps()
+    }
+
+    fn queued(&self) -> u64 {
+        P::queued(&self.control)
+    }
+
+    fn drain(&mut self) {
+        self.drain_one();
+    }
+
+    fn merge_one(&mut self) {
+        self.merge_next();
+    }
+
+    fn promote_one<N: Nvm>(&mut self, nvm: &mut N) -> Result<(), NvmError> {
+        self.promote_next(nvm)
+    }
+
+    fn seal(&mut self, cpu: &CpuState, epoch: u64) {
+        self.seal_epoch(cpu, epoch);
+    }
+
+    fn engine_step<N: Nvm>(&mut self, nvm: &mut N) -> Result<EngineStep, NvmError> {
+        self.take_item(nvm)
+    }
+
+    fn boot_step<N: Nvm>(&mut self, start: &Start, nvm: &mut N) -> Result<BootStep, NvmError> {
+        self.take_boot_step(start, nvm)
+    }
+
+    fn loading(&self) -> bool {
+        self.is_loading()
+    }
+
+    ghost lawful = { lawful_of_parts (design_of P.filling P.items P.parts) P.are_parts };
+}

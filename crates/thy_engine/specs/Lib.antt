@@ -1,0 +1,3 @@
+pub mod Items
+pub mod Progress
+pub mod Cycles

@@ -1,0 +1,330 @@
+-- A step of the boot.
+use Rattle.std.proofs.Common.{◌≡◌, ◌≢◌, ℕ, ◌+◌, ◌≤◌, true, false, List, length, refl, sym, ◌∙◌, ap, subst, Option, Some, None, Result, Ok, Err, IfOk, OnErr}
+use Rattle.thy_base.specs.declared.block.Block.{Block}
+use Rattle.thy_base.specs.declared.config.Parameters.{Parameters}
+use Rattle.thy_base.specs.declared.mark.Mark.{Mark}
+use Rattle.thy_base.specs.declared.nvm.NvmError.{NvmError}
+use Rattle.thy_base.specs.Device.{Device, IsFramed}
+use Rattle.thy_base.specs.Marks.{mark}
+use Rattle.thy_crash.specs.Saved.{Kept}
+use Rattle.thy_isa.specs.declared.state.CpuState.{CpuState}
+use Rattle.thy_isa.specs.OnBlocks.{state_from}
+use Rattle.thy_isa.specs.Step.{State as Plain, cpu_of, state_of}
+use Rattle.thy_isa.proofs.BlockLaws.{count-state_from}
+use Rattle.thy_layout.specs.declared.bad_image.BadImage.{BadImage}
+use Rattle.thy_layout.specs.declared.start.Start.{Start}
+use Rattle.thy_layout.specs.Commit.{epoch_of}
+use Rattle.thy_layout.specs.Cpu.{cpu_of_record}
+use Rattle.thy_layout.specs.Layout.{reading}
+use Rattle.thy_layout.specs.Slots.{cpu_fault}
+use Rattle.thy_engine.specs.Items.{Resting, phase_committed}
+use Rattle.thy_layout.proofs.SlotLemmas.{fits_cpu}
+use Rattle.thy_view.specs.declared.boot_step.BootStep.{BootStep}
+use Rattle.thy_view.specs.declared.view.View.{View}
+use Rattle.thy_view.specs.Action.{Action, Acts, doubt_after_fault}
+use Rattle.thy_view.specs.Booting.{boot_did}
+use Rattle.thy_view.specs.CoreStep.{BootsTo, CoreStep}
+use Rattle.thy_view.specs.Dram.{ActsOnDram}
+use Rattle.thy_view.specs.Origin.{Origin, Begins, at}
+use Rattle.thy_view.specs.Safe.{ceiling, Safe}
+use Rattle.thy_protocol.specs.Keeps.{Keeps}
+use Rattle.thy_protocol.specs.Moves.{IsKeeping}
+use Rattle.thy_boot.specs.declared.stage.Stage.{Stage}
+use Rattle.thy_boot.specs.declared.stage.Stage.TheVariants.{Reads, Loads as Loading, Over}
+use Rattle.thy_boot.specs.declared.stage.ReadStage.TheVariants.{Unread, Header as ReadsHeader, Slot as ReadsSlot, Fills, Refusing}
+use Rattle.thy_boot.specs.declared.stage.End.TheVariants.{Restored, Loaded}
+use Rattle.thy_boot.specs.Boot.{Booting, IsBoot, slot_read, answer_at, answer_of}
+use Rattle.thy_boot.specs.Laws.{IsGoing, IsMoved, failed_answer}
+use Rattle.thy_boot.specs.Left.{boot_left}
+use Rattle.thy_boot.specs.Recovers.{IsRestored}
+use Rattle.thy_boot.specs.Shows.{seen_at}
+use Rattle.thy_boot.specs.Sound.{BootImages, layout_for, first_of, start_mark, standing_in_boot, images_after, IsRecovering, IsSoundAt, IsLoaded as IsLoadedBoot}
+use Rattle.thy_boot.specs.Steps.{CanStep, Steps, action_of, Fails, TakesStep}
+use Rattle.thy_boot.proofs.ActLemmas.{steps_act, found_stays, steps_fill, failures_act, steps_come_nearer}
+use Rattle.thy_boot.proofs.FoundLemmas.{restored_is_kept, never_refused}
+use Rattle.thy_boot.proofs.GoOnLemmas.{sound_may_step}
+use Rattle.thy_view.proofs.StorableAt.{IsRecordable-at}
+use Rattle.thy_view.proofs.ActionLemmas.{down-after}
+use Rattle.thy_boot.proofs.SafeLemmas.{failures_move}
+use Rattle.thy_boot.proofs.StartLemmas.{CanStart-origin}
+use Rattle.thy_boot.proofs.StepMoveLemmas.{steps_move}
+use Rattle.thy_scheme.specs.Boots.{IsBooted, Loads, Restarts, Answers, BootsOn, BootFails}
+use Rattle.thy_scheme.specs.CheckpointMarks.{only}
+use Rattle.thy_scheme.specs.Scheme.{IsBooting, CanBoot}
+use Rattle.thy_boot_laws.specs.Seen.{view_at, has_read_at}
+use Rattle.thy_boot_laws.proofs.StepLemmas.{not-unread, kept-on, WasLoading, was-loading, was-found, fewer_has_read, found_fails_unwritten, queue-on}
+use Rattle.thy_boot.specs.Filling.{FillingOf, layout_at}
+use Rattle.thy_parts.specs.AreParts.{AreParts}
+use Rattle.thy_parts.specs.Boots.{Boots, IsUnused, booted, engine_at}
+use Rattle.thy_parts.specs.Design.{DesignOf, Composed}
+use Rattle.thy_parts.specs.Scheme.{scheme_of}
+use Rattle.thy_parts.specs.Sound.{IsSound}
+use Rattle.thy_parts.proofs.BootLemmas.{view-is}
+use Rattle.thy_parts.proofs.EndLemmas.{IsUnsealed, restored_sound, loaded_sound}
+use Rattle.thy_parts.proofs.HeldLemmas.{blocks_held}
+
+module _ {C : Type 0} (D : DesignOf C) (w : AreParts D) where
+  abbrev F : FillingOf C
+  F = D.filling
+
+  -- ---- a step that was taken
+
+  module _ (o : Origin) (s : Composed C) (n : Device) (booting : IsBooting (scheme_of D) o s n) (new : Device) (d : Booting) (e : C)
+      (steps : Steps F o.start n s.boot s.control new d e) (boot : IsBoot F d) (state : D.parts.sound e) where
+    abbrev boots : Boots D o s n
+    boots = booting.boots
+
+    abbrev b : Booting
+    b = s.boot
+
+    abbrev g : BootImages
+    g = boots.images
+
+    abbrev h : BootImages
+    h = images_after (first_of F o) b.stage n g
+
+    abbrev t : Composed C
+    t = booted D d e s
+
+    moved : IsMoved F o g n b new d e
+    moved = steps_move F w.design.fills o g n b s.control new d e boots.origin boots.sound steps
+
+    filled : ActsOnDram n new (F.dram s.control) (F.dram e) × F.keeps s.control e
+    filled = steps_fill F w.design.fills o.start n b s.control new d e steps
+
+    same : d.p ≡ b.p
+    same = moved.sound.geometry ∙ sym boots.sound.geometry
+
+    kept : h.kept ≡ g.kept
+    kept = kept-on (first_of F o) b.stage n g
+
+    never : (bad : BadImage) → d.stage ≢ Reads (Refusing bad)
+    never bad = never_refused F w.design.fills o h new d e bad moved.sound
+
+    nearer : boot_left F d d.stage + 1 ≤ boot_left F b b.stage
+    nearer =
+        steps_come_nearer F w.design.fills o.start n b s.control new d e
+        (sound_may_step F w.design.fills o g n b s.control boots.origin boots.sound boots.going booting.up) steps
+        (λ bad. never_refused F w.design.fills o g n b s.control bad boots.sound)
+
+    read : has_read_at d.stage ≡ true
+    read = fewer_has_read F w.design.fills b d d.stage same nearer
+
+    acts : Acts (boot_did (answer_of F d)) n new
+    acts = steps_act F w.design.fills o.start n b s.control new d e steps
+
+    up : new.down ≡ false
+    up = ap (λ (x : Device). x.down) acts.left ∙ down-after acts.action n ∙ booting.up
+
+    room : (F.dram e).room ≡ o.geometry.dramq
+    room = w.powering.keeps_room s.control e filled.1 ∙ boots.unused.room
+
+    abbrev with_engine : Stage → Composed C
+    with_engine q = record s { control = e; engine = engine_at D q s.engine; boot = d }
+
+    unused : (q : Stage) → IsGoing q → IsUnused D o (with_engine q)
+    unused (Reads r) going = record {
+      sound = state;
+      control = moved.sound.same_p;
+      engine = boots.unused.engine;
+      regs = boots.unused.regs;
+      idle = boots.unused.idle;
+      room = room;
+      sealed_storeless = boots.unused.sealed_storeless;
+    }
+    unused (Loading issue) going = record {
+      sound = state;
+      control = moved.sound.same_p;
+      engine = boots.unused.engine;
+      regs = boots.unused.regs;
+      idle = boots.unused.idle;
+      room = room;
+      sealed_storeless = boots.unused.sealed_storeless;
+    }
+    unused (Over end) going = absurd going
+
+    abbrev boots-on : IsGoing d.stage → Boots D o t new
+    boots-on going = record {
+      origin = boots.origin;
+      images = h;
+      sound = moved.sound;
+      going = going;
+      boot = boot;
+      unused = unused d.stage going;
+      unread = λ u. absurd (not-unread d.stage read u);
+      storeless = boots.storeless;
+    }
+
+    before : view_at (reading F.layouts) o b.stage n ≡ seen_at o g.kept b.stage
+    before = view-is D w o s n boots
+
+    abbrev v : View
+    v = seen_at o g.kept b.stage
+
+    -- ---- it continues
+
+    goes-on : (q : Stage) → d.stage ≡ q → IsGoing q → BootsTo v (seen_at o g.kept q) → Boots D o t new × BootsTo (view_at (reading F.layouts) o b.stage n) (view_at (reading F.layouts) o d.stage new)
+    goes-on q is going to =
+        let on : Boots D o t new = boots-on (subst (λ (x : Stage). IsGoing x) (sym is) going) in
+        let now : view_at (reading F.layouts) o d.stage new ≡ seen_at o g.kept q
+        = view-is D w o t new on ∙ ap (λ (k : Option Mark). seen_at o k d.stage) kept ∙ ap (λ (x : Stage). seen_at o g.kept x) is in (
+          on,
+          subst (λ (x : View). BootsTo x (view_at (reading F.layouts) o d.stage new)) (sym before) (subst (λ (x : View). BootsTo v x) (sym now) to),
+        )
+
+    -- ---- it is over
+
+    blocks_are : length new.image ≡ (layout_at F o.geometry).image_blocks → D.parts.agrees e new ≡ true → ((scheme_of D).holding t new).blocks ≡ F.loads e new
+    blocks_are sized agrees =
+        blocks_held D e new agrees (sized ∙ ap (λ (p : Parameters). (layout_at F p).image_blocks) (sym moved.sound.same_p)) up
+
+    unsealed : IsUnsealed D o s e
+    unsealed = record {
+      control = moved.sound.same_p;
+      engine = boots.unused.engine;
+      regs = boots.unused.regs;
+      idle = boots.unused.idle;
+      room = room;
+      storeless = boots.storeless;
+      sealed_storeless = boots.unused.sealed_storeless;
+    }
+
+    loaded : d.stage ≡ Over Loaded → Loads (scheme_of D) o s n t new
+    loaded is =
+        let shows = subst (λ (x : Stage). CoreStep o v (boot_did (answer_at F x d)) (seen_at o g.kept x)) is moved.shows in
+        let was : WasLoading o g b.stage = was-loading o (layout_for F o) g n b.stage boots.going shows.written boots.sound.keeps in
+        let keeps : IsKeeping o (layout_for F o) (standing_in_boot o (Over Loaded) h new)
+        = subst (λ (x : Stage). IsKeeping o (layout_for F o) (standing_in_boot o x h new)) is moved.sound.keeps in
+        let far : IsLoadedBoot F o h new e = subst (λ (x : Stage). IsSoundAt F o x h new d e) is moved.sound.so_far in
+        let ended = loaded_sound D w.design w.powering o h new d s e boots.origin unsealed keeps far in
+        let agrees = w.design.agreeing Resting 0 e new (ended.1.moment 0) in
+        record {
+          fresh = was.0;
+          view = before ∙ was.1;
+          booted = record {
+            sound = subst (λ (q : Stage). IsSound D o (only (start_mark o)) (with_engine q) new) (sym is) ended.0;
+            state = ap (state_from o.geometry (cpu_of o.start)) (blocks_are keeps.sized agrees) ∙ ended.2;
+            count = refl;
+            recordable = (CanStart-origin o boots.origin).recordable;
+            closed = ended.1.closed;
+            whole = ended.1.whole;
+            storeless = boots.storeless;
+          };
+        }
+
+    restarted : d.stage ≡ Over Restored → Restarts (scheme_of D) o (cpu_of_record d.p (slot_read F d)) (epoch_of d.commit) s n t new
+    restarted is =
+        let epoch : ℕ = epoch_of d.commit in
+        let slot : List Block = slot_read F d in
+        let cpu : CpuState = cpu_of_record d.p slot in
+        let shows = subst (λ (x : Stage). CoreStep o v (boot_did (answer_at F x d)) (seen_at o g.kept x)) is moved.shows in
+        let r = restored_is_kept F w.design.fills o h new d e moved.sound is in
+        let m : Mark = r.0 in
+        let keeps : Keeps o (layout_for F o) new (Kept h.before) (Some m) None = r.3 in
+        let found : IsRestored F new d e = r.5 in
+        let far : IsRecovering F h new d e = subst (λ (x : Stage). IsSoundAt F o x h new d e) is moved.sound.so_far in
+        let made : state_from d.p cpu (F.loads e new) ≡ at o m.count
+        = subst (λ (p : Parameters). state_from p (cpu_of_record p slot) (F.loads e new) ≡ at o m.count) (w.design.fills.laid.of d.p) r.4 in
+        let made_state : state_from o.geometry cpu (F.loads e new) ≡ at o m.count
+        = ap (λ (p : Parameters). state_from p cpu (F.loads e new)) (sym moved.sound.geometry) ∙ made in
+        let count : cpu.count ≡ m.count
+        = sym (count-state_from d.p cpu (F.loads e new)) ∙ ap (λ (x : Plain). x.count) made ∙ keeps.told.counted in
+        let is_mark : m ≡ mark epoch cpu.count
+        = ap (λ (x : ℕ). mark x m.count) r.2 ∙ ap (mark epoch) (sym count) in
+        let ended = restored_sound D w.powering o m h.before new d s e unsealed moved.sound.geometry far.before_is far.read.settled keeps found made in
+        let agrees = w.design.agreeing (phase_committed D.items) 0 e new (ended.1.moment 0) in
+        let fits = fits_cpu o.geometry d.p ceiling slot
+        (subst (λ (p : Parameters). cpu_fault p ceiling slot ≡ None) (w.design.fills.laid.of o.geometry)
+        (w.design.fills.laid.cpu o.geometry ceiling d.commit slot
+        (subst (λ (p : Parameters). (layout_at F p).slot_bad ceiling d.commit slot ≡ None) moved.sound.geometry found.listed.slot_fits))) in
+        let over : IsBooted (scheme_of D) o m cpu t new = record {
+          sound = subst (λ (q : Stage). IsSound D o (only m) (with_engine q) new) (sym is) ended.0;
+          state = ap (state_from o.geometry cpu) (blocks_are keeps.sized agrees) ∙ made_state;
+          count = count;
+          recordable = IsRecordable-at o m.count cpu (F.loads e new) boots.origin made_state fits.1 fits.0;
+          closed = ended.1.closed;
+          whole = ended.1.whole;
+          storeless = boots.storeless;
+        } in
+        record {
+          view = before ∙ was-found o g b.stage (mark epoch cpu.count) boots.going shows.done;
+          booted = subst (λ (x : Mark). IsBooted (scheme_of D) o x cpu t new) is_mark over;
+        }
+
+    -- ---- by the result
+
+    answers-at : (q : Stage) → d.stage ≡ q → CoreStep o v (boot_did (answer_at F q d)) (seen_at o g.kept q)
+        → Answers (scheme_of D) o (answer_at F q d) s n t new
+    answers-at (Reads Unread) is shows = goes-on (Reads Unread) is tt shows.1
+    answers-at (Reads ReadsHeader) is shows = goes-on (Reads ReadsHeader) is tt shows.1
+    answers-at (Reads (ReadsSlot next)) is shows = goes-on (Reads (ReadsSlot next)) is tt shows.1
+    answers-at (Reads (Fills k)) is shows = goes-on (Reads (Fills k)) is tt shows.1
+    answers-at (Reads (Refusing bad)) is shows = absurd (never bad is)
+    answers-at (Loading issue) is shows = goes-on (Loading issue) is tt shows.1
+    answers-at (Over Restored) is shows = restarted is
+    answers-at (Over Loaded) is shows = loaded is
+
+    pub boots_on : BootsOn (scheme_of D) o (answer_of F d) s n t new
+    boots_on = record {
+      answers = answers-at d.stage refl moved.shows;
+      acts = acts;
+      dram = filled.0;
+      queue = queue-on F o.start n b s.control new d e b.stage steps filled.0;
+      nearer = nearer;
+      read = read;
+      still = λ m found current.
+          found_stays F w.design.fills o g.kept m n b s.control new d e (sym (ap (λ (x : View). x.done) before) ∙ found) steps;
+    }
+
+  -- ---- one that failed
+
+  module _ (o : Origin) (s : Composed C) (n : Device) (booting : IsBooting (scheme_of D) o s n) (new : Device) where
+    boot_fails : Fails F o.start s.boot s.control n new → IsFramed n new → BootFails (scheme_of D) o s n new
+    boot_fails fails framed =
+        let boots : Boots D o s n = booting.boots in
+        let seen : View = seen_at o boots.images.kept s.boot.stage in
+        let action : Action = action_of F o.start s.boot s.control in
+        let safe : Safe (reading F.layouts) o seen.done (doubt_after_fault action seen) new
+        = (failures_move F w.design.fills o boots.images n s.boot s.control new boots.origin boots.sound boots.going fails framed).safe in
+        let answer : BootStep = failed_answer s.boot.stage in
+        record {
+          step = answer;
+          acted = record {
+            action = action;
+            asked = failures_act F w.design.fills o.start s.boot s.control n new fails;
+            failed = fails;
+          };
+          safe = subst (λ (x : View). Safe (reading F.layouts) o x.done (doubt_after_fault action x) new) (sym (view-is D w o s n boots)) safe;
+          still = λ m found current.
+              found_fails_unwritten F w.design.fills o boots.images.kept m s.boot s.control n new s.boot.stage
+              (sym (ap (λ (x : View). x.done) (view-is D w o s n boots)) ∙ found) fails;
+        }
+
+  -- ---- by the boot's result
+
+  module _ (o : Origin) (s : Composed C) (n : Device) (booting : IsBooting (scheme_of D) o s n) (new : Device) (d : Booting) (e : C)
+      (boot : IsBoot F d) (state : D.parts.sound e) where
+    abbrev Took : Result BootStep NvmError → Type 0
+    Took r = TakesStep F r o.start n s.boot s.control new d e
+
+    pub boots-by : (r : Result BootStep NvmError) → IfOk r (λ a. a ≡ answer_of F d) → Took r
+        → IfOk r (λ step. BootsOn (scheme_of D) o step s n (booted D d e s) new)
+    boots-by (Ok a) is took =
+        subst (λ (x : BootStep). BootsOn (scheme_of D) o x s n (booted D d e s) new) (sym is)
+        (boots_on o s n booting new d e took.steps boot state)
+    boots-by (Err x) is took = tt
+
+    pub boot-fails-by : (r : Result BootStep NvmError) → Took r → OnErr r (BootFails (scheme_of D) o s n new)
+    boot-fails-by (Ok a) took = tt
+    boot-fails-by (Err x) took = boot_fails o s n booting new took.err took.frame
+
+  -- with the start of a run
+  pub took-for : (o : Origin) (start : Start) → Begins o start → (r : Result BootStep NvmError) (n : Device) (b : Booting) (c : C) (new : Device) (d : Booting) (e : C)
+      → TakesStep F r (state_of start.state) n b c new d e → TakesStep F r o.start n b c new d e
+  took-for o start begins r n b c new d e took = subst (λ (x : Plain). TakesStep F r x n b c new d e) (sym begins.state) took
+
+  pub may-step : (start : Start) (s : Composed C) (n : Device) → CanBoot (scheme_of D) start s n → CanStep F (state_of start.state) n s.boot s.control
+  may-step start s n can =
+      let boots : Boots D can.o s n = can.booting.boots in
+      subst (λ (x : Plain). CanStep F x n s.boot s.control) can.begins.state
+      (sound_may_step F w.design.fills can.o boots.images n s.boot s.control boots.origin boots.sound boots.going can.booting.up)

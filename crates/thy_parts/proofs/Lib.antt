@@ -1,0 +1,15 @@
+pub mod PlacedLemmas
+pub mod CarryLemmas
+pub mod SlotLemmas
+pub mod SoundLemmas
+pub mod SafeLemmas
+pub mod SealLemmas
+pub mod HeldLemmas
+pub mod StepLemmas
+pub mod DrainLemmas
+pub mod EndLemmas
+pub mod BootLemmas
+pub mod BootStepLemmas
+pub mod RunLemmas
+pub mod LawfulLemmas
+pub mod LawLemmas

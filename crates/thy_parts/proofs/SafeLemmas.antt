@@ -1,0 +1,303 @@
+-- Whatever a cut leaves is safe, also of an item that failed; and what holds stays over calls between the engine's.
+use Rattle.std.proofs.Common.{◌≡◌, ◌⊎◌, ℕ, ◌<◌, nat_lt, Bool, true, false, if◌then◌else◌, List, ◌∷◌, length, Contains, Option, Some, None, refl, sym, ◌∙◌, ap, subst, inl, inr, arith}
+use Rattle.thy_base.specs.declared.block.Block.{Block}
+use Rattle.thy_base.specs.declared.mark.Mark.{Mark}
+use Rattle.thy_base.specs.Device.{Device, block_at, newest, IsFramed, HasFailedToWrite, HoldsNoMore}
+use Rattle.thy_base.specs.Places.{record_blocks}
+use Rattle.thy_boot.specs.Filling.{FillingOf}
+use Rattle.thy_crash.specs.Saved.{Saved, Kept, Ready, InDoubt, guarded}
+use Rattle.thy_crash.proofs.SparesLemmas.{Spares-no_more, Spares-failed}
+use Rattle.thy_isa.specs.OnBlocks.{state_from}
+use Rattle.thy_layout.specs.declared.engine_step.EngineStep.{EngineStep}
+use Rattle.thy_layout.specs.declared.engine_step.EngineStep.TheVariants.{Copied, PageBlock, StateBlock, TableBlock}
+use Rattle.thy_layout.specs.Layout.{Layout, header_bad, looked_by, reading}
+use Rattle.thy_view.specs.Action.{FailsTo}
+use Rattle.thy_view.specs.Origin.{Origin}
+use Rattle.thy_view.specs.Safe.{Safe}
+use Rattle.thy_protocol.specs.Issuing.{AreIssued}
+use Rattle.thy_protocol.specs.Keeps.{doubt_in as doubt_of_saved}
+use Rattle.thy_protocol.specs.Moves.{standing, IsKeeping, Goes, Commits as CommitMove, LeavesAlone}
+use Rattle.thy_protocol.proofs.KeepsLemmas.{IsKeeping-move, Safe-kept, Spares-failed_action}
+use Rattle.thy_scheme.specs.CheckpointMarks.{CheckpointMarks, doubt_in, marks_after_fault}
+use Rattle.thy_engine.specs.declared.stage.EngineStage.{EngineStage}
+use Rattle.thy_engine.specs.declared.stage.EngineStage.TheVariants.{Idle, Body, Slot, Settle, Commit, Confirm, Tail}
+use Rattle.thy_engine.specs.Items.{ItemsOf, Made}
+use Rattle.thy_engine.specs.Progress.{Progress, phase_of, slot_blocks, slot_place, layout_of, Fits, Item, SlotItem, SettleItem, body_or_slot, tail_or_release, item, action_of, report, is_under_way}
+use Rattle.thy_parts.specs.Checkpoints.{Checkpoints, is_sealing, is_settled, is_confirming, saved_at, saved_failed, standing_at, HasWrittenSlot, HasWrittenBefore}
+use Rattle.thy_parts.specs.Design.{DesignOf, Composed}
+use Rattle.thy_parts.specs.IsDesign.{IsDesign}
+use Rattle.thy_parts.specs.Laws.{SameReadsKeep, DramDrainKeeps, FailedItemsAreSafe, SoundIsSafe}
+use Rattle.thy_parts.specs.Moments.{IsMoment, MakesAt, Carries, ReadsSame, parts_at}
+use Rattle.thy_parts.specs.Sound.{layout_for, IsHeld, HasState, HasCheckpoints, IsSound}
+use Rattle.thy_parts.proofs.CarryLemmas.{issued_same}
+use Rattle.thy_parts.proofs.SlotLemmas.{placed, slot_as}
+use Rattle.thy_parts.proofs.SoundLemmas.{can, moment_at, told_at, keeping_at, not_looked, some_slot, some_image, stays_made}
+
+-- ---- what a cut leaves
+
+module _ (k : CheckpointMarks) (g : Checkpoints) (sealed : g.sealed ≡ k.sealed) where
+  none_by : k.written ≡ false → None ≡ doubt_in k
+  none_by written = sym (ap (λ (b : Bool). if b then k.sealed else None) written)
+
+  -- the mark in doubt, by the images that a cut may leave and by the marks
+  pub doubt_is : (q : EngineStage) → k.written ≡ is_confirming q → doubt_of_saved (saved_at q g) g.sealed ≡ doubt_in k
+  doubt_is Idle written = none_by written
+  doubt_is (Body from) written = none_by written
+  doubt_is (Slot j) written = none_by written
+  doubt_is Settle written = none_by written
+  doubt_is Commit written = none_by written
+  doubt_is Confirm written = sealed ∙ sym (ap (λ (b : Bool). if b then k.sealed else None) written)
+  doubt_is (Tail from) written = none_by written
+
+module _ {C : Type 0} (D : DesignOf C) (o : Origin) where
+  pub safe_by : (done : Mark) (saved : Saved) (g : Checkpoints) (n : Device) (doubt : Option Mark) → g.kept ≡ Some done
+      → IsKeeping o (layout_for D o) (standing n saved g.kept g.sealed) → doubt_of_saved saved g.sealed ≡ doubt
+      → Safe (reading D.filling.layouts) o (Some done) doubt n
+  safe_by done saved g n doubt kept keeping is =
+      subst (λ (d : Option Mark). Safe (reading D.filling.layouts) o (Some done) d n) is
+      (subst (λ (m : Option Mark). Safe (reading D.filling.layouts) o m (doubt_of_saved saved g.sealed) n) kept
+      (Safe-kept D.filling.layouts o n saved g.kept g.sealed keeping))
+
+pub sound_is_safe : {C : Type 0} (D : DesignOf C) → SoundIsSafe D
+sound_is_safe D o k s n h =
+    safe_by D o k.done (saved_at s.engine.stage h.images) h.images n (doubt_in k) h.checkpoints.kept h.checkpoints.keeping
+    (doubt_is k h.images h.checkpoints.sealed s.engine.stage h.doubt)
+
+-- ---- between the engine's calls
+
+-- what an image has that was made stays, by the stage
+pub makes_over : {C : Type 0} (D : DesignOf C) (epoch : ℕ) (c d : C) (g : List Block) (q : EngineStage) → is_settled q ≡ true
+    → (MakesAt D (phase_of q) epoch c g → MakesAt D (phase_of q) epoch d g) → D.parts.makes epoch c g → D.parts.makes epoch d g
+makes_over D epoch c d g Idle settled over made = cc
+makes_over D epoch c d g (Body from) settled over made = cc
+makes_over D epoch c d g (Slot j) settled over made = cc
+makes_over D epoch c d g Settle settled over made = cc
+makes_over D epoch c d g Commit settled over made = over made
+makes_over D epoch c d g Confirm settled over made = over made
+makes_over D epoch c d g (Tail from) settled over made = cc
+
+module _ {C : Type 0} (D : DesignOf C) (w : IsDesign D) (o : Origin) (k : CheckpointMarks) (s : Composed C) (n : Device) (h : IsSound D o k s n) where
+  -- a call that leaves the engine alone, and all that holds
+  pub stays : (t : Composed C) (m : Device) → t.engine ≡ s.engine
+      → Carries D s.engine.epoch (phase_of s.engine.stage) s.control n (phase_of s.engine.stage) t.control m
+      → Fits D.filling D.items s.engine t.control → IsKeeping o (layout_for D o) (standing_at s.engine.stage m h.images)
+      → newest m 0 ≡ newest n 0 → HasWrittenBefore D s.engine.stage s.engine t.control m
+      → D.parts.rests t.storeless t.sealed_storeless (phase_of s.engine.stage) t.control → IsSound D o k t m
+  stays t m engine on fits keeping header written rests = record {
+    held = subst (λ x. IsHeld D o x t.control m) (sym engine) (record {
+      geometry = on.same_p ∙ h.held.geometry;
+      moment = on.moment;
+      fits = fits;
+      regs = h.held.regs;
+      room = on.room ∙ h.held.room;
+    });
+    images = h.images;
+    checkpoints = subst (λ x. HasCheckpoints D o k x t.control m h.images) (sym engine) (record {
+      kept = h.checkpoints.kept;
+      sealed = h.checkpoints.sealed;
+      keeping = keeping;
+      told = on.keeps h.images.before h.checkpoints.told;
+      written = written;
+      made = λ way.
+          let old = h.checkpoints.made way in
+          record {
+            mark = old.mark;
+            sealed = old.sealed;
+            of_epoch = old.of_epoch;
+            small = old.small;
+            recordable = old.recordable;
+            state_is = ap (state_from o.geometry s.engine.cpu) on.sealed ∙ old.state_is;
+            counted = old.counted;
+            commit = old.commit;
+            makes = λ settled. makes_over D s.engine.epoch s.control t.control h.images.next s.engine.stage settled (on.makes h.images.next) (old.makes settled);
+          };
+    });
+    way = ap (λ (x : Progress). is_sealing x.stage) engine ∙ h.way;
+    doubt = h.doubt ∙ sym (ap (λ (x : Progress). is_confirming x.stage) engine);
+    header = ap (λ b. header_bad (layout_for D o) b true) header ∙ h.header;
+    committed = subst (λ x. HasState D o k.done x t.control m) (sym engine) (record {
+      cpu = h.committed.cpu;
+      state = ap (state_from o.geometry h.committed.cpu) on.committed ∙ h.committed.state;
+    });
+    rests = subst (λ (x : Progress). D.parts.rests t.storeless t.sealed_storeless (phase_of x.stage) t.control) (sym engine) rests;
+  }
+
+  -- a device that may hold no more after a cut keeps the checkpoints
+  pub keeping_over : (m : Device) → length m.image ≡ length n.image → HoldsNoMore n m → IsKeeping o (layout_for D o) (standing_at s.engine.stage m h.images)
+  keeping_over m as_long no_more =
+      IsKeeping-move o (layout_for D o) _ _
+      (Goes (saved_at s.engine.stage h.images) h.images.kept h.images.sealed n m
+      (Spares-no_more (guarded (looked_by (layout_for D o)) (saved_at s.engine.stage h.images)) n m no_more as_long))
+      h.checkpoints.keeping
+
+  -- ---- over a device that gives the same to every read
+
+  module _ (m : Device) (r : ReadsSame n m) where
+    slot_over : (q : EngineStage) → s.engine.stage ≡ q → is_sealing q ≡ true → phase_of q ≡ Made → (j : ℕ)
+        → HasWrittenSlot D s.engine s.control n j → HasWrittenSlot D s.engine s.control m j
+    slot_over q is way made j written =
+        let moment = subst (λ ph. IsMoment D ph s.engine.epoch s.control n) made (moment_at D w o k s n h q is) in
+        subst (λ memory. AreIssued (layout_of D.filling s.engine).image_blocks (parts_at D s.engine s.control) m memory j)
+        (sym (w.same_reads Made s.engine.epoch s.control n m moment r).sealed)
+        (issued_same (layout_of D.filling s.engine).image_blocks (parts_at D s.engine s.control) n m (D.parts.sealed s.control n) j
+        (placed D w s.engine s.control n moment (can D w o k s n h (ap is_sealing is ∙ way))).placed r written)
+
+    written_over : (q : EngineStage) → s.engine.stage ≡ q → HasWrittenBefore D q s.engine s.control n → HasWrittenBefore D q s.engine s.control m
+    written_over Idle is b = tt
+    written_over (Body from) is b = tt
+    written_over (Slot j) is b = slot_over (Slot j) is refl refl j b
+    written_over Settle is b = slot_over Settle is refl refl (slot_blocks D.filling s.engine) b
+    written_over Commit is b = slot_over Commit is refl refl (slot_blocks D.filling s.engine) b
+    written_over Confirm is b = (
+      slot_over Confirm is refl refl (slot_blocks D.filling s.engine) b.0,
+      record { inside = omega (arith, b.1.inside, r.as_long); newest_is = r.reads 1 b.1.inside ∙ b.1.newest_is },
+    )
+    written_over (Tail from) is b = tt
+
+    reads_stay : IsSound D o k s m
+    reads_stay =
+        let on = w.same_reads (phase_of s.engine.stage) s.engine.epoch s.control n m h.held.moment r in
+        stays s m refl on h.held.fits (keeping_over m r.as_long r.no_more)
+        (r.reads 0 (let some = some_image D w o k s n h in omega (arith, some)))
+        (written_over s.engine.stage refl h.checkpoints.written) h.rests
+
+  -- ---- with another controller, whose slot says the same, and that was sealed as this one
+
+  module _ (d : C) (rest : (i : ℕ) → D.items.rest d i ≡ D.items.rest s.control i) (same : D.parts.sealed d n ≡ D.parts.sealed s.control n) where
+    pub written_as : (q : EngineStage) → HasWrittenBefore D q s.engine s.control n → HasWrittenBefore D q s.engine d n
+    written_as Idle b = tt
+    written_as (Body from) b = tt
+    written_as (Slot j) b = slot_as D s.engine s.control d n j rest same b
+    written_as Settle b = slot_as D s.engine s.control d n (slot_blocks D.filling s.engine) rest same b
+    written_as Commit b = slot_as D s.engine s.control d n (slot_blocks D.filling s.engine) rest same b
+    written_as Confirm b = (slot_as D s.engine s.control d n (slot_blocks D.filling s.engine) rest same b.0, b.1)
+    written_as (Tail from) b = tt
+
+  -- such a controller keeps the checkpoints
+  pub stays_as : (d : C) → Carries D s.engine.epoch (phase_of s.engine.stage) s.control n (phase_of s.engine.stage) d n
+      → ((i : ℕ) → D.items.rest d i ≡ D.items.rest s.control i) → IsSound D o k (record s { control = d }) n
+  stays_as d on rest =
+      stays (record s { control = d }) n refl on
+      (record { same_p = on.same_p ∙ h.held.fits.same_p; inside = h.held.fits.inside; stands = on.moment.stands })
+      h.checkpoints.keeping refl (written_as d rest on.sealed s.engine.stage h.checkpoints.written) (on.rests s.storeless s.sealed_storeless h.rests)
+
+  -- once a write of the DRAM landed
+  dram_stays : IsSound D o k (record s { control = D.filling.drained s.control }) n
+  dram_stays =
+      stays_as (D.filling.drained s.control) (w.dram_drained (phase_of s.engine.stage) s.engine.epoch s.control n h.held.moment) (w.drained_rest s.control)
+
+pub same_reads_keep : {C : Type 0} (D : DesignOf C) → IsDesign D → SameReadsKeep D
+same_reads_keep D w o k s n m h r = reads_stay D w o k s n h m r
+
+pub dram_drain_keeps : {C : Type 0} (D : DesignOf C) → IsDesign D → DramDrainKeeps D
+dram_drain_keeps D w o k s n h = dram_stays D w o k s n h
+
+-- ---- items that fail
+
+fault_of_block : (k : CheckpointMarks) (b : Bool) → marks_after_fault (if b then StateBlock else TableBlock) k ≡ k
+fault_of_block k true = refl
+fault_of_block k false = refl
+
+fault_of_step : (k : CheckpointMarks) (step : EngineStep) → (step ≡ Copied) ⊎ (step ≡ PageBlock) → marks_after_fault step k ≡ k
+fault_of_step k step (inl is) = ap (λ x. marks_after_fault x k) is
+fault_of_step k step (inr is) = ap (λ x. marks_after_fault x k) is
+
+module _ {C : Type 0} (D : DesignOf C) (w : IsDesign D) (o : Origin) (k : CheckpointMarks) (s : Composed C) (n m : Device) (h : IsSound D o k s n)
+    (framed : IsFramed n m) where
+  abbrev F : FillingOf C
+  F = D.filling
+
+  abbrev I : ItemsOf C
+  I = D.items
+
+  abbrev e : Progress
+  e = s.engine
+
+  abbrev c : C
+  c = s.control
+
+  abbrev g : Checkpoints
+  g = h.images
+
+  abbrev l : Layout
+  l = layout_for D o
+
+  -- the marks after a position, or a block of the slot, that failed
+  marks_body : (x : Option ℕ) → marks_after_fault (report I e (body_or_slot x)) k ≡ k
+  marks_body None = fault_of_block k (nat_lt 0 (record_blocks e.p))
+  marks_body (Some j) = fault_of_step k (I.step_of e.p j) (w.items.steps e.p j)
+
+  marks_tail : (x : Option ℕ) → marks_after_fault (report I e (tail_or_release x)) k ≡ k
+  marks_tail None = refl
+  marks_tail (Some j) = fault_of_step k (I.step_of e.p j) (w.items.steps e.p j)
+
+  doubt_failed : (q : EngineStage) → k.written ≡ is_confirming q
+      → doubt_of_saved (saved_failed q g) g.sealed ≡ doubt_in (marks_after_fault (report I e (item I q c)) k)
+  doubt_failed Idle written = none_by k g h.checkpoints.sealed written
+  doubt_failed (Body from) written = none_by k g h.checkpoints.sealed written ∙ ap doubt_in (sym (marks_body (I.body_next c from)))
+  doubt_failed (Slot j) written = none_by k g h.checkpoints.sealed written ∙ ap doubt_in (sym (fault_of_block k (nat_lt j (record_blocks e.p))))
+  doubt_failed Settle written = none_by k g h.checkpoints.sealed written
+  doubt_failed Commit written = h.checkpoints.sealed
+  doubt_failed Confirm written = h.checkpoints.sealed ∙ sym (ap (λ (b : Bool). if b then k.sealed else None) written)
+  doubt_failed (Tail from) written = none_by k g h.checkpoints.sealed written ∙ ap doubt_in (sym (marks_tail (I.tail_next c from)))
+
+  -- with one image kept, an action that leaves its places alone
+  fails_kept : (q : EngineStage) (i : Item) → s.engine.stage ≡ q → saved_at q g ≡ Kept g.before → LeavesAlone (1 ∷ looked_by l g.before) (action_of F I e i c n)
+      → FailsTo (action_of F I e i c n) n m → IsKeeping o l (standing m (Kept g.before) g.kept g.sealed)
+  fails_kept q i is old alone failed =
+      IsKeeping-move o l _ _
+      (Goes (Kept g.before) g.kept g.sealed n m (Spares-failed_action (1 ∷ looked_by l g.before) (action_of F I e i c n) n m alone failed framed))
+      (subst (λ x. IsKeeping o l (standing n x g.kept g.sealed)) (ap (λ r. saved_at r g) is ∙ old) h.checkpoints.keeping)
+
+  slot_alone : (q : EngineStage) (j : ℕ) → s.engine.stage ≡ q → is_sealing q ≡ true → Carries D e.epoch (phase_of q) c n Made c n → j < slot_blocks F e
+      → ¬ Contains (1 ∷ looked_by l g.before) (slot_place F e j)
+  slot_alone q j is way into below =
+      not_looked D w o k s n h (slot_place F e j)
+      (w.slot_spared e c n g.before j into.moment (can D w o k s n h (ap is_sealing is ∙ way)) (into.keeps g.before (told_at D w o k s n h q is)) below)
+
+  body_alone : (from : ℕ) (x : Option ℕ) → s.engine.stage ≡ Body from → I.body_next c from ≡ x
+      → LeavesAlone (1 ∷ looked_by l g.before) (action_of F I e (body_or_slot x) c n)
+  body_alone from None is next =
+      slot_alone (Body from) 0 is refl (w.body_ends e.epoch c n from (moment_at D w o k s n h (Body from) is) next) (some_slot D w o k s n h)
+  body_alone from (Some j) is next =
+      let first = moment_at D w o k s n h (Body from) is in
+      let passed = w.body_passes e.epoch c n from j first next in
+      let on = w.items.body_onwards c from j first.stands next in
+      not_looked D w o k s n h (I.body_place e.epoch c j)
+      (w.body_spared e.epoch c n j g.before passed.moment on.1 (passed.keeps g.before (told_at D w o k s n h (Body from) is)))
+
+  tail_alone : (from : ℕ) (x : Option ℕ) → s.engine.stage ≡ Tail from → I.tail_next c from ≡ x
+      → LeavesAlone (1 ∷ looked_by l g.before) (action_of F I e (tail_or_release x) c n)
+  tail_alone from None is next = tt
+  tail_alone from (Some j) is next =
+      let first = moment_at D w o k s n h (Tail from) is in
+      let passed = w.tail_passes e.epoch c n from j first next in
+      let on = w.items.tail_onwards c from j first.stands next in
+      not_looked D w o k s n h (I.tail_place c j)
+      (w.tail_spared e.epoch c n j g.before passed.moment on.1 (passed.keeps g.before (told_at D w o k s n h (Tail from) is)))
+
+  fails : (q : EngineStage) → s.engine.stage ≡ q → is_under_way q ≡ true → FailsTo (action_of F I e (item I q c) c n) n m
+      → IsKeeping o l (standing m (saved_failed q g) g.kept g.sealed)
+  fails Idle is way failed = cc
+  fails (Body from) is way failed = fails_kept (Body from) (body_or_slot (I.body_next c from)) is refl (body_alone from (I.body_next c from) is refl) failed
+  fails (Slot j) is way failed =
+      fails_kept (Slot j) (SlotItem j) is refl
+      (slot_alone (Slot j) j is refl (stays_made D w o k s n h (Slot j) is refl) (h.held.fits.inside j is)) failed
+  fails Settle is way failed = fails_kept Settle SettleItem is refl tt failed
+  fails Commit is way failed =
+      let old = h.checkpoints.made (ap is_sealing is) in
+      let write : HasFailedToWrite 1 (block_at g.next 1) n m = subst (λ (b : Block). HasFailedToWrite 1 b n m) (sym (old.commit (ap is_settled is))) failed in
+      subst (λ (x : Option Mark). IsKeeping o l (standing m (InDoubt g.before g.next) g.kept x)) (sym old.sealed)
+      (IsKeeping-move o l _ _ (CommitMove g.before g.next g.kept old.mark n m (inr (write, framed)))
+      (subst (λ (x : Option Mark). IsKeeping o l (standing n (Ready g.before g.next) g.kept x)) old.sealed (keeping_at D w o k s n h Commit is)))
+  fails Confirm is way failed =
+      IsKeeping-move o l _ _
+      (Goes (InDoubt g.before g.next) g.kept g.sealed n m (Spares-failed (guarded (looked_by l) (InDoubt g.before g.next)) n m failed framed))
+      (keeping_at D w o k s n h Confirm is)
+  fails (Tail from) is way failed = fails_kept (Tail from) (tail_or_release (I.tail_next c from)) is refl (tail_alone from (I.tail_next c from) is refl) failed
+
+pub failed_items_are_safe : {C : Type 0} (D : DesignOf C) → IsDesign D → FailedItemsAreSafe D
+failed_items_are_safe D w o k s n m h way failed framed =
+    safe_by D o k.done (saved_failed s.engine.stage h.images) h.images m
+    (doubt_in (marks_after_fault (report D.items s.engine (item D.items s.engine.stage s.control)) k)) h.checkpoints.kept
+    (fails D w o k s n m h framed s.engine.stage refl way failed) (doubt_failed D w o k s n m h framed s.engine.stage h.doubt)

@@ -1,0 +1,178 @@
+-- The slot of the checkpoint under way: where it is, what it says, and how it is written.
+use Rattle.std.proofs.Common.{◌≡◌, ℕ, ◌+◌, ◌-◌, ◌^◌, ◌<◌, ◌≤◌, nat_lt, Bool, true, if◌then◌else◌, List, length, map, Option, None, refl, sym, ◌∙◌, ap, subst, inl, inr, arith}
+use Rattle.std.proofs.lemmas.Bool.{lt-ltb}
+use Rattle.std.proofs.lemmas.List.FromFn.{get_or-map-range_with_len}
+use Rattle.std.specs.List.{range_with_len}
+use Rattle.std.specs.Option.{option_or}
+use Rattle.thy_base.specs.declared.block.Block.{Block}
+use Rattle.thy_base.specs.Device.{Device, block_at, newest, written_to, zero_block}
+use Rattle.thy_base.specs.Geometry.{IsInRange, console_room}
+use Rattle.thy_base.specs.Places.{record_blocks}
+use Rattle.thy_crash.specs.Saved.{IsIssued, next_image}
+use Rattle.thy_isa.specs.OnBlocks.{state_from}
+use Rattle.thy_layout.specs.declared.bad_image.BadImage.{BadImage}
+use Rattle.thy_layout.specs.AreLayouts.{Fits as SlotFits}
+use Rattle.thy_layout.specs.Commit.{commit_of}
+use Rattle.thy_layout.specs.Cpu.{cpu_block_of, cpu_of_record}
+use Rattle.thy_layout.specs.Decoded.{At}
+use Rattle.thy_layout.proofs.AskingLemmas.{map-alike}
+use Rattle.thy_layout.specs.Layout.{Layout, memory_places, header_bad, commit_bad, state_by, looked_by, slot_in, decode_by}
+use Rattle.thy_layout.proofs.ReadBackLemmas.{epoch_of-commit_of, commit_fault-commit_of, is_zero-commit_of, FitsRecord-recordable, cpu_back}
+use Rattle.thy_view.specs.Safe.{ceiling}
+use Rattle.thy_protocol.specs.Issuing.{ArePartsOf, AreIssued, IsCheckpoint}
+use Rattle.thy_protocol.proofs.IssuingLemmas.{issuing_begins, slot_goes_on, elsewhere_keeps, issued_is_checkpoint}
+use Rattle.thy_parts.proofs.PlacedLemmas.{parts_placed}
+use Rattle.thy_boot.specs.Filling.{layout_at}
+use Rattle.thy_engine.specs.Items.{Made}
+use Rattle.thy_engine.specs.Progress.{Progress, layout_of, slot_blocks, slot_block, slot_place}
+use Rattle.thy_parts.specs.Checkpoints.{HasWrittenSlot}
+use Rattle.thy_parts.specs.Design.{DesignOf}
+use Rattle.thy_parts.specs.IsDesign.{IsDesign, CanRecord}
+use Rattle.thy_parts.specs.Moments.{IsMoment, slot_list, parts_at}
+
+-- no fault of three
+no_fault : (a b c : Option BadImage) → a ≡ None → b ≡ None → c ≡ None → option_or a (option_or b c) ≡ None
+no_fault a b c x y z = ap (λ t. option_or t (option_or b c)) x ∙ ap (λ t. option_or t c) y ∙ z
+
+-- with another controller whose slot has the same blocks, as much of it is written
+pub slot_as : {C : Type 0} (D : DesignOf C) (e : Progress) (c d : C) (n : Device) (j : ℕ) → ((i : ℕ) → D.items.rest d i ≡ D.items.rest c i)
+    → D.parts.sealed d n ≡ D.parts.sealed c n → HasWrittenSlot D e c n j → HasWrittenSlot D e d n j
+slot_as D e c d n j rest sealed h =
+    let block : (i : ℕ) → slot_block D.items e d i ≡ slot_block D.items e c i =
+    λ i. ap (λ (b : Block). if nat_lt i (record_blocks e.p) then cpu_block_of e.cpu e.epoch i else b) (rest (i - record_blocks e.p)) in
+    let list : slot_list D e d ≡ slot_list D e c =
+    map-alike (slot_block D.items e d) (slot_block D.items e c) (range_with_len 0 (slot_blocks D.filling e)) (λ i inside. block i) in
+    record {
+      sized = h.sized;
+      memory_is =
+          ap (λ (slot : List Block). map (newest n) (memory_places (layout_of D.filling e) (commit_of e.epoch) slot)) list ∙ h.memory_is ∙ sym sealed;
+      slot = record {
+        each = λ i l. let read = h.slot.each i l in record { inside = read.inside; newest_is = read.newest_is ∙ sym (block i) };
+      };
+    }
+
+-- with another controller, and over another device in which the whole body stands, as much of the slot is written if that says
+-- the same and reads as before
+pub slot_reads : {C : Type 0} (D : DesignOf C) (w : IsDesign D) (e : Progress) (c d : C) (n m : Device) (j : ℕ)
+    → IsMoment D Made e.epoch d m → CanRecord D e d → length m.image ≡ length n.image → ((i : ℕ) → D.items.rest d i ≡ D.items.rest c i)
+    → ((i : ℕ) → i < slot_blocks D.filling e → newest m (slot_place D.filling e i) ≡ newest n (slot_place D.filling e i))
+    → j ≤ slot_blocks D.filling e → HasWrittenSlot D e c n j → HasWrittenSlot D e d m j
+slot_reads D w e c d n m j moment can as_long rest reads few h =
+    let block : (i : ℕ) → slot_block D.items e d i ≡ slot_block D.items e c i =
+    λ i. ap (λ (b : Block). if nat_lt i (record_blocks e.p) then cpu_block_of e.cpu e.epoch i else b) (rest (i - record_blocks e.p)) in
+    record {
+      sized = as_long ∙ h.sized;
+      memory_is = w.made_reads e d m moment can;
+      slot = record {
+        each = λ i l.
+            let read = h.slot.each i l in
+            let low = read.inside in
+            record {
+              inside = omega (arith, low, as_long);
+              newest_is = reads i (omega (arith, l, few)) ∙ read.newest_is ∙ sym (block i);
+            };
+      };
+    }
+
+module _ {C : Type 0} (D : DesignOf C) (w : IsDesign D) (e : Progress) (c : C) (n : Device) (moment : IsMoment D Made e.epoch c n) (can : CanRecord D e c) where
+  abbrev le : Layout
+  le = layout_of D.filling e
+
+  abbrev commit : Block
+  commit = commit_of e.epoch
+
+  -- the layout is of the engine's geometry
+  layout_p : (layout_of D.filling e).p ≡ e.p
+  layout_p = w.fills.laid.of e.p
+
+  fits : SlotFits (layout_of D.filling e) (commit_of e.epoch) (slot_list D e c)
+  fits = record { ceiling = ceiling; faultless = w.slot_fits e c n moment can }
+
+  pub placed : ArePartsOf (layout_of D.filling e) (commit_of e.epoch) (parts_at D e c)
+  placed =
+      parts_placed (layout_of D.filling e) (commit_of e.epoch) (slot_block D.items e c) (w.fills.laid.slot e.p (commit_of e.epoch))
+      (w.fills.laid.memory e.p (commit_of e.epoch) (slot_list D e c) fits)
+
+  -- ---- how it is written
+
+  sized : length n.image ≡ (layout_of D.filling e).image_blocks
+  sized = moment.sized ∙ ap (λ p. (layout_at D.filling p).image_blocks) can.same_p
+
+  pub slot_begins : HasWrittenSlot D e c n 0
+  slot_begins =
+      subst (λ memory. AreIssued (layout_of D.filling e).image_blocks (parts_at D e c) n memory 0) (w.made_reads e c n moment can)
+      (issuing_begins (layout_of D.filling e).image_blocks (parts_at D e c) n sized)
+
+  pub slot_more : (k : ℕ) → k < slot_blocks D.filling e → HasWrittenSlot D e c n k
+      → HasWrittenSlot D e c (written_to n (slot_place D.filling e k) (slot_block D.items e c k)) (k + 1)
+  slot_more k l h =
+      let m : Device = written_to n (slot_place D.filling e k) (slot_block D.items e c k) in
+      let same = (w.own_carries e c n (slot_place D.filling e k) (slot_block D.items e c k) moment can.same_p (inr (k, l, refl))).sealed in
+      subst (λ memory. AreIssued (layout_of D.filling e).image_blocks (parts_at D e c) m memory (k + 1)) (sym same)
+      (slot_goes_on (layout_of D.filling e).image_blocks (parts_at D e c) n m (D.parts.sealed c n) k placed.placed h l refl)
+
+  -- the write of the commit block leaves it
+  pub slot_commits : HasWrittenSlot D e c n (slot_blocks D.filling e) → HasWrittenSlot D e c (written_to n 1 (commit_of e.epoch)) (slot_blocks D.filling e)
+  slot_commits h =
+      let m : Device = written_to n 1 (commit_of e.epoch) in
+      let same = (w.own_carries e c n 1 (commit_of e.epoch) moment can.same_p (inl refl)).sealed in
+      let parts = placed.placed in
+      subst (λ memory. AreIssued (layout_of D.filling e).image_blocks (parts_at D e c) m memory (slot_blocks D.filling e)) (sym same)
+      (elsewhere_keeps (layout_of D.filling e).image_blocks (parts_at D e c) n m (D.parts.sealed c n) (slot_blocks D.filling e) placed.placed h 1 (commit_of e.epoch)
+      (omega arith)
+      (record {
+        no_slot = λ k l q. let low = parts.slot_behind in omega (arith, low, q);
+        no_memory = λ inside. let low = parts.memory_behind 1 inside in omega (arith, low);
+      })
+      refl)
+
+  -- ---- what it says
+
+  below : e.epoch < 2 ^ 64
+  below = let small = can.small in omega (arith, small)
+
+  -- its first blocks are the processor's record
+  record_block : (k : ℕ) → k < record_blocks e.p → block_at (slot_list D e c) k ≡ cpu_block_of e.cpu e.epoch k
+  record_block k l =
+      let inside : k < slot_blocks D.filling e =
+      let whole = (w.fills.laid.slot e.p (commit_of e.epoch)).record_inside in
+      let same : record_blocks (layout_of D.filling e).p ≡ record_blocks e.p = ap record_blocks layout_p in
+      omega (arith, l, whole, same) in
+      get_or-map-range_with_len (slot_block D.items e c) 0 (slot_blocks D.filling e) k k zero_block inside (omega arith)
+      ∙ ap (λ (b : Bool). if b then cpu_block_of e.cpu e.epoch k else D.items.rest c (k - record_blocks e.p)) (lt-ltb k (record_blocks e.p) l)
+
+  pub cpu_is : cpu_of_record e.p (slot_list D e c) ≡ e.cpu
+  cpu_is =
+      let range : IsInRange e.p = can.range in
+      let room : console_room e.p < 2 ^ 64 = omega arith in
+      cpu_back e.p e.cpu e.epoch (slot_list D e c) (FitsRecord-recordable e.p ceiling e.cpu e.epoch range can.recordable room (omega arith) below)
+      (record { each = record_block })
+
+  state_is : (memory : List Block) → state_by (layout_of D.filling e) (slot_list D e c) memory ≡ state_from e.p e.cpu memory
+  state_is memory =
+      ap (λ p. state_from p (cpu_of_record p (slot_list D e c)) memory) layout_p ∙ ap (λ cpu. state_from e.p cpu memory) cpu_is
+
+  -- ---- with the whole slot written, the next image is the checkpoint
+
+  module _ (written : HasWrittenSlot D e c n (slot_blocks D.filling e)) (header : header_bad (layout_of D.filling e) (newest n 0) true ≡ None) where
+    abbrev image : List Block
+    image = next_image n (commit_of e.epoch)
+
+    whole : IsCheckpoint (layout_of D.filling e) ceiling n (commit_of e.epoch) (parts_at D e c) (D.parts.sealed c n)
+    whole =
+        issued_is_checkpoint (layout_of D.filling e) ceiling n (commit_of e.epoch) (parts_at D e c) (D.parts.sealed c n) placed written (is_zero-commit_of e.epoch)
+        (no_fault (header_bad (layout_of D.filling e) (newest n 0) true) (commit_bad ceiling (newest n 0) (commit_of e.epoch))
+        ((layout_of D.filling e).slot_bad ceiling (commit_of e.epoch) (slot_list D e c)) header
+        (commit_fault-commit_of (newest n 0) e.epoch ceiling can.small (omega arith)) (w.slot_fits e c n moment can))
+
+    pub next_decodes : decode_by (layout_of D.filling e) ceiling (next_image n (commit_of e.epoch)) ≡ At e.epoch (state_from e.p e.cpu (D.parts.sealed c n))
+    next_decodes =
+        whole.decodes
+        ∙ ap (λ (k : ℕ). At k (state_by (layout_of D.filling e) (slot_list D e c) (D.parts.sealed c n))) (epoch_of-commit_of e.epoch below)
+        ∙ ap (At e.epoch) (state_is (D.parts.sealed c n))
+
+    pub next_issued : IsIssued (looked_by (layout_of D.filling e)) n (next_image n (commit_of e.epoch))
+    next_issued = whole.issued
+
+    pub next_slot : slot_in (layout_of D.filling e) (next_image n (commit_of e.epoch)) ≡ slot_list D e c
+    next_slot = whole.slot

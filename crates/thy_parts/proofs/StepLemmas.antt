@@ -1,0 +1,409 @@
+-- What a step of the engine makes of the scheme, seal and drain, merge and promotion: each call's promise.
+use Rattle.std.proofs.Common.{◌≡◌, ◌≢◌, ◌⊎◌, ℕ, ◌+◌, ◌<◌, ◌≤◌, nat_lt, Bool, true, false, if◌then◌else◌, List, [], ◌∷◌, Contains, Option, Some, None, refl, sym, ◌∙◌, ap, subst, inl, inr, arith, Result, Ok, Err, OnOk, OnErr, IfOk}
+use Rattle.std.proofs.lemmas.Bool.{both_ways}
+use Rattle.std.proofs.lemmas.List.Elements.{Contains-push, Contains-append_left, Contains-append_right}
+use Rattle.thy_base.specs.declared.block.Block.{Block}
+use Rattle.thy_base.specs.declared.nvm.NvmError.{NvmError}
+use Rattle.thy_base.specs.Device.{Device, settled, IsFramed}
+use Rattle.thy_base.specs.Places.{record_blocks}
+use Rattle.thy_boot.specs.Filling.{FillingOf, layout_at}
+use Rattle.thy_isa.specs.declared.state.CpuState.{CpuState}
+use Rattle.thy_isa.specs.OnBlocks.{state_from}
+use Rattle.thy_layout.specs.declared.engine_step.EngineStep.{EngineStep}
+use Rattle.thy_layout.specs.declared.engine_step.EngineStep.TheVariants.{Idle as NoStep, Copied, PageBlock, StateBlock, TableBlock, Barrier as BarrierMade, CommitWritten, Committed}
+use Rattle.thy_layout.specs.Commit.{commit_of}
+use Rattle.thy_layout.specs.Layout.{looked_by}
+use Rattle.thy_view.specs.Action.{WriteAt, after, FailsTo, Asks}
+use Rattle.thy_view.specs.Dram.{WritesNvm}
+use Rattle.thy_view.specs.Origin.{Origin}
+use Rattle.thy_view.proofs.ActionLemmas.{down-after, queue-after}
+use Rattle.thy_scheme.specs.CheckpointMarks.{CheckpointMarks}
+use Rattle.thy_scheme.specs.Scheme.{Stands}
+use Rattle.thy_scheme.specs.Calls.{IsDue, writes_block, engine_did, Keeps, Seals, Engines, EngineFails, OwesAfter}
+use Rattle.thy_scheme.proofs.RecordLemmas.{due-slot}
+use Rattle.thy_engine.specs.declared.stage.EngineStage.{EngineStage}
+use Rattle.thy_engine.specs.declared.stage.EngineStage.TheVariants.{Idle, Body, Slot, Settle, Commit, Confirm, Tail}
+use Rattle.thy_engine.specs.Cycles.{cycles_left}
+use Rattle.thy_engine.specs.Items.{ItemsOf, Phase, Resting, Making, Made, Applying, phase_committed}
+use Rattle.thy_engine.specs.Progress.{Progress, phase_of, slot_blocks, slot_block, slot_place, Item, SlotItem, ConfirmItem, body_or_slot, tail_or_release, item, after_slot, next_after, action_of, control_after, report, is_under_way, engine_next, control_next, action_next}
+use Rattle.thy_engine.proofs.ItemLemmas.{items_count}
+use Rattle.thy_parts.specs.Checkpoints.{Checkpoints, is_sealing, is_confirming, IsMadeFor}
+use Rattle.thy_parts.specs.Design.{DesignOf, Composed}
+use Rattle.thy_parts.specs.IsDesign.{IsDesign, IsSpared}
+use Rattle.thy_parts.specs.Laws.{taken, device_taken, step_of, sealed}
+use Rattle.thy_parts.specs.Moments.{IsMoment, Carries}
+use Rattle.thy_parts.specs.Scheme.{scheme_of}
+use Rattle.thy_parts.specs.Sound.{IsSound}
+use Rattle.thy_parts.proofs.CarryLemmas.{Carries-both, opens_both, settled_same}
+use Rattle.thy_parts.proofs.HeldLemmas.{moment_held, Keeping, keeping_carried, keeps_by}
+use Rattle.thy_parts.proofs.SafeLemmas.{failed_items_are_safe}
+use Rattle.thy_parts.proofs.SealLemmas.{seal_keeps_sound, idle_stage}
+use Rattle.thy_parts.proofs.SoundLemmas.{moment_at, told_at, can, stays_made, some_slot, items_keep_sound}
+
+-- ---- what an item is
+
+asks_slot : (lap : ℕ) (first : Bool) (x : ℕ) (block : Block) → x ≢ 1 → Asks (engine_did lap (if first then StateBlock else TableBlock)) (WriteAt x block)
+asks_slot lap true x block other = other
+asks_slot lap false x block other = other
+
+asks_position : (lap : ℕ) (step : EngineStep) (x : ℕ) (block : Block) → (step ≡ Copied) ⊎ (step ≡ PageBlock) → x ≢ 1
+    → Asks (engine_did lap step) (WriteAt x block)
+asks_position lap step x block (inl is) other = subst (λ (s : EngineStep). Asks (engine_did lap s) (WriteAt x block)) (sym is) other
+asks_position lap step x block (inr is) other = subst (λ (s : EngineStep). Asks (engine_did lap s) (WriteAt x block)) (sym is) other
+
+due_position : (step : EngineStep) (k : CheckpointMarks) → (step ≡ Copied) ⊎ (step ≡ PageBlock) → IsDue step k
+due_position step k (inl is) = subst (λ (s : EngineStep). IsDue s k) (sym is) tt
+due_position step k (inr is) = subst (λ (s : EngineStep). IsDue s k) (sym is) tt
+
+-- a place that an image is not found by is not the commit block's
+not_commit : {C : Type 0} (D : DesignOf C) (c : C) (g : List Block) (x : ℕ) → IsSpared D c g x → x ≢ 1
+not_commit D c g x free is =
+    free (subst (Contains (0 ∷ 1 ∷ looked_by (layout_at D.filling (D.filling.p c)) g)) (sym is)
+    (Contains-append_right (0 ∷ []) (1 ∷ looked_by (layout_at D.filling (D.filling.p c)) g) 1
+    (Contains-append_left (1 ∷ []) (looked_by (layout_at D.filling (D.filling.p c)) g) 1 (Contains-push [] 1))))
+
+phase_slot : {C : Type 0} (F : FillingOf C) (e : Progress) (j : ℕ) → phase_of (after_slot F e j) ≡ Made
+phase_slot F e j = by_more (nat_lt (j + 1) (slot_blocks F e)) where
+  by_more : (more : Bool) → phase_of (if more then Slot (j + 1) else Settle) ≡ Made
+  by_more true = refl
+  by_more false = refl
+
+phase_confirmed : {C : Type 0} (I : ItemsOf C) → phase_of (if I.has_tail then Tail 0 else Idle) ≡ phase_committed I
+phase_confirmed I = by_tail I.has_tail where
+  by_tail : (tail : Bool) → phase_of (if tail then Tail 0 else Idle) ≡ (if tail then Applying 0 else Resting)
+  by_tail true = refl
+  by_tail false = refl
+
+-- only a commit may raise what is owed
+owes_if : {C : Type 0} (D : DesignOf C) (step : EngineStep) (s t : Composed C) (n m : Device) → D.parts.owed t.control ≤ D.parts.owed s.control
+    → OwesAfter step (scheme_of D) s n t m
+owes_if D NoStep s t n m less = less
+owes_if D Copied s t n m less = less
+owes_if D PageBlock s t n m less = less
+owes_if D StateBlock s t n m less = less
+owes_if D TableBlock s t n m less = less
+owes_if D BarrierMade s t n m less = less
+owes_if D CommitWritten s t n m less = less
+owes_if D (Committed epoch) s t n m less = tt
+
+-- ---- a step of the engine
+
+module _ {C : Type 0} (D : DesignOf C) (w : IsDesign D) (o : Origin) (k : CheckpointMarks) (s : Composed C) (n : Device) (stands : Stands (scheme_of D) o k s n)
+    (on : is_under_way s.engine.stage ≡ true) where
+  abbrev F : FillingOf C
+  F = D.filling
+
+  abbrev I : ItemsOf C
+  I = D.items
+
+  abbrev e : Progress
+  e = s.engine
+
+  abbrev c : C
+  c = s.control
+
+  abbrev sound : IsSound D o k s n
+  sound = stands.sound
+
+  abbrev g : Checkpoints
+  g = stands.sound.images
+
+  abbrev Step : EngineStage → EngineStep
+  Step q = report I e (item I q c)
+
+  -- ---- places
+
+  passed : (from j : ℕ) → e.stage ≡ Body from → I.body_next c from ≡ Some j → Carries D e.epoch (Making from) c n (Making j) c n
+  passed from j is next = w.body_passes e.epoch c n from j (moment_at D w o k s n sound (Body from) is) next
+
+  again : (from j : ℕ) → e.stage ≡ Body from → I.body_next c from ≡ Some j → I.body_next c j ≡ Some j
+  again from j is next = (w.items.body_onwards c from j (moment_at D w o k s n sound (Body from) is).stands next).1
+
+  body_free : (from j : ℕ) → e.stage ≡ Body from → I.body_next c from ≡ Some j → IsSpared D c g.before (I.body_place e.epoch c j)
+  body_free from j is next =
+      let pass = passed from j is next in
+      w.body_spared e.epoch c n j g.before pass.moment (again from j is next) (pass.keeps g.before (told_at D w o k s n sound (Body from) is))
+
+  slot_free : (q : EngineStage) (j : ℕ) → e.stage ≡ q → is_sealing q ≡ true → Carries D e.epoch (phase_of q) c n Made c n → j < slot_blocks F e
+      → IsSpared D c g.before (slot_place F e j)
+  slot_free q j is sealing into below =
+      w.slot_spared e c n g.before j into.moment (can D w o k s n sound (ap is_sealing is ∙ sealing)) (into.keeps g.before (told_at D w o k s n sound q is)) below
+
+  into_slot : (from : ℕ) → e.stage ≡ Body from → I.body_next c from ≡ None → Carries D e.epoch (Making from) c n Made c n
+  into_slot from is next = w.body_ends e.epoch c n from (moment_at D w o k s n sound (Body from) is) next
+
+  passed_tail : (from j : ℕ) → e.stage ≡ Tail from → I.tail_next c from ≡ Some j → Carries D e.epoch (Applying from) c n (Applying j) c n
+  passed_tail from j is next = w.tail_passes e.epoch c n from j (moment_at D w o k s n sound (Tail from) is) next
+
+  again_tail : (from j : ℕ) → e.stage ≡ Tail from → I.tail_next c from ≡ Some j → I.tail_next c j ≡ Some j
+  again_tail from j is next = (w.items.tail_onwards c from j (moment_at D w o k s n sound (Tail from) is).stands next).1
+
+  tail_free : (from j : ℕ) → e.stage ≡ Tail from → I.tail_next c from ≡ Some j → IsSpared D c g.before (I.tail_place c j)
+  tail_free from j is next =
+      let pass = passed_tail from j is next in
+      w.tail_spared e.epoch c n j g.before pass.moment (again_tail from j is next) (pass.keeps g.before (told_at D w o k s n sound (Tail from) is))
+
+  -- ---- an item asks for the action that its result names, and writes if it is reported so
+
+  asks_block : (lap : ℕ) (q : EngineStage) (j : ℕ) → e.stage ≡ q → is_sealing q ≡ true → Carries D e.epoch (phase_of q) c n Made c n → j < slot_blocks F e
+      → Asks (engine_did lap (report I e (SlotItem j))) (action_of F I e (SlotItem j) c n)
+  asks_block lap q j is sealing into below =
+      asks_slot lap (nat_lt j (record_blocks e.p)) (slot_place F e j) (slot_block I e c j) (not_commit D c g.before (slot_place F e j) (slot_free q j is sealing into below))
+
+  asks_body : (lap from : ℕ) (x : Option ℕ) → e.stage ≡ Body from → I.body_next c from ≡ x
+      → Asks (engine_did lap (report I e (body_or_slot x))) (action_of F I e (body_or_slot x) c n)
+  asks_body lap from None is next = asks_block lap (Body from) 0 is refl (into_slot from is next) (some_slot D w o k s n sound)
+  asks_body lap from (Some j) is next =
+      asks_position lap (I.step_of e.p j) (I.body_place e.epoch c j) (I.body_block c n j) (w.items.steps e.p j)
+      (not_commit D c g.before (I.body_place e.epoch c j) (body_free from j is next))
+
+  asks_tail : (lap from : ℕ) (x : Option ℕ) → e.stage ≡ Tail from → I.tail_next c from ≡ x
+      → Asks (engine_did lap (report I e (tail_or_release x))) (action_of F I e (tail_or_release x) c n)
+  asks_tail lap from None is next = refl
+  asks_tail lap from (Some j) is next =
+      asks_position lap (I.step_of e.p j) (I.tail_place c j) (I.tail_block c n j) (w.items.steps e.p j)
+      (not_commit D c g.before (I.tail_place c j) (tail_free from j is next))
+
+  asks : (lap : ℕ) (q : EngineStage) → e.stage ≡ q → is_under_way q ≡ true → Asks (engine_did lap (Step q)) (action_of F I e (item I q c) c n)
+  asks lap Idle is way = cc
+  asks lap (Body from) is way = asks_body lap from (I.body_next c from) is refl
+  asks lap (Slot j) is way = asks_block lap (Slot j) j is refl (stays_made D w o k s n sound (Slot j) is refl) (sound.held.fits.inside j is)
+  asks lap Settle is way = refl
+  asks lap Commit is way = (commit_of e.epoch, refl)
+  asks lap Confirm is way = refl
+  asks lap (Tail from) is way = asks_tail lap from (I.tail_next c from) is refl
+
+  abbrev Writes : Item → Type 0
+  Writes i = writes_block (report I e i) ≡ true → WritesNvm n (after (action_of F I e i c n) n)
+
+  writes_body : (x : Option ℕ) → Writes (body_or_slot x)
+  writes_body None h = record { at = slot_place F e 0; block = slot_block I e c 0; left = refl }
+  writes_body (Some j) h = record { at = I.body_place e.epoch c j; block = I.body_block c n j; left = refl }
+
+  writes_tail : (x : Option ℕ) → Writes (tail_or_release x)
+  writes_tail None h = absurd (both_ways false refl h)
+  writes_tail (Some j) h = record { at = I.tail_place c j; block = I.tail_block c n j; left = refl }
+
+  writes : (q : EngineStage) → Writes (item I q c)
+  writes Idle h = absurd (both_ways false refl h)
+  writes (Body from) h = writes_body (I.body_next c from) h
+  writes (Slot j) h = record { at = slot_place F e j; block = slot_block I e c j; left = refl }
+  writes Settle h = absurd (both_ways false refl h)
+  writes Commit h = absurd (both_ways false refl h)
+  writes Confirm h = absurd (both_ways false refl h)
+  writes (Tail from) h = writes_tail (I.tail_next c from) h
+
+  -- ---- it is due
+
+  due_body : (x : Option ℕ) → IsDue (report I e (body_or_slot x)) k
+  due_body None = due-slot k (nat_lt 0 (record_blocks e.p))
+  due_body (Some j) = due_position (I.step_of e.p j) k (w.items.steps e.p j)
+
+  due_tail : (x : Option ℕ) → IsDue (report I e (tail_or_release x)) k
+  due_tail None = tt
+  due_tail (Some j) = due_position (I.step_of e.p j) k (w.items.steps e.p j)
+
+  due : (q : EngineStage) → e.stage ≡ q → is_under_way q ≡ true → IsDue (Step q) k
+  due Idle is way = cc
+  due (Body from) is way = due_body (I.body_next c from)
+  due (Slot j) is way = due-slot k (nat_lt j (record_blocks e.p))
+  due Settle is way = tt
+  due Commit is way =
+      let made : IsMadeFor D o e c n g = sound.checkpoints.made (ap is_sealing is) in
+      (sound.doubt ∙ ap is_confirming is, (made.mark, sym sound.checkpoints.sealed ∙ made.sealed))
+  due Confirm is way =
+      let made : IsMadeFor D o e c n g = sound.checkpoints.made (ap is_sealing is) in
+      (sound.doubt ∙ ap is_confirming is, (made.mark, sym sound.checkpoints.sealed ∙ made.sealed, made.of_epoch))
+  due (Tail from) is way = due_tail (I.tail_next c from)
+
+  -- ---- the DRAM is left alone
+
+  dram_body : (from : ℕ) (x : Option ℕ) → e.stage ≡ Body from → I.body_next c from ≡ x → F.dram (control_after I (body_or_slot x) c) ≡ F.dram c
+  dram_body from None is next = refl
+  dram_body from (Some j) is next = (w.items.body c j (passed from j is next).moment.stands (again from j is next)).dram
+
+  dram_tail : (from : ℕ) (x : Option ℕ) → e.stage ≡ Tail from → I.tail_next c from ≡ x → F.dram (control_after I (tail_or_release x) c) ≡ F.dram c
+  dram_tail from None is next = (w.items.releases c from (moment_at D w o k s n sound (Tail from) is).stands next).dram
+  dram_tail from (Some j) is next = (w.items.tail c j (passed_tail from j is next).moment.stands (again_tail from j is next)).dram
+
+  dram : (q : EngineStage) → e.stage ≡ q → F.dram (control_after I (item I q c) c) ≡ F.dram c
+  dram Idle is = refl
+  dram (Body from) is = dram_body from (I.body_next c from) is refl
+  dram (Slot j) is = refl
+  dram Settle is = refl
+  dram Commit is = refl
+  dram Confirm is = (w.items.commits c (moment_at D w o k s n sound Confirm is).stands).dram
+  dram (Tail from) is = dram_tail from (I.tail_next c from) is refl
+
+  -- ---- what it leaves of the moment
+
+  abbrev To : EngineStage → Item → Type 0
+  To q i = Carries D e.epoch (phase_of q) c n (phase_of (next_after F I e i)) (control_after I i c) (after (action_of F I e i c n) n)
+
+  carries_slot : (q : EngineStage) (j : ℕ) → Carries D e.epoch (phase_of q) c n Made c n → j < slot_blocks F e → To q (SlotItem j)
+  carries_slot q j into below =
+      subst (λ (to : Phase). Carries D e.epoch (phase_of q) c n to c (after (action_of F I e (SlotItem j) c n) n)) (sym (phase_slot F e j))
+      (Carries-both D e.epoch (phase_of q) Made Made c c c n n (after (action_of F I e (SlotItem j) c n) n) into
+      (w.own_carries e c n (slot_place F e j) (slot_block I e c j) into.moment sound.held.fits.same_p (inr (j, below, refl))))
+
+  carries_body : (from : ℕ) (x : Option ℕ) → e.stage ≡ Body from → I.body_next c from ≡ x → To (Body from) (body_or_slot x)
+  carries_body from None is next = carries_slot (Body from) 0 (into_slot from is next) (some_slot D w o k s n sound)
+  carries_body from (Some j) is next =
+      let pass = passed from j is next in
+      Carries-both D e.epoch (Making from) (Making j) (Making (j + 1)) c c (I.body_after c j) n n (after (action_of F I e (body_or_slot (Some j)) c n) n)
+      pass (w.body_carries e.epoch c n j pass.moment (again from j is next))
+
+  carries_tail : (from : ℕ) (x : Option ℕ) → e.stage ≡ Tail from → I.tail_next c from ≡ x → To (Tail from) (tail_or_release x)
+  carries_tail from None is next =
+      let over = w.same_reads (Applying from) e.epoch c n (settled n) (moment_at D w o k s n sound (Tail from) is) (settled_same n) in
+      Carries-both D e.epoch (Applying from) (Applying from) Resting c c (I.released c) n (settled n) (settled n) over
+      (w.releases e.epoch c (settled n) from over.moment next)
+  carries_tail from (Some j) is next =
+      let pass = passed_tail from j is next in
+      Carries-both D e.epoch (Applying from) (Applying j) (Applying (j + 1)) c c (I.tail_after c j) n n (after (action_of F I e (tail_or_release (Some j)) c n) n)
+      pass (w.tail_carries e.epoch c n j pass.moment (again_tail from j is next))
+
+  carries : (q : EngineStage) → e.stage ≡ q → is_under_way q ≡ true → is_confirming q ≡ false → To q (item I q c)
+  carries Idle is way unconfirmed = cc
+  carries (Body from) is way unconfirmed = carries_body from (I.body_next c from) is refl
+  carries (Slot j) is way unconfirmed = carries_slot (Slot j) j (stays_made D w o k s n sound (Slot j) is refl) (sound.held.fits.inside j is)
+  carries Settle is way unconfirmed = w.same_reads Made e.epoch c n (settled n) (moment_at D w o k s n sound Settle is) (settled_same n)
+  carries Commit is way unconfirmed = w.own_carries e c n 1 (commit_of e.epoch) (moment_at D w o k s n sound Commit is) sound.held.fits.same_p (inl refl)
+  carries Confirm is way unconfirmed = cc
+  carries (Tail from) is way unconfirmed = carries_tail from (I.tail_next c from) is refl
+
+  abbrev Kept : EngineStage → Item → Type 0
+  Kept q i = Keeping D e.epoch (phase_of q) c n (phase_of (next_after F I e i)) (control_after I i c) (after (action_of F I e i c n) n)
+
+  carried : (q : EngineStage) → e.stage ≡ q → is_under_way q ≡ true → is_confirming q ≡ false → Kept q (item I q c)
+  carried q is way unconfirmed =
+      keeping_carried D e.epoch (phase_of q) (phase_of (next_after F I e (item I q c))) c (control_after I (item I q c) c) n
+      (after (action_of F I e (item I q c) c n) n) (moment_at D w o k s n sound q is) (carries q is way unconfirmed)
+
+  kept_confirmed : e.stage ≡ Confirm → Kept Confirm ConfirmItem
+  kept_confirmed is =
+      let first = moment_at D w o k s n sound Confirm is in
+      let over = w.same_reads Made e.epoch c n (settled n) first (settled_same n) in
+      let to = w.commits e.epoch c (settled n) over.moment in
+      subst (λ (x : Phase). Keeping D e.epoch Made c n x (I.committed c) (settled n)) (sym (phase_confirmed I)) (record {
+        old = first;
+        moment = to.moment;
+        loads = to.loads ∙ over.loads;
+        free = let a = to.free in let b = over.free in omega (arith, a, b);
+        opened = opens_both (D.parts.open_page c) (D.parts.open_page c) (D.parts.open_page (I.committed c)) over.opened to.opened;
+        owed = let a = to.owed_later in let b = over.owed_later in omega (arith, a, b);
+        pages = record {
+          whole = λ h. to.pages.whole (over.pages.whole h);
+          merges = let a = to.pages.merges in let b = over.pages.merges in omega (arith, a, b);
+          promotions = let a = to.pages.promotions in let b = over.pages.promotions in omega (arith, a, b);
+        };
+      })
+
+  kept : (q : EngineStage) → e.stage ≡ q → is_under_way q ≡ true → Kept q (item I q c)
+  kept Idle is way = cc
+  kept (Body from) is way = carried (Body from) is refl refl
+  kept (Slot j) is way = carried (Slot j) is refl refl
+  kept Settle is way = carried Settle is refl refl
+  kept Commit is way = carried Commit is refl refl
+  kept Confirm is way = kept_confirmed is
+  kept (Tail from) is way = carried (Tail from) is refl refl
+
+  -- a step that is no commit owes no more
+  owed_by : (q : EngineStage) → e.stage ≡ q → is_under_way q ≡ true → is_confirming q ≡ false
+      → OwesAfter (Step q) (scheme_of D) s n (taken D s) (device_taken D s n)
+  owed_by q is way unconfirmed =
+      owes_if D (Step q) s (taken D s) n (device_taken D s n)
+      (subst (λ (r : EngineStage). D.parts.owed (control_after I (item I r c) c) ≤ D.parts.owed c) (sym is)
+      (carries q is way unconfirmed).owed)
+
+  owes : (q : EngineStage) → e.stage ≡ q → is_under_way q ≡ true → OwesAfter (Step q) (scheme_of D) s n (taken D s) (device_taken D s n)
+  owes Idle is way = cc
+  owes (Body from) is way = owed_by (Body from) is refl refl
+  owes (Slot j) is way = owed_by (Slot j) is refl refl
+  owes Settle is way = owed_by Settle is refl refl
+  owes Commit is way = owed_by Commit is refl refl
+  owes Confirm is way = tt
+  owes (Tail from) is way = owed_by (Tail from) is refl refl
+
+  count : cycles_left F I (engine_next F I e c) (control_next I e c) + 1 ≤ cycles_left F I e c
+  count = items_count F I w.fills.laid w.items e c sound.held.fits on
+
+  up_then : (device_taken D s n).down ≡ false
+  up_then = down-after (action_next F I e c n) n ∙ stands.up
+
+  keeps : Keeps (scheme_of D) s n (taken D s) (device_taken D s n)
+  keeps =
+      keeps_by D w e.epoch s (taken D s) n (device_taken D s n) (kept e.stage refl on) stands.up up_then (let less = count in omega (arith, less)) refl refl
+
+  pub engines : Engines (scheme_of D) o k (step_of D s) s n (taken D s) (device_taken D s n)
+  engines = record {
+    due = due e.stage refl on;
+    sound = items_keep_sound D w o k s n sound on;
+    keeps = keeps;
+    owes = owes e.stage refl on;
+    acts = λ lap. record { action = action_next F I e c n; asked = asks lap e.stage refl on; left = refl };
+    dram = inl (dram e.stage refl);
+    writes = λ h. inl (writes e.stage h);
+    queue =
+        let same : (F.dram (control_next I e c)).queued ≡ (F.dram c).queued = ap (λ d. d.queued) (dram e.stage refl) in
+        omega (arith, queue-after (action_next F I e c n) n, same);
+    nearer = count;
+  }
+
+  pub engine-fails : (new : Device) → FailsTo (action_next F I e c n) n new → IsFramed n new → EngineFails (scheme_of D) o k n new
+  engine-fails new failed framed = record {
+    step = step_of D s;
+    acted = λ lap. record { action = action_next F I e c n; asked = asks lap e.stage refl on; failed = failed };
+    safe = failed_items_are_safe D w o k s n new sound on failed framed;
+  }
+
+  -- ---- by the engine's result
+
+  abbrev With : C → Progress → Composed C
+  With t f = record s { control = t; engine = f }
+
+  pub engines-by : (f : Progress) (t : C) (new : Device) (r : Result EngineStep NvmError)
+      → IfOk r (λ step. step ≡ step_of D s) → OnOk r (f ≡ engine_next F I e c) → OnOk r (t ≡ control_next I e c)
+      → OnOk r (new ≡ after (action_next F I e c n) n) → IfOk r (λ step. Engines (scheme_of D) o k step s n (With t f) new)
+  engines-by f t new (Ok step) told engine control device =
+      subst (λ (x : EngineStep). Engines (scheme_of D) o k x s n (With t f) new) (sym told)
+      (subst (λ (x : Progress). Engines (scheme_of D) o k (step_of D s) s n (With t x) new) (sym engine)
+      (subst (λ (x : C). Engines (scheme_of D) o k (step_of D s) s n (With x (engine_next F I e c)) new) (sym control)
+      (subst (λ (x : Device). Engines (scheme_of D) o k (step_of D s) s n (With (control_next I e c) (engine_next F I e c)) x) (sym device) engines)))
+  engines-by f t new (Err x) told engine control device = tt
+
+  pub fails-by : (new : Device) (r : Result EngineStep NvmError) → OnErr r (FailsTo (action_next F I e c n) n new) → IsFramed n new
+      → OnErr r (EngineFails (scheme_of D) o k n new)
+  fails-by new (Ok step) failed framed = tt
+  fails-by new (Err x) failed framed = engine-fails new failed framed
+
+-- ---- a seal
+
+pub seals : {C : Type 0} (D : DesignOf C) → IsDesign D → (o : Origin) (k : CheckpointMarks) (cpu : CpuState) (epoch : ℕ) (s : Composed C) (n : Device)
+    → Stands (scheme_of D) o k s n → is_under_way s.engine.stage ≡ false → Seals (scheme_of D) o k cpu epoch s n (sealed D cpu epoch s)
+seals D w o k cpu epoch s n stands idle =
+    let nothing = idle_stage s.engine.stage idle in
+    let first : IsMoment D Resting s.engine.epoch s.control n = moment_at D w o k s n stands.sound Idle nothing in
+    let to = w.seals s.engine.epoch epoch s.control n first in
+    let held = moment_held D s.control n w Resting s.engine.epoch first stands.up in
+    record {
+      sound = λ m t. seal_keeps_sound D w o k cpu epoch m s n stands.sound idle (record {
+        unsealed = t.unsealed;
+        unwritten = t.unwritten;
+        next = t.next;
+        of_epoch = t.of_epoch;
+        small = t.small;
+        recordable = t.recordable;
+        state = ap (state_from o.geometry cpu) (sym held) ∙ t.state;
+        counted = t.counted;
+      });
+      held = record {
+        blocks = moment_held D (D.parts.seal s.control) n w (Making 0) epoch to.moment stands.up ∙ to.loads ∙ sym held;
+        free = to.free;
+        opened = to.opened;
+      };
+      dram = to.dram;
+      queue = ap (λ d. d.queued) to.dram;
+      storeless = refl;
+      sealed_storeless = refl;
+    }

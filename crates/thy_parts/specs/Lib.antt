@@ -1,0 +1,15 @@
+pub mod Design
+pub mod Moments
+pub mod Holding
+pub mod IsDesign
+pub mod Powering
+pub mod Storing
+pub mod Paging
+pub mod AreParts
+pub mod Checkpoints
+pub mod Sound
+pub mod Stays
+pub mod Boots
+pub mod Calls
+pub mod Scheme
+pub mod Laws

@@ -1,0 +1,129 @@
+//! What a scheme says of itself beside its boot and its engine.
+ghost use Rattle.std.specs.Prelude.{◌≡◌, ◌<◌, true, false, length, IfOk, OnErr};
+ghost use Rattle.thy_base.specs.Device.{block_at};
+ghost use Rattle.thy_boot.specs.Filling.{layout_at};
+ghost use Rattle.thy_dram.specs.Contents.{lost};
+ghost use Rattle.thy_engine.specs.Progress.{Acts, phase_of};
+ghost use Rattle.thy_parts.specs.AreParts.{AreParts};
+ghost use Rattle.thy_parts.specs.Calls.{IsReading, Promotes, merged_next, promoted_next};
+ghost use Rattle.thy_parts.specs.Design.{PartsOf, design_of};
+ghost use Rattle.thy_parts.specs.Storing.{CanStore};
+ghost use Rattle.thy_view.specs.Kind.{IsDramOf};
+
+use std::alloc::{AllocError, Global};
+use thy_base::{Block, Geometry, Nvm, NvmError, Stored};
+use thy_boot::Fills;
+use thy_dram::Dram;
+use thy_engine::{Checkpoints, EngineStage};
+
+/// A scheme's controller: how power comes on, how loads and stores go, and what a seal makes of it. Together with what its
+/// boot fills and what its engine writes that is a scheme.
+pub trait Parts: Checkpoints {
+    /// What is seen of controllers.
+    ghost parts: { PartsOf Self.Control };
+
+    /// A controller whose power has just come on, over a DRAM of any content.
+    fn power_on(alloc: Global, geometry: &Geometry, dram: Dram) -> Result<Self::Control, AllocError>
+        requires { IsDramOf geometry.now dram }
+        ensures { IfOk result (λ control. control ≡ parts.powered geometry.now dram) };
+
+    /// Loses power: all is gone but the DRAM, whose bytes are those that the pick draws.
+    fn cut(control: Self::Control, pick: u64) -> Dram
+        ensures { result ≡ lost (Self.filling.dram control) pick };
+
+    /// Its tables and its DRAM are sound. It does nothing.
+    fn sound(control: &Self::Control)
+        ensures { parts.sound control.now };
+
+    /// Block `b` of memory. It fails only if that block is in the NVM.
+    fn load<N: Nvm>(control: &Self::Control, b: u64, nvm: &mut N) -> Result<Block, NvmError>
+        requires inside { b < length (Self.filling.loads control.now (N.device nvm.old)) }
+        requires sized { length (N.device nvm.old).image ≡ (layout_at Self.filling (Self.filling.p control.now)).image_blocks }
+        requires up { (N.device nvm.old).down ≡ false }
+        ensures ok { let held = Self.filling.loads control.now (N.device nvm.old) in
+            IfOk result (λ block. block ≡ block_at held b) }
+        ensures side { OnErr result (parts.load_reads control.now b ≡ true) }
+        ensures reads { IsReading result (N.device nvm.old) (N.device nvm.new) }
+        ensures same_writes { N.writes nvm.new ≡ N.writes nvm.old };
+
+    /// Block `b` of memory, as the committed checkpoint has it.
+    fn committed<N: Nvm>(
+        control: &Self::Control,
+        stage: EngineStage,
+        b: u64,
+        nvm: &mut N,
+    ) -> Result<Block, NvmError>
+        requires inside { b < length (parts.committed (phase_of stage) control.now (N.device nvm.old)) }
+        requires sized { length (N.device nvm.old).image ≡ (layout_at Self.filling (Self.filling.p control.now)).image_blocks }
+        requires up { (N.device nvm.old).down ≡ false }
+        ensures ok { let held = parts.committed (phase_of stage) control.now (N.device nvm.old) in
+            IfOk result (λ block. block ≡ block_at held b) }
+        ensures side { OnErr result (parts.committed_reads (phase_of stage) control.now b ≡ true) }
+        ensures reads { IsReading result (N.device nvm.old) (N.device nvm.new) }
+        ensures same_writes { N.writes nvm.new ≡ N.writes nvm.old };
+
+    /// Stores block `b` of memory, or makes the copy that has to come first.
+    fn store<N: Nvm>(
+        control: &mut Self::Control,
+        b: u64,
+        block: &Block,
+        nvm: &mut N,
+    ) -> Result<Stored, NvmError>
+        requires { CanStore (design_of Self.filling Self.items parts) b control.old (N.device nvm.old) }
+        ensures answer { IfOk result (λ stored. stored ≡ parts.store_answer b control.old) }
+        ensures acts { let later = parts.stored b block.now control.old (N.device nvm.old) in
+            let action = parts.store_action b block.now control.old in
+            Acts action later result control.old (N.device nvm.old) control.new (N.device nvm.new) };
+
+    /// Whether still no block was stored, after a store that returned this.
+    fn storeless_after(stored: Stored, storeless: bool) -> bool
+        ensures { result ≡ parts.storeless_after stored storeless };
+
+    /// How many table entries are free.
+    fn free(control: &Self::Control) -> u64
+        ensures { result ≡ parts.free control.now };
+
+    /// How many writes are queued in the DRAM.
+    fn queued(control: &Self::Control) -> u64
+        ensures { result ≡ (Self.filling.dram control.now).queued };
+
+    /// Lets the oldest queued write of the DRAM land.
+    fn drain(control: &mut Self::Control)
+        requires { 0 < (Self.filling.dram control.old).queued }
+        ensures { control.new ≡ Self.filling.drained control.old };
+
+    /// Whether a block has still to be merged into its page before a seal.
+    fn overlay(control: &Self::Control) -> bool
+        ensures { result ≡ parts.pages.overlaid control.now };
+
+    /// Merges the next such block into its page, if there is one.
+    fn merge(control: &mut Self::Control)
+        ensures { control.new ≡ merged_next parts.pages control.old };
+
+    /// Whether a block of a page has still to be promoted before a store.
+    fn promoting(control: &Self::Control) -> bool
+        ensures { result ≡ parts.pages.promoting control.now };
+
+    /// Promotes the next such block, if there is one. If the NVM failed, the controller is as it was.
+    fn promote<N: Nvm>(control: &mut Self::Control, nvm: &mut N) -> Result<(), NvmError>
+        requires sized { length (N.device nvm.old).image ≡ (layout_at Self.filling (Self.filling.p control.old)).image_blocks }
+        requires up { (N.device nvm.old).down ≡ false }
+        ensures promotes { let n = N.device nvm.old in
+            Promotes (promoted_next parts.pages control.old n) result control.old control.new }
+        ensures some { OnErr result (parts.pages.promoting control.old ≡ true) }
+        ensures reads { IsReading result (N.device nvm.old) (N.device nvm.new) }
+        ensures same_writes { N.writes nvm.new ≡ N.writes nvm.old };
+
+    /// An epoch is sealed.
+    fn seal(control: &mut Self::Control)
+        requires whole { parts.pages.promoting control.old ≡ false }
+        requires bare { parts.pages.overlaid control.old ≡ false }
+        ensures { control.new ≡ parts.seal control.old };
+
+    /// Whether the hart may run while a checkpoint is under way.
+    fn overlaps() -> bool
+        ensures { result ≡ parts.overlaps };
+
+    /// What holds of the parts.
+    ghost are_parts: { AreParts (design_of Self.filling Self.items parts) };
+}
