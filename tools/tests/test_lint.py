@@ -189,9 +189,9 @@ class Parts(unittest.TestCase):
         self.assertEqual(uses.modules, {"list": "std.list"})
 
     def test_a_type_by_another_name(self):
-        # In this repository the journal is a type over another one, and shadow paging is not.
+        # In this repository the journal is a type over another one, and the scheme of both tables is not.
         self.assertEqual(claim.alias_of("Journal"), ("Composed", "Refill"))
-        self.assertEqual(claim.alias_of("Shadow"), ("Shadow", None))
+        self.assertEqual(claim.alias_of("DualScheme"), ("DualScheme", None))
 
     def test_the_table_of_the_page(self):
         text = "## The order of reading\n\n| | crate | read | skim |\n|---|---|---|---|\n| 1 | low | `One.antt`, `Two.antt` | |\n| 2 | high | | `Three.antt` |\n\n## More\n"

@@ -1,7 +1,6 @@
 //! Power, loads and stores.
-ghost use Rattle.std.specs.Prelude.{◌≡◌, false, true, OnErr};
+ghost use Rattle.std.specs.Prelude.{◌≡◌};
 ghost use Rattle.thy_engine.specs.Progress.{is_applying};
-ghost use Rattle.thy_parts.specs.Calls.{IsReading, Promotes};
 
 use crate::fills::Refill;
 use std::alloc::{AllocError, Global};
@@ -95,20 +94,13 @@ impl Parts for Refill {
         false
     }
 
-    fn merge(control: &mut Log)
-        ensures { control.new ≡ control.old }
-    {}
+    fn merge(control: &mut Log) {}
 
     fn promoting(control: &Log) -> bool {
         false
     }
 
-    fn promote<N: Nvm>(control: &mut Log, nvm: &mut N) -> Result<(), NvmError>
-        ensures promotes { Promotes control.old result control.old control.new }
-        ensures some { OnErr result (false ≡ true) }
-        ensures reads { IsReading result (N.device nvm.old) (N.device nvm.new) }
-        ensures same_writes { N.writes nvm.new ≡ N.writes nvm.old }
-    {
+    fn promote<N: Nvm>(control: &mut Log, nvm: &mut N) -> Result<(), NvmError> {
         let _left_alone = &*nvm;
         Ok(())
     }

@@ -4,9 +4,11 @@ use Rattle.std.proofs.lemmas.List.{length-replicate}
 use Rattle.thy_base.specs.declared.block.Block.{Block}
 use Rattle.thy_base.specs.declared.config.Parameters.{Parameters}
 use Rattle.thy_base.specs.Device.{Device, IsCut, IsFramed}
+use Rattle.thy_base.specs.Geometry.{memory_blocks}
 use Rattle.thy_base.specs.Places.{dram_blocks}
 use Rattle.thy_base.proofs.BasicLemmas.{room-cut}
 use Rattle.thy_dram.specs.Contents.{Contents, lost}
+use Rattle.thy_isa.specs.declared.state.CpuState.{CpuState}
 use Rattle.thy_isa.specs.Step.{State as Plain}
 use Rattle.thy_view.specs.Action.{after}
 use Rattle.thy_view.proofs.ActionLemmas.{down-after}
@@ -19,14 +21,18 @@ use Rattle.thy_boot.specs.Start.{CanStart}
 use Rattle.thy_boot.specs.Steps.{Steps, StepsAt}
 use Rattle.thy_boot.proofs.ReadLemmas.{HasRead-new}
 use Rattle.thy_shadow_image.specs.Places.{slot_blocks, image_blocks}
-use Rattle.thy_pool.specs.Progress.{Progress, state_next, engine_next, action_next, item_of}
+use Rattle.thy_engine.specs.declared.stage.EngineStage.{EngineStage}
+use Rattle.thy_engine.specs.declared.stage.EngineStage.TheVariants.{Idle, Body, Slot, Settle, Commit, Confirm, Tail}
+use Rattle.thy_engine.specs.Progress.{Progress, Fits, Item, NoItem, BodyItem, SlotItem, SettleItem, CommitItem, ConfirmItem, TailItem, ReleaseItem, new_engine, begun, is_under_way, phase_of, control_after, control_next, action_next, item_of}
+use Rattle.thy_pool.specs.Commit.{sealed_state}
 use Rattle.thy_pool.specs.State.{State, IsSoundState}
-use Rattle.thy_pool.specs.Stores.{StoreCase, Into, Fill, Copy, store_case, after_case, after_store, new_state}
+use Rattle.thy_pool.specs.Stores.{StoreCase, Into, Fill, Copy, store_case, after_case, after_store, after_drain, new_state}
 use Rattle.thy_pool.proofs.StateLemmas.{entry_at-empty}
 use Rattle.thy_repool.specs.Filling.{filling_shadow}
-use Rattle.thy_shadow_laws.proofs.AfterLemmas.{p_after}
-use Rattle.thy_shadow_scheme.proofs.PowerLemmas.{first_committed}
-use Rattle.thy_machine_tests.specs.Least.{HasRoom, off}
+use Rattle.thy_shadow_laws.specs.Design.{items_shadow, stands_at}
+use Rattle.thy_shadow_laws.proofs.DesignLemmas.{stands_drained}
+use Rattle.thy_shadow_laws.proofs.PartsLemmas.{first_committed}
+use Rattle.thy_machine_tests.specs.Least.{all, HasRoom, off}
 use Rattle.thy_machine_tests.specs.PoolParts.{IsOff, Boots, parts, AreParts}
 use Rattle.thy_machine_tests.proofs.LeastLemmas.{HasRoom-framed, length-over}
 
@@ -75,12 +81,19 @@ Boots-of p s dram n b c start b_is c_is state sized settled up =
 
 -- ---- after the boot
 
--- so they are after calls that leave the geometries, and the NVM up
+-- so they are after a boot
+pub AreParts-begun : (p : Parameters) (s : State) (e : Progress) (n : Device) (cuts : ℕ) → s.p ≡ p → IsSoundState s → e ≡ new_engine p → memory_blocks p ≡ all
+    → length n.image ≡ image_blocks p → n.down ≡ false → HasRoom n cuts → AreParts (parts p s e n cuts)
+AreParts-begun p s e n cuts pool sound begun blocks sized up room =
+    subst (λ (x : Progress). AreParts (parts p s x n cuts)) (sym begun)
+    (record { pool_p = pool; fits = record { same_p = pool; inside = λ k is. cc; stands = sound }; blocks = blocks; sized = sized; up = up; room = room })
+
+-- and after calls that leave the geometry, and the NVM up, with an engine that belongs to the pool
 pub AreParts-on : (p : Parameters) (s t : State) (e f : Progress) (m n : Device) (cuts : ℕ) → AreParts (parts p s e m cuts)
-    → t.p ≡ s.p → f.p ≡ e.p → n.down ≡ m.down → IsFramed m n → AreParts (parts p t f n cuts)
-AreParts-on p s t e f m n cuts w pool engine down frame = record {
+    → t.p ≡ s.p → Fits filling_shadow items_shadow f t → n.down ≡ m.down → IsFramed m n → AreParts (parts p t f n cuts)
+AreParts-on p s t e f m n cuts w pool fits down frame = record {
   pool_p = pool ∙ w.pool_p;
-  engine_p = engine ∙ w.engine_p;
+  fits = fits;
   blocks = w.blocks;
   sized = frame.blocks ∙ w.sized;
   up = down ∙ w.up;
@@ -96,18 +109,82 @@ same-store : (b : ℕ) (block : Block) (n : Device) (s : State) → (after_store
 unfolding after_store
 same-store b block n s = same-case (store_case b s) b block n s
 
--- so they are after a store, which reads the NVM or leaves it
-pub AreParts-store : (p : Parameters) (s t : State) (e : Progress) (m n : Device) (cuts b : ℕ) (block : Block) → AreParts (parts p s e m cuts)
-    → t ≡ after_store b block m s → n ≡ m → IsFramed m n → AreParts (parts p t e n cuts)
-AreParts-store p s t e m n cuts b block w pool device frame =
-    AreParts-on p s t e e m n cuts w (ap (λ (x : State). x.p) pool ∙ same-store b block m s) refl (ap (λ (x : Device). x.down) device) frame
+-- an engine with nothing to do belongs to every pool of its geometry
+idle_is : (q : EngineStage) → is_under_way q ≡ false → q ≡ Idle
+idle_is Idle none = refl
+idle_is (Body from) none = cc
+idle_is (Slot k) none = cc
+idle_is Settle none = cc
+idle_is Commit none = cc
+idle_is Confirm none = cc
+idle_is (Tail from) none = cc
 
--- so they are after an action of the engine
+fits_idle : (e : Progress) (s : State) → s.p ≡ e.p → IsSoundState s → is_under_way e.stage ≡ false → Fits filling_shadow items_shadow e s
+fits_idle e s same sound idle =
+    let is : e.stage ≡ Idle = idle_is e.stage idle in
+    record {
+      same_p = same;
+      inside = λ k at. let both : Idle ≡ Slot k = sym is ∙ at in absurd cc;
+      stands = subst (λ (q : EngineStage). stands_at (phase_of q) s) (sym is) sound;
+    }
+
+-- a store reads the NVM or leaves it
+pub AreParts-store : (p : Parameters) (s t : State) (e : Progress) (m n : Device) (cuts b : ℕ) (block : Block) → AreParts (parts p s e m cuts)
+    → is_under_way e.stage ≡ false → IsSoundState t → t ≡ after_store b block m s → n ≡ m → IsFramed m n → AreParts (parts p t e n cuts)
+AreParts-store p s t e m n cuts b block w idle sound pool device frame =
+    let same : t.p ≡ s.p = ap (λ (x : State). x.p) pool ∙ same-store b block m s in
+    AreParts-on p s t e e m n cuts w same (fits_idle e t (same ∙ w.fits.same_p) sound idle) (ap (λ (x : Device). x.down) device) frame
+
+-- with a seal the checkpoint begins
+pub AreParts-sealed : (p : Parameters) (s t : State) (e f : Progress) (n : Device) (cuts epoch : ℕ) (cpu : CpuState) → AreParts (parts p s e n cuts)
+    → t ≡ sealed_state s → f ≡ begun cpu epoch e → IsSoundState t → AreParts (parts p t f n cuts)
+AreParts-sealed p s t e f n cuts epoch cpu w pool engine sound =
+    subst (λ (x : State). AreParts (parts p x f n cuts)) (sym pool)
+    (subst (λ (x : Progress). AreParts (parts p (sealed_state s) x n cuts)) (sym engine)
+    (record {
+      pool_p = w.pool_p;
+      fits = record {
+        same_p = w.fits.same_p;
+        inside = λ k is. cc;
+        stands = record { sound = subst (λ (x : State). IsSoundState x) pool sound; unbegun = refl };
+      };
+      blocks = w.blocks;
+      sized = w.sized;
+      up = w.up;
+      room = w.room;
+    }))
+
+-- a drain of the DRAM leaves them
+pub AreParts-drained : (p : Parameters) (s t : State) (e : Progress) (n : Device) (cuts : ℕ) → AreParts (parts p s e n cuts)
+    → t ≡ after_drain s → AreParts (parts p t e n cuts)
+AreParts-drained p s t e n cuts w pool =
+    subst (λ (x : State). AreParts (parts p x e n cuts)) (sym pool)
+    (record {
+      pool_p = w.pool_p;
+      fits = record { same_p = w.fits.same_p; inside = w.fits.inside; stands = stands_drained (phase_of e.stage) s w.fits.stands };
+      blocks = w.blocks;
+      sized = w.sized;
+      up = w.up;
+      room = w.room;
+    })
+
+same-item : (i : Item) (s : State) → (control_after items_shadow i s).p ≡ s.p
+same-item NoItem s = refl
+same-item (BodyItem k) s = refl
+same-item (SlotItem k) s = refl
+same-item SettleItem s = refl
+same-item CommitItem s = refl
+same-item ConfirmItem s = refl
+same-item (TailItem k) s = refl
+same-item ReleaseItem s = refl
+
+-- and after an action of the engine
 pub AreParts-item : (p : Parameters) (s t : State) (e f : Progress) (m n : Device) (cuts : ℕ) → AreParts (parts p s e m cuts)
-    → t ≡ state_next e s → f ≡ engine_next e s → n ≡ after (action_next e s) m → IsFramed m n → AreParts (parts p t f n cuts)
-AreParts-item p s t e f m n cuts w pool engine device frame =
-    AreParts-on p s t e f m n cuts w (ap (λ (x : State). x.p) pool ∙ p_after (item_of e s) s) (ap (λ (x : Progress). x.p) engine)
-    (ap (λ (x : Device). x.down) device ∙ down-after (action_next e s) m) frame
+    → t ≡ control_next items_shadow e s → Fits filling_shadow items_shadow f t → n ≡ after (action_next filling_shadow items_shadow e s m) m → IsFramed m n
+    → AreParts (parts p t f n cuts)
+AreParts-item p s t e f m n cuts w pool fits device frame =
+    AreParts-on p s t e f m n cuts w (ap (λ (x : State). x.p) pool ∙ same-item (item_of items_shadow e s) s) fits
+    (ap (λ (x : Device). x.down) device ∙ down-after (action_next filling_shadow items_shadow e s m) m) frame
 
 -- ---- cuts
 

@@ -9,9 +9,10 @@ use Rattle.thy_boot.specs.Boot.{Booting, IsBoot}
 use Rattle.thy_boot.specs.Start.{CanStart}
 use Rattle.thy_boot.specs.Steps.{CanStep}
 use Rattle.thy_shadow_image.specs.Places.{image_blocks}
-use Rattle.thy_pool.specs.Progress.{Progress}
+use Rattle.thy_engine.specs.Progress.{Progress, Fits}
 use Rattle.thy_pool.specs.State.{State}
 use Rattle.thy_repool.specs.Filling.{filling_shadow}
+use Rattle.thy_shadow_laws.specs.Design.{items_shadow}
 use Rattle.thy_machine_tests.specs.Least.{all, HasRoom, Off}
 
 -- both devices have the sizes of the least memory; the NVM is up, with nothing queued
@@ -45,7 +46,7 @@ parts p s e n cuts = record { p = p; pool = s; engine = e; nvm = n; cuts = cuts 
 -- they are of one geometry, and the NVM is up
 pub record AreParts (m : Parts) : Type 0 where
   pub pool_p : m.pool.p ≡ m.p
-  pub engine_p : m.engine.p ≡ m.p
+  pub fits : Fits filling_shadow items_shadow m.engine m.pool
   pub blocks : memory_blocks m.p ≡ all
   pub sized : length m.nvm.image ≡ image_blocks m.p
   pub up : m.nvm.down ≡ false

@@ -11,7 +11,6 @@ use Rattle.thy_pool.specs.declared.entry.Framed.{Framed}
 use Rattle.thy_pool.specs.Keys.{number_key, page_key, held, framed}
 use Rattle.thy_pool.specs.Commit.{page_by, is_below, committed_entry, committed_pool, committed_state}
 use Rattle.thy_pool.specs.State.{State, IsSoundState, frame_of, pool_of, target, next_page_by, next_page}
-use Rattle.thy_pool.proofs.CycleLemmas.{filled-inside}
 
 -- ---- entries by what they list
 
@@ -41,6 +40,15 @@ framed_same x y h = ap page_by h
 pub some_of : {X : Type 0} (o : Option X) → is_some o ≡ true → (x : X) × (o ≡ Some x)
 some_of None h = cc
 some_of (Some x) h = (x, refl)
+
+-- a filled frame is there
+pub filled-inside : (s : State) (j : ℕ) → IsSoundState s → is_some (entry_at s.frames j) ≡ true → j < s.p.ptt
+filled-inside s j h some = elim (cases_lt j s.p.ptt) as (λ _. j < s.p.ptt) [
+  | inl inside ↦ inside
+  | inr past ↦
+      let none : entry_at s.frames j ≡ None = get_or_past s.frames.entries j None (omega (arith, past, h.frames_size)) in
+      let both : false ≡ true = sym (ap is_some none) ∙ some in absurd (cc)
+]
 
 -- ---- a committed entry
 

@@ -1,5 +1,4 @@
 pub mod CountLemmas
-pub mod CycleLemmas
 pub mod CommitLemmas
 pub mod TableLemmas
 pub mod StateLemmas

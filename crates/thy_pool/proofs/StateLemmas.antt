@@ -74,7 +74,7 @@ entry_at-first p n q = elim (cases_lt q (pool_pages p)) as (λ _. entry_at (list
 ]
 
 -- what it lists at a page is that page
-first_lists : (p : Parameters) (q n : ℕ) (low : Bool) → nat_lt q p.pages ≡ low
+pub first_lists : (p : Parameters) (q n : ℕ) (low : Bool) → nat_lt q p.pages ≡ low
     → lists number_key n (if low then Some (held q) else None) ≡ true → (q < p.pages) × (q ≡ n)
 first_lists p q n true l h =
     let of = lists-some number_key n (Some (held q)) h in let same : held q ≡ of.0 = cc in (ltb-true q p.pages l, ap number_key same ∙ of.2)

@@ -1,13 +1,10 @@
 -- Part of the claim.
--- What the pool and the NVM hold together, seen as a store of blocks.
-use Rattle.std.specs.Prelude.{ℕ, ◌-◌, ◌*◌, ◌==◌, ◌&&◌, not, if◌then◌else◌, Bool, true, List, [], length, map, count_by, bytes_eq, Option, Some, None}
+-- What the pool and the NVM hold together: memory as it was stored last and as it was committed, and what was copied.
+use Rattle.std.specs.Prelude.{ℕ, ◌==◌, Bool, true, List, map, count_by, bytes_eq, Option, Some, None}
 use Rattle.std.specs.List.{range_with_len}
 use Rattle.thy_base.specs.declared.block.Block.{Block}
-use Rattle.thy_base.specs.Device.{Device, failed_calls, newest}
+use Rattle.thy_base.specs.Device.{Device, newest}
 use Rattle.thy_base.specs.Geometry.{memory_blocks}
-use Rattle.thy_base.specs.Store.{Holding}
-use Rattle.thy_table.specs.Listing.{free_count}
-use Rattle.thy_shadow_image.specs.Places.{image_blocks}
 use Rattle.thy_pool.specs.declared.entry.Begun.{Begun}
 use Rattle.thy_pool.specs.State.{State, page_place, frame_block, committed_of, work_of}
 use Rattle.thy_pool.specs.Stores.{free_frame}
@@ -39,15 +36,3 @@ agree_by s n (Some b) = count_by (agrees s n b.page) (range_with_len 0 b.copied)
 
 abbrev pub copies_agree : State → Device → Bool
 copies_agree s n = agree_by s n s.begun
-
--- What a load of each block gives; nothing if the NVM has another size, or is down, or is not what was copied from
--- it. A page whose frame is begun is open; what is owed are the copies of all frames that are not filled.
-abbrev pub holding_of : State → Device → Holding
-holding_of s n = record {
-  blocks = if length n.image == image_blocks s.p && not n.down && copies_agree s n then works s n else [];
-  faults = failed_calls n;
-  free = free_count s.frames;
-  ready = not n.down;
-  open_page = opened_by s.begun;
-  owed = 64 * free_count s.frames - copied_by s.begun;
-}

@@ -3,8 +3,6 @@ pub mod State
 pub mod Stores
 pub mod Commit
 pub mod Items
-pub mod Progress
 pub mod Listed
 pub mod Holding
-pub mod Cycles
 pub mod Guarded

@@ -1,5 +1,5 @@
 //! The pool and its frames.
-ghost use Rattle.std.specs.Prelude.{◌≡◌, ℕ, ◌+◌, ◌*◌, ◌/◌, ◌%◌, ◌<◌, ◌≤◌, true, false, is_some, length, replicate, map, take, drop, IfOk, OnOk, OnErr, None, Some};
+ghost use Rattle.std.specs.Prelude.{◌≡◌, ℕ, ◌+◌, ◌*◌, ◌/◌, ◌%◌, ◌<◌, ◌≤◌, true, false, is_some, length, replicate, map, take, drop, IfOk, IfSome, OnOk, OnErr, None, Some};
 ghost use Rattle.thy_base.specs.Device.{HasFailed, HasFailedToWrite, IsFramed, CountsFault, newest, written_to};
 ghost use Rattle.thy_base.specs.Geometry.{memory_blocks};
 ghost use Rattle.thy_base.specs.Places.{dram_blocks};
@@ -68,6 +68,7 @@ impl Pool {
     ghost use Rattle.thy_dram.specs.Contents.{lost};
     ghost use Rattle.thy_layout.specs.TableSlots.{table_block_of};
     ghost use Rattle.thy_pool.specs.Commit.{sealed_state, committed_state};
+    ghost use Rattle.thy_pool.specs.Items.{next_block};
     ghost use Rattle.thy_pool.specs.State.{IsSoundState, IsSized, frame_of, pool_of, target, next_page, next_table, committed_table, page_place, target_place, frame_block, committed_of, work_of};
     ghost use Rattle.thy_pool.specs.Stores.{copies_for, free_frame as lowest_frame, store_case, stored_by, store_action, put_into, filled, copied_into, after_store, after_drain, new_state};
 
@@ -322,8 +323,21 @@ impl Pool {
         self.begun = None;
     }
 
+    /// The first block of the frames from one on that a checkpoint writes, 64 to a frame.
+    pub fn next_block(&self, from: u64) -> Option<u64>
+        ensures next { result ≡ next_block from self.now }
+        ensures few { IfSome result (λ k. k < 4294967296) }
+    {
+        self.sound();
+        if self.is_filled((from / 64) as usize) {
+            Some(from)
+        } else {
+            None
+        }
+    }
+
     /// Whether frame `j` is filled; past the last none is.
-    pub fn is_filled(&self, j: usize) -> bool
+    fn is_filled(&self, j: usize) -> bool
         ensures filled { result ≡ is_some (entry_at self.now.frames j) }
         ensures inside { result ≡ true → j < self.now.p.ptt }
     {

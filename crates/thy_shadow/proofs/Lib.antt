@@ -1,2 +1,2 @@
-mod CallLemmas
 mod FillLemmas
+mod BlockLemmas

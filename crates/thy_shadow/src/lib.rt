@@ -2,12 +2,17 @@
 //! frames into pages of a pool that the committed map does not list, and commits a map that lists them, while the hart
 //! waits.
 //!
-//! Open specs/Calls.antt first, and src/shadow.rt. It depends on thy_pool, thy_repool, thy_boot, thy_shadow_scheme and
+//! Open src/checkpoints.rt first, then src/parts.rt. It depends on thy_pool, thy_repool, thy_compose, thy_shadow_laws and
 //! their dependencies.
 #![tactic(auto)]
 
+mod checkpoints;
 mod fills;
-mod shadow;
+mod parts;
 
 pub use fills::Relist;
-pub use shadow::Shadow;
+use thy_compose::Composed;
+
+/// Shadow paging: its pool holds in frames the pages that were stored to since the last checkpoint, and its engine
+/// writes these into the NVM while the hart waits.
+pub type Shadow = Composed<Relist>;

@@ -5,10 +5,10 @@ use Rattle.std.proofs.lemmas.List.{length-map, get_or-map, ext_get_or}
 use Rattle.std.proofs.lemmas.List.FromFn.{length-map-range_with_len, get_or-map-range_with_len}
 use Rattle.thy_base.specs.declared.block.Block.{Block}
 use Rattle.thy_base.specs.declared.config.Parameters.{Parameters}
-use Rattle.thy_base.specs.Device.{Device, zero_block, block_at, newest, written_to, settled}
+use Rattle.thy_base.specs.Device.{Device, zero_block, block_at, newest, written_to}
 use Rattle.thy_base.specs.Geometry.{memory_blocks}
 use Rattle.thy_base.specs.Store.{page_of}
-use Rattle.thy_base.proofs.DeviceLemmas.{newest-written_to_other, newest-settled}
+use Rattle.thy_base.proofs.DeviceLemmas.{newest-written_to_other}
 use Rattle.thy_layout.specs.Entries.{Lists}
 use Rattle.thy_layout.proofs.AskingLemmas.{map-alike}
 use Rattle.thy_base.proofs.BasicLemmas.{Contains-range}
@@ -78,11 +78,6 @@ pub committed_over : (s : State) (m : Device) (at : ℕ) (block : Block) (b : �
     → committed_of s (written_to m at block) b ≡ committed_of s m b
 committed_over s m at block b h sized l other =
     newest-written_to_other m at block (committed_place s b) other (committed_inside s m b h sized l)
-
--- and so does a barrier
-pub committed_settled : (s : State) (m : Device) (b : ℕ) → IsSoundState s → IsSized s m → b < memory_blocks s.p
-    → committed_of s (settled m) b ≡ committed_of s m b
-committed_settled s m b h sized l = newest-settled m (committed_place s b) (committed_inside s m b h sized l)
 
 -- ---- memory read by a map
 

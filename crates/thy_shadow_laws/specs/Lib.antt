@@ -1,6 +1,3 @@
-pub mod Shadow
-pub mod Stays
-pub mod Checkpoints
-pub mod Sound
-pub mod Items
-pub mod Taken
+pub mod Design
+pub mod Scheme
+pub mod Laws

@@ -1,57 +1,46 @@
 //! Laws of shadow paging, each the contract of a function that does nothing.
-ghost use Rattle.thy_shadow_laws.specs.Taken.{DramDrainKeeps, FailedItemsAreSafe, ItemsKeepSound, ItemsKeepStore, SameReadsKeep, SealKeepsSound, StaysKeepSound};
-ghost use Rattle.thy_shadow_laws.specs.Items.{CommitMakesWorks, FailedItemsMove, ItemsKeepCommits, ItemsKeepWorks, ItemsMove, ItemsWrite};
+ghost use Rattle.thy_boot_laws.specs.Schemes.{FirstHasRoom, HartIsBarred, NeverMigrates};
+ghost use Rattle.thy_parts.specs.AreParts.{AreParts};
+ghost use Rattle.thy_scheme.specs.Laws.{IsLawful};
+ghost use Rattle.thy_shadow_laws.specs.Design.{shadow_design};
+ghost use Rattle.thy_shadow_laws.specs.Laws.{BootsAreShort, CommittedIsSpared, EpochsAreShort, FramesAreFree};
+ghost use Rattle.thy_shadow_laws.specs.Scheme.{shadow_scheme};
 
-/// Every item is a move of the run's checkpoints on the NVM: the first barrier makes the next one ready, its commit
-/// block leaves the two in doubt, the barrier after that ends the doubt, and every other item spares all places that
-/// determine what the image that is kept means. So is an item that failed: the commit block's write leaves the two in
-/// doubt, and every other item what was.
-pub fn items_are_moves()
-    ensures items { ItemsMove }
-    ensures failed { FailedItemsMove }
+/// Shadow paging is a scheme of lawful parts.
+pub fn shadow_paging_is_made_of_parts()
+    ensures { AreParts shadow_design }
 {}
 
-/// Every item leaves on the NVM what has to be there before the next one: the pages of the frames and the slot before
-/// it, and the commit block at last.
-pub fn the_checkpoint_is_written_in_turn()
-    ensures { ItemsWrite }
+/// So it is a lawful scheme.
+pub fn shadow_paging_is_lawful()
+    ensures { IsLawful shadow_scheme }
 {}
 
-/// Each block loads as before, over every item, and no frame less is free; and each reads as it was committed, with the
-/// last barrier as it was stored last.
-pub fn items_keep_memory()
-    ensures works { ItemsKeepWorks }
-    ensures commits { ItemsKeepCommits }
-    ensures last { CommitMakesWorks }
-    ensures store { ItemsKeepStore }
+/// No item of the engine writes into a page of the pool that the committed map lists.
+pub fn the_committed_pages_are_spared()
+    ensures { CommittedIsSpared }
 {}
 
-/// Loads and stores keep the checkpoints while nothing is under way; and whatever a cut leaves then is safe, also if
-/// they failed.
-pub fn stays_keep_the_checkpoints()
-    ensures { StaysKeepSound }
+/// The bounds on the actions of boots and checkpoints are what the layout asks for, and no boot migrates.
+pub fn boots_are_short()
+    ensures short { BootsAreShort }
+    ensures never { NeverMigrates shadow_scheme }
 {}
 
-/// With a seal the mark that the machine is at is the sealed one, and its checkpoint comes next.
-pub fn a_seal_keeps_the_checkpoints()
-    ensures { SealKeepsSound }
+/// The hart waits for each checkpoint: nothing overlaps.
+pub fn a_checkpoint_bars_the_hart()
+    ensures { HartIsBarred shadow_scheme }
 {}
 
-/// Every item reaches the checkpoints of the marks after it: with the last barrier the sealed mark is the committed
-/// one.
-pub fn items_keep_the_checkpoints()
-    ensures { ItemsKeepSound }
+/// While nothing is under way, and nothing was stored since the last seal, every frame is free. So the first
+/// instruction of an epoch always has room: none ends for want of frames before it has retired one.
+pub fn an_epoch_begins_with_every_frame_free()
+    ensures free { FramesAreFree }
+    ensures room { FirstHasRoom shadow_scheme }
 {}
 
-/// Whatever a cut leaves after an item that failed is the committed checkpoint, whole, or the sealed one, if its
-/// commit block was written before or this was its write.
-pub fn failed_items_are_safe()
-    ensures { FailedItemsAreSafe }
-{}
-
-/// While every read gives the same, and a cut may leave no more, the checkpoints stay: so a write of the NVM may land
-/// at any moment. And so may a write of the DRAM.
-pub fn landing_keeps_the_checkpoints()
-    ensures nvm { SameReadsKeep }
-    ensures dram { DramDrainKeeps }
+/// An epoch spends fewer cycles of hart and engine than 17 for each of its instructions, 129 for each frame, one for
+/// each block of a slot, and four more.
+pub fn epochs_are_short()
+    ensures { EpochsAreShort }
 {}

@@ -1,14 +1,13 @@
-//! Shadow paging as its contracts see it: what holds of it after the boot, and what the items of its engine make of a
-//! run's checkpoints.
+//! Shadow paging as a scheme of parts: what is seen of its pool while a boot lists it, while an engine writes its
+//! checkpoints, and by loads and stores; and that these parts are lawful.
 //!
-//! Open specs/Checkpoints.antt first, then specs/Sound.antt, and src/laws.rt. It depends on thy_pool, thy_scheme and
-//! their dependencies.
+//! Open specs/Design.antt first, and src/laws.rt. It depends on thy_pool, thy_repool, thy_parts and their dependencies.
 #![tactic(auto)]
 
 mod laws;
 
 pub use laws::{
-    a_seal_keeps_the_checkpoints, failed_items_are_safe, items_are_moves, items_keep_memory,
-    items_keep_the_checkpoints, landing_keeps_the_checkpoints, stays_keep_the_checkpoints,
-    the_checkpoint_is_written_in_turn,
+    a_checkpoint_bars_the_hart, an_epoch_begins_with_every_frame_free, boots_are_short,
+    epochs_are_short, shadow_paging_is_lawful, shadow_paging_is_made_of_parts,
+    the_committed_pages_are_spared,
 };

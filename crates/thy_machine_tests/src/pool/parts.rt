@@ -5,6 +5,7 @@ ghost use Rattle.thy_base.specs.Device.{IsFramed};
 ghost use Rattle.thy_base.specs.Geometry.{IsInRange};
 ghost use Rattle.thy_base.specs.Places.{dram_blocks};
 ghost use Rattle.thy_boot.specs.Boot.{new_boot};
+ghost use Rattle.thy_engine.specs.Progress.{is_under_way};
 ghost use Rattle.thy_isa.specs.Step.{state_of};
 ghost use Rattle.thy_pool.specs.Stores.{new_state};
 ghost use Rattle.thy_repool.specs.Filling.{filling_shadow};
@@ -17,10 +18,11 @@ use std::process::Abort;
 use thy_base::{Block, Geometry, Nvm, Shape, Stored};
 use thy_boot::{Boot, a_boot_may_go_on};
 use thy_dram::Dram;
+use thy_engine::Engine;
 use thy_isa::{CpuState, Regs, Status};
 use thy_layout::{EngineStep, Start};
 use thy_nvm::MemNvm;
-use thy_pool::{Engine, Pool};
+use thy_pool::Pool;
 use thy_shadow::Relist;
 use thy_shadow_image::blocks;
 use thy_view::BootStep;
@@ -117,6 +119,14 @@ fn new_pool(rt: &impl Abort, alloc: Global, geometry: &Geometry, dram: Dram) -> 
     Pool::new(alloc, geometry, dram).expect(rt, "memory")
 }
 
+/// Stops the test if a checkpoint is under way.
+fn is_idle(rt: &impl Abort, engine: &Engine)
+    ensures { is_under_way engine.now.stage ≡ false }
+{
+    let under_way = engine.under_way();
+    assert!(rt; !under_way);
+}
+
 /// Takes a step of the boot, and returns what it returned.
 fn step<N: Nvm>(
     rt: &impl Abort,
@@ -206,6 +216,7 @@ impl Off {
         let mut pool = new_pool(rt, alloc, &geometry, dram);
         pool.sound();
         let told = steps(rt, &mut boot, &mut pool, start, &mut nvm, most);
+        pool.sound();
         let engine = Engine::new(&geometry);
         if let BootStep::Refused(_) = told {
             panic!(rt; "refused");
@@ -246,17 +257,19 @@ impl Parts {
         self.pool.committed(b, &mut self.nvm).expect(rt, "a load")
     }
 
-    /// One call of a store: whether it is done, or a copy came first.
+    /// One call of a store, while no checkpoint is under way: whether it is done, or a copy came first.
     pub(crate) fn store(&mut self, rt: &impl Abort, b: u64, block: &Block) -> bool
         requires inside { b < 512 }
     {
+        is_idle(rt, &self.engine);
         let free = self.pool.free();
         assert!(rt; free > 0);
-        match self
+        let stored = self
             .pool
             .store(b, block, &mut self.nvm)
-            .expect(rt, "a store")
-        {
+            .expect(rt, "a store");
+        self.pool.sound();
+        match stored {
             Stored::Done => true,
             Stored::CopyFirst => false,
         }
@@ -264,16 +277,16 @@ impl Parts {
 
     /// Seals the epoch with a processor that retired so many instructions: its checkpoint begins.
     pub(crate) fn seal(&mut self, rt: &impl Abort, epoch: u64, count: u64) {
-        let under_way = self.engine.under_way();
-        assert!(rt; !under_way);
+        is_idle(rt, &self.engine);
         self.engine.begin(&cpu_at(count), epoch);
         self.pool.seal();
+        self.pool.sound();
     }
 
     /// One action of the engine.
     pub(crate) fn step(&mut self, rt: &impl Abort) -> EngineStep {
         self.engine
-            .step(&mut self.pool, &mut self.nvm)
+            .step::<Relist, MemNvm>(&mut self.pool, &mut self.nvm)
             .expect(rt, "a step")
     }
 
@@ -290,6 +303,7 @@ impl Parts {
     pub(crate) fn drain_dram(&mut self) {
         if self.pool.queued() > 0 {
             self.pool.drain();
+            self.pool.sound();
         }
     }
 

@@ -11,7 +11,7 @@ invariant_of-self g c =
     let new : Device = c.store.new.nvm.device in
     let s : State = c.store.new.self in
     let stored : State = after_store c.args.b c.args.block.now n c.self.inside.pool in
-    let is : s ≡ stored = subst (λ r. OnOk r (s ≡ stored)) c.expect.ensures c.store.ensures.pool in
-    let same : new ≡ n = subst (λ r. OnOk r (new ≡ n)) c.expect.ensures c.store.ensures.same in
+    let is : s ≡ stored = subst (λ r. OnOk r (s ≡ stored)) c.expect-stored.ensures c.store.ensures.pool in
+    let same : new ≡ n = subst (λ r. OnOk r (new ≡ n)) c.expect-stored.ensures c.store.ensures.same in
     AreParts-store c.self.inside.geometry c.self.inside.pool s c.self.inside.engine n new c.self.inside.cuts c.args.b c.args.block.now
-    c.self.invariant is same c.store.ensures.frame
+    c.self.invariant c.is_idle.ensures c.sound.ensures is same c.store.ensures.frame

@@ -1,0 +1,23 @@
+use Rattle.std.proofs.Common.{◌≡◌, OnOk, subst}
+use Rattle.thy_base.specs.Device.{Device}
+use Rattle.thy_view.specs.Action.{after}
+use Rattle.thy_engine.specs.Progress.{Progress, control_next, action_next}
+use Rattle.thy_pool.specs.State.{State}
+use Rattle.thy_repool.specs.Filling.{filling_shadow}
+use Rattle.thy_shadow_laws.specs.Design.{items_shadow}
+use Rattle.thy_machine_tests.proofs.PoolLemmas.{AreParts-item}
+use Rattle.thy_machine_tests.proofs.pool.parts.Parts.step.Goals as goal
+
+pub invariant_of-self : goal.invariant_of-self
+invariant_of-self g c =
+    let s : State = c.self.inside.pool in
+    let e : Progress = c.self.inside.engine in
+    let n : Device = c.self.inside.nvm.device in
+    let t : State = c.step.new.control in
+    let m : Device = c.step.new.nvm.device in
+    let control : t ≡ control_next items_shadow e s
+    = subst (λ r. OnOk r (t ≡ control_next items_shadow e s)) c.expect.ensures c.step.ensures.control in
+    let device : m ≡ after (action_next filling_shadow items_shadow e s n) n
+    = subst (λ r. OnOk r (m ≡ after (action_next filling_shadow items_shadow e s n) n)) c.expect.ensures c.step.ensures.device in
+    AreParts-item c.self.inside.geometry s t e c.step.new.self n m c.self.inside.cuts c.self.invariant control c.step.ensures.fits device
+    c.step.ensures.frame

@@ -1,0 +1,10 @@
+use Rattle.thy_shadow_laws.specs.Design.{shadow_design}
+use Rattle.thy_parts.proofs.HeldLemmas.{held_block}
+use Rattle.thy_shadow.proofs.BlockLemmas.{small_work}
+use Rattle.thy_shadow.proofs.parts.RelistParts.store.Goals as goal
+
+pub store-requires-clause-block : goal.store-requires-clause-block
+store-requires-clause-block g c =
+    let s = c.args.control.now in
+    let n = g.N.Nvm.device c.args.nvm.now in
+    small_work s n c.args.b (held_block shadow_design s n c.args.b c.requires.inside).inside

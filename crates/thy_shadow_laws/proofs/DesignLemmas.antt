@@ -1,0 +1,463 @@
+-- Shadow paging is a scheme of lawful parts: what holds of its checkpoints.
+use Rattle.std.proofs.Common.{◌≡◌, ◌≢◌, ℕ, ◌+◌, ◌-◌, ◌*◌, ◌/◌, ◌%◌, ◌^◌, ◌<◌, ◌≤◌, Bool, true, false, is_none, List, [], ◌∷◌, length, map, Option, Some, None, option_and_then, refl, sym, ◌∙◌, ap, subst, inl, inr, arith}
+use Rattle.std.specs.List.{sum_by}
+use Rattle.std.proofs.lemmas.List.FromFn.{length-map-range_with_len}
+use Rattle.std.proofs.lemmas.List.Sums.{count_by-le-length, sum_by-cons}
+use Rattle.thy_base.specs.declared.block.Block.{Block}
+use Rattle.thy_base.specs.declared.config.Parameters.{Parameters}
+use Rattle.thy_base.specs.Device.{Device, block_at, newest, written_to}
+use Rattle.thy_base.specs.Geometry.{memory_blocks}
+use Rattle.thy_base.proofs.BasicLemmas.{not_first}
+use Rattle.thy_base.proofs.DeviceLemmas.{length-written_to}
+use Rattle.thy_layout.specs.Commit.{commit_of, epoch_of}
+use Rattle.thy_layout.specs.Layout.{slot_in, looked_by}
+use Rattle.thy_layout.proofs.AskingLemmas.{half}
+use Rattle.thy_layout.proofs.ReadBackLemmas.{epoch_of-commit_of}
+use Rattle.thy_table.specs.Listing.{free_count}
+use Rattle.thy_table.proofs.IndexLemmas.{free_one}
+use Rattle.thy_table.proofs.ListingLaws.{free_count-mapped}
+use Rattle.thy_view.specs.Safe.{ceiling}
+use Rattle.thy_shadow_image.specs.CheckpointParts.{ReadsBack, IsToldBy, memory_places}
+use Rattle.thy_shadow_image.specs.Free.{Target, SlotBlock, PoolBlock, target_place as place_of_target, IsTarget, IsFree}
+use Rattle.thy_shadow_image.specs.Layout.{shadow_layouts}
+use Rattle.thy_shadow_image.specs.Places.{slot_blocks, slot_place, image_blocks, pool_place, pool_page}
+use Rattle.thy_shadow_image.specs.Slots.{IsMap, table_in, slot_fault}
+use Rattle.thy_shadow_image.proofs.FreeLemmas.{free_not_looked}
+use Rattle.thy_shadow_image.proofs.PartsLemmas.{slot_behind}
+use Rattle.thy_shadow_image.proofs.SlotLemmas.{slot_reads_back}
+use Rattle.thy_engine.specs.Items.{AreItems, Phase, Resting, Making, Made, Applying}
+use Rattle.thy_engine.specs.Progress.{Progress}
+use Rattle.thy_pool.specs.declared.entry.Framed.{Framed}
+use Rattle.thy_pool.specs.Commit.{sealed_state, committed_state}
+use Rattle.thy_pool.specs.Holding.{works, commits, agree_by, copies_agree}
+use Rattle.thy_pool.specs.Items.{next_block}
+use Rattle.thy_pool.specs.Keys.{freed_frame}
+use Rattle.thy_pool.specs.State.{State, IsSoundState, target, target_place, frame_block, committed_table, next_table, committed_of, work_of}
+use Rattle.thy_pool.specs.Stores.{after_drain}
+use Rattle.thy_pool.proofs.CommitLemmas.{filled-inside}
+use Rattle.thy_pool.proofs.DrainLemmas.{works_drained, IsSoundState-drained}
+use Rattle.thy_pool.proofs.StateLemmas.{IsSoundState-committed, IsSoundState-sealed}
+use Rattle.thy_pool.proofs.TableLemmas.{IsMap-next, target_free, committed_table-committed}
+use Rattle.thy_repool.proofs.LawLemmas.{pool_is_listed}
+use Rattle.thy_parts.specs.IsDesign.{IsDesign, IsFew, CanRecord, IsSpared}
+use Rattle.thy_parts.specs.Moments.{IsMoment, MakesAt, Carries, Commits, SealsTo, ReadsSame, IsOwn, slot_list, parts_at}
+use Rattle.thy_shadow_laws.specs.Design.{items_shadow, IsUnbegun, stands_at, ArePaged, AllPaged, holds, IsKeptBy, rests_at, owed_now, owed_then, shadow_design}
+use Rattle.thy_shadow_laws.proofs.PhaseLemmas.{next_filled, next_free, IsAside, aside_slot, aside_commit, aside_page, works_over, commits_over, committed_reads, works_reads, commits_reads, copies_same, paged_on, paged_all, paged_over, paged_reads, all_reads, memory_is_work, commits_are_works, works_confirm}
+use Rattle.thy_shadow_laws.proofs.WorkLemmas.{target_of, target_small}
+
+-- ---- items
+
+-- with every frame freed, all are free
+all_free : (es : List (Option Framed))
+    → sum_by free_one (map (option_and_then freed_frame) es) ≡ length (map (option_and_then freed_frame) es)
+all_free [] = refl
+all_free (None ∷ es) = omega (arith, all_free es, sum_by-cons free_one None (map (option_and_then freed_frame) es))
+all_free (Some e ∷ es) = omega (arith, all_free es, sum_by-cons free_one None (map (option_and_then freed_frame) es))
+
+-- a block that is next is the one from which it was looked for
+onwards : (s : State) (from k : ℕ) → IsUnbegun s → next_block from s ≡ Some k → (from ≤ k) × (next_block k s ≡ Some k) × IsUnbegun s
+onwards s from k h found =
+    let of = (next_filled s from k found).0 in
+    (omega (arith, of), ap (λ (x : ℕ). next_block x s) (sym of) ∙ found, h)
+
+counts : (s : State) (from k : ℕ) → IsUnbegun s → next_block from s ≡ Some k → 64 * s.p.ptt - (k + 1) + 1 ≤ 64 * s.p.ptt - from
+counts s from k h found =
+    let of = next_filled s from k found in
+    let same = of.0 in
+    let inside : k / 64 < s.p.ptt = filled-inside s (k / 64) h.sound of.1 in
+    omega (arith, same, inside)
+
+pub items_are : AreItems (shadow_design).filling items_shadow
+items_are = record {
+  body_onwards = onwards;
+  tail_onwards = λ s from k none found. absurd none;
+  body = λ s k h found. record { same_p = refl; dram = refl; stands = h };
+  body_ends = λ s from h none. h;
+  commits = λ s h. record { same_p = refl; dram = refl; stands = IsSoundState-committed s h.sound };
+  tail = λ s k none found. absurd none;
+  releases = λ s from none found. absurd none;
+  body_counts = counts;
+  tail_counts = λ s from k none found. absurd none;
+  steps = λ p k. inr refl;
+  body_most = λ s from h. omega arith;
+  tail_most = λ p from. omega arith;
+  tail_follows = λ s from none. absurd none;
+}
+
+-- ---- sizes
+
+pub length-works : (s : State) (n : Device) → length (works s n) ≡ memory_blocks s.p
+length-works s n = length-map-range_with_len (work_of s n) 0 (memory_blocks s.p)
+
+pub length-commits : (s : State) (n : Device) → length (commits s n) ≡ memory_blocks s.p
+length-commits s n = length-map-range_with_len (committed_of s n) 0 (memory_blocks s.p)
+
+free-few : (s : State) → IsSoundState s → free_count s.frames ≤ s.p.ptt
+free-few s sound = omega (arith, count_by-le-length (λ (o : Option Framed). is_none o) s.frames.entries, sound.frames_size)
+
+-- the frames have room for two stores
+pub some-free : (s : State) → IsSoundState s → free_count s.frames ≡ length s.frames.entries → 2 ≤ free_count s.frames
+some-free s sound free = let range = sound.range in let size = sound.frames_size in omega (arith, free, size)
+
+owed-few : (phase : Phase) (s : State) → IsSoundState s → owed_now s + owed_then phase s ≤ 64 * s.p.ptt
+owed-few Resting s sound = omega (arith, free-few s sound)
+owed-few (Making from) s sound = omega (arith, free-few s sound)
+owed-few Made s sound = omega (arith, free-few s sound)
+owed-few (Applying from) s sound = omega (arith, free-few s sound)
+
+few : (phase : Phase) (s : State) → IsSoundState s → IsFew shadow_design phase s
+few phase s sound = record { merges = omega arith; promotions = omega arith; owed = owed-few phase s sound; free = free-few s sound }
+
+-- ---- by phase
+
+-- with no frame begun nothing was copied
+unbegun_agrees : (s : State) (n : Device) → s.begun ≡ None → copies_agree s n ≡ true
+unbegun_agrees s n none = ap (agree_by s n) none
+
+agreeing : (phase : Phase) (epoch : ℕ) (s : State) (n : Device) → IsMoment shadow_design phase epoch s n → copies_agree s n ≡ true
+agreeing Resting epoch s n moment = moment.holds
+agreeing (Making from) epoch s n moment = unbegun_agrees s n moment.stands.unbegun
+agreeing Made epoch s n moment = unbegun_agrees s n moment.stands.unbegun
+agreeing (Applying from) epoch s n moment = absurd moment.stands
+
+pub stands_drained : (phase : Phase) (s : State) → stands_at phase s → stands_at phase (after_drain s)
+stands_drained Resting s h = IsSoundState-drained s h
+stands_drained (Making from) s h = record { sound = IsSoundState-drained s h.sound; unbegun = h.unbegun }
+stands_drained Made s h = record { sound = IsSoundState-drained s h.sound; unbegun = h.unbegun }
+stands_drained (Applying from) s h = h
+
+holds_drained : (phase : Phase) (epoch : ℕ) (s : State) (n : Device) → holds phase epoch s n → holds phase epoch (after_drain s) n
+holds_drained Resting epoch s n h = h
+holds_drained (Making from) epoch s n h = record { each = h.each }
+holds_drained Made epoch s n h = record { each = h.each }
+holds_drained (Applying from) epoch s n h = tt
+
+makes_drained : (phase : Phase) (epoch : ℕ) (s : State) (g : List Block) → MakesAt shadow_design phase epoch s g → MakesAt shadow_design phase epoch (after_drain s) g
+makes_drained Resting epoch s g h = h
+makes_drained (Making from) epoch s g h = h
+makes_drained Made epoch s g h = h
+makes_drained (Applying from) epoch s g h = h
+
+rests_drained : (phase : Phase) (a : Bool) (s : State) → rests_at phase a s → rests_at phase a (after_drain s)
+rests_drained Resting true s h = h
+rests_drained Resting false s h = tt
+rests_drained (Making from) a s h = tt
+rests_drained Made a s h = tt
+rests_drained (Applying from) a s h = tt
+
+owed_drained : (phase : Phase) (s : State) → owed_now (after_drain s) + owed_then phase (after_drain s) ≤ owed_now s + owed_then phase s
+owed_drained Resting s = omega arith
+owed_drained (Making from) s = omega arith
+owed_drained Made s = omega arith
+owed_drained (Applying from) s = omega arith
+
+holds_reads : (phase : Phase) (epoch : ℕ) (s : State) (n m : Device) → IsSoundState s → length n.image ≡ image_blocks s.p → ReadsSame n m
+    → holds phase epoch s n → holds phase epoch s m
+holds_reads Resting epoch s n m sound sized r h = copies_same s n m sound (committed_reads s n sound sized m r.reads) ∙ h
+holds_reads (Making from) epoch s n m sound sized r h = paged_reads s n sound sized m from r.reads h
+holds_reads Made epoch s n m sound sized r h = all_reads s n sound sized m r.reads h
+holds_reads (Applying from) epoch s n m sound sized r h = tt
+
+-- ---- one moment leads to another with the same pool
+
+-- with no checkpoint committed in between as much is owed
+module _ (epoch : ℕ) (p q : Phase) (s : State) (n m : Device) (moment : IsMoment shadow_design q epoch s m) (loads : works s m ≡ works s n)
+    (committed : commits s m ≡ commits s n) (keeps : (g : List Block) → IsKeptBy p epoch s g → IsKeptBy q epoch s g)
+    (makes : (g : List Block) → MakesAt shadow_design p epoch s g → MakesAt shadow_design q epoch s g)
+    (rests : (a : Bool) → rests_at p a s → rests_at q a s)
+    (owed : owed_now s + owed_then q s ≤ owed_now s + owed_then p s) where
+  carried : Carries shadow_design epoch p s n q s m
+  carried = record {
+    moment = moment;
+    same_p = refl;
+    room = refl;
+    loads = loads;
+    sealed = loads;
+    committed = committed;
+    keeps = keeps;
+    makes = makes;
+    rests = λ a b r. rests a r;
+    free = omega arith;
+    opened = inr refl;
+    owed = omega arith;
+    owed_later = owed;
+    pages = record { whole = λ h. h; merges = omega arith; promotions = omega arith };
+  }
+
+-- an image keeps its map from one position to the next
+keeps_making : (epoch from to : ℕ) (s : State) (g : List Block) → IsKeptBy (Making from) epoch s g → IsKeptBy (Making to) epoch s g
+keeps_making epoch from to s g h = record { kept = h.kept; told = h.told; other = h.other }
+
+keeps_made : (epoch from : ℕ) (s : State) (g : List Block) → IsKeptBy (Making from) epoch s g → IsKeptBy Made epoch s g
+keeps_made epoch from s g h = record { kept = h.kept; told = h.told; other = h.other }
+
+-- ---- what is free
+
+spared : (s : State) (g : List Block) (epoch : ℕ) (x : Target) → IsToldBy s.p g epoch (committed_table s) → IsTarget s.p x
+    → IsFree epoch (committed_table s) x → place_of_target s.p x ≢ 0 → IsSpared shadow_design s g (place_of_target s.p x)
+spared s g epoch x told there free low inside =
+    free_not_looked s.p g epoch (committed_table s) x told there free
+    (not_first (place_of_target s.p x) 0 (1 ∷ looked_by (shadow_layouts s.p) g) (λ e. low (sym e)) inside)
+
+-- ---- the slot
+
+module _ (e : Progress) (s : State) (n : Device) (moment : IsMoment shadow_design Made e.epoch s n) (can : CanRecord shadow_design e s) where
+  abbrev slot : List Block
+  slot = slot_list shadow_design e s
+
+  below : e.epoch < 2 ^ 64
+  below = let small = can.small in omega (arith, small)
+
+  whole : IsMap e.p (next_table s)
+  whole = subst (λ (p : Parameters). IsMap p (next_table s)) can.same_p (IsMap-next s moment.sound)
+
+  back : ReadsBack e.p ceiling e.cpu (next_table s) e.epoch slot
+  back = slot_reads_back e.p ceiling e.cpu (next_table s) e.epoch can.range can.recordable whole (omega arith) below
+
+  epoch_is : epoch_of (commit_of e.epoch) ≡ e.epoch
+  epoch_is = epoch_of-commit_of e.epoch below
+
+  pub slot_fits : (shadow_layouts e.p).slot_bad ceiling (commit_of e.epoch) slot ≡ None
+  slot_fits = ap (λ (k : ℕ). slot_fault e.p ceiling k slot) epoch_is ∙ back.faultless
+
+  pub slot_makes : (g : List Block) → block_at g 1 ≡ commit_of e.epoch → slot_in (shadow_layouts e.p) g ≡ slot → IsToldBy s.p g e.epoch (next_table s)
+  slot_makes g commit is = record {
+    of_epoch = ap epoch_of commit ∙ epoch_is;
+    table_is =
+        subst (λ (p : Parameters). table_in p (slot_in (shadow_layouts p) g) ≡ next_table s) (sym can.same_p) (ap (table_in e.p) is ∙ back.table_back);
+    whole = IsMap-next s moment.sound;
+  }
+
+  -- its place is that of its epoch
+  place_is : (k : ℕ) → (shadow_layouts e.p).slot_place (commit_of e.epoch) + k ≡ slot_place s.p (e.epoch % 2) + k
+  place_is k =
+      ap (λ (x : ℕ). slot_place e.p (x % 2) + k) epoch_is ∙ ap (λ (p : Parameters). slot_place p (e.epoch % 2) + k) (sym can.same_p)
+
+  pub slot_spared : (g : List Block) (k : ℕ) → IsKeptBy Made e.epoch s g → k < slot_blocks e.p
+      → IsSpared shadow_design s g ((shadow_layouts e.p).slot_place (commit_of e.epoch) + k)
+  slot_spared g k keeps l =
+      subst (IsSpared shadow_design s g) (sym (place_is k))
+      (spared s g keeps.kept (SlotBlock (e.epoch % 2) k) keeps.told
+      (half e.epoch, subst (λ (p : Parameters). k < slot_blocks p) (sym can.same_p) l) keeps.other (λ q. omega (arith, q)))
+
+  -- memory reads at its places by the slot as it was sealed
+  pub made_reads : map (newest n) (parts_at shadow_design e s).memory ≡ works s n
+  made_reads =
+      ap (λ (t : List (Option ℕ)). map (newest n) (memory_places e.p t)) back.table_back
+      ∙ ap (λ (p : Parameters). map (newest n) (memory_places p (next_table s))) (sym can.same_p)
+      ∙ memory_is_work s n moment.holds
+
+-- ---- a write of the slot's own, or of the commit block
+
+module _ (epoch : ℕ) (s : State) (n : Device) (moment : IsMoment shadow_design Made epoch s n) where
+  over_aside : (x : ℕ) (block : Block) → IsAside s x → AllPaged s (written_to n x block) → Carries shadow_design epoch Made s n Made s (written_to n x block)
+  over_aside x block aside paged =
+      carried epoch Made Made s n (written_to n x block)
+      (record { sound = moment.sound; sized = length-written_to n x block ∙ moment.sized; stands = moment.stands; holds = paged })
+      (works_over s n moment.sound moment.sized x block aside) (commits_over s n moment.sound moment.sized x block aside)
+      (λ g h. h) (λ g h. h) (λ a r. r) (omega arith)
+
+  over_slot : (h k : ℕ) (block : Block) → h < 2 → k < slot_blocks s.p → Carries shadow_design epoch Made s n Made s (written_to n (slot_place s.p h + k) block)
+  over_slot h k block two l =
+      over_aside (slot_place s.p h + k) block (aside_slot s moment.sound h k two l)
+      (paged_over s n moment.sound moment.sized (slot_place s.p h + k) block (slot_behind s.p h k two l).1 moment.holds)
+
+  over_commit : (block : Block) → Carries shadow_design epoch Made s n Made s (written_to n 1 block)
+  over_commit block =
+      over_aside 1 block (aside_commit s moment.sound) (paged_over s n moment.sound moment.sized 1 block (omega arith) moment.holds)
+
+own_carried : (e : Progress) (s : State) (n : Device) (x : ℕ) (block : Block) → IsMoment shadow_design Made e.epoch s n → s.p ≡ e.p → IsOwn shadow_design e x
+    → Carries shadow_design e.epoch Made s n Made s (written_to n x block)
+own_carried e s n x block moment same (inl commit) =
+    subst (λ (y : ℕ). Carries shadow_design e.epoch Made s n Made s (written_to n y block)) (sym commit) (over_commit e.epoch s n moment block)
+own_carried e s n x block moment same (inr (k, l, is)) =
+    let h : ℕ = epoch_of (commit_of e.epoch) % 2 in
+    subst (λ (y : ℕ). Carries shadow_design e.epoch Made s n Made s (written_to n y block))
+    (ap (λ (p : Parameters). slot_place p h + k) same ∙ sym is)
+    (over_slot e.epoch s n moment h k block (half (epoch_of (commit_of e.epoch))) (subst (λ (p : Parameters). k < slot_blocks p) (sym same) l))
+
+-- ---- the body
+
+body_carried : (epoch : ℕ) (s : State) (n : Device) (x : ℕ) → IsMoment shadow_design (Making x) epoch s n → next_block x s ≡ Some x
+    → Carries shadow_design epoch (Making x) s n (Making (x + 1)) s (written_to n (target_place s (x / 64) (x % 64)) (frame_block s (x / 64) (x % 64)))
+body_carried epoch s n x moment found =
+    let filled = (next_filled s x x found).1 in
+    let to : ℕ = target_place s (x / 64) (x % 64) in
+    let block : Block = frame_block s (x / 64) (x % 64) in
+    carried epoch (Making x) (Making (x + 1)) s n (written_to n to block)
+    (record {
+      sound = moment.sound;
+      sized = length-written_to n to block ∙ moment.sized;
+      stands = moment.stands;
+      holds = paged_on s n moment.sound moment.sized x filled moment.holds;
+    })
+    (works_over s n moment.sound moment.sized to block (aside_page s moment.sound x filled))
+    (commits_over s n moment.sound moment.sized to block (aside_page s moment.sound x filled))
+    (keeps_making epoch x (x + 1) s) (λ g h. h) (λ a r. tt) (omega arith)
+
+-- a frame's page of the pool is none of the committed map's
+body_spares : (epoch : ℕ) (s : State) (n : Device) (x : ℕ) (g : List Block) → IsMoment shadow_design (Making x) epoch s n → next_block x s ≡ Some x
+    → IsKeptBy (Making x) epoch s g → IsSpared shadow_design s g (target_place s (x / 64) (x % 64))
+body_spares epoch s n x g moment found keeps =
+    let sound = moment.sound in
+    let of = target_of s sound (x / 64) (next_filled s x x found).1 in
+    let q : ℕ = of.0 in
+    let goes : target s (x / 64) ≡ Some q = of.1 in
+    subst (IsSpared shadow_design s g) (ap (λ (at : Option ℕ). pool_place s.p (pool_page at) (x % 64)) (sym goes))
+    (spared s g keeps.kept (PoolBlock q (x % 64)) keeps.told (target_small s sound (x / 64) q goes, omega arith)
+    (λ y lists. target_free s sound (x / 64) q goes y lists) (λ e. omega (arith, e)))
+
+body_past : (epoch : ℕ) (s : State) (n : Device) (from k : ℕ) → IsMoment shadow_design (Making from) epoch s n → next_block from s ≡ Some k
+    → Carries shadow_design epoch (Making from) s n (Making k) s n
+body_past epoch s n from k moment found =
+    let of = (next_filled s from k found).0 in
+    carried epoch (Making from) (Making k) s n n
+    (record {
+      sound = moment.sound;
+      sized = moment.sized;
+      stands = moment.stands;
+      holds = subst (λ (x : ℕ). ArePaged s n x) of moment.holds;
+    })
+    refl refl (keeps_making epoch from k s) (λ g h. h) (λ a r. tt) (omega arith)
+
+body_whole : (epoch : ℕ) (s : State) (n : Device) (from : ℕ) → IsMoment shadow_design (Making from) epoch s n → next_block from s ≡ None
+    → Carries shadow_design epoch (Making from) s n Made s n
+body_whole epoch s n from moment none =
+    carried epoch (Making from) Made s n n
+    (record {
+      sound = moment.sound;
+      sized = moment.sized;
+      stands = moment.stands;
+      holds = paged_all s n moment.sound moment.sized from (next_free s from none) moment.holds;
+    })
+    refl refl (keeps_made epoch from s) (λ g no. absurd no) (λ a r. tt) (omega arith)
+
+-- ---- the commit
+
+rests_committed : (a : Bool) (s : State) → rests_at Resting a (committed_state s)
+rests_committed true s = all_free s.frames.entries
+rests_committed false s = tt
+
+commits_to : (epoch : ℕ) (s : State) (n : Device) → IsMoment shadow_design Made epoch s n → Commits shadow_design epoch s n Resting (committed_state s) n
+commits_to epoch s n moment = record {
+  moment = record {
+    sound = IsSoundState-committed s moment.sound;
+    sized = moment.sized;
+    stands = IsSoundState-committed s moment.sound;
+    holds = refl;
+  };
+  same_p = refl;
+  room = refl;
+  loads = works_confirm s n moment.sound moment.holds;
+  committed = commits_are_works s n moment.sound moment.holds;
+  keeps = λ g told. record {
+    kept = epoch;
+    told = subst (IsToldBy s.p g epoch) (sym (committed_table-committed s moment.sound)) told;
+    other = tt;
+  };
+  rests = λ a b r. rests_committed a s;
+  free = free_count-mapped freed_frame s.frames;
+  opened = inl refl;
+  owed_later = omega (arith, free-few (committed_state s) (IsSoundState-committed s moment.sound));
+  pages = record { whole = λ h. h; merges = omega arith; promotions = omega arith };
+}
+
+-- ---- the seal, and devices
+
+seals_to : (before epoch : ℕ) (s : State) (n : Device) → IsMoment shadow_design Resting before s n → SealsTo shadow_design before epoch s (sealed_state s) n
+seals_to before epoch s n moment = record {
+  moment = record {
+    sound = IsSoundState-sealed s moment.sound;
+    sized = moment.sized;
+    stands = record { sound = IsSoundState-sealed s moment.sound; unbegun = refl };
+    holds = record { each = λ j c l low filled. absurd (omega (arith, low)) };
+  };
+  same_p = refl;
+  dram = refl;
+  loads = refl;
+  sealed = refl;
+  committed = refl;
+  keeps = λ g next h. record {
+    kept = h.kept;
+    told = h.told;
+    other = λ q. let of = h.told.of_epoch in omega (arith, next, of, q);
+  };
+  rests = λ a b r. tt;
+  free = omega arith;
+  opened = inl refl;
+}
+
+reads_carried : (phase : Phase) (epoch : ℕ) (s : State) (n m : Device) → IsMoment shadow_design phase epoch s n → ReadsSame n m
+    → Carries shadow_design epoch phase s n phase s m
+reads_carried phase epoch s n m moment r =
+    carried epoch phase phase s n m
+    (record {
+      sound = moment.sound;
+      sized = r.as_long ∙ moment.sized;
+      stands = moment.stands;
+      holds = holds_reads phase epoch s n m moment.sound moment.sized r moment.holds;
+    })
+    (works_reads s n moment.sound moment.sized m r.reads) (commits_reads s n moment.sound moment.sized m r.reads)
+    (λ g h. h) (λ g h. h) (λ a r. r) (omega arith)
+
+drain_carried : (phase : Phase) (epoch : ℕ) (s : State) (n : Device) → IsMoment shadow_design phase epoch s n
+    → Carries shadow_design epoch phase s n phase (after_drain s) n
+drain_carried phase epoch s n moment = record {
+  moment = record {
+    sound = IsSoundState-drained s moment.sound;
+    sized = moment.sized;
+    stands = stands_drained phase s moment.stands;
+    holds = holds_drained phase epoch s n moment.holds;
+  };
+  same_p = refl;
+  room = refl;
+  loads = works_drained s n;
+  sealed = works_drained s n;
+  committed = refl;
+  keeps = λ g h. record { kept = h.kept; told = h.told; other = h.other };
+  makes = makes_drained phase epoch s;
+  rests = λ a b r. rests_drained phase a s r;
+  free = omega arith;
+  opened = inr refl;
+  owed = omega arith;
+  owed_later = owed_drained phase s;
+  pages = record { whole = λ h. h; merges = omega arith; promotions = omega arith };
+}
+
+-- ---- all of it
+
+pub is_design : IsDesign shadow_design
+is_design = record {
+  fills = pool_is_listed;
+  items = items_are;
+  in_range = λ s sound. sound.range;
+  loads_length = length-works;
+  committed_length = λ phase s n. length-commits s n;
+  dram_length = λ s sound. sound.dram_size;
+  agreeing = agreeing;
+  few = λ phase epoch s n moment. few phase s moment.sound;
+  merged_all = λ s none. refl;
+  promoted_all = λ s none. refl;
+  rests_room = λ s sound rests. some-free s sound rests;
+  slot_fits = slot_fits;
+  slot_makes = λ e s n g state moment can decodes commit is. slot_makes e s n moment can g commit is;
+  slot_spared = λ e s n g k moment can keeps l. slot_spared e s n moment can g k keeps l;
+  own_carries = own_carried;
+  body_carries = body_carried;
+  body_spared = body_spares;
+  body_passes = body_past;
+  body_ends = body_whole;
+  made_reads = made_reads;
+  commits = commits_to;
+  tail_carries = λ epoch s n k moment found. absurd moment.stands;
+  tail_spared = λ epoch s n k g moment found keeps. absurd moment.stands;
+  tail_passes = λ epoch s n from k moment found. absurd moment.stands;
+  releases = λ epoch s n from moment none. absurd moment.stands;
+  seals = seals_to;
+  same_reads = reads_carried;
+  dram_drained = drain_carried;
+  drained_rest = λ s k. refl;
+  drained_dram = λ s. refl;
+  drained_left = λ s from. omega arith;
+  rests_of_any = λ before epoch s n moment. record { sound = moment.sound; sized = moment.sized; stands = moment.stands; holds = moment.holds };
+}

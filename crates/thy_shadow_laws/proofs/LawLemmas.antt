@@ -1,0 +1,62 @@
+-- What holds of shadow paging beside what holds of every scheme of parts.
+use Rattle.std.proofs.Common.{◌≡◌, ℕ, ◌&&◌, ◌+◌, ◌-◌, max, not, Bool, true, false, refl, ◌∙◌, ap, subst, arith}
+use Rattle.thy_base.specs.declared.config.Parameters.{Parameters}
+use Rattle.thy_base.specs.Device.{Device}
+use Rattle.thy_base.specs.Geometry.{memory_blocks}
+use Rattle.thy_view.specs.Origin.{Origin}
+use Rattle.thy_boot_laws.proofs.RoomLemmas.{first-room}
+use Rattle.thy_boot_laws.specs.Schemes.{FirstHasRoom, HartIsBarred, NeverMigrates}
+use Rattle.thy_scheme.specs.CheckpointMarks.{CheckpointMarks}
+use Rattle.thy_scheme.specs.Laws.{IsLawful}
+use Rattle.thy_engine.specs.declared.stage.EngineStage.{EngineStage}
+use Rattle.thy_engine.specs.Items.{Resting}
+use Rattle.thy_engine.specs.Progress.{phase_of, is_under_way}
+use Rattle.thy_shadow_image.specs.Places.{slot_blocks}
+use Rattle.thy_pool.specs.State.{State}
+use Rattle.thy_parts.specs.Design.{Composed}
+use Rattle.thy_parts.specs.Sound.{IsSound}
+use Rattle.thy_parts.proofs.LawfulLemmas.{lawful as lawful_of_parts}
+use Rattle.thy_parts.proofs.SealLemmas.{idle_stage}
+use Rattle.thy_shadow_laws.specs.Design.{rests_at, shadow_design}
+use Rattle.thy_shadow_laws.specs.Laws.{BootsAreShort, EpochsAreShort, FramesAreFree}
+use Rattle.thy_shadow_laws.specs.Scheme.{shadow_scheme}
+use Rattle.thy_shadow_laws.proofs.DesignLemmas.{some-free}
+use Rattle.thy_shadow_laws.proofs.PartsLemmas.{are_parts}
+
+pub lawful : IsLawful shadow_scheme
+lawful = lawful_of_parts shadow_design are_parts
+
+loads_most : (memory slot : ℕ) → 1 + max (memory - 0 + slot + 4) (1 + slot + 0) ≡ 1 + (memory + slot + 4)
+loads_most memory slot = omega arith
+
+pub boots_are_short : BootsAreShort
+boots_are_short p = (loads_most (memory_blocks p) (slot_blocks p), omega arith)
+
+pub epochs_are_short : EpochsAreShort
+epochs_are_short p = omega arith
+
+always : (way : Bool) → (way && not false) ≡ way
+always true = refl
+always false = refl
+
+pub hart_is_barred : HartIsBarred shadow_scheme
+hart_is_barred m = always (is_under_way m.scheme.engine.stage)
+
+pub never_migrates : NeverMigrates shadow_scheme
+never_migrates s = refl
+
+-- with nothing stored and nothing under way all frames are free
+rests_idle : (o : Origin) (k : CheckpointMarks) (s : Composed State) (n : Device) → IsSound shadow_design o k s n → s.storeless ≡ true
+    → is_under_way s.engine.stage ≡ false → rests_at Resting true s.control
+rests_idle o k s n sound storeless idle =
+    subst (λ (q : EngineStage). rests_at (phase_of q) true s.control) (idle_stage s.engine.stage idle)
+    (subst (λ (x : Bool). rests_at (phase_of s.engine.stage) x s.control) storeless sound.rests)
+
+pub frames_are_free : FramesAreFree
+frames_are_free o k s n stands storeless idle =
+    rests_idle o k s n stands.sound storeless idle ∙ stands.sound.held.moment.sound.frames_size
+    ∙ ap (λ (p : Parameters). p.ptt) stands.sound.held.geometry
+
+pub first_has_room : FirstHasRoom shadow_scheme
+first_has_room =
+    first-room shadow_scheme (λ o k s n sound storeless idle. some-free s.control sound.held.moment.sound (rests_idle o k s n sound storeless idle))

@@ -1,0 +1,5 @@
+use Rattle.thy_shadow_laws.proofs.LawLemmas.{hart_is_barred}
+use Rattle.thy_shadow_laws.proofs.laws.a_checkpoint_bars_the_hart.Goals as goal
+
+pub returns : goal.returns
+returns c = hart_is_barred

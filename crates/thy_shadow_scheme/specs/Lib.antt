@@ -1,3 +1,0 @@
-pub mod Boots
-pub mod Scheme
-pub mod Laws
