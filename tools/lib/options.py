@@ -32,7 +32,7 @@ class Parser(argparse.ArgumentParser):
     def check_program(self, program):
         """Refuses a call for which there is no program."""
         if not repository.is_built(program):
-            self.error(f"there is no program {program}: a call of ./thynvm builds it")
+            self.error(f"there is no program {program}{'' if repository.is_package() else ': a call of ./thynvm builds it'}")
 
 
 def positive(text):

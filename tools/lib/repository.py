@@ -14,10 +14,24 @@ def path(*names):
 # The script that runs the program, and builds it before if need be.
 SCRIPT = path("thynvm")
 
+# What says of a package which state it is. The repository has no such file.
+VERSION = path("VERSION")
+
+
+def is_package():
+    """Whether this is a package, as tools/package makes it, in which nothing is built."""
+    return os.path.exists(VERSION)
+
+
+def program(name):
+    """Where the program of a crate is: a package has all in one folder, the repository each in its crate's."""
+    return path("bin", name) if is_package() else path("crates", name, "out", name)
+
+
 # What the script runs, once it has built it; the same if its first word is `observe`; and the program that counts wear.
-PROGRAM = path("crates/thynvm/out/thynvm")
-OBSERVER = path("crates/observe/out/observe")
-WEAR = path("crates/thy_wear/out/thy_wear")
+PROGRAM = program("thynvm")
+OBSERVER = program("observe")
+WEAR = program("thy_wear")
 
 
 def text_of(name):

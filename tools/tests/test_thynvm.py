@@ -111,6 +111,41 @@ class AtOnce(ScriptTest):
         self.assertEqual((status, shown), (5, "run a\ncommit 0 overlapped 0\n"))
 
 
+class Package(ScriptTest):
+    """In a package, which has a file that says what it is, and the programs in a folder. The command in place of rt fails."""
+
+    def setUp(self):
+        super().setUp()
+        self.file("VERSION", "one\ntwo\n")
+        for name in ("thynvm", "observe"):
+            self.script(f"bin/{name}", f'#!/bin/sh\necho {name} "$@"\nexit 5\n')
+            os.utime(self.path("bin", name), (0, 0))
+
+    def test_calls(self):
+        """They are made with these programs, whatever is beside them, and however old they are."""
+        self.install("#!/bin/sh\necho other\n")
+        self.assertEqual(self.made("run", "a"), (5, "thynvm run a\n", ""))
+        self.assertEqual(self.made("observe", "out", "plain", "a"), (5, "observe out plain a\n", ""))
+        self.assertEqual(self.made("build"), (0, "", ""))
+        self.assertEqual(self.made("rum"), (2, "", "usage\n"))
+        self.assertEqual(self.text("calls"), "")
+
+    def test_version(self):
+        self.assertEqual(self.made("--version"), (0, "one\ntwo\n", ""))
+        self.assertEqual(self.text("calls"), "")
+
+    def test_a_program_that_is_missing(self):
+        os.remove(self.path("bin/observe"))
+        said = f"thynvm: this package lacks its program {self.path('bin/observe')}\n"
+        for more in ({}, {"THYNVM_HELP": "1"}):
+            self.assertEqual(self.made("observe", "out", "run", "a", **more), (125, "", said))
+        self.assertEqual(self.text("calls"), "")
+
+    def test_without_tools(self):
+        self.remove_tools()
+        self.assertEqual(self.made("--quiet", "run", "a", THYNVM_HELP="1"), (5, "thynvm run a\n", ""))
+
+
 class Build(ScriptTest):
     """What is said of a build, and that one waits for another. The command in place of rt builds."""
 
