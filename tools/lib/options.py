@@ -8,7 +8,7 @@ from lib import repository
 
 
 class Refused(Exception):
-    """Why a script goes no further, in words for the one who called."""
+    """Why a script goes no further, in words for the one who called. A `status` of its own stands in place of the script's."""
 
 
 def in_a_line(text):
@@ -71,7 +71,7 @@ def finish(prog, work, refused, lists=False):
             # Nothing more is to be written at the end either.
             os.dup2(os.open(os.devnull, os.O_WRONLY), 1)
             return 0
-        return refuse(prog, fault, refused)
+        return refuse(prog, fault, getattr(fault, "status", refused))
 
 
 def lines_of(name, what):

@@ -13,7 +13,7 @@ import tempfile
 import unittest
 import xml.dom.minidom
 
-from lib import repository
+from lib import pictures, repository
 from lib.repository import OBSERVER, PROGRAM
 
 
@@ -30,6 +30,9 @@ def needs_program(*programs):
 
 
 needs_observer = needs_program(PROGRAM, OBSERVER)
+
+
+needs_matplotlib = unittest.skipUnless(pictures.has_matplotlib(), "matplotlib not installed")
 
 
 def loaded(tool):
@@ -135,6 +138,11 @@ class CopyTest(ToolTest):
         for name, text in programs.items():
             self.script(f"bin/{name.replace('_', '-')}", f"#!/bin/sh\n{text}\n")
         return {**os.environ, "PATH": f"{self.path('bin')}:{os.environ['PATH']}"}
+
+    def without_matplotlib(self):
+        """An environment in which no python finds matplotlib."""
+        self.file("hidden/matplotlib/__init__.py", "raise ImportError\n")
+        return {**os.environ, "PYTHONPATH": self.path("hidden")}
 
     def without(self, *names):
         """An environment whose PATH has only these programs."""

@@ -3,9 +3,10 @@
 import os
 import subprocess
 import sys
+from types import SimpleNamespace
 
 from lib import written
-from tests.support import CopyTest, needs
+from tests.support import CopyTest, loaded, needs_matplotlib
 
 # A run with a cut in its second epoch, by the rules of docs/FORMATS.md.
 CUT = """commit 0 overlapped 0
@@ -75,32 +76,57 @@ class Epochs(CopyTest):
         os.close(writing)
         self.assertEqual((done.stderr, done.returncode), (b"", 0))
 
-    @needs("gnuplot")
+    def test_windows(self):
+        name = self.file("text", written.CUTS)
+        heading, *bars = written.BARS_OF_CUTS.splitlines(keepends=True)
+        # Epoch 2 ended at 1300, and its checkpoint was under way until the cut at 1350. Epoch 1 was committed at 1100.
+        for words, rows in (
+            (["--from", 1350, "--to", 1560], bars[1:5]),
+            (["--from", 1351], bars[3:]),
+            (["--to", 1000], bars[:2]),
+            (["--from", 1101, "--to", 1101], bars[1:2]),
+            (["--from", 0], bars),
+        ):
+            with self.subTest(words=words):
+                self.prints(heading + "".join(rows), *words, "--table", name)
+        self.prints(
+            "".join(BARS_OF_CUT.splitlines(keepends=True)[index] for index in (0, 2, 3, 4)),
+            "--from",
+            86,
+            "--table",
+            self.file("text", CUT),
+        )
+        self.refuses("no epoch lies in this window", "--from", 1851, "--table", name, status=1)
+
+    def test_what_a_window_keeps(self):
+        epochs = loaded("epochs")
+        part = epochs.window(epochs.read_any(written.CUTS.splitlines()), 1350, 1560)
+        # Rows begin with 0 again: the second time that epoch 2 was executed is the third one.
+        self.assertEqual((part.commits, part.cuts, part.starts), ([(2, 1660, 2), (3, 1750, 3)], [(1, 1350, 2)], [(2, 1360)]))
+        self.assertEqual((part.boots, part.unfinished), ([(2, 1350, 1360)], [(0, 1300, 1350)]))
+        self.assertEqual(part.checkpoints, [(2, 1560, 1660), (3, 1700, 1750)])
+
+    def test_which_form(self):
+        epochs = loaded("epochs")
+        for count, form in ((60, "rows"), (61, "lengths")):
+            lines = [f"epoch {n} ends at {n} by {'end' if n == count else 'length'}" for n in range(1, count + 1)]
+            run = epochs.read_any(lines)
+            self.assertEqual(epochs.form_of(SimpleNamespace(form=None), run), form)
+            self.assertEqual(epochs.form_of(SimpleNamespace(form="rows"), run), "rows")
+
+    @needs_matplotlib
     def test_pictures(self):
         for k, text in enumerate(TEXTS):
-            self.prints("", self.file("text", text), self.path(f"{k}.svg"))
+            self.prints("", "--title", "it's $1", self.file("text", text), self.path(f"{k}.svg"))
             self.is_picture(f"{k}.svg")
+            self.prints("", "--form", "lengths", "--size", "page", self.file("text", text), self.path("a.pdf"))
+        self.prints("", "--from", 1000, "--to", 1500, self.file("text", written.CUTS), self.path("a.png"))
 
-    def test_what_gnuplot_is_given(self):
-        env = self.beside(gnuplot=f"cat >{self.path('given')}")
-        self.prints("", "--title", "it's one", self.file("text", CUT), "a.svg", env=env)
-        given = self.read("given")
-        # Each bar with its row; the part of the lost one that is not known; and the checkpoint of epoch 1, beside epoch 2.
-        for name, row in (("bars_length", "0 0 60"), ("bars_exhausted", "60 2 110"), ("bars_end", "110 3 130"), ("bars_open", "60 1 85"), ("pale", "85 1 110"), ("under", "60 1 85"), ("cuts", "85 1"), ("starts", "60 2")):
-            self.assertIn(f"${name} << EOD\n{row}\nEOD\n", given)
-        self.assertIn("$commits << EOD\n85 0\n110 2\n130 3\nEOD\n", given)
-        self.assertIn("set output 'a.svg'\nset title 'it''s one' noenhanced\nset xlabel 'instructions'\n", given)
-        self.prints("", self.file("text", written.CUTS), "a.png", env=env)
-        given = self.read("given")
-        for name, rows in (("boots", "0 0 100\n100 0 800\n1350 3 1360"), ("unfinished", "1300 1 1350"), ("starts", "800 0\n1360 3")):
-            self.assertIn(f"${name} << EOD\n{rows}\nEOD\n", given)
-        self.assertIn("set terminal pngcairo ", given)
-
-    def test_refusals_of_gnuplot(self):
-        name = self.file("text", CUT)
-        said = "gnuplot is not in PATH (on Debian it is in the package gnuplot-nox)"
-        self.refuses(said, name, "a.svg", status=1, env=self.without())
-        self.refuses("gnuplot failed: no", name, "a.svg", status=1, env=self.beside(gnuplot="echo no >&2; exit 1"))
+    def test_without_matplotlib(self):
+        name, env = self.file("text", CUT), self.without_matplotlib()
+        said = "matplotlib is not installed (on Debian it is in the package python3-matplotlib); --table needs none"
+        self.refuses(said, name, "a.svg", env=env)
+        self.prints(BARS_OF_CUT, "--table", name, env=env)
 
     def test_refusals_of_texts(self):
         for text, said in (
@@ -112,10 +138,22 @@ class Epochs(CopyTest):
             ("commit 1 overlapped 0\n", "line 1 cannot stand there, the end of this epoch was not told"),
             ("commit 0 overlapped 0\nrestart 0 at 0\n", "line 2 cannot stand there, power was not cut"),
             ("exit 0 at 5\n", "line 1 cannot stand there, no epoch has ended there"),
-            (written.CUTS.replace("commit 2 ", "commit 3 "), "line 10 cannot stand there, the checkpoint of this epoch was not under way"),
-            (written.CUTS.replace("1000 60 epoch 1 ", "1000 60 epoch 7 "), "line 4 cannot stand there, this epoch was not under execution"),
-            (written.CUTS.replace("1100 80 commit 1 overlapped 20", "1100 80 limit 20"), "line 5 is no line of an event: limit 20"),
-            (written.CUTS.replace("lost 70\n", ""), "this is not what `observe` writes of a run: behind its events it has 6 lines"),
+            (
+                written.CUTS.replace("commit 2 ", "commit 3 "),
+                "line 10 cannot stand there, the checkpoint of this epoch was not under way",
+            ),
+            (
+                written.CUTS.replace("1000 60 epoch 1 ", "1000 60 epoch 7 "),
+                "line 4 cannot stand there, this epoch was not under execution",
+            ),
+            (
+                written.CUTS.replace("1100 80 commit 1 overlapped 20", "1100 80 limit 20"),
+                "line 5 is no line of an event: limit 20",
+            ),
+            (
+                written.CUTS.replace("lost 70\n", ""),
+                "this is not what `observe` writes of a run: behind its events it has 6 lines",
+            ),
         ):
             with self.subTest(said=said):
                 self.refuses(said, "--table", self.file("text", text), status=1)
@@ -131,4 +169,7 @@ class Epochs(CopyTest):
         self.refuses("either PICTURE or --table is wanted", name)
         self.refuses("either PICTURE or --table is wanted", "--table", name, "a.svg")
         self.refuses("unrecognized arguments: --pages", "--table", name, "--pages")
-        self.refuses("the picture's name ends in neither .svg nor .png: a.gif", name, "a.gif", status=1)
+        self.refuses("the picture's name ends in none of .svg, .pdf, .png: a.gif", name, "a.gif")
+        self.refuses("argument --from: invalid place value: '-1'", "--from", -1, "--table", name)
+        self.refuses("--to is below --from", "--from", 5, "--to", 4, "--table", name)
+        self.refuses("argument --form: invalid choice: 'bars'", "--form", "bars", name, "a.svg")

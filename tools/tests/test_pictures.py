@@ -1,21 +1,39 @@
-"""Pictures in SVG."""
+"""Pictures: their names, colours, and what draws them."""
 
 import unittest
-import xml.dom.minidom
+from unittest import mock
 
 from lib import pictures
 
 
 class Pictures(unittest.TestCase):
-    def test_elements(self):
-        self.assertEqual(pictures.element("g"), "<g/>")
-        self.assertEqual(pictures.text(1, 2, "a &lt; b", font_size=14), '<text x="1" y="2" font-size="14">a &lt; b</text>')
-        self.assertEqual(pictures.box(1, 2, 3, 4, fill="#fff"), '<rect x="1" y="2" width="3" height="4" fill="#fff"/>')
-        self.assertEqual(pictures.box(1, 2, 3, 4, "t"), '<rect x="1" y="2" width="3" height="4">t</rect>')
-        self.assertEqual(pictures.line(1, 2, 3, 4, stroke="red"), '<line x1="1" y1="2" x2="3" y2="4" stroke="red"/>')
+    def test_names(self):
+        self.assertEqual(
+            [pictures.is_name(f"a.{end}") for end in ("svg", "pdf", "png", "gif", "svg.gz")], [True, True, True, False, False]
+        )
 
-    def test_a_picture(self):
-        lines = list(pictures.picture(90, 40, [pictures.text(1, 2, "x")]))
-        root = xml.dom.minidom.parseString("\n".join(lines)).documentElement
-        self.assertEqual((root.tagName, root.getAttribute("width"), root.getAttribute("height")), ("svg", "90", "40"))
-        self.assertEqual([child.tagName for child in root.childNodes if child.nodeType == 1], ["rect", "text"])
+    def test_colours(self):
+        names = ["thynvm", "mine", "journal", "other"]
+        found = [pictures.colour_of(name, names) for name in names]
+        self.assertEqual(found[0], pictures.COLOURS["thynvm"])
+        self.assertEqual(found[2], pictures.COLOURS["journal"])
+        self.assertEqual(len(set(found)), 4)
+
+    def test_texts(self):
+        self.assertEqual(pictures.plain("$a_b$"), "\\$a_b\\$")
+
+    def test_who_draws(self):
+        with mock.patch.object(pictures, "found", return_value=True):
+            pictures.ready()
+        with mock.patch.object(pictures, "found", return_value=False), mock.patch.object(pictures, "DEBIAN", "/none/python3"):
+            with self.assertRaises(pictures.Missing) as fault:
+                pictures.ready()
+        self.assertEqual(fault.exception.status, 2)
+        # Debian's python has it, and another one runs this.
+        with mock.patch.object(pictures, "found", return_value=False), mock.patch("os.execv") as execv, mock.patch(
+            "sys.argv", ["tool", "a"]
+        ):
+            with mock.patch.object(pictures, "DEBIAN", "/bin/true"), self.assertRaises(pictures.Missing):
+                # (It comes back here, as it does in no call.)
+                pictures.ready()
+        execv.assert_called_once_with("/bin/true", ["/bin/true", "tool", "a"])

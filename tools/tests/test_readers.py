@@ -1,12 +1,12 @@
 """tools/readers."""
 
-import shutil
-
+from lib import pictures
 from tests.support import ToolTest, needs_observer
 
-# Four tables of texts and one of a report, and a refusal of tools/epochs; a table, a picture and the refusals of tools/cost: eight
-# and six of texts, and one for each of six options. With gnuplot there are as many pictures of tools/epochs as tables.
-CALLS = 5 + 1 + 1 + 1 + 14 + 6 + (5 if shutil.which("gnuplot") else 0)
+# Four tables of texts and one of a report, and a refusal of tools/epochs; a table and the refusals of tools/cost: eight and six of
+# texts, and one for each of seven options. With matplotlib there are as many pictures of tools/epochs as tables, and one of
+# tools/cost.
+CALLS = 5 + 1 + 1 + 14 + 7 + (5 + 1 if pictures.has_matplotlib() else 0)
 
 # What a program that reports nothing comes to, and one that writes another text.
 WRONG = "observe\nstatus 0\nsomething else\ncuts "

@@ -4,7 +4,7 @@ import os
 import re
 
 from lib import repository
-from tests.support import CopyTest, ToolTest, needs_program
+from tests.support import CopyTest, ToolTest, loaded, needs_matplotlib, needs_program
 
 WEAR = "crates/thy_wear/out/thy_wear"
 
@@ -38,22 +38,29 @@ class Wear(CopyTest):
         stores = self.read("stores").split()
         self.assertEqual((len(stores), stores[0], stores[:16000] == stores[16000:]), (32000, "4055", True))
 
+    @needs_matplotlib
     def test_a_picture(self):
         self.prints("", "--lines", 4, "--gap", 1, "block:10", self.path("a.svg"))
-        root = self.is_picture("a.svg")
-        texts = [text.firstChild.data for text in root.getElementsByTagName("text")]
-        self.assertEqual(texts[0], "Writes to each place: 10 stores to one block, 4 blocks, a line moves after 1 writes")
-        self.assertIn("without levelling: at most 10 writes to a place", texts)
-        self.assertIn("with levelling: at most 6 writes to a place, 10 to that of the registers", texts)
-        # The ground, a bar for the one place that took writes, and five for the others.
-        self.assertEqual(len(root.getElementsByTagName("rect")), 1 + 1 + 5)
+        self.is_picture("a.svg")
+
+    def test_the_heat_map(self):
+        wear = loaded("wear")
+        # Five places: a row has the root of twice as many, which is more than 3, so 4.
+        self.assertEqual(wear.squares([6, 6, 4, 2, 2]), [[6, 6, 4, 2], [2, None, None, None]])
+        self.assertEqual(wear.squares([7]), [[7, None]])
+        self.assertEqual(len(wear.squares(list(range(12288)))[0]), 157)
+
+    def test_without_matplotlib(self):
+        env = self.without_matplotlib()
+        self.refuses("matplotlib is not installed", "block:10", self.path("a.svg"), env=env)
+        self.prints(f"place bare levelled\n{COUNTS}", "--lines", 4, "--gap", 1, "--table", "block:10", env=env)
 
     def test_refusals_of_words(self):
         self.refuses("the following arguments are required: STORES")
         self.refuses("either PICTURE or --table is wanted", "block:1")
         self.refuses("either PICTURE or --table is wanted", "--table", "block:1", "a.svg")
         self.refuses("argument --gap: invalid positive value: '0'", "--gap", 0, "--table", "block:1")
-        self.refuses("the picture's name does not end in .svg: a.png", "block:1", "a.png", status=1)
+        self.refuses("the picture's name ends in none of .svg, .pdf, .png: a.gif", "block:1", "a.gif")
         for stores, said in (
             ("block:x", "the count of stores is not a number: x"),
             ("made:x", "the made program's number is not a number: x"),

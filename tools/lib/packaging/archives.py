@@ -20,7 +20,7 @@ Architecture: {debian}
 Maintainer: {author}
 Installed-Size: {size}
 Depends: libc6 (>= {glibc}), python3 (>= 3.8)
-Suggests: gdb-multiarch, gnuplot-nox, parallel
+Suggests: gdb-multiarch, parallel, python3-matplotlib
 Section: science
 Priority: optional
 Description: simulated RISC-V computer that survives power cuts
