@@ -5,7 +5,7 @@ import subprocess
 import unittest
 
 from lib import repository
-from lib.lint import claim, help, names
+from lib.lint import claim, english, help, names
 from tests.support import CopyTest, ToolTest, needs, needs_program
 
 CRATES = """# one line a crate, lowest first
@@ -134,13 +134,91 @@ class Names(CopyTest):
                 self.assertEqual((done.err, done.status), ("", 1))
 
 
-class NamesElsewhere(CopyTest):
+@needs("git")
+class English(CopyTest):
+    """In a repository of one page and one crate: what is counted there is worked out by hand."""
+
+    tool = "lint"
+
+    def counts(self, **files):
+        """The counts of a page, a file of code and a file of definitions."""
+        paths = {"page": "README.md", "code": "crates/low/src/lib.rt", "definitions": "crates/low/specs/One.antt"}
+        for name, text in files.items():
+            self.file(paths[name], text)
+        for words in (["init", "-q"], ["add", *(paths[name] for name in files)]):
+            subprocess.run(["git", *words], cwd=self.folder, check=True)
+        done = self.call("english", "--counts")
+        self.assertEqual((done.err, done.status), ("", 0))
+        counted = {line.split(None, 3)[3]: int(line.split()[0]) for line in done.out.splitlines()}
+        return {name: number for name, number in counted.items() if number}
+
+    def test_long_sentences(self):
+        # The first sentence has 41 words, the second 40; the third is of another paragraph. A span in back quotes is one word.
+        page = f"{'one ' * 41}. A{' one' * 39}.\n\nA{' one' * 38} `of many words`\n\n- A{' one' * 20}\n- A{' one' * 20}\n"
+        self.assertEqual(self.counts(page=page), {"sentences of more than 40 words": 1})
+
+    def test_long_cells(self):
+        # All sentences are short; the first cell has 61 words, the second 60.
+        page = f"| a | b |\n|---|---|\n|{' one two. Two' * 20} one | A{' one. One' * 29} one |\n"
+        self.assertEqual(self.counts(page=page), {"table cells of more than 60 words": 1})
+
+    def test_what_does_not_count(self):
+        page = "# A page\n\n    that of\n\n    so many\n\n`that of`, and that often of so manyfold.\n"
+        self.assertEqual(self.counts(page=page), {})
+        self.assertEqual(self.counts(page="<!-- made by a script -->\nThat of the other.\n"), {})
+
+    def test_words_over_two_lines(self):
+        page = "# That of\n\nThose\nof a page. So\n  many, as many.\n\n| what is seen of it | it goes by |\n\n> no sooner\n"
+        counted = {"that of, those of": 2, "so many, as many": 2, "what is seen of": 1, "goes by": 1, "no sooner": 1}
+        self.assertEqual(self.counts(page=page), counted)
+
+    def test_comments(self):
+        code = (
+            "//! So it is.\n/// So does this, of the head.\nuse a::b;\n\n/// And this.\n///\n/// So that puts.\npub fn a() {\n"
+            "    // The same.\n}\n\n/// Some. Nor\n#[inline]\nfn b() {}\n\n/// Alone: is due.\n\n    /// the same as\n    c: u64,\n"
+        )
+        definitions = "-- nor this head\nuse Rattle.a\n\n-- nor\n-- made anew\none : Nat\n---- so many\ntwo : Nat\n"
+        begin = "comments that begin with And, So, Nor or The same"
+        self.assertEqual(self.counts(page="", code=code, definitions=definitions), {"puts": 1, "made anew": 1, begin: 3})
+
+    def test_places(self):
+        self.counts(page="One.\n\nThe page\nhas that of two.\n", code="/// So.\nfn a() {}\n")
+        page = "README.md:3: that of, those of: The page has that of two.\n"
+        code = "crates/low/src/lib.rt:1: comments that begin with And, So, Nor or The same: So.\n"
+        self.prints(page + code, "english", "--list")
+        self.prints(page, "english", "--list", "README.md")
+        self.prints(code, "english", "--list", "crates/")
+
+    def test_more_than_there_may_be(self):
+        self.file("README.md", "One.\n")
+        subprocess.run(["git", "init", "-q"], cwd=self.folder, check=True)
+        subprocess.run(["git", "add", "README.md"], cwd=self.folder, check=True)
+        self.prints("none of 13 wordings is found more often than it may be\n", "english")
+        most = english.WORDINGS["so does"].most
+        self.file("README.md", "So does it.\n" * (most + 1))
+        said = f"so does: {most + 1}, and at most {most} may be: tools/lint english --list\n"
+        self.prints(said, "english", status=1)
+        self.file("README.md", "So does it.\n" * most)
+        self.prints("none of 13 wordings is found more often than it may be\n", "english")
+
+    def test_refusals(self):
+        subprocess.run(["git", "init", "-q"], cwd=self.folder, check=True)
+        self.refuses("cannot read a document or a source: git knows none", "english")
+        self.file("README.md")
+        subprocess.run(["git", "add", "README.md"], cwd=self.folder, check=True)
+        os.remove(self.path("README.md"))
+        self.refuses("cannot read README.md: No such file or directory", "english")
+
+
+class Elsewhere(CopyTest):
     tool = "lint"
 
     def test_refusals(self):
         # Where git does not look for a repository in the folders above.
-        self.refuses("cannot read the list of files: git ls-files has failed", "names", env={**os.environ, "GIT_CEILING_DIRECTORIES": os.path.dirname(self.folder)})
-        self.refuses("cannot read the list of files: git is not in PATH", "names", env=self.without())
+        nowhere = {**os.environ, "GIT_CEILING_DIRECTORIES": os.path.dirname(self.folder)}
+        for part in ("names", "english"):
+            self.refuses("cannot read the list of files: git ls-files has failed", part, env=nowhere)
+            self.refuses("cannot read the list of files: git is not in PATH", part, env=self.without())
 
 
 class Claim(ToolTest):
@@ -231,7 +309,7 @@ class Whole(ToolTest):
 
     def test_help_pages(self):
         self.has_help()
-        for part in ("help", "claim", "map", "names"):
+        for part in ("help", "claim", "map", "names", "english"):
             done = self.call(part, "--help")
             self.assertEqual((done.err, done.status), ("", 0))
             self.assertIn(f"usage: lint {part}", done.out)
@@ -247,8 +325,14 @@ class Whole(ToolTest):
             self.prints(file.read(), "map", "--picture")
 
     @needs("git")
+    def test_english_of_this_repository(self):
+        # Who has lowered a count lowers the number of it too: no number is above that of the first day.
+        self.prints("none of 13 wordings is found more often than it may be\n", "english")
+        self.assertEqual([name for name, wording in english.WORDINGS.items() if wording.most > wording.first], [])
+
+    @needs("git")
     @needs_program()
     def test_all_parts(self):
         done = self.call()
-        self.assertEqual((len(done.out.splitlines()), done.err, done.status), (4, "", 0), done.out)
+        self.assertEqual((len(done.out.splitlines()), done.err, done.status), (5, "", 0), done.out)
         self.assertIn("19 options agree\n", done.out)

@@ -2,10 +2,8 @@
 
 import os
 import re
-import subprocess
 
-from lib import repository
-from lib.lint.sources import Unreadable, below_of, text_of, verdict, without_start
+from lib.lint.sources import below_of, text_of, tracked, verdict, without_start
 
 SUBJECT = "the names in back quotes in the documents with the sources"
 
@@ -67,16 +65,6 @@ def names_in_definitions(text):
     for written in re.findall(r'"([^"]*)"', text):
         names.update(WORD.findall(written))
     return names
-
-
-def tracked():
-    """The paths of the files that the repository keeps."""
-    try:
-        return repository.tracked()
-    except FileNotFoundError:
-        raise Unreadable("the list of files: git is not in PATH") from None
-    except subprocess.CalledProcessError:
-        raise Unreadable("the list of files: git ls-files has failed") from None
 
 
 class Repository:

@@ -1,6 +1,7 @@
 """What all parts of the linter read."""
 
 import re
+import subprocess
 
 from lib import repository
 from lib.options import Refused
@@ -19,6 +20,16 @@ def text_of(path):
         return repository.text_of(path)
     except OSError as fault:
         raise Unreadable(f"{path}: {fault.strerror}") from None
+
+
+def tracked():
+    """The paths of the files that the repository keeps."""
+    try:
+        return repository.tracked()
+    except FileNotFoundError:
+        raise Unreadable("the list of files: git is not in PATH") from None
+    except subprocess.CalledProcessError:
+        raise Unreadable("the list of files: git ls-files has failed") from None
 
 
 def below_of(text):
