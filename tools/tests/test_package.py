@@ -20,7 +20,7 @@ from tests.support import CopyTest, ToolTest, needs, needs_program
 
 KIT = "a-kit logic 0123"
 
-# What README.md has in its table of the example, without the lines of the console.
+# What docs/USING.md has in its table of "The example", without the lines of the console.
 REPORT = """commit 0 overlapped 0
 epoch 1 ends at 240 by length
 commit 1 overlapped 70
