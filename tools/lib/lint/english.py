@@ -91,18 +91,18 @@ class Wording:
 
 
 WORDINGS = {
-    f"sentences of more than {SENTENCE} words": Wording(long_sentences, 370, 343),
+    f"sentences of more than {SENTENCE} words": Wording(long_sentences, 370, 324),
     f"table cells of more than {CELL} words": Wording(long_cells, 75, 73),
-    "that of, those of": Wording(phrases("that of", "those of"), 462, 438),
-    "so many, as many": Wording(phrases("so many", "as many"), 289, 285),
+    "that of, those of": Wording(phrases("that of", "those of"), 462, 413),
+    "so many, as many": Wording(phrases("so many", "as many"), 289, 282),
     "no sooner": Wording(phrases("no sooner"), 0, 0),
     "so it is": Wording(phrases("so it is"), 29, 28),
-    "so does": Wording(phrases("so does"), 41, 39),
+    "so does": Wording(phrases("so does"), 41, 38),
     "what is seen of": Wording(phrases("what is seen of"), 36, 33),
     "made anew": Wording(phrases("made anew"), 5, 5),
-    "puts": Wording(phrases("puts"), 62, 62),
-    "is due": Wording(phrases("is due"), 63, 62),
-    "goes by": Wording(phrases("goes by"), 17, 15),
+    "puts": Wording(phrases("puts"), 62, 59),
+    "is due": Wording(phrases("is due"), 63, 61),
+    "goes by": Wording(phrases("goes by"), 17, 14),
     "comments that begin with And, So, Nor or The same": Wording(openings, 467, 467),
 }
 
