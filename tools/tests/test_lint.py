@@ -5,7 +5,7 @@ import subprocess
 import unittest
 
 from lib import repository
-from lib.lint import claim, english, help, names
+from lib.lint import claim, english, help, map, names
 from tests.support import CopyTest, ToolTest, needs, needs_program
 
 CRATES = """# one line a crate, lowest first
@@ -65,8 +65,8 @@ class Map(CopyTest):
     def test_the_picture(self):
         root = self.is_picture("docs/layers.svg")
         texts = [text.firstChild.data for text in root.getElementsByTagName("text")]
-        self.assertEqual(texts, ["The upper layer", "The lower layer", "high", "middle", "low"])
-        # In the lower layer a line leads from middle to low.
+        self.assertEqual(texts, ["The upper layer", "1 crate", "The lower layer", "2 crates"])
+        # From the upper layer to the lower one.
         self.assertEqual(len(root.getElementsByTagName("line")), 1)
 
     def test_differences(self):
@@ -270,6 +270,18 @@ class Parts(unittest.TestCase):
         # In this repository the journal is a type over another one, and the scheme of both tables is not.
         self.assertEqual(claim.alias_of("Journal"), ("Composed", "Refill"))
         self.assertEqual(claim.alias_of("DualScheme"), ("DualScheme", None))
+
+    def test_lines_of_the_picture(self):
+        # In each layer one crate: what a layer stands on by way of another one has no line.
+        crates = {"one": [], "two": ["one"], "three": ["two"], "four": ["one", "two", "three"], "five": ["four", "one", "std"]}
+        layers = {name.upper(): [[name]] for name in crates}
+        direct = map.stands_on(crates, layers)
+        self.assertEqual(direct, {"ONE": [], "TWO": ["ONE"], "THREE": ["TWO"], "FOUR": ["THREE"], "FIVE": ["FOUR"]})
+        # A line from the third layer to the first passes beside the second.
+        rows, lines = map.lines_of({"ONE": [], "TWO": ["ONE"], "THREE": ["ONE", "TWO"]})
+        self.assertEqual(rows, [[("ONE", None)], [("TWO", None), ("ONE", 1)], [("THREE", None)]])
+        passing = [(("THREE", None), ("ONE", 1)), (("ONE", 1), ("ONE", None))]
+        self.assertEqual(set(lines), {*passing, (("THREE", None), ("TWO", None)), (("TWO", None), ("ONE", None))})
 
     def test_the_table_of_the_page(self):
         text = "## The order of reading\n\n| | crate | read | skim |\n|---|---|---|---|\n| 1 | low | `One.antt`, `Two.antt` | |\n| 2 | high | | `Three.antt` |\n\n## More\n"

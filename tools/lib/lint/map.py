@@ -14,8 +14,8 @@ docs/layers.svg has to be the picture.
 With --print it prints the map instead: a table for each layer, with a row for each crate. The columns 'crate' and 'stands on' are
 made from crates.txt; the layers and the other columns are the page's. A crate that the page does not have yet is printed in a
 last table, and a crate that crates.txt does not list is left out. In the column 'stands on' a crate of this repository stands
-without its 'thy_'. With --picture it prints docs/layers.svg: the layers from top to bottom, and in each layer a line from each
-crate to those of the same layer that it stands on directly. With --above CRATE it prints the crates that stand on this one,
+without its 'thy_'. With --picture it prints docs/layers.svg: a box for each layer, with a line from each to those below that it
+stands on directly. With --above CRATE it prints the crates that stand on this one,
 directly or not: they are proved anew when it changes.
 
 Exit status: 0 printed, or nothing differs; 1 something differs; 2 invalid usage, or something cannot be read."""
@@ -26,8 +26,8 @@ SECTION = "## The map"
 HEAD = "| crate | what it is | stands on | its contract in one sentence |\n|---|---|---|---|"
 NOT_PLACED = "Not placed yet"
 
-# Sizes in the picture: of a letter, of a row, of a box, of the space between boxes, and of the column with the layers' names.
-LETTER, ROW, BOX, SPACE, NAMES = 6.7, 32, 18, 14, 210
+# Sizes in the picture: of a letter, of a row, of a box, and of the space between boxes; and how often its rows are put in order.
+LETTER, ROW, BOX, SPACE, SWEEPS = 7.2, 64, 36, 28, 8
 
 
 def layers_in(text):
@@ -103,66 +103,81 @@ def below(crates, crate):
     return found
 
 
-def lines_from(crates, crate, members):
-    """The crates of its layer to which a crate has a line: those that no other one of them stands on."""
-    direct = [other for other in crates[crate] if other in members]
-    return [other for other in direct if not any(other in below(crates, more) for more in direct)]
+def stands_on(crates, layers):
+    """Of each layer, lowest first, those that it stands on directly: none that another one of them stands on."""
+    layer_of = {row[0]: name for name, rows in layers.items() for row in rows}
+    all_of = {name: set() for name in layers}
+    for crate, others in crates.items():
+        found = {layer_of[other] for other in others if other in layer_of}
+        all_of.get(layer_of.get(crate), set()).update(found - {layer_of.get(crate)})
+    return {
+        name: [other for other in layers if other in direct and not any(other in below(all_of, more) for more in direct)]
+        for name, direct in all_of.items()
+    }
 
 
-def rows_of(crates, members):
-    """The crates of a layer in rows: each below those of the layer that stand on it."""
-    row = {}
-    for crate in reversed(list(crates)):
-        if crate in members:
-            row[crate] = 1 + max((row[user] for user in row if crate in crates[user]), default=-1)
-    return [[crate for crate in members if row[crate] == n] for n in sorted(set(row.values()))]
+def lines_of(direct):
+    """The rows of the picture, lowest first, and its lines, from above to below. What is in a row is a pair of a layer and None,
+    or of a layer and the row in which a line to it passes on its way down."""
+    height = {}
+    for name, others in direct.items():
+        height[name] = 1 + max((height.get(other, 0) for other in others), default=-1)
+    rows = [[(name, None) for name in direct if height[name] == row] for row in range(max(height.values()) + 1)]
+    lines = set()
+    for name, others in direct.items():
+        for other in others:
+            way = [(other, row) for row in range(height[name] - 1, height.get(other, 0), -1)]
+            for part in way:
+                if part not in rows[part[1]]:
+                    rows[part[1]].append(part)
+            ends = [(name, None), *way, (other, None)]
+            lines.update(zip(ends, ends[1:]))
+    return rows, sorted(lines, key=str)
 
 
-def width_of(crate):
-    return LETTER * len(crate) + 14
+def packed(row):
+    """The middle of each part of a row, from left to right, beside each other around 0."""
+    left = -sum(width_of(part) + SPACE for part in row) / 2
+    for part in row:
+        yield part, left + (width_of(part) + SPACE) / 2
+        left += width_of(part) + SPACE
 
 
-def places_of(crates, bands):
-    """Where each crate's box is: its middle and its upper edge; and of each layer the upper and the lower edge."""
-    boxes, edges, top = {}, {}, 8.0
-    widest = max(sum(width_of(crate) + SPACE for crate in row) for rows in bands.values() for row in rows)
-    for name, rows in bands.items():
-        edges[name] = (top, top + ROW * len(rows))
-        for row in rows:
-            left = NAMES + (widest - sum(width_of(crate) + SPACE for crate in row)) / 2
-            for crate in row:
-                boxes[crate] = (left + (width_of(crate) + SPACE) / 2, top + (ROW - BOX) / 2)
-                left += width_of(crate) + SPACE
-            top += ROW
-        top += 6
-    return boxes, edges, NAMES + widest + 8, top
+def middles_of(rows, lines):
+    """The middle of each part. The rows are put in order from above and from below in turn: what has lines to each other is near."""
+    middle = dict(pair for row in rows for pair in packed(row))
+    ends = [*lines, *((lower, upper) for upper, lower in lines)]
+    for turn in range(SWEEPS):
+        for row in rows if turn % 2 else reversed(rows):
+            near = {part: [middle[other] for end, other in ends if end == part] for part in row}
+            row.sort(key=lambda part: sum(near[part]) / max(len(near[part]), 1))
+            middle.update(packed(row))
+    return middle
+
+
+def width_of(part):
+    return LETTER * len(part[0]) + 24 if part[1] is None else 0
 
 
 def picture(crates, layers):
     """The picture of the layers, as a text of SVG."""
-    bands = {}
-    for name, rows in reversed(list(layers.items())):
-        bands[name] = rows_of(crates, [row[0] for row in rows if row[0] in crates])
-    boxes, edges, wide, high = places_of(crates, bands)
-    out = [f'<svg xmlns="http://www.w3.org/2000/svg" width="{wide:.0f}" height="{high:.0f}" font-family="monospace" font-size="11">']
-    out.append(f'<rect width="{wide:.0f}" height="{high:.0f}" fill="#ffffff"/>')
-    for name, (top, bottom) in edges.items():
-        out.append(f'<rect x="4" y="{top:.1f}" width="{wide - 8:.1f}" height="{bottom - top:.1f}" rx="4" fill="#eeeeee"/>')
-        out.append(f'<text x="12" y="{(top + bottom) / 2 + 4:.1f}" font-family="sans-serif" font-weight="bold">{name}</text>')
-    for rows in bands.values():
-        members = [crate for row in rows for crate in row]
-        for crate in members:
-            middle, top = boxes[crate]
-            for other in lines_from(crates, crate, members):
-                ends = f'x1="{middle:.1f}" y1="{top + BOX:.1f}" x2="{boxes[other][0]:.1f}" y2="{boxes[other][1]:.1f}"'
-                out.append(f'<line {ends} stroke="#445566"/>')
-    for crate, (middle, top) in boxes.items():
-        wide_box = width_of(crate)
-        out.append(
-            f'<rect x="{middle - wide_box / 2:.1f}" y="{top:.1f}" width="{wide_box:.1f}" height="{BOX}" rx="3" '
-            'fill="#ffffff" stroke="#445566"/>'
-        )
-        out.append(f'<text x="{middle:.1f}" y="{top + 13:.1f}" text-anchor="middle">{crate}</text>')
+    rows, lines = lines_of(stands_on(crates, layers))
+    middle = middles_of(rows, lines)
+    wide, high = 2 * max(abs(middle[part]) + width_of(part) / 2 for row in rows for part in row) + 16, ROW * len(rows)
+    place = {part: (middle[part] + wide / 2, ROW * (len(rows) - 1 - k) + (ROW - BOX) / 2) for k, row in enumerate(rows) for part in row}
+    out = [f'<svg xmlns="http://www.w3.org/2000/svg" width="{wide:.0f}" height="{high}" font-family="sans-serif" font-size="12">']
+    out.append(f'<rect width="{wide:.0f}" height="{high}" fill="#ffffff"/>')
+    for upper, lower in lines:
+        (x, y), (to_x, to_y) = place[upper], place[lower]
+        out.append(f'<line x1="{x:.1f}" y1="{y + BOX:.1f}" x2="{to_x:.1f}" y2="{to_y:.1f}" stroke="#445566"/>')
+        if lower[1] is not None:
+            out.append(f'<line x1="{to_x:.1f}" y1="{to_y:.1f}" x2="{to_x:.1f}" y2="{to_y + BOX:.1f}" stroke="#445566"/>')
+    for part in (part for row in reversed(rows) for part in row if part[1] is None):
+        (x, y), many = place[part], sum(row[0] in crates for row in layers[part[0]])
+        box = f'x="{x - width_of(part) / 2:.1f}" y="{y:.1f}" width="{width_of(part):.1f}" height="{BOX}"'
+        out.append(f'<rect {box} rx="3" fill="#eeeeee" stroke="#445566"/>')
+        out.append(f'<text x="{x:.1f}" y="{y + 14:.1f}" text-anchor="middle" font-weight="bold">{part[0]}</text>')
+        out.append(f'<text x="{x:.1f}" y="{y + 28:.1f}" text-anchor="middle">{many} crate{"" if many == 1 else "s"}</text>')
     return "\n".join([*out, "</svg>"]) + "\n"
 
 
