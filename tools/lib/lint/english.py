@@ -91,9 +91,9 @@ class Wording:
 
 
 WORDINGS = {
-    f"sentences of more than {SENTENCE} words": Wording(long_sentences, 370, 296),
+    f"sentences of more than {SENTENCE} words": Wording(long_sentences, 370, 288),
     f"table cells of more than {CELL} words": Wording(long_cells, 75, 73),
-    "that of, those of": Wording(phrases("that of", "those of"), 462, 374),
+    "that of, those of": Wording(phrases("that of", "those of"), 462, 362),
     "so many, as many": Wording(phrases("so many", "as many"), 289, 280),
     "no sooner": Wording(phrases("no sooner"), 0, 0),
     "so it is": Wording(phrases("so it is"), 29, 26),
@@ -101,7 +101,7 @@ WORDINGS = {
     "what is seen of": Wording(phrases("what is seen of"), 36, 20),
     "made anew": Wording(phrases("made anew"), 5, 4),
     "puts": Wording(phrases("puts"), 62, 52),
-    "is due": Wording(phrases("is due"), 63, 59),
+    "is due": Wording(phrases("is due"), 63, 58),
     "goes by": Wording(phrases("goes by"), 17, 1),
     "comments that begin with And, So, Nor or The same": Wording(openings, 467, 467),
 }
