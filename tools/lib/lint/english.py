@@ -91,10 +91,10 @@ class Wording:
 
 
 WORDINGS = {
-    f"sentences of more than {SENTENCE} words": Wording(long_sentences, 370, 288),
+    f"sentences of more than {SENTENCE} words": Wording(long_sentences, 370, 248),
     f"table cells of more than {CELL} words": Wording(long_cells, 75, 73),
-    "that of, those of": Wording(phrases("that of", "those of"), 462, 362),
-    "so many, as many": Wording(phrases("so many", "as many"), 289, 280),
+    "that of, those of": Wording(phrases("that of", "those of"), 462, 345),
+    "so many, as many": Wording(phrases("so many", "as many"), 289, 278),
     "no sooner": Wording(phrases("no sooner"), 0, 0),
     "so it is": Wording(phrases("so it is"), 29, 26),
     "so does": Wording(phrases("so does"), 41, 36),
