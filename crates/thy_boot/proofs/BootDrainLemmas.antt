@@ -1,6 +1,7 @@
 -- Drains of both devices keep the boot at its stage.
 use Rattle.std.proofs.Common.{◌≡◌, List, [], take, drop, Option, Some, None, refl, sym, ◌∙◌, ap, subst}
 use Rattle.thy_base.specs.declared.block.Block.{Block}
+use Rattle.thy_base.specs.declared.config.Parameters.{Parameters}
 use Rattle.thy_base.specs.declared.mark.Mark.{Mark}
 use Rattle.thy_base.specs.declared.nvm.Write.{Write}
 use Rattle.thy_base.specs.Device.{Device, drained, applied}
@@ -10,17 +11,18 @@ use Rattle.thy_layout.specs.Commit.{epoch_of}
 use Rattle.thy_layout.specs.Decoded.{At}
 use Rattle.thy_view.specs.Origin.{Origin}
 use Rattle.thy_layout.specs.Layout.{state_by, looked_by}
-use Rattle.thy_protocol.specs.Moves.{standing, Move, Goes}
+use Rattle.thy_protocol.specs.Moves.{standing, IsKeeping, Move, Goes}
 use Rattle.thy_protocol.proofs.KeepsLemmas.{IsKeeping-move}
 use Rattle.thy_boot.specs.declared.stage.Stage.{Stage}
-use Rattle.thy_boot.specs.declared.stage.Stage.TheVariants.{Reads, Loads, Over}
+use Rattle.thy_boot.specs.declared.stage.Stage.TheVariants.{Reads, Loads, Migrates, Over}
 use Rattle.thy_boot.specs.declared.stage.ReadStage.TheVariants.{Unread, Header, Slot, Fills, Refusing}
 use Rattle.thy_boot.specs.declared.stage.End.TheVariants.{Restored, Loaded}
 use Rattle.thy_boot.specs.Boot.{Booting, layout_in, slot_read}
-use Rattle.thy_boot.specs.Filling.{FillingOf, IsFilling}
-use Rattle.thy_boot.specs.Recovers.{HasListed, HasReadAt}
-use Rattle.thy_boot.specs.Sound.{BootImages, layout_for, first_of, start_mark, sealed_by, saved_loading, standing_in_boot, IsRecovering, IsSoundAt, IsSoundBoot}
+use Rattle.thy_boot.specs.Filling.{FillingOf, IsFilling, layout_at}
+use Rattle.thy_boot.specs.Recovers.{HasListed, IsRestored, HasReadAt}
+use Rattle.thy_boot.specs.Sound.{BootImages, layout_for, first_of, start_mark, sealed_by, saved_loading, saved_migrating, standing_in_boot, IsRecovering, IsSoundAt, IsSoundBoot}
 use Rattle.thy_boot.specs.Laws.{DrainsKeepBoot, DrainsMove}
+use Rattle.thy_boot.proofs.MigrationLemmas.{migrating-drained, migrating-undrained}
 use Rattle.thy_boot.proofs.WrittenLemmas.{stood-drained}
 
 -- with nothing queued a drain leaves the device as it is
@@ -38,6 +40,7 @@ module _ {C : Type 0} (F : FillingOf C) (laws : IsFilling F) where
     by_stage : (q : Stage) → Move o (layout_for F o) (standing_in_boot o q g n) (standing_in_boot o q g (drained n))
     by_stage (Reads r) = goes (Kept g.before) g.kept (sealed_by o g.kept)
     by_stage (Loads issue) = goes (saved_loading issue g) None (Some (start_mark o))
+    by_stage (Migrates at) = goes (saved_migrating at g) g.kept g.kept
     by_stage (Over Restored) = goes (Kept g.before) g.kept (sealed_by o g.kept)
     by_stage (Over Loaded) = goes (Kept g.next) (Some (start_mark o)) None
 
@@ -46,44 +49,57 @@ module _ {C : Type 0} (F : FillingOf C) (laws : IsFilling F) where
     geometry = sound.geometry;
     same_p = sound.same_p;
     keeps = IsKeeping-move o (layout_for F o) (standing_in_boot o b.stage g n) (standing_in_boot o b.stage g (drained n)) (drains_move o g n b) sound.keeps;
-    so_far = by_stage b.stage sound.so_far;
+    so_far = by_stage b.stage sound.so_far sound.keeps;
   } where
     still : (q : Stage) → n.queue ≡ [] → IsSoundAt F o q g n b c → IsSoundAt F o q g (drained n) b c
     still q settled h = subst (λ (m : Device). IsSoundAt F o q g m b c) (sym (drained-settled n settled)) h
 
-    by_stage : (q : Stage) → IsSoundAt F o q g n b c → IsSoundAt F o q g (drained n) b c
-    by_stage (Reads r) at = still (Reads r) at.read.settled at
-    by_stage (Loads issue) at = record {
+    by_stage : (q : Stage) → IsSoundAt F o q g n b c → IsKeeping o (layout_for F o) (standing_in_boot o q g n) → IsSoundAt F o q g (drained n) b c
+    by_stage (Reads r) at keeps = still (Reads r) at.read.settled at
+    by_stage (Loads issue) at keeps = record {
       none = at.none;
       fresh = at.fresh;
       there = at.there;
       made = at.made;
       stood = stood-drained (layout_for F o).image_blocks (first_of F o) issue n at.stood;
     }
-    by_stage (Over Restored) at = still (Over Restored) at.read.settled at
-    by_stage (Over Loaded) at = still (Over Loaded) at.settled at
+    by_stage (Migrates step) at keeps =
+        migrating-drained F laws o b c (sound.same_p ∙ sym sound.geometry) g n
+        (keeps.sized ∙ ap (λ (p : Parameters). (layout_at F p).image_blocks) (sym sound.geometry)) step at
+    by_stage (Over Restored) at keeps = still (Over Restored) at.read.settled at
+    by_stage (Over Loaded) at keeps = still (Over Loaded) at.settled at
 
   -- a drain of the DRAM leaves what was read
-  listed-drained : (n : Device) (b : Booting) (c : C) → HasListed F n b c → HasListed F n b (F.drained c)
-  listed-drained n b c h = record {
+  listed-drained : (g : List Block) (b : Booting) (c : C) → HasListed F g b c → HasListed F g b (F.drained c)
+  listed-drained g b c h = record {
     head = h.head;
     slot_is = h.slot_is;
     slot_fits = h.slot_fits;
     lists = laws.drain_lists c b.commit (slot_read F b) h.lists;
   }
 
+  restored-drained : (n : Device) (b : Booting) (c : C) → IsRestored F n b c → IsRestored F n b (F.drained c)
+  restored-drained n b c h = record {
+    listed = listed-drained n.image b c h.listed;
+    whole = laws.drain_whole c n h.whole;
+    found = h.found ∙ ap (λ (m : List Block). At (epoch_of b.commit) (state_by (layout_in F b) (slot_read F b) m)) (sym (laws.drain_loads c n));
+  }
+
   read-drained : (q : Stage) (n : Device) (b : Booting) (c : C) → HasReadAt F q n b c → HasReadAt F q n b (F.drained c)
   read-drained (Reads Unread) n b c h = laws.drain_fresh c h
   read-drained (Reads Header) n b c h = (laws.drain_fresh c h.0, h.1)
   read-drained (Reads (Slot next)) n b c h = (laws.drain_fresh c h.0, h.1, h.2)
-  read-drained (Reads (Fills k)) n b c h = (listed-drained n b c h.0, laws.drain_filled c n k h.1, h.2)
+  read-drained (Reads (Fills k)) n b c h = (listed-drained n.image b c h.0, laws.drain_filled c n k h.1, h.2)
   read-drained (Reads (Refusing bad)) n b c h = h
   read-drained (Loads issue) n b c h = (laws.drain_fresh c h.0, h.1, h.2)
-  read-drained (Over Restored) n b c h = record {
-    listed = listed-drained n b c h.listed;
-    whole = laws.drain_whole c n h.whole;
-    found = h.found ∙ ap (λ (m : List Block). At (epoch_of b.commit) (state_by (layout_in F b) (slot_read F b) m)) (sym (laws.drain_loads c n));
+  read-drained (Migrates at) n b c h = record {
+    restored = restored-drained n b c h.restored;
+    memory = laws.drain_loads c n ∙ h.memory;
+    room = h.room;
+    version = h.version;
+    first = h.first;
   }
+  read-drained (Over Restored) n b c h = restored-drained n b c h
   read-drained (Over Loaded) n b c h = absurd h
 
   dram_drained : (o : Origin) (g : BootImages) (n : Device) (b : Booting) (c : C) → IsSoundBoot F o g n b c → IsSoundBoot F o g n b (F.drained c)
@@ -107,6 +123,7 @@ module _ {C : Type 0} (F : FillingOf C) (laws : IsFilling F) where
     by_stage : (q : Stage) → IsSoundAt F o q g n b c → IsSoundAt F o q g n b (F.drained c)
     by_stage (Reads r) at = reads at
     by_stage (Loads issue) at = record { none = at.none; fresh = laws.drain_fresh c at.fresh; there = at.there; made = at.made; stood = at.stood }
+    by_stage (Migrates step) at = migrating-undrained F laws o b c g n step at
     by_stage (Over Restored) at = reads at
     by_stage (Over Loaded) at = record { fresh = laws.drain_fresh c at.fresh; settled = at.settled; made = at.made; stood = at.stood }
 

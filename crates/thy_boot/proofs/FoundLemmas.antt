@@ -21,22 +21,28 @@ use Rattle.thy_view.specs.declared.did.Did.TheVariants.{Restarted as HasRestarte
 use Rattle.thy_view.specs.declared.view.Phase.TheVariants.{Boot as BootPhase}
 use Rattle.thy_protocol.specs.Keeps.{Keeps, Tells, finding_view}
 use Rattle.thy_layout.specs.Layout.{Layout, state_by, decode_by}
-use Rattle.thy_protocol.specs.Moves.{Standing, standing, IsKeeping}
+use Rattle.thy_crash.specs.Saved.{guarded}
+use Rattle.thy_crash.proofs.SparesLemmas.{Spares-same}
+use Rattle.thy_layout.specs.Layout.{looked_by}
+use Rattle.thy_protocol.specs.Moves.{Standing, standing, IsKeeping, Move, Goes, Seals}
 use Rattle.thy_protocol.proofs.KeepsLemmas.{finding_view-told}
 use Rattle.thy_boot.specs.declared.stage.Stage.{Stage}
-use Rattle.thy_boot.specs.declared.stage.Stage.TheVariants.{Reads, Loads, Over}
+use Rattle.thy_boot.specs.declared.stage.Stage.TheVariants.{Reads, Loads, Migrates, Over}
 use Rattle.thy_boot.specs.declared.stage.ReadStage.TheVariants.{Unread, Header, Slot, Fills, Refusing}
 use Rattle.thy_boot.specs.declared.stage.End.TheVariants.{Restored, Loaded}
 use Rattle.thy_boot.specs.declared.stage.Issue.{Issue}
 use Rattle.thy_boot.specs.declared.stage.Issue.TheVariants.{Home}
+use Rattle.thy_boot.specs.declared.stage.Migration.{Migration}
+use Rattle.thy_boot.specs.declared.stage.Migration.TheVariants.{Slot as SlotAnew}
 use Rattle.thy_boot.specs.Boot.{Booting, layout_in, slot_read, answer_at}
-use Rattle.thy_boot.specs.Filling.{FillingOf, IsFilling, layout_at}
-use Rattle.thy_boot.specs.Recovers.{HasReadAt, HasRead, IsRestored}
+use Rattle.thy_boot.specs.Filling.{FillingOf, IsFilling, layout_at, anew}
+use Rattle.thy_boot.specs.Recovers.{HasListed, HasReadAt, HasRead, IsRestored}
 use Rattle.thy_boot.specs.Shows.{is_written, restored_view, seen_at}
-use Rattle.thy_boot.specs.Sound.{BootImages, layout_for, first_of, start_mark, sealed_by, saved_loading, standing_in_boot, HasLoadedBefore, IsRecovering, IsSoundAt}
+use Rattle.thy_boot.specs.Sound.{BootImages, layout_for, first_of, start_mark, sealed_by, saved_loading, saved_migrating, standing_in_boot, HasLoadedBefore, IsRecovering, IsSoundAt}
 use Rattle.thy_boot.specs.Start.{CanStart}
 use Rattle.thy_boot.specs.Laws.{ShowsImage, RestoredIsKept, NeverRefused}
-use Rattle.thy_boot.proofs.LoadLemmas.{first-some}
+use Rattle.thy_boot.proofs.AnewLemmas.{issued-first}
+use Rattle.thy_boot.proofs.LoadLemmas.{slot_some, first-some}
 
 -- ---- what an image means to a run
 
@@ -68,7 +74,7 @@ found-mark o l before (Some m) epoch state is e =
 abbrev pub reading_of : Origin → BootImages → Device → Standing
 reading_of o g n = standing n (Kept g.before) g.kept (sealed_by o g.kept)
 
-boots : (count : ℕ) (kept : Option Mark) → (finding_view count kept).phase ≡ BootPhase
+pub boots : (count : ℕ) (kept : Option Mark) → (finding_view count kept).phase ≡ BootPhase
 boots count None = refl
 boots count (Some m) = refl
 
@@ -84,13 +90,32 @@ module _ {C : Type 0} (F : FillingOf C) (laws : IsFilling F) where
     none_kept : decode_by (layout_in F d) ceiling m.image ≡ Nothing → g.kept ≡ None
     none_kept h = found-none o (layout_for F o) g.before g.kept told (decoded Nothing h)
 
-    pub stands : (q : Stage) → HasReadAt F q m d e → reading_of o g m ≡ standing_in_boot o q g m
-    stands (Reads r) f = refl
-    stands (Loads issue) f =
-        ap (λ (k : Option Mark). standing m (Kept g.before) k (sealed_by o k)) (none_kept f.1)
-        ∙ ap (λ (i : Issue). standing m (saved_loading i g) None (Some (start_mark o))) (sym f.2)
-    stands (Over Restored) f = refl
-    stands (Over Loaded) f = absurd f
+    -- what was found at a restart
+    pub found-restored : IsRestored F m d e → IsFoundAt o g.kept (epoch_of d.commit) (state_by (layout_in F d) (slot_read F d) (F.loads e m))
+    found-restored f =
+        let state : State = state_by (layout_in F d) (slot_read F d) (F.loads e m) in
+        found-mark o (layout_for F o) g.before g.kept (epoch_of d.commit) state told (decoded (At (epoch_of d.commit) state) f.found)
+
+    -- a read is a move; with the last one before a migration that seals the mark that is kept
+    pub read-moves : (n : Device) → m ≡ n → (q : Stage) → HasReadAt F q m d e → Move o (layout_for F o) (reading_of o g n) (standing_in_boot o q g m)
+    read-moves n is q f = by_stage q f where
+      goes : Move o (layout_for F o) (reading_of o g n) (reading_of o g m)
+      goes = Goes (Kept g.before) g.kept (sealed_by o g.kept) n m (Spares-same (guarded (looked_by (layout_for F o)) (Kept g.before)) n m is)
+
+      by_stage : (q : Stage) → HasReadAt F q m d e → Move o (layout_for F o) (reading_of o g n) (standing_in_boot o q g m)
+      by_stage (Reads r) f = goes
+      by_stage (Loads issue) f =
+          subst (λ (a : Standing). Move o (layout_for F o) (reading_of o g n) a)
+          (ap (λ (k : Option Mark). standing m (Kept g.before) k (sealed_by o k)) (none_kept f.1)
+          ∙ ap (λ (i : Issue). standing m (saved_loading i g) None (Some (start_mark o))) (sym f.2)) goes
+      by_stage (Migrates step) f =
+          let found = found-restored f.restored in
+          subst (λ (k : Migration). Move o (layout_for F o) (reading_of o g n) (standing m (saved_migrating k g) g.kept g.kept)) (sym f.first)
+          (subst (λ (x : Device). Move o (layout_for F o) (reading_of o g n) (standing x (Kept g.before) g.kept g.kept)) (sym is)
+          (subst (λ (k : Option Mark). Move o (layout_for F o) (standing n (Kept g.before) k (sealed_by o k)) (standing n (Kept g.before) k k)) (sym found.kept_is)
+          (Seals n g.before (Some found.m) found.m)))
+      by_stage (Over Restored) f = goes
+      by_stage (Over Loaded) f = absurd f
 
     recovering : IsRecovering F g m d e
     recovering = record { before_is = before_is; read = read }
@@ -111,14 +136,22 @@ module _ {C : Type 0} (F : FillingOf C) (laws : IsFilling F) where
       made = tt;
       stood = first;
     })
+    found-sound starts (Migrates step) f =
+        let found = found-restored f.restored in
+        subst (λ (k : Migration). IsSoundAt F o (Migrates k) g m d e) (sym f.first) (record {
+          m = found.m;
+          kept = found.kept_is;
+          epoch = sym found.epoch_is;
+          version = f.version;
+          there = slot_some F laws d.p (anew d.commit);
+          room = f.room;
+          listed = subst (λ (h : List Block). HasListed F h d e) (sym before_is) f.restored.listed;
+          whole = f.restored.whole;
+          state = found.state_is;
+          written = issued-first F laws d e read.same_p m.image f.restored.listed f.version m read.settled refl read.sized f.memory;
+        })
     found-sound starts (Over Restored) f = recovering
     found-sound starts (Over Loaded) f = absurd f
-
-    -- what was found at a restart
-    pub found-restored : IsRestored F m d e → IsFoundAt o g.kept (epoch_of d.commit) (state_by (layout_in F d) (slot_read F d) (F.loads e m))
-    found-restored f =
-        let state : State = state_by (layout_in F d) (slot_read F d) (F.loads e m) in
-        found-mark o (layout_for F o) g.before g.kept (epoch_of d.commit) state told (decoded (At (epoch_of d.commit) state) f.found)
 
     abbrev Shows : Stage → Type 0
     Shows q = CoreStep o (finding_view o.start.count g.kept) (boot_did (answer_at F q d)) (seen_at o g.kept q)
@@ -133,6 +166,7 @@ module _ {C : Type 0} (F : FillingOf C) (laws : IsFilling F) where
         let same_view : record (loading_view o.start.count) { written = is_written issue } ≡ finding_view o.start.count g.kept
         = ap (λ (i : Issue). record (loading_view o.start.count) { written = is_written i }) f.2 ∙ ap (finding_view o.start.count) (sym (none_kept f.1)) in
         (boots o.start.count g.kept, inl same_view)
+    shows (Migrates step) f = (boots o.start.count g.kept, inl refl)
     shows (Over Restored) f =
         let found = found-restored f in
         let epoch : ℕ = epoch_of d.commit in

@@ -6,16 +6,20 @@ use Rattle.thy_base.specs.declared.config.Parameters.{Parameters}
 use Rattle.thy_base.specs.Device.{Device, block_at}
 use Rattle.thy_base.proofs.DeviceLemmas.{length-written_to, length-settled}
 use Rattle.thy_crash.specs.Saved.{Kept}
+use Rattle.thy_isa.specs.Step.{State}
 use Rattle.thy_view.specs.Action.{after}
 use Rattle.thy_protocol.specs.Keeps.{Keeps}
 use Rattle.thy_protocol.specs.Moves.{IsKeeping}
 use Rattle.thy_protocol.proofs.KeepsLemmas.{Keeps-empty}
 use Rattle.thy_boot.specs.declared.stage.Stage.{Stage}
-use Rattle.thy_boot.specs.declared.stage.Stage.TheVariants.{Reads, Loads, Over}
+use Rattle.thy_boot.specs.declared.stage.Stage.TheVariants.{Reads, Loads, Migrates, Over}
 use Rattle.thy_boot.specs.declared.stage.Issue.{Issue}
 use Rattle.thy_boot.specs.declared.stage.Issue.TheVariants.{Home, Slot, Header, Settle, Commit, Confirm}
-use Rattle.thy_boot.specs.Boot.{Booting, at_stage}
-use Rattle.thy_boot.specs.Filling.{FillingOf, First, IsFilling, layout_at, first_by}
+use Rattle.thy_boot.specs.declared.stage.Migration.{Migration}
+use Rattle.thy_boot.specs.declared.stage.Migration.TheVariants.{Slot as SlotAnew, Settle as SettleAnew, Commit as CommitAnew, Confirm as ConfirmAnew}
+use Rattle.thy_boot.specs.Boot.{Booting, IsMigration, layout_in, slot_read, at_stage}
+use Rattle.thy_boot.specs.Filling.{FillingOf, First, IsFilling, layout_at, first_by, anew}
+use Rattle.thy_boot.specs.Migrating.{CanMigrate, migration_action, after_migration, migrated_by}
 use Rattle.thy_boot.specs.Loads.{IsIssue, after_issue, issue_action}
 use Rattle.thy_boot.specs.Recovers.{HasReadAt, HasRead}
 use Rattle.thy_boot.specs.Sound.{layout_for, sealed_by, standing_in_boot, IsSoundAt}
@@ -48,6 +52,7 @@ length-after f Confirm n = length-settled n
 abbrev IsLoads : First → Stage → Type 0
 IsLoads f (Reads r) = ⊥
 IsLoads f (Loads issue) = IsIssue f issue
+IsLoads f (Migrates at) = ⊥
 IsLoads f (Over end) = Unit {0}
 
 loads-after : (f : First) → 0 < f.parts.slot_blocks → (issue : Issue) → IsLoads f (after_issue f issue)
@@ -84,7 +89,42 @@ module _ {C : Type 0} (F : FillingOf C) (laws : IsFilling F) where
       sized = k.sized ∙ ap (λ (p : Parameters). (layout_at F p).image_blocks) (sym sound.geometry);
       up = up;
     }
+    by_stage (Migrates step) at k going = record {
+      there = at.there;
+      sized = k.sized ∙ ap (λ (p : Parameters). (layout_at F p).image_blocks) (sym sound.geometry);
+      up = up;
+    }
     by_stage (Over end) at k going = absurd going
+
+  -- an action of a migration leaves the device up and as long as it was, and leads to its next action, which is there
+  migration-up : (b : Booting) (step : Migration) (n : Device) → (after (migration_action F b step) n).down ≡ n.down
+  migration-up b (SlotAnew k) n = refl
+  migration-up b SettleAnew n = refl
+  migration-up b CommitAnew n = refl
+  migration-up b ConfirmAnew n = refl
+
+  migration-long : (b : Booting) (step : Migration) (n : Device) → length (after (migration_action F b step) n).image ≡ length n.image
+  migration-long b (SlotAnew k) n = length-written_to n ((layout_in F b).slot_place (anew b.commit) + k) (block_at (slot_read F b) k)
+  migration-long b SettleAnew n = length-settled n
+  migration-long b CommitAnew n = length-written_to n 1 (anew b.commit)
+  migration-long b ConfirmAnew n = length-settled n
+
+  migration-on : (s : State) (b : Booting) (c : C) (step : Migration) (x : Device) → IsMigration F b step → length x.image ≡ (layout_in F b).image_blocks → x.down ≡ false
+      → IsGoing (after_migration F b step) → CanStepAt F (after_migration F b step) s x (migrated_by F step b) c
+  migration-on s b c (SlotAnew k) x there sized up going = by_more (nat_lt (k + 1) ((layout_in F b).slot_blocks (anew b.commit))) refl where
+    by_more : (t : Bool) → nat_lt (k + 1) ((layout_in F b).slot_blocks (anew b.commit)) ≡ t
+        → CanStepAt F (if t then Migrates (SlotAnew (k + 1)) else Migrates SettleAnew) s x (migrated_by F (SlotAnew k) b) c
+    by_more true e = record { there = ltb-true (k + 1) ((layout_in F b).slot_blocks (anew b.commit)) e; sized = sized; up = up }
+    by_more false e = record { there = tt; sized = sized; up = up }
+  migration-on s b c SettleAnew x there sized up going = record { there = tt; sized = sized; up = up }
+  migration-on s b c CommitAnew x there sized up going = record { there = tt; sized = sized; up = up }
+  migration-on s b c ConfirmAnew x there sized up going = absurd going
+
+  same-geometry : (b : Booting) (step : Migration) → (migrated_by F step b).p ≡ b.p
+  same-geometry b (SlotAnew k) = refl
+  same-geometry b SettleAnew = refl
+  same-geometry b CommitAnew = refl
+  same-geometry b ConfirmAnew = refl
 
   -- a step after a step
   pub may_go_on : MayGoOn F
@@ -98,12 +138,18 @@ module _ {C : Type 0} (F : FillingOf C) (laws : IsFilling F) where
       sized = read.sized;
       up = up;
     }
+    next_read (Migrates step) f going start read up = record {
+      there = subst (λ (k : Migration). IsMigration F d k) (sym f.first) (slot_some F laws d.p (anew d.commit));
+      sized = read.sized;
+      up = up;
+    }
     next_read (Over end) f going start read up = absurd going
 
     next_load : (q : Stage) → IsLoads (first_by F b.p s) q → (x : Device) → length x.image ≡ (layout_at F b.p).image_blocks → x.down ≡ false → IsGoing q
         → CanStepAt F q s x (at_stage q b) c
     next_load (Reads r) loads x sized up going = absurd loads
     next_load (Loads issue) loads x sized up going = record { start = start; there = loads; sized = sized; up = up }
+    next_load (Migrates step) loads x sized up going = absurd loads
     next_load (Over end) loads x sized up going = absurd going
 
     by_stage : (q : Stage) → CanStepAt F q s n b c → StepsAt F q s n b c m d e → (d.p ≡ b.p) × (m.down ≡ false) × CanStepAt F d.stage s m d e
@@ -119,6 +165,18 @@ module _ {C : Type 0} (F : FillingOf C) (laws : IsFilling F) where
         let going_q : IsGoing q = subst (λ (y : Booting). IsGoing y.stage) l.boot going in
         let next : CanStepAt F q s x (at_stage q b) c = next_load q (loads-after f (slot_some F laws b.p f.commit) issue) x (length-after f issue n ∙ can.sized) still going_q in (
           ap (λ (y : Booting). y.p) l.boot,
+          ap (λ (y : Device). y.down) l.device ∙ still,
+          subst (λ (y : Device). CanStepAt F d.stage s y d e) (sym l.device)
+              (subst (λ (y : C). CanStepAt F d.stage s x d y) (sym l.control)
+              (subst (λ (y : Booting). CanStepAt F y.stage s x y c) (sym l.boot) next)),
+        )
+    by_stage (Migrates step) can l =
+        let x : Device = after (migration_action F b step) n in
+        let still : x.down ≡ false = migration-up b step n ∙ up in
+        let going_q : IsGoing (after_migration F b step) = subst (λ (y : Booting). IsGoing y.stage) l.boot going in
+        let next : CanStepAt F (after_migration F b step) s x (migrated_by F step b) c
+        = migration-on s b c step x can.there (migration-long b step n ∙ can.sized) still going_q in (
+          ap (λ (y : Booting). y.p) l.boot ∙ same-geometry b step,
           ap (λ (y : Device). y.down) l.device ∙ still,
           subst (λ (y : Device). CanStepAt F d.stage s y d e) (sym l.device)
               (subst (λ (y : C). CanStepAt F d.stage s x d y) (sym l.control)

@@ -5,6 +5,10 @@ pub mod WrittenLemmas
 pub mod LoadLemmas
 pub mod LoadedLemmas
 pub mod MoveLemmas
+pub mod OlderLemmas
+pub mod RenewedLemmas
+pub mod AnewLemmas
+pub mod MigrationLemmas
 pub mod FoundLemmas
 pub mod SafeLemmas
 pub mod GoOnLemmas

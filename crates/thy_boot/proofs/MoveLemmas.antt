@@ -17,7 +17,7 @@ use Rattle.thy_layout.specs.Layout.{Layout, slot_in, decode_by, looked_by}
 use Rattle.thy_protocol.specs.Moves.{Standing, standing, IsKeeping, Move, Goes, Readies, Commits, Confirms}
 use Rattle.thy_layout.proofs.LayoutLemmas.{decode_by-nothing_back, looked_nothing}
 use Rattle.thy_boot.specs.declared.stage.Stage.{Stage}
-use Rattle.thy_boot.specs.declared.stage.Stage.TheVariants.{Reads, Loads, Over}
+use Rattle.thy_boot.specs.declared.stage.Stage.TheVariants.{Reads, Loads, Migrates, Over}
 use Rattle.thy_boot.specs.declared.stage.End.TheVariants.{Restored, Loaded}
 use Rattle.thy_boot.specs.declared.stage.Issue.{Issue}
 use Rattle.thy_boot.specs.declared.stage.Issue.TheVariants.{Home, Slot, Header, Settle, Commit, Confirm}
@@ -135,6 +135,7 @@ module _ {C : Type 0} (F : FillingOf C) (laws : IsFilling F) (o : Origin) (can :
         → StandsAt l.image_blocks f q m → MadeAt q h.next → IsSoundAt F o q h m b c
     sound_at b c h m fresh none (Reads r) stands made = absurd stands
     sound_at b c h m fresh none (Loads issue) stands made = record { none = none; fresh = fresh; there = stands.0; made = made; stood = stands.1 }
+    sound_at b c h m fresh none (Migrates at) stands made = absurd stands
     sound_at b c h m fresh none (Over Restored) stands made = absurd stands
     sound_at b c h m fresh none (Over Loaded) stands made = record { fresh = fresh; settled = stands.1; made = made; stood = stands.0 }
 

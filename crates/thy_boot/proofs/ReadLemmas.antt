@@ -9,20 +9,22 @@ use Rattle.thy_base.proofs.WrittenLemmas.{length-written}
 use Rattle.thy_base.proofs.BasicLemmas.{none_of_two}
 use Rattle.thy_base.proofs.DeviceLemmas.{newest-empty}
 use Rattle.thy_layout.specs.declared.bad_image.BadImage.{BadImage}
+use Rattle.thy_layout.specs.declared.layout_version.LayoutVersion.{LayoutVersion}
+use Rattle.thy_layout.specs.declared.layout_version.LayoutVersion.TheVariants.{VersionOne, VersionTwo}
 use Rattle.thy_layout.specs.Commit.{is_zero, epoch_of}
 use Rattle.thy_layout.specs.Decoded.{Nothing, Refused as IsRefused, At}
 use Rattle.thy_layout.specs.Layout.{Layout, header_bad, commit_bad, state_by, slot_in, memory_in, is_sized, fault_of, refused_or_at, decode_by}
 use Rattle.thy_layout.proofs.LayoutLemmas.{sized_if_long, decode_by-zero}
 use Rattle.thy_view.specs.Safe.{ceiling}
 use Rattle.thy_boot.specs.declared.stage.Stage.{Stage}
-use Rattle.thy_boot.specs.declared.stage.Stage.TheVariants.{Reads, Loads, Over}
+use Rattle.thy_boot.specs.declared.stage.Stage.TheVariants.{Reads, Loads, Migrates, Over}
 use Rattle.thy_boot.specs.declared.stage.ReadStage.TheVariants.{Unread, Header, Slot, Fills, Refusing}
 use Rattle.thy_boot.specs.declared.stage.End.TheVariants.{Restored, Loaded}
 use Rattle.thy_boot.specs.declared.stage.Issue.TheVariants.{Home}
-use Rattle.thy_boot.specs.Boot.{Booting, IsBoot, IsThere, new_boot, layout_in, slot_read, slot_fault, at_stage, refusing_or, after_commit, head_fault, after_header, after_slot, filling_or, filling_from, has_more, gone_on, IsJudged, GoesOn}
+use Rattle.thy_boot.specs.Boot.{Booting, IsBoot, IsThere, new_boot, layout_in, slot_read, slot_fault, version_in, at_stage, refusing_or, after_commit, head_fault, after_header, after_slot, filled_by, filling_or, filling_from, has_more, gone_on, IsJudged, GoesOn}
 use Rattle.thy_boot.specs.Filling.{FillingOf, IsFilling, layout_at}
 use Rattle.thy_boot.specs.Reads.{slot_kept}
-use Rattle.thy_boot.specs.Recovers.{HasCommit, HasHead, HasSlot, HasListed, HasReadAt, HasRead}
+use Rattle.thy_boot.specs.Recovers.{HasCommit, HasHead, HasSlot, HasListed, IsRestored, HasReadAt, HasRead}
 use Rattle.thy_boot.proofs.SlotLemmas.{HasSlot-more, slot_is_whole}
 
 first_two : {X : Type 0} (a b c : Option X) (x : X) → option_or a b ≡ Some x → option_or a (option_or b c) ≡ Some x
@@ -89,7 +91,8 @@ module _ {C : Type 0} (F : FillingOf C) where
 
   -- the whole slot, judged: it is refused, or, listed by the controller, filled or restored
   module _ (n : Device) (b : Booting) (c : C) (laws : IsFilling F) (same : F.p c ≡ b.p) (settled : n.queue ≡ []) (sized : length n.image ≡ (layout_in F b).image_blocks)
-      (head : HasHead (layout_in F b) n.image b.commit) (whole : slot_read F b ≡ slot_in (layout_in F b) n.image) where
+      (head : HasHead (layout_in F b) n.image b.commit) (whole : slot_read F b ≡ slot_in (layout_in F b) n.image)
+      (room : length b.slot ≡ 64 * (layout_in F b).most_slot) where
     abbrev l : Layout
     l = layout_in F b
 
@@ -109,47 +112,61 @@ module _ {C : Type 0} (F : FillingOf C) where
     -- from a position on
     pub filling-found : (from : ℕ) → slot_fault F b ≡ None → F.lists b.commit slot c → F.filled c n from → HasReadAt F (filling_from F from b) n b c
     filling-found from fits lists filled = by_next (F.next_fill b.p b.commit slot from) refl where
-      listed : HasListed F n b c
+      listed : HasListed F n.image b c
       listed = record { head = head; slot_is = whole; slot_fits = fits; lists = lists }
 
-      by_next : (o : Option ℕ) → F.next_fill b.p b.commit slot from ≡ o → HasReadAt F (filling_or o) n b c
+      by_version : (v : LayoutVersion) → version_in F b ≡ v → IsRestored F n b c → F.loads c n ≡ memory_in l n.image → HasReadAt F (filled_by v) n b c
+      by_version VersionOne is restored memory = record { restored = restored; memory = memory; room = room; version = is; first = refl }
+      by_version VersionTwo is restored memory = restored
+
+      by_next : (o : Option ℕ) → F.next_fill b.p b.commit slot from ≡ o → HasReadAt F (filling_or (version_in F b) o) n b c
       by_next None e =
           let none : F.next_fill (F.p c) b.commit slot from ≡ None = ap (λ p. F.next_fill p b.commit slot from) same ∙ e in
           let long : length n.image ≡ (layout_at F (F.p c)).image_blocks = sized ∙ ap (λ p. (layout_at F p).image_blocks) (sym same) in
           let slot_is : slot_in (layout_at F (F.p c)) n.image ≡ slot = ap (λ p. slot_in (layout_at F p) n.image) same ∙ sym whole in
           let ended = laws.ends c n b.commit slot from lists filled none settled long head.commit_is.is slot_is in
           let memory : F.loads c n ≡ memory_in l n.image = ended.1 ∙ ap (λ p. memory_in (layout_at F p) n.image) same in
-          record {
+          by_version (version_in F b) refl (record {
             listed = listed;
             whole = ended.0;
             found = meaning None fits ∙ ap (λ s. At (epoch_of b.commit) (state_by l s (memory_in l n.image))) (sym whole)
                 ∙ ap (λ m. At (epoch_of b.commit) (state_by l slot m)) (sym memory);
-          }
+          }) memory
       by_next (Some k) e =
           let some : F.next_fill (F.p c) b.commit slot from ≡ Some k = ap (λ p. F.next_fill p b.commit slot from) same ∙ e in
           let there = laws.next c n b.commit slot from k lists filled some in
           (listed, there.2, ap (λ p. F.next_fill p b.commit slot k) (sym same) ∙ there.3)
 
   -- what was read does not depend on the stage that the boot has
-  relist : (s : Stage) (n : Device) (b : Booting) (c : C) → HasListed F n b c → HasListed F n (at_stage s b) c
-  relist s n b c h = record { head = h.head; slot_is = h.slot_is; slot_fits = h.slot_fits; lists = h.lists }
+  relist : (s : Stage) (g : List Block) (b : Booting) (c : C) → HasListed F g b c → HasListed F g (at_stage s b) c
+  relist s g b c h = record { head = h.head; slot_is = h.slot_is; slot_fits = h.slot_fits; lists = h.lists }
+
+  restored_still : (s : Stage) (n : Device) (b : Booting) (c : C) → IsRestored F n b c → IsRestored F n (at_stage s b) c
+  restored_still s n b c h = record { listed = relist s n.image b c h.listed; whole = h.whole; found = h.found }
 
   pub restage : (q s : Stage) (n : Device) (b : Booting) (c : C) → HasReadAt F q n b c → HasReadAt F q n (at_stage s b) c
   restage (Reads Unread) s n b c h = h
   restage (Reads Header) s n b c h = h
   restage (Reads (Slot next)) s n b c h = h
-  restage (Reads (Fills k)) s n b c h = (relist s n b c h.0, h.1, h.2)
+  restage (Reads (Fills k)) s n b c h = (relist s n.image b c h.0, h.1, h.2)
   restage (Reads (Refusing bad)) s n b c h = h
   restage (Loads issue) s n b c h = h
-  restage (Over Restored) s n b c h = record { listed = relist s n b c h.listed; whole = h.whole; found = h.found }
+  restage (Migrates at) s n b c h = record {
+    restored = restored_still s n b c h.restored;
+    memory = h.memory;
+    room = h.room;
+    version = h.version;
+    first = h.first;
+  }
+  restage (Over Restored) s n b c h = restored_still s n b c h
   restage (Over Loaded) s n b c h = h
 
   -- a position was filled with what its read gave
-  pub fill-found : (n : Device) (b : Booting) (c : C) (k : ℕ) → IsFilling F → b.stage ≡ Reads (Fills k) → HasRead F n b c
-      → HasRead F n (at_stage (filling_from F (k + 1) b) b) (F.with_fill b.commit k (newest n (F.fill_place c b.commit k)) c)
-  fill-found n b c k laws is h =
+  pub fill-found : (n : Device) (b : Booting) (c : C) (k : ℕ) → IsFilling F → length b.slot ≡ 64 * (layout_in F b).most_slot
+      → b.stage ≡ Reads (Fills k) → HasRead F n b c → HasRead F n (at_stage (filling_from F (k + 1) b) b) (F.with_fill b.commit k (newest n (F.fill_place c b.commit k)) c)
+  fill-found n b c k laws room is h =
       let had : HasReadAt F (Reads (Fills k)) n b c = subst (λ (s : Stage). HasReadAt F s n b c) is h.so_far in
-      let listed : HasListed F n b c = had.0 in
+      let listed : HasListed F n.image b c = had.0 in
       let some : F.next_fill (F.p c) b.commit (slot_read F b) k ≡ Some k = ap (λ p. F.next_fill p b.commit (slot_read F b) k) h.same_p ∙ had.2 in
       let long : length n.image ≡ (layout_at F (F.p c)).image_blocks = h.sized ∙ ap (λ p. (layout_at F p).image_blocks) (sym h.same_p) in
       let filled = laws.fills c n b.commit (slot_read F b) k listed.lists had.1 some h.settled long listed.head.commit_is.is in
@@ -160,7 +177,7 @@ module _ {C : Type 0} (F : FillingOf C) where
         sized = h.sized;
         settled = h.settled;
         so_far = restage (filling_from F (k + 1) b) (filling_from F (k + 1) b) n b d
-            (filling-found n b d laws same h.settled h.sized listed.head listed.slot_is (k + 1) listed.slot_fits filled.0 filled.1);
+            (filling-found n b d laws same h.settled h.sized listed.head listed.slot_is room (k + 1) listed.slot_fits filled.0 filled.1);
       }
 
   -- a block of the slot was kept, and with the last of them the slot was judged
@@ -198,9 +215,9 @@ module _ {C : Type 0} (F : FillingOf C) where
     judged : (o : Option BadImage) → k + 1 ≡ lay.slot_blocks b.commit → slot_fault F w ≡ o → IsJudged F o w c d
         → HasReadAt F (refusing_or o (filling_from F 0 w)) n w d
     judged None last e j =
-        filling-found n w d laws (j.left.same_p ∙ h.same_p) h.settled h.sized had.1 (whole last) 0 e j.lists
+        filling-found n w d laws (j.left.same_p ∙ h.same_p) h.settled h.sized had.1 (whole last) size 0 e j.lists
         (laws.begins d n w.commit (slot_read F w) j.lists)
-    judged (Some bad) last e j = refused n w d laws (ap F.p j ∙ h.same_p) h.settled h.sized had.1 (whole last) bad e
+    judged (Some bad) last e j = refused n w d laws (ap F.p j ∙ h.same_p) h.settled h.sized had.1 (whole last) size bad e
 
     go_on : (z : Bool) → has_more F k w ≡ z → GoesOn F z w c d → HasReadAt F (if z then Reads (Slot (k + 1)) else after_slot F w) n w d
     go_on true e j = (subst F.fresh (sym j) had.0, had.1, kept)

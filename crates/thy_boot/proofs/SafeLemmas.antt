@@ -1,10 +1,10 @@
 -- Whatever a cut leaves of a boot is safe, also after a step that failed.
-use Rattle.std.proofs.Common.{◌≡◌, ◌≢◌, ℕ, ◌+◌, ◌==◌, ◌||◌, Bool, false, if◌then◌else◌, Option, Some, None, refl, sym, ap, subst}
+use Rattle.std.proofs.Common.{◌≡◌, ◌≢◌, ℕ, ◌+◌, ◌==◌, ◌||◌, Bool, true, false, if◌then◌else◌, Option, Some, None, refl, sym, ap, subst}
 use Rattle.std.proofs.lemmas.Bool.{ne_eqb}
 use Rattle.thy_base.specs.declared.config.Parameters.{Parameters}
 use Rattle.thy_base.specs.declared.mark.Mark.{Mark}
 use Rattle.thy_base.specs.Device.{Device, IsFramed, HasFailed}
-use Rattle.thy_crash.specs.Saved.{Kept, guarded, InDoubt, Saved}
+use Rattle.thy_crash.specs.Saved.{Kept, Ready, guarded, InDoubt, Saved}
 use Rattle.thy_crash.proofs.SparesLemmas.{Spares-failed}
 use Rattle.thy_view.specs.Action.{Action, FailsTo, is_commit_write, doubt_after_fault}
 use Rattle.thy_view.specs.Booting.{loading_view}
@@ -14,24 +14,29 @@ use Rattle.thy_view.specs.Views.{doubt_of}
 use Rattle.thy_protocol.specs.Keeps.{doubt_in, finding_view}
 use Rattle.thy_layout.specs.Layout.{looked_by, reading}
 use Rattle.thy_protocol.specs.Moves.{Standing, standing, IsKeeping, Move, Goes}
-use Rattle.thy_protocol.proofs.KeepsLemmas.{IsKeeping-move, Safe-kept}
+use Rattle.thy_view.proofs.SafeLemmas.{Safe-same}
+use Rattle.thy_protocol.proofs.KeepsLemmas.{IsKeeping-move, Safe-kept, Safe-sealed}
 use Rattle.thy_boot.specs.declared.stage.Stage.{Stage}
-use Rattle.thy_boot.specs.declared.stage.Stage.TheVariants.{Reads, Loads, Over}
+use Rattle.thy_boot.specs.declared.stage.Stage.TheVariants.{Reads, Loads, Migrates, Over}
 use Rattle.thy_boot.specs.declared.stage.ReadStage.{ReadStage}
 use Rattle.thy_boot.specs.declared.stage.ReadStage.TheVariants.{Unread, Header as ReadsHeader, Slot as ReadsSlot, Fills, Refusing}
 use Rattle.thy_boot.specs.declared.stage.End.TheVariants.{Restored, Loaded}
 use Rattle.thy_boot.specs.declared.stage.Issue.{Issue}
 use Rattle.thy_boot.specs.declared.stage.Issue.TheVariants.{Home, Slot, Header, Settle, Commit, Confirm}
+use Rattle.thy_boot.specs.declared.stage.Migration.{Migration}
+use Rattle.thy_boot.specs.declared.stage.Migration.TheVariants.{Slot as SlotAnew, Settle as SettleAnew, Commit as CommitAnew, Confirm as ConfirmAnew}
 use Rattle.thy_boot.specs.Boot.{Booting}
+use Rattle.thy_boot.specs.Migrating.{migration_action}
 use Rattle.thy_boot.specs.Filling.{FillingOf, First, IsFilling, first_by}
 use Rattle.thy_boot.specs.Loads.{IsIssue, issue_action}
 use Rattle.thy_boot.specs.Reads.{read_action}
 use Rattle.thy_boot.specs.Shows.{is_written, restored_view, seen_at}
-use Rattle.thy_boot.specs.Sound.{BootImages, layout_for, first_of, start_mark, sealed_by, saved_loading, standing_in_boot, IsMade, IsSoundAt}
+use Rattle.thy_boot.specs.Sound.{BootImages, layout_for, first_of, start_mark, sealed_by, saved_loading, saved_migrating, standing_in_boot, IsMade, IsMigrating, IsSoundAt}
 use Rattle.thy_boot.specs.Start.{CanStart}
 use Rattle.thy_boot.specs.Steps.{action_at}
 use Rattle.thy_boot.specs.Laws.{SoundIsSafe, IsGoing, standing_after_fault, FailuresMove}
 use Rattle.thy_boot.proofs.FoundLemmas.{reading_of}
+use Rattle.thy_boot.proofs.MigrationLemmas.{migration-fails}
 use Rattle.thy_boot.proofs.MoveLemmas.{load_fails, home_elsewhere, slot_elsewhere}
 use Rattle.thy_boot.proofs.StartLemmas.{CanStart-origin}
 
@@ -47,6 +52,31 @@ failed_is o g m Header = refl
 failed_is o g m Settle = refl
 failed_is o g m Commit = refl
 failed_is o g m Confirm = refl
+
+-- by the action of a migration
+abbrev failed_migrating : Migration → BootImages → Saved
+failed_migrating CommitAnew g = InDoubt g.before g.next
+failed_migrating step g = saved_migrating step g
+
+failed_migrating_is : (o : Origin) (g : BootImages) (m : Device) (step : Migration) → standing_after_fault o (Migrates step) g m ≡ standing m (failed_migrating step g) g.kept g.kept
+failed_migrating_is o g m (SlotAnew k) = refl
+failed_migrating_is o g m SettleAnew = refl
+failed_migrating_is o g m CommitAnew = refl
+failed_migrating_is o g m ConfirmAnew = refl
+
+-- none is in doubt if none is sealed
+none-in : (s : Saved) → doubt_in s None ≡ None
+none-in (Kept before) = refl
+none-in (Ready before next) = refl
+none-in (InDoubt before next) = refl
+
+none-either : (t : Bool) → None ≡ (let k : Option Mark = if t then None else None in k)
+none-either true = refl
+none-either false = refl
+
+-- a boot of a run is of its geometry
+pub as_geometry : (o : Origin) (b : Booting) → b.p ≡ o.geometry → record b { p = o.geometry } ≡ b
+as_geometry o b h = ap (λ (p : Parameters). record b { p = p }) (sym h)
 
 -- a write elsewhere is not a commit block's
 elsewhere : (o : Origin) (x : ℕ) → x ≢ 1 → None ≡ (if (x == 1) || false then Some (start_mark o) else None)
@@ -73,6 +103,12 @@ module _ {C : Type 0} (F : FillingOf C) (laws : IsFilling F) where
     loading : (issue : Issue) → IsKeeping o (layout_for F o) (standing_in_boot o (Loads issue) g n) → IsSafe None (doubt_in (saved_loading issue g) (Some (start_mark o)))
     loading issue k = Safe-kept F.layouts o n (saved_loading issue g) None (Some (start_mark o)) k
 
+    -- both images of a migration are the mark's that is kept
+    migrating : (kept : Option Mark) (s : Saved) → IsKeeping o (layout_for F o) (standing n s kept kept)
+        → IsSafe (finding_view o.start.count kept).done (doubt_of (finding_view o.start.count kept))
+    migrating None s k = subst (λ (x : Option Mark). IsSafe None x) (none-in s) (Safe-kept F.layouts o n s None None k)
+    migrating (Some m) s k = Safe-same (reading F.layouts) o m n (Safe-sealed F.layouts o n s (Some m) (Some m) k)
+
     safe_at : (q : Stage) → IsKeeping o (layout_for F o) (standing_in_boot o q g n) → IsSafe (seen_at o g.kept q).done (doubt_of (seen_at o g.kept q))
     safe_at (Reads r) k = reads g.kept (kept k)
     safe_at (Loads (Home b)) k = loading (Home b) k
@@ -81,6 +117,7 @@ module _ {C : Type 0} (F : FillingOf C) (laws : IsFilling F) where
     safe_at (Loads Settle) k = loading Settle k
     safe_at (Loads Commit) k = loading Commit k
     safe_at (Loads Confirm) k = loading Confirm k
+    safe_at (Migrates step) k = migrating g.kept (saved_migrating step g) k
     safe_at (Over Restored) k = restored g.kept (kept k)
     safe_at (Over Loaded) k = Safe-kept F.layouts o n (Kept g.next) (Some (start_mark o)) None k
 
@@ -156,6 +193,34 @@ module _ {C : Type 0} (F : FillingOf C) (laws : IsFilling F) where
         (subst (λ (a : Standing). IsKeeping o (layout_for F o) a) (failed_is o g m issue) kept) in
         (move, subst (λ (d : Option Mark). Safe (reading F.layouts) o None d m) (loading_doubt issue inside) safe)
 
+  -- a migration's
+  migration_moves : (o : Origin) (g : BootImages) (n m : Device) (b : Booting) (c : C) (step : Migration) → F.p c ≡ o.geometry → b.p ≡ o.geometry
+      → IsMigrating F o step g n b c → FailsTo (migration_action F b step) n m → IsFramed n m
+      → Move o (layout_for F o) (standing_in_boot o (Migrates step) g n) (standing_after_fault o (Migrates step) g m)
+  migration_moves o g n m b c step same geometry there failed framed =
+      subst (λ (x : Booting). IsMigrating F o step g n x c → FailsTo (migration_action F x step) n m
+      → Move o (layout_for F o) (standing_in_boot o (Migrates step) g n) (standing_after_fault o (Migrates step) g m)) (as_geometry o b geometry)
+      (λ is f. migration-fails F laws o (first_of F o) b c same g n step is m f framed) there failed
+
+  migration_failure : (o : Origin) (g : BootImages) (n m : Device) (b : Booting) (c : C) (step : Migration) → F.p c ≡ o.geometry → b.p ≡ o.geometry
+      → IsMigrating F o step g n b c → IsKeeping o (layout_for F o) (standing_in_boot o (Migrates step) g n) → FailsTo (migration_action F b step) n m → IsFramed n m
+      → Failure o g n (Migrates step) (migration_action F b step) m
+  migration_failure o g n m b c step same geometry there k failed framed =
+      let a : Action = migration_action F b step in
+      let move = migration_moves o g n m b c step same geometry there failed framed in
+      let kept : IsKeeping o (layout_for F o) (standing_after_fault o (Migrates step) g m)
+      = IsKeeping-move o (layout_for F o) (standing_in_boot o (Migrates step) g n) (standing_after_fault o (Migrates step) g m) move k in
+      let both : IsKeeping o (layout_for F o) (standing m (failed_migrating step g) (Some there.m) (Some there.m))
+      = subst (λ (x : Option Mark). IsKeeping o (layout_for F o) (standing m (failed_migrating step g) x x)) there.kept
+      (subst (λ (x : Standing). IsKeeping o (layout_for F o) x) (failed_migrating_is o g m step) kept) in
+      let safe : Safe (reading F.layouts) o (Some there.m) None m
+      = Safe-same (reading F.layouts) o there.m m (Safe-sealed F.layouts o m (failed_migrating step g) (Some there.m) (Some there.m) both) in (
+        move,
+        subst (λ (x : Option Mark). Safe (reading F.layouts) o (finding_view o.start.count x).done (doubt_after_fault a (finding_view o.start.count x)) m)
+            (sym there.kept)
+            (subst (λ (x : Option Mark). Safe (reading F.layouts) o (Some there.m) x m) (none-either (is_commit_write a || false)) safe),
+      )
+
   pub failures_move : FailuresMove F
   failures_move o g n b c m origin sound going fails framed =
       let r = by_stage b.stage sound.so_far sound.keeps going fails in
@@ -169,4 +234,5 @@ module _ {C : Type 0} (F : FillingOf C) (laws : IsFilling F) where
           subst (λ (p : Parameters). Failure o g n (Loads issue) (issue_action (first_by F p o.start) issue) m) (sym sound.geometry)
           (load_failure o starts g n m issue there.there k there.made
           (subst (λ (p : Parameters). FailsTo (issue_action (first_by F p o.start) issue) n m) sound.geometry f) framed)
+      by_stage (Migrates step) there k going f = migration_failure o g n m b c step sound.same_p sound.geometry there k f framed
       by_stage (Over end) there k going f = absurd going

@@ -15,7 +15,7 @@ use Rattle.thy_boot.specs.Filling.{FillingOf}
 use Rattle.thy_boot.specs.Recovers.{HasCommit, HasSlot}
 
 -- what is below what was written
-take_below : (xs ys : List ℕ) (a n b : ℕ) → a + n ≤ b → b ≤ length xs → take n (drop a (take b xs ++ ys)) ≡ take n (drop a xs)
+pub take_below : (xs ys : List ℕ) (a n b : ℕ) → a + n ≤ b → b ≤ length xs → take n (drop a (take b xs ++ ys)) ≡ take n (drop a xs)
 take_below xs ys a n b l inside =
     let size : length (take b xs) ≡ b = length-take b xs ∙ omega (arith, inside) in
     let part : length (drop a (take b xs)) ≡ b - a = length-drop a (take b xs) ∙ ap (λ k. k - a) size in

@@ -13,15 +13,19 @@ use Rattle.thy_layout.specs.Layout.{looked_by}
 use Rattle.thy_protocol.specs.Moves.{Standing, IsKeeping, Move, Goes}
 use Rattle.thy_protocol.proofs.KeepsLemmas.{IsKeeping-move}
 use Rattle.thy_boot.specs.declared.stage.Stage.{Stage}
-use Rattle.thy_boot.specs.declared.stage.Stage.TheVariants.{Reads, Loads, Over}
+use Rattle.thy_boot.specs.declared.stage.Stage.TheVariants.{Reads, Loads, Migrates, Over}
 use Rattle.thy_boot.specs.declared.stage.ReadStage.{ReadStage}
+use Rattle.thy_boot.specs.declared.stage.End.TheVariants.{Restored}
 use Rattle.thy_boot.specs.declared.stage.Issue.{Issue}
 use Rattle.thy_boot.specs.declared.stage.Issue.TheVariants.{Home, Slot, Header, Settle, Commit, Confirm}
-use Rattle.thy_boot.specs.Boot.{Booting, at_stage, answer_at, answer_of}
-use Rattle.thy_boot.specs.Filling.{FillingOf, First, IsFilling, first_by}
+use Rattle.thy_boot.specs.declared.stage.Migration.{Migration}
+use Rattle.thy_boot.specs.declared.stage.Migration.TheVariants.{Slot as SlotAnew, Settle as SettleAnew, Commit as CommitAnew, Confirm as ConfirmAnew}
+use Rattle.thy_boot.specs.Boot.{Booting, layout_in, at_stage, answer_at, answer_of}
+use Rattle.thy_boot.specs.Filling.{FillingOf, First, IsFilling, first_by, anew}
 use Rattle.thy_boot.specs.Loads.{after_issue, issue_action}
+use Rattle.thy_boot.specs.Migrating.{MigratesOn, migration_action, after_migration, migrated_by}
 use Rattle.thy_boot.specs.Shows.{seen_at}
-use Rattle.thy_boot.specs.Sound.{BootImages, layout_for, first_of, sealed_by, standing_in_boot, images_after, IsRecovering, IsLoading, IsSoundAt, IsSoundBoot}
+use Rattle.thy_boot.specs.Sound.{BootImages, layout_for, first_of, sealed_by, standing_in_boot, images_after, IsRecovering, IsLoading, IsMigrating, IsSoundAt, IsSoundBoot}
 use Rattle.thy_boot.specs.Start.{CanStart}
 use Rattle.thy_boot.specs.Steps.{ReadsOn, LoadsOn, StepsAt}
 use Rattle.thy_boot.specs.Laws.{StepsMove}
@@ -29,7 +33,9 @@ use Rattle.thy_boot.proofs.LoadLemmas.{slot_some, first-placed, first-once}
 use Rattle.thy_boot.proofs.MoveLemmas.{load_moves, made_on, sound_at, kept_after}
 use Rattle.thy_boot.proofs.StartLemmas.{CanStart-origin}
 use Rattle.thy_boot.proofs.WrittenLemmas.{stands_on}
-use Rattle.thy_boot.proofs.FoundLemmas.{reading_of, stands, found-sound, shows}
+use Rattle.thy_boot.proofs.FoundLemmas.{reading_of, boots, read-moves, found-sound, shows}
+use Rattle.thy_boot.proofs.MigrationLemmas.{migrates-on}
+use Rattle.thy_boot.proofs.SafeLemmas.{as_geometry}
 
 module _ {C : Type 0} (F : FillingOf C) (laws : IsFilling F) where
   abbrev Outcome : Origin → BootImages → Device → Stage → Device → Booting → C → Type 0
@@ -63,8 +69,7 @@ module _ {C : Type 0} (F : FillingOf C) (laws : IsFilling F) where
         let before_is : g.before ≡ m.image = rec.before_is ∙ ap (λ (x : Device). x.image) (sym on.device) in
         let same : d.p ≡ o.geometry = on.same_p ∙ geometry in
         let move : Move o (layout_for F o) (reading_of o g n) (standing_in_boot o d.stage g m)
-        = subst (λ (a : Standing). Move o (layout_for F o) (reading_of o g n) a) (stands F laws o g m d e before_is same k.told on.read d.stage on.read.so_far)
-        (Goes (Kept g.before) g.kept (sealed_by o g.kept) n m (Spares-same (guarded (looked_by (layout_for F o)) (Kept g.before)) n m on.device)) in (
+        = read-moves F laws o g m d e before_is same k.told on.read n on.device d.stage on.read.so_far in (
           move,
           record {
             geometry = same;
@@ -107,6 +112,63 @@ module _ {C : Type 0} (F : FillingOf C) (laws : IsFilling F) where
         (subst (λ (x : C). Outcome o g n (Loads issue) (after (issue_action f issue) n) (at_stage (after_issue f issue) b) x) (sym l.control)
         (load_outcome same issue at k)))
 
+  -- an action of a migration
+  module _ (o : Origin) (g : BootImages) (n : Device) (c : C) (same : F.p c ≡ o.geometry) (step : Migration) where
+    abbrev at_end : Booting → Device
+    at_end b = after (migration_action F b step) n
+
+    abbrev images : BootImages
+    images = images_after (first_of F o) (Migrates step) n g
+
+    migration_shows : (b : Booting) → b.p ≡ o.geometry → IsKeeping o (layout_for F o) (standing_in_boot o (after_migration F b step) images (at_end b))
+        → IsSoundAt F o (after_migration F b step) images (at_end b) (migrated_by F step b) c
+        → CoreStep o (seen_at o g.kept (Migrates step)) (boot_did (answer_of F (migrated_by F step b))) (seen_at o g.kept (after_migration F b step))
+    migration_shows b geometry = by_step step where
+      by_step : (k : Migration) → (let x : Device = after (migration_action F b k) n in
+          let h : BootImages = images_after (first_of F o) (Migrates k) n g in
+          IsKeeping o (layout_for F o) (standing_in_boot o (after_migration F b k) h x) → IsSoundAt F o (after_migration F b k) h x (migrated_by F k b) c
+          → CoreStep o (seen_at o g.kept (Migrates k)) (boot_did (answer_of F (migrated_by F k b))) (seen_at o g.kept (after_migration F b k)))
+      by_step (SlotAnew k) keeps sound = by_more (nat_lt (k + 1) ((layout_in F b).slot_blocks (anew b.commit))) where
+        by_more : (t : Bool) → (let q : Stage = if t then Migrates (SlotAnew (k + 1)) else Migrates SettleAnew in
+            CoreStep o (seen_at o g.kept (Migrates (SlotAnew k))) (boot_did (answer_at F q (migrated_by F (SlotAnew k) b))) (seen_at o g.kept q))
+        by_more true = (boots o.start.count g.kept, inl refl)
+        by_more false = (boots o.start.count g.kept, inl refl)
+      by_step SettleAnew keeps sound = (boots o.start.count g.kept, inl refl)
+      by_step CommitAnew keeps sound = (boots o.start.count g.kept, inl refl)
+      by_step ConfirmAnew keeps sound =
+          shows F laws o (images_after (first_of F o) (Migrates ConfirmAnew) n g) (after (migration_action F b ConfirmAnew) n) (migrated_by F ConfirmAnew b) c
+          sound.before_is geometry keeps.told sound.read (Over Restored) sound.read.so_far
+
+    same_geometry : (b : Booting) → (migrated_by F step b).p ≡ b.p
+    same_geometry b = by_step step where
+      by_step : (k : Migration) → (migrated_by F k b).p ≡ b.p
+      by_step (SlotAnew k) = refl
+      by_step SettleAnew = refl
+      by_step CommitAnew = refl
+      by_step ConfirmAnew = refl
+
+    migration_outcome : (b : Booting) → b.p ≡ o.geometry → IsKeeping o (layout_for F o) (standing_in_boot o (Migrates step) g n) → IsMigrating F o step g n b c
+        → Outcome o g n (Migrates step) (at_end b) (migrated_by F step b) c
+    migration_outcome b geometry k there =
+        let r = subst (λ (x : Booting). IsMigrating F o step g n x c
+        → Move o (layout_for F o) (standing_in_boot o (Migrates step) g n) (standing_in_boot o (after_migration F x step) images (at_end x))
+        × (IsKeeping o (layout_for F o) (standing_in_boot o (after_migration F x step) images (at_end x))
+        → IsSoundAt F o (after_migration F x step) images (at_end x) (migrated_by F step x) c)) (as_geometry o b geometry)
+        (λ is. migrates-on F laws o (first_of F o) b c same g n step is k) there in
+        let keeps = IsKeeping-move o (layout_for F o) (standing_in_boot o (Migrates step) g n) (standing_in_boot o (after_migration F b step) images (at_end b)) r.0 k in (
+          r.0,
+          record { geometry = same_geometry b ∙ geometry; same_p = same; keeps = keeps; so_far = r.1 keeps },
+          migration_shows b geometry keeps (r.1 keeps),
+        )
+
+    pub migration_outcome_is : (b : Booting) (m : Device) (d : Booting) (e : C) → b.p ≡ o.geometry → IsKeeping o (layout_for F o) (standing_in_boot o (Migrates step) g n)
+        → IsMigrating F o step g n b c → MigratesOn F step n b c m d e → Outcome o g n (Migrates step) m d e
+    migration_outcome_is b m d e geometry k there l =
+        subst (λ (x : Device). Outcome o g n (Migrates step) x d e) (sym l.device)
+        (subst (λ (x : Booting). Outcome o g n (Migrates step) (at_end b) x e) (sym l.boot)
+        (subst (λ (x : C). Outcome o g n (Migrates step) (at_end b) (migrated_by F step b) x) (sym l.control)
+        (migration_outcome b geometry k there)))
+
   pub steps_move : StepsMove F
   steps_move o g n b c m d e origin sound steps =
       let r = by_stage b.stage sound.so_far sound.keeps steps in
@@ -119,4 +181,5 @@ module _ {C : Type 0} (F : FillingOf C) (laws : IsFilling F) where
           → Outcome o g n q m d e
       by_stage (Reads r) at k on = read_outcome o starts g n b c sound.geometry r m d e at k on
       by_stage (Loads issue) at k l = load_outcome_is o starts g n b c sound.geometry sound.same_p issue m d e at k l
+      by_stage (Migrates step) at k l = migration_outcome_is o g n c sound.same_p step b m d e sound.geometry k at l
       by_stage (Over end) at k l = absurd l

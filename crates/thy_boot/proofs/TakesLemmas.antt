@@ -1,34 +1,45 @@
 -- A step that was taken, put together of what its calls left.
-use Rattle.std.proofs.Common.{◌≡◌, ℕ, ◌+◌, ◌*◌, ◌<◌, Bool, true, false, if◌then◌else◌, length, Option, Some, None, Result, Ok, Err, OnOk, OnErr, refl, sym, ◌∙◌, ap, subst, arith}
+use Rattle.std.proofs.Common.{◌≡◌, ℕ, ◌+◌, ◌*◌, ◌<◌, nat_lt, Bool, true, false, if◌then◌else◌, length, Option, Some, None, Result, Ok, Err, OnOk, OnErr, refl, sym, ◌∙◌, ap, subst, arith}
 use Rattle.std.proofs.lemmas.Bool.{ltb-true}
 use Rattle.thy_base.specs.declared.nvm.NvmError.{NvmError}
 use Rattle.thy_base.specs.Device.{Device, newest}
 use Rattle.thy_base.proofs.WrittenLemmas.{length-written}
 use Rattle.thy_isa.specs.Step.{State}
 use Rattle.thy_layout.specs.declared.bad_image.BadImage.{BadImage}
+use Rattle.thy_layout.specs.declared.layout_version.LayoutVersion.{LayoutVersion}
+use Rattle.thy_layout.specs.declared.layout_version.LayoutVersion.TheVariants.{VersionOne, VersionTwo}
 use Rattle.thy_layout.specs.Commit.{is_zero}
 use Rattle.thy_view.specs.Action.{after, FailsTo}
 use Rattle.thy_boot.specs.declared.stage.Stage.{Stage}
-use Rattle.thy_boot.specs.declared.stage.Stage.TheVariants.{Reads, Loads, Over}
+use Rattle.thy_boot.specs.declared.stage.Stage.TheVariants.{Reads, Loads, Migrates, Over}
 use Rattle.thy_boot.specs.declared.stage.ReadStage.{ReadStage}
 use Rattle.thy_boot.specs.declared.stage.ReadStage.TheVariants.{Unread, Header, Slot, Fills, Refusing}
 use Rattle.thy_boot.specs.declared.stage.Issue.TheVariants.{Home}
-use Rattle.thy_boot.specs.Boot.{Booting, IsBoot, IsThere, layout_in, slot_read, slot_fault, at_stage, refusing_or, after_commit, head_fault, after_header, after_slot, filling_or, filling_from, has_more}
-use Rattle.thy_boot.specs.Filling.{FillingOf, IsFilling}
+use Rattle.thy_boot.specs.declared.stage.Migration.{Migration}
+use Rattle.thy_boot.specs.declared.stage.Migration.TheVariants.{Slot as SlotAnew, Settle, Commit, Confirm}
+use Rattle.thy_boot.specs.Boot.{Booting, IsBoot, IsThere, IsMigration, layout_in, slot_read, slot_fault, version_in, at_stage, refusing_or, after_commit, head_fault, after_header, after_slot, filled_by, filling_or, filling_from, has_more}
+use Rattle.thy_boot.specs.Filling.{FillingOf, IsFilling, anew}
 use Rattle.thy_boot.specs.Loads.{Takes}
+use Rattle.thy_boot.specs.Migrating.{CanMigrate, migration_action, migrated_by}
 use Rattle.thy_boot.specs.Reads.{read_action, read_on, slot_kept, FillsOn, IsBlock}
 use Rattle.thy_boot.specs.Recovers.{HasRead}
 use Rattle.thy_boot.specs.Steps.{ReadsOn, StepsAt, action_at, TakesStep}
 use Rattle.thy_boot.proofs.LoadLemmas.{slot_some}
 use Rattle.thy_boot.proofs.NearerLemmas.{nearer_commit, nearer_header, nearer_slot, nearer_fill}
+use Rattle.thy_boot.proofs.RenewedLemmas.{length-renewed}
 use Rattle.thy_boot.proofs.ReadLemmas.{commit-found, header-found, slot-found, fill-found}
 
 module _ {C : Type 0} (F : FillingOf C) (laws : IsFilling F) where
+  -- a slot has a block
+  filled_there : (b : Booting) (v : LayoutVersion) → IsThere F b (filled_by v)
+  filled_there b VersionOne = slot_some F laws b.p (anew b.commit)
+  filled_there b VersionTwo = tt
+
   -- what is read next is there
   next_there : (b : Booting) (from : ℕ) → IsThere F b (filling_from F from b)
   next_there b from = by_next (F.next_fill b.p b.commit (slot_read F b) from) refl where
-    by_next : (o : Option ℕ) → F.next_fill b.p b.commit (slot_read F b) from ≡ o → IsThere F b (filling_or o)
-    by_next None e = tt
+    by_next : (o : Option ℕ) → F.next_fill b.p b.commit (slot_read F b) from ≡ o → IsThere F b (filling_or (version_in F b) o)
+    by_next None e = filled_there b (version_in F b)
     by_next (Some k) e = let above = laws.above b.p b.commit (slot_read F b) from k e in above.1
 
   slot_there : (b : Booting) → IsThere F b (after_slot F b)
@@ -45,6 +56,12 @@ module _ {C : Type 0} (F : FillingOf C) (laws : IsFilling F) where
   same_there (Reads (Fills k)) b d same commit h = subst (λ (x : ℕ). k < x) (ap F.most_fills (sym same)) h
   same_there (Reads (Refusing bad)) b d same commit h = tt
   same_there (Loads issue) b d same commit h = tt
+  same_there (Migrates (SlotAnew k)) b d same commit h =
+      subst (λ (x : ℕ). k < x)
+      (ap (λ p. (layout_in F (record b { p = p })).slot_blocks (anew b.commit)) (sym same) ∙ ap (λ x. (layout_in F d).slot_blocks (anew x)) (sym commit)) h
+  same_there (Migrates Settle) b d same commit h = tt
+  same_there (Migrates Commit) b d same commit h = tt
+  same_there (Migrates Confirm) b d same commit h = tt
   same_there (Over end) b d same commit h = tt
 
   inside_of : (b : Booting) (k : ℕ) → b.stage ≡ Reads (Slot k) → IsBoot F b → k < (layout_in F b).slot_blocks b.commit
@@ -110,7 +127,7 @@ module _ {C : Type 0} (F : FillingOf C) (laws : IsFilling F) where
     device = refl;
     boot = refl;
     control = f;
-    read = subst (λ (x : C). HasRead F n (at_stage (filling_from F (k + 1) b) b) x) (sym f) (fill-found F n b c k laws is h);
+    read = subst (λ (x : C). HasRead F n (at_stage (filling_from F (k + 1) b) b) x) (sym f) (fill-found F n b c k laws boot.room is h);
     nearer = nearer_fill F laws b k (subst (λ (s : Stage). IsThere F b s) is boot.there);
   }
   reads_on (Refusing bad) n b c e is boot h block f = record {
@@ -150,6 +167,40 @@ module _ {C : Type 0} (F : FillingOf C) (laws : IsFilling F) where
     fits = subst (λ (y : Booting). IsBoot F y) (sym same_boot) boot;
     boot = same_boot;
     control = same_control;
+    err = subst (λ (q : Stage). FailsTo (action_at F q s b c) n m) (sym is) t.err;
+    frame = t.frame;
+    cause = t.cause;
+  }
+
+  -- ---- a migration
+
+  fits_migrated : (step : Migration) (b : Booting) → length b.slot ≡ 64 * (layout_in F b).most_slot → IsMigration F b step → IsBoot F (migrated_by F step b)
+  fits_migrated (SlotAnew k) b room there = record { room = room; there = by_more (nat_lt (k + 1) ((layout_in F b).slot_blocks (anew b.commit))) refl } where
+    by_more : (t : Bool) → nat_lt (k + 1) ((layout_in F b).slot_blocks (anew b.commit)) ≡ t
+        → IsThere F (migrated_by F (SlotAnew k) b) (if t then Migrates (SlotAnew (k + 1)) else Migrates Settle)
+    by_more true e = ltb-true (k + 1) ((layout_in F b).slot_blocks (anew b.commit)) e
+    by_more false e = tt
+  fits_migrated Settle b room there = record { room = room; there = tt }
+  fits_migrated Commit b room there = record { room = room; there = tt }
+  fits_migrated Confirm b room there = record { room = length-renewed F laws b room; there = tt }
+
+  pub takes_migration : {T : Type 0} (result : Result T NvmError) (s : State) (step : Migration) (n : Device) (b : Booting) (c : C) (m : Device) (d : Booting)
+      → b.stage ≡ Migrates step → IsBoot F b → CanMigrate F step n b
+      → OnOk result (d ≡ migrated_by F step b) → OnErr result (d ≡ b) → Takes (migration_action F b step) result n m → TakesStep F result s n b c m d c
+  takes_migration (Ok x) s step n b c m d is boot can goes same_boot t = record {
+    steps = subst (λ (q : Stage). StepsAt F q s n b c m d c) (sym is) (record { device = t.ok; boot = goes; control = refl });
+    fits = subst (λ (y : Booting). IsBoot F y) (sym goes) (fits_migrated step b boot.room can.there);
+    boot = tt;
+    control = tt;
+    err = tt;
+    frame = t.frame;
+    cause = t.cause;
+  }
+  takes_migration (Err x) s step n b c m d is boot can goes same_boot t = record {
+    steps = tt;
+    fits = subst (λ (y : Booting). IsBoot F y) (sym same_boot) boot;
+    boot = same_boot;
+    control = refl;
     err = subst (λ (q : Stage). FailsTo (action_at F q s b c) n m) (sym is) t.err;
     frame = t.frame;
     cause = t.cause;

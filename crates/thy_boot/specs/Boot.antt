@@ -7,7 +7,9 @@ use Rattle.thy_base.specs.declared.config.Parameters.{Parameters}
 use Rattle.thy_base.specs.Bytes.{written}
 use Rattle.thy_base.specs.Device.{zero_block}
 use Rattle.thy_layout.specs.declared.bad_image.BadImage.{BadImage}
-use Rattle.thy_layout.specs.Commit.{is_zero, epoch_of}
+use Rattle.thy_layout.specs.declared.layout_version.LayoutVersion.{LayoutVersion}
+use Rattle.thy_layout.specs.declared.layout_version.LayoutVersion.TheVariants.{VersionOne, VersionTwo}
+use Rattle.thy_layout.specs.Commit.{is_zero, epoch_of, version_of}
 use Rattle.thy_layout.specs.Cpu.{cpu_of_record}
 use Rattle.thy_layout.specs.Files.{blocks_of}
 use Rattle.thy_layout.specs.Layout.{Layout, header_bad, commit_bad}
@@ -15,11 +17,13 @@ use Rattle.thy_view.specs.declared.boot_step.BootStep.{BootStep}
 use Rattle.thy_view.specs.declared.boot_step.BootStep.TheVariants.{GoesOn as Continues, Loaded as HasLoaded, Restarted, Refused}
 use Rattle.thy_view.specs.Safe.{ceiling}
 use Rattle.thy_boot.specs.declared.stage.Stage.{Stage}
-use Rattle.thy_boot.specs.declared.stage.Stage.TheVariants.{Reads, Loads, Over}
+use Rattle.thy_boot.specs.declared.stage.Stage.TheVariants.{Reads, Loads, Migrates, Over}
 use Rattle.thy_boot.specs.declared.stage.ReadStage.TheVariants.{Header, Slot, Fills, Refusing, Unread}
 use Rattle.thy_boot.specs.declared.stage.End.TheVariants.{Restored, Loaded}
 use Rattle.thy_boot.specs.declared.stage.Issue.TheVariants.{Home}
-use Rattle.thy_boot.specs.Filling.{FillingOf, ListsOn, layout_at}
+use Rattle.thy_boot.specs.declared.stage.Migration.{Migration}
+use Rattle.thy_boot.specs.declared.stage.Migration.TheVariants.{Slot as SlotAnew}
+use Rattle.thy_boot.specs.Filling.{FillingOf, ListsOn, layout_at, anew}
 
 -- its stage, with the commit block, and the bytes of the slot, as far as they were read
 pub record Booting : Type 0 where
@@ -50,10 +54,20 @@ slot_read F b = slot_bytes F b.p b.commit b.slot
 abbrev pub slot_fault : {C : Type 0} → FillingOf C → Booting → Option BadImage
 slot_fault F b = (layout_in F b).slot_bad ceiling b.commit (slot_read F b)
 
--- what is read next is there
+-- the version of the checkpoint that was found
+abbrev pub version_in : {C : Type 0} → FillingOf C → Booting → LayoutVersion
+version_in F b = version_of (layout_in F b).scheme b.p b.commit
+
+-- a block that is written anew is one of the slot of the same epoch
+abbrev pub IsMigration : {C : Type 0} → FillingOf C → Booting → Migration → Type 0
+IsMigration F b (SlotAnew k) = k < (layout_in F b).slot_blocks (anew b.commit)
+IsMigration F b at = Unit {0}
+
+-- what is read or written anew next is there
 abbrev pub IsThere : {C : Type 0} → FillingOf C → Booting → Stage → Type 0
 IsThere F b (Reads (Slot next)) = next < (layout_in F b).slot_blocks b.commit
 IsThere F b (Reads (Fills k)) = k < F.most_fills b.p
+IsThere F b (Migrates at) = IsMigration F b at
 IsThere F b _ = Unit {0}
 
 pub record IsBoot {C : Type 0} (F : FillingOf C) (b : Booting) : Type 0 where
@@ -65,6 +79,7 @@ abbrev pub answer_at : {C : Type 0} → FillingOf C → Stage → Booting → Bo
 answer_at F (Reads (Refusing bad)) b = Refused bad
 answer_at F (Reads r) b = Continues
 answer_at F (Loads issue) b = Continues
+answer_at F (Migrates at) b = Continues
 answer_at F (Over Restored) b = Restarted (cpu_of_record b.p (slot_read F b)) (epoch_of b.commit)
 answer_at F (Over Loaded) b = HasLoaded
 
@@ -96,14 +111,19 @@ head_fault l header commit = option_or (header_bad l header true) (commit_bad ce
 abbrev pub after_header : Layout → Block → Booting → Stage
 after_header l header b = refusing_or (head_fault l header b.commit) (Reads (Slot 0))
 
--- the next position is filled; if there is none, all is restored
-abbrev pub filling_or : Option ℕ → Stage
-filling_or None = Over Restored
-filling_or (Some k) = Reads (Fills k)
+-- with all filled the checkpoint is restored; one of an older form is written anew first
+abbrev pub filled_by : LayoutVersion → Stage
+filled_by VersionOne = Migrates (SlotAnew 0)
+filled_by VersionTwo = Over Restored
+
+-- the next position is filled, if there is one
+abbrev pub filling_or : LayoutVersion → Option ℕ → Stage
+filling_or version None = filled_by version
+filling_or version (Some k) = Reads (Fills k)
 
 -- from a position on
 abbrev pub filling_from : {C : Type 0} → FillingOf C → ℕ → Booting → Stage
-filling_from F from b = filling_or (F.next_fill b.p b.commit (slot_read F b) from)
+filling_from F from b = filling_or (version_in F b) (F.next_fill b.p b.commit (slot_read F b) from)
 
 -- the whole slot
 abbrev pub after_slot : {C : Type 0} → FillingOf C → Booting → Stage

@@ -1,6 +1,6 @@
 -- Part of the claim.
 -- What a boot fills: a controller, with the checkpoint of a layout.
-use Rattle.std.specs.Prelude.{◌≡◌, ℕ, ◌+◌, ◌<◌, ◌≤◌, List, [], length, map, Option, Some, None}
+use Rattle.std.specs.Prelude.{◌≡◌, ◌≢◌, ℕ, ◌+◌, ◌<◌, ◌≤◌, List, [], length, map, Option, Some, None}
 use Rattle.std.specs.List.{range_with_len}
 use Rattle.thy_base.specs.declared.block.Block.{Block}
 use Rattle.thy_base.specs.declared.config.Parameters.{Parameters}
@@ -8,8 +8,9 @@ use Rattle.thy_base.specs.Device.{Device, block_at, newest}
 use Rattle.thy_base.specs.Places.{commit_place}
 use Rattle.thy_dram.specs.Contents.{Contents}
 use Rattle.thy_isa.specs.Step.{State, cpu_of}
+use Rattle.thy_layout.specs.declared.layout_version.LayoutVersion.TheVariants.{VersionOne}
 use Rattle.thy_layout.specs.AreLayouts.{AreLayouts}
-use Rattle.thy_layout.specs.Commit.{commit_of}
+use Rattle.thy_layout.specs.Commit.{commit_of, epoch_of, version_of}
 use Rattle.thy_layout.specs.Cpu.{cpu_of_record}
 use Rattle.thy_layout.specs.Header.{header_of}
 use Rattle.thy_layout.specs.Layout.{Layout, Layouts, memory_places, slot_in, memory_in}
@@ -91,6 +92,45 @@ pub record IsNext {C : Type 0} (F : FillingOf C) (commit : Block) (c : C) (k : �
   pub lists : F.lists commit slot c
   pub next : F.next_fill (F.p c) commit slot k ≡ Some k
 
+-- ---- a checkpoint of an older form
+
+-- the commit block of the same epoch that is written today
+abbrev pub anew : Block → Block
+anew commit = commit_of (epoch_of commit)
+
+-- a slot of so many blocks: those of this one, and zeros behind them
+abbrev pub padded : ℕ → List Block → List Block
+padded count slot = map (block_at slot) (range_with_len 0 count)
+
+-- the slot that is written for it today
+abbrev pub slot_anew : Layout → Block → List Block → List Block
+slot_anew l commit slot = padded (l.slot_blocks (anew commit)) slot
+
+-- a checkpoint is of an older form, by its commit block; its slot is whole, and has no fault
+pub record IsOlder (l : Layout) (p : Parameters) (commit : Block) (slot : List Block) : Type 0 where
+  pub version : version_of l.scheme p commit ≡ VersionOne
+  pub below : epoch_of commit < ceiling
+  pub long : length slot ≡ l.slot_blocks commit
+  pub faultless : l.slot_bad ceiling commit slot ≡ None
+
+-- a device reads as another does, but for the commit block and the slot of this one
+pub record ReadsAlike (l : Layout) (commit : Block) (n m : Device) : Type 0 where
+  pub each : (x : ℕ) → x ≢ commit_place → x < l.image_blocks
+      → ((k : ℕ) → k < l.slot_blocks commit → x ≢ l.slot_place commit + k) → newest m x ≡ newest n x
+
+-- What is written anew has no fault, and means the same processor and the same places of memory. It shares no block with the
+-- slot that was found. A controller that lists the one lists the other, and has what it has while all else reads alike.
+pub record IsTheSame {C : Type 0} (F : FillingOf C) (p : Parameters) (commit : Block) (slot : List Block) : Type 0 where
+  pub faultless : (layout_at F p).slot_bad ceiling (anew commit) (slot_anew (layout_at F p) commit slot) ≡ None
+  pub cpu : cpu_of_record p (slot_anew (layout_at F p) commit slot) ≡ cpu_of_record p slot
+  pub places : memory_places (layout_at F p) (anew commit) (slot_anew (layout_at F p) commit slot) ≡ memory_places (layout_at F p) commit slot
+  pub apart : (i k : ℕ) → i < (layout_at F p).slot_blocks commit → k < (layout_at F p).slot_blocks (anew commit)
+      → (layout_at F p).slot_place commit + i ≢ (layout_at F p).slot_place (anew commit) + k
+  pub lists : (c : C) → F.p c ≡ p → F.lists commit slot c → F.lists (anew commit) (slot_anew (layout_at F p) commit slot) c
+  pub still : (c : C) (n m : Device)
+      → F.p c ≡ p → F.lists commit slot c → length n.image ≡ (layout_at F p).image_blocks → ReadsAlike (layout_at F p) (anew commit) n m
+      → F.whole c n → F.whole c m × (F.loads c m ≡ F.loads c n)
+
 -- what holds of every controller that a boot fills
 pub record IsFilling {C : Type 0} (F : FillingOf C) : Type 0 where
   -- its layouts are lawful
@@ -123,6 +163,8 @@ pub record IsFilling {C : Type 0} (F : FillingOf C) : Type 0 where
       → n.queue ≡ [] → length n.image ≡ (layout_at F (F.p c)).image_blocks → block_at n.image commit_place ≡ commit
       → slot_in (layout_at F (F.p c)) n.image ≡ slot
       → F.whole c n × (F.loads c n ≡ memory_in (layout_at F (F.p c)) n.image)
+  -- a checkpoint of an older form is the same if it is written anew
+  pub renews : (p : Parameters) (commit : Block) (slot : List Block) → IsOlder (layout_at F p) p commit slot → IsTheSame F p commit slot
   -- a write of the DRAM that lands changes nothing of it
   pub drain_p : (c : C) → F.p (F.drained c) ≡ F.p c
   pub drain_fresh : (c : C) → F.fresh c → F.fresh (F.drained c)

@@ -1,5 +1,5 @@
 -- What holds of every boot of a run, whatever the layout and whatever is filled.
-use Rattle.std.specs.Prelude.{◌≡◌, ◌≢◌, ◌+◌, ◌≤◌, false, [], length, Option, Some, None}
+use Rattle.std.specs.Prelude.{◌≡◌, ◌≢◌, ◌+◌, ◌<◌, ◌≤◌, false, [], length, Option, Some, None}
 use Rattle.thy_base.specs.declared.config.Parameters.{Parameters}
 use Rattle.thy_base.specs.declared.mark.Mark.{Mark}
 use Rattle.thy_base.specs.Device.{Device, drained, IsFramed}
@@ -9,7 +9,7 @@ use Rattle.thy_layout.specs.declared.bad_image.BadImage.{BadImage}
 use Rattle.thy_layout.specs.Commit.{epoch_of}
 use Rattle.thy_view.specs.declared.boot_step.BootStep.{BootStep}
 use Rattle.thy_view.specs.declared.boot_step.BootStep.TheVariants.{GoesOn, Loaded}
-use Rattle.thy_view.specs.Action.{Asks, Acts, doubt_after_fault}
+use Rattle.thy_view.specs.Action.{AsksBy, ActsBy, doubt_after_fault}
 use Rattle.thy_view.specs.Booting.{view_of_image, boot_did}
 use Rattle.thy_view.specs.CoreStep.{CoreStep}
 use Rattle.thy_view.specs.Dram.{ActsOnDram}
@@ -20,16 +20,17 @@ use Rattle.thy_protocol.specs.Keeps.{Keeps, Tells}
 use Rattle.thy_layout.specs.Layout.{state_by, decode_by, reading}
 use Rattle.thy_protocol.specs.Moves.{Standing, standing, Move}
 use Rattle.thy_boot.specs.declared.stage.Stage.{Stage}
-use Rattle.thy_boot.specs.declared.stage.Stage.TheVariants.{Reads, Loads, Over}
+use Rattle.thy_boot.specs.declared.stage.Stage.TheVariants.{Reads, Loads, Migrates, Over}
 use Rattle.thy_boot.specs.declared.stage.ReadStage.{ReadStage}
 use Rattle.thy_boot.specs.declared.stage.ReadStage.TheVariants.{Refusing}
 use Rattle.thy_boot.specs.declared.stage.End.TheVariants.{Restored}
 use Rattle.thy_boot.specs.declared.stage.Issue.TheVariants.{Commit, Confirm}
+use Rattle.thy_boot.specs.declared.stage.Migration.TheVariants.{Commit as CommitAnew}
 use Rattle.thy_boot.specs.Boot.{Booting, new_boot, layout_in, slot_read, answer_of}
-use Rattle.thy_boot.specs.Filling.{FillingOf}
-use Rattle.thy_boot.specs.Left.{boot_left}
+use Rattle.thy_boot.specs.Filling.{FillingOf, layout_at}
+use Rattle.thy_boot.specs.Left.{most_migration, boot_left}
 use Rattle.thy_boot.specs.Recovers.{HasRead, IsRestored}
-use Rattle.thy_boot.specs.Shows.{seen_at}
+use Rattle.thy_boot.specs.Shows.{migrates_at, seen_at}
 use Rattle.thy_boot.specs.Sound.{BootImages, start_mark, layout_for, first_of, standing_in_boot, images_after, IsSoundBoot}
 use Rattle.thy_boot.specs.Start.{CanStart}
 use Rattle.thy_boot.specs.Steps.{CanStep, Steps, action_of, Fails}
@@ -51,6 +52,7 @@ NewIsSound {C} F =
 abbrev pub IsGoing : Stage → Type 0
 IsGoing (Reads r) = Unit {0}
 IsGoing (Loads issue) = Unit {0}
+IsGoing (Migrates at) = Unit {0}
 IsGoing (Over end) = ⊥
 
 -- it may take a step then
@@ -86,11 +88,12 @@ StepsMove {C} F =
     (o : Origin) (g : BootImages) (n : Device) (b : Booting) (c : C) (m : Device) (d : Booting) (e : C)
     → IsOrigin o → IsSoundBoot F o g n b c → Steps F o.start n b c m d e → IsMoved F o g n b m d e
 
--- a step that failed is a move too: the write of the commit block leaves the two in doubt, and every other step what
+-- a step that failed is a move too: the write of a commit block leaves two images in doubt, and every other step what
 -- was. So a cut leaves the committed mark, whole, or the start's, if its commit block was written before or that was
 -- its write
 abbrev pub standing_after_fault : Origin → Stage → BootImages → Device → Standing
 standing_after_fault o (Loads Commit) g n = standing n (InDoubt g.before g.next) None (Some (start_mark o))
+standing_after_fault o (Migrates CommitAnew) g n = standing n (InDoubt g.before g.next) g.kept g.kept
 standing_after_fault o stage g n = standing_in_boot o stage g n
 
 pub record IsFailed {C : Type 0} (F : FillingOf C) (o : Origin) (g : BootImages) (n : Device) (b : Booting) (c : C) (m : Device) : Type 0 where
@@ -105,7 +108,7 @@ FailuresMove {C} F =
 
 -- ---- its end
 
--- a restart has the kept mark's state, and its checkpoint is kept
+-- a restart has the kept mark's state, and its checkpoint is kept, as what was read or written anew has it
 abbrev pub RestoredIsKept : {C : Type 0} → FillingOf C → Type 0
 RestoredIsKept {C} F =
     (o : Origin) (g : BootImages) (n : Device) (b : Booting) (c : C)
@@ -118,6 +121,18 @@ abbrev pub NeverRefused : {C : Type 0} → FillingOf C → Type 0
 NeverRefused {C} F =
     (o : Origin) (g : BootImages) (n : Device) (b : Booting) (c : C) (bad : BadImage)
     → IsSoundBoot F o g n b c → b.stage ≢ Reads (Refusing bad)
+
+-- ---- an older form
+
+-- a scheme with a number above 0 has none, so its boots never migrate
+abbrev pub NumberedNeverMigrate : {C : Type 0} → FillingOf C → Type 0
+NumberedNeverMigrate {C} F =
+    (o : Origin) (g : BootImages) (n : Device) (b : Booting) (c : C)
+    → ((p : Parameters) → 0 < (layout_at F p).scheme) → IsSoundBoot F o g n b c → migrates_at b.stage ≡ false
+
+-- and none of a boot's actions is counted for that
+abbrev pub NumberedCountNone : {C : Type 0} → FillingOf C → Type 0
+NumberedCountNone F = (p : Parameters) → 0 < (layout_at F p).scheme → most_migration (layout_at F p) p ≡ 0
 
 -- ---- drains
 
@@ -143,17 +158,17 @@ ShowsImage {C} F =
 
 -- ---- actions
 
--- a step acts once on the NVM, as it is asked to
+-- a step acts once on the NVM, as it is asked to by a boot that migrates or does not
 abbrev pub StepsAct : {C : Type 0} → FillingOf C → Type 0
 StepsAct {C} F =
     (s : State) (n : Device) (b : Booting) (c : C) (m : Device) (d : Booting) (e : C)
-    → Steps F s n b c m d e → Acts (boot_did (answer_of F d)) n m
+    → Steps F s n b c m d e → ActsBy (migrates_at b.stage) (boot_did (answer_of F d)) n m
 
--- if a checkpoint was found, a step leaves the NVM as it was
+-- if a checkpoint was found, a step leaves the NVM as it was, unless the boot migrates
 abbrev pub FoundStays : {C : Type 0} → FillingOf C → Type 0
 FoundStays {C} F =
     (o : Origin) (kept : Option Mark) (mark : Mark) (n : Device) (b : Booting) (c : C) (m : Device) (d : Booting) (e : C)
-    → (seen_at o kept b.stage).done ≡ Some mark → Steps F o.start n b c m d e → m ≡ n
+    → (seen_at o kept b.stage).done ≡ Some mark → migrates_at b.stage ≡ false → Steps F o.start n b c m d e → m ≡ n
 
 -- what a step that failed was to return: that the program is loaded, if it was loading's last, else that the boot continues
 abbrev pub failed_answer : Stage → BootStep
@@ -164,7 +179,7 @@ failed_answer stage = GoesOn
 abbrev pub FailuresAct : {C : Type 0} → FillingOf C → Type 0
 FailuresAct {C} F =
     (s : State) (b : Booting) (c : C) (n m : Device)
-    → Fails F s b c n m → Asks (boot_did (failed_answer b.stage)) (action_of F s b c)
+    → Fails F s b c n m → AsksBy (migrates_at b.stage) (boot_did (failed_answer b.stage)) (action_of F s b c)
 
 -- the DRAM has one write more at most, and of the controller is left what listing and filling leave
 abbrev pub StepsFill : {C : Type 0} → FillingOf C → Type 0

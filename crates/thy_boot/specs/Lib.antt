@@ -1,5 +1,6 @@
 pub mod Filling
 pub mod Boot
+pub mod Migrating
 pub mod Loads
 pub mod Counts
 pub mod Left

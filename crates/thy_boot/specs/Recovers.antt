@@ -1,20 +1,23 @@
 -- What was read of an image so far, and what the controller has of it.
-use Rattle.std.specs.Prelude.{◌≡◌, ℕ, ◌+◌, ◌<◌, true, false, List, [], length, Some, None}
+use Rattle.std.specs.Prelude.{◌≡◌, ℕ, ◌+◌, ◌*◌, ◌<◌, true, false, List, [], length, Some, None}
 use Rattle.thy_base.specs.declared.block.Block.{Block}
 use Rattle.thy_base.specs.Device.{Device, block_at}
 use Rattle.thy_base.specs.Places.{commit_place, header_place}
 use Rattle.thy_layout.specs.Commit.{is_zero, epoch_of}
 use Rattle.thy_layout.specs.Decoded.{Nothing, Refused as IsRefused, At}
 use Rattle.thy_layout.specs.Files.{block_in}
-use Rattle.thy_layout.specs.Layout.{Layout, header_bad, commit_bad, state_by, slot_in, decode_by}
+use Rattle.thy_layout.specs.declared.layout_version.LayoutVersion.TheVariants.{VersionOne}
+use Rattle.thy_layout.specs.Layout.{Layout, header_bad, commit_bad, state_by, slot_in, memory_in, decode_by}
 use Rattle.thy_view.specs.Safe.{ceiling}
 use Rattle.thy_boot.specs.declared.stage.Stage.{Stage}
-use Rattle.thy_boot.specs.declared.stage.Stage.TheVariants.{Reads, Loads, Over}
+use Rattle.thy_boot.specs.declared.stage.Stage.TheVariants.{Reads, Loads, Migrates, Over}
 use Rattle.thy_boot.specs.declared.stage.ReadStage.{ReadStage}
 use Rattle.thy_boot.specs.declared.stage.ReadStage.TheVariants.{Unread, Header, Slot, Fills, Refusing}
 use Rattle.thy_boot.specs.declared.stage.End.TheVariants.{Restored, Loaded}
 use Rattle.thy_boot.specs.declared.stage.Issue.TheVariants.{Home}
-use Rattle.thy_boot.specs.Boot.{Booting, layout_in, slot_read, slot_fault}
+use Rattle.thy_boot.specs.declared.stage.Migration.{Migration}
+use Rattle.thy_boot.specs.declared.stage.Migration.TheVariants.{Slot as SlotAnew}
+use Rattle.thy_boot.specs.Boot.{Booting, layout_in, slot_read, slot_fault, version_in}
 use Rattle.thy_boot.specs.Filling.{FillingOf}
 use Rattle.thy_boot.specs.Left.{reads_left, boot_left}
 
@@ -33,19 +36,27 @@ pub record HasHead (l : Layout) (g : List Block) (commit : Block) : Type 0 where
 pub record HasSlot (l : Layout) (g : List Block) (commit : Block) (n : ℕ) (slot : List ℕ) : Type 0 where
   pub each : (k : ℕ) → k < n → block_in slot k ≡ block_at g (l.slot_place commit + k)
 
--- the slot was read and has no fault, and the controller lists it
-pub record HasListed {C : Type 0} (F : FillingOf C) (n : Device) (b : Booting) (c : C) : Type 0 where
-  pub head : HasHead (layout_in F b) n.image b.commit
-  pub slot_is : slot_read F b ≡ slot_in (layout_in F b) n.image
+-- the slot of an image was read and has no fault, and the controller lists it
+pub record HasListed {C : Type 0} (F : FillingOf C) (g : List Block) (b : Booting) (c : C) : Type 0 where
+  pub head : HasHead (layout_in F b) g b.commit
+  pub slot_is : slot_read F b ≡ slot_in (layout_in F b) g
   pub slot_fits : slot_fault F b ≡ None
   pub lists : F.lists b.commit (slot_read F b) c
 
 -- all is filled, and memory is the image's
 pub record IsRestored {C : Type 0} (F : FillingOf C) (n : Device) (b : Booting) (c : C) : Type 0 where
-  pub listed : HasListed F n b c
+  pub listed : HasListed F n.image b c
   pub whole : F.whole c n
   pub found : decode_by (layout_in F b) ceiling n.image
       ≡ At (epoch_of b.commit) (state_by (layout_in F b) (slot_read F b) (F.loads c n))
+
+-- so it is of an older form, and will be written anew from its first block on; memory is where that image has it
+pub record IsFoundOld {C : Type 0} (F : FillingOf C) (at : Migration) (n : Device) (b : Booting) (c : C) : Type 0 where
+  pub restored : IsRestored F n b c
+  pub memory : F.loads c n ≡ memory_in (layout_in F b) n.image
+  pub room : length b.slot ≡ 64 * (layout_in F b).most_slot
+  pub version : version_in F b ≡ VersionOne
+  pub first : at ≡ SlotAnew 0
 
 -- by the stage, what was read of the image in the NVM
 abbrev pub HasReadAt : {C : Type 0} → FillingOf C → Stage → Device → Booting → C → Type 0
@@ -54,9 +65,10 @@ HasReadAt F (Reads Header) n b c = F.fresh c × HasCommit n.image b.commit
 HasReadAt F (Reads (Slot next)) n b c =
     F.fresh c × HasHead (layout_in F b) n.image b.commit × HasSlot (layout_in F b) n.image b.commit next b.slot
 HasReadAt F (Reads (Fills k)) n b c =
-    HasListed F n b c × F.filled c n k × (F.next_fill b.p b.commit (slot_read F b) k ≡ Some k)
+    HasListed F n.image b c × F.filled c n k × (F.next_fill b.p b.commit (slot_read F b) k ≡ Some k)
 HasReadAt F (Reads (Refusing bad)) n b c = decode_by (layout_in F b) ceiling n.image ≡ IsRefused bad
 HasReadAt F (Loads issue) n b c = F.fresh c × (decode_by (layout_in F b) ceiling n.image ≡ Nothing) × (issue ≡ Home 0)
+HasReadAt F (Migrates at) n b c = IsFoundOld F at n b c
 HasReadAt F (Over Restored) n b c = IsRestored F n b c
 HasReadAt F (Over Loaded) n b c = ⊥
 

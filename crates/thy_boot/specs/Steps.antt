@@ -5,19 +5,21 @@ use Rattle.thy_base.specs.Device.{Device, IsFramed, CountsFault}
 use Rattle.thy_isa.specs.Step.{State}
 use Rattle.thy_view.specs.Action.{Action, Rest, after, FailsTo}
 use Rattle.thy_boot.specs.declared.stage.Stage.{Stage}
-use Rattle.thy_boot.specs.declared.stage.Stage.TheVariants.{Reads, Loads, Over}
+use Rattle.thy_boot.specs.declared.stage.Stage.TheVariants.{Reads, Loads, Migrates, Over}
 use Rattle.thy_boot.specs.declared.stage.ReadStage.{ReadStage}
 use Rattle.thy_boot.specs.declared.stage.Issue.{Issue}
 use Rattle.thy_boot.specs.Boot.{Booting, IsBoot, at_stage}
 use Rattle.thy_boot.specs.Filling.{FillingOf, first_by}
 use Rattle.thy_boot.specs.Loads.{CanLoad, after_issue, issue_action}
+use Rattle.thy_boot.specs.Migrating.{CanMigrate, MigratesOn, migration_action}
 use Rattle.thy_boot.specs.Reads.{read_action, read_on, FillsOn}
 use Rattle.thy_boot.specs.Recovers.{HasRead, IsNearer}
 
--- a step may be taken: of reading, from what was read, or of loading
+-- a step may be taken: of reading, from what was read, of loading, or of a migration
 abbrev pub CanStepAt : {C : Type 0} → FillingOf C → Stage → State → Device → Booting → C → Type 0
 CanStepAt F (Reads r) s n b c = HasRead F n b c
 CanStepAt F (Loads issue) s n b c = CanLoad F s issue n b
+CanStepAt F (Migrates at) s n b c = CanMigrate F at n b
 CanStepAt F (Over end) s n b c = ⊥
 
 -- with this start
@@ -45,6 +47,7 @@ pub record LoadsOn {C : Type 0} (F : FillingOf C) (s : State) (issue : Issue) (n
 abbrev pub StepsAt : {C : Type 0} → FillingOf C → Stage → State → Device → Booting → C → Device → Booting → C → Type 0
 StepsAt F (Reads r) s n b c m d e = ReadsOn F r n b c m d e
 StepsAt F (Loads issue) s n b c m d e = LoadsOn F s issue n b c m d e
+StepsAt F (Migrates at) s n b c m d e = MigratesOn F at n b c m d e
 StepsAt F (Over end) s n b c m d e = ⊥
 
 abbrev pub Steps : {C : Type 0} → FillingOf C → State → Device → Booting → C → Device → Booting → C → Type 0
@@ -54,6 +57,7 @@ Steps F s n b c m d e = StepsAt F b.stage s n b c m d e
 abbrev pub action_at : {C : Type 0} → FillingOf C → Stage → State → Booting → C → Action
 action_at F (Reads r) s b c = read_action F b c r
 action_at F (Loads issue) s b c = issue_action (first_by F b.p s) issue
+action_at F (Migrates at) s b c = migration_action F b at
 action_at F (Over end) s b c = Rest
 
 abbrev pub action_of : {C : Type 0} → FillingOf C → State → Booting → C → Action

@@ -90,8 +90,9 @@ impl Boot {
     }
 
     /// Takes one action of the NVM: reads the next block of the checkpoint there, or, if there is none, takes the next
-    /// action of loading the start. Once the image was found at fault, it takes none, and returns the refusal at each step.
-    /// If the NVM failed, boot and controller are as before. If the boot goes on, its stage says whether it reads or loads.
+    /// action of loading the start, or, if what was read is of an older form, the next one of writing it anew. Once the
+    /// image was found at fault, it takes none, and returns the refusal at each step. If the NVM failed, boot and controller
+    /// are as before. If the boot goes on, its stage says whether it reads, loads or migrates.
     pub fn step<F: Fills, N: Nvm>(
         &mut self,
         control: &mut F::Control,
@@ -104,11 +105,11 @@ impl Boot {
         ensures answer { IfOk result (λ answer. answer ≡ answer_of F.filling self.new) }
 
         // A read leaves the NVM as it was; boot and controller become what the definition makes of its block, and
-        // what was read is what the image means. An action of loading equals its definition.
+        // what was read is what the image means. An action of loading or of a migration equals its definition.
         ensures step { let s = state_of start.now.state in
             TakesStep F.filling result s (N.device nvm.old) self.old control.old (N.device nvm.new) self.new control.new }
 
-        // Reading is not counted among the NVM's writes, and an action of loading as what it is.
+        // Reading is not counted among the NVM's writes, and an action of loading or of a migration as what it is.
         ensures writes { let action = action_of F.filling (state_of start.now.state) self.old control.old in
             Counts action result (N.writes nvm.old) (N.writes nvm.new) }
     {
@@ -134,6 +135,7 @@ impl Boot {
         match self.stage() {
             Stage::Reads(at) => self.read_next::<F, N>(at, control, nvm),
             Stage::Loads(issue) => self.load::<F, N>(issue, &start.state, nvm),
+            Stage::Migrates(at) => self.migrate::<F, N>(at, nvm),
             Stage::Over(_) => Ok(()),
         }
     }
@@ -145,7 +147,7 @@ impl Boot {
     {
         match self.stage {
             Stage::Reads(ReadStage::Refusing(bad)) => BootStep::Refused(bad),
-            Stage::Reads(_) | Stage::Loads(_) => BootStep::GoesOn,
+            Stage::Reads(_) | Stage::Loads(_) | Stage::Migrates(_) => BootStep::GoesOn,
             Stage::Over(End::Restored) => {
                 let cpu = cpu_in(self.slot::<F>(), &self.geometry);
                 BootStep::Restarted(cpu, epoch_in(&self.commit))

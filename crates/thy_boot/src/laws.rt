@@ -1,7 +1,7 @@
 //! Laws of every boot, each the contract of a function that does nothing.
 ghost use Rattle.thy_boot.specs.Laws.{NewHasRead, NewIsSound, SoundMayStep, MayGoOn, SoundIsSafe, StepsMove, FailuresMove};
 ghost use Rattle.thy_boot.specs.Laws.{RestoredIsKept, NeverRefused, DrainsKeepBoot, DrainsMove, ShowsImage, StepsAct};
-ghost use Rattle.thy_boot.specs.Laws.{FoundStays, FailuresAct, StepsFill, StepsComeNearer};
+ghost use Rattle.thy_boot.specs.Laws.{NumberedCountNone, NumberedNeverMigrate, FoundStays, FailuresAct, StepsFill, StepsComeNearer};
 
 use crate::fills::Fills;
 
@@ -33,7 +33,7 @@ pub fn steps_are_moves<F: Fills>()
 {}
 
 /// A step that failed is a move too, and leaves what is safe: with the start's mark in doubt only if loading's commit block
-/// was written before, or that write failed.
+/// was written before, or that write failed. Whatever a migration writes, it is the mark that is kept.
 pub fn failed_steps_are_moves<F: Fills>()
     ensures { FailuresMove F.filling }
 {}
@@ -44,19 +44,25 @@ pub fn a_restart_is_the_kept_one<F: Fills>()
     ensures never { NeverRefused F.filling }
 {}
 
+/// A scheme with a number above 0 has no older form, so its boots never migrate, and count no actions for that.
+pub fn other_schemes_never_migrate<F: Fills>()
+    ensures never { NumberedNeverMigrate F.filling }
+    ensures none { NumberedCountNone F.filling }
+{}
+
 /// Drains of both devices keep the boot at each stage; that of the NVM is a move.
 pub fn drains_keep_the_boot<F: Fills>()
     ensures keep { DrainsKeepBoot F.filling }
     ensures moves { DrainsMove F.filling }
 {}
 
-/// A boot shows what the image means, as long as it neither loads nor is over.
+/// A boot shows what the image means, as long as it reads.
 pub fn a_boot_shows_the_image<F: Fills>()
     ensures { ShowsImage F.filling }
 {}
 
-/// A step acts once on the NVM, as its result says; if a checkpoint was found it only reads. A step that failed did so
-/// in the one action of its stage.
+/// A step acts once on the NVM, as its result says; if a checkpoint was found it only reads, unless it migrates. A step that
+/// failed did so in the one action of its stage.
 pub fn steps_act_once<F: Fills>()
     ensures acts { StepsAct F.filling }
     ensures found { FoundStays F.filling }

@@ -5,7 +5,7 @@ ghost use Rattle.thy_base.specs.Device.{newest};
 ghost use Rattle.thy_base.specs.Places.{commit_place, header_place};
 ghost use Rattle.thy_view.specs.Action.{ReadAt};
 ghost use Rattle.thy_boot.specs.Boot.{IsBoot, layout_in, slot_fault, at_stage, stage_of_commit, after_commit, after_header, after_slot};
-ghost use Rattle.thy_boot.specs.Boot.{refusing_or, filling_from, has_more, gone_on, IsJudged, GoesOn};
+ghost use Rattle.thy_boot.specs.Boot.{refusing_or, filled_by, filling_from, has_more, gone_on, IsJudged, GoesOn};
 ghost use Rattle.thy_boot.specs.Filling.{layout_at};
 ghost use Rattle.thy_boot.specs.Loads.{Takes};
 ghost use Rattle.thy_boot.specs.Reads.{read_action, read_on, slot_kept, FillsOn, IsBlock};
@@ -13,9 +13,11 @@ ghost use Rattle.thy_boot.specs.Recovers.{HasRead};
 
 use crate::boot::Boot;
 use crate::fills::{CEILING, Fills};
-use crate::stage::{End, Issue, ReadStage, Stage};
+use crate::stage::{End, Issue, Migration, ReadStage, Stage};
 use thy_base::{BLOCK_SIZE, Block, COMMIT_PLACE, Geometry, HEADER_PLACE, Nvm, NvmError};
-use thy_layout::{BadImage, ImageLayout, commit_fault, header_fault_in, is_zero};
+use thy_layout::{
+    BadImage, ImageLayout, LayoutVersion, commit_fault, header_fault_in, is_zero, version_of,
+};
 
 /// Writes a block over the bytes of block `k`.
 fn keep_block(bytes: &mut [u8], k: usize, block: &Block)
@@ -42,6 +44,16 @@ fn refusing_or(fault: Option<BadImage>, next: Stage) -> Stage
     match fault {
         Some(bad) => Stage::Reads(ReadStage::Refusing(bad)),
         None => next,
+    }
+}
+
+/// The stage with all filled: a checkpoint of version 1 is written anew first.
+fn stage_when_filled(version: LayoutVersion) -> Stage
+    ensures { result ≡ filled_by version }
+{
+    match version {
+        LayoutVersion::VersionOne => Stage::Migrates(Migration::Slot(0)),
+        LayoutVersion::VersionTwo => Stage::Over(End::Restored),
     }
 }
 
@@ -196,14 +208,19 @@ impl Boot {
         }
     }
 
-    /// Goes to the first position from one on that has to be filled; if there is none, all is restored.
+    /// Goes to the first position from one on that has to be filled. If there is none, all is restored, unless the checkpoint
+    /// is of an older form: then it is written anew.
     fn go_to_fill<F: Fills>(&mut self, from: u64)
         requires { length self.old.slot ≡ 64 * (layout_in F.filling self.old).most_slot }
         ensures { self.new ≡ at_stage (filling_from F.filling from self.old) self.old }
     {
-        self.stage = match F::next_fill(&self.geometry, &self.commit, self.slot::<F>(), from) {
+        let slot = self.slot::<F>();
+        let next = F::next_fill(&self.geometry, &self.commit, slot, from);
+        let scheme = F::Images::scheme(&self.geometry);
+        let version = version_of(scheme, &self.commit, &self.geometry);
+        self.stage = match next {
             Some(k) => Stage::Reads(ReadStage::Fills(k)),
-            None => Stage::Over(End::Restored),
+            None => stage_when_filled(version),
         };
     }
 

@@ -33,6 +33,19 @@ pub enum ReadStage {
     Refusing(BadImage),
 }
 
+/// What comes next while a checkpoint of an older form is written anew.
+#[derive(Clone, Copy, Debug, PartialEq, Eq)]
+pub enum Migration {
+    /// The write of this block of the slot.
+    Slot(u64),
+    /// The barrier after the slot.
+    Settle,
+    /// The write of the commit block.
+    Commit,
+    /// The barrier after the commit block.
+    Confirm,
+}
+
 /// How a boot ended.
 #[derive(Clone, Copy, Debug, PartialEq, Eq)]
 pub enum End {
@@ -49,6 +62,8 @@ pub enum Stage {
     Reads(ReadStage),
     /// There is no checkpoint: the program is loaded, and this comes next.
     Loads(Issue),
+    /// The checkpoint that was found is of an older form: it is written anew, and this comes next.
+    Migrates(Migration),
     /// It is over.
     Over(End),
 }

@@ -15,7 +15,7 @@ use Rattle.thy_layout.specs.Layout.{Layout}
 use Rattle.thy_protocol.specs.Moves.{IsKeeping}
 use Rattle.thy_layout.proofs.LayoutLemmas.{decode_by-nothing_back}
 use Rattle.thy_boot.specs.declared.stage.Stage.{Stage}
-use Rattle.thy_boot.specs.declared.stage.Stage.TheVariants.{Reads, Loads, Over}
+use Rattle.thy_boot.specs.declared.stage.Stage.TheVariants.{Reads, Loads, Migrates, Over}
 use Rattle.thy_boot.specs.declared.stage.ReadStage.{ReadStage}
 use Rattle.thy_boot.specs.declared.stage.ReadStage.TheVariants.{Unread, Header, Slot, Fills, Refusing}
 use Rattle.thy_boot.specs.Boot.{Booting}
@@ -26,7 +26,7 @@ use Rattle.thy_boot.specs.Sound.{BootImages, layout_for, standing_in_boot, IsRec
 use Rattle.thy_boot.proofs.FoundLemmas.{never_refused}
 use Rattle.thy_boot_laws.specs.Seen.{view_at, has_read_at, loads_at}
 use Rattle.thy_boot_laws.specs.Laws.{IsReadBy, LoadsIfNone}
-use Rattle.thy_boot_laws.proofs.ViewLemmas.{view-reading}
+use Rattle.thy_boot_laws.proofs.ViewLemmas.{view-reading, view-migrating}
 
 pub unread-at : (q : Stage) → has_read_at q ≡ false → q ≡ Reads Unread
 unread-at (Reads Unread) h = refl
@@ -35,6 +35,7 @@ unread-at (Reads (Slot next)) h = cc
 unread-at (Reads (Fills k)) h = cc
 unread-at (Reads (Refusing bad)) h = cc
 unread-at (Loads issue) h = cc
+unread-at (Migrates step) h = cc
 unread-at (Over end) h = cc
 
 -- an image with a commit block has a checkpoint
@@ -86,6 +87,7 @@ module _ {C : Type 0} (F : FillingOf C) (read : Reading) (reads : IsReadBy F rea
   loading-at (Reads r) is going good keeps far =
       reading-at r good keeps.sized keeps.told far (has-commit F r n b c (subst (λ (q : Stage). HasReadAt F q n b c) is far.read.so_far))
   loading-at (Loads issue) is going good keeps far = refl
+  loading-at (Migrates step) is going good keeps far = sym (ap loads (view-migrating F read o g n b c step reads keeps far))
   loading-at (Over end) is going good keeps far = absurd going
 
 pub loads_if_none : {C : Type 0} (F : FillingOf C) → IsFilling F → LoadsIfNone F

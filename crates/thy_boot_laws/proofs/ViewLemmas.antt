@@ -1,26 +1,31 @@
 -- What is seen of a boot of a run that is not over.
-use Rattle.std.proofs.Common.{◌≡◌, ℕ, [], List, length, refl, sym, ◌∙◌, ap, inl, inr, Option, Some, None}
+use Rattle.std.proofs.Common.{◌≡◌, ℕ, true, false, [], List, length, refl, sym, ◌∙◌, ap, subst, inl, inr, Option, Some, None}
 use Rattle.thy_base.specs.declared.block.Block.{Block}
 use Rattle.thy_base.specs.declared.mark.Mark.{Mark}
 use Rattle.thy_base.specs.Device.{Device}
-use Rattle.thy_layout.specs.Decoded.{Reading}
-use Rattle.thy_view.specs.Booting.{loading_view, view_of_image}
+use Rattle.thy_base.specs.Marks.{mark}
+use Rattle.thy_base.proofs.CrashLemmas.{Crash-image}
+use Rattle.thy_layout.specs.Decoded.{Decoded, Nothing, Refused, At, Reading}
+use Rattle.thy_view.specs.Booting.{boot_view, loading_view, view_of_image}
 use Rattle.thy_view.specs.Origin.{Origin}
-use Rattle.thy_view.specs.Safe.{ceiling}
+use Rattle.thy_view.specs.Safe.{ceiling, IsOneOf}
+use Rattle.thy_view.proofs.SafeLemmas.{Safe-same}
 use Rattle.thy_view.specs.Told.{told}
 use Rattle.thy_protocol.specs.Keeps.{Tells, TellsAll, finding_view}
-use Rattle.thy_layout.specs.Layout.{Layout, decode_by}
-use Rattle.thy_protocol.specs.Moves.{IsKeeping}
-use Rattle.thy_protocol.proofs.KeepsLemmas.{finding_view-told}
+use Rattle.thy_layout.specs.Layout.{Layout, decode_by, reading}
+use Rattle.thy_protocol.specs.Moves.{standing, IsKeeping}
+use Rattle.thy_protocol.proofs.KeepsLemmas.{finding_view-told, Safe-sealed}
 use Rattle.thy_boot.specs.declared.stage.Stage.{Stage}
-use Rattle.thy_boot.specs.declared.stage.Stage.TheVariants.{Reads, Loads, Over}
+use Rattle.thy_boot.specs.declared.stage.Stage.TheVariants.{Reads, Loads, Migrates, Over}
 use Rattle.thy_boot.specs.declared.stage.Issue.{Issue}
 use Rattle.thy_boot.specs.declared.stage.Issue.TheVariants.{Home, Slot, Header, Settle, Commit, Confirm}
+use Rattle.thy_boot.specs.declared.stage.Migration.{Migration}
+use Rattle.thy_boot.specs.declared.stage.Migration.TheVariants.{Slot as SlotAnew, Settle as SettleAnew, Commit as CommitAnew, Confirm as ConfirmAnew}
 use Rattle.thy_boot.specs.Boot.{Booting}
 use Rattle.thy_boot.specs.Filling.{FillingOf}
 use Rattle.thy_boot.specs.Laws.{IsGoing}
-use Rattle.thy_boot.specs.Shows.{is_written, seen_at}
-use Rattle.thy_boot.specs.Sound.{BootImages, layout_for, start_mark, saved_loading, standing_in_boot, IsRecovering, IsSoundAt, IsSoundBoot}
+use Rattle.thy_boot.specs.Shows.{is_written, migrates_at, seen_at}
+use Rattle.thy_boot.specs.Sound.{BootImages, layout_for, start_mark, saved_loading, saved_migrating, standing_in_boot, IsRecovering, IsMigrating, IsSoundAt, IsSoundBoot}
 use Rattle.thy_scheme.specs.Boots.{IsBootView}
 use Rattle.thy_boot_laws.specs.Seen.{view_at}
 use Rattle.thy_boot_laws.specs.Laws.{IsReadBy, ViewIsKept, FoundIsSettled}
@@ -30,6 +35,7 @@ pub alike_at : (read : Reading) (o : Origin) (turns : List ℕ) (stage : Stage) 
     → view_at read (told o turns) stage n ≡ view_at read o stage n
 alike_at read o turns (Reads r) n = refl
 alike_at read o turns (Loads issue) n = refl
+alike_at read o turns (Migrates step) n = refl
 alike_at read o turns (Over end) n = refl
 
 -- ---- it is a view of a boot
@@ -56,19 +62,37 @@ module _ (o : Origin) (l : Layout) (g : BootImages) where
   loads-first Commit told = told.0.1
   loads-first Confirm told = told.0.1
 
+  -- while it migrates the image that was found is kept
+  tells-at : (step : Migration) (kept : Option Mark) → TellsAll o l (saved_migrating step g) kept kept → Tells o l g.before kept
+  tells-at (SlotAnew k) kept told = told
+  tells-at SettleAnew kept told = told
+  tells-at CommitAnew kept told = told.0
+  tells-at ConfirmAnew kept told = told.0
+
   shown-at : (n : Device) (q : Stage) → IsGoing q → IsKeeping o l (standing_in_boot o q g n) → IsBootView o (seen_at o g.kept q)
   shown-at n (Reads r) going keeps = shown-finding g.kept keeps.told
   shown-at n (Loads issue) going keeps = shown-loading issue (loads-first issue keeps.told)
+  shown-at n (Migrates step) going keeps = shown-finding g.kept (tells-at step g.kept keeps.told)
   shown-at n (Over end) going keeps = absurd going
 
   -- the image has its length
   sized-at : (n : Device) (q : Stage) → IsGoing q → IsKeeping o l (standing_in_boot o q g n) → length n.image ≡ l.image_blocks
   sized-at n (Reads r) going keeps = keeps.sized
   sized-at n (Loads issue) going keeps = keeps.sized
+  sized-at n (Migrates step) going keeps = keeps.sized
   sized-at n (Over end) going keeps = absurd going
 
 pub none-done : (m : Mark) → None ≡ Some m → ⊥
 none-done m d = cc
+
+-- of an image that a cut may leave the view is that of the mark that is kept
+view-kept : (o : Origin) (m : Mark) (d : Decoded) → IsOneOf o (Some m) None d → view_of_image o.start.count d ≡ boot_view (Some m) None
+view-kept o m Nothing h = absurd (cc)
+view-kept o m (Refused bad) h = absurd h
+view-kept o m (At epoch state) h = elim h.0 as (λ _. boot_view (Some (mark epoch state.count)) None ≡ boot_view (Some m) None) [
+  | inl e ↦ ap (λ (k : Option Mark). boot_view k None) (sym e)
+  | inr e ↦ absurd (cc)
+]
 
 -- ---- over any filling
 
@@ -82,18 +106,32 @@ module _ {C : Type 0} (F : FillingOf C) where
       ∙ ap (λ (x : List Block). view_of_image o.start.count (decode_by (layout_for F o) ceiling x)) (sym recovering.before_is)
       ∙ finding_view-told o (layout_for F o) g.before g.kept o.start.count tells
 
+  -- and so it is while it migrates
+  pub view-migrating : (read : Reading) (o : Origin) (g : BootImages) (n : Device) (b : Booting) (c : C) (step : Migration)
+      → IsReadBy F read → IsKeeping o (layout_for F o) (standing_in_boot o (Migrates step) g n) → (far : IsMigrating F o step g n b c)
+      → view_of_image o.start.count (read o.geometry ceiling n.image) ≡ boot_view (Some far.m) None
+  view-migrating read o g n b c step reads keeps far =
+      let both : IsKeeping o (layout_for F o) (standing n (saved_migrating step g) (Some far.m) (Some far.m))
+      = subst (λ (k : Option Mark). IsKeeping o (layout_for F o) (standing n (saved_migrating step g) k k)) far.kept keeps in
+      let safe = Safe-same (reading F.layouts) o far.m n (Safe-sealed F.layouts o n (saved_migrating step g) (Some far.m) (Some far.m) both) in
+      ap (view_of_image o.start.count) (reads o.geometry n.image keeps.sized)
+      ∙ view-kept o far.m (decode_by (layout_for F o) ceiling n.image) (safe n.image (Crash-image n))
+
   view-at : (read : Reading) (o : Origin) (g : BootImages) (n : Device) (b : Booting) (c : C) (q : Stage)
       → IsReadBy F read → IsGoing q → IsKeeping o (layout_for F o) (standing_in_boot o q g n) → IsSoundAt F o q g n b c
       → view_at read o q n ≡ seen_at o g.kept q
   view-at read o g n b c (Reads r) reads going keeps far = view-reading read o g n b c reads far keeps.sized keeps.told
   view-at read o g n b c (Loads issue) reads going keeps far = refl
+  view-at read o g n b c (Migrates step) reads going keeps far =
+      view-migrating read o g n b c step reads keeps far ∙ ap (finding_view o.start.count) (sym far.kept)
   view-at read o g n b c (Over end) reads going keeps far = absurd going
 
   settled-at : (o : Origin) (g : BootImages) (n : Device) (b : Booting) (c : C) (q : Stage) (m : Mark)
-      → IsGoing q → (seen_at o g.kept q).done ≡ Some m → IsSoundAt F o q g n b c → n.queue ≡ []
-  settled-at o g n b c (Reads r) m going found far = far.read.settled
-  settled-at o g n b c (Loads issue) m going found far = absurd (none-done m found)
-  settled-at o g n b c (Over end) m going found far = absurd going
+      → IsGoing q → (seen_at o g.kept q).done ≡ Some m → migrates_at q ≡ false → IsSoundAt F o q g n b c → n.queue ≡ []
+  settled-at o g n b c (Reads r) m going found only far = far.read.settled
+  settled-at o g n b c (Loads issue) m going found only far = absurd (none-done m found)
+  settled-at o g n b c (Migrates step) m going found only far = let both : true ≡ false = only in absurd (cc)
+  settled-at o g n b c (Over end) m going found only far = absurd going
 
   pub view_is_kept : ViewIsKept F
   view_is_kept read o g n b c reads sound going = (
@@ -102,7 +140,7 @@ module _ {C : Type 0} (F : FillingOf C) where
   )
 
   pub found_is_settled : FoundIsSettled F
-  found_is_settled o g n b c m sound going found = settled-at o g n b c b.stage m going found sound.so_far
+  found_is_settled o g n b c m sound going found only = settled-at o g n b c b.stage m going found only sound.so_far
 
   pub sized-is : (o : Origin) (g : BootImages) (n : Device) (b : Booting) (c : C)
       → IsSoundBoot F o g n b c → IsGoing b.stage → length n.image ≡ (layout_for F o).image_blocks

@@ -1,5 +1,5 @@
 -- What is seen of every boot of a run that is not over, whatever the layout and whatever is filled.
-use Rattle.std.specs.Prelude.{◌≡◌, ◌≤◌, ◌+◌, ◌&&◌, true, List, [], length, Option, Some}
+use Rattle.std.specs.Prelude.{◌≡◌, ◌≤◌, ◌+◌, ◌&&◌, true, false, List, [], length, Option, Some}
 use Rattle.thy_base.specs.declared.block.Block.{Block}
 use Rattle.thy_base.specs.declared.config.Parameters.{Parameters}
 use Rattle.thy_base.specs.declared.mark.Mark.{Mark}
@@ -16,7 +16,7 @@ use Rattle.thy_boot.specs.Boot.{Booting}
 use Rattle.thy_boot.specs.Filling.{FillingOf, layout_at}
 use Rattle.thy_boot.specs.Laws.{IsGoing}
 use Rattle.thy_boot.specs.Left.{boot_left}
-use Rattle.thy_boot.specs.Shows.{seen_at}
+use Rattle.thy_boot.specs.Shows.{migrates_at, seen_at}
 use Rattle.thy_boot.specs.Sound.{BootImages, layout_for, IsSoundBoot}
 use Rattle.thy_boot.specs.Steps.{action_at}
 use Rattle.thy_scheme.specs.Boots.{IsBootView}
@@ -43,17 +43,17 @@ LoadsIfNone {C} F =
     → IsReadBy F read → IsSoundBoot F o g n b c → IsGoing b.stage
     → loads_at b.stage ≡ (has_read_at b.stage && loads (view_at read o b.stage n))
 
--- if a checkpoint was found nothing is queued
+-- if a checkpoint was found nothing is queued, unless it is being written anew
 abbrev pub FoundIsSettled : {C : Type 0} → FillingOf C → Type 0
 FoundIsSettled {C} F =
     (o : Origin) (g : BootImages) (n : Device) (b : Booting) (c : C) (m : Mark)
-    → IsSoundBoot F o g n b c → IsGoing b.stage → (seen_at o g.kept b.stage).done ≡ Some m → n.queue ≡ []
+    → IsSoundBoot F o g n b c → IsGoing b.stage → (seen_at o g.kept b.stage).done ≡ Some m → migrates_at b.stage ≡ false → n.queue ≡ []
 
--- and a step that failed wrote nothing
+-- and a step that failed wrote nothing then
 abbrev pub FoundFailsUnwritten : {C : Type 0} → FillingOf C → Type 0
 FoundFailsUnwritten {C} F =
     (o : Origin) (kept : Option Mark) (m : Mark) (b : Booting) (c : C) (n new : Device) (q : Stage)
-    → (seen_at o kept q).done ≡ Some m → FailsTo (action_at F q o.start b c) n new → HasFailed n new
+    → (seen_at o kept q).done ≡ Some m → migrates_at q ≡ false → FailsTo (action_at F q o.start b c) n new → HasFailed n new
 
 -- a boot that has fewer actions left than one of its geometry has read the commit block
 abbrev pub FewerHasRead : {C : Type 0} → FillingOf C → Type 0

@@ -67,9 +67,9 @@ PowerFinds {S} K =
 
 -- ---- if the hart waits for each checkpoint, and there is one form of images
 
--- nothing is ever migrated
+-- no boot of a run migrates
 abbrev pub NeverMigrates : {S : Type 0} → SchemeOf S → Type 0
-NeverMigrates {S} K = (s : S) → K.migrates s ≡ false
+NeverMigrates {S} K = (o : Origin) (s : S) (n : Device) → K.boots o s n → K.migrates s ≡ false
 
 -- the hart is barred exactly while a checkpoint is under way
 abbrev pub HartIsBarred : {S : Type 0} → SchemeOf S → Type 0

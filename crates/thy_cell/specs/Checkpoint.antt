@@ -1,3 +1,4 @@
+-- Part of the claim.
 -- What a seal, a commit, a merge, a promotion and the write of a page make of a block's entries, and their laws.
 use Rattle.std.specs.Prelude.{◌≡◌, ◌≢◌, ℕ, ◌+◌, ◌≤◌, ◌==◌, Bool, true, false, ◌||◌, not, if◌then◌else◌, Option, Some, None}
 use Rattle.thy_base.specs.declared.block.Block.{Block}

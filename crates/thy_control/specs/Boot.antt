@@ -1,3 +1,4 @@
+-- Part of the claim.
 -- What the calls of a boot make of the controller: it lists what the committed checkpoint lists, and loads the frames of
 -- the listed pages.
 use Rattle.std.specs.Prelude.{◌≡◌, ℕ, ◌+◌, ◌*◌, ◌<◌, ◌≤◌, true, false, slice_set, Option, Some, None, Result, is_some}

@@ -1,3 +1,4 @@
+-- Part of the claim.
 -- The tables of both checkpoints, by what the entries of the controller's tables say.
 use Rattle.std.specs.Prelude.{◌≡◌, ℕ, ◌<◌, map, option_and_then, Option, Some, None}
 use Rattle.thy_places.specs.declared.place.Place.{Place}

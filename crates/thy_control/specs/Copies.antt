@@ -1,3 +1,4 @@
+-- Part of the claim.
 -- The copies that the checkpoint under way still needs, and what the next of them makes of the controller.
 use Rattle.std.specs.Prelude.{◌≡◌, ℕ, Bool, true, false, Option, Some, None, Result, count_by}
 use Rattle.thy_base.specs.declared.nvm.NvmError.{NvmError}

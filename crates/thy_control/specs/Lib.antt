@@ -26,3 +26,4 @@ pub mod TableBlocks
 pub mod Boot
 pub mod Promotions
 pub mod Cursors
+pub mod Positions

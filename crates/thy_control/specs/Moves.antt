@@ -1,3 +1,4 @@
+-- Part of the claim.
 -- A block moves from one place to another: a read, and then one write.
 use Rattle.std.specs.Prelude.{◌≡◌, ◌⊎◌, ℕ, ◌+◌, Bool, true, false}
 use Rattle.thy_base.specs.declared.config.Parameters.{Parameters}

@@ -1,3 +1,4 @@
+-- Part of the claim.
 -- The pages that the checkpoint under way has still to write, and what the write of the next block makes of the controller.
 use Rattle.std.specs.Prelude.{◌≡◌, ℕ, ◌+◌, ◌-◌, ◌*◌, Bool, ◌&&◌, nat_lt, if◌then◌else◌, Option, Some, None, Result}
 use Rattle.std.specs.List.{sum_by}

@@ -17,6 +17,7 @@ mod boot;
 mod copying;
 mod merging;
 mod moving;
+mod positions;
 mod promoting;
 mod queue;
 mod tables;
@@ -240,6 +241,13 @@ impl Control {
         ensures { AreSoundTables self.now }
     {
         let _under_way = &self.under_way;
+    }
+
+    /// Whether a checkpoint is under way.
+    pub fn under_way(&self) -> bool
+        ensures { result ≡ self.now.under_way }
+    {
+        self.under_way
     }
 
     /// How many entries of the block table are free.

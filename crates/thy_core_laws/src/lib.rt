@@ -3,8 +3,8 @@
 //! above run. The last of them is `the_machine_is_lawful`.
 //!
 //! Open specs/Sound.antt first, then specs/Rows.antt, and src/laws.rt. It stands on thy_hart, thy_cache, thy_epoch,
-//! thy_scheme and what those stand on; on it stand thy_core and, for a few laws, thy_dual_laws, thy_parts and
-//! thy_shadow_scheme.
+//! thy_scheme and what those stand on; on it stand thy_core and, for a few laws, thy_parts, thy_dual_laws,
+//! thy_journal_laws and thy_shadow_laws.
 #![tactic(auto)]
 
 mod laws;

@@ -6,7 +6,7 @@
 //! `moves_are_safe`.
 //!
 //! Open specs/Keeps.antt first, then specs/Moves.antt, and src/laws.rt. It depends on thy_base, thy_crash,
-//! thy_layout and thy_view; thy_record, thy_boot, thy_commit, the images of the journal and of shadow paging, and what stands on
+//! thy_layout and thy_view; thy_record, thy_boot, thy_parts, the images of the journal and of shadow paging, and what stands on
 //! these depend on it.
 #![tactic(auto)]
 

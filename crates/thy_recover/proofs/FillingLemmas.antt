@@ -22,6 +22,7 @@ use Rattle.thy_layout.specs.Layout.{blocks_at, slot_in, memory_in}
 use Rattle.thy_record.specs.DualLayouts.{dual_layouts}
 use Rattle.thy_record.proofs.LayoutLemmas.{dual_are_layouts}
 use Rattle.thy_boot.specs.Filling.{IsFilling}
+use Rattle.thy_recover.proofs.AnewLemmas.{renewed_is_the_same}
 use Rattle.thy_recover.specs.Filling.{IsEmpty, ListsSlot, loads, next_position, page_place, filling_dual}
 use Rattle.thy_recover.specs.Start.{no_tables}
 use Rattle.thy_recover.proofs.PositionLemmas.{IsPosition, IsPosition-next, position_inside, position_above, place_inside, position_again, filled_next, filled_all, AreSoundTables-dram, ListsSlot-dram, lists_filled, fills_to}
@@ -113,6 +114,7 @@ filling_is_lawful = record {
   ends = λ c n commit slot from lists filled none settled sized at is.
       let holds : HoldAll c n = held c n commit slot from lists none settled is filled in
       (holds, memory_same c n commit slot from lists none settled is holds);
+  renews = renewed_is_the_same;
   drain_p = λ c. refl;
   drain_fresh = fresh_drained;
   drain_lists = λ c commit slot lists. ListsSlot-dram commit slot c (filling_dual.drained c).dram refl lists;

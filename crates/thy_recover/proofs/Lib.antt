@@ -5,5 +5,6 @@ pub mod WorkLemmas
 pub mod StartLemmas
 pub mod PositionLemmas
 pub mod SlotLemmas
+pub mod AnewLemmas
 pub mod FillingLemmas
 pub mod BootedLemmas

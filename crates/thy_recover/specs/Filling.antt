@@ -1,3 +1,4 @@
+-- Part of the claim.
 -- What this scheme's boot fills: the controller, from images of both versions. A position is 64 times an entry of the
 -- page table and a block of its page.
 use Rattle.std.specs.Prelude.{◌≡◌, ℕ, ◌+◌, ◌*◌, ◌/◌, ◌%◌, ◌<◌, ◌≤◌, max, List, map, replicate, is_some, Option, Some, None}

@@ -1,6 +1,6 @@
 //! The part that the scheme of both tables (`--scheme thynvm`) has in the boot: how a slot of either version is listed
 //! by the controller, how the frames of its pages are filled, and what a start makes of an empty NVM. The boot itself
-//! is thy_boot's, over `filling_dual`; thy_migrate has the `impl` that says so (`DualFills`).
+//! is thy_boot's, over `filling_dual`; thy_dual has the `impl` that says so (`DualTables`).
 //!
 //! Open specs/Filling.antt first, then specs/Booted.antt, and src/listing.rt. It depends on thy_control, thy_boot and their
 //! dependencies; thy_dual_laws and thy_dual depend on it.

@@ -2,7 +2,8 @@
 use Rattle.std.proofs.Common.{refl, inr, arith}
 use Rattle.thy_base.specs.Device.{newest}
 use Rattle.thy_boot.specs.Filling.{IsFilling}
-use Rattle.thy_journal_image.specs.Places.{journal_place}
+use Rattle.thy_boot.proofs.OlderLemmas.{never_older}
+use Rattle.thy_journal_image.specs.Places.{scheme_number, journal_place}
 use Rattle.thy_journal_image.proofs.LayoutLemmas.{journal_are_layouts}
 use Rattle.thy_log.proofs.DrainLemmas.{works_drained, IsSoundState-drained}
 use Rattle.thy_refill.specs.Filling.{filling_journal, slot_named}
@@ -30,6 +31,7 @@ log_is_filled = record {
   same_keeps = λ s. refl;
   ends = λ s n commit slot from lists filled none settled long is slot_is.
       let whole = filled_all s n slot lists from filled none in (whole, works_are_memory s n slot lists settled slot_is whole);
+  renews = λ p commit slot older. absurd (never_older scheme_number p commit (omega arith) older.version);
   drain_p = λ s. refl;
   drain_fresh = λ s fresh. record { state = IsSoundState-drained s fresh.state; free = fresh.free };
   drain_lists = λ s commit slot lists. record { state = IsSoundState-drained s lists.state; table = lists.table };

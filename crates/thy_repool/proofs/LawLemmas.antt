@@ -1,6 +1,8 @@
 -- What holds of listing the pool.
-use Rattle.std.proofs.Common.{refl, inl}
+use Rattle.std.proofs.Common.{refl, inl, arith}
 use Rattle.thy_boot.specs.Filling.{IsFilling}
+use Rattle.thy_boot.proofs.OlderLemmas.{never_older}
+use Rattle.thy_shadow_image.specs.Places.{scheme_number}
 use Rattle.thy_shadow_image.proofs.LayoutLemmas.{shadow_are_layouts}
 use Rattle.thy_pool.specs.State.{State}
 use Rattle.thy_pool.specs.Stores.{after_drain}
@@ -23,6 +25,7 @@ pool_is_listed = record {
   fill_keeps = λ s commit k block. refl;
   same_keeps = λ s. refl;
   ends = λ s n commit slot from lists filled none settled long is slot_is. (tt, works_are_memory s n slot lists settled slot_is);
+  renews = λ p commit slot older. absurd (never_older scheme_number p commit (omega arith) older.version);
   drain_p = λ s. refl;
   drain_fresh = λ s fresh. record { unframed = unframed_drained s fresh.unframed; first = fresh.first };
   drain_lists = λ s commit slot lists. record { unframed = unframed_drained s lists.unframed; table = lists.table };

@@ -4,7 +4,7 @@
 //!
 //! Open specs/Scheme.antt first, then specs/Calls.antt, and src/scheme.rt. It stands on thy_base, thy_flat, thy_isa,
 //! thy_dram, thy_record and thy_view; on it stand thy_core_laws and thy_core, the crates that make a scheme of its
-//! parts (thy_dual_laws, thy_dual, and those like them of each other scheme), and thy_cli.
+//! parts (thy_parts, thy_compose, and two of each scheme, as thy_dual_laws and thy_dual), and thy_cli.
 #![tactic(auto)]
 
 mod scheme;

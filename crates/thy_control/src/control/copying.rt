@@ -68,7 +68,7 @@ impl Control {
     }
 
     /// The entry of lowest number that has still to be copied. The next search starts there.
-    fn seek_copy(&mut self) -> Option<usize>
+    pub(super) fn seek_copy(&mut self) -> Option<usize>
         ensures same { self.new ≡ self.old }
         ensures place { result ≡ next_copy self.old }
         ensures inside { IfSome result (λ i. i < length self.new.btt.entries) }

@@ -70,7 +70,7 @@ impl Control {
     }
 
     /// The entry of lowest number whose page's blocks are not all issued. The next search starts there.
-    fn seek_page(&mut self) -> Option<usize>
+    pub(super) fn seek_page(&mut self) -> Option<usize>
         ensures same { self.new ≡ self.old }
         ensures place { result ≡ next_page self.old }
         ensures inside { IfSome result (λ j. j < length self.new.ptt.entries) }

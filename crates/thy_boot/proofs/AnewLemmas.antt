@@ -1,0 +1,202 @@
+-- A checkpoint of an older form, and what is written anew of it: where that goes, and what it means.
+use Rattle.std.proofs.Common.{◌≡◌, ◌≢◌, ℕ, ◌+◌, ◌<◌, ◌≤◌, ◌&&◌, nat_lt, Bool, true, false, if◌then◌else◌, List, [], ◌∷◌, ◌++◌, length, map, Contains, Option, Some, None, refl, sym, ◌∙◌, ap, subst, inl, inr, arith}
+use Rattle.std.proofs.lemmas.Bool.{ltb-true}
+use Rattle.std.proofs.lemmas.List.{length-map}
+use Rattle.std.proofs.lemmas.List.Elements.{Contains-append_cases}
+use Rattle.std.proofs.lemmas.List.FromFn.{length-range_with_len}
+use Rattle.thy_base.specs.declared.block.Block.{Block}
+use Rattle.thy_base.specs.declared.config.Parameters.{Parameters}
+use Rattle.thy_base.specs.Device.{Device, block_at, newest, settled}
+use Rattle.thy_base.specs.Geometry.{memory_blocks}
+use Rattle.thy_base.proofs.BasicLemmas.{all_none, not_first, Contains-range}
+use Rattle.thy_base.proofs.DeviceLemmas.{newest-empty, newest-settled}
+use Rattle.thy_crash.specs.Saved.{Kept, IsIssued, next_image, guarded}
+use Rattle.thy_crash.proofs.SavedLemmas.{next_image-commit, next_image-reads}
+use Rattle.thy_isa.specs.OnBlocks.{state_from}
+use Rattle.thy_isa.specs.declared.state.CpuState.{CpuState}
+use Rattle.thy_layout.specs.declared.bad_image.BadImage.TheVariants.{Commit as BadCommit}
+use Rattle.thy_layout.specs.declared.layout_version.LayoutVersion.TheVariants.{VersionOne}
+use Rattle.thy_layout.specs.AreLayouts.{HasPlaces}
+use Rattle.thy_layout.specs.Commit.{epoch_of, is_zero, is_named, has_zero_rest, commit_fault}
+use Rattle.thy_layout.specs.Cpu.{cpu_of_record}
+use Rattle.thy_layout.specs.Decoded.{At}
+use Rattle.thy_layout.specs.Layout.{Layout, header_bad, commit_bad, slot_places, memory_places, slot_in, memory_in, state_by, fault_of, decode_by, looked_by}
+use Rattle.thy_layout.proofs.AskingLemmas.{map-alike}
+use Rattle.thy_layout.proofs.LayoutLemmas.{length_is, looked_parts}
+use Rattle.thy_layout.proofs.PlacesLemmas.{memory_place_of}
+use Rattle.thy_layout.proofs.ReadBackLemmas.{epoch_of-commit_of, commit_fault-commit_of, is_zero-commit_of}
+use Rattle.thy_view.specs.Safe.{ceiling}
+use Rattle.thy_protocol.specs.Issuing.{CheckpointParts, slot_of, ArePlaced, AreIssued, ArePartsOf, IsCheckpoint}
+use Rattle.thy_protocol.proofs.IssuingLemmas.{issued_is_checkpoint}
+use Rattle.thy_boot.specs.Boot.{Booting, layout_in, slot_read, version_in}
+use Rattle.thy_boot.specs.Filling.{FillingOf, IsFilling, IsOlder, IsTheSame, ReadsAlike, anew, slot_anew}
+use Rattle.thy_boot.specs.Migrating.{renewed, migrated_by}
+use Rattle.thy_boot.specs.declared.stage.Migration.TheVariants.{Confirm}
+use Rattle.thy_boot.specs.Recovers.{HasHead, HasListed}
+use Rattle.thy_boot.specs.Sound.{AreIssuedAnew, renewed_parts}
+use Rattle.thy_boot.proofs.LoadLemmas.{slot_inside}
+use Rattle.thy_boot.proofs.RenewedLemmas.{renewed-slot}
+
+-- a commit block without a fault has an epoch below the ceiling
+asks-epoch : (named below rest : Bool) → (if (named && below) && rest then None else Some BadCommit) ≡ None → below ≡ true
+asks-epoch true true rest h = refl
+asks-epoch true false rest h = cc
+asks-epoch false below rest h = cc
+
+pub epoch-below : (header commit : Block) → commit_fault header commit ceiling ≡ None → epoch_of commit < ceiling
+unfolding commit_fault
+epoch-below header commit h =
+    ltb-true (epoch_of commit) ceiling (asks-epoch (is_named header commit) (nat_lt (epoch_of commit) ceiling) (has_zero_rest commit) h)
+
+module _ {C : Type 0} (F : FillingOf C) (laws : IsFilling F) (b : Booting) (c : C) (same : F.p c ≡ b.p)
+    (g : List Block) (listed : HasListed F g b c) (version : version_in F b ≡ VersionOne) where
+  abbrev l : Layout
+  l = layout_in F b
+
+  abbrev commit : Block
+  commit = b.commit
+
+  abbrev slot : List Block
+  slot = slot_read F b
+
+  abbrev parts : CheckpointParts
+  parts = renewed_parts F b
+
+  below : epoch_of commit < ceiling
+  below = epoch-below (block_at g 0) commit listed.head.commit_fits
+
+  older : IsOlder l b.p commit slot
+  older = record {
+    version = version;
+    below = below;
+    long = ap length listed.slot_is
+        ∙ length-map (slot_places l (block_at g 1)) (block_at g)
+        ∙ length-range_with_len (l.slot_place (block_at g 1)) (l.slot_blocks (block_at g 1))
+        ∙ ap l.slot_blocks listed.head.commit_is.is;
+    faultless = listed.slot_fits;
+  }
+
+  pub is_the_same : IsTheSame F b.p commit slot
+  is_the_same = laws.renews b.p commit slot older
+
+  pub epoch_anew : epoch_of (anew commit) ≡ epoch_of commit
+  epoch_anew = epoch_of-commit_of (epoch_of commit) (omega (arith, below))
+
+  -- ---- where it goes
+
+  places_old : HasPlaces l commit slot
+  places_old = laws.laid.memory b.p commit slot (record { ceiling = ceiling; faultless = listed.slot_fits })
+
+  places_new : HasPlaces l (anew commit) (slot_anew l commit slot)
+  places_new = laws.laid.memory b.p (anew commit) (slot_anew l commit slot) (record { ceiling = ceiling; faultless = is_the_same.faultless })
+
+  -- what holds of the place of each block holds of each place
+  of_each : (k : Block) (s : List Block) (P : ℕ → Type 0) → ((i : ℕ) → i < memory_blocks l.p → P (l.place k s i)) → (x : ℕ) → Contains (memory_places l k s) x → P x
+  of_each k s P each x inside = let of = memory_place_of l k s x inside in subst P of.2 (each of.0 of.1)
+
+  memory_apart : (k : ℕ) → k < parts.slot_blocks → ¬ Contains parts.memory (parts.slot_place + k)
+  memory_apart k inside here =
+      of_each (anew commit) (slot_anew l commit slot) (λ x. x ≢ parts.slot_place + k) (λ i low. places_new.apart i k low inside) (parts.slot_place + k)
+      (subst (λ (xs : List ℕ). Contains xs (parts.slot_place + k)) (sym is_the_same.places) here) refl
+
+  pub placed_anew : ArePlaced l.image_blocks parts
+  placed_anew = record {
+    slot_behind = (laws.laid.slot b.p (anew commit)).behind;
+    slot_inside = slot_inside F laws b.p (anew commit);
+    memory_behind = of_each commit slot (λ x. 2 ≤ x) places_old.behind;
+    memory_inside = of_each commit slot (λ x. x < l.image_blocks)
+        (λ i low. places_old.inside i l.image_blocks low (length_is l.image_blocks l.image_blocks (l.older_blocks commit) refl));
+    apart = memory_apart;
+  }
+
+  parts_anew : ArePartsOf l (anew commit) parts
+  parts_anew = record { placed = placed_anew; slot_place = refl; slot_blocks = refl; memory = is_the_same.places }
+
+  -- no block of the image that is kept is written over
+  looked_is : looked_by l g ≡ 0 ∷ 1 ∷ (slot_places l commit ++ memory_places l commit slot)
+  looked_is =
+      looked_parts l g (ap is_zero listed.head.commit_is.is ∙ listed.head.commit_is.committed)
+      ∙ ap (λ (k : Block). 0 ∷ 1 ∷ (slot_places l k ++ memory_places l k (slot_in l g))) listed.head.commit_is.is
+      ∙ ap (λ (s : List Block). 0 ∷ 1 ∷ (slot_places l commit ++ memory_places l commit s)) (sym listed.slot_is)
+
+  pub slot_spared : (k : ℕ) → k < parts.slot_blocks → ¬ Contains (guarded (looked_by l) (Kept g)) (parts.slot_place + k)
+  slot_spared k inside here =
+      let x : ℕ = parts.slot_place + k in
+      let places : List ℕ = slot_places l commit ++ memory_places l commit slot in
+      let behind : 2 ≤ parts.slot_place = placed_anew.slot_behind in
+      let none : 0 ≢ x = λ e. omega (arith, e, behind) in
+      let one : 1 ≢ x = λ e. omega (arith, e, behind) in
+      let all : Contains (1 ∷ 0 ∷ 1 ∷ places) x = subst (λ (xs : List ℕ). Contains (1 ∷ xs) x) looked_is here in
+      elim (Contains-append_cases (slot_places l commit) (memory_places l commit slot) x
+      (not_first x 1 places one (not_first x 0 (1 ∷ places) none (not_first x 1 (0 ∷ 1 ∷ places) one all)))) as (λ _. ⊥) [
+        | inl old ↦
+            let at = Contains-range (l.slot_place commit) (l.slot_blocks commit) x old in
+            is_the_same.apart at.0 k at.1 inside at.2
+        | inr memory ↦ memory_apart k inside memory
+      ]
+
+  -- ---- at its beginning
+
+  -- memory is where the new checkpoint has it, too
+  pub issued-first : (n : Device) → n.queue ≡ [] → n.image ≡ g → length n.image ≡ l.image_blocks → F.loads c n ≡ memory_in l g → AreIssuedAnew F 0 n b c
+  issued-first n settled is sized memory = record {
+    header = ap (λ (x : Block). header_bad l x true) (newest-empty n 0 settled ∙ ap (λ (h : List Block). block_at h 0) is) ∙ listed.head.header_fits;
+    issued = record {
+      sized = sized;
+      memory_is = map-alike (newest n) (block_at n.image) parts.memory (λ x inside. newest-empty n x settled)
+          ∙ ap (λ (h : List Block). map (block_at h) parts.memory) is
+          ∙ ap (λ (s : List Block). map (block_at g) (memory_places l commit s)) listed.slot_is
+          ∙ ap (λ (k : Block). map (block_at g) (memory_places l k (slot_in l g))) (sym listed.head.commit_is.is)
+          ∙ sym memory;
+      slot = record { each = λ i low. absurd (omega (arith, low)) };
+    };
+  }
+
+  -- a barrier lands it
+  pub settled-issued : (n : Device) (memory : List Block) (k : ℕ) → AreIssued l.image_blocks parts n memory k → map (newest (settled n)) parts.memory ≡ memory
+  settled-issued n memory k issued =
+      map-alike (newest (settled n)) (newest n) parts.memory
+      (λ y inside. let low = placed_anew.memory_inside y inside in newest-settled n y (omega (arith, low, issued.sized)))
+      ∙ issued.memory_is
+
+  -- ---- all of it
+
+  pub state_anew : (memory : List Block) → state_by l (slot_of parts) memory ≡ state_by l slot memory
+  state_anew memory =
+      subst (λ (p : Parameters). state_from p (cpu_of_record p (slot_of parts)) memory ≡ state_from p (cpu_of_record p slot) memory) (sym (laws.laid.of b.p))
+      (ap (λ (cpu : CpuState). state_from b.p cpu memory) is_the_same.cpu)
+
+  module _ (n : Device) (all : AreIssuedAnew F parts.slot_blocks n b c) where
+    no_fault : fault_of l ceiling true (newest n 0) (anew commit) (slot_of parts) ≡ None
+    no_fault =
+        all_none (header_bad l (newest n 0) true) (commit_bad ceiling (newest n 0) (anew commit)) (l.slot_bad ceiling (anew commit) (slot_of parts))
+        all.header (commit_fault-commit_of (newest n 0) (epoch_of commit) ceiling below (omega arith)) is_the_same.faultless
+
+    is_checkpoint : IsCheckpoint l ceiling n (anew commit) parts (F.loads c n)
+    is_checkpoint =
+        issued_is_checkpoint l ceiling n (anew commit) parts (F.loads c n) parts_anew all.issued (is_zero-commit_of (epoch_of commit)) no_fault
+
+    abbrev next : List Block
+    next = next_image n (anew commit)
+
+    room : 1 < length n.image
+    room = omega (arith, all.issued.sized, placed_anew.slot_behind, placed_anew.slot_inside)
+
+    pub next-commit : block_at next 1 ≡ anew commit
+    next-commit = next_image-commit (anew commit) n room
+
+    pub next-header : header_bad l (block_at next 0) true ≡ None
+    next-header =
+        ap (λ (x : Block). header_bad l x true) (next_image-reads (anew commit) n 0 (omega (arith, room)) (λ e. omega (arith, e))) ∙ all.header
+
+    pub next-slot : slot_in l next ≡ slot_of parts
+    next-slot = is_checkpoint.slot
+
+    pub next-issued : IsIssued (looked_by l) n next
+    next-issued = is_checkpoint.issued
+
+    pub next-decodes : decode_by l ceiling next ≡ At (epoch_of commit) (state_by l slot (F.loads c n))
+    next-decodes =
+        is_checkpoint.decodes
+        ∙ ap (λ (e : ℕ). At e (state_by l (slot_of parts) (F.loads c n))) epoch_anew
+        ∙ ap (At (epoch_of commit)) (state_anew (F.loads c n))
