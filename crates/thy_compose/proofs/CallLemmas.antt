@@ -18,7 +18,7 @@ use Rattle.thy_view.specs.Kind.{IsDramOf}
 use Rattle.thy_view.specs.Origin.{Origin, Begins}
 use Rattle.thy_view.proofs.ActionLemmas.{down-after, queue-after}
 use Rattle.thy_boot_laws.proofs.PowerLemmas.{IsDramOf-lost}
-use Rattle.thy_scheme.specs.Boots.{BootsOn, BootFails}
+use Rattle.thy_scheme.specs.Boots.{BootsOn, BootFails, BootDrains}
 use Rattle.thy_scheme.specs.Calls.{Drains, EngineFails, Engines, IsOneAccess, Merges, Promotes, Seals}
 use Rattle.thy_scheme.specs.CheckpointMarks.{CheckpointMarks}
 use Rattle.thy_scheme.specs.Scheme.{IsBooting, Stands}
@@ -31,13 +31,14 @@ use Rattle.thy_parts.specs.Laws.{sealed, step_of, taken}
 use Rattle.thy_parts.specs.Scheme.{scheme_of}
 use Rattle.thy_parts.specs.Stays.{Stays}
 use Rattle.thy_parts.specs.Storing.{CanStore, MakesStore}
+use Rattle.thy_parts.proofs.BootLemmas.{boot-drains}
 use Rattle.thy_parts.proofs.BootStepLemmas.{boots-by, boot-fails-by, took-for}
 use Rattle.thy_parts.proofs.DrainLemmas.{drains, merges, promotes}
 use Rattle.thy_parts.proofs.HeldLemmas.{held_block}
 use Rattle.thy_parts.proofs.StepLemmas.{engines, engine-fails, seals}
 
 -- an action that failed leaves the NVM down
-fails-down : (a : Action) (n m : Device) → FailsTo a n m → m.down ≡ true
+pub fails-down : (a : Action) (n m : Device) → FailsTo a n m → m.down ≡ true
 fails-down Rest n m failed = absurd failed
 fails-down (ReadAt place) n m failed = failed.down
 fails-down (WriteAt place block) n m failed = failed.down
@@ -58,6 +59,11 @@ module _ {C : Type 0} (D : DesignOf C) (w : AreParts D) where
   drains_then o k s t n is some stands =
       subst (λ (x : Composed C). Drains (scheme_of D) o k s n x) (sym is) (drains D w.design o k s n stands some)
 
+  pub boot_drains_then : (o : Origin) (s t : Composed C) (n : Device) → t ≡ drained D s → 0 < (D.filling.dram s.control).queued
+      → IsBooting (scheme_of D) o s n → BootDrains (scheme_of D) o s n t
+  boot_drains_then o s t n is some booting =
+      subst (λ (x : Composed C). BootDrains (scheme_of D) o s n x) (sym is) (boot-drains D w o s n booting.boots some)
+
   pub merges_then : (o : Origin) (k : CheckpointMarks) (s t : Composed C) (n : Device) → t ≡ merged D s → is_under_way s.engine.stage ≡ false
       → D.parts.pages.overlaid s.control ≡ true → Stands (scheme_of D) o k s n → Merges (scheme_of D) o k s n t
   merges_then o k s t n is idle some stands =
@@ -76,9 +82,10 @@ module _ {C : Type 0} (D : DesignOf C) (w : AreParts D) where
   promotes_then o k s t n m (Err x) some makes reads stands = tt
 
   pub seals_then : (o : Origin) (k : CheckpointMarks) (cpu : CpuState) (epoch : ℕ) (s t : Composed C) (n : Device) → t ≡ sealed D cpu epoch s
-      → is_under_way s.engine.stage ≡ false → Stands (scheme_of D) o k s n → Seals (scheme_of D) o k cpu epoch s n t
-  seals_then o k cpu epoch s t n is idle stands =
-      subst (λ (x : Composed C). Seals (scheme_of D) o k cpu epoch s n x) (sym is) (seals D w.design o k cpu epoch s n stands idle)
+      → is_under_way s.engine.stage ≡ false → D.parts.pages.promoting s.control ≡ false → D.parts.pages.overlaid s.control ≡ false
+      → Stands (scheme_of D) o k s n → Seals (scheme_of D) o k cpu epoch s n t
+  seals_then o k cpu epoch s t n is idle whole bare stands =
+      subst (λ (x : Composed C). Seals (scheme_of D) o k cpu epoch s n x) (sym is) (seals D w.design o k cpu epoch s n stands idle whole bare)
 
   -- ---- stores
 

@@ -1,1 +1,1 @@
-mod CallLemmas
+pub mod CallLemmas

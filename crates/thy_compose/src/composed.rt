@@ -66,7 +66,7 @@ fn is_loading(stage: Stage) -> bool
 {
     match stage {
         Stage::Loads(_) => true,
-        Stage::Reads(_) | Stage::Over(_) => false,
+        Stage::Reads(_) | Stage::Migrates(_) | Stage::Over(_) => false,
     }
 }
 
@@ -80,7 +80,7 @@ fn begin_tail<P: Parts>(stage: Stage, engine: &mut Engine)
                 engine.apply();
             }
         }
-        Stage::Over(End::Loaded) | Stage::Reads(_) | Stage::Loads(_) => {}
+        Stage::Over(End::Loaded) | Stage::Reads(_) | Stage::Loads(_) | Stage::Migrates(_) => {}
     }
 }
 
@@ -115,6 +115,13 @@ where
         ensures { result ≡ lost (P.filling.dram self.control) pick }
     {
         P::cut(self.control, pick)
+    }
+
+    /// The controller's tables and its DRAM are sound. It does nothing.
+    pub fn sound(&self)
+        ensures { P.parts.sound self.now.control }
+    {
+        P::sound(&self.control);
     }
 
     /// Loads block `b`: as it was stored last.

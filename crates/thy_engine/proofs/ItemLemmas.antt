@@ -34,7 +34,7 @@ module _ {C : Type 0} (F : FillingOf C) (I : ItemsOf C) (a : AreItems F I) (e : 
   fits_body from None next stands = fits_slot 0 (a.body_ends c from stands next)
   fits_body from (Some k) next stands =
       let on = a.body_onwards c from k stands next in
-      let to = a.body c k on.2 on.1 in
+      let to = a.body c k on.1 on.0 in
       fits_at F I e (Body (k + 1)) (I.body_after c k) (to.same_p ∙ same) (λ j at. cc) to.stands
 
   fits_tail : (from : ℕ) (o : Option ℕ) → I.tail_next c from ≡ o → I.stands (Applying from) c → FitsAfter (tail_or_release o)

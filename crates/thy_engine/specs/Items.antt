@@ -60,10 +60,10 @@ pub record GoesTo {C : Type 0} (F : FillingOf C) (I : ItemsOf C) (phase : Phase)
 
 -- what holds of the items of every scheme
 pub record AreItems {C : Type 0} (F : FillingOf C) (I : ItemsOf C) : Type 0 where
-  -- a position that is next is not below the one from which it was looked for; looked for from itself it is next, and the
-  -- checkpoint is as far
+  -- a position that is next is so if it is looked for from itself, and the checkpoint is as far; in the tail it is not below
+  -- the one from which it was looked for
   pub body_onwards : (c : C) (from k : ℕ) → I.stands (Making from) c → I.body_next c from ≡ Some k
-      → (from ≤ k) × (I.body_next c k ≡ Some k) × I.stands (Making k) c
+      → (I.body_next c k ≡ Some k) × I.stands (Making k) c
   pub tail_onwards : (c : C) (from k : ℕ) → I.stands (Applying from) c → I.tail_next c from ≡ Some k
       → (from ≤ k) × (I.tail_next c k ≡ Some k) × I.stands (Applying k) c
   -- each item leads to the next phase

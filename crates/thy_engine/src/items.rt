@@ -1,5 +1,5 @@
 //! What a scheme says of its checkpoints to the engine.
-ghost use Rattle.std.specs.Prelude.{◌≡◌, ◌+◌, ◌<◌, false, length, Some, IfSome};
+ghost use Rattle.std.specs.Prelude.{◌≡◌, ◌+◌, ◌<◌, false, true, length, Some, IfSome};
 ghost use Rattle.thy_layout.specs.Commit.{commit_of};
 ghost use Rattle.thy_base.specs.Places.{record_blocks};
 ghost use Rattle.thy_boot.specs.Filling.{layout_at};
@@ -18,9 +18,10 @@ pub trait Checkpoints: Fills {
     /// What is seen of controllers while their checkpoints are made.
     ghost items: { ItemsOf Self.Control };
 
-    /// The first position from one on that the body writes.
-    fn next_body(control: &Self::Control, from: u64) -> Option<u64>
-        ensures next { result ≡ items.body_next control.now from }
+    /// The first position from one on that the body writes. The search may move what the controller keeps to find the next.
+    fn next_body(control: &mut Self::Control, from: u64) -> Option<u64>
+        ensures same { control.new ≡ control.old }
+        ensures next { result ≡ items.body_next control.old from }
         ensures few { IfSome result (λ k. k < 4294967296) };
 
     /// Writes a position of the body.
@@ -63,15 +64,16 @@ pub trait Checkpoints: Fills {
         ensures next { result ≡ items.tail_next control.now from }
         ensures few { IfSome result (λ k. k < 4294967296) };
 
-    /// Writes a position of the tail.
+    /// Writes a position of the tail. Of a scheme without one it says nothing, and the engine never calls it.
     fn write_tail<N: Nvm>(control: &mut Self::Control, k: u64, nvm: &mut N) -> Result<(), NvmError>
-        requires stands { items.stands (Applying k) control.old }
-        requires next { items.tail_next control.old k ≡ Some k }
+        requires stands { items.has_tail ≡ true → items.stands (Applying k) control.old }
+        requires next { items.has_tail ≡ true → items.tail_next control.old k ≡ Some k }
         requires sized { length (N.device nvm.old).image ≡ (layout_at Self.filling (Self.filling.p control.old)).image_blocks }
         requires up { (N.device nvm.old).down ≡ false }
         ensures { let block = items.tail_block control.old (N.device nvm.old) k in
             let action = WriteAt (items.tail_place control.old k) block in
-            Acts action (items.tail_after control.old k) result control.old (N.device nvm.old) control.new (N.device nvm.new) };
+            items.has_tail ≡ true
+            → Acts action (items.tail_after control.old k) result control.old (N.device nvm.old) control.new (N.device nvm.new) };
 
     /// All of the tail is on the NVM.
     fn release(control: &mut Self::Control)

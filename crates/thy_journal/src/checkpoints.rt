@@ -24,7 +24,7 @@ impl Checkpoints for Refill {
 
     ghost items = { items_journal };
 
-    fn next_body(control: &Log, from: u64) -> Option<u64> {
+    fn next_body(control: &mut Log, from: u64) -> Option<u64> {
         control.sound();
         position(control.next_live(from as usize))
     }

@@ -76,7 +76,7 @@ counts s from k sound found =
 
 pub items_are : AreItems (journal_design).filling items_journal
 items_are = record {
-  body_onwards = λ s from k sound found. ((live_at s from k sound found).0, live_again s from k found, sound);
+  body_onwards = λ s from k sound found. (live_again s from k found, sound);
   tail_onwards = λ s from k sound found. ((live_at s from k sound found).0, live_again s from k found, sound);
   body = λ s k sound found. goes_on (Making (k + 1)) s sound;
   body_ends = λ s from sound none. sound;
@@ -497,7 +497,7 @@ is_design = record {
   tail_spared = tail_spares;
   tail_passes = tail_past;
   releases = tail_ends;
-  seals = seals_to;
+  seals = λ before epoch s n moment whole bare. seals_to before epoch s n moment;
   same_reads = reads_carried;
   dram_drained = drain_carried;
   drained_rest = λ s k. refl;

@@ -4,6 +4,8 @@ use Rattle.thy_base.specs.declared.config.Parameters.{Parameters}
 use Rattle.thy_base.specs.Device.{Device}
 use Rattle.thy_base.specs.Geometry.{memory_blocks}
 use Rattle.thy_view.specs.Origin.{Origin}
+use Rattle.thy_boot.specs.Left.{most_migration}
+use Rattle.thy_boot.proofs.OlderLemmas.{numbered_never_migrate, numbered_count_none}
 use Rattle.thy_boot_laws.proofs.RoomLemmas.{first-room}
 use Rattle.thy_boot_laws.specs.Schemes.{FirstHasRoom, HartIsBarred, NeverMigrates}
 use Rattle.thy_scheme.specs.CheckpointMarks.{CheckpointMarks}
@@ -28,8 +30,8 @@ lawful = lawful_of_parts journal_design are_parts
 
 pub boots_are_short : BootsAreShort
 boots_are_short p =
-    let all : memory_blocks p - 0 ≡ memory_blocks p = omega arith in
-    (ap (λ k. 1 + max (k + slot_blocks p + 4) (1 + slot_blocks p + p.btt)) all, omega arith)
+    let none : most_migration (journal_design.filling.layouts p) p ≡ 0 = numbered_count_none journal_design.filling p (omega arith) in
+    (omega (arith, none), omega arith)
 
 pub epochs_are_short : EpochsAreShort
 epochs_are_short p = omega arith
@@ -42,7 +44,7 @@ pub hart_is_barred : HartIsBarred journal_scheme
 hart_is_barred m = always (is_under_way m.scheme.engine.stage)
 
 pub never_migrates : NeverMigrates journal_scheme
-never_migrates s = refl
+never_migrates o s n boots = numbered_never_migrate journal_design.filling o boots.images n s.boot s.control (λ p. omega arith) boots.sound
 
 -- with nothing stored and nothing under way all entries are free
 rests_idle : (o : Origin) (k : CheckpointMarks) (s : Composed State) (n : Device) → IsSound journal_design o k s n → s.storeless ≡ true

@@ -94,7 +94,7 @@ module _ {C : Type 0} (D : DesignOf C) (w : AreParts D) where
     drains = λ some. drained-stays o s n boots;
     settled = λ m found current.
         found_is_settled F o boots.images n s.boot s.control m boots.sound boots.going
-        (sym (ap (λ (v : View). v.done) (view-is o s n boots)) ∙ found);
+        (sym (ap (λ (v : View). v.done) (view-is o s n boots)) ∙ found) current;
   }
 
   pub boot_is_sound : BootIsSound (scheme_of D)

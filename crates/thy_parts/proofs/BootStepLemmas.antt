@@ -21,7 +21,7 @@ use Rattle.thy_engine.specs.Items.{Resting, phase_committed}
 use Rattle.thy_layout.proofs.SlotLemmas.{fits_cpu}
 use Rattle.thy_view.specs.declared.boot_step.BootStep.{BootStep}
 use Rattle.thy_view.specs.declared.view.View.{View}
-use Rattle.thy_view.specs.Action.{Action, Acts, doubt_after_fault}
+use Rattle.thy_view.specs.Action.{Action, ActsBy, doubt_after_fault}
 use Rattle.thy_view.specs.Booting.{boot_did}
 use Rattle.thy_view.specs.CoreStep.{BootsTo, CoreStep}
 use Rattle.thy_view.specs.Dram.{ActsOnDram}
@@ -30,14 +30,14 @@ use Rattle.thy_view.specs.Safe.{ceiling, Safe}
 use Rattle.thy_protocol.specs.Keeps.{Keeps}
 use Rattle.thy_protocol.specs.Moves.{IsKeeping}
 use Rattle.thy_boot.specs.declared.stage.Stage.{Stage}
-use Rattle.thy_boot.specs.declared.stage.Stage.TheVariants.{Reads, Loads as Loading, Over}
+use Rattle.thy_boot.specs.declared.stage.Stage.TheVariants.{Reads, Loads as Loading, Migrates, Over}
 use Rattle.thy_boot.specs.declared.stage.ReadStage.TheVariants.{Unread, Header as ReadsHeader, Slot as ReadsSlot, Fills, Refusing}
 use Rattle.thy_boot.specs.declared.stage.End.TheVariants.{Restored, Loaded}
 use Rattle.thy_boot.specs.Boot.{Booting, IsBoot, slot_read, answer_at, answer_of}
 use Rattle.thy_boot.specs.Laws.{IsGoing, IsMoved, failed_answer}
 use Rattle.thy_boot.specs.Left.{boot_left}
 use Rattle.thy_boot.specs.Recovers.{IsRestored}
-use Rattle.thy_boot.specs.Shows.{seen_at}
+use Rattle.thy_boot.specs.Shows.{migrates_at, seen_at}
 use Rattle.thy_boot.specs.Sound.{BootImages, layout_for, first_of, start_mark, standing_in_boot, images_after, IsRecovering, IsSoundAt, IsLoaded as IsLoadedBoot}
 use Rattle.thy_boot.specs.Steps.{CanStep, Steps, action_of, Fails, TakesStep}
 use Rattle.thy_boot.proofs.ActLemmas.{steps_act, found_stays, steps_fill, failures_act, steps_come_nearer}
@@ -110,7 +110,7 @@ module _ {C : Type 0} (D : DesignOf C) (w : AreParts D) where
     read : has_read_at d.stage ≡ true
     read = fewer_has_read F w.design.fills b d d.stage same nearer
 
-    acts : Acts (boot_did (answer_of F d)) n new
+    acts : ActsBy (migrates_at b.stage) (boot_did (answer_of F d)) n new
     acts = steps_act F w.design.fills o.start n b s.control new d e steps
 
     up : new.down ≡ false
@@ -133,6 +133,15 @@ module _ {C : Type 0} (D : DesignOf C) (w : AreParts D) where
       sealed_storeless = boots.unused.sealed_storeless;
     }
     unused (Loading issue) going = record {
+      sound = state;
+      control = moved.sound.same_p;
+      engine = boots.unused.engine;
+      regs = boots.unused.regs;
+      idle = boots.unused.idle;
+      room = room;
+      sealed_storeless = boots.unused.sealed_storeless;
+    }
+    unused (Migrates step) going = record {
       sound = state;
       control = moved.sound.same_p;
       engine = boots.unused.engine;
@@ -261,6 +270,7 @@ module _ {C : Type 0} (D : DesignOf C) (w : AreParts D) where
     answers-at (Reads (Fills k)) is shows = goes-on (Reads (Fills k)) is tt shows.1
     answers-at (Reads (Refusing bad)) is shows = absurd (never bad is)
     answers-at (Loading issue) is shows = goes-on (Loading issue) is tt shows.1
+    answers-at (Migrates step) is shows = goes-on (Migrates step) is tt shows.1
     answers-at (Over Restored) is shows = restarted is
     answers-at (Over Loaded) is shows = loaded is
 
@@ -273,7 +283,7 @@ module _ {C : Type 0} (D : DesignOf C) (w : AreParts D) where
       nearer = nearer;
       read = read;
       still = λ m found current.
-          found_stays F w.design.fills o g.kept m n b s.control new d e (sym (ap (λ (x : View). x.done) before) ∙ found) steps;
+          found_stays F w.design.fills o g.kept m n b s.control new d e (sym (ap (λ (x : View). x.done) before) ∙ found) current steps;
     }
 
   -- ---- one that failed
@@ -297,7 +307,7 @@ module _ {C : Type 0} (D : DesignOf C) (w : AreParts D) where
           safe = subst (λ (x : View). Safe (reading F.layouts) o x.done (doubt_after_fault action x) new) (sym (view-is D w o s n boots)) safe;
           still = λ m found current.
               found_fails_unwritten F w.design.fills o boots.images.kept m s.boot s.control n new s.boot.stage
-              (sym (ap (λ (x : View). x.done) (view-is D w o s n boots)) ∙ found) fails;
+              (sym (ap (λ (x : View). x.done) (view-is D w o s n boots)) ∙ found) current fails;
         }
 
   -- ---- by the boot's result

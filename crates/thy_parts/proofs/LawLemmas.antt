@@ -12,7 +12,7 @@ pub items_are_steps : {C : Type 0} (D : DesignOf C) → IsDesign D → ItemsAreS
 items_are_steps D w o k s n stands on = (engines D w o k s n stands on, λ new failed framed. engine-fails D w o k s n stands on new failed framed)
 
 pub seals_keep : {C : Type 0} (D : DesignOf C) → IsDesign D → SealsKeep D
-seals_keep D w o k cpu epoch s n stands idle = seals D w o k cpu epoch s n stands idle
+seals_keep D w o k cpu epoch s n stands idle whole bare = seals D w o k cpu epoch s n stands idle whole bare
 
 pub drains_keep : {C : Type 0} (D : DesignOf C) → AreParts D → DrainsKeep D
 drains_keep D w o s n some = (

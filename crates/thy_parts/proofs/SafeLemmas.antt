@@ -264,7 +264,7 @@ module _ {C : Type 0} (D : DesignOf C) (w : IsDesign D) (o : Origin) (k : Checkp
       let passed = w.body_passes e.epoch c n from j first next in
       let on = w.items.body_onwards c from j first.stands next in
       not_looked D w o k s n h (I.body_place e.epoch c j)
-      (w.body_spared e.epoch c n j g.before passed.moment on.1 (passed.keeps g.before (told_at D w o k s n h (Body from) is)))
+      (w.body_spared e.epoch c n j g.before passed.moment on.0 (passed.keeps g.before (told_at D w o k s n h (Body from) is)))
 
   tail_alone : (from : ℕ) (x : Option ℕ) → s.engine.stage ≡ Tail from → I.tail_next c from ≡ x
       → LeavesAlone (1 ∷ looked_by l g.before) (action_of F I e (tail_or_release x) c n)

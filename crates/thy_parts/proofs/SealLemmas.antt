@@ -36,7 +36,8 @@ idle_stage Confirm h = cc
 idle_stage (Tail from) h = cc
 
 module _ {C : Type 0} (D : DesignOf C) (w : IsDesign D) (o : Origin) (k : CheckpointMarks) (cpu : CpuState) (epoch : ℕ) (m : Mark) (s : Composed C) (n : Device)
-    (h : IsSound D o k s n) (idle : is_under_way s.engine.stage ≡ false) (t : IsNext D o k cpu epoch m s n) where
+    (h : IsSound D o k s n) (idle : is_under_way s.engine.stage ≡ false)
+    (whole : D.parts.pages.promoting s.control ≡ false) (bare : D.parts.pages.overlaid s.control ≡ false) (t : IsNext D o k cpu epoch m s n) where
   abbrev c : C
   c = s.control
 
@@ -50,7 +51,7 @@ module _ {C : Type 0} (D : DesignOf C) (w : IsDesign D) (o : Origin) (k : Checkp
   moment = moment_at D w o k s n h Idle nothing
 
   to : SealsTo D s.engine.epoch epoch c (D.parts.seal c) n
-  to = w.seals s.engine.epoch epoch c n moment
+  to = w.seals s.engine.epoch epoch c n moment whole bare
 
   -- one image is kept, and no mark is sealed
   keeping_idle : IsKeeping o (layout_for D o) (standing n (Kept g.before) g.kept None)
@@ -108,4 +109,4 @@ module _ {C : Type 0} (D : DesignOf C) (w : IsDesign D) (o : Origin) (k : Checkp
   }
 
 pub seal_keeps_sound : {C : Type 0} (D : DesignOf C) → IsDesign D → SealKeepsSound D
-seal_keeps_sound D w o k cpu epoch m s n h idle t = sealed_sound D w o k cpu epoch m s n h idle t
+seal_keeps_sound D w o k cpu epoch m s n h idle whole bare t = sealed_sound D w o k cpu epoch m s n h idle whole bare t

@@ -214,8 +214,8 @@ module _ {C : Type 0} (D : DesignOf C) (w : IsDesign D) (o : Origin) (k : Checkp
       let first = moment_at (Body from) is in
       let passed = w.body_passes e.epoch c n from j first next in
       let on = w.items.body_onwards c from j first.stands next in
-      let wrote = w.body_carries e.epoch c n j passed.moment on.1 in
-      let free = w.body_spared e.epoch c n j g.before passed.moment on.1 (passed.keeps g.before (told_at (Body from) is)) in
+      let wrote = w.body_carries e.epoch c n j passed.moment on.0 in
+      let free = w.body_spared e.epoch c n j g.before passed.moment on.0 (passed.keeps g.before (told_at (Body from) is)) in
       goes (Body (j + 1)) (I.body_after c j) m
       (from_stage (Body from) (Making (j + 1)) (I.body_after c j) m is
       (Carries-both D e.epoch (Making from) (Making j) (Making (j + 1)) c c (I.body_after c j) n n m passed wrote))

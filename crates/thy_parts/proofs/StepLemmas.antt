@@ -117,7 +117,7 @@ module _ {C : Type 0} (D : DesignOf C) (w : IsDesign D) (o : Origin) (k : Checkp
   passed from j is next = w.body_passes e.epoch c n from j (moment_at D w o k s n sound (Body from) is) next
 
   again : (from j : ℕ) → e.stage ≡ Body from → I.body_next c from ≡ Some j → I.body_next c j ≡ Some j
-  again from j is next = (w.items.body_onwards c from j (moment_at D w o k s n sound (Body from) is).stands next).1
+  again from j is next = (w.items.body_onwards c from j (moment_at D w o k s n sound (Body from) is).stands next).0
 
   body_free : (from j : ℕ) → e.stage ≡ Body from → I.body_next c from ≡ Some j → IsSpared D c g.before (I.body_place e.epoch c j)
   body_free from j is next =
@@ -380,14 +380,16 @@ module _ {C : Type 0} (D : DesignOf C) (w : IsDesign D) (o : Origin) (k : Checkp
 -- ---- a seal
 
 pub seals : {C : Type 0} (D : DesignOf C) → IsDesign D → (o : Origin) (k : CheckpointMarks) (cpu : CpuState) (epoch : ℕ) (s : Composed C) (n : Device)
-    → Stands (scheme_of D) o k s n → is_under_way s.engine.stage ≡ false → Seals (scheme_of D) o k cpu epoch s n (sealed D cpu epoch s)
-seals D w o k cpu epoch s n stands idle =
+    → Stands (scheme_of D) o k s n → is_under_way s.engine.stage ≡ false
+    → D.parts.pages.promoting s.control ≡ false → D.parts.pages.overlaid s.control ≡ false
+    → Seals (scheme_of D) o k cpu epoch s n (sealed D cpu epoch s)
+seals D w o k cpu epoch s n stands idle whole bare =
     let nothing = idle_stage s.engine.stage idle in
     let first : IsMoment D Resting s.engine.epoch s.control n = moment_at D w o k s n stands.sound Idle nothing in
-    let to = w.seals s.engine.epoch epoch s.control n first in
+    let to = w.seals s.engine.epoch epoch s.control n first whole bare in
     let held = moment_held D s.control n w Resting s.engine.epoch first stands.up in
     record {
-      sound = λ m t. seal_keeps_sound D w o k cpu epoch m s n stands.sound idle (record {
+      sound = λ m t. seal_keeps_sound D w o k cpu epoch m s n stands.sound idle whole bare (record {
         unsealed = t.unsealed;
         unwritten = t.unwritten;
         next = t.next;

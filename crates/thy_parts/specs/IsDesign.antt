@@ -95,7 +95,9 @@ pub record IsDesign {C : Type 0} (D : DesignOf C) : Type 0 where
       → Carries D epoch (Applying from) c n Resting (D.items.released c) n
   -- ---- the seal, and devices
 
-  pub seals : (before epoch : ℕ) (c : C) (n : Device) → IsMoment D Resting before c n → SealsTo D before epoch c (D.parts.seal c) n
+  -- with nothing to promote or to merge
+  pub seals : (before epoch : ℕ) (c : C) (n : Device) → IsMoment D Resting before c n
+      → D.parts.pages.promoting c ≡ false → D.parts.pages.overlaid c ≡ false → SealsTo D before epoch c (D.parts.seal c) n
   -- over a device that gives the same to every read, and once a write of the DRAM landed, everything is the same
   pub same_reads : (phase : Phase) (epoch : ℕ) (c : C) (n m : Device) → IsMoment D phase epoch c n → ReadsSame n m
       → Carries D epoch phase c n phase c m

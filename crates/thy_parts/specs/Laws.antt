@@ -93,7 +93,8 @@ pub record IsNext {C : Type 0} (D : DesignOf C) (o : Origin) (k : CheckpointMark
 abbrev pub SealKeepsSound : {C : Type 0} → DesignOf C → Type 0
 SealKeepsSound {C} D =
     (o : Origin) (k : CheckpointMarks) (cpu : CpuState) (epoch : ℕ) (m : Mark) (s : Composed C) (n : Device)
-    → IsSound D o k s n → is_under_way s.engine.stage ≡ false → IsNext D o k cpu epoch m s n
+    → IsSound D o k s n → is_under_way s.engine.stage ≡ false
+    → D.parts.pages.promoting s.control ≡ false → D.parts.pages.overlaid s.control ≡ false → IsNext D o k cpu epoch m s n
     → IsSound D o (record k { sealed = Some m }) (sealed D cpu epoch s) n
 
 -- ---- what each call promises
@@ -111,7 +112,9 @@ ItemsAreSteps {C} D =
 abbrev pub SealsKeep : {C : Type 0} → DesignOf C → Type 0
 SealsKeep {C} D =
     (o : Origin) (k : CheckpointMarks) (cpu : CpuState) (epoch : ℕ) (s : Composed C) (n : Device)
-    → Stands (scheme_of D) o k s n → is_under_way s.engine.stage ≡ false → Seals (scheme_of D) o k cpu epoch s n (sealed D cpu epoch s)
+    → Stands (scheme_of D) o k s n → is_under_way s.engine.stage ≡ false
+    → D.parts.pages.promoting s.control ≡ false → D.parts.pages.overlaid s.control ≡ false
+    → Seals (scheme_of D) o k cpu epoch s n (sealed D cpu epoch s)
 
 -- with another controller
 abbrev pub with_control : {C : Type 0} → C → Composed C → Composed C

@@ -1,12 +1,12 @@
 -- Part of the claim.
 -- What is seen of a scheme that is made of parts.
-use Rattle.std.specs.Prelude.{false}
 use Rattle.thy_layout.specs.Layout.{reading}
 use Rattle.thy_boot.specs.declared.stage.Stage.TheVariants.{Reads}
 use Rattle.thy_boot.specs.declared.stage.ReadStage.TheVariants.{Unread}
 use Rattle.thy_boot.specs.Boot.{new_boot}
 use Rattle.thy_boot.specs.Filling.{layout_at}
 use Rattle.thy_boot.specs.Left.{boot_left}
+use Rattle.thy_boot.specs.Shows.{migrates_at}
 use Rattle.thy_boot_laws.specs.Seen.{view_at, has_read_at}
 use Rattle.thy_scheme.specs.Scheme.{SchemeOf}
 use Rattle.thy_engine.specs.Cycles.{cycles_left, most_cycles}
@@ -41,7 +41,7 @@ scheme_of D = record {
   boots = Boots D;
   boot_view = λ o s n. view_at (reading D.filling.layouts) o s.boot.stage n;
   has_read = λ s. has_read_at s.boot.stage;
-  migrates = λ s. false;
+  migrates = λ s. migrates_at s.boot.stage;
   boot_left = λ s. boot_left D.filling s.boot s.boot.stage;
   engine_left = λ s. cycles_left D.filling D.items s.engine s.control;
   merges_left = λ s. D.parts.pages.merges_left s.control;

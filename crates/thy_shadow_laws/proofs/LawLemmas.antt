@@ -4,6 +4,8 @@ use Rattle.thy_base.specs.declared.config.Parameters.{Parameters}
 use Rattle.thy_base.specs.Device.{Device}
 use Rattle.thy_base.specs.Geometry.{memory_blocks}
 use Rattle.thy_view.specs.Origin.{Origin}
+use Rattle.thy_boot.specs.Left.{most_migration}
+use Rattle.thy_boot.proofs.OlderLemmas.{numbered_never_migrate, numbered_count_none}
 use Rattle.thy_boot_laws.proofs.RoomLemmas.{first-room}
 use Rattle.thy_boot_laws.specs.Schemes.{FirstHasRoom, HartIsBarred, NeverMigrates}
 use Rattle.thy_scheme.specs.CheckpointMarks.{CheckpointMarks}
@@ -26,11 +28,10 @@ use Rattle.thy_shadow_laws.proofs.PartsLemmas.{are_parts}
 pub lawful : IsLawful shadow_scheme
 lawful = lawful_of_parts shadow_design are_parts
 
-loads_most : (memory slot : ℕ) → 1 + max (memory - 0 + slot + 4) (1 + slot + 0) ≡ 1 + (memory + slot + 4)
-loads_most memory slot = omega arith
-
 pub boots_are_short : BootsAreShort
-boots_are_short p = (loads_most (memory_blocks p) (slot_blocks p), omega arith)
+boots_are_short p =
+    let none : most_migration (shadow_design.filling.layouts p) p ≡ 0 = numbered_count_none shadow_design.filling p (omega arith) in
+    (omega (arith, none), omega arith)
 
 pub epochs_are_short : EpochsAreShort
 epochs_are_short p = omega arith
@@ -43,7 +44,7 @@ pub hart_is_barred : HartIsBarred shadow_scheme
 hart_is_barred m = always (is_under_way m.scheme.engine.stage)
 
 pub never_migrates : NeverMigrates shadow_scheme
-never_migrates s = refl
+never_migrates o s n boots = numbered_never_migrate shadow_design.filling o boots.images n s.boot s.control (λ p. omega arith) boots.sound
 
 -- with nothing stored and nothing under way all frames are free
 rests_idle : (o : Origin) (k : CheckpointMarks) (s : Composed State) (n : Device) → IsSound shadow_design o k s n → s.storeless ≡ true
