@@ -1,2 +1,3 @@
-mod CallLemmas
-mod CountLemmas
+pub mod ActLemmas
+pub mod ActsLemmas
+pub mod BlockLemmas

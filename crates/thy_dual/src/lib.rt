@@ -1,11 +1,18 @@
-//! The scheme of both tables: controller, checkpoint engine and boot together, as a scheme of checkpoints. `DualScheme`
-//! is a `Scheme`: each call is what the trait promises, and exactly what one call is of each part that takes part
-//! in it.
+//! The scheme of both tables: its controller keeps two checkpoints of all blocks in addition to the work, and its engine
+//! writes the next one into the NVM while the hart runs. A boot writes the checkpoint of an image of version 1 anew in
+//! version 2, before the hart runs.
 //!
-//! Open specs/Calls.antt, which says what each call makes of the scheme, and then src/dual.rt; the other definitions are
-//! those of thy_dual_laws. It depends on that and its dependencies; thy_cli, which names the type, depends on it.
+//! Open src/checkpoints.rt first, then src/parts.rt. It depends on thy_control, thy_recover, thy_compose, thy_dual_laws and
+//! their dependencies; thy_cli, which names the type, depends on it.
 #![tactic(auto)]
 
-mod dual;
+mod checkpoints;
+mod fills;
+mod parts;
 
-pub use dual::DualScheme;
+pub use fills::DualTables;
+use thy_compose::Composed;
+
+/// The scheme of both tables: its controller keeps two checkpoints of all blocks in addition to the work, and its engine
+/// writes the next one into the NVM while the hart runs.
+pub type DualScheme = Composed<DualTables>;

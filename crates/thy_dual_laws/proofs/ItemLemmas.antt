@@ -1,159 +1,215 @@
--- What an item of the engine leaves alone.
-use Rattle.std.proofs.Common.{◌≡◌, ◌≢◌, ℕ, ◌+◌, ◌<◌, ◌≤◌, Bool, true, false, if◌then◌else◌, length, refl, sym, inl, inr, arith, Option, Some, None}
-use Rattle.std.proofs.lemmas.Bool.{both_ways}
-use Rattle.thy_base.specs.declared.block.Block.{Block}
-use Rattle.thy_base.specs.declared.config.Parameters.{Parameters}
+-- Every position that is written leads to the next one.
+use Rattle.std.proofs.Common.{◌≡◌, ◌⊎◌, ℕ, ◌+◌, ◌*◌, ◌≤◌, nat_lt, Bool, true, false, if◌then◌else◌, [], replicate, Option, Some, None, refl, sym, ◌∙◌, ap, subst, inl, inr, arith}
+use Rattle.std.proofs.lemmas.List.{length-replicate}
+use Rattle.thy_base.specs.Device.{Device, zero_block}
+use Rattle.thy_base.specs.Store.{page_of}
 use Rattle.thy_places.specs.declared.place.Place.{Place}
-use Rattle.thy_places.specs.declared.place.Place.TheVariants.{Home, AlternateBlock, AlternatePage, Buffer, Frame}
-use Rattle.thy_base.specs.Device.{Device, newest, written_to, settled}
-use Rattle.thy_places.specs.Places.{in_dram, number_of}
-use Rattle.thy_base.proofs.DeviceLemmas.{newest-written_to_other, newest-settled, length-written_to, length-settled, queue-written_to}
-use Rattle.thy_dram.specs.Contents.{written}
-use Rattle.thy_place.specs.Devices.{Devices, devices_of, read_at, written_at}
+use Rattle.thy_places.specs.Places.{in_dram, number_of, image_blocks}
+use Rattle.thy_dram.specs.Contents.{Contents, written}
+use Rattle.thy_place.specs.Devices.{devices_of}
+use Rattle.thy_table.specs.Listing.{IsListing, entry_at, lists}
+use Rattle.thy_table.proofs.ListingLaws.{IsListing-set, place_of-lists}
+use Rattle.thy_table.specs.PageEntry.{page_blocks}
+use Rattle.thy_cell.specs.declared.cell.Cell.{Cell}
 use Rattle.thy_cell.specs.Cells.{seat_of, frame_at, target, last}
-use Rattle.thy_layout.specs.Commit.{commit_of}
+use Rattle.thy_cell.specs.Checkpoint.{page_issued}
+use Rattle.thy_cell.specs.Rules.{after_copy}
+use Rattle.thy_layout.specs.declared.engine_step.EngineStep.TheVariants.{Copied, PageBlock}
 use Rattle.thy_control.specs.Commit.{committed_state}
-use Rattle.thy_control.specs.Copies.{next_copy, block_listed, copied, devices_copied}
-use Rattle.thy_control.specs.Pages.{next_page, block_to_write, issued, devices_issued}
-use Rattle.thy_control.specs.State.{State, cell_of, reads}
-use Rattle.thy_view.specs.Dram.{ActsOnDram, WritesNvm}
-use Rattle.thy_commit.specs.declared.stage.CheckpointStage.{CheckpointStage}
-use Rattle.thy_commit.specs.declared.stage.CheckpointStage.TheVariants.{Nothing, Copies, Pages, Slot, Settle, Commit, Confirm}
-use Rattle.thy_commit.specs.Items.{Item, NoItem, CopyItem, PageItem, SlotItem, SettleItem, CommitItem, ConfirmItem, item, answer, copy_or, page_or_slot, page_item}
-use Rattle.thy_commit.specs.Progress.{Progress, slot_number, slot_block, state_after, device_after}
-use Rattle.thy_commit.proofs.ActionLemmas.{written-nvm, target-in_nvm}
-use Rattle.thy_scheme.specs.Calls.{writes_block}
-use Rattle.thy_dual_laws.specs.Sound.{is_confirming}
+use Rattle.thy_control.specs.Copies.{next_copy, copies_left, block_listed, devices_copied, copied, after_next_copy}
+use Rattle.thy_control.specs.Frees.{HasNoWork}
+use Rattle.thy_control.specs.Holding.{promoted}
+use Rattle.thy_control.specs.Keys.{block_key, page_key}
+use Rattle.thy_control.specs.Positions.{position_by}
+use Rattle.thy_control.specs.Pages.{next_page, writes_left, block_to_write, devices_issued, issued, after_next_write}
+use Rattle.thy_control.specs.State.{State, AreSoundTables, IsSized, cell_of, reads}
+use Rattle.thy_control.specs.Stays.{AreCopied}
+use Rattle.thy_control.proofs.CellLemmas.{block-cell_of, page-cell_of}
+use Rattle.thy_control.proofs.CommitLemmas.{AreSoundTables-committed}
+use Rattle.thy_control.proofs.CopyLemmas.{IsNext, IsNext-entry, listed-pending, AreSoundTables-copied, copies_left-next}
+use Rattle.thy_control.proofs.CountLemmas.{promoted-set}
+use Rattle.thy_control.proofs.IdleLemmas.{HasNoWork-committed}
+use Rattle.thy_control.proofs.IssueLemmas.{IsDue, IsDue-entry, listed-busy, AreSoundTables-issued, writes_left-next}
+use Rattle.thy_control.proofs.LeftLemmas.{AreCopied-none}
+use Rattle.thy_recover.specs.Filling.{filling_dual}
+use Rattle.thy_engine.specs.Items.{AreItems, GoesTo, Resting}
+use Rattle.thy_dual_laws.specs.Design.{is_promoting, written_by, with_copied, with_issued, StandsAt, StandsMade, items_dual, IsButCopied}
+use Rattle.thy_dual_laws.proofs.FreeLemmas.{but-copied, no_work-copied}
+use Rattle.thy_dual_laws.proofs.HeldLemmas.{written-dram, promoted-committed, target-in_nvm}
+use Rattle.thy_dual_laws.proofs.LeftLemmas.{copies-few, writes-few, writes-copied}
+use Rattle.thy_dual_laws.proofs.RuleLemmas.{page_write_keeps, page_write_keeps_others, commit_keeps_sound}
 
--- ---- one write
+-- ---- the controller after a position, whatever the NVM
 
--- a write leaves the room of the DRAM's queue, as many blocks in the NVM, that as up as it was, its header, and one
--- write more in both queues at most; one of the DRAM leaves the NVM alone
-pub record IsWrite (old new : Devices) : Type 0 where
-  pub dram : ActsOnDram old.nvm new.nvm old.dram new.dram
-  pub room : new.dram.room ≡ old.dram.room
-  pub as_long : length new.nvm.image ≡ length old.nvm.image
-  pub down : new.nvm.down ≡ old.nvm.down
-  pub header : 0 < length old.nvm.image → newest new.nvm 0 ≡ newest old.nvm 0
-  pub queue : length new.nvm.queue + new.dram.queued ≤ length old.nvm.queue + old.dram.queued + 1
-
-pub IsWrite-nvm : (n : Device) (at : ℕ) (block : Block) (d : Devices) → d.nvm ≡ n → at ≢ 0 → IsWrite d (record d { nvm = written_to d.nvm at block })
-IsWrite-nvm n at block d is ne = record {
-  dram = inl refl;
-  room = refl;
-  as_long = length-written_to d.nvm at block;
-  down = refl;
-  header = λ l. newest-written_to_other d.nvm at block 0 (λ e. ne (sym e)) l;
-  queue = omega (arith, queue-written_to d.nvm at block);
+-- an NVM of its size
+abbrev pub some_device : State → Device
+some_device s = record {
+  image = replicate (image_blocks s.p) zero_block;
+  queue = [];
+  left = [];
+  picks = [];
+  queue_room = 0;
+  left_room = 0;
+  down = false;
+  faults = 0;
+  fits = 0;
+  lent = [];
 }
 
-IsWrite-dram : (x : ℕ) (block : Block) (d : Devices) → IsWrite d (record d { dram = written d.dram x block })
-IsWrite-dram x block d = record {
-  dram = inr (record { at = x; block = block; left = refl; nvm = refl });
-  room = refl;
-  as_long = refl;
-  down = refl;
-  header = λ l. refl;
-  queue = omega arith;
-}
+some_sized : (s : State) → IsSized s (some_device s)
+some_sized s = record { nvm = length-replicate (image_blocks s.p) zero_block }
 
--- the places of the NVM are after the header
-behind : (p : Parameters) (x : Place) → in_dram x ≡ false → number_of p x ≢ 0
-behind p (Home b) h e = absurd (omega (arith, e))
-behind p (AlternateBlock i) h e = absurd (omega (arith, e))
-behind p (AlternatePage i k) h e = absurd (omega (arith, e))
-behind p (Buffer i) h e = cc
-behind p (Frame i k) h e = cc
-
-pub IsWrite-at : (p : Parameters) (x : Place) (block : Block) (d : Devices) → IsWrite d (written_at p x block d)
-IsWrite-at p x block d = by_side (in_dram x) refl where
-  by_side : (side : Bool) → in_dram x ≡ side
-      → IsWrite d (if side then record d { dram = written d.dram (number_of p x) block } else record d { nvm = written_to d.nvm (number_of p x) block })
-  by_side true h = IsWrite-dram (number_of p x) block d
-  by_side false h = IsWrite-nvm d.nvm (number_of p x) block d refl (behind p x h)
-
-IsWrite-none : (d : Devices) → IsWrite d d
-IsWrite-none d = record { dram = inl refl; room = refl; as_long = refl; down = refl; header = λ l. refl; queue = omega arith }
-
-IsWrite-settled : (n : Device) (s : State) → IsWrite (devices_of n s.dram) (devices_of (settled n) s.dram)
-IsWrite-settled n s = record {
-  dram = inl refl;
-  room = refl;
-  as_long = length-settled n;
-  down = refl;
-  header = λ l. newest-settled n 0 l;
-  queue = omega arith;
-}
-
--- every item is one write at most
-pub IsWrite-after : (e : Progress) (i : Item) (s : State) (n : Device) → IsWrite (devices_of n s.dram) (devices_of (device_after e i s n) (state_after i s n).dram)
-unfolding copied devices_copied issued devices_issued committed_state
-IsWrite-after e NoItem s n = IsWrite-none (devices_of n s.dram)
-IsWrite-after e (CopyItem i) s n =
-    let b : ℕ = block_listed i s in
-    IsWrite-at s.p (target (cell_of s b)) (read_at s.p (devices_of n s.dram) (last (cell_of s b))) (devices_of n s.dram)
-IsWrite-after e (PageItem j) s n =
-    let b : ℕ = block_to_write j s in
-    IsWrite-at s.p (target (cell_of s b)) (read_at s.p (devices_of n s.dram) (frame_at (seat_of (cell_of s b)))) (devices_of n s.dram)
-IsWrite-after e (SlotItem k) s n = IsWrite-nvm n (slot_number e k) (slot_block e s k) (devices_of n s.dram) refl (λ h. absurd (omega (arith, h)))
-IsWrite-after e SettleItem s n = IsWrite-settled n s
-IsWrite-after e CommitItem s n = IsWrite-nvm n 1 (commit_of e.epoch) (devices_of n s.dram) refl (λ h. absurd (omega (arith, h)))
-IsWrite-after e ConfirmItem s n = IsWrite-settled n s
-
--- and one that is reported as a block's write is one of the NVM
-pub IsWritten-after : (e : Progress) (i : Item) (s : State) (n : Device) → writes_block (answer e.p e.epoch i) ≡ true → WritesNvm n (device_after e i s n)
-unfolding devices_copied devices_issued
-IsWritten-after e NoItem s n h = absurd (both_ways false refl h)
-IsWritten-after e (CopyItem i) s n h =
-    let b : ℕ = block_listed i s in
+pub copied_is : (b : ℕ) (s : State) (m : Device) → copied b s m ≡ with_copied b s
+unfolding copied devices_copied
+copied_is b s m =
     let y : Place = target (cell_of s b) in
-    let v : Block = reads s n (last (cell_of s b)) in
-    record { at = number_of s.p y; block = v; left = written-nvm (in_dram y) (number_of s.p y) v (devices_of n s.dram) (target-in_nvm s b) }
-IsWritten-after e (PageItem j) s n h =
-    let b : ℕ = block_to_write j s in
+    ap (λ (d : Contents). record (with_copied b s) { dram = d })
+    (written-dram (in_dram y) (number_of s.p y) (reads s m (last (cell_of s b))) (devices_of m s.dram) (target-in_nvm s b))
+
+pub issued_is : (b : ℕ) (s : State) (m : Device) → issued b s m ≡ with_issued b s
+unfolding issued devices_issued
+issued_is b s m =
     let y : Place = target (cell_of s b) in
-    let v : Block = reads s n (frame_at (seat_of (cell_of s b))) in
-    record { at = number_of s.p y; block = v; left = written-nvm (in_dram y) (number_of s.p y) v (devices_of n s.dram) (target-in_nvm s b) }
-IsWritten-after e (SlotItem k) s n h = record { at = slot_number e k; block = slot_block e s k; left = refl }
-IsWritten-after e SettleItem s n h = absurd (both_ways false refl h)
-IsWritten-after e CommitItem s n h = absurd (both_ways false refl h)
-IsWritten-after e ConfirmItem s n h = absurd (both_ways false refl h)
+    ap (λ (d : Contents). record (with_issued b s) { dram = d })
+    (written-dram (in_dram y) (number_of s.p y) (reads s m (frame_at (seat_of (cell_of s b)))) (devices_of m s.dram) (target-in_nvm s b))
 
--- ---- the engine
+-- its tables are sound
+pub sound_copied : (s : State) → AreSoundTables s → (b : ℕ) → IsNext s b → AreSoundTables (with_copied b s)
+sound_copied s t b next =
+    let c : Cell = cell_of s b in
+    let listed = listed-pending b s next.pending in
+    let was : lists block_key (after_copy c).entry.block (entry_at s.btt c.i) ≡ true =
+    ap (λ (k : ℕ). lists block_key k (entry_at s.btt c.i)) (block-cell_of s b) ∙ place_of-lists block_key s.btt b c.i listed in
+    let once : IsListing block_key (with_copied b s).btt = IsListing-set block_key s.btt t.btt_once c.i (after_copy c).entry was in
+    let m : Device = some_device s in
+    let is : copied b s m ≡ with_copied b s = copied_is b s m in
+    subst (λ (x : State). AreSoundTables x) is
+    (AreSoundTables-copied b s next.pending m t (some_sized s) next.inside (subst (λ (x : State). IsListing block_key x.btt) (sym is) once))
 
--- an item reports what was next, except for copies, pages and the slot
-abbrev pub back : Item → Option CheckpointStage
-back NoItem = Some Nothing
-back (CopyItem i) = None
-back (PageItem j) = None
-back (SlotItem k) = None
-back SettleItem = Some Settle
-back CommitItem = Some Commit
-back ConfirmItem = Some Confirm
+pub sound_issued : (s : State) → AreSoundTables s → (b : ℕ) → IsDue s b → AreSoundTables (with_issued b s)
+sound_issued s t b due =
+    let c : Cell = cell_of s b in
+    let listed = listed-busy b s due.busy in
+    let was : lists page_key (page_issued c.page).page (entry_at s.ptt c.j) ≡ true =
+    ap (λ (k : ℕ). lists page_key k (entry_at s.ptt c.j)) (page-cell_of s b) ∙ place_of-lists page_key s.ptt (page_of b) c.j listed in
+    let once : IsListing page_key (with_issued b s).ptt = IsListing-set page_key s.ptt t.ptt_once c.j (page_issued c.page) was in
+    let m : Device = some_device s in
+    let is : issued b s m ≡ with_issued b s = issued_is b s m in
+    subst (λ (x : State). AreSoundTables x) is
+    (AreSoundTables-issued b s due.busy m t (some_sized s) due.inside due.due page_write_keeps page_write_keeps_others
+    (subst (λ (x : State). IsListing page_key x.ptt) (sym is) once))
 
-back-page : (o : Option ℕ) → back (page_or_slot o) ≡ None
-back-page None = refl
-back-page (Some j) = refl
+-- no block has work that had none
+pub no_work_copied : (s : State) (b : ℕ) → IsNext s b → HasNoWork s → HasNoWork (with_copied b s)
+no_work_copied s b next none =
+    let m : Device = some_device s in
+    no_work-copied s (with_copied b s) (subst (λ (x : State). IsButCopied s x) (copied_is b s m) (but-copied b s m next.pending)) none
 
-back-copy : (o : Option ℕ) (s : State) → back (copy_or o (page_item s)) ≡ None
-back-copy None s = back-page (next_page s)
-back-copy (Some i) s = refl
+-- as many pages are being promoted
+promoted_issued : (s : State) (b : ℕ) → IsDue s b → promoted (with_issued b s).ptt ≡ promoted s.ptt
+promoted_issued s b due = promoted-set s b (page_issued (cell_of s b).page) (listed-busy b s due.busy) refl
 
-pub back-item : (q : CheckpointStage) (s : State) (r : CheckpointStage) → back (item q s) ≡ Some r → q ≡ r
-back-item Nothing s r h = cc
-back-item Copies s r h = let none = back-copy (next_copy s) s in cc
-back-item Pages s r h = let none = back-page (next_page s) in cc
-back-item (Slot k) s r h = cc
-back-item Settle s r h = cc
-back-item Commit s r h = cc
-back-item Confirm s r h = cc
+stands_copied : (s : State) (b : ℕ) → StandsAt true s → IsNext s b → StandsAt true (with_copied b s)
+stands_copied s b at next = record {
+  tables = sound_copied s at.tables b next;
+  way_is = at.way_is;
+  promotes = λ p. no_work_copied s b next (at.promotes p);
+}
 
--- it waits for the last barrier only if that is the item
-pub not-confirming : (q : CheckpointStage) (s : State) → item q s ≢ ConfirmItem → is_confirming q ≡ false
-not-confirming Nothing s h = refl
-not-confirming Copies s h = refl
-not-confirming Pages s h = refl
-not-confirming (Slot k) s h = refl
-not-confirming Settle s h = refl
-not-confirming Commit s h = refl
-not-confirming Confirm s h = absurd (h refl)
+stands_issued : (s : State) (b : ℕ) → StandsAt true s → IsDue s b → StandsAt true (with_issued b s)
+stands_issued s b at due = record {
+  tables = sound_issued s at.tables b due;
+  way_is = at.way_is;
+  promotes = λ p.
+      let before : is_promoting s ≡ true = ap (λ (k : ℕ). nat_lt 0 k) (sym (promoted_issued s b due)) ∙ p in
+      record { no_work = (at.promotes before).no_work };
+}
+
+-- ---- a position
+
+-- of the same geometry, with the same DRAM
+pub record GoesOn (s t : State) : Type 0 where
+  pub same_p : t.p ≡ s.p
+  pub dram : t.dram ≡ s.dram
+
+module _ (s : State) (at : StandsAt true s) where
+  -- the controller after a position is that after a copy, or after the write of a block of a page
+  pub stands_by : (i j : Option ℕ) (k : ℕ) → next_copy s ≡ i → next_page s ≡ j → position_by s i j ≡ Some k → StandsAt true (written_by s i j)
+  stands_by (Some i) j k copy page is = stands_copied s (block_listed i s) at (IsNext-entry s at.tables i copy)
+  stands_by None (Some j) k copy page is = stands_issued s (block_to_write j s) at (IsDue-entry s at.tables j page)
+  stands_by None None k copy page is = cc
+
+  pub same_by : (i j : Option ℕ) → GoesOn s (written_by s i j)
+  same_by (Some i) j = record { same_p = refl; dram = refl }
+  same_by None (Some j) = record { same_p = refl; dram = refl }
+  same_by None None = record { same_p = refl; dram = refl }
+
+  -- if none is next, all is copied and written
+  none_by : (i j : Option ℕ) → next_copy s ≡ i → next_page s ≡ j → position_by s i j ≡ None → AreCopied s
+  none_by (Some i) j copy page is = cc
+  none_by None (Some j) copy page is = cc
+  none_by None None copy page is = AreCopied-none s (record { copies = copy; pages = page })
+
+  -- one is left less
+  pub counts_by : (i j : Option ℕ) (k : ℕ) → next_copy s ≡ i → next_page s ≡ j → position_by s i j ≡ Some k
+      → copies_left (written_by s i j) + writes_left (written_by s i j) + 1 ≡ copies_left s + writes_left s
+  counts_by (Some i) j k copy page is =
+      let m : Device = some_device s in
+      let b : ℕ = block_listed i s in
+      let e : copied b s m ≡ with_copied b s = copied_is b s m in
+      let less : copies_left (after_next_copy (Some i) s m) + 1 ≡ copies_left s = copies_left-next s m at.tables (Some i) copy in
+      omega (arith, less, ap copies_left e, ap writes_left e, writes-copied b s m)
+  counts_by None (Some j) k copy page is =
+      let m : Device = some_device s in
+      let b : ℕ = block_to_write j s in
+      let e : issued b s m ≡ with_issued b s = issued_is b s m in
+      let less : writes_left (after_next_write (Some j) s m) + 1 ≡ writes_left s = writes_left-next s m at.tables (Some j) page in
+      omega (arith, less, ap writes_left e)
+  counts_by None None k copy page is = cc
+
+-- ---- the commit
+
+stands_committed : (s : State) → StandsMade s → StandsAt false (committed_state s)
+unfolding committed_state
+stands_committed s made = record {
+  tables = AreSoundTables-committed s made.at.tables made.at.way_is made.copied commit_keeps_sound;
+  way_is = refl;
+  promotes = λ p.
+      let before : is_promoting s ≡ true = ap (λ (k : ℕ). nat_lt 0 k) (sym (promoted-committed s made.at.tables)) ∙ p in
+      HasNoWork-committed s (made.at.promotes before);
+}
+
+commits_to : (s : State) → StandsMade s → GoesTo filling_dual items_dual Resting s (committed_state s)
+unfolding committed_state
+commits_to s made = record { same_p = refl; dram = refl; stands = stands_committed s made }
+
+-- ---- what is reported, and how many there are
+
+steps_are : (first : Bool) → ((if first then Copied else PageBlock) ≡ Copied) ⊎ ((if first then Copied else PageBlock) ≡ PageBlock)
+steps_are true = inl refl
+steps_are false = inr refl
+
+most_left : (s : State) → AreSoundTables s → copies_left s + writes_left s ≤ s.p.btt + page_blocks * s.p.ptt
+most_left s t = omega (arith, copies-few s t, writes-few s t)
+
+-- ---- all of it
+
+pub items_are : AreItems filling_dual items_dual
+items_are = record {
+  body_onwards = λ s from k at next. (next, at);
+  tail_onwards = λ s from k no next. absurd no;
+  body = λ s k at next.
+      let same = same_by s at (next_copy s) (next_page s) in
+      record { same_p = same.same_p; dram = same.dram; stands = stands_by s at (next_copy s) (next_page s) k refl refl next };
+  body_ends = λ s from at none. record { at = at; copied = none_by s at (next_copy s) (next_page s) refl refl none };
+  commits = commits_to;
+  tail = λ s k no next. absurd no;
+  releases = λ s from no none. absurd no;
+  body_counts = λ s from k at next.
+      let one = counts_by s at (next_copy s) (next_page s) k refl refl next in omega (arith, one);
+  tail_counts = λ s from k no next. absurd no;
+  steps = λ p k. steps_are (nat_lt k p.btt);
+  body_most = λ s from at. most_left s at.tables;
+  tail_most = λ p from. omega arith;
+  tail_follows = λ s from no. absurd no;
+}

@@ -1,5 +1,5 @@
 -- What a merge, a promotion and a drain of the DRAM make of the counts, and of the DRAM's queue.
-use Rattle.std.proofs.Common.{◌≡◌, ℕ, ◌+◌, ◌<◌, ◌≤◌, Bool, true, false, length, is_none, refl, ◌∙◌, ap, inl, inr, arith, Option, Some, None}
+use Rattle.std.proofs.Common.{◌≡◌, ℕ, ◌+◌, ◌<◌, ◌≤◌, Bool, true, false, length, is_none, refl, ap, inl, inr, arith, Option, Some, None}
 use Rattle.std.proofs.lemmas.List.Sums.{sum_by-set}
 use Rattle.thy_base.specs.Device.{Device, block_at}
 use Rattle.thy_places.specs.Places.{number_of}
@@ -21,13 +21,10 @@ use Rattle.thy_control.specs.Merges.{next_merge, dram_merged, merged_block, afte
 use Rattle.thy_control.specs.Promotions.{fills_left, unfilled, block_to_fill, devices_filled, block_filled, after_promotion}
 use Rattle.thy_control.specs.State.{State, AreSoundTables, cell_of}
 use Rattle.thy_control.proofs.FindLemmas.{found_entry, entry_for-some}
-use Rattle.thy_control.proofs.MergeLemmas.{listed-merge, listed_page-merge, IsOverlay, IsOverlay-entry, same_p-merge}
+use Rattle.thy_control.proofs.MergeLemmas.{listed-merge, listed_page-merge, IsOverlay, IsOverlay-entry}
 use Rattle.thy_control.proofs.CountLemmas.{promoted-set}
 use Rattle.thy_view.specs.Dram.{ActsOnDram, WritesDram}
-use Rattle.thy_commit.specs.Items.{is_under_way}
-use Rattle.thy_commit.specs.Progress.{Progress, Fits}
-use Rattle.thy_commit.proofs.HeldLemmas.{unfilled-set}
-use Rattle.thy_commit.proofs.FitLemmas.{past-idle}
+use Rattle.thy_dual_laws.proofs.HeldLemmas.{unfilled-set}
 
 -- ---- a merge
 
@@ -105,13 +102,6 @@ pub way-merged : (s : State) (o : Option ℕ) → (after_merge o s).under_way �
 unfolding merged_block
 way-merged s None = refl
 way-merged s (Some i) = refl
-
-pub Fits-merged : (e : Progress) (s t : State) → Fits e s → is_under_way e.next ≡ false → t ≡ after_merge (next_merge s) s → Fits e t
-Fits-merged e s t fits idle is = record {
-  same_p = ap (λ (x : State). x.p) is ∙ same_p-merge s (next_merge s) ∙ fits.same_p;
-  way = ap (λ (x : State). x.under_way) is ∙ way-merged s (next_merge s) ∙ fits.way;
-  past = past-idle e.next t idle;
-}
 
 -- ---- a promotion
 

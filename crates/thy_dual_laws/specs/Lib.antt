@@ -1,9 +1,6 @@
-pub mod Dual
-pub mod Stays
-pub mod Sound
-pub mod Booted
-pub mod Boots
+pub mod Design
 pub mod Scheme
 pub mod Laws
+pub mod Fitting
 pub mod Bounds
 pub mod Recovery

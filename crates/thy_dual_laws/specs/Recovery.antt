@@ -10,31 +10,35 @@ use Rattle.thy_base.specs.Places.{commit_place}
 use Rattle.thy_places.specs.Places.{slot_blocks, slot_place}
 use Rattle.thy_layout.specs.Commit.{version_of, slot_of_epoch}
 use Rattle.thy_record.specs.Number.{scheme_number}
+use Rattle.thy_control.specs.State.{State}
 use Rattle.thy_view.specs.declared.did.Did.{Did}
 use Rattle.thy_view.specs.declared.did.Stepped.{Stepped}
 use Rattle.thy_view.specs.declared.view.Phase.TheVariants.{Boot}
 use Rattle.thy_view.specs.Action.{Action, WriteAt, Barrier, Acts, ActionFailed}
 use Rattle.thy_view.specs.Kind.{IsStep, CycleFailed}
 use Rattle.thy_view.specs.Origin.{Origin}
+use Rattle.thy_boot.specs.declared.stage.Migration.{Migration}
+use Rattle.thy_boot.specs.declared.stage.Migration.TheVariants.{Confirm}
+use Rattle.thy_boot.specs.declared.stage.Stage.TheVariants.{Migrates}
 use Rattle.thy_boot.specs.Boot.{Booting}
-use Rattle.thy_migrate.specs.declared.migration.Migration.{Migration}
-use Rattle.thy_migrate.specs.declared.migration.Migration.TheVariants.{Confirm}
-use Rattle.thy_migrate.specs.Migrating.{action_of}
+use Rattle.thy_boot.specs.Migrating.{migration_action}
 use Rattle.thy_core_laws.specs.Kind.{kind_over}
 use Rattle.thy_core_laws.specs.Machine.{Machine, view_of}
-use Rattle.thy_dual_laws.specs.Boots.{Boots}
-use Rattle.thy_dual_laws.specs.Dual.{Dual}
+use Rattle.thy_parts.specs.Boots.{Boots}
+use Rattle.thy_parts.specs.Design.{Composed}
+use Rattle.thy_recover.specs.Filling.{filling_dual}
+use Rattle.thy_dual_laws.specs.Design.{dual_design}
 use Rattle.thy_dual_laws.specs.Scheme.{dual_scheme}
 
 -- a step acts as a machine does whose restarts read, and in a boot that found a checkpoint it leaves the NVM as it was
-pub record LeavesNvm (o : Origin) (m : Machine Dual) (n new : Device) (did : Did) : Type 0 where
+pub record LeavesNvm (o : Origin) (m : Machine (Composed State)) (n new : Device) (did : Did) : Type 0 where
   pub acts : Acts did n new
   pub still : (found : Mark)
       → (view_of dual_scheme o m n).phase ≡ Boot → (view_of dual_scheme o m n).done ≡ Some found
       → new ≡ n
 
 -- so does one that failed, which wrote nothing there
-pub record WritesNothing (o : Origin) (m : Machine Dual) (n new : Device) (did : Did) : Type 0 where
+pub record WritesNothing (o : Origin) (m : Machine (Composed State)) (n new : Device) (did : Did) : Type 0 where
   pub failed : ActionFailed did n new
   pub still : (found : Mark)
       → (view_of dual_scheme o m n).phase ≡ Boot → (view_of dual_scheme o m n).done ≡ Some found
@@ -42,13 +46,13 @@ pub record WritesNothing (o : Origin) (m : Machine Dual) (n new : Device) (did :
 
 abbrev pub StepsLeaveNvm : Type 0
 StepsLeaveNvm =
-    (o : Origin) (k : ℕ) (pick : Pick) (m next : Machine Dual) (n new : Device) (r : Stepped)
+    (o : Origin) (k : ℕ) (pick : Pick) (m next : Machine (Composed State)) (n new : Device) (r : Stepped)
     → dual_scheme.migrates m.scheme ≡ false → IsStep (kind_over dual_scheme) o k pick m next n new r
     → LeavesNvm o m n new r.did
 
 abbrev pub FailuresWriteNothing : Type 0
 FailuresWriteNothing =
-    (o : Origin) (pick : Pick) (m : Machine Dual) (n new : Device)
+    (o : Origin) (pick : Pick) (m : Machine (Composed State)) (n new : Device)
     → dual_scheme.migrates m.scheme ≡ false
     → (c : CycleFailed (kind_over dual_scheme) o pick m n new)
     → WritesNothing o m n new c.did
@@ -64,19 +68,19 @@ IsOfMigration p epoch action = ⊥
 -- a boot that migrates has found a checkpoint of version 1, and its action is one of these
 pub record MigratesFound (p : Parameters) (epoch : ℕ) (b : Booting) (at : Migration) : Type 0 where
   pub old : version_of scheme_number b.p b.commit ≡ VersionOne
-  pub own : IsOfMigration p epoch (action_of b at)
+  pub own : IsOfMigration p epoch (migration_action filling_dual b at)
 
 abbrev pub MigrationWrites : Type 0
 MigrationWrites =
-    (o : Origin) (s : Dual) (n : Device) (found : Mark)
-    → Boots o s n → dual_scheme.migrates s ≡ true → (dual_scheme.boot_view o s n).done ≡ Some found
-    → (at : Migration) × (s.boot.migration ≡ Some at)
-    × MigratesFound o.geometry found.epoch s.boot.boot at
+    (o : Origin) (s : Composed State) (n : Device) (found : Mark)
+    → Boots dual_design o s n → dual_scheme.migrates s ≡ true → (dual_scheme.boot_view o s n).done ≡ Some found
+    → (at : Migration) × (s.boot.stage ≡ Migrates at)
+    × MigratesFound o.geometry found.epoch s.boot at
 
 -- A boot over an image whose commit block names version 2 does not migrate it. The one that has just written that block
 -- itself has only its last barrier to come.
 abbrev pub VersionTwoStays : Type 0
 VersionTwoStays =
-    (o : Origin) (s : Dual) (n : Device) → Boots o s n
+    (o : Origin) (s : Composed State) (n : Device) → Boots dual_design o s n
     → version_of scheme_number o.geometry (block_at n.image commit_place) ≡ VersionTwo
-    → (dual_scheme.migrates s ≡ false) ⊎ (s.boot.migration ≡ Some Confirm)
+    → (dual_scheme.migrates s ≡ false) ⊎ (s.boot.stage ≡ Migrates Confirm)

@@ -1,21 +1,45 @@
-//! Laws of the scheme, each the contract of a function that does nothing.
-ghost use Rattle.thy_dual_laws.specs.Booted.{BootedIsSound};
+//! Laws of the scheme of both tables, each the contract of a function that does nothing.
 ghost use Rattle.thy_dual_laws.specs.Bounds.{BootsAreShort, EpochsAreShort};
-ghost use Rattle.thy_boot_laws.specs.Schemes.{BootIsSound, HeldIsUp, PowerFinds, PowerIsNew, RunIsSound, StaysOver};
-ghost use Rattle.thy_boot_laws.specs.Schemes.{ZerosAreNothing};
-ghost use Rattle.thy_dual_laws.specs.Laws.{NothingIsBarred, ReadyIsWhole, StaysKeep};
-ghost use Rattle.thy_dual_laws.specs.Scheme.{dual_scheme};
+ghost use Rattle.thy_dual_laws.specs.Design.{dual_design};
+ghost use Rattle.thy_dual_laws.specs.Fitting.{IdleFits, SealFits, StaysFit};
+ghost use Rattle.thy_dual_laws.specs.Laws.{ItemsCount, NothingIsBarred, ReadyIsWhole, StaysKeep};
 ghost use Rattle.thy_dual_laws.specs.Recovery.{FailuresWriteNothing, MigrationWrites, StepsLeaveNvm, VersionTwoStays};
+ghost use Rattle.thy_dual_laws.specs.Scheme.{dual_scheme};
+ghost use Rattle.thy_engine.specs.Items.{AreItems};
+ghost use Rattle.thy_parts.specs.AreParts.{AreParts};
+ghost use Rattle.thy_parts.specs.IsDesign.{IsDesign};
+ghost use Rattle.thy_parts.specs.Paging.{IsPaging};
+ghost use Rattle.thy_parts.specs.Storing.{IsStoring};
+ghost use Rattle.thy_scheme.specs.Laws.{IsLawful};
 
-/// Loads and stores keep the checkpoints, those that fail too, and bring the engine no more to do.
-pub fn stays_keep_the_checkpoints()
-    ensures { StaysKeep }
+/// Every position leads to the next one, and what is written is one less.
+pub fn the_items_are_lawful()
+    ensures { AreItems dual_design.filling dual_design.items }
 {}
 
-/// After the boot, while the NVM is up, memory is held whole, what a cut may leave is safe, no number is above its maximum,
-/// and writes of the NVM may land.
-pub fn a_run_is_sound()
-    ensures { RunIsSound dual_scheme }
+/// What is written of a checkpoint, in turn, makes it the committed one, and no place of the one that is kept is written.
+pub fn the_checkpoints_are_lawful()
+    ensures { IsDesign dual_design }
+{}
+
+/// A store changes one block, and loads and stores keep both checkpoints, also if they fail.
+pub fn the_stores_are_lawful()
+    ensures { IsStoring dual_design }
+{}
+
+/// A merge and a promotion write one block of the DRAM, and leave what loads give and both checkpoints.
+pub fn the_pages_are_lawful()
+    ensures { IsPaging dual_design }
+{}
+
+/// Both tables are a scheme of lawful parts.
+pub fn both_tables_are_made_of_parts()
+    ensures { AreParts dual_design }
+{}
+
+/// So they are a lawful scheme.
+pub fn both_tables_are_lawful()
+    ensures { IsLawful dual_scheme }
 {}
 
 /// The hart may run during every checkpoint.
@@ -23,32 +47,28 @@ pub fn a_checkpoint_bars_nothing()
     ensures { NothingIsBarred }
 {}
 
-/// At the end of a boot the scheme is sound: the checkpoint that was found or loaded is the committed one, none is under
-/// way, and nothing was stored.
-pub fn where_a_boot_ends_is_sound()
-    ensures { BootedIsSound }
+/// Blocks can be stored only while the NVM is up, and only if no page is being promoted.
+pub fn a_ready_store_is_whole()
+    ensures { ReadyIsWhole }
 {}
 
-/// In the boot, whatever a cut leaves is what is seen: the checkpoint that was found, or what is loaded; writes of
-/// the NVM may land, and before the commit block was read nothing is queued in the DRAM.
-pub fn a_boot_is_sound()
-    ensures { BootIsSound dual_scheme }
+/// Loads and stores keep the checkpoints, those that fail too, and bring the engine no more to do, also while a checkpoint is
+/// under way.
+pub fn stays_keep_the_checkpoints()
+    ensures { StaysKeep }
 {}
 
-/// A scheme whose power has just come on has nothing queued in its DRAM. Over an NVM of a run that has nothing queued
-/// either it boots what the image means; one of zeros means nothing.
-pub fn a_boot_finds_the_image()
-    ensures finds { PowerFinds dual_scheme }
-    ensures new { PowerIsNew dual_scheme }
-    ensures zeros { ZerosAreNothing dual_scheme }
+/// Every item of the engine takes exactly one of the cycles that a checkpoint has left.
+pub fn every_item_takes_one_cycle()
+    ensures { ItemsCount }
 {}
 
-/// As a store of blocks the scheme holds blocks, and is ready, only while the NVM is up, and is ready only if no page
-/// is being promoted. What stays over a call does so if nothing happens, and over one call after another.
-pub fn what_is_held_stays()
-    ensures up { HeldIsUp dual_scheme }
-    ensures ready { ReadyIsWhole }
-    ensures over { StaysOver dual_scheme }
+/// Engine and controller belong together if no checkpoint is under way in either. They do so after a seal with which a
+/// checkpoint begins, and after every call of the controller in between, whether or not it failed: what was done stays so.
+pub fn engine_and_controller_fit()
+    ensures idle { IdleFits }
+    ensures seal { SealFits }
+    ensures stays { StaysFit }
 {}
 
 /// If each number of the configuration is in its range, an epoch of a machine over the scheme spends less than 64 cycles

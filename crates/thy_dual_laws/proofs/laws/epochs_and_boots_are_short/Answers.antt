@@ -1,4 +1,4 @@
-use Rattle.thy_dual_laws.proofs.BoundLemmas.{epochs_are_short, boots_are_short}
+use Rattle.thy_dual_laws.proofs.LawLemmas.{epochs_are_short, boots_are_short}
 use Rattle.thy_dual_laws.proofs.laws.epochs_and_boots_are_short.Goals as goal
 
 pub returns-clause-epochs : goal.returns-clause-epochs

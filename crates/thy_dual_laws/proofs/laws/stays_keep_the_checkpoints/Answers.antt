@@ -1,4 +1,4 @@
-use Rattle.thy_dual_laws.proofs.StaysLemmas.{stays_keep}
+use Rattle.thy_dual_laws.proofs.LawLemmas.{stays_keep}
 use Rattle.thy_dual_laws.proofs.laws.stays_keep_the_checkpoints.Goals as goal
 
 pub returns : goal.returns

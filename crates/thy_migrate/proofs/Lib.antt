@@ -1,3 +1,0 @@
-pub mod StateLemmas
-pub mod MigrationLemmas
-pub mod NearerLemmas
