@@ -2,10 +2,11 @@
 //! after each commit and each restart the engine makes three barriers before the hart runs. It is the second example
 //! of a scheme, of another kind than the first; no program runs on it, only tests.
 //!
-//! Open src/waiting.rt first, then specs/Calls.antt. It stands on thy_dual, thy_waiting_laws, which has its laws, and on
-//! what those stand on; on it stands thy_machine_tests.
+//! Open src/waiting.rt first, then specs/Calls.antt and src/scheme.rt. It depends on thy_dual, on thy_waiting_laws, which has
+//! its laws, and on their dependencies; thy_machine_tests depends on it.
 #![tactic(auto)]
 
+mod scheme;
 mod waiting;
 
 pub use waiting::WaitingScheme;

@@ -1,29 +1,25 @@
-//! The scheme.
-ghost use Rattle.std.specs.Prelude.{◌≡◌, ◌-◌, ◌&&◌, ◌<◌, true, false, length, IfOk, OnOk, OnErr};
-ghost use Rattle.thy_base.specs.declared.config.Parameters.{Parameters};
-ghost use Rattle.thy_base.specs.Device.{Device, HasFailed, IsFramed, CountsFault, block_at, settled};
-ghost use Rattle.thy_places.specs.Places.{image_blocks};
-ghost use Rattle.thy_base.specs.Store.{IsKeptByLoad};
+//! The scheme, and what its calls make of it.
+ghost use Rattle.std.specs.Prelude.{◌≡◌, ◌-◌, ◌<◌, true, false, length, IfOk, OnOk, OnErr};
+ghost use Rattle.thy_base.specs.Device.{HasFailed, IsFramed, CountsFault, block_at, settled};
+ghost use Rattle.thy_boot.specs.Boot.{IsBoot};
+ghost use Rattle.thy_boot.specs.Counts.{Counts};
+ghost use Rattle.thy_boot.specs.Steps.{CanStep, action_of};
+ghost use Rattle.thy_boot_laws.specs.Seen.{loads_at};
+ghost use Rattle.thy_control.specs.State.{AreSoundTables};
 ghost use Rattle.thy_dram.specs.Contents.{lost};
-ghost use Rattle.thy_table.specs.Listing.{free_count};
-ghost use Rattle.thy_record.specs.DualLayouts.{decode_image};
-ghost use Rattle.thy_control.specs.Holding.{holding_of};
-ghost use Rattle.thy_view.specs.Kind.{IsDramOf};
-ghost use Rattle.thy_view.specs.Origin.{Origin, Begins};
-ghost use Rattle.thy_view.specs.Views.{loads};
-ghost use Rattle.thy_scheme.specs.CheckpointMarks.{CheckpointMarks};
-ghost use Rattle.thy_scheme.specs.Scheme.{StaysOf, Stands, CanRun, IsBooting, CanBoot};
-ghost use Rattle.thy_scheme.specs.Calls.{IsOneAccess, Stores, Merges, Promotes, PromotionFails, TakesNoAction, Drains, Seals, Engines, EngineFails};
-ghost use Rattle.thy_scheme.specs.Boots.{BootsOn, BootFails, BootDrains};
-ghost use Rattle.thy_scheme.specs.Restart.{WritesNothing};
-ghost use Rattle.thy_boot_laws.specs.Seen.{has_read_at, loads_at, view_at};
-ghost use Rattle.thy_dual_laws.specs.Dual.{IsOf, is_overlaid, is_promoting, penults};
+ghost use Rattle.thy_dual_laws.specs.Design.{items_dual, dual_parts, dual_design, is_overlaid, is_promoting, penults};
 ghost use Rattle.thy_dual_laws.specs.Scheme.{dual_scheme};
-ghost use Rattle.thy_dual.specs.Calls.{IsSized, LoadsWork, LoadsCommitted, merged, sealed, drained};
-ghost use Rattle.thy_waiting_laws.specs.Scheme.{Boots, IsPowered, Stays, is_under_way};
-ghost use Rattle.thy_waiting_laws.specs.Waiting.{barriers, left_after, left_booted};
-ghost use Rattle.thy_waiting.specs.Calls.{waiting_scheme, with_below, IsNew, MakesBarrier, TakesBoot, TakesTurn};
-ghost use Rattle.thy_waiting.specs.Calls.{Stores as StoresBelow, Promotes as PromotesBelow};
+ghost use Rattle.thy_engine.specs.Progress.{Acts, Fits, is_under_way as is_engine_under_way};
+ghost use Rattle.thy_isa.specs.Step.{state_of};
+ghost use Rattle.thy_parts.specs.Calls.{IsReading, Promotes, drained, merged, promoted, stored};
+ghost use Rattle.thy_parts.specs.Laws.{sealed};
+ghost use Rattle.thy_parts.specs.Storing.{CanStore};
+ghost use Rattle.thy_places.specs.Places.{image_blocks};
+ghost use Rattle.thy_recover.specs.Filling.{filling_dual, loads};
+ghost use Rattle.thy_view.specs.Kind.{IsDramOf};
+ghost use Rattle.thy_waiting_laws.specs.Scheme.{is_under_way};
+ghost use Rattle.thy_waiting_laws.specs.Waiting.{left_after, left_booted};
+ghost use Rattle.thy_waiting.specs.Calls.{TakesBoot, TakesTurn, new_waiting, with_below};
 
 use std::alloc::{AllocError, Global};
 use std::marker::Model;
@@ -42,16 +38,16 @@ const BARRIERS: u64 = 3;
 /// committed and three more barriers are made. After a restart, too, it waits for three barriers.
 #[derive(Drop)]
 pub struct WaitingScheme {
-    below: DualScheme,
+    pub(crate) below: DualScheme,
     /// The barriers that are left.
-    left: u64,
+    pub(crate) left: u64,
 }
 
 impl Model for WaitingScheme {
-    ghost use Rattle.thy_dual_laws.specs.Dual.{Dual};
     ghost use Rattle.thy_waiting_laws.specs.Waiting.{Waiting};
+    ghost use Rattle.thy_waiting.specs.Calls.{Below};
 
-    ghost Value = { Waiting Dual };
+    ghost Value = { Waiting Below };
 
     ghost view = { λ w. record { below = w.below; left = w.left } };
 }
@@ -96,180 +92,124 @@ fn make_barrier<N: Nvm>(left: u64, nvm: &mut N) -> Result<u64, NvmError>
     Ok(left - 1)
 }
 
-// Each call has the trait's clauses, of this scheme. Those named `made` and `state` are in addition: they say what the
-// call makes of the scheme below and of the number of barriers (specs/Calls.antt).
-impl Scheme for WaitingScheme {
-    ghost use Rattle.std.specs.Prelude.{refl};
-    ghost use Rattle.thy_dual_laws.proofs.LawfulLemmas.{lawful as laws_below};
-    ghost use Rattle.thy_waiting_laws.proofs.LawfulLemmas.{lawful as laws_over};
-
-    ghost scheme = { waiting_scheme };
-
-    fn nvm_blocks(geometry: &Geometry) -> u64
-        ensures { result ≡ image_blocks geometry.now }
-    {
-        DualScheme::nvm_blocks(geometry)
-    }
-
-    fn new(alloc: Global, geometry: &Geometry, dram: Dram) -> Result<WaitingScheme, AllocError>
+// Each of these equals its specification, whatever the run: it is the call of the scheme below, and what it makes of the
+// number of barriers (specs/Calls.antt).
+impl WaitingScheme {
+    /// A scheme whose power has just come on.
+    pub fn power_on(
+        alloc: Global,
+        geometry: &Geometry,
+        dram: Dram,
+    ) -> Result<WaitingScheme, AllocError>
         requires { IsDramOf geometry.now dram }
-        ensures made { IfOk result (λ w. IsNew geometry.now dram w) }
-        ensures sized { IfOk result (λ w. IsSized geometry.now w.below) }
-        ensures powered { IfOk result (λ w. IsPowered dual_scheme geometry.now w) }
-        ensures dram { IfOk result (λ w. w.below.control.dram ≡ dram) }
+        ensures { IfOk result (λ w. w ≡ new_waiting geometry.now dram) }
     {
-        let below = DualScheme::new(alloc, geometry, dram)?;
+        let below = DualScheme::power_on(alloc, geometry, dram)?;
         Ok(WaitingScheme { below, left: 0 })
     }
 
-    fn load<N: Nvm>(&self, b: u64, nvm: &mut N) -> Result<Block, NvmError>
-        requires { b < length (holding_of self.now.below.control (N.device nvm.old)).blocks }
-        ensures made { LoadsWork b self.now.below (N.device nvm.old) result }
-        ensures ok { let blocks = (holding_of self.now.below.control (N.device nvm.old)).blocks in
-            IfOk result (λ block. block ≡ block_at blocks b) }
-        ensures same { OnOk result (N.device nvm.new ≡ N.device nvm.old) }
-        ensures err { OnErr result (HasFailed (N.device nvm.old) (N.device nvm.new)) }
-        ensures kept { let holding = holding_of self.now.below.control in
-            IsKeptByLoad (holding (N.device nvm.old)) (holding (N.device nvm.new)) }
-        ensures stays { Stays dual_scheme self.now (N.device nvm.old) self.now (N.device nvm.new) }
-        ensures frame { IsFramed (N.device nvm.old) (N.device nvm.new) }
-        ensures cause { CountsFault result (N.device nvm.old).faults (N.device nvm.new).faults }
+    /// Loses power: all is gone but the DRAM.
+    pub fn power_off(self, pick: u64) -> Dram
+        ensures { result ≡ lost self.below.control.dram pick }
+    {
+        self.below.power_off(pick)
+    }
+
+    /// The controller's tables are sound. It does nothing.
+    pub fn sound(&self)
+        ensures { AreSoundTables self.now.below.control }
+    {
+        self.below.sound();
+    }
+
+    /// Loads block `b`: as it was stored last.
+    pub fn load_block<N: Nvm>(&self, b: u64, nvm: &mut N) -> Result<Block, NvmError>
+        requires inside { b < length (loads self.now.below.control (N.device nvm.old)) }
+        requires sized { length (N.device nvm.old).image ≡ image_blocks self.now.below.control.p }
+        requires up { (N.device nvm.old).down ≡ false }
+        ensures ok { let held = loads self.now.below.control (N.device nvm.old) in
+            IfOk result (λ block. block ≡ block_at held b) }
+        ensures side { OnErr result (dual_parts.load_reads self.now.below.control b ≡ true) }
+        ensures reads { IsReading result (N.device nvm.old) (N.device nvm.new) }
         ensures same_writes { N.writes nvm.new ≡ N.writes nvm.old }
     {
-        self.below.load(b, nvm)
+        self.below.load_block(b, nvm)
     }
 
-    fn store<N: Nvm>(&mut self, b: u64, block: &Block, nvm: &mut N) -> Result<Stored, NvmError>
-        requires inside { b < length (holding_of self.old.below.control (N.device nvm.old)).blocks }
-        requires ready { (holding_of self.old.below.control (N.device nvm.old)).ready ≡ true }
-        requires room { 0 < (holding_of self.old.below.control (N.device nvm.old)).free }
-        ensures made { let n = N.device nvm.old in let new = N.device nvm.new in
-            StoresBelow b block.now self.old n result self.new new }
-        ensures ok { let n = N.device nvm.old in let new = N.device nvm.new in
-            IfOk result (λ stored. Stores waiting_scheme stored b block.now self.old n self.new new) }
-        ensures up { OnOk result ((N.device nvm.new).down ≡ false) }
-        ensures err { OnErr result ((N.device nvm.new).down ≡ true) }
-        ensures once { let n = N.device nvm.old in let new = N.device nvm.new in
-            IsOneAccess waiting_scheme self.old n self.new new }
-        ensures cause { CountsFault result (N.device nvm.old).faults (N.device nvm.new).faults }
-    {
-        self.below.store(b, block, nvm)
-    }
-
-    fn committed<N: Nvm>(&self, b: u64, nvm: &mut N) -> Result<Block, NvmError>
-        requires block { b < length (penults self.now.below.control (N.device nvm.old)) }
-        requires stands { CanRun waiting_scheme self.now (N.device nvm.old) }
-        ensures made { LoadsCommitted b self.now.below (N.device nvm.old) result }
-        ensures ok { let blocks = penults self.now.below.control (N.device nvm.old) in
-            IfOk result (λ block. block ≡ block_at blocks b) }
-        ensures same { OnOk result (N.device nvm.new ≡ N.device nvm.old) }
-        ensures err { OnErr result (HasFailed (N.device nvm.old) (N.device nvm.new)) }
-        ensures frame { IsFramed (N.device nvm.old) (N.device nvm.new) }
-        ensures cause { CountsFault result (N.device nvm.old).faults (N.device nvm.new).faults }
+    /// Loads block `b` as the committed checkpoint has it.
+    pub fn load_committed<N: Nvm>(&self, b: u64, nvm: &mut N) -> Result<Block, NvmError>
+        requires inside { b < length (penults self.now.below.control (N.device nvm.old)) }
+        requires sized { length (N.device nvm.old).image ≡ image_blocks self.now.below.control.p }
+        requires up { (N.device nvm.old).down ≡ false }
+        ensures ok { let held = penults self.now.below.control (N.device nvm.old) in
+            IfOk result (λ block. block ≡ block_at held b) }
+        ensures reads { IsReading result (N.device nvm.old) (N.device nvm.new) }
         ensures same_writes { N.writes nvm.new ≡ N.writes nvm.old }
     {
-        self.below.committed(b, nvm)
+        self.below.load_committed(b, nvm)
     }
 
-    fn free(&self) -> u64
-        ensures { result ≡ free_count self.now.below.control.btt }
+    /// Stores block `b`, or makes the copy that has to come first.
+    pub fn store_block<N: Nvm>(
+        &mut self,
+        b: u64,
+        block: &Block,
+        nvm: &mut N,
+    ) -> Result<Stored, NvmError>
+        requires { CanStore dual_design b self.old.below.control (N.device nvm.old) }
+        ensures answer { IfOk result (λ stored. stored ≡ dual_parts.store_answer b self.old.below.control) }
+        ensures acts { let n = N.device nvm.old in let below = self.old.below in
+            let later = with_below (stored dual_design b block.now below n) self.old in
+            Acts (dual_parts.store_action b block.now below.control) later result self.old n self.new (N.device nvm.new) }
     {
-        self.below.free()
+        self.below.store_block(b, block, nvm)
     }
 
-    fn overlay(&self) -> bool
-        ensures { result ≡ is_overlaid self.now.below.control }
-    {
-        self.below.overlay()
-    }
-
-    fn promoting(&self) -> bool
-        ensures { result ≡ is_promoting self.now.below.control }
-    {
-        self.below.promoting()
-    }
-
-    fn under_way(&self) -> bool
-        ensures { result ≡ is_under_way dual_scheme self.now }
-    {
-        self.below.under_way() || self.left > 0
-    }
-
-    fn overlaps() -> bool
-        ensures { result ≡ false }
-    {
-        false
-    }
-
-    fn queued(&self) -> u64
-        ensures { result ≡ self.now.below.control.dram.queued }
-    {
-        self.below.queued()
-    }
-
-    fn drain(&mut self)
+    /// Lets the oldest queued write of the DRAM land.
+    pub fn drain_one(&mut self)
         requires { 0 < self.old.below.control.dram.queued }
-        ensures state { self.new ≡ with_below (drained self.old.below) self.old }
-        ensures running { (o : Origin) (k : CheckpointMarks) (n : Device) → Stands waiting_scheme o k self.old n
-            → Drains waiting_scheme o k self.old n self.new }
-        ensures booting { (o : Origin) (n : Device) → IsBooting waiting_scheme o self.old n
-            → BootDrains waiting_scheme o self.old n self.new }
+        ensures { self.new ≡ with_below (drained dual_design self.old.below) self.old }
     {
-        self.below.drain();
+        self.below.drain_one();
     }
 
-    fn merge_one(&mut self)
-        requires idle { is_under_way dual_scheme self.old ≡ false }
-        ensures state { self.new ≡ with_below (merged self.old.below) self.old }
-        ensures some { is_overlaid self.old.below.control ≡ true
-            → (o : Origin) (k : CheckpointMarks) (n : Device) → Stands waiting_scheme o k self.old n
-            → Merges waiting_scheme o k self.old n self.new }
-        ensures none { is_overlaid self.old.below.control ≡ false → self.new ≡ self.old }
+    /// Merges the next block that lies over its page, if there is one.
+    pub fn merge_next(&mut self)
+        ensures { self.new ≡ with_below (merged dual_design self.old.below) self.old }
     {
-        self.below.merge_one();
+        self.below.merge_next();
     }
 
-    fn promote_one<N: Nvm>(&mut self, nvm: &mut N) -> Result<(), NvmError>
-        requires stands { CanRun waiting_scheme self.old (N.device nvm.old) }
-        ensures made { PromotesBelow self.old (N.device nvm.old) result self.new (N.device nvm.new) }
-        ensures ok { let n = N.device nvm.old in let new = N.device nvm.new in
-            is_promoting self.old.below.control ≡ true
-            → (o : Origin) (k : CheckpointMarks) → Stands waiting_scheme o k self.old n
-            → OnOk result (Promotes waiting_scheme o k self.old n self.new new) }
-        ensures none { is_promoting self.old.below.control ≡ false
-            → TakesNoAction result self.old (N.device nvm.old) self.new (N.device nvm.new) }
-        ensures err { OnErr result (PromotionFails (N.device nvm.old) (N.device nvm.new)) }
-        ensures left { OnErr result (StaysOf waiting_scheme self.old self.new) }
-        ensures frame { IsFramed (N.device nvm.old) (N.device nvm.new) }
-        ensures cause { CountsFault result (N.device nvm.old).faults (N.device nvm.new).faults }
+    /// Promotes the next block of a page that is being promoted, if there is one.
+    pub fn promote_next<N: Nvm>(&mut self, nvm: &mut N) -> Result<(), NvmError>
+        requires sized { length (N.device nvm.old).image ≡ image_blocks self.old.below.control.p }
+        requires up { (N.device nvm.old).down ≡ false }
+        ensures promotes { let later = promoted dual_design self.old.below (N.device nvm.old) in
+            Promotes (with_below later self.old) result self.old self.new }
+        ensures some { OnErr result (is_promoting self.old.below.control ≡ true) }
+        ensures reads { IsReading result (N.device nvm.old) (N.device nvm.new) }
         ensures same_writes { N.writes nvm.new ≡ N.writes nvm.old }
     {
-        self.below.promote_one(nvm)
+        self.below.promote_next(nvm)
     }
 
-    fn seal(&mut self, cpu: &CpuState, epoch: u64)
-        requires idle { is_under_way dual_scheme self.old ≡ false }
+    /// Seals an epoch, while no barrier is left.
+    pub fn seal_epoch(&mut self, cpu: &CpuState, epoch: u64)
+        requires idle { is_engine_under_way self.old.below.engine.stage ≡ false }
         requires whole { is_promoting self.old.below.control ≡ false }
         requires bare { is_overlaid self.old.below.control ≡ false }
         requires regs { length cpu.now.regs ≡ 32 }
-        ensures state { self.new ≡ with_below (sealed cpu.now epoch self.old.below) self.old }
-        ensures seals { (o : Origin) (k : CheckpointMarks) (n : Device) → Stands waiting_scheme o k self.old n
-            → Seals waiting_scheme o k cpu.now epoch self.old n self.new }
+        ensures { self.new ≡ with_below (sealed dual_design cpu.now epoch self.old.below) self.old }
     {
-        self.below.seal(cpu, epoch);
+        self.below.seal_epoch(cpu, epoch);
     }
 
-    fn engine_step<N: Nvm>(&mut self, nvm: &mut N) -> Result<EngineStep, NvmError>
-        requires way { is_under_way dual_scheme self.old ≡ true }
-        requires stands { CanRun waiting_scheme self.old (N.device nvm.old) }
+    /// Makes one of the barriers that are left; if there is none, takes the item of the engine that is next.
+    pub fn take_turn<N: Nvm>(&mut self, nvm: &mut N) -> Result<EngineStep, NvmError>
+        requires fits { Fits filling_dual items_dual self.old.below.engine self.old.below.control }
+        requires sized { length (N.device nvm.old).image ≡ image_blocks self.old.below.engine.p }
+        requires up { (N.device nvm.old).down ≡ false }
         ensures made { TakesTurn self.old (N.device nvm.old) result self.new (N.device nvm.new) }
-        ensures ok { let n = N.device nvm.old in let new = N.device nvm.new in
-            (o : Origin) (k : CheckpointMarks) → Stands waiting_scheme o k self.old n
-            → IfOk result (λ step. Engines waiting_scheme o k step self.old n self.new new) }
-        ensures err { let n = N.device nvm.old in let new = N.device nvm.new in
-            (o : Origin) (k : CheckpointMarks) → Stands waiting_scheme o k self.old n
-            → OnErr result (EngineFails waiting_scheme o k n new) }
-        ensures left { OnErr result (StaysOf waiting_scheme self.old self.new) }
         ensures frame { IsFramed (N.device nvm.old) (N.device nvm.new) }
         ensures cause { CountsFault result (N.device nvm.old).faults (N.device nvm.new).faults }
     {
@@ -278,47 +218,43 @@ impl Scheme for WaitingScheme {
             self.left = rest;
             Ok(EngineStep::Barrier)
         } else {
-            let step = self.below.engine_step(nvm)?;
+            let step = self.below.take_item(nvm)?;
             self.left = left_after(step);
             Ok(step)
         }
     }
 
-    fn boot_step<N: Nvm>(&mut self, start: &Start, nvm: &mut N) -> Result<BootStep, NvmError>
-        requires boots { CanBoot waiting_scheme start.now self.old (N.device nvm.old) }
-        ensures made { let n = N.device nvm.old in let new = N.device nvm.new in
-            TakesBoot start.now self.old n result self.new new }
-        ensures ok { let n = N.device nvm.old in let new = N.device nvm.new in
-            (o : Origin) → Begins o start.now → IsBooting waiting_scheme o self.old n
-            → IfOk result (λ step. BootsOn waiting_scheme o step self.old n self.new new) }
-        ensures err { let n = N.device nvm.old in let new = N.device nvm.new in
-            (o : Origin) → Begins o start.now → IsBooting waiting_scheme o self.old n
-            → OnErr result (BootFails waiting_scheme o self.old n new) }
-        ensures left { OnErr result (StaysOf waiting_scheme self.old self.new) }
-        ensures frame { IsFramed (N.device nvm.old) (N.device nvm.new) }
-        ensures cause { CountsFault result (N.device nvm.old).faults (N.device nvm.new).faults }
-        ensures no_writes { WritesNothing waiting_scheme self.old (N.device nvm.old) (N.writes nvm.old) (N.writes nvm.new) }
+    /// Takes a step of the boot; with a restart, barriers are left.
+    pub fn take_boot_step<N: Nvm>(
+        &mut self,
+        start: &Start,
+        nvm: &mut N,
+    ) -> Result<BootStep, NvmError>
+        requires can { let s = state_of start.now.state in
+            CanStep filling_dual s (N.device nvm.old) self.old.below.boot self.old.below.control }
+        requires fits { IsBoot filling_dual self.old.below.boot }
+        requires up { (N.device nvm.old).down ≡ false }
+        ensures takes { TakesBoot start.now self.old (N.device nvm.old) result self.new (N.device nvm.new) }
+        ensures sound { AreSoundTables self.new.below.control }
+        ensures writes { let action = action_of filling_dual (state_of start.now.state) self.old.below.boot self.old.below.control in
+            Counts action result (N.writes nvm.old) (N.writes nvm.new) }
     {
-        let step = self.below.boot_step(start, nvm)?;
+        let step = self.below.take_boot_step(start, nvm)?;
         self.left = left_booted(&step);
         Ok(step)
     }
 
-    fn loading(&self) -> bool
-        ensures stage { result ≡ loads_at self.now.below.boot.boot.stage }
-        ensures found { let stage = self.now.below.boot.boot.stage in
-            (o : Origin) (n : Device) → Boots dual_scheme o self.now n
-            → result ≡ (has_read_at stage && loads (view_at decode_image o stage n)) }
+    /// Whether the engine has something to do: the one below has, or barriers are left.
+    pub fn is_under_way(&self) -> bool
+        ensures { result ≡ is_under_way dual_scheme self.now }
     {
-        self.below.loading()
+        self.below.under_way() || self.left > 0
     }
 
-    fn cut(self, pick: u64) -> Dram
-        ensures drawn { result ≡ lost self.below.control.dram pick }
-        ensures sized { (p : Parameters) → IsOf p self.below → IsDramOf p result }
+    /// Whether the boot has found that there is no checkpoint.
+    pub fn is_loading(&self) -> bool
+        ensures { result ≡ loads_at self.now.below.boot.stage }
     {
-        self.below.cut(pick)
+        self.below.is_loading()
     }
-
-    ghost lawful = { laws_over dual_scheme laws_below (λ s. refl) };
 }

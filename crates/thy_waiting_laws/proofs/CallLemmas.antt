@@ -16,7 +16,7 @@ use Rattle.thy_scheme.specs.Scheme.{SchemeOf, Stands}
 use Rattle.thy_scheme.specs.Calls.{Merges, Promotes, Drains, Seals, OwesAfter, Engines, EngineFails}
 use Rattle.thy_scheme.specs.Laws.{IsLawful}
 use Rattle.thy_waiting_laws.specs.Waiting.{Waiting, barriers, is_waiting, left_after}
-use Rattle.thy_waiting_laws.specs.Scheme.{is_under_way, to_come, waits_over}
+use Rattle.thy_waiting_laws.specs.Scheme.{AppliesNothing, is_under_way, to_come, waits_over}
 use Rattle.thy_waiting_laws.proofs.BarrierLemmas.{Settles, settles}
 use Rattle.thy_waiting_laws.proofs.RunLemmas.{neither, few-to-come, way-below, come-same, below-stands, keeps-over, run-holds}
 
@@ -64,7 +64,7 @@ owes-over K (Committed epoch) v n w new h = h
 abbrev pub over : {S : Type 0} → S → Waiting S → Waiting S
 over t w = record w { below = t }
 
-module _ {S : Type 0} (K : SchemeOf S) (laws : IsLawful K) (never : (s : S) → K.applies s ≡ false) (o : Origin) (k : CheckpointMarks) (w : Waiting S) (n : Device)
+module _ {S : Type 0} (K : SchemeOf S) (laws : IsLawful K) (never : AppliesNothing K) (o : Origin) (k : CheckpointMarks) (w : Waiting S) (n : Device)
     (stands : Stands (waits_over K) o k w n) where
   lower : Stands K o k w.below n
   lower = below-stands K laws never o k w n stands

@@ -1,12 +1,12 @@
 -- A scheme that waits is lawful if the one below is.
-use Rattle.std.proofs.Common.{◌≡◌, false, refl, ◌∙◌}
+use Rattle.std.proofs.Common.{refl, ◌∙◌}
 use Rattle.thy_scheme.specs.Scheme.{SchemeOf}
 use Rattle.thy_scheme.specs.Laws.{IsLawful}
-use Rattle.thy_waiting_laws.specs.Scheme.{waits_over}
+use Rattle.thy_waiting_laws.specs.Scheme.{AppliesNothing, waits_over}
 use Rattle.thy_waiting_laws.proofs.BootLemmas.{power-finds, boot-holds}
 use Rattle.thy_waiting_laws.proofs.RunLemmas.{run-holds, stays-sound}
 
-pub lawful : {S : Type 0} (K : SchemeOf S) → IsLawful K → ((s : S) → K.applies s ≡ false) → IsLawful (waits_over K)
+pub lawful : {S : Type 0} (K : SchemeOf S) → IsLawful K → AppliesNothing K → IsLawful (waits_over K)
 lawful K laws never = record {
   powers = λ p. let first = laws.powers p in (record { below = first.0; left = 0 }, record { below = first.1; none = refl });
   is_new = λ p w on. let new = laws.is_new p w.below on.below in record { queued = new.queued; boot_left = new.boot_left };

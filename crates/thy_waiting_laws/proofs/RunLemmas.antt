@@ -8,7 +8,7 @@ use Rattle.thy_scheme.specs.Scheme.{SchemeOf, Stands}
 use Rattle.thy_scheme.specs.Calls.{Keeps}
 use Rattle.thy_scheme.specs.Laws.{IsLawful, RunHolds, StaysSound, is_free_to_run}
 use Rattle.thy_waiting_laws.specs.Waiting.{Waiting, barriers, is_waiting}
-use Rattle.thy_waiting_laws.specs.Scheme.{Stays, is_under_way, to_come, waits_over}
+use Rattle.thy_waiting_laws.specs.Scheme.{AppliesNothing, Stays, is_under_way, to_come, waits_over}
 
 -- ---- words
 
@@ -27,10 +27,10 @@ few-to-come false left few = few
 
 -- ---- while a scheme stands
 
-module _ {S : Type 0} (K : SchemeOf S) (laws : IsLawful K) (never : (s : S) → K.applies s ≡ false) where
+module _ {S : Type 0} (K : SchemeOf S) (laws : IsLawful K) (never : AppliesNothing K) where
   -- the one below is under way exactly while an epoch is sealed
   pub way-below : (o : Origin) (k : CheckpointMarks) (s : S) (n : Device) → Stands K o k s n → K.under_way s ≡ is_some k.sealed
-  way-below o k s n stands = (laws.run_holds o k s n stands).way ∙ or_false (is_some k.sealed) (K.applies s) (never s)
+  way-below o k s n stands = (laws.run_holds o k s n stands).way ∙ or_false (is_some k.sealed) (K.applies s) (never o k s n stands)
 
   -- as many barriers are to come
   pub come-same : (v w : Waiting S) → K.under_way w.below ≡ K.under_way v.below → w.left ≡ v.left → to_come K w ≡ to_come K v

@@ -4,8 +4,12 @@ use Rattle.thy_base.specs.declared.config.Parameters.{Parameters}
 use Rattle.thy_base.specs.Device.{Device}
 use Rattle.thy_view.specs.Origin.{Origin}
 use Rattle.thy_scheme.specs.CheckpointMarks.{CheckpointMarks}
-use Rattle.thy_scheme.specs.Scheme.{SchemeOf}
+use Rattle.thy_scheme.specs.Scheme.{SchemeOf, Stands}
 use Rattle.thy_waiting_laws.specs.Waiting.{Waiting, barriers, is_waiting}
+
+-- behind its boot a scheme applies nothing
+abbrev pub AppliesNothing : {S : Type 0} → SchemeOf S → Type 0
+AppliesNothing {S} K = (o : Origin) (k : CheckpointMarks) (s : S) (n : Device) → Stands K o k s n → K.applies s ≡ false
 
 -- power has just come on
 pub record IsPowered {S : Type 0} (K : SchemeOf S) (p : Parameters) (w : Waiting S) : Type 0 where
