@@ -2,8 +2,10 @@
 use Rattle.std.specs.Prelude.{◌≡◌, ℕ, ◌+◌, ◌≤◌, length}
 use Rattle.thy_base.specs.declared.config.Parameters.{Parameters}
 use Rattle.thy_base.specs.Device.{Device}
-use Rattle.thy_commit.specs.Progress.{Progress, Fits}
 use Rattle.thy_control.specs.State.{State}
+use Rattle.thy_dual_laws.specs.Design.{items_dual}
+use Rattle.thy_engine.specs.Progress.{Progress, Fits}
+use Rattle.thy_recover.specs.Filling.{filling_dual}
 use Rattle.thy_control_tests.specs.Driven.{Drives}
 
 pub record MemoryParts : Type 0 where
@@ -22,5 +24,5 @@ HasRoom n cuts = length n.left + cuts ≤ n.left_room
 pub record IsMemory (m : MemoryParts) : Type 0 where
   pub same_p : m.control.p ≡ m.p
   pub drives : Drives m.control m.nvm
-  pub fits : Fits m.engine m.control
+  pub fits : Fits filling_dual items_dual m.engine m.control
   pub room : HasRoom m.nvm m.cuts

@@ -13,9 +13,9 @@ use thy_base::{Block, Bytes, Geometry, Nvm, Parameters, SchemeName, Shape};
 use thy_boot::{Boot, End, Issue, Stage, a_boot_may_go_on};
 use thy_control::Control;
 use thy_dram::Dram;
+use thy_dual::DualTables;
 use thy_isa::{CpuState, MachState, Regs, Status};
 use thy_layout::Start;
-use thy_migrate::DualFills;
 use thy_nvm::MemNvm;
 use thy_view::BootStep;
 
@@ -93,8 +93,8 @@ fn step<N: Nvm>(
     ensures up { (N.device nvm.new).down ≡ false }
     ensures frame { IsFramed (N.device nvm.old) (N.device nvm.new) }
 {
-    a_boot_may_go_on::<DualFills>();
-    boot.step::<DualFills, N>(control, start, nvm)
+    a_boot_may_go_on::<DualTables>();
+    boot.step::<DualTables, N>(control, start, nvm)
         .expect(rt, "a step")
 }
 

@@ -11,10 +11,11 @@ use Rattle.thy_isa.specs.Step.{State as Plain}
 use Rattle.thy_view.specs.Action.{after}
 use Rattle.thy_view.proofs.ActionLemmas.{down-after}
 use Rattle.thy_boot.specs.declared.stage.Stage.{Stage}
-use Rattle.thy_boot.specs.declared.stage.Stage.TheVariants.{Reads, Loads, Over}
+use Rattle.thy_boot.specs.declared.stage.Stage.TheVariants.{Reads, Loads, Migrates, Over}
 use Rattle.thy_boot.specs.Boot.{Booting, new_boot}
 use Rattle.thy_boot.specs.Filling.{first_by}
 use Rattle.thy_boot.specs.Loads.{issue_action}
+use Rattle.thy_boot.specs.Migrating.{migration_action}
 use Rattle.thy_boot.specs.Start.{CanStart}
 use Rattle.thy_boot.specs.Steps.{Steps, StepsAt}
 use Rattle.thy_boot.proofs.ReadLemmas.{HasRead-new}
@@ -39,6 +40,7 @@ down-step s n b c m d e steps = by_stage b.stage steps where
   by_stage : (q : Stage) → StepsAt filling_journal q s n b c m d e → m.down ≡ n.down
   by_stage (Reads r) on = ap (λ (x : Device). x.down) on.device
   by_stage (Loads issue) on = ap (λ (x : Device). x.down) on.device ∙ down-after (issue_action (first_by filling_journal b.p s) issue) n
+  by_stage (Migrates at) on = ap (λ (x : Device). x.down) on.device ∙ down-after (migration_action filling_journal b at) n
   by_stage (Over end) on = absurd on
 
 pub same-step : (s : Plain) (n : Device) (b : Booting) (c : State) (m : Device) (d : Booting) (e : State)
@@ -47,6 +49,7 @@ same-step s n b c m d e same steps = by_stage b.stage steps where
   by_stage : (q : Stage) → StepsAt filling_journal q s n b c m d e → e.p ≡ c.p
   by_stage (Reads r) on = on.read.same_p ∙ on.same_p ∙ sym same
   by_stage (Loads issue) on = ap (λ (x : State). x.p) on.control
+  by_stage (Migrates at) on = ap (λ (x : State). x.p) on.control
   by_stage (Over end) on = absurd on
 
 -- ---- where it begins

@@ -1,7 +1,8 @@
 //! A controller of the least memory with its engine, and the NVM below both. Each call tests what it requires, and stops
 //! the test if that does not hold.
-ghost use Rattle.std.specs.Prelude.{◌≡◌, ◌<◌, length, false};
+ghost use Rattle.std.specs.Prelude.{◌≡◌, ◌<◌, length, true, false};
 ghost use Rattle.thy_places.specs.Places.{image_blocks};
+ghost use Rattle.thy_dual_laws.specs.Design.{is_promoting};
 ghost use Rattle.thy_control_tests.specs.Driven.{Drives};
 ghost use Rattle.thy_control_tests.specs.Memory.{HasRoom};
 
@@ -11,9 +12,11 @@ use std::alloc::Global;
 use std::marker::Model;
 use std::process::Abort;
 use thy_base::{Block, Geometry, Nvm, Parameters, Shape, Stored};
-use thy_commit::{Engine, engine_and_controller_fit};
 use thy_control::Control;
 use thy_dram::Dram;
+use thy_dual::DualTables;
+use thy_dual_laws::engine_and_controller_fit;
+use thy_engine::Engine;
 use thy_isa::{CpuState, Regs, Status};
 use thy_layout::{EngineStep, Found};
 use thy_nvm::MemNvm;
@@ -60,6 +63,22 @@ pub(crate) fn cpu_at(count: u64) -> CpuState
     }
 }
 
+/// Stops the test if a page is being promoted.
+fn is_whole(rt: &impl Abort, control: &Control)
+    ensures { is_promoting control.now ≡ false }
+{
+    let promoting = control.promoting();
+    assert!(rt; !promoting);
+}
+
+/// Stops the test if none is.
+fn has_promotion(rt: &impl Abort, control: &Control)
+    ensures { is_promoting control.now ≡ true }
+{
+    let promoting = control.promoting();
+    assert!(rt; promoting);
+}
+
 /// An NVM that holds the header of a geometry, and else zeros.
 fn with_header(rt: &impl Abort, alloc: Global, geometry: &Geometry, cuts: u64) -> MemNvm
     requires least { geometry.now.pages ≡ 8 }
@@ -87,25 +106,25 @@ impl Memory {
         let nvm = with_header(rt, alloc, &geometry, 0);
         let dram = Dram::new(alloc, geometry.dram_blocks(), 4).expect(rt, "memory");
         let control = Control::new(alloc, &geometry, dram).expect(rt, "memory");
-        let engine = Engine::new(&geometry);
-        engine_and_controller_fit();
-        Memory {
-            geometry,
-            control,
-            engine,
-            nvm,
-            cuts: 0,
-        }
+        Memory::booted(rt, geometry, control, nvm, 0)
     }
 
     /// A boot has filled this controller: it gets an engine with no checkpoint under way.
-    pub(crate) fn booted(geometry: Geometry, control: Control, nvm: MemNvm, cuts: u64) -> Memory
+    pub(crate) fn booted(
+        rt: &impl Abort,
+        geometry: Geometry,
+        control: Control,
+        nvm: MemNvm,
+        cuts: u64,
+    ) -> Memory
         requires same_p { control.p ≡ geometry }
         requires drives { Drives control nvm.device }
         requires idle { control.under_way ≡ false }
         requires room { HasRoom nvm.device cuts }
     {
         let engine = Engine::new(&geometry);
+        control.tables();
+        is_whole(rt, &control);
         engine_and_controller_fit();
         Memory {
             geometry,
@@ -147,6 +166,7 @@ impl Memory {
             .expect(rt, "a store");
         engine_and_controller_fit();
         self.control.tables();
+        is_whole(rt, &self.control);
         stored
     }
 
@@ -160,6 +180,8 @@ impl Memory {
         assert!(rt; !overlay);
         self.control.seal();
         self.engine.begin(&cpu_at(count), epoch);
+        engine_and_controller_fit();
+        self.control.tables();
     }
 
     pub(crate) fn merge_one(&mut self, rt: &impl Abort) {
@@ -170,11 +192,11 @@ impl Memory {
         self.control.merge_one();
         engine_and_controller_fit();
         self.control.tables();
+        is_whole(rt, &self.control);
     }
 
     pub(crate) fn promote_one(&mut self, rt: &impl Abort) {
-        let promoting = self.control.promoting();
-        assert!(rt; promoting);
+        has_promotion(rt, &self.control);
         self.control
             .promote_one(&mut self.nvm)
             .expect(rt, "a promotion");
@@ -193,7 +215,6 @@ impl Memory {
     pub(crate) fn drain_dram(&mut self) {
         if self.control.queued() > 0 {
             self.control.drain();
-            engine_and_controller_fit();
             self.control.tables();
         }
     }
@@ -215,7 +236,7 @@ impl Memory {
     /// One action of the engine.
     pub(crate) fn step(&mut self, rt: &impl Abort) -> EngineStep {
         self.engine
-            .step(&mut self.control, &mut self.nvm)
+            .step::<DualTables, MemNvm>(&mut self.control, &mut self.nvm)
             .expect(rt, "a step")
     }
 }

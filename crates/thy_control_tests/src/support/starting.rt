@@ -18,8 +18,8 @@ use thy_base::{Geometry, Nvm, Shape};
 use thy_boot::{Boot, Issue, Stage, a_boot_may_go_on};
 use thy_control::Control;
 use thy_dram::Dram;
+use thy_dual::DualTables;
 use thy_layout::Start;
-use thy_migrate::DualFills;
 use thy_nvm::MemNvm;
 use thy_places::blocks;
 use thy_view::BootStep;
@@ -59,7 +59,7 @@ pub(crate) fn has_least_memory(rt: &impl Abort, geometry: &Geometry)
 pub(crate) fn new_boot(rt: &impl Abort, alloc: Global, geometry: &Geometry) -> Boot
     ensures { result ≡ new_boot filling_dual geometry.now }
 {
-    Boot::new::<DualFills>(alloc, geometry).expect(rt, "memory")
+    Boot::new::<DualTables>(alloc, geometry).expect(rt, "memory")
 }
 
 fn new_controller(rt: &impl Abort, alloc: Global, geometry: &Geometry, dram: Dram) -> Control
@@ -161,8 +161,8 @@ fn step<N: Nvm>(
     ensures up { (N.device nvm.new).down ≡ false }
     ensures frame { IsFramed (N.device nvm.old) (N.device nvm.new) }
 {
-    a_boot_may_go_on::<DualFills>();
-    boot.step::<DualFills, N>(control, start, nvm)
+    a_boot_may_go_on::<DualTables>();
+    boot.step::<DualTables, N>(control, start, nvm)
         .expect(rt, "a step")
 }
 
@@ -193,7 +193,7 @@ impl Starting {
                 cuts,
             }),
             BootStep::Loaded | BootStep::Restarted(_, _) => {
-                Taken::Over(Memory::booted(geometry, control, nvm, cuts), told)
+                Taken::Over(Memory::booted(rt, geometry, control, nvm, cuts), told)
             }
             BootStep::Refused(_) => panic!(rt; "refused"),
         }

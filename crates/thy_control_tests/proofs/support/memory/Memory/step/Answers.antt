@@ -1,9 +1,16 @@
-use Rattle.std.proofs.Common.{◌≡◌, OnOk, subst}
+use Rattle.std.proofs.Common.{◌≡◌, OnOk, ◌∙◌, ap, subst}
 use Rattle.thy_base.specs.Device.{Device}
-use Rattle.thy_commit.specs.Progress.{Progress, engine_next, device_next}
+use Rattle.thy_places.specs.Places.{image_blocks}
 use Rattle.thy_control.specs.State.{State}
+use Rattle.thy_dual_laws.specs.Design.{items_dual}
+use Rattle.thy_engine.specs.Progress.{Progress, action_next, engine_next}
+use Rattle.thy_recover.specs.Filling.{filling_dual}
+use Rattle.thy_view.specs.Action.{after}
 use Rattle.thy_control_tests.proofs.MemoryLemmas.{IsMemory-item}
 use Rattle.thy_control_tests.proofs.support.memory.Memory.step.Goals as goal
+
+pub step-requires-clause-sized : goal.step-requires-clause-sized
+step-requires-clause-sized g c = c.self.invariant.drives.sized.nvm ∙ ap image_blocks c.self.invariant.fits.same_p
 
 pub invariant_of-self : goal.invariant_of-self
 invariant_of-self g c =
@@ -12,6 +19,8 @@ invariant_of-self g c =
     let m : Device = c.self.inside.nvm.device in
     let f : Progress = c.step.new.self in
     let n : Device = c.step.new.nvm.device in
+    let engine : f ≡ engine_next filling_dual items_dual e s
+    = subst (λ r. OnOk r (f ≡ engine_next filling_dual items_dual e s)) c.expect.ensures c.step.ensures.engine in
     IsMemory-item c.self.inside.geometry e f s c.step.new.control m n c.self.inside.cuts c.self.invariant c.step.ensures.fits
-    (subst (λ r. OnOk r (f ≡ engine_next e s)) c.expect.ensures c.step.ensures.engine)
-    (subst (λ r. OnOk r (n ≡ device_next e s m)) c.expect.ensures c.step.ensures.device) c.step.ensures.frame
+    (ap (λ (x : Progress). x.p) engine)
+    (subst (λ r. OnOk r (n ≡ after (action_next filling_dual items_dual e s m) m)) c.expect.ensures c.step.ensures.device) c.step.ensures.frame
