@@ -267,9 +267,9 @@ class Parts(unittest.TestCase):
         self.assertEqual(uses.modules, {"list": "std.list"})
 
     def test_a_type_by_another_name(self):
-        # In this repository the journal is a type over another one, and the scheme of both tables is not.
+        # In this repository the journal is a type over another one, and the scheme that waits is not.
         self.assertEqual(claim.alias_of("Journal"), ("Composed", "Refill"))
-        self.assertEqual(claim.alias_of("DualScheme"), ("DualScheme", None))
+        self.assertEqual(claim.alias_of("WaitingScheme"), ("WaitingScheme", None))
 
     def test_lines_of_the_picture(self):
         # In each layer one crate: what a layer stands on by way of another one has no line.

@@ -91,19 +91,19 @@ class Wording:
 
 
 WORDINGS = {
-    f"sentences of more than {SENTENCE} words": Wording(long_sentences, 370, 248),
-    f"table cells of more than {CELL} words": Wording(long_cells, 75, 73),
-    "that of, those of": Wording(phrases("that of", "those of"), 462, 345),
-    "so many, as many": Wording(phrases("so many", "as many"), 289, 278),
+    f"sentences of more than {SENTENCE} words": Wording(long_sentences, 370, 232),
+    f"table cells of more than {CELL} words": Wording(long_cells, 75, 59),
+    "that of, those of": Wording(phrases("that of", "those of"), 462, 334),
+    "so many, as many": Wording(phrases("so many", "as many"), 289, 270),
     "no sooner": Wording(phrases("no sooner"), 0, 0),
     "so it is": Wording(phrases("so it is"), 29, 26),
-    "so does": Wording(phrases("so does"), 41, 36),
-    "what is seen of": Wording(phrases("what is seen of"), 36, 20),
+    "so does": Wording(phrases("so does"), 41, 30),
+    "what is seen of": Wording(phrases("what is seen of"), 36, 19),
     "made anew": Wording(phrases("made anew"), 5, 4),
     "puts": Wording(phrases("puts"), 62, 52),
-    "is due": Wording(phrases("is due"), 63, 58),
+    "is due": Wording(phrases("is due"), 63, 55),
     "goes by": Wording(phrases("goes by"), 17, 1),
-    "comments that begin with And, So, Nor or The same": Wording(openings, 467, 467),
+    "comments that begin with And, So, Nor or The same": Wording(openings, 467, 458),
 }
 
 
