@@ -5,7 +5,7 @@ import subprocess
 import unittest
 
 from lib import repository
-from lib.lint import claim, english, help, map, names
+from lib.lint import claim, english, help, map, names, proofs
 from tests.support import CopyTest, ToolTest, needs, needs_program
 
 CRATES = """# one line a crate, lowest first
@@ -100,6 +100,198 @@ class Map(CopyTest):
         self.refuses("cannot read `## The map` in docs/ARCHITECTURE.md", "map")
         os.remove(self.path("docs/ARCHITECTURE.md"))
         self.refuses("cannot read docs/ARCHITECTURE.md: No such file or directory", "map")
+
+
+LIB = """//! What is low. It has
+//! a second sentence.
+//!
+//! Open this.
+
+mod more;
+
+pub use more::{Reader, Shut, Table, is_even, sums_are_even};
+
+/// Not named.
+pub fn hidden() -> u64 {
+    0
+}
+"""
+
+MORE = """//! More.
+ghost use Rattle.low.specs.One.{one};
+
+/// A table of numbers.
+/// It has no gaps.
+pub struct Table {
+    /// A field.
+    pub entries: u64,
+}
+
+/// Inside.
+struct Own;
+
+impl Table {
+    /// Entry `at`, of those
+    /// that there are. Else 0.
+    pub fn entry(&self, at: u64) -> u64
+        ensures { result ≡ 0 }
+    {
+        0
+    }
+
+    /// Inside.
+    fn inner(&self) {}
+
+    /// Lists
+    /// none twice. Nor more.
+    ///
+    /// More of it.
+    #[inline]
+    pub fn lists_once(&self)
+        ensures { self.now }
+    {
+        let _ = &self.entries;
+    }
+}
+
+/// What reads.
+pub trait Reader {
+    /// Reads on.
+    fn read(&mut self)
+        ensures { self.new };
+}
+
+impl Reader for Table {
+    fn read(&mut self) {}
+}
+
+/// A table that is shut.
+pub enum Shut {
+    No,
+}
+
+impl<N: Other> Reader for Shut<N> {
+    /// Reads nothing.
+    fn read(&mut self) {}
+}
+
+impl Reader for Own {
+    /// Inside.
+    fn read(&mut self) {}
+}
+
+impl Model for Table {
+    /// Of another library.
+    fn model(&self) {}
+}
+
+/// Whether it is even: 4 is. 5 is not.
+pub const fn is_even(x: u64) -> bool {
+    x % 2 == 0
+}
+
+/// Sums of even numbers are
+/// even. So are products.
+pub fn sums_are_even()
+    ensures { one }
+{}
+
+/// Of this file alone, whose name is a module's.
+pub fn more() {}
+"""
+
+MAIN = """//! The program.
+
+use crate::top::work;
+
+fn main() {}
+"""
+
+TOP = """/// Works.
+pub fn work() {
+}
+
+/// Not called by main.
+pub fn more() {
+}
+"""
+
+PROOFS = """## The lower layer
+
+### low
+
+What is low.
+
+| implementation | what it says |
+|---|---|
+| `Reader` for `Table` | A table of numbers. It has no gaps. |
+| `Reader` for `Shut` | A table that is shut. |
+
+| law | what it says |
+|---|---|
+| `Table::lists_once` | Lists none twice. Nor more. |
+| `sums_are_even` | Sums of even numbers are even. So are products. |
+
+| function | what it says |
+|---|---|
+| `Table::entry` | Entry `at`, of those that there are. |
+| `Reader::read` | Reads on. |
+| `Shut::read` | Reads nothing. |
+| `is_even` | Whether it is even: 4 is. |
+
+## The upper layer
+
+### high
+
+The program.
+
+| function | what it says |
+|---|---|
+| `work` | Works. |
+"""
+
+
+class Proofs(CopyTest):
+    """In a repository of three crates, of which one has nothing public: what the page has of them is worked out by hand."""
+
+    tool = "lint"
+
+    def setUp(self):
+        super().setUp()
+        self.file("crates.txt", CRATES)
+        self.file("docs/ARCHITECTURE.md", MAP)
+        self.file("docs/PROOFS.md", "# Another\n")
+        for path, text in (("low/src/lib", LIB), ("low/src/more", MORE), ("high/src/main", MAIN), ("high/src/top", TOP)):
+            self.file(f"crates/{path}.rt", text)
+        self.file("crates/middle/src/lib.rt", "//! In the middle.\n")
+
+    def page(self):
+        with open(self.path("docs/PROOFS.md"), encoding="utf-8") as file:
+            return file.read()
+
+    def test_what_is_written(self):
+        self.prints("", "proofs", "--write")
+        self.assertEqual(self.page(), f"{proofs.HEAD}\n{PROOFS}")
+        self.assertTrue(self.page().startswith(english.MADE))
+        self.prints("docs/PROOFS.md has what the comments of 2 crates say\n", "proofs")
+
+    def test_differences(self):
+        said = "docs/PROOFS.md is not what tools/lint proofs --write makes of the comments\n"
+        self.prints(said, "proofs", status=1)
+        self.call("proofs", "--write")
+        self.file("crates/low/src/more.rt", MORE.replace("/// even. So are products.", "/// even."))
+        self.prints(said, "proofs", status=1)
+
+    def test_a_function_without_a_comment(self):
+        self.file("crates/high/src/top.rt", TOP.replace("/// Works.\n", ""))
+        self.call("proofs", "--write")
+        self.assertTrue(self.page().endswith("| `work` | |\n"))
+
+    def test_refusals(self):
+        os.remove(self.path("docs/PROOFS.md"))
+        self.refuses("cannot read docs/PROOFS.md: No such file or directory", "proofs")
+        os.remove(self.path("crates/middle/src/lib.rt"))
+        self.refuses("cannot read crates/middle/src/lib.rt: No such file or directory", "proofs", "--write")
 
 
 @needs("git")
@@ -321,7 +513,7 @@ class Whole(ToolTest):
 
     def test_help_pages(self):
         self.has_help()
-        for part in ("help", "claim", "map", "names", "english"):
+        for part in ("help", "claim", "map", "proofs", "names", "english"):
             done = self.call(part, "--help")
             self.assertEqual((done.err, done.status), ("", 0))
             self.assertIn(f"usage: lint {part}", done.out)
@@ -330,6 +522,9 @@ class Whole(ToolTest):
     def test_refusals(self):
         self.refuses("invalid choice: 'x'", "x")
         self.refuses("unrecognized arguments: --check", "map", "--check")
+
+    def test_proofs_of_this_repository(self):
+        self.assertRegex(self.call("proofs").out, r"\Adocs/PROOFS.md has what the comments of \d+ crates say\n\Z")
 
     def test_map_and_names_of_this_repository(self):
         self.assertRegex(self.call("map").out, r"\Adocs/ARCHITECTURE.md has the \d+ crates of crates.txt\n\Z")
@@ -346,5 +541,5 @@ class Whole(ToolTest):
     @needs_program()
     def test_all_parts(self):
         done = self.call()
-        self.assertEqual((len(done.out.splitlines()), done.err, done.status), (5, "", 0), done.out)
+        self.assertEqual((len(done.out.splitlines()), done.err, done.status), (6, "", 0), done.out)
         self.assertIn("19 options agree\n", done.out)

@@ -24,7 +24,8 @@ Exit status: 0 all names are found; 1 some are not; 2 invalid usage, or somethin
 
 # Words in back quotes that are no names of this repository.
 OTHERS = {
-    "words of Rust and of the prover": "if impl requires search Abort",
+    "words of Rust and of the prover": "if impl requires search Abort Vec",
+    "parameters of types in comments that docs/PROOFS.md has": "A B",
     "instructions of the guest": "ld bne ecall",
     "functions and streams of C": "malloc memcpy memmove memset memcmp printf write stdin stdout stderr",
     "variables of the environment": "THYNVM_HELP THYNVM_ANSWER_SECONDS",
