@@ -91,9 +91,9 @@ class Wording:
 
 
 WORDINGS = {
-    f"sentences of more than {SENTENCE} words": Wording(long_sentences, 370, 93),
+    f"sentences of more than {SENTENCE} words": Wording(long_sentences, 370, 78),
     f"table cells of more than {CELL} words": Wording(long_cells, 75, 4),
-    "that of, those of": Wording(phrases("that of", "those of"), 462, 289),
+    "that of, those of": Wording(phrases("that of", "those of"), 462, 288),
     "so many, as many": Wording(phrases("so many", "as many"), 289, 259),
     "no sooner": Wording(phrases("no sooner"), 0, 0),
     "so it is": Wording(phrases("so it is"), 29, 26),
