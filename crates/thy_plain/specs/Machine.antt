@@ -17,6 +17,10 @@ pub record Machine : Type 0 where
 abbrev pub loaded : Parameters → Contents → List ℕ → Machine
 loaded p image input = record { setting = setting_for p input; state = start_state p image }
 
+-- a machine in a state
+abbrev pub in_state : Parameters → State → List ℕ → Machine
+in_state p s input = record { setting = setting_for p input; state = s }
+
 -- a machine after one step
 abbrev pub stepped : Machine → Machine
 stepped m = record m { state = step m.setting m.state }

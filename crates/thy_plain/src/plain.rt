@@ -5,7 +5,7 @@ ghost use Rattle.thy_base.specs.Geometry.{program_size};
 ghost use Rattle.thy_elf.specs.Image.{contents_of};
 ghost use Rattle.thy_isa.specs.Step.{state_of, is_running};
 ghost use Rattle.thy_isa.specs.Storable.{IsStorable};
-ghost use Rattle.thy_plain.specs.Machine.{loaded, stepped, stepped_by, after_steps, StopsAt};
+ghost use Rattle.thy_plain.specs.Machine.{in_state, loaded, stepped, stepped_by, after_steps, StopsAt};
 
 use crate::advance::take_step;
 use crate::setup::Setup;
@@ -16,7 +16,7 @@ use thy_base::{Bytes, Geometry};
 use thy_elf::Image;
 use thy_isa::{MachState, cross_state, is_running};
 
-/// The plain machine. Contracts see its state, and what stays the same over a run. Only `load` allocates,
+/// The plain machine. Contracts see its state, and what stays the same over a run. Only `load` and `in_state` allocate,
 /// and no other call can fail.
 #[derive(Debug, Drop)]
 pub struct Plain {
@@ -55,6 +55,40 @@ impl Plain {
         let console = Bytes::with_room(alloc, room as usize)?;
         Ok(Plain {
             state: state_over(image.entry, image.floor, memory, console, geometry),
+            setup: Setup {
+                base: geometry.numbers().base,
+                input,
+                room,
+            },
+        })
+    }
+
+    /// A machine in a state, which can read this input. Allocates a copy of the state's memory, and the whole console.
+    pub fn in_state(
+        alloc: Global,
+        state: &MachState,
+        geometry: &Geometry,
+        input: Bytes,
+    ) -> Result<Plain, AllocError>
+        ensures { IfOk result (λ m. m ≡ in_state geometry.now (state_of state.now) (bytes_of input)) }
+    {
+        let room = geometry.console_room();
+        let memory = state.memory.duplicate(alloc)?;
+        let mut console = Bytes::with_room(alloc, room as usize)?;
+        console.extend(state.console.as_slice())?;
+        Ok(Plain {
+            state: MachState {
+                pc: state.pc,
+                regs: state.regs,
+                memory,
+                console,
+                cursor: state.cursor,
+                brk: state.brk,
+                floor: state.floor,
+                count: state.count,
+                status: state.status,
+                other: state.other,
+            },
             setup: Setup {
                 base: geometry.numbers().base,
                 input,
