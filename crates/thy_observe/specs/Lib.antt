@@ -3,3 +3,7 @@ pub mod EventCycles
 pub mod Shares
 pub mod Tallied
 pub mod Trapping
+pub mod Changes
+pub mod Watched
+pub mod Replaying
+pub mod Following

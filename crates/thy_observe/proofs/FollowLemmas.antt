@@ -1,0 +1,257 @@
+-- What is executed again is what the run has executed.
+use Rattle.std.proofs.Common.{◌≡◌, ℕ, zero, suc, ◌+◌, ◌-◌, ◌<◌, ◌≤◌, Bool, true, false, Option, Some, None, List, [], ◌∷◌, ◌++◌, length, take, fold, get_or, refl, sym, ◌∙◌, ap, subst, inl, inr, arith, length-append}
+use Rattle.std.specs.Prelude.{MatchBool}
+use Rattle.std.proofs.lemmas.Bool.{cases_lt}
+use Rattle.std.proofs.lemmas.List.{get_or_append_left, get_or_at, get_or-take, length-take-le}
+use Rattle.std.proofs.lemmas.List.Sums.{fold-append}
+use Rattle.thy_base.specs.declared.mark.Mark.{Mark}
+use Rattle.thy_base.specs.Config.{IsRising}
+use Rattle.thy_isa.specs.Step.{State, Setting, step_of}
+use Rattle.thy_layout.specs.Decoded.{Decoded, Nothing as NothingLeft, Refused as RefusedImage, At}
+use Rattle.thy_view.specs.declared.did.Did.{Did}
+use Rattle.thy_view.specs.declared.did.Did.TheVariants.{Boot, Loaded, Restarted, Refused, Moved, Retired, Flushed, Merged, Sealed, Promoted, Engine, Committed, NvmDrained, DramDrained, Nothing}
+use Rattle.thy_view.specs.declared.view.Phase.TheVariants.{Boot as BootPhase, Run}
+use Rattle.thy_view.specs.declared.view.View.{View}
+use Rattle.thy_view.specs.Booting.{found_first, view_of_image}
+use Rattle.thy_view.specs.CoreStep.{BootsTo, CoreStep}
+use Rattle.thy_view.specs.Kind.{KindOf}
+use Rattle.thy_view.specs.Origin.{Origin, at, by_turns, setting_of}
+use Rattle.thy_view.specs.Safe.{ceiling}
+use Rattle.thy_view.specs.Told.{told, AgreeBelow, count_of, reach}
+use Rattle.thy_view.specs.Views.{is_boot}
+use Rattle.thy_view.proofs.ReachLaws.{reach-boot, reach-count, runs_behind, stays-there}
+use Rattle.thy_view.proofs.TurnLaws.{turn_late}
+use Rattle.thy_run.specs.Laws.{marks_of}
+use Rattle.thy_run.specs.Watching.{Taken, IsListed, taken_in}
+use Rattle.thy_run.specs.World.{World, Given, IsCutOff, Ran, TakesStep, is_due, line, seen, tear}
+use Rattle.thy_run.proofs.CutLaws.{cut_below}
+use Rattle.thy_run.proofs.RetellLaws.{late_of}
+use Rattle.thy_run.proofs.StepAlong.{core_of}
+use Rattle.thy_run.proofs.WorldLaws.{Coheres, Coheres-stepped, Good-ran}
+use Rattle.thy_observe.specs.declared.changes.Change.{Change}
+use Rattle.thy_observe.specs.Changes.{changes_in, changes_of}
+use Rattle.thy_observe.specs.Following.{FollowsRuns}
+use Rattle.thy_observe.specs.Replaying.{Executed, executed, executed_after, nothing_executed}
+use Rattle.thy_observe.proofs.ChangeLemmas.{changes-one}
+
+-- the turns of a run from a start of this count, as far as a view reaches, are these harts; outside a boot they are all
+record Tracks (start : ℕ) (turns : List ℕ) (v : View) (harts : List ℕ) : Type 0 where
+  agree : (i : ℕ) → i < reach v - start → get_or harts i 0 ≡ get_or turns i 0
+  long : reach v - start ≤ length harts
+  there : is_boot v.phase ≡ false → reach v - start ≡ length harts
+
+-- ---- one cycle
+
+-- what a cycle makes of the harts
+abbrev harts_by : Setting → State → List ℕ → List ℕ → Did → List ℕ
+harts_by g start pcs harts did = (fold (executed_after g start) (record { harts = harts; pcs = pcs }) (changes_in did)).harts
+
+not_boot : (b : Bool) → b ≡ true → b ≡ false → ⊥
+not_boot b is off = let both : true ≡ false = sym is ∙ off in cc
+
+-- a boot that goes on is one
+boots_on : (v next : View) → v.phase ≡ BootPhase → BootsTo v next → is_boot next.phase ≡ true
+boots_on v next is to = elim to as (λ _. is_boot next.phase ≡ true) [
+  | inl e ↦ ap (λ (w : View). is_boot w.phase) e ∙ ap is_boot is
+  | inr e ↦ ap (λ (w : View). is_boot w.phase) e.1 ∙ ap is_boot is
+]
+
+module _ (start : ℕ) (turns : List ℕ) (v next : View) (harts : List ℕ) (h : Tracks start turns v harts) where
+  -- a cycle that changes nothing of the program's state
+  stays : reach next - start ≡ reach v - start → (is_boot next.phase ≡ false → is_boot v.phase ≡ false) → Tracks start turns next harts
+  stays same up = record {
+    agree = λ i less. h.agree i (omega (arith, less, same));
+    long = (let long = h.long in omega (arith, long, same));
+    there = λ on. same ∙ h.there (up on);
+  }
+
+  -- one that restores a checkpoint
+  restores : (count : ℕ) → reach v ≡ count → reach next - start ≡ reach v - start → Tracks start turns next (take (count - start) harts)
+  restores count here same =
+      let many : length (take (count - start) harts) ≡ count - start = length-take-le (count - start) harts (let long = h.long in omega (arith, long, here)) in
+      record {
+        agree = λ i less.
+            get_or-take (count - start) harts i 0 (omega (arith, less, here, same))
+            ∙ h.agree i (omega (arith, less, same));
+        long = omega (arith, many, here, same);
+        there = λ on. omega (arith, many, here, same);
+      }
+
+  -- one that loads the start
+  loads : reach v ≡ 0 → reach next - start ≡ reach v - start → Tracks start turns next []
+  loads here same = record {
+    agree = λ i less. absurd (omega (arith, less, here, same));
+    long = omega (arith, here, same);
+    there = λ on. omega (arith, here, same);
+  }
+
+  -- one that retires an instruction
+  retires_one : (hart : ℕ) → is_boot v.phase ≡ false → start ≤ reach v → reach next ≡ reach v + 1
+      → get_or turns (reach v - start) 0 ≡ hart → Tracks start turns next (harts ++ hart ∷ [])
+  retires_one hart up late more mine =
+      let all : reach v - start ≡ length harts = h.there up in
+      let many : length (harts ++ hart ∷ []) ≡ length harts + 1 = length-append harts (hart ∷ []) in
+      record {
+        agree = λ i less. elim (cases_lt i (length harts)) as (λ _. get_or (harts ++ hart ∷ []) i 0 ≡ get_or turns i 0) [
+          | inl low ↦ get_or_append_left harts (hart ∷ []) 0 i low ∙ h.agree i (omega (arith, low, all))
+          | inr high ↦
+              (let last : length harts ≡ i = omega (arith, high, less, more, late, all) in
+              get_or_at harts hart [] 0 i last ∙ sym mine ∙ ap (λ (n : ℕ). get_or turns n 0) (all ∙ last))
+        ];
+        long = omega (arith, many, more, late, all);
+        there = λ on. omega (arith, many, more, late, all);
+      }
+
+-- a step of the view, along the turns that are reported once it is done
+tracks_step : (p : Origin) (v next : View) (did : Did) (pcs harts : List ℕ) → CoreStep p v did next
+    → (v.phase ≡ Run → p.start.count ≤ reach v) → Tracks p.start.count p.turns v harts
+    → Tracks p.start.count p.turns next (harts_by (setting_of p) p.start pcs harts did)
+tracks_step p v next Loaded pcs harts s late h =
+    loads p.start.count p.turns v next harts h (reach-boot v s.phase ∙ ap count_of s.none) (stays-there p v next Loaded s refl)
+tracks_step p v next (Restarted epoch count) pcs harts s late h =
+    restores p.start.count p.turns v next harts h count (reach-boot v s.phase ∙ ap count_of s.done) (stays-there p v next (Restarted epoch count) s refl)
+tracks_step p v next (Retired hart) pcs harts s late h =
+    let phase : next.phase ≡ v.phase = ap (λ (w : View). w.phase) s.becomes in
+    let here : reach v ≡ v.count = reach-count v (runs_behind v.phase s.phase) in
+    let there : reach next ≡ v.count + 1 = reach-count next (runs_behind next.phase (phase ∙ s.phase)) ∙ ap (λ (w : View). w.count) s.becomes in
+    let from : p.start.count ≤ reach v = late s.phase in
+    retires_one p.start.count p.turns v next harts h hart (ap is_boot s.phase) from (omega (arith, here, there))
+    (ap (λ (n : ℕ). get_or p.turns (n - p.start.count) 0) here ∙ sym (turn_late p v.count (omega (arith, from, here))) ∙ s.turn)
+tracks_step p v next Boot pcs harts s late h =
+    stays p.start.count p.turns v next harts h (stays-there p v next Boot s refl) (λ on. absurd (not_boot (is_boot next.phase) (boots_on v next s.0 s.1) on))
+tracks_step p v next (Refused bad) pcs harts s late h =
+    stays p.start.count p.turns v next harts h (stays-there p v next (Refused bad) s refl) (λ on. ap (λ (w : View). is_boot w.phase) (sym s.3) ∙ on)
+tracks_step p v next Moved pcs harts s late h =
+    stays p.start.count p.turns v next harts h (stays-there p v next Moved s refl) (λ on. ap is_boot s.0)
+tracks_step p v next Flushed pcs harts s late h =
+    stays p.start.count p.turns v next harts h (stays-there p v next Flushed s refl) (λ on. ap is_boot s.0)
+tracks_step p v next Merged pcs harts s late h =
+    stays p.start.count p.turns v next harts h (stays-there p v next Merged s refl) (λ on. ap is_boot s.0)
+tracks_step p v next Promoted pcs harts s late h =
+    stays p.start.count p.turns v next harts h (stays-there p v next Promoted s refl) (λ on. ap is_boot s.0)
+tracks_step p v next (Sealed epoch count cause) pcs harts s late h =
+    stays p.start.count p.turns v next harts h (stays-there p v next (Sealed epoch count cause) s refl) (λ on. ap is_boot s.phase)
+tracks_step p v next (Engine step) pcs harts s late h =
+    stays p.start.count p.turns v next harts h (stays-there p v next (Engine step) s refl) (λ on. ap is_boot s.0)
+tracks_step p v next (Committed epoch overlapped) pcs harts s late h =
+    stays p.start.count p.turns v next harts h (stays-there p v next (Committed epoch overlapped) s refl) (λ on. ap is_boot s.phase)
+tracks_step p v next NvmDrained pcs harts s late h =
+    stays p.start.count p.turns v next harts h (stays-there p v next NvmDrained s refl) (λ on. ap (λ (w : View). is_boot w.phase) (sym s) ∙ on)
+tracks_step p v next DramDrained pcs harts s late h =
+    stays p.start.count p.turns v next harts h (stays-there p v next DramDrained s refl) (λ on. ap (λ (w : View). is_boot w.phase) (sym s) ∙ on)
+tracks_step p v next Nothing pcs harts s late h =
+    stays p.start.count p.turns v next harts h (stays-there p v next Nothing s refl) (λ on. ap (λ (w : View). is_boot w.phase) (sym s.1) ∙ on)
+
+-- ---- a run
+
+image_boots : (count : ℕ) (d : Decoded) → is_boot (view_of_image count d).phase ≡ true
+image_boots count NothingLeft = refl
+image_boots count (RefusedImage bad) = refl
+image_boots count (At epoch state) = refl
+
+first_reach : (o : Origin) (kept : Option Mark) → reach (view_of_image o.start.count (found_first o kept)) - o.start.count ≡ 0
+first_reach o None = omega arith
+first_reach o (Some m) = omega arith
+
+-- the turns that agree below a count are the same from the start on
+agree_from : (o : Origin) (turns : List ℕ) (k i : ℕ) → AgreeBelow o turns k → i < k - o.start.count → get_or turns i 0 ≡ get_or o.turns i 0
+agree_from o turns k i agree less =
+    let back : o.start.count + i - o.start.count ≡ i = omega arith in
+    sym (ap (λ (n : ℕ). get_or turns n 0) back) ∙ sym (turn_late (told o turns) (o.start.count + i) (omega arith))
+    ∙ agree (o.start.count + i) (omega (arith, less)) ∙ turn_late o (o.start.count + i) (omega arith) ∙ ap (λ (n : ℕ). get_or o.turns n 0) back
+
+abbrev harts_of : Origin → List Taken → List ℕ
+harts_of o cycles = (executed (setting_of o) o.start (changes_of cycles)).harts
+
+module _ {M : Type 0} (K : KindOf M) (o : Origin) where
+  abbrev TracksRun : World M → List ℕ → Type 0
+  TracksRun w harts = Tracks o.start.count w.turns (seen K o w) harts
+
+  step_on : (w x : World M) (step : TakesStep K o w x) → Coheres K o w → (pcs harts : List ℕ) → TracksRun w harts
+      → TracksRun x (harts_by (setting_of o) o.start pcs harts step.r.did)
+  step_on w x step stands pcs harts h =
+      let moved : Tracks o.start.count x.turns (seen K o w) harts = record {
+        agree = λ i less. h.agree i less ∙ sym (agree_from (line o w) x.turns (reach (seen K o w)) i step.agree less);
+        long = h.long;
+        there = h.there;
+      } in
+      tracks_step (line o x) (seen K o w) (seen K o x) step.r.did pcs harts (core_of K o w x step)
+      (late_of (line o w) (seen K o w) (marks_of o w.events) stands.fits stands.leads) moved
+
+  cut_on : (x next : World M) (pick : ℕ) → IsCutOff K o pick x next → reach (seen K o next) - o.start.count ≤ reach (seen K o x) - o.start.count
+      → (harts : List ℕ) → TracksRun x harts → TracksRun next harts
+  cut_on x next pick cut below harts h =
+      let left : Decoded = K.decode o.geometry ceiling next.device.image in
+      let here : reach (seen K o next) ≡ reach (view_of_image o.start.count left) = ap reach cut.found in
+      record {
+        agree = λ i less.
+            h.agree i (omega (arith, less, below))
+            ∙ sym (get_or-take (reach (view_of_image o.start.count left) - o.start.count) x.turns i 0 (omega (arith, less, here)))
+            ∙ ap (λ (t : List ℕ). get_or t i 0) (sym cut.kept);
+        long = (let long = h.long in omega (arith, below, long));
+        there = λ on. absurd (not_boot (is_boot (seen K o next).phase) (ap (λ (v : View). is_boot v.phase) cut.found ∙ image_boots o.start.count left) on);
+      }
+
+  by_cut : (x next : World M) (pick : ℕ) (b : Bool) → MatchBool b (IsCutOff K o pick x next) (next ≡ x)
+      → ((cut : IsCutOff K o pick x next) → reach (seen K o next) - o.start.count ≤ reach (seen K o x) - o.start.count)
+      → (harts : List ℕ) → TracksRun x harts → TracksRun next harts
+  by_cut x next pick true cut below harts h = cut_on x next pick cut (below cut) harts h
+  by_cut x next pick false same below harts h = subst (λ (y : World M). TracksRun y harts) (sym same) h
+
+  listed_ran : (given : Given) (k : ℕ) (w : World M) (cycles : List Taken) → IsListed K o given k w cycles → Ran K o given k w
+  listed_ran given zero w cycles h = h.0
+  listed_ran given (suc k) w cycles (before, earlier, c, h, is) = (before, listed_ran given k before earlier h, c)
+
+  tracks_run : (given : Given) (k : ℕ) (w : World M) (cycles : List Taken) → 1 ≤ o.geometry.epoch → IsRising 0 given.config.cuts
+      → IsListed K o given k w cycles → TracksRun w (harts_of o cycles)
+  tracks_run given zero w cycles least rising (first, none) =
+      let nothing : harts_of o cycles ≡ [] = ap (harts_of o) none in
+      let here : reach (seen K o w) - o.start.count ≡ 0 = ap (λ (v : View). reach v - o.start.count) first.found ∙ first_reach o o.kept in
+      subst (λ (l : List ℕ). TracksRun w l) (sym nothing) (record {
+        agree = λ i less. absurd (omega (arith, less, here));
+        long = omega (arith, here);
+        there = λ on. here;
+      })
+  tracks_run given (suc k) w cycles least rising (before, earlier, c, h, is) =
+      let stands = (Good-ran K o given k before least rising (listed_ran given k before earlier h)).stands in
+      let e : Executed = executed (setting_of o) o.start (changes_of earlier) in
+      let t : Taken = taken_in K o given.config.cuts given.config.tears before w c in
+      let after : harts_of o cycles ≡ harts_by (setting_of o) o.start e.pcs e.harts t.stepped.did =
+      ap (harts_of o) is
+      ∙ ap (λ (l : List Change). (executed (setting_of o) o.start l).harts) (sym (changes-one earlier t))
+      ∙ ap (λ (x : Executed). x.harts) (fold-append (executed_after (setting_of o) o.start) nothing_executed (changes_of earlier) (changes_in t.stepped.did)) in
+      let between = step_on before c.between c.steps stands e.pcs e.harts (tracks_run given k before earlier least rising h) in
+      let fits = (Coheres-stepped K o before least stands c.between c.steps).fits in
+      let pick : ℕ = tear given.config.tears c.between.passed in
+      subst (λ (l : List ℕ). TracksRun w l) (sym after)
+      (by_cut c.between w pick (is_due K o given.config.cuts c.between) c.cut
+      (λ cut. subst (λ (v : View). reach v - o.start.count ≤ reach (seen K o c.between) - o.start.count) (sym cut.found)
+      (cut_below (line o c.between) (seen K o c.between) (marks_of o c.between.events) (K.decode o.geometry ceiling w.device.image) fits
+      (c.steps.is_step.safe w.device.image cut.cut.crash)))
+      (harts_by (setting_of o) o.start e.pcs e.harts t.stepped.did) between)
+
+-- ---- the state
+
+turns-alike : (g : Setting) (a b : List ℕ) (k : ℕ) (s : State) → ((i : ℕ) → i < k → get_or a i 0 ≡ get_or b i 0) → by_turns g a k s ≡ by_turns g b k s
+unfolding by_turns
+turns-alike g a b zero s same = refl
+turns-alike g a b (suc k) s same =
+    ap (λ (h : ℕ). step_of g h (by_turns g a k s)) (same k (omega arith))
+    ∙ ap (step_of g (get_or b k 0)) (turns-alike g a b k s (λ i less. same i (omega (arith, less))))
+
+at-turns : (o : Origin) (k : ℕ) → by_turns (setting_of o) o.turns (k - o.start.count) o.start ≡ at o k
+unfolding at
+at-turns o k = refl
+
+pub follows-runs : {M : Type 0} (K : KindOf M) → FollowsRuns K
+follows-runs {M = M} K o given k w cycles least rising listed up =
+    let h = tracks_run K o given k w cycles least rising listed in
+    let harts : List ℕ = harts_of o cycles in
+    let v : View = seen K o w in
+    let count : reach v ≡ v.count = reach-count v (λ boots. not_boot (is_boot v.phase) (ap is_boot boots) up) in
+    let many : length harts ≡ v.count - o.start.count = sym (h.there up) ∙ ap (λ (n : ℕ). n - o.start.count) count in
+    record {
+      state = ap (λ (n : ℕ). by_turns (setting_of o) harts n o.start) many
+          ∙ turns-alike (setting_of o) harts w.turns (v.count - o.start.count) o.start (λ i less. h.agree i (omega (arith, less, count)))
+          ∙ at-turns (line o w) v.count;
+    }

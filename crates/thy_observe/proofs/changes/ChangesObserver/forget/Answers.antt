@@ -1,0 +1,4 @@
+use Rattle.thy_observe.proofs.changes.ChangesObserver.forget.Goals as goal
+
+pub returns : goal.returns
+returns c = λ seen r h. h.0

@@ -1,0 +1,208 @@
+//! The instructions of a run, executed again on the plain machine: how often each program counter retired.
+ghost use Rattle.std.specs.Prelude.{◌≡◌, [], take, IfOk, OnOk};
+ghost use Rattle.thy_isa.specs.Step.{state_of};
+ghost use Rattle.thy_plain.specs.Machine.{stepped_by};
+ghost use Rattle.thy_observe.specs.Following.{FollowsRuns};
+ghost use Rattle.thy_observe.specs.Replaying.{AddsOne, AreCounts, Executed, IsPlainAt, IsReplay, executed_by, executed_of, nothing_executed, pc_in};
+
+use crate::changes::Change;
+use std::alloc::{AllocError, Global};
+use std::collections::BTreeMap;
+use thy_base::Geometry;
+use thy_isa::MachState;
+use thy_layout::Start;
+use thy_plain::Plain;
+use thy_view::Computer;
+
+/// The states whose count is at least this are not executed further.
+const MOST_COUNT: u64 = 1 << 62;
+
+/// Why a run is not executed again.
+#[derive(Clone, Copy, Debug, PartialEq, Eq, Drop)]
+pub enum ReplayError {
+    /// Memory ran out.
+    Memory,
+    /// There are more instructions than can be counted.
+    Count,
+}
+
+impl From<AllocError> for ReplayError {
+    fn from(_error: AllocError) -> ReplayError {
+        ReplayError::Memory
+    }
+}
+
+/// A run that is executed again, up to a change of its state.
+#[derive(Drop)]
+struct Replay {
+    /// The plain machine there.
+    plain: Plain,
+    /// The harts that retired the instructions from the start up to there, those that were lost left out.
+    harts: Vec<u32>,
+    /// How often each program counter retired, lost instructions included.
+    counts: BTreeMap<u64, u64>,
+}
+
+/// The program counter of a hart.
+fn pc_of(hart: u32, state: &MachState) -> u64
+    ensures { result ≡ pc_in hart (state_of state.now) }
+{
+    if hart == 0 {
+        return state.pc;
+    }
+    match state.other {
+        Some(other) => other.pc,
+        None => state.pc,
+    }
+}
+
+/// Counts a program counter once more.
+fn count_one(counts: &mut BTreeMap<u64, u64>, pc: u64) -> Result<(), ReplayError>
+    ensures { OnOk result (AddsOne counts.old counts.new pc) }
+{
+    let count = counts.get(&pc).copied().unwrap_or(0);
+    let Some(next) = count.checked_add(1) else {
+        return Err(ReplayError::Count);
+    };
+    match counts.insert(pc, next) {
+        Ok(_) => Ok(()),
+        Err(_) => Err(ReplayError::Memory),
+    }
+}
+
+/// The plain machine at the start of a run.
+fn at_start(alloc: Global, start: &Start, geometry: &Geometry) -> Result<Plain, AllocError>
+    ensures { IfOk result (IsPlainAt geometry.now start.now []) }
+{
+    let input = start.input.duplicate(alloc)?;
+    Plain::in_state(alloc, &start.state, geometry, input)
+}
+
+/// Executes the next instruction of a hart.
+fn step(plain: &mut Plain, hart: u32) -> Result<(), ReplayError>
+    ensures { OnOk result (plain.new ≡ stepped_by hart plain.old) }
+{
+    if plain.state().count >= MOST_COUNT {
+        return Err(ReplayError::Count);
+    }
+    if hart == 0 {
+        plain.step_of(0);
+    } else {
+        plain.step_of(1);
+    }
+    Ok(())
+}
+
+/// The plain machine once these harts have retired an instruction each, in order, from the start on.
+fn at_turns(
+    alloc: Global,
+    start: &Start,
+    geometry: &Geometry,
+    harts: &[u32],
+) -> Result<Plain, ReplayError>
+    ensures { IfOk result (IsPlainAt geometry.now start.now harts.now) }
+{
+    let mut plain = at_start(alloc, start, geometry)?;
+    for i in 0..harts.len() {
+        step(&mut plain, harts[i])?;
+    }
+    Ok(plain)
+}
+
+/// The first of these harts, if there are more than a number.
+fn first_of(harts: &[u32], most: u64) -> &[u32]
+    ensures { result.now ≡ take most harts.now }
+{
+    if most < harts.len() as u64 {
+        &harts[..most as usize]
+    } else {
+        harts
+    }
+}
+
+/// A replay of a run of this start, before its first change.
+fn begin(alloc: Global, start: &Start, geometry: &Geometry) -> Result<Replay, ReplayError>
+    ensures { IfOk result (IsReplay geometry.now start.now nothing_executed) }
+{
+    Ok(Replay {
+        plain: at_start(alloc, start, geometry)?,
+        harts: Vec::new(alloc),
+        counts: BTreeMap::new(alloc),
+    })
+}
+
+/// The replay where it has the harts that retired these instructions, and the same counts.
+fn back_to(
+    alloc: Global,
+    start: &Start,
+    geometry: &Geometry,
+    replay: Replay,
+    most: u64,
+) -> Result<Replay, ReplayError>
+    ensures { IfOk result (λ next. (e : Executed) → IsReplay geometry.now start.now e replay
+        → IsReplay geometry.now start.now (record e { harts = take most e.harts }) next) }
+{
+    let Replay { harts, counts, .. } = replay;
+    let harts = Vec::from_slice(alloc, first_of(harts.as_slice(), most))?;
+    let plain = at_turns(alloc, start, geometry, harts.as_slice())?;
+    Ok(Replay {
+        plain,
+        harts,
+        counts,
+    })
+}
+
+/// The replay after one more change.
+fn follow(
+    alloc: Global,
+    start: &Start,
+    geometry: &Geometry,
+    replay: Replay,
+    change: Change,
+) -> Result<Replay, ReplayError>
+    ensures { IfOk result (λ next. (e : Executed) → IsReplay geometry.now start.now e replay
+        → IsReplay geometry.now start.now (executed_by geometry.now start.now e change) next) }
+{
+    match change {
+        Change::Loaded => back_to(alloc, start, geometry, replay, 0),
+        Change::Restored(count) => {
+            let most = count.saturating_sub(start.state.count);
+            back_to(alloc, start, geometry, replay, most)
+        }
+        Change::Retired(hart) => {
+            let mut next = replay;
+            count_one(&mut next.counts, pc_of(hart, next.plain.state()))?;
+            if next.harts.push(hart).is_err() {
+                return Err(ReplayError::Memory);
+            }
+            step(&mut next.plain, hart)?;
+            Ok(next)
+        }
+    }
+}
+
+/// How often each program counter retired in a run of this start whose cycles made these changes: an instruction that was
+/// lost at a cut of power, and executed again, counts again.
+///
+/// # Errors
+/// Memory ran out, or there are more instructions than can be counted.
+pub fn count_pcs(
+    alloc: Global,
+    start: &Start,
+    geometry: &Geometry,
+    changes: &[Change],
+) -> Result<BTreeMap<u64, u64>, ReplayError>
+    ensures { IfOk result (λ counts. AreCounts counts.entries (executed_of geometry.now start.now changes.now).pcs) }
+{
+    let mut replay = begin(alloc, start, geometry)?;
+    for change in changes {
+        replay = follow(alloc, start, geometry, replay, *change)?;
+    }
+    Ok(replay.counts)
+}
+
+/// What is executed again is what the run has executed: after each cycle outside a boot, its state is the plain machine's at the
+/// machine's count, by the run's own turns.
+pub fn what_is_executed_follows_the_run<M: Computer>()
+    ensures { FollowsRuns M.kind }
+{}

@@ -1,0 +1,65 @@
+//! All that is seen of a run.
+ghost use Rattle.std.specs.Prelude.{[]};
+ghost use Rattle.thy_observe.specs.Watched.{IsWatch};
+
+use crate::changes::Changes;
+use crate::tally::Tally;
+use std::alloc::Global;
+use thy_isa::MachState;
+use thy_run::Observer;
+use thy_view::Stepped;
+
+/// The tally of a run's cycles, or the trap of the plain machine; and, if that is wanted, what the cycles made of the
+/// program's state.
+#[derive(Drop)]
+pub struct Watch {
+    pub tally: Tally,
+    pub changes: Changes,
+}
+
+impl Watch {
+    /// Of no cycle. Takes no memory.
+    pub fn new(alloc: Global, wants_changes: bool) -> Watch
+        ensures { IsWatch result [] }
+    {
+        Watch {
+            tally: Tally::new(alloc),
+            changes: Changes::new(alloc, wants_changes),
+        }
+    }
+}
+
+impl Observer for Watch {
+    ghost use Rattle.thy_observe.specs.Watched.{IsWatch, KeepsWatch, HasLast};
+
+    ghost has_seen = { IsWatch };
+
+    ghost has_seen_last = { HasLast };
+
+    ghost keeps = { KeepsWatch };
+
+    fn see(&mut self, stepped: &Stepped, told: usize, cycle: u64) {
+        self.tally.see(stepped, told, cycle);
+        self.changes.see(stepped, told, cycle);
+    }
+
+    fn keep(&mut self, stepped: &Stepped) {
+        self.tally.keep(stepped);
+        self.changes.keep(stepped);
+    }
+
+    fn see_cut(&mut self, told: usize, cycle: u64) {
+        self.tally.see_cut(told, cycle);
+        self.changes.see_cut(told, cycle);
+    }
+
+    fn forget(&mut self) {
+        self.tally.forget();
+        self.changes.forget();
+    }
+
+    fn see_last(&mut self, base: u64, state: &MachState) {
+        self.tally.see_last(base, state);
+        self.changes.see_last(base, state);
+    }
+}
