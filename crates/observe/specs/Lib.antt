@@ -1,1 +1,4 @@
+pub mod Wanting
+pub mod Beginning
+pub mod Sections
 pub mod Observing

@@ -1,15 +1,17 @@
 -- What a call of the program does outside: what thynvm does for the same arguments, and then OUT.
-use Rattle.std.specs.Prelude.{◌≡◌, ◌⊎◌, ℕ, ◌==◌, nat_lt, nat_le, Bool, true, false, ◌||◌, List, length, Option, Some, None, Result, Ok, Err}
+use Rattle.std.specs.Prelude.{◌≡◌, ◌⊎◌, ℕ, ◌==◌, nat_lt, nat_le, Bool, true, false, ◌||◌, ◌&&◌, is_none, List, length, [], ◌++◌, Option, Some, None, Result, Ok, Err, MatchBool}
 use Rattle.std.specs.Str.{bytes_eq}
 use Rattle.thy_base.specs.declared.outside.PutError.{PutError}
-use Rattle.thy_base.specs.Outside.{Stream}
+use Rattle.thy_base.specs.Outside.{Stock, Stream}
 use Rattle.thy_text.specs.History.{all_of}
 use Rattle.thy_words.specs.declared.words.WordsError.{WordsError}
 use Rattle.thy_words.specs.declared.words.WordsError.TheVariants.{Usage, Memory}
-use Rattle.thy_words.specs.Settings.{Job, Order, run, resume, bench, compare, plain, make, settings_of}
-use Rattle.thy_observe.specs.declared.tally.Tally.{Tally}
-use Rattle.thy_observe.specs.Tallied.{IsTally}
-use Rattle.thy_observe.specs.Trapping.{HasTrap}
+use Rattle.thy_words.specs.declared.words.Command.{Command}
+use Rattle.thy_words.specs.Settings.{Job, Order, run, resume, bench, compare, plain, make, IsInRange, order_of, settings_of}
+use Rattle.thy_run.specs.Watching.{Taken}
+use Rattle.thy_view.specs.Origin.{setting_of}
+use Rattle.thy_observe.specs.declared.watch.Watch.{Watch}
+use Rattle.thy_observe.specs.Watched.{IsWatch, HasLast}
 use Rattle.thy_answer.specs.declared.answer.Answer.{Answer}
 use Rattle.thy_answer.specs.declared.refusal.Refusal.{Refusal}
 use Rattle.thy_answer.specs.declared.refusal.Refusal.TheVariants.{Words}
@@ -17,6 +19,9 @@ use Rattle.thy_answer.specs.Answering.{Around, NvmOf, Outside, Closes, outside_o
 use Rattle.thy_answer.specs.Machines.{Choice}
 use Rattle.thy_answer.specs.Saving.{IsPut}
 use Rattle.thy_cli.specs.Watching.{ClaimSeen}
+use Rattle.observe.specs.declared.options.Options.{Options}
+use Rattle.observe.specs.Beginning.{IsProgramOf, IsUnreadBy, origin_of, run_in}
+use Rattle.observe.specs.Sections.{IsPcsText}
 
 -- OUT is this name
 abbrev pub is_name : List ℕ → Option (List ℕ) → Bool
@@ -36,9 +41,18 @@ is_taken out (plain file job) = bytes_eq file out || is_of_job out job
 is_taken out (compare file job) = true
 is_taken out (make n name) = true
 
-abbrev pub is_taken_by : List ℕ → Result Order WordsError → Bool
-is_taken_by out (Ok order) = is_taken out order
-is_taken_by out (Err e) = false
+-- an order is refused because of OUT, or because it runs no machine on which an option could see something
+abbrev pub is_refused : Options → List ℕ → Order → Bool
+is_refused options out order = is_taken out order || (options.pcs && is_none (run_in order))
+
+abbrev pub is_refused_by : Options → List ℕ → Result Order WordsError → Bool
+is_refused_by options out (Ok order) = is_refused options out order
+is_refused_by options out (Err e) = false
+
+-- the arguments ask for a command
+pub record IsAskedFor (words : List (List ℕ)) (c : Command) : Type 0 where
+  pub asked : settings_of words ≡ Ok (order_of c)
+  pub in_range : IsInRange (order_of c)
 
 -- the call is refused: a line says why, and all else is left alone
 pub record IsTurnedDown (r : Refusal) (before after : Outside) (status : ℕ) : Type 0 where
@@ -48,14 +62,29 @@ pub record IsTurnedDown (r : Refusal) (before after : Outside) (status : ℕ) : 
   pub terminal : after.terminal ≡ before.terminal
   pub closes : Closes (told_of r).1 before.report after.report
 
--- why a call is refused: because of OUT; that memory ran out for the arguments needs no reason
-abbrev pub IsRefusedFor : List ℕ → List (List ℕ) → WordsError → Type 0
-IsRefusedFor out words Usage = is_taken_by out (settings_of words) ≡ true
-IsRefusedFor out words (Memory e) = Unit {0}
-IsRefusedFor out words e = ⊥
+-- why a call is refused: because of OUT or of an option; that memory ran out for the arguments needs no reason
+abbrev pub IsRefusedFor : Options → List ℕ → List (List ℕ) → WordsError → Type 0
+IsRefusedFor options out words Usage = is_refused_by options out (settings_of words) ≡ true
+IsRefusedFor options out words (Memory e) = Unit {0}
+IsRefusedFor options out words e = ⊥
 
-abbrev pub IsTurned : List ℕ → List (List ℕ) → Outside → Outside → ℕ → WordsError → Type 0
-IsTurned out words before after status e = IsRefusedFor out words e × IsTurnedDown (Words e) before after status
+abbrev pub IsTurned : Options → List ℕ → List (List ℕ) → Outside → Outside → ℕ → WordsError → Type 0
+IsTurned options out words before after status e =
+    IsRefusedFor options out words e × IsTurnedDown (Words e) before after status
+
+-- The program of a run was to be read for an option, and could not be, or is refused: a line says why, as thynvm says it,
+-- and what the shelf holds stays.
+pub record IsUnread (options : Options) (words : List (List ℕ)) (before after : Outside) (status : ℕ) : Type 0 where
+  pub wanted : options.pcs ≡ true
+  pub order : Order
+  pub asked : settings_of words ≡ Ok order
+  pub why : Refusal
+  pub due : IsUnreadBy order before.shelf after.shelf why
+  pub is_status : status ≡ (told_of why).0
+  pub held : after.shelf.held ≡ before.shelf.held
+  pub device : after.device ≡ before.device
+  pub terminal : after.terminal ≡ before.terminal
+  pub closes : Closes (told_of why).1 before.report after.report
 
 -- what is reported of OUT, and the exit status: if OUT was not put, a line says so, and the status is 3
 abbrev pub IsTold : List ℕ → Option PutError → Stream → Stream → (answered status : ℕ) → Type 0
@@ -66,12 +95,29 @@ IsTold out (Some e) old new answered status = Closes (put_line out) old new × (
 abbrev pub was_begun : Answer → Bool
 was_begun a = nat_lt 0 a.cycles || nat_lt 0 (length (all_of a.events)) || nat_le a.status 1 || a.status == 6 || a.status == 8
 
--- a run was begun, and bytes were put under OUT, or were not; all else is left alone
-pub record PutsOut {N : Type 0} (out : List ℕ) (middle after : Around N) (a : Answer) (status : ℕ) : Type 0 where
+-- What is asked for in addition: how often each program counter retired in the cycles that were seen, which are the run's.
+-- The program was read for it before the run, from what the shelf held then.
+pub record HasPcsOf (words : List (List ℕ)) (shelf : Stock) (w : Watch) (section : List ℕ) : Type 0 where
+  pub order : Order
+  pub asked : settings_of words ≡ Ok order
+  pub program : IsProgramOf order shelf
+  pub exact : (seen : List Taken) → IsWatch w seen
+      → IsPcsText (setting_of (origin_of program)) (origin_of program).start seen section
+
+-- nothing is added if nothing is asked for
+abbrev pub AreSections : Options → List (List ℕ) → Stock → Watch → List ℕ → Type 0
+AreSections options words shelf w section = MatchBool options.pcs (HasPcsOf words shelf w section) (section ≡ [])
+
+-- A run was begun, and a text was put under OUT, or was not; all else is left alone. The text ends with what is asked for in
+-- addition.
+pub record PutsOut {N : Type 0} (options : Options) (out : List ℕ) (words : List (List ℕ)) (before middle after : Around N)
+    (a : Answer) (w : Watch) (status : ℕ) : Type 0 where
   pub begun : was_begun a ≡ true
-  pub text : List ℕ
+  pub head : List ℕ
+  pub section : List ℕ
+  pub sections : AreSections options words before.shelf w section
   pub why : Option PutError
-  pub put : IsPut out text middle.shelf after.shelf why
+  pub put : IsPut out (head ++ section) middle.shelf after.shelf why
   pub nvm : after.nvm ≡ middle.nvm
   pub terminal : after.terminal ≡ middle.terminal
   pub is_told : IsTold out why middle.report after.report a.status status
@@ -80,19 +126,20 @@ pub record PutsOut {N : Type 0} (out : List ℕ) (middle after : Around N) (a : 
 abbrev pub LeavesOut : {N : Type 0} → Around N → Around N → Answer → ℕ → Type 0
 LeavesOut middle after a status = (after ≡ middle) × (status ≡ a.status)
 
--- OUT is no name that the arguments have. They were answered as thynvm answers them, and the tally is that of the run's
--- cycles, or has the trap of the plain machine. Then OUT was put, or nothing was.
-pub record IsObserved {N : Type 0} (c : Choice) (d : NvmOf N) (out : List ℕ) (words : List (List ℕ)) (before after : Around N)
-    (status : ℕ) : Type 0 where
-  pub free : is_taken_by out (settings_of words) ≡ false
+-- OUT is no name that the arguments have. They were answered as thynvm answers them, and what was seen is the run's
+-- cycles, or the trap of the plain machine. Then OUT was put, or nothing was.
+pub record IsObserved {N : Type 0} (c : Choice) (d : NvmOf N) (options : Options) (out : List ℕ) (words : List (List ℕ))
+    (before after : Around N) (status : ℕ) : Type 0 where
+  pub free : is_refused_by options out (settings_of words) ≡ false
   pub middle : Around N
   pub answer : Answer
-  pub tally : Tally
-  pub claim : ClaimSeen c d IsTally HasTrap words before middle answer tally
-  pub ends : LeavesOut middle after answer status ⊎ PutsOut out middle after answer status
+  pub watch : Watch
+  pub claim : ClaimSeen c d IsWatch HasLast words before middle answer watch
+  pub ends : LeavesOut middle after answer status ⊎ PutsOut options out words before middle after answer watch status
 
--- what a call does, with OUT and these arguments
-abbrev pub Observed : {N : Type 0} → Choice → NvmOf N → List ℕ → List (List ℕ) → Around N → Around N → ℕ → Type 0
-Observed c d out words before after status =
-    ((e : WordsError) × IsTurned out words (outside_of d before) (outside_of d after) status e)
-    ⊎ IsObserved c d out words before after status
+-- what a call does, with OUT, these options and these arguments
+abbrev pub Observed : {N : Type 0} → Choice → NvmOf N → Options → List ℕ → List (List ℕ) → Around N → Around N → ℕ → Type 0
+Observed c d options out words before after status =
+    ((e : WordsError) × IsTurned options out words (outside_of d before) (outside_of d after) status e)
+    ⊎ IsUnread options words (outside_of d before) (outside_of d after) status
+    ⊎ IsObserved c d options out words before after status

@@ -1,19 +1,25 @@
 //! The program `observe`: does what thynvm does for `run`, `resume`, `bench` and `plain`, and puts text under a name that
-//! says what a run came to: its events with their cycles, the trap, and the totals of the tally.
+//! says what a run came to: its events with their cycles, the trap, and the totals of the tally; and if it is asked for, how
+//! often each program counter retired.
 //!
-//! Open specs/Observing.antt first, and src/top.rt; src/out.rt and what it uses make the text, without contracts. `main` makes
-//! the real shelf, sinks and device. It stands on thy_cli, thy_observe, thy_out and thy_nvm; nothing stands on it.
+//! Open specs/Observing.antt first, and src/top.rt; src/out.rt and what it uses make the text, without contracts, and
+//! src/sections.rt what is added to it, exactly. `main` makes the real shelf, sinks and device. It stands on thy_cli,
+//! thy_files, thy_observe, thy_out and thy_nvm; nothing stands on it.
 #![tactic(auto)]
 
+mod beginning;
 mod lines;
 mod naming;
+mod options;
 mod out;
+mod sections;
 #[cfg(test)]
 mod tests;
 mod top;
 mod totals;
 mod trap;
 
+use crate::options::take_options;
 use crate::top::observe;
 use std::alloc::{AllocError, Global};
 use std::io::ErrorKind;
@@ -53,11 +59,13 @@ fn main(rt: HostRuntime) -> ExitCode {
         return refused(alloc, WordsError::Usage, &mut report);
     }
     let out = words.remove(1);
+    let options = take_options(&mut words);
     let mut shelf = FileShelf::new(rt);
     let mut nvm = Counting::over(MemNvm::new(alloc));
     let status = observe(
         alloc,
         out.as_str(),
+        options,
         &words,
         &mut shelf,
         &mut terminal,

@@ -1,9 +1,11 @@
-//! Whether text can be put under OUT.
+//! Whether text can be put under OUT, and has what is asked for.
 ghost use Rattle.std.specs.Prelude.{◌≡◌, option_map};
 ghost use Rattle.std.specs.String.{string_bytes};
 ghost use Rattle.thy_words.specs.Settings.{job_of, order_of};
-ghost use Rattle.observe.specs.Observing.{is_name, is_of_job, is_taken};
+ghost use Rattle.observe.specs.Observing.{is_name, is_of_job, is_refused, is_taken};
 
+use crate::beginning::run_of;
+use crate::options::Options;
 use thy_words::{Command, Job};
 
 /// Whether OUT is this name.
@@ -24,7 +26,7 @@ fn is_of_job(out: &str, job: &Job) -> bool
 }
 
 /// Whether OUT is the name of a file that a command reads or puts, or the command has nothing to observe.
-pub fn is_taken(out: &str, command: &Command) -> bool
+fn is_taken(out: &str, command: &Command) -> bool
     ensures { result ≡ is_taken out.now (order_of command.now) }
 {
     match command {
@@ -35,4 +37,11 @@ pub fn is_taken(out: &str, command: &Command) -> bool
         Command::Bench { job, .. } => is_of_job(out, job),
         Command::Compare { .. } | Command::Make { .. } => true,
     }
+}
+
+/// Whether a call is refused: because of OUT, or because the command runs no machine on which an option could see something.
+pub fn is_refused(options: Options, out: &str, command: &Command) -> bool
+    ensures { result ≡ is_refused options out.now (order_of command.now) }
+{
+    is_taken(out, command) || (options.pcs && run_of(command).is_none())
 }

@@ -1,6 +1,7 @@
 //! Calls over memory: what is put under OUT, and what is answered if nothing can be put. The words and addresses were worked
 //! out by hand from the encodings, the numbers from the rules of the controller.
 
+use crate::options::take_options;
 use crate::top::observe;
 use std::alloc::{AllocError, Global};
 use std::process::Abort;
@@ -52,7 +53,7 @@ fn shelf_of(alloc: Global, word: u32, failing: &[u64]) -> Result<MemShelf, Alloc
     Ok(MemShelf::new(files, Vec::from_slice(alloc, failing)?))
 }
 
-/// Calls with OUT and the arguments, separated by spaces, over this shelf and this device.
+/// Calls with OUT and the arguments, options among them, separated by spaces, over this shelf and this device.
 fn called_over(
     alloc: Global,
     out: &str,
@@ -67,9 +68,11 @@ fn called_over(
     let mut terminal = MemSink::new(alloc, 4096, Vec::new(alloc))?;
     let mut report = MemSink::new(alloc, 4096, Vec::new(alloc))?;
     let mut nvm = Counting::over(nvm);
+    let options = take_options(&mut words);
     let status = observe(
         alloc,
         out,
+        options,
         &words,
         shelf,
         &mut terminal,
@@ -297,6 +300,59 @@ fn an_out_that_cannot_be_put_is_told(rt: HostRuntime) -> Result<(), Fail> {
     Ok(())
 }
 
+/// What follows the totals of the second of these runs: it executed two of its three instructions again after the cut.
+static PCS: &str = "pcs\n10000 2\n10004 2\n10008 1\n";
+
+/// Whether a text is another one, and a section after it.
+fn ends_with(text: &[u8], head: &str, section: &str) -> bool {
+    match text.strip_prefix(head.as_bytes()) {
+        Some(rest) => rest == section.as_bytes(),
+        None => false,
+    }
+}
+
+#[test]
+fn program_counters_follow_the_totals(rt: HostRuntime) -> Result<(), Fail> {
+    let alloc = rt.alloc();
+    let (line, text) = RUNS[1];
+    let given = called(alloc, "O", line, FIRST, &[])?;
+    assert_eq!(rt; given.put.as_slice(), text.as_bytes());
+    let counted = "thynvm --pcs run F --pages 8 --btt 8 --ptt 8 --cuts 705";
+    let given = called(alloc, "O", counted, FIRST, &[])?;
+    assert_eq!(rt; given.status, 0);
+    assert!(rt; ends_with(given.put.as_slice(), text, PCS));
+    // The limit comes in the boot, so no instruction retires.
+    let booting = "thynvm --pcs run F --pages 8 --btt 8 --ptt 8 --limit 100";
+    let given = called(alloc, "O", booting, FIRST, &[])?;
+    assert_eq!(rt; given.status, 8);
+    assert!(rt; has_line(given.put.as_slice(), "pcs") && has_line(given.put.as_slice(), "none"));
+    Ok(())
+}
+
+#[test]
+fn program_counters_are_refused(rt: HostRuntime) -> Result<(), Fail> {
+    let alloc = rt.alloc();
+    for line in [
+        "thynvm --pcs",
+        "thynvm --pcs --pcs run F",
+        "thynvm --pcs plain F",
+        "thynvm --pcs compare F",
+        "thynvm --pcs=1 run F",
+        "thynvm run F --pcs",
+    ] {
+        let given = called(alloc, "O", line, FIRST, &[])?;
+        assert_eq!(rt; given.status, 2, "{line}");
+        assert_eq!(rt; given.report.as_slice(), b"usage\n".as_slice(), "{line}");
+        assert!(rt; !given.is_put, "{line}");
+    }
+    // Why there is no run is said as without the option.
+    let missing = called(alloc, "O", "thynvm --pcs run G", FIRST, &[])?;
+    assert_eq!(rt; missing.status, 3);
+    assert_eq!(rt; missing.report.as_slice(), b"fetch G missing\n".as_slice());
+    assert!(rt; !missing.is_put);
+    Ok(())
+}
+
 /// The head of a program file of five words at the address 65536.
 static FIVE: [u8; 120] = [
     0x7f, 0x45, 0x4c, 0x46, 0x02, 0x01, 0x01, 0x00, 0x00, 0x00, 0x00, 0x00, 0x00, 0x00, 0x00, 0x00,
@@ -395,6 +451,19 @@ static TRAP_OF_HART_1: [(&str, &str); 3] = [
          epochs 1 early 0 overlapped 0\n",
     ),
 ];
+
+#[test]
+fn program_counters_are_those_of_the_hart_that_retires(rt: HostRuntime) -> Result<(), Fail> {
+    let alloc = rt.alloc();
+    let (_, text) = TRAP_OF_HART_1[0];
+    let line = "thynvm --pcs run F --pages 8 --btt 8 --ptt 8 --harts 2";
+    let mut shelf = shelf_of_five(alloc, TRAPS)?;
+    let given = called_over(alloc, "O", line, &mut shelf, MemNvm::new(alloc))?;
+    assert_eq!(rt; given.status, 1);
+    // Hart 0 retires the branch three times, hart 1 once, and then the store.
+    assert!(rt; ends_with(given.put.as_slice(), text, "pcs\n10000 4\n10004 1\n"));
+    Ok(())
+}
 
 #[test]
 fn the_trap_and_the_moves_are_of_the_hart_that_retires(rt: HostRuntime) -> Result<(), Fail> {

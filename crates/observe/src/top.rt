@@ -1,47 +1,80 @@
 //! The call: what thynvm does, and then OUT.
-ghost use Rattle.std.specs.Prelude.{◌≡◌, IfErr, OnOk, false, map};
+ghost use Rattle.std.specs.Prelude.{◌≡◌, IfErr, IfOk, IfSome, OnOk, false, true, map, option_map};
 ghost use Rattle.std.specs.String.{string_bytes};
+ghost use Rattle.thy_base.specs.Outside.{HasNotFailed};
 ghost use Rattle.thy_answer.specs.Answering.{around, nvm_of};
 ghost use Rattle.thy_answer.specs.Machines.{by_scheme};
 ghost use Rattle.thy_answer.specs.Saving.{IsPut};
 ghost use Rattle.thy_run.specs.Sending.{Sent};
 ghost use Rattle.thy_text.specs.Closings.{closing_of};
-ghost use Rattle.thy_words.specs.Settings.{settings_of};
-ghost use Rattle.observe.specs.Observing.{IsRefusedFor, IsTold, Observed, is_taken_by};
+ghost use Rattle.thy_words.specs.Settings.{IsInRange, order_of, settings_of};
+ghost use Rattle.observe.specs.Beginning.{IsBegunOf, IsUnreadOf};
+ghost use Rattle.observe.specs.Observing.{IsAskedFor, IsRefusedFor, IsTold, Observed, is_refused_by};
 
-use crate::naming::is_taken;
+use crate::beginning::{Begun, begin};
+use crate::naming::is_refused;
+use crate::options::Options;
 use crate::out::{Asked, text_of, was_begun};
+use crate::sections::with_sections;
 use std::alloc::Global;
 use thy_base::{Nvm, PutError, Shelf, Sink};
 use thy_cli::{Refusal, observed, refuse};
 use thy_core::Machine;
 use thy_dual::DualScheme;
 use thy_journal::Journal;
-use thy_observe::{Counts, Tally};
+use thy_observe::{Counts, Watch};
 use thy_shadow::Shadow;
 use thy_text::{Closing, write_closing};
 use thy_view::Computer;
-use thy_words::{WordsError, settings};
+use thy_words::{Command, WordsError, settings};
 
 /// The exit status if OUT could not be put.
 const NOT_PUT: u8 = 3;
 
-/// What has to be known of the arguments; or why the call is refused: because of OUT, or because memory ran out.
-fn asked_of(alloc: Global, out: &str, words: &[String]) -> Result<Asked, WordsError>
+/// The command that the arguments ask for, if they do; or why the call is refused: because of OUT or of an option, or because
+/// memory ran out.
+fn command_of(
+    alloc: Global,
+    options: Options,
+    out: &str,
+    words: &[String],
+) -> Result<Option<Command>, WordsError>
     ensures free { OnOk result
-        (is_taken_by out.now (settings_of (map string_bytes words.now)) ≡ false) }
-    ensures refused { IfErr result (IsRefusedFor out.now (map string_bytes words.now)) }
+        (is_refused_by options out.now (settings_of (map string_bytes words.now)) ≡ false) }
+    ensures asked { IfOk result (λ o. IfSome o (IsAskedFor (map string_bytes words.now))) }
+    ensures refused { IfErr result (IsRefusedFor options out.now (map string_bytes words.now)) }
 {
     match settings(alloc, words) {
         Ok(command) => {
-            let taken = is_taken(out, &command);
-            if taken {
+            let refused = is_refused(options, out, &command);
+            if refused {
                 return Err(WordsError::Usage);
             }
-            Ok(Asked::of(Some(&command)))
+            Ok(Some(command))
         }
         Err(WordsError::Memory(error)) => Err(WordsError::Memory(error)),
-        Err(_) => Ok(Asked::of(None)),
+        Err(_) => Ok(None),
+    }
+}
+
+/// What the run of a command begins with, if an option needs that, and there is a command; or why there is no run.
+fn beginning<'a, H: Shelf>(
+    alloc: Global,
+    options: Options,
+    command: Option<&'a Command>,
+    shelf: &mut H,
+) -> Result<Option<Begun>, Refusal<'a>>
+    requires { IfSome command (λ c. IsInRange (order_of c.now)) }
+    ensures refusal { IfErr result (λ why. (options.pcs ≡ true)
+        × IsUnreadOf (option_map (λ c. order_of c.now) command.entry) (H.stock shelf.old) (H.stock shelf.new) why) }
+    ensures held { (H.stock shelf.new).held ≡ (H.stock shelf.old).held }
+    ensures calm { OnOk result (HasNotFailed (H.stock shelf.old) (H.stock shelf.new)) }
+    ensures begins { IfOk result (λ o. IfSome o
+        (IsBegunOf (option_map (λ c. order_of c.now) command.entry) (H.stock shelf.old))) }
+{
+    match command {
+        Some(command) if options.pcs => begin(alloc, command, shelf),
+        _ => Ok(None),
     }
 }
 
@@ -76,13 +109,15 @@ fn tell<R: Sink>(out: &str, why: Option<PutError>, status: u8, report: &mut R) -
 }
 
 /// Does what thynvm does for the arguments, the program's name first, and puts under OUT what the run came to: a line for
-/// each event, the trap, and the totals. Of the plain machine it puts the trap.
+/// each event, the trap, and the totals; and then what the options ask for. Of the plain machine it puts the trap.
 ///
-/// Returns the exit status: 2 if OUT is a name that the arguments have; else that of thynvm, or 3 if OUT could not be put.
-/// Nothing is put if no run was begun, or if memory ran out for what was seen.
+/// Returns the exit status: 2 if OUT is a name that the arguments have, or if the plain machine is to run with an option. It is
+/// 3 if OUT could not be put, and else thynvm's, also if the program that is read for an option has no run. Nothing is put if
+/// no run was begun, or if memory ran out for what was seen.
 pub fn observe<H: Shelf, T: Sink, R: Sink, N: Nvm + Counts>(
     alloc: Global,
     out: &str,
+    options: Options,
     words: &[String],
     shelf: &mut H,
     terminal: &mut T,
@@ -97,19 +132,27 @@ pub fn observe<H: Shelf, T: Sink, R: Sink, N: Nvm + Counts>(
         let machines = by_scheme ⟦<Machine<DualScheme> as Computer>⟧.kind
         ⟦<Machine<Journal> as Computer>⟧.kind
         ⟦<Machine<Shadow> as Computer>⟧.kind in
-        Observed machines nvms out.now (map string_bytes words.now) before after result }
+        Observed machines nvms options out.now (map string_bytes words.now) before after result }
 {
-    let asked = match asked_of(alloc, out, words) {
-        Ok(asked) => asked,
+    let command = match command_of(alloc, options, out, words) {
+        Ok(command) => command,
         Err(why) => return refuse(alloc, Refusal::Words(why), report).status,
     };
-    let mut tally = Tally::new(alloc);
-    let answer = observed(alloc, words, shelf, terminal, report, nvm, &mut tally);
-    let begun = was_begun(&answer);
-    if !begun {
+    let begun = match beginning(alloc, options, command.as_ref(), shelf) {
+        Ok(begun) => begun,
+        Err(refusal) => return refuse(alloc, refusal, report).status,
+    };
+    let asked = Asked::of(command.as_ref());
+    let mut watch = Watch::new(alloc, options.pcs);
+    let answer = observed(alloc, words, shelf, terminal, report, nvm, &mut watch);
+    let ran = was_begun(&answer);
+    if !ran {
         return answer.status;
     }
-    let Ok(Some(text)) = text_of(alloc, asked, &answer, &tally, &nvm.calls()) else {
+    let Ok(Some(head)) = text_of(alloc, asked, &answer, &watch.tally, &nvm.calls()) else {
+        return answer.status;
+    };
+    let Some(text) = with_sections(alloc, head, options, begun, &watch.changes) else {
         return answer.status;
     };
     let why = put_text(alloc, out, text.as_str(), shelf);

@@ -1,0 +1,3 @@
+pub mod BeginningLemmas
+pub mod SectionLemmas
+pub mod PuttingLemmas

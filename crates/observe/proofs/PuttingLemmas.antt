@@ -1,0 +1,130 @@
+-- What a text ends with that is put under OUT.
+use Rattle.std.proofs.Common.{◌≡◌, ℕ, Bool, true, false, List, [], ◌++◌, Option, Some, None, refl, sym, ◌∙◌, ap, ap₂, inl, subst, append-nil}
+use Rattle.std.specs.Prelude.{IfSome, MatchBool, option_map}
+use Rattle.std.specs.Borrow.{Bor}
+use Rattle.thy_base.specs.Bytes.{bytes_of}
+use Rattle.thy_base.specs.Outside.{Stock, Stream}
+use Rattle.thy_isa.specs.OnBlocks.{setting_for}
+use Rattle.thy_isa.specs.Step.{State, Setting, state_of}
+use Rattle.thy_view.specs.Origin.{setting_of}
+use Rattle.thy_words.specs.declared.words.Command.{Command}
+use Rattle.thy_words.specs.Settings.{Order, IsInRange, order_of, settings_of}
+use Rattle.thy_answer.specs.declared.answer.Answer.{Answer}
+use Rattle.thy_answer.specs.declared.refusal.Refusal.{Refusal}
+use Rattle.thy_answer.specs.Answering.{Around, NvmOf, Outside, Closes, around, told_of}
+use Rattle.thy_answer.specs.Machines.{Choice}
+use Rattle.thy_cli.specs.Watching.{ClaimSeen}
+use Rattle.thy_observe.specs.declared.watch.Watch.{Watch}
+use Rattle.thy_observe.specs.Watched.{IsWatch, HasLast}
+use Rattle.observe.specs.declared.beginning.Begun.{Begun}
+use Rattle.observe.specs.declared.options.Options.{Options}
+use Rattle.observe.specs.Beginning.{IsBegunBy, IsBegunOf, IsProgramOf, IsUnreadOf, origin_of}
+use Rattle.observe.specs.Observing.{AreSections, HasPcsOf, IsAskedFor, IsObserved, IsUnread, is_refused_by}
+use Rattle.observe.specs.Sections.{HasPcs, HasSections, IsPcsText}
+
+-- the table belongs to the program which was asked for
+pcs-of : (words : List (List ℕ)) (c : Command) (shelf : Stock) (b : Begun) (w : Watch) (head whole : List ℕ) (h : HasPcs (Some b) w.changes head whole)
+    → h.b ≡ b → IsAskedFor words c → IsBegunBy (order_of c) shelf b → HasPcsOf words shelf w h.section
+pcs-of words c shelf b w head whole h same asked by =
+    let program : IsProgramOf (order_of c) shelf = record { source = by.source; job = by.job; runs = by.runs; program = by.begun.program } in
+    let setting : setting_for h.b.geometry (bytes_of h.b.start.input) ≡ setting_of (origin_of program) =
+    ap (λ (x : Begun). setting_for x.geometry (bytes_of x.start.input)) same ∙ ap₂ setting_for by.begun.geometry by.begun.input in
+    let state : state_of h.b.start.state ≡ (origin_of program).start = ap (λ (x : Begun). state_of x.start.state) same ∙ by.begun.state in
+    record {
+      order = order_of c;
+      asked = asked.asked;
+      program = program;
+      exact = λ seen seeing.
+          subst (λ (g : Setting). IsPcsText g (origin_of program).start seen h.section) setting
+          (subst (λ (s : State). IsPcsText (setting_for h.b.geometry (bytes_of h.b.start.input)) s seen h.section) state (h.exact seen seeing.1));
+    }
+
+-- a text is its head, and what is asked for
+pub record Ends (options : Options) (words : List (List ℕ)) (shelf : Stock) (w : Watch) (head whole : List ℕ) : Type 0 where
+  pub section : List ℕ
+  pub splits : whole ≡ head ++ section
+  pub sections : AreSections options words shelf w section
+
+ends-with : (words : List (List ℕ)) (shelf : Stock) (command : Option Command) (b : Begun) (w : Watch) (head whole : List ℕ)
+    → IfSome command (IsAskedFor words) → IsBegunOf (option_map order_of command) shelf b → (h : HasPcs (Some b) w.changes head whole) → h.b ≡ b
+    → HasPcsOf words shelf w h.section
+ends-with words shelf None b w head whole asked by h same = absurd by
+ends-with words shelf (Some c) b w head whole asked by h same = pcs-of words c shelf b w head whole h same asked by
+
+pub Ends-sections : (options : Options) (words : List (List ℕ)) (shelf : Stock) (command : Option Command) (begun : Option Begun) (w : Watch) (head whole : List ℕ)
+    → IfSome command (IsAskedFor words) → IfSome begun (IsBegunOf (option_map order_of command) shelf)
+    → HasSections options begun w.changes head whole → Ends options words shelf w head whole
+Ends-sections options words shelf command begun w head whole asked by sections = by_wish options.pcs refl begun by sections
+  where
+    by_wish : (wish : Bool) → options.pcs ≡ wish → (o : Option Begun) → IfSome o (IsBegunOf (option_map order_of command) shelf)
+        → MatchBool wish (HasPcs o w.changes head whole) (whole ≡ head) → Ends options words shelf w head whole
+    by_wish false is o by same = record {
+      section = [];
+      splits = same ∙ sym (append-nil head);
+      sections = subst (λ (p : Bool). MatchBool p (HasPcsOf words shelf w []) (◌≡◌ {A = List ℕ} [] [])) (sym is) refl;
+    }
+    by_wish true is None by h = absurd (let both : None ≡ Some h.b = h.is_begun in cc)
+    by_wish true is (Some b) by h = record {
+      section = h.section;
+      splits = h.splits;
+      sections = subst (λ (p : Bool). MatchBool p (HasPcsOf words shelf w h.section) (h.section ≡ [])) (sym is)
+          (ends-with words shelf command b w head whole asked by h (let same : h.b ≡ b = cc in same));
+    }
+
+-- ---- commands and orders
+
+-- a command that is lent is the same order
+pub lent-order : (r : Option (Bor Command)) (command : Option Command) → option_map (λ (c : Bor Command). c.now) r ≡ command
+    → option_map (λ (c : Bor Command). order_of c.now) r ≡ option_map order_of command
+lent-order None command same = ap (option_map order_of) same
+lent-order (Some c) command same = ap (option_map order_of) same
+
+-- its numbers are in range
+pub lent-in-range : (words : List (List ℕ)) (r : Option (Bor Command)) (command : Option Command) → option_map (λ (c : Bor Command). c.now) r ≡ command
+    → IfSome command (IsAskedFor words) → IfSome r (λ (c : Bor Command). IsInRange (order_of c.now))
+lent-in-range words None command same asked = tt
+lent-in-range words (Some c) command same asked = (subst (λ (o : Option Command). IfSome o (IsAskedFor words)) (sym same) asked).in_range
+
+-- if a run has no program, the order which was asked for has none, for the same reason
+pub Unread-asked : (options : Options) (words : List (List ℕ)) (command : Option Command) (why : Refusal) (before after : Outside) (status : ℕ)
+    → options.pcs ≡ true → IfSome command (IsAskedFor words) → IsUnreadOf (option_map order_of command) before.shelf after.shelf why
+    → status ≡ (told_of why).0 → after.shelf.held ≡ before.shelf.held → after.device ≡ before.device → after.terminal ≡ before.terminal
+    → Closes (told_of why).1 before.report after.report → IsUnread options words before after status
+Unread-asked options words None why before after status wanted asked due is held device terminal closes = absurd due
+Unread-asked options words (Some c) why before after status wanted asked due is held device terminal closes = record {
+  wanted = wanted;
+  order = order_of c;
+  asked = asked.asked;
+  why = why;
+  due = due;
+  is_status = is;
+  held = held;
+  device = device;
+  terminal = terminal;
+  closes = closes;
+}
+
+-- ---- the shelf after a program was read from it
+
+pub IsObserved-same : {N : Type 0} (c : Choice) (d : NvmOf N) (options : Options) (out : List ℕ) (words : List (List ℕ)) (old middle : Stock)
+    (nvm : N) (terminal report : Stream) (after : Around N) (status : ℕ)
+    → middle ≡ old → IsObserved c d options out words (around middle nvm terminal report) after status
+    → IsObserved c d options out words (around old nvm terminal report) after status
+IsObserved-same c d options out words old middle nvm terminal report after status same h =
+    subst (λ (s : Stock). IsObserved c d options out words (around s nvm terminal report) after status) same h
+
+-- a call that leaves OUT as it was
+pub IsObserved-left : {N : Type 0} (c : Choice) (d : NvmOf N) (options : Options) (out : List ℕ) (words : List (List ℕ)) (old middle : Stock)
+    (nvm : N) (terminal report : Stream) (after : Around N) (a : Answer) (w : Watch)
+    → middle ≡ old → is_refused_by options out (settings_of words) ≡ false
+    → ClaimSeen c d IsWatch HasLast words (around middle nvm terminal report) after a w
+    → IsObserved c d options out words (around old nvm terminal report) after a.status
+IsObserved-left c d options out words old middle nvm terminal report after a w same free claim =
+    IsObserved-same c d options out words old middle nvm terminal report after a.status same (record {
+      free = free;
+      middle = after;
+      answer = a;
+      watch = w;
+      claim = claim;
+      ends = inl (refl, refl);
+    })
