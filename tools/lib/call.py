@@ -8,6 +8,9 @@ from lib.program import OPERANDS
 # Words of the script alone.
 QUIET, OBSERVE, BUILD = "--quiet", "observe", "build"
 
+# An option of observe, between OUT and the command, and the commands that it goes with.
+PCS, COUNTED = "--pcs", ("run", "resume", "bench")
+
 # What is missing if a call ends before its command, or before OUT.
 COMMANDS = ", ".join(list(OPERANDS)[:-1]) + f" or {list(OPERANDS)[-1]}"
 NO_OUT = "observe needs OUT, the name under which text is put, and then a call"
@@ -20,10 +23,11 @@ def nearest(word, words, dashes=""):
 
 
 class Call:
-    """The words of a call; `fault` is the first that has no place, in words. `out` is the OUT of observe, or None."""
+    """The words of a call; `fault` is the first that has no place, in words. `out` is the OUT of observe, or None; `pcs` is whether
+    program counters are counted."""
 
     def __init__(self, words):
-        self.operands, self.options, self.fault, self.out = [], {}, "", None
+        self.operands, self.options, self.fault, self.out, self.pcs = [], {}, "", None, False
         rest = list(words)
         is_quiet = rest[:1] == [QUIET]
         if is_quiet:
@@ -31,12 +35,14 @@ class Call:
         if rest[:1] == [BUILD]:
             self.fault = f"{BUILD} is a command only as the first word" if is_quiet else f"{BUILD} takes no other word"
         elif rest[:1] == [OBSERVE]:
+            self.pcs = rest[2:3] == [PCS]
+            after = rest[3:] if self.pcs else rest[2:]
             # A command in the place of OUT, and none behind it, is the call's own.
-            if len(rest) < 3 or rest[1] in OPERANDS and rest[2] not in OPERANDS:
+            if not after or rest[1] in OPERANDS and after[0] not in OPERANDS:
                 self.fault = NO_OUT
             else:
                 self.out = rest[1]
-            rest = rest[2:]
+            rest = after
         self.command = rest[0] if rest else ""
         self.known = program.options_of(self.command)
         self.fault = self.fault or self.command_fault(rest)
@@ -47,7 +53,9 @@ class Call:
         if not rest:
             return f"a command is missing: {COMMANDS}"
         if self.command in OPERANDS:
-            return ""
+            return f"{PCS} goes with {', '.join(COUNTED[:-1])} or {COUNTED[-1]}" if self.pcs and self.command == "plain" else ""
+        if self.pcs and self.command == PCS:
+            return f"{PCS} stands twice"
         if self.command.startswith("-"):
             return f"{self.command} stands before the command"
         if self.command in (OBSERVE, BUILD):

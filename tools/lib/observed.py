@@ -13,6 +13,9 @@ EVENT = re.compile(rf"{NUMBER} (0|[1-9][0-9]*|-) ([a-z].*)")
 
 TRAP = re.compile(r"trap [0-9a-f]+(?: [0-9a-f]+){0,2}( hart [01])?")
 
+# The head line of the program counters, a line of one of them, and the line in place of all if none retired.
+PCS, PC, NONE = "pcs", re.compile(rf"(0|[1-9a-f][0-9a-f]*) {NUMBER}"), "none"
+
 # The totals in their order: the first word of each line, and the names of its numbers. A name of None is a number that
 # stands directly behind the first word.
 TOTALS = (
@@ -60,6 +63,7 @@ class Observed:
     events: list
     trap: Optional[str]
     totals: dict  # first word: name: number; what stands directly behind the first word has the name ""
+    pcs: Optional[dict] = None  # program counter: how often it retired; None if this was not asked for
 
     def number(self, word, name=""):
         return self.totals[word][name]
@@ -79,6 +83,26 @@ def totals_of(line, word, names):
     return {name or "": int(number) for name, number in zip(names, found.groups())}
 
 
+def pcs_of(lines):
+    """How often each program counter retired, by the lines after the head line."""
+    if lines == [NONE]:
+        return {}
+    counts = {}
+    for line in lines:
+        found = PC.fullmatch(line)
+        if not found:
+            raise Fault(f"this is not a line of a program counter: {line}")
+        pc, count = int(found[1], 16), int(found[2])
+        if counts and pc <= next(reversed(counts)):
+            raise Fault(f"its program counters do not rise at {found[1]}")
+        if not count:
+            raise Fault(f"the program counter {found[1]} has the count 0")
+        counts[pc] = count
+    if not counts:
+        raise Fault(f"behind its line '{PCS}' it has no line")
+    return counts
+
+
 def read(lines):
     """What lines say that `observe` has written of a run, a resumed run or one of a made program."""
     events, k = [], 0
@@ -88,6 +112,8 @@ def read(lines):
         k += 1
     trap = TRAP.fullmatch(lines[k]) if k < len(lines) else None
     rest = lines[k + 1 :] if trap else lines[k:]
+    head = rest.index(PCS) if PCS in rest else len(rest)
+    rest, counted = rest[:head], rest[head + 1 :] if head < len(rest) else None
     if not events and not rest:
         raise Fault("it has no cycles: `observe` writes none of a run on the plain machine")
     two = len(rest) == len(TOTALS_OF_TWO)
@@ -110,7 +136,10 @@ def read(lines):
             raise Fault(f"its harts retired {retired} instructions, and have to have retired {totals['hart']['retired']}")
         if moved > totals["hart"]["moved"]:
             raise Fault(f"its harts have {moved} moves, and there are {totals['hart']['moved']}")
+    pcs = None if counted is None else pcs_of(counted)
+    if pcs is not None and sum(pcs.values()) != totals["hart"]["retired"]:
+        raise Fault(f"its program counters retired {sum(pcs.values())} times, and have to have {totals['hart']['retired']} times")
     cycles = [event.cycle for event in events]
     if cycles != sorted(cycles) or (cycles and cycles[-1] > totals["cycles"][""] + 1):
         raise Fault("the cycles of its events do not rise, or go past the last one")
-    return Observed(events, trap[0] if trap else None, totals)
+    return Observed(events, trap[0] if trap else None, totals, pcs)

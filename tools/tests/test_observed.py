@@ -33,6 +33,30 @@ class Observed(unittest.TestCase):
         self.assertEqual(seen.trap, "trap 10004 503823 10 hart 1")
         self.assertEqual(seen.totals["hart1"], {"moved": 2, "retired": 2})
 
+    def test_program_counters(self):
+        self.assertIsNone(read(lines(written.CUTS)).pcs)
+        # The run retired 230 instructions, lost ones included.
+        seen = read([*lines(written.CUTS), "pcs", "10000 200", "1000c 29", "abcdef0 1"])
+        self.assertEqual(seen.pcs, {0x10000: 200, 0x1000C: 29, 0xABCDEF0: 1})
+        self.assertEqual(seen.number("epochs"), 5)
+        none = lines(written.CUTS, ("hart moved 460 retired 230", "hart moved 690 retired 0"))
+        self.assertEqual(read([*none, "pcs", "none"]).pcs, {})
+
+    def test_refusals_of_program_counters(self):
+        for more, said in (
+            (["pcs"], "behind its line 'pcs' it has no line"),
+            (["pcs", "none"], "retired 0 times, and have to have 230 times"),
+            (["pcs", "10000 241"], "retired 241 times"),
+            (["pcs", "none", "10000 230"], "not a line of a program counter: none"),
+            (["pcs", "10000 200", "10000 30"], "do not rise at 10000"),
+            (["pcs", "10004 200", "10000 30"], "do not rise at 10000"),
+            (["pcs", "010000 230"], "not a line of a program counter: 010000 230"),
+            (["pcs", "10000 0230"], "not a line of a program counter: 10000 0230"),
+            (["pcs", "10000 230", "10004 0"], "10004 has the count 0"),
+            (["pcs", "10000 230 1"], "not a line of a program counter"),
+        ):
+            self.refuses(said, [*lines(written.CUTS), *more])
+
     def test_what_is_no_event_of_a_report(self):
         for line in ("limit 5", "epochs 5", "memory"):
             self.assertIsNone(observed.Event(1, 1, line).told)

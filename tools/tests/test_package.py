@@ -390,7 +390,8 @@ class Completion(ToolTest):
         self.assertCountEqual(self.proposed("re"), ["resume"])
         self.assertCountEqual(self.proposed("--quiet", ""), [*self.COMMANDS, "observe"])
         self.assertCountEqual(self.proposed("observe", "ot"), ["other"])
-        self.assertCountEqual(self.proposed("observe", "out", ""), ["run", "resume", "bench", "plain"])
+        self.assertCountEqual(self.proposed("observe", "out", ""), ["--pcs", "run", "resume", "bench", "plain"])
+        self.assertCountEqual(self.proposed("observe", "out", "--pcs", ""), ["run", "resume", "bench"])
         self.assertCountEqual(self.proposed("--quiet", "observe", "out", "r"), ["run", "resume"])
 
     def test_options(self):
@@ -401,6 +402,7 @@ class Completion(ToolTest):
         self.assertEqual(self.proposed("compare", "x", "--s"), ["--sets"])
         self.assertCountEqual(self.proposed("run", "x", "--s"), ["--sets", "--scheme", "--save"])
         self.assertEqual(self.proposed("observe", "out", "bench", "7", "--ga"), ["--gap"])
+        self.assertEqual(self.proposed("observe", "out", "--pcs", "bench", "7", "--ga"), ["--gap"])
         self.assertEqual(self.proposed("make", "7", "-"), [])
 
     def test_values(self):
@@ -431,6 +433,9 @@ class Completion(ToolTest):
             ("thynvm observe ot", "thynvm observe other "),
             ("thynvm observe out be", "thynvm observe out bench "),
             ("thynvm observe out co", "thynvm observe out co"),
+            ("thynvm observe out --p", "thynvm observe out --pcs "),
+            ("thynvm observe out --pcs be", "thynvm observe out --pcs bench "),
+            ("thynvm observe out --pcs pl", "thynvm observe out --pcs pl"),
             ("thynvm run --sch", "thynvm run --scheme="),
             ("thynvm run --scheme=jo", "thynvm run --scheme=journal "),
             ("thynvm run --scheme sh", "thynvm run --scheme shadow "),

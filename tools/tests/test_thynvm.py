@@ -38,6 +38,7 @@ class AtOnce(ScriptTest):
         calls += (["observe", "out", "rum"], ["observe", "run", "file"], ["observe", "out", "observe", "out", "run"])
         calls += (["--quiet"], ["--quiet", "build"], ["--quiet", "--version"], ["--quiet", "--quiet", "run"])
         calls += (["build", "now"], ["observe", "out", "--quiet", "run"])
+        calls += (["observe", "out", "--pcs"], ["observe", "out", "--pcs", "--pcs", "run"], ["--pcs", "run", "file"])
         for words in calls:
             self.answers(words, 2, "", "usage\n")
 

@@ -1,6 +1,7 @@
 """Completion in bash and zsh, made from the table of the program's options and from the help page."""
 
 from lib import program
+from lib.call import COUNTED, PCS
 from lib.packaging import pages
 
 # The first words that the script has beside the commands.
@@ -76,7 +77,8 @@ _thynvm() {
     fi
     if [[ ${words[at]} == observe ]]; then
         [[ ${#words[@]} != $((at + 1)) ]] || { _thynvm_files; return; }
-        at=$((at + 2)) before='@OBSERVED@'
+        at=$((at + 2)) before='@PCS@ @OBSERVED@'
+        [[ ${words[at]} != @PCS@ ]] || at=$((at + 1)) before='@COUNTED@'
     fi
     [[ ${#words[@]} -gt $at ]] || { _thynvm_choose "$before"; return; }
     command=${words[at]}
@@ -128,6 +130,8 @@ def bash():
         "FIRST": " ".join(FIRST),
         "COMMANDS": " ".join(program.OPERANDS),
         "OBSERVED": " ".join(OBSERVED),
+        "PCS": PCS,
+        "COUNTED": " ".join(COUNTED),
         "NUMBERS": " | ".join(NUMBERS),
         "OPTIONS": options,
     }
@@ -139,19 +143,22 @@ ZSH = r"""#compdef thynvm
 
 _thynvm() {
     local at=2
-    local -a first commands observed
+    local -a first commands observed counted
     first=(
 @FIRST@    )
     commands=(
 @COMMANDS@    )
     observed=(
 @OBSERVED@    )
+    counted=(
+@COUNTED@    )
     if ((CURRENT > 2)) && [[ $words[2] == --quiet ]]; then
         at=3 first=("${(@M)first:#observe:*}")
     fi
     if ((CURRENT > at)) && [[ $words[at] == observe ]]; then
         ((CURRENT == at + 1)) && { _files; return }
-        at=$((at + 2)) first=() commands=("${(@)observed}")
+        at=$((at + 2)) first=('@PCS@:says how often each program counter retired') commands=("${(@)observed}")
+        ((CURRENT > at)) && [[ $words[at] == @PCS@ ]] && at=$((at + 1)) first=() commands=("${(@)counted}")
     fi
     if ((CURRENT == at)); then
         first+=("${(@)commands}")
@@ -202,6 +209,8 @@ def zsh(page):
         "FIRST": described(FIRST, said),
         "COMMANDS": described(program.OPERANDS, said),
         "OBSERVED": described(OBSERVED, said),
+        "COUNTED": described(COUNTED, said),
+        "PCS": PCS,
         "OPTIONS": options,
     }
     return filled_in(ZSH, parts)
