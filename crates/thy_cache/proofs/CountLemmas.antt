@@ -36,5 +36,6 @@ pub dirty_count-le : (c : Contents) → dirty_count c ≤ way_count c
 dirty_count-le c = sum_by-le-sum_by dirty_lines width c.sets (λ set. count_by-le-length is_dirty set.lines)
 
 -- and so their number fits
-pub dirty-fits : (c : Contents) (s : ℕ) (set : Ways) (dirty : ℕ) → IsSoundCache c.sets dirty → s < length c.sets → width set ≡ width (set_at c s) → dirty_count (with_set s set c) < 2 ^ 64
-dirty-fits c s set dirty sound inside same = omega (arith, sound.fits, way_count-with_set c s set inside same, dirty_count-le (with_set s set c))
+pub dirty-fits : (c : Contents) (s : ℕ) (set : Ways) (dirty modulus : ℕ) → IsSoundCache c.sets dirty modulus → s < length c.sets → width set ≡ width (set_at c s)
+    → dirty_count (with_set s set c) < 2 ^ 64
+dirty-fits c s set dirty modulus sound inside same = omega (arith, sound.fits, way_count-with_set c s set inside same, dirty_count-le (with_set s set c))

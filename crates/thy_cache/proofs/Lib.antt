@@ -2,6 +2,8 @@ pub mod OrderLemmas
 pub mod WaysLemmas
 pub mod LineLemmas
 pub mod AgreeLemmas
+pub mod SingleLemmas
+pub mod MaskLemmas
 pub mod FillLemmas
 pub mod FlatLemmas
 pub mod CountLemmas

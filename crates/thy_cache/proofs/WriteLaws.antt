@@ -140,13 +140,14 @@ write-count c b at bytes inside hit =
     omega (arith, dirty_count-with_set c (index_of c b) (written_to b at bytes (set_of c b)) inside, written-count b at bytes (set_of c b) (way_of (set_of c b) b) refl hit)
 
 -- one more dirty line still fits
-pub write-fits : (c : Contents) (b at : ℕ) (bytes : List ℕ) (dirty : ℕ) → IsSoundCache c.sets dirty → index_of c b < length c.sets → hits c b ≡ true → is_dirty (line_of c b) ≡ false → dirty + 1 < 2 ^ 64
-write-fits c b at bytes dirty sound inside hit pure =
+pub write-fits : (c : Contents) (b at : ℕ) (bytes : List ℕ) (dirty modulus : ℕ) → IsSoundCache c.sets dirty modulus → index_of c b < length c.sets → hits c b ≡ true
+    → is_dirty (line_of c b) ≡ false → dirty + 1 < 2 ^ 64
+write-fits c b at bytes dirty modulus sound inside hit pure =
     let none : dirt (line_of c b) ≡ 0 = ap (λ t. cond t 1 0) pure in
     omega (
       arith,
       sound.counted,
       none,
       write-count c b at bytes inside hit,
-      dirty-fits c (index_of c b) (written_to b at bytes (set_of c b)) dirty sound inside (written-width at bytes (set_of c b) (way_of (set_of c b) b)),
+      dirty-fits c (index_of c b) (written_to b at bytes (set_of c b)) dirty modulus sound inside (written-width at bytes (set_of c b) (way_of (set_of c b) b)),
     )

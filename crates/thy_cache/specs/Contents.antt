@@ -22,8 +22,10 @@ abbrev pub empty_cache : ℕ → ℕ → Contents
 empty_cache sets ways = record { sets = replicate sets (empty_ways ways) }
 
 -- what holds of the parts of a cache
-pub record IsSoundCache (sets : List Ways) (dirty : ℕ) : Type 0 where
+pub record IsSoundCache (sets : List Ways) (dirty modulus : ℕ) : Type 0 where
   pub some_set : 0 < length sets
+  -- blocks are divided by the number of sets
+  pub divides : modulus ≡ length sets
   -- the number is that of the dirty lines
   pub counted : dirty ≡ sum_by dirty_lines sets
   pub fits : sum_by (λ (set : Ways). length set.lines) sets < 2 ^ 64

@@ -1,3 +1,4 @@
+pub mod Modulus
 pub mod Ways
 pub mod Contents
 pub mod Flat

@@ -1,6 +1,6 @@
 -- Part of the claim.
 -- One set of a cache: the lines in its ways, and the order in which the ways were used.
-use Rattle.std.specs.Prelude.{ℕ, ◌<◌, ◌==◌, ◌≡◌, ◌++◌, if◌then◌else◌, Bool, true, false, List, [], ◌∷◌, length, replicate, slice_index, slice_index_or, slice_set, remove, position, count_by, Option, Some, None, is_none, is_some, unwrap_or, option_and_then, All}
+use Rattle.std.specs.Prelude.{ℕ, ◌-◌, ◌<◌, ◌==◌, ◌≡◌, ◌++◌, if◌then◌else◌, Bool, true, false, List, [], ◌∷◌, length, replicate, slice_index, slice_index_or, slice_set, remove, position, count_by, Option, Some, None, is_none, is_some, unwrap_or, option_and_then, All}
 use Rattle.std.specs.List.{range_with_len}
 use Rattle.std.specs.Option.{option_map, option_map_or}
 use Rattle.thy_base.specs.declared.block.Block.{Block}
@@ -23,12 +23,20 @@ empty_ways n = record { lines = replicate n None; order = range_with_len 0 n }
 abbrev pub StandOnce : List ℕ → Type 0
 StandOnce order = (i j : ℕ) → i < length order → j < length order → slice_index order i ≡ slice_index order j → i ≡ j
 
+-- no two ways have lines of one block
+abbrev pub HaveOneLineEach : List (Option Line) → Type 0
+HaveOneLineEach lines =
+    (w v : ℕ) (line other : Line) → slice_index_or lines w None ≡ Some line → slice_index_or lines v None ≡ Some other → line.at ≡ other.at → w ≡ v
+
 -- what holds of the parts of a set
-pub record AreSoundWays (lines : List (Option Line)) (order : List ℕ) : Type 0 where
+pub record AreSoundWays (lines : List (Option Line)) (order : List ℕ) (latest : ℕ) : Type 0 where
   pub some_way : 0 < length lines
   pub all_ordered : length order ≡ length lines
   pub ordered : All (λ w. w < length lines) order
   pub once : StandOnce order
+  -- the way that no other was used after
+  pub used_last : slice_index order (length order - 1) ≡ latest
+  pub single : HaveOneLineEach lines
 
 -- the line in a way
 abbrev pub line_at : Ways → ℕ → Option Line

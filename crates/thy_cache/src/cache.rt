@@ -7,6 +7,7 @@ ghost use Rattle.thy_cache.specs.Contents.{Contents, empty_cache, set_at, set_of
 ghost use Rattle.thy_cache.specs.Flat.{flat, Agrees, PeeksSame, HitsSame, ReadsAs, AgreesWithAll, ReadsAsStore, KeepsLines, IsWritten};
 
 use crate::line::{Flushed, Line, LinePlace, Victim};
+use crate::modulus::Modulus;
 use crate::ways::{WaySet, empty_sets};
 use std::alloc::{AllocError, Global};
 use std::marker::Model;
@@ -18,6 +19,8 @@ use thy_base::{Block, BlockStore, NvmError, Stored};
 pub struct Cache {
     sets: Vec<WaySet>,
     dirty: u64,
+    /// The number of sets.
+    modulus: Modulus,
 }
 
 impl Model for Cache {
@@ -27,7 +30,7 @@ impl Model for Cache {
 
     ghost view = { λ c. record { sets = c.sets.items } };
 
-    ghost invariant = { λ c. IsSoundCache c.sets.items c.dirty };
+    ghost invariant = { λ c. IsSoundCache c.sets.items c.dirty c.modulus };
 }
 
 impl Cache {
@@ -47,16 +50,22 @@ impl Cache {
         if sets.checked_mul(ways).is_none() {
             return Err(AllocError);
         }
+        let modulus = Modulus::new(sets);
         let sets = empty_sets(alloc, sets, ways as usize)?;
-        Ok(Cache { sets, dirty: 0 })
+        Ok(Cache {
+            sets,
+            dirty: 0,
+            modulus,
+        })
     }
 
     /// The number of the set of block `b`.
+    #[inline(always)]
     fn index_of(&self, b: u64) -> usize
         ensures index { result ≡ index_of self.now b }
         ensures inside { result < length self.now.sets }
     {
-        (b % self.sets.len() as u64) as usize
+        self.modulus.rest(b) as usize
     }
 
     /// The line of block `b`.
@@ -68,6 +77,7 @@ impl Cache {
     }
 
     /// The place of the line of block `b`, if the cache has one.
+    #[inline(always)]
     pub fn find(&self, b: u64) -> Option<LinePlace>
         ensures place { result ≡ place_of self.now b }
         ensures hit { is_some result ≡ hits self.now b }
@@ -111,7 +121,8 @@ impl Cache {
     }
 
     /// Notes that the line of block `b`, which is at this place, was used.
-    fn touch(&mut self, b: u64, place: LinePlace)
+    #[inline(always)]
+    fn use_line(&mut self, b: u64, place: LinePlace)
         requires { place_of self.old b ≡ Some place }
         ensures cache { self.new ≡ read_from b self.old }
         ensures inside { index_of self.old b < length self.old.sets }
@@ -119,15 +130,37 @@ impl Cache {
         self.sets[place.set].touch(place.way);
     }
 
-    /// The line of block `b`, which is at this place.
-    fn line_in(&self, b: u64, place: LinePlace) -> Line
+    /// The line of block `b`, which is at this place, where it stands.
+    #[inline(always)]
+    fn line_in(&self, b: u64, place: LinePlace) -> &Line
         requires { place_of self.now b ≡ Some place }
-        ensures { line_of self.now b ≡ Some result }
+        ensures { line_of self.now b ≡ Some result.now }
     {
-        match self.sets[place.set].line(place.way) {
+        match self.sets[place.set].line_ref(place.way) {
             Some(line) => line,
             None => unreachable!(),
         }
+    }
+
+    /// Block `b`, whose line is at this place, where it stands. It does not count as a use: `touch` makes it one.
+    #[inline(always)]
+    pub fn block_in(&self, b: u64, place: LinePlace) -> &Block
+        requires { place_of self.now b ≡ Some place }
+        ensures block { peeked self.now b ≡ Some result.now }
+        ensures reads { ReadsAs self.now b result.now }
+    {
+        let line = self.line_in(b, place);
+        &line.block
+    }
+
+    /// Uses block `b`, whose line is at this place. It is now the most recently used of its set.
+    #[inline(always)]
+    pub fn touch(&mut self, b: u64, place: LinePlace)
+        requires { place_of self.old b ≡ Some place }
+        ensures cache { self.new ≡ read_from b self.old }
+        ensures lines { KeepsLines self.old self.new }
+    {
+        self.use_line(b, place);
     }
 
     /// Block `b`, whose line is at this place. It is now the most recently used of its set.
@@ -139,7 +172,7 @@ impl Cache {
         ensures lines { KeepsLines self.old self.new }
     {
         let block = self.line_in(b, place).block;
-        self.touch(b, place);
+        self.use_line(b, place);
         block
     }
 
@@ -168,9 +201,10 @@ impl Cache {
         }
     }
 
-    /// Puts block `b` in the place of its victim, clean.
+    /// Puts block `b`, which does not hit, in the place of its victim, clean.
     fn place(&mut self, b: u64, block: &Block)
-        requires { is_dirty (victim_line_of self.old b) ≡ false }
+        requires room { is_dirty (victim_line_of self.old b) ≡ false }
+        requires miss { hits self.old b ≡ false }
         ensures cache { self.new ≡ filled_with b block.now self.old }
         ensures inside { index_of self.old b < length self.old.sets }
         ensures way { victim_way (set_of self.old b) < length (set_of self.old b).lines }

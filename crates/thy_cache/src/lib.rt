@@ -8,6 +8,7 @@
 
 mod cache;
 mod line;
+mod modulus;
 mod ways;
 
 pub use cache::Cache;

@@ -1,9 +1,8 @@
 //! One set of a cache.
-ghost use Rattle.std.specs.Prelude.{◌≡◌, ◌<◌, ◌≤◌, ◌+◌, ◌==◌, true, ◌++◌, [], ◌∷◌, length, replicate, remove, position, is_none, IfOk, IfSome};
+ghost use Rattle.std.specs.Prelude.{◌≡◌, ◌<◌, ◌≤◌, ◌+◌, ◌==◌, true, false, ◌++◌, [], ◌∷◌, length, replicate, remove, position, is_some, is_none, IfOk, IfSome};
 ghost use Rattle.std.specs.List.{range_with_len};
 ghost use Rattle.std.specs.Option.{option_map};
-ghost use Rattle.thy_base.specs.Blocks.{overwritten};
-ghost use Rattle.thy_cache.specs.Ways.{is_dirty, has_dirty, empty_ways, line_at, line_in, way_of, moved_last, used, with_line, over_line, clean, changed, filled, victim_way};
+ghost use Rattle.thy_cache.specs.Ways.{is_dirty, has_dirty, empty_ways, holds, line_at, line_in, way_of, moved_last, used, with_line, over_line, clean, changed, filled, victim_way};
 
 use crate::line::Line;
 use std::alloc::{AllocError, Global};
@@ -11,11 +10,13 @@ use std::marker::Model;
 use thy_base::Block;
 
 /// A set: as many ways as it was made with, each with at most one line, and the order in which they
-/// were last used.
+/// were last used. No block has two lines.
 #[derive(Drop)]
 pub(crate) struct WaySet {
     lines: Vec<Option<Line>>,
     order: Vec<usize>,
+    /// The way that was used last, the end of the order. A block is looked for there first.
+    latest: usize,
 }
 
 impl Model for WaySet {
@@ -25,7 +26,7 @@ impl Model for WaySet {
 
     ghost view = { λ s. record { lines = s.lines.items; order = s.order.items } };
 
-    ghost invariant = { λ s. AreSoundWays s.lines.items s.order.items };
+    ghost invariant = { λ s. AreSoundWays s.lines.items s.order.items s.latest };
 }
 
 /// Takes the way at a place of the order and puts it, now `way`, at its end.
@@ -65,11 +66,29 @@ impl WaySet {
     {
         let lines = no_lines(alloc, ways)?;
         let order = rising(alloc, ways)?;
-        Ok(WaySet { lines, order })
+        Ok(WaySet {
+            lines,
+            order,
+            latest: ways - 1,
+        })
     }
 
     /// The way that has a line of block `b`.
+    #[inline(always)]
     pub(crate) fn way_of(&self, b: u64) -> Option<usize>
+        ensures { result ≡ way_of self.now b }
+    {
+        let here = holds(&self.lines[self.latest], b);
+        if here {
+            Some(self.latest)
+        } else {
+            self.first_way_of(b)
+        }
+    }
+
+    /// The first way that has a line of block `b`.
+    #[inline(never)]
+    fn first_way_of(&self, b: u64) -> Option<usize>
         ensures { result ≡ way_of self.now b }
     {
         self.lines
@@ -112,6 +131,15 @@ impl WaySet {
         }
     }
 
+    /// The line in a way, where it stands.
+    #[inline(always)]
+    pub(crate) fn line_ref(&self, way: usize) -> &Option<Line>
+        requires { way < length self.now.lines }
+        ensures { result.now ≡ line_at self.now way }
+    {
+        &self.lines[way]
+    }
+
     /// The line in a way.
     pub(crate) fn line(&self, way: usize) -> Option<Line>
         requires { way < length self.now.lines }
@@ -129,13 +157,15 @@ impl WaySet {
     }
 
     /// Whether a way was the last one used.
+    #[inline(always)]
     fn is_last(&self, way: usize) -> bool
         ensures { result ≡ true → moved_last way self.now.order ≡ self.now.order }
     {
-        self.order[self.order.len() - 1] == way
+        self.latest == way
     }
 
     /// Notes that a way was used.
+    #[inline(always)]
     pub(crate) fn touch(&mut self, way: usize)
         requires { way < length self.old.lines }
         ensures { self.new ≡ used way self.old }
@@ -146,18 +176,21 @@ impl WaySet {
     }
 
     /// Puts a way at the end of the order.
+    #[inline(never)]
     fn move_last(&mut self, way: usize)
         requires { way < length self.old.lines }
         ensures { self.new ≡ used way self.old }
     {
         if let Some(at) = self.place_of(way) {
             move_last(&mut self.order, at, way);
+            self.latest = way;
         }
     }
 
-    /// Puts a line into a way.
-    pub(crate) fn put(&mut self, way: usize, line: Line)
-        requires { way < length self.old.lines }
+    /// Puts a line of a block that has none into a way.
+    fn put(&mut self, way: usize, line: Line)
+        requires way { way < length self.old.lines }
+        requires missing { is_some (line_in self.old line.at) ≡ false }
         ensures { self.new ≡ with_line way line self.old }
     {
         self.lines[way] = Some(line);
@@ -189,7 +222,7 @@ impl WaySet {
         requires bytes { at + length bytes.now ≤ 64 }
         ensures { self.new ≡ over_line (changed at bytes.now) way self.old }
     {
-        self.lines[way] = changed(self.lines[way], at, bytes);
+        write_over(&mut self.lines[way], at, bytes);
     }
 
     /// Notes that the store has the line in a way.
@@ -200,8 +233,9 @@ impl WaySet {
         self.lines[way] = cleaned(self.lines[way]);
     }
 
-    /// Puts block `b` in the place of the victim.
+    /// Puts block `b`, which has no line, in the place of the victim.
     pub(crate) fn fill(&mut self, b: u64, block: &Block)
+        requires { is_some (line_in self.old b) ≡ false }
         ensures { self.new ≡ filled b block.now self.old }
     {
         let way = self.victim();
@@ -237,27 +271,24 @@ fn cleaned(line: Option<Line>) -> Option<Line>
     })
 }
 
-/// A line with bytes written over it from byte `at` on.
-fn changed(line: Option<Line>, at: usize, bytes: &[u8]) -> Option<Line>
+/// Writes bytes over the line in a way, if there is one, from byte `at` on. It is dirty then.
+fn write_over(way: &mut Option<Line>, at: usize, bytes: &[u8])
     requires { at + length bytes.now ≤ 64 }
-    ensures { result ≡ option_map (changed at bytes.now) line }
+    ensures { way.new ≡ option_map (changed at bytes.now) way.old }
 {
-    match line {
-        Some(line) => Some(Line {
-            at: line.at,
-            block: overwritten(line.block, at, bytes),
-            dirty: true,
-        }),
-        None => None,
+    match way {
+        Some(line) => {
+            line.block.put(at, bytes);
+            line.dirty = true;
+        }
+        None => {}
     }
 }
 
-/// A block with bytes written over it from byte `at` on.
-fn overwritten(block: Block, at: usize, bytes: &[u8]) -> Block
-    requires { at + length bytes.now ≤ 64 }
-    ensures { result ≡ overwritten at bytes.now block }
+/// Whether a way has a line of block `b`.
+#[inline(always)]
+fn holds(way: &Option<Line>, b: u64) -> bool
+    ensures { result ≡ holds b way.now }
 {
-    let mut block = block;
-    block.put(at, bytes);
-    block
+    matches!(way, Some(line) if line.at == b)
 }

@@ -49,8 +49,10 @@ fn fetch_word(cache: &mut Cache, at: Span, place: Option<LinePlace>) -> u32
 {
     match place {
         Some(place) => {
-            let block = cache.read_at(at.first_block(), place);
-            word(block.bytes(), at.first_byte() as usize)
+            let b = at.first_block();
+            let number = word(cache.block_in(b, place).bytes(), at.first_byte() as usize);
+            cache.touch(b, place);
+            number
         }
         None => unreachable!(),
     }
@@ -263,8 +265,9 @@ impl HartParts {
     {
         match place {
             Some(place) => {
-                let block = cache.read_at(from.first_block(), place);
-                take_head(&mut self.bytes, &block, from);
+                let b = from.first_block();
+                take_head(&mut self.bytes, cache.block_in(b, place), from);
+                cache.touch(b, place);
                 self.hand = begun(effect, from.rest(), to);
             }
             None => unreachable!(),

@@ -7,8 +7,8 @@ use Rattle.thy_hart.proofs.micro_steps.fetch_word.Goals as goal
 
 pub returns-clause-word : goal.returns-clause-word
 returns-clause-word c =
-    word_read c.args.cache.now c.args.at c.read_at-block.result c.word.result c.requires.len c.requires.whole
-    (subst (λ b. ReadsAs c.args.cache.now b c.read_at-block.result) c.first_block.ensures c.read_at-block.ensures.reads)
-    (c.word.ensures
+    word_read c.args.cache.now c.args.at c.block_in.result.now c.word-number.result c.requires.len c.requires.whole
+    (subst (λ b. ReadsAs c.args.cache.now b c.block_in.result.now) c.first_block-b.ensures c.block_in.ensures.reads)
+    (c.word-number.ensures
     ∙ ap (λ t. number_at 4 t c.first_byte.result) c.bytes.ensures.bytes
-    ∙ ap (number_at 4 (block_bytes c.read_at-block.result)) c.first_byte.ensures)
+    ∙ ap (number_at 4 (block_bytes c.block_in.result.now)) c.first_byte.ensures)

@@ -18,4 +18,4 @@ unreachable-requires c =
     ∙ ap (λ (v : Contents). get_or v.sets c.args.place.set ways) c.self.view_is
     ∙ get_or_default now.sets c.args.place.set ways no_ways inside
     ∙ ap (set_at now) place.set in
-    none_is_none place.line (sym c.in-None.is ∙ c.line.ensures ∙ ap (λ (s : Ways). line_at s c.args.place.way) same ∙ place.stands)
+    none_is_none place.line (sym c.in-None.is ∙ c.line_ref.ensures ∙ ap (λ (s : Ways). line_at s c.args.place.way) same ∙ place.stands)

@@ -6,7 +6,8 @@ use Rattle.thy_cache.proofs.WriteLaws.{ReadsAs-peeked}
 use Rattle.thy_cache.proofs.cache.Cache.read_at.Goals as goal
 
 pub returns-clause-reads : goal.returns-clause-reads
-returns-clause-reads c = ReadsAs-peeked c.args.self.now c.args.b c.line_in.result.block (ap (option_map (λ (line : Line). line.block)) c.line_in.ensures)
+returns-clause-reads c =
+    ReadsAs-peeked c.args.self.now c.args.b c.line_in.result.now.block (ap (option_map (λ (line : Line). line.block)) c.line_in.ensures)
 
 pub returns-clause-lines : goal.returns-clause-lines
-returns-clause-lines c = rw c.touch.ensures.cache (KeepsLines-read c.args.self.now c.args.b c.touch.ensures.inside)
+returns-clause-lines c = rw c.use_line.ensures.cache (KeepsLines-read c.args.self.now c.args.b c.use_line.ensures.inside)

@@ -9,10 +9,10 @@ use Rattle.thy_cache.proofs.cache.Cache.write_line.Goals as goal
 pub overflow_add-self : goal.overflow_add-self
 overflow_add-self c =
     let now : Contents = c.args.self.now in
-    let IsSoundNow : Contents → Type 0 = λ v. IsSoundCache v.sets c.self.inside.dirty in
-    let sound : IsSoundCache now.sets c.self.inside.dirty = subst IsSoundNow c.self.view_is c.self.invariant in
+    let IsSoundNow : Contents → Type 0 = λ v. IsSoundCache v.sets c.self.inside.dirty c.self.inside.modulus in
+    let sound : IsSoundCache now.sets c.self.inside.dirty c.self.inside.modulus = subst IsSoundNow c.self.view_is c.self.invariant in
     let hit : hits now c.args.b ≡ true = sym (place-hits now c.args.b) ∙ ap is_some c.requires.place in
-    let clean : is_dirty (line_of now c.args.b) ≡ false = ap is_dirty c.line_in-was_dirty.ensures ∙ c.if-not-was_dirty.true in
+    let clean : is_dirty (line_of now c.args.b) ≡ false = ap is_dirty c.line_in.ensures ∙ c.if-not-was_dirty.true in
     let fits : c.self.inside.dirty + 1 < 2 ^ 64
-    = write-fits now c.args.b c.args.at c.args.bytes.now c.self.inside.dirty sound (place-inside now c.args.b sound.some_set) hit clean in
+    = write-fits now c.args.b c.args.at c.args.bytes.now c.self.inside.dirty c.self.inside.modulus sound (place-inside now c.args.b sound.some_set) hit clean in
     omega arith

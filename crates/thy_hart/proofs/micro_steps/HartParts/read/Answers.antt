@@ -8,7 +8,7 @@ use Rattle.thy_hart.proofs.micro_steps.HartParts.read.Goals as goal
 pub returns-clause-sound : goal.returns-clause-sound
 returns-clause-sound g c = record {
   range = c.requires.range;
-  in_hand = read-sound c.args.self.now.geometry c.args.effect c.args.from c.args.to c.read_at-block.result c.args.self.now.bytes.items c.take_head.new.piece.items c.begun-self.result
+  in_hand = read-sound c.args.self.now.geometry c.args.effect c.args.from c.args.to c.block_in.result.now c.args.self.now.bytes.items c.take_head.new.piece.items c.begun-self.result
       c.requires.reading c.take_head.ensures (c.begun-self.ensures ∙ ap (λ (s : Span). begun c.args.effect s c.args.to) c.rest.ensures);
 }
 
