@@ -18,7 +18,7 @@ none_before ways b w k single here below = elim (cases_Bool (holds b (line_at wa
   | inr not_so ↦ not_so
 ]
 
--- so it is the first
+-- a way that alone has the block is the first
 pub way_of-held : (ways : Ways) (b w : ℕ) → HaveOneLineEach ways.lines → w < length ways.lines → holds b (line_at ways w) ≡ true → way_of ways b ≡ Some w
 way_of-held ways b w single inside here =
     let first : place ways b ≡ w

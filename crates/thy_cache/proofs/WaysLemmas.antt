@@ -28,7 +28,7 @@ range_below n =
     All-from_get_or Below (range_with_len 0 n) 0
     (λ i h. let inside : i < n = omega (arith, h, length-range_with_len 0 n) in omega (arith, inside, get_or-range_with_len 0 n i 0 inside))
 
--- and the last of them is the greatest
+-- the last of these numbers is the greatest
 range_last : (n : ℕ) → 0 < n → get_or (range_with_len 0 n) (length (range_with_len 0 n) - 1) 0 ≡ n - 1
 range_last n some =
     let inside : n - 1 < n = omega (arith, some) in
@@ -99,7 +99,7 @@ AreSoundWays-changed f keeps lines order latest way old new sound inside stood b
     subst (λ (o : Option Line). AreSoundWays (slice_set lines way o) order latest) (sym is)
     (rewritten_sound lines order latest way (option_map f (line_at ways way)) sound (HaveOneLineEach-changed f keeps ways way sound.single))
 
--- and after a line of a block that had none was put into a way
+-- after a line of a block that had none was put into a way
 pub AreSoundWays-put : (lines : List (Option Line)) (order : List ℕ) (latest way : ℕ) (line : Line) → AreSoundWays lines order latest
     → is_some (line_in (record { lines = lines; order = order }) line.at) ≡ false → AreSoundWays (slice_set lines way (Some line)) order latest
 AreSoundWays-put lines order latest way line sound missing =

@@ -1,5 +1,5 @@
 -- Each actor's cycle, from what its call leaves.
-use Rattle.std.proofs.Common.{◌≡◌, ◌≢◌, ◌⊎◌, ℕ, ◌-◌, ◌<◌, ◌≤◌, Bool, List, true, false, if◌then◌else◌, length, Option, Some, None, Result, Ok, Err, IsErr, IfOk, OnErr, true≢false, refl, sym, ◌∙◌, ap, subst, inl, inr, arith}
+use Rattle.std.proofs.Common.{◌≡◌, ◌≢◌, ◌⊎◌, ℕ, ◌<◌, ◌≤◌, Bool, List, true, false, if◌then◌else◌, length, Option, Some, None, Result, Ok, Err, IsErr, IfOk, OnErr, true≢false, refl, sym, ◌∙◌, ap, subst, inl, inr, arith}
 use Rattle.thy_base.specs.declared.cause.EndCause.{EndCause}
 use Rattle.thy_base.specs.declared.nvm.NvmError.{NvmError}
 use Rattle.thy_base.specs.Counts.{Rose, RoseByOne}
@@ -430,7 +430,7 @@ waits_fails K o m next n new (Err e) f = waits_failed K o m next n new f
 
 -- what it asked for
 abbrev pub CalledOnce : {S N : Type 0} → SchemeOf S → (N → Device) → SchemeStore S → N → SchemeStore S → N → Type 0
-CalledOnce K device a x b y = ((b ≡ a) × (y ≡ x)) ⊎ IsOneCall K a.scheme (device x) b.scheme (device y)
+CalledOnce K device a x b y = ((b ≡ a) × (y ≡ x)) ⊎ IsOneCall K a (device x) b (device y)
 
 pub asked_once : {S N : Type 0} (K : SchemeOf S) (device : N → Device) (a b : SchemeStore S) (x y : N) → CalledOnce K device a x b y
     → IsAsked K a.scheme (device x) b.scheme (device y)
@@ -453,7 +453,7 @@ down_now false false up rose = absurd (let more = rose.more in omega (arith, mor
 
 pub failed_once : {S N : Type 0} (K : SchemeOf S) (device : N → Device) (a b : SchemeStore S) (x y : N) → (device x).down ≡ false
     → CalledOnce K device a x b y → RoseByOne (failed_calls (device x)) (failed_calls (device y))
-    → IsOneCall K a.scheme (device x) b.scheme (device y) × ((device y).down ≡ true)
+    → IsOneCall K a (device x) b (device y) × ((device y).down ≡ true)
 failed_once K device a b x y up (inl same) rose =
     let down = down_now (device x).down (device y).down up rose in
     absurd (let kept = ap (λ z. (device z).down) same.1 in cc)

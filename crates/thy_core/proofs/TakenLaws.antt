@@ -1,14 +1,15 @@
 -- A cycle of the actor whose turn it is, is a step of a machine.
-use Rattle.std.proofs.Common.{◌≡◌, ℕ, ◌+◌, ◌<◌, ◌^◌, ◌&&◌, not, true, false, length, refl, sym, ◌∙◌, ap, subst}
+use Rattle.std.proofs.Common.{◌≡◌, ℕ, ◌+◌, ◌<◌, ◌^◌, ◌&&◌, not, Bool, true, false, length, Result, Ok, Err, is_err, refl, sym, ◌∙◌, ap, subst}
 use Rattle.thy_base.specs.declared.mix.Pick.{Pick}
-use Rattle.thy_base.specs.Device.{Device}
+use Rattle.thy_base.specs.declared.nvm.NvmError.{NvmError}
+use Rattle.thy_base.specs.Device.{Device, CountsFault}
 use Rattle.thy_layout.specs.declared.start.Start.{Start}
 use Rattle.thy_view.specs.declared.did.Did.{Did}
 use Rattle.thy_view.specs.declared.did.Stepped.{Stepped}
 use Rattle.thy_view.specs.declared.view.Phase.{Phase}
 use Rattle.thy_view.specs.declared.view.Phase.TheVariants.{Boot, Run, Halt}
 use Rattle.thy_view.specs.declared.view.View.{View}
-use Rattle.thy_view.specs.Kind.{IsStep, LeavesSafe}
+use Rattle.thy_view.specs.Kind.{IsStep, LeavesSafe, CanStep, Simulates, FailsSafe}
 use Rattle.thy_view.specs.Origin.{Origin, Begins}
 use Rattle.thy_view.specs.Told.{told, IsThere, HasTurn}
 use Rattle.thy_view.specs.Turn.{Actor, Does, HandsOn, told_at, turn_of}
@@ -20,7 +21,7 @@ use Rattle.thy_core_laws.specs.Sound.{Sound, IsAt}
 use Rattle.thy_core_laws.specs.Kind.{kind_over}
 use Rattle.thy_core_laws.specs.Rows.{IsMoment, At}
 use Rattle.thy_core.specs.Turns.{turn_now}
-use Rattle.thy_core.specs.Cycles.{IsTurnOf, IsCycle, HasFailedAs}
+use Rattle.thy_core.specs.Cycles.{HasStart, IsTurnOf, IsCycle, HasFailedAs, HasTaken, HasReported, reported, noted}
 use Rattle.thy_view.proofs.TurnLaws.{Begins-told}
 use Rattle.thy_view.proofs.ReachLaws.{finds-turns}
 use Rattle.thy_core_laws.proofs.Facts.{view-run}
@@ -103,3 +104,61 @@ step_failed K o cycles pick nvm actor m next n new at queued is f =
     let turn = actor_is K o cycles pick nvm actor m n at queued is in
     failing_is_safe K o cycles pick m (record next { failed = true }) n new f.did (told_at actor) at f.fails f.processor refl
     (subst (Does f.did) turn f.does, ap told_at turn, f.due)
+
+-- ---- a cycle that was taken and reported, at its turn
+
+-- it is the one that halts
+abbrev ended_by : {S : Type 0} → Machine S → Machine S → Bool
+ended_by m behind = not (is_halt m.phase) && is_halt behind.phase
+
+module _ {S : Type 0} (K : SchemeOf S) (l : IsLawful K) (start : Start) (pick : Pick) (nvm : ℕ) (actor : Actor) (m next behind : Machine S) (n new : Device) (result : Result Stepped NvmError)
+    (queued : nvm ≡ length n.queue) (is : actor ≡ turn_now K pick nvm m) where
+  turn_at : (o : Origin) (k : ℕ) → IsMoment K o k m n → IsTurnOf K o m n actor
+  turn_at o k at = turned K o k pick nvm actor m n at queued is
+
+  cycle_at : (did : Did) → HasTaken K (HasStart start) actor m n behind new (Ok did) → (k : ℕ) → k < 2 ^ 62 → (p : Origin) → Begins p start → Sound K p k m n → IsCycle K p k actor did m n behind new
+  cycle_at did t k few p starts sound =
+      let at = at_run K l p k m n sound few in
+      t.simulates p k starts at (turn_at p k (moment_of K p k m n at))
+
+  steps_by : (taken : Result Did NvmError) → HasTaken K (HasStart start) actor m n behind new taken → next ≡ noted taken behind → result ≡ reported (told_at actor) (ended_by m behind) taken
+      → Simulates (kind_over K) start pick m next n new result
+  steps_by (Ok did) t next_is result_is = λ o k begins here few.
+      rw result_is
+      (rw next_is
+      (steps_taken K l o k pick nvm actor start m behind n new (record { did = did; stall = told_at actor; ended = ended_by m behind })
+      few begins here queued is (cycle_at did t k few) refl refl))
+  steps_by (Err e) t next_is result_is = λ o k begins here few. rw result_is tt
+
+  fails_by : (taken : Result Did NvmError) → HasTaken K (HasStart start) actor m n behind new taken → next ≡ noted taken behind → result ≡ reported (told_at actor) (ended_by m behind) taken
+      → FailsSafe (kind_over K) start pick m next n new result
+  fails_by (Ok did) t next_is result_is = λ o k begins here. rw result_is tt
+  fails_by (Err e) t next_is result_is = λ o k begins here.
+      let at : IsMoment K o k m n = record { lawful = l; sound = sound-here K o k m n here } in
+      rw result_is (rw next_is (step_failed K o k pick nvm actor m behind n new at queued is (t.fails o k begins at (turn_at o k at))))
+
+  counts_by : (taken : Result Did NvmError) → HasTaken K (HasStart start) actor m n behind new taken → result ≡ reported (told_at actor) (ended_by m behind) taken → CountsFault result n.faults new.faults
+  counts_by (Ok did) t result_is = rw result_is t.cause
+  counts_by (Err e) t result_is = rw result_is t.cause
+
+  notes_by : (taken : Result Did NvmError) → HasTaken K (HasStart start) actor m n behind new taken → next ≡ noted taken behind → result ≡ reported (told_at actor) (ended_by m behind) taken
+      → CanStep (kind_over K) start m n → next.failed ≡ is_err result
+  notes_by (Ok did) t next_is result_is run =
+      rw result_is
+      (rw next_is (unfailed_after K l run.o run.cycles actor start m behind n new did run.begins run.at_moment (cycle_at did t run.cycles run.few)))
+  notes_by (Err e) t next_is result_is run = rw result_is (rw next_is refl)
+
+-- a cycle that was reported is a step of the run
+module _ {S : Type 0} (K : SchemeOf S) (l : IsLawful K) (start : Start) (pick : Pick) (nvm : ℕ) (actor : Actor) (m next : Machine S) (n new : Device) (result : Result Stepped NvmError)
+    (queued : nvm ≡ length n.queue) (is : actor ≡ turn_now K pick nvm m) (r : HasReported K (HasStart start) actor m n next new result) where
+  pub reported_steps : Simulates (kind_over K) start pick m next n new result
+  reported_steps = steps_by K l start pick nvm actor m next r.behind n new result queued is r.cycle r.taken r.next_is r.result_is
+
+  pub reported_fails : FailsSafe (kind_over K) start pick m next n new result
+  reported_fails = fails_by K l start pick nvm actor m next r.behind n new result queued is r.cycle r.taken r.next_is r.result_is
+
+  pub reported_counts : CountsFault result n.faults new.faults
+  reported_counts = counts_by K l start pick nvm actor m next r.behind n new result queued is r.cycle r.taken r.result_is
+
+  pub reported_notes : CanStep (kind_over K) start m n → next.failed ≡ is_err result
+  reported_notes = notes_by K l start pick nvm actor m next r.behind n new result queued is r.cycle r.taken r.next_is r.result_is

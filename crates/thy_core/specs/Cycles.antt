@@ -1,15 +1,17 @@
 -- What a cycle promises at an actor's turn.
-use Rattle.std.specs.Prelude.{◌≡◌, ℕ, ◌<◌, true, List, length, Result, IfOk, OnErr}
+use Rattle.std.specs.Prelude.{◌≡◌, ℕ, ◌<◌, ◌&&◌, not, Bool, true, List, length, Option, Result, Ok, Err, IfOk, OnErr}
 use Rattle.thy_base.specs.declared.nvm.NvmError.{NvmError}
 use Rattle.thy_base.specs.Device.{Device, IsFramed, CountsFault}
 use Rattle.thy_layout.specs.declared.start.Start.{Start}
 use Rattle.thy_view.specs.declared.did.Did.{Did}
+use Rattle.thy_view.specs.declared.did.Stepped.{Stepped}
 use Rattle.thy_view.specs.declared.did.Stall.{Stall}
 use Rattle.thy_view.specs.declared.did.Stall.TheVariants.{Booting, Sealing, Waiting, Halted}
 use Rattle.thy_view.specs.declared.view.Phase.TheVariants.{Boot, Run, Halt}
 use Rattle.thy_view.specs.Origin.{Origin, Begins}
 use Rattle.thy_view.specs.Told.{IsThere, HasTurn}
-use Rattle.thy_view.specs.Turn.{Actor, Nvm, Dram, Checkpoint, Advances, Stalled, HandsOn, Does, Prepares}
+use Rattle.thy_view.specs.Turn.{Actor, Nvm, Dram, Checkpoint, Advances, Stalled, HandsOn, Does, Prepares, told_at}
+use Rattle.thy_view.specs.Views.{is_halt}
 use Rattle.thy_scheme.specs.Scheme.{SchemeOf}
 use Rattle.thy_core_laws.specs.Machine.{Machine, processor_of, view_of, pressure_of}
 use Rattle.thy_core_laws.specs.Rows.{IsMoment, At, HartAdvances, IsSealing, SimulatesCycle}
@@ -84,3 +86,23 @@ pub record HasTaken {S : Type 0} (K : SchemeOf S) (P : Origin → Type 0) (actor
   pub fails : FailsAs K P actor m n next new result
   pub frame : IsFramed n new
   pub cause : CountsFault result n.faults new.faults
+
+-- ---- what is reported
+
+-- a cycle of this result is reported with this stall, and as the one that halts or not
+abbrev pub reported : Option Stall → Bool → Result Did NvmError → Result Stepped NvmError
+reported stall ended (Ok did) = Ok (record { did = did; stall = stall; ended = ended })
+reported stall ended (Err e) = Err e
+
+-- a cycle that failed is noted
+abbrev pub noted : {S : Type 0} → Result Did NvmError → Machine S → Machine S
+noted (Ok did) m = m
+noted (Err e) m = record m { failed = true }
+
+-- a cycle of the actor's was taken, and is reported
+pub record HasReported {S : Type 0} (K : SchemeOf S) (P : Origin → Type 0) (actor : Actor) (m : Machine S) (n : Device) (next : Machine S) (new : Device) (result : Result Stepped NvmError) : Type 0 where
+  pub cycle : Result Did NvmError
+  pub behind : Machine S
+  pub taken : HasTaken K P actor m n behind new cycle
+  pub next_is : next ≡ noted cycle behind
+  pub result_is : result ≡ reported (told_at actor) (not (is_halt m.phase) && is_halt behind.phase) cycle

@@ -1,4 +1,5 @@
 pub mod MachineParts
 pub mod Turns
+pub mod Calm
 pub mod Cycles
 pub mod Reading

@@ -9,6 +9,8 @@ use Rattle.thy_core.specs.declared.parts.Consoles.{Consoles}
 use Rattle.thy_core.specs.declared.parts.MachineParts.{MachineParts}
 use Rattle.thy_core.specs.declared.turn.Actor.{Actor as ActorHere}
 use Rattle.thy_core.specs.declared.turn.Actor.TheVariants as here
+use Rattle.thy_core.specs.declared.turn.Turn.{Turn}
+use Rattle.thy_core.specs.declared.turn.Turn.TheVariants as turns
 use Rattle.thy_core_laws.specs.Machine.{Machine, Lengths}
 
 abbrev pub marks_of : Checkpoints → CheckpointMarks
@@ -34,13 +36,17 @@ machine_of p = record {
   last = p.last;
 }
 
--- an actor, as the view has it
+-- an actor in whose cycle no instruction advances, as the view has it
 abbrev pub actor_seen : ActorHere → Actor
 actor_seen here.Nvm = Nvm
 actor_seen here.Dram = Dram
 actor_seen here.Engine = Checkpoint
-actor_seen (here.Advances hart) = Advances hart
 actor_seen (here.Stalled stall) = Stalled stall
+
+-- whose turn it is, as the view has it
+abbrev pub turn_seen : Turn → Actor
+turn_seen (turns.Advances hart) = Advances hart
+turn_seen (turns.Other actor) = actor_seen actor
 
 -- what a step of the boot restored is of an epoch below this
 abbrev pub IsRestartBelow : ℕ → BootStep → Type 0

@@ -1,25 +1,113 @@
 //! One cycle, at the turn of an actor.
-ghost use Rattle.std.specs.Prelude.{◌≡◌, Ok};
+ghost use Rattle.std.specs.Prelude.{◌≡◌, ◌&&◌, not, false, Ok};
 ghost use Rattle.thy_view.specs.declared.did.Stall.TheVariants.{Waiting, Halted};
 ghost use Rattle.thy_view.specs.declared.view.Phase.TheVariants.{Boot};
-ghost use Rattle.thy_view.specs.Turn.{Nvm, Stalled};
+ghost use Rattle.thy_view.specs.Turn.{Nvm, Stalled, told_at};
+ghost use Rattle.thy_view.specs.Views.{is_halt};
 ghost use Rattle.thy_scheme.specs.Restart.{WritesNothing};
-ghost use Rattle.thy_core.specs.Cycles.{IsAnyRun, HasStart, CanTake, HasTaken};
-ghost use Rattle.thy_core.specs.MachineParts.{machine_of, actor_seen};
+ghost use Rattle.thy_core.specs.Calm.{KnowsCalm};
+ghost use Rattle.thy_core.specs.Cycles.{IsAnyRun, HasStart, CanTake, HasTaken, HasReported, reported, noted};
+ghost use Rattle.thy_core.specs.MachineParts.{machine_of, actor_seen, turn_seen};
 
 use crate::boot::boot;
 use crate::engine::{checkpoint, drain};
 use crate::hart::execute;
 use crate::parts::MachineParts;
 use crate::sealing::prepare;
-use crate::turn::Actor;
+use crate::turn::{Actor, Turn};
 use thy_base::{Nvm, NvmError};
 use thy_layout::Start;
 use thy_scheme::Scheme;
-use thy_view::{Did, Stall};
+use thy_view::{Did, Phase, Stall, Stepped};
 
-/// Takes the cycle of the actor whose turn it is. The engine works for a hart that waits.
-pub(crate) fn cycle<N: Nvm, S: Scheme>(
+/// Takes the cycle of the actor whose turn it is, and reports it. Notes whether it failed.
+#[inline(always)]
+pub(crate) fn take_turn<N: Nvm, S: Scheme>(
+    m: &mut MachineParts<S>,
+    turn: Turn,
+    start: &Start,
+    nvm: &mut N,
+) -> Result<Stepped, NvmError>
+    requires take { CanTake S.scheme (HasStart start.now) (turn_seen turn) (machine_of m.old) (N.device nvm.old) }
+    requires known { KnowsCalm S.scheme m.old }
+    ensures steps { HasReported S.scheme (HasStart start.now) (turn_seen turn)
+        (machine_of m.old) (N.device nvm.old) (machine_of m.new) (N.device nvm.new) result }
+    ensures no_writes { let scheme = m.old.store.scheme in m.old.phase ≡ Boot
+        → WritesNothing S.scheme scheme (N.device nvm.old) (N.writes nvm.old) (N.writes nvm.new) }
+    ensures known { KnowsCalm S.scheme m.new }
+{
+    match turn {
+        Turn::Advances(hart) => {
+            let taken = execute(m, hart, start.input.as_slice(), nvm);
+            report(m, taken, None, false)
+        }
+        Turn::Other(actor) => take_other(m, actor, start, nvm),
+    }
+}
+
+/// Takes a cycle in which no instruction advances, and reports it. Few cycles are of this kind: it is never made part of
+/// the loop. Whether the machine is calm then is found out before the next cycle.
+#[inline(never)]
+fn take_other<N: Nvm, S: Scheme>(
+    m: &mut MachineParts<S>,
+    actor: Actor,
+    start: &Start,
+    nvm: &mut N,
+) -> Result<Stepped, NvmError>
+    requires { CanTake S.scheme (HasStart start.now) (actor_seen actor) (machine_of m.old) (N.device nvm.old) }
+    ensures steps { HasReported S.scheme (HasStart start.now) (actor_seen actor)
+        (machine_of m.old) (N.device nvm.old) (machine_of m.new) (N.device nvm.new) result }
+    ensures no_writes { let scheme = m.old.store.scheme in m.old.phase ≡ Boot
+        → WritesNothing S.scheme scheme (N.device nvm.old) (N.writes nvm.old) (N.writes nvm.new) }
+    ensures unmarked { m.new.store.calm ≡ false }
+{
+    let before = m.phase;
+    let taken = cycle(m, actor, start, nvm);
+    m.store.calm = false;
+    let ended = has_halted(before, m.phase);
+    report(m, taken, told_stall(actor), ended)
+}
+
+/// What a cycle of this result is reported as, with this stall, and as the one that halts or not. Notes whether it failed.
+#[inline(always)]
+fn report<S>(
+    m: &mut MachineParts<S>,
+    taken: Result<Did, NvmError>,
+    stall: Option<Stall>,
+    ended: bool,
+) -> Result<Stepped, NvmError>
+    ensures says { result ≡ reported stall ended taken }
+    ensures notes { machine_of m.new ≡ noted taken (machine_of m.old) }
+    ensures store { m.new.store ≡ m.old.store }
+{
+    match taken {
+        Ok(did) => Ok(Stepped { did, stall, ended }),
+        Err(error) => {
+            m.failed = true;
+            Err(error)
+        }
+    }
+}
+
+/// The stall that is reported at an actor's turn.
+fn told_stall(actor: Actor) -> Option<Stall>
+    ensures { result ≡ told_at (actor_seen actor) }
+{
+    match actor {
+        Actor::Nvm | Actor::Dram | Actor::Engine => None,
+        Actor::Stalled(stall) => Some(stall),
+    }
+}
+
+/// Whether a machine halted by a cycle, from the phases before and after it.
+fn has_halted(before: Phase, after: Phase) -> bool
+    ensures { result ≡ (not (is_halt before) && is_halt after) }
+{
+    before != Phase::Halt && after == Phase::Halt
+}
+
+/// Takes the cycle of another actor than a hart that advances. The engine works for a hart that waits.
+fn cycle<N: Nvm, S: Scheme>(
     m: &mut MachineParts<S>,
     actor: Actor,
     start: &Start,
@@ -35,7 +123,6 @@ pub(crate) fn cycle<N: Nvm, S: Scheme>(
         Actor::Nvm => land(m, nvm),
         Actor::Dram => Ok(drain(m, nvm)),
         Actor::Engine => checkpoint(m, nvm),
-        Actor::Advances(hart) => execute(m, hart, start.input.as_slice(), nvm),
         Actor::Stalled(why) => stalled(m, why, start, nvm),
     }
 }

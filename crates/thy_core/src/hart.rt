@@ -1,9 +1,10 @@
 //! A hart's turn while nothing keeps it.
-ghost use Rattle.std.specs.Prelude.{◌≡◌, ℕ, None, Some, true, ◌+◌, ◌<◌, ◌^◌};
+ghost use Rattle.std.specs.Prelude.{◌≡◌, ℕ, None, Some, true, ◌+◌, ◌<◌, ◌^◌, ◌&&◌, not};
 ghost use Rattle.thy_view.specs.Turn.{Advances};
 ghost use Rattle.thy_hart.specs.declared.hand.Hand.TheVariants.{Nothing};
 ghost use Rattle.thy_core_laws.specs.Calls.{retires_over, retires_by, ends_by, begun_by_hart, hart_did, after_hart};
 ghost use Rattle.thy_core_laws.specs.Machine.{cpu_fronted};
+ghost use Rattle.thy_core.specs.Calm.{KnowsCalm, is_over};
 ghost use Rattle.thy_core.specs.Cycles.{HasInput, CanTake, HasTaken};
 ghost use Rattle.thy_core.specs.MachineParts.{machine_of};
 
@@ -13,16 +14,20 @@ use thy_hart::HartStep;
 use thy_scheme::Scheme;
 use thy_view::Did;
 
-/// Takes a step of this hart, whose instruction is begun if none is.
+/// Takes a step of this hart, whose instruction is begun if none is. A machine stays marked as calm until a line is brought or
+/// the epoch is over.
 pub(crate) fn execute<N: Nvm, S: Scheme>(
     m: &mut MachineParts<S>,
     hart: u8,
     input: &[u8],
     nvm: &mut N,
 ) -> Result<Did, NvmError>
-    requires { CanTake S.scheme (HasInput input.now) (Advances hart) (machine_of m.old) (N.device nvm.old) }
-    ensures { HasTaken S.scheme (HasInput input.now) (Advances hart)
+    requires turn { CanTake S.scheme (HasInput input.now) (Advances hart) (machine_of m.old) (N.device nvm.old) }
+    requires known { KnowsCalm S.scheme m.old }
+    ensures taken { HasTaken S.scheme (HasInput input.now) (Advances hart)
         (machine_of m.old) (N.device nvm.old) (machine_of m.new) (N.device nvm.new) result }
+    ensures phase { m.new.phase ≡ m.old.phase }
+    ensures known { KnowsCalm S.scheme m.new }
 {
     begin(m, hart);
     let free = m.store.scheme.free();
@@ -37,7 +42,8 @@ pub(crate) fn execute<N: Nvm, S: Scheme>(
 fn begin<S>(m: &mut MachineParts<S>, hart: u8)
     requires own { (begun : ℕ) → m.old.begun ≡ Some begun → begun ≡ hart }
     requires hand { m.old.begun ≡ None → m.old.hart.hand ≡ Nothing }
-    ensures { machine_of m.new ≡ begun_by_hart hart (machine_of m.old) }
+    ensures parts { machine_of m.new ≡ begun_by_hart hart (machine_of m.old) }
+    ensures store { m.new.store ≡ m.old.store }
 {
     if m.begun.is_none() {
         m.begun = Some(hart);
@@ -55,7 +61,8 @@ fn front<S>(m: &mut MachineParts<S>, hart: u8)
     }
 }
 
-/// Counts a step of this hart. Once its instruction has ended, hart 0 is in front again.
+/// Counts a step of this hart. Once its instruction has ended, hart 0 is in front again. Once the epoch is over, the machine is
+/// not calm.
 fn count<S>(m: &mut MachineParts<S>, hart: u8, step: HartStep) -> Did
     requires begun { m.old.begun ≡ Some hart }
     requires hand { ends_by step ≡ true → m.old.hart.hand ≡ Nothing }
@@ -63,6 +70,7 @@ fn count<S>(m: &mut MachineParts<S>, hart: u8, step: HartStep) -> Did
     requires lap { m.old.lap + 1 < 2 ^ 64 }
     ensures parts { machine_of m.new ≡ after_hart hart step m.old.hart m.old.cache m.old.store.scheme (machine_of m.old) }
     ensures did { result ≡ hart_did hart step }
+    ensures calm { m.new.store.calm ≡ (not (is_over step) && m.old.store.calm) }
 {
     m.spent += 1;
     if !ends(step) {
@@ -70,12 +78,33 @@ fn count<S>(m: &mut MachineParts<S>, hart: u8, step: HartStep) -> Did
     }
     front(m, hart);
     m.begun = None;
+    unmark(m, step);
     if retires(step) {
         m.lap += 1;
         m.last = Some(hart);
         Did::Retired(hart as u32)
     } else {
         Did::Moved
+    }
+}
+
+/// Once the epoch is over, a machine is not marked as calm.
+fn unmark<S>(m: &mut MachineParts<S>, step: HartStep)
+    ensures { let calm = not (is_over step) && m.old.store.calm in
+        m.new ≡ record m.old { store = record m.old.store { calm = calm } } }
+{
+    if is_over(step) {
+        m.store.calm = false;
+    }
+}
+
+/// Whether an epoch has ended by this step.
+fn is_over(step: HartStep) -> bool
+    ensures { result ≡ is_over step }
+{
+    match step {
+        HartStep::Moved | HartStep::Retired | HartStep::Waiting => false,
+        HartStep::Over(_) => true,
     }
 }
 

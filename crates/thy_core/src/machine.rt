@@ -13,6 +13,7 @@ ghost use Rattle.thy_core.specs.Reading.{ReadsBare, ReadsState, ShowsNone};
 
 use crate::parts::MachineParts;
 use crate::step::take_step;
+use crate::turn::mark_calm;
 use crate::{power, snapshot};
 use std::alloc::{AllocError, Global};
 use std::marker::Model;
@@ -25,11 +26,11 @@ use thy_view::{CoreError, Stepped};
 
 /// One hart or two, with a cache over a scheme of checkpoints. One step is one cycle.
 #[derive(Drop)]
-pub struct Machine<S> {
+pub struct Machine<S: Scheme> {
     parts: MachineParts<S>,
 }
 
-impl<S> Model for Machine<S> {
+impl<S: Scheme> Model for Machine<S> {
     ghost use Rattle.thy_core_laws.specs.Machine.{Machine as MachineOver};
 
     ghost Value = { MachineOver S };
@@ -37,6 +38,10 @@ impl<S> Model for Machine<S> {
     ghost use Rattle.thy_core.specs.MachineParts.{machine_of};
 
     ghost view = { λ m. machine_of m.parts };
+
+    ghost use Rattle.thy_core.specs.Calm.{KnowsCalm};
+
+    ghost invariant = { λ m. KnowsCalm S.scheme m.parts };
 }
 
 impl<S: Scheme> Machine<S> {
@@ -106,6 +111,7 @@ impl<S: Scheme> Machine<S> {
             RestartsUnwritten kind self.old (N.device nvm.old) (N.writes nvm.old) (N.writes nvm.new) }
         ensures failed { self.new.failed ≡ is_err result }
     {
+        mark_calm(&mut self.parts);
         take_step(&mut self.parts, pick, start, nvm)
     }
 

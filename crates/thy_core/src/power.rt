@@ -1,5 +1,5 @@
 //! Power: it comes on, and is lost.
-ghost use Rattle.std.specs.Prelude.{◌≡◌, ℕ, ◌<◌, IfOk, length};
+ghost use Rattle.std.specs.Prelude.{◌≡◌, ℕ, ◌<◌, false, IfOk, length};
 ghost use Rattle.thy_base.specs.Device.{Device};
 ghost use Rattle.thy_dram.specs.Contents.{lost};
 ghost use Rattle.thy_view.specs.declared.view.View.{View};
@@ -30,6 +30,7 @@ pub(crate) fn power_on<S: Scheme>(
     ensures powered { IfOk result (λ m. IsPowered S.scheme geometry.now (machine_of m)) }
     ensures processor { IfOk result (λ m. (machine_of m).hart.cpu ≡ zero_cpu) }
     ensures dram { IfOk result (λ m. S.scheme.dram m.store.scheme ≡ dram) }
+    ensures unmarked { IfOk result (λ m. m.store.calm ≡ false) }
 {
     let numbers = geometry.numbers();
     let cache = Cache::new(alloc, numbers.sets, numbers.ways)?;
@@ -37,7 +38,10 @@ pub(crate) fn power_on<S: Scheme>(
     Ok(MachineParts {
         hart: Hart::new(&CpuState::zero(), 0, geometry),
         cache,
-        store: SchemeStore { scheme },
+        store: SchemeStore {
+            scheme,
+            calm: false,
+        },
         phase: Phase::Boot,
         checkpoints: Checkpoints {
             done: Mark { epoch: 0, count: 0 },

@@ -1,17 +1,27 @@
 //! Whose turn a cycle is.
-ghost use Rattle.std.specs.Prelude.{◌≡◌, is_some};
+ghost use Rattle.std.specs.Prelude.{◌≡◌, ◌&&◌, ◌==◌, false, is_some, length};
+ghost use Rattle.thy_core.specs.Calm.{is_calm, KnowsCalm};
 ghost use Rattle.thy_core_laws.specs.Machine.{shortage_of};
-ghost use Rattle.thy_core.specs.MachineParts.{machine_of, actor_seen};
+ghost use Rattle.thy_core.specs.MachineParts.{machine_of, turn_seen};
 ghost use Rattle.thy_core.specs.Turns.{lacks, stopped_now, waits_now, stall_now, hart_of, hart_now, engine_now, turn_now};
 ghost use Rattle.thy_base.specs.declared.mix.Pick.TheVariants.{Engine as EnginePick};
 ghost use Rattle.thy_view.specs.Turn.{rested, begins};
 
 use crate::parts::MachineParts;
-use thy_base::Pick;
+use thy_base::{Nvm, Pick};
 use thy_scheme::Scheme;
 use thy_view::{Phase, Stall};
 
 /// Who takes a cycle.
+#[derive(Clone, Copy, Debug, PartialEq, Eq)]
+pub(crate) enum Turn {
+    /// This hart, 0 or 1, which advances its instruction.
+    Advances(u8),
+    /// Another actor, and no instruction advances.
+    Other(Actor),
+}
+
+/// Who takes a cycle in which no instruction advances.
 #[derive(Clone, Copy, Debug, PartialEq, Eq)]
 pub(crate) enum Actor {
     /// The NVM's queue.
@@ -20,8 +30,6 @@ pub(crate) enum Actor {
     Dram,
     /// The checkpoint engine.
     Engine,
-    /// This hart, 0 or 1, which advances its instruction.
-    Advances(u8),
     /// The harts, none of which advances an instruction, for this reason.
     Stalled(Stall),
 }
@@ -118,41 +126,88 @@ fn hart_of<S: Scheme>(m: &MachineParts<S>, pick: Pick) -> u8
 
 /// The turn of the hart that a pick comes to, unless there is a stall.
 #[inline(always)]
-fn hart_turn<S: Scheme>(m: &MachineParts<S>, pick: Pick) -> Actor
-    ensures { actor_seen result ≡ hart_now S.scheme pick (machine_of m.now) }
+fn hart_turn<S: Scheme>(m: &MachineParts<S>, pick: Pick) -> Turn
+    ensures { turn_seen result ≡ hart_now S.scheme pick (machine_of m.now) }
 {
     match hart_stall(m) {
-        None => Actor::Advances(hart_of(m, pick)),
-        Some(stall) => Actor::Stalled(stall),
+        None => Turn::Advances(hart_of(m, pick)),
+        Some(stall) => Turn::Other(Actor::Stalled(stall)),
     }
 }
 
-/// Whose turn a pick is, with so many writes queued in the NVM: a hart's if the pick's actor has nothing to do.
+/// Whether each pick is a hart's while no write is queued in the NVM.
+fn is_calm<S: Scheme>(m: &MachineParts<S>) -> bool
+    ensures { result ≡ is_calm S.scheme (machine_of m.now) }
+{
+    !m.store.scheme.under_way() && m.store.scheme.queued() == 0 && hart_stall(m).is_none()
+}
+
+/// Marks a machine as calm if it is. One that is marked stays so until a line is brought, the epoch is over, or another actor
+/// takes a cycle.
 #[inline(always)]
-pub(crate) fn turn_now<S: Scheme>(m: &MachineParts<S>, pick: Pick, nvm: u64) -> Actor
-    ensures { actor_seen result ≡ turn_now S.scheme pick nvm (machine_of m.now) }
+pub(crate) fn mark_calm<S: Scheme>(m: &mut MachineParts<S>)
+    requires { KnowsCalm S.scheme m.old }
+    ensures calm { m.new.store.calm ≡ is_calm S.scheme (machine_of m.old) }
+    ensures same { machine_of m.new ≡ machine_of m.old }
+{
+    if m.store.calm {
+        return;
+    }
+    m.store.calm = is_calm(m);
+}
+
+/// Whose turn a pick is: a hart's if the pick's actor has nothing to do. If only the harts have, no other is asked.
+#[inline(always)]
+pub(crate) fn turn_now<N: Nvm, S: Scheme>(m: &MachineParts<S>, pick: Pick, nvm: &N) -> Turn
+    requires known { KnowsCalm S.scheme m.now }
+    requires up { (N.device nvm.now).down ≡ false }
+    ensures { turn_seen result ≡ turn_now S.scheme pick (length (N.device nvm.now).queue) (machine_of m.now) }
+{
+    if only_harts(m, nvm) {
+        return Turn::Advances(hart_of(m, pick));
+    }
+    turn_of(m, pick, nvm.queued())
+}
+
+/// Whether a machine is marked as calm, and no write is queued in the NVM.
+#[inline(always)]
+fn only_harts<N: Nvm, S>(m: &MachineParts<S>, nvm: &N) -> bool
+    requires { (N.device nvm.now).down ≡ false }
+    ensures { result ≡ (m.now.store.calm && length (N.device nvm.now).queue == 0) }
+{
+    m.store.calm && nvm.queued() == 0
+}
+
+/// Whose turn a pick is, by what each actor has to do, with so many writes queued in the NVM.
+#[inline(always)]
+fn turn_of<S: Scheme>(m: &MachineParts<S>, pick: Pick, nvm: u64) -> Turn
+    ensures { turn_seen result ≡ turn_now S.scheme pick nvm (machine_of m.now) }
 {
     let hart = hart_turn(m, pick);
     match pick {
         Pick::Hart | Pick::Second => hart,
         Pick::Engine => engine_turn(m, hart),
-        Pick::NvmDrain => if nvm == 0 { hart } else { Actor::Nvm },
+        Pick::NvmDrain => if nvm == 0 {
+            hart
+        } else {
+            Turn::Other(Actor::Nvm)
+        },
         Pick::DramDrain => if m.store.scheme.queued() == 0 {
             hart
         } else {
-            Actor::Dram
+            Turn::Other(Actor::Dram)
         },
     }
 }
 
 /// The engine's turn, if a checkpoint is under way, or else a hart's.
-fn engine_turn<S: Scheme>(m: &MachineParts<S>, hart: Actor) -> Actor
-    requires { actor_seen hart ≡ hart_now S.scheme EnginePick (machine_of m.now) }
-    ensures { actor_seen result ≡ engine_now S.scheme EnginePick m.now.phase (machine_of m.now) }
+fn engine_turn<S: Scheme>(m: &MachineParts<S>, hart: Turn) -> Turn
+    requires { turn_seen hart ≡ hart_now S.scheme EnginePick (machine_of m.now) }
+    ensures { turn_seen result ≡ engine_now S.scheme EnginePick m.now.phase (machine_of m.now) }
 {
     match m.phase {
         Phase::Run => if m.store.scheme.under_way() {
-            Actor::Engine
+            Turn::Other(Actor::Engine)
         } else {
             hart
         },

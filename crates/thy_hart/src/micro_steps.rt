@@ -73,6 +73,7 @@ fn blocks_of(span: Span) -> u64
 // them for each device and scheme, called from one place, and makes it part of the loop over cycles.
 impl HartParts {
     /// The block that the next micro-step reads or writes, if it does.
+    #[inline(always)]
     fn next_block(&self) -> Option<u64>
         ensures { result ≡ next_block (hart_state_of self.now) }
     {
@@ -97,6 +98,7 @@ impl HartParts {
     }
 
     /// What the next micro-step finds in the cache.
+    #[inline(always)]
     pub fn next(&self, cache: &Cache) -> LineLookup
         ensures { IsNext cache.now (next_block (hart_state_of self.now)) result }
     {
@@ -110,6 +112,7 @@ impl HartParts {
     }
 
     /// The block of the word at the program counter, if that can be fetched.
+    #[inline(always)]
     fn fetched_block(&self) -> Option<u64>
         ensures { result ≡ fetched_block self.now.geometry self.now.cpu }
     {

@@ -1,16 +1,18 @@
 -- Part of the claim.
 -- A scheme as a store of blocks.
-use Rattle.std.specs.Prelude.{◌≡◌, true}
+use Rattle.std.specs.Prelude.{◌≡◌, true, false}
 use Rattle.thy_base.specs.Counts.{Rose}
 use Rattle.thy_base.specs.Device.{Device, failed_calls}
 use Rattle.thy_base.specs.Store.{Holding}
 use Rattle.thy_scheme.specs.Scheme.{SchemeOf}
 use Rattle.thy_scheme.specs.Calls.{IsOneAccess}
+use Rattle.thy_scheme.specs.declared.scheme_store.SchemeStore.{SchemeStore}
 
--- one load or store, whose failure the NVM has counted
-pub record IsOneCall {S : Type 0} (K : SchemeOf S) (s : S) (n : Device) (t : S) (new : Device) : Type 0 where
-  pub access : IsOneAccess K s n t new
+-- one load or store through a store, whose failure the NVM has counted; after it the store is not marked as calm
+pub record IsOneCall {S : Type 0} (K : SchemeOf S) (a : SchemeStore S) (n : Device) (b : SchemeStore S) (new : Device) : Type 0 where
+  pub access : IsOneAccess K a.scheme n b.scheme new
   pub counted : new.down ≡ true → Rose n.faults new.faults
+  pub unmarked : b.calm ≡ false
 
 -- what a scheme holds, and the calls that have failed
 abbrev pub held_by_scheme : {S : Type 0} → SchemeOf S → S → Device → Holding

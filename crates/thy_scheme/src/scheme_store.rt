@@ -6,6 +6,8 @@ use thy_base::{Block, BlockStore, Nvm, NvmError, Stored};
 #[derive(Drop)]
 pub struct SchemeStore<S> {
     pub scheme: S,
+    /// Its owner has marked it as calm, and no block was loaded or stored through it since.
+    pub calm: bool,
 }
 
 impl<N: Nvm, S: Scheme> BlockStore<N> for SchemeStore<S> {
@@ -14,17 +16,19 @@ impl<N: Nvm, S: Scheme> BlockStore<N> for SchemeStore<S> {
 
     ghost holding = { λ store nvm. held_by_scheme S.scheme store.scheme (N.device nvm) };
 
-    ghost once = { λ a m b n. IsOneCall S.scheme a.scheme (N.device m) b.scheme (N.device n) };
+    ghost once = { λ a m b n. IsOneCall S.scheme a (N.device m) b (N.device n) };
 
     ghost loads = { λ a m b n. b.scheme ≡ a.scheme };
 
     ghost stays = { λ a m b n. S.scheme.stays a.scheme (N.device m) b.scheme (N.device n) };
 
     fn load(&mut self, b: u64, nvm: &mut N) -> Result<Block, NvmError> {
+        self.calm = false;
         self.scheme.load(b, nvm)
     }
 
     fn store(&mut self, b: u64, block: &Block, nvm: &mut N) -> Result<Stored, NvmError> {
+        self.calm = false;
         self.scheme.store(b, block, nvm)
     }
 

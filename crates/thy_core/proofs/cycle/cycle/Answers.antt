@@ -1,8 +1,7 @@
 use Rattle.std.proofs.Common.{◌≡◌, Ok, refl, sym, ◌∙◌, ap, subst}
 use Rattle.thy_view.specs.declared.view.Phase.TheVariants.{Boot, Run}
-use Rattle.thy_view.specs.Turn.{Actor, Nvm, Dram, Checkpoint, Advances, Stalled}
-use Rattle.thy_core_laws.specs.Rows.{HartAdvances}
-use Rattle.thy_core.specs.Cycles.{IsAnyRun, HasStart, HasInput, IsEngineDue, IsTurnOf}
+use Rattle.thy_view.specs.Turn.{Actor, Nvm, Dram, Checkpoint, Stalled}
+use Rattle.thy_core.specs.Cycles.{IsAnyRun, HasStart, IsEngineDue, IsTurnOf}
 use Rattle.thy_core.specs.MachineParts.{machine_of, actor_seen}
 use Rattle.thy_core.proofs.CycleLaws.{taken_is}
 use Rattle.thy_core.proofs.cycle.cycle.Goals as goal
@@ -22,11 +21,6 @@ returns-in-Engine-clause-taken g c =
     taken_is g.S.Scheme.scheme IsAnyRun (HasStart c.args.start.now) Checkpoint (actor_seen c.args.actor) (machine_of c.args.m.now) (machine_of c.checkpoint.new.m) (g.N.Nvm.device c.args.nvm.now) (g.N.Nvm.device c.checkpoint.new.nvm)
     c.checkpoint.result (ap actor_seen c.in-Engine.is) (λ o begins. tt) c.checkpoint.ensures
 
-pub returns-in-Advances-clause-taken : goal.returns-in-Advances-clause-taken
-returns-in-Advances-clause-taken g c =
-    taken_is g.S.Scheme.scheme (HasInput c.as_slice.result.now) (HasStart c.args.start.now) (Advances c.in-Advances.hart) (actor_seen c.args.actor) (machine_of c.args.m.now) (machine_of c.execute.new.m) (g.N.Nvm.device c.args.nvm.now) (g.N.Nvm.device c.execute.new.nvm)
-    c.execute.result (ap actor_seen c.in-Advances.is) (λ o begins. begins.input ∙ sym c.as_slice.ensures) c.execute.ensures
-
 pub returns-in-Stalled-clause-taken : goal.returns-in-Stalled-clause-taken
 returns-in-Stalled-clause-taken g c =
     taken_is g.S.Scheme.scheme (HasStart c.args.start.now) (HasStart c.args.start.now) (Stalled c.in-Stalled.why) (actor_seen c.args.actor) (machine_of c.args.m.now) (machine_of c.stalled.new.m) (g.N.Nvm.device c.args.nvm.now) (g.N.Nvm.device c.stalled.new.nvm)
@@ -38,21 +32,13 @@ returns-in-Nvm-clause-no_writes g c = λ booting o m boots done stays. c.land.en
 pub returns-in-Dram-clause-no_writes : goal.returns-in-Dram-clause-no_writes
 returns-in-Dram-clause-no_writes g c = λ booting o m boots done stays. refl
 
--- in a boot neither the engine nor a hart has the turn
+-- in a boot the engine does not have the turn
 pub returns-in-Engine-clause-no_writes : goal.returns-in-Engine-clause-no_writes
 returns-in-Engine-clause-no_writes g c = λ booting.
     let run = c.requires in
     let due : IsEngineDue g.S.Scheme.scheme (machine_of c.args.m.now)
     = subst (λ (a : Actor). IsTurnOf g.S.Scheme.scheme run.o (machine_of c.args.m.now) (g.N.Nvm.device c.args.nvm.now) a) (ap actor_seen c.in-Engine.is) run.turn in
     let both : Boot ≡ Run = sym booting ∙ due.0 in
-    absurd (cc)
-
-pub returns-in-Advances-clause-no_writes : goal.returns-in-Advances-clause-no_writes
-returns-in-Advances-clause-no_writes g c = λ booting.
-    let run = c.requires in
-    let advances : HartAdvances g.S.Scheme.scheme run.o (machine_of c.args.m.now) (g.N.Nvm.device c.args.nvm.now) c.in-Advances.hart
-    = subst (λ (a : Actor). IsTurnOf g.S.Scheme.scheme run.o (machine_of c.args.m.now) (g.N.Nvm.device c.args.nvm.now) a) (ap actor_seen c.in-Advances.is) run.turn in
-    let both : Boot ≡ Run = sym booting ∙ advances.goes.phase in
     absurd (cc)
 
 pub returns-in-Stalled-clause-no_writes : goal.returns-in-Stalled-clause-no_writes

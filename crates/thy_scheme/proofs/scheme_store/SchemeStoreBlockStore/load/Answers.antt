@@ -1,3 +1,4 @@
+use Rattle.std.proofs.Common.{refl}
 use Rattle.thy_scheme.proofs.scheme_store.SchemeStoreBlockStore.load.Goals as goal
 use Rattle.thy_scheme.proofs.SchemeStoreLemmas.{load_once, load_up, failure_counts, load_counts}
 
@@ -12,6 +13,7 @@ returns-clause-once g c =
     record {
       access = load_once K l s n new c.args.b c.load.result c.requires c.load.ensures.stays c.load.ensures.frame c.load.ensures.same c.load.ensures.err;
       counted = failure_counts c.load.result n new (load_up K l s n new c.args.b c.load.result c.requires c.load.ensures.same) c.load.ensures.cause;
+      unmarked = refl;
     }
 
 -- a failure is counted
