@@ -1,5 +1,6 @@
 -- Part of the claim.
--- The device that a run sees: the one that is handed in, or, with a gap, the levelled lines that it holds.
+-- The device that a run sees: the one that is handed in, or, with a gap, the levelled lines that it holds. A saved image has no
+-- trace of the gap: a run with a gap can be resumed without, and the other way round.
 use Rattle.std.specs.Prelude.{◌≡◌, ℕ, ◌+◌, ◌==◌, if◌then◌else◌, Bool, true, List, map, length, take, Option, Some, None}
 use Rattle.thy_base.specs.declared.block.Block.{Block}
 use Rattle.thy_base.specs.declared.outside.PutError.{PutError}

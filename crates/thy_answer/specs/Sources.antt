@@ -46,7 +46,8 @@ abbrev pub IsTooLong : ℕ → Option (List ℕ) → Type 0
 IsTooLong most there = (bytes : List ℕ) × (there ≡ Some bytes) × (most < length bytes)
 
 -- Why a file of at most so many bytes could not be read: the shelf failed under its name, or its contents are known and it
--- has nothing there, or too much. If an allocation failed the shelf may have failed under it.
+-- has nothing there, or too much. If an allocation failed the shelf may have failed under it. A failed fetch of the input cannot
+-- be reported under the program's name.
 abbrev pub FetchDue : ℕ → Stock → Stock → List ℕ → FetchError → Type 0
 FetchDue most old new name FetchFailed = HasFailedUnder name old new
 FetchDue most old new name NotThere =

@@ -74,7 +74,7 @@ pub fn steps_queue_one_write<F: Fills>()
     ensures { StepsFill F.filling }
 {}
 
-/// Each action leaves fewer.
+/// Each action of a boot, except one that repeats a refusal, lowers the number of actions left by at least one.
 pub fn steps_come_nearer<F: Fills>()
     ensures { StepsComeNearer F.filling }
 {}

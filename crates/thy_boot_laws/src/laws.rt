@@ -8,7 +8,7 @@ pub fn a_boot_shows_what_is_kept<F: Fills>()
     ensures { ViewIsKept F.filling }
 {}
 
-/// It loads exactly if the commit block was read and what is seen has no checkpoint.
+/// A boot of a run loads exactly if the commit block was read and what is seen has no checkpoint.
 pub fn a_boot_loads_only_without_a_checkpoint<F: Fills>()
     ensures { LoadsIfNone F.filling }
 {}

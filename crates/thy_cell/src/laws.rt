@@ -14,7 +14,7 @@ pub fn a_store_goes_elsewhere()
     ensures { StoreGoesElsewhere }
 {}
 
-/// Nor the place at which the checkpoint under way is to have the block, unless the copy comes first.
+/// A store does not write the place at which the checkpoint under way is to have the block, unless the copy comes first.
 pub fn a_store_leaves_the_target()
     ensures { StoreLeavesTarget }
 {}
@@ -29,7 +29,7 @@ pub fn a_store_is_read()
     ensures { StoreReads }
 {}
 
-/// After a store the places hold what they have to.
+/// If the places of a block hold what they have to, they do after a store.
 pub fn a_store_leaves_what_has_to_stand()
     ensures { StoreHolds }
 {}
@@ -94,7 +94,7 @@ pub fn a_promotion_keeps_versions()
     ensures { PromotionKeeps }
 {}
 
-/// And those of the other blocks of the page.
+/// A promotion keeps every version of the other blocks of its page.
 pub fn a_promotion_keeps_others()
     ensures { PromotionKeepsOthers }
 {}
@@ -109,7 +109,7 @@ pub fn a_page_write_keeps_versions()
     ensures { PageWriteKeeps }
 {}
 
-/// And those of the other blocks of the page.
+/// The write of a page's block keeps every version of the other blocks of the page.
 pub fn a_page_write_keeps_others()
     ensures { PageWriteKeepsOthers }
 {}

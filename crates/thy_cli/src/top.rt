@@ -17,8 +17,8 @@ use thy_run::{Observer, Silent};
 use thy_shadow::Shadow;
 use thy_view::Computer;
 
-/// Does what the arguments after the program's name ask for: `run FILE`, `resume IMAGE`, `bench N`, `compare FILE`,
-/// `plain FILE` or `make N OUT`, and options.
+/// Does what the arguments after the program's name ask for, and keeps the claim of this project (`docs/THEOREM.md`):
+/// `run FILE`, `resume IMAGE`, `bench N`, `compare FILE`, `plain FILE` or `make N OUT`, and options.
 ///
 /// `run` runs a program file on the machine, `bench` the one that is made from a number, and `resume` continues from a
 /// saved image. With `--scheme` the machine has another scheme of checkpoints. The console's bytes go to `terminal` when
@@ -59,7 +59,7 @@ pub fn thynvm<H: Shelf, T: Sink, R: Sink, N: Nvm>(
     observed(alloc, words, shelf, terminal, report, nvm, &mut Silent)
 }
 
-/// Does the same, and lets an observer, which has seen nothing yet, see each cycle of the run that is done, or the state in
+/// Does what `thynvm` does, and lets an observer, which has seen nothing yet, see each cycle of the run that is done, or the state in
 /// which the plain machine stops. It changes nothing of what is done.
 ///
 /// The contract is that of `thynvm`, and that the observer has seen the cycles of the run of which it speaks, or the plain

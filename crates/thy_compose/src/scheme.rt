@@ -11,6 +11,9 @@ use thy_parts::Parts;
 use thy_scheme::Scheme;
 use thy_view::BootStep;
 
+/// Over the parts of any scheme, the scheme that they make is one. Each call makes of controller, engine, boot and
+/// devices exactly what one call of each part that takes part in it makes of them, and answers as that does. After a
+/// restart the engine begins with what follows the commit, and after loading it is idle.
 impl<P: Parts> Scheme for Composed<P>
 where
     P::Control: Drop,

@@ -11,8 +11,10 @@ ghost use Rattle.thy_control.specs.Guarded.{CopiedIsPlaced, IssuedIsPlaced};
 ghost use Rattle.thy_control.specs.Left.{NoneLeftIsCopied, CopiedHasNoneLeft};
 ghost use Rattle.thy_control.specs.Drains.{LandingIsUnseen, NvmDrainIsUnseen, BarrierIsUnseen, DrainIsUnseen, DrainTakesOne};
 
-/// What stays does so if nothing happens, and over two calls one after the other. If all blocks of the checkpoint
-/// under way are copied and written, they stay so, and each block that it has at its place already stays there.
+/// What stays does so if nothing happens, and over two calls one after the other. If all blocks of the checkpoint under
+/// way are copied and written, they stay so, and each block that it has at its place already stays there. To stay means
+/// that both checkpoints keep their tables, the counts of the epoch before are as they were, and a cut may leave nothing
+/// new at guarded places.
 pub fn what_stays_does_so_over_calls()
     ensures calls { StaysOverCalls }
     ensures copied { CopiedStays }
@@ -33,8 +35,8 @@ pub fn blocks_are_works()
     ensures all { MemoryIsHeld }
 {}
 
-/// Seen so, a new controller has room for as many stores as the block table has entries, owes no copy, and is ready
-/// if the NVM is up.
+/// Seen as a store of blocks, a new controller has room for a store for each entry of the block table, owes no copy, and
+/// is ready if the NVM is up.
 pub fn a_new_controller_is_ready()
     ensures { NewIsReady }
 {}
@@ -89,7 +91,8 @@ pub fn landing_is_unseen()
     ensures barrier { BarrierIsUnseen }
 {}
 
-/// The same holds if a write of the DRAM landed, and then one less is queued there, if any was.
+/// If a write of the DRAM landed, every place reads as before, the places hold what they have to if they did, and both
+/// checkpoints stay. One write less is queued there then, if any was.
 pub fn a_drain_of_the_dram_is_unseen()
     ensures unseen { DrainIsUnseen }
     ensures queued { DrainTakesOne }

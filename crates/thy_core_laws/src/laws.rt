@@ -5,7 +5,9 @@ ghost use Rattle.thy_core_laws.specs.Runs.{MomentIsSafe, CyclesComeNearer, Fresh
 
 use thy_scheme::Scheme;
 
-/// A step of a hart leads to the next moment: by a step of the view, one action on the NVM, and within bounds.
+/// A step of a hart leads to the next moment: by a step of the view, one action on the NVM or one write of the DRAM, and
+/// within bounds. It gets done what it says. It is short of entries only if the blocks that the plain machine's
+/// instruction stores to have no room, and it reserves an entry for each of them, once.
 pub fn the_hart_simulates<S: Scheme>()
     ensures { HartSimulates S.scheme }
 {}
@@ -52,7 +54,7 @@ pub fn power_that_comes_on_simulates<S: Scheme>()
     ensures { LeftSimulates S.scheme }
 {}
 
-/// So the machine keeps the laws of machines.
+/// Over a lawful scheme the machine keeps the laws of machines.
 pub fn the_machine_is_lawful<S: Scheme>()
     ensures { MachineIsLawful S.scheme }
 {}
@@ -63,27 +65,32 @@ pub fn the_hart_fails_safely<S: Scheme>()
     ensures { HartFails S.scheme }
 {}
 
-/// So does a store of a line.
+/// A store of a line that fails leaves the committed checkpoint, whole, or the sealed one, if that one's commit block was
+/// written before.
 pub fn a_flush_fails_safely<S: Scheme>()
     ensures { FlushFails S.scheme }
 {}
 
-/// So does a promotion.
+/// A promotion that fails leaves the committed checkpoint, whole, or the sealed one, if that one's commit block was
+/// written before.
 pub fn a_promotion_fails_safely<S: Scheme>()
     ensures { PromotionLeaves S.scheme }
 {}
 
-/// So does a step of the engine; the commit block's write that fails leaves it in doubt too.
+/// A step of the engine that fails leaves the committed checkpoint, whole, or the sealed one, if that one's commit block
+/// was written before or this was its write.
 pub fn the_engine_fails_safely<S: Scheme>()
     ensures { EngineLeaves S.scheme }
 {}
 
-/// So does a step of the boot, of which one may write loading's commit block.
+/// A step of the boot that fails leaves the committed checkpoint, whole, or the one that is loaded, if loading's commit
+/// block was written before or this was its write.
 pub fn the_boot_fails_safely<S: Scheme>()
     ensures { BootLeaves S.scheme }
 {}
 
-/// So does a drain of the NVM.
+/// A drain of the NVM that fails leaves the committed checkpoint, whole, or the sealed one, if that one's commit block
+/// was written before.
 pub fn a_drain_fails_safely<S: Scheme>()
     ensures { DrainFails S.scheme }
 {}
@@ -114,7 +121,7 @@ pub fn a_dram_drain_simulates<S: Scheme>()
     ensures { DramDrainSimulates S.scheme }
 {}
 
-/// And so does one that lands in the boot.
+/// A write of the DRAM that lands in the boot leads to the next moment.
 pub fn a_drain_of_the_boot_simulates<S: Scheme>()
     ensures { BootDrainSimulates S.scheme }
 {}

@@ -12,12 +12,15 @@ ghost use Rattle.thy_parts.specs.Paging.{IsPaging};
 ghost use Rattle.thy_parts.specs.Storing.{IsStoring};
 ghost use Rattle.thy_scheme.specs.Laws.{IsLawful};
 
-/// Every position leads to the next one, and what is written is one less.
+/// The body of a checkpoint is each version that is pending, copied to its place, and then each block of the pages that
+/// are written, from its frame. Every position leads to the next one, and what is written is one less.
 pub fn the_items_are_lawful()
     ensures { AreItems dual_design.filling dual_design.items }
 {}
 
-/// What is written of a checkpoint, in turn, makes it the committed one, and no place of the one that is kept is written.
+/// What is written of a checkpoint, in turn, makes it the committed one, with the tables and counts of the one under way,
+/// and no place of the one that is kept is written. If nothing was stored since the last seal, nor in the epoch that this
+/// seal ended, two entries are free at least once no checkpoint is under way.
 pub fn the_checkpoints_are_lawful()
     ensures { IsDesign dual_design }
 {}
@@ -37,7 +40,7 @@ pub fn both_tables_are_made_of_parts()
     ensures { AreParts dual_design }
 {}
 
-/// So they are a lawful scheme.
+/// The scheme of both tables is lawful.
 pub fn both_tables_are_lawful()
     ensures { IsLawful dual_scheme }
 {}
@@ -58,7 +61,8 @@ pub fn stays_keep_the_checkpoints()
     ensures { StaysKeep }
 {}
 
-/// Every item of the engine takes exactly one of the cycles that a checkpoint has left.
+/// Every item of the engine takes exactly one of the cycles that a checkpoint has left: one for each copy and page block
+/// that is left and for each block of the slot, and three more.
 pub fn every_item_takes_one_cycle()
     ensures { ItemsCount }
 {}
@@ -87,9 +91,9 @@ pub fn a_recovery_without_migration_writes_nothing()
     ensures failures { FailuresWriteNothing }
 {}
 
-/// It migrates only a checkpoint of version 1. Its actions then are barriers, and writes of blocks of the slot of that
-/// checkpoint's epoch in version 2 and of the commit block. Over an image of version 2 nothing is migrated, but for the
-/// last barrier of a migration that has just written its commit block.
+/// A machine over the scheme migrates only a checkpoint of version 1. Its actions then are barriers, and writes of blocks
+/// of the slot of that checkpoint's epoch in version 2 and of the commit block. Over an image of version 2 nothing is
+/// migrated, but for the last barrier of a migration that has just written its commit block.
 pub fn a_migration_writes_a_slot_and_the_commit_block()
     ensures writes { MigrationWrites }
     ensures stays { VersionTwoStays }

@@ -77,7 +77,7 @@ impl Engine {
         self.stage
     }
 
-    /// It has the registers.
+    /// The engine has the registers.
     pub fn sound(&self)
         ensures { length self.now.cpu.regs ≡ 32 }
     {

@@ -54,7 +54,8 @@ impl EpochState {
         self.retired
     }
 
-    /// Why it is over, if it is.
+    /// Why it is over, if it is: the program ended, else it has retired its length, or it was exhausted. One that is over
+    /// by its length has retired all of it.
     pub fn over(&self) -> Option<EndCause>
         ensures over { result ≡ self.now.over }
         ensures retired { HasRetired self.now.span self.now.retired result }

@@ -106,6 +106,9 @@ fn counted_on(before: Registers, left: Registers, since: u64) -> u64
     if left.gap == before.gap { since } else { 0 }
 }
 
+/// The lines are a device, over every inner device that keeps the laws of devices: through cuts, and after a failure of
+/// any call of the inner one, in the middle of a move too. A call that failed leaves registers and counts, and a fit that
+/// failed is one that failed of the inner device. How many writes of its own a barrier makes is only tested.
 impl<N: Nvm> Nvm for Gap<N> {
     ghost use Rattle.thy_gap.specs.Levelled.{shown};
 
@@ -206,8 +209,8 @@ impl<N: Nvm> Nvm for Gap<N> {
         self.inner.drain()
     }
 
-    /// Then moves a line, exactly if `every` writes or more were made since the last move that succeeded or that a cut
-    /// completed, or the fit.
+    /// Lets every queued write land, and then moves a line, exactly if `every` writes or more were made since the last
+    /// move that succeeded or that a cut completed, or the fit.
     fn barrier(&mut self) -> Result<(), NvmError>
         requires { (shown N.device self.old).down ≡ false }
         ensures ok { OnOk result (shown N.device self.new ≡ settled (shown N.device self.old)) }

@@ -30,7 +30,7 @@ impl Registers {
         }
     }
 
-    /// So many lines, each at its own place, as after a fit.
+    /// Each line at its own place, as after a fit.
     pub fn unmoved(lines: u64) -> Registers
         ensures { result ≡ unmoved lines }
     {

@@ -102,10 +102,14 @@ impl Hart {
         thy_isa::cross(&mut self.parts.cpu);
     }
 
-    /// Takes one step, a cycle. If the step touches a block that is not in the cache, it brings the line
-    /// nearer and the hart stays; else it fetches, reads a block, reserves room, writes a block, or retires.
-    /// `free` is the store's number of free table entries, and `under_way` says whether a checkpoint is under
-    /// way. A failure is the device's, and leaves hart and cache as they were.
+    /// Takes one step, a cycle. If the step touches a block that is not in the cache, it brings the line nearer and the
+    /// hart stays; else it fetches, reads a block, reserves room, writes a block, or retires. `free` is the store's
+    /// number of free table entries, and `under_way` says whether a checkpoint is under way. A failure is the device's,
+    /// and leaves hart and cache as they were.
+    ///
+    /// No block is written before room is reserved for it. The hart waits, or its epoch is over before the instruction,
+    /// exactly if free entries are short. A step that brings in no line leaves store and device alone; any other step
+    /// calls the store at most once, and if no line is dirty this call is a load.
     pub fn step<N, S: BlockStore<N>>(
         &mut self,
         cache: &mut Cache,

@@ -36,8 +36,9 @@ const MOST: u64 = 64;
 /// start, and 65536 below it.
 const BREAK_GAP: u128 = 256 + 65536;
 
-/// Decides an environment call: a7 names it, and a0 to a2 are its arguments. Lengths and addresses alone
-/// decide it.
+/// Decides an environment call: a7 names it, and a0 to a2 are its arguments. Lengths and addresses alone decide it. What
+/// a call takes of the input is there, what it writes has room in the console, both lie in program memory, and a break
+/// lies in its bounds.
 pub fn call(regs: &Regs, state: &CallState) -> Call
     ensures call { result ≡ call_of regs.now state.now }
     ensures fit { IsFit state.now result }

@@ -29,7 +29,7 @@ pub fn cross(cpu: &mut CpuState)
     }
 }
 
-/// The same of a whole state.
+/// Brings the other hart of a whole state in front.
 pub fn cross_state(state: &mut MachState)
     ensures state { state_of state.new ≡ crossed (state_of state.old) }
     ensures count { state.new.count ≡ state.old.count }

@@ -23,8 +23,8 @@ pub fn misaligned_accesses_are_served()
     ensures accesses { AccessesAreServed }
 {}
 
-/// The other hart in front, and again the first one: nothing has changed. It is the same over blocks and over bytes, and
-/// a state that can be stored can be either way.
+/// To put the other hart in front twice changes nothing. It is the same over blocks and over bytes, and a state that can
+/// be stored can be either way.
 pub fn crossing_changes_places()
     ensures twice { CrossedTwice }
     ensures blocks { BlocksCross }

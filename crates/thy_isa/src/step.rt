@@ -216,8 +216,9 @@ pub fn finish_alone(cpu: &mut CpuState, effect: &Effect, number: u64)
     cpu.count += 1;
 }
 
-/// Takes an effect, memory aside. `number` is what was read if the effect reads, and `calls` what an
-/// environment call depends on.
+/// Takes an effect, memory aside. `number` is what was read if the effect reads, and `calls` what an environment call
+/// depends on. With two harts a write removes the other hart's reservation exactly if it touches its block, and leaves
+/// its own; a store-conditional always gives its own up.
 pub fn finish(cpu: &mut CpuState, effect: &Effect, number: u64, calls: &CallState)
     requires count { cpu.old.count + 1 < 2 ^ 64 }
     requires calls { AreCallsOf cpu.old calls.now }

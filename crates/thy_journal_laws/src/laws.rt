@@ -6,17 +6,20 @@ ghost use Rattle.thy_journal_laws.specs.Scheme.{journal_scheme};
 ghost use Rattle.thy_parts.specs.AreParts.{AreParts};
 ghost use Rattle.thy_scheme.specs.Laws.{IsLawful};
 
-/// The journal is a scheme of lawful parts.
+/// The journal is a scheme of lawful parts. The body of a checkpoint is the buffer of each live entry, written to its
+/// place in the journal of the epoch's slot. After the commit each goes to its block's home, and after the barrier at the
+/// end all entries are free.
 pub fn the_journal_is_made_of_parts()
     ensures { AreParts journal_design }
 {}
 
-/// So it is a lawful scheme.
+/// The journal is a lawful scheme.
 pub fn the_journal_is_lawful()
     ensures { IsLawful journal_scheme }
 {}
 
-/// The bounds on the actions of boots and checkpoints are what the layout asks for, and no boot migrates.
+/// A boot takes at most one action more than the greater of what loading and what restoring takes. A checkpoint takes at
+/// most two for each entry of the table, one for each block of the slot, and four more. No boot migrates.
 pub fn boots_are_short()
     ensures short { BootsAreShort }
     ensures never { NeverMigrates journal_scheme }

@@ -20,7 +20,7 @@ pub fn word_in(slot: &[u8], i: usize) -> u64
     LittleEndian::read_u64(&slot[8 * i..])
 }
 
-// Where the processor's record ends in the bytes of a slot.
+/// Where the processor's record ends in the bytes of a slot.
 pub fn record_size(geometry: &Geometry) -> usize
     ensures size { result ≡ 64 * record_blocks geometry.now }
     ensures in_range { IsInRange geometry.now }
@@ -89,7 +89,7 @@ pub fn cpu_in(slot: &[u8], geometry: &Geometry) -> CpuState
     }
 }
 
-// A status or a count without meaning, or a console longer than its pages.
+/// A status or a count without meaning, or a console longer than its pages.
 pub fn status_fault(slot: &[u8], geometry: &Geometry, ceiling: u64) -> Option<BadImage>
     requires { record_blocks geometry.now ≤ length slot.now / 64 }
     ensures { result ≡ fault_of_status geometry.now ceiling (blocks_of slot.now) }

@@ -8,7 +8,7 @@ use crate::bad_image::BadImage;
 use crate::tables::entry_from_word;
 use byteorder::{ByteOrder, LittleEndian};
 
-// Entry i of a table.
+/// Entry i of a table.
 pub fn entry(table: &[u8], i: usize) -> Option<u64>
     requires { i < length table.now / 8 }
     ensures { result ≡ entry_at (table_in table.now) i }
@@ -16,7 +16,7 @@ pub fn entry(table: &[u8], i: usize) -> Option<u64>
     entry_from_word(LittleEndian::read_u64(&table[8 * i..]))
 }
 
-// The first entry of a table that lists a number.
+/// The first entry of a table that lists a number.
 pub fn entry_of(table: &[u8], number: u64) -> Option<usize>
     ensures { result ≡ entry_that_lists (table_in table.now) number }
 {

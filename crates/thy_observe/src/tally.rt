@@ -131,7 +131,8 @@ impl Tally {
         self.retired
     }
 
-    /// What each hart did.
+    /// What each hart did: its instructions, and as its moves those since the last instruction, if no epoch was sealed
+    /// and no cut fell between.
     pub fn shares(&self) -> Shares
         ensures { (seen : List Taken) → IsTally self.now seen → result ≡ shares_after nobodys seen }
     {

@@ -294,7 +294,9 @@ impl<R: Files> Disk<R> {
     }
 
     /// Makes the name hold these bytes: by a new file, or, if the system does not let one take its place, by writing over
-    /// what is there.
+    /// what is there. By the contracts of its parts a file is renamed over the name only if a sync of it had succeeded
+    /// after the last write and none of its calls failed. A put succeeds exactly if one was counted as done; otherwise
+    /// one was counted as failed.
     pub fn put(&mut self, name: &str, bytes: &[u8]) -> Result<(), SinkError>
         ensures { self.new ≡ counted self.old result }
     {

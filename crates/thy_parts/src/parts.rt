@@ -31,7 +31,7 @@ pub trait Parts: Checkpoints {
     fn cut(control: Self::Control, pick: u64) -> Dram
         ensures { result ≡ lost (Self.filling.dram control) pick };
 
-    /// Its tables and its DRAM are sound. It does nothing.
+    /// The controller's tables and its DRAM are sound. It does nothing.
     fn sound(control: &Self::Control)
         ensures { parts.sound control.now };
 

@@ -16,7 +16,7 @@ pub fn others_hold_no_more()
     ensures { OthersHoldNoMore }
 {}
 
-/// Nor after a write that failed.
+/// After a write that failed nothing new may be left by a cut at any other place of the NVM either.
 pub fn others_hold_no_more_on_failure()
     ensures { OthersHoldNoMoreOnFailure }
 {}

@@ -15,8 +15,8 @@ pub fn a_boot_finds_its_mark()
     ensures shows { BootShows }
 {}
 
-/// The same holds after any number of moves: calls that spare the guarded places, a seal, the barrier after the writes of a
-/// checkpoint, its commit block, and the barrier after that.
+/// Whatever a cut leaves is one of these checkpoints also after any number of moves: calls that spare the guarded places,
+/// a seal, the barrier after the writes of a checkpoint, its commit block, and the barrier after that.
 pub fn moves_are_safe()
     ensures { MovesAreSafe }
 {}

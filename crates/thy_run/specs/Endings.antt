@@ -51,7 +51,8 @@ pub record EndsWith (events : List Event) (status : Status) : Type 0 where
 abbrev pub IsHeard : Ending → Type 0
 IsHeard e = (e.terminal_failed ≡ false) × (e.report_failed ≡ false)
 
--- what a stop says of a run whose limit is so many cycles, between the device after its fit and the device that is left
+-- What a stop says of a run with this limit of cycles, between the device after its fit and the device that is left. A run that
+-- went on after a failed call would have to leave the count of faults as it was. So a failed call ends the run.
 abbrev pub StopFits : ℕ → Device → Device → Ending → Stop → Type 0
 StopFits limit old new e (Ended status) = EndsWith e.events status × IsHeard e × (new.faults ≡ old.faults)
 StopFits limit old new e Nvm = Rose old.faults new.faults × (e.cycles < limit) × IsHeard e

@@ -1,5 +1,8 @@
 -- Part of the claim.
--- How a run makes progress: its cycles are bounded, and none of them is idle.
+-- How a run makes progress: its cycles are bounded, and none of them is idle. Every cycle decreases what lies ahead of the
+-- machine by one, and only an instruction raises it (`nears` of `IsStep`). `IsSoonOver` also rests on `CoreStep` and `Safe`, by
+-- which the counts of a run lie between the start's and the end's. The bounds on boot, epoch and drains rest on `boots`, `spent`
+-- and `queues` of `KeepsPace`.
 use Rattle.std.specs.Prelude.{◌≡◌, ◌≢◌, ℕ, zero, suc, ◌+◌, ◌*◌, ◌<◌, ◌≤◌, max, Bool, false, ◌&&◌, not, if◌then◌else◌, List, [], ◌∷◌}
 use Rattle.thy_base.specs.declared.config.Parameters.{Parameters}
 use Rattle.thy_view.specs.declared.did.Did.{Did}

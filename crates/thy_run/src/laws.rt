@@ -5,9 +5,10 @@ ghost use Rattle.thy_run.specs.Strides.{RunStrides};
 
 use thy_view::Computer;
 
-/// Whatever the cuts of a run left, its events are lawful, each restart is what the cut before it left,
-/// the cuts are the listed ones, and the device is safe for the checkpoints that the events report and has room
-/// for one more cut.
+/// Whatever the cuts of a run left, its events are lawful, each restart is what the cut before it left, and the cuts are
+/// the listed ones. The device is safe for the checkpoints that the events report, was not fitted again, and has room for
+/// one more cut. The cycles are bounded, and of two epochs in a row, with no cut between them, one retired an
+/// instruction.
 pub fn every_run_keeps_its_promise<M: Computer>()
     ensures { RunKeepsPromise M.kind }
 {}
@@ -17,8 +18,8 @@ pub fn one_more_cut_is_safe<M: Computer>()
     ensures { OneMoreCutIsSafe M.kind }
 {}
 
-/// A run of a program that ends within k instructions has fewer cycles than the sum of the last cut, the longest boot
-/// and k times the most for an instruction.
+/// With one hart a run of a program that ends within k instructions has fewer cycles than the sum of the last listed cut,
+/// the longest boot and k times the most for an instruction.
 pub fn every_run_is_soon_over<M: Computer>()
     ensures { RunIsSoonOver M.kind }
 {}

@@ -6,12 +6,13 @@ ghost use Rattle.thy_shadow_laws.specs.Design.{shadow_design};
 ghost use Rattle.thy_shadow_laws.specs.Laws.{BootsAreShort, CommittedIsSpared, EpochsAreShort, FramesAreFree};
 ghost use Rattle.thy_shadow_laws.specs.Scheme.{shadow_scheme};
 
-/// Shadow paging is a scheme of lawful parts.
+/// Shadow paging is a scheme of lawful parts. The body of a checkpoint is each block of each filled frame, written into
+/// the frame's page of the pool. With the commit these pages take the place of the old ones, and every frame is free.
 pub fn shadow_paging_is_made_of_parts()
     ensures { AreParts shadow_design }
 {}
 
-/// So it is a lawful scheme.
+/// Shadow paging is a lawful scheme.
 pub fn shadow_paging_is_lawful()
     ensures { IsLawful shadow_scheme }
 {}
@@ -21,7 +22,8 @@ pub fn the_committed_pages_are_spared()
     ensures { CommittedIsSpared }
 {}
 
-/// The bounds on the actions of boots and checkpoints are what the layout asks for, and no boot migrates.
+/// A boot takes at most one action for each of memory's blocks and of the slot's, and five more. A checkpoint takes at
+/// most one for each block of the frames and of the slot, and three more. No boot migrates.
 pub fn boots_are_short()
     ensures short { BootsAreShort }
     ensures never { NeverMigrates shadow_scheme }

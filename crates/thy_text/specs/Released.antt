@@ -1,5 +1,5 @@
 -- Part of the claim.
--- What the terminal has of the console.
+-- What the terminal has of the console. In a run that resumes an image this begins with the whole console of its checkpoint.
 use Rattle.std.specs.Prelude.{ℕ, Bool, true, false, if◌then◌else◌, List, [], Option, Some, None}
 use Rattle.std.specs.List.{list_any}
 use Rattle.thy_text.specs.Event.{Event, Commit, Restart}

@@ -1,5 +1,6 @@
 -- Part of the claim.
--- What a machine is to the layers above: what is seen of it, what its calls promise, and the laws that hold of it.
+-- What a machine is to the layers above: what is seen of it, what its calls promise, and the laws that hold of it. What `is_at`
+-- stands for is the machine's own choice, and nothing above relies on it.
 use Rattle.std.specs.Prelude.{◌≡◌, ℕ, ◌+◌, ◌*◌, ◌^◌, ◌<◌, ◌≤◌, ◌&&◌, ◌||◌, not, is_some, Bool, true, false, List, [], length, drop, Option, Some, None, Result, IfOk, OnErr, ◌⊎◌, Err}
 use Rattle.thy_base.specs.declared.block.Block.{Block}
 use Rattle.thy_base.specs.declared.config.Parameters.{Parameters}
@@ -113,7 +114,8 @@ pub record IsUnderWay (sealed : Option Mark) (p : Pressure) : Type 0 where
   pub apart : p.applies ≡ true → sealed ≡ None
 
 -- A shortage is real: it is that of an instruction which is begun and has not reserved its entries yet, and fewer entries are
--- free than are needed by the lines that are dirty and by the blocks of memory and console that it stores to.
+-- free than are needed by the lines that are dirty and by the blocks of memory and console that it stores to. An epoch ends
+-- early, or the hart waits for entries, only by such a shortage.
 pub record IsShortage (o : Origin) (v : View) (begun : Option ℕ) (g : Gauge) (s : Shortage) : Type 0 where
   pub hart : ℕ
   pub is_begun : begun ≡ Some hart

@@ -1,5 +1,7 @@
 -- Part of the claim.
--- How many blocks a hart's next instruction stores to, and how many lines of the cache become dirty.
+-- How many blocks a hart's next instruction stores to, and how many lines of the cache become dirty. An instruction makes no
+-- more lines dirty than it stores to blocks. A cache that marks a line as dirty that it fills, so that more lines are dirty than
+-- before, is refused, and so is one that leaves a line dirty when its store has taken an entry.
 use Rattle.std.specs.Prelude.{◌≡◌, ◌≢◌, ◌⊎◌, ℕ, ◌+◌, ◌-◌, ◌≤◌, ◌==◌, true, false, if◌then◌else◌, Some, None}
 use Rattle.thy_flat.specs.declared.span.Span.{Span}
 use Rattle.thy_flat.specs.Spans.{rest_of}

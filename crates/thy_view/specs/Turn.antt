@@ -1,5 +1,6 @@
 -- Part of the claim.
--- Who takes a cycle.
+-- Who takes a cycle. The engine acts while a checkpoint is under way, and a hart waits for it only for the reasons of `waits`.
+-- An instruction stays the hart's that began it, so no instruction of the other hart comes between its reads and its writes.
 use Rattle.std.specs.Prelude.{◌≡◌, ◌≢◌, ◌⊎◌, ℕ, ◌==◌, Bool, true, false, ◌&&◌, ◌||◌, not, is_some, option_map, unwrap_or, if◌then◌else◌, Option, Some, None}
 use Rattle.thy_base.specs.declared.cause.EndCause.{EndCause}
 use Rattle.thy_base.specs.declared.cause.EndCause.TheVariants.{Exhausted}

@@ -28,7 +28,7 @@ pub fn hart_zero_takes_one_step_after_another()
     ensures { HartZeroSteps }
 {}
 
-/// So it does if no turns are listed.
+/// The plain machine takes one step after another also if no turns are listed.
 pub fn a_run_without_turns_is_hart_zeros()
     ensures { UntoldSteps }
 {}
@@ -79,7 +79,8 @@ pub fn a_run_goes_on_after_a_cut<M: Computer>()
     ensures { GoesOnAfterCut M.kind }
 {}
 
-/// And so it can after a step that failed.
+/// After a step that failed, too, power can be cut and come on again: that leads to a moment of the same run, whose view
+/// is what the image means that the cut left.
 pub fn a_run_goes_on_after_a_fault<M: Computer>()
     ensures { GoesOnAfterFault M.kind }
 {}

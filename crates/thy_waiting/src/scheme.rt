@@ -9,6 +9,9 @@ use thy_layout::{EngineStep, Start};
 use thy_scheme::Scheme;
 use thy_view::BootStep;
 
+/// Each call makes of scheme and NVM exactly what one call of the scheme below makes of them, and answers the same. A
+/// step of the engine is one barrier instead if one is left. After a commit and after a restart three barriers are left;
+/// no call but these and such a step changes the number.
 impl Scheme for WaitingScheme {
     ghost use Rattle.thy_dual_laws.proofs.LawLemmas.{applies_nothing, lawful as laws_below};
     ghost use Rattle.thy_dual_laws.specs.Scheme.{dual_scheme};

@@ -4,7 +4,9 @@ ghost use Rattle.thy_waiting_laws.specs.Scheme.{AppliesNothing, waits_over};
 
 use thy_scheme::Scheme;
 
-/// Over a scheme that applies nothing behind its boot, one that waits is lawful.
+/// Over a lawful scheme that applies nothing after its boot, one that waits is lawful. At most three barriers are left,
+/// and none while an epoch is sealed or in the boot. While some are left the engine has something to do, and the hart may
+/// not run.
 pub fn a_scheme_that_waits_is_lawful<S: Scheme>()
     requires { AppliesNothing S.scheme }
     ensures { IsLawful (waits_over S.scheme) }
