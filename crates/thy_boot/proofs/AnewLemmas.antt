@@ -1,5 +1,5 @@
 -- A checkpoint of an older form, and what is written anew of it: where that goes, and what it means.
-use Rattle.std.proofs.Common.{◌≡◌, ◌≢◌, ℕ, ◌+◌, ◌<◌, ◌≤◌, ◌&&◌, nat_lt, Bool, true, false, if◌then◌else◌, List, [], ◌∷◌, ◌++◌, length, map, Contains, Option, Some, None, refl, sym, ◌∙◌, ap, subst, inl, inr, arith}
+use Rattle.std.proofs.Common.{◌≡◌, ◌≢◌, ℕ, ◌+◌, ◌<◌, ◌≤◌, ◌&&◌, nat_lt, Bool, true, false, if◌then◌else◌, List, [], ◌∷◌, ◌++◌, length, map, Contains, Some, None, refl, sym, ◌∙◌, ap, subst, inl, inr, arith}
 use Rattle.std.proofs.lemmas.Bool.{ltb-true}
 use Rattle.std.proofs.lemmas.List.{length-map}
 use Rattle.std.proofs.lemmas.List.Elements.{Contains-append_cases}
@@ -29,13 +29,10 @@ use Rattle.thy_view.specs.Safe.{ceiling}
 use Rattle.thy_protocol.specs.Issuing.{CheckpointParts, slot_of, ArePlaced, AreIssued, ArePartsOf, IsCheckpoint}
 use Rattle.thy_protocol.proofs.IssuingLemmas.{issued_is_checkpoint}
 use Rattle.thy_boot.specs.Boot.{Booting, layout_in, slot_read, version_in}
-use Rattle.thy_boot.specs.Filling.{FillingOf, IsFilling, IsOlder, IsTheSame, ReadsAlike, anew, slot_anew}
-use Rattle.thy_boot.specs.Migrating.{renewed, migrated_by}
-use Rattle.thy_boot.specs.declared.stage.Migration.TheVariants.{Confirm}
-use Rattle.thy_boot.specs.Recovers.{HasHead, HasListed}
-use Rattle.thy_boot.specs.Sound.{AreIssuedAnew, renewed_parts}
+use Rattle.thy_boot.specs.Filling.{FillingOf, IsFilling, IsOlder, IsTheSame, anew, slot_anew}
+use Rattle.thy_boot.specs.Migrating.{renewed_parts}
+use Rattle.thy_boot.specs.Recovers.{HasListed}
 use Rattle.thy_boot.proofs.LoadLemmas.{slot_inside}
-use Rattle.thy_boot.proofs.RenewedLemmas.{renewed-slot}
 
 -- a commit block without a fault has an epoch below the ceiling
 asks-epoch : (named below rest : Bool) → (if (named && below) && rest then None else Some BadCommit) ≡ None → below ≡ true
@@ -137,19 +134,21 @@ module _ {C : Type 0} (F : FillingOf C) (laws : IsFilling F) (b : Booting) (c : 
 
   -- ---- at its beginning
 
+  pub header-first : (n : Device) → n.queue ≡ [] → n.image ≡ g → header_bad l (newest n 0) true ≡ None
+  header-first n settled is =
+      ap (λ (x : Block). header_bad l x true) (newest-empty n 0 settled ∙ ap (λ (h : List Block). block_at h 0) is) ∙ listed.head.header_fits
+
   -- memory is where the new checkpoint has it, too
-  pub issued-first : (n : Device) → n.queue ≡ [] → n.image ≡ g → length n.image ≡ l.image_blocks → F.loads c n ≡ memory_in l g → AreIssuedAnew F 0 n b c
+  pub issued-first : (n : Device) → n.queue ≡ [] → n.image ≡ g → length n.image ≡ l.image_blocks → F.loads c n ≡ memory_in l g
+      → AreIssued l.image_blocks parts n (F.loads c n) 0
   issued-first n settled is sized memory = record {
-    header = ap (λ (x : Block). header_bad l x true) (newest-empty n 0 settled ∙ ap (λ (h : List Block). block_at h 0) is) ∙ listed.head.header_fits;
-    issued = record {
-      sized = sized;
-      memory_is = map-alike (newest n) (block_at n.image) parts.memory (λ x inside. newest-empty n x settled)
-          ∙ ap (λ (h : List Block). map (block_at h) parts.memory) is
-          ∙ ap (λ (s : List Block). map (block_at g) (memory_places l commit s)) listed.slot_is
-          ∙ ap (λ (k : Block). map (block_at g) (memory_places l k (slot_in l g))) (sym listed.head.commit_is.is)
-          ∙ sym memory;
-      slot = record { each = λ i low. absurd (omega (arith, low)) };
-    };
+    sized = sized;
+    memory_is = map-alike (newest n) (block_at n.image) parts.memory (λ x inside. newest-empty n x settled)
+        ∙ ap (λ (h : List Block). map (block_at h) parts.memory) is
+        ∙ ap (λ (s : List Block). map (block_at g) (memory_places l commit s)) listed.slot_is
+        ∙ ap (λ (k : Block). map (block_at g) (memory_places l k (slot_in l g))) (sym listed.head.commit_is.is)
+        ∙ sym memory;
+    slot = record { each = λ i low. absurd (omega (arith, low)) };
   }
 
   -- a barrier lands it
@@ -166,28 +165,28 @@ module _ {C : Type 0} (F : FillingOf C) (laws : IsFilling F) (b : Booting) (c : 
       subst (λ (p : Parameters). state_from p (cpu_of_record p (slot_of parts)) memory ≡ state_from p (cpu_of_record p slot) memory) (sym (laws.laid.of b.p))
       (ap (λ (cpu : CpuState). state_from b.p cpu memory) is_the_same.cpu)
 
-  module _ (n : Device) (all : AreIssuedAnew F parts.slot_blocks n b c) where
+  module _ (n : Device) (header : header_bad l (newest n 0) true ≡ None) (all : AreIssued l.image_blocks parts n (F.loads c n) parts.slot_blocks) where
     no_fault : fault_of l ceiling true (newest n 0) (anew commit) (slot_of parts) ≡ None
     no_fault =
         all_none (header_bad l (newest n 0) true) (commit_bad ceiling (newest n 0) (anew commit)) (l.slot_bad ceiling (anew commit) (slot_of parts))
-        all.header (commit_fault-commit_of (newest n 0) (epoch_of commit) ceiling below (omega arith)) is_the_same.faultless
+        header (commit_fault-commit_of (newest n 0) (epoch_of commit) ceiling below (omega arith)) is_the_same.faultless
 
     is_checkpoint : IsCheckpoint l ceiling n (anew commit) parts (F.loads c n)
     is_checkpoint =
-        issued_is_checkpoint l ceiling n (anew commit) parts (F.loads c n) parts_anew all.issued (is_zero-commit_of (epoch_of commit)) no_fault
+        issued_is_checkpoint l ceiling n (anew commit) parts (F.loads c n) parts_anew all (is_zero-commit_of (epoch_of commit)) no_fault
 
     abbrev next : List Block
     next = next_image n (anew commit)
 
     room : 1 < length n.image
-    room = omega (arith, all.issued.sized, placed_anew.slot_behind, placed_anew.slot_inside)
+    room = omega (arith, all.sized, placed_anew.slot_behind, placed_anew.slot_inside)
 
     pub next-commit : block_at next 1 ≡ anew commit
     next-commit = next_image-commit (anew commit) n room
 
     pub next-header : header_bad l (block_at next 0) true ≡ None
     next-header =
-        ap (λ (x : Block). header_bad l x true) (next_image-reads (anew commit) n 0 (omega (arith, room)) (λ e. omega (arith, e))) ∙ all.header
+        ap (λ (x : Block). header_bad l x true) (next_image-reads (anew commit) n 0 (omega (arith, room)) (λ e. omega (arith, e))) ∙ header
 
     pub next-slot : slot_in l next ≡ slot_of parts
     next-slot = is_checkpoint.slot

@@ -13,6 +13,9 @@ use Rattle.thy_view.specs.Origin.{Origin}
 use Rattle.thy_layout.specs.Layout.{state_by, looked_by}
 use Rattle.thy_protocol.specs.Moves.{standing, IsKeeping, Move, Goes}
 use Rattle.thy_protocol.proofs.KeepsLemmas.{IsKeeping-move}
+use Rattle.thy_protocol.specs.Rounds.{saved_in}
+use Rattle.thy_protocol.proofs.RoundLemmas.{drain_keeps_written}
+use Rattle.thy_boot.specs.Loads.{first_writes}
 use Rattle.thy_boot.specs.declared.stage.Stage.{Stage}
 use Rattle.thy_boot.specs.declared.stage.Stage.TheVariants.{Reads, Loads, Migrates, Over}
 use Rattle.thy_boot.specs.declared.stage.ReadStage.TheVariants.{Unread, Header, Slot, Fills, Refusing}
@@ -20,10 +23,9 @@ use Rattle.thy_boot.specs.declared.stage.End.TheVariants.{Restored, Loaded}
 use Rattle.thy_boot.specs.Boot.{Booting, layout_in, slot_read}
 use Rattle.thy_boot.specs.Filling.{FillingOf, IsFilling, layout_at}
 use Rattle.thy_boot.specs.Recovers.{HasListed, IsRestored, HasReadAt}
-use Rattle.thy_boot.specs.Sound.{BootImages, layout_for, first_of, start_mark, sealed_by, saved_loading, saved_migrating, standing_in_boot, IsRecovering, IsSoundAt, IsSoundBoot}
+use Rattle.thy_boot.specs.Sound.{BootImages, layout_for, first_of, start_mark, sealed_by, standing_in_boot, IsRecovering, IsSoundAt, IsSoundBoot}
 use Rattle.thy_boot.specs.Laws.{DrainsKeepBoot, DrainsMove}
 use Rattle.thy_boot.proofs.MigrationLemmas.{migrating-drained, migrating-undrained}
-use Rattle.thy_boot.proofs.WrittenLemmas.{stood-drained}
 
 -- with nothing queued a drain leaves the device as it is
 drained-settled : (n : Device) → n.queue ≡ [] → drained n ≡ n
@@ -39,8 +41,8 @@ module _ {C : Type 0} (F : FillingOf C) (laws : IsFilling F) where
 
     by_stage : (q : Stage) → Move o (layout_for F o) (standing_in_boot o q g n) (standing_in_boot o q g (drained n))
     by_stage (Reads r) = goes (Kept g.before) g.kept (sealed_by o g.kept)
-    by_stage (Loads issue) = goes (saved_loading issue g) None (Some (start_mark o))
-    by_stage (Migrates at) = goes (saved_migrating at g) g.kept g.kept
+    by_stage (Loads r) = goes (saved_in r g.before g.next) None (Some (start_mark o))
+    by_stage (Migrates r) = goes (saved_in r g.before g.next) g.kept g.kept
     by_stage (Over Restored) = goes (Kept g.before) g.kept (sealed_by o g.kept)
     by_stage (Over Loaded) = goes (Kept g.next) (Some (start_mark o)) None
 
@@ -56,16 +58,16 @@ module _ {C : Type 0} (F : FillingOf C) (laws : IsFilling F) where
 
     by_stage : (q : Stage) → IsSoundAt F o q g n b c → IsKeeping o (layout_for F o) (standing_in_boot o q g n) → IsSoundAt F o q g (drained n) b c
     by_stage (Reads r) at keeps = still (Reads r) at.read.settled at
-    by_stage (Loads issue) at keeps = record {
+    by_stage (Loads r) at keeps = record {
       none = at.none;
       fresh = at.fresh;
       there = at.there;
       made = at.made;
-      stood = stood-drained (layout_for F o).image_blocks (first_of F o) issue n at.stood;
+      stood = drain_keeps_written (first_writes (first_of F o)) r n at.stood;
     }
-    by_stage (Migrates step) at keeps =
+    by_stage (Migrates r) at keeps =
         migrating-drained F laws o b c (sound.same_p ∙ sym sound.geometry) g n
-        (keeps.sized ∙ ap (λ (p : Parameters). (layout_at F p).image_blocks) (sym sound.geometry)) step at
+        (keeps.sized ∙ ap (λ (p : Parameters). (layout_at F p).image_blocks) (sym sound.geometry)) r at
     by_stage (Over Restored) at keeps = still (Over Restored) at.read.settled at
     by_stage (Over Loaded) at keeps = still (Over Loaded) at.settled at
 
@@ -91,8 +93,8 @@ module _ {C : Type 0} (F : FillingOf C) (laws : IsFilling F) where
   read-drained (Reads (Slot next)) n b c h = (laws.drain_fresh c h.0, h.1, h.2)
   read-drained (Reads (Fills k)) n b c h = (listed-drained n.image b c h.0, laws.drain_filled c n k h.1, h.2)
   read-drained (Reads (Refusing bad)) n b c h = h
-  read-drained (Loads issue) n b c h = (laws.drain_fresh c h.0, h.1, h.2)
-  read-drained (Migrates at) n b c h = record {
+  read-drained (Loads r) n b c h = (laws.drain_fresh c h.0, h.1, h.2)
+  read-drained (Migrates r) n b c h = record {
     restored = restored-drained n b c h.restored;
     memory = laws.drain_loads c n ∙ h.memory;
     room = h.room;
@@ -122,10 +124,10 @@ module _ {C : Type 0} (F : FillingOf C) (laws : IsFilling F) where
 
     by_stage : (q : Stage) → IsSoundAt F o q g n b c → IsSoundAt F o q g n b (F.drained c)
     by_stage (Reads r) at = reads at
-    by_stage (Loads issue) at = record { none = at.none; fresh = laws.drain_fresh c at.fresh; there = at.there; made = at.made; stood = at.stood }
-    by_stage (Migrates step) at = migrating-undrained F laws o b c g n step at
+    by_stage (Loads r) at = record { none = at.none; fresh = laws.drain_fresh c at.fresh; there = at.there; made = at.made; stood = at.stood }
+    by_stage (Migrates r) at = migrating-undrained F laws o b c g n r at
     by_stage (Over Restored) at = reads at
-    by_stage (Over Loaded) at = record { fresh = laws.drain_fresh c at.fresh; settled = at.settled; made = at.made; stood = at.stood }
+    by_stage (Over Loaded) at = record { fresh = laws.drain_fresh c at.fresh; sized = at.sized; settled = at.settled; made = at.made; stood = at.stood }
 
   pub drains_keep_boot : DrainsKeepBoot F
   drains_keep_boot o g n b c sound = (nvm_drained o g n b c sound, dram_drained o g n b c sound)

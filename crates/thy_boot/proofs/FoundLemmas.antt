@@ -30,19 +30,19 @@ use Rattle.thy_boot.specs.declared.stage.Stage.{Stage}
 use Rattle.thy_boot.specs.declared.stage.Stage.TheVariants.{Reads, Loads, Migrates, Over}
 use Rattle.thy_boot.specs.declared.stage.ReadStage.TheVariants.{Unread, Header, Slot, Fills, Refusing}
 use Rattle.thy_boot.specs.declared.stage.End.TheVariants.{Restored, Loaded}
-use Rattle.thy_boot.specs.declared.stage.Issue.{Issue}
-use Rattle.thy_boot.specs.declared.stage.Issue.TheVariants.{Home}
-use Rattle.thy_boot.specs.declared.stage.Migration.{Migration}
-use Rattle.thy_boot.specs.declared.stage.Migration.TheVariants.{Slot as SlotAnew}
+use Rattle.thy_protocol.specs.declared.round.Round.{Round}
+use Rattle.thy_protocol.specs.declared.round.Round.TheVariants.{Write}
+use Rattle.thy_protocol.specs.Round.{is_written}
+use Rattle.thy_protocol.specs.Rounds.{saved_in, HasWrittenBefore}
+use Rattle.thy_boot.specs.Loads.{first_writes}
 use Rattle.thy_boot.specs.Boot.{Booting, layout_in, slot_read, answer_at}
 use Rattle.thy_boot.specs.Filling.{FillingOf, IsFilling, layout_at, anew}
 use Rattle.thy_boot.specs.Recovers.{HasListed, HasReadAt, HasRead, IsRestored}
-use Rattle.thy_boot.specs.Shows.{is_written, restored_view, seen_at}
-use Rattle.thy_boot.specs.Sound.{BootImages, layout_for, first_of, start_mark, sealed_by, saved_loading, saved_migrating, standing_in_boot, HasLoadedBefore, IsRecovering, IsSoundAt}
-use Rattle.thy_boot.specs.Start.{CanStart}
+use Rattle.thy_boot.specs.Shows.{restored_view, seen_at}
+use Rattle.thy_boot.specs.Sound.{BootImages, layout_for, first_of, start_mark, sealed_by, standing_in_boot, IsRecovering, IsSoundAt}
 use Rattle.thy_boot.specs.Laws.{ShowsImage, RestoredIsKept, NeverRefused}
-use Rattle.thy_boot.proofs.AnewLemmas.{issued-first}
-use Rattle.thy_boot.proofs.LoadLemmas.{slot_some, first-some}
+use Rattle.thy_boot.proofs.AnewLemmas.{header-first, issued-first}
+use Rattle.thy_boot.proofs.LoadLemmas.{slot_some}
 
 -- ---- what an image means to a run
 
@@ -103,14 +103,14 @@ module _ {C : Type 0} (F : FillingOf C) (laws : IsFilling F) where
       goes = Goes (Kept g.before) g.kept (sealed_by o g.kept) n m (Spares-same (guarded (looked_by (layout_for F o)) (Kept g.before)) n m is)
 
       by_stage : (q : Stage) → HasReadAt F q m d e → Move o (layout_for F o) (reading_of o g n) (standing_in_boot o q g m)
-      by_stage (Reads r) f = goes
-      by_stage (Loads issue) f =
+      by_stage (Reads at) f = goes
+      by_stage (Loads r) f =
           subst (λ (a : Standing). Move o (layout_for F o) (reading_of o g n) a)
           (ap (λ (k : Option Mark). standing m (Kept g.before) k (sealed_by o k)) (none_kept f.1)
-          ∙ ap (λ (i : Issue). standing m (saved_loading i g) None (Some (start_mark o))) (sym f.2)) goes
-      by_stage (Migrates step) f =
+          ∙ ap (λ (q : Round). standing m (saved_in q g.before g.next) None (Some (start_mark o))) (sym f.2)) goes
+      by_stage (Migrates r) f =
           let found = found-restored f.restored in
-          subst (λ (k : Migration). Move o (layout_for F o) (reading_of o g n) (standing m (saved_migrating k g) g.kept g.kept)) (sym f.first)
+          subst (λ (q : Round). Move o (layout_for F o) (reading_of o g n) (standing m (saved_in q g.before g.next) g.kept g.kept)) (sym f.first)
           (subst (λ (x : Device). Move o (layout_for F o) (reading_of o g n) (standing x (Kept g.before) g.kept g.kept)) (sym is)
           (subst (λ (k : Option Mark). Move o (layout_for F o) (standing n (Kept g.before) k (sealed_by o k)) (standing n (Kept g.before) k k)) (sym found.kept_is)
           (Seals n g.before (Some found.m) found.m)))
@@ -120,25 +120,21 @@ module _ {C : Type 0} (F : FillingOf C) (laws : IsFilling F) where
     recovering : IsRecovering F g m d e
     recovering = record { before_is = before_is; read = read }
 
-    first : HasLoadedBefore (layout_for F o).image_blocks (first_of F o) (Home 0) m
-    first = record {
-      sized = read.sized ∙ ap (λ (p : Parameters). (layout_at F p).image_blocks) same;
-      memory = λ b l. absurd (omega (arith, l));
-      slot = record { each = λ i l. absurd (omega (arith, l)) };
-    }
+    first : HasWrittenBefore (first_writes (first_of F o)) (Write 0) m
+    first = record { each = λ i l. absurd (omega (arith, l)) }
 
-    pub found-sound : CanStart o.geometry o.start → (q : Stage) → HasReadAt F q m d e → IsSoundAt F o q g m d e
-    found-sound starts (Reads r) f = recovering
-    found-sound starts (Loads issue) f = subst (λ (i : Issue). IsSoundAt F o (Loads i) g m d e) (sym f.2) (record {
+    pub found-sound : (q : Stage) → HasReadAt F q m d e → IsSoundAt F o q g m d e
+    found-sound (Reads at) f = recovering
+    found-sound (Loads r) f = subst (λ (q : Round). IsSoundAt F o (Loads q) g m d e) (sym f.2) (record {
       none = none_kept f.1;
       fresh = f.0;
-      there = first-some F laws o.geometry o.start starts;
+      there = omega arith;
       made = tt;
       stood = first;
     })
-    found-sound starts (Migrates step) f =
+    found-sound (Migrates r) f =
         let found = found-restored f.restored in
-        subst (λ (k : Migration). IsSoundAt F o (Migrates k) g m d e) (sym f.first) (record {
+        subst (λ (q : Round). IsSoundAt F o (Migrates q) g m d e) (sym f.first) (record {
           m = found.m;
           kept = found.kept_is;
           epoch = sym found.epoch_is;
@@ -148,10 +144,12 @@ module _ {C : Type 0} (F : FillingOf C) (laws : IsFilling F) where
           listed = subst (λ (h : List Block). HasListed F h d e) (sym before_is) f.restored.listed;
           whole = f.restored.whole;
           state = found.state_is;
-          written = issued-first F laws d e read.same_p m.image f.restored.listed f.version m read.settled refl read.sized f.memory;
+          header = header-first F laws d e read.same_p m.image f.restored.listed f.version m read.settled refl;
+          issued = issued-first F laws d e read.same_p m.image f.restored.listed f.version m read.settled refl read.sized f.memory;
+          made = tt;
         })
-    found-sound starts (Over Restored) f = recovering
-    found-sound starts (Over Loaded) f = absurd f
+    found-sound (Over Restored) f = recovering
+    found-sound (Over Loaded) f = absurd f
 
     abbrev Shows : Stage → Type 0
     Shows q = CoreStep o (finding_view o.start.count g.kept) (boot_did (answer_at F q d)) (seen_at o g.kept q)
@@ -162,11 +160,11 @@ module _ {C : Type 0} (F : FillingOf C) (laws : IsFilling F) where
     shows (Reads (Slot next)) f = (boots o.start.count g.kept, inl refl)
     shows (Reads (Fills k)) f = (boots o.start.count g.kept, inl refl)
     shows (Reads (Refusing bad)) f = absurd (never-bad o (layout_for F o) g.before g.kept bad told (decoded (IsRefused bad) f))
-    shows (Loads issue) f =
-        let same_view : record (loading_view o.start.count) { written = is_written issue } ≡ finding_view o.start.count g.kept
-        = ap (λ (i : Issue). record (loading_view o.start.count) { written = is_written i }) f.2 ∙ ap (finding_view o.start.count) (sym (none_kept f.1)) in
+    shows (Loads r) f =
+        let same_view : record (loading_view o.start.count) { written = is_written r } ≡ finding_view o.start.count g.kept
+        = ap (λ (q : Round). record (loading_view o.start.count) { written = is_written q }) f.2 ∙ ap (finding_view o.start.count) (sym (none_kept f.1)) in
         (boots o.start.count g.kept, inl same_view)
-    shows (Migrates step) f = (boots o.start.count g.kept, inl refl)
+    shows (Migrates r) f = (boots o.start.count g.kept, inl refl)
     shows (Over Restored) f =
         let found = found-restored f in
         let epoch : ℕ = epoch_of d.commit in

@@ -1,7 +1,7 @@
 pub mod SlotLemmas
 pub mod ReadLemmas
 pub mod NearerLemmas
-pub mod WrittenLemmas
+pub mod FirstLemmas
 pub mod LoadLemmas
 pub mod LoadedLemmas
 pub mod MoveLemmas

@@ -71,10 +71,11 @@ module _ {C : Type 0} (F : FillingOf C) (laws : IsFilling F) (p : Parameters) wh
     pub first-whole : length f.memory ≡ length f.parts.memory
     first-whole = length-start_blocks p s ∙ sym length-first
 
-    module _ (can : CanStart p s) where
-      pub first-some : 0 < length f.parts.memory
-      first-some = let range = can.geometry in omega (arith, length-first)
+    -- they and the slot's are few
+    pub first-few : IsInRange p → length f.parts.memory + f.parts.slot_blocks ≤ 4194304 + l.image_blocks
+    first-few range = let pages : p.pages ≤ 65536 = range.1.0.1 in omega (arith, pages, length-first, slot_inside f.commit)
 
+    module _ (can : CanStart p s) where
       places : HasPlaces l f.commit slot
       places = laws.laid.memory p f.commit slot (record { ceiling = ceiling; faultless = laws.first_fits p s can })
 

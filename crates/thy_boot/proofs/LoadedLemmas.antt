@@ -11,9 +11,9 @@ use Rattle.thy_protocol.proofs.KeepsLemmas.{at-start}
 use Rattle.thy_boot.specs.Filling.{FillingOf, IsFilling, first_by}
 use Rattle.thy_boot.specs.Sound.{BootImages, layout_for, first_of, IsLoaded}
 use Rattle.thy_boot.specs.Start.{CanStart, start_blocks}
+use Rattle.thy_boot.proofs.FirstLemmas.{header_read, AreIssued-written}
 use Rattle.thy_boot.proofs.LoadLemmas.{first-whole, first-header}
 use Rattle.thy_boot.proofs.StartLemmas.{state_from-start, CanStart-origin}
-use Rattle.thy_boot.proofs.WrittenLemmas.{AreIssued-written}
 
 module _ {C : Type 0} (F : FillingOf C) (laws : IsFilling F) (o : Origin) (origin : IsOrigin o) (g : BootImages) (n : Device) (c : C)
     (same : F.p c ≡ o.geometry) (loaded : IsLoaded F o g n c) where
@@ -21,7 +21,7 @@ module _ {C : Type 0} (F : FillingOf C) (laws : IsFilling F) (o : Origin) (origi
   loaded-memory =
       laws.first_loads c n o.start loaded.fresh loaded.settled
       ∙ ap (λ (p : Parameters). map (newest n) (first_by F p o.start).parts.memory) same
-      ∙ (AreIssued-written (layout_for F o).image_blocks (first_of F o) (first-whole F laws o.geometry o.start) n loaded.stood.parts).memory_is
+      ∙ (AreIssued-written (first_of F o) n loaded.stood (layout_for F o).image_blocks loaded.sized (first-whole F laws o.geometry o.start)).memory_is
 
   pub loaded-state : state_from o.geometry (cpu_of o.start) (F.loads c n) ≡ at o o.start.count
   loaded-state =
@@ -31,5 +31,5 @@ module _ {C : Type 0} (F : FillingOf C) (laws : IsFilling F) (o : Origin) (origi
 
   pub loaded-header : header_bad (layout_for F o) (newest n 0) true ≡ None
   loaded-header =
-      ap (λ (b : Block). header_bad (layout_for F o) b true) loaded.stood.header.newest_is
+      ap (λ (b : Block). header_bad (layout_for F o) b true) (header_read (first_of F o) n loaded.stood).newest_is
       ∙ first-header F laws o.geometry (CanStart-origin o origin).geometry

@@ -1,34 +1,33 @@
 -- Every action of loading is a move of the run's checkpoints.
-use Rattle.std.proofs.Common.{◌≡◌, ◌≢◌, ℕ, ◌+◌, ◌<◌, nat_lt, Bool, true, false, if◌then◌else◌, List, [], ◌∷◌, length, Contains, Some, None, refl, sym, ap, subst, inl, inr, arith}
+use Rattle.std.proofs.Common.{◌≡◌, ◌≢◌, ℕ, List, [], ◌∷◌, length, Contains, Option, Some, None, sym, subst, inl, inr, arith}
 use Rattle.std.proofs.lemmas.List.Elements.{Contains-push_cases}
 use Rattle.thy_base.specs.declared.block.Block.{Block}
-use Rattle.thy_base.specs.Device.{Device, block_at, settled, written_to, HasFailedToWrite, IsFramed}
-use Rattle.thy_crash.specs.Fixed.{Reads as ReadsAs}
-use Rattle.thy_crash.specs.Saved.{Kept, InDoubt, IsIssued, next_image, guarded}
+use Rattle.thy_base.specs.Device.{Device, IsFramed}
+use Rattle.thy_crash.specs.Saved.{IsIssued, next_image}
 use Rattle.thy_crash.proofs.SavedLemmas.{next_image-commit}
-use Rattle.thy_crash.proofs.SparesLemmas.{Spares-written, Spares-failed, Spares-failed_to_write}
 use Rattle.thy_layout.specs.Decoded.{Nothing}
 use Rattle.thy_view.specs.Action.{after, FailsTo}
 use Rattle.thy_view.specs.Origin.{Origin}
 use Rattle.thy_view.specs.Safe.{ceiling}
-use Rattle.thy_protocol.specs.Issuing.{ArePlaced, slot_of}
+use Rattle.thy_protocol.specs.declared.round.Round.{Round}
+use Rattle.thy_protocol.specs.declared.round.Round.TheVariants.{Write, Settle, Commit, Confirm}
+use Rattle.thy_protocol.specs.Issuing.{slot_of}
 use Rattle.thy_protocol.specs.Keeps.{IsOf}
 use Rattle.thy_layout.specs.Layout.{Layout, slot_in, decode_by, looked_by}
-use Rattle.thy_protocol.specs.Moves.{Standing, standing, IsKeeping, Move, Goes, Readies, Commits, Confirms}
+use Rattle.thy_protocol.specs.Moves.{IsKeeping, Move}
+use Rattle.thy_protocol.specs.Round.{RoundWrites, IsInRound, round_action, next_round}
+use Rattle.thy_protocol.specs.Rounds.{made_after, standing_then, MayTake, AreApart, HasWritten, HasWrittenBefore, HasWrittenThen}
+use Rattle.thy_protocol.proofs.RoundLemmas.{next_by, rounds_move, failed_rounds_move}
 use Rattle.thy_layout.proofs.LayoutLemmas.{decode_by-nothing_back, looked_nothing}
-use Rattle.thy_boot.specs.declared.stage.Stage.{Stage}
-use Rattle.thy_boot.specs.declared.stage.Stage.TheVariants.{Reads, Loads, Migrates, Over}
-use Rattle.thy_boot.specs.declared.stage.End.TheVariants.{Restored, Loaded}
-use Rattle.thy_boot.specs.declared.stage.Issue.{Issue}
-use Rattle.thy_boot.specs.declared.stage.Issue.TheVariants.{Home, Slot, Header, Settle, Commit, Confirm}
+use Rattle.thy_boot.specs.declared.stage.Stage.TheVariants.{Loads}
 use Rattle.thy_boot.specs.Boot.{Booting}
 use Rattle.thy_boot.specs.Filling.{FillingOf, First, IsFilling}
-use Rattle.thy_boot.specs.Loads.{IsIssue, after_issue, issue_action}
-use Rattle.thy_boot.specs.Sound.{BootImages, layout_for, first_of, start_mark, standing_in_boot, images_after, HasWrittenWholeFirst, HasLoadedBefore, IsFirstImage, IsMade, IsSoundAt}
+use Rattle.thy_boot.specs.Loads.{first_writes, loads_on}
+use Rattle.thy_boot.specs.Sound.{BootImages, layout_for, first_of, start_mark, standing_in_boot, images_after, IsFirstImage, IsMade, IsSoundAt}
 use Rattle.thy_boot.specs.Start.{CanStart}
 use Rattle.thy_boot.specs.Laws.{standing_after_fault}
-use Rattle.thy_boot.proofs.LoadLemmas.{first-whole, first-placed, first-checkpoint}
-use Rattle.thy_boot.proofs.WrittenLemmas.{place_in, behind, AreIssued-written, StandsAt}
+use Rattle.thy_boot.proofs.FirstLemmas.{first_apart, header_read, AreIssued-written}
+use Rattle.thy_boot.proofs.LoadLemmas.{first-whole, first-placed, first-once, first-checkpoint}
 
 -- if there is no checkpoint, the commit block alone determines that
 alone : (l : Layout) (before : List Block) (x : ℕ) → decode_by l ceiling before ≡ Nothing → x ≢ 1 → ¬ Contains (1 ∷ looked_by l before) x
@@ -47,121 +46,64 @@ module _ {C : Type 0} (F : FillingOf C) (laws : IsFilling F) (o : Origin) (can :
   abbrev f : First
   f = first_of F o
 
-  placed : ArePlaced l.image_blocks f.parts
-  placed = first-placed F laws o.geometry o.start can
+  abbrev w : RoundWrites
+  w = first_writes (first_of F o)
 
-  -- before the first barrier
-  abbrev before_of : BootImages → Device → Standing
-  before_of g n = standing n (Kept g.before) None (Some (start_mark o))
-
-  -- a write of another place than the commit block's, and one that failed
-  writes : (g : BootImages) (n : Device) (x : ℕ) (block : Block) → decode_by l ceiling g.before ≡ Nothing → x ≢ 1
-      → Move o l (before_of g n) (before_of g (written_to n x block))
-  writes g n x block nothing other =
-      Goes (Kept g.before) None (Some (start_mark o)) n (written_to n x block)
-      (Spares-written (1 ∷ looked_by l g.before) x block n (written_to n x block) (alone l g.before x nothing other) refl)
-
-  fails_write : (g : BootImages) (n m : Device) (x : ℕ) (block : Block) → decode_by l ceiling g.before ≡ Nothing → x ≢ 1
-      → HasFailedToWrite x block n m → IsFramed n m → Move o l (before_of g n) (before_of g m)
-  fails_write g n m x block nothing other failed framed =
-      Goes (Kept g.before) None (Some (start_mark o)) n m
-      (Spares-failed_to_write (1 ∷ looked_by l g.before) x block n m (alone l g.before x nothing other) failed framed)
-
-  -- no block of memory or slot goes to the commit block
-  pub home_elsewhere : (b : ℕ) → b < length f.parts.memory → place_in f b ≢ 1
-  home_elsewhere b inside e = let past = behind l.image_blocks f placed b inside in omega (arith, e, past)
-
-  pub slot_elsewhere : (k : ℕ) → f.parts.slot_place + k ≢ 1
-  slot_elsewhere k e = omega (arith, e, placed.slot_behind)
+  pub apart : AreApart l.image_blocks w
+  apart = first_apart f l.image_blocks (first-placed F laws o.geometry o.start can) (first-once F laws o.geometry o.start can)
 
   -- all that was written is the start's image
-  module _ (n : Device) (w : HasWrittenWholeFirst l.image_blocks f n) where
+  module _ (n : Device) (sized : length n.image ≡ l.image_blocks) (h : HasWritten w w.blocks n) where
     whole : IsOf o l (next_image n f.commit) (start_mark o) × IsIssued (looked_by l) n (next_image n f.commit)
         × (slot_in l (next_image n f.commit) ≡ slot_of f.parts)
-    whole = first-checkpoint F laws o can n (AreIssued-written l.image_blocks f (first-whole F laws o.geometry o.start) n w.parts) w.header
+    whole =
+        first-checkpoint F laws o can n (AreIssued-written f n h l.image_blocks sized (first-whole F laws o.geometry o.start)) (header_read f n h)
 
     pub IsFirstImage-written : IsFirstImage o l f (next_image n f.commit)
-    IsFirstImage-written = record {
-      of = whole.0;
-      commit = next_image-commit f.commit n (omega (arith, w.parts.sized, placed.slot_behind, placed.slot_inside));
-      slot = whole.2;
-    }
+    IsFirstImage-written = record { of = whole.0; commit = next_image-commit f.commit n (omega (arith, sized, apart.room)); slot = whole.2 }
 
-  module _ (g : BootImages) (n : Device) where
-    pub load_moves : (issue : Issue) → IsIssue f issue → IsKeeping o l (standing_in_boot o (Loads issue) g n) → IsMade o l f issue g.next
-        → HasLoadedBefore l.image_blocks f issue n
-        → Move o l (standing_in_boot o (Loads issue) g n)
-        (standing_in_boot o (after_issue f issue) (images_after f (Loads issue) n g) (after (issue_action f issue) n))
-    load_moves (Home b) inside k made w = by_more (nat_lt (b + 1) (length f.parts.memory)) where
-      by_more : (t : Bool) → Move o l (before_of g n)
-          (standing_in_boot o (if t then Loads (Home (b + 1)) else Loads (Slot 0)) g (after (issue_action f (Home b)) n))
-      by_more true = writes g n (place_in f b) (block_at f.memory b) k.told.0 (home_elsewhere b inside)
-      by_more false = writes g n (place_in f b) (block_at f.memory b) k.told.0 (home_elsewhere b inside)
-    load_moves (Slot j) inside k made w = by_more (nat_lt (j + 1) f.parts.slot_blocks) where
-      by_more : (t : Bool) → Move o l (before_of g n)
-          (standing_in_boot o (if t then Loads (Slot (j + 1)) else Loads Header) g (after (issue_action f (Slot j)) n))
-      by_more true = writes g n (f.parts.slot_place + j) (f.parts.slot j) k.told.0 (slot_elsewhere j)
-      by_more false = writes g n (f.parts.slot_place + j) (f.parts.slot j) k.told.0 (slot_elsewhere j)
-    load_moves Header inside k made w = writes g n 0 f.header k.told.0 (λ e. omega (arith, e))
-    load_moves Settle inside k made w =
-        Readies g.before (next_image n f.commit) None (start_mark o) n (settled n) (whole n w).1 (whole n w).0 refl
-    load_moves Commit inside k made w =
-        Commits g.before g.next None (start_mark o) n (written_to n 1 f.commit) (inl (ap (written_to n 1) (sym made.commit)))
-    load_moves Confirm inside k made w =
-        Confirms g.before g.next None (start_mark o) n (settled n) (subst (λ (b : Block). ReadsAs n 1 b) (sym made.commit) w.1) refl
+  -- what is made from the first barrier on
+  abbrev pub MadeThen : Option Round → List Block → Type 0
+  MadeThen (Some r) next = IsMade o l f r next
+  MadeThen None next = IsFirstImage o l f next
 
-    -- what is made from the first barrier on
-    abbrev pub MadeAt : Stage → List Block → Type 0
-    MadeAt (Loads issue) next = IsMade o l f issue next
-    MadeAt q next = IsFirstImage o l f next
+  -- what holds then makes a boot of the run
+  pub sound_then : (b : Booting) (c : C) (h : BootImages) (m : Device) → F.fresh c → h.kept ≡ None → length m.image ≡ l.image_blocks → (x : Option Round)
+      → HasWrittenThen w x m → MadeThen x h.next → IsSoundAt F o (loads_on x) h m b c
+  sound_then b c h m fresh none sized (Some r) stood made = record { none = none; fresh = fresh; there = stood.0; made = made; stood = stood.1 }
+  sound_then b c h m fresh none sized None stood made = record { fresh = fresh; sized = sized; settled = stood.1; made = made; stood = stood.0 }
 
-    pub made_on : (issue : Issue) → IsMade o l f issue g.next → HasLoadedBefore l.image_blocks f issue n
-        → MadeAt (after_issue f issue) (images_after f (Loads issue) n g).next
-    made_on (Home b) made w = by_more (nat_lt (b + 1) (length f.parts.memory)) where
-      by_more : (t : Bool) → MadeAt (if t then Loads (Home (b + 1)) else Loads (Slot 0)) g.next
-      by_more true = tt
-      by_more false = tt
-    made_on (Slot j) made w = by_more (nat_lt (j + 1) f.parts.slot_blocks) where
-      by_more : (t : Bool) → MadeAt (if t then Loads (Slot (j + 1)) else Loads Header) g.next
-      by_more true = tt
-      by_more false = tt
-    made_on Header made w = tt
-    made_on Settle made w = IsFirstImage-written n w
-    made_on Commit made w = made
-    made_on Confirm made w = made
+  module _ (g : BootImages) (n : Device) (r : Round) (inside : IsInRound w.blocks r) (keeps : IsKeeping o l (standing_in_boot o (Loads r) g n))
+      (made : IsMade o l f r g.next) (stood : HasWrittenBefore w r n) where
+    may_take : MayTake o l (start_mark o) w r g.before g.next n
+    may_take = by_round r inside keeps made stood where
+      by_round : (r : Round) → IsInRound w.blocks r → IsKeeping o l (standing_in_boot o (Loads r) g n) → IsMade o l f r g.next → HasWrittenBefore w r n
+          → MayTake o l (start_mark o) w r g.before g.next n
+      by_round (Write k) inside keeps made stood = alone l g.before (w.place k) keeps.told.0 (apart.elsewhere k inside)
+      by_round Settle inside keeps made stood = let next = whole n keeps.sized stood in (next.0, next.1)
+      by_round Commit inside keeps made stood = made.commit
+      by_round Confirm inside keeps made stood = (made.commit, stood.1)
 
-    -- what holds at a stage of loading, or after it, makes a boot of the run
-    pub sound_at : (b : Booting) (c : C) (h : BootImages) (m : Device) → F.fresh c → h.kept ≡ None → (q : Stage)
-        → StandsAt l.image_blocks f q m → MadeAt q h.next → IsSoundAt F o q h m b c
-    sound_at b c h m fresh none (Reads r) stands made = absurd stands
-    sound_at b c h m fresh none (Loads issue) stands made = record { none = none; fresh = fresh; there = stands.0; made = made; stood = stands.1 }
-    sound_at b c h m fresh none (Migrates at) stands made = absurd stands
-    sound_at b c h m fresh none (Over Restored) stands made = absurd stands
-    sound_at b c h m fresh none (Over Loaded) stands made = record { fresh = fresh; settled = stands.1; made = made; stood = stands.0 }
+    pub load_moves : Move o l (standing_in_boot o (Loads r) g n)
+        (standing_in_boot o (loads_on (next_round w.blocks r)) (images_after f (Loads r) n g) (after (round_action w r) n))
+    load_moves = then_stands (next_round w.blocks r) (rounds_move o l (start_mark o) w r g.before g.next None n may_take) where
+      then_stands : (x : Option Round)
+          → Move o l (standing_in_boot o (Loads r) g n)
+          (standing_then x (after (round_action w r) n) g.before (made_after w.commit r n g.next) None (start_mark o))
+          → Move o l (standing_in_boot o (Loads r) g n) (standing_in_boot o (loads_on x) (images_after f (Loads r) n g) (after (round_action w r) n))
+      then_stands (Some q) move = move
+      then_stands None move = move
+
+    pub made_on : MadeThen (next_round w.blocks r) (images_after f (Loads r) n g).next
+    made_on = by_round r keeps.sized made stood where
+      by_round : (r : Round) → length n.image ≡ l.image_blocks → IsMade o l f r g.next → HasWrittenBefore w r n
+          → MadeThen (next_round w.blocks r) (images_after f (Loads r) n g).next
+      by_round (Write k) sized made stood = next_by (λ (q : Round). IsMade o l f q g.next) k w.blocks (λ more. tt) (λ last. tt)
+      by_round Settle sized made stood = IsFirstImage-written n sized stood
+      by_round Commit sized made stood = made
+      by_round Confirm sized made stood = made
 
     -- an action of loading that failed
-    pub load_fails : (m : Device) (issue : Issue) → IsIssue f issue → IsKeeping o l (standing_in_boot o (Loads issue) g n) → IsMade o l f issue g.next
-        → FailsTo (issue_action f issue) n m → IsFramed n m
-        → Move o l (standing_in_boot o (Loads issue) g n) (standing_after_fault o (Loads issue) g m)
-    load_fails m (Home b) inside k made failed framed =
-        fails_write g n m (place_in f b) (block_at f.memory b) k.told.0 (home_elsewhere b inside) failed framed
-    load_fails m (Slot j) inside k made failed framed =
-        fails_write g n m (f.parts.slot_place + j) (f.parts.slot j) k.told.0 (slot_elsewhere j) failed framed
-    load_fails m Header inside k made failed framed = fails_write g n m 0 f.header k.told.0 (λ e. omega (arith, e)) failed framed
-    load_fails m Settle inside k made failed framed =
-        Goes (Kept g.before) None (Some (start_mark o)) n m (Spares-failed (guarded (looked_by l) (Kept g.before)) n m failed framed)
-    load_fails m Commit inside k made failed framed =
-        let write : HasFailedToWrite 1 (block_at g.next 1) n m = subst (λ (b : Block). HasFailedToWrite 1 b n m) (sym made.commit) failed in
-        Commits g.before g.next None (start_mark o) n m (inr (write, framed))
-    load_fails m Confirm inside k made failed framed =
-        Goes (InDoubt g.before g.next) None (Some (start_mark o)) n m
-        (Spares-failed (guarded (looked_by l) (InDoubt g.before g.next)) n m failed framed)
-
--- the mark that is kept stays
-pub kept_after : (f : First) (issue : Issue) (n : Device) (g : BootImages) → (images_after f (Loads issue) n g).kept ≡ g.kept
-kept_after f (Home b) n g = refl
-kept_after f (Slot k) n g = refl
-kept_after f Header n g = refl
-kept_after f Settle n g = refl
-kept_after f Commit n g = refl
-kept_after f Confirm n g = refl
+    pub load_fails : (m : Device) → FailsTo (round_action w r) n m → IsFramed n m
+        → Move o l (standing_in_boot o (Loads r) g n) (standing_after_fault o (Loads r) g m)
+    load_fails m failed framed = failed_rounds_move o l (start_mark o) w r g.before g.next None n m may_take failed framed

@@ -4,23 +4,23 @@ use Rattle.thy_base.specs.declared.block.Block.{Block}
 use Rattle.thy_layout.specs.declared.bad_image.BadImage.{BadImage}
 use Rattle.thy_layout.specs.declared.layout_version.LayoutVersion.{LayoutVersion}
 use Rattle.thy_layout.specs.declared.layout_version.LayoutVersion.TheVariants.{VersionOne, VersionTwo}
-use Rattle.thy_layout.specs.Commit.{is_zero, commit_magic}
+use Rattle.thy_layout.specs.Commit.{is_zero, commit_magic, commit_of}
 use Rattle.thy_layout.specs.Header.{knows_version_one}
 use Rattle.thy_base.specs.Words.{word_of}
 use Rattle.thy_boot.specs.declared.stage.Stage.{Stage}
 use Rattle.thy_boot.specs.declared.stage.Stage.TheVariants.{Reads, Loads, Migrates, Over}
 use Rattle.thy_boot.specs.declared.stage.ReadStage.TheVariants.{Unread, Header, Slot, Fills, Refusing}
-use Rattle.thy_boot.specs.declared.stage.Issue.TheVariants.{Home, Slot as SlotBlock, Header as HeaderBlock, Settle, Commit, Confirm}
-use Rattle.thy_boot.specs.declared.stage.Migration.{Migration}
-use Rattle.thy_boot.specs.declared.stage.Migration.TheVariants.{Slot as SlotAnew, Settle as SettleAnew, Commit as CommitAnew, Confirm as ConfirmAnew}
+use Rattle.thy_protocol.specs.declared.round.Round.TheVariants.{Write}
+use Rattle.thy_protocol.specs.Round.{round_left}
+use Rattle.thy_protocol.proofs.RoundLemmas.{round_most}
 use Rattle.thy_boot.specs.Boot.{Booting, layout_in, slot_read, slot_fault, version_in, at_stage, refusing_or, after_commit, head_fault, after_header, after_slot, filled_by, filling_or, filling_from, has_more, gone_on}
 use Rattle.thy_boot.specs.Filling.{FillingOf, IsFilling, anew}
-use Rattle.thy_boot.specs.Left.{migration_left, migration_by, numbers_of, reads_left, boot_left}
+use Rattle.thy_boot.specs.Left.{migration_by, numbers_of, reads_left, boot_left}
 use Rattle.thy_boot.specs.Recovers.{IsNearer}
 
 -- a migration that follows is none but one of those that may
 few_by : (known word : Bool) (slot most : ℕ) → slot ≤ most
-    → migration_by (if word && known then VersionOne else VersionTwo) slot ≤ (if known then migration_left most (SlotAnew 0) else 0)
+    → migration_by (if word && known then VersionOne else VersionTwo) slot ≤ (if known then round_left most (Write 0) else 0)
 few_by true true slot most below = omega (arith, below)
 few_by true false slot most below = omega arith
 few_by false true slot most below = omega arith
@@ -33,6 +33,9 @@ module _ {C : Type 0} (F : FillingOf C) (laws : IsFilling F) where
   room_anew : (b : Booting) → (layout_in F b).slot_blocks (anew b.commit) ≤ (layout_in F b).most_slot
   room_anew b = (laws.laid.slot b.p (anew b.commit)).most
 
+  room_first : (b : Booting) → (layout_in F b).slot_blocks (commit_of 0) ≤ (layout_in F b).most_slot
+  room_first b = (laws.laid.slot b.p (commit_of 0)).most
+
   few : (b : Booting) → (numbers_of F b).migration ≤ (numbers_of F b).most_migration
   few b =
       few_by (knows_version_one (layout_in F b).scheme b.p) (word_of b.commit 0 == commit_magic VersionOne)
@@ -40,8 +43,8 @@ module _ {C : Type 0} (F : FillingOf C) (laws : IsFilling F) where
 
   pub nearer_commit : (b : Booting) (block : Block) → IsNearer F b Unread (after_commit block b)
   nearer_commit b block = by_test (is_zero block) where
-    by_test : (z : Bool) → boot_left F (after_commit block b) (if z then Loads (Home 0) else Reads Header) < reads_left F b Unread
-    by_test true = omega arith
+    by_test : (z : Bool) → boot_left F (after_commit block b) (if z then Loads (Write 0) else Reads Header) < reads_left F b Unread
+    by_test true = omega (arith, room_first b)
     by_test false = omega (arith, few (after_commit block b))
 
   pub nearer_header : (b : Booting) (block : Block) → IsNearer F b Header (at_stage (after_header (layout_in F b) block b) b)
@@ -88,14 +91,6 @@ module _ {C : Type 0} (F : FillingOf C) (laws : IsFilling F) where
   left_most b (Reads (Slot next)) = omega (arith, room b, few b)
   left_most b (Reads (Fills k)) = omega (arith, few b)
   left_most b (Reads (Refusing bad)) = omega arith
-  left_most b (Loads (Home k)) = omega arith
-  left_most b (Loads (SlotBlock k)) = omega arith
-  left_most b (Loads HeaderBlock) = omega arith
-  left_most b (Loads Settle) = omega arith
-  left_most b (Loads Commit) = omega arith
-  left_most b (Loads Confirm) = omega arith
-  left_most b (Migrates (SlotAnew k)) = omega (arith, room_anew b)
-  left_most b (Migrates SettleAnew) = omega arith
-  left_most b (Migrates CommitAnew) = omega arith
-  left_most b (Migrates ConfirmAnew) = omega arith
+  left_most b (Loads r) = omega (arith, round_most (numbers_of F b).first r, room_first b)
+  left_most b (Migrates r) = omega (arith, round_most (numbers_of F b).anew r, room_anew b)
   left_most b (Over end) = omega arith

@@ -7,17 +7,14 @@ use Rattle.thy_base.specs.Words.{word_of}
 use Rattle.thy_layout.specs.declared.layout_version.LayoutVersion.TheVariants.{VersionOne, VersionTwo}
 use Rattle.thy_layout.specs.Commit.{commit_magic, version_of}
 use Rattle.thy_layout.specs.Header.{last_word, knows_version_one}
-use Rattle.thy_view.specs.Origin.{Origin}
-use Rattle.thy_base.specs.Device.{Device}
 use Rattle.thy_boot.specs.declared.stage.Stage.{Stage}
 use Rattle.thy_boot.specs.declared.stage.Stage.TheVariants.{Reads, Loads, Migrates, Over}
-use Rattle.thy_boot.specs.Boot.{Booting}
 use Rattle.thy_boot.specs.Filling.{FillingOf, layout_at}
-use Rattle.thy_boot.specs.declared.stage.Migration.TheVariants.{Slot as SlotAnew}
+use Rattle.thy_protocol.specs.declared.round.Round.TheVariants.{Write}
+use Rattle.thy_protocol.specs.Round.{round_left}
 use Rattle.thy_boot.specs.Laws.{NumberedCountNone, NumberedNeverMigrate}
-use Rattle.thy_boot.specs.Left.{migration_left}
 use Rattle.thy_boot.specs.Shows.{migrates_at}
-use Rattle.thy_boot.specs.Sound.{BootImages, IsSoundAt}
+use Rattle.thy_boot.specs.Sound.{IsSoundAt}
 
 by_word : (word : Bool) → (if word && false then VersionOne else VersionTwo) ≡ VersionOne → ⊥
 by_word true h = cc
@@ -35,11 +32,11 @@ never_older scheme p commit some is =
 pub numbered_never_migrate : {C : Type 0} (F : FillingOf C) → NumberedNeverMigrate F
 numbered_never_migrate F o g n b c some sound = by_stage b.stage sound.so_far where
   by_stage : (q : Stage) → IsSoundAt F o q g n b c → migrates_at q ≡ false
-  by_stage (Reads r) far = refl
-  by_stage (Loads issue) far = refl
-  by_stage (Migrates step) far = absurd (never_older (layout_at F b.p).scheme b.p b.commit (some b.p) far.version)
+  by_stage (Reads at) far = refl
+  by_stage (Loads r) far = refl
+  by_stage (Migrates r) far = absurd (never_older (layout_at F b.p).scheme b.p b.commit (some b.p) far.version)
   by_stage (Over end) far = refl
 
 pub numbered_count_none : {C : Type 0} (F : FillingOf C) → NumberedCountNone F
 numbered_count_none F p some =
-    ap (λ (known : Bool). if known then migration_left (layout_at F p).most_slot (SlotAnew 0) else 0) (unknown (layout_at F p).scheme p some)
+    ap (λ (known : Bool). if known then round_left (layout_at F p).most_slot (Write 0) else 0) (unknown (layout_at F p).scheme p some)

@@ -20,7 +20,7 @@ use Rattle.thy_boot.specs.declared.stage.Stage.{Stage}
 use Rattle.thy_boot.specs.declared.stage.Stage.TheVariants.{Reads, Loads, Migrates, Over}
 use Rattle.thy_boot.specs.declared.stage.ReadStage.TheVariants.{Unread, Header, Slot, Fills, Refusing}
 use Rattle.thy_boot.specs.declared.stage.End.TheVariants.{Restored, Loaded}
-use Rattle.thy_boot.specs.declared.stage.Issue.TheVariants.{Home}
+use Rattle.thy_protocol.specs.declared.round.Round.TheVariants.{Write}
 use Rattle.thy_boot.specs.Boot.{Booting, IsBoot, IsThere, new_boot, layout_in, slot_read, slot_fault, version_in, at_stage, refusing_or, after_commit, head_fault, after_header, after_slot, filled_by, filling_or, filling_from, has_more, gone_on, IsJudged, GoesOn}
 use Rattle.thy_boot.specs.Filling.{FillingOf, IsFilling, layout_at}
 use Rattle.thy_boot.specs.Reads.{slot_kept}
@@ -58,7 +58,7 @@ module _ {C : Type 0} (F : FillingOf C) where
     there : newest n 1 ≡ block_at n.image 1
     there = newest-empty n 1 h.settled
 
-    by_zero : (z : Bool) → is_zero (newest n 1) ≡ z → HasReadAt F (if z then Loads (Home 0) else Reads Header) n (after_commit (newest n 1) b) c
+    by_zero : (z : Bool) → is_zero (newest n 1) ≡ z → HasReadAt F (if z then Loads (Write 0) else Reads Header) n (after_commit (newest n 1) b) c
     by_zero true e = (fresh, decode_by-zero (layout_in F b) ceiling n.image (ap is_zero (sym there) ∙ e), refl)
     by_zero false e = (fresh, record { committed = e; is = sym there })
 

@@ -14,8 +14,7 @@ use Rattle.thy_layout.proofs.FileLemmas.{length-blocks_of, block_at-blocks_of}
 use Rattle.thy_protocol.specs.Issuing.{slot_of}
 use Rattle.thy_boot.specs.Boot.{Booting, layout_in, slot_read}
 use Rattle.thy_boot.specs.Filling.{FillingOf, IsFilling, anew}
-use Rattle.thy_boot.specs.Migrating.{cleared, renewed}
-use Rattle.thy_boot.specs.Sound.{renewed_parts}
+use Rattle.thy_boot.specs.Migrating.{cleared, renewed, renewed_parts}
 use Rattle.thy_boot.proofs.SlotLemmas.{take_below}
 
 -- ---- the slot

@@ -1,5 +1,5 @@
 -- Whatever a cut leaves of a boot is safe, also after a step that failed.
-use Rattle.std.proofs.Common.{◌≡◌, ◌≢◌, ℕ, ◌+◌, ◌==◌, ◌||◌, Bool, true, false, if◌then◌else◌, Option, Some, None, refl, sym, ap, subst}
+use Rattle.std.proofs.Common.{◌≡◌, ◌≢◌, ℕ, ◌==◌, ◌||◌, Bool, true, false, if◌then◌else◌, Option, Some, None, refl, sym, ap, subst}
 use Rattle.std.proofs.lemmas.Bool.{ne_eqb}
 use Rattle.thy_base.specs.declared.config.Parameters.{Parameters}
 use Rattle.thy_base.specs.declared.mark.Mark.{Mark}
@@ -13,7 +13,7 @@ use Rattle.thy_view.specs.Safe.{Safe}
 use Rattle.thy_view.specs.Views.{doubt_of}
 use Rattle.thy_protocol.specs.Keeps.{doubt_in, finding_view}
 use Rattle.thy_layout.specs.Layout.{looked_by, reading}
-use Rattle.thy_protocol.specs.Moves.{Standing, standing, IsKeeping, Move, Goes}
+use Rattle.thy_protocol.specs.Moves.{standing, IsKeeping, Move, Goes}
 use Rattle.thy_view.proofs.SafeLemmas.{Safe-same}
 use Rattle.thy_protocol.proofs.KeepsLemmas.{IsKeeping-move, Safe-kept, Safe-sealed}
 use Rattle.thy_boot.specs.declared.stage.Stage.{Stage}
@@ -21,48 +21,24 @@ use Rattle.thy_boot.specs.declared.stage.Stage.TheVariants.{Reads, Loads, Migrat
 use Rattle.thy_boot.specs.declared.stage.ReadStage.{ReadStage}
 use Rattle.thy_boot.specs.declared.stage.ReadStage.TheVariants.{Unread, Header as ReadsHeader, Slot as ReadsSlot, Fills, Refusing}
 use Rattle.thy_boot.specs.declared.stage.End.TheVariants.{Restored, Loaded}
-use Rattle.thy_boot.specs.declared.stage.Issue.{Issue}
-use Rattle.thy_boot.specs.declared.stage.Issue.TheVariants.{Home, Slot, Header, Settle, Commit, Confirm}
-use Rattle.thy_boot.specs.declared.stage.Migration.{Migration}
-use Rattle.thy_boot.specs.declared.stage.Migration.TheVariants.{Slot as SlotAnew, Settle as SettleAnew, Commit as CommitAnew, Confirm as ConfirmAnew}
+use Rattle.thy_protocol.specs.declared.round.Round.{Round}
+use Rattle.thy_protocol.specs.declared.round.Round.TheVariants.{Write, Settle, Commit, Confirm}
+use Rattle.thy_protocol.specs.Round.{RoundWrites, IsInRound, round_action, is_written}
+use Rattle.thy_protocol.specs.Rounds.{saved_in, saved_after_fault}
 use Rattle.thy_boot.specs.Boot.{Booting}
-use Rattle.thy_boot.specs.Migrating.{migration_action}
-use Rattle.thy_boot.specs.Filling.{FillingOf, First, IsFilling, first_by}
-use Rattle.thy_boot.specs.Loads.{IsIssue, issue_action}
+use Rattle.thy_boot.specs.Migrating.{renewing}
+use Rattle.thy_boot.specs.Filling.{FillingOf, IsFilling, first_by}
+use Rattle.thy_boot.specs.Loads.{first_writes}
 use Rattle.thy_boot.specs.Reads.{read_action}
-use Rattle.thy_boot.specs.Shows.{is_written, restored_view, seen_at}
-use Rattle.thy_boot.specs.Sound.{BootImages, layout_for, first_of, start_mark, sealed_by, saved_loading, saved_migrating, standing_in_boot, IsMade, IsMigrating, IsSoundAt}
+use Rattle.thy_boot.specs.Shows.{restored_view, seen_at}
+use Rattle.thy_boot.specs.Sound.{BootImages, layout_for, first_of, start_mark, sealed_by, standing_in_boot, IsLoading, IsMigrating, IsSoundAt}
 use Rattle.thy_boot.specs.Start.{CanStart}
 use Rattle.thy_boot.specs.Steps.{action_at}
 use Rattle.thy_boot.specs.Laws.{SoundIsSafe, IsGoing, standing_after_fault, FailuresMove}
 use Rattle.thy_boot.proofs.FoundLemmas.{reading_of}
-use Rattle.thy_boot.proofs.MigrationLemmas.{migration-fails}
-use Rattle.thy_boot.proofs.MoveLemmas.{load_fails, home_elsewhere, slot_elsewhere}
+use Rattle.thy_boot.proofs.MigrationLemmas.{migration_fails}
+use Rattle.thy_boot.proofs.MoveLemmas.{apart, load_fails}
 use Rattle.thy_boot.proofs.StartLemmas.{CanStart-origin}
-
--- by the stage of loading, the images that a cut may leave after a failure
-abbrev failed_saved : Issue → BootImages → Saved
-failed_saved Commit g = InDoubt g.before g.next
-failed_saved issue g = saved_loading issue g
-
-failed_is : (o : Origin) (g : BootImages) (m : Device) (issue : Issue) → standing_after_fault o (Loads issue) g m ≡ standing m (failed_saved issue g) None (Some (start_mark o))
-failed_is o g m (Home b) = refl
-failed_is o g m (Slot k) = refl
-failed_is o g m Header = refl
-failed_is o g m Settle = refl
-failed_is o g m Commit = refl
-failed_is o g m Confirm = refl
-
--- by the action of a migration
-abbrev failed_migrating : Migration → BootImages → Saved
-failed_migrating CommitAnew g = InDoubt g.before g.next
-failed_migrating step g = saved_migrating step g
-
-failed_migrating_is : (o : Origin) (g : BootImages) (m : Device) (step : Migration) → standing_after_fault o (Migrates step) g m ≡ standing m (failed_migrating step g) g.kept g.kept
-failed_migrating_is o g m (SlotAnew k) = refl
-failed_migrating_is o g m SettleAnew = refl
-failed_migrating_is o g m CommitAnew = refl
-failed_migrating_is o g m ConfirmAnew = refl
 
 -- none is in doubt if none is sealed
 none-in : (s : Saved) → doubt_in s None ≡ None
@@ -100,8 +76,9 @@ module _ {C : Type 0} (F : FillingOf C) (laws : IsFilling F) where
     kept : IsKeeping o (layout_for F o) (reading_of o g n) → IsSafe g.kept None
     kept k = Safe-kept F.layouts o n (Kept g.before) g.kept (sealed_by o g.kept) k
 
-    loading : (issue : Issue) → IsKeeping o (layout_for F o) (standing_in_boot o (Loads issue) g n) → IsSafe None (doubt_in (saved_loading issue g) (Some (start_mark o)))
-    loading issue k = Safe-kept F.layouts o n (saved_loading issue g) None (Some (start_mark o)) k
+    loading : (r : Round) → IsKeeping o (layout_for F o) (standing_in_boot o (Loads r) g n)
+        → IsSafe None (doubt_in (saved_in r g.before g.next) (Some (start_mark o)))
+    loading r k = Safe-kept F.layouts o n (saved_in r g.before g.next) None (Some (start_mark o)) k
 
     -- both images of a migration are the mark's that is kept
     migrating : (kept : Option Mark) (s : Saved) → IsKeeping o (layout_for F o) (standing n s kept kept)
@@ -110,14 +87,12 @@ module _ {C : Type 0} (F : FillingOf C) (laws : IsFilling F) where
     migrating (Some m) s k = Safe-same (reading F.layouts) o m n (Safe-sealed F.layouts o n s (Some m) (Some m) k)
 
     safe_at : (q : Stage) → IsKeeping o (layout_for F o) (standing_in_boot o q g n) → IsSafe (seen_at o g.kept q).done (doubt_of (seen_at o g.kept q))
-    safe_at (Reads r) k = reads g.kept (kept k)
-    safe_at (Loads (Home b)) k = loading (Home b) k
-    safe_at (Loads (Slot j)) k = loading (Slot j) k
-    safe_at (Loads Header) k = loading Header k
+    safe_at (Reads at) k = reads g.kept (kept k)
+    safe_at (Loads (Write j)) k = loading (Write j) k
     safe_at (Loads Settle) k = loading Settle k
     safe_at (Loads Commit) k = loading Commit k
     safe_at (Loads Confirm) k = loading Confirm k
-    safe_at (Migrates step) k = migrating g.kept (saved_migrating step g) k
+    safe_at (Migrates r) k = migrating g.kept (saved_in r g.before g.next) k
     safe_at (Over Restored) k = restored g.kept (kept k)
     safe_at (Over Loaded) k = Safe-kept F.layouts o n (Kept g.next) (Some (start_mark o)) None k
 
@@ -169,52 +144,43 @@ module _ {C : Type 0} (F : FillingOf C) (laws : IsFilling F) where
       )
 
   module _ (o : Origin) (starts : CanStart o.geometry o.start) (g : BootImages) where
-    abbrev f : First
-    f = first_of F o
+    abbrev w : RoundWrites
+    w = first_writes (first_of F o)
 
     -- the mark in doubt then is the start's if the action was its commit block's write, or came after it
-    loading_doubt : (issue : Issue) → IsIssue f issue → doubt_in (failed_saved issue g) (Some (start_mark o))
-        ≡ doubt_after_fault (issue_action f issue) (record (loading_view o.start.count) { written = is_written issue })
-    loading_doubt (Home b) inside = elsewhere o _ (home_elsewhere F laws o starts b inside)
-    loading_doubt (Slot k) inside = elsewhere o (f.parts.slot_place + k) (slot_elsewhere F laws o starts k)
-    loading_doubt Header inside = refl
+    loading_doubt : (r : Round) → IsInRound w.blocks r → doubt_in (saved_after_fault r g.before g.next) (Some (start_mark o))
+        ≡ doubt_after_fault (round_action w r) (record (loading_view o.start.count) { written = is_written r })
+    loading_doubt (Write k) inside = elsewhere o (w.place k) ((apart F laws o starts).elsewhere k inside)
     loading_doubt Settle inside = refl
     loading_doubt Commit inside = refl
     loading_doubt Confirm inside = refl
 
-    load_failure : (n m : Device) (issue : Issue) → IsIssue f issue → IsKeeping o (layout_for F o) (standing_in_boot o (Loads issue) g n)
-        → IsMade o (layout_for F o) f issue g.next → FailsTo (issue_action f issue) n m → IsFramed n m
-        → Failure o g n (Loads issue) (issue_action f issue) m
-    load_failure n m issue inside k made failed framed =
-        let move = load_fails F laws o starts g n m issue inside k made failed framed in
-        let kept : IsKeeping o (layout_for F o) (standing_after_fault o (Loads issue) g m)
-        = IsKeeping-move o (layout_for F o) (standing_in_boot o (Loads issue) g n) (standing_after_fault o (Loads issue) g m) move k in
-        let safe = Safe-kept F.layouts o m (failed_saved issue g) None (Some (start_mark o))
-        (subst (λ (a : Standing). IsKeeping o (layout_for F o) a) (failed_is o g m issue) kept) in
-        (move, subst (λ (d : Option Mark). Safe (reading F.layouts) o None d m) (loading_doubt issue inside) safe)
+    load_failure : (n m : Device) (r : Round) (c : C) → IsLoading F o r g n c → IsKeeping o (layout_for F o) (standing_in_boot o (Loads r) g n)
+        → FailsTo (round_action w r) n m → IsFramed n m → Failure o g n (Loads r) (round_action w r) m
+    load_failure n m r c at k failed framed =
+        let move = load_fails F laws o starts g n r at.there k at.made at.stood m failed framed in
+        let kept : IsKeeping o (layout_for F o) (standing_after_fault o (Loads r) g m)
+        = IsKeeping-move o (layout_for F o) (standing_in_boot o (Loads r) g n) (standing_after_fault o (Loads r) g m) move k in
+        let safe = Safe-kept F.layouts o m (saved_after_fault r g.before g.next) None (Some (start_mark o)) kept in
+        (move, subst (λ (d : Option Mark). Safe (reading F.layouts) o None d m) (loading_doubt r at.there) safe)
 
   -- a migration's
-  migration_moves : (o : Origin) (g : BootImages) (n m : Device) (b : Booting) (c : C) (step : Migration) → F.p c ≡ o.geometry → b.p ≡ o.geometry
-      → IsMigrating F o step g n b c → FailsTo (migration_action F b step) n m → IsFramed n m
-      → Move o (layout_for F o) (standing_in_boot o (Migrates step) g n) (standing_after_fault o (Migrates step) g m)
-  migration_moves o g n m b c step same geometry there failed framed =
-      subst (λ (x : Booting). IsMigrating F o step g n x c → FailsTo (migration_action F x step) n m
-      → Move o (layout_for F o) (standing_in_boot o (Migrates step) g n) (standing_after_fault o (Migrates step) g m)) (as_geometry o b geometry)
-      (λ is f. migration-fails F laws o (first_of F o) b c same g n step is m f framed) there failed
-
-  migration_failure : (o : Origin) (g : BootImages) (n m : Device) (b : Booting) (c : C) (step : Migration) → F.p c ≡ o.geometry → b.p ≡ o.geometry
-      → IsMigrating F o step g n b c → IsKeeping o (layout_for F o) (standing_in_boot o (Migrates step) g n) → FailsTo (migration_action F b step) n m → IsFramed n m
-      → Failure o g n (Migrates step) (migration_action F b step) m
-  migration_failure o g n m b c step same geometry there k failed framed =
-      let a : Action = migration_action F b step in
-      let move = migration_moves o g n m b c step same geometry there failed framed in
-      let kept : IsKeeping o (layout_for F o) (standing_after_fault o (Migrates step) g m)
-      = IsKeeping-move o (layout_for F o) (standing_in_boot o (Migrates step) g n) (standing_after_fault o (Migrates step) g m) move k in
-      let both : IsKeeping o (layout_for F o) (standing m (failed_migrating step g) (Some there.m) (Some there.m))
-      = subst (λ (x : Option Mark). IsKeeping o (layout_for F o) (standing m (failed_migrating step g) x x)) there.kept
-      (subst (λ (x : Standing). IsKeeping o (layout_for F o) x) (failed_migrating_is o g m step) kept) in
+  migration_failure : (o : Origin) (g : BootImages) (n m : Device) (b : Booting) (c : C) (r : Round) → F.p c ≡ o.geometry → b.p ≡ o.geometry
+      → IsMigrating F o r g n b c → IsKeeping o (layout_for F o) (standing_in_boot o (Migrates r) g n) → FailsTo (round_action (renewing F b) r) n m → IsFramed n m
+      → Failure o g n (Migrates r) (round_action (renewing F b) r) m
+  migration_failure o g n m b c r same geometry there k failed framed =
+      let a : Action = round_action (renewing F b) r in
+      let move : Move o (layout_for F o) (standing_in_boot o (Migrates r) g n) (standing_after_fault o (Migrates r) g m)
+      = subst (λ (x : Booting). IsMigrating F o r g n x c → FailsTo (round_action (renewing F x) r) n m
+      → Move o (layout_for F o) (standing_in_boot o (Migrates r) g n) (standing_after_fault o (Migrates r) g m)) (as_geometry o b geometry)
+      (λ is f. migration_fails F laws o (first_of F o) b c same g n r is k m f framed) there failed in
+      let kept : IsKeeping o (layout_for F o) (standing_after_fault o (Migrates r) g m)
+      = IsKeeping-move o (layout_for F o) (standing_in_boot o (Migrates r) g n) (standing_after_fault o (Migrates r) g m) move k in
+      let s : Saved = saved_after_fault r g.before g.next in
+      let both : IsKeeping o (layout_for F o) (standing m s (Some there.m) (Some there.m))
+      = subst (λ (x : Option Mark). IsKeeping o (layout_for F o) (standing m s x x)) there.kept kept in
       let safe : Safe (reading F.layouts) o (Some there.m) None m
-      = Safe-same (reading F.layouts) o there.m m (Safe-sealed F.layouts o m (failed_migrating step g) (Some there.m) (Some there.m) both) in (
+      = Safe-same (reading F.layouts) o there.m m (Safe-sealed F.layouts o m s (Some there.m) (Some there.m) both) in (
         move,
         subst (λ (x : Option Mark). Safe (reading F.layouts) o (finding_view o.start.count x).done (doubt_after_fault a (finding_view o.start.count x)) m)
             (sym there.kept)
@@ -229,10 +195,10 @@ module _ {C : Type 0} (F : FillingOf C) (laws : IsFilling F) where
       by_stage : (q : Stage) → IsSoundAt F o q g n b c → IsKeeping o (layout_for F o) (standing_in_boot o q g n) → IsGoing q
           → FailsTo (action_at F q o.start b c) n m → Failure o g n q (action_at F q o.start b c) m
       by_stage (Reads r) there k going f = read_failure o g n m (read_action F b c r) (reads_no_commit b c r) k (read_failed b c r n m f) framed
-      by_stage (Loads issue) there k going f =
+      by_stage (Loads r) there k going f =
           let starts : CanStart o.geometry o.start = CanStart-origin o origin in
-          subst (λ (p : Parameters). Failure o g n (Loads issue) (issue_action (first_by F p o.start) issue) m) (sym sound.geometry)
-          (load_failure o starts g n m issue there.there k there.made
-          (subst (λ (p : Parameters). FailsTo (issue_action (first_by F p o.start) issue) n m) sound.geometry f) framed)
-      by_stage (Migrates step) there k going f = migration_failure o g n m b c step sound.same_p sound.geometry there k f framed
+          subst (λ (p : Parameters). Failure o g n (Loads r) (round_action (first_writes (first_by F p o.start)) r) m) (sym sound.geometry)
+          (load_failure o starts g n m r c there k
+          (subst (λ (p : Parameters). FailsTo (round_action (first_writes (first_by F p o.start)) r) n m) sound.geometry f) framed)
+      by_stage (Migrates r) there k going f = migration_failure o g n m b c r sound.same_p sound.geometry there k f framed
       by_stage (Over end) there k going f = absurd going

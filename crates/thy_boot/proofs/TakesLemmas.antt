@@ -1,5 +1,5 @@
 -- A step that was taken, put together of what its calls left.
-use Rattle.std.proofs.Common.{◌≡◌, ℕ, ◌+◌, ◌*◌, ◌<◌, nat_lt, Bool, true, false, if◌then◌else◌, length, Option, Some, None, Result, Ok, Err, OnOk, OnErr, refl, sym, ◌∙◌, ap, subst, arith}
+use Rattle.std.proofs.Common.{◌≡◌, ℕ, ◌+◌, ◌*◌, ◌<◌, Bool, true, false, if◌then◌else◌, length, Option, Some, None, Result, Ok, Err, OnOk, OnErr, refl, sym, ◌∙◌, ap, subst, arith}
 use Rattle.std.proofs.lemmas.Bool.{ltb-true}
 use Rattle.thy_base.specs.declared.nvm.NvmError.{NvmError}
 use Rattle.thy_base.specs.Device.{Device, newest}
@@ -14,13 +14,14 @@ use Rattle.thy_boot.specs.declared.stage.Stage.{Stage}
 use Rattle.thy_boot.specs.declared.stage.Stage.TheVariants.{Reads, Loads, Migrates, Over}
 use Rattle.thy_boot.specs.declared.stage.ReadStage.{ReadStage}
 use Rattle.thy_boot.specs.declared.stage.ReadStage.TheVariants.{Unread, Header, Slot, Fills, Refusing}
-use Rattle.thy_boot.specs.declared.stage.Issue.TheVariants.{Home}
-use Rattle.thy_boot.specs.declared.stage.Migration.{Migration}
-use Rattle.thy_boot.specs.declared.stage.Migration.TheVariants.{Slot as SlotAnew, Settle, Commit, Confirm}
-use Rattle.thy_boot.specs.Boot.{Booting, IsBoot, IsThere, IsMigration, layout_in, slot_read, slot_fault, version_in, at_stage, refusing_or, after_commit, head_fault, after_header, after_slot, filled_by, filling_or, filling_from, has_more}
+use Rattle.thy_protocol.specs.declared.round.Round.{Round}
+use Rattle.thy_protocol.specs.declared.round.Round.TheVariants.{Write, Settle, Commit, Confirm}
+use Rattle.thy_protocol.specs.Round.{IsInRound, round_action}
+use Rattle.thy_protocol.proofs.RoundLemmas.{next_by}
+use Rattle.thy_boot.specs.Boot.{Booting, IsBoot, IsThere, layout_in, slot_read, slot_fault, version_in, at_stage, refusing_or, after_commit, head_fault, after_header, after_slot, filled_by, filling_or, filling_from, has_more}
 use Rattle.thy_boot.specs.Filling.{FillingOf, IsFilling, anew}
 use Rattle.thy_boot.specs.Loads.{Takes}
-use Rattle.thy_boot.specs.Migrating.{CanMigrate, migration_action, migrated_by}
+use Rattle.thy_boot.specs.Migrating.{CanMigrate, renewing, migrated_by}
 use Rattle.thy_boot.specs.Reads.{read_action, read_on, slot_kept, FillsOn, IsBlock}
 use Rattle.thy_boot.specs.Recovers.{HasRead}
 use Rattle.thy_boot.specs.Steps.{ReadsOn, StepsAt, action_at, TakesStep}
@@ -55,13 +56,10 @@ module _ {C : Type 0} (F : FillingOf C) (laws : IsFilling F) where
       subst (λ (x : ℕ). k < x) (ap (λ p. (layout_in F (record b { p = p })).slot_blocks b.commit) (sym same) ∙ ap (λ x. (layout_in F d).slot_blocks x) (sym commit)) h
   same_there (Reads (Fills k)) b d same commit h = subst (λ (x : ℕ). k < x) (ap F.most_fills (sym same)) h
   same_there (Reads (Refusing bad)) b d same commit h = tt
-  same_there (Loads issue) b d same commit h = tt
-  same_there (Migrates (SlotAnew k)) b d same commit h =
-      subst (λ (x : ℕ). k < x)
+  same_there (Loads r) b d same commit h = tt
+  same_there (Migrates r) b d same commit h =
+      subst (λ (x : ℕ). IsInRound x r)
       (ap (λ p. (layout_in F (record b { p = p })).slot_blocks (anew b.commit)) (sym same) ∙ ap (λ x. (layout_in F d).slot_blocks (anew x)) (sym commit)) h
-  same_there (Migrates Settle) b d same commit h = tt
-  same_there (Migrates Commit) b d same commit h = tt
-  same_there (Migrates Confirm) b d same commit h = tt
   same_there (Over end) b d same commit h = tt
 
   inside_of : (b : Booting) (k : ℕ) → b.stage ≡ Reads (Slot k) → IsBoot F b → k < (layout_in F b).slot_blocks b.commit
@@ -69,7 +67,7 @@ module _ {C : Type 0} (F : FillingOf C) (laws : IsFilling F) where
 
   fits_read : (r : ReadStage) (n : Device) (b : Booting) → b.stage ≡ Reads r → IsBoot F b → IsBlock F r n b → IsBoot F (read_on F r n b)
   fits_read Unread n b is boot block = record { room = boot.room; there = by_zero (is_zero (newest n 1)) } where
-    by_zero : (z : Bool) → IsThere F (after_commit (newest n 1) b) (if z then Loads (Home 0) else Reads Header)
+    by_zero : (z : Bool) → IsThere F (after_commit (newest n 1) b) (if z then Loads (Write 0) else Reads Header)
     by_zero true = tt
     by_zero false = tt
   fits_read Header n b is boot block =
@@ -174,29 +172,28 @@ module _ {C : Type 0} (F : FillingOf C) (laws : IsFilling F) where
 
   -- ---- a migration
 
-  fits_migrated : (step : Migration) (b : Booting) → length b.slot ≡ 64 * (layout_in F b).most_slot → IsMigration F b step → IsBoot F (migrated_by F step b)
-  fits_migrated (SlotAnew k) b room there = record { room = room; there = by_more (nat_lt (k + 1) ((layout_in F b).slot_blocks (anew b.commit))) refl } where
-    by_more : (t : Bool) → nat_lt (k + 1) ((layout_in F b).slot_blocks (anew b.commit)) ≡ t
-        → IsThere F (migrated_by F (SlotAnew k) b) (if t then Migrates (SlotAnew (k + 1)) else Migrates Settle)
-    by_more true e = ltb-true (k + 1) ((layout_in F b).slot_blocks (anew b.commit)) e
-    by_more false e = tt
+  fits_migrated : (r : Round) (b : Booting) → length b.slot ≡ 64 * (layout_in F b).most_slot → IsInRound (renewing F b).blocks r → IsBoot F (migrated_by F r b)
+  fits_migrated (Write k) b room there = record {
+    room = room;
+    there = next_by (λ (q : Round). IsInRound (renewing F b).blocks q) k (renewing F b).blocks (λ more. more) (λ last. tt);
+  }
   fits_migrated Settle b room there = record { room = room; there = tt }
   fits_migrated Commit b room there = record { room = room; there = tt }
   fits_migrated Confirm b room there = record { room = length-renewed F laws b room; there = tt }
 
-  pub takes_migration : {T : Type 0} (result : Result T NvmError) (s : State) (step : Migration) (n : Device) (b : Booting) (c : C) (m : Device) (d : Booting)
-      → b.stage ≡ Migrates step → IsBoot F b → CanMigrate F step n b
-      → OnOk result (d ≡ migrated_by F step b) → OnErr result (d ≡ b) → Takes (migration_action F b step) result n m → TakesStep F result s n b c m d c
-  takes_migration (Ok x) s step n b c m d is boot can goes same_boot t = record {
+  pub takes_migration : {T : Type 0} (result : Result T NvmError) (s : State) (r : Round) (n : Device) (b : Booting) (c : C) (m : Device) (d : Booting)
+      → b.stage ≡ Migrates r → IsBoot F b → CanMigrate F r n b
+      → OnOk result (d ≡ migrated_by F r b) → OnErr result (d ≡ b) → Takes (round_action (renewing F b) r) result n m → TakesStep F result s n b c m d c
+  takes_migration (Ok x) s r n b c m d is boot can goes same_boot t = record {
     steps = subst (λ (q : Stage). StepsAt F q s n b c m d c) (sym is) (record { device = t.ok; boot = goes; control = refl });
-    fits = subst (λ (y : Booting). IsBoot F y) (sym goes) (fits_migrated step b boot.room can.there);
+    fits = subst (λ (y : Booting). IsBoot F y) (sym goes) (fits_migrated r b boot.room can.there);
     boot = tt;
     control = tt;
     err = tt;
     frame = t.frame;
     cause = t.cause;
   }
-  takes_migration (Err x) s step n b c m d is boot can goes same_boot t = record {
+  takes_migration (Err x) s r n b c m d is boot can goes same_boot t = record {
     steps = tt;
     fits = subst (λ (y : Booting). IsBoot F y) (sym same_boot) boot;
     boot = same_boot;

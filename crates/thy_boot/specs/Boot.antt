@@ -13,6 +13,8 @@ use Rattle.thy_layout.specs.Commit.{is_zero, epoch_of, version_of}
 use Rattle.thy_layout.specs.Cpu.{cpu_of_record}
 use Rattle.thy_layout.specs.Files.{blocks_of}
 use Rattle.thy_layout.specs.Layout.{Layout, header_bad, commit_bad}
+use Rattle.thy_protocol.specs.declared.round.Round.TheVariants.{Write}
+use Rattle.thy_protocol.specs.Round.{IsInRound}
 use Rattle.thy_view.specs.declared.boot_step.BootStep.{BootStep}
 use Rattle.thy_view.specs.declared.boot_step.BootStep.TheVariants.{GoesOn as Continues, Loaded as HasLoaded, Restarted, Refused}
 use Rattle.thy_view.specs.Safe.{ceiling}
@@ -20,9 +22,6 @@ use Rattle.thy_boot.specs.declared.stage.Stage.{Stage}
 use Rattle.thy_boot.specs.declared.stage.Stage.TheVariants.{Reads, Loads, Migrates, Over}
 use Rattle.thy_boot.specs.declared.stage.ReadStage.TheVariants.{Header, Slot, Fills, Refusing, Unread}
 use Rattle.thy_boot.specs.declared.stage.End.TheVariants.{Restored, Loaded}
-use Rattle.thy_boot.specs.declared.stage.Issue.TheVariants.{Home}
-use Rattle.thy_boot.specs.declared.stage.Migration.{Migration}
-use Rattle.thy_boot.specs.declared.stage.Migration.TheVariants.{Slot as SlotAnew}
 use Rattle.thy_boot.specs.Filling.{FillingOf, ListsOn, layout_at, anew}
 
 -- its stage, with the commit block, and the bytes of the slot, as far as they were read
@@ -58,16 +57,11 @@ slot_fault F b = (layout_in F b).slot_bad ceiling b.commit (slot_read F b)
 abbrev pub version_in : {C : Type 0} → FillingOf C → Booting → LayoutVersion
 version_in F b = version_of (layout_in F b).scheme b.p b.commit
 
--- a block that is written anew is one of the slot of the same epoch
-abbrev pub IsMigration : {C : Type 0} → FillingOf C → Booting → Migration → Type 0
-IsMigration F b (SlotAnew k) = k < (layout_in F b).slot_blocks (anew b.commit)
-IsMigration F b at = Unit {0}
-
--- what is read or written anew next is there
+-- what is read or written anew next is there; what is written anew is the slot of the same epoch
 abbrev pub IsThere : {C : Type 0} → FillingOf C → Booting → Stage → Type 0
 IsThere F b (Reads (Slot next)) = next < (layout_in F b).slot_blocks b.commit
 IsThere F b (Reads (Fills k)) = k < F.most_fills b.p
-IsThere F b (Migrates at) = IsMigration F b at
+IsThere F b (Migrates r) = IsInRound ((layout_in F b).slot_blocks (anew b.commit)) r
 IsThere F b _ = Unit {0}
 
 pub record IsBoot {C : Type 0} (F : FillingOf C) (b : Booting) : Type 0 where
@@ -78,8 +72,8 @@ pub record IsBoot {C : Type 0} (F : FillingOf C) (b : Booting) : Type 0 where
 abbrev pub answer_at : {C : Type 0} → FillingOf C → Stage → Booting → BootStep
 answer_at F (Reads (Refusing bad)) b = Refused bad
 answer_at F (Reads r) b = Continues
-answer_at F (Loads issue) b = Continues
-answer_at F (Migrates at) b = Continues
+answer_at F (Loads r) b = Continues
+answer_at F (Migrates r) b = Continues
 answer_at F (Over Restored) b = Restarted (cpu_of_record b.p (slot_read F b)) (epoch_of b.commit)
 answer_at F (Over Loaded) b = HasLoaded
 
@@ -99,7 +93,7 @@ at_stage stage b = record b { stage = stage }
 
 -- the commit block; if it is zero, the program is loaded from its first block on
 abbrev pub stage_of_commit : Block → Stage
-stage_of_commit block = if is_zero block then Loads (Home 0) else Reads Header
+stage_of_commit block = if is_zero block then Loads (Write 0) else Reads Header
 
 abbrev pub after_commit : Block → Booting → Booting
 after_commit block b = record b { commit = block; stage = stage_of_commit block }
@@ -113,7 +107,7 @@ after_header l header b = refusing_or (head_fault l header b.commit) (Reads (Slo
 
 -- with all filled the checkpoint is restored; one of an older form is written anew first
 abbrev pub filled_by : LayoutVersion → Stage
-filled_by VersionOne = Migrates (SlotAnew 0)
+filled_by VersionOne = Migrates (Write 0)
 filled_by VersionTwo = Over Restored
 
 -- the next position is filled, if there is one

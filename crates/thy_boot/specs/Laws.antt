@@ -3,7 +3,7 @@ use Rattle.std.specs.Prelude.{◌≡◌, ◌≢◌, ◌+◌, ◌<◌, ◌≤◌,
 use Rattle.thy_base.specs.declared.config.Parameters.{Parameters}
 use Rattle.thy_base.specs.declared.mark.Mark.{Mark}
 use Rattle.thy_base.specs.Device.{Device, drained, IsFramed}
-use Rattle.thy_crash.specs.Saved.{Kept, InDoubt}
+use Rattle.thy_crash.specs.Saved.{Kept}
 use Rattle.thy_isa.specs.Step.{State}
 use Rattle.thy_layout.specs.declared.bad_image.BadImage.{BadImage}
 use Rattle.thy_layout.specs.Commit.{epoch_of}
@@ -24,8 +24,8 @@ use Rattle.thy_boot.specs.declared.stage.Stage.TheVariants.{Reads, Loads, Migrat
 use Rattle.thy_boot.specs.declared.stage.ReadStage.{ReadStage}
 use Rattle.thy_boot.specs.declared.stage.ReadStage.TheVariants.{Refusing}
 use Rattle.thy_boot.specs.declared.stage.End.TheVariants.{Restored}
-use Rattle.thy_boot.specs.declared.stage.Issue.TheVariants.{Commit, Confirm}
-use Rattle.thy_boot.specs.declared.stage.Migration.TheVariants.{Commit as CommitAnew}
+use Rattle.thy_protocol.specs.declared.round.Round.TheVariants.{Confirm}
+use Rattle.thy_protocol.specs.Rounds.{saved_after_fault}
 use Rattle.thy_boot.specs.Boot.{Booting, new_boot, layout_in, slot_read, answer_of}
 use Rattle.thy_boot.specs.Filling.{FillingOf, layout_at}
 use Rattle.thy_boot.specs.Left.{most_migration, boot_left}
@@ -50,9 +50,9 @@ NewIsSound {C} F =
 
 -- the boot is not over
 abbrev pub IsGoing : Stage → Type 0
-IsGoing (Reads r) = Unit {0}
-IsGoing (Loads issue) = Unit {0}
-IsGoing (Migrates at) = Unit {0}
+IsGoing (Reads at) = Unit {0}
+IsGoing (Loads r) = Unit {0}
+IsGoing (Migrates r) = Unit {0}
 IsGoing (Over end) = ⊥
 
 -- it may take a step then
@@ -92,8 +92,8 @@ StepsMove {C} F =
 -- was. So a cut leaves the committed mark, whole, or the start's, if its commit block was written before or that was
 -- its write
 abbrev pub standing_after_fault : Origin → Stage → BootImages → Device → Standing
-standing_after_fault o (Loads Commit) g n = standing n (InDoubt g.before g.next) None (Some (start_mark o))
-standing_after_fault o (Migrates CommitAnew) g n = standing n (InDoubt g.before g.next) g.kept g.kept
+standing_after_fault o (Loads r) g n = standing n (saved_after_fault r g.before g.next) None (Some (start_mark o))
+standing_after_fault o (Migrates r) g n = standing n (saved_after_fault r g.before g.next) g.kept g.kept
 standing_after_fault o stage g n = standing_in_boot o stage g n
 
 pub record IsFailed {C : Type 0} (F : FillingOf C) (o : Origin) (g : BootImages) (n : Device) (b : Booting) (c : C) (m : Device) : Type 0 where

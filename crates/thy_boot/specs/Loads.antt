@@ -1,47 +1,49 @@
--- Loading: what each of its actions writes, and what comes next. What is written is the start's checkpoint.
-use Rattle.std.specs.Prelude.{◌≡◌, ◌+◌, ◌<◌, nat_lt, false, if◌then◌else◌, length, slice_index_or, Result, OnOk, OnErr}
+-- Loading: the round that writes the start's checkpoint.
+use Rattle.std.specs.Prelude.{◌≡◌, ℕ, ◌+◌, ◌-◌, nat_lt, false, if◌then◌else◌, length, slice_index_or, Option, Some, None, Result, OnOk, OnErr}
+use Rattle.thy_base.specs.declared.block.Block.{Block}
 use Rattle.thy_base.specs.declared.nvm.NvmError.{NvmError}
 use Rattle.thy_base.specs.Device.{Device, block_at, IsFramed, CountsFault}
-use Rattle.thy_base.specs.Places.{commit_place, header_place}
+use Rattle.thy_base.specs.Places.{header_place}
 use Rattle.thy_isa.specs.Step.{State}
-use Rattle.thy_view.specs.Action.{Action, WriteAt, Barrier, after, FailsTo}
+use Rattle.thy_protocol.specs.declared.round.Round.{Round}
+use Rattle.thy_protocol.specs.Round.{RoundWrites, IsInRound}
+use Rattle.thy_view.specs.Action.{Action, after, FailsTo}
 use Rattle.thy_boot.specs.declared.stage.Stage.{Stage}
 use Rattle.thy_boot.specs.declared.stage.Stage.TheVariants.{Loads, Over}
 use Rattle.thy_boot.specs.declared.stage.End.TheVariants.{Loaded}
-use Rattle.thy_boot.specs.declared.stage.Issue.{Issue}
-use Rattle.thy_boot.specs.declared.stage.Issue.TheVariants.{Home, Slot, Header, Settle, Commit, Confirm}
 use Rattle.thy_boot.specs.Boot.{Booting, layout_in}
 use Rattle.thy_boot.specs.Filling.{FillingOf, First, first_by}
 use Rattle.thy_boot.specs.Start.{CanStart}
 
--- what is written next is there
-abbrev pub IsIssue : First → Issue → Type 0
-IsIssue f (Home b) = b < length f.parts.memory
-IsIssue f (Slot k) = k < f.parts.slot_blocks
-IsIssue f issue = Unit {0}
+-- of m, then s, and one more the one that is at k
+abbrev pub part_at : {A : Type 0} → ℕ → ℕ → (ℕ → A) → (ℕ → A) → A → ℕ → A
+part_at m s first second last k = if nat_lt k m then first k else (if nat_lt (k - m) s then second (k - m) else last)
 
--- the action on the NVM
-abbrev pub issue_action : First → Issue → Action
-issue_action f (Home b) = WriteAt (slice_index_or f.parts.memory b 0) (block_at f.memory b)
-issue_action f (Slot k) = WriteAt (f.parts.slot_place + k) (f.parts.slot k)
-issue_action f Header = WriteAt header_place f.header
-issue_action f Settle = Barrier
-issue_action f Commit = WriteAt commit_place f.commit
-issue_action f Confirm = Barrier
+-- it writes memory's blocks, then the slot's, and the header: the place of block k of these, and that block
+abbrev pub place_of_first : First → ℕ → ℕ
+place_of_first f k =
+    part_at (length f.parts.memory) f.parts.slot_blocks (λ b. slice_index_or f.parts.memory b 0) (λ j. f.parts.slot_place + j) header_place k
 
--- the stage after it
-abbrev pub after_issue : First → Issue → Stage
-after_issue f (Home b) = if nat_lt (b + 1) (length f.parts.memory) then Loads (Home (b + 1)) else Loads (Slot 0)
-after_issue f (Slot k) = if nat_lt (k + 1) f.parts.slot_blocks then Loads (Slot (k + 1)) else Loads Header
-after_issue f Header = Loads Settle
-after_issue f Settle = Loads Commit
-after_issue f Commit = Loads Confirm
-after_issue f Confirm = Over Loaded
+abbrev pub block_of_first : First → ℕ → Block
+block_of_first f k = part_at (length f.parts.memory) f.parts.slot_blocks (block_at f.memory) f.parts.slot f.header k
+
+abbrev pub first_writes : First → RoundWrites
+first_writes f = record {
+  blocks = length f.parts.memory + f.parts.slot_blocks + 1;
+  place = place_of_first f;
+  block = block_of_first f;
+  commit = f.commit;
+}
+
+-- the stage after an action
+abbrev pub loads_on : Option Round → Stage
+loads_on (Some r) = Loads r
+loads_on None = Over Loaded
 
 -- loading may take an action: the start can be recorded, what is written is there, and the device is of the size, and up
-pub record CanLoad {C : Type 0} (F : FillingOf C) (s : State) (issue : Issue) (n : Device) (b : Booting) : Type 0 where
+pub record CanLoad {C : Type 0} (F : FillingOf C) (s : State) (r : Round) (n : Device) (b : Booting) : Type 0 where
   pub start : CanStart b.p s
-  pub there : IsIssue (first_by F b.p s) issue
+  pub there : IsInRound (first_writes (first_by F b.p s)).blocks r
   pub sized : length n.image ≡ (layout_in F b).image_blocks
   pub up : n.down ≡ false
 

@@ -1,31 +1,38 @@
--- The migration: a checkpoint of an older form is written anew, in the form that is written today. These are the slot of its
--- epoch, a barrier, the commit block of the same epoch, and a barrier.
-use Rattle.std.specs.Prelude.{◌≡◌, ℕ, ◌+◌, ◌-◌, ◌*◌, nat_lt, false, if◌then◌else◌, List, ◌++◌, length, take, replicate}
+-- The migration: a checkpoint of an older form is written anew, in the form that is written today. The round writes the slot of
+-- its epoch, and the commit block of the same epoch.
+use Rattle.std.specs.Prelude.{◌≡◌, ℕ, ◌-◌, ◌*◌, false, List, ◌++◌, length, take, replicate, Option, Some, None}
 use Rattle.thy_base.specs.Device.{Device, block_at}
-use Rattle.thy_base.specs.Places.{commit_place}
-use Rattle.thy_view.specs.Action.{Action, WriteAt, Barrier, after}
+use Rattle.thy_layout.specs.Layout.{memory_places}
+use Rattle.thy_protocol.specs.declared.round.Round.{Round}
+use Rattle.thy_protocol.specs.declared.round.Round.TheVariants.{Confirm}
+use Rattle.thy_protocol.specs.Issuing.{CheckpointParts}
+use Rattle.thy_protocol.specs.Round.{RoundWrites, IsInRound, round_action, next_round}
+use Rattle.thy_protocol.specs.Rounds.{slot_writes}
+use Rattle.thy_view.specs.Action.{after}
 use Rattle.thy_boot.specs.declared.stage.Stage.{Stage}
 use Rattle.thy_boot.specs.declared.stage.Stage.TheVariants.{Migrates, Over}
 use Rattle.thy_boot.specs.declared.stage.End.TheVariants.{Restored}
-use Rattle.thy_boot.specs.declared.stage.Migration.{Migration}
-use Rattle.thy_boot.specs.declared.stage.Migration.TheVariants.{Slot, Settle, Commit, Confirm}
-use Rattle.thy_boot.specs.Boot.{Booting, IsMigration, layout_in, slot_read, at_stage}
+use Rattle.thy_boot.specs.Boot.{Booting, layout_in, slot_read, at_stage}
 use Rattle.thy_boot.specs.Filling.{FillingOf, anew}
 
--- block k of the new slot is block k of the slot that was found, with zeros behind them; the commit block is of the same epoch
-abbrev pub migration_action : {C : Type 0} → FillingOf C → Booting → Migration → Action
-migration_action F b (Slot k) = WriteAt ((layout_in F b).slot_place (anew b.commit) + k) (block_at (slot_read F b) k)
-migration_action F b Settle = Barrier
-migration_action F b Commit = WriteAt commit_place (anew b.commit)
-migration_action F b Confirm = Barrier
+-- where it goes: the slot of its epoch that is written today gets the blocks of the slot that was found, and zeros behind
+-- them; memory's blocks stay where they are
+abbrev pub renewed_parts : {C : Type 0} → FillingOf C → Booting → CheckpointParts
+renewed_parts F b = record {
+  slot_place = (layout_in F b).slot_place (anew b.commit);
+  slot_blocks = (layout_in F b).slot_blocks (anew b.commit);
+  slot = block_at (slot_read F b);
+  memory = memory_places (layout_in F b) b.commit (slot_read F b);
+}
 
--- what comes next
-abbrev pub after_migration : {C : Type 0} → FillingOf C → Booting → Migration → Stage
-after_migration F b (Slot k) =
-    if nat_lt (k + 1) ((layout_in F b).slot_blocks (anew b.commit)) then Migrates (Slot (k + 1)) else Migrates Settle
-after_migration F b Settle = Migrates Commit
-after_migration F b Commit = Migrates Confirm
-after_migration F b Confirm = Over Restored
+-- the commit block is of the same epoch
+abbrev pub renewing : {C : Type 0} → FillingOf C → Booting → RoundWrites
+renewing F b = slot_writes (renewed_parts F b) (anew b.commit)
+
+-- the stage after an action
+abbrev pub migrates_on : Option Round → Stage
+migrates_on (Some r) = Migrates r
+migrates_on None = Over Restored
 
 -- bytes, with zeros from one on
 abbrev pub cleared : ℕ → List ℕ → List ℕ
@@ -36,23 +43,23 @@ abbrev pub renewed : {C : Type 0} → FillingOf C → Booting → Booting
 renewed F b = record b { commit = anew b.commit; slot = cleared (64 * (layout_in F b).slot_blocks b.commit) b.slot }
 
 -- after the last action it has them
-abbrev pub renewed_by : {C : Type 0} → FillingOf C → Migration → Booting → Booting
+abbrev pub renewed_by : {C : Type 0} → FillingOf C → Round → Booting → Booting
 renewed_by F Confirm b = renewed F b
-renewed_by F at b = b
+renewed_by F r b = b
 
 -- the boot after an action
-abbrev pub migrated_by : {C : Type 0} → FillingOf C → Migration → Booting → Booting
-migrated_by F at b = at_stage (after_migration F b at) (renewed_by F at b)
+abbrev pub migrated_by : {C : Type 0} → FillingOf C → Round → Booting → Booting
+migrated_by F r b = at_stage (migrates_on (next_round (renewing F b).blocks r)) (renewed_by F r b)
 
 -- a migration may take its action: what is written is there, and the device is of the size, and up
-pub record CanMigrate {C : Type 0} (F : FillingOf C) (at : Migration) (n : Device) (b : Booting) : Type 0 where
-  pub there : IsMigration F b at
+pub record CanMigrate {C : Type 0} (F : FillingOf C) (r : Round) (n : Device) (b : Booting) : Type 0 where
+  pub there : IsInRound (renewing F b).blocks r
   pub sized : length n.image ≡ (layout_in F b).image_blocks
   pub up : n.down ≡ false
 
 -- it was taken
-pub record MigratesOn {C : Type 0} (F : FillingOf C) (at : Migration) (n : Device) (b : Booting) (c : C) (m : Device) (d : Booting)
+pub record MigratesOn {C : Type 0} (F : FillingOf C) (r : Round) (n : Device) (b : Booting) (c : C) (m : Device) (d : Booting)
     (e : C) : Type 0 where
-  pub device : m ≡ after (migration_action F b at) n
-  pub boot : d ≡ migrated_by F at b
+  pub device : m ≡ after (round_action (renewing F b) r) n
+  pub boot : d ≡ migrated_by F r b
   pub control : e ≡ c

@@ -14,9 +14,8 @@ use Rattle.thy_boot.specs.declared.stage.Stage.TheVariants.{Reads, Loads, Migrat
 use Rattle.thy_boot.specs.declared.stage.ReadStage.{ReadStage}
 use Rattle.thy_boot.specs.declared.stage.ReadStage.TheVariants.{Unread, Header, Slot, Fills, Refusing}
 use Rattle.thy_boot.specs.declared.stage.End.TheVariants.{Restored, Loaded}
-use Rattle.thy_boot.specs.declared.stage.Issue.TheVariants.{Home}
-use Rattle.thy_boot.specs.declared.stage.Migration.{Migration}
-use Rattle.thy_boot.specs.declared.stage.Migration.TheVariants.{Slot as SlotAnew}
+use Rattle.thy_protocol.specs.declared.round.Round.{Round}
+use Rattle.thy_protocol.specs.declared.round.Round.TheVariants.{Write}
 use Rattle.thy_boot.specs.Boot.{Booting, layout_in, slot_read, slot_fault, version_in}
 use Rattle.thy_boot.specs.Filling.{FillingOf}
 use Rattle.thy_boot.specs.Left.{reads_left, boot_left}
@@ -51,12 +50,12 @@ pub record IsRestored {C : Type 0} (F : FillingOf C) (n : Device) (b : Booting) 
       ≡ At (epoch_of b.commit) (state_by (layout_in F b) (slot_read F b) (F.loads c n))
 
 -- so it is of an older form, and will be written anew from its first block on; memory is where that image has it
-pub record IsFoundOld {C : Type 0} (F : FillingOf C) (at : Migration) (n : Device) (b : Booting) (c : C) : Type 0 where
+pub record IsFoundOld {C : Type 0} (F : FillingOf C) (r : Round) (n : Device) (b : Booting) (c : C) : Type 0 where
   pub restored : IsRestored F n b c
   pub memory : F.loads c n ≡ memory_in (layout_in F b) n.image
   pub room : length b.slot ≡ 64 * (layout_in F b).most_slot
   pub version : version_in F b ≡ VersionOne
-  pub first : at ≡ SlotAnew 0
+  pub first : r ≡ Write 0
 
 -- by the stage, what was read of the image in the NVM
 abbrev pub HasReadAt : {C : Type 0} → FillingOf C → Stage → Device → Booting → C → Type 0
@@ -67,8 +66,8 @@ HasReadAt F (Reads (Slot next)) n b c =
 HasReadAt F (Reads (Fills k)) n b c =
     HasListed F n.image b c × F.filled c n k × (F.next_fill b.p b.commit (slot_read F b) k ≡ Some k)
 HasReadAt F (Reads (Refusing bad)) n b c = decode_by (layout_in F b) ceiling n.image ≡ IsRefused bad
-HasReadAt F (Loads issue) n b c = F.fresh c × (decode_by (layout_in F b) ceiling n.image ≡ Nothing) × (issue ≡ Home 0)
-HasReadAt F (Migrates at) n b c = IsFoundOld F at n b c
+HasReadAt F (Loads r) n b c = F.fresh c × (decode_by (layout_in F b) ceiling n.image ≡ Nothing) × (r ≡ Write 0)
+HasReadAt F (Migrates r) n b c = IsFoundOld F r n b c
 HasReadAt F (Over Restored) n b c = IsRestored F n b c
 HasReadAt F (Over Loaded) n b c = ⊥
 

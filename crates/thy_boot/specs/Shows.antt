@@ -9,16 +9,10 @@ use Rattle.thy_view.specs.Booting.{boot_view, loading_view}
 use Rattle.thy_view.specs.CoreStep.{phase_at}
 use Rattle.thy_view.specs.Origin.{Origin}
 use Rattle.thy_protocol.specs.Keeps.{finding_view}
+use Rattle.thy_protocol.specs.Round.{is_written}
 use Rattle.thy_boot.specs.declared.stage.Stage.{Stage}
 use Rattle.thy_boot.specs.declared.stage.Stage.TheVariants.{Reads, Loads, Migrates, Over}
 use Rattle.thy_boot.specs.declared.stage.End.TheVariants.{Restored, Loaded}
-use Rattle.thy_boot.specs.declared.stage.Issue.{Issue}
-use Rattle.thy_boot.specs.declared.stage.Issue.TheVariants.{Confirm}
-
--- loading's commit block was written
-abbrev pub is_written : Issue → Bool
-is_written Confirm = true
-is_written issue = false
 
 -- the view after a restart
 abbrev pub restored_view : Origin → Option Mark → View
@@ -32,13 +26,13 @@ loaded_view o = record (boot_view (Some (mark 0 o.start.count)) None) { phase = 
 
 -- a checkpoint of an older form is written anew
 abbrev pub migrates_at : Stage → Bool
-migrates_at (Migrates at) = true
+migrates_at (Migrates r) = true
 migrates_at stage = false
 
 -- by the stage, and by the mark that is kept
 abbrev pub seen_at : Origin → Option Mark → Stage → View
-seen_at o kept (Reads r) = finding_view o.start.count kept
-seen_at o kept (Loads issue) = record (loading_view o.start.count) { written = is_written issue }
-seen_at o kept (Migrates at) = finding_view o.start.count kept
+seen_at o kept (Reads at) = finding_view o.start.count kept
+seen_at o kept (Loads r) = record (loading_view o.start.count) { written = is_written r }
+seen_at o kept (Migrates r) = finding_view o.start.count kept
 seen_at o kept (Over Restored) = restored_view o kept
 seen_at o kept (Over Loaded) = loaded_view o

@@ -7,19 +7,20 @@ use Rattle.thy_view.specs.Action.{Action, Rest, after, FailsTo}
 use Rattle.thy_boot.specs.declared.stage.Stage.{Stage}
 use Rattle.thy_boot.specs.declared.stage.Stage.TheVariants.{Reads, Loads, Migrates, Over}
 use Rattle.thy_boot.specs.declared.stage.ReadStage.{ReadStage}
-use Rattle.thy_boot.specs.declared.stage.Issue.{Issue}
+use Rattle.thy_protocol.specs.declared.round.Round.{Round}
+use Rattle.thy_protocol.specs.Round.{next_round, round_action}
 use Rattle.thy_boot.specs.Boot.{Booting, IsBoot, at_stage}
 use Rattle.thy_boot.specs.Filling.{FillingOf, first_by}
-use Rattle.thy_boot.specs.Loads.{CanLoad, after_issue, issue_action}
-use Rattle.thy_boot.specs.Migrating.{CanMigrate, MigratesOn, migration_action}
+use Rattle.thy_boot.specs.Loads.{CanLoad, first_writes, loads_on}
+use Rattle.thy_boot.specs.Migrating.{CanMigrate, MigratesOn, renewing}
 use Rattle.thy_boot.specs.Reads.{read_action, read_on, FillsOn}
 use Rattle.thy_boot.specs.Recovers.{HasRead, IsNearer}
 
 -- a step may be taken: of reading, from what was read, of loading, or of a migration
 abbrev pub CanStepAt : {C : Type 0} → FillingOf C → Stage → State → Device → Booting → C → Type 0
-CanStepAt F (Reads r) s n b c = HasRead F n b c
-CanStepAt F (Loads issue) s n b c = CanLoad F s issue n b
-CanStepAt F (Migrates at) s n b c = CanMigrate F at n b
+CanStepAt F (Reads at) s n b c = HasRead F n b c
+CanStepAt F (Loads r) s n b c = CanLoad F s r n b
+CanStepAt F (Migrates r) s n b c = CanMigrate F r n b
 CanStepAt F (Over end) s n b c = ⊥
 
 -- with this start
@@ -37,17 +38,17 @@ pub record ReadsOn {C : Type 0} (F : FillingOf C) (r : ReadStage) (n : Device) (
   pub nearer : IsNearer F b r d
 
 -- the action of loading was taken
-pub record LoadsOn {C : Type 0} (F : FillingOf C) (s : State) (issue : Issue) (n : Device) (b : Booting) (c : C) (m : Device)
+pub record LoadsOn {C : Type 0} (F : FillingOf C) (s : State) (r : Round) (n : Device) (b : Booting) (c : C) (m : Device)
     (d : Booting) (e : C) : Type 0 where
-  pub device : m ≡ after (issue_action (first_by F b.p s) issue) n
-  pub boot : d ≡ at_stage (after_issue (first_by F b.p s) issue) b
+  pub device : m ≡ after (round_action (first_writes (first_by F b.p s)) r) n
+  pub boot : d ≡ at_stage (loads_on (next_round (first_writes (first_by F b.p s)).blocks r)) b
   pub control : e ≡ c
 
 -- a step that was taken; after the boot there is none
 abbrev pub StepsAt : {C : Type 0} → FillingOf C → Stage → State → Device → Booting → C → Device → Booting → C → Type 0
-StepsAt F (Reads r) s n b c m d e = ReadsOn F r n b c m d e
-StepsAt F (Loads issue) s n b c m d e = LoadsOn F s issue n b c m d e
-StepsAt F (Migrates at) s n b c m d e = MigratesOn F at n b c m d e
+StepsAt F (Reads at) s n b c m d e = ReadsOn F at n b c m d e
+StepsAt F (Loads r) s n b c m d e = LoadsOn F s r n b c m d e
+StepsAt F (Migrates r) s n b c m d e = MigratesOn F r n b c m d e
 StepsAt F (Over end) s n b c m d e = ⊥
 
 abbrev pub Steps : {C : Type 0} → FillingOf C → State → Device → Booting → C → Device → Booting → C → Type 0
@@ -55,9 +56,9 @@ Steps F s n b c m d e = StepsAt F b.stage s n b c m d e
 
 -- the action of a step, if it has to read or to write
 abbrev pub action_at : {C : Type 0} → FillingOf C → Stage → State → Booting → C → Action
-action_at F (Reads r) s b c = read_action F b c r
-action_at F (Loads issue) s b c = issue_action (first_by F b.p s) issue
-action_at F (Migrates at) s b c = migration_action F b at
+action_at F (Reads at) s b c = read_action F b c at
+action_at F (Loads r) s b c = round_action (first_writes (first_by F b.p s)) r
+action_at F (Migrates r) s b c = round_action (renewing F b) r
 action_at F (Over end) s b c = Rest
 
 abbrev pub action_of : {C : Type 0} → FillingOf C → State → Booting → C → Action

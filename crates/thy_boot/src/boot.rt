@@ -134,8 +134,8 @@ impl Boot {
     {
         match self.stage() {
             Stage::Reads(at) => self.read_next::<F, N>(at, control, nvm),
-            Stage::Loads(issue) => self.load::<F, N>(issue, &start.state, nvm),
-            Stage::Migrates(at) => self.migrate::<F, N>(at, nvm),
+            Stage::Loads(round) => self.load::<F, N>(round, &start.state, nvm),
+            Stage::Migrates(round) => self.migrate::<F, N>(round, nvm),
             Stage::Over(_) => Ok(()),
         }
     }

@@ -2,18 +2,19 @@
 ghost use Rattle.std.specs.Prelude.{◌≡◌, ◌*◌, ◌≤◌, false, length, OnOk, OnErr};
 ghost use Rattle.thy_base.specs.Device.{block_at};
 ghost use Rattle.thy_layout.specs.Files.{blocks_of};
-ghost use Rattle.thy_boot.specs.Boot.{IsMigration, layout_in, slot_read};
+ghost use Rattle.thy_protocol.specs.Round.{IsInRound, next_round, round_action};
+ghost use Rattle.thy_boot.specs.Boot.{layout_in, slot_read};
 ghost use Rattle.thy_boot.specs.Counts.{Counts};
-ghost use Rattle.thy_boot.specs.Filling.{anew};
 ghost use Rattle.thy_boot.specs.Loads.{Takes};
-ghost use Rattle.thy_boot.specs.Migrating.{CanMigrate, migration_action, after_migration, migrated_by, renewed, cleared};
+ghost use Rattle.thy_boot.specs.Migrating.{CanMigrate, renewing, migrates_on, migrated_by, renewed, cleared};
 
 use crate::boot::Boot;
 use crate::fills::Fills;
 use crate::reading::slot_at;
-use crate::stage::{End, Migration, Stage};
+use crate::stage::{End, Stage};
 use thy_base::{BLOCK_SIZE, Block, COMMIT_PLACE, Nvm, NvmError};
 use thy_layout::{ImageLayout, block_in, commit_block, epoch_in};
+use thy_protocol::Round;
 
 // Makes the bytes from this one on zero.
 fn clear_from(bytes: &mut [u8], from: usize)
@@ -42,57 +43,53 @@ impl Boot {
     /// of a write may hold more.
     pub(crate) fn migrate<F: Fills, N: Nvm>(
         &mut self,
-        at: Migration,
+        round: Round,
         nvm: &mut N,
     ) -> Result<(), NvmError>
-        requires stage { self.old.stage ≡ Migrates at }
+        requires stage { self.old.stage ≡ Migrates round }
         requires room { length self.old.slot ≡ 64 * (layout_in F.filling self.old).most_slot }
-        requires can { CanMigrate F.filling at (N.device nvm.old) self.old }
-        ensures boot { OnOk result (self.new ≡ migrated_by F.filling at self.old) }
+        requires can { CanMigrate F.filling round (N.device nvm.old) self.old }
+        ensures boot { OnOk result (self.new ≡ migrated_by F.filling round self.old) }
         ensures kept { OnErr result (self.new ≡ self.old) }
-        ensures nvm { Takes (migration_action F.filling self.old at) result (N.device nvm.old) (N.device nvm.new) }
-        ensures writes { Counts (migration_action F.filling self.old at) result (N.writes nvm.old) (N.writes nvm.new) }
+        ensures nvm { Takes (round_action (renewing F.filling self.old) round) result (N.device nvm.old) (N.device nvm.new) }
+        ensures writes { Counts (round_action (renewing F.filling self.old) round) result (N.writes nvm.old) (N.writes nvm.new) }
     {
-        self.write_anew::<F, N>(at, nvm)?;
-        self.stage = self.stage_after::<F>(at);
-        match at {
-            Migration::Slot(_) | Migration::Settle | Migration::Commit => {}
-            Migration::Confirm => self.renew::<F>(),
+        self.write_anew::<F, N>(round, nvm)?;
+        self.stage = self.stage_after::<F>(round);
+        match round {
+            Round::Write(_) | Round::Settle | Round::Commit => {}
+            Round::Confirm => self.renew::<F>(),
         }
         Ok(())
     }
 
     // Takes the action.
-    fn write_anew<F: Fills, N: Nvm>(&self, at: Migration, nvm: &mut N) -> Result<(), NvmError>
+    fn write_anew<F: Fills, N: Nvm>(&self, round: Round, nvm: &mut N) -> Result<(), NvmError>
         requires room { length self.now.slot ≡ 64 * (layout_in F.filling self.now).most_slot }
-        requires can { CanMigrate F.filling at (N.device nvm.old) self.now }
-        ensures nvm { Takes (migration_action F.filling self.now at) result (N.device nvm.old) (N.device nvm.new) }
-        ensures writes { Counts (migration_action F.filling self.now at) result (N.writes nvm.old) (N.writes nvm.new) }
+        requires can { CanMigrate F.filling round (N.device nvm.old) self.now }
+        ensures nvm { Takes (round_action (renewing F.filling self.now) round) result (N.device nvm.old) (N.device nvm.new) }
+        ensures writes { Counts (round_action (renewing F.filling self.now) round) result (N.writes nvm.old) (N.writes nvm.new) }
     {
         let commit = commit_block(epoch_in(&self.commit));
-        match at {
-            Migration::Slot(k) => {
+        match round {
+            Round::Write(k) => {
                 let place = slot_at::<F>(&self.geometry, &commit, k);
                 nvm.write(place, &block_or_zero(self.slot::<F>(), k))
             }
-            Migration::Settle | Migration::Confirm => nvm.barrier(),
-            Migration::Commit => nvm.write(COMMIT_PLACE, &commit),
+            Round::Settle | Round::Confirm => nvm.barrier(),
+            Round::Commit => nvm.write(COMMIT_PLACE, &commit),
         }
     }
 
     // The stage after it.
-    fn stage_after<F: Fills>(&self, at: Migration) -> Stage
-        requires { IsMigration F.filling self.now at }
-        ensures { result ≡ after_migration F.filling self.now at }
+    fn stage_after<F: Fills>(&self, round: Round) -> Stage
+        requires { IsInRound (renewing F.filling self.now).blocks round }
+        ensures { result ≡ migrates_on (next_round (renewing F.filling self.now).blocks round) }
     {
         let commit = commit_block(epoch_in(&self.commit));
-        let blocks = F::Images::slot_blocks(&self.geometry, &commit);
-        match at {
-            Migration::Slot(k) if k + 1 < blocks => Stage::Migrates(Migration::Slot(k + 1)),
-            Migration::Slot(_) => Stage::Migrates(Migration::Settle),
-            Migration::Settle => Stage::Migrates(Migration::Commit),
-            Migration::Commit => Stage::Migrates(Migration::Confirm),
-            Migration::Confirm => Stage::Over(End::Restored),
+        match round.next(F::Images::slot_blocks(&self.geometry, &commit)) {
+            Some(next) => Stage::Migrates(next),
+            None => Stage::Over(End::Restored),
         }
     }
 

@@ -13,11 +13,12 @@ ghost use Rattle.thy_boot.specs.Recovers.{HasRead};
 
 use crate::boot::Boot;
 use crate::fills::{CEILING, Fills};
-use crate::stage::{End, Issue, Migration, ReadStage, Stage};
+use crate::stage::{End, ReadStage, Stage};
 use thy_base::{BLOCK_SIZE, Block, COMMIT_PLACE, Geometry, HEADER_PLACE, Nvm, NvmError};
 use thy_layout::{
     BadImage, ImageLayout, LayoutVersion, commit_fault, header_fault_in, is_zero, version_of,
 };
+use thy_protocol::Round;
 
 /// Writes a block over the bytes of block `k`.
 fn keep_block(bytes: &mut [u8], k: usize, block: &Block)
@@ -32,7 +33,7 @@ fn stage_of_commit(commit: &Block) -> Stage
     ensures { result ≡ stage_of_commit commit.now }
 {
     if is_zero(commit) {
-        return Stage::Loads(Issue::Home(0));
+        return Stage::Loads(Round::Write(0));
     }
     Stage::Reads(ReadStage::Header)
 }
@@ -52,7 +53,7 @@ fn stage_when_filled(version: LayoutVersion) -> Stage
     ensures { result ≡ filled_by version }
 {
     match version {
-        LayoutVersion::VersionOne => Stage::Migrates(Migration::Slot(0)),
+        LayoutVersion::VersionOne => Stage::Migrates(Round::Write(0)),
         LayoutVersion::VersionTwo => Stage::Over(End::Restored),
     }
 }

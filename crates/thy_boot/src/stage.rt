@@ -1,22 +1,6 @@
 //! The stages of a boot.
 use thy_layout::BadImage;
-
-/// What loading does next.
-#[derive(Clone, Copy, Debug, PartialEq, Eq)]
-pub enum Issue {
-    /// The write of this block of memory.
-    Home(u64),
-    /// The write of this block of the slot.
-    Slot(u64),
-    /// The write of the header.
-    Header,
-    /// The barrier after all writes that come before the commit block's.
-    Settle,
-    /// The write of the commit block.
-    Commit,
-    /// The barrier after the commit block.
-    Confirm,
-}
+use thy_protocol::Round;
 
 /// The stage of a boot that reads.
 #[derive(Clone, Copy, Debug, PartialEq, Eq)]
@@ -33,19 +17,6 @@ pub enum ReadStage {
     Refusing(BadImage),
 }
 
-/// What comes next while a checkpoint of an older form is written anew.
-#[derive(Clone, Copy, Debug, PartialEq, Eq)]
-pub enum Migration {
-    /// The write of this block of the slot.
-    Slot(u64),
-    /// The barrier after the slot.
-    Settle,
-    /// The write of the commit block.
-    Commit,
-    /// The barrier after the commit block.
-    Confirm,
-}
-
 /// How a boot ended.
 #[derive(Clone, Copy, Debug, PartialEq, Eq)]
 pub enum End {
@@ -60,10 +31,11 @@ pub enum End {
 pub enum Stage {
     /// It reads, and is at this stage.
     Reads(ReadStage),
-    /// There is no checkpoint: the program is loaded, and this comes next.
-    Loads(Issue),
-    /// The checkpoint that was found is of an older form: it is written anew, and this comes next.
-    Migrates(Migration),
+    /// There is no checkpoint: the program is loaded, and this comes next. The round writes memory's blocks, then the slot's,
+    /// and the header.
+    Loads(Round),
+    /// The checkpoint that was found is of an older form: it is written anew, and this comes next. The round writes the slot.
+    Migrates(Round),
     /// It is over.
     Over(End),
 }

@@ -34,8 +34,8 @@ unread-at (Reads Header) h = cc
 unread-at (Reads (Slot next)) h = cc
 unread-at (Reads (Fills k)) h = cc
 unread-at (Reads (Refusing bad)) h = cc
-unread-at (Loads issue) h = cc
-unread-at (Migrates step) h = cc
+unread-at (Loads r) h = cc
+unread-at (Migrates r) h = cc
 unread-at (Over end) h = cc
 
 -- an image with a commit block has a checkpoint
@@ -86,8 +86,8 @@ module _ {C : Type 0} (F : FillingOf C) (read : Reading) (reads : IsReadBy F rea
       → loads_at q ≡ (has_read_at q && loads (view_at read o q n))
   loading-at (Reads r) is going good keeps far =
       reading-at r good keeps.sized keeps.told far (has-commit F r n b c (subst (λ (q : Stage). HasReadAt F q n b c) is far.read.so_far))
-  loading-at (Loads issue) is going good keeps far = refl
-  loading-at (Migrates step) is going good keeps far = sym (ap loads (view-migrating F read o g n b c step reads keeps far))
+  loading-at (Loads r) is going good keeps far = refl
+  loading-at (Migrates r) is going good keeps far = sym (ap loads (view-migrating F read o g n b c r reads keeps far))
   loading-at (Over end) is going good keeps far = absurd going
 
 pub loads_if_none : {C : Type 0} (F : FillingOf C) → IsFilling F → LoadsIfNone F

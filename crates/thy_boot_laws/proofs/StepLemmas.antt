@@ -14,23 +14,21 @@ use Rattle.thy_view.proofs.ActionLemmas.{queue-after}
 use Rattle.thy_protocol.specs.Keeps.{finding_view}
 use Rattle.thy_layout.specs.Layout.{Layout}
 use Rattle.thy_protocol.specs.Moves.{IsKeeping}
+use Rattle.thy_protocol.specs.Round.{round_action}
 use Rattle.thy_boot.specs.declared.stage.Stage.{Stage}
 use Rattle.thy_boot.specs.declared.stage.Stage.TheVariants.{Reads, Loads, Migrates, Over}
 use Rattle.thy_boot.specs.declared.stage.ReadStage.TheVariants.{Unread, Header, Slot, Fills, Refusing}
-use Rattle.thy_boot.specs.declared.stage.Migration.{Migration}
-use Rattle.thy_boot.specs.declared.stage.Migration.TheVariants.{Slot as SlotAnew, Settle as SettleAnew, Commit as CommitAnew, Confirm as ConfirmAnew}
 use Rattle.thy_boot.specs.Boot.{Booting}
-use Rattle.thy_boot.specs.Migrating.{migration_action}
+use Rattle.thy_boot.specs.Migrating.{renewing}
 use Rattle.thy_boot.specs.Counts.{Counts}
 use Rattle.thy_boot.specs.Filling.{FillingOf, First, IsFilling, first_by}
 use Rattle.thy_boot.specs.Laws.{IsGoing}
 use Rattle.thy_boot.specs.Left.{boot_left}
-use Rattle.thy_boot.specs.Loads.{issue_action}
+use Rattle.thy_boot.specs.Loads.{first_writes}
 use Rattle.thy_boot.specs.Shows.{migrates_at, seen_at}
 use Rattle.thy_boot.specs.Sound.{BootImages, standing_in_boot, images_after}
 use Rattle.thy_boot.specs.Steps.{StepsAt, action_at}
 use Rattle.thy_boot.proofs.CountLemmas.{read_writes_nothing}
-use Rattle.thy_boot.proofs.MoveLemmas.{kept_after}
 use Rattle.thy_boot.proofs.NearerLemmas.{left_most}
 use Rattle.thy_boot.proofs.SafeLemmas.{read_failed}
 use Rattle.thy_boot_laws.specs.Seen.{view_at, has_read_at}
@@ -45,12 +43,9 @@ not-unread q read is = no-false (sym (ap has_read_at is) ∙ read)
 
 -- the mark that is kept stays
 pub kept-on : (f : First) (q : Stage) (n : Device) (g : BootImages) → (images_after f q n g).kept ≡ g.kept
-kept-on f (Reads r) n g = refl
-kept-on f (Loads issue) n g = kept_after f issue n g
-kept-on f (Migrates (SlotAnew k)) n g = refl
-kept-on f (Migrates SettleAnew) n g = refl
-kept-on f (Migrates CommitAnew) n g = refl
-kept-on f (Migrates ConfirmAnew) n g = refl
+kept-on f (Reads at) n g = refl
+kept-on f (Loads r) n g = refl
+kept-on f (Migrates r) n g = refl
 kept-on f (Over end) n g = refl
 
 -- ---- what was seen before the boot was over
@@ -66,9 +61,9 @@ WasLoading o g q = (o.kept ≡ None) × (seen_at o g.kept q ≡ record (loading_
 pub was-loading : (o : Origin) (l : Layout) (g : BootImages) (n : Device) (q : Stage) → IsGoing q → (seen_at o g.kept q).written ≡ true
     → IsKeeping o l (standing_in_boot o q g n) → WasLoading o g q
 was-loading o l g n (Reads r) going w keeps = absurd (unwritten o.start.count g.kept w)
-was-loading o l g n (Loads issue) going w keeps =
-    (loads-first o l g issue keeps.told, ap (λ (t : Bool). record (loading_view o.start.count) { written = t }) w)
-was-loading o l g n (Migrates step) going w keeps = absurd (unwritten o.start.count g.kept w)
+was-loading o l g n (Loads r) going w keeps =
+    (loads-first o l g r keeps.told, ap (λ (t : Bool). record (loading_view o.start.count) { written = t }) w)
+was-loading o l g n (Migrates r) going w keeps = absurd (unwritten o.start.count g.kept w)
 was-loading o l g n (Over end) going w keeps = absurd going
 
 found-mark : (count : ℕ) (kept : Option Mark) (m : Mark) → (finding_view count kept).done ≡ Some m
@@ -80,8 +75,8 @@ found-mark count (Some k) m d = ap (λ (x : Option Mark). boot_view x None) d
 pub was-found : (o : Origin) (g : BootImages) (q : Stage) (m : Mark) → IsGoing q → (seen_at o g.kept q).done ≡ Some m
     → seen_at o g.kept q ≡ boot_view (Some m) None
 was-found o g (Reads r) m going d = found-mark o.start.count g.kept m d
-was-found o g (Loads issue) m going d = absurd (none-done m d)
-was-found o g (Migrates step) m going d = found-mark o.start.count g.kept m d
+was-found o g (Loads r) m going d = absurd (none-done m d)
+was-found o g (Migrates r) m going d = found-mark o.start.count g.kept m d
 was-found o g (Over end) m going d = absurd going
 
 -- ---- how far it is
@@ -98,8 +93,8 @@ module _ {C : Type 0} (F : FillingOf C) (laws : IsFilling F) where
   fewer_has_read b d (Reads (Slot next)) same less = refl
   fewer_has_read b d (Reads (Fills k)) same less = refl
   fewer_has_read b d (Reads (Refusing bad)) same less = refl
-  fewer_has_read b d (Loads issue) same less = refl
-  fewer_has_read b d (Migrates step) same less = refl
+  fewer_has_read b d (Loads r) same less = refl
+  fewer_has_read b d (Migrates r) same less = refl
   fewer_has_read b d (Over end) same less = refl
 
   -- ---- what it writes
@@ -107,8 +102,8 @@ module _ {C : Type 0} (F : FillingOf C) (laws : IsFilling F) where
   -- if a checkpoint was found a step reads, and one that failed wrote nothing, unless it is being written anew
   pub found_fails_unwritten : FoundFailsUnwritten F
   found_fails_unwritten o kept m b c n new (Reads r) done only f = read_failed F laws b c r n new f
-  found_fails_unwritten o kept m b c n new (Loads issue) done only f = absurd (none-done m done)
-  found_fails_unwritten o kept m b c n new (Migrates step) done only f = let both : true ≡ false = only in absurd (cc)
+  found_fails_unwritten o kept m b c n new (Loads r) done only f = absurd (none-done m done)
+  found_fails_unwritten o kept m b c n new (Migrates r) done only f = let both : true ≡ false = only in absurd (cc)
   found_fails_unwritten o kept m b c n new (Over end) done only f = absurd f
 
 -- so it is counted as none
@@ -116,8 +111,8 @@ module _ {C : Type 0} (F : FillingOf C) {T : Type 0} (read : Reading) (o : Origi
     (old new : ℕ) (s : State) (b : Booting) (c : C) where
   pub writes_nothing : (q : Stage) → (view_at read o q n).done ≡ Some m → migrates_at q ≡ false → Counts (action_at F q s b c) result old new → new ≡ old
   writes_nothing (Reads r) done only h = read_writes_nothing F b c result old new r h
-  writes_nothing (Loads issue) done only h = absurd (none-done m done)
-  writes_nothing (Migrates step) done only h = let both : true ≡ false = only in absurd (cc)
+  writes_nothing (Loads r) done only h = absurd (none-done m done)
+  writes_nothing (Migrates r) done only h = let both : true ≡ false = only in absurd (cc)
   writes_nothing (Over end) done only h = h
 
 -- ---- the queues
@@ -135,17 +130,17 @@ module _ {C : Type 0} (F : FillingOf C) (s : State) (n : Device) (b : Booting) (
       → length new.queue + (F.dram e).queued ≤ length n.queue + (F.dram c).queued + 1
   queue-on (Reads r) on acts =
       omega (arith, queued-by n new (F.dram c) (F.dram e) acts, ap (λ (x : Device). length x.queue) on.device)
-  queue-on (Loads issue) on acts =
+  queue-on (Loads r) on acts =
       omega (
         arith,
-        queue-after (issue_action (first_by F b.p s) issue) n,
+        queue-after (round_action (first_writes (first_by F b.p s)) r) n,
         ap (λ (x : Device). length x.queue) on.device,
         ap (λ (x : C). (F.dram x).queued) on.control,
       )
-  queue-on (Migrates step) on acts =
+  queue-on (Migrates r) on acts =
       omega (
         arith,
-        queue-after (migration_action F b step) n,
+        queue-after (round_action (renewing F b) r) n,
         ap (λ (x : Device). length x.queue) on.device,
         ap (λ (x : C). (F.dram x).queued) on.control,
       )

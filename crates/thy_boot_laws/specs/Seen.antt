@@ -10,11 +10,11 @@ use Rattle.thy_view.specs.Safe.{ceiling}
 use Rattle.thy_boot.specs.declared.stage.Stage.{Stage}
 use Rattle.thy_boot.specs.declared.stage.Stage.TheVariants.{Reads, Loads}
 use Rattle.thy_boot.specs.declared.stage.ReadStage.TheVariants.{Unread}
-use Rattle.thy_boot.specs.Shows.{is_written}
+use Rattle.thy_protocol.specs.Round.{is_written}
 
 -- while it loads, whether the commit block was written, and else what the image means
 abbrev pub view_at : Reading → Origin → Stage → Device → View
-view_at read o (Loads issue) n = record (loading_view o.start.count) { written = is_written issue }
+view_at read o (Loads r) n = record (loading_view o.start.count) { written = is_written r }
 view_at read o stage n = view_of_image o.start.count (read o.geometry ceiling n.image)
 
 -- the commit block was read
@@ -24,5 +24,5 @@ has_read_at stage = true
 
 -- there is no checkpoint
 abbrev pub loads_at : Stage → Bool
-loads_at (Loads issue) = true
+loads_at (Loads r) = true
 loads_at stage = false

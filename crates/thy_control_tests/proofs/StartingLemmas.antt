@@ -16,12 +16,13 @@ use Rattle.thy_boot.specs.declared.stage.Stage.{Stage}
 use Rattle.thy_boot.specs.declared.stage.Stage.TheVariants.{Reads, Loads, Migrates, Over}
 use Rattle.thy_boot.specs.declared.stage.ReadStage.TheVariants.{Unread, Header, Slot, Fills, Refusing}
 use Rattle.thy_boot.specs.declared.stage.End.TheVariants.{Restored, Loaded}
-use Rattle.thy_boot.specs.declared.stage.Migration.{Migration}
-use Rattle.thy_boot.specs.declared.stage.Migration.TheVariants.{Slot as SlotAnew, Settle as SettleAnew, Commit as CommitAnew, Confirm as ConfirmAnew}
+use Rattle.thy_protocol.specs.declared.round.Round.{Round}
+use Rattle.thy_protocol.specs.declared.round.Round.TheVariants.{Write, Settle, Commit, Confirm}
+use Rattle.thy_protocol.specs.Round.{round_action}
 use Rattle.thy_boot.specs.Boot.{Booting, answer_at, new_boot}
 use Rattle.thy_boot.specs.Filling.{first_by}
-use Rattle.thy_boot.specs.Loads.{issue_action}
-use Rattle.thy_boot.specs.Migrating.{migrated_by, migration_action}
+use Rattle.thy_boot.specs.Loads.{first_writes}
+use Rattle.thy_boot.specs.Migrating.{migrated_by, renewing}
 use Rattle.thy_boot.specs.Recovers.{HasReadAt}
 use Rattle.thy_boot.specs.Steps.{Steps, StepsAt}
 use Rattle.thy_boot.proofs.ReadLemmas.{HasRead-new}
@@ -46,8 +47,8 @@ idle-at (Reads Header) n b c told read = read.0.fresh.booting.idle
 idle-at (Reads (Slot next)) n b c told read = read.0.fresh.booting.idle
 idle-at (Reads (Fills k)) n b c told read = read.0.lists.booting.idle
 idle-at (Reads (Refusing bad)) n b c told read = cc
-idle-at (Loads issue) n b c told read = read.0.fresh.booting.idle
-idle-at (Migrates at) n b c told read = read.restored.listed.lists.booting.idle
+idle-at (Loads r) n b c told read = read.0.fresh.booting.idle
+idle-at (Migrates r) n b c told read = read.restored.listed.lists.booting.idle
 idle-at (Over Restored) n b c told read = read.listed.lists.booting.idle
 idle-at (Over Loaded) n b c told read = absurd read
 
@@ -57,23 +58,23 @@ pub down-step : (s : Plain) (n : Device) (b : Booting) (c : State) (m : Device) 
 down-step s n b c m d e steps = by_stage b.stage steps where
   by_stage : (q : Stage) → StepsAt filling_dual q s n b c m d e → m.down ≡ n.down
   by_stage (Reads r) on = ap (λ (x : Device). x.down) on.device
-  by_stage (Loads issue) on = ap (λ (x : Device). x.down) on.device ∙ down-after (issue_action (first_by filling_dual b.p s) issue) n
-  by_stage (Migrates at) on = ap (λ (x : Device). x.down) on.device ∙ down-after (migration_action filling_dual b at) n
+  by_stage (Loads r) on = ap (λ (x : Device). x.down) on.device ∙ down-after (round_action (first_writes (first_by filling_dual b.p s)) r) n
+  by_stage (Migrates r) on = ap (λ (x : Device). x.down) on.device ∙ down-after (round_action (renewing filling_dual b) r) n
   by_stage (Over end) on = absurd on
 
-same-migrated : (at : Migration) (b : Booting) → (migrated_by filling_dual at b).p ≡ b.p
-same-migrated (SlotAnew k) b = refl
-same-migrated SettleAnew b = refl
-same-migrated CommitAnew b = refl
-same-migrated ConfirmAnew b = refl
+same-migrated : (r : Round) (b : Booting) → (migrated_by filling_dual r b).p ≡ b.p
+same-migrated (Write k) b = refl
+same-migrated Settle b = refl
+same-migrated Commit b = refl
+same-migrated Confirm b = refl
 
 pub same-step : (s : Plain) (n : Device) (b : Booting) (c : State) (m : Device) (d : Booting) (e : State)
     → Steps filling_dual s n b c m d e → d.p ≡ b.p
 same-step s n b c m d e steps = by_stage b.stage steps where
   by_stage : (q : Stage) → StepsAt filling_dual q s n b c m d e → d.p ≡ b.p
   by_stage (Reads r) on = on.same_p
-  by_stage (Loads issue) on = ap (λ (x : Booting). x.p) on.boot
-  by_stage (Migrates at) on = ap (λ (x : Booting). x.p) on.boot ∙ same-migrated at b
+  by_stage (Loads r) on = ap (λ (x : Booting). x.p) on.boot
+  by_stage (Migrates r) on = ap (λ (x : Booting). x.p) on.boot ∙ same-migrated r b
   by_stage (Over end) on = absurd on
 
 -- ---- where it begins

@@ -10,13 +10,14 @@ use crate::support::starting::{has_least_memory, new_boot};
 use std::alloc::Global;
 use std::process::Abort;
 use thy_base::{Block, Bytes, Geometry, Nvm, Parameters, SchemeName, Shape};
-use thy_boot::{Boot, End, Issue, Stage, a_boot_may_go_on};
+use thy_boot::{Boot, End, Stage, a_boot_may_go_on};
 use thy_control::Control;
 use thy_dram::Dram;
 use thy_dual::DualTables;
 use thy_isa::{CpuState, MachState, Regs, Status};
 use thy_layout::Start;
 use thy_nvm::MemNvm;
+use thy_protocol::Round;
 use thy_view::BootStep;
 
 /// The least memory: seven pages of the program and one of the console.
@@ -204,7 +205,7 @@ fn a_start_is_loaded_and_found_again(rt: HostRuntime) {
         .expect(&rt, "a device");
     let loading = boot(&rt, alloc, &mut nvm, 524);
     expect(&rt, loading.told, BootStep::GoesOn);
-    expect(&rt, loading.stage, Stage::Loads(Issue::Confirm));
+    expect(&rt, loading.stage, Stage::Loads(Round::Confirm));
     nvm.cut(7);
     let loaded = boot(&rt, alloc, &mut nvm, 1000);
     let ended = with_start(525, BootStep::Loaded, End::Loaded);

@@ -1,4 +1,3 @@
-pub mod CommitLemmas
 pub mod FixedLemmas
 pub mod SavedLemmas
 pub mod SparesLemmas

@@ -1,4 +1,3 @@
-pub mod Commit
 pub mod Fixed
 pub mod Laws
 pub mod Saved

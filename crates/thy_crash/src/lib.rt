@@ -8,10 +8,8 @@
 //! thy_record, thy_control and thy_protocol, and the engine, the boot and the scheme above them.
 #![tactic(auto)]
 
-mod checkpoint;
 mod laws;
 
-pub use checkpoint::commit;
 pub use laws::{
     a_barrier_ends_the_doubt, a_barrier_makes_ready, a_commit_leaves_doubt, a_cut_leaves_a_copy,
     blocks_are_written_in_turn, calls_spare, reads_stay, spared_stays, sparing_adds_up,

@@ -1,6 +1,5 @@
 -- Every item takes exactly one of the cycles that are left.
-use Rattle.std.proofs.Common.{◌≡◌, ℕ, ◌+◌, ◌-◌, ◌<◌, ◌≤◌, nat_lt, if◌then◌else◌, Bool, true, false, Option, Some, None, refl, ap, arith}
-use Rattle.std.proofs.lemmas.Bool.{ltb-true, ltb-false}
+use Rattle.std.proofs.Common.{◌≡◌, ℕ, ◌+◌, ◌<◌, true, Option, Some, None, refl, ap, arith}
 use Rattle.thy_layout.specs.declared.layout_version.LayoutVersion.{LayoutVersion}
 use Rattle.thy_layout.proofs.ReadBackLemmas.{version_of-commit_of}
 use Rattle.thy_places.specs.Places.{slot_blocks as blocks_of_two}
@@ -13,9 +12,13 @@ use Rattle.thy_control.specs.State.{State, AreSoundTables}
 use Rattle.thy_control.proofs.CopyLemmas.{none_left}
 use Rattle.thy_control.proofs.IssueLemmas.{writes_left-next}
 use Rattle.thy_engine.specs.declared.stage.EngineStage.{EngineStage}
-use Rattle.thy_engine.specs.declared.stage.EngineStage.TheVariants.{Idle, Body, Slot, Settle, Commit, Confirm, Tail}
+use Rattle.thy_engine.specs.declared.stage.EngineStage.TheVariants.{Idle, Body, InRound, Tail}
+use Rattle.thy_protocol.specs.declared.round.Round.{Round}
+use Rattle.thy_protocol.specs.declared.round.Round.TheVariants.{Write, Settle, Commit, Confirm}
+use Rattle.thy_protocol.specs.Round.{IsInRound, round_left}
+use Rattle.thy_protocol.proofs.RoundLemmas.{next_by}
 use Rattle.thy_engine.specs.Cycles.{left_at}
-use Rattle.thy_engine.specs.Progress.{Progress, phase_of, slot_blocks, is_under_way, Item, SlotItem, body_or_slot, item, next_after, control_after}
+use Rattle.thy_engine.specs.Progress.{Progress, phase_of, slot_blocks, is_under_way, Item, RoundItem, body_or_slot, item, next_after, control_after}
 use Rattle.thy_recover.specs.Filling.{filling_dual}
 use Rattle.thy_dual_laws.specs.Design.{StandsAt, items_dual}
 use Rattle.thy_dual_laws.specs.Laws.{ItemsCount}
@@ -44,30 +47,27 @@ module _ (e : Progress) (s : State) where
   abbrev after : Item → ℕ
   after i = left (next_after filling_dual items_dual e i) (control_after items_dual i s)
 
-  counts-block : (k : ℕ) (more : Bool) → nat_lt (k + 1) (slot_blocks filling_dual e) ≡ more → k < slot_blocks filling_dual e
-      → left (if more then Slot (k + 1) else Settle) s + 1 ≡ slot_blocks filling_dual e - k + 3
-  counts-block k true q l = let below : k + 1 < slot_blocks filling_dual e = ltb-true (k + 1) (slot_blocks filling_dual e) q in omega (arith, below)
-  counts-block k false q l = let last : slot_blocks filling_dual e ≤ k + 1 = ltb-false (k + 1) (slot_blocks filling_dual e) q in omega (arith, last, l)
-
-  counts-slot : (k : ℕ) → k < slot_blocks filling_dual e → after (SlotItem k) + 1 ≡ slot_blocks filling_dual e - k + 3
-  counts-slot k l = counts-block k (nat_lt (k + 1) (slot_blocks filling_dual e)) refl l
+  counts-round : (r : Round) → IsInRound (slot_blocks filling_dual e) r → after (RoundItem r) + 1 ≡ round_left (slot_blocks filling_dual e) r
+  counts-round (Write k) inside =
+      next_by (λ (q : Round). left (InRound q) s + 1 ≡ round_left (slot_blocks filling_dual e) (Write k)) k (slot_blocks filling_dual e)
+      (λ more. omega (arith, more)) (λ last. omega (arith, last, inside))
+  counts-round Settle inside = omega arith
+  counts-round Commit inside = omega arith
+  counts-round Confirm inside = omega arith
 
   counts-body : (o : Option ℕ) → next_position s ≡ o → StandsAt true s
       → after (body_or_slot o) + 1 ≡ copies_left s + writes_left s + (slot_blocks filling_dual e + 3)
   counts-body None next at =
       let none = none_by s at.tables (next_copy s) (next_page s) refl refl next in
-      let first = counts-slot 0 (some_slot e) in
+      let first = counts-round (Write 0) (some_slot e) in
       omega (arith, first, none)
   counts-body (Some k) next at = let one = counts_by s at (next_copy s) (next_page s) k refl refl next in omega (arith, one)
 
-  counts : (q : EngineStage) → ((k : ℕ) → q ≡ Slot k → k < slot_blocks filling_dual e) → items_dual.stands (phase_of q) s → is_under_way q ≡ true
+  counts : (q : EngineStage) → ((r : Round) → q ≡ InRound r → IsInRound (slot_blocks filling_dual e) r) → items_dual.stands (phase_of q) s → is_under_way q ≡ true
       → after (item items_dual q s) + 1 ≡ left q s
   counts Idle inside stands way = cc
   counts (Body from) inside stands way = let body = counts-body (next_position s) refl stands in omega (arith, body)
-  counts (Slot k) inside stands way = let slot = counts-slot k (inside k refl) in omega (arith, slot)
-  counts Settle inside stands way = omega arith
-  counts Commit inside stands way = omega arith
-  counts Confirm inside stands way = omega arith
+  counts (InRound r) inside stands way = let round = counts-round r (inside r refl) in omega (arith, round)
   counts (Tail from) inside stands way = absurd stands
 
 pub items_count : ItemsCount

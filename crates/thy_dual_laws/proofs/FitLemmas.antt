@@ -5,7 +5,7 @@ use Rattle.thy_control.specs.Seal.{sealed_state}
 use Rattle.thy_control.specs.State.{State, AreSoundTables}
 use Rattle.thy_control.specs.Stays.{Stays}
 use Rattle.thy_engine.specs.declared.stage.EngineStage.{EngineStage}
-use Rattle.thy_engine.specs.declared.stage.EngineStage.TheVariants.{Idle, Slot}
+use Rattle.thy_engine.specs.declared.stage.EngineStage.TheVariants.{Idle, InRound}
 use Rattle.thy_engine.specs.Items.{Phase, Resting, Making, Made, Applying}
 use Rattle.thy_engine.specs.Progress.{phase_of}
 use Rattle.thy_parts.proofs.SealLemmas.{idle_stage}
@@ -18,7 +18,7 @@ idle_fits e s same idle none tables promotes =
     let is : e.stage ≡ Idle = idle_stage e.stage idle in
     record {
       same_p = same;
-      inside = λ k at. let both : Idle ≡ Slot k = sym is ∙ at in absurd cc;
+      inside = λ r at. let both : Idle ≡ InRound r = sym is ∙ at in absurd cc;
       stands = subst (λ (q : EngineStage). items_dual.stands (phase_of q) s) (sym is)
           (record { tables = tables; way_is = none; promotes = promotes });
     }
@@ -27,7 +27,7 @@ pub seal_fits : SealFits
 unfolding sealed_state
 seal_fits e s cpu epoch fits tables idle = record {
   same_p = fits.same_p;
-  inside = λ k at. cc;
+  inside = λ r at. cc;
   stands = record { tables = tables; way_is = refl; promotes = λ p. idle };
 }
 

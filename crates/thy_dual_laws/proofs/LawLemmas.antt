@@ -1,5 +1,5 @@
 -- What holds of the scheme of both tables beside what holds of every scheme of parts.
-use Rattle.std.proofs.Common.{◌≡◌, ℕ, ◌+◌, ◌-◌, ◌*◌, ◌≤◌, ◌&&◌, max, not, if◌then◌else◌, Bool, true, false, refl, arith}
+use Rattle.std.proofs.Common.{◌≡◌, ℕ, ◌+◌, ◌*◌, ◌≤◌, ◌&&◌, max, not, if◌then◌else◌, Bool, true, false, refl, arith}
 use Rattle.thy_base.specs.Device.{Device}
 use Rattle.thy_base.specs.Geometry.{memory_blocks}
 use Rattle.thy_base.proofs.RangeLemmas.{harts_most}
@@ -10,11 +10,11 @@ use Rattle.thy_record.specs.Number.{scheme_number}
 use Rattle.thy_control.specs.State.{State}
 use Rattle.thy_control.proofs.CellLemmas.{ptt_least}
 use Rattle.thy_view.specs.Origin.{Origin}
-use Rattle.thy_boot.specs.declared.stage.Issue.TheVariants.{Home}
-use Rattle.thy_boot.specs.declared.stage.Migration.TheVariants.{Slot as SlotAnew}
-use Rattle.thy_boot.specs.Left.{loads_left, migration_left, most_migration}
+use Rattle.thy_protocol.specs.declared.round.Round.TheVariants.{Write}
+use Rattle.thy_protocol.specs.Round.{round_left}
+use Rattle.thy_boot.specs.Left.{most_migration}
 use Rattle.thy_engine.specs.declared.stage.EngineStage.{EngineStage}
-use Rattle.thy_engine.specs.declared.stage.EngineStage.TheVariants.{Idle, Body, Slot, Settle, Commit, Confirm, Tail}
+use Rattle.thy_engine.specs.declared.stage.EngineStage.TheVariants.{Idle, Body, InRound, Tail}
 use Rattle.thy_engine.specs.Progress.{phase_of, is_applying, is_under_way}
 use Rattle.thy_parts.specs.Design.{Composed}
 use Rattle.thy_parts.proofs.LawfulLemmas.{lawful as lawful_of_parts}
@@ -47,10 +47,7 @@ no_tail : (q : EngineStage) (c : State) → items_dual.stands (phase_of q) c →
 no_tail (Tail from) c stands = absurd stands
 no_tail Idle c stands = refl
 no_tail (Body from) c stands = refl
-no_tail (Slot k) c stands = refl
-no_tail Settle c stands = refl
-no_tail Commit c stands = refl
-no_tail Confirm c stands = refl
+no_tail (InRound r) c stands = refl
 
 pub applies_nothing : (o : Origin) (k : CheckpointMarks) (s : Composed State) (n : Device) → Stands dual_scheme o k s n → dual_scheme.applies s ≡ false
 applies_nothing o k s n stands = no_tail s.engine.stage s.control stands.sound.held.fits.stands
@@ -72,7 +69,7 @@ max-least : (a b c : ℕ) → a ≤ c → b ≤ c → max a b ≤ c
 max-least a b c l m = omega (arith, l, m)
 
 -- a migration writes a slot, and has three actions more, if there may be one
-migrates-few : (knows : Bool) (slot : ℕ) → (if knows then migration_left slot (SlotAnew 0) else 0) ≤ slot + 3
+migrates-few : (knows : Bool) (slot : ℕ) → (if knows then round_left slot (Write 0) else 0) ≤ slot + 3
 migrates-few true slot = omega arith
 migrates-few false slot = omega arith
 
@@ -82,5 +79,5 @@ boots_are_short p =
     let z : ℕ = slot_blocks p in
     let w : ℕ = most_migration (dual_layouts p) p in
     let few : w ≤ z + 3 = migrates-few (knows_version_one scheme_number p) z in
-    let most = max-least (loads_left m z (Home 0)) (1 + z + 64 * p.ptt + w) (m + 2 * z + 64 * p.ptt + 4) (omega arith) (omega (arith, few)) in
+    let most = max-least (round_left (m + z + 1) (Write 0)) (1 + z + 64 * p.ptt + w) (m + 2 * z + 64 * p.ptt + 4) (omega arith) (omega (arith, few)) in
     omega (arith, most)

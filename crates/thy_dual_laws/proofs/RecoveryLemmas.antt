@@ -21,13 +21,14 @@ use Rattle.thy_view.specs.Action.{ActsBy, ActionFailedBy}
 use Rattle.thy_view.specs.Origin.{Origin}
 use Rattle.thy_protocol.specs.Keeps.{finding_view}
 use Rattle.thy_protocol.specs.Moves.{IsKeeping}
-use Rattle.thy_boot.specs.declared.stage.Migration.{Migration}
-use Rattle.thy_boot.specs.declared.stage.Migration.TheVariants.{Slot, Settle, Commit, Confirm}
+use Rattle.thy_protocol.specs.declared.round.Round.{Round}
+use Rattle.thy_protocol.specs.declared.round.Round.TheVariants.{Write, Settle, Commit, Confirm}
+use Rattle.thy_protocol.specs.Round.{IsInRound, round_action}
 use Rattle.thy_boot.specs.declared.stage.Stage.{Stage}
 use Rattle.thy_boot.specs.declared.stage.Stage.TheVariants.{Reads, Loads, Migrates, Over}
-use Rattle.thy_boot.specs.Boot.{Booting, IsMigration}
+use Rattle.thy_boot.specs.Boot.{Booting}
 use Rattle.thy_boot.specs.Filling.{anew}
-use Rattle.thy_boot.specs.Migrating.{migration_action}
+use Rattle.thy_boot.specs.Migrating.{renewing}
 use Rattle.thy_boot.specs.Shows.{migrates_at, seen_at}
 use Rattle.thy_boot.specs.Sound.{BootImages, standing_in_boot, IsMigrating, IsSoundAt}
 use Rattle.thy_boot.proofs.AnewLemmas.{epoch-below}
@@ -51,9 +52,9 @@ failures_write_nothing o pick m n new none c = record {
 
 -- ---- what a migration writes
 
-own-action : (b : Booting) (epoch : ℕ) (at : Migration) → epoch_of b.commit ≡ epoch → epoch < 2 ^ 64 → IsMigration filling_dual b at
-    → IsOfMigration b.p epoch (migration_action filling_dual b at)
-own-action b epoch (Slot k) is small inside =
+own-action : (b : Booting) (epoch : ℕ) (r : Round) → epoch_of b.commit ≡ epoch → epoch < 2 ^ 64 → IsInRound (renewing filling_dual b).blocks r
+    → IsOfMigration b.p epoch (round_action (renewing filling_dual b) r)
+own-action b epoch (Write k) is small inside =
     let version : version_of scheme_number b.p (anew b.commit) ≡ VersionTwo = version_of-commit_of scheme_number b.p (epoch_of b.commit) in
     let of : epoch_of (anew b.commit) ≡ epoch = epoch_of-commit_of (epoch_of b.commit) (omega (arith, is, small)) ∙ is in
     let blocks : (dual_layouts b.p).slot_blocks (anew b.commit) ≡ slot_blocks b.p = ap (λ (v : LayoutVersion). blocks_of_slot v b.p) version in
@@ -71,14 +72,14 @@ none_migrates : false ≡ true → ⊥
 none_migrates e = cc
 
 module _ (o : Origin) (g : BootImages) (n : Device) (b : Booting) (c : State) (same : b.p ≡ o.geometry) where
-  migrates-found : (m : Mark) (at : Migration) → (far : IsMigrating filling_dual o at g n b c) → far.m ≡ m → MigratesFound o.geometry m.epoch b at
-  migrates-found m at far is =
+  migrates-found : (m : Mark) (r : Round) → (far : IsMigrating filling_dual o r g n b c) → far.m ≡ m → MigratesFound o.geometry m.epoch b r
+  migrates-found m r far is =
       let epoch : epoch_of b.commit ≡ m.epoch = far.epoch ∙ ap (λ (x : Mark). x.epoch) is in
       let few = epoch-below (block_at g.before 0) b.commit far.listed.head.commit_fits in
       record {
         old = far.version;
-        own = subst (λ (p : Parameters). IsOfMigration p m.epoch (migration_action filling_dual b at)) same
-            (own-action b m.epoch at epoch (omega (arith, few, epoch)) far.there);
+        own = subst (λ (p : Parameters). IsOfMigration p m.epoch (round_action (renewing filling_dual b) r)) same
+            (own-action b m.epoch r epoch (omega (arith, few, epoch)) far.there);
       }
 
   -- the mark that is seen is the one that is kept
@@ -87,10 +88,10 @@ module _ (o : Origin) (g : BootImages) (n : Device) (b : Booting) (c : State) (s
       some_same m found (sym (ap (λ (k : Option Mark). (finding_view o.start.count k).done) is) ∙ done)
 
   writes-at : (found : Mark) (q : Stage) → migrates_at q ≡ true → IsSoundAt filling_dual o q g n b c → (seen_at o g.kept q).done ≡ Some found
-      → (at : Migration) × (q ≡ Migrates at) × MigratesFound o.geometry found.epoch b at
-  writes-at found (Reads r) migrates far done = absurd (none_migrates migrates)
-  writes-at found (Loads issue) migrates far done = absurd (none_migrates migrates)
-  writes-at found (Migrates at) migrates far done = (at, refl, migrates-found found at far (seen-kept g.kept far.m found far.kept done))
+      → (r : Round) × (q ≡ Migrates r) × MigratesFound o.geometry found.epoch b r
+  writes-at found (Reads at) migrates far done = absurd (none_migrates migrates)
+  writes-at found (Loads r) migrates far done = absurd (none_migrates migrates)
+  writes-at found (Migrates r) migrates far done = (r, refl, migrates-found found r far (seen-kept g.kept far.m found far.kept done))
   writes-at found (Over end) migrates far done = absurd (none_migrates migrates)
 
 pub migration_writes : MigrationWrites
@@ -107,8 +108,8 @@ one_is_not_two e = cc
 module _ (o : Origin) (g : BootImages) (n : Device) (b : Booting) (c : State) (same : b.p ≡ o.geometry)
     (two : version_of scheme_number o.geometry (block_at n.image 1) ≡ VersionTwo) where
   -- the image that is kept until the commit block is written is of version 1
-  not-kept : (at : Migration) → IsMigrating filling_dual o at g n b c → IsFixed n 1 (block_at g.before 1) → ⊥
-  not-kept at far fixed =
+  not-kept : (r : Round) → IsMigrating filling_dual o r g n b c → IsFixed n 1 (block_at g.before 1) → ⊥
+  not-kept r far fixed =
       let there : block_at n.image 1 ≡ block_at g.before 1 = block_at-fixed n n.image 1 (block_at g.before 1) fixed (Crash-image n) in
       let old : version_of scheme_number o.geometry (block_at n.image 1) ≡ VersionOne =
       ap (version_of scheme_number o.geometry) (there ∙ far.listed.head.commit_is.is)
@@ -116,8 +117,8 @@ module _ (o : Origin) (g : BootImages) (n : Device) (b : Booting) (c : State) (s
       ∙ far.version in
       one_is_not_two (sym old ∙ two)
 
-  stays-at : (at : Migration) → IsKeeping o (layout_of o) (standing_in_boot o (Migrates at) g n) → IsMigrating filling_dual o at g n b c → at ≡ Confirm
-  stays-at (Slot k) keeps far = absurd (not-kept (Slot k) far keeps.saved.commit)
+  stays-at : (r : Round) → IsKeeping o (layout_of o) (standing_in_boot o (Migrates r) g n) → IsMigrating filling_dual o r g n b c → r ≡ Confirm
+  stays-at (Write k) keeps far = absurd (not-kept (Write k) far keeps.saved.commit)
   stays-at Settle keeps far = absurd (not-kept Settle far keeps.saved.commit)
   stays-at Commit keeps far = absurd (not-kept Commit far keeps.saved.kept.commit)
   stays-at Confirm keeps far = refl
@@ -125,8 +126,8 @@ module _ (o : Origin) (g : BootImages) (n : Device) (b : Booting) (c : State) (s
   stays-by : (q : Stage) → IsKeeping o (layout_of o) (standing_in_boot o q g n) → IsSoundAt filling_dual o q g n b c
       → (migrates_at q ≡ false) ⊎ (q ≡ Migrates Confirm)
   stays-by (Reads r) keeps far = inl refl
-  stays-by (Loads issue) keeps far = inl refl
-  stays-by (Migrates at) keeps far = inr (ap (λ (x : Migration). Migrates x) (stays-at at keeps far))
+  stays-by (Loads r) keeps far = inl refl
+  stays-by (Migrates r) keeps far = inr (ap (λ (x : Round). Migrates x) (stays-at r keeps far))
   stays-by (Over end) keeps far = inl refl
 
 pub version_two_stays : VersionTwoStays

@@ -17,11 +17,12 @@ use Rattle.thy_view.specs.declared.view.Phase.TheVariants.{Boot}
 use Rattle.thy_view.specs.Action.{Action, WriteAt, Barrier, Acts, ActionFailed}
 use Rattle.thy_view.specs.Kind.{IsStep, CycleFailed}
 use Rattle.thy_view.specs.Origin.{Origin}
-use Rattle.thy_boot.specs.declared.stage.Migration.{Migration}
-use Rattle.thy_boot.specs.declared.stage.Migration.TheVariants.{Confirm}
+use Rattle.thy_protocol.specs.declared.round.Round.{Round}
+use Rattle.thy_protocol.specs.declared.round.Round.TheVariants.{Confirm}
+use Rattle.thy_protocol.specs.Round.{round_action}
 use Rattle.thy_boot.specs.declared.stage.Stage.TheVariants.{Migrates}
 use Rattle.thy_boot.specs.Boot.{Booting}
-use Rattle.thy_boot.specs.Migrating.{migration_action}
+use Rattle.thy_boot.specs.Migrating.{renewing}
 use Rattle.thy_core_laws.specs.Kind.{kind_over}
 use Rattle.thy_core_laws.specs.Machine.{Machine, view_of}
 use Rattle.thy_parts.specs.Boots.{Boots}
@@ -66,16 +67,16 @@ IsOfMigration p epoch (WriteAt place block) =
 IsOfMigration p epoch action = ⊥
 
 -- a boot that migrates has found a checkpoint of version 1, and its action is one of these
-pub record MigratesFound (p : Parameters) (epoch : ℕ) (b : Booting) (at : Migration) : Type 0 where
+pub record MigratesFound (p : Parameters) (epoch : ℕ) (b : Booting) (r : Round) : Type 0 where
   pub old : version_of scheme_number b.p b.commit ≡ VersionOne
-  pub own : IsOfMigration p epoch (migration_action filling_dual b at)
+  pub own : IsOfMigration p epoch (round_action (renewing filling_dual b) r)
 
 abbrev pub MigrationWrites : Type 0
 MigrationWrites =
     (o : Origin) (s : Composed State) (n : Device) (found : Mark)
     → Boots dual_design o s n → dual_scheme.migrates s ≡ true → (dual_scheme.boot_view o s n).done ≡ Some found
-    → (at : Migration) × (s.boot.stage ≡ Migrates at)
-    × MigratesFound o.geometry found.epoch s.boot at
+    → (r : Round) × (s.boot.stage ≡ Migrates r)
+    × MigratesFound o.geometry found.epoch s.boot r
 
 -- A boot over an image whose commit block names version 2 does not migrate it. The one that has just written that block
 -- itself has only its last barrier to come.

@@ -1,9 +1,11 @@
 -- Part of the claim.
 -- How many cycles of the engine a checkpoint still takes, at most.
-use Rattle.std.specs.Prelude.{◌≡◌, ℕ, ◌+◌, ◌-◌, ◌≤◌, true, if◌then◌else◌}
+use Rattle.std.specs.Prelude.{◌≡◌, ℕ, ◌+◌, ◌≤◌, true, if◌then◌else◌}
 use Rattle.thy_base.specs.declared.config.Parameters.{Parameters}
 use Rattle.thy_engine.specs.declared.stage.EngineStage.{EngineStage}
-use Rattle.thy_engine.specs.declared.stage.EngineStage.TheVariants.{Idle, Body, Slot, Settle, Commit, Confirm, Tail}
+use Rattle.thy_engine.specs.declared.stage.EngineStage.TheVariants.{Idle, Body, InRound, Tail}
+use Rattle.thy_protocol.specs.declared.round.Round.TheVariants.{Write}
+use Rattle.thy_protocol.specs.Round.{round_left}
 use Rattle.thy_boot.specs.Filling.{FillingOf, layout_at}
 use Rattle.thy_engine.specs.Items.{ItemsOf}
 use Rattle.thy_engine.specs.Progress.{Progress, Fits, slot_blocks, is_under_way, engine_next, control_next}
@@ -12,15 +14,11 @@ use Rattle.thy_engine.specs.Progress.{Progress, Fits, slot_blocks, is_under_way,
 abbrev pub after_commit_left : {C : Type 0} → ItemsOf C → Parameters → ℕ
 after_commit_left I p = if I.has_tail then I.tail_left p 0 + 1 else 0
 
--- the positions of the body that may still be written, the blocks of the slot, three more up to the commit, and what
--- follows it
+-- the positions of the body that may still be written, the round, and what follows the commit
 abbrev pub left_at : {C : Type 0} → FillingOf C → ItemsOf C → Progress → EngineStage → C → ℕ
 left_at F I e Idle c = 0
-left_at F I e (Body from) c = I.body_left c from + (slot_blocks F e + (3 + after_commit_left I e.p))
-left_at F I e (Slot k) c = slot_blocks F e - k + (3 + after_commit_left I e.p)
-left_at F I e Settle c = 3 + after_commit_left I e.p
-left_at F I e Commit c = 2 + after_commit_left I e.p
-left_at F I e Confirm c = 1 + after_commit_left I e.p
+left_at F I e (Body from) c = I.body_left c from + (round_left (slot_blocks F e) (Write 0) + after_commit_left I e.p)
+left_at F I e (InRound r) c = round_left (slot_blocks F e) r + after_commit_left I e.p
 left_at F I e (Tail from) c = I.tail_left e.p from + 1
 
 abbrev pub cycles_left : {C : Type 0} → FillingOf C → ItemsOf C → Progress → C → ℕ

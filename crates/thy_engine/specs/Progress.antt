@@ -1,11 +1,11 @@
 -- Part of the claim.
 -- The engine's progress, and what one cycle of it makes of controller and NVM.
-use Rattle.std.specs.Prelude.{◌≡◌, ℕ, ◌+◌, ◌-◌, ◌<◌, nat_lt, Bool, true, false, if◌then◌else◌, Option, Some, None, Result, IfOk, OnOk, OnErr}
+use Rattle.std.specs.Prelude.{◌≡◌, ℕ, ◌+◌, ◌-◌, nat_lt, Bool, true, false, if◌then◌else◌, Option, Some, None, Result, IfOk, OnOk, OnErr}
 use Rattle.thy_base.specs.declared.block.Block.{Block}
 use Rattle.thy_base.specs.declared.config.Parameters.{Parameters}
 use Rattle.thy_base.specs.declared.nvm.NvmError.{NvmError}
 use Rattle.thy_base.specs.Device.{Device, IsFramed, CountsFault}
-use Rattle.thy_base.specs.Places.{record_blocks, commit_place}
+use Rattle.thy_base.specs.Places.{record_blocks}
 use Rattle.thy_isa.specs.declared.state.CpuState.{CpuState}
 use Rattle.thy_isa.specs.Step.{zero_cpu}
 use Rattle.thy_layout.specs.declared.engine_step.EngineStep.{EngineStep}
@@ -17,7 +17,10 @@ use Rattle.thy_boot.specs.Filling.{FillingOf, layout_at}
 use Rattle.thy_view.specs.Action.{Action, Rest, WriteAt, Barrier, after, FailsTo}
 use Rattle.thy_engine.specs.declared.engine.Done.{Done}
 use Rattle.thy_engine.specs.declared.stage.EngineStage.{EngineStage}
-use Rattle.thy_engine.specs.declared.stage.EngineStage.TheVariants.{Idle, Body, Slot, Settle, Commit, Confirm, Tail}
+use Rattle.thy_engine.specs.declared.stage.EngineStage.TheVariants.{Idle, Body, InRound, Tail}
+use Rattle.thy_protocol.specs.declared.round.Round.{Round}
+use Rattle.thy_protocol.specs.declared.round.Round.TheVariants.{Write, Settle, Commit, Confirm}
+use Rattle.thy_protocol.specs.Round.{RoundWrites, IsInRound, round_action, next_round}
 use Rattle.thy_engine.specs.Items.{ItemsOf, Phase, Resting, Making, Made, Applying}
 
 pub record Progress : Type 0 where
@@ -51,10 +54,7 @@ is_applying stage = false
 abbrev pub phase_of : EngineStage → Phase
 phase_of Idle = Resting
 phase_of (Body from) = Making from
-phase_of (Slot k) = Made
-phase_of Settle = Made
-phase_of Commit = Made
-phase_of Confirm = Made
+phase_of (InRound r) = Made
 phase_of (Tail from) = Applying from
 
 -- ---- the slot
@@ -73,11 +73,15 @@ abbrev pub slot_block : {C : Type 0} → ItemsOf C → Progress → C → ℕ �
 slot_block I e c k =
     if nat_lt k (record_blocks e.p) then cpu_block_of e.cpu e.epoch k else I.rest c (k - record_blocks e.p)
 
+-- the round that writes it
+abbrev pub slot_round : {C : Type 0} → FillingOf C → ItemsOf C → Progress → C → RoundWrites
+slot_round F I e c = record { blocks = slot_blocks F e; place = slot_place F e; block = slot_block I e c; commit = commit_of e.epoch }
+
 -- engine and controller belong together: they are of one geometry, the slot has the block that comes next, and the
 -- controller is one whose checkpoint is as far as the engine
 pub record Fits {C : Type 0} (F : FillingOf C) (I : ItemsOf C) (e : Progress) (c : C) : Type 0 where
   pub same_p : F.p c ≡ e.p
-  pub inside : (k : ℕ) → e.stage ≡ Slot k → k < slot_blocks F e
+  pub inside : (r : Round) → e.stage ≡ InRound r → IsInRound (slot_blocks F e) r
   pub stands : I.stands (phase_of e.stage) c
 
 -- ---- items
@@ -87,12 +91,8 @@ pub data Item : Type 0 where
   NoItem : Item
   -- a position of the body
   BodyItem : (k : ℕ) → Item
-  -- the write of a block of the slot
-  SlotItem : (k : ℕ) → Item
-  -- the barrier after all of these, the write of the commit block, and the barrier after that
-  SettleItem : Item
-  CommitItem : Item
-  ConfirmItem : Item
+  -- an action of the round that writes the slot
+  RoundItem : (r : Round) → Item
   -- a position of the tail, and the barrier after the last
   TailItem : (k : ℕ) → Item
   ReleaseItem : Item
@@ -100,7 +100,7 @@ pub data Item : Type 0 where
 -- the position that is next, else the slot's first block; and the position that is next, else the last barrier
 abbrev pub body_or_slot : Option ℕ → Item
 body_or_slot (Some k) = BodyItem k
-body_or_slot None = SlotItem 0
+body_or_slot None = RoundItem (Write 0)
 
 abbrev pub tail_or_release : Option ℕ → Item
 tail_or_release (Some k) = TailItem k
@@ -109,34 +109,32 @@ tail_or_release None = ReleaseItem
 abbrev pub item : {C : Type 0} → ItemsOf C → EngineStage → C → Item
 item I Idle c = NoItem
 item I (Body from) c = body_or_slot (I.body_next c from)
-item I (Slot k) c = SlotItem k
-item I Settle c = SettleItem
-item I Commit c = CommitItem
-item I Confirm c = ConfirmItem
+item I (InRound r) c = RoundItem r
 item I (Tail from) c = tail_or_release (I.tail_next c from)
 
--- what comes after it
-abbrev pub after_slot : {C : Type 0} → FillingOf C → Progress → ℕ → EngineStage
-after_slot F e k = if nat_lt (k + 1) (slot_blocks F e) then Slot (k + 1) else Settle
+-- what comes after it; after the round that is the tail, if there is one
+abbrev pub after_round : {C : Type 0} → ItemsOf C → Option Round → EngineStage
+after_round I (Some r) = InRound r
+after_round I None = if I.has_tail then Tail 0 else Idle
 
 abbrev pub next_after : {C : Type 0} → FillingOf C → ItemsOf C → Progress → Item → EngineStage
 next_after F I e NoItem = Idle
 next_after F I e (BodyItem k) = Body (k + 1)
-next_after F I e (SlotItem k) = after_slot F e k
-next_after F I e SettleItem = Commit
-next_after F I e CommitItem = Confirm
-next_after F I e ConfirmItem = if I.has_tail then Tail 0 else Idle
+next_after F I e (RoundItem r) = after_round I (next_round (slot_blocks F e) r)
 next_after F I e (TailItem k) = Tail (k + 1)
 next_after F I e ReleaseItem = Idle
 
 -- what the engine reports of it
+abbrev pub report_in : Progress → Round → EngineStep
+report_in e (Write k) = if nat_lt k (record_blocks e.p) then StateBlock else TableBlock
+report_in e Settle = BarrierMade
+report_in e Commit = CommitWritten
+report_in e Confirm = Committed e.epoch
+
 abbrev pub report : {C : Type 0} → ItemsOf C → Progress → Item → EngineStep
 report I e NoItem = NoStep
 report I e (BodyItem k) = I.step_of e.p k
-report I e (SlotItem k) = if nat_lt k (record_blocks e.p) then StateBlock else TableBlock
-report I e SettleItem = BarrierMade
-report I e CommitItem = CommitWritten
-report I e ConfirmItem = Committed e.epoch
+report I e (RoundItem r) = report_in e r
 report I e (TailItem k) = I.step_of e.p k
 report I e ReleaseItem = BarrierMade
 
@@ -144,17 +142,14 @@ report I e ReleaseItem = BarrierMade
 abbrev pub action_of : {C : Type 0} → FillingOf C → ItemsOf C → Progress → Item → C → Device → Action
 action_of F I e NoItem c n = Rest
 action_of F I e (BodyItem k) c n = WriteAt (I.body_place e.epoch c k) (I.body_block c n k)
-action_of F I e (SlotItem k) c n = WriteAt (slot_place F e k) (slot_block I e c k)
-action_of F I e SettleItem c n = Barrier
-action_of F I e CommitItem c n = WriteAt commit_place (commit_of e.epoch)
-action_of F I e ConfirmItem c n = Barrier
+action_of F I e (RoundItem r) c n = round_action (slot_round F I e c) r
 action_of F I e (TailItem k) c n = WriteAt (I.tail_place c k) (I.tail_block c n k)
 action_of F I e ReleaseItem c n = Barrier
 
 -- the controller after it
 abbrev pub control_after : {C : Type 0} → ItemsOf C → Item → C → C
 control_after I (BodyItem k) c = I.body_after c k
-control_after I ConfirmItem c = I.committed c
+control_after I (RoundItem Confirm) c = I.committed c
 control_after I (TailItem k) c = I.tail_after c k
 control_after I ReleaseItem c = I.released c
 control_after I i c = c

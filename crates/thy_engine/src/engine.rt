@@ -1,8 +1,6 @@
 //! The engine.
-ghost use Rattle.std.specs.Prelude.{◌≡◌, ◌<◌, false, nat_lt, if◌then◌else◌, length, IfOk, OnOk, OnErr};
+ghost use Rattle.std.specs.Prelude.{◌≡◌, ◌<◌, false, length, IfOk, OnOk, OnErr};
 ghost use Rattle.thy_base.specs.Device.{IsFramed, CountsFault};
-ghost use Rattle.thy_base.specs.Places.{record_blocks, commit_place};
-ghost use Rattle.thy_layout.specs.declared.engine_step.EngineStep.TheVariants.{StateBlock as IsStateBlock, TableBlock as IsTableBlock};
 
 use crate::items::Checkpoints;
 use crate::stage::EngineStage;
@@ -11,6 +9,7 @@ use thy_base::{Block, COMMIT_PLACE, Geometry, Nvm, NvmError};
 use thy_boot::Fills;
 use thy_isa::CpuState;
 use thy_layout::{EngineStep, ImageLayout, commit_block, cpu_block};
+use thy_protocol::Round;
 
 /// The checkpoint engine of any scheme. Each step makes of the NVM what one action makes of it.
 #[derive(Drop)]
@@ -39,21 +38,12 @@ struct Done {
     stage: EngineStage,
 }
 
-/// What the engine reports of the write of block `k` of a slot.
-fn slot_step(geometry: &Geometry, k: u64) -> EngineStep
-    ensures { result ≡ (if nat_lt k (record_blocks geometry.now) then IsStateBlock else IsTableBlock) }
-{
-    if k < geometry.record_blocks() {
-        EngineStep::StateBlock
-    } else {
-        EngineStep::TableBlock
-    }
-}
-
 impl Engine {
-    ghost use Rattle.thy_engine.specs.declared.stage.EngineStage.TheVariants.{Body as BodyFrom, Slot as SlotAt, Tail as TailFrom};
-    ghost use Rattle.thy_engine.specs.Progress.{SlotItem, SettleItem, CommitItem, ConfirmItem, is_under_way, is_applying, item, after_slot};
-    ghost use Rattle.thy_engine.specs.Progress.{new_engine, begun, applying, Fits, slot_blocks, slot_place, slot_block, layout_of, report, item_of, engine_next, control_next, action_next};
+    ghost use Rattle.thy_boot.specs.Loads.{Takes};
+    ghost use Rattle.thy_engine.specs.declared.stage.EngineStage.TheVariants.{Body as BodyFrom, Tail as TailFrom};
+    ghost use Rattle.thy_engine.specs.Progress.{RoundItem, is_under_way, is_applying, item, report_in, next_after, control_after};
+    ghost use Rattle.thy_engine.specs.Progress.{new_engine, begun, applying, Fits, slot_blocks, slot_place, slot_block, slot_round, layout_of, report, item_of, engine_next, control_next, action_next};
+    ghost use Rattle.thy_protocol.specs.Round.{IsInRound, round_action};
     ghost use Rattle.thy_engine.specs.Progress.{Ends, ReleaseItem};
     ghost use Rattle.thy_engine.specs.Items.{Made};
     ghost use Rattle.thy_view.specs.Action.{after, FailsTo};
@@ -108,12 +98,7 @@ impl Engine {
     {
         match self.stage {
             EngineStage::Idle => false,
-            EngineStage::Body(_)
-            | EngineStage::Slot(_)
-            | EngineStage::Settle
-            | EngineStage::Commit
-            | EngineStage::Confirm
-            | EngineStage::Tail(_) => true,
+            EngineStage::Body(_) | EngineStage::InRound(_) | EngineStage::Tail(_) => true,
         }
     }
 
@@ -123,12 +108,7 @@ impl Engine {
     {
         match self.stage {
             EngineStage::Tail(_) => true,
-            EngineStage::Idle
-            | EngineStage::Body(_)
-            | EngineStage::Slot(_)
-            | EngineStage::Settle
-            | EngineStage::Commit
-            | EngineStage::Confirm => false,
+            EngineStage::Idle | EngineStage::Body(_) | EngineStage::InRound(_) => false,
         }
     }
 
@@ -181,10 +161,7 @@ impl Engine {
                 stage: EngineStage::Idle,
             }),
             EngineStage::Body(from) => self.write_body::<E, N>(from, control, nvm),
-            EngineStage::Slot(k) => self.write_slot::<E, N>(k, control, nvm),
-            EngineStage::Settle => self.settle::<E, N>(control, nvm),
-            EngineStage::Commit => self.write_commit::<E, N>(control, nvm),
-            EngineStage::Confirm => self.confirm::<E, N>(control, nvm),
+            EngineStage::InRound(round) => self.take_round::<E, N>(round, control, nvm),
             EngineStage::Tail(from) => self.write_tail::<E, N>(from, control, nvm),
         }
     }
@@ -212,30 +189,92 @@ impl Engine {
                     stage: EngineStage::Body(k + 1),
                 })
             }
-            None => self.write_slot::<E, N>(0, control, nvm),
+            None => self.take_round::<E, N>(Round::Write(0), control, nvm),
         }
     }
 
-    /// Writes block `k` of the slot.
-    fn write_slot<E: Checkpoints, N: Nvm>(
+    /// Takes an action of the round. With the last barrier the controller commits.
+    fn take_round<E: Checkpoints, N: Nvm>(
         &self,
-        k: u64,
-        control: &E::Control,
+        round: Round,
+        control: &mut E::Control,
         nvm: &mut N,
     ) -> Result<Done, NvmError>
-        requires block { k < slot_blocks E.filling self.now }
+        requires inside { IsInRound (slot_blocks E.filling self.now) round }
+        requires same_p { E.filling.p control.old ≡ self.now.p }
+        requires made { E.items.stands Made control.old }
+        requires sized { length (N.device nvm.old).image ≡ (layout_of E.filling self.now).image_blocks }
+        requires up { (N.device nvm.old).down ≡ false }
+        ensures { Ends E.filling E.items (RoundItem round) self.now control.old (N.device nvm.old) result control.new (N.device nvm.new) }
+    {
+        self.write_round::<E, N>(round, control, nvm)?;
+        self.commit_in::<E>(round, control);
+        Ok(Done {
+            step: self.step_in(round),
+            stage: self.after_round::<E>(round),
+        })
+    }
+
+    /// Writes a block of the slot, or the commit block, or makes a barrier.
+    fn write_round<E: Checkpoints, N: Nvm>(
+        &self,
+        round: Round,
+        control: &E::Control,
+        nvm: &mut N,
+    ) -> Result<(), NvmError>
+        requires inside { IsInRound (slot_blocks E.filling self.now) round }
         requires same_p { E.filling.p control.now ≡ self.now.p }
         requires made { E.items.stands Made control.now }
         requires sized { length (N.device nvm.old).image ≡ (layout_of E.filling self.now).image_blocks }
         requires up { (N.device nvm.old).down ≡ false }
-        ensures { Ends E.filling E.items (SlotItem k) self.now control.now (N.device nvm.old) result control.now (N.device nvm.new) }
+        ensures { let w = slot_round E.filling E.items self.now control.now in
+            Takes (round_action w round) result (N.device nvm.old) (N.device nvm.new) }
     {
-        let at = self.slot_at::<E>(k);
-        nvm.write(at, &self.slot_block::<E>(k, control))?;
-        Ok(Done {
-            step: slot_step(&self.geometry, k),
-            stage: self.after_slot::<E>(k),
-        })
+        match round {
+            Round::Write(k) => {
+                let at = self.slot_at::<E>(k);
+                nvm.write(at, &self.slot_block::<E>(k, control))
+            }
+            Round::Settle | Round::Confirm => nvm.barrier(),
+            Round::Commit => nvm.write(COMMIT_PLACE, &commit_block(self.epoch)),
+        }
+    }
+
+    /// The controller commits with the last barrier.
+    fn commit_in<E: Checkpoints>(&self, round: Round, control: &mut E::Control)
+        requires { E.items.stands Made control.old }
+        ensures { control.new ≡ control_after E.items (RoundItem round) control.old }
+    {
+        match round {
+            Round::Write(_) | Round::Settle | Round::Commit => {}
+            Round::Confirm => E::commit(control),
+        }
+    }
+
+    /// What the engine reports of an action of the round.
+    fn step_in(&self, round: Round) -> EngineStep
+        ensures { result ≡ report_in self.now round }
+    {
+        match round {
+            Round::Write(k) if k < self.geometry.record_blocks() => EngineStep::StateBlock,
+            Round::Write(_) => EngineStep::TableBlock,
+            Round::Settle => EngineStep::Barrier,
+            Round::Commit => EngineStep::CommitWritten,
+            Round::Confirm => EngineStep::Committed(self.epoch),
+        }
+    }
+
+    /// The stage after it.
+    fn after_round<E: Checkpoints>(&self, round: Round) -> EngineStage
+        requires { IsInRound (slot_blocks E.filling self.now) round }
+        ensures { result ≡ next_after E.filling E.items self.now (RoundItem round) }
+    {
+        let blocks = E::Images::slot_blocks(&self.geometry, &commit_block(self.epoch));
+        match round.next(blocks) {
+            Some(next) => EngineStage::InRound(next),
+            None if E::has_tail() => EngineStage::Tail(0),
+            None => EngineStage::Idle,
+        }
     }
 
     /// The place of block `k` of the slot.
@@ -260,74 +299,6 @@ impl Engine {
         } else {
             E::rest(control, self.epoch, k - record)
         }
-    }
-
-    /// The stage after block `k` of the slot.
-    fn after_slot<E: Checkpoints>(&self, k: u64) -> EngineStage
-        requires { k < slot_blocks E.filling self.now }
-        ensures { result ≡ after_slot E.filling self.now k }
-    {
-        let blocks = E::Images::slot_blocks(&self.geometry, &commit_block(self.epoch));
-        if k + 1 < blocks {
-            EngineStage::Slot(k + 1)
-        } else {
-            EngineStage::Settle
-        }
-    }
-
-    /// The barrier after all writes that come before the commit block's.
-    fn settle<E: Checkpoints, N: Nvm>(
-        &self,
-        control: &E::Control,
-        nvm: &mut N,
-    ) -> Result<Done, NvmError>
-        requires up { (N.device nvm.old).down ≡ false }
-        ensures { Ends E.filling E.items SettleItem self.now control.now (N.device nvm.old) result control.now (N.device nvm.new) }
-    {
-        nvm.barrier()?;
-        Ok(Done {
-            step: EngineStep::Barrier,
-            stage: EngineStage::Commit,
-        })
-    }
-
-    /// Writes the commit block.
-    fn write_commit<E: Checkpoints, N: Nvm>(
-        &self,
-        control: &E::Control,
-        nvm: &mut N,
-    ) -> Result<Done, NvmError>
-        requires place { commit_place < length (N.device nvm.old).image }
-        requires up { (N.device nvm.old).down ≡ false }
-        ensures { Ends E.filling E.items CommitItem self.now control.now (N.device nvm.old) result control.now (N.device nvm.new) }
-    {
-        nvm.write(COMMIT_PLACE, &commit_block(self.epoch))?;
-        Ok(Done {
-            step: EngineStep::CommitWritten,
-            stage: EngineStage::Confirm,
-        })
-    }
-
-    /// The barrier after the commit block, with which the controller commits.
-    fn confirm<E: Checkpoints, N: Nvm>(
-        &self,
-        control: &mut E::Control,
-        nvm: &mut N,
-    ) -> Result<Done, NvmError>
-        requires made { E.items.stands Made control.old }
-        requires up { (N.device nvm.old).down ≡ false }
-        ensures { Ends E.filling E.items ConfirmItem self.now control.old (N.device nvm.old) result control.new (N.device nvm.new) }
-    {
-        nvm.barrier()?;
-        E::commit(control);
-        Ok(Done {
-            step: EngineStep::Committed(self.epoch),
-            stage: if E::has_tail() {
-                EngineStage::Tail(0)
-            } else {
-                EngineStage::Idle
-            },
-        })
     }
 
     /// Writes the first position of the tail from one on; if there is none, the barrier after the tail.

@@ -1,4 +1,5 @@
 //! The stage of a checkpoint.
+use thy_protocol::Round;
 
 /// What the engine looks for next.
 #[derive(Clone, Copy, Debug, PartialEq, Eq)]
@@ -7,14 +8,8 @@ pub enum EngineStage {
     Idle,
     /// The first position from this one on that the body writes; if there is none, the slot's first block.
     Body(u64),
-    /// Block `k` of the slot: first the processor's record, and then what the scheme has behind it.
-    Slot(u64),
-    /// The barrier after all of these.
-    Settle,
-    /// The commit block.
-    Commit,
-    /// The barrier after the commit block.
-    Confirm,
+    /// This of the round that writes the slot, first the processor's record, and then what the scheme has behind it.
+    InRound(Round),
     /// The first position from this one on that the tail writes; if there is none, the barrier after these.
     Tail(u64),
 }

@@ -6,7 +6,7 @@ use Rattle.thy_base.specs.declared.nvm.NvmError.{NvmError}
 use Rattle.thy_base.specs.Device.{Device, block_at, zero_block}
 use Rattle.thy_base.specs.Geometry.{memory_blocks}
 use Rattle.thy_engine.specs.declared.stage.EngineStage.{EngineStage}
-use Rattle.thy_engine.specs.declared.stage.EngineStage.TheVariants.{Idle, Body, Slot, Settle, Commit, Confirm, Tail}
+use Rattle.thy_engine.specs.declared.stage.EngineStage.TheVariants.{Idle, Body, InRound, Tail}
 use Rattle.thy_engine.specs.Progress.{phase_of, is_applying}
 use Rattle.thy_log.specs.Holding.{works, homes}
 use Rattle.thy_log.specs.State.{State, home_of, work_of}
@@ -25,10 +25,7 @@ home_at s n b low = get_or-map-range_with_len (home_of s n) 0 (memory_blocks s.p
 committed_is : (q : EngineStage) (s : State) (n : Device) → committed_at (phase_of q) s n ≡ (if is_applying q then works s n else homes s n)
 committed_is Idle s n = refl
 committed_is (Body from) s n = refl
-committed_is (Slot k) s n = refl
-committed_is Settle s n = refl
-committed_is Commit s n = refl
-committed_is Confirm s n = refl
+committed_is (InRound r) s n = refl
 committed_is (Tail from) s n = refl
 
 -- and by whether it is applied

@@ -16,12 +16,7 @@ fn is_applied(stage: EngineStage) -> bool
 {
     match stage {
         EngineStage::Tail(_) => true,
-        EngineStage::Idle
-        | EngineStage::Body(_)
-        | EngineStage::Slot(_)
-        | EngineStage::Settle
-        | EngineStage::Commit
-        | EngineStage::Confirm => false,
+        EngineStage::Idle | EngineStage::Body(_) | EngineStage::InRound(_) => false,
     }
 }
 

@@ -14,14 +14,16 @@ use Rattle.thy_boot.specs.declared.stage.Stage.{Stage}
 use Rattle.thy_boot.specs.declared.stage.Stage.TheVariants.{Reads, Loads, Migrates, Over}
 use Rattle.thy_boot.specs.Boot.{Booting, new_boot}
 use Rattle.thy_boot.specs.Filling.{first_by}
-use Rattle.thy_boot.specs.Loads.{issue_action}
-use Rattle.thy_boot.specs.Migrating.{migration_action}
+use Rattle.thy_boot.specs.Loads.{first_writes}
+use Rattle.thy_boot.specs.Migrating.{renewing}
+use Rattle.thy_protocol.specs.declared.round.Round.TheVariants.{Write, Settle, Commit, Confirm}
+use Rattle.thy_protocol.specs.Round.{round_action}
 use Rattle.thy_boot.specs.Start.{CanStart}
 use Rattle.thy_boot.specs.Steps.{Steps, StepsAt}
 use Rattle.thy_boot.proofs.ReadLemmas.{HasRead-new}
 use Rattle.thy_journal_image.specs.Places.{slot_blocks, image_blocks}
 use Rattle.thy_log.specs.declared.entry.Listed.{Listed}
-use Rattle.thy_engine.specs.Progress.{Progress, Fits, Item, NoItem, BodyItem, SlotItem, SettleItem, CommitItem, ConfirmItem, TailItem, ReleaseItem, control_after, control_next, action_next, item_of}
+use Rattle.thy_engine.specs.Progress.{Progress, Fits, Item, NoItem, BodyItem, RoundItem, TailItem, ReleaseItem, control_after, control_next, action_next, item_of}
 use Rattle.thy_journal_laws.specs.Design.{items_journal}
 use Rattle.thy_base.specs.Geometry.{memory_blocks}
 use Rattle.thy_log.specs.State.{State, IsSoundState, new_state}
@@ -39,8 +41,8 @@ pub down-step : (s : Plain) (n : Device) (b : Booting) (c : State) (m : Device) 
 down-step s n b c m d e steps = by_stage b.stage steps where
   by_stage : (q : Stage) → StepsAt filling_journal q s n b c m d e → m.down ≡ n.down
   by_stage (Reads r) on = ap (λ (x : Device). x.down) on.device
-  by_stage (Loads issue) on = ap (λ (x : Device). x.down) on.device ∙ down-after (issue_action (first_by filling_journal b.p s) issue) n
-  by_stage (Migrates at) on = ap (λ (x : Device). x.down) on.device ∙ down-after (migration_action filling_journal b at) n
+  by_stage (Loads r) on = ap (λ (x : Device). x.down) on.device ∙ down-after (round_action (first_writes (first_by filling_journal b.p s)) r) n
+  by_stage (Migrates r) on = ap (λ (x : Device). x.down) on.device ∙ down-after (round_action (renewing filling_journal b) r) n
   by_stage (Over end) on = absurd on
 
 pub same-step : (s : Plain) (n : Device) (b : Booting) (c : State) (m : Device) (d : Booting) (e : State)
@@ -48,8 +50,8 @@ pub same-step : (s : Plain) (n : Device) (b : Booting) (c : State) (m : Device) 
 same-step s n b c m d e same steps = by_stage b.stage steps where
   by_stage : (q : Stage) → StepsAt filling_journal q s n b c m d e → e.p ≡ c.p
   by_stage (Reads r) on = on.read.same_p ∙ on.same_p ∙ sym same
-  by_stage (Loads issue) on = ap (λ (x : State). x.p) on.control
-  by_stage (Migrates at) on = ap (λ (x : State). x.p) on.control
+  by_stage (Loads r) on = ap (λ (x : State). x.p) on.control
+  by_stage (Migrates r) on = ap (λ (x : State). x.p) on.control
   by_stage (Over end) on = absurd on
 
 -- ---- where it begins
@@ -80,7 +82,7 @@ pub AreParts-begun : (p : Parameters) (s : State) (e : Progress) (n : Device) (c
     → length n.image ≡ image_blocks p → n.down ≡ false → HasRoom n cuts → AreParts (parts p s e n cuts)
 AreParts-begun p s e n cuts log sound begun blocks sized up room = record {
   log_p = log;
-  fits = record { same_p = log ∙ sym begun.same_p; inside = λ k is. absurd (begun.no_slot k is); stands = sound };
+  fits = record { same_p = log ∙ sym begun.same_p; inside = λ r is. absurd (begun.no_round r is); stands = sound };
   blocks = blocks;
   sized = sized;
   up = up;
@@ -107,10 +109,10 @@ AreParts-on p s t e m n cuts w log sound down frame = record {
 same-item : (i : Item) (s : State) → (control_after items_journal i s).p ≡ s.p
 same-item NoItem s = refl
 same-item (BodyItem k) s = refl
-same-item (SlotItem k) s = refl
-same-item SettleItem s = refl
-same-item CommitItem s = refl
-same-item ConfirmItem s = refl
+same-item (RoundItem (Write k)) s = refl
+same-item (RoundItem Settle) s = refl
+same-item (RoundItem Commit) s = refl
+same-item (RoundItem Confirm) s = refl
 same-item (TailItem k) s = refl
 same-item ReleaseItem s = refl
 

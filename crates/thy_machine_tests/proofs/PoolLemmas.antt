@@ -16,15 +16,17 @@ use Rattle.thy_boot.specs.declared.stage.Stage.{Stage}
 use Rattle.thy_boot.specs.declared.stage.Stage.TheVariants.{Reads, Loads, Migrates, Over}
 use Rattle.thy_boot.specs.Boot.{Booting, new_boot}
 use Rattle.thy_boot.specs.Filling.{first_by}
-use Rattle.thy_boot.specs.Loads.{issue_action}
-use Rattle.thy_boot.specs.Migrating.{migration_action}
+use Rattle.thy_boot.specs.Loads.{first_writes}
+use Rattle.thy_boot.specs.Migrating.{renewing}
+use Rattle.thy_protocol.specs.declared.round.Round.TheVariants.{Write, Settle, Commit, Confirm}
+use Rattle.thy_protocol.specs.Round.{round_action}
 use Rattle.thy_boot.specs.Start.{CanStart}
 use Rattle.thy_boot.specs.Steps.{Steps, StepsAt}
 use Rattle.thy_boot.proofs.ReadLemmas.{HasRead-new}
 use Rattle.thy_shadow_image.specs.Places.{slot_blocks, image_blocks}
 use Rattle.thy_engine.specs.declared.stage.EngineStage.{EngineStage}
-use Rattle.thy_engine.specs.declared.stage.EngineStage.TheVariants.{Idle, Body, Slot, Settle, Commit, Confirm, Tail}
-use Rattle.thy_engine.specs.Progress.{Progress, Fits, Item, NoItem, BodyItem, SlotItem, SettleItem, CommitItem, ConfirmItem, TailItem, ReleaseItem, new_engine, begun, is_under_way, phase_of, control_after, control_next, action_next, item_of}
+use Rattle.thy_engine.specs.declared.stage.EngineStage.TheVariants.{Idle, Body, InRound, Tail}
+use Rattle.thy_engine.specs.Progress.{Progress, Fits, Item, NoItem, BodyItem, RoundItem, TailItem, ReleaseItem, new_engine, begun, is_under_way, phase_of, control_after, control_next, action_next, item_of}
 use Rattle.thy_pool.specs.Commit.{sealed_state}
 use Rattle.thy_pool.specs.State.{State, IsSoundState}
 use Rattle.thy_pool.specs.Stores.{StoreCase, Into, Fill, Copy, store_case, after_case, after_store, after_drain, new_state}
@@ -45,8 +47,8 @@ pub down-step : (s : Plain) (n : Device) (b : Booting) (c : State) (m : Device) 
 down-step s n b c m d e steps = by_stage b.stage steps where
   by_stage : (q : Stage) → StepsAt filling_shadow q s n b c m d e → m.down ≡ n.down
   by_stage (Reads r) on = ap (λ (x : Device). x.down) on.device
-  by_stage (Loads issue) on = ap (λ (x : Device). x.down) on.device ∙ down-after (issue_action (first_by filling_shadow b.p s) issue) n
-  by_stage (Migrates at) on = ap (λ (x : Device). x.down) on.device ∙ down-after (migration_action filling_shadow b at) n
+  by_stage (Loads r) on = ap (λ (x : Device). x.down) on.device ∙ down-after (round_action (first_writes (first_by filling_shadow b.p s)) r) n
+  by_stage (Migrates r) on = ap (λ (x : Device). x.down) on.device ∙ down-after (round_action (renewing filling_shadow b) r) n
   by_stage (Over end) on = absurd on
 
 pub same-step : (s : Plain) (n : Device) (b : Booting) (c : State) (m : Device) (d : Booting) (e : State)
@@ -54,8 +56,8 @@ pub same-step : (s : Plain) (n : Device) (b : Booting) (c : State) (m : Device) 
 same-step s n b c m d e same steps = by_stage b.stage steps where
   by_stage : (q : Stage) → StepsAt filling_shadow q s n b c m d e → e.p ≡ c.p
   by_stage (Reads r) on = on.read.same_p ∙ on.same_p ∙ sym same
-  by_stage (Loads issue) on = ap (λ (x : State). x.p) on.control
-  by_stage (Migrates at) on = ap (λ (x : State). x.p) on.control
+  by_stage (Loads r) on = ap (λ (x : State). x.p) on.control
+  by_stage (Migrates r) on = ap (λ (x : State). x.p) on.control
   by_stage (Over end) on = absurd on
 
 -- ---- where it begins
@@ -89,7 +91,7 @@ pub AreParts-begun : (p : Parameters) (s : State) (e : Progress) (n : Device) (c
     → length n.image ≡ image_blocks p → n.down ≡ false → HasRoom n cuts → AreParts (parts p s e n cuts)
 AreParts-begun p s e n cuts pool sound begun blocks sized up room =
     subst (λ (x : Progress). AreParts (parts p s x n cuts)) (sym begun)
-    (record { pool_p = pool; fits = record { same_p = pool; inside = λ k is. cc; stands = sound }; blocks = blocks; sized = sized; up = up; room = room })
+    (record { pool_p = pool; fits = record { same_p = pool; inside = λ r is. cc; stands = sound }; blocks = blocks; sized = sized; up = up; room = room })
 
 -- and after calls that leave the geometry, and the NVM up, with an engine that belongs to the pool
 pub AreParts-on : (p : Parameters) (s t : State) (e f : Progress) (m n : Device) (cuts : ℕ) → AreParts (parts p s e m cuts)
@@ -116,10 +118,7 @@ same-store b block n s = same-case (store_case b s) b block n s
 idle_is : (q : EngineStage) → is_under_way q ≡ false → q ≡ Idle
 idle_is Idle none = refl
 idle_is (Body from) none = cc
-idle_is (Slot k) none = cc
-idle_is Settle none = cc
-idle_is Commit none = cc
-idle_is Confirm none = cc
+idle_is (InRound r) none = cc
 idle_is (Tail from) none = cc
 
 fits_idle : (e : Progress) (s : State) → s.p ≡ e.p → IsSoundState s → is_under_way e.stage ≡ false → Fits filling_shadow items_shadow e s
@@ -127,7 +126,7 @@ fits_idle e s same sound idle =
     let is : e.stage ≡ Idle = idle_is e.stage idle in
     record {
       same_p = same;
-      inside = λ k at. let both : Idle ≡ Slot k = sym is ∙ at in absurd cc;
+      inside = λ r at. let both : Idle ≡ InRound r = sym is ∙ at in absurd cc;
       stands = subst (λ (q : EngineStage). stands_at (phase_of q) s) (sym is) sound;
     }
 
@@ -148,7 +147,7 @@ AreParts-sealed p s t e f n cuts epoch cpu w pool engine sound =
       pool_p = w.pool_p;
       fits = record {
         same_p = w.fits.same_p;
-        inside = λ k is. cc;
+        inside = λ r is. cc;
         stands = record { sound = subst (λ (x : State). IsSoundState x) pool sound; unbegun = refl };
       };
       blocks = w.blocks;
@@ -174,10 +173,10 @@ AreParts-drained p s t e n cuts w pool =
 same-item : (i : Item) (s : State) → (control_after items_shadow i s).p ≡ s.p
 same-item NoItem s = refl
 same-item (BodyItem k) s = refl
-same-item (SlotItem k) s = refl
-same-item SettleItem s = refl
-same-item CommitItem s = refl
-same-item ConfirmItem s = refl
+same-item (RoundItem (Write k)) s = refl
+same-item (RoundItem Settle) s = refl
+same-item (RoundItem Commit) s = refl
+same-item (RoundItem Confirm) s = refl
 same-item (TailItem k) s = refl
 same-item ReleaseItem s = refl
 

@@ -9,7 +9,8 @@ use Rattle.thy_boot.specs.Boot.{Booting, IsBoot}
 use Rattle.thy_boot.specs.Start.{CanStart}
 use Rattle.thy_boot.specs.Steps.{CanStep}
 use Rattle.thy_journal_image.specs.Places.{image_blocks}
-use Rattle.thy_engine.specs.declared.stage.EngineStage.TheVariants.{Slot}
+use Rattle.thy_protocol.specs.declared.round.Round.{Round}
+use Rattle.thy_engine.specs.declared.stage.EngineStage.TheVariants.{InRound}
 use Rattle.thy_engine.specs.Progress.{Progress, Fits}
 use Rattle.thy_journal_laws.specs.Design.{items_journal}
 use Rattle.thy_log.specs.State.{State}
@@ -36,7 +37,7 @@ pub record Boots (s : Plain) (n : Device) (b : Booting) (c : State) : Type 0 whe
 -- an engine with nothing to do, or with the first position of its tail
 pub record IsBegun (p : Parameters) (e : Progress) : Type 0 where
   pub same_p : e.p ≡ p
-  pub no_slot : (k : ℕ) → e.stage ≡ Slot k → ⊥
+  pub no_round : (r : Round) → e.stage ≡ InRound r → ⊥
 
 -- after the boot: log, engine and NVM
 pub record Parts : Type 0 where

@@ -10,7 +10,7 @@ use Rattle.thy_scheme.specs.CheckpointMarks.{CheckpointMarks}
 use Rattle.thy_scheme.specs.Scheme.{Stands}
 use Rattle.thy_scheme.specs.Calls.{Keeps, Drains, Merges, Promotes}
 use Rattle.thy_engine.specs.declared.stage.EngineStage.{EngineStage}
-use Rattle.thy_engine.specs.declared.stage.EngineStage.TheVariants.{Idle, Body, Slot, Settle, Commit, Confirm, Tail}
+use Rattle.thy_engine.specs.declared.stage.EngineStage.TheVariants.{Idle, Body, InRound, Tail}
 use Rattle.thy_engine.specs.Cycles.{left_at}
 use Rattle.thy_engine.specs.Items.{ItemsOf, Resting}
 use Rattle.thy_engine.specs.Progress.{Progress, phase_of, is_under_way}
@@ -31,10 +31,7 @@ pub left_less : {C : Type 0} (F : FillingOf C) (I : ItemsOf C) (e : Progress) (q
     → ((from : ℕ) → I.body_left d from ≤ I.body_left c from) → left_at F I e q d ≤ left_at F I e q c
 left_less F I e Idle c d less = omega arith
 left_less F I e (Body from) c d less = let body = less from in omega (arith, body)
-left_less F I e (Slot k) c d less = omega arith
-left_less F I e Settle c d less = omega arith
-left_less F I e Commit c d less = omega arith
-left_less F I e Confirm c d less = omega arith
+left_less F I e (InRound r) c d less = omega arith
 left_less F I e (Tail from) c d less = omega arith
 
 -- the queue has one write more at most

@@ -1,5 +1,5 @@
 -- The end of a boot: the checkpoint that it found or made is the committed one.
-use Rattle.std.proofs.Common.{◌≡◌, ◌≢◌, ℕ, Bool, true, false, if◌then◌else◌, List, [], length, Some, None, refl, sym, ◌∙◌, ap, subst}
+use Rattle.std.proofs.Common.{◌≡◌, ◌≢◌, Bool, true, false, if◌then◌else◌, List, [], length, Some, None, refl, sym, ◌∙◌, ap, subst}
 use Rattle.thy_base.specs.declared.block.Block.{Block}
 use Rattle.thy_base.specs.declared.config.Parameters.{Parameters}
 use Rattle.thy_base.specs.declared.mark.Mark.{Mark}
@@ -22,7 +22,8 @@ use Rattle.thy_boot.proofs.LoadedLemmas.{loaded-state, loaded-header}
 use Rattle.thy_boot.proofs.StartLemmas.{CanStart-origin}
 use Rattle.thy_scheme.specs.CheckpointMarks.{only}
 use Rattle.thy_engine.specs.declared.stage.EngineStage.{EngineStage}
-use Rattle.thy_engine.specs.declared.stage.EngineStage.TheVariants.{Idle, Slot, Tail}
+use Rattle.thy_engine.specs.declared.stage.EngineStage.TheVariants.{Idle, InRound, Tail}
+use Rattle.thy_protocol.specs.declared.round.Round.{Round}
 use Rattle.thy_engine.specs.Items.{Resting, Applying, phase_committed}
 use Rattle.thy_engine.specs.Progress.{phase_of, applying, is_under_way}
 use Rattle.thy_parts.specs.Checkpoints.{Checkpoints, is_sealing, is_confirming, saved_at, HasWrittenBefore}
@@ -53,14 +54,14 @@ module _ {C : Type 0} (D : DesignOf C) (o : Origin) (m : Mark) (before : List Bl
   At q = record s { control = c; engine = record s.engine { stage = q }; boot = b }
 
   ends_at : (q : EngineStage) → EndsBoot D (phase_of q) c n before → is_sealing q ≡ false → is_confirming q ≡ false
-      → saved_at q (images_of before m) ≡ Kept before → ((k : ℕ) → q ≢ Slot k) → HasWrittenBefore D q s.engine c n → IsSound D o (only m) (At q) n
+      → saved_at q (images_of before m) ≡ Kept before → ((r : Round) → q ≢ InRound r) → HasWrittenBefore D q s.engine c n → IsSound D o (only m) (At q) n
   ends_at q ends sealing confirming saved no_slot written = record {
     held = record {
       geometry = unsealed.control;
       moment = ends.moment s.engine.epoch;
       fits = record {
         same_p = unsealed.control ∙ sym unsealed.engine;
-        inside = λ k is. absurd (no_slot k is);
+        inside = λ r is. absurd (no_slot r is);
         stands = (ends.moment s.engine.epoch).stands;
       };
       regs = unsealed.regs;
@@ -89,10 +90,10 @@ module _ {C : Type 0} (D : DesignOf C) (o : Origin) (m : Mark) (before : List Bl
 
   pub ends_idle : EndsBoot D Resting c n before → IsSound D o (only m) (record s { control = c; boot = b }) n
   ends_idle ends =
-      subst (λ (q : EngineStage). IsSound D o (only m) (At q) n) (sym nothing) (ends_at Idle ends refl refl refl (λ k is. cc) tt)
+      subst (λ (q : EngineStage). IsSound D o (only m) (At q) n) (sym nothing) (ends_at Idle ends refl refl refl (λ r is. cc) tt)
 
   pub ends_tail : EndsBoot D (Applying 0) c n before → IsSound D o (only m) (record s { control = c; engine = applying s.engine; boot = b }) n
-  ends_tail ends = ends_at (Tail 0) ends refl refl refl (λ k is. cc) tt
+  ends_tail ends = ends_at (Tail 0) ends refl refl refl (λ r is. cc) tt
 
 -- ---- a checkpoint was restored: what follows its commit is to be written
 

@@ -13,23 +13,27 @@ use Rattle.thy_layout.specs.Layout.{Layout, header_bad, looked_by, reading}
 use Rattle.thy_view.specs.Origin.{Origin}
 use Rattle.thy_view.specs.Safe.{Safe}
 use Rattle.thy_protocol.specs.Moves.{IsKeeping, Goes}
+use Rattle.thy_protocol.specs.declared.round.Round.{Round}
+use Rattle.thy_protocol.specs.declared.round.Round.TheVariants.{Write, Settle, Commit, Confirm}
+use Rattle.thy_protocol.specs.Round.{IsInRound}
 use Rattle.thy_protocol.proofs.KeepsLemmas.{IsKeeping-move}
+use Rattle.thy_protocol.proofs.RoundLemmas.{issued_over}
 use Rattle.thy_boot.specs.Filling.{layout_at}
 use Rattle.thy_scheme.specs.CheckpointMarks.{CheckpointMarks, doubt_in}
 use Rattle.thy_scheme.specs.Scheme.{Stands}
 use Rattle.thy_scheme.specs.Laws.{IsBounded, RunHolds}
 use Rattle.thy_boot_laws.specs.Schemes.{HeldIsUp, ReadyIsUp, RunIsSound, StaysKeep, StaysOver as StaysOverCalls}
 use Rattle.thy_engine.specs.declared.stage.EngineStage.{EngineStage}
-use Rattle.thy_engine.specs.declared.stage.EngineStage.TheVariants.{Idle, Body, Slot, Settle, Commit, Confirm, Tail}
+use Rattle.thy_engine.specs.declared.stage.EngineStage.TheVariants.{Idle, Body, InRound, Tail}
 use Rattle.thy_engine.specs.Cycles.{cycles_left, most_cycles}
 use Rattle.thy_engine.specs.Items.{Resting, Made}
-use Rattle.thy_engine.specs.Progress.{Progress, phase_of, slot_blocks, Fits, is_under_way, is_applying}
+use Rattle.thy_engine.specs.Progress.{Progress, phase_of, layout_of, slot_blocks, Fits, is_under_way, is_applying}
 use Rattle.thy_engine.proofs.ItemLemmas.{cycles_are_few}
 use Rattle.thy_parts.specs.AreParts.{AreParts}
 use Rattle.thy_parts.specs.Boots.{IsOf}
 use Rattle.thy_parts.specs.Checkpoints.{Checkpoints, is_sealing, is_settled, is_confirming, saved_at, standing_at, HasWrittenSlot, HasWrittenBefore}
 use Rattle.thy_parts.specs.Design.{DesignOf, Composed}
-use Rattle.thy_parts.specs.Moments.{IsMoment, MakesAt}
+use Rattle.thy_parts.specs.Moments.{IsMoment, MakesAt, parts_at}
 use Rattle.thy_parts.specs.Scheme.{scheme_of}
 use Rattle.thy_parts.specs.Sound.{layout_for, IsHeld, HasState, HasCheckpoints, IsSound}
 use Rattle.thy_parts.specs.Stays.{RestsOn, Stays}
@@ -48,19 +52,13 @@ use Rattle.thy_parts.proofs.SoundLemmas.{can}
 way_of : (q : EngineStage) → is_under_way q ≡ (is_sealing q || is_applying q)
 way_of Idle = refl
 way_of (Body from) = refl
-way_of (Slot k) = refl
-way_of Settle = refl
-way_of Commit = refl
-way_of Confirm = refl
+way_of (InRound r) = refl
 way_of (Tail from) = refl
 
 not_sealing : (q : EngineStage) → is_applying q ≡ true → is_sealing q ≡ false
 not_sealing Idle h = cc
 not_sealing (Body from) h = cc
-not_sealing (Slot k) h = cc
-not_sealing Settle h = cc
-not_sealing Commit h = cc
-not_sealing Confirm h = cc
+not_sealing (InRound r) h = cc
 not_sealing (Tail from) h = refl
 
 none_of : (x : Option Mark) → is_some x ≡ false → x ≡ None
@@ -88,10 +86,7 @@ sealed_at : {C : Type 0} (D : DesignOf C) (c : C) (n : Device) (d : C) (m : Devi
     → SealedStays D (phase_of q) c n d m → D.parts.sealed d m ≡ D.parts.sealed c n
 sealed_at D c n d m Idle way stays = cc
 sealed_at D c n d m (Body from) way stays = stays
-sealed_at D c n d m (Slot k) way stays = stays
-sealed_at D c n d m Settle way stays = stays
-sealed_at D c n d m Commit way stays = stays
-sealed_at D c n d m Confirm way stays = stays
+sealed_at D c n d m (InRound r) way stays = stays
 sealed_at D c n d m (Tail from) way stays = cc
 
 -- places that are spared of two lists are spared of both
@@ -225,10 +220,7 @@ module _ {C : Type 0} (D : DesignOf C) (w : AreParts D) where
     makes_at : (q : EngineStage) → is_settled q ≡ true → D.parts.makes s.engine.epoch s.control g.next → MakesAt D (phase_of q) s.engine.epoch s.control g.next
     makes_at Idle settled made = cc
     makes_at (Body from) settled made = cc
-    makes_at (Slot j) settled made = cc
-    makes_at Settle settled made = cc
-    makes_at Commit settled made = made
-    makes_at Confirm settled made = made
+    makes_at (InRound r) settled made = made
     makes_at (Tail from) settled made = cc
 
     spares_made : is_sealing s.engine.stage ≡ true → is_settled s.engine.stage ≡ true → Spares (1 ∷ looked_by l g.next) n m
@@ -239,10 +231,10 @@ module _ {C : Type 0} (D : DesignOf C) (w : AreParts D) where
     spares_by : (q : EngineStage) → s.engine.stage ≡ q → Spares (guarded (looked_by l) (saved_at q g)) n m
     spares_by Idle is = spares_kept
     spares_by (Body from) is = spares_kept
-    spares_by (Slot j) is = spares_kept
-    spares_by Settle is = spares_kept
-    spares_by Commit is = spares_both (looked_by l g.before) (looked_by l g.next) n m spares_kept (spares_made (ap is_sealing is) (ap is_settled is))
-    spares_by Confirm is = spares_both (looked_by l g.before) (looked_by l g.next) n m spares_kept (spares_made (ap is_sealing is) (ap is_settled is))
+    spares_by (InRound (Write j)) is = spares_kept
+    spares_by (InRound Settle) is = spares_kept
+    spares_by (InRound Commit) is = spares_both (looked_by l g.before) (looked_by l g.next) n m spares_kept (spares_made (ap is_sealing is) (ap is_settled is))
+    spares_by (InRound Confirm) is = spares_both (looked_by l g.before) (looked_by l g.next) n m spares_kept (spares_made (ap is_sealing is) (ap is_settled is))
     spares_by (Tail from) is = spares_kept
 
     keeping_then : IsKeeping o l (standing_at s.engine.stage m g)
@@ -278,17 +270,14 @@ module _ {C : Type 0} (D : DesignOf C) (w : AreParts D) where
           (slot.reads i (subst (λ (p : Parameters). i < (layout_at D.filling p).slot_blocks (commit_of s.engine.epoch)) (sym old.same_p) l)))
           few written
 
-      written_then : (q : EngineStage) → s.engine.stage ≡ q → ((j : ℕ) → q ≡ Slot j → j < slot_blocks D.filling s.engine)
+      written_then : (q : EngineStage) → s.engine.stage ≡ q → ((r : Round) → q ≡ InRound r → IsInRound (slot_blocks D.filling s.engine) r)
           → HasWrittenBefore D q s.engine s.control n → HasWrittenBefore D q s.engine t.control m
       written_then Idle is inside b = tt
       written_then (Body from) is inside b = tt
-      written_then (Slot j) is inside b = slot_then (Slot j) is refl refl j (let below = inside j refl in omega (arith, below)) b
-      written_then Settle is inside b = slot_then Settle is refl refl (slot_blocks D.filling s.engine) (omega arith) b
-      written_then Commit is inside b = slot_then Commit is refl refl (slot_blocks D.filling s.engine) (omega arith) b
-      written_then Confirm is inside b = (
-        slot_then Confirm is refl refl (slot_blocks D.filling s.engine) (omega arith) b.0,
-        record { inside = let low = b.1.inside in omega (arith, low, as_long); newest_is = up.commit ∙ b.1.newest_is },
-      )
+      written_then (InRound r) is inside b =
+          issued_over (layout_of D.filling s.engine).image_blocks (parts_at D s.engine s.control) (parts_at D s.engine t.control) (commit_of s.engine.epoch) r n m
+          (D.parts.sealed s.control n) (D.parts.sealed t.control m) refl (inside r refl) (λ j few h. slot_then (InRound r) is refl refl j few h)
+          (λ read. record { inside = let low = read.inside in omega (arith, low, as_long); newest_is = up.commit ∙ read.newest_is }) b
       written_then (Tail from) is inside b = tt
 
       fits_then : Fits D.filling D.items s.engine t.control

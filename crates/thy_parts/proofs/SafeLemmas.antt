@@ -1,13 +1,14 @@
 -- Whatever a cut leaves is safe, also of an item that failed; and what holds stays over calls between the engine's.
-use Rattle.std.proofs.Common.{◌≡◌, ◌⊎◌, ℕ, ◌<◌, nat_lt, Bool, true, false, if◌then◌else◌, List, ◌∷◌, length, Contains, Option, Some, None, refl, sym, ◌∙◌, ap, subst, inl, inr, arith}
+use Rattle.std.proofs.Common.{◌≡◌, ◌⊎◌, ℕ, nat_lt, Bool, true, false, if◌then◌else◌, List, ◌∷◌, length, Option, Some, None, refl, sym, ◌∙◌, ap, subst, inl, inr, arith}
 use Rattle.thy_base.specs.declared.block.Block.{Block}
 use Rattle.thy_base.specs.declared.mark.Mark.{Mark}
-use Rattle.thy_base.specs.Device.{Device, block_at, newest, IsFramed, HasFailedToWrite, HoldsNoMore}
+use Rattle.thy_base.specs.Device.{Device, newest, IsFramed, HoldsNoMore}
 use Rattle.thy_base.specs.Places.{record_blocks}
 use Rattle.thy_boot.specs.Filling.{FillingOf}
-use Rattle.thy_crash.specs.Saved.{Saved, Kept, Ready, InDoubt, guarded}
-use Rattle.thy_crash.proofs.SparesLemmas.{Spares-no_more, Spares-failed}
+use Rattle.thy_crash.specs.Saved.{Saved, Kept, guarded}
+use Rattle.thy_crash.proofs.SparesLemmas.{Spares-no_more}
 use Rattle.thy_isa.specs.OnBlocks.{state_from}
+use Rattle.thy_layout.specs.Commit.{commit_of}
 use Rattle.thy_layout.specs.declared.engine_step.EngineStep.{EngineStep}
 use Rattle.thy_layout.specs.declared.engine_step.EngineStep.TheVariants.{Copied, PageBlock, StateBlock, TableBlock}
 use Rattle.thy_layout.specs.Layout.{Layout, header_bad, looked_by, reading}
@@ -16,13 +17,15 @@ use Rattle.thy_view.specs.Origin.{Origin}
 use Rattle.thy_view.specs.Safe.{Safe}
 use Rattle.thy_protocol.specs.Issuing.{AreIssued}
 use Rattle.thy_protocol.specs.Keeps.{doubt_in as doubt_of_saved}
-use Rattle.thy_protocol.specs.Moves.{standing, IsKeeping, Goes, Commits as CommitMove, LeavesAlone}
+use Rattle.thy_protocol.specs.Moves.{standing, IsKeeping, Goes, LeavesAlone}
+use Rattle.thy_protocol.specs.declared.round.Round.TheVariants.{Write, Settle, Commit, Confirm}
 use Rattle.thy_protocol.proofs.KeepsLemmas.{IsKeeping-move, Safe-kept, Spares-failed_action}
+use Rattle.thy_protocol.proofs.RoundLemmas.{issued_over}
 use Rattle.thy_scheme.specs.CheckpointMarks.{CheckpointMarks, doubt_in, marks_after_fault}
 use Rattle.thy_engine.specs.declared.stage.EngineStage.{EngineStage}
-use Rattle.thy_engine.specs.declared.stage.EngineStage.TheVariants.{Idle, Body, Slot, Settle, Commit, Confirm, Tail}
+use Rattle.thy_engine.specs.declared.stage.EngineStage.TheVariants.{Idle, Body, InRound, Tail}
 use Rattle.thy_engine.specs.Items.{ItemsOf, Made}
-use Rattle.thy_engine.specs.Progress.{Progress, phase_of, slot_blocks, slot_place, layout_of, Fits, Item, SlotItem, SettleItem, body_or_slot, tail_or_release, item, action_of, report, is_under_way}
+use Rattle.thy_engine.specs.Progress.{Progress, phase_of, layout_of, Fits, Item, BodyItem, body_or_slot, tail_or_release, item, action_of, report, is_under_way}
 use Rattle.thy_parts.specs.Checkpoints.{Checkpoints, is_sealing, is_settled, is_confirming, saved_at, saved_failed, standing_at, HasWrittenSlot, HasWrittenBefore}
 use Rattle.thy_parts.specs.Design.{DesignOf, Composed}
 use Rattle.thy_parts.specs.IsDesign.{IsDesign}
@@ -31,7 +34,7 @@ use Rattle.thy_parts.specs.Moments.{IsMoment, MakesAt, Carries, ReadsSame, parts
 use Rattle.thy_parts.specs.Sound.{layout_for, IsHeld, HasState, HasCheckpoints, IsSound}
 use Rattle.thy_parts.proofs.CarryLemmas.{issued_same}
 use Rattle.thy_parts.proofs.SlotLemmas.{placed, slot_as}
-use Rattle.thy_parts.proofs.SoundLemmas.{can, moment_at, told_at, keeping_at, not_looked, some_slot, some_image, stays_made}
+use Rattle.thy_parts.proofs.SoundLemmas.{can, moment_at, told_at, not_looked, some_image, at_round, at_first, keeping_failed}
 
 -- ---- what a cut leaves
 
@@ -43,10 +46,10 @@ module _ (k : CheckpointMarks) (g : Checkpoints) (sealed : g.sealed ≡ k.sealed
   pub doubt_is : (q : EngineStage) → k.written ≡ is_confirming q → doubt_of_saved (saved_at q g) g.sealed ≡ doubt_in k
   doubt_is Idle written = none_by written
   doubt_is (Body from) written = none_by written
-  doubt_is (Slot j) written = none_by written
-  doubt_is Settle written = none_by written
-  doubt_is Commit written = none_by written
-  doubt_is Confirm written = sealed ∙ sym (ap (λ (b : Bool). if b then k.sealed else None) written)
+  doubt_is (InRound (Write j)) written = none_by written
+  doubt_is (InRound Settle) written = none_by written
+  doubt_is (InRound Commit) written = none_by written
+  doubt_is (InRound Confirm) written = sealed ∙ sym (ap (λ (b : Bool). if b then k.sealed else None) written)
   doubt_is (Tail from) written = none_by written
 
 module _ {C : Type 0} (D : DesignOf C) (o : Origin) where
@@ -70,10 +73,7 @@ pub makes_over : {C : Type 0} (D : DesignOf C) (epoch : ℕ) (c d : C) (g : List
     → (MakesAt D (phase_of q) epoch c g → MakesAt D (phase_of q) epoch d g) → D.parts.makes epoch c g → D.parts.makes epoch d g
 makes_over D epoch c d g Idle settled over made = cc
 makes_over D epoch c d g (Body from) settled over made = cc
-makes_over D epoch c d g (Slot j) settled over made = cc
-makes_over D epoch c d g Settle settled over made = cc
-makes_over D epoch c d g Commit settled over made = over made
-makes_over D epoch c d g Confirm settled over made = over made
+makes_over D epoch c d g (InRound r) settled over made = over made
 makes_over D epoch c d g (Tail from) settled over made = cc
 
 module _ {C : Type 0} (D : DesignOf C) (w : IsDesign D) (o : Origin) (k : CheckpointMarks) (s : Composed C) (n : Device) (h : IsSound D o k s n) where
@@ -145,13 +145,10 @@ module _ {C : Type 0} (D : DesignOf C) (w : IsDesign D) (o : Origin) (k : Checkp
     written_over : (q : EngineStage) → s.engine.stage ≡ q → HasWrittenBefore D q s.engine s.control n → HasWrittenBefore D q s.engine s.control m
     written_over Idle is b = tt
     written_over (Body from) is b = tt
-    written_over (Slot j) is b = slot_over (Slot j) is refl refl j b
-    written_over Settle is b = slot_over Settle is refl refl (slot_blocks D.filling s.engine) b
-    written_over Commit is b = slot_over Commit is refl refl (slot_blocks D.filling s.engine) b
-    written_over Confirm is b = (
-      slot_over Confirm is refl refl (slot_blocks D.filling s.engine) b.0,
-      record { inside = omega (arith, b.1.inside, r.as_long); newest_is = r.reads 1 b.1.inside ∙ b.1.newest_is },
-    )
+    written_over (InRound q) is b =
+        issued_over (layout_of D.filling s.engine).image_blocks (parts_at D s.engine s.control) (parts_at D s.engine s.control) (commit_of s.engine.epoch) q n m
+        (D.parts.sealed s.control n) (D.parts.sealed s.control m) refl (h.held.fits.inside q is) (λ j few written. slot_over (InRound q) is refl refl j written)
+        (λ read. record { inside = omega (arith, read.inside, r.as_long); newest_is = r.reads 1 read.inside ∙ read.newest_is }) b
     written_over (Tail from) is b = tt
 
     reads_stay : IsSound D o k s m
@@ -164,14 +161,14 @@ module _ {C : Type 0} (D : DesignOf C) (w : IsDesign D) (o : Origin) (k : Checkp
   -- ---- with another controller, whose slot says the same, and that was sealed as this one
 
   module _ (d : C) (rest : (i : ℕ) → D.items.rest d i ≡ D.items.rest s.control i) (same : D.parts.sealed d n ≡ D.parts.sealed s.control n) where
-    pub written_as : (q : EngineStage) → HasWrittenBefore D q s.engine s.control n → HasWrittenBefore D q s.engine d n
-    written_as Idle b = tt
-    written_as (Body from) b = tt
-    written_as (Slot j) b = slot_as D s.engine s.control d n j rest same b
-    written_as Settle b = slot_as D s.engine s.control d n (slot_blocks D.filling s.engine) rest same b
-    written_as Commit b = slot_as D s.engine s.control d n (slot_blocks D.filling s.engine) rest same b
-    written_as Confirm b = (slot_as D s.engine s.control d n (slot_blocks D.filling s.engine) rest same b.0, b.1)
-    written_as (Tail from) b = tt
+    pub written_as : (q : EngineStage) → s.engine.stage ≡ q → HasWrittenBefore D q s.engine s.control n → HasWrittenBefore D q s.engine d n
+    written_as Idle is b = tt
+    written_as (Body from) is b = tt
+    written_as (InRound q) is b =
+        issued_over (layout_of D.filling s.engine).image_blocks (parts_at D s.engine s.control) (parts_at D s.engine d) (commit_of s.engine.epoch) q n n
+        (D.parts.sealed s.control n) (D.parts.sealed d n) refl (h.held.fits.inside q is) (λ j few written. slot_as D s.engine s.control d n j rest same written)
+        (λ read. read) b
+    written_as (Tail from) is b = tt
 
   -- such a controller keeps the checkpoints
   pub stays_as : (d : C) → Carries D s.engine.epoch (phase_of s.engine.stage) s.control n (phase_of s.engine.stage) d n
@@ -179,7 +176,7 @@ module _ {C : Type 0} (D : DesignOf C) (w : IsDesign D) (o : Origin) (k : Checkp
   stays_as d on rest =
       stays (record s { control = d }) n refl on
       (record { same_p = on.same_p ∙ h.held.fits.same_p; inside = h.held.fits.inside; stands = on.moment.stands })
-      h.checkpoints.keeping refl (written_as d rest on.sealed s.engine.stage h.checkpoints.written) (on.rests s.storeless s.sealed_storeless h.rests)
+      h.checkpoints.keeping refl (written_as d rest on.sealed s.engine.stage refl h.checkpoints.written) (on.rests s.storeless s.sealed_storeless h.rests)
 
   -- once a write of the DRAM landed
   dram_stays : IsSound D o k (record s { control = D.filling.drained s.control }) n
@@ -235,10 +232,11 @@ module _ {C : Type 0} (D : DesignOf C) (w : IsDesign D) (o : Origin) (k : Checkp
       → doubt_of_saved (saved_failed q g) g.sealed ≡ doubt_in (marks_after_fault (report I e (item I q c)) k)
   doubt_failed Idle written = none_by k g h.checkpoints.sealed written
   doubt_failed (Body from) written = none_by k g h.checkpoints.sealed written ∙ ap doubt_in (sym (marks_body (I.body_next c from)))
-  doubt_failed (Slot j) written = none_by k g h.checkpoints.sealed written ∙ ap doubt_in (sym (fault_of_block k (nat_lt j (record_blocks e.p))))
-  doubt_failed Settle written = none_by k g h.checkpoints.sealed written
-  doubt_failed Commit written = h.checkpoints.sealed
-  doubt_failed Confirm written = h.checkpoints.sealed ∙ sym (ap (λ (b : Bool). if b then k.sealed else None) written)
+  doubt_failed (InRound (Write j)) written =
+      none_by k g h.checkpoints.sealed written ∙ ap doubt_in (sym (fault_of_block k (nat_lt j (record_blocks e.p))))
+  doubt_failed (InRound Settle) written = none_by k g h.checkpoints.sealed written
+  doubt_failed (InRound Commit) written = h.checkpoints.sealed
+  doubt_failed (InRound Confirm) written = h.checkpoints.sealed ∙ sym (ap (λ (b : Bool). if b then k.sealed else None) written)
   doubt_failed (Tail from) written = none_by k g h.checkpoints.sealed written ∙ ap doubt_in (sym (marks_tail (I.tail_next c from)))
 
   -- with one image kept, an action that leaves its places alone
@@ -249,22 +247,17 @@ module _ {C : Type 0} (D : DesignOf C) (w : IsDesign D) (o : Origin) (k : Checkp
       (Goes (Kept g.before) g.kept g.sealed n m (Spares-failed_action (1 ∷ looked_by l g.before) (action_of F I e i c n) n m alone failed framed))
       (subst (λ x. IsKeeping o l (standing n x g.kept g.sealed)) (ap (λ r. saved_at r g) is ∙ old) h.checkpoints.keeping)
 
-  slot_alone : (q : EngineStage) (j : ℕ) → s.engine.stage ≡ q → is_sealing q ≡ true → Carries D e.epoch (phase_of q) c n Made c n → j < slot_blocks F e
-      → ¬ Contains (1 ∷ looked_by l g.before) (slot_place F e j)
-  slot_alone q j is way into below =
-      not_looked D w o k s n h (slot_place F e j)
-      (w.slot_spared e c n g.before j into.moment (can D w o k s n h (ap is_sealing is ∙ way)) (into.keeps g.before (told_at D w o k s n h q is)) below)
-
-  body_alone : (from : ℕ) (x : Option ℕ) → s.engine.stage ≡ Body from → I.body_next c from ≡ x
-      → LeavesAlone (1 ∷ looked_by l g.before) (action_of F I e (body_or_slot x) c n)
-  body_alone from None is next =
-      slot_alone (Body from) 0 is refl (w.body_ends e.epoch c n from (moment_at D w o k s n h (Body from) is) next) (some_slot D w o k s n h)
-  body_alone from (Some j) is next =
+  -- from the body
+  fails_body : (from : ℕ) (x : Option ℕ) → s.engine.stage ≡ Body from → I.body_next c from ≡ x → FailsTo (action_of F I e (body_or_slot x) c n) n m
+      → IsKeeping o l (standing m (Kept g.before) g.kept g.sealed)
+  fails_body from None is next failed = keeping_failed D w o k s n h (Write 0) (at_first D w o k s n h from is next) m failed framed
+  fails_body from (Some j) is next failed =
       let first = moment_at D w o k s n h (Body from) is in
       let passed = w.body_passes e.epoch c n from j first next in
       let on = w.items.body_onwards c from j first.stands next in
-      not_looked D w o k s n h (I.body_place e.epoch c j)
-      (w.body_spared e.epoch c n j g.before passed.moment on.0 (passed.keeps g.before (told_at D w o k s n h (Body from) is)))
+      fails_kept (Body from) (BodyItem j) is refl
+      (not_looked D w o k s n h (I.body_place e.epoch c j)
+      (w.body_spared e.epoch c n j g.before passed.moment on.0 (passed.keeps g.before (told_at D w o k s n h (Body from) is)))) failed
 
   tail_alone : (from : ℕ) (x : Option ℕ) → s.engine.stage ≡ Tail from → I.tail_next c from ≡ x
       → LeavesAlone (1 ∷ looked_by l g.before) (action_of F I e (tail_or_release x) c n)
@@ -279,21 +272,8 @@ module _ {C : Type 0} (D : DesignOf C) (w : IsDesign D) (o : Origin) (k : Checkp
   fails : (q : EngineStage) → s.engine.stage ≡ q → is_under_way q ≡ true → FailsTo (action_of F I e (item I q c) c n) n m
       → IsKeeping o l (standing m (saved_failed q g) g.kept g.sealed)
   fails Idle is way failed = cc
-  fails (Body from) is way failed = fails_kept (Body from) (body_or_slot (I.body_next c from)) is refl (body_alone from (I.body_next c from) is refl) failed
-  fails (Slot j) is way failed =
-      fails_kept (Slot j) (SlotItem j) is refl
-      (slot_alone (Slot j) j is refl (stays_made D w o k s n h (Slot j) is refl) (h.held.fits.inside j is)) failed
-  fails Settle is way failed = fails_kept Settle SettleItem is refl tt failed
-  fails Commit is way failed =
-      let old = h.checkpoints.made (ap is_sealing is) in
-      let write : HasFailedToWrite 1 (block_at g.next 1) n m = subst (λ (b : Block). HasFailedToWrite 1 b n m) (sym (old.commit (ap is_settled is))) failed in
-      subst (λ (x : Option Mark). IsKeeping o l (standing m (InDoubt g.before g.next) g.kept x)) (sym old.sealed)
-      (IsKeeping-move o l _ _ (CommitMove g.before g.next g.kept old.mark n m (inr (write, framed)))
-      (subst (λ (x : Option Mark). IsKeeping o l (standing n (Ready g.before g.next) g.kept x)) old.sealed (keeping_at D w o k s n h Commit is)))
-  fails Confirm is way failed =
-      IsKeeping-move o l _ _
-      (Goes (InDoubt g.before g.next) g.kept g.sealed n m (Spares-failed (guarded (looked_by l) (InDoubt g.before g.next)) n m failed framed))
-      (keeping_at D w o k s n h Confirm is)
+  fails (Body from) is way failed = fails_body from (I.body_next c from) is refl failed
+  fails (InRound r) is way failed = keeping_failed D w o k s n h r (at_round D w o k s n h r is) m failed framed
   fails (Tail from) is way failed = fails_kept (Tail from) (tail_or_release (I.tail_next c from)) is refl (tail_alone from (I.tail_next c from) is refl) failed
 
 pub failed_items_are_safe : {C : Type 0} (D : DesignOf C) → IsDesign D → FailedItemsAreSafe D

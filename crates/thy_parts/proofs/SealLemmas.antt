@@ -15,7 +15,7 @@ use Rattle.thy_protocol.specs.Moves.{standing, IsKeeping, Seals}
 use Rattle.thy_protocol.proofs.KeepsLemmas.{IsKeeping-move}
 use Rattle.thy_scheme.specs.CheckpointMarks.{CheckpointMarks}
 use Rattle.thy_engine.specs.declared.stage.EngineStage.{EngineStage}
-use Rattle.thy_engine.specs.declared.stage.EngineStage.TheVariants.{Idle, Body, Slot, Settle, Commit, Confirm, Tail}
+use Rattle.thy_engine.specs.declared.stage.EngineStage.TheVariants.{Idle, Body, InRound, Tail}
 use Rattle.thy_engine.specs.Items.{Resting}
 use Rattle.thy_engine.specs.Progress.{phase_of, is_under_way}
 use Rattle.thy_parts.specs.Checkpoints.{Checkpoints}
@@ -29,10 +29,7 @@ use Rattle.thy_parts.proofs.SoundLemmas.{moment_at, told_at, keeping_at}
 pub idle_stage : (q : EngineStage) → is_under_way q ≡ false → q ≡ Idle
 idle_stage Idle h = refl
 idle_stage (Body from) h = cc
-idle_stage (Slot j) h = cc
-idle_stage Settle h = cc
-idle_stage Commit h = cc
-idle_stage Confirm h = cc
+idle_stage (InRound r) h = cc
 idle_stage (Tail from) h = cc
 
 module _ {C : Type 0} (D : DesignOf C) (w : IsDesign D) (o : Origin) (k : CheckpointMarks) (cpu : CpuState) (epoch : ℕ) (m : Mark) (s : Composed C) (n : Device)

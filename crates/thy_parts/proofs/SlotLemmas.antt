@@ -1,11 +1,11 @@
 -- The slot of the checkpoint under way: where it is, what it says, and how it is written.
-use Rattle.std.proofs.Common.{◌≡◌, ℕ, ◌+◌, ◌-◌, ◌^◌, ◌<◌, ◌≤◌, nat_lt, Bool, true, if◌then◌else◌, List, length, map, Option, None, refl, sym, ◌∙◌, ap, subst, inl, inr, arith}
+use Rattle.std.proofs.Common.{◌≡◌, ℕ, ◌-◌, ◌^◌, ◌<◌, ◌≤◌, nat_lt, Bool, true, if◌then◌else◌, List, length, map, Option, None, sym, ◌∙◌, ap, subst, arith}
 use Rattle.std.proofs.lemmas.Bool.{lt-ltb}
 use Rattle.std.proofs.lemmas.List.FromFn.{get_or-map-range_with_len}
 use Rattle.std.specs.List.{range_with_len}
 use Rattle.std.specs.Option.{option_or}
 use Rattle.thy_base.specs.declared.block.Block.{Block}
-use Rattle.thy_base.specs.Device.{Device, block_at, newest, written_to, zero_block}
+use Rattle.thy_base.specs.Device.{Device, block_at, newest, zero_block}
 use Rattle.thy_base.specs.Geometry.{IsInRange, console_room}
 use Rattle.thy_base.specs.Places.{record_blocks}
 use Rattle.thy_crash.specs.Saved.{IsIssued, next_image}
@@ -20,7 +20,7 @@ use Rattle.thy_layout.specs.Layout.{Layout, memory_places, header_bad, commit_ba
 use Rattle.thy_layout.proofs.ReadBackLemmas.{epoch_of-commit_of, commit_fault-commit_of, is_zero-commit_of, FitsRecord-recordable, cpu_back}
 use Rattle.thy_view.specs.Safe.{ceiling}
 use Rattle.thy_protocol.specs.Issuing.{ArePartsOf, AreIssued, IsCheckpoint}
-use Rattle.thy_protocol.proofs.IssuingLemmas.{issuing_begins, slot_goes_on, elsewhere_keeps, issued_is_checkpoint}
+use Rattle.thy_protocol.proofs.IssuingLemmas.{issuing_begins, issued_is_checkpoint}
 use Rattle.thy_parts.proofs.PlacedLemmas.{parts_placed}
 use Rattle.thy_boot.specs.Filling.{layout_at}
 use Rattle.thy_engine.specs.Items.{Made}
@@ -102,29 +102,6 @@ module _ {C : Type 0} (D : DesignOf C) (w : IsDesign D) (e : Progress) (c : C) (
   slot_begins =
       subst (λ memory. AreIssued (layout_of D.filling e).image_blocks (parts_at D e c) n memory 0) (w.made_reads e c n moment can)
       (issuing_begins (layout_of D.filling e).image_blocks (parts_at D e c) n sized)
-
-  pub slot_more : (k : ℕ) → k < slot_blocks D.filling e → HasWrittenSlot D e c n k
-      → HasWrittenSlot D e c (written_to n (slot_place D.filling e k) (slot_block D.items e c k)) (k + 1)
-  slot_more k l h =
-      let m : Device = written_to n (slot_place D.filling e k) (slot_block D.items e c k) in
-      let same = (w.own_carries e c n (slot_place D.filling e k) (slot_block D.items e c k) moment can.same_p (inr (k, l, refl))).sealed in
-      subst (λ memory. AreIssued (layout_of D.filling e).image_blocks (parts_at D e c) m memory (k + 1)) (sym same)
-      (slot_goes_on (layout_of D.filling e).image_blocks (parts_at D e c) n m (D.parts.sealed c n) k placed.placed h l refl)
-
-  -- the write of the commit block leaves it
-  pub slot_commits : HasWrittenSlot D e c n (slot_blocks D.filling e) → HasWrittenSlot D e c (written_to n 1 (commit_of e.epoch)) (slot_blocks D.filling e)
-  slot_commits h =
-      let m : Device = written_to n 1 (commit_of e.epoch) in
-      let same = (w.own_carries e c n 1 (commit_of e.epoch) moment can.same_p (inl refl)).sealed in
-      let parts = placed.placed in
-      subst (λ memory. AreIssued (layout_of D.filling e).image_blocks (parts_at D e c) m memory (slot_blocks D.filling e)) (sym same)
-      (elsewhere_keeps (layout_of D.filling e).image_blocks (parts_at D e c) n m (D.parts.sealed c n) (slot_blocks D.filling e) placed.placed h 1 (commit_of e.epoch)
-      (omega arith)
-      (record {
-        no_slot = λ k l q. let low = parts.slot_behind in omega (arith, low, q);
-        no_memory = λ inside. let low = parts.memory_behind 1 inside in omega (arith, low);
-      })
-      refl)
 
   -- ---- what it says
 

@@ -1,17 +1,16 @@
 -- Every item reaches the checkpoints of the marks after it.
 use Rattle.std.proofs.Common.{◌≡◌, ◌≢◌, ◌⊎◌, ℕ, ◌+◌, ◌<◌, ◌≤◌, nat_lt, Bool, true, false, if◌then◌else◌, List, [], ◌∷◌, length, Contains, Option, Some, None, unwrap_or, refl, sym, ◌∙◌, ap, subst, inl, inr, arith}
-use Rattle.std.proofs.lemmas.Bool.{both_ways, ltb-false}
+use Rattle.std.proofs.lemmas.Bool.{both_ways}
 use Rattle.std.proofs.lemmas.List.Elements.{Contains-push, Contains-append_left, Contains-append_right}
 use Rattle.thy_base.specs.declared.block.Block.{Block}
 use Rattle.thy_base.specs.declared.config.Parameters.{Parameters}
 use Rattle.thy_base.specs.declared.mark.Mark.{Mark}
-use Rattle.thy_base.specs.Device.{Device, newest, settled, written_to}
+use Rattle.thy_base.specs.Device.{Device, block_at, newest, settled, written_to, IsFramed}
 use Rattle.thy_base.specs.Geometry.{IsInRange}
 use Rattle.thy_base.specs.Places.{record_blocks}
-use Rattle.thy_base.proofs.DeviceLemmas.{newest-settled, newest-written_to, newest-written_to_other, length-written_to}
+use Rattle.thy_base.proofs.DeviceLemmas.{newest-settled, newest-written_to_other}
 use Rattle.thy_boot.specs.Filling.{FillingOf, layout_at}
-use Rattle.thy_crash.specs.Fixed.{Reads}
-use Rattle.thy_crash.specs.Saved.{Kept, Ready, InDoubt, IsIssued, next_image}
+use Rattle.thy_crash.specs.Saved.{Kept, IsIssued, next_image}
 use Rattle.thy_crash.specs.Spares.{Spares}
 use Rattle.thy_crash.proofs.SavedLemmas.{next_image-commit}
 use Rattle.thy_crash.proofs.SparesLemmas.{Spares-settled, Spares-written}
@@ -22,19 +21,23 @@ use Rattle.thy_layout.specs.Commit.{commit_of}
 use Rattle.thy_layout.specs.Cpu.{IsRecordable}
 use Rattle.thy_layout.specs.Decoded.{At}
 use Rattle.thy_layout.specs.Layout.{Layout, header_bad, looked_by, decode_by}
-use Rattle.thy_view.specs.Action.{after}
+use Rattle.thy_view.specs.Action.{after, FailsTo}
 use Rattle.thy_view.specs.Origin.{Origin, at}
 use Rattle.thy_view.specs.Safe.{ceiling}
 use Rattle.thy_protocol.specs.Keeps.{IsOf}
-use Rattle.thy_protocol.specs.Moves.{standing, IsKeeping, Goes, Readies, Commits as CommitMove, Confirms}
-use Rattle.thy_protocol.specs.Issuing.{AreIssued}
+use Rattle.thy_protocol.specs.Moves.{standing, IsKeeping, Goes}
+use Rattle.thy_protocol.specs.declared.round.Round.{Round}
+use Rattle.thy_protocol.specs.declared.round.Round.TheVariants.{Write, Settle, Commit, Confirm}
+use Rattle.thy_protocol.specs.Round.{IsInRound, round_action, next_round, is_written}
+use Rattle.thy_protocol.specs.Rounds.{saved_in, saved_after_fault, made_after, standing_then, MayTake, AreIssuedBefore, AreIssuedThen}
 use Rattle.thy_protocol.proofs.KeepsLemmas.{IsKeeping-move}
+use Rattle.thy_protocol.proofs.RoundLemmas.{next_by, rounds_move, failed_rounds_move, rounds_issue}
 use Rattle.thy_parts.proofs.PlacedLemmas.{is_long-own}
 use Rattle.thy_scheme.specs.CheckpointMarks.{CheckpointMarks, only, marks_after}
 use Rattle.thy_engine.specs.declared.stage.EngineStage.{EngineStage}
-use Rattle.thy_engine.specs.declared.stage.EngineStage.TheVariants.{Idle, Body, Slot, Settle, Commit, Confirm, Tail}
+use Rattle.thy_engine.specs.declared.stage.EngineStage.TheVariants.{Idle, Body, InRound, Tail}
 use Rattle.thy_engine.specs.Items.{ItemsOf, Phase, Resting, Making, Made, Applying}
-use Rattle.thy_engine.specs.Progress.{Progress, phase_of, slot_blocks, slot_block, slot_place, layout_of, Fits, Item, BodyItem, SlotItem, SettleItem, CommitItem, ConfirmItem, TailItem, ReleaseItem, body_or_slot, tail_or_release, item, after_slot, next_after, action_of, control_after, report, is_under_way}
+use Rattle.thy_engine.specs.Progress.{Progress, phase_of, slot_blocks, slot_block, slot_place, slot_round, layout_of, Fits, Item, BodyItem, RoundItem, TailItem, ReleaseItem, body_or_slot, tail_or_release, item, next_after, action_of, control_after, report, is_under_way}
 use Rattle.thy_engine.proofs.ItemLemmas.{items_fit}
 use Rattle.thy_parts.specs.Checkpoints.{Checkpoints, is_sealing, is_settled, is_confirming, saved_at, standing_at, IsMadeFor, HasWrittenSlot, HasWrittenBefore}
 use Rattle.thy_parts.specs.Design.{DesignOf, Composed}
@@ -42,8 +45,8 @@ use Rattle.thy_parts.specs.IsDesign.{IsDesign, CanRecord, IsSpared}
 use Rattle.thy_parts.specs.Laws.{ItemsKeepSound}
 use Rattle.thy_parts.specs.Moments.{IsMoment, Carries, Commits, parts_at}
 use Rattle.thy_parts.specs.Sound.{layout_for, IsSound}
-use Rattle.thy_parts.proofs.CarryLemmas.{Carries-both, Carries-same, settled_same, issued_same}
-use Rattle.thy_parts.proofs.SlotLemmas.{placed, slot_begins, slot_more, slot_commits, next_decodes, next_issued, next_slot}
+use Rattle.thy_parts.proofs.CarryLemmas.{Carries-both, Carries-same, settled_same}
+use Rattle.thy_parts.proofs.SlotLemmas.{placed, slot_begins, next_decodes, next_issued, next_slot}
 
 -- the marks stay with a step that writes a block
 marks_of_block : (k : CheckpointMarks) (b : Bool) → marks_after (if b then StateBlock else TableBlock) k ≡ k
@@ -59,11 +62,19 @@ pub written_stage : {C : Type 0} (D : DesignOf C) (q r : EngineStage) (e : Progr
     → HasWrittenBefore D q (record e { stage = r }) c n
 written_stage D Idle r e c n b = tt
 written_stage D (Body from) r e c n b = tt
-written_stage D (Slot j) r e c n b = b
-written_stage D Settle r e c n b = b
-written_stage D Commit r e c n b = b
-written_stage D Confirm r e c n b = b
+written_stage D (InRound j) r e c n b = b
 written_stage D (Tail from) r e c n b = tt
+
+-- an action of the round is next, after another one or after the body
+pub record IsAt {C : Type 0} (D : DesignOf C) (o : Origin) (k : CheckpointMarks) (s : Composed C) (n : Device) (g : Checkpoints) (r : Round) : Type 0 where
+  pub inside : IsInRound (slot_blocks D.filling s.engine) r
+  pub way : is_sealing s.engine.stage ≡ true
+  pub into : Carries D s.engine.epoch (phase_of s.engine.stage) s.control n Made s.control n
+  pub keeping : IsKeeping o (layout_for D o) (standing n (saved_in r g.before g.next) g.kept g.sealed)
+  pub issued : HasWrittenBefore D (InRound r) s.engine s.control n
+  pub settled : is_settled (InRound r) ≡ true → is_settled s.engine.stage ≡ true
+  pub doubt : k.written ≡ is_written r
+  pub fits : Fits D.filling D.items (record s.engine { stage = next_after D.filling D.items s.engine (RoundItem r) }) (control_after D.items (RoundItem r) s.control)
 
 module _ {C : Type 0} (D : DesignOf C) (w : IsDesign D) (o : Origin) (k : CheckpointMarks) (s : Composed C) (n : Device) (h : IsSound D o k s n) where
   abbrev F : FillingOf C
@@ -153,11 +164,15 @@ module _ {C : Type 0} (D : DesignOf C) (w : IsDesign D) (o : Origin) (k : Checkp
       (IsKeeping-move o l _ _ (Goes (Kept g.before) g.kept g.sealed n m spares)
       (subst (λ x. IsKeeping o l (standing n x g.kept g.sealed)) old (keeping_at q is)))
 
-  -- ---- the engine goes to another stage, and the checkpoints stay
+  -- ---- the engine goes to another stage, and the marks that are kept and sealed stay
 
-  made_on : (q : EngineStage) (d : C) (m : Device) → D.parts.sealed d m ≡ D.parts.sealed c n
-      → is_sealing e.stage ≡ true → (is_settled q ≡ true → (is_settled e.stage ≡ true) × (D.parts.makes e.epoch c g.next → D.parts.makes e.epoch d g.next)) → IsMadeFor D o (record e { stage = q }) d m g
-  made_on q d m same way settled =
+  -- once the first barrier is done, an image is the checkpoint that is made
+  abbrev Makes : EngineStage → C → List Block → Type 0
+  Makes q d next = is_settled q ≡ true → (block_at next 1 ≡ commit_of e.epoch) × D.parts.makes e.epoch d next
+
+  made_on : (q : EngineStage) (d : C) (m : Device) (next : List Block) → D.parts.sealed d m ≡ D.parts.sealed c n
+      → is_sealing e.stage ≡ true → Makes q d next → IsMadeFor D o (record e { stage = q }) d m (record g { next = next })
+  made_on q d m next same way makes =
       let old = h.checkpoints.made way in
       record {
         mark = old.mark;
@@ -167,15 +182,16 @@ module _ {C : Type 0} (D : DesignOf C) (w : IsDesign D) (o : Origin) (k : Checkp
         recordable = old.recordable;
         state_is = ap (state_from o.geometry e.cpu) same ∙ old.state_is;
         counted = old.counted;
-        commit = λ is. old.commit (settled is).0;
-        makes = λ is. (settled is).1 (old.makes (settled is).0);
+        commit = λ is. (makes is).0;
+        makes = λ is. (makes is).1;
       }
 
-  goes : (q : EngineStage) (d : C) (m : Device) → Carries D e.epoch (phase_of e.stage) c n (phase_of q) d m → Fits F I (record e { stage = q }) d
-      → IsKeeping o l (standing_at q m g) → newest m 0 ≡ newest n 0 → HasWrittenBefore D q e d m
-      → is_sealing q ≡ is_sealing e.stage → is_confirming q ≡ is_confirming e.stage → is_settled q ≡ false
-      → IsSound D o k (now q d) m
-  goes q d m on fits keeping header written sealing confirming unsettled = record {
+  goes_to : (q : EngineStage) (d : C) (m : Device) (next : List Block) (now_written : Bool)
+      → Carries D e.epoch (phase_of e.stage) c n (phase_of q) d m → Fits F I (record e { stage = q }) d
+      → IsKeeping o l (standing_at q m (record g { next = next })) → newest m 0 ≡ newest n 0 → HasWrittenBefore D q e d m
+      → is_sealing q ≡ is_sealing e.stage → now_written ≡ is_confirming q → Makes q d next
+      → IsSound D o (record k { written = now_written }) (now q d) m
+  goes_to q d m next now_written on fits keeping header written sealing confirming makes = record {
     held = record {
       geometry = on.same_p ∙ h.held.geometry;
       moment = on.moment;
@@ -183,21 +199,29 @@ module _ {C : Type 0} (D : DesignOf C) (w : IsDesign D) (o : Origin) (k : Checkp
       regs = h.held.regs;
       room = on.room ∙ h.held.room;
     };
-    images = g;
+    images = record g { next = next };
     checkpoints = record {
       kept = h.checkpoints.kept;
       sealed = h.checkpoints.sealed;
       keeping = keeping;
       told = on.keeps g.before h.checkpoints.told;
       written = written_stage D q q e d m written;
-      made = λ way. made_on q d m on.sealed (sym sealing ∙ way) (λ is. absurd (both_ways (is_settled q) unsettled is));
+      made = λ way. made_on q d m next on.sealed (sym sealing ∙ way) makes;
     };
     way = sealing ∙ h.way;
-    doubt = h.doubt ∙ sym confirming;
+    doubt = confirming;
     header = header_at m header;
     committed = record { cpu = h.committed.cpu; state = ap (state_from o.geometry h.committed.cpu) on.committed ∙ h.committed.state };
     rests = on.rests s.storeless s.sealed_storeless h.rests;
   }
+
+  -- to one outside the round
+  goes : (q : EngineStage) (d : C) (m : Device) → Carries D e.epoch (phase_of e.stage) c n (phase_of q) d m → Fits F I (record e { stage = q }) d
+      → IsKeeping o l (standing_at q m g) → newest m 0 ≡ newest n 0 → HasWrittenBefore D q e d m
+      → is_sealing q ≡ is_sealing e.stage → is_confirming q ≡ is_confirming e.stage → is_settled q ≡ false
+      → IsSound D o k (now q d) m
+  goes q d m on fits keeping header written sealing confirming unsettled =
+      goes_to q d m g.next k.written on fits keeping header written sealing (h.doubt ∙ sym confirming) (λ is. absurd (both_ways (is_settled q) unsettled is))
 
   -- from a stage of the engine
   from_stage : (q : EngineStage) (to : Phase) (d : C) (m : Device) → e.stage ≡ q → Carries D e.epoch (phase_of q) c n to d m
@@ -223,7 +247,11 @@ module _ {C : Type 0} (D : DesignOf C) (w : IsDesign D) (o : Origin) (k : Checkp
       (keeping_kept (Body from) (Body (j + 1)) m is refl refl (Spares-written (1 ∷ looked_by l g.before) x (I.body_block c n j) n m (not_looked x free) refl))
       (header_written x (I.body_block c n j) (not_header x free)) tt (sym (ap is_sealing is)) (sym (ap is_confirming is)) refl
 
-  -- ---- a block of the slot
+  -- what an item has to reach
+  abbrev After : Item → Type 0
+  After i = IsSound D o (marks_after (report I e i) k) (now (next_after F I e i) (control_after I i c)) (after (action_of F I e i c n) n)
+
+  -- ---- the round
 
   -- the processor that was sealed can be recorded
   pub can : is_sealing e.stage ≡ true → CanRecord D e c
@@ -236,217 +264,172 @@ module _ {C : Type 0} (D : DesignOf C) (w : IsDesign D) (o : Origin) (k : Checkp
         small = made.small;
       }
 
-  module _ (q : EngineStage) (j : ℕ) (is : e.stage ≡ q) (sealing : is_sealing q ≡ true) (confirming : is_confirming q ≡ false) (old : saved_at q g ≡ Kept g.before)
-      (into : Carries D e.epoch (phase_of q) c n Made c n) (below : j < slot_blocks F e) (written : HasWrittenSlot D e c n j)
-      (due : item I q c ≡ SlotItem j) where
-    way : is_sealing e.stage ≡ true
-    way = ap is_sealing is ∙ sealing
-
-    abbrev x : ℕ
-    x = slot_place F e j
-
-    abbrev block : Block
-    block = slot_block I e c j
-
-    abbrev m : Device
-    m = written_to n (slot_place F e j) (slot_block I e c j)
-
-    free : IsSpared D c g.before (slot_place F e j)
-    free = w.slot_spared e c n g.before j into.moment (can way) (into.keeps g.before (told_at q is)) below
-
-    on : Carries D e.epoch (phase_of e.stage) c n Made c m
-    on =
-        from_stage q Made c m is
-        (Carries-both D e.epoch (phase_of q) Made Made c c c n n m into (w.own_carries e c n (slot_place F e j) (slot_block I e c j) into.moment same_p (inr (j, below, refl))))
-
-    spares : Spares (1 ∷ looked_by l g.before) n m
-    spares = Spares-written (1 ∷ looked_by l g.before) (slot_place F e j) (slot_block I e c j) n m (not_looked (slot_place F e j) free) refl
-
-    header : newest m 0 ≡ newest n 0
-    header = header_written (slot_place F e j) (slot_block I e c j) (not_header (slot_place F e j) free)
-
-    wrote : HasWrittenSlot D e c m (j + 1)
-    wrote = slot_more D w e c n into.moment (can way) j below written
-
-    fits : Fits F I (record e { stage = after_slot F e j }) c
-    fits = fits_at q (SlotItem j) is due
-
-    by_more : (more : Bool) → nat_lt (j + 1) (slot_blocks F e) ≡ more → Fits F I (record e { stage = if more then Slot (j + 1) else Settle }) c
-        → IsSound D o k (now (if more then Slot (j + 1) else Settle) c) m
-    by_more true t fit =
-        goes (Slot (j + 1)) c m on fit (keeping_kept q (Slot (j + 1)) m is old refl spares) header wrote (sym way) (sym (ap is_confirming is ∙ confirming)) refl
-    by_more false t fit =
-        let all : j + 1 ≡ slot_blocks F e = omega (arith, below, ltb-false (j + 1) (slot_blocks F e) t) in
-        goes Settle c m on fit (keeping_kept q Settle m is old refl spares) header (subst (HasWrittenSlot D e c m) all wrote) (sym way)
-        (sym (ap is_confirming is ∙ confirming)) refl
-
-    pub sound_slot : IsSound D o (marks_after (report I e (SlotItem j)) k) (now (after_slot F e j) c) m
-    sound_slot =
-        subst (λ y. IsSound D o y (now (after_slot F e j) c) m) (sym (marks_of_block k (nat_lt j (record_blocks e.p))))
-        (by_more (nat_lt (j + 1) (slot_blocks F e)) refl fits)
-
   pub some_slot : 0 < slot_blocks F e
   some_slot = let whole = (w.fills.laid.slot e.p (commit_of e.epoch)).record_inside in omega (arith, whole)
 
-  first_slot : (from : ℕ) → e.stage ≡ Body from → I.body_next c from ≡ None
-      → IsSound D o (marks_after (report I e (SlotItem 0)) k) (now (after_slot F e 0) c) (written_to n (slot_place F e 0) (slot_block I e c 0))
-  first_slot from is next =
+  -- what is issued before an action
+  abbrev Issued : Round → Device → List Block → Type 0
+  Issued r m memory = AreIssuedBefore (layout_of F e).image_blocks (parts_at D e c) (commit_of e.epoch) r m memory
+
+  abbrev Here : Round → Type 0
+  Here r = IsAt D o k s n h.images r
+
+  pub at_round : (r : Round) → e.stage ≡ InRound r → Here r
+  at_round r is = record {
+    inside = h.held.fits.inside r is;
+    way = ap is_sealing is;
+    into = subst (λ (q : EngineStage). Carries D e.epoch (phase_of q) c n Made c n) (sym is) (Carries-same D e.epoch Made c n (moment_at (InRound r) is));
+    keeping = keeping_at (InRound r) is;
+    issued = written_at (InRound r) is;
+    settled = λ settled. ap is_settled is ∙ settled;
+    doubt = h.doubt ∙ ap is_confirming is;
+    fits = fits_at (InRound r) (RoundItem r) is refl;
+  }
+
+  pub at_first : (from : ℕ) → e.stage ≡ Body from → I.body_next c from ≡ None → Here (Write 0)
+  at_first from is next =
       let into = w.body_ends e.epoch c n from (moment_at (Body from) is) next in
-      sound_slot (Body from) 0 is refl refl refl into some_slot (slot_begins D w e c n into.moment (can (ap is_sealing is))) (ap body_or_slot next)
+      record {
+        inside = some_slot;
+        way = ap is_sealing is;
+        into = from_stage (Body from) Made c n is into;
+        keeping = keeping_at (Body from) is;
+        issued = slot_begins D w e c n into.moment (can (ap is_sealing is));
+        settled = λ settled. absurd (both_ways false refl settled);
+        doubt = h.doubt ∙ ap is_confirming is;
+        fits = fits_at (Body from) (RoundItem (Write 0)) is (ap body_or_slot next);
+      }
 
-  pub stays_made : (q : EngineStage) → e.stage ≡ q → phase_of q ≡ Made → Carries D e.epoch (phase_of q) c n Made c n
-  stays_made q is made = subst (λ ph. Carries D e.epoch ph c n Made c n) (sym made) (Carries-same D e.epoch Made c n (subst (λ ph. IsMoment D ph e.epoch c n) made (moment_at q is)))
+  module _ (r : Round) (here : Here r) where
+    abbrev moment_r : IsMoment D Made e.epoch c n
+    moment_r = here.into.moment
 
-  next_slot_block : (j : ℕ) → e.stage ≡ Slot j
-      → IsSound D o (marks_after (report I e (SlotItem j)) k) (now (after_slot F e j) c) (written_to n (slot_place F e j) (slot_block I e c j))
-  next_slot_block j is = sound_slot (Slot j) j is refl refl refl (stays_made (Slot j) is refl) (h.held.fits.inside j is) (written_at (Slot j) is) refl
+    abbrev old : IsMadeFor D o e c n g
+    old = h.checkpoints.made here.way
 
-  -- ---- barriers and the commit block
-
-  module _ (is : e.stage ≡ Settle) where
-    moment_s : IsMoment D Made e.epoch c n
-    moment_s = moment_at Settle is
-
-    way_s : is_sealing e.stage ≡ true
-    way_s = ap is_sealing is
-
-    old_s : IsMadeFor D o e c n g
-    old_s = h.checkpoints.made way_s
-
-    on_s : Carries D e.epoch Made c n Made c (settled n)
-    on_s = w.same_reads Made e.epoch c n (settled n) moment_s (settled_same n)
-
-    abbrev image : List Block
-    image = next_image n (commit_of e.epoch)
+    abbrev m_r : Device
+    m_r = after (round_action (slot_round F I e c) r) n
 
     header_e : header_bad (layout_of F e) (newest n 0) true ≡ None
     header_e = subst (λ (p : Parameters). header_bad (layout_at F p) (newest n 0) true ≡ None) (sym p_is) h.header
 
-    decodes : decode_by (layout_of F e) ceiling image ≡ At e.epoch (state_from e.p e.cpu (D.parts.sealed c n))
-    decodes = next_decodes D w e c n moment_s (can way_s) (written_at Settle is) header_e
+    pub free : (j : ℕ) → j < slot_blocks F e → IsSpared D c g.before (slot_place F e j)
+    free j below = w.slot_spared e c n g.before j moment_r (can here.way) (here.into.keeps g.before h.checkpoints.told) below
 
-    made_of : IsOf o l image old_s.mark
-    made_of = record {
-      decodes =
-          subst (λ (p : Parameters). decode_by (layout_at F p) ceiling image ≡ At e.epoch (state_from p e.cpu (D.parts.sealed c n))) p_is decodes
-          ∙ ap (At e.epoch) old_s.state_is ∙ ap (λ (x : ℕ). At x (at o old_s.mark.count)) (sym old_s.of_epoch);
-      counted = old_s.counted;
-    }
+    -- with the whole slot issued the next image is the checkpoint that is made
+    module _ (whole : HasWrittenSlot D e c n (slot_blocks F e)) where
+      abbrev image : List Block
+      image = next_image n (commit_of e.epoch)
 
-    issued : IsIssued (looked_by l) n image
-    issued = subst (λ (p : Parameters). IsIssued (looked_by (layout_at F p)) n image) p_is (next_issued D w e c n moment_s (can way_s) (written_at Settle is) header_e)
+      decodes : decode_by (layout_of F e) ceiling image ≡ At e.epoch (state_from e.p e.cpu (D.parts.sealed c n))
+      decodes = next_decodes D w e c n moment_r (can here.way) whole header_e
 
-    keeping_s : IsKeeping o l (standing (settled n) (Ready g.before image) g.kept g.sealed)
-    keeping_s =
-        subst (λ (x : Option Mark). IsKeeping o l (standing (settled n) (Ready g.before image) g.kept x)) (sym old_s.sealed)
-        (IsKeeping-move o l _ _ (Readies g.before image g.kept old_s.mark n (settled n) issued made_of refl)
-        (subst (λ (x : Option Mark). IsKeeping o l (standing n (Kept g.before) g.kept x)) old_s.sealed (keeping_at Settle is)))
+      made_of : IsOf o l image old.mark
+      made_of = record {
+        decodes =
+            subst (λ (p : Parameters). decode_by (layout_at F p) ceiling image ≡ At e.epoch (state_from p e.cpu (D.parts.sealed c n))) p_is decodes
+            ∙ ap (At e.epoch) old.state_is ∙ ap (λ (x : ℕ). At x (at o old.mark.count)) (sym old.of_epoch);
+        counted = old.counted;
+      }
 
-    sound_settle : IsSound D o k (now Commit c) (settled n)
-    sound_settle = record {
-      held = record {
-        geometry = h.held.geometry;
-        moment = on_s.moment;
-        fits = fits_at Settle SettleItem is refl;
-        regs = h.held.regs;
-        room = h.held.room;
-      };
-      images = record g { next = image };
-      checkpoints = record {
-        kept = h.checkpoints.kept;
-        sealed = h.checkpoints.sealed;
-        keeping = keeping_s;
-        told = on_s.keeps g.before (told_at Settle is);
-        written =
-            subst (λ memory. AreIssued (layout_of F e).image_blocks (parts_at D e c) (settled n) memory (slot_blocks F e)) (sym on_s.sealed)
-            (issued_same (layout_of F e).image_blocks (parts_at D e c) n (settled n) (D.parts.sealed c n) (slot_blocks F e)
-            (placed D w e c n moment_s (can way_s)).placed (settled_same n) (written_at Settle is));
-        made = λ way. record {
-          mark = old_s.mark;
-          sealed = old_s.sealed;
-          of_epoch = old_s.of_epoch;
-          small = old_s.small;
-          recordable = old_s.recordable;
-          state_is = ap (state_from o.geometry e.cpu) on_s.sealed ∙ old_s.state_is;
-          counted = old_s.counted;
-          commit = λ settled. next_image-commit (commit_of e.epoch) n (let some = some_image in omega (arith, some));
-          makes = λ settled.
-              w.slot_makes e c n image (state_from e.p e.cpu (D.parts.sealed c n)) moment_s (can way_s) decodes
-              (next_image-commit (commit_of e.epoch) n (let some = some_image in omega (arith, some)))
-              (next_slot D w e c n moment_s (can way_s) (written_at Settle is) header_e);
-        };
-      };
-      way = sym way_s ∙ h.way;
-      doubt = h.doubt ∙ ap is_confirming is;
-      header = header_at (settled n) header_settled;
-      committed = record {
-        cpu = h.committed.cpu;
-        state =
-            ap (state_from o.geometry h.committed.cpu) (on_s.committed ∙ sym (ap (λ q. D.parts.committed (phase_of q) c n) is)) ∙ h.committed.state;
-      };
-      rests = on_s.rests s.storeless s.sealed_storeless (subst (λ q. D.parts.rests s.storeless s.sealed_storeless (phase_of q) c) is h.rests);
-    }
+      issued : IsIssued (looked_by l) n image
+      issued = subst (λ (p : Parameters). IsIssued (looked_by (layout_at F p)) n image) p_is (next_issued D w e c n moment_r (can here.way) whole header_e)
 
-  module _ (is : e.stage ≡ Commit) where
-    abbrev m_c : Device
-    m_c = written_to n 1 (commit_of e.epoch)
+      commit_is : block_at image 1 ≡ commit_of e.epoch
+      commit_is = next_image-commit (commit_of e.epoch) n (let some = some_image in omega (arith, some))
 
-    way_c : is_sealing e.stage ≡ true
-    way_c = ap is_sealing is
+      makes : D.parts.makes e.epoch c image
+      makes =
+          w.slot_makes e c n image (state_from e.p e.cpu (D.parts.sealed c n)) moment_r (can here.way) decodes commit_is
+          (next_slot D w e c n moment_r (can here.way) whole header_e)
 
-    old_c : IsMadeFor D o e c n g
-    old_c = h.checkpoints.made way_c
+    may_take : MayTake o l old.mark (slot_round F I e c) r g.before g.next n
+    may_take = by_round r here.inside here.issued here.settled where
+      by_round : (r : Round) → IsInRound (slot_blocks F e) r → Issued r n (D.parts.sealed c n) → (is_settled (InRound r) ≡ true → is_settled e.stage ≡ true)
+          → MayTake o l old.mark (slot_round F I e c) r g.before g.next n
+      by_round (Write j) inside written settled = not_looked (slot_place F e j) (free j inside)
+      by_round Settle inside written settled = (made_of written, issued written)
+      by_round Commit inside written settled = old.commit (settled refl)
+      by_round Confirm inside written settled = (old.commit (settled refl), written.1)
 
-    on_c : Carries D e.epoch Made c n Made c m_c
-    on_c = w.own_carries e c n 1 (commit_of e.epoch) (moment_at Commit is) same_p (inl refl)
+    -- the checkpoints after it, and if it fails
+    keeping_then : IsKeeping o l (standing_then (next_round (slot_blocks F e) r) m_r g.before (made_after (commit_of e.epoch) r n g.next) g.kept old.mark)
+    keeping_then =
+        IsKeeping-move o l _ _ (rounds_move o l old.mark (slot_round F I e c) r g.before g.next g.kept n may_take)
+        (subst (λ (x : Option Mark). IsKeeping o l (standing n (saved_in r g.before g.next) g.kept x)) old.sealed here.keeping)
 
-    keeping_c : IsKeeping o l (standing m_c (InDoubt g.before g.next) g.kept g.sealed)
-    keeping_c =
-        subst (λ (x : Option Mark). IsKeeping o l (standing m_c (InDoubt g.before g.next) g.kept x)) (sym old_c.sealed)
-        (IsKeeping-move o l _ _ (CommitMove g.before g.next g.kept old_c.mark n m_c (inl (ap (written_to n 1) (sym (old_c.commit (ap is_settled is))))))
-        (subst (λ (x : Option Mark). IsKeeping o l (standing n (Ready g.before g.next) g.kept x)) old_c.sealed (keeping_at Commit is)))
+    pub keeping_failed : (m : Device) → FailsTo (round_action (slot_round F I e c) r) n m → IsFramed n m
+        → IsKeeping o l (standing m (saved_after_fault r g.before g.next) g.kept g.sealed)
+    keeping_failed m failed framed =
+        subst (λ (x : Option Mark). IsKeeping o l (standing m (saved_after_fault r g.before g.next) g.kept x)) (sym old.sealed)
+        (IsKeeping-move o l _ _ (failed_rounds_move o l old.mark (slot_round F I e c) r g.before g.next g.kept n m may_take failed framed)
+        (subst (λ (x : Option Mark). IsKeeping o l (standing n (saved_in r g.before g.next) g.kept x)) old.sealed here.keeping))
 
-    sound_commit : IsSound D o (record k { written = true }) (now Confirm c) m_c
-    sound_commit = record {
-      held = record {
-        geometry = h.held.geometry;
-        moment = on_c.moment;
-        fits = fits_at Commit CommitItem is refl;
-        regs = h.held.regs;
-        room = h.held.room;
-      };
-      images = g;
-      checkpoints = record {
-        kept = h.checkpoints.kept;
-        sealed = h.checkpoints.sealed;
-        keeping = keeping_c;
-        told = on_c.keeps g.before (told_at Commit is);
-        written = (
-          slot_commits D w e c n (moment_at Commit is) (can way_c) (written_at Commit is),
-          record {
-            inside = let some = some_image in omega (arith, some, length-written_to n 1 (commit_of e.epoch));
-            newest_is = newest-written_to n 1 (commit_of e.epoch);
-          },
-        );
-        made = λ way. made_on Confirm c m_c on_c.sealed way_c (λ settled. (ap is_settled is, on_c.makes g.next));
-      };
-      way = sym way_c ∙ h.way;
-      doubt = refl;
-      header = header_at m_c (header_written 1 (commit_of e.epoch) (λ q. omega (arith, q)));
-      committed = record {
-        cpu = h.committed.cpu;
-        state =
-            ap (state_from o.geometry h.committed.cpu) (on_c.committed ∙ sym (ap (λ q. D.parts.committed (phase_of q) c n) is)) ∙ h.committed.state;
-      };
-      rests = on_c.rests s.storeless s.sealed_storeless (subst (λ q. D.parts.rests s.storeless s.sealed_storeless (phase_of q) c) is h.rests);
-    }
+    -- the moment after it, before the controller commits
+    pub over : Carries D e.epoch Made c n Made c m_r
+    over = by_round r here.inside where
+      by_round : (r : Round) → IsInRound (slot_blocks F e) r → Carries D e.epoch Made c n Made c (after (round_action (slot_round F I e c) r) n)
+      by_round (Write j) inside = w.own_carries e c n (slot_place F e j) (slot_block I e c j) moment_r same_p (inr (j, inside, refl))
+      by_round Settle inside = w.same_reads Made e.epoch c n (settled n) moment_r (settled_same n)
+      by_round Commit inside = w.own_carries e c n 1 (commit_of e.epoch) moment_r same_p (inl refl)
+      by_round Confirm inside = w.same_reads Made e.epoch c n (settled n) moment_r (settled_same n)
 
-  module _ (is : e.stage ≡ Confirm) where
-    way_d : is_sealing e.stage ≡ true
-    way_d = ap is_sealing is
+    pub on_round : Carries D e.epoch (phase_of e.stage) c n Made c m_r
+    on_round = Carries-both D e.epoch (phase_of e.stage) Made Made c c c n n m_r here.into over
 
-    old_d : IsMadeFor D o e c n g
-    old_d = h.checkpoints.made way_d
+    header_r : newest m_r 0 ≡ newest n 0
+    header_r = by_round r here.inside where
+      by_round : (r : Round) → IsInRound (slot_blocks F e) r → newest (after (round_action (slot_round F I e c) r) n) 0 ≡ newest n 0
+      by_round (Write j) inside = header_written (slot_place F e j) (slot_block I e c j) (not_header (slot_place F e j) (free j inside))
+      by_round Settle inside = header_settled
+      by_round Commit inside = header_written 1 (commit_of e.epoch) (λ q. omega (arith, q))
+      by_round Confirm inside = header_settled
+
+    -- what is issued then
+    issued_then : AreIssuedThen (layout_of F e).image_blocks (parts_at D e c) (commit_of e.epoch) (next_round (slot_blocks F e) r) m_r (D.parts.sealed c n)
+    issued_then =
+        rounds_issue (layout_of F e).image_blocks (parts_at D e c) (commit_of e.epoch) (placed D w e c n moment_r (can here.way)).placed r n (D.parts.sealed c n)
+        here.inside here.issued
+
+    -- to the next action
+    goes_in : (q : Round) (next : List Block) (now_written : Bool) → now_written ≡ is_written q → Makes (InRound q) c next
+        → IsInRound (slot_blocks F e) q × Issued q m_r (D.parts.sealed c n) → IsKeeping o l (standing m_r (saved_in q g.before next) g.kept (Some old.mark))
+        → IsSound D o (record k { written = now_written }) (now (InRound q) c) m_r
+    goes_in q next now_written doubt makes written keeping =
+        goes_to (InRound q) c m_r next now_written on_round
+        (record {
+          same_p = same_p;
+          inside = λ j is. let same : q ≡ j = cc in subst (λ (x : Round). IsInRound (slot_blocks F e) x) same written.0;
+          stands = on_round.moment.stands;
+        })
+        (subst (λ (x : Option Mark). IsKeeping o l (standing m_r (saved_in q g.before next) g.kept x)) (sym old.sealed) keeping) header_r
+        (subst (λ (memory : List Block). Issued q m_r memory) (sym on_round.sealed) written.1) (sym here.way) doubt makes
+
+  -- by the action
+  sound_write : (j : ℕ) → Here (Write j) → IsSound D o (marks_after (report I e (RoundItem (Write j))) k) (now (next_after F I e (RoundItem (Write j))) c)
+      (written_to n (slot_place F e j) (slot_block I e c j))
+  sound_write j here =
+      let m : Device = written_to n (slot_place F e j) (slot_block I e c j) in
+      subst (λ y. IsSound D o y (now (next_after F I e (RoundItem (Write j))) c) m) (sym (marks_of_block k (nat_lt j (record_blocks e.p))))
+      (next_by (λ (q : Round). IsInRound (slot_blocks F e) q × Issued q m (D.parts.sealed c n)
+      → IsKeeping o l (standing m (saved_in q g.before g.next) g.kept (Some (h.checkpoints.made here.way).mark)) → IsSound D o k (now (InRound q) c) m) j (slot_blocks F e)
+      (λ more written keeping. goes_in (Write j) here (Write (j + 1)) g.next k.written here.doubt (λ is. cc) written keeping)
+      (λ last written keeping. goes_in (Write j) here Settle g.next k.written here.doubt (λ is. cc) written keeping)
+      (issued_then (Write j) here) (keeping_then (Write j) here))
+
+  sound_settle : Here Settle → IsSound D o k (now (InRound Commit) c) (settled n)
+  sound_settle here =
+      goes_in Settle here Commit (next_image n (commit_of e.epoch)) k.written here.doubt (λ is. (commit_is Settle here here.issued, makes Settle here here.issued))
+      (issued_then Settle here) (keeping_then Settle here)
+
+  sound_commit : Here Commit → IsSound D o (record k { written = true }) (now (InRound Confirm) c) (written_to n 1 (commit_of e.epoch))
+  sound_commit here =
+      let made = h.checkpoints.made here.way in
+      goes_in Commit here Confirm g.next true refl (λ is. (made.commit (here.settled refl), made.makes (here.settled refl))) (issued_then Commit here) (keeping_then Commit here)
+
+  module _ (here : Here Confirm) where
+    abbrev old_d : IsMadeFor D o e c n g
+    old_d = h.checkpoints.made here.way
 
     mark_is : k.sealed ≡ Some old_d.mark
     mark_is = sym h.checkpoints.sealed ∙ old_d.sealed
@@ -454,16 +437,11 @@ module _ {C : Type 0} (D : DesignOf C) (w : IsDesign D) (o : Origin) (k : Checkp
     done_is : unwrap_or k.sealed k.done ≡ old_d.mark
     done_is = ap (λ (x : Option Mark). unwrap_or x k.done) mark_is
 
-    on_d : Carries D e.epoch Made c n Made c (settled n)
-    on_d = w.same_reads Made e.epoch c n (settled n) (moment_at Confirm is) (settled_same n)
+    abbrev on_d : Carries D e.epoch (phase_of e.stage) c n Made c (settled n)
+    on_d = on_round Confirm here
 
     keeping_d : IsKeeping o l (standing (settled n) (Kept g.next) g.sealed None)
-    keeping_d =
-        subst (λ (x : Option Mark). IsKeeping o l (standing (settled n) (Kept g.next) x None)) (sym old_d.sealed)
-        (IsKeeping-move o l _ _
-        (Confirms g.before g.next g.kept old_d.mark n (settled n)
-        (subst (Reads n 1) (sym (old_d.commit (ap is_settled is))) (written_at Confirm is).1) refl)
-        (subst (λ (x : Option Mark). IsKeeping o l (standing n (InDoubt g.before g.next) g.kept x)) old_d.sealed (keeping_at Confirm is)))
+    keeping_d = subst (λ (x : Option Mark). IsKeeping o l (standing (settled n) (Kept g.next) x None)) (sym old_d.sealed) (keeping_then Confirm here)
 
     -- at the stage after it
     ends : (q : EngineStage) → is_sealing q ≡ false → is_confirming q ≡ false → saved_at q (record g { before = g.next; kept = g.sealed; sealed = None }) ≡ Kept g.next
@@ -482,7 +460,7 @@ module _ {C : Type 0} (D : DesignOf C) (w : IsDesign D) (o : Origin) (k : Checkp
         kept = old_d.sealed ∙ ap Some (sym done_is);
         sealed = refl;
         keeping = subst (λ x. IsKeeping o l (standing (settled n) x g.sealed None)) (sym saved) keeping_d;
-        told = on.keeps g.next (on_d.makes g.next (old_d.makes (ap is_settled is)));
+        told = on.keeps g.next ((over Confirm here).makes g.next (old_d.makes (here.settled refl)));
         written = written_stage D q q e (I.committed c) (settled n) written;
         made = λ way. let no : true ≡ false = sym way ∙ unsealed in absurd cc;
       };
@@ -494,9 +472,7 @@ module _ {C : Type 0} (D : DesignOf C) (w : IsDesign D) (o : Origin) (k : Checkp
         state =
             ap (state_from o.geometry e.cpu) (on.committed ∙ on_d.sealed) ∙ old_d.state_is ∙ ap (λ (m : Mark). at o m.count) (sym done_is);
       };
-      rests =
-          on.rests s.storeless s.sealed_storeless
-          (on_d.rests s.storeless s.sealed_storeless (subst (λ q. D.parts.rests s.storeless s.sealed_storeless (phase_of q) c) is h.rests));
+      rests = on.rests s.storeless s.sealed_storeless (on_d.rests s.storeless s.sealed_storeless h.rests);
     }
 
     by_tail : (tail : Bool) → Commits D e.epoch c (settled n) (if tail then Applying 0 else Resting) (I.committed c) (settled n)
@@ -506,7 +482,13 @@ module _ {C : Type 0} (D : DesignOf C) (w : IsDesign D) (o : Origin) (k : Checkp
     by_tail false on fits = ends Idle refl refl refl tt on fits
 
     sound_confirm : IsSound D o (only (unwrap_or k.sealed k.done)) (now (if I.has_tail then Tail 0 else Idle) (I.committed c)) (settled n)
-    sound_confirm = by_tail I.has_tail (w.commits e.epoch c (settled n) on_d.moment) (fits_at Confirm ConfirmItem is refl)
+    sound_confirm = by_tail I.has_tail (w.commits e.epoch c (settled n) on_d.moment) here.fits
+
+  sound_round : (r : Round) → Here r → After (RoundItem r)
+  sound_round (Write j) here = sound_write j here
+  sound_round Settle here = sound_settle here
+  sound_round Commit here = sound_commit here
+  sound_round Confirm here = sound_confirm here
 
   -- ---- the tail
 
@@ -540,14 +522,11 @@ module _ {C : Type 0} (D : DesignOf C) (w : IsDesign D) (o : Origin) (k : Checkp
 
   -- ---- all of them
 
-  abbrev After : Item → Type 0
-  After i = IsSound D o (marks_after (report I e i) k) (now (next_after F I e i) (control_after I i c)) (after (action_of F I e i c n) n)
-
   marks_of_position : (j : ℕ) → marks_after (I.step_of e.p j) k ≡ k
   marks_of_position j = marks_of_step k (I.step_of e.p j) (w.items.steps e.p j)
 
   by_body : (from : ℕ) (x : Option ℕ) → e.stage ≡ Body from → I.body_next c from ≡ x → After (body_or_slot x)
-  by_body from None is next = first_slot from is next
+  by_body from None is next = sound_round (Write 0) (at_first from is next)
   by_body from (Some j) is next =
       subst (λ y. IsSound D o y (now (Body (j + 1)) (I.body_after c j)) (written_to n (I.body_place e.epoch c j) (I.body_block c n j))) (sym (marks_of_position j))
       (sound_body from j is next)
@@ -561,10 +540,7 @@ module _ {C : Type 0} (D : DesignOf C) (w : IsDesign D) (o : Origin) (k : Checkp
   by_stage : (q : EngineStage) → e.stage ≡ q → is_under_way q ≡ true → After (item I q c)
   by_stage Idle is way = cc
   by_stage (Body from) is way = by_body from (I.body_next c from) is refl
-  by_stage (Slot j) is way = next_slot_block j is
-  by_stage Settle is way = sound_settle is
-  by_stage Commit is way = sound_commit is
-  by_stage Confirm is way = sound_confirm is
+  by_stage (InRound r) is way = sound_round r (at_round r is)
   by_stage (Tail from) is way = by_tail_of from (I.tail_next c from) is refl
 
 pub items_keep_sound : {C : Type 0} (D : DesignOf C) → IsDesign D → ItemsKeepSound D

@@ -1,5 +1,5 @@
 -- What a step of the engine makes of the scheme, seal and drain, merge and promotion: each call's promise.
-use Rattle.std.proofs.Common.{◌≡◌, ◌≢◌, ◌⊎◌, ℕ, ◌+◌, ◌<◌, ◌≤◌, nat_lt, Bool, true, false, if◌then◌else◌, List, [], ◌∷◌, Contains, Option, Some, None, refl, sym, ◌∙◌, ap, subst, inl, inr, arith, Result, Ok, Err, OnOk, OnErr, IfOk}
+use Rattle.std.proofs.Common.{◌≡◌, ◌≢◌, ◌⊎◌, ℕ, ◌+◌, ◌≤◌, nat_lt, Bool, true, false, if◌then◌else◌, List, [], ◌∷◌, Contains, Option, Some, None, refl, sym, ◌∙◌, ap, subst, inl, inr, arith, Result, Ok, Err, OnOk, OnErr, IfOk}
 use Rattle.std.proofs.lemmas.Bool.{both_ways}
 use Rattle.std.proofs.lemmas.List.Elements.{Contains-push, Contains-append_left, Contains-append_right}
 use Rattle.thy_base.specs.declared.block.Block.{Block}
@@ -22,12 +22,15 @@ use Rattle.thy_scheme.specs.Scheme.{Stands}
 use Rattle.thy_scheme.specs.Calls.{IsDue, writes_block, engine_did, Keeps, Seals, Engines, EngineFails, OwesAfter}
 use Rattle.thy_scheme.proofs.RecordLemmas.{due-slot}
 use Rattle.thy_engine.specs.declared.stage.EngineStage.{EngineStage}
-use Rattle.thy_engine.specs.declared.stage.EngineStage.TheVariants.{Idle, Body, Slot, Settle, Commit, Confirm, Tail}
+use Rattle.thy_engine.specs.declared.stage.EngineStage.TheVariants.{Idle, Body, InRound, Tail}
+use Rattle.thy_protocol.specs.declared.round.Round.{Round}
+use Rattle.thy_protocol.specs.declared.round.Round.TheVariants.{Write, Settle, Commit, Confirm}
+use Rattle.thy_protocol.specs.Round.{is_written}
 use Rattle.thy_engine.specs.Cycles.{cycles_left}
 use Rattle.thy_engine.specs.Items.{ItemsOf, Phase, Resting, Making, Made, Applying, phase_committed}
-use Rattle.thy_engine.specs.Progress.{Progress, phase_of, slot_blocks, slot_block, slot_place, Item, SlotItem, ConfirmItem, body_or_slot, tail_or_release, item, after_slot, next_after, action_of, control_after, report, is_under_way, engine_next, control_next, action_next}
+use Rattle.thy_engine.specs.Progress.{Progress, phase_of, slot_block, slot_place, Item, RoundItem, body_or_slot, tail_or_release, item, next_after, action_of, control_after, report, is_under_way, engine_next, control_next, action_next}
 use Rattle.thy_engine.proofs.ItemLemmas.{items_count}
-use Rattle.thy_parts.specs.Checkpoints.{Checkpoints, is_sealing, is_confirming, IsMadeFor}
+use Rattle.thy_parts.specs.Checkpoints.{Checkpoints, is_confirming, IsMadeFor}
 use Rattle.thy_parts.specs.Design.{DesignOf, Composed}
 use Rattle.thy_parts.specs.IsDesign.{IsDesign, IsSpared}
 use Rattle.thy_parts.specs.Laws.{taken, device_taken, step_of, sealed}
@@ -38,7 +41,7 @@ use Rattle.thy_parts.proofs.CarryLemmas.{Carries-both, opens_both, settled_same}
 use Rattle.thy_parts.proofs.HeldLemmas.{moment_held, Keeping, keeping_carried, keeps_by}
 use Rattle.thy_parts.proofs.SafeLemmas.{failed_items_are_safe}
 use Rattle.thy_parts.proofs.SealLemmas.{seal_keeps_sound, idle_stage}
-use Rattle.thy_parts.proofs.SoundLemmas.{moment_at, told_at, can, stays_made, some_slot, items_keep_sound}
+use Rattle.thy_parts.proofs.SoundLemmas.{IsAt, moment_at, told_at, at_round, at_first, free, on_round, items_keep_sound}
 
 -- ---- what an item is
 
@@ -61,12 +64,6 @@ not_commit D c g x free is =
     free (subst (Contains (0 ∷ 1 ∷ looked_by (layout_at D.filling (D.filling.p c)) g)) (sym is)
     (Contains-append_right (0 ∷ []) (1 ∷ looked_by (layout_at D.filling (D.filling.p c)) g) 1
     (Contains-append_left (1 ∷ []) (looked_by (layout_at D.filling (D.filling.p c)) g) 1 (Contains-push [] 1))))
-
-phase_slot : {C : Type 0} (F : FillingOf C) (e : Progress) (j : ℕ) → phase_of (after_slot F e j) ≡ Made
-phase_slot F e j = by_more (nat_lt (j + 1) (slot_blocks F e)) where
-  by_more : (more : Bool) → phase_of (if more then Slot (j + 1) else Settle) ≡ Made
-  by_more true = refl
-  by_more false = refl
 
 phase_confirmed : {C : Type 0} (I : ItemsOf C) → phase_of (if I.has_tail then Tail 0 else Idle) ≡ phase_committed I
 phase_confirmed I = by_tail I.has_tail where
@@ -124,13 +121,8 @@ module _ {C : Type 0} (D : DesignOf C) (w : IsDesign D) (o : Origin) (k : Checkp
       let pass = passed from j is next in
       w.body_spared e.epoch c n j g.before pass.moment (again from j is next) (pass.keeps g.before (told_at D w o k s n sound (Body from) is))
 
-  slot_free : (q : EngineStage) (j : ℕ) → e.stage ≡ q → is_sealing q ≡ true → Carries D e.epoch (phase_of q) c n Made c n → j < slot_blocks F e
-      → IsSpared D c g.before (slot_place F e j)
-  slot_free q j is sealing into below =
-      w.slot_spared e c n g.before j into.moment (can D w o k s n sound (ap is_sealing is ∙ sealing)) (into.keeps g.before (told_at D w o k s n sound q is)) below
-
-  into_slot : (from : ℕ) → e.stage ≡ Body from → I.body_next c from ≡ None → Carries D e.epoch (Making from) c n Made c n
-  into_slot from is next = w.body_ends e.epoch c n from (moment_at D w o k s n sound (Body from) is) next
+  abbrev Here : Round → Type 0
+  Here r = IsAt D o k s n g r
 
   passed_tail : (from j : ℕ) → e.stage ≡ Tail from → I.tail_next c from ≡ Some j → Carries D e.epoch (Applying from) c n (Applying j) c n
   passed_tail from j is next = w.tail_passes e.epoch c n from j (moment_at D w o k s n sound (Tail from) is) next
@@ -145,14 +137,17 @@ module _ {C : Type 0} (D : DesignOf C) (w : IsDesign D) (o : Origin) (k : Checkp
 
   -- ---- an item asks for the action that its result names, and writes if it is reported so
 
-  asks_block : (lap : ℕ) (q : EngineStage) (j : ℕ) → e.stage ≡ q → is_sealing q ≡ true → Carries D e.epoch (phase_of q) c n Made c n → j < slot_blocks F e
-      → Asks (engine_did lap (report I e (SlotItem j))) (action_of F I e (SlotItem j) c n)
-  asks_block lap q j is sealing into below =
-      asks_slot lap (nat_lt j (record_blocks e.p)) (slot_place F e j) (slot_block I e c j) (not_commit D c g.before (slot_place F e j) (slot_free q j is sealing into below))
+  asks_round : (lap : ℕ) (r : Round) → Here r → Asks (engine_did lap (report I e (RoundItem r))) (action_of F I e (RoundItem r) c n)
+  asks_round lap (Write j) here =
+      asks_slot lap (nat_lt j (record_blocks e.p)) (slot_place F e j) (slot_block I e c j)
+      (not_commit D c g.before (slot_place F e j) (free D w o k s n sound (Write j) here j here.inside))
+  asks_round lap Settle here = refl
+  asks_round lap Commit here = (commit_of e.epoch, refl)
+  asks_round lap Confirm here = refl
 
   asks_body : (lap from : ℕ) (x : Option ℕ) → e.stage ≡ Body from → I.body_next c from ≡ x
       → Asks (engine_did lap (report I e (body_or_slot x))) (action_of F I e (body_or_slot x) c n)
-  asks_body lap from None is next = asks_block lap (Body from) 0 is refl (into_slot from is next) (some_slot D w o k s n sound)
+  asks_body lap from None is next = asks_round lap (Write 0) (at_first D w o k s n sound from is next)
   asks_body lap from (Some j) is next =
       asks_position lap (I.step_of e.p j) (I.body_place e.epoch c j) (I.body_block c n j) (w.items.steps e.p j)
       (not_commit D c g.before (I.body_place e.epoch c j) (body_free from j is next))
@@ -167,17 +162,20 @@ module _ {C : Type 0} (D : DesignOf C) (w : IsDesign D) (o : Origin) (k : Checkp
   asks : (lap : ℕ) (q : EngineStage) → e.stage ≡ q → is_under_way q ≡ true → Asks (engine_did lap (Step q)) (action_of F I e (item I q c) c n)
   asks lap Idle is way = cc
   asks lap (Body from) is way = asks_body lap from (I.body_next c from) is refl
-  asks lap (Slot j) is way = asks_block lap (Slot j) j is refl (stays_made D w o k s n sound (Slot j) is refl) (sound.held.fits.inside j is)
-  asks lap Settle is way = refl
-  asks lap Commit is way = (commit_of e.epoch, refl)
-  asks lap Confirm is way = refl
+  asks lap (InRound r) is way = asks_round lap r (at_round D w o k s n sound r is)
   asks lap (Tail from) is way = asks_tail lap from (I.tail_next c from) is refl
 
   abbrev Writes : Item → Type 0
   Writes i = writes_block (report I e i) ≡ true → WritesNvm n (after (action_of F I e i c n) n)
 
+  writes_round : (r : Round) → Writes (RoundItem r)
+  writes_round (Write j) h = record { at = slot_place F e j; block = slot_block I e c j; left = refl }
+  writes_round Settle h = absurd (both_ways false refl h)
+  writes_round Commit h = absurd (both_ways false refl h)
+  writes_round Confirm h = absurd (both_ways false refl h)
+
   writes_body : (x : Option ℕ) → Writes (body_or_slot x)
-  writes_body None h = record { at = slot_place F e 0; block = slot_block I e c 0; left = refl }
+  writes_body None h = writes_round (Write 0) h
   writes_body (Some j) h = record { at = I.body_place e.epoch c j; block = I.body_block c n j; left = refl }
 
   writes_tail : (x : Option ℕ) → Writes (tail_or_release x)
@@ -187,10 +185,7 @@ module _ {C : Type 0} (D : DesignOf C) (w : IsDesign D) (o : Origin) (k : Checkp
   writes : (q : EngineStage) → Writes (item I q c)
   writes Idle h = absurd (both_ways false refl h)
   writes (Body from) h = writes_body (I.body_next c from) h
-  writes (Slot j) h = record { at = slot_place F e j; block = slot_block I e c j; left = refl }
-  writes Settle h = absurd (both_ways false refl h)
-  writes Commit h = absurd (both_ways false refl h)
-  writes Confirm h = absurd (both_ways false refl h)
+  writes (InRound r) h = writes_round r h
   writes (Tail from) h = writes_tail (I.tail_next c from) h
 
   -- ---- it is due
@@ -199,6 +194,16 @@ module _ {C : Type 0} (D : DesignOf C) (w : IsDesign D) (o : Origin) (k : Checkp
   due_body None = due-slot k (nat_lt 0 (record_blocks e.p))
   due_body (Some j) = due_position (I.step_of e.p j) k (w.items.steps e.p j)
 
+  due_round : (r : Round) → Here r → IsDue (report I e (RoundItem r)) k
+  due_round (Write j) here = due-slot k (nat_lt j (record_blocks e.p))
+  due_round Settle here = tt
+  due_round Commit here =
+      let made : IsMadeFor D o e c n g = sound.checkpoints.made here.way in
+      (here.doubt, (made.mark, sym sound.checkpoints.sealed ∙ made.sealed))
+  due_round Confirm here =
+      let made : IsMadeFor D o e c n g = sound.checkpoints.made here.way in
+      (here.doubt, (made.mark, sym sound.checkpoints.sealed ∙ made.sealed, made.of_epoch))
+
   due_tail : (x : Option ℕ) → IsDue (report I e (tail_or_release x)) k
   due_tail None = tt
   due_tail (Some j) = due_position (I.step_of e.p j) k (w.items.steps e.p j)
@@ -206,14 +211,7 @@ module _ {C : Type 0} (D : DesignOf C) (w : IsDesign D) (o : Origin) (k : Checkp
   due : (q : EngineStage) → e.stage ≡ q → is_under_way q ≡ true → IsDue (Step q) k
   due Idle is way = cc
   due (Body from) is way = due_body (I.body_next c from)
-  due (Slot j) is way = due-slot k (nat_lt j (record_blocks e.p))
-  due Settle is way = tt
-  due Commit is way =
-      let made : IsMadeFor D o e c n g = sound.checkpoints.made (ap is_sealing is) in
-      (sound.doubt ∙ ap is_confirming is, (made.mark, sym sound.checkpoints.sealed ∙ made.sealed))
-  due Confirm is way =
-      let made : IsMadeFor D o e c n g = sound.checkpoints.made (ap is_sealing is) in
-      (sound.doubt ∙ ap is_confirming is, (made.mark, sym sound.checkpoints.sealed ∙ made.sealed, made.of_epoch))
+  due (InRound r) is way = due_round r (at_round D w o k s n sound r is)
   due (Tail from) is way = due_tail (I.tail_next c from)
 
   -- ---- the DRAM is left alone
@@ -222,6 +220,12 @@ module _ {C : Type 0} (D : DesignOf C) (w : IsDesign D) (o : Origin) (k : Checkp
   dram_body from None is next = refl
   dram_body from (Some j) is next = (w.items.body c j (passed from j is next).moment.stands (again from j is next)).dram
 
+  dram_round : (r : Round) → I.stands Made c → F.dram (control_after I (RoundItem r) c) ≡ F.dram c
+  dram_round (Write j) stands = refl
+  dram_round Settle stands = refl
+  dram_round Commit stands = refl
+  dram_round Confirm stands = (w.items.commits c stands).dram
+
   dram_tail : (from : ℕ) (x : Option ℕ) → e.stage ≡ Tail from → I.tail_next c from ≡ x → F.dram (control_after I (tail_or_release x) c) ≡ F.dram c
   dram_tail from None is next = (w.items.releases c from (moment_at D w o k s n sound (Tail from) is).stands next).dram
   dram_tail from (Some j) is next = (w.items.tail c j (passed_tail from j is next).moment.stands (again_tail from j is next)).dram
@@ -229,10 +233,7 @@ module _ {C : Type 0} (D : DesignOf C) (w : IsDesign D) (o : Origin) (k : Checkp
   dram : (q : EngineStage) → e.stage ≡ q → F.dram (control_after I (item I q c) c) ≡ F.dram c
   dram Idle is = refl
   dram (Body from) is = dram_body from (I.body_next c from) is refl
-  dram (Slot j) is = refl
-  dram Settle is = refl
-  dram Commit is = refl
-  dram Confirm is = (w.items.commits c (moment_at D w o k s n sound Confirm is).stands).dram
+  dram (InRound r) is = dram_round r (moment_at D w o k s n sound (InRound r) is).stands
   dram (Tail from) is = dram_tail from (I.tail_next c from) is refl
 
   -- ---- what it leaves of the moment
@@ -240,14 +241,16 @@ module _ {C : Type 0} (D : DesignOf C) (w : IsDesign D) (o : Origin) (k : Checkp
   abbrev To : EngineStage → Item → Type 0
   To q i = Carries D e.epoch (phase_of q) c n (phase_of (next_after F I e i)) (control_after I i c) (after (action_of F I e i c n) n)
 
-  carries_slot : (q : EngineStage) (j : ℕ) → Carries D e.epoch (phase_of q) c n Made c n → j < slot_blocks F e → To q (SlotItem j)
-  carries_slot q j into below =
-      subst (λ (to : Phase). Carries D e.epoch (phase_of q) c n to c (after (action_of F I e (SlotItem j) c n) n)) (sym (phase_slot F e j))
-      (Carries-both D e.epoch (phase_of q) Made Made c c c n n (after (action_of F I e (SlotItem j) c n) n) into
-      (w.own_carries e c n (slot_place F e j) (slot_block I e c j) into.moment sound.held.fits.same_p (inr (j, below, refl))))
+  carries_round : (q : EngineStage) (r : Round) → e.stage ≡ q → Here r → is_written r ≡ false → To q (RoundItem r)
+  carries_round q r is here unwritten = subst (λ (x : EngineStage). To x (RoundItem r)) is (by_round r here unwritten) where
+    by_round : (r : Round) → Here r → is_written r ≡ false → To e.stage (RoundItem r)
+    by_round (Write j) here unwritten = on_round D w o k s n sound (Write j) here
+    by_round Settle here unwritten = on_round D w o k s n sound Settle here
+    by_round Commit here unwritten = on_round D w o k s n sound Commit here
+    by_round Confirm here unwritten = cc
 
   carries_body : (from : ℕ) (x : Option ℕ) → e.stage ≡ Body from → I.body_next c from ≡ x → To (Body from) (body_or_slot x)
-  carries_body from None is next = carries_slot (Body from) 0 (into_slot from is next) (some_slot D w o k s n sound)
+  carries_body from None is next = carries_round (Body from) (Write 0) is (at_first D w o k s n sound from is next) refl
   carries_body from (Some j) is next =
       let pass = passed from j is next in
       Carries-both D e.epoch (Making from) (Making j) (Making (j + 1)) c c (I.body_after c j) n n (after (action_of F I e (body_or_slot (Some j)) c n) n)
@@ -266,10 +269,7 @@ module _ {C : Type 0} (D : DesignOf C) (w : IsDesign D) (o : Origin) (k : Checkp
   carries : (q : EngineStage) → e.stage ≡ q → is_under_way q ≡ true → is_confirming q ≡ false → To q (item I q c)
   carries Idle is way unconfirmed = cc
   carries (Body from) is way unconfirmed = carries_body from (I.body_next c from) is refl
-  carries (Slot j) is way unconfirmed = carries_slot (Slot j) j (stays_made D w o k s n sound (Slot j) is refl) (sound.held.fits.inside j is)
-  carries Settle is way unconfirmed = w.same_reads Made e.epoch c n (settled n) (moment_at D w o k s n sound Settle is) (settled_same n)
-  carries Commit is way unconfirmed = w.own_carries e c n 1 (commit_of e.epoch) (moment_at D w o k s n sound Commit is) sound.held.fits.same_p (inl refl)
-  carries Confirm is way unconfirmed = cc
+  carries (InRound r) is way unconfirmed = carries_round (InRound r) r is (at_round D w o k s n sound r is) unconfirmed
   carries (Tail from) is way unconfirmed = carries_tail from (I.tail_next c from) is refl
 
   abbrev Kept : EngineStage → Item → Type 0
@@ -280,9 +280,9 @@ module _ {C : Type 0} (D : DesignOf C) (w : IsDesign D) (o : Origin) (k : Checkp
       keeping_carried D e.epoch (phase_of q) (phase_of (next_after F I e (item I q c))) c (control_after I (item I q c) c) n
       (after (action_of F I e (item I q c) c n) n) (moment_at D w o k s n sound q is) (carries q is way unconfirmed)
 
-  kept_confirmed : e.stage ≡ Confirm → Kept Confirm ConfirmItem
+  kept_confirmed : e.stage ≡ InRound Confirm → Kept (InRound Confirm) (RoundItem Confirm)
   kept_confirmed is =
-      let first = moment_at D w o k s n sound Confirm is in
+      let first = moment_at D w o k s n sound (InRound Confirm) is in
       let over = w.same_reads Made e.epoch c n (settled n) first (settled_same n) in
       let to = w.commits e.epoch c (settled n) over.moment in
       subst (λ (x : Phase). Keeping D e.epoch Made c n x (I.committed c) (settled n)) (sym (phase_confirmed I)) (record {
@@ -302,10 +302,10 @@ module _ {C : Type 0} (D : DesignOf C) (w : IsDesign D) (o : Origin) (k : Checkp
   kept : (q : EngineStage) → e.stage ≡ q → is_under_way q ≡ true → Kept q (item I q c)
   kept Idle is way = cc
   kept (Body from) is way = carried (Body from) is refl refl
-  kept (Slot j) is way = carried (Slot j) is refl refl
-  kept Settle is way = carried Settle is refl refl
-  kept Commit is way = carried Commit is refl refl
-  kept Confirm is way = kept_confirmed is
+  kept (InRound (Write j)) is way = carried (InRound (Write j)) is refl refl
+  kept (InRound Settle) is way = carried (InRound Settle) is refl refl
+  kept (InRound Commit) is way = carried (InRound Commit) is refl refl
+  kept (InRound Confirm) is way = kept_confirmed is
   kept (Tail from) is way = carried (Tail from) is refl refl
 
   -- a step that is no commit owes no more
@@ -319,10 +319,10 @@ module _ {C : Type 0} (D : DesignOf C) (w : IsDesign D) (o : Origin) (k : Checkp
   owes : (q : EngineStage) → e.stage ≡ q → is_under_way q ≡ true → OwesAfter (Step q) (scheme_of D) s n (taken D s) (device_taken D s n)
   owes Idle is way = cc
   owes (Body from) is way = owed_by (Body from) is refl refl
-  owes (Slot j) is way = owed_by (Slot j) is refl refl
-  owes Settle is way = owed_by Settle is refl refl
-  owes Commit is way = owed_by Commit is refl refl
-  owes Confirm is way = tt
+  owes (InRound (Write j)) is way = owed_by (InRound (Write j)) is refl refl
+  owes (InRound Settle) is way = owed_by (InRound Settle) is refl refl
+  owes (InRound Commit) is way = owed_by (InRound Commit) is refl refl
+  owes (InRound Confirm) is way = tt
   owes (Tail from) is way = owed_by (Tail from) is refl refl
 
   count : cycles_left F I (engine_next F I e c) (control_next I e c) + 1 ≤ cycles_left F I e c

@@ -1,2 +1,3 @@
 pub mod IssuingLemmas
 pub mod KeepsLemmas
+pub mod RoundLemmas

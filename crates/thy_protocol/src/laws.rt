@@ -1,6 +1,7 @@
 //! The laws, each the contract of a function that does nothing.
 ghost use Rattle.thy_protocol.specs.Issuing.{IssuingBegins, SlotGoesOn, ElsewhereKeepsIssued, DrainKeepsIssued, IssuedIsCheckpoint};
 ghost use Rattle.thy_protocol.specs.Laws.{KeptIsSafe, KeptIsSafeForBoth, FirstIsTold, BootShows, MovesAreSafe, CutKeeps, EmptyKeeps, ActionSpares, FailedActionSpares};
+ghost use Rattle.thy_protocol.specs.Rounds.{RoundsMove, FailedRoundsMove};
 
 /// Whatever a cut leaves is the checkpoint that is kept, whole, or the one in doubt; so it is the one kept or the one
 /// sealed, also after a call that failed.
@@ -47,4 +48,11 @@ pub fn issuing_goes_on()
 /// decodes to it, and all blocks that determine it were issued, except the commit block.
 pub fn what_is_issued_is_a_checkpoint()
     ensures { IssuedIsCheckpoint }
+{}
+
+/// Each action of a round is a move, whether or not it fails, if a block goes to no place that the kept image is found by, and
+/// the checkpoint is that of the sealed mark. This may be the mark that is kept.
+pub fn rounds_are_moves()
+    ensures done { RoundsMove }
+    ensures failed { FailedRoundsMove }
 {}

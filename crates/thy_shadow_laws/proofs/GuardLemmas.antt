@@ -10,8 +10,11 @@ use Rattle.thy_view.specs.Action.{WriteAt}
 use Rattle.thy_shadow_image.specs.Places.{slot_blocks, slot_place, first_pool, pool_place, pool_page}
 use Rattle.thy_shadow_image.proofs.PartsLemmas.{slot_behind}
 use Rattle.thy_engine.specs.declared.stage.EngineStage.{EngineStage}
-use Rattle.thy_engine.specs.declared.stage.EngineStage.TheVariants.{Idle, Body, Slot, Settle, Commit, Confirm, Tail}
-use Rattle.thy_engine.specs.Progress.{Progress, BodyItem, SlotItem, phase_of, item, body_or_slot, action_of}
+use Rattle.thy_engine.specs.declared.stage.EngineStage.TheVariants.{Idle, Body, InRound, Tail}
+use Rattle.thy_protocol.specs.declared.round.Round.{Round}
+use Rattle.thy_protocol.specs.declared.round.Round.TheVariants.{Write, Settle, Commit, Confirm}
+use Rattle.thy_protocol.specs.Round.{IsInRound}
+use Rattle.thy_engine.specs.Progress.{Progress, BodyItem, RoundItem, phase_of, item, body_or_slot, action_of}
 use Rattle.thy_pool.specs.Items.{next_block}
 use Rattle.thy_pool.specs.State.{State, IsSoundState, target_place, committed_table}
 use Rattle.thy_pool.proofs.TableLemmas.{target_free}
@@ -23,9 +26,12 @@ use Rattle.thy_shadow_laws.proofs.WorkLemmas.{target_of}
 
 module _ (e : Progress) (s : State) (n : Device) (at : ℕ) (block : Block) (x q c : ℕ) (same : s.p ≡ e.p)
     (lists : Lists (committed_table s) x q) (below : c < 64) where
-  -- a block of the slot
-  slot_spared : (k : ℕ) → k < slot_blocks e.p → action_of filling_shadow items_shadow e (SlotItem k) s n ≡ WriteAt at block → at ≢ pool_place s.p q c
-  slot_spared k l act there =
+  -- a block of the slot, and the commit block
+  round_spared : (r : Round) → IsInRound (slot_blocks e.p) r → action_of filling_shadow items_shadow e (RoundItem r) s n ≡ WriteAt at block → at ≢ pool_place s.p q c
+  round_spared Settle l act there = absurd (cc)
+  round_spared Commit l act there = let is : 1 ≡ at = cc in omega (arith, is, there)
+  round_spared Confirm l act there = absurd (cc)
+  round_spared (Write k) l act there =
       let is : slot_place e.p (epoch_of (commit_of e.epoch) % 2) + k ≡ at = cc in
       let before = (slot_behind e.p (epoch_of (commit_of e.epoch) % 2) k (half (epoch_of (commit_of e.epoch))) l).1 in
       let pool : first_pool s.p ≡ first_pool e.p = ap first_pool same in
@@ -45,16 +51,13 @@ module _ (e : Progress) (s : State) (n : Device) (at : ℕ) (block : Block) (x q
   pages_spared : (from : ℕ) → IsSoundState s → (o : Option ℕ) → next_block from s ≡ o
       → action_of filling_shadow items_shadow e (body_or_slot o) s n ≡ WriteAt at block → at ≢ pool_place s.p q c
   pages_spared from sound (Some y) found act = page_spared y sound (next_filled s from y found).1 act
-  pages_spared from sound None found act = slot_spared 0 (omega arith) act
+  pages_spared from sound None found act = round_spared (Write 0) (omega arith) act
 
-  by_stage : (g : EngineStage) → stands_at (phase_of g) s → ((k : ℕ) → g ≡ Slot k → k < slot_blocks e.p)
+  by_stage : (g : EngineStage) → stands_at (phase_of g) s → ((r : Round) → g ≡ InRound r → IsInRound (slot_blocks e.p) r)
       → action_of filling_shadow items_shadow e (item items_shadow g s) s n ≡ WriteAt at block → at ≢ pool_place s.p q c
   by_stage Idle stands inside act = absurd (cc)
   by_stage (Body from) stands inside act = pages_spared from stands.sound (next_block from s) refl act
-  by_stage (Slot k) stands inside act = slot_spared k (inside k refl) act
-  by_stage Settle stands inside act = absurd (cc)
-  by_stage Commit stands inside act = λ there. (let is : 1 ≡ at = cc in omega (arith, is, there))
-  by_stage Confirm stands inside act = absurd (cc)
+  by_stage (InRound r) stands inside act = round_spared r (inside r refl) act
   by_stage (Tail from) stands inside act = absurd stands
 
 pub spared : CommittedIsSpared

@@ -13,7 +13,6 @@ mod cache;
 #[cfg(test)]
 mod counts;
 #[cfg(test)]
-mod crash;
 #[cfg(test)]
 mod dram;
 #[cfg(test)]

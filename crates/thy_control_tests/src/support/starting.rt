@@ -15,13 +15,14 @@ use std::alloc::Global;
 use std::marker::Model;
 use std::process::Abort;
 use thy_base::{Geometry, Nvm, Shape};
-use thy_boot::{Boot, Issue, Stage, a_boot_may_go_on};
+use thy_boot::{Boot, Stage, a_boot_may_go_on};
 use thy_control::Control;
 use thy_dram::Dram;
 use thy_dual::DualTables;
 use thy_layout::Start;
 use thy_nvm::MemNvm;
 use thy_places::blocks;
+use thy_protocol::Round;
 use thy_view::BootStep;
 
 /// A machine whose power is off: both devices, and how many cuts are to come at most.
@@ -169,7 +170,7 @@ fn step<N: Nvm>(
 impl Starting {
     /// Whether the commit block of loading is written.
     pub(crate) fn is_in_doubt(&self) -> bool {
-        matches!(self.boot.stage(), Stage::Loads(Issue::Confirm))
+        matches!(self.boot.stage(), Stage::Loads(Round::Confirm))
     }
 
     /// Takes a step, which must not refuse the image.

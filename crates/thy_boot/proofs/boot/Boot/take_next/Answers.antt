@@ -37,8 +37,8 @@ returns-in-Migrates-clause-step g c =
     let n : Device = g.N.Nvm.device c.args.nvm.now in
     let b : Booting = c.args.self.now in
     let s : State = state_of c.args.start.now.state in
-    let is : b.stage ≡ Migrates c.in-Migrates.at = sym c.stage.ensures ∙ c.in-Migrates.is in
-    takes_migration g.F.Fills.filling g.met.F.Fills.lawful c.migrate.result s c.in-Migrates.at n b c.args.control.now
+    let is : b.stage ≡ Migrates c.in-Migrates.round = sym c.stage.ensures ∙ c.in-Migrates.is in
+    takes_migration g.F.Fills.filling g.met.F.Fills.lawful c.migrate.result s c.in-Migrates.round n b c.args.control.now
     (g.N.Nvm.device c.migrate.new.nvm) c.migrate.new.self is c.requires.fits
     (subst (λ (q : Stage). CanStepAt g.F.Fills.filling q s n b c.args.control.now) is c.requires.can)
     c.migrate.ensures.boot c.migrate.ensures.kept c.migrate.ensures.nvm
