@@ -24,13 +24,6 @@ HeldIsUp {S} K = (s : S) (n : Device) (b : ℕ) → b < length (K.holding s n).b
 abbrev pub ReadyIsUp : {S : Type 0} → SchemeOf S → Type 0
 ReadyIsUp {S} K = (s : S) (n : Device) → (K.holding s n).ready ≡ true → n.down ≡ false
 
--- what stays does so if nothing happens, and over one call after another
-abbrev pub StaysOver : {S : Type 0} → SchemeOf S → Type 0
-StaysOver {S} K =
-    ((s : S) (n : Device) → K.stays s n s n)
-    × ((a : S) (m : Device) (b : S) (n : Device) (c : S) (o : Device)
-    → K.stays a m b n → K.stays b n c o → K.stays a m c o)
-
 -- ---- after the boot
 
 -- what stays keeps the checkpoints, whether or not a call failed

@@ -14,10 +14,7 @@ use thy_parts::Parts;
 fn is_applied(stage: EngineStage) -> bool
     ensures { result ≡ is_applying stage }
 {
-    match stage {
-        EngineStage::Tail(_) => true,
-        EngineStage::Idle | EngineStage::Body(_) | EngineStage::InRound(_) => false,
-    }
+    matches!(stage, EngineStage::Tail(_))
 }
 
 /// Blocks that the log's table lists are loaded from their buffers, all others from their homes; a store goes into a buffer.

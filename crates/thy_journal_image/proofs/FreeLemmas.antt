@@ -1,5 +1,5 @@
 -- Which writes leave a checkpoint alone.
-use Rattle.std.proofs.Common.{◌≡◌, ◌≢◌, ℕ, zero, suc, ◌+◌, ◌%◌, ◌<◌, ◌≤◌, List, ◌∷◌, Contains, Option, Some, None, refl, sym, ◌∙◌, ap, subst, arith}
+use Rattle.std.proofs.Common.{◌≡◌, ◌≢◌, ℕ, zero, suc, ◌+◌, ◌*◌, ◌%◌, ◌<◌, ◌≤◌, List, ◌∷◌, Contains, Option, Some, None, refl, sym, ◌∙◌, ap, subst, arith}
 use Rattle.thy_base.specs.declared.block.Block.{Block}
 use Rattle.thy_base.specs.declared.config.Parameters.{Parameters}
 use Rattle.thy_base.specs.Device.{block_at}
@@ -11,12 +11,12 @@ use Rattle.thy_layout.proofs.EntryLemmas.{entry_of-Some, entry_of-None, Lists-in
 use Rattle.thy_layout.proofs.AskingLemmas.{half}
 use Rattle.thy_layout.specs.Layout.{Layout, slot_places, memory_places as places_by, slot_in, looked_by}
 use Rattle.thy_layout.proofs.LookedLemmas.{not_looked}
-use Rattle.thy_journal_image.specs.Places.{slot_blocks, slot_place, journal_place, first_home, place_by}
+use Rattle.thy_journal_image.specs.Places.{slot_blocks, slot_place, first_home, place_by}
 use Rattle.thy_journal_image.specs.Slots.{IsTable, table_in}
 use Rattle.thy_journal_image.specs.Layout.{journal_layouts}
 use Rattle.thy_journal_image.specs.CheckpointParts.{memory_places, IsToldBy}
 use Rattle.thy_journal_image.specs.Free.{Target, SlotBlock, JournalBlock, HomeBlock, target_place, IsTarget, IsFree}
-use Rattle.thy_journal_image.proofs.PartsLemmas.{memory_place_of, memory_behind, slot_behind}
+use Rattle.thy_journal_image.proofs.PartsLemmas.{memory_place_of, place_by_behind, slot_behind}
 
 -- ---- places are apart
 
@@ -25,29 +25,24 @@ target_behind p (SlotBlock s k) there = (slot_behind p s k there.0 there.1).0
 target_behind p (JournalBlock s i) there = omega arith
 target_behind p (HomeBlock b) there = omega arith
 
-slots_apart : (p : Parameters) (s r k i : ℕ) → s < 2 → r < 2 → k < slot_blocks p → i < slot_blocks p → s ≢ r → slot_place p s + k ≢ slot_place p r + i
-slots_apart p zero zero k i l m n o other = λ e. other refl
-slots_apart p zero (suc zero) k i l m n o other = λ e. omega arith
-slots_apart p (suc zero) zero k i l m n o other = λ e. omega arith
-slots_apart p (suc zero) (suc zero) k i l m n o other = λ e. other refl
-slots_apart p (suc (suc s)) r k i l m n o other = absurd (omega arith)
-slots_apart p zero (suc (suc r)) k i l m n o other = absurd (omega arith)
-slots_apart p (suc zero) (suc (suc r)) k i l m n o other = absurd (omega arith)
-
-journals_apart : (p : Parameters) (s r i j : ℕ) → s < 2 → r < 2 → i < p.btt → j < p.btt → s ≢ r → journal_place p s i ≢ journal_place p r j
-journals_apart p zero zero i j l m n o other = λ e. other refl
-journals_apart p zero (suc zero) i j l m n o other = λ e. omega arith
-journals_apart p (suc zero) zero i j l m n o other = λ e. omega arith
-journals_apart p (suc zero) (suc zero) i j l m n o other = λ e. other refl
-journals_apart p (suc (suc s)) r i j l m n o other = absurd (omega arith)
-journals_apart p zero (suc (suc r)) i j l m n o other = absurd (omega arith)
-journals_apart p (suc zero) (suc (suc r)) i j l m n o other = absurd (omega arith)
+-- a place in one of two rows of the same size is none in the other
+rows_apart : (size s r k i : ℕ) → s < 2 → r < 2 → k < size → i < size → s ≢ r
+    → s * size + k ≢ r * size + i
+rows_apart size zero zero k i l m n o other = λ e. other refl
+rows_apart size zero (suc zero) k i l m n o other = λ e. omega arith
+rows_apart size (suc zero) zero k i l m n o other = λ e. omega arith
+rows_apart size (suc zero) (suc zero) k i l m n o other = λ e. other refl
+rows_apart size (suc (suc s)) r k i l m n o other = absurd (omega arith)
+rows_apart size zero (suc (suc r)) k i l m n o other = absurd (omega arith)
+rows_apart size (suc zero) (suc (suc r)) k i l m n o other = absurd (omega arith)
 
 -- ---- what is free is not looked at
 
 free_of_slot : (p : Parameters) (epoch : ℕ) (table : List (Option ℕ)) (x : Target) → IsTarget p x → IsFree epoch table x
     → (k : ℕ) → k < slot_blocks p → slot_place p (epoch % 2) + k ≢ target_place p x
-free_of_slot p epoch table (SlotBlock s i) there free k l = slots_apart p (epoch % 2) s k i (half epoch) there.0 l there.1 (λ e. free (sym e))
+free_of_slot p epoch table (SlotBlock s i) there free k l = λ e.
+    rows_apart (slot_blocks p) (epoch % 2) s k i (half epoch) there.0 l there.1
+    (λ same. free (sym same)) (omega (arith, e))
 free_of_slot p epoch table (JournalBlock s i) there free k l = λ e.
     let before = (slot_behind p (epoch % 2) k (half epoch) l).1 in
     omega (arith, before, e)
@@ -64,7 +59,8 @@ free_by p epoch table (SlotBlock s k) b found h there free l is behind = λ e.
 free_by p epoch table (JournalBlock s i) b None h there free l is behind = λ e. omega (arith, e, l)
 free_by p epoch table (JournalBlock s i) b (Some j) h there free l is behind =
     let inside = Lists-inside table j b (entry_of-Some table b j is) in
-    journals_apart p (epoch % 2) s j i (half epoch) there.0 (omega (arith, inside, h.long)) there.1 (λ e. free (sym e))
+    λ e. rows_apart p.btt (epoch % 2) s j i (half epoch) there.0 (omega (arith, inside, h.long))
+    there.1 (λ same. free (sym same)) (omega (arith, e))
 free_by p epoch table (HomeBlock c) b None h there free l is behind = λ e.
     let same : c ≡ b = omega (arith, e) in
     entry_of-None table b free.0 is (subst (Lists table free.0) same free.1)
@@ -74,9 +70,9 @@ free_of_memory : (p : Parameters) (epoch : ℕ) (table : List (Option ℕ)) (x :
     → Contains (memory_places p (epoch % 2) table) (target_place p x) → ⊥
 free_of_memory p epoch table x h there free inside =
     let of = memory_place_of p (epoch % 2) table (target_place p x) inside in
-    let behind = (memory_behind p (epoch % 2) table (target_place p x) h (half epoch) inside).0 in
-    let e = of.2 in
-    free_by p epoch table x of.0 (entry_of table of.0) h there free of.1 refl (subst (λ y. first_home p ≤ y) (sym e) behind) e
+    let behind =
+    (place_by_behind p (epoch % 2) table of.0 (entry_of table of.0) h (half epoch) of.1 refl).0 in
+    free_by p epoch table x of.0 (entry_of table of.0) h there free of.1 refl behind of.2
 
 module _ (p : Parameters) (image : List Block) (epoch : ℕ) (table : List (Option ℕ)) (x : Target)
     (told : IsToldBy p image epoch table) (there : IsTarget p x) (free : IsFree epoch table x) where

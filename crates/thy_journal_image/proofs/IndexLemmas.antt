@@ -1,35 +1,24 @@
 -- The numbers of memory's places, entry by entry of the table.
-use Rattle.std.proofs.Common.{◌≡◌, ℕ, ◌+◌, ◌<◌, List, [], length, take, slice_set, slice_index_or, Option, Some, None, refl, sym, ◌∙◌, ap, inl, inr, arith}
+use Rattle.std.proofs.Common.{◌≡◌, ℕ, ◌+◌, ◌<◌, List, take, slice_set, slice_index_or, Option, Some, None, refl, sym, ◌∙◌, ap, inl, inr, arith}
 use Rattle.std.proofs.lemmas.Bool.{cases_eq}
-use Rattle.std.proofs.lemmas.List.{length-set, get_or-set_same, get_or-set_other, ext_get_or}
+use Rattle.std.proofs.lemmas.List.{length-set, get_or-set_same, get_or-set_other}
+use Rattle.std.proofs.lemmas.List.FromFn.{fill_by_all}
 use Rattle.thy_base.specs.declared.config.Parameters.{Parameters}
 use Rattle.thy_base.specs.Geometry.{memory_blocks}
 use Rattle.thy_layout.specs.Entries.{entry_at, Lists, entry_of}
 use Rattle.thy_layout.proofs.EntryLemmas.{entry_of-take_here, entry_of-take_other}
 use Rattle.thy_journal_image.specs.Index.{with_block}
 use Rattle.thy_journal_image.specs.CheckpointParts.{memory_places}
-use Rattle.thy_journal_image.specs.Places.{home_place, journal_place, place_by, place_of}
+use Rattle.thy_journal_image.specs.Places.{journal_place, place_by, place_of}
 use Rattle.thy_journal_image.specs.Slots.{IsTable}
 use Rattle.thy_journal_image.proofs.PartsLemmas.{length-memory_places, memory_place}
 
--- a list that has them one by one
-places_are : (p : Parameters) (s : ℕ) (table : List (Option ℕ)) (index : List ℕ) → length index ≡ memory_blocks p
-    → ((b : ℕ) → b < memory_blocks p → slice_index_or index b 0 ≡ place_of p s table b) → index ≡ memory_places p s table
-places_are p s table index long each =
-    ext_get_or 0 index (memory_places p s table) (long ∙ sym (length-memory_places p s table))
-    (λ b below. let l : b < memory_blocks p = omega (arith, long) in each b l ∙ sym (memory_place p s table b 0 l))
-
--- with nothing listed all of memory is at home
-pub homes_are : (p : Parameters) (s : ℕ) (index : List ℕ) → length index ≡ memory_blocks p
-    → ((b : ℕ) → b < memory_blocks p → slice_index_or index b 0 ≡ home_place p b) → index ≡ memory_places p s []
-homes_are p s index long each = places_are p s [] index long each
-
--- ---- one entry more
-
+-- with one entry more
 module _ (p : Parameters) (s : ℕ) (table : List (Option ℕ)) (i : ℕ) (t : IsTable p table) where
   block_by : (o : Option ℕ) → entry_at table i ≡ o → with_block p s i o (memory_places p s (take i table)) ≡ memory_places p s (take (i + 1) table)
   block_by None h =
-      places_are p s (take (i + 1) table) (memory_places p s (take i table)) (length-memory_places p s (take i table))
+      fill_by_all (place_of p s (take (i + 1) table)) (memory_places p s (take i table))
+      (memory_blocks p) 0 (length-memory_places p s (take i table))
       (λ b l.
       memory_place p s (take i table) b 0 l
       ∙ ap (place_by p s b) (sym (entry_of-take_other table i b (λ lists. let is = lists.is in cc))))
@@ -38,7 +27,8 @@ module _ (p : Parameters) (s : ℕ) (table : List (Option ℕ)) (i : ℕ) (t : I
       let old : List ℕ = memory_places p s (take i table) in
       let here : Lists table i n = record { is = h } in
       let small : n < memory_blocks p = t.blocks i n here in
-      places_are p s (take (i + 1) table) (slice_set old n v) (length-set old n v ∙ length-memory_places p s (take i table))
+      fill_by_all (place_of p s (take (i + 1) table)) (slice_set old n v) (memory_blocks p) 0
+      (length-set old n v ∙ length-memory_places p s (take i table))
       (λ b l. elim (cases_eq b n) as (λ _. slice_index_or (slice_set (memory_places p s (take i table)) n (journal_place p s i)) b 0 ≡ place_of p s (take (i + 1) table) b) [
         | inl e ↦
             ap (λ (x : ℕ). slice_index_or (slice_set (memory_places p s (take i table)) n (journal_place p s i)) x 0) e

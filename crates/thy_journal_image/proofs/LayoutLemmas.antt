@@ -1,5 +1,5 @@
 -- What holds of every layout holds of this one.
-use Rattle.std.proofs.Common.{◌≡◌, ◌≢◌, ℕ, ◌+◌, ◌%◌, ◌<◌, ◌≤◌, ◌==◌, true, List, Option, Some, None, refl, sym, ◌∙◌, ap, arith}
+use Rattle.std.proofs.Common.{◌≡◌, ℕ, ◌%◌, ◌<◌, ◌≤◌, List, Option, Some, None, refl, sym, ◌∙◌, ap, arith}
 use Rattle.std.proofs.lemmas.Bool.{eqb-true}
 use Rattle.thy_base.specs.declared.block.Block.{Block}
 use Rattle.thy_base.specs.declared.config.Parameters.{Parameters}
@@ -13,40 +13,24 @@ use Rattle.thy_layout.proofs.AskingLemmas.{half}
 use Rattle.thy_layout.proofs.EntryLemmas.{entry_of-Some}
 use Rattle.thy_layout.proofs.TableSlotLemmas.{slot_parts, slot_higher}
 use Rattle.thy_journal_image.specs.Layout.{journal_layouts}
-use Rattle.thy_journal_image.specs.Places.{slot_blocks, slot_place, first_home, image_blocks, place_by, place_of}
+use Rattle.thy_journal_image.specs.Places.{image_blocks, place_by}
 use Rattle.thy_journal_image.specs.Slots.{IsTable, table_in, table_fault, slot_fault}
 use Rattle.thy_journal_image.proofs.PartsLemmas.{place_by_behind, slot_behind, slot_fits}
 use Rattle.thy_journal_image.proofs.SlotLemmas.{faultless_table}
 
 -- ---- the slot
 
-whole_image : (p : Parameters) (n : ℕ) → (n == image_blocks p) ≡ true → n ≡ image_blocks p
-whole_image p n long = eqb-true n (image_blocks p) long
-
-slot_ends : (p : Parameters) (n s : ℕ) → (n == image_blocks p) ≡ true → s < 2 → slot_place p s + slot_blocks p ≤ n
-slot_ends p n s long l =
-    let all = whole_image p n long in
-    let fits = slot_fits p s l in
-    omega (arith, all, fits)
-
 has_slot : (p : Parameters) (commit : Block) → HasSlot (journal_layouts p) commit
 has_slot p commit = record {
   record_inside = omega arith;
   most = omega arith;
   behind = omega arith;
-  inside = λ n long. slot_ends p n (epoch_of commit % 2) long (half (epoch_of commit));
+  inside = λ n long.
+      let fits = slot_fits p (epoch_of commit % 2) (half (epoch_of commit)) in
+      omega (arith, eqb-true n (image_blocks p) long, fits);
 }
 
 -- ---- memory
-
-after_header : (p : Parameters) (x : ℕ) → first_home p ≤ x → 2 ≤ x
-after_header p x l = omega arith
-
-in_image : (p : Parameters) (x n : ℕ) → x < image_blocks p → (n == image_blocks p) ≡ true → x < n
-in_image p x n l long = let all = whole_image p n long in omega (arith, all, l)
-
-slot_apart : (p : Parameters) (s k x : ℕ) → slot_place p s + k < first_home p → first_home p ≤ x → x ≢ slot_place p s + k
-slot_apart p s k x before behind = λ e. omega (arith, before, behind, e)
 
 place_once : (p : Parameters) (s : ℕ) (table : List (Option ℕ)) (a b : ℕ) (i j : Option ℕ) → a < memory_blocks p → b < memory_blocks p
     → entry_of table a ≡ i → entry_of table b ≡ j → place_by p s a i ≡ place_by p s b j → a ≡ b
@@ -65,9 +49,11 @@ has_places p commit slot fits =
     let there = λ (b : ℕ) (l : b < memory_blocks p).
     place_by_behind p (epoch_of commit % 2) (table_in p slot) b (entry_of (table_in p slot) b) whole (half (epoch_of commit)) l refl in
     record {
-      behind = λ b l. after_header p (place_of p s table b) (there b l).0;
-      inside = λ b n l long. in_image p (place_of p s table b) n (there b l).1 long;
-      apart = λ b k l m. slot_apart p s k (place_of p s table b) (slot_behind p s k (half (epoch_of commit)) m).1 (there b l).0;
+      behind = λ b l. omega (arith, (there b l).0);
+      inside = λ b n l long. omega (arith, (there b l).1, eqb-true n (image_blocks p) long);
+      apart = λ b k l m e.
+          let before = (slot_behind p s k (half (epoch_of commit)) m).1 in
+          omega (arith, (there b l).0, before, e);
       once = λ a b l m same. place_once p s table a b (entry_of table a) (entry_of table b) l m refl refl same;
     }
 
@@ -87,7 +73,7 @@ journal_are_layouts = record {
   number = λ p. omega arith;
   slot = has_slot;
   memory = has_places;
-  longest = λ p commit n long. let all = whole_image p n long in omega (arith, all);
+  longest = λ p commit n long. omega (arith, eqb-true n (image_blocks p) long);
   cpu = λ p ceiling commit slot none. cpu_fits p ceiling (epoch_of commit) slot none;
   higher = λ p low high commit slot most none. fits_higher p low high (epoch_of commit) slot most none;
 }

@@ -1,12 +1,9 @@
 -- The places of the parts of a checkpoint, and that it is one once they were issued.
 use Rattle.std.proofs.Common.{◌≡◌, ℕ, zero, suc, ◌+◌, ◌%◌, ◌^◌, ◌<◌, ◌≤◌, true, List, length, get_or, Contains, Option, Some, None, refl, sym, ◌∙◌, ap, subst, arith}
-use Rattle.std.specs.List.{range_with_len}
-use Rattle.std.specs.Option.{option_or}
-use Rattle.std.proofs.lemmas.List.{length-map, get_or-map}
-use Rattle.std.proofs.lemmas.List.FromFn.{length-range_with_len, get_or-range_with_len}
+use Rattle.std.proofs.lemmas.List.FromFn.{length-map-range_with_len, get_or-map-range_with_len}
 use Rattle.thy_base.specs.declared.block.Block.{Block}
 use Rattle.thy_base.specs.declared.config.Parameters.{Parameters}
-use Rattle.thy_base.specs.Device.{Device, block_at, newest, written_to}
+use Rattle.thy_base.specs.Device.{Device, newest}
 use Rattle.thy_base.specs.Geometry.{IsInRange, memory_blocks}
 use Rattle.thy_base.proofs.BasicLemmas.{all_none}
 use Rattle.thy_isa.specs.declared.state.CpuState.{CpuState}
@@ -15,17 +12,15 @@ use Rattle.thy_layout.specs.Commit.{epoch_of, commit_of, commit_fault}
 use Rattle.thy_layout.specs.Cpu.{IsRecordable, cpu_of_record}
 use Rattle.thy_layout.specs.Decoded.{At}
 use Rattle.thy_layout.specs.Header.{header_fault}
-use Rattle.thy_layout.specs.TableSlots.{slot_block_of}
 use Rattle.thy_layout.specs.Entries.{entry_of}
 use Rattle.thy_layout.proofs.EntryLemmas.{entry_of-Some, Lists-inside}
 use Rattle.thy_layout.proofs.AskingLemmas.{half}
 use Rattle.thy_layout.proofs.ReadBackLemmas.{epoch_of-commit_of, commit_fault-commit_of, is_zero-commit_of}
-use Rattle.thy_crash.specs.Saved.{next_image}
 use Rattle.thy_crash.proofs.SavedLemmas.{next_image-commit}
-use Rattle.thy_protocol.specs.Issuing.{slot_of, ArePlaced, ArePartsOf, IsCheckpoint}
-use Rattle.thy_layout.specs.Layout.{Layout}
-use Rattle.thy_protocol.proofs.IssuingLemmas.{slot_goes_on, issued_is_checkpoint}
-use Rattle.thy_journal_image.specs.Places.{scheme_number, slot_blocks, slot_place, first_home, image_blocks, place_by, place_of}
+use Rattle.thy_protocol.specs.Issuing.{CheckpointParts, slot_of, ArePlaced, ArePartsOf, IsCheckpoint}
+use Rattle.thy_layout.specs.Layout.{fault_of}
+use Rattle.thy_protocol.proofs.IssuingLemmas.{issued_is_checkpoint}
+use Rattle.thy_journal_image.specs.Places.{scheme_number, slot_blocks, slot_place, first_home, image_blocks, journal_place, place_by, place_of}
 use Rattle.thy_journal_image.specs.Slots.{IsTable, table_in, slot_fault}
 use Rattle.thy_journal_image.specs.Layout.{journal_layouts}
 use Rattle.thy_journal_image.specs.CheckpointParts.{ReadsBack, memory_places, parts_by, IsIssuing, IsIssuedCheckpoint}
@@ -34,16 +29,12 @@ use Rattle.thy_journal_image.proofs.SlotLemmas.{slot_reads_back}
 -- ---- the places of memory
 
 pub length-memory_places : (p : Parameters) (s : ℕ) (table : List (Option ℕ)) → (let xs : List ℕ = memory_places p s table in length xs) ≡ memory_blocks p
-length-memory_places p s table =
-    length-map (range_with_len 0 (memory_blocks p)) (place_of p s table) ∙ length-range_with_len 0 (memory_blocks p)
+length-memory_places p s table = length-map-range_with_len (place_of p s table) 0 (memory_blocks p)
 
 pub memory_place : (p : Parameters) (s : ℕ) (table : List (Option ℕ)) (k otherwise : ℕ) → k < memory_blocks p
     → (let xs : List ℕ = memory_places p s table in get_or xs k otherwise) ≡ place_of p s table k
 memory_place p s table k otherwise l =
-    let plain : 0 + k ≡ k = omega arith in
-    get_or-map (place_of p s table) (range_with_len 0 (memory_blocks p)) k 0 otherwise
-    (omega (arith, length-range_with_len 0 (memory_blocks p)))
-    ∙ ap (place_of p s table) (get_or-range_with_len 0 (memory_blocks p) k 0 l ∙ plain)
+    get_or-map-range_with_len (place_of p s table) 0 (memory_blocks p) k k otherwise l (omega arith)
 
 -- each is that of a block
 pub memory_place_of : (p : Parameters) (s : ℕ) (table : List (Option ℕ)) (x : ℕ) → Contains (memory_places p s table) x
@@ -52,27 +43,27 @@ memory_place_of p s table x (k, l, is) =
     let inside : k < memory_blocks p = omega (arith, length-memory_places p s table) in
     (k, inside, sym (memory_place p s table k x inside) ∙ is)
 
--- the place of a block is after the slots, within the image
+-- the journals are after the slots, within the image
+pub journal_behind : (p : Parameters) (s i : ℕ) → s < 2 → i < p.btt
+    → (first_home p ≤ journal_place p s i) × (journal_place p s i < image_blocks p)
+journal_behind p zero i l m = (omega arith, omega arith)
+journal_behind p (suc zero) i l m = (omega arith, omega arith)
+journal_behind p (suc (suc s)) i l m = absurd (omega arith)
+
+-- and so is the place of a block
 pub place_by_behind : (p : Parameters) (s : ℕ) (table : List (Option ℕ)) (b : ℕ) (found : Option ℕ) → IsTable p table → s < 2 → b < memory_blocks p
     → entry_of table b ≡ found → (first_home p ≤ place_by p s b found) × (place_by p s b found < image_blocks p)
 place_by_behind p s table b None h l m e = (omega arith, omega arith)
-place_by_behind p zero table b (Some i) h l m e =
+place_by_behind p s table b (Some i) h l m e =
     let inside = Lists-inside table i b (entry_of-Some table b i e) in
-    (omega (arith, inside, h.long), omega (arith, inside, h.long))
-place_by_behind p (suc zero) table b (Some i) h l m e =
-    let inside = Lists-inside table i b (entry_of-Some table b i e) in
-    (omega (arith, inside, h.long), omega (arith, inside, h.long))
-place_by_behind p (suc (suc s)) table b (Some i) h l m e = absurd (omega arith)
+    journal_behind p s i l (omega (arith, inside, h.long))
 
 pub memory_behind : (p : Parameters) (s : ℕ) (table : List (Option ℕ)) (x : ℕ) → IsTable p table → s < 2 → Contains (memory_places p s table) x
     → (first_home p ≤ x) × (x < image_blocks p)
 memory_behind p s table x h l inside =
     let of = memory_place_of p s table x inside in
-    let behind = place_by_behind p s table of.0 (entry_of table of.0) h l of.1 refl in
-    let low = behind.0 in
-    let high = behind.1 in
-    let e = of.2 in
-    (subst (λ y. first_home p ≤ y) e low, subst (λ y. y < image_blocks p) e high)
+    subst (λ y. (first_home p ≤ y) × (y < image_blocks p)) of.2
+    (place_by_behind p s table of.0 (entry_of table of.0) h l of.1 refl)
 
 -- ---- the slots
 
@@ -99,66 +90,58 @@ ArePlaced-parts p cpu table epoch h = record {
       omega (arith, before, behind);
 }
 
--- one more after the write of the next
-pub slot_grows : (p : Parameters) (old new : Device) (cpu : CpuState) (table : List (Option ℕ)) (epoch : ℕ) (memory : List Block) (k : ℕ)
-    → IsIssuing p old cpu table epoch memory k → k < slot_blocks p
-    → new ≡ written_to old (slot_place p (epoch % 2) + k) (slot_block_of p cpu table epoch k) → IsIssuing p new cpu table epoch memory (k + 1)
-slot_grows p old new cpu table epoch memory k h l is = record {
-  whole = h.whole;
-  parts = slot_goes_on (image_blocks p) (parts_by p cpu table epoch) old new memory k (ArePlaced-parts p cpu table epoch h.whole) h.parts l is;
-}
-
 -- ---- the whole checkpoint
 
 module _ (p : Parameters) (ceiling : ℕ) (cpu : CpuState) (table : List (Option ℕ)) (epoch : ℕ) (range : IsInRange p)
     (recordable : IsRecordable p ceiling cpu) (most : ceiling ≤ 2 ^ 64) (below : epoch < ceiling) (whole : IsTable p table) where
-  abbrev slot : List Block
-  slot = slot_of (parts_by p cpu table epoch)
-
-  small : epoch < 2 ^ 64
-  small = omega arith
+  abbrev parts : CheckpointParts
+  parts = parts_by p cpu table epoch
 
   epoch_is : epoch_of (commit_of epoch) ≡ epoch
-  epoch_is = epoch_of-commit_of epoch small
+  epoch_is = epoch_of-commit_of epoch (omega arith)
 
-  pub back : ReadsBack p ceiling cpu table epoch slot
-  back = slot_reads_back p ceiling cpu table epoch range recordable whole most small
+  back : ReadsBack p ceiling cpu table epoch (slot_of parts)
+  back = slot_reads_back p ceiling cpu table epoch range recordable whole most (omega arith)
 
-  pub parts_of : ArePartsOf (journal_layouts p) (commit_of epoch) (parts_by p cpu table epoch)
+  parts_of : ArePartsOf (journal_layouts p) (commit_of epoch) parts
   parts_of = record {
     placed = ArePlaced-parts p cpu table epoch whole;
     slot_place = ap (λ (e : ℕ). slot_place p (e % 2)) epoch_is;
     slot_blocks = refl;
-    memory = ap (λ (e : ℕ). memory_places p (e % 2) (table_in p slot)) epoch_is ∙ ap (memory_places p (epoch % 2)) back.table_back;
+    memory =
+        ap (λ (e : ℕ). memory_places p (e % 2) (table_in p (slot_of parts))) epoch_is
+        ∙ ap (memory_places p (epoch % 2)) back.table_back;
   }
 
-  pub no_fault : (header : Block) → header_fault scheme_number header p true ≡ None
-      → option_or (header_fault scheme_number header p true) (option_or (commit_fault header (commit_of epoch) ceiling) (slot_fault p ceiling (epoch_of (commit_of epoch)) slot)) ≡ None
+  no_fault : (header : Block) → header_fault scheme_number header p true ≡ None
+      → fault_of (journal_layouts p) ceiling true header (commit_of epoch) (slot_of parts) ≡ None
   no_fault header fits =
-      all_none (header_fault scheme_number header p true) (commit_fault header (commit_of epoch) ceiling) (slot_fault p ceiling (epoch_of (commit_of epoch)) slot) fits
+      all_none (header_fault scheme_number header p true)
+      (commit_fault header (commit_of epoch) ceiling)
+      (slot_fault p ceiling (epoch_of (commit_of epoch)) (slot_of parts)) fits
       (commit_fault-commit_of header epoch ceiling below most)
-      (ap (λ (e : ℕ). slot_fault p ceiling e slot) epoch_is ∙ back.faultless)
+      (ap (λ (e : ℕ). slot_fault p ceiling e (slot_of parts)) epoch_is ∙ back.faultless)
 
-pub issued_decodes : (p : Parameters) (ceiling : ℕ) (n : Device) (cpu : CpuState) (table : List (Option ℕ)) (epoch : ℕ) (memory : List Block)
-    → IsInRange p → IsRecordable p ceiling cpu → ceiling ≤ 2 ^ 64 → epoch < ceiling
-    → IsIssuing p n cpu table epoch memory (slot_blocks p) → header_fault scheme_number (newest n 0) p true ≡ None
-    → IsIssuedCheckpoint p ceiling n cpu table epoch memory
-issued_decodes p ceiling n cpu table epoch memory range recordable most below h header =
-    let l : Layout = journal_layouts p in
-    let all : IsCheckpoint l ceiling n (commit_of epoch) (parts_by p cpu table epoch) memory =
-    issued_is_checkpoint l ceiling n (commit_of epoch) (parts_by p cpu table epoch) memory (parts_of p ceiling cpu table epoch range recordable most below h.whole) h.parts
-    (is_zero-commit_of epoch) (no_fault p ceiling cpu table epoch range recordable most below h.whole (newest n 0) header) in
-    let epoch_same = epoch_is p ceiling cpu table epoch range recordable most below h.whole in
-    let reads = back p ceiling cpu table epoch range recordable most below h.whole in
-    let commit_same : block_at (next_image n (commit_of epoch)) 1 ≡ commit_of epoch =
-    next_image-commit (commit_of epoch) n (omega (arith, h.parts.sized)) in
-    record {
-      told = record {
-        of_epoch = ap epoch_of commit_same ∙ epoch_same;
-        table_is = ap (table_in p) all.slot ∙ reads.table_back;
-        whole = h.whole;
-      };
-      decodes = all.decodes ∙ ap (λ (e : ℕ). At e (state_from p (cpu_of_record p (slot_of (parts_by p cpu table epoch))) memory)) epoch_same
-          ∙ ap (λ (c : CpuState). At epoch (state_from p c memory)) reads.cpu_back;
-      issued = all.issued;
-    }
+  pub issued_decodes : (n : Device) (memory : List Block)
+      → IsIssuing p n cpu table epoch memory (slot_blocks p)
+      → header_fault scheme_number (newest n 0) p true ≡ None
+      → IsIssuedCheckpoint p ceiling n cpu table epoch memory
+  issued_decodes n memory h header =
+      let all : IsCheckpoint (journal_layouts p) ceiling n (commit_of epoch) parts memory =
+      issued_is_checkpoint (journal_layouts p) ceiling n (commit_of epoch) parts memory parts_of
+      h.parts (is_zero-commit_of epoch)
+      (no_fault (newest n 0) header) in
+      record {
+        told = record {
+          of_epoch =
+              ap epoch_of (next_image-commit (commit_of epoch) n (omega (arith, h.parts.sized)))
+              ∙ epoch_is;
+          table_is = ap (table_in p) all.slot ∙ back.table_back;
+          whole = whole;
+        };
+        decodes =
+            all.decodes
+            ∙ ap (λ (e : ℕ). At e (state_from p (cpu_of_record p (slot_of parts)) memory)) epoch_is
+            ∙ ap (λ (x : CpuState). At epoch (state_from p x memory)) back.cpu_back;
+        issued = all.issued;
+      }

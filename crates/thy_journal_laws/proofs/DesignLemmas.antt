@@ -1,8 +1,7 @@
 -- The journal is a scheme of lawful parts: what holds of its checkpoints.
-use Rattle.std.proofs.Common.{◌≡◌, ◌≢◌, ℕ, ◌+◌, ◌-◌, ◌%◌, ◌^◌, ◌<◌, ◌≤◌, Bool, true, false, List, [], ◌∷◌, length, map, Option, Some, None, option_and_then, is_none, refl, sym, ◌∙◌, ap, subst, inl, inr, arith}
+use Rattle.std.proofs.Common.{◌≡◌, ◌≢◌, ℕ, ◌+◌, ◌-◌, ◌%◌, ◌^◌, ◌<◌, ◌≤◌, Bool, true, false, List, ◌∷◌, length, map, Option, Some, None, is_none, refl, sym, ◌∙◌, ap, subst, inl, inr, arith}
 use Rattle.std.proofs.lemmas.List.FromFn.{length-map-range_with_len}
-use Rattle.std.specs.List.{sum_by}
-use Rattle.std.proofs.lemmas.List.Sums.{count_by-le-length, sum_by-cons}
+use Rattle.std.proofs.lemmas.List.Sums.{count_by-le-length}
 use Rattle.thy_base.specs.declared.block.Block.{Block}
 use Rattle.thy_base.specs.declared.config.Parameters.{Parameters}
 use Rattle.thy_base.specs.Device.{Device, block_at, newest, written_to}
@@ -14,14 +13,13 @@ use Rattle.thy_layout.specs.Entries.{Lists}
 use Rattle.thy_layout.specs.Layout.{slot_in, looked_by}
 use Rattle.thy_layout.proofs.AskingLemmas.{half}
 use Rattle.thy_layout.proofs.ReadBackLemmas.{epoch_of-commit_of}
-use Rattle.thy_table.specs.Listing.{IsListing, free_count, mapped}
-use Rattle.thy_table.proofs.IndexLemmas.{free_one}
-use Rattle.thy_table.proofs.ListingLaws.{free_count-mapped}
+use Rattle.thy_table.specs.Listing.{free_count}
+use Rattle.thy_table.proofs.ListingLaws.{free_count-all, free_count-mapped, IsListing-free}
 use Rattle.thy_view.specs.Safe.{ceiling}
 use Rattle.thy_journal_image.specs.CheckpointParts.{ReadsBack, IsToldBy, memory_places}
 use Rattle.thy_journal_image.specs.Free.{Target, SlotBlock, JournalBlock, HomeBlock, target_place, IsTarget, IsFree}
 use Rattle.thy_journal_image.specs.Layout.{journal_layouts}
-use Rattle.thy_journal_image.specs.Places.{slot_blocks, slot_place, image_blocks, home_place, journal_place}
+use Rattle.thy_journal_image.specs.Places.{slot_blocks, slot_place, first_home, image_blocks, home_place, journal_place}
 use Rattle.thy_journal_image.specs.Slots.{IsTable, table_in, slot_fault}
 use Rattle.thy_journal_image.proofs.FreeLemmas.{free_not_looked}
 use Rattle.thy_journal_image.proofs.PartsLemmas.{slot_behind}
@@ -38,31 +36,19 @@ use Rattle.thy_log.proofs.TableLemmas.{IsTable-table_of, live_at, live_again, li
 use Rattle.thy_refill.proofs.LawLemmas.{log_is_filled}
 use Rattle.thy_engine.specs.Items.{AreItems, GoesTo, Phase, Resting, Making, Made, Applying}
 use Rattle.thy_engine.specs.Progress.{Progress}
-use Rattle.thy_parts.specs.IsDesign.{IsDesign, IsFew, CanRecord, IsSpared}
-use Rattle.thy_parts.specs.Moments.{IsMoment, MakesAt, Carries, Commits, SealsTo, ReadsSame, IsOwn, slot_list, parts_at}
-use Rattle.thy_journal_laws.specs.Design.{items_journal, holds, IsKeptBy, IsApplied, committed_at, rests_at, journal_design}
-use Rattle.thy_journal_laws.proofs.PhaseLemmas.{aside_journal, aside_commit, IsAside, works_over, homes_over, journaled_over, journaled_on, journaled_past, journaled_all, journaled_reads, memory_is_work, works_home, home_on, home_past, home_reads, homes_are_works, works_reads, homes_reads}
-use Rattle.thy_journal_laws.proofs.WorkLemmas.{none_listed, works-released}
+use Rattle.thy_parts.specs.IsDesign.{IsDesign, CanRecord, IsSpared}
+use Rattle.thy_parts.specs.Moments.{IsMoment, Carries, Commits, SealsTo, ReadsSame, IsOwn, slot_list, parts_at}
+use Rattle.thy_parts.proofs.SameLemmas.{moment_of, carried, makes_alike}
+use Rattle.thy_journal_laws.specs.Design.{items_journal, holds, IsKeptBy, committed_at, rests_at, journal_design}
+use Rattle.thy_journal_laws.proofs.PhaseLemmas.{aside_journal, IsAside, works_over, homes_over, journaled_over, journaled_on, journaled_past, journaled_all, journaled_reads, memory_is_work, works_home, home_on, home_past, home_reads, homes_are_works, works_reads, homes_reads}
+use Rattle.thy_journal_laws.proofs.WorkLemmas.{none_left, works-released}
 
 -- ---- items
 
--- with every entry freed, all are free
-all_free : (es : List (Option Listed)) → sum_by free_one (map (option_and_then freed) es) ≡ length (map (option_and_then freed) es)
-all_free [] = refl
-all_free (None ∷ es) = omega (arith, all_free es, sum_by-cons free_one None (map (option_and_then freed) es))
-all_free (Some e ∷ es) = omega (arith, all_free es, sum_by-cons free_one None (map (option_and_then freed) es))
-
-all_released : (s : State) → free_count (released s).table ≡ length (released s).table.entries
-all_released s = all_free s.table.entries
-
-released_once : (s : State) → IsListing block_key (mapped freed s.table)
-released_once s = record {
-  found = λ i b here. let none : false ≡ true = sym (none_listed s b i) ∙ here in cc;
-  inside = λ i b here. let none : false ≡ true = sym (none_listed s b i) ∙ here in absurd cc;
-}
-
 pub released_sound : (s : State) → IsSoundState s → IsSoundState (released s)
-released_sound s h = IsSoundState-table s.p s.table (mapped freed s.table) s.dram h (length-mapped s.table) refl (released_once s)
+released_sound s h =
+    IsSoundState-table s.p s.table (released s).table s.dram h (length-mapped s.table) refl
+    (IsListing-free block_key (released s).table (none_left s))
 
 goes_on : (phase : Phase) (s : State) → IsSoundState s → GoesTo (journal_design).filling items_journal phase s s
 goes_on phase s h = record { same_p = refl; dram = refl; stands = h }
@@ -109,41 +95,11 @@ free-few : (s : State) → IsSoundState s → free_count s.table ≤ s.p.btt
 free-few s sound = omega (arith, count_by-le-length (λ (o : Option Listed). is_none o) s.table.entries, sound.size)
 
 -- a table has room for two stores
-pub some-free : (s : State) → IsSoundState s → free_count s.table ≡ length s.table.entries → 2 ≤ free_count s.table
+some-free : (s : State) → IsSoundState s → free_count s.table ≡ length s.table.entries
+    → 2 ≤ free_count s.table
 some-free s sound free = let range = sound.range in let size = sound.size in omega (arith, free, size)
 
-few : (phase : Phase) (s : State) → IsSoundState s → IsFew journal_design phase s
-few phase s sound = record { merges = omega arith; promotions = omega arith; owed = omega arith; free = free-few s sound }
-
 -- ---- by phase
-
-applied_drained : (phase : Phase) (s : State) (table : List (Option ℕ)) → IsApplied phase s table → IsApplied phase (after_drain s) table
-applied_drained Resting s table h = tt
-applied_drained (Making from) s table h = tt
-applied_drained Made s table h = tt
-applied_drained (Applying from) s table h = h
-
-kept_drained : (phase : Phase) (epoch : ℕ) (s : State) (g : List Block) → IsKeptBy phase epoch s g → IsKeptBy phase epoch (after_drain s) g
-kept_drained phase epoch s g h = record {
-  kept = h.kept;
-  table = h.table;
-  told = h.told;
-  other = h.other;
-  applied = applied_drained phase s h.table h.applied;
-}
-
-rests_drained : (phase : Phase) (a : Bool) (s : State) → rests_at phase a s → rests_at phase a (after_drain s)
-rests_drained Resting true s h = h
-rests_drained Resting false s h = tt
-rests_drained (Making from) a s h = tt
-rests_drained Made a s h = tt
-rests_drained (Applying from) a s h = tt
-
-makes_drained : (phase : Phase) (epoch : ℕ) (s : State) (g : List Block) → MakesAt journal_design phase epoch s g → MakesAt journal_design phase epoch (after_drain s) g
-makes_drained Resting epoch s g h = h
-makes_drained (Making from) epoch s g h = h
-makes_drained Made epoch s g h = h
-makes_drained (Applying from) epoch s g h = h
 
 holds_drained : (phase : Phase) (epoch : ℕ) (s : State) (n : Device) → holds phase epoch s n → holds phase epoch (after_drain s) n
 holds_drained Resting epoch s n h = tt
@@ -171,30 +127,8 @@ committed_reads (Making from) s n m sound sized r = homes_reads s n sound sized 
 committed_reads Made s n m sound sized r = homes_reads s n sound sized m r.reads
 committed_reads (Applying from) s n m sound sized r = works_reads s n sound sized m r.reads
 
--- ---- one moment leads to another with the same log
+-- ---- an image keeps its table from one position to the next
 
-carried : (epoch : ℕ) (p q : Phase) (s : State) (n m : Device) → IsMoment journal_design q epoch s m → works s m ≡ works s n
-    → committed_at q s m ≡ committed_at p s n → ((g : List Block) → IsKeptBy p epoch s g → IsKeptBy q epoch s g)
-    → ((g : List Block) → MakesAt journal_design p epoch s g → MakesAt journal_design q epoch s g)
-    → ((a : Bool) → rests_at p a s → rests_at q a s) → Carries journal_design epoch p s n q s m
-carried epoch p q s n m moment loads committed keeps makes rests = record {
-  moment = moment;
-  same_p = refl;
-  room = refl;
-  loads = loads;
-  sealed = loads;
-  committed = committed;
-  keeps = keeps;
-  makes = makes;
-  rests = λ a b r. rests a r;
-  free = omega arith;
-  opened = inl refl;
-  owed = omega arith;
-  owed_later = omega arith;
-  pages = record { whole = λ h. h; merges = omega arith; promotions = omega arith };
-}
-
--- an image keeps its table from one position to the next
 keeps_making : (epoch from to : ℕ) (s : State) (g : List Block) → IsKeptBy (Making from) epoch s g → IsKeptBy (Making to) epoch s g
 keeps_making epoch from to s g h = record { kept = h.kept; table = h.table; told = h.told; other = h.other; applied = tt }
 
@@ -262,159 +196,149 @@ module _ (e : Progress) (s : State) (n : Device) (moment : IsMoment journal_desi
 
 -- ---- a write of the slot's own, or of the commit block
 
-module _ (epoch : ℕ) (s : State) (n : Device) (moment : IsMoment journal_design Made epoch s n) where
-  over_aside : (x : ℕ) (block : Block) → IsAside s x → ((i : ℕ) → i < s.p.btt → journal_place s.p (epoch % 2) i ≢ x)
-      → Carries journal_design epoch Made s n Made s (written_to n x block)
-  over_aside x block home journal =
-      carried epoch Made Made s n (written_to n x block)
-      (record {
-        sound = moment.sound;
-        sized = length-written_to n x block ∙ moment.sized;
-        stands = moment.stands;
-        holds = journaled_over epoch s n moment.sound moment.sized s.p.btt x block journal moment.holds;
-      })
-      (works_over s n moment.sized x block home) (homes_over s n moment.sized x block home) (λ g h. h) (λ g h. h) (λ a r. r)
+-- one before the homes leaves memory and the journals
+over_before : (epoch : ℕ) (s : State) (n : Device) → IsMoment journal_design Made epoch s n
+    → (x : ℕ) (block : Block) → x < first_home s.p
+    → Carries journal_design epoch Made s n Made s (written_to n x block)
+over_before epoch s n moment x block low =
+    let m : Device = written_to n x block in
+    let aside : IsAside s x = λ b l q. omega (arith, low, q) in
+    let same : works s m ≡ works s n = works_over s n moment.sized x block aside in
+    let there =
+    journaled_over epoch s n moment.sound moment.sized s.p.btt x block
+    (λ i l q. omega (arith, low, q)) moment.holds in
+    carried (moment_of moment (length-written_to n x block) moment.stands there) same same
+    (homes_over s n moment.sized x block aside) (λ g h. h) (λ g h. h) (λ a b r. r) (omega arith)
 
-  over_slot : (h k : ℕ) (block : Block) → h < 2 → k < slot_blocks s.p → Carries journal_design epoch Made s n Made s (written_to n (slot_place s.p h + k) block)
-  over_slot h k block half_of l =
-      let before = (slot_behind s.p h k half_of l).1 in
-      over_aside (slot_place s.p h + k) block (λ b small q. omega (arith, before, q)) (λ i low q. omega (arith, before, q))
-
-  over_commit : (block : Block) → Carries journal_design epoch Made s n Made s (written_to n 1 block)
-  over_commit block = over_aside 1 block (aside_commit s) (λ i low q. omega (arith, q))
+own_before : (e : Progress) (p : Parameters) (x : ℕ) → p ≡ e.p → IsOwn journal_design e x
+    → x < first_home p
+own_before e p x same (inl commit) = omega (arith, commit)
+own_before e p x same (inr (k, l, is)) =
+    let epoch : ℕ = epoch_of (commit_of e.epoch) in
+    let before = (slot_behind e.p (epoch % 2) k (half epoch) l).1 in
+    subst (λ (q : Parameters). x < first_home q) (sym same) (omega (arith, before, is))
 
 own_carried : (e : Progress) (s : State) (n : Device) (x : ℕ) (block : Block) → IsMoment journal_design Made e.epoch s n → s.p ≡ e.p → IsOwn journal_design e x
     → Carries journal_design e.epoch Made s n Made s (written_to n x block)
-own_carried e s n x block moment same (inl commit) =
-    subst (λ (y : ℕ). Carries journal_design e.epoch Made s n Made s (written_to n y block)) (sym commit) (over_commit e.epoch s n moment block)
-own_carried e s n x block moment same (inr (k, l, is)) =
-    let h : ℕ = epoch_of (commit_of e.epoch) % 2 in
-    subst (λ (y : ℕ). Carries journal_design e.epoch Made s n Made s (written_to n y block))
-    (ap (λ (p : Parameters). slot_place p h + k) same ∙ sym is)
-    (over_slot e.epoch s n moment h k block (half (epoch_of (commit_of e.epoch))) (subst (λ (p : Parameters). k < slot_blocks p) (sym same) l))
+own_carried e s n x block moment same own =
+    over_before e.epoch s n moment x block (own_before e s.p x same own)
 
--- ---- the body
+-- ---- the body, the commit, and the tail
 
-body_carried : (epoch : ℕ) (s : State) (n : Device) (i : ℕ) → IsMoment journal_design (Making i) epoch s n → next_live i s ≡ Some i
-    → Carries journal_design epoch (Making i) s n (Making (i + 1)) s (written_to n (journal_place s.p (epoch % 2) i) (buffer_of s i))
-body_carried epoch s n i moment found =
-    let x : ℕ = journal_place s.p (epoch % 2) i in
-    carried epoch (Making i) (Making (i + 1)) s n (written_to n x (buffer_of s i))
-    (record {
-      sound = moment.sound;
-      sized = length-written_to n x (buffer_of s i) ∙ moment.sized;
-      stands = moment.stands;
-      holds = journaled_on epoch s n moment.sound moment.sized i found moment.holds;
-    })
-    (works_over s n moment.sized x (buffer_of s i) (aside_journal s (epoch % 2) i)) (homes_over s n moment.sized x (buffer_of s i) (aside_journal s (epoch % 2) i))
-    (keeps_making epoch i (i + 1) s) (λ g h. h) (λ a r. tt)
+module _ (epoch : ℕ) (s : State) (n : Device) where
+  body_carried : (i : ℕ) → IsMoment journal_design (Making i) epoch s n → next_live i s ≡ Some i
+      → Carries journal_design epoch (Making i) s n (Making (i + 1)) s (written_to n (journal_place s.p (epoch % 2) i) (buffer_of s i))
+  body_carried i moment found =
+      let x : ℕ = journal_place s.p (epoch % 2) i in
+      let m : Device = written_to n x (buffer_of s i) in
+      let aside : IsAside s x = aside_journal s (epoch % 2) i in
+      let same : works s m ≡ works s n = works_over s n moment.sized x (buffer_of s i) aside in
+      let there = journaled_on epoch s n moment.sound moment.sized i found moment.holds in
+      carried (moment_of moment (length-written_to n x (buffer_of s i)) moment.stands there) same
+      same (homes_over s n moment.sized x (buffer_of s i) aside) (keeps_making epoch i (i + 1) s)
+      (λ g h. h) (λ a b r. tt) (omega arith)
 
-body_spares : (epoch : ℕ) (s : State) (n : Device) (i : ℕ) (g : List Block) → IsMoment journal_design (Making i) epoch s n → next_live i s ≡ Some i
-    → IsKeptBy (Making i) epoch s g → IsSpared journal_design s g (journal_place s.p (epoch % 2) i)
-body_spares epoch s n i g moment found keeps =
-    spared s g keeps.kept keeps.table (JournalBlock (epoch % 2) i) keeps.told (half epoch, (live_at s i i moment.sound found).1) keeps.other
-    (λ q. omega (arith, q))
+  body_spares : (i : ℕ) (g : List Block) → IsMoment journal_design (Making i) epoch s n
+      → next_live i s ≡ Some i
+      → IsKeptBy (Making i) epoch s g → IsSpared journal_design s g (journal_place s.p (epoch % 2) i)
+  body_spares i g moment found keeps =
+      spared s g keeps.kept keeps.table (JournalBlock (epoch % 2) i) keeps.told (half epoch, (live_at s i i moment.sound found).1) keeps.other
+      (λ q. omega (arith, q))
 
-body_past : (epoch : ℕ) (s : State) (n : Device) (from k : ℕ) → IsMoment journal_design (Making from) epoch s n → next_live from s ≡ Some k
-    → Carries journal_design epoch (Making from) s n (Making k) s n
-body_past epoch s n from k moment found =
-    carried epoch (Making from) (Making k) s n n
-    (record { sound = moment.sound; sized = moment.sized; stands = moment.stands; holds = journaled_past epoch s n moment.sound moment.sized from k found moment.holds })
-    refl refl (keeps_making epoch from k s) (λ g h. h) (λ a r. tt)
+  body_past : (from k : ℕ) → IsMoment journal_design (Making from) epoch s n
+      → next_live from s ≡ Some k
+      → Carries journal_design epoch (Making from) s n (Making k) s n
+  body_past from k moment found =
+      let there = journaled_past epoch s n moment.sound moment.sized from k found moment.holds in
+      carried (moment_of moment refl moment.stands there) refl refl refl
+      (keeps_making epoch from k s) (λ g h. h) (λ a b r. tt) (omega arith)
 
-body_whole : (epoch : ℕ) (s : State) (n : Device) (from : ℕ) → IsMoment journal_design (Making from) epoch s n → next_live from s ≡ None
-    → Carries journal_design epoch (Making from) s n Made s n
-body_whole epoch s n from moment none =
-    carried epoch (Making from) Made s n n
-    (record { sound = moment.sound; sized = moment.sized; stands = moment.stands; holds = journaled_all epoch s n moment.sound moment.sized from none moment.holds })
-    refl refl (keeps_made epoch from s) (λ g no. absurd no) (λ a r. tt)
+  body_whole : (from : ℕ) → IsMoment journal_design (Making from) epoch s n
+      → next_live from s ≡ None
+      → Carries journal_design epoch (Making from) s n Made s n
+  body_whole from moment none =
+      let there = journaled_all epoch s n moment.sound moment.sized from none moment.holds in
+      carried (moment_of moment refl moment.stands there) refl refl refl (keeps_made epoch from s)
+      (λ g no. absurd no) (λ a b r. tt) (omega arith)
 
--- ---- the commit, and the tail
+  commits_to : IsMoment journal_design Made epoch s n
+      → Commits journal_design epoch s n (Applying 0) s n
+  commits_to moment = record {
+    moment =
+        moment_of moment refl moment.stands
+        (record { each = λ i b low lists. absurd (omega (arith, low)) });
+    same_p = refl;
+    room = refl;
+    loads = refl;
+    committed = refl;
+    keeps = λ g told. record { kept = epoch; table = table_of s; told = told; other = tt; applied = refl };
+    rests = λ a b r. tt;
+    free = omega arith;
+    opened = inl refl;
+    owed_later = omega arith;
+    pages = record { whole = λ h. h; merges = omega arith; promotions = omega arith };
+  }
 
-commits_to : (epoch : ℕ) (s : State) (n : Device) → IsMoment journal_design Made epoch s n → Commits journal_design epoch s n (Applying 0) s n
-commits_to epoch s n moment = record {
-  moment = record {
-    sound = moment.sound;
-    sized = moment.sized;
-    stands = moment.stands;
-    holds = record { each = λ i b low lists. absurd (omega (arith, low)) };
-  };
-  same_p = refl;
-  room = refl;
-  loads = refl;
-  committed = refl;
-  keeps = λ g told. record { kept = epoch; table = table_of s; told = told; other = tt; applied = refl };
-  rests = λ a b r. tt;
-  free = omega arith;
-  opened = inl refl;
-  owed_later = omega arith;
-  pages = record { whole = λ h. h; merges = omega arith; promotions = omega arith };
-}
+  tail_carried : (i : ℕ) → IsMoment journal_design (Applying i) epoch s n → next_live i s ≡ Some i
+      → Carries journal_design epoch (Applying i) s n (Applying (i + 1)) s (written_to n (home_place s.p (block_listed i s)) (buffer_of s i))
+  tail_carried i moment found =
+      let x : ℕ = home_place s.p (block_listed i s) in
+      let m : Device = written_to n x (buffer_of s i) in
+      let same : works s m ≡ works s n = works_home s n moment.sound moment.sized i found in
+      let there = home_on s n moment.sound moment.sized i found moment.holds in
+      carried (moment_of moment (length-written_to n x (buffer_of s i)) moment.stands there) same
+      same same (keeps_applying epoch i (i + 1) s) (λ g h. h) (λ a b r. tt) (omega arith)
 
-tail_carried : (epoch : ℕ) (s : State) (n : Device) (i : ℕ) → IsMoment journal_design (Applying i) epoch s n → next_live i s ≡ Some i
-    → Carries journal_design epoch (Applying i) s n (Applying (i + 1)) s (written_to n (home_place s.p (block_listed i s)) (buffer_of s i))
-tail_carried epoch s n i moment found =
-    let x : ℕ = home_place s.p (block_listed i s) in
-    let same : works s (written_to n x (buffer_of s i)) ≡ works s n = works_home s n moment.sound moment.sized i found in
-    carried epoch (Applying i) (Applying (i + 1)) s n (written_to n x (buffer_of s i))
-    (record {
-      sound = moment.sound;
-      sized = length-written_to n x (buffer_of s i) ∙ moment.sized;
-      stands = moment.stands;
-      holds = home_on s n moment.sound moment.sized i found moment.holds;
-    })
-    same same (keeps_applying epoch i (i + 1) s) (λ g h. h) (λ a r. tt)
+  tail_spares : (i : ℕ) (g : List Block) → IsMoment journal_design (Applying i) epoch s n
+      → next_live i s ≡ Some i
+      → IsKeptBy (Applying i) epoch s g → IsSpared journal_design s g (home_place s.p (block_listed i s))
+  tail_spares i g moment found keeps =
+      let lists = live_lists s i i moment.sound found in
+      spared s g keeps.kept keeps.table (HomeBlock (block_listed i s)) keeps.told ((IsTable-table_of s moment.sound).blocks i (block_listed i s) lists)
+      (i, subst (λ (t : List (Option ℕ)). Lists t i (block_listed i s)) (sym keeps.applied) lists) (λ q. omega (arith, q))
 
-tail_spares : (epoch : ℕ) (s : State) (n : Device) (i : ℕ) (g : List Block) → IsMoment journal_design (Applying i) epoch s n → next_live i s ≡ Some i
-    → IsKeptBy (Applying i) epoch s g → IsSpared journal_design s g (home_place s.p (block_listed i s))
-tail_spares epoch s n i g moment found keeps =
-    let lists = live_lists s i i moment.sound found in
-    spared s g keeps.kept keeps.table (HomeBlock (block_listed i s)) keeps.told ((IsTable-table_of s moment.sound).blocks i (block_listed i s) lists)
-    (i, subst (λ (t : List (Option ℕ)). Lists t i (block_listed i s)) (sym keeps.applied) lists) (λ q. omega (arith, q))
+  tail_past : (from k : ℕ) → IsMoment journal_design (Applying from) epoch s n
+      → next_live from s ≡ Some k
+      → Carries journal_design epoch (Applying from) s n (Applying k) s n
+  tail_past from k moment found =
+      let there = home_past s n moment.sound moment.sized from k found moment.holds in
+      carried (moment_of moment refl moment.stands there) refl refl refl
+      (keeps_applying epoch from k s) (λ g h. h) (λ a b r. tt) (omega arith)
 
-tail_past : (epoch : ℕ) (s : State) (n : Device) (from k : ℕ) → IsMoment journal_design (Applying from) epoch s n → next_live from s ≡ Some k
-    → Carries journal_design epoch (Applying from) s n (Applying k) s n
-tail_past epoch s n from k moment found =
-    carried epoch (Applying from) (Applying k) s n n
-    (record { sound = moment.sound; sized = moment.sized; stands = moment.stands; holds = home_past s n moment.sound moment.sized from k found moment.holds })
-    refl refl (keeps_applying epoch from k s) (λ g h. h) (λ a r. tt)
+  rests_released : (a : Bool) → rests_at Resting a (released s).table
+  rests_released true = free_count-all (released s).table.entries (none_left s)
+  rests_released false = tt
 
-tail_ends : (epoch : ℕ) (s : State) (n : Device) (from : ℕ) → IsMoment journal_design (Applying from) epoch s n → next_live from s ≡ None
-    → Carries journal_design epoch (Applying from) s n Resting (released s) n
-tail_ends epoch s n from moment none =
-    let home : homes s n ≡ works s n = homes_are_works s n moment.sound moment.sized from none moment.holds in
-    let same : works (released s) n ≡ works s n = works-released s n ∙ home in
-    record {
-      moment = record { sound = released_sound s moment.sound; sized = moment.sized; stands = released_sound s moment.sound; holds = tt };
-      same_p = refl;
-      room = refl;
-      loads = same;
-      sealed = same;
-      committed = home;
-      keeps = λ g h. record { kept = h.kept; table = h.table; told = h.told; other = tt; applied = tt };
-      makes = λ g h. h;
-      rests = λ a b r. rests_released a;
-      free = free_count-mapped freed s.table;
-      opened = inl refl;
-      owed = omega arith;
-      owed_later = omega arith;
-      pages = record { whole = λ h. h; merges = omega arith; promotions = omega arith };
-    }
-  where
-    rests_released : (a : Bool) → rests_at Resting a (released s)
-    rests_released true = all_released s
-    rests_released false = tt
+  tail_ends : (from : ℕ) → IsMoment journal_design (Applying from) epoch s n
+      → next_live from s ≡ None
+      → Carries journal_design epoch (Applying from) s n Resting (released s) n
+  tail_ends from moment none =
+      let home : homes s n ≡ works s n = homes_are_works s n moment.sound moment.sized from none moment.holds in
+      let same : works (released s) n ≡ works s n = works-released s n ∙ home in
+      record {
+        moment = record { sound = released_sound s moment.sound; sized = moment.sized; stands = released_sound s moment.sound; holds = tt };
+        same_p = refl;
+        room = refl;
+        loads = same;
+        sealed = same;
+        committed = home;
+        keeps = λ g h. record { kept = h.kept; table = h.table; told = h.told; other = tt; applied = tt };
+        makes = λ g h. h;
+        rests = λ a b r. rests_released a;
+        free = free_count-mapped freed s.table;
+        opened = inl refl;
+        owed = omega arith;
+        owed_later = omega arith;
+        pages = record { whole = λ h. h; merges = omega arith; promotions = omega arith };
+      }
 
 -- ---- the seal, and devices
 
 seals_to : (before epoch : ℕ) (s : State) (n : Device) → IsMoment journal_design Resting before s n → SealsTo journal_design before epoch s s n
 seals_to before epoch s n moment = record {
-  moment = record {
-    sound = moment.sound;
-    sized = moment.sized;
-    stands = moment.stands;
-    holds = record { each = λ i b low lists. absurd (omega (arith, low)) };
-  };
+  moment =
+      moment_of moment refl moment.stands
+      (record { each = λ i b low lists. absurd (omega (arith, low)) });
   same_p = refl;
   dram = refl;
   loads = refl;
@@ -435,38 +359,43 @@ seals_to before epoch s n moment = record {
 reads_carried : (phase : Phase) (epoch : ℕ) (s : State) (n m : Device) → IsMoment journal_design phase epoch s n → ReadsSame n m
     → Carries journal_design epoch phase s n phase s m
 reads_carried phase epoch s n m moment r =
-    carried epoch phase phase s n m
-    (record {
-      sound = moment.sound;
-      sized = r.as_long ∙ moment.sized;
-      stands = moment.stands;
-      holds = holds_reads phase epoch s n m moment.sound moment.sized r moment.holds;
-    })
-    (works_reads s n moment.sound moment.sized m r.reads) (committed_reads phase s n m moment.sound moment.sized r) (λ g h. h) (λ g h. h) (λ a r. r)
+    let same : works s m ≡ works s n = works_reads s n moment.sound moment.sized m r.reads in
+    let there = holds_reads phase epoch s n m moment.sound moment.sized r moment.holds in
+    carried (moment_of moment r.as_long moment.stands there) same same
+    (committed_reads phase s n m moment.sound moment.sized r) (λ g h. h) (λ g h. h) (λ a b r. r)
+    (omega arith)
 
 drain_carried : (phase : Phase) (epoch : ℕ) (s : State) (n : Device) → IsMoment journal_design phase epoch s n
     → Carries journal_design epoch phase s n phase (after_drain s) n
-drain_carried phase epoch s n moment = record {
-  moment = record {
-    sound = IsSoundState-drained s moment.sound;
-    sized = moment.sized;
-    stands = IsSoundState-drained s moment.sound;
-    holds = holds_drained phase epoch s n moment.holds;
-  };
-  same_p = refl;
-  room = refl;
-  loads = works_drained s n;
-  sealed = works_drained s n;
-  committed = committed_drained phase s n;
-  keeps = kept_drained phase epoch s;
-  makes = makes_drained phase epoch s;
-  rests = λ a b r. rests_drained phase a s r;
-  free = omega arith;
-  opened = inl refl;
-  owed = omega arith;
-  owed_later = omega arith;
-  pages = record { whole = λ h. h; merges = omega arith; promotions = omega arith };
-}
+drain_carried phase epoch s n moment =
+    let sound : IsSoundState (after_drain s) = IsSoundState-drained s moment.sound in
+    record {
+      moment = record {
+        sound = sound;
+        sized = moment.sized;
+        stands = sound;
+        holds = holds_drained phase epoch s n moment.holds;
+      };
+      same_p = refl;
+      room = refl;
+      loads = works_drained s n;
+      sealed = works_drained s n;
+      committed = committed_drained phase s n;
+      keeps = λ g h. record {
+        kept = h.kept;
+        table = h.table;
+        told = h.told;
+        other = h.other;
+        applied = h.applied;
+      };
+      makes = λ g. makes_alike journal_design phase epoch s (after_drain s) g (λ h. h);
+      rests = λ a b r. r;
+      free = omega arith;
+      opened = inl refl;
+      owed = omega arith;
+      owed_later = omega arith;
+      pages = record { whole = λ h. h; merges = omega arith; promotions = omega arith };
+    }
 
 -- ---- all of it
 
@@ -479,10 +408,15 @@ is_design = record {
   committed_length = length-committed;
   dram_length = λ s sound. sound.dram_size;
   agreeing = λ phase epoch s n moment. refl;
-  few = λ phase epoch s n moment. few phase s moment.sound;
+  few = λ phase epoch s n moment. record {
+    merges = omega arith;
+    promotions = omega arith;
+    owed = omega arith;
+    free = free-few s moment.sound;
+  };
   merged_all = λ s none. refl;
   promoted_all = λ s none. refl;
-  rests_room = λ s sound rests. some-free s sound rests;
+  rests_room = some-free;
   slot_fits = slot_fits;
   slot_makes = λ e s n g state moment can decodes commit is. slot_makes e s n moment can g commit is;
   slot_spared = λ e s n g k moment can keeps l. slot_spared e s n moment can g k keeps l;
@@ -503,5 +437,5 @@ is_design = record {
   drained_rest = λ s k. refl;
   drained_dram = λ s. refl;
   drained_left = λ s from. omega arith;
-  rests_of_any = λ before epoch s n moment. record { sound = moment.sound; sized = moment.sized; stands = moment.stands; holds = tt };
+  rests_of_any = λ before epoch s n moment. moment_of moment refl moment.stands tt;
 }

@@ -3,4 +3,3 @@ pub mod PhaseLemmas
 pub mod DesignLemmas
 pub mod StoreLemmas
 pub mod PartsLemmas
-pub mod LawLemmas

@@ -1,23 +1,19 @@
 -- The journal is a scheme of lawful parts: what holds when power comes on, at the end of a boot, and of all of it.
-use Rattle.std.proofs.Common.{◌≡◌, ℕ, suc, true, false, List, [], ◌∷◌, length, get_or, Option, Some, None, refl, sym, ◌∙◌, ap, arith}
-use Rattle.std.specs.List.{range_with_len, sum_by}
+use Rattle.std.proofs.Common.{◌≡◌, true, false, List, length, None, refl, sym, ◌∙◌, ap, arith}
 use Rattle.std.specs.Option.{option_map}
 use Rattle.std.proofs.lemmas.List.{length-replicate, get_or-replicate, ext_get_or}
-use Rattle.std.proofs.lemmas.List.Sums.{sum_by-cons}
 use Rattle.thy_base.specs.declared.block.Block.{Block}
 use Rattle.thy_base.specs.declared.config.Parameters.{Parameters}
 use Rattle.thy_base.specs.Device.{Device, block_at}
 use Rattle.thy_base.specs.Geometry.{IsInRange, memory_blocks}
 use Rattle.thy_base.specs.Places.{dram_blocks}
-use Rattle.thy_base.proofs.BasicLemmas.{get_or-replicate_any}
 use Rattle.thy_dram.specs.Contents.{Contents}
 use Rattle.thy_isa.specs.Step.{State as Plain}
 use Rattle.thy_layout.specs.Commit.{commit_of, epoch_of}
 use Rattle.thy_layout.specs.Layout.{slot_in}
-use Rattle.thy_layout.proofs.AskingLemmas.{map-alike}
 use Rattle.thy_layout.proofs.ReadBackLemmas.{epoch_of-commit_of}
-use Rattle.thy_table.specs.Listing.{IsListing, entry_at, lists, empty_table}
-use Rattle.thy_table.proofs.IndexLemmas.{free_one}
+use Rattle.thy_table.specs.Listing.{empty_table}
+use Rattle.thy_table.proofs.ListingLaws.{entry_at-empty, free_count-all, IsListing-free}
 use Rattle.thy_view.specs.Kind.{IsDramOf}
 use Rattle.thy_boot.specs.Boot.{Booting}
 use Rattle.thy_boot.specs.Filling.{first_slot_of}
@@ -38,35 +34,28 @@ use Rattle.thy_engine.specs.Items.{Resting, Applying}
 use Rattle.thy_parts.specs.AreParts.{AreParts}
 use Rattle.thy_parts.specs.Paging.{IsPaging}
 use Rattle.thy_parts.specs.Powering.{EndsBoot, IsPowering}
+use Rattle.thy_parts.proofs.MemoryLemmas.{map_below}
 use Rattle.thy_journal_laws.specs.Design.{journal_design}
 use Rattle.thy_journal_laws.proofs.DesignLemmas.{is_design}
 use Rattle.thy_journal_laws.proofs.StoreLemmas.{is_storing}
 
 -- ---- power comes on
 
--- a table of free entries lists nothing
-none_listed : (size numbers b i : ℕ) → lists block_key b (entry_at (empty_table {E = Listed} size numbers) i) ≡ false
-none_listed size numbers b i = ap (lists block_key b) (get_or-replicate_any {A = Option Listed} size i None)
-
-IsListing-empty : (size numbers : ℕ) → IsListing block_key (empty_table {E = Listed} size numbers)
-IsListing-empty size numbers = record {
-  found = λ i b here. let none : false ≡ true = sym (none_listed size numbers b i) ∙ here in cc;
-  inside = λ i b here. let none : false ≡ true = sym (none_listed size numbers b i) ∙ here in absurd cc;
-}
-
 new_sound : (p : Parameters) (dram : Contents) → IsInRange p → length dram.blocks ≡ dram_blocks p → IsSoundState (new_state p dram)
 new_sound p dram range size = record {
   range = range;
   size = length-replicate p.btt None;
   numbers = refl;
-  once = IsListing-empty p.btt (memory_blocks p);
+  once =
+      IsListing-free block_key (empty_table p.btt (memory_blocks p))
+      (entry_at-empty p.btt (memory_blocks p));
   dram_size = size;
 }
 
 new_fresh : (p : Parameters) (dram : Contents) → IsInRange p → IsDramOf p dram → IsFresh (new_state p dram)
 new_fresh p dram range is = record {
   state = new_sound p dram range is.blocks;
-  free = λ i. get_or-replicate_any {A = Option Listed} p.btt i None;
+  free = entry_at-empty {E = Listed} p.btt (memory_blocks p);
 }
 
 -- ---- a checkpoint was restored: its journal is to be applied
@@ -99,12 +88,6 @@ module _ (s : State) (n : Device) (b : Booting) (same : s.p ≡ b.p) (sized : le
 
 -- ---- the program is loaded
 
--- with no entry live, all are free
-none_free : (es : List (Option Listed)) → ((i : ℕ) → get_or es i None ≡ None) → sum_by free_one es ≡ length es
-none_free [] none = refl
-none_free (None ∷ es) none = omega (arith, none_free es (λ i. none (suc i)), sum_by-cons free_one None es)
-none_free (Some x ∷ es) none = let first : Some x ≡ None = none 0 in cc
-
 module _ (s : State) (n : Device) (g : List Block) (start : Plain) (fresh : IsFresh s) (sized : length n.image ≡ image_blocks s.p) (can : CanStart s.p start)
     (commit : block_at g 1 ≡ commit_of 0) (slot : slot_in (journal_layouts s.p) g ≡ first_slot_of filling_journal s.p start) where
   table_free : table_of s ≡ no_table s.p
@@ -127,8 +110,9 @@ module _ (s : State) (n : Device) (g : List Block) (start : Plain) (fresh : IsFr
     moment = λ epoch. record { sound = fresh.state; sized = sized; stands = fresh.state; holds = tt };
     keeps = λ epoch. record { kept = 0; table = table_of s; told = told_first; other = tt; applied = tt };
     committed =
-        map-alike (home_of s n) (work_of s n) (range_with_len 0 (memory_blocks s.p)) (λ c inside. sym (ap (work_by s n c) (entry_for-fresh s c fresh)));
-    rests = none_free s.table.entries (λ i. fresh.free i);
+        map_below (memory_blocks s.p) (home_of s n) (work_of s n)
+        (λ c l. sym (ap (work_by s n c) (entry_for-fresh s c fresh)));
+    rests = free_count-all s.table.entries fresh.free;
     closed = refl;
     whole = refl;
   }

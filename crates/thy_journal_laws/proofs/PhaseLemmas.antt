@@ -1,37 +1,26 @@
 -- What the NVM holds of a checkpoint, by its phase: over writes elsewhere, over a device that reads the same, and from one
 -- position to the next.
-use Rattle.std.proofs.Common.{◌≡◌, ◌≢◌, ℕ, zero, suc, ◌+◌, ◌%◌, ◌<◌, length, map, Option, Some, None, refl, sym, ◌∙◌, ap, subst, inl, inr, arith}
+use Rattle.std.proofs.Common.{◌≡◌, ◌≢◌, ℕ, ◌+◌, ◌%◌, ◌<◌, length, map, Option, Some, None, refl, sym, ◌∙◌, ap, subst, inl, inr, arith}
 use Rattle.std.proofs.lemmas.Bool.{cases_lt}
-use Rattle.std.proofs.lemmas.List.{length-map, get_or-map, ext_get_or}
-use Rattle.std.proofs.lemmas.List.FromFn.{length-map-range_with_len, get_or-map-range_with_len}
 use Rattle.thy_base.specs.declared.block.Block.{Block}
-use Rattle.thy_base.specs.declared.config.Parameters.{Parameters}
-use Rattle.thy_base.specs.Device.{Device, zero_block, block_at, newest, written_to}
+use Rattle.thy_base.specs.Device.{Device, newest, written_to}
 use Rattle.thy_base.specs.Geometry.{memory_blocks}
 use Rattle.thy_base.proofs.DeviceLemmas.{newest-written_to, newest-written_to_other}
 use Rattle.thy_layout.specs.Entries.{Lists, entry_at, entry_of}
-use Rattle.thy_layout.proofs.AskingLemmas.{half, map-alike}
+use Rattle.thy_layout.proofs.AskingLemmas.{half}
 use Rattle.thy_layout.proofs.EntryLemmas.{entry_of-Some, entry_of-None, Lists-inside}
-use Rattle.thy_journal_image.specs.Places.{slot_blocks, slot_place, image_blocks, home_place, journal_place, place_by, place_of}
+use Rattle.thy_journal_image.specs.Places.{image_blocks, home_place, journal_place, place_by, place_of}
 use Rattle.thy_journal_image.specs.CheckpointParts.{memory_places}
-use Rattle.thy_journal_image.proofs.PartsLemmas.{slot_behind}
+use Rattle.thy_journal_image.proofs.PartsLemmas.{journal_behind}
 use Rattle.thy_log.specs.Holding.{works, homes}
 use Rattle.thy_log.specs.Items.{next_live, block_listed}
 use Rattle.thy_log.specs.State.{State, IsSoundState, table_of, entry_for, buffer_of, home_of, work_by, work_of}
 use Rattle.thy_log.proofs.TableLemmas.{IsTable-table_of, live_lists, listed_below, listed_before, length-table_of, entry_for-is}
+use Rattle.thy_parts.proofs.MemoryLemmas.{map_below, map_places}
 use Rattle.thy_journal_laws.specs.Design.{AreJournaled, AreHome}
-use Rattle.thy_journal_laws.proofs.WorkLemmas.{works_same, homes_same, home_over}
+use Rattle.thy_journal_laws.proofs.WorkLemmas.{works_same, home_over}
 
 -- ---- places
-
-inside_by : (p : Parameters) (s i : ℕ) → s < 2 → i < p.btt → journal_place p s i < image_blocks p
-inside_by p zero i h l = omega arith
-inside_by p (suc zero) i h l = omega arith
-inside_by p (suc (suc s)) i h l = absurd (omega arith)
-
--- a block of the journal is within the image
-pub journal_inside : (p : Parameters) (epoch i : ℕ) → i < p.btt → journal_place p (epoch % 2) i < image_blocks p
-journal_inside p epoch i l = inside_by p (epoch % 2) i (half epoch) l
 
 -- a place that is no home
 abbrev pub IsAside : State → ℕ → Type 0
@@ -40,20 +29,18 @@ IsAside s x = (b : ℕ) → b < memory_blocks s.p → home_place s.p b ≢ x
 pub aside_journal : (s : State) (h i : ℕ) → IsAside s (journal_place s.p h i)
 aside_journal s h i b small = λ q. omega (arith, small, q)
 
-pub aside_slot : (s : State) (epoch k : ℕ) → k < slot_blocks s.p → IsAside s (slot_place s.p (epoch % 2) + k)
-aside_slot s epoch k l b small = λ q. let before = (slot_behind s.p (epoch % 2) k (half epoch) l).1 in omega (arith, before, q)
-
-pub aside_commit : (s : State) → IsAside s 1
-aside_commit s b small = λ q. omega (arith, q)
-
 -- ---- memory over a write that is no home's
 
 module _ (s : State) (n : Device) (sized : length n.image ≡ image_blocks s.p) where
   pub works_over : (x : ℕ) (block : Block) → IsAside s x → works s (written_to n x block) ≡ works s n
-  works_over x block other = works_same s n (written_to n x block) (λ b l none. home_over s n x block b (record { nvm = sized }) l (other b l))
+  works_over x block other =
+      works_same s n (written_to n x block)
+      (λ b l none. home_over s n x block b sized l (other b l))
 
   pub homes_over : (x : ℕ) (block : Block) → IsAside s x → homes s (written_to n x block) ≡ homes s n
-  homes_over x block other = homes_same s n (written_to n x block) (λ b l. home_over s n x block b (record { nvm = sized }) l (other b l))
+  homes_over x block other =
+      map_below (memory_blocks s.p) (home_of s (written_to n x block)) (home_of s n)
+      (λ b l. home_over s n x block b sized l (other b l))
 
 -- ---- the journal
 
@@ -62,7 +49,9 @@ module _ (epoch : ℕ) (s : State) (n : Device) (sound : IsSoundState s) (sized 
   at i = journal_place s.p (epoch % 2) i
 
   pub at_inside : (i : ℕ) → i < s.p.btt → at i < length n.image
-  at_inside i l = let inside = journal_inside s.p epoch i l in omega (arith, inside, sized)
+  at_inside i l =
+      let inside = (journal_behind s.p (epoch % 2) i (half epoch) l).1 in
+      omega (arith, inside, sized)
 
   pub listed_inside : (i b : ℕ) → Lists (table_of s) i b → i < s.p.btt
   listed_inside i b lists = let inside = Lists-inside (table_of s) i b lists in omega (arith, inside, length-table_of s, sound.size)
@@ -111,28 +100,13 @@ module _ (epoch : ℕ) (s : State) (n : Device) (sound : IsSoundState s) (sized 
       let lists = entry_of-Some (table_of s) b i found in
       all.each i b (listed_inside i b lists) lists
 
-  length-places : length (map (newest n) (memory_places s.p (epoch % 2) (table_of s))) ≡ memory_blocks s.p
-  length-places =
-      length-map (memory_places s.p (epoch % 2) (table_of s)) (newest n)
-      ∙ length-map-range_with_len (place_of s.p (epoch % 2) (table_of s)) 0 (memory_blocks s.p)
-
-  places-each : (b : ℕ) → b < memory_blocks s.p
-      → block_at (map (newest n) (memory_places s.p (epoch % 2) (table_of s))) b ≡ newest n (place_of s.p (epoch % 2) (table_of s) b)
-  places-each b l =
-      get_or-map (newest n) (memory_places s.p (epoch % 2) (table_of s)) b 0 zero_block
-      (omega (arith, l, length-map-range_with_len (place_of s.p (epoch % 2) (table_of s)) 0 (memory_blocks s.p)))
-      ∙ ap (newest n) (get_or-map-range_with_len (place_of s.p (epoch % 2) (table_of s)) 0 (memory_blocks s.p) b b 0 l (omega arith))
-
   pub memory_is_work : AreJournaled epoch s n s.p.btt → map (newest n) (memory_places s.p (epoch % 2) (table_of s)) ≡ works s n
   memory_is_work all =
-      ext_get_or zero_block (map (newest n) (memory_places s.p (epoch % 2) (table_of s))) (works s n)
-      (length-places ∙ sym (length-map-range_with_len (work_of s n) 0 (memory_blocks s.p)))
-      (λ b inside.
-      let l : b < memory_blocks s.p = omega (arith, inside, length-places) in
-      places-each b l
-      ∙ place_reads all b (entry_of (table_of s) b) refl
-      ∙ ap (work_by s n b) (entry_for-is s b sound)
-      ∙ sym (get_or-map-range_with_len (work_of s n) 0 (memory_blocks s.p) b b zero_block l (omega arith)))
+      map_places (memory_blocks s.p) (newest n) (place_of s.p (epoch % 2) (table_of s))
+      (work_of s n)
+      (λ b l.
+      place_reads all b (entry_of (table_of s) b) refl
+      ∙ ap (work_by s n b) (entry_for-is s b sound))
 
 -- ---- homes
 
@@ -144,7 +118,7 @@ module _ (s : State) (n : Device) (sound : IsSoundState s) (sized : length n.ima
   pub works_home : (i : ℕ) → next_live i s ≡ Some i → works s (written_to n (home_place s.p (block_listed i s)) (buffer_of s i)) ≡ works s n
   works_home i found =
       works_same s n (written_to n (home_place s.p (block_listed i s)) (buffer_of s i)) (λ b l none.
-      home_over s n (home_place s.p (block_listed i s)) (buffer_of s i) b (record { nvm = sized }) l (λ q.
+      home_over s n (home_place s.p (block_listed i s)) (buffer_of s i) b sized l (λ q.
       let here : block_listed i s ≡ b = omega (arith, q) in
       entry_of-None (table_of s) b i (entry_for-is s b sound ∙ none) (subst (λ (c : ℕ). Lists (table_of s) i c) here (live_lists s i i sound found))))
 
@@ -194,11 +168,15 @@ module _ (s : State) (n : Device) (sound : IsSoundState s) (sized : length n.ima
       let l = entry_of-Some (table_of s) b i (entry_for-is s b sound ∙ is) in h.each i b (listed_below s from i b found l) l
 
   pub homes_are_works : (from : ℕ) → next_live from s ≡ None → AreHome s n from → homes s n ≡ works s n
-  homes_are_works from found h = map-alike (home_of s n) (work_of s n) _ (λ b inside. home_is_work from found h b (entry_for s b) refl)
+  homes_are_works from found h =
+      map_below (memory_blocks s.p) (home_of s n) (work_of s n)
+      (λ b l. home_is_work from found h b (entry_for s b) refl)
 
   -- over a device that reads the same
   pub works_reads : (m : Device) → ((x : ℕ) → x < length n.image → newest m x ≡ newest n x) → works s m ≡ works s n
   works_reads m reads = works_same s n m (λ b small none. reads (home_place s.p b) (omega (arith, small, sized)))
 
   pub homes_reads : (m : Device) → ((x : ℕ) → x < length n.image → newest m x ≡ newest n x) → homes s m ≡ homes s n
-  homes_reads m reads = homes_same s n m (λ b small. reads (home_place s.p b) (omega (arith, small, sized)))
+  homes_reads m reads =
+      map_below (memory_blocks s.p) (home_of s m) (home_of s n)
+      (λ b small. reads (home_place s.p b) (omega (arith, small, sized)))

@@ -1,23 +1,22 @@
 -- A store changes one block, as each load of the log then shows, and leaves what loads and stores keep.
-use Rattle.std.proofs.Common.{◌≡◌, ◌≢◌, ◌⊎◌, ℕ, ◌+◌, ◌<◌, ◌≤◌, true, false, is_none, List, ◌∷◌, length, map, slice_set, Option, Some, None, unwrap_or, refl, sym, ◌∙◌, ap, subst, inl, inr, arith}
+use Rattle.std.proofs.Common.{◌≡◌, ◌≢◌, ℕ, ◌+◌, ◌<◌, ◌≤◌, true, false, List, ◌∷◌, length, map, slice_set, Option, Some, None, unwrap_or, refl, sym, ◌∙◌, ap, subst, inr, arith}
 use Rattle.std.specs.List.{range_with_len}
 use Rattle.std.specs.Option.{option_or}
-use Rattle.std.proofs.lemmas.Bool.{cases_eq}
-use Rattle.std.proofs.lemmas.List.{length-set, get_or-set_same, get_or-set_other, ext_get_or}
-use Rattle.std.proofs.lemmas.List.FromFn.{length-map-range_with_len, get_or-map-range_with_len}
-use Rattle.std.proofs.lemmas.List.Quantifiers.{position-Some}
+use Rattle.std.proofs.lemmas.List.{length-set, get_or-set_same, get_or-set_other}
+use Rattle.std.proofs.lemmas.List.FromFn.{length-map-range_with_len}
 use Rattle.std.proofs.lemmas.List.Sums.{sum_by-set}
 use Rattle.thy_base.specs.declared.block.Block.{Block}
 use Rattle.thy_base.specs.declared.config.Parameters.{Parameters}
-use Rattle.thy_base.specs.Device.{Device, zero_block, block_at, newest, IsFramed, HasFailed}
+use Rattle.thy_base.specs.Device.{Device, zero_block, newest, IsFramed, HasFailed}
 use Rattle.thy_base.specs.Geometry.{memory_blocks}
 use Rattle.thy_base.specs.Store.{IsStored}
+use Rattle.thy_crash.specs.Spares.{Spares}
 use Rattle.thy_crash.proofs.SparesLemmas.{Spares-no_more}
 use Rattle.thy_dram.specs.Contents.{written}
 use Rattle.thy_layout.specs.Layout.{looked_by}
 use Rattle.thy_table.specs.Listing.{Listing, IsListing, entry_at, place_of, free_place, free_count, with_entry, added_at}
-use Rattle.thy_table.proofs.IndexLemmas.{None-is_none, free_one, lists-some, lists-inside, some-counted}
-use Rattle.thy_table.proofs.ListingLaws.{place_of-lists, IsListing-put, place_of-put, place_of-put_other}
+use Rattle.thy_table.proofs.IndexLemmas.{free_one, lists-some, lists-inside}
+use Rattle.thy_table.proofs.ListingLaws.{free_first, free_found, place_of-lists, IsListing-put, place_of-put, place_of-put_other}
 use Rattle.thy_journal_image.specs.Layout.{journal_layouts}
 use Rattle.thy_journal_image.specs.Places.{image_blocks, home_place}
 use Rattle.thy_journal_image.specs.CheckpointParts.{IsToldBy}
@@ -32,6 +31,9 @@ use Rattle.thy_parts.specs.Holding.{holding_of}
 use Rattle.thy_parts.specs.Moments.{IsMoment}
 use Rattle.thy_parts.specs.Storing.{CanStore, MakesStore, StaysAt, StaysOver, IsStoring}
 use Rattle.thy_parts.proofs.HeldLemmas.{IsHeldBlock, blocks_held, held_block}
+use Rattle.thy_parts.proofs.LeavesLemmas.{leaves-same, leaves-failed, leaves-both}
+use Rattle.thy_parts.proofs.MemoryLemmas.{map_set}
+use Rattle.thy_parts.proofs.WaitLemmas.{stays_waiting}
 use Rattle.thy_journal_laws.specs.Design.{rests_at, StaysLog, journal_design}
 
 -- ---- the table in which a block is listed
@@ -60,17 +62,19 @@ listed_some s b i sound e = record {
 listed_none : (s : State) (b i : ℕ) → IsSoundState s → b < memory_blocks s.p → entry_for s b ≡ None → free_place s.table ≡ Some i
     → IsListedAt s b i (with_entry i (Some (listing_of b)) s.table)
 listed_none s b i sound small e found =
-    let first = position-Some is_none s.table.entries i None found in
-    let was : entry_at s.table i ≡ None = None-is_none (entry_at s.table i) first.1 in
+    let first = free_first s.table i found in
     let room : b < s.table.numbers = subst (λ (x : ℕ). b < x) (sym sound.numbers) small in
+    let set = sum_by-set free_one s.table.entries i (Some (listing_of b)) None first.0 in
     record {
       here = place_of-put block_key s.table sound.once i (listing_of b) first.0 e room;
-      others = λ c other. place_of-put_other block_key s.table sound.once i (listing_of b) c first.0 was e room other;
+      others = λ c other.
+          place_of-put_other block_key s.table sound.once i (listing_of b) c first.0 first.1 e room
+          other;
       once = IsListing-put block_key s.table sound.once i (listing_of b) first.0 e room;
       long = length-set s.table.entries i (Some (listing_of b));
       numbers = refl;
       inside = first.0;
-      free = omega (arith, sum_by-set free_one s.table.entries i (Some (listing_of b)) None first.0, ap free_one was);
+      free = omega (arith, ap free_one first.1, set);
     }
 
 -- ---- the log after a store
@@ -100,17 +104,15 @@ record IsStoredAt (b : ℕ) (block : Block) (s : State) : Type 0 where
 
 stored_at : (b : ℕ) (block : Block) (s : State) → IsSoundState s → b < memory_blocks s.p → 0 < free_count s.table → IsStoredAt b block s
 stored_at b block s sound small room = by_entry (entry_for s b) refl where
-  by_free : (o : Option ℕ) → free_place s.table ≡ o → entry_for s b ≡ None → IsStoredAt b block s
-  by_free None found e = let none = (some-counted s.table.entries None found).1 room in absurd cc
-  by_free (Some i) found e = record {
-    i = i;
-    u = with_entry i (Some (listing_of b)) s.table;
-    listed = listed_none s b i sound small e found;
-    is = after_none b block s i e found;
-  }
-
   by_entry : (o : Option ℕ) → entry_for s b ≡ o → IsStoredAt b block s
-  by_entry None e = by_free (free_place s.table) refl e
+  by_entry None e =
+      let free = free_found s.table room in
+      record {
+        i = free.0;
+        u = with_entry free.0 (Some (listing_of b)) s.table;
+        listed = listed_none s b free.0 sound small e free.1;
+        is = after_none b block s free.0 e free.1;
+      }
   by_entry (Some i) e = record { i = i; u = s.table; listed = listed_some s b i sound e; is = after_some b block s i e }
 
 -- ---- what it holds
@@ -145,23 +147,8 @@ module _ (b : ℕ) (block : Block) (s : State) (n : Device) (sound : IsSoundStat
 
   works_stored : works t n ≡ slice_set (works s n) b block
   works_stored =
-      let size : ℕ = memory_blocks s.p in
-      let long : length (works t n) ≡ size = length-map-range_with_len (work_of t n) 0 size in
-      let old : length (works s n) ≡ size = length-map-range_with_len (work_of s n) 0 size in
-      ext_get_or zero_block (works t n) (slice_set (works s n) b block) (long ∙ sym (length-set (works s n) b block ∙ old))
-      (λ c low.
-      let below : c < size = omega (arith, low, long) in
-      let gives : block_at (works t n) c ≡ work_of t n c = get_or-map-range_with_len (work_of t n) 0 size c c zero_block below (omega arith) in
-      elim (cases_eq c b) as (λ _. block_at (works t n) c ≡ block_at (slice_set (works s n) b block) c) [
-        | inl same ↦
-            gives ∙ ap (work_of t n) same ∙ work_here
-            ∙ sym (get_or-set_same (works s n) b block zero_block (omega (arith, small, old)))
-            ∙ sym (ap (block_at (slice_set (works s n) b block)) same)
-        | inr other ↦
-            gives ∙ work_other c other
-            ∙ sym (get_or-map-range_with_len (work_of s n) 0 size c c zero_block below (omega arith))
-            ∙ sym (get_or-set_other (works s n) b c block zero_block other)
-      ])
+      map_set (memory_blocks s.p) (work_of t n) (work_of s n) b block small work_here
+      (λ c l other. work_other c other)
 
   stored_sound : IsSoundState t
   stored_sound =
@@ -195,23 +182,17 @@ module _ (b : ℕ) (block : Block) (s : State) (n : Device) (can : CanStore jour
     owed = λ page. omega arith;
   }
 
-  stays_after : StaysLog s n after n
-  stays_after = record {
-    same_p = refl;
-    room = refl;
-    sound = λ h. stored_sound b block s n can.sound small at.i at.u at.listed;
-    as_long = refl;
-    no_more = λ x y h. h;
-    down = λ d. d;
-    same = λ up. refl;
-  }
-
   makes_after : MakesStore journal_design b block s n after n
   makes_after = record {
     stored = stores_after;
     dram = inr (record { at = at.i; block = block; left = refl; nvm = refl });
     copies = λ fewer. absurd (omega (arith, fewer));
-    stays = stays_after;
+    stays = record {
+      same_p = refl;
+      room = refl;
+      sound = λ h. stored_sound b block s n can.sound small at.i at.u at.listed;
+      nvm = leaves-same n;
+    };
     still = λ h. let no : false ≡ true = h in absurd cc;
   }
 
@@ -221,40 +202,23 @@ module _ (b : ℕ) (block : Block) (s : State) (n : Device) (can : CanStore jour
 -- ---- what stays
 
 failed_stays : (s : State) (n m : Device) → HasFailed n m → IsFramed n m → StaysLog s n s m
-failed_stays s n m failed framed = record {
-  same_p = refl;
-  room = refl;
-  sound = λ h. h;
-  as_long = framed.blocks;
-  no_more = failed.no_more;
-  down = λ was. failed.down;
-  same = λ up. let both : true ≡ false = sym failed.down ∙ up in absurd cc;
-}
+failed_stays s n m failed framed =
+    record { same_p = refl; room = refl; sound = λ h. h; nvm = leaves-failed n m failed framed }
 
 on_stays : (a : State) (l : Device) (b : State) (m : Device) (c : State) (n : Device) → StaysLog a l b m → StaysLog b m c n → StaysLog a l c n
 on_stays a l b m c n first second = record {
   same_p = second.same_p ∙ first.same_p;
   room = second.room ∙ first.room;
   sound = λ h. second.sound (first.sound h);
-  as_long = second.as_long ∙ first.as_long;
-  no_more = λ x y h. first.no_more x y (second.no_more x y h);
-  down = λ d. second.down (first.down d);
-  same = λ up.
-      let was : n ≡ m = second.same up in
-      was ∙ first.same (sym (ap (λ (d : Device). d.down) was) ∙ up);
+  nvm = leaves-both l m n first.nvm second.nvm;
 }
 
-still_rests : (phase : Phase) (s t : State) → t.table ≡ s.table → rests_at phase true s → rests_at phase true t
-still_rests Resting s t same rests = subst (λ (u : Listing Listed). free_count u ≡ length u.entries) (sym same) rests
-still_rests (Making from) s t same rests = tt
-still_rests Made s t same rests = tt
-still_rests (Applying from) s t same rests = tt
-
-rests_less : (phase : Phase) (s : State) → rests_at phase true s → rests_at phase false s
-rests_less Resting s rests = tt
-rests_less (Making from) s rests = tt
-rests_less Made s rests = tt
-rests_less (Applying from) s rests = tt
+rests_less : (phase : Phase) (table : Listing Listed) → rests_at phase true table
+    → rests_at phase false table
+rests_less Resting table rests = tt
+rests_less (Making from) table rests = tt
+rests_less Made table rests = tt
+rests_less (Applying from) table rests = tt
 
 -- homes go by the geometry alone
 abbrev homes_by : Device → Parameters → List Block
@@ -287,19 +251,18 @@ module _ (epoch : ℕ) (s : State) (n : Device) (t : State) (m : Device) (moment
 
   stays_resting : StaysOver journal_design Resting epoch s n t m
   stays_resting = record {
-    kept = λ g h. Spares-no_more (1 ∷ looked_by (journal_layouts s.p) g) n m stays.no_more stays.as_long;
-    made = λ g h. Spares-no_more (1 ∷ looked_by (journal_layouts s.p) g) n m stays.no_more stays.as_long;
+    kept = λ g h. spares g;
+    made = λ g h. spares g;
     left = λ from. omega (arith, ap (λ (p : Parameters). p.btt) stays.same_p);
     owed_later = omega arith;
-    up = λ up. subst (λ (d : Device). StaysAt journal_design Resting epoch s n t d) (sym (stays.same up)) stays_idle;
-  }
-
-stays_by : (phase : Phase) (epoch : ℕ) (s : State) (n : Device) (t : State) (m : Device) → IsMoment journal_design phase epoch s n
-    → (false ≡ true) ⊎ (phase ≡ Resting) → StaysLog s n t m → StaysOver journal_design phase epoch s n t m
-stays_by phase epoch s n t m moment (inl never) stays = absurd cc
-stays_by phase epoch s n t m moment (inr resting) stays =
-    subst (λ (p : Phase). StaysOver journal_design p epoch s n t m) (sym resting)
-    (stays_resting epoch s n t m (subst (λ (p : Phase). IsMoment journal_design p epoch s n) resting moment) stays)
+    up = λ up.
+        subst (λ (d : Device). StaysAt journal_design Resting epoch s n t d)
+        (sym (stays.nvm.same up)) stays_idle;
+  } where
+    spares : (g : List Block) → Spares (1 ∷ looked_by (journal_layouts s.p) g) n m
+    spares g =
+        Spares-no_more (1 ∷ looked_by (journal_layouts s.p) g) n m stays.nvm.no_more
+        stays.nvm.as_long
 
 pub is_storing : IsStoring journal_design
 is_storing = record {
@@ -310,20 +273,12 @@ is_storing = record {
   stored_once = λ s b. refl;
   still_same = λ s. refl;
   still_on = λ a b c first second. second ∙ first;
-  still_rests = λ sealed phase s t same rests. still_rests phase s t same rests;
-  rests_less = λ sealed phase s rests. rests_less phase s rests;
-  stays_same = λ s n. record {
-    same_p = refl;
-    room = refl;
-    sound = λ h. h;
-    as_long = refl;
-    no_more = λ x y h. h;
-    down = λ d. d;
-    same = λ up. refl;
-  };
+  still_rests = λ sealed phase s t same rests. subst (rests_at phase true) (sym same) rests;
+  rests_less = λ sealed phase s rests. rests_less phase s.table rests;
+  stays_same = λ s n. record { same_p = refl; room = refl; sound = λ h. h; nvm = leaves-same n };
   stays_on = on_stays;
   stays_p = λ s n t m stays. stays.same_p;
   stays_room = λ s n t m stays. stays.room;
   stays_sound = λ s n t m stays. stays.sound;
-  stays = stays_by;
+  stays = stays_waiting journal_design refl stays_resting;
 }

@@ -3,22 +3,23 @@
 use Rattle.std.specs.Prelude.{◌≡◌, ◌≢◌, ℕ, ◌-◌, ◌<◌, Bool, true, false, is_none, List, length, Option, None}
 use Rattle.thy_base.specs.declared.block.Block.{Block}
 use Rattle.thy_base.specs.declared.store.Stored.TheVariants.{Done}
-use Rattle.thy_base.specs.Device.{Device, newest, HoldsNoMore}
+use Rattle.thy_base.specs.Device.{Device, newest}
 use Rattle.thy_layout.specs.declared.engine_step.EngineStep.TheVariants.{Copied}
 use Rattle.thy_layout.specs.Commit.{slot_of_epoch}
 use Rattle.thy_layout.specs.Entries.{Lists}
 use Rattle.thy_layout.specs.TableSlots.{table_block_of}
-use Rattle.thy_table.specs.Listing.{free_count}
+use Rattle.thy_table.specs.Listing.{Listing, free_count}
 use Rattle.thy_view.specs.Action.{Rest}
 use Rattle.thy_journal_image.specs.CheckpointParts.{IsToldBy}
 use Rattle.thy_journal_image.specs.Places.{home_place, journal_place}
 use Rattle.thy_engine.specs.Items.{ItemsOf, Phase, Resting, Making, Made, Applying}
+use Rattle.thy_log.specs.declared.entry.Listed.{Listed}
 use Rattle.thy_log.specs.Holding.{works, homes}
 use Rattle.thy_log.specs.Items.{next_live, block_listed}
 use Rattle.thy_log.specs.State.{State, IsSoundState, table_of, entry_for, buffer_of, new_state}
 use Rattle.thy_log.specs.Stores.{after_store, released}
 use Rattle.thy_refill.specs.Filling.{filling_journal}
-use Rattle.thy_parts.specs.Design.{PartsOf, DesignOf, design_of, no_pages}
+use Rattle.thy_parts.specs.Design.{LeavesNvm, PartsOf, DesignOf, design_of, no_pages}
 
 -- the body writes each live entry's buffer into the journal of the epoch, the tail to the home of its block; after that all
 -- entries are free
@@ -67,9 +68,9 @@ IsOther Made epoch kept = slot_of_epoch epoch ≢ slot_of_epoch kept
 IsOther phase epoch kept = Unit {0}
 
 -- while a journal is applied its table is the log's
-abbrev pub IsApplied : Phase → State → List (Option ℕ) → Type 0
-IsApplied (Applying from) s table = table ≡ table_of s
-IsApplied phase s table = Unit {0}
+abbrev pub IsApplied : Phase → List (Option ℕ) → List (Option ℕ) → Type 0
+IsApplied (Applying from) own table = table ≡ own
+IsApplied phase own table = Unit {0}
 
 -- the image that is kept has the checkpoint of an epoch with a table
 pub record IsKeptBy (phase : Phase) (epoch : ℕ) (s : State) (g : List Block) : Type 0 where
@@ -77,7 +78,7 @@ pub record IsKeptBy (phase : Phase) (epoch : ℕ) (s : State) (g : List Block) :
   pub table : List (Option ℕ)
   pub told : IsToldBy s.p g kept table
   pub other : IsOther phase epoch kept
-  pub applied : IsApplied phase s table
+  pub applied : IsApplied phase (table_of s) table
 
 -- memory as the committed checkpoint has it: as it was stored last while that checkpoint is applied, else at home
 abbrev pub committed_at : Phase → State → Device → List Block
@@ -85,9 +86,9 @@ committed_at (Applying from) s n = works s n
 committed_at phase s n = homes s n
 
 -- if nothing was stored since the last seal, and that is applied, every entry is free
-abbrev pub rests_at : Phase → Bool → State → Type 0
-rests_at Resting true s = free_count s.table ≡ length s.table.entries
-rests_at phase storeless s = Unit {0}
+abbrev pub rests_at : Phase → Bool → Listing Listed → Type 0
+rests_at Resting true table = free_count table ≡ length table.entries
+rests_at phase storeless table = Unit {0}
 
 -- ---- loads and stores
 
@@ -96,16 +97,12 @@ abbrev pub reads_committed : Phase → State → ℕ → Bool
 reads_committed (Applying from) s b = is_none (entry_for s b)
 reads_committed phase s b = true
 
--- what loads and stores keep: no place of the NVM may hold after a cut what it could not hold before; while it is up, it is as
--- it was
+-- what loads and stores keep
 pub record StaysLog (s : State) (m : Device) (t : State) (n : Device) : Type 0 where
   pub same_p : t.p ≡ s.p
   pub room : t.dram.room ≡ s.dram.room
   pub sound : IsSoundState s → IsSoundState t
-  pub as_long : length n.image ≡ length m.image
-  pub no_more : HoldsNoMore m n
-  pub down : m.down ≡ true → n.down ≡ true
-  pub same : n.down ≡ false → n ≡ m
+  pub nvm : LeavesNvm m n
 
 abbrev pub journal_parts : PartsOf State
 journal_parts = record {
@@ -117,7 +114,7 @@ journal_parts = record {
   sealed = works;
   committed = committed_at;
   seal = λ s. s;
-  rests = λ storeless sealed_storeless phase s. rests_at phase storeless s;
+  rests = λ storeless sealed_storeless phase s. rests_at phase storeless s.table;
   overlaps = false;
   agrees = λ s n. true;
   load_reads = λ s b. is_none (entry_for s b);

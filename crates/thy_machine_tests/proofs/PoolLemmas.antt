@@ -30,7 +30,7 @@ use Rattle.thy_engine.specs.Progress.{Progress, Fits, Item, NoItem, BodyItem, Ro
 use Rattle.thy_pool.specs.Commit.{sealed_state}
 use Rattle.thy_pool.specs.State.{State, IsSoundState}
 use Rattle.thy_pool.specs.Stores.{StoreCase, Into, Fill, Copy, store_case, after_case, after_store, after_drain, new_state}
-use Rattle.thy_pool.proofs.StateLemmas.{entry_at-empty}
+use Rattle.thy_table.proofs.ListingLaws.{entry_at-empty}
 use Rattle.thy_repool.specs.Filling.{filling_shadow}
 use Rattle.thy_shadow_laws.specs.Design.{items_shadow, stands_at}
 use Rattle.thy_shadow_laws.proofs.DesignLemmas.{stands_drained}

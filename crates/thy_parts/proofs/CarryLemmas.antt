@@ -9,6 +9,7 @@ use Rattle.thy_scheme.specs.Calls.{OpensNone}
 use Rattle.thy_engine.specs.Items.{Phase}
 use Rattle.thy_parts.specs.Design.{DesignOf}
 use Rattle.thy_parts.specs.Moments.{IsMoment, Carries, ReadsSame}
+use Rattle.thy_parts.proofs.SameLemmas.{carried}
 
 pub opens_both : (a b c : Option ℕ) → OpensNone a b → OpensNone b c → OpensNone a c
 opens_both a b c h (inl none) = inl none
@@ -17,22 +18,8 @@ opens_both a b c (inr same) (inr again) = inr (again ∙ same)
 
 -- a moment leads to itself
 pub Carries-same : {C : Type 0} (D : DesignOf C) (epoch : ℕ) (p : Phase) (a : C) (n : Device) → IsMoment D p epoch a n → Carries D epoch p a n p a n
-Carries-same D epoch p a n h = record {
-  moment = h;
-  same_p = refl;
-  room = refl;
-  loads = refl;
-  sealed = refl;
-  committed = refl;
-  keeps = λ g k. k;
-  makes = λ g k. k;
-  rests = λ s t k. k;
-  free = omega arith;
-  opened = inr refl;
-  owed = omega arith;
-  owed_later = omega arith;
-  pages = record { whole = λ h. h; merges = omega arith; promotions = omega arith };
-}
+Carries-same D epoch p a n h =
+    carried h refl refl refl (λ g k. k) (λ g k. k) (λ s t k. k) (omega arith)
 
 -- a moment leads to another, and that to a third
 pub Carries-both : {C : Type 0} (D : DesignOf C) (epoch : ℕ) (p q r : Phase) (a b c : C) (l m n : Device)

@@ -1,9 +1,13 @@
 pub mod PlacedLemmas
+pub mod SameLemmas
 pub mod CarryLemmas
 pub mod SlotLemmas
 pub mod SoundLemmas
 pub mod SafeLemmas
 pub mod SealLemmas
+pub mod MemoryLemmas
+pub mod WaitLemmas
+pub mod LeavesLemmas
 pub mod HeldLemmas
 pub mod StepLemmas
 pub mod DrainLemmas

@@ -1,12 +1,11 @@
 -- The parts of a checkpoint are where its layout has them, if the slot has no fault.
-use Rattle.std.proofs.Common.{◌≡◌, ◌==◌, ◌||◌, ℕ, ◌+◌, ◌<◌, ◌≤◌, true, List, map, Contains, Option, Some, None, refl, sym, ◌∙◌, ap, subst, arith}
+use Rattle.std.proofs.Common.{◌≡◌, ◌==◌, ◌||◌, ℕ, ◌+◌, ◌<◌, ◌≤◌, true, List, map, Option, Some, None, refl, ap, subst}
 use Rattle.std.proofs.lemmas.Bool.{eq-eqb}
-use Rattle.std.proofs.lemmas.List.FromFn.{length-map-range_with_len, get_or-map-range_with_len}
 use Rattle.std.specs.List.{range_with_len}
 use Rattle.thy_base.specs.declared.block.Block.{Block}
-use Rattle.thy_base.specs.Geometry.{memory_blocks}
 use Rattle.thy_layout.specs.AreLayouts.{HasSlot, HasPlaces}
 use Rattle.thy_layout.specs.Layout.{Layout, is_length, is_long, memory_places}
+use Rattle.thy_layout.proofs.PlacesLemmas.{memory_place_of}
 use Rattle.thy_protocol.specs.Issuing.{CheckpointParts, ArePartsOf}
 
 -- an image of the layout's own length is long enough, whatever its commit block
@@ -16,13 +15,6 @@ long_by blocks (Some n) = ap (λ t. t || blocks == n) (eq-eqb blocks blocks refl
 
 pub is_long-own : (l : Layout) (commit : Block) → is_long l commit l.image_blocks ≡ true
 is_long-own l commit = long_by l.image_blocks (l.older_blocks commit)
-
--- each place of memory is that of a block
-pub block_of_place : (l : Layout) (commit : Block) (slot : List Block) (x : ℕ) → Contains (memory_places l commit slot) x
-    → (b : ℕ) × (b < memory_blocks l.p) × (l.place commit slot b ≡ x)
-block_of_place l commit slot x (k, inside, is) =
-    let below : k < memory_blocks l.p = omega (arith, inside, length-map-range_with_len (l.place commit slot) 0 (memory_blocks l.p)) in
-    (k, below, sym (get_or-map-range_with_len (l.place commit slot) 0 (memory_blocks l.p) k k x below (omega arith)) ∙ is)
 
 -- the parts of a checkpoint whose slot has these blocks
 abbrev pub parts_in : Layout → Block → (ℕ → Block) → CheckpointParts
@@ -43,12 +35,14 @@ parts_placed l commit slot has places =
         slot_behind = has.behind;
         slot_inside = has.inside l.image_blocks (is_long-own l commit);
         memory_behind = λ x inside.
-            let at = block_of_place l commit blocks x inside in subst (λ y. 2 ≤ y) at.2 (places.behind at.0 at.1);
+            let at = memory_place_of l commit blocks x inside in
+            subst (λ y. 2 ≤ y) at.2 (places.behind at.0 at.1);
         memory_inside = λ x inside.
-            let at = block_of_place l commit blocks x inside in
+            let at = memory_place_of l commit blocks x inside in
             subst (λ y. y < l.image_blocks) at.2 (places.inside at.0 l.image_blocks at.1 (is_long-own l commit));
         apart = λ k below inside.
-            let at = block_of_place l commit blocks (l.slot_place commit + k) inside in places.apart at.0 k at.1 below at.2;
+            let at = memory_place_of l commit blocks (l.slot_place commit + k) inside in
+            places.apart at.0 k at.1 below at.2;
       };
       slot_place = refl;
       slot_blocks = refl;

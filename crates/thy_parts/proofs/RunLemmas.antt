@@ -1,10 +1,10 @@
 -- What holds after the boot, and what loads and stores keep of it.
-use Rattle.std.proofs.Common.{◌≡◌, ◌⊎◌, ℕ, ◌+◌, ◌<◌, ◌≤◌, ◌||◌, ◌&&◌, not, Bool, true, false, is_some, List, [], ◌∷◌, ◌++◌, length, Contains, Option, Some, None, refl, sym, ◌∙◌, ap, subst, inl, inr, arith}
+use Rattle.std.proofs.Common.{◌≡◌, ◌⊎◌, ℕ, ◌+◌, ◌<◌, ◌≤◌, ◌||◌, ◌&&◌, not, Bool, true, false, List, [], ◌∷◌, ◌++◌, length, Contains, Some, refl, sym, ◌∙◌, ap, subst, inl, inr, arith}
 use Rattle.std.proofs.lemmas.List.Elements.{Contains-append_cases, Contains-append_right}
 use Rattle.thy_base.specs.declared.config.Parameters.{Parameters}
-use Rattle.thy_base.specs.declared.mark.Mark.{Mark}
 use Rattle.thy_base.specs.Device.{Device, possible, newest, drained}
 use Rattle.thy_base.specs.Geometry.{memory_blocks}
+use Rattle.thy_base.proofs.BasicLemmas.{not_some}
 use Rattle.thy_crash.specs.Saved.{guarded}
 use Rattle.thy_crash.specs.Spares.{Spares}
 use Rattle.thy_isa.specs.OnBlocks.{state_from}
@@ -22,7 +22,7 @@ use Rattle.thy_boot.specs.Filling.{layout_at}
 use Rattle.thy_scheme.specs.CheckpointMarks.{CheckpointMarks, doubt_in}
 use Rattle.thy_scheme.specs.Scheme.{Stands}
 use Rattle.thy_scheme.specs.Laws.{IsBounded, RunHolds}
-use Rattle.thy_boot_laws.specs.Schemes.{HeldIsUp, ReadyIsUp, RunIsSound, StaysKeep, StaysOver as StaysOverCalls}
+use Rattle.thy_boot_laws.specs.Schemes.{HeldIsUp, ReadyIsUp, RunIsSound, StaysKeep}
 use Rattle.thy_engine.specs.declared.stage.EngineStage.{EngineStage}
 use Rattle.thy_engine.specs.declared.stage.EngineStage.TheVariants.{Idle, Body, InRound, Tail}
 use Rattle.thy_engine.specs.Cycles.{cycles_left, most_cycles}
@@ -45,6 +45,7 @@ use Rattle.thy_parts.proofs.SafeLemmas.{makes_over, safe_by, doubt_is, same_read
 use Rattle.thy_parts.proofs.SealLemmas.{idle_stage}
 use Rattle.thy_parts.proofs.SlotLemmas.{slot_reads}
 use Rattle.thy_parts.proofs.SoundLemmas.{can}
+use Rattle.thy_parts.proofs.WaitLemmas.{rests_idle}
 
 -- ---- what is under way
 
@@ -60,10 +61,6 @@ not_sealing Idle h = cc
 not_sealing (Body from) h = cc
 not_sealing (InRound r) h = cc
 not_sealing (Tail from) h = refl
-
-none_of : (x : Option Mark) → is_some x ≡ false → x ≡ None
-none_of None h = refl
-none_of (Some m) h = cc
 
 -- the hart runs while nothing is under way, or meanwhile
 free_of : (overlaps way : Bool) → (overlaps || not way) ≡ true → (overlaps ≡ true) ⊎ (way ≡ false)
@@ -134,9 +131,6 @@ module _ {C : Type 0} (D : DesignOf C) (w : AreParts D) where
         record { before = earlier.before; still = w.storing.still_on a.control b.control c.control earlier.still now.still };
   }
 
-  pub stays_over : StaysOverCalls (scheme_of D)
-  stays_over = (same-stays, on-stays)
-
   pub of-stays : (s : Composed C) (n : Device) (t : Composed C) (m : Device) → Stays D s n t m → (p : Parameters) → IsOf D p s → IsOf D p t
   of-stays s n t m stays p is_of = record {
     same_p = w.storing.stays_p s.control n t.control m stays.control ∙ is_of.same_p;
@@ -165,12 +159,6 @@ module _ {C : Type 0} (D : DesignOf C) (w : AreParts D) where
           free = subst (λ (q : Parameters). D.parts.free s.control ≤ D.parts.most_free q) p few.free;
         }
 
-    rests_idle : s.sealed_storeless ≡ true → s.storeless ≡ true → is_under_way s.engine.stage ≡ false → D.parts.rests true true Resting s.control
-    rests_idle sealed storeless idle =
-        subst (λ (q : EngineStage). D.parts.rests true true (phase_of q) s.control) (idle_stage s.engine.stage idle)
-        (subst (λ (x : Bool). D.parts.rests true x (phase_of s.engine.stage) s.control) sealed
-        (subst (λ (x : Bool). D.parts.rests x s.sealed_storeless (phase_of s.engine.stage) s.control) storeless sound.rests))
-
     pub run-holds : RunHolds (scheme_of D) o k s n
     run-holds =
         let p : D.filling.p s.control ≡ o.geometry = sound.held.geometry in
@@ -179,7 +167,7 @@ module _ {C : Type 0} (D : DesignOf C) (w : AreParts D) where
           sized = sound.held.moment.sized ∙ ap (λ (q : Parameters). (layout_at D.filling q).image_blocks) p;
           safe = sound_is_safe D o k s n sound;
           way = way_of s.engine.stage ∙ ap (λ (b : Bool). b || is_applying s.engine.stage) sound.way;
-          apart = λ applies. none_of k.sealed (sym sound.way ∙ not_sealing s.engine.stage applies);
+          apart = λ applies. not_some k.sealed (sym sound.way ∙ not_sealing s.engine.stage applies);
           memory =
               ap length (moment_held D s.control n w.design (phase_of s.engine.stage) s.engine.epoch sound.held.moment stands.up)
               ∙ w.design.loads_length s.control n ∙ ap memory_blocks p;
@@ -187,7 +175,10 @@ module _ {C : Type 0} (D : DesignOf C) (w : AreParts D) where
           overlays = w.design.merged_all s.control;
           promotions = w.design.promoted_all s.control;
           bounded = bounded;
-          room = λ sealed storeless idle. w.design.rests_room s.control sound.held.moment.sound (rests_idle sealed storeless idle);
+          room = λ sealed storeless idle.
+              w.design.rests_room s.control sound.held.moment.sound
+              (subst (λ (x : Bool). D.parts.rests true x Resting s.control) sealed
+              (rests_idle D o k s n sound storeless idle));
           committed = record {
             blocks = w.design.committed_length (phase_of s.engine.stage) s.control n ∙ ap memory_blocks p;
             cpu = sound.committed.cpu;

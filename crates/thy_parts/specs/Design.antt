@@ -1,10 +1,10 @@
 -- Part of the claim.
 -- What is seen of controllers of a type as those of a scheme: what its boot fills, what its engine writes, and the rest.
-use Rattle.std.specs.Prelude.{ℕ, Bool, false, List, Option}
+use Rattle.std.specs.Prelude.{◌≡◌, ℕ, Bool, true, false, List, length, Option}
 use Rattle.thy_base.specs.declared.block.Block.{Block}
 use Rattle.thy_base.specs.declared.config.Parameters.{Parameters}
 use Rattle.thy_base.specs.declared.store.Stored.{Stored}
-use Rattle.thy_base.specs.Device.{Device}
+use Rattle.thy_base.specs.Device.{Device, HoldsNoMore}
 use Rattle.thy_dram.specs.Contents.{Contents}
 use Rattle.thy_view.specs.Action.{Action}
 use Rattle.thy_boot.specs.Boot.{Booting}
@@ -38,6 +38,14 @@ no_pages = record {
   most_merges = λ p. 0;
   most_promotions = λ p. 0;
 }
+
+-- A load or a store of which this holds leaves the NVM: after a cut no place may hold what it could
+-- not hold before. While the NVM is up, it is as it was.
+pub record LeavesNvm (n m : Device) : Type 0 where
+  pub as_long : length m.image ≡ length n.image
+  pub no_more : HoldsNoMore n m
+  pub down : n.down ≡ true → m.down ≡ true
+  pub same : m.down ≡ false → m ≡ n
 
 pub record PartsOf (C : Type 0) : Type 1 where
   -- a controller whose power has just come on, over a DRAM

@@ -1,17 +1,17 @@
 -- The pool stays sound over what its calls make of it.
-use Rattle.std.proofs.Common.{◌≡◌, ◌≢◌, ℕ, ◌+◌, ◌-◌, ◌<◌, ◌≤◌, Bool, true, false, nat_lt, if◌then◌else◌, length, replicate, Option, Some, None, is_none, is_some, refl, sym, ◌∙◌, ap, subst, inl, inr, arith}
+use Rattle.std.proofs.Common.{◌≡◌, ◌≢◌, ℕ, ◌+◌, ◌-◌, ◌<◌, ◌≤◌, Bool, true, false, nat_lt, if◌then◌else◌, length, Option, Some, None, is_some, refl, sym, ◌∙◌, ap, subst, inl, inr, arith}
 use Rattle.std.specs.Option.{option_and_then}
 use Rattle.std.proofs.lemmas.Bool.{cases_Bool, cases_eq, cases_lt, lt-ltb, ltb-true, le-ltb}
-use Rattle.std.proofs.lemmas.List.{length-map, length-set, length-replicate, get_or-replicate, get_or_past}
+use Rattle.std.proofs.lemmas.List.{length-map, length-set, length-replicate, get_or_past}
 use Rattle.std.proofs.lemmas.List.FromFn.{length-map-range_with_len, get_or-map-range_with_len}
-use Rattle.std.proofs.lemmas.List.Quantifiers.{position-Some}
 use Rattle.thy_base.specs.declared.config.Parameters.{Parameters}
 use Rattle.thy_base.specs.Geometry.{IsInRange}
+use Rattle.thy_base.proofs.BasicLemmas.{not_some}
 use Rattle.thy_base.specs.Places.{dram_blocks}
 use Rattle.thy_dram.specs.Contents.{Contents}
 use Rattle.thy_table.specs.Listing.{Listing, IsListing, listing, entry_at, lists, place_of, free_place, with_entry, added_at, added, mapped, empty_table}
-use Rattle.thy_table.proofs.IndexLemmas.{is_some-not_none, None-is_none, lists-some, lists-key}
-use Rattle.thy_table.proofs.ListingLaws.{entry_at-with_same, entry_at-with_other, entry_at-mapped, place_of-none, IsListing-put, place_of-put, place_of-put_other}
+use Rattle.thy_table.proofs.IndexLemmas.{lists-some, lists-key}
+use Rattle.thy_table.proofs.ListingLaws.{entry_at-with_same, entry_at-with_other, entry_at-empty, entry_at-mapped, free_first, place_of-none, IsListing-put, place_of-put, place_of-put_other}
 use Rattle.thy_shadow_image.specs.Places.{pool_pages}
 use Rattle.thy_pool.specs.declared.entry.Begun.{Begun}
 use Rattle.thy_pool.specs.declared.entry.Framed.{Framed}
@@ -49,12 +49,6 @@ IsSoundState-idle p pool frames dram range pool_size pool_numbers frames_size fr
       dense = λ i j l some. let no : false ≡ true = sym (ap is_some (free j)) ∙ some in absurd (cc);
       begun = λ b is. (cc);
     }
-
-pub entry_at-empty : {E : Type 0} (size numbers i : ℕ) → entry_at (empty_table {E = E} size numbers) i ≡ None
-entry_at-empty {E} size numbers i = elim (cases_lt i size) as (λ _. entry_at (empty_table {E = E} size numbers) i ≡ None) [
-  | inl l ↦ get_or-replicate size i None None l
-  | inr l ↦ get_or_past (replicate size None) i None (omega (arith, l, length-replicate {A = Option E} size None))
-]
 
 -- ---- when power comes on
 
@@ -147,17 +141,6 @@ IsSoundState-sealed s h = record {
 }
 
 -- ---- a frame is filled
-
--- what is known of the lowest free place
-pub free_first : {E : Type 0} (t : Listing E) (i : ℕ) → free_place t ≡ Some i
-    → (i < length t.entries) × (entry_at t i ≡ None) × ((k : ℕ) → k < i → is_some (entry_at t k) ≡ true)
-free_first t i e =
-    let first = position-Some is_none t.entries i None e in
-    (first.0, None-is_none (entry_at t i) first.1, λ k l. is_some-not_none (entry_at t k) (first.2 k l))
-
-not_some : {X : Type 0} (o : Option X) → is_some o ≡ false → o ≡ None
-not_some None h = refl
-not_some (Some x) h = cc
 
 module _ (s : State) (h : IsSoundState s) (x j q : ℕ) (page : x < s.p.pages) (unframed : frame_of s x ≡ None)
     (frame : free_place s.frames ≡ Some j) (place : free_place s.pool ≡ Some q) where

@@ -14,14 +14,14 @@ use Rattle.thy_dram.specs.Contents.{written}
 use Rattle.thy_layout.specs.Commit.{epoch_of}
 use Rattle.thy_layout.specs.Entries.{entry_at as listed_at, Lists, entry_of}
 use Rattle.thy_layout.proofs.EntryLemmas.{entry_of-Some, Lists-inside}
-use Rattle.thy_layout.proofs.AskingLemmas.{map-alike}
-use Rattle.thy_layout.proofs.AskingLemmas.{half}
+use Rattle.thy_layout.proofs.AskingLemmas.{half, map-alike}
 use Rattle.thy_layout.proofs.SlotLemmas.{length-entries_in}
 use Rattle.thy_layout.specs.Layout.{slot_in, memory_in}
 use Rattle.thy_table.proofs.FirstLemmas.{first_from-first, first_from-is, none-first_from}
 use Rattle.thy_journal_image.specs.Places.{image_blocks, home_place, journal_place, place_by, place_of}
 use Rattle.thy_journal_image.specs.Slots.{table_in}
 use Rattle.thy_journal_image.specs.Layout.{journal_layouts}
+use Rattle.thy_journal_image.proofs.PartsLemmas.{journal_behind}
 use Rattle.thy_log.specs.Holding.{works}
 use Rattle.thy_log.specs.State.{State, table_of, buffer_of, work_by, work_of}
 use Rattle.thy_log.specs.Stores.{put_into}
@@ -35,15 +35,6 @@ length-table_in p slot = length-entries_in slot (8 * record_blocks p) p.btt
 some_of : (o : Option ℕ) (b : ℕ) → o ≡ Some b → is_some o ≡ true
 some_of None b h = cc
 some_of (Some i) b h = refl
-
--- the journal of either slot lies within the image
-pub journal_inside : (p : Parameters) (commit : Block) (k : ℕ) → k < p.btt → journal_place p (slot_named commit) k < image_blocks p
-journal_inside p commit k l = by_slot (slot_named commit) (half (epoch_of commit)) where
-  by_slot : (s : ℕ) → s < 2 → journal_place p s k < image_blocks p
-  by_slot s m = elim (cases_eq s 0) as (λ _. journal_place p s k < image_blocks p) [
-    | inl e ↦ subst (λ (x : ℕ). journal_place p x k < image_blocks p) (sym e) (omega (arith, l))
-    | inr ne ↦ let e : s ≡ 1 = omega (arith, m, ne) in subst (λ (x : ℕ). journal_place p x k < image_blocks p) (sym e) (omega (arith, l))
-  ]
 
 -- positions are entries
 pub next_above : (p : Parameters) (slot : List Block) (from k : ℕ) → next_entry p slot from ≡ Some k → (from ≤ k) × (k < p.btt)
@@ -63,16 +54,17 @@ module _ (s : State) (n : Device) (slot : List Block) (listed : HasListed slot s
       subst (λ (k : ℕ). i < k) (length-table_of s ∙ listed.state.size) inside
 
   module _ (from : ℕ) (filled : AreFilled s n from) where
-    -- those that were passed over list nothing
-    filled_next : (k : ℕ) → next_entry s.p slot from ≡ Some k → AreFilled s n k
-    filled_next k found = record {
+    -- entries that list nothing need not be filled
+    filled_to : (to : ℕ)
+        → ((i : ℕ) → from ≤ i → i < to → is_some (listed_at (table_in s.p slot) i) ≡ false)
+        → AreFilled s n to
+    filled_to to none = record {
       each = λ i b low lists. elim (cases_lt i from)
           as (λ _. buffer_of s i ≡ newest n (journal_place s.p (slot_named (block_at n.image 1)) i)) [
             | inl below ↦ filled.each i b below lists
             | inr above ↦
-                let first = first_from-first is_some None (table_in s.p slot) from k found in
-                let none : is_some (listed_at (table_in s.p slot) i) ≡ false = first.before i above low in
-                let both : false ≡ true = sym none ∙ some_listed i b lists in absurd cc
+                let both : false ≡ true = sym (none i above low) ∙ some_listed i b lists in
+                absurd cc
           ];
     }
 
@@ -82,23 +74,18 @@ module _ (s : State) (n : Device) (slot : List Block) (listed : HasListed slot s
         let first = first_from-first is_some None (table_in s.p slot) from k found in
         let inside = (next_above s.p slot from k found).1 in (
           inside,
-          journal_inside s.p commit k inside,
-          filled_next k found,
+          (journal_behind s.p (slot_named commit) k (half (epoch_of commit)) inside).1,
+          filled_to k first.before,
           first_from-is is_some None (table_in s.p slot) k k (omega arith) first.inside first.here (λ j a l. absurd (omega (arith, a, l))),
         )
 
     -- with none left all are filled
     pub filled_all : next_entry s.p slot from ≡ None → AreFilled s n s.p.btt
-    filled_all found = record {
-      each = λ i b low lists. elim (cases_lt i from)
-          as (λ _. buffer_of s i ≡ newest n (journal_place s.p (slot_named (block_at n.image 1)) i)) [
-            | inl below ↦ filled.each i b below lists
-            | inr above ↦
-                let none : is_some (listed_at (table_in s.p slot) i) ≡ false =
-                none-first_from is_some None (table_in s.p slot) from found i above (omega (arith, low, length-table_in s.p slot)) in
-                let both : false ≡ true = sym none ∙ some_listed i b lists in absurd cc
-          ];
-    }
+    filled_all found =
+        filled_to s.p.btt
+        (λ i above low.
+        none-first_from is_some None (table_in s.p slot) from found i above
+        (omega (arith, low, length-table_in s.p slot)))
 
   -- ---- an entry is filled
 

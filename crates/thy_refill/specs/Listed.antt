@@ -2,16 +2,17 @@
 use Rattle.std.specs.Prelude.{◌≡◌, ℕ, ◌<◌, ◌≤◌, List, None}
 use Rattle.std.specs.Option.{option_map}
 use Rattle.thy_base.specs.declared.block.Block.{Block}
+use Rattle.thy_base.specs.declared.config.Parameters.{Parameters}
 use Rattle.thy_layout.specs.Entries.{entry_at as listed_at}
 use Rattle.thy_table.specs.Listing.{entry_at}
 use Rattle.thy_journal_image.specs.Slots.{table_in}
 use Rattle.thy_log.specs.Keys.{block_key}
 use Rattle.thy_log.specs.State.{State, IsSoundState}
 
--- the entries below one list what the slot's do, and all others are free; the rest of the log is as it was
-pub record ListsUpTo (i : ℕ) (slot : List Block) (old new : State) : Type 0 where
-  pub state : IsSoundState new
-  pub same_p : new.p ≡ old.p
-  pub same_dram : new.dram ≡ old.dram
-  pub below : (j : ℕ) → j < i → option_map block_key (entry_at new.table j) ≡ listed_at (table_in old.p slot) j
-  pub free : (j : ℕ) → i ≤ j → entry_at new.table j ≡ None
+-- the entries below one list what the slot's do, and all others are free
+pub record ListsUpTo (i : ℕ) (p : Parameters) (slot : List Block) (s : State) : Type 0 where
+  pub state : IsSoundState s
+  pub same_p : s.p ≡ p
+  pub below : (j : ℕ) → j < i
+      → option_map block_key (entry_at s.table j) ≡ listed_at (table_in p slot) j
+  pub free : (j : ℕ) → i ≤ j → entry_at s.table j ≡ None

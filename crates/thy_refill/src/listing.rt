@@ -28,14 +28,14 @@ pub fn list_all(slot: &[u8], geometry: &Geometry, log: &mut Log)
 }
 
 /// Lists what entry `i` does.
-#[tactic(auto, using(crate::proofs::ListLemmas::lists_some_at, crate::proofs::ListLemmas::lists_none_at))]
+#[tactic(auto, using(crate::proofs::ListLemmas::lists_some, crate::proofs::ListLemmas::lists_none))]
 fn list_one(slot: &[u8], i: usize, geometry: &Geometry, log: &mut Log)
     requires slot { length slot.now ≡ 64 * slot_blocks geometry.now }
-    requires geometry { log.old.p ≡ geometry.now }
     requires table { IsTable geometry.now (table_in geometry.now (blocks_of slot.now)) }
     requires entry { i < geometry.now.btt }
-    requires before { ListsUpTo i (blocks_of slot.now) log.old log.old }
-    ensures { ListsUpTo (i + 1) (blocks_of slot.now) log.old log.new }
+    requires before { ListsUpTo i geometry.now (blocks_of slot.now) log.old }
+    ensures lists { ListsUpTo (i + 1) geometry.now (blocks_of slot.now) log.new }
+    ensures same_dram { log.new.dram ≡ log.old.dram }
 {
     if let Some(block) = listed_block(slot, i, geometry) {
         log.list_at(i, block);

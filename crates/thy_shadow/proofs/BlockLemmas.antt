@@ -1,8 +1,6 @@
 -- Blocks of memory, as they were stored last and as they were committed.
-use Rattle.std.proofs.Common.{◌≡◌, ℕ, ◌<◌, length, Result, Ok, Err, IfOk, ◌∙◌, arith}
+use Rattle.std.proofs.Common.{◌≡◌, ℕ, ◌<◌, length, arith}
 use Rattle.std.proofs.lemmas.List.FromFn.{length-map-range_with_len, get_or-map-range_with_len}
-use Rattle.thy_base.specs.declared.block.Block.{Block}
-use Rattle.thy_base.specs.declared.nvm.NvmError.{NvmError}
 use Rattle.thy_base.specs.Device.{Device, block_at, zero_block}
 use Rattle.thy_base.specs.Geometry.{memory_blocks}
 use Rattle.thy_pool.specs.Holding.{works, commits}
@@ -19,7 +17,3 @@ work_at s n b low = get_or-map-range_with_len (work_of s n) 0 (memory_blocks s.p
 
 pub commit_at : (s : State) (n : Device) (b : ℕ) → b < memory_blocks s.p → block_at (commits s n) b ≡ committed_of s n b
 commit_at s n b low = get_or-map-range_with_len (committed_of s n) 0 (memory_blocks s.p) b b zero_block low (omega arith)
-
-pub ok_same : (r : Result Block NvmError) (a b : Block) → IfOk r (λ x. x ≡ a) → a ≡ b → IfOk r (λ x. x ≡ b)
-ok_same (Ok x) a b h e = h ∙ e
-ok_same (Err x) a b h e = tt

@@ -4,5 +4,4 @@ pub mod SlotLemmas
 pub mod PartsLemmas
 pub mod FreeLemmas
 pub mod MapLemmas
-pub mod IndexLemmas
 pub mod LayoutLemmas

@@ -3,10 +3,9 @@
 use Rattle.std.specs.Prelude.{None}
 use Rattle.thy_layout.specs.Commit.{epoch_of, slot_of_epoch}
 use Rattle.thy_layout.specs.Decoded.{Reading}
-use Rattle.thy_layout.specs.Layout.{Layout, Layouts, reading}
+use Rattle.thy_layout.specs.Layout.{Layouts, reading}
 use Rattle.thy_shadow_image.specs.Places.{scheme_number, slot_blocks, slot_place, image_blocks, place_of}
 use Rattle.thy_shadow_image.specs.Slots.{table_in, slot_fault}
-use Rattle.thy_view.specs.Origin.{Origin}
 
 abbrev pub shadow_layouts : Layouts
 shadow_layouts p = record {
@@ -20,10 +19,6 @@ shadow_layouts p = record {
   place = λ commit slot b. place_of p (table_in p slot) b;
   slot_bad = λ ceiling commit slot. slot_fault p ceiling (epoch_of commit) slot;
 }
-
--- the layout of a run's own images
-abbrev pub layout_of : Origin → Layout
-layout_of o = shadow_layouts o.geometry
 
 -- what an image means
 abbrev pub decode_shadow : Reading

@@ -1,8 +1,7 @@
 -- Shadow paging is a scheme of lawful parts: what holds of its checkpoints.
-use Rattle.std.proofs.Common.{◌≡◌, ◌≢◌, ℕ, ◌+◌, ◌-◌, ◌*◌, ◌/◌, ◌%◌, ◌^◌, ◌<◌, ◌≤◌, Bool, true, false, is_none, List, [], ◌∷◌, length, map, Option, Some, None, option_and_then, refl, sym, ◌∙◌, ap, subst, inl, inr, arith}
-use Rattle.std.specs.List.{sum_by}
+use Rattle.std.proofs.Common.{◌≡◌, ◌≢◌, ℕ, ◌+◌, ◌-◌, ◌*◌, ◌/◌, ◌%◌, ◌^◌, ◌<◌, ◌≤◌, Bool, true, false, is_none, List, ◌∷◌, length, map, Option, Some, None, refl, sym, ◌∙◌, ap, subst, inl, inr, arith}
 use Rattle.std.proofs.lemmas.List.FromFn.{length-map-range_with_len}
-use Rattle.std.proofs.lemmas.List.Sums.{count_by-le-length, sum_by-cons}
+use Rattle.std.proofs.lemmas.List.Sums.{count_by-le-length}
 use Rattle.thy_base.specs.declared.block.Block.{Block}
 use Rattle.thy_base.specs.declared.config.Parameters.{Parameters}
 use Rattle.thy_base.specs.Device.{Device, block_at, newest, written_to}
@@ -14,13 +13,12 @@ use Rattle.thy_layout.specs.Layout.{slot_in, looked_by}
 use Rattle.thy_layout.proofs.AskingLemmas.{half}
 use Rattle.thy_layout.proofs.ReadBackLemmas.{epoch_of-commit_of}
 use Rattle.thy_table.specs.Listing.{free_count}
-use Rattle.thy_table.proofs.IndexLemmas.{free_one}
-use Rattle.thy_table.proofs.ListingLaws.{free_count-mapped}
+use Rattle.thy_table.proofs.ListingLaws.{entry_at-cleared, free_count-all, free_count-mapped}
 use Rattle.thy_view.specs.Safe.{ceiling}
 use Rattle.thy_shadow_image.specs.CheckpointParts.{ReadsBack, IsToldBy, memory_places}
 use Rattle.thy_shadow_image.specs.Free.{Target, SlotBlock, PoolBlock, target_place as place_of_target, IsTarget, IsFree}
 use Rattle.thy_shadow_image.specs.Layout.{shadow_layouts}
-use Rattle.thy_shadow_image.specs.Places.{slot_blocks, slot_place, image_blocks, pool_place, pool_page}
+use Rattle.thy_shadow_image.specs.Places.{slot_blocks, slot_place, first_pool, image_blocks, pool_place, pool_page}
 use Rattle.thy_shadow_image.specs.Slots.{IsMap, table_in, slot_fault}
 use Rattle.thy_shadow_image.proofs.FreeLemmas.{free_not_looked}
 use Rattle.thy_shadow_image.proofs.PartsLemmas.{slot_behind}
@@ -39,20 +37,14 @@ use Rattle.thy_pool.proofs.DrainLemmas.{works_drained, IsSoundState-drained}
 use Rattle.thy_pool.proofs.StateLemmas.{IsSoundState-committed, IsSoundState-sealed}
 use Rattle.thy_pool.proofs.TableLemmas.{IsMap-next, target_free, committed_table-committed}
 use Rattle.thy_repool.proofs.LawLemmas.{pool_is_listed}
-use Rattle.thy_parts.specs.IsDesign.{IsDesign, IsFew, CanRecord, IsSpared}
-use Rattle.thy_parts.specs.Moments.{IsMoment, MakesAt, Carries, Commits, SealsTo, ReadsSame, IsOwn, slot_list, parts_at}
-use Rattle.thy_shadow_laws.specs.Design.{items_shadow, IsUnbegun, stands_at, ArePaged, AllPaged, holds, IsKeptBy, rests_at, owed_now, owed_then, shadow_design}
-use Rattle.thy_shadow_laws.proofs.PhaseLemmas.{next_filled, next_free, IsAside, aside_slot, aside_commit, aside_page, works_over, commits_over, committed_reads, works_reads, commits_reads, copies_same, paged_on, paged_all, paged_over, paged_reads, all_reads, memory_is_work, commits_are_works, works_confirm}
+use Rattle.thy_parts.specs.IsDesign.{IsDesign, CanRecord, IsSpared}
+use Rattle.thy_parts.specs.Moments.{IsMoment, Carries, Commits, SealsTo, ReadsSame, IsOwn, slot_list, parts_at}
+use Rattle.thy_parts.proofs.SameLemmas.{moment_of, carried, makes_alike}
+use Rattle.thy_shadow_laws.specs.Design.{items_shadow, IsUnbegun, stands_at, ArePaged, holds, IsKeptBy, rests_at, owed_now, owed_then, shadow_design}
+use Rattle.thy_shadow_laws.proofs.PhaseLemmas.{next_filled, next_free, IsAside, aside_before, aside_page, works_over, commits_over, committed_reads, works_reads, commits_reads, copies_same, paged_on, paged_all, paged_over, paged_reads, all_reads, memory_is_work, commits_are_works, works_confirm}
 use Rattle.thy_shadow_laws.proofs.WorkLemmas.{target_of, target_small}
 
 -- ---- items
-
--- with every frame freed, all are free
-all_free : (es : List (Option Framed))
-    → sum_by free_one (map (option_and_then freed_frame) es) ≡ length (map (option_and_then freed_frame) es)
-all_free [] = refl
-all_free (None ∷ es) = omega (arith, all_free es, sum_by-cons free_one None (map (option_and_then freed_frame) es))
-all_free (Some e ∷ es) = omega (arith, all_free es, sum_by-cons free_one None (map (option_and_then freed_frame) es))
 
 -- a block that is next is the one from which it was looked for
 onwards : (s : State) (from k : ℕ) → IsUnbegun s → next_block from s ≡ Some k → (next_block k s ≡ Some k) × IsUnbegun s
@@ -96,7 +88,8 @@ free-few : (s : State) → IsSoundState s → free_count s.frames ≤ s.p.ptt
 free-few s sound = omega (arith, count_by-le-length (λ (o : Option Framed). is_none o) s.frames.entries, sound.frames_size)
 
 -- the frames have room for two stores
-pub some-free : (s : State) → IsSoundState s → free_count s.frames ≡ length s.frames.entries → 2 ≤ free_count s.frames
+some-free : (s : State) → IsSoundState s → free_count s.frames ≡ length s.frames.entries
+    → 2 ≤ free_count s.frames
 some-free s sound free = let range = sound.range in let size = sound.frames_size in omega (arith, free, size)
 
 owed-few : (phase : Phase) (s : State) → IsSoundState s → owed_now s + owed_then phase s ≤ 64 * s.p.ptt
@@ -104,9 +97,6 @@ owed-few Resting s sound = omega (arith, free-few s sound)
 owed-few (Making from) s sound = omega (arith, free-few s sound)
 owed-few Made s sound = omega (arith, free-few s sound)
 owed-few (Applying from) s sound = omega (arith, free-few s sound)
-
-few : (phase : Phase) (s : State) → IsSoundState s → IsFew shadow_design phase s
-few phase s sound = record { merges = omega arith; promotions = omega arith; owed = owed-few phase s sound; free = free-few s sound }
 
 -- ---- by phase
 
@@ -132,19 +122,6 @@ holds_drained (Making from) epoch s n h = record { each = h.each }
 holds_drained Made epoch s n h = record { each = h.each }
 holds_drained (Applying from) epoch s n h = tt
 
-makes_drained : (phase : Phase) (epoch : ℕ) (s : State) (g : List Block) → MakesAt shadow_design phase epoch s g → MakesAt shadow_design phase epoch (after_drain s) g
-makes_drained Resting epoch s g h = h
-makes_drained (Making from) epoch s g h = h
-makes_drained Made epoch s g h = h
-makes_drained (Applying from) epoch s g h = h
-
-rests_drained : (phase : Phase) (a : Bool) (s : State) → rests_at phase a s → rests_at phase a (after_drain s)
-rests_drained Resting true s h = h
-rests_drained Resting false s h = tt
-rests_drained (Making from) a s h = tt
-rests_drained Made a s h = tt
-rests_drained (Applying from) a s h = tt
-
 owed_drained : (phase : Phase) (s : State) → owed_now (after_drain s) + owed_then phase (after_drain s) ≤ owed_now s + owed_then phase s
 owed_drained Resting s = omega arith
 owed_drained (Making from) s = omega arith
@@ -158,33 +135,8 @@ holds_reads (Making from) epoch s n m sound sized r h = paged_reads s n sound si
 holds_reads Made epoch s n m sound sized r h = all_reads s n sound sized m r.reads h
 holds_reads (Applying from) epoch s n m sound sized r h = tt
 
--- ---- one moment leads to another with the same pool
+-- ---- an image keeps its map from one position to the next
 
--- with no checkpoint committed in between as much is owed
-module _ (epoch : ℕ) (p q : Phase) (s : State) (n m : Device) (moment : IsMoment shadow_design q epoch s m) (loads : works s m ≡ works s n)
-    (committed : commits s m ≡ commits s n) (keeps : (g : List Block) → IsKeptBy p epoch s g → IsKeptBy q epoch s g)
-    (makes : (g : List Block) → MakesAt shadow_design p epoch s g → MakesAt shadow_design q epoch s g)
-    (rests : (a : Bool) → rests_at p a s → rests_at q a s)
-    (owed : owed_now s + owed_then q s ≤ owed_now s + owed_then p s) where
-  carried : Carries shadow_design epoch p s n q s m
-  carried = record {
-    moment = moment;
-    same_p = refl;
-    room = refl;
-    loads = loads;
-    sealed = loads;
-    committed = committed;
-    keeps = keeps;
-    makes = makes;
-    rests = λ a b r. rests a r;
-    free = omega arith;
-    opened = inr refl;
-    owed = omega arith;
-    owed_later = owed;
-    pages = record { whole = λ h. h; merges = omega arith; promotions = omega arith };
-  }
-
--- an image keeps its map from one position to the next
 keeps_making : (epoch from to : ℕ) (s : State) (g : List Block) → IsKeptBy (Making from) epoch s g → IsKeptBy (Making to) epoch s g
 keeps_making epoch from to s g h = record { kept = h.kept; told = h.told; other = h.other }
 
@@ -249,32 +201,31 @@ module _ (e : Progress) (s : State) (n : Device) (moment : IsMoment shadow_desig
 
 -- ---- a write of the slot's own, or of the commit block
 
-module _ (epoch : ℕ) (s : State) (n : Device) (moment : IsMoment shadow_design Made epoch s n) where
-  over_aside : (x : ℕ) (block : Block) → IsAside s x → AllPaged s (written_to n x block) → Carries shadow_design epoch Made s n Made s (written_to n x block)
-  over_aside x block aside paged =
-      carried epoch Made Made s n (written_to n x block)
-      (record { sound = moment.sound; sized = length-written_to n x block ∙ moment.sized; stands = moment.stands; holds = paged })
-      (works_over s n moment.sound moment.sized x block aside) (commits_over s n moment.sound moment.sized x block aside)
-      (λ g h. h) (λ g h. h) (λ a r. r) (omega arith)
+-- one before the pool leaves memory and the pages of the frames
+over_before : (epoch : ℕ) (s : State) (n : Device) → IsMoment shadow_design Made epoch s n
+    → (x : ℕ) (block : Block) → x < first_pool s.p
+    → Carries shadow_design epoch Made s n Made s (written_to n x block)
+over_before epoch s n moment x block low =
+    let m : Device = written_to n x block in
+    let aside : IsAside s x = aside_before s moment.sound x low in
+    let same : works s m ≡ works s n = works_over s n moment.sound moment.sized x block aside in
+    let there = paged_over s n moment.sound moment.sized x block low moment.holds in
+    carried (moment_of moment (length-written_to n x block) moment.stands there) same same
+    (commits_over s n moment.sound moment.sized x block aside) (λ g h. h) (λ g h. h) (λ a b r. r)
+    (omega arith)
 
-  over_slot : (h k : ℕ) (block : Block) → h < 2 → k < slot_blocks s.p → Carries shadow_design epoch Made s n Made s (written_to n (slot_place s.p h + k) block)
-  over_slot h k block two l =
-      over_aside (slot_place s.p h + k) block (aside_slot s moment.sound h k two l)
-      (paged_over s n moment.sound moment.sized (slot_place s.p h + k) block (slot_behind s.p h k two l).1 moment.holds)
-
-  over_commit : (block : Block) → Carries shadow_design epoch Made s n Made s (written_to n 1 block)
-  over_commit block =
-      over_aside 1 block (aside_commit s moment.sound) (paged_over s n moment.sound moment.sized 1 block (omega arith) moment.holds)
+own_before : (e : Progress) (p : Parameters) (x : ℕ) → p ≡ e.p → IsOwn shadow_design e x
+    → x < first_pool p
+own_before e p x same (inl commit) = omega (arith, commit)
+own_before e p x same (inr (k, l, is)) =
+    let epoch : ℕ = epoch_of (commit_of e.epoch) in
+    let before = (slot_behind e.p (epoch % 2) k (half epoch) l).1 in
+    subst (λ (q : Parameters). x < first_pool q) (sym same) (omega (arith, before, is))
 
 own_carried : (e : Progress) (s : State) (n : Device) (x : ℕ) (block : Block) → IsMoment shadow_design Made e.epoch s n → s.p ≡ e.p → IsOwn shadow_design e x
     → Carries shadow_design e.epoch Made s n Made s (written_to n x block)
-own_carried e s n x block moment same (inl commit) =
-    subst (λ (y : ℕ). Carries shadow_design e.epoch Made s n Made s (written_to n y block)) (sym commit) (over_commit e.epoch s n moment block)
-own_carried e s n x block moment same (inr (k, l, is)) =
-    let h : ℕ = epoch_of (commit_of e.epoch) % 2 in
-    subst (λ (y : ℕ). Carries shadow_design e.epoch Made s n Made s (written_to n y block))
-    (ap (λ (p : Parameters). slot_place p h + k) same ∙ sym is)
-    (over_slot e.epoch s n moment h k block (half (epoch_of (commit_of e.epoch))) (subst (λ (p : Parameters). k < slot_blocks p) (sym same) l))
+own_carried e s n x block moment same own =
+    over_before e.epoch s n moment x block (own_before e s.p x same own)
 
 -- ---- the body
 
@@ -284,16 +235,13 @@ body_carried epoch s n x moment found =
     let filled = (next_filled s x x found).1 in
     let to : ℕ = target_place s (x / 64) (x % 64) in
     let block : Block = frame_block s (x / 64) (x % 64) in
-    carried epoch (Making x) (Making (x + 1)) s n (written_to n to block)
-    (record {
-      sound = moment.sound;
-      sized = length-written_to n to block ∙ moment.sized;
-      stands = moment.stands;
-      holds = paged_on s n moment.sound moment.sized x filled moment.holds;
-    })
-    (works_over s n moment.sound moment.sized to block (aside_page s moment.sound x filled))
-    (commits_over s n moment.sound moment.sized to block (aside_page s moment.sound x filled))
-    (keeps_making epoch x (x + 1) s) (λ g h. h) (λ a r. tt) (omega arith)
+    let m : Device = written_to n to block in
+    let aside : IsAside s to = aside_page s moment.sound x filled in
+    let same : works s m ≡ works s n = works_over s n moment.sound moment.sized to block aside in
+    let there = paged_on s n moment.sound moment.sized x filled moment.holds in
+    carried (moment_of moment (length-written_to n to block) moment.stands there) same same
+    (commits_over s n moment.sound moment.sized to block aside) (keeps_making epoch x (x + 1) s)
+    (λ g h. h) (λ a b r. tt) (omega arith)
 
 -- a frame's page of the pool is none of the committed map's
 body_spares : (epoch : ℕ) (s : State) (n : Device) (x : ℕ) (g : List Block) → IsMoment shadow_design (Making x) epoch s n → next_block x s ≡ Some x
@@ -310,32 +258,23 @@ body_spares epoch s n x g moment found keeps =
 body_past : (epoch : ℕ) (s : State) (n : Device) (from k : ℕ) → IsMoment shadow_design (Making from) epoch s n → next_block from s ≡ Some k
     → Carries shadow_design epoch (Making from) s n (Making k) s n
 body_past epoch s n from k moment found =
-    let of = (next_filled s from k found).0 in
-    carried epoch (Making from) (Making k) s n n
-    (record {
-      sound = moment.sound;
-      sized = moment.sized;
-      stands = moment.stands;
-      holds = subst (λ (x : ℕ). ArePaged s n x) of moment.holds;
-    })
-    refl refl (keeps_making epoch from k s) (λ g h. h) (λ a r. tt) (omega arith)
+    let there = subst (λ (x : ℕ). ArePaged s n x) (next_filled s from k found).0 moment.holds in
+    carried (moment_of moment refl moment.stands there) refl refl refl (keeps_making epoch from k s)
+    (λ g h. h) (λ a b r. tt) (omega arith)
 
 body_whole : (epoch : ℕ) (s : State) (n : Device) (from : ℕ) → IsMoment shadow_design (Making from) epoch s n → next_block from s ≡ None
     → Carries shadow_design epoch (Making from) s n Made s n
 body_whole epoch s n from moment none =
-    carried epoch (Making from) Made s n n
-    (record {
-      sound = moment.sound;
-      sized = moment.sized;
-      stands = moment.stands;
-      holds = paged_all s n moment.sound moment.sized from (next_free s from none) moment.holds;
-    })
-    refl refl (keeps_made epoch from s) (λ g no. absurd no) (λ a r. tt) (omega arith)
+    let there = paged_all s n moment.sound moment.sized from (next_free s from none) moment.holds in
+    carried (moment_of moment refl moment.stands there) refl refl refl (keeps_made epoch from s)
+    (λ g no. absurd no) (λ a b r. tt) (omega arith)
 
 -- ---- the commit
 
-rests_committed : (a : Bool) (s : State) → rests_at Resting a (committed_state s)
-rests_committed true s = all_free s.frames.entries
+rests_committed : (a : Bool) (s : State) → rests_at Resting a (committed_state s).frames
+rests_committed true s =
+    free_count-all (committed_state s).frames.entries
+    (entry_at-cleared freed_frame (λ e. refl) s.frames)
 rests_committed false s = tt
 
 commits_to : (epoch : ℕ) (s : State) (n : Device) → IsMoment shadow_design Made epoch s n → Commits shadow_design epoch s n Resting (committed_state s) n
@@ -390,15 +329,11 @@ seals_to before epoch s n moment = record {
 reads_carried : (phase : Phase) (epoch : ℕ) (s : State) (n m : Device) → IsMoment shadow_design phase epoch s n → ReadsSame n m
     → Carries shadow_design epoch phase s n phase s m
 reads_carried phase epoch s n m moment r =
-    carried epoch phase phase s n m
-    (record {
-      sound = moment.sound;
-      sized = r.as_long ∙ moment.sized;
-      stands = moment.stands;
-      holds = holds_reads phase epoch s n m moment.sound moment.sized r moment.holds;
-    })
-    (works_reads s n moment.sound moment.sized m r.reads) (commits_reads s n moment.sound moment.sized m r.reads)
-    (λ g h. h) (λ g h. h) (λ a r. r) (omega arith)
+    let same : works s m ≡ works s n = works_reads s n moment.sound moment.sized m r.reads in
+    let there = holds_reads phase epoch s n m moment.sound moment.sized r moment.holds in
+    carried (moment_of moment r.as_long moment.stands there) same same
+    (commits_reads s n moment.sound moment.sized m r.reads) (λ g h. h) (λ g h. h) (λ a b r. r)
+    (omega arith)
 
 drain_carried : (phase : Phase) (epoch : ℕ) (s : State) (n : Device) → IsMoment shadow_design phase epoch s n
     → Carries shadow_design epoch phase s n phase (after_drain s) n
@@ -415,8 +350,8 @@ drain_carried phase epoch s n moment = record {
   sealed = works_drained s n;
   committed = refl;
   keeps = λ g h. record { kept = h.kept; told = h.told; other = h.other };
-  makes = makes_drained phase epoch s;
-  rests = λ a b r. rests_drained phase a s r;
+  makes = λ g. makes_alike shadow_design phase epoch s (after_drain s) g (λ h. h);
+  rests = λ a b r. r;
   free = omega arith;
   opened = inr refl;
   owed = omega arith;
@@ -435,10 +370,15 @@ is_design = record {
   committed_length = λ phase s n. length-commits s n;
   dram_length = λ s sound. sound.dram_size;
   agreeing = agreeing;
-  few = λ phase epoch s n moment. few phase s moment.sound;
+  few = λ phase epoch s n moment. record {
+    merges = omega arith;
+    promotions = omega arith;
+    owed = owed-few phase s moment.sound;
+    free = free-few s moment.sound;
+  };
   merged_all = λ s none. refl;
   promoted_all = λ s none. refl;
-  rests_room = λ s sound rests. some-free s sound rests;
+  rests_room = some-free;
   slot_fits = slot_fits;
   slot_makes = λ e s n g state moment can decodes commit is. slot_makes e s n moment can g commit is;
   slot_spared = λ e s n g k moment can keeps l. slot_spared e s n moment can g k keeps l;
@@ -459,5 +399,5 @@ is_design = record {
   drained_rest = λ s k. refl;
   drained_dram = λ s. refl;
   drained_left = λ s from. omega arith;
-  rests_of_any = λ before epoch s n moment. record { sound = moment.sound; sized = moment.sized; stands = moment.stands; holds = moment.holds };
+  rests_of_any = λ before epoch s n moment. moment_of moment refl moment.stands moment.holds;
 }

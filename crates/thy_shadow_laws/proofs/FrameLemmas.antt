@@ -1,45 +1,18 @@
 -- The blocks of frames, and the lowest free frame.
-use Rattle.std.proofs.Common.{◌≡◌, ◌≢◌, ℕ, ◌<◌, List, length, map, slice_set, Option, Some, None, unwrap_or, refl, sym, ◌∙◌, ap, inl, inr, arith}
-use Rattle.std.specs.List.{range_with_len}
-use Rattle.std.proofs.lemmas.Bool.{cases_eq}
-use Rattle.std.proofs.lemmas.List.{length-set, get_or-set_same, get_or-set_other, ext_get_or}
-use Rattle.std.proofs.lemmas.List.FromFn.{length-map-range_with_len, get_or-map-range_with_len}
+use Rattle.std.proofs.Common.{◌≡◌, ◌≢◌, ℕ, ◌<◌, Option, Some, unwrap_or, sym, ◌∙◌, ap, arith}
+use Rattle.std.proofs.lemmas.List.{get_or-set_same, get_or-set_other}
 use Rattle.thy_base.specs.declared.block.Block.{Block}
 use Rattle.thy_base.specs.declared.config.Parameters.{Parameters}
-use Rattle.thy_base.specs.Device.{zero_block, block_at}
+use Rattle.thy_base.specs.Device.{zero_block}
 use Rattle.thy_base.specs.Places.{frame_place}
-use Rattle.thy_table.specs.Listing.{entry_at, free_place, free_count}
-use Rattle.thy_table.proofs.IndexLemmas.{lists-inside, some-counted}
+use Rattle.thy_table.specs.Listing.{entry_at, free_place}
+use Rattle.thy_table.proofs.IndexLemmas.{lists-inside}
 use Rattle.thy_table.proofs.ListingLaws.{place_of-lists}
 use Rattle.thy_pool.specs.Commit.{page_by}
 use Rattle.thy_pool.specs.Keys.{page_key, framed}
 use Rattle.thy_pool.specs.State.{State, IsSoundState, frame_of, frame_block}
 use Rattle.thy_pool.specs.Stores.{free_frame, put_into}
 use Rattle.thy_pool.proofs.CommitLemmas.{framed_is}
-
--- ---- lists
-
--- with another block at one place
-pub map_set : (size : ℕ) (f g : ℕ → Block) (b : ℕ) (block : Block) → b < size → f b ≡ block → ((c : ℕ) → c < size → c ≢ b → f c ≡ g c)
-    → map f (range_with_len 0 size) ≡ slice_set (map g (range_with_len 0 size)) b block
-map_set size f g b block small here there =
-    let long : length (map f (range_with_len 0 size)) ≡ size = length-map-range_with_len f 0 size in
-    let old : length (map g (range_with_len 0 size)) ≡ size = length-map-range_with_len g 0 size in
-    let set : List Block = slice_set (map g (range_with_len 0 size)) b block in
-    ext_get_or zero_block (map f (range_with_len 0 size)) set (long ∙ sym (length-set (map g (range_with_len 0 size)) b block ∙ old))
-    (λ c low.
-    let below : c < size = omega (arith, low, long) in
-    let gives : block_at (map f (range_with_len 0 size)) c ≡ f c = get_or-map-range_with_len f 0 size c c zero_block below (omega arith) in
-    elim (cases_eq c b) as (λ _. block_at (map f (range_with_len 0 size)) c ≡ block_at set c) [
-      | inl same ↦
-          gives ∙ ap f same ∙ here
-          ∙ sym (get_or-set_same (map g (range_with_len 0 size)) b block zero_block (omega (arith, small, old)))
-          ∙ sym (ap (block_at set) same)
-      | inr other ↦
-          gives ∙ there c below other
-          ∙ sym (get_or-map-range_with_len g 0 size c c zero_block below (omega arith))
-          ∙ sym (get_or-set_other (map g (range_with_len 0 size)) b c block zero_block other)
-    ])
 
 -- ---- blocks of frames
 
@@ -77,12 +50,6 @@ put_there s j c block i d other =
     get_or-set_other s.dram.blocks (frame_place s.p j c) (frame_place s.p i d) block zero_block other
 
 -- ---- the lowest free frame
-
-pub free_found : (s : State) → 0 < free_count s.frames → (j : ℕ) × (free_place s.frames ≡ Some j)
-free_found s room = by_place (free_place s.frames) refl where
-  by_place : (o : Option ℕ) → free_place s.frames ≡ o → (j : ℕ) × (free_place s.frames ≡ Some j)
-  by_place None found = let none = (some-counted s.frames.entries None found).1 room in absurd cc
-  by_place (Some j) found = (j, found)
 
 pub free_is : (s : State) (j : ℕ) → free_place s.frames ≡ Some j → free_frame s ≡ j
 free_is s j found = ap (λ (o : Option ℕ). unwrap_or o 0) found

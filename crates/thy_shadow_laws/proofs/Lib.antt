@@ -6,4 +6,3 @@ pub mod DesignLemmas
 pub mod StoreLemmas
 pub mod PartsLemmas
 pub mod GuardLemmas
-pub mod LawLemmas

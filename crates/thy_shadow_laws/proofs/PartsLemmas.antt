@@ -1,7 +1,5 @@
 -- Shadow paging is a scheme of lawful parts: what holds when power comes on, at the end of a boot, and of all of it.
-use Rattle.std.proofs.Common.{◌≡◌, ℕ, suc, ◌<◌, nat_lt, true, false, List, [], ◌∷◌, length, get_or, Option, Some, None, refl, sym, ◌∙◌, ap, subst, arith}
-use Rattle.std.specs.List.{range_with_len, sum_by}
-use Rattle.std.proofs.lemmas.List.Sums.{sum_by-cons}
+use Rattle.std.proofs.Common.{◌≡◌, ℕ, ◌<◌, nat_lt, true, false, List, length, Some, refl, sym, ◌∙◌, ap, subst, arith}
 use Rattle.thy_base.specs.declared.block.Block.{Block}
 use Rattle.thy_base.specs.declared.config.Parameters.{Parameters}
 use Rattle.thy_base.specs.Device.{Device, block_at}
@@ -11,11 +9,9 @@ use Rattle.thy_dram.specs.Contents.{Contents}
 use Rattle.thy_isa.specs.Step.{State as Plain}
 use Rattle.thy_layout.specs.Commit.{commit_of, epoch_of}
 use Rattle.thy_layout.specs.Layout.{slot_in}
-use Rattle.thy_layout.proofs.AskingLemmas.{map-alike}
 use Rattle.thy_layout.proofs.ReadBackLemmas.{epoch_of-commit_of}
 use Rattle.thy_table.specs.Listing.{IsListing, entry_at, lists, listing, empty_table}
-use Rattle.thy_table.proofs.IndexLemmas.{free_one}
-use Rattle.thy_table.proofs.ListingLaws.{IsListing-once}
+use Rattle.thy_table.proofs.ListingLaws.{entry_at-empty, free_count-all, IsListing-free, IsListing-once}
 use Rattle.thy_view.specs.Kind.{IsDramOf}
 use Rattle.thy_boot.specs.Boot.{Booting}
 use Rattle.thy_boot.specs.Filling.{first_slot_of}
@@ -33,7 +29,7 @@ use Rattle.thy_pool.specs.State.{State, IsSoundState, pool_of, committed_table, 
 use Rattle.thy_pool.specs.Stores.{new_state, first_entries}
 use Rattle.thy_pool.proofs.CommitLemmas.{held_lists}
 use Rattle.thy_pool.proofs.DrainLemmas.{IsSoundState-drained}
-use Rattle.thy_pool.proofs.StateLemmas.{IsSoundState-new, entry_at-empty, entry_at-first, first_lists, first_page}
+use Rattle.thy_pool.proofs.StateLemmas.{IsSoundState-new, entry_at-first, first_lists, first_page}
 use Rattle.thy_pool.proofs.TableLemmas.{IsMap-committed, table_by-same}
 use Rattle.thy_repool.specs.Filling.{filling_shadow, first_table, IsFresh, IsUnframed}
 use Rattle.thy_repool.proofs.FirstLemmas.{IsMap-first, table_first}
@@ -41,6 +37,7 @@ use Rattle.thy_repool.proofs.ListLemmas.{unframed_none}
 use Rattle.thy_parts.specs.AreParts.{AreParts}
 use Rattle.thy_parts.specs.Paging.{IsPaging}
 use Rattle.thy_parts.specs.Powering.{EndsBoot, IsPowering}
+use Rattle.thy_parts.proofs.MemoryLemmas.{map_below}
 use Rattle.thy_shadow_laws.specs.Design.{shadow_design}
 use Rattle.thy_shadow_laws.proofs.DesignLemmas.{is_design}
 use Rattle.thy_shadow_laws.proofs.StoreLemmas.{is_storing}
@@ -61,15 +58,6 @@ pool_once p = IsListing-once number_key (listing (first_entries p) (pool_pages p
     let same = of.1 in
     omega (arith, low, same))
 
-none_framed : (p : Parameters) (x j : ℕ) → lists page_key x (entry_at (empty_table {E = Framed} p.ptt p.pages) j) ≡ false
-none_framed p x j = ap (lists page_key x) (entry_at-empty {E = Framed} p.ptt p.pages j)
-
-frames_once : (p : Parameters) → IsListing page_key (empty_table {E = Framed} p.ptt p.pages)
-frames_once p = record {
-  found = λ j x here. let none : false ≡ true = sym (none_framed p x j) ∙ here in cc;
-  inside = λ j x here. let none : false ≡ true = sym (none_framed p x j) ∙ here in absurd cc;
-}
-
 -- a new pool has every page of memory in the page of the pool with its number
 page_first : (p : Parameters) (dram : Contents) → IsSoundState (new_state p dram) → (x : ℕ) → x < p.pages
     → pool_of (new_state p dram) x ≡ Some x
@@ -82,7 +70,10 @@ first_committed p dram sound = table_by-same p (pool_of (new_state p dram)) (λ 
 -- and no frame is filled or begun
 new_fresh : (p : Parameters) (dram : Contents) → IsInRange p → IsDramOf p dram → IsFresh (new_state p dram)
 new_fresh p dram range is =
-    let sound : IsSoundState (new_state p dram) = IsSoundState-new p dram range is.blocks (pool_once p) (frames_once p) in
+    let sound : IsSoundState (new_state p dram) =
+    IsSoundState-new p dram range is.blocks (pool_once p)
+    (IsListing-free page_key (empty_table p.ptt p.pages)
+    (entry_at-empty {E = Framed} p.ptt p.pages)) in
     record {
       unframed = record { state = sound; free = λ j. entry_at-empty p.ptt p.pages j; unbegun = refl };
       first = first_committed p dram sound;
@@ -93,14 +84,8 @@ new_fresh p dram range is =
 -- while no frame is filled, what was committed is what was stored last
 commits_are_works : (s : State) (n : Device) → IsUnframed s → commits s n ≡ works s n
 commits_are_works s n h =
-    map-alike (committed_of s n) (work_of s n) (range_with_len 0 (memory_blocks s.p))
-    (λ b inside. sym (ap (work_by s n b) (unframed_none s (page_of b) h)))
-
--- and every frame is free
-none_filled : (es : List (Option Framed)) → ((j : ℕ) → get_or es j None ≡ None) → sum_by free_one es ≡ length es
-none_filled [] none = refl
-none_filled (None ∷ es) none = omega (arith, none_filled es (λ j. none (suc j)), sum_by-cons free_one None es)
-none_filled (Some x ∷ es) none = let first : Some x ≡ None = none 0 in cc
+    map_below (memory_blocks s.p) (committed_of s n) (work_of s n)
+    (λ b l. sym (ap (work_by s n b) (unframed_none s (page_of b) h)))
 
 ends : (s : State) (n : Device) (g : List Block) (kept : ℕ) → IsUnframed s → length n.image ≡ image_blocks s.p
     → IsToldBy s.p g kept (committed_table s) → EndsBoot shadow_design Resting s n g
@@ -108,7 +93,7 @@ ends s n g kept h sized told = record {
   moment = λ epoch. record { sound = h.state; sized = sized; stands = h.state; holds = ap (agree_by s n) h.unbegun };
   keeps = λ epoch. record { kept = kept; told = told; other = tt };
   committed = commits_are_works s n h;
-  rests = none_filled s.frames.entries h.free;
+  rests = free_count-all s.frames.entries h.free;
   closed = ap opened_by h.unbegun;
   whole = refl;
 }

@@ -14,9 +14,8 @@ use Rattle.thy_base.proofs.DeviceLemmas.{newest-written_to, newest-written_to_ot
 use Rattle.thy_table.specs.Listing.{entry_at}
 use Rattle.thy_table.proofs.IndexLemmas.{one_if}
 use Rattle.thy_table.proofs.ListingLaws.{place_of-lists}
-use Rattle.thy_shadow_image.specs.Places.{slot_blocks, slot_place, first_pool, image_blocks, pool_place, pool_page, place_of}
+use Rattle.thy_shadow_image.specs.Places.{first_pool, image_blocks, pool_place, pool_page, place_of}
 use Rattle.thy_shadow_image.specs.CheckpointParts.{memory_places}
-use Rattle.thy_shadow_image.proofs.PartsLemmas.{slot_behind}
 use Rattle.thy_pool.specs.declared.entry.Begun.{Begun}
 use Rattle.thy_pool.specs.Commit.{committed_state}
 use Rattle.thy_pool.specs.Holding.{works, commits, agrees, agree_by, copies_agree}
@@ -26,8 +25,9 @@ use Rattle.thy_pool.specs.State.{State, IsSoundState, IsBegun, frame_of, next_pa
 use Rattle.thy_pool.specs.Stores.{free_frame}
 use Rattle.thy_pool.proofs.CommitLemmas.{framed_is}
 use Rattle.thy_pool.proofs.TableLemmas.{listed_at-table_by, entry_page, committed_table-committed}
+use Rattle.thy_parts.proofs.MemoryLemmas.{map_places}
 use Rattle.thy_shadow_laws.specs.Design.{ArePaged, AllPaged}
-use Rattle.thy_shadow_laws.proofs.WorkLemmas.{works_same, commits_same, committed_behind, committed_inside, committed_over, commits_placed, places_read, target_inside, target_apart, one_target, works-committed}
+use Rattle.thy_shadow_laws.proofs.WorkLemmas.{works_same, commits_same, committed_behind, committed_inside, committed_over, commits_placed, target_inside, target_apart, one_target, works-committed}
 
 -- ---- the block that is next
 
@@ -54,14 +54,9 @@ next_free s from found = next_none_by from (is_some (entry_at s.frames (from / 6
 abbrev pub IsAside : State → ℕ → Type 0
 IsAside s x = (b : ℕ) → b < memory_blocks s.p → committed_place s b ≢ x
 
-pub aside_slot : (s : State) → IsSoundState s → (h k : ℕ) → h < 2 → k < slot_blocks s.p → IsAside s (slot_place s.p h + k)
-aside_slot s sound h k two l b small = λ q.
-    let before = (slot_behind s.p h k two l).1 in
-    let behind = (committed_behind s b sound small).0 in
-    omega (arith, before, behind, q)
-
-pub aside_commit : (s : State) → IsSoundState s → IsAside s 1
-aside_commit s sound b small = λ q. let behind = (committed_behind s b sound small).0 in omega (arith, behind, q)
+pub aside_before : (s : State) → IsSoundState s → (x : ℕ) → x < first_pool s.p → IsAside s x
+aside_before s sound x low b small q =
+    let behind = (committed_behind s b sound small).0 in omega (arith, low, behind, q)
 
 pub aside_page : (s : State) → IsSoundState s → (x : ℕ) → is_some (entry_at s.frames (x / 64)) ≡ true → IsAside s (target_place s (x / 64) (x % 64))
 aside_page s sound x some b small = target_apart s sound (x / 64) (x % 64) b (omega arith) some small
@@ -232,7 +227,7 @@ place_next s b l =
 
 pub memory_is_work : (s : State) (n : Device) → AllPaged s n → map (newest n) (memory_places s.p (next_table s)) ≡ works s n
 memory_is_work s n all =
-    places_read s.p (next_table s) n (work_of s n)
+    map_places (memory_blocks s.p) (newest n) (place_of s.p (next_table s)) (work_of s n)
     (λ b l. ap (newest n) (place_next s b l) ∙ page_reads s n b (frame_of s (page_of b)) all refl)
 
 -- so that is what a commit makes the committed version, and each block loads as before

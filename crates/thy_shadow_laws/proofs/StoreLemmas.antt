@@ -1,5 +1,5 @@
 -- A store changes one block, or copies one, and leaves what loads and stores keep.
-use Rattle.std.proofs.Common.{◌≡◌, ◌≢◌, ◌⊎◌, ℕ, ◌+◌, ◌-◌, ◌*◌, ◌%◌, ◌<◌, ◌≤◌, nat_lt, Bool, true, false, if◌then◌else◌, is_some, List, ◌∷◌, length, slice_set, Option, Some, None, refl, sym, ◌∙◌, ap, subst, inl, inr, arith}
+use Rattle.std.proofs.Common.{◌≡◌, ◌≢◌, ℕ, ◌+◌, ◌-◌, ◌*◌, ◌%◌, ◌<◌, ◌≤◌, nat_lt, Bool, true, false, if◌then◌else◌, is_some, List, ◌∷◌, length, slice_set, Option, Some, None, refl, sym, ◌∙◌, ap, subst, inl, inr, arith}
 use Rattle.std.specs.List.{range_with_len}
 use Rattle.std.proofs.lemmas.Bool.{cases_eq, eq-eqb, ltb-true, ltb-false}
 use Rattle.std.proofs.lemmas.List.{length-set}
@@ -13,13 +13,15 @@ use Rattle.thy_base.specs.Device.{Device, newest, HasFailed, IsFramed}
 use Rattle.thy_base.specs.Geometry.{memory_blocks}
 use Rattle.thy_base.specs.Places.{frame_place}
 use Rattle.thy_base.specs.Store.{page_of, IsOpenFor, HasStored}
+use Rattle.thy_base.proofs.BasicLemmas.{not_some}
+use Rattle.thy_crash.specs.Spares.{Spares}
 use Rattle.thy_crash.proofs.SparesLemmas.{Spares-no_more}
 use Rattle.thy_dram.specs.Contents.{written}
 use Rattle.thy_layout.specs.Layout.{looked_by}
 use Rattle.thy_layout.proofs.AskingLemmas.{map-alike}
 use Rattle.thy_table.specs.Listing.{Listing, entry_at, free_place, free_count, with_entry, added_at, added}
-use Rattle.thy_table.proofs.IndexLemmas.{free_one, some-counted}
-use Rattle.thy_table.proofs.ListingLaws.{place_of-put, place_of-put_other}
+use Rattle.thy_table.proofs.IndexLemmas.{free_one}
+use Rattle.thy_table.proofs.ListingLaws.{free_first, free_found, place_of-put, place_of-put_other}
 use Rattle.thy_view.specs.Action.{IsAccess, after, FailsTo}
 use Rattle.thy_view.specs.Dram.{ActsOnDram, WritesBlock}
 use Rattle.thy_shadow_image.specs.CheckpointParts.{IsToldBy}
@@ -35,15 +37,18 @@ use Rattle.thy_pool.specs.State.{State, state_in, IsSoundState, frame_of, pool_o
 use Rattle.thy_pool.specs.Stores.{StoreCase, Into, Fill, Copy, copies_by, copies_for, free_frame, case_by, store_case, put_into, filled, copied_into, after_case, after_store, stored_by, store_action}
 use Rattle.thy_pool.proofs.DrainLemmas.{IsSoundState-dram}
 use Rattle.thy_pool.proofs.RoomLemmas.{room as pool_has_room}
-use Rattle.thy_pool.proofs.StateLemmas.{IsSoundState-filled, IsSoundState-begun, free_first}
+use Rattle.thy_pool.proofs.StateLemmas.{IsSoundState-filled, IsSoundState-begun}
 use Rattle.thy_pool.proofs.TableLemmas.{table_by-same}
 use Rattle.thy_parts.specs.Holding.{holding_of}
 use Rattle.thy_parts.specs.Moments.{IsMoment}
 use Rattle.thy_parts.specs.Storing.{CanStore, MakesStore, StaysAt, StaysOver, IsStoring}
 use Rattle.thy_parts.proofs.HeldLemmas.{IsHeldBlock, blocks_held, held_block}
+use Rattle.thy_parts.proofs.LeavesLemmas.{leaves-same, leaves-failed, leaves-both, was_up}
+use Rattle.thy_parts.proofs.MemoryLemmas.{map_set}
+use Rattle.thy_parts.proofs.WaitLemmas.{stays_waiting}
 use Rattle.thy_shadow_laws.specs.Design.{rests_at, storeless_by, IsStill, owed_now, StaysPool, shadow_design}
 use Rattle.thy_shadow_laws.proofs.CopyLemmas.{AreCopied, begun_copied, are_copied, all_pass, block_same}
-use Rattle.thy_shadow_laws.proofs.FrameLemmas.{map_set, apart_frame, apart_block, put_here, put_there, frame_inside, frame_has, one_page, free_found, free_is}
+use Rattle.thy_shadow_laws.proofs.FrameLemmas.{apart_frame, apart_block, put_here, put_there, frame_inside, frame_has, one_page, free_is}
 use Rattle.thy_shadow_laws.proofs.PhaseLemmas.{commits_alike}
 
 -- ---- a store of a block, over a sound pool
@@ -91,7 +96,7 @@ module _ (b : ℕ) (block : Block) (s : State) (n : Device) (sound : IsSoundStat
     -- the frame is filled, so it is not the one that is begun
     not_free : (g : Begun) → s.begun ≡ Some g → free_frame s ≢ j
     not_free g is = λ e.
-        let of = free_found s (sound.begun g is).room in
+        let of = free_found s.frames (sound.begun g is).room in
         let none : entry_at s.frames of.0 ≡ None = (free_first s.frames of.0 of.1).1 in
         let same : of.0 ≡ j = sym (free_is s of.0 of.1) ∙ e in
         let both : None ≡ Some (framed x) = sym none ∙ ap (entry_at s.frames) same ∙ frame_has s x j found in
@@ -129,7 +134,7 @@ module _ (b : ℕ) (block : Block) (s : State) (n : Device) (sound : IsSoundStat
   module _ (unframed : frame_of s x ≡ None) (room : 0 < free_count s.frames) where
     -- the lowest free frame
     lowest : (j : ℕ) × (free_place s.frames ≡ Some j)
-    lowest = free_found s room
+    lowest = free_found s.frames room
 
     abbrev j : ℕ
     j = free_frame s
@@ -237,12 +242,8 @@ module _ (b : ℕ) (block : Block) (s : State) (n : Device) (sound : IsSoundStat
       pool_number : s.p.pages + j < s.pool.numbers
       pool_number = let numbers = sound.pool_numbers in omega (arith, numbers, j_inside)
 
-      none_of : (o : Option ℕ) → is_some o ≡ false → o ≡ None
-      none_of None h = refl
-      none_of (Some i) h = cc
-
       unclaimed : pool_of s (s.p.pages + j) ≡ None
-      unclaimed = none_of (pool_of s (s.p.pages + j)) (sym (sound.claimed j) ∙ ap is_some j_free)
+      unclaimed = not_some (pool_of s (s.p.pages + j)) (sym (sound.claimed j) ∙ ap is_some j_free)
 
       -- the page has that frame, and every other page what it had
       frame_here : frame_of full x ≡ Some j
@@ -366,10 +367,7 @@ module _ (b : ℕ) (block : Block) (s : State) (n : Device) (can : CanStore shad
           table = refl;
           sound = λ h. sound_into b block s n sound small j found;
           copies = λ before up. copies_into b block s n sound small j found before;
-          as_long = refl;
-          no_more = λ x y h. h;
-          down = λ d. d;
-          same = λ up. refl;
+          nvm = leaves-same n;
         };
         still = λ h. let no : false ≡ true = h in absurd cc;
       }
@@ -401,23 +399,14 @@ module _ (b : ℕ) (block : Block) (s : State) (n : Device) (can : CanStore shad
           table = refl;
           sound = λ h. sound_copied b block s n sound small unframed room k few;
           copies = λ all up. copies_copied b block s n sound small unframed room k few (before all);
-          as_long = refl;
-          no_more = λ x y h. h;
-          down = λ d. d;
-          same = λ up. refl;
+          nvm = leaves-same n;
         };
         still = λ h. record { frames = refl; pool = refl };
       }
 
   -- the pool has a page for the frame
   pool_place_free : (q : ℕ) × (free_place s.pool ≡ Some q)
-  pool_place_free = by_place (free_place s.pool) refl where
-    some : 0 < free_count s.pool
-    some = omega (arith, pool_has_room s sound, room)
-
-    by_place : (o : Option ℕ) → free_place s.pool ≡ o → (q : ℕ) × (free_place s.pool ≡ Some q)
-    by_place None found = let none = (some-counted s.pool.entries None found).1 some in absurd cc
-    by_place (Some q) found = (q, found)
+  pool_place_free = free_found s.pool (omega (arith, pool_has_room s sound, room))
 
   makes_fill : frame_of s (page_of b) ≡ None → 64 ≤ copies_for (page_of b) s → Makes (Fill (free_frame s)) b block s n
   makes_fill unframed many =
@@ -447,10 +436,7 @@ module _ (b : ℕ) (block : Block) (s : State) (n : Device) (can : CanStore shad
           table = table_full b block s n sound small unframed room q at whole;
           sound = λ h. sound_put b block s n sound small unframed room q at whole;
           copies = λ all up. refl;
-          as_long = refl;
-          no_more = λ x y h. h;
-          down = λ d. d;
-          same = λ up. refl;
+          nvm = leaves-same n;
         };
         still = λ h. let no : false ≡ true = h in absurd cc;
       } in
@@ -499,10 +485,7 @@ failed_stays s n m failed framed = record {
   table = refl;
   sound = λ h. h;
   copies = λ all up. let both : true ≡ false = sym failed.down ∙ up in absurd cc;
-  as_long = framed.blocks;
-  no_more = failed.no_more;
-  down = λ was. failed.down;
-  same = λ up. let both : true ≡ false = sym failed.down ∙ up in absurd cc;
+  nvm = leaves-failed n m failed framed;
 }
 
 -- a copy whose read failed
@@ -520,37 +503,22 @@ stored_once : (stored : Stored) → storeless_by stored false ≡ false
 stored_once Done = refl
 stored_once CopyFirst = refl
 
--- one that is up at last was up before
-up_before : (before after : Bool) → (before ≡ true → after ≡ true) → after ≡ false → before ≡ false
-up_before true after on up = let no : true ≡ false = sym (on refl) ∙ up in absurd cc
-up_before false after on up = refl
-
 on_stays : (a : State) (l : Device) (b : State) (m : Device) (c : State) (n : Device) → StaysPool a l b m → StaysPool b m c n → StaysPool a l c n
 on_stays a l b m c n first second = record {
   same_p = second.same_p ∙ first.same_p;
   room = second.room ∙ first.room;
   table = second.table ∙ first.table;
   sound = λ h. second.sound (first.sound h);
-  copies = λ all up. second.copies (first.copies all (up_before m.down n.down second.down up)) up;
-  as_long = second.as_long ∙ first.as_long;
-  no_more = λ x y h. first.no_more x y (second.no_more x y h);
-  down = λ d. second.down (first.down d);
-  same = λ up.
-      let was : n ≡ m = second.same up in
-      was ∙ first.same (sym (ap (λ (d : Device). d.down) was) ∙ up);
+  copies = λ all up. second.copies (first.copies all (was_up m n second.nvm up)) up;
+  nvm = leaves-both l m n first.nvm second.nvm;
 }
 
-still_rests : (phase : Phase) (s t : State) → IsStill s t → rests_at phase true s → rests_at phase true t
-still_rests Resting s t same rests = subst (λ (u : Listing Framed). free_count u ≡ length u.entries) (sym same.frames) rests
-still_rests (Making from) s t same rests = tt
-still_rests Made s t same rests = tt
-still_rests (Applying from) s t same rests = tt
-
-rests_less : (phase : Phase) (s : State) → rests_at phase true s → rests_at phase false s
-rests_less Resting s rests = tt
-rests_less (Making from) s rests = tt
-rests_less Made s rests = tt
-rests_less (Applying from) s rests = tt
+rests_less : (phase : Phase) (frames : Listing Framed) → rests_at phase true frames
+    → rests_at phase false frames
+rests_less Resting frames rests = tt
+rests_less (Making from) frames rests = tt
+rests_less Made frames rests = tt
+rests_less (Applying from) frames rests = tt
 
 module _ (epoch : ℕ) (s : State) (n : Device) (t : State) (m : Device) (moment : IsMoment shadow_design Resting epoch s n) (stays : StaysPool s n t m) where
   told_then : (g : List Block) (kept : ℕ) → IsToldBy s.p g kept (committed_table s) → IsToldBy t.p g kept (committed_table t)
@@ -578,21 +546,21 @@ module _ (epoch : ℕ) (s : State) (n : Device) (t : State) (m : Device) (moment
 
   stays_resting : StaysOver shadow_design Resting epoch s n t m
   stays_resting = record {
-    kept = λ g h. Spares-no_more (1 ∷ looked_by (shadow_layouts s.p) g) n m stays.no_more stays.as_long;
-    made = λ g h. Spares-no_more (1 ∷ looked_by (shadow_layouts s.p) g) n m stays.no_more stays.as_long;
+    kept = λ g h. spares g;
+    made = λ g h. spares g;
     left = λ from. omega (arith, ap (λ (p : Parameters). p.ptt) stays.same_p);
     owed_later = omega arith;
     up = λ up.
-        subst (λ (d : Device). StaysAt shadow_design Resting epoch s n t d) (sym (stays.same up))
-        (stays_idle (subst (λ (d : Device). copies_agree t d ≡ true) (stays.same up) (stays.copies moment.holds up)));
-  }
-
-stays_by : (phase : Phase) (epoch : ℕ) (s : State) (n : Device) (t : State) (m : Device) → IsMoment shadow_design phase epoch s n
-    → (false ≡ true) ⊎ (phase ≡ Resting) → StaysPool s n t m → StaysOver shadow_design phase epoch s n t m
-stays_by phase epoch s n t m moment (inl never) stays = absurd cc
-stays_by phase epoch s n t m moment (inr resting) stays =
-    subst (λ (p : Phase). StaysOver shadow_design p epoch s n t m) (sym resting)
-    (stays_resting epoch s n t m (subst (λ (p : Phase). IsMoment shadow_design p epoch s n) resting moment) stays)
+        subst (λ (d : Device). StaysAt shadow_design Resting epoch s n t d)
+        (sym (stays.nvm.same up))
+        (stays_idle
+        (subst (λ (d : Device). copies_agree t d ≡ true) (stays.nvm.same up)
+        (stays.copies moment.holds up)));
+  } where
+    spares : (g : List Block) → Spares (1 ∷ looked_by (shadow_layouts s.p) g) n m
+    spares g =
+        Spares-no_more (1 ∷ looked_by (shadow_layouts s.p) g) n m stays.nvm.no_more
+        stays.nvm.as_long
 
 pub is_storing : IsStoring shadow_design
 is_storing = record {
@@ -603,22 +571,19 @@ is_storing = record {
   stored_once = λ s b. stored_once (stored_by (store_case b s));
   still_same = λ s. record { frames = refl; pool = refl };
   still_on = λ a b c first second. record { frames = second.frames ∙ first.frames; pool = second.pool ∙ first.pool };
-  still_rests = λ sealed phase s t same rests. still_rests phase s t same rests;
-  rests_less = λ sealed phase s rests. rests_less phase s rests;
+  still_rests = λ sealed phase s t same rests. subst (rests_at phase true) (sym same.frames) rests;
+  rests_less = λ sealed phase s rests. rests_less phase s.frames rests;
   stays_same = λ s n. record {
     same_p = refl;
     room = refl;
     table = refl;
     sound = λ h. h;
     copies = λ all up. all;
-    as_long = refl;
-    no_more = λ x y h. h;
-    down = λ d. d;
-    same = λ up. refl;
+    nvm = leaves-same n;
   };
   stays_on = on_stays;
   stays_p = λ s n t m stays. stays.same_p;
   stays_room = λ s n t m stays. stays.room;
   stays_sound = λ s n t m stays. stays.sound;
-  stays = stays_by;
+  stays = stays_waiting shadow_design refl stays_resting;
 }

@@ -1,29 +1,23 @@
 -- Memory as it was stored last, and as it was committed, over what is done to the NVM and to the pool.
-use Rattle.std.proofs.Common.{◌≡◌, ◌≢◌, ℕ, ◌+◌, ◌*◌, ◌%◌, ◌<◌, ◌≤◌, true, List, length, map, Contains, Option, Some, None, is_some, option_and_then, refl, sym, ◌∙◌, ap, subst, arith}
-use Rattle.std.specs.List.{range_with_len}
-use Rattle.std.proofs.lemmas.List.{length-map, get_or-map, ext_get_or}
-use Rattle.std.proofs.lemmas.List.FromFn.{length-map-range_with_len, get_or-map-range_with_len}
+use Rattle.std.proofs.Common.{◌≡◌, ◌≢◌, ℕ, ◌+◌, ◌*◌, ◌%◌, ◌<◌, ◌≤◌, true, length, map, Option, Some, None, is_some, refl, sym, ◌∙◌, ap, subst, arith}
 use Rattle.thy_base.specs.declared.block.Block.{Block}
-use Rattle.thy_base.specs.declared.config.Parameters.{Parameters}
-use Rattle.thy_base.specs.Device.{Device, zero_block, block_at, newest, written_to}
+use Rattle.thy_base.specs.Device.{Device, newest, written_to}
 use Rattle.thy_base.specs.Geometry.{memory_blocks}
 use Rattle.thy_base.specs.Store.{page_of}
 use Rattle.thy_base.proofs.DeviceLemmas.{newest-written_to_other}
 use Rattle.thy_layout.specs.Entries.{Lists}
-use Rattle.thy_layout.proofs.AskingLemmas.{map-alike}
-use Rattle.thy_base.proofs.BasicLemmas.{Contains-range}
 use Rattle.thy_table.specs.Listing.{entry_at, lists, mapped}
 use Rattle.thy_table.proofs.IndexLemmas.{lists-inside}
-use Rattle.thy_table.proofs.ListingLaws.{entry_at-mapped, place_of-none, place_of-lists}
+use Rattle.thy_table.proofs.ListingLaws.{entry_at-cleared, place_of-none, place_of-lists}
 use Rattle.thy_shadow_image.specs.Places.{map_blocks, pool_pages, first_pool, image_blocks, pool_place, pool_page, place_of}
 use Rattle.thy_shadow_image.specs.CheckpointParts.{memory_places}
 use Rattle.thy_shadow_image.proofs.PartsLemmas.{place_behind}
 use Rattle.thy_shadow_image.proofs.FreeLemmas.{same_page}
-use Rattle.thy_pool.specs.declared.entry.Framed.{Framed}
 use Rattle.thy_pool.specs.Commit.{committed_state}
 use Rattle.thy_pool.specs.Holding.{works, commits}
 use Rattle.thy_pool.specs.Keys.{number_key, page_key, freed_frame}
 use Rattle.thy_pool.specs.State.{State, IsSoundState, IsSized, frame_of, pool_of, target, committed_table, committed_place, target_place, committed_of, work_by, work_of}
+use Rattle.thy_parts.proofs.MemoryLemmas.{map_below, map_places}
 use Rattle.thy_pool.proofs.CommitLemmas.{some_of}
 use Rattle.thy_pool.proofs.TableLemmas.{listed_at-table_by, entry_page, IsMap-committed, target_free, same_number}
 
@@ -34,21 +28,16 @@ work_same : (s : State) (m n : Device) (b : ℕ) (o : Option ℕ) → committed_
 work_same s m n b None h = h
 work_same s m n b (Some j) h = refl
 
-below : (many b : ℕ) → Contains (range_with_len 0 many) b → b < many
-below many b inside = let at = Contains-range 0 many b inside in let l = at.1 in let e = at.2 in omega (arith, l, e)
-
 -- so if each block reads where it was committed as before, all load as before
 pub works_same : (s : State) (m n : Device) → ((b : ℕ) → b < memory_blocks s.p → committed_of s n b ≡ committed_of s m b)
     → works s n ≡ works s m
 works_same s m n same =
-    map-alike (work_of s n) (work_of s m) (range_with_len 0 (memory_blocks s.p))
-    (λ b inside. work_same s m n b (frame_of s (page_of b)) (same b (below (memory_blocks s.p) b inside)))
+    map_below (memory_blocks s.p) (work_of s n) (work_of s m)
+    (λ b l. work_same s m n b (frame_of s (page_of b)) (same b l))
 
 pub commits_same : (s : State) (m n : Device) → ((b : ℕ) → b < memory_blocks s.p → committed_of s n b ≡ committed_of s m b)
     → commits s n ≡ commits s m
-commits_same s m n same =
-    map-alike (committed_of s n) (committed_of s m) (range_with_len 0 (memory_blocks s.p))
-    (λ b inside. same b (below (memory_blocks s.p) b inside))
+commits_same s m n same = map_below (memory_blocks s.p) (committed_of s n) (committed_of s m) same
 
 -- ---- places of the committed map
 
@@ -64,9 +53,8 @@ place_committed s b l =
 pub committed_behind : (s : State) (b : ℕ) → IsSoundState s → b < memory_blocks s.p
     → (first_pool s.p ≤ committed_place s b) × (committed_place s b < image_blocks s.p)
 committed_behind s b h l =
-    let behind = place_behind s.p (committed_table s) b (IsMap-committed s h) l in
-    let same = place_committed s b l in
-    (subst (λ (y : ℕ). first_pool s.p ≤ y) same behind.0, subst (λ (y : ℕ). y < image_blocks s.p) same behind.1)
+    subst (λ (y : ℕ). (first_pool s.p ≤ y) × (y < image_blocks s.p)) (place_committed s b l)
+    (place_behind s.p (committed_table s) b (IsMap-committed s h) l)
 
 pub committed_inside : (s : State) (m : Device) (b : ℕ) → IsSoundState s → IsSized s m → b < memory_blocks s.p
     → committed_place s b < length m.image
@@ -79,33 +67,11 @@ pub committed_over : (s : State) (m : Device) (at : ℕ) (block : Block) (b : �
 committed_over s m at block b h sized l other =
     newest-written_to_other m at block (committed_place s b) other (committed_inside s m b h sized l)
 
--- ---- memory read by a map
-
-length-places : (p : Parameters) (table : List (Option ℕ)) (m : Device) → length (map (newest m) (memory_places p table)) ≡ memory_blocks p
-length-places p table m = length-map (memory_places p table) (newest m) ∙ length-map-range_with_len (place_of p table) 0 (memory_blocks p)
-
-places-each : (p : Parameters) (table : List (Option ℕ)) (m : Device) (b : ℕ) → b < memory_blocks p
-    → block_at (map (newest m) (memory_places p table)) b ≡ newest m (place_of p table b)
-places-each p table m b l =
-    get_or-map (newest m) (memory_places p table) b 0 zero_block
-    (omega (arith, l, length-map-range_with_len (place_of p table) 0 (memory_blocks p)))
-    ∙ ap (newest m) (get_or-map-range_with_len (place_of p table) 0 (memory_blocks p) b b 0 l (omega arith))
-
--- if each block's place reads as something gives, memory is that of all blocks
-pub places_read : (p : Parameters) (table : List (Option ℕ)) (m : Device) (look : ℕ → Block)
-    → ((b : ℕ) → b < memory_blocks p → newest m (place_of p table b) ≡ look b)
-    → map (newest m) (memory_places p table) ≡ map look (range_with_len 0 (memory_blocks p))
-places_read p table m look each =
-    let long = length-places p table m in
-    ext_get_or zero_block (map (newest m) (memory_places p table)) (map look (range_with_len 0 (memory_blocks p)))
-    (long ∙ sym (length-map-range_with_len look 0 (memory_blocks p)))
-    (λ b inside.
-    let l : b < memory_blocks p = omega (arith, inside, long) in
-    places-each p table m b l ∙ each b l ∙ sym (get_or-map-range_with_len look 0 (memory_blocks p) b b zero_block l (omega arith)))
-
 -- as it was committed it is read by the committed map
 pub commits_placed : (s : State) (n : Device) → map (newest n) (memory_places s.p (committed_table s)) ≡ commits s n
-commits_placed s n = places_read s.p (committed_table s) n (committed_of s n) (λ b l. ap (newest n) (place_committed s b l))
+commits_placed s n =
+    map_places (memory_blocks s.p) (newest n) (place_of s.p (committed_table s)) (committed_of s n)
+    (λ b l. ap (newest n) (place_committed s b l))
 
 -- ---- the pages that frames go to
 
@@ -160,17 +126,14 @@ module _ (s : State) (h : IsSoundState s) where
 
 -- ---- with all frames free
 
-none_freed : (o : Option Framed) → option_and_then freed_frame o ≡ None
-none_freed None = refl
-none_freed (Some e) = refl
-
 pub frame_of-committed : (s : State) (x : ℕ) → frame_of (committed_state s) x ≡ None
 frame_of-committed s x =
     place_of-none page_key (mapped freed_frame s.frames) x
-    (λ j. ap (lists page_key x) (entry_at-mapped freed_frame s.frames j ∙ none_freed (entry_at s.frames j)))
+    (λ j. ap (lists page_key x) (entry_at-cleared freed_frame (λ e. refl) s.frames j))
 
 -- every block loads as it was committed
 pub works-committed : (s : State) (n : Device) → works (committed_state s) n ≡ commits (committed_state s) n
 works-committed s n =
-    map-alike (work_of (committed_state s) n) (committed_of (committed_state s) n) (range_with_len 0 (memory_blocks s.p))
-    (λ b inside. ap (work_by (committed_state s) n b) (frame_of-committed s (page_of b)))
+    map_below (memory_blocks s.p) (work_of (committed_state s) n)
+    (committed_of (committed_state s) n)
+    (λ b l. ap (work_by (committed_state s) n b) (frame_of-committed s (page_of b)))

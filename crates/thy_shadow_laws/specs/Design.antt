@@ -4,22 +4,23 @@ use Rattle.std.specs.Prelude.{◌≡◌, ◌≢◌, ℕ, ◌+◌, ◌-◌, ◌*�
 use Rattle.thy_base.specs.declared.block.Block.{Block}
 use Rattle.thy_base.specs.declared.store.Stored.{Stored}
 use Rattle.thy_base.specs.declared.store.Stored.TheVariants.{Done, CopyFirst}
-use Rattle.thy_base.specs.Device.{Device, newest, HoldsNoMore}
+use Rattle.thy_base.specs.Device.{Device, newest}
 use Rattle.thy_base.specs.Places.{header_place}
 use Rattle.thy_base.specs.Store.{page_of}
 use Rattle.thy_layout.specs.declared.engine_step.EngineStep.TheVariants.{PageBlock}
 use Rattle.thy_layout.specs.Commit.{slot_of_epoch}
 use Rattle.thy_layout.specs.TableSlots.{table_block_of}
-use Rattle.thy_table.specs.Listing.{entry_at, free_count}
+use Rattle.thy_table.specs.Listing.{Listing, entry_at, free_count}
 use Rattle.thy_shadow_image.specs.CheckpointParts.{IsToldBy}
 use Rattle.thy_engine.specs.Items.{ItemsOf, Phase, Resting, Making, Made, Applying}
+use Rattle.thy_pool.specs.declared.entry.Framed.{Framed}
 use Rattle.thy_pool.specs.Commit.{sealed_state, committed_state}
 use Rattle.thy_pool.specs.Holding.{works, commits, copied_by, opened_by, copies_agree}
 use Rattle.thy_pool.specs.Items.{next_block}
 use Rattle.thy_pool.specs.State.{State, IsSoundState, committed_table, next_table, frame_of, frame_block, target_place}
 use Rattle.thy_pool.specs.Stores.{after_store, new_state, store_action, store_case, stored_by}
 use Rattle.thy_repool.specs.Filling.{filling_shadow}
-use Rattle.thy_parts.specs.Design.{PartsOf, DesignOf, design_of, no_pages}
+use Rattle.thy_parts.specs.Design.{LeavesNvm, PartsOf, DesignOf, design_of, no_pages}
 
 -- ---- what the engine writes
 
@@ -91,9 +92,9 @@ pub record IsKeptBy (phase : Phase) (epoch : ℕ) (s : State) (g : List Block) :
   pub other : IsOther phase epoch kept
 
 -- if nothing was stored since the last seal, and that is committed, every frame is free
-abbrev pub rests_at : Phase → Bool → State → Type 0
-rests_at Resting true s = free_count s.frames ≡ length s.frames.entries
-rests_at phase storeless s = Unit {0}
+abbrev pub rests_at : Phase → Bool → Listing Framed → Type 0
+rests_at Resting true frames = free_count frames ≡ length frames.entries
+rests_at phase storeless frames = Unit {0}
 
 -- ---- loads and stores
 
@@ -116,8 +117,7 @@ owed_then (Making from) s = 64 * s.p.ptt - owed_now s
 owed_then Made s = 64 * s.p.ptt - owed_now s
 owed_then phase s = 0
 
--- what loads and stores keep: no place of the NVM may hold after a cut what it could not hold before; while it is up, it is as
--- it was
+-- what loads and stores keep
 pub record StaysPool (s : State) (m : Device) (t : State) (n : Device) : Type 0 where
   pub same_p : t.p ≡ s.p
   pub room : t.dram.room ≡ s.dram.room
@@ -126,10 +126,7 @@ pub record StaysPool (s : State) (m : Device) (t : State) (n : Device) : Type 0 
   pub sound : IsSoundState s → IsSoundState t
   -- what was copied into a frame is what the NVM has, while that is up
   pub copies : copies_agree s m ≡ true → n.down ≡ false → copies_agree t n ≡ true
-  pub as_long : length n.image ≡ length m.image
-  pub no_more : HoldsNoMore m n
-  pub down : m.down ≡ true → n.down ≡ true
-  pub same : n.down ≡ false → n ≡ m
+  pub nvm : LeavesNvm m n
 
 abbrev pub shadow_parts : PartsOf State
 shadow_parts = record {
@@ -141,7 +138,7 @@ shadow_parts = record {
   sealed = works;
   committed = λ phase s n. commits s n;
   seal = sealed_state;
-  rests = λ storeless sealed_storeless phase s. rests_at phase storeless s;
+  rests = λ storeless sealed_storeless phase s. rests_at phase storeless s.frames;
   overlaps = false;
   agrees = copies_agree;
   load_reads = λ s b. is_none (frame_of s (page_of b));

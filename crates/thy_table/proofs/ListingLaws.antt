@@ -1,13 +1,14 @@
 -- Where numbers are listed after each change of a table, for those that stand on it.
-use Rattle.std.proofs.Common.{◌≡◌, ◌≢◌, ℕ, ◌<◌, ◌≤◌, true, false, List, [], ◌∷◌, length, map, Option, Some, None, option_and_then, refl, sym, ◌∙◌, ap, inl, inr, arith}
+use Rattle.std.proofs.Common.{◌≡◌, ◌≢◌, ℕ, suc, ◌<◌, ◌≤◌, true, false, List, [], ◌∷◌, length, map, get_or, Option, Some, None, is_none, is_some, option_and_then, refl, sym, ◌∙◌, ap, inl, inr, arith}
 use Rattle.std.specs.List.{sum_by}
 use Rattle.std.proofs.lemmas.Bool.{cases_Bool, cases_eq, cases_lt, ne_eqb}
 use Rattle.std.proofs.lemmas.List.{length-map, get_or-set_same, get_or-set_other, get_or_past, get_or-map}
 use Rattle.std.proofs.lemmas.List.Sums.{sum_by-cons}
 use Rattle.std.proofs.lemmas.List.Quantifiers.{position-Some}
-use Rattle.thy_table.specs.Listing.{Listing, entry_at, lists, place_of, free_count, with_entry, mapped, IsListing}
+use Rattle.thy_base.proofs.BasicLemmas.{get_or-replicate_any}
+use Rattle.thy_table.specs.Listing.{Listing, entry_at, lists, place_of, free_place, free_count, with_entry, mapped, empty_table, IsListing}
 use Rattle.thy_table.proofs.FirstLemmas.{position-first, position-none, none-position}
-use Rattle.thy_table.proofs.IndexLemmas.{free_one, lists-some, lists-key, lists-key_of, lists-inside}
+use Rattle.thy_table.proofs.IndexLemmas.{is_some-not_none, None-is_none, free_one, some-counted, lists-some, lists-key, lists-key_of, lists-inside}
 
 module _ {E : Type 0} where
   -- the entries after one was written
@@ -26,6 +27,26 @@ module _ {E : Type 0} where
         get_or_past (map (option_and_then rule) t.entries) i None past ∙ sym (ap (option_and_then rule) (get_or_past t.entries i None l))
   ]
 
+  -- a rule that clears every entry leaves none
+  pub entry_at-cleared : (rule : E → Option E) → ((e : E) → rule e ≡ None) → (t : Listing E) (i : ℕ)
+      → entry_at (mapped rule t) i ≡ None
+  entry_at-cleared rule clears t i = entry_at-mapped rule t i ∙ none_of (entry_at t i) where
+    none_of : (o : Option E) → option_and_then rule o ≡ None
+    none_of None = refl
+    none_of (Some e) = clears e
+
+  -- a new table has none
+  pub entry_at-empty : (size numbers i : ℕ) → entry_at (empty_table {E = E} size numbers) i ≡ None
+  entry_at-empty size numbers i = get_or-replicate_any {A = Option E} size i None
+
+-- with no entry live, all are free
+pub free_count-all : {E : Type 0} (es : List (Option E)) → ((i : ℕ) → get_or es i None ≡ None)
+    → sum_by free_one es ≡ length es
+free_count-all [] none = refl
+free_count-all (None ∷ es) none =
+    omega (arith, free_count-all es (λ i. none (suc i)), sum_by-cons free_one None es)
+free_count-all (Some e ∷ es) none = let first : Some e ≡ None = none 0 in cc
+
 free-map : {E : Type 0} (rule : E → Option E) (es : List (Option E)) → sum_by free_one es ≤ sum_by free_one (map (option_and_then rule) es)
 free-map rule [] = omega arith
 free-map rule (None ∷ es) =
@@ -36,6 +57,20 @@ free-map rule (Some e ∷ es) =
 -- a rule fills no free entry
 pub free_count-mapped : {E : Type 0} (rule : E → Option E) (t : Listing E) → free_count t ≤ free_count (mapped rule t)
 free_count-mapped rule t = free-map rule t.entries
+
+-- the free place that is found is the lowest
+pub free_first : {E : Type 0} (t : Listing E) (i : ℕ) → free_place t ≡ Some i
+    → (i < length t.entries) × (entry_at t i ≡ None) × ((k : ℕ) → k < i → is_some (entry_at t k) ≡ true)
+free_first t i e =
+    let first = position-Some is_none t.entries i None e in
+    (first.0, None-is_none (entry_at t i) first.1, λ k l. is_some-not_none (entry_at t k) (first.2 k l))
+
+-- it is found if one is free
+pub free_found : {E : Type 0} (t : Listing E) → 0 < free_count t → (i : ℕ) × (free_place t ≡ Some i)
+free_found t room = by_place (free_place t) refl where
+  by_place : (o : Option ℕ) → free_place t ≡ o → (i : ℕ) × (free_place t ≡ Some i)
+  by_place None found = let none = (some-counted t.entries None found).1 room in absurd cc
+  by_place (Some i) found = (i, found)
 
 module _ {E : Type 0} (key : E → ℕ) where
   -- a number that is found is listed there
@@ -51,6 +86,13 @@ module _ {E : Type 0} (key : E → ℕ) where
 
   pub place_of-none : (t : Listing E) (n : ℕ) → ((i : ℕ) → lists key n (entry_at t i) ≡ false) → place_of key n t ≡ None
   place_of-none t n none = position-none (lists key n) None t.entries (λ k _. none k)
+
+  -- a table with no entry live lists nothing
+  pub IsListing-free : (t : Listing E) → ((i : ℕ) → entry_at t i ≡ None) → IsListing key t
+  IsListing-free t none = record {
+    found = λ i n h. let both : false ≡ true = sym (ap (lists key n) (none i)) ∙ h in cc;
+    inside = λ i n h. let both : false ≡ true = sym (ap (lists key n) (none i)) ∙ h in absurd cc;
+  }
 
   -- two entries that list one number are one
   pub found-once : (t : Listing E) → IsListing key t → (i j n : ℕ) → lists key n (entry_at t i) ≡ true → lists key n (entry_at t j) ≡ true → i ≡ j

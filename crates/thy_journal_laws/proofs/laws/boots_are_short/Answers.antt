@@ -1,8 +1,15 @@
-use Rattle.thy_journal_laws.proofs.LawLemmas.{boots_are_short, never_migrates}
+use Rattle.std.proofs.Common.{◌≡◌, arith}
+use Rattle.thy_boot.specs.Left.{most_migration}
+use Rattle.thy_boot.proofs.OlderLemmas.{numbered_never_migrate, numbered_count_none}
+use Rattle.thy_journal_laws.specs.Design.{journal_design}
 use Rattle.thy_journal_laws.proofs.laws.boots_are_short.Goals as goal
 
 pub returns-clause-short : goal.returns-clause-short
-returns-clause-short c = boots_are_short
+returns-clause-short c p =
+    let none : most_migration (journal_design.filling.layouts p) p ≡ 0 = numbered_count_none journal_design.filling p (omega arith) in
+    (omega (arith, none), omega arith)
 
 pub returns-clause-never : goal.returns-clause-never
-returns-clause-never c = never_migrates
+returns-clause-never c o s n boots =
+    numbered_never_migrate journal_design.filling o boots.images n s.boot s.control
+    (λ p. omega arith) boots.sound

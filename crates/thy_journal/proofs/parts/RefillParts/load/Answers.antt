@@ -1,8 +1,6 @@
-use Rattle.std.proofs.Common.{sym}
-use Rattle.thy_base.specs.Device.{block_at}
-use Rattle.thy_log.specs.Holding.{works}
-use Rattle.thy_log.specs.State.{work_of}
-use Rattle.thy_journal.proofs.BlockLemmas.{small, work_at, ok_same}
+use Rattle.std.proofs.Common.{◌≡◌, IfOk, sym, subst}
+use Rattle.thy_base.specs.declared.block.Block.{Block}
+use Rattle.thy_journal.proofs.BlockLemmas.{small, work_at}
 use Rattle.thy_journal.proofs.parts.RefillParts.load.Goals as goal
 
 pub load-requires-clause-block : goal.load-requires-clause-block
@@ -12,4 +10,6 @@ pub returns-clause-ok : goal.returns-clause-ok
 returns-clause-ok g c =
     let s = c.args.control.now in
     let n = g.N.Nvm.device c.args.nvm.now in
-    ok_same c.load.result (work_of s n c.args.b) (block_at (works s n) c.args.b) c.load.ensures.ok (sym (work_at s n c.args.b (small s n c.args.b c.requires.inside)))
+    subst (λ (x : Block). IfOk c.load.result (λ block. block ≡ x))
+    (sym (work_at s n c.args.b (small s n c.args.b c.requires.inside)))
+    c.load.ensures.ok
