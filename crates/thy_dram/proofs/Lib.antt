@@ -1,2 +1,3 @@
 pub mod DramLemmas
 pub mod DrawLemmas
+pub mod JumpLemmas

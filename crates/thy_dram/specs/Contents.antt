@@ -1,9 +1,8 @@
 -- Part of the claim.
 -- What a DRAM is to its callers: a list of blocks, and how many writes are queued.
-use Rattle.std.specs.Prelude.{ℕ, ◌+◌, ◌-◌, min, List, length, replicate, slice_set}
+use Rattle.std.specs.Prelude.{ℕ, ◌+◌, ◌-◌, min, List, replicate, slice_set}
 use Rattle.thy_base.specs.declared.block.Block.{Block}
-use Rattle.thy_base.specs.Device.{zero_block, applied}
-use Rattle.thy_ring.specs.Held.{Held}
+use Rattle.thy_base.specs.Device.{zero_block}
 use Rattle.thy_dram.specs.Draws.{blocks_over}
 
 pub record Contents : Type 0 where
@@ -13,10 +12,6 @@ pub record Contents : Type 0 where
   pub queued : ℕ
   -- how many the queue holds
   pub room : ℕ
-
--- the contents that a ring stands for: the queued writes are read as if they had landed
-abbrev pub contents_in : Held → Contents
-contents_in held = record { blocks = applied held.image held.queue; queued = length held.queue; room = held.room }
 
 -- a new DRAM holds zeros
 abbrev pub fresh : ℕ → ℕ → Contents

@@ -3,7 +3,6 @@
 use Rattle.std.specs.Prelude.{ℕ, ◌%◌, List, [], ◌∷◌, replicate}
 use Rattle.thy_base.specs.declared.block.Block.{Block}
 use Rattle.thy_base.specs.Lcg.{lcg_next, lcg_draw}
-use Rattle.thy_ring.specs.Held.{Held}
 
 -- each byte is written over by the low 8 bits of one draw
 unfoldable pub bytes_over : ℕ → List ℕ → List ℕ
@@ -27,7 +26,3 @@ after_block seed = after_bytes seed (replicate 64 0)
 abbrev pub blocks_over : ℕ → List Block → List Block
 blocks_over seed [] = []
 blocks_over seed (b ∷ bs) = drawn_block seed ∷ blocks_over (after_block seed) bs
-
--- a ring whose image is written over in this way
-abbrev pub filled : ℕ → Held → Held
-filled seed held = record held { image = blocks_over seed held.image }

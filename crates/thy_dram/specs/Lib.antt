@@ -1,2 +1,4 @@
 pub mod Contents
 pub mod Draws
+pub mod Jumps
+pub mod Parts

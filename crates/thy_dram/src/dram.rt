@@ -3,28 +3,35 @@ ghost use Rattle.std.specs.Prelude.{◌≡◌, ◌<◌, ◌≤◌, length, IfOk}
 ghost use Rattle.thy_base.specs.Device.{block_at};
 ghost use Rattle.thy_dram.specs.Contents.{fresh, written, drained, lost};
 
-use crate::draws::fill_blocks;
+use crate::draws::drawn_at;
+use crate::jumps::{Jump, block_powers};
 use std::alloc::{AllocError, Global};
 use std::marker::Model;
 use thy_base::Block;
 use thy_ring::Ring;
 
 /// A volatile memory whose writes are queued before they land. Only `new` allocates, and no other
-/// call can fail.
+/// call can fail. A loss of power takes no draws: a block that is read before it was written again takes its own then.
 #[derive(Drop)]
 pub struct Dram {
     ring: Ring,
+    // Which blocks were written since power was lost last. If it never was, all count as written.
+    marks: Vec<bool>,
+    // The pick of that loss.
+    pick: u64,
+    // The jumps over 2^k blocks' draws.
+    powers: Vec<Jump>,
 }
 
 impl Model for Dram {
-    ghost use Rattle.std.specs.Prelude.{◌<◌};
-    ghost use Rattle.thy_dram.specs.Contents.{Contents, contents_in};
+    ghost use Rattle.thy_dram.specs.Contents.{Contents};
+    ghost use Rattle.thy_dram.specs.Parts.{contents_in, IsSoundDram};
 
     ghost Value = { Contents };
 
-    ghost view = { λ d. contents_in d.ring };
+    ghost view = { λ d. contents_in d.ring d.marks.items d.pick };
 
-    ghost invariant = { λ d. 0 < d.ring.room };
+    ghost invariant = { λ d. IsSoundDram d.ring d.marks.items d.powers.items };
 }
 
 impl Dram {
@@ -34,15 +41,26 @@ impl Dram {
         ensures { IfOk result (λ d. d ≡ fresh blocks queue) }
     {
         let ring = Ring::with_blocks(alloc, blocks, queue, Vec::new(alloc))?;
-        Ok(Dram { ring })
+        let marks = Vec::from_elem(alloc, true, blocks as usize)?;
+        let powers = block_powers(alloc)?;
+        Ok(Dram {
+            ring,
+            marks,
+            pick: 0,
+            powers,
+        })
     }
 
-    /// The block at a place, as it was last written.
+    /// The block at a place, as it was last written, or as the last loss of power left it.
     pub fn read(&self, at: u64) -> Block
         requires { at < length self.now.blocks }
         ensures { result ≡ block_at self.now.blocks at }
     {
-        self.ring.read(at)
+        if self.marks[at as usize] {
+            self.ring.read(at)
+        } else {
+            drawn_at(&self.powers, at, self.pick)
+        }
     }
 
     /// Writes a block at a place. If the queue is full, its oldest write lands first.
@@ -50,6 +68,7 @@ impl Dram {
         requires { at < length self.old.blocks }
         ensures { self.new ≡ written self.old at block.now }
     {
+        self.marks[at as usize] = true;
         self.ring.write(at, block);
     }
 
@@ -74,6 +93,7 @@ impl Dram {
         ensures { self.new ≡ lost self.old pick }
     {
         self.ring.clear_queue();
-        fill_blocks(&mut self.ring, pick);
+        self.marks.fill(false);
+        self.pick = pick;
     }
 }

@@ -1,9 +1,10 @@
 //! Bytes drawn from a seed.
-ghost use Rattle.std.specs.Prelude.{◌≡◌, ℕ, List};
-ghost use Rattle.thy_dram.specs.Draws.{bytes_over, after_bytes, drawn_block, after_block, filled};
+ghost use Rattle.std.specs.Prelude.{◌≡◌, ◌*◌, ℕ, List};
+ghost use Rattle.thy_dram.specs.Draws.{bytes_over, after_bytes, drawn_block, after_block};
+ghost use Rattle.thy_dram.specs.Jumps.{after_draws, block_powers};
 
+use crate::jumps::{Jump, state_at};
 use thy_base::{BLOCK_SIZE, Block, Lcg};
-use thy_ring::Ring;
 
 /// Writes over each byte the low 8 bits of one draw.
 #[tactic(auto, unfolding(crate::specs::Draws::bytes_over, crate::specs::Draws::after_bytes))]
@@ -27,13 +28,12 @@ fn next_block(draws: &mut Lcg) -> Block
     Block(bytes)
 }
 
-/// Writes drawn bytes over each block of the image, in order. The queue stays.
-pub(crate) fn fill_blocks(ring: &mut Ring, seed: u64)
-    ensures { ring.new ≡ filled seed ring.old }
+/// The block that a seed draws for a place, if each block before it has taken its own draws. The table has the jumps over
+/// blocks.
+pub(crate) fn drawn_at(powers: &[Jump], at: u64, seed: u64) -> Block
+    requires { powers.now ≡ block_powers }
+    ensures { result ≡ drawn_block (after_draws (at * 64) seed) }
 {
-    let mut draws = Lcg::new(seed);
-    for x in 0..ring.image().len() {
-        let block = next_block(&mut draws);
-        ring.put(x as u64, &block);
-    }
+    let mut draws = Lcg::new(state_at(powers, at, seed));
+    next_block(&mut draws)
 }

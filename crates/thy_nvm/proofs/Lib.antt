@@ -1,3 +1,4 @@
 pub mod CallLemmas
 pub mod KeptLemmas
+pub mod OverLemmas
 pub mod PickLemmas

@@ -2,3 +2,4 @@ pub mod Calls
 pub mod Kept
 pub mod DeviceInMemory
 pub mod Pick
+pub mod Overlaid

@@ -2,7 +2,7 @@
 use Rattle.std.specs.Prelude.{ℕ, ◌+◌, ◌%◌, ◌==◌, if◌then◌else◌, List, [], ◌∷◌, length, slice_index_or}
 use Rattle.thy_base.specs.declared.block.Block.{Block}
 use Rattle.thy_base.specs.declared.nvm.Write.{Write}
-use Rattle.thy_base.specs.Device.{block_at, queued_for, applied, cut_to}
+use Rattle.thy_base.specs.Device.{Device, block_at, queued_for, applied, cut_to}
 use Rattle.thy_base.specs.Lcg.{lcg_next, lcg_draw}
 use Rattle.thy_ring.specs.Held.{Held, put_at, unqueued}
 use Rattle.thy_nvm.specs.DeviceInMemory.{InMemory, on_device}
@@ -35,6 +35,10 @@ drawn_at seed x held = put_at held x (drawn_block seed (block_at held.image x) (
 abbrev pub left_by : ℕ → Held → Held
 left_by pick held = unqueued (record held { image = picked pick held.image held.queue })
 
--- a device in memory after its power was cut with this pick
+-- a device after its power was cut with this pick
+abbrev pub cut_device : ℕ → Device → Device
+cut_device pick n = cut_to n pick (picked pick n.image n.queue)
+
+-- and a device in memory
 abbrev pub cut_by : ℕ → InMemory → InMemory
-cut_by pick = on_device (λ n. cut_to n pick (picked pick n.image n.queue))
+cut_by pick = on_device (cut_device pick)

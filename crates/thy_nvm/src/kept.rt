@@ -59,6 +59,14 @@ impl Kept {
         })
     }
 
+    /// Forgets all cuts. There is room for as many as before.
+    pub(crate) fn clear(&mut self)
+        ensures { self.new ≡ no_cuts self.old.size self.old.room }
+    {
+        self.blocks.clear();
+        self.picks.clear();
+    }
+
     /// Keeps a copy of the image that a cut left, and the cut's pick.
     pub(crate) fn keep(&mut self, image: &[Block], pick: u64)
         requires size { length image.now ≡ self.old.size }

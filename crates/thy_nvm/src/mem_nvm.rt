@@ -1,17 +1,19 @@
 //! A device that lies in the memory of the host.
 ghost use Rattle.std.specs.Prelude.{◌≡◌, ◌<◌, ◌≤◌, false, length, is_err, is_some, IfOk, OnOk, OnErr, IfErr, slice_index_or, []};
+ghost use Rattle.thy_base.specs.declared.nvm.Write.{Write as Written};
 ghost use Rattle.thy_base.specs.Counts.{Rose};
 ghost use Rattle.thy_base.specs.Device.{Device, newest, block_at, written_to, drained, settled, fitted, IsCut, IsFramed, HasFailed, HasFailedToWrite, HasFailedToFit, CountsFault, CountsWrite};
 ghost use Rattle.thy_nvm.specs.DeviceInMemory.{InMemory, fresh_device, with_device, on_device, IsFit, IsFresh, written, with_write, half_settled, failed, left_after, IsCall};
 ghost use Rattle.thy_nvm.specs.Pick.{cut_by};
-ghost use Rattle.thy_ring.specs.Held.{as_device};
+ghost use Rattle.thy_ring.specs.Held.{as_device, held_by};
 
 use crate::call_faults::{CallFaults, Fault};
 use crate::kept::Kept;
+use crate::over::block_of_image;
 use crate::pick::leave;
 use std::alloc::{AllocError, Global};
 use std::marker::Model;
-use thy_base::{Block, FitError, Nvm, NvmError, Shape};
+use thy_base::{Block, FitError, Nvm, NvmError, Shape, Write};
 use thy_ring::Ring;
 
 /// A non-volatile memory. It is empty until it is fitted. Its reads, writes, drains and barriers are numbered from 1 on,
@@ -72,6 +74,37 @@ impl MemNvm {
         ensures { result ≡ self.now.calls.made }
     {
         self.calls.made()
+    }
+
+    /// The queued write at a position, the oldest at 0, also while the device is down.
+    pub fn waiting(&self, i: u64) -> Write
+        requires { i < length self.now.device.queue }
+        ensures write { (w : Written) → slice_index_or self.now.device.queue i w ≡ result }
+        ensures place { result.at < length self.now.device.image }
+    {
+        self.ring.waiting(i)
+    }
+
+    /// How many writes are queued, also while the device is down.
+    pub fn waits(&self) -> u64
+        ensures { result ≡ length self.now.device.queue }
+    {
+        self.ring.queued()
+    }
+
+    /// The block that has landed at a place, whatever is queued for it.
+    pub fn landed(&self, at: u64) -> Block
+        requires { at < length self.now.device.image }
+        ensures { result ≡ block_at self.now.device.image at }
+    {
+        block_of_image(self.ring.image(), at)
+    }
+
+    /// Its blocks and its queue.
+    pub(crate) fn ring(&self) -> &Ring
+        ensures { result.now ≡ held_by self.now.device }
+    {
+        &self.ring
     }
 
     /// A device without blocks whose calls fail as listed.

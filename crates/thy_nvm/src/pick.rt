@@ -1,5 +1,5 @@
 //! What the pick of a cut leaves.
-ghost use Rattle.std.specs.Prelude.{◌≡◌, ◌<◌, ℕ, length};
+ghost use Rattle.std.specs.Prelude.{◌≡◌, ◌<◌, ◌^◌, ℕ, length};
 ghost use Rattle.thy_base.specs.Device.{queued_for};
 ghost use Rattle.thy_nvm.specs.Pick.{drawn_seed, drawn, drawn_at, left_by};
 
@@ -20,13 +20,24 @@ fn draw_place(ring: &mut Ring, at: u64, draws: &mut Lcg)
     }
 }
 
+/// How many places a ring has.
+fn size_of(ring: &Ring) -> u64
+    ensures size { result ≡ length ring.now.image }
+    ensures small { result < 2 ^ 64 }
+{
+    ring.image().len() as u64
+}
+
 /// Lets each place with a queued write take its draw, by rising number. The queue stays.
 fn draw_places(ring: &mut Ring, seed: u64)
     ensures { ring.new ≡ record ring.old { image = drawn seed 0 ring.old.image ring.old.queue } }
 {
+    let _size = size_of(ring);
     let mut draws = Lcg::new(seed);
-    for x in 0..ring.image().len() {
-        draw_place(ring, x as u64, &mut draws);
+    let mut from = 0;
+    'places: while let Some(x) = ring.next_queued(from) {
+        draw_place(ring, x, &mut draws);
+        from = x + 1;
     }
 }
 

@@ -1,1 +1,3 @@
 pub mod Held
+pub mod Lowest
+pub mod Merged

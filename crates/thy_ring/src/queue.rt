@@ -2,7 +2,9 @@
 ghost use Rattle.std.specs.Prelude.{◌≡◌, ◌<◌, ◌≤◌, ◌^◌, ℕ, ◌++◌, [], ◌∷◌, length, slice_set, slice_index_or, take, drop, All};
 ghost use Rattle.circular_buffer.specs.Buffer.{buffer};
 ghost use Rattle.thy_base.specs.Device.{newest_over, queued_for, applied};
+ghost use Rattle.thy_base.specs.declared.nvm.Write.{Write as Written};
 ghost use Rattle.thy_ring.specs.Held.{due_in};
+ghost use Rattle.thy_ring.specs.Lowest.{lower, lowest_over};
 
 use circular_buffer::HeapCircularBuffer;
 use thy_base::{Block, Write};
@@ -18,6 +20,41 @@ pub(crate) fn newest_queued(queue: &HeapCircularBuffer<Write>, at: u64, standing
         }
     }
     newest
+}
+
+/// The queued write at a position, the oldest at 0.
+pub(crate) fn waiting(queue: &HeapCircularBuffer<Write>, i: usize) -> Write
+    requires { i < length queue.now.items }
+    ensures { (w : Written) → slice_index_or queue.now.items i w ≡ result }
+{
+    match queue.get(i) {
+        Some(write) => *write,
+        None => unreachable!(),
+    }
+}
+
+/// Of a place, if there is one, and another, unless that is below `from`, the lower.
+fn lower(from: u64, lowest: Option<u64>, at: u64) -> Option<u64>
+    ensures { result ≡ lower from lowest at }
+{
+    if at < from {
+        return lowest;
+    }
+    match lowest {
+        Some(x) if x <= at => lowest,
+        _ => Some(at),
+    }
+}
+
+/// The lowest place from one on for which a write is queued.
+pub(crate) fn lowest_queued(queue: &HeapCircularBuffer<Write>, from: u64) -> Option<u64>
+    ensures { result ≡ lowest_over from None queue.now.items }
+{
+    let mut lowest = None;
+    for write in queue.iter() {
+        lowest = lower(from, lowest, write.at);
+    }
+    lowest
 }
 
 /// How many writes are queued for a place.

@@ -1,10 +1,13 @@
 //! The ring.
-ghost use Rattle.std.specs.Prelude.{◌≡◌, ◌<◌, ◌≤◌, ◌-◌, ◌^◌, ◌++◌, length, replicate, IfOk};
+ghost use Rattle.std.specs.Prelude.{◌≡◌, ◌<◌, ◌≤◌, ◌-◌, ◌^◌, ◌++◌, length, replicate, slice_index_or, IfOk, IfSome};
 ghost use Rattle.thy_base.specs.Device.{zero_block, queued_for, newest, written_to, drained, settled};
+ghost use Rattle.thy_base.specs.declared.nvm.Write.{Write as Written};
+ghost use Rattle.thy_ring.specs.Lowest.{IsLowestOf};
 ghost use Rattle.thy_ring.specs.Held.{nothing, device_of, as_device, made, choice_at, put_at, unqueued};
 
 use crate::room::{
-    apply_all_in, apply_oldest_in, choice_in, clear_in, count_in, len_of, newest_in, push_in,
+    apply_all_in, apply_oldest_in, choice_in, clear_in, count_in, len_of, lowest_in, newest_in,
+    push_in, waiting_in,
 };
 use circular_buffer::HeapCircularBuffer;
 use std::alloc::{AllocError, Global};
@@ -80,6 +83,24 @@ impl Ring {
         ensures small { result < 2 ^ 63 }
     {
         count_in(&self.queue, at) as u64
+    }
+
+    /// The lowest place from one on for which a write is queued.
+    pub fn next_queued(&self, from: u64) -> Option<u64>
+        ensures lowest { IsLowestOf self.now.queue from result }
+        ensures place { IfSome result (λ x. x < length self.now.image) }
+    {
+        let _ = &self.image;
+        lowest_in(&self.queue, from)
+    }
+
+    /// The queued write at a position, the oldest at 0.
+    pub fn waiting(&self, i: u64) -> Write
+        requires { i < length self.now.queue }
+        ensures write { (w : Written) → slice_index_or self.now.queue i w ≡ result }
+        ensures place { result.at < length self.now.image }
+    {
+        waiting_in(&self.queue, i as usize)
     }
 
     /// The newest block queued for a place, else the image's block there.

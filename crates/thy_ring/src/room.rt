@@ -1,9 +1,13 @@
 //! The queue of a ring; a ring without room for writes has none.
 ghost use Rattle.std.specs.Prelude.{◌≡◌, ◌<◌, ◌≤◌, ◌^◌, ℕ, ◌++◌, [], ◌∷◌, length, slice_index_or, take, drop, All};
 ghost use Rattle.thy_base.specs.Device.{newest_over, queued_for, applied};
+ghost use Rattle.thy_base.specs.declared.nvm.Write.{Write as Written};
 ghost use Rattle.thy_ring.specs.Held.{queued_in, room_in, due_in};
+ghost use Rattle.thy_ring.specs.Lowest.{IsLowestOf};
 
-use crate::queue::{apply_all, apply_oldest, choice, count_for, newest_queued, push_write};
+use crate::queue::{
+    apply_all, apply_oldest, choice, count_for, lowest_queued, newest_queued, push_write, waiting,
+};
 use circular_buffer::HeapCircularBuffer;
 use thy_base::{Block, Write};
 
@@ -18,6 +22,16 @@ pub(crate) fn len_of(queue: &Option<HeapCircularBuffer<Write>>) -> usize
     }
 }
 
+/// The lowest place from one on for which a write is queued.
+pub(crate) fn lowest_in(queue: &Option<HeapCircularBuffer<Write>>, from: u64) -> Option<u64>
+    ensures { IsLowestOf (queued_in queue.now) from result }
+{
+    match queue {
+        None => None,
+        Some(queue) => lowest_queued(queue, from),
+    }
+}
+
 /// How many writes are queued for a place.
 pub(crate) fn count_in(queue: &Option<HeapCircularBuffer<Write>>, at: u64) -> usize
     ensures count { result ≡ length (queued_for (queued_in queue.now) at) }
@@ -26,6 +40,17 @@ pub(crate) fn count_in(queue: &Option<HeapCircularBuffer<Write>>, at: u64) -> us
     match queue {
         None => 0,
         Some(queue) => count_for(queue, at),
+    }
+}
+
+/// The queued write at a position, the oldest at 0.
+pub(crate) fn waiting_in(queue: &Option<HeapCircularBuffer<Write>>, i: usize) -> Write
+    requires { i < length (queued_in queue.now) }
+    ensures { (w : Written) → slice_index_or (queued_in queue.now) i w ≡ result }
+{
+    match queue {
+        None => unreachable!(),
+        Some(queue) => waiting(queue, i),
     }
 }
 

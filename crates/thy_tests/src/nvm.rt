@@ -5,7 +5,7 @@ ghost use Rattle.thy_base.specs.Device.{IsFramed};
 use crate::support::expect::expect;
 use std::process::Abort;
 use thy_base::{Block, Nvm, Shape};
-use thy_nvm::MemNvm;
+use thy_nvm::{MemNvm, Overlay, Spare};
 
 // The first draws of the seed 7 are 1059165278 and 2052263231: modulo the three blocks of place
 // 0 the newest write, and modulo the two of place 2 the only one.
@@ -28,6 +28,34 @@ fn a_pick_leaves_its_image(rt: HostRuntime) {
     expect(&rt, nvm.kept(0, 0), Block([3; 64]));
     expect(&rt, nvm.kept(0, 1), Block::ZERO);
     expect(&rt, nvm.kept(0, 2), Block([5; 64]));
+}
+
+// The same draws. What is written to the copy is not in the device, nor in the next copy.
+#[test]
+fn a_copy_holds_what_a_pick_leaves(rt: HostRuntime) {
+    let shape = Shape {
+        blocks: 3,
+        queue: 4,
+        cuts: 0,
+    };
+    let mut nvm = MemNvm::new(rt.alloc());
+    let start = Vec::from_slice(rt.alloc(), &[Block([1; 64])]).expect(&rt, "memory");
+    nvm.fit(rt.alloc(), &shape, start).expect(&rt, "memory");
+    nvm.write(2, &Block([5; 64])).expect(&rt, "a write");
+    nvm.write(0, &Block([2; 64])).expect(&rt, "a write");
+    nvm.write(0, &Block([3; 64])).expect(&rt, "a write");
+    let spare = Spare::new(rt.alloc(), &shape).expect(&rt, "memory");
+    let mut copy = Overlay::of(spare, &nvm, 7);
+    expect(&rt, copy.queued(), 0);
+    expect(&rt, copy.read(0).expect(&rt, "a read"), Block([3; 64]));
+    expect(&rt, copy.read(1).expect(&rt, "a read"), Block::ZERO);
+    expect(&rt, copy.read(2).expect(&rt, "a read"), Block([5; 64]));
+    copy.write(1, &Block([9; 64])).expect(&rt, "a write");
+    expect(&rt, copy.read(1).expect(&rt, "a read"), Block([9; 64]));
+    let mut other = Overlay::of(copy.into_spare(), &nvm, 0);
+    expect(&rt, other.read(0).expect(&rt, "a read"), Block([1; 64]));
+    expect(&rt, other.read(1).expect(&rt, "a read"), Block::ZERO);
+    expect(&rt, other.read(2).expect(&rt, "a read"), Block::ZERO);
 }
 
 /// Writes a block of ones at place 0 of any device, and lets it land.

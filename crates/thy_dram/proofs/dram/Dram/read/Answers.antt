@@ -1,16 +1,36 @@
-use Rattle.std.proofs.Common.{◌<◌, length, ◌∙◌, sym, ap, arith}
+use Rattle.std.proofs.Common.{◌≡◌, true, false, sym, ◌∙◌, ap, arith}
+use Rattle.std.proofs.lemmas.List.{get_or_read}
 use Rattle.thy_base.specs.Device.{block_at}
-use Rattle.thy_base.proofs.DeviceLemmas.{length-applied, block_at-applied}
+use Rattle.thy_ring.specs.Merged.{is_marked}
+use Rattle.thy_dram.proofs.DramLemmas.{within, read-marked, read-unmarked}
 use Rattle.thy_dram.proofs.dram.Dram.read.Goals as goal
+
+pub index-requires : goal.index-requires
+index-requires c =
+    omega (
+      arith,
+      (within c.self.inside.ring c.self.inside.marks.items c.self.inside.pick c.args.at c.args.self.now c.self.view_is c.self.invariant.marked c.requires).0,
+      c.self.inside.marks.ok.0,
+    )
 
 pub read-requires : goal.read-requires
 read-requires c =
-    omega (arith, c.requires, ap (λ d. length d.blocks) c.self.view_is, length-applied c.self.inside.ring.image c.self.inside.ring.queue)
+    (within c.self.inside.ring c.self.inside.marks.items c.self.inside.pick c.args.at c.args.self.now c.self.view_is c.self.invariant.marked c.requires).1
 
-pub returns : goal.returns
-returns c =
-    let inside : c.args.at < length c.self.inside.ring.image
-    = omega (arith, c.requires, ap (λ d. length d.blocks) c.self.view_is, length-applied c.self.inside.ring.image c.self.inside.ring.queue) in
+pub returns-then-index : goal.returns-then-index
+returns-then-index c =
+    let inside = within c.self.inside.ring c.self.inside.marks.items c.self.inside.pick c.args.at c.args.self.now c.self.view_is c.self.invariant.marked c.requires in
+    let marked : is_marked c.self.inside.marks.items c.args.at ≡ true
+    = sym (get_or_read c.self.inside.marks.items c.args.at c.index.result.now inside.0 c.index.ensures false) ∙ c.if-index.true in
     c.read.ensures
-    ∙ sym (block_at-applied c.self.inside.ring.image c.self.inside.ring.queue c.args.at inside)
+    ∙ read-marked c.self.inside.ring c.self.inside.marks.items c.self.inside.pick c.args.at c.self.invariant.marked inside.1 marked
+    ∙ ap (λ d. block_at d.blocks c.args.at) c.self.view_is
+
+pub returns-else-index : goal.returns-else-index
+returns-else-index c =
+    let inside = within c.self.inside.ring c.self.inside.marks.items c.self.inside.pick c.args.at c.args.self.now c.self.view_is c.self.invariant.marked c.requires in
+    let unmarked : is_marked c.self.inside.marks.items c.args.at ≡ false
+    = sym (get_or_read c.self.inside.marks.items c.args.at c.index.result.now inside.0 c.index.ensures false) ∙ c.if-index.false in
+    c.drawn_at.ensures
+    ∙ read-unmarked c.self.inside.ring c.self.inside.marks.items c.self.inside.pick c.args.at c.self.invariant.marked inside.1 unmarked
     ∙ ap (λ d. block_at d.blocks c.args.at) c.self.view_is

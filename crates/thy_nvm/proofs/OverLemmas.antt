@@ -1,0 +1,135 @@
+-- Blocks that were written over those of another image, and a device of them, after its calls.
+use Rattle.std.proofs.Common.{◌≡◌, ℕ, suc, ◌+◌, ◌<◌, ◌==◌, if◌then◌else◌, Bool, true, false, List, [], ◌∷◌, ◌++◌, length, take, drop, slice_set, slice_index_or, refl, sym, ◌∙◌, ap, arith}
+use Rattle.std.proofs.lemmas.Bool.{lt-ltb}
+use Rattle.std.proofs.lemmas.List.{get_or_default}
+use Rattle.thy_base.specs.declared.block.Block.{Block}
+use Rattle.thy_base.specs.declared.nvm.Write.{Write}
+use Rattle.thy_base.specs.Device.{zero_block, block_at, queued_for, newest_over, applied, newest, landed, settled, surplus, written_to, write_of}
+use Rattle.thy_ring.specs.Held.{Held, device_of, as_device}
+use Rattle.thy_ring.specs.Merged.{merged, is_marked, AreMarked}
+use Rattle.thy_ring.proofs.MergedLemmas.{length-merged, block_at-merged, merged-applied, merged-copy, AreMarked-append, AreMarked-take, AreMarked-drop, queued_for-unmarked, newest_over-unmarked}
+use Rattle.thy_nvm.specs.Overlaid.{over_below}
+use Rattle.thy_nvm.specs.Pick.{drawn_block, drawn_seed, drawn, picked, left_by}
+
+-- ---- picks
+
+-- draws change only places that are marked, if each queued write is for one of these
+merged-drawn : (ms : List Bool) (xs ys : List Block) (seed from : ℕ) (queue : List Write) → length xs ≡ length ms
+    → ((x : ℕ) → is_marked ms x ≡ false → queued_for queue (from + x) ≡ [])
+    → merged ms (drawn seed from xs queue) ys ≡ drawn seed from (merged ms xs ys) queue
+merged-drawn [] [] ys seed from queue same none = refl
+merged-drawn [] (x ∷ xs) ys seed from queue same none = absurd (omega arith)
+merged-drawn (m ∷ ms) [] ys seed from queue same none = absurd (omega arith)
+merged-drawn (true ∷ ms) (x ∷ xs) ys seed from queue same none =
+    let rest : (y : ℕ) → is_marked ms y ≡ false → queued_for queue (from + 1 + y) ≡ []
+    = λ y u. let e : from + 1 + y ≡ from + suc y = omega arith in ap (queued_for queue) e ∙ none (suc y) u in
+    ap (λ bs. drawn_block seed x (queued_for queue from) ∷ bs)
+    (merged-drawn ms xs (drop 1 ys) (drawn_seed seed (queued_for queue from)) (from + 1) queue (omega arith) rest)
+merged-drawn (false ∷ ms) (x ∷ xs) ys seed from queue same none =
+    let rest : (y : ℕ) → is_marked ms y ≡ false → queued_for queue (from + 1 + y) ≡ []
+    = λ y u. let e : from + 1 + y ≡ from + suc y = omega arith in ap (queued_for queue) e ∙ none (suc y) u in
+    let here : from ≡ from + 0 = omega arith in
+    let empty : queued_for queue from ≡ [] = ap (queued_for queue) here ∙ none 0 refl in
+    let below : Block = block_at ys 0 in
+    ap (λ b. b ∷ merged ms (drawn (drawn_seed seed (queued_for queue from)) (from + 1) xs queue) (drop 1 ys))
+    (sym (ap (drawn_block seed below) empty))
+    ∙ ap (λ bs. drawn_block seed below (queued_for queue from) ∷ bs)
+    (merged-drawn ms xs (drop 1 ys) (drawn_seed seed (queued_for queue from)) (from + 1) queue (omega arith) rest)
+
+-- what a pick leaves of the written blocks is what it leaves of all
+pub merged-picked : (pick : ℕ) (ms : List Bool) (xs ys : List Block) (queue : List Write) → length xs ≡ length ms → AreMarked ms queue
+    → merged ms (picked pick xs queue) ys ≡ picked pick (merged ms xs ys) queue
+merged-picked pick ms xs ys queue same marked =
+    elim (pick == 0)
+    as (λ t. merged ms (if t then xs else (if pick == 1 then applied xs queue else drawn pick 0 xs queue)) ys
+    ≡ (if t then merged ms xs ys else (if pick == 1 then applied (merged ms xs ys) queue else drawn pick 0 (merged ms xs ys) queue))) [
+      | true ↦ refl
+      | false ↦ elim (pick == 1)
+          as (λ t. merged ms (if t then applied xs queue else drawn pick 0 xs queue) ys
+          ≡ (if t then applied (merged ms xs ys) queue else drawn pick 0 (merged ms xs ys) queue)) [
+            | true ↦ merged-applied ms xs ys queue same marked
+            | false ↦ merged-drawn ms xs ys pick 0 queue same (λ x u.
+                let e : 0 + x ≡ x = omega arith in
+                ap (queued_for queue) e ∙ queued_for-unmarked ms queue x marked u)
+          ]
+    ]
+
+-- ---- blocks that are taken up
+
+-- a block is copied from below
+pub merged-taken : (ms : List Bool) (xs ys : List Block) (at : ℕ) (d : Block) → length xs ≡ length ms → length ys ≡ length ms → at < length ms
+    → is_marked ms at ≡ false → merged (slice_set ms at true) (slice_set xs at (slice_index_or ys at d)) ys ≡ merged ms xs ys
+merged-taken ms xs ys at d same as_many l unmarked =
+    let inside : at < length ys = omega arith in
+    ap (λ b. merged (slice_set ms at true) (slice_set xs at b) ys) (get_or_default ys at d zero_block inside)
+    ∙ merged-copy ms xs ys at same l unmarked
+
+-- a write that is queued where there is room
+pub written-room : (held : Held) (w : Write) → length held.queue < held.room
+    → as_device (λ n. written_to n w.at w.block) held ≡ record held { queue = held.queue ++ w ∷ [] }
+written-room held w l =
+    ap (λ t. record {
+      image = applied held.image (take (if t then 0 else 1) held.queue);
+      queue = drop (if t then 0 else 1) held.queue ++ w ∷ [];
+      room = held.room;
+    }) (lt-ltb (length held.queue) held.room l)
+
+-- ---- a ring over blocks below
+
+-- rings that hold the same
+pub same_held : (a b : Held) → a.image ≡ b.image → a.queue ≡ b.queue → a.room ≡ b.room → a ≡ b
+same_held a b image queue room =
+    ap (λ i. record { image = i; queue = a.queue; room = a.room }) image
+    ∙ ap (λ q. record { image = b.image; queue = q; room = a.room }) queue
+    ∙ ap (λ r. record { image = b.image; queue = b.queue; room = r }) room
+
+pub over-left : (pick : ℕ) (held : Held) (ms : List Bool) (below : List Block) → length held.image ≡ length ms → AreMarked ms held.queue
+    → over_below (left_by pick held) ms below ≡ left_by pick (over_below held ms below)
+over-left pick held ms below same marked =
+    ap (λ i. record { image = i; queue = []; room = held.room }) (merged-picked pick ms held.image below held.queue same marked)
+
+pub over-landed : (k : ℕ) (held : Held) (ms : List Bool) (below : List Block) → length held.image ≡ length ms → AreMarked ms held.queue
+    → over_below (as_device (landed k) held) ms below ≡ as_device (landed k) (over_below held ms below)
+over-landed k held ms below same marked =
+    ap (λ i. record { image = i; queue = drop k held.queue; room = held.room })
+    (merged-applied ms held.image below (take k held.queue) same (AreMarked-take ms k held.queue marked))
+
+pub over-settled : (held : Held) (ms : List Bool) (below : List Block) → length held.image ≡ length ms → AreMarked ms held.queue
+    → over_below (as_device settled held) ms below ≡ as_device settled (over_below held ms below)
+over-settled held ms below same marked =
+    ap (λ i. record { image = i; queue = []; room = held.room }) (merged-applied ms held.image below held.queue same marked)
+
+pub over-written : (held : Held) (ms : List Bool) (below : List Block) (at : ℕ) (block : Block) → length held.image ≡ length ms → AreMarked ms held.queue
+    → over_below (as_device (λ n. written_to n at block) held) ms below ≡ as_device (λ n. written_to n at block) (over_below held ms below)
+over-written held ms below at block same marked =
+    let k : ℕ = surplus (device_of held) in
+    ap (λ i. record { image = i; queue = drop k held.queue ++ write_of at block ∷ []; room = held.room })
+    (merged-applied ms held.image below (take k held.queue) same (AreMarked-take ms k held.queue marked))
+
+-- after one more write for a marked place each queued write is still for one
+pub AreMarked-written : (held : Held) (ms : List Bool) (at : ℕ) (block : Block) → is_marked ms at ≡ true → AreMarked ms held.queue
+    → AreMarked ms (as_device (λ n. written_to n at block) held).queue
+AreMarked-written held ms at block here marked =
+    let k : ℕ = surplus (device_of held) in
+    AreMarked-append ms (drop k held.queue) (write_of at block ∷ []) (AreMarked-drop ms k held.queue marked) (here, tt)
+
+-- a read of a marked place
+pub newest-marked : (held : Held) (ms : List Bool) (below : List Block) (at : ℕ) → at < length ms → is_marked ms at ≡ true
+    → newest (device_of held) at ≡ newest (device_of (over_below held ms below)) at
+newest-marked held ms below at l marked =
+    let here : block_at (merged ms held.image below) at ≡ block_at held.image at
+    = block_at-merged ms held.image below at l ∙ ap (λ t. if t then block_at held.image at else block_at below at) marked in
+    ap (λ b. newest_over b held.queue at) (sym here)
+
+-- of a place without a write over it
+pub newest-unmarked : (held : Held) (ms : List Bool) (below : List Block) (at : ℕ) → at < length ms → AreMarked ms held.queue → is_marked ms at ≡ false
+    → block_at below at ≡ newest (device_of (over_below held ms below)) at
+newest-unmarked held ms below at l queued unmarked =
+    let here : block_at (merged ms held.image below) at ≡ block_at below at
+    = block_at-merged ms held.image below at l ∙ ap (λ t. if t then block_at held.image at else block_at below at) unmarked in
+    sym (newest_over-unmarked (block_at (merged ms held.image below) at) ms held.queue at queued unmarked ∙ here)
+
+-- a place of what is held is one of those that have a mark
+pub inside_over : (at : ℕ) (held : Held) (ms : List Bool) (below : List Block) {image : List Block} → merged ms held.image below ≡ image
+    → at < length image → at < length ms
+inside_over at held ms below is l = omega (arith, l, ap length is, length-merged ms held.image below)

@@ -1,0 +1,54 @@
+-- A device over the image of another one: what it holds, and how it lies in memory.
+use Rattle.std.specs.Prelude.{◌≡◌, ℕ, false, Bool, List, [], length}
+use Rattle.thy_base.specs.declared.block.Block.{Block}
+use Rattle.thy_base.specs.Counts.{next}
+use Rattle.thy_base.specs.Device.{Device, written_to}
+use Rattle.thy_ring.specs.Held.{Held}
+use Rattle.thy_ring.specs.Merged.{merged, AreMarked}
+use Rattle.thy_nvm.specs.DeviceInMemory.{InMemory, device_in, failed}
+use Rattle.thy_nvm.specs.Kept.{no_cuts}
+use Rattle.thy_nvm.specs.Pick.{picked}
+
+pub record Overlaid : Type 0 where
+  pub device : Device
+  -- how many writes it has taken; it saturates
+  pub writes : ℕ
+
+abbrev pub overlaid : Device → ℕ → Overlaid
+overlaid device writes = record { device = device; writes = writes }
+
+-- a ring whose blocks count where they are marked; elsewhere those below do
+abbrev pub over_below : Held → List Bool → List Block → Held
+over_below held marks below = record held { image = merged marks held.image below }
+
+-- what a cut with this pick leaves of a device in memory, on a device that has kept no image yet, and can keep this number
+abbrev pub left_of : ℕ → InMemory → ℕ → Overlaid
+left_of pick m cuts =
+    overlaid (device_in (record { image = picked pick m.device.image m.device.queue; queue = []; room = m.device.queue_room })
+    (no_cuts (length m.device.image) cuts) false 0 0) 0
+
+-- after a call that writes nothing
+abbrev pub on_overlay : (Device → Device) → Overlaid → Overlaid
+on_overlay call o = record o { device = call o.device }
+
+-- after a write
+abbrev pub written_over : ℕ → Block → Overlaid → Overlaid
+written_over at block o = overlaid (written_to o.device at block) (next o.writes)
+
+-- after a fit: it fails, and is counted
+abbrev pub fit_failed : Device → Device
+fit_failed n = failed (record n { fits = next n.fits })
+
+-- what holds of the parts
+pub record IsSoundOverlay (held : Held) (marks : List Bool) (below : List Block) (size : ℕ) : Type 0 where
+  -- the ring, the marks, the blocks below and what is kept of cuts have one size
+  pub blocks : length held.image ≡ length marks
+  pub as_many : length below ≡ length marks
+  pub kept : size ≡ length marks
+  -- each queued write is for a marked place
+  pub marked : AreMarked marks held.queue
+
+-- what holds of the parts of the room for such a device
+pub record IsSoundSpare (held : Held) (marks : List Bool) (size : ℕ) : Type 0 where
+  pub blocks : length held.image ≡ length marks
+  pub kept : size ≡ length marks

@@ -1,0 +1,2 @@
+pub mod LowestLemmas
+pub mod MergedLemmas

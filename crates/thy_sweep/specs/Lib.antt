@@ -1,0 +1,4 @@
+pub mod Images
+pub mod Leads
+pub mod Repeats
+pub mod Sums

@@ -1,0 +1,17 @@
+//! What a sweep tries and keeps. After each cycle of a run it boots copies of what a cut could leave there. Here is said
+//! which images these are, and boots are counted by the checkpoints to which they led.
+//!
+//! Open specs/Images.antt and specs/Leads.antt first, and src/lead.rt. It stands on thy_base and thy_nvm; nothing stands on it yet.
+#![tactic(auto)]
+
+mod images;
+mod lead;
+mod repeats;
+mod seen;
+mod sums;
+
+pub use images::every_image_of_a_cut_is_listed;
+pub use lead::{Booted, Lead, leads_are_of_their_boots, note_boot};
+pub use repeats::the_same_queue_is_the_same_device;
+pub use seen::is_still;
+pub use sums::Sums;
