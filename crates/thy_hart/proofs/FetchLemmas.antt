@@ -1,5 +1,5 @@
 -- The fetch reads one block.
-use Rattle.std.proofs.Common.{◌≡◌, ℕ, ◌+◌, ◌-◌, ◌%◌, ◌<◌, ◌≤◌, ◌==◌, Bool, true, false, if◌then◌else◌, List, ◌++◌, length, Option, Some, None, refl, sym, ◌∙◌, ap, subst, drop, append-nil, arith}
+use Rattle.std.proofs.Common.{◌≡◌, ℕ, ◌+◌, ◌-◌, ◌%◌, ◌<◌, ◌≤◌, ◌==◌, Bool, true, false, if◌then◌else◌, List, ◌++◌, length, Option, Some, None, Ok, Err, refl, sym, ◌∙◌, ap, subst, drop, append-nil, arith}
 use Rattle.std.proofs.lemmas.Bool.Decides.{nat_tests}
 use Rattle.thy_base.specs.declared.block.Block.{Block}
 use Rattle.thy_base.specs.declared.config.Parameters.{Parameters}
@@ -18,6 +18,7 @@ use Rattle.thy_isa.specs.declared.state.Cause.{Cause}
 use Rattle.thy_isa.specs.declared.state.Cause.TheVariants.{FetchMisaligned, FetchAccess}
 use Rattle.thy_isa.specs.declared.state.CpuState.{CpuState}
 use Rattle.thy_isa.specs.declared.state.Effect.{Effect}
+use Rattle.thy_isa.specs.declared.state.Effect.TheVariants.{Trap}
 use Rattle.thy_isa.specs.declared.state.OtherHart.{OtherHart}
 use Rattle.thy_isa.specs.Access.{IsWithin}
 use Rattle.thy_isa.specs.Effects.{word_effect}
@@ -26,7 +27,7 @@ use Rattle.thy_isa.specs.Step.{fetch_fault, fetched as unless_trapped, within}
 use Rattle.thy_isa.proofs.AccessLaws.{within-is}
 use Rattle.thy_isa.proofs.BlockLaws.{fetch_inside}
 use Rattle.thy_hart.specs.HartState.{unless_fault, fetched_block}
-use Rattle.thy_hart.specs.MicroSteps.{ReadsWord, FetchesEffect}
+use Rattle.thy_hart.specs.MicroSteps.{IsFetchedSpan, ReadsWord, FetchesEffect}
 
 -- ---- a word that can be fetched
 
@@ -68,13 +69,6 @@ fetched_low p q size pc fault same size_is fault_is none =
 whole_word : (p : Parameters) (pc : ℕ) → IsInRange p → IsFetched p pc → first_byte (span (pc - p.base) 4) + 4 ≤ 64
 whole_word p pc r w = omega (arith, w.low, w.aligned, base_aligned p r)
 
-pub fetched_whole : (p q : Parameters) (size pc : ℕ) (fault : Option Cause) → IsInRange p → q ≡ p → size ≡ program_size p
-    → fault ≡ fetch_fault q.base size pc → fault ≡ None → first_byte (span (pc - q.base) 4) + 4 ≤ 64
-fetched_whole p q size pc fault r same size_is fault_is none =
-    let w = fetched_inside p pc (fetch_none p q size pc fault same size_is fault_is none) in
-    let P : Parameters → Type 0 = λ g. first_byte (span (pc - g.base) 4) + 4 ≤ 64 in
-    subst P (sym same) (whole_word p pc r w)
-
 pub word_inside : (p : Parameters) (pc : ℕ) → IsFetched p pc → first_block (span (pc - p.base) 4) < memory_blocks p
 word_inside p pc w = omega (arith, w.low, w.high)
 
@@ -106,21 +100,33 @@ word_read c at block word four whole reads number blocks inside =
 
 -- ---- the effect
 
-pub effect_read : (p q : Parameters) (size : ℕ) (cpu : CpuState) (c : Contents) (fault : Option Cause) (word : ℕ) (e now : Effect) → q ≡ p → size ≡ program_size p
-    → fault ≡ fetch_fault q.base size cpu.pc → fault ≡ None → ReadsWord c (span (cpu.pc - q.base) 4) word
-    → e ≡ word_effect word cpu.pc cpu.regs → now ≡ within q.base size cpu.other e → FetchesEffect p cpu c now
+pub span_len : (p : Parameters) (cpu : CpuState) (at : Span) → IsFetchedSpan p cpu (Ok at) → at.len ≡ 4
+span_len p cpu at h = ap (λ (s : Span). s.len) h.1
+
+pub span_whole : (p : Parameters) (cpu : CpuState) (at : Span) → IsInRange p → IsFetchedSpan p cpu (Ok at) → first_byte at + 4 ≤ 64
+span_whole p cpu at r h = subst (λ s. first_byte s + 4 ≤ 64) (sym h.1) (whole_word p cpu.pc r (fetched_inside p cpu.pc h.0))
+
+pub effect_read : (p q : Parameters) (size : ℕ) (cpu : CpuState) (c : Contents) (at : Span) (word : ℕ) (e now : Effect) → IsFetchedSpan p cpu (Ok at)
+    → q ≡ p → size ≡ program_size p → ReadsWord c at word → e ≡ word_effect word cpu.pc cpu.regs → now ≡ within q.base size cpu.other e
+    → FetchesEffect p cpu c now
 unfolding effect_in
-effect_read p q size cpu c fault word e now same size_is fault_is none reads means is blocks whole =
-    let no_fault = fetch_none p q size cpu.pc fault same size_is fault_is none in
-    let w = fetched_inside p cpu.pc no_fault in
+effect_read p q size cpu c at word e now h same size_is reads means is blocks whole =
+    let w = fetched_inside p cpu.pc h.0 in
     let number : ℕ = number_at 4 (gathered (flat c blocks) (span (cpu.pc - p.base) 4)) 0 in
-    let here : ReadsWord c (span (cpu.pc - p.base) 4) word = subst (λ (g : Parameters). ReadsWord c (span (cpu.pc - g.base) 4) word) same reads in
+    let here : ReadsWord c (span (cpu.pc - p.base) 4) word = subst (λ s. ReadsWord c s word) h.1 reads in
     let inside : first_block (span (cpu.pc - p.base) 4) < length blocks = omega (arith, word_inside p cpu.pc w, whole) in
     is
     ∙ ap (λ (g : Parameters). within g.base size cpu.other e) same
     ∙ ap (λ (n : ℕ). within p.base n cpu.other e) size_is
     ∙ ap (within p.base (program_size p) cpu.other) (means ∙ ap (λ n. word_effect n cpu.pc cpu.regs) (here blocks inside))
-    ∙ ap (λ f. unless_trapped f (within p.base (program_size p) cpu.other (word_effect number cpu.pc cpu.regs))) (sym no_fault)
+    ∙ ap (λ f. unless_trapped f (within p.base (program_size p) cpu.other (word_effect number cpu.pc cpu.regs))) (sym h.0)
+
+-- one that can't be fetched
+pub effect_trapped : (p : Parameters) (cpu : CpuState) (memory : List Block) (cause : Cause) → IsFetchedSpan p cpu (Err cause) → effect_in p cpu memory ≡ Trap cause
+unfolding effect_in
+effect_trapped p cpu memory cause h =
+    let number : ℕ = number_at 4 (gathered memory (span (cpu.pc - p.base) 4)) 0 in
+    ap (λ f. unless_trapped f (within p.base (program_size p) cpu.other (word_effect number cpu.pc cpu.regs))) h
 
 -- an effect that was tested
 pub tested : (p q : Parameters) (size : ℕ) (o : Option OtherHart) (e now : Effect) → q ≡ p → size ≡ program_size p → now ≡ within q.base size o e
@@ -137,18 +143,11 @@ unless_some None n b h = (refl, cc h)
 unless_some (Some cause) n b h = cc h
 
 -- it is touched if there is no fault
-pub fetched_some : (p q : Parameters) (size : ℕ) (cpu : CpuState) (fault : Option Cause) → q ≡ p → size ≡ program_size p
-    → fault ≡ fetch_fault q.base size cpu.pc → fault ≡ None → fetched_block p cpu ≡ Some (first_block (span (cpu.pc - q.base) 4))
+pub fetched_some : (p : Parameters) (cpu : CpuState) (at : Span) → IsFetchedSpan p cpu (Ok at) → fetched_block p cpu ≡ Some (first_block at)
 unfolding fetched_block
-fetched_some p q size cpu fault same size_is fault_is none =
-    ap (λ f. unless_fault f (first_block (span (cpu.pc - p.base) 4))) (fetch_none p q size cpu.pc fault same size_is fault_is none)
-    ∙ ap (λ (g : Parameters). Some (first_block (span (cpu.pc - g.base) 4))) (sym same)
+fetched_some p cpu at h = ap (λ f. unless_fault f (first_block (span (cpu.pc - p.base) 4))) h.0 ∙ ap (λ s. Some (first_block s)) (sym h.1)
 
 -- and none if there is one
-pub fetched_not : (p q : Parameters) (size : ℕ) (cpu : CpuState) (fault : Option Cause) (cause : Cause) → q ≡ p → size ≡ program_size p
-    → fault ≡ fetch_fault q.base size cpu.pc → fault ≡ Some cause → fetched_block p cpu ≡ None
+pub fetched_not : (p : Parameters) (cpu : CpuState) (cause : Cause) → IsFetchedSpan p cpu (Err cause) → fetched_block p cpu ≡ None
 unfolding fetched_block
-fetched_not p q size cpu fault cause same size_is fault_is some =
-    let is : fetch_fault p.base (program_size p) cpu.pc ≡ Some cause
-    = ap (λ (n : ℕ). fetch_fault p.base n cpu.pc) (sym size_is) ∙ ap (λ (g : Parameters). fetch_fault g.base size cpu.pc) (sym same) ∙ sym fault_is ∙ some in
-    ap (λ f. unless_fault f (first_block (span (cpu.pc - p.base) 4))) is
+fetched_not p cpu cause h = ap (λ f. unless_fault f (first_block (span (cpu.pc - p.base) 4))) h

@@ -7,8 +7,8 @@ use Rattle.thy_base.specs.declared.config.Parameters.{Parameters}
 use Rattle.thy_base.specs.Geometry.{IsInRange, memory_blocks, program_size}
 use Rattle.thy_base.proofs.BasicLemmas.{not_zero}
 use Rattle.thy_flat.specs.declared.span.Span.{Span}
-use Rattle.thy_flat.specs.Spans.{IsSpanOf, first_block, head_len, rest_of, head_in}
-use Rattle.thy_flat.proofs.SpanLaws.{head_len-most, rest_of-rest, length-head_in}
+use Rattle.thy_flat.specs.Spans.{IsSpanOf, span, first_block, first_byte, head_len, rest_of, head_in}
+use Rattle.thy_flat.proofs.SpanLaws.{head_len-most, rest_of-rest, rest_of-none, length-head_in}
 use Rattle.thy_isa.specs.declared.state.CallState.{CallState}
 use Rattle.thy_isa.specs.declared.state.CpuState.{CpuState}
 use Rattle.thy_isa.specs.declared.state.Effect.{Effect}
@@ -19,9 +19,9 @@ use Rattle.thy_isa.specs.Moves.{moves_of, brings, outgoing_len}
 use Rattle.thy_isa.specs.OnBlocks.{calls_in}
 use Rattle.thy_isa.proofs.MoveLaws.{moves_of-spans, moves_of-enough}
 use Rattle.thy_hart.specs.declared.hand.Hand.{Hand}
-use Rattle.thy_hart.specs.declared.hand.Hand.TheVariants.{Reading, Reserving, Writing, Retiring}
+use Rattle.thy_hart.specs.declared.hand.Hand.TheVariants.{Nothing, Reading, Reserving, Writing, Retiring}
 use Rattle.thy_hart.specs.HartState.{HartState, blocks_of, reserved, read_len, IsReading, IsWriting, IsInHand, IsSoundHart}
-use Rattle.thy_hart.specs.Outcomes.{begun, written_on, room_reserved}
+use Rattle.thy_hart.specs.Outcomes.{begun, begun_with, written_on, room_reserved}
 
 -- ---- choices
 
@@ -189,3 +189,35 @@ room_reserved-sound free dirty under_way e to old new s h is =
     (if_hart_state IsSoundHart (nat_lt free (dirty + blocks_of to)) _ _
     (if_hart_state IsSoundHart under_way old _ s (record { range = s.range; in_hand = refl }))
     (record { range = s.range; in_hand = h }))
+
+-- ---- an effect that begins
+
+pub begun_with-sound : (input : List ℕ) (e : Effect) (old : HartState) → IsInRange old.geometry → IsWithin old.geometry.base (program_size old.geometry) e
+    → IsSoundHart (begun_with input e old)
+begun_with-sound input e old r inside =
+    let calls = calls_in old.geometry old.cpu (length input) in
+    let moves = moves_of old.cpu.regs calls e in
+    record {
+      range = r;
+      in_hand = fetch-sound old.geometry input old.cpu e calls (brings input old.cpu.regs calls e) moves (begun e moves.from moves.to) r inside refl refl refl refl;
+    }
+
+pub begun_with-unreserved : (input : List ℕ) (e : Effect) (old : HartState) → reserved (begun_with input e old).hand ≡ 0
+begun_with-unreserved input e old =
+    let moves = moves_of old.cpu.regs (calls_in old.geometry old.cpu (length input)) e in
+    begun-unreserved e moves.from moves.to
+
+pub begun-some : (e : Effect) (from to : Span) → begun e from to ≡ Nothing → ⊥
+begun-some e from to = begun_by (λ hand. hand ≡ Nothing → ⊥) e from to (λ _ h. cc h) (λ _ _ h. cc h) (λ _ _ h. cc h)
+
+-- ---- bytes that lie within one block
+
+pub begun-whole : (e : Effect) (s : Span) → first_byte s + s.len ≤ 64 → begun e (rest_of s) (span 0 0) ≡ Retiring e false
+begun-whole e s whole =
+    let none = rest_of-none s whole in
+    begun_by (λ hand. hand ≡ Retiring e false) e (rest_of s) (span 0 0) (λ some. absurd (omega (arith, none))) (λ _ some. absurd (omega arith)) (λ _ _. refl)
+
+pub written_on-whole : (e : Effect) (s : Span) (done : ℕ) → first_byte s + s.len ≤ 64 → written_on e (rest_of s) done ≡ Retiring e true
+written_on-whole e s done whole =
+    let none = rest_of-none s whole in
+    written_by (λ hand. hand ≡ Retiring e true) e (rest_of s) done (λ some. absurd (omega (arith, none))) (λ _. refl)

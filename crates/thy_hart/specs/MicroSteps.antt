@@ -1,43 +1,28 @@
--- The parts of a hart as one state, and what a micro-step makes of them over every store of blocks.
-use Rattle.std.specs.Prelude.{◌≡◌, ℕ, ◌+◌, ◌-◌, ◌<◌, ◌≤◌, true, false, List, length, Option, Some, None}
+-- What a micro-step makes of a hart and its cache, over every store of blocks.
+use Rattle.std.specs.Prelude.{◌≡◌, ℕ, ◌+◌, ◌-◌, ◌<◌, ◌≤◌, true, false, List, length, Option, Some, None, Result, Ok, Err}
 use Rattle.thy_base.specs.declared.block.Block.{Block}
 use Rattle.thy_base.specs.declared.config.Parameters.{Parameters}
-use Rattle.thy_base.specs.Geometry.{memory_blocks}
+use Rattle.thy_base.specs.Geometry.{memory_blocks, program_size}
 use Rattle.thy_base.specs.LittleEndian.{number_at}
-use Rattle.thy_cache.specs.declared.line.LinePlace.{LinePlace}
-use Rattle.thy_cache.specs.Contents.{Contents, hits, place_of, dirty_count, KeepsSize}
+use Rattle.thy_cache.specs.Contents.{Contents, hits, dirty_count, KeepsSize}
 use Rattle.thy_cache.specs.Flat.{flat, AgreesStill}
 use Rattle.thy_flat.specs.declared.span.Span.{Span}
-use Rattle.thy_flat.specs.Spans.{first_block, gathered, head_put}
+use Rattle.thy_flat.specs.Spans.{span, first_block, gathered, head_put}
+use Rattle.thy_isa.specs.declared.state.Cause.{Cause}
 use Rattle.thy_isa.specs.declared.state.CpuState.{CpuState}
 use Rattle.thy_isa.specs.declared.state.Effect.{Effect}
 use Rattle.thy_isa.specs.OnBlocks.{effect_in}
+use Rattle.thy_isa.specs.Step.{fetch_fault}
 use Rattle.thy_hart.specs.declared.hand.HartStep.{HartStep}
-use Rattle.thy_hart.specs.declared.hand.LineLookup.{LineLookup}
-use Rattle.thy_hart.specs.declared.hand.LineLookup.TheVariants.{Bring, Act}
-use Rattle.thy_hart.specs.declared.micro_steps.HartParts.{HartParts}
+use Rattle.thy_hart.specs.declared.hand.MicroStep.{MicroStep}
+use Rattle.thy_hart.specs.declared.hand.MicroStep.TheVariants.{Missing, Taken}
 use Rattle.thy_hart.specs.HartState.{HartState, next_block, reserved}
 use Rattle.thy_hart.specs.Outcomes.{Given, fetched, block_read, acted_by, answer_by, memory_by, cache_by}
-
-abbrev pub hart_state_of : HartParts → HartState
-hart_state_of h = record { geometry = h.geometry; cpu = h.cpu; epoch = h.epoch; hand = h.hand; bytes = h.bytes.items }
 
 -- a block that is touched, if one is, hits
 abbrev pub HitsNext : Contents → Option ℕ → Type 0
 HitsNext c None = Unit {0}
 HitsNext c (Some b) = hits c b ≡ true
-
--- and its line is at this place
-abbrev pub IsFound : Contents → Option ℕ → Option LinePlace → Type 0
-IsFound c None None = Unit {0}
-IsFound c None (Some place) = ⊥
-IsFound c (Some b) None = ⊥
-IsFound c (Some b) (Some place) = place_of c b ≡ Some place
-
--- what a micro-step finds that touches this block, if it touches one: its line is missing, or is there
-abbrev pub IsNext : Contents → Option ℕ → LineLookup → Type 0
-IsNext c o (Bring b) = (o ≡ Some b) × (hits c b ≡ false)
-IsNext c o (Act place) = HitsNext c o × IsFound c o place
 
 -- for any store with its block below the cache: the number of a span of four bytes
 abbrev pub ReadsWord : Contents → Span → ℕ → Type 0
@@ -47,6 +32,11 @@ ReadsWord c at word =
 -- the effect of the instruction at the program counter
 abbrev pub FetchesEffect : Parameters → CpuState → Contents → Effect → Type 0
 FetchesEffect p cpu c e = (blocks : List Block) → length blocks ≡ memory_blocks p → e ≡ effect_in p cpu (flat c blocks)
+
+-- the four bytes at the program counter, or why no word can be fetched there
+abbrev pub IsFetchedSpan : Parameters → CpuState → Result Span Cause → Type 0
+IsFetchedSpan p cpu (Ok at) = (fetch_fault p.base (program_size p) cpu.pc ≡ None) × (at ≡ span (cpu.pc - p.base) 4)
+IsFetchedSpan p cpu (Err cause) = fetch_fault p.base (program_size p) cpu.pc ≡ Some cause
 
 -- the hart after a fetch
 abbrev pub FetchesIn : List ℕ → Contents → HartState → HartState → Type 0
@@ -75,3 +65,8 @@ pub record IsMicroStep (g : Given) (c d : Contents) (old new : HartState) (step 
   pub cache : d ≡ cache_by c old old.hand
   pub untouched : next_block old ≡ None → d ≡ c
   pub sized : KeepsSize c d
+
+-- what comes of a micro-step: the line of its block is missing and nothing was done, or it was taken
+abbrev pub IsActed : Given → Contents → Contents → HartState → HartState → MicroStep → Type 0
+IsActed g c d old new (Missing b) = (next_block old ≡ Some b) × (hits c b ≡ false) × (new ≡ old) × (d ≡ c)
+IsActed g c d old new (Taken step) = HitsNext c (next_block old) × IsMicroStep g c d old new step

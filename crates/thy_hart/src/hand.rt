@@ -6,7 +6,6 @@ ghost use Rattle.thy_hart.specs.Outcomes.{begun, written_on};
 ghost use Rattle.thy_hart.specs.HartState.{blocks_of};
 
 use thy_base::EndCause;
-use thy_cache::LinePlace;
 use thy_flat::Span;
 use thy_isa::Effect;
 
@@ -53,13 +52,13 @@ pub enum HartStep {
     Over(EndCause),
 }
 
-/// What the next micro-step finds in the cache.
+/// What came of the next micro-step.
 #[derive(Clone, Copy, Debug, PartialEq, Eq)]
-pub(crate) enum LineLookup {
-    /// The line of this block, which it touches, is missing.
-    Bring(u64),
-    /// The line of the block that it touches is at this place, or it touches none.
-    Act(Option<LinePlace>),
+pub(crate) enum MicroStep {
+    /// The line of this block, which it touches, is missing. Nothing was done.
+    Missing(u64),
+    /// It was taken, and the step of the hart ends so.
+    Taken(HartStep),
 }
 
 /// What an effect does that still has to read at `from`, if that has bytes, and to write at `to`.

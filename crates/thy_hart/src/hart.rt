@@ -12,13 +12,14 @@ ghost use Rattle.thy_hart.specs.Moments.{moment, brings_line, IsReady};
 ghost use Rattle.thy_hart.specs.OneStep.{IsStep};
 
 use crate::bring::bring;
-use crate::hand::{Hand, HartStep, LineLookup};
+use crate::decoded::DecodedWords;
+use crate::hand::{HartStep, MicroStep};
+use crate::in_hand::InHand;
 use crate::micro_steps::HartParts;
 use std::marker::Model;
 use thy_base::{BlockStore, Geometry, NvmError};
 use thy_cache::Cache;
 use thy_epoch::EpochState;
-use thy_flat::Piece;
 use thy_isa::CpuState;
 
 /// The hart in front, of RV64IM, with its epoch and the other hart, if there are two. It executes an instruction in
@@ -29,15 +30,14 @@ pub struct Hart {
 }
 
 impl Model for Hart {
-    ghost use Rattle.thy_hart.specs.HartState.{HartState, IsSoundHart};
+    ghost use Rattle.thy_hart.specs.HartState.{HartState};
+    ghost use Rattle.thy_hart.specs.InHand.{hart_state_of, IsSoundParts};
 
     ghost Value = { HartState };
 
-    ghost use Rattle.thy_hart.specs.MicroSteps.{hart_state_of};
-
     ghost view = { λ h. hart_state_of h.parts };
 
-    ghost invariant = { λ h. IsSoundHart (hart_state_of h.parts) };
+    ghost invariant = { λ h. IsSoundParts h.parts };
 }
 
 impl Hart {
@@ -51,8 +51,8 @@ impl Hart {
                 geometry: *geometry,
                 cpu: *cpu,
                 epoch: EpochState::new(span, epoch),
-                hand: Hand::Nothing,
-                bytes: Piece::new(),
+                hand: InHand::nothing(),
+                decoded: DecodedWords::new(),
             },
         }
     }
@@ -141,12 +141,9 @@ impl Hart {
         ensures stays { S.stays store.old nvm.old store.new nvm.new }
         ensures cause { CountsOneFault result (S.holding store.old nvm.old).faults (S.holding store.new nvm.new).faults }
     {
-        match self.parts.next(cache) {
-            LineLookup::Act(place) => Ok(
-                self.parts
-                    .act::<(N, S)>(cache, place, free, under_way, input),
-            ),
-            LineLookup::Bring(b) => match bring(cache, b, store, nvm) {
+        match self.parts.act::<(N, S)>(cache, free, under_way, input) {
+            MicroStep::Taken(step) => Ok(step),
+            MicroStep::Missing(b) => match bring(cache, b, store, nvm) {
                 Ok(()) => Ok(HartStep::Moved),
                 Err(fault) => Err(fault),
             },

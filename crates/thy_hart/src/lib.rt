@@ -7,10 +7,13 @@
 #![tactic(auto)]
 
 mod bring;
+mod decoded;
 mod hand;
 mod hart;
+mod in_hand;
 mod laws;
 mod micro_steps;
+mod pieces;
 
 pub use hand::{Hand, HartStep};
 pub use hart::Hart;

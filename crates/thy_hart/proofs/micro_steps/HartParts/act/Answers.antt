@@ -1,28 +1,58 @@
-use Rattle.std.proofs.Common.{length, subst}
+use Rattle.std.proofs.Common.{◌≡◌, ◌<◌, ◌^◌, sym, ap, subst, arith}
+use Rattle.thy_isa.specs.Moves.{number_in}
+use Rattle.thy_isa.specs.Step.{finished}
+use Rattle.thy_hart.specs.HartState.{HartState, IsSoundHart}
 use Rattle.thy_hart.specs.Outcomes.{given}
-use Rattle.thy_hart.specs.HartState.{IsInHand}
-use Rattle.thy_hart.specs.MicroSteps.{hart_state_of}
-use Rattle.thy_hart.proofs.MicroStepLemmas.{IsMicroStep-fetch, IsMicroStep-read, IsMicroStep-write}
+use Rattle.thy_hart.specs.declared.in_hand.Stage.TheVariants.{Reserves}
+use Rattle.thy_hart.specs.InHand.{span_of, load_of, store_of, bytes_by, at_stage, hart_state_of}
 use Rattle.thy_hart.proofs.HandLemmas.{room_reserved-sound}
+use Rattle.thy_hart.proofs.InHandLemmas.{finished-loaded, finished-other, number-jump, number-set, number-store}
 use Rattle.thy_hart.proofs.micro_steps.HartParts.act.Goals as goal
 
-pub returns-in-Nothing-clause-acts : goal.returns-in-Nothing-clause-acts
-returns-in-Nothing-clause-acts g c =
-    IsMicroStep-fetch (given c.args.input.now c.args.free c.args.under_way) c.args.cache.now c.fetch.new.cache (hart_state_of c.args.self.now) (hart_state_of c.fetch.new.self)
-    c.in-Nothing.is c.fetch.ensures.hart c.fetch.ensures.unreserved c.fetch.ensures.lines c.fetch.ensures.cache
+pub retire-requires-clause-number : goal.retire-requires-clause-number
+retire-requires-clause-number g c = λ calls.
+    let i = c.args.self.now.hand in
+    finished-other c.args.self.now.cpu c.jump-effect.result _ (bytes_by i.stage i) calls c.jump-effect.ensures (number-jump i.pc (bytes_by i.stage i))
 
-pub returns-in-Reading-clause-acts : goal.returns-in-Reading-clause-acts
-returns-in-Reading-clause-acts g c =
-    IsMicroStep-read (given c.args.input.now c.args.free c.args.under_way) c.args.cache.now c.read.new.cache (hart_state_of c.args.self.now) (hart_state_of c.read.new.self)
-    c.in-Reading.effect c.in-Reading.from c.in-Reading.to c.in-Reading.is c.read.ensures.hart c.read.ensures.unreserved c.read.ensures.lines c.read.ensures.cache
+pub retire-requires-in-Sets-clause-number : goal.retire-requires-in-Sets-clause-number
+retire-requires-in-Sets-clause-number g c = λ calls.
+    let i = c.args.self.now.hand in
+    finished-other c.args.self.now.cpu c.set-effect.result _ (bytes_by i.stage i) calls c.set-effect.ensures (number-set i.rd i.pc i.value (bytes_by i.stage i))
 
-pub returns-in-Reserving-clause-sound : goal.returns-in-Reserving-clause-sound
-returns-in-Reserving-clause-sound g c =
-    room_reserved-sound c.args.free c.dirty.result c.args.under_way c.in-Reserving.effect c.in-Reserving.to (hart_state_of c.args.self.now) (hart_state_of c.reserve.new.self)
-    c.requires.sound (subst (λ hand. IsInHand c.args.self.now.geometry hand (length c.args.self.now.bytes.items)) c.in-Reserving.is c.requires.sound.in_hand) c.reserve.ensures.hart
+pub retire-requires-in-Loaded-clause-number : goal.retire-requires-in-Loaded-clause-number
+retire-requires-in-Loaded-clause-number g c = λ calls.
+    let i = c.args.self.now.hand in
+    let cpu = c.args.self.now.cpu in
+    let fits : i.value < 2 ^ 64 = omega (arith, c.number-number.ensures, c.number-number.type_inv) in
+    let load = finished-loaded cpu i.rd i.access.1 i.extend i.pc i.address i.value calls fits in
+    let here = subst (λ bytes. finished cpu (load_of i) i.value calls ≡ finished cpu (load_of i) (number_in (load_of i) bytes) calls)
+    (sym (ap (λ st. bytes_by st i) c.in-Loaded.is)) load in
+    let effect = subst (λ e. finished cpu e i.value calls ≡ finished cpu e (number_in e (bytes_by i.stage i)) calls) (sym c.load-effect.ensures) here in
+    subst (λ n. finished cpu c.load-effect.result n calls ≡ finished cpu c.load-effect.result (number_in c.load-effect.result (bytes_by i.stage i)) calls)
+    (sym c.number-number.ensures) effect
 
-pub returns-in-Writing-clause-acts : goal.returns-in-Writing-clause-acts
-returns-in-Writing-clause-acts g c =
-    let written = subst (λ hand. IsInHand c.args.self.now.geometry hand (length c.args.self.now.bytes.items)) c.in-Writing.is c.requires.sound.in_hand in
-    IsMicroStep-write (given c.args.input.now c.args.free c.args.under_way) c.args.cache.now c.write.new.cache (hart_state_of c.args.self.now) (hart_state_of c.write.new.self)
-    c.in-Writing.effect c.in-Writing.to c.in-Writing.done c.in-Writing.is written c.write.ensures.hart c.write.ensures.memory c.write.ensures.agree c.write.ensures.room c.write.ensures.sized c.write.ensures.cache
+pub retire-requires-in-Stored-clause-number : goal.retire-requires-in-Stored-clause-number
+retire-requires-in-Stored-clause-number g c = λ calls.
+    let i = c.args.self.now.hand in
+    finished-other c.args.self.now.cpu c.store-effect.result _ (bytes_by i.stage i) calls c.store-effect.ensures
+    (number-store i.access.1 i.pc i.address i.value (bytes_by i.stage i))
+
+pub returns-in-Idle-clause-acts : goal.returns-in-Idle-clause-acts
+returns-in-Idle-clause-acts g c = c.fetch.ensures.acts c.args.free c.args.under_way
+
+pub returns-in-Loads-clause-acts : goal.returns-in-Loads-clause-acts
+returns-in-Loads-clause-acts g c = c.load.ensures.acts (given c.args.input.now c.args.free c.args.under_way)
+
+pub returns-in-Stores-clause-acts : goal.returns-in-Stores-clause-acts
+returns-in-Stores-clause-acts g c = c.store.ensures.acts (given c.args.input.now c.args.free c.args.under_way)
+
+pub returns-in-Reserves-clause-sound : goal.returns-in-Reserves-clause-sound
+returns-in-Reserves-clause-sound g c =
+    let i = c.args.self.now.hand in
+    let old : HartState = at_stage Reserves c.args.self.now in
+    let sound : IsSoundHart old = subst (λ st. IsSoundHart (at_stage st c.args.self.now)) c.in-Reserves.is c.requires.sound.hart in
+    record {
+      hart = room_reserved-sound c.args.free c.dirty.result c.args.under_way (store_of i) (span_of i.access) old (hart_state_of c.reserve.new.self)
+          sound sound.in_hand c.reserve.ensures.hart;
+      pieces = c.reserve.ensures.pieces;
+    }

@@ -1,32 +1,35 @@
-use Rattle.std.proofs.Common.{length, refl, sym, ◌∙◌, ap, subst}
-use Rattle.thy_isa.specs.Moves.{moves_of, brings}
-use Rattle.thy_isa.specs.OnBlocks.{calls_in}
+use Rattle.std.proofs.Common.{◌≡◌, true, ap, sym, subst}
+use Rattle.thy_cache.specs.Contents.{hits}
+use Rattle.thy_isa.specs.declared.state.Effect.TheVariants.{Trap}
 use Rattle.thy_hart.specs.HartState.{HartState, reserved, IsSoundHart}
-use Rattle.thy_hart.specs.MicroSteps.{hart_state_of}
-use Rattle.thy_hart.specs.Outcomes.{begun, begun_with, fetched}
-use Rattle.thy_hart.proofs.HandLemmas.{fetch-sound, begun-unreserved}
+use Rattle.thy_hart.specs.Outcomes.{given}
+use Rattle.thy_hart.specs.InHand.{hand_by, hart_state_of}
+use Rattle.thy_hart.specs.MicroSteps.{IsFetchedSpan}
+use Rattle.thy_hart.proofs.HandLemmas.{begun_with-sound, begun_with-unreserved}
+use Rattle.thy_hart.proofs.MicroStepLemmas.{found_hits, IsActed-fetched, IsActed-trapped}
 use Rattle.thy_hart.proofs.micro_steps.HartParts.fetch.Goals as goal
 
-pub returns-clause-hart : goal.returns-clause-hart
-unfolding fetched
-returns-clause-hart g c = λ blocks whole.
-    c.begin.ensures ∙ ap (λ e. begun_with c.args.input.now e (hart_state_of c.args.self.now)) (c.next_effect-effect.ensures.effect blocks whole)
+pub returns-in-Some-clause-acts : goal.returns-in-Some-clause-acts
+returns-in-Some-clause-acts g c =
+    let old : HartState = hart_state_of c.args.self.now in
+    let at = subst (IsFetchedSpan old.geometry old.cpu) c.in-Ok.is c.fetched_span.ensures in
+    let hit = found_hits c.args.cache.now c.first_block.result c.find.result c.in-Some.place c.find.ensures.hit c.in-Some.is in
+    λ free under_way. IsActed-fetched (given c.args.input.now free under_way) c.args.cache.now c.fetch_at.new.cache old (hart_state_of c.fetch_at.new.self)
+    c.in-Ok.at (ap (λ s. hand_by s c.args.self.now.hand) c.requires.stage) at (subst (λ b. hits c.args.cache.now b ≡ true) c.first_block.ensures hit) c.fetch_at.ensures.hart c.fetch_at.ensures.unreserved
+    c.fetch_at.ensures.lines c.fetch_at.ensures.cache
 
-pub returns-clause-sound : goal.returns-clause-sound
-returns-clause-sound g c =
-    let h : HartState = hart_state_of c.args.self.now in
-    let e = c.next_effect-effect.result in
-    let calls = calls_in h.geometry h.cpu (length c.args.input.now) in
-    let moves = moves_of h.cpu.regs calls e in
-    subst IsSoundHart (sym c.begin.ensures) (record {
-      range = c.requires.range;
-      in_hand = fetch-sound h.geometry c.args.input.now h.cpu e calls (brings c.args.input.now h.cpu.regs calls e) moves (begun e moves.from moves.to)
-          c.requires.range c.next_effect-effect.ensures.inside refl refl refl refl;
-    })
+pub returns-in-Err-clause-acts : goal.returns-in-Err-clause-acts
+returns-in-Err-clause-acts g c =
+    let old : HartState = hart_state_of c.args.self.now in
+    let new : HartState = hart_state_of c.begin_in_pieces.new.self in
+    let at = subst (IsFetchedSpan old.geometry old.cpu) c.in-Err.is c.fetched_span.ensures in
+    λ free under_way. IsActed-trapped (given c.args.input.now free under_way) c.args.cache.now old new c.in-Err.cause (ap (λ s. hand_by s c.args.self.now.hand) c.requires.stage) at c.begin_in_pieces.ensures.hart
+    (subst (λ (h : HartState). reserved h.hand ≡ 0) (sym c.begin_in_pieces.ensures.hart) (begun_with-unreserved c.args.input.now (Trap c.in-Err.cause) old))
 
-pub returns-clause-unreserved : goal.returns-clause-unreserved
-returns-clause-unreserved g c =
-    let h : HartState = hart_state_of c.args.self.now in
-    let e = c.next_effect-effect.result in
-    let moves = moves_of h.cpu.regs (calls_in h.geometry h.cpu (length c.args.input.now)) e in
-    ap (λ (x : HartState). reserved x.hand) c.begin.ensures ∙ begun-unreserved e moves.from moves.to
+pub returns-in-Err-clause-sound : goal.returns-in-Err-clause-sound
+returns-in-Err-clause-sound g c =
+    let old : HartState = hart_state_of c.args.self.now in
+    record {
+      hart = subst IsSoundHart (sym c.begin_in_pieces.ensures.hart) (begun_with-sound c.args.input.now (Trap c.in-Err.cause) old c.requires.sound.hart.range tt);
+      pieces = c.begin_in_pieces.ensures.pieces;
+    }
