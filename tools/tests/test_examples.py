@@ -56,6 +56,32 @@ class Examples(CopyTest):
                 self.assertIn(said, done.out)
                 self.assertEqual((done.err, done.status), ("", 1))
 
+    def test_one_of_several_in_a_folder(self):
+        cuts = "".join(f"cut {k} at cycle {c}\n" for k, c in ((1, 100000), (2, 500000), (3, 1000000)))
+        text = f"""echo 'checksum 4ce11d305b122e51'
+[ "$1" != run ] || echo '{cuts}restart 1 at 5' >&2
+echo 'exit 0 at 9
+memory {ZEROS}' >&2
+"""
+        done = self.try_out("random", text=text)
+        self.assertIn("random: plain, cuts agree\n", done.out)
+        self.assertEqual(done.status, 0)
+        # This is the line of another program in the folder.
+        done = self.try_out("streaming", text=text)
+        self.assertIn("streaming: plain: it prints something else\n", done.out)
+        self.assertEqual(done.status, 1)
+
+    def test_what_builds_a_program(self):
+        tool = loaded("examples")
+        commands = {example.name: tool.command_of(example) for example in tool.TABLE}
+        self.assertEqual(commands["hello"], "    ../runtime/cc -o hello.elf hello.c\n")
+        self.assertEqual(commands["random"], "    ../runtime/cc -o random.elf random.c\n")
+        self.assertEqual(commands["hash_table_16"], "    ../runtime/cc -DVALUE=16 -o hash_table_16.elf requests.c hash_table.c\n")
+        # It has several lines, and the runtime without its memory.c.
+        lines = commands["red_black_tree_4096_bytes"].splitlines()
+        self.assertEqual((len(lines), lines[-1]), (3, "        requests.c red_black_tree.c"))
+        self.assertNotIn("memory.c", commands["red_black_tree_4096_bytes"])
+
     def test_a_pair(self):
         # With two harts there is no `plain`; what it prints is its file `output`.
         output = repository.example("two_harts", "output")

@@ -15,12 +15,12 @@ from lib.packaging import completions, manual
 
 # The scripts that a package does not have: they are for work on the repository, or need the kit.
 FOR_DEVELOPERS = (
-    *("cycle-cost", "examples", "first-run", "hostile", "instructions", "kills", "lint", "package", "progress", "quick-rt"),
-    *("random", "readers", "test", "tutorial", "unproved", "version-one"),
+    *("cycle-cost", "evaluation", "examples", "first-run", "hostile", "instructions", "kills", "lint", "package", "progress"),
+    *("quick-rt", "random", "readers", "test", "tutorial", "unproved", "version-one"),
 )
 
 # Of tools/lib what only these need.
-THEIR_MODULES = ("hostile_calls", "lint", "packaging", "random_runs")
+THEIR_MODULES = ("evaluations", "hostile_calls", "lint", "packaging", "random_runs")
 
 PROGRAMS = ("thynvm", "observe", "thy_wear")
 

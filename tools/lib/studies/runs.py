@@ -36,31 +36,34 @@ def end_of(lines):
     return (ends or lines or ["nothing reported"])[-1]
 
 
+def told(done):
+    """How a call ended, and what it printed."""
+    return {"end": end_of(done.stderr.decode(errors="replace").splitlines()), "printed": done.stdout.decode(errors="replace")}
+
+
 def observe(words):
-    """Makes a run: its status, its end, and what `observe` wrote of it."""
+    """Makes a run: its status, its end, what it printed, and what `observe` wrote of it."""
     with tempfile.TemporaryDirectory() as folder:
         out = os.path.join(folder, "out")
-        done = subprocess.run(
-            [OBSERVER, out, *words], stdin=subprocess.DEVNULL, stdout=subprocess.DEVNULL, stderr=subprocess.PIPE
-        )
+        done = subprocess.run([OBSERVER, out, *words], stdin=subprocess.DEVNULL, capture_output=True)
         text = ""
         if os.path.exists(out):
             with open(out, encoding="utf-8") as file:
                 text = file.read()
-    return {"status": done.returncode, "end": end_of(done.stderr.decode(errors="replace").splitlines()), "out": text}
+    return {"status": done.returncode, **told(done), "out": text}
 
 
 def plain(verb, what, *options):
-    """How many instructions the plain machine executes to the program's end, or that it came to none."""
+    """How many instructions the plain machine executes to the program's end, or that it came to none; and what it printed."""
     with tempfile.TemporaryDirectory() as folder:
         file = what
         if verb == "make":
             file = os.path.join(folder, "made.elf")
             subprocess.run([PROGRAM, "make", what, file], stdin=subprocess.DEVNULL, capture_output=True)
         command = [PROGRAM, "plain", file, *options]
-        done = subprocess.run(command, stdin=subprocess.DEVNULL, stdout=subprocess.DEVNULL, stderr=subprocess.PIPE)
+        done = subprocess.run(command, stdin=subprocess.DEVNULL, capture_output=True)
     ends = report.events(done.stderr.decode(errors="replace").splitlines(), report.Ended)
-    return {"instructions": str(ends[0].count) if ends else NONE}
+    return {"instructions": str(ends[0].count) if ends else NONE, **told(done)}
 
 
 def word_of(job):
