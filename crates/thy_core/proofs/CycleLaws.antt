@@ -20,6 +20,7 @@ use Rattle.thy_layout.specs.declared.engine_step.EngineStep.{EngineStep}
 use Rattle.thy_layout.specs.declared.engine_step.EngineStep.TheVariants.{Idle, Copied, PageBlock, StateBlock, TableBlock, Barrier, CommitWritten, Committed}
 use Rattle.thy_view.specs.declared.boot_step.BootStep.{BootStep}
 use Rattle.thy_view.specs.declared.boot_step.BootStep.TheVariants.{GoesOn, Loaded, Restarted, Refused}
+use Rattle.thy_view.specs.declared.did.Advance.{Advance}
 use Rattle.thy_view.specs.declared.did.Did.{Did}
 use Rattle.thy_view.specs.declared.did.Did.TheVariants.{Moved, Retired, Flushed as DidFlush, Merged, Sealed, Promoted, Engine, Committed as DidCommit, NvmDrained, DramDrained, Nothing, Boot as DidBoot, Loaded as DidLoad, Restarted as DidRestart, Refused as DidRefuse}
 use Rattle.thy_view.specs.declared.did.Stall.TheVariants.{Booting, Sealing, Waiting, Halted}
@@ -43,7 +44,7 @@ use Rattle.thy_core_laws.specs.Machine.{Machine, cpu_fronted, processor_of, view
 use Rattle.thy_core_laws.specs.Sound.{Sound}
 use Rattle.thy_core_laws.specs.Calls.{IsAsked, HartCall, FlushCall, retires_by, begun_by_hart, hart_did, after_hart, after_flush, after_call, after_drain, after_seal, after_engine, after_boot}
 use Rattle.thy_core_laws.specs.Rows.{IsMoment, At, HartAdvances, IsSealing, SimulatesCycle}
-use Rattle.thy_core.specs.Cycles.{IsEngineDue, IsTurnOf, IsAnyRun, IsCycle, HasFailedAs, HasTaken}
+use Rattle.thy_core.specs.Cycles.{IsEngineDue, IsTurnOf, IsAnyRun, IsCycle, HasFailedAs, HasTaken, did_by, stepped_by, reported}
 use Rattle.thy_core_laws.proofs.Facts.{view-run, sound-run, holds-run, is-going}
 use Rattle.thy_core_laws.proofs.KeepsLaws.{stands, runs_behind}
 use Rattle.thy_core_laws.proofs.BegunLaws.{begun-processor, IsBegun, is-begun}
@@ -521,6 +522,16 @@ pub taken_err : {S : Type 0} (K : SchemeOf S) (P : Origin → Type 0) (actor : A
     → IsFramed n new → Rose n.faults new.faults → HasTaken K P actor m n next new r
 taken_err K P actor m next n new (Ok did) is fails frame rose = absurd (true≢false (sym is))
 taken_err K P actor m next n new (Err e) is fails frame rose = record { simulates = λ o cycles q at turn. tt; fails = fails; frame = frame; cause = rose }
+
+-- a hart's cycle that failed is one
+pub err_by : (r : Result Advance NvmError) → IsErr r → IsErr (did_by r)
+err_by (Ok a) is = absurd (true≢false (sym is))
+err_by (Err e) is = refl
+
+-- one is reported with no stall, and does not halt
+pub reported_by : (r : Result Advance NvmError) → stepped_by r ≡ reported None false (did_by r)
+reported_by (Ok a) = refl
+reported_by (Err e) = refl
 
 -- the turn by another name
 pub taken_is : {S : Type 0} (K : SchemeOf S) (P Q : Origin → Type 0) (a b : Actor) (m next : Machine S) (n new : Device) (r : Result Did NvmError)

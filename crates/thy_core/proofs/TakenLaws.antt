@@ -9,10 +9,11 @@ use Rattle.thy_view.specs.declared.did.Stepped.{Stepped}
 use Rattle.thy_view.specs.declared.view.Phase.{Phase}
 use Rattle.thy_view.specs.declared.view.Phase.TheVariants.{Boot, Run, Halt}
 use Rattle.thy_view.specs.declared.view.View.{View}
+use Rattle.thy_view.specs.Advances.{IsOthersTurn}
 use Rattle.thy_view.specs.Kind.{IsStep, LeavesSafe, CanStep, Simulates, FailsSafe}
 use Rattle.thy_view.specs.Origin.{Origin, Begins}
 use Rattle.thy_view.specs.Told.{told, IsThere, HasTurn}
-use Rattle.thy_view.specs.Turn.{Actor, Does, HandsOn, told_at, turn_of}
+use Rattle.thy_view.specs.Turn.{Actor, Advances, Does, HandsOn, told_at, turn_of}
 use Rattle.thy_view.specs.Views.{is_halt}
 use Rattle.thy_scheme.specs.Scheme.{SchemeOf}
 use Rattle.thy_scheme.specs.Laws.{IsLawful}
@@ -20,6 +21,9 @@ use Rattle.thy_core_laws.specs.Machine.{Machine, view_in, view_of, pressure_of}
 use Rattle.thy_core_laws.specs.Sound.{Sound, IsAt}
 use Rattle.thy_core_laws.specs.Kind.{kind_over}
 use Rattle.thy_core_laws.specs.Rows.{IsMoment, At}
+use Rattle.thy_core.specs.declared.turn.Actor.{Actor as ActorHere}
+use Rattle.thy_core.specs.declared.turn.Actor.TheVariants as here
+use Rattle.thy_core.specs.MachineParts.{actor_seen}
 use Rattle.thy_core.specs.Turns.{turn_now}
 use Rattle.thy_core.specs.Cycles.{HasStart, IsTurnOf, IsCycle, HasFailedAs, HasTaken, HasReported, reported, noted}
 use Rattle.thy_view.proofs.TurnLaws.{Begins-told}
@@ -49,10 +53,24 @@ pub turned : {S : Type 0} (K : SchemeOf S) (o : Origin) (cycles : ℕ) (pick : P
 turned K o cycles pick nvm actor m n at queued is = subst (IsTurnOf K o m n) (sym is) (at_turn K o cycles m n at pick nvm queued)
 
 -- the actor is the one of the view
-actor_is : {S : Type 0} (K : SchemeOf S) (o : Origin) (cycles : ℕ) (pick : Pick) (nvm : ℕ) (actor : Actor) (m : Machine S) (n : Device) → IsMoment K o cycles m n
+pub actor_is : {S : Type 0} (K : SchemeOf S) (o : Origin) (cycles : ℕ) (pick : Pick) (nvm : ℕ) (actor : Actor) (m : Machine S) (n : Device) → IsMoment K o cycles m n
     → nvm ≡ length n.queue → actor ≡ turn_now K pick nvm m → actor ≡ turn_of o pick (length n.queue) (view_of K o m n) (pressure_of K m)
 actor_is K o cycles pick nvm actor m n at queued is =
     is ∙ turn_is K o cycles m n at pick nvm ∙ ap (λ q. turn_of o pick q (view_of K o m n) (pressure_of K m)) queued
+
+-- another actor than a hart that advances
+pub is_other : (actor : ActorHere) (hart : ℕ) → actor_seen actor ≡ Advances hart → ⊥
+is_other here.Nvm hart is = absurd (cc)
+is_other here.Dram hart is = absurd (cc)
+is_other here.Engine hart is = absurd (cc)
+is_other (here.Stalled stall) hart is = absurd (cc)
+
+-- has the turn at every moment of a run
+pub others_turn : {S : Type 0} (K : SchemeOf S) (l : IsLawful K) (pick : Pick) (nvm : ℕ) (actor : ActorHere) (m : Machine S) (n : Device)
+    → nvm ≡ length n.queue → actor_seen actor ≡ turn_now K pick nvm m → IsOthersTurn (kind_over K) pick m n
+others_turn K l pick nvm actor m n queued is = λ o k hart here turn.
+    let at : IsMoment K o k m n = record { lawful = l; sound = sound-here K o k m n here } in
+    is_other actor hart (actor_is K o k pick nvm (actor_seen actor) m n at queued is ∙ turn)
 
 pub step_taken : {S : Type 0} (K : SchemeOf S) (o : Origin) (cycles : ℕ) (pick : Pick) (nvm : ℕ) (actor : Actor) (m next : Machine S) (n new : Device) (r : Stepped)
     → At K o cycles m n → nvm ≡ length n.queue → actor ≡ turn_now K pick nvm m → IsCycle K o cycles actor r.did m n next new

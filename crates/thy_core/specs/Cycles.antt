@@ -3,11 +3,13 @@ use Rattle.std.specs.Prelude.{◌≡◌, ℕ, ◌<◌, ◌&&◌, not, Bool, true
 use Rattle.thy_base.specs.declared.nvm.NvmError.{NvmError}
 use Rattle.thy_base.specs.Device.{Device, IsFramed, CountsFault}
 use Rattle.thy_layout.specs.declared.start.Start.{Start}
+use Rattle.thy_view.specs.declared.did.Advance.{Advance}
 use Rattle.thy_view.specs.declared.did.Did.{Did}
 use Rattle.thy_view.specs.declared.did.Stepped.{Stepped}
 use Rattle.thy_view.specs.declared.did.Stall.{Stall}
 use Rattle.thy_view.specs.declared.did.Stall.TheVariants.{Booting, Sealing, Waiting, Halted}
 use Rattle.thy_view.specs.declared.view.Phase.TheVariants.{Boot, Run, Halt}
+use Rattle.thy_view.specs.Advances.{did_of, stepped_of}
 use Rattle.thy_view.specs.Origin.{Origin, Begins}
 use Rattle.thy_view.specs.Told.{IsThere, HasTurn}
 use Rattle.thy_view.specs.Turn.{Actor, Nvm, Dram, Checkpoint, Advances, Stalled, HandsOn, Does, Prepares, told_at}
@@ -86,6 +88,15 @@ pub record HasTaken {S : Type 0} (K : SchemeOf S) (P : Origin → Type 0) (actor
   pub fails : FailsAs K P actor m n next new result
   pub frame : IsFramed n new
   pub cause : CountsFault result n.faults new.faults
+
+-- what a hart's cycle of this result did, and what is reported of it
+abbrev pub did_by : Result Advance NvmError → Result Did NvmError
+did_by (Ok a) = Ok (did_of a)
+did_by (Err e) = Err e
+
+abbrev pub stepped_by : Result Advance NvmError → Result Stepped NvmError
+stepped_by (Ok a) = Ok (stepped_of a)
+stepped_by (Err e) = Err e
 
 -- ---- what is reported
 

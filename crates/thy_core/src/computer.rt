@@ -7,7 +7,7 @@ use thy_dram::Dram;
 use thy_isa::MachState;
 use thy_layout::Start;
 use thy_scheme::Scheme;
-use thy_view::{Computer, CoreError, Stepped};
+use thy_view::{Advance, Computer, CoreError, Stepped};
 
 /// Over any scheme the machine is one of the machines that are run. Each cycle is the turn of its pick and does what that
 /// turn asks; before a seal the first that is left of promotions, flushes and merges. While a boot restores a checkpoint
@@ -26,6 +26,25 @@ impl<S: Scheme> Computer for Machine<S> {
 
     fn power_on(alloc: Global, geometry: &Geometry, dram: Dram) -> Result<Machine<S>, AllocError> {
         Machine::power_on(alloc, geometry, dram)
+    }
+
+    #[inline(always)]
+    fn advance<N: Nvm>(
+        &mut self,
+        pick: Pick,
+        start: &Start,
+        nvm: &mut N,
+    ) -> Result<Option<Advance>, NvmError> {
+        self.advance(pick, start, nvm)
+    }
+
+    fn take_other<N: Nvm>(
+        &mut self,
+        pick: Pick,
+        start: &Start,
+        nvm: &mut N,
+    ) -> Result<Stepped, NvmError> {
+        self.take_other(pick, start, nvm)
     }
 
     fn step<N: Nvm>(

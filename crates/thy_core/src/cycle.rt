@@ -2,53 +2,59 @@
 ghost use Rattle.std.specs.Prelude.{◌≡◌, ◌&&◌, not, false, Ok};
 ghost use Rattle.thy_view.specs.declared.did.Stall.TheVariants.{Waiting, Halted};
 ghost use Rattle.thy_view.specs.declared.view.Phase.TheVariants.{Boot};
-ghost use Rattle.thy_view.specs.Turn.{Nvm, Stalled, told_at};
+ghost use Rattle.thy_view.specs.Turn.{Nvm, Advances, Stalled, told_at};
 ghost use Rattle.thy_view.specs.Views.{is_halt};
 ghost use Rattle.thy_scheme.specs.Restart.{WritesNothing};
 ghost use Rattle.thy_core.specs.Calm.{KnowsCalm};
-ghost use Rattle.thy_core.specs.Cycles.{IsAnyRun, HasStart, CanTake, HasTaken, HasReported, reported, noted};
-ghost use Rattle.thy_core.specs.MachineParts.{machine_of, actor_seen, turn_seen};
+ghost use Rattle.thy_core.specs.Cycles.{IsAnyRun, HasStart, CanTake, HasTaken, HasReported, did_by, stepped_by, reported, noted};
+ghost use Rattle.thy_core.specs.MachineParts.{machine_of, actor_seen};
 
 use crate::boot::boot;
 use crate::engine::{checkpoint, drain};
 use crate::hart::execute;
 use crate::parts::MachineParts;
 use crate::sealing::prepare;
-use crate::turn::{Actor, Turn};
+use crate::turn::Actor;
 use thy_base::{Nvm, NvmError};
 use thy_layout::Start;
 use thy_scheme::Scheme;
-use thy_view::{Did, Phase, Stall, Stepped};
+use thy_view::{Advance, Did, Phase, Stall, Stepped};
 
-/// Takes the cycle of the actor whose turn it is, and reports it. Notes whether it failed.
+/// Takes the cycle of a hart that advances its instruction. Notes whether it failed.
 #[inline(always)]
-pub(crate) fn take_turn<N: Nvm, S: Scheme>(
+pub(crate) fn take_hart<N: Nvm, S: Scheme>(
     m: &mut MachineParts<S>,
-    turn: Turn,
+    hart: u8,
     start: &Start,
     nvm: &mut N,
-) -> Result<Stepped, NvmError>
-    requires take { CanTake S.scheme (HasStart start.now) (turn_seen turn) (machine_of m.old) (N.device nvm.old) }
+) -> Result<Advance, NvmError>
+    requires take { CanTake S.scheme (HasStart start.now) (Advances hart) (machine_of m.old) (N.device nvm.old) }
     requires known { KnowsCalm S.scheme m.old }
-    ensures steps { HasReported S.scheme (HasStart start.now) (turn_seen turn)
-        (machine_of m.old) (N.device nvm.old) (machine_of m.new) (N.device nvm.new) result }
-    ensures no_writes { let scheme = m.old.store.scheme in m.old.phase ≡ Boot
-        → WritesNothing S.scheme scheme (N.device nvm.old) (N.writes nvm.old) (N.writes nvm.new) }
+    ensures steps { HasReported S.scheme (HasStart start.now) (Advances hart)
+        (machine_of m.old) (N.device nvm.old) (machine_of m.new) (N.device nvm.new) (stepped_by result) }
     ensures known { KnowsCalm S.scheme m.new }
 {
-    match turn {
-        Turn::Advances(hart) => {
-            let taken = execute(m, hart, start.input.as_slice(), nvm);
-            report(m, taken, None, false)
-        }
-        Turn::Other(actor) => take_other(m, actor, start, nvm),
+    let taken = execute(m, hart, start.input.as_slice(), nvm);
+    note(m, taken)
+}
+
+/// Notes whether a hart's cycle failed.
+#[inline(always)]
+fn note<S>(m: &mut MachineParts<S>, taken: Result<Advance, NvmError>) -> Result<Advance, NvmError>
+    ensures same { result ≡ taken }
+    ensures notes { machine_of m.new ≡ noted (did_by taken) (machine_of m.old) }
+    ensures store { m.new.store ≡ m.old.store }
+{
+    if taken.is_err() {
+        m.failed = true;
     }
+    taken
 }
 
 /// Takes a cycle in which no instruction advances, and reports it. Few cycles are of this kind: it is never made part of
-/// the loop. Whether the machine is calm then is found out before the next cycle.
+/// the loop. Whether the machine is calm then is found out before the next cycle. Notes whether it failed.
 #[inline(never)]
-fn take_other<N: Nvm, S: Scheme>(
+pub(crate) fn take_other<N: Nvm, S: Scheme>(
     m: &mut MachineParts<S>,
     actor: Actor,
     start: &Start,

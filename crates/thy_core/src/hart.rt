@@ -1,18 +1,19 @@
 //! A hart's turn while nothing keeps it.
 ghost use Rattle.std.specs.Prelude.{◌≡◌, ℕ, None, Some, true, ◌+◌, ◌<◌, ◌^◌, ◌&&◌, not};
+ghost use Rattle.thy_view.specs.Advances.{did_of};
 ghost use Rattle.thy_view.specs.Turn.{Advances};
 ghost use Rattle.thy_hart.specs.declared.hand.Hand.TheVariants.{Nothing};
 ghost use Rattle.thy_core_laws.specs.Calls.{retires_over, retires_by, ends_by, begun_by_hart, hart_did, after_hart};
 ghost use Rattle.thy_core_laws.specs.Machine.{cpu_fronted};
 ghost use Rattle.thy_core.specs.Calm.{KnowsCalm, is_over};
-ghost use Rattle.thy_core.specs.Cycles.{HasInput, CanTake, HasTaken};
+ghost use Rattle.thy_core.specs.Cycles.{HasInput, CanTake, HasTaken, did_by};
 ghost use Rattle.thy_core.specs.MachineParts.{machine_of};
 
 use crate::parts::MachineParts;
 use thy_base::{EndCause, Nvm, NvmError};
 use thy_hart::HartStep;
 use thy_scheme::Scheme;
-use thy_view::Did;
+use thy_view::Advance;
 
 /// Takes a step of this hart, whose instruction is begun if none is. A machine stays marked as calm until a line is brought or
 /// the epoch is over.
@@ -21,11 +22,11 @@ pub(crate) fn execute<N: Nvm, S: Scheme>(
     hart: u8,
     input: &[u8],
     nvm: &mut N,
-) -> Result<Did, NvmError>
+) -> Result<Advance, NvmError>
     requires turn { CanTake S.scheme (HasInput input.now) (Advances hart) (machine_of m.old) (N.device nvm.old) }
     requires known { KnowsCalm S.scheme m.old }
     ensures taken { HasTaken S.scheme (HasInput input.now) (Advances hart)
-        (machine_of m.old) (N.device nvm.old) (machine_of m.new) (N.device nvm.new) result }
+        (machine_of m.old) (N.device nvm.old) (machine_of m.new) (N.device nvm.new) (did_by result) }
     ensures phase { m.new.phase ≡ m.old.phase }
     ensures known { KnowsCalm S.scheme m.new }
 {
@@ -63,18 +64,18 @@ fn front<S>(m: &mut MachineParts<S>, hart: u8)
 
 /// Counts a step of this hart. Once its instruction has ended, hart 0 is in front again. Once the epoch is over, the machine is
 /// not calm.
-fn count<S>(m: &mut MachineParts<S>, hart: u8, step: HartStep) -> Did
+fn count<S>(m: &mut MachineParts<S>, hart: u8, step: HartStep) -> Advance
     requires begun { m.old.begun ≡ Some hart }
     requires hand { ends_by step ≡ true → m.old.hart.hand ≡ Nothing }
     requires spent { m.old.spent + 1 < 2 ^ 64 }
     requires lap { m.old.lap + 1 < 2 ^ 64 }
     ensures parts { machine_of m.new ≡ after_hart hart step m.old.hart m.old.cache m.old.store.scheme (machine_of m.old) }
-    ensures did { result ≡ hart_did hart step }
+    ensures did { did_of result ≡ hart_did hart step }
     ensures calm { m.new.store.calm ≡ (not (is_over step) && m.old.store.calm) }
 {
     m.spent += 1;
     if !ends(step) {
-        return Did::Moved;
+        return Advance::Moved;
     }
     front(m, hart);
     m.begun = None;
@@ -82,9 +83,9 @@ fn count<S>(m: &mut MachineParts<S>, hart: u8, step: HartStep) -> Did
     if retires(step) {
         m.lap += 1;
         m.last = Some(hart);
-        Did::Retired(hart as u32)
+        Advance::Retired(hart)
     } else {
-        Did::Moved
+        Advance::Moved
     }
 }
 

@@ -1,8 +1,9 @@
 //! The machine and its calls.
-ghost use Rattle.std.specs.Prelude.{◌≡◌, ℕ, IfOk, IfErr, OnOk, is_err};
+ghost use Rattle.std.specs.Prelude.{◌≡◌, ℕ, Ok, None, IfOk, IfErr, OnOk, is_err};
 ghost use Rattle.thy_base.specs.Device.{Device, IsFramed, CountsFault};
 ghost use Rattle.thy_dram.specs.Contents.{lost};
 ghost use Rattle.thy_view.specs.declared.view.View.{View};
+ghost use Rattle.thy_view.specs.Advances.{IfAdvanced, IsOthersTurn};
 ghost use Rattle.thy_view.specs.Kind.{CanStep, CanRead, CanSnapshot, Simulates, FailsSafe, IsDramOf, SnapshotsStopped, ShowsConsole, LeavesAlonePast, TellsLoading, HasFailedToRead};
 ghost use Rattle.thy_view.specs.Origin.{Origin};
 ghost use Rattle.thy_view.specs.Restart.{RestartsUnwritten};
@@ -12,7 +13,7 @@ ghost use Rattle.thy_core_laws.specs.Sound.{IsAt, SoundStopped, IsPowered};
 ghost use Rattle.thy_core.specs.Reading.{ReadsBare, ReadsState, ShowsNone};
 
 use crate::parts::MachineParts;
-use crate::step::take_step;
+use crate::step::{step_hart, step_other};
 use crate::turn::mark_calm;
 use crate::{power, snapshot};
 use std::alloc::{AllocError, Global};
@@ -22,7 +23,7 @@ use thy_dram::Dram;
 use thy_isa::MachState;
 use thy_layout::Start;
 use thy_scheme::Scheme;
-use thy_view::{CoreError, Stepped};
+use thy_view::{Advance, CoreError, Stepped};
 
 /// One hart or two, with a cache over a scheme of checkpoints. One step is one cycle.
 #[derive(Drop)]
@@ -91,6 +92,56 @@ impl<S: Scheme> Machine<S> {
         self.parts.failed
     }
 
+    /// Takes the pick's cycle, if a hart advances its instruction in it: its own, or that of an actor which has nothing to
+    /// do. An instruction that is begun is carried to its end before another one is. If another actor is to act, nothing is
+    /// done, and `take_other` with the same pick takes the cycle. Allocates nothing.
+    ///
+    /// After an error the NVM may hold what the failed call left, and only `failed`, `snapshot` and `cut` may be called
+    /// on the machine.
+    #[inline(always)]
+    pub fn advance<N: Nvm>(
+        &mut self,
+        pick: Pick,
+        start: &Start,
+        nvm: &mut N,
+    ) -> Result<Option<Advance>, NvmError>
+        requires { CanStep (kind_over S.scheme) start.now self.old (N.device nvm.old) }
+        ensures steps { IfAdvanced result (Simulates (kind_over S.scheme) start.now pick self.old self.new (N.device nvm.old) (N.device nvm.new)) }
+        ensures safe { IfAdvanced result (FailsSafe (kind_over S.scheme) start.now pick self.old self.new (N.device nvm.old) (N.device nvm.new)) }
+        ensures frame { IsFramed (N.device nvm.old) (N.device nvm.new) }
+        ensures cause { CountsFault result (N.device nvm.old).faults (N.device nvm.new).faults }
+        ensures no_writes { let kind = kind_over S.scheme in
+            RestartsUnwritten kind self.old (N.device nvm.old) (N.writes nvm.old) (N.writes nvm.new) }
+        ensures left { result ≡ Ok None → (self.new ≡ self.old) × (nvm.new ≡ nvm.old) }
+        ensures others { result ≡ Ok None → IsOthersTurn (kind_over S.scheme) pick self.old (N.device nvm.old) }
+        ensures failed { self.new.failed ≡ is_err result }
+    {
+        mark_calm(&mut self.parts);
+        step_hart(&mut self.parts, pick, start, nvm)
+    }
+
+    /// Takes the pick's cycle, if no hart advances in it. Allocates nothing.
+    ///
+    /// After an error as after one of `advance`.
+    pub fn take_other<N: Nvm>(
+        &mut self,
+        pick: Pick,
+        start: &Start,
+        nvm: &mut N,
+    ) -> Result<Stepped, NvmError>
+        requires can { CanStep (kind_over S.scheme) start.now self.old (N.device nvm.old) }
+        requires others { IsOthersTurn (kind_over S.scheme) pick self.old (N.device nvm.old) }
+        ensures steps { Simulates (kind_over S.scheme) start.now pick self.old self.new (N.device nvm.old) (N.device nvm.new) result }
+        ensures safe { FailsSafe (kind_over S.scheme) start.now pick self.old self.new (N.device nvm.old) (N.device nvm.new) result }
+        ensures frame { IsFramed (N.device nvm.old) (N.device nvm.new) }
+        ensures cause { CountsFault result (N.device nvm.old).faults (N.device nvm.new).faults }
+        ensures no_writes { let kind = kind_over S.scheme in
+            RestartsUnwritten kind self.old (N.device nvm.old) (N.writes nvm.old) (N.writes nvm.new) }
+        ensures failed { self.new.failed ≡ is_err result }
+    {
+        step_other(&mut self.parts, pick, start, nvm)
+    }
+
     /// One cycle: the pick's, or a hart's if the pick's actor has nothing to do. An instruction that is begun is
     /// carried to its end before another one is. Allocates nothing.
     ///
@@ -111,8 +162,11 @@ impl<S: Scheme> Machine<S> {
             RestartsUnwritten kind self.old (N.device nvm.old) (N.writes nvm.old) (N.writes nvm.new) }
         ensures failed { self.new.failed ≡ is_err result }
     {
-        mark_calm(&mut self.parts);
-        take_step(&mut self.parts, pick, start, nvm)
+        match self.advance(pick, start, nvm) {
+            Ok(Some(advance)) => Ok(advance.stepped()),
+            Ok(None) => self.take_other(pick, start, nvm),
+            Err(error) => Err(error),
+        }
     }
 
     /// Once the boot is over, the state that the machine executes, if no instruction that is under way has written a

@@ -180,7 +180,7 @@ fn only_harts<N: Nvm, S>(m: &MachineParts<S>, nvm: &N) -> bool
 
 /// Whose turn a pick is, by what each actor has to do, with so many writes queued in the NVM.
 #[inline(always)]
-fn turn_of<S: Scheme>(m: &MachineParts<S>, pick: Pick, nvm: u64) -> Turn
+pub(crate) fn turn_of<S: Scheme>(m: &MachineParts<S>, pick: Pick, nvm: u64) -> Turn
     ensures { turn_seen result ≡ turn_now S.scheme pick nvm (machine_of m.now) }
 {
     let hart = hart_turn(m, pick);

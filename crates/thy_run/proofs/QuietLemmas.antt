@@ -1,20 +1,25 @@
 -- Cycles with nothing to report, one after another.
 use Rattle.std.proofs.Common.{◌≡◌, ◌<◌, ◌^◌, ℕ, suc, ◌+◌, false, List, [], length, sym, ◌∙◌, ◌≤◌, ap, subst, refl, arith}
 use Rattle.thy_base.specs.declared.config.Parameters.{Parameters}
+use Rattle.thy_base.specs.declared.mix.Mix.{Mix}
+use Rattle.thy_base.specs.declared.mix.Pick.{Pick}
 use Rattle.thy_base.specs.Device.{Device}
 use Rattle.thy_base.specs.Geometry.{IsInRange}
+use Rattle.thy_base.specs.Mix.{mix_pick, mix_next}
 use Rattle.thy_base.specs.Outside.{Stream, Took}
 use Rattle.thy_text.specs.Lines.{report_of}
 use Rattle.thy_text.specs.Event.{Event}
+use Rattle.thy_view.specs.declared.did.Advance.{Advance}
 use Rattle.thy_view.specs.declared.did.Stepped.{Stepped}
+use Rattle.thy_view.specs.Advances.{stepped_of}
 use Rattle.thy_view.specs.Kind.{KindOf, IsLawful}
 use Rattle.thy_run.specs.declared.plan.Plan.{Plan}
 use Rattle.thy_run.specs.declared.progress.Progress.{Progress}
 use Rattle.thy_run.specs.Due.{IsQuiet}
-use Rattle.thy_run.specs.Going.{origin_of, given_of, turns_then, world_at, telling_of, IsPlanned, GoesOn, IsStepped, Passes}
+use Rattle.thy_run.specs.Going.{origin_of, given_of, turns_then, world_at, telling_of, IsPlanned, GoesOn, HasDrawn, IsStepped, Passes}
 use Rattle.thy_run.specs.Laws.{released_of}
 use Rattle.thy_run.specs.Promises.{HasStepped}
-use Rattle.thy_run.specs.Quiet.{IsWatched, IsLed, IsPaused, RunsQuietly}
+use Rattle.thy_run.specs.Quiet.{IsWatched, IsLed, IsQuietCycle, IsPaused, RunsQuietly}
 use Rattle.thy_run.specs.Rounds.{Running, RunEndsAt, ending_of}
 use Rattle.thy_run.specs.Seeing.{Watched, RunEndsSeen}
 use Rattle.thy_run.specs.declared.ending.Ending.{Ending}
@@ -27,6 +32,16 @@ use Rattle.thy_run.proofs.AdvanceLemmas.{quiet_goes, IsBroken-stuck}
 use Rattle.thy_run.proofs.OutcomeLemmas.{ComesTo-untold}
 use Rattle.thy_run.proofs.SeeingLemmas.{CanSee-watched, Watched-done, RunEndsSeen-at}
 use Rattle.thy_run.proofs.StartLemmas.{RunEnds-limit}
+
+-- a pick was drawn in a run that continues
+abbrev pub drawn_on : {M : Type 0} (K : KindOf M) (plan : Plan) (fitted : Device) (p : Progress M) (n : Device) (k : ℕ) (turns : List ℕ) (harts : ℕ) (mix : Mix) (pick : Pick)
+    → harts ≡ plan.geometry.harts → pick ≡ mix_pick harts p.mix → mix ≡ mix_next harts p.mix → GoesOn K plan fitted p n k turns
+    → HasDrawn K plan fitted (record p { mix = mix }) n k turns pick
+drawn_on K plan fitted p n k turns harts mix pick same is after goes = record {
+  mix = p.mix;
+  drawn = record { pick_is = is ∙ ap (λ h. mix_pick h p.mix) same; after_is = after ∙ ap (λ h. mix_next h p.mix) same };
+  goes = goes;
+}
 
 -- a cycle that passes lets the run continue
 passes_on : {M : Type 0} (K : KindOf M) (plan : Plan) (fitted : Device) (p q : Progress M) (n m : Device) (k : ℕ) (turns : List ℕ) (r : Stepped) → GoesOn K plan fitted p n k turns → Passes K plan p q n m k turns r [] → GoesOn K plan fitted q m (k + 1) (turns_then plan turns r.did)
@@ -59,6 +74,20 @@ IsLed-on K laws has_seen plan fitted p q next n new done now r o o' planned led 
       untold = same ∙ led.untold;
       more = omega (arith, led.more);
     }
+
+-- with one in which a hart advanced
+pub IsLed-advanced : {M O : Type 0} (K : KindOf M) (laws : IsLawful K) (has_seen : O → List Taken → Type 0) (plan : Plan) (fitted : Device) (p q next : Progress M) (n new : Device) (done now : ℕ) (a : Advance) (r : Stepped) (o o' : O)
+    → IsPlanned plan → (led : IsLed K has_seen plan fitted p q n done now o) → IsStepped K plan q next n new now led.turns (stepped_of a) → IsQuiet plan.config.cuts next (stepped_of a) (now + 1)
+    → r ≡ stepped_of a → Sees has_seen o o' (taken r 0 false) → IsLed K has_seen plan fitted p next new done (now + 1) o'
+IsLed-advanced K laws has_seen plan fitted p q next n new done now a r o o' planned led stepped quiet is sees =
+    IsLed-on K laws has_seen plan fitted p q next n new done now (stepped_of a) o o' planned led stepped quiet (subst (λ (x : Stepped). Sees has_seen o o' (taken x 0 false)) is sees)
+
+-- with one of another actor
+pub IsLed-passed : {M O : Type 0} (K : KindOf M) (laws : IsLawful K) (has_seen : O → List Taken → Type 0) (plan : Plan) (fitted : Device) (p q next : Progress M) (n new : Device) (done now : ℕ) (o o' : O)
+    → IsPlanned plan → (led : IsLed K has_seen plan fitted p q n done now o) → IsQuietCycle K has_seen plan q next n new now led.turns o o'
+    → IsLed K has_seen plan fitted p next new done (now + 1) o'
+IsLed-passed K laws has_seen plan fitted p q next n new done now o o' planned led c =
+    IsLed-on K laws has_seen plan fitted p q next n new done now c.r o o' planned led c.stepped c.quiet c.sees
 
 -- with sinks that had taken all that was due, and were given nothing meanwhile
 pub Running-led : {M O : Type 0} (K : KindOf M) (has_seen : O → List Taken → Type 0) (plan : Plan) (fitted : Device) (p q : Progress M) (n m : Device) (k now : ℕ) (turns : List ℕ) (o : O) (t0 t1 r0 r1 : Stream)

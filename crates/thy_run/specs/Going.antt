@@ -4,6 +4,8 @@ use Rattle.std.specs.declared.alloc.Global.{Global}
 use Rattle.thy_base.specs.declared.config.Parameters.{Parameters}
 use Rattle.thy_base.specs.Bytes.{bytes_of, room_of}
 use Rattle.thy_base.specs.Config.{IsRising}
+use Rattle.thy_base.specs.declared.mix.Mix.{Mix}
+use Rattle.thy_base.specs.declared.mix.Pick.{Pick}
 use Rattle.thy_base.specs.Counts.{Rose}
 use Rattle.thy_base.specs.Device.{Device, IsFramed, IsCut}
 use Rattle.thy_base.specs.Mix.{mix_pick, mix_next}
@@ -186,6 +188,19 @@ pub record IsStuck {M : Type 0} (K : KindOf M) (plan : Plan) (p next : Progress 
   pub framed : IsFramed n new
   pub rose : Rose n.faults new.faults
   pub same : next ≡ record p { machine = next.machine; mix = mix_next plan.geometry.harts p.mix }
+
+-- the next pick was drawn from a schedule, which goes on so
+pub record IsDrawn (harts : ℕ) (before after : Mix) (pick : Pick) : Type 0 where
+  pub pick_is : pick ≡ mix_pick harts before
+  pub after_is : after ≡ mix_next harts before
+
+-- the run continues, but that its next pick was drawn: it was this one
+pub record HasDrawn {M : Type 0} (K : KindOf M) (plan : Plan) (fitted : Device) (p : Progress M) (n : Device) (cycles : ℕ)
+    (turns : List ℕ) (pick : Pick) : Type 0 where
+  -- the schedule before it
+  pub mix : Mix
+  pub drawn : IsDrawn plan.geometry.harts mix p.mix pick
+  pub goes : GoesOn K plan fitted (record p { mix = mix }) n cycles turns
 
 -- this step and all its events were made, and these bytes are due to the terminal
 pub record IsNoted {M : Type 0} (K : KindOf M) (plan : Plan) (p next : Progress M) (n new : Device) (cycles : ℕ)

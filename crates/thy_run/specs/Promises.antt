@@ -1,8 +1,9 @@
 -- What the functions of the loop promise each other: each from any moment of any run.
-use Rattle.std.specs.Prelude.{◌≡◌, ℕ, ◌+◌, ◌<◌, ◌&&◌, true, Bool, List, length, Option, Result, IfOk, OnOk, OnErr, ◌++◌, Box}
+use Rattle.std.specs.Prelude.{◌≡◌, ℕ, ◌+◌, ◌<◌, ◌&&◌, true, Bool, List, length, Option, Result, MatchResult, IfOk, OnOk, OnErr, ◌++◌, Box}
 use Rattle.std.specs.declared.alloc.Global.{Global}
 use Rattle.thy_base.specs.declared.bytes.Bytes.{Bytes}
 use Rattle.thy_base.specs.declared.cause.EndCause.{EndCause}
+use Rattle.thy_base.specs.declared.mix.Pick.{Pick}
 use Rattle.thy_base.specs.declared.nvm.NvmError.{NvmError}
 use Rattle.thy_base.specs.Bytes.{bytes_of}
 use Rattle.thy_base.specs.Device.{Device}
@@ -15,16 +16,19 @@ use Rattle.thy_view.specs.declared.did.Did.TheVariants.{Restarted, Sealed}
 use Rattle.thy_view.specs.declared.did.Stepped.{Stepped}
 use Rattle.thy_view.specs.declared.error.CoreError.{CoreError}
 use Rattle.thy_view.specs.declared.view.View.{View}
+use Rattle.thy_view.specs.Advances.{stepped_of}
 use Rattle.thy_view.specs.Kind.{IsSnapshot, KindOf}
 use Rattle.thy_view.specs.Origin.{Origin}
 use Rattle.thy_view.specs.Views.{is_between, loads}
 use Rattle.thy_run.specs.Due.{due_of}
+use Rattle.thy_run.specs.declared.advance.HartCycle.{HartCycle}
+use Rattle.thy_run.specs.declared.advance.HartCycle.TheVariants.{Advanced, Left, Failed}
 use Rattle.thy_run.specs.declared.advance.Outcome.{Outcome}
 use Rattle.thy_run.specs.declared.ending.Ending.{Ending}
 use Rattle.thy_run.specs.declared.gather.Readings.{Readings}
 use Rattle.thy_run.specs.declared.plan.Plan.{Plan}
 use Rattle.thy_run.specs.declared.progress.Progress.{Progress}
-use Rattle.thy_run.specs.Going.{origin_of, line_of, turns_then, world_at, GoesOn, IsStepped, IsStuck, CanGather, MadeSome, Restores, IsEnding, IsEnd, IsGathered, AwaitsCut}
+use Rattle.thy_run.specs.Going.{origin_of, line_of, turns_then, world_at, GoesOn, HasDrawn, IsStepped, IsStuck, CanGather, MadeSome, Restores, IsEnding, IsEnd, IsGathered, AwaitsCut}
 use Rattle.thy_run.specs.Sending.{Sinks}
 use Rattle.thy_run.specs.Seeing.{Watched, CycleTaken}
 use Rattle.thy_run.specs.Watching.{Taken}
@@ -33,19 +37,27 @@ use Rattle.thy_run.specs.World.{seen, turns_behind, did_told, end_told, events_o
 
 -- ---- a step
 
--- a step that succeeded is the schedule's next
-abbrev pub StepsOn : {M : Type 0} → KindOf M → Plan → Progress M → Progress M → Device → Device → ℕ
-    → Result Stepped NvmError → Type 0
-StepsOn K plan p next n new done result =
-    (fitted : Device) (turns : List ℕ) → GoesOn K plan fitted p n done turns
-    → IfOk result (λ r. IsStepped K plan p next n new done turns r)
+-- a hart advanced, and this is the schedule's next step; or it is another actor's cycle, and nothing is done; or it failed
+abbrev pub AdvancedTo : {M : Type 0} → KindOf M → Plan → Progress M → Progress M → Progress M → Device → Device → ℕ → List ℕ
+    → HartCycle → Type 0
+AdvancedTo K plan p q next n new done turns (Advanced a) = IsStepped K plan p next n new done turns (stepped_of a)
+AdvancedTo K plan p q next n new done turns Left = (next ≡ q) × (new ≡ n)
+AdvancedTo K plan p q next n new done turns Failed = IsStuck K plan p next n new turns
 
--- and one that failed leaves what its action may leave
-abbrev pub GetsStuck : {M : Type 0} → KindOf M → Plan → Progress M → Progress M → Device → Device → ℕ
+-- the same in each run of which the pick was drawn
+abbrev pub AdvancesOn : {M : Type 0} → KindOf M → Plan → Progress M → Progress M → Device → Device → ℕ → Pick
+    → HartCycle → Type 0
+AdvancesOn K plan q next n new done pick result =
+    (fitted : Device) (turns : List ℕ) (d : HasDrawn K plan fitted q n done turns pick)
+    → AdvancedTo K plan (record q { mix = d.mix }) q next n new done turns result
+
+-- a step that succeeded is the schedule's next, and one that failed leaves what its action may leave
+abbrev pub StepsOn : {M : Type 0} → KindOf M → Plan → Progress M → Progress M → Device → Device → ℕ → Pick
     → Result Stepped NvmError → Type 0
-GetsStuck K plan p next n new done result =
-    (fitted : Device) (turns : List ℕ) → GoesOn K plan fitted p n done turns
-    → OnErr result (IsStuck K plan p next n new turns)
+StepsOn K plan q next n new done pick result =
+    (fitted : Device) (turns : List ℕ) (d : HasDrawn K plan fitted q n done turns pick)
+    → MatchResult result (IsStepped K plan (record q { mix = d.mix }) next n new done turns)
+    (λ _. IsStuck K plan (record q { mix = d.mix }) next n new turns)
 
 -- ---- what is read for a step's events
 

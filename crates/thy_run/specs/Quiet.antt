@@ -1,15 +1,17 @@
 -- Cycles with nothing to report, one after another. No sink has a part in them.
-use Rattle.std.specs.Prelude.{◌≡◌, ◌≤◌, ◌<◌, ◌+◌, ℕ, List}
+use Rattle.std.specs.Prelude.{◌≡◌, ◌≤◌, ◌<◌, ◌+◌, ℕ, false, List, Option, Some, None}
+use Rattle.thy_base.specs.declared.mix.Pick.{Pick}
 use Rattle.thy_base.specs.Device.{Device}
+use Rattle.thy_view.specs.declared.did.Stepped.{Stepped}
 use Rattle.thy_view.specs.Kind.{KindOf}
 use Rattle.thy_run.specs.declared.plan.Plan.{Plan}
 use Rattle.thy_run.specs.declared.progress.Progress.{Progress}
 use Rattle.thy_run.specs.declared.quiet.Pause.{Pause}
 use Rattle.thy_run.specs.declared.quiet.Pause.TheVariants.{Limit, Steps, Stuck}
 use Rattle.thy_run.specs.Due.{IsQuiet}
-use Rattle.thy_run.specs.Going.{GoesOn, IsStepped, IsStuck}
+use Rattle.thy_run.specs.Going.{GoesOn, HasDrawn, IsStepped, IsStuck}
 use Rattle.thy_run.specs.Seeing.{Watched}
-use Rattle.thy_run.specs.Watching.{Taken}
+use Rattle.thy_run.specs.Watching.{Taken, Sees, taken}
 
 -- the run continues, and the observer has seen its cycles
 abbrev pub IsWatched : {M O : Type 0} → KindOf M → (O → List Taken → Type 0) → Plan → Progress M → Device → ℕ → O → Type 0
@@ -33,6 +35,29 @@ StopsAt K plan q next n new now turns (Steps r) =
     (now < plan.geometry.limit) × IsStepped K plan q next n new now turns r
     × (IsQuiet plan.config.cuts next r (now + 1) → ⊥)
 StopsAt K plan q next n new now turns Stuck = (now < plan.geometry.limit) × IsStuck K plan q next n new turns
+
+-- the cycle of this step was quiet, and the observer has seen it
+pub record IsQuietCycle {M O : Type 0} (K : KindOf M) (has_seen : O → List Taken → Type 0) (plan : Plan)
+    (q next : Progress M) (n new : Device) (now : ℕ) (turns : List ℕ) (old_o new_o : O) : Type 0 where
+  pub r : Stepped
+  pub stepped : IsStepped K plan q next n new now turns r
+  pub quiet : IsQuiet plan.config.cuts next r (now + 1)
+  pub sees : Sees has_seen old_o new_o (taken r 0 false)
+
+-- a cycle was quiet, or it is the first that is not, and the observer has not seen it
+abbrev pub PassedTo : {M O : Type 0} → KindOf M → (O → List Taken → Type 0) → Plan → Progress M → Progress M
+    → Device → Device → ℕ → List ℕ → O → O → Option Pause → Type 0
+PassedTo K has_seen plan q next n new now turns old_o new_o None =
+    IsQuietCycle K has_seen plan q next n new now turns old_o new_o
+PassedTo K has_seen plan q next n new now turns old_o new_o (Some pause) =
+    StopsAt K plan q next n new now turns pause × (new_o ≡ old_o)
+
+-- the same in each run of which the pick was drawn
+abbrev pub PassesTo : {M O : Type 0} → KindOf M → (O → List Taken → Type 0) → Plan → Progress M → Progress M
+    → Device → Device → ℕ → Pick → O → O → Option Pause → Type 0
+PassesTo K has_seen plan q next n new now pick old_o new_o pause =
+    (fitted : Device) (turns : List ℕ) (d : HasDrawn K plan fitted q n now turns pick)
+    → PassedTo K has_seen plan (record q { mix = d.mix }) next n new now turns old_o new_o pause
 
 -- where the quiet cycles ended, and why
 pub record IsPaused {M O : Type 0} (K : KindOf M) (has_seen : O → List Taken → Type 0) (plan : Plan) (fitted : Device)

@@ -3,14 +3,17 @@
 ghost use Rattle.std.specs.Prelude.{◌≡◌, ◌↔◌, ◌<◌, ◌≤◌, ◌+◌, ◌^◌, ◌&&◌, ◌==◌, ◌⊎◌, ◌++◌, ◌∷◌, [], if◌then◌else◌, ℕ, List, true, nat_lt, length, slice_index, slice_index_or, IfOk, IfErr};
 ghost use Rattle.thy_base.specs.Bytes.{bytes_of, room_of};
 ghost use Rattle.thy_base.specs.Device.{Device as DeviceValue};
+ghost use Rattle.thy_run.specs.declared.advance.HartCycle.TheVariants.{Left};
 ghost use Rattle.thy_run.specs.Due.{is_told, IsQuiet};
-ghost use Rattle.thy_run.specs.Going.{IsPlanned, GoesOn, HasRoomToList, list_after, CanCut, IsCutOffTo};
-ghost use Rattle.thy_run.specs.Promises.{StepsOn, GetsStuck, HasStepped, CanConclude, Concludes};
+ghost use Rattle.thy_run.specs.Going.{IsPlanned, HasDrawn, HasRoomToList, list_after, CanCut, IsCutOffTo};
+ghost use Rattle.thy_run.specs.Promises.{AdvancesOn, StepsOn, HasStepped, CanConclude, Concludes};
 ghost use Rattle.thy_run.specs.Seeing.{Reports};
 ghost use Rattle.thy_run.specs.Sending.{sinks};
 ghost use Rattle.thy_run.specs.Watching.{CanSee};
 ghost use Rattle.thy_run.specs.World.{turns_after};
+ghost use Rattle.thy_view.specs.declared.did.Advance.{Advance as AdvanceValue};
 ghost use Rattle.thy_view.specs.declared.did.Did.TheVariants.{Retired};
+ghost use Rattle.thy_view.specs.Advances.{IsOthersTurn, did_of, stepped_of};
 
 use crate::ending::Stop;
 use crate::gather::{Readings, gather};
@@ -20,9 +23,9 @@ use crate::plan::Plan;
 use crate::progress::Progress;
 use crate::tell::{tell, write_lines};
 use std::alloc::Global;
-use thy_base::{Bytes, Config, Nvm, NvmError, Sink};
+use thy_base::{Bytes, Config, Nvm, NvmError, Pick, Sink};
 use thy_text::{Event, Events, Telling};
-use thy_view::{Computer, Did, Stepped};
+use thy_view::{Advance, Computer, Did, Stepped};
 
 /// What a cycle came to.
 #[derive(Drop)]
@@ -35,6 +38,17 @@ pub enum Outcome {
     Stops(Stop),
     /// It is not done, and the run stops.
     Breaks(Stop),
+}
+
+/// What a pick's cycle came to, if it was asked for as a hart's.
+#[derive(Clone, Copy, Debug, PartialEq, Eq)]
+pub enum HartCycle {
+    /// A hart has advanced its instruction.
+    Advanced(Advance),
+    /// Another actor is to act. Nothing is done.
+    Left,
+    /// The hart's step failed.
+    Failed,
 }
 
 /// Lists a hart, if there are two. Allocates nothing.
@@ -68,28 +82,70 @@ fn list_turn(turns: &mut Bytes, harts: u64, did: Did)
     }
 }
 
-/// Steps the machine by the schedule's next pick, and lists the hart if an instruction retired. So many cycles were
-/// done before.
-pub fn step<M: Computer, N: Nvm>(
+/// Lists the hart that retired an instruction when it advanced, if there are two harts. Allocates nothing.
+#[inline(always)]
+fn list_advance(turns: &mut Bytes, harts: u64, advance: Advance)
+    requires { HasRoomToList harts (bytes_of turns.old) (room_of turns.old) (did_of advance) }
+    ensures turns { bytes_of turns.new ≡ turns_after harts (bytes_of turns.old) (did_of advance) }
+    ensures room { room_of turns.old ≤ room_of turns.new }
+{
+    match advance {
+        Advance::Moved => {}
+        Advance::Retired(hart) => list_hart(turns, harts, hart),
+    }
+}
+
+/// Takes the cycle of a pick that was drawn, if a hart advances in it, and lists that hart if an instruction retired. So
+/// many cycles were done before.
+#[inline(always)]
+pub fn advance<M: Computer, N: Nvm>(
     progress: &mut Progress<M>,
     plan: &Plan,
+    pick: Pick,
+    done: u64,
+    nvm: &mut N,
+) -> HartCycle
+    requires planned { IsPlanned plan.now }
+    requires drawn { let n = N.device nvm.old in
+        (fitted : DeviceValue) × (turns : List ℕ) × HasDrawn M.kind plan.now fitted progress.old n done turns pick }
+    requires few { done < 2 ^ 62 }
+    ensures advances { let n = N.device nvm.old in
+        AdvancesOn M.kind plan.now progress.old progress.new n (N.device nvm.new) done pick result }
+    ensures others { result ≡ Left → IsOthersTurn M.kind pick progress.old.machine (N.device nvm.old) }
+{
+    match progress.machine.advance(pick, &plan.start, nvm) {
+        Ok(Some(advance)) => {
+            list_advance(&mut progress.turns, plan.geometry.harts(), advance);
+            HartCycle::Advanced(advance)
+        }
+        Ok(None) => HartCycle::Left,
+        Err(_) => HartCycle::Failed,
+    }
+}
+
+/// Takes the cycle of a pick that was drawn, if no hart advances in it. So many cycles were done before.
+pub fn take_other<M: Computer, N: Nvm>(
+    progress: &mut Progress<M>,
+    plan: &Plan,
+    pick: Pick,
     done: u64,
     nvm: &mut N,
 ) -> Result<Stepped, NvmError>
     requires planned { IsPlanned plan.now }
-    requires goes { let n = N.device nvm.old in
-        (fitted : DeviceValue) × (turns : List ℕ) × GoesOn M.kind plan.now fitted progress.old n done turns }
+    requires drawn { let n = N.device nvm.old in
+        (fitted : DeviceValue) × (turns : List ℕ) × HasDrawn M.kind plan.now fitted progress.old n done turns pick }
+    requires others { IsOthersTurn M.kind pick progress.old.machine (N.device nvm.old) }
     requires few { done < 2 ^ 62 }
-    ensures stepped { let n = N.device nvm.old in
-        StepsOn M.kind plan.now progress.old progress.new n (N.device nvm.new) done result }
-    ensures stuck { let n = N.device nvm.old in
-        GetsStuck M.kind plan.now progress.old progress.new n (N.device nvm.new) done result }
+    ensures { let n = N.device nvm.old in
+        StepsOn M.kind plan.now progress.old progress.new n (N.device nvm.new) done pick result }
 {
-    let harts = plan.geometry.harts();
-    let pick = progress.mix.next(harts);
-    let stepped = progress.machine.step(pick, &plan.start, nvm)?;
-    list_turn(&mut progress.turns, harts, stepped.did);
-    Ok(stepped)
+    match progress.machine.take_other(pick, &plan.start, nvm) {
+        Ok(stepped) => {
+            list_turn(&mut progress.turns, plan.geometry.harts(), stepped.did);
+            Ok(stepped)
+        }
+        Err(error) => Err(error),
+    }
 }
 
 /// Whether a cut falls after this cycle: the next one that is listed.
@@ -121,6 +177,15 @@ pub fn is_quiet<M>(progress: &Progress<M>, plan: &Plan, stepped: &Stepped, cycle
         && !stepped.ended
         && !progress.fresh
         && !is_due(&plan.config, progress.passed, cycle)
+}
+
+/// Whether a cycle in which a hart advanced has nothing to report: it is not the first one after a cut, and no cut is due
+/// after it.
+#[inline(always)]
+pub fn advances_quietly<M>(progress: &Progress<M>, plan: &Plan, cycle: u64) -> bool
+    ensures { (a : AdvanceValue) → (result ≡ true ↔ IsQuiet plan.now.config.cuts progress.now (stepped_of a) cycle) }
+{
+    !progress.fresh && !is_due(&plan.config, progress.passed, cycle)
 }
 
 /// The pick of a cut: the one at its position in the list, 0 if the list is shorter.

@@ -1,14 +1,17 @@
 //! Cycles with nothing to report, one after another. Their loop knows of no sink, so it is made once for a machine, a
 //! device and an observer, and what it calls becomes part of it.
-ghost use Rattle.std.specs.Prelude.{◌≤◌};
-ghost use Rattle.thy_run.specs.Going.{IsPlanned};
-ghost use Rattle.thy_run.specs.Quiet.{IsWatched, RunsQuietly};
+ghost use Rattle.std.specs.Prelude.{◌≤◌, ◌<◌, ◌+◌, ℕ, List};
+ghost use Rattle.thy_base.specs.Device.{Device as DeviceValue};
+ghost use Rattle.thy_view.specs.Advances.{IsOthersTurn};
+ghost use Rattle.thy_run.specs.Going.{IsPlanned, HasDrawn};
+ghost use Rattle.thy_run.specs.Quiet.{IsWatched, PassesTo, RunsQuietly};
+ghost use Rattle.thy_run.specs.Watching.{CanSee};
 
-use crate::advance::{is_quiet, step};
+use crate::advance::{HartCycle, advance, advances_quietly, is_quiet, take_other};
 use crate::observer::Observer;
 use crate::plan::Plan;
 use crate::progress::Progress;
-use thy_base::Nvm;
+use thy_base::{Nvm, Pick};
 use thy_view::{Computer, Stepped};
 
 /// Why a row of quiet cycles ended.
@@ -20,6 +23,39 @@ pub enum Pause {
     Steps(Stepped),
     /// The next step failed.
     Stuck,
+}
+
+/// Takes the cycle of a pick that was drawn, if no hart advances in it. If it has nothing to report the observer sees it;
+/// else this is why the quiet cycles end. Few cycles are of this kind: it is never made part of the loop.
+#[inline(never)]
+fn pass_other<M: Computer, N: Nvm, O: Observer>(
+    progress: &mut Progress<M>,
+    plan: &Plan,
+    pick: Pick,
+    now: u64,
+    nvm: &mut N,
+    observer: &mut O,
+) -> Option<Pause>
+    requires planned { IsPlanned plan.now }
+    requires drawn { let n = N.device nvm.old in
+        (fitted : DeviceValue) × (turns : List ℕ) × HasDrawn M.kind plan.now fitted progress.old n now turns pick }
+    requires others { IsOthersTurn M.kind pick progress.old.machine (N.device nvm.old) }
+    requires few { now < plan.now.geometry.limit }
+    requires unseen { CanSee O.has_seen observer.old (now + 1) }
+    ensures { let n = N.device nvm.old in
+        let new = N.device nvm.new in
+        let p = progress.old in
+        let o = observer.old in
+        PassesTo M.kind O.has_seen plan.now p progress.new n new now pick o observer.new result }
+{
+    let Ok(stepped) = take_other(progress, plan, pick, now, nvm) else {
+        return Some(Pause::Stuck);
+    };
+    if !is_quiet(progress, plan, &stepped, now + 1) {
+        return Some(Pause::Steps(stepped));
+    }
+    observer.see(&stepped, 0, now + 1);
+    None
 }
 
 /// Runs cycles while they have nothing to report: no event, and no cut that is due. So many were done before. It answers
@@ -40,15 +76,24 @@ pub fn run_quiet<M: Computer, N: Nvm, O: Observer>(
         let o = observer.old in
         RunsQuietly M.kind O.has_seen plan.now p progress.new n new done o observer.new result.0 result.1 }
 {
+    let harts = plan.geometry.harts();
     let limit = plan.geometry.numbers().limit;
     for now in done..limit {
-        let Ok(stepped) = step(progress, plan, now, nvm) else {
-            return (now, Pause::Stuck);
-        };
-        if !is_quiet(progress, plan, &stepped, now + 1) {
-            return (now, Pause::Steps(stepped));
+        let pick = progress.mix.next(harts);
+        match advance(progress, plan, pick, now, nvm) {
+            HartCycle::Advanced(advance) => {
+                if !advances_quietly(progress, plan, now + 1) {
+                    return (now, Pause::Steps(advance.stepped()));
+                }
+                observer.see(&advance.stepped(), 0, now + 1);
+            }
+            HartCycle::Left => {
+                if let Some(pause) = pass_other(progress, plan, pick, now, nvm, observer) {
+                    return (now, pause);
+                }
+            }
+            HartCycle::Failed => return (now, Pause::Stuck),
         }
-        observer.see(&stepped, 0, now + 1);
     }
     (limit, Pause::Limit)
 }

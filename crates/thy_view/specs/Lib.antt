@@ -12,6 +12,7 @@ pub mod Booting
 pub mod Told
 pub mod OneHart
 pub mod Kind
+pub mod Advances
 pub mod Laws
 pub mod Restart
 pub mod Again

@@ -1,13 +1,14 @@
 //! What a machine is to the layers above it.
-ghost use Rattle.std.specs.Prelude.{◌≡◌, ◌<◌, ℕ, IfOk, IfErr, OnOk};
+ghost use Rattle.std.specs.Prelude.{◌≡◌, ◌<◌, ℕ, Ok, None, IfOk, IfErr, OnOk};
 ghost use Rattle.thy_base.specs.Device.{Device, IsFramed, CountsFault};
 ghost use Rattle.thy_dram.specs.Contents.{lost};
+ghost use Rattle.thy_view.specs.Advances.{IfAdvanced, IsOthersTurn};
 ghost use Rattle.thy_view.specs.Kind.{KindOf, IsLawful, CanStep, CanRead, CanSnapshot, IsDramOf, Simulates, FailsSafe, Snapshots, SnapshotsStopped, ShowsConsole, LeavesAlonePast, TellsLoading, HasFailedToRead};
 ghost use Rattle.thy_view.specs.Origin.{Origin};
 ghost use Rattle.thy_view.specs.Restart.{RestartsUnwritten};
 ghost use Rattle.thy_view.specs.declared.view.View.{View};
 
-use crate::{CoreError, Stepped};
+use crate::{Advance, CoreError, Stepped};
 use std::alloc::{AllocError, Global};
 use thy_base::{Bytes, Geometry, Nvm, NvmError, Pick};
 use thy_dram::Dram;
@@ -33,10 +34,47 @@ pub trait Computer: Drop {
         ensures powered { IfOk result (λ m. kind.powered geometry.now m) }
         ensures dram { IfOk result (λ m. kind.dram m ≡ dram) };
 
-    /// One cycle: the pick's, or the hart's if the pick's actor has nothing to do. Allocates nothing.
+    /// Takes the pick's cycle, if a hart advances its instruction in it: its own, or that of an actor which has nothing to
+    /// do. If another actor is to act, nothing is done, and `take_other` with the same pick takes the cycle. Allocates
+    /// nothing.
     ///
     /// After an error the device may hold what the failed call left. Then only `failed`, `snapshot` and `cut` may be
     /// called.
+    fn advance<N: Nvm>(
+        &mut self,
+        pick: Pick,
+        start: &Start,
+        nvm: &mut N,
+    ) -> Result<Option<Advance>, NvmError>
+        requires { CanStep kind start.now self.old (N.device nvm.old) }
+        ensures steps { IfAdvanced result (Simulates kind start.now pick self.old self.new (N.device nvm.old) (N.device nvm.new)) }
+        ensures safe { IfAdvanced result (FailsSafe kind start.now pick self.old self.new (N.device nvm.old) (N.device nvm.new)) }
+        ensures frame { IsFramed (N.device nvm.old) (N.device nvm.new) }
+        ensures cause { CountsFault result (N.device nvm.old).faults (N.device nvm.new).faults }
+        ensures no_writes { RestartsUnwritten kind self.old (N.device nvm.old) (N.writes nvm.old) (N.writes nvm.new) }
+        ensures left { result ≡ Ok None → (self.new ≡ self.old) × (nvm.new ≡ nvm.old) }
+        ensures others { result ≡ Ok None → IsOthersTurn kind pick self.old (N.device nvm.old) };
+
+    /// Takes the pick's cycle, if no hart advances in it. Allocates nothing.
+    ///
+    /// After an error as after one of `advance`.
+    fn take_other<N: Nvm>(
+        &mut self,
+        pick: Pick,
+        start: &Start,
+        nvm: &mut N,
+    ) -> Result<Stepped, NvmError>
+        requires can { CanStep kind start.now self.old (N.device nvm.old) }
+        requires others { IsOthersTurn kind pick self.old (N.device nvm.old) }
+        ensures steps { Simulates kind start.now pick self.old self.new (N.device nvm.old) (N.device nvm.new) result }
+        ensures safe { FailsSafe kind start.now pick self.old self.new (N.device nvm.old) (N.device nvm.new) result }
+        ensures frame { IsFramed (N.device nvm.old) (N.device nvm.new) }
+        ensures cause { CountsFault result (N.device nvm.old).faults (N.device nvm.new).faults }
+        ensures no_writes { RestartsUnwritten kind self.old (N.device nvm.old) (N.writes nvm.old) (N.writes nvm.new) };
+
+    /// One cycle: the pick's, or the hart's if the pick's actor has nothing to do. Allocates nothing.
+    ///
+    /// After an error as after one of `advance`.
     fn step<N: Nvm>(&mut self, pick: Pick, start: &Start, nvm: &mut N) -> Result<Stepped, NvmError>
         requires { CanStep kind start.now self.old (N.device nvm.old) }
         ensures steps { Simulates kind start.now pick self.old self.new (N.device nvm.old) (N.device nvm.new) result }

@@ -1,4 +1,6 @@
 //! What one cycle did.
+ghost use Rattle.std.specs.Prelude.{◌≡◌};
+ghost use Rattle.thy_view.specs.Advances.{stepped_of};
 
 use thy_base::EndCause;
 use thy_layout::{BadImage, EngineStep};
@@ -59,4 +61,31 @@ pub struct Stepped {
     pub stall: Option<Stall>,
     /// The machine is halted from this cycle on.
     pub ended: bool,
+}
+
+/// What a cycle did in which a hart advanced its instruction.
+#[derive(Clone, Copy, Debug, PartialEq, Eq)]
+pub enum Advance {
+    /// The hart moved on within an instruction.
+    Moved,
+    /// An instruction was retired, by this hart, 0 or 1.
+    Retired(u8),
+}
+
+impl Advance {
+    /// What a step reports of the cycle.
+    #[inline(always)]
+    pub fn stepped(self) -> Stepped
+        ensures { result ≡ stepped_of self }
+    {
+        let did = match self {
+            Advance::Moved => Did::Moved,
+            Advance::Retired(hart) => Did::Retired(hart as u32),
+        };
+        Stepped {
+            did,
+            stall: None,
+            ended: false,
+        }
+    }
 }

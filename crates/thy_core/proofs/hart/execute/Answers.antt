@@ -1,14 +1,15 @@
 use Rattle.std.proofs.Common.{refl, ◌∙◌, ap, subst}
 use Rattle.thy_hart.specs.Outcomes.{given}
+use Rattle.thy_view.specs.Advances.{did_of}
 use Rattle.thy_view.specs.Turn.{Advances}
 use Rattle.thy_scheme.specs.Calls.{IsOneAccess}
 use Rattle.thy_core_laws.specs.Calls.{HartCall, after_hart}
 use Rattle.thy_core_laws.specs.Machine.{Machine}
 use Rattle.thy_core_laws.proofs.BegunLaws.{ended-hand}
-use Rattle.thy_core.specs.Cycles.{HasInput}
+use Rattle.thy_core.specs.Cycles.{HasInput, did_by}
 use Rattle.thy_core.specs.MachineParts.{machine_of}
 use Rattle.thy_core.proofs.CalmLaws.{calm_kept}
-use Rattle.thy_core.proofs.CycleLaws.{taken_err, framed_once, failed_once, kept_once, hart_rests, hart_runs, hart_ready, hart_call, hart_cycle, hart_failed, begun_back}
+use Rattle.thy_core.proofs.CycleLaws.{taken_err, err_by, framed_once, failed_once, kept_once, hart_rests, hart_runs, hart_ready, hart_call, hart_cycle, hart_failed, begun_back}
 use Rattle.thy_core.proofs.hart.execute.Goals as goal
 
 pub begin-requires-clause-own : goal.begin-requires-clause-own
@@ -42,7 +43,7 @@ returns-in_err-step-clause-taken g c =
     let failed = failed_once K g.N.Nvm.device c.begin.new.m.store c.step.new.store c.args.nvm.now c.step.new.nvm c.requires.turn.at_moment.sound.up
     c.in_err-step.ensures.once c.in_err-step.ensures.cause in
     let access = subst (λ t. IsOneAccess K t n next.scheme new) (ap (λ (x : Machine _). x.scheme) c.begin.ensures.parts) failed.0.access in
-    taken_err K (HasInput c.args.input.now) (Advances c.args.hart) m next n new c.from_residual.result c.from_residual.ensures.0
+    taken_err K (HasInput c.args.input.now) (Advances c.args.hart) m next n new (did_by c.from_residual.result) (err_by c.from_residual.result c.from_residual.ensures.0)
     (λ o cycles input at turn. hart_failed K o cycles m n at c.args.hart next new turn access failed.1
     (begun_back c.args.hart m begun next turn.own c.begin.ensures.parts c.in_err-step.ensures.hart refl))
     failed.0.access.frame (failed.0.counted failed.1)
@@ -72,7 +73,7 @@ returns-clause-taken g c =
           let is = c.count.ensures.parts
           ∙ ap (after_hart c.args.hart c.in_ok-step.step h c.step.new.cache c.step.new.store.scheme) c.begin.ensures.parts in
           hart_cycle K o cycles m n at c.args.hart h c.step.new.cache c.step.new.store.scheme
-          (g.N.Nvm.device y) c.in_ok-step.step (machine_of c.count.new.m) c.count.result turn here is c.count.ensures.did;
+          (g.N.Nvm.device y) c.in_ok-step.step (machine_of c.count.new.m) (did_of c.count.result) turn here is c.count.ensures.did;
       fails = λ o cycles input at turn. tt;
       frame = framed_once K g.N.Nvm.device c.begin.new.m.store c.step.new.store x y done.once;
       cause = kept_once K g.N.Nvm.device c.begin.new.m.store c.step.new.store x y c.requires.turn.at_moment.sound.up done.once done.cause;

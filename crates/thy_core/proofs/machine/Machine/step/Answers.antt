@@ -1,32 +1,47 @@
-use Rattle.std.proofs.Common.{sym, ◌∙◌, ap, subst}
-use Rattle.thy_view.specs.Kind.{CanStep, Simulates, FailsSafe}
+use Rattle.std.proofs.Common.{Ok, sym, ◌∙◌, ap, subst}
+use Rattle.thy_view.specs.Advances.{IfAdvanced, IsOthersTurn}
+use Rattle.thy_view.specs.Kind.{Simulates, FailsSafe}
 use Rattle.thy_view.specs.Restart.{RestartsUnwritten}
 use Rattle.thy_core_laws.specs.Kind.{kind_over}
-use Rattle.thy_core_laws.specs.Machine.{Machine}
-use Rattle.thy_core.specs.Calm.{is_calm}
-use Rattle.thy_core.specs.MachineParts.{machine_of}
 use Rattle.thy_core.proofs.machine.Machine.step.Goals as goal
 
-pub take_step-requires-clause-can : goal.take_step-requires-clause-can
-take_step-requires-clause-can g c =
-    subst (λ (m : Machine g.row.S.Denot). CanStep (kind_over g.S.Scheme.scheme) c.args.start.now m (g.N.Nvm.device c.args.nvm.now))
-    (sym (c.mark_calm.ensures.same ∙ c.self.view_is)) c.requires
+-- a hart advanced
+pub returns-in-Ok-Some-clause-steps : goal.returns-in-Ok-Some-clause-steps
+returns-in-Ok-Some-clause-steps g c =
+    let K = kind_over g.S.Scheme.scheme in
+    let n = g.N.Nvm.device c.args.nvm.now in
+    let new = g.N.Nvm.device c.advance.new.nvm in
+    subst (λ r. Simulates K c.args.start.now c.args.pick c.args.self.now c.advance.new.self n new (Ok r)) (sym c.stepped.ensures)
+    (subst (λ r. IfAdvanced r (Simulates K c.args.start.now c.args.pick c.args.self.now c.advance.new.self n new)) (c.in-Ok-Some.is ∙ ap Ok c.in-Ok-Some.field-0-is) c.advance.ensures.steps)
 
-pub take_step-requires-clause-known : goal.take_step-requires-clause-known
-take_step-requires-clause-known g c = λ marked.
-    ap (is_calm g.S.Scheme.scheme) c.mark_calm.ensures.same ∙ sym c.mark_calm.ensures.calm ∙ marked
+-- the cycle is another actor's, and nothing was done before it
+pub take_other-requires-clause-others : goal.take_other-requires-clause-others
+take_other-requires-clause-others g c =
+    let K = kind_over g.S.Scheme.scheme in
+    let is = c.in-Ok-None.is ∙ ap Ok c.in-Ok-None.field-0-is in
+    let left = c.advance.ensures.left is in
+    subst (λ m. IsOthersTurn K c.args.pick m (g.N.Nvm.device c.advance.new.nvm)) (sym left.0)
+    (subst (λ x. IsOthersTurn K c.args.pick c.args.self.now (g.N.Nvm.device x)) (sym left.1) (c.advance.ensures.others is))
 
-pub returns-clause-steps : goal.returns-clause-steps
-returns-clause-steps g c =
-    subst (λ (m : Machine g.row.S.Denot). Simulates (kind_over g.S.Scheme.scheme) c.args.start.now c.args.pick m (machine_of c.take_step.new.m) (g.N.Nvm.device c.args.nvm.now)
-    (g.N.Nvm.device c.take_step.new.nvm) c.take_step.result) (c.mark_calm.ensures.same ∙ c.self.view_is) c.take_step.ensures.steps
+pub returns-in-Ok-None-clause-steps : goal.returns-in-Ok-None-clause-steps
+returns-in-Ok-None-clause-steps g c =
+    let K = kind_over g.S.Scheme.scheme in
+    let new = g.N.Nvm.device c.take_other.new.nvm in
+    let left = c.advance.ensures.left (c.in-Ok-None.is ∙ ap Ok c.in-Ok-None.field-0-is) in
+    subst (λ m. Simulates K c.args.start.now c.args.pick m c.take_other.new.self (g.N.Nvm.device c.args.nvm.now) new c.take_other.result) left.0
+    (subst (λ x. Simulates K c.args.start.now c.args.pick c.advance.new.self c.take_other.new.self (g.N.Nvm.device x) new c.take_other.result) left.1 c.take_other.ensures.steps)
 
-pub returns-clause-safe : goal.returns-clause-safe
-returns-clause-safe g c =
-    subst (λ (m : Machine g.row.S.Denot). FailsSafe (kind_over g.S.Scheme.scheme) c.args.start.now c.args.pick m (machine_of c.take_step.new.m) (g.N.Nvm.device c.args.nvm.now)
-    (g.N.Nvm.device c.take_step.new.nvm) c.take_step.result) (c.mark_calm.ensures.same ∙ c.self.view_is) c.take_step.ensures.safe
+pub returns-in-Ok-None-clause-safe : goal.returns-in-Ok-None-clause-safe
+returns-in-Ok-None-clause-safe g c =
+    let K = kind_over g.S.Scheme.scheme in
+    let new = g.N.Nvm.device c.take_other.new.nvm in
+    let left = c.advance.ensures.left (c.in-Ok-None.is ∙ ap Ok c.in-Ok-None.field-0-is) in
+    subst (λ m. FailsSafe K c.args.start.now c.args.pick m c.take_other.new.self (g.N.Nvm.device c.args.nvm.now) new c.take_other.result) left.0
+    (subst (λ x. FailsSafe K c.args.start.now c.args.pick c.advance.new.self c.take_other.new.self (g.N.Nvm.device x) new c.take_other.result) left.1 c.take_other.ensures.safe)
 
-pub returns-clause-no_writes : goal.returns-clause-no_writes
-returns-clause-no_writes g c =
-    subst (λ (m : Machine g.row.S.Denot). RestartsUnwritten (kind_over g.S.Scheme.scheme) m (g.N.Nvm.device c.args.nvm.now)
-    (g.N.Nvm.writes c.args.nvm.now) (g.N.Nvm.writes c.take_step.new.nvm)) (c.mark_calm.ensures.same ∙ c.self.view_is) c.take_step.ensures.no_writes
+pub returns-in-Ok-None-clause-no_writes : goal.returns-in-Ok-None-clause-no_writes
+returns-in-Ok-None-clause-no_writes g c =
+    let K = kind_over g.S.Scheme.scheme in
+    let left = c.advance.ensures.left (c.in-Ok-None.is ∙ ap Ok c.in-Ok-None.field-0-is) in
+    subst (λ m. RestartsUnwritten K m (g.N.Nvm.device c.args.nvm.now) (g.N.Nvm.writes c.args.nvm.now) (g.N.Nvm.writes c.take_other.new.nvm)) left.0
+    (subst (λ x. RestartsUnwritten K c.advance.new.self (g.N.Nvm.device x) (g.N.Nvm.writes x) (g.N.Nvm.writes c.take_other.new.nvm)) left.1 c.take_other.ensures.no_writes)

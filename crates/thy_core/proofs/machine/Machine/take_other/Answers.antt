@@ -1,0 +1,27 @@
+use Rattle.std.proofs.Common.{sym, subst}
+use Rattle.thy_view.specs.Advances.{IsOthersTurn}
+use Rattle.thy_view.specs.Kind.{CanStep, Simulates, FailsSafe}
+use Rattle.thy_view.specs.Restart.{RestartsUnwritten}
+use Rattle.thy_core_laws.specs.Kind.{kind_over}
+use Rattle.thy_core_laws.specs.Machine.{Machine}
+use Rattle.thy_core.specs.MachineParts.{machine_of}
+use Rattle.thy_core.proofs.machine.Machine.take_other.Goals as goal
+
+pub step_other-requires-clause-others : goal.step_other-requires-clause-others
+step_other-requires-clause-others g c =
+    subst (λ (m : Machine g.row.S.Denot). IsOthersTurn (kind_over g.S.Scheme.scheme) c.args.pick m (g.N.Nvm.device c.args.nvm.now)) (sym c.self.view_is) c.requires.others
+
+pub returns-clause-steps : goal.returns-clause-steps
+returns-clause-steps g c =
+    subst (λ (m : Machine g.row.S.Denot). Simulates (kind_over g.S.Scheme.scheme) c.args.start.now c.args.pick m (machine_of c.step_other.new.m) (g.N.Nvm.device c.args.nvm.now)
+    (g.N.Nvm.device c.step_other.new.nvm) c.step_other.result) c.self.view_is c.step_other.ensures.steps
+
+pub returns-clause-safe : goal.returns-clause-safe
+returns-clause-safe g c =
+    subst (λ (m : Machine g.row.S.Denot). FailsSafe (kind_over g.S.Scheme.scheme) c.args.start.now c.args.pick m (machine_of c.step_other.new.m) (g.N.Nvm.device c.args.nvm.now)
+    (g.N.Nvm.device c.step_other.new.nvm) c.step_other.result) c.self.view_is c.step_other.ensures.safe
+
+pub returns-clause-no_writes : goal.returns-clause-no_writes
+returns-clause-no_writes g c =
+    subst (λ (m : Machine g.row.S.Denot). RestartsUnwritten (kind_over g.S.Scheme.scheme) m (g.N.Nvm.device c.args.nvm.now)
+    (g.N.Nvm.writes c.args.nvm.now) (g.N.Nvm.writes c.step_other.new.nvm)) c.self.view_is c.step_other.ensures.no_writes
