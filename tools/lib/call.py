@@ -8,8 +8,8 @@ from lib.program import OPERANDS
 # Words of the script alone.
 QUIET, OBSERVE, BUILD = "--quiet", "observe", "build"
 
-# An option of observe, between OUT and the command, and the commands that it goes with.
-PCS, COUNTED = "--pcs", ("run", "resume", "bench")
+# Options of observe, between OUT and the command, each once and in either order, and the commands that they go with.
+PCS, TORN, OBSERVED_RUNS = "--pcs", "--torn", ("run", "resume", "bench")
 
 # What is missing if a call ends before its command, or before OUT.
 COMMANDS = ", ".join(list(OPERANDS)[:-1]) + f" or {list(OPERANDS)[-1]}"
@@ -24,10 +24,11 @@ def nearest(word, words, dashes=""):
 
 class Call:
     """The words of a call; `fault` is the first that has no place, in words. `out` is the OUT of observe, or None; `pcs` is whether
-    program counters are counted."""
+    program counters are counted, and `torn` whether blocks may be torn."""
 
     def __init__(self, words):
-        self.operands, self.options, self.fault, self.out, self.pcs = [], {}, "", None, False
+        self.operands, self.options, self.fault, self.out = [], {}, "", None
+        self.pcs = self.torn = False
         rest = list(words)
         is_quiet = rest[:1] == [QUIET]
         if is_quiet:
@@ -35,8 +36,7 @@ class Call:
         if rest[:1] == [BUILD]:
             self.fault = f"{BUILD} is a command only as the first word" if is_quiet else f"{BUILD} takes no other word"
         elif rest[:1] == [OBSERVE]:
-            self.pcs = rest[2:3] == [PCS]
-            after = rest[3:] if self.pcs else rest[2:]
+            after = self.without_asked(rest[2:])
             # A command in the place of OUT, and none behind it, is the call's own.
             if not after or rest[1] in OPERANDS and after[0] not in OPERANDS:
                 self.fault = NO_OUT
@@ -48,14 +48,23 @@ class Call:
         self.fault = self.fault or self.command_fault(rest)
         self.take(rest[1:])
 
+    def without_asked(self, rest):
+        """The words after OUT without the options that stand there, each once."""
+        while rest and (rest[0] == PCS and not self.pcs or rest[0] == TORN and not self.torn):
+            self.pcs, self.torn = self.pcs or rest[0] == PCS, self.torn or rest[0] == TORN
+            rest = rest[1:]
+        return rest
+
     def command_fault(self, rest):
         """What is wrong with the first word."""
         if not rest:
             return f"a command is missing: {COMMANDS}"
+        asked = [option for option, given in ((PCS, self.pcs), (TORN, self.torn)) if given]
         if self.command in OPERANDS:
-            return f"{PCS} goes with {', '.join(COUNTED[:-1])} or {COUNTED[-1]}" if self.pcs and self.command == "plain" else ""
-        if self.pcs and self.command == PCS:
-            return f"{PCS} stands twice"
+            runs = f"{', '.join(OBSERVED_RUNS[:-1])} or {OBSERVED_RUNS[-1]}"
+            return f"{asked[0]} goes with {runs}" if asked and self.command == "plain" else ""
+        if self.command in asked:
+            return f"{self.command} stands twice"
         if self.command.startswith("-"):
             return f"{self.command} stands before the command"
         if self.command in (OBSERVE, BUILD):

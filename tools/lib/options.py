@@ -29,6 +29,18 @@ class Parser(argparse.ArgumentParser):
         """The option that names a program to call, in place of the one that is built in the repository."""
         self.add_argument(name, default=default, **{"help": "the program to call", **more})
 
+    def add_torn(self):
+        """The option that lets cuts tear blocks, and the one that names what is called then."""
+        self.add_argument("--torn", action="store_true", help="cuts tear blocks between their words")
+        self.add_argument("--observe", default=repository.OBSERVER, metavar="PATH", help="the program observe, for --torn")
+
+    def observer_of(self, given):
+        """The program to call for runs whose blocks are torn, or None if none are to be."""
+        if not given.torn:
+            return None
+        self.check_program(given.observe)
+        return os.path.abspath(given.observe)
+
     def check_program(self, program):
         """Refuses a call for which there is no program."""
         if not repository.is_built(program):

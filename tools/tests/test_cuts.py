@@ -154,6 +154,15 @@ class Cuts(CopyTest):
         wanted = [f"run --digest --epoch 9 --pages 8 --cuts 3,4 --tears {tears}" for tears in ("0,0", "1,0")]
         self.assertEqual(self.called()[2:], wanted)
 
+    def test_blocks_that_are_torn(self):
+        # The program observe is called for all but the plain machine.
+        torn = self.program(f'echo "$*" >>{self.path("called")}\nshift 2\n{PROGRAM_OF_SIX}', "torn")
+        self.prints(SUMS, *self.words("--torn", "--observe", torn, "--from", 1, "--to", 7), status=1)
+        plain, *runs = self.called()
+        self.assertEqual((plain, runs[0]), ("plain --digest", "/dev/null --torn run --digest"))
+        self.assertEqual({line.split(" --digest")[0] for line in runs}, {"/dev/null --torn run"})
+        self.refuses("--gap is refused with --torn", *self.words("--torn", "--observe", torn, "--from", 1, "--to", 2, "--gap", 3))
+
     def test_no_cut_falls(self):
         done = self.call(*self.words("--from", 7, "--to", 9))
         sums = "runs 6, 0 differ, 6 ended before the cut\nreloads: 0\nthe tears decided at 0 of 0 cuts\n"

@@ -233,13 +233,18 @@ class Explain(ToolTest):
         no_out = f"observe needs OUT, the name under which text is put, and then a call{USAGE}"
         for words in (["observe"], ["observe", "out"], ["observe", "run", "a"], ["--quiet", "observe"]):
             self.explains(no_out, "2", *words, line="usage")
-        self.explains(f"--pcs goes with run, resume or bench{USAGE}", "2", "observe", "out", "--pcs", "plain", "a", line="usage")
-        self.explains(f"--pcs stands twice{USAGE}", "2", "observe", "out", "--pcs", "--pcs", "run", "a", line="usage")
-        self.explains(no_out, "2", "observe", "out", "--pcs", line="usage")
+        for option in ("--pcs", "--torn"):
+            self.explains(f"{option} goes with run, resume or bench{USAGE}", "2", "observe", "out", option, "plain", "a", line="usage")
+            self.explains(f"{option} stands twice{USAGE}", "2", "observe", "out", option, option, "run", "a", line="usage")
+            self.explains(no_out, "2", "observe", "out", option, line="usage")
         self.explains("make has no run to observe", "2", "observe", "out", "make", "7", "x", line="usage")
         self.explains("make has no run to observe", "2", "observe", "out", "--pcs", "make", "7", "x", line="usage")
         said = "compare has three runs: observe run, once with each --scheme"
         self.explains(said, "2", "observe", "out", "compare", "a", line="usage")
+        said = "with --torn no line may wander: --gap has to be 0"
+        self.explains(said, "2", "observe", "out", "--torn", "run", "a", "--gap", "3", line="usage")
+        self.explains(f"--torn stands before the command{USAGE}", "2", "--torn", "run", "a", line="usage")
+        self.explains(f"--torn stands twice{USAGE}", "2", "observe", "out", "--torn", "--pcs", "--torn", "run", "a", line="usage")
         said = "OUT is to be another name than out, which the call reads or writes itself"
         self.explains(said, "2", "observe", "out", "run", "a", "--save", "out", line="usage")
 

@@ -390,8 +390,10 @@ class Completion(ToolTest):
         self.assertCountEqual(self.proposed("re"), ["resume"])
         self.assertCountEqual(self.proposed("--quiet", ""), [*self.COMMANDS, "observe"])
         self.assertCountEqual(self.proposed("observe", "ot"), ["other"])
-        self.assertCountEqual(self.proposed("observe", "out", ""), ["--pcs", "run", "resume", "bench", "plain"])
-        self.assertCountEqual(self.proposed("observe", "out", "--pcs", ""), ["run", "resume", "bench"])
+        self.assertCountEqual(self.proposed("observe", "out", ""), ["--pcs", "--torn", "run", "resume", "bench", "plain"])
+        self.assertCountEqual(self.proposed("observe", "out", "--pcs", ""), ["--torn", "run", "resume", "bench"])
+        self.assertCountEqual(self.proposed("observe", "out", "--torn", ""), ["--pcs", "run", "resume", "bench"])
+        self.assertCountEqual(self.proposed("observe", "out", "--torn", "--pcs", ""), ["run", "resume", "bench"])
         self.assertCountEqual(self.proposed("--quiet", "observe", "out", "r"), ["run", "resume"])
 
     def test_options(self):
@@ -403,6 +405,7 @@ class Completion(ToolTest):
         self.assertCountEqual(self.proposed("run", "x", "--s"), ["--sets", "--scheme", "--save"])
         self.assertEqual(self.proposed("observe", "out", "bench", "7", "--ga"), ["--gap"])
         self.assertEqual(self.proposed("observe", "out", "--pcs", "bench", "7", "--ga"), ["--gap"])
+        self.assertEqual(self.proposed("observe", "out", "--torn", "bench", "7", "--ep"), ["--epoch"])
         self.assertEqual(self.proposed("make", "7", "-"), [])
 
     def test_values(self):
@@ -432,6 +435,7 @@ class Completion(ToolTest):
             ("thynvm --quiet obs", "thynvm --quiet observe "),
             ("thynvm observe ot", "thynvm observe other "),
             ("thynvm observe out be", "thynvm observe out bench "),
+            ("thynvm observe out --torn be", "thynvm observe out --torn bench "),
             ("thynvm observe out co", "thynvm observe out co"),
             ("thynvm observe out --p", "thynvm observe out --pcs "),
             ("thynvm observe out --pcs be", "thynvm observe out --pcs bench "),

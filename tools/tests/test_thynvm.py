@@ -29,7 +29,8 @@ class AtOnce(ScriptTest):
             self.answers(words, 0, PAGE, "")
 
     def test_help_after_a_command(self):
-        for words in (["run", "--help"], ["bench", "7", "--pages", "8", "-h"], ["observe", "out", "plain", "--help"], ["help"]):
+        calls = (["run", "--help"], ["bench", "7", "--pages", "8", "-h"], ["observe", "out", "plain", "--help"], ["help"])
+        for words in (*calls, ["observe", "out", "--torn", "run", "--help"]):
             self.answers(words, 2, "", "usage\n")
             self.answers(words, 0, PAGE, "", THYNVM_HELP="1")
 
@@ -38,7 +39,9 @@ class AtOnce(ScriptTest):
         calls += (["observe", "out", "rum"], ["observe", "run", "file"], ["observe", "out", "observe", "out", "run"])
         calls += (["--quiet"], ["--quiet", "build"], ["--quiet", "--version"], ["--quiet", "--quiet", "run"])
         calls += (["build", "now"], ["observe", "out", "--quiet", "run"])
-        calls += (["observe", "out", "--pcs"], ["observe", "out", "--pcs", "--pcs", "run"], ["--pcs", "run", "file"])
+        for option in ("--pcs", "--torn"):
+            calls += (["observe", "out", option], ["observe", "out", option, option, "run"], [option, "run", "file"])
+        calls += (["observe", "out", "--pcs", "--torn", "--pcs", "run"],)
         for words in calls:
             self.answers(words, 2, "", "usage\n")
 
@@ -127,6 +130,7 @@ class Package(ScriptTest):
         self.install("#!/bin/sh\necho other\n")
         self.assertEqual(self.made("run", "a"), (5, "thynvm run a\n", ""))
         self.assertEqual(self.made("observe", "out", "plain", "a"), (5, "observe out plain a\n", ""))
+        self.assertEqual(self.made("observe", "out", "--torn", "run", "a"), (5, "observe out --torn run a\n", ""))
         self.assertEqual(self.made("build"), (0, "", ""))
         self.assertEqual(self.made("rum"), (2, "", "usage\n"))
         self.assertEqual(self.text("calls"), "")

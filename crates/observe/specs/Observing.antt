@@ -41,9 +41,21 @@ is_taken out (plain file job) = bytes_eq file out || is_of_job out job
 is_taken out (compare file job) = true
 is_taken out (make n name) = true
 
--- an order is refused because of OUT, or because it runs no machine on which an option could see something
+-- nothing is observed of an order over torn blocks if it runs no machine, nor if it has a gap: no line moves over an NVM whose
+-- blocks may be torn
+abbrev pub is_untearable : Order → Bool
+is_untearable (run file job) = nat_lt 0 job.config.gap
+is_untearable (resume image job) = nat_lt 0 job.config.gap
+is_untearable (bench n job) = nat_lt 0 job.config.gap
+is_untearable (plain file job) = true
+is_untearable (compare file job) = true
+is_untearable (make n name) = true
+
+-- an order is refused because of OUT, because it runs no machine on which an option could see something, or because of torn
+-- blocks
 abbrev pub is_refused : Options → List ℕ → Order → Bool
-is_refused options out order = is_taken out order || (options.pcs && is_none (run_in order))
+is_refused options out order =
+    (is_taken out order || (options.pcs && is_none (run_in order))) || (options.torn && is_untearable order)
 
 abbrev pub is_refused_by : Options → List ℕ → Result Order WordsError → Bool
 is_refused_by options out (Ok order) = is_refused options out order

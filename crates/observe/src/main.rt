@@ -1,6 +1,6 @@
 //! The program `observe`: does what thynvm does for `run`, `resume`, `bench` and `plain`, and puts text under a name that
 //! says what a run came to: its events with their cycles, the trap, and the totals of the tally; and if it is asked for, how
-//! often each program counter retired.
+//! often each program counter retired. With `--torn` before the command the run goes over an NVM whose blocks may be torn.
 //!
 //! Open specs/Observing.antt first, and src/top.rt; src/out.rt and what it uses make the text, without contracts, and
 //! src/sections.rt what is added to it, exactly. `main` makes the real shelf, sinks and device. It stands on thy_cli,
@@ -60,8 +60,13 @@ fn main(rt: HostRuntime) -> ExitCode {
     }
     let out = words.remove(1);
     let options = take_options(&mut words);
+    let device = if options.torn {
+        MemNvm::tearing(alloc)
+    } else {
+        MemNvm::new(alloc)
+    };
     let mut shelf = FileShelf::new(rt);
-    let mut nvm = Counting::over(MemNvm::new(alloc));
+    let mut nvm = Counting::over(device);
     let status = observe(
         alloc,
         out.as_str(),

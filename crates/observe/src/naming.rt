@@ -2,7 +2,7 @@
 ghost use Rattle.std.specs.Prelude.{◌≡◌, option_map};
 ghost use Rattle.std.specs.String.{string_bytes};
 ghost use Rattle.thy_words.specs.Settings.{job_of, order_of};
-ghost use Rattle.observe.specs.Observing.{is_name, is_of_job, is_refused, is_taken};
+ghost use Rattle.observe.specs.Observing.{is_name, is_of_job, is_refused, is_taken, is_untearable};
 
 use crate::beginning::run_of;
 use crate::options::Options;
@@ -39,9 +39,24 @@ fn is_taken(out: &str, command: &Command) -> bool
     }
 }
 
-/// Whether a call is refused: because of OUT, or because the command runs no machine on which an option could see something.
+/// Whether a command runs no machine, or moves blocks of the NVM to level its wear, which asks for blocks that land whole.
+fn is_untearable(command: &Command) -> bool
+    ensures { result ≡ is_untearable (order_of command.now) }
+{
+    match command {
+        Command::Run { job, .. } | Command::Resume { job, .. } | Command::Bench { job, .. } => {
+            job.config.gap > 0
+        }
+        Command::Plain { .. } | Command::Compare { .. } | Command::Make { .. } => true,
+    }
+}
+
+/// Whether a call is refused: because of OUT, because the command runs no machine on which an option could see something, or
+/// because it does not go over an NVM whose blocks may be torn, if that is asked for.
 pub fn is_refused(options: Options, out: &str, command: &Command) -> bool
     ensures { result ≡ is_refused options out.now (order_of command.now) }
 {
-    is_taken(out, command) || (options.pcs && run_of(command).is_none())
+    is_taken(out, command)
+        || (options.pcs && run_of(command).is_none())
+        || (options.torn && is_untearable(command))
 }

@@ -288,6 +288,66 @@ fn an_out_that_is_taken_is_refused(rt: HostRuntime) -> Result<(), Fail> {
 }
 
 #[test]
+fn torn_blocks_are_for_runs_without_a_gap(rt: HostRuntime) -> Result<(), Fail> {
+    let alloc = rt.alloc();
+    for (line, status) in [
+        ("thynvm --torn plain F --pages 8", 2),
+        ("thynvm --torn run F --pages 8 --gap 5", 2),
+        ("thynvm --torn bench 7 --gap 5", 2),
+        ("thynvm --torn resume F --gap 5", 2),
+        ("thynvm --torn --torn run F", 2),
+        ("thynvm --torn --pcs --torn run F", 2),
+        ("thynvm run F --torn", 2),
+        (
+            "thynvm --torn run F --pages 8 --btt 8 --ptt 8 --cuts 100,705 --tears 5,6",
+            0,
+        ),
+        ("thynvm --torn --pcs run F --pages 8 --btt 8 --ptt 8", 0),
+        ("thynvm --pcs --torn run F --pages 8 --btt 8 --ptt 8", 0),
+    ] {
+        let mut shelf = shelf_of(alloc, FIRST, &[])?;
+        let given = called_over(alloc, "O", line, &mut shelf, MemNvm::tearing(alloc))?;
+        assert_eq!(rt; given.status, status, "{line}");
+        assert_eq!(rt; given.is_put, status == 0, "{line}");
+    }
+    Ok(())
+}
+
+/// Cuts after the cycle in which a commit block was written, and what they lead to. By the rules of docs/CONTROLLER.md these
+/// are cycle 698 for epoch 0 and cycle 721 for epoch 1, nothing else is queued then, and recovery takes ten cycles. With the
+/// seed 90 the first four words land and no other, with 414 the last four, with 513 word 1 alone, and with 672 word 0. Word 0
+/// has the name, which decides for epoch 0, and word 1 the epoch, which decides for epoch 1.
+static TORN: [(&str, &str); 8] = [
+    ("698 --tears 90", "708 0 restart 0 at 0"),
+    ("698 --tears 414", "699 0 reload"),
+    ("698 --tears 672", "708 0 restart 0 at 0"),
+    ("698 --tears 513", "699 0 reload"),
+    ("721 --tears 90", "731 3 restart 1 at 3"),
+    ("721 --tears 414", "731 0 restart 0 at 0"),
+    ("721 --tears 672", "731 0 restart 0 at 0"),
+    ("721 --tears 513", "731 3 restart 1 at 3"),
+];
+
+#[test]
+fn a_torn_commit_block_is_the_old_one_or_the_new_one(rt: HostRuntime) -> Result<(), Fail> {
+    let alloc = rt.alloc();
+    for (cut, event) in TORN {
+        let line = format!(in alloc; "thynvm --torn run F --pages 8 --btt 8 --ptt 8 --cuts {cut}")?;
+        let mut shelf = shelf_of(alloc, FIRST, &[])?;
+        let given = called_over(
+            alloc,
+            "O",
+            line.as_str(),
+            &mut shelf,
+            MemNvm::tearing(alloc),
+        )?;
+        assert_eq!(rt; given.status, 0, "{cut}");
+        assert!(rt; has_line(given.put.as_slice(), event), "{cut}");
+    }
+    Ok(())
+}
+
+#[test]
 fn an_out_that_cannot_be_put_is_told(rt: HostRuntime) -> Result<(), Fail> {
     let alloc = rt.alloc();
     let given = called(alloc, "O", "thynvm plain F --pages 8", 0x00100073, &[2])?;

@@ -109,11 +109,12 @@ fn tell<R: Sink>(out: &str, why: Option<PutError>, status: u8, report: &mut R) -
 }
 
 /// Does what thynvm does for the arguments, the program's name first, and puts under OUT what the run came to: a line for
-/// each event, the trap, and the totals; and then what the options ask for. Of the plain machine it puts the trap.
+/// each event, the trap, and the totals; and then what the options ask for. Of the plain machine it writes the trap. If torn
+/// blocks are asked for, the caller has made the NVM so.
 ///
-/// Returns the exit status: 2 if OUT is a name that the arguments have, or if the plain machine is to run with an option. It is
-/// 3 if OUT could not be put, and else thynvm's, also if the program that is read for an option has no run. Nothing is put if
-/// no run was begun, or if memory ran out for what was seen.
+/// Returns the exit status: 2 if OUT is a name that the arguments have, or if the plain machine is to run with an option, or
+/// wear is to be levelled over torn blocks. It is 3 if OUT could not be put, and else thynvm's, also if the program that is
+/// read for an option has no run. Nothing is put if no run was begun, or if memory ran out for what was seen.
 pub fn observe<H: Shelf, T: Sink, R: Sink, N: Nvm + Counts>(
     alloc: Global,
     out: &str,

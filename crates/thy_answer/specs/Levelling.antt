@@ -22,11 +22,13 @@ use Rattle.thy_answer.specs.Saving.{IsPut}
 abbrev pub through : ℕ → List Block → List Block
 through gap g = if gap == 0 then g else unmapped g
 
--- what the run sees before: the device itself; with a gap, one with its counts, and a fit makes all else
+-- what the run sees before: the device itself; with a gap, one with its counts, whose blocks land whole if its do, and a fit
+-- makes all else
 pub record IsFoundAs (gap : ℕ) (handed seen : Device) : Type 0 where
   pub direct : gap ≡ 0 → seen ≡ handed
   pub faults : seen.faults ≡ handed.faults
   pub fits : seen.fits ≡ handed.fits
+  pub whole : seen.whole ≡ handed.whole
 
 -- what it sees afterwards: the device itself; with a gap, what the images of the device are to it, and all else the same
 pub record IsLeftAs (gap : ℕ) (handed seen : Device) : Type 0 where
@@ -40,6 +42,7 @@ pub record IsLeftAs (gap : ℕ) (handed seen : Device) : Type 0 where
   pub down : seen.down ≡ handed.down
   pub faults : seen.faults ≡ handed.faults
   pub fits : seen.fits ≡ handed.fits
+  pub whole : seen.whole ≡ handed.whole
 
 -- ---- what follows for the device that is handed back, without the one that the run saw
 

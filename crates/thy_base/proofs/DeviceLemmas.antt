@@ -1,7 +1,7 @@
 -- What follows from the definitions of a device: reads, possible contents and crashes after each call.
 use Rattle.std.proofs.Common.{◌≡◌, ◌≢◌, ◌⊎◌, ℕ, ◌<◌, ◌≤◌, ◌==◌, Bool, true, false, Result, Ok, Err, OnOk, OnErr, List, [], ◌∷◌, ◌++◌, length, take, drop, slice_set, Contains, refl, sym, ◌∙◌, ap, subst, inl, inr, arith, if◌then◌else◌, map, ◌+◌, length-append, length-drop}
 use Rattle.std.proofs.lemmas.Bool.{cases_eq, cases_lt, eq-eqb, ne_eqb}
-use Rattle.std.proofs.lemmas.List.{append-nil, take-append-drop, length-set, get_or_past, ext_get_or}
+use Rattle.std.proofs.lemmas.List.{append-nil, append_assoc, take-append-drop, length-set, get_or_past, ext_get_or}
 use Rattle.std.proofs.lemmas.List.Elements.{Contains-push, Contains-push_cases, Contains-append_left, Contains-append_right, Contains-append_cases}
 use Rattle.std.proofs.lemmas.Grind.{common_steps}
 use Rattle.std.specs.List.{range_with_len}
@@ -9,7 +9,8 @@ use Rattle.std.proofs.lemmas.List.FromFn.{length-map-range_with_len, get_or-map-
 use Rattle.thy_base.specs.declared.block.Block.{Block}
 use Rattle.thy_base.specs.declared.nvm.Write.{Write}
 use Rattle.thy_base.specs.Counts.{RoseByOne}
-use Rattle.thy_base.specs.Device.{Device, failed_calls, CountsOneFault, HoldsNoMore, HoldsNoMoreBut, zero_block, write_of, block_at, queued_for, newest_over, applied, possible, newest, landed, drained, settled, surplus, written_to}
+use Rattle.thy_base.specs.Device.{Device, failed_calls, CountsOneFault, MayLeave, HoldsNoMore, zero_block, write_of, block_at, queued_for, newest_over, applied, possible, newest, landed, drained, settled, surplus, with_queued, written_to}
+use Rattle.thy_base.proofs.MadeLemmas.{IsMadeOf-one, IsMadeOf-more, IsMadeOf-only}
 
 -- the blocks queued by one list of writes and then by another
 pub queued_for-append : (ws vs : List Write) (x : ℕ) → queued_for (ws ++ vs) x ≡ queued_for ws x ++ queued_for vs x
@@ -74,11 +75,39 @@ Contains-landed image ws vs x b h =
       | inr later ↦ Contains-append_right (block_at image x ∷ queued_for ws x) (queued_for vs x) b later
     ])
 
+-- ---- what a cut may leave
+
+-- a possible block may be left
+pub MayLeave-possible : (n : Device) (x : ℕ) (b : Block) → Contains (possible n x) b → MayLeave n x b
+MayLeave-possible n x b h = record { words = IsMadeOf-one (possible n x) b h; whole = λ _. h }
+
+-- if nothing more is possible at a place, nothing more may be left there
+pub MayLeave-more : (old new : Device) (x y : ℕ) (b : Block) → new.whole ≡ old.whole
+    → ((c : Block) → Contains (possible new y) c → Contains (possible old x) c) → MayLeave new y b → MayLeave old x b
+MayLeave-more old new x y b same among left = record {
+  words = IsMadeOf-more (possible new y) (possible old x) b among left.words;
+  whole = λ whole. among b (left.whole (same ∙ whole));
+}
+
+-- if one block alone is possible, it is left
+pub MayLeave-only : (n : Device) (x : ℕ) (c b : Block) → ((d : Block) → Contains (possible n x) d → d ≡ c) → MayLeave n x b → b ≡ c
+MayLeave-only n x c b only left = IsMadeOf-only (possible n x) c b only left.words
+
+-- such as the image's, if none is queued
+pub MayLeave-landed : (n : Device) (x : ℕ) (b : Block) → queued_for n.queue x ≡ [] → MayLeave n x b → b ≡ block_at n.image x
+MayLeave-landed n x b none left =
+    MayLeave-only n x (block_at n.image x) b
+    (λ d h. sym (same_as_only (block_at n.image x) d (subst (λ (q : List Block). Contains (block_at n.image x ∷ q) d) none h)))
+    left
+
 -- if the oldest k writes have landed, nothing more is possible
-pub no_more-landed : (k : ℕ) (n : Device) → HoldsNoMore n (landed k n)
-no_more-landed k n x b h =
+pub possible-landed : (k : ℕ) (n : Device) (x : ℕ) (b : Block) → Contains (possible (landed k n) x) b → Contains (possible n x) b
+possible-landed k n x b h =
     subst (λ (q : List Write). Contains (block_at n.image x ∷ queued_for q x) b) (take-append-drop k n.queue)
     (Contains-landed n.image (take k n.queue) (drop k n.queue) x b h)
+
+pub no_more-landed : (k : ℕ) (n : Device) → HoldsNoMore n (landed k n)
+no_more-landed k n x b left = MayLeave-more n (landed k n) x x b refl (possible-landed k n x) left
 
 -- a drain makes nothing more possible
 pub no_more-drained : (n : Device) → HoldsNoMore n (drained n)
@@ -86,8 +115,10 @@ no_more-drained n = no_more-landed 1 n
 
 -- a barrier makes nothing more possible
 pub no_more-settled : (n : Device) → HoldsNoMore n (settled n)
-no_more-settled n x b h =
-    subst (λ (q : List Write). Contains (block_at n.image x ∷ queued_for q x) b) (append-nil n.queue) (Contains-landed n.image n.queue [] x b h)
+no_more-settled n x b left =
+    MayLeave-more n (settled n) x x b refl
+    (λ c h. subst (λ (q : List Write). Contains (block_at n.image x ∷ queued_for q x) c) (append-nil n.queue) (Contains-landed n.image n.queue [] x c h))
+    left
 
 -- one write is queued for its own place alone
 pub queued_for-one : (at : ℕ) (block : Block) (x : ℕ) → x ≢ at → queued_for (write_of at block ∷ []) x ≡ []
@@ -103,26 +134,82 @@ Contains-queued_for_one at block x b h = elim (cases_eq at x) as (λ _. (x ≡ a
       absurd (omega (arith, none.1))
 ]
 
--- a write makes its block possible at its place, and nothing else
-pub no_more_but-written_to : (n : Device) (at : ℕ) (block : Block) → HoldsNoMoreBut at block n (written_to n at block)
-no_more_but-written_to n at block x b h =
-    let kept : List Write = drop (surplus n) n.queue in
-    let first : Block = block_at (applied n.image (take (surplus n) n.queue)) x in
-    let split : Contains ((first ∷ queued_for kept x) ++ queued_for (write_of at block ∷ []) x) b
-    = subst (λ (q : List Block). Contains (first ∷ q) b) (queued_for-append kept (write_of at block ∷ []) x) h in
-    elim (Contains-append_cases (first ∷ queued_for kept x) (queued_for (write_of at block ∷ []) x) b split)
+-- one write more makes its block possible at its place, and nothing else
+pub possible-with_queued : (n : Device) (at : ℕ) (block : Block) (x : ℕ) (b : Block)
+    → Contains (possible (with_queued at block n) x) b → Contains (possible n x) b ⊎ ((x ≡ at) × (b ≡ block))
+possible-with_queued n at block x b h =
+    let split : Contains (possible n x ++ queued_for (write_of at block ∷ []) x) b
+    = subst (λ (q : List Block). Contains (block_at n.image x ∷ q) b) (queued_for-append n.queue (write_of at block ∷ []) x) h in
+    elim (Contains-append_cases (possible n x) (queued_for (write_of at block ∷ []) x) b split)
     as (λ _. Contains (possible n x) b ⊎ ((x ≡ at) × (b ≡ block))) [
-      | inl before ↦ inl (no_more-landed (surplus n) n x b before)
+      | inl before ↦ inl before
       | inr this ↦ inr (Contains-queued_for_one at block x b this)
     ]
 
+-- what is possible without it is possible with it
+pub possible-before_queued : (n : Device) (at : ℕ) (block : Block) (x : ℕ) (b : Block) → Contains (possible n x) b → Contains (possible (with_queued at block n) x) b
+possible-before_queued n at block x b h =
+    subst (λ (q : List Block). Contains (block_at n.image x ∷ q) b) (sym (queued_for-append n.queue (write_of at block ∷ []) x))
+    (Contains-append_left (possible n x) (queued_for (write_of at block ∷ []) x) b h)
+
+pub no_more-with_queued : (n : Device) (at : ℕ) (block : Block) → HoldsNoMore (with_queued at block n) n
+no_more-with_queued n at block x b left = MayLeave-more (with_queued at block n) n x x b refl (possible-before_queued n at block x) left
+
+-- the block of the write is possible
+pub possible-queued : (n : Device) (at : ℕ) (block : Block) → Contains (possible (with_queued at block n) at) block
+possible-queued n at block =
+    let queued : queued_for (n.queue ++ write_of at block ∷ []) at ≡ queued_for n.queue at ++ block ∷ []
+    = queued_for-append n.queue (write_of at block ∷ []) at
+    ∙ ap (λ t. queued_for n.queue at ++ (if t then block ∷ [] else [])) (eq-eqb at at refl) in
+    subst (λ (q : List Block). Contains (block_at n.image at ∷ q) block) (sym queued) (Contains-push (possible n at) block)
+
+-- ---- the laws of whole blocks imply those of words
+
+-- if no block is possible that was not, no more may be left
+pub HoldsNoMore-of_blocks : (old new : Device) → new.whole ≡ old.whole
+    → ((x : ℕ) (b : Block) → Contains (possible new x) b → Contains (possible old x) b) → HoldsNoMore old new
+HoldsNoMore-of_blocks old new same each x b left = MayLeave-more old new x x b same (each x) left
+
+-- if one block is, at one place, no more than if it were queued there
+pub HoldsNoMore-but_block : (old new : Device) (at : ℕ) (block : Block) → new.whole ≡ old.whole
+    → ((x : ℕ) (b : Block) → Contains (possible new x) b → Contains (possible old x) b ⊎ ((x ≡ at) × (b ≡ block)))
+    → HoldsNoMore (with_queued at block old) new
+HoldsNoMore-but_block old new at block same each x b left =
+    MayLeave-more (with_queued at block old) new x x b same
+    (λ c h. elim (each x c h) as (λ _. Contains (possible (with_queued at block old) x) c) [
+      | inl before ↦ possible-before_queued old at block x c before
+      | inr this ↦
+          subst (λ (y : ℕ). Contains (possible (with_queued at block old) y) c) (sym this.0)
+          (subst (Contains (possible (with_queued at block old) at)) (sym this.1) (possible-queued old at block))
+    ])
+    left
+
+-- at every other place nothing more may be left
+pub MayLeave-elsewhere : (n : Device) (at : ℕ) (block : Block) (x : ℕ) (b : Block) → x ≢ at → MayLeave (with_queued at block n) x b → MayLeave n x b
+MayLeave-elsewhere n at block x b other left =
+    MayLeave-more n (with_queued at block n) x x b refl
+    (λ c h. elim (possible-with_queued n at block x c h) as (λ _. Contains (possible n x) c) [
+      | inl before ↦ before
+      | inr this ↦ absurd (other this.0)
+    ])
+    left
+
+-- a write makes no more possible than if it were queued and nothing had landed
+pub no_more-written_to : (n : Device) (at : ℕ) (block : Block) → HoldsNoMore (with_queued at block n) (written_to n at block)
+no_more-written_to n at block x b left =
+    let k : ℕ = surplus n in
+    let queue : take k n.queue ++ (drop k n.queue ++ write_of at block ∷ []) ≡ n.queue ++ write_of at block ∷ []
+    = sym (append_assoc (take k n.queue) (drop k n.queue) (write_of at block ∷ []))
+    ∙ ap (λ (q : List Write). q ++ write_of at block ∷ []) (take-append-drop k n.queue) in
+    MayLeave-more (with_queued at block n) (written_to n at block) x x b refl
+    (λ c h. subst (λ (q : List Write). Contains (block_at n.image x ∷ queued_for q x) c) queue
+    (Contains-landed n.image (take k n.queue) (drop k n.queue ++ write_of at block ∷ []) x c h))
+    left
+
 -- at every other place a write makes nothing more possible
 pub no_more-written_to_other : (n : Device) (at : ℕ) (block : Block) (x : ℕ) (b : Block) → x ≢ at
-    → Contains (possible (written_to n at block) x) b → Contains (possible n x) b
-no_more-written_to_other n at block x b other h = elim (no_more_but-written_to n at block x b h) as (λ _. Contains (possible n x) b) [
-  | inl before ↦ before
-  | inr this ↦ absurd (other this.0)
-]
+    → MayLeave (written_to n at block) x b → MayLeave n x b
+no_more-written_to_other n at block x b other left = MayLeave-elsewhere n at block x b other (no_more-written_to n at block x b left)
 
 -- reads are as before if writes have landed
 pub newest-landed : (k : ℕ) (n : Device) (x : ℕ) → x < length n.image → newest (landed k n) x ≡ newest n x

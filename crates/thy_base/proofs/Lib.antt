@@ -6,6 +6,7 @@ pub mod DeviceLemmas
 pub mod InsideLemmas
 pub mod LittleEndianLemmas
 pub mod LoanLemmas
+pub mod MadeLemmas
 pub mod RangeLemmas
 pub mod Streams
 pub mod WordLemmas

@@ -17,4 +17,5 @@ framed_within name other old new f = record {
   left_room = f.left_room;
   fits = f.fits;
   lent = ap (drop 1) f.lent;
+  whole = f.whole;
 }

@@ -1,6 +1,6 @@
 -- Part of the claim.
 -- What a block device holds, what each call makes of it, and what a power cut may leave.
-use Rattle.std.specs.Prelude.{◌≡◌, ◌⊎◌, ℕ, ◌+◌, ◌-◌, ◌==◌, nat_lt, if◌then◌else◌, Bool, true, false, List, [], ◌∷◌, ◌++◌, length, take, drop, replicate, slice_index_or, slice_set, Contains, Result, MatchResult}
+use Rattle.std.specs.Prelude.{◌≡◌, ◌≢◌, ◌⊎◌, ℕ, ◌+◌, ◌-◌, ◌*◌, ◌==◌, nat_lt, if◌then◌else◌, Bool, true, false, List, [], ◌∷◌, ◌++◌, length, take, drop, replicate, slice_index_or, slice_set, Contains, Result, MatchResult}
 use Rattle.std.specs.Borrow.{GName}
 use Rattle.thy_base.specs.declared.block.Block.{Block}
 use Rattle.thy_base.specs.declared.nvm.Shape.{Shape}
@@ -35,6 +35,8 @@ pub record Device : Type 0 where
   pub fits : ℕ
   -- the names of the loans through which it is reached, the outermost first
   pub lent : List GName
+  -- a cut leaves each of its blocks whole; of any other device it leaves each aligned word whole, and may tear a block
+  pub whole : Bool
 
 -- a queued write
 abbrev pub write_of : ℕ → Block → Write
@@ -59,7 +61,7 @@ abbrev pub applied : List Block → List Write → List Block
 applied image [] = image
 applied image (w ∷ ws) = applied (slice_set image w.at w.block) ws
 
--- what a cut may leave at a place: the image's block, or any block queued for it
+-- the possible blocks of a place: the image's, and each that is queued for it
 abbrev pub possible : Device → ℕ → List Block
 possible n x = block_at n.image x ∷ queued_for n.queue x
 
@@ -67,10 +69,36 @@ possible n x = block_at n.image x ∷ queued_for n.queue x
 abbrev pub newest : Device → ℕ → Block
 newest n x = newest_over (block_at n.image x) n.queue x
 
+-- ---- what a cut may leave
+
+-- aligned word i of a block: its eight bytes from byte 8 * i on
+abbrev pub word_bytes : Block → ℕ → List ℕ
+word_bytes b i = take 8 (drop (8 * i) b.0)
+
+-- a block put together of words of these blocks: each aligned word is that word of one of them, each its own choice
+abbrev pub IsMadeOf : List Block → Block → Type 0
+IsMadeOf blocks b = (i : ℕ) → (c : Block) × Contains blocks c × (word_bytes b i ≡ word_bytes c i)
+
+-- a block that may be left of these: it is made of their words; if blocks land whole, it is one of them
+pub record IsLeftOf (lands_whole : Bool) (blocks : List Block) (b : Block) : Type 0 where
+  pub words : IsMadeOf blocks b
+  pub whole : lands_whole ≡ true → Contains blocks b
+
+-- a block that a cut may leave at a place
+abbrev pub MayLeave : Device → ℕ → Block → Type 0
+MayLeave n x b = IsLeftOf n.whole (possible n x) b
+
 -- an image that a cut may leave: at each place its own choice
 pub record Crash (n : Device) (g : List Block) : Type 0 where
   pub same_length : length g ≡ length n.image
-  pub each : (x : ℕ) → Contains (possible n x) (block_at g x)
+  pub each : (x : ℕ) → MayLeave n x (block_at g x)
+
+-- two blocks differ in one aligned word at most
+pub record IsOneWordApart (a b : Block) : Type 0 where
+  pub word : ℕ
+  pub others : (i : ℕ) → i ≢ word → word_bytes a i ≡ word_bytes b i
+
+-- ---- what calls make of it
 
 -- the oldest k writes have landed
 abbrev pub landed : ℕ → Device → Device
@@ -87,6 +115,10 @@ settled n = record n { image = applied n.image n.queue; queue = [] }
 -- how many writes have to land before one more is queued
 abbrev pub surplus : Device → ℕ
 surplus n = if nat_lt (length n.queue) n.queue_room then 0 else 1
+
+-- with one write more in the queue, whatever room it has
+abbrev pub with_queued : ℕ → Block → Device → Device
+with_queued at block n = record n { queue = n.queue ++ write_of at block ∷ [] }
 
 -- after a write: of a full queue the oldest has landed, and this one is queued
 abbrev pub written_to : Device → ℕ → Block → Device
@@ -118,6 +150,7 @@ fitted shape start n = record {
   faults = n.faults;
   fits = next n.fits;
   lent = n.lent;
+  whole = n.whole;
 }
 
 -- a device as it is reached through one more loan
@@ -129,7 +162,7 @@ pub record IsCut (pick : ℕ) (old new : Device) : Type 0 where
   pub crash : Crash old new.image
   pub device : new ≡ cut_to old pick new.image
 
--- what only a fit and a cut change, or nothing does
+-- what only a fit and a cut change, or nothing does, such as whether blocks land whole
 pub record IsFramed (old new : Device) : Type 0 where
   pub blocks : length new.image ≡ length old.image
   pub left : new.left ≡ old.left
@@ -138,25 +171,21 @@ pub record IsFramed (old new : Device) : Type 0 where
   pub left_room : new.left_room ≡ old.left_room
   pub fits : new.fits ≡ old.fits
   pub lent : new.lent ≡ old.lent
+  pub whole : new.whole ≡ old.whole
 
 -- no place may hold after a cut what it could not hold before
 abbrev pub HoldsNoMore : Device → Device → Type 0
-HoldsNoMore old new = (x : ℕ) (b : Block) → Contains (possible new x) b → Contains (possible old x) b
-
--- the same, except that one place may hold this block
-abbrev pub HoldsNoMoreBut : ℕ → Block → Device → Device → Type 0
-HoldsNoMoreBut at block old new =
-    (x : ℕ) (b : Block) → Contains (possible new x) b → Contains (possible old x) b ⊎ ((x ≡ at) × (b ≡ block))
+HoldsNoMore old new = (x : ℕ) (b : Block) → MayLeave new x b → MayLeave old x b
 
 -- after a call that failed
 pub record HasFailed (old new : Device) : Type 0 where
   pub down : new.down ≡ true
   pub no_more : HoldsNoMore old new
 
--- after a write that failed
+-- after a write that failed: no place may hold more than if the block had been queued
 pub record HasFailedToWrite (at : ℕ) (block : Block) (old new : Device) : Type 0 where
   pub down : new.down ≡ true
-  pub no_more : HoldsNoMoreBut at block old new
+  pub no_more : HoldsNoMore (with_queued at block old) new
 
 -- how many calls have failed since the last fit or cut: none, or one, because a device that is down is neither read nor
 -- written

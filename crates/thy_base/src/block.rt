@@ -1,4 +1,4 @@
-//! A block: the 64 bytes that a device reads and writes whole.
+//! A block: the 64 bytes that a device reads and writes at once.
 ghost use Rattle.std.specs.Prelude.{◌≡◌, ◌+◌, ◌≤◌, length};
 ghost use Rattle.thy_base.specs.Blocks.{block_bytes, overwritten};
 
@@ -7,8 +7,8 @@ use crate::bytes::put_in;
 /// How many bytes a block has.
 pub const BLOCK_SIZE: usize = 64;
 
-/// The unit of both devices. A power cut leaves each block of a device whole: the old one or a
-/// queued one, never a mixture of the two.
+/// The unit of both devices: eight aligned words of 8 bytes. A power cut leaves each word whole, and a block of some
+/// devices only (`Nvm`).
 #[derive(Clone, Copy, Debug, PartialEq, Eq)]
 pub struct Block(pub [u8; 64]);
 

@@ -41,8 +41,10 @@ pub enum FitError {
 }
 
 /// A block device. A write is queued first, and lands later: by `drain`, by `barrier`, or because
-/// the queue was full. A cut of power leaves at each place the block that had landed there or any one
-/// that was queued for it, each place by itself.
+/// the queue was full. What a cut of power leaves at a place is put together of the block that had landed there and those that
+/// were queued for it. Each aligned word of 8 bytes is one of theirs, each word by itself: a block may be torn, a word is
+/// failure-atomic. A device whose blocks land whole leaves one of these blocks. The same holds of what a call that failed
+/// leaves.
 ///
 /// Only `fit` allocates, also for what the cuts to come keep. Every `fit` counts, except that one which is
 /// out of memory may not. A call that fails counts at least one fault, unless it was out of memory, and leaves the device
@@ -71,6 +73,10 @@ pub trait Nvm {
     fn queued(&self) -> u64
         requires { (device self.now).down ≡ false }
         ensures { result ≡ length (device self.now).queue };
+
+    /// Whether a cut leaves each block whole, and not only each word. No call changes it.
+    fn lands_whole(&self) -> bool
+        ensures { result ≡ (device self.now).whole };
 
     /// How many writes have succeeded since the last fit, those that a barrier made too.
     fn writes(&self) -> u64
@@ -145,6 +151,10 @@ impl<N: Nvm> Nvm for &mut N {
 
     fn queued(&self) -> u64 {
         (**self).queued()
+    }
+
+    fn lands_whole(&self) -> bool {
+        (**self).lands_whole()
     }
 
     fn writes(&self) -> u64 {

@@ -101,7 +101,7 @@ module _ {C : Type 0} (F : FillingOf C) (laws : IsFilling F) where
     version = h.version;
     first = h.first;
   }
-  read-drained (Over Restored) n b c h = restored-drained n b c h
+  read-drained (Over Restored) n b c h = record { restored = restored-drained n b c h.restored; stated = h.stated }
   read-drained (Over Loaded) n b c h = absurd h
 
   dram_drained : (o : Origin) (g : BootImages) (n : Device) (b : Booting) (c : C) → IsSoundBoot F o g n b c → IsSoundBoot F o g n b (F.drained c)

@@ -37,7 +37,7 @@ use Rattle.thy_protocol.specs.Rounds.{saved_in, HasWrittenBefore}
 use Rattle.thy_boot.specs.Loads.{first_writes}
 use Rattle.thy_boot.specs.Boot.{Booting, layout_in, slot_read, answer_at}
 use Rattle.thy_boot.specs.Filling.{FillingOf, IsFilling, layout_at, anew}
-use Rattle.thy_boot.specs.Recovers.{HasListed, HasReadAt, HasRead, IsRestored}
+use Rattle.thy_boot.specs.Recovers.{HasListed, HasReadAt, HasRead, IsRestored, IsFoundNew}
 use Rattle.thy_boot.specs.Shows.{restored_view, seen_at}
 use Rattle.thy_boot.specs.Sound.{BootImages, layout_for, first_of, start_mark, sealed_by, standing_in_boot, IsRecovering, IsSoundAt}
 use Rattle.thy_boot.specs.Laws.{ShowsImage, RestoredIsKept, NeverRefused}
@@ -166,7 +166,7 @@ module _ {C : Type 0} (F : FillingOf C) (laws : IsFilling F) where
         (boots o.start.count g.kept, inl same_view)
     shows (Migrates r) f = (boots o.start.count g.kept, inl refl)
     shows (Over Restored) f =
-        let found = found-restored f in
+        let found = found-restored f.restored in
         let epoch : ℕ = epoch_of d.commit in
         let cpu : CpuState = cpu_of_record d.p (slot_read F d) in
         let count : found.m.count ≡ cpu.count
@@ -193,11 +193,11 @@ module _ {C : Type 0} (F : FillingOf C) (laws : IsFilling F) where
   restored_is_kept o g n b c sound is =
       let rec : IsRecovering F g n b c = subst (λ (q : Stage). IsSoundAt F o q g n b c) is sound.so_far in
       let k : IsKeeping o (layout_for F o) (reading_of o g n) = subst (λ (q : Stage). IsKeeping o (layout_for F o) (standing_in_boot o q g n)) is sound.keeps in
-      let f : IsRestored F n b c = subst (λ (q : Stage). HasReadAt F q n b c) is rec.read.so_far in
-      let found = found-restored o g n b c rec.before_is sound.geometry k.told rec.read f in
+      let f : IsFoundNew F n b c = subst (λ (q : Stage). HasReadAt F q n b c) is rec.read.so_far in
+      let found = found-restored o g n b c rec.before_is sound.geometry k.told rec.read f.restored in
       let keeps : Keeps o (layout_for F o) n (Kept g.before) (Some found.m) None
       = subst (λ (x : Option Mark). Keeps o (layout_for F o) n (Kept g.before) x (sealed_by o x)) found.kept_is k in
-      (found.m, found.kept_is, found.epoch_is, keeps, found.state_is, f)
+      (found.m, found.kept_is, found.epoch_is, keeps, found.state_is, f.restored, f.stated)
 
   pub never_refused : NeverRefused F
   never_refused o g n b c bad sound is =

@@ -1,14 +1,15 @@
 -- A migration, from one action to the next, and to its end.
-use Rattle.std.proofs.Common.{◌≡◌, ◌≢◌, ℕ, ◌+◌, ◌<◌, true, List, length, Option, Some, None, refl, sym, ◌∙◌, ap, subst, arith}
+use Rattle.std.proofs.Common.{◌≡◌, ◌≢◌, ℕ, ◌+◌, ◌<◌, true, List, length, Option, Some, None, refl, sym, ◌∙◌, ap, subst, inr, arith}
 use Rattle.thy_base.specs.declared.block.Block.{Block}
 use Rattle.thy_base.specs.declared.mark.Mark.{Mark}
-use Rattle.thy_base.specs.Device.{Device, block_at, newest, settled, drained, written_to, IsFramed}
+use Rattle.thy_base.specs.Device.{Device, IsOneWordApart, block_at, newest, settled, drained, written_to, IsFramed}
 use Rattle.thy_base.proofs.DeviceLemmas.{newest-settled, newest-drained, newest-written_to_other, length-settled}
 use Rattle.thy_crash.specs.Saved.{next_image}
 use Rattle.thy_crash.proofs.FixedLemmas.{Reads-drained}
 use Rattle.thy_layout.specs.Commit.{commit_of, epoch_of}
 use Rattle.thy_layout.specs.Decoded.{At}
 use Rattle.thy_layout.specs.Layout.{Layout, header_bad, state_by, decode_by}
+use Rattle.thy_layout.proofs.CommitLemmas.{one_word-between}
 use Rattle.thy_layout.proofs.ReadBackLemmas.{commit_fault-commit_of, is_zero-commit_of}
 use Rattle.thy_view.specs.Action.{after, FailsTo}
 use Rattle.thy_view.specs.Origin.{Origin, at}
@@ -137,7 +138,13 @@ module _ {C : Type 0} (F : FillingOf C) (laws : IsFilling F) where
     may_take : (r : Round) (is : IsMigrating F o r g n b c) → IsKeeping o lay (standing_in_boot o (Migrates r) g n) → MayTake o lay is.m w r g.before g.next n
     may_take (Write k) is keeps = slot_spared F laws b c same g.before is.listed is.version k is.there
     may_take Settle is keeps = ((made is keeps).of, next-issued F laws b c same g.before is.listed is.version n is.header is.issued)
-    may_take Commit is keeps = is.made.0.commit_is
+    may_take Commit is keeps =
+        let new : IsAnew o lay is.m new_commit (renewed_parts F b) g.next = is.made.0 in
+        let told : IsOf o lay g.before is.m = subst (λ (k : Option Mark). Tells o lay g.before k) is.kept keeps.told.0 in (
+          new.commit_is,
+          subst (IsOneWordApart (block_at g.before 1)) new.commit_is
+              (one_word-between lay ceiling g.before g.next is.m.epoch is.m.epoch (at o is.m.count) (at o is.m.count) told.decodes new.of.decodes (inr refl)),
+        )
     may_take Confirm is keeps = (is.made.0.commit_is, is.issued.1)
 
     then_stands : (commit : Block) (m : Mark) (r : Round) (x : Device)
@@ -244,7 +251,11 @@ module _ {C : Type 0} (F : FillingOf C) (laws : IsFilling F) where
           same_p = same;
           sized = length-settled n ∙ keeps.sized;
           settled = refl;
-          so_far = restored-now;
+          so_far = record {
+            restored = restored-now;
+            stated = ap (λ (h : List Block). block_at h 1) image-now ∙ made-there.commit_is
+                ∙ ap commit_of (sym (epoch_anew F laws b c same g.before at-confirm.listed at-confirm.version));
+          };
         };
       }
 

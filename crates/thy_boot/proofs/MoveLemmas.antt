@@ -2,7 +2,7 @@
 use Rattle.std.proofs.Common.{◌≡◌, ◌≢◌, ℕ, List, [], ◌∷◌, length, Contains, Option, Some, None, sym, subst, inl, inr, arith}
 use Rattle.std.proofs.lemmas.List.Elements.{Contains-push_cases}
 use Rattle.thy_base.specs.declared.block.Block.{Block}
-use Rattle.thy_base.specs.Device.{Device, IsFramed}
+use Rattle.thy_base.specs.Device.{Device, IsOneWordApart, IsFramed}
 use Rattle.thy_crash.specs.Saved.{IsIssued, next_image}
 use Rattle.thy_crash.proofs.SavedLemmas.{next_image-commit}
 use Rattle.thy_layout.specs.Decoded.{Nothing}
@@ -18,6 +18,9 @@ use Rattle.thy_protocol.specs.Moves.{IsKeeping, Move}
 use Rattle.thy_protocol.specs.Round.{RoundWrites, IsInRound, round_action, next_round}
 use Rattle.thy_protocol.specs.Rounds.{made_after, standing_then, MayTake, AreApart, HasWritten, HasWrittenBefore, HasWrittenThen}
 use Rattle.thy_protocol.proofs.RoundLemmas.{next_by, rounds_move, failed_rounds_move}
+use Rattle.thy_layout.specs.Commit.{commit_magic}
+use Rattle.thy_layout.specs.declared.layout_version.LayoutVersion.TheVariants.{VersionTwo}
+use Rattle.thy_layout.proofs.CommitLemmas.{nothing-stated, one_word-first}
 use Rattle.thy_layout.proofs.LayoutLemmas.{decode_by-nothing_back, looked_nothing}
 use Rattle.thy_boot.specs.declared.stage.Stage.TheVariants.{Loads}
 use Rattle.thy_boot.specs.Boot.{Booting}
@@ -81,7 +84,10 @@ module _ {C : Type 0} (F : FillingOf C) (laws : IsFilling F) (o : Origin) (can :
           → MayTake o l (start_mark o) w r g.before g.next n
       by_round (Write k) inside keeps made stood = alone l g.before (w.place k) keeps.told.0 (apart.elsewhere k inside)
       by_round Settle inside keeps made stood = let next = whole n keeps.sized stood in (next.0, next.1)
-      by_round Commit inside keeps made stood = made.commit
+      by_round Commit inside keeps made stood = (
+        made.commit,
+        subst (λ (b : Block). IsOneWordApart b w.commit) (sym (nothing-stated l ceiling g.before keeps.told.0.0)) (one_word-first (commit_magic VersionTwo)),
+      )
       by_round Confirm inside keeps made stood = (made.commit, stood.1)
 
     pub load_moves : Move o l (standing_in_boot o (Loads r) g n)

@@ -11,7 +11,10 @@ use Rattle.thy_base.proofs.DeviceLemmas.{newest-empty}
 use Rattle.thy_layout.specs.declared.bad_image.BadImage.{BadImage}
 use Rattle.thy_layout.specs.declared.layout_version.LayoutVersion.{LayoutVersion}
 use Rattle.thy_layout.specs.declared.layout_version.LayoutVersion.TheVariants.{VersionOne, VersionTwo}
-use Rattle.thy_layout.specs.Commit.{is_zero, epoch_of}
+use Rattle.thy_base.specs.Words.{word_of}
+use Rattle.thy_layout.specs.Commit.{is_zero, epoch_of, commit_magic, version_of}
+use Rattle.thy_layout.proofs.CommitLemmas.{commit-written}
+use Rattle.thy_layout.proofs.HeaderLemmas.{named_two}
 use Rattle.thy_layout.specs.Decoded.{Nothing, Refused as IsRefused, At}
 use Rattle.thy_layout.specs.Layout.{Layout, header_bad, commit_bad, state_by, slot_in, memory_in, is_sized, fault_of, refused_or_at, decode_by}
 use Rattle.thy_layout.proofs.LayoutLemmas.{sized_if_long, decode_by-zero}
@@ -117,7 +120,14 @@ module _ {C : Type 0} (F : FillingOf C) where
 
       by_version : (v : LayoutVersion) → version_in F b ≡ v → IsRestored F n b c → F.loads c n ≡ memory_in l n.image → HasReadAt F (filled_by v) n b c
       by_version VersionOne is restored memory = record { restored = restored; memory = memory; room = room; version = is; first = refl }
-      by_version VersionTwo is restored memory = restored
+      by_version VersionTwo is restored memory =
+          let two : version_of l.scheme l.p b.commit ≡ VersionTwo = ap (λ p. version_of l.scheme p b.commit) (laws.laid.of b.p) ∙ is in
+          let name : word_of b.commit 0 ≡ commit_magic VersionTwo
+          = named_two l.scheme l.p (block_at n.image 0) b.commit true ceiling head.header_fits head.commit_fits two in
+          record {
+            restored = restored;
+            stated = head.commit_is.is ∙ commit-written (block_at n.image 0) b.commit ceiling (epoch_of b.commit) head.commit_fits name refl;
+          }
 
       by_next : (o : Option ℕ) → F.next_fill b.p b.commit slot from ≡ o → HasReadAt F (filling_or (version_in F b) o) n b c
       by_next None e =
@@ -158,7 +168,7 @@ module _ {C : Type 0} (F : FillingOf C) where
     version = h.version;
     first = h.first;
   }
-  restage (Over Restored) s n b c h = restored_still s n b c h
+  restage (Over Restored) s n b c h = record { restored = restored_still s n b c h.restored; stated = h.stated }
   restage (Over Loaded) s n b c h = h
 
   -- a position was filled with what its read gave

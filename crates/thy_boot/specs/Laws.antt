@@ -2,11 +2,12 @@
 use Rattle.std.specs.Prelude.{◌≡◌, ◌≢◌, ◌+◌, ◌<◌, ◌≤◌, false, [], length, Option, Some, None}
 use Rattle.thy_base.specs.declared.config.Parameters.{Parameters}
 use Rattle.thy_base.specs.declared.mark.Mark.{Mark}
-use Rattle.thy_base.specs.Device.{Device, drained, IsFramed}
+use Rattle.thy_base.specs.Device.{Device, block_at, drained, IsFramed}
+use Rattle.thy_base.specs.Places.{commit_place}
 use Rattle.thy_crash.specs.Saved.{Kept}
 use Rattle.thy_isa.specs.Step.{State}
 use Rattle.thy_layout.specs.declared.bad_image.BadImage.{BadImage}
-use Rattle.thy_layout.specs.Commit.{epoch_of}
+use Rattle.thy_layout.specs.Commit.{epoch_of, commit_of}
 use Rattle.thy_view.specs.declared.boot_step.BootStep.{BootStep}
 use Rattle.thy_view.specs.declared.boot_step.BootStep.TheVariants.{GoesOn, Loaded}
 use Rattle.thy_view.specs.Action.{AsksBy, ActsBy, doubt_after_fault}
@@ -108,13 +109,15 @@ FailuresMove {C} F =
 
 -- ---- its end
 
--- a restart has the kept mark's state, and its checkpoint is kept, as what was read or written anew has it
+-- a restart has the kept mark's state, and its checkpoint is kept, as what was read or written anew has it, with the commit
+-- block that is written for its epoch
 abbrev pub RestoredIsKept : {C : Type 0} → FillingOf C → Type 0
 RestoredIsKept {C} F =
     (o : Origin) (g : BootImages) (n : Device) (b : Booting) (c : C)
     → IsSoundBoot F o g n b c → b.stage ≡ Over Restored
     → (m : Mark) × (g.kept ≡ Some m) × (m.epoch ≡ epoch_of b.commit) × Keeps o (layout_for F o) n (Kept g.before) (Some m) None
     × (state_by (layout_in F b) (slot_read F b) (F.loads c n) ≡ at o m.count) × IsRestored F n b c
+    × (block_at n.image commit_place ≡ commit_of (epoch_of b.commit))
 
 -- the boot of a run is never refused
 abbrev pub NeverRefused : {C : Type 0} → FillingOf C → Type 0

@@ -3,7 +3,7 @@ use Rattle.std.specs.Prelude.{◌≡◌, ℕ, ◌+◌, ◌*◌, ◌<◌, true, f
 use Rattle.thy_base.specs.declared.block.Block.{Block}
 use Rattle.thy_base.specs.Device.{Device, block_at}
 use Rattle.thy_base.specs.Places.{commit_place, header_place}
-use Rattle.thy_layout.specs.Commit.{is_zero, epoch_of}
+use Rattle.thy_layout.specs.Commit.{is_zero, epoch_of, commit_of}
 use Rattle.thy_layout.specs.Decoded.{Nothing, Refused as IsRefused, At}
 use Rattle.thy_layout.specs.Files.{block_in}
 use Rattle.thy_layout.specs.declared.layout_version.LayoutVersion.TheVariants.{VersionOne}
@@ -57,6 +57,11 @@ pub record IsFoundOld {C : Type 0} (F : FillingOf C) (r : Round) (n : Device) (b
   pub version : version_in F b ≡ VersionOne
   pub first : r ≡ Write 0
 
+-- or it is of the form of today, with the commit block that is written for its epoch
+pub record IsFoundNew {C : Type 0} (F : FillingOf C) (n : Device) (b : Booting) (c : C) : Type 0 where
+  pub restored : IsRestored F n b c
+  pub stated : block_at n.image commit_place ≡ commit_of (epoch_of b.commit)
+
 -- by the stage, what was read of the image in the NVM
 abbrev pub HasReadAt : {C : Type 0} → FillingOf C → Stage → Device → Booting → C → Type 0
 HasReadAt F (Reads Unread) n b c = F.fresh c
@@ -68,7 +73,7 @@ HasReadAt F (Reads (Fills k)) n b c =
 HasReadAt F (Reads (Refusing bad)) n b c = decode_by (layout_in F b) ceiling n.image ≡ IsRefused bad
 HasReadAt F (Loads r) n b c = F.fresh c × (decode_by (layout_in F b) ceiling n.image ≡ Nothing) × (r ≡ Write 0)
 HasReadAt F (Migrates r) n b c = IsFoundOld F r n b c
-HasReadAt F (Over Restored) n b c = IsRestored F n b c
+HasReadAt F (Over Restored) n b c = IsFoundNew F n b c
 HasReadAt F (Over Loaded) n b c = ⊥
 
 -- a boot that reads, and the controller that it fills, over a device with nothing queued

@@ -245,7 +245,7 @@ module _ (b : ℕ) (s : State) (fresh : (cell_of s b).page.fresh ≡ true) (m : 
       let y : Place = frame_at (seat_of (cell_of s b)) in
       let checkpoints = checkpoints-filled law other b s fresh m t sized l due in
       Stays-step s y zero_block m (block_filled b s m) (IsPlace-frame_of s b t l) sized (stays_tables t l due law other) (λ d. d)
-      (record { blocks = refl; left = refl; picks = refl; queue_room = refl; left_room = refl; fits = refl; lent = refl })
+      (record { blocks = refl; left = refl; picks = refl; queue_room = refl; left_room = refl; fits = refl; lent = refl; whole = refl })
       (LeavesGuarded-step s y zero_block m m b t (IsPlace-frame_of s b t l) ((Owns-cell_of s b).of_page (has_page b s fresh))
       (penult-in_nvm s b y refl) (λ q. target-in_nvm s b y refl) (inl refl))
       checkpoints.penult_same

@@ -1,5 +1,5 @@
 -- A store, done or failed, makes nothing possible at the places of the checkpoints.
-use Rattle.std.proofs.Common.{◌≡◌, ◌≢◌, ◌⊎◌, ℕ, ◌<◌, ◌≤◌, Bool, true, false, if◌then◌else◌, refl, sym, ◌∙◌, ap, subst, inl, inr, arith, Contains, Some, Result, Ok, Err, OnOk, OnErr}
+use Rattle.std.proofs.Common.{◌≡◌, ◌≢◌, ◌⊎◌, ℕ, ◌<◌, ◌≤◌, Bool, true, false, if◌then◌else◌, refl, sym, ◌∙◌, ap, subst, inl, inr, arith, Some, Result, Ok, Err, OnOk, OnErr}
 use Rattle.std.proofs.lemmas.Bool.{cases_eq}
 use Rattle.thy_base.specs.declared.block.Block.{Block}
 use Rattle.thy_base.specs.declared.config.Parameters.{Parameters}
@@ -7,10 +7,10 @@ use Rattle.thy_places.specs.declared.place.Place.{Place}
 use Rattle.thy_places.specs.declared.place.Place.TheVariants.{Home, AlternateBlock, AlternatePage, Buffer, Frame}
 use Rattle.thy_base.specs.declared.store.Stored.{Stored}
 use Rattle.thy_base.specs.declared.nvm.NvmError.{NvmError}
-use Rattle.thy_base.specs.Device.{Device, HasFailedToWrite, possible, written_to}
+use Rattle.thy_base.specs.Device.{Device, HasFailedToWrite, written_to}
 use Rattle.thy_base.specs.Geometry.{memory_blocks}
 use Rattle.thy_places.specs.Places.{in_dram, number_of, first_home, IsPlace, IsApart}
-use Rattle.thy_base.proofs.DeviceLemmas.{no_more-written_to_other}
+use Rattle.thy_base.proofs.DeviceLemmas.{no_more-written_to_other, MayLeave-elsewhere}
 use Rattle.thy_places.proofs.PlaceLemmas.{between_slots}
 use Rattle.thy_dram.specs.Contents.{written}
 use Rattle.thy_place.specs.Devices.{Devices, NoMoreAt, devices_of}
@@ -62,7 +62,7 @@ apart-written false at x block d other = record { no_more = λ b h. no_more-writ
 
 pub apart-failed : (at x : ℕ) (block : Block) (m n : Device) → x ≢ at → HasFailedToWrite at block m n → NoMoreAt x m n
 apart-failed at x block m n other failed = record {
-  no_more = λ b h. elim (failed.no_more x b h) as (λ _. Contains (possible m x) b) [ inl before ↦ before | inr here ↦ absurd (other here.0) ];
+  no_more = λ b h. MayLeave-elsewhere m at block x b other (failed.no_more x b h);
 }
 
 -- a store was done, or it failed

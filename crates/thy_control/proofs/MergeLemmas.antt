@@ -319,7 +319,7 @@ module _ (b : ℕ) (s : State) (framed : is_framed (cell_of s b).page ≡ true) 
         let y : Place = frame_at (seat_of c) in
         let each : KeepsEach s n (merged_block b s) n = KeepsEach-merged b s framed over t l idle merge others n sized in
         Stays-step s y zero_block n (merged_block b s) (IsPlace-frame_of s b t l) sized stays_tables-merged (λ d. d)
-        (record { blocks = refl; left = refl; picks = refl; queue_room = refl; left_room = refl; fits = refl; lent = refl })
+        (record { blocks = refl; left = refl; picks = refl; queue_room = refl; left_room = refl; fits = refl; lent = refl; whole = refl })
         (LeavesGuarded-step s y zero_block n n b t (IsPlace-frame_of s b t l) ((Owns-cell_of s b).of_page (has_page b s framed over))
         (penult-in_nvm s b y refl) (λ q. target-in_nvm s b y refl) (inl refl))
         (λ k h. (each k h).reads.penult_same)

@@ -49,7 +49,7 @@ idle-at (Reads (Fills k)) n b c told read = read.0.lists.booting.idle
 idle-at (Reads (Refusing bad)) n b c told read = cc
 idle-at (Loads r) n b c told read = read.0.fresh.booting.idle
 idle-at (Migrates r) n b c told read = read.restored.listed.lists.booting.idle
-idle-at (Over Restored) n b c told read = read.listed.lists.booting.idle
+idle-at (Over Restored) n b c told read = read.restored.listed.lists.booting.idle
 idle-at (Over Loaded) n b c told read = absurd read
 
 -- a step leaves the NVM up or down as it was, and the geometry

@@ -439,7 +439,7 @@ asked_once K device a b x y (inl same) = inl (ap (λ s. s.scheme) same.0, ap dev
 asked_once K device a b x y (inr once) = inr once.access
 
 pub framed_same : (n : Device) → IsFramed n n
-framed_same n = record { blocks = refl; left = refl; picks = refl; queue_room = refl; left_room = refl; fits = refl; lent = refl }
+framed_same n = record { blocks = refl; left = refl; picks = refl; queue_room = refl; left_room = refl; fits = refl; lent = refl; whole = refl }
 
 pub framed_once : {S N : Type 0} (K : SchemeOf S) (device : N → Device) (a b : SchemeStore S) (x y : N) → CalledOnce K device a x b y
     → IsFramed (device x) (device y)

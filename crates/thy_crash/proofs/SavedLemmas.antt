@@ -4,8 +4,9 @@ use Rattle.std.proofs.lemmas.Bool.{cases_eq}
 use Rattle.std.proofs.lemmas.List.{length-set, get_or-set_same, get_or-set_other}
 use Rattle.std.proofs.lemmas.List.Elements.{Contains-push, Contains-append_left, Contains-append_right}
 use Rattle.thy_base.specs.declared.block.Block.{Block}
-use Rattle.thy_base.specs.Device.{Device, Crash, HoldsNoMoreBut, HasFailedToWrite, IsCut, IsFramed, zero_block, block_at, applied, newest, settled, written_to}
-use Rattle.thy_base.proofs.DeviceLemmas.{block_at-applied, length-applied, no_more_but-written_to, length-settled, length-written_to}
+use Rattle.thy_base.specs.Device.{Device, Crash, IsOneWordApart, HoldsNoMore, HasFailedToWrite, IsCut, IsFramed, zero_block, block_at, possible, applied, newest, settled, with_queued, written_to}
+use Rattle.thy_base.proofs.DeviceLemmas.{block_at-applied, length-applied, MayLeave-possible, MayLeave-elsewhere, possible-with_queued, no_more-written_to, length-settled, length-written_to}
+use Rattle.thy_base.proofs.MadeLemmas.{IsMadeOf-either}
 use Rattle.thy_crash.specs.Fixed.{IsFixed, IsEither, Reads}
 use Rattle.thy_crash.specs.Saved.{Looking, Stands, IsIssued, next_image, Saved, Kept, Ready, InDoubt, IsKept, IsReady, IsInDoubt, IsSaved, guarded, IsCopy, IsLeft}
 use Rattle.thy_crash.specs.Spares.{Spares}
@@ -127,50 +128,58 @@ IsReady-settled looked before next old new k issued e = record {
   });
 }
 
--- what stands still stands where the commit block's place may hold one block more
-Stands-commit : (looked : Looking) (h : List Block) (block : Block) (old new : Device)
-    → HoldsNoMoreBut 1 block old new → length new.image ≡ length old.image → Stands looked old h → Stands looked new h
+-- what stands still stands where no more is possible than if a commit block were queued
+pub Stands-commit : (looked : Looking) (h : List Block) (block : Block) (old new : Device)
+    → HoldsNoMore (with_queued 1 block old) new → length new.image ≡ length old.image → Stands looked old h → Stands looked new h
 Stands-commit looked h block old new no_more same s = record {
   as_long = same ∙ s.as_long;
-  each = λ x inside other. record {
-    only = λ c held. elim (no_more x c held) as (λ _. c ≡ block_at h x) [
-      | inl before ↦ (s.each x inside other).only c before
-      | inr here ↦ absurd (other here.0)
-    ];
-  };
+  each = λ x inside other. record { only = λ c held. (s.each x inside other).only c (MayLeave-elsewhere old 1 block x c other (no_more x c held)) };
 }
 
-IsInDoubt-no_more_but : (looked : Looking) (before next : List Block) (old new : Device)
-    → IsReady looked old before next → HoldsNoMoreBut 1 (block_at next 1) old new → length new.image ≡ length old.image
-    → IsInDoubt looked new before next
-IsInDoubt-no_more_but looked before next old new r no_more same = record {
+-- a cut leaves one of the two commit blocks, if they differ in one word at most
+IsEither-commit : (before block : Block) (old new : Device) → IsOneWordApart before block → IsFixed old 1 before
+    → HoldsNoMore (with_queued 1 block old) new → IsEither new 1 before block
+IsEither-commit before block old new apart fixed no_more = record {
+  either = λ c held.
+      IsMadeOf-either (possible (with_queued 1 block old) 1) before block c apart
+      (λ d h. elim (possible-with_queued old 1 block 1 d h) as (λ _. (d ≡ before) ⊎ (d ≡ block)) [
+        | inl was ↦ inl (fixed.only d (MayLeave-possible old 1 d was))
+        | inr here ↦ inr here.1
+      ])
+      (no_more 1 c held).words;
+}
+
+IsInDoubt-queued : (looked : Looking) (before next : List Block) (old new : Device)
+    → IsOneWordApart (block_at before 1) (block_at next 1) → IsReady looked old before next
+    → HoldsNoMore (with_queued 1 (block_at next 1) old) new → length new.image ≡ length old.image → IsInDoubt looked new before next
+IsInDoubt-queued looked before next old new apart r no_more same = record {
   stands = Stands-commit looked before (block_at next 1) old new no_more same r.kept.stands;
   next_stands = Stands-commit looked next (block_at next 1) old new no_more same r.next_stands;
-  commit = record {
-    either = λ c held. elim (no_more 1 c held) as (λ _. (c ≡ block_at before 1) ⊎ (c ≡ block_at next 1)) [
-      | inl was ↦ inl (r.kept.commit.only c was)
-      | inr here ↦ inr here.1
-    ];
-  };
+  commit = IsEither-commit (block_at before 1) (block_at next 1) old new apart r.kept.commit no_more;
 }
 
 pub IsInDoubt-written : (looked : Looking) (before next : List Block) (old new : Device)
-    → IsReady looked old before next → new ≡ written_to old 1 (block_at next 1) → IsInDoubt looked new before next
-IsInDoubt-written looked before next old new r e =
+    → IsOneWordApart (block_at before 1) (block_at next 1) → IsReady looked old before next → new ≡ written_to old 1 (block_at next 1)
+    → IsInDoubt looked new before next
+IsInDoubt-written looked before next old new apart r e =
     subst (λ (n : Device). IsInDoubt looked n before next) (sym e)
-    (IsInDoubt-no_more_but looked before next old (written_to old 1 (block_at next 1)) r
-    (no_more_but-written_to old 1 (block_at next 1)) (length-written_to old 1 (block_at next 1)))
+    (IsInDoubt-queued looked before next old (written_to old 1 (block_at next 1)) apart r
+    (no_more-written_to old 1 (block_at next 1)) (length-written_to old 1 (block_at next 1)))
 
 pub IsInDoubt-failed : (looked : Looking) (before next : List Block) (old new : Device)
-    → IsReady looked old before next → HasFailedToWrite 1 (block_at next 1) old new → IsFramed old new → IsInDoubt looked new before next
-IsInDoubt-failed looked before next old new r failed framed =
-    IsInDoubt-no_more_but looked before next old new r failed.no_more framed.blocks
+    → IsOneWordApart (block_at before 1) (block_at next 1) → IsReady looked old before next
+    → HasFailedToWrite 1 (block_at next 1) old new → IsFramed old new → IsInDoubt looked new before next
+IsInDoubt-failed looked before next old new apart r failed framed =
+    IsInDoubt-queued looked before next old new apart r failed.no_more framed.blocks
+
+-- a barrier keeps an image that stands and whose commit block is read, whatever was there before
+pub IsKept-stood : (looked : Looking) (next : List Block) (old new : Device)
+    → Stands looked old next → Reads old 1 (block_at next 1) → new ≡ settled old → IsKept looked new next
+IsKept-stood looked next old new s r e = record {
+  stands = Stands-spared looked (looked next) old new next (Spares-settled (looked next) old new e) (λ x inside. inside) s;
+  commit = subst (λ (n : Device). IsFixed n 1 (block_at next 1)) (sym e) (IsFixed-settled old 1 (block_at next 1) r);
+}
 
 pub IsKept-settled : (looked : Looking) (before next : List Block) (old new : Device)
     → IsInDoubt looked old before next → Reads old 1 (block_at next 1) → new ≡ settled old → IsKept looked new next
-IsKept-settled looked before next old new d r e =
-    let after : IsInDoubt looked new before next = IsSaved-spared looked (InDoubt before next) old new d (Spares-settled (guarded looked (InDoubt before next)) old new e) in
-    record {
-      stands = after.next_stands;
-      commit = subst (λ (n : Device). IsFixed n 1 (block_at next 1)) (sym e) (IsFixed-settled old 1 (block_at next 1) r);
-    }
+IsKept-settled looked before next old new d r e = IsKept-stood looked next old new d.next_stands r e

@@ -1,8 +1,8 @@
 -- What spares places.
-use Rattle.std.proofs.Common.{◌≡◌, ℕ, List, Contains, refl, sym, ◌∙◌, subst, inl, inr, length}
+use Rattle.std.proofs.Common.{◌≡◌, ℕ, List, Contains, refl, sym, ◌∙◌, subst, length}
 use Rattle.thy_base.specs.declared.block.Block.{Block}
-use Rattle.thy_base.specs.Device.{Device, HoldsNoMore, HoldsNoMoreBut, HasFailed, HasFailedToWrite, IsFramed, possible, drained, settled, written_to}
-use Rattle.thy_base.proofs.DeviceLemmas.{no_more-drained, no_more-settled, no_more_but-written_to, length-drained, length-settled, length-written_to}
+use Rattle.thy_base.specs.Device.{Device, HoldsNoMore, HasFailed, HasFailedToWrite, IsFramed, drained, settled, with_queued, written_to}
+use Rattle.thy_base.proofs.DeviceLemmas.{no_more-drained, no_more-settled, no_more-written_to, MayLeave-elsewhere, length-drained, length-settled, length-written_to}
 use Rattle.thy_crash.specs.Spares.{Spares}
 
 pub Spares-same : (places : List ℕ) (old new : Device) → new ≡ old → Spares places old new
@@ -33,22 +33,19 @@ pub Spares-settled : (places : List ℕ) (old new : Device) → new ≡ settled 
 Spares-settled places old new e =
     subst (λ (n : Device). Spares places old n) (sym e) (Spares-no_more places old (settled old) (no_more-settled old) (length-settled old))
 
--- what makes one block more possible at one place spares every other place
-pub Spares-no_more_but : (places : List ℕ) (at : ℕ) (block : Block) (old new : Device)
-    → ¬ Contains places at → HoldsNoMoreBut at block old new → length new.image ≡ length old.image → Spares places old new
-Spares-no_more_but places at block old new other no_more same = record {
+-- what makes no more possible than one queued write spares every place but that write's
+pub Spares-queued : (places : List ℕ) (at : ℕ) (block : Block) (old new : Device)
+    → ¬ Contains places at → HoldsNoMore (with_queued at block old) new → length new.image ≡ length old.image → Spares places old new
+Spares-queued places at block old new other no_more same = record {
   as_long = same;
-  no_more = λ x inside b h. elim (no_more x b h) as (λ _. Contains (possible old x) b) [
-    | inl before ↦ before
-    | inr here ↦ absurd (other (subst (λ (y : ℕ). Contains places y) here.0 inside))
-  ];
+  no_more = λ x inside b h. MayLeave-elsewhere old at block x b (λ e. other (subst (λ (y : ℕ). Contains places y) e inside)) (no_more x b h);
 }
 
 pub Spares-written : (places : List ℕ) (at : ℕ) (block : Block) (old new : Device)
     → ¬ Contains places at → new ≡ written_to old at block → Spares places old new
 Spares-written places at block old new other e =
     subst (λ (n : Device). Spares places old n) (sym e)
-    (Spares-no_more_but places at block old (written_to old at block) other (no_more_but-written_to old at block) (length-written_to old at block))
+    (Spares-queued places at block old (written_to old at block) other (no_more-written_to old at block) (length-written_to old at block))
 
 pub Spares-failed : (places : List ℕ) (old new : Device) → HasFailed old new → IsFramed old new → Spares places old new
 Spares-failed places old new failed framed = Spares-no_more places old new failed.no_more framed.blocks
@@ -56,4 +53,4 @@ Spares-failed places old new failed framed = Spares-no_more places old new faile
 pub Spares-failed_to_write : (places : List ℕ) (at : ℕ) (block : Block) (old new : Device)
     → ¬ Contains places at → HasFailedToWrite at block old new → IsFramed old new → Spares places old new
 Spares-failed_to_write places at block old new other failed framed =
-    Spares-no_more_but places at block old new other failed.no_more framed.blocks
+    Spares-queued places at block old new other failed.no_more framed.blocks

@@ -1,11 +1,44 @@
 -- What power cuts leave, for every layout of checkpoints.
-use Rattle.std.specs.Prelude.{◌≡◌, ◌≢◌, ℕ, ◌+◌, ◌<◌, List, [], Contains, length}
+use Rattle.std.specs.Prelude.{◌≡◌, ◌≢◌, ◌⊎◌, ℕ, ◌+◌, ◌<◌, true, List, [], Contains, length}
 use Rattle.thy_base.specs.declared.block.Block.{Block}
-use Rattle.thy_base.specs.Device.{Device, Crash, block_at, newest, drained, settled, written_to, IsCut, IsFramed, HasFailed, HasFailedToWrite}
+use Rattle.thy_base.specs.Device.{Device, MayLeave, Crash, IsOneWordApart, possible, block_at, newest, drained, settled, with_queued, written_to, IsCut, IsFramed, HoldsNoMore, HasFailed, HasFailedToWrite}
 use Rattle.thy_base.specs.Places.{commit_place}
 use Rattle.thy_crash.specs.Fixed.{IsFixed, Reads, ReadsFirst}
 use Rattle.thy_crash.specs.Saved.{Looking, IsIssued, next_image, Saved, Kept, Ready, InDoubt, IsSaved, guarded, IsLeft}
 use Rattle.thy_crash.specs.Spares.{Spares}
+
+-- ---- whole blocks, and words
+
+-- each choice of whole blocks is a choice of words
+abbrev pub BlocksAreWords : Type 0
+BlocksAreWords =
+    (n : Device) (g : List Block)
+    → length g ≡ length n.image → ((x : ℕ) → Contains (possible n x) (block_at g x)) → Crash n g
+
+-- a device whose blocks land whole leaves no other
+abbrev pub WholeBlocksAreLeft : Type 0
+WholeBlocksAreLeft =
+    (n : Device) (g : List Block) → n.whole ≡ true → Crash n g → (x : ℕ) → Contains (possible n x) (block_at g x)
+
+-- after a call that failed: if no block is possible that was not, no place may hold more
+abbrev pub NoBlockIsNoMore : Type 0
+NoBlockIsNoMore =
+    (old new : Device) → new.whole ≡ old.whole
+    → ((x : ℕ) (b : Block) → Contains (possible new x) b → Contains (possible old x) b) → HoldsNoMore old new
+
+-- after a write that failed: if its block is possible at its place, and no other that was not, no place may hold more
+-- than if the block had been queued
+abbrev pub OneBlockIsQueued : Type 0
+OneBlockIsQueued =
+    (old new : Device) (at : ℕ) (block : Block) → new.whole ≡ old.whole
+    → ((x : ℕ) (b : Block) → Contains (possible new x) b → Contains (possible old x) b ⊎ ((x ≡ at) × (b ≡ block)))
+    → HoldsNoMore (with_queued at block old) new
+
+-- of two blocks that differ in one word at most a cut leaves one
+abbrev pub OneWordIsEither : Type 0
+OneWordIsEither =
+    (n : Device) (x : ℕ) (a c b : Block) → IsOneWordApart a c
+    → ((d : Block) → Contains (possible n x) d → (d ≡ a) ⊎ (d ≡ c)) → MayLeave n x b → (b ≡ a) ⊎ (b ≡ c)
 
 -- ---- what a cut leaves
 
@@ -78,10 +111,11 @@ BarrierMakesReady =
     → IsSaved looked old (Kept before) → IsIssued looked old next → new ≡ settled old
     → IsSaved looked new (Ready before next)
 
--- the write of its commit block leaves the two in doubt
+-- the write of its commit block leaves the two in doubt, if it differs in one word at most from that before it
 abbrev pub CommitLeavesDoubt : Type 0
 CommitLeavesDoubt =
     (looked : Looking) (before next : List Block) (old new : Device)
+    → IsOneWordApart (block_at before commit_place) (block_at next commit_place)
     → IsSaved looked old (Ready before next) → new ≡ written_to old commit_place (block_at next commit_place)
     → IsSaved looked new (InDoubt before next)
 
@@ -89,6 +123,7 @@ CommitLeavesDoubt =
 abbrev pub FailedCommitLeavesDoubt : Type 0
 FailedCommitLeavesDoubt =
     (looked : Looking) (before next : List Block) (old new : Device)
+    → IsOneWordApart (block_at before commit_place) (block_at next commit_place)
     → IsSaved looked old (Ready before next) → HasFailedToWrite commit_place (block_at next commit_place) old new
     → IsFramed old new
     → IsSaved looked new (InDoubt before next)

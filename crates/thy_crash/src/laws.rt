@@ -1,5 +1,19 @@
 //! The laws, each the contract of a function that does nothing.
-ghost use Rattle.thy_crash.specs.Laws.{CutLeavesCopy, CutIsKept, EmptyIsKept, SparedStays, SameSpares, BothSpare, PartIsSpared, DrainSpares, BarrierSpares, WriteSpares, FailureSpares, FailedWriteSpares, BarrierMakesReady, CommitLeavesDoubt, FailedCommitLeavesDoubt, BarrierEndsDoubt, NextIsIssued, NextHasReads, NextHasCommit, WriteIsRead, WriteKeepsRead, DrainKeepsRead, BarrierKeepsRead, FixedIsRead, NextWriteIsRead, WriteKeepsFirst, DrainKeepsFirst};
+ghost use Rattle.thy_crash.specs.Laws.{BlocksAreWords, WholeBlocksAreLeft, NoBlockIsNoMore, OneBlockIsQueued, OneWordIsEither, CutLeavesCopy, CutIsKept, EmptyIsKept, SparedStays, SameSpares, BothSpare, PartIsSpared, DrainSpares, BarrierSpares, WriteSpares, FailureSpares, FailedWriteSpares, BarrierMakesReady, CommitLeavesDoubt, FailedCommitLeavesDoubt, BarrierEndsDoubt, NextIsIssued, NextHasReads, NextHasCommit, WriteIsRead, WriteKeepsRead, DrainKeepsRead, BarrierKeepsRead, FixedIsRead, NextWriteIsRead, WriteKeepsFirst, DrainKeepsFirst};
+
+/// Each choice of whole blocks is a choice of words. So a device that keeps its laws by whole blocks keeps them by words,
+/// after calls that failed too; and one whose blocks land whole leaves whole blocks alone.
+pub fn whole_blocks_are_words()
+    ensures words { BlocksAreWords }
+    ensures whole { WholeBlocksAreLeft }
+    ensures failed { NoBlockIsNoMore }
+    ensures failed_write { OneBlockIsQueued }
+{}
+
+/// A word is failure-atomic: of two blocks that differ in one word at most a cut leaves one.
+pub fn one_word_is_not_torn()
+    ensures { OneWordIsEither }
+{}
 
 /// A cut leaves a copy of the image that is kept, at all places that determine what it means; in doubt, of one of the
 /// two.
@@ -39,7 +53,8 @@ pub fn a_barrier_makes_ready()
     ensures { BarrierMakesReady }
 {}
 
-/// The write of its commit block leaves the two in doubt, whether or not it fails.
+/// The write of its commit block leaves the two in doubt, whether or not it fails, if it differs in one word at most from the
+/// commit block before it.
 pub fn a_commit_leaves_doubt()
     ensures written { CommitLeavesDoubt }
     ensures failed { FailedCommitLeavesDoubt }

@@ -1,6 +1,7 @@
 -- What a copy, and the write of a block of a page, make of controller and NVM, as the position that is next.
 use Rattle.std.proofs.Common.{◌≡◌, ℕ, true, false, is_some, Option, Some, None, refl, sym, ◌∙◌, ap, subst, inl, inr}
 use Rattle.thy_base.specs.Device.{Device, written_to, HasFailedToWrite}
+use Rattle.thy_base.proofs.DeviceLemmas.{no_more-with_queued}
 use Rattle.thy_places.specs.declared.place.Place.{Place}
 use Rattle.thy_places.specs.Places.{in_dram, number_of}
 use Rattle.thy_place.specs.Devices.{devices_of}
@@ -19,7 +20,7 @@ use Rattle.thy_dual_laws.proofs.ItemLemmas.{copied_is, issued_is}
 move_fails : (s : State) (from to : Place) (m n : Device) → FailsMove s.p from to (devices_of m s.dram) (devices_of n s.dram)
     → HasFailedToWrite (number_of s.p to) (reads s m from) m n
 move_fails s from to m n f = elim f.failed as (λ _. HasFailedToWrite (number_of s.p to) (reads s m from) m n) [
-  | inl r ↦ record { down = r.failed.down; no_more = λ x b h. inl (r.failed.no_more x b h) }
+  | inl r ↦ record { down = r.failed.down; no_more = λ x b h. no_more-with_queued m (number_of s.p to) (reads s m from) x b (r.failed.no_more x b h) }
   | inr w ↦ w.failed
 ]
 

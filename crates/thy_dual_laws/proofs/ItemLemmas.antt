@@ -54,6 +54,7 @@ some_device s = record {
   faults = 0;
   fits = 0;
   lent = [];
+  whole = true;
 }
 
 some_sized : (s : State) → IsSized s (some_device s)

@@ -159,7 +159,7 @@ action_is b block s n =
 
 framed_there : (side : Bool) (x : ℕ) (block : Block) (d : Devices)
     → IsFramed d.nvm (if side then record d { dram = written d.dram x block } else record d { nvm = written_to d.nvm x block }).nvm
-framed_there true x block d = record { blocks = refl; left = refl; picks = refl; queue_room = refl; left_room = refl; fits = refl; lent = refl }
+framed_there true x block d = record { blocks = refl; left = refl; picks = refl; queue_room = refl; left_room = refl; fits = refl; lent = refl; whole = refl }
 framed_there false x block d = record {
   blocks = length-written_to d.nvm x block;
   left = refl;
@@ -168,6 +168,7 @@ framed_there false x block d = record {
   left_room = refl;
   fits = refl;
   lent = refl;
+  whole = refl;
 }
 
 writes_there : (side : Bool) (x : ℕ) (block : Block) (d : Devices)

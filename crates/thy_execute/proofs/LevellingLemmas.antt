@@ -57,7 +57,7 @@ map_both f h same (g ∷ gs) = ap (λ x. x ∷ map f gs) (same g) ∙ ap (λ xs.
 -- ---- without a gap
 
 pub IsFoundAs-direct : (gap : ℕ) (n : Device) → IsFoundAs gap n n
-IsFoundAs-direct gap n = record { direct = λ none. refl; faults = refl; fits = refl }
+IsFoundAs-direct gap n = record { direct = λ none. refl; faults = refl; fits = refl; whole = refl }
 
 pub IsLeftAs-direct : (gap : ℕ) (n : Device) → gap ≡ 0 → IsLeftAs gap n n
 IsLeftAs-direct gap n none = record {
@@ -71,13 +71,14 @@ IsLeftAs-direct gap n none = record {
   down = refl;
   faults = refl;
   fits = refl;
+  whole = refl;
 }
 
 -- ---- with one, over a device that is lent
 
 -- lines before they are fitted
 pub IsFoundAs-levelled : (gap : ℕ) (name : GName) (n : Device) → 0 < gap → IsFoundAs gap n (seen no_lines (lent_by name n))
-IsFoundAs-levelled gap name n some = record { direct = λ none. absurd (omega (arith, none, some)); faults = refl; fits = refl }
+IsFoundAs-levelled gap name n some = record { direct = λ none. absurd (omega (arith, none, some)); faults = refl; fits = refl; whole = refl }
 
 -- a cut leaves the same of a device that is lent
 crash_lent : (name : GName) (n : Device) (g : List Block) → Crash n g → Crash (lent_by name n) g
@@ -99,6 +100,7 @@ IsLeftAs-levelled gap name r n some lines image crash left =
       down = refl;
       faults = refl;
       fits = refl;
+      whole = refl;
     }
 
 -- ---- a fit that failed

@@ -1,18 +1,18 @@
 -- What a cut leaves of a levelled device.
-use Rattle.std.proofs.Common.{◌≡◌, ◌⊎◌, ℕ, ◌+◌, ◌-◌, ◌==◌, if◌then◌else◌, false, List, [], ◌∷◌, ◌++◌, length, map, Contains, refl, sym, ◌∙◌, ap, subst, inl, inr, arith, length-append}
+use Rattle.std.proofs.Common.{◌≡◌, ◌⊎◌, ℕ, ◌+◌, ◌-◌, ◌==◌, if◌then◌else◌, false, List, [], ◌∷◌, ◌++◌, length, map, refl, sym, ◌∙◌, ap, subst, inl, inr, arith, length-append}
 use Rattle.std.specs.List.{All}
 use Rattle.std.proofs.lemmas.Bool.{cases_eq, cases_lt, ne_eqb}
 use Rattle.std.proofs.lemmas.List.{map-append}
-use Rattle.std.proofs.lemmas.List.Elements.{Contains-push, All-push}
+use Rattle.std.proofs.lemmas.List.Elements.{All-push}
 use Rattle.thy_base.specs.declared.block.Block.{Block}
-use Rattle.thy_base.specs.Device.{Device, Crash, IsCut, zero_block, block_at, possible, cut_to}
+use Rattle.thy_base.specs.Device.{Device, IsLeftOf, MayLeave, Crash, IsCut, block_at, cut_to}
 use Rattle.thy_gap.specs.declared.registers.Registers.{Registers}
 use Rattle.thy_gap.specs.Lines.{IsWhole, place, source, moved, registers_block, registers_of, registers_in}
 use Rattle.thy_gap.specs.Seen.{unmap, unmapped, seen}
 use Rattle.thy_gap.specs.Levelled.{IsCopied, IsQuiet, IsLeft, IsLevelled}
 use Rattle.thy_gap.proofs.LineLemmas.{whole-moved, place-moved_line, place-other_line}
 use Rattle.thy_gap.proofs.RegisterLemmas.{registers_of-block, Tells-in_hand, Tells-cases}
-use Rattle.thy_gap.proofs.SeenLemmas.{length-unmap, block_at-unmap, block_at-unmap_past, unmap-is, possible-seen, possible-seen_past}
+use Rattle.thy_gap.proofs.SeenLemmas.{length-unmap, block_at-unmap, block_at-unmap_past, unmap-is, possible-seen, zero_left}
 use Rattle.thy_gap.proofs.MovingLemmas.{rest-quiet}
 
 -- an image that a cut may leave has the registers in hand, or those of one move on, and then the line was copied
@@ -73,14 +73,12 @@ Crash-seen r cuts n g i c =
     record {
       same_length = ap length e ∙ length-unmap r g ∙ sym (length-unmap r n.image);
       each = λ x.
-          subst (λ (h : List Block). Contains (possible (seen r n) x) (block_at h x)) (sym e)
-          (elim (cases_lt x r.lines) as (λ _. Contains (possible (seen r n) x) (block_at (unmap r g) x)) [
+          subst (λ (h : List Block). MayLeave (seen r n) x (block_at h x)) (sym e)
+          (elim (cases_lt x r.lines) as (λ _. MayLeave (seen r n) x (block_at (unmap r g) x)) [
             | inl l ↦
-                subst (λ (q : List Block). Contains q (block_at (unmap r g) x)) (sym (possible-seen r n x i.whole l))
-                (subst (λ (b : Block). Contains (possible n (place r x)) b) (sym (block_at-unmap r g x l)) (c.each (place r x)))
-            | inr l ↦
-                subst (λ (q : List Block). Contains q (block_at (unmap r g) x)) (sym (possible-seen_past r n x i.whole l))
-                (subst (λ (b : Block). Contains (zero_block ∷ []) b) (sym (block_at-unmap_past r g x l)) (Contains-push [] zero_block))
+                subst (λ (q : List Block). IsLeftOf n.whole q (block_at (unmap r g) x)) (sym (possible-seen r n x i.whole l))
+                (subst (λ (b : Block). MayLeave n (place r x) b) (sym (block_at-unmap r g x l)) (c.each (place r x)))
+            | inr l ↦ subst (MayLeave (seen r n) x) (sym (block_at-unmap_past r g x l)) (zero_left r n x i.whole l)
           ]);
     }
 

@@ -1,19 +1,19 @@
 -- What holds of a levelled device, after calls on its lines.
-use Rattle.std.proofs.Common.{◌≡◌, ◌⊎◌, ℕ, ◌+◌, ◌<◌, ◌==◌, if◌then◌else◌, true, false, List, [], length, drop, map, Contains, is_some, refl, sym, ◌∙◌, ap, subst, inl, inr, arith}
+use Rattle.std.proofs.Common.{◌≡◌, ℕ, ◌+◌, ◌<◌, ◌==◌, if◌then◌else◌, true, false, List, [], length, drop, map, is_some, refl, sym, ◌∙◌, ap, subst, arith}
 use Rattle.std.specs.List.{All}
-use Rattle.std.proofs.lemmas.Bool.{cases_lt, true≢false}
+use Rattle.std.proofs.lemmas.Bool.{true≢false}
 use Rattle.std.proofs.lemmas.List.Elements.{All-drop, All-push, All-nil}
 use Rattle.thy_base.specs.declared.block.Block.{Block}
 use Rattle.thy_base.specs.declared.nvm.Write.{Write}
-use Rattle.thy_base.specs.Device.{Device, IsFramed, HasFailed, HasFailedToWrite, HoldsNoMore, HoldsNoMoreBut, write_of, possible, landed, settled, surplus, written_to}
-use Rattle.thy_base.proofs.DeviceLemmas.{no_more-landed, no_more-settled, no_more-written_to_other}
+use Rattle.thy_base.specs.Device.{Device, IsFramed, HasFailed, HasFailedToWrite, HoldsNoMore, MayLeave, write_of, landed, settled, surplus, with_queued, written_to}
+use Rattle.thy_base.proofs.DeviceLemmas.{no_more-landed, no_more-settled, no_more-written_to_other, MayLeave-elsewhere}
 use Rattle.thy_gap.specs.declared.registers.Registers.{Registers}
-use Rattle.thy_gap.specs.Lines.{IsWhole, place, line_at, source, registers_block}
+use Rattle.thy_gap.specs.Lines.{IsWhole, place, line_at, source}
 use Rattle.thy_gap.specs.Seen.{unmapped, seen}
 use Rattle.thy_gap.specs.Levelled.{Tells, IsQuiet, IsLeft, IsLevelled}
-use Rattle.thy_gap.proofs.LineLemmas.{place-within, line_at-place, place-one_to_one}
+use Rattle.thy_gap.proofs.LineLemmas.{place-within, line_at-place}
 use Rattle.thy_gap.proofs.RegisterLemmas.{Tells-in_hand, IsCopied-no_more}
-use Rattle.thy_gap.proofs.SeenLemmas.{length-unmap, possible-seen, possible-seen_past, no_more-seen}
+use Rattle.thy_gap.proofs.SeenLemmas.{length-unmap, no_more-seen, seen-with_queued}
 
 -- ---- while the device is up
 
@@ -60,7 +60,7 @@ Tells-no_more r old new b t no_more = record {
 
 -- a device that is down stays levelled where its registers tell the same
 pub IsLevelled-parts : (r : Registers) (cuts : ℕ) (old new : Device) → IsLevelled r cuts old → length new.image ≡ length old.image → new.left ≡ old.left → new.left_room ≡ old.left_room
-    → new.down ≡ true → ((b : Block) → Contains (possible new (r.lines + 1)) b → Tells r new b) → IsLevelled r cuts new
+    → new.down ≡ true → ((b : Block) → MayLeave new (r.lines + 1) b → Tells r new b) → IsLevelled r cuts new
 IsLevelled-parts r cuts old new i blocks left room down tells = record {
   whole = i.whole;
   blocks = blocks ∙ i.blocks;
@@ -72,7 +72,7 @@ IsLevelled-parts r cuts old new i blocks left room down tells = record {
 }
 
 pub IsLevelled-down : (r : Registers) (cuts : ℕ) (old new : Device) → IsLevelled r cuts old → IsFramed old new → new.down ≡ true
-    → ((b : Block) → Contains (possible new (r.lines + 1)) b → Tells r new b) → IsLevelled r cuts new
+    → ((b : Block) → MayLeave new (r.lines + 1) b → Tells r new b) → IsLevelled r cuts new
 IsLevelled-down r cuts old new i f down tells = IsLevelled-parts r cuts old new i f.blocks f.left f.left_room down tells
 
 -- of a fit only the count of fits need be kept
@@ -101,24 +101,17 @@ pub IsLevelled-failed_to_write : (r : Registers) (cuts : ℕ) (old new : Device)
 IsLevelled-failed_to_write r cuts old new x block i l up f failed =
     IsLevelled-down r cuts old new i f failed.down
     (λ b h. Tells-in_hand r new b i.whole
-    (elim (failed.no_more (r.lines + 1) b h) as (λ _. b ≡ registers_block r) [
-      | inl before ↦ (i.quiet up).in_hand b before
-      | inr here ↦ absurd (omega (arith, here.0, place-within r x i.whole l))
-    ]))
+    ((i.quiet up).in_hand b
+    (MayLeave-elsewhere old (place r x) block (r.lines + 1) b (λ e. omega (arith, e, place-within r x i.whole l)) (failed.no_more (r.lines + 1) b h))))
 
 -- ---- what is seen
 
-pub no_more_but-seen : (r : Registers) (old new : Device) (x : ℕ) (block : Block) → IsWhole r → x < r.lines
-    → HoldsNoMoreBut (place r x) block old new → HoldsNoMoreBut x block (seen r old) (seen r new)
-no_more_but-seen r old new x block w l no_more y b h = elim (cases_lt y r.lines) as (λ _. Contains (possible (seen r old) y) b ⊎ ((y ≡ x) × (b ≡ block))) [
-  | inl ly ↦
-      elim (no_more (place r y) b (subst (λ (q : List Block). Contains q b) (possible-seen r new y w ly) h))
-      as (λ _. Contains (possible (seen r old) y) b ⊎ ((y ≡ x) × (b ≡ block))) [
-        | inl before ↦ inl (subst (λ (q : List Block). Contains q b) (sym (possible-seen r old y w ly)) before)
-        | inr here ↦ inr (place-one_to_one r y x w ly l here.0, here.1)
-      ]
-  | inr ly ↦ inl (subst (λ (q : List Block). Contains q b) (possible-seen_past r new y w ly ∙ sym (possible-seen_past r old y w ly)) h)
-]
+-- no more than if a write of a line were queued is seen as no more than that
+pub no_more-queued_seen : (r : Registers) (old new : Device) (x : ℕ) (block : Block) → IsWhole r → x < r.lines
+    → HoldsNoMore (with_queued (place r x) block old) new → HoldsNoMore (with_queued x block (seen r old)) (seen r new)
+no_more-queued_seen r old new x block w l no_more =
+    subst (λ (d : Device). HoldsNoMore d (seen r new)) (seen-with_queued r old x block w l)
+    (no_more-seen r (with_queued (place r x) block old) new w (λ y b _. no_more (place r y) b))
 
 -- what only a fit and a cut change is seen to stay, also where registers have moved
 pub IsFramed-moved : (r s : Registers) (old new : Device) → s.lines ≡ r.lines → IsFramed old new → IsFramed (seen r old) (seen s new)
@@ -130,6 +123,7 @@ IsFramed-moved r s old new e f = record {
   left_room = ap (λ n. if n == 0 then 0 else new.left_room) e ∙ ap (λ (l : ℕ). if r.lines == 0 then 0 else l) f.left_room;
   fits = f.fits;
   lent = f.lent;
+  whole = f.whole;
 }
 
 pub IsFramed-seen : (r : Registers) (old new : Device) → IsFramed old new → IsFramed (seen r old) (seen r new)
@@ -141,4 +135,4 @@ HasFailed-seen r old new w failed = record { down = failed.down; no_more = no_mo
 
 pub HasFailedToWrite-seen : (r : Registers) (old new : Device) (x : ℕ) (block : Block) → IsWhole r → x < r.lines
     → HasFailedToWrite (place r x) block old new → HasFailedToWrite x block (seen r old) (seen r new)
-HasFailedToWrite-seen r old new x block w l failed = record { down = failed.down; no_more = no_more_but-seen r old new x block w l failed.no_more }
+HasFailedToWrite-seen r old new x block w l failed = record { down = failed.down; no_more = no_more-queued_seen r old new x block w l failed.no_more }

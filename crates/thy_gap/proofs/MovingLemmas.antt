@@ -1,12 +1,12 @@
 -- A move of one line.
-use Rattle.std.proofs.Common.{◌≡◌, ◌≢◌, ℕ, ◌+◌, ◌<◌, ◌≤◌, true, false, List, [], ◌∷◌, length, Contains, refl, sym, ◌∙◌, ap, subst, inl, inr, arith}
+use Rattle.std.proofs.Common.{◌≡◌, ◌≢◌, ℕ, ◌+◌, ◌<◌, ◌≤◌, true, false, List, [], length, refl, sym, ◌∙◌, ap, subst, inl, inr, arith}
 use Rattle.std.proofs.lemmas.Bool.{cases_eq}
 use Rattle.std.proofs.lemmas.List.Elements.{All-nil}
 use Rattle.std.specs.Prelude.{is_some}
 use Rattle.thy_base.specs.declared.block.Block.{Block}
 use Rattle.thy_base.specs.declared.nvm.Write.{Write}
-use Rattle.thy_base.specs.Device.{Device, IsFramed, HasFailed, HasFailedToWrite, block_at, queued_for, possible, newest, settled, written_to}
-use Rattle.thy_base.proofs.DeviceLemmas.{same_as_only, no_more-settled, no_more_but-written_to, no_more-written_to_other, newest-settled, newest-written_to, newest-written_to_other, length-settled, length-written_to, newest-empty}
+use Rattle.thy_base.specs.Device.{Device, IsFramed, MayLeave, HasFailed, HasFailedToWrite, block_at, queued_for, newest, settled, written_to}
+use Rattle.thy_base.proofs.DeviceLemmas.{MayLeave-possible, MayLeave-landed, MayLeave-elsewhere, possible-with_queued, no_more-settled, no_more-written_to, no_more-written_to_other, newest-settled, newest-written_to, newest-written_to_other, length-settled, length-written_to, newest-empty}
 use Rattle.thy_gap.specs.declared.registers.Registers.{Registers}
 use Rattle.thy_gap.specs.Lines.{IsWhole, place, line_at, source, moved, registers_block}
 use Rattle.thy_gap.specs.Seen.{unmap, unmap_queue, seen}
@@ -36,13 +36,13 @@ put_down-other n at block x e other l =
 pub failed_to_put : (at : ℕ) (block : Block) (old mid new : Device) → mid ≡ written_to old at block → HasFailed mid new → HasFailedToWrite at block old new
 failed_to_put at block old mid new e failed = record {
   down = failed.down;
-  no_more = λ x b h. no_more_but-written_to old at block x b (subst (λ (n : Device). Contains (possible n x) b) e (failed.no_more x b h));
+  no_more = λ x b h. no_more-written_to old at block x b (subst (λ (n : Device). MayLeave n x b) e (failed.no_more x b h));
 }
 
 -- ---- a device at rest holds one block at each place
 
-pub rest-possible : (n : Device) (x : ℕ) (b : Block) → n.queue ≡ [] → Contains (possible n x) b → block_at n.image x ≡ b
-rest-possible n x b e h = same_as_only (block_at n.image x) b (subst (λ (q : List Write). Contains (block_at n.image x ∷ queued_for q x) b) e h)
+pub rest-possible : (n : Device) (x : ℕ) (b : Block) → n.queue ≡ [] → MayLeave n x b → block_at n.image x ≡ b
+rest-possible n x b e h = sym (MayLeave-landed n x b (ap (λ (q : List Write). queued_for q x) e) h)
 
 -- so a cut leaves the registers in hand
 pub rest-quiet : (r : Registers) (n : Device) → n.queue ≡ [] → block_at n.image (r.lines + 1) ≡ registers_block r → IsQuiet r n
@@ -51,14 +51,17 @@ rest-quiet r n e here = record {
   in_hand = λ b h. sym (rest-possible n (r.lines + 1) b e h) ∙ here;
 }
 
-pub rest-settled : (r : Registers) (cuts : ℕ) (n : Device) → IsLevelled r cuts n → n.down ≡ false → IsAtRest r (settled n)
-rest-settled r cuts n i up = record {
-  whole = i.whole;
-  blocks = length-settled n ∙ i.blocks;
-  up = up;
-  empty = refl;
-  in_hand = (i.quiet up).in_hand (block_at (settled n).image (r.lines + 1)) (no_more-settled n (r.lines + 1) _ (Contains-stands (settled n) (r.lines + 1)));
-}
+pub rest-settled : (r : Registers) (cuts : ℕ) (n : Device) → IsLevelled r cuts n → n.down ≡ false → n.whole ≡ true → IsAtRest r (settled n)
+rest-settled r cuts n i up whole =
+    let b : Block = block_at (settled n).image (r.lines + 1) in
+    record {
+      whole = i.whole;
+      blocks = length-settled n ∙ i.blocks;
+      up = up;
+      empty = refl;
+      lands_whole = whole;
+      in_hand = (i.quiet up).in_hand b (no_more-settled n (r.lines + 1) b (MayLeave-possible (settled n) (r.lines + 1) b (Contains-stands (settled n) (r.lines + 1))));
+    }
 
 -- ---- a move that failed
 
@@ -74,12 +77,10 @@ failed_at_read r old new rest failed = record {
 pub failed_at_copy : (r : Registers) (old new : Device) (c : Block) → IsAtRest r old → HasFailedToWrite r.gap c old new → HasFailedToMove r old new
 failed_at_copy r old new c rest failed = record {
   down = failed.down;
-  elsewhere = λ x b not_gap _ h. elim (failed.no_more x b h) as (λ _. Contains (possible old x) b) [ inl before ↦ before | inr here ↦ absurd (not_gap here.0) ];
+  elsewhere = λ x b not_gap _ h. MayLeave-elsewhere old r.gap c x b not_gap (failed.no_more x b h);
   registers = λ b h. Tells-in_hand r new b rest.whole
-      (elim (failed.no_more (r.lines + 1) b h) as (λ _. b ≡ registers_block r) [
-        | inl before ↦ (rest-quiet r old rest.empty rest.in_hand).in_hand b before
-        | inr here ↦ absurd (omega (arith, here.0, rest.whole.gap))
-      ]);
+      ((rest-quiet r old rest.empty rest.in_hand).in_hand b
+      (MayLeave-elsewhere old r.gap c (r.lines + 1) b (λ e. omega (arith, e, rest.whole.gap)) (failed.no_more (r.lines + 1) b h)));
 }
 
 -- at the write or the barrier of the registers: the line was copied before
@@ -89,35 +90,37 @@ failed_at_registers r old mid new c rest is e failed =
     let w = rest.whole in
     let s = source-within r w in
     -- elsewhere the copy left what was there
-    let before : (x : ℕ) (b : Block) → x ≢ r.gap → x ≢ r.lines + 1 → Contains (possible new x) b → Contains (possible old x) b =
-    λ x b not_gap not_registers h. elim (failed.no_more x b h) as (λ _. Contains (possible old x) b) [
-      | inl h2 ↦
-          no_more-written_to_other old r.gap c x b not_gap
-          (no_more-settled (written_to old r.gap c) x b (subst (λ (n : Device). Contains (possible n x) b) e h2))
-      | inr here ↦ absurd (not_registers here.0)
-    ] in
-    let at_gap : (b : Block) → Contains (possible new r.gap) b → b ≡ c =
-    λ b h. elim (failed.no_more r.gap b h) as (λ _. b ≡ c) [
-      | inl h2 ↦
-          sym (rest-possible (put_down r.gap c old) r.gap b refl (subst (λ (n : Device). Contains (possible n r.gap) b) e h2))
-          ∙ put_down-here old r.gap c (omega (arith, w.gap, rest.blocks))
-      | inr here ↦ absurd (omega (arith, here.0, w.gap))
-    ] in
-    let at_source : (b : Block) → Contains (possible new (source r)) b → b ≡ c =
+    let held : (x : ℕ) (b : Block) → x ≢ r.gap → MayLeave mid x b → MayLeave old x b =
+    λ x b not_gap h.
+    no_more-written_to_other old r.gap c x b not_gap
+    (no_more-settled (written_to old r.gap c) x b (subst (λ (n : Device). MayLeave n x b) e h)) in
+    let before : (x : ℕ) (b : Block) → x ≢ r.gap → x ≢ r.lines + 1 → MayLeave new x b → MayLeave old x b =
+    λ x b not_gap not_registers h.
+    held x b not_gap (MayLeave-elsewhere mid (r.lines + 1) (registers_block (moved r)) x b not_registers (failed.no_more x b h)) in
+    let at_gap : (b : Block) → MayLeave new r.gap b → b ≡ c =
+    λ b h.
+    let copied : MayLeave mid r.gap b =
+    MayLeave-elsewhere mid (r.lines + 1) (registers_block (moved r)) r.gap b (λ same. omega (arith, same, w.gap)) (failed.no_more r.gap b h) in
+    sym (rest-possible (put_down r.gap c old) r.gap b refl (subst (λ (n : Device). MayLeave n r.gap b) e copied))
+    ∙ put_down-here old r.gap c (omega (arith, w.gap, rest.blocks)) in
+    let at_source : (b : Block) → MayLeave new (source r) b → b ≡ c =
     λ b h.
     sym (rest-possible old (source r) b rest.empty (before (source r) b s.1 (λ x. omega (arith, x, s.0)) h))
     ∙ sym (newest-empty old (source r) rest.empty) ∙ sym is in
     let copied : IsCopied r new = record { same = λ b d hb hd. at_gap b hb ∙ sym (at_source d hd) } in
+    -- the block of the registers lands whole: it is as it was, or as it was written
+    let whole : mid.whole ≡ true = ap (λ (n : Device). n.whole) e ∙ rest.lands_whole in
     record {
       down = failed.down;
       elsewhere = before;
-      registers = λ b h. elim (failed.no_more (r.lines + 1) b h) as (λ _. Tells r new b) [
-        | inl h2 ↦ Tells-in_hand r new b w
-            ((rest-quiet r old rest.empty rest.in_hand).in_hand b
-            (no_more-written_to_other old r.gap c (r.lines + 1) b (λ x. omega (arith, x, w.gap))
-            (no_more-settled (written_to old r.gap c) (r.lines + 1) b (subst (λ (n : Device). Contains (possible n (r.lines + 1)) b) e h2))))
-        | inr here ↦ Tells-moved r new b w here.1 copied
-      ];
+      registers = λ b h.
+          elim (possible-with_queued mid (r.lines + 1) (registers_block (moved r)) (r.lines + 1) b ((failed.no_more (r.lines + 1) b h).whole whole))
+          as (λ _. Tells r new b) [
+            | inl was ↦ Tells-in_hand r new b w
+                ((rest-quiet r old rest.empty rest.in_hand).in_hand b
+                (held (r.lines + 1) b (λ x. omega (arith, x, w.gap)) (MayLeave-possible mid (r.lines + 1) b was)))
+            | inr here ↦ Tells-moved r new b w here.1 copied
+          ];
     }
 
 -- ---- a move that is done

@@ -1,8 +1,8 @@
 -- The registers in their block.
-use Rattle.std.proofs.Common.{◌≡◌, ◌⊎◌, ℕ, [], ◌∷◌, Contains, sym, ◌∙◌, ap, inl, inr, arith}
+use Rattle.std.proofs.Common.{◌≡◌, ◌⊎◌, ℕ, [], ◌∷◌, sym, ◌∙◌, ap, inl, inr, arith}
 use Rattle.std.proofs.lemmas.Bool.{cases_eq}
 use Rattle.thy_base.specs.declared.block.Block.{Block}
-use Rattle.thy_base.specs.Device.{Device, possible}
+use Rattle.thy_base.specs.Device.{Device, MayLeave}
 use Rattle.thy_base.specs.Words.{word_of}
 use Rattle.thy_base.proofs.WordLemmas.{word_of-block_of}
 use Rattle.thy_gap.specs.declared.registers.Registers.{Registers}
@@ -50,7 +50,7 @@ Tells-cases r n b t = elim (cases_eq (word_of b 2) r.gap) as (λ _. (b ≡ regis
 
 -- what is copied stays so where no more is possible at gap and source
 pub IsCopied-no_more : (r : Registers) (old new : Device) → IsCopied r old
-    → ((b : Block) → Contains (possible new r.gap) b → Contains (possible old r.gap) b)
-    → ((b : Block) → Contains (possible new (source r)) b → Contains (possible old (source r)) b)
+    → ((b : Block) → MayLeave new r.gap b → MayLeave old r.gap b)
+    → ((b : Block) → MayLeave new (source r) b → MayLeave old (source r) b)
     → IsCopied r new
 IsCopied-no_more r old new c at_gap at_source = record { same = λ b d hb hd. c.same b d (at_gap b hb) (at_source d hd) }

@@ -4,12 +4,12 @@ use Rattle.std.specs.List.{All}
 use Rattle.std.proofs.lemmas.Bool.{cases_eq, cases_lt, eq-eqb, ne_eqb, true≢false}
 use Rattle.std.proofs.lemmas.List.{length-set, get_or_past, ext_get_or}
 use Rattle.std.proofs.lemmas.List.FromFn.{length-map-range_with_len, get_or-map-range_with_len}
-use Rattle.std.proofs.lemmas.List.Elements.{All-head, All-tail}
+use Rattle.std.proofs.lemmas.List.Elements.{All-head, All-tail, Contains-push}
 use Rattle.std.proofs.lemmas.Option.{none-some}
 use Rattle.thy_base.specs.declared.block.Block.{Block}
 use Rattle.thy_base.specs.declared.nvm.Write.{Write}
-use Rattle.thy_base.specs.Device.{Device, zero_block, write_of, block_at, queued_for, newest_over, applied, possible, newest, landed, settled, surplus, written_to, HoldsNoMore}
-use Rattle.thy_base.proofs.DeviceLemmas.{block_at-set, queued_for-append, newest_over-append, applied-append}
+use Rattle.thy_base.specs.Device.{Device, IsLeftOf, MayLeave, zero_block, write_of, block_at, queued_for, newest_over, applied, possible, newest, landed, settled, surplus, with_queued, written_to, HoldsNoMore}
+use Rattle.thy_base.proofs.DeviceLemmas.{same_as_only, MayLeave-possible, MayLeave-only, block_at-set, queued_for-append, newest_over-append, applied-append}
 use Rattle.thy_gap.specs.declared.registers.Registers.{Registers}
 use Rattle.thy_gap.specs.Lines.{IsWhole, place, line_at}
 use Rattle.thy_gap.specs.Seen.{unmap, write_to, unmap_queue, seen}
@@ -183,16 +183,26 @@ newest-seen r n x w l =
     ap (λ b. newest_over b (unmap_queue r n.queue) x) (block_at-unmap r n.image x l)
     ∙ newest_over-unmap r n.queue (block_at n.image (place r x)) x w l
 
+-- past the lines zeros are left, and nothing else
+pub left_past : (r : Registers) (n : Device) (x : ℕ) (b : Block) → IsWhole r → r.lines ≤ x → MayLeave (seen r n) x b → b ≡ zero_block
+left_past r n x b w l left =
+    MayLeave-only (seen r n) x zero_block b
+    (λ d h. sym (same_as_only zero_block d (subst (λ (q : List Block). Contains q d) (possible-seen_past r n x w l) h)))
+    left
+
+pub zero_left : (r : Registers) (n : Device) (x : ℕ) → IsWhole r → r.lines ≤ x → MayLeave (seen r n) x zero_block
+zero_left r n x w l =
+    MayLeave-possible (seen r n) x zero_block (subst (λ (q : List Block). Contains q zero_block) (sym (possible-seen_past r n x w l)) (Contains-push [] zero_block))
+
 -- where no line may hold more, nothing that is seen may
 pub no_more-seen : (r : Registers) (old new : Device) → IsWhole r
-    → ((x : ℕ) (b : Block) → x < r.lines → Contains (possible new (place r x)) b → Contains (possible old (place r x)) b)
+    → ((x : ℕ) (b : Block) → x < r.lines → MayLeave new (place r x) b → MayLeave old (place r x) b)
     → HoldsNoMore (seen r old) (seen r new)
-no_more-seen r old new w no_more x b h = elim (cases_lt x r.lines) as (λ _. Contains (possible (seen r old) x) b) [
+no_more-seen r old new w no_more x b h = elim (cases_lt x r.lines) as (λ _. MayLeave (seen r old) x b) [
   | inl l ↦
-      subst (λ (q : List Block). Contains q b) (sym (possible-seen r old x w l))
-      (no_more x b l (subst (λ (q : List Block). Contains q b) (possible-seen r new x w l) h))
-  | inr l ↦
-      subst (λ (q : List Block). Contains q b) (possible-seen_past r new x w l ∙ sym (possible-seen_past r old x w l)) h
+      subst (λ (q : List Block). IsLeftOf old.whole q b) (sym (possible-seen r old x w l))
+      (no_more x b l (subst (λ (q : List Block). IsLeftOf new.whole q b) (possible-seen r new x w l) h))
+  | inr l ↦ subst (MayLeave (seen r old) x) (sym (left_past r new x b w l h)) (zero_left r old x w l)
 ]
 
 -- ---- calls on lines
@@ -212,6 +222,14 @@ seen-landed r n k w len all =
 
 pub seen-settled : (r : Registers) (n : Device) → IsWhole r → length n.image ≡ r.lines + 2 → seen r (settled n) ≡ settled (seen r n)
 seen-settled r n w len = seen-changed r n (applied n.image n.queue) [] (applied (unmap r n.image) (unmap_queue r n.queue)) [] (unmap-applied r n.image n.queue w len) refl
+
+-- a write of a line that is queued is seen to be
+pub seen-with_queued : (r : Registers) (n : Device) (x : ℕ) (b : Block) → IsWhole r → x < r.lines
+    → seen r (with_queued (place r x) b n) ≡ with_queued x b (seen r n)
+seen-with_queued r n x b w l =
+    seen-changed r n n.image (n.queue ++ write_of (place r x) b ∷ []) (unmap r n.image) (unmap_queue r n.queue ++ write_of x b ∷ []) refl
+    (unmap_queue-append r n.queue (write_of (place r x) b ∷ [])
+    ∙ ap (λ o. unmap_queue r n.queue ++ (write_to o b ++ [])) (line_at-place r x w l))
 
 -- as many writes have to land
 pub surplus-seen : (r : Registers) (n : Device) → All (λ (w : Write). is_some (line_at r w.at) ≡ true) n.queue → surplus (seen r n) ≡ surplus n

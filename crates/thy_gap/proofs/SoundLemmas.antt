@@ -1,20 +1,21 @@
 -- What holds of every levelled device, after each call.
-use Rattle.std.proofs.Common.{◌≡◌, ◌⊎◌, ℕ, ◌+◌, ◌-◌, ◌<◌, ◌≤◌, ◌^◌, if◌then◌else◌, false, List, [], ◌∷◌, ◌++◌, length, map, slice_index_or, Contains, None, refl, sym, ◌∙◌, ap, subst, inl, inr, arith}
+use Rattle.std.proofs.Common.{◌≡◌, ◌⊎◌, ℕ, ◌+◌, ◌-◌, ◌<◌, ◌≤◌, ◌^◌, if◌then◌else◌, nat_lt, not, ◌&&◌, Bool, true, false, List, [], ◌∷◌, ◌++◌, length, map, slice_index_or, Contains, None, refl, sym, ◌∙◌, ap, subst, inl, inr, arith}
 use Rattle.std.specs.Prelude.{Result, Ok, Err, OnOk, OnErr}
-use Rattle.std.proofs.lemmas.Bool.{cases_eq, cases_lt, eq-eqb, ne_eqb}
+use Rattle.std.proofs.lemmas.Bool.{cases_eq, cases_lt, eq-eqb, ne_eqb, and_parts, not-true, ltb-false}
+use Rattle.std.proofs.lemmas.List.Elements.{Contains-push}
 use Rattle.std.proofs.lemmas.List.{get_or_past, get_or-append_right, get_or-map, length-map}
 use Rattle.thy_base.specs.declared.block.Block.{Block}
 use Rattle.thy_base.specs.declared.nvm.Write.{Write}
 use Rattle.thy_base.specs.declared.nvm.FitError.{FitError}
 use Rattle.thy_base.specs.declared.nvm.FitError.TheVariants.{Failed, Memory}
 use Rattle.thy_base.specs.Counts.{next}
-use Rattle.thy_base.specs.Device.{Device, IsCut, IsFramed, HasFailed, HasFailedToWrite, HasFailedToFit, zero_block, block_at, queued_for, applied, possible, newest, drained, settled, written_to, fitted}
+use Rattle.thy_base.specs.Device.{Device, IsCut, IsFramed, MayLeave, HasFailed, HasFailedToWrite, HasFailedToFit, zero_block, block_at, queued_for, applied, possible, newest, drained, settled, written_to, fitted}
 use Rattle.thy_base.specs.declared.nvm.Shape.{Shape}
-use Rattle.thy_base.proofs.DeviceLemmas.{no_more-settled}
+use Rattle.thy_base.proofs.DeviceLemmas.{same_as_only, MayLeave-possible, MayLeave-only, no_more-settled}
 use Rattle.thy_gap.specs.declared.registers.Registers.{Registers}
 use Rattle.thy_gap.specs.Lines.{IsWhole, place, line_at, no_lines, moved, unmoved, registers_of, registers_in}
 use Rattle.thy_gap.specs.Seen.{write_to, unmap_queue, unmapped, seen}
-use Rattle.thy_gap.specs.Levelled.{IsLevelled, IsLeft, IsQuiet, IsSoundGap, inner_shape, first_image}
+use Rattle.thy_gap.specs.Levelled.{IsLevelled, IsLeft, IsQuiet, IsSoundGap, is_due, inner_shape, first_image}
 use Rattle.thy_gap.specs.Moving.{line_moved}
 use Rattle.thy_gap.specs.Failing.{IsAtRest, HasFailedToMove}
 use Rattle.thy_gap.proofs.LineLemmas.{place-within, line_at-gap, line_at-past}
@@ -28,6 +29,11 @@ use Rattle.thy_gap.proofs.MovingLemmas.{rest-settled, seen-moved, IsLevelled-mov
 pub either : {T E P Q R : Type 0} (r : Result T E) → OnOk r P → OnErr r Q → (P → R) → (Q → R) → R
 either (Ok x) p q f g = f p
 either (Err e) p q f g = g q
+
+-- a move to be made over a device was to be made over the one before, if its blocks land whole as they did then
+pub due_before : (old new : Device) (since every : ℕ) (t : Bool) → new.whole ≡ old.whole → t ≡ is_due new since every → t ≡ true
+    → is_due old since every ≡ true
+due_before old new since every t same is due = ap (λ (w : Bool). w && not (nat_lt since every)) (sym same) ∙ sym is ∙ due
 
 -- ---- before a fit
 
@@ -49,7 +55,13 @@ possible-none n x =
 HasFailed-none : (old new : Device) → HasFailed old new → HasFailed (seen no_lines old) (seen no_lines new)
 HasFailed-none old new failed = record {
   down = failed.down;
-  no_more = λ x b h. subst (λ (q : List Block). Contains q b) (possible-none new x ∙ sym (possible-none old x)) h;
+  no_more = λ x b h.
+      let zero : b ≡ zero_block =
+      MayLeave-only (seen no_lines new) x zero_block b
+      (λ d k. sym (same_as_only zero_block d (subst (λ (q : List Block). Contains q d) (possible-none new x) k))) h in
+      subst (MayLeave (seen no_lines old) x) (sym zero)
+      (MayLeave-possible (seen no_lines old) x zero_block
+      (subst (λ (q : List Block). Contains q zero_block) (sym (possible-none old x)) (Contains-push [] zero_block)));
 }
 
 settled-none : (n : Device) → seen no_lines (settled n) ≡ settled (seen no_lines n)
@@ -151,12 +163,19 @@ module _ {every since cuts : ℕ} {r : Registers} {n : Device} (i : IsSoundGap e
   pub fitted_where_due : every ≤ since → 0 < r.lines
   fitted_where_due due = elim fitted_or_none as (λ _. 0 < r.lines) [ inl e ↦ absurd (omega (arith, due, i.some, i.no_writes e)) | inr l ↦ l ]
 
-  pub rest_before_move : (m : Device) → every ≤ since → n.down ≡ false → m ≡ settled n → IsAtRest r m
-  rest_before_move m due up e = subst (IsAtRest r) (sym e) (rest-settled r cuts n (i.fitted (fitted_where_due due)) up)
+  -- what it asks for
+  pub due_parts : is_due n since every ≡ true → (n.whole ≡ true) × (every ≤ since)
+  due_parts due =
+      let both = and_parts n.whole (not (nat_lt since every)) due in
+      (both.0, ltb-false since every (not-true (nat_lt since every) both.1))
 
-  pub sound_moved : (m new : Device) → every ≤ since → n.down ≡ false → m ≡ settled n → IsFramed n m → new ≡ line_moved r m → IsSoundGap every (moved r) 0 cuts new
+  pub rest_before_move : (m : Device) → is_due n since every ≡ true → n.down ≡ false → m ≡ settled n → IsAtRest r m
+  rest_before_move m due up e =
+      subst (IsAtRest r) (sym e) (rest-settled r cuts n (i.fitted (fitted_where_due (due_parts due).1)) up (due_parts due).0)
+
+  pub sound_moved : (m new : Device) → is_due n since every ≡ true → n.down ≡ false → m ≡ settled n → IsFramed n m → new ≡ line_moved r m → IsSoundGap every (moved r) 0 cuts new
   sound_moved m new due up e f is =
-      let l = fitted_where_due due in
+      let l = fitted_where_due (due_parts due).1 in
       let rest = rest_before_move m due up e in
       let d : IsLevelled r cuts m = IsLevelled-quiet r cuts n m (i.fitted l) f (subst (IsQuiet r) (sym e) (IsQuiet-settled r n ((i.fitted l).quiet up))) in
       record {
@@ -166,7 +185,7 @@ module _ {every since cuts : ℕ} {r : Registers} {n : Device} (i : IsSoundGap e
         no_writes = λ _. refl;
       }
 
-  pub move_seen : (m new : Device) → every ≤ since → n.down ≡ false → m ≡ settled n → new ≡ line_moved r m → seen (moved r) new ≡ settled (seen r n)
+  pub move_seen : (m new : Device) → is_due n since every ≡ true → n.down ≡ false → m ≡ settled n → new ≡ line_moved r m → seen (moved r) new ≡ settled (seen r n)
   move_seen m new due up e is =
       ap (seen (moved r)) is ∙ seen-moved r m (rest_before_move m due up e) ∙ ap (seen r) e ∙ barrier_seen
 
@@ -175,13 +194,13 @@ module _ {every since cuts : ℕ} {r : Registers} {n : Device} (i : IsSoundGap e
       sound_still new
       (λ d. IsLevelled-failed_to_move r cuts m new (IsLevelled-quiet r cuts n m d f (subst (IsQuiet r) (sym e) (IsQuiet-settled r n (d.quiet up)))) f2 failed)
 
-  pub failed_move_seen : (m new : Device) → every ≤ since → m ≡ settled n → HasFailedToMove r m new → HasFailed (seen r n) (seen r new)
+  pub failed_move_seen : (m new : Device) → is_due n since every ≡ true → m ≡ settled n → HasFailedToMove r m new → HasFailed (seen r n) (seen r new)
   failed_move_seen m new due e failed =
-      let after : HasFailed (seen r m) (seen r new) = HasFailed-moving r m new (i.fitted (fitted_where_due due)).whole failed in
+      let after : HasFailed (seen r m) (seen r new) = HasFailed-moving r m new (i.fitted (fitted_where_due (due_parts due).1)).whole failed in
       let same : seen r m ≡ settled (seen r n) = ap (seen r) e ∙ barrier_seen in
       record {
         down = after.down;
-        no_more = λ x b h. no_more-settled (seen r n) x b (subst (λ (d : Device). Contains (possible d x) b) same (after.no_more x b h));
+        no_more = λ x b h. no_more-settled (seen r n) x b (subst (λ (d : Device). MayLeave d x b) same (after.no_more x b h));
       }
 
   -- ---- cuts

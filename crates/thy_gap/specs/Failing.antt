@@ -1,17 +1,18 @@
 -- Before and after a move that fails.
-use Rattle.std.specs.Prelude.{◌≡◌, ◌≢◌, ℕ, ◌+◌, true, false, [], length, Contains}
+use Rattle.std.specs.Prelude.{◌≡◌, ◌≢◌, ℕ, ◌+◌, true, false, [], length}
 use Rattle.thy_base.specs.declared.block.Block.{Block}
-use Rattle.thy_base.specs.Device.{Device, block_at, possible}
+use Rattle.thy_base.specs.Device.{Device, MayLeave, block_at}
 use Rattle.thy_gap.specs.declared.registers.Registers.{Registers}
 use Rattle.thy_gap.specs.Lines.{IsWhole, registers_block}
 use Rattle.thy_gap.specs.Levelled.{Tells}
 
--- a device after a barrier, with the registers in hand
+-- a device after a barrier, with the registers in hand, whose blocks land whole
 pub record IsAtRest (r : Registers) (n : Device) : Type 0 where
   pub whole : IsWhole r
   pub blocks : length n.image ≡ r.lines + 2
   pub up : n.down ≡ false
   pub empty : n.queue ≡ []
+  pub lands_whole : n.whole ≡ true
   pub in_hand : block_at n.image (r.lines + 1) ≡ registers_block r
 
 -- after a move that failed: no line may hold anything new, and registers that have moved imply that the line was
@@ -19,5 +20,5 @@ pub record IsAtRest (r : Registers) (n : Device) : Type 0 where
 pub record HasFailedToMove (r : Registers) (old new : Device) : Type 0 where
   pub down : new.down ≡ true
   pub elsewhere : (x : ℕ) (b : Block) → x ≢ r.gap → x ≢ r.lines + 1
-      → Contains (possible new x) b → Contains (possible old x) b
-  pub registers : (b : Block) → Contains (possible new (r.lines + 1)) b → Tells r new b
+      → MayLeave new x b → MayLeave old x b
+  pub registers : (b : Block) → MayLeave new (r.lines + 1) b → Tells r new b

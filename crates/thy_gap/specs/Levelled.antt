@@ -1,9 +1,9 @@
 -- A levelled device, and what holds of it.
-use Rattle.std.specs.Prelude.{◌≡◌, ◌≢◌, ℕ, ◌+◌, ◌-◌, ◌<◌, ◌≤◌, ◌^◌, ◌==◌, nat_lt, if◌then◌else◌, true, false, List, [], ◌∷◌, ◌++◌, length, replicate, All, Contains, is_some}
+use Rattle.std.specs.Prelude.{◌≡◌, ◌≢◌, ℕ, ◌+◌, ◌-◌, ◌<◌, ◌≤◌, ◌^◌, ◌==◌, ◌&&◌, not, nat_lt, if◌then◌else◌, Bool, true, false, List, [], ◌∷◌, ◌++◌, length, replicate, All, is_some}
 use Rattle.thy_base.specs.declared.block.Block.{Block}
 use Rattle.thy_base.specs.declared.nvm.Shape.{Shape}
 use Rattle.thy_base.specs.declared.nvm.Write.{Write}
-use Rattle.thy_base.specs.Device.{Device, zero_block, possible, settled, fitted}
+use Rattle.thy_base.specs.Device.{Device, MayLeave, zero_block, settled, fitted}
 use Rattle.thy_base.specs.Words.{word_of}
 use Rattle.thy_gap.specs.declared.registers.Registers.{Registers}
 use Rattle.thy_gap.specs.Lines.{IsWhole, line_at, source, moved, no_lines, unmoved, registers_block, registers_in}
@@ -56,17 +56,22 @@ HasFitted n old new = new ≡ record old { inner = new.inner; registers = unmove
 abbrev pub HasWritten : {N : Type 0} → ℕ → Levelled N → Levelled N → Type 0
 HasWritten since old new = new ≡ record old { inner = new.inner; since = since }
 
+-- When a barrier moves a line over this inner device: enough writes were made, and its blocks land whole. A move can change two words of the
+-- registers' block, so over a device that may tear a block none is ever due.
+abbrev pub is_due : Device → ℕ → ℕ → Bool
+is_due n since every = n.whole && not (nat_lt since every)
+
 -- after a barrier: one line has moved, exactly if a move was due
-abbrev pub HasMovedIfDue : {N : Type 0} → Levelled N → Levelled N → Type 0
-HasMovedIfDue old new = new ≡ record old {
+abbrev pub HasMovedIfDue : {N : Type 0} → Bool → Levelled N → Levelled N → Type 0
+HasMovedIfDue due old new = new ≡ record old {
   inner = new.inner;
-  registers = if nat_lt old.since old.every then old.registers else moved old.registers;
-  since = if nat_lt old.since old.every then old.since else 0;
+  registers = if due then moved old.registers else old.registers;
+  since = if due then 0 else old.since;
 }
 
 -- and what that makes of the inner device
 abbrev pub settled_and_moved : {N : Type 0} → Levelled N → Device → Device
-settled_and_moved g n = if nat_lt g.since g.every then settled n else line_moved g.registers (settled n)
+settled_and_moved g n = if is_due n g.since g.every then line_moved g.registers (settled n) else settled n
 
 -- The writes that count towards the next move after a cut, with these registers before it and those of the image that it
 -- left: none if the cut completed a move that had failed, which takes the gap to another place.
@@ -86,7 +91,7 @@ HasCut image old new = new ≡ record old {
 
 -- gap and source can hold one block only, the same
 pub record IsCopied (r : Registers) (n : Device) : Type 0 where
-  pub same : (b c : Block) → Contains (possible n r.gap) b → Contains (possible n (source r)) c → b ≡ c
+  pub same : (b c : Block) → MayLeave n r.gap b → MayLeave n (source r) c → b ≡ c
 
 -- a block of the registers is of those in hand, or of those after the next move, and then its line was copied
 pub record Tells (r : Registers) (n : Device) (b : Block) : Type 0 where
@@ -97,7 +102,7 @@ pub record Tells (r : Registers) (n : Device) (b : Block) : Type 0 where
 -- the writes queued are of lines, and a cut leaves the registers in hand
 pub record IsQuiet (r : Registers) (n : Device) : Type 0 where
   pub lines : All (λ (w : Write). is_some (line_at r w.at) ≡ true) n.queue
-  pub in_hand : (b : Block) → Contains (possible n (r.lines + 1)) b → b ≡ registers_block r
+  pub in_hand : (b : Block) → MayLeave n (r.lines + 1) b → b ≡ registers_block r
 
 -- an image that a cut left, with registers in range
 pub record IsLeft (lines : ℕ) (g : List Block) : Type 0 where
@@ -108,7 +113,7 @@ pub record IsLeft (lines : ℕ) (g : List Block) : Type 0 where
 pub record IsLevelled (r : Registers) (cuts : ℕ) (n : Device) : Type 0 where
   pub whole : IsWhole r
   pub blocks : length n.image ≡ r.lines + 2
-  pub registers : (b : Block) → Contains (possible n (r.lines + 1)) b → Tells r n b
+  pub registers : (b : Block) → MayLeave n (r.lines + 1) b → Tells r n b
   pub quiet : n.down ≡ false → IsQuiet r n
   pub left : All (IsLeft r.lines) n.left
   pub cuts_are : length n.left ≡ cuts

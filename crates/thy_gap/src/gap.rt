@@ -1,7 +1,7 @@
 //! A device whose lines wander over an inner one.
 ghost use Rattle.std.specs.Prelude.{◌≡◌, ◌+◌, ◌^◌, ◌<◌, ◌≤◌, false, length, IfOk, OnOk, OnErr, IfErr, slice_index_or, []};
 ghost use Rattle.thy_base.specs.Device.{newest, block_at, written_to, drained, settled, fitted, IsCut, IsFramed, HasFailed, HasFailedToWrite, HasFailedToFit, CountsFault, CountsWrite};
-ghost use Rattle.thy_gap.specs.Levelled.{over as levelled_over, shown, first_image, inner_fitted, IsOver, HasFitted, HasWritten, HasMovedIfDue, settled_and_moved, HasCut, counted_on};
+ghost use Rattle.thy_gap.specs.Levelled.{over as levelled_over, shown, first_image, inner_fitted, IsOver, HasFitted, HasWritten, is_due as due_by, HasMovedIfDue, settled_and_moved, HasCut, counted_on};
 ghost use Rattle.thy_gap.specs.Lines.{place as place_of_line};
 ghost use Rattle.thy_gap.specs.Meaning.{ImageMeansSeen, CrashMeansSeen, LeftMeansSeen};
 
@@ -13,7 +13,8 @@ use thy_base::{Block, FitError, Nvm, NvmError, Shape};
 
 /// A device of n blocks, its lines, over an inner device of n + 2. Whenever a number of writes were made, the next barrier
 /// moves one line by one place, so that a line that is written often wears each place in turn. The last place, that of the
-/// registers, does not wander: they are written there with each move.
+/// registers, does not wander: they are written there with each move. A move can change two words of their block, so over a
+/// device whose blocks do not land whole the lines stay where they are.
 #[derive(Drop)]
 pub struct Gap<N: Nvm> {
     inner: N,
@@ -37,8 +38,8 @@ impl<N: Nvm> Model for Gap<N> {
 }
 
 impl<N: Nvm> Gap<N> {
-    /// Levels the wear of a device: once `every` writes were made, the next barrier moves a line. The device has no
-    /// blocks until it is fitted.
+    /// Levels the wear of a device: once `every` writes were made, the next barrier moves a line, if its blocks land whole.
+    /// The device has no blocks until it is fitted.
     pub fn over(inner: N, every: u64) -> Gap<N>
         requires { 0 < every }
         ensures { result ≡ levelled_over inner every }
@@ -106,6 +107,14 @@ fn counted_on(before: Registers, left: Registers, since: u64) -> u64
     if left.gap == before.gap { since } else { 0 }
 }
 
+/// Whether a barrier moves a line after this number of writes: it is what was asked for or more, and the device's blocks land
+/// whole.
+fn is_due<N: Nvm>(inner: &N, since: u64, every: u64) -> bool
+    ensures { result ≡ due_by (N.device inner.now) since every }
+{
+    inner.lands_whole() && since >= every
+}
+
 /// The lines are a device, over every inner device that keeps the laws of devices: through cuts, and after a failure of
 /// any call of the inner one, in the middle of a move too. A call that failed leaves registers and counts, and a fit that
 /// failed is one that failed of the inner device. How many writes of its own a barrier makes is only tested.
@@ -162,6 +171,10 @@ impl<N: Nvm> Nvm for Gap<N> {
         }
     }
 
+    fn lands_whole(&self) -> bool {
+        self.inner.lands_whole()
+    }
+
     fn writes(&self) -> u64 {
         self.inner.writes()
     }
@@ -210,7 +223,7 @@ impl<N: Nvm> Nvm for Gap<N> {
     }
 
     /// Lets every queued write land, and then moves a line, exactly if `every` writes or more were made since the last
-    /// move that succeeded or that a cut completed, or the fit.
+    /// move that succeeded or that a cut completed, or the fit, and the inner device's blocks land whole.
     fn barrier(&mut self) -> Result<(), NvmError>
         requires { (shown N.device self.old).down ≡ false }
         ensures ok { OnOk result (shown N.device self.new ≡ settled (shown N.device self.old)) }
@@ -218,12 +231,12 @@ impl<N: Nvm> Nvm for Gap<N> {
         ensures frame { IsFramed (shown N.device self.old) (shown N.device self.new) }
         ensures cause { CountsFault result (shown N.device self.old).faults (shown N.device self.new).faults }
         ensures no_fewer_writes { N.writes self.old.inner ≤ N.writes self.new.inner }
-        ensures moves { OnOk result (HasMovedIfDue self.old self.new) }
+        ensures moves { OnOk result (HasMovedIfDue (due_by (N.device self.old.inner) self.old.since self.old.every) self.old self.new) }
         ensures inner { OnOk result (N.device self.new.inner ≡ settled_and_moved self.old (N.device self.old.inner)) }
         ensures stays { OnErr result (IsOver self.old self.new) }
     {
         self.inner.barrier()?;
-        let due = self.since >= self.every;
+        let due = is_due(&self.inner, self.since, self.every);
         if !due {
             return Ok(());
         }

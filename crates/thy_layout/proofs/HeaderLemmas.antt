@@ -7,7 +7,7 @@ use Rattle.thy_layout.specs.declared.layout_version.LayoutVersion.TheVariants.{V
 use Rattle.thy_base.specs.Geometry.{IsInRange}
 use Rattle.thy_layout.specs.declared.bad_image.BadImage.TheVariants.{Header, Version, Geometry}
 use Rattle.thy_base.specs.Words.{word_of}
-use Rattle.thy_layout.specs.Commit.{commit_magic, epoch_of, is_named, has_zero_rest, commit_fault}
+use Rattle.thy_layout.specs.Commit.{commit_magic, epoch_of, version_of, is_named, has_zero_rest, commit_fault}
 use Rattle.thy_layout.specs.Header.{header_magic, last_word, knows_version_one, header_words, header_of, is_of_geometry, is_of_version, header_fault}
 use Rattle.thy_base.proofs.RangeLemmas.{harts_most}
 use Rattle.thy_base.proofs.WordLemmas.{word_of-block_of}
@@ -95,3 +95,32 @@ only_version_two scheme p header commit long ceiling unknown fits accepted =
     eqb-true (word_of commit 0) (commit_magic VersionTwo)
     (newer (word_of commit 0 == commit_magic VersionTwo) (word_of commit 0 == commit_magic VersionOne) (word_of header 1 == 1)
     (ap (λ w. w == 1) two) asks.0)
+
+-- if version 1 is known, a block that isn't of it is of version 2
+not_one : (one known : Bool) → known ≡ true → (if one && known then VersionOne else VersionTwo) ≡ VersionTwo → one ≡ false
+not_one true true k h = cc
+not_one true false k h = cc
+not_one false known k h = refl
+
+the_other : (two one known : Bool) → one ≡ false → (two || (one && known)) ≡ true → two ≡ true
+the_other true one known not h = refl
+the_other false true known not h = cc
+the_other false false known not h = cc
+
+named_by : (known : Bool) (scheme : ℕ) (p : Parameters) (header commit : Block) (long : Bool) (ceiling : ℕ) → knows_version_one scheme p ≡ known
+    → header_fault scheme header p long ≡ None → commit_fault header commit ceiling ≡ None → version_of scheme p commit ≡ VersionTwo
+    → word_of commit 0 ≡ commit_magic VersionTwo
+unfolding commit_fault
+named_by false scheme p header commit long ceiling knows fits accepted two = only_version_two scheme p header commit long ceiling knows fits accepted
+named_by true scheme p header commit long ceiling knows fits accepted two =
+    let asks = commit_asks (is_named header commit) (nat_lt (epoch_of commit) ceiling) (has_zero_rest commit) accepted in
+    eqb-true (word_of commit 0) (commit_magic VersionTwo)
+    (the_other (word_of commit 0 == commit_magic VersionTwo) (word_of commit 0 == commit_magic VersionOne) (word_of header 1 == 1)
+    (not_one (word_of commit 0 == commit_magic VersionOne) (knows_version_one scheme p) knows two) asks.0)
+
+-- under a header without a fault a commit block without one that names version 2 has its name
+pub named_two : (scheme : ℕ) (p : Parameters) (header commit : Block) (long : Bool) (ceiling : ℕ)
+    → header_fault scheme header p long ≡ None → commit_fault header commit ceiling ≡ None → version_of scheme p commit ≡ VersionTwo
+    → word_of commit 0 ≡ commit_magic VersionTwo
+named_two scheme p header commit long ceiling fits accepted two =
+    named_by (knows_version_one scheme p) scheme p header commit long ceiling refl fits accepted two

@@ -1,3 +1,4 @@
+pub mod CommitLemmas
 pub mod CpuLemmas
 pub mod ReadBackLemmas
 pub mod EntryWordLemmas

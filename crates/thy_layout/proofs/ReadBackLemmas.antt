@@ -2,6 +2,8 @@
 use Rattle.std.proofs.Common.{◌≡◌, ℕ, zero, suc, ◌+◌, ◌-◌, ◌*◌, ◌/◌, ◌%◌, ◌^◌, ◌<◌, ◌≤◌, ◌==◌, ◌&&◌, ◌||◌, true, false, Bool, nat_lt, if◌then◌else◌, List, ◌∷◌, length, take, drop, slice_index, Option, Some, None, refl, sym, ◌∙◌, ap, subst, inl, inr, arith}
 use Rattle.std.proofs.lemmas.Bool.{cases_lt, eq-eqb, ne_eqb, lt-ltb, leb-true, and_from}
 use Rattle.std.proofs.lemmas.List.{ext_get_or}
+use Rattle.std.proofs.lemmas.Slice.Eq.{bytes_eq-Decides}
+use Rattle.std.specs.Prelude.{bytes_eq}
 use Rattle.thy_base.specs.declared.block.Block.{Block}
 use Rattle.thy_base.specs.declared.config.Parameters.{Parameters}
 use Rattle.thy_layout.specs.declared.layout_version.LayoutVersion.TheVariants.{VersionOne, VersionTwo}
@@ -20,7 +22,7 @@ use Rattle.thy_isa.specs.declared.state.Status.{Status}
 use Rattle.thy_isa.specs.declared.state.Status.TheVariants.{Running, Exited, Trapped}
 use Rattle.thy_isa.specs.Storable.{IsNumber, IsReservation, IsOther}
 use Rattle.thy_base.specs.Words.{word_of, block_of}
-use Rattle.thy_layout.specs.Commit.{commit_magic, commit_words, commit_of, is_zero, epoch_of, version_of, is_named, has_zero_rest, commit_fault}
+use Rattle.thy_layout.specs.Commit.{commit_magic, named_block, commit_words, commit_of, is_zero, epoch_of, version_of, is_named, has_zero_rest, commit_fault}
 use Rattle.thy_layout.specs.Header.{knows_version_one}
 use Rattle.thy_layout.specs.Cpu.{status_tag, status_value, status_of, is_status, width_word, place_word, reservation_of, reserved_words, second_words, cpu_words, cpu_block_of, record_word, record_words, BeginsWithRecord, HasOther, FitsRecord, other_of_record, second_of_record, cpu_of_record, epoch_of_record, is_width, is_second, IsOtherRecordable, IsRecordable}
 use Rattle.thy_base.proofs.WordLemmas.{word_of-block_of}
@@ -54,17 +56,13 @@ is_named-commit_of header epoch =
     ap (λ t. t || (word_of (commit_of epoch) 0 == commit_magic VersionOne && word_of header 1 == 1))
     (eq-eqb _ _ (commit_word epoch 0 (commit_magic VersionTwo) (omega arith) refl (omega arith)))
 
-has_zero_rest-commit_of : (epoch : ℕ) → has_zero_rest (commit_of epoch) ≡ true
-has_zero_rest-commit_of epoch =
-    and_from _ _
-    (three _ _ _
-    (eq-eqb _ _ (commit_word epoch 2 0 (omega arith) refl (omega arith)))
-    (eq-eqb _ _ (commit_word epoch 3 0 (omega arith) refl (omega arith)))
-    (eq-eqb _ _ (commit_word epoch 4 0 (omega arith) refl (omega arith))))
-    (three _ _ _
-    (eq-eqb _ _ (commit_word epoch 5 0 (omega arith) refl (omega arith)))
-    (eq-eqb _ _ (commit_word epoch 6 0 (omega arith) refl (omega arith)))
-    (eq-eqb _ _ (commit_word epoch 7 0 (omega arith) refl (omega arith))))
+has_zero_rest-commit_of : (epoch : ℕ) → epoch < 2 ^ 64 → has_zero_rest (commit_of epoch) ≡ true
+unfolding has_zero_rest
+has_zero_rest-commit_of epoch l =
+    let name : word_of (commit_of epoch) 0 ≡ commit_magic VersionTwo = commit_word epoch 0 (commit_magic VersionTwo) (omega arith) refl (omega arith) in
+    ap (λ (n : ℕ). bytes_eq (commit_of epoch).0 (named_block n (epoch_of (commit_of epoch))).0) name
+    ∙ ap (λ (e : ℕ). bytes_eq (commit_of epoch).0 (named_block (commit_magic VersionTwo) e).0) (epoch_of-commit_of epoch l)
+    ∙ (bytes_eq-Decides (commit_of epoch).0 (commit_of epoch).0).1 refl
 
 -- a commit block of an epoch below the ceiling has no fault behind any header
 pub commit_fault-commit_of : (header : Block) (epoch ceiling : ℕ) → epoch < ceiling → ceiling ≤ 2 ^ 64
@@ -76,11 +74,11 @@ commit_fault-commit_of header epoch ceiling l most =
     (and_from _ _
     (is_named-commit_of header epoch)
     (ap (λ e. nat_lt e ceiling) (epoch_of-commit_of epoch (omega arith)) ∙ lt-ltb epoch ceiling l))
-    (has_zero_rest-commit_of epoch))
+    (has_zero_rest-commit_of epoch (omega arith)))
 
 -- a commit block isn't zero
 pub is_zero-commit_of : (epoch : ℕ) → is_zero (commit_of epoch) ≡ false
-unfolding is_zero block_of number_bytes
+unfolding is_zero zero_block block_of number_bytes
 is_zero-commit_of epoch = refl
 
 pub is_zero-zero_block : is_zero zero_block ≡ true

@@ -1,7 +1,6 @@
 -- Part of the claim.
 -- The commit block, block 1 of an image: the epoch of the committed checkpoint, and the layout version of its slot.
-use Rattle.std.specs.Prelude.{ℕ, Bool, ◌&&◌, ◌||◌, ◌==◌, nat_lt, if◌then◌else◌, List, [], ◌∷◌, Option, codes, ◌%◌}
-use Rattle.std.specs.List.{list_all}
+use Rattle.std.specs.Prelude.{ℕ, Bool, ◌&&◌, ◌||◌, ◌==◌, nat_lt, if◌then◌else◌, List, [], ◌∷◌, Option, bytes_eq, codes, ◌%◌}
 use Rattle.byteorder.specs.Endian.{little_number}
 use Rattle.thy_base.specs.declared.block.Block.{Block}
 use Rattle.thy_base.specs.declared.config.Parameters.{Parameters}
@@ -11,6 +10,7 @@ use Rattle.thy_base.specs.Demands.{asked, first_fault}
 use Rattle.thy_layout.specs.declared.bad_image.BadImage.{BadImage}
 use Rattle.thy_layout.specs.declared.bad_image.BadImage.TheVariants.{Commit}
 use Rattle.thy_layout.specs.Header.{knows_version_one}
+use Rattle.thy_base.specs.Device.{zero_block}
 use Rattle.thy_base.specs.Words.{word_of, block_of}
 
 -- the bytes THYNCMT1 or THYNCMT2 as a number
@@ -18,16 +18,24 @@ abbrev pub commit_magic : LayoutVersion → ℕ
 commit_magic VersionOne = little_number 8 (codes "THYNCMT1")
 commit_magic VersionTwo = little_number 8 (codes "THYNCMT2")
 
+-- a name, an epoch, and six zeros
+abbrev pub named_words : ℕ → ℕ → List ℕ
+named_words name epoch = name ∷ epoch ∷ 0 ∷ 0 ∷ 0 ∷ 0 ∷ 0 ∷ 0 ∷ []
+
+-- the commit block of a name and an epoch
+abbrev pub named_block : ℕ → ℕ → Block
+named_block name epoch = block_of (named_words name epoch)
+
 -- those that are written are of version 2
 abbrev pub commit_words : ℕ → List ℕ
-commit_words epoch = commit_magic VersionTwo ∷ epoch ∷ 0 ∷ 0 ∷ 0 ∷ 0 ∷ 0 ∷ 0 ∷ []
+commit_words epoch = named_words (commit_magic VersionTwo) epoch
 
 abbrev pub commit_of : ℕ → Block
 commit_of epoch = block_of (commit_words epoch)
 
--- there is no checkpoint: every byte is zero
+-- there is no checkpoint: it is the block of zeros
 unfoldable pub is_zero : Block → Bool
-is_zero b = list_all (λ byte. byte == 0) b.0
+is_zero b = bytes_eq b.0 zero_block.0
 
 -- the epoch that a commit block names
 abbrev pub epoch_of : Block → ℕ
@@ -45,10 +53,9 @@ version_of scheme p b = if word_of b 0 == commit_magic VersionOne && knows_versi
 abbrev pub is_named : Block → Block → Bool
 is_named header b = word_of b 0 == commit_magic VersionTwo || (word_of b 0 == commit_magic VersionOne && word_of header 1 == 1)
 
--- the words after the epoch are zero
-abbrev pub has_zero_rest : Block → Bool
-has_zero_rest b =
-    (word_of b 2 == 0 && word_of b 3 == 0 && word_of b 4 == 0) && (word_of b 5 == 0 && word_of b 6 == 0 && word_of b 7 == 0)
+-- it has nothing but a name and an epoch: the words after them are zero
+unfoldable pub has_zero_rest : Block → Bool
+has_zero_rest b = bytes_eq b.0 (named_block (word_of b 0) (epoch_of b)).0
 
 -- the fault of a commit block behind a header; epochs are below the ceiling
 unfoldable pub commit_fault : Block → Block → ℕ → Option BadImage

@@ -36,11 +36,11 @@ pub fn slot_of_epoch(epoch: u64) -> u64
 }
 
 /// Whether every byte is zero: as a commit block, that there is no checkpoint.
-#[tactic(auto, unfolding(crate::specs::Commit::is_zero))]
+#[tactic(auto, unfolding(crate::specs::Commit::is_zero, thy_base::specs::Device::zero_block))]
 pub fn is_zero(block: &Block) -> bool
     ensures { result ≡ has_zeros block.now }
 {
-    block.0.iter().all(|byte| *byte == 0)
+    *block == Block::ZERO
 }
 
 /// The version of the slot that a commit block names, by the scheme of this number, which is below 256. Only scheme 0 with one
@@ -78,11 +78,10 @@ pub fn commit_fault(header: &Block, block: &Block, ceiling: u64) -> Option<BadIm
     }
 }
 
-// Whether the words after the epoch are zero.
+// Whether it has nothing but a name and an epoch.
+#[tactic(auto, unfolding(crate::specs::Commit::has_zero_rest))]
 fn has_zero_rest(block: &Block) -> bool
     ensures { result ≡ zero_rest block.now }
 {
-    let first = word(block, 2) == 0 && word(block, 3) == 0 && word(block, 4) == 0;
-    let last = word(block, 5) == 0 && word(block, 6) == 0 && word(block, 7) == 0;
-    first && last
+    *block == block_with(&[word(block, 0), word(block, 1), 0, 0, 0, 0, 0, 0])
 }

@@ -144,6 +144,15 @@ fn new_dram(rt: &impl Abort, alloc: Global, geometry: &Geometry) -> Dram
     Dram::new(alloc, geometry.dram_blocks(), geometry.numbers().dramq).expect(rt, "memory")
 }
 
+/// An NVM that was never on: whose blocks land whole for an even seed, and may be torn for an odd one.
+fn new_nvm(alloc: Global, seed: u64) -> MemNvm {
+    if seed % 2 == 0 {
+        MemNvm::new(alloc)
+    } else {
+        MemNvm::tearing(alloc)
+    }
+}
+
 /// A machine whose power is on, between two cycles.
 #[derive(Drop)]
 struct Powered<M: Computer> {
@@ -185,7 +194,7 @@ impl<M: Computer> Powered<M> {
             cuts,
         };
         assert!(rt; shape.blocks > 0);
-        let mut nvm = MemNvm::new(alloc);
+        let mut nvm = new_nvm(alloc, seed);
         nvm.fit(alloc, &shape, Vec::new(alloc))
             .expect(rt, "a device");
         let dram = new_dram(rt, alloc, &geometry);
@@ -545,8 +554,8 @@ fn ends_from<M: Computer>(
 }
 
 /// Runs a row's program by the schedule of a seed, without cuts and then with a cut after each cycle but the last, with
-/// three picks for what it leaves of the queued writes: none, all, and a draw. Each seed has a test of its own, since
-/// all of them would be too long for one.
+/// three picks for what it leaves of the queued writes: none, all, and a draw. If the seed is even, blocks land whole, else a
+/// cut may tear them. Each seed has a test of its own, since all of them would be too long for one.
 fn survives<M: Computer>(rt: &impl Abort, alloc: Global, row: &Row, seed: u64) {
     let plains = plain_machines(rt, alloc, row);
     let whole = uncut::<M>(rt, alloc, row, seed, &plains);

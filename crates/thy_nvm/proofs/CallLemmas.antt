@@ -1,12 +1,12 @@
 -- What the calls of a device in memory leave.
-use Rattle.std.proofs.Common.{◌≡◌, ℕ, ◌+◌, take, drop, inl, refl, sym, ◌∙◌, ap, subst}
+use Rattle.std.proofs.Common.{◌≡◌, ℕ, ◌+◌, take, drop, refl, sym, ◌∙◌, ap, subst}
 use Rattle.std.proofs.Math.Seq.{take-add}
 use Rattle.std.proofs.lemmas.List.{drop-drop}
 use Rattle.std.specs.Prelude.{Option, Some, None, Result, Ok, Err, OnErr, is_err, is_some}
 use Rattle.thy_base.specs.declared.block.Block.{Block}
 use Rattle.thy_base.specs.declared.nvm.NvmError.{NvmError}
-use Rattle.thy_base.specs.Device.{Device, HoldsNoMore, HoldsNoMoreBut, HasFailed, HasFailedToWrite, IsFramed, applied, landed, drained, settled}
-use Rattle.thy_base.proofs.DeviceLemmas.{length-applied, length-landed, applied-append}
+use Rattle.thy_base.specs.Device.{Device, HoldsNoMore, HasFailed, HasFailedToWrite, IsFramed, applied, landed, drained, settled, with_queued}
+use Rattle.thy_base.proofs.DeviceLemmas.{length-applied, length-landed, applied-append, no_more-with_queued}
 use Rattle.thy_ring.specs.Held.{Held, as_device}
 use Rattle.thy_nvm.specs.declared.call_faults.Fault.{Fault}
 use Rattle.thy_nvm.specs.declared.call_faults.Fault.TheVariants.{Undone, Late}
@@ -38,14 +38,14 @@ HasFailed-left done late (Some Late) (Err e) old m new same no_more fails leaves
 -- the same of a write
 pub HasFailedToWrite-left : {T : Type 0} (at : ℕ) (block : Block) (done : InMemory → InMemory) (late : Device → Device) (fault : Option Fault)
     (result : Result T NvmError) (old : Device) (m new : InMemory)
-    → m.device ≡ old → ((n : Device) → HoldsNoMoreBut at block n (late n)) → is_err result ≡ is_some fault → new ≡ left_after fault done late m
+    → m.device ≡ old → ((n : Device) → HoldsNoMore (with_queued at block n) (late n)) → is_err result ≡ is_some fault → new ≡ left_after fault done late m
     → OnErr result (HasFailedToWrite at block old new.device)
 HasFailedToWrite-left at block done late None (Ok x) old m new same no_more fails leaves = search
 HasFailedToWrite-left at block done late None (Err e) old m new same no_more fails leaves = absurd (cc)
 HasFailedToWrite-left at block done late (Some f) (Ok x) old m new same no_more fails leaves = absurd (cc)
 HasFailedToWrite-left at block done late (Some Undone) (Err e) old m new same no_more fails leaves =
     subst (λ (n : Device). HasFailedToWrite at block n new.device) same
-    (subst (λ (i : InMemory). HasFailedToWrite at block m.device i.device) (sym leaves) (record { down = refl; no_more = λ x b h. inl h }))
+    (subst (λ (i : InMemory). HasFailedToWrite at block m.device i.device) (sym leaves) (record { down = refl; no_more = no_more-with_queued m.device at block }))
 HasFailedToWrite-left at block done late (Some Late) (Err e) old m new same no_more fails leaves =
     subst (λ (n : Device). HasFailedToWrite at block n new.device) same
     (subst (λ (i : InMemory). HasFailedToWrite at block m.device i.device) (sym leaves) (record { down = refl; no_more = no_more m.device }))
@@ -59,12 +59,12 @@ IsFramed-left done late None old m new same framed framed_late leaves =
 IsFramed-left done late (Some Undone) old m new same framed framed_late leaves =
     subst (λ (n : Device). IsFramed n new.device) same
     (subst (λ (i : InMemory). IsFramed m.device i.device) (sym leaves)
-    (record { blocks = refl; left = refl; picks = refl; queue_room = refl; left_room = refl; fits = refl; lent = refl }))
+    (record { blocks = refl; left = refl; picks = refl; queue_room = refl; left_room = refl; fits = refl; lent = refl; whole = refl }))
 IsFramed-left done late (Some Late) old m new same framed framed_late leaves =
     let f = framed_late m.device in
     subst (λ (n : Device). IsFramed n new.device) same
     (subst (λ (i : InMemory). IsFramed m.device i.device) (sym leaves)
-    (record { blocks = f.blocks; left = f.left; picks = f.picks; queue_room = f.queue_room; left_room = f.left_room; fits = f.fits; lent = f.lent }))
+    (record { blocks = f.blocks; left = f.left; picks = f.picks; queue_room = f.queue_room; left_room = f.left_room; fits = f.fits; lent = f.lent; whole = f.whole }))
 
 -- a barrier keeps what only a fit and a cut change
 pub IsFramed-settled : (n : Device) → IsFramed n (settled n)
@@ -76,6 +76,7 @@ IsFramed-settled n = record {
   left_room = refl;
   fits = refl;
   lent = refl;
+  whole = refl;
 }
 
 -- and so do writes that land
@@ -88,4 +89,5 @@ IsFramed-landed k n = record {
   left_room = refl;
   fits = refl;
   lent = refl;
+  whole = refl;
 }

@@ -9,7 +9,7 @@ use Rattle.thy_ring.specs.Held.{Held, device_of, as_device}
 use Rattle.thy_ring.specs.Merged.{merged, is_marked, AreMarked}
 use Rattle.thy_ring.proofs.MergedLemmas.{length-merged, block_at-merged, merged-applied, merged-copy, AreMarked-append, AreMarked-take, AreMarked-drop, queued_for-unmarked, newest_over-unmarked}
 use Rattle.thy_nvm.specs.Overlaid.{over_below}
-use Rattle.thy_nvm.specs.Pick.{drawn_block, drawn_seed, drawn, picked, left_by}
+use Rattle.thy_nvm.specs.Pick.{drawn_block, drawn_seed, drawn, torn_block, torn_seed, torn, left_by_draws, picked, left_by}
 
 -- ---- picks
 
@@ -36,21 +36,54 @@ merged-drawn (false ∷ ms) (x ∷ xs) ys seed from queue same none =
     ∙ ap (λ bs. drawn_block seed below (queued_for queue from) ∷ bs)
     (merged-drawn ms xs (drop 1 ys) (drawn_seed seed (queued_for queue from)) (from + 1) queue (omega arith) rest)
 
--- what a pick leaves of the written blocks is what it leaves of all
-pub merged-picked : (pick : ℕ) (ms : List Bool) (xs ys : List Block) (queue : List Write) → length xs ≡ length ms → AreMarked ms queue
-    → merged ms (picked pick xs queue) ys ≡ picked pick (merged ms xs ys) queue
-merged-picked pick ms xs ys queue same marked =
+-- draws of words change only these places, too
+merged-torn : (ms : List Bool) (xs ys : List Block) (seed from : ℕ) (queue : List Write) → length xs ≡ length ms
+    → ((x : ℕ) → is_marked ms x ≡ false → queued_for queue (from + x) ≡ [])
+    → merged ms (torn seed from xs queue) ys ≡ torn seed from (merged ms xs ys) queue
+merged-torn [] [] ys seed from queue same none = refl
+merged-torn [] (x ∷ xs) ys seed from queue same none = absurd (omega arith)
+merged-torn (m ∷ ms) [] ys seed from queue same none = absurd (omega arith)
+merged-torn (true ∷ ms) (x ∷ xs) ys seed from queue same none =
+    let rest : (y : ℕ) → is_marked ms y ≡ false → queued_for queue (from + 1 + y) ≡ []
+    = λ y u. let e : from + 1 + y ≡ from + suc y = omega arith in ap (queued_for queue) e ∙ none (suc y) u in
+    ap (λ bs. torn_block seed x (queued_for queue from) ∷ bs)
+    (merged-torn ms xs (drop 1 ys) (torn_seed seed (queued_for queue from)) (from + 1) queue (omega arith) rest)
+merged-torn (false ∷ ms) (x ∷ xs) ys seed from queue same none =
+    let rest : (y : ℕ) → is_marked ms y ≡ false → queued_for queue (from + 1 + y) ≡ []
+    = λ y u. let e : from + 1 + y ≡ from + suc y = omega arith in ap (queued_for queue) e ∙ none (suc y) u in
+    let here : from ≡ from + 0 = omega arith in
+    let empty : queued_for queue from ≡ [] = ap (queued_for queue) here ∙ none 0 refl in
+    let below : Block = block_at ys 0 in
+    ap (λ b. b ∷ merged ms (torn (torn_seed seed (queued_for queue from)) (from + 1) xs queue) (drop 1 ys))
+    (sym (ap (torn_block seed below) empty))
+    ∙ ap (λ bs. torn_block seed below (queued_for queue from) ∷ bs)
+    (merged-torn ms xs (drop 1 ys) (torn_seed seed (queued_for queue from)) (from + 1) queue (omega arith) rest)
+
+-- the draws of a pick leave of the written blocks what they leave of all
+merged-draws : (whole : Bool) (seed : ℕ) (ms : List Bool) (xs ys : List Block) (queue : List Write) → length xs ≡ length ms → AreMarked ms queue
+    → merged ms (left_by_draws whole seed xs queue) ys ≡ left_by_draws whole seed (merged ms xs ys) queue
+merged-draws true seed ms xs ys queue same marked =
+    merged-drawn ms xs ys seed 0 queue same (λ x u.
+    let e : 0 + x ≡ x = omega arith in
+    ap (queued_for queue) e ∙ queued_for-unmarked ms queue x marked u)
+merged-draws false seed ms xs ys queue same marked =
+    merged-torn ms xs ys seed 0 queue same (λ x u.
+    let e : 0 + x ≡ x = omega arith in
+    ap (queued_for queue) e ∙ queued_for-unmarked ms queue x marked u)
+
+-- a pick over the merged image is the merged image of the pick
+pub merged-picked : (whole : Bool) (pick : ℕ) (ms : List Bool) (xs ys : List Block) (queue : List Write) → length xs ≡ length ms → AreMarked ms queue
+    → merged ms (picked whole pick xs queue) ys ≡ picked whole pick (merged ms xs ys) queue
+merged-picked whole pick ms xs ys queue same marked =
     elim (pick == 0)
-    as (λ t. merged ms (if t then xs else (if pick == 1 then applied xs queue else drawn pick 0 xs queue)) ys
-    ≡ (if t then merged ms xs ys else (if pick == 1 then applied (merged ms xs ys) queue else drawn pick 0 (merged ms xs ys) queue))) [
+    as (λ t. merged ms (if t then xs else (if pick == 1 then applied xs queue else left_by_draws whole pick xs queue)) ys
+    ≡ (if t then merged ms xs ys else (if pick == 1 then applied (merged ms xs ys) queue else left_by_draws whole pick (merged ms xs ys) queue))) [
       | true ↦ refl
       | false ↦ elim (pick == 1)
-          as (λ t. merged ms (if t then applied xs queue else drawn pick 0 xs queue) ys
-          ≡ (if t then applied (merged ms xs ys) queue else drawn pick 0 (merged ms xs ys) queue)) [
+          as (λ t. merged ms (if t then applied xs queue else left_by_draws whole pick xs queue) ys
+          ≡ (if t then applied (merged ms xs ys) queue else left_by_draws whole pick (merged ms xs ys) queue)) [
             | true ↦ merged-applied ms xs ys queue same marked
-            | false ↦ merged-drawn ms xs ys pick 0 queue same (λ x u.
-                let e : 0 + x ≡ x = omega arith in
-                ap (queued_for queue) e ∙ queued_for-unmarked ms queue x marked u)
+            | false ↦ merged-draws whole pick ms xs ys queue same marked
           ]
     ]
 
@@ -83,10 +116,10 @@ same_held a b image queue room =
     ∙ ap (λ q. record { image = b.image; queue = q; room = a.room }) queue
     ∙ ap (λ r. record { image = b.image; queue = b.queue; room = r }) room
 
-pub over-left : (pick : ℕ) (held : Held) (ms : List Bool) (below : List Block) → length held.image ≡ length ms → AreMarked ms held.queue
-    → over_below (left_by pick held) ms below ≡ left_by pick (over_below held ms below)
-over-left pick held ms below same marked =
-    ap (λ i. record { image = i; queue = []; room = held.room }) (merged-picked pick ms held.image below held.queue same marked)
+pub over-left : (whole : Bool) (pick : ℕ) (held : Held) (ms : List Bool) (below : List Block) → length held.image ≡ length ms → AreMarked ms held.queue
+    → over_below (left_by whole pick held) ms below ≡ left_by whole pick (over_below held ms below)
+over-left whole pick held ms below same marked =
+    ap (λ i. record { image = i; queue = []; room = held.room }) (merged-picked whole pick ms held.image below held.queue same marked)
 
 pub over-landed : (k : ℕ) (held : Held) (ms : List Bool) (below : List Block) → length held.image ≡ length ms → AreMarked ms held.queue
     → over_below (as_device (landed k) held) ms below ≡ as_device (landed k) (over_below held ms below)

@@ -12,15 +12,16 @@ use Rattle.thy_nvm.specs.declared.call_faults.Fault.TheVariants.{Undone, Late}
 use Rattle.thy_nvm.specs.Calls.{Calls, no_calls, counted, next_fault}
 use Rattle.thy_nvm.specs.Kept.{Cuts, no_cuts}
 
--- the device that lies in these parts, is up or down, and has these counts of faults and fits
-abbrev pub device_in : Held → Cuts → Bool → ℕ → ℕ → Device
-device_in held cuts down faults fits = record (device_of held) {
+-- the device that lies in these parts, is up or down, has these counts of faults and fits, and whose blocks land whole or not
+abbrev pub device_in : Held → Cuts → Bool → ℕ → ℕ → Bool → Device
+device_in held cuts down faults fits whole = record (device_of held) {
   left = cuts.left;
   picks = cuts.picks;
   left_room = cuts.room;
   down = down;
   faults = faults;
   fits = fits;
+  whole = whole;
 }
 
 -- a device in memory, with its counts of writes and calls, and which of the calls fail
@@ -33,9 +34,10 @@ pub record InMemory : Type 0 where
 abbrev pub in_memory : Device → ℕ → Calls → InMemory
 in_memory device writes calls = record { device = device; writes = writes; calls = calls }
 
--- a device before it is fitted, whose calls of these numbers will do nothing, and of those fail late
-abbrev pub fresh_device : List ℕ → List ℕ → InMemory
-fresh_device failing late = in_memory (device_in nothing (no_cuts 0 0) false 0 0) 0 (no_calls failing late)
+-- a device before it is fitted, whose blocks land whole or not, whose calls of these numbers will do nothing, and of those
+-- fail late
+abbrev pub fresh_device : Bool → List ℕ → List ℕ → InMemory
+fresh_device whole failing late = in_memory (device_in nothing (no_cuts 0 0) false 0 0 whole) 0 (no_calls failing late)
 
 -- the same device after a call that writes nothing
 abbrev pub with_device : InMemory → Device → InMemory

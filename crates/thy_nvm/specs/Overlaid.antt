@@ -24,8 +24,8 @@ over_below held marks below = record held { image = merged marks held.image belo
 -- what a cut with this pick leaves of a device in memory, on a device that has kept no image yet, and can keep this number
 abbrev pub left_of : ℕ → InMemory → ℕ → Overlaid
 left_of pick m cuts =
-    overlaid (device_in (record { image = picked pick m.device.image m.device.queue; queue = []; room = m.device.queue_room })
-    (no_cuts (length m.device.image) cuts) false 0 0) 0
+    overlaid (device_in (record { image = picked m.device.whole pick m.device.image m.device.queue; queue = []; room = m.device.queue_room })
+    (no_cuts (length m.device.image) cuts) false 0 0 m.device.whole) 0
 
 -- after a call that writes nothing
 abbrev pub on_overlay : (Device → Device) → Overlaid → Overlaid

@@ -1,5 +1,5 @@
 //! A device that lies in the memory of the host.
-ghost use Rattle.std.specs.Prelude.{◌≡◌, ◌<◌, ◌≤◌, false, length, is_err, is_some, IfOk, OnOk, OnErr, IfErr, slice_index_or, []};
+ghost use Rattle.std.specs.Prelude.{◌≡◌, ◌<◌, ◌≤◌, true, false, length, is_err, is_some, IfOk, OnOk, OnErr, IfErr, slice_index_or, []};
 ghost use Rattle.thy_base.specs.declared.nvm.Write.{Write as Written};
 ghost use Rattle.thy_base.specs.Counts.{Rose};
 ghost use Rattle.thy_base.specs.Device.{Device, newest, block_at, written_to, drained, settled, fitted, IsCut, IsFramed, HasFailed, HasFailedToWrite, HasFailedToFit, CountsFault, CountsWrite};
@@ -8,6 +8,7 @@ ghost use Rattle.thy_nvm.specs.Pick.{cut_by};
 ghost use Rattle.thy_ring.specs.Held.{as_device, held_by};
 
 use crate::call_faults::{CallFaults, Fault};
+use crate::choices::{Choices, leave_chosen};
 use crate::kept::Kept;
 use crate::over::block_of_image;
 use crate::pick::leave;
@@ -17,7 +18,8 @@ use thy_base::{Block, FitError, Nvm, NvmError, Shape, Write};
 use thy_ring::Ring;
 
 /// A non-volatile memory. It is empty until it is fitted. Its reads, writes, drains and barriers are numbered from 1 on,
-/// through fits and cuts; after 2^64 - 1 of them each has this last number. One fails exactly if its number is listed.
+/// through fits and cuts; after 2^64 - 1 of them each has this last number. One fails exactly if its number is listed. Its
+/// blocks land whole, unless it was made by `tearing`.
 #[derive(Drop)]
 pub struct MemNvm {
     ring: Ring,
@@ -31,6 +33,8 @@ pub struct MemNvm {
     fits: u64,
     // How many writes it has taken since it was fitted. Saturates.
     writes: u64,
+    // A cut leaves each block whole, and not only each word.
+    whole: bool,
 }
 
 impl Model for MemNvm {
@@ -39,7 +43,7 @@ impl Model for MemNvm {
 
     ghost Value = { InMemory };
 
-    ghost view = { λ m. in_memory (device_in m.ring m.kept m.down m.faults m.fits) m.writes m.calls };
+    ghost view = { λ m. in_memory (device_in m.ring m.kept m.down m.faults m.fits m.whole) m.writes m.calls };
 
     ghost invariant = { λ m. m.kept.size ≡ length m.ring.image };
 }
@@ -47,26 +51,35 @@ impl Model for MemNvm {
 impl MemNvm {
     /// A device without blocks that never fails. Allocates nothing.
     pub fn new(alloc: Global) -> MemNvm
-        ensures { result ≡ fresh_device [] [] }
+        ensures { result ≡ fresh_device true [] [] }
     {
-        MemNvm::with_calls(alloc, CallFaults::none(alloc))
+        MemNvm::with_calls(alloc, CallFaults::none(alloc), true)
+    }
+
+    /// A device without blocks that never fails and whose blocks may be torn. A cut draws for each place with queued writes, by
+    /// rising number, eight times: for each word a block, of the image's and the queued ones, oldest first, whose word is left.
+    /// With pick 0 no queued write lands, with pick 1 all land; another pick is the seed of the draws. Allocates nothing.
+    pub fn tearing(alloc: Global) -> MemNvm
+        ensures { result ≡ fresh_device false [] [] }
+    {
+        MemNvm::with_calls(alloc, CallFaults::none(alloc), false)
     }
 
     /// A device without blocks whose calls of these numbers fail and do nothing.
     pub fn failing(alloc: Global, calls: &[u64]) -> Result<MemNvm, AllocError>
-        ensures { IfOk result (λ m. m ≡ fresh_device calls.now []) }
+        ensures { IfOk result (λ m. m ≡ fresh_device true calls.now []) }
     {
         let calls = CallFaults::failing(alloc, calls)?;
-        Ok(MemNvm::with_calls(alloc, calls))
+        Ok(MemNvm::with_calls(alloc, calls, true))
     }
 
     /// A device without blocks whose calls of these numbers fail late: a write is queued as usual, a drain lets its write
     /// land, a barrier lets the older half of the queue land, rounded down; then each fails. A read just fails.
     pub fn late(alloc: Global, calls: &[u64]) -> Result<MemNvm, AllocError>
-        ensures { IfOk result (λ m. m ≡ fresh_device [] calls.now) }
+        ensures { IfOk result (λ m. m ≡ fresh_device true [] calls.now) }
     {
         let calls = CallFaults::late(alloc, calls)?;
-        Ok(MemNvm::with_calls(alloc, calls))
+        Ok(MemNvm::with_calls(alloc, calls, true))
     }
 
     /// How many reads, writes, drains and barriers were called. Saturates.
@@ -107,9 +120,22 @@ impl MemNvm {
         &self.ring
     }
 
-    /// A device without blocks whose calls fail as listed.
-    fn with_calls(alloc: Global, calls: CallFaults) -> MemNvm
-        ensures { result ≡ record (fresh_device [] []) { calls = calls } }
+    /// Cuts the power of a device whose blocks may be torn. The words that are left are those that are chosen, and the pick is kept
+    /// only.
+    pub(crate) fn cut_as_chosen(&mut self, pick: u64, choices: &mut Choices)
+        requires room { length self.old.device.left < self.old.device.left_room }
+        requires torn { self.old.device.whole ≡ false }
+        ensures cut { IsCut pick self.old.device self.new.device }
+        ensures same_writes { self.new.writes ≡ self.old.writes }
+    {
+        leave_chosen(&mut self.ring, choices);
+        self.kept.keep(self.ring.image(), pick);
+        self.down = false;
+    }
+
+    /// A device without blocks whose calls fail as listed, and whose blocks land whole or not.
+    fn with_calls(alloc: Global, calls: CallFaults, whole: bool) -> MemNvm
+        ensures { result ≡ record (fresh_device whole [] []) { calls = calls } }
     {
         MemNvm {
             ring: Ring::new(alloc),
@@ -119,6 +145,7 @@ impl MemNvm {
             faults: 0,
             fits: 0,
             writes: 0,
+            whole,
         }
     }
 
@@ -262,6 +289,10 @@ impl Nvm for MemNvm {
         self.ring.queued()
     }
 
+    fn lands_whole(&self) -> bool {
+        self.whole
+    }
+
     fn writes(&self) -> u64 {
         self.writes
     }
@@ -329,7 +360,7 @@ impl Nvm for MemNvm {
         ensures cut { IsCut pick self.old.device self.new.device }
         ensures same_writes { self.new.writes ≡ self.old.writes }
     {
-        leave(&mut self.ring, pick);
+        leave(&mut self.ring, pick, self.whole);
         self.kept.keep(self.ring.image(), pick);
         self.down = false;
     }

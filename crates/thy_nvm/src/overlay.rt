@@ -49,7 +49,8 @@ impl Spare {
 }
 
 /// A device that began with what a power cut leaves of another one, and holds what was written to it since. The other device
-/// is only read, and its image is not copied. It never fails, but cannot be fitted.
+/// is only read, and its image is not copied. Its blocks land whole if the other one's do. It never fails, but cannot be
+/// fitted.
 #[derive(Drop)]
 pub struct Overlay<'a> {
     // The image of the other device.
@@ -65,6 +66,8 @@ pub struct Overlay<'a> {
     faults: u64,
     // How many writes it has taken. Saturates.
     writes: u64,
+    // A cut leaves each block whole, and not only each word.
+    whole: bool,
 }
 
 impl<'a> Model for Overlay<'a> {
@@ -73,7 +76,7 @@ impl<'a> Model for Overlay<'a> {
 
     ghost Value = { Overlaid };
 
-    ghost view = { λ o. overlaid (device_in (over_below o.ring o.marks.items o.below.now) o.kept o.down o.faults o.faults) o.writes };
+    ghost view = { λ o. overlaid (device_in (over_below o.ring o.marks.items o.below.now) o.kept o.down o.faults o.faults o.whole) o.writes };
 
     ghost invariant = { λ o. IsSoundOverlay o.ring o.marks.items o.below.now o.kept.size };
 }
@@ -96,7 +99,8 @@ impl<'a> Overlay<'a> {
         marks.fill(false);
         kept.clear();
         queue_as(&mut ring, &mut marks, below, held);
-        leave(&mut ring, pick);
+        let whole = nvm.lands_whole();
+        leave(&mut ring, pick, whole);
         Overlay {
             below,
             ring,
@@ -105,6 +109,7 @@ impl<'a> Overlay<'a> {
             down: false,
             faults: 0,
             writes: 0,
+            whole,
         }
     }
 
@@ -150,6 +155,10 @@ impl<'a> Nvm for Overlay<'a> {
 
     fn queued(&self) -> u64 {
         self.ring.queued()
+    }
+
+    fn lands_whole(&self) -> bool {
+        self.whole
     }
 
     fn writes(&self) -> u64 {
@@ -223,7 +232,7 @@ impl<'a> Nvm for Overlay<'a> {
         ensures same_writes { self.new.writes ≡ self.old.writes }
     {
         take_up_all(&mut self.ring, &mut self.marks, self.below);
-        leave(&mut self.ring, pick);
+        leave(&mut self.ring, pick, self.whole);
         self.kept.keep(self.ring.image(), pick);
         self.down = false;
     }

@@ -67,6 +67,10 @@ impl<N: Nvm> Nvm for Counting<N> {
         self.inner.queued()
     }
 
+    fn lands_whole(&self) -> bool {
+        self.inner.lands_whole()
+    }
+
     fn writes(&self) -> u64 {
         self.inner.writes()
     }

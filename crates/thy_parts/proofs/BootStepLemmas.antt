@@ -4,7 +4,7 @@ use Rattle.thy_base.specs.declared.block.Block.{Block}
 use Rattle.thy_base.specs.declared.config.Parameters.{Parameters}
 use Rattle.thy_base.specs.declared.mark.Mark.{Mark}
 use Rattle.thy_base.specs.declared.nvm.NvmError.{NvmError}
-use Rattle.thy_base.specs.Device.{Device, IsFramed}
+use Rattle.thy_base.specs.Device.{Device, block_at, IsFramed}
 use Rattle.thy_base.specs.Marks.{mark}
 use Rattle.thy_crash.specs.Saved.{Kept}
 use Rattle.thy_isa.specs.declared.state.CpuState.{CpuState}
@@ -13,7 +13,7 @@ use Rattle.thy_isa.specs.Step.{State as Plain, cpu_of, state_of}
 use Rattle.thy_isa.proofs.BlockLaws.{count-state_from}
 use Rattle.thy_layout.specs.declared.bad_image.BadImage.{BadImage}
 use Rattle.thy_layout.specs.declared.start.Start.{Start}
-use Rattle.thy_layout.specs.Commit.{epoch_of}
+use Rattle.thy_layout.specs.Commit.{epoch_of, commit_of}
 use Rattle.thy_layout.specs.Cpu.{cpu_of_record}
 use Rattle.thy_layout.specs.Layout.{reading}
 use Rattle.thy_layout.specs.Slots.{cpu_fault}
@@ -232,6 +232,8 @@ module _ {C : Type 0} (D : DesignOf C) (w : AreParts D) where
         let keeps : Keeps o (layout_for F o) new (Kept h.before) (Some m) None = r.3 in
         let found : IsRestored F new d e = r.5 in
         let far : IsRecovering F h new d e = subst (λ (x : Stage). IsSoundAt F o x h new d e) is moved.sound.so_far in
+        let stated : block_at h.before 1 ≡ commit_of m.epoch
+        = ap (λ (i : List Block). block_at i 1) far.before_is ∙ r.6 ∙ ap commit_of (sym r.2) in
         let made : state_from d.p cpu (F.loads e new) ≡ at o m.count
         = subst (λ (p : Parameters). state_from p (cpu_of_record p slot) (F.loads e new) ≡ at o m.count) (w.design.fills.laid.of d.p) r.4 in
         let made_state : state_from o.geometry cpu (F.loads e new) ≡ at o m.count
@@ -240,7 +242,7 @@ module _ {C : Type 0} (D : DesignOf C) (w : AreParts D) where
         = sym (count-state_from d.p cpu (F.loads e new)) ∙ ap (λ (x : Plain). x.count) made ∙ keeps.told.counted in
         let is_mark : m ≡ mark epoch cpu.count
         = ap (λ (x : ℕ). mark x m.count) r.2 ∙ ap (mark epoch) (sym count) in
-        let ended = restored_sound D w.powering o m h.before new d s e unsealed moved.sound.geometry far.before_is far.read.settled keeps found made in
+        let ended = restored_sound D w.powering o m h.before new d s e unsealed moved.sound.geometry far.before_is far.read.settled keeps stated found made in
         let agrees = w.design.agreeing (phase_committed D.items) 0 e new (ended.1.moment 0) in
         let fits = fits_cpu o.geometry d.p ceiling slot
         (subst (λ (p : Parameters). cpu_fault p ceiling slot ≡ None) (w.design.fills.laid.of o.geometry)

@@ -9,6 +9,7 @@ use Rattle.thy_crash.specs.Saved.{Kept}
 use Rattle.thy_isa.specs.declared.state.CpuState.{CpuState}
 use Rattle.thy_isa.specs.OnBlocks.{state_from}
 use Rattle.thy_isa.specs.Step.{cpu_of}
+use Rattle.thy_layout.specs.Commit.{commit_of}
 use Rattle.thy_layout.specs.Cpu.{cpu_of_record}
 use Rattle.thy_layout.specs.Layout.{header_bad, slot_in}
 use Rattle.thy_view.specs.Origin.{Origin, IsOrigin, at}
@@ -48,7 +49,7 @@ pub record IsUnsealed {C : Type 0} (D : DesignOf C) (o : Origin) (s : Composed C
   pub sealed_storeless : s.sealed_storeless ≡ false
 
 module _ {C : Type 0} (D : DesignOf C) (o : Origin) (m : Mark) (before : List Block) (n : Device) (b : Booting) (s : Composed C) (c : C)
-    (unsealed : IsUnsealed D o s c) (keeps : Keeps o (layout_for D o) n (Kept before) (Some m) None)
+    (unsealed : IsUnsealed D o s c) (keeps : Keeps o (layout_for D o) n (Kept before) (Some m) None) (stated : block_at before 1 ≡ commit_of m.epoch)
     (header : header_bad (layout_for D o) (newest n 0) true ≡ None) (cpu : CpuState) (state : state_from o.geometry cpu (D.filling.loads c n) ≡ at o m.count) where
   abbrev At : EngineStage → Composed C
   At q = record s { control = c; engine = record s.engine { stage = q }; boot = b }
@@ -70,6 +71,7 @@ module _ {C : Type 0} (D : DesignOf C) (o : Origin) (m : Mark) (before : List Bl
     images = images_of before m;
     checkpoints = record {
       kept = refl;
+      stated = stated;
       sealed = refl;
       keeping = subst (λ x. Keeps o (layout_for D o) n x (Some m) None) (sym saved) keeps;
       told = ends.keeps s.engine.epoch;
@@ -99,7 +101,7 @@ module _ {C : Type 0} (D : DesignOf C) (o : Origin) (m : Mark) (before : List Bl
 
 module _ {C : Type 0} (D : DesignOf C) (v : IsPowering D) (o : Origin) (m : Mark) (before : List Block) (n : Device) (b : Booting) (s : Composed C) (c : C)
     (unsealed : IsUnsealed D o s c) (geometry : b.p ≡ o.geometry) (before_is : before ≡ n.image) (settled : n.queue ≡ [])
-    (keeps : Keeps o (layout_for D o) n (Kept before) (Some m) None) (found : IsRestored D.filling n b c)
+    (keeps : Keeps o (layout_for D o) n (Kept before) (Some m) None) (stated : block_at before 1 ≡ commit_of m.epoch) (found : IsRestored D.filling n b c)
     (state : state_from b.p (cpu_of_record b.p (slot_read D.filling b)) (D.filling.loads c n) ≡ at o m.count) where
   abbrev cpu : CpuState
   cpu = cpu_of_record b.p (slot_read D.filling b)
@@ -120,8 +122,8 @@ module _ {C : Type 0} (D : DesignOf C) (v : IsPowering D) (o : Origin) (m : Mark
 
   by_tail : (tail : Bool) → EndsBoot D (if tail then Applying 0 else Resting) c n before
       → IsSound D o (only m) (record s { control = c; engine = if tail then applying s.engine else s.engine; boot = b }) n
-  by_tail true e = ends_tail D o m before n b s c unsealed keeps header cpu made e
-  by_tail false e = ends_idle D o m before n b s c unsealed keeps header cpu made e
+  by_tail true e = ends_tail D o m before n b s c unsealed keeps stated header cpu made e
+  by_tail false e = ends_idle D o m before n b s c unsealed keeps stated header cpu made e
 
   pub restored_sound : IsSound D o (only m) (record s { control = c; engine = if D.items.has_tail then applying s.engine else s.engine; boot = b }) n
       × EndsBoot D (phase_committed D.items) c n before
@@ -147,7 +149,7 @@ module _ {C : Type 0} (D : DesignOf C) (w : IsDesign D) (v : IsPowering D) (o : 
   pub loaded_sound : IsSound D o (only (start_mark o)) (record s { control = c; boot = b }) n
       × EndsBoot D Resting c n g.next × (state_from o.geometry (cpu_of o.start) (D.filling.loads c n) ≡ at o o.start.count)
   loaded_sound = (
-    ends_idle D o (start_mark o) g.next n b s c unsealed keeps (loaded-header D.filling w.fills o origin g n c unsealed.control loaded) (cpu_of o.start)
+    ends_idle D o (start_mark o) g.next n b s c unsealed keeps loaded.made.commit (loaded-header D.filling w.fills o origin g n c unsealed.control loaded) (cpu_of o.start)
         start_state first,
     first,
     start_state,

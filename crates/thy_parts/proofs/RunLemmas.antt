@@ -1,8 +1,8 @@
 -- What holds after the boot, and what loads and stores keep of it.
-use Rattle.std.proofs.Common.{◌≡◌, ◌⊎◌, ℕ, ◌+◌, ◌<◌, ◌≤◌, ◌||◌, ◌&&◌, not, Bool, true, false, List, [], ◌∷◌, ◌++◌, length, Contains, Some, refl, sym, ◌∙◌, ap, subst, inl, inr, arith}
+use Rattle.std.proofs.Common.{◌≡◌, ◌⊎◌, ℕ, ◌+◌, ◌<◌, ◌≤◌, ◌||◌, ◌&&◌, not, Bool, true, false, List, [], ◌∷◌, ◌++◌, length, Some, refl, sym, ◌∙◌, ap, subst, inl, inr, arith}
 use Rattle.std.proofs.lemmas.List.Elements.{Contains-append_cases, Contains-append_right}
 use Rattle.thy_base.specs.declared.config.Parameters.{Parameters}
-use Rattle.thy_base.specs.Device.{Device, possible, newest, drained}
+use Rattle.thy_base.specs.Device.{Device, MayLeave, newest, drained}
 use Rattle.thy_base.specs.Geometry.{memory_blocks}
 use Rattle.thy_base.proofs.BasicLemmas.{not_some}
 use Rattle.thy_crash.specs.Saved.{guarded}
@@ -90,7 +90,7 @@ sealed_at D c n d m (Tail from) way stays = cc
 spares_both : (a b : List ℕ) (n m : Device) → Spares (1 ∷ a) n m → Spares (1 ∷ b) n m → Spares (1 ∷ (a ++ b)) n m
 spares_both a b n m x y = record {
   as_long = x.as_long;
-  no_more = λ p inside block h. elim (Contains-append_cases (1 ∷ a) b p inside) as (λ _. Contains (possible n p) block) [
+  no_more = λ p inside block h. elim (Contains-append_cases (1 ∷ a) b p inside) as (λ _. MayLeave n p block) [
     | inl left ↦ x.no_more p left block h
     | inr right ↦ y.no_more p (Contains-append_right (1 ∷ []) b p right) block h
   ];
@@ -303,6 +303,7 @@ module _ {C : Type 0} (D : DesignOf C) (w : AreParts D) where
         images = h.images;
         checkpoints = subst (λ (x : Progress). HasCheckpoints D o k x t.control m h.images) (sym stays.engine) (record {
           kept = h.checkpoints.kept;
+          stated = h.checkpoints.stated;
           sealed = h.checkpoints.sealed;
           keeping = keeping_then;
           told = up.keeps h.images.before h.checkpoints.told;

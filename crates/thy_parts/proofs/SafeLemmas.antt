@@ -94,6 +94,7 @@ module _ {C : Type 0} (D : DesignOf C) (w : IsDesign D) (o : Origin) (k : Checkp
     images = h.images;
     checkpoints = subst (λ x. HasCheckpoints D o k x t.control m h.images) (sym engine) (record {
       kept = h.checkpoints.kept;
+      stated = h.checkpoints.stated;
       sealed = h.checkpoints.sealed;
       keeping = keeping;
       told = on.keeps h.images.before h.checkpoints.told;

@@ -77,6 +77,7 @@ module _ {C : Type 0} (D : DesignOf C) (w : IsDesign D) (o : Origin) (k : Checkp
     images = record g { sealed = Some m };
     checkpoints = record {
       kept = h.checkpoints.kept;
+      stated = h.checkpoints.stated;
       sealed = refl;
       keeping = IsKeeping-move o (layout_for D o) _ _ (Seals n g.before g.kept m) keeping_idle;
       told = to.keeps g.before (t.next ∙ ap (λ x. x + 1) (sym kept_epoch)) (told_at D w o k s n h Idle nothing);

@@ -5,7 +5,7 @@ use Rattle.std.proofs.lemmas.List.Elements.{Contains-push, Contains-append_left,
 use Rattle.thy_base.specs.declared.block.Block.{Block}
 use Rattle.thy_base.specs.declared.config.Parameters.{Parameters}
 use Rattle.thy_base.specs.declared.mark.Mark.{Mark}
-use Rattle.thy_base.specs.Device.{Device, block_at, newest, settled, written_to, IsFramed}
+use Rattle.thy_base.specs.Device.{Device, IsOneWordApart, block_at, newest, settled, written_to, IsFramed}
 use Rattle.thy_base.specs.Geometry.{IsInRange}
 use Rattle.thy_base.specs.Places.{record_blocks}
 use Rattle.thy_base.proofs.DeviceLemmas.{newest-settled, newest-written_to_other}
@@ -17,7 +17,9 @@ use Rattle.thy_crash.proofs.SparesLemmas.{Spares-settled, Spares-written}
 use Rattle.thy_isa.specs.OnBlocks.{state_from}
 use Rattle.thy_layout.specs.declared.engine_step.EngineStep.{EngineStep}
 use Rattle.thy_layout.specs.declared.engine_step.EngineStep.TheVariants.{Copied, PageBlock, StateBlock, TableBlock}
-use Rattle.thy_layout.specs.Commit.{commit_of}
+use Rattle.thy_layout.specs.Commit.{commit_of, commit_magic}
+use Rattle.thy_layout.specs.declared.layout_version.LayoutVersion.TheVariants.{VersionTwo}
+use Rattle.thy_layout.proofs.CommitLemmas.{one_word-epoch}
 use Rattle.thy_layout.specs.Cpu.{IsRecordable}
 use Rattle.thy_layout.specs.Decoded.{At}
 use Rattle.thy_layout.specs.Layout.{Layout, header_bad, looked_by, decode_by}
@@ -202,6 +204,7 @@ module _ {C : Type 0} (D : DesignOf C) (w : IsDesign D) (o : Origin) (k : Checkp
     images = record g { next = next };
     checkpoints = record {
       kept = h.checkpoints.kept;
+      stated = h.checkpoints.stated;
       sealed = h.checkpoints.sealed;
       keeping = keeping;
       told = on.keeps g.before h.checkpoints.told;
@@ -349,7 +352,10 @@ module _ {C : Type 0} (D : DesignOf C) (w : IsDesign D) (o : Origin) (k : Checkp
           → MayTake o l old.mark (slot_round F I e c) r g.before g.next n
       by_round (Write j) inside written settled = not_looked (slot_place F e j) (free j inside)
       by_round Settle inside written settled = (made_of written, issued written)
-      by_round Commit inside written settled = old.commit (settled refl)
+      by_round Commit inside written settled = (
+        old.commit (settled refl),
+        subst (λ (b : Block). IsOneWordApart b (commit_of e.epoch)) (sym h.checkpoints.stated) (one_word-epoch (commit_magic VersionTwo) k.done.epoch e.epoch),
+      )
       by_round Confirm inside written settled = (old.commit (settled refl), written.1)
 
     -- the checkpoints after it, and if it fails
@@ -458,6 +464,7 @@ module _ {C : Type 0} (D : DesignOf C) (w : IsDesign D) (o : Origin) (k : Checkp
       images = record g { before = g.next; kept = g.sealed; sealed = None };
       checkpoints = record {
         kept = old_d.sealed ∙ ap Some (sym done_is);
+        stated = old_d.commit (here.settled refl) ∙ ap commit_of (sym old_d.of_epoch ∙ ap (λ (m : Mark). m.epoch) (sym done_is));
         sealed = refl;
         keeping = subst (λ x. IsKeeping o l (standing (settled n) x g.sealed None)) (sym saved) keeping_d;
         told = on.keeps g.next ((over Confirm here).makes g.next (old_d.makes (here.settled refl)));

@@ -1,10 +1,11 @@
 -- After the boot: controller, engine and NVM have the checkpoints of a run.
 use Rattle.std.specs.Prelude.{◌≡◌, true, is_some, length, Some, None}
 use Rattle.thy_base.specs.declared.mark.Mark.{Mark}
-use Rattle.thy_base.specs.Device.{Device, newest}
-use Rattle.thy_base.specs.Places.{header_place}
+use Rattle.thy_base.specs.Device.{Device, block_at, newest}
+use Rattle.thy_base.specs.Places.{header_place, commit_place}
 use Rattle.thy_isa.specs.declared.state.CpuState.{CpuState}
 use Rattle.thy_isa.specs.OnBlocks.{state_from}
+use Rattle.thy_layout.specs.Commit.{commit_of}
 use Rattle.thy_layout.specs.Layout.{Layout, header_bad}
 use Rattle.thy_view.specs.Origin.{Origin, at}
 use Rattle.thy_protocol.specs.Moves.{IsKeeping}
@@ -32,10 +33,11 @@ pub record HasState {C : Type 0} (D : DesignOf C) (o : Origin) (m : Mark) (e : P
   pub cpu : CpuState
   pub state : state_from o.geometry cpu (D.parts.committed (phase_of e.stage) c n) ≡ at o m.count
 
--- the checkpoints on the NVM are those of these marks
+-- the checkpoints on the NVM are those of these marks, and the kept one has the commit block that is written for its epoch
 pub record HasCheckpoints {C : Type 0} (D : DesignOf C) (o : Origin) (k : CheckpointMarks) (e : Progress) (c : C) (n : Device)
     (g : Checkpoints) : Type 0 where
   pub kept : g.kept ≡ Some k.done
+  pub stated : block_at g.before commit_place ≡ commit_of k.done.epoch
   pub sealed : g.sealed ≡ k.sealed
   pub keeping : IsKeeping o (layout_for D o) (standing_at e.stage n g)
   pub told : D.parts.keeps (phase_of e.stage) e.epoch c g.before

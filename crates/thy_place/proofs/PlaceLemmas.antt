@@ -1,14 +1,14 @@
 -- What is read at places after a write, a drain or a barrier.
-use Rattle.std.proofs.Common.{◌≡◌, ◌≢◌, ℕ, ◌<◌, Bool, true, false, if◌then◌else◌, length, Contains, refl, sym, ◌∙◌, ap, inl, inr, arith}
+use Rattle.std.proofs.Common.{◌≡◌, ◌≢◌, ℕ, ◌<◌, Bool, true, false, if◌then◌else◌, length, refl, sym, ◌∙◌, ap, arith}
 use Rattle.std.proofs.lemmas.List.{length-set, get_or-set_same, get_or-set_other}
 use Rattle.thy_base.specs.declared.block.Block.{Block}
 use Rattle.thy_base.specs.declared.config.Parameters.{Parameters}
 use Rattle.thy_places.specs.declared.place.Place.{Place}
 use Rattle.thy_places.specs.declared.place.Place.TheVariants.{Home, AlternateBlock, AlternatePage, Buffer, Frame}
-use Rattle.thy_base.specs.Device.{Device, HasFailedToWrite, zero_block, block_at, possible, newest, drained, settled, written_to}
+use Rattle.thy_base.specs.Device.{Device, HasFailedToWrite, zero_block, block_at, newest, drained, settled, written_to}
 use Rattle.thy_places.specs.Places.{NumbersTellPlaces, in_dram, number_of, IsPlace, image_blocks}
 use Rattle.thy_base.specs.Places.{dram_blocks}
-use Rattle.thy_base.proofs.DeviceLemmas.{newest-drained, newest-settled, newest-written_to, newest-written_to_other, no_more-written_to_other, length-drained, length-settled, length-written_to}
+use Rattle.thy_base.proofs.DeviceLemmas.{newest-drained, newest-settled, newest-written_to, newest-written_to_other, no_more-written_to_other, MayLeave-elsewhere, length-drained, length-settled, length-written_to}
 use Rattle.thy_dram.specs.Contents.{written, drained as dram_drained}
 use Rattle.thy_place.specs.Devices.{Devices, AreSized, NoMoreAt, read_at, written_at}
 use Rattle.thy_place.specs.DeviceLaws.{ReadsTheSame}
@@ -121,10 +121,9 @@ pub no_more-failed_other : (p : Parameters) (old new : Device) (place other : Pl
     → IsPlace p place → IsPlace p other → in_dram place ≡ false → in_dram other ≡ false → other ≢ place
     → HasFailedToWrite (number_of p place) block old new → NoMoreAt (number_of p other) old new
 no_more-failed_other p old new place other block here there side elsewhere ne failed = record {
-  no_more = λ b h. elim (failed.no_more (number_of p other) b h) as (λ _. Contains (possible old (number_of p other)) b) [
-    | inl before ↦ before
-    | inr this ↦ absurd (numbers_apart p place other here there (side ∙ sym elsewhere) ne this.0)
-  ];
+  no_more = λ b h.
+      MayLeave-elsewhere old (number_of p place) block (number_of p other) b (numbers_apart p place other here there (side ∙ sym elsewhere) ne)
+      (failed.no_more (number_of p other) b h);
 }
 
 sized-on : (p : Parameters) (side : Bool) (at : ℕ) (block : Block) (d : Devices) → AreSized p d → AreSized p (written_on side at block d)

@@ -1,10 +1,10 @@
 -- Part of the claim.
 -- What the places of both devices hold, and what a write at one makes of them.
-use Rattle.std.specs.Prelude.{◌≡◌, ℕ, if◌then◌else◌, length, Contains}
+use Rattle.std.specs.Prelude.{◌≡◌, ℕ, if◌then◌else◌, length}
 use Rattle.thy_base.specs.declared.block.Block.{Block}
 use Rattle.thy_base.specs.declared.config.Parameters.{Parameters}
 use Rattle.thy_places.specs.declared.place.Place.{Place}
-use Rattle.thy_base.specs.Device.{Device, block_at, possible, newest, written_to}
+use Rattle.thy_base.specs.Device.{Device, MayLeave, block_at, newest, written_to}
 use Rattle.thy_places.specs.Places.{in_dram, number_of, image_blocks}
 use Rattle.thy_base.specs.Places.{dram_blocks}
 use Rattle.thy_dram.specs.Contents.{Contents, written}
@@ -36,4 +36,4 @@ written_at p place block d =
 
 -- a place of the NVM, by its number, may hold after a cut nothing that it could not hold before
 pub record NoMoreAt (x : ℕ) (old new : Device) : Type 0 where
-  pub no_more : (b : Block) → Contains (possible new x) b → Contains (possible old x) b
+  pub no_more : (b : Block) → MayLeave new x b → MayLeave old x b

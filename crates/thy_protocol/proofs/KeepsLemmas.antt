@@ -2,7 +2,7 @@
 use Rattle.std.proofs.Common.{◌≡◌, ◌⊎◌, ℕ, List, [], length, Option, Some, None, refl, sym, ◌∙◌, ap, subst, inl, inr, arith}
 use Rattle.thy_base.specs.declared.block.Block.{Block}
 use Rattle.thy_base.specs.declared.mark.Mark.{Mark}
-use Rattle.thy_base.specs.Device.{Device, Crash, IsCut, IsFramed, block_at, settled, written_to, drained}
+use Rattle.thy_base.specs.Device.{Device, Crash, IsOneWordApart, IsCut, IsFramed, block_at, settled, written_to, drained}
 use Rattle.thy_base.proofs.DeviceLemmas.{length-settled, length-written_to}
 use Rattle.thy_layout.specs.Decoded.{Decoded, At}
 use Rattle.thy_crash.specs.Saved.{Saved, Kept, Ready, InDoubt, IsCopy, IsLeft, IsIssued, guarded}
@@ -146,16 +146,17 @@ Keeps-readies o l before next kept m old new issued is e k = record {
 }
 
 Keeps-commits : (o : Origin) (l : Layout) (before next : List Block) (kept : Option Mark) (m : Mark) (old new : Device)
-    → CommitsTo next old new → Keeps o l old (Ready before next) kept (Some m) → Keeps o l new (InDoubt before next) kept (Some m)
-Keeps-commits o l before next kept m old new how k = elim how as (λ _. Keeps o l new (InDoubt before next) kept (Some m)) [
+    → IsOneWordApart (block_at before 1) (block_at next 1) → CommitsTo next old new
+    → Keeps o l old (Ready before next) kept (Some m) → Keeps o l new (InDoubt before next) kept (Some m)
+Keeps-commits o l before next kept m old new apart how k = elim how as (λ _. Keeps o l new (InDoubt before next) kept (Some m)) [
   | inl written ↦ record {
     sized = ap (λ n. length n.image) written ∙ length-written_to old 1 (block_at next 1) ∙ k.sized;
-    saved = IsInDoubt-written (looked_by l) before next old new k.saved written;
+    saved = IsInDoubt-written (looked_by l) before next old new apart k.saved written;
     told = k.told;
   }
   | inr failed ↦ record {
     sized = failed.1.blocks ∙ k.sized;
-    saved = IsInDoubt-failed (looked_by l) before next old new k.saved failed.0 failed.1;
+    saved = IsInDoubt-failed (looked_by l) before next old new apart k.saved failed.0 failed.1;
     told = k.told;
   }
 ]
@@ -173,7 +174,7 @@ pub IsKeeping-move : (o : Origin) (l : Layout) (a b : Standing) → Move o l a b
 IsKeeping-move o l a b (Goes s kept sealed old new spares) k = Keeps-goes o l s kept sealed old new spares k
 IsKeeping-move o l a b (Seals n before kept m) k = record { sized = k.sized; saved = k.saved; told = k.told }
 IsKeeping-move o l a b (Readies before next kept m old new issued is e) k = Keeps-readies o l before next kept m old new issued is e k
-IsKeeping-move o l a b (Commits before next kept m old new how) k = Keeps-commits o l before next kept m old new how k
+IsKeeping-move o l a b (Commits before next kept m old new apart how) k = Keeps-commits o l before next kept m old new apart how k
 IsKeeping-move o l a b (Confirms before next kept m old new read e) k = Keeps-confirms o l before next kept m old new read e k
 
 pub IsKeeping-moves : (o : Origin) (l : Layout) (a b : Standing) → Moves o l a b → IsKeeping o l a → IsKeeping o l b

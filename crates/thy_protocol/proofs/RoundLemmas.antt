@@ -2,7 +2,7 @@
 use Rattle.std.proofs.Common.{◌≡◌, ℕ, ◌+◌, ◌<◌, ◌≤◌, nat_lt, Bool, true, false, if◌then◌else◌, List, length, Option, Some, None, refl, sym, ◌∙◌, ap, subst, inl, inr, arith}
 use Rattle.std.proofs.lemmas.Bool.{cases_eq, ltb-true, ltb-false}
 use Rattle.thy_base.specs.declared.block.Block.{Block}
-use Rattle.thy_base.specs.Device.{Device, newest, settled, drained, written_to, HasFailedToWrite}
+use Rattle.thy_base.specs.Device.{Device, IsOneWordApart, block_at, newest, settled, drained, written_to, HasFailedToWrite}
 use Rattle.thy_base.proofs.DeviceLemmas.{length-settled, newest-settled}
 use Rattle.thy_crash.specs.Fixed.{Reads}
 use Rattle.thy_crash.specs.Saved.{Kept, InDoubt, guarded, next_image}
@@ -76,7 +76,8 @@ rounds_move o l m w (Write k) before next kept n spared =
         (Spares-written (guarded (looked_by l) (Kept before)) (w.place k) (w.block k) n (written_to n (w.place k) (w.block k)) spared refl)
 rounds_move o l m w Settle before next kept n made = Readies before (next_image n w.commit) kept m n (settled n) made.1 made.0 refl
 rounds_move o l m w Commit before next kept n commit =
-    Commits before next kept m n (written_to n 1 w.commit) (inl (ap (written_to n 1) (sym commit)))
+    Commits before next kept m n (written_to n 1 w.commit) (subst (IsOneWordApart (block_at before 1)) (sym commit.0) commit.1)
+    (inl (ap (written_to n 1) (sym commit.0)))
 rounds_move o l m w Confirm before next kept n made =
     Confirms before next kept m n (settled n) (subst (Reads n 1) (sym made.0) made.1) refl
 
@@ -87,7 +88,8 @@ failed_rounds_move o l m w (Write k) before next kept n new spared failed framed
 failed_rounds_move o l m w Settle before next kept n new made failed framed =
     Goes (Kept before) kept (Some m) n new (Spares-failed (guarded (looked_by l) (Kept before)) n new failed framed)
 failed_rounds_move o l m w Commit before next kept n new commit failed framed =
-    Commits before next kept m n new (inr (subst (λ (b : Block). HasFailedToWrite 1 b n new) (sym commit) failed, framed))
+    Commits before next kept m n new (subst (IsOneWordApart (block_at before 1)) (sym commit.0) commit.1)
+    (inr (subst (λ (b : Block). HasFailedToWrite 1 b n new) (sym commit.0) failed, framed))
 failed_rounds_move o l m w Confirm before next kept n new made failed framed =
     Goes (InDoubt before next) kept (Some m) n new (Spares-failed (guarded (looked_by l) (InDoubt before next)) n new failed framed)
 

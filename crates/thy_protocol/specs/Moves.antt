@@ -2,7 +2,7 @@
 use Rattle.std.specs.Prelude.{◌≡◌, ◌⊎◌, List, Contains, ℕ, Option, Some, None}
 use Rattle.thy_base.specs.declared.block.Block.{Block}
 use Rattle.thy_base.specs.declared.mark.Mark.{Mark}
-use Rattle.thy_base.specs.Device.{Device, block_at, written_to, settled, HasFailedToWrite, IsFramed}
+use Rattle.thy_base.specs.Device.{Device, IsOneWordApart, block_at, written_to, settled, HasFailedToWrite, IsFramed}
 use Rattle.thy_base.specs.Places.{commit_place}
 use Rattle.thy_crash.specs.Fixed.{Reads}
 use Rattle.thy_crash.specs.Saved.{Saved, Kept, Ready, InDoubt, IsIssued, guarded}
@@ -43,9 +43,9 @@ pub data Move (o : Origin) (l : Layout) : Standing → Standing → Type 0 where
   Readies : (before next : List Block) (kept : Option Mark) (m : Mark) (old new : Device)
       → IsIssued (looked_by l) old next → IsOf o l next m → new ≡ settled old
       → Move o l (standing old (Kept before) kept (Some m)) (standing new (Ready before next) kept (Some m))
-  -- the write of its commit block
+  -- the write of its commit block, which differs in one word at most from that before it
   Commits : (before next : List Block) (kept : Option Mark) (m : Mark) (old new : Device)
-      → CommitsTo next old new
+      → IsOneWordApart (block_at before commit_place) (block_at next commit_place) → CommitsTo next old new
       → Move o l (standing old (Ready before next) kept (Some m)) (standing new (InDoubt before next) kept (Some m))
   -- the barrier after it
   Confirms : (before next : List Block) (kept : Option Mark) (m : Mark) (old new : Device)

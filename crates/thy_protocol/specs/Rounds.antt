@@ -2,7 +2,7 @@
 use Rattle.std.specs.Prelude.{◌≡◌, ◌≢◌, ℕ, ◌+◌, ◌<◌, List, [], Contains, Option, Some, None}
 use Rattle.thy_base.specs.declared.block.Block.{Block}
 use Rattle.thy_base.specs.declared.mark.Mark.{Mark}
-use Rattle.thy_base.specs.Device.{Device, block_at, IsFramed}
+use Rattle.thy_base.specs.Device.{Device, IsOneWordApart, block_at, IsFramed}
 use Rattle.thy_base.specs.Places.{commit_place}
 use Rattle.thy_crash.specs.Fixed.{Reads}
 use Rattle.thy_crash.specs.Saved.{Saved, Kept, Ready, InDoubt, IsIssued, next_image, guarded}
@@ -39,12 +39,13 @@ abbrev pub standing_then : Option Round → Device → List Block → List Block
 standing_then (Some r) n before next kept m = standing n (saved_in r before next) kept (Some m)
 standing_then None n before next kept m = standing n (Kept next) (Some m) None
 
--- what an action needs: a block goes to no place that the image which is kept is found by; all that was written is the
--- checkpoint of the mark; that has this commit block, and reads give it
+-- What an action needs: a block goes to no place that the image which is kept is found by. All that was written is the
+-- checkpoint of the mark. That has this commit block, which differs in one word at most from the kept image's, and then reads
+-- give it
 abbrev pub MayTake : Origin → Layout → Mark → RoundWrites → Round → List Block → List Block → Device → Type 0
 MayTake o l m w (Write k) before next n = ¬ Contains (guarded (looked_by l) (Kept before)) (w.place k)
 MayTake o l m w Settle before next n = IsOf o l (next_image n w.commit) m × IsIssued (looked_by l) n (next_image n w.commit)
-MayTake o l m w Commit before next n = block_at next commit_place ≡ w.commit
+MayTake o l m w Commit before next n = (block_at next commit_place ≡ w.commit) × IsOneWordApart (block_at before commit_place) w.commit
 MayTake o l m w Confirm before next n = (block_at next commit_place ≡ w.commit) × Reads n commit_place w.commit
 
 -- it is a move then. The mark that is written may be the one that is kept

@@ -16,8 +16,9 @@ pub fn a_boot_finds_its_mark()
     ensures shows { BootShows }
 {}
 
-/// Whatever a cut leaves is one of these checkpoints also after any number of moves: calls that spare the guarded places,
-/// a seal, the barrier after the writes of a checkpoint, its commit block, and the barrier after that.
+/// Whatever a cut leaves is one of these checkpoints also after any number of moves. A move is a call that spares the
+/// guarded places, a seal, the barrier after the writes of a checkpoint, its commit block, or the barrier after that. The
+/// commit block differs in one word at most from the one before.
 pub fn moves_are_safe()
     ensures { MovesAreSafe }
 {}

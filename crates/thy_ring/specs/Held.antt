@@ -1,5 +1,5 @@
 -- What a ring holds, and how it lies in memory.
-use Rattle.std.specs.Prelude.{ℕ, ◌<◌, false, List, [], length, slice_index_or, slice_set, All, Option, Some, None}
+use Rattle.std.specs.Prelude.{ℕ, ◌<◌, true, false, List, [], length, slice_index_or, slice_set, All, Option, Some, None}
 use Rattle.circular_buffer.specs.Buffer.{Buffer}
 use Rattle.thy_base.specs.declared.block.Block.{Block}
 use Rattle.thy_base.specs.declared.nvm.Write.{Write}
@@ -17,7 +17,7 @@ pub record Held : Type 0 where
 abbrev pub nothing : Held
 nothing = record { image = []; queue = []; room = 0 }
 
--- a device that holds these, has kept nothing, and was never fitted
+-- a device whose blocks land whole, which holds these, has kept nothing, and was never fitted
 abbrev pub device_of : Held → Device
 device_of r = record {
   image = r.image;
@@ -30,6 +30,7 @@ device_of r = record {
   faults = 0;
   fits = 0;
   lent = [];
+  whole = true;
 }
 
 -- what a device holds of them

@@ -15,6 +15,7 @@ pub record StaysFitted (given : Given) (passed : ℕ) (n : Device) : Type 0 wher
   pub room : n.left_room ≡ given.fitted.left_room
   pub queue_room : n.queue_room ≡ given.fitted.queue_room
   pub lent : n.lent ≡ given.fitted.lent
+  pub whole : n.whole ≡ given.fitted.whole
 
 pub StaysFitted-framed : (given : Given) (passed : ℕ) (old new : Device) → IsFramed old new → StaysFitted given passed old → StaysFitted given passed new
 StaysFitted-framed given passed old new f h = record {
@@ -24,6 +25,7 @@ StaysFitted-framed given passed old new f h = record {
   room = f.left_room ∙ h.room;
   queue_room = f.queue_room ∙ h.queue_room;
   lent = f.lent ∙ h.lent;
+  whole = f.whole ∙ h.whole;
 }
 
 pub StaysFitted-step : {M : Type 0} (K : KindOf M) (o : Origin) (given : Given) (w x : World M) → TakesStep K o w x → StaysFitted given w.passed w.device → StaysFitted given x.passed x.device
@@ -44,6 +46,7 @@ keeps_by {M = M} K o given w x next step h true cut =
       room = ap (λ (n : Device). n.left_room) device ∙ here.room;
       queue_room = ap (λ (n : Device). n.queue_room) device ∙ here.queue_room;
       lent = ap (λ (n : Device). n.lent) device ∙ here.lent;
+      whole = ap (λ (n : Device). n.whole) device ∙ here.whole;
     }
 keeps_by {M = M} K o given w x next step h false is =
     subst (λ (y : World M). StaysFitted given y.passed y.device) (sym is) (StaysFitted-step K o given w x step h)
@@ -57,6 +60,7 @@ StaysFitted-ran {M = M} K o given zero w first = record {
   room = ap (λ (n : Device). n.left_room) first.device;
   queue_room = ap (λ (n : Device). n.queue_room) first.device;
   lent = ap (λ (n : Device). n.lent) first.device;
+  whole = ap (λ (n : Device). n.whole) first.device;
 }
 StaysFitted-ran {M = M} K o given (suc k) w (before, ran, cycle) =
     keeps_by K o given before cycle.between w cycle.steps (StaysFitted-ran K o given k before ran) (is_due K o given.config.cuts cycle.between) cycle.cut

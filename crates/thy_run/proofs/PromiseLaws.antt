@@ -87,6 +87,7 @@ leaves_room given passed events n stays few left cuts = record {
   room = stays.room;
   queue_room = stays.queue_room;
   lent = stays.lent;
+  whole = stays.whole;
 }
 
 module _ {M : Type 0} (K : KindOf M) (o : Origin) (given : Given) (w : World M) (least : 1 ≤ o.geometry.epoch) (g : Good K o given.config.cuts w) (keeps : StaysFitted given w.passed w.device)

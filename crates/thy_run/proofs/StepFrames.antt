@@ -9,11 +9,11 @@ use Rattle.thy_view.specs.Origin.{Origin}
 use Rattle.thy_run.specs.World.{World, TakesStep}
 
 framed_after : (a : Action) (n : Device) → IsFramed n (after a n)
-framed_after Rest n = record { blocks = refl; left = refl; picks = refl; queue_room = refl; left_room = refl; fits = refl; lent = refl }
-framed_after (ReadAt place) n = record { blocks = refl; left = refl; picks = refl; queue_room = refl; left_room = refl; fits = refl; lent = refl }
-framed_after (WriteAt place block) n = record { blocks = length-written_to n place block; left = refl; picks = refl; queue_room = refl; left_room = refl; fits = refl; lent = refl }
-framed_after Barrier n = record { blocks = length-settled n; left = refl; picks = refl; queue_room = refl; left_room = refl; fits = refl; lent = refl }
-framed_after Drain n = record { blocks = length-drained n; left = refl; picks = refl; queue_room = refl; left_room = refl; fits = refl; lent = refl }
+framed_after Rest n = record { blocks = refl; left = refl; picks = refl; queue_room = refl; left_room = refl; fits = refl; lent = refl; whole = refl }
+framed_after (ReadAt place) n = record { blocks = refl; left = refl; picks = refl; queue_room = refl; left_room = refl; fits = refl; lent = refl; whole = refl }
+framed_after (WriteAt place block) n = record { blocks = length-written_to n place block; left = refl; picks = refl; queue_room = refl; left_room = refl; fits = refl; lent = refl; whole = refl }
+framed_after Barrier n = record { blocks = length-settled n; left = refl; picks = refl; queue_room = refl; left_room = refl; fits = refl; lent = refl; whole = refl }
+framed_after Drain n = record { blocks = length-drained n; left = refl; picks = refl; queue_room = refl; left_room = refl; fits = refl; lent = refl; whole = refl }
 
 IsFramed-acts : (migrates : Bool) (did : Did) (n new : Device) → ActsBy migrates did n new → IsFramed n new
 IsFramed-acts migrates did n new a = subst (IsFramed n) (sym a.left) (framed_after a.action n)

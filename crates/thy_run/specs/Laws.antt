@@ -62,8 +62,8 @@ abbrev pub torn : List ℕ → ℕ → List ℕ
 torn tears zero = []
 torn tears (suc k) = torn tears k ++ tear tears k ∷ []
 
--- The device that a run leaves has as many blocks and as much room in its queue as after its fit, and is reached by
--- the same loans. It has kept an image for each cut, at most as many as are listed, and has the room for images that
+-- The device that a run leaves has as many blocks and as much room in its queue as after its fit, its blocks land whole if
+-- they did so then, and it is reached by the same loans. It has kept an image for each cut, at most as many as are listed, and has the room for images that
 -- it was fitted with.
 pub record LeavesRoom (given : Given) (events : List Event) (n : Device) : Type 0 where
   pub blocks : length n.image ≡ length given.fitted.image
@@ -72,6 +72,7 @@ pub record LeavesRoom (given : Given) (events : List Event) (n : Device) : Type 
   pub room : n.left_room ≡ given.fitted.left_room
   pub queue_room : n.queue_room ≡ given.fitted.queue_room
   pub lent : n.lent ≡ given.fitted.lent
+  pub whole : n.whole ≡ given.fitted.whole
 
 -- What is promised of a run. Its events are lawful. Each cut left one image, and the restarts are what these images
 -- mean. Its cuts and their picks are the listed ones. The device was not fitted again, has room for one more cut, and

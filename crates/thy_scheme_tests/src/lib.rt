@@ -7,6 +7,8 @@
 #![tactic(auto)]
 
 #[cfg(test)]
+mod chosen;
+#[cfg(test)]
 mod console;
 #[cfg(test)]
 mod cuts;
@@ -26,3 +28,5 @@ mod second_cuts;
 mod shadow;
 #[cfg(test)]
 mod support;
+#[cfg(test)]
+mod torn;

@@ -9,6 +9,7 @@ use Rattle.std.proofs.lemmas.Slice.Eq.{bytes_eq-Decides}
 use Rattle.thy_base.specs.declared.block.Block.{Block}
 use Rattle.thy_base.specs.declared.nvm.Write.{Write}
 use Rattle.thy_base.specs.Device.{Device, Crash, zero_block, block_at, queued_for, possible}
+use Rattle.thy_base.proofs.CrashLemmas.{Crash-of_blocks, Crash-whole}
 use Rattle.thy_sweep.specs.Images.{is_same_block, distinct, choices_at, images_from, count_from, AreDistinct, ListCrashes, ListEachOnce, CountImages}
 
 -- ---- what a list has
@@ -241,25 +242,23 @@ in_images x (b ∷ bs) queue (c ∷ g) is =
 -- ---- a cut
 
 Crash-chooses : (n : Device) (g : List Block) → Chooses 0 n.image n.queue g → Crash n g
-Crash-chooses n g is = record {
-  same_length = is.same_length;
-  each = λ x. elim (cases_lt x (length n.image)) as (λ _. Contains (possible n x) (block_at g x)) [
-    | inl l ↦ let e : 0 + x ≡ x = omega arith in subst (λ (z : ℕ). Contains (block_at n.image x ∷ queued_for n.queue z) (block_at g x)) e (is.each x l)
-    | inr l ↦
-        let past : length g ≤ x = omega (arith, l, is.same_length) in
-        let same : block_at n.image x ≡ block_at g x = get_or_past n.image x zero_block l ∙ sym (get_or_past g x zero_block past) in
-        subst (Contains (possible n x)) same (in_here (block_at n.image x) (queued_for n.queue x))
-  ];
-}
+Crash-chooses n g is = Crash-of_blocks n g is.same_length
+    (λ x. elim (cases_lt x (length n.image)) as (λ _. Contains (possible n x) (block_at g x)) [
+      | inl l ↦ let e : 0 + x ≡ x = omega arith in subst (λ (z : ℕ). Contains (block_at n.image x ∷ queued_for n.queue z) (block_at g x)) e (is.each x l)
+      | inr l ↦
+          let past : length g ≤ x = omega (arith, l, is.same_length) in
+          let same : block_at n.image x ≡ block_at g x = get_or_past n.image x zero_block l ∙ sym (get_or_past g x zero_block past) in
+          subst (Contains (possible n x)) same (in_here (block_at n.image x) (queued_for n.queue x))
+    ])
 
-chooses-Crash : (n : Device) (g : List Block) → Crash n g → Chooses 0 n.image n.queue g
-chooses-Crash n g is = record {
+chooses-Crash : (n : Device) (g : List Block) → n.whole ≡ true → Crash n g → Chooses 0 n.image n.queue g
+chooses-Crash n g whole is = record {
   same_length = is.same_length;
-  each = λ y l. let e : y ≡ 0 + y = omega arith in subst (λ (z : ℕ). Contains (block_at n.image y ∷ queued_for n.queue z) (block_at g y)) e (is.each y);
+  each = λ y l. let e : y ≡ 0 + y = omega arith in subst (λ (z : ℕ). Contains (block_at n.image y ∷ queued_for n.queue z) (block_at g y)) e (Crash-whole n g whole is y);
 }
 
 pub lists_crashes : ListCrashes
-lists_crashes n g = (λ h. Crash-chooses n g (from_images 0 n.image n.queue g h), λ is. in_images 0 n.image n.queue g (chooses-Crash n g is))
+lists_crashes n g = (λ h. Crash-chooses n g (from_images 0 n.image n.queue g h), λ whole is. in_images 0 n.image n.queue g (chooses-Crash n g whole is))
 
 images-distinct : (x : ℕ) (blocks : List Block) (queue : List Write) → AreDistinct (images_from x blocks queue)
 images-distinct x [] queue = (λ h. not_in_nil [] h, tt)

@@ -1,5 +1,5 @@
--- Every image that a power cut can leave of a device, each once.
-use Rattle.std.specs.Prelude.{◌≡◌, ◌↔◌, ℕ, ◌+◌, ◌*◌, Bool, not, List, [], ◌∷◌, length, map, Contains}
+-- Every image that a power cut can leave of a device whose blocks land whole, each once.
+use Rattle.std.specs.Prelude.{◌≡◌, ℕ, ◌+◌, ◌*◌, Bool, true, not, List, [], ◌∷◌, length, map, Contains}
 use Rattle.std.specs.List.{filter, flat_map}
 use Rattle.std.specs.Str.{bytes_eq}
 use Rattle.thy_base.specs.declared.block.Block.{Block}
@@ -29,7 +29,7 @@ abbrev pub count_from : ℕ → List Block → List Write → ℕ
 count_from x [] queue = 1
 count_from x (b ∷ bs) queue = length (choices_at x b queue) * count_from (x + 1) bs queue
 
--- the images that a cut can leave of a device
+-- the images that a cut can leave of a device whose blocks land whole
 abbrev pub cut_images : Device → List (List Block)
 cut_images n = images_from 0 n.image n.queue
 
@@ -38,9 +38,10 @@ abbrev pub AreDistinct : {X : Type 0} → List X → Type 0
 AreDistinct [] = Unit {0}
 AreDistinct (x ∷ xs) = (Contains xs x → ⊥) × AreDistinct xs
 
--- an image is listed exactly if a cut can leave it
+-- a cut can leave each image that is listed; of a device whose blocks land whole it leaves no other
 abbrev pub ListCrashes : Type 0
-ListCrashes = (n : Device) (g : List Block) → Contains (cut_images n) g ↔ Crash n g
+ListCrashes = (n : Device) (g : List Block) → (Contains (cut_images n) g → Crash n g)
+    × (n.whole ≡ true → Crash n g → Contains (cut_images n) g)
 
 -- no image is listed twice
 abbrev pub ListEachOnce : Type 0

@@ -58,6 +58,45 @@ fn a_copy_holds_what_a_pick_leaves(rt: HostRuntime) {
     expect(&rt, other.read(2).expect(&rt, "a read"), Block::ZERO);
 }
 
+/// A block of which each word has one of these bytes eight times.
+fn block_of_words(bytes: &[u8; 8]) -> Block {
+    let mut block = Block::ZERO;
+    for word in 0..8usize {
+        block.put(8 * word, &[bytes[word]; 8]);
+    }
+    block
+}
+
+// The first draws of the seed 7 are, modulo the three blocks of place 0: 2, 2, 0, 2, 1, 2, 1, 0. The next eight are, modulo the
+// two of place 2: 1, 0, 1, 1, 0, 0, 1, 0.
+#[test]
+fn a_pick_tears_blocks_word_by_word(rt: HostRuntime) {
+    let shape = Shape {
+        blocks: 3,
+        queue: 4,
+        cuts: 0,
+    };
+    let mut nvm = MemNvm::tearing(rt.alloc());
+    let start = Vec::from_slice(rt.alloc(), &[Block([1; 64])]).expect(&rt, "memory");
+    nvm.fit(rt.alloc(), &shape, start).expect(&rt, "memory");
+    expect(&rt, nvm.lands_whole(), false);
+    nvm.write(2, &Block([5; 64])).expect(&rt, "a write");
+    nvm.write(0, &Block([2; 64])).expect(&rt, "a write");
+    nvm.write(0, &Block([3; 64])).expect(&rt, "a write");
+    nvm.cut(7);
+    expect(
+        &rt,
+        nvm.kept(0, 0),
+        block_of_words(&[3, 3, 1, 3, 2, 3, 2, 1]),
+    );
+    expect(&rt, nvm.kept(0, 1), Block::ZERO);
+    expect(
+        &rt,
+        nvm.kept(0, 2),
+        block_of_words(&[5, 0, 5, 5, 0, 0, 5, 0]),
+    );
+}
+
 /// Writes a block of ones at place 0 of any device, and lets it land.
 fn write_first<N: Nvm>(rt: &impl Abort, nvm: &mut N)
     requires some { 0 < length (N.device nvm.old).image }

@@ -54,6 +54,10 @@ impl<N: Nvm> Nvm for Counted<N> {
         self.inner.queued()
     }
 
+    fn lands_whole(&self) -> bool {
+        self.inner.lands_whole()
+    }
+
     fn writes(&self) -> u64 {
         self.inner.writes()
     }

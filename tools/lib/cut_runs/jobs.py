@@ -4,7 +4,7 @@ import hashlib
 from dataclasses import dataclass, field
 from typing import Optional
 
-from lib import program, report
+from lib import program, report, torn
 from lib.options import Refused
 
 # The options of `run` that change what the plain machine does, too.
@@ -69,7 +69,8 @@ def at_its_end(answer, what):
 
 @dataclass
 class Job:
-    """What is done: the program to call, `run` or `resume`, the file or image, the options, and the cuts that each run has."""
+    """What is done: the program to call, `run` or `resume`, the file or image, the options, and the cuts that each run has. If
+    cuts are to tear blocks, `observer` is the program to call for the runs."""
 
     called: str
     verb: str
@@ -77,13 +78,19 @@ class Job:
     pairs: dict
     base: list = field(default_factory=list)
     until_restart: bool = False
+    observer: Optional[str] = None
     start: Optional[list] = None  # of an image: epoch and count of its checkpoint
 
-    def command(self, limit=LONGEST, cuts=(), tears=(), more=("--digest",)):
-        """The words of a run."""
-        words = [self.called, self.verb, self.file, *more, *flat(self.pairs), "--limit", str(limit)]
+    def words(self, limit=LONGEST, cuts=(), tears=(), more=("--digest",)):
+        """The words of a run, from its command on."""
+        words = [self.verb, self.file, *more, *flat(self.pairs), "--limit", str(limit)]
         words += ["--cuts", listed(cuts)] if cuts else []
         return [*words, "--tears", listed(tears)] if tears else words
+
+    def command(self, *which, **more):
+        """The call of a run."""
+        first = torn.observing(self.observer) if self.observer else [self.called]
+        return [*first, *self.words(*which, **more)]
 
     def plain(self, *more):
         """The words of a call of the plain machine."""

@@ -13,15 +13,20 @@ from lib.options import Refused
 from lib.repository import OBSERVER, SCRIPT, SMALLEST
 
 
+def build_observer():
+    """Has the program observe of this repository built, so that it is seen how far the build is."""
+    if not os.path.exists(OBSERVER):
+        subprocess.run([SCRIPT, "observe", os.devnull, "plain", SMALLEST], stdin=subprocess.DEVNULL)
+
+
 def observation(calls, job, observer):
     """What `observe` says of the run without the cuts that are tried."""
     command = [observer] if observer else [SCRIPT, "observe"]
-    if not observer and not os.path.exists(OBSERVER):
-        # So that it is seen how far the build is.
-        subprocess.run([*command, os.devnull, "plain", SMALLEST], stdin=subprocess.DEVNULL)
+    if not observer:
+        build_observer()
     with tempfile.TemporaryDirectory() as folder:
         out = os.path.join(folder, "out")
-        answer = calls.run([*command, out, *job.command(cuts=job.base, more=())[1:]])
+        answer = calls.run([*command, out, *job.words(cuts=job.base, more=())])
         if answer.status not in (0, 1) or not os.path.exists(out):
             raise Refused(f"`observe` does not come to the program's end: {answer.said()}")
         lines = options.lines_of(out, "what `observe` has written")

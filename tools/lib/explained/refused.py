@@ -20,6 +20,8 @@ def help_with_usage(call):
             return "make has no run to observe"
         if call.command == "compare":
             return "compare has three runs: observe run, once with each --scheme"
+        if call.torn and call.number("gap") > 0:
+            return "with --torn no line may wander: --gap has to be 0"
         if call.out in (*call.read(), call.written()):
             return f"OUT is to be another name than {call.out}, which the call reads or writes itself"
     return f"{fault}; ./thynvm --help says what there is" if fault else "./thynvm --help says what there is"

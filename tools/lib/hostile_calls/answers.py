@@ -4,8 +4,9 @@ import hashlib
 import os
 from collections import Counter
 from dataclasses import dataclass, field
+from typing import Optional
 
-from lib import calls, report
+from lib import calls, report, torn
 from lib.calls import wants
 from lib.guest import made_file
 from lib.hostile_calls.rules import RESUMED, RUN, Checkpoint, Due, closings, image_refusal, read_image, settings, test_file
@@ -301,6 +302,7 @@ class Caller:
     program: str
     folder: str
     seconds: float
+    observer: Optional[str] = None  # what is called over an NVM that tears, if it is to tear
     calls: list = field(default_factory=list)
     answers: Counter = field(default_factory=Counter)
 
@@ -311,7 +313,8 @@ class Caller:
 
     def command(self, words, printed=None, errors=None):
         """The answer of a call, which is not to end by a signal or to take too long."""
-        status, *outputs, _ = calls.call([self.program, *words], self.folder, self.seconds, printed, errors)
+        call = torn.command(self.program, self.observer, words)
+        status, *outputs, _ = calls.call(call, self.folder, self.seconds, printed, errors)
         fault = calls.fault_of(status, self.seconds)
         wants(not fault, fault)
         return Answer(status, *outputs)

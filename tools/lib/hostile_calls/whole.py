@@ -8,7 +8,7 @@ import tempfile
 from collections import Counter
 from concurrent.futures import ProcessPoolExecutor
 
-from lib import calls
+from lib import calls, torn
 from lib.calls import MOST_WAITING, Wrong, wants
 from lib.drawing import Draw
 from lib.hostile_calls import cases, images
@@ -105,7 +105,7 @@ def allocs_case(caller, text):
 def one_case(options, folder, kind, number):
     """The answers of a case, and what is wrong."""
     calls.empty(folder)
-    caller = Caller(options.program, folder, options.seconds)
+    caller = Caller(options.program, folder, options.seconds, options.observer)
     try:
         if kind == "allocs":
             allocs_case(caller, ALLOCATING[number])
@@ -116,7 +116,9 @@ def one_case(options, folder, kind, number):
         fault = f"{kind} {number}: {wrong} (thynvm {last})"
         if options.keep:
             place = os.path.join(options.keep, f"{kind}-{options.seed}-{number}")
-            commands = [f"{shlex.join([caller.program, *words])} {full}" for words, full in caller.calls]
+            commands = [
+                f"{shlex.join(torn.command(caller.program, caller.observer, words))} {full}" for words, full in caller.calls
+            ]
             fault += f"; kept in {calls.kept(place, folder, fault, commands)}"
         return caller.answers, fault
     return caller.answers, ""

@@ -30,8 +30,8 @@ SECTION = "## The order of reading"
 MARK = "-- Part of the claim.\n"
 
 # What a machine keeps to itself: the claim says no more of it than that a run is at such moments. So the walk doesn't follow
-# this field of its record.
-OPAQUE = {"is_at"}
+# this field of its record. Nor is what a boot holds to be whole: in the claim `whole` is a field of a device.
+OPAQUE = {"is_at", "whole"}
 
 # A name that is no field, a field, and the first line of a definition.
 NAME = re.compile(r"(?<![\w'.])[A-Za-z_][\w']*")

@@ -1,14 +1,14 @@
 """Completion in bash and zsh, made from the table of the program's options and from the help page."""
 
 from lib import program
-from lib.call import COUNTED, PCS
+from lib.call import OBSERVED_RUNS, PCS, TORN
 from lib.packaging import pages
 
 # The first words that the script has beside the commands.
 FIRST = ("build", "observe", "--quiet", "--version", "--help")
 
 # The commands that `observe OUT` takes.
-OBSERVED = ("run", "resume", "bench", "plain")
+OBSERVED = (*OBSERVED_RUNS, "plain")
 
 # The operands that are no files.
 NUMBERS = ("N",)
@@ -77,8 +77,14 @@ _thynvm() {
     fi
     if [[ ${words[at]} == observe ]]; then
         [[ ${#words[@]} != $((at + 1)) ]] || { _thynvm_files; return; }
-        at=$((at + 2)) before='@PCS@ @OBSERVED@'
-        [[ ${words[at]} != @PCS@ ]] || at=$((at + 1)) before='@COUNTED@'
+        at=$((at + 2)) before='@PCS@ @TORN@ @OBSERVED@'
+        if [[ ${words[at]} == @PCS@ ]]; then
+            at=$((at + 1)) before='@TORN@ @RUNS@'
+            [[ ${words[at]} != @TORN@ ]] || at=$((at + 1)) before='@RUNS@'
+        elif [[ ${words[at]} == @TORN@ ]]; then
+            at=$((at + 1)) before='@PCS@ @RUNS@'
+            [[ ${words[at]} != @PCS@ ]] || at=$((at + 1)) before='@RUNS@'
+        fi
     fi
     [[ ${#words[@]} -gt $at ]] || { _thynvm_choose "$before"; return; }
     command=${words[at]}
@@ -131,7 +137,8 @@ def bash():
         "COMMANDS": " ".join(program.OPERANDS),
         "OBSERVED": " ".join(OBSERVED),
         "PCS": PCS,
-        "COUNTED": " ".join(COUNTED),
+        "TORN": TORN,
+        "RUNS": " ".join(OBSERVED_RUNS),
         "NUMBERS": " | ".join(NUMBERS),
         "OPTIONS": options,
     }
@@ -143,22 +150,27 @@ ZSH = r"""#compdef thynvm
 
 _thynvm() {
     local at=2
-    local -a first commands observed counted
+    local -a first commands observed runs asked
     first=(
 @FIRST@    )
     commands=(
 @COMMANDS@    )
     observed=(
 @OBSERVED@    )
-    counted=(
-@COUNTED@    )
+    runs=(
+@RUNS@    )
     if ((CURRENT > 2)) && [[ $words[2] == --quiet ]]; then
         at=3 first=("${(@M)first:#observe:*}")
     fi
     if ((CURRENT > at)) && [[ $words[at] == observe ]]; then
         ((CURRENT == at + 1)) && { _files; return }
-        at=$((at + 2)) first=('@PCS@:says how often each program counter retired') commands=("${(@)observed}")
-        ((CURRENT > at)) && [[ $words[at] == @PCS@ ]] && at=$((at + 1)) first=() commands=("${(@)counted}")
+        at=$((at + 2)) first=() commands=("${(@)observed}")
+        asked=('@PCS@:says how often each program counter retired' '@TORN@:lets a cut tear blocks')
+        while ((CURRENT > at && $#asked)) && [[ $words[at] == (@PCS@|@TORN@) && -n ${(M)asked:#$words[at]:*} ]]; do
+            asked=("${(@)asked:#$words[at]:*}") commands=("${(@)runs}")
+            ((at += 1))
+        done
+        first=("${(@)asked}")
     fi
     if ((CURRENT == at)); then
         first+=("${(@)commands}")
@@ -209,8 +221,9 @@ def zsh(page):
         "FIRST": described(FIRST, said),
         "COMMANDS": described(program.OPERANDS, said),
         "OBSERVED": described(OBSERVED, said),
-        "COUNTED": described(COUNTED, said),
+        "RUNS": described(OBSERVED_RUNS, said),
         "PCS": PCS,
+        "TORN": TORN,
         "OPTIONS": options,
     }
     return filled_in(ZSH, parts)

@@ -6,7 +6,7 @@ from collections import Counter
 from dataclasses import dataclass, field
 from typing import Optional
 
-from lib import calls, report
+from lib import calls, report, torn
 from lib.calls import wants
 from lib.random_runs.drawn import DEFAULTS, said
 
@@ -31,6 +31,7 @@ class Caller:
     program: str
     folder: str
     seconds: float
+    observer: Optional[str] = None  # what is called over an NVM that tears, if it is to tear
     unsaid: tuple = ()  # options that are left out if they have their default
     calls: list = field(default_factory=list)
     sums: Counter = field(default_factory=Counter)
@@ -43,11 +44,15 @@ class Caller:
         with open(os.path.join(self.folder, name), "rb") as file:
             return file.read()
 
+    def command(self, words):
+        """The call with these words."""
+        return torn.command(self.program, self.observer, words)
+
     def call(self, *words):
         """The answer of a call."""
         words = [str(word) for word in said(words, self.unsaid)]
         self.calls.append((words, None))
-        status, printed, told, used = calls.call([self.program, *words], self.folder, self.seconds)
+        status, printed, told, used = calls.call(self.command(words), self.folder, self.seconds)
         self.sums["microseconds"] += int(1e6 * used)
         self.calls[-1] = words, status
         fault = calls.fault_of(status, self.seconds)

@@ -22,7 +22,7 @@ from lib.random_runs.reports import Caller
 def one_case(options, folder, number):
     """The sums of a case, and what is wrong."""
     calls.empty(folder)
-    caller = Caller(options.program, folder, options.seconds)
+    caller = Caller(options.program, folder, options.seconds, options.observer)
     fault = ""
     try:
         Case(Draw(f"{options.seed} {number}"), caller, options).run()
@@ -31,7 +31,7 @@ def one_case(options, folder, number):
         fault = f"case {number}: {wrong} (thynvm {shlex.join(words)}: status {status}) {repeating(options, number)}"
         if options.keep:
             place = os.path.join(options.keep, f"{options.seed}-{number}")
-            commands = [shlex.join([caller.program, *words]) for words, _ in caller.calls]
+            commands = [shlex.join(caller.command(words)) for words, _ in caller.calls]
             fault += f"; kept in {calls.kept(place, folder, fault, commands)}"
     if options.case is not None:
         for words, status in caller.calls:
@@ -43,6 +43,7 @@ def one_case(options, folder, number):
 def repeating(options, number):
     """The call of this script that makes a case again."""
     words = ["tools/random", "--seed", str(options.seed), "--case", str(number)]
+    words += ["--torn"] if options.observer else []
     words += ["--harts", str(options.harts)] if options.harts else []
     return shlex.join(words + (["--scheme", options.scheme] if options.scheme else []))
 
@@ -142,6 +143,7 @@ def every_cut(options, words):
         last = cycles_to_the_end(options.program, options.cuts, more)
         print(f"{scheme}: a cut after each of {last} cycles but the last", flush=True)
         call = [repository.path("tools/cuts"), options.cuts, "--from", "1", "--to", str(last - 1), *more]
+        call += ["--torn", "--observe", options.observer] if options.observer else []
         done = subprocess.run([*call, "--thynvm", options.program, "--jobs", str(options.jobs)])
         status = max(status, done.returncode)
     return status

@@ -41,6 +41,17 @@ fn lines_move_one_after_another(rt: HostRuntime) {
     expect(&rt, gap.writes(), 15);
 }
 
+// A move can change two words of the registers' block, which a cut may tear there.
+#[test]
+fn over_a_device_that_tears_no_line_moves(rt: HostRuntime) {
+    let mut gap = four_lines(&rt, rt.alloc(), MemNvm::tearing(rt.alloc()));
+    step(&mut gap, 0).expect(&rt, "a step");
+    step(&mut gap, 1).expect(&rt, "a step");
+    expect_places(&rt, &gap, [0, 1, 2, 3]);
+    expect(&rt, gap.registers(), Registers::unmoved(4));
+    expect(&rt, gap.writes(), 2);
+}
+
 /// The last call of the first step, a barrier, fails with the registers queued. A cut that drops them leaves a move that is
 /// due; one that lets them land completes the move, and the next barrier moves nothing. Either way one line has moved then.
 #[test]

@@ -9,7 +9,7 @@ pub invariant_of-result : goal.invariant_of-result
 invariant_of-result g c =
     let p : Parameters = c.geometry_of-geometry.result in
     let shape : Shape = record { blocks = c.nvm_blocks.result; queue = c.numbers.result.nvmq; cuts = c.args.cuts } in
-    let before : Device = c.new-nvm.result.device in
+    let before : Device = c.new_nvm-nvm.result.device in
     let n : Device = c.fit.new.self.device in
     IsPowered-first g.M.Computer.kind g.met.M.Computer.lawful p c.start_for-start.result c.expect-machine.result shape before n
     c.start_for-start.ensures.origin (ap (λ (q : Parameters). q.harts) c.geometry_of-geometry.ensures ∙ c.numbers_of.ensures.harts)

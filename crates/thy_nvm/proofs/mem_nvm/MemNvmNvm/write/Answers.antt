@@ -1,6 +1,6 @@
 use Rattle.std.proofs.Common.{ap}
 use Rattle.thy_base.specs.Device.{written_to}
-use Rattle.thy_base.proofs.DeviceLemmas.{no_more_but-written_to}
+use Rattle.thy_base.proofs.DeviceLemmas.{no_more-written_to}
 use Rattle.thy_nvm.specs.DeviceInMemory.{InMemory, written}
 use Rattle.thy_nvm.proofs.CallLemmas.{HasFailedToWrite-left}
 use Rattle.thy_nvm.proofs.mem_nvm.MemNvmNvm.write.Goals as goal
@@ -8,4 +8,4 @@ use Rattle.thy_nvm.proofs.mem_nvm.MemNvmNvm.write.Goals as goal
 pub returns-clause-err : goal.returns-clause-err
 returns-clause-err c =
     HasFailedToWrite-left c.args.at c.args.block.now (written c.args.at c.args.block.now) (λ n. written_to n c.args.at c.args.block.now) _ _ _ _ _
-    (ap (λ (m : InMemory). m.device) c.self.view_is) (λ n. no_more_but-written_to n c.args.at c.args.block.now) c.write_unless.ensures.fails c.write_unless.ensures.leaves
+    (ap (λ (m : InMemory). m.device) c.self.view_is) (λ n. no_more-written_to n c.args.at c.args.block.now) c.write_unless.ensures.fails c.write_unless.ensures.leaves

@@ -24,4 +24,4 @@ returns c =
     let e : over_below c.settle.new.self s.marks.items s.below.now ≡ as_device settled (over_below s.ring s.marks.items s.below.now)
     = ap (λ r. over_below r s.marks.items s.below.now) c.settle.ensures
     ∙ over-settled s.ring s.marks.items s.below.now c.self.invariant.blocks c.self.invariant.marked in
-    ap (λ r. overlaid (device_in r s.kept s.down s.faults s.faults) s.writes) e ∙ ap (on_overlay settled) c.self.view_is
+    ap (λ r. overlaid (device_in r s.kept s.down s.faults s.faults s.whole) s.writes) e ∙ ap (on_overlay settled) c.self.view_is

@@ -2,7 +2,7 @@ use Rattle.std.proofs.Common.{◌≡◌, false, length, replicate, sym, ◌∙�
 use Rattle.std.proofs.lemmas.List.{with_items_is}
 use Rattle.std.specs.Vec.{with_items}
 use Rattle.thy_base.specs.declared.nvm.Shape.{Shape}
-use Rattle.thy_ring.specs.Held.{Held, device_of, held_by}
+use Rattle.thy_ring.specs.Held.{Held, held_by}
 use Rattle.thy_ring.specs.Merged.{merged, AreMarked}
 use Rattle.thy_ring.proofs.MergedLemmas.{merged-none}
 use Rattle.thy_nvm.specs.Kept.{Cuts, no_cuts}
@@ -10,14 +10,12 @@ use Rattle.thy_nvm.specs.DeviceInMemory.{device_in}
 use Rattle.thy_nvm.specs.Overlaid.{overlaid, over_below}
 use Rattle.thy_nvm.specs.Pick.{left_by}
 use Rattle.thy_nvm.proofs.OverLemmas.{same_held, over-left}
-use Rattle.thy_nvm.proofs.PickLemmas.{Crash-picked}
 use Rattle.thy_nvm.proofs.overlay.Overlay.of.Goals as goal
 
 pub invariant_of-result : goal.invariant_of-result
 invariant_of-result c =
     let marks = c.spare.inside.marks in
     let ms = c.queue_as.new.marks in
-    let q : Held = c.queue_as.new.ring in
     let filled : length c.fill.new.self.items ≡ length marks.items = omega (arith, c.fill.ensures.len, c.fill.new.self.ok.0, marks.ok.0) in
     let long : length ms ≡ length marks.items = c.queue_as.ensures.marks ∙ ap length c.deref_mut.ensures.value ∙ filled in
     let back : (with_items c.fill.new.self ms).items ≡ ms
@@ -27,11 +25,10 @@ invariant_of-result c =
     ∙ sym (ap (λ (p : Shape). p.blocks) c.spare.view_is) in
     record {
       blocks =
-          ap (λ (h : Held). length h.image) c.leave.ensures ∙ (Crash-picked c.args.pick (device_of q)).same_length
-          ∙ c.queue_as.ensures.blocks ∙ ap length (sym back);
+          c.leave.ensures.left.same_length ∙ c.queue_as.ensures.blocks ∙ ap length (sym back);
       as_many = below ∙ sym long ∙ ap length (sym back);
       kept = ap (λ (k : Cuts). k.size) c.clear.ensures ∙ c.spare.invariant.kept ∙ sym long ∙ ap length (sym back);
-      marked = subst (AreMarked (with_items c.fill.new.self ms).items) (sym (ap (λ (h : Held). h.queue) c.leave.ensures)) tt;
+      marked = subst (AreMarked (with_items c.fill.new.self ms).items) (sym (ap (λ (h : Held). h.queue) c.leave.ensures.ring)) tt;
     }
 
 pub returns : goal.returns
@@ -61,11 +58,13 @@ returns c =
     ∙ c.image-below.ensures in
     let same : over_below q ms below ≡ held_by device
     = same_held (over_below q ms below) held image c.queue_as.ensures.queue c.queue_as.ensures.room ∙ c.ring-held.ensures in
-    let leaves : over_below c.leave.new.ring (with_items c.fill.new.self ms).items below ≡ left_by pick (held_by device)
+    let leaves : over_below c.leave.new.ring (with_items c.fill.new.self ms).items below ≡ left_by device.whole pick (held_by device)
     = ap (λ m. over_below c.leave.new.ring m below) back
-    ∙ ap (λ h. over_below h ms below) c.leave.ensures
-    ∙ over-left pick q ms below c.queue_as.ensures.blocks c.queue_as.ensures.marked
-    ∙ ap (left_by pick) same in
-    ap (λ h. overlaid (device_in h c.clear.new.self false 0 0) 0) leaves
-    ∙ ap (λ k. overlaid (device_in (left_by pick (held_by device)) k false 0 0) 0) c.clear.ensures
-    ∙ ap (λ (p : Shape). overlaid (device_in (left_by pick (held_by device)) (no_cuts s.kept.size p.cuts) false 0 0) 0) c.spare.view_is
+    ∙ ap (λ h. over_below h ms below) c.leave.ensures.ring
+    ∙ over-left c.lands_whole-whole.result pick q ms below c.queue_as.ensures.blocks c.queue_as.ensures.marked
+    ∙ ap (λ h. left_by c.lands_whole-whole.result pick h) same
+    ∙ ap (λ w. left_by w pick (held_by device)) c.lands_whole-whole.ensures in
+    ap (λ h. overlaid (device_in h c.clear.new.self false 0 0 c.lands_whole-whole.result) 0) leaves
+    ∙ ap (λ w. overlaid (device_in (left_by device.whole pick (held_by device)) c.clear.new.self false 0 0 w) 0) c.lands_whole-whole.ensures
+    ∙ ap (λ k. overlaid (device_in (left_by device.whole pick (held_by device)) k false 0 0 device.whole) 0) c.clear.ensures
+    ∙ ap (λ (p : Shape). overlaid (device_in (left_by device.whole pick (held_by device)) (no_cuts s.kept.size p.cuts) false 0 0 device.whole) 0) c.spare.view_is

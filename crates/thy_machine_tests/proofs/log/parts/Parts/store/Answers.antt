@@ -7,4 +7,4 @@ pub invariant_of-self : goal.invariant_of-self
 invariant_of-self g c =
     AreParts-on c.self.inside.geometry c.self.inside.log c.store.new.self c.self.inside.engine c.self.inside.nvm.device c.self.inside.nvm.device c.self.inside.cuts
     c.self.invariant (ap (λ (s : State). s.p) c.store.ensures ∙ p_stored c.args.b c.args.block.now c.self.inside.log) c.sound.ensures refl
-    (record { blocks = refl; left = refl; picks = refl; queue_room = refl; left_room = refl; fits = refl; lent = refl })
+    (record { blocks = refl; left = refl; picks = refl; queue_room = refl; left_room = refl; fits = refl; lent = refl; whole = refl })

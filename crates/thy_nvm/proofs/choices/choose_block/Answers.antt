@@ -1,0 +1,11 @@
+use Rattle.std.proofs.Common.{◌<◌, ◌+◌, ◌%◌, length, Contains, sym, subst, arith}
+use Rattle.std.proofs.lemmas.List.Elements.{Contains-get_or}
+use Rattle.thy_base.specs.Device.{possible, block_at}
+use Rattle.thy_ring.specs.Held.{device_of}
+use Rattle.thy_nvm.proofs.choices.choose_block.Goals as goal
+
+pub returns : goal.returns
+returns c =
+    let inside : c.next.result % (c.args.count + 1) < length (possible (device_of c.args.ring.now) c.args.at) = omega (arith, c.requires.count) in
+    subst (λ b. Contains (possible (device_of c.args.ring.now) c.args.at) b) (sym c.choice.ensures)
+    (Contains-get_or (possible (device_of c.args.ring.now) c.args.at) (c.next.result % (c.args.count + 1)) (block_at c.args.ring.now.image c.args.at) inside)

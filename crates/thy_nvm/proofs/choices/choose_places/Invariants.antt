@@ -1,0 +1,13 @@
+use Rattle.std.proofs.Common.{◌≡◌, ◌<◌, ◌≤◌, ℕ, length}
+use Rattle.thy_base.specs.Device.{IsMadeOf, possible, block_at}
+use Rattle.thy_ring.specs.Held.{device_of}
+use Rattle.thy_nvm.proofs.choices.choose_places.Given as goal
+
+abbrev pub invariant-loop-x : goal.invariant-loop-x
+invariant-loop-x l = record {
+  size : length l.ring.image ≡ length l.initial.ring.image;
+  queue : l.ring.queue ≡ l.initial.ring.queue;
+  room : l.ring.room ≡ l.initial.ring.room;
+  made : (y : ℕ) → y < l.x → IsMadeOf (possible (device_of l.initial.ring) y) (block_at l.ring.image y);
+  ahead : (y : ℕ) → l.x ≤ y → block_at l.ring.image y ≡ block_at l.initial.ring.image y;
+}

@@ -1,0 +1,6 @@
+use Rattle.thy_base.specs.Device.{IsMadeOf, possible}
+use Rattle.thy_ring.specs.Held.{device_of}
+use Rattle.thy_nvm.proofs.choices.choose_words.Given as goal
+
+abbrev pub invariant-loop-k : goal.invariant-loop-k
+invariant-loop-k l = IsMadeOf (possible (device_of l.fn.ring) l.fn.at) l.chosen

@@ -1,0 +1,32 @@
+use Rattle.std.proofs.Common.{◌≡◌, ℕ, List, [], false, length, sym, ap, subst, ◌∙◌}
+use Rattle.thy_base.specs.declared.nvm.Write.{Write}
+use Rattle.thy_base.specs.Device.{Device, Crash, IsCut, cut_to}
+use Rattle.thy_ring.specs.Held.{Held}
+use Rattle.thy_nvm.specs.Kept.{Cuts, with_cut}
+use Rattle.thy_nvm.specs.DeviceInMemory.{InMemory, device_in}
+use Rattle.thy_nvm.specs.Pick.{landing}
+use Rattle.thy_nvm.proofs.mem_nvm.MemNvm.cut_as_chosen.Goals as goal
+
+pub keep-requires-clause-size : goal.keep-requires-clause-size
+keep-requires-clause-size c = ap length c.image.ensures ∙ c.leave_chosen.ensures.left.same_length ∙ sym c.self.invariant
+
+pub invariant_of-self : goal.invariant_of-self
+invariant_of-self c = ap (λ cuts. cuts.size) c.keep.ensures ∙ c.self.invariant ∙ sym c.leave_chosen.ensures.left.same_length
+
+pub returns-clause-cut : goal.returns-clause-cut
+returns-clause-cut c =
+    let s = c.self.inside in
+    let pick = c.args.pick in
+    let new : Held = c.leave_chosen.new.ring in
+    let n : Device = device_in s.ring s.kept s.down s.faults s.fits s.whole in
+    let same : n ≡ c.args.self.now.device = ap (λ (m : InMemory). m.device) c.self.view_is in
+    let torn : s.whole ≡ false = ap (λ (d : Device). d.whole) same ∙ c.requires.torn in
+    let chosen : Crash (landing s.whole s.ring) new.image
+    = subst (λ w. Crash (landing w s.ring) new.image) (sym torn) c.leave_chosen.ensures.left in
+    let left : Crash n new.image = record { same_length = chosen.same_length; each = chosen.each } in
+    let is : device_in new c.keep.new.self false s.faults s.fits s.whole ≡ cut_to n pick new.image
+    = ap (λ (q : List Write). device_in (record new { queue = q }) c.keep.new.self false s.faults s.fits s.whole) c.leave_chosen.ensures.queue
+    ∙ ap (λ (r : ℕ). device_in (record { image = new.image; queue = []; room = r }) c.keep.new.self false s.faults s.fits s.whole) c.leave_chosen.ensures.room
+    ∙ ap (λ (k : Cuts). device_in (record { image = new.image; queue = []; room = s.ring.room }) k false s.faults s.fits s.whole)
+    (c.keep.ensures ∙ ap (with_cut s.kept pick) c.image.ensures) in
+    subst (λ (d : Device). IsCut pick d (device_in new c.keep.new.self false s.faults s.fits s.whole)) same (record { crash = left; device = is })

@@ -1,0 +1,16 @@
+use Rattle.std.proofs.Common.{◌≡◌, ◌+◌, ◌-◌, ◌*◌, length, take, drop, sym, ap, subst, ◌∙◌, arith}
+use Rattle.thy_base.specs.Blocks.{overwritten}
+use Rattle.thy_base.specs.Device.{IsMadeOf}
+use Rattle.thy_nvm.proofs.PickLemmas.{IsMadeOf-put}
+use Rattle.thy_nvm.proofs.pick.replace_word.Goals as goal
+
+pub returns-clause-word : goal.returns-clause-word
+returns-clause-word c =
+    let eight : 8 * c.args.k + 8 - 8 * c.args.k ≡ 8 = omega arith in
+    c.put.ensures ∙ ap (λ n. overwritten (8 * c.args.k) (take n (drop (8 * c.args.k) c.args.from.now.0)) c.args.block.now) eight
+
+pub returns-clause-made : goal.returns-clause-made
+returns-clause-made c = λ blocks inside made.
+    let long : length c.args.block.now.0 ≡ 64 = omega arith in
+    let long_from : length c.args.from.now.0 ≡ 64 = omega arith in
+    subst (IsMadeOf blocks) (sym (returns-clause-word c)) (IsMadeOf-put c.args.block.now c.args.from.now c.args.k long long_from c.requires blocks inside made)
