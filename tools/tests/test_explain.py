@@ -4,7 +4,8 @@ import os
 
 from lib.guest import LINKED, addi, code_of, elf
 from tests.made_images import BLOCK, Made
-from tests.support import ToolTest
+from tests.support import CopyTest, ToolTest
+from tests.test_profile import program
 
 USAGE = "; ./thynvm --help says what there is"
 
@@ -109,10 +110,6 @@ class Explain(ToolTest):
         self.explains(needs(193), "1", "bench", "7", "--base", "4096", "--pages", "207")
         self.explains("", "1", "bench", "7", "--base", "4096", "--pages", "208")
         self.explains("", "0", "bench", "7", "--pages", "192")
-        # Files of its length, of which one begins as it does: 6007 words behind two headers of 120 bytes.
-        for first, said in ((addi(7, 0, 8), needs(193)), (addi(7, 0, 9), "")):
-            self.file("made", elf(LINKED, [(LINKED, code_of([first] + [0] * 6006), 0)], align=4))
-            self.explains(said, "1", "plain", "made", "--pages", "192")
 
     def test_images(self):
         name = self.file("image", Made(scheme=1).bytes)
@@ -248,20 +245,59 @@ class Explain(ToolTest):
         said = "OUT is to be another name than out, which the call reads or writes itself"
         self.explains(said, "2", "observe", "out", "run", "a", "--save", "out", line="usage")
 
-    def test_traps_that_were_observed(self):
-        for trap, said in (
-            ("trap 10000 4501", "the word 4501 at 10000 is an instruction of the extension C: compile it, and all that is linked to it, with -march=rv64im"),
-            ("trap 10004 100522af", "the word 100522af at 10004 is an instruction of the extension A: compile the program, and all that is linked to it, with -march=rv64im"),
-            ("trap 10004 100522af 5 hart 1", ""),
-            ("trap 10004 53", "the word 53 at 10004 is an instruction of the extension F or D: compile the program, and all that is linked to it, with -march=rv64im -mabi=lp64"),
-            ("trap 10004 503823 10", ""),
-            ("trap 10001", ""),
-        ):
-            with self.subTest(trap=trap):
-                self.explains(said, "1", "observe", self.file("out", f"{trap}\n"), "run", "a")
-        self.explains("", "1", "observe", "/dev/null", "run", "a")
-
     def test_refusals(self):
         for words in ([], ["--before"], ["--status", 2], ["--", "run"], ["--before", "--status", 2, "--", "run"], ["--before", "run"]):
             self.refuses("--before or --status is wanted, and after -- the words of the call", *words)
         self.refuses("argument --status: invalid int value: 'x'", "--status", "x", "--", "run")
+
+
+class ExplainTraps(CopyTest):
+    """Of a copy of the repository, in which no program is built."""
+
+    tool = "explain"
+    says, explains = Explain.says, Explain.explains
+
+    def test_files_like_made_ones(self):
+        # Files of its length, of which one begins as it does: 6007 words behind two headers of 120 bytes.
+        needs = "a made program stores to the 192 pages from 65536 on: with --base 65536 it needs --pages 193 or more"
+        observe = "./thynvm observe OUT plain --pages=192 -- made says in OUT where it trapped"
+        for first, said in ((addi(7, 0, 8), needs), (addi(7, 0, 9), observe)):
+            self.file("made", elf(LINKED, [(LINKED, code_of([first] + [0] * 6006), 0)], align=4))
+            self.explains(said, "1", "plain", "made", "--pages", "192")
+
+    def explains_trap(self, trap, place, word="", *words):
+        """Of an observed run that trapped these lines are said."""
+        out = self.file("out", f"{trap}\n")
+        done = self.call("--status", 1, "--", "observe", out, *(words or ("run", "a")), cwd=self.folder)
+        lines = "".join(f"thynvm: {line}\n" for line in (place, word) if line)
+        self.assertEqual((done.out, done.err, done.status), ("", lines, 0))
+
+    def test_traps_that_were_observed(self):
+        linked = "compile the program, and all that is linked to it, with -march=rv64im"
+        for trap, place, word in (
+            ("10000 4501", "10000: the word 4501", "4501 at 10000 is an instruction of the extension C: compile it, and all that is linked to it, with -march=rv64im"),
+            ("10004 100522af", "10004: lr.w t0,(a0)", f"100522af at 10004 is an instruction of the extension A, which is there with --harts 2; for one hart {linked}"),
+            ("10004 53", "10004: the word 53", f"53 at 10004 is an instruction of the extension F or D: {linked} -mabi=lp64"),
+            ("10004 503823 10", "10004: sd t0,16(zero), address 10", ""),
+            ("10008 100073", "10008: ebreak", ""),
+            ("10001", "10001", ""),
+        ):
+            with self.subTest(trap=trap):
+                self.explains_trap(f"trap {trap}", f"the program trapped at {place}", word and f"the word {word}")
+        self.explains_trap("trap 10004 100522af 5 hart 1", "hart 1 trapped at 10004: lr.w t0,(a0), address 5")
+        self.explains_trap("trap 10008 503823 10", "the program trapped at 10008: sd t0,16(zero), address 10", "", "resume", "image")
+        self.explains("", "1", "observe", "/dev/null", "run", "a")
+
+    def test_a_trap_has_its_function_and_line(self):
+        # Of this program's functions the symbols say where they are; it has no debug sections.
+        self.file("a", program())
+        self.explains_trap("trap 10014 52783", "the program trapped at 10014 in sum_of: lw a5,0(a0)")
+        self.explains_trap("trap 1000c 53783", "the program trapped at 1000c in main: ld a5,0(a0)")
+        self.explains_trap("trap 9000 53783", "the program trapped at 9000: ld a5,0(a0)")
+
+    def test_a_trap_that_was_not_observed(self):
+        # The program is not there, so the call is not made again.
+        said = "./thynvm observe OUT run --pages=8 --digest -- a says in OUT where it trapped"
+        self.explains(said, "1", "run", "--pages", "8", "a", "--save", "x", "--digest")
+        self.explains("./thynvm observe OUT plain -- 'a b' says in OUT where it trapped", "1", "plain", "a b")
+        self.explains("", "1", "resume", "a")

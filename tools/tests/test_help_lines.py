@@ -126,7 +126,8 @@ class AfterRuns(Help):
         self.helps(["compare", made, "--pages", "192"], 1, needs.format(193))
         self.helps(["run", made, "--pages", "193"], 0)
         # Another file of that size, whose first instruction is illegal.
-        self.helps(["run", self.file("other", program([0] * 6007)), "--pages", "8"], 1)
+        traps = r"^\./thynvm observe OUT run --pages=8 -- .*/other says in OUT where it trapped$"
+        self.helps(["run", self.file("other", program([0] * 6007)), "--pages", "8"], 1, traps)
 
 
 class AfterRefusals(Help):

@@ -1,9 +1,7 @@
 """What a run came to, if its words seem to ask for something else."""
 
-import os
-import re
-
-from lib.explained.files import FLAGS, help_with_made_program
+from lib.explained.files import help_with_made_program
+from lib.explained.traps import help_with_trap
 from lib.images import PAGE, PER_PAGE
 from lib.program import FIELDS
 
@@ -56,36 +54,12 @@ def help_with_console(call, outcome):
     return f"the console is full, with {PAGE * console} bytes: if the program wrote more, that is cut off; {more}"
 
 
-# The opcodes of the extensions F and D: loads and stores, four fused operations, all others.
-FLOATS = (0x07, 0x27, 0x43, 0x47, 0x4B, 0x4F, 0x53)
-
-
-def help_with_trap(out):
-    """Which flag of the compiler helps, if the word of an observed trap is one of an extension that the machine lacks."""
-    if not os.path.isfile(out):
-        # A terminal or a pipe has nothing to read again.
-        return ""
-    with open(out, encoding="ascii") as file:
-        found = re.search(r"^trap ([0-9a-f]+) ([0-9a-f]+)(?: [0-9a-f]+)?( hart [01])?$", file.read(), re.MULTILINE)
-    word = int(found[2], 16) if found else 0
-    if word == 0:
-        return ""
-    where = f"the word {word:x} at {found[1]} is an instruction of the extension"
-    if word & 3 != 3:
-        return f"{where} C: {FLAGS['NeedsCompressed']}"
-    if word & 0x7F == 0x2F and not found[3]:
-        return f"{where} A: compile the program, and all that is linked to it, with -march=rv64im"
-    if word & 0x7F in FLOATS:
-        return f"{where} F or D: compile the program, and all that is linked to it, with -march=rv64im -mabi=lp64"
-    return ""
-
-
 def help_after_run(call, outcome):
     """What is said of a run that exited, trapped or came to its limit."""
     if call.fault or call.command == "make":
         return []
     lines = [about(call, outcome) for about in (help_with_cuts, help_with_tears, help_with_limit, help_with_console)]
     if outcome.status == 1:
-        lines.append(help_with_made_program(call))
-        lines.append("" if call.out is None else help_with_trap(call.out))
+        made = help_with_made_program(call)
+        lines += [made] if made else help_with_trap(call)
     return lines
