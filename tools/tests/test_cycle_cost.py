@@ -9,12 +9,23 @@ PAGE = """| what | host instructions |
 | a step of the plain machine | 123 |
 | a cycle of the whole machine, at the default options | 245 |
 | a cycle of the whole machine, at the largest tables | 254 |
+| a cycle of the whole machine, with two harts | 303 |
+| a cycle of the whole machine, over the journal | 240 |
+| a cycle of the whole machine, over shadow paging | 242 |
+| a cycle of the whole machine, of made program 3 | 362 |
 """
 
-# Counts 245 for each cycle and 100,000 beside, and of `plain` 123 for each step; its last word is the limit.
+# Counts 245 for each cycle and 100,000 beside, and of other calls what they are to count; its last word is the limit.
 VALGRIND = """
 for limit; do :; done
-case "$*" in *' plain '*) each=123 ;; *) each=245 ;; esac
+case "$*" in
+    *' plain '*) each=123 ;;
+    *' --harts 2 '*) each=300 ;;
+    *' --scheme journal '*) each=241 ;;
+    *' --scheme shadow '*) each=242 ;;
+    *' bench 3 '*) each=360 ;;
+    *) each=245 ;;
+esac
 echo "==1== Collected : $((100000 + each * limit))" >&2
 """
 
@@ -22,6 +33,10 @@ DEFAULT, LARGEST = "a cycle of the whole machine, at the default options", "a cy
 
 AGREES = f"""ok {DEFAULT}: 245.0 host instructions, the page says 245
 ok {LARGEST}: 245.0 host instructions, the page says 254
+ok a cycle of the whole machine, with two harts: 300.0 host instructions, the page says 303
+ok a cycle of the whole machine, over the journal: 241.0 host instructions, the page says 240
+ok a cycle of the whole machine, over shadow paging: 242.0 host instructions, the page says 242
+ok a cycle of the whole machine, of made program 3: 360.0 host instructions, the page says 362
 ok a step of the plain machine: 123.0 host instructions, the page says 123
 """
 

@@ -16,16 +16,20 @@ ghost use Rattle.thy_plain.specs.Machine.{setting_of};
 
 use crate::setup::Setup;
 use thy_base::{Bytes, is_inside};
+use thy_decoded::DecodedWords;
 use thy_isa::{
     Call, CallState, Cause, Effect, Extend, MachState, Reg, Reservation, Status, Width, after,
     bytes_in, call, cause_number, extended, fetch_fault, front_of, is_reserved, is_running,
-    modified, number, reservation, reserve, word, word_effect, write_past,
+    modified, number, reservation, reserve, word, write_past,
 };
 
 /// The register of an environment call's result.
 const A0: u8 = 10;
 
+// What is rare is called, and takes no reference to what the loop over steps has in registers; the rest becomes a part of that loop.
+
 /// Ends the program by a trap, which changes nothing else.
+#[inline(never)]
 fn trap(state: &mut MachState, cause: Cause)
     requires { state.old.count < 2 ^ 63 }
     ensures { state.new ≡ record state.old {
@@ -38,6 +42,7 @@ fn trap(state: &mut MachState, cause: Cause)
 }
 
 /// Writes the low bytes of a number from index `at` on.
+#[inline(always)]
 fn write_number(memory: &mut Bytes, at: usize, width: Width, value: u64)
     requires { at + size_of width ≤ length (bytes_of memory.old) }
     ensures { bytes_of memory.new ≡ written (bytes_of memory.old) at (number_bytes (size_of width) value) }
@@ -105,6 +110,7 @@ fn answer(state: &mut MachState, value: u64)
 }
 
 /// Does an environment call.
+#[inline(never)]
 fn serve(state: &mut MachState, setup: &Setup)
     requires count { state.old.count < 2 ^ 63 }
     requires room { setup.now.room ≤ room_of state.old.console }
@@ -138,6 +144,7 @@ fn serve(state: &mut MachState, setup: &Setup)
 }
 
 /// The instruction after a store-conditional that failed.
+#[inline(never)]
 fn fail(state: &mut MachState, rd: Reg, pc: u64)
     requires { state.old.count < 2 ^ 63 }
     ensures { state.new ≡ record state.old {
@@ -155,6 +162,7 @@ fn fail(state: &mut MachState, rd: Reg, pc: u64)
 
 /// Does what an atomic instruction does, to a state that runs. It is illegal with one hart, and traps if its address is no
 /// multiple of its width.
+#[inline(never)]
 fn perform_atomic(state: &mut MachState, setup: &Setup, effect: Effect)
     requires count { state.old.count < 2 ^ 63 }
     requires atomic { IsAtomic effect }
@@ -237,6 +245,7 @@ fn perform_atomic(state: &mut MachState, setup: &Setup, effect: Effect)
 
 /// Does what an instruction does, to a state that runs. A load or a store outside memory traps: this is tested where
 /// each is done, so that an effect is matched only once.
+#[inline(always)]
 fn perform(state: &mut MachState, setup: &Setup, effect: Effect)
     requires count { state.old.count < 2 ^ 63 }
     requires room { setup.now.room ≤ room_of state.old.console }
@@ -296,7 +305,8 @@ fn perform(state: &mut MachState, setup: &Setup, effect: Effect)
 }
 
 /// Executes the instruction at the program counter of a state that runs.
-fn advance(state: &mut MachState, setup: &Setup)
+#[inline(always)]
+fn advance(state: &mut MachState, setup: &Setup, decoded: &mut DecodedWords)
     requires count { state.old.count < 2 ^ 63 }
     requires room { setup.now.room ≤ room_of state.old.console }
     ensures state { state_of state.new ≡ advanced (setting_of setup.now) (state_of state.old) }
@@ -307,20 +317,21 @@ fn advance(state: &mut MachState, setup: &Setup)
         None => {
             let at = (state.pc - setup.base) as usize;
             let word = word(state.memory.as_slice(), at);
-            let effect = word_effect(word, state.pc, &state.regs);
+            let effect = decoded.effect(word, state.pc, &state.regs);
             perform(state, setup, effect);
         }
     }
 }
 
 /// Takes a step. An ended state stays as it is.
-pub(crate) fn take_step(state: &mut MachState, setup: &Setup)
+#[inline(always)]
+pub(crate) fn take_step(state: &mut MachState, setup: &Setup, decoded: &mut DecodedWords)
     requires count { state.old.count < 2 ^ 63 }
     requires room { setup.now.room ≤ room_of state.old.console }
     ensures state { state_of state.new ≡ step (setting_of setup.now) (state_of state.old) }
     ensures room { room_of state.old.console ≤ room_of state.new.console }
 {
     if is_running(state.status) {
-        advance(state, setup);
+        advance(state, setup, decoded);
     }
 }

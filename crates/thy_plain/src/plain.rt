@@ -13,15 +13,17 @@ use crate::start::state_over;
 use std::alloc::{AllocError, Global};
 use std::marker::Model;
 use thy_base::{Bytes, Geometry};
+use thy_decoded::DecodedWords;
 use thy_elf::Image;
 use thy_isa::{MachState, cross_state, is_running};
 
 /// The plain machine. Contracts see its state, and what stays the same over a run. Only `load` and `in_state` allocate,
 /// and no other call can fail.
-#[derive(Debug, Drop)]
+#[derive(Drop)]
 pub struct Plain {
     state: MachState,
     setup: Setup,
+    decoded: DecodedWords,
 }
 
 impl Model for Plain {
@@ -60,6 +62,7 @@ impl Plain {
                 input,
                 room,
             },
+            decoded: DecodedWords::new(),
         })
     }
 
@@ -94,6 +97,7 @@ impl Plain {
                 input,
                 room,
             },
+            decoded: DecodedWords::new(),
         })
     }
 
@@ -102,7 +106,7 @@ impl Plain {
         requires { self.old.state.count < 2 ^ 63 }
         ensures { self.new ≡ stepped self.old }
     {
-        take_step(&mut self.state, &self.setup);
+        take_step(&mut self.state, &self.setup, &mut self.decoded);
     }
 
     /// Takes one step of a hart, 0 or 1. An ended state stays as it is, and with one hart each step is of that one.
@@ -116,7 +120,7 @@ impl Plain {
             0 => self.step(),
             1 => {
                 cross_state(&mut self.state);
-                take_step(&mut self.state, &self.setup);
+                take_step(&mut self.state, &self.setup, &mut self.decoded);
                 cross_state(&mut self.state);
             }
             _ => unreachable!(),
