@@ -143,15 +143,10 @@ second_again blocks (suc j) h l = elim (cases_lt j 31) as (λ _. second_written 
 rest_again : (p : Parameters) (blocks : List Block) (j : ℕ) → FitsStatus blocks → j < 8
     → slice_index (rest_words (cpu_of_record p blocks) (epoch_of_record blocks)) j ≡ record_word blocks (32 + j)
 unfolding cpu_of_record
-rest_again p blocks zero h l = refl
-rest_again p blocks (suc zero) h l = refl
-rest_again p blocks (suc (suc zero)) h l = refl
-rest_again p blocks (suc (suc (suc zero))) h l = refl
 rest_again p blocks (suc (suc (suc (suc zero)))) h l = tag_again (record_word blocks 36) (record_word blocks 37) h
 rest_again p blocks (suc (suc (suc (suc (suc zero))))) h l = value_again (record_word blocks 36) (record_word blocks 37) h
-rest_again p blocks (suc (suc (suc (suc (suc (suc zero)))))) h l = refl
-rest_again p blocks (suc (suc (suc (suc (suc (suc (suc zero))))))) h l = refl
 rest_again p blocks (suc (suc (suc (suc (suc (suc (suc (suc j)))))))) h l = absurd (omega arith)
+rest_again p blocks j h l = refl
 
 registers : (p : Parameters) (blocks : List Block) → length (cpu_of_record p blocks).regs ≡ 32
 unfolding cpu_of_record

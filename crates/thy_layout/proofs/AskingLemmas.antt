@@ -1,5 +1,5 @@
 -- What is asked of a commit block and of a record; below a higher ceiling no more is.
-use Rattle.std.proofs.Common.{◌≡◌, ℕ, ◌+◌, ◌%◌, ◌<◌, ◌≤◌, ◌-◌, ◌==◌, ◌&&◌, Bool, true, false, nat_lt, nat_le, if◌then◌else◌, List, length, map, Contains, Some, None, refl, sym, ◌∙◌, ap, arith}
+use Rattle.std.proofs.Common.{◌≡◌, ℕ, ◌+◌, ◌%◌, ◌<◌, ◌≤◌, ◌-◌, ◌==◌, ◌&&◌, Bool, true, nat_lt, nat_le, if◌then◌else◌, List, length, map, Contains, Some, None, refl, sym, ◌∙◌, ap, arith}
 use Rattle.std.proofs.lemmas.Bool.{eq-eqb, lt-ltb, ltb-true}
 use Rattle.std.proofs.lemmas.List.{length-map, get_or-map, ext_get_or}
 use Rattle.std.proofs.lemmas.List.Elements.{Contains-get_or}
@@ -37,12 +37,10 @@ below_higher n low high most h = let l : n < low = ltb-true n low h in lt-ltb n 
 pub commit_asks : (named below rest : Bool) → (if (named && below) && rest then None else Some Commit) ≡ None
     → (named ≡ true) × (below ≡ true) × (rest ≡ true)
 commit_asks true true true h = (refl, refl, refl)
-commit_asks true true false h = cc
-commit_asks true false rest h = cc
-commit_asks false below rest h = cc
+commit_asks named below rest h = cc
 
 commit_gives : (named below rest : Bool) → named ≡ true → below ≡ true → rest ≡ true → (if (named && below) && rest then None else Some Commit) ≡ None
-commit_gives named below rest a b c = ap (λ x. if (x && below) && rest then None else Some Commit) a ∙ ap (λ x. if x && rest then None else Some Commit) b ∙ ap (λ x. if x then None else Some Commit) c
+commit_gives named below rest a b c = λ i. if (a i && b i) && c i then None else Some Commit
 
 pub commit_fault-higher : (header b : Block) (low high : ℕ) → low ≤ high → commit_fault header b low ≡ None → commit_fault header b high ≡ None
 unfolding commit_fault
@@ -54,16 +52,11 @@ commit_fault-higher header b low high most h =
 pub status_asks : (status below room : Bool) → (if status && below then (if room then None else Some ConsoleLength) else Some Status) ≡ None
     → (status ≡ true) × (below ≡ true) × (room ≡ true)
 status_asks true true true h = (refl, refl, refl)
-status_asks true true false h = cc
-status_asks true false room h = cc
-status_asks false below room h = cc
+status_asks status below room h = cc
 
 status_gives : (status below room : Bool) → status ≡ true → below ≡ true → room ≡ true
     → (if status && below then (if room then None else Some ConsoleLength) else Some Status) ≡ None
-status_gives status below room a b c =
-    ap (λ x. if x && below then (if room then None else Some ConsoleLength) else Some Status) a
-    ∙ ap (λ x. if x then (if room then None else Some ConsoleLength) else Some Status) b
-    ∙ ap (λ x. if x then None else Some ConsoleLength) c
+status_gives status below room a b c = λ i. if a i && b i then (if c i then None else Some ConsoleLength) else Some Status
 
 pub status_fault-higher : (p : Parameters) (slot : List Block) (low high : ℕ) → low ≤ high → status_fault p low slot ≡ None → status_fault p high slot ≡ None
 status_fault-higher p slot low high most h =

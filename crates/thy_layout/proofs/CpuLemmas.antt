@@ -70,15 +70,9 @@ reserved_at o i j w at is = is ∙ sym (ap (slice_index (second_words (Some o)))
 
 -- behind the reservations there are zeros
 pub reserved_words-zero : (o : OtherHart) (i : ℕ) → 4 ≤ i → slice_index (reserved_words o) i ≡ 0
-reserved_words-zero o zero l = absurd (omega arith)
-reserved_words-zero o (suc zero) l = absurd (omega arith)
-reserved_words-zero o (suc (suc zero)) l = absurd (omega arith)
-reserved_words-zero o (suc (suc (suc zero))) l = absurd (omega arith)
-reserved_words-zero o (suc (suc (suc (suc zero)))) l = refl
-reserved_words-zero o (suc (suc (suc (suc (suc zero))))) l = refl
-reserved_words-zero o (suc (suc (suc (suc (suc (suc zero)))))) l = refl
-reserved_words-zero o (suc (suc (suc (suc (suc (suc (suc zero))))))) l = refl
 reserved_words-zero o (suc (suc (suc (suc (suc (suc (suc (suc i)))))))) l = refl
+reserved_words-zero o (suc (suc (suc (suc i)))) l = refl
+reserved_words-zero o i l = absurd (omega arith)
 
 pub behind_reserved : (o : OtherHart) (i : ℕ) → 36 ≤ i → 0 ≡ slice_index (second_words (Some o)) i
 behind_reserved o i l =

@@ -52,7 +52,7 @@ module _ (l : Layout) (h g : List Block) where
 
   places_same : block_at g 1 ≡ block_at h 1 → slot_in l g ≡ slot_in l h
       → memory_places l (block_at g 1) (slot_in l g) ≡ memory_places l (block_at h 1) (slot_in l h)
-  places_same commit slot = ap (λ b. memory_places l b (slot_in l g)) commit ∙ ap (memory_places l (block_at h 1)) slot
+  places_same commit slot = λ i. memory_places l (commit i) (slot i)
 
   memory_same : block_at g 1 ≡ block_at h 1 → Agree (parts_of l h) → memory_in l g ≡ memory_in l h
   memory_same commit same =
@@ -61,16 +61,12 @@ module _ (l : Layout) (h g : List Block) where
       (λ x inside. agree_behind same x (Contains-append_right (slot_places l (block_at h 1)) (memory_places l (block_at h 1) (slot_in l h)) x inside))
 
   parts_same : block_at g 1 ≡ block_at h 1 → slot_in l g ≡ slot_in l h → parts_of l g ≡ parts_of l h
-  parts_same commit slot =
-      ap (λ places. 0 ∷ 1 ∷ (places ++ memory_places l (block_at g 1) (slot_in l g))) (ap (slot_places l) commit)
-      ∙ ap (λ places. 0 ∷ 1 ∷ (slot_places l (block_at h 1) ++ places)) (places_same commit slot)
+  parts_same commit slot = λ i. 0 ∷ 1 ∷ (slot_places l (commit i) ++ memory_places l (commit i) (slot i))
 
 -- what the parts mean, part by part
 meaning_same : (l : Layout) (ceiling : ℕ) (sized : Bool) (a header b commit : Block) (s slot m memory : List Block)
     → a ≡ header → b ≡ commit → s ≡ slot → m ≡ memory → meaning_of l ceiling sized a b s m ≡ meaning_of l ceiling sized header commit slot memory
-meaning_same l ceiling sized a header b commit s slot m memory e f g h =
-    ap (λ x. meaning_of l ceiling sized x b s m) e ∙ ap (λ x. meaning_of l ceiling sized header x s m) f
-    ∙ ap (λ x. meaning_of l ceiling sized header commit x m) g ∙ ap (λ x. meaning_of l ceiling sized header commit slot x) h
+meaning_same l ceiling sized a header b commit s slot m memory e f g h = λ i. meaning_of l ceiling sized (e i) (f i) (g i) (h i)
 
 -- without a checkpoint the other parts do not matter
 meaning_nothing : (l : Layout) (ceiling : ℕ) (sized : Bool) (header commit : Block) (slot memory : List Block) → is_zero commit ≡ true → meaning_of l ceiling sized header commit slot memory ≡ Nothing
@@ -135,8 +131,7 @@ decode_by-zero l ceiling g z = meaning_nothing l ceiling (is_sized l g) (block_a
 
 whole_means : (zero : Bool) (fault : Option BadImage) (e epoch : ℕ) (s state : State)
     → zero ≡ false → fault ≡ None → e ≡ epoch → s ≡ state → (if zero then Nothing else refused_or_at fault e s) ≡ At epoch state
-whole_means zero fault e epoch s state a b c d =
-    ap (λ t. if t then Nothing else refused_or_at fault e s) a ∙ ap (λ x. refused_or_at x e s) b ∙ ap (λ x. At x s) c ∙ ap (At epoch) d
+whole_means zero fault e epoch s state a b c d = λ i. if a i then Nothing else refused_or_at (b i) (c i) (d i)
 
 pub decode_by-whole : (l : Layout) (ceiling : ℕ) (g : List Block) (epoch : ℕ) (state : State) → IsWhole l ceiling g epoch state → decode_by l ceiling g ≡ At epoch state
 unfolding decode_by
@@ -159,9 +154,8 @@ not_short false d epoch state h = h
 pub at_back : (zero : Bool) (fault : Option BadImage) (epoch found : ℕ) (state other : State)
     → (if zero then Nothing else refused_or_at fault epoch state) ≡ At found other
     → (zero ≡ false) × (fault ≡ None) × (epoch ≡ found) × (state ≡ other)
-at_back true fault epoch found state other h = cc
 at_back false None epoch found state other h = (refl, refl, cc, cc)
-at_back false (Some bad) epoch found state other h = cc
+at_back zero fault epoch found state other h = cc
 
 pub decode_by-nothing_back : (l : Layout) (ceiling : ℕ) (g : List Block) → decode_by l ceiling g ≡ Nothing → is_zero (block_at g 1) ≡ true
 unfolding decode_by

@@ -11,7 +11,6 @@ pub mod ClashLemmas
 pub mod AskingLemmas
 pub mod HeaderLemmas
 pub mod SlotLemmas
-pub mod GatheredLemmas
 pub mod AgainLemmas
 pub mod LayoutLemmas
 pub mod PlacesLemmas

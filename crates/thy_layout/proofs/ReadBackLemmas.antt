@@ -17,7 +17,7 @@ use Rattle.thy_isa.specs.Regs.{reg_at}
 use Rattle.thy_isa.specs.declared.state.CpuState.{CpuState}
 use Rattle.thy_isa.specs.declared.state.OtherHart.{OtherHart}
 use Rattle.thy_isa.specs.declared.state.Reservation.{Reservation}
-use Rattle.thy_isa.specs.declared.state.Reservation.TheVariants.{Nothing, Word, Double}
+use Rattle.thy_isa.specs.declared.state.Reservation.TheVariants.{Nothing}
 use Rattle.thy_isa.specs.declared.state.Status.{Status}
 use Rattle.thy_isa.specs.declared.state.Status.TheVariants.{Running, Exited, Trapped}
 use Rattle.thy_isa.specs.Storable.{IsNumber, IsReservation, IsOther}
@@ -94,34 +94,28 @@ value_fits (Trapped v) h = let l : v ≤ 7 = leb-true v 7 h in omega arith
 
 tag_fits : (s : Status) → status_tag s < 2 ^ 64
 tag_fits Running = omega arith
-tag_fits (Exited v) = omega arith
-tag_fits (Trapped v) = omega arith
+tag_fits s = omega arith
 
 status_back : (s : Status) → status_of (status_tag s) (status_value s) ≡ s
 status_back Running = refl
-status_back (Exited v) = refl
-status_back (Trapped v) = refl
+status_back s = refl
 
 -- a reservation's words
 place_fits : (r : Reservation) → IsReservation r → place_word r < 2 ^ 64
 place_fits (Nothing at) h = h
-place_fits (Word at) h = h
-place_fits (Double at) h = h
+place_fits r h = h
 
 width_fits : (r : Reservation) → width_word r < 2 ^ 64
 width_fits (Nothing at) = omega arith
-width_fits (Word at) = omega arith
-width_fits (Double at) = omega arith
+width_fits r = omega arith
 
 reservation_back : (r : Reservation) → reservation_of (width_word r) (place_word r) ≡ r
 reservation_back (Nothing at) = refl
-reservation_back (Word at) = refl
-reservation_back (Double at) = refl
+reservation_back r = refl
 
 pub is_width-word : (r : Reservation) → is_width (width_word r) ≡ true
 is_width-word (Nothing at) = refl
-is_width-word (Word at) = refl
-is_width-word (Double at) = refl
+is_width-word r = refl
 
 -- ---- the other hart's words
 
@@ -283,11 +277,7 @@ other_with pc regs front back = record { pc = pc; regs = regs; front = front; ba
 
 pub same_other : (pc pc' : ℕ) (regs regs' : List ℕ) (front front' back back' : Reservation) → pc ≡ pc' → regs ≡ regs' → front ≡ front' → back ≡ back'
     → other_with pc regs front back ≡ other_with pc' regs' front' back'
-same_other pc pc' regs regs' front front' back back' a b c d =
-    ap (λ x. other_with x regs front back) a
-    ∙ ap (λ x. other_with pc' x front back) b
-    ∙ ap (λ x. other_with pc' regs' x back) c
-    ∙ ap (λ x. other_with pc' regs' front' x) d
+same_other pc pc' regs regs' front front' back back' a b c d = λ i. other_with (a i) (b i) (c i) (d i)
 
 other_is : (o : OtherHart) (blocks : List Block) → HasSecond blocks (Some o) → length o.regs ≡ 32 → slice_index o.regs 0 ≡ 0
     → other_of_record blocks ≡ o
@@ -318,15 +308,7 @@ pub same_cpu : (pc pc' : ℕ) (regs regs' : List ℕ) (console console' cursor c
     → pc ≡ pc' → regs ≡ regs' → console ≡ console' → cursor ≡ cursor' → brk ≡ brk' → floor ≡ floor' → count ≡ count' → status ≡ status' → other ≡ other'
     → cpu_with pc regs console cursor brk floor count status other ≡ cpu_with pc' regs' console' cursor' brk' floor' count' status' other'
 same_cpu pc pc' regs regs' console console' cursor cursor' brk brk' floor floor' count count' status status' other other' a b c d e f g h i =
-    ap (λ x. cpu_with x regs console cursor brk floor count status other) a
-    ∙ ap (λ x. cpu_with pc' x console cursor brk floor count status other) b
-    ∙ ap (λ x. cpu_with pc' regs' x cursor brk floor count status other) c
-    ∙ ap (λ x. cpu_with pc' regs' console' x brk floor count status other) d
-    ∙ ap (λ x. cpu_with pc' regs' console' cursor' x floor count status other) e
-    ∙ ap (λ x. cpu_with pc' regs' console' cursor' brk' x count status other) f
-    ∙ ap (λ x. cpu_with pc' regs' console' cursor' brk' floor' x status other) g
-    ∙ ap (λ x. cpu_with pc' regs' console' cursor' brk' floor' count' x other) h
-    ∙ ap (λ x. cpu_with pc' regs' console' cursor' brk' floor' count' status' x) i
+    λ x. cpu_with (a x) (b x) (c x) (d x) (e x) (f x) (g x) (h x) (i x)
 
 -- a state reads back from its record
 pub cpu_back : (p : Parameters) (c : CpuState) (epoch : ℕ) (blocks : List Block)

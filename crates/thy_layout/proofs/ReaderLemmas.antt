@@ -1,32 +1,97 @@
--- What the one reader of files finds, test by test; and what a file has that decodes to a checkpoint.
-use Rattle.std.proofs.Common.{◌≡◌, ℕ, ◌+◌, ◌*◌, ◌/◌, ◌%◌, ◌<◌, ◌≤◌, ◌==◌, ◌&&◌, Bool, true, false, nat_lt, if◌then◌else◌, List, length, map, take, drop, Option, Some, None, Ok, Err, sym, ◌∙◌, ap, inl, inr, arith}
+-- What the one reader of files finds, test by test; and memory of what decodes to a checkpoint, block by block.
+use Rattle.std.proofs.Common.{◌≡◌, ℕ, ◌+◌, ◌-◌, ◌*◌, ◌/◌, ◌<◌, ◌≤◌, List, ◌++◌, length, map, take, drop, slice_index_or, Ok, IfOk, sym, ◌∙◌, ap, arith, ◌%◌, ◌==◌, ◌&&◌, Bool, true, false, nat_lt, if◌then◌else◌, Option, Some, None, inl, inr}
+use Rattle.std.specs.Prelude.{Result, Err}
+use Rattle.std.proofs.lemmas.List.{length-map, length-drop, length-take-le, get_or-map, get_or-drop, take_all}
 use Rattle.std.specs.Option.{option_or}
 use Rattle.std.proofs.lemmas.Bool.{cases_lt, lt-ltb, le-ltb, eq-eqb, eqb-true, and_parts}
-use Rattle.std.proofs.lemmas.List.{length-drop, length-take-le}
 use Rattle.thy_base.specs.declared.block.Block.{Block}
 use Rattle.thy_base.specs.declared.config.Parameters.{Parameters}
-use Rattle.thy_base.specs.Device.{block_at}
-use Rattle.thy_base.specs.Geometry.{memory_blocks}
-use Rattle.thy_flat.specs.Flat.{flat, AllLong}
-use Rattle.thy_flat.proofs.FlatLemmas.{length-flat}
+use Rattle.thy_base.specs.Blocks.{block_bytes}
+use Rattle.thy_base.specs.Device.{zero_block, block_at}
+use Rattle.thy_base.specs.Geometry.{IsInRange, memory_blocks, program_size}
+use Rattle.thy_base.proofs.BlockLemmas.{block_bytes-long}
+use Rattle.thy_base.proofs.RangeLemmas.{console_below}
+use Rattle.thy_flat.specs.Flat.{flat, memory_bytes, console_bytes, AllLong}
+use Rattle.thy_flat.proofs.FlatLemmas.{flat_more, flat-take, flat-drop, length-flat}
 use Rattle.thy_isa.specs.declared.state.CpuState.{CpuState}
 use Rattle.thy_isa.specs.OnBlocks.{state_from}
-use Rattle.thy_isa.specs.Step.{State}
+use Rattle.thy_isa.specs.Step.{State, state_with}
+use Rattle.thy_layout.specs.declared.found.Found.TheVariants.{At as FoundAt, Nothing as FoundNothing}
+use Rattle.thy_layout.specs.Decoded.{Decoded, At, Nothing, Refused}
+use Rattle.thy_layout.specs.Files.{block_in, blocks_of, found_in, is_long_file, file_fault, decode_file, HasCheckpointOf, HasState}
+use Rattle.thy_layout.specs.Gathered.{AreInside}
+use Rattle.thy_layout.proofs.FileLemmas.{length-blocks_of, block_at-blocks_of, blocks_of-part, blocks_of-flat}
 use Rattle.thy_layout.specs.declared.bad_image.BadImage.{BadImage}
 use Rattle.thy_layout.specs.declared.bad_image.BadImage.TheVariants.{Empty}
-use Rattle.thy_layout.specs.declared.found.Found.TheVariants.{Nothing as FoundNothing, At as FoundAt}
 use Rattle.thy_layout.specs.AreLayouts.{Fits, HasPlaces, HasSlot}
 use Rattle.thy_layout.specs.Commit.{is_zero, epoch_of}
 use Rattle.thy_layout.specs.Cpu.{cpu_of_record}
-use Rattle.thy_layout.specs.Decoded.{Decoded, Nothing, Refused, At}
-use Rattle.thy_layout.specs.Files.{blocks_of, found_in, is_long_file, file_fault, decode_file, HasCheckpointOf, HasState}
-use Rattle.thy_layout.specs.Gathered.{AreInside}
 use Rattle.thy_layout.specs.Layout.{Layout, header_bad, commit_bad, state_by, blocks_at, slot_places, memory_places, slot_in, memory_in, is_long, is_sized, fault_sized, refused_or_at, decode_sized, decode_by, IsWhole}
-use Rattle.thy_layout.proofs.FileLemmas.{length-blocks_of, blocks_of-part, blocks_of-flat}
-use Rattle.thy_layout.proofs.GatheredLemmas.{found_at}
 use Rattle.thy_layout.proofs.HeaderLemmas.{header_fault-long}
 use Rattle.thy_layout.proofs.LayoutLemmas.{parts_faultless, not_short, at_back, decode_by-whole_back, whole_parts}
 use Rattle.thy_layout.proofs.PlacesLemmas.{length-memory_places, memory_place}
+
+-- what was found is a checkpoint of that epoch
+pub found_at : (d : Decoded) (epoch : ℕ) → found_in d ≡ Ok (FoundAt epoch) → (s : State) × (d ≡ At epoch s)
+found_at (At e s) epoch h = (s, let same : e ≡ epoch = cc in ap (λ x. At x s) same)
+found_at d epoch h = cc
+
+-- the bytes of a whole block
+pub block_bytes-block_in : (bytes : List ℕ) (k : ℕ) → k < length bytes / 64 → block_bytes (block_in bytes k) ≡ take 64 (drop (64 * k) bytes)
+block_bytes-block_in bytes k l =
+    block_bytes-long (block_in bytes k) (length-take-le 64 (drop (64 * k) bytes) (omega (arith, length-drop (64 * k) bytes)))
+
+-- one block more was gathered
+pub gathered_more : (bytes places : List ℕ) (first k count : ℕ) (old new : List ℕ) (number : ℕ) → AreInside (blocks_of bytes) places
+    → first + count ≤ length places → k < count → number ≡ slice_index_or places (first + k) 0
+    → old ≡ flat (take k (drop first (map (block_at (blocks_of bytes)) places)))
+    → new ≡ old ++ take 64 (drop (64 * number) bytes)
+    → new ≡ flat (take (k + 1) (drop first (map (block_at (blocks_of bytes)) places)))
+gathered_more bytes places first k count old new number are inside l is before after =
+    let memory = map (block_at (blocks_of bytes)) places in
+    let all = length-map places (block_at (blocks_of bytes)) in
+    let there : slice_index_or places (first + k) 0 < length bytes / 64
+    = omega (arith, are.each (first + k) (omega arith), length-blocks_of bytes) in
+    after
+    ∙ ap (λ xs. xs ++ take 64 (drop (64 * number) bytes)) before
+    ∙ ap (λ x. flat (take k (drop first (map (block_at (blocks_of bytes)) places))) ++ x)
+    (ap (λ x. take 64 (drop (64 * x) bytes)) is
+    ∙ sym (block_bytes-block_in bytes (slice_index_or places (first + k) 0) there)
+    ∙ ap block_bytes (sym (get_or-drop first (map (block_at (blocks_of bytes)) places) k zero_block
+    ∙ get_or-map (block_at (blocks_of bytes)) places (first + k) 0 zero_block (omega arith)
+    ∙ block_at-blocks_of bytes (slice_index_or places (first + k) 0) there)))
+    ∙ sym (flat_more (drop first (map (block_at (blocks_of bytes)) places)) k zero_block (omega (arith, length-drop first (map (block_at (blocks_of bytes)) places), all)))
+
+-- program memory, and the console, as they were gathered
+pub memory_gathered : (p : Parameters) (blocks : List Block) (n : ℕ) → length blocks ≡ memory_blocks p → IsInRange p → n ≡ 64 * (p.pages - p.console)
+    → flat (take n (drop 0 blocks)) ≡ memory_bytes p blocks
+memory_gathered p blocks n all r is =
+    let size : 64 * n ≡ program_size p = omega arith in
+    flat-take n blocks (omega (arith, all)) ∙ ap (λ m. take m (flat blocks)) size
+
+pub console_gathered : (p : Parameters) (blocks : List Block) (first n len : ℕ) → length blocks ≡ memory_blocks p → IsInRange p
+    → first ≡ 64 * (p.pages - p.console) → n ≡ 64 * p.console
+    → take len (flat (take n (drop first blocks))) ≡ console_bytes p blocks len
+console_gathered p blocks first n len all r is size =
+    let below : p.console < p.pages = console_below p r in
+    let at : 64 * first ≡ program_size p = omega arith in
+    ap (λ xs. take len (flat xs)) (take_all n (drop first blocks) (omega (arith, length-drop first blocks, all)))
+    ∙ ap (take len) (flat-drop first blocks (omega (arith, all)) ∙ ap (λ m. drop m (flat blocks)) at)
+
+-- with a processor they are the state
+pub state_gathered : (p : Parameters) (cpu : CpuState) (blocks : List Block) (memory console : List ℕ) (program size : ℕ) → IsInRange p
+    → length blocks ≡ memory_blocks p → program ≡ 64 * (p.pages - p.console) → size ≡ 64 * p.console
+    → memory ≡ flat (take program (drop 0 blocks)) → console ≡ take cpu.console_len (flat (take size (drop program blocks)))
+    → state_with cpu memory console ≡ state_from p cpu blocks
+unfolding state_from
+state_gathered p cpu blocks memory console program size r all program_is size_is memory_is console_is =
+    ap (λ m. state_with cpu m console) (memory_is ∙ memory_gathered p blocks program all r program_is)
+    ∙ ap (state_with cpu (memory_bytes p blocks)) (console_is ∙ console_gathered p blocks program size cpu.console_len all r program_is size_is)
+
+-- what follows from a result follows if there is one
+pub if_ok : {A E : Type 0} {P Q : A → Type 0} (r : Result A E) → ((x : A) → P x → Q x) → IfOk r P → IfOk r Q
+if_ok (Ok x) to h = to x h
+if_ok (Err e) to h = tt
 
 -- ---- a file of an image's length
 
@@ -82,16 +147,11 @@ module _ (l : Layout) (ceiling : ℕ) (bytes : List ℕ) where
 
   pub file_commit : (bad : BadImage) → None ≡ header_bad l (block_at g 0) (is_long_file l bytes) → Some bad ≡ commit_bad ceiling (block_at g 0) commit
       → Some bad ≡ file_fault l ceiling bytes
-  file_commit bad h k =
-      ap (λ x. option_or x slot_fault) k
-      ∙ ap (λ x. option_or x (option_or (commit_bad ceiling (block_at g 0) commit) slot_fault)) h
+  file_commit bad h k = λ i. option_or (h i) (option_or (k i) slot_fault)
 
   pub file_slot : (found : Option BadImage) → None ≡ header_bad l (block_at g 0) (is_long_file l bytes) → None ≡ commit_bad ceiling (block_at g 0) commit
       → found ≡ slot_fault → found ≡ file_fault l ceiling bytes
-  file_slot found h k m =
-      m
-      ∙ ap (λ x. option_or x slot_fault) k
-      ∙ ap (λ x. option_or x (option_or (commit_bad ceiling (block_at g 0) commit) slot_fault)) h
+  file_slot found h k m = λ i. option_or (h i) (option_or (k i) (m i))
 
   abbrev state_there : State
   state_there = state_by l (slot_in l g) (memory_in l g)
@@ -227,8 +287,5 @@ pub state_read : (l : Layout) (p : Parameters) (g : List Block) (commit : Block)
     → s ≡ state_from p cpu (map (block_at g) places) → state_by l (slot_in l g) (memory_in l g) ≡ s
 state_read l p g commit slot cpu places s of named at cpu_is is made =
     sym (made
-    ∙ ap (λ (xs : List ℕ). state_from p cpu (map (block_at g) xs)) is
-    ∙ ap (λ (c : CpuState). state_from p c (map (block_at g) (memory_places l commit slot))) cpu_is
-    ∙ ap (λ (q : Parameters). state_from q (cpu_of_record q slot) (map (block_at g) (memory_places l commit slot))) (sym of)
-    ∙ ap (λ (b : Block). state_from l.p (cpu_of_record l.p slot) (map (block_at g) (memory_places l b slot))) named
-    ∙ ap (λ (x : List Block). state_from l.p (cpu_of_record l.p x) (map (block_at g) (memory_places l (block_at g 1) x))) at)
+    ∙ (λ i. state_from p (cpu_is i) (map (block_at g) (is i)))
+    ∙ (λ i. state_from (sym of i) (cpu_of_record (sym of i) (at i)) (map (block_at g) (memory_places l (named i) (at i)))))

@@ -3,7 +3,7 @@ use Rattle.std.proofs.Common.{◌≡◌, ◌⊎◌, ℕ, ◌+◌, ◌<◌, List,
 use Rattle.std.proofs.lemmas.Bool.{cases_lt}
 use Rattle.std.specs.Option.{option_or}
 use Rattle.thy_layout.specs.declared.bad_image.BadImage.{BadImage}
-use Rattle.thy_layout.specs.declared.bad_image.BadImage.TheVariants.{Empty, Header, Version, Geometry, Commit, TableIndex, TableTwice, BlockUnderPage, Status, ConsoleLength, Count, Second}
+use Rattle.thy_layout.specs.declared.bad_image.BadImage.TheVariants.{TableIndex, TableTwice}
 use Rattle.thy_layout.specs.Entries.{Lists}
 use Rattle.thy_layout.specs.EntryFaults.{twice_rule, twice_fault}
 use Rattle.thy_layout.specs.TableRefusals.{ListTwice, IsFirstWrong, IsFirstTwice, Says}
@@ -61,18 +61,9 @@ module _ (wrong : ℕ → Type 0) (table : List (Option ℕ)) (index : Option Ba
   says_cases : (bad : BadImage) → Says wrong table bad
       → ((i : ℕ) × (bad ≡ TableIndex i) × IsFirstWrong wrong i)
       ⊎ ((i : ℕ) × (k : ℕ) × (bad ≡ TableTwice i k) × IsFirstTwice wrong table i k)
-  says_cases Empty s = absurd s
-  says_cases Header s = absurd s
-  says_cases Version s = absurd s
-  says_cases Geometry s = absurd s
-  says_cases Commit s = absurd s
   says_cases (TableIndex i) s = inl (i, refl, s)
   says_cases (TableTwice i k) s = inr (i, k, refl, s)
-  says_cases (BlockUnderPage i j) s = absurd s
-  says_cases Status s = absurd s
-  says_cases ConsoleLength s = absurd s
-  says_cases (Count i) s = absurd s
-  says_cases Second s = absurd s
+  says_cases bad s = absurd s
 
   one_wrong : (i k : ℕ) → IsFirstWrong wrong i → IsFirstWrong wrong k → i ≡ k
   one_wrong i k a b = one_number i k (λ l. b.least i l a.here) (λ l. a.least k l b.here)

@@ -11,9 +11,8 @@ use Rattle.thy_layout.specs.Files.{block_in, blocks_of, HasCheckpointOf}
 use Rattle.thy_layout.specs.Gathered.{AreInside}
 use Rattle.thy_layout.specs.Layout.{Layout, Layouts, memory_places, slot_in}
 use Rattle.thy_layout.proofs.FileLemmas.{block_at-blocks_of}
-use Rattle.thy_layout.proofs.GatheredLemmas.{if_ok}
+use Rattle.thy_layout.proofs.ReaderLemmas.{if_ok, IsFound-checked, HasState-made, as_long, AreInside-memory, state_read}
 use Rattle.thy_layout.proofs.PlacesLemmas.{length-memory_places}
-use Rattle.thy_layout.proofs.ReaderLemmas.{IsFound-checked, HasState-made, as_long, AreInside-memory, state_read}
 use Rattle.thy_layout.proofs.reader.state_of_image.Goals as goal
 
 -- the commit block that the code reads
@@ -25,9 +24,7 @@ commit_read l bytes b has is =
 -- its slot, which has no fault
 fits_read : (l : Layout) (bytes : List ℕ) (b : Block) (slot : List Block) → HasCheckpointOf l bytes → b ≡ block_at (blocks_of bytes) 1
     → slot ≡ slot_in l (blocks_of bytes) → Fits l b slot
-fits_read l bytes b slot has named at =
-    subst (λ (c : Block). Fits l c slot) (sym named)
-    (subst (λ (s : List Block). Fits l (block_at (blocks_of bytes) 1) s) (sym at) (IsFound-checked l bytes has).fits)
+fits_read l bytes b slot has named at = coe 1 0 (i. Fits l (named i) (at i)) (IsFound-checked l bytes has).fits
 
 -- memory's places, which are all there
 places_read : (L : Layouts) (p : Parameters) (bytes : List ℕ) (b : Block) (slot : List Block) (places : List ℕ) → AreLayouts L → HasCheckpointOf (L p) bytes

@@ -7,7 +7,7 @@ use Rattle.thy_base.specs.Device.{block_at}
 use Rattle.thy_base.specs.Geometry.{IsInRange}
 use Rattle.thy_base.proofs.RangeLemmas.{console_below}
 use Rattle.thy_layout.specs.Files.{blocks_of}
-use Rattle.thy_layout.proofs.GatheredLemmas.{state_gathered}
+use Rattle.thy_layout.proofs.ReaderLemmas.{state_gathered}
 use Rattle.thy_layout.proofs.restored.state_at.Goals as goal
 
 pub gathered-requires-clause-few : goal.gathered-requires-clause-few
