@@ -1,5 +1,5 @@
 -- The first fault of a slot, test by test.
-use Rattle.std.proofs.Common.{◌≡◌, ℕ, ◌==◌, if◌then◌else◌, List, Option, Some, None, refl, sym, ◌∙◌, ap}
+use Rattle.std.proofs.Common.{◌≡◌, ℕ, List, Option, Some, None, refl}
 use Rattle.std.proofs.lemmas.Bool.{ne_eqb}
 use Rattle.std.specs.Option.{option_or}
 use Rattle.thy_base.specs.declared.block.Block.{Block}
@@ -18,21 +18,18 @@ use Rattle.thy_layout.proofs.AskingLemmas.{of_epoch}
 pub head_epoch : (p : Parameters) (ceiling epoch : ℕ) (slot : List Block) (w : ℕ) → w ≡ record_word slot 38 → (w ≡ epoch → ⊥)
     → Some Commit ≡ head_fault p ceiling epoch slot
 head_epoch p ceiling epoch slot w is other =
-    sym (ap (λ b. option_or (if b then None else Some Commit) (option_or (tables_fault p (tables_in p slot)) (status_fault p ceiling slot)))
-    (ap (λ x. x == epoch) (sym is) ∙ ne_eqb w epoch other))
+    let unequal = ne_eqb w epoch other in
+    cc
 
 pub head_tables : (p : Parameters) (ceiling epoch : ℕ) (slot : List Block) (w : ℕ) (bad : BadImage) → w ≡ record_word slot 38 → w ≡ epoch
     → Some bad ≡ tables_fault p (tables_in p slot) → Some bad ≡ head_fault p ceiling epoch slot
 head_tables p ceiling epoch slot w bad is same h =
-    ap (λ x. option_or x (status_fault p ceiling slot)) h
-    ∙ sym (ap (λ x. option_or x (option_or (tables_fault p (tables_in p slot)) (status_fault p ceiling slot))) (of_epoch epoch slot w is same))
+    cc (of_epoch epoch slot w is same)
 
 pub head_status : (p : Parameters) (ceiling epoch : ℕ) (slot : List Block) (w : ℕ) (found : Option BadImage) → w ≡ record_word slot 38 → w ≡ epoch
     → None ≡ tables_fault p (tables_in p slot) → found ≡ status_fault p ceiling slot → found ≡ head_fault p ceiling epoch slot
 head_status p ceiling epoch slot w found is same h k =
-    k
-    ∙ ap (λ x. option_or x (status_fault p ceiling slot)) h
-    ∙ sym (ap (λ x. option_or x (option_or (tables_fault p (tables_in p slot)) (status_fault p ceiling slot))) (of_epoch epoch slot w is same))
+    cc (of_epoch epoch slot w is same)
 
 -- the first of five is that of the first three, or else that of the last two
 grouped : {X : Type 0} (a b c d e : Option X)

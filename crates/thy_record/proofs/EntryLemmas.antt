@@ -25,8 +25,7 @@ IsPlace-place_of p t b s l = place_inside p t b (entry_of t.btt b) (entry_of t.p
 
 in_nvm : (entry page : Option ℕ) (b : ℕ) → in_dram (place_by_entries entry page b) ≡ false
 in_nvm None None b = refl
-in_nvm None (Some j) b = refl
-in_nvm (Some i) page b = refl
+in_nvm entry page b = refl
 
 -- which is in the NVM
 pub in_dram-place_of : (t : Tables) (b : ℕ) → in_dram (place_of t b) ≡ false
@@ -39,8 +38,6 @@ own_place : (t : Tables) (b c : ℕ) (be bp ce cp : Option ℕ)
     → entry_of t.btt b ≡ be → entry_of t.ptt (page_of b) ≡ bp → entry_of t.btt c ≡ ce → entry_of t.ptt (page_of c) ≡ cp
     → place_by_entries be bp b ≡ place_by_entries ce cp c → b ≡ c
 own_place t b c None None None None e f g h same = cc
-own_place t b c None None None (Some j) e f g h same = cc
-own_place t b c None (Some i) None None e f g h same = cc
 own_place t b c None (Some i) None (Some j) e f g h same =
     let ij : i ≡ j = cc in
     let inner : b % 64 ≡ c % 64 = cc in
@@ -48,15 +45,13 @@ own_place t b c None (Some i) None (Some j) e f g h same =
     let lc = (entry_of-Some t.ptt (page_of c) j h).is in
     let pages : page_of b ≡ page_of c = cc in
     same_block b c pages inner
-own_place t b c None None (Some k) cp e f g h same = cc
-own_place t b c None (Some i) (Some k) cp e f g h same = cc
 own_place t b c (Some i) bp None None e f g h same = cc
-own_place t b c (Some i) bp None (Some j) e f g h same = cc
 own_place t b c (Some i) bp (Some k) cp e f g h same =
     let ik : i ≡ k = cc in
     let lb = (entry_of-Some t.btt b i e).is in
     let lc = (entry_of-Some t.btt c k g).is in
     cc
+own_place t b c be bp ce cp e f g h same = cc
 
 -- and no two have the same
 pub place_of-own : (t : Tables) (b c : ℕ) → place_of t b ≡ place_of t c → b ≡ c

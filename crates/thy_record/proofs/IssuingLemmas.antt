@@ -1,34 +1,109 @@
--- Which writes leave a checkpoint alone, and at which places memory is read.
-use Rattle.std.proofs.Common.{◌≡◌, ◌≢◌, ℕ, zero, suc, ◌+◌, ◌%◌, ◌<◌, ◌≤◌, false, List, ◌∷◌, length, get_or, Contains, Option, Some, None, refl, sym, ◌∙◌, ap, subst, arith}
-use Rattle.std.proofs.lemmas.List.{length-map, get_or-map, ext_get_or}
-use Rattle.std.proofs.lemmas.List.FromFn.{length-range_with_len, get_or-range_with_len}
-use Rattle.std.specs.List.{range_with_len}
+-- Where the parts of an image are: its slot, and the places at which memory is read; which writes leave a checkpoint alone.
+use Rattle.std.proofs.Common.{◌≡◌, ◌⊎◌, ℕ, zero, suc, ◌+◌, ◌*◌, ◌/◌, ◌%◌, ◌<◌, ◌≤◌, Bool, true, false, ◌||◌, List, length, drop, slice_index_or, refl, sym, ◌∙◌, ap, arith, ◌==◌, inl, inr, ◌&&◌, if◌then◌else◌, ◌≢◌, ◌∷◌, get_or, Contains, Option, Some, None, subst}
+use Rattle.std.proofs.lemmas.Bool.{eqb-true}
+use Rattle.std.proofs.lemmas.List.{get_or-take, get_or-drop, length-map, get_or-map, ext_get_or}
 use Rattle.thy_base.specs.declared.block.Block.{Block}
 use Rattle.thy_base.specs.declared.config.Parameters.{Parameters}
 use Rattle.thy_layout.specs.declared.layout_version.LayoutVersion.{LayoutVersion}
 use Rattle.thy_layout.specs.declared.layout_version.LayoutVersion.TheVariants.{VersionOne, VersionTwo}
+use Rattle.thy_base.specs.Places.{record_blocks, hart_blocks}
+use Rattle.thy_places.specs.Places.{table_blocks, count_blocks, blocks_one, image_blocks, in_dram, number_of, IsPlace, slot_blocks, slot_place, first_home}
+use Rattle.thy_record.specs.VersionSlots.{blocks_of_slot, place_of_slot}
+use Rattle.thy_layout.specs.Files.{blocks_of}
+use Rattle.thy_layout.specs.Layout.{is_length, slot_places, looked_by}
+use Rattle.thy_record.specs.DualLayouts.{older_of, dual_layouts}
+use Rattle.thy_record.specs.Slots.{count_byte, tables_in}
+use Rattle.thy_layout.proofs.FileLemmas.{block_at-blocks_of}
+use Rattle.thy_base.specs.Words.{word_of}
+use Rattle.thy_layout.specs.Commit.{commit_magic, version_of, epoch_of}
+use Rattle.thy_layout.specs.Header.{last_word, knows_version_one}
+use Rattle.thy_record.specs.Number.{scheme_number}
+use Rattle.std.proofs.lemmas.List.FromFn.{length-range_with_len, get_or-range_with_len}
+use Rattle.std.specs.List.{range_with_len}
 use Rattle.thy_places.specs.declared.place.Place.{Place}
 use Rattle.thy_places.specs.declared.place.Place.TheVariants.{Home, AlternateBlock, AlternatePage}
 use Rattle.thy_base.specs.Device.{Device, zero_block, block_at, newest}
 use Rattle.thy_base.specs.Geometry.{memory_blocks}
-use Rattle.thy_places.specs.Places.{in_dram, number_of, IsPlace, slot_blocks, slot_place, first_home, blocks_one}
-use Rattle.thy_record.specs.VersionSlots.{blocks_of_slot, place_of_slot}
 use Rattle.thy_base.specs.Store.{page_of}
 use Rattle.thy_places.proofs.PlaceLemmas.{numbers_tell, between_slots}
 use Rattle.thy_base.proofs.BasicLemmas.{Contains-range}
-use Rattle.thy_layout.specs.Commit.{epoch_of, version_of}
-use Rattle.thy_layout.specs.Layout.{slot_places, looked_by}
 use Rattle.thy_layout.proofs.LookedLemmas.{not_looked}
-use Rattle.thy_record.specs.DualLayouts.{dual_layouts}
 use Rattle.thy_record.specs.Images.{slot_in, memory_numbers}
-use Rattle.thy_record.specs.Number.{scheme_number}
 use Rattle.thy_record.specs.Issuing.{Target, SlotBlock, PlaceBlock, target_number, IsTarget, IsUnused, IsFree, IsToldBy, memory_read, HasMemory}
-use Rattle.thy_record.specs.Slots.{tables_in}
 use Rattle.thy_layout.specs.Entries.{entry_at, Lists, entry_of}
 use Rattle.thy_record.specs.Tables.{Tables, place_by_entries, place_of, IsTables}
 use Rattle.thy_layout.proofs.EntryLemmas.{entry_of-Some, entry_of-None}
-use Rattle.thy_record.proofs.EntryLemmas.{IsPlace-place_of, in_dram-place_of}
+use Rattle.thy_record.proofs.EntryLemmas.{IsPlace-place_of, in_dram-place_of, place_of-own}
 use Rattle.thy_layout.proofs.AskingLemmas.{half}
+use Rattle.thy_layout.specs.AreLayouts.{Fits, HasPlaces, HasSlot, AreLayouts}
+use Rattle.thy_record.proofs.SlotLemmas.{tables_of_slot, cpu_of_slot, slot_fault-higher}
+
+or_cases : (a b : Bool) → (a || b) ≡ true → (a ≡ true) ⊎ (b ≡ true)
+or_cases true b h = inl refl
+or_cases false b h = inr h
+
+-- with a slot of version 2 it has the blocks of that version
+long_of_two : (p : Parameters) (n : ℕ) → is_length (image_blocks p) (older_of p VersionTwo) n ≡ true → n ≡ image_blocks p
+long_of_two p n h = eqb-true n (image_blocks p) h
+
+-- and those of version 1 in any case
+pub long_enough : (p : Parameters) (version : LayoutVersion) (n : ℕ) → is_length (image_blocks p) (older_of p version) n ≡ true → blocks_one p ≤ n
+long_enough p VersionOne n h = elim (or_cases (n == image_blocks p) (n == blocks_one p) h) as (λ _. blocks_one p ≤ n) [
+  | inl whole ↦ let e : n ≡ image_blocks p = eqb-true _ _ whole in omega arith
+  | inr old ↦ let e : n ≡ blocks_one p = eqb-true _ _ old in omega arith
+]
+long_enough p VersionTwo n h = let e : n ≡ image_blocks p = long_of_two p n h in omega arith
+
+-- and no more than those of version 2
+pub long_most : (p : Parameters) (version : LayoutVersion) (n : ℕ) → is_length (image_blocks p) (older_of p version) n ≡ true → n ≤ image_blocks p
+long_most p VersionOne n h = elim (or_cases (n == image_blocks p) (n == blocks_one p) h) as (λ _. n ≤ image_blocks p) [
+  | inl whole ↦ let e : n ≡ image_blocks p = eqb-true _ _ whole in omega arith
+  | inr old ↦ let e : n ≡ blocks_one p = eqb-true _ _ old in omega arith
+]
+long_most p VersionTwo n h = let e : n ≡ image_blocks p = long_of_two p n h in omega arith
+
+pub slot_inside : (p : Parameters) (version : LayoutVersion) (n s : ℕ) → is_length (image_blocks p) (older_of p version) n ≡ true → s < 2
+    → place_of_slot version p s + blocks_of_slot version p ≤ n
+slot_inside p VersionOne n zero h l = let most = long_enough p VersionOne n h in omega arith
+slot_inside p VersionOne n (suc zero) h l = let most = long_enough p VersionOne n h in omega arith
+slot_inside p VersionOne n (suc (suc s)) h l = absurd (omega arith)
+slot_inside p VersionTwo n zero h l = let e : n ≡ image_blocks p = long_of_two p n h in omega arith
+slot_inside p VersionTwo n (suc zero) h l = let e : n ≡ image_blocks p = long_of_two p n h in omega arith
+slot_inside p VersionTwo n (suc (suc s)) h l = absurd (omega arith)
+
+-- byte i of the counts of a slot
+pub count_byte-blocks_of : (p : Parameters) (bytes : List ℕ) (i x : ℕ) → length bytes ≡ 64 * blocks_of_slot VersionTwo p → i < 64 * count_blocks p
+    → x ≡ 64 * (record_blocks p + table_blocks p) + i → slice_index_or bytes x 0 ≡ count_byte p (blocks_of bytes) i
+count_byte-blocks_of p bytes i x long l is =
+    let at : x ≡ 64 * (record_blocks p + table_blocks p + i / 64) + i % 64 = omega arith in
+    ap (λ y. slice_index_or bytes y 0) at
+    ∙ sym (ap (λ (b : Block). slice_index_or b.0 (i % 64) 0) (block_at-blocks_of bytes (record_blocks p + table_blocks p + i / 64) (omega arith))
+    ∙ get_or-take 64 (drop (64 * (record_blocks p + table_blocks p + i / 64)) bytes) (i % 64) 0 (omega arith)
+    ∙ get_or-drop (64 * (record_blocks p + table_blocks p + i / 64)) bytes (i % 64) 0)
+
+-- ---- a commit block names version 1 with one hart only
+
+one_by : (named knows : Bool) → (if named && knows then VersionOne else VersionTwo) ≡ VersionOne → knows ≡ true
+one_by true true h = refl
+one_by true false h = cc
+one_by false knows h = cc
+
+one_record : (p : Parameters) (b : Block) → version_of scheme_number p b ≡ VersionOne → record_blocks p ≡ hart_blocks
+one_record p b h =
+    let none : last_word scheme_number p ≡ 0
+    = eqb-true _ _ (one_by (word_of b 0 == commit_magic VersionOne) (knows_version_one scheme_number p) h) in
+    omega (arith, none)
+
+least_with : (f : LayoutVersion) (p : Parameters) → (f ≡ VersionOne → record_blocks p ≡ hart_blocks)
+    → record_blocks p + table_blocks p ≤ blocks_of_slot f p
+least_with VersionOne p one = let same : record_blocks p ≡ hart_blocks = one refl in omega (arith, same)
+least_with VersionTwo p one = omega arith
+
+-- the slot that a commit block names has the record and the tables
+pub least_slot : (p : Parameters) (b : Block) → record_blocks p + table_blocks p ≤ blocks_of_slot (version_of scheme_number p b) p
+least_slot p b = least_with (version_of scheme_number p b) p (one_record p b)
+
+-- ---- which writes leave a checkpoint alone, and at which places memory is read
 
 -- ---- the numbers of memory's places
 
@@ -92,8 +167,7 @@ slots_apart p (suc zero) (suc (suc r)) k i l m n o other = absurd (omega arith)
 
 home_by : (t : Tables) (b c : ℕ) (entry page : Option ℕ) → place_by_entries entry page c ≡ Home b → (c ≡ b) × (entry ≡ None) × (page ≡ None)
 home_by t b c None None e = (cc, refl, refl)
-home_by t b c None (Some j) e = cc
-home_by t b c (Some i) page e = cc
+home_by t b c entry page e = cc
 
 pub IsUnused-listed_home : (p : Parameters) (t : Tables) (i b : ℕ) → Lists t.btt i b → IsUnused p t (Home b)
 IsUnused-listed_home p t i b l = record {
@@ -111,8 +185,7 @@ IsUnused-paged_home p t j b l = record {
 
 block_by : (i c : ℕ) (entry page : Option ℕ) → place_by_entries entry page c ≡ AlternateBlock i → entry ≡ Some i
 block_by i c None None e = cc
-block_by i c None (Some j) e = cc
-block_by i c (Some k) page e = cc
+block_by i c entry page e = cc
 
 pub IsUnused-empty_entry : (p : Parameters) (t : Tables) (i : ℕ) → entry_at t.btt i ≡ None → IsUnused p t (AlternateBlock i)
 IsUnused-empty_entry p t i empty = record {
@@ -123,8 +196,7 @@ IsUnused-empty_entry p t i empty = record {
 
 page_by : (j k c : ℕ) (entry page : Option ℕ) → place_by_entries entry page c ≡ AlternatePage j k → page ≡ Some j
 page_by j k c None None e = cc
-page_by j k c None (Some i) e = cc
-page_by j k c (Some i) page e = cc
+page_by j k c entry page e = cc
 
 pub IsUnused-empty_page : (p : Parameters) (t : Tables) (j k : ℕ) → entry_at t.ptt j ≡ None → IsUnused p t (AlternatePage j k)
 IsUnused-empty_page p t j k empty = record {
@@ -214,3 +286,72 @@ slot_of_memory p t s k tables inside =
     let behind = slot_behind p s k in
     let between = (memory_between p t (slot_place p s + k) tables inside).1 in
     omega (arith, behind, between)
+
+-- ---- what holds of every layout holds of this one
+
+-- ---- the slot
+
+slot_most : (p : Parameters) (version : LayoutVersion) → blocks_of_slot version p ≤ slot_blocks p
+slot_most p VersionOne = omega arith
+slot_most p VersionTwo = omega arith
+
+after_commit : (p : Parameters) (version : LayoutVersion) (s : ℕ) → 2 ≤ place_of_slot version p s
+after_commit p VersionOne s = omega arith
+after_commit p VersionTwo s = omega arith
+
+record_fits : (records tables slot : ℕ) → records + tables ≤ slot → records ≤ slot
+record_fits records tables slot l = omega arith
+
+has_slot : (p : Parameters) (commit : Block) → HasSlot (dual_layouts p) commit
+has_slot p commit = record {
+  record_inside = record_fits _ _ _ (least_slot p commit);
+  most = slot_most p (version_of scheme_number p commit);
+  behind = after_commit p (version_of scheme_number p commit) (epoch_of commit % 2);
+  inside = λ n long. slot_inside p (version_of scheme_number p commit) n (epoch_of commit % 2) long (half (epoch_of commit));
+}
+
+-- ---- memory
+
+place_between : (p : Parameters) (t : Tables) (b : ℕ) → IsTables p t → b < memory_blocks p
+    → (first_home p ≤ number_of p (place_of t b)) × (number_of p (place_of t b) < blocks_one p)
+place_between p t b s l = between_slots p (place_of t b) (IsPlace-place_of p t b s l) (in_dram-place_of t b)
+
+after_header : (p : Parameters) (x : ℕ) → first_home p ≤ x → 2 ≤ x
+after_header p x l = omega arith
+
+below_end : (p : Parameters) (x n : ℕ) → x < blocks_one p → blocks_one p ≤ n → x < n
+below_end p x n l m = omega arith
+
+-- what lies between the slots of version 1 and those of version 2 is in none of them
+slot_apart : (p : Parameters) (version : LayoutVersion) (s k x : ℕ) → s < 2 → k < blocks_of_slot version p → first_home p ≤ x → x < blocks_one p
+    → x ≢ place_of_slot version p s + k
+slot_apart p VersionOne s k x l m low high = λ e. let before = (old_slot_before p s k l m).1 in omega (arith, before, low, e)
+slot_apart p VersionTwo s k x l m low high = λ e. let behind = slot_behind p s k in omega (arith, behind, high, e)
+
+has_places : (p : Parameters) (commit : Block) (slot : List Block) → Fits (dual_layouts p) commit slot → HasPlaces (dual_layouts p) commit slot
+has_places p commit slot fits =
+    let t : Tables = tables_in p slot in
+    let tables : IsTables p (tables_in p slot)
+    = tables_of_slot (version_of scheme_number p commit) p fits.ceiling (epoch_of commit) slot fits.faultless in
+    record {
+      behind = λ b l. after_header p (number_of p (place_of t b)) (place_between p t b tables l).0;
+      inside = λ b n l long.
+          below_end p (number_of p (place_of t b)) n (place_between p t b tables l).1 (long_enough p (version_of scheme_number p commit) n long);
+      apart = λ b k l m.
+          slot_apart p (version_of scheme_number p commit) (epoch_of commit % 2) k (number_of p (place_of t b)) (half (epoch_of commit)) m
+          (place_between p t b tables l).0 (place_between p t b tables l).1;
+      once = λ a b l m e.
+          place_of-own t a b (numbers_tell p (place_of t a) (place_of t b) (IsPlace-place_of p t a tables l) (IsPlace-place_of p t b tables m)
+          (in_dram-place_of t a ∙ sym (in_dram-place_of t b)) e);
+    }
+
+pub dual_are_layouts : AreLayouts dual_layouts
+dual_are_layouts = record {
+  of = λ p. refl;
+  number = λ p. omega arith;
+  slot = has_slot;
+  memory = has_places;
+  longest = λ p commit n long. long_most p (version_of scheme_number p commit) n long;
+  cpu = λ p ceiling commit slot none. cpu_of_slot (version_of scheme_number p commit) p ceiling (epoch_of commit) slot none;
+  higher = λ p low high commit slot most none. slot_fault-higher (version_of scheme_number p commit) p slot (epoch_of commit) low high most none;
+}

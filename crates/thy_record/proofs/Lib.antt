@@ -1,16 +1,9 @@
-pub mod TableLemmas
 pub mod EntryLemmas
 pub mod CountLemmas
 pub mod TableFaultLemmas
-pub mod TableRefusalLemmas
-pub mod VersionLemmas
 pub mod SlotLemmas
-pub mod ImageLemmas
-pub mod FileLemmas
-pub mod CheckLemmas
 pub mod IssuingLemmas
+pub mod CheckLemmas
 pub mod IndexLemmas
-pub mod LayoutLemmas
 pub mod MigratedLemmas
 pub mod DualPartsLemmas
-pub mod MigrationLemmas

@@ -1,5 +1,5 @@
 -- A slot of version 1 that is written anew in version 2 means the same.
-use Rattle.std.proofs.Common.{◌≡◌, ℕ, ◌+◌, ◌*◌, ◌/◌, ◌%◌, ◌<◌, ◌==◌, ◌&&◌, ◌||◌, Bool, nat_lt, nat_le, if◌then◌else◌, List, ◌∷◌, map, replicate, slice_index_or, Option, Some, None, sym, ◌∙◌, ap, inl, inr, arith}
+use Rattle.std.proofs.Common.{◌≡◌, ℕ, ◌+◌, ◌*◌, ◌/◌, ◌%◌, ◌<◌, ◌==◌, ◌&&◌, ◌||◌, Bool, nat_lt, nat_le, if◌then◌else◌, List, map, replicate, slice_index_or, Option, Some, None, sym, ◌∙◌, ap, inl, inr, arith}
 use Rattle.std.proofs.lemmas.Bool.{cases_lt}
 use Rattle.std.proofs.lemmas.List.{length-replicate, get_or-replicate, get_or_past, ext_get_or}
 use Rattle.std.proofs.lemmas.List.FromFn.{length-map-range_with_len, get_or-map-range_with_len}
@@ -9,26 +9,22 @@ use Rattle.thy_base.specs.declared.block.Block.{Block}
 use Rattle.thy_base.specs.declared.config.Parameters.{Parameters}
 use Rattle.thy_layout.specs.declared.layout_version.LayoutVersion.TheVariants.{VersionOne, VersionTwo}
 use Rattle.thy_base.specs.Device.{zero_block, block_at}
-use Rattle.thy_base.specs.Geometry.{console_room}
 use Rattle.thy_base.specs.Places.{record_blocks}
 use Rattle.thy_places.specs.Places.{table_blocks, count_blocks, slot_blocks}
 use Rattle.thy_base.specs.Words.{word_of}
 use Rattle.thy_base.proofs.BlockLemmas.{zero_block-at}
-use Rattle.thy_isa.specs.declared.state.OtherHart.{OtherHart}
 use Rattle.thy_layout.specs.declared.bad_image.BadImage.{BadImage}
 use Rattle.thy_layout.specs.declared.bad_image.BadImage.TheVariants.{Commit, Status as BadStatus, ConsoleLength, Count, Second}
-use Rattle.thy_layout.specs.Cpu.{status_of, reservation_of, is_status, is_width, record_word, record_words, other_of_record, cpu_of_record}
+use Rattle.thy_layout.specs.Cpu.{is_status, is_width, record_word, record_words, other_of_record, cpu_of_record}
 use Rattle.thy_record.specs.Migrated.{IsWrittenAnew, AnewMeansTheSame}
 use Rattle.thy_layout.specs.Slots.{entries_in, epoch_fault, status_fault, second_fault}
 use Rattle.thy_record.specs.Slots.{tables_in, count_byte, counts_in, is_bad_count, count_fault, slot_fault}
 use Rattle.thy_record.specs.TableFaults.{tables_fault}
 use Rattle.thy_layout.specs.Entries.{entry_from}
 use Rattle.thy_record.proofs.CountLemmas.{no_position, fine_count}
-use Rattle.thy_record.proofs.ImageLemmas.{slot_parts}
+use Rattle.thy_record.proofs.SlotLemmas.{slot_parts, tables_alike}
 use Rattle.thy_layout.proofs.CpuLemmas.{record_words-at, length-record_words}
-use Rattle.thy_layout.proofs.ReadBackLemmas.{same_other, same_cpu}
 use Rattle.thy_layout.proofs.SlotLemmas.{length-entries_in, entry_at-entries_in}
-use Rattle.thy_record.proofs.SlotLemmas.{tables_alike}
 use Rattle.thy_layout.proofs.EntryFaultLemmas.{both_none}
 
 -- the faults of a record's words
@@ -64,17 +60,23 @@ module _ (p : Parameters) (old new : List Block) (h : IsWrittenAnew p old new) w
   other_same : other_of_record new ≡ other_of_record old
   unfolding other_of_record
   other_same =
-      same_other _ _ _ _ _ _ _ _ (word_same 40) (ap (λ ws. 0 ∷ ws) (words_same 41 31))
-      (ap (λ w. reservation_of w (record_word new 73)) (word_same 72) ∙ ap (reservation_of (record_word old 72)) (word_same 73))
-      (ap (λ w. reservation_of w (record_word new 75)) (word_same 74) ∙ ap (reservation_of (record_word old 74)) (word_same 75))
+      cc (word_same 40, words_same 41 31, word_same 72, word_same 73, word_same 74, word_same 75)
 
   cpu_same : cpu_of_record p new ≡ cpu_of_record p old
   unfolding cpu_of_record
   cpu_same =
-      same_cpu _ _ _ _ _ _ _ _ _ _ _ _ _ _ _ _ _ _ (word_same 0) (ap (λ ws. 0 ∷ ws) (words_same 1 31)) (word_same 34) (word_same 33) (word_same 35)
-      (word_same 39) (word_same 32)
-      (ap (λ t. status_of t (record_word new 37)) (word_same 36) ∙ ap (status_of (record_word old 36)) (word_same 37))
-      (ap (λ (o : OtherHart). if p.harts == 2 then Some o else None) other_same)
+      cc (
+        word_same 0,
+        words_same 1 31,
+        word_same 34,
+        word_same 33,
+        word_same 35,
+        word_same 39,
+        word_same 32,
+        word_same 36,
+        word_same 37,
+        other_same,
+      )
 
   entries_same : (first n : ℕ) → entries_in new first n ≡ entries_in old first n
   entries_same first n =
@@ -113,12 +115,7 @@ module _ (p : Parameters) (old new : List Block) (h : IsWrittenAnew p old new) w
   second_same : second_fault p new ≡ second_fault p old
   second_same =
       ap (λ t. if p.harts == 1 || t then None else Some Second)
-      (ap (λ w. second_test w (record_word new 74) (record_word new 76) (record_word new 77) (record_word new 78) (record_word new 79)) (word_same 72)
-      ∙ ap (λ w. second_test (record_word old 72) w (record_word new 76) (record_word new 77) (record_word new 78) (record_word new 79)) (word_same 74)
-      ∙ ap (λ w. second_test (record_word old 72) (record_word old 74) w (record_word new 77) (record_word new 78) (record_word new 79)) (word_same 76)
-      ∙ ap (λ w. second_test (record_word old 72) (record_word old 74) (record_word old 76) w (record_word new 78) (record_word new 79)) (word_same 77)
-      ∙ ap (λ w. second_test (record_word old 72) (record_word old 74) (record_word old 76) (record_word old 77) w (record_word new 79)) (word_same 78)
-      ∙ ap (second_test (record_word old 72) (record_word old 74) (record_word old 76) (record_word old 77) (record_word old 78)) (word_same 79))
+      (cc (word_same 72, word_same 74, word_same 76, word_same 77, word_same 78, word_same 79))
 
   -- each test says the same
   slot_fault-none : (ceiling epoch : ℕ) → slot_fault VersionOne p ceiling epoch old ≡ None → slot_fault VersionTwo p ceiling epoch new ≡ None
@@ -134,11 +131,7 @@ module _ (p : Parameters) (old new : List Block) (h : IsWrittenAnew p old new) w
       epoch_same epoch = ap (λ w. fault_of_epoch w epoch) (word_same 38)
 
       status_same : (ceiling : ℕ) → status_fault p ceiling new ≡ status_fault p ceiling old
-      status_same ceiling =
-          ap (λ w. fault_of_status w (record_word new 37) (record_word new 32) (record_word new 34) ceiling (console_room p)) (word_same 36)
-          ∙ ap (λ w. fault_of_status (record_word old 36) w (record_word new 32) (record_word new 34) ceiling (console_room p)) (word_same 37)
-          ∙ ap (λ w. fault_of_status (record_word old 36) (record_word old 37) w (record_word new 34) ceiling (console_room p)) (word_same 32)
-          ∙ ap (λ w. fault_of_status (record_word old 36) (record_word old 37) (record_word old 32) w ceiling (console_room p)) (word_same 34)
+      status_same ceiling = cc (word_same 36, word_same 37, word_same 32, word_same 34)
 
 pub anew_means_the_same : AnewMeansTheSame
 anew_means_the_same p ceiling epoch old new h none = record {

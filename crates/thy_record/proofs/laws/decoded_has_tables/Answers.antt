@@ -1,4 +1,4 @@
-use Rattle.thy_record.proofs.ImageLemmas.{tables_of_decoded}
+use Rattle.thy_record.proofs.SlotLemmas.{tables_of_decoded}
 use Rattle.thy_record.proofs.laws.decoded_has_tables.Goals as goal
 
 pub returns : goal.returns

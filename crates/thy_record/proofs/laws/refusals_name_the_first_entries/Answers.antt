@@ -1,4 +1,4 @@
-use Rattle.thy_record.proofs.TableRefusalLemmas.{tables_say, found_of_says}
+use Rattle.thy_record.proofs.TableFaultLemmas.{tables_say, found_of_says}
 use Rattle.thy_record.proofs.laws.refusals_name_the_first_entries.Goals as goal
 
 pub returns-clause-found : goal.returns-clause-found

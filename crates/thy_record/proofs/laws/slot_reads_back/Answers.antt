@@ -1,5 +1,4 @@
-use Rattle.thy_record.proofs.SlotLemmas.{slot_back}
-use Rattle.thy_record.proofs.TableLemmas.{table_block_of-entries}
+use Rattle.thy_record.proofs.SlotLemmas.{slot_back, table_block_of-entries}
 use Rattle.thy_record.proofs.laws.slot_reads_back.Goals as goal
 
 pub returns-clause-entries : goal.returns-clause-entries

@@ -1,4 +1,4 @@
-use Rattle.thy_record.proofs.ImageLemmas.{decode-written}
+use Rattle.thy_record.proofs.SlotLemmas.{decode-written}
 use Rattle.thy_record.proofs.laws.written_decodes.Goals as goal
 
 pub returns : goal.returns

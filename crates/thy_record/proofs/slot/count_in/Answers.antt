@@ -1,5 +1,5 @@
 use Rattle.std.proofs.Common.{arith}
-use Rattle.thy_record.proofs.FileLemmas.{count_byte-blocks_of}
+use Rattle.thy_record.proofs.IssuingLemmas.{count_byte-blocks_of}
 use Rattle.thy_record.proofs.slot.count_in.Goals as goal
 
 pub returns : goal.returns

@@ -2,8 +2,8 @@ use Rattle.std.proofs.Common.{arith}
 use Rattle.thy_layout.specs.Commit.{epoch_of, version_of}
 use Rattle.thy_layout.specs.Files.{blocks_of}
 use Rattle.thy_record.specs.Number.{scheme_number}
-use Rattle.thy_record.proofs.ImageLemmas.{tables_of_slot}
-use Rattle.thy_record.proofs.VersionLemmas.{least_slot}
+use Rattle.thy_record.proofs.SlotLemmas.{tables_of_slot}
+use Rattle.thy_record.proofs.IssuingLemmas.{least_slot}
 use Rattle.thy_record.proofs.images.ThynvmImagesImageLayout.memory_places.Goals as goal
 
 pub places-requires-clause-slot : goal.places-requires-clause-slot

@@ -1,4 +1,4 @@
-use Rattle.thy_record.proofs.LayoutLemmas.{dual_are_layouts}
+use Rattle.thy_record.proofs.IssuingLemmas.{dual_are_layouts}
 use Rattle.thy_record.proofs.images.ThynvmImagesImageLayout.recall_laws.Goals as goal
 
 pub returns : goal.returns

@@ -5,7 +5,7 @@ use Rattle.thy_layout.specs.Commit.{version_of}
 use Rattle.thy_layout.specs.Files.{blocks_of}
 use Rattle.thy_record.specs.Number.{scheme_number}
 use Rattle.thy_record.specs.Slots.{slot_fault}
-use Rattle.thy_record.proofs.VersionLemmas.{least_slot}
+use Rattle.thy_record.proofs.IssuingLemmas.{least_slot}
 use Rattle.thy_record.proofs.images.ThynvmImagesImageLayout.slot_fault.Goals as goal
 
 pub slot_fault-requires-clause-slot : goal.slot_fault-requires-clause-slot
