@@ -1,5 +1,5 @@
 -- What a boot lists, and the tables that the checkpoints have then.
-use Rattle.std.proofs.Common.{◌≡◌, ◌≢◌, ℕ, ◌<◌, ◌≤◌, Bool, true, false, List, length, get_or, map, slice_set, refl, sym, ◌∙◌, ap, subst, inl, inr, arith, Option, Some, None, option_and_then, unwrap_or}
+use Rattle.std.proofs.Common.{◌≡◌, ◌≢◌, ℕ, ◌<◌, ◌≤◌, Bool, true, false, List, length, get_or, map, slice_set, refl, sym, ◌∙◌, ap, subst, inl, inr, arith, Option, Some, None, option_and_then, unwrap_or, rules}
 use Rattle.std.proofs.lemmas.Bool.{cases_eq, cases_Bool}
 use Rattle.std.proofs.lemmas.List.{length-set, length-map, map-set, ext_get_or}
 use Rattle.std.proofs.Math.ListN.{get_or-map}
@@ -27,7 +27,7 @@ use Rattle.thy_control.specs.State.{State, AreSoundTables, cell_of, new_state}
 use Rattle.thy_control.specs.CheckpointTables.{tables0, tables1, entry_lists, page_lists}
 use Rattle.thy_control.specs.Boot.{IsBooting, MayListBlock, MayListPage, HaveTables, with_listed_block, with_listed_page, with_listed_count, with_block, with_page}
 use Rattle.thy_control.proofs.CountsLemmas.{AreCountsOf-last}
-use Rattle.thy_control.proofs.FindLemmas.{found_entry, entry_for-some, entry_for-none}
+use Rattle.thy_control.proofs.FindLemmas.{entry_for-some, entry_for-none, at_put, entry_for-kept, entry_at-put}
 use Rattle.thy_control.proofs.NewLemmas.{entry_at-empty}
 use Rattle.thy_control.proofs.PageLemmas.{live-set}
 use Rattle.thy_control.proofs.LiveLemmas.{used-set}
@@ -40,28 +40,10 @@ module _ {E : Type 0} (key : E → ℕ) (new : ℕ → E) (t : Listing E) (once 
       entry_for-some key new (with_entry i (Some e) t) (key e) i e (place_of-put key t once i e inside unlisted room) (entry_at-with_same t i (Some e) inside)
 
   entry_for-put_other : (n : ℕ) → n ≢ key e → entry_for key new n (with_entry i (Some e) t) ≡ entry_for key new n t
-  entry_for-put_other n other = by_place (place_of key n t) refl where
-    same : place_of key n (with_entry i (Some e) t) ≡ place_of key n t
-    same = place_of-put_other key t once i e n inside free unlisted room other
-
-    by_place : (o : Option ℕ) → place_of key n t ≡ o → entry_for key new n (with_entry i (Some e) t) ≡ entry_for key new n t
-    by_place None h = entry_for-none key new (with_entry i (Some e) t) n (same ∙ h) ∙ sym (entry_for-none key new t n h)
-    by_place (Some k) h =
-        let f = found_entry key new t n k h in
-        let apart : k ≢ i = λ s. (let both : Some f.0 ≡ None = sym f.1 ∙ ap (entry_at t) s ∙ free in cc) in
-        entry_for-some key new (with_entry i (Some e) t) n k f.0 (same ∙ h) (entry_at-with_other t i k (Some e) apart ∙ f.1)
-        ∙ sym (entry_for-some key new t n k f.0 h f.1)
-
--- an entry of a table with one more is the new one, or was there
-at_put : {E : Type 0} (P : E → Type 0) (t : Listing E) (i : ℕ) (e : E) → i < length t.entries → P e
-    → ((k : ℕ) (f : E) → entry_at t k ≡ Some f → P f) → (k : ℕ) (f : E) → entry_at (with_entry i (Some e) t) k ≡ Some f → P f
-at_put P t i e inside here others k f was = elim (cases_eq k i) as (λ _. P f) [
-  | inl s ↦
-      let both : Some e ≡ Some f = sym (entry_at-with_same t i (Some e) inside) ∙ ap (entry_at (with_entry i (Some e) t)) (sym s) ∙ was in
-      let is : e ≡ f = cc in
-      subst P is here
-  | inr o ↦ others k f (sym (entry_at-with_other t i k (Some e) o) ∙ was)
-]
+  entry_for-put_other n other =
+      entry_for-kept key new t (with_entry i (Some e) t) n
+      (place_of-put_other key t once i e n inside free unlisted room other)
+      (λ k x was of_n. entry_at-put t i (Some e) free k x was)
 
 -- lists that two rules make of the same entries are one if the rules agree on each
 maps_alike : {X Y : Type 0} (f g : X → Option Y) (xs : List (Option X)) → ((k : ℕ) (x : X) → get_or xs k None ≡ Some x → f x ≡ g x)
@@ -141,25 +123,20 @@ module _ (i b : ℕ) (s : State) (t : AreSoundTables s) (boot : IsBooting s) (ma
   ]
 
   pub AreSoundTables-block : ListedCellsAreSound → AreSoundTables u
-  AreSoundTables-block law = record {
-    range = t.range;
-    btt_size = length-set s.btt.entries i (Some (listed_entry b)) ∙ t.btt_size;
-    btt_numbers = t.btt_numbers;
-    btt_once = once-block;
-    live_blocks = used-set s.btt i (listed_entry b) inside (λ v0 v1. let no : Alt ≡ Out = v0 in absurd (cc)) t.live_blocks;
-    ptt_size = t.ptt_size;
-    ptt_numbers = t.ptt_numbers;
-    ptt_once = t.ptt_once;
-    live_pages = t.live_pages;
-    counts = t.counts;
-    dram_size = t.dram_size;
-    cells = sound-block law;
-  }
+  AreSoundTables-block law = search (
+    rules,
+    length-set s.btt.entries i (Some (listed_entry b)) ∙ t.btt_size,
+    once-block,
+    used-set s.btt i (listed_entry b) inside (λ v0 v1. let no : Alt ≡ Out = v0 in absurd (cc))
+        t.live_blocks,
+    sound-block law,
+  )
 
   pub IsBooting-block : IsBooting u
   IsBooting-block = record {
     idle = boot.idle;
-    blocks = at_put (λ (e : BttEntry). e ≡ listed_entry e.block) s.btt i (listed_entry b) inside refl boot.blocks;
+    blocks = at_put s.btt i (λ (e : BttEntry). e ≡ listed_entry e.block) (listed_entry b) inside
+        refl boot.blocks;
     pages = boot.pages;
   }
 
@@ -204,26 +181,21 @@ module _ (j n : ℕ) (s : State) (t : AreSoundTables s) (boot : IsBooting s) (ma
   ]
 
   pub AreSoundTables-page : ListedCellsAreSound → AreSoundTables v
-  AreSoundTables-page law = record {
-    range = t.range;
-    btt_size = t.btt_size;
-    btt_numbers = t.btt_numbers;
-    btt_once = t.btt_once;
-    live_blocks = t.live_blocks;
-    ptt_size = length-set s.ptt.entries j (Some (listed_page n)) ∙ t.ptt_size;
-    ptt_numbers = t.ptt_numbers;
-    ptt_once = once-page;
-    live_pages = live-set s.ptt j (listed_page n) inside_page (λ bare. let no : true ≡ false = bare in cc) t.live_pages;
-    counts = t.counts;
-    dram_size = t.dram_size;
-    cells = sound-page law;
-  }
+  AreSoundTables-page law = search (
+    rules,
+    length-set s.ptt.entries j (Some (listed_page n)) ∙ t.ptt_size,
+    once-page,
+    live-set s.ptt j (listed_page n) inside_page (λ bare. let no : true ≡ false = bare in cc)
+        t.live_pages,
+    sound-page law,
+  )
 
   pub IsBooting-page : IsBooting v
   IsBooting-page = record {
     idle = boot.idle;
     blocks = boot.blocks;
-    pages = at_put (λ (e : PttEntry). e ≡ listed_page e.page) s.ptt j (listed_page n) inside_page refl boot.pages;
+    pages = at_put s.ptt j (λ (e : PttEntry). e ≡ listed_page e.page) (listed_page n) inside_page
+        refl boot.pages;
   }
 
   pub HaveTables-page : HaveTables v (with_page j n (tables0 s))
@@ -235,20 +207,8 @@ module _ (j n : ℕ) (s : State) (t : AreSoundTables s) (boot : IsBooting s) (ma
 
 module _ (n count : ℕ) (s : State) where
   pub AreSoundTables-count : AreSoundTables s → count ≤ most → AreSoundTables (with_listed_count n count s)
-  AreSoundTables-count t within = record {
-    range = t.range;
-    btt_size = t.btt_size;
-    btt_numbers = t.btt_numbers;
-    btt_once = t.btt_once;
-    live_blocks = t.live_blocks;
-    ptt_size = t.ptt_size;
-    ptt_numbers = t.ptt_numbers;
-    ptt_once = t.ptt_once;
-    live_pages = t.live_pages;
-    counts = AreCountsOf-last n count s.p s.counts within t.counts;
-    dram_size = t.dram_size;
-    cells = t.cells;
-  }
+  AreSoundTables-count t within =
+      search (rules, AreCountsOf-last n count s.p s.counts within t.counts)
 
   pub IsBooting-count : IsBooting s → IsBooting (with_listed_count n count s)
   IsBooting-count boot = record { idle = boot.idle; blocks = boot.blocks; pages = boot.pages }
@@ -329,20 +289,17 @@ MayListPage-by j n s t boot inside free tables =
 
 -- ---- what the code puts
 
-pub count_put_is : (n count : ℕ) (s w : State) → w ≡ s → (c : Tally) → c ≡ with_last n count w.counts
-    → record w { counts = c } ≡ with_listed_count n count s
-count_put_is n count s w view c c_is = ap (λ (x : Tally). record w { counts = x }) c_is ∙ ap (with_listed_count n count) view
+module _ {s w : State} (view : w ≡ s) where
+  pub count_put_is : (n count : ℕ) {c : Tally} → c ≡ with_last n count w.counts
+      → record w { counts = c } ≡ with_listed_count n count s
+  count_put_is n count c_is = cc
 
-pub block_put_is : (i b : ℕ) (s w : State) → w ≡ s → (e : BttEntry) (t : Listing BttEntry) → e ≡ listed_entry b → t ≡ with_entry i (Some e) w.btt
-    → record w { btt = t } ≡ with_listed_block i b s
-block_put_is i b s w view e t e_is t_is =
-    ap (λ (x : State). record x { btt = t }) view
-    ∙ ap (λ (x : Listing BttEntry). record s { btt = x })
-    (t_is ∙ ap (λ (x : State). with_entry i (Some e) x.btt) view ∙ ap (λ (x : BttEntry). with_entry i (Some x) s.btt) e_is)
+  pub block_put_is : (i b : ℕ) {e : BttEntry} {t : Listing BttEntry} → e ≡ listed_entry b
+      → t ≡ with_entry i (Some e) w.btt
+      → record w { btt = t } ≡ with_listed_block i b s
+  block_put_is i b e_is t_is = cc
 
-pub page_put_is : (j n : ℕ) (s w : State) → w ≡ s → (e : PttEntry) (t : Listing PttEntry) → e ≡ listed_page n → t ≡ with_entry j (Some e) w.ptt
-    → record w { ptt = t } ≡ with_listed_page j n s
-page_put_is j n s w view e t e_is t_is =
-    ap (λ (x : State). record x { ptt = t }) view
-    ∙ ap (λ (x : Listing PttEntry). record s { ptt = x })
-    (t_is ∙ ap (λ (x : State). with_entry j (Some e) x.ptt) view ∙ ap (λ (x : PttEntry). with_entry j (Some x) s.ptt) e_is)
+  pub page_put_is : (j n : ℕ) {e : PttEntry} {t : Listing PttEntry} → e ≡ listed_page n
+      → t ≡ with_entry j (Some e) w.ptt
+      → record w { ptt = t } ≡ with_listed_page j n s
+  page_put_is j n e_is t_is = cc

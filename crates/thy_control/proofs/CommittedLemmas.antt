@@ -11,7 +11,7 @@ use Rattle.thy_control.specs.Commit.{committed_state, CommitsTargets}
 use Rattle.thy_control.specs.Seal.{sealed_state}
 use Rattle.thy_control.specs.State.{State, AreSoundTables, cell_of, reads}
 use Rattle.thy_control.specs.Versions.{KeepsCommitted}
-use Rattle.thy_control.proofs.MovedTablesLemmas.{tables0-sealed, CommitsTables-committed}
+use Rattle.thy_control.proofs.SealStateLemmas.{tables0-sealed, CommitsTables-committed}
 use Rattle.thy_control.proofs.TablesLemmas.{AreTablesOf-committed, AreTablesOf-under_way}
 
 -- equal tables have each block at one place

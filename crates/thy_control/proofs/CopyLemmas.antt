@@ -1,6 +1,5 @@
 -- The copy of a block's pending version: every block after it, and the tables.
-use Rattle.std.proofs.Common.{◌≡◌, ◌≢◌, ℕ, ◌+◌, ◌<◌, Bool, true, false, refl, sym, ◌∙◌, ap, subst, inl, inr, arith, Option, Some, None, is_some, List, Result, Ok, Err, OnOk, OnErr, IfOk}
-use Rattle.std.proofs.lemmas.Bool.{cases_eq}
+use Rattle.std.proofs.Common.{◌≡◌, ◌≢◌, ℕ, ◌+◌, ◌<◌, Bool, true, false, refl, sym, ◌∙◌, ap, subst, inl, arith, Option, Some, None, is_some, List, Result, Ok, Err, OnOk, OnErr, IfOk, rules}
 use Rattle.std.proofs.lemmas.List.{length-set}
 use Rattle.thy_base.specs.declared.block.Block.{Block}
 use Rattle.thy_places.specs.declared.place.Place.{Place}
@@ -10,12 +9,11 @@ use Rattle.thy_base.specs.Geometry.{memory_blocks}
 use Rattle.thy_places.specs.Places.{IsPlace}
 use Rattle.thy_place.specs.Devices.{Devices, devices_of}
 use Rattle.thy_place.proofs.PlaceLemmas.{AreSized-written_at}
-use Rattle.thy_table.specs.Listing.{Listing, IsListing, entry_at, lists, passes, place_of, with_entry}
-use Rattle.thy_table.proofs.IndexLemmas.{lists-key}
+use Rattle.thy_table.specs.Listing.{Listing, IsListing, entry_at, passes, place_of, with_entry}
 use Rattle.thy_table.proofs.FirstLemmas.{first_from-first, none-first_from}
 use Rattle.thy_table.specs.declared.block_entry.BttEntry.{BttEntry}
 use Rattle.thy_table.specs.declared.block_entry.Pending.{Pending}
-use Rattle.thy_table.specs.declared.block_entry.Pending.TheVariants.{Settled, FromBuffer, FromAlternate}
+use Rattle.thy_table.specs.declared.block_entry.Pending.TheVariants.{Settled}
 use Rattle.thy_table.specs.BlockEntry.{new_entry}
 use Rattle.thy_cell.specs.declared.cell.Cell.{Cell}
 use Rattle.thy_cell.specs.Cells.{Seat, seat_of, placed, target, last}
@@ -23,45 +21,40 @@ use Rattle.thy_cell.specs.Sound.{IsSoundCell}
 use Rattle.thy_cell.specs.Rules.{after_copy}
 use Rattle.thy_cell.specs.BetweenCheckpoints.{CopyKeeps, Keeps}
 use Rattle.thy_cell.proofs.StoreLemmas.{IsSoundCell-after_copy}
-use Rattle.thy_control.specs.Find.{entry_for}
 use Rattle.thy_control.specs.Keys.{block_key}
 use Rattle.thy_control.specs.State.{State, AreSoundTables, IsSized, cell_of, reads}
 use Rattle.thy_control.specs.Copies.{is_pending, needs_copy, next_copy, copies_left, block_in, block_listed, devices_copied, copied, devices_after_copy, after_next_copy, FailsCopy, FailsNextCopy}
 use Rattle.thy_control.specs.Moves.{moved, IsOneLess}
 use Rattle.thy_control.specs.Versions.{KeepsAll}
-use Rattle.thy_control.proofs.FindLemmas.{found_entry, entry_for-some}
-use Rattle.thy_control.proofs.CellLemmas.{block-cell_of, IsPlace-target, IsWithin-cell_of}
+use Rattle.thy_control.proofs.FindLemmas.{found_entry, stands_at, entry_for-there, by_number}
+use Rattle.thy_control.proofs.StateLemmas.{block-cell_of, IsPlace-target, IsWithin-cell_of, place_of-index, cell-set_block_same, cell-set_block_other}
 use Rattle.thy_control.proofs.CountLemmas.{count-set_less}
-use Rattle.thy_control.proofs.StateLemmas.{place_of-index, cell-set_block_same, cell-set_block_other}
-use Rattle.thy_control.proofs.OwnLemmas.{owner, Owns-cell_of, owned-target}
-use Rattle.thy_control.proofs.StepLemmas.{KeepsEach, Keeps-untouched, reads_after, puts, untouched, moved-is, none-passes, KeepsEach-same, holds-each, KeepsAll-each}
+use Rattle.thy_control.proofs.TablesLemmas.{owner, Owns-cell_of, owned-target}
+use Rattle.thy_control.proofs.StepLemmas.{KeepsEach, Keeps-untouched, reads_after, puts, untouched, none-passes, KeepsEach-same, holds-each, KeepsAll-each}
 use Rattle.thy_table.specs.declared.block_entry.Version.{Version}
-use Rattle.thy_table.specs.declared.block_entry.Version.TheVariants.{Out, Alt}
 use Rattle.thy_table.specs.declared.page_entry.Site.{Site}
-use Rattle.thy_table.specs.declared.page_entry.Site.TheVariants.{AtHome, AtAlternate}
+use Rattle.thy_table.specs.declared.page_entry.Site.TheVariants.{AtHome}
 use Rattle.thy_control.specs.CheckpointTables.{tables0, tables1, entry_lists}
 use Rattle.thy_control.specs.Guarded.{LeavesGuarded}
 use Rattle.thy_control.specs.OverCalls.{cell_same, stays_same}
 use Rattle.thy_control.specs.Stays.{CellStays, Stays}
-use Rattle.thy_control.proofs.StayLemmas.{map-block}
-use Rattle.thy_control.proofs.StepStayLemmas.{StaysTables, Outcome, LeavesGuarded-step, Stays-step, Stays-failed_step, Outcome-failed}
+use Rattle.thy_control.proofs.StayLemmas.{map-block, StaysTables, LeavesGuarded-step, Stays-step, Stays-failed_step, Outcome-failed}
 use Rattle.thy_control.proofs.LiveLemmas.{used-set}
+use Rattle.thy_control.proofs.KeepLemmas.{StepOutcome}
 
 -- a version is pending exactly if it is not settled
 pub is_pending-not : (q : Pending) → q ≢ Settled → is_pending q ≡ true
-is_pending-not Settled h = absurd (h refl)
-is_pending-not FromBuffer h = refl
-is_pending-not FromAlternate h = refl
+is_pending-not q h = grind arith
 
 pub pending-not_settled : (q : Pending) → is_pending q ≡ true → q ≢ Settled
-pending-not_settled Settled h = cc
-pending-not_settled FromBuffer h = λ e. cc
-pending-not_settled FromAlternate h = λ e. cc
+pending-not_settled q h e = grind arith
+
+pub settled_by : (q : Pending) → (q ≢ Settled → ⊥) → q ≡ Settled
+settled_by q h = grind arith
 
 -- what has to be copied belongs to a checkpoint under way
 pub pending-under_way : (u : Bool) (c : Cell) → IsSoundCell u c → c.entry.pend ≢ Settled → u ≡ true
-pending-under_way true c s h = refl
-pending-under_way false c s h = absurd (s.pending_moves h (s.one refl))
+pending-under_way u c s h = grind (arith, s.pending_moves, s.one)
 
 module _ (b : ℕ) (s : State) (pending : (cell_of s b).entry.pend ≢ Settled) where
   pub listed-pending : place_of block_key b s.btt ≡ Some (cell_of s b).i
@@ -79,32 +72,33 @@ module _ (b : ℕ) (s : State) (pending : (cell_of s b).entry.pend ≢ Settled) 
     -- every block is as it was, but for what was copied
     pub cell-copied : (P : Cell → Cell → Type 0) (k : ℕ) → P (cell_of s b) (after_copy (cell_of s b)) → (k ≢ b → P (cell_of s k) (cell_of s k))
         → P (cell_of s k) (cell_of (copied b s m) k)
-    cell-copied P k here others = elim (cases_eq k b) as (λ _. P (cell_of s k) (cell_of (copied b s m) k)) [
-      | inl e ↦ subst (λ (j : ℕ). P (cell_of s j) (cell_of (copied b s m) j)) (sym e) (subst (λ (c : Cell). P (cell_of s b) c) (sym cell-copied_same) here)
-      | inr ne ↦ subst (λ (c : Cell). P (cell_of s k) c) (sym (cell-copied_other k ne)) (others ne)
-    ]
+    cell-copied P k here others = by_number (λ j. P (cell_of s j) (cell_of (copied b s m) j)) b k
+        (subst (P (cell_of s b)) (sym cell-copied_same) here)
+        (λ ne. subst (P (cell_of s k)) (sym (cell-copied_other k ne)) (others ne))
 
     module _ (t : AreSoundTables s) (sized : IsSized s m) (l : b < memory_blocks s.p) where
+      sound-copied : (k : ℕ) → k < memory_blocks s.p
+          → IsSoundCell s.under_way (cell_of (copied b s m) k)
+      sound-copied k h =
+          cell-copied (λ c d. IsSoundCell s.under_way c → IsSoundCell s.under_way d) k
+          (λ sound. IsSoundCell-after_copy s.under_way (cell_of s b) sound) (λ ne sound. sound)
+          (t.cells k h)
+
       pub AreSoundTables-copied : IsListing block_key (copied b s m).btt → AreSoundTables (copied b s m)
       unfolding copied devices_copied
       AreSoundTables-copied once =
           let sizes = AreSized-written_at s.p (devices_of m s.dram) (target (cell_of s b)) (reads s m (last (cell_of s b))) (record { nvm = sized.nvm; dram = t.dram_size }) in
-          record {
-            range = t.range;
-            btt_size = length-set s.btt.entries (cell_of s b).i (Some (after_copy (cell_of s b)).entry) ∙ t.btt_size;
-            btt_numbers = t.btt_numbers;
-            btt_once = once;
-            ptt_size = t.ptt_size;
-            ptt_numbers = t.ptt_numbers;
-            ptt_once = t.ptt_once;
-            live_blocks = used-set s.btt (cell_of s b).i (after_copy (cell_of s b)).entry (found_entry block_key new_entry s.btt b (cell_of s b).i listed-pending).3
-                (λ v0 v1. absurd ((t.cells b l).pending_moves pending (v0 ∙ sym v1))) t.live_blocks;
-            live_pages = t.live_pages;
-            counts = t.counts;
-            dram_size = sizes.dram;
-            cells = λ k h. cell-copied (λ c d. IsSoundCell s.under_way c → IsSoundCell s.under_way d) k
-                (λ sound. IsSoundCell-after_copy s.under_way (cell_of s b) sound) (λ ne sound. sound) (t.cells k h);
-          }
+          search (
+            rules,
+            length-set s.btt.entries (cell_of s b).i (Some (after_copy (cell_of s b)).entry)
+                ∙ t.btt_size,
+            once,
+            used-set s.btt (cell_of s b).i (after_copy (cell_of s b)).entry
+                (found_entry block_key new_entry s.btt b (cell_of s b).i listed-pending).3
+                (λ v0 v1. absurd ((t.cells b l).pending_moves pending (v0 ∙ sym v1))) t.live_blocks,
+            sizes.dram,
+            sound-copied,
+          )
 
       -- every block is kept
       pub KeepsEach-copied : CopyKeeps → KeepsEach s m (copied b s m) (devices_copied b s m).nvm
@@ -130,10 +124,11 @@ module _ (b : ℕ) (s : State) (m : Device) (pending : (cell_of s b).entry.pend 
   pub copies_left-copied : copies_left (copied b s m) + 1 ≡ copies_left s
   unfolding copied
   copies_left-copied =
-      let there = found_entry block_key new_entry s.btt b (cell_of s b).i (listed-pending b s pending) in
-      let is : (cell_of s b).entry ≡ there.0 = entry_for-some block_key new_entry s.btt b (cell_of s b).i there.0 (listed-pending b s pending) there.1 in
-      count-set_less (passes needs_copy) s.btt.entries (cell_of s b).i (Some (after_copy (cell_of s b)).entry) None there.3 refl
-      (ap (passes needs_copy) there.1 ∙ ap needs_copy (sym is) ∙ is_pending-not (cell_of s b).entry.pend pending)
+      let there = stands_at block_key new_entry s.btt b (cell_of s b).i
+      (listed-pending b s pending) in
+      count-set_less (passes needs_copy) s.btt.entries (cell_of s b).i
+      (Some (after_copy (cell_of s b)).entry) None there.1 refl
+      (ap (passes needs_copy) there.0 ∙ is_pending-not (cell_of s b).entry.pend pending)
 
 -- what is known of the entry whose copy is next
 pub record IsNext (s : State) (b : ℕ) : Type 0 where
@@ -145,13 +140,10 @@ IsNext-entry s t i h = by_entry (entry_at s.btt i) refl (first_from-first (passe
   by_entry : (o : Option BttEntry) → entry_at s.btt i ≡ o → passes needs_copy o ≡ true → IsNext s (block_listed i s)
   by_entry None e p = cc
   by_entry (Some x) e p =
-      let here : lists block_key x.block (entry_at s.btt i) ≡ true = lists-key block_key x.block (entry_at s.btt i) x e refl in
-      let block : block_listed i s ≡ x.block = ap block_in e in
-      let found : place_of block_key x.block s.btt ≡ Some i = t.btt_once.found i x.block here in
-      let entry : entry_for block_key new_entry x.block s.btt ≡ x = entry_for-some block_key new_entry s.btt x.block i x found e in
-      subst (λ (b : ℕ). IsNext s b) (sym block) (record {
-        inside = omega (arith, t.btt_once.inside i x.block here, t.btt_numbers);
-        pending = pending-not_settled (cell_of s x.block).entry.pend (ap needs_copy entry ∙ p);
+      let there = entry_for-there block_key new_entry s.btt t.btt_once i x e in
+      subst (λ (b : ℕ). IsNext s b) (sym (ap block_in e)) (record {
+        inside = omega (arith, there.2, t.btt_numbers);
+        pending = pending-not_settled (cell_of s x.block).entry.pend (ap needs_copy there.1 ∙ p);
       })
 
 -- if none is next, none is left
@@ -185,39 +177,25 @@ copies_left-next s m t (Some i) h = copies_left-copied (block_listed i s) s m (I
 
 pub left_after : (s : State) (m : Device) (t : State) → AreSoundTables s → (r : Result Bool NvmError) → OnOk r (t ≡ after_next_copy (next_copy s) s m) → IfOk r (λ more. more ≡ is_some (next_copy s))
     → IfOk r (λ more. IsOneLess more (copies_left s) (copies_left t))
-left_after s m t tables (Ok more) e f =
-    subst (λ (x : State). IsOneLess more (copies_left s) (copies_left x)) (sym e)
-    (subst (λ (x : Bool). IsOneLess x (copies_left s) (copies_left (after_next_copy (next_copy s) s m))) (sym f) (copies_left-next s m tables (next_copy s) refl))
-left_after s m t tables (Err x) e f = tt
+left_after s m t tables r e f = search (rules, copies_left-next s m tables (next_copy s) refl)
 
 -- the parts of the code's way: the state as its fields have it
-module _ (s w : State) (view : w ≡ s) where
-  pub devices_are : (b : ℕ) (m : Device) (found : Cell) (from to : Place) (d : Devices) → found ≡ cell_of s b → from ≡ last found → to ≡ target found
+module _ {s w : State} (view : w ≡ s) (b : ℕ) (m : Device) {found : Cell}
+    (is : found ≡ cell_of s b) where
+  pub devices_are : {from to : Place} {d : Devices} → from ≡ last found → to ≡ target found
       → d ≡ moved w.p from to (devices_of m w.dram) → d ≡ devices_copied b s m
   unfolding devices_copied
-  devices_are b m found from to d is from_is to_is d_is =
-      moved-is s w view m from to (last (cell_of s b)) (target (cell_of s b)) d (from_is ∙ ap last is) (to_is ∙ ap target is) d_is
+  devices_are from_is to_is d_is = cc
 
-  pub state_is : (b : ℕ) (m : Device) (found after : Cell) (t : Listing BttEntry) (d : Devices) → found ≡ cell_of s b → after ≡ after_copy found
+  pub state_is : {after : Cell} {t : Listing BttEntry} {d : Devices} → after ≡ after_copy found
       → t ≡ with_entry found.i (Some after.entry) w.btt → d ≡ devices_copied b s m
       → record w { btt = t; dram = d.dram } ≡ copied b s m
   unfolding copied
-  state_is b m found after t d is after_is t_is d_is =
-      ap (λ (x : State). record x { btt = t; dram = d.dram }) view
-      ∙ ap (λ (x : Listing BttEntry). record s { btt = x; dram = d.dram })
-      (t_is ∙ ap (λ (x : State). with_entry found.i (Some after.entry) x.btt) view
-      ∙ ap (λ (c : Cell). with_entry found.i (Some c.entry) s.btt) after_is
-      ∙ ap (λ (c : Cell). with_entry c.i (Some (after_copy c).entry) s.btt) is)
-      ∙ ap (λ (x : Devices). record s { btt = with_entry (cell_of s b).i (Some (after_copy (cell_of s b)).entry) s.btt; dram = x.dram }) d_is
+  state_is after_is t_is d_is = cc
 
 -- the place of what has to be copied is not that of the committed checkpoint
 versions_apart : (v w : Version) (p q : Site) (x : Seat) → v ≢ w → p ≡ AtHome → q ≡ AtHome → placed v p x ≢ placed w q x
-versions_apart Out Out p q x other hp hq e = other refl
-versions_apart Alt Alt p q x other hp hq e = other refl
-versions_apart Out Alt AtHome q x other hp hq e = cc
-versions_apart Out Alt AtAlternate q x other hp hq e = cc
-versions_apart Alt Out p AtHome x other hp hq e = cc
-versions_apart Alt Out p AtAlternate x other hp hq e = cc
+versions_apart v w p q x other hp hq e = grind arith
 
 module _ (b : ℕ) (s : State) (m : Device) (pending : (cell_of s b).entry.pend ≢ Settled) where
   stays_tables : StaysTables s (copied b s m)
@@ -236,7 +214,9 @@ module _ (b : ℕ) (s : State) (m : Device) (pending : (cell_of s b).entry.pend 
   }
 
   module _ (t : AreSoundTables s) (sized : IsSized s m) (l : b < memory_blocks s.p) where
-    guarded_by : (n : Device) → Outcome s (target (cell_of s b)) (reads s m (last (cell_of s b))) m n → LeavesGuarded s m n
+    guarded_by : (n : Device)
+        → StepOutcome s (target (cell_of s b)) (reads s m (last (cell_of s b))) m n
+        → LeavesGuarded s m n
     guarded_by n outcome =
         let c : Cell = cell_of s b in
         let sound = t.cells b l in

@@ -1,5 +1,5 @@
 -- The counts of pages: of a new controller, and after a store, a seal, and what a boot lists.
-use Rattle.std.proofs.Common.{ℕ, ◌+◌, ◌≤◌, length, min, refl, sym, ◌∙◌, arith}
+use Rattle.std.proofs.Common.{ℕ, ◌+◌, ◌≤◌, length, min, refl, sym, ◌∙◌, arith, rules}
 use Rattle.std.proofs.lemmas.List.{length-set, length-replicate}
 use Rattle.std.proofs.lemmas.List.Elements.{All-replicate, All-set}
 use Rattle.thy_base.specs.declared.config.Parameters.{Parameters}
@@ -21,16 +21,12 @@ AreCountsOf-new p = record {
 pub AreCountsOf-counted : (page : ℕ) (p : Parameters) (c : Tally) → AreCountsOf p c → AreCountsOf p (counted page c)
 AreCountsOf-counted page p c h =
     let n : ℕ = min (count_at c page + 1) most in
-    record {
-      size = length-set c.counts page n ∙ h.size;
-      tallied = record {
-        as_many = h.tallied.as_many ∙ sym (length-set c.counts page n);
-        counts_within = All-set (λ n. n ≤ most) c.counts page n (omega arith) h.tallied.counts_within;
-        lasts_within = h.tallied.lasts_within;
-      };
-      high = h.high;
-      low = h.low;
-    }
+    search (
+      rules,
+      length-set c.counts page n ∙ h.size,
+      h.tallied.as_many ∙ sym (length-set c.counts page n),
+      All-set (λ n. n ≤ most) c.counts page n (omega arith) h.tallied.counts_within,
+    )
 
 pub AreCountsOf-reset : (p : Parameters) (c : Tally) → AreCountsOf p c → AreCountsOf p (reset c)
 AreCountsOf-reset p c h = record {
@@ -45,13 +41,8 @@ AreCountsOf-reset p c h = record {
 }
 
 pub AreCountsOf-last : (page n : ℕ) (p : Parameters) (c : Tally) → n ≤ most → AreCountsOf p c → AreCountsOf p (with_last page n c)
-AreCountsOf-last page n p c within h = record {
-  size = h.size;
-  tallied = record {
-    as_many = length-set c.lasts page n ∙ h.tallied.as_many;
-    counts_within = h.tallied.counts_within;
-    lasts_within = All-set (λ n. n ≤ most) c.lasts page n within h.tallied.lasts_within;
-  };
-  high = h.high;
-  low = h.low;
-}
+AreCountsOf-last page n p c within h = search (
+  rules,
+  length-set c.lasts page n ∙ h.tallied.as_many,
+  All-set (λ n. n ≤ most) c.lasts page n within h.tallied.lasts_within,
+)

@@ -1,48 +1,84 @@
--- The places at which the searches of the tables start: what is found from there, and that they stay right after each step.
-use Rattle.std.proofs.Common.{◌≡◌, ◌≢◌, ℕ, ◌+◌, ◌<◌, ◌≤◌, Bool, true, false, ◌&&◌, nat_lt, length, unwrap_or, refl, sym, ◌∙◌, ap, subst, inl, inr, arith, Option, Some, None}
-use Rattle.std.proofs.lemmas.Bool.{cases_eq, cases_lt, lt-ltb, false_from_ne_true, both_ways}
+-- The numbers that the controller keeps, after the listings of a boot and after each step, and the places at which the searches of
+-- the tables start.
+use Rattle.std.proofs.Common.{◌≡◌, ℕ, ◌<◌, true, false, length, refl, sym, ◌∙◌, ap, inl, inr, arith, Option, Some, None, ◌≢◌, ◌+◌, ◌≤◌, Bool, ◌&&◌, nat_lt, unwrap_or, subst}
+use Rattle.std.proofs.lemmas.Bool.{cases_lt, and_parts, cases_eq, lt-ltb, false_from_ne_true, both_ways}
+use Rattle.thy_table.specs.Listing.{Listing, entry_at, passes, place_of, free_place, with_entry, next_from}
+use Rattle.thy_table.specs.declared.block_entry.BttEntry.{BttEntry}
+use Rattle.thy_table.specs.declared.block_entry.Working.TheVariants.{NoWork, InBuffer}
+use Rattle.thy_table.specs.declared.page_entry.PttEntry.{PttEntry}
+use Rattle.thy_table.specs.BlockEntry.{listed_entry, new_entry}
+use Rattle.thy_table.specs.PageEntry.{listed_page, no_page, is_framed, page_blocks}
+use Rattle.thy_control.specs.declared.overlay.WorkCounts.{WorkCounts}
+use Rattle.thy_control.specs.Boot.{IsBooting, with_listed_block, with_listed_page}
+use Rattle.thy_control.specs.Holding.{is_promoted}
+use Rattle.thy_control.specs.Overlay.{is_buffered, is_overlaid, overlaid, AreWorkCounts}
+use Rattle.thy_control.specs.Seal.{block_is_framed}
+use Rattle.thy_control.specs.State.{State, AreSoundTables, cell_of}
+use Rattle.thy_control.proofs.CountLemmas.{count-set_same, promoted-set}
+use Rattle.thy_control.proofs.MarkLemmas.{counted-some, framed-cell}
 use Rattle.std.proofs.lemmas.List.{get_or-set_same, get_or-set_other}
 use Rattle.thy_base.specs.declared.block.Block.{Block}
 use Rattle.thy_base.specs.Device.{Device}
 use Rattle.thy_base.specs.Store.{page_of}
-use Rattle.thy_table.specs.Listing.{Listing, entry_at, place_of, free_place, passes, with_entry, added_at, next_from}
 use Rattle.thy_table.proofs.FirstLemmas.{first_from-first, none-first_from, first_from-position}
-use Rattle.thy_table.specs.declared.block_entry.BttEntry.{BttEntry}
-use Rattle.thy_table.specs.declared.block_entry.Working.TheVariants.{InBuffer}
 use Rattle.thy_table.specs.declared.block_entry.Pending.TheVariants.{Settled}
-use Rattle.thy_table.specs.declared.page_entry.PttEntry.{PttEntry}
-use Rattle.thy_table.specs.BlockEntry.{new_entry, listed_entry}
-use Rattle.thy_table.specs.PageEntry.{no_page, is_framed, listed_page, page_blocks}
-use Rattle.thy_cell.specs.declared.cell.Cell.{Cell}
 use Rattle.thy_cell.specs.declared.cell.StoreRule.{StoreRule}
 use Rattle.thy_cell.specs.declared.cell.StoreRule.TheVariants.{ToFrame, ToBuffer, ToNvm, PendingFirst}
 use Rattle.thy_cell.specs.Rules.{after_store, after_copy}
 use Rattle.thy_cell.specs.Checkpoint.{page_issued}
 use Rattle.thy_control.specs.declared.cursors.Cursors.{Cursors}
-use Rattle.thy_control.specs.Cursors.{NoneBelow, AreCursors}
-use Rattle.thy_control.specs.Find.{with_found}
+use Rattle.thy_control.specs.Cursors.{NoneBelow, AreCursors, AreLowered, IsControl}
 use Rattle.thy_control.specs.Keys.{block_key, page_key}
 use Rattle.thy_control.specs.StoredTables.{btt_with, btt_after, ptt_after}
-use Rattle.thy_control.specs.State.{State, AreSoundTables, cell_of}
 use Rattle.thy_control.specs.Rules.{with_block, rule_for, cell_before, state_after}
-use Rattle.thy_control.specs.Holding.{is_promoted}
-use Rattle.thy_control.specs.Seal.{block_is_framed}
-use Rattle.thy_control.specs.Overlay.{is_buffered, is_overlaid}
 use Rattle.thy_control.specs.Copies.{needs_copy, copied}
 use Rattle.thy_control.specs.Pages.{needs_write, issued}
-use Rattle.thy_control.specs.Merges.{merged_block}
+use Rattle.thy_control.specs.Merges.{merged_block, overlays}
 use Rattle.thy_control.specs.Promotions.{block_filled}
-use Rattle.thy_control.specs.Boot.{IsBooting, with_listed_block, with_listed_page}
-use Rattle.thy_control.proofs.FindLemmas.{found_entry, entry_for-some}
-use Rattle.thy_control.proofs.CellLemmas.{block-cell_of}
-use Rattle.thy_control.proofs.StateLemmas.{IsListed, IsListed-with_block}
-use Rattle.thy_control.proofs.StayLemmas.{free_at}
-use Rattle.thy_control.proofs.MarkLemmas.{framed-cell}
-use Rattle.thy_control.proofs.BootMarkLemmas.{none_over}
+use Rattle.thy_control.proofs.FindLemmas.{free_at, stands_at, found_entry, entry_for-some}
+use Rattle.thy_control.proofs.StateLemmas.{block-cell_of, IsListed, IsListed-with_block, btt_with-by}
 use Rattle.thy_control.proofs.CopyLemmas.{listed-pending}
-use Rattle.thy_control.proofs.MergeLemmas.{listed-merge, listed_page-merge}
+use Rattle.thy_control.proofs.MergeLemmas.{listed-merge, listed_page-merge, overlays-merged}
 use Rattle.thy_control.proofs.IssueLemmas.{listed-busy, cell-issued}
 use Rattle.thy_control.proofs.FillLemmas.{listed-fresh, is_now, overlaid-filled_at}
+use Rattle.thy_base.specs.Geometry.{memory_blocks}
+use Rattle.thy_cell.specs.declared.cell.Cell.{Cell}
+use Rattle.thy_cell.specs.BetweenCheckpoints.{MergeKeeps, DirtyKeeps}
+use Rattle.thy_control.proofs.PageLemmas.{count-same}
+
+-- an entry that is listed has no work over a frame
+pub none_over : (pages : Listing PttEntry) (s : State) → IsBooting s → (i : ℕ) (o : Option BttEntry) → entry_at s.btt i ≡ o → passes (is_overlaid pages) o ≡ true → ⊥
+none_over pages s boot i None e over = cc
+none_over pages s boot i (Some x) e over =
+    let idle : x.work ≡ NoWork = ap (λ (y : BttEntry). y.work) (boot.blocks i x e) in
+    let bare : is_buffered x.work ≡ false = ap is_buffered idle in
+    let buffered : is_buffered x.work ≡ true = (and_parts (is_buffered x.work) (block_is_framed pages x.block) over).0 in
+    cc
+
+none_overlaid : (pages : Listing PttEntry) (s : State) → IsBooting s → overlaid pages s.btt ≡ 0
+none_overlaid pages s boot = elim (cases_lt 0 (overlaid pages s.btt)) as (λ _. overlaid pages s.btt ≡ 0) [
+  | inl some ↦
+      let found = counted-some (passes (is_overlaid pages)) None s.btt.entries some in
+      absurd (none_over pages s boot found.0 (entry_at s.btt found.0) refl found.2)
+  | inr none ↦ omega (arith, none)
+]
+
+pub AreWorkCounts-block : (i b : ℕ) (s : State) (k : WorkCounts) → i < length s.btt.entries → entry_at s.btt i ≡ None → AreWorkCounts s.ptt s.btt k
+    → AreWorkCounts s.ptt (with_listed_block i b s).btt k
+AreWorkCounts-block i b s k l free marks =
+    let same = count-set_same (passes (is_overlaid s.ptt)) s.btt.entries i (Some (listed_entry b)) None l (sym (ap (passes (is_overlaid s.ptt)) free)) in
+    record { overlaid_is = marks.overlaid_is ∙ sym same; promoted_is = marks.promoted_is }
+
+pub AreWorkCounts-page : (j n : ℕ) (s : State) (k : WorkCounts) → IsBooting s → j < length s.ptt.entries → entry_at s.ptt j ≡ None → AreWorkCounts s.ptt s.btt k
+    → AreWorkCounts (with_listed_page j n s).ptt s.btt k
+AreWorkCounts-page j n s k boot l free marks =
+    let same = count-set_same (passes is_promoted) s.ptt.entries j (Some (listed_page n)) None l (sym (ap (passes is_promoted) free)) in
+    record {
+      overlaid_is = marks.overlaid_is ∙ none_overlaid s.ptt s boot ∙ sym (none_overlaid (with_listed_page j n s).ptt s boot);
+      promoted_is = marks.promoted_is ∙ sym same;
+    }
+
+-- ---- the places at which the searches of the tables start: what is found from there, and that they stay right after each step
 
 -- A search starts at such a place, and finds what one from the start would
 module _ {E : Type 0} (test : E → Bool) (t : Listing E) (place : ℕ) (below : NoneBelow test place t) where
@@ -76,6 +112,11 @@ module _ {E : Type 0} (test : E → Bool) (t : Listing E) (i : ℕ) (x : Option 
     | inr ne ↦ ap (passes test) (get_or-set_other t.entries i k x None ne) ∙ below k (omega (arith, l, less))
   ]
 
+-- what holds of a controller holds of one that is equal to it
+pub control_is : {s w : State} {m : WorkCounts} {c : Cursors} → w ≡ s → IsControl w m c
+    → IsControl s m c
+control_is {m = m} {c = c} view h = subst (λ (t : State). IsControl t m c) view h
+
 -- the test for overlays asks of the page table only which pages are framed
 overlaid_as : (now old : Listing PttEntry) → ((b : ℕ) → block_is_framed now b ≡ block_is_framed old b) → (o : Option BttEntry)
     → passes (is_overlaid now) o ≡ passes (is_overlaid old) o
@@ -85,23 +126,34 @@ overlaid_as now old same (Some e) = ap (λ (f : Bool). is_buffered e.work && f) 
 -- the entries of a block
 module _ (s : State) (b : ℕ) where
   block_there : place_of block_key b s.btt ≡ Some (cell_of s b).i → (entry_at s.btt (cell_of s b).i ≡ Some (cell_of s b).entry) × ((cell_of s b).i < length s.btt.entries)
-  block_there listed =
-      let f = found_entry block_key new_entry s.btt b (cell_of s b).i listed in
-      (f.1 ∙ sym (ap Some (entry_for-some block_key new_entry s.btt b (cell_of s b).i f.0 listed f.1)), f.3)
+  block_there listed = stands_at block_key new_entry s.btt b (cell_of s b).i listed
 
   page_there : place_of page_key (page_of b) s.ptt ≡ Some (cell_of s b).j → (entry_at s.ptt (cell_of s b).j ≡ Some (cell_of s b).page) × ((cell_of s b).j < length s.ptt.entries)
-  page_there listed =
-      let f = found_entry page_key no_page s.ptt (page_of b) (cell_of s b).j listed in
-      (f.1 ∙ sym (ap Some (entry_for-some page_key no_page s.ptt (page_of b) (cell_of s b).j f.0 listed f.1)), f.3)
+  page_there listed = stands_at page_key no_page s.ptt (page_of b) (cell_of s b).j listed
 
-  -- another entry that passes as the one there did
-  block_as : (test : BttEntry → Bool) (e : BttEntry) (place : ℕ) → place_of block_key b s.btt ≡ Some (cell_of s b).i → (test (cell_of s b).entry ≡ false → test e ≡ false)
-      → NoneBelow test place s.btt → NoneBelow test place (with_entry (cell_of s b).i (Some e) s.btt)
-  block_as test e place listed keeps below =
+  -- another entry of the block, which has to be copied only if that one had to
+  AreCursors-entry : (e : BttEntry) (k : Cursors) (merges : ℕ)
+      → place_of block_key b s.btt ≡ Some (cell_of s b).i → merges ≤ k.merges
+      → (needs_copy (cell_of s b).entry ≡ false → needs_copy e ≡ false)
+      → ((cell_of s b).i < merges → is_overlaid s.ptt (cell_of s b).entry ≡ false
+      → is_overlaid s.ptt e ≡ false)
+      → AreCursors s.ptt s.btt k
+      → AreCursors s.ptt (with_entry (cell_of s b).i (Some e) s.btt) (record k { merges = merges })
+  AreCursors-entry e k merges listed less copies over h =
       let there = block_there listed in
-      NoneBelow-set test s.btt (cell_of s b).i (Some e) there.1 place place (omega arith) below
-      (λ l was. keeps (sym (ap (passes test) there.0) ∙ was))
+      let was = λ (test : BttEntry → Bool). sym (ap (passes test) there.0) in
+      record {
+        copies = NoneBelow-set needs_copy s.btt (cell_of s b).i (Some e) there.1 k.copies k.copies
+            (omega arith) h.copies
+            (λ l none. copies (was needs_copy ∙ none));
+        writes = h.writes;
+        merges = NoneBelow-set (is_overlaid s.ptt) s.btt (cell_of s b).i (Some e) there.1 k.merges
+            merges less h.merges
+            (λ l none. over l (was (is_overlaid s.ptt) ∙ none));
+        promotions = h.promotions;
+      }
 
+  -- another entry of its page that passes as the one there did
   page_as : (test : PttEntry → Bool) (e : PttEntry) (place : ℕ) → place_of page_key (page_of b) s.ptt ≡ Some (cell_of s b).j → (test (cell_of s b).page ≡ false → test e ≡ false)
       → NoneBelow test place s.ptt → NoneBelow test place (with_entry (cell_of s b).j (Some e) s.ptt)
   page_as test e place listed keeps below =
@@ -110,22 +162,10 @@ module _ (s : State) (b : ℕ) where
       (λ l was. keeps (sym (ap (passes test) there.0) ∙ was))
 
 -- A store first gives its block an entry, which passes no test
-none-added : (test : BttEntry → Bool) (t : Listing BttEntry) (b place : ℕ) (o : Option ℕ) → test (new_entry b) ≡ false → free_place t ≡ o → NoneBelow test place t
-    → NoneBelow test place (record t { entries = added_at o (new_entry b) t.entries })
-none-added test t b place None fails e below = below
-none-added test t b place (Some i) fails e below =
-    NoneBelow-set test t i (Some (new_entry b)) (free_at t i e).1 place place (omega arith) below (λ l was. fails)
-
-none-found : (test : BttEntry → Bool) (t : Listing BttEntry) (b place : ℕ) (o : Option ℕ) → test (new_entry b) ≡ false → NoneBelow test place t
-    → NoneBelow test place (with_found block_key new_entry o b t)
-none-found test t b place (Some i) fails below = below
-none-found test t b place None fails below = none-added test t b place (free_place t) fails refl below
-
 none-with : (r : StoreRule) (test : BttEntry → Bool) (t : Listing BttEntry) (b place : ℕ) → test (new_entry b) ≡ false → NoneBelow test place t → NoneBelow test place (btt_with r b t)
-none-with ToFrame test t b place fails below = below
-none-with ToBuffer test t b place fails below = none-found test t b place (place_of block_key b t) fails below
-none-with ToNvm test t b place fails below = none-found test t b place (place_of block_key b t) fails below
-none-with PendingFirst test t b place fails below = below
+none-with r test t b place fails below = btt_with-by (NoneBelow test place) r b t below
+    (λ i h f. NoneBelow-set test t i (Some (new_entry b)) (free_at t i f).1 place place
+    (omega arith) below (λ l was. fails))
 
 pub AreCursors-with : (r : StoreRule) (b : ℕ) (s : State) (k : Cursors) → AreCursors s.ptt s.btt k → AreCursors s.ptt (btt_with r b s.btt) k
 AreCursors-with r b s k h = record {
@@ -136,13 +176,6 @@ AreCursors-with r b s k h = record {
 }
 
 -- and then changes an entry
-pub record AreLowered (r : StoreRule) (c : Cell) (old new : Cursors) : Type 0 where
-  pub copies : new.copies ≡ old.copies
-  pub writes : new.writes ≡ old.writes
-  pub promotions : new.promotions ≡ old.promotions
-  pub merges : new.merges ≤ old.merges
-  pub buffer : r ≡ ToBuffer → is_framed c.page ≡ true → new.merges ≤ c.i
-
 AreCursors-cell : (r : StoreRule) (b : ℕ) (t : State) (k : Cursors) → IsListed r b t → AreCursors t.ptt t.btt k → (merges : ℕ) → merges ≤ k.merges
     → (r ≡ ToBuffer → is_framed (cell_of t b).page ≡ true → merges ≤ (cell_of t b).i)
     → AreCursors (ptt_after r (after_store r (cell_of t b)) t.ptt) (btt_after r (after_store r (cell_of t b)) t.btt) (record k { merges = merges })
@@ -155,39 +188,19 @@ AreCursors-cell ToFrame b t k l h merges less at =
       promotions = page_as t b is_promoted (record (cell_of t b).page { dirty = true }) k.promotions (l.page refl) (λ was. was) h.promotions;
     }
 AreCursors-cell ToBuffer b t k l h merges less at =
-    let listed = l.block (λ e. cc) in
-    let e : BttEntry = (after_store ToBuffer (cell_of t b)).entry in
-    record {
-      copies = block_as t b needs_copy e k.copies listed (λ was. was) h.copies;
-      writes = h.writes;
-      merges = NoneBelow-set (is_overlaid t.ptt) t.btt (cell_of t b).i (Some e) (block_there t b listed).1 k.merges merges less h.merges
-          (λ before was. bare (is_framed (cell_of t b).page) refl before);
-      promotions = h.promotions;
-    }
+    AreCursors-entry t b (after_store ToBuffer (cell_of t b)).entry k merges (l.block (λ e. cc))
+    less (λ was. was)
+    (λ before was. bare (is_framed (cell_of t b).page) refl before) h
   where
     bare : (f : Bool) → is_framed (cell_of t b).page ≡ f → (cell_of t b).i < merges → is_overlaid t.ptt (after_store ToBuffer (cell_of t b)).entry ≡ false
     bare true is before = absurd (omega (arith, before, at refl is))
     bare false is before = ap (block_is_framed t.ptt) (block-cell_of t b) ∙ is
 AreCursors-cell ToNvm b t k l h merges less at =
-    let listed = l.block (λ e. cc) in
-    let e : BttEntry = (after_store ToNvm (cell_of t b)).entry in
-    record {
-      copies = block_as t b needs_copy e k.copies listed (λ was. was) h.copies;
-      writes = h.writes;
-      merges = NoneBelow-set (is_overlaid t.ptt) t.btt (cell_of t b).i (Some e) (block_there t b listed).1 k.merges merges less h.merges (λ before was. refl);
-      promotions = h.promotions;
-    }
+    AreCursors-entry t b (after_store ToNvm (cell_of t b)).entry k merges (l.block (λ e. cc)) less
+    (λ was. was) (λ before was. refl) h
 AreCursors-cell PendingFirst b t k l h merges less at =
-    let listed = l.block (λ e. cc) in
-    let e : BttEntry = (after_store PendingFirst (cell_of t b)).entry in
-    let there = block_there t b listed in
-    record {
-      copies = block_as t b needs_copy e k.copies listed (λ was. refl) h.copies;
-      writes = h.writes;
-      merges = NoneBelow-set (is_overlaid t.ptt) t.btt (cell_of t b).i (Some e) there.1 k.merges merges less h.merges
-          (λ before was. sym (ap (passes (is_overlaid t.ptt)) there.0) ∙ was);
-      promotions = h.promotions;
-    }
+    AreCursors-entry t b (after_store PendingFirst (cell_of t b)).entry k merges (l.block (λ e. cc))
+    less (λ was. refl) (λ before was. was) h
 
 same_cursors : (k now : Cursors) → now.copies ≡ k.copies → now.writes ≡ k.writes → now.promotions ≡ k.promotions → record k { merges = now.merges } ≡ now
 same_cursors k now copies writes promotions = grind arith
@@ -208,14 +221,8 @@ pub AreCursors-copied : (b : ℕ) (s : State) (m : Device) (k : Cursors) → (ce
     → AreCursors (copied b s m).ptt (copied b s m).btt k
 unfolding copied
 AreCursors-copied b s m k pending h =
-    let e : BttEntry = (after_copy (cell_of s b)).entry in
-    let listed = listed-pending b s pending in
-    record {
-      copies = block_as s b needs_copy e k.copies listed (λ was. refl) h.copies;
-      writes = h.writes;
-      merges = block_as s b (is_overlaid s.ptt) e k.merges listed (λ was. was) h.merges;
-      promotions = h.promotions;
-    }
+    AreCursors-entry s b (after_copy (cell_of s b)).entry k k.merges (listed-pending b s pending)
+    (omega arith) (λ was. refl) (λ l was. was) h
 
 -- A page that was written from had to be written
 write_due : (busy : Bool) (done : ℕ) → busy ≡ true → done < page_blocks → (busy && nat_lt done page_blocks) ≡ true
@@ -287,3 +294,53 @@ AreCursors-page j n s k boot inside h =
       merges = λ m l. false_from_ne_true (passes (is_overlaid now) (entry_at s.btt m)) (none_over now s boot m (entry_at s.btt m) refl);
       promotions = NoneBelow-set is_promoted s.ptt j (Some (listed_page n)) inside k.promotions k.promotions (omega arith) h.promotions (λ l was. refl);
     }
+
+-- ---- the numbers that the controller keeps, after the steps between two checkpoints
+
+-- if each page is framed as it was, each entry lies over a frame as it did
+pub overlaid-framed : (now old : Listing PttEntry) (t : Listing BttEntry) → ((b : ℕ) → block_is_framed now b ≡ block_is_framed old b) → overlaid now t ≡ overlaid old t
+overlaid-framed now old t same = count-same (passes (is_overlaid now)) (passes (is_overlaid old)) by_entry t.entries where
+  by_entry : (o : Option BttEntry) → passes (is_overlaid now) o ≡ passes (is_overlaid old) o
+  by_entry None = refl
+  by_entry (Some e) = ap (λ (f : Bool). is_buffered e.work && f) (same e.block)
+
+-- a copy changes none
+pub AreWorkCounts-copied : (b : ℕ) (s : State) (m : Device) (k : WorkCounts) → (cell_of s b).entry.pend ≢ Settled → AreWorkCounts s.ptt s.btt k
+    → AreWorkCounts (copied b s m).ptt (copied b s m).btt k
+unfolding copied
+AreWorkCounts-copied b s m k pending marks =
+    let c : Cell = cell_of s b in
+    let there = found_entry block_key new_entry s.btt b c.i (listed-pending b s pending) in
+    let is : c.entry ≡ there.0 = entry_for-some block_key new_entry s.btt b c.i there.0 (listed-pending b s pending) there.1 in
+    let same = count-set_same (passes (is_overlaid s.ptt)) s.btt.entries c.i (Some (after_copy c).entry) None there.3 (ap (is_overlaid s.ptt) is ∙ sym (ap (passes (is_overlaid s.ptt)) there.1)) in
+    record { overlaid_is = marks.overlaid_is ∙ sym same; promoted_is = marks.promoted_is }
+
+-- nor does the write of a page
+pub AreWorkCounts-issued : (b : ℕ) (s : State) (m : Device) (k : WorkCounts) → (cell_of s b).page.busy ≡ true → AreWorkCounts s.ptt s.btt k
+    → AreWorkCounts (issued b s m).ptt (issued b s m).btt k
+unfolding issued
+AreWorkCounts-issued b s m k busy marks =
+    let framed : (n : ℕ) → block_is_framed (issued b s m).ptt n ≡ block_is_framed s.ptt n
+    = λ n. cell-issued b s busy m (λ c d. is_framed d.page ≡ is_framed c.page) n (λ q. refl) (λ o. refl) in
+    record {
+      overlaid_is = marks.overlaid_is ∙ sym (overlaid-framed (issued b s m).ptt s.ptt s.btt framed);
+      promoted_is = marks.promoted_is ∙ sym (promoted-set s b (page_issued (cell_of s b).page) (listed-busy b s busy) refl);
+    }
+
+-- a merge leaves one entry less over a frame
+module _ (b : ℕ) (s : State) (framed : is_framed (cell_of s b).page ≡ true) (over : (cell_of s b).entry.work ≡ InBuffer) where
+  -- so there was one
+  pub overlaid-some : (k : WorkCounts) → AreSoundTables s → b < memory_blocks s.p → s.under_way ≡ false → MergeKeeps → DirtyKeeps → AreWorkCounts s.ptt s.btt k → 0 < k.overlaid
+  overlaid-some k t l idle merge others marks =
+      let fewer : overlays (merged_block b s) + 1 ≡ overlays s = overlays-merged b s framed over t l idle merge others in
+      omega (arith, fewer, marks.overlaid_is)
+
+  pub AreWorkCounts-merged : (k now : WorkCounts) → (t : AreSoundTables s) → b < memory_blocks s.p → s.under_way ≡ false → MergeKeeps → DirtyKeeps → AreWorkCounts s.ptt s.btt k
+      → now.overlaid + 1 ≡ k.overlaid → now.promoted ≡ k.promoted → AreWorkCounts (merged_block b s).ptt (merged_block b s).btt now
+  unfolding merged_block
+  AreWorkCounts-merged k now t l idle merge others marks less same =
+      let fewer : overlays (merged_block b s) + 1 ≡ overlays s = overlays-merged b s framed over t l idle merge others in
+      record {
+        overlaid_is = omega (arith, fewer, less, marks.overlaid_is);
+        promoted_is = same ∙ marks.promoted_is ∙ sym (promoted-set s b (record (cell_of s b).page { dirty = true }) (listed_page-merge b s framed over) refl);
+      }

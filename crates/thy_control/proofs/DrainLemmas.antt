@@ -11,8 +11,8 @@ use Rattle.thy_control.specs.State.{State, AreSoundTables, IsSized, cell_of, rea
 use Rattle.thy_control.specs.Stays.{HoldAll, Stays}
 use Rattle.thy_control.specs.OverCalls.{cell_same, stays_same}
 use Rattle.thy_control.specs.Drains.{Lands, LandingIsUnseen, NvmDrainIsUnseen, BarrierIsUnseen, DrainIsUnseen, DrainTakesOne}
-use Rattle.thy_control.proofs.CellLemmas.{IsPlace-penult, IsPlace-target, IsPlace-last, IsPlace-work, IsWithin-cell_of}
-use Rattle.thy_control.proofs.HoldLemmas.{hold_same, IsPlace-frame_of}
+use Rattle.thy_control.proofs.StateLemmas.{IsPlace-penult, IsPlace-target, IsPlace-last, IsPlace-work, IsWithin-cell_of}
+use Rattle.thy_control.proofs.KeepLemmas.{hold_same, IsPlace-frame_of}
 
 module _ (s : State) (m n : Device) (t : AreSoundTables s) (sized : IsSized s m) (lands : Lands m n) where
   alike : ReadsTheSame s.p (devices_of m s.dram) (devices_of n s.dram)

@@ -12,24 +12,22 @@ use Rattle.thy_places.specs.declared.place.Place.{Place}
 use Rattle.thy_base.specs.declared.nvm.NvmError.{NvmError}
 use Rattle.thy_base.specs.Device.{Device, IsFramed, zero_block, HasFailed}
 use Rattle.thy_base.specs.Geometry.{memory_blocks}
-use Rattle.thy_places.specs.Places.{number_of}
 use Rattle.thy_base.specs.Store.{page_of}
 use Rattle.thy_base.proofs.BasicLemmas.{not_and}
 use Rattle.thy_place.specs.Devices.{Devices, devices_of}
 use Rattle.thy_place.proofs.PlaceLemmas.{AreSized-written_at}
-use Rattle.thy_table.specs.Listing.{Listing, IsListing, entry_at, lists, passes, place_of, with_entry}
-use Rattle.thy_table.proofs.IndexLemmas.{lists-key, one_if}
+use Rattle.thy_table.specs.Listing.{Listing, IsListing, entry_at, passes, place_of, with_entry}
+use Rattle.thy_table.proofs.IndexLemmas.{one_if}
 use Rattle.thy_table.proofs.FirstLemmas.{first_from-first, none-first_from}
 use Rattle.thy_table.specs.declared.block_entry.Working.{Working}
 use Rattle.thy_table.specs.declared.block_entry.Working.TheVariants.{NoWork}
 use Rattle.thy_table.specs.declared.page_entry.PttEntry.{PttEntry}
 use Rattle.thy_table.specs.PageEntry.{no_page, is_framed, page_blocks}
 use Rattle.thy_cell.specs.declared.cell.Cell.{Cell}
-use Rattle.thy_cell.specs.Cells.{seat_of, frame_at, penult, target, last, work}
+use Rattle.thy_cell.specs.Cells.{seat_of, frame_at, penult, last, work}
 use Rattle.thy_cell.specs.Sound.{Holds}
 use Rattle.thy_cell.specs.Checkpoint.{with_filled}
 use Rattle.thy_cell.specs.BetweenCheckpoints.{PromotionKeeps, PromotionKeepsOthers, Keeps}
-use Rattle.thy_control.specs.Find.{entry_for}
 use Rattle.thy_control.specs.Keys.{page_key, block_key}
 use Rattle.thy_control.specs.Moves.{moved}
 use Rattle.thy_control.specs.State.{State, AreSoundTables, IsSized, cell_of, reads}
@@ -38,14 +36,13 @@ use Rattle.thy_control.specs.Versions.{KeepsCheckpoints}
 use Rattle.thy_control.specs.Pages.{block_after}
 use Rattle.thy_control.specs.Holding.{is_promoted, promoted}
 use Rattle.thy_control.specs.Promotions.{next_promotion, fills_left, unfilled, block_to_fill, devices_filled, block_filled, after_promotion, HoldsWork}
-use Rattle.thy_control.proofs.FindLemmas.{found_entry, entry_for-some}
-use Rattle.thy_control.proofs.CellLemmas.{IsWithin-cell_of}
-use Rattle.thy_control.proofs.OwnLemmas.{Owns-cell_of}
+use Rattle.thy_control.proofs.FindLemmas.{stands_at, entry_for-there}
+use Rattle.thy_control.proofs.StateLemmas.{IsWithin-cell_of}
+use Rattle.thy_control.proofs.TablesLemmas.{Owns-cell_of}
 use Rattle.thy_control.proofs.PageLemmas.{same_page, cell-page_other}
-use Rattle.thy_control.proofs.HoldLemmas.{IsPlace-frame_of}
-use Rattle.thy_control.proofs.WalkLemmas.{listed-page, next-here, next-few, not-next, IsWalk, StaysTables-walked, AreSoundTables-walked, here_now, left_as, Keeps-walked, reads-walked, IsBlockOf-entry, walked-is}
-use Rattle.thy_control.proofs.StepLemmas.{moved-is, none-passes}
-use Rattle.thy_control.proofs.StepStayLemmas.{StaysTables, LeavesGuarded-step, Stays-step, Stays-failed_step, penult-in_nvm, target-in_nvm}
+use Rattle.thy_control.proofs.KeepLemmas.{IsPlace-frame_of}
+use Rattle.thy_control.proofs.StepLemmas.{none-passes, listed-page, next-here, next-few, not-next, IsWalk, StaysTables-walked, AreSoundTables-walked, here_now, left_as, Keeps-walked, reads-walked, IsBlockOf-entry}
+use Rattle.thy_control.proofs.StayLemmas.{StaysTables, LeavesGuarded-step, Stays-step, Stays-failed_step, penult-in_nvm, target-in_nvm, LeavesGuarded-failed}
 
 abbrev page_filled : PttEntry → PttEntry
 page_filled e = record e { filled = e.filled + 1 }
@@ -121,24 +118,22 @@ fill_one true i f l = by_test (i + 1 == page_blocks) refl where
 
 -- with the last the page is promoted
 one_or : (framed fresh : Bool) → fresh ≡ true → one_if (not framed && fresh) + (if framed then 1 else 0) ≡ 1
-one_or framed false f = cc
-one_or true true f = refl
-one_or false true f = refl
+one_or framed fresh f = grind arith
 
 module _ (b : ℕ) (s : State) (fresh : (cell_of s b).page.fresh ≡ true) (bare : is_framed (cell_of s b).page ≡ false) where
   pub is_now : is_promoted (cell_of s b).page ≡ true
   is_now = not_and (is_framed (cell_of s b).page) (cell_of s b).page.fresh bare fresh
 
-  found : (e : PttEntry) × (entry_at s.ptt (cell_of s b).j ≡ Some e) × (e.page ≡ page_of b) × ((cell_of s b).j < length s.ptt.entries)
-  found = found_entry page_key no_page s.ptt (page_of b) (cell_of s b).j (listed-fresh b s fresh)
-
-  is_found : entry_at s.ptt (cell_of s b).j ≡ Some (cell_of s b).page
-  is_found = found.1 ∙ sym (ap Some (entry_for-some page_key no_page s.ptt (page_of b) (cell_of s b).j found.0 (listed-fresh b s fresh) found.1))
+  found : (entry_at s.ptt (cell_of s b).j ≡ Some (cell_of s b).page)
+      × ((cell_of s b).j < length s.ptt.entries)
+  found = stands_at page_key no_page s.ptt (page_of b) (cell_of s b).j (listed-fresh b s fresh)
 
   pub some-promoted : 0 < promoted s.ptt
   some-promoted =
-      let one = get_or-le-sum_by (λ (o : Option PttEntry). one_if (passes is_promoted o)) s.ptt.entries (cell_of s b).j None found.3 in
-      let passes_now : passes is_promoted (entry_at s.ptt (cell_of s b).j) ≡ true = ap (passes is_promoted) is_found ∙ is_now in
+      let one = get_or-le-sum_by (λ (o : Option PttEntry). one_if (passes is_promoted o))
+      s.ptt.entries (cell_of s b).j None found.1 in
+      let passes_now : passes is_promoted (entry_at s.ptt (cell_of s b).j) ≡ true = ap
+      (passes is_promoted) found.0 ∙ is_now in
       omega (arith, one, ap one_if passes_now)
 
   module _ (m : Device) (less : (cell_of s b).page.filled < 64) where
@@ -147,17 +142,26 @@ module _ (b : ℕ) (s : State) (fresh : (cell_of s b).page.fresh ≡ true) (bare
     unfilled-filled =
         let c : Cell = cell_of s b in
         let was : fills_left (entry_at s.ptt c.j) ≡ page_blocks - c.page.filled
-        = ap fills_left is_found ∙ ap (λ (x : Bool). if x then page_blocks - c.page.filled else 0) is_now in
-        omega (arith, sum_by-set fills_left s.ptt.entries c.j (Some (page_filled c.page)) None found.3, was, fill_one c.page.fresh c.page.filled fresh less)
+        = ap fills_left found.0
+        ∙ ap (λ (x : Bool). if x then page_blocks - c.page.filled else 0) is_now in
+        omega (
+          arith,
+          sum_by-set fills_left s.ptt.entries c.j (Some (page_filled c.page)) None
+              found.1,
+          was,
+          fill_one c.page.fresh c.page.filled fresh less,
+        )
 
     pub promoted-filled : promoted (block_filled b s m).ptt + (if is_framed (page_filled (cell_of s b).page) then 1 else 0) ≡ promoted s.ptt
     unfolding block_filled
     promoted-filled =
         let c : Cell = cell_of s b in
-        let passes_now : passes is_promoted (entry_at s.ptt c.j) ≡ true = ap (passes is_promoted) is_found ∙ is_now in
+        let passes_now : passes is_promoted (entry_at s.ptt c.j) ≡ true = ap (passes is_promoted)
+        found.0 ∙ is_now in
         omega (
           arith,
-          sum_by-set (λ (o : Option PttEntry). one_if (passes is_promoted o)) s.ptt.entries c.j (Some (page_filled c.page)) None found.3,
+          sum_by-set (λ (o : Option PttEntry). one_if (passes is_promoted o)) s.ptt.entries c.j
+              (Some (page_filled c.page)) None found.1,
           ap one_if passes_now,
           one_or (is_framed (page_filled c.page)) c.page.fresh fresh,
         )
@@ -186,11 +190,10 @@ module _ (b : ℕ) (s : State) (fresh : (cell_of s b).page.fresh ≡ true) (m : 
     by_entry None e = refl
     by_entry (Some x) e = elim (cases_eq (page_of x.block) (page_of b)) as (λ _. is_overlaid (block_filled b s m).ptt x ≡ is_overlaid s.ptt x) [
       | inl q ↦
-          let here : lists block_key x.block (entry_at s.btt i) ≡ true = lists-key block_key x.block (entry_at s.btt i) x e refl in
-          let place : place_of block_key x.block s.btt ≡ Some i = t.btt_once.found i x.block here in
-          let entry : entry_for block_key new_entry x.block s.btt ≡ x = entry_for-some block_key new_entry s.btt x.block i x place e in
-          let inside : x.block < memory_blocks s.p = omega (arith, t.btt_once.inside i x.block here, t.btt_numbers) in
-          let idle : x.work ≡ NoWork = sym (ap (λ (y : BttEntry). y.work) entry) ∙ (t.cells x.block inside).fresh_idle (fresh-same b s fresh x.block q) in
+          let there = entry_for-there block_key new_entry s.btt t.btt_once i x e in
+          let idle : x.work ≡ NoWork = sym (ap (λ (y : BttEntry). y.work) there.1)
+          ∙ (t.cells x.block (omega (arith, there.2, t.btt_numbers))).fresh_idle
+          (fresh-same b s fresh x.block q) in
           ap (λ (w : Working). is_buffered w && block_is_framed (block_filled b s m).ptt x.block) idle
           ∙ sym (ap (λ (w : Working). is_buffered w && block_is_framed s.ptt x.block) idle)
       | inr o ↦ ap (λ (f : Bool). is_buffered x.work && f) (framed_other x.block o)
@@ -199,12 +202,15 @@ module _ (b : ℕ) (s : State) (fresh : (cell_of s b).page.fresh ≡ true) (m : 
   pub overlaid-filled : overlaid (block_filled b s m).ptt s.btt ≡ overlaid s.ptt s.btt
   overlaid-filled = count-same_at (passes (is_overlaid (block_filled b s m).ptt)) (passes (is_overlaid s.ptt)) None s.btt.entries (λ i l. overlaid-filled_at i)
 
-  pub AreWorkCounts-filled : (k now : WorkCounts) → is_framed (cell_of s b).page ≡ false → (cell_of s b).page.filled < 64 → AreWorkCounts s.ptt s.btt k → now.overlaid ≡ k.overlaid
-      → now.promoted + (if is_framed (page_filled (cell_of s b).page) then 1 else 0) ≡ k.promoted → AreWorkCounts (block_filled b s m).ptt s.btt now
-  AreWorkCounts-filled k now bare less marks same_overlaid fewer = record {
-    overlaid_is = same_overlaid ∙ marks.overlaid_is ∙ sym overlaid-filled;
-    promoted_is = omega (arith, fewer, marks.promoted_is, promoted-filled b s fresh bare m less);
-  }
+-- the numbers that the controller keeps are right after the copy
+pub marks-filled : (b : ℕ) (s : State) (fresh : (cell_of s b).page.fresh ≡ true) (m : Device) (t : AreSoundTables s) (k now : WorkCounts) → is_framed (cell_of s b).page ≡ false
+    → (cell_of s b).page.filled < 64 → AreWorkCounts s.ptt s.btt k → now.overlaid ≡ k.overlaid
+    → now.promoted + (if is_framed (with_filled (cell_of s b)).page then 1 else 0) ≡ k.promoted → AreWorkCounts (block_filled b s m).ptt (block_filled b s m).btt now
+unfolding block_filled
+marks-filled b s fresh m t k now bare less marks same_overlaid fewer = record {
+  overlaid_is = same_overlaid ∙ marks.overlaid_is ∙ sym (overlaid-filled b s fresh m t);
+  promoted_is = omega (arith, fewer, marks.promoted_is, promoted-filled b s fresh bare m less);
+}
 
 -- what is known of the next block
 pub record IsFill (s : State) (b : ℕ) : Type 0 where
@@ -283,31 +289,19 @@ stays_by law other s m t n (Ok x) tables sized some e f k g framed =
     (KeepsNext-promotion law other s m tables sized some).stays)
 stays_by law other s m t n (Err x) tables sized some e f k g framed =
     subst (λ (y : State). Stays s m y n) (sym k)
-    (Stays-failed_step s m n framed g.down (record {
-      apart = λ y l. record { no_more = λ b h. g.no_more y b h };
-      old = λ b l. record { no_more = λ y h. g.no_more (number_of s.p (penult (cell_of s b))) y h };
-      next = λ b l q. record { no_more = λ y h. g.no_more (number_of s.p (target (cell_of s b))) y h };
-    }))
+    (Stays-failed_step s m n framed g.down (LeavesGuarded-failed s m n g))
 
 -- the parts of the code's way: the state as its fields have it
-module _ (s w : State) (view : w ≡ s) where
-  pub devices_are : (b : ℕ) (m : Device) (cell : Cell) (from to : Place) (d : Devices) → cell ≡ cell_of s b → from ≡ work cell → to ≡ frame_at (seat_of cell)
+module _ {s w : State} (view : w ≡ s) (b : ℕ) (m : Device) {cell : Cell}
+    (is : cell ≡ cell_of s b) where
+  pub devices_are : {from to : Place} {d : Devices} → from ≡ work cell
+      → to ≡ frame_at (seat_of cell)
       → d ≡ moved w.p from to (devices_of m w.dram) → d ≡ devices_filled b s m
   unfolding devices_filled
-  devices_are b m cell from to d is from_is to_is d_is =
-      moved-is s w view m from to (work (cell_of s b)) (frame_at (seat_of (cell_of s b))) d
-      (from_is ∙ ap work is) (to_is ∙ ap (λ (c : Cell). frame_at (seat_of c)) is) d_is
+  devices_are from_is to_is d_is = cc
 
-  pub state_is : (b : ℕ) (m : Device) (cell after : Cell) (t : Listing PttEntry) (d : Devices) → cell ≡ cell_of s b → after ≡ with_filled cell
+  pub state_is : {after : Cell} {t : Listing PttEntry} {d : Devices} → after ≡ with_filled cell
       → t ≡ with_entry cell.j (Some after.page) w.ptt → d ≡ devices_filled b s m
       → record w { ptt = t; dram = d.dram } ≡ block_filled b s m
   unfolding block_filled
-  state_is b m cell after t d is after_is t_is d_is =
-      walked-is page_filled s w view b cell after t d.dram (devices_filled b s m).dram is after_is t_is (ap (λ (x : Devices). x.dram) d_is)
-
--- the numbers that the controller keeps are right after the copy
-pub marks-filled : (b : ℕ) (s : State) (fresh : (cell_of s b).page.fresh ≡ true) (m : Device) (t : AreSoundTables s) (k now : WorkCounts) → is_framed (cell_of s b).page ≡ false
-    → (cell_of s b).page.filled < 64 → AreWorkCounts s.ptt s.btt k → now.overlaid ≡ k.overlaid
-    → now.promoted + (if is_framed (with_filled (cell_of s b)).page then 1 else 0) ≡ k.promoted → AreWorkCounts (block_filled b s m).ptt (block_filled b s m).btt now
-unfolding block_filled
-marks-filled b s fresh m t k now bare less marks same fewer = AreWorkCounts-filled b s fresh m t k now bare less marks same fewer
+  state_is after_is t_is d_is = cc

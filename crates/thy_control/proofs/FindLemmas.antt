@@ -1,9 +1,9 @@
 -- What a table has for a number, after one entry was changed or added.
-use Rattle.std.proofs.Common.{◌≡◌, ◌≢◌, ℕ, ◌<◌, Bool, ◌==◌, List, length, get_or, slice_set, Option, Some, None, is_none, position, unwrap_or, refl, sym, ◌∙◌, ap, inl, inr, arith}
+use Rattle.std.proofs.Common.{◌≡◌, ◌≢◌, ℕ, ◌<◌, Bool, ◌==◌, List, length, get_or, slice_set, Option, Some, None, is_none, position, unwrap_or, refl, sym, ◌∙◌, ap, inl, inr, arith, subst}
 use Rattle.std.proofs.lemmas.Bool.{cases_eq, ne_eqb}
 use Rattle.std.proofs.lemmas.List.{length-set, get_or-set_same, get_or-set_other}
 use Rattle.std.proofs.lemmas.List.Quantifiers.{position-Some}
-use Rattle.thy_table.specs.Listing.{Listing, entry_at, lists, place_of, free_place, with_entry, added_at}
+use Rattle.thy_table.specs.Listing.{Listing, entry_at, lists, place_of, free_place, with_entry, added_at, IsListing}
 use Rattle.thy_table.proofs.IndexLemmas.{lists-some, lists-key, None-is_none}
 use Rattle.thy_table.proofs.FirstLemmas.{position-first, position-none, none-position}
 use Rattle.thy_control.specs.Find.{entry_found, entry_for, index_for, with_found, with_entry_for}
@@ -19,6 +19,44 @@ position-pointwise p d xs ys same each = by_place (position p xs) refl where
       let inside : i < length ys = omega (arith, first.0) in
       position-first p d ys i inside (each i ∙ first.1) (λ k l. each k ∙ first.2 k l) ∙ sym e
 
+-- what holds of one number, and of every other, holds of all
+pub by_number : (P : ℕ → Type 0) (b k : ℕ) → P b → (k ≢ b → P k) → P k
+by_number P b k here others = elim (cases_eq k b) as (λ _. P k) [
+  | inl e ↦ subst P (sym e) here
+  | inr ne ↦ others ne
+]
+
+module _ {E : Type 0} (t : Listing E) (i : ℕ) where
+  -- the lowest free place is free
+  pub free_at : free_place t ≡ Some i → (entry_at t i ≡ None) × (i < length t.entries)
+  free_at e =
+      let first = position-Some is_none t.entries i None e in
+      (None-is_none (entry_at t i) first.1, first.0)
+
+  -- what is written to a free place leaves every entry that was there
+  pub entry_at-put : (x : Option E) → entry_at t i ≡ None → (k : ℕ) (e : E) → entry_at t k ≡ Some e
+      → entry_at (with_entry i x t) k ≡ Some e
+  entry_at-put x free k e was =
+      get_or-set_other t.entries i k x None
+      (λ s. (let both : Some e ≡ None = sym was ∙ ap (entry_at t) s ∙ free in cc)) ∙ was
+
+  -- what holds of what is written, and of every other entry, holds of all
+  pub at_set : (P : E → Type 0) (x : Option E) → i < length t.entries → ((e : E) → x ≡ Some e → P e)
+      → ((k : ℕ) (e : E) → k ≢ i → entry_at t k ≡ Some e → P e) → (k : ℕ) (e : E)
+      → entry_at (with_entry i x t) k ≡ Some e → P e
+  at_set P x inside here others k e was = elim (cases_eq k i) as (λ _. P e) [
+    | inl s ↦ here e (sym (get_or-set_same t.entries i x None inside)
+        ∙ ap (entry_at (with_entry i x t)) (sym s) ∙ was)
+    | inr o ↦ others k e o (sym (get_or-set_other t.entries i k x None o) ∙ was)
+  ]
+
+  pub at_put : (P : E → Type 0) (x : E) → i < length t.entries → P x
+      → ((k : ℕ) (e : E) → entry_at t k ≡ Some e → P e) → (k : ℕ) (e : E)
+      → entry_at (with_entry i (Some x) t) k ≡ Some e → P e
+  at_put P x inside here others =
+      at_set P (Some x) inside (λ e h. let is : x ≡ e = cc in subst P is here)
+      (λ k e o was. others k e was)
+
 module _ {E : Type 0} (key : E → ℕ) (new : ℕ → E) where
   -- the entry that lists a number
   pub found_entry : (t : Listing E) (n i : ℕ) → place_of key n t ≡ Some i
@@ -33,6 +71,32 @@ module _ {E : Type 0} (key : E → ℕ) (new : ℕ → E) where
 
   pub entry_for-none : (t : Listing E) (n : ℕ) → place_of key n t ≡ None → entry_for key new n t ≡ new n
   entry_for-none t n h = ap (λ o. entry_found key new o n t) h
+
+  -- it stands at its place
+  pub stands_at : (t : Listing E) (n i : ℕ) → place_of key n t ≡ Some i
+      → (entry_at t i ≡ Some (entry_for key new n t)) × (i < length t.entries)
+  stands_at t n i h =
+      let f = found_entry t n i h in (f.1 ∙ sym (ap Some (entry_for-some t n i f.0 h f.1)), f.3)
+
+  -- and one that stands somewhere is that of its number
+  pub entry_for-there : (t : Listing E) → IsListing key t → (i : ℕ) (e : E) → entry_at t i ≡ Some e
+      → (place_of key (key e) t ≡ Some i) × (entry_for key new (key e) t ≡ e) × (key e < t.numbers)
+  entry_for-there t once i e was =
+      let here = lists-key key (key e) (entry_at t i) e was refl in
+      let place = once.found i (key e) here in
+      (place, entry_for-some t (key e) i e place was, once.inside i (key e) here)
+
+  -- a number at the same place of another table, with the same entry there, has the same entry
+  pub entry_for-kept : (t u : Listing E) (n : ℕ) → place_of key n u ≡ place_of key n t
+      → ((k : ℕ) (e : E) → entry_at t k ≡ Some e → key e ≡ n → entry_at u k ≡ Some e)
+      → entry_for key new n u ≡ entry_for key new n t
+  entry_for-kept t u n place kept = by_place (place_of key n t) refl where
+    by_place : (o : Option ℕ) → place_of key n t ≡ o → entry_for key new n u ≡ entry_for key new n t
+    by_place None h = entry_for-none u n (place ∙ h) ∙ sym (entry_for-none t n h)
+    by_place (Some k) h =
+        let f = found_entry t n k h in
+        entry_for-some u n k f.0 (place ∙ h) (kept k f.0 f.1 f.2)
+        ∙ sym (entry_for-some t n k f.0 h f.1)
 
   -- it is of that number
   pub key-entry_for : ((n : ℕ) → key (new n) ≡ n) → (t : Listing E) (n : ℕ) → key (entry_for key new n t) ≡ n
@@ -69,22 +133,16 @@ module _ {E : Type 0} (key : E → ℕ) (new : ℕ → E) where
         entry_for-some (with_entry i (Some e) t) n i e (place_of-set n ∙ h) (get_or-set_same t.entries i (Some e) None inside)
 
     pub entry_for-set_other : (n : ℕ) → n ≢ key old → entry_for key new n (with_entry i (Some e) t) ≡ entry_for key new n t
-    entry_for-set_other n other = by_place (place_of key n t) refl where
-      by_place : (o : Option ℕ) → place_of key n t ≡ o → entry_for key new n (with_entry i (Some e) t) ≡ entry_for key new n t
-      by_place None h = entry_for-none (with_entry i (Some e) t) n (place_of-set n ∙ h) ∙ sym (entry_for-none t n h)
-      by_place (Some k) h =
-          let f = found_entry t n k h in
-          let apart : k ≢ i = λ s. (
-          let both : Some f.0 ≡ Some old = sym f.1 ∙ ap (entry_at t) s ∙ was in
-          let one : f.0 ≡ old = cc in
-          other (sym f.2 ∙ ap key one)) in
-          entry_for-some (with_entry i (Some e) t) n k f.0 (place_of-set n ∙ h) (get_or-set_other t.entries i k (Some e) None apart ∙ f.1)
-          ∙ sym (entry_for-some t n k f.0 h f.1)
+    entry_for-set_other n other = entry_for-kept t (with_entry i (Some e) t) n (place_of-set n)
+        (λ k x was_x of_n. get_or-set_other t.entries i k (Some e) None (λ s. (
+        let both : Some x ≡ Some old = sym was_x ∙ ap (entry_at t) s ∙ was in
+        let one : x ≡ old = cc in
+        other (sym of_n ∙ ap key one))) ∙ was_x)
 
   -- after a new entry was put in a free place
   module _ (new_key : (n : ℕ) → key (new n) ≡ n) (t : Listing E) (b i : ℕ) (unlisted : place_of key b t ≡ None) (lowest : free_place t ≡ Some i) where
     free_there : (entry_at t i ≡ None) × (i < length t.entries)
-    free_there = let first = position-Some is_none t.entries i None lowest in (None-is_none (entry_at t i) first.1, first.0)
+    free_there = free_at t i lowest
 
     now_there : entry_at (with_entry i (Some (new b)) t) i ≡ Some (new b)
     now_there = get_or-set_same t.entries i (Some (new b)) None free_there.1
@@ -115,38 +173,23 @@ module _ {E : Type 0} (key : E → ℕ) (new : ℕ → E) where
           ap (λ m. entry_for key new m (with_entry i (Some (new b)) t)) s
           ∙ entry_for-some (with_entry i (Some (new b)) t) b i (new b) place_of-new_same now_there
           ∙ sym (entry_for-none t b unlisted) ∙ sym (ap (λ m. entry_for key new m t) s)
-      | inr o ↦ by_place n o (place_of key n t) refl
-    ] where
-      by_place : (n : ℕ) → n ≢ b → (o : Option ℕ) → place_of key n t ≡ o → entry_for key new n (with_entry i (Some (new b)) t) ≡ entry_for key new n t
-      by_place n o None h = entry_for-none (with_entry i (Some (new b)) t) n (place_of-new_other n o ∙ h) ∙ sym (entry_for-none t n h)
-      by_place n o (Some k) h =
-          let f = found_entry t n k h in
-          let apart : k ≢ i = λ s. (let both : Some f.0 ≡ None = sym f.1 ∙ ap (entry_at t) s ∙ free_there.0 in cc) in
-          entry_for-some (with_entry i (Some (new b)) t) n k f.0 (place_of-new_other n o ∙ h) (get_or-set_other t.entries i k (Some (new b)) None apart ∙ f.1)
-          ∙ sym (entry_for-some t n k f.0 h f.1)
+      | inr o ↦ entry_for-kept t (with_entry i (Some (new b)) t) n (place_of-new_other n o)
+          (λ k x was of_n. entry_at-put t i (Some (new b)) free_there.0 k x was)
+    ]
 
-  -- a table with an entry for a number: every number has the entry that it had
-  pub entry_for-with : ((n : ℕ) → key (new n) ≡ n) → (t : Listing E) (b n : ℕ)
-      → entry_for key new n (with_entry_for key new b t) ≡ entry_for key new n t
-  entry_for-with new_key t b n = by_place (place_of key b t) refl where
-    by_free : place_of key b t ≡ None → (o : Option ℕ) → free_place t ≡ o → entry_for key new n (record t { entries = added_at o (new b) t.entries }) ≡ entry_for key new n t
-    by_free h None f = refl
-    by_free h (Some i) f = entry_for-new new_key t b i h f n
+  -- what holds of a table, and with a new entry in its lowest free place, holds with an entry for a
+  -- number
+  pub by_entry_for : (P : Listing E → Type 0) (t : Listing E) (b : ℕ) → P t
+      → ((i : ℕ) → place_of key b t ≡ None → free_place t ≡ Some i
+      → P (with_entry i (Some (new b)) t)) → P (with_entry_for key new b t)
+  by_entry_for P t b same put = by_place (place_of key b t) refl where
+    by_free : place_of key b t ≡ None → (o : Option ℕ) → free_place t ≡ o
+        → P (record t { entries = added_at o (new b) t.entries })
+    by_free h None f = same
+    by_free h (Some i) f = put i h f
 
-    by_place : (o : Option ℕ) → place_of key b t ≡ o → entry_for key new n (with_found key new o b t) ≡ entry_for key new n t
-    by_place (Some i) h = refl
-    by_place None h = by_free h (free_place t) refl
-
-  -- and every other number the place that it had
-  pub place_of-with_other : ((n : ℕ) → key (new n) ≡ n) → (t : Listing E) (b n : ℕ) → n ≢ b
-      → place_of key n (with_entry_for key new b t) ≡ place_of key n t
-  place_of-with_other new_key t b n other = by_place (place_of key b t) refl where
-    by_free : place_of key b t ≡ None → (o : Option ℕ) → free_place t ≡ o → place_of key n (record t { entries = added_at o (new b) t.entries }) ≡ place_of key n t
-    by_free h None f = refl
-    by_free h (Some i) f = place_of-new_other new_key t b i h f n other
-
-    by_place : (o : Option ℕ) → place_of key b t ≡ o → place_of key n (with_found key new o b t) ≡ place_of key n t
-    by_place (Some i) h = refl
+    by_place : (o : Option ℕ) → place_of key b t ≡ o → P (with_found key new o b t)
+    by_place (Some i) h = same
     by_place None h = by_free h (free_place t) refl
 
   -- if an entry is free, the number is listed then
@@ -160,27 +203,6 @@ module _ {E : Type 0} (key : E → ℕ) (new : ℕ → E) where
     by_place : (o : Option ℕ) → place_of key b t ≡ o → (i : ℕ) × (place_of key b (with_found key new o b t) ≡ Some i)
     by_place (Some i) h = (i, h)
     by_place None h = by_free h (free_place t) refl
-
-  -- it has as many entries
-  pub length-with : (t : Listing E) (b : ℕ) → length (with_entry_for key new b t).entries ≡ length t.entries
-  length-with t b = by_place (place_of key b t) where
-    by_free : (o : Option ℕ) → length (added_at o (new b) t.entries) ≡ length t.entries
-    by_free None = refl
-    by_free (Some i) = length-set t.entries i (Some (new b))
-
-    by_place : (o : Option ℕ) → length (with_found key new o b t).entries ≡ length t.entries
-    by_place (Some i) = refl
-    by_place None = by_free (free_place t)
-
-  pub numbers-with : (t : Listing E) (b : ℕ) → (with_entry_for key new b t).numbers ≡ t.numbers
-  numbers-with t b = by_place (place_of key b t) where
-    by_free : (o : Option ℕ) → (record t { entries = added_at o (new b) t.entries }).numbers ≡ t.numbers
-    by_free None = refl
-    by_free (Some i) = refl
-
-    by_place : (o : Option ℕ) → (with_found key new o b t).numbers ≡ t.numbers
-    by_place (Some i) = refl
-    by_place None = by_free (free_place t)
 
   -- the place of a new entry is the lowest free one
   pub index_for-with_new : ((n : ℕ) → key (new n) ≡ n) → (t : Listing E) (b i : ℕ) → place_of key b t ≡ None → free_place t ≡ Some i

@@ -1,6 +1,5 @@
 -- The load of a listed page's block into its frame.
-use Rattle.std.proofs.Common.{◌≡◌, ◌≢◌, ℕ, ◌+◌, ◌*◌, ◌%◌, ◌<◌, Bool, true, false, refl, sym, ◌∙◌, ap, subst, inl, inr, arith, Option, Some, None, is_some, unwrap_or, Result, Ok, Err, OnOk, OnErr}
-use Rattle.std.proofs.lemmas.Bool.{cases_eq}
+use Rattle.std.proofs.Common.{◌≡◌, ◌≢◌, ℕ, ◌+◌, ◌*◌, ◌%◌, ◌<◌, Bool, true, false, refl, sym, ◌∙◌, ap, subst, arith, Option, Some, None, is_some, unwrap_or, Result, Ok, Err, OnOk, OnErr}
 use Rattle.thy_base.specs.declared.block.Block.{Block}
 use Rattle.thy_places.specs.declared.place.Place.{Place}
 use Rattle.thy_places.specs.declared.place.Place.TheVariants.{AlternatePage, Frame}
@@ -30,10 +29,10 @@ use Rattle.thy_control.specs.State.{State, AreSoundTables, IsSized, cell_of, pen
 use Rattle.thy_control.specs.Boot.{IsBooting, MayFrame, page_in, framed_block, with_frame, LoadsFrame}
 use Rattle.thy_control.specs.Stays.{HoldAll}
 use Rattle.thy_control.specs.Versions.{KeepsCheckpoints}
-use Rattle.thy_control.proofs.FindLemmas.{found_entry, entry_for-some, entry_for-none}
-use Rattle.thy_control.proofs.CellLemmas.{block-cell_of, IsWithin-cell_of}
-use Rattle.thy_control.proofs.HoldLemmas.{IsPlace-frame_of}
-use Rattle.thy_control.proofs.OwnLemmas.{owner, Owns-cell_of}
+use Rattle.thy_control.proofs.FindLemmas.{found_entry, entry_for-some, entry_for-none, by_number}
+use Rattle.thy_control.proofs.StateLemmas.{block-cell_of, IsWithin-cell_of}
+use Rattle.thy_control.proofs.KeepLemmas.{IsPlace-frame_of}
+use Rattle.thy_control.proofs.TablesLemmas.{owner, Owns-cell_of}
 use Rattle.thy_control.proofs.StepLemmas.{Keeps-untouched, puts, untouched}
 
 -- a table's entry that is there
@@ -150,10 +149,9 @@ module _ (j k : ℕ) (s : State) (t : AreSoundTables s) (boot : IsBooting s) (ma
       others x l ne = Keeps-untouched s.under_way old (reads w m) x (cell_of s x) (t.cells x l) (untouched s m b y (old (penult c)) t sized frame_there owns x l ne)
 
       hold_others : (x : ℕ) → x < memory_blocks s.p → Holds old (cell_of s x) → Holds (reads w m) (cell_of w x)
-      hold_others x l h = elim (cases_eq x b) as (λ _. Holds (reads w m) (cell_of w x)) [
-        | inl e ↦ subst (λ (z : ℕ). Holds (reads w m) (cell_of w z)) (sym e) loads.holds
-        | inr ne ↦ (others x l ne).holds h
-      ]
+      hold_others x l =
+          by_number (λ z. Holds old (cell_of s z) → Holds (reads w m) (cell_of w z)) b x
+          (λ h. loads.holds) (λ ne. (others x l ne).holds)
 
       LoadsFrame-w : LoadsFrame j k s m w m
       LoadsFrame-w = record {
@@ -165,14 +163,10 @@ module _ (j k : ℕ) (s : State) (t : AreSoundTables s) (boot : IsBooting s) (ma
 
       KeepsCheckpoints-w : KeepsCheckpoints s m w m
       KeepsCheckpoints-w = record {
-        penult_same = λ x l. elim (cases_eq x b) as (λ _. penult_of w m x ≡ penult_of s m x) [
-          | inl e ↦ subst (λ (z : ℕ). penult_of w m z ≡ penult_of s m z) (sym e) loads.reads.penult_same
-          | inr ne ↦ (others x l ne).reads.penult_same
-        ];
-        last_same = λ x l. elim (cases_eq x b) as (λ _. last_of w m x ≡ last_of s m x) [
-          | inl e ↦ subst (λ (z : ℕ). last_of w m z ≡ last_of s m z) (sym e) loads.reads.last_same
-          | inr ne ↦ (others x l ne).reads.last_same
-        ];
+        penult_same = λ x l. by_number (λ z. penult_of w m z ≡ penult_of s m z) b x
+            loads.reads.penult_same (λ ne. (others x l ne).reads.penult_same);
+        last_same = λ x l. by_number (λ z. last_of w m z ≡ last_of s m z) b x
+            loads.reads.last_same (λ ne. (others x l ne).reads.last_same);
       }
 
       pub LoadsFrame-frame : LoadsFrame j k s m (with_frame j k s m) m
@@ -202,16 +196,11 @@ HoldAll-framed s n t boot frames b l = by_place (place_of page_key (page_of b) s
       subst (λ (z : ℕ). Holds (reads s n) (cell_of s z)) is (frames j (b % 64) may)
 
 -- what the code writes
-pub frame_put_is : (j k : ℕ) (s w : State) → w ≡ s → (m : Device) (x : ℕ) (v : Block) (d : Contents)
+pub frame_put_is : (j k : ℕ) {s w : State} → w ≡ s → (m : Device) {x : ℕ} {v : Block} {d : Contents}
     → x ≡ number_of w.p (Frame j k) → v ≡ reads s m (AlternatePage j k) → d ≡ written w.dram x v → record w { dram = d } ≡ with_frame j k s m
 unfolding with_frame
-frame_put_is j k s w view m x v d x_is v_is d_is =
-    ap (λ (q : State). record q { dram = d }) view
-    ∙ ap (λ (q : Contents). record s { dram = q })
-    (d_is ∙ ap (λ (q : State). written q.dram x v) view
-    ∙ ap (λ (n : ℕ). written s.dram n v) (x_is ∙ ap (λ (q : State). number_of q.p (Frame j k)) view)
-    ∙ ap (written s.dram (number_of s.p (Frame j k))) v_is)
+frame_put_is j k view m x_is v_is d_is = cc
 
 pub IsBooting-after : {T E : Type 0} (j k : ℕ) (s t : State) (n : Device) (r : Result T E) → IsBooting s → OnOk r (t ≡ with_frame j k s n) → OnErr r (t ≡ s) → IsBooting t
-IsBooting-after j k s t n (Ok x) boot e f = subst (λ (u : State). IsBooting u) (sym e) (IsBooting-frame j k s n boot)
+IsBooting-after j k s t n (Ok x) boot e f = subst IsBooting (sym e) (IsBooting-frame j k s n boot)
 IsBooting-after j k s t n (Err x) boot e f = subst (λ (u : State). IsBooting u) (sym f) boot

@@ -1,5 +1,5 @@
 -- The write of a busy page's next block: every block after it, and the tables.
-use Rattle.std.proofs.Common.{◌≡◌, ◌≢◌, ℕ, ◌+◌, ◌-◌, ◌<◌, ◌≤◌, ◌%◌, ◌==◌, ◌&&◌, ◌||◌, not, nat_lt, if◌then◌else◌, Bool, true, false, All, get_or, refl, sym, ◌∙◌, ap, subst, inl, arith, Option, Some, None, is_some, Result, Ok, Err, OnOk, OnErr, IfOk}
+use Rattle.std.proofs.Common.{◌≡◌, ◌≢◌, ℕ, ◌+◌, ◌-◌, ◌<◌, ◌≤◌, ◌%◌, ◌==◌, ◌&&◌, ◌||◌, not, nat_lt, if◌then◌else◌, Bool, true, false, All, get_or, refl, sym, ◌∙◌, ap, subst, inl, arith, Option, Some, None, is_some, Result, Ok, Err, OnOk, OnErr, IfOk, rules}
 use Rattle.std.proofs.lemmas.Bool.{and_parts, eqb-true, ltb-true, ltb-false, both_ways}
 use Rattle.std.proofs.lemmas.List.{get_or_default}
 use Rattle.std.proofs.lemmas.List.Sums.{sum_by-set, sum_by-le}
@@ -10,15 +10,12 @@ use Rattle.thy_base.specs.Geometry.{memory_blocks}
 use Rattle.thy_base.specs.Store.{page_of}
 use Rattle.thy_place.specs.Devices.{Devices, devices_of}
 use Rattle.thy_place.proofs.PlaceLemmas.{AreSized-written_at}
-use Rattle.thy_table.specs.Listing.{Listing, IsListing, entry_at, lists, passes, place_of, with_entry}
-use Rattle.thy_table.proofs.IndexLemmas.{lists-key}
+use Rattle.thy_table.specs.Listing.{Listing, IsListing, entry_at, passes, place_of, with_entry}
 use Rattle.thy_table.proofs.FirstLemmas.{first_from-first, none-first_from}
 use Rattle.thy_table.specs.declared.block_entry.Version.{Version}
-use Rattle.thy_table.specs.declared.block_entry.Version.TheVariants.{Out, Alt}
+use Rattle.thy_table.specs.declared.block_entry.Version.TheVariants.{Out}
 use Rattle.thy_table.specs.declared.block_entry.Working.{Working}
-use Rattle.thy_table.specs.declared.block_entry.Working.TheVariants.{NoWork, InNvm, InBuffer}
 use Rattle.thy_table.specs.declared.page_entry.Site.{Site}
-use Rattle.thy_table.specs.declared.page_entry.Site.TheVariants.{AtHome, AtAlternate}
 use Rattle.thy_table.specs.declared.page_entry.PttEntry.{PttEntry}
 use Rattle.thy_table.specs.PageEntry.{no_page, is_framed, page_blocks}
 use Rattle.thy_cell.specs.declared.cell.Cell.{Cell}
@@ -34,37 +31,27 @@ use Rattle.thy_control.specs.State.{State, AreSoundTables, IsSized, cell_of, rea
 use Rattle.thy_control.specs.Stays.{HoldAll, StaysHeld, Stays}
 use Rattle.thy_control.specs.Versions.{KeepsCommitted, KeepsWork}
 use Rattle.thy_control.specs.Pages.{needs_write, next_page, issues_left, writes_left, page_in, block_after, block_to_write, devices_issued, issued, devices_after_write, after_next_write, FailsWriteOf, FailsNextWrite}
-use Rattle.thy_control.proofs.FindLemmas.{found_entry, entry_for-some}
-use Rattle.thy_control.proofs.CellLemmas.{IsPlace-target, IsWithin-cell_of}
-use Rattle.thy_control.proofs.OwnLemmas.{Owns-cell_of, owned-target}
+use Rattle.thy_control.proofs.FindLemmas.{stands_at, entry_for-there}
+use Rattle.thy_control.proofs.StateLemmas.{IsPlace-target, IsWithin-cell_of}
+use Rattle.thy_control.proofs.TablesLemmas.{Owns-cell_of, owned-target}
 use Rattle.thy_control.proofs.PageLemmas.{cell-page, same_page}
-use Rattle.thy_control.proofs.StepLemmas.{moved-is}
-use Rattle.thy_control.proofs.WalkLemmas.{listed-page, next-here, next-few, not-next, IsWalk, StaysTables-walked, AreSoundTables-walked, here_now, left_as, Keeps-walked, reads-walked, IsBlockOf-entry, walked-is}
-use Rattle.thy_control.proofs.StepStayLemmas.{StaysTables, Outcome, LeavesGuarded-step, Stays-step, Stays-failed_step, Outcome-failed}
+use Rattle.thy_control.proofs.StayLemmas.{StaysTables, LeavesGuarded-step, Stays-step, Stays-failed_step, Outcome-failed}
+use Rattle.thy_control.proofs.KeepLemmas.{StepOutcome}
+use Rattle.thy_control.proofs.StepLemmas.{listed-page, next-here, next-few, not-next, IsWalk, StaysTables-walked, AreSoundTables-walked, here_now, left_as, Keeps-walked, reads-walked, IsBlockOf-entry}
 
 -- a busy page moves in a checkpoint under way, is framed, and was not just promoted
 pub busy-framed : (u : Bool) (page : PttEntry) → IsSoundPage u page → page.busy ≡ true → is_framed page ≡ true
-busy-framed u page s busy = by_framed (is_framed page) refl where
-  by_framed : (f : Bool) → is_framed page ≡ f → f ≡ true
-  by_framed true e = refl
-  by_framed false e = absurd (s.busy_moves busy (s.bare_place e ∙ sym (s.bare_target e)))
+busy-framed u page s busy = grind arith
 
 busy-old : (u : Bool) (page : PttEntry) → IsSoundPage u page → page.busy ≡ true → page.fresh ≡ false
-busy-old u page s busy = by_fresh page.fresh refl where
-  by_fresh : (f : Bool) → page.fresh ≡ f → f ≡ false
-  by_fresh false e = refl
-  by_fresh true e = absurd (s.busy_moves busy (s.fresh_place e ∙ sym (s.fresh_target e)))
+busy-old u page s busy = grind arith
 
 busy-under_way : (u : Bool) (page : PttEntry) → IsSoundPage u page → page.busy ≡ true → u ≡ true
-busy-under_way true page s busy = refl
-busy-under_way false page s busy = absurd (s.busy_moves busy (s.one_place refl))
+busy-under_way u page s busy = grind arith
 
 -- a framed page's block has its work at the same place, whatever its last version is
 worked-framed : (w : Working) (f : Bool) (x y : Place) (v : Version) (seat : Seat) → f ≡ true → worked_at w f x v seat ≡ worked_at w f y v seat
-worked-framed NoWork true x y v seat e = refl
-worked-framed NoWork false x y v seat e = cc
-worked-framed InNvm f x y v seat e = refl
-worked-framed InBuffer f x y v seat e = refl
+worked-framed w f x y v seat e = grind arith
 
 module _ (b : ℕ) (s : State) (busy : (cell_of s b).page.busy ≡ true) where
   has_page : (cell_of s b).page ≢ no_page (page_of b)
@@ -158,11 +145,17 @@ module _ (b : ℕ) (s : State) (m : Device) (busy : (cell_of s b).page.busy ≡ 
   unfolding issued
   writes_left-issued =
       let c : Cell = cell_of s b in
-      let found = found_entry page_key no_page s.ptt (page_of b) c.j (listed-busy b s busy) in
-      let is : c.page ≡ found.0 = entry_for-some page_key no_page s.ptt (page_of b) c.j found.0 (listed-busy b s busy) found.1 in
+      let there = stands_at page_key no_page s.ptt (page_of b) c.j (listed-busy b s busy) in
       let was : issues_left (entry_at s.ptt c.j) ≡ page_blocks - c.page.issued
-      = ap issues_left found.1 ∙ ap (λ (e : PttEntry). issues_left (Some e)) (sym is) ∙ ap (λ (x : Bool). if x then page_blocks - c.page.issued else 0) busy in
-      omega (arith, sum_by-set issues_left s.ptt.entries c.j (Some (page_issued c.page)) None found.3, was, left_one c.page.leaving c.page.issued less)
+      = ap issues_left there.0
+      ∙ ap (λ (x : Bool). if x then page_blocks - c.page.issued else 0) busy in
+      omega (
+        arith,
+        sum_by-set issues_left s.ptt.entries c.j (Some (page_issued c.page)) None
+            there.1,
+        was,
+        left_one c.page.leaving c.page.issued less,
+      )
 
 -- what is known of the next block
 pub record IsDue (s : State) (b : ℕ) : Type 0 where
@@ -189,18 +182,11 @@ page_in-small s t j = by_entry (entry_at s.ptt j) refl where
   by_entry : (o : Option PttEntry) → entry_at s.ptt j ≡ o → page_in o < memory_blocks s.p + 1
   by_entry None e = omega arith
   by_entry (Some x) e =
-      let here : lists page_key x.page (entry_at s.ptt j) ≡ true = lists-key page_key x.page (entry_at s.ptt j) x e refl in
-      omega (arith, t.ptt_once.inside j x.page here, t.ptt_numbers)
+      omega (arith, (entry_for-there page_key no_page s.ptt t.ptt_once j x e).2, t.ptt_numbers)
 
 -- the place that is written is none of the committed checkpoint
 sites_apart : (v w : Version) (p q : Site) (x : Seat) → w ≡ Out → p ≢ q → placed v p x ≢ placed w q x
-sites_apart v Alt p q x out other e = cc
-sites_apart Alt Out p AtHome x out other e = cc
-sites_apart Alt Out p AtAlternate x out other e = cc
-sites_apart Out Out AtHome AtHome x out other e = other refl
-sites_apart Out Out AtAlternate AtAlternate x out other e = other refl
-sites_apart Out Out AtHome AtAlternate x out other e = cc
-sites_apart Out Out AtAlternate AtHome x out other e = cc
+sites_apart v w p q x out other e = grind arith
 
 module _ (b : ℕ) (s : State) (busy : (cell_of s b).page.busy ≡ true) (m : Device) where
   module _ (t : AreSoundTables s) (sized : IsSized s m) (l : b < memory_blocks s.p) (due : (cell_of s b).page.issued ≡ b % 64) where
@@ -210,7 +196,9 @@ module _ (b : ℕ) (s : State) (busy : (cell_of s b).page.busy ≡ true) (m : De
         (λ k q. record { penult_same = refl; target_same = refl; settled = λ h. h; busy_before = λ h. busy-same b s busy k q; issued = omega arith })
         (devices_issued b s m).dram
 
-    guarded_by : (n : Device) → Outcome s (target (cell_of s b)) (reads s m (frame_at (seat_of (cell_of s b)))) m n → LeavesGuarded s m n
+    guarded_by : (n : Device)
+        → StepOutcome s (target (cell_of s b)) (reads s m (frame_at (seat_of (cell_of s b)))) m n
+        → LeavesGuarded s m n
     guarded_by n outcome =
         let c : Cell = cell_of s b in
         let sound = t.cells b l in
@@ -285,10 +273,7 @@ writes_left-next s m t (Some j) h =
 
 pub left_after : (s : State) (m : Device) (t : State) → AreSoundTables s → (r : Result Bool NvmError) → OnOk r (t ≡ after_next_write (next_page s) s m) → IfOk r (λ more. more ≡ is_some (next_page s))
     → IfOk r (λ more. IsOneLess more (writes_left s) (writes_left t))
-left_after s m t tables (Ok more) e f =
-    subst (λ (x : State). IsOneLess more (writes_left s) (writes_left x)) (sym e)
-    (subst (λ (x : Bool). IsOneLess x (writes_left s) (writes_left (after_next_write (next_page s) s m))) (sym f) (writes_left-next s m tables (next_page s) refl))
-left_after s m t tables (Err x) e f = tt
+left_after s m t tables r e f = search (rules, writes_left-next s m tables (next_page s) refl)
 
 Stays-next : PageWriteKeeps → PageWriteKeepsOthers → (s : State) (m : Device) → AreSoundTables s → IsSized s m → m.down ≡ false → (o : Option ℕ) → next_page s ≡ o
     → IsFramed m (devices_after_write o s m) → Stays s m (after_next_write o s m) (devices_after_write o s m)
@@ -308,17 +293,16 @@ stays_by law other s m t n (Err x) tables sized up e f k g framed =
     subst (λ (y : State). Stays s m y n) (sym k) (Stays-not_issued (block_to_write g.entry s) s d.busy m tables sized d.inside d.due n g.fails framed)
 
 -- the parts of the code's way: the state as its fields have it
-module _ (s w : State) (view : w ≡ s) where
-  pub devices_are : (b : ℕ) (m : Device) (found : Cell) (from to : Place) (d : Devices) → found ≡ cell_of s b → from ≡ frame_at (seat_of found) → to ≡ target found
+module _ {s w : State} (view : w ≡ s) (b : ℕ) (m : Device) {found : Cell}
+    (is : found ≡ cell_of s b) where
+  pub devices_are : {from to : Place} {d : Devices} → from ≡ frame_at (seat_of found)
+      → to ≡ target found
       → d ≡ moved w.p from to (devices_of m w.dram) → d ≡ devices_issued b s m
   unfolding devices_issued
-  devices_are b m found from to d is from_is to_is d_is =
-      moved-is s w view m from to (frame_at (seat_of (cell_of s b))) (target (cell_of s b)) d
-      (from_is ∙ ap (λ (c : Cell). frame_at (seat_of c)) is) (to_is ∙ ap target is) d_is
+  devices_are from_is to_is d_is = cc
 
-  pub state_is : (b : ℕ) (m : Device) (found after : Cell) (t : Listing PttEntry) (d : Devices) → found ≡ cell_of s b → after ≡ with_issued found
+  pub state_is : {after : Cell} {t : Listing PttEntry} {d : Devices} → after ≡ with_issued found
       → t ≡ with_entry found.j (Some after.page) w.ptt → d ≡ devices_issued b s m
       → record w { ptt = t; dram = d.dram } ≡ issued b s m
   unfolding issued
-  state_is b m found after t d is after_is t_is d_is =
-      walked-is page_issued s w view b found after t d.dram (devices_issued b s m).dram is after_is t_is (ap (λ (x : Devices). x.dram) d_is)
+  state_is after_is t_is d_is = cc

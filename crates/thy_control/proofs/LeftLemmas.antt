@@ -4,7 +4,7 @@ use Rattle.thy_table.specs.Listing.{Listing, passes, next_from, place_of}
 use Rattle.thy_table.proofs.FirstLemmas.{none-first_from}
 use Rattle.thy_base.specs.Store.{page_of}
 use Rattle.thy_table.specs.declared.block_entry.Pending.{Pending}
-use Rattle.thy_table.specs.declared.block_entry.Pending.TheVariants.{Settled, FromBuffer, FromAlternate}
+use Rattle.thy_table.specs.declared.block_entry.Pending.TheVariants.{Settled}
 use Rattle.thy_table.specs.BlockEntry.{new_entry}
 use Rattle.thy_table.specs.PageEntry.{no_page}
 use Rattle.thy_control.specs.Copies.{is_pending, needs_copy, next_copy, block_listed}
@@ -30,9 +30,7 @@ none-entry_for {E} key new test t none new_fails n = by_place (place_of key n t)
       ∙ none-first_from (passes test) None t.entries 0 none i (omega arith) f.3
 
 pub not_pending : (q : Pending) → is_pending q ≡ false → q ≡ Settled
-not_pending Settled h = refl
-not_pending FromBuffer h = cc
-not_pending FromAlternate h = cc
+not_pending q h = grind arith
 
 pub not_to_write : (busy : Bool) (issued : ℕ) → (busy && nat_lt issued 64) ≡ false → busy ≡ true → 64 ≤ issued
 not_to_write true issued h e = grind arith

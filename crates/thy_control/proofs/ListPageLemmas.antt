@@ -1,23 +1,21 @@
 -- Pages that are listed to be promoted: every other page has the entry that it had.
-use Rattle.std.proofs.Common.{◌≡◌, ◌≢◌, ◌⊎◌, ℕ, ◌+◌, ◌-◌, ◌<◌, ◌≤◌, max, Bool, true, false, if◌then◌else◌, List, [], ◌∷◌, ◌++◌, length, get_or, take, drop, map, filter, cond, All, refl, sym, ◌∙◌, ap, subst, inl, inr, arith, zero, suc, Option, Some, None, is_none, option_and_then}
+use Rattle.std.proofs.Common.{◌≡◌, ◌≢◌, ◌⊎◌, ℕ, ◌+◌, ◌-◌, ◌<◌, ◌≤◌, max, Bool, true, false, if◌then◌else◌, List, [], ◌∷◌, ◌++◌, length, get_or, take, drop, map, filter, cond, All, refl, sym, ◌∙◌, ap, subst, inl, inr, arith, zero, suc, Option, Some, None, option_and_then}
 use Rattle.std.specs.List.{range_with_len}
 use Rattle.std.proofs.lemmas.Bool.{cases_eq, leb-true, le-ltb}
-use Rattle.std.proofs.lemmas.List.{map-id, append-nil, length-set, length-take, length-drop, get_or-set_same, get_or-set_other, get_or-take, get_or-drop}
+use Rattle.std.proofs.lemmas.List.{map-id, append-nil, length-set, length-take, length-drop, get_or-set_same, get_or-take, get_or-drop}
 use Rattle.std.proofs.Math.Seq.{map-set_same}
 use Rattle.std.proofs.lemmas.List.Elements.{All-filter}
 use Rattle.std.proofs.lemmas.List.FromFn.{filter_of_map_range_with_len_more, get_or-range_with_len, length-range_with_len}
-use Rattle.std.proofs.lemmas.List.Quantifiers.{position-Some}
-use Rattle.thy_table.specs.Listing.{Listing, IsListing, entry_at, place_of, free_place, with_entry, added_at}
-use Rattle.thy_table.proofs.IndexLemmas.{None-is_none}
+use Rattle.thy_table.specs.Listing.{Listing, IsListing, entry_at, place_of, free_place, with_entry}
 use Rattle.thy_table.proofs.ListingLaws.{IsListing-put}
 use Rattle.thy_table.specs.declared.page_entry.PttEntry.{PttEntry}
-use Rattle.thy_table.specs.PageEntry.{no_page, promoted_page}
+use Rattle.thy_table.specs.PageEntry.{no_page, promoted_page, is_framed}
 use Rattle.thy_switch.specs.Counts.{Tally, is_dense, greatest_of, are_sparse}
-use Rattle.thy_control.specs.Find.{entry_for, with_found, with_entry_for}
+use Rattle.thy_control.specs.Find.{entry_for, with_entry_for}
 use Rattle.thy_control.specs.Keys.{page_key}
 use Rattle.thy_control.specs.CheckpointTables.{page_lists}
 use Rattle.thy_control.specs.Seal.{dense_below, with_pages, with_dense}
-use Rattle.thy_control.proofs.FindLemmas.{found_entry, entry_for-some, entry_for-none, place_of-new_same, place_of-new_other}
+use Rattle.thy_control.proofs.FindLemmas.{entry_for-some, place_of-new_same, place_of-new_other, at_put, entry_for-kept, entry_at-put, free_at, by_entry_for}
 use Rattle.thy_control.proofs.CommitLemmas.{AreLive}
 
 -- a page has the entry that it had, or was not listed and is to be promoted
@@ -66,7 +64,7 @@ lists_on t u v a b = record {
 -- one page is put in the lowest free place
 module _ (t : Listing PttEntry) (m i : ℕ) (unlisted : place_of page_key m t ≡ None) (lowest : free_place t ≡ Some i) (room : m < t.numbers) where
   free_there : (entry_at t i ≡ None) × (i < length t.entries)
-  free_there = let first = position-Some is_none t.entries i None lowest in (None-is_none (entry_at t i) first.1, first.0)
+  free_there = free_at t i lowest
 
   abbrev u : Listing PttEntry
   u = with_entry i (Some (promoted_page m)) t
@@ -82,26 +80,14 @@ module _ (t : Listing PttEntry) (m i : ℕ) (unlisted : place_of page_key m t �
       }
 
   same_there : (n : ℕ) → n ≢ m → Same t u n
-  same_there n other = record { place = place; entry = by_place (place_of page_key n t) refl } where
-    place : place_of page_key n u ≡ place_of page_key n t
-    place = place_of-new_other page_key promoted_page (λ k. refl) t m i unlisted lowest n other
-
-    by_place : (o : Option ℕ) → place_of page_key n t ≡ o → entry_for page_key no_page n u ≡ entry_for page_key no_page n t
-    by_place None h = entry_for-none page_key no_page u n (place ∙ h) ∙ sym (entry_for-none page_key no_page t n h)
-    by_place (Some k) h =
-        let f = found_entry page_key no_page t n k h in
-        let apart : k ≢ i = λ s. (let both : Some f.0 ≡ None = sym f.1 ∙ ap (entry_at t) s ∙ free_there.0 in cc) in
-        entry_for-some page_key no_page u n k f.0 (place ∙ h) (get_or-set_other t.entries i k (Some (promoted_page m)) None apart ∙ f.1)
-        ∙ sym (entry_for-some page_key no_page t n k f.0 h f.1)
-
-  live_there : AreLive t → AreLive u
-  live_there live j e was bare = elim (cases_eq j i) as (λ _. e.fresh ≡ true) [
-    | inl s ↦
-        let now : Some (promoted_page m) ≡ Some e = sym (ap (entry_at u) s ∙ get_or-set_same t.entries i (Some (promoted_page m)) None free_there.1) ∙ was in
-        let same : promoted_page m ≡ e = cc in
-        sym (ap (λ (x : PttEntry). x.fresh) same)
-    | inr o ↦ live j e (sym (get_or-set_other t.entries i j (Some (promoted_page m)) None o) ∙ was) bare
-  ]
+  same_there n other =
+      let place = place_of-new_other page_key promoted_page (λ k. refl) t m i unlisted lowest n
+      other in
+      record {
+        place = place;
+        entry = entry_for-kept page_key no_page t u n place
+            (λ k x was of_n. entry_at-put t i (Some (promoted_page m)) free_there.0 k x was);
+      }
 
   each_there : (n : ℕ) → Same t u n ⊎ Listed t u n
   each_there n = elim (cases_eq n m) as (λ _. Same t u n ⊎ Listed t u n) [
@@ -111,22 +97,19 @@ module _ (t : Listing PttEntry) (m i : ℕ) (unlisted : place_of page_key m t �
 
 -- so it is of one page
 pub lists_one : (t : Listing PttEntry) (m : ℕ) → m < t.numbers → Lists t (with_entry_for page_key promoted_page m t)
-lists_one t m room = by_place (place_of page_key m t) refl where
-  by_free : place_of page_key m t ≡ None → (o : Option ℕ) → free_place t ≡ o → Lists t (record t { entries = added_at o (promoted_page m) t.entries })
-  by_free h None f = lists_none t
-  by_free h (Some i) f = record {
-    size = length-set t.entries i (Some (promoted_page m));
-    numbers = refl;
-    once = λ once. IsListing-put page_key t once i (promoted_page m) (free_there t m i h f room).1 h room;
-    live = live_there t m i h f room;
-    tables = map-set_same (option_and_then page_listed0) t.entries i (Some (promoted_page m)) None
-        (sym (ap (option_and_then page_listed0) (free_there t m i h f room).0));
-    each = each_there t m i h f room;
-  }
-
-  by_place : (o : Option ℕ) → place_of page_key m t ≡ o → Lists t (with_found page_key promoted_page o m t)
-  by_place (Some i) h = lists_none t
-  by_place None h = by_free h (free_place t) refl
+lists_one t m room =
+    by_entry_for page_key promoted_page (λ v. Lists t v) t m (lists_none t) (λ i h f.
+    let free = free_at t i f in
+    record {
+      size = length-set t.entries i (Some (promoted_page m));
+      numbers = refl;
+      once = λ once. IsListing-put page_key t once i (promoted_page m) free.1 h room;
+      live = λ live. at_put t i (λ e. is_framed e ≡ false → e.fresh ≡ true) (promoted_page m) free.1
+          (λ bare. refl) live;
+      tables = map-set_same (option_and_then page_listed0) t.entries i (Some (promoted_page m)) None
+          (sym (ap (option_and_then page_listed0) free.0));
+      each = each_there t m i h f room;
+    })
 
 -- and of any number
 pub lists_all : (ns : List ℕ) (t : Listing PttEntry) → All (λ n. n < t.numbers) ns → Lists t (with_pages ns t)

@@ -8,7 +8,7 @@ use Rattle.thy_base.specs.declared.config.Parameters.{Parameters}
 use Rattle.thy_base.specs.Device.{Device}
 use Rattle.thy_base.specs.Geometry.{IsInRange, memory_blocks}
 use Rattle.thy_base.specs.Store.{page_of}
-use Rattle.thy_table.specs.Listing.{Listing, entry_at, place_of, free_place, passes, with_entry, added_at, empty_table}
+use Rattle.thy_table.specs.Listing.{Listing, entry_at, place_of, free_place, passes, with_entry, empty_table}
 use Rattle.thy_table.proofs.IndexLemmas.{one_if, lists-key}
 use Rattle.thy_table.specs.declared.block_entry.BttEntry.{BttEntry}
 use Rattle.thy_table.specs.declared.block_entry.Working.{Working}
@@ -21,7 +21,6 @@ use Rattle.thy_cell.specs.declared.cell.StoreRule.{StoreRule}
 use Rattle.thy_cell.specs.declared.cell.StoreRule.TheVariants.{ToFrame, ToBuffer, ToNvm, PendingFirst}
 use Rattle.thy_cell.specs.Rules.{store_rule, after_store}
 use Rattle.thy_control.specs.declared.overlay.WorkCounts.{WorkCounts}
-use Rattle.thy_control.specs.Find.{with_found}
 use Rattle.thy_control.specs.Keys.{block_key, page_key}
 use Rattle.thy_control.specs.StoredTables.{btt_with, btt_after, ptt_after}
 use Rattle.thy_control.specs.State.{State, AreSoundTables, cell_of}
@@ -29,10 +28,8 @@ use Rattle.thy_control.specs.Rules.{IsWholeState, with_block, rule_for, cell_bef
 use Rattle.thy_control.specs.Holding.{is_promoted, promoted}
 use Rattle.thy_control.specs.Seal.{block_is_framed, IsBareState}
 use Rattle.thy_control.specs.Overlay.{is_buffered, is_overlaid, overlaid, covers, AreWorkCounts, IsOverlaid, IsPromoting}
-use Rattle.thy_control.proofs.FindLemmas.{found_entry, entry_for-some, entry_for-none}
-use Rattle.thy_control.proofs.CellLemmas.{block-cell_of}
-use Rattle.thy_control.proofs.StateLemmas.{IsListed, IsListed-with_block, cell-with_cell_same, cell-with_cell_other, rule-with_block}
-use Rattle.thy_control.proofs.StayLemmas.{free_at}
+use Rattle.thy_control.proofs.FindLemmas.{found_entry, entry_for-some, entry_for-none, stands_at, free_at}
+use Rattle.thy_control.proofs.StateLemmas.{block-cell_of, IsListed, IsListed-with_block, cell-with_cell_same, cell-with_cell_other, rule-with_block, btt_with-by}
 use Rattle.thy_control.proofs.CountLemmas.{count-set_same, promoted-cell, none-counted}
 use Rattle.thy_control.proofs.HoldingLemmas.{none_passes}
 use Rattle.thy_control.proofs.StoreLemmas.{whole_page}
@@ -49,30 +46,18 @@ counted-some {X} test d (x ∷ xs) l = elim (cases_Bool (test x)) as (λ _. (i :
 ]
 
 -- an entry more has no work
-overlaid-added : (pages : Listing PttEntry) (t : Listing BttEntry) (b : ℕ) (o : Option ℕ) → free_place t ≡ o
-    → overlaid pages (record t { entries = added_at o (new_entry b) t.entries }) ≡ overlaid pages t
-overlaid-added pages t b None e = refl
-overlaid-added pages t b (Some i) e =
-    let free = free_at t i e in
-    count-set_same (passes (is_overlaid pages)) t.entries i (Some (new_entry b)) None free.1 (sym (ap (passes (is_overlaid pages)) free.0))
-
-overlaid-found : (pages : Listing PttEntry) (t : Listing BttEntry) (b : ℕ) (o : Option ℕ) → overlaid pages (with_found block_key new_entry o b t) ≡ overlaid pages t
-overlaid-found pages t b (Some i) = refl
-overlaid-found pages t b None = overlaid-added pages t b (free_place t) refl
-
 pub overlaid-with : (r : StoreRule) (b : ℕ) (pages : Listing PttEntry) (t : Listing BttEntry) → overlaid pages (btt_with r b t) ≡ overlaid pages t
-overlaid-with ToFrame b pages t = refl
-overlaid-with ToBuffer b pages t = overlaid-found pages t b (place_of block_key b t)
-overlaid-with ToNvm b pages t = overlaid-found pages t b (place_of block_key b t)
-overlaid-with PendingFirst b pages t = refl
+overlaid-with r b pages t =
+    btt_with-by (λ u. overlaid pages u ≡ overlaid pages t) r b t refl (λ i h f.
+    let free = free_at t i f in
+    count-set_same (passes (is_overlaid pages)) t.entries i (Some (new_entry b)) None free.1
+    (sym (ap (passes (is_overlaid pages)) free.0)))
 
 -- another entry of a block that has one
 module _ (t : State) (b : ℕ) (e : BttEntry) (of_block : e.block ≡ b) (listed : place_of block_key b t.btt ≡ Some (cell_of t b).i) where
-  there : (x : BttEntry) × (entry_at t.btt (cell_of t b).i ≡ Some x) × (block_key x ≡ b) × ((cell_of t b).i < length t.btt.entries)
-  there = found_entry block_key new_entry t.btt b (cell_of t b).i listed
-
-  is_there : entry_at t.btt (cell_of t b).i ≡ Some (cell_of t b).entry
-  is_there = there.1 ∙ sym (ap Some (entry_for-some block_key new_entry t.btt b (cell_of t b).i there.0 listed there.1))
+  there : (entry_at t.btt (cell_of t b).i ≡ Some (cell_of t b).entry)
+      × ((cell_of t b).i < length t.btt.entries)
+  there = stands_at block_key new_entry t.btt b (cell_of t b).i listed
 
   -- whether it lies over the frame
   test_of : (x : BttEntry) → x.block ≡ b → passes (is_overlaid t.ptt) (Some x) ≡ (is_buffered x.work && is_framed (cell_of t b).page)
@@ -82,8 +67,9 @@ module _ (t : State) (b : ℕ) (e : BttEntry) (of_block : e.block ≡ b) (listed
       ≡ overlaid t.ptt t.btt + one_if (is_buffered e.work && is_framed (cell_of t b).page)
   overlaid-set = omega (
     arith,
-    sum_by-set (λ (x : Option BttEntry). one_if (passes (is_overlaid t.ptt) x)) t.btt.entries (cell_of t b).i (Some e) None there.3,
-    ap (λ (o : Option BttEntry). one_if (passes (is_overlaid t.ptt) o)) is_there,
+    sum_by-set (λ (x : Option BttEntry). one_if (passes (is_overlaid t.ptt) x)) t.btt.entries
+        (cell_of t b).i (Some e) None there.1,
+    ap (λ (o : Option BttEntry). one_if (passes (is_overlaid t.ptt) o)) there.0,
     ap one_if (test_of (cell_of t b).entry (block-cell_of t b)),
     ap one_if (test_of e of_block),
   )
@@ -104,18 +90,14 @@ framed-cell b t m l = elim (cases_eq m b) as (λ _. block_is_framed (ptt_after T
 -- by the rule: only a store into a buffer over a frame adds one
 one_more : (work : Working) (framed : Bool) (new old : ℕ) → new + one_if (is_buffered work && framed) ≡ old + one_if framed
     → new ≡ old + (if framed && not (is_buffered work) then 1 else 0)
-one_more NoWork true new old h = omega (arith, h)
-one_more NoWork false new old h = omega (arith, h)
-one_more InNvm true new old h = omega (arith, h)
-one_more InNvm false new old h = omega (arith, h)
 one_more InBuffer true new old h = omega (arith, h)
 one_more InBuffer false new old h = omega (arith, h)
+one_more work true new old h = omega (arith, h)
+one_more work false new old h = omega (arith, h)
 
 no_more : (work : Working) (framed : Bool) (new old : ℕ) → framed ≡ false → new + one_if (is_buffered work && framed) ≡ old + 0 → new ≡ old + 0
-no_more NoWork framed new old f h = omega (arith, h)
-no_more InNvm framed new old f h = omega (arith, h)
 no_more InBuffer true new old f h = cc
-no_more InBuffer false new old f h = omega (arith, h)
+no_more work framed new old f h = omega (arith, h)
 
 nvm_is_bare : (c : Cell) → store_rule c ≡ ToNvm → is_framed c.page ≡ false
 nvm_is_bare c e = grind arith

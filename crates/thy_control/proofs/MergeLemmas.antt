@@ -1,7 +1,6 @@
 -- The merge of a block's buffer into the frame of its page: every block after it, and the tables.
 use Rattle.thy_places.specs.declared.place.Place.TheVariants.{Home, AlternatePage}
-use Rattle.thy_table.specs.declared.block_entry.Pending.{Pending}
-use Rattle.thy_table.specs.declared.block_entry.Pending.TheVariants.{Settled, FromBuffer, FromAlternate}
+use Rattle.thy_table.specs.declared.block_entry.Pending.TheVariants.{Settled}
 use Rattle.thy_table.specs.declared.block_entry.Version.{Version}
 use Rattle.thy_table.specs.declared.block_entry.Version.TheVariants.{Out, Alt}
 use Rattle.thy_table.specs.declared.page_entry.Site.{Site}
@@ -9,10 +8,9 @@ use Rattle.thy_table.specs.declared.page_entry.Site.TheVariants.{AtHome, AtAlter
 use Rattle.thy_control.specs.CheckpointTables.{tables0, tables1, entry_lists, page_lists}
 use Rattle.thy_control.specs.OverCalls.{cell_same, stays_same}
 use Rattle.thy_control.specs.Stays.{CellStays, Stays}
-use Rattle.thy_control.proofs.StayLemmas.{map-set_same, map-page}
-use Rattle.thy_control.proofs.StepStayLemmas.{StaysTables, LeavesGuarded-step, Stays-step, penult-in_nvm, target-in_nvm}
+use Rattle.thy_control.proofs.StayLemmas.{map-set_same, map-page, StaysTables, LeavesGuarded-step, Stays-step, penult-in_nvm, target-in_nvm}
 use Rattle.std.proofs.Common.{◌≡◌, ◌≢◌, ℕ, ◌+◌, ◌<◌, Bool, true, false, ◌&&◌, refl, sym, ◌∙◌, ap, subst, inl, inr, arith, Option, Some, None, List, map, option_and_then, ◌%◌}
-use Rattle.std.proofs.lemmas.Bool.{cases_eq, and_parts}
+use Rattle.std.proofs.lemmas.Bool.{cases_eq, and_parts, false_from_ne_true}
 use Rattle.std.proofs.lemmas.List.{length-set}
 use Rattle.thy_base.specs.declared.block.Block.{Block}
 use Rattle.thy_places.specs.declared.place.Place.{Place}
@@ -21,8 +19,7 @@ use Rattle.thy_base.specs.Geometry.{memory_blocks}
 use Rattle.thy_places.specs.Places.{IsPlace, number_of}
 use Rattle.thy_base.specs.Store.{page_of}
 use Rattle.thy_dram.specs.Contents.{Contents, written}
-use Rattle.thy_table.specs.Listing.{Listing, IsListing, entry_at, lists, passes, place_of, with_entry}
-use Rattle.thy_table.proofs.IndexLemmas.{lists-key}
+use Rattle.thy_table.specs.Listing.{Listing, IsListing, entry_at, passes, place_of, with_entry}
 use Rattle.thy_table.proofs.FirstLemmas.{first_from-first, none-first_from}
 use Rattle.thy_table.specs.declared.block_entry.BttEntry.{BttEntry}
 use Rattle.thy_table.specs.declared.page_entry.PttEntry.{PttEntry}
@@ -35,23 +32,22 @@ use Rattle.thy_cell.specs.Cells.{Seat, placed, seat_of, frame_at, buffer_at, wor
 use Rattle.thy_cell.specs.Sound.{IsSoundCell, IsWithin, Puts}
 use Rattle.thy_cell.specs.Checkpoint.{merged, with_dirty}
 use Rattle.thy_cell.specs.BetweenCheckpoints.{MergeKeeps, DirtyKeeps, Keeps}
-use Rattle.thy_control.specs.Find.{entry_for}
 use Rattle.thy_control.specs.Keys.{block_key, page_key}
 use Rattle.thy_control.specs.State.{State, AreSoundTables, IsSized, cell_of, reads}
 use Rattle.thy_control.specs.Overlay.{is_buffered, is_overlaid}
 use Rattle.thy_control.specs.Seal.{block_is_framed}
 use Rattle.thy_control.specs.Copies.{block_listed, block_in}
 use Rattle.thy_control.specs.Merges.{next_merge, overlays, dram_merged, merged_block, after_merge}
-use Rattle.thy_control.proofs.FindLemmas.{found_entry, entry_for-some}
-use Rattle.thy_control.proofs.CellLemmas.{block-cell_of, IsWithin-cell_of}
+use Rattle.thy_control.proofs.FindLemmas.{found_entry, stands_at, entry_for-there, by_number}
+use Rattle.thy_control.proofs.StateLemmas.{block-cell_of, IsWithin-cell_of, place_of-index}
 use Rattle.thy_control.proofs.CountLemmas.{count-set_less}
-use Rattle.thy_control.proofs.HoldLemmas.{IsPlace-frame_of}
-use Rattle.thy_control.proofs.StateLemmas.{place_of-index}
-use Rattle.thy_control.proofs.OwnLemmas.{owner, Owns-cell_of}
+use Rattle.thy_control.proofs.KeepLemmas.{IsPlace-frame_of}
+use Rattle.thy_control.proofs.TablesLemmas.{owner, Owns-cell_of}
 use Rattle.thy_control.proofs.PageLemmas.{count-same, block_cleared, cell-cleared_same, cell-cleared_other, cell-page_same, cell-page_other, same_page, live-set}
 use Rattle.thy_control.proofs.StepLemmas.{KeepsEach, Keeps-untouched, ReadsSame-of, reads_after, puts, untouched, holds-each, none-passes}
 use Rattle.thy_control.proofs.LiveLemmas.{used-cleared}
 use Rattle.thy_control.proofs.MarkLemmas.{buffered}
+use Rattle.thy_control.proofs.CopyLemmas.{settled_by}
 
 -- a page that was written to
 abbrev dirty : PttEntry → PttEntry
@@ -92,13 +88,14 @@ module _ (b : ℕ) (s : State) (framed : is_framed (cell_of s b).page ≡ true) 
     pub cell-merged : (P : Cell → Cell → Type 0) (k : ℕ) → P (cell_of s b) (merged (cell_of s b))
         → (k ≢ b → page_of k ≡ page_of b → P (cell_of s k) (with_dirty (cell_of s k))) → (k ≢ b → P (cell_of s k) (cell_of s k))
         → P (cell_of s k) (cell_of (merged_block b s) k)
-    cell-merged P k here page other = elim (cases_eq k b) as (λ _. P (cell_of s k) (cell_of (merged_block b s) k)) [
-      | inl e ↦ subst (λ (j : ℕ). P (cell_of s j) (cell_of (merged_block b s) j)) (sym e) (subst (λ (c : Cell). P (cell_of s b) c) (sym cell-merged_same) here)
-      | inr ne ↦ elim (cases_eq (page_of k) (page_of b)) as (λ _. P (cell_of s k) (cell_of (merged_block b s) k)) [
-        | inl q ↦ subst (λ (c : Cell). P (cell_of s k) c) (sym (cell-merged_page k ne q)) (page ne q)
-        | inr o ↦ subst (λ (c : Cell). P (cell_of s k) c) (sym (cell-merged_other k ne o)) (other ne)
-      ]
-    ]
+    cell-merged P k here page other =
+        by_number (λ j. P (cell_of s j) (cell_of (merged_block b s) j)) b k
+        (subst (P (cell_of s b)) (sym cell-merged_same) here)
+        (λ ne. elim (cases_eq (page_of k) (page_of b)) as
+        (λ _. P (cell_of s k) (cell_of (merged_block b s) k)) [
+          | inl q ↦ subst (P (cell_of s k)) (sym (cell-merged_page k ne q)) (page ne q)
+          | inr o ↦ subst (P (cell_of s k)) (sym (cell-merged_other k ne o)) (other ne)
+        ])
 
   module _ (t : AreSoundTables s) (l : b < memory_blocks s.p) (idle : s.under_way ≡ false) (merge : MergeKeeps) (others : DirtyKeeps) where
     within : IsWithin s.p (seat_of (cell_of s b))
@@ -170,11 +167,12 @@ module _ (b : ℕ) (s : State) (framed : is_framed (cell_of s b).page ≡ true) 
     unfolding merged_block
     overlays-merged =
         let c : Cell = cell_of s b in
-        let there = found_entry block_key new_entry s.btt b c.i listed-merge in
-        let is : c.entry ≡ there.0 = entry_for-some block_key new_entry s.btt b c.i there.0 listed-merge there.1 in
+        let there = stands_at block_key new_entry s.btt b c.i listed-merge in
         let before : is_overlaid s.ptt c.entry ≡ true = ap (λ (w : Working). is_buffered w && block_is_framed s.ptt c.entry.block) over
         ∙ ap (λ (n : ℕ). block_is_framed s.ptt n) (block-cell_of s b) ∙ framed in
-        let less = count-set_less (passes (is_overlaid s.ptt)) s.btt.entries c.i None None there.3 refl (ap (passes (is_overlaid s.ptt)) there.1 ∙ ap (is_overlaid s.ptt) (sym is) ∙ before) in
+        let less = count-set_less (passes (is_overlaid s.ptt)) s.btt.entries c.i None None there.1
+        refl
+        (ap (passes (is_overlaid s.ptt)) there.0 ∙ before) in
         let same = count-same (passes (is_overlaid (merged_block b s).ptt)) (passes (is_overlaid s.ptt)) by_entry (merged_block b s).btt.entries in
         omega (arith, less, same)
       where
@@ -193,38 +191,28 @@ IsOverlay-entry s t i h = by_entry (entry_at s.btt i) refl (first_from-first (pa
   by_entry : (o : Option BttEntry) → entry_at s.btt i ≡ o → passes (is_overlaid s.ptt) o ≡ true → IsOverlay s (block_listed i s)
   by_entry None e p = cc
   by_entry (Some x) e p =
-      let here : lists block_key x.block (entry_at s.btt i) ≡ true = lists-key block_key x.block (entry_at s.btt i) x e refl in
-      let found : place_of block_key x.block s.btt ≡ Some i = t.btt_once.found i x.block here in
-      let entry : entry_for block_key new_entry x.block s.btt ≡ x = entry_for-some block_key new_entry s.btt x.block i x found e in
+      let there = entry_for-there block_key new_entry s.btt t.btt_once i x e in
       let both = and_parts (is_buffered x.work) (block_is_framed s.ptt x.block) p in
       subst (λ (b : ℕ). IsOverlay s b) (sym (ap block_in e)) (record {
-        inside = omega (arith, t.btt_once.inside i x.block here, t.btt_numbers);
+        inside = omega (arith, there.2, t.btt_numbers);
         framed = both.1;
-        over = ap (λ (y : BttEntry). y.work) entry ∙ buffered x.work both.0;
+        over = ap (λ (y : BttEntry). y.work) there.1 ∙ buffered x.work both.0;
       })
 
 -- the parts of the code's way
-module _ (s w : State) (view : w ≡ s) (b : ℕ) (found : Cell) (is : found ≡ cell_of s b) where
-  pub dram_is : (from to : Place) (x y : ℕ) (v : Block) (dram : Contents) → from ≡ buffer_at (seat_of found) → to ≡ frame_at (seat_of found)
+module _ {s w : State} (view : w ≡ s) (b : ℕ) {found : Cell} (is : found ≡ cell_of s b) where
+  pub dram_is : {from to : Place} {x y : ℕ} {v : Block} {dram : Contents}
+      → from ≡ buffer_at (seat_of found) → to ≡ frame_at (seat_of found)
       → x ≡ number_of w.p from → y ≡ number_of w.p to → v ≡ block_at w.dram.blocks x → dram ≡ written w.dram y v → dram ≡ dram_merged b s
   unfolding dram_merged
-  dram_is from to x y v dram from_is to_is x_is y_is v_is dram_e =
-      dram_e ∙ ap (λ (n : ℕ). written w.dram n v) (y_is ∙ ap (number_of w.p) to_is)
-      ∙ ap (λ (z : Block). written w.dram (number_of w.p (frame_at (seat_of found))) z) (v_is ∙ ap (block_at w.dram.blocks) (x_is ∙ ap (number_of w.p) from_is))
-      ∙ ap (λ (q : State). written q.dram (number_of q.p (frame_at (seat_of found))) (block_at q.dram.blocks (number_of q.p (buffer_at (seat_of found))))) view
-      ∙ ap (λ (c : Cell). written s.dram (number_of s.p (frame_at (seat_of c))) (block_at s.dram.blocks (number_of s.p (buffer_at (seat_of c))))) is
+  dram_is from_is to_is x_is y_is v_is dram_e = cc
 
-  pub merged_is : (btt : Listing BttEntry) (ptt : Listing PttEntry) (dram : Contents) → btt ≡ with_entry found.i None w.btt
+  pub merged_is : {btt : Listing BttEntry} {ptt : Listing PttEntry} {dram : Contents}
+      → btt ≡ with_entry found.i None w.btt
       → ptt ≡ with_entry found.j (Some (record found.page { dirty = true })) w.ptt → dram ≡ dram_merged b s
       → record w { btt = btt; ptt = ptt; dram = dram } ≡ merged_block b s
   unfolding merged_block
-  merged_is btt ptt dram btt_e ptt_e dram_e =
-      ap (λ (x : State). record x { btt = btt; ptt = ptt; dram = dram }) view
-      ∙ ap (λ (x : Listing BttEntry). record s { btt = x; ptt = ptt; dram = dram })
-      (btt_e ∙ ap (λ (x : State). with_entry found.i None x.btt) view ∙ ap (λ (c : Cell). with_entry c.i None s.btt) is)
-      ∙ ap (λ (x : Listing PttEntry). record s { btt = with_entry (cell_of s b).i None s.btt; ptt = x; dram = dram })
-      (ptt_e ∙ ap (λ (x : State). with_entry found.j (Some (dirty found.page)) x.ptt) view ∙ ap (λ (c : Cell). with_entry c.j (Some (dirty c.page)) s.ptt) is)
-      ∙ ap (λ (x : Contents). record s { btt = with_entry (cell_of s b).i None s.btt; ptt = with_entry (cell_of s b).j (Some (dirty (cell_of s b).page)) s.ptt; dram = x }) dram_e
+  merged_is btt_e ptt_e dram_e = cc
 
 -- what the next merge leaves, with any NVM
 pub record MergesAll (s t : State) : Type 0 where
@@ -253,10 +241,8 @@ same_p-merge s (Some i) = refl
 module _ (b : ℕ) (s : State) (framed : is_framed (cell_of s b).page ≡ true) (over : (cell_of s b).entry.work ≡ InBuffer) (t : AreSoundTables s) (l : b < memory_blocks s.p) (idle : s.under_way ≡ false) where
   -- the entry lists nothing
   fresh_not : (cell_of s b).page.fresh ≡ false
-  fresh_not = by_fresh (cell_of s b).page.fresh refl where
-    by_fresh : (f : Bool) → (cell_of s b).page.fresh ≡ f → f ≡ false
-    by_fresh false e = refl
-    by_fresh true e = let no : InBuffer ≡ NoWork = sym over ∙ (t.cells b l).fresh_idle e in cc
+  fresh_not = false_from_ne_true (cell_of s b).page.fresh
+      (λ e. let no : InBuffer ≡ NoWork = sym over ∙ (t.cells b l).fresh_idle e in cc)
 
   out1 : (cell_of s b).entry.v1 ≡ Out
   out1 = (t.cells b l).framed_out framed fresh_not
@@ -265,19 +251,17 @@ module _ (b : ℕ) (s : State) (framed : is_framed (cell_of s b).page ≡ true) 
   out0 = (t.cells b l).one idle ∙ out1
 
   settled : (cell_of s b).entry.pend ≡ Settled
-  settled = by_pending (cell_of s b).entry.pend refl where
-    by_pending : (q : Pending) → (cell_of s b).entry.pend ≡ q → q ≡ Settled
-    by_pending Settled e = refl
-    by_pending FromBuffer e = absurd ((t.cells b l).pending_moves (λ h. let no : FromBuffer ≡ Settled = sym e ∙ h in cc) ((t.cells b l).one idle))
-    by_pending FromAlternate e = absurd ((t.cells b l).pending_moves (λ h. let no : FromAlternate ≡ Settled = sym e ∙ h in cc) ((t.cells b l).one idle))
+  settled =
+      settled_by (cell_of s b).entry.pend
+      (λ pending. (t.cells b l).pending_moves pending ((t.cells b l).one idle))
 
   map-cleared : (f : BttEntry → Option ℕ) → f (cell_of s b).entry ≡ None
       → map (option_and_then f) (with_entry (cell_of s b).i None s.btt).entries ≡ map (option_and_then f) s.btt.entries
   map-cleared f none =
-      let listed = listed-merge b s framed over in
-      let there = found_entry block_key new_entry s.btt b (cell_of s b).i listed in
-      let is : (cell_of s b).entry ≡ there.0 = entry_for-some block_key new_entry s.btt b (cell_of s b).i there.0 listed there.1 in
-      map-set_same (option_and_then f) s.btt.entries (cell_of s b).i None None (sym none ∙ ap f is ∙ sym (ap (option_and_then f) there.1)) there.3
+      let there = stands_at block_key new_entry s.btt b (cell_of s b).i
+      (listed-merge b s framed over) in
+      map-set_same (option_and_then f) s.btt.entries (cell_of s b).i None None
+      (sym none ∙ sym (ap (option_and_then f) there.0)) there.1
 
   -- the place of a block that is out does not depend on its entry's place
   placed_out : (v : Version) (site : Site) (x y : Seat) → v ≡ Out → x.j ≡ y.j → x.block ≡ y.block → placed Out site x ≡ placed v site y

@@ -2,7 +2,7 @@
 use Rattle.std.proofs.Common.{◌≡◌, ◌≢◌, ℕ, ◌<◌, Bool, true, false, List, [], ◌∷◌, length, refl, sym, ◌∙◌, ap, subst, inl, inr, arith, Option, Some, None, unwrap_or}
 use Rattle.std.specs.List.{count_by}
 use Rattle.std.proofs.lemmas.Bool.{cases_eq}
-use Rattle.std.proofs.lemmas.List.{get_or-set_same, get_or-set_other}
+use Rattle.std.proofs.lemmas.List.{get_or-set_other}
 use Rattle.std.proofs.lemmas.List.Sums.{sum_by-cons}
 use Rattle.thy_base.specs.Store.{page_of}
 use Rattle.thy_table.specs.Listing.{Listing, IsListing, entry_at, place_of, with_entry}
@@ -16,9 +16,8 @@ use Rattle.thy_cell.specs.declared.cell.Cell.{Cell}
 use Rattle.thy_control.specs.Find.{entry_for}
 use Rattle.thy_control.specs.Keys.{block_key, page_key}
 use Rattle.thy_control.specs.State.{State, cell_of}
-use Rattle.thy_control.proofs.FindLemmas.{found_entry, entry_for-none, entry_for-some}
-use Rattle.thy_control.proofs.CellLemmas.{page-cell_of}
-use Rattle.thy_control.proofs.StateLemmas.{cell-set_page_same, cell-set_page_other}
+use Rattle.thy_control.proofs.FindLemmas.{found_entry, entry_for-none, at_put, entry_for-kept}
+use Rattle.thy_control.proofs.StateLemmas.{page-cell_of, cell-set_page_same, cell-set_page_other}
 
 -- as many elements pass a test as pass one that says the same
 pub count-same : {X : Type 0} (p q : X → Bool) → ((x : X) → p x ≡ q x) → (xs : List X) → count_by p xs ≡ count_by q xs
@@ -58,13 +57,8 @@ same_page t k b q = ap (λ (n : ℕ). entry_for page_key no_page n t.ptt) q
 pub live-set : (t : Listing PttEntry) (i : ℕ) (x : PttEntry) → i < length t.entries → (is_framed x ≡ false → x.fresh ≡ true)
     → ((j : ℕ) (e : PttEntry) → entry_at t j ≡ Some e → is_framed e ≡ false → e.fresh ≡ true)
     → (j : ℕ) (e : PttEntry) → entry_at (with_entry i (Some x) t) j ≡ Some e → is_framed e ≡ false → e.fresh ≡ true
-live-set t i x inside fresh live j e was bare = elim (cases_eq j i) as (λ _. e.fresh ≡ true) [
-  | inl same ↦
-      let there : Some x ≡ Some e = sym (get_or-set_same t.entries i (Some x) None inside) ∙ ap (λ (k : ℕ). entry_at (with_entry i (Some x) t) k) (sym same) ∙ was in
-      let is : x ≡ e = cc in
-      subst (λ (y : PttEntry). is_framed y ≡ false → y.fresh ≡ true) is fresh bare
-  | inr other ↦ live j e (sym (get_or-set_other t.entries i j (Some x) None other) ∙ was) bare
-]
+live-set t i x inside fresh live =
+    at_put t i (λ e. is_framed e ≡ false → e.fresh ≡ true) x inside fresh live
 
 -- the entry of one block was cleared
 module _ (t : State) (once : IsListing block_key t.btt) (b : ℕ) (listed : place_of block_key b t.btt ≡ Some (cell_of t b).i) where
@@ -81,17 +75,12 @@ module _ (t : State) (once : IsListing block_key t.btt) (b : ℕ) (listed : plac
   place-other k other = place_of-cleared_other block_key t.btt once (cell_of t b).i there.0 k there.1 (λ e. other (e ∙ there.2))
 
   entry-other : (k : ℕ) → k ≢ b → entry_for block_key new_entry k block_cleared.btt ≡ entry_for block_key new_entry k t.btt
-  entry-other k other = by_place (place_of block_key k t.btt) refl where
-    by_place : (o : Option ℕ) → place_of block_key k t.btt ≡ o → entry_for block_key new_entry k block_cleared.btt ≡ entry_for block_key new_entry k t.btt
-    by_place None h = entry_for-none block_key new_entry block_cleared.btt k (place-other k other ∙ h) ∙ sym (entry_for-none block_key new_entry t.btt k h)
-    by_place (Some i) h =
-        let f = found_entry block_key new_entry t.btt k i h in
-        let apart : i ≢ (cell_of t b).i = λ s. (
-        let both : Some f.0 ≡ Some there.0 = sym f.1 ∙ ap (entry_at t.btt) s ∙ there.1 in
-        let one : f.0 ≡ there.0 = cc in
-        other (sym f.2 ∙ ap block_key one ∙ there.2)) in
-        entry_for-some block_key new_entry block_cleared.btt k i f.0 (place-other k other ∙ h) (get_or-set_other t.btt.entries (cell_of t b).i i None None apart ∙ f.1)
-        ∙ sym (entry_for-some block_key new_entry t.btt k i f.0 h f.1)
+  entry-other k other =
+      entry_for-kept block_key new_entry t.btt block_cleared.btt k (place-other k other)
+      (λ i x was of_k. get_or-set_other t.btt.entries (cell_of t b).i i None None (λ s. (
+      let both : Some x ≡ Some there.0 = sym was ∙ ap (entry_at t.btt) s ∙ there.1 in
+      let one : x ≡ there.0 = cc in
+      other (sym of_k ∙ ap block_key one ∙ there.2))) ∙ was)
 
   pub cell-cleared_same : cell_of block_cleared b ≡ record (cell_of t b) { i = 0; entry = new_entry b }
   cell-cleared_same =

@@ -1,59 +1,137 @@
--- The cells of all blocks after a store of one.
-use Rattle.std.proofs.Common.{◌≡◌, ◌≢◌, ◌⊎◌, ℕ, ◌<◌, Bool, true, false, length, refl, sym, ◌∙◌, ap, subst, inl, inr, arith, Option, Some, None, unwrap_or}
-use Rattle.std.proofs.lemmas.Bool.{cases_eq}
+-- The cell of a block: what it is of, and that its places are there; and the cells of all blocks after a store of one.
+use Rattle.std.proofs.Common.{◌≡◌, ℕ, ◌<◌, Bool, true, false, if◌then◌else◌, length, refl, arith, ◌≤◌, subst, sym, ◌≢◌, ◌⊎◌, ◌∙◌, ap, inl, inr, Option, Some, None, unwrap_or, rules}
+use Rattle.thy_base.specs.declared.config.Parameters.{Parameters}
+use Rattle.thy_places.specs.declared.place.Place.{Place}
+use Rattle.thy_base.specs.Geometry.{IsInRange, memory_blocks}
+use Rattle.thy_places.specs.Places.{IsPlace}
 use Rattle.thy_base.specs.Store.{page_of}
-use Rattle.thy_table.specs.Listing.{Listing, entry_at, place_of, free_place, with_entry}
-use Rattle.thy_table.specs.declared.block_entry.BttEntry.{BttEntry}
-use Rattle.thy_table.specs.declared.page_entry.PttEntry.{PttEntry}
-use Rattle.thy_table.specs.BlockEntry.{new_entry}
-use Rattle.thy_table.specs.PageEntry.{no_page, is_framed}
+use Rattle.thy_base.proofs.RangeLemmas.{btt_least}
+use Rattle.thy_table.specs.declared.block_entry.Version.{Version}
+use Rattle.thy_table.specs.declared.block_entry.Version.TheVariants.{Out, Alt}
+use Rattle.thy_table.specs.declared.block_entry.Pending.{Pending}
 use Rattle.thy_table.specs.declared.block_entry.Pending.TheVariants.{Settled, FromBuffer}
+use Rattle.thy_table.specs.declared.block_entry.Working.{Working}
+use Rattle.thy_table.specs.declared.block_entry.Working.TheVariants.{NoWork, InNvm, InBuffer}
+use Rattle.thy_table.specs.declared.page_entry.Site.{Site}
+use Rattle.thy_table.specs.declared.page_entry.Site.TheVariants.{AtHome, AtAlternate}
+use Rattle.thy_table.specs.BlockEntry.{new_entry, other_version}
+use Rattle.thy_table.specs.PageEntry.{no_page, is_framed}
 use Rattle.thy_cell.specs.declared.cell.Cell.{Cell}
 use Rattle.thy_cell.specs.declared.cell.StoreRule.{StoreRule}
 use Rattle.thy_cell.specs.declared.cell.StoreRule.TheVariants.{ToFrame, ToBuffer, ToNvm, PendingFirst}
-use Rattle.thy_cell.specs.Sound.{IsSoundCell, IsWhole}
-use Rattle.thy_cell.specs.Rules.{store_rule, after_store}
+use Rattle.thy_cell.specs.Cells.{Seat, seat_of, frame_at, placed, pending_at, worked_at, penult, target, last, work}
+use Rattle.thy_cell.specs.Sound.{IsWithin, IsSoundCell, IsWhole}
+use Rattle.thy_cell.specs.Rules.{store_place, store_rule, after_store}
+use Rattle.thy_control.specs.Keys.{block_key, page_key}
+use Rattle.thy_control.specs.State.{State, AreSoundTables, cell_of}
+use Rattle.thy_control.proofs.FindLemmas.{key-entry_for, index_for-inside, found_entry, entry_for-none, place_of-with_same, place_of-set, entry_for-set_same, entry_for-set_other, by_entry_for, entry_for-new, place_of-new_other, by_number}
+use Rattle.std.proofs.lemmas.Bool.{cases_eq}
+use Rattle.thy_table.specs.Listing.{Listing, entry_at, place_of, free_place, with_entry}
+use Rattle.thy_table.specs.declared.block_entry.BttEntry.{BttEntry}
+use Rattle.thy_table.specs.declared.page_entry.PttEntry.{PttEntry}
 use Rattle.thy_cell.specs.Checkpoint.{with_dirty}
 use Rattle.thy_cell.proofs.StoreLemmas.{IsSoundCell-dirty, IsSoundCell-after_store}
 use Rattle.thy_control.specs.Find.{entry_for, index_for}
-use Rattle.thy_control.specs.Keys.{block_key, page_key}
-use Rattle.thy_control.specs.State.{State, cell_of}
 use Rattle.thy_control.specs.StoredTables.{btt_with}
 use Rattle.thy_control.specs.Rules.{with_block, with_cell, rule_for}
-use Rattle.thy_control.proofs.FindLemmas.{found_entry, entry_for-none, entry_for-with, place_of-with_other, place_of-with_same, place_of-set, entry_for-set_same, entry_for-set_other}
-use Rattle.thy_control.proofs.CellLemmas.{block-cell_of, page-cell_of}
+
+-- what holds of two things holds of two that are equal to them
+pub subst_two : {A B : Type 0} (P : A → B → Type 0) {a b : A} {x y : B} → b ≡ a → y ≡ x → P a x
+    → P b y
+subst_two P {b = b} {x = x} e f h = subst (P b) (sym f) (subst (λ a. P a x) (sym e) h)
+
+IsPlace-frame : (p : Parameters) (x : Seat) → IsWithin p x → IsPlace p (frame_at x)
+IsPlace-frame p x w = (w.page, omega arith)
+
+pub IsPlace-placed : (p : Parameters) (v : Version) (s : Site) (x : Seat) → IsWithin p x → IsPlace p (placed v s x)
+IsPlace-placed p Alt s x w = w.entry
+IsPlace-placed p Out AtAlternate x w = (w.page, omega arith)
+IsPlace-placed p Out AtHome x w = w.block
+
+IsPlace-pending : (p : Parameters) (q : Pending) (v : Version) (s : Site) (x : Seat) → IsWithin p x → IsPlace p (pending_at q v s x)
+IsPlace-pending p Settled v s x w = IsPlace-placed p v s x w
+IsPlace-pending p q v s x w = w.entry
+
+IsPlace-if : (p : Parameters) (t : Bool) (x y : Place) → IsPlace p x → IsPlace p y → IsPlace p (if t then x else y)
+IsPlace-if p true x y hx hy = hx
+IsPlace-if p false x y hx hy = hy
+
+-- the places of a cell's versions are there
+pub IsPlace-penult : (p : Parameters) (c : Cell) → IsWithin p (seat_of c) → IsPlace p (penult c)
+IsPlace-penult p c w = IsPlace-placed p c.entry.v0 c.page.place (seat_of c) w
+
+pub IsPlace-target : (p : Parameters) (c : Cell) → IsWithin p (seat_of c) → IsPlace p (target c)
+IsPlace-target p c w = IsPlace-placed p c.entry.v1 c.page.target (seat_of c) w
+
+pub IsPlace-last : (p : Parameters) (c : Cell) → IsWithin p (seat_of c) → IsPlace p (last c)
+IsPlace-last p c w =
+    IsPlace-if p c.page.busy _ _ (IsPlace-frame p (seat_of c) w) (IsPlace-pending p c.entry.pend c.entry.v1 c.page.target (seat_of c) w)
+
+IsPlace-worked : (p : Parameters) (k : Working) (framed : Bool) (place : Place) (v : Version) (x : Seat) → IsWithin p x → IsPlace p place → IsPlace p (worked_at k framed place v x)
+IsPlace-worked p NoWork framed place v x w h = IsPlace-if p framed _ _ (IsPlace-frame p x w) h
+IsPlace-worked p InNvm framed place v x w h = IsPlace-placed p (other_version v) AtHome x w
+IsPlace-worked p InBuffer framed place v x w h = w.entry
+
+pub IsPlace-work : (p : Parameters) (c : Cell) → IsWithin p (seat_of c) → IsPlace p (work c)
+IsPlace-work p c w = IsPlace-worked p c.entry.work (is_framed c.page) (last c) c.entry.v0 (seat_of c) w (IsPlace-last p c w)
+
+-- and so is the place of a store
+pub IsPlace-store : (p : Parameters) (rule : StoreRule) (c : Cell) → IsWithin p (seat_of c) → IsPlace p (store_place rule c)
+IsPlace-store p ToFrame c w = IsPlace-frame p (seat_of c) w
+IsPlace-store p ToBuffer c w = w.entry
+IsPlace-store p ToNvm c w = IsPlace-placed p (other_version c.entry.v0) AtHome (seat_of c) w
+IsPlace-store p PendingFirst c w = IsPlace-target p c w
+
+-- a cell is of its block and page
+pub block-cell_of : (s : State) (b : ℕ) → (cell_of s b).entry.block ≡ b
+block-cell_of s b = key-entry_for block_key new_entry (λ n. refl) s.btt b
+
+pub page-cell_of : (s : State) (b : ℕ) → (cell_of s b).page.page ≡ page_of b
+page-cell_of s b = key-entry_for page_key no_page (λ n. refl) s.ptt (page_of b)
+
+pub ptt_least : (p : Parameters) → IsInRange p → 8 ≤ p.ptt
+ptt_least p r = r.1.1.1.1.1.0.0.0
+
+-- and its numbers are there
+pub IsWithin-cell_of : (s : State) (b : ℕ) → AreSoundTables s → b < memory_blocks s.p → IsWithin s.p (seat_of (cell_of s b))
+IsWithin-cell_of s b t l =
+    let some_blocks : 0 < length s.btt.entries = omega (arith, btt_least s.p t.range, t.btt_size) in
+    let some_pages : 0 < length s.ptt.entries = omega (arith, ptt_least s.p t.range, t.ptt_size) in
+    record {
+      entry = omega (arith, t.btt_size, index_for-inside block_key new_entry s.btt b some_blocks);
+      page = omega (arith, t.ptt_size, index_for-inside page_key no_page s.ptt (page_of b) some_pages);
+      block = omega (arith, block-cell_of s b);
+    }
+
+-- ---- the cells of all blocks after a store of one
 
 -- soundness does not look at places in the tables
 pub IsSoundCell-moved : (u : Bool) (c : Cell) (i : ℕ) → IsSoundCell u c → IsSoundCell u (record c { i = i })
-IsSoundCell-moved u c i s = record {
-  of_page = s.of_page;
-  apart0 = s.apart0;
-  apart1 = s.apart1;
-  one = s.one;
-  in_nvm_free = s.in_nvm_free;
-  in_nvm_bare = s.in_nvm_bare;
-  pending_moves = s.pending_moves;
-  pending_home = s.pending_home;
-  pending_still = s.pending_still;
-  one_buffer = s.one_buffer;
-  fresh_idle = s.fresh_idle;
-  framed_out = s.framed_out;
-}
+IsSoundCell-moved u c i s = search rules
+
+-- what holds of the block table, and with a new entry in its lowest free place, holds with what a
+-- rule adds
+pub btt_with-by : (P : Listing BttEntry → Type 0) (r : StoreRule) (b : ℕ) (t : Listing BttEntry)
+    → P t
+    → ((i : ℕ) → place_of block_key b t ≡ None → free_place t ≡ Some i
+    → P (with_entry i (Some (new_entry b)) t)) → P (btt_with r b t)
+btt_with-by P ToFrame b t same put = same
+btt_with-by P PendingFirst b t same put = same
+btt_with-by P r b t same put = by_entry_for block_key new_entry P t b same put
 
 -- an entry for a block leaves every block its entries
 pub entry-with_block : (rule : StoreRule) (b : ℕ) (s : State) (m : ℕ)
     → entry_for block_key new_entry m (btt_with rule b s.btt) ≡ entry_for block_key new_entry m s.btt
-entry-with_block ToFrame b s m = refl
-entry-with_block ToBuffer b s m = entry_for-with block_key new_entry (λ n. refl) s.btt b m
-entry-with_block ToNvm b s m = entry_for-with block_key new_entry (λ n. refl) s.btt b m
-entry-with_block PendingFirst b s m = refl
+entry-with_block rule b s m =
+    btt_with-by (λ t. entry_for block_key new_entry m t ≡ entry_for block_key new_entry m s.btt)
+    rule b s.btt refl
+    (λ i h f. entry_for-new block_key new_entry (λ n. refl) s.btt b i h f m)
 
 place-with_block : (rule : StoreRule) (b : ℕ) (s : State) (m : ℕ) → m ≢ b
     → place_of block_key m (btt_with rule b s.btt) ≡ place_of block_key m s.btt
-place-with_block ToFrame b s m other = refl
-place-with_block ToBuffer b s m other = place_of-with_other block_key new_entry (λ n. refl) s.btt b m other
-place-with_block ToNvm b s m other = place_of-with_other block_key new_entry (λ n. refl) s.btt b m other
-place-with_block PendingFirst b s m other = refl
+place-with_block rule b s m other =
+    btt_with-by (λ t. place_of block_key m t ≡ place_of block_key m s.btt) rule b s.btt refl
+    (λ i h f. place_of-new_other block_key new_entry (λ n. refl) s.btt b i h f m other)
 
 -- so every other block has the cell that it had
 pub cell-with_block_other : (rule : StoreRule) (b : ℕ) (s : State) (m : ℕ) → m ≢ b → cell_of (with_block rule b s) m ≡ cell_of s m
@@ -70,13 +148,13 @@ cell-with_block_same rule b s =
 -- every block stays sound
 pub sound-with_block : (rule : StoreRule) (b : ℕ) (s : State) (m : ℕ) → IsSoundCell s.under_way (cell_of s m)
     → IsSoundCell s.under_way (cell_of (with_block rule b s) m)
-sound-with_block rule b s m sound = elim (cases_eq m b) as (λ _. IsSoundCell s.under_way (cell_of (with_block rule b s) m)) [
-  | inl e ↦ subst (λ (k : ℕ). IsSoundCell s.under_way (cell_of (with_block rule b s) k)) (sym e)
-      (subst (λ (c : Cell). IsSoundCell s.under_way c) (sym (cell-with_block_same rule b s))
-      (IsSoundCell-moved s.under_way (cell_of s b) (index_for block_key new_entry b (btt_with rule b s.btt))
-      (subst (λ (k : ℕ). IsSoundCell s.under_way (cell_of s k)) e sound)))
-  | inr o ↦ subst (λ (c : Cell). IsSoundCell s.under_way c) (sym (cell-with_block_other rule b s m o)) sound
-]
+sound-with_block rule b s m =
+    by_number (λ k. IsSoundCell s.under_way (cell_of s k)
+    → IsSoundCell s.under_way (cell_of (with_block rule b s) k)) b m
+    (λ sound. subst (IsSoundCell s.under_way) (sym (cell-with_block_same rule b s))
+    (IsSoundCell-moved s.under_way (cell_of s b)
+    (index_for block_key new_entry b (btt_with rule b s.btt)) sound))
+    (λ o sound. subst (IsSoundCell s.under_way) (sym (cell-with_block_other rule b s m o)) sound)
 
 -- the rule of a block's store is the same with its entry
 pub rule-with_block : (rule : StoreRule) (b : ℕ) (s : State) → store_rule (cell_of (with_block rule b s) b) ≡ rule_for b s
@@ -111,18 +189,15 @@ IsListed-with_block ToFrame b s is some = record {
       (λ e. let framed : is_framed (cell_of s b).page ≡ true = frame_is_framed (cell_of s b) is in
       let bare : is_framed (cell_of s b).page ≡ false = ap is_framed e in cc);
 }
-IsListed-with_block ToBuffer b s is some =
-    let f = place_of-with_same block_key new_entry (λ n. refl) s.btt b some in
-    record { block = λ _. f.1 ∙ ap (λ o. Some (unwrap_or o 0)) (sym f.1); page = λ e. cc }
-IsListed-with_block ToNvm b s is some =
-    let f = place_of-with_same block_key new_entry (λ n. refl) s.btt b some in
-    record { block = λ _. f.1 ∙ ap (λ o. Some (unwrap_or o 0)) (sym f.1); page = λ e. cc }
 IsListed-with_block PendingFirst b s is some = record {
   block = λ _. place_of-index block_key new_entry s.btt b
       (λ e. let pending : (cell_of s b).entry.pend ≡ FromBuffer = first_is_pending (cell_of s b) is in
       let settled : (cell_of s b).entry.pend ≡ Settled = ap (λ (x : BttEntry). x.pend) e in cc);
   page = λ e. cc;
 }
+IsListed-with_block rule b s is some =
+    let f = place_of-with_same block_key new_entry (λ n. refl) s.btt b some in
+    record { block = λ _. f.1 ∙ ap (λ o. Some (unwrap_or o 0)) (sym f.1); page = λ e. cc }
 
 -- the cells after an entry of the block table was changed
 module _ (t : State) (b : ℕ) (e : BttEntry) (of_block : e.block ≡ b) (listed : place_of block_key b t.btt ≡ Some (cell_of t b).i) where
@@ -175,9 +250,9 @@ module _ (t : State) (b : ℕ) (e : PttEntry) (of_page : e.page ≡ page_of b) (
 pub cell-with_cell_same : (rule : StoreRule) (b : ℕ) (t : State) → IsListed rule b t
     → cell_of (with_cell rule (after_store rule (cell_of t b)) t) b ≡ after_store rule (cell_of t b)
 cell-with_cell_same ToFrame b t l = cell-set_page_same t b (record (cell_of t b).page { dirty = true }) (page-cell_of t b) (l.page refl) b refl
-cell-with_cell_same ToBuffer b t l = cell-set_block_same t b (after_store ToBuffer (cell_of t b)).entry (block-cell_of t b) (l.block (λ e. cc))
-cell-with_cell_same ToNvm b t l = cell-set_block_same t b (after_store ToNvm (cell_of t b)).entry (block-cell_of t b) (l.block (λ e. cc))
-cell-with_cell_same PendingFirst b t l = cell-set_block_same t b (after_store PendingFirst (cell_of t b)).entry (block-cell_of t b) (l.block (λ e. cc))
+cell-with_cell_same r b t l =
+    cell-set_block_same t b (after_store r (cell_of t b)).entry (block-cell_of t b)
+    (l.block (λ e. cc))
 
 -- another block is as it was, or its page is dirty now
 abbrev pub OrDirty : StoreRule → Cell → Cell → Type 0
@@ -195,9 +270,9 @@ cell-with_cell_other ToFrame b t m l other =
       )
       | inr o ↦ inl (cell-set_page_other t b e (page-cell_of t b) (l.page refl) m o)
     ]
-cell-with_cell_other ToBuffer b t m l other = inl (cell-set_block_other t b (after_store ToBuffer (cell_of t b)).entry (block-cell_of t b) (l.block (λ e. cc)) m other)
-cell-with_cell_other ToNvm b t m l other = inl (cell-set_block_other t b (after_store ToNvm (cell_of t b)).entry (block-cell_of t b) (l.block (λ e. cc)) m other)
-cell-with_cell_other PendingFirst b t m l other = inl (cell-set_block_other t b (after_store PendingFirst (cell_of t b)).entry (block-cell_of t b) (l.block (λ e. cc)) m other)
+cell-with_cell_other r b t m l other =
+    inl (cell-set_block_other t b (after_store r (cell_of t b)).entry (block-cell_of t b)
+    (l.block (λ e. cc)) m other)
 
 -- so every block stays sound
 pub sound-with_cell : (b : ℕ) (t : State) (m : ℕ) → IsListed (store_rule (cell_of t b)) b t → IsWhole (cell_of t b).page

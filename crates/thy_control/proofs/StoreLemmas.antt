@@ -20,25 +20,74 @@ use Rattle.thy_table.specs.declared.page_entry.PttEntry.{PttEntry}
 use Rattle.thy_table.specs.declared.block_entry.Pending.TheVariants.{FromBuffer}
 use Rattle.thy_table.specs.PageEntry.{no_page, is_framed}
 use Rattle.thy_cell.specs.declared.cell.StoreRule.{StoreRule}
-use Rattle.thy_cell.specs.declared.cell.StoreRule.TheVariants.{ToFrame, ToBuffer, ToNvm, PendingFirst}
+use Rattle.thy_cell.specs.declared.cell.StoreRule.TheVariants.{PendingFirst}
 use Rattle.thy_cell.specs.Sound.{IsWhole}
 use Rattle.thy_cell.specs.Rules.{store_place, after_store}
 use Rattle.thy_cell.specs.Store.{put_by}
 use Rattle.thy_control.specs.Keys.{page_key}
 use Rattle.thy_control.specs.StoredTables.{btt_with, btt_after, answer_of}
 use Rattle.thy_control.specs.State.{State, AreSoundTables, IsSized, cell_of, work_of, reads}
-use Rattle.thy_control.specs.Rules.{with_block, rule_for, cell_before, devices_after, state_after, IsWholeState, StoresFree, FailsStore}
+use Rattle.thy_control.specs.Rules.{with_block, rule_for, cell_before, devices_after, state_after, IsWholeState, StoresFree, FailsStore, with_cell}
 use Rattle.thy_control.specs.Versions.{PutsWork}
 use Rattle.thy_control.specs.Stays.{Stays}
 use Rattle.thy_control.specs.Holding.{works, is_promoted, waiting, promoted, holding_of}
 use Rattle.thy_control.specs.Once.{Once, Writes, KeepsCheckpointWork}
 use Rattle.thy_control.proofs.HoldingLemmas.{works-sized}
-use Rattle.thy_control.proofs.FindLemmas.{found_entry, entry_for-none, entry_for-some}
-use Rattle.thy_control.proofs.CellLemmas.{IsPlace-store}
-use Rattle.thy_control.proofs.StateLemmas.{IsListed, IsListed-with_block}
+use Rattle.thy_control.proofs.FindLemmas.{found_entry, entry_for-none, entry_for-some, by_number}
+use Rattle.thy_control.proofs.StateLemmas.{IsPlace-store, IsListed, IsListed-with_block, OrDirty, entry-with_block, cell-with_cell_same, cell-with_cell_other, first_is_pending}
 use Rattle.thy_control.proofs.PutLemmas.{has_free, IsWithin-before}
 use Rattle.thy_control.proofs.CountLemmas.{free-with, free-cell, waiting-with, waiting-cell, waiting-copied, promoted-cell, none-counted}
-use Rattle.thy_control.proofs.CheckpointWorkLemmas.{first_waits, work_same, work-stored}
+use Rattle.thy_table.specs.declared.block_entry.BttEntry.{BttEntry}
+use Rattle.thy_cell.specs.declared.cell.Cell.{Cell}
+
+-- a copy goes first only of a buffer
+pub first_waits : (b : ℕ) (s : State) → rule_for b s ≡ PendingFirst → (cell_of s b).entry.pend ≡ FromBuffer
+unfolding rule_for
+first_waits b s e = first_is_pending (cell_of s b) e
+
+pub work_same : (c : Cell) → KeepsCheckpointWork c c
+work_same c = record { busy_same = refl; issued_same = refl; pending = inl refl }
+
+-- a block with an entry
+pub work-with : (r : StoreRule) (b : ℕ) (s : State) (k : ℕ) → KeepsCheckpointWork (cell_of s k) (cell_of (with_block r b s) k)
+work-with r b s k = record {
+  busy_same = refl;
+  issued_same = refl;
+  pending = inl (ap (λ (e : BttEntry). e.pend) (entry-with_block r b s k));
+}
+
+-- a block as a rule leaves it
+work-after : (r : StoreRule) (c d : Cell) → d.entry.pend ≡ c.entry.pend → d.page ≡ c.page → (r ≡ PendingFirst → c.entry.pend ≡ FromBuffer) → KeepsCheckpointWork c (after_store r d)
+work-after PendingFirst c d e p first = record { busy_same = ap (λ (x : PttEntry). x.busy) p; issued_same = ap (λ (x : PttEntry). x.issued) p; pending = inr (first refl, refl) }
+work-after r c d e p first =
+    record {
+      busy_same = ap (λ (x : PttEntry). x.busy) p;
+      issued_same = ap
+          (λ (x : PttEntry). x.issued) p;
+      pending = inl e;
+    }
+
+-- and another block
+work-or_dirty : (r : StoreRule) (c d f : Cell) → KeepsCheckpointWork c d → OrDirty r d f → KeepsCheckpointWork c f
+work-or_dirty r c d f w (inl e) = subst (λ (x : Cell). KeepsCheckpointWork c x) (sym e) w
+work-or_dirty r c d f w (inr e) =
+    subst (λ (x : Cell). KeepsCheckpointWork c x) (sym e.1) (record { busy_same = w.busy_same; issued_same = w.issued_same; pending = w.pending })
+
+-- so does a store that was done
+pub work-stored : (b : ℕ) (block : Block) (s : State) (m : Device) → 0 < free_count s.btt → (k : ℕ) → KeepsCheckpointWork (cell_of s k) (cell_of (state_after b block s m) k)
+unfolding state_after devices_after cell_before
+work-stored b block s m room k =
+    let r : StoreRule = rule_for b s in
+    let u : State = with_block r b s in
+    let v : State = with_cell r (after_store r (cell_of u b)) u in
+    let listed : IsListed r b u = IsListed-with_block r b s refl (has_free s.btt room) in
+    by_number (λ j. KeepsCheckpointWork (cell_of s j) (cell_of v j)) b k
+    (subst (KeepsCheckpointWork (cell_of s b)) (sym (cell-with_cell_same r b u listed))
+    (work-after r (cell_of s b) (cell_of u b) (ap (λ (x : BttEntry). x.pend) (entry-with_block r b s b)) refl (first_waits b s)))
+    (λ ne. work-or_dirty r (cell_of s k) (cell_of u k) (cell_of v k) (work-with r b s k)
+    (cell-with_cell_other r b u k listed ne))
+
+-- ---- a load and a store
 
 -- what is ready has no promotion unfinished, and the NVM is up
 unpromoted : (framed fresh : Bool) → (not framed && fresh) ≡ false → framed ≡ false → fresh ≡ false
@@ -95,10 +144,8 @@ module _ (s : State) (m : Device) (t : State) (n : Device) (sized : IsSized s m)
   works-copied : (b : ℕ) (block : Block) → PutsWork CopyFirst b block s m t n → works t n ≡ works s m
   works-copied b block w =
       works_now
-      ∙ blocks_same (work_of s m) (work_of t n) (memory_blocks s.p) (λ k l. elim (cases_eq k b) as (λ _. work_of t n k ≡ work_of s m k) [
-        | inl e ↦ ap (work_of t n) e ∙ w.work_here ∙ ap (work_of s m) (sym e)
-        | inr o ↦ w.work_others k l o
-      ])
+      ∙ blocks_same (work_of s m) (work_of t n) (memory_blocks s.p) (λ k l.
+      by_number (λ j. work_of t n j ≡ work_of s m j) b k w.work_here (w.work_others k l))
       ∙ sym (works-sized s m sized up)
 
 -- what the counts are after a store by a rule
@@ -113,9 +160,7 @@ pub record AreCounted (r : StoreRule) (s : State) (m : Device) (t : State) (n : 
 copied_less : (q : StoreRule) (b : ℕ) (s : State) → q ≡ PendingFirst → IsListed q b (with_block q b s) → (cell_of s b).entry.pend ≡ FromBuffer
     → waiting (btt_after q (after_store q (cell_of (with_block q b s) b)) (btt_with q b s.btt)) + 1 ≡ waiting s.btt
 copied_less PendingFirst b s e l was = waiting-copied b s l was
-copied_less ToFrame b s e l was = cc
-copied_less ToBuffer b s e l was = cc
-copied_less ToNvm b s e l was = cc
+copied_less r b s e l was = cc
 
 down-on : (side : Bool) (at : ℕ) (block : Block) (d : Devices)
     → (if side then record d { dram = written d.dram at block } else record d { nvm = written_to d.nvm at block }).nvm.down ≡ d.nvm.down
@@ -157,9 +202,6 @@ module _ (b : ℕ) (block : Block) (s : State) (m : Device) (t : State) (n : Dev
 
   HasStored-by : (r : StoreRule) → AreCounted r s m t n → PutsWork (answer_of r) b block s m t n
       → HasStored (answer_of r) b block (holding_of s m) (holding_of t n)
-  HasStored-by ToFrame c w = is_stored ToFrame (λ e. cc) c w
-  HasStored-by ToBuffer c w = is_stored ToBuffer (λ e. cc) c w
-  HasStored-by ToNvm c w = is_stored ToNvm (λ e. cc) c w
   HasStored-by PendingFirst c w = record {
     blocks = works-copied s m t n sized up c.down stays b block w;
     free = omega (arith, c.free_copied refl);
@@ -167,6 +209,7 @@ module _ (b : ℕ) (block : Block) (s : State) (m : Device) (t : State) (n : Dev
     open_page = λ o. inl refl;
     owed = λ o. omega (arith, c.owed_copied refl);
   }
+  HasStored-by r c w = is_stored r (λ e. cc) c w
 
 pub stored_by : (b : ℕ) (block : Block) (s : State) (m : Device) (t : State) (n : Device) (r : Result Stored NvmError)
     → OnOk r (t ≡ state_after b block s m) → OnOk r (n ≡ (devices_after b block s m).nvm)

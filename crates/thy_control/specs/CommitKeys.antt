@@ -3,9 +3,9 @@ use Rattle.std.specs.Prelude.{◌≡◌, Bool, true, false, Some}
 use Rattle.std.proofs.Common.{sym, ap}
 use Rattle.thy_table.specs.declared.block_entry.BttEntry.{BttEntry}
 use Rattle.thy_table.specs.declared.block_entry.Version.{Version}
-use Rattle.thy_table.specs.declared.block_entry.Version.TheVariants.{Out, Alt}
+use Rattle.thy_table.specs.declared.block_entry.Version.TheVariants.{Out}
 use Rattle.thy_table.specs.declared.block_entry.Working.{Working}
-use Rattle.thy_table.specs.declared.block_entry.Working.TheVariants.{NoWork, InNvm, InBuffer}
+use Rattle.thy_table.specs.declared.block_entry.Working.TheVariants.{NoWork}
 use Rattle.thy_table.specs.declared.page_entry.PttEntry.{PttEntry}
 use Rattle.thy_cell.specs.Checkpoint.{committed_by, committed_entry, page_committed_by, committed_page}
 use Rattle.thy_control.specs.Keys.{block_key, page_key}
@@ -16,9 +16,7 @@ moved e f v h = let same : record e { v0 = v } ≡ f = cc in sym (ap block_key s
 committed_by-block : (v : Version) (w : Working) (e f : BttEntry) → committed_by v w e ≡ Some f
     → block_key f ≡ block_key e
 committed_by-block Out NoWork e f h = cc
-committed_by-block Out InNvm e f h = moved e f Out h
-committed_by-block Out InBuffer e f h = moved e f Out h
-committed_by-block Alt w e f h = moved e f Alt h
+committed_by-block v w e f h = moved e f v h
 
 pub committed_entry-block : (e f : BttEntry) → committed_entry e ≡ Some f → block_key f ≡ block_key e
 committed_entry-block e f h = committed_by-block e.v1 e.work e f h

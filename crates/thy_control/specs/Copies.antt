@@ -7,7 +7,7 @@ use Rattle.thy_place.specs.Devices.{Devices, devices_of}
 use Rattle.thy_table.specs.Listing.{entry_at, with_entry, passes, next_from}
 use Rattle.thy_table.specs.declared.block_entry.BttEntry.{BttEntry}
 use Rattle.thy_table.specs.declared.block_entry.Pending.{Pending}
-use Rattle.thy_table.specs.declared.block_entry.Pending.TheVariants.{Settled, FromBuffer, FromAlternate}
+use Rattle.thy_table.specs.declared.block_entry.Pending.TheVariants.{Settled}
 use Rattle.thy_cell.specs.Cells.{target, last}
 use Rattle.thy_cell.specs.Rules.{after_copy}
 use Rattle.thy_control.specs.Moves.{moved, FailsMove}
@@ -17,8 +17,7 @@ use Rattle.thy_control.specs.State.{State, cell_of}
 -- a version has still to be copied to its place
 abbrev pub is_pending : Pending → Bool
 is_pending Settled = false
-is_pending FromBuffer = true
-is_pending FromAlternate = true
+is_pending pend = true
 
 abbrev pub needs_copy : BttEntry → Bool
 needs_copy e = is_pending e.pend

@@ -1,5 +1,5 @@
 -- The entries at which the next searches of the tables start: no entry below has what is looked for.
-use Rattle.std.specs.Prelude.{◌≡◌, ℕ, ◌<◌, Bool, false}
+use Rattle.std.specs.Prelude.{◌≡◌, ℕ, ◌<◌, Bool, false, ◌≤◌, true}
 use Rattle.thy_table.specs.Listing.{Listing, entry_at, passes}
 use Rattle.thy_table.specs.declared.block_entry.BttEntry.{BttEntry}
 use Rattle.thy_table.specs.declared.page_entry.PttEntry.{PttEntry}
@@ -10,6 +10,10 @@ use Rattle.thy_control.specs.Holding.{is_promoted}
 use Rattle.thy_control.specs.Overlay.{is_overlaid, AreWorkCounts}
 use Rattle.thy_control.specs.declared.overlay.WorkCounts.{WorkCounts}
 use Rattle.thy_control.specs.declared.cursors.Cursors.{Cursors}
+use Rattle.thy_table.specs.PageEntry.{is_framed}
+use Rattle.thy_cell.specs.declared.cell.Cell.{Cell}
+use Rattle.thy_cell.specs.declared.cell.StoreRule.{StoreRule}
+use Rattle.thy_cell.specs.declared.cell.StoreRule.TheVariants.{ToBuffer}
 
 -- no entry below a place passes a test
 abbrev pub NoneBelow : {E : Type 0} → (E → Bool) → ℕ → Listing E → Type 0
@@ -27,3 +31,11 @@ pub record IsControl (s : State) (m : WorkCounts) (c : Cursors) : Type 0 where
   pub tables : AreSoundTables s
   pub marks : AreWorkCounts s.ptt s.btt m
   pub cursors : AreCursors s.ptt s.btt c
+
+-- after a store by a rule the places are as before, but that a buffer over a frame has to be merged
+pub record AreLowered (r : StoreRule) (c : Cell) (old new : Cursors) : Type 0 where
+  pub copies : new.copies ≡ old.copies
+  pub writes : new.writes ≡ old.writes
+  pub promotions : new.promotions ≡ old.promotions
+  pub merges : new.merges ≤ old.merges
+  pub buffer : r ≡ ToBuffer → is_framed c.page ≡ true → new.merges ≤ c.i

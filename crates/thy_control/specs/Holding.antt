@@ -13,7 +13,7 @@ use Rattle.thy_table.specs.Listing.{Listing, free_count, passes}
 use Rattle.thy_table.specs.declared.block_entry.BttEntry.{BttEntry}
 use Rattle.thy_table.specs.declared.page_entry.PttEntry.{PttEntry}
 use Rattle.thy_table.specs.declared.block_entry.Pending.{Pending}
-use Rattle.thy_table.specs.declared.block_entry.Pending.TheVariants.{Settled, FromBuffer, FromAlternate}
+use Rattle.thy_table.specs.declared.block_entry.Pending.TheVariants.{FromBuffer}
 use Rattle.thy_table.specs.PageEntry.{is_framed}
 use Rattle.thy_control.specs.State.{State, IsSized, work_of, new_state}
 
@@ -27,8 +27,7 @@ works s n =
 -- a buffer has still to be copied
 abbrev pub waits : Pending → Bool
 waits FromBuffer = true
-waits Settled = false
-waits FromAlternate = false
+waits pend = false
 
 -- a page is being promoted: its frame has not all of it yet
 abbrev pub is_promoted : PttEntry → Bool

@@ -5,12 +5,12 @@ use Rattle.thy_base.specs.Geometry.{memory_blocks}
 use Rattle.thy_table.specs.Listing.{Listing, passes}
 use Rattle.thy_table.specs.declared.block_entry.BttEntry.{BttEntry}
 use Rattle.thy_table.specs.declared.block_entry.Working.{Working}
-use Rattle.thy_table.specs.declared.block_entry.Working.TheVariants.{NoWork, InNvm, InBuffer}
+use Rattle.thy_table.specs.declared.block_entry.Working.TheVariants.{InBuffer}
 use Rattle.thy_table.specs.declared.page_entry.PttEntry.{PttEntry}
 use Rattle.thy_table.specs.PageEntry.{is_framed}
 use Rattle.thy_cell.specs.declared.cell.Cell.{Cell}
 use Rattle.thy_cell.specs.declared.cell.StoreRule.{StoreRule}
-use Rattle.thy_cell.specs.declared.cell.StoreRule.TheVariants.{ToFrame, ToBuffer, ToNvm, PendingFirst}
+use Rattle.thy_cell.specs.declared.cell.StoreRule.TheVariants.{ToBuffer}
 use Rattle.thy_control.specs.State.{State, cell_of}
 use Rattle.thy_control.specs.Holding.{promoted}
 use Rattle.thy_control.specs.Seal.{block_is_framed}
@@ -18,9 +18,8 @@ use Rattle.thy_control.specs.declared.overlay.WorkCounts.{WorkCounts}
 
 -- work is held in a buffer
 abbrev pub is_buffered : Working → Bool
-is_buffered NoWork = false
-is_buffered InNvm = false
 is_buffered InBuffer = true
+is_buffered work = false
 
 -- and over the frame of its page
 abbrev pub is_overlaid : Listing PttEntry → BttEntry → Bool
@@ -46,10 +45,8 @@ pub record IsPromoting (s : State) : Type 0 where
 
 -- how many more there are after a store by a rule
 abbrev pub covers : StoreRule → Cell → ℕ
-covers ToFrame c = 0
 covers ToBuffer c = if is_framed c.page && not (is_buffered c.entry.work) then 1 else 0
-covers ToNvm c = 0
-covers PendingFirst c = 0
+covers rule c = 0
 
 -- the numbers that the controller keeps are these
 pub record AreWorkCounts (pages : Listing PttEntry) (blocks : Listing BttEntry) (m : WorkCounts) : Type 0 where

@@ -9,40 +9,31 @@ use Rattle.thy_table.specs.BlockEntry.{new_entry}
 use Rattle.thy_switch.specs.Counts.{Tally, counted}
 use Rattle.thy_cell.specs.declared.cell.Cell.{Cell}
 use Rattle.thy_cell.specs.declared.cell.StoreRule.{StoreRule}
-use Rattle.thy_cell.specs.declared.cell.StoreRule.TheVariants.{ToFrame, ToBuffer, ToNvm, PendingFirst}
+use Rattle.thy_cell.specs.declared.cell.StoreRule.TheVariants.{ToFrame, PendingFirst}
 use Rattle.thy_control.specs.Find.{with_entry_for}
 use Rattle.thy_control.specs.Keys.{block_key}
 
 -- the block table with an entry for a block, if the rule of its store names one
 abbrev pub btt_with : StoreRule → ℕ → Listing BttEntry → Listing BttEntry
 btt_with ToFrame b t = t
-btt_with ToBuffer b t = with_entry_for block_key new_entry b t
-btt_with ToNvm b t = with_entry_for block_key new_entry b t
 btt_with PendingFirst b t = t
+btt_with rule b t = with_entry_for block_key new_entry b t
 
 -- the tables with the entries of a cell, as far as a rule changes them
 abbrev pub btt_after : StoreRule → Cell → Listing BttEntry → Listing BttEntry
 btt_after ToFrame c t = t
-btt_after ToBuffer c t = with_entry c.i (Some c.entry) t
-btt_after ToNvm c t = with_entry c.i (Some c.entry) t
-btt_after PendingFirst c t = with_entry c.i (Some c.entry) t
+btt_after rule c t = with_entry c.i (Some c.entry) t
 
 abbrev pub ptt_after : StoreRule → Cell → Listing PttEntry → Listing PttEntry
 ptt_after ToFrame c t = with_entry c.j (Some c.page) t
-ptt_after ToBuffer c t = t
-ptt_after ToNvm c t = t
-ptt_after PendingFirst c t = t
+ptt_after rule c t = t
 
 -- a store that was done counts for its page
 abbrev pub counts_after : StoreRule → ℕ → Tally → Tally
-counts_after ToFrame page t = counted page t
-counts_after ToBuffer page t = counted page t
-counts_after ToNvm page t = counted page t
 counts_after PendingFirst page t = t
+counts_after rule page t = counted page t
 
 -- how the store ended
 abbrev pub answer_of : StoreRule → Stored
-answer_of ToFrame = Done
-answer_of ToBuffer = Done
-answer_of ToNvm = Done
 answer_of PendingFirst = CopyFirst
+answer_of rule = Done

@@ -1,10 +1,9 @@
 //! The entries at which the next searches of the tables start.
-ghost use Rattle.std.specs.Prelude.{◌≡◌, ◌≤◌, true, unwrap_or};
+ghost use Rattle.std.specs.Prelude.{◌≡◌, unwrap_or};
 ghost use Rattle.thy_table.specs.Listing.{Listing};
 ghost use Rattle.thy_table.specs.declared.block_entry.BttEntry.{BttEntry as BlockEntry};
 ghost use Rattle.thy_table.specs.declared.page_entry.PttEntry.{PttEntry as PageEntry};
-ghost use Rattle.thy_table.specs.PageEntry.{is_framed as IsFramedPage};
-ghost use Rattle.thy_control.specs.Cursors.{AreCursors};
+ghost use Rattle.thy_control.specs.Cursors.{AreCursors, AreLowered};
 
 use thy_cell::{Cell, StoreRule};
 
@@ -47,11 +46,7 @@ impl Cursors {
 
     /// After a store by a rule, by what the block was before: a buffer over a frame has to be merged.
     pub fn lowered(self, rule: StoreRule, cell: &Cell) -> Cursors
-        ensures copies { result.copies ≡ self.copies }
-        ensures writes { result.writes ≡ self.writes }
-        ensures promotions { result.promotions ≡ self.promotions }
-        ensures merges { result.merges ≤ self.merges }
-        ensures buffer { rule ≡ StoreRule.ToBuffer → IsFramedPage cell.now.page ≡ true → result.merges ≤ cell.now.i }
+        ensures { AreLowered rule cell.now self result }
     {
         match rule {
             StoreRule::ToBuffer if cell.page.is_framed() => Cursors {

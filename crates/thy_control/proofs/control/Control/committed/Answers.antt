@@ -3,7 +3,7 @@ use Rattle.std.proofs.Common.{◌≡◌, sym, ◌∙◌, ap, subst}
 use Rattle.thy_places.specs.declared.place.Place.{Place}
 use Rattle.thy_places.specs.Places.{IsPlace}
 use Rattle.thy_control.specs.State.{cell_of}
-use Rattle.thy_control.proofs.CellLemmas.{IsPlace-penult, IsWithin-cell_of}
+use Rattle.thy_control.proofs.StateLemmas.{IsPlace-penult, IsWithin-cell_of}
 use Rattle.thy_control.proofs.StayLemmas.{stays_read}
 use Rattle.thy_control.proofs.control.Control.committed.Goals as goal
 

@@ -1,12 +1,12 @@
 use Rattle.std.proofs.Common.{List, Option, ℕ, map, ap, subst, sym, ◌∙◌, refl}
 use Rattle.thy_layout.specs.Entries.{entry_word, HaveWords}
 use Rattle.thy_base.specs.Words.{block_of}
-use Rattle.thy_record.proofs.TableLemmas.{table_block_of-entries}
 use Rattle.thy_control.specs.CheckpointTables.{tables1}
 use Rattle.thy_control.specs.TableBlocks.{entries_of}
 use Rattle.thy_control.specs.State.{State}
 use Rattle.thy_control.proofs.TablesLemmas.{AreTablesOf-under_way}
 use Rattle.thy_control.proofs.TableBlockLemmas.{HaveWords-entries}
+use Rattle.thy_record.proofs.SlotLemmas.{table_block_of-entries}
 use Rattle.thy_control.proofs.control.Control.entries.Goals as goal
 
 pub table_block-requires : goal.table_block-requires

@@ -3,7 +3,7 @@ use Rattle.std.proofs.Common.{◌≡◌, sym, ◌∙◌, ap, subst}
 use Rattle.thy_places.specs.declared.place.Place.{Place}
 use Rattle.thy_places.specs.Places.{IsPlace}
 use Rattle.thy_control.specs.State.{cell_of}
-use Rattle.thy_control.proofs.CellLemmas.{IsPlace-work, IsWithin-cell_of}
+use Rattle.thy_control.proofs.StateLemmas.{IsPlace-work, IsWithin-cell_of}
 use Rattle.thy_control.proofs.StayLemmas.{stays_read}
 use Rattle.thy_control.proofs.control.Control.load.Goals as goal
 

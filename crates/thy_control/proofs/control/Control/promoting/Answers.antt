@@ -1,6 +1,5 @@
 use Rattle.std.proofs.Common.{subst, arith}
 use Rattle.std.proofs.lemmas.Bool.{ltb-true, ltb-false}
-use Rattle.thy_control.specs.State.{State}
 use Rattle.thy_control.specs.Rules.{IsWholeState}
 use Rattle.thy_control.specs.Overlay.{IsPromoting}
 use Rattle.thy_control.proofs.MarkLemmas.{IsPromoting-some, IsWholeState-none}
@@ -8,12 +7,20 @@ use Rattle.thy_control.proofs.control.Control.promoting.Goals as goal
 
 pub returns-clause-some : goal.returns-clause-some
 returns-clause-some c some =
-    let v : State = record { p = c.self.inside.geometry; btt = c.self.inside.btt; ptt = c.self.inside.ptt; counts = c.self.inside.counts; under_way = c.self.inside.under_way; dram = c.self.inside.dram } in
-    subst (λ (s : State). IsPromoting s) c.self.view_is
-    (IsPromoting-some v c.self.invariant.tables (omega (arith, ltb-true 0 c.self.inside.marks.promoted some, c.self.invariant.marks.promoted_is)))
+    subst IsPromoting c.self.view_is
+    (IsPromoting-some _ c.self.invariant.tables
+    (omega (
+      arith,
+      ltb-true 0 c.self.inside.marks.promoted some,
+      c.self.invariant.marks.promoted_is,
+    )))
 
 pub returns-clause-none : goal.returns-clause-none
 returns-clause-none c none =
-    let v : State = record { p = c.self.inside.geometry; btt = c.self.inside.btt; ptt = c.self.inside.ptt; counts = c.self.inside.counts; under_way = c.self.inside.under_way; dram = c.self.inside.dram } in
-    subst (λ (s : State). IsWholeState s) c.self.view_is
-    (IsWholeState-none v (omega (arith, ltb-false 0 c.self.inside.marks.promoted none, c.self.invariant.marks.promoted_is)))
+    subst IsWholeState c.self.view_is
+    (IsWholeState-none _
+    (omega (
+      arith,
+      ltb-false 0 c.self.inside.marks.promoted none,
+      c.self.invariant.marks.promoted_is,
+    )))

@@ -1,6 +1,4 @@
-use Rattle.std.proofs.Common.{◌≡◌, length, unwrap_or, sym, ◌∙◌, ap}
-use Rattle.thy_control.specs.State.{State}
-use Rattle.thy_control.specs.Cursors.{AreCursors}
+use Rattle.std.proofs.Common.{unwrap_or, sym, ◌∙◌, ap}
 use Rattle.thy_control.specs.Overlay.{is_overlaid}
 use Rattle.thy_control.specs.Merges.{next_merge}
 use Rattle.thy_control.proofs.CursorLemmas.{next_from-place, NoneBelow-sought}
@@ -8,15 +6,14 @@ use Rattle.thy_control.proofs.control.Control.seek_overlay.Goals as goal
 
 pub invariant_of-self : goal.invariant_of-self
 invariant_of-self c =
-    let below : AreCursors c.self.inside.ptt c.self.inside.btt c.self.inside.cursors = c.self.invariant.cursors in
-    let past : c.goes_on-place.result ≡ unwrap_or c.next-next.result (length c.self.inside.btt.entries)
-    = c.goes_on-place.ensures ∙ ap (unwrap_or c.next-next.result) c.size.ensures.size in
+    let below = c.self.invariant.cursors in
     record {
       tables = c.self.invariant.tables;
       marks = c.self.invariant.marks;
       cursors = record {
         merges = NoneBelow-sought (is_overlaid c.self.inside.ptt) c.self.inside.btt c.self.inside.cursors.merges below.merges c.next-next.result c.goes_on-place.result
-            (sym c.next-next.ensures.place) past;
+            (sym c.next-next.ensures.place)
+            (c.goes_on-place.ensures ∙ ap (unwrap_or c.next-next.result) c.size.ensures.size);
         copies = below.copies;
         writes = below.writes;
         promotions = below.promotions;
@@ -25,6 +22,6 @@ invariant_of-self c =
 
 pub returns-clause-place : goal.returns-clause-place
 returns-clause-place c =
-    let w : State = record { p = c.self.inside.geometry; btt = c.self.inside.btt; ptt = c.self.inside.ptt; counts = c.self.inside.counts; under_way = c.self.inside.under_way; dram = c.self.inside.dram } in
-    let below : AreCursors w.ptt w.btt c.self.inside.cursors = c.self.invariant.cursors in
-    c.next-next.ensures.place ∙ next_from-place (is_overlaid c.self.inside.ptt) w.btt c.self.inside.cursors.merges below.merges ∙ ap next_merge c.self.view_is
+    c.next-next.ensures.place
+    ∙ next_from-place (is_overlaid c.self.inside.ptt) c.self.inside.btt c.self.inside.cursors.merges
+    c.self.invariant.cursors.merges ∙ ap next_merge c.self.view_is
