@@ -2,7 +2,7 @@
 use Rattle.std.proofs.Common.{◌≡◌, ℕ, Result}
 use Rattle.thy_base.specs.declared.nvm.NvmError.{NvmError}
 use Rattle.thy_boot.specs.declared.stage.ReadStage.{ReadStage}
-use Rattle.thy_boot.specs.declared.stage.ReadStage.TheVariants.{Unread, Header, Slot, Fills, Refusing}
+use Rattle.thy_boot.specs.declared.stage.ReadStage.TheVariants.{Unread}
 use Rattle.thy_boot.specs.Boot.{Booting}
 use Rattle.thy_boot.specs.Counts.{Counts}
 use Rattle.thy_boot.specs.Filling.{FillingOf}
@@ -12,14 +12,8 @@ module _ {C : Type 0} (F : FillingOf C) (b : Booting) (c : C) {T : Type 0} (resu
   -- reading writes nothing
   pub counts_read : (r : ReadStage) → new ≡ old → Counts (read_action F b c r) result old new
   counts_read Unread h = h
-  counts_read Header h = h
-  counts_read (Slot next) h = h
-  counts_read (Fills k) h = h
-  counts_read (Refusing bad) h = h
+  counts_read r h = h
 
   pub read_writes_nothing : (r : ReadStage) → Counts (read_action F b c r) result old new → new ≡ old
   read_writes_nothing Unread h = h
-  read_writes_nothing Header h = h
-  read_writes_nothing (Slot next) h = h
-  read_writes_nothing (Fills k) h = h
-  read_writes_nothing (Refusing bad) h = h
+  read_writes_nothing r h = h

@@ -1,38 +1,126 @@
--- A migration, from one action to the next, and to its end.
-use Rattle.std.proofs.Common.{◌≡◌, ◌≢◌, ℕ, ◌+◌, ◌<◌, true, List, length, Option, Some, None, refl, sym, ◌∙◌, ap, subst, inr, arith}
+-- Every action of loading is a move of the run's checkpoints; and a migration, from one action to its end.
+use Rattle.std.proofs.Common.{◌≡◌, ◌≢◌, ℕ, List, [], ◌∷◌, length, Contains, Option, Some, None, sym, subst, inl, inr, arith, ◌+◌, ◌<◌, true, refl, ◌∙◌, ap}
+use Rattle.std.proofs.lemmas.List.Elements.{Contains-push_cases}
 use Rattle.thy_base.specs.declared.block.Block.{Block}
+use Rattle.thy_base.specs.Device.{Device, IsOneWordApart, IsFramed, block_at, newest, settled, drained, written_to}
 use Rattle.thy_base.specs.declared.mark.Mark.{Mark}
-use Rattle.thy_base.specs.Device.{Device, IsOneWordApart, block_at, newest, settled, drained, written_to, IsFramed}
 use Rattle.thy_base.proofs.DeviceLemmas.{newest-settled, newest-drained, newest-written_to_other, length-settled}
-use Rattle.thy_crash.specs.Saved.{next_image}
+use Rattle.thy_crash.specs.Saved.{IsIssued, next_image}
+use Rattle.thy_crash.proofs.SavedLemmas.{next_image-commit}
 use Rattle.thy_crash.proofs.FixedLemmas.{Reads-drained}
-use Rattle.thy_layout.specs.Commit.{commit_of, epoch_of}
-use Rattle.thy_layout.specs.Decoded.{At}
-use Rattle.thy_layout.specs.Layout.{Layout, header_bad, state_by, decode_by}
-use Rattle.thy_layout.proofs.CommitLemmas.{one_word-between}
+use Rattle.thy_layout.specs.Decoded.{Nothing, At}
+use Rattle.thy_layout.specs.Layout.{Layout, slot_in, decode_by, looked_by, header_bad, state_by}
+use Rattle.thy_layout.proofs.LayoutLemmas.{decode_by-nothing_back, looked_nothing}
+use Rattle.thy_layout.specs.Commit.{commit_of, epoch_of, commit_magic}
+use Rattle.thy_layout.specs.declared.layout_version.LayoutVersion.TheVariants.{VersionTwo}
+use Rattle.thy_layout.proofs.CommitLemmas.{one_word-between, nothing-stated, one_word-first}
 use Rattle.thy_layout.proofs.ReadBackLemmas.{commit_fault-commit_of, is_zero-commit_of}
 use Rattle.thy_view.specs.Action.{after, FailsTo}
 use Rattle.thy_view.specs.Origin.{Origin, at}
 use Rattle.thy_view.specs.Safe.{ceiling}
 use Rattle.thy_protocol.specs.declared.round.Round.{Round}
 use Rattle.thy_protocol.specs.declared.round.Round.TheVariants.{Write, Settle, Commit, Confirm}
-use Rattle.thy_protocol.specs.Issuing.{AreIssued, slot_of}
+use Rattle.thy_protocol.specs.Issuing.{slot_of, AreIssued}
 use Rattle.thy_protocol.specs.Keeps.{IsOf, Tells}
-use Rattle.thy_protocol.specs.Moves.{Standing, standing, IsKeeping, Move}
+use Rattle.thy_protocol.specs.Moves.{IsKeeping, Move, Standing, standing}
 use Rattle.thy_protocol.specs.Round.{RoundWrites, IsInRound, round_action, next_round}
-use Rattle.thy_protocol.specs.Rounds.{saved_in, saved_after_fault, made_after, standing_then, MayTake, AreIssuedBefore, AreIssuedThen}
-use Rattle.thy_protocol.proofs.IssuingLemmas.{drain_keeps}
+use Rattle.thy_protocol.specs.Rounds.{made_after, standing_then, MayTake, AreApart, HasWritten, HasWrittenBefore, HasWrittenThen, saved_in, saved_after_fault, AreIssuedBefore, AreIssuedThen}
 use Rattle.thy_protocol.proofs.RoundLemmas.{next_by, rounds_move, failed_rounds_move, rounds_issue, issued_over}
-use Rattle.thy_boot.specs.declared.stage.Stage.{Stage}
-use Rattle.thy_boot.specs.declared.stage.Stage.TheVariants.{Migrates}
+use Rattle.thy_protocol.proofs.IssuingLemmas.{drain_keeps}
+use Rattle.thy_boot.specs.declared.stage.Stage.TheVariants.{Loads, Migrates}
 use Rattle.thy_boot.specs.Boot.{Booting, layout_in, slot_read, at_stage}
 use Rattle.thy_boot.specs.Filling.{FillingOf, First, IsFilling, IsTheSame, ReadsAlike, anew}
+use Rattle.thy_boot.specs.Loads.{first_writes, loads_on}
+use Rattle.thy_boot.specs.Sound.{BootImages, layout_for, first_of, start_mark, standing_in_boot, images_after, IsFirstImage, IsMade, IsSoundAt, epoch_kept, renewed_image, IsAnew, IsMadeAnew, IsRecovering, IsMigrating}
+use Rattle.thy_boot.specs.Start.{CanStart}
+use Rattle.thy_boot.specs.Laws.{standing_after_fault}
+use Rattle.thy_boot.proofs.FirstLemmas.{first_apart, header_read, AreIssued-written}
+use Rattle.thy_boot.proofs.LoadLemmas.{first-whole, first-placed, first-once, first-checkpoint, is_the_same, epoch_anew, epoch-below, placed_anew, slot_spared, next-commit, next-header, next-slot, next-issued, next-decodes, state_anew}
 use Rattle.thy_boot.specs.Migrating.{renewed_parts, renewing, migrated_by}
 use Rattle.thy_boot.specs.Recovers.{HasListed, IsRestored}
-use Rattle.thy_boot.specs.Sound.{BootImages, layout_for, epoch_kept, standing_in_boot, renewed_image, images_after, IsAnew, IsMadeAnew, IsRecovering, IsMigrating, IsSoundAt}
-use Rattle.thy_boot.specs.Laws.{standing_after_fault}
-use Rattle.thy_boot.proofs.AnewLemmas.{is_the_same, epoch_anew, epoch-below, placed_anew, slot_spared, next-commit, next-header, next-slot, next-issued, next-decodes, state_anew}
-use Rattle.thy_boot.proofs.RenewedLemmas.{renewed-slot, next-written, settled-drained, next-drained}
+use Rattle.thy_boot.proofs.ReadLemmas.{relist}
+use Rattle.thy_boot.proofs.SlotLemmas.{renewed-slot, next-written, settled-drained, next-drained}
+
+-- if there is no checkpoint, the commit block alone determines that
+alone : (ly : Layout) (before : List Block) (x : ℕ) → decode_by ly ceiling before ≡ Nothing → x ≢ 1 → ¬ Contains (1 ∷ looked_by ly before) x
+alone ly before x nothing other inside =
+    let only : Contains (1 ∷ 1 ∷ []) x
+    = subst (λ (xs : List ℕ). Contains (1 ∷ xs) x) (looked_nothing ly before (decode_by-nothing_back ly ceiling before nothing)) inside in
+    elim (Contains-push_cases (1 ∷ []) 1 x only) as (λ _. ⊥) [
+      | inl first ↦ elim (Contains-push_cases [] 1 x first) as (λ _. ⊥) [ inl none ↦ absurd (omega (arith, none.1)) | inr e ↦ other (sym e) ]
+      | inr e ↦ other (sym e)
+    ]
+
+module _ {C : Type 0} (F : FillingOf C) (laws : IsFilling F) (o : Origin) (can : CanStart o.geometry o.start) where
+  abbrev ly : Layout
+  ly = layout_for F o
+
+  abbrev f : First
+  f = first_of F o
+
+  abbrev ws : RoundWrites
+  ws = first_writes (first_of F o)
+
+  pub apart : AreApart ly.image_blocks ws
+  apart = first_apart f ly.image_blocks (first-placed F laws o.geometry o.start can) (first-once F laws o.geometry o.start can)
+
+  -- all that was written is the start's image
+  module _ (n : Device) (sized : length n.image ≡ ly.image_blocks) (h : HasWritten ws ws.blocks n) where
+    whole : IsOf o ly (next_image n f.commit) (start_mark o) × IsIssued (looked_by ly) n (next_image n f.commit)
+        × (slot_in ly (next_image n f.commit) ≡ slot_of f.parts)
+    whole =
+        first-checkpoint F laws o can n (AreIssued-written f n h ly.image_blocks sized (first-whole F laws o.geometry o.start)) (header_read f n h)
+
+    pub IsFirstImage-written : IsFirstImage o ly f (next_image n f.commit)
+    IsFirstImage-written = record { of = whole.0; commit = next_image-commit f.commit n (omega (arith, sized, apart.room)); slot = whole.2 }
+
+  -- what is made from the first barrier on
+  abbrev pub MadeThen : Option Round → List Block → Type 0
+  MadeThen (Some r) next = IsMade o ly f r next
+  MadeThen None next = IsFirstImage o ly f next
+
+  -- what holds then makes a boot of the run
+  pub sound_then : (b : Booting) (c : C) (h : BootImages) (m : Device) → F.fresh c → h.kept ≡ None → length m.image ≡ ly.image_blocks → (x : Option Round)
+      → HasWrittenThen ws x m → MadeThen x h.next → IsSoundAt F o (loads_on x) h m b c
+  sound_then b c h m fresh none sized (Some r) stood made = record { none = none; fresh = fresh; there = stood.0; made = made; stood = stood.1 }
+  sound_then b c h m fresh none sized None stood made = record { fresh = fresh; sized = sized; settled = stood.1; made = made; stood = stood.0 }
+
+  module _ (g : BootImages) (n : Device) (r : Round) (inside : IsInRound ws.blocks r) (keeps : IsKeeping o ly (standing_in_boot o (Loads r) g n))
+      (made : IsMade o ly f r g.next) (stood : HasWrittenBefore ws r n) where
+    may_load : MayTake o ly (start_mark o) ws r g.before g.next n
+    may_load = by_round r inside keeps made stood where
+      by_round : (r : Round) → IsInRound ws.blocks r → IsKeeping o ly (standing_in_boot o (Loads r) g n) → IsMade o ly f r g.next → HasWrittenBefore ws r n
+          → MayTake o ly (start_mark o) ws r g.before g.next n
+      by_round (Write k) inside keeps made stood = alone ly g.before (ws.place k) keeps.told.0 (apart.elsewhere k inside)
+      by_round Settle inside keeps made stood = let next = whole n keeps.sized stood in (next.0, next.1)
+      by_round Commit inside keeps made stood = (
+        made.commit,
+        subst (λ (b : Block). IsOneWordApart b ws.commit) (sym (nothing-stated ly ceiling g.before keeps.told.0.0)) (one_word-first (commit_magic VersionTwo)),
+      )
+      by_round Confirm inside keeps made stood = (made.commit, stood.1)
+
+    pub load_moves : Move o ly (standing_in_boot o (Loads r) g n)
+        (standing_in_boot o (loads_on (next_round ws.blocks r)) (images_after f (Loads r) n g) (after (round_action ws r) n))
+    load_moves = then_stands (next_round ws.blocks r) (rounds_move o ly (start_mark o) ws r g.before g.next None n may_load) where
+      then_stands : (x : Option Round)
+          → Move o ly (standing_in_boot o (Loads r) g n)
+          (standing_then x (after (round_action ws r) n) g.before (made_after ws.commit r n g.next) None (start_mark o))
+          → Move o ly (standing_in_boot o (Loads r) g n) (standing_in_boot o (loads_on x) (images_after f (Loads r) n g) (after (round_action ws r) n))
+      then_stands (Some q) move = move
+      then_stands None move = move
+
+    pub made_on : MadeThen (next_round ws.blocks r) (images_after f (Loads r) n g).next
+    made_on = by_round r keeps.sized made stood where
+      by_round : (r : Round) → length n.image ≡ ly.image_blocks → IsMade o ly f r g.next → HasWrittenBefore ws r n
+          → MadeThen (next_round ws.blocks r) (images_after f (Loads r) n g).next
+      by_round (Write k) sized made stood = next_by (λ (q : Round). IsMade o ly f q g.next) k ws.blocks (λ more. tt) (λ last. tt)
+      by_round Settle sized made stood = IsFirstImage-written n sized stood
+      by_round r sized made stood = made
+
+    -- an action of loading that failed
+    pub load_fails : (m : Device) → FailsTo (round_action ws r) n m → IsFramed n m
+        → Move o ly (standing_in_boot o (Loads r) g n) (standing_after_fault o (Loads r) g m)
+    load_fails m failed framed = failed_rounds_move o ly (start_mark o) ws r g.before g.next None n m may_load failed framed
 
 module _ {C : Type 0} (F : FillingOf C) (laws : IsFilling F) where
   -- ---- what reads alike
@@ -49,11 +137,6 @@ module _ {C : Type 0} (F : FillingOf C) (laws : IsFilling F) where
 
     pub drained-alike : ReadsAlike l commit n (drained n)
     drained-alike = record { each = λ y not_commit inside not_slot. newest-drained n y (omega (arith, inside, sized)) }
-
-  -- ---- over a boot whose stage is another
-
-  relisted : (q : Stage) (g : List Block) (b : Booting) (c : C) → HasListed F g b c → HasListed F g (at_stage q b) c
-  relisted q g b c h = record { head = h.head; slot_is = h.slot_is; slot_fits = h.slot_fits; lists = h.lists }
 
   -- ---- one of a run
 
@@ -93,7 +176,7 @@ module _ {C : Type 0} (F : FillingOf C) (laws : IsFilling F) where
         version = at-round.version;
         there = issued.0;
         room = at-round.room;
-        listed = subst (λ (h : List Block). HasListed F h (at_stage (Migrates next) b) c) (sym before) (relisted (Migrates next) g.before b c at-round.listed);
+        listed = subst (λ (h : List Block). HasListed F h (at_stage (Migrates next) b) c) (sym before) (relist F (Migrates next) g.before b c at-round.listed);
         whole = still.0;
         state = state-alike;
         header = header-alike;
@@ -150,10 +233,8 @@ module _ {C : Type 0} (F : FillingOf C) (laws : IsFilling F) where
     then_stands : (commit : Block) (m : Mark) (r : Round) (x : Device)
         → standing_then (next_round w.blocks r) x g.before (made_after commit r n g.next) (Some m) m
         ≡ standing_in_boot o (migrated_by F r b).stage (record { before = renewed_image r g; kept = Some m; next = made_after commit r n g.next }) x
-    then_stands commit m (Write k) x = refl
-    then_stands commit m Settle x = refl
-    then_stands commit m Commit x = refl
     then_stands commit m Confirm x = refl
+    then_stands commit m r x = refl
 
     pub migration_moves : (r : Round) → IsMigrating F o r g n b c → IsKeeping o lay (standing_in_boot o (Migrates r) g n)
         → Move o lay (standing_in_boot o (Migrates r) g n) (standing_in_boot o (migrated_by F r b).stage (images_after f (Migrates r) n g) (after (round_action w r) n))
@@ -177,9 +258,8 @@ module _ {C : Type 0} (F : FillingOf C) (laws : IsFilling F) where
     -- but for the slot and the commit block the device reads as before
     alike : (r : Round) → IsInRound w.blocks r → length n.image ≡ lay.image_blocks → ReadsAlike lay new_commit n (after (round_action w r) n)
     alike (Write k) inside sized = written-alike lay new_commit n sized (w.place k) (w.block k) (λ y not_commit not_slot. not_slot k inside)
-    alike Settle inside sized = settled-alike lay new_commit n sized
     alike Commit inside sized = written-alike lay new_commit n sized 1 new_commit (λ y not_commit not_slot. not_commit)
-    alike Confirm inside sized = settled-alike lay new_commit n sized
+    alike r inside sized = settled-alike lay new_commit n sized
 
     issued_then : (r : Round) (is : IsMigrating F o r g n b c)
         → AreIssuedThen lay.image_blocks (renewed_parts F b) new_commit (next_round w.blocks r) (after (round_action w r) n) (F.loads c n)
@@ -280,10 +360,9 @@ module _ {C : Type 0} (F : FillingOf C) (laws : IsFilling F) where
   module _ (o : Origin) (b : Booting) (c : C) (same : F.p c ≡ b.p) (g : BootImages) (n : Device) (sized : length n.image ≡ (layout_in F b).image_blocks) where
     made-drained : (m : Mark) (r : Round) → IsMadeAnew o (layout_for F o) m (anew b.commit) (renewed_parts F b) r g.next n
         → IsMadeAnew o (layout_for F o) m (anew b.commit) (renewed_parts F b) r g.next (drained n)
-    made-drained m (Write k) h = tt
-    made-drained m Settle h = tt
     made-drained m Commit h = (h.0, next-drained n (anew b.commit) ∙ h.1)
     made-drained m Confirm h = (h.0, settled-drained n ∙ h.1)
+    made-drained m r h = tt
 
     pub migrating-drained : (r : Round) → IsMigrating F o r g n b c → IsMigrating F o r g (drained n) b c
     migrating-drained r at-round =

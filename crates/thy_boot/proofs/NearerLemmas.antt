@@ -8,8 +8,8 @@ use Rattle.thy_layout.specs.Commit.{is_zero, commit_magic, commit_of}
 use Rattle.thy_layout.specs.Header.{knows_version_one}
 use Rattle.thy_base.specs.Words.{word_of}
 use Rattle.thy_boot.specs.declared.stage.Stage.{Stage}
-use Rattle.thy_boot.specs.declared.stage.Stage.TheVariants.{Reads, Loads, Migrates, Over}
-use Rattle.thy_boot.specs.declared.stage.ReadStage.TheVariants.{Unread, Header, Slot, Fills, Refusing}
+use Rattle.thy_boot.specs.declared.stage.Stage.TheVariants.{Reads, Loads, Migrates}
+use Rattle.thy_boot.specs.declared.stage.ReadStage.TheVariants.{Unread, Header, Slot, Fills}
 use Rattle.thy_protocol.specs.declared.round.Round.TheVariants.{Write}
 use Rattle.thy_protocol.specs.Round.{round_left}
 use Rattle.thy_protocol.proofs.RoundLemmas.{round_most}
@@ -86,11 +86,9 @@ module _ {C : Type 0} (F : FillingOf C) (laws : IsFilling F) where
 
   -- no stage has more left than the first
   pub left_most : (b : Booting) (q : Stage) → boot_left F b q ≤ boot_left F b (Reads Unread)
-  left_most b (Reads Unread) = omega arith
   left_most b (Reads Header) = omega (arith, few b)
   left_most b (Reads (Slot next)) = omega (arith, room b, few b)
   left_most b (Reads (Fills k)) = omega (arith, few b)
-  left_most b (Reads (Refusing bad)) = omega arith
   left_most b (Loads r) = omega (arith, round_most (numbers_of F b).first r, room_first b)
   left_most b (Migrates r) = omega (arith, round_most (numbers_of F b).anew r, room_anew b)
-  left_most b (Over end) = omega arith
+  left_most b q = omega arith

@@ -8,7 +8,7 @@ use Rattle.thy_layout.specs.declared.layout_version.LayoutVersion.TheVariants.{V
 use Rattle.thy_layout.specs.Commit.{commit_magic, version_of}
 use Rattle.thy_layout.specs.Header.{last_word, knows_version_one}
 use Rattle.thy_boot.specs.declared.stage.Stage.{Stage}
-use Rattle.thy_boot.specs.declared.stage.Stage.TheVariants.{Reads, Loads, Migrates, Over}
+use Rattle.thy_boot.specs.declared.stage.Stage.TheVariants.{Migrates}
 use Rattle.thy_boot.specs.Filling.{FillingOf, layout_at}
 use Rattle.thy_protocol.specs.declared.round.Round.TheVariants.{Write}
 use Rattle.thy_protocol.specs.Round.{round_left}
@@ -32,10 +32,8 @@ never_older scheme p commit some is =
 pub numbered_never_migrate : {C : Type 0} (F : FillingOf C) → NumberedNeverMigrate F
 numbered_never_migrate F o g n b c some sound = by_stage b.stage sound.so_far where
   by_stage : (q : Stage) → IsSoundAt F o q g n b c → migrates_at q ≡ false
-  by_stage (Reads at) far = refl
-  by_stage (Loads r) far = refl
   by_stage (Migrates r) far = absurd (never_older (layout_at F b.p).scheme b.p b.commit (some b.p) far.version)
-  by_stage (Over end) far = refl
+  by_stage q far = refl
 
 pub numbered_count_none : {C : Type 0} (F : FillingOf C) → NumberedCountNone F
 numbered_count_none F p some =

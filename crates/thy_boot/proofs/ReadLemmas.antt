@@ -21,8 +21,8 @@ use Rattle.thy_layout.proofs.LayoutLemmas.{sized_if_long, decode_by-zero}
 use Rattle.thy_view.specs.Safe.{ceiling}
 use Rattle.thy_boot.specs.declared.stage.Stage.{Stage}
 use Rattle.thy_boot.specs.declared.stage.Stage.TheVariants.{Reads, Loads, Migrates, Over}
-use Rattle.thy_boot.specs.declared.stage.ReadStage.TheVariants.{Unread, Header, Slot, Fills, Refusing}
-use Rattle.thy_boot.specs.declared.stage.End.TheVariants.{Restored, Loaded}
+use Rattle.thy_boot.specs.declared.stage.ReadStage.TheVariants.{Unread, Header, Slot, Fills}
+use Rattle.thy_boot.specs.declared.stage.End.TheVariants.{Restored}
 use Rattle.thy_protocol.specs.declared.round.Round.TheVariants.{Write}
 use Rattle.thy_boot.specs.Boot.{Booting, IsBoot, IsThere, new_boot, layout_in, slot_read, slot_fault, version_in, at_stage, refusing_or, after_commit, head_fault, after_header, after_slot, filled_by, filling_or, filling_from, has_more, gone_on, IsJudged, GoesOn}
 use Rattle.thy_boot.specs.Filling.{FillingOf, IsFilling, layout_at}
@@ -45,11 +45,9 @@ unfolding decode_by
 decode-fault l g commit o c long h =
     ap (λ (b : Block). if is_zero b then Nothing
     else refused_or_at (fault_of l ceiling (is_sized l g) (block_at g 0) b (slot_in l g)) (epoch_of b) (state_by l (slot_in l g) (memory_in l g))) c.is
-    ∙ ap (λ (t : Bool). if t then Nothing
-    else refused_or_at (fault_of l ceiling (is_sized l g) (block_at g 0) commit (slot_in l g)) (epoch_of commit) (state_by l (slot_in l g) (memory_in l g))) c.committed
-    ∙ ap (λ (t : Bool). refused_or_at (fault_of l ceiling t (block_at g 0) commit (slot_in l g)) (epoch_of commit) (state_by l (slot_in l g) (memory_in l g)))
-    (sized_if_long l g long)
-    ∙ ap (λ (f : Option BadImage). refused_or_at f (epoch_of commit) (state_by l (slot_in l g) (memory_in l g))) h
+    ∙ (λ i. if c.committed i then Nothing
+    else refused_or_at ((ap (λ t. fault_of l ceiling t (block_at g 0) commit (slot_in l g)) (sized_if_long l g long) ∙ h) i)
+    (epoch_of commit) (state_by l (slot_in l g) (memory_in l g)))
 
 module _ {C : Type 0} (F : FillingOf C) where
   -- the commit block
@@ -148,19 +146,14 @@ module _ {C : Type 0} (F : FillingOf C) where
           (listed, there.2, ap (λ p. F.next_fill p b.commit slot k) (sym same) ∙ there.3)
 
   -- what was read does not depend on the stage that the boot has
-  relist : (s : Stage) (g : List Block) (b : Booting) (c : C) → HasListed F g b c → HasListed F g (at_stage s b) c
+  pub relist : (s : Stage) (g : List Block) (b : Booting) (c : C) → HasListed F g b c → HasListed F g (at_stage s b) c
   relist s g b c h = record { head = h.head; slot_is = h.slot_is; slot_fits = h.slot_fits; lists = h.lists }
 
   restored_still : (s : Stage) (n : Device) (b : Booting) (c : C) → IsRestored F n b c → IsRestored F n (at_stage s b) c
   restored_still s n b c h = record { listed = relist s n.image b c h.listed; whole = h.whole; found = h.found }
 
   pub restage : (q s : Stage) (n : Device) (b : Booting) (c : C) → HasReadAt F q n b c → HasReadAt F q n (at_stage s b) c
-  restage (Reads Unread) s n b c h = h
-  restage (Reads Header) s n b c h = h
-  restage (Reads (Slot next)) s n b c h = h
   restage (Reads (Fills k)) s n b c h = (relist s n.image b c h.0, h.1, h.2)
-  restage (Reads (Refusing bad)) s n b c h = h
-  restage (Loads issue) s n b c h = h
   restage (Migrates at) s n b c h = record {
     restored = restored_still s n b c h.restored;
     memory = h.memory;
@@ -169,7 +162,7 @@ module _ {C : Type 0} (F : FillingOf C) where
     first = h.first;
   }
   restage (Over Restored) s n b c h = record { restored = restored_still s n b c h.restored; stated = h.stated }
-  restage (Over Loaded) s n b c h = h
+  restage q s n b c h = h
 
   -- a position was filled with what its read gave
   pub fill-found : (n : Device) (b : Booting) (c : C) (k : ℕ) → IsFilling F → length b.slot ≡ 64 * (layout_in F b).most_slot

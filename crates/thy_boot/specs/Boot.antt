@@ -71,11 +71,9 @@ pub record IsBoot {C : Type 0} (F : FillingOf C) (b : Booting) : Type 0 where
 -- what a step returns that left the boot in this state
 abbrev pub answer_at : {C : Type 0} → FillingOf C → Stage → Booting → BootStep
 answer_at F (Reads (Refusing bad)) b = Refused bad
-answer_at F (Reads r) b = Continues
-answer_at F (Loads r) b = Continues
-answer_at F (Migrates r) b = Continues
 answer_at F (Over Restored) b = Restarted (cpu_of_record b.p (slot_read F b)) (epoch_of b.commit)
 answer_at F (Over Loaded) b = HasLoaded
+answer_at F q b = Continues
 
 abbrev pub answer_of : {C : Type 0} → FillingOf C → Booting → BootStep
 answer_of F b = answer_at F b.stage b

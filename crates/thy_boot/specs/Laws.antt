@@ -51,10 +51,8 @@ NewIsSound {C} F =
 
 -- the boot is not over
 abbrev pub IsGoing : Stage → Type 0
-IsGoing (Reads at) = Unit {0}
-IsGoing (Loads r) = Unit {0}
-IsGoing (Migrates r) = Unit {0}
 IsGoing (Over end) = ⊥
+IsGoing stage = Unit {0}
 
 -- it may take a step then
 abbrev pub SoundMayStep : {C : Type 0} → FillingOf C → Type 0

@@ -1,4 +1,4 @@
-use Rattle.thy_boot.proofs.GoOnLemmas.{sound_may_step, may_go_on}
+use Rattle.thy_boot.proofs.SafeLemmas.{sound_may_step, may_go_on}
 use Rattle.thy_boot.proofs.laws.a_boot_may_go_on.Goals as goal
 
 pub returns-clause-may : goal.returns-clause-may

@@ -1,4 +1,4 @@
-use Rattle.thy_boot.proofs.GoOnLemmas.{new_is_sound}
+use Rattle.thy_boot.proofs.SafeLemmas.{new_is_sound}
 use Rattle.thy_boot.proofs.laws.a_new_boot_is_one_of_the_run.Goals as goal
 
 pub returns : goal.returns

@@ -1,4 +1,4 @@
-use Rattle.thy_boot.proofs.BootDrainLemmas.{drains_keep_boot, drains_move}
+use Rattle.thy_boot.proofs.FoundLemmas.{drains_keep_boot, drains_move}
 use Rattle.thy_boot.proofs.laws.drains_keep_the_boot.Goals as goal
 
 pub returns-clause-keep : goal.returns-clause-keep

@@ -1,4 +1,4 @@
-use Rattle.thy_boot.proofs.StepMoveLemmas.{steps_move}
+use Rattle.thy_boot.proofs.SafeLemmas.{steps_move}
 use Rattle.thy_boot.proofs.laws.steps_are_moves.Goals as goal
 
 pub returns : goal.returns

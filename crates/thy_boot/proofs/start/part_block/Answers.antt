@@ -1,6 +1,6 @@
 use Rattle.std.proofs.Common.{◌∙◌, drop, arith}
 use Rattle.std.proofs.lemmas.List.{length-drop}
-use Rattle.thy_boot.proofs.BlockLemmas.{piece_over_zeros}
+use Rattle.thy_boot.proofs.StartLemmas.{piece_over_zeros}
 use Rattle.thy_boot.proofs.start.part_block.Goals as goal
 
 pub returns-then-count-gt0 : goal.returns-then-count-gt0

@@ -2,8 +2,7 @@ use Rattle.std.proofs.Common.{◌-◌, ◌*◌, length, replicate, ◌++◌, sym
 use Rattle.thy_base.specs.Bytes.{bytes_of}
 use Rattle.thy_base.specs.Geometry.{console_room}
 use Rattle.thy_isa.specs.Step.{state_of}
-use Rattle.thy_boot.proofs.BlockLemmas.{memory_block, console_block}
-use Rattle.thy_boot.proofs.StartLemmas.{block_at-start_blocks}
+use Rattle.thy_boot.proofs.StartLemmas.{memory_block, console_block, block_at-start_blocks}
 use Rattle.thy_boot.proofs.start.start_block.Goals as goal
 
 pub returns-then-from-size : goal.returns-then-from-size

@@ -7,7 +7,7 @@ use Rattle.thy_boot.specs.Boot.{Booting}
 use Rattle.thy_boot.specs.Counts.{Counts}
 use Rattle.thy_boot.specs.Steps.{CanStepAt, action_at}
 use Rattle.thy_boot.proofs.CountLemmas.{counts_read}
-use Rattle.thy_boot.proofs.TakesLemmas.{takes_read, takes_migration}
+use Rattle.thy_boot.proofs.ActLemmas.{takes_read, takes_migration}
 use Rattle.thy_boot.proofs.boot.Boot.take_next.Goals as goal
 
 pub returns-in-Reads-clause-step : goal.returns-in-Reads-clause-step

@@ -1,5 +1,4 @@
 use Rattle.std.proofs.Common.{◌≡◌, ℕ, ◌<◌, sym, ◌∙◌, ap, subst, arith}
-use Rattle.thy_base.specs.declared.block.Block.{Block}
 use Rattle.thy_base.specs.declared.config.Parameters.{Parameters}
 use Rattle.thy_base.specs.Device.{Device}
 use Rattle.thy_isa.specs.Step.{State, state_of}
@@ -51,5 +50,4 @@ returns-in-Write-clause-nvm g c =
     = record { ok = c.write.ensures.ok; err = c.write.ensures.err; frame = c.write.ensures.frame; cause = c.write.ensures.cause } in
     subst (λ (r : Round). Takes (round_action (first_writes (first_by F c.args.self.now.p s)) r) c.write.result old new) (sym c.in-Write.is)
     (subst (λ (b : Booting). Takes (WriteAt (place_of_first (first_by F b.p s) k) (block_of_first (first_by F b.p s) k)) c.write.result old new) c.self.view_is
-    (subst (λ (x : ℕ). Takes (WriteAt x (block_of_first (first_by F c.self.inside.geometry s) k)) c.write.result old new) c.write_of-write.ensures.place
-    (subst (λ (x : Block). Takes (WriteAt c.write_of-write.result.at x) c.write.result old new) c.write_of-write.ensures.block wrote)))
+    (coe 0 1 (i. Takes (WriteAt (c.write_of-write.ensures.place i) (c.write_of-write.ensures.block i)) c.write.result old new) wrote))
