@@ -1,5 +1,3 @@
-pub mod ViewLemmas
-pub mod LoadingLemmas
-pub mod PowerLemmas
 pub mod StepLemmas
+pub mod PowerLemmas
 pub mod RoomLemmas

@@ -1,4 +1,4 @@
-use Rattle.thy_boot_laws.proofs.LoadingLemmas.{loads_if_none}
+use Rattle.thy_boot_laws.proofs.StepLemmas.{loads_if_none}
 use Rattle.thy_boot_laws.proofs.laws.a_boot_loads_only_without_a_checkpoint.Goals as goal
 
 pub returns : goal.returns

@@ -1,4 +1,4 @@
-use Rattle.thy_boot_laws.proofs.ViewLemmas.{view_is_kept}
+use Rattle.thy_boot_laws.proofs.StepLemmas.{view_is_kept}
 use Rattle.thy_boot_laws.proofs.laws.a_boot_shows_what_is_kept.Goals as goal
 
 pub returns : goal.returns

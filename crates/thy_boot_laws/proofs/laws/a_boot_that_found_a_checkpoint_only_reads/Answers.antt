@@ -1,5 +1,4 @@
-use Rattle.thy_boot_laws.proofs.ViewLemmas.{found_is_settled}
-use Rattle.thy_boot_laws.proofs.StepLemmas.{found_fails_unwritten}
+use Rattle.thy_boot_laws.proofs.StepLemmas.{found_is_settled, found_fails_unwritten}
 use Rattle.thy_boot_laws.proofs.laws.a_boot_that_found_a_checkpoint_only_reads.Goals as goal
 
 pub returns-clause-settled : goal.returns-clause-settled
