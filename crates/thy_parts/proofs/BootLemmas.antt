@@ -15,7 +15,7 @@ use Rattle.thy_view.specs.Origin.{Origin, IsOrigin}
 use Rattle.thy_view.specs.Safe.{ceiling, Safe}
 use Rattle.thy_view.specs.Views.{doubt_of, loads}
 use Rattle.thy_protocol.specs.Keeps.{Tells}
-use Rattle.thy_parts.proofs.PlacedLemmas.{is_long-own}
+use Rattle.thy_parts.proofs.SlotLemmas.{is_long-own}
 use Rattle.thy_boot.specs.declared.stage.Stage.TheVariants.{Reads}
 use Rattle.thy_boot.specs.declared.stage.ReadStage.TheVariants.{Unread}
 use Rattle.thy_boot.specs.Boot.{Booting, IsBoot, new_boot}
@@ -24,16 +24,14 @@ use Rattle.thy_boot.specs.Laws.{IsGoing}
 use Rattle.thy_boot.specs.Left.{boot_left}
 use Rattle.thy_boot.specs.Shows.{seen_at}
 use Rattle.thy_boot.specs.Sound.{BootImages, IsSoundBoot, layout_for}
-use Rattle.thy_boot.proofs.BootDrainLemmas.{drains_keep_boot}
-use Rattle.thy_boot.proofs.GoOnLemmas.{new_is_sound}
-use Rattle.thy_boot.proofs.SafeLemmas.{sound_is_safe}
+use Rattle.thy_boot.proofs.FoundLemmas.{drains_keep_boot}
+use Rattle.thy_boot.proofs.SafeLemmas.{new_is_sound, sound_is_safe}
 use Rattle.thy_scheme.specs.Boots.{IsBootView, BootStays, BootDrains}
 use Rattle.thy_scheme.specs.Laws.{IsFound, BootsFound, BootHolds}
 use Rattle.thy_boot_laws.specs.Seen.{view_at, has_read_at, loads_at}
 use Rattle.thy_boot_laws.specs.Laws.{IsReadBy}
-use Rattle.thy_boot_laws.specs.Schemes.{BootIsSound, PowerFinds, PowerIsNew, ZerosAreNothing}
-use Rattle.thy_boot_laws.proofs.ViewLemmas.{view_is_kept, found_is_settled, sized-is}
-use Rattle.thy_boot_laws.proofs.LoadingLemmas.{unread-at, loads_if_none}
+use Rattle.thy_boot_laws.specs.Schemes.{BootIsSound, PowerIsNew, ZerosAreNothing}
+use Rattle.thy_boot_laws.proofs.StepLemmas.{view_is_kept, found_is_settled, sized-is, unread-at, loads_if_none}
 use Rattle.thy_boot_laws.proofs.PowerLemmas.{own_has_mark, new-is_boot}
 use Rattle.thy_engine.specs.Progress.{Progress, new_engine, is_under_way}
 use Rattle.thy_parts.specs.AreParts.{AreParts}
@@ -179,11 +177,8 @@ module _ {C : Type 0} (D : DesignOf C) (w : AreParts D) where
       storeless = powered.storeless;
     }
 
-    boots-found : BootsFound (scheme_of D) o s n
-    boots-found = record { boots = boots-first; view = ap (λ (b : Booting). view_at (reading D.filling.layouts) o b.stage n) powered.boot }
-
-  pub power_finds : PowerFinds (scheme_of D)
-  power_finds o s n origin powered found = boots-found o s n origin powered found
+    pub power_finds : BootsFound (scheme_of D) o s n
+    power_finds = record { boots = boots-first; view = ap (λ (b : Booting). view_at (reading D.filling.layouts) o b.stage n) powered.boot }
 
   pub power_is_new : PowerIsNew (scheme_of D)
   power_is_new p s powered = record {

@@ -1,67 +1,194 @@
--- A step of the boot.
-use Rattle.std.proofs.Common.{◌≡◌, ◌≢◌, ℕ, ◌+◌, ◌≤◌, true, false, List, length, refl, sym, ◌∙◌, ap, subst, Option, Some, None, Result, Ok, Err, IfOk, OnErr}
+-- A step of the boot; and its end: the checkpoint that it found or made is the committed one.
+use Rattle.std.proofs.Common.{◌≡◌, ◌≢◌, Bool, true, false, if◌then◌else◌, List, [], length, Some, None, refl, sym, ◌∙◌, ap, subst, ℕ, ◌+◌, ◌≤◌, Option, Result, Ok, Err, IfOk, OnErr}
 use Rattle.thy_base.specs.declared.block.Block.{Block}
 use Rattle.thy_base.specs.declared.config.Parameters.{Parameters}
 use Rattle.thy_base.specs.declared.mark.Mark.{Mark}
+use Rattle.thy_base.specs.Device.{Device, block_at, newest, IsFramed}
+use Rattle.thy_base.proofs.DeviceLemmas.{newest-empty}
 use Rattle.thy_base.specs.declared.nvm.NvmError.{NvmError}
-use Rattle.thy_base.specs.Device.{Device, block_at, IsFramed}
 use Rattle.thy_base.specs.Marks.{mark}
 use Rattle.thy_crash.specs.Saved.{Kept}
 use Rattle.thy_isa.specs.declared.state.CpuState.{CpuState}
 use Rattle.thy_isa.specs.OnBlocks.{state_from}
-use Rattle.thy_isa.specs.Step.{State as Plain, cpu_of, state_of}
+use Rattle.thy_isa.specs.Step.{cpu_of, State as Plain, state_of}
 use Rattle.thy_isa.proofs.BlockLaws.{count-state_from}
+use Rattle.thy_layout.specs.Cpu.{cpu_of_record}
+use Rattle.thy_layout.specs.Layout.{header_bad, slot_in, reading}
 use Rattle.thy_layout.specs.declared.bad_image.BadImage.{BadImage}
 use Rattle.thy_layout.specs.declared.start.Start.{Start}
 use Rattle.thy_layout.specs.Commit.{epoch_of, commit_of}
-use Rattle.thy_layout.specs.Cpu.{cpu_of_record}
-use Rattle.thy_layout.specs.Layout.{reading}
 use Rattle.thy_layout.specs.Slots.{cpu_fault}
-use Rattle.thy_engine.specs.Items.{Resting, phase_committed}
 use Rattle.thy_layout.proofs.SlotLemmas.{fits_cpu}
+use Rattle.thy_view.specs.Origin.{Origin, IsOrigin, at, Begins}
 use Rattle.thy_view.specs.declared.boot_step.BootStep.{BootStep}
 use Rattle.thy_view.specs.declared.view.View.{View}
 use Rattle.thy_view.specs.Action.{Action, ActsBy, doubt_after_fault}
 use Rattle.thy_view.specs.Booting.{boot_did}
 use Rattle.thy_view.specs.CoreStep.{BootsTo, CoreStep}
 use Rattle.thy_view.specs.Dram.{ActsOnDram}
-use Rattle.thy_view.specs.Origin.{Origin, Begins, at}
 use Rattle.thy_view.specs.Safe.{ceiling, Safe}
+use Rattle.thy_view.proofs.StorableAt.{IsRecordable-at}
+use Rattle.thy_view.proofs.ActionLemmas.{down-after}
 use Rattle.thy_protocol.specs.Keeps.{Keeps}
+use Rattle.thy_protocol.specs.declared.round.Round.{Round}
 use Rattle.thy_protocol.specs.Moves.{IsKeeping}
+use Rattle.thy_scheme.specs.CheckpointMarks.{only}
+use Rattle.thy_scheme.specs.Boots.{IsBooted, Loads, Restarts, Answers, BootsOn, BootFails}
+use Rattle.thy_scheme.specs.Scheme.{IsBooting, CanBoot}
+use Rattle.thy_boot.specs.Boot.{Booting, slot_read, IsBoot, answer_at, answer_of}
+use Rattle.thy_boot.specs.Filling.{layout_at, first_slot_of, FillingOf}
+use Rattle.thy_boot.specs.Recovers.{IsRestored}
+use Rattle.thy_boot.specs.Sound.{BootImages, start_mark, IsLoaded, layout_for, first_of, standing_in_boot, images_after, IsRecovering, IsSoundAt, IsLoaded as IsLoadedBoot}
+use Rattle.thy_boot.specs.Start.{CanStart}
+use Rattle.thy_boot.proofs.LoadedLemmas.{loaded-state, loaded-header}
+use Rattle.thy_boot.proofs.StartLemmas.{CanStart-origin}
 use Rattle.thy_boot.specs.declared.stage.Stage.{Stage}
-use Rattle.thy_boot.specs.declared.stage.Stage.TheVariants.{Reads, Loads as Loading, Migrates, Over}
-use Rattle.thy_boot.specs.declared.stage.ReadStage.TheVariants.{Unread, Header as ReadsHeader, Slot as ReadsSlot, Fills, Refusing}
+use Rattle.thy_boot.specs.declared.stage.Stage.TheVariants.{Reads, Over}
+use Rattle.thy_boot.specs.declared.stage.ReadStage.TheVariants.{Refusing}
 use Rattle.thy_boot.specs.declared.stage.End.TheVariants.{Restored, Loaded}
-use Rattle.thy_boot.specs.Boot.{Booting, IsBoot, slot_read, answer_at, answer_of}
 use Rattle.thy_boot.specs.Laws.{IsGoing, IsMoved, failed_answer}
 use Rattle.thy_boot.specs.Left.{boot_left}
-use Rattle.thy_boot.specs.Recovers.{IsRestored}
 use Rattle.thy_boot.specs.Shows.{migrates_at, seen_at}
-use Rattle.thy_boot.specs.Sound.{BootImages, layout_for, first_of, start_mark, standing_in_boot, images_after, IsRecovering, IsSoundAt, IsLoaded as IsLoadedBoot}
 use Rattle.thy_boot.specs.Steps.{CanStep, Steps, action_of, Fails, TakesStep}
 use Rattle.thy_boot.proofs.ActLemmas.{steps_act, found_stays, steps_fill, failures_act, steps_come_nearer}
 use Rattle.thy_boot.proofs.FoundLemmas.{restored_is_kept, never_refused}
-use Rattle.thy_boot.proofs.GoOnLemmas.{sound_may_step}
-use Rattle.thy_view.proofs.StorableAt.{IsRecordable-at}
-use Rattle.thy_view.proofs.ActionLemmas.{down-after}
-use Rattle.thy_boot.proofs.SafeLemmas.{failures_move}
-use Rattle.thy_boot.proofs.StartLemmas.{CanStart-origin}
-use Rattle.thy_boot.proofs.StepMoveLemmas.{steps_move}
-use Rattle.thy_scheme.specs.Boots.{IsBooted, Loads, Restarts, Answers, BootsOn, BootFails}
-use Rattle.thy_scheme.specs.CheckpointMarks.{only}
-use Rattle.thy_scheme.specs.Scheme.{IsBooting, CanBoot}
+use Rattle.thy_boot.proofs.SafeLemmas.{sound_may_step, failures_move, steps_move}
 use Rattle.thy_boot_laws.specs.Seen.{view_at, has_read_at}
 use Rattle.thy_boot_laws.proofs.StepLemmas.{not-unread, kept-on, WasLoading, was-loading, was-found, fewer_has_read, found_fails_unwritten, queue-on}
-use Rattle.thy_boot.specs.Filling.{FillingOf, layout_at}
+use Rattle.thy_engine.specs.declared.stage.EngineStage.{EngineStage}
+use Rattle.thy_engine.specs.declared.stage.EngineStage.TheVariants.{Idle, InRound, Tail}
+use Rattle.thy_engine.specs.Items.{Resting, Applying, phase_committed}
+use Rattle.thy_engine.specs.Progress.{phase_of, applying, is_under_way}
+use Rattle.thy_parts.specs.Checkpoints.{Checkpoints, is_sealing, is_confirming, saved_at, HasWrittenBefore}
+use Rattle.thy_parts.specs.Design.{DesignOf, Composed}
+use Rattle.thy_parts.specs.IsDesign.{IsDesign}
+use Rattle.thy_parts.specs.Powering.{EndsBoot, IsPowering}
+use Rattle.thy_parts.specs.Sound.{layout_for as layout_by, IsSound}
+use Rattle.thy_parts.proofs.SafeLemmas.{idle_stage}
+use Rattle.thy_parts.proofs.SoundLemmas.{written_stage}
 use Rattle.thy_parts.specs.AreParts.{AreParts}
 use Rattle.thy_parts.specs.Boots.{Boots, IsUnused, booted, engine_at}
-use Rattle.thy_parts.specs.Design.{DesignOf, Composed}
 use Rattle.thy_parts.specs.Scheme.{scheme_of}
-use Rattle.thy_parts.specs.Sound.{IsSound}
 use Rattle.thy_parts.proofs.BootLemmas.{view-is}
-use Rattle.thy_parts.proofs.EndLemmas.{IsUnsealed, restored_sound, loaded_sound}
 use Rattle.thy_parts.proofs.HeldLemmas.{blocks_held}
+
+abbrev images_of : List Block → Mark → Checkpoints
+images_of before m = record { before = before; kept = Some m; next = []; sealed = None }
+
+-- a scheme in which nothing was sealed or stored yet, over a device of its size
+pub record IsUnsealed {C : Type 0} (D : DesignOf C) (o : Origin) (s : Composed C) (c : C) : Type 0 where
+  pub control : D.filling.p c ≡ o.geometry
+  pub engine : s.engine.p ≡ o.geometry
+  pub regs : length s.engine.cpu.regs ≡ 32
+  pub idle : is_under_way s.engine.stage ≡ false
+  pub room : (D.filling.dram c).room ≡ o.geometry.dramq
+  pub storeless : s.storeless ≡ true
+  pub sealed_storeless : s.sealed_storeless ≡ false
+
+module _ {C : Type 0} (D : DesignOf C) (o : Origin) (m : Mark) (before : List Block) (n : Device) (b : Booting) (s : Composed C) (c : C)
+    (unsealed : IsUnsealed D o s c) (keeps : Keeps o (layout_by D o) n (Kept before) (Some m) None) (stated : block_at before 1 ≡ commit_of m.epoch)
+    (header : header_bad (layout_by D o) (newest n 0) true ≡ None) (cpu : CpuState) (state : state_from o.geometry cpu (D.filling.loads c n) ≡ at o m.count) where
+  abbrev At : EngineStage → Composed C
+  At q = record s { control = c; engine = record s.engine { stage = q }; boot = b }
+
+  ends_at : (q : EngineStage) → EndsBoot D (phase_of q) c n before → is_sealing q ≡ false → is_confirming q ≡ false
+      → saved_at q (images_of before m) ≡ Kept before → ((r : Round) → q ≢ InRound r) → HasWrittenBefore D q s.engine c n → IsSound D o (only m) (At q) n
+  ends_at q ends sealing confirming saved no_slot written = record {
+    held = record {
+      geometry = unsealed.control;
+      moment = ends.moment s.engine.epoch;
+      fits = record {
+        same_p = unsealed.control ∙ sym unsealed.engine;
+        inside = λ r is. absurd (no_slot r is);
+        stands = (ends.moment s.engine.epoch).stands;
+      };
+      regs = unsealed.regs;
+      room = unsealed.room;
+    };
+    images = images_of before m;
+    checkpoints = record {
+      kept = refl;
+      stated = stated;
+      sealed = refl;
+      keeping = subst (λ x. Keeps o (layout_by D o) n x (Some m) None) (sym saved) keeps;
+      told = ends.keeps s.engine.epoch;
+      written = written_stage D q q s.engine c n written;
+      made = λ way. let no : true ≡ false = sym way ∙ sealing in absurd cc;
+    };
+    way = sealing;
+    doubt = sym confirming;
+    header = header;
+    committed = record { cpu = cpu; state = ap (state_from o.geometry cpu) ends.committed ∙ state };
+    rests = coe 1 0 (i. D.parts.rests (unsealed.storeless i) (unsealed.sealed_storeless i) (phase_of q) c) ends.rests;
+  }
+
+  nothing : s.engine.stage ≡ Idle
+  nothing = idle_stage s.engine.stage unsealed.idle
+
+  pub ends_idle : EndsBoot D Resting c n before → IsSound D o (only m) (record s { control = c; boot = b }) n
+  ends_idle ends =
+      subst (λ (q : EngineStage). IsSound D o (only m) (At q) n) (sym nothing) (ends_at Idle ends refl refl refl (λ r is. cc) tt)
+
+  pub ends_tail : EndsBoot D (Applying 0) c n before → IsSound D o (only m) (record s { control = c; engine = applying s.engine; boot = b }) n
+  ends_tail ends = ends_at (Tail 0) ends refl refl refl (λ r is. cc) tt
+
+-- ---- a checkpoint was restored: what follows its commit is to be written
+
+module _ {C : Type 0} (D : DesignOf C) (v : IsPowering D) (o : Origin) (m : Mark) (before : List Block) (n : Device) (b : Booting) (s : Composed C) (c : C)
+    (unsealed : IsUnsealed D o s c) (geometry : b.p ≡ o.geometry) (before_is : before ≡ n.image) (settled : n.queue ≡ [])
+    (keeps : Keeps o (layout_by D o) n (Kept before) (Some m) None) (stated : block_at before 1 ≡ commit_of m.epoch) (found : IsRestored D.filling n b c)
+    (state : state_from b.p (cpu_of_record b.p (slot_read D.filling b)) (D.filling.loads c n) ≡ at o m.count) where
+  abbrev cpu : CpuState
+  cpu = cpu_of_record b.p (slot_read D.filling b)
+
+  header : header_bad (layout_by D o) (newest n 0) true ≡ None
+  header =
+      ap (λ (x : Block). header_bad (layout_by D o) x true) (newest-empty n 0 settled)
+      ∙ ap (λ (p : Parameters). header_bad (layout_at D.filling p) (block_at n.image 0) true) (sym geometry)
+      ∙ found.listed.head.header_fits
+
+  made : state_from o.geometry cpu (D.filling.loads c n) ≡ at o m.count
+  made = ap (λ (p : Parameters). state_from p cpu (D.filling.loads c n)) (sym geometry) ∙ state
+
+  ends : EndsBoot D (phase_committed D.items) c n before
+  ends =
+      subst (EndsBoot D (phase_committed D.items) c n) (sym before_is)
+      (v.restores c n b (unsealed.control ∙ sym geometry) settled (keeps.sized ∙ ap (λ (p : Parameters). (layout_at D.filling p).image_blocks) (sym geometry)) found)
+
+  by_tail : (tail : Bool) → EndsBoot D (if tail then Applying 0 else Resting) c n before
+      → IsSound D o (only m) (record s { control = c; engine = if tail then applying s.engine else s.engine; boot = b }) n
+  by_tail true e = ends_tail D o m before n b s c unsealed keeps stated header cpu made e
+  by_tail false e = ends_idle D o m before n b s c unsealed keeps stated header cpu made e
+
+  pub restored_sound : IsSound D o (only m) (record s { control = c; engine = if D.items.has_tail then applying s.engine else s.engine; boot = b }) n
+      × EndsBoot D (phase_committed D.items) c n before
+  restored_sound = (by_tail D.items.has_tail ends, ends)
+
+-- ---- the program is loaded
+
+module _ {C : Type 0} (D : DesignOf C) (w : IsDesign D) (v : IsPowering D) (o : Origin) (g : BootImages) (n : Device) (b : Booting) (s : Composed C) (c : C)
+    (origin : IsOrigin o) (unsealed : IsUnsealed D o s c) (keeps : Keeps o (layout_by D o) n (Kept g.next) (Some (start_mark o)) None)
+    (loaded : IsLoaded D.filling o g n c) where
+  start : CanStart (D.filling.p c) o.start
+  start = subst (λ (p : Parameters). CanStart p o.start) (sym unsealed.control) (CanStart-origin o origin)
+
+  first : EndsBoot D Resting c n g.next
+  first =
+      v.begins c n g.next o.start loaded.fresh loaded.settled
+      (keeps.sized ∙ ap (λ (p : Parameters). (layout_at D.filling p).image_blocks) (sym unsealed.control)) start loaded.made.commit
+      (subst (λ (p : Parameters). slot_in (layout_at D.filling p) g.next ≡ first_slot_of D.filling p o.start) (sym unsealed.control) loaded.made.slot)
+
+  start_state : state_from o.geometry (cpu_of o.start) (D.filling.loads c n) ≡ at o o.start.count
+  start_state = loaded-state D.filling w.fills o origin g n c unsealed.control loaded
+
+  pub loaded_sound : IsSound D o (only (start_mark o)) (record s { control = c; boot = b }) n
+      × EndsBoot D Resting c n g.next × (state_from o.geometry (cpu_of o.start) (D.filling.loads c n) ≡ at o o.start.count)
+  loaded_sound = (
+    ends_idle D o (start_mark o) g.next n b s c unsealed keeps loaded.made.commit (loaded-header D.filling w.fills o origin g n c unsealed.control loaded) (cpu_of o.start)
+        start_state first,
+    first,
+    start_state,
+  )
 
 module _ {C : Type 0} (D : DesignOf C) (w : AreParts D) where
   abbrev F : FillingOf C
@@ -69,7 +196,7 @@ module _ {C : Type 0} (D : DesignOf C) (w : AreParts D) where
 
   -- ---- a step that was taken
 
-  module _ (o : Origin) (s : Composed C) (n : Device) (booting : IsBooting (scheme_of D) o s n) (new : Device) (d : Booting) (e : C)
+  module _ (o : Origin) (s : Composed C) (n : Device) (new : Device) (d : Booting) (e : C) (booting : IsBooting (scheme_of D) o s n)
       (steps : Steps F o.start n s.boot s.control new d e) (boot : IsBoot F d) (state : D.parts.sound e) where
     abbrev boots : Boots D o s n
     boots = booting.boots
@@ -123,34 +250,16 @@ module _ {C : Type 0} (D : DesignOf C) (w : AreParts D) where
     with_engine q = record s { control = e; engine = engine_at D q s.engine; boot = d }
 
     unused : (q : Stage) → IsGoing q → IsUnused D o (with_engine q)
-    unused (Reads r) going = record {
-      sound = state;
-      control = moved.sound.same_p;
-      engine = boots.unused.engine;
-      regs = boots.unused.regs;
-      idle = boots.unused.idle;
-      room = room;
-      sealed_storeless = boots.unused.sealed_storeless;
-    }
-    unused (Loading issue) going = record {
-      sound = state;
-      control = moved.sound.same_p;
-      engine = boots.unused.engine;
-      regs = boots.unused.regs;
-      idle = boots.unused.idle;
-      room = room;
-      sealed_storeless = boots.unused.sealed_storeless;
-    }
-    unused (Migrates step) going = record {
-      sound = state;
-      control = moved.sound.same_p;
-      engine = boots.unused.engine;
-      regs = boots.unused.regs;
-      idle = boots.unused.idle;
-      room = room;
-      sealed_storeless = boots.unused.sealed_storeless;
-    }
     unused (Over end) going = absurd going
+    unused q going = record {
+      sound = state;
+      control = moved.sound.same_p;
+      engine = boots.unused.engine;
+      regs = boots.unused.regs;
+      idle = boots.unused.idle;
+      room = room;
+      sealed_storeless = boots.unused.sealed_storeless;
+    }
 
     abbrev boots-on : IsGoing d.stage → Boots D o t new
     boots-on going = record {
@@ -178,7 +287,7 @@ module _ {C : Type 0} (D : DesignOf C) (w : AreParts D) where
         let now : view_at (reading F.layouts) o d.stage new ≡ seen_at o g.kept q
         = view-is D w o t new on ∙ ap (λ (k : Option Mark). seen_at o k d.stage) kept ∙ ap (λ (x : Stage). seen_at o g.kept x) is in (
           on,
-          subst (λ (x : View). BootsTo x (view_at (reading F.layouts) o d.stage new)) (sym before) (subst (λ (x : View). BootsTo v x) (sym now) to),
+          coe 1 0 (i. BootsTo (before i) (now i)) to,
         )
 
     -- ---- it is over
@@ -266,15 +375,10 @@ module _ {C : Type 0} (D : DesignOf C) (w : AreParts D) where
 
     answers-at : (q : Stage) → d.stage ≡ q → CoreStep o v (boot_did (answer_at F q d)) (seen_at o g.kept q)
         → Answers (scheme_of D) o (answer_at F q d) s n t new
-    answers-at (Reads Unread) is shows = goes-on (Reads Unread) is tt shows.1
-    answers-at (Reads ReadsHeader) is shows = goes-on (Reads ReadsHeader) is tt shows.1
-    answers-at (Reads (ReadsSlot next)) is shows = goes-on (Reads (ReadsSlot next)) is tt shows.1
-    answers-at (Reads (Fills k)) is shows = goes-on (Reads (Fills k)) is tt shows.1
     answers-at (Reads (Refusing bad)) is shows = absurd (never bad is)
-    answers-at (Loading issue) is shows = goes-on (Loading issue) is tt shows.1
-    answers-at (Migrates step) is shows = goes-on (Migrates step) is tt shows.1
     answers-at (Over Restored) is shows = restarted is
     answers-at (Over Loaded) is shows = loaded is
+    answers-at q is shows = goes-on q is tt shows.1
 
     pub boots_on : BootsOn (scheme_of D) o (answer_of F d) s n t new
     boots_on = record {
@@ -323,7 +427,7 @@ module _ {C : Type 0} (D : DesignOf C) (w : AreParts D) where
         → IfOk r (λ step. BootsOn (scheme_of D) o step s n (booted D d e s) new)
     boots-by (Ok a) is took =
         subst (λ (x : BootStep). BootsOn (scheme_of D) o x s n (booted D d e s) new) (sym is)
-        (boots_on o s n booting new d e took.steps boot state)
+        (boots_on o s n new d e booting took.steps boot state)
     boots-by (Err x) is took = tt
 
     pub boot-fails-by : (r : Result BootStep NvmError) → Took r → OnErr r (BootFails (scheme_of D) o s n new)

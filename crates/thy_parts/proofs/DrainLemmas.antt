@@ -10,7 +10,7 @@ use Rattle.thy_scheme.specs.CheckpointMarks.{CheckpointMarks}
 use Rattle.thy_scheme.specs.Scheme.{Stands}
 use Rattle.thy_scheme.specs.Calls.{Keeps, Drains, Merges, Promotes}
 use Rattle.thy_engine.specs.declared.stage.EngineStage.{EngineStage}
-use Rattle.thy_engine.specs.declared.stage.EngineStage.TheVariants.{Idle, Body, InRound, Tail}
+use Rattle.thy_engine.specs.declared.stage.EngineStage.TheVariants.{Idle, Body}
 use Rattle.thy_engine.specs.Cycles.{left_at}
 use Rattle.thy_engine.specs.Items.{ItemsOf, Resting}
 use Rattle.thy_engine.specs.Progress.{Progress, phase_of, is_under_way}
@@ -20,19 +20,16 @@ use Rattle.thy_parts.specs.Moments.{IsMoment, Carries}
 use Rattle.thy_parts.specs.Paging.{WritesOne, IsPaging}
 use Rattle.thy_parts.specs.Scheme.{scheme_of}
 use Rattle.thy_parts.specs.Sound.{IsSound}
-use Rattle.thy_parts.proofs.CarryLemmas.{drained_same}
+use Rattle.thy_parts.proofs.SameLemmas.{drained_same}
 use Rattle.thy_parts.proofs.HeldLemmas.{keeping_carried, keeps_by}
-use Rattle.thy_parts.proofs.SafeLemmas.{dram_drain_keeps, stays_as}
-use Rattle.thy_parts.proofs.SealLemmas.{idle_stage}
+use Rattle.thy_parts.proofs.SafeLemmas.{dram_drain_keeps, stays_as, idle_stage}
 use Rattle.thy_parts.proofs.SoundLemmas.{moment_at}
 
 -- no more cycles are left, if no more of the body is
 pub left_less : {C : Type 0} (F : FillingOf C) (I : ItemsOf C) (e : Progress) (q : EngineStage) (c d : C)
     → ((from : ℕ) → I.body_left d from ≤ I.body_left c from) → left_at F I e q d ≤ left_at F I e q c
-left_less F I e Idle c d less = omega arith
 left_less F I e (Body from) c d less = let body = less from in omega (arith, body)
-left_less F I e (InRound r) c d less = omega arith
-left_less F I e (Tail from) c d less = omega arith
+left_less F I e q c d less = omega arith
 
 -- the queue has one write more at most
 queued_one : (n : Device) (old now : Contents) → WritesDram n n old now → now.queued ≤ old.queued + 1

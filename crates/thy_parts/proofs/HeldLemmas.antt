@@ -6,27 +6,23 @@ use Rattle.thy_base.specs.Device.{Device}
 use Rattle.thy_boot.specs.Filling.{layout_at}
 use Rattle.thy_scheme.specs.Calls.{OpensNone, Keeps}
 use Rattle.thy_engine.specs.Cycles.{cycles_left}
-use Rattle.thy_engine.specs.Items.{Phase, Made}
+use Rattle.thy_engine.specs.Items.{Phase}
 use Rattle.thy_engine.specs.Progress.{phase_of}
 use Rattle.thy_parts.specs.Design.{DesignOf, Composed}
 use Rattle.thy_parts.specs.Holding.{is_held, holding_of}
 use Rattle.thy_parts.specs.IsDesign.{IsDesign}
-use Rattle.thy_parts.specs.Moments.{IsMoment, LeavesPages, Carries, Commits}
+use Rattle.thy_parts.specs.Moments.{IsMoment, LeavesPages, Carries}
 use Rattle.thy_parts.specs.Scheme.{scheme_of}
 
 -- ---- blocks
 
 held_of : (agrees sized down : Bool) → agrees ≡ true → sized ≡ true → down ≡ false → (agrees && (sized && not down)) ≡ true
 held_of true true false a b c = refl
-held_of false sized down a b c = cc
-held_of true false down a b c = cc
-held_of true true true a b c = cc
+held_of agrees sized down a b c = cc
 
 held_parts : (agrees sized down : Bool) → (agrees && (sized && not down)) ≡ true → (agrees ≡ true) × (sized ≡ true) × (down ≡ false)
 held_parts true true false h = (refl, refl, refl)
-held_parts true true true h = cc
-held_parts true false down h = cc
-held_parts false sized down h = cc
+held_parts agrees sized down h = cc
 
 some_held : (held : Bool) (blocks : List Block) (b : ℕ) → b < length (if held then blocks else []) → (held ≡ true) × (b < length blocks)
 some_held true blocks b l = (refl, l)
@@ -77,18 +73,6 @@ pub record Keeping {C : Type 0} (D : DesignOf C) (epoch : ℕ) (phase : Phase) (
 pub keeping_carried : {C : Type 0} (D : DesignOf C) (epoch : ℕ) (p q : Phase) (c d : C) (n m : Device) → IsMoment D p epoch c n
     → Carries D epoch p c n q d m → Keeping D epoch p c n q d m
 keeping_carried D epoch p q c d n m old on = record {
-  old = old;
-  moment = on.moment;
-  loads = on.loads;
-  free = on.free;
-  opened = on.opened;
-  owed = on.owed_later;
-  pages = on.pages;
-}
-
-pub keeping_committed : {C : Type 0} (D : DesignOf C) (epoch : ℕ) (q : Phase) (c d : C) (n m : Device) → IsMoment D Made epoch c n
-    → Commits D epoch c n q d m → Keeping D epoch Made c n q d m
-keeping_committed D epoch q c d n m old on = record {
   old = old;
   moment = on.moment;
   loads = on.loads;

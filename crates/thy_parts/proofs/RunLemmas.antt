@@ -14,7 +14,7 @@ use Rattle.thy_view.specs.Origin.{Origin}
 use Rattle.thy_view.specs.Safe.{Safe}
 use Rattle.thy_protocol.specs.Moves.{IsKeeping, Goes}
 use Rattle.thy_protocol.specs.declared.round.Round.{Round}
-use Rattle.thy_protocol.specs.declared.round.Round.TheVariants.{Write, Settle, Commit, Confirm}
+use Rattle.thy_protocol.specs.declared.round.Round.TheVariants.{Commit, Confirm}
 use Rattle.thy_protocol.specs.Round.{IsInRound}
 use Rattle.thy_protocol.proofs.KeepsLemmas.{IsKeeping-move}
 use Rattle.thy_protocol.proofs.RoundLemmas.{issued_over}
@@ -22,9 +22,9 @@ use Rattle.thy_boot.specs.Filling.{layout_at}
 use Rattle.thy_scheme.specs.CheckpointMarks.{CheckpointMarks, doubt_in}
 use Rattle.thy_scheme.specs.Scheme.{Stands}
 use Rattle.thy_scheme.specs.Laws.{IsBounded, RunHolds}
-use Rattle.thy_boot_laws.specs.Schemes.{HeldIsUp, ReadyIsUp, RunIsSound, StaysKeep}
+use Rattle.thy_boot_laws.specs.Schemes.{HeldIsUp, ReadyIsUp, StaysKeep}
 use Rattle.thy_engine.specs.declared.stage.EngineStage.{EngineStage}
-use Rattle.thy_engine.specs.declared.stage.EngineStage.TheVariants.{Idle, Body, InRound, Tail}
+use Rattle.thy_engine.specs.declared.stage.EngineStage.TheVariants.{Idle, InRound, Tail}
 use Rattle.thy_engine.specs.Cycles.{cycles_left, most_cycles}
 use Rattle.thy_engine.specs.Items.{Resting, Made}
 use Rattle.thy_engine.specs.Progress.{Progress, phase_of, layout_of, slot_blocks, Fits, is_under_way, is_applying}
@@ -38,13 +38,12 @@ use Rattle.thy_parts.specs.Scheme.{scheme_of}
 use Rattle.thy_parts.specs.Sound.{layout_for, IsHeld, HasState, HasCheckpoints, IsSound}
 use Rattle.thy_parts.specs.Stays.{RestsOn, Stays}
 use Rattle.thy_parts.specs.Storing.{SealedStays, SlotStays, SlotStaysAt, StaysAt, StaysOver}
-use Rattle.thy_parts.proofs.CarryLemmas.{drained_same}
+use Rattle.thy_parts.proofs.SameLemmas.{drained_same}
 use Rattle.thy_parts.proofs.DrainLemmas.{left_less, drained_keeps}
 use Rattle.thy_parts.proofs.HeldLemmas.{held_block, moment_held}
-use Rattle.thy_parts.proofs.SafeLemmas.{makes_over, safe_by, doubt_is, same_reads_keep, sound_is_safe}
-use Rattle.thy_parts.proofs.SealLemmas.{idle_stage}
+use Rattle.thy_parts.proofs.SafeLemmas.{makes_over, safe_by, doubt_is, same_reads_keep, sound_is_safe, idle_stage}
 use Rattle.thy_parts.proofs.SlotLemmas.{slot_reads}
-use Rattle.thy_parts.proofs.SoundLemmas.{can}
+use Rattle.thy_parts.proofs.SoundLemmas.{can, made_with}
 use Rattle.thy_parts.proofs.WaitLemmas.{rests_idle}
 
 -- ---- what is under way
@@ -52,15 +51,11 @@ use Rattle.thy_parts.proofs.WaitLemmas.{rests_idle}
 -- a checkpoint is made, or what follows its commit is written, and never both
 way_of : (q : EngineStage) → is_under_way q ≡ (is_sealing q || is_applying q)
 way_of Idle = refl
-way_of (Body from) = refl
-way_of (InRound r) = refl
-way_of (Tail from) = refl
+way_of q = refl
 
 not_sealing : (q : EngineStage) → is_applying q ≡ true → is_sealing q ≡ false
-not_sealing Idle h = cc
-not_sealing (Body from) h = cc
-not_sealing (InRound r) h = cc
 not_sealing (Tail from) h = refl
+not_sealing q h = cc
 
 -- the hart runs while nothing is under way, or meanwhile
 free_of : (overlaps way : Bool) → (overlaps || not way) ≡ true → (overlaps ≡ true) ⊎ (way ≡ false)
@@ -70,21 +65,18 @@ free_of false false h = inr refl
 
 ready_of : (promoting down : Bool) → promoting ≡ false → down ≡ false → (not promoting && not down) ≡ true
 ready_of false false h k = refl
-ready_of true down h k = cc
-ready_of false true h k = cc
+ready_of promoting down h k = cc
 
 ready_parts : (promoting down : Bool) → (not promoting && not down) ≡ true → (promoting ≡ false) × (down ≡ false)
 ready_parts false false h = (refl, refl)
-ready_parts true down h = cc
-ready_parts false true h = cc
+ready_parts promoting down h = cc
 
 -- while a checkpoint is made, memory as it was sealed stays
 sealed_at : {C : Type 0} (D : DesignOf C) (c : C) (n : Device) (d : C) (m : Device) (q : EngineStage) → is_sealing q ≡ true
     → SealedStays D (phase_of q) c n d m → D.parts.sealed d m ≡ D.parts.sealed c n
 sealed_at D c n d m Idle way stays = cc
-sealed_at D c n d m (Body from) way stays = stays
-sealed_at D c n d m (InRound r) way stays = stays
 sealed_at D c n d m (Tail from) way stays = cc
+sealed_at D c n d m q way stays = stays
 
 -- places that are spared of two lists are spared of both
 spares_both : (a b : List ℕ) (n m : Device) → Spares (1 ∷ a) n m → Spares (1 ∷ b) n m → Spares (1 ∷ (a ++ b)) n m
@@ -159,8 +151,8 @@ module _ {C : Type 0} (D : DesignOf C) (w : AreParts D) where
           free = subst (λ (q : Parameters). D.parts.free s.control ≤ D.parts.most_free q) p few.free;
         }
 
-    pub run-holds : RunHolds (scheme_of D) o k s n
-    run-holds =
+    pub run_is_sound : RunHolds (scheme_of D) o k s n
+    run_is_sound =
         let p : D.filling.p s.control ≡ o.geometry = sound.held.geometry in
         record {
           of_geometry = record { same_p = p; sound = sound.held.moment.sound; room = sound.held.room };
@@ -189,9 +181,6 @@ module _ {C : Type 0} (D : DesignOf C) (w : AreParts D) where
           drained_owes = λ some. (w.design.same_reads (phase_of s.engine.stage) s.engine.epoch s.control n (drained n) sound.held.moment (drained_same n)).owed;
         }
 
-  pub run_is_sound : RunIsSound (scheme_of D)
-  run_is_sound o k s n stands = run-holds o k s n stands
-
   -- ---- what loads and stores keep
 
   module _ (o : Origin) (k : CheckpointMarks) (s : Composed C) (n : Device) (t : Composed C) (m : Device) (h : IsSound D o k s n)
@@ -209,10 +198,8 @@ module _ {C : Type 0} (D : DesignOf C) (w : AreParts D) where
         (over.kept g.before h.checkpoints.told)
 
     makes_at : (q : EngineStage) → is_settled q ≡ true → D.parts.makes s.engine.epoch s.control g.next → MakesAt D (phase_of q) s.engine.epoch s.control g.next
-    makes_at Idle settled made = cc
-    makes_at (Body from) settled made = cc
     makes_at (InRound r) settled made = made
-    makes_at (Tail from) settled made = cc
+    makes_at q settled made = cc
 
     spares_made : is_sealing s.engine.stage ≡ true → is_settled s.engine.stage ≡ true → Spares (1 ∷ looked_by l g.next) n m
     spares_made way settled =
@@ -220,13 +207,9 @@ module _ {C : Type 0} (D : DesignOf C) (w : AreParts D) where
         (over.made g.next (makes_at s.engine.stage settled ((h.checkpoints.made way).makes settled)))
 
     spares_by : (q : EngineStage) → s.engine.stage ≡ q → Spares (guarded (looked_by l) (saved_at q g)) n m
-    spares_by Idle is = spares_kept
-    spares_by (Body from) is = spares_kept
-    spares_by (InRound (Write j)) is = spares_kept
-    spares_by (InRound Settle) is = spares_kept
     spares_by (InRound Commit) is = spares_both (looked_by l g.before) (looked_by l g.next) n m spares_kept (spares_made (ap is_sealing is) (ap is_settled is))
     spares_by (InRound Confirm) is = spares_both (looked_by l g.before) (looked_by l g.next) n m spares_kept (spares_made (ap is_sealing is) (ap is_settled is))
-    spares_by (Tail from) is = spares_kept
+    spares_by q is = spares_kept
 
     keeping_then : IsKeeping o l (standing_at s.engine.stage m g)
     keeping_then =
@@ -263,13 +246,11 @@ module _ {C : Type 0} (D : DesignOf C) (w : AreParts D) where
 
       written_then : (q : EngineStage) → s.engine.stage ≡ q → ((r : Round) → q ≡ InRound r → IsInRound (slot_blocks D.filling s.engine) r)
           → HasWrittenBefore D q s.engine s.control n → HasWrittenBefore D q s.engine t.control m
-      written_then Idle is inside b = tt
-      written_then (Body from) is inside b = tt
       written_then (InRound r) is inside b =
           issued_over (layout_of D.filling s.engine).image_blocks (parts_at D s.engine s.control) (parts_at D s.engine t.control) (commit_of s.engine.epoch) r n m
           (D.parts.sealed s.control n) (D.parts.sealed t.control m) refl (inside r refl) (λ j few h. slot_then (InRound r) is refl refl j few h)
           (λ read. record { inside = let low = read.inside in omega (arith, low, as_long); newest_is = up.commit ∙ read.newest_is }) b
-      written_then (Tail from) is inside b = tt
+      written_then q is inside b = tt
 
       fits_then : Fits D.filling D.items s.engine t.control
       fits_then = record { same_p = same_p ∙ h.held.fits.same_p; inside = h.held.fits.inside; stands = up.moment.stands }
@@ -277,14 +258,12 @@ module _ {C : Type 0} (D : DesignOf C) (w : AreParts D) where
       rests_then : (storeless : Bool) → t.storeless ≡ storeless → D.parts.rests t.storeless t.sealed_storeless (phase_of s.engine.stage) t.control
       rests_then true is =
           let on : RestsOn D s t = stays.rests is in
-          subst (λ (x : Bool). D.parts.rests x t.sealed_storeless (phase_of s.engine.stage) t.control) (sym is)
-          (subst (λ (x : Bool). D.parts.rests true x (phase_of s.engine.stage) t.control) (sym stays.sealed_storeless)
+          coe 1 0 (i. D.parts.rests (is i) (stays.sealed_storeless i) (phase_of s.engine.stage) t.control)
           (w.storing.still_rests s.sealed_storeless (phase_of s.engine.stage) s.control t.control on.still
-          (subst (λ (x : Bool). D.parts.rests x s.sealed_storeless (phase_of s.engine.stage) s.control) on.before h.rests)))
+          (subst (λ (x : Bool). D.parts.rests x s.sealed_storeless (phase_of s.engine.stage) s.control) on.before h.rests))
       rests_then false is =
-          subst (λ (x : Bool). D.parts.rests x t.sealed_storeless (phase_of s.engine.stage) t.control) (sym is)
-          (subst (λ (x : Bool). D.parts.rests false x (phase_of s.engine.stage) t.control) (sym stays.sealed_storeless)
-          (up.rests s.sealed_storeless (rests_false s.storeless h.rests)))
+          coe 1 0 (i. D.parts.rests (is i) (stays.sealed_storeless i) (phase_of s.engine.stage) t.control)
+          (up.rests s.sealed_storeless (rests_false s.storeless h.rests))
         where
           rests_false : (x : Bool) → D.parts.rests x s.sealed_storeless (phase_of s.engine.stage) s.control
               → D.parts.rests false s.sealed_storeless (phase_of s.engine.stage) s.control
@@ -310,18 +289,9 @@ module _ {C : Type 0} (D : DesignOf C) (w : AreParts D) where
           written = written_then s.engine.stage refl h.held.fits.inside h.checkpoints.written;
           made = λ way.
               let old = h.checkpoints.made way in
-              record {
-                mark = old.mark;
-                sealed = old.sealed;
-                of_epoch = old.of_epoch;
-                small = old.small;
-                recordable = old.recordable;
-                state_is = ap (state_from o.geometry s.engine.cpu) (sealed_at D s.control n t.control m s.engine.stage way up.sealed) ∙ old.state_is;
-                counted = old.counted;
-                commit = old.commit;
-                makes = λ settled.
-                    makes_over D s.engine.epoch s.control t.control h.images.next s.engine.stage settled (up.makes h.images.next) (old.makes settled);
-              };
+              made_with D o s.engine s.engine.stage s.control t.control n m h.images h.images.next old
+              (sealed_at D s.control n t.control m s.engine.stage way up.sealed)
+              (λ is. (old.commit is, makes_over D s.engine.epoch s.control t.control h.images.next s.engine.stage is (up.makes h.images.next) (old.makes is)));
         });
         way = ap (λ (x : Progress). is_sealing x.stage) stays.engine ∙ h.way;
         doubt = h.doubt ∙ sym (ap (λ (x : Progress). is_confirming x.stage) stays.engine);

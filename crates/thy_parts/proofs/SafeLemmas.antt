@@ -1,40 +1,120 @@
--- Whatever a cut leaves is safe, also of an item that failed; and what holds stays over calls between the engine's.
-use Rattle.std.proofs.Common.{◌≡◌, ◌⊎◌, ℕ, nat_lt, Bool, true, false, if◌then◌else◌, List, ◌∷◌, length, Option, Some, None, refl, sym, ◌∙◌, ap, subst, inl, inr, arith}
-use Rattle.thy_base.specs.declared.block.Block.{Block}
+-- Whatever a cut leaves is safe, also of an item that failed; a seal makes the mark that the machine is at the sealed one.
+use Rattle.std.proofs.Common.{◌≡◌, ℕ, ◌+◌, false, Option, Some, None, refl, sym, ◌∙◌, ap, subst, ◌⊎◌, nat_lt, Bool, true, if◌then◌else◌, List, ◌∷◌, length, inl, inr, arith}
 use Rattle.thy_base.specs.declared.mark.Mark.{Mark}
-use Rattle.thy_base.specs.Device.{Device, newest, IsFramed, HoldsNoMore}
+use Rattle.thy_base.specs.Device.{Device, block_at, newest, IsFramed, HoldsNoMore}
+use Rattle.thy_base.specs.declared.block.Block.{Block}
 use Rattle.thy_base.specs.Places.{record_blocks}
-use Rattle.thy_boot.specs.Filling.{FillingOf}
-use Rattle.thy_crash.specs.Saved.{Saved, Kept, guarded}
+use Rattle.thy_crash.specs.Saved.{Kept, Saved, guarded}
 use Rattle.thy_crash.proofs.SparesLemmas.{Spares-no_more}
+use Rattle.thy_isa.specs.declared.state.CpuState.{CpuState}
 use Rattle.thy_isa.specs.OnBlocks.{state_from}
-use Rattle.thy_layout.specs.Commit.{commit_of}
+use Rattle.thy_layout.specs.Commit.{epoch_of, commit_of}
+use Rattle.thy_layout.specs.Layout.{IsWhole, Layout, header_bad, looked_by, reading}
+use Rattle.thy_layout.proofs.LayoutLemmas.{decode_by-whole_back}
 use Rattle.thy_layout.specs.declared.engine_step.EngineStep.{EngineStep}
 use Rattle.thy_layout.specs.declared.engine_step.EngineStep.TheVariants.{Copied, PageBlock, StateBlock, TableBlock}
-use Rattle.thy_layout.specs.Layout.{Layout, header_bad, looked_by, reading}
+use Rattle.thy_view.specs.Origin.{Origin, at}
+use Rattle.thy_view.specs.Safe.{ceiling, Safe}
 use Rattle.thy_view.specs.Action.{FailsTo}
-use Rattle.thy_view.specs.Origin.{Origin}
-use Rattle.thy_view.specs.Safe.{Safe}
-use Rattle.thy_protocol.specs.Issuing.{AreIssued}
-use Rattle.thy_protocol.specs.Keeps.{doubt_in as doubt_of_saved}
-use Rattle.thy_protocol.specs.Moves.{standing, IsKeeping, Goes, LeavesAlone}
-use Rattle.thy_protocol.specs.declared.round.Round.TheVariants.{Write, Settle, Commit, Confirm}
+use Rattle.thy_protocol.specs.Keeps.{Tells, doubt_in as doubt_of_saved}
+use Rattle.thy_protocol.specs.Moves.{standing, IsKeeping, Seals, Goes, LeavesAlone}
 use Rattle.thy_protocol.proofs.KeepsLemmas.{IsKeeping-move, Safe-kept, Spares-failed_action}
+use Rattle.thy_protocol.specs.Issuing.{AreIssued}
+use Rattle.thy_protocol.specs.declared.round.Round.TheVariants.{Write, Settle, Commit, Confirm}
 use Rattle.thy_protocol.proofs.RoundLemmas.{issued_over}
 use Rattle.thy_scheme.specs.CheckpointMarks.{CheckpointMarks, doubt_in, marks_after_fault}
+use Rattle.thy_boot.specs.Filling.{FillingOf}
 use Rattle.thy_engine.specs.declared.stage.EngineStage.{EngineStage}
 use Rattle.thy_engine.specs.declared.stage.EngineStage.TheVariants.{Idle, Body, InRound, Tail}
-use Rattle.thy_engine.specs.Items.{ItemsOf, Made}
-use Rattle.thy_engine.specs.Progress.{Progress, phase_of, layout_of, Fits, Item, BodyItem, body_or_slot, tail_or_release, item, action_of, report, is_under_way}
+use Rattle.thy_engine.specs.Items.{Resting, ItemsOf, Made}
+use Rattle.thy_engine.specs.Progress.{phase_of, is_under_way, Progress, layout_of, Fits, Item, BodyItem, body_or_slot, tail_or_release, item, action_of, report}
 use Rattle.thy_parts.specs.Checkpoints.{Checkpoints, is_sealing, is_settled, is_confirming, saved_at, saved_failed, standing_at, HasWrittenSlot, HasWrittenBefore}
 use Rattle.thy_parts.specs.Design.{DesignOf, Composed}
 use Rattle.thy_parts.specs.IsDesign.{IsDesign}
-use Rattle.thy_parts.specs.Laws.{SameReadsKeep, DramDrainKeeps, FailedItemsAreSafe, SoundIsSafe}
-use Rattle.thy_parts.specs.Moments.{IsMoment, MakesAt, Carries, ReadsSame, parts_at}
-use Rattle.thy_parts.specs.Sound.{layout_for, IsHeld, HasState, HasCheckpoints, IsSound}
-use Rattle.thy_parts.proofs.CarryLemmas.{issued_same}
+use Rattle.thy_parts.specs.Laws.{sealed, IsNext, SameReadsKeep, FailedItemsAreSafe, SoundIsSafe}
+use Rattle.thy_parts.specs.Moments.{IsMoment, SealsTo, MakesAt, Carries, ReadsSame, parts_at}
+use Rattle.thy_parts.specs.Sound.{layout_for, IsSound, IsHeld, HasState, HasCheckpoints}
+use Rattle.thy_parts.proofs.SoundLemmas.{made_with, moment_at, told_at, keeping_at, can, not_looked, some_image, at_round, at_first, keeping_failed}
+use Rattle.thy_parts.proofs.SameLemmas.{issued_same}
 use Rattle.thy_parts.proofs.SlotLemmas.{placed, slot_as}
-use Rattle.thy_parts.proofs.SoundLemmas.{can, moment_at, told_at, not_looked, some_image, at_round, at_first, keeping_failed}
+
+pub idle_stage : (q : EngineStage) → is_under_way q ≡ false → q ≡ Idle
+idle_stage Idle h = refl
+idle_stage q h = cc
+
+module _ {C : Type 0} (D : DesignOf C) (w : IsDesign D) (o : Origin) (k : CheckpointMarks) (cpu : CpuState) (epoch : ℕ) (m : Mark) (s : Composed C) (n : Device)
+    (h : IsSound D o k s n) (idle : is_under_way s.engine.stage ≡ false)
+    (whole : D.parts.pages.promoting s.control ≡ false) (bare : D.parts.pages.overlaid s.control ≡ false) (t : IsNext D o k cpu epoch m s n) where
+  abbrev sc : C
+  sc = s.control
+
+  abbrev sg : Checkpoints
+  sg = h.images
+
+  nothing : s.engine.stage ≡ Idle
+  nothing = idle_stage s.engine.stage idle
+
+  moment : IsMoment D Resting s.engine.epoch sc n
+  moment = moment_at D w o k s n h Idle nothing
+
+  to : SealsTo D s.engine.epoch epoch sc (D.parts.seal sc) n
+  to = w.seals s.engine.epoch epoch sc n moment whole bare
+
+  -- one image is kept, and no mark is sealed
+  keeping_idle : IsKeeping o (layout_for D o) (standing n (Kept sg.before) sg.kept None)
+  keeping_idle =
+      subst (λ (x : Option Mark). IsKeeping o (layout_for D o) (standing n (Kept sg.before) sg.kept x)) (h.checkpoints.sealed ∙ t.unsealed)
+      (keeping_at D w o k s n h Idle nothing)
+
+  -- the image that is kept is of the committed epoch
+  kept_epoch : epoch_of (block_at sg.before 1) ≡ k.done.epoch
+  kept_epoch =
+      let told : Tells o (layout_for D o) sg.before (Some k.done)
+      = subst (λ (x : Option Mark). Tells o (layout_for D o) sg.before x) h.checkpoints.kept keeping_idle.told in
+      let whole : IsWhole (layout_for D o) ceiling sg.before k.done.epoch (at o k.done.count)
+      = decode_by-whole_back (layout_for D o) ceiling sg.before k.done.epoch (at o k.done.count) told.decodes in
+      whole.of_epoch
+
+  pub seal_keeps_sound : IsSound D o (record k { sealed = Some m }) (sealed D cpu epoch s) n
+  seal_keeps_sound = record {
+    held = record {
+      geometry = to.same_p ∙ h.held.geometry;
+      moment = to.moment;
+      fits = record { same_p = to.same_p ∙ h.held.fits.same_p; inside = λ j is. cc; stands = to.moment.stands };
+      regs = t.recordable.regs_length;
+      room = ap (λ d. d.room) to.dram ∙ h.held.room;
+    };
+    images = record sg { sealed = Some m };
+    checkpoints = record {
+      kept = h.checkpoints.kept;
+      stated = h.checkpoints.stated;
+      sealed = refl;
+      keeping = IsKeeping-move o (layout_for D o) _ _ (Seals n sg.before sg.kept m) keeping_idle;
+      told = to.keeps sg.before (t.next ∙ ap (λ x. x + 1) (sym kept_epoch)) (told_at D w o k s n h Idle nothing);
+      written = tt;
+      made = λ way. record {
+        mark = m;
+        sealed = refl;
+        of_epoch = t.of_epoch;
+        small = t.small;
+        recordable = t.recordable;
+        state_is = ap (state_from o.geometry cpu) to.sealed ∙ t.state;
+        counted = t.counted;
+        commit = λ settled. cc;
+        makes = λ settled. cc;
+      };
+    };
+    way = refl;
+    doubt = t.unwritten;
+    header = h.header;
+    committed = record {
+      cpu = h.committed.cpu;
+      state =
+          ap (state_from o.geometry h.committed.cpu) (to.committed ∙ sym (ap (λ q. D.parts.committed (phase_of q) sc n) nothing))
+          ∙ h.committed.state;
+    };
+    rests = to.rests s.storeless s.sealed_storeless (subst (λ q. D.parts.rests s.storeless s.sealed_storeless (phase_of q) sc) nothing h.rests);
+  }
 
 -- ---- what a cut leaves
 
@@ -44,13 +124,8 @@ module _ (k : CheckpointMarks) (g : Checkpoints) (sealed : g.sealed ≡ k.sealed
 
   -- the mark in doubt, by the images that a cut may leave and by the marks
   pub doubt_is : (q : EngineStage) → k.written ≡ is_confirming q → doubt_of_saved (saved_at q g) g.sealed ≡ doubt_in k
-  doubt_is Idle written = none_by written
-  doubt_is (Body from) written = none_by written
-  doubt_is (InRound (Write j)) written = none_by written
-  doubt_is (InRound Settle) written = none_by written
-  doubt_is (InRound Commit) written = none_by written
   doubt_is (InRound Confirm) written = sealed ∙ sym (ap (λ (b : Bool). if b then k.sealed else None) written)
-  doubt_is (Tail from) written = none_by written
+  doubt_is q written = none_by written
 
 module _ {C : Type 0} (D : DesignOf C) (o : Origin) where
   pub safe_by : (done : Mark) (saved : Saved) (g : Checkpoints) (n : Device) (doubt : Option Mark) → g.kept ≡ Some done
@@ -71,10 +146,8 @@ sound_is_safe D o k s n h =
 -- what an image has that was made stays, by the stage
 pub makes_over : {C : Type 0} (D : DesignOf C) (epoch : ℕ) (c d : C) (g : List Block) (q : EngineStage) → is_settled q ≡ true
     → (MakesAt D (phase_of q) epoch c g → MakesAt D (phase_of q) epoch d g) → D.parts.makes epoch c g → D.parts.makes epoch d g
-makes_over D epoch c d g Idle settled over made = cc
-makes_over D epoch c d g (Body from) settled over made = cc
 makes_over D epoch c d g (InRound r) settled over made = over made
-makes_over D epoch c d g (Tail from) settled over made = cc
+makes_over D epoch c d g q settled over made = cc
 
 module _ {C : Type 0} (D : DesignOf C) (w : IsDesign D) (o : Origin) (k : CheckpointMarks) (s : Composed C) (n : Device) (h : IsSound D o k s n) where
   -- a call that leaves the engine alone, and all that holds
@@ -101,17 +174,8 @@ module _ {C : Type 0} (D : DesignOf C) (w : IsDesign D) (o : Origin) (k : Checkp
       written = written;
       made = λ way.
           let old = h.checkpoints.made way in
-          record {
-            mark = old.mark;
-            sealed = old.sealed;
-            of_epoch = old.of_epoch;
-            small = old.small;
-            recordable = old.recordable;
-            state_is = ap (state_from o.geometry s.engine.cpu) on.sealed ∙ old.state_is;
-            counted = old.counted;
-            commit = old.commit;
-            makes = λ settled. makes_over D s.engine.epoch s.control t.control h.images.next s.engine.stage settled (on.makes h.images.next) (old.makes settled);
-          };
+          made_with D o s.engine s.engine.stage s.control t.control n m h.images h.images.next old on.sealed
+          (λ is. (old.commit is, makes_over D s.engine.epoch s.control t.control h.images.next s.engine.stage is (on.makes h.images.next) (old.makes is)));
     });
     way = ap (λ (x : Progress). is_sealing x.stage) engine ∙ h.way;
     doubt = h.doubt ∙ sym (ap (λ (x : Progress). is_confirming x.stage) engine);
@@ -144,13 +208,11 @@ module _ {C : Type 0} (D : DesignOf C) (w : IsDesign D) (o : Origin) (k : Checkp
         (placed D w s.engine s.control n moment (can D w o k s n h (ap is_sealing is ∙ way))).placed r written)
 
     written_over : (q : EngineStage) → s.engine.stage ≡ q → HasWrittenBefore D q s.engine s.control n → HasWrittenBefore D q s.engine s.control m
-    written_over Idle is b = tt
-    written_over (Body from) is b = tt
     written_over (InRound q) is b =
         issued_over (layout_of D.filling s.engine).image_blocks (parts_at D s.engine s.control) (parts_at D s.engine s.control) (commit_of s.engine.epoch) q n m
         (D.parts.sealed s.control n) (D.parts.sealed s.control m) refl (h.held.fits.inside q is) (λ j few written. slot_over (InRound q) is refl refl j written)
         (λ read. record { inside = omega (arith, read.inside, r.as_long); newest_is = r.reads 1 read.inside ∙ read.newest_is }) b
-    written_over (Tail from) is b = tt
+    written_over q is b = tt
 
     reads_stay : IsSound D o k s m
     reads_stay =
@@ -163,13 +225,11 @@ module _ {C : Type 0} (D : DesignOf C) (w : IsDesign D) (o : Origin) (k : Checkp
 
   module _ (d : C) (rest : (i : ℕ) → D.items.rest d i ≡ D.items.rest s.control i) (same : D.parts.sealed d n ≡ D.parts.sealed s.control n) where
     pub written_as : (q : EngineStage) → s.engine.stage ≡ q → HasWrittenBefore D q s.engine s.control n → HasWrittenBefore D q s.engine d n
-    written_as Idle is b = tt
-    written_as (Body from) is b = tt
     written_as (InRound q) is b =
         issued_over (layout_of D.filling s.engine).image_blocks (parts_at D s.engine s.control) (parts_at D s.engine d) (commit_of s.engine.epoch) q n n
         (D.parts.sealed s.control n) (D.parts.sealed d n) refl (h.held.fits.inside q is) (λ j few written. slot_as D s.engine s.control d n j rest same written)
         (λ read. read) b
-    written_as (Tail from) is b = tt
+    written_as q is b = tt
 
   -- such a controller keeps the checkpoints
   pub stays_as : (d : C) → Carries D s.engine.epoch (phase_of s.engine.stage) s.control n (phase_of s.engine.stage) d n
@@ -180,15 +240,12 @@ module _ {C : Type 0} (D : DesignOf C) (w : IsDesign D) (o : Origin) (k : Checkp
       h.checkpoints.keeping refl (written_as d rest on.sealed s.engine.stage refl h.checkpoints.written) (on.rests s.storeless s.sealed_storeless h.rests)
 
   -- once a write of the DRAM landed
-  dram_stays : IsSound D o k (record s { control = D.filling.drained s.control }) n
-  dram_stays =
+  pub dram_drain_keeps : IsSound D o k (record s { control = D.filling.drained s.control }) n
+  dram_drain_keeps =
       stays_as (D.filling.drained s.control) (w.dram_drained (phase_of s.engine.stage) s.engine.epoch s.control n h.held.moment) (w.drained_rest s.control)
 
 pub same_reads_keep : {C : Type 0} (D : DesignOf C) → IsDesign D → SameReadsKeep D
 same_reads_keep D w o k s n m h r = reads_stay D w o k s n h m r
-
-pub dram_drain_keeps : {C : Type 0} (D : DesignOf C) → IsDesign D → DramDrainKeeps D
-dram_drain_keeps D w o k s n h = dram_stays D w o k s n h
 
 -- ---- items that fail
 

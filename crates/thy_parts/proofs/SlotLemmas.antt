@@ -1,27 +1,26 @@
 -- The slot of the checkpoint under way: where it is, what it says, and how it is written.
-use Rattle.std.proofs.Common.{◌≡◌, ℕ, ◌-◌, ◌^◌, ◌<◌, ◌≤◌, nat_lt, Bool, true, if◌then◌else◌, List, length, map, Option, None, sym, ◌∙◌, ap, subst, arith}
-use Rattle.std.proofs.lemmas.Bool.{lt-ltb}
-use Rattle.std.proofs.lemmas.List.FromFn.{get_or-map-range_with_len}
+use Rattle.std.proofs.Common.{◌≡◌, ◌==◌, ◌||◌, ℕ, ◌+◌, ◌<◌, ◌≤◌, true, List, map, Option, Some, None, refl, ap, subst, ◌-◌, ◌^◌, nat_lt, Bool, if◌then◌else◌, length, sym, ◌∙◌, arith}
+use Rattle.std.proofs.lemmas.Bool.{eq-eqb, lt-ltb}
 use Rattle.std.specs.List.{range_with_len}
-use Rattle.std.specs.Option.{option_or}
+use Rattle.std.proofs.lemmas.List.FromFn.{get_or-map-range_with_len}
 use Rattle.thy_base.specs.declared.block.Block.{Block}
 use Rattle.thy_base.specs.Device.{Device, block_at, newest, zero_block}
 use Rattle.thy_base.specs.Geometry.{IsInRange, console_room}
 use Rattle.thy_base.specs.Places.{record_blocks}
+use Rattle.thy_base.proofs.BasicLemmas.{all_none}
 use Rattle.thy_crash.specs.Saved.{IsIssued, next_image}
 use Rattle.thy_isa.specs.OnBlocks.{state_from}
-use Rattle.thy_layout.specs.declared.bad_image.BadImage.{BadImage}
-use Rattle.thy_layout.specs.AreLayouts.{Fits as SlotFits}
+use Rattle.thy_layout.specs.AreLayouts.{HasSlot, HasPlaces, Fits as SlotFits}
+use Rattle.thy_layout.specs.Layout.{Layout, is_length, is_long, memory_places, header_bad, commit_bad, state_by, looked_by, slot_in, decode_by}
+use Rattle.thy_layout.proofs.PlacesLemmas.{memory_place_of}
 use Rattle.thy_layout.specs.Commit.{commit_of}
 use Rattle.thy_layout.specs.Cpu.{cpu_block_of, cpu_of_record}
 use Rattle.thy_layout.specs.Decoded.{At}
 use Rattle.thy_layout.proofs.AskingLemmas.{map-alike}
-use Rattle.thy_layout.specs.Layout.{Layout, memory_places, header_bad, commit_bad, state_by, looked_by, slot_in, decode_by}
 use Rattle.thy_layout.proofs.ReadBackLemmas.{epoch_of-commit_of, commit_fault-commit_of, is_zero-commit_of, FitsRecord-recordable, cpu_back}
 use Rattle.thy_view.specs.Safe.{ceiling}
-use Rattle.thy_protocol.specs.Issuing.{ArePartsOf, AreIssued, IsCheckpoint}
+use Rattle.thy_protocol.specs.Issuing.{CheckpointParts, ArePartsOf, AreIssued, IsCheckpoint}
 use Rattle.thy_protocol.proofs.IssuingLemmas.{issuing_begins, issued_is_checkpoint}
-use Rattle.thy_parts.proofs.PlacedLemmas.{parts_placed}
 use Rattle.thy_boot.specs.Filling.{layout_at}
 use Rattle.thy_engine.specs.Items.{Made}
 use Rattle.thy_engine.specs.Progress.{Progress, layout_of, slot_blocks, slot_block, slot_place}
@@ -30,9 +29,46 @@ use Rattle.thy_parts.specs.Design.{DesignOf}
 use Rattle.thy_parts.specs.IsDesign.{IsDesign, CanRecord}
 use Rattle.thy_parts.specs.Moments.{IsMoment, slot_list, parts_at}
 
--- no fault of three
-no_fault : (a b c : Option BadImage) → a ≡ None → b ≡ None → c ≡ None → option_or a (option_or b c) ≡ None
-no_fault a b c x y z = ap (λ t. option_or t (option_or b c)) x ∙ ap (λ t. option_or t c) y ∙ z
+-- an image of the layout's own length is long enough, whatever its commit block
+long_by : (blocks : ℕ) (older : Option ℕ) → is_length blocks older blocks ≡ true
+long_by blocks None = eq-eqb blocks blocks refl
+long_by blocks (Some n) = ap (λ t. t || blocks == n) (eq-eqb blocks blocks refl)
+
+pub is_long-own : (l : Layout) (commit : Block) → is_long l commit l.image_blocks ≡ true
+is_long-own l commit = long_by l.image_blocks (l.older_blocks commit)
+
+-- the parts of a checkpoint whose slot has these blocks
+abbrev pub parts_in : Layout → Block → (ℕ → Block) → CheckpointParts
+parts_in l commit slot = record {
+  slot_place = l.slot_place commit;
+  slot_blocks = l.slot_blocks commit;
+  slot = slot;
+  memory = memory_places l commit (map slot (range_with_len 0 (l.slot_blocks commit)));
+}
+
+pub parts_placed : (l : Layout) (commit : Block) (slot : ℕ → Block)
+    → HasSlot l commit → HasPlaces l commit (map slot (range_with_len 0 (l.slot_blocks commit)))
+    → ArePartsOf l commit (parts_in l commit slot)
+parts_placed l commit slot has places =
+    let blocks : List Block = map slot (range_with_len 0 (l.slot_blocks commit)) in
+    record {
+      placed = record {
+        slot_behind = has.behind;
+        slot_inside = has.inside l.image_blocks (is_long-own l commit);
+        memory_behind = λ x inside.
+            let at = memory_place_of l commit blocks x inside in
+            subst (λ y. 2 ≤ y) at.2 (places.behind at.0 at.1);
+        memory_inside = λ x inside.
+            let at = memory_place_of l commit blocks x inside in
+            subst (λ y. y < l.image_blocks) at.2 (places.inside at.0 l.image_blocks at.1 (is_long-own l commit));
+        apart = λ k below inside.
+            let at = memory_place_of l commit blocks (l.slot_place commit + k) inside in
+            places.apart at.0 k at.1 below at.2;
+      };
+      slot_place = refl;
+      slot_blocks = refl;
+      memory = refl;
+    }
 
 -- with another controller whose slot has the same blocks, as much of it is written
 pub slot_as : {C : Type 0} (D : DesignOf C) (e : Progress) (c d : C) (n : Device) (j : ℕ) → ((i : ℕ) → D.items.rest d i ≡ D.items.rest c i)
@@ -138,7 +174,7 @@ module _ {C : Type 0} (D : DesignOf C) (w : IsDesign D) (e : Progress) (c : C) (
     whole : IsCheckpoint (layout_of D.filling e) ceiling n (commit_of e.epoch) (parts_at D e c) (D.parts.sealed c n)
     whole =
         issued_is_checkpoint (layout_of D.filling e) ceiling n (commit_of e.epoch) (parts_at D e c) (D.parts.sealed c n) placed written (is_zero-commit_of e.epoch)
-        (no_fault (header_bad (layout_of D.filling e) (newest n 0) true) (commit_bad ceiling (newest n 0) (commit_of e.epoch))
+        (all_none (header_bad (layout_of D.filling e) (newest n 0) true) (commit_bad ceiling (newest n 0) (commit_of e.epoch))
         ((layout_of D.filling e).slot_bad ceiling (commit_of e.epoch) (slot_list D e c)) header
         (commit_fault-commit_of (newest n 0) e.epoch ceiling can.small (omega arith)) (w.slot_fits e c n moment can))
 

@@ -34,7 +34,7 @@ use Rattle.thy_protocol.specs.Round.{IsInRound, round_action, next_round, is_wri
 use Rattle.thy_protocol.specs.Rounds.{saved_in, saved_after_fault, made_after, standing_then, MayTake, AreIssuedBefore, AreIssuedThen}
 use Rattle.thy_protocol.proofs.KeepsLemmas.{IsKeeping-move}
 use Rattle.thy_protocol.proofs.RoundLemmas.{next_by, rounds_move, failed_rounds_move, rounds_issue}
-use Rattle.thy_parts.proofs.PlacedLemmas.{is_long-own}
+use Rattle.thy_parts.proofs.SlotLemmas.{is_long-own, placed, slot_begins, next_decodes, next_issued, next_slot}
 use Rattle.thy_scheme.specs.CheckpointMarks.{CheckpointMarks, only, marks_after}
 use Rattle.thy_engine.specs.declared.stage.EngineStage.{EngineStage}
 use Rattle.thy_engine.specs.declared.stage.EngineStage.TheVariants.{Idle, Body, InRound, Tail}
@@ -47,8 +47,7 @@ use Rattle.thy_parts.specs.IsDesign.{IsDesign, CanRecord, IsSpared}
 use Rattle.thy_parts.specs.Laws.{ItemsKeepSound}
 use Rattle.thy_parts.specs.Moments.{IsMoment, Carries, Commits, parts_at}
 use Rattle.thy_parts.specs.Sound.{layout_for, IsSound}
-use Rattle.thy_parts.proofs.CarryLemmas.{Carries-both, Carries-same, settled_same}
-use Rattle.thy_parts.proofs.SlotLemmas.{placed, slot_begins, next_decodes, next_issued, next_slot}
+use Rattle.thy_parts.proofs.SameLemmas.{Carries-both, Carries-same, settled_same}
 
 -- the marks stay with a step that writes a block
 marks_of_block : (k : CheckpointMarks) (b : Bool) → marks_after (if b then StateBlock else TableBlock) k ≡ k
@@ -63,9 +62,24 @@ marks_of_step k step (inr is) = ap (λ x. marks_after x k) is
 pub written_stage : {C : Type 0} (D : DesignOf C) (q r : EngineStage) (e : Progress) (c : C) (n : Device) → HasWrittenBefore D q e c n
     → HasWrittenBefore D q (record e { stage = r }) c n
 written_stage D Idle r e c n b = tt
-written_stage D (Body from) r e c n b = tt
-written_stage D (InRound j) r e c n b = b
-written_stage D (Tail from) r e c n b = tt
+written_stage D q r e c n b = b
+
+-- the checkpoint that is made stays so over a call that leaves memory as it was sealed
+pub made_with : {C : Type 0} (D : DesignOf C) (o : Origin) (e : Progress) (q : EngineStage) (c d : C) (n m : Device) (g : Checkpoints) (next : List Block)
+    → IsMadeFor D o e c n g → D.parts.sealed d m ≡ D.parts.sealed c n
+    → (is_settled q ≡ true → (block_at next 1 ≡ commit_of e.epoch) × D.parts.makes e.epoch d next)
+    → IsMadeFor D o (record e { stage = q }) d m (record g { next = next })
+made_with D o e q c d n m g next old same makes = record {
+  mark = old.mark;
+  sealed = old.sealed;
+  of_epoch = old.of_epoch;
+  small = old.small;
+  recordable = old.recordable;
+  state_is = ap (state_from o.geometry e.cpu) same ∙ old.state_is;
+  counted = old.counted;
+  commit = λ is. (makes is).0;
+  makes = λ is. (makes is).1;
+}
 
 -- an action of the round is next, after another one or after the body
 pub record IsAt {C : Type 0} (D : DesignOf C) (o : Origin) (k : CheckpointMarks) (s : Composed C) (n : Device) (g : Checkpoints) (r : Round) : Type 0 where
@@ -145,9 +159,6 @@ module _ {C : Type 0} (D : DesignOf C) (w : IsDesign D) (o : Origin) (k : Checkp
 
   -- ---- places that the image which is kept is not found by
 
-  abbrev spared : List ℕ
-  spared = 1 ∷ looked_by l g.before
-
   pub not_looked : (x : ℕ) → IsSpared D c g.before x → ¬ Contains (1 ∷ looked_by l g.before) x
   not_looked x free inside =
       free (Contains-append_right (0 ∷ []) (1 ∷ looked_by (layout_at F (F.p c)) g.before) x
@@ -172,22 +183,6 @@ module _ {C : Type 0} (D : DesignOf C) (w : IsDesign D) (o : Origin) (k : Checkp
   abbrev Makes : EngineStage → C → List Block → Type 0
   Makes q d next = is_settled q ≡ true → (block_at next 1 ≡ commit_of e.epoch) × D.parts.makes e.epoch d next
 
-  made_on : (q : EngineStage) (d : C) (m : Device) (next : List Block) → D.parts.sealed d m ≡ D.parts.sealed c n
-      → is_sealing e.stage ≡ true → Makes q d next → IsMadeFor D o (record e { stage = q }) d m (record g { next = next })
-  made_on q d m next same way makes =
-      let old = h.checkpoints.made way in
-      record {
-        mark = old.mark;
-        sealed = old.sealed;
-        of_epoch = old.of_epoch;
-        small = old.small;
-        recordable = old.recordable;
-        state_is = ap (state_from o.geometry e.cpu) same ∙ old.state_is;
-        counted = old.counted;
-        commit = λ is. (makes is).0;
-        makes = λ is. (makes is).1;
-      }
-
   goes_to : (q : EngineStage) (d : C) (m : Device) (next : List Block) (now_written : Bool)
       → Carries D e.epoch (phase_of e.stage) c n (phase_of q) d m → Fits F I (record e { stage = q }) d
       → IsKeeping o l (standing_at q m (record g { next = next })) → newest m 0 ≡ newest n 0 → HasWrittenBefore D q e d m
@@ -209,7 +204,7 @@ module _ {C : Type 0} (D : DesignOf C) (w : IsDesign D) (o : Origin) (k : Checkp
       keeping = keeping;
       told = on.keeps g.before h.checkpoints.told;
       written = written_stage D q q e d m written;
-      made = λ way. made_on q d m next on.sealed (sym sealing ∙ way) makes;
+      made = λ way. made_with D o e q c d n m g next (h.checkpoints.made (sym sealing ∙ way)) on.sealed makes;
     };
     way = sealing ∙ h.way;
     doubt = confirming;
@@ -376,9 +371,8 @@ module _ {C : Type 0} (D : DesignOf C) (w : IsDesign D) (o : Origin) (k : Checkp
     over = by_round r here.inside where
       by_round : (r : Round) → IsInRound (slot_blocks F e) r → Carries D e.epoch Made c n Made c (after (round_action (slot_round F I e c) r) n)
       by_round (Write j) inside = w.own_carries e c n (slot_place F e j) (slot_block I e c j) moment_r same_p (inr (j, inside, refl))
-      by_round Settle inside = w.same_reads Made e.epoch c n (settled n) moment_r (settled_same n)
       by_round Commit inside = w.own_carries e c n 1 (commit_of e.epoch) moment_r same_p (inl refl)
-      by_round Confirm inside = w.same_reads Made e.epoch c n (settled n) moment_r (settled_same n)
+      by_round r inside = w.same_reads Made e.epoch c n (settled n) moment_r (settled_same n)
 
     pub on_round : Carries D e.epoch (phase_of e.stage) c n Made c m_r
     on_round = Carries-both D e.epoch (phase_of e.stage) Made Made c c c n n m_r here.into over
@@ -387,9 +381,8 @@ module _ {C : Type 0} (D : DesignOf C) (w : IsDesign D) (o : Origin) (k : Checkp
     header_r = by_round r here.inside where
       by_round : (r : Round) → IsInRound (slot_blocks F e) r → newest (after (round_action (slot_round F I e c) r) n) 0 ≡ newest n 0
       by_round (Write j) inside = header_written (slot_place F e j) (slot_block I e c j) (not_header (slot_place F e j) (free j inside))
-      by_round Settle inside = header_settled
       by_round Commit inside = header_written 1 (commit_of e.epoch) (λ q. omega (arith, q))
-      by_round Confirm inside = header_settled
+      by_round r inside = header_settled
 
     -- what is issued then
     issued_then : AreIssuedThen (layout_of F e).image_blocks (parts_at D e c) (commit_of e.epoch) (next_round (slot_blocks F e) r) m_r (D.parts.sealed c n)

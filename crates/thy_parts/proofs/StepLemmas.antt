@@ -1,16 +1,15 @@
 -- What a step of the engine makes of the scheme, seal and drain, merge and promotion: each call's promise.
-use Rattle.std.proofs.Common.{◌≡◌, ◌≢◌, ◌⊎◌, ℕ, ◌+◌, ◌≤◌, nat_lt, Bool, true, false, if◌then◌else◌, List, [], ◌∷◌, Contains, Option, Some, None, refl, sym, ◌∙◌, ap, subst, inl, inr, arith, Result, Ok, Err, OnOk, OnErr, IfOk}
+use Rattle.std.proofs.Common.{◌≡◌, ◌≢◌, ◌⊎◌, ℕ, ◌+◌, ◌≤◌, nat_lt, Bool, true, false, if◌then◌else◌, List, [], ◌∷◌, Contains, Option, Some, None, refl, sym, ◌∙◌, ap, subst, inl, inr, arith}
 use Rattle.std.proofs.lemmas.Bool.{both_ways}
 use Rattle.std.proofs.lemmas.List.Elements.{Contains-push, Contains-append_left, Contains-append_right}
 use Rattle.thy_base.specs.declared.block.Block.{Block}
-use Rattle.thy_base.specs.declared.nvm.NvmError.{NvmError}
 use Rattle.thy_base.specs.Device.{Device, settled, IsFramed}
 use Rattle.thy_base.specs.Places.{record_blocks}
 use Rattle.thy_boot.specs.Filling.{FillingOf, layout_at}
 use Rattle.thy_isa.specs.declared.state.CpuState.{CpuState}
 use Rattle.thy_isa.specs.OnBlocks.{state_from}
 use Rattle.thy_layout.specs.declared.engine_step.EngineStep.{EngineStep}
-use Rattle.thy_layout.specs.declared.engine_step.EngineStep.TheVariants.{Idle as NoStep, Copied, PageBlock, StateBlock, TableBlock, Barrier as BarrierMade, CommitWritten, Committed}
+use Rattle.thy_layout.specs.declared.engine_step.EngineStep.TheVariants.{Copied, PageBlock, StateBlock, TableBlock, Committed}
 use Rattle.thy_layout.specs.Commit.{commit_of}
 use Rattle.thy_layout.specs.Layout.{looked_by}
 use Rattle.thy_view.specs.Action.{WriteAt, after, FailsTo, Asks}
@@ -37,10 +36,9 @@ use Rattle.thy_parts.specs.Laws.{taken, device_taken, step_of, sealed}
 use Rattle.thy_parts.specs.Moments.{IsMoment, Carries}
 use Rattle.thy_parts.specs.Scheme.{scheme_of}
 use Rattle.thy_parts.specs.Sound.{IsSound}
-use Rattle.thy_parts.proofs.CarryLemmas.{Carries-both, opens_both, settled_same}
+use Rattle.thy_parts.proofs.SameLemmas.{Carries-both, opens_both, settled_same}
 use Rattle.thy_parts.proofs.HeldLemmas.{moment_held, Keeping, keeping_carried, keeps_by}
-use Rattle.thy_parts.proofs.SafeLemmas.{failed_items_are_safe}
-use Rattle.thy_parts.proofs.SealLemmas.{seal_keeps_sound, idle_stage}
+use Rattle.thy_parts.proofs.SafeLemmas.{failed_items_are_safe, seal_keeps_sound, idle_stage}
 use Rattle.thy_parts.proofs.SoundLemmas.{IsAt, moment_at, told_at, at_round, at_first, free, on_round, items_keep_sound}
 
 -- ---- what an item is
@@ -74,14 +72,8 @@ phase_confirmed I = by_tail I.has_tail where
 -- only a commit may raise what is owed
 owes_if : {C : Type 0} (D : DesignOf C) (step : EngineStep) (s t : Composed C) (n m : Device) → D.parts.owed t.control ≤ D.parts.owed s.control
     → OwesAfter step (scheme_of D) s n t m
-owes_if D NoStep s t n m less = less
-owes_if D Copied s t n m less = less
-owes_if D PageBlock s t n m less = less
-owes_if D StateBlock s t n m less = less
-owes_if D TableBlock s t n m less = less
-owes_if D BarrierMade s t n m less = less
-owes_if D CommitWritten s t n m less = less
 owes_if D (Committed epoch) s t n m less = tt
+owes_if D step s t n m less = less
 
 -- ---- a step of the engine
 
@@ -141,9 +133,8 @@ module _ {C : Type 0} (D : DesignOf C) (w : IsDesign D) (o : Origin) (k : Checkp
   asks_round lap (Write j) here =
       asks_slot lap (nat_lt j (record_blocks e.p)) (slot_place F e j) (slot_block I e c j)
       (not_commit D c g.before (slot_place F e j) (free D w o k s n sound (Write j) here j here.inside))
-  asks_round lap Settle here = refl
   asks_round lap Commit here = (commit_of e.epoch, refl)
-  asks_round lap Confirm here = refl
+  asks_round lap r here = refl
 
   asks_body : (lap from : ℕ) (x : Option ℕ) → e.stage ≡ Body from → I.body_next c from ≡ x
       → Asks (engine_did lap (report I e (body_or_slot x))) (action_of F I e (body_or_slot x) c n)
@@ -170,9 +161,7 @@ module _ {C : Type 0} (D : DesignOf C) (w : IsDesign D) (o : Origin) (k : Checkp
 
   writes_round : (r : Round) → Writes (RoundItem r)
   writes_round (Write j) h = record { at = slot_place F e j; block = slot_block I e c j; left = refl }
-  writes_round Settle h = absurd (both_ways false refl h)
-  writes_round Commit h = absurd (both_ways false refl h)
-  writes_round Confirm h = absurd (both_ways false refl h)
+  writes_round r h = absurd (both_ways false refl h)
 
   writes_body : (x : Option ℕ) → Writes (body_or_slot x)
   writes_body None h = writes_round (Write 0) h
@@ -221,10 +210,8 @@ module _ {C : Type 0} (D : DesignOf C) (w : IsDesign D) (o : Origin) (k : Checkp
   dram_body from (Some j) is next = (w.items.body c j (passed from j is next).moment.stands (again from j is next)).dram
 
   dram_round : (r : Round) → I.stands Made c → F.dram (control_after I (RoundItem r) c) ≡ F.dram c
-  dram_round (Write j) stands = refl
-  dram_round Settle stands = refl
-  dram_round Commit stands = refl
   dram_round Confirm stands = (w.items.commits c stands).dram
+  dram_round r stands = refl
 
   dram_tail : (from : ℕ) (x : Option ℕ) → e.stage ≡ Tail from → I.tail_next c from ≡ x → F.dram (control_after I (tail_or_release x) c) ≡ F.dram c
   dram_tail from None is next = (w.items.releases c from (moment_at D w o k s n sound (Tail from) is).stands next).dram
@@ -244,10 +231,8 @@ module _ {C : Type 0} (D : DesignOf C) (w : IsDesign D) (o : Origin) (k : Checkp
   carries_round : (q : EngineStage) (r : Round) → e.stage ≡ q → Here r → is_written r ≡ false → To q (RoundItem r)
   carries_round q r is here unwritten = subst (λ (x : EngineStage). To x (RoundItem r)) is (by_round r here unwritten) where
     by_round : (r : Round) → Here r → is_written r ≡ false → To e.stage (RoundItem r)
-    by_round (Write j) here unwritten = on_round D w o k s n sound (Write j) here
-    by_round Settle here unwritten = on_round D w o k s n sound Settle here
-    by_round Commit here unwritten = on_round D w o k s n sound Commit here
     by_round Confirm here unwritten = cc
+    by_round r here unwritten = on_round D w o k s n sound r here
 
   carries_body : (from : ℕ) (x : Option ℕ) → e.stage ≡ Body from → I.body_next c from ≡ x → To (Body from) (body_or_slot x)
   carries_body from None is next = carries_round (Body from) (Write 0) is (at_first D w o k s n sound from is next) refl
@@ -301,12 +286,8 @@ module _ {C : Type 0} (D : DesignOf C) (w : IsDesign D) (o : Origin) (k : Checkp
 
   kept : (q : EngineStage) → e.stage ≡ q → is_under_way q ≡ true → Kept q (item I q c)
   kept Idle is way = cc
-  kept (Body from) is way = carried (Body from) is refl refl
-  kept (InRound (Write j)) is way = carried (InRound (Write j)) is refl refl
-  kept (InRound Settle) is way = carried (InRound Settle) is refl refl
-  kept (InRound Commit) is way = carried (InRound Commit) is refl refl
   kept (InRound Confirm) is way = kept_confirmed is
-  kept (Tail from) is way = carried (Tail from) is refl refl
+  kept q is way = carried q is refl refl
 
   -- a step that is no commit owes no more
   owed_by : (q : EngineStage) → e.stage ≡ q → is_under_way q ≡ true → is_confirming q ≡ false
@@ -318,12 +299,8 @@ module _ {C : Type 0} (D : DesignOf C) (w : IsDesign D) (o : Origin) (k : Checkp
 
   owes : (q : EngineStage) → e.stage ≡ q → is_under_way q ≡ true → OwesAfter (Step q) (scheme_of D) s n (taken D s) (device_taken D s n)
   owes Idle is way = cc
-  owes (Body from) is way = owed_by (Body from) is refl refl
-  owes (InRound (Write j)) is way = owed_by (InRound (Write j)) is refl refl
-  owes (InRound Settle) is way = owed_by (InRound Settle) is refl refl
-  owes (InRound Commit) is way = owed_by (InRound Commit) is refl refl
   owes (InRound Confirm) is way = tt
-  owes (Tail from) is way = owed_by (Tail from) is refl refl
+  owes q is way = owed_by q is refl refl
 
   count : cycles_left F I (engine_next F I e c) (control_next I e c) + 1 ≤ cycles_left F I e c
   count = items_count F I w.fills.laid w.items e c sound.held.fits on
@@ -356,26 +333,6 @@ module _ {C : Type 0} (D : DesignOf C) (w : IsDesign D) (o : Origin) (k : Checkp
     acted = λ lap. record { action = action_next F I e c n; asked = asks lap e.stage refl on; failed = failed };
     safe = failed_items_are_safe D w o k s n new sound on failed framed;
   }
-
-  -- ---- by the engine's result
-
-  abbrev With : C → Progress → Composed C
-  With t f = record s { control = t; engine = f }
-
-  pub engines-by : (f : Progress) (t : C) (new : Device) (r : Result EngineStep NvmError)
-      → IfOk r (λ step. step ≡ step_of D s) → OnOk r (f ≡ engine_next F I e c) → OnOk r (t ≡ control_next I e c)
-      → OnOk r (new ≡ after (action_next F I e c n) n) → IfOk r (λ step. Engines (scheme_of D) o k step s n (With t f) new)
-  engines-by f t new (Ok step) told engine control device =
-      subst (λ (x : EngineStep). Engines (scheme_of D) o k x s n (With t f) new) (sym told)
-      (subst (λ (x : Progress). Engines (scheme_of D) o k (step_of D s) s n (With t x) new) (sym engine)
-      (subst (λ (x : C). Engines (scheme_of D) o k (step_of D s) s n (With x (engine_next F I e c)) new) (sym control)
-      (subst (λ (x : Device). Engines (scheme_of D) o k (step_of D s) s n (With (control_next I e c) (engine_next F I e c)) x) (sym device) engines)))
-  engines-by f t new (Err x) told engine control device = tt
-
-  pub fails-by : (new : Device) (r : Result EngineStep NvmError) → OnErr r (FailsTo (action_next F I e c n) n new) → IsFramed n new
-      → OnErr r (EngineFails (scheme_of D) o k n new)
-  fails-by new (Ok step) failed framed = tt
-  fails-by new (Err x) failed framed = engine-fails new failed framed
 
 -- ---- a seal
 

@@ -14,7 +14,7 @@ use Rattle.thy_parts.specs.Moments.{IsMoment}
 use Rattle.thy_parts.specs.Scheme.{scheme_of}
 use Rattle.thy_parts.specs.Sound.{IsSound}
 use Rattle.thy_parts.specs.Storing.{StaysOver}
-use Rattle.thy_parts.proofs.SealLemmas.{idle_stage}
+use Rattle.thy_parts.proofs.SafeLemmas.{idle_stage}
 
 always : (way : Bool) → (way && not false) ≡ way
 always true = refl

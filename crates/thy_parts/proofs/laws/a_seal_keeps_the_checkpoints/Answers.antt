@@ -1,5 +1,5 @@
 use Rattle.thy_parts.specs.Design.{design_of}
-use Rattle.thy_parts.proofs.SealLemmas.{seal_keeps_sound}
+use Rattle.thy_parts.proofs.SafeLemmas.{seal_keeps_sound}
 use Rattle.thy_parts.proofs.laws.a_seal_keeps_the_checkpoints.Goals as goal
 
 pub returns : goal.returns
