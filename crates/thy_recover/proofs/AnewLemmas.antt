@@ -1,5 +1,5 @@
 -- A checkpoint of version 1 means the same if it is written anew in version 2.
-use Rattle.std.proofs.Common.{◌≡◌, ◌≢◌, ℕ, ◌+◌, ◌%◌, ◌<◌, ◌≤◌, Bool, true, false, if◌then◌else◌, List, length, map, None, refl, sym, ◌∙◌, ap, subst, arith}
+use Rattle.std.proofs.Common.{◌≡◌, ◌≢◌, ℕ, ◌+◌, ◌%◌, ◌<◌, ◌≤◌, Bool, true, false, if◌then◌else◌, List, map, None, refl, sym, ◌∙◌, ap, subst, arith}
 use Rattle.std.specs.List.{range_with_len}
 use Rattle.std.proofs.lemmas.List.FromFn.{length-map-range_with_len, get_or-map-range_with_len}
 use Rattle.thy_base.specs.declared.block.Block.{Block}
@@ -8,23 +8,22 @@ use Rattle.thy_base.specs.Device.{Device, zero_block, block_at, newest}
 use Rattle.thy_base.specs.Geometry.{memory_blocks}
 use Rattle.thy_base.proofs.BasicLemmas.{Contains-range}
 use Rattle.thy_cell.specs.Cells.{seat_of, frame_at, target, last, work}
-use Rattle.thy_control.specs.CheckpointTables.{tables0}
-use Rattle.thy_control.specs.State.{State, AreSoundTables, cell_of, work_of, reads}
+use Rattle.thy_control.specs.State.{State, cell_of, work_of, reads}
 use Rattle.thy_control.specs.Stays.{HoldAll}
-use Rattle.thy_control.proofs.CellLemmas.{IsPlace-target, IsPlace-last, IsPlace-work, IsWithin-cell_of}
-use Rattle.thy_control.proofs.HoldLemmas.{hold_same, IsPlace-frame_of}
+use Rattle.thy_control.proofs.StateLemmas.{IsPlace-target, IsPlace-last, IsPlace-work, IsWithin-cell_of}
+use Rattle.thy_control.proofs.KeepLemmas.{hold_same, IsPlace-frame_of}
 use Rattle.thy_layout.specs.declared.layout_version.LayoutVersion.{LayoutVersion}
 use Rattle.thy_layout.specs.declared.layout_version.LayoutVersion.TheVariants.{VersionOne, VersionTwo}
-use Rattle.thy_layout.specs.Commit.{epoch_of, version_of, slot_of_epoch}
+use Rattle.thy_layout.specs.Commit.{epoch_of, version_of}
 use Rattle.thy_layout.proofs.AskingLemmas.{map-alike, half}
 use Rattle.thy_layout.proofs.ReadBackLemmas.{epoch_of-commit_of, version_of-commit_of}
 use Rattle.thy_places.specs.declared.place.Place.{Place}
-use Rattle.thy_places.specs.Places.{in_dram, number_of, IsPlace, first_home, blocks_one, slot_place, image_blocks}
+use Rattle.thy_places.specs.Places.{in_dram, number_of, IsPlace, first_home, blocks_one, slot_place}
 use Rattle.thy_places.proofs.PlaceLemmas.{between_slots}
 use Rattle.thy_record.specs.DualLayouts.{dual_layouts}
 use Rattle.thy_record.specs.Migrated.{IsWrittenAnew, MeansTheSame}
 use Rattle.thy_record.specs.Number.{scheme_number}
-use Rattle.thy_record.specs.Slots.{tables_in, counts_in, slot_fault}
+use Rattle.thy_record.specs.Slots.{counts_in, slot_fault}
 use Rattle.thy_record.specs.Tables.{Tables, place_of}
 use Rattle.thy_record.specs.VersionSlots.{blocks_of_slot, place_of_slot}
 use Rattle.thy_record.proofs.IssuingLemmas.{old_slot_before, slot_behind}

@@ -20,7 +20,7 @@ use Rattle.thy_record.specs.Slots.{tables_in, counts_in}
 use Rattle.thy_record.specs.Tables.{Tables, IsTables}
 use Rattle.thy_layout.proofs.ReadBackLemmas.{epoch_of-commit_of}
 use Rattle.thy_layout.proofs.SlotLemmas.{fits_cpu}
-use Rattle.thy_record.proofs.LayoutLemmas.{dual_are_layouts}
+use Rattle.thy_record.proofs.IssuingLemmas.{dual_are_layouts}
 use Rattle.thy_control.specs.CheckpointTables.{tables0}
 use Rattle.thy_control.proofs.TablesLemmas.{AreTablesOf-committed}
 use Rattle.thy_view.specs.Origin.{at}

@@ -1,9 +1,7 @@
-pub mod CountLemmas
 pub mod ListedLemmas
 pub mod LiveLemmas
 pub mod WorkLemmas
 pub mod StartLemmas
-pub mod PositionLemmas
 pub mod SlotLemmas
 pub mod AnewLemmas
 pub mod FillingLemmas

@@ -6,7 +6,6 @@ use Rattle.thy_dram.specs.Contents.{Contents}
 use Rattle.thy_base.specs.declared.config.Parameters.{Parameters}
 use Rattle.thy_layout.specs.Entries.{entry_at}
 use Rattle.thy_table.specs.Listing.{entry_at as live_at}
-use Rattle.thy_table.proofs.IndexLemmas.{lists-key}
 use Rattle.thy_table.specs.declared.block_entry.BttEntry.{BttEntry}
 use Rattle.thy_table.specs.declared.page_entry.PttEntry.{PttEntry}
 use Rattle.thy_control.specs.Boot.{IsBooting, MayFrame, page_in, framed_block}
@@ -16,6 +15,8 @@ use Rattle.thy_control.specs.State.{State, AreSoundTables, new_state}
 use Rattle.thy_control.proofs.BootLemmas.{IsBooting-new}
 use Rattle.thy_control.proofs.NewLemmas.{entry_at-empty}
 use Rattle.thy_recover.specs.Filling.{IsFresh}
+use Rattle.thy_control.proofs.FindLemmas.{entry_for-there}
+use Rattle.thy_table.specs.PageEntry.{no_page}
 
 -- a block of a listed page is one of memory
 pub framed_inside : (c : State) (i m : ℕ) → AreSoundTables c → MayFrame i m c → framed_block i m c < memory_blocks c.p
@@ -23,7 +24,7 @@ framed_inside c i m t may = by_entry (live_at c.ptt i) refl may.listed where
   by_entry : (o : Option PttEntry) → live_at c.ptt i ≡ o → is_some (live_at c.ptt i) ≡ true → framed_block i m c < memory_blocks c.p
   by_entry None s some = let both : false ≡ true = sym (ap is_some s) ∙ some in absurd (cc)
   by_entry (Some e) s some =
-      let page : e.page < c.ptt.numbers = t.ptt_once.inside i e.page (lists-key page_key e.page (live_at c.ptt i) e s refl) in
+      let page = (entry_for-there page_key no_page c.ptt t.ptt_once i e s).2 in
       let is : framed_block i m c ≡ 64 * e.page + m = ap (λ (o : Option PttEntry). 64 * page_in o + m) s in
       omega (arith, page, is, t.ptt_numbers, may.inside)
 

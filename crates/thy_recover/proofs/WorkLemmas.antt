@@ -15,17 +15,14 @@ use Rattle.thy_record.specs.Images.{memory_numbers}
 use Rattle.thy_record.specs.Tables.{place_of as place_in}
 use Rattle.thy_table.specs.Listing.{place_of}
 use Rattle.thy_table.specs.declared.block_entry.BttEntry.{BttEntry}
-use Rattle.thy_table.specs.declared.block_entry.Version.{Version}
-use Rattle.thy_table.specs.declared.block_entry.Pending.{Pending}
 use Rattle.thy_table.specs.declared.block_entry.Pending.TheVariants.{Settled}
 use Rattle.thy_table.specs.declared.block_entry.Working.{Working}
 use Rattle.thy_table.specs.declared.block_entry.Working.TheVariants.{NoWork}
 use Rattle.thy_table.specs.declared.page_entry.PttEntry.{PttEntry}
-use Rattle.thy_table.specs.declared.page_entry.Site.{Site}
 use Rattle.thy_table.specs.BlockEntry.{new_entry}
 use Rattle.thy_table.specs.PageEntry.{no_page, is_framed}
 use Rattle.thy_cell.specs.declared.cell.Cell.{Cell}
-use Rattle.thy_cell.specs.Cells.{seat_of, frame_at, placed, pending_at, worked_at, penult, last, work}
+use Rattle.thy_cell.specs.Cells.{seat_of, frame_at, worked_at, penult, last, work}
 use Rattle.thy_cell.specs.Sound.{Holds}
 use Rattle.thy_control.specs.Find.{entry_for}
 use Rattle.thy_control.specs.Keys.{block_key, page_key}
@@ -34,7 +31,7 @@ use Rattle.thy_control.specs.Boot.{IsBooting}
 use Rattle.thy_control.specs.CheckpointTables.{tables0, CommittedTables}
 use Rattle.thy_control.specs.Stays.{HoldAll}
 use Rattle.thy_control.proofs.FindLemmas.{found_entry, entry_for-some, entry_for-none}
-use Rattle.thy_control.proofs.GuardLemmas.{placed-in_nvm}
+use Rattle.thy_control.proofs.KeepLemmas.{placed-in_nvm}
 use Rattle.thy_recover.specs.Filling.{loads}
 
 -- entries with nothing under way
@@ -67,10 +64,7 @@ still_page c boot n = by_place (place_of page_key n c.ptt) refl where
 
 -- so the last version is at the place of the committed one
 last_is_penult : (x : Cell) → IsStill x.entry → IsStillPage x.page → last x ≡ penult x
-last_is_penult x e p =
-    ap (λ (z : Bool). if z then frame_at (seat_of x) else pending_at x.entry.pend x.entry.v1 x.page.target (seat_of x)) p.busy
-    ∙ ap (λ (q : Pending). pending_at q x.entry.v1 x.page.target (seat_of x)) e.pend
-    ∙ ap (λ (v : Version). placed v x.page.target (seat_of x)) e.same ∙ ap (λ (s : Site). placed x.entry.v0 s (seat_of x)) p.same
+last_is_penult x e p = cc
 
 by_frame : (r : Place → Block) (t : Bool) (x y : Place) → (t ≡ true → r x ≡ r y) → r (if t then x else y) ≡ r y
 by_frame r true x y h = h refl

@@ -4,7 +4,7 @@ use Rattle.thy_base.specs.declared.config.Parameters.{Parameters}
 use Rattle.thy_control.specs.Boot.{with_listed_count}
 use Rattle.thy_control.specs.State.{State}
 use Rattle.thy_layout.specs.Files.{blocks_of}
-use Rattle.thy_recover.proofs.CountLemmas.{count_within, HasFirstCounts-more, all_counts}
+use Rattle.thy_recover.proofs.SlotLemmas.{count_within, HasFirstCounts-more, all_counts}
 use Rattle.thy_recover.proofs.counts.list_each.Goals as goal
 
 pub loop-page-init : goal.loop-page-init

@@ -1,5 +1,5 @@
 use Rattle.thy_layout.specs.Files.{blocks_of}
-use Rattle.thy_recover.proofs.CountLemmas.{HasFirstCounts}
+use Rattle.thy_recover.proofs.SlotLemmas.{HasFirstCounts}
 use Rattle.thy_recover.proofs.counts.list_each.Given as goal
 
 abbrev pub invariant-loop-page : goal.invariant-loop-page

@@ -1,7 +1,6 @@
 use Rattle.std.proofs.Common.{◌≡◌, OnOk, subst}
 use Rattle.thy_control.specs.State.{State}
-use Rattle.thy_recover.proofs.FillingLemmas.{frame_loads}
-use Rattle.thy_recover.proofs.PositionLemmas.{may_fill, filled_is_framed}
+use Rattle.thy_recover.proofs.FillingLemmas.{frame_loads, may_fill, filled_is_framed}
 use Rattle.thy_recover.proofs.frame.fill.Goals as goal
 
 pub frame_block-requires-clause-may : goal.frame_block-requires-clause-may

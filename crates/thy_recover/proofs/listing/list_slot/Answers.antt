@@ -7,12 +7,12 @@ use Rattle.thy_layout.specs.Commit.{epoch_of, version_of}
 use Rattle.thy_layout.specs.Files.{blocks_of}
 use Rattle.thy_record.specs.Number.{scheme_number}
 use Rattle.thy_record.specs.Slots.{tables_in, counts_in, count_fault}
-use Rattle.thy_record.proofs.ImageLemmas.{tables_of_slot}
-use Rattle.thy_record.proofs.VersionLemmas.{least_slot}
+use Rattle.thy_record.proofs.SlotLemmas.{tables_of_slot}
 use Rattle.thy_view.specs.Safe.{ceiling}
 use Rattle.thy_recover.specs.Listed.{with_lasts}
 use Rattle.thy_recover.proofs.ListedLemmas.{same_p-listed}
 use Rattle.thy_recover.proofs.SlotLemmas.{counts_fit, ListsUpTo-empty, no_counts-listed, lists_on}
+use Rattle.thy_record.proofs.IssuingLemmas.{least_slot}
 use Rattle.thy_recover.proofs.listing.list_slot.Goals as goal
 
 pub list_all-requires-clause-slot : goal.list_all-requires-clause-slot
@@ -27,29 +27,23 @@ pub list_all-requires-clause-fresh : goal.list_all-requires-clause-fresh
 list_all-requires-clause-fresh c =
     ListsUpTo-empty c.args.geometry.now (blocks_of c.args.slot.now) c.args.control.now c.requires.geometry c.requires.fresh
 
-pub list_counts-requires-clause-slot : goal.list_counts-requires-clause-slot
-list_counts-requires-clause-slot c =
-    c.requires.slot ∙ ap (λ (f : LayoutVersion). 64 * blocks_of_slot f c.args.geometry.now) (sym c.version_of-version.ensures)
-
-pub list_counts-requires-clause-geometry : goal.list_counts-requires-clause-geometry
-list_counts-requires-clause-geometry c =
-    let p : Parameters = c.args.geometry.now in
-    same_p-listed p.btt p.ptt (tables_in p (blocks_of c.args.slot.now)) c.args.control.now c.list_all.new.control c.list_all.ensures ∙ c.requires.geometry
-
-pub list_counts-requires-clause-booting : goal.list_counts-requires-clause-booting
-list_counts-requires-clause-booting c = c.list_all.ensures.lists.booting
-
-pub list_counts-requires-clause-none : goal.list_counts-requires-clause-none
-list_counts-requires-clause-none c =
-    let p : Parameters = c.args.geometry.now in
-    no_counts-listed p (tables_in p (blocks_of c.args.slot.now)) c.args.control.now c.list_all.new.control c.requires.geometry c.requires.fresh c.list_all.ensures
-
-pub list_counts-requires-clause-fine : goal.list_counts-requires-clause-fine
-list_counts-requires-clause-fine c =
+pub list_counts-requires : goal.list_counts-requires
+list_counts-requires c =
     let p : Parameters = c.args.geometry.now in
     let slot : List Block = blocks_of c.args.slot.now in
-    ap (λ (f : LayoutVersion). count_fault f p slot) c.version_of-version.ensures
-    ∙ counts_fit (version_of scheme_number p c.args.commit.now) p ceiling (epoch_of c.args.commit.now) slot c.requires.fits
+    let version = c.version_of-version.ensures in
+    let listed = c.list_all.ensures in
+    record {
+      slot = c.requires.slot ∙ ap (λ (f : LayoutVersion). 64 * blocks_of_slot f p) (sym version);
+      geometry = same_p-listed p.btt p.ptt (tables_in p slot) c.args.control.now
+          c.list_all.new.control listed ∙ c.requires.geometry;
+      booting = listed.lists.booting;
+      none = no_counts-listed p (tables_in p slot) c.args.control.now c.list_all.new.control
+          c.requires.geometry c.requires.fresh listed;
+      fine = ap (λ (f : LayoutVersion). count_fault f p slot) version
+          ∙ counts_fit (version_of scheme_number p c.args.commit.now) p ceiling
+          (epoch_of c.args.commit.now) slot c.requires.fits;
+    }
 
 pub returns : goal.returns
 returns c =

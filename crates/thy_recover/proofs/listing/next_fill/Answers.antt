@@ -3,10 +3,10 @@ use Rattle.thy_base.specs.declared.block.Block.{Block}
 use Rattle.thy_base.specs.declared.config.Parameters.{Parameters}
 use Rattle.thy_layout.specs.Files.{blocks_of}
 use Rattle.thy_record.specs.Slots.{tables_in}
-use Rattle.thy_record.proofs.VersionLemmas.{least_slot}
 use Rattle.thy_table.proofs.FirstLemmas.{first_from-first}
 use Rattle.thy_recover.specs.Filling.{position_in}
 use Rattle.thy_recover.proofs.SlotLemmas.{size_of_ptt}
+use Rattle.thy_record.proofs.IssuingLemmas.{least_slot}
 use Rattle.thy_recover.proofs.listing.next_fill.Goals as goal
 
 pub next_listed-requires : goal.next_listed-requires
