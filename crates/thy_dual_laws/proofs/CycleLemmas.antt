@@ -14,7 +14,7 @@ use Rattle.thy_control.proofs.IssueLemmas.{writes_left-next}
 use Rattle.thy_engine.specs.declared.stage.EngineStage.{EngineStage}
 use Rattle.thy_engine.specs.declared.stage.EngineStage.TheVariants.{Idle, Body, InRound, Tail}
 use Rattle.thy_protocol.specs.declared.round.Round.{Round}
-use Rattle.thy_protocol.specs.declared.round.Round.TheVariants.{Write, Settle, Commit, Confirm}
+use Rattle.thy_protocol.specs.declared.round.Round.TheVariants.{Write}
 use Rattle.thy_protocol.specs.Round.{IsInRound, round_left}
 use Rattle.thy_protocol.proofs.RoundLemmas.{next_by}
 use Rattle.thy_engine.specs.Cycles.{left_at}
@@ -34,10 +34,9 @@ some_slot e =
 -- with no position left, no copy is, and no block of a page
 none_by : (s : State) → AreSoundTables s → (i j : Option ℕ) → next_copy s ≡ i → next_page s ≡ j → position_by s i j ≡ None
     → copies_left s + writes_left s ≡ 0
-none_by s t (Some i) j copy page is = cc
-none_by s t None (Some j) copy page is = cc
 none_by s t None None copy page is =
     let pages = writes_left-next s (some_device s) t None page in omega (arith, none_left s copy, pages.0)
+none_by s t i j copy page is = cc
 
 module _ (e : Progress) (s : State) where
   -- what is left at a stage, and after an item
@@ -51,9 +50,7 @@ module _ (e : Progress) (s : State) where
   counts-round (Write k) inside =
       next_by (λ (q : Round). left (InRound q) s + 1 ≡ round_left (slot_blocks filling_dual e) (Write k)) k (slot_blocks filling_dual e)
       (λ more. omega (arith, more)) (λ last. omega (arith, last, inside))
-  counts-round Settle inside = omega arith
-  counts-round Commit inside = omega arith
-  counts-round Confirm inside = omega arith
+  counts-round r inside = omega arith
 
   counts-body : (o : Option ℕ) → next_position s ≡ o → StandsAt true s
       → after (body_or_slot o) + 1 ≡ copies_left s + writes_left s + (slot_blocks filling_dual e + 3)

@@ -31,6 +31,7 @@ use Rattle.thy_record.specs.Tables.{Tables}
 use Rattle.thy_control.specs.CheckpointTables.{tables0, tables1, entry_lists, page_lists}
 use Rattle.thy_control.specs.Commit.{committed_state, Commits as CommitsVersions}
 use Rattle.thy_control.specs.Copies.{next_copy, block_listed, devices_copied, copied, after_next_copy, devices_after_copy}
+use Rattle.thy_dram.specs.Contents.{Contents}
 use Rattle.thy_control.specs.Drains.{after_drain}
 use Rattle.thy_control.specs.Frees.{HasNoWork, settled}
 use Rattle.thy_control.specs.Holding.{promoted, waiting}
@@ -42,21 +43,18 @@ use Rattle.thy_control.specs.Seal.{sealed_state, IsBareState, Seals as SealsVers
 use Rattle.thy_control.specs.State.{State, AreSoundTables, IsSized, cell_of, reads, penult_of, last_of, work_of}
 use Rattle.thy_control.specs.Stays.{HoldAll, StaysHeld}
 use Rattle.thy_control.specs.Versions.{KeepsAll}
-use Rattle.thy_control.proofs.CellLemmas.{IsPlace-target, IsWithin-cell_of}
+use Rattle.thy_control.proofs.StateLemmas.{IsPlace-target, IsWithin-cell_of}
 use Rattle.thy_control.proofs.CommitLemmas.{Commits-committed}
 use Rattle.thy_control.proofs.CommittedLemmas.{KeepsCommitted-sealed}
 use Rattle.thy_control.proofs.CopyLemmas.{IsNext, IsNext-entry, listed-pending, KeepsAll-next}
 use Rattle.thy_control.proofs.FreesLemmas.{half_free}
-use Rattle.thy_control.proofs.GuardLemmas.{behind_slots}
-use Rattle.thy_control.proofs.IdleLemmas.{HasNoWork-sealed, HasNoWork-committed, free-sealed, free-committed}
+use Rattle.thy_control.proofs.KeepLemmas.{behind_slots}
+use Rattle.thy_control.proofs.SealStateLemmas.{HasNoWork-sealed, HasNoWork-committed, free-sealed, free-committed, CommitsTables-committed, tables0-sealed, AreSoundTables-sealed, Seals-sealed}
 use Rattle.thy_control.proofs.IssueLemmas.{IsDue, IsDue-entry, listed-busy, busy-framed, KeepsNext, KeepsNext-write}
 use Rattle.thy_control.proofs.LeftLemmas.{HasNoneLeft-copied}
 use Rattle.thy_control.proofs.MarkLemmas.{IsWholeState-none, IsBareState-none}
-use Rattle.thy_control.proofs.MovedTablesLemmas.{CommitsTables-committed, tables0-sealed}
-use Rattle.thy_control.proofs.OwnLemmas.{Owns-cell_of, owned-penult, owned-target, owned-apart}
-use Rattle.thy_control.proofs.SealStateLemmas.{AreSoundTables-sealed, Seals-sealed}
+use Rattle.thy_control.proofs.TablesLemmas.{Owns-cell_of, owned-penult, owned-target, owned-apart, AreTablesOf-committed}
 use Rattle.thy_control.proofs.StayLemmas.{map-block, map-page}
-use Rattle.thy_control.proofs.TablesLemmas.{AreTablesOf-committed}
 use Rattle.thy_recover.specs.Filling.{loads}
 use Rattle.thy_recover.proofs.FillingLemmas.{filling_is_lawful}
 use Rattle.thy_engine.specs.Items.{Phase, Resting, Making, Made, Applying}
@@ -64,12 +62,10 @@ use Rattle.thy_engine.specs.Progress.{Progress}
 use Rattle.thy_parts.specs.IsDesign.{IsDesign, IsFew, IsSpared}
 use Rattle.thy_parts.specs.Moments.{IsMoment, LeavesPages, MakesAt, Carries, Commits, SealsTo, ReadsSame, IsOwn}
 use Rattle.thy_dual_laws.specs.Design.{is_overlaid, is_promoting, block_by, source_by, target_next, source_next, with_copied, with_issued, written_by, written_next, StandsAt, items_dual, penults, lasts, IsOther, IsCounted, IsKeptBy, IsButCopied, IsOfRest, HasRoom, rests_at, dual_design}
-use Rattle.thy_dual_laws.proofs.BlocksLemmas.{blocks-agree}
-use Rattle.thy_dual_laws.proofs.FreeLemmas.{but-copied, settled-done}
-use Rattle.thy_dual_laws.proofs.HeldLemmas.{KeepsCounts, counts-copied, counts-issued, owed-committed, overlays-committed, promoted-committed, unfilled-committed, written-nvm, target-in_nvm}
+use Rattle.thy_dual_laws.proofs.ReadLemmas.{blocks-agree, KeepsVersions, versions_apart, versions_same}
+use Rattle.thy_dual_laws.proofs.HeldLemmas.{but-copied, settled-done, KeepsCounts, counts-copied, counts-issued, owed-committed, overlays-committed, promoted-committed, unfilled-committed, written-nvm, target-in_nvm}
 use Rattle.thy_dual_laws.proofs.ItemLemmas.{copied_is, issued_is, no_work_copied, stands_by, items_are}
-use Rattle.thy_dual_laws.proofs.MostLemmas.{none-left, free-few, owed-few, overlays-few, unfilled-few, unfilled-none}
-use Rattle.thy_dual_laws.proofs.ReadLemmas.{KeepsVersions, versions_apart, versions_same}
+use Rattle.thy_dual_laws.proofs.LeftLemmas.{none-left, free-few, owed-few, overlays-few, unfilled-few, unfilled-none}
 use Rattle.thy_dual_laws.proofs.RuleLemmas.{copy_keeps, page_write_keeps, page_write_keeps_others, commit_moves, seal_keeps_sound, seal_moves, seal_takes, listing_keeps}
 use Rattle.thy_dual_laws.proofs.SlotLemmas.{spared, own_apart, slot_fits, slot_makes, slot_spared, made_reads}
 
@@ -97,12 +93,25 @@ pages_of s t counts = record {
 
 pub told_on : (s t : State) (g : List Block) (v : LayoutVersion) (kept : ℕ) (before after : Tables) → t.p ≡ s.p → after ≡ before
     → IsToldBy s.p g v kept before → IsToldBy t.p g v kept after
-told_on s t g v kept before after p same told =
-    subst (λ (q : Parameters). IsToldBy q g v kept after) (sym p) (subst (λ (x : Tables). IsToldBy s.p g v kept x) (sym same) told)
+told_on s t g v kept before after p same told = coe 1 0 (i. IsToldBy (p i) g v kept (same i)) told
 
-pub counted_on : (s t : State) (g : List Block) (v : LayoutVersion) → t.p ≡ s.p → t.counts.lasts ≡ s.counts.lasts
+counted_on : (s t : State) (g : List Block) (v : LayoutVersion) → t.p ≡ s.p → t.counts.lasts ≡ s.counts.lasts
     → counts_in v s.p (slot_in s.p g) ≡ s.counts.lasts → counts_in v t.p (slot_in t.p g) ≡ t.counts.lasts
 counted_on s t g v p same counted = ap (λ (q : Parameters). counts_in v q (slot_in q g)) p ∙ counted ∙ sym same
+
+-- in the same phase
+pub counts_on : (s t : State) → t.p ≡ s.p → t.counts.lasts ≡ s.counts.lasts → (p : Phase) (v : LayoutVersion) (g : List Block)
+    → IsCounted p v s g → IsCounted p v t g
+counts_on s t p same Resting v g h = counted_on s t g v p same h
+counts_on s t p same phase v g h = tt
+
+pub makes_on : (epoch : ℕ) (s t : State) → t.p ≡ s.p → tables1 t ≡ tables1 s → t.counts.lasts ≡ s.counts.lasts → (p : Phase) (g : List Block)
+    → MakesAt dual_design p epoch s g → MakesAt dual_design p epoch t g
+makes_on epoch s t p tables lasts Made g h = record {
+  told = told_on s t g VersionTwo epoch (tables1 s) (tables1 t) p tables h.told;
+  counted = counted_on s t g VersionTwo p lasts h.counted;
+}
+makes_on epoch s t p tables lasts phase g h = h
 
 module _ (epoch : ℕ) (s : State) (n : Device) (t : State) (m : Device) (k : Keeping s n t m) where
   pub carried : (p q : Phase) → IsMoment dual_design q epoch t m → ((kept : ℕ) → IsOther p epoch kept → IsOther q epoch kept)
@@ -136,40 +145,25 @@ module _ (epoch : ℕ) (s : State) (n : Device) (t : State) (m : Device) (k : Ke
       rests_on true b r = record { no_work = k.work r.no_work; room = λ l. room (r.room l) }
       rests_on false b r = tt
 
-  -- in the same phase
-  pub counts_on : (p : Phase) (v : LayoutVersion) (g : List Block) → IsCounted p v s g → IsCounted p v t g
-  counts_on Resting v g h = counted_on s t g v k.same_p k.lasts_same h
-  counts_on (Making from) v g h = tt
-  counts_on Made v g h = tt
-  counts_on (Applying from) v g h = tt
-
-  pub makes_on : (p : Phase) (g : List Block) → MakesAt dual_design p epoch s g → MakesAt dual_design p epoch t g
-  makes_on Resting g h = h
-  makes_on (Making from) g h = h
-  makes_on Made g h = record {
-    told = told_on s t g VersionTwo epoch (tables1 s) (tables1 t) k.same_p k.tables1_same h.told;
-    counted = counted_on s t g VersionTwo k.same_p k.lasts_same h.counted;
-  }
-  makes_on (Applying from) g h = h
-
   module _ (but : IsButCopied s t) where
     rest_on : IsOfRest s → IsOfRest t
     rest_on r = record { before = r.before; tables = r.tables; same_p = r.same_p ∙ sym k.same_p; no_work = r.no_work; copied = but ∙ r.copied }
 
     room_on : (p : Phase) → HasRoom p s → HasRoom p t
     room_on Resting r = let free = k.free in omega (arith, r, free)
-    room_on (Making from) r = rest_on r
-    room_on Made r = rest_on r
-    room_on (Applying from) r = rest_on r
+    room_on p r = rest_on r
 
     pub carried_on : (p : Phase) → IsMoment dual_design p epoch t m → Carries dual_design epoch p s n p t m
-    carried_on p moment = carried p p moment (λ kept h. h) (counts_on p) (makes_on p) (room_on p)
+    carried_on p moment =
+        carried p p moment (λ kept h. h) (counts_on s t k.same_p k.lasts_same p)
+        (makes_on epoch s t k.same_p k.tables1_same k.lasts_same p) (room_on p)
 
--- with the same controller
-keeping_same : (s : State) (n m : Device) → KeepsVersions s n s m → Keeping s n s m
-keeping_same s n m versions = record {
+-- with the same controller, but for the DRAM
+keeping_over : (s : State) (dram : Contents) → dram.room ≡ s.dram.room → (n m : Device)
+    → KeepsVersions s n (record s { dram = dram }) m → Keeping s n (record s { dram = dram }) m
+keeping_over s dram room n m versions = record {
   same_p = refl;
-  room = refl;
+  room = room;
   versions = versions;
   tables0_same = refl;
   tables1_same = refl;
@@ -177,8 +171,11 @@ keeping_same s n m versions = record {
   free = omega arith;
   owed = omega arith;
   pages = record { whole = λ h. h; merges = omega arith; promotions = omega arith };
-  work = λ h. h;
+  work = λ h. record { no_work = h.no_work };
 }
+
+keeping_same : (s : State) (n m : Device) → KeepsVersions s n s m → Keeping s n s m
+keeping_same s n m versions = keeping_over s s.dram refl n m versions
 
 same_versions : (s : State) (n : Device) → HoldAll s n → KeepsVersions s n s n
 same_versions s n hold = record { penult_same = λ b l. refl; last_same = λ b l. refl; work_same = λ b l. refl; holds = hold }
@@ -231,18 +228,8 @@ drain_carried : (phase : Phase) (epoch : ℕ) (s : State) (n : Device) → IsMom
     → Carries dual_design epoch phase s n phase (after_drain s) n
 drain_carried phase epoch s n moment =
     carried_on epoch s n (after_drain s) n
-    (record {
-      same_p = refl;
-      room = refl;
-      versions = record { penult_same = λ b l. refl; last_same = λ b l. refl; work_same = λ b l. refl; holds = moment.holds };
-      tables0_same = refl;
-      tables1_same = refl;
-      lasts_same = refl;
-      free = omega arith;
-      owed = omega arith;
-      pages = record { whole = λ h. h; merges = omega arith; promotions = omega arith };
-      work = λ h. record { no_work = h.no_work };
-    })
+    (keeping_over s (after_drain s).dram refl n n
+    (record { penult_same = λ b l. refl; last_same = λ b l. refl; work_same = λ b l. refl; holds = moment.holds }))
     refl phase
     (record { sound = tables_drained s moment.sound; sized = moment.sized; stands = stands_drained phase s moment.stands; holds = moment.holds })
 
@@ -264,8 +251,7 @@ module _ (s : State) (n : Device) (at : StandsAt true s) (sized : IsSized s n) (
       subst (λ (o : Option ℕ). KeepsAll s n (after_next_copy o s n) (devices_after_copy o s n)) found (KeepsAll-next copy_keeps s n at.tables sized) in
       let counts : KeepsCounts s (with_copied b s) = subst (λ (x : State). KeepsCounts s x) state (counts-copied b s n next.pending) in
       let now : KeepsAll s n (with_copied b s) (written_to n (number_of s.p (target c)) (reads s n (last c))) =
-      subst (λ (x : State). KeepsAll s n x (written_to n (number_of s.p (target c)) (reads s n (last c)))) state
-      (subst (λ (d : Device). KeepsAll s n (copied b s n) d) nvm all) in
+      coe 0 1 (i. KeepsAll s n (state i) (nvm i)) all in
       record {
         same_p = refl;
         room = refl;
@@ -302,8 +288,7 @@ module _ (s : State) (n : Device) (at : StandsAt true s) (sized : IsSized s n) (
       (KeepsNext-write page_write_keeps page_write_keeps_others s n at.tables sized) in
       let counts : KeepsCounts s (with_issued b s) = subst (λ (x : State). KeepsCounts s x) state (counts-issued b s n due.busy) in
       let now : KeepsNext s n (with_issued b s) (written_to n (number_of s.p (target c)) v) =
-      subst (λ (x : State). KeepsNext s n x (written_to n (number_of s.p (target c)) v)) state
-      (subst (λ (d : Device). KeepsNext s n (issued b s n) d) nvm all) in
+      coe 0 1 (i. KeepsNext s n (state i) (nvm i)) all in
       let held : StaysHeld s n (with_issued b s) (written_to n (number_of s.p (target c)) v) = now.held hold in
       record {
         same_p = refl;
@@ -374,18 +359,15 @@ versions_two : (v w : Version) (p q : Site) (x : Seat) → v ≢ w → p ≡ AtH
 versions_two Out Out p q x other hp hq e = other refl
 versions_two Alt Alt p q x other hp hq e = other refl
 versions_two Out Alt AtHome q x other hp hq e = cc
-versions_two Out Alt AtAlternate q x other hp hq e = cc
 versions_two Alt Out p AtHome x other hp hq e = cc
-versions_two Alt Out p AtAlternate x other hp hq e = cc
+versions_two v w p q x other hp hq e = cc
 
 sites_two : (v w : Version) (p q : Site) (x : Seat) → w ≡ Out → p ≢ q → placed v p x ≢ placed w q x
 sites_two v Alt p q x out other e = cc
 sites_two Alt Out p AtHome x out other e = cc
-sites_two Alt Out p AtAlternate x out other e = cc
 sites_two Out Out AtHome AtHome x out other e = other refl
 sites_two Out Out AtAlternate AtAlternate x out other e = other refl
-sites_two Out Out AtHome AtAlternate x out other e = cc
-sites_two Out Out AtAlternate AtHome x out other e = cc
+sites_two v w p q x out other e = cc
 
 -- where a block is to be, the committed checkpoint has none
 record IsMoving (s : State) (b : ℕ) : Type 0 where

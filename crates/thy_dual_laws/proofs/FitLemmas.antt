@@ -8,7 +8,7 @@ use Rattle.thy_engine.specs.declared.stage.EngineStage.{EngineStage}
 use Rattle.thy_engine.specs.declared.stage.EngineStage.TheVariants.{Idle, InRound}
 use Rattle.thy_engine.specs.Items.{Phase, Resting, Making, Made, Applying}
 use Rattle.thy_engine.specs.Progress.{phase_of}
-use Rattle.thy_parts.proofs.SealLemmas.{idle_stage}
+use Rattle.thy_parts.proofs.SafeLemmas.{idle_stage}
 use Rattle.thy_dual_laws.specs.Design.{StandsAt, items_dual}
 use Rattle.thy_dual_laws.specs.Fitting.{PromotesAtRest, IdleFits, SealFits, StaysFit}
 use Rattle.thy_dual_laws.proofs.StoreLemmas.{copied_stays}

@@ -1,48 +1,93 @@
--- What copies, written blocks of pages and commits leave of the counts.
-use Rattle.std.proofs.Common.{◌≡◌, ◌≢◌, ℕ, ◌-◌, ◌*◌, ◌<◌, ◌≤◌, ◌&&◌, not, if◌then◌else◌, Bool, true, false, List, [], ◌∷◌, length, get_or, map, slice_set, is_none, refl, sym, ◌∙◌, ap, arith, suc, Option, Some, None, option_and_then}
+-- What copies, written blocks of pages and commits leave of the counts; and a seal that found no work frees entries.
+use Rattle.std.proofs.Common.{◌≡◌, ◌≢◌, ℕ, false, List, map, refl, sym, ◌∙◌, ap, arith, Option, Some, None, option_and_then, ◌-◌, ◌*◌, ◌<◌, ◌≤◌, ◌&&◌, not, if◌then◌else◌, Bool, true, [], ◌∷◌, length, get_or, slice_set, is_none, suc}
+use Rattle.std.proofs.lemmas.List.{length-map, ext_get_or}
+use Rattle.std.proofs.Math.ListN.{get_or-map}
 use Rattle.std.specs.List.{count_by, sum_by}
 use Rattle.std.proofs.lemmas.Bool.{and_parts}
 use Rattle.std.proofs.lemmas.List.Sums.{sum_by-set, sum_by-cons}
-use Rattle.thy_base.specs.declared.block.Block.{Block}
 use Rattle.thy_base.specs.Device.{Device, written_to}
-use Rattle.thy_places.specs.Places.{in_dram}
+use Rattle.thy_base.specs.declared.block.Block.{Block}
 use Rattle.thy_base.specs.Store.{page_of}
 use Rattle.thy_dram.specs.Contents.{written}
-use Rattle.thy_place.specs.Devices.{Devices}
-use Rattle.thy_table.specs.Listing.{Listing, entry_at, free_count, passes}
-use Rattle.thy_table.proofs.IndexLemmas.{one_if}
+use Rattle.thy_table.specs.Listing.{Listing, entry_at, mapped, passes, free_count}
+use Rattle.thy_table.proofs.FirstLemmas.{none-first_from}
+use Rattle.thy_table.proofs.ListingLaws.{entry_at-mapped}
 use Rattle.thy_table.specs.declared.block_entry.BttEntry.{BttEntry}
+use Rattle.thy_table.specs.declared.block_entry.Pending.{Pending}
 use Rattle.thy_table.specs.declared.block_entry.Pending.TheVariants.{Settled}
-use Rattle.thy_table.specs.declared.block_entry.Version.{Version}
-use Rattle.thy_table.specs.declared.block_entry.Version.TheVariants.{Out, Alt}
-use Rattle.thy_table.specs.declared.block_entry.Working.{Working}
-use Rattle.thy_table.specs.declared.block_entry.Working.TheVariants.{NoWork, InNvm, InBuffer}
-use Rattle.thy_table.specs.declared.page_entry.PttEntry.{PttEntry}
+use Rattle.thy_table.specs.declared.block_entry.Working.TheVariants.{NoWork}
 use Rattle.thy_table.specs.BlockEntry.{new_entry}
+use Rattle.thy_table.proofs.IndexLemmas.{one_if}
+use Rattle.thy_table.specs.declared.block_entry.Version.{Version}
+use Rattle.thy_table.specs.declared.block_entry.Version.TheVariants.{Out}
+use Rattle.thy_table.specs.declared.block_entry.Working.{Working}
+use Rattle.thy_table.specs.declared.page_entry.PttEntry.{PttEntry}
 use Rattle.thy_table.specs.PageEntry.{is_framed, no_page, page_blocks}
+use Rattle.thy_places.specs.Places.{in_dram}
+use Rattle.thy_place.specs.Devices.{Devices}
+use Rattle.thy_cell.specs.Rules.{after_copy}
 use Rattle.thy_cell.specs.declared.cell.Cell.{Cell}
 use Rattle.thy_cell.specs.Cells.{seat_of, target}
 use Rattle.thy_cell.specs.Checkpoint.{committed_by, committed_entry, page_committed_by, committed_page, page_or_none, page_issued}
-use Rattle.thy_cell.specs.Rules.{after_copy}
-use Rattle.thy_control.specs.declared.overlay.WorkCounts.{WorkCounts}
 use Rattle.thy_control.specs.Keys.{block_key, page_key}
-use Rattle.thy_control.specs.State.{State, AreSoundTables, cell_of}
+use Rattle.thy_control.specs.State.{State, cell_of, AreSoundTables}
+use Rattle.thy_control.specs.Copies.{needs_copy, next_copy, copied}
+use Rattle.thy_control.specs.Frees.{HasNoWork, settled}
+use Rattle.thy_control.proofs.CopyLemmas.{listed-pending}
+use Rattle.thy_control.proofs.FindLemmas.{found_entry, entry_for-some}
+use Rattle.thy_control.proofs.StayLemmas.{map-set_same}
+use Rattle.thy_control.proofs.LeftLemmas.{not_pending}
+use Rattle.thy_control.specs.declared.overlay.WorkCounts.{WorkCounts}
 use Rattle.thy_control.specs.Commit.{committed_state}
-use Rattle.thy_control.specs.Copies.{copied}
 use Rattle.thy_control.specs.Holding.{waits, is_promoted, waiting, promoted}
 use Rattle.thy_control.specs.Merges.{overlays}
 use Rattle.thy_control.specs.Overlay.{is_buffered, is_overlaid, AreWorkCounts}
 use Rattle.thy_control.specs.Pages.{issued}
 use Rattle.thy_control.specs.Promotions.{fills_left, unfilled}
 use Rattle.thy_control.specs.Seal.{block_is_framed}
-use Rattle.thy_control.proofs.GuardLemmas.{placed-in_nvm}
+use Rattle.thy_control.proofs.KeepLemmas.{placed-in_nvm}
 use Rattle.thy_control.proofs.CommitLemmas.{cell-committed}
-use Rattle.thy_control.proofs.CopyLemmas.{listed-pending}
 use Rattle.thy_control.proofs.CountLemmas.{count-set_same}
-use Rattle.thy_control.proofs.FindLemmas.{found_entry, entry_for-some}
 use Rattle.thy_control.proofs.IssueLemmas.{listed-busy, busy-framed}
-use Rattle.thy_control.proofs.StepMarkLemmas.{AreWorkCounts-copied, AreWorkCounts-issued}
+use Rattle.thy_control.proofs.CursorLemmas.{AreWorkCounts-copied, AreWorkCounts-issued}
+use Rattle.thy_dual_laws.specs.Design.{IsButCopied}
 use Rattle.thy_dual_laws.proofs.LeftLemmas.{IsOfPage, page-listed}
+
+pub but-copied : (b : ℕ) (s : State) (m : Device) → (cell_of s b).entry.pend ≢ Settled → IsButCopied s (copied b s m)
+unfolding copied
+but-copied b s m pending =
+    let there = found_entry block_key new_entry s.btt b (cell_of s b).i (listed-pending b s pending) in
+    let is : (cell_of s b).entry ≡ there.0 = entry_for-some block_key new_entry s.btt b (cell_of s b).i there.0 (listed-pending b s pending) there.1 in
+    ap (λ (es : List (Option BttEntry)). record s.btt { entries = es })
+    (map-set_same (option_and_then settled) s.btt.entries (cell_of s b).i (Some (after_copy (cell_of s b)).entry) None
+    (ap settled is ∙ sym (ap (option_and_then settled) there.1)) there.3)
+
+-- if only copies were made no entry has work, if none had
+pub no_work-copied : (s t : State) → IsButCopied s t → HasNoWork s → HasNoWork t
+no_work-copied s t same none = record { no_work = λ i e was. by_entry i e was (entry_at s.btt i) refl } where
+  by_entry : (i : ℕ) (e : BttEntry) → entry_at t.btt i ≡ Some e → (o : Option BttEntry) → entry_at s.btt i ≡ o → e.work ≡ NoWork
+  by_entry i e now o was = by_old o was (sym (entry_at-mapped settled s.btt i ∙ ap (option_and_then settled) was)
+      ∙ ap (λ (u : Listing BttEntry). entry_at u i) (sym same) ∙ entry_at-mapped settled t.btt i ∙ ap (option_and_then settled) now)
+    where
+      by_old : (o : Option BttEntry) → entry_at s.btt i ≡ o → option_and_then settled o ≡ settled e → e.work ≡ NoWork
+      by_old None was h = cc
+      by_old (Some f) was h =
+          let alike : record f { pend = Settled } ≡ record e { pend = Settled } = cc in
+          ap (λ (x : BttEntry). x.work) (sym alike) ∙ none.no_work i f was
+
+-- once all copies are made, the table is as it is with all of them made
+pub settled-done : (t : State) → next_copy t ≡ None → mapped settled t.btt ≡ t.btt
+settled-done t none =
+    ap (λ (es : List (Option BttEntry)). record t.btt { entries = es })
+    (ext_get_or None (map (option_and_then settled) t.btt.entries) t.btt.entries (length-map t.btt.entries (option_and_then settled))
+    (λ i l.
+    get_or-map (option_and_then settled) t.btt.entries i None
+    ∙ by_entry (entry_at t.btt i)
+    (none-first_from (passes needs_copy) None t.btt.entries 0 none i (omega arith) (omega (arith, l, length-map t.btt.entries (option_and_then settled))))))
+  where
+    by_entry : (o : Option BttEntry) → passes needs_copy o ≡ false → option_and_then settled o ≡ o
+    by_entry None h = refl
+    by_entry (Some e) h = ap (λ (p : Pending). Some (record e { pend = p })) (sym (not_pending e.pend h))
 
 -- ---- counts over a rule
 
@@ -147,15 +192,11 @@ counts-issued b s m busy =
 -- what a commit leaves of an entry waits as it did, and lies over a frame only if it did
 committed-waits : (v : Version) (w : Working) (e : BttEntry) → passes (λ (x : BttEntry). waits x.pend) (committed_by v w e) ≡ true → waits e.pend ≡ true
 committed-waits Out NoWork e h = cc
-committed-waits Out InNvm e h = h
-committed-waits Out InBuffer e h = h
-committed-waits Alt w e h = h
+committed-waits v w e h = h
 
 committed-lies : (pages : Listing PttEntry) (v : Version) (w : Working) (e : BttEntry) → passes (is_overlaid pages) (committed_by v w e) ≡ true → is_overlaid pages e ≡ true
 committed-lies pages Out NoWork e h = cc
-committed-lies pages Out InNvm e h = h
-committed-lies pages Out InBuffer e h = h
-committed-lies pages Alt w e h = h
+committed-lies pages v w e h = h
 
 -- a page that a commit leaves is in promotion as it was
 committed-promoted : (leaving : Bool) (e : PttEntry) → passes is_promoted (page_committed_by leaving e) ≡ true → is_promoted e ≡ true

@@ -5,7 +5,7 @@ use Rattle.thy_base.specs.Device.{Device, zero_block}
 use Rattle.thy_base.specs.Store.{page_of}
 use Rattle.thy_places.specs.declared.place.Place.{Place}
 use Rattle.thy_places.specs.Places.{in_dram, number_of, image_blocks}
-use Rattle.thy_dram.specs.Contents.{Contents, written}
+use Rattle.thy_dram.specs.Contents.{Contents}
 use Rattle.thy_place.specs.Devices.{devices_of}
 use Rattle.thy_table.specs.Listing.{IsListing, entry_at, lists}
 use Rattle.thy_table.proofs.ListingLaws.{IsListing-set, place_of-lists}
@@ -24,18 +24,17 @@ use Rattle.thy_control.specs.Positions.{position_by}
 use Rattle.thy_control.specs.Pages.{next_page, writes_left, block_to_write, devices_issued, issued, after_next_write}
 use Rattle.thy_control.specs.State.{State, AreSoundTables, IsSized, cell_of, reads}
 use Rattle.thy_control.specs.Stays.{AreCopied}
-use Rattle.thy_control.proofs.CellLemmas.{block-cell_of, page-cell_of}
+use Rattle.thy_control.proofs.StateLemmas.{block-cell_of, page-cell_of}
 use Rattle.thy_control.proofs.CommitLemmas.{AreSoundTables-committed}
 use Rattle.thy_control.proofs.CopyLemmas.{IsNext, IsNext-entry, listed-pending, AreSoundTables-copied, copies_left-next}
 use Rattle.thy_control.proofs.CountLemmas.{promoted-set}
-use Rattle.thy_control.proofs.IdleLemmas.{HasNoWork-committed}
+use Rattle.thy_control.proofs.SealStateLemmas.{HasNoWork-committed}
 use Rattle.thy_control.proofs.IssueLemmas.{IsDue, IsDue-entry, listed-busy, AreSoundTables-issued, writes_left-next}
 use Rattle.thy_control.proofs.LeftLemmas.{AreCopied-none}
 use Rattle.thy_recover.specs.Filling.{filling_dual}
 use Rattle.thy_engine.specs.Items.{AreItems, GoesTo, Resting}
 use Rattle.thy_dual_laws.specs.Design.{is_promoting, written_by, with_copied, with_issued, StandsAt, StandsMade, items_dual, IsButCopied}
-use Rattle.thy_dual_laws.proofs.FreeLemmas.{but-copied, no_work-copied}
-use Rattle.thy_dual_laws.proofs.HeldLemmas.{written-dram, promoted-committed, target-in_nvm}
+use Rattle.thy_dual_laws.proofs.HeldLemmas.{but-copied, no_work-copied, written-dram, promoted-committed, target-in_nvm}
 use Rattle.thy_dual_laws.proofs.LeftLemmas.{copies-few, writes-few, writes-copied}
 use Rattle.thy_dual_laws.proofs.RuleLemmas.{page_write_keeps, page_write_keeps_others, commit_keeps_sound}
 
@@ -141,15 +140,13 @@ module _ (s : State) (at : StandsAt true s) where
   stands_by None None k copy page is = cc
 
   pub same_by : (i j : Option ℕ) → GoesOn s (written_by s i j)
-  same_by (Some i) j = record { same_p = refl; dram = refl }
   same_by None (Some j) = record { same_p = refl; dram = refl }
-  same_by None None = record { same_p = refl; dram = refl }
+  same_by i j = record { same_p = refl; dram = refl }
 
   -- if none is next, all is copied and written
   none_by : (i j : Option ℕ) → next_copy s ≡ i → next_page s ≡ j → position_by s i j ≡ None → AreCopied s
-  none_by (Some i) j copy page is = cc
-  none_by None (Some j) copy page is = cc
   none_by None None copy page is = AreCopied-none s (record { copies = copy; pages = page })
+  none_by i j copy page is = cc
 
   -- one is left less
   pub counts_by : (i j : Option ℕ) (k : ℕ) → next_copy s ≡ i → next_page s ≡ j → position_by s i j ≡ Some k

@@ -1,13 +1,7 @@
 pub mod RuleLemmas
-pub mod BlocksLemmas
-pub mod MostLemmas
 pub mod ListedLemmas
-pub mod LastLemmas
 pub mod LeftLemmas
-pub mod FreeLemmas
 pub mod HeldLemmas
-pub mod MemoryLemmas
-pub mod GuardLemmas
 pub mod ReadLemmas
 pub mod ItemLemmas
 pub mod SlotLemmas
@@ -16,7 +10,6 @@ pub mod StoreLemmas
 pub mod MergeLemmas
 pub mod PageLemmas
 pub mod PartsLemmas
-pub mod LawLemmas
 pub mod CycleLemmas
 pub mod FitLemmas
-pub mod RecoveryLemmas
+pub mod LawLemmas

@@ -23,7 +23,7 @@ use Rattle.thy_control.specs.Seal.{block_is_framed}
 use Rattle.thy_control.specs.State.{State, AreSoundTables, IsSized, cell_of}
 use Rattle.thy_control.specs.Stays.{Stays as StaysControl}
 use Rattle.thy_control.specs.Versions.{KeepsAll}
-use Rattle.thy_control.proofs.CellLemmas.{page-cell_of}
+use Rattle.thy_control.proofs.StateLemmas.{page-cell_of}
 use Rattle.thy_control.proofs.FillLemmas.{IsFill, IsFill-entry, listed-fresh, AreSoundTables-filled, KeepsNext, KeepsNext-promotion}
 use Rattle.thy_control.proofs.FindLemmas.{found_entry}
 use Rattle.thy_control.proofs.MarkLemmas.{counted-some}
@@ -140,7 +140,8 @@ module _ (epoch : ℕ) (s : State) (n : Device) (moment : IsMoment dual_design R
         };
         holds = kept.holds moment.holds;
       })
-      (λ k h. h) (counts_on epoch s n t n keeping Resting) (makes_on epoch s n t n keeping Resting)
+      (λ k h. h) (counts_on s t keeping.same_p keeping.lasts_same Resting)
+      (makes_on epoch s t keeping.same_p keeping.tables1_same keeping.lasts_same Resting)
       (λ r. let free = made.free in omega (arith, r, free))
 
   merges : WritesOne dual_design Resting epoch s n t × (overlays t + 1 ≡ overlays s)
@@ -190,10 +191,9 @@ module _ (phase : Phase) (epoch : ℕ) (s : State) (n : Device) (moment : IsMome
 
   -- no block has work, whatever the phase
   none_works : (p : Phase) → items_dual.stands p s → HasNoWork s
-  none_works Resting h = h.promotes some
-  none_works (Making from) h = h.promotes some
   none_works Made h = h.at.promotes some
   none_works (Applying from) h = absurd h
+  none_works p h = h.promotes some
 
   none_now : HasNoWork u
   none_now = work_same s u one.blocks (none_works phase moment.stands)

@@ -28,7 +28,7 @@ use Rattle.thy_control.specs.State.{State, AreSoundTables, cell_of, penult_of, n
 use Rattle.thy_control.specs.Stays.{HoldAll}
 use Rattle.thy_control.proofs.MarkLemmas.{counted-some}
 use Rattle.thy_control.proofs.TablesLemmas.{AreTablesOf-committed}
-use Rattle.thy_control.proofs.GuardLemmas.{placed-in_nvm}
+use Rattle.thy_control.proofs.KeepLemmas.{placed-in_nvm}
 use Rattle.thy_recover.specs.Filling.{loads, IsEmpty, filling_dual}
 use Rattle.thy_recover.proofs.WorkLemmas.{loads-are}
 use Rattle.thy_base.specs.declared.config.Parameters.{Parameters}

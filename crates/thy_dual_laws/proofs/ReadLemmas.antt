@@ -1,9 +1,11 @@
 -- What is read of every block over a device that reads the same at memory's places.
-use Rattle.std.proofs.Common.{◌≡◌, ℕ, ◌<◌, Bool, true, false, if◌then◌else◌, refl, sym, arith}
+use Rattle.std.proofs.Common.{◌≡◌, ℕ, ◌<◌, map, ◌∙◌, ap, Bool, true, false, if◌then◌else◌, refl, sym, arith}
+use Rattle.std.specs.List.{range_with_len}
 use Rattle.thy_base.specs.declared.block.Block.{Block}
-use Rattle.thy_base.specs.Device.{Device, block_at, newest, written_to}
+use Rattle.thy_base.specs.declared.config.Parameters.{Parameters}
 use Rattle.thy_base.specs.Geometry.{memory_blocks}
-use Rattle.thy_base.proofs.DeviceLemmas.{newest-written_to_other}
+use Rattle.thy_base.proofs.DeviceLemmas.{map-agree, newest-written_to_other}
+use Rattle.thy_base.specs.Device.{Device, block_at, newest, written_to}
 use Rattle.thy_places.specs.declared.place.Place.{Place}
 use Rattle.thy_places.specs.Places.{IsPlace, in_dram, number_of, blocks_one, IsApart}
 use Rattle.thy_places.proofs.PlaceLemmas.{between_slots}
@@ -11,11 +13,16 @@ use Rattle.thy_cell.specs.declared.cell.Cell.{Cell}
 use Rattle.thy_cell.specs.Cells.{seat_of, frame_at, penult, target, last, work}
 use Rattle.thy_control.specs.State.{State, AreSoundTables, IsSized, cell_of, reads, penult_of, last_of, work_of}
 use Rattle.thy_control.specs.Stays.{HoldAll}
-use Rattle.thy_control.proofs.CellLemmas.{IsPlace-penult, IsPlace-target, IsPlace-last, IsPlace-work, IsWithin-cell_of}
-use Rattle.thy_control.proofs.GuardLemmas.{apart_place}
-use Rattle.thy_control.proofs.HoldLemmas.{IsPlace-frame_of}
+use Rattle.thy_control.proofs.StateLemmas.{IsPlace-penult, IsPlace-target, IsPlace-last, IsPlace-work, IsWithin-cell_of}
+use Rattle.thy_control.proofs.KeepLemmas.{apart_place, IsPlace-frame_of}
 use Rattle.thy_control.proofs.StepLemmas.{KeepsEach, Keeps-untouched, checkpoints-each, work-each, holds-each}
 use Rattle.thy_parts.specs.Moments.{ReadsSame}
+
+-- so do those of two states of one geometry
+pub blocks-agree : (f g : ℕ → Block) (p q : Parameters) → q ≡ p → ((b : ℕ) → b < memory_blocks p → f b ≡ g b)
+    → map f (range_with_len 0 (memory_blocks q)) ≡ map g (range_with_len 0 (memory_blocks p))
+blocks-agree f g p q same agree =
+    ap (λ (r : Parameters). map f (range_with_len 0 (memory_blocks r))) same ∙ map-agree f g (memory_blocks p) agree
 
 -- both checkpoints have every block as before, and a load gives it; the places hold what they have to
 pub record KeepsVersions (s : State) (n : Device) (t : State) (m : Device) : Type 0 where

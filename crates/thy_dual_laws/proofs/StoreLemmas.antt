@@ -23,7 +23,7 @@ use Rattle.thy_table.specs.BlockEntry.{new_entry}
 use Rattle.thy_switch.specs.LastBlocks.{last_block_of}
 use Rattle.thy_cell.specs.declared.cell.Cell.{Cell}
 use Rattle.thy_cell.specs.declared.cell.StoreRule.{StoreRule}
-use Rattle.thy_cell.specs.declared.cell.StoreRule.TheVariants.{ToFrame, ToBuffer, ToNvm, PendingFirst}
+use Rattle.thy_cell.specs.declared.cell.StoreRule.TheVariants.{ToFrame, ToBuffer, ToNvm}
 use Rattle.thy_cell.specs.Rules.{store_place, after_store}
 use Rattle.thy_cell.specs.Store.{put_by}
 use Rattle.thy_layout.specs.declared.layout_version.LayoutVersion.{LayoutVersion}
@@ -33,7 +33,6 @@ use Rattle.thy_layout.specs.Layout.{looked_by}
 use Rattle.thy_layout.proofs.ReadBackLemmas.{version_of-commit_of}
 use Rattle.thy_record.specs.DualLayouts.{dual_layouts}
 use Rattle.thy_record.specs.Number.{scheme_number}
-use Rattle.thy_record.specs.Tables.{Tables}
 use Rattle.thy_record.specs.TableBlocks.{table_block_of}
 use Rattle.thy_record.specs.VersionSlots.{blocks_of_slot, place_of_slot}
 use Rattle.thy_record.proofs.IssuingLemmas.{slot_behind}
@@ -50,11 +49,9 @@ use Rattle.thy_control.specs.State.{State, AreSoundTables, reads, penult_of, las
 use Rattle.thy_control.specs.Stays.{AreCopied, Stays as StaysControl, StaysUp, StaysHeld}
 use Rattle.thy_control.specs.StoredTables.{btt_with, btt_after, ptt_after, answer_of}
 use Rattle.thy_control.specs.OverCalls.{stays_same, stays_on}
-use Rattle.thy_control.proofs.CellLemmas.{block-cell_of, page-cell_of}
-use Rattle.thy_control.proofs.GuardLemmas.{Outcome, there, behind_slots, LeavesGuarded-after}
-use Rattle.thy_control.proofs.HoldLemmas.{HoldAll-after}
+use Rattle.thy_control.proofs.StateLemmas.{block-cell_of, page-cell_of}
+use Rattle.thy_control.proofs.KeepLemmas.{Outcome, there, behind_slots, LeavesGuarded-after, HoldAll-after, Kept, Kept-after}
 use Rattle.thy_control.proofs.HoldingLemmas.{AreWorks-holding}
-use Rattle.thy_control.proofs.KeepLemmas.{Kept, Kept-after}
 use Rattle.thy_control.proofs.PutLemmas.{block_listed, page_listed, put_by-reads, after-i, after-j, after-block, after-page, AreSoundTables-after}
 use Rattle.thy_control.proofs.StayLemmas.{Stays-done, Stays-failed, stays_read, free_at}
 use Rattle.thy_control.proofs.StoreLemmas.{ready-whole, stored_by}
@@ -62,10 +59,10 @@ use Rattle.thy_engine.specs.Items.{Phase, Resting, Making, Made, Applying}
 use Rattle.thy_parts.specs.Holding.{holding_of}
 use Rattle.thy_parts.specs.Moments.{IsMoment, MakesAt}
 use Rattle.thy_parts.specs.Storing.{CanStore, MakesStore, SealedStays, SlotStaysAt, StaysAt, StaysOver, IsStoring}
-use Rattle.thy_dual_laws.specs.Design.{StandsAt, items_dual, slot_rest, IsCounted, IsOfRest, HasRoom, rests_at, write_there, store_action, PromotesOn, StaysDual, IsStill, dual_design}
-use Rattle.thy_dual_laws.proofs.BlocksLemmas.{blocks-agree}
-use Rattle.thy_dual_laws.proofs.DesignLemmas.{told_on, counted_on}
-use Rattle.thy_dual_laws.proofs.GuardLemmas.{Spares-stays, Spares-stays_next}
+use Rattle.thy_dual_laws.specs.Design.{StandsAt, items_dual, slot_rest, IsOfRest, HasRoom, rests_at, write_there, store_action, PromotesOn, StaysDual, IsStill, dual_design}
+use Rattle.thy_dual_laws.proofs.ReadLemmas.{blocks-agree}
+use Rattle.thy_dual_laws.proofs.DesignLemmas.{told_on, counts_on, makes_on}
+use Rattle.thy_dual_laws.proofs.SlotLemmas.{Spares-stays, Spares-stays_next}
 use Rattle.thy_dual_laws.proofs.LeftLemmas.{copies-most, writes-most}
 use Rattle.thy_dual_laws.proofs.RuleLemmas.{store_goes_elsewhere, store_leaves_target, store_reads, store_holds}
 
@@ -84,24 +81,19 @@ listing_with s t b l r = by_rule r where
   by_place (Some i) found = t.btt_once
 
   by_rule : (q : StoreRule) → IsListing block_key (btt_with q b s.btt)
-  by_rule ToFrame = t.btt_once
   by_rule ToBuffer = by_place (place_of block_key b s.btt) refl
   by_rule ToNvm = by_place (place_of block_key b s.btt) refl
-  by_rule PendingFirst = t.btt_once
+  by_rule q = t.btt_once
 
 btt_listing : (r : StoreRule) (c : Cell) (u : Listing BttEntry) → IsListing block_key u
     → (r ≢ ToFrame → lists block_key c.entry.block (entry_at u c.i) ≡ true) → IsListing block_key (btt_after r c u)
 btt_listing ToFrame c u once was = once
-btt_listing ToBuffer c u once was = IsListing-set block_key u once c.i c.entry (was (λ e. cc))
-btt_listing ToNvm c u once was = IsListing-set block_key u once c.i c.entry (was (λ e. cc))
-btt_listing PendingFirst c u once was = IsListing-set block_key u once c.i c.entry (was (λ e. cc))
+btt_listing r c u once was = IsListing-set block_key u once c.i c.entry (was (λ e. cc))
 
 ptt_listing : (r : StoreRule) (c : Cell) (u : Listing PttEntry) → IsListing page_key u
     → (r ≡ ToFrame → lists page_key c.page.page (entry_at u c.j) ≡ true) → IsListing page_key (ptt_after r c u)
 ptt_listing ToFrame c u once was = IsListing-set page_key u once c.j c.page (was refl)
-ptt_listing ToBuffer c u once was = once
-ptt_listing ToNvm c u once was = once
-ptt_listing PendingFirst c u once was = once
+ptt_listing r c u once was = once
 
 block_before : (b : ℕ) (s : State) → (cell_before b s).entry.block ≡ b
 unfolding cell_before
@@ -270,10 +262,10 @@ module _ (b : ℕ) (block : Block) (s : State) (n : Device) (can : CanStore dual
     control = stays_control;
     room = room;
     tables = λ old. sound_after;
-    promotes = λ p. absurd (not_true (sym (ap (λ (k : ℕ). nat_lt 0 k) (none_promoted (answer_of (rule_for b s)) has_stored)) ∙ p));
-  } where
-    not_true : false ≡ true → ⊥
-    not_true e = cc
+    promotes = λ p.
+        let no : false ≡ true = sym (ap (λ (k : ℕ). nat_lt 0 k) (none_promoted (answer_of (rule_for b s)) has_stored)) ∙ p in
+        absurd cc;
+  }
 
   makes_device : MakesStore dual_design b block s n t d.nvm
   unfolding state_after devices_after
@@ -285,11 +277,8 @@ module _ (b : ℕ) (block : Block) (s : State) (n : Device) (can : CanStore dual
         dram = dram_there (in_dram x) (number_of s.p x) v (devices_of n s.dram);
         copies = λ less. writes_there (in_dram x) (number_of s.p x) v (devices_of n s.dram);
         stays = stores;
-        still = λ no. absurd (not_true no);
+        still = λ h. let no : false ≡ true = h in absurd cc;
       }
-    where
-      not_true : false ≡ true → ⊥
-      not_true e = cc
 
   makes : MakesStore dual_design b block s n t (after (store_action b block s) n)
   makes = subst (λ (m : Device). MakesStore dual_design b block s n t m) (sym (action_is b block s n)) makes_device
@@ -353,9 +342,7 @@ still_rest s t still room = record {
 
 still_room : (phase : Phase) (s t : State) → IsStill s t → HasRoom phase s → HasRoom phase t
 still_room Resting s t still room = subst (λ (u : Listing BttEntry). 2 ≤ free_count u) (sym still.blocks) room
-still_room (Making from) s t still room = still_rest s t still room
-still_room Made s t still room = still_rest s t still room
-still_room (Applying from) s t still room = still_rest s t still room
+still_room phase s t still room = still_rest s t still room
 
 still_rests : (sealed : Bool) (phase : Phase) (s t : State) → IsStill s t → rests_at true sealed phase s → rests_at true sealed phase t
 still_rests sealed phase s t still r = record { no_work = work_same s t still.blocks r.no_work; room = λ l. still_room phase s t still (r.room l) }
@@ -387,33 +374,14 @@ stands_stays (Applying from) s n t m stays h = h
 
 -- the slot says the same
 pub rest_by : (s t : State) → t.p ≡ s.p → tables1 t ≡ tables1 s → t.counts.lasts ≡ s.counts.lasts → (k : ℕ) → slot_rest t k ≡ slot_rest s k
-rest_by s t p same lasts k =
-    ap (λ (q : Parameters). if nat_lt k (table_blocks q) then table_block_of (tables1 t) k else last_block_of t.counts.lasts (k - table_blocks q)) p
-    ∙ ap (λ (x : Tables). if nat_lt k (table_blocks s.p) then table_block_of x k else last_block_of t.counts.lasts (k - table_blocks s.p)) same
-    ∙ ap (λ (x : List ℕ). if nat_lt k (table_blocks s.p) then table_block_of (tables1 s) k else last_block_of x (k - table_blocks s.p)) lasts
+rest_by s t p same lasts k = λ i.
+    if nat_lt k (table_blocks (p i)) then table_block_of (same i) k else last_block_of (lasts i) (k - table_blocks (p i))
 
 module _ (epoch : ℕ) (s : State) (n : Device) (t : State) (m : Device) (stays : StaysDual s n t m) where
   made_spared : (phase : Phase) → IsMoment dual_design phase epoch s n → (g : List Block) → MakesAt dual_design phase epoch s g
       → Spares (1 ∷ looked_by (dual_layouts s.p) g) n m
-  made_spared Resting moment g h = absurd h
-  made_spared (Making from) moment g h = absurd h
   made_spared Made moment g h = Spares-stays_next s n t m g VersionTwo epoch moment.sound stays.control moment.stands.copied h.told
-  made_spared (Applying from) moment g h = absurd h
-
-  counted_stays : (phase : Phase) (v : LayoutVersion) (g : List Block) → IsCounted phase v s g → IsCounted phase v t g
-  counted_stays Resting v g h = counted_on s t g v stays.control.same_p stays.control.lasts_same h
-  counted_stays (Making from) v g h = tt
-  counted_stays Made v g h = tt
-  counted_stays (Applying from) v g h = tt
-
-  makes_stays : (phase : Phase) (g : List Block) → MakesAt dual_design phase epoch s g → MakesAt dual_design phase epoch t g
-  makes_stays Resting g h = h
-  makes_stays (Making from) g h = h
-  makes_stays Made g h = record {
-    told = told_on s t g VersionTwo epoch (tables1 s) (tables1 t) stays.control.same_p stays.control.tables1_same h.told;
-    counted = counted_on s t g VersionTwo stays.control.same_p stays.control.lasts_same h.counted;
-  }
-  makes_stays (Applying from) g h = h
+  made_spared phase moment g h = absurd h
 
   rest_stays : (k : ℕ) → slot_rest t k ≡ slot_rest s k
   rest_stays = rest_by s t stays.control.same_p stays.control.tables1_same stays.control.lasts_same
@@ -442,16 +410,13 @@ module _ (epoch : ℕ) (s : State) (n : Device) (t : State) (m : Device) (stays 
         slot_inside (suc (suc r)) k two l = absurd (omega (arith, two))
 
     slot_stays : (p : Phase) → SlotStaysAt dual_design p epoch s n t m
-    slot_stays Resting = tt
-    slot_stays (Making from) = tt
     slot_stays Made = record { rest = rest_stays; reads = slot_reads }
-    slot_stays (Applying from) = tt
+    slot_stays p = tt
 
     sealed_stays : (p : Phase) → SealedStays dual_design p s n t m
     sealed_stays Resting = tt
-    sealed_stays (Making from) = blocks-agree (last_of t m) (last_of s n) s.p t.p stays.control.same_p held.last_same
-    sealed_stays Made = blocks-agree (last_of t m) (last_of s n) s.p t.p stays.control.same_p held.last_same
     sealed_stays (Applying from) = tt
+    sealed_stays p = blocks-agree (last_of t m) (last_of s n) s.p t.p stays.control.same_p held.last_same
 
     stays_up : StaysAt dual_design phase epoch s n t m
     stays_up = record {
@@ -468,9 +433,9 @@ module _ (epoch : ℕ) (s : State) (n : Device) (t : State) (m : Device) (stays 
         kept = h.kept;
         told = told_on s t g h.version h.kept (tables0 s) (tables0 t) stays.control.same_p stays.control.tables0_same h.told;
         other = h.other;
-        counted = counted_stays phase h.version g h.counted;
+        counted = counts_on s t stays.control.same_p stays.control.lasts_same phase h.version g h.counted;
       };
-      makes = makes_stays phase;
+      makes = makes_on epoch s t stays.control.same_p stays.control.tables1_same stays.control.lasts_same phase;
       rests = λ b r. tt;
       slot = slot_stays phase;
       header = now.apart_reads 0 (inl (omega arith)) (omega arith);

@@ -1,4 +1,4 @@
-use Rattle.thy_dual_laws.proofs.RecoveryLemmas.{migration_writes, version_two_stays}
+use Rattle.thy_dual_laws.proofs.LawLemmas.{migration_writes, version_two_stays}
 use Rattle.thy_dual_laws.proofs.laws.a_migration_writes_a_slot_and_the_commit_block.Goals as goal
 
 pub returns-clause-writes : goal.returns-clause-writes

@@ -1,4 +1,4 @@
-use Rattle.thy_dual_laws.proofs.RecoveryLemmas.{steps_leave_nvm, failures_write_nothing}
+use Rattle.thy_dual_laws.proofs.LawLemmas.{steps_leave_nvm, failures_write_nothing}
 use Rattle.thy_dual_laws.proofs.laws.a_recovery_without_migration_writes_nothing.Goals as goal
 
 pub returns-clause-steps : goal.returns-clause-steps
