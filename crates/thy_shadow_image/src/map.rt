@@ -60,7 +60,7 @@ fn stray(slot: &[u8], x: usize, geometry: &Geometry) -> Option<BadImage>
 }
 
 // The first of them.
-#[tactic(auto, using(crate::proofs::MapLemmas::stray_next, crate::proofs::MapLemmas::table_long))]
+#[tactic(auto, using(crate::proofs::SlotLemmas::stray_next, crate::proofs::SlotLemmas::table_long))]
 pub(crate) fn index_fault(slot: &[u8], geometry: &Geometry) -> Option<BadImage>
     requires { length slot.now ≡ 64 * slot_blocks geometry.now }
     ensures { result ≡ fault_of_index geometry.now (table_in geometry.now (blocks_of slot.now)) }

@@ -1,4 +1,4 @@
-use Rattle.thy_shadow_image.proofs.FreeLemmas.{free_not_looked}
+use Rattle.thy_shadow_image.proofs.LayoutLemmas.{free_not_looked}
 use Rattle.thy_shadow_image.proofs.laws.free_is_not_looked_at.Goals as goal
 
 pub returns : goal.returns

@@ -1,6 +1,6 @@
 use Rattle.std.proofs.Common.{arith}
 use Rattle.thy_layout.specs.Files.{blocks_of}
-use Rattle.thy_shadow_image.proofs.MapLemmas.{stray_past}
+use Rattle.thy_shadow_image.proofs.SlotLemmas.{stray_past}
 use Rattle.thy_shadow_image.proofs.map.index_fault.Goals as goal
 
 pub returns : goal.returns

@@ -1,7 +1,7 @@
 use Rattle.std.proofs.Common.{length, ap, arith}
 use Rattle.thy_layout.specs.Files.{blocks_of}
 use Rattle.thy_layout.proofs.ClashLemmas.{length-table_in}
-use Rattle.thy_shadow_image.proofs.MapLemmas.{table_long}
+use Rattle.thy_shadow_image.proofs.SlotLemmas.{table_long}
 use Rattle.thy_shadow_image.proofs.map.listed_page.Goals as goal
 
 pub entry-requires : goal.entry-requires
