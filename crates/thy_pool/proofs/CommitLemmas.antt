@@ -1,6 +1,6 @@
 -- Where pages are after a commit: each where the map of the next checkpoint had it.
 use Rattle.std.proofs.Common.{◌≡◌, ◌⊎◌, ℕ, ◌+◌, ◌-◌, ◌<◌, ◌≤◌, Bool, true, false, nat_lt, if◌then◌else◌, length, map, Option, Some, None, is_some, refl, sym, ◌∙◌, ap, subst, inl, inr, arith}
-use Rattle.std.proofs.lemmas.Bool.{cases_Bool, cases_lt, lt-ltb, ltb-true, ltb-false, le-ltb}
+use Rattle.std.proofs.lemmas.Bool.{cases_lt, lt-ltb, ltb-true, ltb-false, le-ltb}
 use Rattle.std.proofs.lemmas.List.{length-map, get_or-map, get_or_past}
 use Rattle.thy_base.specs.declared.config.Parameters.{Parameters}
 use Rattle.thy_table.specs.Listing.{Listing, IsListing, entry_at, lists, place_of}
@@ -41,6 +41,14 @@ pub some_of : {X : Type 0} (o : Option X) → is_some o ≡ true → (x : X) × 
 some_of None h = cc
 some_of (Some x) h = (x, refl)
 
+-- a number that no entry lists is at no place
+not_true : (b : Bool) → (b ≡ true → ⊥) → b ≡ false
+not_true true never = absurd (never refl)
+not_true false never = refl
+
+pub unlisted : (t : Listing Held) (n : ℕ) → ((q : ℕ) → lists number_key n (entry_at t q) ≡ true → ⊥) → place_of number_key n t ≡ None
+unlisted t n none = place_of-none number_key t n (λ q. not_true (lists number_key n (entry_at t q)) (none q))
+
 -- a filled frame is there
 pub filled-inside : (s : State) (j : ℕ) → IsSoundState s → is_some (entry_at s.frames j) ≡ true → j < s.p.ptt
 filled-inside s j h some = elim (cases_lt j s.p.ptt) as (λ _. j < s.p.ptt) [
@@ -65,26 +73,31 @@ entry_at-committed k p frames pool q =
           ∙ sym (ap (committed_entry k p frames) (get_or_past pool.entries q None l))
     ]
 
--- what a page without a frame had stays its
-stays : (k : ℕ) (p : Parameters) (frames : Listing Framed) (n : ℕ) → n < p.pages → place_of page_key n frames ≡ None
-    → committed_entry k p frames (Some (held n)) ≡ Some (held n)
-stays k p frames n l none =
-    ap (λ b. if b then (if is_below k (place_of page_key n frames) then None else Some (held n))
-    else (if nat_lt (n - p.pages) k then Some (held (page_by (entry_at frames (n - p.pages)))) else Some (held n))) (lt-ltb n p.pages l)
-    ∙ ap (λ o. if is_below k o then None else Some (held n)) none
+module _ (k : ℕ) (p : Parameters) (frames : Listing Framed) where
+  -- of a page of memory, and of a frame
+  pub low : (n : ℕ) → n < p.pages
+      → committed_entry k p frames (Some (held n)) ≡ (if is_below k (place_of page_key n frames) then None else Some (held n))
+  low n l =
+      ap (λ b. if b then (if is_below k (place_of page_key n frames) then None else Some (held n))
+      else (if nat_lt (n - p.pages) k then Some (held (page_by (entry_at frames (n - p.pages)))) else Some (held n))) (lt-ltb n p.pages l)
 
--- and what was a frame's is its page's
-moves : (k : ℕ) (p : Parameters) (frames : Listing Framed) (j x : ℕ) → j < k → entry_at frames j ≡ Some (framed x)
-    → committed_entry k p frames (Some (held (p.pages + j))) ≡ Some (held x)
-moves k p frames j x l is =
-    let past : nat_lt (p.pages + j) p.pages ≡ false = le-ltb (p.pages + j) p.pages (omega arith) in
-    let plain : p.pages + j - p.pages ≡ j = omega arith in
-    ap (λ b. if b then (if is_below k (place_of page_key (p.pages + j) frames) then None else Some (held (p.pages + j)))
-    else (if nat_lt (p.pages + j - p.pages) k then Some (held (page_by (entry_at frames (p.pages + j - p.pages))))
-    else Some (held (p.pages + j)))) past
-    ∙ ap (λ m. if nat_lt m k then Some (held (page_by (entry_at frames m))) else Some (held (p.pages + j))) plain
-    ∙ ap (λ b. if b then Some (held (page_by (entry_at frames j))) else Some (held (p.pages + j))) (lt-ltb j k l)
-    ∙ ap (λ o. Some (held (page_by o))) is
+  pub high : (j : ℕ) → committed_entry k p frames (Some (held (p.pages + j)))
+      ≡ (if nat_lt j k then Some (held (page_by (entry_at frames j))) else Some (held (p.pages + j)))
+  high j =
+      let past : nat_lt (p.pages + j) p.pages ≡ false = le-ltb (p.pages + j) p.pages (omega arith) in
+      let plain : p.pages + j - p.pages ≡ j = omega arith in
+      λ i. if past i then (if is_below k (place_of page_key (p.pages + j) frames) then None else Some (held (p.pages + j)))
+      else (if nat_lt (plain i) k then Some (held (page_by (entry_at frames (plain i)))) else Some (held (p.pages + j)))
+
+  -- what a page without a frame had stays its
+  stays : (n : ℕ) → n < p.pages → place_of page_key n frames ≡ None → committed_entry k p frames (Some (held n)) ≡ Some (held n)
+  stays n l none = low n l ∙ ap (λ o. if is_below k o then None else Some (held n)) none
+
+  -- and what was a frame's is its page's
+  moves : (j x : ℕ) → j < k → entry_at frames j ≡ Some (framed x) → committed_entry k p frames (Some (held (p.pages + j))) ≡ Some (held x)
+  moves j x l is =
+      high j ∙ ap (λ b. if b then Some (held (page_by (entry_at frames j))) else Some (held (p.pages + j))) (lt-ltb j k l)
+      ∙ ap (λ o. Some (held (page_by o))) is
 
 -- ---- where a listed number comes from
 
@@ -202,9 +215,4 @@ module _ (s : State) (h : IsSoundState s) where
 
   -- and no frame has a page of the pool
   pub target-committed : (j : ℕ) → target (committed_state s) j ≡ None
-  target-committed j = place_of-none number_key new (s.p.pages + j)
-      (λ q. elim (cases_Bool (lists number_key (s.p.pages + j) (entry_at new q))) as
-      (λ _. lists number_key (s.p.pages + j) (entry_at new q) ≡ false) [
-        | inl listed ↦ let low = of_page q (s.p.pages + j) (from q (s.p.pages + j) listed) in absurd (omega arith)
-        | inr unlisted ↦ unlisted
-      ])
+  target-committed j = unlisted new (s.p.pages + j) (λ q listed. omega (arith, of_page q (s.p.pages + j) (from q (s.p.pages + j) listed)))

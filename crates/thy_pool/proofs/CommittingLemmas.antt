@@ -10,7 +10,7 @@ use Rattle.thy_pool.specs.declared.entry.Framed.{Framed}
 use Rattle.thy_pool.specs.declared.entry.Held.{Held}
 use Rattle.thy_pool.specs.Commit.{page_by, is_below, committed_entry, committed_pool, freed_entry, renamed_entry, freed, renamed, moved_by}
 use Rattle.thy_pool.specs.Keys.{number_key, page_key, held, framed}
-use Rattle.thy_pool.proofs.CommitLemmas.{held_lists, framed_is, framed_lists, framed_same, entry_at-committed}
+use Rattle.thy_pool.proofs.CommitLemmas.{held_lists, framed_is, framed_lists, framed_same, entry_at-committed, low, high}
 
 -- two listings with the same entries are one
 pub listing_same : (t u : Listing Held) → length t.entries ≡ length u.entries → t.numbers ≡ u.numbers
@@ -154,31 +154,15 @@ below_more k None other = refl
 below_more k (Some i) other = lt_more i k (other i refl)
 
 module _ (p : Parameters) (frames : Listing Framed) where
-  low : (k n : ℕ) → n < p.pages
-      → committed_entry k p frames (Some (held n)) ≡ (if is_below k (place_of page_key n frames) then None else Some (held n))
-  low k n l =
-      ap (λ b. if b then (if is_below k (place_of page_key n frames) then None else Some (held n))
-      else (if nat_lt (n - p.pages) k then Some (held (page_by (entry_at frames (n - p.pages)))) else Some (held n))) (lt-ltb n p.pages l)
-
-  high : (k j : ℕ) → committed_entry k p frames (Some (held (p.pages + j)))
-      ≡ (if nat_lt j k then Some (held (page_by (entry_at frames j))) else Some (held (p.pages + j)))
-  high k j =
-      let past : nat_lt (p.pages + j) p.pages ≡ false = le-ltb (p.pages + j) p.pages (omega arith) in
-      let plain : p.pages + j - p.pages ≡ j = omega arith in
-      ap (λ b. if b then (if is_below k (place_of page_key (p.pages + j) frames) then None else Some (held (p.pages + j)))
-      else (if nat_lt (p.pages + j - p.pages) k then Some (held (page_by (entry_at frames (p.pages + j - p.pages))))
-      else Some (held (p.pages + j)))) past
-      ∙ ap (λ m. if nat_lt m k then Some (held (page_by (entry_at frames m))) else Some (held (p.pages + j))) plain
-
   -- with no frame committed all is as it was
   first : (o : Option Held) → committed_entry 0 p frames o ≡ o
   first None = refl
   first (Some e) = elim (cases_lt e.number p.pages) as (λ _. committed_entry 0 p frames (Some e) ≡ Some e) [
-    | inl l ↦ low 0 e.number l ∙ none_below (place_of page_key e.number frames)
+    | inl l ↦ low 0 p frames e.number l ∙ none_below (place_of page_key e.number frames)
     | inr l ↦
         let j : ℕ = e.number - p.pages in
         let number : e.number ≡ p.pages + j = omega (arith, l) in
-        ap (λ m. committed_entry 0 p frames (Some (held m))) number ∙ high 0 j
+        ap (λ m. committed_entry 0 p frames (Some (held m))) number ∙ high 0 p frames j
         ∙ ap (λ b. if b then Some (held (page_by (entry_at frames j))) else Some (held (p.pages + j))) (le-ltb j 0 (omega arith))
         ∙ sym (ap (λ m. Some (held m)) number)
   ] where
@@ -212,21 +196,21 @@ module _ (p : Parameters) (frames : Listing Framed) where
               (let there : entry_at frames i ≡ Some (framed e.number) = framed_is e.number (entry_at frames i)
               (place_of-lists page_key frames e.number i at) in
               let both : None ≡ Some (framed e.number) = sym free ∙ sym (ap (entry_at frames) same) ∙ there in cc) in
-              low (k + 1) e.number l
+              low (k + 1) p frames e.number l
               ∙ ap (λ b. if b then None else Some e) (below_more k (place_of page_key e.number frames) other)
-              ∙ sym (low k e.number l)
+              ∙ sym (low k p frames e.number l)
           | inr l ↦
               let j : ℕ = e.number - p.pages in
               let number : e.number ≡ p.pages + j = omega (arith, l) in
               let same : committed_entry (k + 1) p frames (Some (held (p.pages + j)))
               ≡ committed_entry k p frames (Some (held (p.pages + j))) =
-              high (k + 1) j
+              high (k + 1) p frames j
               ∙ ap (λ b. if b then Some (held (page_by (entry_at frames j))) else Some (held (p.pages + j)))
               (lt_more j k (λ e. (
               let full = filled q j (is ∙ ap (λ m. Some (held m)) number) in
               let no : true ≡ false = sym full ∙ ap (λ m. is_some (entry_at frames m)) e ∙ ap is_some free in cc
               )))
-              ∙ sym (high k j) in
+              ∙ sym (high k p frames j) in
               ap (λ m. committed_entry (k + 1) p frames (Some (held m))) number ∙ same
               ∙ sym (ap (λ m. committed_entry k p frames (Some (held m))) number)
         ]
@@ -249,10 +233,10 @@ module _ (p : Parameters) (frames : Listing Framed) where
           (λ _. committed_entry (k + 1) p frames (Some (held n)) ≡ step (committed_entry k p frames (Some (held n)))) [
             | inl same ↦
                 let at : place_of page_key n frames ≡ Some k = ap (λ m. place_of page_key m frames) same ∙ of_frame in
-                let now : committed_entry (k + 1) p frames (Some (held n)) ≡ None = low (k + 1) n l
+                let now : committed_entry (k + 1) p frames (Some (held n)) ≡ None = low (k + 1) p frames n l
                 ∙ ap (λ o. if is_below (k + 1) o then None else Some (held n)) at
                 ∙ ap (λ b. if b then None else Some (held n)) (lt-ltb k (k + 1) (omega arith)) in
-                let before : committed_entry k p frames (Some (held n)) ≡ Some (held n) = low k n l
+                let before : committed_entry k p frames (Some (held n)) ≡ Some (held n) = low k p frames n l
                 ∙ ap (λ o. if is_below k o then None else Some (held n)) at
                 ∙ ap (λ b. if b then None else Some (held n)) (le-ltb k k (omega arith)) in
                 now ∙ sym (ap step before ∙ ap (renamed_entry (p.pages + k) x) (freed_here x (Some (held n)) (eq-eqb n x same)))
@@ -262,10 +246,10 @@ module _ (p : Parameters) (frames : Listing Framed) where
                 = framed_is n (entry_at frames i) (place_of-lists page_key frames n i at) in
                 let both : Some (framed x) ≡ Some (framed n) = sym full ∙ sym (ap (entry_at frames) same) ∙ there in
                 other (sym (framed_same x n both))) in
-                low (k + 1) n l
+                low (k + 1) p frames n l
                 ∙ ap (λ b. if b then None else Some (held n)) (below_more k (place_of page_key n frames) apart)
                 ∙ stays other (is_below k (place_of page_key n frames))
-                ∙ sym (ap step (low k n l))
+                ∙ sym (ap step (low k p frames n l))
           ] where
             stays : n ≢ x → (b : Bool) → (if b then None else Some (held n)) ≡ step (if b then None else Some (held n))
             stays other true = refl
@@ -279,11 +263,11 @@ module _ (p : Parameters) (frames : Listing Framed) where
           (λ _. committed_entry (k + 1) p frames (Some (held (p.pages + j)))
           ≡ step (committed_entry k p frames (Some (held (p.pages + j))))) [
             | inl same ↦
-                let now : committed_entry (k + 1) p frames (Some (held (p.pages + j))) ≡ Some (held x) = high (k + 1) j
+                let now : committed_entry (k + 1) p frames (Some (held (p.pages + j))) ≡ Some (held x) = high (k + 1) p frames j
                 ∙ ap (λ b. if b then Some (held (page_by (entry_at frames j))) else Some (held (p.pages + j)))
                 (lt-ltb j (k + 1) (omega (arith, same)))
                 ∙ ap (λ o. Some (held (page_by o))) (ap (entry_at frames) same ∙ full) in
-                let before : committed_entry k p frames (Some (held (p.pages + j))) ≡ Some (held (p.pages + j)) = high k j
+                let before : committed_entry k p frames (Some (held (p.pages + j))) ≡ Some (held (p.pages + j)) = high k p frames j
                 ∙ ap (λ b. if b then Some (held (page_by (entry_at frames j))) else Some (held (p.pages + j)))
                 (le-ltb j k (omega (arith, same))) in
                 let unfreed : freed_entry x (Some (held (p.pages + j))) ≡ Some (held (p.pages + j))
@@ -293,10 +277,10 @@ module _ (p : Parameters) (frames : Listing Framed) where
                 ∙ renamed_here (p.pages + k) x (Some (held (p.pages + j)))
                 (eq-eqb (p.pages + j) (p.pages + k) (ap (λ m. p.pages + m) same)))
             | inr other ↦
-                high (k + 1) j
+                high (k + 1) p frames j
                 ∙ ap (λ b. if b then Some (held (page_by (entry_at frames j))) else Some (held (p.pages + j))) (lt_more j k other)
                 ∙ stays other (entry_at frames j) refl (nat_lt j k)
-                ∙ sym (ap step (high k j))
+                ∙ sym (ap step (high k p frames j))
           ] where
             stays : j ≢ k → (o : Option Framed) → entry_at frames j ≡ o → (b : Bool)
                 → (if b then Some (held (page_by o)) else Some (held (p.pages + j)))

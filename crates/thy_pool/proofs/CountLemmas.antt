@@ -1,5 +1,5 @@
--- How many entries of a table are free, by the numbers that it lists.
-use Rattle.std.proofs.Common.{◌≡◌, ℕ, zero, suc, ◌+◌, ◌<◌, ◌≤◌, ◌==◌, Bool, true, false, List, [], ◌∷◌, length, get_or, slice_set, Option, Some, None, is_none, is_some, All, refl, ◌∙◌, ap, inl, inr, arith}
+-- How many entries of a table are free, by the numbers that it lists; and a free page for each free frame.
+use Rattle.std.proofs.Common.{◌≡◌, ℕ, zero, suc, ◌+◌, ◌<◌, ◌≤◌, ◌==◌, Bool, true, false, List, [], ◌∷◌, length, get_or, slice_set, Option, Some, None, is_none, is_some, All, refl, ◌∙◌, ap, inl, inr, arith, sym}
 use Rattle.std.specs.List.{count_by}
 use Rattle.std.proofs.lemmas.Bool.{cases_Bool, cases_eq, eq-eqb, ne_eqb}
 use Rattle.std.proofs.lemmas.List.{get_or-set_same, get_or-set_other, get_or_default}
@@ -7,6 +7,9 @@ use Rattle.std.proofs.lemmas.List.Sums.{sum_by-set, sum_by-cons, sum_by-le}
 use Rattle.thy_table.specs.Listing.{Listing, IsListing, entry_at, lists, place_of, free_count}
 use Rattle.thy_table.proofs.IndexLemmas.{one_if, free_one, lists-inside}
 use Rattle.thy_table.proofs.ListingLaws.{place_of-lists, none-lists, found-once}
+use Rattle.thy_pool.specs.Guarded.{PoolHasRoom}
+use Rattle.thy_pool.specs.Keys.{number_key}
+use Rattle.thy_pool.specs.State.{pool_of}
 
 -- ---- sums over the first numbers
 
@@ -134,3 +137,15 @@ count-entries {E} (None ∷ es) =
 count-entries {E} (Some e ∷ es) =
     let front = total-front (λ j. one_if (is_some (get_or (Some e ∷ es) j None))) (length es) in
     omega (arith, count-entries es, front, sum_by-cons (free_one {X = E}) (Some e) es)
+
+pub room : PoolHasRoom
+room s h =
+    let there : ℕ → ℕ = λ n. one_if (is_some (pool_of s n)) in
+    let filled : ℕ → ℕ = λ j. one_if (is_some (entry_at s.frames j)) in
+    let pool = count-listed number_key s.pool (s.p.pages + s.p.ptt) h.pool_once h.pool_numbers in
+    let split = total-split there s.p.pages s.p.ptt in
+    let mapped : total there s.p.pages ≡ s.p.pages = total-ones there s.p.pages (λ x l. ap one_if (h.mapped x l)) in
+    let claimed : total (λ j. there (s.p.pages + j)) s.p.ptt ≡ total filled s.p.ptt
+    = total-same (λ j. there (s.p.pages + j)) filled s.p.ptt (λ j l. ap one_if (sym (h.claimed j))) in
+    let frames = count-entries s.frames.entries in
+    omega (arith, pool, split, mapped, claimed, frames, ap (total filled) h.frames_size, h.pool_size, h.frames_size)

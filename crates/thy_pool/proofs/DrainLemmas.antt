@@ -1,5 +1,5 @@
 -- A write of the DRAM that lands changes nothing of what the pool holds.
-use Rattle.std.proofs.Common.{◌≡◌, ℕ, length, Option, Some, None, refl, ◌∙◌}
+use Rattle.std.proofs.Common.{◌≡◌, ℕ, length, Option, Some, None, refl}
 use Rattle.std.specs.List.{range_with_len}
 use Rattle.thy_base.specs.Device.{Device}
 use Rattle.thy_base.specs.Geometry.{memory_blocks}
@@ -9,25 +9,12 @@ use Rattle.thy_layout.proofs.AskingLemmas.{map-alike}
 use Rattle.thy_pool.specs.Holding.{works}
 use Rattle.thy_pool.specs.State.{State, IsSoundState, frame_of, work_by, work_of}
 use Rattle.thy_pool.specs.Stores.{after_drain}
+use Rattle.thy_pool.proofs.StateLemmas.{IsSoundState-over}
 
 -- with another DRAM of the same size
 pub IsSoundState-dram : (s : State) (now : Contents) → IsSoundState s → length now.blocks ≡ length s.dram.blocks
     → IsSoundState (record s { dram = now })
-IsSoundState-dram s now h long = record {
-  range = h.range;
-  pool_size = h.pool_size;
-  pool_numbers = h.pool_numbers;
-  frames_size = h.frames_size;
-  frames_numbers = h.frames_numbers;
-  dram_size = long ∙ h.dram_size;
-  pool_once = h.pool_once;
-  frames_once = h.frames_once;
-  mapped = h.mapped;
-  claimed = h.claimed;
-  lowest = h.lowest;
-  dense = h.dense;
-  begun = λ b is. let of = h.begun b is in record { page = of.page; unframed = of.unframed; few = of.few; room = of.room };
-}
+IsSoundState-dram s now h long = IsSoundState-over s s.begun now h long h.begun
 
 pub IsSoundState-drained : (s : State) → IsSoundState s → IsSoundState (after_drain s)
 IsSoundState-drained s h = IsSoundState-dram s (drained s.dram) h refl

@@ -1,11 +1,6 @@
-pub mod CountLemmas
 pub mod CommitLemmas
-pub mod TableLemmas
-pub mod StateLemmas
-pub mod RoomLemmas
-pub mod ClaimLemmas
+pub mod CountLemmas
 pub mod CommittingLemmas
-pub mod ListedLemmas
-pub mod FirstLemmas
-pub mod GuardLemmas
+pub mod StateLemmas
+pub mod TableLemmas
 pub mod DrainLemmas

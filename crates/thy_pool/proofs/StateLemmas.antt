@@ -1,27 +1,32 @@
--- The pool stays sound over what its calls make of it.
-use Rattle.std.proofs.Common.{◌≡◌, ◌≢◌, ℕ, ◌+◌, ◌-◌, ◌<◌, ◌≤◌, Bool, true, false, nat_lt, if◌then◌else◌, length, Option, Some, None, is_some, refl, sym, ◌∙◌, ap, subst, inl, inr, arith}
+-- The pool stays sound over what its calls make of it, also as a frame is filled and as a map is listed; and a start's table.
+use Rattle.std.proofs.Common.{◌≡◌, ◌≢◌, ℕ, ◌+◌, ◌-◌, ◌<◌, ◌≤◌, Bool, true, false, nat_lt, if◌then◌else◌, length, Option, Some, None, is_some, refl, sym, ◌∙◌, ap, subst, inl, inr, arith, unwrap_or, ◌*◌, List}
 use Rattle.std.specs.Option.{option_and_then}
-use Rattle.std.proofs.lemmas.Bool.{cases_Bool, cases_eq, cases_lt, lt-ltb, ltb-true, le-ltb}
-use Rattle.std.proofs.lemmas.List.{length-map, length-set, length-replicate, get_or_past}
+use Rattle.std.proofs.lemmas.Bool.{cases_eq, cases_lt, lt-ltb, ltb-true, le-ltb}
+use Rattle.std.proofs.lemmas.List.{length-map, length-set, length-replicate, get_or_past, ext_get_or}
 use Rattle.std.proofs.lemmas.List.FromFn.{length-map-range_with_len, get_or-map-range_with_len}
 use Rattle.thy_base.specs.declared.config.Parameters.{Parameters}
 use Rattle.thy_base.specs.Geometry.{IsInRange}
-use Rattle.thy_base.proofs.BasicLemmas.{not_some}
+use Rattle.thy_base.proofs.BasicLemmas.{not_some, some_same}
 use Rattle.thy_base.specs.Places.{dram_blocks}
 use Rattle.thy_dram.specs.Contents.{Contents}
-use Rattle.thy_table.specs.Listing.{Listing, IsListing, listing, entry_at, lists, place_of, free_place, with_entry, added_at, added, mapped, empty_table}
-use Rattle.thy_table.proofs.IndexLemmas.{lists-some, lists-key}
-use Rattle.thy_table.proofs.ListingLaws.{entry_at-with_same, entry_at-with_other, entry_at-empty, entry_at-mapped, free_first, place_of-none, IsListing-put, place_of-put, place_of-put_other}
-use Rattle.thy_shadow_image.specs.Places.{pool_pages}
+use Rattle.thy_table.specs.Listing.{Listing, IsListing, listing, entry_at, lists, place_of, free_place, with_entry, added_at, mapped, empty_table, free_count}
+use Rattle.thy_table.proofs.IndexLemmas.{lists-some, lists-key, some-counted}
+use Rattle.thy_table.proofs.ListingLaws.{entry_at-with_same, entry_at-with_other, entry_at-empty, free_first, IsListing-put, place_of-put, place_of-put_other, entry_at-cleared, IsListing-free}
+use Rattle.thy_layout.specs.Entries.{Lists, entry_at as listed_at}
+use Rattle.thy_shadow_image.specs.Places.{pool_pages, map_blocks}
+use Rattle.thy_shadow_image.specs.Slots.{IsMap}
 use Rattle.thy_pool.specs.declared.entry.Begun.{Begun}
 use Rattle.thy_pool.specs.declared.entry.Framed.{Framed}
 use Rattle.thy_pool.specs.declared.entry.Held.{Held}
 use Rattle.thy_pool.specs.Commit.{sealed_state, committed_pool, committed_state}
-use Rattle.thy_pool.specs.Keys.{number_key, page_key, held, framed, freed_frame}
-use Rattle.thy_pool.specs.State.{State, state_in, IsBegun, IsSoundState, ListsBelow, frame_of, pool_of}
-use Rattle.thy_pool.specs.Stores.{first_entry, first_entries, filled, new_state}
-use Rattle.thy_pool.proofs.CommitLemmas.{held_lists, some_of, IsListing-committed, pool_of-committed, target-committed}
-use Rattle.thy_pool.proofs.TableLemmas.{next_there}
+use Rattle.thy_pool.specs.Keys.{number_key, page_key, held, framed, freed_frame, freed_held}
+use Rattle.thy_pool.specs.State.{State, state_in, IsBegun, IsSoundState, ListsBelow, frame_of, pool_of, table_by}
+use Rattle.thy_pool.specs.Stores.{first_entry, first_entries, filled, new_state, free_frame}
+use Rattle.thy_pool.proofs.CommitLemmas.{held_lists, some_of, IsListing-committed, pool_of-committed, target-committed, unlisted, held_is, held_same}
+use Rattle.thy_pool.proofs.TableLemmas.{next_there, length-table_by, listed_at-table_by, entry_page}
+use Rattle.thy_pool.proofs.CommittingLemmas.{listing_same}
+use Rattle.thy_pool.proofs.CountLemmas.{room}
+use Rattle.thy_pool.specs.Listed.{HoldsMap}
 
 -- ---- no frame is filled
 
@@ -82,63 +87,40 @@ IsSoundState-new p dram range dram_size pool_once frames_once =
     let found : (x : ℕ) → x < p.pages → place_of number_key x pool ≡ Some x
     = λ x l. pool_once.found x x (held_lists x (entry_at pool x) (entry_at-first p (pool_pages p) x ∙ first_page p x l)) in
     let unclaimed : (j : ℕ) → place_of number_key (p.pages + j) pool ≡ None
-    = λ j. place_of-none number_key pool (p.pages + j)
-    (λ q. elim (cases_Bool (lists number_key (p.pages + j) (entry_at pool q))) as
-    (λ _. lists number_key (p.pages + j) (entry_at pool q) ≡ false) [
-      | inl listed ↦
-          let is = first_lists p q (p.pages + j) (nat_lt q p.pages) refl
-          (sym (ap (lists number_key (p.pages + j)) (entry_at-first p (pool_pages p) q)) ∙ listed) in
-          let low = is.0 in
-          let same = is.1 in
-          absurd (omega (arith, low, same))
-      | inr unlisted ↦ unlisted
-    ]) in
+    = λ j. unlisted pool (p.pages + j) (λ q listed.
+    let is = first_lists p q (p.pages + j) (nat_lt q p.pages) refl
+    (sym (ap (lists number_key (p.pages + j)) (entry_at-first p (pool_pages p) q)) ∙ listed) in
+    omega (arith, is.0, is.1)) in
     IsSoundState-idle p pool (empty_table p.ptt p.pages) dram range (length-first p) refl
     (length-replicate {A = Option Framed} p.ptt None) refl dram_size pool_once frames_once
     (λ x l. ap is_some (found x l)) unclaimed (entry_at-empty p.ptt p.pages)
 
 -- ---- a frame is begun, or no more
 
--- with another frame begun, or none
-begun_for_one : (s : State) (b c : Begun) → IsBegun s b → Some b ≡ Some c → IsBegun (record s { begun = Some b }) c
-begun_for_one s b c h is =
-    let same : b ≡ c = cc in
-    subst (λ (d : Begun). IsBegun (record s { begun = Some b }) d) same
-    (record { page = h.page; unframed = h.unframed; few = h.few; room = h.room })
+-- with another frame begun, or none, and another DRAM of the same size
+pub IsSoundState-over : (s : State) (begun : Option Begun) (dram : Contents) → IsSoundState s → length dram.blocks ≡ length s.dram.blocks
+    → ((b : Begun) → begun ≡ Some b → IsBegun s b) → IsSoundState (record s { begun = begun; dram = dram })
+IsSoundState-over s begun dram h long of = record {
+  range = h.range;
+  pool_size = h.pool_size;
+  pool_numbers = h.pool_numbers;
+  frames_size = h.frames_size;
+  frames_numbers = h.frames_numbers;
+  dram_size = long ∙ h.dram_size;
+  pool_once = h.pool_once;
+  frames_once = h.frames_once;
+  mapped = h.mapped;
+  claimed = h.claimed;
+  lowest = h.lowest;
+  dense = h.dense;
+  begun = λ b is. let at = of b is in record { page = at.page; unframed = at.unframed; few = at.few; room = at.room };
+}
 
 pub IsSoundState-begun : (s : State) (b : Begun) → IsSoundState s → IsBegun s b → IsSoundState (record s { begun = Some b })
-IsSoundState-begun s b h of = record {
-  range = h.range;
-  pool_size = h.pool_size;
-  pool_numbers = h.pool_numbers;
-  frames_size = h.frames_size;
-  frames_numbers = h.frames_numbers;
-  dram_size = h.dram_size;
-  pool_once = h.pool_once;
-  frames_once = h.frames_once;
-  mapped = h.mapped;
-  claimed = h.claimed;
-  lowest = h.lowest;
-  dense = h.dense;
-  begun = λ c is. begun_for_one s b c of is;
-}
+IsSoundState-begun s b h of = IsSoundState-over s (Some b) s.dram h refl (λ c is. subst (IsBegun s) (some_same b c is) of)
 
 pub IsSoundState-sealed : (s : State) → IsSoundState s → IsSoundState (sealed_state s)
-IsSoundState-sealed s h = record {
-  range = h.range;
-  pool_size = h.pool_size;
-  pool_numbers = h.pool_numbers;
-  frames_size = h.frames_size;
-  frames_numbers = h.frames_numbers;
-  dram_size = h.dram_size;
-  pool_once = h.pool_once;
-  frames_once = h.frames_once;
-  mapped = h.mapped;
-  claimed = h.claimed;
-  lowest = h.lowest;
-  dense = h.dense;
-  begun = λ c is. (cc);
-}
+IsSoundState-sealed s h = IsSoundState-over s None s.dram h refl (λ b is. cc)
 
 -- ---- a frame is filled
 
@@ -150,11 +132,10 @@ module _ (s : State) (h : IsSoundState s) (x j q : ℕ) (page : x < s.p.pages) (
   abbrev pool : Listing Held
   pool = with_entry q (Some (held (s.p.pages + j))) s.pool
 
-  filled_state : filled j x s ≡ state_in s.p pool frames None s.dram
+  pub filled_state : filled j x s ≡ state_in s.p pool frames None s.dram
   filled_state =
-      ap (λ o. state_in s.p (record s.pool { entries = added_at o (held (s.p.pages + j)) s.pool.entries })
-      (added (framed x) s.frames) None s.dram) place
-      ∙ ap (λ o. state_in s.p pool (record s.frames { entries = added_at o (framed x) s.frames.entries }) None s.dram) frame
+      λ i. state_in s.p (record s.pool { entries = added_at (place i) (held (s.p.pages + j)) s.pool.entries })
+      (record s.frames { entries = added_at (frame i) (framed x) s.frames.entries }) None s.dram
 
   at_frame : (j < length s.frames.entries) × (entry_at s.frames j ≡ None) × ((k : ℕ) → k < j → is_some (entry_at s.frames k) ≡ true)
   at_frame = free_first s.frames j frame
@@ -166,7 +147,7 @@ module _ (s : State) (h : IsSoundState s) (x j q : ℕ) (page : x < s.p.pages) (
   unclaimed = not_some (pool_of s (s.p.pages + j)) (sym (h.claimed j) ∙ ap is_some at_frame.1)
 
   number : s.p.pages + j < s.pool.numbers
-  number = let inside = at_frame.0 in let size = h.frames_size in let numbers = h.pool_numbers in omega (arith, inside, size, numbers)
+  number = omega (arith, at_frame.0, h.frames_size, h.pool_numbers)
 
   found : place_of number_key (s.p.pages + j) pool ≡ Some q
   found = place_of-put number_key s.pool h.pool_once q (held (s.p.pages + j)) at_place.0 unclaimed number
@@ -254,8 +235,8 @@ module _ (s : State) (h : IsSoundState s) (x j q : ℕ) (page : x < s.p.pages) (
         ]
   ]
 
-  sound : IsSoundState (state_in s.p pool frames None s.dram)
-  sound = record {
+  pub full_sound : IsSoundState (state_in s.p pool frames None s.dram)
+  full_sound = record {
     range = h.range;
     pool_size = length-set s.pool.entries q (Some (held (s.p.pages + j))) ∙ h.pool_size;
     pool_numbers = h.pool_numbers;
@@ -272,30 +253,203 @@ module _ (s : State) (h : IsSoundState s) (x j q : ℕ) (page : x < s.p.pages) (
   }
 
   pub IsSoundState-filled : IsSoundState (filled j x s)
-  IsSoundState-filled = subst (λ (t : State). IsSoundState t) (sym filled_state) sound
+  IsSoundState-filled = subst (λ (t : State). IsSoundState t) (sym filled_state) full_sound
 
 -- ---- the frames are committed
 
-freed_none : (o : Option Framed) → option_and_then freed_frame o ≡ None
-freed_none None = refl
-freed_none (Some e) = refl
-
 pub IsSoundState-committed : (s : State) → IsSoundState s → IsSoundState (committed_state s)
 IsSoundState-committed s h =
+    let free : (j : ℕ) → entry_at (mapped freed_frame s.frames) j ≡ None = entry_at-cleared freed_frame (λ e. refl) s.frames in
     IsSoundState-idle s.p (committed_pool s.p.ptt s.p s.frames s.pool) (mapped freed_frame s.frames) s.dram h.range
     (length-map s.pool.entries _ ∙ h.pool_size) h.pool_numbers
     (length-map s.frames.entries (option_and_then freed_frame) ∙ h.frames_size) h.frames_numbers h.dram_size
-    (IsListing-committed s h)
-    (record {
-      found = λ i n l. absurd (nothing s i n l);
-      inside = λ i n l. absurd (nothing s i n l);
-    })
+    (IsListing-committed s h) (IsListing-free page_key (mapped freed_frame s.frames) free)
     (λ x l. ap is_some (pool_of-committed s h x l) ∙ next_there s h x (frame_of s x) refl l)
-    (target-committed s h)
-    (λ j. none s j)
-  where
-    none : (t : State) (j : ℕ) → entry_at (mapped freed_frame t.frames) j ≡ None
-    none t j = entry_at-mapped freed_frame t.frames j ∙ freed_none (entry_at t.frames j)
+    (target-committed s h) free
 
-    nothing : (t : State) (i n : ℕ) → lists page_key n (entry_at (mapped freed_frame t.frames) i) ≡ true → ⊥
-    nothing t i n l = let no : false ≡ true = sym (ap (lists page_key n) (none t i)) ∙ l in cc
+-- the first x pages are listed
+pub record AreFirst (p : Parameters) (x : ℕ) (t : Listing Held) : Type 0 where
+  pub size : length t.entries ≡ pool_pages p
+  pub numbers : t.numbers ≡ pool_pages p
+  pub each : (q : ℕ) → entry_at t q ≡ (if nat_lt q x then first_entry p q else None)
+
+module _ (p : Parameters) (x : ℕ) (t : Listing Held) (h : AreFirst p x t) where
+  listed_low : (q n : ℕ) (before low : Bool) → nat_lt q x ≡ before → nat_lt q p.pages ≡ low
+      → lists number_key n (if before then (if low then Some (held q) else None) else None) ≡ true → (nat_lt q x ≡ true) × (q ≡ n)
+  listed_low q n true true b l h =
+      let of = lists-some number_key n (Some (held q)) h in let same : held q ≡ of.0 = cc in (b, ap number_key same ∙ of.2)
+  listed_low q n before low b l h = cc
+
+  pub first_unlisted : place_of number_key x t ≡ None
+  first_unlisted = unlisted t x (λ q listed.
+      let is = listed_low q x (nat_lt q x) (nat_lt q p.pages) refl refl (sym (ap (lists number_key x) (h.each q)) ∙ listed) in
+      let before : nat_lt x x ≡ true = sym (ap (λ m. nat_lt m x) is.1) ∙ is.0 in
+      let no : false ≡ true = sym (le-ltb x x (omega arith)) ∙ before in cc)
+
+  -- with every page it is the one of a start
+  pub first_all : p.pages ≤ x → t ≡ listing (first_entries p) (pool_pages p)
+  first_all l = listing_same t (listing (first_entries p) (pool_pages p)) (h.size ∙ sym (length-first p)) h.numbers
+      (λ q. h.each q
+      ∙ elim (cases_lt q x) as (λ _. (if nat_lt q x then first_entry p q else None) ≡ first_entry p q) [
+        | inl below ↦ ap (λ b. if b then first_entry p q else None) (lt-ltb q x below)
+        | inr above ↦ ap (λ b. if b then first_entry p q else None) (le-ltb q x above)
+            ∙ sym (ap (λ b. if b then Some (held q) else None) (le-ltb q p.pages (omega (arith, above, l))))
+      ]
+      ∙ sym (entry_at-first p (pool_pages p) q))
+
+-- the lowest free frame is free
+pub free_frame_is : (s : State) → 0 < free_count s.frames → free_place s.frames ≡ Some (free_frame s)
+free_frame_is s more = by_place (free_place s.frames) refl where
+  by_place : (o : Option ℕ) → free_place s.frames ≡ o → o ≡ Some (unwrap_or o 0)
+  by_place None e = let none = (some-counted s.frames.entries None e).1 more in absurd (cc)
+  by_place (Some j) e = refl
+
+-- and there is a page of the pool for it
+pub free_page : (s : State) → IsSoundState s → 0 < free_count s.frames → (q : ℕ) × (free_place s.pool ≡ Some q)
+free_page s h more = by_place (free_place s.pool) refl where
+  by_place : (o : Option ℕ) → free_place s.pool ≡ o → (q : ℕ) × (free_place s.pool ≡ Some q)
+  by_place None e = let none = (some-counted s.pool.entries None e).1 (omega (arith, more, room s h)) in absurd (cc)
+  by_place (Some q) e = (q, e)
+
+module _ (s : State) (h : IsSoundState s) (x : ℕ) (page : x < s.p.pages) (unframed : frame_of s x ≡ None)
+    (more : 0 < free_count s.frames) where
+  abbrev goes : (q : ℕ) × (free_place s.pool ≡ Some q)
+  goes = free_page s h more
+
+  -- nothing goes there yet
+  pub unclaimed_free : pool_of s (s.p.pages + free_frame s) ≡ None
+  unclaimed_free = unclaimed s h x (free_frame s) goes.0 page unframed (free_frame_is s more) goes.1
+
+  pub IsSoundState-claimed : IsSoundState (filled (free_frame s) x s)
+  IsSoundState-claimed = IsSoundState-filled s h x (free_frame s) goes.0 page unframed (free_frame_is s more) goes.1
+
+-- ---- page by page
+
+-- no page at first, once every entry is free
+pub holds_none : (table : List (Option ℕ)) (old : Listing Held) → HoldsMap 0 table old (mapped freed_held old)
+holds_none table old = record {
+  size = length-map old.entries (option_and_then freed_held);
+  numbers = refl;
+  there = λ x q l m. absurd (omega (arith, l));
+  only = λ x q is.
+      let none : None ≡ Some (held x) = sym (entry_at-cleared freed_held (λ e. refl) old q) ∙ is in absurd (cc);
+}
+
+module _ (k : ℕ) (table : List (Option ℕ)) (old t : Listing Held) (h : HoldsMap k table old t) where
+  -- seen from itself
+  pub holds_here : HoldsMap k table t t
+  holds_here = record { size = refl; numbers = refl; there = h.there; only = h.only }
+
+  -- and from where it began
+  pub holds_since : (n : ℕ) (u : Listing Held) → HoldsMap n table t u → HoldsMap n table old u
+  holds_since n u g = record { size = g.size ∙ h.size; numbers = g.numbers ∙ h.numbers; there = g.there; only = g.only }
+
+module _ (k : ℕ) (table : List (Option ℕ)) (t : Listing Held) (h : HoldsMap k table t t) where
+  -- the next page isn't listed yet
+  pub holds_unlisted : place_of number_key k t ≡ None
+  holds_unlisted = unlisted t k (λ q listed. omega (arith, (h.only k q (held_is k (entry_at t q) listed)).0))
+
+  -- the map has none for it
+  pub holds_skip : listed_at table k ≡ None → HoldsMap (k + 1) table t t
+  holds_skip none = record {
+    size = refl;
+    numbers = refl;
+    there = λ x q l m. elim (cases_eq x k) as (λ _. entry_at t q ≡ Some (held x)) [
+      | inl same ↦ let both : None ≡ Some q = sym none ∙ sym (ap (listed_at table) same) ∙ m.is in absurd (cc)
+      | inr other ↦ h.there x q (omega (arith, l, other)) m
+    ];
+    only = λ x q is. let of = h.only x q is in (omega (arith, of.0), of.1);
+  }
+
+  module _ (p : Parameters) (whole : IsMap p table) (q : ℕ) (listed : Lists table k q) where
+    -- its entry is free
+    pub holds_free : entry_at t q ≡ None
+    holds_free = by_entry (entry_at t q) refl where
+      by_entry : (o : Option Held) → entry_at t q ≡ o → entry_at t q ≡ None
+      by_entry None e = e
+      by_entry (Some x) e =
+          let of = h.only x.number q e in
+          absurd (omega (arith, of.0, whole.once x.number k q of.1 listed))
+
+    -- and has it now
+    pub holds_put : q < length t.entries → HoldsMap (k + 1) table t (with_entry q (Some (held k)) t)
+    holds_put inside =
+        let u : Listing Held = with_entry q (Some (held k)) t in
+        let here : entry_at u q ≡ Some (held k) = entry_at-with_same t q (Some (held k)) inside in
+        record {
+          size = length-set t.entries q (Some (held k));
+          numbers = refl;
+          there = λ x r l m. elim (cases_eq x k) as (λ _. entry_at u r ≡ Some (held x)) [
+            | inl same ↦
+                let both : Some r ≡ Some q = sym m.is ∙ ap (listed_at table) same ∙ listed.is in
+                let place : r ≡ q = cc in
+                ap (entry_at u) place ∙ here ∙ sym (ap (λ n. Some (held n)) same)
+            | inr other ↦
+                entry_at-with_other t q r (Some (held k))
+                (λ place. other (whole.once x k r m (record { is = listed.is ∙ sym (ap Some place) })))
+                ∙ h.there x r (omega (arith, l, other)) m
+          ];
+          only = λ x r is. elim (cases_eq r q) as (λ _. (x < k + 1) × Lists table x r) [
+            | inl place ↦
+                let both : Some (held k) ≡ Some (held x) = sym here ∙ sym (ap (entry_at u) place) ∙ is in
+                let same : k ≡ x = held_same k x both in
+                (omega (arith, same), record { is = ap (listed_at table) (sym same) ∙ listed.is ∙ sym (ap Some place) })
+            | inr other ↦
+                let of = h.only x r (sym (entry_at-with_other t q r (Some (held k)) other) ∙ is) in (omega (arith, of.0), of.1)
+          ];
+        }
+
+-- ---- all of them
+
+-- once every page of memory is, no other is left
+pub holds_all : (k : ℕ) (p : Parameters) (table : List (Option ℕ)) (old t : Listing Held) → IsMap p table → p.pages ≤ k
+    → HoldsMap k table old t
+    → HoldsMap p.pages table old t
+holds_all k p table old t whole l h = record {
+  size = h.size;
+  numbers = h.numbers;
+  there = λ x q below m. h.there x q (omega (arith, below, l)) m;
+  only = λ x q is. let of = h.only x q is in (whole.of_page x q of.1, of.1);
+}
+
+module _ (p : Parameters) (table : List (Option ℕ)) (old t : Listing Held) (whole : IsMap p table) (h : HoldsMap p.pages table old t)
+    (once : IsListing number_key t) where
+  page_found : (x : ℕ) → x < p.pages → (q : ℕ) × Lists table x q × (place_of number_key x t ≡ Some q)
+  page_found x l =
+      let page = whole.mapped x l in
+      (page.0, page.1, once.found page.0 x (held_lists x (entry_at t page.0) (h.there x page.0 l page.1)))
+
+  -- every page is listed, and no frame's
+  pub listed_mapped : (x : ℕ) → x < p.pages → is_some (place_of number_key x t) ≡ true
+  listed_mapped x l = ap is_some (page_found x l).2
+
+  pub listed_unclaimed : (j : ℕ) → place_of number_key (p.pages + j) t ≡ None
+  listed_unclaimed j =
+      unlisted t (p.pages + j) (λ q listed. omega (arith, (h.only (p.pages + j) q (held_is (p.pages + j) (entry_at t q) listed)).0))
+
+  past_empty : (x : ℕ) (o : Option ℕ) → p.pages ≤ x → listed_at table x ≡ o → o ≡ None
+  past_empty x None l e = refl
+  past_empty x (Some q) l e = let low = whole.of_page x q (record { is = e }) in absurd (omega (arith, low, l))
+
+  -- so its map is the one in the slot
+  pub listed_table : table_by p (λ x. place_of number_key x t) ≡ table
+  listed_table =
+      let of : ℕ → Option ℕ = λ x. place_of number_key x t in
+      ext_get_or None (table_by p of) table (length-table_by p of ∙ sym whole.long)
+      (λ x below.
+      let l : x < 8 * map_blocks p = omega (arith, below, length-table_by p of) in
+      listed_at-table_by p of x l
+      ∙ elim (cases_lt x p.pages) as (λ _. (if nat_lt x p.pages then of x else None) ≡ listed_at table x) [
+        | inl low ↦ let is = page_found x low in entry_page p of x low ∙ is.2 ∙ sym is.1.is
+        | inr past ↦ ap (λ b. if b then of x else None) (le-ltb x p.pages past) ∙ sym (past_empty x (listed_at table x) past refl)
+      ])
+
+-- a pool with it is sound
+pub IsSoundState-listed : (s : State) (table : List (Option ℕ)) (t : Listing Held) → IsSoundState s → IsMap s.p table
+    → HoldsMap s.p.pages table s.pool t
+    → IsListing number_key t → ((j : ℕ) → entry_at s.frames j ≡ None) → IsSoundState (state_in s.p t s.frames None s.dram)
+IsSoundState-listed s table t sound whole h once free =
+    IsSoundState-idle s.p t s.frames s.dram sound.range (h.size ∙ sound.pool_size) (h.numbers ∙ sound.pool_numbers)
+    sound.frames_size sound.frames_numbers
+    sound.dram_size once sound.frames_once (listed_mapped s.p table s.pool t whole h once)
+    (listed_unclaimed s.p table s.pool t whole h once) free

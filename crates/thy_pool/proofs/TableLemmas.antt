@@ -1,20 +1,21 @@
 -- The maps of the committed checkpoint and of the next one are maps that a checkpoint may have.
-use Rattle.std.proofs.Common.{◌≡◌, ℕ, ◌+◌, ◌*◌, ◌<◌, Bool, true, false, nat_lt, if◌then◌else◌, length, Option, Some, None, is_some, refl, sym, ◌∙◌, ap, subst, arith}
-use Rattle.std.proofs.lemmas.Bool.{lt-ltb, ltb-true}
+use Rattle.std.proofs.Common.{◌≡◌, ℕ, ◌+◌, ◌*◌, ◌<◌, Bool, true, false, nat_lt, if◌then◌else◌, length, Option, Some, None, is_some, refl, sym, ◌∙◌, ap, subst, arith, ◌-◌, inl, inr}
+use Rattle.std.proofs.lemmas.Bool.{lt-ltb, ltb-true, cases_lt}
 use Rattle.std.proofs.lemmas.List.{ext_get_or}
 use Rattle.std.proofs.lemmas.List.FromFn.{length-map-range_with_len, get_or-map-range_with_len}
 use Rattle.thy_base.specs.declared.config.Parameters.{Parameters}
+use Rattle.thy_table.specs.Listing.{entry_at}
+use Rattle.thy_table.proofs.IndexLemmas.{lists-inside, lists-key}
+use Rattle.thy_table.proofs.ListingLaws.{place_of-lists}
 use Rattle.thy_layout.specs.Entries.{Lists, entry_at as listed_at}
 use Rattle.thy_layout.proofs.EntryLemmas.{Lists-inside}
-use Rattle.thy_table.specs.Listing.{entry_at}
-use Rattle.thy_table.proofs.IndexLemmas.{lists-inside}
-use Rattle.thy_table.proofs.ListingLaws.{place_of-lists}
 use Rattle.thy_shadow_image.specs.Places.{map_blocks, pool_pages}
 use Rattle.thy_shadow_image.specs.Slots.{IsMap}
 use Rattle.thy_pool.specs.Keys.{number_key, page_key, held, framed}
 use Rattle.thy_pool.specs.Commit.{committed_state}
 use Rattle.thy_pool.specs.State.{State, IsSoundState, frame_of, pool_of, target, next_page_by, next_page, table_by, committed_table, next_table}
 use Rattle.thy_pool.proofs.CommitLemmas.{held_is, held_same, framed_is, framed_same, some_of, pool_of-committed}
+use Rattle.thy_pool.specs.Guarded.{IsUsedBelow, ByMap, ByFrame}
 
 -- ---- a map by its pages
 
@@ -125,10 +126,25 @@ module _ (s : State) (h : IsSoundState s) where
   pub target_free : (j q : ℕ) → target s j ≡ Some q → (x : ℕ) → Lists (committed_table s) x q → ⊥
   target_free j q e x l =
       let is = listed s.p (pool_of s) x q l in
-      let low = is.0 in
-      let same : x ≡ s.p.pages + j = same_number x (s.p.pages + j) q is.1 e in
-      omega (arith, same, low)
+      omega (arith, same_number x (s.p.pages + j) q is.1 e, is.0)
 
   -- with a commit the next map is the committed one
   pub committed_table-committed : committed_table (committed_state s) ≡ next_table s
   committed_table-committed = table_by-same s.p (pool_of (committed_state s)) (next_page s) (pool_of-committed s h)
+
+-- a page before that of a frame has a page of memory, or is that of a lower frame
+pub target_lowest : (s : State) (j q r : ℕ) → IsSoundState s → target s j ≡ Some q → r < q → IsUsedBelow s j r
+target_lowest s j q r h goes l =
+    let of = h.lowest j q r goes l in
+    let below = of.below in
+    let found : pool_of s of.held.number ≡ Some r
+    = h.pool_once.found r of.held.number (lists-key number_key of.held.number (entry_at s.pool r) of.held of.here refl) in
+    elim (cases_lt of.held.number s.p.pages) as (λ _. IsUsedBelow s j r) [
+      | inl page ↦ ByMap of.held.number (record {
+        is = listed_at-table_by s.p (pool_of s) of.held.number (omega (arith, page))
+            ∙ entry_page s.p (pool_of s) of.held.number page ∙ found;
+      })
+      | inr frame ↦
+          let number : s.p.pages + (of.held.number - s.p.pages) ≡ of.held.number = omega (arith, frame) in
+          ByFrame (of.held.number - s.p.pages) (omega (arith, frame, below)) (ap (pool_of s) number ∙ found)
+    ]

@@ -1,6 +1,5 @@
-use Rattle.thy_pool.proofs.GuardLemmas.{target_lowest}
-use Rattle.thy_pool.proofs.RoomLemmas.{room}
-use Rattle.thy_pool.proofs.TableLemmas.{target_free}
+use Rattle.thy_pool.proofs.TableLemmas.{target_lowest, target_free}
+use Rattle.thy_pool.proofs.CountLemmas.{room}
 use Rattle.thy_pool.proofs.laws.frames_go_to_free_pages.Goals as goal
 
 pub returns-clause-room : goal.returns-clause-room

@@ -5,7 +5,7 @@ use Rattle.thy_table.specs.Listing.{Listing}
 use Rattle.thy_shadow_image.specs.Slots.{table_in}
 use Rattle.thy_pool.specs.declared.entry.Held.{Held}
 use Rattle.thy_pool.specs.Listed.{HoldsMap}
-use Rattle.thy_pool.proofs.ListedLemmas.{holds_none, holds_here, holds_since, holds_all}
+use Rattle.thy_pool.proofs.StateLemmas.{holds_none, holds_here, holds_since, holds_all}
 use Rattle.thy_pool.proofs.listing.list_all.Goals as goal
 
 pub loop-x-init : goal.loop-x-init

@@ -6,7 +6,7 @@ use Rattle.thy_shadow_image.specs.Slots.{table_in}
 use Rattle.thy_pool.specs.declared.entry.Held.{Held}
 use Rattle.thy_pool.specs.Keys.{number_key}
 use Rattle.thy_pool.specs.Listed.{HoldsMap}
-use Rattle.thy_pool.proofs.ListedLemmas.{holds_free, holds_unlisted, holds_put, holds_skip}
+use Rattle.thy_pool.proofs.StateLemmas.{holds_free, holds_unlisted, holds_put, holds_skip}
 use Rattle.thy_pool.proofs.listing.list_one.Goals as goal
 
 pub put-requires-clause-free : goal.put-requires-clause-free

@@ -3,7 +3,7 @@ use Rattle.thy_base.specs.declared.config.Parameters.{Parameters}
 use Rattle.thy_table.specs.Listing.{place_of}
 use Rattle.thy_pool.specs.declared.entry.Held.{Held}
 use Rattle.thy_pool.specs.Keys.{number_key}
-use Rattle.thy_pool.proofs.FirstLemmas.{first_unlisted, first_all}
+use Rattle.thy_pool.proofs.StateLemmas.{first_unlisted, first_all}
 use Rattle.thy_pool.proofs.pool.first_pages.Goals as goal
 
 pub put-requires-clause-unlisted : goal.put-requires-clause-unlisted

@@ -1,4 +1,4 @@
-use Rattle.thy_pool.proofs.FirstLemmas.{AreFirst}
+use Rattle.thy_pool.proofs.StateLemmas.{AreFirst}
 use Rattle.thy_pool.proofs.pool.first_pages.Given as goal
 
 abbrev pub invariant-loop-x : goal.invariant-loop-x

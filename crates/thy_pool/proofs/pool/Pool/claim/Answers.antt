@@ -1,12 +1,12 @@
 use Rattle.std.proofs.Common.{◌≡◌, ◌<◌, ◌+◌, ℕ, None, sym, ◌∙◌, ap, subst}
 use Rattle.thy_base.specs.declared.config.Parameters.{Parameters}
-use Rattle.thy_table.specs.Listing.{Listing, place_of, free_count, added}
+use Rattle.thy_table.specs.Listing.{place_of, free_count, added}
 use Rattle.thy_pool.specs.declared.entry.Framed.{Framed}
 use Rattle.thy_pool.specs.declared.entry.Held.{Held}
 use Rattle.thy_pool.specs.Keys.{number_key, held, framed}
 use Rattle.thy_pool.specs.State.{State, state_in, IsSoundState, frame_of}
 use Rattle.thy_pool.specs.Stores.{free_frame}
-use Rattle.thy_pool.proofs.ClaimLemmas.{unclaimed_free, IsSoundState-claimed}
+use Rattle.thy_pool.proofs.StateLemmas.{unclaimed_free, IsSoundState-claimed}
 use Rattle.thy_pool.proofs.pool.Pool.claim.Goals as goal
 
 pub add-requires-2-clause-unlisted : goal.add-requires-2-clause-unlisted
@@ -34,6 +34,4 @@ invariant_of-self c =
     = c.add.ensures.table ∙ ap (λ (e : Framed). added e s.frames) c.new.ensures in
     let pool : c.add-2.new.self ≡ added (held (s.p.pages + free_frame s)) s.pool
     = c.add-2.ensures.table ∙ ap (λ (e : Held). added e s.pool) c.new-2.ensures ∙ ap (λ (n : ℕ). added (held n) s.pool) number in
-    subst (λ (t : Listing Framed). IsSoundState (state_in s.p c.add-2.new.self t None s.dram)) (sym frames)
-    (subst (λ (t : Listing Held). IsSoundState (state_in s.p t (added (framed c.args.x) s.frames) None s.dram)) (sym pool)
-    (IsSoundState-claimed s c.self.invariant c.args.x page unframed room))
+    coe 1 0 (i. IsSoundState (state_in s.p (pool i) (frames i) None s.dram)) (IsSoundState-claimed s c.self.invariant c.args.x page unframed room)

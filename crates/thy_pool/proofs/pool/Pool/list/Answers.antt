@@ -5,7 +5,7 @@ use Rattle.thy_table.specs.Listing.{entry_at}
 use Rattle.thy_shadow_image.specs.Slots.{IsMap, table_in}
 use Rattle.thy_pool.specs.declared.entry.Begun.{Begun}
 use Rattle.thy_pool.specs.State.{State, state_in, IsSoundState}
-use Rattle.thy_pool.proofs.ListedLemmas.{IsSoundState-listed, listed_table}
+use Rattle.thy_pool.proofs.StateLemmas.{IsSoundState-listed, listed_table}
 use Rattle.thy_pool.proofs.pool.Pool.list.Goals as goal
 
 pub invariant_of-self : goal.invariant_of-self
