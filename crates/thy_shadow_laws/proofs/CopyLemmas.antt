@@ -1,18 +1,62 @@
--- What was copied into a frame that is begun: as many blocks agree as were copied, so each does.
-use Rattle.std.proofs.Common.{◌≡◌, ℕ, zero, suc, ◌<◌, ◌==◌, Bool, true, false, if◌then◌else◌, List, [], ◌∷◌, length, get_or, count_by, bytes_eq, Contains, Option, Some, None, refl, sym, ◌∙◌, ap, subst, arith}
+-- The blocks of frames; and what was copied into a frame that is begun: as many agree as were copied, so each does.
+use Rattle.std.proofs.Common.{◌≡◌, ◌≢◌, ℕ, ◌<◌, Some, sym, ◌∙◌, ap, arith, zero, suc, ◌==◌, Bool, true, false, if◌then◌else◌, List, [], ◌∷◌, length, get_or, count_by, bytes_eq, Contains, Option, None, refl, subst}
+use Rattle.std.proofs.lemmas.List.{get_or-set_same, get_or-set_other}
 use Rattle.std.specs.List.{range_with_len}
 use Rattle.std.proofs.lemmas.Bool.{eqb-true, eq-eqb}
 use Rattle.std.proofs.lemmas.List.FromFn.{length-range_with_len, get_or-range_with_len}
 use Rattle.std.proofs.lemmas.List.Sums.{sum_by-cons, count_by-le-length}
 use Rattle.std.proofs.lemmas.Slice.Eq.{bytes_eq-Decides}
+use Rattle.std.proofs.lemmas.List.Elements.{Contains-append_right}
 use Rattle.thy_base.specs.declared.block.Block.{Block}
-use Rattle.thy_base.specs.Device.{Device, newest}
-use Rattle.thy_table.proofs.IndexLemmas.{one_if}
+use Rattle.thy_base.specs.declared.config.Parameters.{Parameters}
+use Rattle.thy_base.specs.Device.{zero_block, Device, newest}
+use Rattle.thy_base.specs.Places.{frame_place}
 use Rattle.thy_base.proofs.BasicLemmas.{Contains-range}
+use Rattle.thy_table.specs.Listing.{entry_at}
+use Rattle.thy_table.proofs.IndexLemmas.{lists-inside, one_if}
+use Rattle.thy_table.proofs.ListingLaws.{place_of-lists}
+use Rattle.thy_pool.specs.Commit.{page_by}
+use Rattle.thy_pool.specs.Keys.{page_key, framed}
+use Rattle.thy_pool.specs.State.{State, IsSoundState, frame_of, frame_block, page_place}
+use Rattle.thy_pool.specs.Stores.{put_into, copies_by, copies_for, free_frame}
+use Rattle.thy_pool.proofs.CommitLemmas.{framed_is}
 use Rattle.thy_pool.specs.declared.entry.Begun.{Begun}
 use Rattle.thy_pool.specs.Holding.{agrees, agree_by, copies_agree}
-use Rattle.thy_pool.specs.State.{State, page_place, frame_block}
-use Rattle.thy_pool.specs.Stores.{copies_by, copies_for, free_frame}
+
+-- ---- blocks of frames
+
+-- blocks of two frames, or two blocks of one, have two numbers
+pub apart_frame : (p : Parameters) (i j c d : ℕ) → c < 64 → d < 64 → i ≢ j → frame_place p i c ≢ frame_place p j d
+apart_frame p i j c d l k other = λ e. other (omega (arith, e, l, k))
+
+pub apart_block : (p : Parameters) (i j c d : ℕ) → c < 64 → d < 64 → c ≢ d → frame_place p i c ≢ frame_place p j d
+apart_block p i j c d l k other = λ e. other (omega (arith, e, l, k))
+
+module _ (s : State) (sound : IsSoundState s) where
+  -- a block that is put into a frame is there
+  pub put_here : (j c : ℕ) (block : Block) → j < s.p.ptt → c < 64 → frame_block (put_into j c block s) j c ≡ block
+  put_here j c block l k =
+      get_or-set_same s.dram.blocks (frame_place s.p j c) block zero_block (let size = sound.dram_size in omega (arith, size, l, k))
+
+  -- a frame that has a page is there, and has one
+  pub frame_inside : (x j : ℕ) → frame_of s x ≡ Some j → j < s.p.ptt
+  frame_inside x j found =
+      let inside = lists-inside page_key s.frames.entries j x (place_of-lists page_key s.frames x j found) in
+      let size = sound.frames_size in
+      omega (arith, inside, size)
+
+pub frame_has : (s : State) (x j : ℕ) → frame_of s x ≡ Some j → entry_at s.frames j ≡ Some (framed x)
+frame_has s x j found = framed_is x (entry_at s.frames j) (place_of-lists page_key s.frames x j found)
+
+pub one_page : (s : State) (x y i j : ℕ) → frame_of s x ≡ Some i → frame_of s y ≡ Some j → i ≡ j → x ≡ y
+one_page s x y i j a b same =
+    sym (ap page_by (frame_has s x i a)) ∙ ap (λ (k : ℕ). page_by (entry_at s.frames k)) same ∙ ap page_by (frame_has s y j b)
+
+-- every other block of a frame is as before
+pub put_there : (s : State) (j c : ℕ) (block : Block) (i d : ℕ) → frame_place s.p i d ≢ frame_place s.p j c
+    → frame_block (put_into j c block s) i d ≡ frame_block s i d
+put_there s j c block i d other =
+    get_or-set_other s.dram.blocks (frame_place s.p j c) (frame_place s.p i d) block zero_block other
 
 -- ---- counts
 
@@ -20,12 +64,9 @@ use Rattle.thy_pool.specs.Stores.{copies_by, copies_for, free_frame}
 all_count : (f : ℕ → Bool) (xs : List ℕ) → ((x : ℕ) → Contains xs x → f x ≡ true) → count_by f xs ≡ length xs
 all_count f [] all = refl
 all_count f (x ∷ xs) all =
-    let rest : count_by f xs ≡ length xs = all_count f xs (λ y inside. all y (behind x y xs inside)) in
+    let rest : count_by f xs ≡ length xs = all_count f xs (λ y inside. all y (Contains-append_right (x ∷ []) xs y inside)) in
     let first : one_if (f x) ≡ 1 = ap one_if (all x (zero, omega arith, refl)) in
     sum_by-cons (λ y. one_if (f y)) x xs ∙ omega (arith, rest, first)
-  where
-    behind : (x y : ℕ) (xs : List ℕ) → Contains xs y → Contains (x ∷ xs) y
-    behind x y xs (k, l, is) = (suc k, omega arith, is)
 
 -- and if as many pass, the first does, and each
 count_first : (f : ℕ → Bool) (x : ℕ) (xs : List ℕ) → count_by f (x ∷ xs) ≡ suc (length xs) → f x ≡ true
@@ -47,11 +88,7 @@ pub all_pass : (f : ℕ → Bool) (m : ℕ) → ((c : ℕ) → c < m → f c ≡
 all_pass f m each =
     eq-eqb (count_by f (range_with_len 0 m)) m
     (all_count f (range_with_len 0 m)
-    (λ c inside.
-    let row = Contains-range 0 m c inside in
-    let l = row.1 in
-    let at = row.2 in
-    each c (omega (arith, l, at)))
+    (λ c inside. let row = Contains-range 0 m c inside in each c (omega (arith, row.1, row.2)))
     ∙ length-range_with_len 0 m)
 
 pub each_passes : (f : ℕ → Bool) (m : ℕ) → (let n : ℕ = count_by f (range_with_len 0 m) in n == m) ≡ true → (c : ℕ) → c < m → f c ≡ true

@@ -1,48 +1,94 @@
--- Shadow paging is a scheme of lawful parts: what holds of its checkpoints.
-use Rattle.std.proofs.Common.{◌≡◌, ◌≢◌, ℕ, ◌+◌, ◌-◌, ◌*◌, ◌/◌, ◌%◌, ◌^◌, ◌<◌, ◌≤◌, Bool, true, false, is_none, List, ◌∷◌, length, map, Option, Some, None, refl, sym, ◌∙◌, ap, subst, inl, inr, arith}
+-- Shadow paging is a scheme of lawful parts: what holds of its checkpoints, and that no item writes into a committed page.
+use Rattle.std.proofs.Common.{◌≡◌, ◌≢◌, ℕ, ◌+◌, ◌/◌, ◌%◌, ◌<◌, true, Option, Some, None, is_some, refl, sym, ◌∙◌, ap, arith, ◌-◌, ◌*◌, ◌^◌, ◌≤◌, Bool, false, is_none, List, ◌∷◌, length, map, subst, inl, inr}
 use Rattle.std.proofs.lemmas.List.FromFn.{length-map-range_with_len}
 use Rattle.std.proofs.lemmas.List.Sums.{count_by-le-length}
 use Rattle.thy_base.specs.declared.block.Block.{Block}
-use Rattle.thy_base.specs.declared.config.Parameters.{Parameters}
 use Rattle.thy_base.specs.Device.{Device, block_at, newest, written_to}
+use Rattle.thy_base.specs.declared.config.Parameters.{Parameters}
 use Rattle.thy_base.specs.Geometry.{memory_blocks}
 use Rattle.thy_base.proofs.BasicLemmas.{not_first}
 use Rattle.thy_base.proofs.DeviceLemmas.{length-written_to}
-use Rattle.thy_layout.specs.Commit.{commit_of, epoch_of}
-use Rattle.thy_layout.specs.Layout.{slot_in, looked_by}
-use Rattle.thy_layout.proofs.AskingLemmas.{half}
-use Rattle.thy_layout.proofs.ReadBackLemmas.{epoch_of-commit_of}
-use Rattle.thy_table.specs.Listing.{free_count}
+use Rattle.thy_table.specs.Listing.{entry_at, free_count}
 use Rattle.thy_table.proofs.ListingLaws.{entry_at-cleared, free_count-all, free_count-mapped}
+use Rattle.thy_layout.specs.Commit.{commit_of, epoch_of}
+use Rattle.thy_layout.specs.Entries.{Lists}
+use Rattle.thy_layout.proofs.AskingLemmas.{half}
+use Rattle.thy_layout.specs.Layout.{slot_in, looked_by}
+use Rattle.thy_layout.proofs.ReadBackLemmas.{epoch_of-commit_of}
+use Rattle.thy_view.specs.Action.{WriteAt}
 use Rattle.thy_view.specs.Safe.{ceiling}
+use Rattle.thy_protocol.specs.declared.round.Round.{Round}
+use Rattle.thy_protocol.specs.declared.round.Round.TheVariants.{Write, Commit}
+use Rattle.thy_protocol.specs.Round.{IsInRound}
+use Rattle.thy_engine.specs.declared.stage.EngineStage.{EngineStage}
+use Rattle.thy_engine.specs.declared.stage.EngineStage.TheVariants.{Idle, Body, InRound, Tail}
+use Rattle.thy_engine.specs.Progress.{Progress, BodyItem, RoundItem, phase_of, item, body_or_slot, action_of}
+use Rattle.thy_engine.specs.Items.{AreItems, Phase, Resting, Making, Made, Applying}
+use Rattle.thy_parts.specs.IsDesign.{IsDesign, CanRecord, IsSpared}
+use Rattle.thy_parts.specs.Moments.{IsMoment, Carries, Commits, SealsTo, ReadsSame, IsOwn, slot_list, parts_at}
+use Rattle.thy_parts.proofs.SameLemmas.{moment_of, carried, makes_alike}
+use Rattle.thy_shadow_image.specs.Places.{slot_blocks, slot_place, first_pool, pool_place, pool_page, image_blocks}
+use Rattle.thy_shadow_image.proofs.LayoutLemmas.{slot_behind, free_not_looked}
 use Rattle.thy_shadow_image.specs.CheckpointParts.{ReadsBack, IsToldBy, memory_places}
 use Rattle.thy_shadow_image.specs.Free.{Target, SlotBlock, PoolBlock, target_place as place_of_target, IsTarget, IsFree}
 use Rattle.thy_shadow_image.specs.Layout.{shadow_layouts}
-use Rattle.thy_shadow_image.specs.Places.{slot_blocks, slot_place, first_pool, image_blocks, pool_place, pool_page}
 use Rattle.thy_shadow_image.specs.Slots.{IsMap, table_in, slot_fault}
-use Rattle.thy_shadow_image.proofs.FreeLemmas.{free_not_looked}
-use Rattle.thy_shadow_image.proofs.PartsLemmas.{slot_behind}
 use Rattle.thy_shadow_image.proofs.SlotLemmas.{slot_reads_back}
-use Rattle.thy_engine.specs.Items.{AreItems, Phase, Resting, Making, Made, Applying}
-use Rattle.thy_engine.specs.Progress.{Progress}
+use Rattle.thy_pool.specs.Items.{next_block}
+use Rattle.thy_pool.specs.State.{State, IsSoundState, target_place, committed_table, target, frame_block, next_table, committed_of, work_of}
+use Rattle.thy_pool.proofs.TableLemmas.{target_free, IsMap-next, committed_table-committed}
 use Rattle.thy_pool.specs.declared.entry.Framed.{Framed}
 use Rattle.thy_pool.specs.Commit.{sealed_state, committed_state}
 use Rattle.thy_pool.specs.Holding.{works, commits, agree_by, copies_agree}
-use Rattle.thy_pool.specs.Items.{next_block}
 use Rattle.thy_pool.specs.Keys.{freed_frame}
-use Rattle.thy_pool.specs.State.{State, IsSoundState, target, target_place, frame_block, committed_table, next_table, committed_of, work_of}
 use Rattle.thy_pool.specs.Stores.{after_drain}
 use Rattle.thy_pool.proofs.CommitLemmas.{filled-inside}
 use Rattle.thy_pool.proofs.DrainLemmas.{works_drained, IsSoundState-drained}
 use Rattle.thy_pool.proofs.StateLemmas.{IsSoundState-committed, IsSoundState-sealed}
-use Rattle.thy_pool.proofs.TableLemmas.{IsMap-next, target_free, committed_table-committed}
+use Rattle.thy_repool.specs.Filling.{filling_shadow}
 use Rattle.thy_repool.proofs.LawLemmas.{pool_is_listed}
-use Rattle.thy_parts.specs.IsDesign.{IsDesign, CanRecord, IsSpared}
-use Rattle.thy_parts.specs.Moments.{IsMoment, Carries, Commits, SealsTo, ReadsSame, IsOwn, slot_list, parts_at}
-use Rattle.thy_parts.proofs.SameLemmas.{moment_of, carried, makes_alike}
-use Rattle.thy_shadow_laws.specs.Design.{items_shadow, IsUnbegun, stands_at, ArePaged, holds, IsKeptBy, rests_at, owed_now, owed_then, shadow_design}
-use Rattle.thy_shadow_laws.proofs.PhaseLemmas.{next_filled, next_free, IsAside, aside_before, aside_page, works_over, commits_over, committed_reads, works_reads, commits_reads, copies_same, paged_on, paged_all, paged_over, paged_reads, all_reads, memory_is_work, commits_are_works, works_confirm}
-use Rattle.thy_shadow_laws.proofs.WorkLemmas.{target_of, target_small}
+use Rattle.thy_shadow_laws.specs.Design.{items_shadow, stands_at, IsUnbegun, ArePaged, holds, IsKeptBy, rests_at, owed_now, owed_then, shadow_design}
+use Rattle.thy_shadow_laws.specs.Laws.{CommittedIsSpared}
+use Rattle.thy_shadow_laws.proofs.PhaseLemmas.{next_filled, target_of, next_free, IsAside, aside_before, aside_page, works_over, commits_over, committed_reads, works_reads, commits_reads, copies_same, paged_on, paged_all, paged_over, paged_reads, all_reads, memory_is_work, commits_are_works, works_confirm, target_small}
+
+module _ (e : Progress) (s : State) (n : Device) (at : ℕ) (block : Block) (x q c : ℕ) (same : s.p ≡ e.p)
+    (lists : Lists (committed_table s) x q) (below : c < 64) where
+  -- a block of the slot, and the commit block
+  round_spared : (r : Round) → IsInRound (slot_blocks e.p) r → action_of filling_shadow items_shadow e (RoundItem r) s n ≡ WriteAt at block → at ≢ pool_place s.p q c
+  round_spared Commit l act there = let is : 1 ≡ at = cc in omega (arith, is, there)
+  round_spared (Write k) l act there =
+      let is : slot_place e.p (epoch_of (commit_of e.epoch) % 2) + k ≡ at = cc in
+      let before = (slot_behind e.p (epoch_of (commit_of e.epoch) % 2) k (half (epoch_of (commit_of e.epoch))) l).1 in
+      let pool : first_pool s.p ≡ first_pool e.p = ap first_pool same in
+      omega (arith, is, before, pool, there)
+  round_spared r l act there = absurd (cc)
+
+  -- a block of a frame
+  page_spared : (y : ℕ) → IsSoundState s → is_some (entry_at s.frames (y / 64)) ≡ true
+      → action_of filling_shadow items_shadow e (BodyItem y) s n ≡ WriteAt at block → at ≢ pool_place s.p q c
+  page_spared y sound full act there =
+      let is : target_place s (y / 64) (y % 64) ≡ at = cc in
+      let goes = target_of s sound (y / 64) full in
+      let place : pool_place s.p goes.0 (y % 64) ≡ pool_place s.p q c
+      = sym (ap (λ (o : Option ℕ). pool_place s.p (pool_page o) (y % 64)) goes.1) ∙ is ∙ there in
+      let page : goes.0 ≡ q = omega (arith, place, below) in
+      target_free s sound (y / 64) q (goes.1 ∙ ap Some page) x lists
+
+  pages_spared : (from : ℕ) → IsSoundState s → (o : Option ℕ) → next_block from s ≡ o
+      → action_of filling_shadow items_shadow e (body_or_slot o) s n ≡ WriteAt at block → at ≢ pool_place s.p q c
+  pages_spared from sound (Some y) found act = page_spared y sound (next_filled s from y found).1 act
+  pages_spared from sound None found act = round_spared (Write 0) (omega arith) act
+
+  by_stage : (g : EngineStage) → stands_at (phase_of g) s → ((r : Round) → g ≡ InRound r → IsInRound (slot_blocks e.p) r)
+      → action_of filling_shadow items_shadow e (item items_shadow g s) s n ≡ WriteAt at block → at ≢ pool_place s.p q c
+  by_stage Idle stands inside act = absurd (cc)
+  by_stage (Body from) stands inside act = pages_spared from stands.sound (next_block from s) refl act
+  by_stage (InRound r) stands inside act = round_spared r (inside r refl) act
+  by_stage (Tail from) stands inside act = absurd stands
+
+pub spared : CommittedIsSpared
+spared e s n at block x q c fits way act lists below =
+    by_stage e s n at block x q c fits.same_p lists below e.stage fits.stands fits.inside act
 
 -- ---- items
 
@@ -55,9 +101,7 @@ onwards s from k h found =
 counts : (s : State) (from k : ℕ) → IsUnbegun s → next_block from s ≡ Some k → 64 * s.p.ptt - (k + 1) + 1 ≤ 64 * s.p.ptt - from
 counts s from k h found =
     let of = next_filled s from k found in
-    let same = of.0 in
-    let inside : k / 64 < s.p.ptt = filled-inside s (k / 64) h.sound of.1 in
-    omega (arith, same, inside)
+    omega (arith, of.0, filled-inside s (k / 64) h.sound of.1)
 
 pub items_are : AreItems (shadow_design).filling items_shadow
 items_are = record {
@@ -94,9 +138,7 @@ some-free s sound free = let range = sound.range in let size = sound.frames_size
 
 owed-few : (phase : Phase) (s : State) → IsSoundState s → owed_now s + owed_then phase s ≤ 64 * s.p.ptt
 owed-few Resting s sound = omega (arith, free-few s sound)
-owed-few (Making from) s sound = omega (arith, free-few s sound)
-owed-few Made s sound = omega (arith, free-few s sound)
-owed-few (Applying from) s sound = omega (arith, free-few s sound)
+owed-few phase s sound = omega (arith, free-few s sound)
 
 -- ---- by phase
 
@@ -106,27 +148,22 @@ unbegun_agrees s n none = ap (agree_by s n) none
 
 agreeing : (phase : Phase) (epoch : ℕ) (s : State) (n : Device) → IsMoment shadow_design phase epoch s n → copies_agree s n ≡ true
 agreeing Resting epoch s n moment = moment.holds
-agreeing (Making from) epoch s n moment = unbegun_agrees s n moment.stands.unbegun
-agreeing Made epoch s n moment = unbegun_agrees s n moment.stands.unbegun
 agreeing (Applying from) epoch s n moment = absurd moment.stands
+agreeing phase epoch s n moment = unbegun_agrees s n moment.stands.unbegun
 
 pub stands_drained : (phase : Phase) (s : State) → stands_at phase s → stands_at phase (after_drain s)
 stands_drained Resting s h = IsSoundState-drained s h
-stands_drained (Making from) s h = record { sound = IsSoundState-drained s h.sound; unbegun = h.unbegun }
-stands_drained Made s h = record { sound = IsSoundState-drained s h.sound; unbegun = h.unbegun }
 stands_drained (Applying from) s h = h
+stands_drained phase s h = record { sound = IsSoundState-drained s h.sound; unbegun = h.unbegun }
 
 holds_drained : (phase : Phase) (epoch : ℕ) (s : State) (n : Device) → holds phase epoch s n → holds phase epoch (after_drain s) n
 holds_drained Resting epoch s n h = h
-holds_drained (Making from) epoch s n h = record { each = h.each }
-holds_drained Made epoch s n h = record { each = h.each }
 holds_drained (Applying from) epoch s n h = tt
+holds_drained phase epoch s n h = record { each = h.each }
 
 owed_drained : (phase : Phase) (s : State) → owed_now (after_drain s) + owed_then phase (after_drain s) ≤ owed_now s + owed_then phase s
 owed_drained Resting s = omega arith
-owed_drained (Making from) s = omega arith
-owed_drained Made s = omega arith
-owed_drained (Applying from) s = omega arith
+owed_drained phase s = omega arith
 
 holds_reads : (phase : Phase) (epoch : ℕ) (s : State) (n m : Device) → IsSoundState s → length n.image ≡ image_blocks s.p → ReadsSame n m
     → holds phase epoch s n → holds phase epoch s m
@@ -135,19 +172,11 @@ holds_reads (Making from) epoch s n m sound sized r h = paged_reads s n sound si
 holds_reads Made epoch s n m sound sized r h = all_reads s n sound sized m r.reads h
 holds_reads (Applying from) epoch s n m sound sized r h = tt
 
--- ---- an image keeps its map from one position to the next
-
-keeps_making : (epoch from to : ℕ) (s : State) (g : List Block) → IsKeptBy (Making from) epoch s g → IsKeptBy (Making to) epoch s g
-keeps_making epoch from to s g h = record { kept = h.kept; told = h.told; other = h.other }
-
-keeps_made : (epoch from : ℕ) (s : State) (g : List Block) → IsKeptBy (Making from) epoch s g → IsKeptBy Made epoch s g
-keeps_made epoch from s g h = record { kept = h.kept; told = h.told; other = h.other }
-
 -- ---- what is free
 
-spared : (s : State) (g : List Block) (epoch : ℕ) (x : Target) → IsToldBy s.p g epoch (committed_table s) → IsTarget s.p x
+kept_apart : (s : State) (g : List Block) (epoch : ℕ) (x : Target) → IsToldBy s.p g epoch (committed_table s) → IsTarget s.p x
     → IsFree epoch (committed_table s) x → place_of_target s.p x ≢ 0 → IsSpared shadow_design s g (place_of_target s.p x)
-spared s g epoch x told there free low inside =
+kept_apart s g epoch x told there free low inside =
     free_not_looked s.p g epoch (committed_table s) x told there free
     (not_first (place_of_target s.p x) 0 (1 ∷ looked_by (shadow_layouts s.p) g) (λ e. low (sym e)) inside)
 
@@ -189,7 +218,7 @@ module _ (e : Progress) (s : State) (n : Device) (moment : IsMoment shadow_desig
       → IsSpared shadow_design s g ((shadow_layouts e.p).slot_place (commit_of e.epoch) + k)
   slot_spared g k keeps l =
       subst (IsSpared shadow_design s g) (sym (place_is k))
-      (spared s g keeps.kept (SlotBlock (e.epoch % 2) k) keeps.told
+      (kept_apart s g keeps.kept (SlotBlock (e.epoch % 2) k) keeps.told
       (half e.epoch, subst (λ (p : Parameters). k < slot_blocks p) (sym can.same_p) l) keeps.other (λ q. omega (arith, q)))
 
   -- memory reads at its places by the slot as it was sealed
@@ -240,7 +269,7 @@ body_carried epoch s n x moment found =
     let same : works s m ≡ works s n = works_over s n moment.sound moment.sized to block aside in
     let there = paged_on s n moment.sound moment.sized x filled moment.holds in
     carried (moment_of moment (length-written_to n to block) moment.stands there) same same
-    (commits_over s n moment.sound moment.sized to block aside) (keeps_making epoch x (x + 1) s)
+    (commits_over s n moment.sound moment.sized to block aside) (λ g h. record { kept = h.kept; told = h.told; other = h.other })
     (λ g h. h) (λ a b r. tt) (omega arith)
 
 -- a frame's page of the pool is none of the committed map's
@@ -252,21 +281,21 @@ body_spares epoch s n x g moment found keeps =
     let q : ℕ = of.0 in
     let goes : target s (x / 64) ≡ Some q = of.1 in
     subst (IsSpared shadow_design s g) (ap (λ (at : Option ℕ). pool_place s.p (pool_page at) (x % 64)) (sym goes))
-    (spared s g keeps.kept (PoolBlock q (x % 64)) keeps.told (target_small s sound (x / 64) q goes, omega arith)
+    (kept_apart s g keeps.kept (PoolBlock q (x % 64)) keeps.told (target_small s sound (x / 64) q goes, omega arith)
     (λ y lists. target_free s sound (x / 64) q goes y lists) (λ e. omega (arith, e)))
 
 body_past : (epoch : ℕ) (s : State) (n : Device) (from k : ℕ) → IsMoment shadow_design (Making from) epoch s n → next_block from s ≡ Some k
     → Carries shadow_design epoch (Making from) s n (Making k) s n
 body_past epoch s n from k moment found =
     let there = subst (λ (x : ℕ). ArePaged s n x) (next_filled s from k found).0 moment.holds in
-    carried (moment_of moment refl moment.stands there) refl refl refl (keeps_making epoch from k s)
+    carried (moment_of moment refl moment.stands there) refl refl refl (λ g h. record { kept = h.kept; told = h.told; other = h.other })
     (λ g h. h) (λ a b r. tt) (omega arith)
 
 body_whole : (epoch : ℕ) (s : State) (n : Device) (from : ℕ) → IsMoment shadow_design (Making from) epoch s n → next_block from s ≡ None
     → Carries shadow_design epoch (Making from) s n Made s n
 body_whole epoch s n from moment none =
     let there = paged_all s n moment.sound moment.sized from (next_free s from none) moment.holds in
-    carried (moment_of moment refl moment.stands there) refl refl refl (keeps_made epoch from s)
+    carried (moment_of moment refl moment.stands there) refl refl refl (λ g h. record { kept = h.kept; told = h.told; other = h.other })
     (λ g no. absurd no) (λ a b r. tt) (omega arith)
 
 -- ---- the commit

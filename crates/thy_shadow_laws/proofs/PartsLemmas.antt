@@ -54,9 +54,7 @@ pool_once p = IsListing-once number_key (listing (first_entries p) (pool_pages p
     (λ q r n a b. (lists_first p q n a).1 ∙ sym (lists_first p r n b).1)
     (λ q n a.
     let of = lists_first p q n a in
-    let low = of.0 in
-    let same = of.1 in
-    omega (arith, low, same))
+    omega (arith, of.0, of.1))
 
 -- a new pool has every page of memory in the page of the pool with its number
 page_first : (p : Parameters) (dram : Contents) → IsSoundState (new_state p dram) → (x : ℕ) → x < p.pages

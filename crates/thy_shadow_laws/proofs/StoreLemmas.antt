@@ -19,15 +19,15 @@ use Rattle.thy_crash.proofs.SparesLemmas.{Spares-no_more}
 use Rattle.thy_dram.specs.Contents.{written}
 use Rattle.thy_layout.specs.Layout.{looked_by}
 use Rattle.thy_layout.proofs.AskingLemmas.{map-alike}
-use Rattle.thy_table.specs.Listing.{Listing, entry_at, free_place, free_count, with_entry, added_at, added}
+use Rattle.thy_table.specs.Listing.{Listing, entry_at, free_place, free_count, with_entry}
 use Rattle.thy_table.proofs.IndexLemmas.{free_one}
-use Rattle.thy_table.proofs.ListingLaws.{free_first, free_found, place_of-put, place_of-put_other}
+use Rattle.thy_table.proofs.ListingLaws.{free_first, place_of-put, place_of-put_other}
 use Rattle.thy_view.specs.Action.{IsAccess, after, FailsTo}
 use Rattle.thy_view.specs.Dram.{ActsOnDram, WritesBlock}
 use Rattle.thy_shadow_image.specs.CheckpointParts.{IsToldBy}
 use Rattle.thy_shadow_image.specs.Layout.{shadow_layouts}
 use Rattle.thy_shadow_image.specs.Places.{image_blocks, pool_place, pool_page}
-use Rattle.thy_engine.specs.Items.{Phase, Resting, Making, Made, Applying}
+use Rattle.thy_engine.specs.Items.{Phase, Resting}
 use Rattle.thy_pool.specs.declared.entry.Begun.{Begun}
 use Rattle.thy_pool.specs.declared.entry.Framed.{Framed}
 use Rattle.thy_pool.specs.declared.entry.Held.{Held}
@@ -36,8 +36,7 @@ use Rattle.thy_pool.specs.Keys.{number_key, page_key, held as held_entry, framed
 use Rattle.thy_pool.specs.State.{State, state_in, IsSoundState, frame_of, pool_of, page_place, committed_of, committed_table, frame_block, work_by, work_of}
 use Rattle.thy_pool.specs.Stores.{StoreCase, Into, Fill, Copy, copies_by, copies_for, free_frame, case_by, store_case, put_into, filled, copied_into, after_case, after_store, stored_by, store_action}
 use Rattle.thy_pool.proofs.DrainLemmas.{IsSoundState-dram}
-use Rattle.thy_pool.proofs.RoomLemmas.{room as pool_has_room}
-use Rattle.thy_pool.proofs.StateLemmas.{IsSoundState-filled, IsSoundState-begun}
+use Rattle.thy_pool.proofs.StateLemmas.{free_frame_is, free_page, filled_state, full_sound as pool_full_sound, IsSoundState-begun}
 use Rattle.thy_pool.proofs.TableLemmas.{table_by-same}
 use Rattle.thy_parts.specs.Holding.{holding_of}
 use Rattle.thy_parts.specs.Moments.{IsMoment}
@@ -47,8 +46,7 @@ use Rattle.thy_parts.proofs.LeavesLemmas.{leaves-same, leaves-failed, leaves-bot
 use Rattle.thy_parts.proofs.MemoryLemmas.{map_set}
 use Rattle.thy_parts.proofs.WaitLemmas.{stays_waiting}
 use Rattle.thy_shadow_laws.specs.Design.{rests_at, storeless_by, IsStill, owed_now, StaysPool, shadow_design}
-use Rattle.thy_shadow_laws.proofs.CopyLemmas.{AreCopied, begun_copied, are_copied, all_pass, block_same}
-use Rattle.thy_shadow_laws.proofs.FrameLemmas.{apart_frame, apart_block, put_here, put_there, frame_inside, frame_has, one_page, free_is}
+use Rattle.thy_shadow_laws.proofs.CopyLemmas.{AreCopied, begun_copied, are_copied, all_pass, block_same, apart_frame, apart_block, put_here, put_there, frame_inside, frame_has, one_page}
 use Rattle.thy_shadow_laws.proofs.PhaseLemmas.{commits_alike}
 
 -- ---- a store of a block, over a sound pool
@@ -96,10 +94,8 @@ module _ (b : ℕ) (block : Block) (s : State) (n : Device) (sound : IsSoundStat
     -- the frame is filled, so it is not the one that is begun
     not_free : (g : Begun) → s.begun ≡ Some g → free_frame s ≢ j
     not_free g is = λ e.
-        let of = free_found s.frames (sound.begun g is).room in
-        let none : entry_at s.frames of.0 ≡ None = (free_first s.frames of.0 of.1).1 in
-        let same : of.0 ≡ j = sym (free_is s of.0 of.1) ∙ e in
-        let both : None ≡ Some (framed x) = sym none ∙ ap (entry_at s.frames) same ∙ frame_has s x j found in
+        let none = (free_first s.frames (free_frame s) (free_frame_is s (sound.begun g is).room)).1 in
+        let both : None ≡ Some (framed x) = sym none ∙ ap (entry_at s.frames) e ∙ frame_has s x j found in
         absurd cc
 
     into_agrees : (g : Option Begun) → s.begun ≡ g → agree_by s n g ≡ true → agree_by into n g ≡ true
@@ -133,14 +129,11 @@ module _ (b : ℕ) (block : Block) (s : State) (n : Device) (sound : IsSoundStat
 
   module _ (unframed : frame_of s x ≡ None) (room : 0 < free_count s.frames) where
     -- the lowest free frame
-    lowest : (j : ℕ) × (free_place s.frames ≡ Some j)
-    lowest = free_found s.frames room
-
     abbrev j : ℕ
     j = free_frame s
 
     is_lowest : free_place s.frames ≡ Some j
-    is_lowest = lowest.1 ∙ ap Some (sym (free_is s lowest.0 lowest.1))
+    is_lowest = free_frame_is s room
 
     j_inside : j < s.p.ptt
     j_inside = let low = (free_first s.frames j is_lowest).0 in let size = sound.frames_size in omega (arith, low, size)
@@ -220,14 +213,10 @@ module _ (b : ℕ) (block : Block) (s : State) (n : Device) (sound : IsSoundStat
       full = state_in s.p pool frames None s.dram
 
       pub filled_is : filled j x s ≡ full
-      filled_is =
-          ap (λ o. state_in s.p (record s.pool { entries = added_at o (held_entry (s.p.pages + j)) s.pool.entries })
-          (added (framed x) s.frames) None s.dram) is_place
-          ∙ ap (λ o. state_in s.p pool (record s.frames { entries = added_at o (framed x) s.frames.entries }) None s.dram) is_lowest
+      filled_is = filled_state s sound x j place page_small unframed is_lowest is_place
 
       full_sound : IsSoundState full
-      full_sound =
-          subst (λ (t : State). IsSoundState t) filled_is (IsSoundState-filled s sound x j place page_small unframed is_lowest is_place)
+      full_sound = pool_full_sound s sound x j place page_small unframed is_lowest is_place
 
       at_place : (place < length s.pool.entries) × (entry_at s.pool place ≡ None)
           × ((k : ℕ) → k < place → is_some (entry_at s.pool k) ≡ true)
@@ -404,16 +393,12 @@ module _ (b : ℕ) (block : Block) (s : State) (n : Device) (can : CanStore shad
         still = λ h. record { frames = refl; pool = refl };
       }
 
-  -- the pool has a page for the frame
-  pool_place_free : (q : ℕ) × (free_place s.pool ≡ Some q)
-  pool_place_free = free_found s.pool (omega (arith, pool_has_room s sound, room))
-
   makes_fill : frame_of s (page_of b) ≡ None → 64 ≤ copies_for (page_of b) s → Makes (Fill (free_frame s)) b block s n
   makes_fill unframed many =
       let j : ℕ = free_frame s in
       let x : ℕ = page_of b in
-      let q : ℕ = pool_place_free.0 in
-      let at : free_place s.pool ≡ Some q = pool_place_free.1 in
+      let q : ℕ = (free_page s sound room).0 in
+      let at : free_place s.pool ≡ Some q = (free_page s sound room).1 in
       let whole : AreCopied s n x 64 = λ d low. are_copied s n x agree d (omega (arith, low, many)) in
       let u : State = full b block s n sound small unframed room q at whole in
       let t : State = put_into j (b % 64) block u in
@@ -463,8 +448,7 @@ after_is b block n s = refl
 -- no store writes the NVM
 after_access : (case : StoreCase) (b : ℕ) (s : State) (n : Device) → after (store_action case b s) n ≡ n
 after_access (Into j) b s n = refl
-after_access (Fill j) b s n = refl
-after_access (Copy j k) b s n = refl
+after_access case b s n = refl
 
 makes_store : (b : ℕ) (block : Block) (s : State) (n : Device) → CanStore shadow_design b s n
     → MakesStore shadow_design b block s n (after_store b block n s) (after (store_action (store_case b s) b s) n)
@@ -490,14 +474,12 @@ failed_stays s n m failed framed = record {
 
 -- a copy whose read failed
 failed_by : (case : StoreCase) (b : ℕ) (s : State) (n m : Device) → FailsTo (store_action case b s) n m → IsFramed n m → StaysPool s n s m
-failed_by (Into j) b s n m failed framed = absurd failed
-failed_by (Fill j) b s n m failed framed = absurd failed
 failed_by (Copy j k) b s n m failed framed = failed_stays s n m failed framed
+failed_by case b s n m failed framed = absurd failed
 
 is_access : (case : StoreCase) (b : ℕ) (s : State) → IsAccess (store_action case b s)
 is_access (Into j) b s = tt
-is_access (Fill j) b s = tt
-is_access (Copy j k) b s = tt
+is_access case b s = tt
 
 stored_once : (stored : Stored) → storeless_by stored false ≡ false
 stored_once Done = refl
@@ -516,9 +498,7 @@ on_stays a l b m c n first second = record {
 rests_less : (phase : Phase) (frames : Listing Framed) → rests_at phase true frames
     → rests_at phase false frames
 rests_less Resting frames rests = tt
-rests_less (Making from) frames rests = tt
-rests_less Made frames rests = tt
-rests_less (Applying from) frames rests = tt
+rests_less phase frames rests = tt
 
 module _ (epoch : ℕ) (s : State) (n : Device) (t : State) (m : Device) (moment : IsMoment shadow_design Resting epoch s n) (stays : StaysPool s n t m) where
   told_then : (g : List Block) (kept : ℕ) → IsToldBy s.p g kept (committed_table s) → IsToldBy t.p g kept (committed_table t)
