@@ -55,10 +55,7 @@ goes_on phase s h = record { same_p = refl; dram = refl; stands = h }
 
 counts : (s : State) (from k : ℕ) → IsSoundState s → next_live from s ≡ Some k → s.p.btt - (k + 1) + 1 ≤ s.p.btt - from
 counts s from k sound found =
-    let at = live_at s from k sound found in
-    let above = at.0 in
-    let inside = at.1 in
-    omega (arith, above, inside)
+    let at = live_at s from k sound found in omega (arith, at.0, at.1)
 
 pub items_are : AreItems (journal_design).filling items_journal
 items_are = record {
@@ -86,10 +83,8 @@ pub length-homes : (s : State) (n : Device) → length (homes s n) ≡ memory_bl
 length-homes s n = length-map-range_with_len (home_of s n) 0 (memory_blocks s.p)
 
 length-committed : (phase : Phase) (s : State) (n : Device) → length (committed_at phase s n) ≡ memory_blocks s.p
-length-committed Resting s n = length-homes s n
-length-committed (Making from) s n = length-homes s n
-length-committed Made s n = length-homes s n
 length-committed (Applying from) s n = length-works s n
+length-committed phase s n = length-homes s n
 
 free-few : (s : State) → IsSoundState s → free_count s.table ≤ s.p.btt
 free-few s sound = omega (arith, count_by-le-length (λ (o : Option Listed). is_none o) s.table.entries, sound.size)
@@ -103,15 +98,11 @@ some-free s sound free = let range = sound.range in let size = sound.size in ome
 
 holds_drained : (phase : Phase) (epoch : ℕ) (s : State) (n : Device) → holds phase epoch s n → holds phase epoch (after_drain s) n
 holds_drained Resting epoch s n h = tt
-holds_drained (Making from) epoch s n h = record { each = h.each }
-holds_drained Made epoch s n h = record { each = h.each }
-holds_drained (Applying from) epoch s n h = record { each = h.each }
+holds_drained phase epoch s n h = record { each = h.each }
 
 committed_drained : (phase : Phase) (s : State) (n : Device) → committed_at phase (after_drain s) n ≡ committed_at phase s n
-committed_drained Resting s n = refl
-committed_drained (Making from) s n = refl
-committed_drained Made s n = refl
 committed_drained (Applying from) s n = works_drained s n
+committed_drained phase s n = refl
 
 holds_reads : (phase : Phase) (epoch : ℕ) (s : State) (n m : Device) → IsSoundState s → length n.image ≡ image_blocks s.p → ReadsSame n m
     → holds phase epoch s n → holds phase epoch s m
@@ -122,18 +113,13 @@ holds_reads (Applying from) epoch s n m sound sized r h = home_reads s n sound s
 
 committed_reads : (phase : Phase) (s : State) (n m : Device) → IsSoundState s → length n.image ≡ image_blocks s.p → ReadsSame n m
     → committed_at phase s m ≡ committed_at phase s n
-committed_reads Resting s n m sound sized r = homes_reads s n sound sized m r.reads
-committed_reads (Making from) s n m sound sized r = homes_reads s n sound sized m r.reads
-committed_reads Made s n m sound sized r = homes_reads s n sound sized m r.reads
 committed_reads (Applying from) s n m sound sized r = works_reads s n sound sized m r.reads
+committed_reads phase s n m sound sized r = homes_reads s n sound sized m r.reads
 
 -- ---- an image keeps its table from one position to the next
 
 keeps_making : (epoch from to : ℕ) (s : State) (g : List Block) → IsKeptBy (Making from) epoch s g → IsKeptBy (Making to) epoch s g
 keeps_making epoch from to s g h = record { kept = h.kept; table = h.table; told = h.told; other = h.other; applied = tt }
-
-keeps_made : (epoch from : ℕ) (s : State) (g : List Block) → IsKeptBy (Making from) epoch s g → IsKeptBy Made epoch s g
-keeps_made epoch from s g h = record { kept = h.kept; table = h.table; told = h.told; other = h.other; applied = tt }
 
 keeps_applying : (epoch from to : ℕ) (s : State) (g : List Block) → IsKeptBy (Applying from) epoch s g → IsKeptBy (Applying to) epoch s g
 keeps_applying epoch from to s g h = record { kept = h.kept; table = h.table; told = h.told; other = tt; applied = h.applied }
@@ -258,7 +244,8 @@ module _ (epoch : ℕ) (s : State) (n : Device) where
       → Carries journal_design epoch (Making from) s n Made s n
   body_whole from moment none =
       let there = journaled_all epoch s n moment.sound moment.sized from none moment.holds in
-      carried (moment_of moment refl moment.stands there) refl refl refl (keeps_made epoch from s)
+      carried (moment_of moment refl moment.stands there) refl refl refl
+      (λ g h. record { kept = h.kept; table = h.table; told = h.told; other = h.other; applied = tt })
       (λ g no. absurd no) (λ a b r. tt) (omega arith)
 
   commits_to : IsMoment journal_design Made epoch s n

@@ -26,7 +26,7 @@ use Rattle.thy_log.specs.Keys.{block_key, listing_of}
 use Rattle.thy_log.specs.State.{State, IsSoundState, entry_for, work_by, work_of}
 use Rattle.thy_log.specs.Stores.{after_store, put_into, store_entry, listing_for, with_listing}
 use Rattle.thy_log.proofs.StateLemmas.{IsSoundState-table, IsSoundState-dram}
-use Rattle.thy_engine.specs.Items.{Phase, Resting, Making, Made, Applying}
+use Rattle.thy_engine.specs.Items.{Phase, Resting}
 use Rattle.thy_parts.specs.Holding.{holding_of}
 use Rattle.thy_parts.specs.Moments.{IsMoment}
 use Rattle.thy_parts.specs.Storing.{CanStore, MakesStore, StaysAt, StaysOver, IsStoring}
@@ -216,9 +216,7 @@ on_stays a l b m c n first second = record {
 rests_less : (phase : Phase) (table : Listing Listed) → rests_at phase true table
     → rests_at phase false table
 rests_less Resting table rests = tt
-rests_less (Making from) table rests = tt
-rests_less Made table rests = tt
-rests_less (Applying from) table rests = tt
+rests_less phase table rests = tt
 
 -- homes go by the geometry alone
 abbrev homes_by : Device → Parameters → List Block
