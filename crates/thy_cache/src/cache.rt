@@ -89,6 +89,20 @@ impl Cache {
         }
     }
 
+    /// The place of the line of block `b`, if no other line of its set was used after it, as is mostly so: a caller for whom the
+    /// rest is rare asks for this first.
+    #[inline(always)]
+    pub fn latest(&self, b: u64) -> Option<LinePlace>
+        ensures place { IfSome result (λ place. place_of self.now b ≡ Some place) }
+        ensures hit { IfSome result (λ place. hits self.now b ≡ true) }
+    {
+        let set = self.index_of(b);
+        match self.sets[set].latest_of(b) {
+            Some(way) => Some(LinePlace { set, way }),
+            None => None,
+        }
+    }
+
     /// What the line of block `b` holds, if there is one. It does not count as a use.
     pub fn peek(&self, b: u64) -> Option<Block>
         ensures block { result ≡ peeked self.now b }

@@ -1,5 +1,5 @@
 //! One set of a cache.
-ghost use Rattle.std.specs.Prelude.{◌≡◌, ◌<◌, ◌≤◌, ◌+◌, ◌==◌, true, false, ◌++◌, [], ◌∷◌, length, replicate, remove, position, is_some, is_none, IfOk, IfSome};
+ghost use Rattle.std.specs.Prelude.{◌≡◌, ◌<◌, ◌≤◌, ◌+◌, ◌==◌, true, false, ◌++◌, [], ◌∷◌, Some, length, replicate, remove, position, is_some, is_none, IfOk, IfSome};
 ghost use Rattle.std.specs.List.{range_with_len};
 ghost use Rattle.std.specs.Option.{option_map};
 ghost use Rattle.thy_cache.specs.Ways.{is_dirty, has_dirty, empty_ways, holds, line_at, line_in, way_of, moved_last, used, with_line, over_line, clean, changed, filled, victim_way};
@@ -78,12 +78,19 @@ impl WaySet {
     pub(crate) fn way_of(&self, b: u64) -> Option<usize>
         ensures { result ≡ way_of self.now b }
     {
-        let here = holds(&self.lines[self.latest], b);
-        if here {
-            Some(self.latest)
-        } else {
-            self.first_way_of(b)
+        match self.latest_of(b) {
+            Some(way) => Some(way),
+            None => self.first_way_of(b),
         }
+    }
+
+    /// The way that was used last, if it has a line of block `b`.
+    #[inline(always)]
+    pub(crate) fn latest_of(&self, b: u64) -> Option<usize>
+        ensures { IfSome result (λ way. way_of self.now b ≡ Some way) }
+    {
+        let here = holds(&self.lines[self.latest], b);
+        if here { Some(self.latest) } else { None }
     }
 
     /// The first way that has a line of block `b`.
@@ -271,14 +278,19 @@ fn cleaned(line: Option<Line>) -> Option<Line>
     })
 }
 
-/// Writes bytes over the line in a way, if there is one, from byte `at` on. It is dirty then.
+/// Writes bytes over the line in a way, if there is one, from byte `at` on. It is dirty then. Most stores write 8 bytes or 4:
+/// these are moved as one number.
 fn write_over(way: &mut Option<Line>, at: usize, bytes: &[u8])
     requires { at + length bytes.now ≤ 64 }
     ensures { way.new ≡ option_map (changed at bytes.now) way.old }
 {
     match way {
         Some(line) => {
-            line.block.put(at, bytes);
+            match bytes.len() {
+                8 => line.block.put(at, &bytes[..8]),
+                4 => line.block.put(at, &bytes[..4]),
+                _ => line.block.put(at, bytes),
+            }
             line.dirty = true;
         }
         None => {}

@@ -4,7 +4,7 @@ use Rattle.thy_cache.specs.declared.line.Line.{Line}
 use Rattle.thy_cache.specs.Ways.{Ways, holds, line_at, way_of}
 use Rattle.thy_cache.proofs.SingleLemmas.{way_of-held}
 use Rattle.thy_cache.proofs.WaysLemmas.{latest_inside}
-use Rattle.thy_cache.proofs.ways.WaySet.way_of.Goals as goal
+use Rattle.thy_cache.proofs.ways.WaySet.latest_of.Goals as goal
 
 pub index-requires : goal.index-requires
 index-requires c =
@@ -18,4 +18,4 @@ returns-then-here c =
     let inside : latest < length lines = latest_inside lines c.self.inside.order.items latest c.self.invariant in
     let stands : c.index.result.now ≡ line_at ways latest = c.index.ensures ∙ get_or_default lines latest c.index.result.now None inside in
     let here : holds c.args.b (line_at ways latest) ≡ true = ap (holds c.args.b) (sym stands) ∙ sym c.holds-here.ensures ∙ c.if-here.true in
-    sym (ap (λ (s : Ways). way_of s c.args.b) (sym c.self.view_is) ∙ way_of-held ways c.args.b latest c.self.invariant.single inside here)
+    ap (λ (s : Ways). way_of s c.args.b) (sym c.self.view_is) ∙ way_of-held ways c.args.b latest c.self.invariant.single inside here
