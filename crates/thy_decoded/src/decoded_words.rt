@@ -97,9 +97,9 @@ impl DecodedWords {
         }
     }
 
-    /// The instruction that a word means.
+    /// The instruction that a word means, as `decode` of thy_isa says.
     #[inline(always)]
-    fn instr(&mut self, word: u32) -> &Option<Instr>
+    pub fn instr(&mut self, word: u32) -> &Option<Instr>
         ensures { result.now ≡ instr_of word }
     {
         let place = DecodedWords::place_of(word);

@@ -9,7 +9,7 @@ use thy_isa::{Alu, Cause, Cond, Effect, Instr, Regs, after, alu, effect};
 
 /// What an operation gives; most are additions.
 #[inline(always)]
-fn operated(op: Alu, a: u64, b: u64) -> u64
+pub fn operated(op: Alu, a: u64, b: u64) -> u64
     ensures { result ≡ alu_of op a b }
 {
     match op {
@@ -20,7 +20,7 @@ fn operated(op: Alu, a: u64, b: u64) -> u64
 
 /// Whether the condition of a branch holds.
 #[inline(always)]
-fn holds(cond: Cond, a: u64, b: u64) -> bool
+pub fn holds(cond: Cond, a: u64, b: u64) -> bool
     ensures { result ≡ holds cond a b }
 {
     match cond {

@@ -1,5 +1,5 @@
 -- The fetch reads one block.
-use Rattle.std.proofs.Common.{◌≡◌, ℕ, ◌+◌, ◌-◌, ◌%◌, ◌<◌, ◌≤◌, ◌==◌, Bool, true, false, if◌then◌else◌, List, ◌++◌, length, Option, Some, None, Ok, Err, refl, sym, ◌∙◌, ap, subst, drop, append-nil, arith}
+use Rattle.std.proofs.Common.{◌≡◌, ℕ, ◌+◌, ◌-◌, ◌%◌, ◌^◌, ◌<◌, ◌≤◌, ◌==◌, Bool, true, false, if◌then◌else◌, List, ◌++◌, length, Option, Some, None, Ok, Err, refl, sym, ◌∙◌, ap, subst, drop, append-nil, arith}
 use Rattle.std.proofs.lemmas.Bool.Decides.{nat_tests}
 use Rattle.thy_base.specs.declared.block.Block.{Block}
 use Rattle.thy_base.specs.declared.config.Parameters.{Parameters}
@@ -59,6 +59,44 @@ pub fetched_inside : (p : Parameters) (pc : ℕ) → fetch_fault p.base (program
 fetched_inside p pc none =
     let inside = fetch_inside p.base (program_size p) pc none in
     record { low = inside.0; high = inside.1; aligned = fetch_aligned p.base (program_size p) pc none }
+
+inside_by : (a b : Bool) → a ≡ true → b ≡ true → (if a then (if b then None else Some FetchAccess) else Some FetchMisaligned) ≡ None
+inside_by true true one two = refl
+inside_by true false one two = cc
+inside_by false b one two = cc
+
+-- an offset below the size of program memory belongs to an address which is not below the base
+pub offset-is : (p : Parameters) (at : ℕ) → IsInRange p → at < 2 ^ 64 → (at + (2 ^ 64 - p.base)) % 2 ^ 64 < program_size p
+    → (p.base ≤ at) × ((at + (2 ^ 64 - p.base)) % 2 ^ 64 ≡ at - p.base)
+offset-is p at r fits below =
+    let base : p.base < 2 ^ 62 = r.0.1 in
+    let pages : p.pages ≤ 65536 = r.1.0.1 in
+    (omega (arith, base, pages, fits, below), omega (arith, base, pages, fits, below))
+
+-- and a word can be fetched there if the offset is a multiple of four
+pub offset-fetched : (p : Parameters) (pc : ℕ) → IsInRange p → pc < 2 ^ 64 → (pc + (2 ^ 64 - p.base)) % 2 ^ 64 < program_size p
+    → ((pc + (2 ^ 64 - p.base)) % 2 ^ 64) % 4 ≡ 0 → fetch_fault p.base (program_size p) pc ≡ None
+unfolding fetch_fault
+offset-fetched p pc r fits below fours =
+    let found = offset-is p pc r fits below in
+    let base : p.base % 4096 ≡ 0 = base_aligned p r in
+    let aligned : pc % 4 ≡ 0 = omega (arith, found.0, found.1, base, fours) in
+    let high : pc + 4 ≤ p.base + program_size p = omega (arith, found.0, found.1, below, fours) in
+    inside_by (pc % 4 == 0) (is_inside p.base (program_size p) pc 4) (grind (arith, nat_tests)) (grind (arith, nat_tests))
+
+-- the span of that word
+pub fetched-offset : (p q : Parameters) (size pc : ℕ) → IsInRange p → q ≡ p → size ≡ program_size p → pc < 2 ^ 64
+    → (pc + (2 ^ 64 - q.base)) % 2 ^ 64 < size → ((pc + (2 ^ 64 - q.base)) % 2 ^ 64) % 4 ≡ 0
+    → (fetch_fault p.base (program_size p) pc ≡ None) × (span ((pc + (2 ^ 64 - q.base)) % 2 ^ 64) 4 ≡ span (pc - p.base) 4)
+fetched-offset p q size pc r same size_is fits below fours =
+    let base : q.base ≡ p.base = ap (λ (g : Parameters). g.base) same in
+    let less : (pc + (2 ^ 64 - p.base)) % 2 ^ 64 < size = subst (λ (b : ℕ). (pc + (2 ^ 64 - b)) % 2 ^ 64 < size) base below in
+    let inside : (pc + (2 ^ 64 - p.base)) % 2 ^ 64 < program_size p
+    = subst (λ (n : ℕ). (pc + (2 ^ 64 - p.base)) % 2 ^ 64 < n) size_is less in
+    let four : ((pc + (2 ^ 64 - p.base)) % 2 ^ 64) % 4 ≡ 0 = subst (λ (b : ℕ). ((pc + (2 ^ 64 - b)) % 2 ^ 64) % 4 ≡ 0) base fours in (
+      offset-fetched p pc r fits inside four,
+      ap (λ (b : ℕ). span ((pc + (2 ^ 64 - b)) % 2 ^ 64) 4) base ∙ ap (λ (n : ℕ). span n 4) (offset-is p pc r fits inside).1,
+    )
 
 pub fetched_low : (p q : Parameters) (size pc : ℕ) (fault : Option Cause) → q ≡ p → size ≡ program_size p
     → fault ≡ fetch_fault q.base size pc → fault ≡ None → q.base ≤ pc

@@ -1,6 +1,7 @@
 -- What a micro-step makes of a hart and its cache, over every store of blocks.
 use Rattle.std.specs.Prelude.{◌≡◌, ℕ, ◌+◌, ◌-◌, ◌<◌, ◌≤◌, true, false, List, length, Option, Some, None, Result, Ok, Err}
 use Rattle.thy_base.specs.declared.block.Block.{Block}
+use Rattle.thy_base.specs.declared.cause.EndCause.{EndCause}
 use Rattle.thy_base.specs.declared.config.Parameters.{Parameters}
 use Rattle.thy_base.specs.Geometry.{memory_blocks, program_size}
 use Rattle.thy_base.specs.LittleEndian.{number_at}
@@ -14,10 +15,13 @@ use Rattle.thy_isa.specs.declared.state.Effect.{Effect}
 use Rattle.thy_isa.specs.OnBlocks.{effect_in}
 use Rattle.thy_isa.specs.Step.{fetch_fault}
 use Rattle.thy_hart.specs.declared.hand.HartStep.{HartStep}
+use Rattle.thy_hart.specs.declared.hand.HartStep.TheVariants.{Moved, Retired, Waiting, Over}
 use Rattle.thy_hart.specs.declared.hand.MicroStep.{MicroStep}
 use Rattle.thy_hart.specs.declared.hand.MicroStep.TheVariants.{Missing, Taken}
+use Rattle.thy_hart.specs.declared.hand.ShortStep.{ShortStep}
+use Rattle.thy_hart.specs.declared.hand.ShortStep.TheVariants.{Missing as ShortMissing, Moved as ShortMoved, Waiting as ShortWaiting, Ended}
 use Rattle.thy_hart.specs.HartState.{HartState, next_block, reserved}
-use Rattle.thy_hart.specs.Outcomes.{Given, fetched, block_read, acted_by, answer_by, memory_by, cache_by}
+use Rattle.thy_hart.specs.Outcomes.{Given, fetched, block_read, acted_by, answer_by, memory_by, cache_by, over_or_retired}
 
 -- a block that is touched, if one is, hits
 abbrev pub HitsNext : Contents → Option ℕ → Type 0
@@ -65,6 +69,21 @@ pub record IsMicroStep (g : Given) (c d : Contents) (old new : HartState) (step 
   pub cache : d ≡ cache_by c old old.hand
   pub untouched : next_block old ≡ None → d ≡ c
   pub sized : KeepsSize c d
+
+-- a micro-step that ends the instruction or the epoch ends so, by what the epoch is over for
+abbrev pub EndsBy : MicroStep → Option EndCause → Type 0
+EndsBy (Missing b) over = Unit {0}
+EndsBy (Taken Moved) over = Unit {0}
+EndsBy (Taken Waiting) over = Unit {0}
+EndsBy (Taken Retired) over = over ≡ None
+EndsBy (Taken (Over cause)) over = over ≡ Some cause
+
+-- what came of a micro-step that a function of its own took, with what the epoch is over for after it
+abbrev pub micro_step : ShortStep → Option EndCause → MicroStep
+micro_step (ShortMissing b) over = Missing b
+micro_step ShortMoved over = Taken Moved
+micro_step ShortWaiting over = Taken Waiting
+micro_step Ended over = Taken (over_or_retired over)
 
 -- what comes of a micro-step: the line of its block is missing and nothing was done, or it was taken
 abbrev pub IsActed : Given → Contents → Contents → HartState → HartState → MicroStep → Type 0

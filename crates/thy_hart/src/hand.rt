@@ -1,7 +1,9 @@
 //! The instruction in hand, and how a step ends.
 #![tactic(auto, unfolding(crate::specs::Outcomes::begun, crate::specs::Outcomes::written_on))]
 
-ghost use Rattle.std.specs.Prelude.{◌≡◌};
+ghost use Rattle.std.specs.Prelude.{◌≡◌, Option};
+ghost use Rattle.thy_base.specs.declared.cause.EndCause.{EndCause};
+ghost use Rattle.thy_hart.specs.MicroSteps.{EndsBy, micro_step};
 ghost use Rattle.thy_hart.specs.Outcomes.{begun, written_on};
 ghost use Rattle.thy_hart.specs.HartState.{blocks_of};
 
@@ -59,6 +61,34 @@ pub(crate) enum MicroStep {
     Missing(u64),
     /// It was taken, and the step of the hart ends so.
     Taken(HartStep),
+}
+
+/// What came of a micro-step that a function of its own took, as a rare one is. It has no cause for which an epoch is over, so
+/// that it fits into two registers: an answer in memory would be cleared in each cycle.
+#[derive(Clone, Copy, Debug, PartialEq, Eq)]
+pub(crate) enum ShortStep {
+    /// The line of this block, which it touches, is missing. Nothing was done.
+    Missing(u64),
+    /// The instruction is a step further.
+    Moved,
+    /// Too few table entries are free. Nothing was done.
+    Waiting,
+    /// The instruction retired, or the epoch is over, or both: the epoch says which.
+    Ended,
+}
+
+impl MicroStep {
+    /// This, without the cause for which the epoch is over.
+    pub(crate) fn short(self) -> ShortStep
+        ensures { (over : Option EndCause) → EndsBy self over → micro_step result over ≡ self }
+    {
+        match self {
+            MicroStep::Missing(b) => ShortStep::Missing(b),
+            MicroStep::Taken(HartStep::Moved) => ShortStep::Moved,
+            MicroStep::Taken(HartStep::Waiting) => ShortStep::Waiting,
+            MicroStep::Taken(HartStep::Retired | HartStep::Over(_)) => ShortStep::Ended,
+        }
+    }
 }
 
 /// What an effect does that still has to read at `from`, if that has bytes, and to write at `to`.

@@ -12,13 +12,13 @@ ghost use Rattle.thy_hart.specs.Moments.{moment, brings_line, IsReady};
 ghost use Rattle.thy_hart.specs.OneStep.{IsStep};
 
 use crate::bring::bring;
-use crate::decoded::DecodedWords;
 use crate::hand::{HartStep, MicroStep};
 use crate::in_hand::InHand;
 use crate::micro_steps::HartParts;
 use std::marker::Model;
 use thy_base::{BlockStore, Geometry, NvmError};
 use thy_cache::Cache;
+use thy_decoded::DecodedWords;
 use thy_epoch::EpochState;
 use thy_isa::CpuState;
 

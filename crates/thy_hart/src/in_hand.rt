@@ -3,8 +3,9 @@
 //! two blocks, a trap.
 #![tactic(auto)]
 
-ghost use Rattle.std.specs.Prelude.{◌≡◌, ◌+◌, ◌≤◌, IfSome};
+ghost use Rattle.std.specs.Prelude.{◌≡◌, ◌+◌, ◌%◌, ◌≤◌, IfSome};
 ghost use Rattle.thy_flat.specs.Spans.{first_byte};
+ghost use Rattle.thy_isa.specs.Effects.{size_of};
 ghost use Rattle.thy_isa.specs.declared.state.Effect.TheVariants.{Next, Set};
 ghost use Rattle.thy_hart.specs.declared.in_hand.Stage.TheVariants.{Idle};
 ghost use Rattle.thy_hart.specs.InHand.{span_of, load_of, store_of};
@@ -40,7 +41,8 @@ impl Access {
     /// These bytes, if they lie within one block.
     #[inline(always)]
     pub(crate) fn within_block(at: u64, width: Width) -> Option<Access>
-        ensures { IfSome result (λ access. access ≡ (at, width)) }
+        ensures access { IfSome result (λ access. access ≡ (at, width)) }
+        ensures whole { IfSome result (λ access. at % 64 + size_of width ≤ 64) }
     {
         if at % BLOCK_SIZE as u64 + bytes_in(width) <= BLOCK_SIZE as u64 {
             Some(Access { at, width })

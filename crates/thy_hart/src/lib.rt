@@ -3,11 +3,10 @@
 //! the plain machine's next state.
 //!
 //! Open specs/Moments.antt first, then specs/OneStep.antt, and src/hart.rt. It depends on thy_base, thy_flat, thy_isa,
-//! thy_cache and thy_epoch; thy_core_laws and thy_core depend on it.
+//! thy_decoded, thy_cache and thy_epoch; thy_core_laws and thy_core depend on it.
 #![tactic(auto)]
 
 mod bring;
-mod decoded;
 mod hand;
 mod hart;
 mod in_hand;

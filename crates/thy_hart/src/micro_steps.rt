@@ -1,7 +1,7 @@
 //! The micro-steps of an instruction whose block is in the cache.
 #![tactic(auto, unfolding(crate::specs::HartState::fetched_block, crate::specs::Outcomes::fetched, crate::specs::Outcomes::room_reserved, crate::specs::Outcomes::room_answer, thy_isa::specs::OnBlocks::effect_in, thy_isa::specs::OnBlocks::cpu_after))]
 
-ghost use Rattle.std.specs.Prelude.{◌≡◌, ◌≢◌, ℕ, Bool, List, length, None, Some, ◌+◌, ◌<◌, ◌≤◌, ◌^◌, take, drop, Ok};
+ghost use Rattle.std.specs.Prelude.{◌≡◌, ◌≢◌, ℕ, Bool, List, length, None, Some, ◌+◌, ◌-◌, ◌<◌, ◌≤◌, ◌^◌, true, take, drop, Ok, IfSome};
 ghost use Rattle.thy_base.specs.Geometry.{IsInRange, memory_blocks, program_size};
 ghost use Rattle.thy_base.specs.LittleEndian.{number_bytes};
 ghost use Rattle.thy_cache.specs.Contents.{dirty_count, place_of, read_from, KeepsSize};
@@ -9,26 +9,27 @@ ghost use Rattle.thy_cache.specs.Flat.{AgreesStill, KeepsLines};
 ghost use Rattle.thy_flat.specs.Spans.{IsSpanOf, span, first_block, first_byte};
 ghost use Rattle.thy_isa.specs.Access.{IsWithin};
 ghost use Rattle.thy_isa.specs.declared.state.CallState.{CallState as Calls};
-ghost use Rattle.thy_isa.specs.declared.state.Effect.TheVariants.{Read, Write, Environment};
-ghost use Rattle.thy_isa.specs.Effects.{size_of};
+ghost use Rattle.thy_isa.specs.declared.state.Effect.TheVariants.{Next, Set, Read, Write, Environment};
+ghost use Rattle.thy_isa.specs.Effects.{size_of, word_effect};
 ghost use Rattle.thy_isa.specs.Moves.{number_in};
-ghost use Rattle.thy_isa.specs.Step.{finished as effect_finished};
+ghost use Rattle.thy_isa.specs.Step.{finished as effect_finished, within};
+ghost use Rattle.thy_base.specs.Inside.{is_inside};
 ghost use Rattle.thy_hart.specs.declared.in_hand.Stage.TheVariants.{Idle, Loads, Reserves, Stores};
 ghost use Rattle.thy_hart.specs.HartState.{reserved, blocks_of, to_reserve};
 ghost use Rattle.thy_hart.specs.Outcomes.{Given, begun_with, written_by, block_written, room_reserved, room_answer, retired, over_or_retired, epoch_retired, given};
 ghost use Rattle.thy_hart.specs.InHand.{span_of, load_of, store_of, value_bytes, at_stage, hart_state_of, ArePieces, IsSoundParts};
-ghost use Rattle.thy_hart.specs.MicroSteps.{IsFetchedSpan, ReadsWord, FetchesIn, ReadsIn, WritesIn, IsActed};
+ghost use Rattle.thy_hart.specs.MicroSteps.{IsFetchedSpan, ReadsWord, FetchesIn, ReadsIn, WritesIn, IsActed, micro_step};
 
-use crate::decoded::{DecodedWords, decoded_effect};
-use crate::hand::{HartStep, MicroStep};
+use crate::hand::{HartStep, MicroStep, ShortStep};
 use crate::in_hand::{Access, InHand, Stage};
 use thy_base::{EndCause, Geometry};
 use thy_cache::{Cache, LinePlace};
+use thy_decoded::{DecodedWords, holds, operated};
 use thy_epoch::EpochState;
 use thy_flat::Span;
 use thy_isa::{
-    Cause, CpuState, Effect, Extend, Reg, Width, bytes_in, fetch_fault, finish_alone, is_running,
-    number, within, word,
+    Cause, CpuState, Effect, Extend, Instr, Reg, Width, after, bytes_in, fetch_fault, finish_alone,
+    is_running, number, within, word,
 };
 
 /// What a hart is made of.
@@ -96,9 +97,27 @@ impl HartParts {
         }
     }
 
-    /// The four bytes of memory at the program counter, or why no word can be fetched there.
+    /// The four bytes of memory at the program counter, or why no word can be fetched there. Two comparisons of the offset show
+    /// that they lie inside: base and size of program memory are multiples of four, and an address below the base has a greater
+    /// offset than its size.
     #[inline(always)]
     fn fetched_span(&self) -> Result<Span, Cause>
+        requires { IsInRange self.now.geometry }
+        ensures { IsFetchedSpan self.now.geometry self.now.cpu result }
+    {
+        let base = self.geometry.numbers().base;
+        let size = self.geometry.program_size();
+        let at = self.cpu.pc.wrapping_sub(base);
+        if at < size && at % 4 == 0 {
+            Ok(Span { at, len: 4 })
+        } else {
+            self.tested_span()
+        }
+    }
+
+    /// Tests the program counter by all comparisons. An answer of three words would be one in memory, so this is no call.
+    #[inline(always)]
+    fn tested_span(&self) -> Result<Span, Cause>
         ensures { IsFetchedSpan self.now.geometry self.now.cpu result }
     {
         let base = self.geometry.numbers().base;
@@ -121,14 +140,7 @@ impl HartParts {
         ensures pieces { ArePieces self.new.hand }
     {
         match Access::within_block(at - self.geometry.numbers().base, width) {
-            Some(access) => {
-                self.hand.rd = rd;
-                self.hand.extend = extend;
-                self.hand.pc = pc;
-                self.hand.address = at;
-                self.hand.access = access;
-                self.hand.stage = Stage::Loads;
-            }
+            Some(access) => self.begin_access::<()>(rd, extend, pc, at, access),
             None => {
                 let effect = Effect::Read {
                     rd,
@@ -151,13 +163,7 @@ impl HartParts {
         ensures pieces { ArePieces self.new.hand }
     {
         match Access::within_block(at - self.geometry.numbers().base, width) {
-            Some(access) => {
-                self.hand.pc = pc;
-                self.hand.address = at;
-                self.hand.access = access;
-                self.hand.value = value;
-                self.hand.stage = Stage::Reserves;
-            }
+            Some(access) => self.begin_change::<()>(pc, at, value, access),
             None => {
                 let effect = Effect::Write {
                     width,
@@ -173,23 +179,15 @@ impl HartParts {
     /// Takes an effect in hand, and the bytes that it brings along.
     #[inline(always)]
     #[tactic(auto, unfolding(crate::specs::Outcomes::begun, thy_isa::specs::Moves::moves_of, thy_isa::specs::Moves::brings))]
-    fn begin<N>(&mut self, effect: Effect, input: &[u8])
+    fn begin(&mut self, effect: Effect, input: &[u8])
         requires range { IsInRange self.old.geometry }
         requires inside { IsWithin self.old.geometry.base (program_size self.old.geometry) effect }
         ensures hart { hart_state_of self.new ≡ begun_with input.now effect (hart_state_of self.old) }
         ensures pieces { ArePieces self.new.hand }
     {
         match effect {
-            Effect::Next { pc } => {
-                self.hand.pc = pc;
-                self.hand.stage = Stage::Jumps;
-            }
-            Effect::Set { rd, pc, value } => {
-                self.hand.rd = rd;
-                self.hand.pc = pc;
-                self.hand.value = value;
-                self.hand.stage = Stage::Sets;
-            }
+            Effect::Next { pc } => self.begin_jump::<()>(pc),
+            Effect::Set { rd, pc, value } => self.begin_set::<()>(rd, pc, value),
             Effect::Read {
                 rd,
                 width,
@@ -212,6 +210,178 @@ impl HartParts {
         }
     }
 
+    /// Takes in hand an instruction that sets a register and continues at `pc`.
+    #[inline(always)]
+    #[tactic(auto, unfolding(crate::specs::Outcomes::begun, thy_isa::specs::Moves::moves_of, thy_isa::specs::Moves::brings))]
+    fn begin_set<N>(&mut self, rd: Reg, pc: u64, value: u64)
+        ensures hart { (input : List ℕ) → hart_state_of self.new ≡ begun_with input (Set rd pc value) (hart_state_of self.old) }
+        ensures pieces { ArePieces self.new.hand }
+    {
+        self.hand.rd = rd;
+        self.hand.pc = pc;
+        self.hand.value = value;
+        self.hand.stage = Stage::Sets;
+    }
+
+    /// Takes in hand an instruction that does nothing but continue at `pc`.
+    #[inline(always)]
+    #[tactic(auto, unfolding(crate::specs::Outcomes::begun, thy_isa::specs::Moves::moves_of, thy_isa::specs::Moves::brings))]
+    fn begin_jump<N>(&mut self, pc: u64)
+        ensures hart { (input : List ℕ) → hart_state_of self.new ≡ begun_with input (Next pc) (hart_state_of self.old) }
+        ensures pieces { ArePieces self.new.hand }
+    {
+        self.hand.pc = pc;
+        self.hand.stage = Stage::Jumps;
+    }
+
+    /// Takes in hand a load of these bytes, which are at this address.
+    #[inline(always)]
+    fn begin_access<N>(&mut self, rd: Reg, extend: Extend, pc: u64, at: u64, access: Access)
+        requires { access.0 ≡ at - self.old.geometry.base }
+        ensures hart { (input : List ℕ) → hart_state_of self.new
+            ≡ begun_with input (Read rd access.1 extend pc at) (hart_state_of self.old) }
+        ensures pieces { ArePieces self.new.hand }
+    {
+        self.hand.rd = rd;
+        self.hand.extend = extend;
+        self.hand.pc = pc;
+        self.hand.address = at;
+        self.hand.access = access;
+        self.hand.stage = Stage::Loads;
+    }
+
+    /// Takes in hand a store of these bytes, which are at this address.
+    #[inline(always)]
+    fn begin_change<N>(&mut self, pc: u64, at: u64, value: u64, access: Access)
+        requires { access.0 ≡ at - self.old.geometry.base }
+        ensures hart { (input : List ℕ) → hart_state_of self.new
+            ≡ begun_with input (Write access.1 pc at value) (hart_state_of self.old) }
+        ensures pieces { ArePieces self.new.hand }
+    {
+        self.hand.pc = pc;
+        self.hand.address = at;
+        self.hand.access = access;
+        self.hand.value = value;
+        self.hand.stage = Stage::Reserves;
+    }
+
+    /// The bytes of a load or a store at an address, if they lie in program memory and in one block. Two comparisons show that:
+    /// base and size of program memory are multiples of 64, and an address below the base has a greater offset than its size.
+    #[inline(always)]
+    fn access_at<N>(&self, at: u64, width: Width) -> Option<Access>
+        ensures inside { IfSome result (λ access. is_inside self.now.geometry.base (program_size self.now.geometry) at (size_of width) ≡ true) }
+        ensures access { IfSome result (λ access. access ≡ (at - self.now.geometry.base, width)) }
+    {
+        let offset = at.wrapping_sub(self.geometry.numbers().base);
+        if offset < self.geometry.program_size() {
+            Access::within_block(offset, width)
+        } else {
+            None
+        }
+    }
+
+    /// Takes in hand what a word means that was fetched at the program counter. The most frequent instructions are taken here;
+    /// no effect is made of them.
+    #[inline(always)]
+    #[tactic(auto, unfolding(thy_isa::specs::Effects::effect_of, thy_isa::specs::Step::within))]
+    fn begin_word<N>(&mut self, word: u32, input: &[u8])
+        requires range { IsInRange self.old.geometry }
+        ensures hart { let p = self.old.geometry in let cpu = self.old.cpu in
+            hart_state_of self.new ≡ begun_with input.now
+            (within p.base (program_size p) cpu.other (word_effect word cpu.pc cpu.regs)) (hart_state_of self.old) }
+        ensures pieces { ArePieces self.new.hand }
+    {
+        let pc = self.cpu.pc;
+        let Some(instr) = self.decoded.instr(word) else {
+            return self.begin_rarely(word, input);
+        };
+        match *instr {
+            Instr::OpImm { op, rd, rs1, imm } => {
+                let value = operated(op, self.cpu.regs.get(rs1), imm);
+                self.begin_set::<N>(rd, after(pc), value);
+            }
+            Instr::Op { op, rd, rs1, rs2 } => {
+                let value = operated(op, self.cpu.regs.get(rs1), self.cpu.regs.get(rs2));
+                self.begin_set::<N>(rd, after(pc), value);
+            }
+            Instr::Load {
+                width,
+                extend,
+                rd,
+                rs1,
+                imm,
+            } => {
+                let at = self.cpu.regs.get(rs1).wrapping_add(imm);
+                match self.access_at::<N>(at, width) {
+                    Some(access) => self.begin_access::<N>(rd, extend, after(pc), at, access),
+                    None => self.begin_rarely(word, input),
+                }
+            }
+            Instr::Store {
+                width,
+                rs1,
+                rs2,
+                imm,
+            } => {
+                let at = self.cpu.regs.get(rs1).wrapping_add(imm);
+                let value = self.cpu.regs.get(rs2);
+                match self.access_at::<N>(at, width) {
+                    Some(access) => self.begin_change::<N>(after(pc), at, value, access),
+                    None => self.begin_rarely(word, input),
+                }
+            }
+            Instr::Branch {
+                cond,
+                rs1,
+                rs2,
+                imm,
+            } => {
+                let target = pc.wrapping_add(imm);
+                if !holds(cond, self.cpu.regs.get(rs1), self.cpu.regs.get(rs2)) {
+                    self.begin_jump::<N>(after(pc));
+                } else if target % 4 == 0 {
+                    self.begin_jump::<N>(target);
+                } else {
+                    self.begin_rarely(word, input);
+                }
+            }
+            Instr::Lui { rd, imm } => self.begin_set::<N>(rd, after(pc), imm),
+            Instr::Auipc { rd, imm } => self.begin_set::<N>(rd, after(pc), pc.wrapping_add(imm)),
+            Instr::Jal { rd, imm } => {
+                let target = pc.wrapping_add(imm);
+                if target % 4 == 0 {
+                    self.begin_set::<N>(rd, target, after(pc));
+                } else {
+                    self.begin_rarely(word, input);
+                }
+            }
+            Instr::Jalr { .. }
+            | Instr::Fence
+            | Instr::FenceI
+            | Instr::Ecall
+            | Instr::Ebreak
+            | Instr::LoadReserved { .. }
+            | Instr::StoreConditional { .. }
+            | Instr::AtomicOp { .. } => self.begin_rarely(word, input),
+        }
+    }
+
+    /// Takes in hand what any word means, by its effect.
+    #[inline(never)]
+    fn begin_rarely(&mut self, word: u32, input: &[u8])
+        requires range { IsInRange self.old.geometry }
+        ensures hart { let p = self.old.geometry in let cpu = self.old.cpu in
+            hart_state_of self.new ≡ begun_with input.now
+            (within p.base (program_size p) cpu.other (word_effect word cpu.pc cpu.regs)) (hart_state_of self.old) }
+        ensures pieces { ArePieces self.new.hand }
+    {
+        let base = self.geometry.numbers().base;
+        let size = self.geometry.program_size();
+        let meant = self.decoded.effect(word, self.cpu.pc, &self.cpu.regs);
+        let effect = within(base, size, &self.cpu.other, meant);
+        self.begin(effect, input);
+    }
+
     /// Fetches the instruction at the program counter, whose word lies here, in the line at this place.
     #[inline(always)]
     fn fetch_at<N>(&mut self, cache: &mut Cache, at: Span, place: LinePlace, input: &[u8])
@@ -224,12 +394,8 @@ impl HartParts {
         ensures cache { cache.new ≡ read_from (first_block at) cache.old }
         ensures lines { KeepsLines cache.old cache.new }
     {
-        let base = self.geometry.numbers().base;
-        let size = self.geometry.program_size();
         let word = fetch_word(cache, at, place);
-        let meant = decoded_effect(&mut self.decoded, word, &self.cpu);
-        let effect = within(base, size, &self.cpu.other, meant);
-        self.begin::<N>(effect, input);
+        self.begin_word::<N>(word, input);
     }
 
     /// Fetches the instruction at the program counter.
@@ -243,16 +409,38 @@ impl HartParts {
     {
         match self.fetched_span() {
             Err(cause) => {
-                self.begin_in_pieces(Effect::Trap(cause), input);
+                self.begin_trap(cause, input);
                 MicroStep::Taken(HartStep::Moved)
             }
-            Ok(at) => match cache.find(at.first_block()) {
+            Ok(at) => match cache.latest(at.first_block()) {
                 Some(place) => {
                     self.fetch_at::<N>(cache, at, place, input);
                     MicroStep::Taken(HartStep::Moved)
                 }
-                None => MicroStep::Missing(at.first_block()),
+                None => {
+                    let step = self.fetch_far(cache, at, input);
+                    self.came(step)
+                }
             },
+        }
+    }
+
+    /// Fetches the instruction at the program counter, whose word lies here, from any line.
+    #[inline(never)]
+    fn fetch_far(&mut self, cache: &mut Cache, at: Span, input: &[u8]) -> ShortStep
+        requires sound { IsSoundParts self.old }
+        requires stage { self.old.hand.stage ≡ Idle }
+        requires at { IsFetchedSpan self.old.geometry self.old.cpu (Ok at) }
+        ensures acts { (free : ℕ) (under_way : Bool) → IsActed (given input.now free under_way)
+            cache.old cache.new (hart_state_of self.old) (hart_state_of self.new) (micro_step result self.new.epoch.over) }
+        ensures sound { IsSoundParts self.new }
+    {
+        match cache.find(at.first_block()) {
+            Some(place) => {
+                self.fetch_at::<()>(cache, at, place, input);
+                ShortStep::Moved
+            }
+            None => ShortStep::Missing(at.first_block()),
         }
     }
 
@@ -285,12 +473,34 @@ impl HartParts {
         ensures sound { IsSoundParts self.new }
     {
         let b = self.hand.access.span().first_block();
-        match cache.find(b) {
+        match cache.latest(b) {
             Some(place) => {
                 self.load_at::<N>(cache, place);
                 MicroStep::Taken(HartStep::Moved)
             }
-            None => MicroStep::Missing(b),
+            None => {
+                let step = self.load_far(cache);
+                self.came(step)
+            }
+        }
+    }
+
+    /// Reads the bytes of a load from any line.
+    #[inline(never)]
+    fn load_far(&mut self, cache: &mut Cache) -> ShortStep
+        requires sound { IsSoundParts self.old }
+        requires stage { self.old.hand.stage ≡ Loads }
+        ensures acts { (g : Given) → IsActed g
+            cache.old cache.new (hart_state_of self.old) (hart_state_of self.new) (micro_step result self.new.epoch.over) }
+        ensures sound { IsSoundParts self.new }
+    {
+        let b = self.hand.access.span().first_block();
+        match cache.find(b) {
+            Some(place) => {
+                self.load_at::<()>(cache, place);
+                ShortStep::Moved
+            }
+            None => ShortStep::Missing(b),
         }
     }
 
@@ -382,12 +592,34 @@ impl HartParts {
         ensures sound { IsSoundParts self.new }
     {
         let b = self.hand.access.span().first_block();
-        match cache.find(b) {
+        match cache.latest(b) {
             Some(place) => {
                 self.store_at::<N>(cache, place);
                 MicroStep::Taken(HartStep::Moved)
             }
-            None => MicroStep::Missing(b),
+            None => {
+                let step = self.store_far(cache);
+                self.came(step)
+            }
+        }
+    }
+
+    /// Writes the bytes of a store to any line.
+    #[inline(never)]
+    fn store_far(&mut self, cache: &mut Cache) -> ShortStep
+        requires sound { IsSoundParts self.old }
+        requires stage { self.old.hand.stage ≡ Stores }
+        ensures acts { (g : Given) → IsActed g
+            cache.old cache.new (hart_state_of self.old) (hart_state_of self.new) (micro_step result self.new.epoch.over) }
+        ensures sound { IsSoundParts self.new }
+    {
+        let b = self.hand.access.span().first_block();
+        match cache.find(b) {
+            Some(place) => {
+                self.store_at::<()>(cache, place);
+                ShortStep::Moved
+            }
+            None => ShortStep::Missing(b),
         }
     }
 
@@ -407,9 +639,30 @@ impl HartParts {
         finish_alone(&mut self.cpu, effect, number);
         self.epoch.retired_once(is_running(self.cpu.status));
         self.hand.stage = Stage::Idle;
+        self.ended()
+    }
+
+    /// How a step ends with which an instruction has ended: the epoch goes on after it, or is over.
+    #[inline(always)]
+    pub(crate) fn ended(&self) -> HartStep
+        ensures { result ≡ over_or_retired self.now.epoch.over }
+    {
         match self.epoch.over() {
             None => HartStep::Retired,
             Some(cause) => HartStep::Over(cause),
+        }
+    }
+
+    /// What the step answers after a micro-step that a function of its own took.
+    #[inline(always)]
+    fn came(&self, step: ShortStep) -> MicroStep
+        ensures { result ≡ micro_step step self.now.epoch.over }
+    {
+        match step {
+            ShortStep::Missing(b) => MicroStep::Missing(b),
+            ShortStep::Moved => MicroStep::Taken(HartStep::Moved),
+            ShortStep::Waiting => MicroStep::Taken(HartStep::Waiting),
+            ShortStep::Ended => MicroStep::Taken(self.ended()),
         }
     }
 
@@ -451,7 +704,10 @@ impl HartParts {
                 let effect = self.hand.store();
                 MicroStep::Taken(self.retire::<N>(&effect, 0))
             }
-            Stage::InPieces => self.act_in_pieces(cache, free, under_way, input),
+            Stage::InPieces => {
+                let step = self.act_in_pieces(cache, free, under_way, input);
+                self.came(step)
+            }
         }
     }
 }

@@ -9,7 +9,7 @@ ghost use Rattle.thy_cache.specs.Contents.{dirty_count, place_of, read_from, Kee
 ghost use Rattle.thy_cache.specs.Flat.{AgreesStill, KeepsLines};
 ghost use Rattle.thy_flat.specs.Spans.{first_block};
 ghost use Rattle.thy_isa.specs.Access.{IsWithin};
-ghost use Rattle.thy_isa.specs.declared.state.Effect.TheVariants.{Environment};
+ghost use Rattle.thy_isa.specs.declared.state.Effect.TheVariants.{Environment, Trap};
 ghost use Rattle.thy_isa.specs.Moves.{outgoing};
 ghost use Rattle.thy_isa.specs.OnBlocks.{calls_in};
 ghost use Rattle.thy_isa.specs.Step.{AreCallsOf};
@@ -18,16 +18,18 @@ ghost use Rattle.thy_hart.specs.declared.in_hand.Stage.TheVariants.{InPieces};
 ghost use Rattle.thy_hart.specs.HartState.{IsReading, IsWriting, IsSoundHart, blocks_of, read_len, reserved, to_reserve};
 ghost use Rattle.thy_hart.specs.Outcomes.{Given, begun_with, finished, written_by, block_written, room_reserved, room_answer, retired, over_or_retired, epoch_retired, given};
 ghost use Rattle.thy_hart.specs.InHand.{pieces_of, hart_state_of, ArePieces, IsSoundParts};
-ghost use Rattle.thy_hart.specs.MicroSteps.{ReadsIn, WritesIn, IsActed};
+ghost use Rattle.thy_hart.specs.declared.hand.MicroStep.TheVariants.{Taken};
+ghost use Rattle.thy_hart.specs.MicroSteps.{ReadsIn, WritesIn, IsActed, EndsBy, micro_step};
 
-use crate::hand::{Hand, HartStep, MicroStep, begun, written_on};
+use crate::hand::{Hand, HartStep, MicroStep, ShortStep, begun, written_on};
 use crate::in_hand::Stage;
 use crate::micro_steps::{HartParts, blocks_of};
 use thy_base::EndCause;
 use thy_cache::{Cache, LinePlace};
 use thy_flat::{Piece, Span, take_head};
 use thy_isa::{
-    CallState, Effect, brought, finish, finish_alone, is_running, modified_bytes, moves, number_in,
+    CallState, Cause, Effect, brought, finish, finish_alone, is_running, modified_bytes, moves,
+    number_in,
 };
 
 impl HartParts {
@@ -66,6 +68,16 @@ impl HartParts {
         self.hand.stage = Stage::InPieces;
     }
 
+    /// Takes a trap in hand.
+    #[inline(never)]
+    pub(crate) fn begin_trap(&mut self, cause: Cause, input: &[u8])
+        requires { IsInRange self.old.geometry }
+        ensures hart { hart_state_of self.new ≡ begun_with input.now (Trap cause) (hart_state_of self.old) }
+        ensures pieces { ArePieces self.new.hand }
+    {
+        self.begin_in_pieces(Effect::Trap(cause), input);
+    }
+
     /// Reads the bytes of a span that lie in its first block, whose line is at this place.
     fn read_piece(
         &mut self,
@@ -96,6 +108,7 @@ impl HartParts {
         requires hand { self.old.hand.pieces ≡ Reading effect from to }
         ensures acts { (g : Given) → IsActed g
             cache.old cache.new (pieces_of self.old) (pieces_of self.new) result }
+        ensures ends { EndsBy result self.new.epoch.over }
         ensures sound { IsSoundHart (pieces_of self.new) }
     {
         match cache.find(from.first_block()) {
@@ -122,6 +135,7 @@ impl HartParts {
         requires going { self.old.epoch.over ≡ None }
         ensures hart { pieces_of self.new ≡ room_reserved free under_way dirty effect to (pieces_of self.old) }
         ensures says { result ≡ room_answer free under_way dirty to }
+        ensures ends { EndsBy (Taken result) self.new.epoch.over }
     {
         let need = blocks_of(to);
         if free >= need && free - need >= dirty {
@@ -215,6 +229,7 @@ impl HartParts {
         requires hand { self.old.hand.pieces ≡ Writing effect to done }
         ensures acts { (g : Given) → IsActed g
             cache.old cache.new (pieces_of self.old) (pieces_of self.new) result }
+        ensures ends { EndsBy result self.new.epoch.over }
         ensures sound { IsSoundHart (pieces_of self.new) }
     {
         match cache.find(to.first_block()) {
@@ -266,15 +281,13 @@ impl HartParts {
         requires going { self.old.epoch.over ≡ None }
         ensures hart { pieces_of self.new ≡ retired input.now effect (pieces_of self.old) }
         ensures says { result ≡ over_or_retired (epoch_retired input.now effect (pieces_of self.old)).over }
+        ensures ends { EndsBy (Taken result) self.new.epoch.over }
     {
         self.finish_pieces(effect, input);
         self.epoch.retired_once(is_running(self.cpu.status));
         self.hand.pieces = Hand::Nothing;
         self.hand.bytes = Piece::new();
-        match self.epoch.over() {
-            None => HartStep::Retired,
-            Some(cause) => HartStep::Over(cause),
-        }
+        self.ended()
     }
 
     /// Takes its next micro-step.
@@ -291,6 +304,7 @@ impl HartParts {
         requires going { self.old.epoch.over ≡ None }
         ensures acts { IsActed (given input.now free under_way)
             cache.old cache.new (pieces_of self.old) (pieces_of self.new) result }
+        ensures ends { EndsBy result self.new.epoch.over }
         ensures sound { IsSoundHart (pieces_of self.new) }
     {
         match self.hand.pieces {
@@ -327,18 +341,18 @@ impl HartParts {
         free: u64,
         under_way: bool,
         input: &[u8],
-    ) -> MicroStep
+    ) -> ShortStep
         requires sound { IsSoundParts self.old }
         requires stage { self.old.hand.stage ≡ InPieces }
         requires count { self.old.cpu.count + 1 < 2 ^ 64 }
         requires going { self.old.epoch.over ≡ None }
         ensures acts { IsActed (given input.now free under_way)
-            cache.old cache.new (hart_state_of self.old) (hart_state_of self.new) result }
+            cache.old cache.new (hart_state_of self.old) (hart_state_of self.new) (micro_step result self.new.epoch.over) }
         ensures sound { IsSoundParts self.new }
     {
         let step = self.act_on_pieces(cache, free, under_way, input);
         self.settle();
-        step
+        step.short()
     }
 
     /// How many blocks it is to reserve room for, if that is its next micro-step.

@@ -1,8 +1,13 @@
-use Rattle.std.proofs.Common.{◌≡◌, sym, ◌∙◌, ap, subst}
+use Rattle.std.proofs.Common.{◌≡◌, refl, sym, ◌∙◌, ap, subst}
+use Rattle.thy_base.specs.Geometry.{program_size}
+use Rattle.thy_isa.specs.declared.state.Effect.{Effect}
+use Rattle.thy_isa.specs.Effects.{word_effect}
+use Rattle.thy_isa.specs.Step.{within}
+use Rattle.thy_isa.proofs.AccessLaws.{within-is}
 use Rattle.thy_hart.specs.HartState.{HartState, reserved, IsSoundHart}
 use Rattle.thy_hart.specs.InHand.{hart_state_of}
 use Rattle.thy_hart.specs.Outcomes.{begun_with, fetched}
-use Rattle.thy_hart.proofs.FetchLemmas.{span_whole, span_len, effect_read, tested}
+use Rattle.thy_hart.proofs.FetchLemmas.{span_whole, span_len, effect_read}
 use Rattle.thy_hart.proofs.HandLemmas.{begun_with-sound, begun_with-unreserved}
 use Rattle.thy_hart.proofs.micro_steps.HartParts.fetch_at.Goals as goal
 
@@ -11,34 +16,37 @@ fetch_word-word-requires-clause-len g c = span_len c.args.self.now.geometry c.ar
 
 pub fetch_word-word-requires-clause-whole : goal.fetch_word-word-requires-clause-whole
 fetch_word-word-requires-clause-whole g c =
-    span_whole c.args.self.now.geometry c.args.self.now.cpu c.args.at c.numbers-base.ensures.in_range c.requires.at
-
-pub begin-requires-clause-inside : goal.begin-requires-clause-inside
-begin-requires-clause-inside g c =
-    tested c.args.self.now.geometry c.numbers-base.result c.program_size-size.result c.args.self.now.cpu.other c.decoded_effect-meant.result c.within-effect.result
-    c.numbers-base.ensures.same c.program_size-size.ensures.size c.within-effect.ensures
+    span_whole c.args.self.now.geometry c.args.self.now.cpu c.args.at c.requires.range c.requires.at
 
 pub returns-clause-hart : goal.returns-clause-hart
 unfolding fetched
 returns-clause-hart g c = λ blocks whole.
-    c.begin.ensures.hart
+    let p = c.args.self.now.geometry in
+    let cpu = c.args.self.now.cpu in
+    let meant : Effect = word_effect c.fetch_word-word.result cpu.pc cpu.regs in
+    let effect : Effect = within p.base (program_size p) cpu.other meant in
+    c.begin_word.ensures.hart
     ∙ ap (λ e. begun_with c.args.input.now e (hart_state_of c.args.self.now))
-    (effect_read c.args.self.now.geometry c.numbers-base.result c.program_size-size.result c.args.self.now.cpu c.args.cache.now c.args.at
-    c.fetch_word-word.result c.decoded_effect-meant.result c.within-effect.result
-    c.requires.at c.numbers-base.ensures.same c.program_size-size.ensures.size c.fetch_word-word.ensures.word c.decoded_effect-meant.ensures c.within-effect.ensures
-    blocks whole)
+    (effect_read p p (program_size p) cpu c.args.cache.now c.args.at c.fetch_word-word.result meant effect
+    c.requires.at refl refl c.fetch_word-word.ensures.word refl refl blocks whole)
 
 pub returns-clause-sound : goal.returns-clause-sound
 returns-clause-sound g c =
+    let p = c.args.self.now.geometry in
+    let cpu = c.args.self.now.cpu in
     let old : HartState = hart_state_of c.args.self.now in
-    let inside = tested c.args.self.now.geometry c.numbers-base.result c.program_size-size.result c.args.self.now.cpu.other
-    c.decoded_effect-meant.result c.within-effect.result c.numbers-base.ensures.same c.program_size-size.ensures.size c.within-effect.ensures in
+    let meant : Effect = word_effect c.fetch_word-word.result cpu.pc cpu.regs in
+    let effect : Effect = within p.base (program_size p) cpu.other meant in
     record {
-      hart = subst IsSoundHart (sym c.begin.ensures.hart) (begun_with-sound c.args.input.now c.within-effect.result old c.requires.range inside);
-      pieces = c.begin.ensures.pieces;
+      hart = subst IsSoundHart (sym c.begin_word.ensures.hart)
+          (begun_with-sound c.args.input.now effect old c.requires.range (within-is p.base (program_size p) cpu.other meant));
+      pieces = c.begin_word.ensures.pieces;
     }
 
 pub returns-clause-unreserved : goal.returns-clause-unreserved
 returns-clause-unreserved g c =
+    let p = c.args.self.now.geometry in
+    let cpu = c.args.self.now.cpu in
     let old : HartState = hart_state_of c.args.self.now in
-    subst (λ (h : HartState). reserved h.hand ≡ 0) (sym c.begin.ensures.hart) (begun_with-unreserved c.args.input.now c.within-effect.result old)
+    let effect : Effect = within p.base (program_size p) cpu.other (word_effect c.fetch_word-word.result cpu.pc cpu.regs) in
+    subst (λ (h : HartState). reserved h.hand ≡ 0) (sym c.begin_word.ensures.hart) (begun_with-unreserved c.args.input.now effect old)

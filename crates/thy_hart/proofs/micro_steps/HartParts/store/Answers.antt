@@ -9,7 +9,7 @@ use Rattle.thy_hart.specs.declared.in_hand.Stage.TheVariants.{Stores}
 use Rattle.thy_hart.specs.HartState.{HartState, IsInHand}
 use Rattle.thy_hart.specs.InHand.{span_of, store_of, hand_by, bytes_by, at_stage, hart_state_of}
 use Rattle.thy_hart.specs.MicroSteps.{IsActed}
-use Rattle.thy_hart.proofs.MicroStepLemmas.{found_hits, IsMicroStep-write, IsActed-taken}
+use Rattle.thy_hart.proofs.MicroStepLemmas.{IsMicroStep-write, IsActed-taken}
 use Rattle.thy_hart.proofs.micro_steps.HartParts.store.Goals as goal
 
 pub returns-in-Some-clause-acts : goal.returns-in-Some-clause-acts
@@ -18,10 +18,15 @@ returns-in-Some-clause-acts g c =
     let s : Span = span_of i.access in
     let old : HartState = at_stage Stores c.args.self.now in
     let new : HartState = hart_state_of c.store_at.new.self in
-    let found = found_hits c.args.cache.now c.first_block-b.result c.find.result c.in-Some.place c.find.ensures.hit c.in-Some.is in
+    let found = rw c.in-Some.is at c.latest.ensures.hit in
     let hit = subst (λ b. hits c.args.cache.now b ≡ true) (c.first_block-b.ensures ∙ ap first_block c.span.ensures.span) found in
     let writing = subst (λ st. IsInHand c.args.self.now.geometry (hand_by st i) (length (bytes_by st i))) c.requires.stage c.requires.sound.hart.in_hand in
     λ t. subst (λ h. IsActed t c.args.cache.now c.store_at.new.cache h new (Taken Moved)) (ap (λ st. at_stage st c.args.self.now) (sym c.requires.stage))
     (IsActed-taken t c.args.cache.now c.store_at.new.cache old new (first_block s) (Writing (store_of i) s 0) refl refl hit
     (IsMicroStep-write t c.args.cache.now c.store_at.new.cache old new (store_of i) s 0 refl writing c.store_at.ensures.hart
     c.store_at.ensures.memory c.store_at.ensures.agree c.store_at.ensures.room c.store_at.ensures.sized c.store_at.ensures.cache))
+
+pub returns-in-None-clause-acts : goal.returns-in-None-clause-acts
+returns-in-None-clause-acts g c = λ t.
+    subst (IsActed t c.args.cache.now c.store_far-step.new.cache (hart_state_of c.args.self.now) (hart_state_of c.store_far-step.new.self)) (sym c.came.ensures)
+    (c.store_far-step.ensures.acts t)
