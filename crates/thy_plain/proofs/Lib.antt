@@ -1,2 +1,4 @@
 pub mod RunLaws
 pub mod StartLaws
+pub mod StepLemmas
+pub mod WindowLemmas

@@ -4,23 +4,25 @@
 ghost use Rattle.std.specs.Prelude.{◌≡◌, ◌+◌, ◌<◌, ◌≤◌, ◌^◌, ◌++◌, length, take, drop};
 ghost use Rattle.thy_base.specs.Bytes.{bytes_of, room_of, written};
 ghost use Rattle.thy_base.specs.LittleEndian.{number_bytes};
-ghost use Rattle.thy_isa.specs.declared.state.Effect.TheVariants.{Environment};
+ghost use Rattle.thy_isa.specs.declared.state.Effect.TheVariants.{Read, Write, Environment};
 ghost use Rattle.thy_isa.specs.declared.state.Reservation.TheVariants.{Nothing};
 ghost use Rattle.thy_isa.specs.declared.state.Status.TheVariants.{Trapped};
 ghost use Rattle.thy_isa.specs.Access.{IsAtomic};
-ghost use Rattle.thy_isa.specs.Effects.{size_of, after};
+ghost use Rattle.thy_isa.specs.Effects.{size_of, after, word_effect};
 ghost use Rattle.thy_isa.specs.Regs.{regs_with};
 ghost use Rattle.thy_isa.specs.Reservations.{reserving};
 ghost use Rattle.thy_isa.specs.Step.{state_of, call_state_of, cause_number, within, performed, advanced, step};
 ghost use Rattle.thy_plain.specs.Machine.{setting_of};
+ghost use Rattle.thy_plain.specs.Window.{IsWindow};
 
 use crate::setup::Setup;
+use crate::window::{offset_of, word_offset};
 use thy_base::{Bytes, is_inside};
-use thy_decoded::DecodedWords;
+use thy_decoded::{DecodedWords, holds, operated};
 use thy_isa::{
-    Call, CallState, Cause, Effect, Extend, MachState, Reg, Reservation, Status, Width, after,
-    bytes_in, call, cause_number, extended, fetch_fault, front_of, is_reserved, is_running,
-    modified, number, reservation, reserve, word, write_past,
+    Call, CallState, Cause, Effect, Extend, Instr, MachState, Reg, Reservation, Status, Width,
+    after, bytes_in, call, cause_number, extended, front_of, is_reserved, is_running, modified,
+    number, reservation, reserve, word, write_past,
 };
 
 /// The register of an environment call's result.
@@ -243,58 +245,107 @@ fn perform_atomic(state: &mut MachState, setup: &Setup, effect: Effect)
     }
 }
 
+/// Continues at `pc`.
+#[inline(always)]
+fn jump(state: &mut MachState, pc: u64)
+    requires { state.old.count < 2 ^ 63 }
+    ensures { state.new ≡ record state.old {
+      pc = pc;
+      count = state.old.count + 1;
+    } }
+{
+    state.pc = pc;
+    state.count += 1;
+}
+
+/// Sets a register and continues at `pc`.
+#[inline(always)]
+fn set(state: &mut MachState, rd: Reg, pc: u64, value: u64)
+    requires { state.old.count < 2 ^ 63 }
+    ensures { state.new ≡ record state.old {
+      pc = pc;
+      regs = regs_with state.old.regs rd value;
+      count = state.old.count + 1;
+    } }
+{
+    state.regs.set(rd, value);
+    state.pc = pc;
+    state.count += 1;
+}
+
+/// Loads a number from an address, or traps if it is outside memory.
+#[inline(always)]
+fn load(
+    state: &mut MachState,
+    setup: &Setup,
+    rd: Reg,
+    width: Width,
+    extend: Extend,
+    pc: u64,
+    at: u64,
+)
+    requires count { state.old.count < 2 ^ 63 }
+    requires window { IsWindow setup.now.base (length (bytes_of state.old.memory)) setup.now.window }
+    ensures state { state_of state.new ≡ performed (setting_of setup.now) (state_of state.old)
+        (within setup.now.base (length (bytes_of state.old.memory)) state.old.other (Read rd width extend pc at)) }
+    ensures room { room_of state.old.console ≤ room_of state.new.console }
+{
+    if let Some(from) = offset_of(setup, &state.memory, at, width) {
+        let value = number(state.memory.as_slice(), from, width);
+        state.regs.set(rd, extended(width, extend, value));
+        state.pc = pc;
+        state.count += 1;
+    } else {
+        trap(state, Cause::LoadAccess);
+    }
+}
+
+/// Stores a number at an address, or traps if it is outside memory.
+#[inline(always)]
+fn store(state: &mut MachState, setup: &Setup, width: Width, pc: u64, at: u64, value: u64)
+    requires count { state.old.count < 2 ^ 63 }
+    requires window { IsWindow setup.now.base (length (bytes_of state.old.memory)) setup.now.window }
+    ensures state { state_of state.new ≡ performed (setting_of setup.now) (state_of state.old)
+        (within setup.now.base (length (bytes_of state.old.memory)) state.old.other (Write width pc at value)) }
+    ensures room { room_of state.old.console ≤ room_of state.new.console }
+{
+    if let Some(to) = offset_of(setup, &state.memory, at, width) {
+        write_number(&mut state.memory, to, width, value);
+        write_past(&mut state.other, at, bytes_in(width));
+        state.pc = pc;
+        state.count += 1;
+    } else {
+        trap(state, Cause::StoreAccess);
+    }
+}
+
 /// Does what an instruction does, to a state that runs. A load or a store outside memory traps: this is tested where
 /// each is done, so that an effect is matched only once.
 #[inline(always)]
 fn perform(state: &mut MachState, setup: &Setup, effect: Effect)
     requires count { state.old.count < 2 ^ 63 }
     requires room { setup.now.room ≤ room_of state.old.console }
+    requires window { IsWindow setup.now.base (length (bytes_of state.old.memory)) setup.now.window }
     ensures state { state_of state.new ≡ performed (setting_of setup.now) (state_of state.old)
         (within setup.now.base (length (bytes_of state.old.memory)) state.old.other effect) }
     ensures room { room_of state.old.console ≤ room_of state.new.console }
 {
-    let size = state.memory.len() as u64;
     match effect {
-        Effect::Next { pc } => {
-            state.pc = pc;
-            state.count += 1;
-        }
-        Effect::Set { pc, rd, value } => {
-            state.regs.set(rd, value);
-            state.pc = pc;
-            state.count += 1;
-        }
+        Effect::Next { pc } => jump(state, pc),
+        Effect::Set { pc, rd, value } => set(state, rd, pc, value),
         Effect::Read {
             pc,
             at,
             width,
             extend,
             rd,
-        } => {
-            if is_inside(setup.base, size, at, bytes_in(width)) {
-                let value = number(state.memory.as_slice(), (at - setup.base) as usize, width);
-                state.regs.set(rd, extended(width, extend, value));
-                state.pc = pc;
-                state.count += 1;
-            } else {
-                trap(state, Cause::LoadAccess);
-            }
-        }
+        } => load(state, setup, rd, width, extend, pc, at),
         Effect::Write {
             pc,
             at,
             width,
             value,
-        } => {
-            if is_inside(setup.base, size, at, bytes_in(width)) {
-                write_number(&mut state.memory, (at - setup.base) as usize, width, value);
-                write_past(&mut state.other, at, bytes_in(width));
-                state.pc = pc;
-                state.count += 1;
-            } else {
-                trap(state, Cause::StoreAccess);
-            }
-        }
+        } => store(state, setup, width, pc, at, value),
         Effect::Reserve { .. } | Effect::Conditional { .. } | Effect::Modify { .. } => {
             perform_atomic(state, setup, effect);
         }
@@ -304,21 +355,115 @@ fn perform(state: &mut MachState, setup: &Setup, effect: Effect)
     }
 }
 
+/// Does what any word does that was fetched at the program counter, by its effect.
+#[inline(never)]
+fn perform_rarely(state: &mut MachState, setup: &Setup, decoded: &mut DecodedWords, word: u32)
+    requires count { state.old.count < 2 ^ 63 }
+    requires room { setup.now.room ≤ room_of state.old.console }
+    requires window { IsWindow setup.now.base (length (bytes_of state.old.memory)) setup.now.window }
+    ensures state { state_of state.new ≡ performed (setting_of setup.now) (state_of state.old)
+        (within setup.now.base (length (bytes_of state.old.memory)) state.old.other (word_effect word state.old.pc state.old.regs)) }
+    ensures room { room_of state.old.console ≤ room_of state.new.console }
+{
+    let effect = decoded.effect(word, state.pc, &state.regs);
+    perform(state, setup, effect);
+}
+
+/// Does what a word does that was fetched at the program counter. The most frequent instructions are done here; no effect is
+/// made of them.
+#[inline(always)]
+#[tactic(auto, unfolding(thy_isa::specs::Effects::effect_of, thy_isa::specs::Step::performed, thy_isa::specs::Step::within, thy_isa::specs::Step::read_by, thy_isa::specs::Step::memory_by, thy_isa::specs::Step::console_by, thy_isa::specs::Step::finished))]
+fn perform_word(state: &mut MachState, setup: &Setup, decoded: &mut DecodedWords, word: u32)
+    requires count { state.old.count < 2 ^ 63 }
+    requires room { setup.now.room ≤ room_of state.old.console }
+    requires window { IsWindow setup.now.base (length (bytes_of state.old.memory)) setup.now.window }
+    ensures state { state_of state.new ≡ performed (setting_of setup.now) (state_of state.old)
+        (within setup.now.base (length (bytes_of state.old.memory)) state.old.other (word_effect word state.old.pc state.old.regs)) }
+    ensures room { room_of state.old.console ≤ room_of state.new.console }
+{
+    let pc = state.pc;
+    let Some(instr) = decoded.instr(word) else {
+        return perform_rarely(state, setup, decoded, word);
+    };
+    match *instr {
+        Instr::OpImm { op, rd, rs1, imm } => {
+            let value = operated(op, state.regs.get(rs1), imm);
+            set(state, rd, after(pc), value);
+        }
+        Instr::Op { op, rd, rs1, rs2 } => {
+            let value = operated(op, state.regs.get(rs1), state.regs.get(rs2));
+            set(state, rd, after(pc), value);
+        }
+        Instr::Load {
+            width,
+            extend,
+            rd,
+            rs1,
+            imm,
+        } => {
+            let at = state.regs.get(rs1).wrapping_add(imm);
+            load(state, setup, rd, width, extend, after(pc), at);
+        }
+        Instr::Store {
+            width,
+            rs1,
+            rs2,
+            imm,
+        } => {
+            let at = state.regs.get(rs1).wrapping_add(imm);
+            let value = state.regs.get(rs2);
+            store(state, setup, width, after(pc), at, value);
+        }
+        Instr::Branch {
+            cond,
+            rs1,
+            rs2,
+            imm,
+        } => {
+            let target = pc.wrapping_add(imm);
+            if !holds(cond, state.regs.get(rs1), state.regs.get(rs2)) {
+                jump(state, after(pc));
+            } else if target % 4 == 0 {
+                jump(state, target);
+            } else {
+                perform_rarely(state, setup, decoded, word);
+            }
+        }
+        Instr::Lui { rd, imm } => set(state, rd, after(pc), imm),
+        Instr::Auipc { rd, imm } => set(state, rd, after(pc), pc.wrapping_add(imm)),
+        Instr::Jal { rd, imm } => {
+            let target = pc.wrapping_add(imm);
+            if target % 4 == 0 {
+                set(state, rd, target, after(pc));
+            } else {
+                perform_rarely(state, setup, decoded, word);
+            }
+        }
+        Instr::Jalr { .. }
+        | Instr::Fence
+        | Instr::FenceI
+        | Instr::Ecall
+        | Instr::Ebreak
+        | Instr::LoadReserved { .. }
+        | Instr::StoreConditional { .. }
+        | Instr::AtomicOp { .. } => perform_rarely(state, setup, decoded, word),
+    }
+}
+
 /// Executes the instruction at the program counter of a state that runs.
 #[inline(always)]
 fn advance(state: &mut MachState, setup: &Setup, decoded: &mut DecodedWords)
     requires count { state.old.count < 2 ^ 63 }
     requires room { setup.now.room ≤ room_of state.old.console }
+    requires window { IsWindow setup.now.base (length (bytes_of state.old.memory)) setup.now.window }
     ensures state { state_of state.new ≡ advanced (setting_of setup.now) (state_of state.old) }
     ensures room { room_of state.old.console ≤ room_of state.new.console }
 {
-    match fetch_fault(setup.base, state.memory.len() as u64, state.pc) {
-        Some(cause) => trap(state, cause),
-        None => {
-            let at = (state.pc - setup.base) as usize;
+    match word_offset(setup, &state.memory, state.pc) {
+        Err(cause) => trap(state, cause),
+        Ok(at) => {
             let word = word(state.memory.as_slice(), at);
-            let effect = decoded.effect(word, state.pc, &state.regs);
-            perform(state, setup, effect);
+            perform_word(state, setup, decoded, word);
         }
     }
 }
@@ -328,8 +473,10 @@ fn advance(state: &mut MachState, setup: &Setup, decoded: &mut DecodedWords)
 pub(crate) fn take_step(state: &mut MachState, setup: &Setup, decoded: &mut DecodedWords)
     requires count { state.old.count < 2 ^ 63 }
     requires room { setup.now.room ≤ room_of state.old.console }
+    requires window { IsWindow setup.now.base (length (bytes_of state.old.memory)) setup.now.window }
     ensures state { state_of state.new ≡ step (setting_of setup.now) (state_of state.old) }
     ensures room { room_of state.old.console ≤ room_of state.new.console }
+    ensures size { length (bytes_of state.new.memory) ≡ length (bytes_of state.old.memory) }
 {
     if is_running(state.status) {
         advance(state, setup, decoded);

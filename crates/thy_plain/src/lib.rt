@@ -10,6 +10,7 @@ mod advance;
 mod plain;
 mod setup;
 mod start;
+mod window;
 
 pub use plain::Plain;
 pub use start::{are_bytes, start_of};

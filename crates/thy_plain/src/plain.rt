@@ -10,6 +10,7 @@ ghost use Rattle.thy_plain.specs.Machine.{in_state, loaded, stepped, stepped_by,
 use crate::advance::take_step;
 use crate::setup::Setup;
 use crate::start::state_over;
+use crate::window::window_of;
 use std::alloc::{AllocError, Global};
 use std::marker::Model;
 use thy_base::{Bytes, Geometry};
@@ -27,16 +28,18 @@ pub struct Plain {
 }
 
 impl Model for Plain {
-    ghost use Rattle.std.specs.Prelude.{◌≤◌};
-    ghost use Rattle.thy_base.specs.Bytes.{room_of};
+    ghost use Rattle.std.specs.Prelude.{◌≤◌, length};
+    ghost use Rattle.thy_base.specs.Bytes.{bytes_of, room_of};
     ghost use Rattle.thy_isa.specs.Step.{state_of};
     ghost use Rattle.thy_plain.specs.Machine.{Machine, setting_of};
+    ghost use Rattle.thy_plain.specs.Window.{IsWindow};
 
     ghost Value = { Machine };
 
     ghost view = { λ p. record { setting = setting_of p.setup; state = state_of p.state } };
 
-    ghost invariant = { λ p. p.setup.room ≤ room_of p.state.console };
+    ghost invariant = { λ p. (p.setup.room ≤ room_of p.state.console)
+        × IsWindow p.setup.base (length (bytes_of p.state.memory)) p.setup.window };
 }
 
 impl Plain {
@@ -53,14 +56,17 @@ impl Plain {
         ensures storable { IfOk result (λ m. IsStorable (program_size geometry.now) m.state) }
     {
         let room = geometry.console_room();
+        let base = geometry.numbers().base;
         let memory = image.memory.duplicate(alloc)?;
         let console = Bytes::with_room(alloc, room as usize)?;
+        let window = window_of(base, memory.len() as u64);
         Ok(Plain {
             state: state_over(image.entry, image.floor, memory, console, geometry),
             setup: Setup {
-                base: geometry.numbers().base,
+                base,
                 input,
                 room,
+                window,
             },
             decoded: DecodedWords::new(),
         })
@@ -76,9 +82,11 @@ impl Plain {
         ensures { IfOk result (λ m. m ≡ in_state geometry.now (state_of state.now) (bytes_of input)) }
     {
         let room = geometry.console_room();
+        let base = geometry.numbers().base;
         let memory = state.memory.duplicate(alloc)?;
         let mut console = Bytes::with_room(alloc, room as usize)?;
         console.extend(state.console.as_slice())?;
+        let window = window_of(base, memory.len() as u64);
         Ok(Plain {
             state: MachState {
                 pc: state.pc,
@@ -93,9 +101,10 @@ impl Plain {
                 other: state.other,
             },
             setup: Setup {
-                base: geometry.numbers().base,
+                base,
                 input,
                 room,
+                window,
             },
             decoded: DecodedWords::new(),
         })

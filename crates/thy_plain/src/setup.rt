@@ -11,4 +11,6 @@ pub(crate) struct Setup {
     pub(crate) input: Bytes,
     /// How many bytes the console takes at most.
     pub(crate) room: u64,
+    /// Each offset from the base below this number has 8 bytes of program memory (`window_of`).
+    pub(crate) window: u64,
 }
