@@ -1,5 +1,6 @@
 -- Cycles with nothing to report, one after another.
-use Rattle.std.proofs.Common.{◌≡◌, ◌<◌, ◌^◌, ℕ, suc, ◌+◌, false, List, [], length, sym, ◌∙◌, ◌≤◌, ap, subst, refl, arith}
+use Rattle.std.proofs.Common.{◌≡◌, ◌<◌, ◌^◌, ℕ, suc, ◌+◌, false, ◌&&◌, ◌==◌, nat_lt, List, [], length, sym, ◌∙◌, ◌≤◌, ap, subst, refl, arith}
+use Rattle.std.specs.Prelude.{slice_index}
 use Rattle.thy_base.specs.declared.config.Parameters.{Parameters}
 use Rattle.thy_base.specs.declared.mix.Mix.{Mix}
 use Rattle.thy_base.specs.declared.mix.Pick.{Pick}
@@ -15,7 +16,7 @@ use Rattle.thy_view.specs.Advances.{stepped_of}
 use Rattle.thy_view.specs.Kind.{KindOf, IsLawful}
 use Rattle.thy_run.specs.declared.plan.Plan.{Plan}
 use Rattle.thy_run.specs.declared.progress.Progress.{Progress}
-use Rattle.thy_run.specs.Due.{IsQuiet}
+use Rattle.thy_run.specs.Due.{IsQuiet, AreQuietBelow}
 use Rattle.thy_run.specs.Going.{origin_of, given_of, turns_then, world_at, telling_of, IsPlanned, GoesOn, HasDrawn, IsStepped, Passes}
 use Rattle.thy_run.specs.Laws.{released_of}
 use Rattle.thy_run.specs.Promises.{HasStepped}
@@ -72,6 +73,8 @@ IsLed-on K laws has_seen plan fitted p q next n new done now r o o' planned led 
       goes = passes_on K plan fitted q next n new now led.turns r led.goes passes;
       watched = Watched-done K has_seen plan fitted q next n new now led.turns (turns_then plan led.turns r.did) r false [] 0 o o' passes.0 (omega (arith, e)) led.watched sees;
       untold = same ∙ led.untold;
+      uncut = ap (λ y. y.passed) stepped.same ∙ led.uncut;
+      fresh = ap (λ y. y.fresh) stepped.same ∙ led.fresh;
       more = omega (arith, led.more);
     }
 
@@ -88,6 +91,18 @@ pub IsLed-passed : {M O : Type 0} (K : KindOf M) (laws : IsLawful K) (has_seen :
     → IsLed K has_seen plan fitted p next new done (now + 1) o'
 IsLed-passed K laws has_seen plan fitted p q next n new done now o o' planned led c =
     IsLed-on K laws has_seen plan fitted p q next n new done now c.r o o' planned led c.stepped c.quiet c.sees
+
+-- the cycles that were quiet before are so still, as no cut fell
+pub AreQuietBelow-on : {M : Type 0} (cuts : List ℕ) (p q : Progress M) (below : ℕ) → q.passed ≡ p.passed → q.fresh ≡ p.fresh
+    → AreQuietBelow cuts p below → AreQuietBelow cuts q below
+AreQuietBelow-on cuts p q below uncut fresh h a cycle few =
+    let w = h a cycle few in
+    record {
+      untold = w.untold;
+      going = w.going;
+      later = fresh ∙ w.later;
+      uncut = subst (λ (k : ℕ). (nat_lt k (length cuts) && slice_index cuts k == cycle) ≡ false) (sym uncut) w.uncut;
+    }
 
 -- with sinks that had taken all that was due, and were given nothing meanwhile
 pub Running-led : {M O : Type 0} (K : KindOf M) (has_seen : O → List Taken → Type 0) (plan : Plan) (fitted : Device) (p q : Progress M) (n m : Device) (k now : ℕ) (turns : List ℕ) (o : O) (t0 t1 r0 r1 : Stream)

@@ -1,11 +1,13 @@
 -- What of the console is released to the terminal at the end of a cycle, and which cycles have nothing to report.
-use Rattle.std.specs.Prelude.{◌≡◌, ◌⊎◌, ℕ, Bool, true, false, ◌&&◌, ◌==◌, nat_lt, if◌then◌else◌, List, [], length, drop, slice_index, Option, Some, None}
+use Rattle.std.specs.Prelude.{◌≡◌, ◌<◌, ◌⊎◌, ℕ, Bool, true, false, ◌&&◌, ◌==◌, nat_lt, if◌then◌else◌, List, [], length, drop, slice_index, Option, Some, None}
 use Rattle.thy_text.specs.Event.{Event}
 use Rattle.thy_base.specs.declared.mark.Mark.{Mark}
+use Rattle.thy_view.specs.declared.did.Advance.{Advance}
 use Rattle.thy_view.specs.declared.did.Did.{Did}
 use Rattle.thy_view.specs.declared.did.Did.TheVariants.{Loaded, Restarted, Sealed, Committed}
 use Rattle.thy_view.specs.declared.did.Stepped.{Stepped}
 use Rattle.thy_view.specs.declared.view.View.{View}
+use Rattle.thy_view.specs.Advances.{stepped_of}
 use Rattle.thy_view.specs.Origin.{Origin, at}
 use Rattle.thy_run.specs.Laws.{released_of}
 use Rattle.thy_run.specs.declared.progress.Progress.{Progress}
@@ -51,3 +53,7 @@ pub record IsQuiet {M : Type 0} (cuts : List ℕ) (p : Progress M) (r : Stepped)
   pub going : r.ended ≡ false
   pub later : p.fresh ≡ false
   pub uncut : (nat_lt p.passed (length cuts) && slice_index cuts p.passed == cycle) ≡ false
+
+-- each cycle below this one in which a hart advances is quiet
+abbrev pub AreQuietBelow : {M : Type 0} → List ℕ → Progress M → ℕ → Type 0
+AreQuietBelow cuts p below = (a : Advance) (cycle : ℕ) → cycle < below → IsQuiet cuts p (stepped_of a) cycle

@@ -18,7 +18,7 @@ abbrev pub IsWatched : {M O : Type 0} → KindOf M → (O → List Taken → Typ
 IsWatched K has_seen plan p n done o =
     (fitted : Device) × (turns : List ℕ) × GoesOn K plan fitted p n done turns × Watched K has_seen plan fitted p n done turns o
 
--- any number of cycles without an event led from p to q, where so many are done; the observer has seen them all
+-- any number of cycles without an event or a cut led from p to q, where so many are done; the observer has seen them all
 pub record IsLed {M O : Type 0} (K : KindOf M) (has_seen : O → List Taken → Type 0) (plan : Plan) (fitted : Device)
     (p q : Progress M) (n : Device) (done now : ℕ) (o : O) : Type 0 where
   -- the turns that are reported there
@@ -26,6 +26,8 @@ pub record IsLed {M O : Type 0} (K : KindOf M) (has_seen : O → List Taken → 
   pub goes : GoesOn K plan fitted q n now turns
   pub watched : Watched K has_seen plan fitted q n now turns o
   pub untold : q.events ≡ p.events
+  pub uncut : q.passed ≡ p.passed
+  pub fresh : q.fresh ≡ p.fresh
   pub more : done ≤ now
 
 -- the next cycle is not quiet: its step from q has something to report, or failed; or none is left

@@ -4,7 +4,7 @@ ghost use Rattle.std.specs.Prelude.{◌≡◌, ◌↔◌, ◌<◌, ◌≤◌, �
 ghost use Rattle.thy_base.specs.Bytes.{bytes_of, room_of};
 ghost use Rattle.thy_base.specs.Device.{Device as DeviceValue};
 ghost use Rattle.thy_run.specs.declared.advance.HartCycle.TheVariants.{Left};
-ghost use Rattle.thy_run.specs.Due.{is_told, IsQuiet};
+ghost use Rattle.thy_run.specs.Due.{is_told, IsQuiet, AreQuietBelow};
 ghost use Rattle.thy_run.specs.Going.{IsPlanned, HasDrawn, HasRoomToList, list_after, CanCut, IsCutOffTo};
 ghost use Rattle.thy_run.specs.Promises.{AdvancesOn, StepsOn, HasStepped, CanConclude, Concludes};
 ghost use Rattle.thy_run.specs.Seeing.{Reports};
@@ -181,11 +181,33 @@ pub fn is_quiet<M>(progress: &Progress<M>, plan: &Plan, stepped: &Stepped, cycle
 
 /// Whether a cycle in which a hart advanced has nothing to report: it is not the first one after a cut, and no cut is due
 /// after it.
-#[inline(always)]
-pub fn advances_quietly<M>(progress: &Progress<M>, plan: &Plan, cycle: u64) -> bool
+fn advances_quietly<M>(progress: &Progress<M>, plan: &Plan, cycle: u64) -> bool
     ensures { (a : AdvanceValue) → (result ≡ true ↔ IsQuiet plan.now.config.cuts progress.now (stepped_of a) cycle) }
 {
     !progress.fresh && !is_due(&plan.config, progress.passed, cycle)
+}
+
+/// Below which cycle each one in which a hart advances has nothing to report, as long as no cut falls: the cycle of the next
+/// cut that is listed. It is 0 if no cycle was done since the last cut.
+pub fn quiet_below<M>(progress: &Progress<M>, plan: &Plan) -> u64
+    ensures { AreQuietBelow plan.now.config.cuts progress.now result }
+{
+    if progress.fresh {
+        0
+    } else if progress.passed < plan.config.cuts.len() {
+        plan.config.cuts.get(progress.passed)
+    } else {
+        u64::MAX
+    }
+}
+
+/// Whether a cycle in which a hart advanced has nothing to report, if none below a cycle has. Mostly one comparison shows that.
+#[inline(always)]
+pub fn stays_quiet<M>(progress: &Progress<M>, plan: &Plan, below: u64, cycle: u64) -> bool
+    requires { AreQuietBelow plan.now.config.cuts progress.now below }
+    ensures { (a : AdvanceValue) → (result ≡ true ↔ IsQuiet plan.now.config.cuts progress.now (stepped_of a) cycle) }
+{
+    cycle < below || advances_quietly(progress, plan, cycle)
 }
 
 /// The pick of a cut: the one at its position in the list, 0 if the list is shorter.

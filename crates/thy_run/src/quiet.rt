@@ -7,7 +7,7 @@ ghost use Rattle.thy_run.specs.Going.{IsPlanned, HasDrawn};
 ghost use Rattle.thy_run.specs.Quiet.{IsWatched, PassesTo, RunsQuietly};
 ghost use Rattle.thy_run.specs.Watching.{CanSee};
 
-use crate::advance::{HartCycle, advance, advances_quietly, is_quiet, take_other};
+use crate::advance::{HartCycle, advance, is_quiet, quiet_below, stays_quiet, take_other};
 use crate::observer::Observer;
 use crate::plan::Plan;
 use crate::progress::Progress;
@@ -78,11 +78,12 @@ pub fn run_quiet<M: Computer, N: Nvm, O: Observer>(
 {
     let harts = plan.geometry.harts();
     let limit = plan.geometry.numbers().limit;
+    let below = quiet_below(progress, plan);
     for now in done..limit {
         let pick = progress.mix.next(harts);
         match advance(progress, plan, pick, now, nvm) {
             HartCycle::Advanced(advance) => {
-                if !advances_quietly(progress, plan, now + 1) {
+                if !stays_quiet(progress, plan, below, now + 1) {
                     return (now, Pause::Steps(advance.stepped()));
                 }
                 observer.see(&advance.stepped(), 0, now + 1);

@@ -1,4 +1,4 @@
-use Rattle.std.proofs.Common.{◌≡◌, ◌+◌, ◌<◌, ℕ, true, sym, ap, subst, refl, arith}
+use Rattle.std.proofs.Common.{◌≡◌, ◌+◌, ◌<◌, ℕ, true, sym, ◌∙◌, ap, subst, refl, arith}
 use Rattle.thy_base.specs.Device.{Device}
 use Rattle.thy_view.specs.declared.did.Stepped.{Stepped}
 use Rattle.thy_view.specs.Advances.{IsOthersTurn}
@@ -7,10 +7,10 @@ use Rattle.thy_run.specs.Due.{IsQuiet}
 use Rattle.thy_run.specs.Going.{HasDrawn, IsStepped}
 use Rattle.thy_run.specs.Quiet.{IsLed, PassesTo, PassedTo}
 use Rattle.thy_run.specs.Seeing.{Watched}
-use Rattle.thy_run.proofs.QuietLemmas.{IsLed-advanced, IsLed-passed, drawn_on}
+use Rattle.thy_run.proofs.QuietLemmas.{IsLed-advanced, IsLed-passed, AreQuietBelow-on, drawn_on}
 use Rattle.thy_run.proofs.SeeingLemmas.{CanSee-watched}
 use Rattle.thy_run.proofs.quiet.run_quiet.Goals as goal
-use Rattle.thy_run.proofs.quiet.run_quiet.Goals.{in-Advanced+else-not-advances_quietly, in-Left+in_default}
+use Rattle.thy_run.proofs.quiet.run_quiet.Goals.{in-Advanced+else-not-stays_quiet, in-Left+in_default}
 
 -- the run continues, but for the pick that was drawn
 pub advance-requires-clause-drawn : goal.advance-requires-clause-drawn
@@ -29,9 +29,23 @@ see-requires g c =
     let led = c.loop-now.invariant h.0 h.1 h.2 h.3 in
     CanSee-watched g.M.Computer.kind g.O.Observer.has_seen c.args.plan.now h.0 c.loop-now.progress (g.N.Nvm.device c.loop-now.nvm) c.loop-now.now led.turns c.loop-now.observer led.watched
 
+-- no cut fell since the loop began
+pub stays_quiet-requires : goal.stays_quiet-requires
+stays_quiet-requires g c =
+    let h = c.requires.watched in
+    let plan = c.args.plan.now in
+    let p = c.loop-now.progress in
+    let led = c.loop-now.invariant h.0 h.1 h.2 h.3 in
+    let d = drawn_on g.M.Computer.kind plan h.0 p (g.N.Nvm.device c.loop-now.nvm) c.loop-now.now led.turns c.harts-harts.result c.next-pick.new.self c.next-pick.result
+    c.harts-harts.ensures.harts c.next-pick.ensures.pick c.next-pick.ensures.after led.goes in
+    let same = (c.in-Advanced.ensures.advances h.0 led.turns d).same in
+    AreQuietBelow-on plan.config.cuts c.args.progress.now c.advance.new.progress c.quiet_below-below.result
+    (ap (λ (y : Progress g.row.M.Denot). y.passed) same ∙ led.uncut) (ap (λ (y : Progress g.row.M.Denot). y.fresh) same ∙ led.fresh)
+    c.quiet_below-below.ensures
+
 -- a hart advanced, and there is something to report
-pub returns-then-not-advances_quietly : goal.returns-then-not-advances_quietly
-returns-then-not-advances_quietly g c = λ fitted turns goes w.
+pub returns-then-not-stays_quiet : goal.returns-then-not-stays_quiet
+returns-then-not-stays_quiet g c = λ fitted turns goes w.
     let K = g.M.Computer.kind in
     let plan = c.args.plan.now in
     let p = c.loop-now.progress in
@@ -52,9 +66,9 @@ returns-then-not-advances_quietly g c = λ fitted turns goes w.
         subst (λ (l : ℕ). c.loop-now.now < l) limit c.loop-now-test.true,
         subst (λ (r : Stepped). IsStepped K plan p next n m c.loop-now.now led.turns r) (sym c.stepped.ensures) (came fitted led.turns d),
         λ quiet. absurd (
-            let yes : c.advances_quietly.result ≡ true = (c.advances_quietly.ensures c.in-Advanced.advance).1
+            let yes : c.stays_quiet.result ≡ true = (c.stays_quiet.ensures c.in-Advanced.advance).1
             (subst (λ (r : Stepped). IsQuiet plan.config.cuts next r (c.loop-now.now + 1)) c.stepped.ensures quiet) in
-            let no = c.if-not-advances_quietly.true in
+            let no = c.if-not-stays_quiet.true in
             cc
             ),
       );
@@ -138,6 +152,8 @@ returns-in-Some g c = λ fitted turns goes w.
         goes = led.goes;
         watched = subst (Watched K S plan fitted p n c.loop-now.now led.turns) (sym stops.1) led.watched;
         untold = led.untold;
+        uncut = led.uncut;
+        fresh = led.fresh;
         more = led.more;
       };
       stops = stops.0;
@@ -195,12 +211,12 @@ loop-now-preserved g c = λ fitted turns goes w.
     λ x y z. IsLed K S plan fitted c.args.progress.now x (g.N.Nvm.device y) c.args.done (k + 1) z in
     let x = c.match-advance in
     elim x.branch [
-      | in-Advanced+else-not-advances_quietly v ↦
+      | in-Advanced+else-not-stays_quiet v ↦
           let a = v.in-Advanced.advance in
           let came = v.in-Advanced.ensures.advances in
           let h : Now q' c.advance.new.nvm v.see.new.self =
           IsLed-advanced K laws S plan fitted c.args.progress.now p q' n m' c.args.done k a v.stepped-in-Advanced.result o v.see.new.self c.requires.planned led (came fitted led.turns d)
-          ((v.advances_quietly.ensures a).0 v.if-not-advances_quietly.false) v.stepped-in-Advanced.ensures v.see.ensures in
+          ((v.stays_quiet.ensures a).0 v.if-not-stays_quiet.false) v.stepped-in-Advanced.ensures v.see.ensures in
           subst (λ y. Now y x.nvm x.observer) (sym v.progress-is)
           (subst (λ y. Now q' y x.observer) (sym v.nvm-is)
           (subst (λ y. Now q' c.advance.new.nvm y) (sym v.observer-is) h))
