@@ -1,3 +1,4 @@
+-- Part of the claim.
 -- Loading: the round that writes the start's checkpoint.
 use Rattle.std.specs.Prelude.{◌≡◌, ℕ, ◌+◌, ◌-◌, nat_lt, false, if◌then◌else◌, length, slice_index_or, Option, Some, None, Result, OnOk, OnErr}
 use Rattle.thy_base.specs.declared.block.Block.{Block}

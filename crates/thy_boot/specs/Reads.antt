@@ -1,3 +1,4 @@
+-- Part of the claim.
 -- What a step that reads does at the NVM, and what it makes of boot and controller.
 use Rattle.std.specs.Prelude.{◌≡◌, ℕ, ◌+◌, length}
 use Rattle.thy_base.specs.Device.{Device, newest}

@@ -1,3 +1,4 @@
+-- Part of the claim.
 -- The blocks that a start makes of memory: its bytes, and after them its console's pages.
 use Rattle.std.specs.Prelude.{◌≡◌, ℕ, ◌-◌, ◌*◌, ◌≤◌, List, ◌++◌, length, map, take, drop, replicate}
 use Rattle.std.specs.List.{range_with_len}

@@ -1,3 +1,4 @@
+-- Part of the claim.
 -- What a step makes of boot, controller and NVM.
 use Rattle.std.specs.Prelude.{◌≡◌, Result, OnOk, OnErr}
 use Rattle.thy_base.specs.declared.nvm.NvmError.{NvmError}

@@ -1,3 +1,4 @@
+-- Part of the claim.
 -- Where a block is stored, and what a store, and a copy that may have to come first, make of its entries.
 use Rattle.std.specs.Prelude.{Bool, true, false}
 use Rattle.thy_places.specs.declared.place.Place.{Place}

@@ -1,3 +1,4 @@
+-- Part of the claim.
 -- Laws of a store and of a copy, for one block and for the other blocks of its page.
 use Rattle.std.specs.Prelude.{◌≡◌, ◌≢◌, Bool}
 use Rattle.thy_base.specs.declared.block.Block.{Block}

@@ -9,6 +9,7 @@ use Rattle.thy_base.specs.Device.{Device, IsFramed}
 use Rattle.thy_base.specs.Places.{dram_blocks}
 use Rattle.thy_dram.specs.Contents.{Contents, lost}
 use Rattle.thy_isa.specs.declared.state.CpuState.{CpuState}
+use Rattle.thy_isa.specs.Step.{State, state_of}
 use Rattle.thy_layout.specs.declared.engine_step.EngineStep.{EngineStep}
 use Rattle.thy_layout.specs.declared.start.Start.{Start}
 use Rattle.thy_view.specs.declared.boot_step.BootStep.{BootStep}
@@ -17,17 +18,25 @@ use Rattle.thy_view.specs.Dram.{ActsOnDram}
 use Rattle.thy_view.specs.Kind.{IsDramOf}
 use Rattle.thy_view.specs.Origin.{Origin, Begins}
 use Rattle.thy_view.proofs.ActionLemmas.{down-after, queue-after}
+use Rattle.thy_boot.specs.declared.stage.ReadStage.{ReadStage}
+use Rattle.thy_boot.specs.declared.stage.ReadStage.TheVariants.{Unread, Header, Slot, Fills, Refusing}
+use Rattle.thy_boot.specs.declared.stage.Stage.{Stage}
+use Rattle.thy_boot.specs.declared.stage.Stage.TheVariants.{Reads, Loads, Migrates, Over}
+use Rattle.thy_boot.specs.Boot.{Booting}
+use Rattle.thy_boot.specs.Filling.{FillingOf}
+use Rattle.thy_boot.specs.Reads.{read_action}
+use Rattle.thy_boot.specs.Steps.{StepsAt, action_at}
 use Rattle.thy_boot_laws.proofs.PowerLemmas.{IsDramOf-lost}
 use Rattle.thy_scheme.specs.Boots.{BootsOn, BootFails, BootDrains}
 use Rattle.thy_scheme.specs.Calls.{Drains, EngineFails, Engines, IsOneAccess, Merges, Promotes, Seals}
 use Rattle.thy_scheme.specs.CheckpointMarks.{CheckpointMarks}
+use Rattle.thy_scheme.specs.Exact.{Made, Makes}
 use Rattle.thy_scheme.specs.Scheme.{IsBooting, Stands}
 use Rattle.thy_engine.specs.Progress.{Acts, action_next, is_under_way}
 use Rattle.thy_parts.specs.AreParts.{AreParts}
 use Rattle.thy_parts.specs.Boots.{IsOf}
-use Rattle.thy_parts.specs.Calls.{IsReading, Promotes as MakesPromotion, TakesBootStep, drained, merged, promoted, stored}
+use Rattle.thy_parts.specs.Calls.{IsReading, Promotes as MakesPromotion, TakesBootStep, BootsBy, FillsBy, boot_after, changed_to, drained, merged, promoted, sealed, step_of, stored, taken}
 use Rattle.thy_parts.specs.Design.{DesignOf, Composed}
-use Rattle.thy_parts.specs.Laws.{sealed, step_of, taken}
 use Rattle.thy_parts.specs.Scheme.{scheme_of}
 use Rattle.thy_parts.specs.Stays.{Stays}
 use Rattle.thy_parts.specs.Storing.{CanStore, MakesStore}
@@ -44,6 +53,41 @@ fails-down (ReadAt place) n m failed = failed.down
 fails-down (WriteAt place block) n m failed = failed.down
 fails-down Barrier n m failed = failed.down
 fails-down Drain n m failed = failed.down
+
+-- ---- what a call makes exactly
+
+pub made_then : {S A : Type 0} (made : Made S A) (s t : S) (n m : Device) (r : Result A NvmError)
+    → IfOk r (λ answer. answer ≡ made.answer) → Acts made.action made.scheme r s n t m → IfOk r (λ answer. Makes made answer n t m)
+made_then made s t n m (Ok x) answer acts = record { answer_is = answer; scheme_is = acts.control; nvm_is = acts.device }
+made_then made s t n m (Err x) answer acts = tt
+
+pub promoted_then : {S : Type 0} (later s t : S) (n m : Device) (r : Result (Unit {0}) NvmError) → MakesPromotion later r s t → IsReading r n m
+    → IfOk r (λ done. Makes (changed_to later) done n t m)
+promoted_then later s t n m (Ok x) makes reads = record { answer_is = refl; scheme_is = makes.made; nvm_is = reads.same }
+promoted_then later s t n m (Err x) makes reads = tt
+
+-- a step of the boot that reads leaves the NVM
+read-leaves : {C : Type 0} (F : FillingOf C) (b : Booting) (c : C) (at : ReadStage) (n : Device) → after (read_action F b c at) n ≡ n
+read-leaves F b c Unread n = refl
+read-leaves F b c Header n = refl
+read-leaves F b c (Slot next) n = refl
+read-leaves F b c (Fills k) n = refl
+read-leaves F b c (Refusing bad) n = refl
+
+boots-at : {C : Type 0} (F : FillingOf C) (start : State) (stage : Stage) (n : Device) (b : Booting) (c : C) (m : Device) (d : Booting) (e : C)
+    → StepsAt F stage start n b c m d e
+    → (d ≡ boot_after F start stage n b) × FillsBy F stage n b c e × (m ≡ after (action_at F stage start b c) n)
+boots-at F start (Reads at) n b c m d e s = (s.boot, s.control, s.device ∙ sym (read-leaves F b c at n))
+boots-at F start (Loads r) n b c m d e s = (s.boot, s.control, s.device)
+boots-at F start (Migrates r) n b c m d e s = (s.boot, s.control, s.device)
+boots-at F start (Over end) n b c m d e s = absurd s
+
+pub booted_then : {C : Type 0} (D : DesignOf C) (start : Start) (s t : Composed C) (n m : Device) (r : Result BootStep NvmError)
+    → TakesBootStep D start s n r t m → IfOk r (λ step. BootsBy D (state_of start.state) s n step t m)
+booted_then D start s t n m (Ok step) takes =
+    let made = boots-at D.filling (state_of start.state) s.boot.stage n s.boot s.control m t.boot t.control takes.steps.steps in
+    record { answer = takes.answer; boot = made.0; control = made.1; others = takes.others; nvm = made.2 }
+booted_then D start s t n m (Err x) takes = tt
 
 module _ {C : Type 0} (D : DesignOf C) (w : AreParts D) where
   -- ---- power

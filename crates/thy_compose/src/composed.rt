@@ -10,10 +10,9 @@ ghost use Rattle.thy_dram.specs.Contents.{lost};
 ghost use Rattle.thy_engine.specs.Progress.{Acts, Fits, action_next, is_under_way, phase_of};
 ghost use Rattle.thy_isa.specs.Step.{state_of};
 ghost use Rattle.thy_parts.specs.Boots.{engine_at};
-ghost use Rattle.thy_parts.specs.Calls.{IsReading, Promotes, TakesBootStep, drained, merged, powered_on, promoted, stored};
+ghost use Rattle.thy_parts.specs.Calls.{IsReading, Promotes, TakesBootStep, drained, merged, powered_on, promoted, sealed, step_of, stored, taken};
 ghost use Rattle.thy_parts.specs.Design.{design_of};
 ghost use Rattle.thy_parts.specs.Holding.{holding_of};
-ghost use Rattle.thy_parts.specs.Laws.{sealed, step_of, taken};
 ghost use Rattle.thy_parts.specs.Storing.{CanStore};
 ghost use Rattle.thy_view.specs.Kind.{IsDramOf};
 

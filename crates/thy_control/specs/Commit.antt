@@ -1,3 +1,4 @@
+-- Part of the claim.
 -- What a commit makes of the controller: the checkpoint that was under way is the committed one.
 use Rattle.std.specs.Prelude.{◌≡◌, ℕ, ◌<◌, false}
 use Rattle.thy_base.specs.Device.{Device}

@@ -1,3 +1,4 @@
+-- Part of the claim.
 -- Writes that were queued land: by a drain of the DRAM, and by a drain or a barrier of the NVM below the controller.
 use Rattle.std.specs.Prelude.{◌≡◌, ℕ, ◌+◌, ◌<◌, length}
 use Rattle.thy_places.specs.declared.place.Place.{Place}

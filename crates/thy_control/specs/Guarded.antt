@@ -1,3 +1,4 @@
+-- Part of the claim.
 -- What a cut may leave of both checkpoints stays, whether or not a call failed.
 use Rattle.std.specs.Prelude.{◌≡◌, ◌≢◌, ℕ, ◌<◌, ◌≤◌, ◌%◌, true}
 use Rattle.thy_base.specs.Device.{Device}

@@ -1,3 +1,4 @@
+-- Part of the claim.
 -- What a store makes of the controller and of both devices.
 use Rattle.std.specs.Prelude.{◌≡◌, ℕ, ◌<◌, false}
 use Rattle.thy_base.specs.declared.block.Block.{Block}

@@ -1,3 +1,4 @@
+-- Part of the claim.
 -- What a store makes of the tables and the counts, by its rule, and how it ends.
 use Rattle.std.specs.Prelude.{ℕ, Some}
 use Rattle.thy_base.specs.declared.store.Stored.{Stored}

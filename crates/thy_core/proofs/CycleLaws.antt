@@ -1,5 +1,6 @@
 -- Each actor's cycle, from what its call leaves.
-use Rattle.std.proofs.Common.{◌≡◌, ◌≢◌, ◌⊎◌, ℕ, ◌<◌, ◌≤◌, Bool, List, true, false, if◌then◌else◌, length, Option, Some, None, Result, Ok, Err, IsErr, IfOk, OnErr, true≢false, refl, sym, ◌∙◌, ap, subst, inl, inr, arith}
+use Rattle.std.proofs.Common.{◌≡◌, ◌≢◌, ◌⊎◌, ℕ, ◌<◌, ◌≤◌, ◌==◌, Bool, List, true, false, if◌then◌else◌, length, Option, Some, None, Result, Ok, Err, IsErr, IfOk, OnErr, true≢false, refl, sym, ◌∙◌, ap, ap₂, subst, inl, inr, arith}
+use Rattle.std.proofs.lemmas.Bool.{eq-eqb, ne_eqb}
 use Rattle.thy_base.specs.declared.cause.EndCause.{EndCause}
 use Rattle.thy_base.specs.declared.nvm.NvmError.{NvmError}
 use Rattle.thy_base.specs.Counts.{Rose, RoseByOne}
@@ -9,9 +10,9 @@ use Rattle.thy_cache.specs.declared.line.Flushed.{Flushed}
 use Rattle.thy_cache.specs.Contents.{Contents, dirty_count}
 use Rattle.thy_hart.specs.declared.hand.Hand.TheVariants.{Nothing as NoHand}
 use Rattle.thy_hart.specs.declared.hand.HartStep.{HartStep}
-use Rattle.thy_hart.specs.Outcomes.{given}
-use Rattle.thy_hart.specs.HartState.{HartState}
-use Rattle.thy_hart.specs.Moments.{moment, brings_line, IsReady}
+use Rattle.thy_hart.specs.Outcomes.{Given, given}
+use Rattle.thy_hart.specs.HartState.{HartState, next_block}
+use Rattle.thy_hart.specs.Moments.{moment, is_missing, brings_line, IsReady}
 use Rattle.thy_hart.specs.OneStep.{IsStep}
 use Rattle.thy_isa.specs.declared.state.Status.{Status}
 use Rattle.thy_isa.specs.declared.state.Status.TheVariants.{Running, Exited, Trapped}
@@ -35,6 +36,7 @@ use Rattle.thy_view.specs.Turn.{Actor, front_of, Nvm, Dram, Checkpoint, Advances
 use Rattle.thy_scheme.specs.declared.scheme_store.SchemeStore.{SchemeStore}
 use Rattle.thy_scheme.specs.SchemeStore.{held_by_scheme, IsOneCall}
 use Rattle.thy_scheme.specs.CheckpointMarks.{CheckpointMarks}
+use Rattle.thy_scheme.specs.Exact.{Makes}
 use Rattle.thy_scheme.specs.Scheme.{SchemeOf, StaysOf, Stands, IsBooting}
 use Rattle.thy_scheme.specs.Calls.{IsOneAccess, Merges, Promotes, PromotionFails, Drains, Seals, Engines, EngineFails, engine_did}
 use Rattle.thy_scheme.specs.Boots.{BootsOn, BootFails, BootDrains}
@@ -43,6 +45,7 @@ use Rattle.thy_core.specs.MachineParts.{machine_of}
 use Rattle.thy_core_laws.specs.Machine.{Machine, cpu_fronted, processor_of, view_of, moment_of, pressure_of}
 use Rattle.thy_core_laws.specs.Sound.{Sound}
 use Rattle.thy_core_laws.specs.Calls.{IsAsked, HartCall, FlushCall, retires_by, begun_by_hart, hart_did, after_hart, after_flush, after_call, after_drain, after_seal, after_engine, after_boot}
+use Rattle.thy_core_laws.specs.Exact.{IsOutcome, sealed_for, MakesFirst, LeavesBelow}
 use Rattle.thy_core_laws.specs.Rows.{IsMoment, At, HartAdvances, IsSealing, SimulatesCycle}
 use Rattle.thy_core.specs.Cycles.{IsEngineDue, IsTurnOf, IsAnyRun, IsCycle, HasFailedAs, HasTaken, did_by, stepped_by, reported}
 use Rattle.thy_core_laws.proofs.Facts.{view-run, sound-run, holds-run, is-going}
@@ -200,6 +203,17 @@ module _ {S : Type 0} (K : SchemeOf S) (o : Origin) (cycles : ℕ) (m : Machine 
   land_failed new failed frame =
       record { did = NvmDrained; does = refl; due = tt; fails = drain_fails K o cycles m n new at failed frame; processor = refl }
 
+-- ---- what a step of the hart leaves below it
+
+leaves_below : {S : Type 0} (K : SchemeOf S) (g : Given) (m : Machine S) (n : Device) (h : HartState) (c : Contents) (t : S) (new : Device) (step : HartStep)
+    → HartCall K g m n h c t new step → LeavesBelow K (brings_line (moment_of K m n)) (next_block m.hart) m n c t new
+leaves_below {S} K g m n h c t new step hs = by_line (brings_line (moment_of K m n)) refl (next_block m.hart) refl
+  where
+    by_line : (brings : Bool) → brings_line (moment_of K m n) ≡ brings → (block : Option ℕ) → next_block m.hart ≡ block → LeavesBelow K brings block m n c t new
+    by_line false is block at = let kept = hs.untouched is in (hs.is_step.used is, kept.0, kept.1)
+    by_line true is None at = absurd (true≢false (sym is ∙ ap (is_missing m.cache) at))
+    by_line true is (Some b) at = (hs.is_step.brought b is at, hs.asked)
+
 -- ---- one that is a step of the run
 
 module _ {S : Type 0} (K : SchemeOf S) (o : Origin) (cycles : ℕ) (m : Machine S) (n : Device) (at : At K o cycles m n) where
@@ -220,16 +234,23 @@ module _ {S : Type 0} (K : SchemeOf S) (o : Origin) (cycles : ℕ) (m : Machine 
 
   pub drain_cycle : (t : S) → 0 < K.queued m.scheme
       → ((p : Origin) (k : CheckpointMarks) (d : Device) → Stands K p k m.scheme d → Drains K p k m.scheme d t)
-      → ((p : Origin) (d : Device) → IsBooting K p m.scheme d → BootDrains K p m.scheme d t)
+      → ((p : Origin) (d : Device) → IsBooting K p m.scheme d → BootDrains K p m.scheme d t) → t ≡ K.calls.drained m.scheme
       → IsCycle K o cycles Dram DramDrained m n (after_drain t m) n
-  drain_cycle t some running booting = record { does = refl; due = tt; hands = handed refl refl; there = tt; simulates = λ mine. drains_in m.phase t refl some running booting }
+  drain_cycle t some running booting is = record {
+    does = refl;
+    due = tt;
+    hands = handed refl refl;
+    there = tt;
+    simulates = λ mine. drains_in m.phase t refl some running booting;
+    exact = record { did_is = refl; machine_is = ap (λ (s : S). after_drain s m) is; nvm_is = refl };
+  }
 
   -- ---- the engine
 
   pub engine_cycle : (t : S) (new : Device) (step : EngineStep) (next : Machine S) (did : Did) → IsEngineDue K m
-      → Engines K o m.marks step m.scheme n t new → next ≡ after_engine step t m → did ≡ engine_did m.lap step
-      → IsCycle K o cycles Checkpoint did m n next new
-  engine_cycle t new step next did due e is says =
+      → Engines K o m.marks step m.scheme n t new → Makes (K.calls.engine m.scheme n) step n t new
+      → next ≡ after_engine step t m → did ≡ engine_did m.lap step → IsCycle K o cycles Checkpoint did m n next new
+  engine_cycle t new step next did due e made is says =
       subst (λ x. IsCycle K o cycles Checkpoint did m n x new) (sym is)
       (subst (λ d. IsCycle K o cycles Checkpoint d m n (after_engine step t m) new) (sym says)
       (record {
@@ -238,17 +259,47 @@ module _ {S : Type 0} (K : SchemeOf S) (o : Origin) (cycles : ℕ) (m : Machine 
         hands = hands_engine m.lap step Checkpoint (pressure_of K m) (pressure_of K (after_engine step t m)) refl refl;
         there = there_engine o (view_of K o m n) m.lap step;
         simulates = λ mine. engine_simulates K o cycles m n t new step at due.0 due.1 e;
+        exact = record {
+          did_is = ap (engine_did m.lap) made.answer_is;
+          machine_is = ap₂ (λ (x : EngineStep) (s : S). after_engine x s m) made.answer_is made.scheme_is;
+          nvm_is = made.nvm_is;
+        };
       }))
 
   -- ---- before a seal
 
-  pub promotion_cycle : (t : S) (new : Device) → IsSealing K o m n → K.promoting m.scheme ≡ true → Promotes K o m.marks m.scheme n t new
-      → IsCycle K o cycles (Stalled Sealing) Promoted m n (after_call t m) new
-  promotion_cycle t new sealing promoting p = record { does = refl; due = promoting; hands = handed refl refl; there = tt; simulates = λ mine. promotion_simulates K o cycles m n t new at sealing promoting p }
+  -- the first that is left, by what tells which that is
+  first_by : (promotes clean overlaid : Bool) (did : Did) (next : Machine S) (new : Device) → K.promoting m.scheme ≡ promotes
+      → (dirty_count m.cache == 0) ≡ clean → K.overlaid m.scheme ≡ overlaid → MakesFirst K promotes clean overlaid m n did next new
+      → MakesFirst K (K.promoting m.scheme) (dirty_count m.cache == 0) (K.overlaid m.scheme) m n did next new
+  first_by promotes clean overlaid did next new p c v made =
+      subst (λ b. MakesFirst K b (dirty_count m.cache == 0) (K.overlaid m.scheme) m n did next new) (sym p)
+      (subst (λ b. MakesFirst K promotes b (K.overlaid m.scheme) m n did next new) (sym c)
+      (subst (λ b. MakesFirst K promotes clean b m n did next new) (sym v) made))
+
+  pub promotion_cycle : (t : S) (new : Device) (done : Unit {0}) → IsSealing K o m n → K.promoting m.scheme ≡ true → Promotes K o m.marks m.scheme n t new
+      → Makes (K.calls.promote m.scheme n) done n t new → IsCycle K o cycles (Stalled Sealing) Promoted m n (after_call t m) new
+  promotion_cycle t new done sealing promoting p made = record {
+    does = refl;
+    due = promoting;
+    hands = handed refl refl;
+    there = tt;
+    simulates = λ mine. promotion_simulates K o cycles m n t new at sealing promoting p;
+    exact = first_by true (dirty_count m.cache == 0) (K.overlaid m.scheme) Promoted (after_call t m) new promoting refl refl
+        (record { did_is = refl; machine_is = ap (λ (s : S). after_call s m) made.scheme_is; nvm_is = made.nvm_is });
+  }
 
   pub merge_cycle : (t : S) → IsSealing K o m n → K.promoting m.scheme ≡ false → dirty_count m.cache ≡ 0 → K.overlaid m.scheme ≡ true → Merges K o m.marks m.scheme n t
-      → IsCycle K o cycles (Stalled Sealing) Merged m n (after_call t m) n
-  merge_cycle t sealing whole clean overlaid p = record { does = refl; due = (whole, clean, overlaid); hands = handed refl refl; there = tt; simulates = λ mine. merge_simulates K o cycles m n t at sealing whole clean p }
+      → t ≡ K.calls.merged m.scheme → IsCycle K o cycles (Stalled Sealing) Merged m n (after_call t m) n
+  merge_cycle t sealing whole clean overlaid p is = record {
+    does = refl;
+    due = (whole, clean, overlaid);
+    hands = handed refl refl;
+    there = tt;
+    simulates = λ mine. merge_simulates K o cycles m n t at sealing whole clean p;
+    exact = first_by false true true Merged (after_call t m) n whole (eq-eqb (dirty_count m.cache) 0 clean) overlaid
+        (record { did_is = refl; machine_is = ap (λ (s : S). after_call s m) is; nvm_is = refl });
+  }
 
   -- ---- the seal
 
@@ -258,13 +309,23 @@ module _ {S : Type 0} (K : SchemeOf S) (o : Origin) (cycles : ℕ) (m : Machine 
 
   pub seal_cycle : (cause : EndCause) (t : S) (next : Machine S) (epoch count : ℕ) → IsSealing K o m n → K.promoting m.scheme ≡ false
       → K.overlaid m.scheme ≡ false → dirty_count m.cache ≡ 0 → Some cause ≡ m.hart.epoch.over
-      → Seals K o m.marks m.hart.cpu m.hart.epoch.number m.scheme n t → epoch ≡ m.hart.epoch.number → count ≡ m.hart.cpu.count
+      → Seals K o m.marks m.hart.cpu m.hart.epoch.number m.scheme n t → t ≡ K.calls.sealed m.hart.cpu m.hart.epoch.number m.scheme
+      → epoch ≡ m.hart.epoch.number → count ≡ m.hart.cpu.count
       → next ≡ after_seal t m → IsCycle K o cycles (Stalled Sealing) (Sealed epoch count cause) m n next n
-  seal_cycle cause t next epoch count sealing whole bare clean over p number at_count is =
+  seal_cycle cause t next epoch count sealing whole bare clean over p made number at_count is =
       subst (λ x. IsCycle K o cycles (Stalled Sealing) (Sealed epoch count cause) m n x n) (sym is)
       (subst (λ e. IsCycle K o cycles (Stalled Sealing) (Sealed e count cause) m n (after_seal t m) n) (sym number)
       (subst (λ i. IsCycle K o cycles (Stalled Sealing) (Sealed m.hart.epoch.number i cause) m n (after_seal t m) n) (sym at_count)
-      (record { does = refl; due = (whole, clean, bare); hands = handed refl refl; there = tt; simulates = λ mine. seal_simulates K o cycles m n t cause at sealing whole bare clean (sym over) p })))
+      (record {
+        does = refl;
+        due = (whole, clean, bare);
+        hands = handed refl refl;
+        there = tt;
+        simulates = λ mine. seal_simulates K o cycles m n t cause at sealing whole bare clean (sym over) p;
+        exact = first_by false true false (Sealed m.hart.epoch.number m.hart.cpu.count cause) (after_seal t m) n whole (eq-eqb (dirty_count m.cache) 0 clean) bare
+            (subst (λ x. IsOutcome (sealed_for K x m n) (Sealed m.hart.epoch.number m.hart.cpu.count cause) (after_seal t m) n) over
+            (record { did_is = refl; machine_is = ap (λ (s : S). after_seal s m) made; nvm_is = refl }));
+      })))
 
   -- ---- the hart
 
@@ -332,20 +393,42 @@ module _ {S : Type 0} (K : SchemeOf S) (o : Origin) (cycles : ℕ) (m : Machine 
         hands = hart-hands-on K o cycles m n hart h c t new step at turn hs;
         there = there_hart hart turn (retires_by step);
         simulates = hart-simulates K o cycles m n hart h c t new step at turn hs;
+        exact = record {
+          cache = c;
+          scheme = t;
+          below = leaves_below K (given o.input (K.free m.scheme) (K.under_way m.scheme)) (begun_by_hart hart m) n h c t new step hs;
+          did_is = ap (hart_did hart) hs.is_step.says;
+          machine_is = ap₂ (λ (x : HartStep) (y : HartState). after_hart hart x y c t m) hs.is_step.says hs.is_step.hart;
+        };
       }))
 
   -- ---- a flush
 
   pub flush_cycle : (c : Contents) (t : S) (new : Device) (flushed : Flushed) → IsSealing K o m n → K.promoting m.scheme ≡ false → dirty_count m.cache ≢ 0
       → FlushCall K m n flushed c t new → IsCycle K o cycles (Stalled Sealing) DidFlush m n (after_flush c t m) new
-  flush_cycle c t new flushed sealing whole dirty f = record { does = refl; due = (whole, dirty); hands = handed refl refl; there = tt; simulates = λ mine. flush_simulates K o cycles m n c t new flushed at sealing whole f }
+  flush_cycle c t new flushed sealing whole dirty f = record {
+    does = refl;
+    due = (whole, dirty);
+    hands = handed refl refl;
+    there = tt;
+    simulates = λ mine. flush_simulates K o cycles m n c t new flushed at sealing whole f;
+    exact = first_by false false (K.overlaid m.scheme) DidFlush (after_flush c t m) new whole (ne_eqb (dirty_count m.cache) 0 dirty) refl (record {
+      flushed = flushed;
+      scheme = t;
+      more = f.more;
+      store = f.store;
+      access = f.access;
+      did_is = refl;
+      machine_is = ap (λ (x : Contents). after_flush x t m) f.cache;
+    });
+  }
 
   -- ---- the boot
 
   pub boot_cycle : (t : S) (new : Device) (step : BootStep) (next : Machine S) (did : Did) → m.phase ≡ Boot
-      → BootsOn K o step m.scheme n t new → next ≡ after_boot o step t m → did ≡ boot_did step
+      → BootsOn K o step m.scheme n t new → K.calls.boot o.start m.scheme n step t new → next ≡ after_boot o step t m → did ≡ boot_did step
       → IsCycle K o cycles (Stalled Booting) did m n next new
-  boot_cycle t new step next did e b is says =
+  boot_cycle t new step next did e b made is says =
       subst (λ x. IsCycle K o cycles (Stalled Booting) did m n x new) (sym is)
       (subst (λ d. IsCycle K o cycles (Stalled Booting) d m n (after_boot o step t m) new) (sym says)
       (record {
@@ -354,16 +437,31 @@ module _ {S : Type 0} (K : SchemeOf S) (o : Origin) (cycles : ℕ) (m : Machine 
         hands = hands_boot K o m t step;
         there = there_boot o (view_of K o m n) step;
         simulates = λ mine. boot_simulates K o cycles m n t new step at e b;
+        exact = record { step = step; scheme = t; made = made; did_is = refl; machine_is = refl };
       }))
 
   -- ---- the NVM's queue, and nothing
 
   pub land_cycle : (new : Device) → 0 < length n.queue → new ≡ drained n → IsCycle K o cycles Nvm NvmDrained m n m new
   land_cycle new some is =
-      subst (λ d. IsCycle K o cycles Nvm NvmDrained m n m d) (sym is) (record { does = refl; due = tt; hands = handed refl refl; there = tt; simulates = λ mine. nvm_drain_simulates K o cycles m n at some })
+      subst (λ d. IsCycle K o cycles Nvm NvmDrained m n m d) (sym is) (record {
+        does = refl;
+        due = tt;
+        hands = handed refl refl;
+        there = tt;
+        simulates = λ mine. nvm_drain_simulates K o cycles m n at some;
+        exact = record { did_is = refl; machine_is = refl; nvm_is = refl };
+      })
 
   pub rest_cycle : m.phase ≡ Halt → IsCycle K o cycles (Stalled Halted) Nothing m n m n
-  rest_cycle e = record { does = refl; due = tt; hands = handed refl refl; there = tt; simulates = λ mine. halt_simulates K o cycles m n at e }
+  rest_cycle e = record {
+    does = refl;
+    due = tt;
+    hands = handed refl refl;
+    there = tt;
+    simulates = λ mine. halt_simulates K o cycles m n at e;
+    exact = record { did_is = refl; machine_is = refl; nvm_is = refl };
+  }
 
 -- ---- the engine works for a hart that waits
 
@@ -410,6 +508,7 @@ waits_cycle K o cycles did m next n new c = record {
   hands = waits_hands did (pressure_of K m) (pressure_of K next) c.does c.hands;
   there = c.there;
   simulates = c.simulates;
+  exact = c.exact;
 }
 
 pub waits_failed : {S : Type 0} (K : SchemeOf S) (o : Origin) (m next : Machine S) (n new : Device)

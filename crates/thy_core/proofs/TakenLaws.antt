@@ -19,6 +19,7 @@ use Rattle.thy_scheme.specs.Scheme.{SchemeOf}
 use Rattle.thy_scheme.specs.Laws.{IsLawful}
 use Rattle.thy_core_laws.specs.Machine.{Machine, view_in, view_of, pressure_of}
 use Rattle.thy_core_laws.specs.Sound.{Sound, IsAt}
+use Rattle.thy_core_laws.specs.Exact.{MakesCycle}
 use Rattle.thy_core_laws.specs.Kind.{kind_over}
 use Rattle.thy_core_laws.specs.Rows.{IsMoment, At}
 use Rattle.thy_core.specs.declared.turn.Actor.{Actor as ActorHere}
@@ -85,6 +86,7 @@ step_taken K o cycles pick nvm actor m next n new r at queued is c mine at_next 
     (subst (λ a. HandsOn a r.did (pressure_of K m) (pressure_of K next)) turn c.hands)
     (ended ∙ ap (λ x. not (is_halt x) && is_halt next.phase) (sym before)
     ∙ ap (λ x. not (is_halt (view_of K o m n).phase) && is_halt x) (sym behind))
+    (subst (λ a. MakesCycle K o a m n r.did next new) turn c.exact)
 
 -- ---- whatever turns are to come
 

@@ -15,6 +15,7 @@ use Rattle.thy_view.specs.Told.{IsThere, HasTurn}
 use Rattle.thy_view.specs.Turn.{Actor, Nvm, Dram, Checkpoint, Advances, Stalled, HandsOn, Does, Prepares, told_at}
 use Rattle.thy_view.specs.Views.{is_halt}
 use Rattle.thy_scheme.specs.Scheme.{SchemeOf}
+use Rattle.thy_core_laws.specs.Exact.{MakesCycle}
 use Rattle.thy_core_laws.specs.Machine.{Machine, processor_of, view_of, pressure_of}
 use Rattle.thy_core_laws.specs.Rows.{IsMoment, At, HartAdvances, IsSealing, SimulatesCycle}
 use Rattle.thy_core_laws.specs.Failures.{Fails}
@@ -56,13 +57,15 @@ pub record CanTake {S : Type 0} (K : SchemeOf S) (P : Origin → Type 0) (actor 
   pub at_moment : At K o cycles m n
   pub turn : IsTurnOf K o m n actor
 
--- a cycle that did this was the actor's, and is a step of the run if an instruction that it retired has its turn
+-- a cycle that did this was the actor's, which made exactly this, and is a step of the run if an instruction that it retired
+-- has its turn
 pub record IsCycle {S : Type 0} (K : SchemeOf S) (o : Origin) (cycles : ℕ) (actor : Actor) (did : Did) (m : Machine S) (n : Device) (next : Machine S) (new : Device) : Type 0 where
   pub does : Does did actor
   pub due : Prepares did (pressure_of K m)
   pub hands : HandsOn actor did (pressure_of K m) (pressure_of K next)
   pub there : IsThere o (view_of K o m n) did
   pub simulates : HasTurn o (view_of K o m n) did → SimulatesCycle K o cycles did m n next new
+  pub exact : MakesCycle K o actor m n did next new
 
 -- a cycle of the actor's failed, and leaves what is safe, and the processor as it was
 pub record HasFailedAs {S : Type 0} (K : SchemeOf S) (o : Origin) (actor : Actor) (m next : Machine S) (n new : Device) : Type 0 where

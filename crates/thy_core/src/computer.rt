@@ -9,8 +9,8 @@ use thy_layout::Start;
 use thy_scheme::Scheme;
 use thy_view::{Advance, Computer, CoreError, Stepped};
 
-/// Over any scheme the machine is one of the machines that are run. Each cycle is the turn of its pick and does what that
-/// turn asks; before a seal the first that is left of promotions, flushes and merges. While a boot restores a checkpoint
+/// Over any scheme the machine is one of the machines that are run. Each cycle is the turn of its pick and does exactly what
+/// that turn asks; before a seal the first that is left of promotions, flushes and merges. While a boot restores a checkpoint
 /// and does not migrate it, no step is counted among the NVM's writes, whether or not it failed.
 impl<S: Scheme> Computer for Machine<S> {
     ghost use Rattle.thy_core_laws.specs.Kind.{kind_over};

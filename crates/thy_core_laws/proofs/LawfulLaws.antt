@@ -4,16 +4,14 @@ use Rattle.std.proofs.lemmas.Bool.{ltb-true}
 use Rattle.thy_base.specs.declared.cause.EndCause.{EndCause}
 use Rattle.thy_base.specs.declared.config.Parameters.{Parameters}
 use Rattle.thy_base.specs.Device.{Device}
-use Rattle.thy_base.specs.Marks.{mark}
-use Rattle.thy_cache.specs.Contents.{dirty_count, empty_cache}
+use Rattle.thy_cache.specs.Contents.{dirty_count}
 use Rattle.thy_cache.proofs.FlushLaws.{empty-agrees, empty-count, empty-flat}
 use Rattle.thy_cache.proofs.SizeLaws.{IsSized-empty}
 use Rattle.thy_flat.specs.declared.span.Span.{Span}
 use Rattle.thy_hart.specs.declared.hand.Hand.{Hand}
 use Rattle.thy_hart.specs.declared.hand.Hand.TheVariants.{Nothing, Reading, Reserving, Writing, Retiring}
-use Rattle.thy_hart.specs.HartState.{new_hart, blocks_of, reserved, has_reserved}
+use Rattle.thy_hart.specs.HartState.{blocks_of, reserved, has_reserved}
 use Rattle.thy_hart.specs.Moments.{Moment}
-use Rattle.thy_isa.specs.Step.{zero_cpu}
 use Rattle.thy_view.specs.declared.view.Phase.{Phase}
 use Rattle.thy_view.specs.declared.view.Phase.TheVariants.{Boot, Run, Halt}
 use Rattle.thy_view.specs.declared.view.View.{View}
@@ -24,11 +22,10 @@ use Rattle.thy_view.specs.Turn.{Shortage, front_of}
 use Rattle.thy_view.specs.Views.{is_boot}
 use Rattle.thy_view.specs.Work.{IsWithin}
 use Rattle.thy_scheme.specs.Boots.{IsBootView}
-use Rattle.thy_scheme.specs.CheckpointMarks.{only}
 use Rattle.thy_scheme.specs.Scheme.{SchemeOf}
 use Rattle.thy_scheme.specs.Laws.{RunHolds, IsLawful as IsLawfulScheme}
 use Rattle.thy_core_laws.specs.Kind.{kind_over, own_left}
-use Rattle.thy_core_laws.specs.Machine.{Machine, moment_of, short_of, shortage_of, pressure_of, boot_left_in, moves_in, gauge_in, gauge_of, run_view, view_in, view_of}
+use Rattle.thy_core_laws.specs.Machine.{Machine, machine_over, moment_of, short_of, shortage_of, pressure_of, boot_left_in, moves_in, gauge_in, gauge_of, run_view, view_in, view_of}
 use Rattle.thy_core_laws.specs.Pace.{most_spent}
 use Rattle.thy_core_laws.specs.Sound.{state_in_front, IsToWrite, SoundRun, SoundBoot, SoundIn, Sound, IsPowered}
 use Rattle.thy_core_laws.specs.Runs.{MachineIsLawful}
@@ -37,29 +34,10 @@ use Rattle.thy_core_laws.proofs.MomentLaws.{sound-here, seen-alike, is_at-agrees
 use Rattle.thy_core_laws.proofs.RunLaws.{moment_is_safe, fresh_simulates, kept_in, left_simulates}
 use Rattle.thy_core_laws.proofs.WorkLaws.{number_behind}
 
--- a machine over a scheme, with nothing counted
-over_scheme : {S : Type 0} → Parameters → S → Machine S
-over_scheme p s = record {
-  hart = new_hart p zero_cpu 0;
-  cache = empty_cache p.sets p.ways;
-  scheme = s;
-  phase = Boot;
-  marks = only (mark 0 0);
-  consoles = record { done = 0; sealed = 0 };
-  ends = false;
-  spent = 0;
-  lap = 0;
-  idle = false;
-  failed = false;
-  begun = None;
-  last = None;
-}
-
 powers : {S : Type 0} (K : SchemeOf S) → IsLawfulScheme K → (p : Parameters) → (m : Machine S) × IsPowered K p m
-unfolding over_scheme
-powers K l p =
+powers {S} K l p =
     let s = l.powers p in (
-      over_scheme p s.0,
+      machine_over p s.0,
       record {
         phase = refl;
         geometry = refl;
@@ -78,6 +56,7 @@ powers K l p =
           last = refl;
         };
         unfailed = refl;
+        exact = ap (λ (t : S). machine_over p t) (l.powered_is p s.0 s.1);
       },
     )
 

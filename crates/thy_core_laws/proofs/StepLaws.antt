@@ -58,7 +58,7 @@ safe_for K o kept doubt found n is none safe =
     subst (λ (d : Option Mark). Safe K.decode o d None n) is (subst (λ (d : Option Mark). Safe K.decode o kept d n) none safe)
 
 pub simulating_is_step : {S : Type 0} (K : SchemeOf S) → SimulatingIsStep K
-simulating_is_step K o cycles pick m next n new r at simulates at_next turn hands ended = record {
+simulating_is_step K o cycles pick m next n new r at simulates at_next turn hands ended exact = record {
   at_next = at_next;
   step = simulates.step;
   pressed = pressed_at K at.lawful o cycles m n at.sound;
@@ -81,6 +81,7 @@ simulating_is_step K o cycles pick m next n new r at simulates at_next turn hand
       let s : Spares (view_of K o next new) found = spares o (view_of K o m n) (view_of K o next new) found was alone r.did simulates.step in
       safe_for K o (view_of K o next new).done (doubt_of (view_of K o next new)) found new s.done (undoubted (view_of K o next new) s.unsealed)
       (moment_is_safe K o (cycles + 1) next new at.lawful simulates.at_next);
+  exact = exact;
 }
 
 -- once the boot is over, the processor is the plain machine's at the view's count

@@ -1,3 +1,4 @@
+-- Part of the claim.
 -- What the calls of hart and cache leave of the machine, and the machine after each cycle.
 use Rattle.std.specs.Prelude.{◌≡◌, ◌≢◌, ◌⊎◌, ℕ, ◌+◌, ◌-◌, ◌==◌, ◌≤◌, if◌then◌else◌, not, true, false, Bool, Option, Some, None}
 use Rattle.thy_base.specs.declared.cause.EndCause.{EndCause}

@@ -10,6 +10,7 @@ use Rattle.thy_view.specs.Kind.{KindOf}
 use Rattle.thy_view.specs.Origin.{Origin}
 use Rattle.thy_view.specs.Pace.{Gauge}
 use Rattle.thy_scheme.specs.Scheme.{SchemeOf}
+use Rattle.thy_core_laws.specs.Exact.{MakesCycle}
 use Rattle.thy_core_laws.specs.Machine.{Machine, view_of, pressure_of, gauge_of, has_read_of}
 use Rattle.thy_core_laws.specs.Pace.{most_spent}
 use Rattle.thy_core_laws.specs.Sound.{IsAt, SoundStopped, IsPowered}
@@ -60,4 +61,5 @@ kind_over K = record {
   most_promotions = K.most_promotions;
   most_ahead = most_ahead K;
   most_each = most_each_of K;
+  makes = MakesCycle K;
 }

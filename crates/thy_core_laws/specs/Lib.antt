@@ -2,6 +2,7 @@ pub mod Machine
 pub mod Pace
 pub mod Sound
 pub mod Calls
+pub mod Exact
 pub mod Rows
 pub mod Kind
 pub mod Failures

@@ -1,16 +1,19 @@
 -- Part of the claim.
 -- The machine: hart, cache and a scheme of checkpoints, and what is seen of it.
-use Rattle.std.specs.Prelude.{ℕ, ◌+◌, ◌==◌, ◌&&◌, not, Bool, true, nat_lt, if◌then◌else◌, List, length, Option, Some, None}
+use Rattle.std.specs.Prelude.{ℕ, ◌+◌, ◌==◌, ◌&&◌, not, Bool, true, false, nat_lt, if◌then◌else◌, List, length, Option, Some, None}
 use Rattle.thy_base.specs.declared.block.Block.{Block}
+use Rattle.thy_base.specs.declared.config.Parameters.{Parameters}
 use Rattle.thy_base.specs.Device.{Device}
 use Rattle.thy_base.specs.declared.cause.EndCause.{EndCause}
-use Rattle.thy_cache.specs.Contents.{Contents, dirty_count}
+use Rattle.thy_base.specs.Marks.{mark}
+use Rattle.thy_cache.specs.Contents.{Contents, dirty_count, empty_cache}
 use Rattle.thy_cache.specs.Flat.{flat}
 use Rattle.thy_hart.specs.declared.hand.Hand.{Hand}
 use Rattle.thy_hart.specs.declared.hand.Hand.TheVariants.{Nothing, Reading, Reserving, Writing, Retiring}
-use Rattle.thy_hart.specs.HartState.{HartState, blocks_of, reserved, has_reserved as hand_reserved}
+use Rattle.thy_dram.specs.Contents.{Contents as DramContents}
+use Rattle.thy_hart.specs.HartState.{HartState, new_hart, blocks_of, reserved, has_reserved as hand_reserved}
 use Rattle.thy_isa.specs.declared.state.CpuState.{CpuState}
-use Rattle.thy_isa.specs.Step.{cpu_crossed}
+use Rattle.thy_isa.specs.Step.{cpu_crossed, zero_cpu}
 use Rattle.thy_hart.specs.Moments.{Moment, moment, moves_left}
 use Rattle.thy_view.specs.declared.view.Phase.{Phase}
 use Rattle.thy_view.specs.declared.view.Phase.TheVariants.{Boot, Run, Halt}
@@ -18,7 +21,7 @@ use Rattle.thy_view.specs.declared.view.View.{View}
 use Rattle.thy_view.specs.Origin.{Origin}
 use Rattle.thy_view.specs.Pace.{Gauge}
 use Rattle.thy_view.specs.Turn.{Pressure, Shortage, front_of}
-use Rattle.thy_scheme.specs.CheckpointMarks.{CheckpointMarks}
+use Rattle.thy_scheme.specs.CheckpointMarks.{CheckpointMarks, only}
 use Rattle.thy_scheme.specs.Scheme.{SchemeOf}
 use Rattle.thy_scheme.specs.SchemeStore.{held_by_scheme}
 
@@ -47,6 +50,28 @@ pub record Machine (S : Type 0) : Type 0 where
   pub begun : Option ℕ
   -- the hart that retired the last instruction since the boot
   pub last : Option ℕ
+
+-- a machine over this scheme whose power has just come on: it boots, and nothing is counted
+abbrev pub machine_over : {S : Type 0} → Parameters → S → Machine S
+machine_over p s = record {
+  hart = new_hart p zero_cpu 0;
+  cache = empty_cache p.sets p.ways;
+  scheme = s;
+  phase = Boot;
+  marks = only (mark 0 0);
+  consoles = record { done = 0; sealed = 0 };
+  ends = false;
+  spent = 0;
+  lap = 0;
+  idle = false;
+  failed = false;
+  begun = None;
+  last = None;
+}
+
+-- one over this DRAM
+abbrev pub machine_on : {S : Type 0} → SchemeOf S → Parameters → DramContents → Machine S
+machine_on K p dram = machine_over p (K.calls.powered_on p dram)
 
 -- this hart in front of a processor that has hart 0 in front, and hart 0 again
 abbrev pub cpu_fronted : ℕ → CpuState → CpuState

@@ -21,6 +21,7 @@ use Rattle.thy_view.specs.Turn.{Turn, HandsOn, turn_of}
 use Rattle.thy_view.specs.Views.{is_halt, halts, doubt_of}
 use Rattle.thy_scheme.specs.Scheme.{SchemeOf}
 use Rattle.thy_scheme.specs.Laws.{IsLawful as IsLawfulScheme}
+use Rattle.thy_core_laws.specs.Exact.{MakesCycle}
 use Rattle.thy_core_laws.specs.Kind.{kind_over, left_ahead}
 use Rattle.thy_core_laws.specs.Machine.{Machine, processor_of, view_of, pressure_of}
 use Rattle.thy_core_laws.specs.Failures.{Fails}
@@ -65,14 +66,16 @@ LeadsToMoment {S} K =
     → SimulatesCycle K (told o turns) cycles did m n next new)
     → HasTurn o (view_of K o m n) did → IsAt K o (cycles + 1) next new
 
--- a cycle that leads to the next moment, at the turn of its pick, is a step of a machine
+-- a cycle that leads to the next moment, at the turn of its pick, and makes what that actor's makes is a step of a machine
 abbrev pub SimulatingIsStep : {S : Type 0} → SchemeOf S → Type 0
 SimulatingIsStep {S} K =
     (o : Origin) (cycles : ℕ) (pick : Pick) (m next : Machine S) (n new : Device) (r : Stepped)
     → At K o cycles m n → SimulatesCycle K o cycles r.did m n next new → IsAt K o (cycles + 1) next new
     → Turn o pick (length n.queue) (view_of K o m n) (pressure_of K m) r.did r.stall
     → HandsOn (turn_of o pick (length n.queue) (view_of K o m n) (pressure_of K m)) r.did (pressure_of K m) (pressure_of K next)
-    → r.ended ≡ halts (view_of K o m n) (view_of K o next new) → IsStep (kind_over K) o cycles pick m next n new r
+    → r.ended ≡ halts (view_of K o m n) (view_of K o next new)
+    → MakesCycle K o (turn_of o pick (length n.queue) (view_of K o m n) (pressure_of K m)) m n r.did next new
+    → IsStep (kind_over K) o cycles pick m next n new r
 
 -- a cycle whose action failed is a failed cycle of a machine, if the processor is as before
 abbrev pub FailingIsSafe : {S : Type 0} → SchemeOf S → Type 0

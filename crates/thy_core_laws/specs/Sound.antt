@@ -25,7 +25,7 @@ use Rattle.thy_view.specs.Told.{told, AgreeBelow, reach}
 use Rattle.thy_view.specs.Turn.{front_of, has_stopped}
 use Rattle.thy_view.specs.Views.{is_boot}
 use Rattle.thy_scheme.specs.Scheme.{SchemeOf}
-use Rattle.thy_core_laws.specs.Machine.{Machine, processor_of, memory_of, view_of}
+use Rattle.thy_core_laws.specs.Machine.{Machine, machine_on, processor_of, memory_of, view_of}
 use Rattle.thy_core_laws.specs.Pace.{cycles_left, most_spent}
 
 -- ---- numbers that so many cycles can have reached
@@ -202,7 +202,7 @@ pub record Sound {S : Type 0} (K : SchemeOf S) (o : Origin) (cycles : ℕ) (m : 
 abbrev pub IsAt : {S : Type 0} → SchemeOf S → Origin → ℕ → Machine S → Device → Type 0
 IsAt K o cycles m n = (turns : List ℕ) → AgreeBelow o turns (reach (view_of K o m n)) → Sound K (told o turns) cycles m n
 
--- power has just come on
+-- power has just come on, over the DRAM that the scheme has: this very machine
 pub record IsPowered {S : Type 0} (K : SchemeOf S) (p : Parameters) (m : Machine S) : Type 0 where
   pub phase : m.phase ≡ Boot
   pub geometry : m.hart.geometry ≡ p
@@ -212,6 +212,7 @@ pub record IsPowered {S : Type 0} (K : SchemeOf S) (p : Parameters) (m : Machine
   pub scheme : K.powered p m.scheme
   pub blank : IsBlank m
   pub unfailed : m.failed ≡ false
+  pub exact : m ≡ machine_on K p (K.dram m.scheme)
 
 -- after a step that failed, before which this was the view: the scheme is still one of the run's geometry, and the
 -- processor is as before

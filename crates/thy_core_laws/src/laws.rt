@@ -136,7 +136,8 @@ pub fn a_cycle_leads_to_a_moment<S: Scheme>()
     ensures { LeadsToMoment S.scheme }
 {}
 
-/// A cycle that leads to the next moment, at the turn of its pick, is a step of a machine.
+/// A cycle that leads to the next moment, at the turn of its pick, and makes exactly what that actor's cycle makes is a step of
+/// a machine.
 pub fn a_cycle_that_simulates_is_a_step<S: Scheme>()
     ensures { SimulatingIsStep S.scheme }
 {}

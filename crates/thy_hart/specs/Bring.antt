@@ -1,3 +1,4 @@
+-- Part of the claim.
 -- What bringing a missing line a step nearer does.
 use Rattle.std.specs.Prelude.{◌≡◌, ◌⊎◌, ℕ, ◌+◌, ◌≤◌, length, Some}
 use Rattle.thy_base.specs.declared.store.Stored.{Stored}

@@ -1,3 +1,4 @@
+-- Part of the claim.
 -- One step of the hart.
 use Rattle.std.specs.Prelude.{◌≡◌, ◌⊎◌, ℕ, ◌+◌, ◌-◌, ◌≤◌, true, false, if◌then◌else◌, List, ◌++◌, drop, Some, None}
 use Rattle.thy_base.specs.declared.block.Block.{Block}

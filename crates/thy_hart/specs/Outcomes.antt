@@ -1,3 +1,4 @@
+-- Part of the claim.
 -- What each micro-step makes of hart, memory and cache, and what it returns. Its block is in the cache, or it touches none.
 use Rattle.std.specs.Prelude.{ℕ, ◌+◌, ◌==◌, Bool, true, false, if◌then◌else◌, nat_lt, List, [], ◌++◌, length, take, drop, Option, Some, None}
 use Rattle.thy_base.specs.declared.block.Block.{Block}

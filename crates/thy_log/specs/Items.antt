@@ -1,3 +1,4 @@
+-- Part of the claim.
 -- Which entries a checkpoint writes: every live one, and the block that it lists.
 use Rattle.std.specs.Prelude.{ℕ, Bool, true, Option, Some, None}
 use Rattle.thy_table.specs.Listing.{entry_at, next_from}

@@ -1,3 +1,4 @@
+-- Part of the claim.
 -- What a store makes of the log.
 use Rattle.std.specs.Prelude.{ℕ, Option, Some, None, unwrap_or}
 use Rattle.std.specs.Option.{option_or}

@@ -1,5 +1,5 @@
 -- What holds in the boot, and when power comes on.
-use Rattle.std.proofs.Common.{◌≡◌, ◌&&◌, ℕ, ◌-◌, ◌<◌, ◌≤◌, true, false, [], length, refl, sym, ◌∙◌, ap, subst, arith, Option}
+use Rattle.std.proofs.Common.{◌≡◌, ◌&&◌, ℕ, ◌-◌, ◌<◌, ◌≤◌, Bool, true, false, [], length, refl, sym, ◌∙◌, ap, subst, arith, Option}
 use Rattle.std.proofs.lemmas.List.{get_or-replicate, length-replicate}
 use Rattle.thy_base.specs.declared.config.Parameters.{Parameters}
 use Rattle.thy_base.specs.declared.mark.Mark.{Mark}
@@ -36,6 +36,7 @@ use Rattle.thy_boot_laws.proofs.PowerLemmas.{own_has_mark, new-is_boot}
 use Rattle.thy_engine.specs.Progress.{Progress, new_engine, is_under_way}
 use Rattle.thy_parts.specs.AreParts.{AreParts}
 use Rattle.thy_parts.specs.Boots.{Boots, IsPowered}
+use Rattle.thy_parts.specs.Calls.{powered_on}
 use Rattle.thy_parts.specs.Design.{DesignOf, Composed}
 use Rattle.thy_parts.specs.Scheme.{scheme_of}
 
@@ -188,6 +189,18 @@ module _ {C : Type 0} (D : DesignOf C) (w : AreParts D) where
         subst (λ (b : Booting). boot_left D.filling b b.stage ≤ boot_left D.filling (new_boot D.filling p) (Reads Unread))
         (sym powered.boot) (omega arith);
   }
+
+  -- it is the one that is made over its DRAM
+  pub power_makes : (p : Parameters) (s : Composed C) → IsPowered D p s → s ≡ powered_on D p (D.filling.dram s.control)
+  power_makes p s on =
+      let dram : D.filling.dram s.control ≡ on.dram = ap D.filling.dram on.control ∙ w.powering.power_dram p on.dram in
+      let made : C = D.parts.powered p (D.filling.dram s.control) in
+      let control : s.control ≡ made = on.control ∙ ap (D.parts.powered p) (sym dram) in
+      ap (λ (c : C). record s { control = c }) control
+      ∙ ap (λ (e : Progress). record s { control = made; engine = e }) on.engine
+      ∙ ap (λ (b : Bool). record s { control = made; engine = new_engine p; storeless = b }) on.storeless
+      ∙ ap (λ (b : Bool). record s { control = made; engine = new_engine p; storeless = true; sealed_storeless = b }) on.sealed_storeless
+      ∙ ap (λ (b : Booting). record s { control = made; engine = new_engine p; storeless = true; sealed_storeless = false; boot = b }) on.boot
 
   -- an image has a commit block
   some_blocks : (p : Parameters) → 2 ≤ (layout_at D.filling p).image_blocks

@@ -31,7 +31,8 @@ use Rattle.thy_engine.specs.Progress.{phase_of, is_under_way, Progress, layout_o
 use Rattle.thy_parts.specs.Checkpoints.{Checkpoints, is_sealing, is_settled, is_confirming, saved_at, saved_failed, standing_at, HasWrittenSlot, HasWrittenBefore}
 use Rattle.thy_parts.specs.Design.{DesignOf, Composed}
 use Rattle.thy_parts.specs.IsDesign.{IsDesign}
-use Rattle.thy_parts.specs.Laws.{sealed, IsNext, SameReadsKeep, FailedItemsAreSafe, SoundIsSafe}
+use Rattle.thy_parts.specs.Calls.{sealed}
+use Rattle.thy_parts.specs.Laws.{IsNext, SameReadsKeep, FailedItemsAreSafe, SoundIsSafe}
 use Rattle.thy_parts.specs.Moments.{IsMoment, SealsTo, MakesAt, Carries, ReadsSame, parts_at}
 use Rattle.thy_parts.specs.Sound.{layout_for, IsSound, IsHeld, HasState, HasCheckpoints}
 use Rattle.thy_parts.proofs.SoundLemmas.{made_with, moment_at, told_at, keeping_at, can, not_looked, some_image, at_round, at_first, keeping_failed}
@@ -231,7 +232,7 @@ module _ {C : Type 0} (D : DesignOf C) (w : IsDesign D) (o : Origin) (k : Checkp
         (λ read. read) b
     written_as q is b = tt
 
-  -- such a controller keeps the checkpoints
+  -- another controller whose slot says the same keeps the checkpoints
   pub stays_as : (d : C) → Carries D s.engine.epoch (phase_of s.engine.stage) s.control n (phase_of s.engine.stage) d n
       → ((i : ℕ) → D.items.rest d i ≡ D.items.rest s.control i) → IsSound D o k (record s { control = d }) n
   stays_as d on rest =
@@ -305,7 +306,7 @@ module _ {C : Type 0} (D : DesignOf C) (w : IsDesign D) (o : Origin) (k : Checkp
       (Goes (Kept g.before) g.kept g.sealed n m (Spares-failed_action (1 ∷ looked_by l g.before) (action_of F I e i c n) n m alone failed framed))
       (subst (λ x. IsKeeping o l (standing n x g.kept g.sealed)) (ap (λ r. saved_at r g) is ∙ old) h.checkpoints.keeping)
 
-  -- from the body
+  -- a step of the body, or the first one of the slot after it, that failed keeps the images
   fails_body : (from : ℕ) (x : Option ℕ) → s.engine.stage ≡ Body from → I.body_next c from ≡ x → FailsTo (action_of F I e (body_or_slot x) c n) n m
       → IsKeeping o l (standing m (Kept g.before) g.kept g.sealed)
   fails_body from None is next failed = keeping_failed D w o k s n h (Write 0) (at_first D w o k s n h from is next) m failed framed

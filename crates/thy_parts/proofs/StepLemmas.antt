@@ -32,7 +32,8 @@ use Rattle.thy_engine.proofs.ItemLemmas.{items_count}
 use Rattle.thy_parts.specs.Checkpoints.{Checkpoints, is_confirming, IsMadeFor}
 use Rattle.thy_parts.specs.Design.{DesignOf, Composed}
 use Rattle.thy_parts.specs.IsDesign.{IsDesign, IsSpared}
-use Rattle.thy_parts.specs.Laws.{taken, device_taken, step_of, sealed}
+use Rattle.thy_parts.specs.Calls.{taken, step_of, sealed}
+use Rattle.thy_parts.specs.Laws.{device_taken}
 use Rattle.thy_parts.specs.Moments.{IsMoment, Carries}
 use Rattle.thy_parts.specs.Scheme.{scheme_of}
 use Rattle.thy_parts.specs.Sound.{IsSound}

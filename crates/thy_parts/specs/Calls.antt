@@ -1,3 +1,4 @@
+-- Part of the claim.
 -- What calls make of a controller, of a scheme and of the NVM, and what they return.
 use Rattle.std.specs.Prelude.{◌≡◌, ℕ, true, false, if◌then◌else◌, Result, IfOk, OnOk, OnErr}
 use Rattle.thy_base.specs.declared.block.Block.{Block}
@@ -5,12 +6,23 @@ use Rattle.thy_base.specs.declared.config.Parameters.{Parameters}
 use Rattle.thy_base.specs.declared.nvm.NvmError.{NvmError}
 use Rattle.thy_base.specs.Device.{Device, HasFailed, IsFramed, CountsFault}
 use Rattle.thy_dram.specs.Contents.{Contents}
-use Rattle.thy_isa.specs.Step.{state_of}
+use Rattle.thy_isa.specs.declared.state.CpuState.{CpuState}
+use Rattle.thy_isa.specs.Step.{State, state_of}
+use Rattle.thy_layout.specs.declared.engine_step.EngineStep.{EngineStep}
 use Rattle.thy_layout.specs.declared.start.Start.{Start}
 use Rattle.thy_view.specs.declared.boot_step.BootStep.{BootStep}
-use Rattle.thy_boot.specs.Boot.{new_boot, answer_of}
-use Rattle.thy_boot.specs.Steps.{TakesStep}
-use Rattle.thy_engine.specs.Progress.{new_engine}
+use Rattle.thy_view.specs.Action.{Rest, after}
+use Rattle.thy_protocol.specs.Round.{next_round}
+use Rattle.thy_boot.specs.declared.stage.Stage.{Stage}
+use Rattle.thy_boot.specs.declared.stage.Stage.TheVariants.{Reads, Loads, Migrates, Over}
+use Rattle.thy_boot.specs.Boot.{Booting, new_boot, answer_of, at_stage}
+use Rattle.thy_boot.specs.Filling.{FillingOf, first_by}
+use Rattle.thy_boot.specs.Loads.{first_writes, loads_on}
+use Rattle.thy_boot.specs.Migrating.{migrated_by}
+use Rattle.thy_boot.specs.Reads.{read_on, FillsOn}
+use Rattle.thy_boot.specs.Steps.{TakesStep, action_of}
+use Rattle.thy_engine.specs.Progress.{new_engine, begun, item_of, report, engine_next, control_next, action_next}
+use Rattle.thy_scheme.specs.Exact.{Made, CallsOf}
 use Rattle.thy_parts.specs.Boots.{booted}
 use Rattle.thy_parts.specs.Design.{DesignOf, PagesOf, Composed}
 
@@ -65,7 +77,68 @@ merged D s = record s { control = merged_next D.parts.pages s.control }
 abbrev pub promoted : {C : Type 0} → DesignOf C → Composed C → Device → Composed C
 promoted D s n = record s { control = promoted_next D.parts.pages s.control n }
 
--- a step of the boot; its stage afterwards determines the result
+-- an epoch is sealed
+abbrev pub sealed : {C : Type 0} → DesignOf C → CpuState → ℕ → Composed C → Composed C
+sealed D cpu epoch s = record s {
+  control = D.parts.seal s.control;
+  engine = begun cpu epoch s.engine;
+  storeless = true;
+  sealed_storeless = s.storeless;
+}
+
+-- the item of the engine that is next was taken, and what the engine reports of it
+abbrev pub taken : {C : Type 0} → DesignOf C → Composed C → Composed C
+taken D s = record s { control = control_next D.items s.engine s.control; engine = engine_next D.filling D.items s.engine s.control }
+
+abbrev pub step_of : {C : Type 0} → DesignOf C → Composed C → EngineStep
+step_of D s = report D.items s.engine (item_of D.items s.engine s.control)
+
+-- the boot after a step from a stage, in a run with this start
+abbrev pub boot_after : {C : Type 0} → FillingOf C → State → Stage → Device → Booting → Booting
+boot_after F start (Reads at) n b = read_on F at n b
+boot_after F start (Loads r) n b = at_stage (loads_on (next_round (first_writes (first_by F b.p start)).blocks r)) b
+boot_after F start (Migrates r) n b = migrated_by F r b
+boot_after F start (Over end) n b = b
+
+-- the controller after it: a step that reads lists the slot once it is whole, or fills a position; no other changes it
+abbrev pub FillsBy : {C : Type 0} → FillingOf C → Stage → Device → Booting → C → C → Type 0
+FillsBy F (Reads at) n b old new = FillsOn F at n b old new
+FillsBy F stage n b old new = new ≡ old
+
+-- a step of the boot was taken; its stage afterwards determines what it returns
+pub record BootsBy {C : Type 0} (D : DesignOf C) (start : State) (s : Composed C) (n : Device) (step : BootStep) (t : Composed C) (m : Device) : Type 0 where
+  pub answer : step ≡ answer_of D.filling t.boot
+  pub boot : t.boot ≡ boot_after D.filling start s.boot.stage n s.boot
+  pub control : FillsBy D.filling s.boot.stage n s.boot s.control t.control
+  pub others : t ≡ booted D t.boot t.control s
+  pub nvm : m ≡ after (action_of D.filling start s.boot s.control) n
+
+-- a call that leaves the NVM, and returns nothing
+abbrev pub changed_to : {S : Type 0} → S → Made S (Unit {0})
+changed_to t = record { answer = tt; scheme = t; action = Rest }
+
+-- what each call of the scheme makes
+abbrev pub calls_of : {C : Type 0} → DesignOf C → CallsOf (Composed C)
+calls_of D = record {
+  powered_on = powered_on D;
+  store = λ b block s n. record {
+    answer = D.parts.store_answer b s.control;
+    scheme = stored D b block s n;
+    action = D.parts.store_action b block s.control;
+  };
+  drained = drained D;
+  merged = merged D;
+  promote = λ s n. changed_to (promoted D s n);
+  sealed = sealed D;
+  engine = λ s n. record {
+    answer = step_of D s;
+    scheme = taken D s;
+    action = action_next D.filling D.items s.engine s.control n;
+  };
+  boot = BootsBy D;
+}
+
+-- a step of the boot, or one that failed
 pub record TakesBootStep {C : Type 0} (D : DesignOf C) (start : Start) (s : Composed C) (n : Device) (result : Result BootStep NvmError) (t : Composed C)
     (m : Device) : Type 0 where
   pub answer : IfOk result (λ step. step ≡ answer_of D.filling t.boot)

@@ -6,42 +6,26 @@ use Rattle.thy_isa.specs.declared.state.CpuState.{CpuState}
 use Rattle.thy_isa.specs.OnBlocks.{state_from}
 use Rattle.thy_layout.specs.Cpu.{IsRecordable}
 use Rattle.thy_layout.specs.Layout.{reading}
-use Rattle.thy_layout.specs.declared.engine_step.EngineStep.{EngineStep}
 use Rattle.thy_view.specs.Action.{after, FailsTo}
 use Rattle.thy_view.specs.Origin.{Origin, at}
 use Rattle.thy_view.specs.Safe.{ceiling, Safe}
 use Rattle.thy_scheme.specs.CheckpointMarks.{CheckpointMarks, doubt_in, marks_after, marks_after_fault}
-use Rattle.thy_engine.specs.Progress.{begun, is_under_way, item_of, report, engine_next, control_next, action_next}
+use Rattle.thy_engine.specs.Progress.{is_under_way, action_next}
 use Rattle.thy_boot.specs.Boot.{Booting, IsBoot, answer_of}
 use Rattle.thy_boot.specs.Steps.{Steps}
 use Rattle.thy_scheme.specs.Boots.{BootDrains, BootsOn}
 use Rattle.thy_scheme.specs.Calls.{Drains, EngineFails, Engines, Merges, Promotes, Seals}
 use Rattle.thy_scheme.specs.Scheme.{Stands, IsBooting}
 use Rattle.thy_parts.specs.Boots.{booted}
+use Rattle.thy_parts.specs.Calls.{taken, step_of, sealed}
 use Rattle.thy_parts.specs.Design.{DesignOf, Composed}
 use Rattle.thy_parts.specs.Scheme.{scheme_of}
 use Rattle.thy_parts.specs.Moments.{ReadsSame}
 use Rattle.thy_parts.specs.Sound.{IsSound}
 
--- the scheme and the NVM after the item that is next
-abbrev pub taken : {C : Type 0} → DesignOf C → Composed C → Composed C
-taken D s = record s { control = control_next D.items s.engine s.control; engine = engine_next D.filling D.items s.engine s.control }
-
+-- the NVM after the item that is next
 abbrev pub device_taken : {C : Type 0} → DesignOf C → Composed C → Device → Device
 device_taken D s n = after (action_next D.filling D.items s.engine s.control n) n
-
--- what the engine reports of it
-abbrev pub step_of : {C : Type 0} → DesignOf C → Composed C → EngineStep
-step_of D s = report D.items s.engine (item_of D.items s.engine s.control)
-
--- an epoch is sealed
-abbrev pub sealed : {C : Type 0} → DesignOf C → CpuState → ℕ → Composed C → Composed C
-sealed D cpu epoch s = record s {
-  control = D.parts.seal s.control;
-  engine = begun cpu epoch s.engine;
-  storeless = true;
-  sealed_storeless = s.storeless;
-}
 
 -- ---- laws
 

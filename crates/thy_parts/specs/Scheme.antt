@@ -12,6 +12,7 @@ use Rattle.thy_scheme.specs.Scheme.{SchemeOf}
 use Rattle.thy_engine.specs.Cycles.{cycles_left, most_cycles}
 use Rattle.thy_engine.specs.Progress.{phase_of, is_under_way, is_applying}
 use Rattle.thy_parts.specs.Boots.{Boots, IsOf, IsPowered}
+use Rattle.thy_parts.specs.Calls.{calls_of}
 use Rattle.thy_parts.specs.Design.{DesignOf, Composed}
 use Rattle.thy_parts.specs.Holding.{holding_of}
 use Rattle.thy_parts.specs.Sound.{IsSound}
@@ -52,4 +53,5 @@ scheme_of D = record {
   most_promotions = D.parts.pages.most_promotions;
   most_owed = D.parts.most_owed;
   most_free = D.parts.most_free;
+  calls = calls_of D;
 }

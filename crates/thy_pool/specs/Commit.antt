@@ -1,3 +1,4 @@
+-- Part of the claim.
 -- What seal and commit make of the pool.
 use Rattle.std.specs.Prelude.{ℕ, ◌-◌, ◌==◌, nat_lt, if◌then◌else◌, Bool, false, map, Option, Some, None}
 use Rattle.thy_base.specs.declared.config.Parameters.{Parameters}

@@ -1,3 +1,4 @@
+-- Part of the claim.
 -- Which blocks of the frames a checkpoint writes, 64 to a frame: every block of those that are filled.
 use Rattle.std.specs.Prelude.{ℕ, ◌/◌, is_some, if◌then◌else◌, Option, Some, None}
 use Rattle.thy_table.specs.Listing.{entry_at}

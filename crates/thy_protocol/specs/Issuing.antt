@@ -1,3 +1,4 @@
+-- Part of the claim.
 -- How a checkpoint is written in any layout while another one is kept: what of it was issued so far.
 use Rattle.std.specs.Prelude.{◌≡◌, ◌≢◌, ℕ, ◌+◌, ◌<◌, ◌≤◌, true, false, List, length, map, Contains, None}
 use Rattle.std.specs.List.{range_with_len}

@@ -1,3 +1,4 @@
+-- Part of the claim.
 -- What each action of a round makes of a run's checkpoints, and what was written before it.
 use Rattle.std.specs.Prelude.{◌≡◌, ◌≢◌, ℕ, ◌+◌, ◌<◌, List, [], Contains, Option, Some, None}
 use Rattle.thy_base.specs.declared.block.Block.{Block}

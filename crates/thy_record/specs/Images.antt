@@ -1,3 +1,4 @@
+-- Part of the claim.
 -- The slot of an image, and where tables have memory.
 use Rattle.std.specs.Prelude.{ℕ, List, map}
 use Rattle.std.specs.List.{range_with_len}

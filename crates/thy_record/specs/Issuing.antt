@@ -1,3 +1,4 @@
+-- Part of the claim.
 -- Which writes leave a checkpoint alone, and at which places memory is read.
 use Rattle.std.specs.Prelude.{◌≡◌, ◌≢◌, ℕ, ◌+◌, ◌<◌, false, List, ◌∷◌, length, map, Contains, None}
 use Rattle.thy_base.specs.declared.block.Block.{Block}

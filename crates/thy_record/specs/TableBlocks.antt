@@ -1,3 +1,4 @@
+-- Part of the claim.
 -- The tables as words, eight entries a block: the block table, and after it the page table.
 use Rattle.std.specs.Prelude.{◌≡◌, ℕ, ◌*◌, List, ◌++◌, length, map, take, drop}
 use Rattle.thy_base.specs.declared.block.Block.{Block}

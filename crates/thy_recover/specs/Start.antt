@@ -1,3 +1,4 @@
+-- Part of the claim.
 -- The slot of a start: epoch 0, with empty tables and counts of 0.
 use Rattle.std.specs.Prelude.{ℕ, replicate, None}
 use Rattle.thy_base.specs.declared.block.Block.{Block}

@@ -1,3 +1,4 @@
+-- Part of the claim.
 -- What the calls of a scheme promise after the boot.
 use Rattle.std.specs.Prelude.{◌≡◌, ◌⊎◌, ℕ, ◌+◌, ◌<◌, ◌≤◌, Bool, true, false, length, Option, Some, None, Result, OnErr}
 use Rattle.thy_base.specs.declared.mark.Mark.{Mark}

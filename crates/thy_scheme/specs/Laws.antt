@@ -104,6 +104,8 @@ pub record IsLawful {S : Type 0} (K : SchemeOf S) : Type 0 where
   -- power can come on
   pub powers : (p : Parameters) → (s : S) × K.powered p s
   pub is_new : (p : Parameters) (s : S) → K.powered p s → IsNew K p s
+  -- one whose power has just come on is the one that is made over its DRAM
+  pub powered_is : (p : Parameters) (s : S) → K.powered p s → s ≡ K.calls.powered_on p (K.dram s)
   -- an image of zeros has no checkpoint
   pub finds_nothing : (p : Parameters) (shape : Shape) (n : Device)
       → shape.blocks ≡ K.blocks p → K.decode p ceiling (fitted shape [] n).image ≡ Nothing

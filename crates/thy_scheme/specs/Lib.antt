@@ -1,4 +1,5 @@
 pub mod CheckpointMarks
+pub mod Exact
 pub mod Scheme
 pub mod Calls
 pub mod Boots

@@ -11,6 +11,7 @@ use Rattle.thy_layout.specs.declared.start.Start.{Start}
 use Rattle.thy_view.specs.declared.view.View.{View}
 use Rattle.thy_view.specs.Origin.{Origin, Begins}
 use Rattle.thy_scheme.specs.CheckpointMarks.{CheckpointMarks}
+use Rattle.thy_scheme.specs.Exact.{CallsOf}
 
 -- what is seen of schemes of a type, over the NVM below them
 pub record SchemeOf (S : Type 0) : Type 1 where
@@ -69,6 +70,8 @@ pub record SchemeOf (S : Type 0) : Type 1 where
   -- the most copies that may be owed, with those that a commit may add, and the most entries
   pub most_owed : Parameters → ℕ
   pub most_free : Parameters → ℕ
+  -- what each call makes exactly
+  pub calls : CallsOf S
 
 -- it stays one of its geometry
 abbrev pub StaysOf : {S : Type 0} → SchemeOf S → S → S → Type 0

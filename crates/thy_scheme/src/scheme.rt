@@ -4,10 +4,12 @@ ghost use Rattle.thy_base.specs.declared.config.Parameters.{Parameters};
 ghost use Rattle.thy_base.specs.Device.{Device, HasFailed, IsFramed, CountsFault, block_at};
 ghost use Rattle.thy_base.specs.Store.{IsKeptByLoad};
 ghost use Rattle.thy_dram.specs.Contents.{lost};
+ghost use Rattle.thy_isa.specs.Step.{state_of};
 ghost use Rattle.thy_view.specs.Kind.{IsDramOf};
 ghost use Rattle.thy_view.specs.Origin.{Origin, Begins};
 ghost use Rattle.thy_view.specs.Views.{loads};
 ghost use Rattle.thy_scheme.specs.CheckpointMarks.{CheckpointMarks};
+ghost use Rattle.thy_scheme.specs.Exact.{Makes};
 ghost use Rattle.thy_scheme.specs.Scheme.{SchemeOf, StaysOf, Stands, CanRun, IsBooting, CanBoot};
 ghost use Rattle.thy_scheme.specs.Calls.{IsOneAccess, Stores, Merges, Promotes, PromotionFails, TakesNoAction, Drains, Seals, Engines, EngineFails};
 ghost use Rattle.thy_scheme.specs.Boots.{BootsOn, BootFails, BootDrains};
@@ -24,7 +26,8 @@ use thy_view::BootStep;
 /// A scheme of checkpoints: memory over a DRAM and an NVM, of which it keeps a committed version while the next one is
 /// made. It has the boot, which finds the committed version, and the engine, which makes the next.
 ///
-/// Only `new` allocates. A call returns `NvmError` only if the NVM failed; after that only `cut` may be called.
+/// Only `new` allocates. A call returns `NvmError` only if the NVM failed; after that only `cut` may be called. A call that
+/// succeeds makes exactly what `scheme.calls` says of it.
 pub trait Scheme: Drop {
     /// What is seen of it.
     ghost scheme: { SchemeOf Self };
@@ -37,7 +40,8 @@ pub trait Scheme: Drop {
     fn new(alloc: Global, geometry: &Geometry, dram: Dram) -> Result<Self, AllocError>
         requires { IsDramOf geometry.now dram }
         ensures powered { IfOk result (λ s. scheme.powered geometry.now s) }
-        ensures dram { IfOk result (λ s. scheme.dram s ≡ dram) };
+        ensures dram { IfOk result (λ s. scheme.dram s ≡ dram) }
+        ensures exact { IfOk result (λ s. s ≡ scheme.calls.powered_on geometry.now dram) };
 
     /// Loses power: all is gone but the DRAM, whose bytes are those that the pick draws.
     fn cut(self, pick: u64) -> Dram
@@ -65,7 +69,9 @@ pub trait Scheme: Drop {
         ensures up { OnOk result ((N.device nvm.new).down ≡ false) }
         ensures err { OnErr result ((N.device nvm.new).down ≡ true) }
         ensures once { IsOneAccess scheme self.old (N.device nvm.old) self.new (N.device nvm.new) }
-        ensures cause { CountsFault result (N.device nvm.old).faults (N.device nvm.new).faults };
+        ensures cause { CountsFault result (N.device nvm.old).faults (N.device nvm.new).faults }
+        ensures exact { let made = scheme.calls.store b block.now self.old (N.device nvm.old) in
+            IfOk result (λ stored. Makes made stored (N.device nvm.old) self.new (N.device nvm.new)) };
 
     /// Block `b` of memory, as the committed checkpoint has it. Nothing changes.
     fn committed<N: Nvm>(&self, b: u64, nvm: &mut N) -> Result<Block, NvmError>
@@ -107,7 +113,8 @@ pub trait Scheme: Drop {
         requires { 0 < scheme.queued self.old }
         ensures running { (o : Origin) (k : CheckpointMarks) (n : Device)
             → Stands scheme o k self.old n → Drains scheme o k self.old n self.new }
-        ensures booting { (o : Origin) (n : Device) → IsBooting scheme o self.old n → BootDrains scheme o self.old n self.new };
+        ensures booting { (o : Origin) (n : Device) → IsBooting scheme o self.old n → BootDrains scheme o self.old n self.new }
+        ensures exact { self.new ≡ scheme.calls.drained self.old };
 
     /// Merges a block into its page. Only before a seal, with no checkpoint under way. If no block has to be merged,
     /// nothing changes.
@@ -115,7 +122,8 @@ pub trait Scheme: Drop {
         requires idle { scheme.under_way self.old ≡ false }
         ensures some { scheme.overlaid self.old ≡ true
             → (o : Origin) (k : CheckpointMarks) (n : Device) → Stands scheme o k self.old n → Merges scheme o k self.old n self.new }
-        ensures none { scheme.overlaid self.old ≡ false → self.new ≡ self.old };
+        ensures none { scheme.overlaid self.old ≡ false → self.new ≡ self.old }
+        ensures exact { self.new ≡ scheme.calls.merged self.old };
 
     /// Promotes a block of a page. If no block has to be promoted, it takes no action.
     fn promote_one<N: Nvm>(&mut self, nvm: &mut N) -> Result<(), NvmError>
@@ -129,7 +137,9 @@ pub trait Scheme: Drop {
         ensures left { OnErr result (StaysOf scheme self.old self.new) }
         ensures frame { IsFramed (N.device nvm.old) (N.device nvm.new) }
         ensures cause { CountsFault result (N.device nvm.old).faults (N.device nvm.new).faults }
-        ensures same_writes { N.writes nvm.new ≡ N.writes nvm.old };
+        ensures same_writes { N.writes nvm.new ≡ N.writes nvm.old }
+        ensures exact { let made = scheme.calls.promote self.old (N.device nvm.old) in
+            IfOk result (λ done. Makes made done (N.device nvm.old) self.new (N.device nvm.new)) };
 
     /// Seals an epoch: the checkpoint of memory as it is, and of this processor, is under way then.
     fn seal(&mut self, cpu: &CpuState, epoch: u64)
@@ -137,8 +147,9 @@ pub trait Scheme: Drop {
         requires whole { scheme.promoting self.old ≡ false }
         requires bare { scheme.overlaid self.old ≡ false }
         requires regs { length cpu.now.regs ≡ 32 }
-        ensures { (o : Origin) (k : CheckpointMarks) (n : Device) → Stands scheme o k self.old n
-            → Seals scheme o k cpu.now epoch self.old n self.new };
+        ensures seals { (o : Origin) (k : CheckpointMarks) (n : Device) → Stands scheme o k self.old n
+            → Seals scheme o k cpu.now epoch self.old n self.new }
+        ensures exact { self.new ≡ scheme.calls.sealed cpu.now epoch self.old };
 
     /// Takes one action of the checkpoint that is under way.
     fn engine_step<N: Nvm>(&mut self, nvm: &mut N) -> Result<EngineStep, NvmError>
@@ -150,7 +161,9 @@ pub trait Scheme: Drop {
             → OnErr result (EngineFails scheme o k (N.device nvm.old) (N.device nvm.new)) }
         ensures left { OnErr result (StaysOf scheme self.old self.new) }
         ensures frame { IsFramed (N.device nvm.old) (N.device nvm.new) }
-        ensures cause { CountsFault result (N.device nvm.old).faults (N.device nvm.new).faults };
+        ensures cause { CountsFault result (N.device nvm.old).faults (N.device nvm.new).faults }
+        ensures exact { let made = scheme.calls.engine self.old (N.device nvm.old) in
+            IfOk result (λ step. Makes made step (N.device nvm.old) self.new (N.device nvm.new)) };
 
     /// Takes one action of the boot.
     fn boot_step<N: Nvm>(&mut self, start: &Start, nvm: &mut N) -> Result<BootStep, NvmError>
@@ -162,7 +175,9 @@ pub trait Scheme: Drop {
         ensures left { OnErr result (StaysOf scheme self.old self.new) }
         ensures frame { IsFramed (N.device nvm.old) (N.device nvm.new) }
         ensures cause { CountsFault result (N.device nvm.old).faults (N.device nvm.new).faults }
-        ensures no_writes { WritesNothing scheme self.old (N.device nvm.old) (N.writes nvm.old) (N.writes nvm.new) };
+        ensures no_writes { WritesNothing scheme self.old (N.device nvm.old) (N.writes nvm.old) (N.writes nvm.new) }
+        ensures exact { let s = state_of start.now.state in
+            IfOk result (λ step. scheme.calls.boot s self.old (N.device nvm.old) step self.new (N.device nvm.new)) };
 
     /// Whether the boot has found that there is no checkpoint.
     fn loading(&self) -> bool

@@ -1,3 +1,4 @@
+-- Part of the claim.
 -- How a checkpoint of shadow paging is written: where its parts go, and that it is one once they were issued.
 use Rattle.std.specs.Prelude.{◌≡◌, ℕ, ◌^◌, ◌<◌, ◌≤◌, true, List, map, Option, None}
 use Rattle.std.specs.List.{range_with_len}

@@ -1,3 +1,4 @@
+-- Part of the claim.
 -- The counts of the epoch before as blocks: a byte a page, 64 pages a block.
 use Rattle.std.specs.Prelude.{ℕ, ◌*◌, List, take, drop}
 use Rattle.thy_base.specs.declared.block.Block.{Block}

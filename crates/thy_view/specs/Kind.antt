@@ -35,7 +35,7 @@ use Rattle.thy_view.specs.Dram.{LeavesDram}
 use Rattle.thy_view.specs.Pace.{Gauge, retires, KeepsPace}
 use Rattle.thy_view.specs.Stores.{needs_at, CountsLines, Dirties}
 use Rattle.thy_view.specs.Told.{told, AgreeBelow, reach, IsThere, HasTurn}
-use Rattle.thy_view.specs.Turn.{Turn, Shortage, Pressure, HandsOn, turn_of, over_by}
+use Rattle.thy_view.specs.Turn.{Actor, Turn, Shortage, Pressure, HandsOn, turn_of, over_by}
 use Rattle.thy_view.specs.Views.{IsRestarting, is_boot, is_between, is_halt, halts, loads, doubt_of}
 use Rattle.thy_view.specs.Work.{Works, IsWithin}
 
@@ -75,6 +75,8 @@ pub record KindOf (M : Type 0) : Type 1 where
   -- what lies ahead when power comes on, and what an instruction adds, at the most
   pub most_ahead : Parameters → ℕ
   pub most_each : Parameters → ℕ
+  -- a cycle of an actor that succeeds makes this of machine and device, and did this: its own rules, exactly
+  pub makes : Origin → Actor → M → Device → Did → M → Device → Type 0
 
 -- ---- the calls
 
@@ -145,7 +147,8 @@ pub record IsPressed {M : Type 0} (K : KindOf M) (o : Origin) (m : M) (n : Devic
 -- halted or an instruction retires, and completes what it reports. No more lines of the cache become dirty than entries
 -- are used that the instruction in hand has reserved. The pressure on the machine before it, which decides its turn, is as
 -- reported. In a boot that found a checkpoint it leaves the device as it was, unless the machine migrates; and whatever a
--- cut then leaves is that checkpoint.
+-- cut then leaves is that checkpoint. The last field is for whoever counts cycles, writes and events: machine, device and
+-- what is reported are those that the machine's rules make.
 pub record IsStep {M : Type 0} (K : KindOf M) (o : Origin) (k : ℕ) (pick : Pick) (m next : M) (n new : Device) (r : Stepped) : Type 0 where
   pub at_next : K.is_at o (k + 1) next new
   pub step : CoreStep o (K.view o m n) r.did (K.view o next new)
@@ -164,6 +167,7 @@ pub record IsStep {M : Type 0} (K : KindOf M) (o : Origin) (k : ℕ) (pick : Pic
   pub read : n.queue ≡ [] → K.has_read next ≡ true
   pub still : (found : Mark) → IsRestarting (K.view o m n) found → K.migrates m ≡ false → new ≡ n
   pub spares : (found : Mark) → IsRestarting (K.view o m n) found → Safe K.decode o (Some found) None new
+  pub exact : K.makes o (turn_of o pick (length n.queue) (K.view o m n) (K.pressure m)) m n r.did next new
 
 -- a cycle failed in its action, which fits what the actor whose turn it was may do; in a boot that found a checkpoint
 -- it wrote nothing, unless the machine migrates

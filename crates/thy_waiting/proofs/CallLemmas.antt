@@ -1,6 +1,6 @@
 -- What the trait of schemes promises, from what each call makes of the scheme below and of the number of barriers.
-use Rattle.std.proofs.Common.{◌≡◌, ℕ, zero, suc, ◌<◌, ◌≤◌, ◌||◌, Bool, true, false, if◌then◌else◌, nat_lt, List, length, Result, Ok, Err, IfOk, OnOk, OnErr, refl, sym, ◌∙◌, ap, subst, arith}
-use Rattle.std.proofs.lemmas.Bool.{both_ways, le-ltb, lt-ltb}
+use Rattle.std.proofs.Common.{◌≡◌, ℕ, zero, suc, ◌<◌, ◌≤◌, ◌||◌, Bool, true, false, if◌then◌else◌, nat_lt, List, length, Result, Ok, Err, IfOk, OnOk, OnErr, refl, sym, ◌∙◌, ap, ap₂, subst, arith}
+use Rattle.std.proofs.lemmas.Bool.{both_ways, le-ltb, lt-ltb, ltb-true, ltb-false}
 use Rattle.thy_base.specs.declared.block.Block.{Block}
 use Rattle.thy_base.specs.declared.config.Parameters.{Parameters}
 use Rattle.thy_base.specs.declared.nvm.NvmError.{NvmError}
@@ -24,19 +24,19 @@ use Rattle.thy_boot.specs.Steps.{action_of}
 use Rattle.thy_engine.specs.Progress.{Acts, is_under_way as is_engine_under_way}
 use Rattle.thy_isa.specs.Step.{state_of}
 use Rattle.thy_layout.specs.Layout.{reading}
-use Rattle.thy_parts.specs.Calls.{IsReading, Promotes as MakesPromotion, drained, merged, promoted, stored}
+use Rattle.thy_parts.specs.Calls.{IsReading, Promotes as MakesPromotion, drained, merged, promoted, sealed, stored}
 use Rattle.thy_parts.specs.Holding.{holding_of}
-use Rattle.thy_parts.specs.Laws.{sealed}
 use Rattle.thy_parts.specs.Stays.{Stays as StaysBelow}
 use Rattle.thy_parts.specs.Storing.{CanStore, MakesStore}
 use Rattle.thy_parts.proofs.BootLemmas.{boot-drains}
 use Rattle.thy_parts.proofs.HeldLemmas.{IsHeldBlock, held_block, blocks_held}
-use Rattle.thy_compose.proofs.CallLemmas.{boots_then, boot_fails_then, drains_then, engines_then, engine_fails_then, fails-down, merges_then, promotes_then, seals_then, store_once}
+use Rattle.thy_compose.proofs.CallLemmas.{booted_then, boots_then, boot_fails_then, drains_then, engines_then, engine_fails_then, fails-down, merges_then, promotes_then, seals_then, store_once}
 use Rattle.thy_recover.specs.Filling.{filling_dual, loads}
 use Rattle.thy_record.specs.DualLayouts.{dual_layouts}
 use Rattle.thy_scheme.specs.Boots.{BootDrains, BootFails, BootsOn}
 use Rattle.thy_scheme.specs.Calls.{Drains, EngineFails, Engines, IsOneAccess, Merges, PromotionFails, Promotes, Seals, Stores, TakesNoAction}
 use Rattle.thy_scheme.specs.CheckpointMarks.{CheckpointMarks}
+use Rattle.thy_scheme.specs.Exact.{Makes}
 use Rattle.thy_scheme.specs.Restart.{WritesNothing}
 use Rattle.thy_scheme.specs.Scheme.{IsBooting, Stands, StaysOf}
 use Rattle.thy_dual_laws.specs.Design.{dual_design, dual_parts, is_overlaid, is_promoting}
@@ -44,7 +44,7 @@ use Rattle.thy_dual_laws.specs.Scheme.{dual_scheme}
 use Rattle.thy_dual_laws.proofs.LawLemmas.{applies_nothing, lawful}
 use Rattle.thy_dual_laws.proofs.PartsLemmas.{are_parts}
 use Rattle.thy_waiting_laws.specs.Waiting.{Waiting, is_waiting, left_after, left_booted}
-use Rattle.thy_waiting_laws.specs.Scheme.{IsPowered, Stays, is_under_way}
+use Rattle.thy_waiting_laws.specs.Scheme.{IsPowered, Stays, is_under_way, item_below, barrier_made}
 use Rattle.thy_waiting_laws.proofs.BootLemmas.{below-boots, boots-over, boot-fails-over}
 use Rattle.thy_waiting_laws.proofs.CallLemmas.{merges-over, promotes-over, drains-over, seals-over, engines-over, engine-fails-over, waits-on, waiting-fails}
 use Rattle.thy_waiting_laws.proofs.RunLemmas.{below-stands, neither}
@@ -428,3 +428,33 @@ pub power-dram : {E : Type 0} (p : Parameters) (dram : Contents) (r : Result (Wa
     → IfOk r (λ w. w ≡ new_waiting p dram) → IfOk r (λ w. waiting_scheme.dram w ≡ dram)
 power-dram p dram (Ok w) made = ap (λ (v : Waiting Below). waiting_scheme.dram v) made
 power-dram p dram (Err x) _ = tt
+
+-- ---- what each call makes exactly
+
+made-barrier : (w t : Waiting Below) (n m : Device) (r : Result EngineStep NvmError) → MakesBarrier w n r t m
+    → IfOk r (λ step. Makes (barrier_made w) step n t m)
+made-barrier w t n m (Ok step) makes = record { answer_is = makes.answer; scheme_is = makes.scheme; nvm_is = makes.nvm }
+made-barrier w t n m (Err x) makes = tt
+
+made-item : (w t : Waiting Below) (n m : Device) (r : Result EngineStep NvmError) → TakesItemBelow w n r t m
+    → IfOk r (λ step. Makes (item_below (dual_scheme.calls.engine w.below n)) step n t m)
+made-item w t n m (Ok step) takes = record {
+  answer_is = takes.answer;
+  scheme_is = ap₂ (λ (s : Below) (left : ℕ). record w { below = s; left = left }) takes.acts.control (takes.left ∙ ap left_after takes.answer);
+  nvm_is = takes.acts.device;
+}
+made-item w t n m (Err x) takes = tt
+
+made-by : (w t : Waiting Below) (n m : Device) (r : Result EngineStep NvmError) → TakesTurn w n r t m → (waits : Bool) → nat_lt 0 w.left ≡ waits
+    → IfOk r (λ step. Makes (if waits then barrier_made w else item_below (dual_scheme.calls.engine w.below n)) step n t m)
+made-by w t n m r takes true is = made-barrier w t n m r (takes.waits (ltb-true 0 w.left is))
+made-by w t n m r takes false is = made-item w t n m r (takes.goes (let none = ltb-false 0 w.left is in omega (arith, none)))
+
+pub engine-made : (w t : Waiting Below) (n m : Device) (r : Result EngineStep NvmError) → TakesTurn w n r t m
+    → IfOk r (λ step. Makes (waiting_scheme.calls.engine w n) step n t m)
+engine-made w t n m r takes = made-by w t n m r takes (nat_lt 0 w.left) refl
+
+pub boot-made : (start : Start) (w t : Waiting Below) (n m : Device) (r : Result BootStep NvmError) → TakesBoot start w n r t m
+    → IfOk r (λ step. waiting_scheme.calls.boot (state_of start.state) w n step t m)
+boot-made start w t n m (Ok step) takes = (booted_then dual_design start w.below t.below n m (Ok step) takes.below, takes.left)
+boot-made start w t n m (Err x) takes = tt

@@ -11,9 +11,8 @@ use Rattle.thy_layout.specs.declared.engine_step.EngineStep.{EngineStep}
 use Rattle.thy_layout.specs.declared.engine_step.EngineStep.TheVariants.{Barrier}
 use Rattle.thy_layout.specs.declared.start.Start.{Start}
 use Rattle.thy_view.specs.declared.boot_step.BootStep.{BootStep}
-use Rattle.thy_parts.specs.Calls.{TakesBootStep, powered_on}
+use Rattle.thy_parts.specs.Calls.{TakesBootStep, powered_on, step_of, taken}
 use Rattle.thy_parts.specs.Design.{Composed}
-use Rattle.thy_parts.specs.Laws.{step_of, taken}
 use Rattle.thy_recover.specs.Filling.{filling_dual}
 use Rattle.thy_scheme.specs.Scheme.{SchemeOf}
 use Rattle.thy_dual_laws.specs.Design.{items_dual, dual_design}

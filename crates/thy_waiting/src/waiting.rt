@@ -11,8 +11,7 @@ ghost use Rattle.thy_dual_laws.specs.Design.{items_dual, dual_parts, dual_design
 ghost use Rattle.thy_dual_laws.specs.Scheme.{dual_scheme};
 ghost use Rattle.thy_engine.specs.Progress.{Acts, Fits, is_under_way as is_engine_under_way};
 ghost use Rattle.thy_isa.specs.Step.{state_of};
-ghost use Rattle.thy_parts.specs.Calls.{IsReading, Promotes, drained, merged, promoted, stored};
-ghost use Rattle.thy_parts.specs.Laws.{sealed};
+ghost use Rattle.thy_parts.specs.Calls.{IsReading, Promotes, drained, merged, promoted, sealed, stored};
 ghost use Rattle.thy_parts.specs.Storing.{CanStore};
 ghost use Rattle.thy_places.specs.Places.{image_blocks};
 ghost use Rattle.thy_recover.specs.Filling.{filling_dual, loads};

@@ -1,5 +1,5 @@
 -- A scheme that waits is lawful if the one below is.
-use Rattle.std.proofs.Common.{refl, ◌∙◌}
+use Rattle.std.proofs.Common.{ℕ, refl, ◌∙◌, ap₂}
 use Rattle.thy_scheme.specs.Scheme.{SchemeOf}
 use Rattle.thy_scheme.specs.Laws.{IsLawful}
 use Rattle.thy_waiting_laws.specs.Scheme.{AppliesNothing, waits_over}
@@ -7,9 +7,10 @@ use Rattle.thy_waiting_laws.proofs.BootLemmas.{power-finds, boot-holds}
 use Rattle.thy_waiting_laws.proofs.RunLemmas.{run-holds, stays-sound}
 
 pub lawful : {S : Type 0} (K : SchemeOf S) → IsLawful K → AppliesNothing K → IsLawful (waits_over K)
-lawful K laws never = record {
+lawful {S} K laws never = record {
   powers = λ p. let first = laws.powers p in (record { below = first.0; left = 0 }, record { below = first.1; none = refl });
   is_new = λ p w on. let new = laws.is_new p w.below on.below in record { queued = new.queued; boot_left = new.boot_left };
+  powered_is = λ p w on. ap₂ (λ (s : S) (left : ℕ). record w { below = s; left = left }) (laws.powered_is p w.below on.below) on.none;
   finds_nothing = laws.finds_nothing;
   finds = power-finds K laws;
   boot_holds = boot-holds K laws;

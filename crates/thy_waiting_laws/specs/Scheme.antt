@@ -1,11 +1,15 @@
 -- What is seen of a scheme that waits, over any scheme below that applies nothing itself.
-use Rattle.std.specs.Prelude.{◌≡◌, ℕ, ◌+◌, ◌<◌, ◌≤◌, ◌||◌, Bool, false, if◌then◌else◌, None}
+use Rattle.std.specs.Prelude.{◌≡◌, ℕ, ◌+◌, ◌-◌, ◌<◌, ◌≤◌, ◌||◌, Bool, false, if◌then◌else◌, None}
 use Rattle.thy_base.specs.declared.config.Parameters.{Parameters}
 use Rattle.thy_base.specs.Device.{Device}
+use Rattle.thy_layout.specs.declared.engine_step.EngineStep.{EngineStep}
+use Rattle.thy_layout.specs.declared.engine_step.EngineStep.TheVariants.{Barrier}
+use Rattle.thy_view.specs.Action.{Barrier as BarrierAction}
 use Rattle.thy_view.specs.Origin.{Origin}
 use Rattle.thy_scheme.specs.CheckpointMarks.{CheckpointMarks}
+use Rattle.thy_scheme.specs.Exact.{Made, CallsOf}
 use Rattle.thy_scheme.specs.Scheme.{SchemeOf, Stands}
-use Rattle.thy_waiting_laws.specs.Waiting.{Waiting, barriers, is_waiting}
+use Rattle.thy_waiting_laws.specs.Waiting.{Waiting, barriers, is_waiting, left_after, left_booted}
 
 -- behind its boot a scheme applies nothing
 abbrev pub AppliesNothing : {S : Type 0} → SchemeOf S → Type 0
@@ -39,6 +43,36 @@ is_under_way K w = K.under_way w.below || is_waiting w
 -- the barriers that are to come: those after the commit that is due, or those that are left
 abbrev pub to_come : {S : Type 0} → SchemeOf S → Waiting S → ℕ
 to_come K w = if K.under_way w.below then barriers else w.left
+
+-- ---- the calls
+
+-- a call of the one below, which leaves the number of barriers
+abbrev pub over_below : {S A : Type 0} → Waiting S → Made S A → Made (Waiting S) A
+over_below w made = record { answer = made.answer; scheme = record w { below = made.scheme }; action = made.action }
+
+-- a step of its engine, after which the barriers that follow it are left
+abbrev pub item_below : {S : Type 0} → Made S EngineStep → Made (Waiting S) EngineStep
+item_below made = record {
+  answer = made.answer;
+  scheme = record { below = made.scheme; left = left_after made.answer };
+  action = made.action;
+}
+
+-- a barrier, after which one less is left
+abbrev pub barrier_made : {S : Type 0} → Waiting S → Made (Waiting S) EngineStep
+barrier_made w = record { answer = Barrier; scheme = record w { left = w.left - 1 }; action = BarrierAction }
+
+abbrev pub calls_over : {S : Type 0} → SchemeOf S → CallsOf (Waiting S)
+calls_over K = record {
+  powered_on = λ p dram. record { below = K.calls.powered_on p dram; left = 0 };
+  store = λ b block w n. over_below w (K.calls.store b block w.below n);
+  drained = λ w. record w { below = K.calls.drained w.below };
+  merged = λ w. record w { below = K.calls.merged w.below };
+  promote = λ w n. over_below w (K.calls.promote w.below n);
+  sealed = λ cpu epoch w. record w { below = K.calls.sealed cpu epoch w.below };
+  engine = λ w n. if is_waiting w then barrier_made w else item_below (K.calls.engine w.below n);
+  boot = λ start w n step t new. K.calls.boot start w.below n step t.below new × (t.left ≡ left_booted step);
+}
 
 -- all else is as below
 abbrev pub waits_over : {S : Type 0} → SchemeOf S → SchemeOf (Waiting S)
@@ -76,4 +110,5 @@ waits_over K = record {
   most_promotions = K.most_promotions;
   most_owed = K.most_owed;
   most_free = K.most_free;
+  calls = calls_over K;
 }

@@ -1,4 +1,5 @@
-use Rattle.std.proofs.Common.{refl, ◌∙◌}
+use Rattle.std.proofs.Common.{refl, sym, ◌∙◌, subst}
+use Rattle.thy_isa.specs.Step.{State}
 use Rattle.thy_view.specs.declared.did.Stall.TheVariants.{Booting}
 use Rattle.thy_view.specs.Turn.{Stalled}
 use Rattle.thy_core.specs.Cycles.{HasStart}
@@ -30,8 +31,11 @@ returns-clause-taken g c =
     record {
       simulates = λ o cycles begins at booting.
           let boots = (sound-boot K o cycles m n at.sound booting).boots in
-          boot_cycle K o cycles m n at c.boot_step.new.self (g.N.Nvm.device c.boot_step.new.nvm) c.in_ok-step.step (machine_of c.boot_on.new.m) c.boot_on.result booting
-          (done.ok o begins (record { boots = boots; up = at.sound.up })) (c.boot_on.ensures.parts o begins ∙ boot_over o c.in_ok-step.step c.boot_step.new.self m) c.boot_on.ensures.did;
+          let t = c.boot_step.new.self in
+          let new = g.N.Nvm.device c.boot_step.new.nvm in
+          let made = subst (λ (s : State). K.calls.boot s m.scheme n c.in_ok-step.step t new) (sym begins.state) done.exact in
+          boot_cycle K o cycles m n at t new c.in_ok-step.step (machine_of c.boot_on.new.m) c.boot_on.result booting
+          (done.ok o begins (record { boots = boots; up = at.sound.up })) made (c.boot_on.ensures.parts o begins ∙ boot_over o c.in_ok-step.step c.boot_step.new.self m) c.boot_on.ensures.did;
       fails = λ o cycles begins at booting. tt;
       frame = done.frame;
       cause = done.cause;

@@ -26,7 +26,7 @@ returns g c =
     record {
       simulates = λ o cycles _ at due.
           engine_cycle K o cycles m n at c.engine_step.new.self (g.N.Nvm.device c.engine_step.new.nvm) c.in_ok-step.step (machine_of c.engine_on.new.m) c.engine_on.result due
-          (done.ok o m.marks (stands_run K o cycles m n at.sound due.0)) c.engine_on.ensures.parts c.engine_on.ensures.did;
+          (done.ok o m.marks (stands_run K o cycles m n at.sound due.0)) done.exact c.engine_on.ensures.parts c.engine_on.ensures.did;
       fails = λ o cycles _ at due. tt;
       frame = done.frame;
       cause = done.cause;

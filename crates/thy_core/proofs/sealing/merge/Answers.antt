@@ -19,7 +19,7 @@ returns g c =
     record {
       simulates = λ o cycles _ at sealing.
           merge_cycle K o cycles m n at c.merge_one.new.self sealing c.requires.whole c.requires.clean c.requires.overlaid
-          (c.merge_one.ensures.some c.requires.overlaid o m.marks n (stands_run K o cycles m n at.sound sealing.phase));
+          (c.merge_one.ensures.some c.requires.overlaid o m.marks n (stands_run K o cycles m n at.sound sealing.phase)) c.merge_one.ensures.exact;
       fails = λ o cycles _ at sealing. tt;
       frame = framed_same n;
       cause = refl;

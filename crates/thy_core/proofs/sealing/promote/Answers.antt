@@ -26,8 +26,8 @@ returns g c =
     let done = c.in_ok-promote_one.ensures in
     record {
       simulates = λ o cycles _ at sealing.
-          promotion_cycle K o cycles m n at c.promote_one.new.self (g.N.Nvm.device c.promote_one.new.nvm) sealing c.requires.promoting
-          (done.ok c.requires.promoting o m.marks (stands_run K o cycles m n at.sound sealing.phase));
+          promotion_cycle K o cycles m n at c.promote_one.new.self (g.N.Nvm.device c.promote_one.new.nvm) tt sealing c.requires.promoting
+          (done.ok c.requires.promoting o m.marks (stands_run K o cycles m n at.sound sealing.phase)) done.exact;
       fails = λ o cycles _ at sealing. tt;
       frame = done.frame;
       cause = done.cause;

@@ -29,13 +29,16 @@ returns g c =
     let over = c.in-Some.ensures.over ∙ ap (λ (e : Epoch). e.over) c.epoch-2.ensures in
     let number = c.epoch-epoch.ensures ∙ ap (λ (e : Epoch). e.number) c.epoch.ensures in
     let count = ap (λ (x : CpuState). x.count) c.cpu.ensures in
+    let made = c.seal.ensures.exact
+    ∙ ap (λ (x : CpuState). K.calls.sealed x c.epoch-epoch.result m.scheme) c.cpu-2.ensures
+    ∙ ap (λ e. K.calls.sealed m.hart.cpu e m.scheme) number in
     record {
       simulates = λ o cycles _ at sealing.
-          let seals = c.seal.ensures o m.marks n (stands_run K o cycles m n at.sound sealing.phase) in
+          let seals = c.seal.ensures.seals o m.marks n (stands_run K o cycles m n at.sound sealing.phase) in
           let of_cpu = subst (λ (x : CpuState). Seals K o m.marks x c.epoch-epoch.result m.scheme n t) c.cpu-2.ensures seals in
           let of_epoch = subst (λ e. Seals K o m.marks m.hart.cpu e m.scheme n t) number of_cpu in
           seal_cycle K o cycles m n at c.in-Some.cause t (machine_of c.begin_epoch.new.m) c.epoch-epoch.result c.cpu.result.now.count
-          sealing c.requires.whole c.requires.bare c.requires.clean over of_epoch number count c.begin_epoch.ensures;
+          sealing c.requires.whole c.requires.bare c.requires.clean over of_epoch made number count c.begin_epoch.ensures;
       fails = λ o cycles _ at sealing. tt;
       frame = framed_same n;
       cause = refl;

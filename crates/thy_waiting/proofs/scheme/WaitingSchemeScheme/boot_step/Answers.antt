@@ -3,7 +3,7 @@ use Rattle.thy_dual_laws.proofs.PartsLemmas.{are_parts}
 use Rattle.thy_dual_laws.specs.Scheme.{dual_scheme}
 use Rattle.thy_parts.proofs.BootStepLemmas.{may-step}
 use Rattle.thy_waiting_laws.proofs.BootLemmas.{below-boots}
-use Rattle.thy_waiting.proofs.CallLemmas.{boots-on, boot-fails-on, boot-stays, boot-writes}
+use Rattle.thy_waiting.proofs.CallLemmas.{boots-on, boot-fails-on, boot-stays, boot-writes, boot-made}
 use Rattle.thy_waiting.proofs.scheme.WaitingSchemeScheme.boot_step.Goals as goal
 
 pub take_boot_step-requires-clause-can : goal.take_boot_step-requires-clause-can
@@ -43,3 +43,8 @@ pub returns-clause-no_writes : goal.returns-clause-no_writes
 returns-clause-no_writes g c =
     boot-writes c.args.start.now c.args.self.now (g.N.Nvm.device c.args.nvm.now) c.take_boot_step.result (g.N.Nvm.writes c.args.nvm.now)
     (g.N.Nvm.writes c.take_boot_step.new.nvm) c.take_boot_step.ensures.writes
+
+pub returns-clause-exact : goal.returns-clause-exact
+returns-clause-exact g c =
+    boot-made c.args.start.now c.args.self.now c.take_boot_step.new.self (g.N.Nvm.device c.args.nvm.now)
+    (g.N.Nvm.device c.take_boot_step.new.nvm) c.take_boot_step.result c.take_boot_step.ensures.takes

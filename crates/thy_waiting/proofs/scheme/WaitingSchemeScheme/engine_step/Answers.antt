@@ -1,6 +1,6 @@
 use Rattle.std.proofs.Common.{◌∙◌, ap}
 use Rattle.thy_places.specs.Places.{image_blocks}
-use Rattle.thy_waiting.proofs.CallLemmas.{engines-on, engine-fails-on, engine-stays}
+use Rattle.thy_waiting.proofs.CallLemmas.{engines-on, engine-fails-on, engine-stays, engine-made}
 use Rattle.thy_waiting.proofs.scheme.WaitingSchemeScheme.engine_step.Goals as goal
 
 pub take_turn-requires-clause-fits : goal.take_turn-requires-clause-fits
@@ -26,4 +26,9 @@ returns-clause-err g c = λ o k stands.
 pub returns-clause-left : goal.returns-clause-left
 returns-clause-left g c =
     engine-stays c.args.self.now c.take_turn.new.self (g.N.Nvm.device c.args.nvm.now) (g.N.Nvm.device c.take_turn.new.nvm) c.take_turn.result
+    c.take_turn.ensures.made
+
+pub returns-clause-exact : goal.returns-clause-exact
+returns-clause-exact g c =
+    engine-made c.args.self.now c.take_turn.new.self (g.N.Nvm.device c.args.nvm.now) (g.N.Nvm.device c.take_turn.new.nvm) c.take_turn.result
     c.take_turn.ensures.made

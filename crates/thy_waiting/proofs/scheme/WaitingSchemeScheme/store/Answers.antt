@@ -3,7 +3,8 @@ use Rattle.thy_parts.specs.Calls.{stored}
 use Rattle.thy_parts.specs.Storing.{CanStore}
 use Rattle.thy_dual_laws.specs.Design.{dual_design, dual_parts}
 use Rattle.thy_waiting_laws.specs.Waiting.{Waiting}
-use Rattle.thy_waiting.specs.Calls.{Below, with_below}
+use Rattle.thy_compose.proofs.CallLemmas.{made_then}
+use Rattle.thy_waiting.specs.Calls.{Below, waiting_scheme, with_below}
 use Rattle.thy_waiting.proofs.CallLemmas.{block-held, down-then, stores-once, stores-then, up-then}
 use Rattle.thy_waiting.proofs.scheme.WaitingSchemeScheme.store.Goals as goal
 
@@ -43,3 +44,10 @@ returns-clause-once g c =
     = record { sound = c.sound.ensures; inside = c.requires.inside; ready = c.requires.ready; room = c.requires.room } in
     stores-once c.args.b c.args.block.now w c.store_block.new.self n (g.N.Nvm.device c.store_block.new.nvm) can c.store_block.result
     c.store_block.ensures.acts
+
+pub returns-clause-exact : goal.returns-clause-exact
+returns-clause-exact g c =
+    let w : Waiting Below = c.args.self.now in
+    let n : Device = g.N.Nvm.device c.args.nvm.now in
+    made_then (waiting_scheme.calls.store c.args.b c.args.block.now w n) w c.store_block.new.self n (g.N.Nvm.device c.store_block.new.nvm)
+    c.store_block.result c.store_block.ensures.answer c.store_block.ensures.acts
