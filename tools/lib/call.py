@@ -8,8 +8,16 @@ from lib.program import OPERANDS
 # Words of the script alone.
 QUIET, OBSERVE, BUILD = "--quiet", "observe", "build"
 
-# Options of observe, between OUT and the command, each once and in either order, and the commands that they go with.
-PCS, TORN, OBSERVED_RUNS = "--pcs", "--torn", ("run", "resume", "bench")
+# The options of observe, between OUT and the command: what each does, and whether a number follows it. And the commands that they
+# go with.
+TORN = "--torn"
+WISHES = {
+    "--pcs": "says how often each program counter retired",
+    "--state": "says the state after a cycle",
+    "--state-at": "says the state at a count of instructions",
+    TORN: "lets a cut tear blocks",
+}
+NUMBERED, OBSERVED_RUNS = ("--state", "--state-at"), ("run", "resume", "bench")
 
 # What is missing if a call ends before its command, or before OUT.
 COMMANDS = ", ".join(list(OPERANDS)[:-1]) + f" or {list(OPERANDS)[-1]}"
@@ -23,12 +31,11 @@ def nearest(word, words, dashes=""):
 
 
 class Call:
-    """The words of a call; `fault` is the first that has no place, in words. `out` is the OUT of observe, or None; `pcs` is whether
-    program counters are counted, and `torn` whether blocks may be torn."""
+    """The words of a call; `fault` is the first that has no place, in words. `out` is the OUT of observe, or None; `wishes` are the
+    options of observe, each with its number or None."""
 
     def __init__(self, words):
-        self.operands, self.options, self.fault, self.out = [], {}, "", None
-        self.pcs = self.torn = False
+        self.operands, self.options, self.fault, self.out, self.wishes = [], {}, "", None, {}
         rest = list(words)
         is_quiet = rest[:1] == [QUIET]
         if is_quiet:
@@ -36,7 +43,7 @@ class Call:
         if rest[:1] == [BUILD]:
             self.fault = f"{BUILD} is a command only as the first word" if is_quiet else f"{BUILD} takes no other word"
         elif rest[:1] == [OBSERVE]:
-            after = self.without_asked(rest[2:])
+            after = self.take_wishes(rest[2:])
             # A command in the place of OUT, and none behind it, is the call's own.
             if not after or rest[1] in OPERANDS and after[0] not in OPERANDS:
                 self.fault = NO_OUT
@@ -48,22 +55,24 @@ class Call:
         self.fault = self.fault or self.command_fault(rest)
         self.take(rest[1:])
 
-    def without_asked(self, rest):
-        """The words after OUT without the options that stand there, each once."""
-        while rest and (rest[0] == PCS and not self.pcs or rest[0] == TORN and not self.torn):
-            self.pcs, self.torn = self.pcs or rest[0] == PCS, self.torn or rest[0] == TORN
-            rest = rest[1:]
+    def take_wishes(self, rest):
+        """Takes the options of observe, each once; the words that are left."""
+        while rest and rest[0] in WISHES and rest[0] not in self.wishes:
+            wish = rest.pop(0)
+            if wish in NUMBERED and not rest:
+                self.fault = f"{wish} needs a number"
+                return [wish]
+            self.wishes[wish] = rest.pop(0) if wish in NUMBERED else None
         return rest
 
     def command_fault(self, rest):
         """What is wrong with the first word."""
         if not rest:
             return f"a command is missing: {COMMANDS}"
-        asked = [option for option, given in ((PCS, self.pcs), (TORN, self.torn)) if given]
         if self.command in OPERANDS:
-            runs = f"{', '.join(OBSERVED_RUNS[:-1])} or {OBSERVED_RUNS[-1]}"
-            return f"{asked[0]} goes with {runs}" if asked and self.command == "plain" else ""
-        if self.command in asked:
+            goes = f"{next(iter(self.wishes), '')} goes with {', '.join(OBSERVED_RUNS[:-1])} or {OBSERVED_RUNS[-1]}"
+            return goes if self.wishes and self.command == "plain" else ""
+        if self.command in self.wishes:
             return f"{self.command} stands twice"
         if self.command.startswith("-"):
             return f"{self.command} stands before the command"

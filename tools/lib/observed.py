@@ -6,7 +6,7 @@ import re
 from dataclasses import dataclass
 from typing import Optional
 
-from lib import report
+from lib import report, states
 from lib.report import NUMBER
 
 EVENT = re.compile(rf"{NUMBER} (0|[1-9][0-9]*|-) ([a-z].*)")
@@ -64,6 +64,7 @@ class Observed:
     trap: Optional[str]
     totals: dict  # first word: name: number; what stands directly behind the first word has the name ""
     pcs: Optional[dict] = None  # program counter: how often it retired; None if this was not asked for
+    states: Optional[dict] = None  # head line of a state that was asked for: the state, or None if there was none
 
     def number(self, word, name=""):
         return self.totals[word][name]
@@ -103,6 +104,37 @@ def pcs_of(lines):
     return counts
 
 
+def is_head(line):
+    """Whether a line is the head line of what was asked for in addition."""
+    return line == PCS or bool(states.HEAD.fullmatch(line))
+
+
+def sections_of(lines):
+    """The lines before the first head line; and of each head line the lines after it."""
+    first, sections = [], {}
+    for line in lines:
+        if not is_head(line):
+            (sections[head] if sections else first).append(line)
+        elif line in sections:
+            raise Fault(f"its line '{line}' stands twice")
+        else:
+            head = line
+            sections[head] = []
+    return first, sections
+
+
+def states_of(sections):
+    """The states among sections, by their head lines."""
+    found = {}
+    for head, lines in sections.items():
+        if head != PCS:
+            try:
+                found[head] = states.state_of(lines)
+            except states.Fault as fault:
+                raise Fault(f"behind its line '{head}': {fault}") from None
+    return found
+
+
 def read(lines):
     """What lines say that `observe` has written of a run, a resumed run or one of a made program."""
     events, k = [], 0
@@ -112,8 +144,8 @@ def read(lines):
         k += 1
     trap = TRAP.fullmatch(lines[k]) if k < len(lines) else None
     rest = lines[k + 1 :] if trap else lines[k:]
-    head = rest.index(PCS) if PCS in rest else len(rest)
-    rest, counted = rest[:head], rest[head + 1 :] if head < len(rest) else None
+    rest, sections = sections_of(rest)
+    counted = sections.get(PCS)
     if not events and not rest:
         raise Fault("it has no cycles: `observe` writes none of a run on the plain machine")
     two = len(rest) == len(TOTALS_OF_TWO)
@@ -142,4 +174,4 @@ def read(lines):
     cycles = [event.cycle for event in events]
     if cycles != sorted(cycles) or (cycles and cycles[-1] > totals["cycles"][""] + 1):
         raise Fault("the cycles of its events do not rise, or go past the last one")
-    return Observed(events, trap[0] if trap else None, totals, pcs)
+    return Observed(events, trap[0] if trap else None, totals, pcs, states_of(sections))

@@ -104,3 +104,33 @@ BARS_OF_RESUMED = """epoch begin end from to why committed cut
 2 10 210 60 120 length 310 -
 3 210 500 120 - - - -
 """
+
+
+def registers(**values):
+    """The lines of a hart's registers, of which these are not 0."""
+    return "".join(f"x{k} {values.get(f'x{k}', 0):x}\n" for k in range(1, 32))
+
+
+# A state with one hart, and one with two of which both have reserved something. Memory is two and a half rows of 16 bytes.
+STATE = f"""running
+count 125
+console 12
+cursor 3
+break 12a40
+hart 0 10078
+{registers(x1=0x10074, x2=0x17FF0, x31=(1 << 64) - 1)}memory 10000 40
+10000 5d00893
+10018 ff00000000000000
+"""
+
+STATE_OF_TWO = f"""trap 7
+count 5
+console 0
+cursor 0
+break 11000
+hart 0 10000
+{registers(x5=1)}reserved none
+hart 1 10004
+{registers(x10=0x10)}reserved 8 10010
+memory 10000 16
+"""

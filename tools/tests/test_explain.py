@@ -234,6 +234,11 @@ class Explain(ToolTest):
             self.explains(f"{option} goes with run, resume or bench{USAGE}", "2", "observe", "out", option, "plain", "a", line="usage")
             self.explains(f"{option} stands twice{USAGE}", "2", "observe", "out", option, option, "run", "a", line="usage")
             self.explains(no_out, "2", "observe", "out", option, line="usage")
+        self.explains(f"--state needs a number{USAGE}", "2", "observe", "out", "--pcs", "--state", line="usage")
+        self.explains(f"--state goes with run, resume or bench{USAGE}", "2", "observe", "out", "--state", "7", "plain", "a", line="usage")
+        twice = ("observe", "out", "--state-at", "7", "--torn", "--state-at", "8", "run", "a")
+        self.explains(f"--state-at stands twice{USAGE}", "2", *twice, line="usage")
+        self.explains("--state takes 1 to 19 decimal digits", "2", "observe", "out", "--state", "x", "run", "a", line="word state")
         self.explains("make has no run to observe", "2", "observe", "out", "make", "7", "x", line="usage")
         self.explains("make has no run to observe", "2", "observe", "out", "--pcs", "make", "7", "x", line="usage")
         said = "compare has three runs: observe run, once with each --scheme"

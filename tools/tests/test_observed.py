@@ -57,6 +57,42 @@ class Observed(unittest.TestCase):
         ):
             self.refuses(said, [*lines(written.CUTS), *more])
 
+    def test_states(self):
+        self.assertEqual(read(lines(written.CUTS)).states, {})
+        text = f"{written.CUTS}pcs\n10000 230\nstate 1340\n{written.STATE}state-at 999\nnone\n"
+        seen = read(lines(text))
+        self.assertEqual((list(seen.states), seen.states["state-at 999"]), (["state 1340", "state-at 999"], None))
+        state = seen.states["state 1340"]
+        self.assertEqual((state.ending, state.count, state.console, state.cursor, state.end), (None, 125, 12, 3, 0x12A40))
+        self.assertEqual((state.base, state.memory[:24].hex()), (0x10000, "9308d00500000000" + 16 * "00"))
+        self.assertEqual((state.memory[24:].hex()), "00000000000000ff" + 8 * "00")
+        [hart] = state.harts
+        self.assertEqual((hart.pc, hart.reserved, len(hart.registers)), (0x10078, None, 32))
+        self.assertEqual((hart.registers[:4], hart.registers[31]), ([0, 0x10074, 0x17FF0, 0], 2**64 - 1))
+
+    def test_a_state_of_two_harts(self):
+        state = read(lines(f"{written.TWO_HARTS}state-at 5\n{written.STATE_OF_TWO}")).states["state-at 5"]
+        self.assertEqual((state.ending, state.memory), (("trap", 7), bytes(16)))
+        self.assertEqual([(hart.pc, hart.reserved) for hart in state.harts], [(0x10000, None), (0x10004, (8, 0x10010))])
+        self.assertEqual((state.harts[0].registers[5], state.harts[1].registers[10]), (1, 16))
+
+    def test_refusals_of_states(self):
+        text = f"{written.CUTS}state 1340\n{written.STATE}"
+        for old, new, said in (
+            ("running\n", "walking\n", "behind its line 'state 1340': this is not how the program stands: walking"),
+            ("count 125\n", "", "this is not the line of count: console 12"),
+            ("break 12a40\n", "break 012a40\n", "this is not the line of break: break 012a40"),
+            ("hart 0 10078\n", "hart 1 10078\n", "this is not the line of hart 0: hart 1 10078"),
+            ("x7 0\n", "", "this is not the line of x7: x8 0"),
+            ("10018 ff", "10019 ff", "this is not a line of eight bytes of memory: 10019 ff"),
+            ("10018 ff", "10028 ff", "this is not a line of eight bytes of memory: 10028 ff"),
+            ("10018 ff00000000000000\n", "10000 1\n", "this is not a line of eight bytes of memory: 10000 1"),
+            ("10018 ff00000000000000\n", "10018 0\n", "this is not a line of eight bytes of memory: 10018 0"),
+            ("memory 10000 40\n10000 5d00893\n10018 ff00000000000000\n", "", "this is not the line of memory: nothing"),
+            ("10018 ff", "state 1340\nnone\n10018 ff", "its line 'state 1340' stands twice"),
+        ):
+            self.refuses(said, lines(text, (old, new)))
+
     def test_what_is_no_event_of_a_report(self):
         for line in ("limit 5", "epochs 5", "memory"):
             self.assertIsNone(observed.Event(1, 1, line).told)

@@ -390,10 +390,13 @@ class Completion(ToolTest):
         self.assertCountEqual(self.proposed("re"), ["resume"])
         self.assertCountEqual(self.proposed("--quiet", ""), [*self.COMMANDS, "observe"])
         self.assertCountEqual(self.proposed("observe", "ot"), ["other"])
-        self.assertCountEqual(self.proposed("observe", "out", ""), ["--pcs", "--torn", "run", "resume", "bench", "plain"])
-        self.assertCountEqual(self.proposed("observe", "out", "--pcs", ""), ["--torn", "run", "resume", "bench"])
-        self.assertCountEqual(self.proposed("observe", "out", "--torn", ""), ["--pcs", "run", "resume", "bench"])
-        self.assertCountEqual(self.proposed("observe", "out", "--torn", "--pcs", ""), ["run", "resume", "bench"])
+        self.assertCountEqual(
+            self.proposed("observe", "out", ""), ["--pcs", "--state", "--state-at", "--torn", "run", "resume", "bench", "plain"]
+        )
+        left = ["--state", "--state-at", "--torn", "run", "resume", "bench"]
+        self.assertCountEqual(self.proposed("observe", "out", "--pcs", ""), left)
+        self.assertCountEqual(self.proposed("observe", "out", "--torn", "--state", "7", "--pcs", ""), ["--state-at", "run", "resume", "bench"])
+        self.assertEqual(self.proposed("observe", "out", "--state", ""), [])
         self.assertCountEqual(self.proposed("--quiet", "observe", "out", "r"), ["run", "resume"])
 
     def test_options(self):
@@ -406,6 +409,7 @@ class Completion(ToolTest):
         self.assertEqual(self.proposed("observe", "out", "bench", "7", "--ga"), ["--gap"])
         self.assertEqual(self.proposed("observe", "out", "--pcs", "bench", "7", "--ga"), ["--gap"])
         self.assertEqual(self.proposed("observe", "out", "--torn", "bench", "7", "--ep"), ["--epoch"])
+        self.assertEqual(self.proposed("observe", "out", "--state-at", "9", "bench", "7", "--ga"), ["--gap"])
         self.assertEqual(self.proposed("make", "7", "-"), [])
 
     def test_values(self):
@@ -440,6 +444,8 @@ class Completion(ToolTest):
             ("thynvm observe out --p", "thynvm observe out --pcs "),
             ("thynvm observe out --pcs be", "thynvm observe out --pcs bench "),
             ("thynvm observe out --pcs pl", "thynvm observe out --pcs pl"),
+            ("thynvm observe out --state 7 be", "thynvm observe out --state 7 bench "),
+            ("thynvm observe out --state 7 --state-", "thynvm observe out --state 7 --state-at "),
             ("thynvm run --sch", "thynvm run --scheme="),
             ("thynvm run --scheme=jo", "thynvm run --scheme=journal "),
             ("thynvm run --scheme sh", "thynvm run --scheme shadow "),

@@ -42,6 +42,8 @@ class AtOnce(ScriptTest):
         for option in ("--pcs", "--torn"):
             calls += (["observe", "out", option], ["observe", "out", option, option, "run"], [option, "run", "file"])
         calls += (["observe", "out", "--pcs", "--torn", "--pcs", "run"],)
+        calls += (["observe", "out", "--state"], ["observe", "out", "--state", "7"], ["observe", "out", "--state", "run", "file"])
+        calls += (["observe", "out", "--state-at", "7", "--pcs", "--state-at", "8", "run"], ["--state", "7", "run", "file"])
         for words in calls:
             self.answers(words, 2, "", "usage\n")
 

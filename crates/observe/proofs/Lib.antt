@@ -1,3 +1,5 @@
 pub mod BeginningLemmas
+pub mod OptionLemmas
+pub mod TextLemmas
 pub mod SectionLemmas
 pub mod PuttingLemmas

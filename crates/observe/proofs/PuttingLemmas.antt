@@ -2,10 +2,9 @@
 use Rattle.std.proofs.Common.{◌≡◌, ℕ, Bool, true, false, List, [], ◌++◌, Option, Some, None, refl, sym, ◌∙◌, ap, ap₂, inl, subst, append-nil}
 use Rattle.std.specs.Prelude.{IfSome, MatchBool, option_map}
 use Rattle.std.specs.Borrow.{Bor}
-use Rattle.thy_base.specs.Bytes.{bytes_of}
 use Rattle.thy_base.specs.Outside.{Stock, Stream}
 use Rattle.thy_isa.specs.OnBlocks.{setting_for}
-use Rattle.thy_isa.specs.Step.{State, Setting, state_of}
+use Rattle.thy_isa.specs.Step.{State, Setting}
 use Rattle.thy_view.specs.Origin.{setting_of}
 use Rattle.thy_words.specs.declared.words.Command.{Command}
 use Rattle.thy_words.specs.Settings.{Order, IsInRange, order_of, settings_of}
@@ -19,24 +18,23 @@ use Rattle.thy_observe.specs.Watched.{IsWatch, HasLast}
 use Rattle.observe.specs.declared.beginning.Begun.{Begun}
 use Rattle.observe.specs.declared.options.Options.{Options}
 use Rattle.observe.specs.Beginning.{IsBegunBy, IsBegunOf, IsProgramOf, IsUnreadOf, origin_of}
-use Rattle.observe.specs.Observing.{AreSections, HasPcsOf, IsAskedFor, IsObserved, IsUnread, is_refused_by}
-use Rattle.observe.specs.Sections.{HasPcs, HasSections, IsPcsText}
+use Rattle.observe.specs.Observing.{AreSections, HasTextOf, IsAskedFor, IsObserved, IsUnread, is_refused_by}
+use Rattle.observe.specs.Sections.{HasSections, HasText, IsText, IsTextOf, setting_by}
+use Rattle.observe.specs.Wanting.{asks}
 
--- the table belongs to the program which was asked for
-pcs-of : (words : List (List ℕ)) (c : Command) (shelf : Stock) (b : Begun) (w : Watch) (head whole : List ℕ) (h : HasPcs (Some b) w.changes head whole)
-    → h.b ≡ b → IsAskedFor words c → IsBegunBy (order_of c) shelf b → HasPcsOf words shelf w h.section
-pcs-of words c shelf b w head whole h same asked by =
+-- what is asked for belongs to the program which was asked for
+text-of : (options : Options) (words : List (List ℕ)) (c : Command) (shelf : Stock) (b : Begun) (w : Watch) (section : List ℕ)
+    → IsTextOf options b w.changes section → IsAskedFor words c → IsBegunBy (order_of c) shelf b → HasTextOf options words shelf w section
+text-of options words c shelf b w section is asked by =
     let program : IsProgramOf (order_of c) shelf = record { source = by.source; job = by.job; runs = by.runs; program = by.begun.program } in
-    let setting : setting_for h.b.geometry (bytes_of h.b.start.input) ≡ setting_of (origin_of program) =
-    ap (λ (x : Begun). setting_for x.geometry (bytes_of x.start.input)) same ∙ ap₂ setting_for by.begun.geometry by.begun.input in
-    let state : state_of h.b.start.state ≡ (origin_of program).start = ap (λ (x : Begun). state_of x.start.state) same ∙ by.begun.state in
+    let setting : setting_by b ≡ setting_of (origin_of program) = ap₂ setting_for by.begun.geometry by.begun.input in
     record {
       order = order_of c;
       asked = asked.asked;
       program = program;
       exact = λ seen seeing.
-          subst (λ (g : Setting). IsPcsText g (origin_of program).start seen h.section) setting
-          (subst (λ (s : State). IsPcsText (setting_for h.b.geometry (bytes_of h.b.start.input)) s seen h.section) state (h.exact seen seeing.1));
+          subst (λ (g : Setting). IsText options g (origin_of program).start seen section) setting
+          (subst (λ (s : State). IsText options (setting_by b) s seen section) by.begun.state (is seen seeing.1));
     }
 
 -- a text is its head, and what is asked for
@@ -45,31 +43,35 @@ pub record Ends (options : Options) (words : List (List ℕ)) (shelf : Stock) (w
   pub splits : whole ≡ head ++ section
   pub sections : AreSections options words shelf w section
 
-ends-with : (words : List (List ℕ)) (shelf : Stock) (command : Option Command) (b : Begun) (w : Watch) (head whole : List ℕ)
-    → IfSome command (IsAskedFor words) → IsBegunOf (option_map order_of command) shelf b → (h : HasPcs (Some b) w.changes head whole) → h.b ≡ b
-    → HasPcsOf words shelf w h.section
-ends-with words shelf None b w head whole asked by h same = absurd by
-ends-with words shelf (Some c) b w head whole asked by h same = pcs-of words c shelf b w head whole h same asked by
+ends-with : (options : Options) (words : List (List ℕ)) (shelf : Stock) (command : Option Command) (b : Begun) (w : Watch) (section : List ℕ)
+    → IfSome command (IsAskedFor words) → IsBegunOf (option_map order_of command) shelf b → IsTextOf options b w.changes section
+    → HasTextOf options words shelf w section
+ends-with options words shelf None b w section asked by is = absurd by
+ends-with options words shelf (Some c) b w section asked by is = text-of options words c shelf b w section is asked by
 
 pub Ends-sections : (options : Options) (words : List (List ℕ)) (shelf : Stock) (command : Option Command) (begun : Option Begun) (w : Watch) (head whole : List ℕ)
     → IfSome command (IsAskedFor words) → IfSome begun (IsBegunOf (option_map order_of command) shelf)
     → HasSections options begun w.changes head whole → Ends options words shelf w head whole
-Ends-sections options words shelf command begun w head whole asked by sections = by_wish options.pcs refl begun by sections
+Ends-sections options words shelf command begun w head whole asked by sections = by_wish (asks options) refl begun by sections
   where
-    by_wish : (wish : Bool) → options.pcs ≡ wish → (o : Option Begun) → IfSome o (IsBegunOf (option_map order_of command) shelf)
-        → MatchBool wish (HasPcs o w.changes head whole) (whole ≡ head) → Ends options words shelf w head whole
+    by_wish : (wish : Bool) → asks options ≡ wish → (o : Option Begun) → IfSome o (IsBegunOf (option_map order_of command) shelf)
+        → MatchBool wish (HasText options o w.changes head whole) (whole ≡ head) → Ends options words shelf w head whole
     by_wish false is o by same = record {
       section = [];
       splits = same ∙ sym (append-nil head);
-      sections = subst (λ (p : Bool). MatchBool p (HasPcsOf words shelf w []) (◌≡◌ {A = List ℕ} [] [])) (sym is) refl;
+      sections = subst (λ (p : Bool). MatchBool p (HasTextOf options words shelf w []) (◌≡◌ {A = List ℕ} [] [])) (sym is) refl;
     }
     by_wish true is None by h = absurd (let both : None ≡ Some h.b = h.is_begun in cc)
-    by_wish true is (Some b) by h = record {
-      section = h.section;
-      splits = h.splits;
-      sections = subst (λ (p : Bool). MatchBool p (HasPcsOf words shelf w h.section) (h.section ≡ [])) (sym is)
-          (ends-with words shelf command b w head whole asked by h (let same : h.b ≡ b = cc in same));
-    }
+    by_wish true is (Some b) by h =
+        let same : h.b ≡ b = cc in
+        let section : List ℕ = h.goes_on.0 in
+        record {
+          section = section;
+          splits = h.goes_on.1;
+          sections = subst (λ (p : Bool). MatchBool p (HasTextOf options words shelf w section) (section ≡ [])) (sym is)
+              (ends-with options words shelf command b w section asked by
+              (subst (λ (x : Begun). IsTextOf options x w.changes section) same h.goes_on.2));
+        }
 
 -- ---- commands and orders
 
@@ -87,7 +89,7 @@ lent-in-range words (Some c) command same asked = (subst (λ (o : Option Command
 
 -- if a run has no program, the order which was asked for has none, for the same reason
 pub Unread-asked : (options : Options) (words : List (List ℕ)) (command : Option Command) (why : Refusal) (before after : Outside) (status : ℕ)
-    → options.pcs ≡ true → IfSome command (IsAskedFor words) → IsUnreadOf (option_map order_of command) before.shelf after.shelf why
+    → asks options ≡ true → IfSome command (IsAskedFor words) → IsUnreadOf (option_map order_of command) before.shelf after.shelf why
     → status ≡ (told_of why).0 → after.shelf.held ≡ before.shelf.held → after.device ≡ before.device → after.terminal ≡ before.terminal
     → Closes (told_of why).1 before.report after.report → IsUnread options words before after status
 Unread-asked options words None why before after status wanted asked due is held device terminal closes = absurd due

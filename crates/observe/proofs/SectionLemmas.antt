@@ -1,17 +1,22 @@
 -- The section of a text that is asked for.
-use Rattle.std.proofs.Common.{◌≡◌, ℕ, ◌<◌, List, [], ◌∷◌, ◌++◌, length, Option, Some, refl, sym, ◌∙◌, ap, subst, arith, append_assoc}
-use Rattle.std.specs.Prelude.{codes}
+use Rattle.std.proofs.Common.{◌≡◌, ℕ, ◌<◌, Bool, true, List, [], ◌∷◌, ◌++◌, length, Option, Some, None, refl, sym, ◌∙◌, ap, ap₂, subst, arith, append_assoc, append-nil}
+use Rattle.std.specs.Prelude.{codes, IfSome, MatchBool}
 use Rattle.std.specs.List.{flat_map}
 use Rattle.std.specs.List.Sorted.{IsStrictlySortedBy}
 use Rattle.std.specs.Map.{keys_of}
 use Rattle.std.specs.Ordering.{nat_cmp}
+use Rattle.thy_isa.specs.Step.{State}
 use Rattle.thy_run.specs.Watching.{Taken}
-use Rattle.thy_observe.specs.declared.changes.Change.{Change}
 use Rattle.thy_observe.specs.declared.changes.Changes.{Changes}
-use Rattle.thy_observe.specs.Changes.{AreChanges, changes_of}
-use Rattle.thy_observe.specs.Replaying.{AreCounts, executed_of}
+use Rattle.thy_observe.specs.declared.changes.Dated.{Dated}
+use Rattle.thy_observe.specs.Changes.{AreChanges, changes_of, dated_of}
+use Rattle.thy_observe.specs.Replaying.{AreCounts, executed}
+use Rattle.thy_observe.specs.States.{state_at, state_by}
 use Rattle.observe.specs.declared.beginning.Begun.{Begun}
-use Rattle.observe.specs.Sections.{HasPcs, pcs_row, pcs_text}
+use Rattle.observe.specs.declared.options.Options.{Options}
+use Rattle.observe.specs.Sections.{GoesOn, HasSections, HasText, IsPcsPart, IsStateAtPart, IsStatePart, IsTextOf, pcs_row, pcs_text, setting_by, start_by}
+use Rattle.observe.specs.StateText.{state_section}
+use Rattle.observe.specs.Wanting.{asks}
 
 -- a table that is empty has the line for none
 pub text-none : (old head new : List ℕ) (table : List (ℕ × ℕ)) → length table ≡ 0 → head ≡ old ++ codes "pcs\n" → new ≡ head ++ codes "none\n"
@@ -27,20 +32,76 @@ text-some old head new [] some first last = absurd (omega (arith, some))
 text-some old head new (e ∷ table) some first last =
     last ∙ ap (λ (t : List ℕ). t ++ flat_map pcs_row (e ∷ table)) first ∙ append_assoc old (codes "pcs\n") (flat_map pcs_row (e ∷ table))
 
+-- what holds of a value if there is one
+pub some-weaker : {A : Type 0} (o : Option A) (P Q : A → Type 0) → ((x : A) → P x → Q x) → IfSome o P → IfSome o Q
+some-weaker None P Q more h = tt
+some-weaker (Some x) P Q more h = more x h
+
+-- a text that is the same goes on with nothing
+pub stays-same : (head : List ℕ) (Is : List ℕ → Type 0) → Is [] → GoesOn Is head head
+stays-same head Is h = ([], sym (append-nil head), h)
+
 -- the table of what was listed belongs to the cycles that were seen
-pub HasPcs-listed : (begun : Option Begun) (b : Begun) (changes : Changes) (listed : List Change) (table : List (ℕ × ℕ)) (head whole : List ℕ)
-    → begun ≡ Some b → ((seen : List Taken) → AreChanges changes seen → listed ≡ changes_of seen)
-    → AreCounts table (executed_of b.geometry b.start listed).pcs → IsStrictlySortedBy nat_cmp (keys_of table) → whole ≡ head ++ pcs_text table
-    → HasPcs begun changes head whole
-HasPcs-listed begun b changes listed table head whole is exact counts rising text = record {
-  b = b;
-  is_begun = is;
-  section = pcs_text table;
-  splits = text;
-  exact = λ seen h. record {
+pub pcs-listed : (b : Begun) (changes : Changes) (listed : List Dated) (table : List (ℕ × ℕ)) (head whole : List ℕ)
+    → ((seen : List Taken) → AreChanges changes seen → listed ≡ dated_of seen)
+    → ((seen : List Taken) → listed ≡ dated_of seen → AreCounts table (executed (setting_by b) (start_by b) (changes_of seen)).pcs)
+    → IsStrictlySortedBy nat_cmp (keys_of table) → whole ≡ head ++ pcs_text table → GoesOn (IsPcsPart true b changes) head whole
+pcs-listed b changes listed table head whole exact counts rising text = (
+  pcs_text table,
+  text,
+  λ seen h. record {
     table = table;
     rising = rising;
-    counts = subst (λ (l : List Change). AreCounts table (executed_of b.geometry b.start l).pcs) (exact seen h) counts;
+    counts = counts seen (exact seen h);
     is_text = refl;
-  };
-}
+  },
+)
+
+-- the state after a cycle belongs to them
+pub state-listed : (b : Begun) (changes : Changes) (listed : List Dated) (cycles cycle base : ℕ) (found : Option State) (head whole : List ℕ)
+    → ((seen : List Taken) → AreChanges changes seen → listed ≡ dated_of seen)
+    → ((seen : List Taken) → AreChanges changes seen → cycles ≡ length seen)
+    → ((seen : List Taken) → listed ≡ dated_of seen → cycles ≡ length seen → found ≡ state_by (setting_by b) (start_by b) cycle seen)
+    → base ≡ (setting_by b).base → whole ≡ head ++ state_section (codes "state") cycle base found → GoesOn (IsStatePart (Some cycle) b changes) head whole
+state-listed b changes listed cycles cycle base found head whole exact counted is same text = (
+  state_section (codes "state") cycle base found,
+  text,
+  λ seen h.
+      ap₂ (state_section (codes "state") cycle) same (is seen (exact seen h) (counted seen h)),
+)
+
+-- the state at a count too
+pub state_at-listed : (b : Begun) (changes : Changes) (listed : List Dated) (count base : ℕ) (found : Option State) (head whole : List ℕ)
+    → ((seen : List Taken) → AreChanges changes seen → listed ≡ dated_of seen)
+    → ((seen : List Taken) → listed ≡ dated_of seen → found ≡ state_at (setting_by b) (start_by b) count seen)
+    → base ≡ (setting_by b).base → whole ≡ head ++ state_section (codes "state-at") count base found → GoesOn (IsStateAtPart (Some count) b changes) head whole
+state_at-listed b changes listed count base found head whole exact is same text = (
+  state_section (codes "state-at") count base found,
+  text,
+  λ seen h.
+      ap₂ (state_section (codes "state-at") count) same (is seen (exact seen h)),
+)
+
+-- one part after the other is all that is asked for
+pub all-parts : (options : Options) (b : Begun) (changes : Changes) (head first second whole : List ℕ)
+    → GoesOn (IsPcsPart options.pcs b changes) head first → GoesOn (IsStatePart options.state b changes) first second
+    → GoesOn (IsStateAtPart options.state_at b changes) second whole → GoesOn (IsTextOf options b changes) head whole
+all-parts options b changes head first second whole p s a = (
+  p.0 ++ (s.0 ++ a.0),
+  a.1 ∙ ap (λ (t : List ℕ). t ++ a.0) (s.1 ∙ ap (λ (t : List ℕ). t ++ s.0) p.1)
+      ∙ append_assoc (head ++ p.0) s.0 a.0 ∙ append_assoc head p.0 (s.0 ++ a.0),
+  λ seen h. record {
+    pcs = p.0;
+    splits = ap₂ (λ (x y : List ℕ). p.0 ++ (x ++ y)) (s.2 seen h) (a.2 seen h);
+    has_pcs = p.2 seen h;
+  },
+)
+
+-- what is asked for is there after the head
+pub sections-asked : {A : Type 0} (f : A → List ℕ) (options : Options) (begun : Option Begun) (b : Begun) (changes : Changes) (head : List ℕ) (r : Option A)
+    → asks options ≡ true → begun ≡ Some b → IfSome r (λ whole. GoesOn (IsTextOf options b changes) head (f whole))
+    → IfSome r (λ whole. HasSections options begun changes head (f whole))
+sections-asked f options begun b changes head None wanted is h = tt
+sections-asked f options begun b changes head (Some whole) wanted is h =
+    subst (λ (wish : Bool). MatchBool wish (HasText options begun changes head (f whole)) (f whole ≡ head)) (sym wanted)
+    (record { b = b; is_begun = is; goes_on = h })

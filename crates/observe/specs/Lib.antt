@@ -1,4 +1,5 @@
 pub mod Wanting
 pub mod Beginning
+pub mod StateText
 pub mod Sections
 pub mod Observing

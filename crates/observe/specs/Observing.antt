@@ -21,7 +21,8 @@ use Rattle.thy_answer.specs.Saving.{IsPut}
 use Rattle.thy_cli.specs.Watching.{ClaimSeen}
 use Rattle.observe.specs.declared.options.Options.{Options}
 use Rattle.observe.specs.Beginning.{IsProgramOf, IsUnreadBy, origin_of, run_in}
-use Rattle.observe.specs.Sections.{IsPcsText}
+use Rattle.observe.specs.Sections.{IsText}
+use Rattle.observe.specs.Wanting.{asks}
 
 -- OUT is this name
 abbrev pub is_name : List ℕ → Option (List ℕ) → Bool
@@ -55,7 +56,7 @@ is_untearable (make n name) = true
 -- blocks
 abbrev pub is_refused : Options → List ℕ → Order → Bool
 is_refused options out order =
-    (is_taken out order || (options.pcs && is_none (run_in order))) || (options.torn && is_untearable order)
+    (is_taken out order || (asks options && is_none (run_in order))) || (options.torn && is_untearable order)
 
 abbrev pub is_refused_by : Options → List ℕ → Result Order WordsError → Bool
 is_refused_by options out (Ok order) = is_refused options out order
@@ -87,7 +88,7 @@ IsTurned options out words before after status e =
 -- The program of a run was to be read for an option, and could not be, or is refused: a line says why, as thynvm says it,
 -- and what the shelf holds stays.
 pub record IsUnread (options : Options) (words : List (List ℕ)) (before after : Outside) (status : ℕ) : Type 0 where
-  pub wanted : options.pcs ≡ true
+  pub wanted : asks options ≡ true
   pub order : Order
   pub asked : settings_of words ≡ Ok order
   pub why : Refusal
@@ -107,18 +108,19 @@ IsTold out (Some e) old new answered status = Closes (put_line out) old new × (
 abbrev pub was_begun : Answer → Bool
 was_begun a = nat_lt 0 a.cycles || nat_lt 0 (length (all_of a.events)) || nat_le a.status 1 || a.status == 6 || a.status == 8
 
--- What is asked for in addition: how often each program counter retired in the cycles that were seen, which are the run's.
--- The program was read for it before the run, from what the shelf held then.
-pub record HasPcsOf (words : List (List ℕ)) (shelf : Stock) (w : Watch) (section : List ℕ) : Type 0 where
+-- What is asked for in addition, of the cycles that were seen, which are the run's. The program was read for it before the run,
+-- from what the shelf held then.
+pub record HasTextOf (options : Options) (words : List (List ℕ)) (shelf : Stock) (w : Watch) (section : List ℕ) : Type 0 where
   pub order : Order
   pub asked : settings_of words ≡ Ok order
   pub program : IsProgramOf order shelf
   pub exact : (seen : List Taken) → IsWatch w seen
-      → IsPcsText (setting_of (origin_of program)) (origin_of program).start seen section
+      → IsText options (setting_of (origin_of program)) (origin_of program).start seen section
 
 -- nothing is added if nothing is asked for
 abbrev pub AreSections : Options → List (List ℕ) → Stock → Watch → List ℕ → Type 0
-AreSections options words shelf w section = MatchBool options.pcs (HasPcsOf words shelf w section) (section ≡ [])
+AreSections options words shelf w section =
+    MatchBool (asks options) (HasTextOf options words shelf w section) (section ≡ [])
 
 -- A run was begun, and a text was put under OUT, or was not; all else is left alone. The text ends with what is asked for in
 -- addition.

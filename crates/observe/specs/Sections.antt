@@ -1,11 +1,10 @@
 -- What is added to the text that is put under OUT, if it is asked for.
-use Rattle.std.specs.Prelude.{◌≡◌, ℕ, List, [], ◌∷◌, ◌++◌, codes, Option, Some, MatchBool}
+use Rattle.std.specs.Prelude.{◌≡◌, ℕ, Bool, List, [], ◌∷◌, ◌++◌, codes, false, Option, Some, None, MatchBool}
 use Rattle.std.specs.Fmt.{decimal, digits}
 use Rattle.std.specs.List.{flat_map}
 use Rattle.std.specs.List.Sorted.{IsStrictlySortedBy}
 use Rattle.std.specs.Map.{keys_of}
 use Rattle.std.specs.Ordering.{nat_cmp}
-use Rattle.std.specs.Prelude.{false}
 use Rattle.thy_base.specs.Bytes.{bytes_of}
 use Rattle.thy_isa.specs.OnBlocks.{setting_for}
 use Rattle.thy_isa.specs.Step.{State, Setting, state_of}
@@ -13,8 +12,11 @@ use Rattle.thy_run.specs.Watching.{Taken}
 use Rattle.thy_observe.specs.declared.changes.Changes.{Changes}
 use Rattle.thy_observe.specs.Changes.{AreChanges, changes_of}
 use Rattle.thy_observe.specs.Replaying.{AreCounts, executed}
+use Rattle.thy_observe.specs.States.{state_at, state_by}
 use Rattle.observe.specs.declared.beginning.Begun.{Begun}
 use Rattle.observe.specs.declared.options.Options.{Options}
+use Rattle.observe.specs.StateText.{state_section}
+use Rattle.observe.specs.Wanting.{asks}
 
 -- ---- how often each program counter retired
 
@@ -39,18 +41,62 @@ pub record IsPcsText (g : Setting) (start : State) (seen : List Taken) (text : L
   pub counts : AreCounts table (executed g start (changes_of seen)).pcs
   pub is_text : text ≡ pcs_text table
 
+-- ---- a state
+
+-- after a cycle, if it is asked for
+abbrev pub state_part : Option ℕ → Setting → State → List Taken → List ℕ
+state_part None g start seen = []
+state_part (Some cycle) g start seen = state_section (codes "state") cycle g.base (state_by g start cycle seen)
+
+-- at a count
+abbrev pub state_at_part : Option ℕ → Setting → State → List Taken → List ℕ
+state_at_part None g start seen = []
+state_at_part (Some count) g start seen = state_section (codes "state-at") count g.base (state_at g start count seen)
+
 -- ---- all that is asked for
 
--- what follows the head of a text says how often each program counter retired
-pub record HasPcs (begun : Option Begun) (changes : Changes) (head whole : List ℕ) : Type 0 where
+-- The text has what is asked for of the cycles of a run from this start, each after the other.
+pub record IsText (options : Options) (g : Setting) (start : State) (seen : List Taken) (text : List ℕ) : Type 0 where
+  pub pcs : List ℕ
+  pub splits : text ≡ pcs ++ (state_part options.state g start seen ++ state_at_part options.state_at g start seen)
+  pub has_pcs : MatchBool options.pcs (IsPcsText g start seen pcs) (pcs ≡ [])
+
+-- with the numbers and the start as the program has them
+abbrev pub setting_by : Begun → Setting
+setting_by b = setting_for b.geometry (bytes_of b.start.input)
+
+abbrev pub start_by : Begun → State
+start_by b = state_of b.start.state
+
+-- a text goes on with a section of this kind
+abbrev pub GoesOn : (List ℕ → Type 0) → List ℕ → List ℕ → Type 0
+GoesOn Is head whole = (section : List ℕ) × (whole ≡ head ++ section) × Is section
+
+-- the parts of the text that belong to what a run's changes list
+abbrev pub IsPcsPart : Bool → Begun → Changes → List ℕ → Type 0
+IsPcsPart asked b changes part =
+    (seen : List Taken) → AreChanges changes seen → MatchBool asked (IsPcsText (setting_by b) (start_by b) seen part) (part ≡ [])
+
+abbrev pub IsStatePart : Option ℕ → Begun → Changes → List ℕ → Type 0
+IsStatePart asked b changes part =
+    (seen : List Taken) → AreChanges changes seen → part ≡ state_part asked (setting_by b) (start_by b) seen
+
+abbrev pub IsStateAtPart : Option ℕ → Begun → Changes → List ℕ → Type 0
+IsStateAtPart asked b changes part =
+    (seen : List Taken) → AreChanges changes seen → part ≡ state_at_part asked (setting_by b) (start_by b) seen
+
+-- all parts together
+abbrev pub IsTextOf : Options → Begun → Changes → List ℕ → Type 0
+IsTextOf options b changes text =
+    (seen : List Taken) → AreChanges changes seen → IsText options (setting_by b) (start_by b) seen text
+
+-- what follows the head of a text is what is asked for
+pub record HasText (options : Options) (begun : Option Begun) (changes : Changes) (head whole : List ℕ) : Type 0 where
   pub b : Begun
   pub is_begun : begun ≡ Some b
-  pub section : List ℕ
-  pub splits : whole ≡ head ++ section
-  pub exact : (seen : List Taken) → AreChanges changes seen
-      → IsPcsText (setting_for b.geometry (bytes_of b.start.input)) (state_of b.start.state) seen section
+  pub goes_on : GoesOn (IsTextOf options b changes) head whole
 
 -- a text with what is asked for after its head
 abbrev pub HasSections : Options → Option Begun → Changes → List ℕ → List ℕ → Type 0
 HasSections options begun changes head whole =
-    MatchBool options.pcs (HasPcs begun changes head whole) (whole ≡ head)
+    MatchBool (asks options) (HasText options begun changes head whole) (whole ≡ head)

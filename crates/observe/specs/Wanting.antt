@@ -1,37 +1,105 @@
 -- What is asked for by the arguments after OUT, the program's name first: of OUT in addition, and of the NVM.
-use Rattle.std.specs.Prelude.{ℕ, Bool, false, ◌||◌, List, ◌∷◌, codes, if◌then◌else◌}
+use Rattle.std.specs.Prelude.{◌≡◌, ℕ, zero, suc, Bool, true, false, ◌||◌, not, is_none, List, [], ◌∷◌, codes, if◌then◌else◌, Option, Some, None, Result, Ok, Err}
 use Rattle.std.specs.Str.{bytes_eq}
+use Rattle.thy_words.specs.Numbers.{number_in}
 use Rattle.observe.specs.declared.options.Options.{Options}
+use Rattle.observe.specs.declared.options.Wish.{Wish}
+use Rattle.observe.specs.declared.options.Wish.TheVariants.{Pcs, State, StateAt, Torn}
 
--- the options for program counters, and for an NVM whose blocks may be torn
-abbrev pub pcs_option : List ℕ
-pcs_option = codes "--pcs"
+-- ---- the options, a row each in every table
 
-abbrev pub torn_option : List ℕ
-torn_option = codes "--torn"
+-- the option of a word
+abbrev pub wish_of : List ℕ → Option Wish
+wish_of word =
+    if bytes_eq word (codes "--pcs") then Some Pcs
+    else if bytes_eq word (codes "--state") then Some State
+    else if bytes_eq word (codes "--state-at") then Some StateAt
+    else if bytes_eq word (codes "--torn") then Some Torn
+    else None
 
--- an option follows the program's name
-abbrev pub has_option : List ℕ → List (List ℕ) → Bool
-has_option option (name ∷ word ∷ rest) = bytes_eq word option
-has_option option words = false
+-- a number follows it
+abbrev pub takes_number : Wish → Bool
+takes_number Pcs = false
+takes_number State = true
+takes_number StateAt = true
+takes_number Torn = false
 
--- the arguments without it
-abbrev pub without_option : List ℕ → List (List ℕ) → List (List ℕ)
-without_option option (name ∷ word ∷ rest) = if bytes_eq word option then name ∷ rest else name ∷ word ∷ rest
-without_option option words = words
+-- it is asked for already
+abbrev pub has : Options → Wish → Bool
+has o Pcs = o.pcs
+has o State = not (is_none o.state)
+has o StateAt = not (is_none o.state_at)
+has o Torn = o.torn
 
--- what is left after --pcs and then --torn, if they are there
-abbrev pub after_both : List (List ℕ) → List (List ℕ)
-after_both words = without_option torn_option (without_option pcs_option words)
+-- it is asked for, with this number
+abbrev pub with_wish : Options → Wish → ℕ → Options
+with_wish o Pcs n = record o { pcs = true }
+with_wish o State n = record o { state = Some n }
+with_wish o StateAt n = record o { state_at = Some n }
+with_wish o Torn n = record o { torn = true }
 
--- the options stand in either order
-abbrev pub options_in : List (List ℕ) → Options
-options_in words = record {
-  pcs = has_option pcs_option words || has_option pcs_option (after_both words);
-  torn = has_option torn_option (without_option pcs_option words);
-}
+-- the line that refuses a number of it that can't be read
+abbrev pub word_line : Wish → List ℕ
+word_line Pcs = codes "word pcs\n"
+word_line State = codes "word state\n"
+word_line StateAt = codes "word state-at\n"
+word_line Torn = codes "word torn\n"
 
--- the arguments of the call that is observed
-abbrev pub without_options : List (List ℕ) → List (List ℕ)
-without_options words =
-    if has_option pcs_option words then after_both words else without_option pcs_option (after_both words)
+abbrev pub no_options : Options
+no_options = record { pcs = false; state = None; state_at = None; torn = false }
+
+-- how many options there are
+abbrev pub most_options : ℕ
+most_options = 4
+
+-- something is asked for that is found out by executing the run again
+abbrev pub asks : Options → Bool
+asks o = o.pcs || (not (is_none o.state) || not (is_none o.state_at))
+
+-- ---- how they are read
+
+-- what is asked for and the arguments that are left, or the option whose number can't be read
+abbrev pub Reading : Type 0
+Reading = Result (Options × List (List ℕ)) Wish
+
+abbrev pub numbered : Options → Wish → Option ℕ → List (List ℕ) → Reading
+numbered o wish None left = Err wish
+numbered o wish (Some n) left = Ok (with_wish o wish n, left)
+
+-- an option after the program's name is taken, with its number if it takes one; without one it is left
+abbrev pub taken : Options → Wish → (name word : List ℕ) → List (List ℕ) → Reading
+taken o wish name word [] = if takes_number wish then Ok (o, name ∷ word ∷ []) else Ok (with_wish o wish 0, name ∷ [])
+taken o wish name word (next ∷ rest) =
+    if takes_number wish then numbered o wish (number_in next) (name ∷ rest) else Ok (with_wish o wish 0, name ∷ next ∷ rest)
+
+-- one that is given again is left, where a command has to be
+abbrev pub taken_once : Options → Wish → (name word : List ℕ) → List (List ℕ) → Reading
+taken_once o wish name word rest = if has o wish then Ok (o, name ∷ word ∷ rest) else taken o wish name word rest
+
+-- a word that is no option is left too
+abbrev pub taken_if : Options → Option Wish → (name word : List ℕ) → List (List ℕ) → Reading
+taken_if o None name word rest = Ok (o, name ∷ word ∷ rest)
+taken_if o (Some wish) name word rest = taken_once o wish name word rest
+
+abbrev pub take_one : Options → List (List ℕ) → Reading
+take_one o [] = Ok (o, [])
+take_one o (name ∷ []) = Ok (o, name ∷ [])
+take_one o (name ∷ word ∷ rest) = taken_if o (wish_of word) name word rest
+
+abbrev pub then_more : Reading → (Options → List (List ℕ) → Reading) → Reading
+then_more (Ok p) more = more p.0 p.1
+then_more (Err wish) more = Err wish
+
+-- n options are taken, or all that there are
+abbrev pub take_many : ℕ → Options → List (List ℕ) → Reading
+take_many zero o words = Ok (o, words)
+take_many (suc n) o words = then_more (take_one o words) (take_many n)
+
+-- all are: each is given once
+abbrev pub options_in : List (List ℕ) → Reading
+options_in words = take_many most_options no_options words
+
+-- what was asked for and is left is this
+abbrev pub IsReading : Reading → Result Options Wish → List (List ℕ) → Type 0
+IsReading reading (Ok o) left = reading ≡ Ok (o, left)
+IsReading reading (Err wish) left = reading ≡ Err wish

@@ -1,25 +1,28 @@
 //! The program `observe`: does what thynvm does for `run`, `resume`, `bench` and `plain`, and puts text under a name that
 //! says what a run came to: its events with their cycles, the trap, and the totals of the tally; and if it is asked for, how
-//! often each program counter retired. With `--torn` before the command the run goes over an NVM whose blocks may be torn.
+//! often each program counter retired, and the machine's state in a cycle or at a count. With `--torn` before the command the
+//! run goes over an NVM whose blocks may be torn.
 //!
 //! Open specs/Observing.antt first, and src/top.rt; src/out.rt and what it uses make the text, without contracts, and
 //! src/sections.rt what is added to it, exactly. `main` makes the real shelf, sinks and device. It stands on thy_cli,
-//! thy_files, thy_observe, thy_out and thy_nvm; nothing stands on it.
+//! thy_files, thy_observe, thy_plain, thy_out and thy_nvm; nothing stands on it.
 #![tactic(auto)]
 
 mod beginning;
 mod lines;
 mod naming;
+mod numbers;
 mod options;
 mod out;
 mod sections;
+mod states;
 #[cfg(test)]
 mod tests;
 mod top;
 mod totals;
 mod trap;
 
-use crate::options::take_options;
+use crate::options::{refuse_word, take_options};
 use crate::top::observe;
 use std::alloc::{AllocError, Global};
 use std::io::ErrorKind;
@@ -59,7 +62,10 @@ fn main(rt: HostRuntime) -> ExitCode {
         return refused(alloc, WordsError::Usage, &mut report);
     }
     let out = words.remove(1);
-    let options = take_options(&mut words);
+    let options = match take_options(&mut words) {
+        Ok(options) => options,
+        Err(wish) => return ExitCode::from(refuse_word(wish, &mut report)),
+    };
     let device = if options.torn {
         MemNvm::tearing(alloc)
     } else {

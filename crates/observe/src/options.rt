@@ -1,38 +1,179 @@
 //! What is asked for by the words between OUT and the command.
-ghost use Rattle.std.specs.Prelude.{◌≡◌, map};
+ghost use Rattle.std.specs.Prelude.{◌≡◌, ◌<◌, ◌≤◌, map};
 ghost use Rattle.std.specs.String.{string_bytes};
-ghost use Rattle.observe.specs.Wanting.{has_option, options_in, without_option, without_options};
+ghost use Rattle.thy_answer.specs.Answering.{Closes};
+ghost use Rattle.observe.specs.Wanting.{IsReading, asks, has, no_options, options_in, take_one, takes_number, wish_of, with_wish, word_line};
+
+use crate::numbers::number;
+use thy_base::Sink;
+
+/// How many options there are.
+const OPTIONS: usize = 4;
+
+/// An option. In each of the functions below, and in what they are specified by, it has a row.
+#[derive(Clone, Copy, Debug, PartialEq, Eq, Drop)]
+pub enum Wish {
+    Pcs,
+    State,
+    StateAt,
+    Torn,
+}
 
 /// What is asked for in addition to a run with its events, trap and totals.
 #[derive(Clone, Copy, Debug, PartialEq, Eq, Drop)]
 pub struct Options {
     /// How often each program counter retired.
     pub pcs: bool,
+    /// The state after this cycle.
+    pub state: Option<u64>,
+    /// The state at this count.
+    pub state_at: Option<u64>,
     /// The run goes over an NVM whose blocks may be torn.
     pub torn: bool,
 }
 
-/// Takes an option out of the arguments, if it follows the program's name.
-fn take_option(words: &mut Vec<String>, option: &str) -> bool
-    ensures given { result ≡ has_option option.now (map string_bytes words.old.items) }
-    ensures rest { map string_bytes words.new.items
-        ≡ without_option option.now (map string_bytes words.old.items) }
+/// The option of a word.
+fn wish_of(word: &str) -> Option<Wish>
+    ensures { result ≡ wish_of word.now }
 {
-    let given = words.len() > 1 && words[1].as_str() == option;
-    if given {
-        let _word = words.remove(1);
+    if word == "--pcs" {
+        Some(Wish::Pcs)
+    } else if word == "--state" {
+        Some(Wish::State)
+    } else if word == "--state-at" {
+        Some(Wish::StateAt)
+    } else if word == "--torn" {
+        Some(Wish::Torn)
+    } else {
+        None
     }
-    given
 }
 
-/// Takes the options out of the arguments, where they follow the program's name, in either order. An option that is given twice
-/// is left once, where a command has to be.
-pub fn take_options(words: &mut Vec<String>) -> Options
-    ensures options { result ≡ options_in (map string_bytes words.old.items) }
-    ensures rest { map string_bytes words.new.items ≡ without_options (map string_bytes words.old.items) }
+/// Whether a number follows an option.
+fn takes_number(wish: Wish) -> bool
+    ensures { result ≡ takes_number wish }
 {
-    let first = take_option(words, "--pcs");
-    let torn = take_option(words, "--torn");
-    let pcs = first || take_option(words, "--pcs");
-    Options { pcs, torn }
+    match wish {
+        Wish::Pcs | Wish::Torn => false,
+        Wish::State | Wish::StateAt => true,
+    }
+}
+
+/// The line that refuses a number that can't be read.
+fn word_line(wish: Wish) -> &'static str
+    ensures { result.now ≡ word_line wish }
+{
+    match wish {
+        Wish::Pcs => "word pcs\n",
+        Wish::State => "word state\n",
+        Wish::StateAt => "word state-at\n",
+        Wish::Torn => "word torn\n",
+    }
+}
+
+impl Options {
+    /// Nothing is asked for.
+    fn none() -> Options
+        ensures { result ≡ no_options }
+    {
+        Options {
+            pcs: false,
+            state: None,
+            state_at: None,
+            torn: false,
+        }
+    }
+
+    /// Whether an option is asked for already.
+    fn has(self, wish: Wish) -> bool
+        ensures { result ≡ has self wish }
+    {
+        match wish {
+            Wish::Pcs => self.pcs,
+            Wish::State => self.state.is_some(),
+            Wish::StateAt => self.state_at.is_some(),
+            Wish::Torn => self.torn,
+        }
+    }
+
+    /// These options and one more, with this number.
+    fn with(self, wish: Wish, number: u64) -> Options
+        ensures { result ≡ with_wish self wish number }
+    {
+        match wish {
+            Wish::Pcs => Options { pcs: true, ..self },
+            Wish::State => Options {
+                state: Some(number),
+                ..self
+            },
+            Wish::StateAt => Options {
+                state_at: Some(number),
+                ..self
+            },
+            Wish::Torn => Options { torn: true, ..self },
+        }
+    }
+
+    /// Whether something is asked for that is found out by executing the run again.
+    pub fn asks(self) -> bool
+        ensures { result ≡ asks self }
+    {
+        self.pcs || self.state.is_some() || self.state_at.is_some()
+    }
+}
+
+/// Takes an option, and its number if it takes one, out of the arguments, if it follows the program's name and was not given
+/// before. An option without its number is left, where a command has to be.
+///
+/// # Errors
+/// The option whose number can't be read.
+fn take_one(words: &mut Vec<String>, options: Options) -> Result<Options, Wish>
+    ensures { IsReading (take_one options (map string_bytes words.old.items)) result (map string_bytes words.new.items) }
+{
+    if words.len() < 2 {
+        return Ok(options);
+    }
+    let Some(wish) = wish_of(words[1].as_str()) else {
+        return Ok(options);
+    };
+    if options.has(wish) {
+        return Ok(options);
+    }
+    if !takes_number(wish) {
+        let _word = words.remove(1);
+        return Ok(options.with(wish, 0));
+    }
+    if words.len() < 3 {
+        return Ok(options);
+    }
+    let Some(number) = number(words[2].as_str()) else {
+        return Err(wish);
+    };
+    let _number = words.remove(2);
+    let _word = words.remove(1);
+    Ok(options.with(wish, number))
+}
+
+/// Takes the options out of the arguments, where they follow the program's name. An option that is given twice is left once,
+/// where a command has to be.
+///
+/// # Errors
+/// The first option whose number can't be read.
+pub fn take_options(words: &mut Vec<String>) -> Result<Options, Wish>
+    ensures { IsReading (options_in (map string_bytes words.old.items)) result (map string_bytes words.new.items) }
+{
+    let mut options = Options::none();
+    for done in 0..OPTIONS {
+        options = take_one(words, options)?;
+    }
+    Ok(options)
+}
+
+/// Refuses the number of an option, and returns the exit status.
+pub fn refuse_word<R: Sink>(wish: Wish, report: &mut R) -> u8
+    ensures status { result ≡ 2 }
+    ensures closes { Closes (word_line wish) (R.stream report.old) (R.stream report.new) }
+{
+    let _failed = report.write(word_line(wish).as_bytes()).is_err();
+    2
 }

@@ -1,7 +1,7 @@
 //! Calls over memory: what is put under OUT, and what is answered if nothing can be put. The words and addresses were worked
 //! out by hand from the encodings, the numbers from the rules of the controller.
 
-use crate::options::take_options;
+use crate::options::{refuse_word, take_options};
 use crate::top::observe;
 use std::alloc::{AllocError, Global};
 use std::process::Abort;
@@ -68,7 +68,17 @@ fn called_over(
     let mut terminal = MemSink::new(alloc, 4096, Vec::new(alloc))?;
     let mut report = MemSink::new(alloc, 4096, Vec::new(alloc))?;
     let mut nvm = Counting::over(nvm);
-    let options = take_options(&mut words);
+    let options = match take_options(&mut words) {
+        Ok(options) => options,
+        Err(wish) => {
+            return Ok(Given {
+                status: refuse_word(wish, &mut report),
+                is_put: false,
+                put: Vec::new(alloc),
+                report: Vec::from_slice(alloc, report.taken())?,
+            });
+        }
+    };
     let status = observe(
         alloc,
         out,
@@ -413,6 +423,102 @@ fn program_counters_are_refused(rt: HostRuntime) -> Result<(), Fail> {
     Ok(())
 }
 
+/// The state of this program with a0 and the program counter after some of its instructions: the stack pointer is 256 bytes
+/// below the end of program memory, and the 12 bytes of the program are two lines.
+fn state_text(
+    alloc: Global,
+    head: &str,
+    pc: u64,
+    count: u64,
+    a0: u64,
+) -> Result<String, AllocError> {
+    let mut text = format!(in alloc;
+        "{head}\nrunning\ncount {count}\nconsole 0\ncursor 0\nbreak 10010\nhart 0 {pc:x}\n"
+    )?;
+    for number in 1..32u64 {
+        let value = match number {
+            2 => 0x16f00,
+            10 => a0,
+            17 => 0x5d,
+            _ => 0,
+        };
+        let line = format!(in alloc; "x{number} {value:x}\n")?;
+        text.push_str(line.as_str())?;
+    }
+    text.push_str("memory 10000 28672\n10000 70051305d00893\n10008 73\n")?;
+    Ok(text)
+}
+
+/// Options, and what follows the totals of the second of these runs with them. In cycle 704 the second instruction is fetched,
+/// in 705 it retires, and then power is cut; in 715 the restart is over. Three instructions end the run.
+static STATES: [(&str, &str, u64, u64, u64); 4] = [
+    ("--state 704", "state 704", 0x10004, 1, 0),
+    ("--state-at 1", "state-at 1", 0x10004, 1, 0),
+    ("--state-at 2", "state-at 2", 0x10008, 2, 7),
+    ("--state 721", "state 721", 0x10008, 2, 7),
+];
+
+#[test]
+fn a_state_follows_the_totals(rt: HostRuntime) -> Result<(), Fail> {
+    let alloc = rt.alloc();
+    let (_, text) = RUNS[1];
+    for (options, head, pc, count, a0) in STATES {
+        let line = format!(in alloc;
+            "thynvm {options} run F --pages 8 --btt 8 --ptt 8 --cuts 705"
+        )?;
+        let given = called(alloc, "O", line.as_str(), FIRST, &[])?;
+        assert_eq!(rt; given.status, 0, "{options}");
+        let state = state_text(alloc, head, pc, count, a0)?;
+        assert!(rt;
+            ends_with(given.put.as_slice(), text, state.as_str()),
+            "{options}"
+        );
+    }
+    // None after the cut, in the boot, after the end, and beyond the last instruction.
+    for (options, section) in [
+        ("--state 705", "state 705\nnone\n"),
+        ("--state 714", "state 714\nnone\n"),
+        ("--state 737", "state 737\nnone\n"),
+        ("--state 0", "state 0\nnone\n"),
+        ("--state-at 4", "state-at 4\nnone\n"),
+        (
+            "--state-at 4 --pcs --state 705",
+            "pcs\n10000 2\n10004 2\n10008 1\nstate 705\nnone\nstate-at 4\nnone\n",
+        ),
+    ] {
+        let line = format!(in alloc;
+            "thynvm {options} run F --pages 8 --btt 8 --ptt 8 --cuts 705"
+        )?;
+        let given = called(alloc, "O", line.as_str(), FIRST, &[])?;
+        assert!(rt; ends_with(given.put.as_slice(), text, section), "{options}");
+    }
+    Ok(())
+}
+
+#[test]
+fn options_that_cannot_be_read_are_refused(rt: HostRuntime) -> Result<(), Fail> {
+    let alloc = rt.alloc();
+    for (line, report) in [
+        ("thynvm --state", "usage\n"),
+        ("thynvm --state 7", "usage\n"),
+        ("thynvm --state 7 --state 8 run F", "usage\n"),
+        ("thynvm --state 7 plain F", "usage\n"),
+        ("thynvm --state-at 7 compare F", "usage\n"),
+        ("thynvm --state=7 run F", "usage\n"),
+        ("thynvm --state run F", "word state\n"),
+        (
+            "thynvm --pcs --state-at 12345678901234567890 run F",
+            "word state-at\n",
+        ),
+    ] {
+        let given = called(alloc, "O", line, FIRST, &[])?;
+        assert_eq!(rt; given.status, 2, "{line}");
+        assert_eq!(rt; given.report.as_slice(), report.as_bytes(), "{line}");
+        assert!(rt; !given.is_put, "{line}");
+    }
+    Ok(())
+}
+
 /// The head of a program file of five words at the address 65536.
 static FIVE: [u8; 120] = [
     0x7f, 0x45, 0x4c, 0x46, 0x02, 0x01, 0x01, 0x00, 0x00, 0x00, 0x00, 0x00, 0x00, 0x00, 0x00, 0x00,
@@ -522,6 +628,21 @@ fn program_counters_are_those_of_the_hart_that_retires(rt: HostRuntime) -> Resul
     assert_eq!(rt; given.status, 1);
     // Hart 0 retires the branch three times, hart 1 once, and then the store.
     assert!(rt; ends_with(given.put.as_slice(), text, "pcs\n10000 4\n10004 1\n"));
+    // Hart 1 is at the store then, and has reserved nothing; its number is in a0, and its stack is below hart 0's.
+    let line = "thynvm --state-at 4 run F --pages 8 --btt 8 --ptt 8 --harts 2";
+    let given = called_over(alloc, "O", line, &mut shelf, MemNvm::new(alloc))?;
+    for line in [
+        "state-at 4",
+        "count 4",
+        "hart 0 10000",
+        "x2 16f00",
+        "reserved none",
+        "hart 1 10004",
+        "x2 16700",
+        "x10 1",
+    ] {
+        assert!(rt; has_line(given.put.as_slice(), line), "{line}");
+    }
     Ok(())
 }
 

@@ -9,6 +9,7 @@ ghost use Rattle.thy_run.specs.Sending.{Sent};
 ghost use Rattle.thy_text.specs.Closings.{closing_of};
 ghost use Rattle.thy_words.specs.Settings.{IsInRange, order_of, settings_of};
 ghost use Rattle.observe.specs.Beginning.{IsBegunOf, IsUnreadOf};
+ghost use Rattle.observe.specs.Wanting.{asks};
 ghost use Rattle.observe.specs.Observing.{IsAskedFor, IsRefusedFor, IsTold, Observed, is_refused_by};
 
 use crate::beginning::{Begun, begin};
@@ -65,15 +66,16 @@ fn beginning<'a, H: Shelf>(
     shelf: &mut H,
 ) -> Result<Option<Begun>, Refusal<'a>>
     requires { IfSome command (λ c. IsInRange (order_of c.now)) }
-    ensures refusal { IfErr result (λ why. (options.pcs ≡ true)
+    ensures refusal { IfErr result (λ why. (asks options ≡ true)
         × IsUnreadOf (option_map (λ c. order_of c.now) command.entry) (H.stock shelf.old) (H.stock shelf.new) why) }
     ensures held { (H.stock shelf.new).held ≡ (H.stock shelf.old).held }
     ensures calm { OnOk result (HasNotFailed (H.stock shelf.old) (H.stock shelf.new)) }
     ensures begins { IfOk result (λ o. IfSome o
         (IsBegunOf (option_map (λ c. order_of c.now) command.entry) (H.stock shelf.old))) }
 {
+    let asks = options.asks();
     match command {
-        Some(command) if options.pcs => begin(alloc, command, shelf),
+        Some(command) if asks => begin(alloc, command, shelf),
         _ => Ok(None),
     }
 }
@@ -144,7 +146,7 @@ pub fn observe<H: Shelf, T: Sink, R: Sink, N: Nvm + Counts>(
         Err(refusal) => return refuse(alloc, refusal, report).status,
     };
     let asked = Asked::of(command.as_ref());
-    let mut watch = Watch::new(alloc, options.pcs);
+    let mut watch = Watch::new(alloc, options.asks());
     let answer = observed(alloc, words, shelf, terminal, report, nvm, &mut watch);
     let ran = was_begun(&answer);
     if !ran {

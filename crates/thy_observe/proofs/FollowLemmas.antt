@@ -1,5 +1,5 @@
 -- What is executed again is what the run has executed.
-use Rattle.std.proofs.Common.{◌≡◌, ℕ, zero, suc, ◌+◌, ◌-◌, ◌<◌, ◌≤◌, Bool, true, false, Option, Some, None, List, [], ◌∷◌, ◌++◌, length, take, fold, get_or, refl, sym, ◌∙◌, ap, subst, inl, inr, arith, length-append}
+use Rattle.std.proofs.Common.{◌≡◌, ℕ, zero, suc, ◌+◌, ◌-◌, ◌<◌, ◌≤◌, Bool, true, false, not, if◌then◌else◌, Option, Some, None, List, [], ◌∷◌, ◌++◌, length, take, fold, get_or, refl, sym, ◌∙◌, ap, subst, inl, inr, arith, length-append}
 use Rattle.std.specs.Prelude.{MatchBool}
 use Rattle.std.proofs.lemmas.Bool.{cases_lt}
 use Rattle.std.proofs.lemmas.List.{get_or_append_left, get_or_at, get_or-take, length-take-le}
@@ -7,15 +7,18 @@ use Rattle.std.proofs.lemmas.List.Sums.{fold-append}
 use Rattle.thy_base.specs.declared.mark.Mark.{Mark}
 use Rattle.thy_base.specs.Config.{IsRising}
 use Rattle.thy_isa.specs.Step.{State, Setting, step_of}
+use Rattle.thy_layout.specs.declared.engine_step.EngineStep.{EngineStep}
+use Rattle.thy_layout.specs.declared.engine_step.EngineStep.TheVariants.{Idle, Copied, PageBlock, StateBlock, TableBlock, Barrier, CommitWritten, Committed as EngineCommitted}
 use Rattle.thy_layout.specs.Decoded.{Decoded, Nothing as NothingLeft, Refused as RefusedImage, At}
 use Rattle.thy_view.specs.declared.did.Did.{Did}
 use Rattle.thy_view.specs.declared.did.Did.TheVariants.{Boot, Loaded, Restarted, Refused, Moved, Retired, Flushed, Merged, Sealed, Promoted, Engine, Committed, NvmDrained, DramDrained, Nothing}
-use Rattle.thy_view.specs.declared.view.Phase.TheVariants.{Boot as BootPhase, Run}
+use Rattle.thy_view.specs.declared.view.Phase.{Phase}
+use Rattle.thy_view.specs.declared.view.Phase.TheVariants.{Boot as BootPhase, Run, Halt}
 use Rattle.thy_view.specs.declared.view.View.{View}
 use Rattle.thy_view.specs.Booting.{found_first, view_of_image}
-use Rattle.thy_view.specs.CoreStep.{BootsTo, CoreStep}
+use Rattle.thy_view.specs.CoreStep.{BootsTo, CoreStep, EngineTo, MovesTo, phase_at}
 use Rattle.thy_view.specs.Kind.{KindOf}
-use Rattle.thy_view.specs.Origin.{Origin, at, by_turns, setting_of}
+use Rattle.thy_view.specs.Origin.{Origin, at, by_turns, runs_at, setting_of}
 use Rattle.thy_view.specs.Safe.{ceiling}
 use Rattle.thy_view.specs.Told.{told, AgreeBelow, count_of, reach}
 use Rattle.thy_view.specs.Views.{is_boot}
@@ -29,8 +32,8 @@ use Rattle.thy_run.proofs.RetellLaws.{late_of}
 use Rattle.thy_run.proofs.StepAlong.{core_of}
 use Rattle.thy_run.proofs.WorldLaws.{Coheres, Coheres-stepped, Good-ran}
 use Rattle.thy_observe.specs.declared.changes.Change.{Change}
-use Rattle.thy_observe.specs.Changes.{changes_in, changes_of}
-use Rattle.thy_observe.specs.Following.{FollowsRuns}
+use Rattle.thy_observe.specs.Changes.{as_list, change_of, changes_in, changes_of, lost_in}
+use Rattle.thy_observe.specs.Following.{FollowsRuns, KnowsBoots}
 use Rattle.thy_observe.specs.Replaying.{Executed, executed, executed_after, nothing_executed}
 use Rattle.thy_observe.proofs.ChangeLemmas.{changes-one}
 
@@ -42,9 +45,33 @@ record Tracks (start : ℕ) (turns : List ℕ) (v : View) (harts : List ℕ) : T
 
 -- ---- one cycle
 
+-- what a step makes of what is executed, and of the harts in it
+abbrev stepped_on : Setting → State → Executed → Did → Executed
+stepped_on g start e did = fold (executed_after g start) e (as_list (change_of did))
+
+-- what a cycle makes of what is executed
+executed-one : (g : Setting) (start : State) (earlier : List Taken) (t : Taken)
+    → executed g start (changes_of earlier ++ changes_in t)
+    ≡ fold (executed_after g start) (stepped_on g start (executed g start (changes_of earlier)) t.stepped.did) (lost_in t.fell)
+executed-one g start earlier t =
+    fold-append (executed_after g start) nothing_executed (changes_of earlier) (changes_in t)
+    ∙ fold-append (executed_after g start) (executed g start (changes_of earlier)) (as_list (change_of t.stepped.did)) (lost_in t.fell)
+
+abbrev harts_by : Setting → State → Executed → Did → List ℕ
+harts_by g start e did = (stepped_on g start e did).harts
+
+-- the cut that may fall after the step leaves the harts
+lost-harts : (g : Setting) (start : State) (e : Executed) (fell : Bool) → (fold (executed_after g start) e (lost_in fell)).harts ≡ e.harts
+lost-harts g start e true = refl
+lost-harts g start e false = refl
+
 -- what a cycle makes of the harts
-abbrev harts_by : Setting → State → List ℕ → List ℕ → Did → List ℕ
-harts_by g start pcs harts did = (fold (executed_after g start) (record { harts = harts; pcs = pcs }) (changes_in did)).harts
+harts-one : (g : Setting) (start : State) (earlier : List Taken) (t : Taken)
+    → (executed g start (changes_of (earlier ++ t ∷ []))).harts ≡ harts_by g start (executed g start (changes_of earlier)) t.stepped.did
+harts-one g start earlier t =
+    ap (λ (l : List Change). (executed g start l).harts) (sym (changes-one earlier t))
+    ∙ ap (λ (x : Executed). x.harts) (executed-one g start earlier t)
+    ∙ lost-harts g start (stepped_on g start (executed g start (changes_of earlier)) t.stepped.did) t.fell
 
 not_boot : (b : Bool) → b ≡ true → b ≡ false → ⊥
 not_boot b is off = let both : true ≡ false = sym is ∙ off in cc
@@ -103,44 +130,44 @@ module _ (start : ℕ) (turns : List ℕ) (v next : View) (harts : List ℕ) (h 
       }
 
 -- a step of the view, along the turns that are reported once it is done
-tracks_step : (p : Origin) (v next : View) (did : Did) (pcs harts : List ℕ) → CoreStep p v did next
-    → (v.phase ≡ Run → p.start.count ≤ reach v) → Tracks p.start.count p.turns v harts
-    → Tracks p.start.count p.turns next (harts_by (setting_of p) p.start pcs harts did)
-tracks_step p v next Loaded pcs harts s late h =
-    loads p.start.count p.turns v next harts h (reach-boot v s.phase ∙ ap count_of s.none) (stays-there p v next Loaded s refl)
-tracks_step p v next (Restarted epoch count) pcs harts s late h =
-    restores p.start.count p.turns v next harts h count (reach-boot v s.phase ∙ ap count_of s.done) (stays-there p v next (Restarted epoch count) s refl)
-tracks_step p v next (Retired hart) pcs harts s late h =
+tracks_step : (p : Origin) (v next : View) (did : Did) (e : Executed) → CoreStep p v did next
+    → (v.phase ≡ Run → p.start.count ≤ reach v) → Tracks p.start.count p.turns v e.harts
+    → Tracks p.start.count p.turns next (harts_by (setting_of p) p.start e did)
+tracks_step p v next Loaded e s late h =
+    loads p.start.count p.turns v next e.harts h (reach-boot v s.phase ∙ ap count_of s.none) (stays-there p v next Loaded s refl)
+tracks_step p v next (Restarted epoch count) e s late h =
+    restores p.start.count p.turns v next e.harts h count (reach-boot v s.phase ∙ ap count_of s.done) (stays-there p v next (Restarted epoch count) s refl)
+tracks_step p v next (Retired hart) e s late h =
     let phase : next.phase ≡ v.phase = ap (λ (w : View). w.phase) s.becomes in
     let here : reach v ≡ v.count = reach-count v (runs_behind v.phase s.phase) in
     let there : reach next ≡ v.count + 1 = reach-count next (runs_behind next.phase (phase ∙ s.phase)) ∙ ap (λ (w : View). w.count) s.becomes in
     let from : p.start.count ≤ reach v = late s.phase in
-    retires_one p.start.count p.turns v next harts h hart (ap is_boot s.phase) from (omega (arith, here, there))
+    retires_one p.start.count p.turns v next e.harts h hart (ap is_boot s.phase) from (omega (arith, here, there))
     (ap (λ (n : ℕ). get_or p.turns (n - p.start.count) 0) here ∙ sym (turn_late p v.count (omega (arith, from, here))) ∙ s.turn)
-tracks_step p v next Boot pcs harts s late h =
-    stays p.start.count p.turns v next harts h (stays-there p v next Boot s refl) (λ on. absurd (not_boot (is_boot next.phase) (boots_on v next s.0 s.1) on))
-tracks_step p v next (Refused bad) pcs harts s late h =
-    stays p.start.count p.turns v next harts h (stays-there p v next (Refused bad) s refl) (λ on. ap (λ (w : View). is_boot w.phase) (sym s.3) ∙ on)
-tracks_step p v next Moved pcs harts s late h =
-    stays p.start.count p.turns v next harts h (stays-there p v next Moved s refl) (λ on. ap is_boot s.0)
-tracks_step p v next Flushed pcs harts s late h =
-    stays p.start.count p.turns v next harts h (stays-there p v next Flushed s refl) (λ on. ap is_boot s.0)
-tracks_step p v next Merged pcs harts s late h =
-    stays p.start.count p.turns v next harts h (stays-there p v next Merged s refl) (λ on. ap is_boot s.0)
-tracks_step p v next Promoted pcs harts s late h =
-    stays p.start.count p.turns v next harts h (stays-there p v next Promoted s refl) (λ on. ap is_boot s.0)
-tracks_step p v next (Sealed epoch count cause) pcs harts s late h =
-    stays p.start.count p.turns v next harts h (stays-there p v next (Sealed epoch count cause) s refl) (λ on. ap is_boot s.phase)
-tracks_step p v next (Engine step) pcs harts s late h =
-    stays p.start.count p.turns v next harts h (stays-there p v next (Engine step) s refl) (λ on. ap is_boot s.0)
-tracks_step p v next (Committed epoch overlapped) pcs harts s late h =
-    stays p.start.count p.turns v next harts h (stays-there p v next (Committed epoch overlapped) s refl) (λ on. ap is_boot s.phase)
-tracks_step p v next NvmDrained pcs harts s late h =
-    stays p.start.count p.turns v next harts h (stays-there p v next NvmDrained s refl) (λ on. ap (λ (w : View). is_boot w.phase) (sym s) ∙ on)
-tracks_step p v next DramDrained pcs harts s late h =
-    stays p.start.count p.turns v next harts h (stays-there p v next DramDrained s refl) (λ on. ap (λ (w : View). is_boot w.phase) (sym s) ∙ on)
-tracks_step p v next Nothing pcs harts s late h =
-    stays p.start.count p.turns v next harts h (stays-there p v next Nothing s refl) (λ on. ap (λ (w : View). is_boot w.phase) (sym s.1) ∙ on)
+tracks_step p v next Boot e s late h =
+    stays p.start.count p.turns v next e.harts h (stays-there p v next Boot s refl) (λ on. absurd (not_boot (is_boot next.phase) (boots_on v next s.0 s.1) on))
+tracks_step p v next (Refused bad) e s late h =
+    stays p.start.count p.turns v next e.harts h (stays-there p v next (Refused bad) s refl) (λ on. ap (λ (w : View). is_boot w.phase) (sym s.3) ∙ on)
+tracks_step p v next Moved e s late h =
+    stays p.start.count p.turns v next e.harts h (stays-there p v next Moved s refl) (λ on. ap is_boot s.0)
+tracks_step p v next Flushed e s late h =
+    stays p.start.count p.turns v next e.harts h (stays-there p v next Flushed s refl) (λ on. ap is_boot s.0)
+tracks_step p v next Merged e s late h =
+    stays p.start.count p.turns v next e.harts h (stays-there p v next Merged s refl) (λ on. ap is_boot s.0)
+tracks_step p v next Promoted e s late h =
+    stays p.start.count p.turns v next e.harts h (stays-there p v next Promoted s refl) (λ on. ap is_boot s.0)
+tracks_step p v next (Sealed epoch count cause) e s late h =
+    stays p.start.count p.turns v next e.harts h (stays-there p v next (Sealed epoch count cause) s refl) (λ on. ap is_boot s.phase)
+tracks_step p v next (Engine step) e s late h =
+    stays p.start.count p.turns v next e.harts h (stays-there p v next (Engine step) s refl) (λ on. ap is_boot s.0)
+tracks_step p v next (Committed epoch overlapped) e s late h =
+    stays p.start.count p.turns v next e.harts h (stays-there p v next (Committed epoch overlapped) s refl) (λ on. ap is_boot s.phase)
+tracks_step p v next NvmDrained e s late h =
+    stays p.start.count p.turns v next e.harts h (stays-there p v next NvmDrained s refl) (λ on. ap (λ (w : View). is_boot w.phase) (sym s) ∙ on)
+tracks_step p v next DramDrained e s late h =
+    stays p.start.count p.turns v next e.harts h (stays-there p v next DramDrained s refl) (λ on. ap (λ (w : View). is_boot w.phase) (sym s) ∙ on)
+tracks_step p v next Nothing e s late h =
+    stays p.start.count p.turns v next e.harts h (stays-there p v next Nothing s refl) (λ on. ap (λ (w : View). is_boot w.phase) (sym s.1) ∙ on)
 
 -- ---- a run
 
@@ -148,6 +175,9 @@ image_boots : (count : ℕ) (d : Decoded) → is_boot (view_of_image count d).ph
 image_boots count NothingLeft = refl
 image_boots count (RefusedImage bad) = refl
 image_boots count (At epoch state) = refl
+
+found_boots : (o : Origin) (kept : Option Mark) → is_boot (view_of_image o.start.count (found_first o kept)).phase ≡ true
+found_boots o kept = image_boots o.start.count (found_first o kept)
 
 first_reach : (o : Origin) (kept : Option Mark) → reach (view_of_image o.start.count (found_first o kept)) - o.start.count ≡ 0
 first_reach o None = omega arith
@@ -167,15 +197,15 @@ module _ {M : Type 0} (K : KindOf M) (o : Origin) where
   abbrev TracksRun : World M → List ℕ → Type 0
   TracksRun w harts = Tracks o.start.count w.turns (seen K o w) harts
 
-  step_on : (w x : World M) (step : TakesStep K o w x) → Coheres K o w → (pcs harts : List ℕ) → TracksRun w harts
-      → TracksRun x (harts_by (setting_of o) o.start pcs harts step.r.did)
-  step_on w x step stands pcs harts h =
-      let moved : Tracks o.start.count x.turns (seen K o w) harts = record {
+  step_on : (w x : World M) (step : TakesStep K o w x) → Coheres K o w → (e : Executed) → TracksRun w e.harts
+      → TracksRun x (harts_by (setting_of o) o.start e step.r.did)
+  step_on w x step stands e h =
+      let moved : Tracks o.start.count x.turns (seen K o w) e.harts = record {
         agree = λ i less. h.agree i less ∙ sym (agree_from (line o w) x.turns (reach (seen K o w)) i step.agree less);
         long = h.long;
         there = h.there;
       } in
-      tracks_step (line o x) (seen K o w) (seen K o x) step.r.did pcs harts (core_of K o w x step)
+      tracks_step (line o x) (seen K o w) (seen K o x) step.r.did e (core_of K o w x step)
       (late_of (line o w) (seen K o w) (marks_of o w.events) stands.fits stands.leads) moved
 
   cut_on : (x next : World M) (pick : ℕ) → IsCutOff K o pick x next → reach (seen K o next) - o.start.count ≤ reach (seen K o x) - o.start.count
@@ -216,11 +246,9 @@ module _ {M : Type 0} (K : KindOf M) (o : Origin) where
       let stands = (Good-ran K o given k before least rising (listed_ran given k before earlier h)).stands in
       let e : Executed = executed (setting_of o) o.start (changes_of earlier) in
       let t : Taken = taken_in K o given.config.cuts given.config.tears before w c in
-      let after : harts_of o cycles ≡ harts_by (setting_of o) o.start e.pcs e.harts t.stepped.did =
-      ap (harts_of o) is
-      ∙ ap (λ (l : List Change). (executed (setting_of o) o.start l).harts) (sym (changes-one earlier t))
-      ∙ ap (λ (x : Executed). x.harts) (fold-append (executed_after (setting_of o) o.start) nothing_executed (changes_of earlier) (changes_in t.stepped.did)) in
-      let between = step_on before c.between c.steps stands e.pcs e.harts (tracks_run given k before earlier least rising h) in
+      let after : harts_of o cycles ≡ harts_by (setting_of o) o.start e t.stepped.did =
+      ap (harts_of o) is ∙ harts-one (setting_of o) o.start earlier t in
+      let between = step_on before c.between c.steps stands e (tracks_run given k before earlier least rising h) in
       let fits = (Coheres-stepped K o before least stands c.between c.steps).fits in
       let pick : ℕ = tear given.config.tears c.between.passed in
       subst (λ (l : List ℕ). TracksRun w l) (sym after)
@@ -228,7 +256,7 @@ module _ {M : Type 0} (K : KindOf M) (o : Origin) where
       (λ cut. subst (λ (v : View). reach v - o.start.count ≤ reach (seen K o c.between) - o.start.count) (sym cut.found)
       (cut_below (line o c.between) (seen K o c.between) (marks_of o c.between.events) (K.decode o.geometry ceiling w.device.image) fits
       (c.steps.is_step.safe w.device.image cut.cut.crash)))
-      (harts_by (setting_of o) o.start e.pcs e.harts t.stepped.did) between)
+      (harts_by (setting_of o) o.start e t.stepped.did) between)
 
 -- ---- the state
 
@@ -254,4 +282,92 @@ follows-runs {M = M} K o given k w cycles least rising listed up =
       state = ap (λ (n : ℕ). by_turns (setting_of o) harts n o.start) many
           ∙ turns-alike (setting_of o) harts w.turns (v.count - o.start.count) o.start (λ i less. h.agree i (omega (arith, less, count)))
           ∙ at-turns (line o w) v.count;
+      earlier = λ n less.
+          let long : length (take n harts) ≡ n = length-take-le n harts less in
+          let back : o.start.count + n - o.start.count ≡ n = omega arith in
+          ap (λ (m : ℕ). by_turns (setting_of o) (take n harts) m o.start) (long ∙ sym back)
+          ∙ turns-alike (setting_of o) (take n harts) w.turns (o.start.count + n - o.start.count) o.start
+          (λ i below. get_or-take n harts i 0 (omega (arith, below)) ∙ h.agree i (omega (arith, below, less, many, count)))
+          ∙ at-turns (line o w) (o.start.count + n);
     }
+
+-- ---- boots
+
+abbrev is_up : View → Bool
+is_up v = not (is_boot v.phase)
+
+-- a checkpoint's end is no boot
+up-at : (o : Origin) (count : ℕ) (b : Bool) → runs_at o count ≡ b → not (is_boot (phase_at o count)) ≡ true
+up-at o count true is = ap (λ (c : Bool). not (is_boot (if c then Run else Halt))) is
+up-at o count false is = ap (λ (c : Bool). not (is_boot (if c then Run else Halt))) is
+
+-- an engine that goes on leaves the phase
+engine-phase : (step : EngineStep) (v next : View) → EngineTo step v next → next.phase ≡ v.phase
+engine-phase Idle v next to = absurd to
+engine-phase CommitWritten v next to = ap (λ (w : View). w.phase) to.2
+engine-phase (EngineCommitted epoch) v next to = absurd to
+engine-phase Copied v next to = ap (λ (w : View). w.phase) to
+engine-phase PageBlock v next to = ap (λ (w : View). w.phase) to
+engine-phase StateBlock v next to = ap (λ (w : View). w.phase) to
+engine-phase TableBlock v next to = ap (λ (w : View). w.phase) to
+engine-phase Barrier v next to = ap (λ (w : View). w.phase) to
+
+-- a hart that moves on leaves it too
+moved-phase : (v next : View) → MovesTo v next → next.phase ≡ v.phase
+moved-phase v next to = elim to as (λ _. next.phase ≡ v.phase) [
+  | inl e ↦ ap (λ (w : View). w.phase) e
+  | inr e ↦ ap (λ (w : View). w.phase) e.4
+]
+
+keeps-up : (v next : View) (up : Bool) → next.phase ≡ v.phase → up ≡ is_up v → up ≡ is_up next
+keeps-up v next up phase h = h ∙ ap (λ (p : Phase). not (is_boot p)) (sym phase)
+
+-- what a step makes of it
+up_step : (p : Origin) (v next : View) (did : Did) (e : Executed) → CoreStep p v did next → e.up ≡ is_up v
+    → (stepped_on (setting_of p) p.start e did).up ≡ is_up next
+up_step p v next Loaded e s h = sym (ap is_up s.becomes)
+up_step p v next (Restarted epoch count) e s h = sym (ap is_up s.becomes ∙ up-at p count (runs_at p count) refl)
+up_step p v next (Retired hart) e s h = keeps-up v next e.up (ap (λ (w : View). w.phase) s.becomes) h
+up_step p v next Boot e s h =
+    h ∙ ap (λ (q : Phase). not (is_boot q)) s.0 ∙ sym (ap not (boots_on v next s.0 s.1))
+up_step p v next (Refused bad) e s h = keeps-up v next e.up (ap (λ (w : View). w.phase) s.3) h
+up_step p v next Moved e s h = keeps-up v next e.up (moved-phase v next s.3) h
+up_step p v next Flushed e s h = keeps-up v next e.up (ap (λ (w : View). w.phase) s.1) h
+up_step p v next Merged e s h = keeps-up v next e.up (ap (λ (w : View). w.phase) s.1) h
+up_step p v next Promoted e s h = keeps-up v next e.up (ap (λ (w : View). w.phase) s.1) h
+up_step p v next (Sealed epoch count cause) e s h = keeps-up v next e.up (ap (λ (w : View). w.phase) s.becomes) h
+up_step p v next (Engine step) e s h = keeps-up v next e.up (engine-phase step v next s.1) h
+up_step p v next (Committed epoch overlapped) e s h =
+    h ∙ ap (λ (q : Phase). not (is_boot q)) s.phase ∙ sym (ap is_up s.becomes ∙ up-at p s.count (runs_at p s.count) refl)
+up_step p v next NvmDrained e s h = keeps-up v next e.up (ap (λ (w : View). w.phase) s) h
+up_step p v next DramDrained e s h = keeps-up v next e.up (ap (λ (w : View). w.phase) s) h
+up_step p v next Nothing e s h = keeps-up v next e.up (ap (λ (w : View). w.phase) s.1) h
+
+module _ {M : Type 0} (K : KindOf M) (o : Origin) where
+  -- what the cut makes of it that may fall
+  up_cut : (x next : World M) (pick : ℕ) (b : Bool) → MatchBool b (IsCutOff K o pick x next) (next ≡ x)
+      → (e : Executed) → e.up ≡ is_up (seen K o x) → (fold (executed_after (setting_of o) o.start) e (lost_in b)).up ≡ is_up (seen K o next)
+  up_cut x next pick true cut e h =
+      let boots : is_boot (seen K o next).phase ≡ true =
+      ap (λ (v : View). is_boot v.phase) cut.found ∙ image_boots o.start.count (K.decode o.geometry ceiling next.device.image) in
+      sym (ap not boots)
+  up_cut x next pick false same e h = h ∙ ap (λ (y : World M). is_up (seen K o y)) (sym same)
+
+  knows_boots : (given : Given) (k : ℕ) (w : World M) (cycles : List Taken) → IsListed K o given k w cycles
+      → (executed (setting_of o) o.start (changes_of cycles)).up ≡ is_up (seen K o w)
+  knows_boots given zero w cycles (first, none) =
+      ap (λ (l : List Taken). (executed (setting_of o) o.start (changes_of l)).up) none
+      ∙ sym (ap is_up first.found ∙ ap not (found_boots o o.kept))
+  knows_boots given (suc k) w cycles (before, earlier, c, h, is) =
+      let e : Executed = executed (setting_of o) o.start (changes_of earlier) in
+      let t : Taken = taken_in K o given.config.cuts given.config.tears before w c in
+      let stepped : (stepped_on (setting_of o) o.start e t.stepped.did).up ≡ is_up (seen K o c.between) =
+      up_step (line o c.between) (seen K o before) (seen K o c.between) t.stepped.did e (core_of K o before c.between c.steps) (knows_boots given k before earlier h) in
+      ap (λ (l : List Taken). (executed (setting_of o) o.start (changes_of l)).up) is
+      ∙ ap (λ (l : List Change). (executed (setting_of o) o.start l).up) (sym (changes-one earlier t))
+      ∙ ap (λ (x : Executed). x.up) (executed-one (setting_of o) o.start earlier t)
+      ∙ up_cut c.between w (tear given.config.tears c.between.passed) (is_due K o given.config.cuts c.between) c.cut
+      (stepped_on (setting_of o) o.start e t.stepped.did) stepped
+
+pub knows-boots : {M : Type 0} (K : KindOf M) → KnowsBoots K
+knows-boots K o given k w cycles listed = knows_boots K o given k w cycles listed

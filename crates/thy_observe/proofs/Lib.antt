@@ -4,3 +4,4 @@ pub mod ShareLemmas
 pub mod ChangeLemmas
 pub mod ReplayLemmas
 pub mod FollowLemmas
+pub mod StateLemmas

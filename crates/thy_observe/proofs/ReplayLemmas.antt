@@ -1,10 +1,12 @@
 -- The plain machine along turns, and a table with one count more.
-use Rattle.std.proofs.Common.{◌≡◌, ℕ, zero, suc, ◌+◌, ◌<◌, ◌≤◌, ◌==◌, Bool, true, false, cond, List, [], ◌∷◌, ◌++◌, length, get_or, Option, Some, unwrap_or, BTreeMap, count_by, refl, sym, ◌∙◌, ap, subst, arith, length-append}
+use Rattle.std.proofs.Common.{◌≡◌, ℕ, zero, suc, ◌+◌, ◌-◌, ◌<◌, ◌≤◌, ◌==◌, nat_le, Bool, true, false, cond, if◌then◌else◌, List, [], ◌∷◌, ◌++◌, length, get_or, take, map, fold, Option, Some, None, unwrap_or, BTreeMap, Vec, Global, count_by, refl, sym, ◌∙◌, ap, subst, arith, length-append, append-nil}
 use Rattle.std.specs.BTreeMap.{is_at}
 use Rattle.std.specs.Map.{lookup}
 use Rattle.std.specs.Ordering.{nat_cmp}
-use Rattle.std.proofs.lemmas.Bool.{eqb-true}
+use Rattle.std.proofs.lemmas.Bool.{eqb-true, leb-true, leb-false}
 use Rattle.std.proofs.lemmas.List.{get_or_append_left, get_or_at}
+use Rattle.std.proofs.lemmas.List.Concat.{flat_map-append}
+use Rattle.std.proofs.lemmas.List.Sums.{fold-append}
 use Rattle.thy_base.specs.declared.config.Parameters.{Parameters}
 use Rattle.thy_base.specs.Bytes.{bytes_of}
 use Rattle.thy_isa.specs.OnBlocks.{setting_for}
@@ -12,9 +14,12 @@ use Rattle.thy_isa.specs.Step.{State, Setting, state_of, step_of}
 use Rattle.thy_layout.specs.declared.start.Start.{Start}
 use Rattle.thy_plain.specs.Machine.{Machine, in_state, stepped_by}
 use Rattle.thy_view.specs.Origin.{by_turns}
-use Rattle.thy_observe.specs.declared.changes.Change.TheVariants.{Retired}
+use Rattle.thy_run.specs.Watching.{Taken}
+use Rattle.thy_observe.specs.declared.changes.Change.{Change}
+use Rattle.thy_observe.specs.declared.changes.Change.TheVariants.{Retired, Lost}
 use Rattle.thy_observe.specs.declared.replay.Replay.{Replay}
-use Rattle.thy_observe.specs.Replaying.{AddsOne, AreCounts, Executed, IsPlainAt, IsReplay, count_in, executed_by, pc_in, state_after}
+use Rattle.thy_observe.specs.Changes.{changes_in, changes_of, dated, dated_from, dated_of}
+use Rattle.thy_observe.specs.Replaying.{AddsOne, AreCounts, Executed, IsPlainAt, IsReplay, count_in, executed, executed_after, executed_by, is_by, listed, listed_after, nothing_executed, pc_in, state_after}
 use Rattle.thy_observe.proofs.TallyLemmas.{count-one}
 
 -- ---- turns
@@ -116,9 +121,102 @@ plain-one p start harts hart m h =
 -- a replay one instruction further
 pub IsReplay-one : (p : Parameters) (start : Start) (e : Executed) (hart : ℕ) (r next : Replay)
     → next.harts.items ≡ r.harts.items ++ hart ∷ [] → next.plain ≡ stepped_by hart r.plain → AddsOne r.counts next.counts (pc_in hart r.plain.state)
-    → IsReplay p start e r → IsReplay p start (executed_by p start e (Retired hart)) next
-IsReplay-one p start e hart r next harts plain adds h = record {
+    → next.up ≡ r.up → IsReplay p start e r → IsReplay p start (executed_by p start e (Retired hart)) next
+IsReplay-one p start e hart r next harts plain adds up h = record {
   harts = harts ∙ ap (λ l. l ++ hart ∷ []) h.harts;
   plain = plain ∙ plain-one p start e.harts hart r.plain h.plain;
   counts = subst (λ (pc : ℕ). AreCounts next.counts.entries (e.pcs ++ pc ∷ [])) (ap (λ (m : Machine). pc_in hart m.state) h.plain) (adds e.pcs h.counts);
+  up = up ∙ h.up;
 }
+
+-- a replay whose machine lost its state
+pub IsReplay-lost : (p : Parameters) (start : Start) (e : Executed) (r next : Replay)
+    → next.harts ≡ r.harts → next.plain ≡ r.plain → next.counts ≡ r.counts → next.up ≡ false
+    → IsReplay p start e r → IsReplay p start (executed_by p start e Lost) next
+IsReplay-lost p start e r next harts plain counts up h = record {
+  harts = ap (λ (v : Vec ℕ Global). v.items) harts ∙ h.harts;
+  plain = plain ∙ h.plain;
+  counts = subst (λ (b : BTreeMap ℕ ℕ). AreCounts b.entries e.pcs) (sym counts) h.counts;
+  up = up;
+}
+
+-- ---- what is listed
+
+-- changes in the cycle of one number are executed all, if it is one of those asked for
+same-all : (g : Setting) (start : State) (most : Option ℕ) (cycle : ℕ) (changes : List Change) (e : Executed)
+    → ((change : Change) → is_by most (dated cycle change) ≡ true)
+    → fold (listed_after g start most) e (map (dated cycle) changes) ≡ fold (executed_after g start) e changes
+same-all g start most cycle [] e by = refl
+same-all g start most cycle (change ∷ changes) e by =
+    ap (λ (x : Executed). fold (listed_after g start most) x (map (dated cycle) changes))
+    (ap (λ (b : Bool). if b then executed_after g start e change else e) (by change))
+    ∙ same-all g start most cycle changes (executed_after g start e change) by
+
+-- none of them, if it is not
+same-none : (g : Setting) (start : State) (most : Option ℕ) (cycle : ℕ) (changes : List Change) (e : Executed)
+    → ((change : Change) → is_by most (dated cycle change) ≡ false)
+    → fold (listed_after g start most) e (map (dated cycle) changes) ≡ e
+same-none g start most cycle [] e by = refl
+same-none g start most cycle (change ∷ changes) e by =
+    ap (λ (x : Executed). fold (listed_after g start most) x (map (dated cycle) changes))
+    (ap (λ (b : Bool). if b then executed_after g start e change else e) (by change))
+    ∙ same-none g start most cycle changes e by
+
+changes-first : (t : Taken) (seen : List Taken) → changes_of (t ∷ seen) ≡ changes_in t ++ changes_of seen
+changes-first t seen = flat_map-append changes_in (t ∷ []) seen ∙ ap (λ (l : List Change). l ++ changes_of seen) (append-nil (changes_in t))
+
+take-none : (n : ℕ) → ◌≡◌ {A = List Taken} (take n []) []
+take-none zero = refl
+take-none (suc n) = refl
+
+-- what is listed of all cycles is executed as their changes are
+listed-all_from : (g : Setting) (start : State) (cycle : ℕ) (seen : List Taken) (e : Executed)
+    → fold (listed_after g start None) e (dated_from cycle seen) ≡ fold (executed_after g start) e (changes_of seen)
+listed-all_from g start cycle [] e = refl
+listed-all_from g start cycle (t ∷ seen) e =
+    fold-append (listed_after g start None) e (map (dated cycle) (changes_in t)) (dated_from (cycle + 1) seen)
+    ∙ ap (λ (x : Executed). fold (listed_after g start None) x (dated_from (cycle + 1) seen)) (same-all g start None cycle (changes_in t) e (λ change. refl))
+    ∙ listed-all_from g start (cycle + 1) seen (fold (executed_after g start) e (changes_in t))
+    ∙ sym (fold-append (executed_after g start) e (changes_in t) (changes_of seen))
+    ∙ ap (fold (executed_after g start) e) (sym (changes-first t seen))
+
+pub listed-all : (g : Setting) (start : State) (seen : List Taken) → listed g start None (dated_of seen) ≡ executed g start (changes_of seen)
+listed-all g start seen = listed-all_from g start 1 seen nothing_executed
+
+-- what is listed up to a cycle is executed as the changes of these cycles: first for one cycle, which is among them or not
+listed-by_one : (g : Setting) (start : State) (last before : ℕ) (t : Taken) (seen : List Taken) (e : Executed) (b : Bool) → nat_le (before + 1) last ≡ b
+    → ((x : Executed) → fold (listed_after g start (Some last)) x (dated_from (before + 1 + 1) seen)
+    ≡ fold (executed_after g start) x (changes_of (take (last - (before + 1)) seen)))
+    → fold (listed_after g start (Some last)) (fold (listed_after g start (Some last)) e (map (dated (before + 1)) (changes_in t))) (dated_from (before + 1 + 1) seen)
+    ≡ fold (executed_after g start) e (changes_of (take (last - before) (t ∷ seen)))
+listed-by_one g start last before t seen e true is rest =
+    let within : before + 1 ≤ last = leb-true (before + 1) last is in
+    let more : last - before ≡ suc (last - (before + 1)) = omega (arith, within) in
+    ap (λ (x : Executed). fold (listed_after g start (Some last)) x (dated_from (before + 1 + 1) seen))
+    (same-all g start (Some last) (before + 1) (changes_in t) e (λ change. is))
+    ∙ rest (fold (executed_after g start) e (changes_in t))
+    ∙ sym (fold-append (executed_after g start) e (changes_in t) (changes_of (take (last - (before + 1)) seen)))
+    ∙ ap (fold (executed_after g start) e) (sym (changes-first t (take (last - (before + 1)) seen)))
+    ∙ ap (λ (n : ℕ). fold (executed_after g start) e (changes_of (take n (t ∷ seen)))) (sym more)
+listed-by_one g start last before t seen e false is rest =
+    let beyond : last < before + 1 = leb-false (before + 1) last is in
+    let none : last - before ≡ 0 = omega (arith, beyond) in
+    let less : last - (before + 1) ≡ 0 = omega (arith, beyond) in
+    ap (λ (x : Executed). fold (listed_after g start (Some last)) x (dated_from (before + 1 + 1) seen))
+    (same-none g start (Some last) (before + 1) (changes_in t) e (λ change. is))
+    ∙ rest e
+    ∙ ap (λ (n : ℕ). fold (executed_after g start) e (changes_of (take n seen))) less
+    ∙ ap (λ (n : ℕ). fold (executed_after g start) e (changes_of (take n (t ∷ seen)))) (sym none)
+
+listed-by_from : (g : Setting) (start : State) (last before : ℕ) (seen : List Taken) (e : Executed)
+    → fold (listed_after g start (Some last)) e (dated_from (before + 1) seen) ≡ fold (executed_after g start) e (changes_of (take (last - before) seen))
+listed-by_from g start last before [] e = sym (ap (λ (l : List Taken). fold (executed_after g start) e (changes_of l)) (take-none (last - before)))
+listed-by_from g start last before (t ∷ seen) e =
+    fold-append (listed_after g start (Some last)) e (map (dated (before + 1)) (changes_in t)) (dated_from (before + 1 + 1) seen)
+    ∙ listed-by_one g start last before t seen e (nat_le (before + 1) last) refl (λ x. listed-by_from g start last (before + 1) seen x)
+
+pub listed-by : (g : Setting) (start : State) (last : ℕ) (seen : List Taken)
+    → listed g start (Some last) (dated_of seen) ≡ executed g start (changes_of (take last seen))
+listed-by g start last seen =
+    listed-by_from g start last 0 seen nothing_executed
+    ∙ ap (λ (n : ℕ). executed g start (changes_of (take n seen))) (let e : last - 0 ≡ last = omega arith in e)

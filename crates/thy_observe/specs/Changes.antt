@@ -1,5 +1,6 @@
--- What a run's cycles made of the program's state: the start is loaded, a checkpoint restored, or an instruction retired.
-use Rattle.std.specs.Prelude.{◌≡◌, List, [], ◌∷◌, ◌++◌, Option, Some, None, IfSome, Vec}
+-- What a run's cycles made of the program's state: the start is loaded, a checkpoint restored, an instruction retired, or the
+-- state is lost at a cut.
+use Rattle.std.specs.Prelude.{◌≡◌, ℕ, ◌+◌, Bool, true, false, List, [], ◌∷◌, ◌++◌, length, map, Option, Some, None, IfSome, Vec}
 use Rattle.std.specs.List.{flat_map}
 use Rattle.std.specs.declared.alloc.Global.{Global}
 use Rattle.thy_view.specs.declared.did.Did.{Did}
@@ -7,10 +8,11 @@ use Rattle.thy_view.specs.declared.did.Did.TheVariants as did
 use Rattle.thy_view.specs.declared.did.Stepped.{Stepped}
 use Rattle.thy_run.specs.Watching.{Taken}
 use Rattle.thy_observe.specs.declared.changes.Change.{Change}
-use Rattle.thy_observe.specs.declared.changes.Change.TheVariants.{Loaded, Restored, Retired}
+use Rattle.thy_observe.specs.declared.changes.Change.TheVariants.{Loaded, Restored, Retired, Lost}
 use Rattle.thy_observe.specs.declared.changes.Changes.{Changes}
+use Rattle.thy_observe.specs.declared.changes.Dated.{Dated}
 
--- what a cycle that did this made of it, if anything
+-- what a step that did this made of it, if anything
 abbrev pub change_of : Did → Option Change
 change_of did.Loaded = Some Loaded
 change_of (did.Restarted epoch count) = Some (Restored count)
@@ -21,20 +23,39 @@ abbrev pub as_list : Option Change → List Change
 as_list None = []
 as_list (Some change) = change ∷ []
 
-abbrev pub changes_in : Did → List Change
-changes_in d = as_list (change_of d)
+-- what the cut made of it that may fall after the step
+abbrev pub lost_in : Bool → List Change
+lost_in true = Lost ∷ []
+lost_in false = []
+
+abbrev pub changes_in : Taken → List Change
+changes_in t = as_list (change_of t.stepped.did) ++ lost_in t.fell
 
 -- what these cycles made of it, in order
 abbrev pub changes_of : List Taken → List Change
-changes_of seen = flat_map (λ (t : Taken). changes_in t.stepped.did) seen
+changes_of seen = flat_map changes_in seen
+
+-- ---- with the number of the cycle
+
+-- a change in the cycle of this number
+abbrev pub dated : ℕ → Change → Dated
+dated cycle change = record { cycle = cycle; change = change }
+
+-- what these cycles made of it, if the first has this number
+abbrev pub dated_from : ℕ → List Taken → List Dated
+dated_from cycle [] = []
+dated_from cycle (t ∷ seen) = map (dated cycle) (changes_in t) ++ dated_from (cycle + 1) seen
+
+abbrev pub dated_of : List Taken → List Dated
+dated_of seen = dated_from 1 seen
 
 -- these were added to a list, if there was one and still is
-abbrev pub Adds : Option (Vec Change Global) → Option (Vec Change Global) → List Change → Type 0
-Adds old new more = (before : List Change) → IfSome old (λ v. v.items ≡ before) → IfSome new (λ v. v.items ≡ before ++ more)
+abbrev pub Adds : Option (Vec Dated Global) → Option (Vec Dated Global) → List Dated → Type 0
+Adds old new more = (before : List Dated) → IfSome old (λ v. v.items ≡ before) → IfSome new (λ v. v.items ≡ before ++ more)
 
--- what is listed is what these cycles made of it
+-- the number of these cycles is counted, and what is listed is what they made of the state
 abbrev pub AreChanges : Changes → List Taken → Type 0
-AreChanges c seen = IfSome c.listed (λ v. v.items ≡ changes_of seen)
+AreChanges c seen = (c.cycles ≡ length seen) × IfSome c.listed (λ v. v.items ≡ dated_of seen)
 
 -- these cycles are listed, and the step of the next one is kept
 abbrev pub KeepsChanges : Changes → List Taken → Stepped → Type 0

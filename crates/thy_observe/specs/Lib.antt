@@ -6,4 +6,5 @@ pub mod Trapping
 pub mod Changes
 pub mod Watched
 pub mod Replaying
+pub mod States
 pub mod Following

@@ -1,7 +1,7 @@
 //! What a run's cycles made of the program's state.
-ghost use Rattle.std.specs.Prelude.{◌≡◌, [], ℕ, Bool, List, MatchOption};
-ghost use Rattle.thy_observe.specs.Changes.{change_of, changes_in, changes_of, AreChanges, Adds};
-ghost use Rattle.thy_run.specs.Watching.{Sees, Taken, taken};
+ghost use Rattle.std.specs.Prelude.{◌≡◌, [], ℕ, Bool, List, MatchOption, length, map};
+ghost use Rattle.thy_observe.specs.Changes.{change_of, as_list, lost_in, dated, dated_of, AreChanges, Adds};
+ghost use Rattle.thy_run.specs.Watching.{CanSee, Sees, Taken, taken};
 
 use std::alloc::Global;
 use thy_isa::MachState;
@@ -17,18 +17,29 @@ pub enum Change {
     Restored(u64),
     /// It is one instruction further, by this hart.
     Retired(u32),
+    /// It is lost, as power was cut.
+    Lost,
+}
+
+/// A change, with the number of the cycle that made it.
+#[derive(Clone, Copy, Debug, PartialEq, Eq, Drop)]
+pub struct Dated {
+    pub cycle: u64,
+    pub change: Change,
 }
 
 /// What the cycles of a run made of the program's state, if that is wanted.
 #[derive(Drop)]
 pub struct Changes {
+    /// How many cycles there were.
+    cycles: u64,
     /// In order; none if it is not wanted, or if memory ran out for one of them.
-    listed: Option<Vec<Change>>,
+    listed: Option<Vec<Dated>>,
     /// The step of the next cycle, if a cut falls after it.
     kept: Option<Stepped>,
 }
 
-/// What a cycle that did this made of the program's state, if anything.
+/// What a step that did this made of the program's state, if anything.
 fn change_of(did: Did) -> Option<Change>
     ensures { result ≡ change_of did }
 {
@@ -40,16 +51,23 @@ fn change_of(did: Did) -> Option<Change>
     }
 }
 
-/// The list with what a cycle made of the state; none if there is none, or if memory ran out.
-fn listed_with(listed: Option<Vec<Change>>, did: Did) -> Option<Vec<Change>>
-    ensures { Adds listed result (changes_in did) }
+/// What the cut made of it that fell after the step, if one did.
+fn lost_in(fell: bool) -> Option<Change>
+    ensures { as_list result ≡ lost_in fell }
+{
+    if fell { Some(Change::Lost) } else { None }
+}
+
+/// The list with a change in this cycle, if there is one; none if there is no list, or if memory ran out.
+fn listed_with(listed: Option<Vec<Dated>>, cycle: u64, change: Option<Change>) -> Option<Vec<Dated>>
+    ensures { Adds listed result (map (dated cycle) (as_list change)) }
 {
     let Some(mut listed) = listed else {
         return None;
     };
-    match change_of(did) {
+    match change {
         None => Some(listed),
-        Some(change) => match listed.push(change) {
+        Some(change) => match listed.push(Dated { cycle, change }) {
             Ok(()) => Some(listed),
             Err(_) => None,
         },
@@ -62,22 +80,33 @@ impl Changes {
         ensures { AreChanges result [] }
     {
         Changes {
+            cycles: 0,
             listed: if wanted { Some(Vec::new(alloc)) } else { None },
             kept: None,
         }
     }
 
-    /// Adds the cycle of a step, whatever events were made in it, and whether a cut fell after it or not.
-    fn add(&mut self, stepped: &Stepped)
-        ensures { (told : ℕ) (fell : Bool) → Sees AreChanges self.old self.new (taken stepped.now told fell) }
+    /// Adds the cycle of a step, whatever events were made in it, after which a cut fell or not.
+    fn add(&mut self, stepped: &Stepped, fell: bool, cycle: u64)
+        requires { CanSee AreChanges self.old cycle }
+        ensures { (told : ℕ) → Sees AreChanges self.old self.new (taken stepped.now told fell) }
     {
-        self.listed = listed_with(self.listed.take(), stepped.did);
+        let listed = listed_with(self.listed.take(), cycle, change_of(stepped.did));
+        self.listed = listed_with(listed, cycle, lost_in(fell));
+        self.cycles = cycle;
+    }
+
+    /// How many cycles there were.
+    pub fn cycles(&self) -> u64
+        ensures { (seen : List Taken) → AreChanges self.now seen → result ≡ length seen }
+    {
+        self.cycles
     }
 
     /// What the cycles made of the program's state, in order; none if it was not wanted, or if memory ran out.
-    pub fn listed(&self) -> Option<&[Change]>
+    pub fn listed(&self) -> Option<&[Dated]>
         ensures { (seen : List Taken) → AreChanges self.now seen
-            → MatchOption result (Unit {0}) (λ changes. changes.now ≡ changes_of seen) }
+            → MatchOption result (Unit {0}) (λ listed. listed.now ≡ dated_of seen) }
     {
         match &self.listed {
             Some(listed) => Some(listed.as_slice()),
@@ -95,17 +124,17 @@ impl Observer for Changes {
 
     ghost keeps = { KeepsChanges };
 
-    fn see(&mut self, stepped: &Stepped, _told: usize, _cycle: u64) {
-        self.add(stepped);
+    fn see(&mut self, stepped: &Stepped, _told: usize, cycle: u64) {
+        self.add(stepped, false, cycle);
     }
 
     fn keep(&mut self, stepped: &Stepped) {
         self.kept = Some(*stepped);
     }
 
-    fn see_cut(&mut self, _told: usize, _cycle: u64) {
+    fn see_cut(&mut self, _told: usize, cycle: u64) {
         if let Some(stepped) = self.kept {
-            self.add(&stepped);
+            self.add(&stepped, true, cycle);
         }
     }
 

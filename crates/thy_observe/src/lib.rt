@@ -1,11 +1,12 @@
 //! What a run comes to, cycle by cycle: an observer that counts each kind of cycle, and keeps for each cycle in which events
 //! were made its number and how many instructions were retired by then, and what each hart did. It is proved to be the tally
 //! of the cycles that it has seen (`Tally`). And where a program trapped, and at what (`trap_of`); and how often each program
-//! counter retired, which it finds by executing the run's instructions again on the plain machine (`count_pcs`).
+//! counter retired, and the state of the machine in a cycle or at a count, which it finds by executing the run's instructions
+//! again on the plain machine (`count_pcs`, `state_by`, `state_at`).
 //!
 //! Open specs/Kinds.antt first, then specs/EventCycles.antt, specs/Shares.antt and src/tally.rt; for the program counters
-//! specs/Replaying.antt and src/replay.rt. It stands on thy_base, thy_isa, thy_plain, thy_layout, thy_view and thy_run; on it
-//! stands the program observe.
+//! specs/Replaying.antt and src/replay.rt, and for the states specs/States.antt too. It stands on thy_base, thy_isa, thy_plain,
+//! thy_layout, thy_view and thy_run; on it stands the program observe.
 #![tactic(auto)]
 
 mod changes;
@@ -18,11 +19,11 @@ mod tally;
 mod trap;
 mod watch;
 
-pub use changes::{Change, Changes};
+pub use changes::{Change, Changes, Dated};
 pub use counting::{Calls, Counting, Counts};
 pub use event_cycle::{EventCycle, RetiredCount};
 pub use kinds::{Kind, kinds_add_up};
-pub use replay::{ReplayError, count_pcs, what_is_executed_follows_the_run};
+pub use replay::{ReplayError, count_pcs, state_at, state_by, what_is_executed_follows_the_run};
 pub use shares::{Share, Shares, shares_add_up};
 pub use tally::Tally;
 pub use trap::{Trap, trap_of};

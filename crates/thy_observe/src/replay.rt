@@ -1,11 +1,17 @@
-//! The instructions of a run, executed again on the plain machine: how often each program counter retired.
-ghost use Rattle.std.specs.Prelude.{◌≡◌, [], take, IfOk, OnOk};
+//! The instructions of a run, executed again on the plain machine: how often each program counter retired, and the state in a
+//! cycle, or at a count.
+ghost use Rattle.std.specs.Prelude.{◌≡◌, [], List, length, take, IfOk, OnOk, option_map, true};
+ghost use Rattle.thy_base.specs.Bytes.{bytes_of};
+ghost use Rattle.thy_isa.specs.OnBlocks.{setting_for};
 ghost use Rattle.thy_isa.specs.Step.{state_of};
 ghost use Rattle.thy_plain.specs.Machine.{stepped_by};
-ghost use Rattle.thy_observe.specs.Following.{FollowsRuns};
-ghost use Rattle.thy_observe.specs.Replaying.{AddsOne, AreCounts, Executed, IsPlainAt, IsReplay, executed_by, executed_of, nothing_executed, pc_in};
+ghost use Rattle.thy_run.specs.Watching.{Taken};
+ghost use Rattle.thy_observe.specs.Changes.{changes_of, dated_of};
+ghost use Rattle.thy_observe.specs.Following.{FollowsRuns, KnowsBoots};
+ghost use Rattle.thy_observe.specs.Replaying.{AddsOne, AreCounts, Executed, IsPlainAt, IsReplay, executed_by, executed_of, is_by, listed_by, listed_of, nothing_executed, pc_in};
+ghost use Rattle.thy_observe.specs.States.{state_at, state_by};
 
-use crate::changes::Change;
+use crate::changes::{Change, Dated};
 use std::alloc::{AllocError, Global};
 use std::collections::BTreeMap;
 use thy_base::Geometry;
@@ -41,6 +47,8 @@ struct Replay {
     harts: Vec<u32>,
     /// How often each program counter retired, lost instructions included.
     counts: BTreeMap<u64, u64>,
+    /// The machine is up: in a boot it has no state.
+    up: bool,
 }
 
 /// The program counter of a hart.
@@ -128,10 +136,11 @@ fn begin(alloc: Global, start: &Start, geometry: &Geometry) -> Result<Replay, Re
         plain: at_start(alloc, start, geometry)?,
         harts: Vec::new(alloc),
         counts: BTreeMap::new(alloc),
+        up: false,
     })
 }
 
-/// The replay where it has the harts that retired these instructions, and the same counts.
+/// The replay where the machine is up again, with the harts that retired these instructions, and the same counts.
 fn back_to(
     alloc: Global,
     start: &Start,
@@ -140,7 +149,7 @@ fn back_to(
     most: u64,
 ) -> Result<Replay, ReplayError>
     ensures { IfOk result (λ next. (e : Executed) → IsReplay geometry.now start.now e replay
-        → IsReplay geometry.now start.now (record e { harts = take most e.harts }) next) }
+        → IsReplay geometry.now start.now (record e { harts = take most e.harts; up = true }) next) }
 {
     let Replay { harts, counts, .. } = replay;
     let harts = Vec::from_slice(alloc, first_of(harts.as_slice(), most))?;
@@ -149,6 +158,7 @@ fn back_to(
         plain,
         harts,
         counts,
+        up: true,
     })
 }
 
@@ -178,7 +188,58 @@ fn follow(
             step(&mut next.plain, hart)?;
             Ok(next)
         }
+        Change::Lost => {
+            let mut next = replay;
+            next.up = false;
+            Ok(next)
+        }
     }
+}
+
+/// Whether a change is in the cycles up to this one, or in any.
+fn is_by(most: Option<u64>, dated: Dated) -> bool
+    ensures { result ≡ is_by most dated }
+{
+    match most {
+        Some(cycle) => dated.cycle <= cycle,
+        None => true,
+    }
+}
+
+/// The replay after one more change of a list, if that is in the cycles up to this one, or in any.
+fn follow_listed(
+    alloc: Global,
+    start: &Start,
+    geometry: &Geometry,
+    most: Option<u64>,
+    replay: Replay,
+    dated: Dated,
+) -> Result<Replay, ReplayError>
+    ensures { IfOk result (λ next. (e : Executed) → IsReplay geometry.now start.now e replay
+        → IsReplay geometry.now start.now (listed_by geometry.now start.now most e dated) next) }
+{
+    if is_by(most, dated) {
+        follow(alloc, start, geometry, replay, dated.change)
+    } else {
+        Ok(replay)
+    }
+}
+
+/// A run of this start whose cycles made these changes, executed again up to this cycle, or to its end.
+fn execute(
+    alloc: Global,
+    start: &Start,
+    geometry: &Geometry,
+    most: Option<u64>,
+    listed: &[Dated],
+) -> Result<Replay, ReplayError>
+    ensures { IfOk result (IsReplay geometry.now start.now (listed_of geometry.now start.now most listed.now)) }
+{
+    let mut replay = begin(alloc, start, geometry)?;
+    for dated in listed {
+        replay = follow_listed(alloc, start, geometry, most, replay, *dated)?;
+    }
+    Ok(replay)
 }
 
 /// How often each program counter retired in a run of this start whose cycles made these changes: an instruction that was
@@ -190,19 +251,81 @@ pub fn count_pcs(
     alloc: Global,
     start: &Start,
     geometry: &Geometry,
-    changes: &[Change],
+    listed: &[Dated],
 ) -> Result<BTreeMap<u64, u64>, ReplayError>
-    ensures { IfOk result (λ counts. AreCounts counts.entries (executed_of geometry.now start.now changes.now).pcs) }
+    ensures { IfOk result (λ counts. (seen : List Taken) → listed.now ≡ dated_of seen
+        → AreCounts counts.entries (executed_of geometry.now start.now (changes_of seen)).pcs) }
 {
-    let mut replay = begin(alloc, start, geometry)?;
-    for change in changes {
-        replay = follow(alloc, start, geometry, replay, *change)?;
+    match execute(alloc, start, geometry, None, listed) {
+        Ok(replay) => Ok(replay.counts),
+        Err(error) => Err(error),
     }
-    Ok(replay.counts)
+}
+
+/// The plain machine in the state after this cycle of a run of this start, which had that number of cycles, and whose cycles made
+/// these changes; none if the run had fewer cycles, or was in a boot then.
+///
+/// # Errors
+/// Memory ran out, or there are more instructions than can be counted.
+pub fn state_by(
+    alloc: Global,
+    start: &Start,
+    geometry: &Geometry,
+    listed: &[Dated],
+    cycles: u64,
+    cycle: u64,
+) -> Result<Option<Plain>, ReplayError>
+    ensures { IfOk result (λ state. (seen : List Taken) → listed.now ≡ dated_of seen → cycles ≡ length seen
+        → option_map (λ m. m.state) state
+        ≡ state_by (setting_for geometry.now (bytes_of start.now.input)) (state_of start.now.state) cycle seen) }
+{
+    if cycles < cycle {
+        return Ok(None);
+    }
+    let replay = execute(alloc, start, geometry, Some(cycle), listed)?;
+    if replay.up {
+        Ok(Some(replay.plain))
+    } else {
+        Ok(None)
+    }
+}
+
+/// The plain machine in the state at this count of a run of this start whose cycles made these changes; none if the start is
+/// further, or if the run kept fewer instructions.
+///
+/// # Errors
+/// Memory ran out, or there are more instructions than can be counted.
+pub fn state_at(
+    alloc: Global,
+    start: &Start,
+    geometry: &Geometry,
+    listed: &[Dated],
+    count: u64,
+) -> Result<Option<Plain>, ReplayError>
+    ensures { IfOk result (λ state. (seen : List Taken) → listed.now ≡ dated_of seen
+        → option_map (λ m. m.state) state
+        ≡ state_at (setting_for geometry.now (bytes_of start.now.input)) (state_of start.now.state) count seen) }
+{
+    if count < start.state.count {
+        return Ok(None);
+    }
+    let most = count - start.state.count;
+    let replay = execute(alloc, start, geometry, None, listed)?;
+    if (replay.harts.len() as u64) < most {
+        return Ok(None);
+    }
+    let plain = at_turns(
+        alloc,
+        start,
+        geometry,
+        first_of(replay.harts.as_slice(), most),
+    )?;
+    Ok(Some(plain))
 }
 
 /// What is executed again is what the run has executed: after each cycle outside a boot, its state is the plain machine's at the
-/// machine's count, by the run's own turns.
+/// machine's count, by the run's own turns. And it is known when the machine is in a boot.
 pub fn what_is_executed_follows_the_run<M: Computer>()
-    ensures { FollowsRuns M.kind }
+    ensures states { FollowsRuns M.kind }
+    ensures boots { KnowsBoots M.kind }
 {}

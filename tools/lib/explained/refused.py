@@ -3,6 +3,7 @@
 import re
 
 from lib import program, repository
+from lib.call import TORN
 from lib.explained import files
 
 
@@ -20,7 +21,7 @@ def help_with_usage(call):
             return "make has no run to observe"
         if call.command == "compare":
             return "compare has three runs: observe run, once with each --scheme"
-        if call.torn and call.number("gap") > 0:
+        if TORN in call.wishes and call.number("gap") > 0:
             return "with --torn no line may wander: --gap has to be 0"
         if call.out in (*call.read(), call.written()):
             return f"OUT is to be another name than {call.out}, which the call reads or writes itself"

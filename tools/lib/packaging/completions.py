@@ -1,7 +1,7 @@
 """Completion in bash and zsh, made from the table of the program's options and from the help page."""
 
 from lib import program
-from lib.call import OBSERVED_RUNS, PCS, TORN
+from lib.call import NUMBERED, OBSERVED_RUNS, WISHES
 from lib.packaging import pages
 
 # The first words that the script has beside the commands.
@@ -65,7 +65,7 @@ _thynvm_value() {
 }
 
 _thynvm() {
-    local words current=${COMP_WORDS[COMP_CWORD]} at=0 before='@FIRST@ @COMMANDS@' command options operands word option=''
+    local words current=${COMP_WORDS[COMP_CWORD]} at=0 before='@FIRST@ @COMMANDS@' command options operands word option='' wishes
     COMPREPLY=()
     _thynvm_words
     if [[ $current == = ]]; then
@@ -77,14 +77,13 @@ _thynvm() {
     fi
     if [[ ${words[at]} == observe ]]; then
         [[ ${#words[@]} != $((at + 1)) ]] || { _thynvm_files; return; }
-        at=$((at + 2)) before='@PCS@ @TORN@ @OBSERVED@'
-        if [[ ${words[at]} == @PCS@ ]]; then
-            at=$((at + 1)) before='@TORN@ @RUNS@'
-            [[ ${words[at]} != @TORN@ ]] || at=$((at + 1)) before='@RUNS@'
-        elif [[ ${words[at]} == @TORN@ ]]; then
-            at=$((at + 1)) before='@PCS@ @RUNS@'
-            [[ ${words[at]} != @PCS@ ]] || at=$((at + 1)) before='@RUNS@'
-        fi
+        at=$((at + 2)) wishes=' @WISHES@ ' before='@WISHES@ @OBSERVED@'
+        while [[ ${#words[@]} -gt $at && $wishes == *" ${words[at]} "* ]]; do
+            wishes=${wishes/ ${words[at]} / } before="${wishes/ ${words[at]} / }@RUNS@"
+            [[ ${words[at]} != @NUMBERED@ ]] || at=$((at + 1))
+            at=$((at + 1))
+        done
+        [[ ${#words[@]} -ge $at ]] || return
     fi
     [[ ${#words[@]} -gt $at ]] || { _thynvm_choose "$before"; return; }
     command=${words[at]}
@@ -136,8 +135,8 @@ def bash():
         "FIRST": " ".join(FIRST),
         "COMMANDS": " ".join(program.OPERANDS),
         "OBSERVED": " ".join(OBSERVED),
-        "PCS": PCS,
-        "TORN": TORN,
+        "WISHES": " ".join(WISHES),
+        "NUMBERED": f"@({'|'.join(NUMBERED)})",
         "RUNS": " ".join(OBSERVED_RUNS),
         "NUMBERS": " | ".join(NUMBERS),
         "OPTIONS": options,
@@ -150,7 +149,8 @@ ZSH = r"""#compdef thynvm
 
 _thynvm() {
     local at=2
-    local -a first commands observed runs asked
+    local word
+    local -a first commands observed runs wishes
     first=(
 @FIRST@    )
     commands=(
@@ -159,18 +159,20 @@ _thynvm() {
 @OBSERVED@    )
     runs=(
 @RUNS@    )
+    wishes=(
+@WISHES@    )
     if ((CURRENT > 2)) && [[ $words[2] == --quiet ]]; then
         at=3 first=("${(@M)first:#observe:*}")
     fi
     if ((CURRENT > at)) && [[ $words[at] == observe ]]; then
         ((CURRENT == at + 1)) && { _files; return }
-        at=$((at + 2)) first=() commands=("${(@)observed}")
-        asked=('@PCS@:says how often each program counter retired' '@TORN@:lets a cut tear blocks')
-        while ((CURRENT > at && $#asked)) && [[ $words[at] == (@PCS@|@TORN@) && -n ${(M)asked:#$words[at]:*} ]]; do
-            asked=("${(@)asked:#$words[at]:*}") commands=("${(@)runs}")
-            ((at += 1))
+        at=$((at + 2)) first=("${(@)wishes}") commands=("${(@)observed}") word=$words[at]
+        while ((CURRENT > at)) && [[ -n ${(M)first:#$word:*} ]]; do
+            first=("${(@)first:#$word:*}") commands=("${(@)runs}")
+            [[ $word == @NUMBERED@ ]] && at=$((at + 1))
+            at=$((at + 1)) word=$words[at]
         done
-        first=("${(@)asked}")
+        ((CURRENT >= at)) || return
     fi
     if ((CURRENT == at)); then
         first+=("${(@)commands}")
@@ -222,8 +224,8 @@ def zsh(page):
         "COMMANDS": described(program.OPERANDS, said),
         "OBSERVED": described(OBSERVED, said),
         "RUNS": described(OBSERVED_RUNS, said),
-        "PCS": PCS,
-        "TORN": TORN,
+        "WISHES": described(WISHES, {**said, **WISHES}),
+        "NUMBERED": f"({'|'.join(NUMBERED)})",
         "OPTIONS": options,
     }
     return filled_in(ZSH, parts)

@@ -1,0 +1,10 @@
+use Rattle.std.proofs.Common.{string_bytes}
+use Rattle.observe.proofs.SectionLemmas.{all-parts, some-weaker}
+use Rattle.observe.proofs.sections.with_all.Goals as goal
+
+pub returns : goal.returns
+returns c =
+    some-weaker c.with_state_at.result _ _ (λ whole h.
+    all-parts c.args.options c.args.begun.now c.args.changes.now (string_bytes c.args.text) (string_bytes c.in_ok-text.text)
+    (string_bytes c.in_ok-text-2.text) (string_bytes whole) c.in_ok-text.ensures c.in_ok-text-2.ensures h)
+    c.with_state_at.ensures
