@@ -9,7 +9,7 @@ same-job : (a source : ProgramSource) (own job : Job) → ◌≡◌ {A = Option 
 same-job a source own job runs =
     let same : ◌≡◌ {A = ProgramSource × Job} (a, own) (source, job) = cc in ap (λ (p : ProgramSource × Job). p.1) same
 
--- its numbers are in range if the order's are
+-- the numbers of a job are in range if its order's are
 pub job-in-range : (order : Order) (source : ProgramSource) (job : Job) → run_in order ≡ Some (source, job) → IsInRange order → range_fault job.config ≡ None
 job-in-range (run name own) source job runs fits = subst (λ (j : Job). range_fault j.config ≡ None) (same-job (file name) source own job runs) fits
 job-in-range (resume name own) source job runs fits = subst (λ (j : Job). range_fault j.config ≡ None) (same-job (image name) source own job runs) fits

@@ -81,7 +81,7 @@ pub lent-order : (r : Option (Bor Command)) (command : Option Command) → optio
 lent-order None command same = ap (option_map order_of) same
 lent-order (Some c) command same = ap (option_map order_of) same
 
--- its numbers are in range
+-- the numbers of a command that is lent are in range
 pub lent-in-range : (words : List (List ℕ)) (r : Option (Bor Command)) (command : Option Command) → option_map (λ (c : Bor Command). c.now) r ≡ command
     → IfSome command (IsAskedFor words) → IfSome r (λ (c : Bor Command). IsInRange (order_of c.now))
 lent-in-range words None command same asked = tt

@@ -32,7 +32,7 @@ pub record IsProgramOf (order : Order) (shelf : Stock) : Type 0 where
   pub runs : run_in order ≡ Some (source, job)
   pub program : IsProgram source job shelf
 
--- what its run is about, but for the turns
+-- the origin of an order's run, without its turns
 abbrev pub origin_of : {order : Order} {shelf : Stock} → IsProgramOf order shelf → Origin
 origin_of p = origin_for p.job p.program.begins p.program.input
 

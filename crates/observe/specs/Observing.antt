@@ -33,7 +33,7 @@ is_name out (Some name) = bytes_eq name out
 abbrev pub is_of_job : List ℕ → Job → Bool
 is_of_job out job = is_name out job.input || is_name out job.save
 
--- OUT is the name of a file that an order reads or puts; or there is nothing to observe
+-- OUT is the name of a file that an order reads or stores; or there is nothing to observe
 abbrev pub is_taken : List ℕ → Order → Bool
 is_taken out (run file job) = bytes_eq file out || is_of_job out job
 is_taken out (resume image job) = bytes_eq image out || is_of_job out job
@@ -117,7 +117,7 @@ pub record HasTextOf (options : Options) (words : List (List ℕ)) (shelf : Stoc
   pub exact : (seen : List Taken) → IsWatch w seen
       → IsText options (setting_of (origin_of program)) (origin_of program).start seen section
 
--- nothing is added if nothing is asked for
+-- the text has no further section if none is asked for
 abbrev pub AreSections : Options → List (List ℕ) → Stock → Watch → List ℕ → Type 0
 AreSections options words shelf w section =
     MatchBool (asks options) (HasTextOf options words shelf w section) (section ≡ [])
@@ -136,7 +136,7 @@ pub record PutsOut {N : Type 0} (options : Options) (out : List ℕ) (words : Li
   pub terminal : after.terminal ≡ middle.terminal
   pub is_told : IsTold out why middle.report after.report a.status status
 
--- nothing was put
+-- no text was put under OUT
 abbrev pub LeavesOut : {N : Type 0} → Around N → Around N → Answer → ℕ → Type 0
 LeavesOut middle after a status = (after ≡ middle) × (status ≡ a.status)
 

@@ -96,7 +96,7 @@ pub record HasText (options : Options) (begun : Option Begun) (changes : Changes
   pub is_begun : begun ≡ Some b
   pub goes_on : GoesOn (IsTextOf options b changes) head whole
 
--- a text with what is asked for after its head
+-- the text of a call: its head, and after it a section if the options ask for one
 abbrev pub HasSections : Options → Option Begun → Changes → List ℕ → List ℕ → Type 0
 HasSections options begun changes head whole =
     MatchBool (asks options) (HasText options begun changes head whole) (whole ≡ head)

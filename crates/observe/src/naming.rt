@@ -25,7 +25,7 @@ fn is_of_job(out: &str, job: &Job) -> bool
     is_name(out, &job.input) || is_name(out, &job.save)
 }
 
-/// Whether OUT is the name of a file that a command reads or puts, or the command has nothing to observe.
+/// Whether OUT is the name of a file that a command reads or stores, or the command has nothing to observe.
 fn is_taken(out: &str, command: &Command) -> bool
     ensures { result ≡ is_taken out.now (order_of command.now) }
 {

@@ -33,7 +33,7 @@ struct Given {
     status: u8,
     /// Something is under OUT.
     is_put: bool,
-    /// What is there.
+    /// The bytes under OUT.
     put: Vec<u8>,
     report: Vec<u8>,
 }
@@ -103,7 +103,8 @@ fn called_over(
     })
 }
 
-/// The same over a device that does not fail, and a shelf with the program of this word, whose calls of these numbers fail.
+/// Calls with OUT and the arguments over a device that does not fail, and a shelf with the program of this word, whose
+/// calls of these numbers fail.
 fn called(
     alloc: Global,
     out: &str,
@@ -551,7 +552,7 @@ fn shelf_of_five(alloc: Global, words: [u32; 5]) -> Result<MemShelf, AllocError>
     Ok(MemShelf::new(files, Vec::new(alloc)))
 }
 
-/// Whether a text has a line that begins so.
+/// Whether a line of a text begins with these bytes.
 fn has_start(text: &[u8], start: &str) -> bool {
     match std::str::from_utf8(text) {
         Ok(text) => text.lines().any(|it| it.starts_with(start)),

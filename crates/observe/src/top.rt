@@ -80,7 +80,7 @@ fn beginning<'a, H: Shelf>(
     }
 }
 
-/// Puts text under OUT, and returns why it was not put, if so.
+/// Stores text under OUT, and returns why it was not put there, if it was not.
 fn put_text<H: Shelf>(alloc: Global, out: &str, text: &str, shelf: &mut H) -> Option<PutError>
     ensures { IsPut out.now text.now (H.stock shelf.old) (H.stock shelf.new) result }
 {
@@ -110,9 +110,9 @@ fn tell<R: Sink>(out: &str, why: Option<PutError>, status: u8, report: &mut R) -
     }
 }
 
-/// Does what thynvm does for the arguments, the program's name first, and puts under OUT what the run came to: a line for
-/// each event, the trap, and the totals; and then what the options ask for. Of the plain machine it writes the trap. If torn
-/// blocks are asked for, the caller has made the NVM so.
+/// Does what thynvm does for the arguments, the program's name first, and stores under OUT what the run came to: a line
+/// for each event, the trap, and the totals; and then what the options ask for. Of the plain machine it writes the
+/// trap. If torn blocks are asked for, the caller has made the NVM so.
 ///
 /// Returns the exit status: 2 if OUT is a name that the arguments have, or if the plain machine is to run with an option, or
 /// wear is to be levelled over torn blocks. It is 3 if OUT could not be put, and else thynvm's, also if the program that is

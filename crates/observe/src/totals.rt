@@ -95,7 +95,7 @@ fn add_epochs(alloc: Global, text: &mut String, events: &Events) -> Result<(), A
     Ok(())
 }
 
-/// Adds the lines of the totals: with two harts, also those of each of them.
+/// Adds the lines of the totals: with two harts, also the totals of each.
 ///
 /// # Errors
 /// Memory ran out.

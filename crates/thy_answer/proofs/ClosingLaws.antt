@@ -8,19 +8,19 @@ use Rattle.thy_run.specs.declared.ending.Ending.{Ending}
 use Rattle.thy_answer.specs.Answering.{Closes, ClosesAs, ClosesRun, SumsUp, run_line, run_status, stop_summed}
 use Rattle.thy_answer.specs.Sources.{file}
 
--- a line after nothing that was due
+-- a closing line after a summary without bytes
 closes_next : (line : List ℕ) (old mid new : Stream) → Took old mid [] → Closes line mid new → Closes line old new
 closes_next line old mid new took (false, sent) = (false, Took-append old mid new [] line took sent)
 closes_next line old mid new took (true, sent) = (true, (TookPart-append old mid new [] line took sent.0, sent.1))
 
--- with no summary due the report does not fail in it, and the closing line comes next
+-- without a summary the report does not fail in it, and the closing line comes next
 closes_alone : (deaf failed : Bool) (line : List ℕ) (old mid new : Stream) → SumsUp deaf failed [] old mid
     → ClosesRun (deaf || failed) line mid new → (failed ≡ false) × ClosesRun deaf line old new
 closes_alone false false line old mid new sums closes = (refl, closes_next line old mid new sums closes)
 closes_alone false true line old mid new sums closes = absurd (sums.1 refl)
 closes_alone true failed line old mid new sums closes = (sums.0, closes ∙ sums.1)
 
--- so it is for a program file
+-- the run of a program file ends its report with the closing line alone
 pub unsummed : (name : List ℕ) (limit : ℕ) (save : Option (List ℕ)) (e : Ending) (why : Option PutError) (status : ℕ) (old new : Stream)
     → ClosesAs (file name) limit save e why status old new
     → ClosesRun e.report_failed (run_line limit save e.stop why) old new × (status ≡ run_status e.stop why)

@@ -27,7 +27,7 @@ unfolding start_regs second_regs
 begun_under scheme job (Ok contents) = refl
 begun_under scheme job (Err e) = refl
 
--- so what is read is the program of the job under each
+-- what is read is the program of the job under each scheme
 abbrev pub program_under : (scheme : SchemeName) (name : List ℕ) (job : Job) (stock : Stock) → IsProgram (file name) job stock → IsProgram (file name) (under scheme job) stock
 program_under scheme name job stock p = record {
   bytes = p.bytes;

@@ -16,7 +16,7 @@ pub saves_none : (due : Bool) (c : Config) (stood left : Device) (old new : Stoc
 saves_none true c stood left old new why h = h
 saves_none false c stood left old new why h = h
 
--- so a run by a scheme leaves the shelf alone
+-- a run by a scheme leaves the shelf alone
 pub shelf_stays : {N : Type 0} (c : Choice) (d : NvmOf N) (x : Subject) (first : Bool) (scheme : SchemeName) (old new : Stage N) (events : List Event)
     → RunsBy c d x first scheme old new events → new.around.shelf ≡ old.around.shelf
 shelf_stays c d x first scheme old new events r =

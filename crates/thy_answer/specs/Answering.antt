@@ -44,7 +44,7 @@ use Rattle.thy_answer.specs.Levelling.{IsFoundAs, IsLeftAs, IsHandedBack, PutsTh
 use Rattle.thy_answer.specs.Saving.{IsPut, SavesUnder, saves}
 use Rattle.thy_answer.specs.Sources.{ProgramSource, file, made, Beginning, IsProgram, origin_for, ProgramDue}
 
--- what a call finds outside, or leaves there
+-- the shelf, the device, the terminal and the report of a call, at one moment
 pub record Outside : Type 0 where
   pub shelf : Stock
   pub device : Device
@@ -55,11 +55,11 @@ abbrev pub outside : Stock → Device → Stream → Stream → Outside
 outside shelf device terminal report =
     record { shelf = shelf; device = device; terminal = terminal; report = report }
 
--- the same with another device
+-- what a call finds outside, with another device
 abbrev pub with_device : Device → Outside → Outside
 with_device n o = record o { device = n }
 
--- what is seen of devices of a type: what they hold, and how many writes they have taken since they were fitted
+-- what devices of a type mean: what they hold, and how many writes they have taken since they were fitted
 pub record NvmOf (N : Type 0) : Type 0 where
   pub device : N → Device
   pub writes : N → ℕ
@@ -78,7 +78,7 @@ abbrev pub around : {N : Type 0} → Stock → N → Stream → Stream → Aroun
 around shelf nvm terminal report =
     record { shelf = shelf; nvm = nvm; terminal = terminal; report = report }
 
--- the same with what the device holds
+-- what a call finds outside, with what its device holds in place of the device
 abbrev pub outside_of : {N : Type 0} → NvmOf N → Around N → Outside
 outside_of d w = outside w.shelf (d.device w.nvm) w.terminal w.report
 
@@ -125,7 +125,7 @@ told_of (DeviceRefusal (FitMemory e)) = (9, closing_of closing.Memory)
 told_of (DeviceRefusal FitFailed) = (7, closing_of closing.Nvm)
 told_of (MemoryRefusal e) = (9, closing_of closing.Memory)
 
--- a line was written, or the report failed in it
+-- the report took this line, or failed in it
 abbrev pub Closes : List ℕ → Stream → Stream → Type 0
 Closes line old new = (failed : Bool) × Sent failed old new line
 
@@ -159,7 +159,7 @@ stop_status Nvm = 7
 stop_status Limit = 8
 stop_status Memory = 9
 
--- and if the run was to be saved and was not, that of the put
+-- the exit status of a run: the put's if it was to be saved and was not, else the stop's
 abbrev pub run_status : Stop → Option PutError → ℕ
 run_status stop None = stop_status stop
 run_status stop (Some PutFailed) = 3
@@ -177,7 +177,7 @@ stop_line limit stop = []
 abbrev pub put_line : List ℕ → List ℕ
 put_line name = joined (codes "put " ∷ name ∷ codes " failed" ∷ line_feed ∷ [])
 
--- and if the run was to be saved and was not, that of the put
+-- the closing line of a run: the put's if it was to be saved and was not, else the stop's
 abbrev pub run_line : ℕ → Option (List ℕ) → Stop → Option PutError → List ℕ
 run_line limit (Some name) stop (Some PutFailed) = put_line name
 run_line limit save stop (Some (PutMemory e)) = closing_of closing.Memory
@@ -203,8 +203,8 @@ abbrev pub stop_summed : (failed : Bool) → Stop → Stop
 stop_summed true stop = Report
 stop_summed false stop = stop
 
--- The end of a run's report, and its status: the summary if one is due, and then the closing line of the stop. If the run
--- was to be saved and was not, that is the line of the put, and the status too.
+-- The end of a run's report, and its status: the summary if the run has one, and then the closing line of the stop. If
+-- the run was to be saved and was not, line and status are the put's.
 pub record ClosesAs (source : ProgramSource) (limit : ℕ) (save : Option (List ℕ)) (ending : Ending) (why : Option PutError) (status : ℕ)
     (old new : Stream) : Type 0 where
   -- whether the report failed in the summary, and what it has with it
@@ -218,7 +218,7 @@ pub record ClosesAs (source : ProgramSource) (limit : ℕ) (save : Option (List 
 abbrev pub IsSafeFor : {M : Type 0} → KindOf M → Origin → List Event → Device → Type 0
 IsSafeFor K o events n = IsSafe K.decode o (marks_of o events) n
 
--- A run with this origin, which was given this, was begun and stopped. Its cycles are those of a run, and keep what is
+-- A run with this origin, which was given this, was begun and stopped. Its cycles make a run, which keeps what is
 -- promised of every run; the sinks took what its events say. It was saved if that was asked for, and its device is safe
 -- also then.
 pub record IsRunFrom {M : Type 0} (K : KindOf M) (o : Origin) (given : Given) (source : ProgramSource) (job : Job) (before after : Outside)
@@ -244,8 +244,8 @@ IsRunOf K source job before program after a =
     IsRunFrom K (origin_for job program.begins program.input) (given_for K job program.begins before.device)
     source job before after a
 
--- The same over the device that the run sees, which with a gap is not the one that was handed in. `IsHandedBack` says
--- which images the latter has.
+-- A run of a program was begun and stopped over the device that the run sees, which with a gap is not the one that was
+-- handed in. `IsHandedBack` says which images the latter has.
 pub record IsRunOverOf {M : Type 0} (K : KindOf M) (source : ProgramSource) (job : Job) (before : Outside)
     (program : IsProgram source job before.shelf) (after : Outside) (a : Answer) : Type 0 where
   pub found : Device
@@ -306,7 +306,7 @@ made_line n name None = made_of n (length (made_file n))
 made_line n name (Some PutFailed) = put_line name
 made_line n name (Some (PutMemory e)) = closing_of closing.Memory
 
--- and the status: if the file was put, whether the report failed in its line
+-- the status of a put: if the file was put, whether the report failed in its line
 abbrev pub made_status : (failed : Bool) → Option PutError → ℕ
 made_status false None = 0
 made_status true None = 6
@@ -337,7 +337,7 @@ RunAnswered K source job before after a =
     ((r : Refusal) × RunDue source job before after r × IsRefused r before after a)
     ⊎ IsRunOver K source job before after a
 
--- what it is on the plain machine, which leaves the device alone
+-- the result of a job on the plain machine, which leaves the device alone
 abbrev pub PlainAnswered : List ℕ → Job → Outside → Outside → Answer → Type 0
 PlainAnswered name job before after a =
     (after.device ≡ before.device)

@@ -35,7 +35,7 @@ abbrev pub terminal_for : (first : Bool) → Stream → Stream
 terminal_for true terminal = terminal
 terminal_for false terminal = nowhere
 
--- and none to the report
+-- what a run of a comparison sees: only the first one writes to the terminal, and none to the report
 abbrev pub seen_by : {N : Type 0} → NvmOf N → (first : Bool) → Around N → Outside
 seen_by d first w = outside w.shelf (d.device w.nvm) (terminal_for first w.terminal) nowhere
 
@@ -73,7 +73,7 @@ first_stage w = record { around = w; status = 0; cycles = 0 }
 abbrev pub scheme_lines : SchemeName → List Event → (writes : ℕ) → List ℕ
 scheme_lines scheme events writes = if has_ended events then scheme_line (scheme_name scheme) events writes else []
 
--- the status of a run: if it has ended and the report refused its line, that of a report that failed
+-- the status of a run: if it has ended and the report refused its line, the status of a report that failed
 abbrev pub line_status : (ended failed : Bool) → ℕ → ℕ
 line_status true true status = 6
 line_status true false status = status
@@ -102,7 +102,7 @@ NotBegun d old new (MemoryRefusal e) = new ≡ old
 NotBegun d old new (DeviceRefusal e) = HasFailedToFit e (d.device old) (d.device new)
 NotBegun d old new r = ⊥
 
--- so the comparison ends with it, and has no event of it
+-- a comparison ends before a run that was not begun, and has no event of it
 pub record EndsBefore {N : Type 0} (d : NvmOf N) (old new : Stage N) (events : List Event) : Type 0 where
   pub why : Refusal
   pub due : NotBegun d old.around.nvm new.around.nvm why

@@ -30,7 +30,8 @@ pub record IsFoundAs (gap : ℕ) (handed seen : Device) : Type 0 where
   pub fits : seen.fits ≡ handed.fits
   pub whole : seen.whole ≡ handed.whole
 
--- what it sees afterwards: the device itself; with a gap, what the images of the device are to it, and all else the same
+-- what the run sees of the device afterwards: the device itself; with a gap, what the images of the device are to it,
+-- and all else the same
 pub record IsLeftAs (gap : ℕ) (handed seen : Device) : Type 0 where
   pub direct : gap ≡ 0 → seen ≡ handed
   pub image : through gap handed.image ≡ seen.image
@@ -55,8 +56,8 @@ abbrev pub images_of_save : Option (List ℕ) → Bool → ℕ
 images_of_save (Some name) true = 1
 images_of_save name due = 0
 
--- It is safe for the marks of the events; each restart is what the cut before it left; and each cut left one image, and a
--- save's one more.
+-- The device that is handed back is safe for the marks of the events; each restart is what the cut before it left; and
+-- each cut left one image, and a save's one more.
 pub record IsHandedBack {M : Type 0} (K : KindOf M) (o : Origin) (gap cycles : ℕ) (events : List Event) (saved : ℕ)
     (n : Device) : Type 0 where
   pub safe_at_return : IsSafe (read_through gap K.decode) o (marks_of o events) n

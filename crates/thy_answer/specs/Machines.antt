@@ -4,7 +4,7 @@ use Rattle.thy_base.specs.declared.config.SchemeName.{SchemeName}
 use Rattle.thy_base.specs.declared.config.SchemeName.TheVariants.{Thynvm, Journal, Shadow}
 use Rattle.thy_view.specs.Kind.{KindOf}
 
--- machines of some type, with what is seen of them
+-- machines of some type, with what they mean and what they show
 pub record Machines : Type 1 where
   pub Machine : Type 0
   pub kind : KindOf Machine
@@ -13,7 +13,7 @@ pub record Machines : Type 1 where
 abbrev pub Choice : Type 1
 Choice = SchemeName → Machines
 
--- each scheme has its own
+-- a choice of machines by the scheme: each scheme has its own
 abbrev pub by_scheme : {A B C : Type 0} → (thynvm : KindOf A) → (journal : KindOf B) → (shadow : KindOf C) → Choice
 by_scheme {A = A} thynvm journal shadow Thynvm = record { Machine = A; kind = thynvm }
 by_scheme {B = B} thynvm journal shadow Journal = record { Machine = B; kind = journal }

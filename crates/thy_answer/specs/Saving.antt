@@ -21,7 +21,7 @@ saves Memory = false
 saves Terminal = false
 saves Report = false
 
--- the pick of a save's cut: the entry of the tears after those of all listed cuts
+-- the pick of a save's cut: the entry of the tears after the entries of all listed cuts
 abbrev pub save_pick : Config → ℕ
 save_pick c = tear c.tears (length c.cuts)
 

@@ -32,22 +32,22 @@ use Rattle.thy_answer.specs.declared.refusal.Refusal.TheVariants.{Words, Fetch, 
 abbrev pub most_bytes : ℕ
 most_bytes = 67108864
 
--- and a saved image
+-- the most bytes that a saved image may have
 abbrev pub most_image_bytes : ℕ
 most_image_bytes = 536870912
 
--- bytes, at most so many, that may be those under a name: they are, if the shelf's contents are known
+-- bytes, at most this many, that may be under a name: they are, if the shelf's contents are known
 abbrev pub IsHeld : ℕ → Stock → List ℕ → List ℕ → Type 0
 IsHeld most stock name bytes =
     (length bytes ≤ most) × ((files : Files) → stock.held ≡ Some files → files name ≡ Some bytes)
 
--- more bytes than these
+-- a file has more bytes than this number
 abbrev pub IsTooLong : ℕ → Option (List ℕ) → Type 0
 IsTooLong most there = (bytes : List ℕ) × (there ≡ Some bytes) × (most < length bytes)
 
--- Why a file of at most so many bytes could not be read: the shelf failed under its name, or its contents are known and it
--- has nothing there, or too much. If an allocation failed the shelf may have failed under it. A failed fetch of the input cannot
--- be reported under the program's name.
+-- Why a file of at most `most` bytes could not be read: the shelf failed under its name, or its contents are known and
+-- it has nothing there, or too much. If an allocation failed the shelf may have failed under it. A failed fetch of the
+-- input cannot be reported under the program's name.
 abbrev pub FetchDue : ℕ → Stock → Stock → List ℕ → FetchError → Type 0
 FetchDue most old new name FetchFailed = HasFailedUnder name old new
 FetchDue most old new name NotThere =
@@ -116,7 +116,7 @@ pub record AreFetched (source : ProgramSource) (job : Job) (stock : Stock) (byte
   pub input_bytes : All IsByte input
   pub is_input : IsInput stock job.input input
 
--- and a run can begin with them
+-- bytes of a source, and an input, were read, and a run can begin with them
 pub record IsProgram (source : ProgramSource) (job : Job) (stock : Stock) : Type 0 where
   pub bytes : List ℕ
   pub input : List ℕ
@@ -137,7 +137,7 @@ SourceDue (file own) old new name e = (name ≡ own) × FetchDue most_bytes old 
 SourceDue (image own) old new name e = (name ≡ own) × FetchDue most_image_bytes old new name e
 SourceDue (made n) old new name e = ⊥
 
--- and those of an input, once the source's were: it is the input's
+-- why the bytes of an input could not be read under a name, once the source's were: the name is the input's
 abbrev pub InputDue : ProgramSource → Job → Stock → Stock → List ℕ → FetchError → Type 0
 InputDue source job old new name e =
     (job.input ≡ Some name) × ((bytes : List ℕ) × AreBytesOf source old bytes) × FetchDue most_bytes old new name e

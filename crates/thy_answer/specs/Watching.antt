@@ -14,7 +14,7 @@ use Rattle.thy_answer.specs.Machines.{Choice}
 use Rattle.thy_answer.specs.Orders.{Answered, OrderAnswered}
 use Rattle.thy_answer.specs.Sources.{ProgramSource, file, made, image, IsProgram, origin_for}
 
--- it has seen the cycles of this run
+-- an observer has seen the cycles of this run
 abbrev pub HasSeenFrom : {M O : Type 0} (K : KindOf M) (has_seen : O → List Taken → Type 0) (o : Origin) (given : Given)
     (source : ProgramSource) (job : Job) (before after : Outside) (a : Answer)
     → IsRunFrom K o given source job before after a → O → Type 0
@@ -28,28 +28,28 @@ HasSeenOf K has_seen source job before program after a r observer =
     HasSeenFrom K has_seen (origin_for job program.begins program.input) (given_for K job program.begins before.device)
     source job before after a r observer
 
--- the same of a run over the device that it sees
+-- an observer has seen the cycles of a run over the device that the run sees
 abbrev pub HasSeenOver : {M O : Type 0} (K : KindOf M) (has_seen : O → List Taken → Type 0) (source : ProgramSource) (job : Job)
     (before : Outside) (program : IsProgram source job before.shelf) (after : Outside) (a : Answer)
     → IsRunOverOf K source job before program after a → O → Type 0
 HasSeenOver K has_seen source job before program after a r observer =
     HasSeenOf K has_seen source job (with_device r.found before) program (with_device r.left after) a r.seen observer
 
--- it has seen the cycles of the run that a job was answered by; if there was none, nothing
+-- an observer has seen the cycles of the run that a job was answered by; if there was none, nothing
 abbrev pub HasSeenAnswer : {M O : Type 0} (K : KindOf M) (has_seen : O → List Taken → Type 0) (source : ProgramSource) (job : Job)
     (before after : Outside) (a : Answer) → RunAnswered K source job before after a → O → Type 0
 HasSeenAnswer K has_seen source job before after a (inl refused) observer = has_seen observer []
 HasSeenAnswer K has_seen source job before after a (inr r) observer =
     HasSeenOver K has_seen source job before r.program after a r.ran observer
 
--- it has seen the state in which the plain machine stopped; if there was no program, nothing
+-- an observer has seen the state in which the plain machine stopped; if there was no program, nothing
 abbrev pub HasSeenPlain : {O : Type 0} (has_seen : O → List Taken → Type 0) (has_seen_last : O → ℕ → State → Type 0)
     (name : List ℕ) (job : Job) (before after : Outside) (a : Answer) → PlainAnswered name job before after a → O → Type 0
 HasSeenPlain has_seen has_seen_last name job before after a (device, inl refused) observer = has_seen observer []
 HasSeenPlain has_seen has_seen_last name job before after a (device, inr ran) observer =
     has_seen_last observer job.config.base ran.last
 
--- what it has seen of an order; the runs of a comparison it is not shown
+-- what an observer has seen of an order; the runs of a comparison it is not shown
 abbrev pub HasSeenOrder : {N O : Type 0} (c : Choice) (d : NvmOf N) (has_seen : O → List Taken → Type 0)
     (has_seen_last : O → ℕ → State → Type 0) (order : Order) (before after : Around N) (a : Answer)
     → OrderAnswered c d order before after a → O → Type 0
@@ -64,7 +64,7 @@ HasSeenOrder c d has_seen has_seen_last (plain name job) before after a h observ
     HasSeenPlain has_seen has_seen_last name job (outside_of d before) (outside_of d after) a h observer
 HasSeenOrder c d has_seen has_seen_last (make n name) before after a h observer = has_seen observer []
 
--- and of a call
+-- what an observer has seen of a call
 abbrev pub HasSeenCall : {N O : Type 0} (c : Choice) (d : NvmOf N) (has_seen : O → List Taken → Type 0)
     (has_seen_last : O → ℕ → State → Type 0) (words : List (List ℕ)) (before after : Around N) (a : Answer)
     → Answered c d words before after a → O → Type 0

@@ -58,7 +58,7 @@ pub fn status_of(stop: Stop) -> u8
     }
 }
 
-/// The status of a run that stopped; if it was to be saved and was not, that of the put.
+/// The status of a run that stopped; if it was to be saved and was not, the status of the put.
 pub fn run_status(stop: Stop, why: Option<PutError>) -> u8
     ensures { result ≡ run_status stop why }
 {

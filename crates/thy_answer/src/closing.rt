@@ -49,8 +49,8 @@ pub fn close_stop<R: Sink>(stop: Stop, limit: u64, report: &mut R) -> bool
     }
 }
 
-/// Writes the closing line of a run, unless the report failed before. If the run was to be saved and was not, it is that of
-/// the put.
+/// Writes the closing line of a run, unless the report failed before. If the run was to be saved and was not, it is the
+/// put's line.
 fn close_run<R: Sink>(
     failed: bool,
     save: Option<&str>,
@@ -85,8 +85,8 @@ fn stop_summed(failed: bool, stop: Stop) -> Stop
     if failed { Stop::Report } else { stop }
 }
 
-/// What came of a run that has stopped. A report that has not failed gets the summary, if one is due, and then the closing
-/// line. If it refuses the summary, the status says so; if it refuses the closing line, the status stays.
+/// What came of a run that has stopped. A report that has not failed gets the summary, if the run has one, and then the
+/// closing line. If it refuses the summary, the status says so; if it refuses the closing line, the status stays.
 pub fn stopped<R: Sink>(
     source: ProgramSource,
     save: Option<&str>,

@@ -17,7 +17,7 @@ use thy_words::WordsError;
 /// Why a call begins no run.
 #[derive(Clone, Copy)]
 pub enum Refusal<'a> {
-    /// Because of the arguments.
+    /// The arguments are refused.
     Words(WordsError),
     /// The file of this name could not be read.
     Fetch(&'a str, FetchError),

@@ -7,12 +7,12 @@ use Rattle.std.specs.Option.{option_or, option_map}
 use Rattle.std.proofs.lemmas.List.FromFn.{length-range_with_len, get_or-range_with_len}
 use Rattle.std.specs.List.{range_with_len}
 
--- or false changes nothing
+-- a test or false is the test
 pub or_false : (b : Bool) → (b || false) ≡ b
 or_false true = refl
 or_false false = refl
 
--- not the one, and the other
+-- the negation of a test that fails holds together with a test that holds
 pub not_and : (a b : Bool) → a ≡ false → b ≡ true → (not a && b) ≡ true
 not_and true b e f = cc
 not_and false b e f = f
@@ -35,7 +35,7 @@ pub none_of_two : {A : Type 0} (a b : Option A) → option_or a b ≡ None → (
 none_of_two None b h = (refl, h)
 none_of_two (Some x) b h = absurd (cc)
 
--- and if three are none, so is the first of them that is there
+-- if three options are none, the first of them that is there is none
 pub all_none : {A : Type 0} (a b c : Option A) → a ≡ None → b ≡ None → c ≡ None → option_or a (option_or b c) ≡ None
 all_none a b c h k l = ap (λ x. option_or x (option_or b c)) h ∙ ap (λ x. option_or x c) k ∙ l
 

@@ -13,7 +13,7 @@ unfolding block_bytes
 length-block_bytes b =
     length-take-le 64 (b.0 ++ replicate 64 0) (omega (arith, length-append b.0 (replicate 64 0), length-replicate {A = ℕ} 64 0))
 
--- of a block that has 64 bytes they are its own
+-- the 64 bytes of a block that has 64 bytes are its own
 pub block_bytes-long : (b : Block) → length b.0 ≡ 64 → block_bytes b ≡ b.0
 unfolding block_bytes
 block_bytes-long b h = take_at b.0 (replicate 64 0) 64 h

@@ -33,7 +33,7 @@ Crash-no_more {old} {new} {g} no_more same c = record {
   each = λ x. no_more x (block_at g x) (c.each x);
 }
 
--- and the same if a call failed
+-- what a cut may leave after a failed call, it might have left before
 pub Crash-failed : {old new : Device} {g : List Block} → HasFailed old new → IsFramed old new → Crash new g → Crash old g
 Crash-failed failed framed c = Crash-no_more failed.no_more framed.blocks c
 
@@ -50,6 +50,6 @@ pub Crash-of_empty : (n : Device) (g : List Block) → n.queue ≡ [] → Crash 
 Crash-of_empty n g e c = same_images g n.image c.same_length
     (λ x. block_at-settled n g x (ap (λ q. queued_for q x) e) c)
 
--- after a cut nothing else can be left
+-- nothing else can be left of a device whose power was cut already
 pub Crash-cut_to : (n : Device) (pick : ℕ) (g h : List Block) → Crash (cut_to n pick g) h → h ≡ g
 Crash-cut_to n pick g h c = Crash-of_empty (cut_to n pick g) h refl c

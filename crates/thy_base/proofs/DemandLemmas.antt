@@ -3,7 +3,7 @@ use Rattle.std.proofs.Common.{◌≡◌, true, false, cond, List, [], ◌∷◌,
 use Rattle.std.specs.Option.{option_or}
 use Rattle.thy_base.specs.Demands.{Demand, first_fault}
 
--- it is the first list's, or else the second's
+-- the first fault of two lists of demands is the first list's, or else the second's
 pub first_fault-append : {Fault : Type 0} (xs ys : List (Demand Fault)) → first_fault (xs ++ ys) ≡ option_or (first_fault xs) (first_fault ys)
 first_fault-append [] ys = refl
 first_fault-append (x ∷ xs) ys =

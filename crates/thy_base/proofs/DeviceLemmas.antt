@@ -93,7 +93,7 @@ MayLeave-more old new x y b same among left = record {
 pub MayLeave-only : (n : Device) (x : ℕ) (c b : Block) → ((d : Block) → Contains (possible n x) d → d ≡ c) → MayLeave n x b → b ≡ c
 MayLeave-only n x c b only left = IsMadeOf-only (possible n x) c b only left.words
 
--- such as the image's, if none is queued
+-- if no write is queued for a place, a cut can leave only the image's block there
 pub MayLeave-landed : (n : Device) (x : ℕ) (b : Block) → queued_for n.queue x ≡ [] → MayLeave n x b → b ≡ block_at n.image x
 MayLeave-landed n x b none left =
     MayLeave-only n x (block_at n.image x) b
@@ -184,7 +184,7 @@ HoldsNoMore-but_block old new at block same each x b left =
     ])
     left
 
--- at every other place nothing more may be left
+-- at every place other than the write's nothing more may be left
 pub MayLeave-elsewhere : (n : Device) (at : ℕ) (block : Block) (x : ℕ) (b : Block) → x ≢ at → MayLeave (with_queued at block n) x b → MayLeave n x b
 MayLeave-elsewhere n at block x b other left =
     MayLeave-more n (with_queued at block n) x x b refl
@@ -232,7 +232,7 @@ newest-written_to n at block =
     newest_over-append (block_at (applied n.image (take (surplus n) n.queue)) at) (drop (surplus n) n.queue) (write_of at block ∷ []) at
     ∙ ap (λ t. if t then block else newest (landed (surplus n) n) at) (eq-eqb at at refl)
 
--- and at every other place
+-- a read after a write, at every other place
 pub newest-written_to_other : (n : Device) (at : ℕ) (block : Block) (x : ℕ) → x ≢ at → x < length n.image
     → newest (written_to n at block) x ≡ newest n x
 newest-written_to_other n at block x other l =

@@ -33,16 +33,16 @@ pub number_at-take : (n m : ℕ) (bytes : List ℕ) (i : ℕ) → i + n ≤ m �
 unfolding number_at
 number_at-take n m bytes i l = from_take n m bytes i l
 
--- and so do those from byte j on
+-- the bytes from byte j on hold the same number, j places earlier
 pub number_at-drop : (n j : ℕ) (bytes : List ℕ) (i : ℕ) → number_at n (drop j bytes) i ≡ number_at n bytes (j + i)
 unfolding number_at
 number_at-drop n j bytes i = from_drop n j bytes i
 
--- the same at the start of what is left, as code reads it
+-- the number at byte j is read at the start of the bytes from j on, as code reads it
 pub little_from-drop : (n j : ℕ) (bytes : List ℕ) → little_from 0 n (drop j bytes) ≡ number_at n bytes j
 unfolding number_at
 little_from-drop n j bytes = let start : j + 0 ≡ j = omega arith in from_drop n j bytes 0 ∙ ap (λ k. little_from k n bytes) start
 
--- and within a part of it
+-- the number at byte j is read at the start of a part of the bytes that begins at j, if the part is long enough
 pub little_from-part : (n m j : ℕ) (bytes : List ℕ) → n ≤ m → little_from 0 n (take m (drop j bytes)) ≡ number_at n bytes j
 little_from-part n m j bytes l = from_take n m (drop j bytes) 0 (omega arith) ∙ little_from-drop n j bytes

@@ -7,7 +7,7 @@ use Rattle.thy_base.specs.Device.{Device, IsFramed, lent_by}
 pub same_loan : (name other : GName) (old new : Device) → IsFramed (lent_by name old) (lent_by other new) → other ≡ name
 same_loan name other old new f = ap (λ (names : List GName). slice_index_or names 0 name) f.lent
 
--- and the device within has kept as much
+-- if a loan is framed, the device within it is framed too
 pub framed_within : (name other : GName) (old new : Device) → IsFramed (lent_by name old) (lent_by other new) → IsFramed old new
 framed_within name other old new f = record {
   blocks = f.blocks;

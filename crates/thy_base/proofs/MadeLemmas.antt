@@ -35,7 +35,7 @@ same_words a b same =
 pub IsMadeOf-one : (blocks : List Block) (b : Block) → Contains blocks b → IsMadeOf blocks b
 IsMadeOf-one blocks b inside = λ i. (b, inside, refl)
 
--- of more blocks more is made
+-- what is made of some blocks is made of more blocks
 pub IsMadeOf-more : (few many : List Block) (b : Block) → ((c : Block) → Contains few c → Contains many c) → IsMadeOf few b → IsMadeOf many b
 IsMadeOf-more few many b among made = λ i. let of = made i in (of.0, among of.0 of.1, of.2)
 
@@ -46,7 +46,7 @@ IsMadeOf-made few many b each made = λ i.
     let within = each of.0 of.1 i in
     (within.0, within.1, of.2 ∙ within.2)
 
--- of one block alone only that block is made
+-- what is made of one block alone is that block
 pub IsMadeOf-only : (blocks : List Block) (c b : Block) → ((d : Block) → Contains blocks d → d ≡ c) → IsMadeOf blocks b → b ≡ c
 IsMadeOf-only blocks c b only made = same_words b c (λ i. let of = made i in of.2 ∙ ap (λ (d : Block). word_bytes d i) (only of.0 of.1))
 
@@ -60,7 +60,7 @@ IsOneWordApart-same a = record { word = 0; others = λ i ne. refl }
 
 module _ (blocks : List Block) (a c b : Block) (apart : IsOneWordApart a c) (each : (d : Block) → Contains blocks d → (d ≡ a) ⊎ (d ≡ c))
     (made : IsMadeOf blocks b) where
-  -- but for that word, what is made of them is as the first of them
+  -- a block that is made of two blocks equals the first of them except in the word in which they differ
   other_word : (i : ℕ) → i ≢ apart.word → word_bytes b i ≡ word_bytes a i
   other_word i ne =
       let of = made i in

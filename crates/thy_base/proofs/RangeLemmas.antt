@@ -11,7 +11,7 @@ use Rattle.thy_base.specs.Config.{fault_in, fault_of, rising_rows, cut_rows, end
 use Rattle.thy_base.specs.Geometry.{IsInRange, parameters_of, memory_rows, table_rows, queue_rows, threshold_rows, number_rows, limit_row, harts_row}
 use Rattle.thy_base.specs.Ranges.{Range, row, above, below, at_most, between, multiple_of, divisor_of, both, IsIn, is_in, Row, AreIn}
 
--- what the test says
+-- if the test of a range says so, a number is in the range
 in_test : (r : Range) (n : ℕ) → is_in r n ≡ true → IsIn r n
 in_test (above bound) n h = grind (arith, nat_tests)
 in_test (below bound) n h = grind (arith, nat_tests)
@@ -21,7 +21,7 @@ in_test (multiple_of unit) n h = grind (arith, nat_tests)
 in_test (divisor_of whole) n h = grind (arith, nat_tests)
 in_test (both a b) n h = let each = and_parts _ _ h in (in_test a n each.0, in_test b n each.1)
 
--- and that it says so
+-- if a number is in a range, the test of the range says so
 test_in : (r : Range) (n : ℕ) → IsIn r n → is_in r n ≡ true
 test_in (above bound) n h = grind (arith, nat_tests)
 test_in (below bound) n h = grind (arith, nat_tests)
@@ -48,18 +48,18 @@ pub AreIn-none : (rows : List Row) → fault_in rows ≡ None → AreIn rows
 AreIn-none [] h = tt
 AreIn-none (r ∷ rs) h = let both = none_of _ _ _ h in (in_test r.range r.value both.0, AreIn-none rs both.1)
 
--- and if each is in its range, none has a fault
+-- if each row's number is in its range, no row has a fault
 pub none-AreIn : (rows : List Row) → AreIn rows → fault_in rows ≡ None
 none-AreIn [] h = refl
 none-AreIn (r ∷ rs) h = of_none _ _ _ (test_in r.range r.value h.0) (none-AreIn rs h.1)
 
--- the first fault of rows after rows is the first rows', or else that of the others
+-- the first fault of two lists of rows is the first list's, or, if it has none, the second list's
 pub fault_in-append : (xs ys : List Row) → fault_in (xs ++ ys) ≡ option_or (fault_in xs) (fault_in ys)
 fault_in-append [] ys = refl
 fault_in-append (x ∷ xs) ys = test_first (is_in x.range x.value) _ _ _ _ (fault_in-append xs ys)
 
--- if they are not too many, the first fault of the cuts is the place at which they rise no more, or else that of
--- their images
+-- if there are not too many cuts, their first fault is the place at which they rise no more, or else the fault of the
+-- room for kept images
 pub fault_in-cuts : (c : Config) → length c.cuts ≤ 64
     → fault_in (cut_rows c) ≡ option_or (fault_in (rising_rows 0 c.cuts)) (fault_in (row Cuts (c.pages * (length c.cuts + 1)) (at_most 65536) ∷ []))
 fault_in-cuts c few =
@@ -67,7 +67,7 @@ fault_in-cuts c few =
     (Some (record { field = Cuts; value = length c.cuts }))) (test_in (at_most 64) (length c.cuts) few)
     ∙ fault_in-append (rising_rows 0 c.cuts) (row Cuts (c.pages * (length c.cuts + 1)) (at_most 65536) ∷ [])
 
--- if memory has no fault, the first one is that of the fields after it
+-- if memory has no fault, the first fault is among the fields after it
 pub fault_of-behind_memory : (c : Config) → fault_in (memory_rows (parameters_of c)) ≡ None
     → fault_of c ≡ option_or (fault_in (table_rows (parameters_of c)))
     (option_or (fault_in (queue_rows (parameters_of c)))
@@ -100,7 +100,7 @@ IsInRange-rows c h =
     AreIn-whole (number_rows (parameters_of c)) (limit_row (parameters_of c) ∷ harts_row (parameters_of c) ∷ []) numbers.0
     (lists.1.1.0, (lists.1.1.1.0, tt))
 
--- and its cuts rise
+-- the cuts of a configuration in range rise
 pub IsRising-rows : (c : Config) → AreIn (rows_of c) → IsRising 0 c.cuts
 IsRising-rows c h =
     let numbers = AreIn-parts (number_rows (parameters_of c)) (cut_rows c ++ end_rows c) h in

@@ -13,14 +13,14 @@ pub TookPart-take : (old new : Stream) (bytes : List ℕ) (n : ℕ) → Grew old
 TookPart-take old new bytes n grew rose =
     record { part = take n bytes; rest = drop n bytes; split = sym (take-append-drop n bytes); taken = grew; rose = rose }
 
--- first these bytes, then those
+-- a sink took first these bytes, then those
 pub Took-append : (a b c : Stream) (first then : List ℕ) → Took a b first → Took b c then → Took a c (first ++ then)
 Took-append a b c first then one two = record {
   taken = λ had e. two.taken (had ++ first) (one.taken had e) ∙ ap Some (append_assoc had first then);
   faults = cc;
 }
 
--- first these bytes, then some of those
+-- a sink took first these bytes, then some of those
 pub TookPart-append : (a b c : Stream) (first then : List ℕ) → Took a b first → TookPart b c then → TookPart a c (first ++ then)
 TookPart-append a b c first then one two = record {
   part = first ++ two.part;

@@ -25,7 +25,7 @@ written-left xs ys piece j l =
     ∙ ap (λ t. take j xs ++ t) (sym (append_assoc piece (drop (j + length piece) xs) ys))
     ∙ sym (append_assoc (take j xs) (piece ++ drop (j + length piece) xs) ys)
 
--- and into the second
+-- a piece written into the second of two lists leaves the first
 pub written-right : (xs ys piece : List ℕ) (n i : ℕ) → length xs ≡ n → written (xs ++ ys) (n + i) piece ≡ xs ++ written ys i piece
 written-right xs ys piece n i h =
     let e : n + i + length piece ≡ n + (i + length piece) = omega arith in
@@ -64,7 +64,7 @@ take-written_behind bytes i s piece most =
     ∙ ap (take s) (written-right (take s bytes) (drop s bytes) piece s i here)
     ∙ take_at (take s bytes) (written (drop s bytes) i piece) s here
 
--- and is written among what is after them
+-- a piece written after the first s bytes is written among the bytes after them
 pub drop-written_behind : (bytes : List ℕ) (i s : ℕ) (piece : List ℕ) → s ≤ length bytes
     → drop s (written bytes (s + i) piece) ≡ written (drop s bytes) i piece
 drop-written_behind bytes i s piece most =

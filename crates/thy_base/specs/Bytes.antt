@@ -3,7 +3,7 @@
 use Rattle.std.specs.Prelude.{ℕ, ◌+◌, List, ◌++◌, length, take, drop, vec_capacity}
 use Rattle.thy_base.specs.declared.bytes.Bytes.{Bytes}
 
--- the bytes
+-- the bytes as a list
 abbrev pub bytes_of : Bytes → List ℕ
 bytes_of b = b.items.items
 

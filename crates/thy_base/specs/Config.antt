@@ -14,7 +14,7 @@ abbrev pub rising_rows : ℕ → List ℕ → List Row
 rising_rows before [] = []
 rising_rows before (n ∷ ns) = row Cuts n (above before) ∷ rising_rows n ns
 
--- these cuts rise
+-- cuts rise, the first from above a number
 abbrev pub IsRising : ℕ → List ℕ → Type 0
 IsRising before cuts = AreIn (rising_rows before cuts)
 
@@ -25,7 +25,7 @@ cut_rows c =
     ∷ rising_rows 0 c.cuts
     ++ row Cuts (c.pages * (length c.cuts + 1)) (at_most 65536) ∷ []
 
--- every so many writes to the NVM a line of it moves; 0 is never
+-- after each `gap` writes to the NVM, one line of it moves; with 0, none ever does
 abbrev pub gap_row : Config → Row
 gap_row c = row Gap c.gap (at_most 1000000)
 

@@ -2,7 +2,7 @@
 -- Counts of faults, which stop at the last value of a 64-bit number.
 use Rattle.std.specs.Prelude.{ℕ, ◌+◌, ◌-◌, ◌^◌, ◌≤◌, min}
 
--- one more, but never past the last value
+-- a count after one fault more, but never past the last value
 abbrev pub next : ℕ → ℕ
 next n = min (n + 1) (2 ^ 64 - 1)
 
@@ -11,7 +11,7 @@ pub record Rose (old new : ℕ) : Type 0 where
   pub no_less : old ≤ new
   pub more : next old ≤ new
 
--- it rose, by one
+-- a count rose by one, or stayed at its last value
 pub record RoseByOne (old new : ℕ) : Type 0 where
   pub no_less : old ≤ new
   pub more : next old ≤ new

@@ -104,11 +104,11 @@ pub record IsOneWordApart (a b : Block) : Type 0 where
 abbrev pub landed : ℕ → Device → Device
 landed k n = record n { image = applied n.image (take k n.queue); queue = drop k n.queue }
 
--- after a drain: the oldest write has landed
+-- a device after a drain: the oldest write has landed
 abbrev pub drained : Device → Device
 drained n = landed 1 n
 
--- after a barrier: every write has landed
+-- a device after a barrier: every write has landed
 abbrev pub settled : Device → Device
 settled n = record n { image = applied n.image n.queue; queue = [] }
 
@@ -116,7 +116,7 @@ settled n = record n { image = applied n.image n.queue; queue = [] }
 abbrev pub surplus : Device → ℕ
 surplus n = if nat_lt (length n.queue) n.queue_room then 0 else 1
 
--- with one write more in the queue, whatever room it has
+-- the device with one more write in its queue, also if the queue was full
 abbrev pub with_queued : ℕ → Block → Device → Device
 with_queued at block n = record n { queue = n.queue ++ write_of at block ∷ [] }
 
@@ -153,7 +153,7 @@ fitted shape start n = record {
   whole = n.whole;
 }
 
--- a device as it is reached through one more loan
+-- a device that is reached through one loan more
 abbrev pub lent_by : GName → Device → Device
 lent_by name n = record n { lent = name ∷ n.lent }
 
@@ -177,7 +177,7 @@ pub record IsFramed (old new : Device) : Type 0 where
 abbrev pub HoldsNoMore : Device → Device → Type 0
 HoldsNoMore old new = (x : ℕ) (b : Block) → MayLeave new x b → MayLeave old x b
 
--- after a call that failed
+-- a device after a call that failed
 pub record HasFailed (old new : Device) : Type 0 where
   pub down : new.down ≡ true
   pub no_more : HoldsNoMore old new

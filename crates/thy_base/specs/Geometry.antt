@@ -67,7 +67,7 @@ harts_row p = row Harts p.harts (between 1 2)
 abbrev pub number_rows : Parameters → List Row
 number_rows p = memory_rows p ++ table_rows p ++ queue_rows p ++ threshold_rows p
 
--- each number is in its range
+-- each number of the parameters is in its range
 abbrev pub IsInRange : Parameters → Type 0
 IsInRange p = AreIn (number_rows p ++ limit_row p ∷ harts_row p ∷ [])
 

@@ -3,6 +3,6 @@
 use Rattle.std.specs.Prelude.{ℕ}
 use Rattle.thy_base.specs.declared.mark.Mark.{Mark}
 
--- the checkpoint of an epoch, whose end came after so many instructions
+-- the checkpoint of an epoch, with the count of instructions at the epoch's end
 abbrev pub mark : ℕ → ℕ → Mark
 mark epoch count = record { epoch = epoch; count = count }

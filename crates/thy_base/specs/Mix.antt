@@ -19,7 +19,7 @@ after_pick harts DramDrain = Hart
 abbrev pub pick_of_four : ℕ → Pick
 pick_of_four n = if n == 0 then Hart else if n == 1 then Engine else if n == 2 then NvmDrain else DramDrain
 
--- and at one from 0 to 4, with two
+-- the actor at a position from 0 to 4, with two harts
 abbrev pub pick_of_five : ℕ → Pick
 pick_of_five n =
     if n == 0 then Hart
@@ -36,12 +36,12 @@ pick_of harts draw = if harts == 1 then pick_of_four (draw % 4) else pick_of_fiv
 abbrev pub mix_start : ℕ → Mix
 mix_start seed = if seed == 0 then InTurn Hart else Drawn seed
 
--- what a schedule gives next, with so many harts
+-- the next pick of a schedule, for one hart or two
 abbrev pub mix_pick : ℕ → Mix → Pick
 mix_pick harts (InTurn pick) = pick
 mix_pick harts (Drawn state) = pick_of harts (lcg_draw (lcg_next state))
 
--- the schedule after that
+-- a schedule after its next pick
 abbrev pub mix_next : ℕ → Mix → Mix
 mix_next harts (InTurn pick) = InTurn (after_pick harts pick)
 mix_next harts (Drawn state) = Drawn (lcg_next state)

@@ -41,7 +41,7 @@ pub record Stock : Type 0 where
   pub failed : Option (List (List ℕ))
   pub faults : ℕ
 
--- no call failed: the count stays, and the names with it
+-- no call of a shelf failed: its count of faults and its names are as before
 pub record HasNotFailed (old new : Stock) : Type 0 where
   pub faults : new.faults ≡ old.faults
   pub failed : new.failed ≡ old.failed

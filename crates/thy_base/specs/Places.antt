@@ -8,7 +8,7 @@ use Rattle.thy_base.specs.declared.config.Parameters.{Parameters}
 abbrev pub header_place : ℕ
 header_place = 0
 
--- and that of the commit block
+-- the place of the commit block in an image of the NVM
 abbrev pub commit_place : ℕ
 commit_place = 1
 
@@ -16,7 +16,7 @@ commit_place = 1
 abbrev pub hart_blocks : ℕ
 hart_blocks = 5
 
--- how many the processor's record has: those of one hart, and as many more for the second hart if there is one
+-- how many blocks the processor's record has: five for each hart
 abbrev pub record_blocks : Parameters → ℕ
 record_blocks p = hart_blocks + hart_blocks * (p.harts - 1)
 
@@ -28,6 +28,6 @@ dram_blocks p = p.btt + 64 * p.ptt
 abbrev pub buffer_place : Parameters → ℕ → ℕ
 buffer_place p i = i
 
--- and that of block k of frame j
+-- the place of block k of frame j in the DRAM
 abbrev pub frame_place : Parameters → ℕ → ℕ → ℕ
 frame_place p j k = p.btt + (64 * j + k)

@@ -24,7 +24,7 @@ IsIn (multiple_of unit) n = n % unit ≡ 0
 IsIn (divisor_of whole) n = whole % n ≡ 0
 IsIn (both a b) n = IsIn a n × IsIn b n
 
--- and the test whether it is
+-- the test whether a number is in a range
 abbrev pub is_in : Range → ℕ → Bool
 is_in (above bound) n = nat_lt bound n
 is_in (below bound) n = nat_lt n bound

@@ -10,7 +10,7 @@ scheme_name Thynvm = codes "thynvm"
 scheme_name Journal = codes "journal"
 scheme_name Shadow = codes "shadow"
 
--- its number
+-- the number of a scheme
 abbrev pub scheme_number : SchemeName → ℕ
 scheme_number Thynvm = 0
 scheme_number Journal = 1

@@ -24,7 +24,7 @@ pub record Holding : Type 0 where
 abbrev pub page_of : ℕ → ℕ
 page_of b = b / 64
 
--- no page is being copied, or this block's
+-- no page is being copied, or only this block's
 abbrev pub IsOpenFor : ℕ → Option ℕ → Type 0
 IsOpenFor b page = (page ≡ None) ⊎ (page ≡ Some (page_of b))
 
@@ -57,7 +57,7 @@ abbrev pub HasStored : Stored → ℕ → Block → Holding → Holding → Type
 HasStored Done b block old new = IsStored b block old new
 HasStored CopyFirst b block old new = IsCopiedFirst b old new
 
--- a plain list of blocks: always ready, with room for as many stores as a number can count
+-- a plain list of blocks: always ready, with room for `2 ^ 64 - 1` stores
 abbrev pub flat_list : List Block → Holding
 flat_list blocks = record { blocks = blocks; faults = 0; free = 2 ^ 64 - 1; ready = true; open_page = None; owed = 0 }
 

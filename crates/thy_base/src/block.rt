@@ -16,7 +16,7 @@ impl Block {
     /// A block of zeros.
     pub const ZERO: Block = Block([0; 64]);
 
-    /// Its bytes.
+    /// The bytes of the block.
     pub fn bytes(&self) -> &[u8]
         ensures bytes { result.now ≡ block_bytes self.now }
         ensures len { length result.now ≡ 64 }

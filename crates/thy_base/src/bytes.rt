@@ -52,7 +52,7 @@ impl Bytes {
         self.items.len()
     }
 
-    /// Whether there is none.
+    /// Whether there are no bytes.
     pub fn is_empty(&self) -> bool
         ensures { result ≡ (length (bytes_of self.now) == 0) }
     {
@@ -103,7 +103,7 @@ impl Bytes {
         self.items.clear();
     }
 
-    /// A copy.
+    /// A copy of the bytes.
     pub fn duplicate(&self, alloc: Global) -> Result<Bytes, AllocError>
         ensures { IfOk result (λ b. bytes_of b ≡ bytes_of self.now) }
     {

@@ -3,7 +3,7 @@
 /// The cause of an epoch's end.
 #[derive(Clone, Copy, Debug, PartialEq, Eq)]
 pub enum EndCause {
-    /// The epoch has retired as many instructions as an epoch has.
+    /// The epoch has retired the configured number of instructions.
     Length,
     /// The next instruction stores into `need` blocks, but `free` table entries are fewer than the
     /// `dirty` cache lines and these together.

@@ -89,8 +89,8 @@ pub struct ConfigError {
     pub value: u64,
 }
 
-/// The numbers of a configuration that the machine is made by: all but the lists of cuts and tears, and `gap`. Units and
-/// ranges are those of `Config`.
+/// The numbers of a configuration that the machine is made by: all but the lists of cuts and tears, and `gap`. Units
+/// and ranges are as in `Config`.
 #[derive(Clone, Copy, Debug, PartialEq, Eq)]
 pub struct Parameters {
     pub base: u64,

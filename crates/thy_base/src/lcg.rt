@@ -4,8 +4,7 @@ ghost use Rattle.thy_base.specs.Lcg.{lcg_next, lcg_draw};
 
 use std::marker::Model;
 
-/// A linear congruential generator modulo `2^64`. Each draw is the new state shifted right by 33,
-/// so it is below `2^31`.
+/// A linear congruential generator modulo `2^64`. Each draw is the new state shifted right by 33, hence below `2^31`.
 #[derive(Clone, Copy, Debug)]
 pub struct Lcg {
     state: u64,

@@ -23,7 +23,7 @@ pub enum Pick {
 /// that each draw names. There are four actors with one hart, and five with two.
 #[derive(Clone, Copy, Debug)]
 pub enum Mix {
-    /// This one comes next, and then the one after it.
+    /// This actor comes next, and then the one after it.
     InTurn(Pick),
     /// The next draw names the one that comes next.
     Drawn(Lcg),
@@ -41,7 +41,7 @@ impl Mix {
         }
     }
 
-    /// The next pick, with so many harts: one or two.
+    /// The next pick, for one hart or two.
     pub fn next(&mut self, harts: u64) -> Pick
         ensures pick { result ≡ mix_pick harts self.old }
         ensures after { self.new ≡ mix_next harts self.old }

@@ -3,7 +3,7 @@ ghost use Rattle.std.specs.Prelude.{◌≡◌, ◌==◌, ◌<◌, ℕ, List, len
 
 use std::marker::Model;
 
-/// A list of numbers, as those of an option's value.
+/// A list of numbers, such as the value of an option.
 #[derive(Debug, Drop)]
 pub struct Numbers {
     items: Vec<u64>,
@@ -37,7 +37,7 @@ impl Numbers {
         self.items.len()
     }
 
-    /// Whether there is none.
+    /// Whether there are no numbers.
     pub fn is_empty(&self) -> bool
         ensures { result ≡ (length self.now == 0) }
     {

@@ -10,16 +10,16 @@ use std::alloc::{AllocError, Global};
 pub struct Write {
     /// The place, in blocks.
     pub at: u64,
-    /// What it is to hold.
+    /// What the place is to hold.
     pub block: Block,
 }
 
 /// The size of a device.
 #[derive(Clone, Copy, Debug, PartialEq, Eq)]
 pub struct Shape {
-    /// How many blocks it has.
+    /// How many blocks the device has.
     pub blocks: u64,
-    /// How many writes its queue holds.
+    /// How many writes the device's queue holds.
     pub queue: u64,
     /// How many cuts are to come. One image more than these can be kept.
     pub cuts: u64,
@@ -55,7 +55,7 @@ pub trait Nvm {
     /// What the device holds.
     ghost device: { Self → Device };
 
-    /// How many writes it has taken since it was fitted.
+    /// How many writes a device has taken since it was fitted.
     ghost writes: { Self → ℕ };
 
     /// Makes the device anew: the blocks of `start`, which it takes over, and then zeros, an empty queue, no kept images

@@ -16,7 +16,7 @@ impl SchemeName {
         }
     }
 
-    /// Its number.
+    /// The number of the scheme.
     pub fn number(self) -> u64
         ensures { result ≡ scheme_number self }
     {

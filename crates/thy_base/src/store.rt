@@ -16,8 +16,8 @@ pub enum Stored {
 
 /// A list of blocks that is held by a store and the device `N` below it.
 ///
-/// A call returns `NvmError` only if it raised the count of faults. Whatever it returns, `once`
-/// holds from before it to after it, and so does `stays`.
+/// A call returns `NvmError` only if it raised the count of faults. Whatever it returns, `once` and `stays` hold from
+/// before it to after it.
 pub trait BlockStore<N> {
     /// What the store and the device hold together.
     ghost holding: { Self → N → Holding };
@@ -52,10 +52,10 @@ pub trait BlockStore<N> {
         ensures once { once self.old nvm.old self.new nvm.new }
         ensures cause { CountsOneFault result (holding self.old nvm.old).faults (holding self.new nvm.new).faults };
 
-    /// What stays does so over one call.
+    /// What every call keeps stays.
     ghost once_stays: { (a : Self) (m : N) (b : Self) (n : N) → once a m b n → stays a m b n };
 
-    /// What stays is as it was if nothing happens.
+    /// What stays holds from a moment to itself.
     ghost stays_same: { (store : Self) (nvm : N) → stays store nvm store nvm };
 
     /// What stays from one moment to the next stays over both.

@@ -219,7 +219,7 @@ module _ {C : Type 0} (F : FillingOf C) (laws : IsFilling F) where
   }
   fits_read (Refusing bad) n b is boot block = boot
 
-  -- a block was read
+  -- a step of a boot in which a block was read
   reads_on : (r : ReadStage) (n : Device) (b : Booting) (c e : C) → b.stage ≡ Reads r → IsBoot F b → HasRead F n b c → IsBlock F r n b → FillsOn F r n b c e
       → ReadsOn F r n b c n (read_on F r n b) e
   reads_on r n b c e is boot h block f = record {

@@ -81,14 +81,14 @@ module _ {C : Type 0} (F : FillingOf C) (laws : IsFilling F) (p : Parameters) wh
     abbrev first_slot : List Block
     first_slot = first_slot_of F p s
 
-    -- the places of memory are as many as its blocks
+    -- memory has one place for each of its blocks
     pub length-first : length f.parts.memory ≡ memory_blocks p
     length-first = length-memory_places ly f.commit first_slot ∙ ap (λ (q : Parameters). memory_blocks q) (laws.laid.of p)
 
     pub first-whole : length f.memory ≡ length f.parts.memory
     first-whole = length-start_blocks p s ∙ sym length-first
 
-    -- they and the slot's are few
+    -- memory's places and the slot's are few
     pub first-few : IsInRange p → length f.parts.memory + f.parts.slot_blocks ≤ 4194304 + ly.image_blocks
     first-few range = let pages : p.pages ≤ 65536 = range.1.0.1 in omega (arith, pages, length-first, slot_inside f.commit)
 
@@ -102,7 +102,7 @@ module _ {C : Type 0} (F : FillingOf C) (laws : IsFilling F) (p : Parameters) wh
       place_at : (b : ℕ) → b < length f.parts.memory → slice_index_or f.parts.memory b 0 ≡ ly.place f.commit first_slot b
       place_at b inside = memory_place ly f.commit first_slot b 0 (low b inside)
 
-      -- they are placed, each at a place of its own
+      -- the parts of a start are placed, each at a place of its own
       pub first-placed : ArePlaced ly.image_blocks f.parts
       first-placed = record {
         slot_behind = (laws.laid.slot p f.commit).behind;

@@ -255,7 +255,7 @@ module _ {C : Type 0} (F : FillingOf C) (laws : IsFilling F) where
 
     -- ---- where the boot is then
 
-    -- but for the slot and the commit block the device reads as before
+    -- after an action of a migration the device reads as before, but for the slot and the commit block
     alike : (r : Round) → IsInRound w.blocks r → length n.image ≡ lay.image_blocks → ReadsAlike lay new_commit n (after (round_action w r) n)
     alike (Write k) inside sized = written-alike lay new_commit n sized (w.place k) (w.block k) (λ y not_commit not_slot. not_slot k inside)
     alike Commit inside sized = written-alike lay new_commit n sized 1 new_commit (λ y not_commit not_slot. not_commit)

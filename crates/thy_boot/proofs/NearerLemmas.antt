@@ -58,7 +58,7 @@ module _ {C : Type 0} (F : FillingOf C) (laws : IsFilling F) where
   filled_left b VersionOne = omega arith
   filled_left b VersionTwo = omega arith
 
-  -- from a position on
+  -- a boot that fills from a position on has at most the positions from there on, and the migration, left
   nearer_next : (b : Booting) (from : ℕ) → boot_left F b (filling_from F from b) ≤ F.most_fills b.p - from + (numbers_of F b).migration
   nearer_next b from = by_next (F.next_fill b.p b.commit (slot_read F b) from) refl where
     by_next : (o : Option ℕ) → F.next_fill b.p b.commit (slot_read F b) from ≡ o

@@ -50,7 +50,7 @@ decode-fault l g commit o c long h =
     (epoch_of commit) (state_by l (slot_in l g) (memory_in l g)))
 
 module _ {C : Type 0} (F : FillingOf C) where
-  -- the commit block
+  -- what a boot has read once it read the commit block
   pub commit-found : (n : Device) (b : Booting) (c : C) → b.stage ≡ Reads Unread → HasRead F n b c → HasRead F n (after_commit (newest n 1) b) c
   commit-found n b c is h = record { same_p = h.same_p; sized = h.sized; settled = h.settled; so_far = by_zero (is_zero (newest n 1)) refl } where
     fresh : F.fresh c
@@ -110,7 +110,7 @@ module _ {C : Type 0} (F : FillingOf C) where
     pub refused : (bad : BadImage) → slot_fault F b ≡ Some bad → decode_by l ceiling n.image ≡ IsRefused bad
     refused bad e = meaning (Some bad) e
 
-    -- from a position on
+    -- what a boot has read that fills from a position on
     pub filling-found : (from : ℕ) → slot_fault F b ≡ None → F.lists b.commit slot c → F.filled c n from → HasReadAt F (filling_from F from b) n b c
     filling-found from fits lists filled = by_next (F.next_fill b.p b.commit slot from) refl where
       listed : HasListed F n.image b c
@@ -246,7 +246,7 @@ module _ {C : Type 0} (F : FillingOf C) where
           so_far = restage q q n w d (go_on (has_more F k w) refl j);
         }
 
-  -- a new boot
+  -- what a new boot has read
   pub HasRead-new : (p : Parameters) (n : Device) (c : C) → F.fresh c → F.p c ≡ p → length n.image ≡ (layout_in F (new_boot F p)).image_blocks → n.queue ≡ []
       → HasRead F n (new_boot F p) c
   HasRead-new p n c fresh same sized settled = record { same_p = same; sized = sized; settled = settled; so_far = fresh }

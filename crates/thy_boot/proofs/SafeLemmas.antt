@@ -141,7 +141,7 @@ module _ {C : Type 0} (F : FillingOf C) (laws : IsFilling F) where
         )
     by_stage (Over end) can l = absurd can
 
--- none is in doubt if none is sealed
+-- no mark is in doubt if none is sealed
 none-in : (s : Saved) → doubt_in s None ≡ None
 none-in (Kept before) = refl
 none-in s = refl
@@ -208,12 +208,12 @@ module _ {C : Type 0} (F : FillingOf C) (laws : IsFilling F) where
   reads_no_commit b c Unread = refl
   reads_no_commit b c r = refl
 
-  -- one that failed wrote nothing
+  -- a read of a boot that failed wrote nothing
   pub read_failed : (b : Booting) (c : C) (r : ReadStage) (n m : Device) → FailsTo (read_action F b c r) n m → HasFailed n m
   read_failed b c (Refusing bad) n m f = absurd f
   read_failed b c r n m f = f
 
-  -- so after one what is kept is safe
+  -- after a read of the boot that failed, what is kept is safe
   seen_safe : (o : Origin) (m : Device) (a : Action) (kept : Option Mark) → is_commit_write a ≡ false → Safe (reading F.layouts) o kept None m
       → Safe (reading F.layouts) o (finding_view o.start.count kept).done (doubt_after_fault a (finding_view o.start.count kept)) m
   seen_safe o m a None spared safe =
@@ -254,7 +254,7 @@ module _ {C : Type 0} (F : FillingOf C) (laws : IsFilling F) where
         let safe = Safe-kept F.layouts o m (saved_after_fault r g.before g.next) None (Some (start_mark o)) kept in
         (move, subst (λ (d : Option Mark). Safe (reading F.layouts) o None d m) (loading_doubt r at.there) safe)
 
-  -- a migration's
+  -- a migration's action that failed
   migration_failure : (o : Origin) (g : BootImages) (n m : Device) (b : Booting) (c : C) (r : Round) → F.p c ≡ o.geometry → b.p ≡ o.geometry
       → IsMigrating F o r g n b c → IsKeeping o (layout_for F o) (standing_in_boot o (Migrates r) g n) → FailsTo (round_action (renewing F b) r) n m → IsFramed n m
       → Failure o g n (Migrates r) (round_action (renewing F b) r) m
@@ -369,7 +369,7 @@ module _ {C : Type 0} (F : FillingOf C) (laws : IsFilling F) where
     abbrev images : BootImages
     images = images_after (first_of F o) (Migrates r) n g
 
-    -- where it leads
+    -- where a migration stands after its action
     abbrev then_at : Booting → Standing
     then_at b = standing_in_boot o (migrated_by F r b).stage images (at_end b)
 

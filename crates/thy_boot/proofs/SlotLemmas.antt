@@ -30,7 +30,7 @@ take_below xs ys a n b l inside =
     ∙ ap (λ k. take n (drop a (take k xs))) (sym whole) ∙ ap (take n) (drop-take a (b - a) xs)
     ∙ take-take n (b - a) (drop a xs) (omega arith)
 
--- what was written
+-- the bytes that were written, read back
 take_here : (xs ys zs : List ℕ) (b n : ℕ) → b ≤ length xs → length ys ≡ n → take n (drop b (take b xs ++ (ys ++ zs))) ≡ ys
 take_here xs ys zs b n inside size =
     let long : length (take b xs) ≡ b = length-take b xs ∙ omega (arith, inside) in
@@ -54,7 +54,7 @@ HasSlot-more l g commit k slot block room size is h = record {
   ];
 }
 
--- the first blocks of the room, if they are those of an image
+-- the first blocks of the room are an image's, if each of them is
 whole_blocks : (g : List Block) (slot : List ℕ) (room z first : ℕ) → length slot ≡ 64 * room → z ≤ room
     → ((i : ℕ) → i < z → block_in slot i ≡ block_at g (first + i)) → take z (blocks_of slot) ≡ map (block_at g) (range_with_len first z)
 whole_blocks g slot room z first size most each =
@@ -86,7 +86,7 @@ blocks_of-take bytes n inside =
     ∙ block_in-part bytes 0 n k l ∙ ap (block_in bytes) plain
     ∙ sym (get_or-take n (blocks_of bytes) k zero_block l ∙ block_at-blocks_of bytes k (omega arith)))
 
--- all of them are the slot
+-- all blocks of the slot, read into the room, are the slot
 pub slot_is_whole : {C : Type 0} (F : FillingOf C) (g : List Block) (b : Booting) (k : ℕ) → HasCommit g b.commit → length b.slot ≡ 64 * (layout_in F b).most_slot
     → (layout_in F b).slot_blocks b.commit ≤ (layout_in F b).most_slot → k ≡ (layout_in F b).slot_blocks b.commit → HasSlot (layout_in F b) g b.commit k b.slot
     → slot_read F b ≡ slot_in (layout_in F b) g
@@ -102,7 +102,7 @@ length-cleared from bytes inside =
     length-append (take from bytes) (replicate (length bytes - from) 0)
     ∙ omega (arith, inside, length-take-le from bytes inside, length-replicate {A = ℕ} (length bytes - from) 0)
 
--- a block behind those that were kept
+-- a block after the ones that were kept
 cleared-behind : (n i : ℕ) (bytes : List ℕ) → n ≤ i → 64 * i + 64 ≤ length bytes → block_in (cleared (64 * n) bytes) i ≡ zero_block
 unfolding zero_block
 cleared-behind n i bytes past inside =
@@ -168,7 +168,7 @@ module _ {C : Type 0} (F : FillingOf C) (laws : IsFilling F) (b : Booting) (room
 
 -- ---- the image
 
--- all that a write and those before it make
+-- a write of the commit block, and all writes before it, make the next image
 pub next-written : (n : Device) (commit : Block) → (settled (written_to n 1 commit)).image ≡ next_image n commit
 next-written n commit =
     let w : List Write = write_of 1 commit ∷ [] in

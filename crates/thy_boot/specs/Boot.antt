@@ -24,21 +24,21 @@ use Rattle.thy_boot.specs.declared.stage.ReadStage.TheVariants.{Header, Slot, Fi
 use Rattle.thy_boot.specs.declared.stage.End.TheVariants.{Restored, Loaded}
 use Rattle.thy_boot.specs.Filling.{FillingOf, ListsOn, layout_at, anew}
 
--- its stage, with the commit block, and the bytes of the slot, as far as they were read
+-- a boot: its stage, with the commit block, and the bytes of the slot, as far as they were read
 pub record Booting : Type 0 where
   pub p : Parameters
   pub commit : Block
   pub slot : List ℕ
   pub stage : Stage
 
--- a new one has read nothing, and has room for so many blocks of a slot
+-- a new boot has read nothing, and has room for this many blocks of a slot
 abbrev pub empty_boot : ℕ → Parameters → Booting
 empty_boot room p = record { p = p; commit = zero_block; slot = replicate (64 * room) 0; stage = Reads Unread }
 
 abbrev pub new_boot : {C : Type 0} → FillingOf C → Parameters → Booting
 new_boot F p = empty_boot (layout_at F p).most_slot p
 
--- its layout
+-- the layout of a boot's image
 abbrev pub layout_in : {C : Type 0} → FillingOf C → Booting → Layout
 layout_in F b = layout_at F b.p
 
@@ -49,7 +49,7 @@ slot_bytes F p commit bytes = take ((layout_at F p).slot_blocks commit) (blocks_
 abbrev pub slot_read : {C : Type 0} → FillingOf C → Booting → List Block
 slot_read F b = slot_bytes F b.p b.commit b.slot
 
--- its first fault
+-- the first fault of a commit block's slot
 abbrev pub slot_fault : {C : Type 0} → FillingOf C → Booting → Option BadImage
 slot_fault F b = (layout_in F b).slot_bad ceiling b.commit (slot_read F b)
 
@@ -108,16 +108,16 @@ abbrev pub filled_by : LayoutVersion → Stage
 filled_by VersionOne = Migrates (Write 0)
 filled_by VersionTwo = Over Restored
 
--- the next position is filled, if there is one
+-- the stage that fills the next position, or the stage after all are filled
 abbrev pub filling_or : LayoutVersion → Option ℕ → Stage
 filling_or version None = filled_by version
 filling_or version (Some k) = Reads (Fills k)
 
--- from a position on
+-- the stage of a boot that fills, from a position on
 abbrev pub filling_from : {C : Type 0} → FillingOf C → ℕ → Booting → Stage
 filling_from F from b = filling_or (version_in F b) (F.next_fill b.p b.commit (slot_read F b) from)
 
--- the whole slot
+-- the stage of a boot once the whole slot was read
 abbrev pub after_slot : {C : Type 0} → FillingOf C → Booting → Stage
 after_slot F b = refusing_or (slot_fault F b) (filling_from F 0 b)
 
@@ -133,7 +133,7 @@ has_more F next b = nat_lt (next + 1) ((layout_in F b).slot_blocks b.commit)
 abbrev pub gone_on : {C : Type 0} → FillingOf C → ℕ → Booting → Booting
 gone_on F next b = at_stage (if has_more F next b then Reads (Slot (next + 1)) else after_slot F b) b
 
--- if it has no fault the controller lists it
+-- the controller after the slot was judged: without a fault it lists the checkpoint, otherwise it is as before
 abbrev pub IsJudged : {C : Type 0} → FillingOf C → Option BadImage → Booting → C → C → Type 0
 IsJudged F None b old new = ListsOn F b.commit (slot_read F b) old new
 IsJudged F (Some bad) b old new = new ≡ old

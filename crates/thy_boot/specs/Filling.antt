@@ -19,7 +19,7 @@ use Rattle.thy_view.specs.Safe.{ceiling}
 use Rattle.thy_protocol.specs.Issuing.{CheckpointParts}
 use Rattle.thy_boot.specs.Start.{CanStart, start_blocks}
 
--- what is seen of controllers of a type while a boot fills them
+-- what controllers of a type mean, and what they show, while a boot fills them
 pub record FillingOf (C : Type 0) : Type 1 where
   -- how images are laid out
   pub layouts : Layouts
@@ -27,9 +27,9 @@ pub record FillingOf (C : Type 0) : Type 1 where
   pub p : C → Parameters
   pub dram : C → Contents
   pub drained : C → C
-  -- power has just come on: it lists nothing
+  -- power has just come on over a controller, and it lists nothing
   pub fresh : C → Type 0
-  -- it lists the checkpoint that has this commit block and this slot
+  -- a controller lists the checkpoint that has this commit block and this slot
   pub lists : Block → List Block → C → Type 0
   -- over a device, all that has to be filled below a position is; and all of it is
   pub filled : C → Device → ℕ → Type 0
@@ -58,7 +58,7 @@ pub record First : Type 0 where
   pub parts : CheckpointParts
   pub memory : List Block
 
--- its slot
+-- the slot of a start's checkpoint
 abbrev pub first_slot_of : {C : Type 0} → FillingOf C → Parameters → State → List Block
 first_slot_of F p s = map (F.first_slot p s) (range_with_len 0 ((layout_at F p).slot_blocks (commit_of 0)))
 
@@ -98,7 +98,7 @@ pub record IsNext {C : Type 0} (F : FillingOf C) (commit : Block) (c : C) (k : �
 abbrev pub anew : Block → Block
 anew commit = commit_of (epoch_of commit)
 
--- a slot of so many blocks: those of this one, and zeros behind them
+-- a slot of this many blocks: the blocks of another one, and zeros after them
 abbrev pub padded : ℕ → List Block → List Block
 padded count slot = map (block_at slot) (range_with_len 0 count)
 
@@ -133,7 +133,7 @@ pub record IsTheSame {C : Type 0} (F : FillingOf C) (p : Parameters) (commit : B
 
 -- what holds of every controller that a boot fills
 pub record IsFilling {C : Type 0} (F : FillingOf C) : Type 0 where
-  -- its layouts are lawful
+  -- the layouts are lawful
   pub laid : AreLayouts F.layouts
   -- nothing has to be filled below the first position
   pub begins : (c : C) (n : Device) (commit : Block) (slot : List Block) → F.lists commit slot c → F.filled c n 0
@@ -152,7 +152,7 @@ pub record IsFilling {C : Type 0} (F : FillingOf C) : Type 0 where
       → F.lists commit slot (F.with_fill commit k (newest n (F.fill_place c commit k)) c)
       × F.filled (F.with_fill commit k (newest n (F.fill_place c commit k)) c) n (k + 1)
       × (F.p (F.with_fill commit k (newest n (F.fill_place c commit k)) c) ≡ F.p c)
-  -- it queues one write of the DRAM at most
+  -- filling queues one write of the DRAM at most
   pub fill_acts : (c : C) (n : Device) (commit : Block) (k : ℕ)
       → ActsOnDram n n (F.dram c) (F.dram (F.with_fill commit k (newest n (F.fill_place c commit k)) c))
   pub fill_keeps : (c : C) (commit : Block) (k : ℕ) (block : Block) → F.keeps c (F.with_fill commit k block c)
@@ -165,7 +165,7 @@ pub record IsFilling {C : Type 0} (F : FillingOf C) : Type 0 where
       → F.whole c n × (F.loads c n ≡ memory_in (layout_at F (F.p c)) n.image)
   -- a checkpoint of an older form is the same if it is written anew
   pub renews : (p : Parameters) (commit : Block) (slot : List Block) → IsOlder (layout_at F p) p commit slot → IsTheSame F p commit slot
-  -- a write of the DRAM that lands changes nothing of it
+  -- a controller keeps what holds of it if the oldest write of its DRAM lands
   pub drain_p : (c : C) → F.p (F.drained c) ≡ F.p c
   pub drain_fresh : (c : C) → F.fresh c → F.fresh (F.drained c)
   pub drain_lists : (c : C) (commit : Block) (slot : List Block) → F.lists commit slot c → F.lists commit slot (F.drained c)

@@ -54,7 +54,7 @@ abbrev pub IsGoing : Stage → Type 0
 IsGoing (Over end) = ⊥
 IsGoing stage = Unit {0}
 
--- it may take a step then
+-- a boot that is not over may take a step
 abbrev pub SoundMayStep : {C : Type 0} → FillingOf C → Type 0
 SoundMayStep {C} F =
     (o : Origin) (g : BootImages) (n : Device) (b : Booting) (c : C)
@@ -131,7 +131,7 @@ NumberedNeverMigrate {C} F =
     (o : Origin) (g : BootImages) (n : Device) (b : Booting) (c : C)
     → ((p : Parameters) → 0 < (layout_at F p).scheme) → IsSoundBoot F o g n b c → migrates_at b.stage ≡ false
 
--- and none of a boot's actions is counted for that
+-- none of a boot's actions is counted for migration, in a scheme with a number above 0
 abbrev pub NumberedCountNone : {C : Type 0} → FillingOf C → Type 0
 NumberedCountNone F = (p : Parameters) → 0 < (layout_at F p).scheme → most_migration (layout_at F p) p ≡ 0
 
@@ -176,7 +176,7 @@ abbrev pub failed_answer : Stage → BootStep
 failed_answer (Loads Confirm) = Loaded
 failed_answer stage = GoesOn
 
--- it failed in its one action, which was asked for by that
+-- the action in which a step failed is one that the step was to take, by what it was to return
 abbrev pub FailuresAct : {C : Type 0} → FillingOf C → Type 0
 FailuresAct {C} F =
     (s : State) (b : Booting) (c : C) (n m : Device)

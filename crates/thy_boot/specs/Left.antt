@@ -17,8 +17,8 @@ use Rattle.thy_boot.specs.declared.stage.ReadStage.TheVariants.{Unread, Header, 
 use Rattle.thy_boot.specs.Boot.{Booting, layout_in, version_in}
 use Rattle.thy_boot.specs.Filling.{FillingOf, anew}
 
--- a migration follows a checkpoint of version 1, with a slot of so many blocks; it may, as long as the commit block was not
--- read, if that version is known
+-- a migration follows a checkpoint of version 1, with a slot of this many blocks; before the commit block is read, one
+-- may follow if that version is known
 abbrev pub migration_by : LayoutVersion → ℕ → ℕ
 migration_by VersionOne slot = round_left slot (Write 0)
 migration_by VersionTwo slot = 0
@@ -26,9 +26,10 @@ migration_by VersionTwo slot = 0
 abbrev pub most_migration : Layout → Parameters → ℕ
 most_migration l p = if knows_version_one l.scheme p then round_left l.most_slot (Write 0) else 0
 
--- the numbers of a boot: blocks that loading writes (memory's, a slot and the header), and with the longest slot; those of its
--- slot, of the one that is written anew and of the longest one; positions that are filled at most; and actions of the migration
--- that follows, and of one that may follow
+-- The numbers of a boot. Loading writes `first` blocks: memory's, a slot and the header; with the longest slot they are
+-- `most_first`. Its slot has `slot` blocks, the slot that is written anew `anew`, and the longest one `most_slot`. At
+-- most `fills` positions are filled. The migration that follows takes `migration` actions, or, if it is not known yet
+-- whether one follows, at most `most_migration`.
 pub record BootNumbers : Type 0 where
   pub first : ℕ
   pub most_first : ℕ
@@ -54,7 +55,7 @@ stage_left k (Loads r) = round_left k.first r
 stage_left k (Migrates r) = round_left k.anew r
 stage_left k (Over end) = 0
 
--- so over a scheme
+-- the numbers of a boot over a scheme
 abbrev pub numbers_of : {C : Type 0} → FillingOf C → Booting → BootNumbers
 numbers_of F b = record {
   first = memory_blocks b.p + (layout_in F b).slot_blocks (commit_of 0) + 1;

@@ -16,11 +16,12 @@ use Rattle.thy_boot.specs.Boot.{Booting, layout_in}
 use Rattle.thy_boot.specs.Filling.{FillingOf, First, first_by}
 use Rattle.thy_boot.specs.Start.{CanStart}
 
--- of m, then s, and one more the one that is at k
+-- the element at place k of m first ones, then s second ones, and one last
 abbrev pub part_at : {A : Type 0} → ℕ → ℕ → (ℕ → A) → (ℕ → A) → A → ℕ → A
 part_at m s first second last k = if nat_lt k m then first k else (if nat_lt (k - m) s then second (k - m) else last)
 
--- it writes memory's blocks, then the slot's, and the header: the place of block k of these, and that block
+-- the first checkpoint's writes are memory's blocks, then the slot's, and the header: the place of block k of these,
+-- and that block
 abbrev pub place_of_first : First → ℕ → ℕ
 place_of_first f k =
     part_at (length f.parts.memory) f.parts.slot_blocks (λ b. slice_index_or f.parts.memory b 0) (λ j. f.parts.slot_place + j) header_place k

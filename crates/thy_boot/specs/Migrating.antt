@@ -16,8 +16,8 @@ use Rattle.thy_boot.specs.declared.stage.End.TheVariants.{Restored}
 use Rattle.thy_boot.specs.Boot.{Booting, layout_in, slot_read, at_stage}
 use Rattle.thy_boot.specs.Filling.{FillingOf, anew}
 
--- where it goes: the slot of its epoch that is written today gets the blocks of the slot that was found, and zeros behind
--- them; memory's blocks stay where they are
+-- where a migrated checkpoint goes: the slot of its epoch that is written today gets the blocks of the slot that was
+-- found, and then zeros; memory's blocks stay where they are
 abbrev pub renewed_parts : {C : Type 0} → FillingOf C → Booting → CheckpointParts
 renewed_parts F b = record {
   slot_place = (layout_in F b).slot_place (anew b.commit);
@@ -43,7 +43,7 @@ cleared from bytes = take from bytes ++ replicate (length bytes - from) 0
 abbrev pub renewed : {C : Type 0} → FillingOf C → Booting → Booting
 renewed F b = record b { commit = anew b.commit; slot = cleared (64 * (layout_in F b).slot_blocks b.commit) b.slot }
 
--- after the last action it has them
+-- the boot has the new commit block and slot after the migration's last action
 abbrev pub renewed_by : {C : Type 0} → FillingOf C → Round → Booting → Booting
 renewed_by F Confirm b = renewed F b
 renewed_by F r b = b
@@ -58,7 +58,7 @@ pub record CanMigrate {C : Type 0} (F : FillingOf C) (r : Round) (n : Device) (b
   pub sized : length n.image ≡ (layout_in F b).image_blocks
   pub up : n.down ≡ false
 
--- it was taken
+-- a migration took its action
 pub record MigratesOn {C : Type 0} (F : FillingOf C) (r : Round) (n : Device) (b : Booting) (c : C) (m : Device) (d : Booting)
     (e : C) : Type 0 where
   pub device : m ≡ after (round_action (renewing F b) r) n

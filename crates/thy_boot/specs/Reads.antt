@@ -35,7 +35,7 @@ FillsOn F (Slot next) n b old new = GoesOn F (has_more F next b) (slot_kept F ne
 FillsOn F (Fills k) n b old new = new ≡ F.with_fill b.commit k (newest n (F.fill_place old b.commit k)) old
 FillsOn F _ n b old new = new ≡ old
 
--- a block has its bytes
+-- a block of the slot that is read has 64 bytes
 abbrev pub IsBlock : {C : Type 0} → FillingOf C → ReadStage → Device → Booting → Type 0
 IsBlock F (Slot next) n b = length (newest n ((layout_in F b).slot_place b.commit + next)).0 ≡ 64
 IsBlock F _ n b = Unit {0}

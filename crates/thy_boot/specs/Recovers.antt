@@ -25,13 +25,13 @@ pub record HasCommit (g : List Block) (commit : Block) : Type 0 where
   pub committed : is_zero commit ≡ false
   pub is : block_at g commit_place ≡ commit
 
--- and header and commit block have no fault
+-- the commit block of an image was read, and neither header nor commit block has a fault
 pub record HasHead (l : Layout) (g : List Block) (commit : Block) : Type 0 where
   pub commit_is : HasCommit g commit
   pub header_fits : header_bad l (block_at g header_place) true ≡ None
   pub commit_fits : commit_bad ceiling (block_at g header_place) commit ≡ None
 
--- the first blocks of these bytes are those of the slot
+-- the first n blocks of these bytes are the slot's
 pub record HasSlot (l : Layout) (g : List Block) (commit : Block) (n : ℕ) (slot : List ℕ) : Type 0 where
   pub each : (k : ℕ) → k < n → block_in slot k ≡ block_at g (l.slot_place commit + k)
 
@@ -42,14 +42,15 @@ pub record HasListed {C : Type 0} (F : FillingOf C) (g : List Block) (b : Bootin
   pub slot_fits : slot_fault F b ≡ None
   pub lists : F.lists b.commit (slot_read F b) c
 
--- all is filled, and memory is the image's
+-- the checkpoint's positions are all filled, and memory is the image's
 pub record IsRestored {C : Type 0} (F : FillingOf C) (n : Device) (b : Booting) (c : C) : Type 0 where
   pub listed : HasListed F n.image b c
   pub whole : F.whole c n
   pub found : decode_by (layout_in F b) ceiling n.image
       ≡ At (epoch_of b.commit) (state_by (layout_in F b) (slot_read F b) (F.loads c n))
 
--- so it is of an older form, and will be written anew from its first block on; memory is where that image has it
+-- all is filled from an image of an older form, which will be written anew from its first block on; memory is where
+-- that image has it
 pub record IsFoundOld {C : Type 0} (F : FillingOf C) (r : Round) (n : Device) (b : Booting) (c : C) : Type 0 where
   pub restored : IsRestored F n b c
   pub memory : F.loads c n ≡ memory_in (layout_in F b) n.image
@@ -57,7 +58,7 @@ pub record IsFoundOld {C : Type 0} (F : FillingOf C) (r : Round) (n : Device) (b
   pub version : version_in F b ≡ VersionOne
   pub first : r ≡ Write 0
 
--- or it is of the form of today, with the commit block that is written for its epoch
+-- a boot has restored a checkpoint of the form of today, with the commit block that is written for its epoch
 pub record IsFoundNew {C : Type 0} (F : FillingOf C) (n : Device) (b : Booting) (c : C) : Type 0 where
   pub restored : IsRestored F n b c
   pub stated : block_at n.image commit_place ≡ commit_of (epoch_of b.commit)

@@ -20,7 +20,7 @@ restored_view o None = boot_view None None
 restored_view o (Some m) =
     record (boot_view (Some m) None) { phase = phase_at o m.count; epoch = m.epoch + 1; count = m.count }
 
--- and after loading
+-- the view after loading
 abbrev pub loaded_view : Origin → View
 loaded_view o = record (boot_view (Some (mark 0 o.start.count)) None) { phase = Run; epoch = 1; count = o.start.count }
 

@@ -26,7 +26,7 @@ use Rattle.thy_boot.specs.Migrating.{renewing, renewed_parts}
 use Rattle.thy_boot.specs.Filling.{FillingOf, First, layout_at, first_by, anew}
 use Rattle.thy_boot.specs.Recovers.{HasListed, HasRead}
 
--- the layout of a run's images, and what its start makes
+-- the layout of a run's images, and the first checkpoint, which is made of the start
 abbrev pub layout_for : {C : Type 0} → FillingOf C → Origin → Layout
 layout_for F o = layout_at F o.geometry
 
@@ -102,7 +102,7 @@ IsMadeAnew o l m commit parts r next n = Unit {0}
 
 -- ---- the boot
 
--- while it reads, nothing is written
+-- while a boot reads, nothing is written
 pub record IsRecovering {C : Type 0} (F : FillingOf C) (g : BootImages) (n : Device) (b : Booting) (c : C) : Type 0 where
   pub before_is : g.before ≡ n.image
   pub read : HasRead F n b c

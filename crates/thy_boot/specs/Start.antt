@@ -15,17 +15,17 @@ pub record IsStartFor (p : Parameters) (s : State) : Type 0 where
   pub memory : length s.memory ≡ program_size p
   pub console : length s.console ≤ console_room p
 
--- and it can be recorded
+-- a start has the sizes of the geometry, and can be recorded
 pub record CanStart (p : Parameters) (s : State) : Type 0 where
   pub geometry : IsInRange p
   pub start : IsStartFor p s
   pub recordable : IsRecordable p ceiling (cpu_of s)
 
--- its bytes: memory, and the console's pages filled up with zeros
+-- the bytes of a start: memory, and the console's pages filled up with zeros
 abbrev pub start_bytes : Parameters → State → List ℕ
 start_bytes p s = s.memory ++ (s.console ++ replicate (console_room p - length s.console) 0)
 
--- block b of them, and all
+-- block b of a start, and all its blocks
 abbrev pub start_block : Parameters → State → ℕ → Block
 start_block p s b = record { 0 = take 64 (drop (64 * b) (start_bytes p s)) }
 

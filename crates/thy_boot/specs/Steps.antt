@@ -24,7 +24,7 @@ CanStepAt F (Loads r) s n b c = CanLoad F s r n b
 CanStepAt F (Migrates r) s n b c = CanMigrate F r n b
 CanStepAt F (Over end) s n b c = ⊥
 
--- with this start
+-- a boot may take a step with this start
 abbrev pub CanStep : {C : Type 0} → FillingOf C → State → Device → Booting → C → Type 0
 CanStep F s n b c = CanStepAt F b.stage s n b c
 
@@ -45,7 +45,7 @@ pub record LoadsOn {C : Type 0} (F : FillingOf C) (s : State) (r : Round) (n : D
   pub boot : d ≡ at_stage (loads_on (next_round (first_writes (first_by F b.p s)).blocks r)) b
   pub control : e ≡ c
 
--- a step that was taken; after the boot there is none
+-- what a step of each stage does; after the boot there is no step
 abbrev pub StepsAt : {C : Type 0} → FillingOf C → Stage → State → Device → Booting → C → Device → Booting → C → Type 0
 StepsAt F (Reads at) s n b c m d e = ReadsOn F at n b c m d e
 StepsAt F (Loads r) s n b c m d e = LoadsOn F s r n b c m d e

@@ -58,14 +58,14 @@ impl Boot {
         })
     }
 
-    /// Its stage.
+    /// The stage of the boot.
     pub fn stage(&self) -> Stage
         ensures { result ≡ self.now.stage }
     {
         self.stage
     }
 
-    /// The geometry that it is of.
+    /// The geometry of the machine that boots.
     pub fn geometry(&self) -> &Geometry
         ensures { result.now ≡ self.now.p }
     {
@@ -89,10 +89,10 @@ impl Boot {
         first_blocks(&self.slot, blocks)
     }
 
-    /// Takes one action of the NVM: reads the next block of the checkpoint there, or, if there is none, takes the next
-    /// action of loading the start, or, if what was read is of an older form, the next one of writing it anew. Once the
-    /// image was found at fault, it takes none, and returns the refusal at each step. If the NVM failed, boot and controller
-    /// are as before. If the boot goes on, its stage says whether it reads, loads or migrates.
+    /// Takes one action of the NVM: it reads the next block of the checkpoint there, loads the start if there is none,
+    /// or writes anew what was read of an older form. Once the image was found at fault, it takes none, and returns the
+    /// refusal at each step. If the NVM failed, boot and controller are as before. If the boot goes on, its stage says
+    /// whether it reads, loads or migrates.
     pub fn step<F: Fills, N: Nvm>(
         &mut self,
         control: &mut F::Control,
@@ -117,7 +117,7 @@ impl Boot {
         Ok(self.answer::<F>())
     }
 
-    /// Takes it.
+    /// Takes the next action, at whatever stage the boot is.
     fn take_next<F: Fills, N: Nvm>(
         &mut self,
         control: &mut F::Control,

@@ -21,13 +21,13 @@ pub const CEILING: u64 = 9_223_372_036_854_775_808;
 /// A scheme's part of the boot: which controller lists what a slot says, what is filled from an image, and the slot that a
 /// start makes in an empty NVM. The boot reads and writes; the layout of the images says where, and which image is at fault.
 pub trait Fills: Drop {
-    /// How its images are laid out.
+    /// How the scheme's images are laid out.
     type Images: ImageLayout;
 
     /// The controller that a boot fills.
     type Control;
 
-    /// What is seen of controllers while they are filled.
+    /// What controllers mean, and what they show, while they are filled.
     ghost filling: { FillingOf Self.Control };
 
     /// A slot without a fault is listed by a controller that lists nothing.
@@ -78,6 +78,6 @@ pub trait Fills: Drop {
     /// What holds of the filling.
     ghost lawful: { IsFilling filling };
 
-    /// It fills with images of this layout.
+    /// The filling is with images of this layout.
     ghost of_images: { filling.layouts ≡ Self.Images.layouts };
 }

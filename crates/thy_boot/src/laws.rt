@@ -38,7 +38,7 @@ pub fn failed_steps_are_moves<F: Fills>()
     ensures { FailuresMove F.filling }
 {}
 
-/// A restart is that of the mark that is kept, and the boot of a run is never refused.
+/// A restart restores the mark that is kept, and the boot of a run is never refused.
 pub fn a_restart_is_the_kept_one<F: Fills>()
     ensures kept { RestoredIsKept F.filling }
     ensures never { NeverRefused F.filling }
@@ -50,7 +50,7 @@ pub fn other_schemes_never_migrate<F: Fills>()
     ensures none { NumberedCountNone F.filling }
 {}
 
-/// Drains of both devices keep the boot at each stage; that of the NVM is a move.
+/// Drains of both devices keep the boot at each stage; a drain of the NVM is a move.
 pub fn drains_keep_the_boot<F: Fills>()
     ensures keep { DrainsKeepBoot F.filling }
     ensures moves { DrainsMove F.filling }

@@ -34,7 +34,7 @@ fn blocks_of_memory<F: Fills>(geometry: &Geometry, state: &MachState) -> u64
     geometry.memory_blocks()
 }
 
-/// How many blocks its slot has.
+/// How many blocks the slot of a start's checkpoint has.
 fn blocks_of_slot<F: Fills>(geometry: &Geometry, state: &MachState) -> u64
     ensures { result ≡ (first_by F.filling geometry.now (state_of state.now)).parts.slot_blocks }
 {
@@ -77,7 +77,7 @@ fn write_of<F: Fills>(geometry: &Geometry, state: &MachState, k: u64) -> Write
     }
 }
 
-/// The stage after it.
+/// The stage after an action of loading.
 fn stage_after<F: Fills>(geometry: &Geometry, round: Round, state: &MachState) -> Stage
     requires { IsInRound (first_writes (first_by F.filling geometry.now (state_of state.now))).blocks round }
     ensures { result ≡ loads_on (next_round (first_writes (first_by F.filling geometry.now (state_of state.now))).blocks round) }

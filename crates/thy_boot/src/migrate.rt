@@ -38,9 +38,9 @@ fn block_or_zero(bytes: &[u8], k: u64) -> Block
 impl Boot {
     ghost use Rattle.thy_boot.specs.declared.stage.Stage.TheVariants.{Migrates};
 
-    /// Takes the next action of a migration: the slot of the same epoch is written, as it was read and with zeros behind it,
-    /// a barrier, the commit block of that epoch, and a barrier. If the NVM failed the boot is as before, and only the place
-    /// of a write may hold more.
+    /// Takes the next action of a migration: the slot of the same epoch is written, as it was read and with zeros after
+    /// it, a barrier, the commit block of that epoch, and a barrier. If the NVM failed the boot is as before, and only
+    /// the place of a write may hold more.
     pub(crate) fn migrate<F: Fills, N: Nvm>(
         &mut self,
         round: Round,

@@ -156,7 +156,7 @@ impl Boot {
         Ok(())
     }
 
-    /// Reads that block, and keeps its bytes.
+    /// Reads block `next` of the slot, and keeps its bytes.
     fn read_block<F: Fills, N: Nvm>(&mut self, next: u64, nvm: &mut N) -> Result<(), NvmError>
         requires image { let l = layout_in F.filling self.old in l.slot_place self.old.commit + next < l.image_blocks }
         requires room { 64 * next + 64 ≤ length self.old.slot }

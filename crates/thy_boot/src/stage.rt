@@ -9,7 +9,7 @@ pub enum ReadStage {
     Unread,
     /// The commit block was read.
     Header,
-    /// Header and commit block have no fault, and so many blocks of the slot were read.
+    /// Header and commit block have no fault, and this many blocks of the slot were read.
     Slot(u64),
     /// The slot has no fault, and is listed. This position is filled next.
     Fills(u64),
@@ -29,13 +29,13 @@ pub enum End {
 /// The stage of a boot.
 #[derive(Clone, Copy, Debug, PartialEq, Eq)]
 pub enum Stage {
-    /// It reads, and is at this stage.
+    /// The boot reads, and is at this stage.
     Reads(ReadStage),
     /// There is no checkpoint: the program is loaded, and this comes next. The round writes memory's blocks, then the slot's,
     /// and the header.
     Loads(Round),
     /// The checkpoint that was found is of an older form: it is written anew, and this comes next. The round writes the slot.
     Migrates(Round),
-    /// It is over.
+    /// The boot is over.
     Over(End),
 }

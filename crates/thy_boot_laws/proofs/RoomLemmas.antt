@@ -36,7 +36,8 @@ no-shortage free dirty storeless (Reserving e to) fresh room = by_room (nat_lt f
 no-shortage free dirty storeless (Writing e to done) fresh room = refl
 no-shortage free dirty storeless (Retiring e wrote) fresh room = refl
 
--- so it is over a scheme of which two entries are free if nothing was stored since the last seal and nothing is under way
+-- an epoch's first instruction has room over a scheme of which two entries are free if nothing was stored since the
+-- last seal and nothing is under way
 pub first-room : {S : Type 0} (K : SchemeOf S)
     → ((o : Origin) (k : CheckpointMarks) (s : S) (n : Device)
     → K.is_sound o k s n → K.storeless s ≡ true → K.under_way s ≡ false → 2 ≤ K.free s)

@@ -52,7 +52,7 @@ use Rattle.thy_boot.proofs.CountLemmas.{read_writes_nothing}
 use Rattle.thy_boot.proofs.NearerLemmas.{left_most}
 use Rattle.thy_boot.proofs.SafeLemmas.{read_failed}
 
--- it depends on the image, and on no turn
+-- the view of a boot depends on the image, and on no turn
 pub alike_at : (read : Reading) (o : Origin) (turns : List ℕ) (stage : Stage) (n : Device)
     → view_at read (told o turns) stage n ≡ view_at read o stage n
 alike_at read o turns (Reads r) n = refl
@@ -100,7 +100,7 @@ module _ (o : Origin) (l : Layout) (g : BootImages) where
 pub none-done : (m : Mark) → None ≡ Some m → ⊥
 none-done m d = cc
 
--- of an image that a cut may leave the view is that of the mark that is kept
+-- the view of an image that a cut may leave is the view of the mark that is kept
 view-kept : (o : Origin) (m : Mark) (d : Decoded) → IsOneOf o (Some m) None d → view_of_image o.start.count d ≡ boot_view (Some m) None
 view-kept o m Nothing h = absurd (cc)
 view-kept o m (Refused bad) h = absurd h
@@ -121,7 +121,7 @@ module _ {C : Type 0} (F : FillingOf C) where
       ∙ ap (λ (x : List Block). view_of_image o.start.count (decode_by (layout_for F o) ceiling x)) (sym recovering.before_is)
       ∙ finding_view-told o (layout_for F o) g.before g.kept o.start.count tells
 
-  -- and so it is while it migrates
+  -- while a boot migrates, what the image means is the mark that is kept
   pub view-migrating : (read : Reading) (o : Origin) (g : BootImages) (n : Device) (b : Booting) (c : C) (r : Round)
       → IsReadBy F read → IsKeeping o (layout_for F o) (standing_in_boot o (Migrates r) g n) → (far : IsMigrating F o r g n b c)
       → view_of_image o.start.count (read o.geometry ceiling n.image) ≡ boot_view (Some far.m) None
@@ -182,7 +182,7 @@ kept-some o l g n None before tells committed =
     let both : false ≡ true = sym committed ∙ ap (λ (x : List Block). is_zero (block_at x 1)) (sym before) ∙ zero in
     cc
 
--- after the commit block it is not zero
+-- after the commit block was read, it is not zero
 abbrev HasCommitAt : ReadStage → Device → Type 0
 HasCommitAt Header n = is_zero (block_at n.image 1) ≡ false
 HasCommitAt (Slot next) n = is_zero (block_at n.image 1) ≡ false
@@ -250,7 +250,7 @@ unwritten : (count : ℕ) (kept : Option Mark) → (finding_view count kept).wri
 unwritten count None w = no-false w
 unwritten count (Some m) w = no-false w
 
--- it loads, and has written the commit block, so the run began without a checkpoint
+-- a boot loads, and has written the commit block, so the run began without a checkpoint
 abbrev pub WasLoading : Origin → BootImages → Stage → Type 0
 WasLoading o g q = (o.kept ≡ None) × (seen_at o g.kept q ≡ record (loading_view o.start.count) { written = true })
 

@@ -29,14 +29,14 @@ IsReadBy F read =
     (p : Parameters) (g : List Block)
     → length g ≡ (layout_at F p).image_blocks → read p ceiling g ≡ decode_by (layout_at F p) ceiling g
 
--- what is seen is the mark that is kept, as the trait of schemes has it
+-- what a boot shows is the mark that is kept, as the trait of schemes has it
 abbrev pub ViewIsKept : {C : Type 0} → FillingOf C → Type 0
 ViewIsKept {C} F =
     (read : Reading) (o : Origin) (g : BootImages) (n : Device) (b : Booting) (c : C)
     → IsReadBy F read → IsSoundBoot F o g n b c → IsGoing b.stage
     → (view_at read o b.stage n ≡ seen_at o g.kept b.stage) × IsBootView o (seen_at o g.kept b.stage)
 
--- it loads exactly if the commit block was read and what is seen has no checkpoint
+-- a boot loads exactly if the commit block was read and it shows no checkpoint
 abbrev pub LoadsIfNone : {C : Type 0} → FillingOf C → Type 0
 LoadsIfNone {C} F =
     (read : Reading) (o : Origin) (g : BootImages) (n : Device) (b : Booting) (c : C)
@@ -49,7 +49,7 @@ FoundIsSettled {C} F =
     (o : Origin) (g : BootImages) (n : Device) (b : Booting) (c : C) (m : Mark)
     → IsSoundBoot F o g n b c → IsGoing b.stage → (seen_at o g.kept b.stage).done ≡ Some m → migrates_at b.stage ≡ false → n.queue ≡ []
 
--- and a step that failed wrote nothing then
+-- if a checkpoint was found, a step that failed wrote nothing, unless the checkpoint is being written anew
 abbrev pub FoundFailsUnwritten : {C : Type 0} → FillingOf C → Type 0
 FoundFailsUnwritten {C} F =
     (o : Origin) (kept : Option Mark) (m : Mark) (b : Booting) (c : C) (n new : Device) (q : Stage)

@@ -20,7 +20,7 @@ use Rattle.thy_core_laws.specs.Sound.{Sound}
 abbrev pub HeldIsUp : {S : Type 0} → SchemeOf S → Type 0
 HeldIsUp {S} K = (s : S) (n : Device) (b : ℕ) → b < length (K.holding s n).blocks → n.down ≡ false
 
--- and can be stored only while it is
+-- blocks can be stored only while the NVM is up
 abbrev pub ReadyIsUp : {S : Type 0} → SchemeOf S → Type 0
 ReadyIsUp {S} K = (s : S) (n : Device) → (K.holding s n).ready ≡ true → n.down ≡ false
 
@@ -48,7 +48,7 @@ ZerosAreNothing K =
     (p : Parameters) (shape : Shape) (n : Device)
     → shape.blocks ≡ K.blocks p → K.decode p ceiling (fitted shape [] n).image ≡ Nothing
 
--- what a cut leaves is what is seen, and drains of the NVM change nothing of it
+-- a cut in a boot leaves what the boot shows, and drains of the NVM change nothing of it
 abbrev pub BootIsSound : {S : Type 0} → SchemeOf S → Type 0
 BootIsSound {S} K = (o : Origin) (s : S) (n : Device) → IsBooting K o s n → BootHolds K o s n
 
@@ -68,8 +68,8 @@ NeverMigrates {S} K = (o : Origin) (s : S) (n : Device) → K.boots o s n → K.
 abbrev pub HartIsBarred : {S : Type 0} → SchemeOf S → Type 0
 HartIsBarred {S} K = (m : Machine S) → is_barred K m ≡ K.under_way m.scheme
 
--- A machine whose epoch goes on and has retired no instruction is not short of entries, once nothing is under way. So no
--- epoch ends for want of entries before its first instruction.
+-- A machine whose epoch goes on and has retired no instruction is not short of entries, once nothing is under way. So
+-- no epoch is exhausted before its first instruction.
 abbrev pub FirstHasRoom : {S : Type 0} → SchemeOf S → Type 0
 FirstHasRoom {S} K =
     (o : Origin) (cycles : ℕ) (m : Machine S) (n : Device)

@@ -22,7 +22,7 @@ abbrev pub has_read_at : Stage → Bool
 has_read_at (Reads Unread) = false
 has_read_at stage = true
 
--- there is no checkpoint
+-- a boot found no checkpoint
 abbrev pub loads_at : Stage → Bool
 loads_at (Loads r) = true
 loads_at stage = false

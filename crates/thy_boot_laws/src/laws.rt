@@ -3,12 +3,12 @@ ghost use Rattle.thy_boot_laws.specs.Laws.{FewerHasRead, FoundFailsUnwritten, Fo
 
 use thy_boot::Fills;
 
-/// While a boot of a run is not over, what is seen of it is the mark that is kept.
+/// While a boot of a run is not over, it shows the mark that is kept.
 pub fn a_boot_shows_what_is_kept<F: Fills>()
     ensures { ViewIsKept F.filling }
 {}
 
-/// A boot of a run loads exactly if the commit block was read and what is seen has no checkpoint.
+/// A boot of a run loads exactly if the commit block was read and the boot shows no checkpoint.
 pub fn a_boot_loads_only_without_a_checkpoint<F: Fills>()
     ensures { LoadsIfNone F.filling }
 {}

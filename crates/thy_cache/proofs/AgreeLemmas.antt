@@ -14,7 +14,7 @@ use Rattle.thy_cache.proofs.LineLemmas.{KeepsBlock, line_at-inside, line_in-foun
 abbrev pub rewritten : ℕ → Option Line → Ways → Ways
 rewritten w o ways = record ways { lines = slice_set ways.lines w o }
 
--- it has the new line there, and the old lines elsewhere
+-- a set in which one way was written has the new line there, and the old lines elsewhere
 pub line_at-rewritten : (ways : Ways) (w v : ℕ) (o : Option Line) (line : Line) → line_at (rewritten w o ways) v ≡ Some line
     → ((v ≡ w) × (o ≡ Some line)) ⊎ ((v ≢ w) × (line_at ways v ≡ Some line))
 line_at-rewritten ways w v o line e = elim (cases_eq v w) as (λ _. ((v ≡ w) × (o ≡ Some line)) ⊎ ((v ≢ w) × (line_at ways v ≡ Some line))) [
@@ -37,7 +37,7 @@ pub line_in-single : (n : ℕ) (blocks : List Block) (s : ℕ) (ways : Ways) (w 
     → line_in ways line.at ≡ Some line
 line_in-single n blocks s ways w line agrees h = found_is n blocks s ways w line (line_in ways line.at) agrees h refl
 
--- the same lines agree
+-- a set agrees if one with the same lines does
 pub SetAgrees-same : (n : ℕ) (blocks : List Block) (s : ℕ) (old new : Ways) → new.lines ≡ old.lines → SetAgrees n blocks s old → SetAgrees n blocks s new
 SetAgrees-same n blocks s old new e agrees =
     let at : (w : ℕ) (line : Line) → line_at new w ≡ Some line → line_at old w ≡ Some line = λ w line f. sym (ap (λ ls. get_or ls w None) e) ∙ f in
@@ -46,7 +46,7 @@ SetAgrees-same n blocks s old new e agrees =
       single = λ w v line other f g. agrees.single w v line other (at w line f) (at v other g);
     }
 
--- none is none, and one is one
+-- an option that holds nothing is not one that holds something
 pub none_is_none : {Y : Type 0} (y : Y) → None ≡ Some y → ⊥
 none_is_none y e = cc
 

@@ -43,7 +43,7 @@ IsLineOf-filled n blocks s w b block ways filling v line (inl here) =
     }
 IsLineOf-filled n blocks s w b block ways filling v line (inr there) = filling.agrees.lines v line there.1
 
--- and is the only one of its block
+-- the new line of a filled set is the only one of its block
 pub single-filled : (n : ℕ) (blocks : List Block) (s w b : ℕ) (block : Block) (ways : Ways) → Filling n blocks s w b block ways
     → (v u : ℕ) (line other : Line)
     → ((v ≡ w) × (fresh_line b block ≡ line)) ⊎ ((v ≢ w) × (line_at ways v ≡ Some line))
@@ -56,7 +56,7 @@ single-filled n blocks s w b block ways filling v u line other (inr one) (inl tw
     absurd (none_held ways b v line filling.missing one.1 (same ∙ sym (ap (λ (l : Line). l.at) two.1)))
 single-filled n blocks s w b block ways filling v u line other (inr one) (inr two) same = filling.agrees.single v u line other one.1 two.1 same
 
--- so the set agrees
+-- a filled set agrees
 pub SetAgrees-filled : (n : ℕ) (blocks : List Block) (s w b : ℕ) (block : Block) (ways : Ways) → Filling n blocks s w b block ways
     → SetAgrees n blocks s (with_line w (fresh_line b block) ways)
 SetAgrees-filled n blocks s w b block ways filling = record {
@@ -115,7 +115,7 @@ stays_there w b block ways x inside other fails =
     ∙ get_or-set_other ways.lines w (place ways x) (Some (fresh_line b block)) None elsewhere
     ∙ sym (line_in-place ways x)
 
--- every block reads as before
+-- every block reads as before in a set that was filled
 pub seen-filled : (n : ℕ) (blocks : List Block) (s w b : ℕ) (block : Block) (ways : Ways) → Filling n blocks s w b block ways
     → (x : ℕ) → seen blocks (with_line w (fresh_line b block) ways) x ≡ seen blocks ways x
 seen-filled n blocks s w b block ways filling x = elim (cases_eq x b) as (λ _. seen blocks (with_line w (fresh_line b block) ways) x ≡ seen blocks ways x) [

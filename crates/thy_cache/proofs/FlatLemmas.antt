@@ -15,7 +15,7 @@ pub length-flat : (c : Contents) (blocks : List Block) → length (flat c blocks
 unfolding flat
 length-flat c blocks = length-map-range_with_len (flat_at c blocks) 0 (length blocks)
 
--- a block of it
+-- a block of the flat list
 pub block_at-flat : (c : Contents) (blocks : List Block) (b : ℕ) → b < length blocks → block_at (flat c blocks) b ≡ flat_at c blocks b
 unfolding flat
 block_at-flat c blocks b inside = get_or-map-range_with_len (flat_at c blocks) 0 (length blocks) b b zero_block inside (omega arith)
@@ -40,7 +40,7 @@ put_at c d blocks b block inside here others i inside_i = elim (cases_eq i b) as
   | inr other ↦ others i other ∙ sym (block_at-flat d blocks i inside_i) ∙ sym (get_or-set_other (flat d blocks) b i block zero_block other)
 ]
 
--- one that reads otherwise at one block alone
+-- two flat lists that read the same but for one block are the same but for that block
 pub flat-put : (c d : Contents) (blocks : List Block) (b : ℕ) (block : Block) → b < length blocks → flat_at c blocks b ≡ block
     → ((x : ℕ) → x ≢ b → flat_at c blocks x ≡ flat_at d blocks x) → flat c blocks ≡ slice_set (flat d blocks) b block
 flat-put c d blocks b block inside here others =
@@ -49,7 +49,7 @@ flat-put c d blocks b block inside here others =
     (λ i l. let inside_i : i < length blocks = omega (arith, l, length-flat c blocks) in
     block_at-flat c blocks i inside_i ∙ put_at c d blocks b block inside here others i inside_i)
 
--- one whose cache has no lines is the store's list
+-- the flat list of a cache that holds no block otherwise than the store is the store's list
 pub flat-none : (c : Contents) (blocks : List Block) → ((b : ℕ) → b < length blocks → flat_at c blocks b ≡ block_at blocks b) → flat c blocks ≡ blocks
 flat-none c blocks each =
     ext_get_or zero_block (flat c blocks) blocks (length-flat c blocks)
@@ -62,7 +62,7 @@ set_at-same c s set inside = get_or-set_same c.sets s set no_ways inside
 pub set_at-other : (c : Contents) (s t : ℕ) (set : Ways) → t ≢ s → set_at (with_set s set c) t ≡ set_at c t
 set_at-other c s t set other = get_or-set_other c.sets s t set no_ways other
 
--- it is as many sets as before
+-- replacing a set leaves the number of sets
 pub sets-same : (c : Contents) (s : ℕ) (set : Ways) → length (with_set s set c).sets ≡ length c.sets
 sets-same c s set = length-set c.sets s set
 

@@ -21,7 +21,7 @@ use Rattle.thy_cache.proofs.FlatLemmas.{flat-none}
 use Rattle.thy_cache.proofs.CountLemmas.{dirt}
 use Rattle.thy_cache.proofs.WriteLaws.{true_is_not_false}
 
--- where none is found, none passes
+-- if no element is found to pass, each fails
 pub position-None : {X : Type 0} (p : X → Bool) (xs : List X) (k : ℕ) (d : X) → position p xs ≡ None → k < length xs → p (get_or xs k d) ≡ false
 position-None p xs k d e inside = elim (cases_Bool (nat_lt (position_or_len p xs) (length xs))) as (λ _. p (get_or xs k d) ≡ false) [
   | inl is_so ↦ let found : Some (position_or_len p xs) ≡ None = sym (ap (λ t. cond t (Some (position_or_len p xs)) None) is_so) ∙ e in
@@ -38,7 +38,7 @@ none-in_set set e =
     let none : dirt (line_at set i) ≡ 0 = ap (λ t. cond t 1 0) pure in omega (arith, none)) in
     omega (arith, sum_by-le dirt 0 set.lines each)
 
--- and so does a cache without such sets
+-- a cache has no dirty line if no set has one
 pub none-dirty : (c : Contents) → position has_dirty c.sets ≡ None → dirty_count c ≡ 0
 none-dirty c e =
     let None_here : Ways → Type 0 = λ set. dirty_lines set ≤ 0 in
@@ -68,14 +68,14 @@ some-dirty c s w e =
       | inr past ↦ absurd (true_is_not_false (sym e ∙ ap (λ set. is_dirty (line_at set w)) (get_or_past c.sets s no_ways past)))
     ]
 
--- where none is counted, no line is dirty
+-- if the count of dirty lines is 0, no line is dirty
 pub none-counted : (c : Contents) (s w : ℕ) → dirty_count c ≡ 0 → is_dirty (line_at (set_at c s) w) ≡ false
 none-counted c s w e = elim (cases_Bool (is_dirty (line_at (set_at c s) w))) as (λ _. is_dirty (line_at (set_at c s) w) ≡ false) [
   | inl is_so ↦ let some = some-dirty c s w is_so in absurd (omega (arith, some, e))
   | inr not_so ↦ not_so
 ]
 
--- where no set has one, there is none
+-- if no set has a dirty line, there is none
 pub HasNoneDirty-none : (c : Contents) → position has_dirty c.sets ≡ None → HasNoneDirty c
 HasNoneDirty-none c e = record {
   first = ap (option_and_then (λ s. dirty_line_in (set_at c s))) e;
@@ -91,7 +91,7 @@ flat_at-clean c blocks b (Some line) none agrees e =
     let pure : line.dirty ≡ false = ap is_dirty (sym found.1) ∙ none-counted c (index_of c b) found.0 none in
     ((agrees.sets (index_of c b)).lines found.0 line found.1).clean pure ∙ ap (block_at blocks) found.2
 
--- and the store's list is the flat list
+-- without dirty lines the flat list is the store's list
 pub flat-clean : (c : Contents) (blocks : List Block) → dirty_count c ≡ 0 → Agrees c blocks → flat c blocks ≡ blocks
 flat-clean c blocks none agrees = flat-none c blocks (λ b inside. flat_at-clean c blocks b (line_of c b) none agrees refl)
 
@@ -109,7 +109,7 @@ empty-line_at sets ways s w = elim (cases_lt s sets) as (λ _. line_at (set_at (
   | inr past ↦ ap (λ set. line_at set w) (get_or_past (replicate sets (empty_ways ways)) s no_ways (omega (arith, past, length-replicate sets (empty_ways ways))))
 ]
 
--- it agrees with every store
+-- a new cache agrees with every store
 pub empty-agrees : (sets ways : ℕ) (blocks : List Block) → Agrees (empty_cache sets ways) blocks
 empty-agrees sets ways blocks = record {
   sets = λ s. record {
@@ -118,13 +118,13 @@ empty-agrees sets ways blocks = record {
   };
 }
 
--- and has no dirty line
+-- an empty cache has no dirty line
 pub empty-count : (sets ways : ℕ) → dirty_count (empty_cache sets ways) ≡ 0
 empty-count sets ways =
     let none : dirty_lines (empty_ways ways) ≡ 0 = omega (arith, sum_by-replicate dirt ways None) in
     let all : dirty_count (empty_cache sets ways) ≡ sets * 0 = sum_by-replicate dirty_lines sets (empty_ways ways) ∙ ap (λ k. sets * k) none in
     omega (arith, all)
 
--- over any store it reads as the store
+-- an empty cache reads as its store
 pub empty-flat : (sets ways : ℕ) (blocks : List Block) → flat (empty_cache sets ways) blocks ≡ blocks
 empty-flat sets ways blocks = flat-clean (empty_cache sets ways) blocks (empty-count sets ways) (empty-agrees sets ways blocks)

@@ -19,7 +19,7 @@ pub held : (b : ℕ) (o : Option Line) → holds b o ≡ true → (line : Line) 
 held b None h = cc
 held b (Some line) h = (line, refl, eqb-true line.at b h)
 
--- and the other way round
+-- a way with a line of a block has that block's line
 pub holding : (b : ℕ) (o : Option Line) (line : Line) → o ≡ Some line → line.at ≡ b → holds b o ≡ true
 holding b o line e f = rw e (eq-eqb line.at b f)
 
@@ -79,12 +79,12 @@ line_at-inside ways w line e = elim (cases_lt w (length ways.lines)) as (λ _. w
 abbrev pub KeepsBlock : (Line → Line) → Type 0
 KeepsBlock f = (line : Line) → (f line).at ≡ line.at
 
--- it leaves which block a way has
+-- a change of lines that keeps each line's block leaves which block a way has
 pub holds-map : (f : Line → Line) → KeepsBlock f → (b : ℕ) (o : Option Line) → holds b (option_map f o) ≡ holds b o
 holds-map f keeps b None = refl
 holds-map f keeps b (Some line) = ap (λ a. a == b) (keeps line)
 
--- and so where each block's line is
+-- a change of a line that keeps its block leaves where each block's line is
 pub place-over_line : (f : Line → Line) → KeepsBlock f → (ways : Ways) (w x : ℕ) → place (over_line f w ways) x ≡ place ways x
 place-over_line f keeps ways w x = position_or_len-set (holds x) ways.lines w (option_map f (line_at ways w)) None (holds-map f keeps x (line_at ways w))
 
@@ -98,7 +98,7 @@ line_in-changed f keeps ways w x inside e =
     ∙ ap (λ v. option_map f (line_at ways v)) (sym e)
     ∙ ap (option_map f) (sym (line_in-place ways x))
 
--- and of one in another way
+-- the line of a block in a way that was not changed
 pub line_in-unchanged : (f : Line → Line) → KeepsBlock f → (ways : Ways) (w x : ℕ) → place ways x ≢ w → line_in (over_line f w ways) x ≡ line_in ways x
 line_in-unchanged f keeps ways w x n =
     line_in-place (over_line f w ways) x
@@ -129,18 +129,18 @@ line_in-kept g f keeps same ways w x inside = elim (cases_eq (place ways x) w) a
   | inr other ↦ ap g (line_in-unchanged f keeps ways w x other)
 ]
 
--- where no element passes, each fails
+-- if no element passes, each fails
 pub passed_over : {X : Type 0} (p : X → Bool) (xs : List X) (w : ℕ) (d : X) → length xs ≤ position_or_len p xs → w < length xs → p (get_or xs w d) ≡ false
 passed_over p xs w d l inside = not-true (p (get_or xs w d)) (prefix_len_passes (λ x. not (p x)) xs w d (omega arith))
 
--- where no way has a block's line, it has none
+-- if no way has a block's line, the block has none
 pub line_in-none : (ways : Ways) (b : ℕ) → ((w : ℕ) → w < length ways.lines → holds b (line_at ways w) ≡ false) → line_in ways b ≡ None
 line_in-none ways b none =
     let last : place ways b ≡ length ways.lines
     = position_or_len_is (holds b) ways.lines (length ways.lines) None (omega arith) none (λ l. absurd (omega arith)) in
     line_in-place ways b ∙ get_or_past ways.lines (place ways b) None (omega arith)
 
--- and where it has none, no way has its line
+-- if a block has no line, no way has a line of it
 pub none_held : (ways : Ways) (b w : ℕ) (line : Line) → line_in ways b ≡ None → line_at ways w ≡ Some line → line.at ≢ b
 none_held ways b w line none e = λ same. elim (cases_lt (place ways b) (length ways.lines)) as (λ _. ⊥) [
   | inl l ↦

@@ -20,11 +20,11 @@ few_dirty sets ways c many each =
     let all : way_count c ≤ length c.sets * ways = sum_by-le width ways c.sets narrow in
     omega (arith, dirty_count-le c, all, ap (λ n. n * ways) many)
 
--- so many sets and ways are a size
+-- a cache with this number of sets, and this number of ways in each, has that size
 sized : (sets ways : ℕ) (c : Contents) → length c.sets ≡ sets → All (λ set. length set.lines ≡ ways) c.sets → IsSized sets ways c
 sized sets ways c many each = record { set_count = many; each = each; few_dirty = few_dirty sets ways c many each }
 
--- another set with as many ways keeps it
+-- replacing a set by one with the same number of ways keeps a cache's size
 pub KeepsSize-with_set : (c : Contents) (s : ℕ) (set : Ways) → s < length c.sets → width set ≡ width (set_at c s) → KeepsSize c (with_set s set c)
 KeepsSize-with_set c s set inside same sets ways size =
     let Wide : Ways → Type 0 = λ t. length t.lines ≡ ways in

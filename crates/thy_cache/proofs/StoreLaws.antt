@@ -31,7 +31,7 @@ pub record CanFill (c : Contents) (blocks : List Block) (b : ℕ) (block : Block
   pub inside : b < length blocks
   pub loaded : block ≡ block_at blocks b
 
--- it is a filling of the block's set
+-- what a fill of a block asks for is a filling of the block's set
 pub filling : (c : Contents) (blocks : List Block) (b : ℕ) (block : Block) → CanFill c blocks b block
     → Filling (length c.sets) blocks (index_of c b) (victim_way (set_of c b)) b block (used (victim_way (set_of c b)) (set_of c b))
 filling c blocks b block can = record {
@@ -50,7 +50,7 @@ fill-line_of c blocks b block can =
     ap (λ set. line_in set b) (set_of-same c (index_of c b) (filled b block (set_of c b)) b can.set refl)
     ∙ line_in-filled (length c.sets) blocks (index_of c b) (victim_way (set_of c b)) b block (used (victim_way (set_of c b)) (set_of c b)) (filling c blocks b block can)
 
--- every block reads as before
+-- every block reads as before after a fill
 pub fill-flat_at : (c : Contents) (blocks : List Block) (b : ℕ) (block : Block) → CanFill c blocks b block → (x : ℕ) → flat_at (filled_with b block c) blocks x ≡ flat_at c blocks x
 fill-flat_at c blocks b block can x = elim (cases_eq (index_of c x) (index_of c b)) as (λ _. flat_at (filled_with b block c) blocks x ≡ flat_at c blocks x) [
   | inl same ↦
@@ -69,7 +69,7 @@ fill-agrees c blocks b block can =
     (SetAgrees-filled (length c.sets) blocks (index_of c b) (victim_way (set_of c b)) b block (used (victim_way (set_of c b)) (set_of c b)) (filling c blocks b block can))
     (λ t other. can.agrees.sets t)
 
--- so does the cache that a fill leaves, over a store that holds the same
+-- a fill leaves the flat list of the cache, over a store that holds the same
 pub filled-flat : (c d : Contents) (blocks held : List Block) (b : ℕ) (block : Block) → CanFill c blocks b block → d ≡ filled_with b block c → held ≡ blocks
     → flat d held ≡ flat c blocks
 filled-flat c d blocks held b block can now same = rw (now, same) (fill-flat c blocks b block can)
@@ -88,7 +88,7 @@ pub record CanStore (c : Contents) (blocks : List Block) (s w : ℕ) (line : Lin
 pub clean-keeps : KeepsBlock clean
 clean-keeps line = refl
 
--- and what it holds
+-- a store leaves what a line holds
 pub clean-same : (o : Option Line) → option_map (λ (line : Line). line.block) (option_map clean o) ≡ option_map (λ (line : Line). line.block) o
 clean-same None = refl
 clean-same (Some line) = refl
@@ -130,7 +130,7 @@ stored_here c blocks s w line can v other e same =
     let is : Some other ≡ Some line = sym e ∙ ap (line_at (set_at c s)) one ∙ can.stands in
     ap (λ (l : Line). l.block) (some_is other line is)
 
--- and none lies in another set
+-- no other set has a line of the stored block that differs from it
 pub stored_there : (c : Contents) (blocks : List Block) (s w : ℕ) (line : Line) → CanStore c blocks s w line
     → (t : ℕ) → t ≢ s → (v : ℕ) (other : Line) → line_at (set_at c t) v ≡ Some other → other.at ≡ line.at → other.block ≡ line.block
 stored_there c blocks s w line can t elsewhere v other e same =
@@ -155,7 +155,7 @@ store-agrees c blocks s w line can =
     (SetAgrees-over_line (length c.sets) (slice_set blocks line.at line.block) s clean w (set_at c s) clean-keeps (stored_clean_now c blocks s w line can) old)
     (λ t other. SetAgrees-stored (length c.sets) blocks t (set_at c t) line.at line.block (stored_there c blocks s w line can t other) (can.agrees.sets t))
 
--- where there is room the line that goes is not dirty
+-- if there is room, the line that goes is not dirty
 pub room-clean : (o : Option Line) → victim_line o ≡ Room → is_dirty o ≡ false
 room-clean None e = refl
 room-clean (Some line) e = elim (cases_Bool line.dirty) as (λ _. line.dirty ≡ false) [
@@ -179,12 +179,12 @@ pub clean-room : (o : Option Line) → victim_line (option_map clean o) ≡ Room
 clean-room None = refl
 clean-room (Some line) = refl
 
--- it does not change where lines are
+-- cleaning a line does not change where lines are
 pub is_none-clean : (o : Option Line) → is_none (option_map clean o) ≡ is_none o
 is_none-clean None = refl
 is_none-clean (Some line) = refl
 
--- nor which way is the victim
+-- a store does not change which way is the victim
 pub victim_way-clean : (w : ℕ) (set : Ways) → victim_way (over_line clean w set) ≡ victim_way set
 victim_way-clean w set =
     let same : position_or_len is_none (slice_set set.lines w (option_map clean (line_at set w))) ≡ position_or_len is_none set.lines
@@ -193,7 +193,7 @@ victim_way-clean w set =
     ap (λ k. unwrap_or (cond (nat_lt k (length (slice_set set.lines w (option_map clean (line_at set w))))) (Some k) None) (slice_index set.order 0)) same
     ∙ ap (λ n. unwrap_or (cond (nat_lt (position_or_len is_none set.lines) n) (Some (position_or_len is_none set.lines)) None) (slice_index set.order 0)) long
 
--- so after a store of the victim there is room
+-- after a store of the victim there is room
 pub evict-room : (c : Contents) (b : ℕ) (line : Line) → index_of c b < length c.sets → victim_line_of c b ≡ Some line
     → victim_of (cleaned_at (index_of c b) (victim_way (set_of c b)) c) b ≡ Room
 evict-room c b line inside stands =

@@ -16,7 +16,7 @@ use Rattle.thy_cache.proofs.SingleLemmas.{HaveOneLineEach-changed, HaveOneLineEa
 use Rattle.thy_cache.proofs.FlushLaws.{none-at}
 use Rattle.thy_cache.proofs.OrderLemmas.{found_way, StandOnce-moved, StandOnce-range}
 
--- one number more
+-- a range with one number more
 pub range_with_len_more : (n : ℕ) → range_with_len 0 (n + 1) ≡ range_with_len 0 n ++ n ∷ []
 range_with_len_more n =
     sym (map-id (range_with_len 0 (n + 1))) ∙ map-range_with_len_more (λ k. k) 0 n n (omega arith) ∙ ap (λ xs. xs ++ n ∷ []) (map-id (range_with_len 0 n))
@@ -39,7 +39,7 @@ range_last n some =
 no_lines_single : (n : ℕ) → HaveOneLineEach (empty_ways n).lines
 no_lines_single n w v line other e f same = absurd (none_is_none line (sym (none-at n w) ∙ e))
 
--- new parts are sound
+-- the parts of a new set are sound
 pub AreSoundWays-empty : (n : ℕ) (lines : List (Option Line)) (order : List ℕ) → 0 < n → lines ≡ (empty_ways n).lines → order ≡ range_with_len 0 n
     → AreSoundWays lines order (n - 1)
 AreSoundWays-empty n lines order some e f =
@@ -59,7 +59,7 @@ pushed_last xs x =
     let last : length (xs ++ x ∷ []) - 1 ≡ length xs = omega (arith, length_push xs x) in
     ap (λ (k : ℕ). get_or (xs ++ x ∷ []) k 0) last ∙ get_or-append_seam xs x [] 0
 
--- they stay so after a use
+-- the ways of a set stay sound after a use
 pub AreSoundWays-used : (lines : List (Option Line)) (order moved : List ℕ) (latest at way : ℕ) → AreSoundWays lines order latest
     → position (λ v. v == way) order ≡ Some at → way < length lines → moved ≡ remove order at ++ way ∷ [] → AreSoundWays lines moved way
 AreSoundWays-used lines order moved latest at way sound found here e =

@@ -19,7 +19,7 @@ use Rattle.thy_cache.proofs.CountLemmas.{dirt, dirty_lines-rewritten, dirty_coun
 pub true_is_not_false : true ≡ false → ⊥
 true_is_not_false e = cc
 
--- where each line holds the same, the flat list is the same
+-- if each block's line holds the same, the flat list is the same
 pub ReadsSame-peeks : (c d : Contents) → PeeksSame c d → ReadsSame c d
 ReadsSame-peeks c d same blocks = flat-same d c blocks blocks refl (λ b inside. ap (λ o. unwrap_or o (block_at blocks b)) (same b))
 
@@ -64,19 +64,19 @@ written-here b at bytes ways (Some w) e =
     let there = place-way_of ways b w e in
     line_in-changed (changed at bytes) (changed-keeps at bytes) (used w ways) w b there.1 there.0
 
--- no other line was
+-- no line but the block's was written to
 pub written-other : (b at : ℕ) (bytes : List ℕ) (ways : Ways) (o : Option ℕ) (x : ℕ) → way_of ways b ≡ o → x ≢ b → line_in (written_in at bytes ways o) x ≡ line_in ways x
 written-other b at bytes ways None x e other = refl
 written-other b at bytes ways (Some w) x e other = line_in-other (changed at bytes) (changed-keeps at bytes) (used w ways) b w x e other
 
--- the set still agrees
+-- the set still agrees after a write
 pub written-agrees : (n : ℕ) (blocks : List Block) (s b at : ℕ) (bytes : List ℕ) (ways : Ways) (o : Option ℕ) → SetAgrees n blocks s ways → SetAgrees n blocks s (written_in at bytes ways o)
 written-agrees n blocks s b at bytes ways None agrees = agrees
 written-agrees n blocks s b at bytes ways (Some w) agrees =
     SetAgrees-over_line n blocks s (changed at bytes) w (used w ways) (changed-keeps at bytes) (λ line e pure. absurd (true_is_not_false pure))
     (SetAgrees-same n blocks s ways (used w ways) refl agrees)
 
--- as many lines as before
+-- a write leaves the number of lines of a set
 pub written-width : (at : ℕ) (bytes : List ℕ) (ways : Ways) (o : Option ℕ) → length (written_in at bytes ways o).lines ≡ length ways.lines
 written-width at bytes ways None = refl
 written-width at bytes ways (Some w) = length-set ways.lines w (option_map (changed at bytes) (line_at ways w))
@@ -116,7 +116,7 @@ write-flat c b at bytes inside hit blocks below =
     ∙ ap (overwritten at bytes) (sym (block_at-flat c blocks b below)))
     (λ x other. ap (λ o. unwrap_or (option_map (λ (line : Line). line.block) o) (block_at blocks x)) (write-other c b at bytes inside x other))
 
--- the same blocks hit
+-- applying a function to an option leaves whether it holds something
 pub is_some-map : {X Y : Type 0} (f : X → Y) (o : Option X) → is_some (option_map f o) ≡ is_some o
 is_some-map f None = refl
 is_some-map f (Some x) = refl
@@ -139,7 +139,7 @@ pub write-count : (c : Contents) (b at : ℕ) (bytes : List ℕ) → index_of c 
 write-count c b at bytes inside hit =
     omega (arith, dirty_count-with_set c (index_of c b) (written_to b at bytes (set_of c b)) inside, written-count b at bytes (set_of c b) (way_of (set_of c b) b) refl hit)
 
--- one more dirty line still fits
+-- the count of dirty lines fits 64 bits after one more line becomes dirty
 pub write-fits : (c : Contents) (b at : ℕ) (bytes : List ℕ) (dirty modulus : ℕ) → IsSoundCache c.sets dirty modulus → index_of c b < length c.sets → hits c b ≡ true
     → is_dirty (line_of c b) ≡ false → dirty + 1 < 2 ^ 64
 write-fits c b at bytes dirty modulus sound inside hit pure =

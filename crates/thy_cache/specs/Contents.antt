@@ -26,11 +26,11 @@ pub record IsSoundCache (sets : List Ways) (dirty modulus : ℕ) : Type 0 where
   pub some_set : 0 < length sets
   -- blocks are divided by the number of sets
   pub divides : modulus ≡ length sets
-  -- the number is that of the dirty lines
+  -- the number counts the dirty lines
   pub counted : dirty ≡ sum_by dirty_lines sets
   pub fits : sum_by (λ (set : Ways). length set.lines) sets < 2 ^ 64
 
--- past the last set there is none
+-- the ways of a set past the last one: there are none
 abbrev pub no_ways : Ways
 no_ways = record { lines = []; order = [] }
 
@@ -79,14 +79,14 @@ is_dirty_victim (Dirty b) = true
 abbrev pub dirty_count : Contents → ℕ
 dirty_count c = sum_by dirty_lines c.sets
 
--- a cache of so many sets of so many ways each
+-- a cache of this number of sets, with this number of ways in each
 pub record IsSized (sets ways : ℕ) (c : Contents) : Type 0 where
   pub set_count : length c.sets ≡ sets
   pub each : All (λ set. length set.lines ≡ ways) c.sets
-  -- so no more lines than these are dirty
+  -- no more lines are dirty than the size allows
   pub few_dirty : dirty_count c ≤ sets * ways
 
--- it has as many sets and ways as before
+-- the cache has the same numbers of sets and ways as before
 abbrev pub KeepsSize : Contents → Contents → Type 0
 KeepsSize old new = (sets ways : ℕ) → IsSized sets ways old → IsSized sets ways new
 
@@ -94,19 +94,19 @@ KeepsSize old new = (sets ways : ℕ) → IsSized sets ways old → IsSized sets
 abbrev pub with_set : ℕ → Ways → Contents → Contents
 with_set s set c = record c { sets = slice_set c.sets s set }
 
--- after a read of a block
+-- a cache after a read of a block
 abbrev pub read_from : ℕ → Contents → Contents
 read_from b c = with_set (index_of c b) (used_for b (set_of c b)) c
 
--- after a write to a block
+-- a cache after a write to a block
 abbrev pub written_at : ℕ → ℕ → List ℕ → Contents → Contents
 written_at b at bytes c = with_set (index_of c b) (written_to b at bytes (set_of c b)) c
 
--- after a block was filled in
+-- a cache after a block was filled in
 abbrev pub filled_with : ℕ → Block → Contents → Contents
 filled_with b block c = with_set (index_of c b) (filled b block (set_of c b)) c
 
--- after the line in a way was stored
+-- a cache after the line in a way was stored
 abbrev pub cleaned_at : ℕ → ℕ → Contents → Contents
 cleaned_at s w c = with_set s (over_line clean w (set_at c s)) c
 
@@ -115,7 +115,7 @@ abbrev pub stored_at : Stored → ℕ → ℕ → Contents → Contents
 stored_at Done s w c = cleaned_at s w c
 stored_at CopyFirst s w c = c
 
--- after an evict for a block
+-- a cache after an evict for a block
 abbrev pub evicted_for : Stored → ℕ → Contents → Contents
 evicted_for stored b c = stored_at stored (index_of c b) (victim_way (set_of c b)) c
 
@@ -123,7 +123,7 @@ evicted_for stored b c = stored_at stored (index_of c b) (victim_way (set_of c b
 abbrev pub dirty_set : Contents → ℕ
 dirty_set c = unwrap_or (position has_dirty c.sets) 0
 
--- and the first way in it that has one
+-- the first way with a dirty line in the first set that has one
 abbrev pub dirty_way : Contents → ℕ
 dirty_way c = unwrap_or (position is_dirty (set_at c (dirty_set c)).lines) 0
 
@@ -140,13 +140,13 @@ pub record HasNoneDirty (c : Contents) : Type 0 where
   pub first : dirty_line c ≡ None
   pub none : (s w : ℕ) → is_dirty (line_at (set_at c s) w) ≡ false
 
--- after a step of a flush
+-- a cache after a step of a flush
 abbrev pub flushed_from : Flushed → Contents → Contents
 flushed_from Clean c = c
 flushed_from StoredLine c = cleaned_at (dirty_set c) (dirty_way c) c
 flushed_from CopiedFirst c = c
 
--- the store did its own store of this line
+-- the store below did a store of this line's block
 pub record StoresLine (stored : Stored) (o : Option Line) (old new : Holding) : Type 0 where
   pub line : Line
   pub stands : o ≡ Some line
@@ -163,13 +163,13 @@ abbrev pub CountsStored : Stored → ℕ → ℕ → Type 0
 CountsStored Done old new = new + 1 ≡ old
 CountsStored CopyFirst old new = new ≡ old
 
--- and so in a step of a flush
+-- a step of a flush makes one line clean if it stored it, and none otherwise
 abbrev pub CountsFlushed : Flushed → ℕ → ℕ → Type 0
 CountsFlushed Clean old new = new ≡ old
 CountsFlushed StoredLine old new = new + 1 ≡ old
 CountsFlushed CopiedFirst old new = new ≡ old
 
--- no page is being copied, or that of the first dirty line
+-- no page is being copied, or only the page of the first dirty line
 abbrev pub IsOpenForFlush : Contents → Option ℕ → Type 0
 IsOpenForFlush c page = (page ≡ None) ⊎ ((line : Line) × (dirty_line c ≡ Some line) × (page ≡ Some (page_of line.at)))
 

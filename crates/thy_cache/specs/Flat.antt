@@ -13,11 +13,12 @@ use Rattle.thy_cache.specs.Contents.{Contents, set_at, line_of, peeked, hits, di
 abbrev pub flat_at : Contents → List Block → ℕ → Block
 flat_at c blocks b = unwrap_or (peeked c b) (block_at blocks b)
 
--- every block of the store so read
+-- every block of the store, read through the cache
 unfoldable pub flat : Contents → List Block → List Block
 flat c blocks = map (flat_at c blocks) (range_with_len 0 (length blocks))
 
--- a line of set s among so many is of one of the store's blocks, lies in its set, and is the store's block if it is clean
+-- a line of set s of this number of sets is of one of the store's blocks, lies in its set, and is the store's block if
+-- it is clean
 pub record IsLineOf (sets : ℕ) (blocks : List Block) (s : ℕ) (line : Line) : Type 0 where
   pub inside : line.at < length blocks
   pub own_set : s ≡ line.at % sets
@@ -37,7 +38,7 @@ pub record Agrees (c : Contents) (blocks : List Block) : Type 0 where
 abbrev pub PeeksSame : Contents → Contents → Type 0
 PeeksSame old new = (x : ℕ) → peeked new x ≡ peeked old x
 
--- the same blocks hit
+-- each block hits in both caches or in neither
 abbrev pub HitsSame : Contents → Contents → Type 0
 HitsSame old new = (x : ℕ) → hits new x ≡ hits old x
 
@@ -54,7 +55,7 @@ abbrev pub WritesOver : ℕ → ℕ → List ℕ → Contents → Contents → T
 WritesOver b at bytes old new = (blocks : List Block) → b < length blocks
     → flat new blocks ≡ block_written (flat old blocks) b at bytes
 
--- every store that agreed does so still
+-- every store that agreed with the old lines agrees with the new ones
 abbrev pub AgreesStill : Contents → Contents → Type 0
 AgreesStill old new = (blocks : List Block) → Agrees old blocks → Agrees new blocks
 

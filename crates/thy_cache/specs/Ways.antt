@@ -56,7 +56,7 @@ is_dirty (Some line) = line.dirty
 abbrev pub way_of : Ways → ℕ → Option ℕ
 way_of ways b = position (holds b) ways.lines
 
--- and that line
+-- the first line of this block in a set, if there is one
 abbrev pub line_in : Ways → ℕ → Option Line
 line_in ways b = option_and_then (line_at ways) (way_of ways b)
 
@@ -68,11 +68,11 @@ moved_last w xs = option_map_or (λ at. remove xs at ++ w ∷ []) (position (λ 
 abbrev pub used : ℕ → Ways → Ways
 used w ways = record ways { order = moved_last w ways.order }
 
--- after a line was put into a way
+-- a set after a line was written into a way
 abbrev pub with_line : ℕ → Line → Ways → Ways
 with_line w line ways = record ways { lines = slice_set ways.lines w (Some line) }
 
--- after the line in a way was changed
+-- a set after the line in a way was changed
 abbrev pub over_line : (Line → Line) → ℕ → Ways → Ways
 over_line f w ways = record ways { lines = slice_set ways.lines w (option_map f (line_at ways w)) }
 
@@ -93,19 +93,19 @@ clean line = record line { dirty = false }
 abbrev pub changed : ℕ → List ℕ → Line → Line
 changed at bytes line = record line { block = overwritten at bytes line.block; dirty = true }
 
--- a line of a block as its store has it
+-- a block's line with what the store has of the block
 abbrev pub fresh_line : ℕ → Block → Line
 fresh_line b block = record { at = b; block = block; dirty = false }
 
--- after a use of a block's line
+-- a set after a use of a block's line
 abbrev pub used_for : ℕ → Ways → Ways
 used_for b ways = option_map_or (λ w. used w ways) (way_of ways b) ways
 
--- after a write to a block's line
+-- a set after a write to a block's line
 abbrev pub written_to : ℕ → ℕ → List ℕ → Ways → Ways
 written_to b at bytes ways = option_map_or (λ w. over_line (changed at bytes) w (used w ways)) (way_of ways b) ways
 
--- after a block was filled in
+-- a set after a block was filled in
 abbrev pub filled : ℕ → Block → Ways → Ways
 filled b block ways = with_line (victim_way ways) (fresh_line b block) (used (victim_way ways) ways)
 

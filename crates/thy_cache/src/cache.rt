@@ -34,7 +34,7 @@ impl Model for Cache {
 }
 
 impl Cache {
-    /// A cache without lines, of so many sets of so many ways each.
+    /// A cache without lines, of `sets` sets with `ways` ways each.
     pub fn new(alloc: Global, sets: u64, ways: u64) -> Result<Cache, AllocError>
         requires sets { 0 < sets }
         requires ways { 0 < ways }
@@ -215,7 +215,7 @@ impl Cache {
         }
     }
 
-    /// Puts block `b`, which does not hit, in the place of its victim, clean.
+    /// Loads block `b`, which does not hit, into the way of its victim, as a clean line.
     fn place(&mut self, b: u64, block: &Block)
         requires room { is_dirty (victim_line_of self.old b) ≡ false }
         requires miss { hits self.old b ≡ false }

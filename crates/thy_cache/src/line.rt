@@ -5,20 +5,20 @@ use thy_base::Block;
 /// A block that a cache holds.
 #[derive(Clone, Copy, Debug, PartialEq, Eq)]
 pub struct Line {
-    /// Which block it is.
+    /// Which block the line is of.
     pub at: u64,
-    /// What it holds.
+    /// The block that the line holds.
     pub block: Block,
-    /// It was written to, and its store does not have it yet.
+    /// The line was written to, and its store does not have it yet.
     pub dirty: bool,
 }
 
 /// Where a cache has the line of a block.
 #[derive(Clone, Copy, Debug, PartialEq, Eq)]
 pub struct LinePlace {
-    /// The number of its set.
+    /// The number of the line's set.
     pub set: usize,
-    /// Its way in that.
+    /// The way of the line in its set.
     pub way: usize,
 }
 

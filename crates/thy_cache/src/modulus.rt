@@ -27,7 +27,7 @@ impl Model for Modulus {
 const GREATEST_POWER: u64 = 1 << 63;
 
 impl Modulus {
-    /// This number.
+    /// The modulus of this number.
     pub(crate) fn new(number: u64) -> Modulus
         requires { 0 < number }
         ensures { result ≡ number }

@@ -9,8 +9,8 @@ use std::alloc::{AllocError, Global};
 use std::marker::Model;
 use thy_base::Block;
 
-/// A set: as many ways as it was made with, each with at most one line, and the order in which they
-/// were last used. No block has two lines.
+/// A set: a fixed number of ways, each with at most one line, and the order in which they were last used. No block has
+/// two lines.
 #[derive(Drop)]
 pub(crate) struct WaySet {
     lines: Vec<Option<Line>>,
@@ -29,7 +29,7 @@ impl Model for WaySet {
     ghost invariant = { λ s. AreSoundWays s.lines.items s.order.items s.latest };
 }
 
-/// Takes the way at a place of the order and puts it, now `way`, at its end.
+/// Moves the way at a place of the order, now called `way`, to the end of the order.
 fn move_last(order: &mut Vec<usize>, at: usize, way: usize)
     requires { at < length order.old.items }
     ensures { order.new.items ≡ remove order.old.items at ++ way ∷ [] }
@@ -59,7 +59,7 @@ fn rising(alloc: Global, ways: usize) -> Result<Vec<usize>, AllocError>
 }
 
 impl WaySet {
-    /// So many ways without lines.
+    /// A set of `ways` ways without lines.
     pub(crate) fn new(alloc: Global, ways: usize) -> Result<WaySet, AllocError>
         requires { 0 < ways }
         ensures { IfOk result (λ set. set ≡ empty_ways ways) }
@@ -182,7 +182,7 @@ impl WaySet {
         }
     }
 
-    /// Puts a way at the end of the order.
+    /// Moves a way to the end of the order.
     #[inline(never)]
     fn move_last(&mut self, way: usize)
         requires { way < length self.old.lines }
@@ -194,7 +194,7 @@ impl WaySet {
         }
     }
 
-    /// Puts a line of a block that has none into a way.
+    /// Writes a line, whose block has none, into a way.
     fn put(&mut self, way: usize, line: Line)
         requires way { way < length self.old.lines }
         requires missing { is_some (line_in self.old line.at) ≡ false }
@@ -240,7 +240,7 @@ impl WaySet {
         self.lines[way] = cleaned(self.lines[way]);
     }
 
-    /// Puts block `b`, which has no line, in the place of the victim.
+    /// Loads block `b`, which has no line, into the way of the victim.
     pub(crate) fn fill(&mut self, b: u64, block: &Block)
         requires { is_some (line_in self.old b) ≡ false }
         ensures { self.new ≡ filled b block.now self.old }
@@ -256,7 +256,7 @@ impl WaySet {
     }
 }
 
-/// So many sets of so many ways without lines.
+/// A list of `sets` sets, with `ways` ways without lines in each.
 pub(crate) fn empty_sets(alloc: Global, sets: u64, ways: usize) -> Result<Vec<WaySet>, AllocError>
     requires { 0 < ways }
     ensures { IfOk result (λ all. all.items ≡ replicate sets (empty_ways ways)) }

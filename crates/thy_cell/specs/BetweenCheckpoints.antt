@@ -29,7 +29,7 @@ pub record NewIsSound (i j block page : ℕ) (under_way : Bool) : Type 0 where
 abbrev pub NewCellsAreSound : Type 0
 NewCellsAreSound = (i j block page : ℕ) (under_way : Bool) → NewIsSound i j block page under_way
 
--- so are a block and a page that a boot finds listed in the committed checkpoint
+-- a block and a page that a boot finds listed in the committed checkpoint are sound
 pub record ListedIsSound (i j block page : ℕ) : Type 0 where
   pub of_block : IsSoundCell false (record { i = i; entry = listed_entry block; j = j; page = no_page page })
   pub of_page : IsSoundCell false (record { i = i; entry = new_entry block; j = j; page = listed_page page })
@@ -82,7 +82,7 @@ PromotionKeeps =
     → Puts p (frame_at (seat_of c)) (old (work c)) old new
     → Keeps under_way old new c (with_filled c)
 
--- and for the others of its page, whose places the write leaves
+-- the copy of a promoted page's next block into its frame, for the page's other blocks, whose places it leaves
 abbrev pub PromotionKeepsOthers : Type 0
 PromotionKeepsOthers =
     (under_way : Bool) (c : Cell) (old new : Place → Block)
@@ -109,7 +109,7 @@ PageWriteKeeps =
     → Puts p (target c) (old (frame_at (seat_of c))) old new
     → Keeps true old new c (with_issued c)
 
--- and for the others
+-- the write of a busy page's next block to its target, for the page's other blocks
 abbrev pub PageWriteKeepsOthers : Type 0
 PageWriteKeepsOthers =
     (c : Cell) (old new : Place → Block)

@@ -40,7 +40,7 @@ placed Alt page x = alternate_at x
 placed Out AtAlternate x = AlternatePage x.j (x.block % 64)
 placed Out AtHome x = Home x.block
 
--- its place at the checkpoint under way, until that has copied it
+-- the place of a block at the checkpoint under way, until that has copied it
 abbrev pub pending_at : Pending → Version → Site → Seat → Place
 pending_at Settled v page x = placed v page x
 pending_at FromBuffer v page x = buffer_at x
@@ -53,7 +53,7 @@ agree Alt Alt = true
 agree Out Alt = false
 agree Alt Out = false
 
--- its place now, by its work, with the frame of its page and its last version
+-- the place of a block's version now, by its work, with the frame of its page and its last version
 abbrev pub worked_at : Working → Bool → Place → Version → Seat → Place
 worked_at NoWork framed last v x = if framed then frame_at x else last
 worked_at InNvm framed last v x = placed (other_version v) AtHome x

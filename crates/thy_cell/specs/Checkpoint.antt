@@ -42,11 +42,11 @@ page_sealed_by low false place page = Some (record page { target = place; dirty 
 abbrev pub sealed_frame : Bool → PttEntry → Option PttEntry
 sealed_frame low page = page_sealed_by low (page.dirty || page.fresh) page.place page
 
--- one that is not framed stays as it is
+-- a page's entry after a seal, which changes only the entry of a framed page
 abbrev pub sealed_page : Bool → PttEntry → Option PttEntry
 sealed_page low page = if is_framed page then sealed_frame low page else Some page
 
--- an entry's place, or 0 if it was cleared
+-- the place of an entry, or 0 if the entry was cleared
 abbrev pub kept_index : {E : Type 0} → ℕ → Option E → ℕ
 kept_index i None = 0
 kept_index i (Some e) = i
@@ -83,7 +83,7 @@ page_committed_by false page = Some (record page { place = page.target; issued =
 abbrev pub committed_page : PttEntry → Option PttEntry
 committed_page page = page_committed_by page.leaving page
 
--- a block's entry, or a new one if it was cleared
+-- a block's entry, or a new entry if that was cleared
 abbrev pub entry_or_new : ℕ → Option BttEntry → BttEntry
 entry_or_new b None = new_entry b
 entry_or_new b (Some e) = e
@@ -144,7 +144,7 @@ SealMoves =
     (few low : Bool) (c : Cell) (reads : Place → Block) → IsSoundCell false c → IsWhole c.page → IsBare c → Holds reads c
     → Moves reads c (sealed few low c) (reads (penult c)) (reads (work c))
 
--- it leaves no work
+-- a seal leaves no work
 abbrev pub SealTakesWork : Type 0
 SealTakesWork =
     (few low : Bool) (c : Cell) → IsSoundCell false c → IsBare c → (sealed few low c).entry.work ≡ NoWork

@@ -39,7 +39,7 @@ store_place ToBuffer c = buffer_at (seat_of c)
 store_place ToNvm c = placed (other_version c.entry.v0) AtHome (seat_of c)
 store_place PendingFirst c = target c
 
--- after the copy of what was pending
+-- a cell after the copy of what was pending
 abbrev pub after_copy : Cell → Cell
 after_copy c = record c { entry = record c.entry { pend = Settled } }
 

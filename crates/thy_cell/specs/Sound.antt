@@ -15,7 +15,7 @@ use Rattle.thy_cell.specs.declared.cell.Cell.{Cell}
 use Rattle.thy_table.specs.PageEntry.{is_framed}
 use Rattle.thy_cell.specs.Cells.{Seat, seat_of, frame_at, target, last, work}
 
--- the entries and the block are there
+-- the entries are within their tables, and the block is within memory
 pub record IsWithin (p : Parameters) (x : Seat) : Type 0 where
   pub entry : x.i < p.btt
   pub page : x.j < p.ptt

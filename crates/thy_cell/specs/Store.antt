@@ -17,13 +17,13 @@ pub record KeepsPlaces (c d : Cell) : Type 0 where
   pub penult_same : penult d ≡ penult c
   pub target_same : target d ≡ target c
 
--- the committed version, that of the checkpoint under way, and what a load gives
+-- the committed version and the version of the checkpoint under way read as before, and a load gives this block
 pub record LoadGives (old new : Place → Block) (c d : Cell) (given : Block) : Type 0 where
   pub penult_same : new (penult d) ≡ old (penult c)
   pub last_same : new (last d) ≡ old (last c)
   pub work_gives : new (work d) ≡ given
 
--- the block that a rule's write puts: the one that is stored, or the buffer that has to be copied
+-- the block that a rule writes: the one that is stored, or the buffer that has to be copied
 abbrev pub put_by : StoreRule → Block → (Place → Block) → Cell → Block
 put_by ToFrame block reads c = block
 put_by ToBuffer block reads c = block
@@ -51,17 +51,17 @@ abbrev pub StoreGoesElsewhere : Type 0
 StoreGoesElsewhere =
     (under_way : Bool) (c : Cell) → IsSoundCell under_way c → IsWhole c.page → IsElsewhere (store_place (store_rule c) c) c
 
--- nor the place at which the checkpoint under way is to have the block, unless the copy comes first
+-- a store does not write the place at which the checkpoint under way is to have the block, unless the copy comes first
 abbrev pub StoreLeavesTarget : Type 0
 StoreLeavesTarget =
     (under_way : Bool) (c : Cell) → IsSoundCell under_way c → IsWhole c.page → c.entry.pend ≢ FromBuffer
     → target c ≢ store_place (store_rule c) c
 
--- and it moves no place of a checkpoint
+-- a store moves no place of a checkpoint
 abbrev pub StoreKeepsPlaces : Type 0
 StoreKeepsPlaces = (c : Cell) → KeepsPlaces c (after_store (store_rule c) c)
 
--- so after a store both versions read as before, and a load gives what was stored; if the copy came first, what it
+-- after a store both versions read as before, and a load gives what was stored, or, if the copy came first, what it
 -- gave before
 abbrev pub StoreReads : Type 0
 StoreReads =
@@ -70,7 +70,7 @@ StoreReads =
     → Puts p (store_place (store_rule c) c) (put_by (store_rule c) block old c) old new
     → LoadGives old new c (after_store (store_rule c) c) (given_by (store_rule c) block old c)
 
--- and the places hold what they have to
+-- after a store the places of a block hold what they have to, if they did before
 abbrev pub StoreHolds : Type 0
 StoreHolds =
     (p : Parameters) (under_way : Bool) (c : Cell) (block : Block) (old new : Place → Block)

@@ -25,7 +25,7 @@ pub struct Cell {
 pub enum StoreRule {
     ToFrame,
     ToBuffer,
-    /// To that of the block's two places in the NVM that no checkpoint has.
+    /// To one of the block's two places in the NVM, the one that no checkpoint has.
     ToNvm,
     /// The buffer has still to be copied, before the store.
     PendingFirst,

@@ -52,7 +52,7 @@ pub fn sealed_page(page: &PttEntry, low: bool) -> Option<PttEntry>
     }
 }
 
-/// The same of a framed page.
+/// A framed page's entry after a seal, None if it is cleared: by whether it had few stores.
 fn sealed_frame(page: &PttEntry, low: bool) -> Option<PttEntry>
     ensures { result ≡ sealed_frame low page.now }
 {

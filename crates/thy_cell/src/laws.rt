@@ -8,8 +8,8 @@ pub fn a_store_keeps_entries_sound()
     ensures { StoreKeepsSound }
 {}
 
-/// A store, and the copy that may come first, write neither the place of the committed version nor that of the version of
-/// the checkpoint under way.
+/// A store, and the copy that may come first, write neither the place of the committed version nor the place of the
+/// version that the checkpoint under way has.
 pub fn a_store_goes_elsewhere()
     ensures { StoreGoesElsewhere }
 {}
@@ -44,7 +44,7 @@ pub fn listed_cells_are_sound()
     ensures { ListedCellsAreSound }
 {}
 
-/// With its committed version in its page's frame, a block of a page that was found listed holds what it has to.
+/// A block of a page that was found listed holds what it has to, with its committed version in the page's frame.
 pub fn a_frame_is_loaded()
     ensures { FrameLoads }
 {}
@@ -54,7 +54,7 @@ pub fn a_seal_keeps_entries_sound()
     ensures { SealKeepsSound }
 {}
 
-/// A seal makes the working version that of the checkpoint under way, and keeps the committed one.
+/// A seal makes the working version the version of the checkpoint under way, and keeps the committed one.
 pub fn a_seal_takes_the_work()
     ensures { SealMoves }
 {}

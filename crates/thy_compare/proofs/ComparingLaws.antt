@@ -24,7 +24,7 @@ pub sent_behind : (failed : Bool) (a b : List ℕ) (old mid new : Stream) → Se
 sent_behind false a b old mid new took sent = Took-append old mid new a b took sent
 sent_behind true a b old mid new took sent = (TookPart-append old mid new a b took sent.0, nothing_due_behind a b sent.1)
 
--- and if it failed in the first ones, there is no more
+-- a report that failed in the first lines takes no others
 pub sent_first : (a b : List ℕ) (old mid : Stream) → Sent true old mid a → Sent true old mid (a ++ b)
 sent_first a b old mid sent = (TookPart-more old mid a b sent.0, nothing_due a b sent.1)
 
@@ -42,7 +42,7 @@ ended_append : (vs : List Event) (v : Event) → has_ended (vs ++ v ∷ []) ≡ 
 ended_append [] v = or_none (is_end v)
 ended_append (w ∷ vs) v = or_more (is_end w) (has_ended (vs ++ v ∷ [])) (has_ended vs) (is_end v) (ended_append vs v)
 
--- one event more
+-- the first events with one more have an end if they had one, or if the one is an end
 pub ended_more : (events : List Event) (i : ℕ) (v : Event) → slice_get events i ≡ Some v → has_ended (take (i + 1) events) ≡ (has_ended (take i events) || is_end v)
 ended_more events i v is =
     ap has_ended (take_more events i Reload (slice_get_within events i v is) ∙ ap (λ (x : Event). take i events ++ x ∷ []) (get_or_from_slice_get events i v Reload is))
@@ -58,11 +58,11 @@ after_other false more is = sym is
 
 -- ---- events
 
--- the events before a run, its own first one, and those of the run
+-- the events before a run, its own first one, and the run's other events
 pub joined_last : (before made own : List Event) (v : Event) → made ≡ before ++ v ∷ [] → made ++ own ≡ before ++ v ∷ own
 joined_last before made own v is = ap (λ (l : List Event). l ++ own) is ∙ append_assoc before (v ∷ []) own
 
--- one that was added and taken away again
+-- the events after a run's first event was added and taken away again
 pub last_taken : (before made last popped : List Event) (v : Event) → made ≡ before ++ v ∷ [] → last ≡ [] → popped ≡ take (length made - 1) made → popped ++ last ≡ before
 last_taken before made last popped v is none taken =
     let many : length made - 1 ≡ length before = omega (arith, ap length is, length-append before (v ∷ [])) in
@@ -77,12 +77,12 @@ pub made_room : {T E : Type 0} (result : Result T E) (before joined made : List 
 made_room (Ok t) before joined made v same h = h ∙ ap (λ (l : List Event). l ++ v ∷ []) same
 made_room (Err e) before joined made v same h = h
 
--- or it was not, and they are all in the first list
+-- the event of a run was not added, and the events before are all in the first list
 pub kept_room : {T E : Type 0} (result : Result T E) (before joined made last : List Event) → joined ≡ before → last ≡ [] → OnErr result (made ≡ joined) → OnErr result (made ++ last ≡ before)
 kept_room (Ok t) before joined made last same none h = h
 kept_room (Err e) before joined made last same none h = ap (λ (l : List Event). made ++ l) none ∙ append-nil made ∙ h ∙ same
 
--- or nothing was added, and they are where they were
+-- no event was added, and the events of both lists are where they were
 pub kept_both : {T E : Type 0} (result : Result T E) (before joined last left : List Event) → joined ≡ before → left ≡ last → OnErr result (joined ++ left ≡ before ++ last)
 kept_both (Ok t) before joined last left same none = tt
 kept_both (Err e) before joined last left same none = ap (λ (l : List Event). l ++ left) same ∙ ap (λ (l : List Event). before ++ l) none

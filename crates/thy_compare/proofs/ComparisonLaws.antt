@@ -60,7 +60,7 @@ last_among : (c : Counts) (m : Marks) (events : List Event) (status : Status) (c
 last_among c m events status count cycle s h there =
     All-contains (EndsAs c) events (Ended status count cycle s) (All-from_recursion (EndsAs c) events (all_end_as c m events h)) there
 
--- so with one hart any two have one state
+-- with one hart any two ends have the same state
 ends_alike : (o : Origin) (m : Marks) (events : List Event) → o.geometry.harts ≡ 1 → IsUntold m → AllLawful (course_of o) m events → EndAlike events
 ends_alike o m events one_hart untold all = λ a b k l cycle other s t one two.
     let c : Counts = counts_of (course_of o) in
@@ -95,7 +95,7 @@ module _ {N : Type 0} (c : Choice) (d : NvmOf N) (x : Subject) (begins : Beginni
     abbrev p : IsProgram (file x.name) (under scheme x.job) old.around.shelf
     p = r.over.program
 
-    -- it begins with what is compared
+    -- a plan begins with what is compared
     same_begins : p.begins ≡ begins
     same_begins =
         let here : meaning_of (file x.name) (under scheme x.job) x.bytes x.input ≡ Ok p.begins =
@@ -112,7 +112,7 @@ module _ {N : Type 0} (c : Choice) (d : NvmOf N) (x : Subject) (begins : Beginni
     same_marks : marks_at p.begins.start.count p.begins.kept ≡ loading_marks o.start.count
     same_marks = ap (λ (b : Beginning). marks_at b.start.count b.kept) same_begins ∙ ap (marks_at begins.start.count) fresh
 
-    -- its events are lawful after any others, because its first one makes the marks with which it begins
+    -- the events of a run are lawful after any others, because its first one makes the marks with which it begins
     lawful_run : (m : Marks) → AllLawful one m own
     lawful_run m =
         let all : AllLawful one (loading_marks o.start.count) (all_of r.run.events) =
@@ -120,7 +120,7 @@ module _ {N : Type 0} (c : Choice) (d : NvmOf N) (x : Subject) (begins : Beginni
         (subst (λ n. AllLawful (course_of (origin_for (under scheme x.job) p.begins p.input)) n (all_of r.run.events)) same_marks r.over.ran.seen.promise.events_lawful) in
         subst (AllLawful one m) (sym r.events_are) (tt, all)
 
-  -- and so are those of all runs
+  -- the events of all runs are lawful
   lawful_through : (first : Bool) (schemes : List SchemeName) (old new : Stage N) (events : List Event) (m : Marks) → RunsThrough c d x first schemes old new events → AllLawful one m events
   lawful_through first [] old new events m (same, none) = subst (AllLawful one m) (sym none) tt
   lawful_through first (scheme ∷ schemes) old new events m (inl ends) = subst (AllLawful one m) (sym ends.none) tt
@@ -131,7 +131,7 @@ module _ {N : Type 0} (c : Choice) (d : NvmOf N) (x : Subject) (begins : Beginni
       by_low true go more = go more
       by_low false go (same, none) = subst (AllLawful one (marks_from one.start m own)) (sym none) tt
 
--- the runs of a plan, which is that of the program under each scheme, are a comparison of the program
+-- the runs of a plan, which is the program's plan under each scheme, are a comparison of the program
 pub IsComparison-compares : {N : Type 0} (c : Choice) (d : NvmOf N) (name : List ℕ) (job : Job) (plan : Plan) (before after : Around N) (a : Answer) (p : IsProgram (file name) job before.shelf)
     → ((scheme : SchemeName) → IsPlanFor (record { name = name; job = job; bytes = p.bytes; input = p.input }) before.shelf plan scheme)
     → Compares c d name plan before after a → IsComparison c d name job before after a

@@ -32,7 +32,7 @@ use Rattle.thy_answer.proofs.ProgramLaws.{begun_bare, begun_fresh, program_under
 use Rattle.thy_execute.proofs.PlanLemmas.{IsBegun, IsBegun-begins, plan_with}
 use Rattle.thy_answer.proofs.UnsavedLaws.{shelf_stays}
 
--- with the terminal to which the run writes
+-- what a run of a comparison finds, with the terminal to which it writes
 abbrev pub for_run : {N : Type 0} → Bool → Around N → Around N
 for_run first w = record w { terminal = terminal_for first w.terminal }
 
@@ -107,7 +107,7 @@ module _ {N : Type 0} (c : Choice) (d : NvmOf N) (x : Subject) (p : Plan) (first
             h.events,
           )
 
-  -- and one after which others follow
+  -- a run after which others follow
   pub goes_on : (last : Stage N) (all : List Event) → nat_le next.status 1 ≡ true → RunsUpTo c d x false schemes (stage_of new next) last (events_of next) all
       → RunsUpTo c d x first (scheme ∷ schemes) (stage_of old so_far) last (events_of so_far) all
   goes_on last all is (rest, runs, sum) = by_next next_is
@@ -130,7 +130,7 @@ module _ {N : Type 0} (c : Choice) (d : NvmOf N) (x : Subject) (p : Plan) (first
             sum ∙ ap (λ l. l ++ rest) h.events ∙ append_assoc (events_of so_far) own rest,
           )
 
-  -- it leaves the shelf alone
+  -- a run leaves the shelf alone
   pub shelf_kept : new.shelf ≡ old.shelf
   shelf_kept = by_next next_is
     where
@@ -162,7 +162,7 @@ stage w status cycles = record { around = w; status = status; cycles = cycles }
 first_is : {N : Type 0} (w : Around N) (c : Compared) → IsNothing c → stage_of w c ≡ first_stage w
 first_is w c h = ap (λ n. stage w n c.cycles) h.status ∙ ap (stage w 0) h.cycles
 
--- an answer is that of what was compared
+-- an answer says what was compared
 pub record IsAnswerOf (c : Compared) (a : Answer) : Type 0 where
   pub status : a.status ≡ c.status
   pub events : a.events ≡ recorded_of c
@@ -213,7 +213,7 @@ module _ {N : Type 0} (c : Choice) (d : NvmOf N) (name : List ℕ) (p : Plan) (b
         after_first x (stage_of u second) (events_of second) is plans
         (ends_here c d x p false Journal (Shadow ∷ []) w u first second (plans_then x is plans Journal) (λ e. mute) (named_for false Journal w u first second x is next) (λ e. mute) high))
 
-    -- there is a third one
+    -- a comparison of three runs
     pub compares_three : (v : Around N) (third : Compared) → nat_le second.status 1 ≡ true → v.terminal ≡ u.terminal → Nexts c d name p false Shadow u v second third → IsAnswerOf third a → Compares c d name p before v a
     compares_three v third low_again still final answers = compares v third answers (λ x is plans.
         let then : (scheme : SchemeName) → IsPlanFor x u.shelf p scheme = λ scheme.
@@ -270,7 +270,7 @@ begun_under_each job name stock b numbers none same h scheme =
 pub no_blocks : (name : List ℕ) (job : Job) (stock : Stock) (b : BeginningValue) → Begins (file name) job stock b → b.blocks.items ≡ []
 no_blocks name job stock b h = ap (λ (x : Beginning). x.blocks) h.begins ∙ begun_bare (parameters_of job.config) _ h.program.begins h.program.means
 
--- and is one of the program that was read
+-- a plan of a program file is a plan of the program that was read
 pub plan_for_each : (job : Job) (name : List ℕ) (stock : Stock) (b : BeginningValue) (numbers : Parameters) (h : Begins (file name) job stock b) (scheme : SchemeName)
     → IsPlanFor (record { name = name; job = job; bytes = h.program.bytes; input = h.program.input }) stock (plan_with job.config numbers b.start job.digest) scheme
 plan_for_each job name stock b numbers h scheme = record {

@@ -58,7 +58,7 @@ pub record HasRunNext {M N : Type 0} (K : KindOf M) (d : NvmOf N) (name : List �
   pub status : next.status ≡ line_status (has_ended ran.events) failed ran.status
   pub cycles : next.cycles ≡ ran.cycles
 
--- or none was begun
+-- no run of a plan was begun
 pub record HasNotRun {N : Type 0} (d : NvmOf N) (old new : Around N) (so_far next : Compared) : Type 0 where
   pub why : Refusal
   pub due : NotBegun d old.nvm new.nvm why
@@ -75,7 +75,7 @@ RunsNext K d name p old new so_far next =
 
 -- ---- all runs of a plan
 
--- a plan under a scheme is that of a comparison's job
+-- a plan under a scheme is a plan for a comparison's job
 pub record IsPlanFor (x : Subject) (stock : Stock) (p : Plan) (scheme : SchemeName) : Type 0 where
   pub is_plan : IsPlanOf (file x.name) (under scheme x.job) stock (plan_under scheme p) []
   pub same_bytes : is_plan.program.bytes ≡ x.bytes

@@ -43,10 +43,10 @@ impl Sink for Nowhere {
 /// What was compared so far.
 #[derive(Drop)]
 struct Compared {
-    /// The events before those of the run that was begun last; the event of its scheme is the last of these.
+    /// The events before the run that was begun last; the last of these is the event of its scheme.
     earlier: Events,
-    /// Those of that run. If another was to begin and did not, they are among the earlier ones, unless memory ran out for
-    /// that.
+    /// The events of the run that was begun last. If another was to begin and did not, they are among the earlier ones,
+    /// unless memory ran out for that.
     last: Events,
     /// The status of that run, or of the other one, which did not begin.
     status: u8,
@@ -55,7 +55,7 @@ struct Compared {
 }
 
 impl Compared {
-    /// Nothing so far.
+    /// What is compared before the first run: nothing.
     fn nothing(alloc: Global) -> Compared
         ensures events { events_of result ≡ [] }
         ensures status { result.status ≡ 0 }
@@ -83,7 +83,7 @@ impl Compared {
     }
 }
 
-/// Puts a plan under a scheme.
+/// Sets the scheme of a plan.
 fn put_under(plan: &mut Plan, scheme: SchemeName)
     requires { range_fault plan.old.config ≡ None }
     ensures under { plan.new ≡ plan_under scheme plan.old }
@@ -93,7 +93,8 @@ fn put_under(plan: &mut Plan, scheme: SchemeName)
     plan.geometry = Geometry::of(&plan.config);
 }
 
-/// Joins the events so far, and adds that of a run which is about to begin. If memory runs out, they are all there still.
+/// Joins the events so far, and adds the event of a run which is about to begin. If memory runs out, they are all there
+/// still.
 fn make_room(earlier: &mut Events, last: &mut Events, scheme: SchemeName) -> Result<(), AllocError>
     ensures made { OnOk result (earlier.new
         ≡ (earlier.old ++ last.old) ++ Scheme (scheme_number scheme) ∷ []) }
@@ -155,7 +156,7 @@ fn write_run<R: Sink>(
     close_stop(ran.stop, limit, report)
 }
 
-/// The status of a run: if it has ended and the report refused its line, that of a report that failed.
+/// The status of a run: if it has ended and the report refused its line, the status of a report that failed.
 fn line_status(ended: bool, failed: bool, status: u8) -> u8
     ensures { result ≡ line_status ended failed status }
 {

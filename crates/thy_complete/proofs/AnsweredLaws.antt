@@ -23,17 +23,17 @@ module _ {N : Type 0} (c : Choice) (d : NvmOf N) (words : List (List ℕ)) (befo
   abbrev new : Outside
   new = outside_of d after
 
-  -- the result of the order of a run is that of its source
+  -- the answer to the order of a run is the answer for its source
   order_answered : (source : ProgramSource) (job : Job) → OrderAnswered c d (run_of source job) before after a → RunAnswered (c job.config.scheme).kind source job old new a
   order_answered (file name) job h = h
   order_answered (made n) job h = h
   order_answered (image name) job h = h
 
-  -- a refusal of words that ask for something is for want of memory
+  -- a refusal of arguments that ask for something says that memory ran out
   refused_words : (order : Order) → settings_of words ≡ Ok order → WordsRefused d words before after a → a.status ≡ 9
   refused_words order asked (e, due, shelf, nvm, refused) = refused.status ∙ words_due words order e asked due
 
-  -- the result is that of the order that is asked for
+  -- the answer is the answer to the order that is asked for
   asked_for : (order other : Order) → settings_of words ≡ Ok order → settings_of words ≡ Ok other → OrderAnswered c d other before after a → OrderAnswered c d order before after a
   asked_for order other asked is h = subst (λ x. OrderAnswered c d x before after a) (order_same words order other asked is) h
 
@@ -44,7 +44,7 @@ module _ {N : Type 0} (c : Choice) (d : NvmOf N) (words : List (List ℕ)) (befo
       run_completes (c job.config.scheme).kind words old new a source job i k faults one over limit
       (order_answered source job (asked_for (run_of source job) order i.asked asked h))
 
-  -- with two harts too
+  -- a run with two harts is complete too
   pub Completes-pair : Answered c d words before after a → PairCompletes c words old new a
   Completes-pair (inl refused) source job i k faults two limit = inr (inr (inl (refused_words (run_of source job) i.asked refused)))
   Completes-pair (inr (order, asked, h)) source job i k faults two limit =
@@ -57,7 +57,7 @@ module _ {N : Type 0} (c : Choice) (d : NvmOf N) (words : List (List ℕ)) (befo
       inr (refused.status ∙ program_due (file name) job old.shelf new.shelf r (stands_of i) faults.shelf due)
   plain_completes name job i k faults over limit (device, inr ran) = by_faults name job k old new a (stands_of i) faults over limit ran ran.terminal_failed ran.report_failed refl refl
 
-  -- and the one on the plain machine
+  -- a run on the plain machine is complete
   pub Completes-plain : Answered c d words before after a → PlainCompletes words old new a
   Completes-plain (inl refused) name job i k faults over limit = inr (refused_words (plain name job) i.asked refused)
   Completes-plain (inr (order, asked, h)) name job i k faults over limit =
@@ -79,7 +79,7 @@ module _ {N : Type 0} (c : Choice) (d : NvmOf N) (words : List (List ℕ)) (befo
   Completes-make (inl refused) n name asked faults = inr (refused_words (make n name) asked refused)
   Completes-make (inr (order, is, h)) n name asked faults = make_completes n name faults (asked_for (make n name) order asked is h)
 
-  -- and each run of a comparison
+  -- each run of a comparison is complete
   pub Completes-compare : Answered c d words before after a → CompareCompletes c words old new a
   Completes-compare (inl refused) name job i k faults one over limit = inr (refused_words (compare name job) i.asked refused)
   Completes-compare (inr (order, asked, h)) name job i k faults one over limit =

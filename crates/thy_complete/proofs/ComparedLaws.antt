@@ -42,7 +42,7 @@ pub at_under : (scheme : SchemeName) (job : Job) (b : Beginning) (input : List �
 unfolding at
 at_under scheme job b input n = refl
 
--- a status of 0 or 1 is that of an end
+-- a status of 0 or 1 is the status of an end
 ended_low : (stop : Stop) → stop_status stop ≤ 1 → (status : Status) × (stop ≡ Ended status)
 ended_low (Ended status) low = (status, refl)
 ended_low Terminal low = absurd (omega (arith, low))
@@ -51,14 +51,14 @@ ended_low Nvm low = absurd (omega (arith, low))
 ended_low Limit low = absurd (omega (arith, low))
 ended_low Memory low = absurd (omega (arith, low))
 
--- a status of 0 or 1 is not that of a line which the report refused, and such a run has no other line
+-- if the status is 0 or 1, the report did not refuse the run's line, and the run has no other line
 line_heard : (ended failed : Bool) (status : ℕ) (line : List ℕ) (old new : Stream) → line_status ended failed status ≤ 1
     → (ended ≡ false → status ≤ 1 → line ≡ []) → Sent failed old new line → failed ≡ false
 line_heard ended false status line old new low empty sent = refl
 line_heard true true status line old new low empty sent = absurd (omega (arith, low))
 line_heard false true status line old new low empty sent = absurd (sent.1 (empty refl low))
 
--- and one that the report took leaves the status
+-- a line that the report took leaves the status
 line_same : (ended failed : Bool) (status : ℕ) → failed ≡ false → line_status ended failed status ≡ status
 line_same true false status heard = refl
 line_same false false status heard = refl
@@ -71,7 +71,7 @@ pub record StaysOver {N : Type 0} (d : NvmOf N) (old new : Around N) : Type 0 wh
   pub terminal : new.terminal.faults ≡ old.terminal.faults
   pub report : new.report.faults ≡ old.report.faults
 
--- the first run's terminal is that of the call
+-- the first run's terminal is the terminal of the call
 shown_stays : {N : Type 0} (d : NvmOf N) (first : Bool) (old new : Around N) → first ≡ true → (seen_by d first new).terminal.faults ≡ (seen_by d first old).terminal.faults → new.terminal.faults ≡ old.terminal.faults
 shown_stays d true old new is h = h
 shown_stays d false old new is h = absurd (cc)
@@ -162,7 +162,7 @@ sent_calm : (failed : Bool) (line : List ℕ) (old new : Stream) → Stayed old.
 sent_calm false line old new stayed sent = refl
 sent_calm true line old new stayed sent = not_risen old.faults new.faults stayed sent.0.rose
 
--- the status is that of this state's end, or memory ran out
+-- the status is the status of this state's end, or memory ran out
 abbrev Tells : State → ℕ → Type 0
 Tells s n = (n ≡ stop_status (Ended s.status)) ⊎ (n ≡ 9)
 
@@ -241,7 +241,7 @@ module _ {N : Type 0} (c : Choice) (d : NvmOf N) (name : List ℕ) (job : Job) (
           (record { same = report.same ∙ sym stays.report; counts = omega (arith, stays.report, report.counts) })
           (λ e. told) more
 
--- a comparison in which nothing failed tells the program's own end
+-- a comparison in which nothing failed reports the program's own end
 pub compare_completes : {N : Type 0} (c : Choice) (d : NvmOf N) (name : List ℕ) (job : Job) (before after : Around N) (a : Answer) (s : Stands (file name) job before.shelf) (k : ℕ) → IsCalm (outside_of d before) (outside_of d after) → job.config.harts ≡ 1
     → is_running (left_alone s.program k).status ≡ false → ((scheme : SchemeName) → cycles_for (c scheme).kind (parameters_of (under scheme job).config) job.config.cuts k ≤ job.config.limit)
     → CompareAnswered c d name job before after a → TellsEnd (left_alone s.program k) a

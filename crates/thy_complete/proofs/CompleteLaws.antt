@@ -75,7 +75,7 @@ mute_end source limit save e why status old new c deaf =
     let closed : new ≡ c.summed = subst (λ b. ClosesRun (b || c.failed) (run_line limit save e.stop why) c.summed new) deaf c.closes in
     closed ∙ sums.1
 
--- one whose count stayed took the summary
+-- a report whose count of faults stayed took the summary
 heard_by : (source : ProgramSource) (limit : ℕ) (save : Option (List ℕ)) (e : Ending) (why : Option PutError) (status : ℕ) (old new : Stream) (c : ClosesAs source limit save e why status old new) (deaf failed : Bool)
     → e.report_failed ≡ deaf → c.failed ≡ failed → (e.report_failed ≡ false → Stayed old.faults new.faults) → c.failed ≡ false
 heard_by source limit save e why status old new c deaf false is f stayed = f
@@ -87,7 +87,7 @@ heard_by source limit save e why status old new c false true is f stayed =
     subst (λ b. ClosesRun b (run_line limit save e.stop why) c.summed new) f (subst (λ b. ClosesRun (b || c.failed) (run_line limit save e.stop why) c.summed new) is c.closes) in
     not_risen old.faults c.summed.faults (subst (λ (x : Stream). Stayed old.faults x.faults) closed (stayed is)) sent.0.rose
 
--- so the status is that of the stop, or of the put
+-- the status is the status of the stop, or of the put, if the report's count of faults stayed
 status_heard : (source : ProgramSource) (limit : ℕ) (save : Option (List ℕ)) (e : Ending) (why : Option PutError) (status : ℕ) (old new : Stream) → ClosesAs source limit save e why status old new
     → (e.report_failed ≡ false → Stayed old.faults new.faults) → status ≡ run_status e.stop why
 status_heard source limit save e why status old new c stayed =
@@ -100,7 +100,7 @@ delivered_faults short true settled text old new heard h = absurd (cc)
 
 -- ---- ended states
 
--- the status of the end among lawful events is that of a state of the plain machine, which has ended
+-- the status of the end among lawful events is the status of a state of the plain machine, which has ended
 pub record IsEndOf (c : Counts) (status : Status) : Type 0 where
   pub count : ℕ
   pub is_status : status ≡ (c.at count).status
@@ -138,7 +138,7 @@ bytes_same (file name) stock files a b tells g h = held_same most_bytes stock fi
 bytes_same (image name) stock files a b tells g h = held_same most_image_bytes stock files name a b tells g h
 bytes_same (made n) stock files a b tells g h = g ∙ sym h
 
--- so a job has one program
+-- all programs of a job have one input
 pub inputs_same : (source : ProgramSource) (job : Job) (stock : Stock) (s : Stands source job stock) (f : IsProgram source job stock) → f.input ≡ s.program.input
 inputs_same source job stock s f = input_same stock s.files job.input f.input s.program.input s.tells f.fetched.is_input s.program.fetched.is_input
 
@@ -277,7 +277,7 @@ module _ {M : Type 0} (K : KindOf M) (source : ProgramSource) (job : Job) (k : �
   fits : (stop : Stop) → h.ending.stop ≡ stop → StopFits (parameters_of job.config).limit given.fitted h.stood h.ending stop
   fits stop is = subst (StopFits (parameters_of job.config).limit given.fitted h.stood h.ending) is h.ran.stop_fits
 
-  -- at an end the status is the program's
+  -- the status at an end is the program's
   told_end : (status : Status) → EndsWith h.ending.events status → status ≡ (left_alone s.program k).status
   told_end status e =
       let lawful : AllLawful (course_of o) (first_marks o) (e.before ++ EndedEvent status e.count e.cycle e.state ∷ []) =
@@ -301,7 +301,7 @@ module _ {M : Type 0} (K : KindOf M) (source : ProgramSource) (job : Job) (k : �
       let same : h.told.faults ≡ before.report.faults = delivered_faults false h.ending.report_failed _ _ before.report h.told heard h.ran.read_all in
       record { same = faults.report.same ∙ sym same; counts = omega (arith, same, faults.report.counts) }
 
-  -- so the status is that of the stop, or of the put
+  -- the status is the status of the stop, or of the put
   status_is : a.status ≡ run_status h.ending.stop h.why
   status_is = status_heard source job.config.limit job.save h.ending h.why a.status h.told after.report h.closes told_stayed
 
@@ -359,7 +359,7 @@ module _ (name : List ℕ) (job : Job) (k : ℕ) (before after : Outside) (a : A
   over_there : is_running (steps (setting_of plain_at) k plain_at.start).status ≡ false
   over_there = ap (λ (x : State). is_running x.status) (sym (left_there ∙ by_steps k)) ∙ over
 
-  -- whether it runs after so many steps
+  -- whether the program runs after this many steps
   runs_is : (j : ℕ) → runs_at plain_at j ≡ is_running (steps (setting_of plain_at) j plain_at.start).status
   runs_is j = ap (λ (x : State). is_running x.status) (by_steps j)
 
@@ -446,7 +446,7 @@ more_each each k n more = elim (cases_order k n) as (λ _. k ≤ n) [
 
 module _ {M : Type 0} (K : KindOf M) (source : ProgramSource) (job : Job) (k : ℕ) (before : Outside) (program : IsProgram source job before.shelf) (after : Outside) (a : Answer) (s : Stands source job before.shelf)
     (faults : IsCalm before after) (limit : cycles_for K (parameters_of job.config) job.config.cuts k ≤ job.config.limit) (h : IsRunOf K source job before program after a) where
-  -- as many instructions retired as the limit allows
+  -- at the limit at least k instructions have retired
   retired_by : h.ending.stop ≡ Limit → HasRetired K (origin_for job program.begins program.input) (given_for K job program.begins before.device) a k
   retired_by is =
       let o : Origin = origin_for job program.begins program.input in

@@ -49,12 +49,12 @@ pub record IsCalm (before after : Outside) : Type 0 where
 abbrev pub left_alone : {source : ProgramSource} {job : Job} {stock : Stock} → IsProgram source job stock → ℕ → State
 left_alone {job = job} p k = at (origin_for job p.begins p.input) (p.begins.start.count + k)
 
--- the status is that of this state's end, or memory ran out
+-- the status is the status of this state's end, or memory ran out
 abbrev pub TellsEnd : State → Answer → Type 0
 TellsEnd s a = (a.status ≡ stop_status (Ended s.status)) ⊎ (a.status ≡ 9)
 
 -- With one hart, a program that ends within k instructions ends so on the machine, in spite of all power cuts, if the
--- limit is not below the cycles that the machine promises for as many.
+-- limit is not below the cycles that the machine promises for k instructions.
 abbrev pub RunCompletes : Choice → List (List ℕ) → Outside → Outside → Answer → Type 0
 RunCompletes c words before after a =
     (source : ProgramSource) (job : Job) (i : IsAsked (run_of source job) source job words before.shelf) (k : ℕ)
@@ -63,15 +63,15 @@ RunCompletes c words before after a =
     → cycles_for (c job.config.scheme).kind (parameters_of job.config) job.config.cuts k ≤ job.config.limit
     → TellsEnd (left_alone i.program k) a
 
--- so many instructions retired since power came on last, in a run that gave these events in so many cycles
+-- at least k instructions retired since power came on last, in a run that gave these events in this number of cycles
 pub record HasRetired {M : Type 0} (K : KindOf M) (o : Origin) (given : Given) (a : Answer) (k : ℕ) : Type 0 where
   pub last : World M
   pub ran : Ran K o given a.cycles last
   pub events : last.events ≡ all_of a.events
   pub many : k ≤ (tally_of K o given a.cycles last ran).retired
 
--- With two harts the schedule decides whether and when the program ends. It does, if the limit is not below the cycles
--- that the machine promises for k instructions, or as many have retired, over the device that the run saw.
+-- With two harts the schedule decides whether and when the program ends. If the limit is not below the cycles that the
+-- machine promises for k instructions, it ends, or k have retired, over the device that the run saw.
 abbrev pub PairCompletes : Choice → List (List ℕ) → Outside → Outside → Answer → Type 0
 PairCompletes c words before after a =
     (source : ProgramSource) (job : Job) (i : IsAsked (run_of source job) source job words before.shelf) (k : ℕ)
@@ -81,7 +81,7 @@ PairCompletes c words before after a =
     ⊎ ((found : Device) × HasRetired (c job.config.scheme).kind (origin_for job i.program.begins i.program.input)
     (given_for (c job.config.scheme).kind job i.program.begins found) a k)
 
--- and on the plain machine, if the limit is not below k
+-- a program that ends within k instructions ends so on the plain machine, if the limit is not below k
 abbrev pub PlainCompletes : List (List ℕ) → Outside → Outside → Answer → Type 0
 PlainCompletes words before after a =
     (name : List ℕ) (job : Job) (i : IsAsked (plain name job) (file name) job words before.shelf) (k : ℕ)
@@ -90,8 +90,8 @@ PlainCompletes words before after a =
     → k ≤ job.config.limit
     → TellsEnd (left_alone i.program k) a
 
--- And with one hart in each run of a comparison, if the limit is not below the cycles that each machine promises for as
--- many: the status is that of the program's end, or memory ran out.
+-- With one hart, a program that ends within k instructions ends so in each run of a comparison, if the limit is not
+-- below the cycles that each machine promises for k. The status is the status of the program's end, or memory ran out.
 abbrev pub CompareCompletes : Choice → List (List ℕ) → Outside → Outside → Answer → Type 0
 CompareCompletes c words before after a =
     (name : List ℕ) (job : Job) (i : IsAsked (compare name job) (file name) job words before.shelf) (k : ℕ)

@@ -6,31 +6,31 @@ use Rattle.thy_answer.specs.Machines.{Choice}
 use Rattle.thy_answer.specs.Orders.{Answered}
 use Rattle.thy_complete.specs.Calm.{CompareCompletes, MakeCompletes, PairCompletes, PlainCompletes, RunCompletes}
 
--- of a run with one hart
+-- the answer to an order of a run with one hart is complete
 abbrev pub AnsweredRunCompletes : {N : Type 0} → Choice → NvmOf N → Type 0
 AnsweredRunCompletes {N = N} c d =
     (words : List (List ℕ)) (before after : Around N) (a : Answer) → Answered c d words before after a
     → RunCompletes c words (outside_of d before) (outside_of d after) a
 
--- of one with two
+-- the answer to an order of a run with two harts is complete
 abbrev pub AnsweredPairCompletes : {N : Type 0} → Choice → NvmOf N → Type 0
 AnsweredPairCompletes {N = N} c d =
     (words : List (List ℕ)) (before after : Around N) (a : Answer) → Answered c d words before after a
     → PairCompletes c words (outside_of d before) (outside_of d after) a
 
--- of a comparison
+-- the answer to the order of a comparison is complete
 abbrev pub AnsweredCompareCompletes : {N : Type 0} → Choice → NvmOf N → Type 0
 AnsweredCompareCompletes {N = N} c d =
     (words : List (List ℕ)) (before after : Around N) (a : Answer) → Answered c d words before after a
     → CompareCompletes c words (outside_of d before) (outside_of d after) a
 
--- of a run on the plain machine
+-- the answer to the order of a run on the plain machine is complete
 abbrev pub AnsweredPlainCompletes : {N : Type 0} → Choice → NvmOf N → Type 0
 AnsweredPlainCompletes {N = N} c d =
     (words : List (List ℕ)) (before after : Around N) (a : Answer) → Answered c d words before after a
     → PlainCompletes words (outside_of d before) (outside_of d after) a
 
--- and of a made program
+-- the answer to the order of a made program is complete
 abbrev pub AnsweredMakeCompletes : {N : Type 0} → Choice → NvmOf N → Type 0
 AnsweredMakeCompletes {N = N} c d =
     (words : List (List ℕ)) (before after : Around N) (a : Answer) → Answered c d words before after a

@@ -116,14 +116,14 @@ where
         P::cut(self.control, pick)
     }
 
-    /// The controller's tables and its DRAM are sound. It does nothing.
+    /// The controller's tables and its DRAM are sound. The call does nothing.
     pub fn sound(&self)
         ensures { P.parts.sound self.now.control }
     {
         P::sound(&self.control);
     }
 
-    /// Loads block `b`: as it was stored last.
+    /// Loads block `b`, as it was stored last.
     pub fn load_block<N: Nvm>(&self, b: u64, nvm: &mut N) -> Result<Block, NvmError>
         requires inside { b < length (P.filling.loads self.now.control (N.device nvm.old)) }
         requires sized { length (N.device nvm.old).image ≡ (layout_at P.filling (P.filling.p self.now.control)).image_blocks }

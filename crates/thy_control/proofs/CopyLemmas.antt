@@ -100,7 +100,7 @@ module _ (b : ℕ) (s : State) (pending : (cell_of s b).entry.pend ≢ Settled) 
             sound-copied,
           )
 
-      -- every block is kept
+      -- every block is kept by the copy of a pending one
       pub KeepsEach-copied : CopyKeeps → KeepsEach s m (copied b s m) (devices_copied b s m).nvm
       unfolding copied devices_copied
       KeepsEach-copied law k h =
@@ -163,7 +163,7 @@ unfolding copied
 same_p-next s m None = refl
 same_p-next s m (Some i) = refl
 
--- and so it keeps both checkpoints, what a load gives, and what the places hold
+-- the next copy, or none, keeps both checkpoints, what a load gives, and what the places hold
 pub KeepsAll-next : CopyKeeps → (s : State) (m : Device) → AreSoundTables s → IsSized s m
     → KeepsAll s m (after_next_copy (next_copy s) s m) (devices_after_copy (next_copy s) s m)
 KeepsAll-next law s m t sized =
@@ -193,7 +193,7 @@ module _ {s w : State} (view : w ≡ s) (b : ℕ) (m : Device) {found : Cell}
   unfolding copied
   state_is after_is t_is d_is = cc
 
--- the place of what has to be copied is not that of the committed checkpoint
+-- the places of two versions of a block are different, if no checkpoint has its page at the alternate place
 versions_apart : (v w : Version) (p q : Site) (x : Seat) → v ≢ w → p ≡ AtHome → q ≡ AtHome → placed v p x ≢ placed w q x
 versions_apart v w p q x other hp hq e = grind arith
 
@@ -242,7 +242,7 @@ module _ (b : ℕ) (s : State) (m : Device) (pending : (cell_of s b).entry.pend 
         let f = Outcome-failed s (last (cell_of s b)) (target (cell_of s b)) m n failed in
         Stays-failed_step s m n framed f.1 (guarded_by n f.0)
 
--- so does the next copy, or none, whichever way it ended
+-- the next copy, or none, keeps what stays over calls, whichever way it ended
 Stays-next : CopyKeeps → (s : State) (m : Device) → AreSoundTables s → IsSized s m → m.down ≡ false → (o : Option ℕ) → next_copy s ≡ o
     → IsFramed m (devices_after_copy o s m) → Stays s m (after_next_copy o s m) (devices_after_copy o s m)
 Stays-next law s m t sized up None h framed = stays_same s m

@@ -25,15 +25,15 @@ one_at_most true = omega arith
 one_at_most false = omega arith
 
 module _ {X : Type 0} (test : X → Bool) (xs : List X) (i : ℕ) (y d : X) (inside : i < length xs) where
-  -- if another element passes exactly if the old one did, as many do
+  -- if another element passes exactly if the old one did, the number that pass is the same
   pub count-set_same : test y ≡ test (get_or xs i d) → count_by test (slice_set xs i y) ≡ count_by test xs
   count-set_same same = omega (arith, sum_by-set (λ x. one_if (test x)) xs i y d inside, ap one_if same)
 
-  -- one less does if only the old one did
+  -- if the new element fails the test and the old one passed, one element less passes
   pub count-set_less : test y ≡ false → test (get_or xs i d) ≡ true → count_by test (slice_set xs i y) + 1 ≡ count_by test xs
   count-set_less now was = omega (arith, sum_by-set (λ x. one_if (test x)) xs i y d inside, ap one_if now, ap one_if was)
 
-  -- and one less at most in any case
+  -- a change of one element makes at most one less pass
   pub count-set_most : count_by test xs ≤ count_by test (slice_set xs i y) + 1
   count-set_most = omega (arith, sum_by-set (λ x. one_if (test x)) xs i y d inside, one_at_most (test (get_or xs i d)))
 
@@ -42,7 +42,7 @@ pub free-with : (r : StoreRule) (b : ℕ) (t : Listing BttEntry) → free_count 
 free-with r b t = btt_with-by (λ u. free_count t ≤ free_count u + 1) r b t (omega arith)
     (λ i h f. count-set_most is_none t.entries i (Some (new_entry b)) None (free_at t i f).1)
 
--- and has nothing to copy
+-- a table with a new entry has as much to copy as before
 pub waiting-with : (r : StoreRule) (b : ℕ) (t : Listing BttEntry) → waiting (btt_with r b t) ≡ waiting t
 waiting-with r b t = btt_with-by (λ u. waiting u ≡ waiting t) r b t refl (λ i h f.
     let free = free_at t i f in

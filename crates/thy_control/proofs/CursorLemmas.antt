@@ -175,7 +175,7 @@ AreCursors-with r b s k h = record {
   promotions = h.promotions;
 }
 
--- and then changes an entry
+-- a store into a listed block leaves the cursors where they may be
 AreCursors-cell : (r : StoreRule) (b : ℕ) (t : State) (k : Cursors) → IsListed r b t → AreCursors t.ptt t.btt k → (merges : ℕ) → merges ≤ k.merges
     → (r ≡ ToBuffer → is_framed (cell_of t b).page ≡ true → merges ≤ (cell_of t b).i)
     → AreCursors (ptt_after r (after_store r (cell_of t b)) t.ptt) (btt_after r (after_store r (cell_of t b)) t.btt) (record k { merges = merges })
@@ -304,7 +304,7 @@ overlaid-framed now old t same = count-same (passes (is_overlaid now)) (passes (
   by_entry None = refl
   by_entry (Some e) = ap (λ (f : Bool). is_buffered e.work && f) (same e.block)
 
--- a copy changes none
+-- a copy changes no count of work
 pub AreWorkCounts-copied : (b : ℕ) (s : State) (m : Device) (k : WorkCounts) → (cell_of s b).entry.pend ≢ Settled → AreWorkCounts s.ptt s.btt k
     → AreWorkCounts (copied b s m).ptt (copied b s m).btt k
 unfolding copied
@@ -315,7 +315,7 @@ AreWorkCounts-copied b s m k pending marks =
     let same = count-set_same (passes (is_overlaid s.ptt)) s.btt.entries c.i (Some (after_copy c).entry) None there.3 (ap (is_overlaid s.ptt) is ∙ sym (ap (passes (is_overlaid s.ptt)) there.1)) in
     record { overlaid_is = marks.overlaid_is ∙ sym same; promoted_is = marks.promoted_is }
 
--- nor does the write of a page
+-- the write of a page changes no count of work
 pub AreWorkCounts-issued : (b : ℕ) (s : State) (m : Device) (k : WorkCounts) → (cell_of s b).page.busy ≡ true → AreWorkCounts s.ptt s.btt k
     → AreWorkCounts (issued b s m).ptt (issued b s m).btt k
 unfolding issued
@@ -329,7 +329,7 @@ AreWorkCounts-issued b s m k busy marks =
 
 -- a merge leaves one entry less over a frame
 module _ (b : ℕ) (s : State) (framed : is_framed (cell_of s b).page ≡ true) (over : (cell_of s b).entry.work ≡ InBuffer) where
-  -- so there was one
+  -- before a merge there was an entry over a frame
   pub overlaid-some : (k : WorkCounts) → AreSoundTables s → b < memory_blocks s.p → s.under_way ≡ false → MergeKeeps → DirtyKeeps → AreWorkCounts s.ptt s.btt k → 0 < k.overlaid
   overlaid-some k t l idle merge others marks =
       let fewer : overlays (merged_block b s) + 1 ≡ overlays s = overlays-merged b s framed over t l idle merge others in

@@ -116,7 +116,7 @@ fill_one true i f l = by_test (i + 1 == page_blocks) refl where
   by_test true e = let full : i + 1 ≡ page_blocks = eqb-true (i + 1) page_blocks e in omega (arith, full)
   by_test false e = omega arith
 
--- with the last the page is promoted
+-- a fresh page counts once: as framed if it has a frame, otherwise as a page that is being promoted
 one_or : (framed fresh : Bool) → fresh ≡ true → one_if (not framed && fresh) + (if framed then 1 else 0) ≡ 1
 one_or framed fresh f = grind arith
 

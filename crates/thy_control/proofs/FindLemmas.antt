@@ -78,7 +78,7 @@ module _ {E : Type 0} (key : E → ℕ) (new : ℕ → E) where
   stands_at t n i h =
       let f = found_entry t n i h in (f.1 ∙ sym (ap Some (entry_for-some t n i f.0 h f.1)), f.3)
 
-  -- and one that stands somewhere is that of its number
+  -- an entry that stands at a position is found by its number
   pub entry_for-there : (t : Listing E) → IsListing key t → (i : ℕ) (e : E) → entry_at t i ≡ Some e
       → (place_of key (key e) t ≡ Some i) × (entry_for key new (key e) t ≡ e) × (key e < t.numbers)
   entry_for-there t once i e was =
@@ -98,14 +98,14 @@ module _ {E : Type 0} (key : E → ℕ) (new : ℕ → E) where
         entry_for-some u n k f.0 (place ∙ h) (kept k f.0 f.1 f.2)
         ∙ sym (entry_for-some t n k f.0 h f.1)
 
-  -- it is of that number
+  -- the entry for a number is of that number
   pub key-entry_for : ((n : ℕ) → key (new n) ≡ n) → (t : Listing E) (n : ℕ) → key (entry_for key new n t) ≡ n
   key-entry_for new_key t n = by_place (place_of key n t) refl where
     by_place : (o : Option ℕ) → place_of key n t ≡ o → key (entry_for key new n t) ≡ n
     by_place None h = ap key (entry_for-none t n h) ∙ new_key n
     by_place (Some i) h = let f = found_entry t n i h in ap key (entry_for-some t n i f.0 h f.1) ∙ f.2
 
-  -- and its place is one of the table
+  -- the place for a number is one of the table
   pub index_for-inside : (t : Listing E) (n : ℕ) → 0 < length t.entries → index_for key new n t < length t.entries
   index_for-inside t n some = by_place (place_of key n t) refl where
     by_place : (o : Option ℕ) → place_of key n t ≡ o → index_for key new n t < length t.entries

@@ -183,7 +183,7 @@ hold-bare reads d page bare = record {
   issued = λ f x. let no : true ≡ false = sym f ∙ ap (λ (e : PttEntry). e.busy) bare in absurd (cc);
 }
 
--- once those of every block of a listed page hold what they have to, all places do
+-- if the places of every block of a listed page hold what they have to, all places do
 pub HoldAll-framed : (s : State) (n : Device) → AreSoundTables s → IsBooting s
     → ((j k : ℕ) → MayFrame j k s → Holds (reads s n) (cell_of s (framed_block j k s))) → HoldAll s n
 HoldAll-framed s n t boot frames b l = by_place (place_of page_key (page_of b) s.ptt) refl where

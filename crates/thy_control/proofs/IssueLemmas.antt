@@ -63,7 +63,7 @@ module _ (b : ℕ) (s : State) (busy : (cell_of s b).page.busy ≡ true) where
   busy-same : (k : ℕ) → page_of k ≡ page_of b → (cell_of s k).page.busy ≡ true
   busy-same k q = ap (λ (x : PttEntry). x.busy) (same_page s k b q) ∙ busy
 
-  -- every block is as it was, but for those of the page
+  -- every block but the page's blocks is as it was
   pub cell-issued : (m : Device) (P : Cell → Cell → Type 0) (k : ℕ) → (page_of k ≡ page_of b → P (cell_of s k) (with_issued (cell_of s k)))
       → (page_of k ≢ page_of b → P (cell_of s k) (cell_of s k)) → P (cell_of s k) (cell_of (issued b s m) k)
   unfolding issued
@@ -116,7 +116,7 @@ module _ (law : PageWriteKeeps) (other : PageWriteKeepsOthers) (b : ℕ) (s : St
   penult-issued k h = reads-walked this t m sized penult (here_now this t m sized).reads.penult_same (λ j i q. refl)
       (λ j i ne. (left_as this t m sized j i ne).penult_same) (devices_issued b s m).dram k h
 
-  -- and so does what a load gives
+  -- in any case a load gives what it gave before
   pub work-issued : (k : ℕ) → k < memory_blocks s.p → work_of (issued b s m) (devices_issued b s m).nvm k ≡ work_of s m k
   unfolding issued devices_issued
   work-issued k h = reads-walked this t m sized work (here_now this t m sized).reads.work_gives
@@ -221,7 +221,7 @@ module _ (b : ℕ) (s : State) (busy : (cell_of s b).page.busy ≡ true) (m : De
         let f = Outcome-failed s (frame_at (seat_of (cell_of s b))) (target (cell_of s b)) m n failed in
         Stays-failed_step s m n framed f.1 (guarded_by n f.0)
 
--- after the next write, or none
+-- what is kept by the next write, or by none
 pub record KeepsNext (s : State) (m : Device) (t : State) (n : Device) : Type 0 where
   pub committed : KeepsCommitted s m t n
   pub held : HoldAll s m → StaysHeld s m t n

@@ -266,7 +266,7 @@ pub placed-in_nvm : (v : Version) (s : Site) (x : Seat) → in_dram (placed v s 
 placed-in_nvm Out AtAlternate x = refl
 placed-in_nvm v s x = refl
 
--- and every place of the NVM lies behind the slots of version 1
+-- every place of the NVM lies after the slots of version 1
 pub behind_slots : (p : Parameters) (x : Place) → in_dram x ≡ false → first_home p ≤ number_of p x
 behind_slots p (Buffer i) e = cc
 behind_slots p (Frame j k) e = cc
@@ -312,7 +312,7 @@ module _ (s : State) (y : Place) (v : Block) (m n : Device) where
   at_other (inr (inr f)) q there is side ne =
       no_more-failed_other s.p m n y q v there is f.0 side ne f.1
 
-  -- nor apart from memory's places
+  -- a place apart from memory's may hold no more afterwards
   apart_of : StepOutcome s y v m n → IsPlace s.p y → (x : ℕ) → IsApart s.p x → NoMoreAt x m n
   apart_of (inl e) there x l =
       subst (λ (k : Device). NoMoreAt x m k) (sym e)
@@ -322,7 +322,7 @@ module _ (s : State) (y : Place) (v : Block) (m n : Device) where
   apart_of (inr (inr f)) there x l =
       apart-failed (number_of s.p y) x v m n (apart_place s.p y x there f.0 l) f.1
 
-  -- so what a cut may leave of the checkpoints stays, if it is none of their places
+  -- what a cut may leave of the checkpoints stays, if the place is none of theirs
   pub LeavesGuarded-elsewhere : AreSoundTables s → IsPlace s.p y → IsElsewhere s y
       → StepOutcome s y v m n → LeavesGuarded s m n
   LeavesGuarded-elsewhere t there none outcome = record {
@@ -381,11 +381,11 @@ module _ (elsewhere : StoreGoesElsewhere) (leaves : StoreLeavesTarget) (b : ℕ)
             (ap target (cell-with_block_other r b s k ne) ∙ same));
       }
 
-  -- it is a place
+  -- the place of a store is a place
   pub there : IsPlace s.p (store_place (rule_for b s) (cell_before b s))
   there = IsPlace-store s.p (rule_for b s) (cell_before b s) (IsWithin-before s b t inside)
 
-  -- those of both checkpoints are places of the NVM
+  -- the places of both checkpoints are places of the NVM
   penult_is : (k : ℕ) → k < memory_blocks s.p → IsPlace s.p (penult (cell_of s k))
   penult_is k l = IsPlace-penult s.p (cell_of s k) (IsWithin-cell_of s k t l)
 

@@ -95,7 +95,7 @@ module _ (t : Listing PttEntry) (m i : ℕ) (unlisted : place_of page_key m t �
     | inr o ↦ inl (same_there n o)
   ]
 
--- so it is of one page
+-- what is known of a page table after one page was listed
 pub lists_one : (t : Listing PttEntry) (m : ℕ) → m < t.numbers → Lists t (with_entry_for page_key promoted_page m t)
 lists_one t m room =
     by_entry_for page_key promoted_page (λ v. Lists t v) t m (lists_none t) (λ i h f.
@@ -111,7 +111,7 @@ lists_one t m room =
       each = each_there t m i h f room;
     })
 
--- and of any number
+-- what is known of a page table after any number of pages were listed
 pub lists_all : (ns : List ℕ) (t : Listing PttEntry) → All (λ n. n < t.numbers) ns → Lists t (with_pages ns t)
 lists_all [] t inside = lists_none t
 lists_all (n ∷ ns) t inside =
@@ -125,7 +125,7 @@ pub dense-below : (c : Tally) (n : ℕ) → All (λ k. k < n) (dense_below c n)
 dense-below c n = All-filter (is_dense c) (λ k. k < n) (range_with_len 0 n)
     (λ k d l. let inside : k < n = omega (arith, l, length-range_with_len 0 n) in omega (arith, get_or-range_with_len 0 n k d inside))
 
--- one number more
+-- the dense pages below one number more
 pub dense_below-more : (c : Tally) (n : ℕ) → dense_below c (n + 1) ≡ dense_below c n ++ cond (is_dense c n) (n ∷ []) []
 dense_below-more c n =
     ap (filter (is_dense c)) (sym (map-id (range_with_len 0 (n + 1))))
@@ -151,7 +151,8 @@ with_dense-numbers c n t l = one (is_dense c n) where
   one true = (lists_one t n l).numbers
   one false = refl
 
--- of pages none of which is dense none is listed
+-- the dense pages below a number are also the dense pages below a higher one, if no page from the first number on is
+-- dense
 pub dense_below-none : (c : Tally) (first k : ℕ) → ((n : ℕ) → first ≤ n → n < first + k → is_dense c n ≡ false) → dense_below c (first + k) ≡ dense_below c first
 dense_below-none c first zero none = ap (dense_below c) (omega arith)
 dense_below-none c first (suc k) none =
@@ -171,7 +172,7 @@ greatest-all m [] k d l = absurd (omega (arith, l))
 greatest-all m (n ∷ ns) zero d l = omega (arith, greatest-least (max m n) ns)
 greatest-all m (n ∷ ns) (suc k) d l = greatest-all (max m n) ns k d (omega (arith, l))
 
--- so sparse pages are not dense
+-- sparse pages are not dense
 pub sparse-none : (c : Tally) (first end : ℕ) → end ≤ length c.counts → are_sparse c first end ≡ true → (n : ℕ) → first ≤ n → n < end → is_dense c n ≡ false
 sparse-none c first end inside sparse n low high =
     let piece : List ℕ = take (end - first) (drop first c.counts) in

@@ -32,7 +32,7 @@ pub used-cleared : (t : Listing BttEntry) (i : ℕ) → i < length t.entries →
 used-cleared t i inside all =
     at_set t i IsUsed None inside (λ e h. cc) (λ j e other was. all j e was)
 
--- every entry is as a rule has it
+-- every entry is used after a rule, if the rule leaves it so
 pub used-mapped : (rule : BttEntry → Option BttEntry) (t : Listing BttEntry)
     → ((i : ℕ) (e f : BttEntry) → entry_at t i ≡ Some e → rule e ≡ Some f → IsUsed f) → AreUsed (mapped rule t)
 used-mapped rule t keeps i f h = by_entry (entry_at t i) refl (sym (entry_at-mapped rule t i) ∙ h) where
@@ -50,7 +50,7 @@ used-sealed false false NoWork v e is at one used = used
 used-sealed false few w Out e is at one used = λ v0 v1. absurd (no-alt v1)
 used-sealed false few w Alt e is at one used = λ v0 v1. absurd (no-alt (sym at ∙ sym one ∙ v0))
 
--- a commit
+-- entries that list something stay used after a commit
 pub used-committed : (v : Version) (w : Working) (e f : BttEntry) → e.work ≡ w → committed_by v w e ≡ Some f → IsUsed f
 used-committed Out NoWork e f is h = absurd (cc)
 used-committed Out InNvm e f is h =

@@ -59,7 +59,7 @@ module _ (t : State) (b : ℕ) (e : BttEntry) (of_block : e.block ≡ b) (listed
       × ((cell_of t b).i < length t.btt.entries)
   there = stands_at block_key new_entry t.btt b (cell_of t b).i listed
 
-  -- whether it lies over the frame
+  -- whether an entry of the block lies over the frame of its page
   test_of : (x : BttEntry) → x.block ≡ b → passes (is_overlaid t.ptt) (Some x) ≡ (is_buffered x.work && is_framed (cell_of t b).page)
   test_of x same = ap (λ (n : ℕ). is_buffered x.work && block_is_framed t.ptt n) same
 
@@ -121,7 +121,7 @@ overlaid-cell PendingFirst b t is l =
     let set = overlaid-set t b (after_store PendingFirst (cell_of t b)).entry (block-cell_of t b) (l.block (λ e. cc)) in
     omega (arith, set)
 
--- so the numbers are right after a store
+-- the counts of work are right after a store
 pub AreWorkCounts-after : (b : ℕ) (block : Block) (s : State) (n : Device) (m now : WorkCounts) → AreWorkCounts s.ptt s.btt m → (free_place s.btt ≡ None → ⊥)
     → now.overlaid ≡ m.overlaid + covers (rule_for b s) (cell_before b s) → now.promoted ≡ m.promoted
     → AreWorkCounts (state_after b block s n).ptt (state_after b block s n).btt now
@@ -157,7 +157,7 @@ buffered NoWork e = cc
 buffered InNvm e = cc
 buffered InBuffer e = refl
 
--- and if some is, there is such a block
+-- if the count of overlaid entries is not 0, some block is overlaid
 pub IsOverlaid-some : (s : State) → AreSoundTables s → 0 < overlaid s.ptt s.btt → IsOverlaid s
 IsOverlaid-some s t some =
     let f = counted-some (passes (is_overlaid s.ptt)) None s.btt.entries some in
@@ -177,7 +177,7 @@ IsOverlaid-some s t some =
           work = ap (λ (x : BttEntry). x.work) found ∙ buffered e.work both.0;
         }
 
--- the same of pages in promotion
+-- if the count of pages in promotion is 0, every page is whole
 pub IsWholeState-none : (s : State) → promoted s.ptt ≡ 0 → IsWholeState s
 IsWholeState-none s none = record { whole = λ b l. whole_page s b none (place_of page_key (page_of b) s.ptt) refl }
 
@@ -206,7 +206,7 @@ IsPromoting-some s t some =
           fresh = ap (λ (x : PttEntry). x.fresh) found ∙ both.1;
         }
 
--- so few entries have any that one more can be counted
+-- the count of overlaid entries is at most the size of the block table
 pub marks-small : (s : State) (m : WorkCounts) → AreSoundTables s → AreWorkCounts s.ptt s.btt m → m.overlaid ≤ s.p.btt
 marks-small s m t h = omega (arith, h.overlaid_is, count_by-le-length (passes (is_overlaid s.ptt)) s.btt.entries, t.btt_size)
 

@@ -138,7 +138,7 @@ module _ (b : ℕ) (s : State) (framed : is_framed (cell_of s b).page ≡ true) 
           cells = sound-merged;
         }
 
-    -- every block is kept
+    -- every block is kept by a merge
     pub KeepsEach-merged : (n : Device) → IsSized s n → KeepsEach s n (merged_block b s) n
     unfolding merged_block dram_merged
     KeepsEach-merged n sized k h =
@@ -162,7 +162,7 @@ module _ (b : ℕ) (s : State) (framed : is_framed (cell_of s b).page ≡ true) 
     pub framed_same : (k : ℕ) → block_is_framed (merged_block b s).ptt k ≡ block_is_framed s.ptt k
     framed_same k = cell-merged t.btt_once (λ c d. is_framed d.page ≡ is_framed c.page) k refl (λ ne q. refl) (λ ne. refl)
 
-    -- and one buffer less lies over a frame
+    -- after a merge one buffer less lies over a frame
     pub overlays-merged : overlays (merged_block b s) + 1 ≡ overlays s
     unfolding merged_block
     overlays-merged =
@@ -239,7 +239,7 @@ same_p-merge s (Some i) = refl
 
 -- a merge moves no place of a checkpoint
 module _ (b : ℕ) (s : State) (framed : is_framed (cell_of s b).page ≡ true) (over : (cell_of s b).entry.work ≡ InBuffer) (t : AreSoundTables s) (l : b < memory_blocks s.p) (idle : s.under_way ≡ false) where
-  -- the entry lists nothing
+  -- the page of a block that is merged is not fresh
   fresh_not : (cell_of s b).page.fresh ≡ false
   fresh_not = false_from_ne_true (cell_of s b).page.fresh
       (λ e. let no : InBuffer ≡ NoWork = sym over ∙ (t.cells b l).fresh_idle e in cc)

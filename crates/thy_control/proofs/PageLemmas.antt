@@ -19,7 +19,7 @@ use Rattle.thy_control.specs.State.{State, cell_of}
 use Rattle.thy_control.proofs.FindLemmas.{found_entry, entry_for-none, at_put, entry_for-kept}
 use Rattle.thy_control.proofs.StateLemmas.{page-cell_of, cell-set_page_same, cell-set_page_other}
 
--- as many elements pass a test as pass one that says the same
+-- two tests that say the same pass the same number of elements
 pub count-same : {X : Type 0} (p q : X → Bool) → ((x : X) → p x ≡ q x) → (xs : List X) → count_by p xs ≡ count_by q xs
 count-same p q same [] = refl
 count-same p q same (x ∷ xs) =
@@ -41,7 +41,7 @@ module _ (f : PttEntry → PttEntry) (of_page : (e : PttEntry) → (f e).page �
   pub cell-page_other : (k : ℕ) → page_of k ≢ page_of b → cell_of page_set k ≡ cell_of t k
   cell-page_other k other = cell-set_page_other t b (f (cell_of t b).page) (of_page (cell_of t b).page ∙ page-cell_of t b) listed k other
 
-  -- so what holds of the one and of the others holds of all
+  -- what holds of the page's blocks and of the others holds of all
   pub cell-page : (P : Cell → Cell → Type 0) (k : ℕ) → (page_of k ≡ page_of b → P (cell_of t k) (cell_set (cell_of t k)))
       → (page_of k ≢ page_of b → P (cell_of t k) (cell_of t k)) → P (cell_of t k) (cell_of page_set k)
   cell-page P k here others = elim (cases_eq (page_of k) (page_of b)) as (λ _. P (cell_of t k) (cell_of page_set k)) [

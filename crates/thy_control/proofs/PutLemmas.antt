@@ -82,7 +82,7 @@ pages_after ToFrame c t framed inside before =
     live-set t c.j c.page inside (λ bare. absurd (both_ways _ bare (framed refl))) before
 pages_after rule c t framed inside before = before
 
--- the cell that the code makes is that of the block with its entry
+-- the cell that the code makes is the block's cell with its entry
 pub cell_made : (s : State) (b i : ℕ) (rule : StoreRule) → rule ≡ rule_for b s → i ≡ index_for block_key new_entry b (btt_with rule b s.btt)
     → record (cell_of s b) { i = i } ≡ cell_before b s
 unfolding cell_before
@@ -90,7 +90,7 @@ cell_made s b i rule is place =
     ap (λ (k : ℕ). record (cell_of s b) { i = k }) place ∙ sym (cell-with_block_same rule b s)
     ∙ ap (λ (r : StoreRule). cell_of (with_block r b s) b) is
 
--- its numbers are there
+-- the entries of the cell that a store begins with are within their tables, and the block is within memory
 pub IsWithin-before : (s : State) (b : ℕ) → AreSoundTables s → b < memory_blocks s.p → IsWithin s.p (seat_of (cell_before b s))
 unfolding cell_before
 IsWithin-before s b t l =
@@ -253,7 +253,7 @@ module _ {s v : State} {b : ℕ} {found : Cell} {r : StoreRule} {i : ℕ} where
                 (put_is ∙ way_put block m) failed);
           }
 
-    -- and the whole state
+    -- the whole state after the store
     pub way_state : (block : Block) (n : Device) {d : Devices} {after : Cell}
         {btt now : Listing BttEntry} {ptt : Listing PttEntry} {counts : Tally}
         → after ≡ after_store r (record found { i = i }) → btt ≡ btt_with r b v.btt

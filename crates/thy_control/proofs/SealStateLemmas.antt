@@ -247,7 +247,7 @@ module _ {E : Type 0} (rule : E → Option E) (f h : E → Option ℕ) (t : List
       ∙ by_entry i (entry_at t i) refl
       ∙ sym (get_or-map (option_and_then h) t.entries i None))
 
--- of the block table, a commit
+-- what an entry of the block table lists after a commit
 block_committed : (v : Version) (w : Working) (e : BttEntry) → option_and_then (λ (x : BttEntry). entry_lists x.v0 x.block) (committed_by v w e) ≡ entry_lists v e.block
 block_committed Out NoWork e = refl
 block_committed v w e = refl
@@ -256,7 +256,7 @@ block_same : (v : Version) (w : Working) (e : BttEntry) → v ≡ e.v1 → optio
 block_same Out NoWork e is = ap (λ (v : Version). entry_lists v e.block) is
 block_same v w e is = refl
 
--- and of the page table, if a page that leaves goes home
+-- what an entry of the page table lists after a commit, if a page that leaves goes home
 page_committed : (leaving : Bool) (e : PttEntry) → (leaving ≡ true → e.target ≡ AtHome)
     → option_and_then (λ (x : PttEntry). page_lists x.place x.page) (page_committed_by leaving e) ≡ page_lists e.target e.page
 page_committed true e home = sym (ap (λ (x : Site). page_lists x e.page) (home refl))
@@ -355,7 +355,7 @@ HasNoWork-committed s none = record {
   by_entry i f None was h = cc
   by_entry i f (Some e) was h = committed-work e.v1 e.work e f h ∙ none.no_work i e was
 
--- a rule that clears no entry leaves as many free
+-- a rule that clears no entry leaves the number of free entries
 free-kept : {E : Type 0} (rule : E → E) (es : List (Option E)) → sum_by free_one (map (option_and_then (λ e. Some (rule e))) es) ≡ sum_by free_one es
 free-kept rule [] = refl
 free-kept rule (None ∷ es) =

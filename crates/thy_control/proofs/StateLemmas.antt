@@ -75,7 +75,7 @@ IsPlace-worked p InBuffer framed place v x w h = w.entry
 pub IsPlace-work : (p : Parameters) (c : Cell) → IsWithin p (seat_of c) → IsPlace p (work c)
 IsPlace-work p c w = IsPlace-worked p c.entry.work (is_framed c.page) (last c) c.entry.v0 (seat_of c) w (IsPlace-last p c w)
 
--- and so is the place of a store
+-- the place that a cell's store goes to is one of its device
 pub IsPlace-store : (p : Parameters) (rule : StoreRule) (c : Cell) → IsWithin p (seat_of c) → IsPlace p (store_place rule c)
 IsPlace-store p ToFrame c w = IsPlace-frame p (seat_of c) w
 IsPlace-store p ToBuffer c w = w.entry
@@ -92,7 +92,7 @@ page-cell_of s b = key-entry_for page_key no_page (λ n. refl) s.ptt (page_of b)
 pub ptt_least : (p : Parameters) → IsInRange p → 8 ≤ p.ptt
 ptt_least p r = r.1.1.1.1.1.0.0.0
 
--- and its numbers are there
+-- the entries of a block's cell are within their tables, and the block is within memory
 pub IsWithin-cell_of : (s : State) (b : ℕ) → AreSoundTables s → b < memory_blocks s.p → IsWithin s.p (seat_of (cell_of s b))
 IsWithin-cell_of s b t l =
     let some_blocks : 0 < length s.btt.entries = omega (arith, btt_least s.p t.range, t.btt_size) in
@@ -133,19 +133,19 @@ place-with_block rule b s m other =
     btt_with-by (λ t. place_of block_key m t ≡ place_of block_key m s.btt) rule b s.btt refl
     (λ i h f. place_of-new_other block_key new_entry (λ n. refl) s.btt b i h f m other)
 
--- so every other block has the cell that it had
+-- an entry for a block leaves every other block its cell
 pub cell-with_block_other : (rule : StoreRule) (b : ℕ) (s : State) (m : ℕ) → m ≢ b → cell_of (with_block rule b s) m ≡ cell_of s m
 cell-with_block_other rule b s m other =
     ap (λ (e : BttEntry). record (cell_of (with_block rule b s) m) { entry = e }) (entry-with_block rule b s m)
     ∙ ap (λ (o : Option ℕ). record (cell_of s m) { i = unwrap_or o 0 }) (place-with_block rule b s m other)
 
--- and the block itself but for the place
+-- an entry for a block leaves the block its cell but for the place
 pub cell-with_block_same : (rule : StoreRule) (b : ℕ) (s : State)
     → cell_of (with_block rule b s) b ≡ record (cell_of s b) { i = index_for block_key new_entry b (btt_with rule b s.btt) }
 cell-with_block_same rule b s =
     ap (λ (e : BttEntry). record (cell_of (with_block rule b s) b) { entry = e }) (entry-with_block rule b s b)
 
--- every block stays sound
+-- every block stays sound when a block gets an entry
 pub sound-with_block : (rule : StoreRule) (b : ℕ) (s : State) (m : ℕ) → IsSoundCell s.under_way (cell_of s m)
     → IsSoundCell s.under_way (cell_of (with_block rule b s) m)
 sound-with_block rule b s m =
@@ -274,7 +274,7 @@ cell-with_cell_other r b t m l other =
     inl (cell-set_block_other t b (after_store r (cell_of t b)).entry (block-cell_of t b)
     (l.block (λ e. cc)) m other)
 
--- so every block stays sound
+-- every block stays sound when a store changes one block's cell
 pub sound-with_cell : (b : ℕ) (t : State) (m : ℕ) → IsListed (store_rule (cell_of t b)) b t → IsWhole (cell_of t b).page
     → IsSoundCell t.under_way (cell_of t b) → IsSoundCell t.under_way (cell_of t m)
     → IsSoundCell t.under_way (cell_of (with_cell (store_rule (cell_of t b)) (after_store (store_rule (cell_of t b)) (cell_of t b)) t) m)

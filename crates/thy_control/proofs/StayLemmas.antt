@@ -41,7 +41,7 @@ use Rattle.thy_control.specs.Moves.{FailsMove}
 use Rattle.thy_control.proofs.TablesLemmas.{owner, Owns-cell_of, owned-penult, owned-target, owned-apart}
 pub use Rattle.thy_control.proofs.FindLemmas.{free_at}
 
--- if another element maps to the same, so does the list
+-- if an element is replaced by one that maps to the same, the list maps to the same
 pub map-set_same : {X Y : Type 0} (f : X → Y) (xs : List X) (i : ℕ) (y d : X) → f y ≡ f (get_or xs i d) → i < length xs → map f (slice_set xs i y) ≡ map f xs
 map-set_same f xs i y d same inside =
     ext_get_or (f d) (map f (slice_set xs i y)) (map f xs) (length-map (slice_set xs i y) f ∙ length-set xs i y ∙ sym (length-map xs f))
@@ -86,7 +86,7 @@ tables0-with r b s = ap (λ (l : List (Option ℕ)). record (tables0 s) { btt = 
 tables1-with : (r : StoreRule) (b : ℕ) (s : State) → tables1 (with_block r b s) ≡ tables1 s
 tables1-with r b s = ap (λ (l : List (Option ℕ)). record (tables1 s) { btt = l }) (map-with (λ e. entry_lists e.v1 e.block) (λ b. refl) r b s.btt)
 
--- and with the entries of a block as a rule leaves them
+-- the committed tables stay when a rule changes the entries of a block
 tables0-cell : (r : StoreRule) (b : ℕ) (t : State) → IsListed r b t → tables0 (with_cell r (after_store r (cell_of t b)) t) ≡ tables0 t
 tables0-cell ToFrame b t l = ap (λ (x : List (Option ℕ)). record (tables0 t) { ptt = x }) (map-page (λ e. page_lists e.place e.page) t b (record (cell_of t b).page { dirty = true }) (l.page refl) refl)
 tables0-cell r b t l =
@@ -131,7 +131,7 @@ stays-after r c =
       issued = omega arith;
     }
 
--- and another block
+-- a block that is as it was, or whose page became dirty, stays
 stays-or_dirty : (r : StoreRule) (c d : Cell) → OrDirty r c d → CellStays c d
 stays-or_dirty r c d (inl e) = subst (λ (x : Cell). CellStays c x) (sym e) (cell_same c)
 stays-or_dirty r c d (inr e) = subst (λ (x : Cell). CellStays c x) (sym e.1) (stays-after ToFrame c)
@@ -159,7 +159,7 @@ pub record StaysTables (s u : State) : Type 0 where
   pub lasts_same : u.counts.lasts ≡ s.counts.lasts
   pub cells : (b : ℕ) → b < memory_blocks s.p → CellStays (cell_of s b) (cell_of u b)
 
--- the step was done
+-- what stays over a step that was done
 pub Stays-step : (s : State) (y : Place) (v : Block) (m : Device) (u : State) → IsPlace s.p y → IsSized s m → StaysTables s u
     → (m.down ≡ true → (written_at s.p y v (devices_of m s.dram)).nvm.down ≡ true)
     → IsFramed m (written_at s.p y v (devices_of m s.dram)).nvm → LeavesGuarded s m (written_at s.p y v (devices_of m s.dram)).nvm
@@ -185,7 +185,7 @@ Stays-step s y v m u there sized tables down framed guarded penult_same held = r
   };
 }
 
--- or it failed
+-- what stays over a step stays if the step failed
 pub Stays-failed_step : (s : State) (m n : Device) → IsFramed m n → n.down ≡ true → LeavesGuarded s m n → Stays s m s n
 Stays-failed_step s m n framed is_down guarded = record {
   as_long = framed.blocks;
@@ -272,7 +272,7 @@ Stays-done b block s m t sized room up there framed guarded keeps holds =
     (λ d. absurd (both_ways _ up d)) framed guarded keeps.penult_same
     (λ h. record { holds = holds h; last_same = keeps.last_same })
 
--- or it failed
+-- what stays over a store stays if the store failed
 pub Stays-failed : (b : ℕ) (block : Block) (s : State) (m n : Device) → FailsStore b block s m n
     → IsFramed m n → LeavesGuarded s m n → Stays s m s n
 Stays-failed b block s m n failed framed guarded =

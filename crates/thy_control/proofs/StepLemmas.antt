@@ -59,7 +59,7 @@ module _ (s : State) (m : Device) (b : ℕ) (y : Place) (v : Block) (t : AreSoun
   elsewhere : (k : ℕ) (x : Place) → k ≢ b → IsPlace s.p x → owner s x ≡ Some k → reads_after x ≡ reads s m x
   elsewhere k x ne is own = puts.others x is (owned-apart s k b x y ne own owns)
 
-  -- every other block
+  -- the places of every other block read as before
   pub untouched : (k : ℕ) → k < memory_blocks s.p → k ≢ b → Untouched (reads s m) reads_after k (cell_of s k)
   untouched k l ne =
       let c : Cell = cell_of s k in
@@ -77,7 +77,7 @@ module _ (s : State) (m : Device) (b : ℕ) (y : Place) (v : Block) (t : AreSoun
 pub ReadsSame-of : (old new : Place → Block) (b : ℕ) (c : Cell) → Untouched old new b c → c.page ≢ no_page (page_of b) → ReadsSame old new c
 ReadsSame-of old new b c u listed = search (rules, u.frame_same listed)
 
--- so a block whose entries are left is kept
+-- a block whose entries are left is kept
 pub Keeps-untouched : (under_way : Bool) (old new : Place → Block) (b : ℕ) (c : Cell) → IsSoundCell under_way c → Untouched old new b c → Keeps under_way old new c c
 Keeps-untouched under_way old new b c sound u = record {
   sound = sound;
@@ -185,7 +185,7 @@ module _ {f : PttEntry → PttEntry} {u : Bool} {b : ℕ} {s : State} {x y : Pla
   listed : place_of page_key (page_of b) s.ptt ≡ Some (cell_of s b).j
   listed = listed-page b s w.has_page
 
-  -- every block is as it was, but for those of the page
+  -- every block but the page's blocks is as it was
   cell-walked : (d : Contents) (P : Cell → Cell → Type 0) (k : ℕ) → (page_of k ≡ page_of b → P (cell_of s k) (counted_on f (cell_of s k)))
       → (page_of k ≢ page_of b → P (cell_of s k) (cell_of s k)) → P (cell_of s k) (cell_of (walked f b s d) k)
   cell-walked d P k here others = cell-page f w.of_page s b listed P k here others
@@ -262,7 +262,8 @@ module _ {f : PttEntry → PttEntry} {u : Bool} {b : ℕ} {s : State} {x y : Pla
           (has_page-same b s w.has_page k q)) hold))
           (λ o. Keeps-untouched u (reads s m) reads_now k (cell_of s k) (sound k h) (left_as k h (λ e. o (ap page_of e))))
 
-      -- in any case a version of a block reads as before if that of the moved block does, and no other block's is moved
+      -- in any case a version of a block reads as before if the moved block's version does, and no other block's
+      -- version is moved
       pub reads-walked : (version : Cell → Place) → reads_now (version (counted_on f (cell_of s b))) ≡ reads s m (version (cell_of s b))
           → ((k : ℕ) → k < memory_blocks s.p → page_of k ≡ page_of b → version (counted_on f (cell_of s k)) ≡ version (cell_of s k))
           → ((k : ℕ) → k < memory_blocks s.p → k ≢ b → reads_now (version (cell_of s k)) ≡ reads s m (version (cell_of s k)))
@@ -274,7 +275,7 @@ module _ {f : PttEntry → PttEntry} {u : Bool} {b : ℕ} {s : State} {x y : Pla
           b k here (λ ne. ap reads_now (same k h q) ∙ others k h ne))
           (λ o. others k h (λ e. o (ap page_of e)))
 
--- the block that comes after so many of the page of an entry
+-- the block of an entry's page that comes after n others
 pub record IsBlockOf (s : State) (x : PttEntry) (n b : ℕ) : Type 0 where
   pub inside : b < memory_blocks s.p
   pub page : (cell_of s b).page ≡ x

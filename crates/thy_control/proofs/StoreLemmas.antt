@@ -67,13 +67,13 @@ work-after r c d e p first =
       pending = inl e;
     }
 
--- and another block
+-- a block whose cell is as a rule left it, or whose page became dirty, keeps the work of the checkpoint under way
 work-or_dirty : (r : StoreRule) (c d f : Cell) → KeepsCheckpointWork c d → OrDirty r d f → KeepsCheckpointWork c f
 work-or_dirty r c d f w (inl e) = subst (λ (x : Cell). KeepsCheckpointWork c x) (sym e) w
 work-or_dirty r c d f w (inr e) =
     subst (λ (x : Cell). KeepsCheckpointWork c x) (sym e.1) (record { busy_same = w.busy_same; issued_same = w.issued_same; pending = w.pending })
 
--- so does a store that was done
+-- a store that was done keeps the work of the checkpoint under way
 pub work-stored : (b : ℕ) (block : Block) (s : State) (m : Device) → 0 < free_count s.btt → (k : ℕ) → KeepsCheckpointWork (cell_of s k) (cell_of (state_after b block s m) k)
 unfolding state_after devices_after cell_before
 work-stored b block s m room k =

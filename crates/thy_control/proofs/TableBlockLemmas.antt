@@ -25,7 +25,7 @@ entries-are t k entries l long each =
     ext_get_or None entries (entries_of t k) (long ∙ sym (entries-eight t k l))
     (λ j inside. let below : j < 8 = omega (arith, long) in each j below ∙ sym (entries-each t k j below))
 
--- each has a word
+-- each number that both tables list fits a word
 entry-fits : (p : Parameters) (t : Tables) → IsInRange p → IsTables p t → (m n : ℕ) → entry_at (t.btt ++ t.ptt) m ≡ Some n → n < 2 ^ 64 - 1
 entry-fits p t r s m n h = elim (cases_lt m (length t.btt)) as (λ _. n < 2 ^ 64 - 1) [
   | inl low ↦

@@ -120,7 +120,7 @@ owned-store ToNvm t b l = spare (other_version (cell_of t b).entry.v0) where
   spare Out = ap Some (block-cell_of t b)
 owned-store PendingFirst t b l = owned-target t b (cell_of t b) (Owns-cell_of t b)
 
--- so places of two blocks are two
+-- places of two blocks are two
 pub owned-apart : (t : State) (m b : ℕ) (x y : Place) → m ≢ b → owner t x ≡ Some m → owner t y ≡ Some b → x ≢ y
 owned-apart t m b x y other hx hy e =
     let both : Some m ≡ Some b = sym hx ∙ ap (owner t) e ∙ hy in
@@ -157,7 +157,7 @@ module _ {E : Type 0} (key : E → ℕ) (new : ℕ → E) (listed : E → Option
     entry_listed : (i n : ℕ) → Lists listed_in i n → listed (entry_for key new n t) ≡ Some n
     entry_listed i n l = let f = listed_entry i n l in ap listed (entry_for-some key new t n i f.0 (found_at i n l) f.1) ∙ f.2
 
-    -- so a number is found exactly if the table's entry for it is listed
+    -- a number is found exactly if the table's entry for it is listed
     entry_of-listed_in : ((n : ℕ) → listed (new n) ≡ None) → (n : ℕ)
         → entry_of listed_in n ≡ option_map (λ _. index_for key new n t) (listed (entry_for key new n t))
     entry_of-listed_in new_none n = by_place (place_of key n t) refl where

@@ -55,7 +55,7 @@ with_listed_block i b s = record s { btt = with_entry i (Some (listed_entry b)) 
 abbrev pub with_listed_page : ℕ → ℕ → State → State
 with_listed_page j n s = record s { ptt = with_entry j (Some (listed_page n)) s.ptt }
 
--- a page of memory may have had so many stores in the epoch before
+-- a page of memory may have had this many stores in the epoch before
 pub record MayListCount (n count : ℕ) (s : State) : Type 0 where
   pub page : n < s.p.pages
   pub within : count ≤ most
@@ -130,7 +130,7 @@ TablesMayListPage =
     (j n : ℕ) (s : State) → AreSoundTables s → IsBooting s → j < s.p.ptt
     → table_entry (tables0 s).ptt j ≡ None → IsTables s.p (with_page j n (tables0 s)) → MayListPage j n s
 
--- if those of every block of a listed page hold what they have to, the places of all blocks do
+-- if the places of every block of a listed page hold what they have to, the places of all blocks do
 abbrev pub FramedHoldsAll : Type 0
 FramedHoldsAll =
     (s : State) (n : Device) → AreSoundTables s → IsBooting s

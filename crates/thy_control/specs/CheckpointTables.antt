@@ -33,11 +33,11 @@ tables_by version site s = record {
 abbrev pub tables0 : State → Tables
 tables0 s = tables_by (λ e. e.v0) (λ e. e.place) s
 
--- and those of the one under way; the committed one's if none is
+-- the tables of the checkpoint under way, or of the committed one if none is under way
 abbrev pub tables1 : State → Tables
 tables1 s = tables_by (λ e. e.v1) (λ e. e.target) s
 
--- they are tables that a checkpoint may have, and have each block of memory at the place that its cell gives
+-- tables that a checkpoint may have, with each block of memory at the place that its cell gives
 pub record AreTablesOf (s : State) (t : Tables) (place : Cell → Place) : Type 0 where
   pub valid : IsTables s.p t
   pub same_place : (b : ℕ) → b < memory_blocks s.p → place_of t b ≡ place (cell_of s b)

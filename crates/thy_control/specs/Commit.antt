@@ -10,7 +10,7 @@ use Rattle.thy_control.specs.State.{State, AreSoundTables, cell_of, reads, penul
 use Rattle.thy_control.specs.CheckpointTables.{tables0, tables1}
 use Rattle.thy_control.specs.Stays.{HoldAll}
 
--- every version of the checkpoint under way is that of the committed one, pages that leave are cleared, and so are
+-- every version of the checkpoint under way becomes the committed version; pages that leave are cleared, and so are
 -- entries that list nothing any more
 unfoldable pub committed_state : State → State
 committed_state s = record s {
@@ -35,7 +35,7 @@ pub record Commits (s t : State) (n : Device) : Type 0 where
 pub record CommitsTargets (s t : State) (n : Device) : Type 0 where
   pub penult_is : (b : ℕ) → b < memory_blocks s.p → penult_of t n b ≡ reads s n (target (cell_of s b))
 
--- the committed checkpoint has the tables that were due, and none is under way
+-- the committed checkpoint has the tables of the one that was under way, and none is under way
 pub record CommitsTables (s t : State) : Type 0 where
   pub tables0_next : tables0 t ≡ tables1 s
   pub tables1_same : tables1 t ≡ tables1 s

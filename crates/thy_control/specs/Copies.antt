@@ -47,7 +47,7 @@ copied b s m = record s {
   dram = (devices_copied b s m).dram;
 }
 
--- the same after the copy of what an entry lists; unchanged if nothing is left
+-- the NVM, and the controller, after the copy of what an entry lists; unchanged if nothing is left
 abbrev pub devices_after_copy : Option ℕ → State → Device → Device
 devices_after_copy None s m = m
 devices_after_copy (Some i) s m = (devices_copied (block_listed i s) s m).nvm
@@ -60,7 +60,7 @@ after_next_copy (Some i) s m = copied (block_listed i s) s m
 abbrev pub FailsCopy : ℕ → State → Device → Device → Type 0
 FailsCopy b s m n = FailsMove s.p (last (cell_of s b)) (target (cell_of s b)) (devices_of m s.dram) (devices_of n s.dram)
 
--- it was that of the entry whose copy was next
+-- a copy that failed was of the block whose entry was next
 pub record FailsNextCopy (s : State) (m n : Device) : Type 0 where
   pub entry : ℕ
   pub next : next_copy s ≡ Some entry

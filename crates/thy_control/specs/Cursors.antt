@@ -19,7 +19,7 @@ use Rattle.thy_cell.specs.declared.cell.StoreRule.TheVariants.{ToBuffer}
 abbrev pub NoneBelow : {E : Type 0} → (E → Bool) → ℕ → Listing E → Type 0
 NoneBelow test place t = (k : ℕ) → k < place → passes test (entry_at t k) ≡ false
 
--- the same of each place at which a search starts
+-- no entry below the place at which a search starts passes the test of that search
 pub record AreCursors (pages : Listing PttEntry) (blocks : Listing BttEntry) (c : Cursors) : Type 0 where
   pub copies : NoneBelow needs_copy c.copies blocks
   pub writes : NoneBelow needs_write c.writes pages

@@ -30,7 +30,7 @@ pub record IsUnseen (s : State) (m : Device) (t : State) (n : Device) : Type 0 w
   pub holds : HoldAll s m → HoldAll t n
   pub stays : Stays s m t n
 
--- the same if writes of the NVM landed, whether that is up or down: by a drain, by a barrier, or otherwise
+-- writes of the NVM that landed are not seen, whether it is up or down: by a drain, by a barrier, or otherwise
 abbrev pub LandingIsUnseen : Type 0
 LandingIsUnseen = (s : State) (m n : Device) → AreSoundTables s → IsSized s m → Lands m n → IsUnseen s m s n
 
@@ -40,7 +40,7 @@ NvmDrainIsUnseen = (s : State) (m : Device) → AreSoundTables s → IsSized s m
 abbrev pub BarrierIsUnseen : Type 0
 BarrierIsUnseen = (s : State) (m : Device) → AreSoundTables s → IsSized s m → IsUnseen s m s (settled m)
 
--- and by a drain of the DRAM, of which one write less is queued then
+-- a drain of the DRAM, after which one write less is queued, is not seen
 abbrev pub DrainIsUnseen : Type 0
 DrainIsUnseen = (s : State) (m : Device) → IsUnseen s m (after_drain s) m
 

@@ -13,7 +13,7 @@ module _ {E : Type 0} (key : E → ℕ) (new : ℕ → E) where
   abbrev pub entry_for : ℕ → Listing E → E
   entry_for n t = entry_found (place_of key n t) n t
 
-  -- its place; 0 if there is none
+  -- the place of the entry that lists a number; 0 if there is none
   abbrev pub index_for : ℕ → Listing E → ℕ
   index_for n t = unwrap_or (place_of key n t) 0
 

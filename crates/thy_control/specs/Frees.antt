@@ -12,7 +12,7 @@ use Rattle.thy_control.specs.Commit.{committed_state}
 pub record HasNoWork (s : State) : Type 0 where
   pub no_work : (i : ℕ) (e : BttEntry) → entry_at s.btt i ≡ Some e → e.work ≡ NoWork
 
--- an entry once its copy was made
+-- a block's entry after its version was copied to its place
 abbrev pub settled : BttEntry → Option BttEntry
 settled e = Some (record e { pend = Settled })
 

@@ -16,8 +16,8 @@ pub record IsPlaced (b : ℕ) (c : Cell) : Type 0 where
   pub copied : c.entry.pend ≡ Settled
   pub issued : c.page.busy ≡ true → b % 64 < c.page.issued
 
--- nothing new is possible apart from memory's places, at the places of the committed checkpoint, and at that of each
--- block which the one under way has at its place already
+-- nothing new is possible apart from memory's places, at the places of the committed checkpoint, and at the place of
+-- each block that the checkpoint under way has there already
 pub record LeavesGuarded (s : State) (m n : Device) : Type 0 where
   pub apart : (x : ℕ) → IsApart s.p x → NoMoreAt x m n
   pub old : (b : ℕ) → b < memory_blocks s.p → NoMoreAt (number_of s.p (penult (cell_of s b))) m n

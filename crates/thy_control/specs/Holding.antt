@@ -51,7 +51,7 @@ holding_of s n = record {
   owed = waiting s.btt;
 }
 
--- what it holds has a block exactly if memory has, and that block is the work
+-- what a controller holds has a block exactly if memory has, and that block is the work
 pub record AreWorks (s : State) (n : Device) (b : ℕ) : Type 0 where
   pub sized : IsSized s n
   pub up : n.down ≡ false
@@ -61,11 +61,11 @@ pub record AreWorks (s : State) (n : Device) (b : ℕ) : Type 0 where
 abbrev pub BlocksAreWorks : Type 0
 BlocksAreWorks = (s : State) (n : Device) (b : ℕ) → b < length (holding_of s n).blocks → AreWorks s n b
 
--- and it has every block of memory if the NVM has its size and is up
+-- a controller holds every block of memory if the NVM has its size and is up
 abbrev pub MemoryIsHeld : Type 0
 MemoryIsHeld = (s : State) (n : Device) → IsSized s n → n.down ≡ false → length (holding_of s n).blocks ≡ memory_blocks s.p
 
--- a new controller has room for as many stores as the block table has entries, and is ready if the NVM is up
+-- a new controller has room for one store for each entry of the block table, and is ready if the NVM is up
 pub record IsNew (p : Parameters) (n : Device) (h : Holding) : Type 0 where
   pub free : h.free ≡ p.btt
   pub ready : h.ready ≡ not n.down

@@ -10,10 +10,10 @@ pub record HasNoneLeft (s : State) : Type 0 where
   pub copies : next_copy s ≡ None
   pub pages : next_page s ≡ None
 
--- then every block is copied and written
+-- if no copy and no page block comes next, every block is copied and written
 abbrev pub NoneLeftIsCopied : Type 0
 NoneLeftIsCopied = (s : State) → HasNoneLeft s → AreCopied s
 
--- and the other way round
+-- if every block is copied and written, nothing is left
 abbrev pub CopiedHasNoneLeft : Type 0
 CopiedHasNoneLeft = (s : State) → AreSoundTables s → AreCopied s → HasNoneLeft s

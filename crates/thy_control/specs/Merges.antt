@@ -15,7 +15,7 @@ use Rattle.thy_control.specs.State.{State, cell_of}
 abbrev pub next_merge : State → Option ℕ
 next_merge s = next_from (is_overlaid s.ptt) 0 s.btt
 
--- how many there are
+-- how many entries are still to be merged
 abbrev pub overlays : State → ℕ
 overlays s = overlaid s.ptt s.btt
 
@@ -25,7 +25,8 @@ dram_merged b s =
     let x = seat_of (cell_of s b) in
     written s.dram (number_of s.p (frame_at x)) (block_at s.dram.blocks (number_of s.p (buffer_at x)))
 
--- and the controller: the block's entry is cleared, and the page is dirty
+-- the controller after a block was copied from its buffer into the frame: the block's entry is cleared, and the page is
+-- dirty
 unfoldable pub merged_block : ℕ → State → State
 merged_block b s = record s {
   btt = with_entry (cell_of s b).i None s.btt;
@@ -33,7 +34,7 @@ merged_block b s = record s {
   dram = dram_merged b s;
 }
 
--- the same of the entry that is merged next
+-- the controller after the merge of this entry, if there is one
 abbrev pub after_merge : Option ℕ → State → State
 after_merge None s = s
 after_merge (Some i) s = merged_block (block_listed i s) s

@@ -7,16 +7,16 @@ use Rattle.thy_base.specs.Device.{HasFailed, HasFailedToWrite}
 use Rattle.thy_places.specs.Places.{in_dram, number_of}
 use Rattle.thy_place.specs.Devices.{Devices, read_at, written_at}
 
--- both devices after it
+-- both devices after a block moved from one place to another
 abbrev pub moved : Parameters → Place → Place → Devices → Devices
 moved p from to d = written_at p to (read_at p d from) d
 
--- its read failed
+-- a move of a block failed at its read
 pub record FailsAtRead (from : Place) (old new : Devices) : Type 0 where
   pub in_nvm : in_dram from ≡ false
   pub failed : HasFailed old.nvm new.nvm
 
--- or its write: the place may hold the block, and no other has changed
+-- a move of a block failed at its write: the place may hold the block, and no other has changed
 pub record FailsAtWrite (p : Parameters) (from to : Place) (old new : Devices) : Type 0 where
   pub in_nvm : in_dram to ≡ false
   pub failed : HasFailedToWrite (number_of p to) (read_at p old from) old.nvm new.nvm

@@ -64,7 +64,7 @@ pub record Spot (s : State) : Type 0 where
 abbrev pub AccessesNvm : State → Device → Device → Type 0
 AccessesNvm s old new = (new ≡ old) ⊎ ((x : Spot s) × (new ≡ written_to old x.at x.block))
 
--- it failed at a read or at such a write
+-- a call failed at a read of the NVM or at such a write
 abbrev pub FailsOnNvm : State → Device → Device → Type 0
 FailsOnNvm s old new = HasFailed old new ⊎ ((x : Spot s) × HasFailedToWrite x.at x.block old new)
 
@@ -72,8 +72,8 @@ FailsOnNvm s old new = HasFailed old new ⊎ ((x : Spot s) × HasFailedToWrite x
 abbrev pub queued : Devices → ℕ
 queued d = length d.nvm.queue + d.dram.queued
 
--- so one action of both devices is one of the NVM at most; if that is up afterwards it did not fail, and one write more
--- is queued at most
+-- one action of both devices is at most one of the NVM; if the NVM is up afterwards it did not fail, and at most one
+-- more write is queued
 pub record IsOneOfNvm (s : State) (old new : Devices) : Type 0 where
   pub nvm : AccessesNvm s old.nvm new.nvm ⊎ FailsOnNvm s old.nvm new.nvm
   pub up : new.nvm.down ≡ false → AccessesNvm s old.nvm new.nvm

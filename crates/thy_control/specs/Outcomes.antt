@@ -4,7 +4,7 @@ use Rattle.thy_base.specs.declared.nvm.NvmError.{NvmError}
 use Rattle.thy_base.specs.Device.{Device, IsFramed, CountsFault}
 use Rattle.thy_control.specs.State.{State}
 
--- it makes this state and this NVM; or it fails, which leaves the controller as it was, and this of the NVM
+-- a call makes this state and this NVM; or it fails, which leaves the controller as it was, and this of the NVM
 pub record MakesOrFails {T : Type 0} (state_made : State) (nvm_made : Device) (fails : Type 0)
     (s : State) (m : Device) (result : Result T NvmError) (t : State) (n : Device) : Type 0 where
   pub state : OnOk result (t ≡ state_made)

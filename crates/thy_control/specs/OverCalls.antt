@@ -30,14 +30,14 @@ cell_on c d e first second = record {
   issued = omega (arith, first.issued, second.issued);
 }
 
--- what is at its place is so still
+-- a block that is at its place stays there over calls
 pub placed_on : (b : ℕ) (c d : Cell) → CellStays c d → IsPlaced b c → IsPlaced b d
 placed_on b c d stays h = record {
   copied = stays.settled h.copied;
   issued = λ busy. omega (arith, h.issued (stays.busy_before busy), stays.issued);
 }
 
--- what stays does so if nothing happens
+-- what stays over calls holds from a moment to itself
 pub stays_same : (s : State) (m : Device) → Stays s m s m
 stays_same s m = record {
   as_long = refl;
@@ -73,7 +73,7 @@ up_between a true c h e = let d : c ≡ true = h refl in absurd (false_is_not_tr
   false_is_not_true : (c : Bool) → c ≡ false → c ≡ true → ⊥
   false_is_not_true c e d = cc
 
--- and over two calls one after the other
+-- what stays over each of two calls, one after the other, stays over both
 pub stays_on : (s : State) (m : Device) (t : State) (n : Device) (u : State) (o : Device)
     → Stays s m t n → Stays t n u o → Stays s m u o
 stays_on s m t n u o first second =

@@ -21,15 +21,15 @@ abbrev pub is_buffered : Working → Bool
 is_buffered InBuffer = true
 is_buffered work = false
 
--- and over the frame of its page
+-- an entry's work is held in a buffer, over the frame of its page
 abbrev pub is_overlaid : Listing PttEntry → BttEntry → Bool
 is_overlaid pages e = is_buffered e.work && block_is_framed pages e.block
 
--- how many entries of the block table have such work
+-- how many entries of the block table have their work in a buffer over the frame of a page
 abbrev pub overlaid : Listing PttEntry → Listing BttEntry → ℕ
 overlaid pages blocks = count_by (passes (is_overlaid pages)) blocks.entries
 
--- a block of memory that has such work
+-- a block of memory whose work is in a buffer over the frame of its page
 pub record IsOverlaid (s : State) : Type 0 where
   pub block : ℕ
   pub inside : block < memory_blocks s.p
@@ -43,7 +43,7 @@ pub record IsPromoting (s : State) : Type 0 where
   pub unframed : is_framed (cell_of s block).page ≡ false
   pub fresh : (cell_of s block).page.fresh ≡ true
 
--- how many more there are after a store by a rule
+-- how many more blocks are overlaid after a store by a rule
 abbrev pub covers : StoreRule → Cell → ℕ
 covers ToBuffer c = if is_framed c.page && not (is_buffered c.entry.work) then 1 else 0
 covers rule c = 0

@@ -30,7 +30,7 @@ issues_left (Some e) = if e.busy then page_blocks - e.issued else 0
 abbrev pub writes_left : State → ℕ
 writes_left s = sum_by issues_left s.ptt.entries
 
--- the page that an entry lists, and the block of it that comes after so many
+-- the page that an entry lists, and the block of it that comes after a number of others
 abbrev pub page_in : Option PttEntry → ℕ
 page_in None = 0
 page_in (Some e) = e.page
@@ -53,7 +53,7 @@ issued b s m = record s {
   dram = (devices_issued b s m).dram;
 }
 
--- the same of the next block of an entry's page; unchanged if nothing is left
+-- the NVM, and the controller, after the write of the next block of an entry's page; unchanged if nothing is left
 abbrev pub devices_after_write : Option ℕ → State → Device → Device
 devices_after_write None s m = m
 devices_after_write (Some j) s m = (devices_issued (block_to_write j s) s m).nvm
@@ -67,7 +67,7 @@ abbrev pub FailsWriteOf : ℕ → State → Device → Device → Type 0
 FailsWriteOf b s m n =
     FailsMove s.p (frame_at (seat_of (cell_of s b))) (target (cell_of s b)) (devices_of m s.dram) (devices_of n s.dram)
 
--- it was that of the entry whose page was written next
+-- a write that failed was of the page whose entry was next
 pub record FailsNextWrite (s : State) (m n : Device) : Type 0 where
   pub entry : ℕ
   pub next : next_page s ≡ Some entry

@@ -45,12 +45,12 @@ block_filled b s m = record s {
   dram = (devices_filled b s m).dram;
 }
 
--- the same of the next block of an entry's page
+-- the controller after the next block of an entry's page was copied into its frame, if there is such an entry
 abbrev pub after_promotion : Option ℕ → State → Device → State
 after_promotion None s m = s
 after_promotion (Some j) s m = block_filled (block_to_fill j s) s m
 
--- that block is read from the NVM
+-- the next block that is promoted is read from the NVM
 abbrev pub ReadsNvm : Option ℕ → State → Type 0
 ReadsNvm None s = ⊥
 ReadsNvm (Some j) s = in_dram (work (cell_of s (block_to_fill j s))) ≡ false

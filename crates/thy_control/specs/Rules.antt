@@ -20,7 +20,7 @@ use Rattle.thy_control.specs.State.{State, cell_of, reads}
 abbrev pub with_block : StoreRule → ℕ → State → State
 with_block rule b s = record s { btt = btt_with rule b s.btt }
 
--- and with the entries of a cell
+-- the controller with the entries of a cell, as far as the rule of its store changes them
 abbrev pub with_cell : StoreRule → Cell → State → State
 with_cell rule c s = record s { btt = btt_after rule c s.btt; ptt = ptt_after rule c s.ptt }
 
@@ -39,14 +39,14 @@ devices_after b block s n =
     let rule = rule_for b s in
     written_at s.p (store_place rule c) (put_by rule block (reads s n) c) (devices_of n s.dram)
 
--- the controller after it
+-- the controller after the store
 unfoldable pub state_after : ℕ → Block → State → Device → State
 state_after b block s n =
     let rule = rule_for b s in
     let t = with_cell rule (after_store rule (cell_before b s)) (with_block rule b s) in
     record t { counts = counts_after rule (page_of b) s.counts; dram = (devices_after b block s n).dram }
 
--- no promotion is unfinished
+-- no promotion of a page is unfinished
 pub record IsWholeState (s : State) : Type 0 where
   pub whole : (b : ℕ) → b < memory_blocks s.p → IsWhole (cell_of s b).page
 

@@ -35,11 +35,11 @@ pub record StaysHeld (s : State) (m : Device) (t : State) (n : Device) : Type 0 
   pub holds : HoldAll t n
   pub last_same : (b : ℕ) → b < memory_blocks s.p → last_of t n b ≡ last_of s m b
 
--- this is kept if the places held what they have to
+-- a fact of two states is kept if the places held what they have to
 abbrev pub WhereHeld : (State → Device → State → Device → Type 0) → State → Device → State → Device → Type 0
 WhereHeld kept s m t n = HoldAll s m → kept s m t n
 
--- while the NVM is up: all that stands apart from memory's places reads as before, and so does the committed checkpoint
+-- while the NVM is up, the committed checkpoint and all that is apart from memory's places read as before
 pub record StaysUp (s : State) (m : Device) (t : State) (n : Device) : Type 0 where
   pub apart_reads : (x : ℕ) → IsApart s.p x → x < image_blocks s.p → newest n x ≡ newest m x
   pub penult_same : (b : ℕ) → b < memory_blocks s.p → penult_of t n b ≡ penult_of s m b

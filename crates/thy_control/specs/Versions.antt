@@ -13,15 +13,15 @@ pub record KeepsCheckpoints (s : State) (m : Device) (t : State) (n : Device) : 
   pub penult_same : (b : ℕ) → b < memory_blocks s.p → penult_of t n b ≡ penult_of s m b
   pub last_same : (b : ℕ) → b < memory_blocks s.p → last_of t n b ≡ last_of s m b
 
--- the committed one has
+-- the committed checkpoint has every block as before
 pub record KeepsCommitted (s : State) (m : Device) (t : State) (n : Device) : Type 0 where
   pub penult_same : (b : ℕ) → b < memory_blocks s.p → penult_of t n b ≡ penult_of s m b
 
--- a load of every block gives what it gave
+-- a load of every block gives the same as before
 pub record KeepsWork (s : State) (m : Device) (t : State) (n : Device) : Type 0 where
   pub work_same : (b : ℕ) → b < memory_blocks s.p → work_of t n b ≡ work_of s m b
 
--- both have, and so does a load; the frames and targets hold what they have to, if they did
+-- both checkpoints and what a load gives are as before; the frames and targets hold what they have to, if they did
 pub record KeepsAll (s : State) (m : Device) (t : State) (n : Device) : Type 0 where
   pub checkpoints : KeepsCheckpoints s m t n
   pub work : KeepsWork s m t n

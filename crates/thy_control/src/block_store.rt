@@ -2,9 +2,9 @@
 use crate::{Control, blocks_are_works};
 use thy_base::{Block, BlockStore, Nvm, NvmError, Stored};
 
-/// Blocks of memory, over the controller and the NVM below it; none if the NVM has another size or is down. It is
-/// ready while no page is being promoted and the NVM is up, and has room for as many stores as entries of the block
-/// table are free. A copy is owed for each buffer that has still to be copied.
+/// Blocks of memory, over the controller and the NVM below it; none if the NVM has another size or is down. It is ready
+/// while no page is being promoted and the NVM is up, and has room for one store for each free entry of the block
+/// table. A copy is owed for each buffer that has still to be copied.
 impl<N: Nvm> BlockStore<N> for Control {
     ghost use Rattle.std.specs.Prelude.{◌≡◌};
     ghost use Rattle.thy_control.specs.Holding.{holding_of};

@@ -79,7 +79,7 @@ fn block_entry(btt: &Btt, b: u64) -> (usize, BttEntry)
     }
 }
 
-/// The same of a page.
+/// The place of a page's entry, 0 if it has none, and the entry, or one that says that the page has none.
 fn page_entry(ptt: &Ptt, page: u64) -> (usize, PttEntry)
     ensures place { result.0 ≡ index_for page_key no_page page ptt.now }
     ensures entry { result.1 ≡ entry_for page_key no_page page ptt.now }
@@ -93,7 +93,7 @@ fn page_entry(ptt: &Ptt, page: u64) -> (usize, PttEntry)
     }
 }
 
-/// The place of a block's entry; if it has none, that of the one which the rule of its store adds.
+/// The place of a block's entry; if it has none, the place of the entry which the rule of its store adds.
 fn place_for_rule(btt: &Btt, b: u64, rule: StoreRule) -> usize
     requires { 0 < free_count btt.now }
     ensures { result ≡ index_for block_key new_entry b (btt_with rule b btt.now) }
@@ -142,7 +142,7 @@ fn add_entry(btt: &mut Btt, b: u64)
     let _place = btt.add(BttEntry::new(b));
 }
 
-/// What a rule puts at its place: the block that is stored, or what the buffer holds.
+/// What a rule writes at its place: the block that is stored, or what the buffer holds.
 fn block_to_put(
     rule: StoreRule,
     cell: &Cell,
@@ -160,7 +160,7 @@ fn block_to_put(
     }
 }
 
-/// Puts the entries of a block into the tables, as far as a rule changes them.
+/// Writes the entries of a block into the tables, as far as a rule changes them.
 fn set_cell(rule: StoreRule, cell: &Cell, btt: &mut Btt, ptt: &mut Ptt)
     requires block { rule ≢ StoreRule.ToFrame → lists block_key cell.now.entry.block (entry_at btt.old cell.now.i) ≡ true }
     requires page { rule ≡ StoreRule.ToFrame → lists page_key cell.now.page.page (entry_at ptt.old cell.now.j) ≡ true }

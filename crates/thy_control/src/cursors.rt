@@ -11,13 +11,13 @@ use thy_cell::{Cell, StoreRule};
 /// the next each search goes over its table once, and again only from the place that a store set it back to.
 #[derive(Clone, Copy, Debug)]
 pub struct Cursors {
-    /// Of the block table: no entry below has a version to be copied.
+    /// A place of the block table: no entry below has a version to be copied.
     pub copies: usize,
-    /// Of the page table: no page below has blocks to be written.
+    /// A place of the page table: no page below has blocks to be written.
     pub writes: usize,
     /// Of the block table: no entry below has work in a buffer over the frame of its page.
     pub merges: usize,
-    /// Of the page table: no page below is being promoted.
+    /// A place of the page table: no page below is being promoted.
     pub promotions: usize,
 }
 
@@ -32,7 +32,7 @@ pub fn goes_on(found: Option<usize>, size: usize) -> usize
 }
 
 impl Cursors {
-    /// At the start of both tables.
+    /// Cursors at the start of both tables.
     pub fn start() -> Cursors
         ensures { (pages : Listing PageEntry) (blocks : Listing BlockEntry) → AreCursors pages blocks result }
     {

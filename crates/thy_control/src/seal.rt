@@ -96,7 +96,7 @@ fn list_dense(ptt: &mut Ptt, counts: &Counts)
     list_dense_of(ptt, pages / BLOCK_COUNTS * BLOCK_COUNTS, pages, counts);
 }
 
-/// Those of the pages from one to before another.
+/// Lists the dense ones of the pages from one to before another.
 fn list_dense_of(ptt: &mut Ptt, first: u64, end: u64, counts: &Counts)
     requires order { first ≤ end }
     requires inside { end ≤ length counts.now.counts }
@@ -109,7 +109,7 @@ fn list_dense_of(ptt: &mut Ptt, first: u64, end: u64, counts: &Counts)
     }
 }
 
-/// The same, page by page.
+/// Lists the dense ones of the pages from one to before another, page by page.
 fn list_each_dense(ptt: &mut Ptt, first: u64, end: u64, counts: &Counts)
     requires order { first ≤ end }
     requires inside { end ≤ length counts.now.counts }

@@ -18,7 +18,7 @@ use Rattle.thy_control.specs.Stays.{AreCopied, Stays}
 use Rattle.thy_control.proofs.LeftLemmas.{AreCopied-none}
 use Rattle.thy_control_tests.specs.Driven.{Drives}
 
--- so does a store, a copy and the write of a page's block
+-- a store, a copy and the write of a page's block leave whether the NVM is down
 pub down-after : (b : ℕ) (block : Block) (s : State) (n : Device) → (devices_after b block s n).nvm.down ≡ n.down
 unfolding devices_after
 down-after b block s n = down-written s.p _ _ (devices_of n s.dram)
@@ -47,7 +47,7 @@ pub way-committed : (s : State) → (committed_state s).under_way ≡ false
 unfolding committed_state
 way-committed s = refl
 
--- after both the controller is driven still
+-- the controller is driven still after a seal and after a commit
 pub Drives-sealed : (s : State) (n : Device) → Drives s n → Drives (sealed_state s) n
 unfolding sealed_state
 Drives-sealed s n d = record { blocks = d.blocks; sized = record { nvm = d.sized.nvm }; up = d.up }
@@ -64,7 +64,7 @@ Drives-stays s t m n d stays same = record {
   up = same ∙ d.up;
 }
 
--- so it is once the calls for a copy and for a page's block find none
+-- all is copied once the calls for a copy and for a page's block find none
 pub AreCopied-found : (s t u : State) (m n : Device)
     → is_some (next_copy s) ≡ false → t ≡ after_next_copy (next_copy s) s m
     → is_some (next_page t) ≡ false → u ≡ after_next_write (next_page t) t n → AreCopied u

@@ -54,7 +54,7 @@ promoted-rests e s t m fits some is = λ p.
 
 -- ---- the calls
 
--- where it begins no checkpoint is under way
+-- a memory begins with no checkpoint under way
 pub IsMemory-begun : (p : Parameters) (s : State) (e : Progress) (n : Device) (cuts : ℕ) → s.p ≡ p → Drives s n → s.under_way ≡ false
     → HasRoom n cuts → e ≡ new_engine p → AreSoundTables s → is_promoting s ≡ false → IdleFits → IsMemory (parts p s e n cuts)
 IsMemory-begun p s e n cuts same drives idle room begins tables none fit =
@@ -72,7 +72,7 @@ IsMemory-stays p e s t m n cuts w fits stays same frame = record {
   room = HasRoom-framed m n cuts w.room frame;
 }
 
--- so it is with a seal
+-- what is a memory is one after a seal
 pub IsMemory-sealed : (p : Parameters) (e f : Progress) (s t : State) (n : Device) (cuts epoch : ℕ) (cpu : CpuState)
     → IsMemory (parts p s e n cuts) → t ≡ sealed_state s → f ≡ begun cpu epoch e → AreSoundTables t → HasNoWork t → SealFits
     → IsMemory (parts p t f n cuts)
@@ -87,7 +87,7 @@ IsMemory-sealed p e f s t n cuts epoch cpu w t_is f_is tables idle fit =
       room = w.room;
     }))
 
--- and once a write of the DRAM landed
+-- what is a memory is one once a write of the DRAM landed
 pub IsMemory-drained : (p : Parameters) (e : Progress) (s t : State) (n : Device) (cuts : ℕ) → IsMemory (parts p s e n cuts) → t ≡ after_drain s
     → IsMemory (parts p t e n cuts)
 IsMemory-drained p e s t n cuts w is =
@@ -99,7 +99,7 @@ IsMemory-drained p e s t n cuts w is =
       room = w.room;
     })
 
--- and after an action of the engine
+-- what is a memory is one after an action of the engine
 pub IsMemory-item : (p : Parameters) (e f : Progress) (s t : State) (m n : Device) (cuts : ℕ)
     → IsMemory (parts p s e m cuts) → Fits filling_dual items_dual f t → f.p ≡ e.p → n ≡ after (action_next filling_dual items_dual e s m) m → IsFramed m n
     → IsMemory (parts p t f n cuts)

@@ -7,12 +7,12 @@ use Rattle.thy_base.specs.Store.{Holding}
 abbrev pub all : ℕ
 all = 512
 
--- the store holds all of them, and takes more
+-- the store holds all blocks of the least memory, and takes another store
 pub record Takes (h : Holding) : Type 0 where
   pub long : length h.blocks ≡ all
   pub ready : h.ready ≡ true
 
--- these lists are of as many
+-- each of these lists has an element for each block
 pub record AreLong (start blocks : List Block) (stored : List Bool) : Type 0 where
   pub start_long : length start ≡ all
   pub blocks_long : length blocks ≡ all

@@ -13,7 +13,7 @@ use Rattle.thy_isa.specs.declared.state.Status.TheVariants.{Running}
 use Rattle.thy_boot.specs.Start.{CanStart}
 use Rattle.thy_recover.specs.Filling.{filling_dual}
 
--- it may take a step, with this start
+-- a boot may take a step, with this start
 pub record Boots (s : Plain) (n : Device) (b : Booting) (c : State) : Type 0 where
   pub start : CanStart b.p s
   pub up : n.down ≡ false
@@ -34,7 +34,7 @@ pub record IsLeastStart (s : Plain) : Type 0 where
   pub status : s.status ≡ Running
   pub alone : s.other ≡ None
 
--- what was returned says that it continues
+-- the boot continues
 abbrev pub goes_on : BootStep → Bool
 goes_on GoesOn = true
 goes_on told = false

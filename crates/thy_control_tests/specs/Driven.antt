@@ -12,7 +12,7 @@ pub record Drives (s : State) (n : Device) : Type 0 where
   pub sized : IsSized s n
   pub up : n.down ≡ false
 
--- the lists of the committed checkpoint, the last one and the work are of as many blocks
+-- the lists of the committed checkpoint, the last one and the work have all blocks
 pub record AreVersions (committed last work : List Block) : Type 0 where
   pub committed_long : length committed ≡ all
   pub last_long : length last ≡ all

@@ -16,7 +16,7 @@ pub record MemoryParts : Type 0 where
   -- how many cuts are to come at most
   pub cuts : ℕ
 
--- the NVM has room for so many cuts
+-- the NVM has room for this many cuts
 abbrev pub HasRoom : Device → ℕ → Type 0
 HasRoom n cuts = length n.left + cuts ≤ n.left_room
 

@@ -99,7 +99,8 @@ fn step<N: Nvm>(
         .expect(rt, "a step")
 }
 
-/// Takes so many steps, or fewer if the boot is over before. Returns how many it took, and what the last one returned.
+/// Takes at most `most` steps, and stops when the boot is over. Returns how many it took, and what the last one
+/// returned.
 fn steps<N: Nvm>(
     rt: &impl Abort,
     boot: &mut Boot,
@@ -126,8 +127,8 @@ fn steps<N: Nvm>(
     (most, step(rt, boot, control, start, nvm))
 }
 
-/// Boots a machine whose power came on, and returns how many steps that took, what the last one returned, the boot's
-/// stage after it, and which blocks a load then gives: the first one of memory, and two of the console.
+/// Boots a machine whose power came on. Returns how many steps that took, what the last one returned, the boot's stage
+/// after it, and which blocks a load then gives: the first one of memory, and two of the console.
 fn boot<N: Nvm>(rt: &impl Abort, alloc: Global, nvm: &mut N, most: u64) -> Booted
     requires some { 1 ≤ most }
     requires ready { IsReady (N.device nvm.old) }
@@ -161,7 +162,7 @@ struct Booted {
     behind: Block,
 }
 
-/// Its result once it is over, and memory is the start's.
+/// The result of a boot once it is over, and memory is the start's.
 fn with_start(taken: u64, told: BootStep, end: End) -> Booted {
     let mut behind = Block::ZERO;
     behind.put(0, &[33; 6]);

@@ -37,13 +37,13 @@ static LEAST: Parameters = Parameters {
 /// What memory has to hold, block by block.
 #[derive(Drop)]
 struct Beside {
-    /// At the start, which is the committed checkpoint.
+    /// The blocks at the start, which is the committed checkpoint.
     start: Vec<Block>,
-    /// Now.
+    /// The blocks now.
     blocks: Vec<Block>,
-    /// Which of them were stored.
+    /// Which of the blocks were stored.
     stored: Vec<bool>,
-    /// How many more of them the block table has room for.
+    /// How many blocks more the block table has room for.
     room: u64,
 }
 
@@ -151,7 +151,7 @@ fn call<N: Nvm>(
     expect(rt, control.free(), beside.room);
 }
 
-/// Makes so many drawn calls.
+/// Makes a number of drawn calls.
 fn calls<N: Nvm>(
     rt: &impl Abort,
     control: &mut Control,

@@ -43,11 +43,11 @@ static LEAST: Parameters = Parameters {
 /// What memory has to hold, block by block, in each version.
 #[derive(Drop)]
 struct Versions {
-    /// At the committed checkpoint.
+    /// The blocks at the committed checkpoint.
     committed: Vec<Block>,
-    /// At the last seal.
+    /// The blocks at the last seal.
     last: Vec<Block>,
-    /// Now.
+    /// The blocks now.
     work: Vec<Block>,
     /// A checkpoint is under way.
     under_way: bool,
@@ -164,7 +164,7 @@ fn store_drawn<N: Nvm>(
     }
 }
 
-/// Copies so many blocks of pages in promotion, while there are any.
+/// Copies `many` blocks of pages in promotion, or fewer if there are no more.
 fn promote<N: Nvm>(rt: &impl Abort, control: &mut Control, nvm: &mut N, many: u64, way: bool)
     requires drives { Drives control.old (N.device nvm.old) }
     requires way { control.old.under_way ≡ way }
@@ -211,7 +211,7 @@ fn end_epoch<N: Nvm>(
     seen.promoted |= control.promoting();
 }
 
-/// Makes so many copies of the checkpoint under way, while some are left.
+/// Makes `many` copies of the checkpoint under way, while some are left.
 fn copy<N: Nvm>(rt: &impl Abort, control: &mut Control, nvm: &mut N, many: u64, way: bool) -> bool
     requires drives { Drives control.old (N.device nvm.old) }
     requires way { control.old.under_way ≡ way }
@@ -225,7 +225,7 @@ fn copy<N: Nvm>(rt: &impl Abort, control: &mut Control, nvm: &mut N, many: u64, 
     copied
 }
 
-/// Writes so many blocks of its pages, while some are left.
+/// Writes `many` blocks of the pages of the checkpoint under way, while some are left.
 fn write<N: Nvm>(rt: &impl Abort, control: &mut Control, nvm: &mut N, many: u64, way: bool)
     requires drives { Drives control.old (N.device nvm.old) }
     requires way { control.old.under_way ≡ way }

@@ -14,7 +14,7 @@ use thy_control::Control;
 use thy_nvm::MemNvm;
 use thy_places::blocks;
 
-/// The least memory, with a block table of so many entries. A page is stored to densely by more than 22 stores of an
+/// The least memory, with a block table of `btt` entries. A page is stored to densely by more than 22 stores of an
 /// epoch, and no longer by fewer than 16.
 fn least(btt: u64) -> Parameters
     ensures { result.pages ≡ 8 }
@@ -83,7 +83,7 @@ fn has_committed<N: Nvm>(rt: &impl Abort, control: &Control, nvm: &mut N, b: u64
     expect(rt, block, of(letter));
 }
 
-/// Writes so many blocks of the page of the checkpoint under way; they have to be left.
+/// Writes `many` blocks of the page of the checkpoint under way; they have to be left.
 fn write_blocks<N: Nvm>(rt: &impl Abort, control: &mut Control, nvm: &mut N, many: u64)
     requires drives { Drives control.old (N.device nvm.old) }
     requires way { control.old.under_way ≡ true }

@@ -95,7 +95,7 @@ fn block_of_start(rt: &impl Abort, start: &Start, b: usize) -> Block {
     }
 }
 
-/// How many instructions a processor has retired that is sealed with an epoch. The start's is that of epoch 0.
+/// How many instructions a processor has retired that is sealed with an epoch. For epoch 0 it is the start's count.
 fn count_of(epoch: u64) -> u64 {
     match epoch {
         0 => 5,
@@ -114,11 +114,11 @@ enum Action {
     Seal(u64),
     /// All pages in promotion get their frames.
     Promote,
-    /// All buffers over frames are merged into them.
+    /// All buffers over frames are merged into the frames.
     Merge,
     /// The engine takes one action.
     Step,
-    /// It takes actions until it commits.
+    /// The engine takes actions until it commits.
     Commit,
 }
 
@@ -163,7 +163,7 @@ const ACTIONS: [Action; 33] = [
     Action::Store(100, b'V'),
 ];
 
-/// The action after so many, if there is one.
+/// The action after `done` others, if there is one.
 fn action_of(done: usize) -> Option<Action> {
     if done < DENSE {
         return Some(Action::Store(done as u64, b'A'));
@@ -176,7 +176,7 @@ fn action_of(done: usize) -> Option<Action> {
 struct Beside {
     /// How many actions were done.
     done: usize,
-    /// Memory.
+    /// The blocks of memory.
     work: Vec<Block>,
     /// Memory at each seal, one after another; first the start's.
     sealed: Vec<Block>,
@@ -272,7 +272,7 @@ fn store(rt: &impl Abort, memory: &mut Memory, beside: &mut Beside, b: u64, lett
     }
 }
 
-/// An action of the engine, and whether it committed.
+/// Takes an action of the engine. Returns whether it committed the checkpoint.
 fn step(rt: &impl Abort, memory: &mut Memory, beside: &mut Beside) -> bool {
     match memory.step(rt) {
         EngineStep::Committed(epoch) => {
@@ -347,7 +347,7 @@ fn begun(rt: &impl Abort, alloc: Global) -> (Machine, Beside) {
     (Machine::Boots(starting), beside)
 }
 
-/// How many ticks it takes until all is done.
+/// How many ticks a machine takes until all is done.
 fn whole(rt: &impl Abort, alloc: Global) -> u64 {
     let (mut machine, mut beside) = begun(rt, alloc);
     for at in 0..5000 {
@@ -390,8 +390,8 @@ fn found(rt: &impl Abort, told: BootStep, beside: &Beside, at: u64) -> u64 {
     }
 }
 
-/// Cuts the power after so many ticks, and compares what the machine restarts with. Returns whether a checkpoint was
-/// in doubt.
+/// Cuts the power after `ticks` ticks, and compares what the machine restarts with. Returns whether a checkpoint was in
+/// doubt.
 fn cut(rt: &impl Abort, alloc: Global, ticks: u64, pick: u64) -> bool {
     let (mut machine, mut beside) = begun(rt, alloc);
     for at in 0..ticks {
@@ -409,8 +409,8 @@ fn cut(rt: &impl Abort, alloc: Global, ticks: u64, pick: u64) -> bool {
     beside.in_doubt.is_some()
 }
 
-/// Cuts the power after so many ticks with each of four picks for what that leaves of the queued writes: none, all, and two
-/// draws. If a checkpoint is in doubt it is cut with 32 more draws, so that its commit block lands without others.
+/// Cuts the power after `ticks` ticks with each of four picks for what that leaves of the queued writes: none, all, and
+/// two draws. If a checkpoint is in doubt it is cut with 32 more draws, so that its commit block lands without others.
 fn cuts(rt: &impl Abort, alloc: Global, ticks: u64) {
     for pick in [0, 1, 7] {
         cut(rt, alloc, ticks, pick);

@@ -9,7 +9,7 @@ use std::process::Abort;
 use thy_base::{Block, Parameters, SchemeName, Stored};
 use thy_layout::EngineStep;
 
-/// The least memory, with a block table of so many entries. A page is stored to densely by more than 22 stores of an
+/// The least memory, with a block table of `btt` entries. A page is stored to densely by more than 22 stores of an
 /// epoch, and no longer by fewer than 16. A slot has 7 blocks, and one for each 8 entries of the block table.
 fn least(btt: u64) -> Parameters
     ensures { result.pages ≡ 8 }
@@ -54,7 +54,7 @@ fn loads(rt: &impl Abort, memory: &mut Memory, b: u64, letter: u8)
     expect(rt, block, of(letter));
 }
 
-/// Takes so many actions of a checkpoint, with which it is not committed.
+/// Takes `many` actions of a checkpoint, with which it is not committed.
 fn steps(rt: &impl Abort, memory: &mut Memory, many: u64) {
     for i in 0..many {
         let step = memory.step(rt);
@@ -63,7 +63,7 @@ fn steps(rt: &impl Abort, memory: &mut Memory, many: u64) {
     }
 }
 
-/// With just so many more actions the checkpoint of an epoch is committed.
+/// With exactly `many` more actions the checkpoint of an epoch is committed.
 fn commits(rt: &impl Abort, memory: &mut Memory, many: u64, epoch: u64) {
     steps(rt, memory, many.saturating_sub(1));
     let step = memory.step(rt);
@@ -199,7 +199,7 @@ fn a_page_stays_for_one_quiet_epoch(rt: HostRuntime) {
     no_frame_is_used(&rt, &mut memory);
 }
 
-/// Stores a block of the page after so many of the 77 actions, and commits.
+/// Stores a block of the page after `many` of the 77 actions, and commits.
 fn store_behind(rt: &impl Abort, alloc: Global, memory: &mut Memory, many: u64, overlay: bool) {
     frame_page(rt, alloc, memory);
     steps(rt, memory, many);
@@ -222,7 +222,7 @@ fn a_frame_is_free_before_its_page_is_committed(rt: HostRuntime) {
     expect(&rt, memory.free(), 32);
 }
 
-/// So many actions that are reported alike.
+/// Takes `many` actions that are reported alike.
 fn are(rt: &impl Abort, memory: &mut Memory, many: u64, want: EngineStep) {
     for i in 0..many {
         let step = memory.step(rt);

@@ -75,7 +75,7 @@ calm_parts K m e =
 waits_not : {S : Type 0} (K : SchemeOf S) (m : Machine S) → K.under_way m.scheme ≡ false → waits_now K m ≡ false
 waits_not K m idle = ap (λ (way : Bool). way && (not K.overlaps || is_some m.hart.epoch.over || is_some (shortage_of K m) || stopped_now K m)) idle
 
--- the boot is over
+-- if nothing stalls the hart, the machine executes
 runs : {S : Type 0} (K : SchemeOf S) (m : Machine S) (phase : Phase) → stall_now K phase m ≡ None → phase ≡ Run
 runs K m Boot e = absurd (cc)
 runs K m Run e = refl
@@ -98,7 +98,7 @@ module _ {S : Type 0} (K : SchemeOf S) (m : Machine S) (calm : is_calm K m ≡ t
   calm_engine Halt = calm_hart Engine
   calm_engine Run = ap (λ (way : Bool). if way then Checkpoint else hart_now K Engine m) (calm_parts K m calm).idle ∙ calm_hart Engine
 
-  -- while no write is queued in the NVM
+  -- while no write is queued in the NVM, a hart advances at every pick
   pub calm_turn : (pick : Pick) (nvm : ℕ) → nvm ≡ 0 → turn_now K pick nvm m ≡ Advances (hart_of K pick m)
   calm_turn Hart nvm empty = calm_hart Hart
   calm_turn Second nvm empty = calm_hart Second
@@ -186,7 +186,7 @@ pub knows_noted : {S : Type 0} (K : SchemeOf S) (p next : MachineParts S) (taken
 knows_noted {S = S} K p next taken known store is = λ marked.
     ap (is_calm K) is ∙ calm_noted K taken (machine_of p) ∙ known (ap (λ (s : SchemeStore S). s.calm) (sym store) ∙ marked)
 
--- one that is not marked knows nothing
+-- a machine that is not marked as calm need not be calm
 pub knows_nothing : {S : Type 0} (K : SchemeOf S) (p : MachineParts S) → p.store.calm ≡ false → KnowsCalm K p
 knows_nothing K p unmarked = λ marked. absurd (cc)
 

@@ -126,7 +126,7 @@ hands_boot K o m t Loaded = handed refl refl
 hands_boot K o m t (Restarted cpu epoch) = handed refl refl
 hands_boot K o m t (Refused bad) = handed refl refl
 
--- they retire no instruction
+-- a step of the boot retires no instruction
 there_boot : (o : Origin) (v : View) (step : BootStep) → IsThere o v (boot_did step)
 there_boot o v GoesOn = tt
 there_boot o v Loaded = tt
@@ -334,12 +334,12 @@ module _ {S : Type 0} (K : SchemeOf S) (o : Origin) (cycles : ℕ) (m : Machine 
   runs_by (Exited v) e = absurd (cc)
   runs_by (Trapped v) e = absurd (cc)
 
-  -- as a hart's step finds the machine
+  -- the machine is as a hart's step finds it
   begun_here : (hart : ℕ) → HartAdvances K o m n hart → IsBegun K o m n hart
   begun_here hart turn =
       is-begun K o m n hart (sound-run K o cycles m n at.sound turn.goes.phase) (is-going K o cycles m n at turn.goes).going turn.own
 
-  -- while none is begun nothing is in hand
+  -- while no instruction is begun nothing is in hand
   pub hart_rests : (hart : ℕ) → HartAdvances K o m n hart → m.begun ≡ None → m.hart.hand ≡ NoHand
   hart_rests hart turn = (sound-run K o cycles m n at.sound turn.goes.phase).front.rests
 
@@ -370,7 +370,7 @@ module _ {S : Type 0} (K : SchemeOf S) (o : Origin) (cycles : ℕ) (m : Machine 
   does_hart hart true = refl
   does_hart hart false = (hart, refl)
 
-  -- the hart is there
+  -- the hart that moved or retired is there
   there_hart : (hart : ℕ) → HartAdvances K o m n hart → (retired : Bool) → IsThere o (view_of K o m n) (if retired then Retired hart else Moved)
   there_hart hart turn true =
       let shown = view-run K o m n turn.goes.phase in
@@ -515,7 +515,7 @@ pub waits_failed : {S : Type 0} (K : SchemeOf S) (o : Origin) (m next : Machine 
     → HasFailedAs K o Checkpoint m next n new → HasFailedAs K o (Stalled Waiting) m next n new
 waits_failed K o m next n new f = record { did = f.did; does = waits_does f.did f.does; due = f.due; fails = f.fails; processor = f.processor }
 
--- so it is by a result
+-- a cycle of the engine, if it succeeded, is also a cycle of a hart that waits for it
 waits_simulates : {S : Type 0} (K : SchemeOf S) (o : Origin) (cycles : ℕ) (m next : Machine S) (n new : Device) (r : Result Did NvmError)
     → IfOk r (λ did. IsCycle K o cycles Checkpoint did m n next new) → IfOk r (λ did. IsCycle K o cycles (Stalled Waiting) did m n next new)
 waits_simulates K o cycles m next n new (Ok did) c = waits_cycle K o cycles did m next n new c
@@ -528,7 +528,7 @@ waits_fails K o m next n new (Err e) f = waits_failed K o m next n new f
 
 -- ---- a call through the store of blocks
 
--- what it asked for
+-- a call of the store of blocks did nothing, or asked for one call of the scheme
 abbrev pub CalledOnce : {S N : Type 0} → SchemeOf S → (N → Device) → SchemeStore S → N → SchemeStore S → N → Type 0
 CalledOnce K device a x b y = ((b ≡ a) × (y ≡ x)) ⊎ IsOneCall K a (device x) b (device y)
 
@@ -545,7 +545,7 @@ pub framed_once : {S N : Type 0} (K : SchemeOf S) (device : N → Device) (a b :
 framed_once K device a b x y (inl same) = subst (λ z. IsFramed (device x) (device z)) (sym same.1) (framed_same (device x))
 framed_once K device a b x y (inr once) = once.access.frame
 
--- one that failed left the NVM down
+-- a call that failed left the NVM down
 down_now : (old new : Bool) → old ≡ false → RoseByOne (if old then 1 else 0) (if new then 1 else 0) → new ≡ true
 down_now old true up rose = refl
 down_now true false up rose = absurd (cc)
@@ -575,7 +575,7 @@ faults_after (WriteAt place block) n = refl
 faults_after ActBarrier n = refl
 faults_after Drain n = refl
 
--- one that did not has counted no failure
+-- a call of the store of blocks that did not fail has counted no failure
 pub kept_once : {S N : Type 0} (K : SchemeOf S) (device : N → Device) (a b : SchemeStore S) (x y : N) → (device x).down ≡ false
     → CalledOnce K device a x b y → failed_calls (device y) ≡ failed_calls (device x) → (device y).faults ≡ (device x).faults
 kept_once K device a b x y up (inl same) e = ap (λ z. (device z).faults) same.1
@@ -627,7 +627,7 @@ pub err_by : (r : Result Advance NvmError) → IsErr r → IsErr (did_by r)
 err_by (Ok a) is = absurd (true≢false (sym is))
 err_by (Err e) is = refl
 
--- one is reported with no stall, and does not halt
+-- a hart's cycle is reported with no stall, and does not halt
 pub reported_by : (r : Result Advance NvmError) → stepped_by r ≡ reported None false (did_by r)
 reported_by (Ok a) = refl
 reported_by (Err e) = refl

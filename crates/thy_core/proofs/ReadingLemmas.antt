@@ -42,7 +42,7 @@ one_more first i bs l within =
     ∙ flat-append (drop first (take i bs)) (block_at bs i ∷ [])
     ∙ ap (λ (xs : List ℕ). flat (drop first (take i bs)) ++ xs) (flat-one (block_at bs i))
 
--- one more block was read
+-- the blocks that were read, with one more
 pub read_more : (first i : ℕ) (bs now : List Block) (bytes new : List ℕ) → now ≡ bs → first ≤ i → i < length bs
     → bytes ≡ flat (drop first (take i bs)) → new ≡ bytes ++ block_bytes (block_at now i) → new ≡ flat (drop first (take (i + 1) bs))
 read_more first i bs now bytes new same l within so_far is =
@@ -58,7 +58,7 @@ take_take (suc r) zero xs l = absurd (omega arith)
 take_take (suc r) (suc m) [] l = refl
 take_take (suc r) (suc m) (x ∷ xs) l = ap (λ rest. x ∷ rest) (take_take r m xs (omega arith))
 
--- of the first bytes, those from one on
+-- the first bytes of a list, from one on, are the bytes from that one on in a longer first part
 cut_from : (from len all : ℕ) (xs : List ℕ) → from ≤ len → len ≤ all → take (len - from) (drop from (take all xs)) ≡ drop from (take len xs)
 cut_from from len all xs l most =
     let most_is : from + (all - from) ≡ all = omega arith in

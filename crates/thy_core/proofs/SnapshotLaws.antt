@@ -122,7 +122,7 @@ boot_shown K l o k m n s e behind =
     let both : true ≡ false = sym (ap is_boot (phase_in K l o k m n Boot s e)) ∙ behind in
     cc
 
--- nor is it over
+-- in the boot it does not hold that the boot is over and nothing is written
 pub boot_unwritten : {S : Type 0} (m : Machine S) → m.phase ≡ Boot → IsUnwritten m → ⊥
 boot_unwritten m e u =
     let both : true ≡ false = sym (ap is_boot e) ∙ u.booted in
@@ -137,7 +137,7 @@ no_hand K o k m n s (inl e) between =
     run.front.rests (run.epoch.began (eqb-true m.spent 0 spent))
 no_hand K o k m n s (inr e) between = ((sound-behind K o k m n s (inr e)).ended.halted e).0.hand
 
--- so none has written a block
+-- between two instructions no instruction has written a block
 unwritten_behind : {S : Type 0} (K : SchemeOf S) (o : Origin) (k : ℕ) (m : Machine S) (n : Device) (phase : Phase) → Sound K o k m n
     → m.phase ≡ phase → ((m.phase ≡ Run) ⊎ (m.phase ≡ Halt)) → is_boot phase ≡ false → is_between (view_of K o m n) ≡ true → IsUnwritten m
 unwritten_behind K o k m n phase s e behind booted between = record {
@@ -151,7 +151,7 @@ unwritten_in K l o k m n Boot s e between = absurd (boot_between K l o k m n s e
 unwritten_in K l o k m n Run s e between = unwritten_behind K o k m n Run s e (inl e) refl between
 unwritten_in K l o k m n Halt s e between = unwritten_behind K o k m n Halt s e (inr e) refl between
 
--- and what is read if none has, is the state there too
+-- what is read while no instruction has written a block is the state between two instructions
 pub reads_between : {S : Type 0} (K : SchemeOf S) (l : IsLawful K) (m : Machine S) (n : Device) (r : Result MachState CoreError) → ReadsState K m n r
     → Snapshots (kind_over K) m n r
 reads_between K l m n r reads = λ o k at between.
@@ -186,7 +186,7 @@ console_from : (p : Parameters) (cpu : CpuState) (blocks : List Block) (s : Stat
 unfolding state_from
 console_from p cpu blocks s is = sym (ap (λ (t : State). t.console) is)
 
--- of so many bytes or more, those that are there
+-- the console of a state is the first bytes of the console's pages, up to its length
 console_whole : (p : Parameters) (cpu : CpuState) (blocks : List Block) (s : State) → state_from p cpu blocks ≡ s
     → s.console ≡ console_bytes p blocks (length s.console)
 console_whole p cpu blocks s is =
@@ -230,7 +230,7 @@ console_is K l o k m n done from bytes s e seen is =
     ∙ ap (drop from) (sym (console_whole o.geometry found.cpu (K.committed m.scheme n) (at o m.marks.done.count) found.state))
     ∙ ap (λ (d : Mark). drop from (at o d.count).console) same
 
--- it has no byte from there on if the committed checkpoint's has none
+-- the machine's console has no byte from one on if the committed checkpoint's has none
 pub console_past : {S : Type 0} (K : SchemeOf S) (o : Origin) (k : ℕ) (m : Machine S) (n : Device) (done : Mark) (from : ℕ)
     → Sound K o k m n → ((m.phase ≡ Run) ⊎ (m.phase ≡ Halt)) → (view_of K o m n).done ≡ Some done → length (at o done.count).console ≤ from → m.consoles.done ≤ from
 console_past K o k m n done from s e seen past =

@@ -107,7 +107,7 @@ steps_taken K l o cycles pick nvm actor start m next n new r few begins at queue
           stall ended,
     )
 
--- and has failed in nothing
+-- a machine has failed in nothing after a cycle that succeeded
 pub unfailed_after : {S : Type 0} (K : SchemeOf S) (l : IsLawful K) (o : Origin) (cycles : ℕ) (actor : Actor) (start : Start) (m next : Machine S) (n new : Device) (did : Did)
     → Begins o start → IsAt K o cycles m n → ((p : Origin) → Begins p start → Sound K p cycles m n → IsCycle K p cycles actor did m n next new)
     → next.failed ≡ false
@@ -127,7 +127,7 @@ step_failed K o cycles pick nvm actor m next n new at queued is f =
 
 -- ---- a cycle that was taken and reported, at its turn
 
--- it is the one that halts
+-- a cycle ends the run if the machine halts with it
 abbrev ended_by : {S : Type 0} → Machine S → Machine S → Bool
 ended_by m behind = not (is_halt m.phase) && is_halt behind.phase
 

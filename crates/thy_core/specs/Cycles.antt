@@ -31,7 +31,7 @@ IsStalledBy K o m n Sealing = IsSealing K o m n
 IsStalledBy K o m n Waiting = IsEngineDue K m
 IsStalledBy K o m n Halted = m.phase ≡ Halt
 
--- and at each actor's
+-- what holds at the turn of each actor
 abbrev pub IsTurnOf : {S : Type 0} → SchemeOf S → Origin → Machine S → Device → Actor → Type 0
 IsTurnOf K o m n Nvm = 0 < length n.queue
 IsTurnOf K o m n Dram = 0 < K.queued m.scheme
@@ -75,7 +75,7 @@ pub record HasFailedAs {S : Type 0} (K : SchemeOf S) (o : Origin) (actor : Actor
   pub fails : Fails K o did m next.scheme n new
   pub processor : processor_of next ≡ processor_of m
 
--- this holds in every run of this kind
+-- in every run of this kind, a cycle that succeeded is the actor's
 abbrev pub SimulatesAs : {S : Type 0} → SchemeOf S → (Origin → Type 0) → Actor → Machine S → Device → Machine S → Device → Result Did NvmError → Type 0
 SimulatesAs K P actor m n next new result =
     (o : Origin) (cycles : ℕ) → P o → At K o cycles m n → IsTurnOf K o m n actor

@@ -25,7 +25,7 @@ abbrev pub blocks_in : {S : Type 0} → SchemeOf S → MemoryVersion → Machine
 blocks_in K Executing m n = memory_of K m n
 blocks_in K Committed m n = K.committed m.scheme n
 
--- these are blocks of memory, whose console has room for so many bytes
+-- these are blocks of memory, whose console has room for `len` bytes
 pub record IsRoomy (p : Parameters) (len : ℕ) (blocks : List Block) : Type 0 where
   pub range : IsInRange p
   pub whole : length blocks ≡ memory_blocks p
@@ -45,7 +45,7 @@ ReadsState K m n result =
 abbrev pub IsBare : CpuState → Result MachState CoreError → Type 0
 IsBare cpu result = MatchResult result (λ s. state_of s ≡ state_with cpu [] []) (λ _. ⊥)
 
--- it is so after a step that failed, with hart 0 in front, and in the boot
+-- what is read of a machine is the processor alone after a step that failed, with hart 0 in front, and in the boot
 pub record ReadsBare {S : Type 0} (m : Machine S) (result : Result MachState CoreError) : Type 0 where
   pub failed : m.failed ≡ true → IsBare (processor_of m) result
   pub booting : m.failed ≡ false → is_boot m.phase ≡ true → IsBare m.hart.cpu result

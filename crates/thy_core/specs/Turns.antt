@@ -35,11 +35,11 @@ stall_now K Run m =
 abbrev pub hart_of : {S : Type 0} → SchemeOf S → Pick → Machine S → ℕ
 hart_of K pick m = hart_at m.hart.geometry.harts pick (pressure_of K m)
 
--- its turn
+-- the turn of the hart that a pick comes to
 abbrev pub hart_now : {S : Type 0} → SchemeOf S → Pick → Machine S → Actor
 hart_now K pick m = advancing (stall_now K m.phase m) (hart_of K pick m)
 
--- the engine's
+-- the turn of the engine
 abbrev pub engine_now : {S : Type 0} → SchemeOf S → Pick → Phase → Machine S → Actor
 engine_now K pick Boot m = hart_now K pick m
 engine_now K pick Halt m = hart_now K pick m

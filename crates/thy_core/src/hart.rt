@@ -52,7 +52,7 @@ fn begin<S>(m: &mut MachineParts<S>, hart: u8)
     }
 }
 
-/// Puts this hart in front, if hart 0 is, and hart 0, if this one is.
+/// Brings this hart to the front if hart 0 is there, and hart 0 if this one is.
 fn front<S>(m: &mut MachineParts<S>, hart: u8)
     requires { m.old.hart.hand ≡ Nothing }
     ensures { m.new ≡ record m.old { hart = record m.old.hart { cpu = cpu_fronted hart m.old.hart.cpu } } }
@@ -130,7 +130,7 @@ fn retires(step: HartStep) -> bool
     }
 }
 
-/// Whether one was by the step that ended its epoch so.
+/// Whether the step that ended the epoch for this cause retired an instruction.
 fn retires_over(cause: EndCause) -> bool
     ensures { result ≡ retires_over cause }
 {

@@ -46,7 +46,7 @@ impl<S: Scheme> Model for Machine<S> {
 }
 
 impl<S: Scheme> Machine<S> {
-    /// How many blocks its NVM has.
+    /// How many blocks the machine's NVM has.
     pub fn nvm_blocks(geometry: &Geometry) -> u64
         ensures { result ≡ (kind_over S.scheme).blocks geometry.now }
     {
@@ -92,9 +92,9 @@ impl<S: Scheme> Machine<S> {
         self.parts.failed
     }
 
-    /// Takes the pick's cycle, if a hart advances its instruction in it: its own, or that of an actor which has nothing to
-    /// do. An instruction that is begun is carried to its end before another one is. If another actor is to act, nothing is
-    /// done, and `take_other` with the same pick takes the cycle. Allocates nothing.
+    /// Takes the pick's cycle, if a hart advances its instruction in it: the pick names a hart, or an actor which has
+    /// nothing to do. An instruction that is begun is carried to its end before another one is. If another actor is to
+    /// act, nothing is done, and `take_other` with the same pick takes the cycle. Allocates nothing.
     ///
     /// After an error the NVM may hold what the failed call left, and only `failed`, `snapshot` and `cut` may be called
     /// on the machine.

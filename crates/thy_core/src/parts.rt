@@ -9,7 +9,7 @@ use thy_view::Phase;
 /// The checkpoints of a machine whose boot is over.
 #[derive(Clone, Copy, Debug, PartialEq, Eq)]
 pub(crate) struct Checkpoints {
-    /// The committed one.
+    /// The committed checkpoint.
     pub done: Mark,
     /// The one that is under way.
     pub sealed: Option<Mark>,
@@ -20,9 +20,9 @@ pub(crate) struct Checkpoints {
 /// How long the consoles of the checkpoints are, in bytes.
 #[derive(Clone, Copy, Debug, PartialEq, Eq)]
 pub(crate) struct Consoles {
-    /// Of the committed one.
+    /// The console's length at the committed checkpoint.
     pub done: u64,
-    /// Of the one that was sealed last.
+    /// The console's length at the checkpoint that was sealed last.
     pub sealed: u64,
 }
 
@@ -39,7 +39,7 @@ pub(crate) struct MachineParts<S> {
     pub ends: bool,
     /// The cycles of hart and engine since the latest seal. Contracts speak of it; no code reads it.
     pub spent: u64,
-    /// The instructions retired since then.
+    /// The instructions retired since the latest seal.
     pub lap: u64,
     /// The epoch that was sealed last retired nothing. Contracts speak of it; no code reads it.
     pub idle: bool,

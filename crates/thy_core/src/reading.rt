@@ -120,7 +120,7 @@ fn part(bytes: &[u8], from: usize, count: usize) -> &[u8]
     &rest[..count.min(rest.len())]
 }
 
-/// The console of a version, of so many bytes, from byte `from` on. If it has no such byte, nothing is read.
+/// The console of a version, which has `len` bytes, from byte `from` on. If it has no such byte, nothing is read.
 pub(crate) fn read_console<N: Nvm, S: Scheme>(
     alloc: Global,
     m: &MachineParts<S>,

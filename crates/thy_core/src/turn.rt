@@ -178,7 +178,7 @@ fn only_harts<N: Nvm, S>(m: &MachineParts<S>, nvm: &N) -> bool
     m.store.calm && nvm.queued() == 0
 }
 
-/// Whose turn a pick is, by what each actor has to do, with so many writes queued in the NVM.
+/// Whose turn a pick is, by what each actor has to do, with `nvm` writes queued in the NVM.
 #[inline(always)]
 pub(crate) fn turn_of<S: Scheme>(m: &MachineParts<S>, pick: Pick, nvm: u64) -> Turn
     ensures { turn_seen result ≡ turn_now S.scheme pick nvm (machine_of m.now) }

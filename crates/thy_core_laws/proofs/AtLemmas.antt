@@ -24,7 +24,7 @@ at-late o k h = elim (cases_lt k o.start.count) as (λ _. o.start.count ≤ k) [
   | inr l ↦ l
 ]
 
--- the instruction of a hart, with this hart in front before it and behind it
+-- the instruction of a hart is a step of the plain machine, with this hart in front before and after it
 pub at-hart : (o : Origin) (k hart : ℕ) → o.start.count ≤ k → turn_at o k ≡ hart
     → fronted hart (at o (k + 1)) ≡ step (setting_of o) (fronted hart (at o k))
 unfolding step_of
@@ -32,7 +32,7 @@ at-hart o k hart late mine =
     ap (fronted hart) (at-next o k late ∙ ap (λ h. step_of (setting_of o) h (at o k)) mine)
     ∙ fronted-twice hart (step (setting_of o) (fronted hart (at o k)))
 
--- it adds one to the count
+-- the instruction of a hart adds one to the count
 pub at-count : (o : Origin) (k hart : ℕ) → o.start.count ≤ k → turn_at o k ≡ hart → (at o k).count ≡ k → runs_at o k ≡ true → (at o (k + 1)).count ≡ k + 1
 at-count o k hart late mine is runs =
     sym (count-fronted hart (at o (k + 1)))
@@ -49,7 +49,7 @@ pub status-current : (h : HartState) (memory : List Block) → (current h memory
 unfolding current state_from
 status-current h memory = refl
 
--- and once hart 0 is in front again
+-- the processor's part of the state, once hart 0 is in front again
 pub processor-fronted : (hart : ℕ) (h : HartState) (memory : List Block) (s : State) → current h memory ≡ fronted hart s
     → state_with (cpu_fronted hart h.cpu) [] [] ≡ without_memory s
 unfolding current state_from

@@ -43,7 +43,7 @@ pub status-fronted : (hart : ℕ) (s : State) → (fronted hart s).status ≡ s.
 status-fronted zero s = refl
 status-fronted (suc hart) s = refl
 
--- a processor with this hart behind the one in front
+-- a processor with this other hart
 abbrev cpu_with : CpuState → Option OtherHart → CpuState
 cpu_with c o = record c { other = o }
 
@@ -51,7 +51,7 @@ cpu_twice : (c : CpuState) (o : Option OtherHart) → cpu_crossed (cpu_crossed (
 cpu_twice c None = refl
 cpu_twice c (Some o) = refl
 
--- for hart 1
+-- a processor with hart 1 in front is the crossed one
 pub cpu-fronted-suc : (hart : ℕ) (c : CpuState) → cpu_fronted (suc hart) c ≡ cpu_crossed c
 cpu-fronted-suc hart c = ap (λ b. if b then c else cpu_crossed c) (ne_eqb (suc hart) 0 (λ z. omega (arith, z)))
 
@@ -95,7 +95,7 @@ pub begun-processor : (hart : ℕ) (begun : Option ℕ) (c : CpuState) → ((b :
 begun-processor hart None c own = cpu-fronted-twice hart c
 begun-processor hart (Some b) c own = ap (λ h. cpu_fronted h c) (sym (own b refl))
 
--- with its instruction begun, the hart that steps is at the plain machine's state with this hart in front
+-- the hart that steps is, once its instruction is begun, at the plain machine's state with this hart in front
 pub record IsBegun {S : Type 0} (K : SchemeOf S) (o : Origin) (m : Machine S) (n : Device) (hart : ℕ) : Type 0 where
   pub follows : Follows o.input (fronted hart (at o m.hart.cpu.count)) (begun_by_hart hart m).hart (memory_of K m n)
   pub writes : IsToWrite (stored_by o (fronted hart (at o m.hart.cpu.count))) m.hart.hand

@@ -192,7 +192,7 @@ module _ {S : Type 0} (K : SchemeOf S) (o : Origin) (cycles : ℕ) (m : Machine 
   shown : IsBootView o (K.boot_view o m.scheme n)
   shown = (at.lawful.boot_holds o m.scheme n boots).shown
 
-  -- its view is in the boot
+  -- the view of a machine that boots is in the boot
   not_behind : is_boot (K.boot_view o m.scheme n).phase ≡ false → ⊥
   not_behind run = let both : true ≡ false = sym (ap is_boot (boots_phase o (K.boot_view o m.scheme n) shown)) ∙ run in cc
 
@@ -247,7 +247,7 @@ module _ {S : Type 0} (K : SchemeOf S) (o : Origin) (cycles : ℕ) (m : Machine 
         still = λ found r current. b.still found r.done current;
       }
 
-  -- its last step, by what the cycle is told to have done
+  -- the last step of a boot, by what the cycle is reported to have done
   boots_up : (did : Did) (cpu : CpuState) (epoch : ℕ) → IsBooted K o (mark epoch cpu.count) cpu t new
       → ActsBy (K.migrates m.scheme) did n new → LeavesDram did n new (K.dram m.scheme) (K.dram t) → CoreStep o (K.boot_view o m.scheme n) did (run_view (running_from cpu epoch t (in_boot o m)))
       → Queues did (queued_in K m.scheme n) (queued_in K t new) → Ends did (K.boot_left m.scheme) 0 → StridesOn did (K.boot_view o m.scheme n).retired m.idle m.idle
@@ -292,7 +292,7 @@ module _ {S : Type 0} (K : SchemeOf S) (o : Origin) (cycles : ℕ) (m : Machine 
         still = λ found r current. still found r.done current;
       }
 
-  -- the view behind it
+  -- the view after the boot
   abbrev begun_view : Phase → ℕ → ℕ → Mark → View
   begun_view phase spent lap done = record {
     phase = phase;

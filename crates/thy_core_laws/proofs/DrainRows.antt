@@ -18,7 +18,7 @@ use Rattle.thy_core_laws.proofs.BootingLaws.{holds-boot, small-boot, simulates-b
 use Rattle.thy_core_laws.proofs.KeepsLaws.{run_of, stands, takes_none, left_kept, left_on, simulates_by, sound_kept}
 use Rattle.thy_core_laws.proofs.SmallLaws.{small_step}
 
--- of a queue that is not empty one write lands
+-- a drain takes one write from a queue that is not empty
 drained_queue : (n : Device) → 0 < length n.queue → length (drained n).queue + 1 ≡ length n.queue
 drained_queue n some = drop_one n.queue some
   where

@@ -67,7 +67,7 @@ module _ {S : Type 0} (K : SchemeOf S) (o : Origin) (cycles : ℕ) (m : Machine 
       let nearer = e.nearer in
       omega (arith, spent, least, owed, promotions, nearer)
 
-  -- that the step did what it tells
+  -- the step of the engine did what it reports
   abbrev HasDone : EngineStep → Type 0
   HasDone step = GetsDone (Engine step) (gauge_of K m n) (gauge_of K (after_call t m) new) (WritesBlock n new (K.dram m.scheme) (K.dram t))
 
@@ -98,7 +98,7 @@ module _ {S : Type 0} (K : SchemeOf S) (o : Origin) (cycles : ℕ) (m : Machine 
         exhausts = λ is. absurd (cc);
       })
 
-  -- behind a step that changes marks or phase too no more is left
+  -- after a step that changes marks or phase too, no more is left
   left_behind : (next : Machine S) (did : Did) → Keeps K m.scheme n next.scheme new → (adds_copies did ≡ false → OwesNoMore K m.scheme n next.scheme new)
       → next.hart ≡ m.hart → next.cache ≡ m.cache → next.begun ≡ m.begun → NoMore K did m n next new
   left_behind next did keeps owes hart cache begun = record {
@@ -114,7 +114,7 @@ module _ {S : Type 0} (K : SchemeOf S) (o : Origin) (cycles : ℕ) (m : Machine 
     promotions = λ e. keeps.left.promotions;
   }
 
-  -- the commit block
+  -- a step of the engine that writes the commit block
   commit_written : m.marks.written ≡ false → (s : Mark) → m.marks.sealed ≡ Some s → Engines K o m.marks CommitWritten m.scheme n t new
       → SimulatesCycle K o cycles (Engine CommitWritten) m n (after_engine CommitWritten t m) new
   commit_written unwritten s is e =
@@ -156,7 +156,7 @@ module _ {S : Type 0} (K : SchemeOf S) (o : Origin) (cycles : ℕ) (m : Machine 
         exhausts = λ moved. absurd (cc);
       })
 
-  -- the last barrier
+  -- a step of the engine that makes the last barrier
   committed : (epoch : ℕ) (s : Mark) → m.marks.sealed ≡ Some s → s.epoch ≡ epoch → m.marks.written ≡ true → Engines K o m.marks (Committed epoch) m.scheme n t new
       → SimulatesCycle K o cycles (DidCommit epoch m.lap) m n (after_engine (Committed epoch) t m) new
   committed epoch s is of written e =

@@ -51,7 +51,7 @@ few_behind (Retiring e wrote) = omega arith
 pub few-moves : (m : Moment) → moves_left m ≤ 16
 few-moves m = omega (arith, few_touches m.cache (next_block m.hart), few_behind m.hart.hand)
 
--- so few are left whichever hart's instruction is begun
+-- at most 16 moves are left, whichever hart's instruction is begun
 pub few-begun : (begun : Option ℕ) (m : Moment) → moves_begun begun (moves_left m) ≤ 16
 few-begun None m = omega arith
 few-begun (Some hart) m = few-moves m

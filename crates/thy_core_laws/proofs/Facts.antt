@@ -20,7 +20,7 @@ view-run K o m n e = ap (λ phase. view_in K o phase m n) e
 pub sound-run : {S : Type 0} (K : SchemeOf S) (o : Origin) (cycles : ℕ) (m : Machine S) (n : Device) → Sound K o cycles m n → m.phase ≡ Run → SoundRun K o m n
 sound-run K o cycles m n s e = subst (λ phase. SoundIn K o phase m n) e s.moment
 
--- behind the boot both are the same
+-- after the boot the scheme holds what it promises of a run
 pub holds-run : {S : Type 0} (K : SchemeOf S) (l : IsLawful K) (o : Origin) (cycles : ℕ) (m : Machine S) (n : Device) → Sound K o cycles m n → m.phase ≡ Run
     → RunHolds K o m.marks m.scheme n
 holds-run K l o cycles m n s e = l.run_holds o m.marks m.scheme n (record { sound = (sound-run K o cycles m n s e).checkpoints; up = s.up })

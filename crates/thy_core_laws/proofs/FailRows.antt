@@ -40,7 +40,7 @@ not-commit (WriteAt place block) h = ne_eqb place 1 h
 not-commit ActBarrier h = absurd h
 not-commit Drain h = absurd h
 
--- of marks, after this action
+-- the mark in doubt after this action
 abbrev doubt_by : Action → CheckpointMarks → Option Mark
 doubt_by a k = if is_commit_write a || k.written then k.sealed else None
 

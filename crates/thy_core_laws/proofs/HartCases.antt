@@ -89,7 +89,7 @@ instructions-same before now old new e l =
     let same : new.hart.epoch.span - new.hart.epoch.retired - 1 ≡ old.hart.epoch.span - old.hart.epoch.retired - 1 = ap (λ (x : Epoch). x.span - x.retired - 1) e in
     omega (arith, same, l)
 
--- and where it retired, and the epoch goes on
+-- fewer instructions are left after one was retired, if the epoch goes on
 instructions-retired : (before now : Option ℕ) (old new : Moment) (b : Bool) → new.hart.epoch ≡ retired_once b old.hart.epoch → old.hart.epoch.retired + 1 < old.hart.epoch.span
     → instructions_left now new + 1 ≤ instructions_left before old
 instructions-retired before now old new b e l =
@@ -117,7 +117,7 @@ fresh-short free dirty (Reserving x to) s d r e f = f
 fresh-short free dirty (Writing x to done) s d r e f = absurd (cc)
 fresh-short free dirty (Retiring x wrote) s d r e f = absurd (cc)
 
--- and has nothing reserved
+-- a hand that is short of entries has nothing reserved
 short-reserved : (free dirty : ℕ) (h : Hand) (s : Shortage) → short_of free dirty h ≡ Some s → reserved h ≡ 0
 short-reserved free dirty Nothing s e = refl
 short-reserved free dirty (Reading x from to) s e = refl
@@ -125,7 +125,7 @@ short-reserved free dirty (Reserving x to) s e = refl
 short-reserved free dirty (Writing x to done) s e = absurd (cc)
 short-reserved free dirty (Retiring x wrote) s e = refl
 
--- and has a move left
+-- a hand that is short of entries has a move left
 short-moves : (free dirty : ℕ) (h : Hand) (s : Shortage) → short_of free dirty h ≡ Some s → 1 ≤ left_behind h
 short-moves free dirty Nothing s e = absurd (cc)
 short-moves free dirty (Reading x from to) s e = absurd (cc)
@@ -158,7 +158,7 @@ moved-spent K p m n hart lap last h c t new going e engine promotions owed later
           omega (arith, left-going K p m n going, left-going K p next new (ap (λ (x : Epoch). x.over) e ∙ going), engine, promotions, same.1, later, i)
     ]
 
--- while the epoch goes on its moves are those of the instruction
+-- while the epoch goes on, the moves left are the instruction's moves
 going-moves : (over : Option EndCause) (begun : Option ℕ) (x : Moment) → over ≡ None → moves_while over begun x ≡ moves_begun begun (moves_left x)
 going-moves over begun x going = ap (λ o. moves_while o begun x) going
 
@@ -170,7 +170,7 @@ copy-wrote K s n t new asked up less = elim asked as (λ _. WritesBlock n new (K
   | inr access ↦ (access.succeeds up).copies less
 ]
 
--- so the hart that moved got something done
+-- the hart that moved got something done
 moved-done : {S : Type 0} (K : SchemeOf S) (m : Machine S) (n : Device) (hart lap : ℕ) (last : Option ℕ) (h : HartState) (c : Contents) (t : S) (new : Device)
     → m.hart.epoch.over ≡ None → h.epoch.over ≡ None → IsAsked K m.scheme n t new → new.down ≡ false
     → moves_left (moment_of K (begun_by_hart hart m) n) ≤ moves_begun m.begun (moves_left (moment_of K m n))
@@ -207,7 +207,7 @@ ended-entries K m n hart lap last h c t new gone tidy room =
     let none : reserved h.hand ≡ 0 = ap reserved gone in
     record { entries = omega (arith, none); lines = omega (arith, none, tidy); room = λ run. omega (arith, none, room); once = λ some. absurd (some refl) }
 
--- what is to be written next lies in as many blocks as the plain machine's instruction stores to
+-- what is to be written next lies in the same number of blocks as what the plain machine's instruction stores
 blocks-stored : (stored : Span) (e : Effect) (to : Span) (hand : Hand) → IsToWrite stored hand → hand ≡ Reserving e to → blocks_of to ≡ blocks_in stored
 blocks-stored stored e to hand writes is =
     let w : IsToWrite stored (Reserving e to) = subst (IsToWrite stored) is writes in
@@ -224,7 +224,7 @@ module _ {S : Type 0} (K : SchemeOf S) (o : Origin) (m : Machine S) (n : Device)
       let less = kept.entries in
       record { entries = omega (arith, less); lines = omega (arith, less, tidy); room = λ run. omega (arith, less, room); once = λ some. kept.once }
 
-  -- one that reserves entries is begun
+  -- an instruction that reserves entries is begun
   takes-entries : ((b : ℕ) → m.begun ≡ Some b → b ≡ hart) → (m.begun ≡ None → m.hart.hand ≡ Nothing)
       → IsToWrite (stored_by o (fronted hart (at o m.hart.cpu.count))) m.hart.hand → TakesEntries m.hart.hand h.hand
       → ReservesEntries o (run_view m) (pressure_of K m) (pressure_of K (hart_on hart false lap last h c t m)) (gauge_of K m n) (gauge_of K (hart_on hart false lap last h c t m) new)

@@ -37,7 +37,8 @@ use Rattle.thy_core_laws.proofs.BegunLaws.{fronted-twice, cpu-count, fronts-on, 
 use Rattle.thy_core_laws.proofs.Facts.{view-run, sound-run, is-going}
 use Rattle.thy_core_laws.proofs.SmallLaws.{small_step}
 
--- the machine after a step of a hart, which had retired so many instructions since the seal; its instruction may have ended
+-- the machine after a step of a hart, which had retired `lap` instructions since the seal; its instruction may have
+-- ended
 abbrev pub hart_on : {S : Type 0} → ℕ → Bool → ℕ → Option ℕ → HartState → Contents → S → Machine S → Machine S
 hart_on hart ended lap last h c t m = record m {
   hart = record h { cpu = if ended then cpu_fronted hart h.cpu else h.cpu };
@@ -104,7 +105,7 @@ is-on K o cycles m n hart h c t new s at turn hs =
 
 -- ---- the next moment, by what is known of the hart
 
--- what depends on it
+-- what the next moment needs to be known of hart, cache and scheme
 pub record IsNext {S : Type 0} (K : SchemeOf S) (o : Origin) (cycles : ℕ) (m : Machine S) (n : Device) (hart : ℕ) (ended : Bool) (lap : ℕ) (last : Option ℕ) (did : Did) (h : HartState) (c : Contents) (t : S) (new : Device) : Type 0 where
   pub number : h.epoch.number ≡ m.hart.epoch.number
   pub span : h.epoch.span ≡ m.hart.epoch.span
@@ -131,7 +132,7 @@ pub record IsNext {S : Type 0} (K : SchemeOf S) (o : Origin) (cycles : ℕ) (m :
   pub retires : did ≡ DidRetire hart → K.dram t ≡ K.dram m.scheme
   pub dirties : Dirties o (run_view m) did (pressure_of K m) (pressure_of K (hart_on hart ended lap last h c t m)) (gauge_of K m n) (gauge_of K (hart_on hart ended lap last h c t m) new)
 
--- a hart's step is told as one
+-- a hart's step is reported as one
 abbrev pub IsHarts : ℕ → Did → Type 0
 IsHarts hart did = (did ≡ DidMove) ⊎ (did ≡ DidRetire hart)
 

@@ -59,7 +59,7 @@ module _ {S : Type 0} (K : SchemeOf S) (o : Origin) where
   has_read_is Run m behind = refl
   has_read_is Halt m behind = refl
 
-  -- a moment of a run, whose view is that of its parts
+  -- a moment of a run, whose view is the view of its parts
   pub run_of : (cycles : ℕ) (m : Machine S) (n : Device) → Sound K o cycles m n → m.phase ≢ Boot → SoundRun K o m n
   run_of cycles m n s behind = run_in m.phase m n behind s.moment
 
@@ -70,13 +70,13 @@ module _ {S : Type 0} (K : SchemeOf S) (o : Origin) where
   pub stands : (cycles : ℕ) (m : Machine S) (n : Device) → Sound K o cycles m n → m.phase ≢ Boot → Stands K o m.marks m.scheme n
   stands cycles m n s behind = record { sound = (run_of cycles m n s behind).checkpoints; up = s.up }
 
--- a machine that runs is behind the boot
+-- a machine that runs is no longer in its boot
 pub runs_behind : (phase : Phase) → phase ≡ Run → phase ≢ Boot
 runs_behind phase is = λ boots. absurd (cc)
 
 -- ---- what makes a cycle simulate the run
 
--- what a cycle behind the boot has to show of it
+-- what has to be shown of a cycle after the boot
 pub record GoesOn {S : Type 0} (K : SchemeOf S) (o : Origin) (did : Did) (m : Machine S) (n : Device) (next : Machine S) (new : Device)
     : Type 0 where
   pub behind : next.phase ≢ Boot
@@ -149,7 +149,7 @@ takes_none K m n t new l same =
     let more : (K.holding m.scheme n).free ≤ (K.holding t new).free = same.free in
     omega (arith, before, behind, more)
 
--- no page need be open
+-- every block may be touched while no page is being copied
 pub none_for : (c : Contents) (b : Option ℕ) → IsOpenFor c b None
 none_for c None = refl
 none_for c (Some b) = inl refl
@@ -190,7 +190,7 @@ module _ {S : Type 0} (K : SchemeOf S) (m next : Machine S) (n new : Device)
   reserved_kept : reserved next.hart.hand ≡ reserved m.hart.hand
   reserved_kept = ap (λ (h : HartState). reserved h.hand) hart
 
-  -- so the cache reads as memory over a store that holds the same
+  -- the cache reads as memory over a store that holds the same
   pub held_kept : IsLawful K → HoldsSame (K.holding m.scheme n) (K.holding next.scheme new) → IsHeld K m n → IsHeld K next new
   held_kept l same h =
       let before : (K.holding m.scheme n).free ≡ K.free m.scheme = l.free_is m.scheme n in
@@ -216,7 +216,7 @@ module _ {S : Type 0} (K : SchemeOf S) (m next : Machine S) (n new : Device)
       (subst (λ (c : HartState). Follows o.input (fronted (front_of m.begun) (at o c.cpu.count)) c (memory_of K next new)) (sym hart)
       (subst (Follows o.input (state_in_front o m) m.hart) (sym (memory_kept blocks)) f))
 
-  -- and so is the hart in front
+  -- the hart in front is as before
   pub front_kept : (o : Origin) → IsFront o m → IsFront o next
   front_kept o f = record {
     there = λ h is. f.there h (sym begun ∙ is);
@@ -241,7 +241,7 @@ module _ {S : Type 0} (K : SchemeOf S) (m next : Machine S) (n new : Device)
     hand = subst (λ (x : HartState). x.epoch.over ≢ None → x.hand ≡ Nothing) (sym hart) e.hand;
   }
 
-  -- and has no more left to do
+  -- the hart has no more left to do than before
   hart_left_in : (p : Parameters) (over : Option EndCause) → K.merges_left next.scheme ≤ K.merges_left m.scheme
       → hart_left K p over next new ≤ hart_left K p over m n
   hart_left_in p None fewer =
@@ -271,7 +271,7 @@ module _ {S : Type 0} (K : SchemeOf S) (m next : Machine S) (n new : Device)
       let hart_left = hart_left_kept p k.merges in
       omega (arith, owed, engine, promotions, hart_left)
 
-  -- where the cycles that are left and those that were spent are below the most, it is on pace
+  -- a machine is on pace if the cycles that are left and the ones that were spent are below the most
   pub paced_kept : (p : Parameters) → next.idle ≡ m.idle → Keeps K m.scheme n next.scheme new → IsPaced K p m n
       → next.spent + cycles_left K p next new < most_spent K p → IsPaced K p next new
   paced_kept p idle k old spent = record {
@@ -315,7 +315,7 @@ sound_kept K o m n t spent new l s sound keeps began below =
       paced = paced_kept K m next n new refl refl refl o.geometry refl keeps s.paced below;
     }
 
--- and no more than was is left of what it has to do
+-- a call that leaves all but the scheme leaves no more to do than before
 pub left_on : {S : Type 0} (K : SchemeOf S) (did : Did) (m : Machine S) (n : Device) (t : S) (spent : ℕ) (new : Device)
     → Keeps K m.scheme n t new → (adds_copies did ≡ false → OwesNoMore K m.scheme n t new) → NoMore K did m n (with_scheme t spent m) new
 left_on K did m n t spent new keeps owes = record {

@@ -90,7 +90,7 @@ powered_on K l o k m n s on empty =
       ahead = omega (arith, none, queued, left, boots, own);
     }
 
--- what an instruction is short of, where it is to write this
+-- what an instruction is short of, if it is to write this
 record IsShortOf (hand : Hand) (entries lines : ℕ) (stored : Span) (s : Shortage) : Type 0 where
   free : s.free ≡ entries
   dirty : s.dirty ≡ lines

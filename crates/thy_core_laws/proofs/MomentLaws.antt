@@ -21,7 +21,7 @@ use Rattle.thy_core_laws.specs.Sound.{Sound, IsAt}
 pub sound-here : {S : Type 0} (K : SchemeOf S) (o : Origin) (cycles : ℕ) (m : Machine S) (n : Device) → IsAt K o cycles m n → Sound K o cycles m n
 sound-here K o cycles m n at = at o.turns (AgreeBelow-same o (reach (view_of K o m n)))
 
--- what is seen is the same
+-- what a machine shows is the same along other turns
 alike-in : {S : Type 0} (K : SchemeOf S) → IsLawful K → (o : Origin) (turns : List ℕ) (m : Machine S) (n : Device) (phase : Phase)
     → view_in K (told o turns) phase m n ≡ view_in K o phase m n
 alike-in K l o turns m n Boot = l.boot_alike o turns m.scheme n

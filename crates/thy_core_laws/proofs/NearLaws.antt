@@ -23,7 +23,7 @@ idle_most most retired idle = grind arith
 idle_none : (most retired : ℕ) (idle : Bool) → retired ≡ 0 → idle_left most retired idle ≤ most
 idle_none most retired idle none = grind arith
 
--- behind a seal there is one less
+-- after a seal one epoch less may be idle
 idle_sealed : (most retired : ℕ) (old new : Bool) → (old ≡ true → 1 ≤ retired) → new ≡ (retired == 0) → idle_left most 0 new + most ≤ idle_left most retired old
 idle_sealed most zero true new some is = absurd (let n : 1 ≤ 0 = some refl in omega arith)
 idle_sealed most zero false new some is = let e : idle_left most 0 new ≡ 0 = ap (idle_left most 0) is in omega arith
@@ -35,7 +35,7 @@ idle_sealed most (suc retired) old new some is =
 
 -- ---- by the phase
 
--- with the program running, or at its end
+-- an upper bound on what is left, with the program running or at its end
 ended_most : (most : ℕ) (runs : Bool) (v : View) (g : Gauge)
     → own_left most (if runs then Run else Halt) v g ≤ most - 1 - v.spent + idle_left most v.retired g.idle
 ended_most most true v g = omega arith
@@ -67,7 +67,7 @@ module _ (most : ℕ) (v next : View) (old new : Gauge) (spent : next.spent < mo
       let behind : own_left most next.phase next new ≡ new.boot_left + 2 * most = ap (λ p. own_left most p next new) stays in
       omega arith
 
-  -- it is over
+  -- the cycle that ends the boot leaves less than before it
   boots_up : (runs : Bool) → v.phase ≡ Boot → next.phase ≡ (if runs then Run else Halt) → next.retired ≡ 0 → new.boot_left + 1 ≤ old.boot_left
       → own_left most next.phase next new + 1 ≤ own_left most v.phase v old
   boots_up runs phase becomes none left =

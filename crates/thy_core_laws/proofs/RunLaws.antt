@@ -45,7 +45,7 @@ IsSmallIn k Nothing = Unit {0}
 IsSmallIn k (Refused bad) = Unit {0}
 IsSmallIn k (At epoch state) = IsSmallMark k (mark epoch state.count)
 
--- so what a boot finds is
+-- the view of what a boot finds is small
 found_small : (o : Origin) (k : ℕ) (d : Decoded) → IsOrigin o → IsOwn o d → IsSmallIn k d → IsSmall k (view_of_image o.start.count d)
 found_small o k Nothing origin own small =
     let few = origin.recordable.count in
@@ -140,7 +140,7 @@ own_of o kept sealed Nothing one none = none one
 own_of o kept sealed (Refused bad) one none = one
 own_of o kept sealed (At epoch state) one none = one.1
 
--- its mark is one of the view's
+-- the mark of an image that was left is one of the view's
 small_left : (o : Origin) (k : ℕ) (v : View) (d : Decoded) → IsSmall k v → IsOneOf o v.done v.sealed d → IsSmallIn k d
 small_left o k v Nothing small one = tt
 small_left o k v (Refused bad) small one = tt
@@ -149,7 +149,7 @@ small_left o k v (At epoch state) small one = elim one.0 as (λ _. IsSmallMark k
   | inr e ↦ small.sealed (mark epoch state.count) e
 ]
 
--- where a boot has found no checkpoint the run began with none
+-- if a boot has found no checkpoint, the run began with none
 boot_kept : (o : Origin) (v : View) → IsBootView o v → v.done ≡ None → o.kept ≡ None
 boot_kept o v shown none = elim shown as (λ _. o.kept ≡ None) [
   | inl s ↦ absurd (let e : Some s.0 ≡ None = sym (ap (λ (w : View). w.done) s.1) ∙ none in cc)

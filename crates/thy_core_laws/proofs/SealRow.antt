@@ -81,7 +81,7 @@ runs_if false e = absurd (cc)
 fresh_with : (hand : Hand) (dirty : ℕ) (storeless : Bool) → hand ≡ Nothing → dirty ≡ 0 → storeless ≡ true → IsFresh hand dirty storeless
 fresh_with hand dirty storeless none clean rests = subst (λ h. IsFresh h dirty storeless) (sym none) (clean, rests)
 
--- before a seal: the state that is sealed is the plain machine's, all of memory is behind the cache, and no page is open
+-- before a seal: the state that is sealed is the plain machine's, all of memory is below the cache, and no page is open
 pub record IsStanding {S : Type 0} (K : SchemeOf S) (o : Origin) (m : Machine S) (n : Device) : Type 0 where
   pub over : IsOver m.hart.epoch.over (K.under_way m.scheme)
   pub unsealed : m.marks.sealed ≡ None

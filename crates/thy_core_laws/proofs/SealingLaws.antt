@@ -33,7 +33,7 @@ over_in (Some cause) true false short stopped promotes whole e = absurd (cc)
 over_in None way barred short stopped true whole e = absurd (cc)
 over_in None way barred short stopped false whole e = absurd (waits_not (way && (barred || false || short || stopped)) e)
 
--- then no mark is sealed
+-- if the epoch is over and no checkpoint is under way, no mark is sealed
 unsealed_in : (sealed : Option Mark) (applies way : Bool) → way ≡ (is_some sealed || applies) → way ≡ false → sealed ≡ None
 unsealed_in None applies way is idle = refl
 unsealed_in (Some s) applies way is idle = absurd (let both : false ≡ true = sym idle ∙ is in cc)

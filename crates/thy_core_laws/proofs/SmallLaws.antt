@@ -36,7 +36,7 @@ kept_small k v next h e c w l d s =
       sealed = λ m is. more_mark k m (h.sealed m (sym s ∙ is));
     }
 
--- the same, by an equation of the view
+-- a view that equals a small one is small
 small_is : (k : ℕ) (next is : View) → next ≡ is → IsSmall k is → IsSmall k next
 small_is k next is e h = subst (IsSmall k) (sym e) h
 

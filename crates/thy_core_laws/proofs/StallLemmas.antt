@@ -9,7 +9,7 @@ stalled way barred over short stopped promotes =
     if way && (barred || over || short || (stopped && not promotes)) then Some Waiting
     else (if over || promotes then Some Sealing else None)
 
--- nothing stands in the way
+-- nothing stands in the way of the hart
 pub record IsClear (way barred over short stopped promotes : Bool) : Type 0 where
   pub going : over ≡ false
   pub whole : promotes ≡ false

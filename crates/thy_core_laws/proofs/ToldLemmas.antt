@@ -46,7 +46,7 @@ pub record IsExhausted (g : Given) (dirty free d need : ℕ) (old new : HartStat
   pub is_short : IsShort free d need
   pub idle : g.under_way ≡ false
 
--- no entry is reserved, and those of the instruction were reserved if they were before
+-- no further entry is reserved, and the instruction has reserved its entries exactly if it had before
 pub record KeepsEntries (old new : Hand) : Type 0 where
   pub entries : reserved new ≤ reserved old
   pub once : has_reserved new ≡ has_reserved old
@@ -97,7 +97,7 @@ fresh-begun e from to = by_len (from.len == 0) (to.len == 0)
     by_len true false = λ d s z t. (z, t)
     by_len false b = λ d s z t. (z, t)
 
--- before room is reserved
+-- a hand before room is reserved
 abbrev IsEarly : Hand → Type 0
 IsEarly h = (d : ℕ) (r : Bool) → IsFresh h d r → (d ≡ 0) × (r ≡ true)
 
@@ -106,7 +106,7 @@ early old new none is on = λ d e r s f tidy rests.
     let z : d ≡ 0 = (is d r f).0 in
     on e s (let l = tidy none in omega (arith, z, l)) (rests z ∙ (is d r f).1)
 
--- nothing happens to the hand
+-- a hand to which nothing happens stays fresh
 fresh-same : (h : Hand) → KeepsFresh h h
 fresh-same Nothing = early Nothing Nothing refl (λ d r f. f) (λ e s z t. (z, t))
 fresh-same (Reading e from to) = early (Reading e from to) (Reading e from to) refl (λ d r f. f) (λ _ s z t. (z, t))
@@ -134,7 +134,7 @@ entries-begun old e from to had-not = by_len (from.len == 0) (to.len == 0)
     by_len true false = record { entries = omega arith; once = sym had-not }
     by_len false b = record { entries = omega arith; once = sym had-not }
 
--- nor does one that continues after a written block
+-- an effect that continues after a written block reserves no further entry
 entries-written : (old : Hand) (e : Effect) (to : Span) (done now : ℕ) → old ≡ Writing e to done → KeepsEntries old (written_on e (rest_of to) now)
 entries-written old e to done now is =
     written_by (λ hand. KeepsEntries old hand) e (rest_of to) now

@@ -26,19 +26,19 @@ moves_same Run None begun a b e = ap (moves_begun begun) e
 moves_same Run (Some cause) begun a b e = refl
 moves_same Halt over begun a b e = refl
 
--- at most those of a hart that runs
+-- a machine has at most the moves left of one that runs
 moves_most : (phase : Phase) (over : Option EndCause) (begun : Option ℕ) (a : Moment) → moves_in phase over begun a ≤ moves_in Run over begun a
 moves_most Boot over begun a = omega arith
 moves_most Run over begun a = omega arith
 moves_most Halt over begun a = omega arith
 
--- behind a phase that runs there are no more
+-- after a phase that runs there are no more moves than in it
 pub moves_fewer : (before now : Phase) (over : Option EndCause) (begun : Option ℕ) (a b : Moment) → before ≡ Run → moves_left b ≡ moves_left a
     → moves_in now over begun b ≤ moves_in before over begun a
 moves_fewer before now over begun a b runs e =
     omega (arith, moves_most now over begun b, moves_same Run over begun a b e, ap (λ p. moves_in p over begun a) runs)
 
--- none once the epoch is over
+-- no moves are left once the epoch is over
 pub moves_over : (phase : Phase) (over : Option EndCause) (begun : Option ℕ) (cause : EndCause) (a : Moment) → over ≡ Some cause → moves_in phase over begun a ≡ 0
 moves_over Boot over begun cause a e = refl
 moves_over Run over begun cause a e = ap (λ x. moves_while x begun a) e
@@ -53,7 +53,7 @@ number_behind Halt number behind = refl
 
 -- ---- no more is left
 
--- what a cycle behind the boot shows of it
+-- what is shown of a cycle after the boot: it leaves no more to do
 pub record NoMore {S : Type 0} (K : SchemeOf S) (did : Did) (m : Machine S) (n : Device) (next : Machine S) (new : Device) : Type 0 where
   pub moves : begins_instruction did ≡ false
       → moves_in next.phase next.hart.epoch.over next.begun (moment_of K next new) ≤ moves_in m.phase m.hart.epoch.over m.begun (moment_of K m n)
@@ -77,7 +77,7 @@ leaves_no_more K did m n next new behind after l =
       promotions = λ e. omega (arith, promoted_was, promoted_is, l.promotions e);
     }
 
--- in the boot nothing is left
+-- in the boot no more is left than before
 pub booting_no_more : {S : Type 0} (K : SchemeOf S) (did : Did) (m next : Machine S) (n new : Device)
     → LeavesNoMore did (gauge_in K Boot m n) (gauge_in K Boot next new)
 booting_no_more K did m next n new =

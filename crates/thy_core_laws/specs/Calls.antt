@@ -109,19 +109,19 @@ after_hart hart step h c t m = record m {
   last = if retires_by step then Some hart else m.last;
 }
 
--- after a line was stored
+-- a machine after a line was stored
 abbrev pub after_flush : {S : Type 0} → Contents → S → Machine S → Machine S
 after_flush c t m = record m { cache = c; scheme = t; spent = m.spent + 1 }
 
--- after a merge or a promotion
+-- a machine after a merge or a promotion
 abbrev pub after_call : {S : Type 0} → S → Machine S → Machine S
 after_call t m = record m { scheme = t; spent = m.spent + 1 }
 
--- after a drain
+-- a machine after a drain of the DRAM
 abbrev pub after_drain : {S : Type 0} → S → Machine S → Machine S
 after_drain t m = record m { scheme = t }
 
--- after a seal
+-- a machine after a seal
 abbrev pub after_seal : {S : Type 0} → S → Machine S → Machine S
 after_seal t m = record m {
   hart = record m.hart { epoch = next_epoch m.hart.epoch };

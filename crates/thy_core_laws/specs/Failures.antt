@@ -16,9 +16,9 @@ use Rattle.thy_scheme.specs.Boots.{BootFails}
 use Rattle.thy_core_laws.specs.Machine.{Machine, view_of}
 use Rattle.thy_core_laws.specs.Rows.{IsMoment, HartGoes, IsSealing}
 
--- a cycle that was to do this failed in its action, and leaves the committed checkpoint, whole, or the one in doubt, as the
--- action decides, and a scheme of the run's geometry; in a boot that found a checkpoint it wrote nothing, unless the scheme
--- migrates
+-- A cycle that was to do this failed in its action. It leaves the committed checkpoint, whole, or the one in doubt, as
+-- the action decides, and a scheme of the run's geometry. In a boot that found a checkpoint it wrote nothing, unless
+-- the scheme migrates.
 pub record Fails {S : Type 0} (K : SchemeOf S) (o : Origin) (did : Did) (m : Machine S) (t : S) (n new : Device) : Type 0 where
   pub failed : ActionFailedBy (K.migrates m.scheme) did n new
   pub safe : Safe K.decode o (view_of K o m n).done (doubt_after_fault failed.action (view_of K o m n)) new

@@ -114,7 +114,7 @@ view_in K o Boot m n = K.boot_view o m.scheme n
 view_in K o Run m n = run_view m
 view_in K o Halt m n = run_view m
 
--- in the boot the view is the scheme's
+-- the view of a machine: in the boot it is the scheme's
 abbrev pub view_of : {S : Type 0} → SchemeOf S → Origin → Machine S → Device → View
 view_of K o m n = view_in K o m.phase m n
 
@@ -158,7 +158,7 @@ abbrev pub moves_begun : Option ℕ → ℕ → ℕ
 moves_begun None left = 16
 moves_begun (Some hart) left = left
 
--- they are left while the hart runs and its epoch is not over
+-- moves are left while the hart runs and its epoch is not over
 abbrev pub moves_while : Option EndCause → Option ℕ → Moment → ℕ
 moves_while None begun m = moves_begun begun (moves_left m)
 moves_while (Some cause) begun m = 0

@@ -14,16 +14,16 @@ use Rattle.thy_core_laws.specs.Machine.{Machine, moves_begun, moment_of}
 abbrev pub instructions_left : Option ℕ → Moment → ℕ
 instructions_left begun m = moves_begun begun (moves_left m) + 1 + 17 * (m.hart.epoch.span - m.hart.epoch.retired - 1)
 
--- of flushes and merges: while lines are dirty, there may be as many merges as there can be
+-- how many flushes and merges are left: while lines are dirty, the greatest number of merges counts
 abbrev pub flushes_left : ℕ → ℕ → ℕ → ℕ
 flushes_left most dirty merges = if dirty == 0 then merges else dirty + most
 
--- of instructions, until the epoch is over, and of flushes and merges after them
+-- what is left to the hart: instructions until the epoch is over, and flushes and merges after them
 abbrev pub hart_left : {S : Type 0} → SchemeOf S → Parameters → Option EndCause → Machine S → Device → ℕ
 hart_left K p None m n = instructions_left m.begun (moment_of K m n) + K.most_free p + K.most_merges p
 hart_left K p (Some cause) m n = flushes_left (K.most_merges p) (dirty_count m.cache) (K.merges_left m.scheme)
 
--- of the epoch, without its seal
+-- how many cycles are left of the epoch, without its seal
 abbrev pub cycles_left : {S : Type 0} → SchemeOf S → Parameters → Machine S → Device → ℕ
 cycles_left K p m n =
     K.engine_left m.scheme + K.promotions_left m.scheme + owed_in K m.scheme n + hart_left K p m.hart.epoch.over m n

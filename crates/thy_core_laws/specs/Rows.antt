@@ -34,9 +34,9 @@ use Rattle.thy_core_laws.specs.Pace.{most_spent}
 use Rattle.thy_core_laws.specs.Sound.{Sound}
 use Rattle.thy_core_laws.specs.Calls.{HartCall, FlushCall, begun_by_hart, hart_did, after_hart, after_flush, after_call, after_drain, after_seal, after_engine, after_boot}
 
--- a cycle that did this leads to the next moment: by a step of the view, one action of both devices, and within bounds,
--- and gets done what it says; no more lines become dirty than entries are used that the instruction in hand has reserved; in a
--- boot that found a checkpoint it leaves the NVM as it was, unless the scheme migrates
+-- A cycle that did this leads to the next moment: by a step of the view, one action of both devices, and within bounds,
+-- and gets done what it says. No more lines become dirty than entries are used that the instruction in hand has
+-- reserved. In a boot that found a checkpoint it leaves the NVM as it was, unless the scheme migrates.
 pub record SimulatesCycle {S : Type 0} (K : SchemeOf S) (o : Origin) (cycles : ℕ) (did : Did) (m : Machine S) (n : Device) (next : Machine S) (new : Device) : Type 0 where
   pub at_next : Sound K o (cycles + 1) next new
   pub step : CoreStep o (view_of K o m n) did (view_of K o next new)
@@ -65,7 +65,8 @@ pub record HartGoes {S : Type 0} (K : SchemeOf S) (o : Origin) (m : Machine S) (
   pub phase : m.phase ≡ Run
   pub free : stall_in o Run (view_of K o m n) (pressure_of K m) ≡ None
 
--- and so this hart advances its instruction, which is one of the geometry's: if one is begun, it is this hart's
+-- this hart advances its instruction: it is one of the geometry's harts, nothing keeps it from going on, and an
+-- instruction that is begun is its own
 pub record HartAdvances {S : Type 0} (K : SchemeOf S) (o : Origin) (m : Machine S) (n : Device) (hart : ℕ) : Type 0 where
   pub goes : HartGoes K o m n
   pub there : hart < o.geometry.harts
@@ -87,7 +88,7 @@ HartSimulates {S} K =
     → HasTurn o (view_of K o m n) (hart_did hart step)
     → SimulatesCycle K o cycles (hart_did hart step) m n (after_hart hart step h c t m) new
 
--- and its instruction stays the hart's until it is retired or dropped
+-- an instruction stays its hart's until it is retired or dropped
 abbrev pub HartHandsOn : {S : Type 0} → SchemeOf S → Type 0
 HartHandsOn {S} K =
     (o : Origin) (cycles : ℕ) (m : Machine S) (n : Device) (hart : ℕ) (h : HartState) (c : Contents) (t : S) (new : Device) (step : HartStep)
@@ -125,7 +126,7 @@ SealSimulates {S} K =
 
 -- ---- the engine
 
--- with Committed
+-- what a cycle of the engine leads to, a commit among them
 abbrev pub EngineSimulates : {S : Type 0} → SchemeOf S → Type 0
 EngineSimulates {S} K =
     (o : Origin) (cycles : ℕ) (m : Machine S) (n : Device) (t : S) (new : Device) (step : EngineStep)

@@ -85,6 +85,6 @@ FailingIsSafe {S} K =
     → Turn o pick (length n.queue) (view_of K o m n) (pressure_of K m) did stall
     → LeavesSafe (kind_over K) o pick m next n new
 
--- so the machine keeps the laws of machines
+-- a machine over a lawful scheme keeps the laws of machines
 abbrev pub MachineIsLawful : {S : Type 0} → SchemeOf S → Type 0
 MachineIsLawful K = IsLawfulScheme K → IsLawful (kind_over K)

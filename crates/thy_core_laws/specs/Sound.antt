@@ -69,7 +69,7 @@ IsToWrite stored (Reserving e to) = (to ≡ stored) × ((to.len == 0) ≡ false)
 IsToWrite stored (Writing e to done) = Unit {0}
 IsToWrite stored (Retiring e wrote) = Unit {0}
 
--- the plain machine that has retired as many instructions, with the hart in front that the machine has there
+-- the plain machine at the machine's count of instructions, with the hart in front that the machine has there
 abbrev pub state_in_front : {S : Type 0} → Origin → Machine S → State
 state_in_front o m = fronted (front_of m.begun) (at o m.hart.cpu.count)
 
@@ -80,14 +80,15 @@ pub record IsFront {S : Type 0} (o : Origin) (m : Machine S) : Type 0 where
   pub rests : m.begun ≡ None → m.hart.hand ≡ Nothing
   pub over : m.hart.epoch.over ≢ None → m.begun ≡ None
 
--- the processor agrees with the plain machine that has retired as many instructions
+-- the processor agrees with the plain machine at the same count of instructions
 pub record IsCounted {S : Type 0} (o : Origin) (m : Machine S) : Type 0 where
   pub start : o.start.count ≤ m.hart.cpu.count
   pub count : (at o m.hart.cpu.count).count ≡ m.hart.cpu.count
   pub processor : state_with (processor_of m) [] [] ≡ without_memory (at o m.hart.cpu.count)
   pub running : is_running m.hart.cpu.status ≡ runs_at o m.hart.cpu.count
 
--- its epoch is one of this length, no instruction is begun before anything was spent, and none is in hand once it is over
+-- the machine's epoch is one of this length, no instruction is begun before anything was spent, and none is in hand
+-- once it is over
 pub record IsEpoch {S : Type 0} (o : Origin) (m : Machine S) : Type 0 where
   pub began : m.spent ≡ 0 → m.begun ≡ None
   pub span : m.hart.epoch.span ≡ o.geometry.epoch
@@ -122,7 +123,7 @@ pub record IsStill {S : Type 0} (count : ℕ) (m : Machine S) : Type 0 where
 pub record IsEnded {S : Type 0} (o : Origin) (m : Machine S) : Type 0 where
   pub sealed : (s : Mark) → m.marks.sealed ≡ Some s → runs_at o s.count ≡ false → IsStill s.count m
   pub halted : m.phase ≡ Halt → IsStill m.marks.done.count m × (m.marks.sealed ≡ None)
-  -- and else the program runs until the epoch is over
+  -- the program runs while the machine does, the epoch is not over, and the sealed state has not ended
   pub live : m.phase ≡ Run → m.hart.epoch.over ≡ None → has_stopped o m.marks.sealed ≡ false
       → runs_at o m.hart.cpu.count ≡ true
 
@@ -149,7 +150,7 @@ pub record IsPaced {S : Type 0} (K : SchemeOf S) (p : Parameters) (m : Machine S
   -- nothing is promoted once the epoch is over
   pub promoted : m.hart.epoch.over ≢ None → K.promoting m.scheme ≡ false
 
--- after the boot
+-- what holds of a machine after its boot
 pub record SoundRun {S : Type 0} (K : SchemeOf S) (o : Origin) (m : Machine S) (n : Device) : Type 0 where
   pub checkpoints : K.is_sound o m.marks m.scheme n
   pub held : IsHeld K m n
@@ -187,7 +188,7 @@ SoundIn K o Boot m n = SoundBoot K o m n
 SoundIn K o Run m n = SoundRun K o m n
 SoundIn K o Halt m n = SoundRun K o m n
 
--- after so many cycles of a run, along its turns
+-- what holds after this number of cycles of a run, along its turns
 pub record Sound {S : Type 0} (K : SchemeOf S) (o : Origin) (cycles : ℕ) (m : Machine S) (n : Device) : Type 0 where
   pub origin : IsOrigin o
   pub geometry : m.hart.geometry ≡ o.geometry
@@ -198,7 +199,7 @@ pub record Sound {S : Type 0} (K : SchemeOf S) (o : Origin) (cycles : ℕ) (m : 
   pub small : IsSmall cycles (view_of K o m n)
   pub moment : SoundIn K o m.phase m n
 
--- and so along all turns that agree so far: those to come don't matter
+-- what holds after this number of cycles along all turns that agree so far: later turns don't matter
 abbrev pub IsAt : {S : Type 0} → SchemeOf S → Origin → ℕ → Machine S → Device → Type 0
 IsAt K o cycles m n = (turns : List ℕ) → AgreeBelow o turns (reach (view_of K o m n)) → Sound K (told o turns) cycles m n
 

@@ -11,7 +11,7 @@ use Rattle.thy_crash.specs.Fixed.{IsFixed, Reads, ReadsFirst}
 pub block_at-fixed : (n : Device) (g : List Block) (x : ℕ) (b : Block) → IsFixed n x b → Crash n g → block_at g x ≡ b
 block_at-fixed n g x b f c = f.only (block_at g x) (c.each x)
 
--- where nothing is queued the image is fixed
+-- if nothing is queued the image is fixed
 pub IsFixed-empty : (n : Device) (x : ℕ) → n.queue ≡ [] → IsFixed n x (block_at n.image x)
 IsFixed-empty n x empty = record {
   only = λ c h. MayLeave-landed n x c (ap (λ (q : List Write). queued_for q x) empty) h;

@@ -128,7 +128,7 @@ IsReady-settled looked before next old new k issued e = record {
   });
 }
 
--- what stands still stands where no more is possible than if a commit block were queued
+-- an image that stands still stands if no more is possible than if a commit block were queued
 pub Stands-commit : (looked : Looking) (h : List Block) (block : Block) (old new : Device)
     → HoldsNoMore (with_queued 1 block old) new → length new.image ≡ length old.image → Stands looked old h → Stands looked new h
 Stands-commit looked h block old new no_more same s = record {

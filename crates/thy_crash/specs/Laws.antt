@@ -34,7 +34,7 @@ OneBlockIsQueued =
     → ((x : ℕ) (b : Block) → Contains (possible new x) b → Contains (possible old x) b ⊎ ((x ≡ at) × (b ≡ block)))
     → HoldsNoMore (with_queued at block old) new
 
--- of two blocks that differ in one word at most a cut leaves one
+-- a cut leaves one of two blocks that differ in one word at most
 abbrev pub OneWordIsEither : Type 0
 OneWordIsEither =
     (n : Device) (x : ℕ) (a c b : Block) → IsOneWordApart a c
@@ -111,7 +111,8 @@ BarrierMakesReady =
     → IsSaved looked old (Kept before) → IsIssued looked old next → new ≡ settled old
     → IsSaved looked new (Ready before next)
 
--- the write of its commit block leaves the two in doubt, if it differs in one word at most from that before it
+-- the write of the next image's commit block leaves the two in doubt, if it differs in one word at most from the commit
+-- block before it
 abbrev pub CommitLeavesDoubt : Type 0
 CommitLeavesDoubt =
     (looked : Looking) (before next : List Block) (old new : Device)
@@ -119,7 +120,8 @@ CommitLeavesDoubt =
     → IsSaved looked old (Ready before next) → new ≡ written_to old commit_place (block_at next commit_place)
     → IsSaved looked new (InDoubt before next)
 
--- also if that write fails
+-- a commit block's write that fails leaves the two checkpoints in doubt, if it differs in one word at most from the one
+-- before
 abbrev pub FailedCommitLeavesDoubt : Type 0
 FailedCommitLeavesDoubt =
     (looked : Looking) (before next : List Block) (old new : Device)
@@ -144,12 +146,12 @@ NextIsIssued =
     → ((x : ℕ) → Contains (looked (next_image n commit)) x → x < length n.image)
     → IsIssued looked n (next_image n commit)
 
--- its blocks are those that are read
+-- the image that all writes make has the blocks that are read, apart from the commit block
 abbrev pub NextHasReads : Type 0
 NextHasReads =
     (commit : Block) (n : Device) (x : ℕ) → x < length n.image → x ≢ commit_place → block_at (next_image n commit) x ≡ newest n x
 
--- except for its commit block
+-- the image that all writes make has the given commit block
 abbrev pub NextHasCommit : Type 0
 NextHasCommit =
     (commit : Block) (n : Device) → commit_place < length n.image → block_at (next_image n commit) commit_place ≡ commit
@@ -183,7 +185,7 @@ NextWriteIsRead =
     → ReadsFirst old x blocks k → x + k < length old.image → new ≡ written_to old (x + k) (blocks k)
     → ReadsFirst new x blocks (k + 1)
 
--- these reads stay as they are if none of their places is written
+-- blocks that are read, from the first on, are still read if none of their places is written
 abbrev pub WriteKeepsFirst : Type 0
 WriteKeepsFirst =
     (x : ℕ) (blocks : ℕ → Block) (k at : ℕ) (block : Block) (old new : Device)

@@ -26,7 +26,7 @@ next_image n commit = slice_set (applied n.image n.queue) commit_place commit
 
 -- which images a device may have after a cut
 pub data Saved : Type 0 where
-  -- one image
+  -- one image alone
   Kept : (before : List Block) → Saved
   -- one image; the next lacks only its commit block
   Ready : (before : List Block) (next : List Block) → Saved
@@ -38,7 +38,7 @@ pub record IsKept (looked : Looking) (n : Device) (before : List Block) : Type 0
   pub stands : Stands looked n before
   pub commit : IsFixed n commit_place (block_at before commit_place)
 
--- also the next one stands, except for the commit block
+-- an image stands with its commit block, and the next one stands too, except for the commit block
 pub record IsReady (looked : Looking) (n : Device) (before next : List Block) : Type 0 where
   pub kept : IsKept looked n before
   pub next_stands : Stands looked n next

@@ -53,8 +53,8 @@ pub fn a_barrier_makes_ready()
     ensures { BarrierMakesReady }
 {}
 
-/// The write of its commit block leaves the two in doubt, whether or not it fails, if it differs in one word at most from the
-/// commit block before it.
+/// The write of the next image's commit block leaves the two in doubt, whether or not it fails, if it differs in one
+/// word at most from the commit block before it.
 pub fn a_commit_leaves_doubt()
     ensures written { CommitLeavesDoubt }
     ensures failed { FailedCommitLeavesDoubt }

@@ -29,7 +29,7 @@ impl Model for DecodedWord {
 }
 
 impl DecodedWord {
-    /// This word.
+    /// A word, with the instruction that it means.
     #[inline(never)]
     fn new(word: u32) -> DecodedWord
         ensures { result ≡ word }
@@ -48,7 +48,7 @@ impl DecodedWord {
         self.word
     }
 
-    /// Its instruction.
+    /// The instruction that the word means.
     #[inline(always)]
     fn instr(&self) -> &Option<Instr>
         ensures { result.now ≡ instr_of self.now }

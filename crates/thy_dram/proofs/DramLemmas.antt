@@ -58,7 +58,7 @@ read-unmarked held marks pick at same l unmarked =
 
 -- ---- writes
 
--- where the oldest k writes have landed and one more is queued, that place alone reads otherwise
+-- a write to a full queue: once the oldest k have landed and one more is queued, that place alone reads otherwise
 pub applied-push : (image : List Block) (queue : List Write) (k at : ℕ) (block : Block)
     → applied (applied image (take k queue)) (drop k queue ++ write_of at block ∷ []) ≡ slice_set (applied image queue) at block
 applied-push image queue k at block =

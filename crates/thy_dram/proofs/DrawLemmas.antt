@@ -22,7 +22,7 @@ bytes_over-step xs i draws draw next l e f =
     ∙ ap (λ n. take i xs ++ (lcg_draw (lcg_next draws) % 256) ∷ bytes_over n (drop (i + 1) xs)) f
     ∙ ap (λ ys. take i xs ++ ys) (sym rest)
 
--- one more draw takes the generator one step further
+-- the draws that are left after one more draw begin with the next state
 pub after_bytes-step : (xs : List ℕ) (i draws draw next : ℕ) → i < length xs → next ≡ lcg_next draws
     → after_bytes next (drop (i + 1) (slice_set xs i draw)) ≡ after_bytes draws (drop i xs)
 unfolding after_bytes
@@ -49,7 +49,7 @@ unfolding after_bytes
 after_bytes-draws seed [] = sym (after_draws-none seed)
 after_bytes-draws seed (b ∷ bs) = after_bytes-draws (lcg_next seed) bs ∙ sym (after_draws-more (length bs) seed)
 
--- a block takes 64
+-- a block takes 64 draws
 pub after_block-draws : (seed : ℕ) → after_block seed ≡ after_draws 64 seed
 unfolding after_block
 after_block-draws seed = after_bytes-draws seed (replicate 64 0)

@@ -21,10 +21,10 @@ fresh blocks room = record { blocks = replicate blocks zero_block; queued = 0; r
 abbrev pub written : Contents → ℕ → Block → Contents
 written d at block = record d { blocks = slice_set d.blocks at block; queued = min (d.queued + 1) d.room }
 
--- after a drain
+-- the DRAM after a drain
 abbrev pub drained : Contents → Contents
 drained d = record d { queued = d.queued - 1 }
 
--- after a loss of power
+-- the DRAM after a loss of power
 abbrev pub lost : Contents → ℕ → Contents
 lost d pick = record d { blocks = blocks_over pick d.blocks; queued = 0 }

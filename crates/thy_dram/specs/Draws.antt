@@ -18,7 +18,7 @@ after_bytes seed (b ∷ bs) = after_bytes (lcg_next seed) bs
 unfoldable pub drawn_block : ℕ → Block
 drawn_block seed = record { 0 = bytes_over seed (replicate 64 0) }
 
--- the state after its draws
+-- the state after the draws of a block
 unfoldable pub after_block : ℕ → ℕ
 after_block seed = after_bytes seed (replicate 64 0)
 

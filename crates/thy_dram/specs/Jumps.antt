@@ -20,7 +20,7 @@ over_a_block = record { factor = 4910590176156014849; offset = 10607473198416945
 abbrev pub twice : Jump → Jump
 twice j = record { factor = j.factor * j.factor % 2 ^ 64; offset = (j.offset * j.factor + j.offset) % 2 ^ 64 }
 
--- a jump, twice this jump, twice that one, and so on
+-- this many jumps from one on, each of which is twice the jump before it
 abbrev pub doublings : ℕ → Jump → List Jump
 doublings zero j = []
 doublings (suc n) j = j ∷ doublings n (twice j)

@@ -35,7 +35,7 @@ impl Model for Dram {
 }
 
 impl Dram {
-    /// A memory of so many blocks of zeros, whose queue holds so many writes.
+    /// A memory of `blocks` blocks of zeros, whose queue holds at most `queue` writes.
     pub fn new(alloc: Global, blocks: u64, queue: u64) -> Result<Dram, AllocError>
         requires { 0 < queue }
         ensures { IfOk result (λ d. d ≡ fresh blocks queue) }

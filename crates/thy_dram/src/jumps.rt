@@ -22,7 +22,7 @@ impl Jump {
         }
     }
 
-    /// The state to which it leads from another.
+    /// The state to which the jump leads from another one.
     fn landing(self, state: u64) -> u64
         ensures { result ≡ landing self state }
     {

@@ -369,7 +369,7 @@ sites_two Out Out AtHome AtHome x out other e = other refl
 sites_two Out Out AtAlternate AtAlternate x out other e = other refl
 sites_two v w p q x out other e = cc
 
--- where a block is to be, the committed checkpoint has none
+-- at the place where a block is to be, the committed checkpoint has none
 record IsMoving (s : State) (b : ℕ) : Type 0 where
   inside : b < memory_blocks s.p
   moves : penult (cell_of s b) ≢ target (cell_of s b)

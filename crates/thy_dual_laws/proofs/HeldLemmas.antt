@@ -107,7 +107,7 @@ module _ {X Y : Type 0} (f : X → Y) (p : X → Bool) (q : Y → Bool) (d : X) 
     by_both (q (f x)) (p x) (h 0 (omega arith)),
   )
 
-  -- and if what passed does so still, no fewer
+  -- if what passed a test still passes, no fewer pass
   count-implies : (xs : List X) → ((i : ℕ) → i < length xs → p (get_or xs i d) ≡ true → q (f (get_or xs i d)) ≡ true) → count_by p xs ≤ count_by q (map f xs)
   count-implies [] h = omega arith
   count-implies (x ∷ xs) h = omega (
@@ -119,7 +119,7 @@ module _ {X Y : Type 0} (f : X → Y) (p : X → Bool) (q : Y → Bool) (d : X) 
   )
 
 module _ {X : Type 0} (f : X → ℕ) (g : X → X) (d : X) where
-  -- if each counts as much as before, so does all
+  -- if each element counts the same as before, the sum is the same
   sum-alike : (xs : List X) → ((i : ℕ) → i < length xs → f (g (get_or xs i d)) ≡ f (get_or xs i d)) → sum_by f (map g xs) ≡ sum_by f xs
   sum-alike [] h = refl
   sum-alike (x ∷ xs) h = omega (
@@ -130,15 +130,15 @@ module _ {X : Type 0} (f : X → ℕ) (g : X → X) (d : X) where
     sum_by-cons f x xs,
   )
 
--- as many blocks are left if an entry is put for one that has as many
+-- the sum of blocks left stays if an entry is replaced by one with the same number of blocks left
 pub unfilled-set : (es : List (Option PttEntry)) (j : ℕ) (e f : PttEntry) → j < length es → get_or es j None ≡ Some e
     → fills_left (Some f) ≡ fills_left (Some e) → sum_by fills_left (slice_set es j (Some f)) ≡ sum_by fills_left es
 unfilled-set es j e f inside was same = omega (arith, sum_by-set fills_left es j (Some f) None inside, ap fills_left was, same)
 
 -- ---- room, copies owed, promotions and overlays
 
--- no fewer entries are free, no more buffers wait or lie over frames, and as many pages are being promoted, with as many blocks
--- left
+-- no fewer entries are free, no more buffers wait or lie over frames, and the same numbers of pages are being promoted
+-- and of their blocks are left
 pub record KeepsCounts (s t : State) : Type 0 where
   pub free : free_count s.btt ≤ free_count t.btt
   pub owed : waiting t.btt ≤ waiting s.btt
@@ -207,7 +207,7 @@ stays-promoted : (leaving : Bool) (e : PttEntry) → (leaving ≡ true → is_pr
 stays-promoted true e none h = let no : is_promoted e ≡ false = none refl in cc
 stays-promoted false e none h = h
 
--- and has as many blocks left
+-- a page that a commit leaves in promotion has the same number of blocks left
 fills-stay : (leaving : Bool) (e : PttEntry) → (leaving ≡ true → is_promoted e ≡ false) → fills_left (page_committed_by leaving e) ≡ fills_left (Some e)
 fills-stay true e none = sym (ap (λ (x : Bool). if x then page_blocks - e.filled else 0) (none refl))
 fills-stay false e none = refl

@@ -73,7 +73,7 @@ issued_is b s m =
     ap (λ (d : Contents). record (with_issued b s) { dram = d })
     (written-dram (in_dram y) (number_of s.p y) (reads s m (frame_at (seat_of (cell_of s b)))) (devices_of m s.dram) (target-in_nvm s b))
 
--- its tables are sound
+-- after a copy the controller's tables are sound
 pub sound_copied : (s : State) → AreSoundTables s → (b : ℕ) → IsNext s b → AreSoundTables (with_copied b s)
 sound_copied s t b next =
     let c : Cell = cell_of s b in
@@ -99,13 +99,13 @@ sound_issued s t b due =
     (AreSoundTables-issued b s due.busy m t (some_sized s) due.inside due.due page_write_keeps page_write_keeps_others
     (subst (λ (x : State). IsListing page_key x.ptt) (sym is) once))
 
--- no block has work that had none
+-- a copy gives no block work that had none
 pub no_work_copied : (s : State) (b : ℕ) → IsNext s b → HasNoWork s → HasNoWork (with_copied b s)
 no_work_copied s b next none =
     let m : Device = some_device s in
     no_work-copied s (with_copied b s) (subst (λ (x : State). IsButCopied s x) (copied_is b s m) (but-copied b s m next.pending)) none
 
--- as many pages are being promoted
+-- the write of a page's block leaves the number of pages that are being promoted
 promoted_issued : (s : State) (b : ℕ) → IsDue s b → promoted (with_issued b s).ptt ≡ promoted s.ptt
 promoted_issued s b due = promoted-set s b (page_issued (cell_of s b).page) (listed-busy b s due.busy) refl
 
@@ -127,7 +127,7 @@ stands_issued s b at due = record {
 
 -- ---- a position
 
--- of the same geometry, with the same DRAM
+-- the controller goes on with the same geometry and the same DRAM
 pub record GoesOn (s t : State) : Type 0 where
   pub same_p : t.p ≡ s.p
   pub dram : t.dram ≡ s.dram
@@ -148,7 +148,7 @@ module _ (s : State) (at : StandsAt true s) where
   none_by None None copy page is = AreCopied-none s (record { copies = copy; pages = page })
   none_by i j copy page is = cc
 
-  -- one is left less
+  -- after an item one position less is left
   pub counts_by : (i j : Option ℕ) (k : ℕ) → next_copy s ≡ i → next_page s ≡ j → position_by s i j ≡ Some k
       → copies_left (written_by s i j) + writes_left (written_by s i j) + 1 ≡ copies_left s + writes_left s
   counts_by (Some i) j k copy page is =

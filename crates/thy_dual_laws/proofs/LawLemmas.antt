@@ -159,7 +159,7 @@ nothing_is_barred m = never (is_under_way m.scheme.engine.stage)
 pub ready_is_whole : ReadyIsWhole
 ready_is_whole s n ready = (lawful.ready_up s n ready, lawful.ready_whole s n ready)
 
--- no checkpoint has a tail, so behind the boot nothing is applied
+-- no checkpoint has a tail, so after the boot nothing is applied
 no_tail : (q : EngineStage) (c : State) → items_dual.stands (phase_of q) c → is_applying q ≡ false
 no_tail (Tail from) c stands = absurd stands
 no_tail q c stands = refl

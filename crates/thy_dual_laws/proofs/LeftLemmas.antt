@@ -28,7 +28,7 @@ use Rattle.thy_control.proofs.IssueLemmas.{listed-busy}
 use Rattle.thy_control.proofs.FindLemmas.{found_entry, entry_for-some}
 use Rattle.thy_dual_laws.proofs.ListedLemmas.{all_at, AreBelow, sum-most, at_least}
 
--- none is counted if the test says so
+-- a number is 0 if the test says that it is not above 0
 pub none-left : (n : ℕ) → nat_lt 0 n ≡ false → n ≡ 0
 none-left n h = let few : n ≤ 0 = ltb-false 0 n h in omega (arith, few)
 
@@ -169,7 +169,7 @@ module _ (s : State) (m : Device) (t : State) (n : Device) (old : AreSoundTables
   copies-most = sum-most block_key copy_weight refl s.btt t.btt new.btt_once (memory_blocks s.p)
       (blocks-below s s.p refl old) (blocks-below t s.p stays.same_p new) copy-was
 
-  -- the same of pages
+  -- the blocks of a busy page that are still to be written are counted at its number
   page-counts : (b : ℕ) → (cell_of s b).page.busy ≡ true → page_blocks - (cell_of s b).page.issued ≤ all_at page_key issues_left refl s.ptt.entries (page_of b)
   page-counts b busy =
       let there = found_entry page_key no_page s.ptt (page_of b) (cell_of s b).j (listed-busy b s busy) in

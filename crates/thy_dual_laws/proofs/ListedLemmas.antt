@@ -28,7 +28,7 @@ total-none : (f : ℕ → ℕ) (n : ℕ) → ((k : ℕ) → k < n → f k ≡ 0)
 total-none f zero h = refl
 total-none f (suc n) h = omega (arith, total-none f n (λ k l. h k (omega (arith, l))), h n (omega arith))
 
--- a number alone
+-- a weight at one number alone
 abbrev only : ℕ → ℕ → ℕ → ℕ
 only at v k = if at == k then v else 0
 
@@ -54,7 +54,7 @@ abbrev pub AreBelow : {E : Type 0} → (E → ℕ) → ℕ → List (Option E) �
 AreBelow {E} key numbers es = (i : ℕ) (e : E) → get_or es i None ≡ Some e → key e < numbers
 
 module _ {E : Type 0} (key : E → ℕ) (weight : Option E → ℕ) (free : weight None ≡ 0) where
-  -- of an entry, if it lists a number
+  -- the weight of an entry, if it lists a number
   abbrev weight_at : ℕ → Option E → ℕ
   weight_at n o = if lists key n o then weight o else 0
 
@@ -79,7 +79,7 @@ module _ {E : Type 0} (key : E → ℕ) (weight : Option E → ℕ) (free : weig
     total-plus (λ n. weight_at n o) (all_at es) numbers,
   )
 
-  -- of what is listed once, one entry at most counts
+  -- of what is listed once, the weight of one entry at most counts
   at_most : (t : Listing E) → IsListing key t → (n most : ℕ) → ((i : ℕ) (e : E) → entry_at t i ≡ Some e → key e ≡ n → weight (Some e) ≤ most)
       → all_at t.entries n ≤ most
   at_most t once n most each = by_place (place_of key n t) refl where
@@ -113,7 +113,7 @@ module _ {E : Type 0} (key : E → ℕ) (weight : Option E → ℕ) (free : weig
       by_test k ne false e = e
       by_test k ne true e = absurd (ne (found-once key t once k i n e (place_of-lists key t n i h)))
 
-  -- so the sum rises over no number, it does not at all
+  -- if what counts rises at no number, the sum does not rise
   pub sum-most : (s t : Listing E) → IsListing key t → (numbers : ℕ) → AreBelow key numbers s.entries → AreBelow key numbers t.entries
       → ((i : ℕ) (e : E) → entry_at t i ≡ Some e → weight (Some e) ≤ all_at s.entries (key e)) → sum_by weight t.entries ≤ sum_by weight s.entries
   sum-most s t once numbers old new each = omega (

@@ -82,7 +82,7 @@ module _ (c : State) (n : Device) (tables : AreSoundTables c) (settled : n.queue
       get_or-map-range_with_len (penult_of c n) 0 size i i zero_block inside (omega arith) ∙ penult_stands i inside
       ∙ sym (get_or-map (block_at n.image) (memory_numbers c.p (tables0 c)) i 0 zero_block (omega (arith, inside, size_n)) ∙ ap (block_at n.image) (get_or-map-range_with_len num 0 size i i 0 inside (omega arith))))
 
-  -- so a load gives it
+  -- a load gives the memory of the committed checkpoint
   penults-loads : IsBooting c → HoldAll c n → penults c n ≡ loads c n
   penults-loads boot holds = penults-are ∙ sym (loads-are c n tables boot holds settled AreTablesOf-committed)
 

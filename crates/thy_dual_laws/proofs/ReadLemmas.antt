@@ -18,7 +18,7 @@ use Rattle.thy_control.proofs.KeepLemmas.{apart_place, IsPlace-frame_of}
 use Rattle.thy_control.proofs.StepLemmas.{KeepsEach, Keeps-untouched, checkpoints-each, work-each, holds-each}
 use Rattle.thy_parts.specs.Moments.{ReadsSame}
 
--- so do those of two states of one geometry
+-- two functions that agree on each block of memory make the same list of blocks, by two states of one geometry too
 pub blocks-agree : (f g : ℕ → Block) (p q : Parameters) → q ≡ p → ((b : ℕ) → b < memory_blocks p → f b ≡ g b)
     → map f (range_with_len 0 (memory_blocks q)) ≡ map g (range_with_len 0 (memory_blocks p))
 blocks-agree f g p q same agree =
@@ -39,7 +39,7 @@ read_by : (side : Bool) (a b c : Block) → (side ≡ false → b ≡ c) → (if
 read_by true a b c h = refl
 read_by false a b c h = h refl
 
--- so every block is kept
+-- every block is kept if every place reads as before
 keeps_each : (s : State) (n m : Device) → AreSoundTables s → ReadsAll s n m → KeepsEach s n s m
 keeps_each s n m t same b l =
     let c : Cell = cell_of s b in
@@ -63,7 +63,7 @@ versions_read s n m t hold same =
       holds = holds-each s n s m refl each hold;
     }
 
--- with a write apart from memory's places
+-- a write apart from memory's places keeps the versions
 pub versions_apart : (s : State) (n : Device) (x : ℕ) (block : Block) → AreSoundTables s → IsSized s n → HoldAll s n → IsApart s.p x
     → KeepsVersions s n s (written_to n x block)
 versions_apart s n x block t sized hold apart = versions_read s n (written_to n x block) t hold (λ y there.

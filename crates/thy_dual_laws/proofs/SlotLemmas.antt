@@ -120,13 +120,13 @@ byte_of-block lasts k j small =
           ∙ sym (get_or_past lasts (64 * k + j) 0 (omega (arith, long, behind, m, small)))
     ])
 
--- so byte i of these blocks is the count of page i
+-- byte i of the blocks of counts is the count of page i
 pub byte_in-lasts : (lasts : List ℕ) (i : ℕ) → byte_in (last_block_of lasts) i ≡ slice_index_or lasts i 0
 byte_in-lasts lasts i =
     let whole : 64 * (i / 64) + i % 64 ≡ i = omega arith in
     byte_of-block lasts (i / 64) (i % 64) (omega arith) ∙ ap (λ (x : ℕ). slice_index_or lasts x 0) whole
 
--- and read back, page by page, they are the counts
+-- the blocks of counts, read back page by page, are the counts
 pub lasts_read_back : (lasts : List ℕ) (pages : ℕ) → length lasts ≡ pages → map (byte_in (last_block_of lasts)) (range_with_len 0 pages) ≡ lasts
 lasts_read_back lasts pages long =
     let left = length-map-range_with_len (byte_in (last_block_of lasts)) 0 pages in
@@ -153,7 +153,7 @@ first_or_rest : (y x : ℕ) (xs : List ℕ) → Contains (x ∷ xs) y → (x ≡
 first_or_rest y x xs (zero, l, is) = inl is
 first_or_rest y x xs (suc k, l, is) = inr (k, omega arith, is)
 
--- a place that tells what an image means lies apart from memory's places, or memory has it
+-- a place that determines what an image means lies apart from memory's places, or memory has it
 abbrev pub ApartOrMemory : Parameters → Tables → ℕ → Type 0
 ApartOrMemory p t x = IsApart p x ⊎ ((b : ℕ) × (b < memory_blocks p) × (number_of p (place_of t b) ≡ x))
 
@@ -207,7 +207,7 @@ pub looked_cases : (p : Parameters) (image : List Block) (version : LayoutVersio
 unfolding looked_by
 looked_cases p image version epoch t x told inside = looked_by-zeros p t x image (is_zero (block_at image 1)) told.tables inside
 
--- so what keeps both checkpoints of the controller spares the committed one's image
+-- what keeps both checkpoints of the controller spares the committed one's image
 pub Spares-stays : (s : State) (m : Device) (t : State) (n : Device) (image : List Block) (version : LayoutVersion) (epoch : ℕ)
     → AreSoundTables s → Stays s m t n → IsToldBy s.p image version epoch (tables0 s)
     → Spares (1 ∷ looked_by (dual_layouts s.p) image) m n
@@ -221,7 +221,8 @@ Spares-stays s m t n image version epoch tables stays told = record {
   ]).no_more;
 }
 
--- and with every block copied and written, that of the one under way
+-- what keeps both checkpoints of the controller, with every block copied and written, spares the image of the one under
+-- way
 pub Spares-stays_next : (s : State) (m : Device) (t : State) (n : Device) (image : List Block) (version : LayoutVersion) (epoch : ℕ)
     → AreSoundTables s → Stays s m t n → AreCopied s → IsToldBy s.p image version epoch (tables1 s)
     → Spares (1 ∷ looked_by (dual_layouts s.p) image) m n
@@ -237,7 +238,7 @@ Spares-stays_next s m t n image version epoch tables stays copied told = record 
 
 -- ---- which block is which
 
--- what stands behind the record is the same, counted from the record or from the slot's first block
+-- what follows the record is the same, counted from the record or from the slot's first block
 rest_same : (r t k : ℕ) (a b : ℕ → Block) → r ≤ k
     → (if nat_lt (k - r) t then a (k - r) else b (k - r - t)) ≡ (if nat_lt k (r + t) then a (k - r) else b (k - (r + t)))
 rest_same r t k a b l = elim (cases_lt (k - r) t) as (λ _. (if nat_lt (k - r) t then a (k - r) else b (k - r - t)) ≡ (if nat_lt k (r + t) then a (k - r) else b (k - (r + t)))) [
@@ -279,7 +280,7 @@ spared s g v kept x told there free low inside =
 
 -- ---- the slot
 
--- its version, and its place
+-- a checkpoint's slot is of version 2
 version_is : (e : Progress) → version_of scheme_number e.p (commit_of e.epoch) ≡ VersionTwo
 version_is e = version_of-commit_of scheme_number e.p e.epoch
 
@@ -338,7 +339,7 @@ module _ (e : Progress) (s : State) (n : Device) (moment : IsMoment dual_design 
         ∙ lasts_read_back s.counts.lasts e.p.pages (length-lasts s.p s.counts moment.sound.counts ∙ ap (λ (p : Parameters). p.pages) can.same_p));
   }
 
-  -- its place is that of its epoch
+  -- the slot of a checkpoint is at the place of its epoch's slot
   place_is : (k : ℕ) → (dual_layouts e.p).slot_place (commit_of e.epoch) + k ≡ slot_place s.p (e.epoch % 2) + k
   place_is k =
       ap (λ (v : LayoutVersion). place_of_slot v e.p (epoch_of (commit_of e.epoch) % 2) + k) (version_is e)

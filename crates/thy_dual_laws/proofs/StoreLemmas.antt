@@ -180,7 +180,7 @@ room_there : (side : Bool) (x : ℕ) (block : Block) (d : Devices)
 room_there true x block d = refl
 room_there false x block d = refl
 
--- it leaves the commit block
+-- a store's write leaves the commit block
 access_there : (side : Bool) (x : ℕ) (block : Block) → (side ≡ false → 2 ≤ x) → IsAccess (write_there side x block)
 access_there true x block behind = tt
 access_there false x block behind = λ e. let low : 2 ≤ x = behind refl in absurd (omega (arith, e, low))
@@ -283,7 +283,7 @@ module _ (b : ℕ) (block : Block) (s : State) (n : Device) (can : CanStore dual
   makes : MakesStore dual_design b block s n t (after (store_action b block s) n)
   makes = subst (λ (m : Device). MakesStore dual_design b block s n t m) (sym (action_is b block s n)) makes_device
 
-  -- one that failed
+  -- a write of a store that failed
   fails_there : (side : Bool) (x : ℕ) (v : Block) (m : Device) → FailsTo (write_there side x v) n m → (side ≡ false) × HasFailedToWrite x v n m
   fails_there true x v m failed = absurd failed
   fails_there false x v m failed = (refl, failed)

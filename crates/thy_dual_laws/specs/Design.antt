@@ -52,7 +52,7 @@ is_promoting s = nat_lt 0 (promoted s.ptt)
 
 -- ---- what is written before the slot
 
--- the block of memory that is written there, and from where
+-- the block of memory that is written before the slot, and its source
 abbrev pub block_by : State → Option ℕ → Option ℕ → ℕ
 block_by s (Some i) page = block_listed i s
 block_by s None (Some j) = block_to_write j s
@@ -72,7 +72,8 @@ source_next s = source_by s (next_copy s) (next_page s)
 abbrev pub action_next : State → Device → Action
 action_next s n = WriteAt (number_of s.p (target_next s)) (reads s n (source_next s))
 
--- and the controller afterwards: the copy is made, or one block more of the page is written
+-- the controller after a block of the checkpoint was written: the copy is made, or one block more of the page is
+-- written
 abbrev pub with_copied : ℕ → State → State
 with_copied b s = record s { btt = with_entry (cell_of s b).i (Some (after_copy (cell_of s b)).entry) s.btt }
 
@@ -96,13 +97,14 @@ slot_rest s k =
 
 -- ---- the controller by phase
 
--- its tables are sound, a checkpoint is under way or none, and while a page is being promoted no block has work
+-- a controller's tables are sound, a checkpoint is under way or none, and while a page is being promoted no block has
+-- work
 pub record StandsAt (way : Bool) (s : State) : Type 0 where
   pub tables : AreSoundTables s
   pub way_is : s.under_way ≡ way
   pub promotes : is_promoting s ≡ true → HasNoWork s
 
--- and all is copied and written
+-- a checkpoint is under way, and all is copied and written
 pub record StandsMade (s : State) : Type 0 where
   pub at : StandsAt true s
   pub copied : AreCopied s
@@ -145,7 +147,7 @@ lasts s n = map (last_of s n) (range_with_len 0 (memory_blocks s.p))
 
 -- ---- what images have
 
--- the next checkpoint is in the other slot than that of an epoch
+-- the next checkpoint is in another slot than the kept epoch's
 abbrev pub IsOther : Phase → ℕ → ℕ → Type 0
 IsOther (Making from) epoch kept = slot_of_epoch epoch ≢ slot_of_epoch kept
 IsOther Made epoch kept = slot_of_epoch epoch ≢ slot_of_epoch kept

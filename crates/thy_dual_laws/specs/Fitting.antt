@@ -14,21 +14,21 @@ use Rattle.thy_dual_laws.specs.Design.{is_promoting, items_dual}
 abbrev pub PromotesAtRest : State → Type 0
 PromotesAtRest s = is_promoting s ≡ true → HasNoWork s
 
--- they do if no checkpoint is under way in either
+-- engine and controller fit each other if no checkpoint is under way in either
 abbrev pub IdleFits : Type 0
 IdleFits =
     (e : Progress) (s : State)
     → s.p ≡ e.p → is_under_way e.stage ≡ false → s.under_way ≡ false → AreSoundTables s → PromotesAtRest s
     → Fits filling_dual items_dual e s
 
--- after a seal, with which a checkpoint begins
+-- engine and controller fit each other after a seal, with which a checkpoint begins
 abbrev pub SealFits : Type 0
 SealFits =
     (e : Progress) (s : State) (cpu : CpuState) (epoch : ℕ)
     → Fits filling_dual items_dual e s → AreSoundTables (sealed_state s) → HasNoWork (sealed_state s)
     → Fits filling_dual items_dual (begun cpu epoch e) (sealed_state s)
 
--- and after every call of the controller in between, whether or not it failed
+-- the engine fits the controller after every call of it between two checkpoints, whether or not the call failed
 abbrev pub StaysFit : Type 0
 StaysFit =
     (e : Progress) (s : State) (m : Device) (t : State) (n : Device)

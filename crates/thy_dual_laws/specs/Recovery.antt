@@ -38,7 +38,7 @@ pub record LeavesNvm (o : Origin) (m : Machine (Composed State)) (n new : Device
       → (view_of dual_scheme o m n).phase ≡ Boot → (view_of dual_scheme o m n).done ≡ Some found
       → new ≡ n
 
--- so does one that failed, which wrote nothing there
+-- a step that failed acts as a machine's does whose restarts read; in a boot that found a checkpoint it wrote nothing
 pub record WritesNothing (o : Origin) (m : Machine (Composed State)) (n new : Device) (did : Did) : Type 0 where
   pub failed : ActionFailed did n new
   pub still : (found : Mark)

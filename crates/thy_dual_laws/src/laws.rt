@@ -75,10 +75,10 @@ pub fn engine_and_controller_fit()
     ensures stays { StaysFit }
 {}
 
-/// If each number of the configuration is in its range, an epoch of a machine over the scheme spends less than 64 cycles
-/// for each of its instructions, lines of the cache, entries of the block table, and blocks of the pages that its page
-/// table can list, and for sixteen more. A boot takes at most an action for each of memory's blocks, two for each of the
-/// slot's, 64 for each entry of the page table, and eight more.
+/// Let N be the number of an epoch's instructions, lines of the cache, entries of the block table, and blocks of the
+/// pages that the page table can list, all together, with each number of the configuration in its range. An epoch of a
+/// machine over the scheme spends less than 64 * (N + 16) cycles. A boot takes at most an action for each of memory's
+/// blocks, two for each of the slot's, 64 for each entry of the page table, and eight more.
 pub fn epochs_and_boots_are_short()
     ensures epochs { EpochsAreShort }
     ensures boots { BootsAreShort }

@@ -10,7 +10,7 @@ indices_step k n h = let e : n - k ≡ suc (n - (k + 1)) = omega arith in rw e r
 pub indices_end : (k n : ℕ) → n ≤ k → range_with_len k (n - k) ≡ []
 indices_end k n h = let e : n - k ≡ 0 = omega arith in rw e refl
 
--- all are left at the start
+-- all indices are left at the start
 pub indices_start : (n : ℕ) → range_with_len 0 (n - 0) ≡ range_with_len 0 n
 indices_start n = let e : n - 0 ≡ n = omega arith in rw e refl
 

@@ -10,7 +10,7 @@ use Rattle.thy_elf.specs.Refusal.{IsRefusal}
 use Rattle.thy_elf.specs.Image.{Contents, refused_or, IsCause}
 use Rattle.thy_elf.proofs.IndexLemmas.{indices_step, indices_end, indices_start}
 
--- the first refusal of the demands from index k on is k's, or else that of the demands after it
+-- the first refusal of the demands from index k on is the first one at k, or else the first one after k
 pub demands_step : (demands : ℕ → List (Demand ElfError)) (k n : ℕ) → k < n
     → first_fault (flat_map demands (range_with_len k (n - k))) ≡ option_or (first_fault (demands k)) (first_fault (flat_map demands (range_with_len (k + 1) (n - (k + 1)))))
 demands_step demands k n h =
@@ -24,19 +24,19 @@ pub demands_start : (demands : ℕ → List (Demand ElfError)) (n : ℕ)
     → first_fault (flat_map demands (range_with_len 0 (n - 0))) ≡ first_fault (flat_map demands (range_with_len 0 n))
 demands_start demands n = ap (λ ks. first_fault (flat_map demands ks)) (indices_start n)
 
--- where the header gives no reason, the rest decides
+-- if the header gives no reason, the rest decides
 pub first_fault_after : (xs ys : List (Demand ElfError)) → first_fault xs ≡ None → first_fault (xs ++ ys) ≡ first_fault ys
 first_fault_after xs ys h = first_fault-append xs ys ∙ ap (λ o. option_or o (first_fault ys)) h
 
--- where the header gives a reason, it is the first
+-- if the header gives a reason, it is the first
 pub first_fault_before : (xs ys : List (Demand ElfError)) (e : ElfError) → first_fault xs ≡ Some e → first_fault (xs ++ ys) ≡ Some e
 first_fault_before xs ys e h = first_fault-append xs ys ∙ ap (λ o. option_or o (first_fault ys)) h
 
--- the same at the refusal itself
+-- a refusal is the cause of the error that answers it
 due_cause : (contents : Contents) (e : ElfError) → IsRefusal e → IsCause (refused_or (Some e) contents) e
 due_cause contents (Memory e) refusal = absurd refusal
 due_cause contents _ refusal = refl
 
--- a refusal that is due is the cause of an error
+-- the first refusal of a file is the cause of its error
 pub cause_of : (first : Option ElfError) (contents : Contents) (e : ElfError) → Some e ≡ first → IsRefusal e → IsCause (refused_or first contents) e
 cause_of first contents e is refusal = subst (λ o. IsCause (refused_or o contents) e) is (due_cause contents e refusal)

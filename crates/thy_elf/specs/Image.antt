@@ -18,7 +18,7 @@ demands_of file base size =
     ++ (asked (not (list_any (λ k. needs_loader (program_header file k)) (indices_of file))) NeedsLoader
     ∷ flat_map (segment_demands file base size) (indices_of file))
 
--- the bytes of a segment: those of the file, then zeros
+-- the bytes of a segment: its bytes in the file, then zeros
 abbrev pub segment_bytes : List ℕ → ProgramHeader → List ℕ
 segment_bytes file p = take p.file_size (drop p.offset file) ++ replicate (p.memory_size - p.file_size) 0
 
@@ -68,7 +68,7 @@ abbrev pub IsCause : Result Contents ElfError → ElfError → Type 0
 IsCause meaning (Memory e) = IsOk meaning
 IsCause meaning e = meaning ≡ Err e
 
--- no refusal is due
+-- a file is not refused
 pub record IsAccepted (file : List ℕ) (base size : ℕ) : Type 0 where
   pub headers : HasHeaders file
   pub segments : first_fault (flat_map (segment_demands file base size) (indices_of file)) ≡ None

@@ -28,21 +28,21 @@ pub struct ProgramHeader {
 }
 
 impl ProgramHeader {
-    /// Whether it asks for a dynamic loader (PT_DYNAMIC, PT_INTERP).
+    /// Whether the program header asks for a dynamic loader (PT_DYNAMIC, PT_INTERP).
     pub fn needs_loader(&self) -> bool
         ensures { result ≡ needs_loader self.now }
     {
         self.kind == 2 || self.kind == 3
     }
 
-    /// Whether its segment is to be loaded (PT_LOAD).
+    /// Whether the header's segment is to be loaded (PT_LOAD).
     pub fn is_load(&self) -> bool
         ensures { result ≡ is_load self.now }
     {
         self.kind == 1
     }
 
-    /// Whether its segment is to be loaded and takes up memory.
+    /// Whether the header's segment is to be loaded and takes up memory.
     pub fn takes_memory(&self) -> bool
         ensures { result ≡ takes_memory self.now }
     {

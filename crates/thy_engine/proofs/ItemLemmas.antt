@@ -24,7 +24,7 @@ module _ {C : Type 0} (F : FillingOf C) (I : ItemsOf C) (a : AreItems F I) (e : 
   abbrev FitsAfter : Item → Type 0
   FitsAfter i = Fits F I (record e { stage = next_after F I e i }) (control_after I i c)
 
-  -- in the round
+  -- engine and controller belong together in the round
   fits_in : (r : Round) → IsInRound (slot_blocks F e) r → I.stands Made c → Fits F I (record e { stage = InRound r }) c
   fits_in r inside made =
       fits_at F I e (InRound r) c same (λ j at. let is : r ≡ j = cc in subst (λ (x : Round). IsInRound (slot_blocks F e) x) is inside) made
@@ -104,7 +104,7 @@ slot_inside F laws e k below = let whole = all_inside F laws e.p (commit_of e.ep
 pub items_fit : {C : Type 0} (F : FillingOf C) (I : ItemsOf C) → AreItems F I → ItemsFit F I
 items_fit F I a e c fits = fits_after F I a e c fits.same_p e.stage fits.stands
 
--- so they do with this stage and this controller
+-- after an item, the engine fits the controller, with this stage and this controller
 pub fits_then : {C : Type 0} (F : FillingOf C) (I : ItemsOf C) → AreItems F I → (e : Progress) (c d : C) (f : Progress) (stage : EngineStage) → Fits F I e c
     → stage ≡ next_after F I e (item I e.stage c) → d ≡ control_after I (item I e.stage c) c → f ≡ record e { stage = stage } → Fits F I f d
 fits_then {C = C} F I a e c d f stage fits goes control is =

@@ -24,20 +24,20 @@ left_at F I e (Tail from) c = I.tail_left e.p from + 1
 abbrev pub cycles_left : {C : Type 0} → FillingOf C → ItemsOf C → Progress → C → ℕ
 cycles_left F I e c = left_at F I e e.stage c
 
--- so many at most
+-- the most cycles that a checkpoint takes
 abbrev pub most_cycles : {C : Type 0} → FillingOf C → ItemsOf C → Parameters → ℕ
 most_cycles F I p = I.most_body p + ((layout_at F p).most_slot + (3 + after_commit_left I p))
 
 abbrev pub CyclesAreFew : {C : Type 0} → FillingOf C → ItemsOf C → Type 0
 CyclesAreFew {C} F I = (e : Progress) (c : C) → Fits F I e c → cycles_left F I e c ≤ most_cycles F I e.p
 
--- every item takes one of them at least
+-- every item takes at least one of the cycles that a checkpoint may take
 abbrev pub ItemsCount : {C : Type 0} → FillingOf C → ItemsOf C → Type 0
 ItemsCount {C} F I =
     (e : Progress) (c : C)
     → Fits F I e c → is_under_way e.stage ≡ true → cycles_left F I (engine_next F I e c) (control_next I e c) + 1 ≤ cycles_left F I e c
 
--- engine and controller belong together after it
+-- engine and controller belong together after every item
 abbrev pub ItemsFit : {C : Type 0} → FillingOf C → ItemsOf C → Type 0
 ItemsFit {C} F I =
     (e : Progress) (c : C) → Fits F I e c → Fits F I (engine_next F I e c) (control_next I e c)

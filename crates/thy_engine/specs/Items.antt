@@ -9,18 +9,18 @@ use Rattle.thy_layout.specs.declared.engine_step.EngineStep.{EngineStep}
 use Rattle.thy_layout.specs.declared.engine_step.EngineStep.TheVariants.{Copied, PageBlock}
 use Rattle.thy_boot.specs.Filling.{FillingOf}
 
--- how far a checkpoint is, as its controller sees it
+-- how far a checkpoint is, as the controller has it
 pub data Phase : Type 0 where
-  -- none is under way
+  -- no checkpoint is under way
   Resting : Phase
   -- below this position the body is written
   Making : (from : ℕ) → Phase
-  -- all of it is
+  -- the whole body is written
   Made : Phase
-  -- it is committed, and below this position the tail is written
+  -- the checkpoint is committed, and below this position the tail is written
   Applying : (from : ℕ) → Phase
 
--- what is seen of controllers of a type while their checkpoints are made
+-- what controllers of a type mean, and what they show, while their checkpoints are made
 pub record ItemsOf (C : Type 0) : Type 1 where
   -- the controller is one that has a checkpoint in this phase
   pub stands : Phase → C → Type 0
@@ -32,9 +32,9 @@ pub record ItemsOf (C : Type 0) : Type 1 where
   pub body_after : C → ℕ → C
   -- what the engine reports of a position of body or tail
   pub step_of : Parameters → ℕ → EngineStep
-  -- block k of the slot behind the processor's record
+  -- block k of the slot after the processor's record
   pub rest : C → ℕ → Block
-  -- the controller once its checkpoint is committed
+  -- the controller after the commit of its checkpoint
   pub committed : C → C
   -- whether a tail follows; its positions, places, blocks and controllers, and the controller after the barrier at its end
   pub has_tail : Bool

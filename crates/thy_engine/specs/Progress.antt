@@ -65,7 +65,7 @@ layout_of F e = layout_at F e.p
 abbrev pub slot_blocks : {C : Type 0} → FillingOf C → Progress → ℕ
 slot_blocks F e = (layout_of F e).slot_blocks (commit_of e.epoch)
 
--- the place of block k, and that block: the processor's record, and behind it what the scheme has
+-- the place of block k, and that block: the processor's record, and after it what the scheme has
 abbrev pub slot_place : {C : Type 0} → FillingOf C → Progress → ℕ → ℕ
 slot_place F e k = (layout_of F e).slot_place (commit_of e.epoch) + k
 
@@ -73,7 +73,7 @@ abbrev pub slot_block : {C : Type 0} → ItemsOf C → Progress → C → ℕ �
 slot_block I e c k =
     if nat_lt k (record_blocks e.p) then cpu_block_of e.cpu e.epoch k else I.rest c (k - record_blocks e.p)
 
--- the round that writes it
+-- the round that writes the slot and then the commit block
 abbrev pub slot_round : {C : Type 0} → FillingOf C → ItemsOf C → Progress → C → RoundWrites
 slot_round F I e c = record { blocks = slot_blocks F e; place = slot_place F e; block = slot_block I e c; commit = commit_of e.epoch }
 
@@ -124,7 +124,7 @@ next_after F I e (RoundItem r) = after_round I (next_round (slot_blocks F e) r)
 next_after F I e (TailItem k) = Tail (k + 1)
 next_after F I e ReleaseItem = Idle
 
--- what the engine reports of it
+-- what the engine reports of an action of the round, and of an item
 abbrev pub report_in : Progress → Round → EngineStep
 report_in e (Write k) = if nat_lt k (record_blocks e.p) then StateBlock else TableBlock
 report_in e Settle = BarrierMade
@@ -138,7 +138,7 @@ report I e (RoundItem r) = report_in e r
 report I e (TailItem k) = I.step_of e.p k
 report I e ReleaseItem = BarrierMade
 
--- its action on the NVM
+-- the action of an item on the NVM
 abbrev pub action_of : {C : Type 0} → FillingOf C → ItemsOf C → Progress → Item → C → Device → Action
 action_of F I e NoItem c n = Rest
 action_of F I e (BodyItem k) c n = WriteAt (I.body_place e.epoch c k) (I.body_block c n k)
@@ -146,7 +146,7 @@ action_of F I e (RoundItem r) c n = round_action (slot_round F I e c) r
 action_of F I e (TailItem k) c n = WriteAt (I.tail_place c k) (I.tail_block c n k)
 action_of F I e ReleaseItem c n = Barrier
 
--- the controller after it
+-- the controller after an item
 abbrev pub control_after : {C : Type 0} → ItemsOf C → Item → C → C
 control_after I (BodyItem k) c = I.body_after c k
 control_after I (RoundItem Confirm) c = I.committed c
@@ -183,7 +183,7 @@ pub record IsDone {C : Type 0} (F : FillingOf C) (I : ItemsOf C) (i : Item) (e :
   pub step : d.step ≡ report I e i
   pub stage : d.stage ≡ next_after F I e i
 
--- it was taken or failed, and acted on controller and NVM
+-- an item was taken or failed, and acted on controller and NVM
 pub record Ends {C : Type 0} (F : FillingOf C) (I : ItemsOf C) (i : Item) (e : Progress) (c : C) (n : Device) (r : Result Done NvmError) (d : C) (m : Device) : Type 0 where
   pub done : IfOk r (IsDone F I i e)
   pub acts : Acts (action_of F I e i c n) (control_after I i c) r c n d m

@@ -60,7 +60,7 @@ impl Engine {
         }
     }
 
-    /// Its stage.
+    /// The stage of the engine.
     pub fn stage(&self) -> EngineStage
         ensures { result ≡ self.now.stage }
     {
@@ -92,7 +92,7 @@ impl Engine {
         self.stage = EngineStage::Tail(0);
     }
 
-    /// Whether it has something to do.
+    /// Whether the engine has something to do.
     pub fn under_way(&self) -> bool
         ensures { result ≡ is_under_way self.now.stage }
     {
@@ -102,7 +102,7 @@ impl Engine {
         }
     }
 
-    /// Whether it writes what follows the commit.
+    /// Whether the engine writes what follows the commit.
     pub fn applies(&self) -> bool
         ensures { result ≡ is_applying self.now.stage }
     {
@@ -264,7 +264,7 @@ impl Engine {
         }
     }
 
-    /// The stage after it.
+    /// The stage after an action of the round.
     fn after_round<E: Checkpoints>(&self, round: Round) -> EngineStage
         requires { IsInRound (slot_blocks E.filling self.now) round }
         ensures { result ≡ next_after E.filling E.items self.now (RoundItem round) }

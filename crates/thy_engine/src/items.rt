@@ -11,11 +11,11 @@ use thy_base::{Block, Geometry, Nvm, NvmError};
 use thy_boot::Fills;
 use thy_layout::EngineStep;
 
-/// A scheme's part of a checkpoint. Before the slot the body is written, after the commit the tail, if the scheme has one:
-/// both go over positions, each of which is one action on the NVM. The engine writes the slot, of which the scheme gives
-/// what stands behind the processor's record, and the commit block, and makes the barriers.
+/// A scheme's part of a checkpoint. Before the slot the body is written, after the commit the tail, if the scheme has
+/// one: both go over positions, each of which is one action on the NVM. The engine writes the slot, of which the scheme
+/// gives what follows the processor's record, and the commit block, and makes the barriers.
 pub trait Checkpoints: Fills {
-    /// What is seen of controllers while their checkpoints are made.
+    /// What controllers mean, and what they show, while their checkpoints are made.
     ghost items: { ItemsOf Self.Control };
 
     /// The first position from one on that the body writes. The search may move what the controller keeps to find the next.
@@ -43,14 +43,14 @@ pub trait Checkpoints: Fills {
     fn step_of(geometry: &Geometry, k: u64) -> EngineStep
         ensures { result ≡ items.step_of geometry.now k };
 
-    /// Block `k` of the slot of an epoch behind the processor's record.
+    /// Block `k` of the slot of an epoch after the processor's record.
     fn rest(control: &Self::Control, epoch: u64, k: u64) -> Block
         requires stands { items.stands Made control.now }
         requires inside { let p = Self.filling.p control.now in
             record_blocks p + k < (layout_at Self.filling p).slot_blocks (commit_of epoch) }
         ensures { result ≡ items.rest control.now k };
 
-    /// The checkpoint is committed.
+    /// Notes that the checkpoint is committed.
     fn commit(control: &mut Self::Control)
         requires { items.stands Made control.old }
         ensures { control.new ≡ items.committed control.old };
@@ -75,7 +75,7 @@ pub trait Checkpoints: Fills {
             items.has_tail ≡ true
             → Acts action (items.tail_after control.old k) result control.old (N.device nvm.old) control.new (N.device nvm.new) };
 
-    /// All of the tail is on the NVM.
+    /// Notes that all of the checkpoint's tail is on the NVM.
     fn release(control: &mut Self::Control)
         ensures { control.new ≡ items.released control.old };
 

@@ -8,7 +8,8 @@ pub enum EngineStage {
     Idle,
     /// The first position from this one on that the body writes; if there is none, the slot's first block.
     Body(u64),
-    /// This of the round that writes the slot, first the processor's record, and then what the scheme has behind it.
+    /// The action of the round that is next. The round writes the slot, first the processor's record, and then what the
+    /// scheme has after it.
     InRound(Round),
     /// The first position from this one on that the tail writes; if there is none, the barrier after these.
     Tail(u64),

@@ -8,7 +8,7 @@ pub record Epoch : Type 0 where
   -- how many instructions an epoch has at most
   pub span : ℕ
   pub number : ℕ
-  -- how many it has retired
+  -- how many instructions the epoch has retired
   pub retired : ℕ
   pub over : Option EndCause
 
@@ -16,7 +16,8 @@ pub record Epoch : Type 0 where
 abbrev pub begun : ℕ → ℕ → Epoch
 begun span number = record { span = span; number = number; retired = 0; over = None }
 
--- why an epoch is over after so many retired instructions; the flag says whether the program continues
+-- why an epoch of length `span` is over after this many retired instructions, if it is; the flag says whether the
+-- program continues
 abbrev pub over_after : Bool → ℕ → ℕ → Option EndCause
 over_after running span retired = if running then (if retired == span then Some Length else None) else Some Ended
 

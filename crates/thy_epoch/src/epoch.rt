@@ -38,14 +38,14 @@ impl EpochState {
         }
     }
 
-    /// Its number.
+    /// The number of the epoch.
     pub fn epoch(&self) -> u64
         ensures { result ≡ self.now.number }
     {
         self.number
     }
 
-    /// How many instructions it has retired.
+    /// How many instructions the epoch has retired.
     pub fn retired(&self) -> u64
         ensures retired { result ≡ self.now.retired }
         ensures within { result ≤ self.now.span }

@@ -108,14 +108,14 @@ IsLeftAs-levelled gap name r n some lines image crash left =
 abbrev within : Device → Device
 within n = record n { lent = drop 1 n.lent }
 
--- it failed on the device that is lent
+-- a fit that failed failed on the device that is lent
 pub failed_within : (e : FitError) (name other : GName) (old new : Device) → HasFailedToFit e (lent_by name old) (lent_by other new) → HasFailedToFit e old new
 failed_within Failed name other old new (failed, framed, rose) =
     (record { down = failed.down; no_more = failed.no_more }, framed_within name other (record old { fits = next old.fits }) new framed, rose)
 failed_within (Memory e) name other old new (inl same) = inl (ap within same)
 failed_within (Memory e) name other old new (inr same) = inr (ap within same)
 
--- and the loan is the same
+-- the loan is the same after a fit that failed
 pub same_loan_failed : (e : FitError) (name other : GName) (old new : Device) → HasFailedToFit e (lent_by name old) (lent_by other new) → other ≡ name
 same_loan_failed Failed name other old new (failed, framed, rose) = same_loan name other (record old { fits = next old.fits }) new framed
 same_loan_failed (Memory e) name other old new (inl same) = ap (λ (n : Device). slice_index_or n.lent 0 name) same
@@ -215,7 +215,7 @@ stayed_saved (Some name) false c stood left old new why h = record { blocks = ap
 stayed_saved None true c stood left old new why h = record { blocks = ap (λ (n : Device). length n.image) h.0; lent = ap (λ (n : Device). n.lent) h.0 }
 stayed_saved None false c stood left old new why h = record { blocks = ap (λ (n : Device). length n.image) h.0; lent = ap (λ (n : Device). n.lent) h.0 }
 
--- a run and a save leave a device of as many blocks, reached by the same loans
+-- a run and a save leave a device with the same number of blocks, reached by the same loans
 pub HasStayed-ran : {M : Type 0} (K : KindOf M) (o : Origin) (given : Given) (cycles : ℕ) (events : List Event) (name : Option (List ℕ)) (due : Bool) (c : Config) (stood left : Device) (old new : Stock) (why : Option PutError)
     → Promise K o given cycles events stood → SavesUnder name due c stood left old new why → HasStayed given.fitted left
 HasStayed-ran K o given cycles events name due c stood left old new why promise saved =

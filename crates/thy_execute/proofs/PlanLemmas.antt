@@ -93,7 +93,7 @@ given_at c digest d = record { config = c; digest = digest; fitted = d }
 planned_numbers : (source : ProgramSource) (job : Job) (stock : Stock) (plan : Plan) (blocks : List Block) → IsPlanOf source job stock plan blocks → plan.geometry ≡ parameters_of job.config
 planned_numbers source job stock plan blocks p = ap (λ (o : Origin). o.geometry) p.origin
 
--- the device of the plan's machine is that of the job's
+-- the device of the plan's machine has the shape that the job's has
 pub shape_planned : {M : Type 0} (K : KindOf M) (source : ProgramSource) (job : Job) (stock : Stock) (plan : Plan) (blocks : List Block) → IsPlanOf source job stock plan blocks → shape_of K plan ≡ shape_for K job.config
 shape_planned K source job stock plan blocks p =
     let numbers : plan.geometry ≡ parameters_of job.config = planned_numbers source job stock plan blocks p in

@@ -24,13 +24,13 @@ pub record CanRun (p : Plan) (blocks : List Block) : Type 0 where
   pub planned : IsPlanned p
   pub fits : Fits p.geometry (begun_with p.start blocks)
 
--- after a run the device has room for one more image; its images are those of the cuts reported, and it has its blocks
+-- after a run the device has room for one more image; it has an image of each cut reported, and its blocks
 pub record HasRoom (n : Device) (events : List Event) (blocks : ℕ) : Type 0 where
   pub room : length n.left < n.left_room
   pub cuts : length n.left ≡ length (cuts_among events)
   pub whole : length n.image ≡ blocks
 
--- a plan is that of a job: its run begins with what the bytes of a source mean
+-- a plan is a job's: its run begins with what the bytes of a source mean
 pub record IsPlanOf (source : ProgramSource) (job : Job) (stock : Stock) (p : Plan) (blocks : List Block) : Type 0 where
   pub config : p.config ≡ job.config
   pub digest : p.digest ≡ job.digest
@@ -42,7 +42,7 @@ pub record IsPlanOf (source : ProgramSource) (job : Job) (stock : Stock) (p : Pl
 abbrev pub shape_of : {M : Type 0} → KindOf M → Plan → Shape
 shape_of K p = record { blocks = K.blocks p.geometry; queue = p.geometry.nvmq; cuts = length p.config.cuts }
 
--- a device has as many blocks as before, and is reached by the same loans
+-- a device has the same number of blocks as before, and is reached by the same loans
 pub record HasStayed (old new : Device) : Type 0 where
   pub blocks : length new.image ≡ length old.image
   pub lent : new.lent ≡ old.lent

@@ -63,9 +63,9 @@ struct Boot {
     options: &'static str,
     /// What the cut leaves.
     tear: u64,
-    /// How many actions the boot has. It takes no fewer cycles.
+    /// How many actions the boot has. A boot takes at least that many cycles.
     actions: u64,
-    /// What is reported with the last of them.
+    /// What is reported with the last action.
     told: &'static str,
 }
 
@@ -152,8 +152,8 @@ fn a_recovery_that_is_cut_copies_a_page_again(rt: HostRuntime) -> Result<(), Fai
 }
 
 /// Loading is cut after 300 cycles. What is loaded then has its commit block in cycle 698 of its own, which the second
-/// cut does not let land (as no single write with the draws of seed 7); a drain lets it land in 699, and it is committed in
-/// 700.
+/// cut does not let land (as no single write with the draws of seed 7). A drain lets it land in 699, and it is
+/// committed in 700.
 #[test]
 fn a_loading_is_cut_anywhere_behind_one_that_was_cut(rt: HostRuntime) -> Result<(), Fail> {
     let alloc = rt.alloc();

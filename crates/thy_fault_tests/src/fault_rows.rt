@@ -26,10 +26,10 @@ struct Commit {
     is_drained: bool,
 }
 
-/// Each cycle up to loading's last barrier, in cycle 700, is one call: the commit block of epoch 0 is written in cycle 698,
-/// and a drain lets it land. After the barrier come the read of the block that has the program, the five blocks of the
-/// processor's record, one of each table and one of the counts, with three drains in between, a barrier, the commit block of
-/// epoch 1 and its barrier: calls 701 to 715.
+/// Each cycle up to loading's last barrier, in cycle 700, is one call: the commit block of epoch 0 is written in cycle
+/// 698, and a drain lets it land. After the barrier come calls 701 to 715. They are the read of the block that has the
+/// program, the five blocks of the processor's record, one of each table and one of the counts, with three drains in
+/// between. A barrier, the commit block of epoch 1 and its barrier follow.
 const STARTED: Commit = Commit {
     call: 698,
     is_drained: true,
@@ -40,7 +40,7 @@ const ENDED: Commit = Commit {
     is_drained: false,
 };
 
-/// Loading's last barrier, and the call after it.
+/// The call of loading's last barrier, and the next call.
 const LOADED_BY: u64 = 700;
 
 const FIRST_READ: u64 = 701;
@@ -195,7 +195,7 @@ fn the_last_commit_block_and_its_barrier_may_fail(rt: HostRuntime) -> Result<(),
     Ok(())
 }
 
-/// Each call up to the last barrier.
+/// Lets each call up to the last barrier fail.
 fn fail_anywhere(
     rt: &impl Abort,
     alloc: Global,

@@ -94,7 +94,7 @@ fn restarts_at(alloc: Global, report: &[u8], epoch: u64) -> Result<bool, AllocEr
     Ok(report.starts_with(line.as_bytes()))
 }
 
-/// Whether a resumed run ends as the plain machine, after a run that reported so many commits: from the last one of
+/// Whether a resumed run ends as the plain machine, after a run that reported `commits` commits: from the last one of
 /// these, or from the one whose checkpoint was under way. If none was reported there may be none.
 fn goes_on(
     alloc: Global,
@@ -119,9 +119,9 @@ fn goes_on(
 /// How a call fails.
 #[derive(Clone, Copy, Debug, PartialEq, Eq)]
 enum Fault {
-    /// It does nothing.
+    /// The call does nothing.
     Undone,
-    /// It is done, a barrier by half.
+    /// The call is done, a barrier by half.
     Late,
 }
 

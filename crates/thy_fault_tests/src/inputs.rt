@@ -58,7 +58,7 @@ fn a_shelf_that_fails_is_told_with_the_name(rt: HostRuntime) -> Result<(), Fail>
     Ok(())
 }
 
-/// A shelf with the program that exits with 7 under the name F, and so many zeros under I.
+/// A shelf with the program that exits with 7 under the name F, and `size` zeros under I.
 fn zeros(alloc: Global, size: usize) -> Result<MemShelf, AllocError> {
     let mut held = Vec::new(alloc);
     let program = Vec::from_slice(alloc, EXIT_SEVEN.as_slice())?;

@@ -122,7 +122,7 @@ fn each_barrier_moves_a_line_where_the_gap_is_one(rt: HostRuntime) -> Result<(),
     Ok(())
 }
 
-/// A cut at every so many cycles, of which no write lands, or each one: the run is the same without a gap.
+/// A cut at every `step` cycles, after which no write lands, or each one does: the run is the same without a gap.
 fn compare_cuts(
     rt: &impl Abort,
     alloc: Global,

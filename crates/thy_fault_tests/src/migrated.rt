@@ -52,7 +52,7 @@ static PROGRAM: [u64; 5] = [
     0x73,
 ];
 
-/// Its slot of epoch 3 in version 2 begins at this byte: the second one.
+/// The image's slot of epoch 3 in version 2 begins at this byte: the second slot.
 const SLOT: usize = 67_584;
 
 /// Writes a word over bytes.
@@ -62,7 +62,7 @@ fn put(bytes: &mut [u8], at: usize, word: u64) {
     }
 }
 
-/// The image, in so many bytes.
+/// The image, in `size` bytes.
 fn saved(alloc: Global, size: usize) -> Result<Vec<u8>, AllocError> {
     let mut bytes = vec![in alloc; 0u8; size]?;
     let image = bytes.as_mut_slice();
@@ -75,13 +75,13 @@ fn saved(alloc: Global, size: usize) -> Result<Vec<u8>, AllocError> {
     Ok(bytes)
 }
 
-/// A shelf that has it under D.
+/// A shelf that holds the image under D.
 fn shelf(alloc: Global, size: usize) -> Result<MemShelf, AllocError> {
     let image = saved(alloc, size)?;
     shelf_of(alloc, &[("D", image.as_slice())])
 }
 
-/// Resumes it with these words behind the parameters.
+/// Resumes the image with these words after the parameters.
 fn resumed(alloc: Global, size: usize, more: &str) -> Result<Given, AllocError> {
     let mut shelf = shelf(alloc, size)?;
     let line = format!(in alloc; "thynvm resume D --pages 8 --btt 8 --ptt 8{more}")?;
@@ -119,8 +119,8 @@ fn a_migration_is_cut_at_each_of_its_cycles(rt: HostRuntime) -> Result<(), Fail>
     Ok(())
 }
 
-/// What the run saves then is of version 2: the header stays, the commit block names version 2 and the same epoch, the
-/// slot has the blocks of the old one and a block of zeros, and it is restored without a migration.
+/// What the run saves then is of version 2: the header stays, and the commit block names version 2 and the same epoch.
+/// The slot has the blocks of the old one and a block of zeros, and it is restored without a migration.
 #[test]
 fn what_is_saved_after_a_migration_is_of_version_2(rt: HostRuntime) -> Result<(), Fail> {
     let alloc = rt.alloc();

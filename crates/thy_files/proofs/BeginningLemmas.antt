@@ -46,7 +46,7 @@ bytes_read job bytes read p numbers size means geometry same as_read as_long h =
     ∙ ap (λ b. read_of read b (program_size (parameters_of job.config))) (sym (ap (λ (x : Parameters). x.base) (same ∙ geometry)))
     ∙ ap (read_of read numbers.base) (sym (as_long ∙ ap program_size geometry)) ∙ h
 
--- and so it is what the bytes of a program file mean
+-- what a program file was read as is what its bytes mean
 pub meaning_is : (source : ProgramSource) (job : Job) (bytes input : List ℕ) (means : Result Contents ElfError) → IsElf source → read_of bytes job.config.base (program_size (parameters_of job.config)) ≡ means
     → meaning_of source job bytes input ≡ begun (parameters_of job.config) means
 meaning_is (file name) job bytes input means elf h = ap (begun (parameters_of job.config)) h

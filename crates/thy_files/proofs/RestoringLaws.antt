@@ -51,7 +51,7 @@ IsOrigin-restored o bytes epoch range are_bytes readable saved kept =
 
 -- ---- the files of a scheme
 
--- machines whose images mean what those of a scheme do read its files
+-- machines whose images mean what a scheme's images do read the files of that scheme
 pub reads_by : {M : Type 0} (K : KindOf M) (scheme : SchemeName)
     → ((p : Parameters) (ceiling : ℕ) (image : List Block) → K.decode p ceiling image ≡ decode_by_scheme scheme p ceiling image)
     → ((p : Parameters) → K.blocks p ≡ blocks_by_scheme scheme p) → (p : Parameters) → p.scheme ≡ scheme → ReadsFiles K p

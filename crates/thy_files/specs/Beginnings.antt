@@ -26,7 +26,7 @@ abbrev pub IsElf : ProgramSource → Type 0
 IsElf (image name) = ⊥
 IsElf source = Unit {0}
 
--- a fetch of at most so many bytes under this name did not give them
+-- a fetch of at most this many bytes under this name did not give them
 abbrev pub IsFetchRefusal : ℕ → List ℕ → Stock → Stock → Refusal → Type 0
 IsFetchRefusal most name old new (Fetch text e) = (text.now ≡ name) × FetchDue most old new text.now e
 IsFetchRefusal most name old new r = ⊥
@@ -61,7 +61,7 @@ RefusesProgram p fetched result =
 abbrev pub begun_with : Start → List Block → Beginning
 begun_with s blocks = record { start = state_of s.state; kept = s.kept; blocks = blocks }
 
--- a device's first blocks fit a beginning: they are none, or those of an image that means its checkpoint
+-- a device's first blocks fit a beginning: there are none, or they are an image's that means its checkpoint
 abbrev pub FitsKept : Parameters → Beginning → Option Mark → Type 0
 FitsKept p b None = b.blocks ≡ []
 FitsKept p b (Some m) = AreOfCheckpoint p ceiling m.epoch b.start b.blocks

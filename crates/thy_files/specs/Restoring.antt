@@ -16,14 +16,15 @@ use Rattle.thy_files.specs.declared.restoring.Beginning.{Beginning}
 pub record IsFoundAt (p : Parameters) (bytes : List ℕ) (epoch : ℕ) : Type 0 where
   pub found : found_in (decode_bytes p (2 ^ 62) bytes) ≡ Ok (FoundAt epoch)
 
--- a beginning is that of the checkpoint in these bytes, over their blocks, with this input
+-- a beginning continues from the checkpoint in these bytes, over their blocks, with this input
 pub record IsRestored (p : Parameters) (bytes input : List ℕ) (epoch : ℕ) (b : Beginning) : Type 0 where
   pub decodes : decode_bytes p (2 ^ 62) bytes ≡ At epoch (state_of b.start.state)
   pub kept : b.start.kept ≡ Some (mark epoch b.start.state.count)
   pub reads : bytes_of b.start.input ≡ input
   pub blocks : b.blocks.items ≡ blocks_of bytes
 
--- with these parameters the NVM of these machines has the layout of image files, that of the scheme which they name
+-- with these parameters the NVM of these machines has the layout of image files, by the scheme which the parameters
+-- name
 pub record ReadsFiles {M : Type 0} (K : KindOf M) (p : Parameters) : Type 0 where
   pub decode : (ceiling : ℕ) (image : List Block) → K.decode p ceiling image ≡ decode_of p ceiling image
   pub blocks : K.blocks p ≡ blocks_of_image p

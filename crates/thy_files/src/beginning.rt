@@ -19,7 +19,7 @@ use thy_plain::start_of;
 /// The epochs and counts of a saved image are below this.
 const SAVED_CEILING: u64 = 1 << 62;
 
-/// From a program's entry, over a device of zeros.
+/// A beginning from a program's entry, over a device of zeros.
 fn from_entry<'a>(
     alloc: Global,
     geometry: Geometry,

@@ -13,7 +13,8 @@ use thy_base::{PutError, Shelf, Sink};
 use thy_make::file;
 use thy_text::{Closing, Events, History, write_made};
 
-/// Puts the program file that is made from a number under a name; and returns its length, or why it was not put.
+/// Stores the program file that is made from a number under a name, and returns its length, or why it was not put
+/// there.
 fn put_made<H: Shelf>(
     alloc: Global,
     number: u64,
@@ -54,7 +55,7 @@ fn tell<R: Sink>(number: u64, name: &str, put: Result<u64, PutError>, report: &m
     }
 }
 
-/// Makes the program file of a number, puts it under a name, and says so.
+/// Makes the program file of a number, stores it under a name, and says so.
 pub fn make<H: Shelf, R: Sink>(
     alloc: Global,
     number: u64,

@@ -22,7 +22,7 @@ pub fn is_saved(stop: Stop) -> bool
     }
 }
 
-/// The pick of a save's cut: the tear after those of the listed cuts, or 0 if none is given.
+/// The pick of a save's cut: the tear after the tears of the listed cuts, or 0 if none is given.
 pub fn save_pick(config: &Config) -> u64
     ensures { result ≡ save_pick config.now }
 {
@@ -66,7 +66,7 @@ fn add_block<N: Nvm>(bytes: &mut Vec<u8>, nvm: &N, i: u64, at: u64) -> Result<()
     Ok(())
 }
 
-/// The bytes of the kept image `i` of a device that has so many blocks, as has this image.
+/// The bytes of the kept image `i` of a device. Device and image have `blocks` blocks each.
 fn image_bytes<N: Nvm>(alloc: Global, nvm: &N, i: u64, blocks: u64) -> Result<Vec<u8>, AllocError>
     requires image { i < length (N.device nvm.now).left }
     requires blocks { blocks ≡ length (N.device nvm.now).image }
@@ -83,7 +83,7 @@ fn image_bytes<N: Nvm>(alloc: Global, nvm: &N, i: u64, blocks: u64) -> Result<Ve
     Ok(bytes)
 }
 
-/// Puts bytes under a name; or returns why they were not put there.
+/// Stores bytes under a name, or returns why they were not put there.
 fn put_bytes<H: Shelf>(alloc: Global, name: &str, bytes: &[u8], shelf: &mut H) -> Option<PutError>
     ensures { IsPut name.now bytes.now (H.stock shelf.old) (H.stock shelf.new) result }
 {
@@ -93,7 +93,7 @@ fn put_bytes<H: Shelf>(alloc: Global, name: &str, bytes: &[u8], shelf: &mut H) -
     }
 }
 
-/// Cuts the power once more after a run whose device has kept so many images and has so many blocks, and puts the
+/// Cuts the power once more after a run whose device has kept `kept` images and has `blocks` blocks, and stores the
 /// bytes of what this cut left under a name.
 ///
 /// The result is why they were not put there, if they were not.

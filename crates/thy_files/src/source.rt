@@ -35,7 +35,7 @@ pub struct Program {
     pub input: Bytes,
 }
 
-/// Reads the file under a name, if it has at most so many bytes.
+/// Reads the file under a name, if it has at most `most` bytes.
 fn fetch<'a, H: Shelf>(
     alloc: Global,
     name: &'a str,

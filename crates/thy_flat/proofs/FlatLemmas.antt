@@ -91,12 +91,12 @@ pub flat-drop : (k : ℕ) (blocks : List Block) → k ≤ length blocks → flat
 flat-drop k blocks l =
     sym (ap (drop (64 * k)) (sym (flat_parts k blocks)) ∙ drop_at (flat (take k blocks)) (flat (drop k blocks)) (64 * k) (length-flat_take k blocks l))
 
--- one block alone
+-- the bytes of one block alone
 pub flat-one : (b : Block) → flat (b ∷ []) ≡ block_bytes b
 unfolding flat
 flat-one b = append-nil (block_bytes b)
 
--- one block more
+-- the bytes of one block more
 pub flat_more : (blocks : List Block) (i : ℕ) (d : Block) → i < length blocks → flat (take (i + 1) blocks) ≡ flat (take i blocks) ++ block_bytes (get_or blocks i d)
 flat_more blocks i d l =
     ap flat (take_more blocks i d l)

@@ -30,7 +30,7 @@ head_len-inside s = omega arith
 pub head_len-rest : (s : Span) → s.len ≤ 64 → head_len (rest_of s) ≡ s.len - head_len s
 head_len-rest s h = omega arith
 
--- and has no rest
+-- the rest of the rest is empty: a span of at most 64 bytes lies in two blocks
 pub rest_of-rest : (s : Span) → s.len ≤ 64 → (rest_of (rest_of s)).len ≡ 0
 rest_of-rest s h = omega (arith, head_len-rest s h)
 
@@ -78,7 +78,7 @@ gathered-flat blocks s h =
     ∙ sym (take-add n (s.len - n) from)
     ∙ ap (λ k. take k from) rest
 
--- a span without bytes
+-- nothing is read of a span without bytes
 pub gathered-none : (blocks : List Block) (s : Span) → s.len ≡ 0 → gathered blocks s ≡ []
 gathered-none blocks s h = nil_from_length (gathered blocks s) (length-gathered blocks s (omega arith) ∙ h)
 
@@ -123,13 +123,13 @@ head_put-none blocks s bytes h =
     (λ _. refl)
     (λ e. absurd (omega (arith, not_zero s.len e)))
 
--- over a span without bytes nothing is put
+-- over a span without bytes nothing is written
 pub scattered-none : (blocks : List Block) (s : Span) (bytes : List ℕ) → s.len ≡ 0 → scattered blocks s bytes ≡ blocks
 unfolding scattered
 scattered-none blocks s bytes h =
     head_put-none (head_put blocks s bytes) (rest_of s) (drop (head_len s) bytes) (omega arith) ∙ head_put-none blocks s bytes h
 
--- bytes over a span
+-- the bytes of blocks, with others written over a span
 pub flat-scattered : (blocks : List Block) (s : Span) (bytes : List ℕ) → IsSpanOf (length blocks) s → length bytes ≡ s.len
     → flat (scattered blocks s bytes) ≡ written (flat blocks) s.at bytes
 unfolding scattered

@@ -10,7 +10,7 @@ use Rattle.thy_flat.specs.declared.span.Span.{Span}
 abbrev pub span : ℕ → ℕ → Span
 span at len = record { at = at; len = len }
 
--- a span has at most 64 bytes, and lies within so many blocks
+-- a span has at most 64 bytes, and lies within the given number of blocks
 pub record IsSpanOf (blocks : ℕ) (s : Span) : Type 0 where
   pub short : s.len ≤ 64
   pub inside : s.at + s.len ≤ 64 * blocks
@@ -22,7 +22,7 @@ first_block s = s.at / 64
 abbrev pub first_byte : Span → ℕ
 first_byte s = s.at % 64
 
--- how many of its bytes lie in that block
+-- how many bytes of a span lie in its first block
 abbrev pub head_len : Span → ℕ
 head_len s = min s.len (64 - first_byte s)
 
@@ -39,7 +39,7 @@ head_in block s = take (head_len s) (drop (first_byte s) (block_bytes block))
 abbrev pub head_read : List Block → Span → List ℕ
 head_read blocks s = head_in (block_at blocks (first_block s)) s
 
--- the bytes of a span, of its one or two blocks
+-- the bytes of a span, from the one block or the two blocks in which it lies
 unfoldable pub gathered : List Block → Span → List ℕ
 gathered blocks s = head_read blocks s ++ head_read blocks (rest_of s)
 

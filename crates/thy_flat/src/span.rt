@@ -8,21 +8,21 @@ use thy_base::BLOCK_SIZE;
 /// and the next.
 #[derive(Clone, Copy, Debug, PartialEq, Eq)]
 pub struct Span {
-    /// Which byte of the list is its first.
+    /// Which byte of the list is the span's first.
     pub at: u64,
-    /// How many bytes it has.
+    /// How many bytes the span has.
     pub len: u64,
 }
 
 impl Span {
-    /// Whether it has no bytes.
+    /// Whether the span has no bytes.
     pub fn is_empty(self) -> bool
         ensures { result ≡ (self.len == 0) }
     {
         self.len == 0
     }
 
-    /// The block in which it begins.
+    /// The block in which the span begins.
     pub fn first_block(self) -> u64
         ensures { result ≡ first_block self }
     {
@@ -45,7 +45,7 @@ impl Span {
         self.len.min(BLOCK_SIZE as u64 - self.first_byte())
     }
 
-    /// The rest of it, which begins with the next block, or has no bytes.
+    /// The rest of the span, which begins with the next block, or has no bytes.
     pub fn rest(self) -> Span
         requires { self.at + self.len < 2 ^ 64 }
         ensures { result ≡ rest_of self }

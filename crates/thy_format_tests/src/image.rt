@@ -12,9 +12,9 @@ use thy_layout::{BadImage, Found, table_block};
 use thy_places::blocks;
 use thy_record::{check, header_block, state};
 
-/// The smallest machine: 8 pages, one of them the console's, and 8 entries in each table. Its image has the header,
-/// the commit block, 512 homes from block 16 on, 8 alternate blocks from block 528 on, 8 alternate pages of 64 blocks
-/// from block 536 on, and slots of 8 blocks from block 1048 and block 1056 on: 1064 blocks.
+/// The smallest machine: 8 pages, one of them the console's, and 8 entries in each table. Its image has 1064 blocks:
+/// the header, the commit block, 512 homes from block 16 on, and 8 alternate blocks from block 528 on. The others are 8
+/// alternate pages of 64 blocks, from block 536 on, and slots of 8 blocks, from block 1048 and block 1056 on.
 static NUMBERS: Parameters = Parameters {
     base: 65536,
     pages: 8,
@@ -68,9 +68,9 @@ fn put_bytes(image: &mut [u8], block: usize, bytes: &[u8]) {
     }
 }
 
-/// The words that are not zero, except the two names: the header's, the commit block's, of epoch 3, and in slot 1
-/// pc, x1, count, cursor, length of the console, break, epoch, floor, the entries (entry 0 of the block table lists block 5,
-/// entry 1 of the page table page 2), and the counts: page 0 has 63, page 7 has 1.
+/// The words that are not zero, except the two names. The header has some, and the commit block its epoch, 3. Slot 1
+/// has pc, x1, count, cursor, length of the console, break, epoch and floor. Then come the entries (entry 0 of the
+/// block table lists block 5, entry 1 of the page table page 2), and the counts: page 0 has 63, page 7 has 1.
 static WORDS: [(usize, u64); 18] = [
     (1, 2),
     (2, 65536),
@@ -92,9 +92,9 @@ static WORDS: [(usize, u64); 18] = [
     (COUNTS, 0x0100_0000_0000_003f),
 ];
 
-/// Writes a checkpoint over zeros: the two names, words, and memory's blocks, of which block 0 is at its home, block 5 in
-/// alternate block 0 and block 131 in alternate page 1, with something else at the homes of these two; the console's first
-/// block, 448, is at its home.
+/// Writes a checkpoint over zeros: the two names, words, and memory's blocks. Block 0 is at its home, block 5 in
+/// alternate block 0 and block 131 in alternate page 1, with something else at the homes of these two. The console's
+/// first block, 448, is at its home.
 fn fill(bytes: &mut [u8], words: &[(usize, u64)]) {
     put_bytes(bytes, 0, b"THYNHDR1");
     put_bytes(bytes, 1, b"THYNCMT2");
@@ -188,7 +188,8 @@ fn image_one(alloc: Global) -> Result<Vec<u8>, AllocError> {
     Ok(image)
 }
 
-/// It has 1048 blocks, or as many as one of version 2, and nothing between. Behind a header of version 2 it is refused.
+/// An image of version 1 has 1048 blocks, or the number of version 2, and nothing between. After a header of version 2
+/// it is refused.
 #[test]
 fn an_image_of_version_1_is_read_from_its_own_slot(rt: HostRuntime) -> Result<(), Fail> {
     let geometry = geometry(&rt, rt.alloc());
@@ -217,8 +218,9 @@ fn an_image_of_version_1_is_read_from_its_own_slot(rt: HostRuntime) -> Result<()
     Ok(())
 }
 
-/// The same machine with two harts. Header, commit block, homes, alternate blocks and alternate pages stand where they do
-/// with one hart, and the slots have 13 blocks, of which two records are ten, from block 1048 and block 1061 on: 1074 blocks.
+/// The smallest machine with two harts. Header, commit block, homes, alternate blocks and alternate pages stand where
+/// they do with one hart, and the slots have 13 blocks, of which two records are ten, from block 1048 and block 1061
+/// on: 1074 blocks.
 static NUMBERS_OF_TWO: Parameters = Parameters {
     base: 65536,
     pages: 8,
@@ -243,9 +245,9 @@ const BLOCKS_OF_TWO: usize = 1074;
 /// The first word of its slot 1, block 1061.
 const SLOT_OF_TWO: usize = 8488;
 
-/// The words of an image of two harts: the same, but the header's last, and behind the words of the first hart those of the
-/// second: its pc, x1 and x31, width and address of the first hart's reservation, and of its own. Both tables and the counts
-/// come after these forty words.
+/// The words of an image of two harts: the words of an image of one, except the header's last. After the words of the
+/// first hart come the second's: its pc, x1 and x31, width and address of the first hart's reservation, and of its own.
+/// Both tables and the counts come after these forty words.
 static WORDS_OF_TWO: [(usize, u64); 26] = [
     (1, 2),
     (2, 65536),
@@ -308,8 +310,8 @@ fn an_image_of_two_harts_has_both_records(rt: HostRuntime) -> Result<(), Fail> {
     Ok(())
 }
 
-/// With two harts there is no image of version 1. The version in its header, the name in its commit block, how many bytes
-/// it has, and what it is refused for: those of the length of version 1 have 1048 blocks.
+/// With two harts there is no image of version 1. The version in its header, the name in its commit block, how many
+/// bytes it has, and what it is refused for. Images of the length of version 1 have 1048 blocks.
 static NOT_OF_TWO: [(u64, u64, usize, BadImage); 5] = [
     (1, TWO, 68_736, BadImage::Version),
     (1, ONE, 67_072, BadImage::Version),
@@ -432,7 +434,7 @@ fn front(bytes: &[u8], len: usize) -> &[u8] {
     }
 }
 
-/// So many bytes of the image, and what they are refused for.
+/// The first bytes of the image, this many, and what they are refused for.
 static LENGTHS: [(usize, BadImage); 4] = [
     (0, BadImage::Empty),
     (127, BadImage::Empty),

@@ -223,7 +223,7 @@ const AMOADD_D: u32 = 0x0062b3af;
 
 const LR_W: u32 = 0x1002a3af;
 
-/// A word, how far behind the first byte of 4096 its address is, and the trap.
+/// A word, how far after the first byte of 4096 its address is, and the trap.
 static TRAPS: [(u32, u64, Cause); 6] = [
     (LR_D, 4, Cause::LoadMisaligned),
     (SC_D, 4, Cause::StoreMisaligned),
@@ -286,7 +286,7 @@ fn a_store_conditional_fails_if_its_bytes_are_not_reserved(rt: HostRuntime) {
     expect(&rt, atomic(SC_D, PC, 1, &elsewhere), failure());
 }
 
-/// What a write of `len` bytes leaves of a reservation of the last eight bytes of a block, 56 bytes behind PC.
+/// What a write of `len` bytes leaves of a reservation of the last eight bytes of a block, 56 bytes after PC.
 fn kept(at: u64, len: u64) -> bool {
     let mut other = beside(Reservation::Double(PC + 56), Reservation::Double(PC + 56));
     write_past(&mut other, at, len);

@@ -137,7 +137,7 @@ pub(crate) const STORES: [(u32, u64, u64, u64); 36] = [
     (0x0062b023, 0x8, 0xaaaaaaaaaaaaaaaa, 0x8172635445362718), // sd x6, 0(x5)
 ];
 
-/// Every other instruction.
+/// The instructions that are in no other table.
 pub(crate) const VECTORS: [(u32, u64, u64, u64); 148] = [
     (0x006283b3, 0x5, 0x3, 0x8), // add x7, x5, x6
     (0x006283b3, MIN + 6, MAX - 4, MIN + 1), // add x7, x5, x6

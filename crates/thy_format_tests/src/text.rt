@@ -16,7 +16,7 @@ const ALONE: Telling = Telling {
     harts: 1,
 };
 
-/// The same with digests.
+/// How events of one hart are reported, with digests.
 const DIGESTING: Telling = Telling {
     digest: true,
     harts: 1,
@@ -28,7 +28,7 @@ const PAIR: Telling = Telling {
     harts: 2,
 };
 
-/// Keeps what it is given, which is never an empty piece.
+/// A sink that keeps its pieces, none of which is empty.
 #[derive(Drop)]
 struct Page {
     bytes: Vec<u8>,
@@ -182,7 +182,7 @@ fn closings_have_their_lines(rt: HostRuntime) {
     expect(&rt, page.bytes.as_slice(), text.as_slice());
 }
 
-/// A commit with so many instructions overlapped.
+/// A commit with `overlapped` instructions overlapped.
 fn commit(overlapped: u64) -> Event {
     Event::Commit {
         epoch: 0,
@@ -300,7 +300,7 @@ fn state_with(memory: Bytes, console: Bytes, status: Status) -> MachState {
     }
 }
 
-/// The digests are those of `printf 'abc' | sha256sum` and `head -c 4096 /dev/zero | sha256sum`.
+/// The digests are what `printf 'abc' | sha256sum` and `head -c 4096 /dev/zero | sha256sum` print.
 #[test]
 fn memory_has_its_digest(rt: HostRuntime) {
     let memory = bytes_of(&rt, rt.alloc(), b"abc");

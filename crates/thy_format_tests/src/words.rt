@@ -372,7 +372,7 @@ fn words_of(rt: &impl Abort, alloc: Global, row: &str) -> Vec<String> {
     words
 }
 
-/// What words are refused for: the name of the error, that of its field, and its value.
+/// What words are refused for: the name of the error, the name of its field, and its value.
 fn refusal(alloc: Global, words: &[String]) -> (&'static str, &'static str, u64) {
     match settings(alloc, words).err() {
         None => ("not refused", "", 0),

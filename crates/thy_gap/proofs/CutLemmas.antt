@@ -15,7 +15,8 @@ use Rattle.thy_gap.proofs.RegisterLemmas.{registers_of-block, Tells-in_hand, Tel
 use Rattle.thy_gap.proofs.SeenLemmas.{length-unmap, block_at-unmap, block_at-unmap_past, unmap-is, possible-seen, zero_left}
 use Rattle.thy_gap.proofs.MovingLemmas.{rest-quiet}
 
--- an image that a cut may leave has the registers in hand, or those of one move on, and then the line was copied
+-- an image that a cut may leave has the registers in hand, or the registers after one more move, and then the line was
+-- copied
 pub registers-left : (r : Registers) (cuts : ℕ) (n : Device) (g : List Block) → IsLevelled r cuts n → Crash n g
     → (registers_in g ≡ r) ⊎ ((registers_in g ≡ moved r) × IsCopied r n)
 registers-left r cuts n g i c =
@@ -27,7 +28,7 @@ registers-left r cuts n g i c =
       | inr t ↦ inr (are ∙ ap (registers_of r.lines) t.0 ∙ registers_of-block (moved r) r.lines (whole-moved r i.whole) refl, t.1)
     ]
 
--- its block of registers is theirs
+-- an image that a cut may leave has its own registers in the block of registers
 pub block-left : (r : Registers) (cuts : ℕ) (n : Device) (g : List Block) → IsLevelled r cuts n → Crash n g
     → block_at g ((registers_in g).lines + 1) ≡ registers_block (registers_in g)
 block-left r cuts n g i c =
@@ -48,7 +49,7 @@ whole-left r cuts n g i c = elim (registers-left r cuts n g i c) as (λ _. IsWho
   | inr t ↦ subst IsWhole (sym t.0) (whole-moved r i.whole)
 ]
 
--- what it means by its own registers is what it means by those in hand
+-- what an image that a cut may leave means by its own registers is what it means by the registers in hand
 pub unmapped-left : (r : Registers) (cuts : ℕ) (n : Device) (g : List Block) → IsLevelled r cuts n → Crash n g → unmapped g ≡ unmap r g
 unmapped-left r cuts n g i c = elim (registers-left r cuts n g i c) as (λ _. unmapped g ≡ unmap r g) [
   | inl e ↦ ap (λ s. unmap s g) e
@@ -66,7 +67,7 @@ unmapped-left r cuts n g i c = elim (registers-left r cuts n g i c) as (λ _. un
       ])
 ]
 
--- and that is an image that a cut may leave of what is seen
+-- if a cut of the inner device may leave an image, a cut of its lines may leave the lines of that image
 pub Crash-seen : (r : Registers) (cuts : ℕ) (n : Device) (g : List Block) → IsLevelled r cuts n → Crash n g → Crash (seen r n) (unmapped g)
 Crash-seen r cuts n g i c =
     let e = unmapped-left r cuts n g i c in
@@ -102,7 +103,7 @@ IsLevelled-cut r cuts pick old g i c =
       room = i.room;
     }
 
--- and that is seen as a cut
+-- a cut of the inner device is a cut of its lines
 pub seen-cut : (r : Registers) (cuts pick : ℕ) (old : Device) (g : List Block) → IsLevelled r cuts old → Crash old g
     → seen (registers_in g) (cut_to old pick g) ≡ cut_to (seen r old) pick (unmapped g)
 seen-cut r cuts pick old g i c =

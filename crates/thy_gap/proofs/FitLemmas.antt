@@ -43,7 +43,7 @@ first-registers n start l =
     ∙ get_or-append_right zeros (b ∷ []) (n + 1 - length start) (n + 1 - length start) zero_block many (omega arith)
     ∙ ap (λ k. block_at (b ∷ []) k) none
 
--- its lines are the blocks of the start and zeros
+-- the lines of the first image are the blocks of the start, and zeros
 pub first-line : (n : ℕ) (start : List Block) (x : ℕ) → length start ≤ n → x < n
     → block_at (first_image n start) x ≡ block_at (start ++ replicate (n - length start) zero_block) x
 first-line n start x l lx =

@@ -58,7 +58,7 @@ Tells-no_more r old new b t no_more = record {
   copied = λ ne. IsCopied-no_more r old new (t.copied ne) (no_more r.gap) (no_more (source r));
 }
 
--- a device that is down stays levelled where its registers tell the same
+-- a device that is down stays levelled if its registers say the same
 pub IsLevelled-parts : (r : Registers) (cuts : ℕ) (old new : Device) → IsLevelled r cuts old → length new.image ≡ length old.image → new.left ≡ old.left → new.left_room ≡ old.left_room
     → new.down ≡ true → ((b : Block) → MayLeave new (r.lines + 1) b → Tells r new b) → IsLevelled r cuts new
 IsLevelled-parts r cuts old new i blocks left room down tells = record {
@@ -75,7 +75,7 @@ pub IsLevelled-down : (r : Registers) (cuts : ℕ) (old new : Device) → IsLeve
     → ((b : Block) → MayLeave new (r.lines + 1) b → Tells r new b) → IsLevelled r cuts new
 IsLevelled-down r cuts old new i f down tells = IsLevelled-parts r cuts old new i f.blocks f.left f.left_room down tells
 
--- of a fit only the count of fits need be kept
+-- a device whose fit failed stays levelled, whatever its count of fits
 pub IsLevelled-failed_to_fit : (r : Registers) (cuts k : ℕ) (old new : Device) → IsLevelled r cuts old → IsFramed (record old { fits = k }) new → HasFailed old new → IsLevelled r cuts new
 IsLevelled-failed_to_fit r cuts k old new i f failed =
     IsLevelled-parts r cuts old new i f.blocks f.left f.left_room failed.down

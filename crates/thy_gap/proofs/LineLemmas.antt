@@ -37,7 +37,7 @@ place-past_gap r x e = omega (arith, e, stepped-cases r.gap (wrapped r.lines (x 
 
 -- ---- the line of a place
 
--- the line, where there is one
+-- the line at a place, if there is one
 abbrev pub unplaced : Registers → ℕ → ℕ
 unplaced r y = wrapped r.lines (unstepped r.gap y + (r.lines - r.start))
 
@@ -60,7 +60,7 @@ line_at-past r y l = elim (cases_eq y r.gap) as (λ _. line_at r y ≡ None) [
       ∙ ap (λ t. if t then None else Some (unplaced r y)) (lt-ltb r.lines y l)
 ]
 
--- of two maps each is the other's inverse
+-- the line of a line's place is that line
 unplaced-place : (r : Registers) (x : ℕ) → IsWhole r → x < r.lines → unplaced r (place r x) ≡ x
 unfolding place
 unplaced-place r x w l =

@@ -32,7 +32,7 @@ put_down-other n at block x e other l =
     ∙ newest-written_to_other n at block x other l
     ∙ newest-empty n x e
 
--- one that failed at its barrier
+-- a write and a barrier, of which the barrier failed, have failed as a write
 pub failed_to_put : (at : ℕ) (block : Block) (old mid new : Device) → mid ≡ written_to old at block → HasFailed mid new → HasFailedToWrite at block old new
 failed_to_put at block old mid new e failed = record {
   down = failed.down;
@@ -44,7 +44,7 @@ failed_to_put at block old mid new e failed = record {
 pub rest-possible : (n : Device) (x : ℕ) (b : Block) → n.queue ≡ [] → MayLeave n x b → block_at n.image x ≡ b
 rest-possible n x b e h = sym (MayLeave-landed n x b (ap (λ (q : List Write). queued_for q x) e) h)
 
--- so a cut leaves the registers in hand
+-- a cut of a device at rest leaves the registers in hand
 pub rest-quiet : (r : Registers) (n : Device) → n.queue ≡ [] → block_at n.image (r.lines + 1) ≡ registers_block r → IsQuiet r n
 rest-quiet r n e here = record {
   lines = subst (λ (q : List Write). All (λ (w : Write). is_some (line_at r w.at) ≡ true) q) (sym e) (All-nil (λ (w : Write). is_some (line_at r w.at) ≡ true));
@@ -65,7 +65,7 @@ rest-settled r cuts n i up whole =
 
 -- ---- a move that failed
 
--- at the copy's read
+-- a move failed at the copy's read
 pub failed_at_read : (r : Registers) (old new : Device) → IsAtRest r old → HasFailed old new → HasFailedToMove r old new
 failed_at_read r old new rest failed = record {
   down = failed.down;
@@ -73,7 +73,7 @@ failed_at_read r old new rest failed = record {
   registers = λ b h. Tells-in_hand r new b rest.whole ((rest-quiet r old rest.empty rest.in_hand).in_hand b (failed.no_more (r.lines + 1) b h));
 }
 
--- at the copy's write or barrier
+-- a move failed at the copy's write or barrier
 pub failed_at_copy : (r : Registers) (old new : Device) (c : Block) → IsAtRest r old → HasFailedToWrite r.gap c old new → HasFailedToMove r old new
 failed_at_copy r old new c rest failed = record {
   down = failed.down;
@@ -125,7 +125,7 @@ failed_at_registers r old mid new c rest is e failed =
 
 -- ---- a move that is done
 
--- what stands where
+-- after a move the copied line stands at the old gap
 pub moved-at_gap : (r : Registers) (n : Device) → IsAtRest r n → block_at (line_moved r n).image r.gap ≡ newest n (source r)
 moved-at_gap r n rest =
     let m : Device = put_down r.gap (newest n (source r)) n in
@@ -152,7 +152,7 @@ moved-registers r n rest =
     let len : length m.image ≡ length n.image = length-settled (written_to n r.gap (newest n (source r))) ∙ length-written_to n r.gap (newest n (source r)) in
     put_down-here m (r.lines + 1) (registers_block (moved r)) (omega (arith, len, rest.blocks))
 
--- every line is seen as before
+-- every line is as before after a move
 pub seen-moved : (r : Registers) (n : Device) → IsAtRest r n → seen (moved r) (line_moved r n) ≡ seen r n
 seen-moved r n rest =
     let image : unmap (moved r) (line_moved r n).image ≡ unmap r n.image =
@@ -190,7 +190,7 @@ IsLevelled-moved r cuts n rest i =
 pub IsLevelled-failed_to_move : (r : Registers) (cuts : ℕ) (old new : Device) → IsLevelled r cuts old → IsFramed old new → HasFailedToMove r old new → IsLevelled r cuts new
 IsLevelled-failed_to_move r cuts old new i f failed = IsLevelled-down r cuts old new i f failed.down failed.registers
 
--- and no line may hold more
+-- a move that failed lets no line hold more than before
 pub HasFailed-moving : (r : Registers) (old new : Device) → IsWhole r → HasFailedToMove r old new → HasFailed (seen r old) (seen r new)
 HasFailed-moving r old new w failed = record {
   down = failed.down;

@@ -41,14 +41,14 @@ Tells-moved r n b w e copied =
       copied = λ _. copied;
     }
 
--- what a block tells
+-- what a block of registers says: the registers in hand, or the next ones
 pub Tells-cases : (r : Registers) (n : Device) (b : Block) → Tells r n b → (b ≡ registers_block r) ⊎ ((b ≡ registers_block (moved r)) × IsCopied r n)
 Tells-cases r n b t = elim (cases_eq (word_of b 2) r.gap) as (λ _. (b ≡ registers_block r) ⊎ ((b ≡ registers_block (moved r)) × IsCopied r n)) [
   | inl e ↦ inl (t.in_hand e)
   | inr ne ↦ inr (t.moved_on ne, t.copied ne)
 ]
 
--- what is copied stays so where no more is possible at gap and source
+-- what is copied stays so if no more is possible at gap and source
 pub IsCopied-no_more : (r : Registers) (old new : Device) → IsCopied r old
     → ((b : Block) → MayLeave new r.gap b → MayLeave old r.gap b)
     → ((b : Block) → MayLeave new (source r) b → MayLeave old (source r) b)

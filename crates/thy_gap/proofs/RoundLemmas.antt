@@ -59,7 +59,7 @@ moves-around r =
     let none : r.gap - r.gap ≡ 0 = omega arith in
     ap moved (moves-down r r.gap (omega arith) ∙ ap (gap_at r) none) ∙ moved-around r
 
--- and those behind it
+-- moves after the one around the end
 pub moves-on : (r : Registers) (k : ℕ) → k ≤ r.lines → moved_times (k + suc r.gap) r ≡ gap_at (turned r) (r.lines - k)
 moves-on r zero l =
     let same : r.lines ≡ r.lines - 0 = omega arith in
@@ -72,7 +72,7 @@ moves-on r (suc k) l =
     ∙ ap moved (moves-on r k (omega (arith, l)) ∙ ap (gap_at (turned r)) less)
     ∙ moved-down (turned r) (r.lines - suc k)
 
--- a round
+-- the registers after a round
 pub round_of : (r : Registers) → IsWhole r → moved_times (r.lines + 1) r ≡ gap_at (turned r) r.gap
 round_of r w =
     let many : r.lines + 1 ≡ r.lines - r.gap + suc r.gap = omega (arith, w.gap) in
@@ -93,7 +93,7 @@ round-shifts r x w l =
     omega (arith, w.start, l, wrapped-cases r.lines (r.start + 1), wrapped-cases r.lines (x + 1), wrapped-cases r.lines (x + s), wrapped-cases r.lines (z + r.start)) in
     ap (λ (q : Registers). place q x) (round_of r w) ∙ ap (stepped r.gap) same ∙ ap (place r) (wrapped-is r.lines (x + 1) (omega (arith, l)))
 
--- a line is at the source where the gap is behind it
+-- a line is at the source if the gap comes right after it
 at_source : (r : Registers) (x t : ℕ) → wrapped r.lines (x + r.start) ≡ t → place (gap_at r (suc t)) x ≡ source (gap_at r (suc t))
 unfolding place
 at_source r x t e =
@@ -104,14 +104,14 @@ at_source r x t e =
     ∙ less
     ∙ ap (λ b. if b then r.lines else suc t - 1) (sym ne)
 
--- and at the end where the gap is at the first place
+-- if the gap is at the first place, the line at the last place is at the source
 at_end : (r : Registers) (x t : ℕ) → wrapped r.lines (x + r.start) ≡ t → suc t ≡ r.lines → place (gap_at r 0) x ≡ source (gap_at r 0)
 unfolding place
 at_end r x t e last =
     let one : t + 1 ≡ r.lines = omega (arith, last) in
     ap (stepped 0) e ∙ ap (λ b. if b then t else t + 1) (le-ltb t 0 (omega arith)) ∙ one
 
--- each line is at the source once
+-- each line is at the source once in a round
 pub round-moves_each : (r : Registers) (x : ℕ) → IsWhole r → x < r.lines → (k : ℕ) × (k ≤ r.lines) × (place (moved_times k r) x ≡ source (moved_times k r))
 round-moves_each r x w l =
     let t : ℕ = wrapped r.lines (x + r.start) in
@@ -125,7 +125,7 @@ round-moves_each r x w l =
           (k, omega (arith, w.gap), subst (λ (q : Registers). place q x ≡ source q) (sym is) (at_source r x t refl))
       | inr behind ↦ elim (cases_eq (suc t) r.lines) as (λ _. (k : ℕ) × (k ≤ r.lines) × (place (moved_times k r) x ≡ source (moved_times k r))) [
         | inl last ↦
-            -- it is the last one, when the gap is at the first place
+            -- the line is the last one, when the gap is at the first place
             let none : r.gap - r.gap ≡ 0 = omega arith in
             let is : moved_times r.gap r ≡ gap_at r 0 = moves-down r r.gap (omega arith) ∙ ap (gap_at r) none in
             (r.gap, w.gap, subst (λ (q : Registers). place q x ≡ source q) (sym is) (at_end r x t refl last))

@@ -26,7 +26,7 @@ block_at-unmap r g x l = get_or-map-range_with_len (λ x. block_at g (place r x)
 pub block_at-unmap_past : (r : Registers) (g : List Block) (x : ℕ) → r.lines ≤ x → block_at (unmap r g) x ≡ zero_block
 block_at-unmap_past r g x l = get_or_past (unmap r g) x zero_block (omega (arith, l, length-unmap r g))
 
--- what is seen through registers is this list, where each of its blocks is
+-- the image through registers is this list, if each of its blocks is where they say
 pub unmap-is : (r : Registers) (g h : List Block) → length h ≡ r.lines → ((x : ℕ) → x < r.lines → block_at g (place r x) ≡ block_at h x) → unmap r g ≡ h
 unmap-is r g h same each =
     ext_get_or zero_block (unmap r g) h (length-unmap r g ∙ sym same)
@@ -67,7 +67,7 @@ unmap-set r g at b (Some z) w len h =
     ∙ ap (λ c. if z == x then b else c) (sym (block_at-unmap r g x l))
     ∙ sym (block_at-set (unmap r g) z b x (omega (arith, l, length-unmap r g))))
 
--- many
+-- many writes of the inner device
 pub unmap-applied : (r : Registers) (g : List Block) (ws : List Write) → IsWhole r → length g ≡ r.lines + 2
     → unmap r (applied g ws) ≡ applied (unmap r g) (unmap_queue r ws)
 unmap-applied r g [] w len = refl
@@ -194,7 +194,7 @@ pub zero_left : (r : Registers) (n : Device) (x : ℕ) → IsWhole r → r.lines
 zero_left r n x w l =
     MayLeave-possible (seen r n) x zero_block (subst (λ (q : List Block). Contains q zero_block) (sym (possible-seen_past r n x w l)) (Contains-push [] zero_block))
 
--- where no line may hold more, nothing that is seen may
+-- if no line may hold more in the inner device, none may hold more through the registers
 pub no_more-seen : (r : Registers) (old new : Device) → IsWhole r
     → ((x : ℕ) (b : Block) → x < r.lines → MayLeave new (place r x) b → MayLeave old (place r x) b)
     → HoldsNoMore (seen r old) (seen r new)
@@ -231,7 +231,7 @@ seen-with_queued r n x b w l =
     (unmap_queue-append r n.queue (write_of (place r x) b ∷ [])
     ∙ ap (λ o. unmap_queue r n.queue ++ (write_to o b ++ [])) (line_at-place r x w l))
 
--- as many writes have to land
+-- the lines' queue has to let the same number of writes land as the inner device's
 pub surplus-seen : (r : Registers) (n : Device) → All (λ (w : Write). is_some (line_at r w.at) ≡ true) n.queue → surplus (seen r n) ≡ surplus n
 surplus-seen r n all = ap (λ k. if nat_lt k n.queue_room then 0 else 1) (length-unmap_queue r n.queue all)
 

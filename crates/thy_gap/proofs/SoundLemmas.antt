@@ -83,7 +83,7 @@ module _ {every since cuts : ℕ} {r : Registers} {n : Device} (i : IsSoundGap e
   pub place_inside : (x : ℕ) → x < r.lines → place r x < length n.image
   place_inside x l = let d = levelled_at x l in omega (arith, place-within r x d.whole l, d.blocks)
 
-  -- it stays sound where it stays levelled
+  -- a levelled device stays sound where it stays levelled
   pub sound_still : (new : Device) → (IsLevelled r cuts n → IsLevelled r cuts new) → IsSoundGap every r since cuts new
   sound_still new still = record { some = i.some; fitted = λ l. still (i.fitted l); no_registers = i.no_registers; no_writes = i.no_writes }
 
@@ -134,7 +134,7 @@ module _ {every since cuts : ℕ} {r : Registers} {n : Device} (i : IsSoundGap e
   pub queued_seen : 0 < r.lines → n.down ≡ false → length (seen r n).queue ≡ length n.queue
   queued_seen l up = length-unmap_queue r n.queue ((i.fitted l).quiet up).lines
 
-  -- where a write is seen to be queued, there was a fit
+  -- if a write to a line is queued, there was a fit
   pub fitted_where_queued : 0 < length (seen r n).queue → 0 < r.lines
   fitted_where_queued q = elim fitted_or_none as (λ _. 0 < r.lines) [ inl e ↦ absurd (omega (arith, q, none_queued e)) | inr l ↦ l ]
 
@@ -159,11 +159,11 @@ module _ {every since cuts : ℕ} {r : Registers} {n : Device} (i : IsSoundGap e
 
   -- ---- moves
 
-  -- a move is due only after a fit
+  -- a barrier has to move a line only after a fit
   pub fitted_where_due : every ≤ since → 0 < r.lines
   fitted_where_due due = elim fitted_or_none as (λ _. 0 < r.lines) [ inl e ↦ absurd (omega (arith, due, i.some, i.no_writes e)) | inr l ↦ l ]
 
-  -- what it asks for
+  -- what a barrier needs that moves a line
   pub due_parts : is_due n since every ≡ true → (n.whole ≡ true) × (every ≤ since)
   due_parts due =
       let both = and_parts n.whole (not (nat_lt since every)) due in

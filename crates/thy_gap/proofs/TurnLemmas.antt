@@ -22,11 +22,11 @@ start_at r s = record { lines = r.lines; start = s; gap = r.gap }
 whole-start : (r : Registers) (s : ℕ) → IsWhole r → s < r.lines → IsWhole (start_at r s)
 whole-start r s w l = record { start = l; gap = w.gap; room = w.room }
 
--- one sum of products
+-- a product whose first factor is one more
 more_of : (a m : ℕ) → suc a * m ≡ m + a * m
 more_of a m = let e : a * m + m ≡ m + a * m = omega arith in suc-mul a m ∙ e
 
--- so many rounds turn the lines by as much
+-- j rounds turn the lines by j places
 rounds : (r : Registers) (j s : ℕ) → IsWhole r → s < r.lines → j ≤ r.lines
     → moved_times (j * (r.lines + 1)) (start_at r s) ≡ start_at r (wrapped r.lines (s + j))
 rounds r zero s w l few =
@@ -44,7 +44,7 @@ rounds r (suc j) s w l few =
     ∙ round_of (start_at r here) (whole-start r here w below)
     ∙ ap (start_at r) next
 
--- after so many rounds a line is at a place
+-- after a number of rounds, fewer than there are lines, a line is at a place
 record Comes (r : Registers) (x y : ℕ) : Type 0 where
   times : ℕ
   turn : ℕ
@@ -53,7 +53,7 @@ record Comes (r : Registers) (x y : ℕ) : Type 0 where
   after : moved_times (times * (r.lines + 1)) r ≡ start_at r turn
   here : place (start_at r turn) x ≡ y
 
--- which is any place but the gap
+-- a line comes to any place but the gap
 comes-beside_gap : (r : Registers) (x y : ℕ) → IsWhole r → x < r.lines → y ≢ r.gap → y ≤ r.lines → Comes r x y
 unfolding place
 comes-beside_gap r x y w l other within =
@@ -77,7 +77,7 @@ comes-beside_gap r x y w l other within =
 one_less : (a b c m : ℕ) → c ≡ m + a → c ≤ b → 0 < m → suc a ≤ b
 one_less a b c m e l some = omega (arith, e, l, some)
 
--- and to the gap it comes by one move more
+-- each line comes to each place, the gap included, within n * (n + 1) moves of n lines
 pub each-place_comes : (r : Registers) (x y : ℕ) → IsWhole r → x < r.lines → y ≤ r.lines
     → (k : ℕ) × (k ≤ r.lines * (r.lines + 1)) × (place (moved_times k r) x ≡ y)
 each-place_comes r x y w l within =

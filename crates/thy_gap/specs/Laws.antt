@@ -17,7 +17,7 @@ PlaceIsOneToOne =
 abbrev pub PlaceIsBesideGap : Type 0
 PlaceIsBesideGap = (r : Registers) (x : ℕ) → IsWhole r → x < r.lines → (place r x ≤ r.lines) × (place r x ≢ r.gap)
 
--- and every other place has a line
+-- every place but the gap has a line
 abbrev pub PlaceIsOnto : Type 0
 PlaceIsOnto =
     (r : Registers) (y : ℕ) → IsWhole r → y ≢ r.gap → y ≤ r.lines → (x : ℕ) × (x < r.lines) × (place r x ≡ y)
@@ -32,7 +32,7 @@ MoveMovesOne =
 abbrev pub GapMoves : Type 0
 GapMoves = (r : Registers) → IsWhole r → (moved r).gap ≡ source r
 
--- registers in range stay so
+-- registers in range stay in range
 abbrev pub MovedIsWhole : Type 0
 MovedIsWhole = (r : Registers) → IsWhole r → IsWhole (moved r)
 
@@ -42,19 +42,19 @@ RoundRotates =
     (r : Registers) → IsWhole r
     → moved_times (r.lines + 1) r ≡ record r { start = (r.start + 1) % r.lines }
 
--- so each line is at the place that the next one had
+-- after a round each line is at the place that the next line had
 abbrev pub RoundShiftsLines : Type 0
 RoundShiftsLines =
     (r : Registers) (x : ℕ) → IsWhole r → x < r.lines
     → place (moved_times (r.lines + 1) r) x ≡ place r ((x + 1) % r.lines)
 
--- and each line has moved
+-- within a round each line is moved
 abbrev pub RoundMovesEach : Type 0
 RoundMovesEach =
     (r : Registers) (x : ℕ) → IsWhole r → x < r.lines
     → (k : ℕ) × (k ≤ r.lines) × (place (moved_times k r) x ≡ source (moved_times k r))
 
--- within as many rounds as there are lines, each line comes to each place
+-- with n lines, each line comes to each place within n rounds
 abbrev pub EachPlaceComes : Type 0
 EachPlaceComes =
     (r : Registers) (x y : ℕ) → IsWhole r → x < r.lines → y ≤ r.lines

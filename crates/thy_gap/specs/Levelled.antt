@@ -19,14 +19,14 @@ pub record Levelled (N : Type 0) : Type 0 where
   pub registers : Registers
   -- how many writes succeeded since the last move of a line, or the fit; it saturates
   pub since : ℕ
-  -- how many cuts there were since the last fit
+  -- how many cuts a device has had since the last fit
   pub cuts : ℕ
 
--- before it is fitted
+-- a device before it is fitted
 abbrev pub over : {N : Type 0} → N → ℕ → Levelled N
 over inner every = record { inner = inner; every = every; registers = no_lines; since = 0; cuts = 0 }
 
--- what is seen of it
+-- the device of lines that the inner device means, by the registers in hand
 abbrev pub shown : {N : Type 0} → (N → Device) → Levelled N → Device
 shown device g = seen g.registers (device g.inner)
 
@@ -44,7 +44,7 @@ first_image n start = start ++ (replicate (n + 1 - length start) zero_block ++ r
 abbrev pub inner_fitted : Shape → List Block → Device → Device
 inner_fitted shape start n = fitted (inner_shape shape) (first_image shape.blocks start) n
 
--- after a call that leaves registers and counts alone
+-- a levelled device after a call that leaves registers and counts alone
 abbrev pub IsOver : {N : Type 0} → Levelled N → Levelled N → Type 0
 IsOver old new = new ≡ record old { inner = new.inner }
 
@@ -52,16 +52,16 @@ IsOver old new = new ≡ record old { inner = new.inner }
 abbrev pub HasFitted : {N : Type 0} → ℕ → Levelled N → Levelled N → Type 0
 HasFitted n old new = new ≡ record old { inner = new.inner; registers = unmoved n; since = 0; cuts = 0 }
 
--- after a write
+-- a levelled device after a write
 abbrev pub HasWritten : {N : Type 0} → ℕ → Levelled N → Levelled N → Type 0
 HasWritten since old new = new ≡ record old { inner = new.inner; since = since }
 
--- When a barrier moves a line over this inner device: enough writes were made, and its blocks land whole. A move can change two words of the
--- registers' block, so over a device that may tear a block none is ever due.
+-- When a barrier moves a line over this inner device: enough writes were made, and its blocks land whole. A move can
+-- change two words of the registers' block, so over a device that may tear a block none is ever made.
 abbrev pub is_due : Device → ℕ → ℕ → Bool
 is_due n since every = n.whole && not (nat_lt since every)
 
--- after a barrier: one line has moved, exactly if a move was due
+-- after a barrier: one line has moved, exactly if the barrier had to move one
 abbrev pub HasMovedIfDue : {N : Type 0} → Bool → Levelled N → Levelled N → Type 0
 HasMovedIfDue due old new = new ≡ record old {
   inner = new.inner;
@@ -69,16 +69,16 @@ HasMovedIfDue due old new = new ≡ record old {
   since = if due then 0 else old.since;
 }
 
--- and what that makes of the inner device
+-- the inner device after a barrier: all writes have landed, and one line has moved if a move was called for
 abbrev pub settled_and_moved : {N : Type 0} → Levelled N → Device → Device
 settled_and_moved g n = if is_due n g.since g.every then line_moved g.registers (settled n) else settled n
 
--- The writes that count towards the next move after a cut, with these registers before it and those of the image that it
--- left: none if the cut completed a move that had failed, which takes the gap to another place.
+-- how many writes count towards the next move after a cut, by the registers before it and in the image that it left:
+-- none if the cut completed a move that had failed, which takes the gap to another place
 abbrev pub counted_on : Registers → Registers → ℕ → ℕ
 counted_on before left since = if left.gap == before.gap then since else 0
 
--- after a cut that left this inner image: the registers are those of the image
+-- after a cut that left this inner image, the registers are the ones in the image
 abbrev pub HasCut : {N : Type 0} → List Block → Levelled N → Levelled N → Type 0
 HasCut image old new = new ≡ record old {
   inner = new.inner;

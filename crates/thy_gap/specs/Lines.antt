@@ -22,7 +22,7 @@ wrapped n p = if nat_lt p n then p else p - n
 abbrev pub stepped : ℕ → ℕ → ℕ
 stepped gap p = if nat_lt p gap then p else p + 1
 
--- and back
+-- the number that steps over the gap to y: the inverse of `stepped`
 abbrev pub unstepped : ℕ → ℕ → ℕ
 unstepped gap y = if nat_lt y gap then y else y - 1
 
@@ -47,16 +47,16 @@ moved r = record {
   gap = source r;
 }
 
--- after so many moves
+-- the registers after some number of moves
 abbrev pub moved_times : ℕ → Registers → Registers
 moved_times zero r = r
 moved_times (suc k) r = moved (moved_times k r)
 
--- before a fit there are no lines
+-- the registers before a fit: there are no lines
 abbrev pub no_lines : Registers
 no_lines = record { lines = 0; start = 0; gap = 0 }
 
--- after a fit each line is at its own place
+-- the registers after a fit: each line is at its own place
 abbrev pub unmoved : ℕ → Registers
 unmoved n = record { lines = n; start = 0; gap = n }
 
@@ -70,7 +70,7 @@ gap_magic = little_number 8 (codes "THYNGAP1")
 abbrev pub registers_block : Registers → Block
 registers_block r = block_of (gap_magic ∷ r.start ∷ r.gap ∷ 0 ∷ 0 ∷ 0 ∷ 0 ∷ 0 ∷ [])
 
--- the registers in a block, for so many lines
+-- the registers in a block, for a number of lines
 abbrev pub registers_of : ℕ → Block → Registers
 registers_of n b = record { lines = n; start = word_of b 1; gap = word_of b 2 }
 

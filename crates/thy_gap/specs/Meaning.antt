@@ -8,10 +8,10 @@ use Rattle.thy_gap.specs.Seen.{unmapped}
 abbrev pub ImageMeansSeen : Device → Device → Type 0
 ImageMeansSeen inner shown = 0 < length shown.image → unmapped inner.image ≡ shown.image
 
--- what a cut may leave of the inner device means what a cut may leave of what is seen
+-- what a cut may leave of the inner device means what a cut may leave of the device of lines
 abbrev pub CrashMeansSeen : Device → Device → Type 0
 CrashMeansSeen inner shown = 0 < length shown.image → (g : List Block) → Crash inner g → Crash shown (unmapped g)
 
--- the images kept mean those that are seen to be kept
+-- the images that cuts left of the inner device mean those that they left of the device of lines
 abbrev pub LeftMeansSeen : Device → Device → Type 0
 LeftMeansSeen inner shown = 0 < length shown.image → map unmapped inner.left ≡ shown.left

@@ -5,7 +5,7 @@ use Rattle.thy_base.specs.Device.{Device, newest, settled, written_to}
 use Rattle.thy_gap.specs.declared.registers.Registers.{Registers}
 use Rattle.thy_gap.specs.Lines.{source, moved, registers_block}
 
--- after a write and a barrier
+-- a device after a write and a barrier
 abbrev pub put_down : ℕ → Block → Device → Device
 put_down at block n = settled (written_to n at block)
 

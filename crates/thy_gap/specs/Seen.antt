@@ -12,7 +12,7 @@ use Rattle.thy_gap.specs.Lines.{place, line_at, registers_in}
 abbrev pub unmap : Registers → List Block → List Block
 unmap r image = map (λ x. block_at image (place r x)) (range_with_len 0 r.lines)
 
--- what an image means by its own registers
+-- the image of the lines that an inner image means by its registers
 abbrev pub unmapped : List Block → List Block
 unmapped g = unmap (registers_in g) g
 
@@ -26,7 +26,7 @@ abbrev pub unmap_queue : Registers → List Write → List Write
 unmap_queue r [] = []
 unmap_queue r (w ∷ ws) = write_to (line_at r w.at) w.block ++ unmap_queue r ws
 
--- what is seen of an inner device; before a fit it is an empty device
+-- the device of lines that an inner device means; before a fit it is empty
 abbrev pub seen : Registers → Device → Device
 seen r n = record n {
   image = unmap r n.image;

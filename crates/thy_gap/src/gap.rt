@@ -11,10 +11,10 @@ use std::alloc::{AllocError, Global};
 use std::marker::Model;
 use thy_base::{Block, FitError, Nvm, NvmError, Shape};
 
-/// A device of n blocks, its lines, over an inner device of n + 2. Whenever a number of writes were made, the next barrier
-/// moves one line by one place, so that a line that is written often wears each place in turn. The last place, that of the
-/// registers, does not wander: they are written there with each move. A move can change two words of their block, so over a
-/// device whose blocks do not land whole the lines stay where they are.
+/// A device of n blocks, its lines, over an inner device of n + 2. Whenever a number of writes were made, the next
+/// barrier moves one line by one place, so that a line that is written often wears each place in turn. The last place
+/// has the registers and does not wander: they are written there with each move. A move can change two words of their
+/// block, so over a device whose blocks do not land whole the lines stay where they are.
 #[derive(Drop)]
 pub struct Gap<N: Nvm> {
     inner: N,
@@ -75,8 +75,8 @@ impl<N: Nvm> Gap<N> {
         self.inner
     }
 
-    /// What an inner image means by its own registers is what is seen, also after a call that failed. This holds of the
-    /// current image, of each that a cut may leave, and of each that was kept.
+    /// What an inner image means by its own registers is the device of lines, also after a call that failed. This holds
+    /// of the current image, of each that a cut may leave, and of each that was kept.
     pub fn means_what_is_seen(&self)
         ensures image { ImageMeansSeen (N.device self.now.inner) (shown N.device self.now) }
         ensures crash { CrashMeansSeen (N.device self.now.inner) (shown N.device self.now) }
@@ -99,8 +99,8 @@ fn first_blocks(start: Vec<Block>, lines: u64) -> Result<Vec<Block>, AllocError>
     Ok(image)
 }
 
-/// How many writes count towards the next move after a cut, with these registers before it and those of the image that it
-/// left: none if the cut completed a move, which takes the gap to another place.
+/// How many writes count towards the next move after a cut, by the registers before it and the ones in the image that
+/// it left: none if the cut completed a move, which takes the gap to another place.
 fn counted_on(before: Registers, left: Registers, since: u64) -> u64
     ensures { result ≡ counted_on before left since }
 {
@@ -123,7 +123,7 @@ impl<N: Nvm> Nvm for Gap<N> {
 
     ghost device = { shown N.device };
 
-    /// The inner device's, which counts the moves too.
+    /// The writes of the inner device, with those that move lines.
     ghost writes = { λ g. N.writes g.inner };
 
     fn fit(&mut self, alloc: Global, shape: &Shape, start: Vec<Block>) -> Result<(), FitError>
@@ -246,8 +246,8 @@ impl<N: Nvm> Nvm for Gap<N> {
         Ok(())
     }
 
-    /// The registers are those of the image that is left: those in hand, or those of a move that failed and that the cut
-    /// completes. From such a move on the writes are counted anew.
+    /// The registers become the ones in the image that is left: they are unchanged, unless the cut completes a move
+    /// that failed. After such a move the count of writes begins again at 0.
     fn cut(&mut self, pick: u64)
         requires { length (shown N.device self.old).left < (shown N.device self.old).left_room }
         ensures cut { IsCut pick (shown N.device self.old) (shown N.device self.new) }

@@ -17,7 +17,7 @@ pub fn a_move_moves_one_line()
 {}
 
 /// One move more than there are lines brings the gap back. The start has grown by 1, so each line is at the place that
-/// the next one had, and has moved. Within as many rounds as there are lines, each line comes to each place.
+/// the next one had, and has moved. With n lines, each line comes to each place within n such rounds.
 pub fn a_round_of_moves_rotates_the_lines()
     ensures registers { RoundRotates }
     ensures lines { RoundShiftsLines }

@@ -19,7 +19,7 @@ pub struct Registers {
 }
 
 impl Registers {
-    /// No lines, as before a fit.
+    /// The registers of no lines, as before a fit.
     pub fn none() -> Registers
         ensures { result ≡ no_lines }
     {
@@ -30,7 +30,7 @@ impl Registers {
         }
     }
 
-    /// Each line at its own place, as after a fit.
+    /// The registers after a fit: each line is at its own place.
     pub fn unmoved(lines: u64) -> Registers
         ensures { result ≡ unmoved lines }
     {
@@ -72,7 +72,7 @@ impl Registers {
         }
     }
 
-    /// After one move.
+    /// The registers after one move.
     pub fn moved(&self) -> Registers
         requires { IsWhole self.now }
         ensures { result ≡ moved_on self.now }
@@ -98,14 +98,14 @@ impl Registers {
         if around { next } else { self.start }
     }
 
-    /// The block that holds them.
+    /// The block that holds the registers.
     pub fn block(&self) -> Block
         ensures { result ≡ registers_block self.now }
     {
         block_with(&[GAP_MAGIC, self.start, self.gap, 0, 0, 0, 0, 0])
     }
 
-    /// The registers in a block, for so many lines.
+    /// The registers in a block, for a number of lines.
     pub fn of_block(lines: u64, block: &Block) -> Registers
         ensures { result ≡ registers_of lines block.now }
     {

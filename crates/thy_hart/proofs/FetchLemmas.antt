@@ -42,7 +42,7 @@ fetch_aligned : (base size pc : ℕ) → fetch_fault base size pc ≡ None → p
 unfolding fetch_fault
 fetch_aligned base size pc h = multiple pc (aligned_by (pc % 4 == 0) (is_inside base size pc 4) h)
 
--- it lies within program memory, and within one block
+-- a word that can be fetched lies within program memory, and within one block
 pub record IsFetched (p : Parameters) (pc : ℕ) : Type 0 where
   pub low : p.base ≤ pc
   pub high : pc + 4 ≤ p.base + program_size p
@@ -73,7 +73,7 @@ offset-is p at r fits below =
     let pages : p.pages ≤ 65536 = r.1.0.1 in
     (omega (arith, base, pages, fits, below), omega (arith, base, pages, fits, below))
 
--- and a word can be fetched there if the offset is a multiple of four
+-- a word can be fetched at an offset inside, if it is a multiple of four
 pub offset-fetched : (p : Parameters) (pc : ℕ) → IsInRange p → pc < 2 ^ 64 → (pc + (2 ^ 64 - p.base)) % 2 ^ 64 < program_size p
     → ((pc + (2 ^ 64 - p.base)) % 2 ^ 64) % 4 ≡ 0 → fetch_fault p.base (program_size p) pc ≡ None
 unfolding fetch_fault
@@ -119,7 +119,7 @@ gathered-head blocks s short whole =
     ∙ ap (λ t. head_read blocks s ++ t) (sym (gathered-none blocks (rest_of s) (rest_of-none s whole)))
     ∙ gathered-rest blocks s short
 
--- their number
+-- the number in the bytes of a span within one block
 number_in_head : (block : Block) (at : Span) → at.len ≡ 4 → first_byte at + 4 ≤ 64
     → number_at 4 (head_in block at) 0 ≡ number_at 4 (block_bytes block) (first_byte at)
 number_in_head block at four whole =
@@ -159,7 +159,7 @@ effect_read p q size cpu c at word e now h same size_is reads means is blocks wh
     ∙ ap (within p.base (program_size p) cpu.other) (means ∙ ap (λ n. word_effect n cpu.pc cpu.regs) (here blocks inside))
     ∙ ap (λ f. unless_trapped f (within p.base (program_size p) cpu.other (word_effect number cpu.pc cpu.regs))) (sym h.0)
 
--- one that can't be fetched
+-- a word that can't be fetched has the effect of a trap
 pub effect_trapped : (p : Parameters) (cpu : CpuState) (memory : List Block) (cause : Cause) → IsFetchedSpan p cpu (Err cause) → effect_in p cpu memory ≡ Trap cause
 unfolding effect_in
 effect_trapped p cpu memory cause h =
@@ -180,12 +180,12 @@ pub unless_some : (o : Option Cause) (n b : ℕ) → unless_fault o n ≡ Some b
 unless_some None n b h = (refl, cc h)
 unless_some (Some cause) n b h = cc h
 
--- it is touched if there is no fault
+-- the block of a fetch is touched if there is no fault
 pub fetched_some : (p : Parameters) (cpu : CpuState) (at : Span) → IsFetchedSpan p cpu (Ok at) → fetched_block p cpu ≡ Some (first_block at)
 unfolding fetched_block
 fetched_some p cpu at h = ap (λ f. unless_fault f (first_block (span (cpu.pc - p.base) 4))) h.0 ∙ ap (λ s. Some (first_block s)) (sym h.1)
 
--- and none if there is one
+-- a fetch that faults touches no block
 pub fetched_not : (p : Parameters) (cpu : CpuState) (cause : Cause) → IsFetchedSpan p cpu (Err cause) → fetched_block p cpu ≡ None
 unfolding fetched_block
 fetched_not p cpu cause h = ap (λ f. unless_fault f (first_block (span (cpu.pc - p.base) 4))) h

@@ -51,7 +51,7 @@ on_the_way input now old new before after f sized fixed way clean written = reco
       ∙ ap (λ (p : Parameters). step (setting_for p input) now) (sym fixed);
 }
 
--- it retired
+-- after an instruction retired, the hart follows the plain machine
 has_come : (input : List ℕ) (now : State) (old new : HartState) (before after : List Block) → is_running old.cpu.status ≡ true → Follows input now old before → IsSized new after
     → HasCome input old before new after → Follows input (step (setting_for old.geometry input) now) new after
 has_come input now old new before after runs f sized come =
@@ -62,7 +62,7 @@ has_come input now old new before after runs f sized come =
       coming = λ running. next-coming input new after sized come.hand running ∙ ap (step (setting_for new.geometry input)) is;
     }
 
--- it was dropped
+-- after an instruction was dropped, the hart follows the plain machine
 was_dropped : (input : List ℕ) (now : State) (old new : HartState) (before after : List Block) → Follows input now old before → IsSized new after → new.geometry ≡ old.geometry
     → IsDropped old before new after → Follows input now new after
 unfolding current

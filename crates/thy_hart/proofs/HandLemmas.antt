@@ -41,7 +41,7 @@ begun_by P e from to reads writes ends =
     (λ some. writes (eqb-true from.len 0 none) (not_zero to.len some)))
     (λ some. reads (not_zero from.len some))
 
--- and of one that continues after a written block
+-- a fact of what an effect does that continues after a written block
 pub written_by : (P : Hand → Type 0) (e : Effect) (to : Span) (done : ℕ) → (0 < to.len → P (Writing e to done)) → (to.len ≡ 0 → P (Retiring e true))
     → P (written_on e to done)
 unfolding written_on
@@ -68,7 +68,7 @@ if_number P false x y p q = q refl
 pub blocks_of-most : (s : Span) → blocks_of s ≤ 2
 blocks_of-most s = if_number (λ n. n ≤ 2) ((rest_of s).len == 0) 1 2 (λ _. omega arith) (λ _. omega arith)
 
--- and in one at least
+-- a span lies in at least one block
 pub blocks_of-least : (s : Span) → 1 ≤ blocks_of s
 blocks_of-least s = if_number (λ n. 1 ≤ n) ((rest_of s).len == 0) 1 2 (λ _. omega arith) (λ _. omega arith)
 
@@ -113,7 +113,7 @@ begun-sound p e from to have h =
     record { span_to = h.span_to; some = some; least = omega (arith, h.least, ap (outgoing_len e) all); number = omega (arith, h.number) })
     (λ none end. omega (arith, h.number))
 
--- after a block that was read
+-- the hand is sound after a block was read
 pub read-sound : (p : Parameters) (e : Effect) (from to : Span) (block : Block) (old new : List ℕ) (hand : Hand) → IsReading p e from to (length old)
     → new ≡ old ++ head_in block from → hand ≡ begun e (rest_of from) to → IsInHand p hand (length new)
 read-sound p e from to block old new hand h bytes is =
@@ -130,7 +130,7 @@ read-sound p e from to block old new hand h bytes is =
     } in
     subst (λ x. IsInHand p x (length new)) (sym is) (begun-sound p e (rest_of from) to (length new) served)
 
--- after a block that was written
+-- the hand is sound after a block was written
 pub write-sound : (p : Parameters) (e : Effect) (to : Span) (done have : ℕ) (hand : Hand) → IsWriting p e to done have
     → hand ≡ written_on e (rest_of to) (done + head_len to) → IsInHand p hand have
 write-sound p e to done have hand h is =
@@ -154,7 +154,7 @@ read_len-enough x input c (Modify op rd width pc at v) = omega arith
 read_len-enough x input c Environment = omega arith
 read_len-enough x input c (Trap cause) = omega arith
 
--- after a fetch
+-- the hand is sound after a fetch
 pub fetch-sound : (p : Parameters) (input : List ℕ) (cpu : CpuState) (e : Effect) (calls : CallState) (bytes : List ℕ) (m : Moves) (hand : Hand)
     → IsInRange p → IsWithin p.base (program_size p) e → calls ≡ calls_in p cpu (length input) → bytes ≡ brings input cpu.regs calls e
     → m ≡ moves_of cpu.regs calls e → hand ≡ begun e m.from m.to → IsInHand p hand (length bytes)
@@ -180,7 +180,7 @@ if_hart_state : (P : HartState → Type 0) (b : Bool) (x y : HartState) → P x 
 if_hart_state P true x y p q = p
 if_hart_state P false x y p q = q
 
--- after a reservation, whatever comes of it
+-- the hart is sound after a reservation, whatever comes of it
 pub room_reserved-sound : (free dirty : ℕ) (under_way : Bool) (e : Effect) (to : Span) (old new : HartState) → IsSoundHart old → IsWriting old.geometry e to 0 (length old.bytes)
     → new ≡ room_reserved free under_way dirty e to old → IsSoundHart new
 unfolding room_reserved

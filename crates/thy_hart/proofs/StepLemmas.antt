@@ -73,7 +73,7 @@ begun-coming input h m e from to =
     (λ none some. ap (λ bs. led input h e bs (scattered m to (outgoing e bs))) (none_read none))
     (λ none end. ap (λ bs. led input h e bs m) (none_read none) ∙ ap (led input h e all) (sym (scattered-none m to (outgoing e all) end)))
 
--- one that continues after a written block reaches the same state as the rest of its bytes do
+-- an effect that continues after a written block reaches the same state as the rest of its bytes do
 pub written-coming : (input : List ℕ) (h : HartState) (m : List Block) (e : Effect) (to : Span) (done : ℕ)
     → coming_by input h m (written_on e to done) ≡ led input h e h.bytes (scattered m to (drop done (outgoing e h.bytes)))
 written-coming input h m e to done =
@@ -298,7 +298,7 @@ module _ (g : Given) (c d : Contents) (h : HartState) (m : List Block) where
       (record { leads = has_come; falls = tt; unwritten = λ _. refl; clean = λ _. refl; written = tt; others = λ b no. refl; fixed = refl; long = λ l. l; console = retire-console e })
       (record { leads = has_come; falls = tt; unwritten = λ _. refl; clean = λ _. refl; written = tt; others = λ b no. refl; fixed = refl; long = λ l. l; console = retire-console e })
 
-  -- and so each of them, by what is in hand
+  -- each micro-step does what its definition says, by what is in hand
   pub done_by : (dirty : ℕ) (hand : Hand) → IsInHand h.geometry hand (length h.bytes) → HitsNext c (block_for h.geometry h.cpu hand)
       → IsDone g c d (with_hand hand h) m (acted_by g dirty m (with_hand hand h) hand) (answer_by g dirty (with_hand hand h) hand) (memory_by h.bytes m hand)
   done_by dirty Nothing w hit = fetch-done hit

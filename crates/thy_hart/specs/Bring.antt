@@ -10,7 +10,7 @@ use Rattle.thy_cache.specs.Contents.{Contents, victim_of, dirty_count, filled_wi
 use Rattle.thy_cache.specs.Flat.{flat, Agrees}
 use Rattle.thy_hart.specs.Moments.{IsOpenFor, touch_steps}
 
--- fewer steps are left, or as many, and a copy less is owed
+-- fewer steps are left, or the same number with one copy less owed
 abbrev pub IsNearer : ℕ → Contents → Holding → Contents → Holding → Type 0
 IsNearer b old before new now =
     (touch_steps new b + 1 ≤ touch_steps old b) ⊎ ((touch_steps new b ≡ touch_steps old b) × (now.owed + 1 ≤ before.owed))

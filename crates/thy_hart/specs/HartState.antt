@@ -23,7 +23,7 @@ pub record HartState : Type 0 where
   pub epoch : Epoch
   -- what is next of the instruction in hand
   pub hand : Hand
-  -- its bytes: those that it brought along or has read
+  -- the bytes of the instruction in hand: what it brought along or has read
   pub bytes : List ℕ
 
 -- a hart that begins this epoch with no instruction in hand
@@ -36,7 +36,7 @@ blocks_of s = if (rest_of s).len == 0 then 1 else 2
 
 -- ---- the block that is touched next
 
--- no block is touched if the fetch faults
+-- the block that a fetch touches; none if the fetch faults
 abbrev pub unless_fault : Option Cause → ℕ → Option ℕ
 unless_fault None b = Some b
 unless_fault (Some cause) b = None
@@ -75,7 +75,7 @@ to_reserve (Reserving e to) = Some (blocks_of to)
 to_reserve (Writing e to done) = None
 to_reserve (Retiring e wrote) = None
 
--- it has reserved room for the blocks that it writes
+-- an instruction has reserved room for the blocks that it writes
 abbrev pub has_reserved : Hand → Bool
 has_reserved Nothing = false
 has_reserved (Reading e from to) = false
@@ -83,7 +83,7 @@ has_reserved (Reserving e to) = false
 has_reserved (Writing e to done) = true
 has_reserved (Retiring e wrote) = wrote
 
--- it has written a block
+-- an instruction has written a block
 abbrev pub has_written : Hand → Bool
 has_written Nothing = false
 has_written (Reading e from to) = false

@@ -30,7 +30,7 @@ store_of i = Write i.access.1 i.pc i.address i.value
 abbrev pub value_bytes : InHand → List ℕ
 value_bytes i = number_bytes (size_of i.access.1) i.value
 
--- what is next
+-- what is next of the instruction in hand
 abbrev pub hand_by : Stage → InHand → Hand
 hand_by Idle i = Nothing
 hand_by Jumps i = Retiring (Next i.pc) false
@@ -42,7 +42,7 @@ hand_by Stores i = Writing (store_of i) (span_of i.access) 0
 hand_by Stored i = Retiring (store_of i) true
 hand_by InPieces i = i.pieces
 
--- the bytes that it brought along or has read
+-- the bytes that an instruction in hand brought along or has read
 abbrev pub bytes_by : Stage → InHand → List ℕ
 bytes_by Idle i = []
 bytes_by Jumps i = []

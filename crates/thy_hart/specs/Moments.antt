@@ -23,7 +23,7 @@ moment hart cache held = record { hart = hart; cache = cache; held = held }
 abbrev pub memory_of : Moment → List Block
 memory_of m = flat m.cache m.held.blocks
 
--- the line of a block is not there, so it is brought before the block is touched
+-- the line of a block is not there, and has to be brought before the block is touched
 abbrev pub is_missing : Contents → Option ℕ → Bool
 is_missing c None = false
 is_missing c (Some b) = not (hits c b)
@@ -41,7 +41,7 @@ pub record IsOpenInTheWay (c : Contents) (b : ℕ) (page : Option ℕ) : Type 0 
   pub dirty : line.dirty ≡ true
   pub own : page ≡ Some (page_of line.at)
 
--- no page is being copied, or that of the line in the way of the block that is touched next
+-- no page is being copied, or only the page of the line in the way of the block that is touched next
 abbrev pub IsOpenFor : Contents → Option ℕ → Option ℕ → Type 0
 IsOpenFor c None page = page ≡ None
 IsOpenFor c (Some b) page = (page ≡ None) ⊎ IsOpenInTheWay c b page

@@ -69,7 +69,7 @@ pub record IsOnTheWay (input : List ℕ) (old : HartState) (before : List Block)
   pub cpu : new.cpu ≡ old.cpu
   pub coming : coming input new now ≡ coming input old before
 
--- what was to come is there
+-- the state is the one that was to come
 pub record HasCome (input : List ℕ) (old : HartState) (before : List Block) (new : HartState) (now : List Block) : Type 0 where
   pub current : current new now ≡ coming input old before
   pub hand : new.hand ≡ Nothing
@@ -81,7 +81,7 @@ pub record IsDropped (old : HartState) (before : List Block) (new : HartState) (
   pub memory : now ≡ before
   pub unwritten : has_written old.hand ≡ false
 
--- nothing has changed
+-- a hart's state and memory are as they were
 pub record IsUnmoved (old : HartState) (before : List Block) (new : HartState) (now : List Block) : Type 0 where
   pub hart : new ≡ old
   pub memory : now ≡ before
@@ -97,19 +97,19 @@ Leads Retired input old before new now = HasCome input old before new now
 Leads Waiting input old before new now = IsUnmoved old before new now
 Leads (Over cause) input old before new now = LeadsOver cause input old before new now
 
--- fewer steps are left, or as many, and a copy less is owed
+-- fewer steps are left, or the same number with one copy less owed
 abbrev pub ComesNearer : Moment → Moment → Type 0
 ComesNearer old new =
     (moves_left new + 1 ≤ moves_left old) ⊎ ((moves_left new ≡ moves_left old) × (new.held.owed + 1 ≤ old.held.owed))
 
--- the same if the hart moved
+-- a step in which the hart moved leaves less to do before the instruction retires
 abbrev pub Nears : HartStep → Moment → Moment → Type 0
 Nears Moved old new = ComesNearer old new
 Nears Retired old new = Unit {0}
 Nears Waiting old new = Unit {0}
 Nears (Over cause) old new = Unit {0}
 
--- what has been written stays so until the instruction retires
+-- while the hart moves, an instruction that has written a block remains one that has
 abbrev pub StaysWritten : HartStep → Hand → Hand → Type 0
 StaysWritten Moved old new = has_written new ≡ false → has_written old ≡ false
 StaysWritten Retired old new = Unit {0}
@@ -136,7 +136,8 @@ pub record IsStep (g : Given) (old new : Moment) (step : HartStep) : Type 0 wher
   pub clean : has_written new.hart.hand ≡ false → memory_of new ≡ memory_of old
   pub written : StaysWritten step old.hart.hand new.hart.hand
   pub others : (b : ℕ) → (next_block old.hart ≡ Some b → ⊥) → block_at (memory_of new) b ≡ block_at (memory_of old) b
-  -- exactly this cache: a line is brought nearer, or else that of the block that is touched was used last, and no other
+  -- exactly this cache: the line of the block that is touched is brought nearer, or else was used last, and nothing
+  -- else changes
   pub brought : (b : ℕ) → brings_line old ≡ true → next_block old.hart ≡ Some b
       → BringsLine (victim_of old.cache b) b old.cache old.held new.cache
   pub used : brings_line old ≡ false → new.cache ≡ cache_by old.cache old.hart old.hart.hand
@@ -152,7 +153,7 @@ pub record IsStep (g : Given) (old new : Moment) (step : HartStep) : Type 0 wher
   pub ready : IsReady new
   pub owed : new.held.owed ≤ old.held.owed
   pub closed : Closes step new.held
-  -- what stays
+  -- what every step keeps
   pub fixed : new.hart.geometry ≡ old.hart.geometry
   pub sized : KeepsSize old.cache new.cache
   pub long : AllLong (memory_of old) → AllLong (memory_of new)

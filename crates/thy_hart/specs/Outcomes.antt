@@ -35,7 +35,7 @@ unfoldable pub begun : Effect → Span → Span → Hand
 begun e from to =
     if from.len == 0 then (if to.len == 0 then Retiring e false else Reserving e to) else Reading e from to
 
--- it continues after a block that it wrote: there is another, or it retires
+-- an effect continues after a block that it wrote: there is another, or it retires
 unfoldable pub written_on : Effect → Span → ℕ → Hand
 written_on e to done = if to.len == 0 then Retiring e true else Writing e to done
 
@@ -72,7 +72,7 @@ room_reserved free under_way dirty e to h =
     then (if under_way then h else dropped (exhausted free dirty (blocks_of to) h.epoch) h)
     else record h { hand = Writing e to 0 }
 
--- and what the step returns
+-- what the step returns that reserves room, or waits for it, or ends the epoch
 unfoldable pub room_answer : ℕ → Bool → ℕ → Span → HartStep
 room_answer free under_way dirty to =
     if is_short free dirty to then (if under_way then Waiting else Over (Exhausted free dirty (blocks_of to))) else Moved
@@ -85,11 +85,11 @@ block_written e to done h = record h { hand = written_on e (rest_of to) (done + 
 abbrev pub cpu_retired : List ℕ → Effect → HartState → CpuState
 cpu_retired input e h = cpu_after h.geometry input h.cpu e h.bytes
 
--- the hart with it
+-- the hart after the instruction
 abbrev pub finished : List ℕ → Effect → HartState → HartState
 finished input e h = record h { cpu = cpu_retired input e h }
 
--- the epoch after it
+-- the epoch after the instruction
 abbrev pub epoch_retired : List ℕ → Effect → HartState → Epoch
 epoch_retired input e h = retired_once (is_running (cpu_retired input e h).status) h.epoch
 
@@ -103,7 +103,7 @@ over_or_retired (Some cause) = Over cause
 
 -- ---- the next one, by what is in hand
 
--- the hart
+-- the hart after the next micro-step
 abbrev pub acted_by : Given → ℕ → List Block → HartState → Hand → HartState
 acted_by g dirty memory h Nothing = fetched g.input memory h
 acted_by g dirty memory h (Reading e from to) = block_read memory e from to h
@@ -111,7 +111,7 @@ acted_by g dirty memory h (Reserving e to) = room_reserved g.free g.under_way di
 acted_by g dirty memory h (Writing e to done) = block_written e to done h
 acted_by g dirty memory h (Retiring e wrote) = retired g.input e h
 
--- what the step returns
+-- what the next micro-step returns
 abbrev pub answer_by : Given → ℕ → HartState → Hand → HartStep
 answer_by g dirty h Nothing = Moved
 answer_by g dirty h (Reading e from to) = Moved
@@ -119,7 +119,7 @@ answer_by g dirty h (Reserving e to) = room_answer g.free g.under_way dirty to
 answer_by g dirty h (Writing e to done) = Moved
 answer_by g dirty h (Retiring e wrote) = over_or_retired (epoch_retired g.input e h).over
 
--- memory
+-- memory after the next micro-step
 abbrev pub memory_by : List ℕ → List Block → Hand → List Block
 memory_by bytes memory Nothing = memory
 memory_by bytes memory (Reading e from to) = memory
@@ -132,7 +132,7 @@ abbrev pub touched : Contents → Option ℕ → Contents
 touched c None = c
 touched c (Some b) = read_from b c
 
--- the cache after those of these bytes were written that fall into the first block of a span
+-- the cache after the bytes that fall into the first block of a span were written
 abbrev pub written_by : Contents → Span → List ℕ → Contents
 written_by c to bytes = written_at (first_block to) (first_byte to) (take (head_len to) bytes) c
 

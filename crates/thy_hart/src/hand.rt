@@ -23,18 +23,18 @@ pub enum Hand {
         from: Span,
         to: Span,
     },
-    /// It reserves room for the blocks that it will write.
+    /// The instruction reserves room for the blocks that it will write.
     Reserving {
         effect: Effect,
         to: Span,
     },
-    /// It writes at `to`, after `done` bytes that it has written.
+    /// The instruction writes at `to`, after `done` bytes that it has written.
     Writing {
         effect: Effect,
         to: Span,
         done: u64,
     },
-    /// It retires, and has written a block or has not.
+    /// The instruction retires, and has written a block or has not.
     Retiring {
         effect: Effect,
         wrote: bool,
@@ -59,7 +59,7 @@ pub enum HartStep {
 pub(crate) enum MicroStep {
     /// The line of this block, which it touches, is missing. Nothing was done.
     Missing(u64),
-    /// It was taken, and the step of the hart ends so.
+    /// The micro-step was taken, and the step of the hart ends so.
     Taken(HartStep),
 }
 

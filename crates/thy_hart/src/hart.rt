@@ -71,7 +71,7 @@ impl Hart {
         &self.parts.epoch
     }
 
-    /// The geometry of its machine.
+    /// The geometry of the hart's machine.
     pub fn geometry(&self) -> &Geometry
         ensures { result.now ≡ self.now.geometry }
     {
@@ -94,7 +94,7 @@ impl Hart {
         self.parts.epoch.sealed();
     }
 
-    /// Puts the other hart in front, if there are two, while no instruction is in hand.
+    /// Brings the other hart to the front, if there are two, while no instruction is in hand.
     pub fn cross(&mut self)
         requires { self.old.hand ≡ Nothing }
         ensures { self.new ≡ record self.old { cpu = cpu_crossed self.old.cpu } }

@@ -38,7 +38,7 @@ impl Model for Access {
 }
 
 impl Access {
-    /// These bytes, if they lie within one block.
+    /// The access to these bytes, if they lie within one block.
     #[inline(always)]
     pub(crate) fn within_block(at: u64, width: Width) -> Option<Access>
         ensures access { IfSome result (λ access. access ≡ (at, width)) }
@@ -51,7 +51,7 @@ impl Access {
         }
     }
 
-    /// Their span.
+    /// The span of the bytes.
     #[inline(always)]
     pub(crate) fn span(&self) -> Span
         ensures span { result ≡ span_of self.now }
@@ -63,7 +63,7 @@ impl Access {
         }
     }
 
-    /// How many they are.
+    /// How many bytes are moved.
     #[inline(always)]
     pub(crate) fn width(&self) -> Width
         ensures { result ≡ self.now.1 }
@@ -77,21 +77,21 @@ impl Access {
 pub(crate) enum Stage {
     /// No instruction is in hand: it fetches the next one.
     Idle,
-    /// It retires an instruction that does nothing but continue at `pc`.
+    /// An instruction retires that does nothing but continue at `pc`.
     Jumps,
-    /// It retires one that sets `rd` to `value`.
+    /// An instruction retires that sets `rd` to `value`.
     Sets,
-    /// It reads the bytes of a load.
+    /// A load reads its bytes.
     Loads,
-    /// It retires a load, which has read the number `value`.
+    /// A load retires, which has read the number `value`.
     Loaded,
-    /// It reserves room for the block that a store of `value` writes.
+    /// A store of `value` reserves room for the block that it writes.
     Reserves,
-    /// It writes that block.
+    /// A store writes its block.
     Stores,
-    /// It retires the store, which has written.
+    /// A store retires, which has written.
     Stored,
-    /// What `pieces` names.
+    /// The instruction is at the step that `pieces` names.
     InPieces,
 }
 
@@ -107,7 +107,7 @@ pub(crate) struct InHand {
     pub pc: u64,
     /// The address of the bytes that are moved.
     pub address: u64,
-    /// These bytes.
+    /// The bytes that are moved.
     pub access: Access,
     /// What is set, was loaded or is stored.
     pub value: u64,
@@ -118,7 +118,7 @@ pub(crate) struct InHand {
 }
 
 impl InHand {
-    /// No instruction.
+    /// No instruction is in hand.
     pub(crate) fn nothing() -> InHand
         ensures { result.stage ≡ Idle }
     {

@@ -33,7 +33,7 @@ use thy_isa::{
 };
 
 impl HartParts {
-    /// What an environment call depends on in addition to the registers, with an input of so many bytes.
+    /// What an environment call depends on in addition to the registers, with an input of this length.
     fn calls(&self, input_len: u64) -> CallState
         ensures calls { result ≡ calls_in self.now.geometry self.now.cpu input_len }
         ensures fits { AreCallsOf self.now.cpu result }
@@ -155,7 +155,8 @@ impl HartParts {
         HartStep::Over(EndCause::Exhausted { free, dirty, need })
     }
 
-    /// The same of the bytes that an effect makes of those that it has. Only an atomic memory operation makes new ones.
+    /// Writes the bytes that an effect makes of those that it has, as far as they fall into the first block of a span,
+    /// whose line is at this place. Only an atomic memory operation makes new bytes.
     fn put_outgoing(
         &self,
         cache: &mut Cache,
@@ -290,7 +291,7 @@ impl HartParts {
         self.ended()
     }
 
-    /// Takes its next micro-step.
+    /// Takes the next micro-step of the instruction in hand.
     fn act_on_pieces(
         &mut self,
         cache: &mut Cache,

@@ -14,7 +14,7 @@ use Rattle.thy_isa.proofs.MemoryBounds.{anywhere}
 use Rattle.thy_layout.specs.Files.{blocks_of}
 use Rattle.thy_layout.proofs.FileLemmas.{length-blocks_of, block_at-blocks_of}
 
--- each is whole
+-- each block of bytes is whole
 pub AllLong-blocks_of : (bytes : List ℕ) → AllLong (blocks_of bytes)
 AllLong-blocks_of bytes = record {
   each = λ k l. let inside : k < length bytes / 64 = omega (arith, length-blocks_of bytes) in

@@ -48,11 +48,11 @@ module _ (L : Layouts) (are : AreLayouts L) (p : Parameters) (ceiling : ℕ) (by
       let most = are.longest p (block_at g 1) (length bytes / 64) (HasLength-file l bytes file.sized).long in
       omega (arith, length-blocks_of bytes, most)
 
-  -- its blocks mean the same
+  -- the blocks of a file mean the same
   pub blocks_mean : decode_by l ceiling g ≡ At epoch s
   blocks_mean = decode_by-whole l ceiling g epoch s file.whole
 
-  -- also under a higher ceiling, with zeros behind them
+  -- the blocks of a file, with zeros after them, mean the same under a higher ceiling too
   filled : (high : ℕ) → ceiling ≤ high → decode_by l high (g ++ replicate (l.image_blocks - length g) zero_block) ≡ At epoch s
   filled high most =
       let fits = few in
@@ -61,7 +61,7 @@ module _ (L : Layouts) (are : AreLayouts L) (p : Parameters) (ceiling : ℕ) (by
   parts : HasNoFault l ceiling g
   parts = whole_parts l ceiling g epoch s file.whole
 
-  -- and a run can begin with their state
+  -- a run can begin with the state of a file's checkpoint
   begins : All IsByte bytes → CanBegin p ceiling epoch s
   unfolding commit_fault
   begins are_bytes =

@@ -81,7 +81,7 @@ tells number p b long h =
     of_geometry number p b
     (geometry_asks (word_of b 0 == header_magic) (is_of_version number p b) (is_of_geometry number b p) long h)
 
--- one header tells of one scheme and one geometry
+-- one header is of one scheme and one geometry
 one_header : (p q : Parameters) (header : Block) → 0 < p.harts → 0 < q.harts
     → Tells (number_of p.scheme p) p header → Tells (number_of q.scheme q) q header → AreAlike p q
 one_header p q header one other x y =
@@ -100,7 +100,7 @@ one_header p q header one other x y =
 
 -- ---- images and files
 
--- the header of an image with a checkpoint tells of its scheme and geometry
+-- the header of an image with a checkpoint is of its scheme and geometry
 image_tells : (p : Parameters) (ceiling epoch : ℕ) (image : List Block) (s : State)
     → decode_of p ceiling image ≡ At epoch s → Tells (number_of p.scheme p) p (block_at image 0)
 image_tells p ceiling epoch image s h =

@@ -80,7 +80,7 @@ IsOther-made slot words = record {
   back = IsReservation-by (record_word slot 74 == 4) (record_word slot 74 == 8) (record_word slot 75) (record_word-number slot 75 words);
 }
 
--- it is there exactly with two harts
+-- the other hart is there exactly with two harts
 other_made : (p : Parameters) (two : Bool) (o : OtherHart) → (p.harts == 2) ≡ two → IsOther o → IsOtherRecordable p (if two then Some o else None)
 other_made p true o e h = (eqb-true p.harts 2 e, h)
 other_made p false o e h = λ same. let both : true ≡ false = sym (eq-eqb p.harts 2 same) ∙ e in absurd (cc)
@@ -94,7 +94,7 @@ IsOtherOf-recordable p (Some o) h = h.1
 
 -- ---- the state
 
--- it can be stored
+-- the state that record and memory make can be stored
 IsStorable-made : (p : Parameters) (ceiling : ℕ) (slot memory : List Block) → AreOfBytes slot → AreOfBytes memory → length memory ≡ memory_blocks p
     → FitsSlot p ceiling slot → IsStorable (program_size p) (state_from p (cpu_of_record p slot) memory)
 unfolding state_from cpu_of_record
@@ -115,7 +115,7 @@ IsStorable-made p ceiling slot memory words blocks all fits =
       other = IsOtherOf-recordable p (second_of_record p slot) (IsOtherRecordable-read p slot words);
     }
 
--- its count and its console are small, and it has the harts
+-- the count and the console of a state are small, and it has the geometry's harts
 record IsSmallState (p : Parameters) (ceiling : ℕ) (s : State) : Type 0 where
   count : s.count < ceiling
   console : length s.console ≤ console_room p
@@ -132,7 +132,7 @@ IsSmallState-made p ceiling slot memory words fits =
       other = IsOtherRecordable-read p slot words;
     }
 
--- such a state can be recorded
+-- a storable state with a small count and console, and the geometry's harts, can be recorded
 IsRecordable-small : (p : Parameters) (ceiling : ℕ) (s : State) → IsStorable (program_size p) s → IsSmallState p ceiling s → IsRecordable p ceiling (cpu_of s)
 IsRecordable-small p ceiling s h small = record {
   pc = h.pc;

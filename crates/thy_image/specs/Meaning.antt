@@ -27,7 +27,7 @@ decode_by_scheme scheme = reading (layouts_by_scheme scheme)
 abbrev pub decode_of : Reading
 decode_of p ceiling image = decode_by_scheme p.scheme p ceiling image
 
--- how many blocks it has
+-- how many blocks an image of a scheme has
 abbrev pub blocks_by_scheme : SchemeName → Parameters → ℕ
 blocks_by_scheme scheme p = (layouts_by_scheme scheme p).image_blocks
 

@@ -23,7 +23,7 @@ ImageIsOfOne =
     → 0 < p.harts → 0 < q.harts
     → decode_of p low image ≡ At e s → decode_of q high image ≡ At f t → AreAlike p q
 
--- and so a file
+-- a file that has a checkpoint by some parameters has one by such parameters alone
 abbrev pub FileIsOfOne : Type 0
 FileIsOfOne =
     (p q : Parameters) (low high e f : ℕ) (bytes : List ℕ) (s t : State)

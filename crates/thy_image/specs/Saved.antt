@@ -13,11 +13,11 @@ use Rattle.thy_layout.specs.Decoded.{At}
 use Rattle.thy_layout.specs.Files.{blocks_of}
 use Rattle.thy_image.specs.Meaning.{decode_of, blocks_of_image, decode_bytes}
 
--- blocks with zeros behind them, up to the length of an image
+-- blocks with zeros after them, up to the length of an image
 abbrev pub filled_up : Parameters → List Block → List Block
 filled_up p blocks = blocks ++ replicate (blocks_of_image p - length blocks) zero_block
 
--- so filled up, these blocks are an image of the checkpoint of an epoch with this state
+-- filled up with zeros, these blocks are an image of the checkpoint of an epoch with this state
 pub record AreOfCheckpoint (p : Parameters) (ceiling epoch : ℕ) (s : State) (blocks : List Block) : Type 0 where
   pub few : length blocks ≤ blocks_of_image p
   pub long : AllLong blocks
@@ -29,13 +29,13 @@ pub record CanBegin (p : Parameters) (ceiling epoch : ℕ) (s : State) : Type 0 
   pub storable : IsStorable (program_size p) s
   pub below : epoch < ceiling
 
--- the blocks of a file with a checkpoint are those of an image of it, under a higher ceiling too
+-- the blocks of a file with a checkpoint, filled up, are an image of it, under a higher ceiling too
 abbrev pub FileIsImage : Type 0
 FileIsImage =
     (p : Parameters) (low high : ℕ) (bytes : List ℕ) (epoch : ℕ) (s : State)
     → low ≤ high → decode_bytes p low bytes ≡ At epoch s → AreOfCheckpoint p high epoch s (blocks_of bytes)
 
--- and a run can begin with it
+-- a run can begin with the checkpoint of a file
 abbrev pub CheckpointCanBegin : Type 0
 CheckpointCanBegin =
     (p : Parameters) (ceiling : ℕ) (bytes : List ℕ) (epoch : ℕ) (s : State)

@@ -12,9 +12,9 @@ use thy_layout::{BadImage, Found, check_image, state_of_image};
 use thy_record::ThynvmImages;
 use thy_shadow_image::ShadowImages;
 
-/// What the bytes of a file have for a geometry: nothing, if there are at least 128 of them and the commit block is
-/// all zero; else the first of the refusals that its scheme has; else the checkpoint of an epoch. Epochs and counts have
-/// to be below the ceiling.
+/// What the bytes of a file have for a geometry: nothing, a refusal, or the checkpoint of an epoch. They have nothing
+/// if there are at least 128 of them and the commit block is all zero. A refusal is the first one that the scheme has.
+/// Epochs and counts have to be below the ceiling.
 pub fn check(image: &[u8], geometry: &Geometry, ceiling: u64) -> Result<Found, BadImage>
     ensures { result ≡ found_in (decode_bytes geometry.now ceiling image.now) }
 {

@@ -2,8 +2,8 @@
 ghost use Rattle.thy_image.specs.Own.{FileIsOfOne, ImageIsOfOne};
 ghost use Rattle.thy_image.specs.Saved.{CheckpointCanBegin, FileIsImage};
 
-/// The blocks of a file with a checkpoint, with zeros behind them up to the length of an image, mean that checkpoint, also
-/// under a higher ceiling.
+/// The blocks of a file with a checkpoint, with zeros after them up to the length of an image, mean that checkpoint,
+/// also under a higher ceiling.
 pub fn a_file_is_an_image()
     ensures { FileIsImage }
 {}

@@ -61,7 +61,7 @@ effect_in-within p cpu blocks =
 
 -- ---- spans of the blocks of memory
 
--- so many bytes of program memory are a span of its blocks
+-- at most 64 bytes within program memory are a span of its blocks
 program_span : (p : Parameters) (blocks : List Block) (at len : ℕ) → length blocks ≡ memory_blocks p → len ≤ 64 → at + len ≤ program_size p
     → IsSpanOf (length blocks) (span at len)
 program_span p blocks at len whole short l = record { short = short; inside = omega (arith, whole) }
@@ -73,7 +73,7 @@ gathered-memory p blocks at len whole short l =
     gathered-flat blocks (span at len) (program_span p blocks at len whole short l)
     ∙ sym (take-drop_take (flat blocks) at len (program_size p) l)
 
--- and so is a number
+-- a number that is read of memory's blocks is the number in its bytes
 number-memory : (p : Parameters) (blocks : List Block) (at n : ℕ) → length blocks ≡ memory_blocks p → n ≤ 64 → at + n ≤ program_size p
     → number_at n (gathered blocks (span at n)) 0 ≡ number_at n (memory_bytes p blocks) at
 number-memory p blocks at n whole short l =
@@ -91,7 +91,7 @@ memory-scattered p blocks at piece whole short l =
     ap (take (program_size p)) (flat-scattered blocks (span at (length piece)) piece (program_span p blocks at (length piece) whole short l) refl)
     ∙ take-written (flat blocks) at (program_size p) piece l (size_inside p blocks whole)
 
--- leaves the console
+-- a piece over a span of program memory leaves the console
 console-scattered : (p : Parameters) (blocks : List Block) (at : ℕ) (piece : List ℕ) (n : ℕ) → length blocks ≡ memory_blocks p → length piece ≤ 64
     → at + length piece ≤ program_size p
     → console_bytes p (scattered blocks (span at (length piece)) piece) n ≡ console_bytes p blocks n
@@ -111,7 +111,7 @@ memory-behind p blocks n piece r whole short l =
     ap (take (program_size p)) (flat-scattered blocks (span (program_size p + n) (length piece)) piece (console_span p blocks n (length piece) r whole short l) refl)
     ∙ take-written_behind (flat blocks) n (program_size p) piece (size_inside p blocks whole)
 
--- and adds the piece to them
+-- a piece after the first n bytes of the console is added to these bytes
 console-behind : (p : Parameters) (blocks : List Block) (n : ℕ) (piece : List ℕ) → IsInRange p → length blocks ≡ memory_blocks p → length piece ≤ 64
     → n + length piece ≤ console_room p
     → console_bytes p (scattered blocks (span (program_size p + n) (length piece)) piece) (n + length piece) ≡ console_bytes p blocks n ++ piece
@@ -131,7 +131,7 @@ module _ (p : Parameters) (input : List ℕ) (cpu : CpuState) (blocks : List Blo
   abbrev g : Setting
   g = setting_for p input
 
-  -- the state
+  -- the state that processor and blocks make
   abbrev now : State
   now = state_with cpu (memory_bytes p blocks) (console_bytes p blocks cpu.console_len)
 

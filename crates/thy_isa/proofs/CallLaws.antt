@@ -60,7 +60,7 @@ break_of-fit at c =
     (le_true c.floor at bounds.0, le_true (at + 65536) (first_sp c) bounds.1))
     (λ _. tt)
 
--- every call is fit
+-- every environment call is fit
 pub call_of-fit : (x : List ℕ) (c : CallState) → IsFit c (call_of x c)
 unfolding call_of
 call_of-fit x c =

@@ -19,7 +19,7 @@ use Rattle.thy_isa.specs.Step.{State, Setting, crossed, fronted, step_of, call_s
 use Rattle.thy_isa.specs.Storable.{IsStorable}
 use Rattle.thy_isa.proofs.StorableLaws.{if_state}
 
--- a state with this hart behind the one in front
+-- a state with this other hart
 abbrev with_other : State → Option OtherHart → State
 with_other s o = record s { other = o }
 

@@ -22,7 +22,7 @@ use Rattle.thy_isa.proofs.CallLaws.{call_of-fit}
 use Rattle.thy_isa.proofs.MemoryBounds.{length-number_bytes}
 use Rattle.thy_base.proofs.RangeLemmas.{console_below}
 
--- what is moved are spans of so many blocks
+-- what is moved are spans of the given number of blocks
 pub record AreSpans (blocks : ℕ) (m : Moves) : Type 0 where
   pub from : IsSpanOf blocks m.from
   pub to : IsSpanOf blocks m.to
@@ -81,7 +81,7 @@ pub record IsEnough (e : Effect) (brought : List ℕ) (m : Moves) : Type 0 where
   pub most : length brought + m.from.len ≤ 64
   pub least : m.to.len ≤ outgoing_len e (length brought + m.from.len)
 
--- the same of a call's bytes
+-- a call brings along and reads at most 64 bytes, and at least the bytes that it writes
 record IsEnoughFor (brought : List ℕ) (m : Moves) : Type 0 where
   pub most : length brought + m.from.len ≤ 64
   pub least : m.to.len ≤ length brought + m.from.len

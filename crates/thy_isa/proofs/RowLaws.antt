@@ -5,7 +5,7 @@ use Rattle.thy_isa.specs.declared.instr.Instr.{Instr}
 use Rattle.thy_isa.specs.Words.{opcode_of}
 use Rattle.thy_isa.specs.Table.{Row, has_pattern, has_row, table, first_row, instr_of}
 
--- those of these rows that have this opcode
+-- the rows with this opcode
 abbrev pub rows_with : ℕ → List Row → List Row
 rows_with op [] = []
 rows_with op (r ∷ rows) = if r.opcode == op then r ∷ rows_with op rows else rows_with op rows

@@ -104,7 +104,7 @@ with_status c s h p = record {
   other = h.other;
 }
 
--- the same beside another hart
+-- a step to another program counter keeps `IsCpu`, beside another hart too
 with_pc_beside : (c : CpuState) (pc : ℕ) (o : Option OtherHart) → IsCpu c → IsNumber pc → IsOtherOf o → IsCpu (record c { pc = pc; count = c.count + 1; other = o })
 with_pc_beside c pc o h p w = record {
   pc = p;
@@ -616,7 +616,7 @@ advanced-room : (g : Setting) (s : State) → length s.console ≤ g.room → le
 unfolding advanced performed
 advanced-room g s h = console_by-room g s (effect_at g.base s) h
 
--- and stays within its room
+-- the console stays within its room
 pub step-room : (g : Setting) (s : State) → length s.console ≤ g.room → length (step g s).console ≤ g.room
 unfolding step
 step-room g s h = if_state (λ t. length t.console ≤ g.room) (is_running s.status) (advanced g s) s (advanced-room g s h) h

@@ -17,7 +17,7 @@ IsWithin base size (Modify op rd width pc at v) = (base ≤ at) × (at + size_of
 IsWithin base size Environment = Unit {0}
 IsWithin base size (Trap c) = Unit {0}
 
--- an effect that reads a number has read as many bytes as it has
+-- an effect that reads a number of some width has read at least that number of bytes
 abbrev pub HasRead : Effect → List ℕ → Type 0
 HasRead (Next pc) bytes = Unit {0}
 HasRead (Set rd pc v) bytes = Unit {0}

@@ -23,7 +23,7 @@ sx32 v = sign_extended 32 (low32 v)
 abbrev pub all_ones : ℕ
 all_ones = 2 ^ 64 - 1
 
--- the signed number that a number of 64 bits represents, and that of its low 32 bits
+-- the signed number that a number of 64 bits represents, and the signed number in its low 32 bits
 abbrev pub signed : ℕ → ℤ
 signed a = cast_signed w64 a
 

@@ -8,7 +8,7 @@ use Rattle.thy_isa.specs.declared.instr.Width.{Width}
 use Rattle.thy_isa.specs.Arith.{low64, signed}
 use Rattle.thy_isa.specs.Extending.{extended}
 
--- what it makes of two numbers of 64 bits, a of memory and b of rs2
+-- what each operation makes of two numbers of 64 bits, a of memory and b of rs2
 unfoldable pub amo_of : Amo → ℕ → ℕ → ℕ
 amo_of Swap a b = b
 amo_of Add a b = low64 (a + b)

@@ -20,7 +20,7 @@ state_after p input cpu blocks =
     let bytes = bytes_in p input cpu blocks e in
     state_from p (cpu_after p input cpu e bytes) (blocks_after p input cpu blocks e bytes)
 
--- it is that of a step of the plain machine
+-- a step on blocks leaves the state that a step of the plain machine leaves
 abbrev pub BlocksMakeTheStep : Type 0
 BlocksMakeTheStep =
     (p : Parameters) (input : List ℕ) (cpu : CpuState) (blocks : List Block)
@@ -36,7 +36,7 @@ StepKeepsStorable =
 abbrev pub ConsoleGrows : Type 0
 ConsoleGrows = (g : Setting) (s : State) → IsGrown s.console (step g s).console
 
--- and stays within its room
+-- the console stays within its room
 abbrev pub ConsoleKeepsRoom : Type 0
 ConsoleKeepsRoom =
     (g : Setting) (s : State) → length s.console ≤ g.room → length (step g s).console ≤ g.room
@@ -46,7 +46,7 @@ abbrev pub CursorStaysInside : Type 0
 CursorStaysInside =
     (g : Setting) (s : State) → s.cursor ≤ length g.input → (step g s).cursor ≤ length g.input
 
--- a status that is neither the trap of a misaligned load, 4, nor that of a misaligned store, 6
+-- a status that is neither trap 4, a misaligned load, nor trap 6, a misaligned store
 abbrev pub IsNotMisaligned : Status → Type 0
 IsNotMisaligned status = (status ≢ Trapped 4) × (status ≢ Trapped 6)
 
@@ -55,7 +55,7 @@ abbrev pub MisalignedIsServed : Type 0
 MisalignedIsServed =
     (g : Setting) (s : State) → s.other ≡ None → is_running s.status ≡ true → IsNotMisaligned (step g s).status
 
--- and with two harts only that of an atomic instruction
+-- with any number of harts, only a step of an atomic instruction may end with the trap of a misaligned load or store
 abbrev pub AccessesAreServed : Type 0
 AccessesAreServed =
     (g : Setting) (s : State) → (IsAtomic (word_effect (word_at g.base s) s.pc s.regs) → ⊥) → is_running s.status ≡ true

@@ -14,15 +14,15 @@ use Rattle.thy_isa.specs.Atomics.{modified}
 use Rattle.thy_isa.specs.Calls.{call_of}
 use Rattle.thy_isa.specs.Effects.{size_of}
 
--- nothing is read, and nothing is written
+-- the moves of an instruction that reads nothing and writes nothing
 abbrev pub no_moves : Moves
 no_moves = record { from = span 0 0; to = span 0 0 }
 
--- these bytes are read
+-- the move that reads these bytes
 abbrev pub reads : ℕ → ℕ → Moves
 reads at len = record no_moves { from = span at len }
 
--- these are written
+-- the move that writes these bytes
 abbrev pub writes : ℕ → ℕ → Moves
 writes at len = record no_moves { to = span at len }
 
@@ -88,7 +88,7 @@ outgoing (Modify op rd width pc at v) bytes =
     number_bytes (size_of width) (modified op width (number_at (size_of width) bytes 0) v)
 outgoing e bytes = bytes
 
--- how many they are, from so many
+-- how many bytes an effect writes, if it brought along or has read this many
 abbrev pub outgoing_len : Effect → ℕ → ℕ
 outgoing_len (Modify op rd width pc at v) have = size_of width
 outgoing_len e have = have

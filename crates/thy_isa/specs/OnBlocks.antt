@@ -22,7 +22,7 @@ setting_for p input = record { base = p.base; input = input; room = console_room
 unfoldable pub state_from : Parameters → CpuState → List Block → State
 state_from p cpu blocks = state_with cpu (memory_bytes p blocks) (console_bytes p blocks cpu.console_len)
 
--- what an environment call is decided by, with an input of so many bytes
+-- what an environment call is decided by, with an input of this length
 abbrev pub calls_in : Parameters → CpuState → ℕ → CallState
 calls_in p cpu input_len = record {
   cursor = cpu.cursor;
@@ -51,7 +51,7 @@ bytes_in p input cpu blocks e =
 unfoldable pub cpu_after : Parameters → List ℕ → CpuState → Effect → List ℕ → CpuState
 cpu_after p input cpu e bytes = finished cpu e (number_in e bytes) (calls_in p cpu (length input))
 
--- the blocks after it
+-- the blocks after an effect
 unfoldable pub blocks_after : Parameters → List ℕ → CpuState → List Block → Effect → List ℕ → List Block
 blocks_after p input cpu blocks e bytes =
     scattered blocks (moves_of cpu.regs (calls_in p cpu (length input)) e).to (outgoing e bytes)

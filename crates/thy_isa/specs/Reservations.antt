@@ -30,7 +30,7 @@ is_reserved (DoubleAt a) Half at = false
 is_reserved (DoubleAt a) Word at = false
 is_reserved (DoubleAt a) Double at = a == at
 
--- one of these bytes is in the block of 64 that address a is in
+-- one of the bytes of an access is in the block of 64 that address a is in
 abbrev pub shares_block : ℕ → ℕ → ℕ → Bool
 shares_block at len a =
     let first = a / 64 * 64 in nat_lt first (at + len) && nat_lt at (first + 64)

@@ -38,7 +38,7 @@ pub record State : Type 0 where
   pub floor : ℕ
   pub count : ℕ
   pub status : Status
-  -- the hart that is not in front, if there are two
+  -- the hart that is not in front; none if there is one hart
   pub other : Option OtherHart
 
 -- what stays the same over a run: the address of the first byte of program memory, the input, and how many
@@ -77,7 +77,7 @@ cpu_of s = record {
   other = s.other;
 }
 
--- and with a memory and a console again
+-- a state made of its rest, a memory and a console
 abbrev pub state_with : CpuState → List ℕ → List ℕ → State
 state_with c memory console = record {
   pc = c.pc;
@@ -132,7 +132,7 @@ cause_number LoadAccess = 5
 cause_number StoreMisaligned = 6
 cause_number StoreAccess = 7
 
--- why no word can be fetched at pc, if so
+-- why no word can be fetched at pc, None if one can
 unfoldable pub fetch_fault : ℕ → ℕ → ℕ → Option Cause
 fetch_fault base size pc =
     if pc % 4 == 0 then (if is_inside base size pc 4 then None else Some FetchAccess) else Some FetchMisaligned
@@ -198,7 +198,7 @@ unfoldable pub memory_served : Setting → State → Call → List ℕ
 memory_served g s (Take at len) = written s.memory (at - g.base) (take len (drop s.cursor g.input))
 memory_served g s call = s.memory
 
--- and the console: what is given is added at its end
+-- the console after a call: what is given is added at its end
 unfoldable pub console_served : Setting → State → Call → List ℕ
 console_served g s (Give at len) = s.console ++ take len (drop (at - g.base) s.memory)
 console_served g s call = s.console
@@ -261,8 +261,8 @@ finished c (Modify op rd width pc at v) number calls = record c {
 finished c Environment number calls = served c (call_of c.regs calls)
 finished c (Trap cause) number calls = record c { count = c.count + 1; status = Trapped (cause_number cause) }
 
--- what an environment call is decided by fits this rest of a state: its cursor is the same, and its room that of a
--- console whose length stays a number of 64 bits
+-- what decides an environment call fits this rest of a state: the cursor is the same, and with all of the room filled
+-- the console's length is still a number of 64 bits
 pub record AreCallsOf (c : CpuState) (calls : CallState) : Type 0 where
   pub cursor : calls.cursor ≡ c.cursor
   pub room : c.console_len + calls.room < 2 ^ 64
@@ -291,7 +291,7 @@ steps g (suc k) s = step g (steps g k s)
 
 -- ---- two harts
 
--- the program counter and the registers that come to the front: those of the other hart, if it is there
+-- the program counter and the registers that come to the front: the other hart's, if it is there
 abbrev pub pc_behind : Option OtherHart → ℕ → ℕ
 pc_behind None pc = pc
 pc_behind (Some o) pc = o.pc
@@ -300,7 +300,7 @@ abbrev pub regs_behind : Option OtherHart → List ℕ → List ℕ
 regs_behind None regs = regs
 regs_behind (Some o) regs = o.regs
 
--- the hart that was in front, with this program counter and these registers, behind the other one
+-- the hart that was in front, with this program counter and these registers, as the other one
 abbrev pub exchanged : ℕ → List ℕ → OtherHart → OtherHart
 exchanged pc regs o = record { pc = pc; regs = regs; front = o.back; back = o.front }
 
@@ -312,7 +312,7 @@ crossed s = record s {
   other = option_map (exchanged s.pc s.regs) s.other;
 }
 
--- the same of a state's rest
+-- the rest of a state with the other hart in front: with one hart nothing changes
 abbrev pub cpu_crossed : CpuState → CpuState
 cpu_crossed c = record c {
   pc = pc_behind c.other c.pc;

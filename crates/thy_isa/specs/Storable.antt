@@ -37,7 +37,7 @@ pub record IsOther (o : OtherHart) : Type 0 where
   pub front : IsReservation o.front
   pub back : IsReservation o.back
 
--- if it is there
+-- what the hart that is not in front keeps, if it is there
 abbrev pub IsOtherOf : Option OtherHart → Type 0
 IsOtherOf None = Unit {0}
 IsOtherOf (Some o) = IsOther o
@@ -57,7 +57,7 @@ pub record IsStorable (size : ℕ) (s : State) : Type 0 where
   pub status : IsStatus s.status
   pub other : IsOtherOf s.other
 
--- an input is of bytes, as many as a number of 64 bits counts
+-- an input consists of bytes, and its length is a number of 64 bits
 pub record IsReadable (g : Setting) : Type 0 where
   pub bytes : All IsByte g.input
   pub size : IsNumber (length g.input)

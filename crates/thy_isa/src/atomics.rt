@@ -36,7 +36,8 @@ fn amo(op: Amo, a: u64, b: u64) -> u64
     }
 }
 
-/// The number whose low bytes an atomic memory operation of this width writes, from the number that it read and that of rs2.
+/// The number whose low bytes an atomic memory operation of this width writes, from the number that it read and the
+/// value of rs2.
 pub fn modified(op: Amo, width: Width, old: u64, value: u64) -> u64
     ensures { result ≡ modified op width old value }
 {

@@ -6,7 +6,7 @@ ghost use Rattle.thy_isa.specs.Step.{state_of, exchanged, crossed, cpu_crossed};
 use crate::regs::Regs;
 use crate::state::{CpuState, MachState, OtherHart};
 
-/// The hart with this program counter and these registers, behind the other one.
+/// The hart with this program counter and these registers, as the other one.
 fn exchanged(pc: u64, regs: Regs, other: &OtherHart) -> OtherHart
     ensures { result ≡ exchanged pc regs other.now }
 {
@@ -18,7 +18,7 @@ fn exchanged(pc: u64, regs: Regs, other: &OtherHart) -> OtherHart
     }
 }
 
-/// Puts the other hart in front. With one hart nothing changes.
+/// Brings the other hart to the front. With one hart nothing changes.
 pub fn cross(cpu: &mut CpuState)
     ensures { cpu.new ≡ cpu_crossed cpu.old }
 {

@@ -28,7 +28,7 @@ impl Reg {
         Reg { number }
     }
 
-    /// Its number.
+    /// The number of the register.
     pub fn number(self) -> u8
         ensures number { result ≡ self }
         ensures range { result < 32 }
@@ -49,9 +49,9 @@ pub enum Width {
 /// How a load fills the bits above the bytes that it reads.
 #[derive(Clone, Copy, Debug, PartialEq, Eq)]
 pub enum Extend {
-    /// With copies of the highest bit read.
+    /// The bits are copies of the highest bit read.
     Sign,
-    /// With zeros.
+    /// The bits are zeros.
     Zero,
 }
 
@@ -103,7 +103,7 @@ pub enum Alu {
 /// What an atomic memory operation makes of the number in memory and of rs2.
 #[derive(Clone, Copy, Debug, PartialEq, Eq)]
 pub enum Amo {
-    /// That of rs2.
+    /// The number of rs2.
     Swap,
     Add,
     Xor,
@@ -119,8 +119,8 @@ pub enum Amo {
     Maxu,
 }
 
-/// An instruction. Immediates are extended to 64 bits by their sign and held in two's complement;
-/// those of shifts are the number of places.
+/// An instruction. Immediates are extended to 64 bits by their sign and held in two's complement; the immediate of a
+/// shift is the number of places.
 #[derive(Clone, Copy, Debug, PartialEq, Eq)]
 pub enum Instr {
     /// LUI: the immediate, whose low twelve bits are 0, into rd.

@@ -16,8 +16,8 @@ pub fn what_a_step_keeps()
     ensures cursor { CursorStaysInside }
 {}
 
-/// With one hart no step of a running state ends with the trap of a misaligned load or of a misaligned store, and with two
-/// harts none but that of an atomic instruction. That such accesses are carried out is part of what a step is.
+/// With one hart no step of a running state ends with the trap of a misaligned load or store; with two harts such a
+/// trap comes from atomic instructions only. That such accesses are carried out is part of what a step is.
 pub fn misaligned_accesses_are_served()
     ensures alone { MisalignedIsServed }
     ensures accesses { AccessesAreServed }

@@ -24,7 +24,7 @@ impl Model for Regs {
 }
 
 impl Regs {
-    /// All zero.
+    /// Registers that are all zero.
     pub fn new() -> Regs
         ensures { result ≡ replicate 32 0 }
     {

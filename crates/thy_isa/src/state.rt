@@ -8,13 +8,13 @@ use crate::regs::Regs;
 use thy_base::Bytes;
 use thy_flat::Span;
 
-/// Whether the program runs, and else how it ended.
+/// Whether the program runs, and how it ended if it does not.
 #[derive(Clone, Copy, Debug, PartialEq, Eq)]
 pub enum Status {
     Running,
     /// By an exit call, with a value of 0 to 255.
     Exited(u64),
-    /// By a trap, with its number of 0 to 7.
+    /// By a trap, with the trap's number, 0 to 7.
     Trapped(u64),
 }
 
@@ -48,12 +48,12 @@ pub enum Reservation {
 /// `MachState` and `CpuState` give a program counter and registers for: hart 0, but while hart 1 takes a step.
 #[derive(Clone, Copy, Debug, PartialEq, Eq)]
 pub struct OtherHart {
-    /// Its program counter, an address in bytes.
+    /// The program counter of the hart that is not in front, an address in bytes.
     pub pc: u64,
     pub regs: Regs,
     /// The reservation of the hart in front.
     pub front: Reservation,
-    /// Its own reservation.
+    /// The reservation of the hart that is not in front.
     pub back: Reservation,
 }
 
@@ -73,10 +73,10 @@ pub struct MachState {
     pub brk: u64,
     /// The least address that the break may have.
     pub floor: u64,
-    /// How many steps were taken, that of a trap or an exit included.
+    /// How many steps were taken, including a step that ended with a trap or an exit.
     pub count: u64,
     pub status: Status,
-    /// The other hart, if there are two.
+    /// The other hart; none if there is one hart.
     pub other: Option<OtherHart>,
 }
 
@@ -92,7 +92,7 @@ pub struct CpuState {
     pub floor: u64,
     pub count: u64,
     pub status: Status,
-    /// The other hart, if there are two.
+    /// The other hart; none if there is one hart.
     pub other: Option<OtherHart>,
 }
 
@@ -159,17 +159,17 @@ pub struct CallState {
 /// counter.
 #[derive(Clone, Copy, Debug, PartialEq, Eq)]
 pub enum Effect {
-    /// Nothing but to continue at `pc`.
+    /// Does nothing but continue at `pc`.
     Next {
         pc: u64,
     },
-    /// The value becomes that of rd.
+    /// The value is written to rd.
     Set {
         rd: Reg,
         pc: u64,
         value: u64,
     },
-    /// The number of `width` bytes at any address, extended, becomes that of rd.
+    /// The number of `width` bytes at any address, extended, is written to rd.
     Read {
         rd: Reg,
         width: Width,
@@ -184,7 +184,8 @@ pub enum Effect {
         at: u64,
         value: u64,
     },
-    /// The number of `width` bytes at any address, extended by its sign, becomes that of rd, and the hart reserves these bytes.
+    /// The number of `width` bytes at any address, extended by its sign, is written to rd, and the hart reserves these
+    /// bytes.
     Reserve {
         rd: Reg,
         width: Width,
@@ -204,8 +205,8 @@ pub enum Effect {
         rd: Reg,
         pc: u64,
     },
-    /// The number of `width` bytes at any address, extended by its sign, becomes that of rd, and what the operation makes of it
-    /// and of the value is written there.
+    /// The number of `width` bytes at any address, extended by its sign, is written to rd, and what the operation makes
+    /// of it and of the value is written there.
     Modify {
         op: Amo,
         rd: Reg,
@@ -223,7 +224,7 @@ pub enum Effect {
 /// What an environment call does. After every call but an exit the program continues, with the call's result in a0.
 #[derive(Clone, Copy, Debug, PartialEq, Eq)]
 pub enum Call {
-    /// Nothing but return this value.
+    /// Does nothing but return this value.
     Answer(u64),
     /// The program ends with this value of 0 to 255; the program counter and the registers stay.
     Exit(u64),

@@ -51,7 +51,8 @@ pub fn within(base: u64, size: u64, other: &Option<OtherHart>, effect: Effect) -
     }
 }
 
-/// The same of an atomic instruction's effect.
+/// The effect of an atomic instruction, as the hart in front has it: a trap if there is one hart, or if its address is
+/// misaligned or outside memory.
 fn atomic_within(base: u64, size: u64, other: &Option<OtherHart>, effect: Effect) -> Effect
     requires { IsAtomic effect }
     ensures { result ≡ within base size other.now effect }
@@ -92,7 +93,7 @@ fn aligned_load(base: u64, size: u64, width: Width, at: u64, effect: Effect) -> 
     }
 }
 
-/// The same of a store.
+/// The effect, or the trap of a store whose address is not a multiple of its width, or is outside memory.
 fn aligned_store(base: u64, size: u64, width: Width, at: u64, effect: Effect) -> Effect
     ensures { result ≡ aligned base size width at StoreMisaligned StoreAccess effect }
 {

@@ -36,7 +36,7 @@ pub memory_place : (p : Parameters) (s : ℕ) (table : List (Option ℕ)) (k oth
 memory_place p s table k otherwise l =
     get_or-map-range_with_len (place_of p s table) 0 (memory_blocks p) k k otherwise l (omega arith)
 
--- each is that of a block
+-- each place of memory is the place of a block
 pub memory_place_of : (p : Parameters) (s : ℕ) (table : List (Option ℕ)) (x : ℕ) → Contains (memory_places p s table) x
     → (b : ℕ) × (b < memory_blocks p) × (place_of p s table b ≡ x)
 memory_place_of p s table x (k, l, is) =
@@ -50,7 +50,7 @@ journal_behind p zero i l m = (omega arith, omega arith)
 journal_behind p (suc zero) i l m = (omega arith, omega arith)
 journal_behind p (suc (suc s)) i l m = absurd (omega arith)
 
--- and so is the place of a block
+-- the place of a block is after the slots, within the image
 pub place_by_behind : (p : Parameters) (s : ℕ) (table : List (Option ℕ)) (b : ℕ) (found : Option ℕ) → IsTable p table → s < 2 → b < memory_blocks p
     → entry_of table b ≡ found → (first_home p ≤ place_by p s b found) × (place_by p s b found < image_blocks p)
 place_by_behind p s table b None h l m e = (omega arith, omega arith)

@@ -48,11 +48,11 @@ FaultlessIsTable =
 
 -- ---- the checkpoint of an epoch
 
--- the places of memory's blocks in it, in their order
+-- the places of memory's blocks in the checkpoint, in the order of the blocks
 abbrev pub memory_places : Parameters → ℕ → List (Option ℕ) → List ℕ
 memory_places p s table = map (place_of p s table) (range_with_len 0 (memory_blocks p))
 
--- the places of its parts, with this table
+-- the places of the checkpoint's parts, with this table
 abbrev pub parts_by : Parameters → CpuState → List (Option ℕ) → ℕ → CheckpointParts
 parts_by p cpu table epoch = record {
   slot_place = slot_place p (slot_of_epoch epoch);
@@ -61,7 +61,8 @@ parts_by p cpu table epoch = record {
   memory = memory_places p (slot_of_epoch epoch) table;
 }
 
--- the first k blocks of its slot were issued, and memory is to be these blocks; its table is that of a checkpoint
+-- the first k blocks of a slot were issued, and memory is to be these blocks; the table is one that a checkpoint may
+-- have
 pub record IsIssuing (p : Parameters) (n : Device) (cpu : CpuState) (table : List (Option ℕ)) (epoch : ℕ)
     (memory : List Block) (k : ℕ) : Type 0 where
   pub whole : IsTable p table

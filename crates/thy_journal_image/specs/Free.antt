@@ -17,13 +17,13 @@ pub data Target : Type 0 where
   JournalBlock : (s i : ℕ) → Target
   HomeBlock : (b : ℕ) → Target
 
--- the number of the block that it writes
+-- the number of the block that a target's write goes to
 abbrev pub target_place : Parameters → Target → ℕ
 target_place p (SlotBlock s k) = slot_place p s + k
 target_place p (JournalBlock s i) = journal_place p s i
 target_place p (HomeBlock b) = home_place p b
 
--- the target is there
+-- the target lies within the image
 abbrev pub IsTarget : Parameters → Target → Type 0
 IsTarget p (SlotBlock s k) = (s < 2) × (k < slot_blocks p)
 IsTarget p (JournalBlock s i) = (s < 2) × (i < p.btt)
@@ -36,7 +36,7 @@ IsFree epoch table (SlotBlock s k) = s ≢ slot_of_epoch epoch
 IsFree epoch table (JournalBlock s i) = s ≢ slot_of_epoch epoch
 IsFree epoch table (HomeBlock b) = (i : ℕ) × Lists table i b
 
--- it is none of the blocks that determine what the image of that checkpoint means
+-- a target where the checkpoint has nothing is none of the blocks that determine what the checkpoint's image means
 abbrev pub FreeIsNotLooked : Type 0
 FreeIsNotLooked =
     (p : Parameters) (image : List Block) (epoch : ℕ) (table : List (Option ℕ)) (x : Target)

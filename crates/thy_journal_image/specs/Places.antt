@@ -7,7 +7,7 @@ use Rattle.thy_base.specs.Geometry.{memory_blocks}
 use Rattle.thy_base.specs.Places.{record_blocks}
 use Rattle.thy_layout.specs.Entries.{entry_of}
 
--- the number of this scheme, which its header has
+-- the number of the scheme, as headers have it
 abbrev pub scheme_number : ℕ
 scheme_number = 1
 
@@ -42,6 +42,7 @@ abbrev pub place_by : Parameters → ℕ → ℕ → Option ℕ → ℕ
 place_by p s b None = home_place p b
 place_by p s b (Some i) = journal_place p s i
 
--- and by the checkpoint's table: in the journal of the slot if the table lists it, else at home
+-- the place of block b in the checkpoint of slot s, by the checkpoint's table: in the journal of the slot if the table
+-- lists it, else at home
 abbrev pub place_of : Parameters → ℕ → List (Option ℕ) → ℕ → ℕ
 place_of p s table b = place_by p s b (entry_of table b)

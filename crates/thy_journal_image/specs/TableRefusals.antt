@@ -20,7 +20,7 @@ FoundIsSo =
     (p : Parameters) (table : List (Option ℕ)) (bad : BadImage)
     → table_fault p table ≡ Some bad → Says (ListsBeyond p table) table bad
 
--- and a refusal of which this holds is found
+-- a refusal that holds of the table is found
 abbrev pub SoIsFound : Type 0
 SoIsFound =
     (p : Parameters) (table : List (Option ℕ)) (bad : BadImage)

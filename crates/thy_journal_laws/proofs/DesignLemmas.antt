@@ -160,7 +160,7 @@ module _ (e : Progress) (s : State) (n : Device) (moment : IsMoment journal_desi
     whole = IsTable-table_of s moment.sound;
   }
 
-  -- its place is that of its epoch
+  -- the slot of a checkpoint is at the place of its epoch's slot
   place_is : (k : ℕ) → (journal_layouts e.p).slot_place (commit_of e.epoch) + k ≡ slot_place s.p (e.epoch % 2) + k
   place_is k =
       ap (λ (x : ℕ). slot_place e.p (x % 2) + k) epoch_is ∙ ap (λ (p : Parameters). slot_place p (e.epoch % 2) + k) (sym can.same_p)
@@ -182,7 +182,7 @@ module _ (e : Progress) (s : State) (n : Device) (moment : IsMoment journal_desi
 
 -- ---- a write of the slot's own, or of the commit block
 
--- one before the homes leaves memory and the journals
+-- a write before the homes leaves memory and the journals
 over_before : (epoch : ℕ) (s : State) (n : Device) → IsMoment journal_design Made epoch s n
     → (x : ℕ) (block : Block) → x < first_home s.p
     → Carries journal_design epoch Made s n Made s (written_to n x block)

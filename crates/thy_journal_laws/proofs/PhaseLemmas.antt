@@ -65,7 +65,7 @@ module _ (epoch : ℕ) (s : State) (n : Device) (sound : IsSoundState s) (sized 
         newest-written_to_other n x block (at i) (other i inside) (at_inside i inside) ∙ h.each i b l lists;
   }
 
-  -- one live entry more
+  -- after the write of the next live entry, the journal has one entry more
   pub journaled_on : (i : ℕ) → next_live i s ≡ Some i → AreJournaled epoch s n i → AreJournaled epoch s (written_to n (at i) (buffer_of s i)) (i + 1)
   journaled_on i found h = record { each = each_one } where
     each_one : (j b : ℕ) → j < i + 1 → Lists (table_of s) j b → newest (written_to n (at i) (buffer_of s i)) (at j) ≡ buffer_of s j
@@ -84,7 +84,7 @@ module _ (epoch : ℕ) (s : State) (n : Device) (sound : IsSoundState s) (sized 
   pub journaled_all : (from : ℕ) → next_live from s ≡ None → AreJournaled epoch s n from → AreJournaled epoch s n s.p.btt
   journaled_all from found h = record { each = λ i b l lists. h.each i b (listed_below s from i b found lists) lists }
 
-  -- over a device that reads the same
+  -- blocks of the journal are there over a device that reads the same
   pub journaled_reads : (m : Device) (from : ℕ) → ((x : ℕ) → x < length n.image → newest m x ≡ newest n x) → AreJournaled epoch s n from
       → AreJournaled epoch s m from
   journaled_reads m from reads h = record {
@@ -114,7 +114,7 @@ module _ (s : State) (n : Device) (sound : IsSoundState s) (sized : length n.ima
   pub home_inside : (i b : ℕ) → Lists (table_of s) i b → home_place s.p b < length n.image
   home_inside i b lists = let small = (IsTable-table_of s sound).blocks i b lists in omega (arith, small, sized)
 
-  -- a home that is written is that of a block in a buffer
+  -- writing home a block that is in a buffer changes no load
   pub works_home : (i : ℕ) → next_live i s ≡ Some i → works s (written_to n (home_place s.p (block_listed i s)) (buffer_of s i)) ≡ works s n
   works_home i found =
       works_same s n (written_to n (home_place s.p (block_listed i s)) (buffer_of s i)) (λ b l none.
@@ -172,7 +172,7 @@ module _ (s : State) (n : Device) (sound : IsSoundState s) (sized : length n.ima
       map_below (memory_blocks s.p) (home_of s n) (work_of s n)
       (λ b l. home_is_work from found h b (entry_for s b) refl)
 
-  -- over a device that reads the same
+  -- all blocks load the same over a device that reads the same
   pub works_reads : (m : Device) → ((x : ℕ) → x < length n.image → newest m x ≡ newest n x) → works s m ≡ works s n
   works_reads m reads = works_same s n m (λ b small none. reads (home_place s.p b) (omega (arith, small, sized)))
 

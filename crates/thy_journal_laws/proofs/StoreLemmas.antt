@@ -95,7 +95,7 @@ after_none b block s i e found =
     ∙ ap (λ (o : Option ℕ). put_into (unwrap_or (option_or o (free_place s.table)) 0) block (record s { table = with_listing o b s.table })) e
     ∙ ap (λ (o : Option ℕ). put_into (unwrap_or o 0) block (record s { table = record s.table { entries = added_at o (listing_of b) s.table.entries } })) found
 
--- it is so with some entry and some table
+-- a store, with the entry that it takes and the table that lists the block there
 record IsStoredAt (b : ℕ) (block : Block) (s : State) : Type 0 where
   i : ℕ
   u : Listing Listed

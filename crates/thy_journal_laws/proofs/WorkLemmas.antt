@@ -20,7 +20,7 @@ work_same : (s : State) (m n : Device) (b : ℕ) (o : Option ℕ) → (o ≡ Non
 work_same s m n b None h = h refl
 work_same s m n b (Some i) h = refl
 
--- so if each block that no entry lists reads at home as before, all load as before
+-- all blocks load as before if each block that no entry lists reads at home as before
 pub works_same : (s : State) (m n : Device)
     → ((b : ℕ) → b < memory_blocks s.p → entry_for s b ≡ None → home_of s n b ≡ home_of s m b) → works s n ≡ works s m
 works_same s m n same =
@@ -39,7 +39,7 @@ home_over s m at block b sized l other =
 pub none_left : (s : State) (i : ℕ) → entry_at (released s).table i ≡ None
 none_left s i = entry_at-cleared freed (λ e. refl) s.table i
 
--- every block loads from home
+-- with all entries free every block loads from home
 pub works-released : (s : State) (n : Device) → works (released s) n ≡ homes s n
 works-released s n =
     map_below (memory_blocks s.p) (work_of (released s) n) (home_of s n)

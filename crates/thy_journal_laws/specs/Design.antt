@@ -61,7 +61,7 @@ holds (Applying from) epoch s n = AreHome s n from
 
 -- ---- what images have
 
--- the next checkpoint is in the other slot than that of an epoch
+-- the next checkpoint is in another slot than the kept epoch's
 abbrev pub IsOther : Phase → ℕ → ℕ → Type 0
 IsOther (Making from) epoch kept = slot_of_epoch epoch ≢ slot_of_epoch kept
 IsOther Made epoch kept = slot_of_epoch epoch ≢ slot_of_epoch kept

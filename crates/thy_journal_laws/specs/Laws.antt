@@ -12,9 +12,9 @@ use Rattle.thy_log.specs.State.{State}
 use Rattle.thy_parts.specs.Design.{Composed}
 use Rattle.thy_journal_laws.specs.Scheme.{journal_scheme}
 
--- a boot reads the commit block, and then it writes memory's blocks, the slot's and four more, or it reads the header,
--- the slot and a block for each entry of the table; a checkpoint takes two actions for each entry, one for each of the
--- slot's blocks, and four more
+-- A boot reads the commit block. Then it writes memory's blocks, the slot's and four more, or it reads the header, the
+-- slot and a block for each entry of the table. A checkpoint takes two actions for each entry, one for each of the
+-- slot's blocks, and four more.
 abbrev pub BootsAreShort : Type 0
 BootsAreShort =
     (p : Parameters)

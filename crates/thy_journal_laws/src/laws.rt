@@ -37,7 +37,7 @@ pub fn epochs_are_short()
 {}
 
 /// While nothing is under way, and nothing was stored since the last seal, every entry is free. So the first
-/// instruction of an epoch always has room: none ends for want of entries before it has retired one.
+/// instruction of an epoch always has room: none is exhausted before it has retired one.
 pub fn an_epoch_begins_with_every_entry_free()
     ensures free { EntriesAreFree }
     ensures room { FirstHasRoom journal_scheme }

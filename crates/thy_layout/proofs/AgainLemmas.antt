@@ -24,7 +24,7 @@ written p blocks i = slice_index (cpu_words (cpu_of_record p blocks) (epoch_of_r
 abbrev second_written : List Block → ℕ → ℕ
 second_written blocks j = slice_index (second_words (Some (other_of_record blocks))) j
 
--- its status has a meaning
+-- the status of a record has a meaning
 abbrev FitsStatus : List Block → Type 0
 FitsStatus blocks = is_status (record_word blocks 36) (record_word blocks 37) ≡ true
 
@@ -75,7 +75,7 @@ place_again w at = place_by (w == 4) (w == 8) at
 
 -- ---- the words of the other hart
 
--- what its test says of the words after its registers
+-- what the tests of the other hart's words ask of the words after its registers
 record FitsSecond (blocks : List Block) : Type 0 where
   front : is_width (record_word blocks 72) ≡ true
   back : is_width (record_word blocks 74) ≡ true
@@ -152,7 +152,7 @@ registers : (p : Parameters) (blocks : List Block) → length (cpu_of_record p b
 unfolding cpu_of_record
 registers p blocks = omega (arith, length-record_words blocks 1 31)
 
--- words 1 to 31
+-- words 1 to 31 of a record are written again as they were read
 reg_again : (p : Parameters) (blocks : List Block) (i : ℕ) → i < 31
     → written p blocks (suc i) ≡ record_word blocks (suc i)
 unfolding cpu_of_record
@@ -166,7 +166,7 @@ first_word : (p : Parameters) (blocks : List Block) → written p blocks 0 ≡ r
 unfolding cpu_of_record
 first_word p blocks = refl
 
--- words 32 to 39
+-- words 32 to 39 of a record are written again as they were read
 behind_again : (p : Parameters) (blocks : List Block) (i : ℕ) → FitsStatus blocks → 32 ≤ i → i < 40
     → written p blocks i ≡ record_word blocks i
 behind_again p blocks i h least most =
@@ -191,7 +191,7 @@ other_is : (p : Parameters) (blocks : List Block) → p.harts ≡ 2 → (cpu_of_
 unfolding cpu_of_record
 other_is p blocks two = taken (p.harts == 2) (Some (other_of_record blocks)) None (eq-eqb p.harts 2 two)
 
--- words 40 to 79
+-- words 40 to 79 of a record are written again as they were read
 back_again : (p : Parameters) (blocks : List Block) (i : ℕ) → FitsSecond blocks → p.harts ≡ 2 → 40 ≤ i → i < 80
     → written p blocks i ≡ record_word blocks i
 back_again p blocks i h two least most =
@@ -210,7 +210,7 @@ only_second : (one second : Bool) → one ≡ false → (one || second) ≡ true
 only_second true second a h = cc
 only_second false second a h = h
 
--- with two harts its words are tested
+-- with two harts the other hart's words are tested
 FitsSecond-faultless : (p : Parameters) (blocks : List Block) → p.harts ≡ 2 → second_fault p blocks ≡ None → FitsSecond blocks
 FitsSecond-faultless p blocks two none =
     let other : (p.harts == 1) ≡ false = ne_eqb p.harts 1 (λ e. omega (arith, two, e)) in

@@ -24,7 +24,7 @@ length-table_in bytes = length-map-range_with_len (λ i. entry_from (number_at 8
 pub entry_at-table_in : (bytes : List ℕ) (i : ℕ) → i < length bytes / 8 → entry_at (table_in bytes) i ≡ entry_from (number_at 8 bytes (8 * i))
 entry_at-table_in bytes i l = get_or-map-range_with_len (λ i. entry_from (number_at 8 bytes (8 * i))) 0 (length bytes / 8) i i None l (omega arith)
 
--- the first k entries are those of the first bytes
+-- the first k entries of a table are the entries of its first bytes
 pub table_in-take : (bytes : List ℕ) (k : ℕ) → k ≤ length bytes / 8 → table_in (take (8 * k) bytes) ≡ take k (table_in bytes)
 table_in-take bytes k most =
     let front : length (take (8 * k) bytes) ≡ 8 * k = length-take-le (8 * k) bytes (omega arith) in

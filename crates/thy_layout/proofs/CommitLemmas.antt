@@ -20,7 +20,7 @@ same_block a b e = ap (λ (xs : List ℕ). let c : Block = record { 0 = xs } in 
 
 -- ---- which block it is
 
--- where there is no checkpoint it is the block of zeros
+-- a commit block that says that there is no checkpoint is the block of zeros
 pub zero-stated : (b : Block) → is_zero b ≡ true → b ≡ zero_block
 unfolding is_zero
 zero-stated b zeros = same_block b zero_block ((bytes_eq-Decides b.0 zero_block.0).0 zeros)
@@ -30,13 +30,13 @@ unfolding has_zero_rest
 rest-stated b rest =
     same_block b (named_block (word_of b 0) (epoch_of b)) ((bytes_eq-Decides b.0 (named_block (word_of b 0) (epoch_of b)).0).0 rest)
 
--- one without a fault is the stated block of its name and epoch
+-- a commit block without a fault is the stated block of its name and epoch
 pub commit-stated : (header b : Block) (ceiling : ℕ) → commit_fault header b ceiling ≡ None → b ≡ named_block (word_of b 0) (epoch_of b)
 unfolding commit_fault
 commit-stated header b ceiling fits =
     rest-stated b (commit_asks (is_named header b) (nat_lt (epoch_of b) ceiling) (has_zero_rest b) fits).2
 
--- of version 2 it is the one that is written
+-- a commit block of version 2 without a fault is the one that is written
 pub commit-written : (header b : Block) (ceiling epoch : ℕ) → commit_fault header b ceiling ≡ None → word_of b 0 ≡ commit_magic VersionTwo
     → epoch_of b ≡ epoch → b ≡ commit_of epoch
 commit-written header b ceiling epoch fits name is =
@@ -46,7 +46,7 @@ commit-written header b ceiling epoch fits name is =
 
 -- ---- two in a row
 
--- of one name they differ in the epoch
+-- the words of two commit blocks of one name differ in the epoch alone
 other_epoch : (name e f i : ℕ) → i ≢ 1 → slice_index (named_words name e) i ≡ slice_index (named_words name f) i
 other_epoch name e f zero ne = refl
 other_epoch name e f (suc zero) ne = absurd (ne refl)
@@ -55,7 +55,7 @@ other_epoch name e f (suc (suc i)) ne = refl
 pub one_word-epoch : (name e f : ℕ) → IsOneWordApart (named_block name e) (named_block name f)
 one_word-epoch name e f = IsOneWordApart-block_of 1 (named_words name e) (named_words name f) refl (other_epoch name e f)
 
--- of one epoch in the name
+-- the words of two commit blocks of one epoch differ in the name alone
 other_name : (a b epoch i : ℕ) → i ≢ 0 → slice_index (named_words a epoch) i ≡ slice_index (named_words b epoch) i
 other_name a b epoch zero ne = absurd (ne refl)
 other_name a b epoch (suc i) ne = refl
@@ -68,17 +68,17 @@ zeros-named : zero_block ≡ named_block 0 0
 unfolding zero_block block_of number_bytes
 zeros-named = refl
 
--- from it the first commit block, which has the epoch 0, differs in the name
+-- a first commit block, which has the epoch 0, differs from the block of zeros in the name
 pub one_word-first : (name : ℕ) → IsOneWordApart zero_block (named_block name 0)
 one_word-first name = subst (λ (b : Block). IsOneWordApart b (named_block name 0)) (sym zeros-named) (one_word-name 0 name 0)
 
 -- ---- of images that decode, by any layout
 
--- one that means nothing has a commit block of zeros
+-- an image that means nothing has a commit block of zeros
 pub nothing-stated : (l : Layout) (ceiling : ℕ) (g : List Block) → decode_by l ceiling g ≡ Nothing → block_at g 1 ≡ zero_block
 nothing-stated l ceiling g h = zero-stated (block_at g 1) (decode_by-nothing_back l ceiling g h)
 
--- one that means a state has the stated block of its name and epoch
+-- an image that means a state has the stated block of its name and epoch
 pub decoded-stated : (l : Layout) (ceiling : ℕ) (g : List Block) (epoch : ℕ) (s : State) → decode_by l ceiling g ≡ At epoch s
     → block_at g 1 ≡ named_block (word_of (block_at g 1) 0) epoch
 decoded-stated l ceiling g epoch s h =

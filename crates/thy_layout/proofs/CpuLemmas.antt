@@ -17,7 +17,7 @@ use Rattle.thy_layout.specs.Cpu.{status_tag, status_value, reserved_words, secon
 
 -- ---- the words of each hart
 
--- the words of a hart: pc, x1 to x31, and what comes behind them
+-- the words of a hart: pc, x1 to x31, and what comes after them
 abbrev hart_words : ℕ → List ℕ → List ℕ → List ℕ
 hart_words pc named rest = pc ∷ (named ++ rest)
 
@@ -29,7 +29,7 @@ hart_words-reg : (pc : ℕ) (named rest : List ℕ) (r : ℕ) → length named �
     → slice_index (hart_words pc named rest) (suc r) ≡ slice_index named r
 hart_words-reg pc named rest r h l = get_or_append_left named rest 0 r (omega arith)
 
--- and the rest comes after them
+-- the rest of a hart's words comes after its registers
 hart_words-rest : (pc : ℕ) (named rest : List ℕ) (i : ℕ) → length named ≡ 31
     → slice_index (hart_words pc named rest) (32 + i) ≡ slice_index rest i
 hart_words-rest pc named rest i h =
@@ -38,7 +38,7 @@ hart_words-rest pc named rest i h =
 
 -- ---- the other hart's words
 
--- the registers that it names
+-- the registers that a record names for the other hart
 abbrev named : OtherHart → List ℕ
 named o = map (reg_at o.regs) (range_with_len 1 31)
 
@@ -64,11 +64,11 @@ second_words-none i = elim (cases_lt i 40) as (λ _. slice_index (second_words N
   | inr m ↦ get_or_past {X = ℕ} (replicate {A = ℕ} 40 0) i 0 (omega (arith, length-replicate {A = ℕ} 40 0))
 ]
 
--- the same at a place that equals one of these
+-- word i of the second hart's record is word j of its reservations, if i is 32 + j
 pub reserved_at : (o : OtherHart) (i j w : ℕ) → i ≡ 32 + j → w ≡ slice_index (reserved_words o) j → w ≡ slice_index (second_words (Some o)) i
 reserved_at o i j w at is = is ∙ sym (ap (slice_index (second_words (Some o))) at ∙ second_words-reserved o j)
 
--- behind the reservations there are zeros
+-- the words after the reservations are zeros
 pub reserved_words-zero : (o : OtherHart) (i : ℕ) → 4 ≤ i → slice_index (reserved_words o) i ≡ 0
 reserved_words-zero o (suc (suc (suc (suc (suc (suc (suc (suc i)))))))) l = refl
 reserved_words-zero o (suc (suc (suc (suc i)))) l = refl
@@ -102,17 +102,17 @@ cpu_words-reg c epoch (suc r) h some l =
     hart_words-reg c.pc (drop 1 c.regs) (rest_words c epoch) r (long_rest c h) (omega arith)
     ∙ get_or-drop 1 c.regs r 0 ∙ ap (slice_index c.regs) e
 
--- and the rest comes after them
+-- the rest of a record's words comes after the registers
 pub cpu_words-rest : (c : CpuState) (epoch i : ℕ) → length c.regs ≡ 32
     → slice_index (cpu_words c epoch) (32 + i) ≡ slice_index (rest_words c epoch) i
 cpu_words-rest c epoch i h = hart_words-rest c.pc (drop 1 c.regs) (rest_words c epoch) i (long_rest c h)
 
--- the same at a place that equals one of these
+-- word i of a record is word j of its rest, if i is 32 + j
 pub rest_at : (c : CpuState) (epoch i j w : ℕ) → length c.regs ≡ 32 → i ≡ 32 + j → w ≡ slice_index (rest_words c epoch) j
     → w ≡ slice_index (cpu_words c epoch) i
 rest_at c epoch i j w h at is = is ∙ sym (ap (slice_index (cpu_words c epoch)) at ∙ cpu_words-rest c epoch j h)
 
--- behind forty words are those of the other hart
+-- the eight words of a record between the front hart's registers and the other hart's words
 abbrev first_rest : CpuState → ℕ → List ℕ
 first_rest c epoch = c.count ∷ c.cursor ∷ c.console_len ∷ c.brk ∷ status_tag c.status ∷ status_value c.status ∷ epoch ∷ c.floor ∷ []
 
@@ -124,7 +124,7 @@ cpu_words-second c epoch j h =
     ∙ cpu_words-rest c epoch (8 + j) h
     ∙ get_or-append-add (first_rest c epoch) (second_words c.other) j 0
 
--- the same at a place that equals one of these
+-- a word of a record from word 40 on is a word of the other hart
 pub second_at : (c : CpuState) (epoch i w : ℕ) → length c.regs ≡ 32 → 40 ≤ i → w ≡ slice_index (second_words c.other) (i - 40)
     → w ≡ slice_index (cpu_words c epoch) i
 second_at c epoch i w h l is =
@@ -158,7 +158,7 @@ pub length-block_words : (c : CpuState) (epoch k : ℕ) → length c.regs ≡ 32
 length-block_words c epoch k h l =
     length-take-le 8 (drop (8 * k) (cpu_words c epoch)) (omega (arith, length-drop (8 * k) (cpu_words c epoch), length-cpu_words c epoch h))
 
--- eight words that are those of block k
+-- eight words that equal the words of block k are that block
 pub same_block_words : (c : CpuState) (epoch k : ℕ) (ws : List ℕ) → length c.regs ≡ 32 → k < 10 → length ws ≡ 8
     → ((j : ℕ) → j < 8 → slice_index ws j ≡ slice_index (cpu_words c epoch) (8 * k + j))
     → block_of ws ≡ cpu_block_of c epoch k

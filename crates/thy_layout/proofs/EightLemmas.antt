@@ -22,7 +22,7 @@ pub block_of_eight : (table : List (Option ℕ)) (k : ℕ) → block_of (map ent
 unfolding table_block_of
 block_of_eight table k = sym (ap block_of (ap (take 8) (drop-map entry_word (8 * k) table) ∙ take-map entry_word 8 (drop (8 * k) table)))
 
--- each has a word if those of the table have
+-- each of eight entries fits a word if every entry of the table does
 pub HaveWords-eight : (table : List (Option ℕ)) (k : ℕ) → HaveWords table → HaveWords (eight_of table k)
 HaveWords-eight table k words = record {
   each = λ i n l. elim (cases_lt i 8) as (λ _. n < 2 ^ 64 - 1) [

@@ -20,7 +20,7 @@ pub mapped_none : (f : ℕ → BadImage) (o : Option ℕ) → option_map f o ≡
 mapped_none f None h = refl
 mapped_none f (Some x) h = cc
 
--- no entry has a fault: none breaks the rule
+-- if no entry has a fault, none breaks the rule
 pub first_clash-None : (rule : ℕ → ℕ → Option BadImage) (k : ℕ) (es : List (Option ℕ)) → first_clash rule k es ≡ None
     → (i n : ℕ) → Lists es i n → rule (k + i) n ≡ None
 first_clash-None rule k [] h i n l = let is = l.is in cc
@@ -36,7 +36,7 @@ entry_fault-None : (rule : ℕ → ℕ → Option BadImage) (k : ℕ) (e : Optio
 entry_fault-None rule k None h = refl
 entry_fault-None rule k (Some n) h = h n refl
 
--- and if none breaks it, none has a fault
+-- if no entry breaks the rule, none has a fault
 pub first_clash-of_rule : (rule : ℕ → ℕ → Option BadImage) (k : ℕ) (es : List (Option ℕ))
     → ((i n : ℕ) → Lists es i n → rule (k + i) n ≡ None) → first_clash rule k es ≡ None
 first_clash-of_rule rule k [] h = refl
@@ -47,7 +47,7 @@ first_clash-of_rule rule k (e ∷ es) h =
     let next : k + 1 + i ≡ k + suc i = omega arith in
     ap (λ x. rule x n) next ∙ h (suc i) n (record { is = l.is })))
 
--- the same of a whole table
+-- if no entry of a whole table has a fault, none breaks the rule
 pub unbroken : (rule : ℕ → ℕ → Option BadImage) (es : List (Option ℕ)) → first_clash rule 0 es ≡ None
     → (i n : ℕ) → Lists es i n → rule i n ≡ None
 unbroken rule es h i n l = ap (λ x. rule x n) (sym (zero-add i)) ∙ first_clash-None rule 0 es h i n l
@@ -87,7 +87,7 @@ pub once : (before : ℕ) (table : List (Option ℕ)) → first_clash (twice_rul
     → (i k n : ℕ) → Lists table i n → Lists table k n → i ≡ k
 once before table h = apart_once table (λ i k n l a b. twice_asks before table i k n (unbroken (twice_rule before table) table h k n b) l a)
 
--- and the other way round
+-- no entry clashes with an earlier one, if no number is listed twice
 pub no_twins : (before : ℕ) (table : List (Option ℕ)) → ((i k n : ℕ) → Lists table i n → Lists table k n → i ≡ k)
     → first_clash (twice_rule before table) 0 table ≡ None
 no_twins before table one = none_breaks (twice_rule before table) table

@@ -26,7 +26,7 @@ Lists-inside table i n l = elim (cases_lt i (length table)) as (λ _. i < length
   | inr past ↦ let none : entry_at table i ≡ None = get_or_past table i None past in let is = l.is in cc
 ]
 
--- where no element passes a test, each fails it
+-- if no element passes a test, each fails it
 pub none_at : {X : Type 0} (t : X → Bool) (k : ℕ) (xs : List X) (i : ℕ) (d : X)
     → position_from t k xs ≡ None → i < length xs → t (get_or xs i d) ≡ false
 none_at t k [] i d h l = absurd (omega arith)
@@ -49,7 +49,7 @@ absent_is : (table : List (Option ℕ)) (n : ℕ) (found : Option ℕ) → entry
 absent_is table n None h none = refl
 absent_is table n (Some i) h none = absurd (none i (entry_of-Some table n i h))
 
--- and if no entry lists it, none is found
+-- if no entry lists the number, none is found
 pub entry_of-absent : (table : List (Option ℕ)) (n : ℕ) → ((i : ℕ) → Lists table i n → ⊥) → entry_of table n ≡ None
 entry_of-absent table n none = absent_is table n (entry_of table n) refl none
 
@@ -118,7 +118,7 @@ pub entry_of-take_here : (table : List (Option ℕ)) (i n : ℕ) → Lists table
 entry_of-take_here table i n l only =
     entry_of-listed (take (i + 1) table) n i (Lists-take table (i + 1) i n (omega arith) l) (λ k h. only k (Lists-of_take table (i + 1) k n h).1)
 
--- it does not list the number: what is found stays
+-- an entry that does not list the number leaves what is found
 pub entry_of-take_other : (table : List (Option ℕ)) (i n : ℕ) → (Lists table i n → ⊥) → entry_of (take (i + 1) table) n ≡ entry_of (take i table) n
 entry_of-take_other table i n not = by_found (entry_of (take i table) n) refl where
   by_found : (o : Option ℕ) → entry_of (take i table) n ≡ o → entry_of (take (i + 1) table) n ≡ entry_of (take i table) n

@@ -10,7 +10,7 @@ use Rattle.thy_layout.specs.EntryFaults.{entry_fault, first_clash, index_rule, t
 use Rattle.thy_layout.proofs.EntryLemmas.{entry_of-Some, Lists-of_take}
 use Rattle.thy_layout.proofs.EntryFaultLemmas.{index_holds}
 
--- it is that of the first entry that breaks the rule
+-- the fault is what the rule says of the first entry that breaks it, with entries counted from k
 record FirstFrom (rule : ℕ → ℕ → Option BadImage) (k : ℕ) (table : List (Option ℕ)) (bad : BadImage) : Type 0 where
   pub entry : ℕ
   pub number : ℕ
@@ -59,7 +59,7 @@ first_from : (rule : ℕ → ℕ → Option BadImage) (k : ℕ) (table : List (O
 first_from rule k [] bad h = cc
 first_from rule k (e ∷ es) bad h = first_of rule k e es bad (entry_fault rule k e) refl h (λ more. first_from rule (k + 1) es bad more)
 
--- the same of a whole table
+-- the fault is what the rule says of the first entry of a table that breaks it
 pub record First (rule : ℕ → ℕ → Option BadImage) (table : List (Option ℕ)) (bad : BadImage) : Type 0 where
   pub entry : ℕ
   pub number : ℕ

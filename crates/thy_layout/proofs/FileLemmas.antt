@@ -91,7 +91,7 @@ pub table_in-slice : (bytes : List ℕ) (m x first n : ℕ) → m ≡ 8 * n → 
 table_in-slice bytes m x first n e f inside =
     ap (λ k. table_in (take k (drop x bytes))) e ∙ ap (λ k. table_in (take (8 * n) (drop k bytes))) f ∙ table_in-part bytes first n inside
 
--- its blocks are the image's
+-- the blocks of an image's bytes are the image's
 pub blocks_of-flat : (image : List Block) → AllLong image → blocks_of (flat image) ≡ image
 blocks_of-flat image long =
     let all : length (flat image) / 64 ≡ length image = omega (arith, length-flat image) in

@@ -54,7 +54,7 @@ last_asks true true false long h = cc
 last_asks true false c long h = cc
 last_asks false b c long h = cc
 
--- a header without fault is that of an image of its length
+-- if a header has no fault, its image has the length that the geometry asks for
 pub header_fault-long : (scheme : ℕ) (b : Block) (p : Parameters) (long : Bool) → header_fault scheme b p long ≡ None → long ≡ true
 unfolding header_fault
 header_fault-long scheme b p long h =
@@ -84,7 +84,7 @@ version_is scheme p header long unknown fits =
     (newer (word_of header 1 == 2) (word_of header 1 == 1) (knows_version_one scheme p) unknown
     (version_asks (word_of header 0 == header_magic) (is_of_version scheme p header) (is_of_geometry scheme header p) long fits))
 
--- and so is a commit block without a fault under it
+-- if version 1 isn't known, a commit block without a fault, after a header without one, is of version 2
 pub only_version_two : (scheme : ℕ) (p : Parameters) (header commit : Block) (long : Bool) (ceiling : ℕ)
     → knows_version_one scheme p ≡ false → header_fault scheme header p long ≡ None → commit_fault header commit ceiling ≡ None
     → word_of commit 0 ≡ commit_magic VersionTwo

@@ -21,11 +21,11 @@ pub length_is : (blocks n : ℕ) (older : Option ℕ) → n ≡ blocks → is_le
 length_is blocks n None e = eq-eqb n blocks e
 length_is blocks n (Some k) e = ap (λ t. t || n == k) (eq-eqb n blocks e)
 
--- as many as the layout says are enough, whatever the commit block names
+-- an image with exactly the layout's number of blocks is long enough, whatever the commit block names
 pub sized_if_long : (l : Layout) (g : List Block) → length g ≡ l.image_blocks → is_sized l g ≡ true
 sized_if_long l g e = length_is l.image_blocks (length g) (l.older_blocks (block_at g 1)) e
 
--- it takes length and commit block alone to tell
+-- whether an image has the layout's number of blocks depends on its length and its commit block
 sized_same : (l : Layout) (h g : List Block) → length g ≡ length h → block_at g 1 ≡ block_at h 1 → is_sized l g ≡ is_sized l h
 sized_same l h g as_long commit = ap (λ b. is_long l b (length g)) commit ∙ ap (is_long l (block_at h 1)) as_long
 
@@ -73,7 +73,7 @@ meaning_nothing : (l : Layout) (ceiling : ℕ) (sized : Bool) (header commit : B
 meaning_nothing l ceiling sized header commit slot memory z =
     ap (λ t. if t then Nothing else refused_or_at (fault_of l ceiling sized header commit slot) (epoch_of commit) (state_by l slot memory)) z
 
--- which places are looked at
+-- the places looked at, in an image without a checkpoint
 pub looked_nothing : (l : Layout) (h : List Block) → is_zero (block_at h 1) ≡ true → looked_by l h ≡ 1 ∷ []
 unfolding looked_by
 looked_nothing l h z = ap (λ t. if t then 1 ∷ [] else parts_of l h) z
@@ -95,7 +95,7 @@ alike_means l ceiling sized h g false z commit each =
     meaning_same l ceiling sized (block_at g 0) (block_at h 0) (block_at g 1) (block_at h 1) (slot_in l g) (slot_in l h) (memory_in l g) (memory_in l h)
     (header_same l h g same) commit (slot_same l h g commit same) (memory_same l h g commit same)
 
--- blocks that agree at the places looked at mean the same, if both are as many as the layout says or neither
+-- blocks that agree at the places looked at mean the same, if both or neither have the layout's number of blocks
 pub decode_sized-alike : (l : Layout) (ceiling : ℕ) (sized : Bool) (h g : List Block) → block_at g 1 ≡ block_at h 1
     → ((x : ℕ) → Contains (looked_by l h) x → block_at g x ≡ block_at h x) → decode_sized l ceiling sized g ≡ decode_sized l ceiling sized h
 decode_sized-alike l ceiling sized h g commit each = alike_means l ceiling sized h g (is_zero (block_at h 1)) refl commit each

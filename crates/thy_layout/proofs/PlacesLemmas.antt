@@ -32,7 +32,7 @@ memory_place l commit slot k otherwise below =
     (omega (arith, length-range_with_len 0 (memory_blocks l.p)))
     ∙ ap (l.place commit slot) (get_or-range_with_len 0 (memory_blocks l.p) k 0 below ∙ plain)
 
--- each is that of a block
+-- each place of memory is the place of a block
 pub memory_place_of : (l : Layout) (commit : Block) (slot : List Block) (x : ℕ) → Contains (memory_places l commit slot) x
     → (b : ℕ) × (b < memory_blocks l.p) × (l.place commit slot b ≡ x)
 memory_place_of l commit slot x (k, below, is) =

@@ -45,7 +45,7 @@ commit_word epoch i w l is fits = word_of-block_of (commit_words epoch) i l (sub
 pub epoch_of-commit_of : (epoch : ℕ) → epoch < 2 ^ 64 → epoch_of (commit_of epoch) ≡ epoch
 epoch_of-commit_of epoch l = commit_word epoch 1 epoch (omega arith) refl l
 
--- it names version 2
+-- a commit block that is written names version 2
 pub version_of-commit_of : (scheme : ℕ) (p : Parameters) (epoch : ℕ) → version_of scheme p (commit_of epoch) ≡ VersionTwo
 version_of-commit_of scheme p epoch =
     let name : word_of (commit_of epoch) 0 ≡ commit_magic VersionTwo = commit_word epoch 0 (commit_magic VersionTwo) (omega arith) refl (omega arith) in
@@ -64,7 +64,7 @@ has_zero_rest-commit_of epoch l =
     ∙ ap (λ (e : ℕ). bytes_eq (commit_of epoch).0 (named_block (commit_magic VersionTwo) e).0) (epoch_of-commit_of epoch l)
     ∙ (bytes_eq-Decides (commit_of epoch).0 (commit_of epoch).0).1 refl
 
--- a commit block of an epoch below the ceiling has no fault behind any header
+-- a commit block of an epoch below the ceiling has no fault after any header
 pub commit_fault-commit_of : (header : Block) (epoch ceiling : ℕ) → epoch < ceiling → ceiling ≤ 2 ^ 64
     → commit_fault header (commit_of epoch) ceiling ≡ None
 unfolding commit_fault
@@ -100,7 +100,7 @@ status_back : (s : Status) → status_of (status_tag s) (status_value s) ≡ s
 status_back Running = refl
 status_back s = refl
 
--- a reservation's words
+-- the words of a reservation are numbers of 64 bits
 place_fits : (r : Reservation) → IsReservation r → place_word r < 2 ^ 64
 place_fits (Nothing at) h = h
 place_fits r h = h
@@ -148,7 +148,7 @@ HasOther-recordable p None range h = elim (cases_lt p.harts 2) as (λ _. p.harts
 ]
 HasOther-recordable p (Some o) range h = let fits : IsOther o = h.1 in (h.0, fits.registers, fits.zero_register)
 
--- one hart or two
+-- a geometry that fits the harts of a state has one at least
 some_hart : (p : Parameters) (o : Option OtherHart) → HasOther p o → 1 ≤ p.harts
 some_hart p None h = omega (arith, h)
 some_hart p (Some o) h = omega (arith, h.0)
@@ -183,7 +183,7 @@ words_fit p ceiling c epoch (suc i) r room most l = elim (cases_lt i 31) as (λ 
       (subst (λ x. x < 2 ^ 64) (sym (cpu_words-rest c epoch (i - 31) r.regs_length)) (rest_fits p ceiling c epoch (i - 31) r room most l))
 ]
 
--- so the record says all of a state that it can hold
+-- the record says all of a state that it can hold
 pub FitsRecord-recordable : (p : Parameters) (ceiling : ℕ) (c : CpuState) (epoch : ℕ)
     → IsInRange p → IsRecordable p ceiling c → console_room p < 2 ^ 64 → ceiling ≤ 2 ^ 64 → epoch < 2 ^ 64 → FitsRecord p c epoch
 FitsRecord-recordable p ceiling c epoch range r room most l = record {
@@ -236,14 +236,14 @@ regs_back p c epoch blocks fits of =
 
 -- ---- the other hart reads back
 
--- its words do
+-- the words of the other hart read back
 second_back : (p : Parameters) (c : CpuState) (epoch : ℕ) (blocks : List Block) (j : ℕ)
     → FitsRecord p c epoch → BeginsWithRecord p c epoch blocks → p.harts ≡ 2 → j < 40
     → record_word blocks (40 + j) ≡ slice_index (second_words c.other) j
 second_back p c epoch blocks j fits of two small =
     word_back p c epoch blocks (40 + j) fits of (omega arith) ∙ cpu_words-second c epoch j fits.regs_length
 
--- blocks have the words of a hart behind the first forty
+-- blocks have the words of a hart after the first forty
 abbrev HasSecond : List Block → Option OtherHart → Type 0
 HasSecond blocks o = (j : ℕ) → j < 40 → record_word blocks (40 + j) ≡ slice_index (second_words o) j
 
@@ -265,7 +265,7 @@ other_regs_back o blocks has h zeroed =
     ext_get_or 0 (0 ∷ record_words blocks 41 31) o.regs (omega (arith, long, h))
     (λ i below. other_reg_back o blocks i has zeroed (omega (arith, long)))
 
--- a word behind the registers
+-- a word after the other hart's registers reads back
 reserved_back : (o : OtherHart) (blocks : List Block) (j : ℕ) → HasSecond blocks (Some o) → j < 8
     → record_word blocks (72 + j) ≡ slice_index (reserved_words o) j
 reserved_back o blocks j has small =
@@ -292,7 +292,7 @@ other_is o blocks has h zeroed =
     (ap (λ w. reservation_of w (record_word blocks 75)) (at 2 (omega arith)) ∙ ap (reservation_of (width_word o.back)) (at 3 (omega arith))
     ∙ reservation_back o.back)
 
--- with one hart none is read
+-- with one hart no other hart is read
 other_by : (p : Parameters) (o : Option OtherHart) (blocks : List Block) → HasOther p o → (p.harts ≡ 2 → HasSecond blocks o)
     → second_of_record p blocks ≡ o
 other_by p None blocks h has = ap (λ t. if t then Some (other_of_record blocks) else None) (ne_eqb p.harts 2 (λ e. omega (arith, h, e)))
@@ -326,7 +326,7 @@ cpu_back p c epoch blocks fits of =
     ∙ status_back c.status)
     (other_by p c.other blocks fits.other (λ two j small. second_back p c epoch blocks j fits of two small))
 
--- and so does its epoch
+-- an epoch reads back from its record
 pub epoch_back : (p : Parameters) (c : CpuState) (epoch : ℕ) (blocks : List Block)
     → FitsRecord p c epoch → BeginsWithRecord p c epoch blocks → epoch_of_record blocks ≡ epoch
 epoch_back p c epoch blocks fits of = rest_back p c epoch blocks 6 fits of (omega arith)

@@ -78,7 +78,7 @@ console_gathered p blocks first n len all r is size =
     ap (λ xs. take len (flat xs)) (take_all n (drop first blocks) (omega (arith, length-drop first blocks, all)))
     ∙ ap (take len) (flat-drop first blocks (omega (arith, all)) ∙ ap (λ m. drop m (flat blocks)) at)
 
--- with a processor they are the state
+-- with a processor, program memory and the console, as they were gathered, make the state
 pub state_gathered : (p : Parameters) (cpu : CpuState) (blocks : List Block) (memory console : List ℕ) (program size : ℕ) → IsInRange p
     → length blocks ≡ memory_blocks p → program ≡ 64 * (p.pages - p.console) → size ≡ 64 * p.console
     → memory ≡ flat (take program (drop 0 blocks)) → console ≡ take cpu.console_len (flat (take size (drop program blocks)))
@@ -95,7 +95,7 @@ if_ok (Err e) to h = tt
 
 -- ---- a file of an image's length
 
--- its bytes are whole blocks, and as many as an image has
+-- the bytes are whole blocks, and an image has that number of blocks
 pub record HasLength (l : Layout) (bytes : List ℕ) : Type 0 where
   pub whole : length bytes % 64 ≡ 0
   pub long : is_long l (block_at (blocks_of bytes) 1) (length bytes / 64) ≡ true
@@ -107,15 +107,15 @@ HasLength-file l bytes h =
 
 module _ (l : Layout) (bytes : List ℕ) (commit : Block) (has : HasSlot l commit) (long : is_long_file l bytes ≡ true)
     (is : commit ≡ block_at (blocks_of bytes) 1) where
-  -- so many blocks are an image with this commit block
+  -- an image with this commit block has this number of blocks
   pub as_long : is_long l commit (length bytes / 64) ≡ true
   as_long = ap (λ b. is_long l b (length bytes / 64)) is ∙ (HasLength-file l bytes long).long
 
-  -- its slot stands in them
+  -- the slot stands in the file's blocks
   pub slot_in_file : l.slot_place commit + l.slot_blocks commit ≤ length bytes / 64
   slot_in_file = has.inside (length bytes / 64) as_long
 
-  -- as the code cuts it out
+  -- the slot is in the bytes that the code cuts out
   pub slot-slice : (m x : ℕ) → m ≡ 64 * l.slot_blocks commit → x ≡ 64 * l.slot_place commit
       → blocks_of (take m (drop x bytes)) ≡ slot_in l (blocks_of bytes)
   slot-slice m x e f =
@@ -182,7 +182,7 @@ module _ (l : Layout) (ceiling : ℕ) (bytes : List ℕ) where
 
 -- ---- a file with a checkpoint
 
--- blocks that mean a checkpoint are as many as the layout says
+-- blocks that mean a checkpoint have the layout's number of blocks
 pub sized_means : (l : Layout) (ceiling : ℕ) (sized : Bool) (g : List Block) (epoch : ℕ) (state : State)
     → decode_sized l ceiling sized g ≡ At epoch state → sized ≡ true
 sized_means l ceiling sized g epoch state h =
@@ -201,7 +201,8 @@ enough_bytes bytes d epoch state h = elim (cases_lt (length bytes) 128) as (λ _
   | inr enough ↦ enough
 ]
 
--- it has header and commit block and the length of an image, and its blocks are one that means the same
+-- a file that means a checkpoint has header and commit block and the length of an image, and its blocks are an image
+-- that means the same
 pub record IsWholeFile (l : Layout) (ceiling : ℕ) (bytes : List ℕ) (epoch : ℕ) (state : State) : Type 0 where
   pub some : 128 ≤ length bytes
   pub sized : is_long_file l bytes ≡ true
@@ -261,7 +262,7 @@ IsFound-checked l bytes h =
       fits = record { ceiling = h.ceiling; faultless = (whole_parts l h.ceiling (blocks_of bytes) h.epoch at.0 file.whole).2 };
     }
 
--- the state that slot and memory make is that of the checkpoint, whatever the ceiling
+-- the state that slot and memory make is the checkpoint's, whatever the ceiling
 pub HasState-made : (l : Layout) (bytes : List ℕ) (state : State)
     → state_by l (slot_in l (blocks_of bytes)) (memory_in l (blocks_of bytes)) ≡ state → HasState l bytes state
 HasState-made l bytes state made ceiling epoch found =

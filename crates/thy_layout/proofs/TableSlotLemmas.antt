@@ -46,7 +46,7 @@ slot_parts table p ceiling epoch slot none =
     let last = neither table (cpu_fault p ceiling slot) rest.1 in
     (rest.0, last.0, last.1)
 
--- nor below a higher ceiling
+-- a slot without a fault below a ceiling has none below a higher one
 pub slot_higher : (table : Option BadImage) (p : Parameters) (low high epoch : ℕ) (slot : List Block) → low ≤ high
     → slot_fault_by table p low epoch slot ≡ None → slot_fault_by table p high epoch slot ≡ None
 slot_higher table p low high epoch slot most none =
@@ -118,11 +118,11 @@ module _ (p : Parameters) (cpu : CpuState) (table : List (Option ℕ)) (epoch n 
     fits : FitsRecord p cpu epoch
     fits = let room : console_room p < 2 ^ 64 = omega arith in FitsRecord-recordable p ceiling cpu epoch range recordable room most small
 
-    -- and so does the processor
+    -- the processor reads back from a slot
     pub processor_back : cpu_of_record p slot ≡ cpu
     processor_back = cpu_back p cpu epoch slot fits begins
 
-    -- it has no fault, if the table has none
+    -- a slot has no fault, if its table has none
     pub faultless_back : (fault : Option BadImage) → fault ≡ None → slot_fault_by fault p ceiling epoch slot ≡ None
     faultless_back fault none =
         both_none _ _ (epoch_fault-back p cpu epoch slot fits begins)

@@ -12,16 +12,16 @@ pub record Fits (l : Layout) (commit : Block) (slot : List Block) : Type 0 where
   pub ceiling : ℕ
   pub faultless : l.slot_bad ceiling commit slot ≡ None
 
--- by such a slot memory's blocks are after the commit block, in every image of the layout's length, not in the slot, and each
--- at a place of its own
+-- by a slot without a fault memory's blocks are after the commit block, in every image of the layout's length, not in
+-- the slot, and each at a place of its own
 pub record HasPlaces (l : Layout) (commit : Block) (slot : List Block) : Type 0 where
   pub behind : (b : ℕ) → b < memory_blocks l.p → 2 ≤ l.place commit slot b
   pub inside : (b n : ℕ) → b < memory_blocks l.p → is_long l commit n ≡ true → l.place commit slot b < n
   pub apart : (b k : ℕ) → b < memory_blocks l.p → k < l.slot_blocks commit → l.place commit slot b ≢ l.slot_place commit + k
   pub once : (a b : ℕ) → a < memory_blocks l.p → b < memory_blocks l.p → l.place commit slot a ≡ l.place commit slot b → a ≡ b
 
--- a slot has the processor's record, and at most so many blocks as the layout says; it lies after the commit block, in every
--- image of the layout's length
+-- a slot has the processor's record, and at most the blocks that the layout says; it lies after the commit block, in
+-- every image of the layout's length
 pub record HasSlot (l : Layout) (commit : Block) : Type 0 where
   pub record_inside : record_blocks l.p ≤ l.slot_blocks commit
   pub most : l.slot_blocks commit ≤ l.most_slot

@@ -18,7 +18,8 @@ abbrev pub HeaderReadsBack : Type 0
 HeaderReadsBack =
     (scheme : ℕ) (p : Parameters) → scheme < 256 → IsInRange p → header_fault scheme (header_of scheme p) p true ≡ None
 
--- a commit block is not zero, names its epoch and version 2, whatever scheme and geometry, and has no fault behind any header
+-- a commit block is not zero, names its epoch and version 2, whatever scheme and geometry, and has no fault after any
+-- header
 pub record CommitIsBack (epoch ceiling : ℕ) : Type 0 where
   pub committed : is_zero (commit_of epoch) ≡ false
   pub of_epoch : epoch_of (commit_of epoch) ≡ epoch
@@ -45,7 +46,7 @@ RecordReadsBack =
     (p : Parameters) (cpu : CpuState) (epoch : ℕ) (blocks : List Block)
     → FitsRecord p cpu epoch → BeginsWithRecord p cpu epoch blocks → RecordIsBack p cpu epoch blocks
 
--- and words without a fault that are read are written again as they were, whatever they say
+-- the words of a record that has no fault are written again as they were read, whatever they say
 abbrev pub RecordIsWrittenAgain : Type 0
 RecordIsWrittenAgain =
     (p : Parameters) (ceiling : ℕ) (blocks : List Block) (i : ℕ)

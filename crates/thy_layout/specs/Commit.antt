@@ -26,14 +26,14 @@ named_words name epoch = name ∷ epoch ∷ 0 ∷ 0 ∷ 0 ∷ 0 ∷ 0 ∷ 0 ∷ 
 abbrev pub named_block : ℕ → ℕ → Block
 named_block name epoch = block_of (named_words name epoch)
 
--- those that are written are of version 2
+-- the words of a commit block that is written today, of version 2, and the block
 abbrev pub commit_words : ℕ → List ℕ
 commit_words epoch = named_words (commit_magic VersionTwo) epoch
 
 abbrev pub commit_of : ℕ → Block
 commit_of epoch = block_of (commit_words epoch)
 
--- there is no checkpoint: it is the block of zeros
+-- whether a commit block is the block of zeros: if so there is no checkpoint
 unfoldable pub is_zero : Block → Bool
 is_zero b = bytes_eq b.0 zero_block.0
 
@@ -45,19 +45,19 @@ epoch_of b = word_of b 1
 abbrev pub slot_of_epoch : ℕ → ℕ
 slot_of_epoch epoch = epoch % 2
 
--- the version of its slot; there is a slot of version 1 only if that version is known
+-- the version of the slot that a commit block names; there is a slot of version 1 only if that version is known
 abbrev pub version_of : ℕ → Parameters → Block → LayoutVersion
 version_of scheme p b = if word_of b 0 == commit_magic VersionOne && knows_version_one scheme p then VersionOne else VersionTwo
 
--- it names a version; version 1 only behind a header of version 1
+-- a commit block names a version; version 1 only after a header of version 1
 abbrev pub is_named : Block → Block → Bool
 is_named header b = word_of b 0 == commit_magic VersionTwo || (word_of b 0 == commit_magic VersionOne && word_of header 1 == 1)
 
--- it has nothing but a name and an epoch: the words after them are zero
+-- a commit block has nothing but a name and an epoch: the words after them are zero
 unfoldable pub has_zero_rest : Block → Bool
 has_zero_rest b = bytes_eq b.0 (named_block (word_of b 0) (epoch_of b)).0
 
--- the fault of a commit block behind a header; epochs are below the ceiling
+-- the fault of a commit block after a header; epochs are below the ceiling
 unfoldable pub commit_fault : Block → Block → ℕ → Option BadImage
 commit_fault header b ceiling =
     first_fault (asked ((is_named header b && nat_lt (epoch_of b) ceiling) && has_zero_rest b) Commit ∷ [])

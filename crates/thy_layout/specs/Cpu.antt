@@ -63,8 +63,8 @@ abbrev pub second_words : Option OtherHart → List ℕ
 second_words None = replicate 40 0
 second_words (Some o) = o.pc ∷ (map (reg_at o.regs) (range_with_len 1 31) ++ reserved_words o)
 
--- the words of a record, forty for each hart: pc, x1 to x31, count, cursor, console length, break, status, epoch, floor;
--- behind them those of the other hart
+-- the words of a record, forty for each hart: pc, x1 to x31, count, cursor, console length, break, status, epoch,
+-- floor; the other hart's words come last
 abbrev pub cpu_words : CpuState → ℕ → List ℕ
 cpu_words c epoch =
     c.pc ∷ (drop 1 c.regs
@@ -94,7 +94,7 @@ HasOther p None = p.harts ≡ 1
 HasOther p (Some o) = (p.harts ≡ 2) × (length o.regs ≡ 32) × (slice_index o.regs 0 ≡ 0)
 
 -- a processor's state and an epoch of which the record says all: 32 registers, of which register 0 is zero, numbers of
--- 64 bits, and as many harts as there are
+-- 64 bits, and the geometry's number of harts
 pub record FitsRecord (p : Parameters) (c : CpuState) (epoch : ℕ) : Type 0 where
   pub regs_length : length c.regs ≡ 32
   pub regs_zero : slice_index c.regs 0 ≡ 0
@@ -105,7 +105,7 @@ pub record FitsRecord (p : Parameters) (c : CpuState) (epoch : ℕ) : Type 0 whe
 abbrev pub epoch_of_record : List Block → ℕ
 epoch_of_record blocks = record_word blocks 38
 
--- the other hart in a record, whose forty words are behind those of the hart in front
+-- the other hart in a record, whose forty words come after the words of the hart in front
 unfoldable pub other_of_record : List Block → OtherHart
 other_of_record blocks = record {
   pc = record_word blocks 40;
@@ -136,7 +136,7 @@ cpu_of_record p blocks = record {
 abbrev pub epoch_demand : ℕ → List Block → Demand BadImage
 epoch_demand epoch blocks = asked (epoch_of_record blocks == epoch) Commit
 
--- its status has a meaning and its count is below the ceiling, and the console is not longer than its pages
+-- the status of a record has a meaning and its count is below the ceiling, and the console is not longer than its pages
 abbrev pub status_demands : Parameters → ℕ → List Block → List (Demand BadImage)
 status_demands p ceiling blocks =
     asked (is_status (record_word blocks 36) (record_word blocks 37) && nat_lt (record_word blocks 32) ceiling) BadStatus

@@ -3,7 +3,7 @@
 use Rattle.std.specs.Prelude.{◌≡◌, ℕ, ◌==◌, ◌<◌, Bool, false, List, slice_index_or, Option, Some, None, ◌+◌, ◌-◌, ◌^◌, if◌then◌else◌}
 use Rattle.std.specs.List.{position}
 
--- entry i of a table, which is empty past its end
+-- entry i of a table; there is none past the table's end
 abbrev pub entry_at : List (Option ℕ) → ℕ → Option ℕ
 entry_at table i = slice_index_or table i None
 

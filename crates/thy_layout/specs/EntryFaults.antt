@@ -25,10 +25,10 @@ abbrev pub twin_of : List (Option ℕ) → ℕ → Option ℕ → Option ℕ
 twin_of table k None = None
 twin_of table k (Some n) = entry_of (take k table) n
 
--- an entry lists what an earlier one of its table does
+-- the fault of entry k if an earlier entry of the table lists the same number
 abbrev pub twice_rule : ℕ → List (Option ℕ) → ℕ → ℕ → Option BadImage
 twice_rule before table k n = option_map (λ i. TableTwice (before + i) (before + k)) (twin_of table k (Some n))
 
--- the first such entry of a table by itself
+-- the fault of the first entry of a table whose number an earlier entry lists
 abbrev pub twice_fault : List (Option ℕ) → Option BadImage
 twice_fault table = first_clash (twice_rule 0 table) 0 table

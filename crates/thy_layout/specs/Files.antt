@@ -27,13 +27,13 @@ blocks_of bytes = map (block_in bytes) (range_with_len 0 (length bytes / 64))
 abbrev pub table_in : List ℕ → List (Option ℕ)
 table_in bytes = map (λ i. entry_from (number_at 8 bytes (8 * i))) (range_with_len 0 (length bytes / 8))
 
--- what a check says of it
+-- what `check` finds in an image or a file that decodes to this
 abbrev pub found_in : Decoded → Result Found BadImage
 found_in Nothing = Ok FoundNothing
 found_in (Refused bad) = Err bad
 found_in (At epoch state) = Ok (FoundAt epoch)
 
--- bytes are whole blocks, as many as an image has
+-- the bytes are whole blocks, and an image has that number of blocks
 abbrev pub is_long_file : Layout → List ℕ → Bool
 is_long_file l bytes = length bytes % 64 == 0 && is_long l (block_at (blocks_of bytes) commit_place) (length bytes / 64)
 

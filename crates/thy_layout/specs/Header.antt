@@ -39,7 +39,7 @@ is_of_geometry scheme b p =
     (word_of b 2 == p.base && word_of b 3 == p.pages && word_of b 4 == p.console)
     && (word_of b 5 == p.btt && word_of b 6 == p.ptt && word_of b 7 == last_word scheme p)
 
--- its version is 2, or 1 if that is known
+-- the version of a header is 2, or 1 if that is known
 abbrev pub is_of_version : ℕ → Parameters → Block → Bool
 is_of_version scheme p b = word_of b 1 == 2 || (word_of b 1 == 1 && knows_version_one scheme p)
 

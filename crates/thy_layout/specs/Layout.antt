@@ -20,7 +20,7 @@ use Rattle.thy_crash.specs.Saved.{Looking}
 -- An image has a header, block 0, and a commit block, block 1. That names a slot, whose blocks give memory's places. A slot
 -- begins with the record of the processor.
 pub record Layout : Type 0 where
-  -- the geometry that it is of, and the number of the scheme
+  -- the geometry that the layout is of, and the number of the scheme
   pub p : Parameters
   pub scheme : ℕ
   -- how many blocks an image has
@@ -40,7 +40,7 @@ pub record Layout : Type 0 where
 abbrev pub Layouts : Type 0
 Layouts = Parameters → Layout
 
--- the first fault of a header, of an image that has as many blocks as the layout says or not; and of a commit block under a
+-- the first fault of a header, whose image has the layout's number of blocks or not; and of a commit block under a
 -- header, with epochs below a ceiling
 abbrev pub header_bad : Layout → Block → Bool → Option BadImage
 header_bad l header sized = header_fault l.scheme header l.p sized
@@ -58,7 +58,7 @@ state_by l slot memory = state_from l.p (cpu_of_record l.p slot) memory
 abbrev pub blocks_at : List Block → List ℕ → List Block
 blocks_at g places = map (block_at g) places
 
--- the places of a commit block's slot, and those of memory, by the blocks of the slot
+-- the places of a commit block's slot, and memory's places, by the blocks of the slot
 abbrev pub slot_places : Layout → Block → List ℕ
 slot_places l commit = range_with_len (l.slot_place commit) (l.slot_blocks commit)
 
@@ -74,16 +74,16 @@ memory_in l g = blocks_at g (memory_places l (block_at g commit_place) (slot_in 
 
 -- ---- what an image means
 
--- so many blocks are an image; those of an older form are enough, if there is one
+-- an image has this number of blocks; an older form's number is enough, if there is one
 abbrev pub is_length : ℕ → Option ℕ → ℕ → Bool
 is_length blocks None n = n == blocks
 is_length blocks (Some older) n = n == blocks || n == older
 
--- with this commit block
+-- an image with this commit block has this number of blocks
 abbrev pub is_long : Layout → Block → ℕ → Bool
 is_long l commit n = is_length l.image_blocks (l.older_blocks commit) n
 
--- an image has as many blocks as the layout says
+-- an image has the layout's number of blocks
 abbrev pub is_sized : Layout → List Block → Bool
 is_sized l g = is_long l (block_at g commit_place) (length g)
 
@@ -92,7 +92,7 @@ abbrev pub fault_of : Layout → ℕ → Bool → Block → Block → List Block
 fault_of l ceiling sized header commit slot =
     option_or (header_bad l header sized) (option_or (commit_bad ceiling header commit) (l.slot_bad ceiling commit slot))
 
--- of blocks that are as many as the layout says, or are not; and of an image
+-- the first fault of blocks, which have the layout's number of blocks or not; and of an image
 abbrev pub fault_sized : Layout → ℕ → Bool → List Block → Option BadImage
 fault_sized l ceiling sized g = fault_of l ceiling sized (block_at g header_place) (block_at g commit_place) (slot_in l g)
 
@@ -110,7 +110,7 @@ meaning_of l ceiling sized header commit slot memory =
     if is_zero commit then Nothing
     else refused_or_at (fault_of l ceiling sized header commit slot) (epoch_of commit) (state_by l slot memory)
 
--- what blocks mean that are as many as the layout says, or are not; and what an image means
+-- what blocks mean, which have the layout's number of blocks or not; and what an image means
 abbrev pub decode_sized : Layout → ℕ → Bool → List Block → Decoded
 decode_sized l ceiling sized g =
     meaning_of l ceiling sized (block_at g header_place) (block_at g commit_place) (slot_in l g) (memory_in l g)

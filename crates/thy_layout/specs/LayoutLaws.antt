@@ -17,7 +17,7 @@ use Rattle.thy_layout.specs.Layout.{Layout, Layouts, decode_by, looked_by, IsWho
 abbrev pub LookedDecides : Type 0
 LookedDecides = (l : Layout) (ceiling : ℕ) (h g : List Block) → IsCopy (looked_by l) h g → decode_by l ceiling g ≡ decode_by l ceiling h
 
--- and the same places determine it
+-- a copy of an image, at all places that determine what it means, has the same such places
 abbrev pub CopiesLookAlike : Type 0
 CopiesLookAlike = (l : Layout) (h g : List Block) → IsCopy (looked_by l) h g → looked_by l g ≡ looked_by l h
 
@@ -30,7 +30,7 @@ abbrev pub NothingIsZero : Type 0
 NothingIsZero =
     (l : Layout) (ceiling : ℕ) (g : List Block) → decode_by l ceiling g ≡ Nothing → is_zero (block_at g commit_place) ≡ true
 
--- it means an epoch and a state exactly if it is whole
+-- an image means an epoch and a state exactly if it is whole
 abbrev pub WholeDecodes : Type 0
 WholeDecodes =
     (l : Layout) (ceiling : ℕ) (g : List Block) (epoch : ℕ) (state : State)

@@ -2,8 +2,8 @@
 ghost use Rattle.std.specs.Prelude.{◌≡◌};
 ghost use Rattle.thy_layout.specs.Refusals.{number_of, name_of};
 
-/// What is wrong with an image. The variants are in the order in which they are tested. Entries of the page table
-/// are counted after those of the block table, if a variant may name either.
+/// What is wrong with an image. The variants are in the order in which they are tested. Entries of the page table are
+/// counted after the block table's entries, if a variant may name either.
 #[derive(Clone, Copy, Debug, PartialEq, Eq)]
 pub enum BadImage {
     /// There is no commit block: a file has fewer than 128 bytes. Or it is all zero, if a checkpoint has to be
@@ -16,8 +16,9 @@ pub enum BadImage {
     /// The image was made for another geometry: base, pages, console, the size of a table, the scheme or the number of
     /// harts differs. Or, if the layout asks for it, the image has another length.
     Geometry,
-    /// The commit block does not begin with its name, or with that of version 1 behind a header of version 2; its epoch is
-    /// not below the ceiling, or a word behind the epoch is not zero; or the processor's record is of another epoch.
+    /// The commit block has another name than the two versions' names, or version 1's name after a header of version 2.
+    /// Or its epoch is not below the ceiling, or a word after the epoch is not zero. Or the processor's record is of
+    /// another epoch.
     Commit,
     /// This entry of the tables names a block or a page that is not there.
     TableIndex(u64),
@@ -31,7 +32,7 @@ pub enum BadImage {
     ConsoleLength,
     /// This byte of the counts is past 63, or it is past the last page and not zero.
     Count(u64),
-    /// With two harts: the width of a reservation is none of 0, 4 and 8, or a word behind the reservations is not zero.
+    /// With two harts: the width of a reservation is none of 0, 4 and 8, or a word after the reservations is not zero.
     Second,
 }
 

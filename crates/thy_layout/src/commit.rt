@@ -64,7 +64,7 @@ fn is_named(header: &Block, block: &Block) -> bool
     name == COMMIT_MAGIC_VERSION_TWO || (name == COMMIT_MAGIC_VERSION_ONE && word(header, 1) == 1)
 }
 
-/// The fault of a commit block behind a header, if it has one: another name, or that of version 1 behind a header of
+/// The fault of a commit block after a header, if it has one: another name, or version 1's name after a header of
 /// version 2; an epoch that is not below the ceiling; or more than the epoch.
 #[tactic(auto, unfolding(crate::specs::Commit::commit_fault))]
 pub fn commit_fault(header: &Block, block: &Block, ceiling: u64) -> Option<BadImage>

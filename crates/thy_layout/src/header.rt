@@ -27,8 +27,9 @@ pub(crate) fn knows_version_one(scheme: u64, geometry: &Geometry) -> bool
     last_word(scheme, geometry) == 0
 }
 
-/// The header of an image of this geometry by the scheme of this number, which is below 256: eight words, its name, the
-/// version, base, pages, console, the sizes of both tables, and the scheme's number, with two harts 256 more.
+/// The header of an image of this geometry by the scheme of this number, which is below 256, in eight words. They are
+/// its name, the version, base, pages, console, the sizes of both tables, and the scheme's number, with two harts 256
+/// more.
 pub fn header_block_of(scheme: u64, geometry: &Geometry) -> Block
     requires { scheme < 256 }
     ensures { result ≡ header_of scheme geometry.now }
@@ -46,9 +47,10 @@ pub fn header_block_of(scheme: u64, geometry: &Geometry) -> Block
     ])
 }
 
-/// The first fault of a header for the scheme of this number, which is below 256, if it has one: another name; a version that
-/// is not 2 and, by scheme 0 with one hart, not 1 either; another geometry. `long` says whether the image has as many blocks
-/// as the geometry asks for; if it has not, or is another scheme's, that is another geometry.
+/// The first fault of a header for the scheme of this number, which is below 256, if it has one: another name; a
+/// version that is not 2 and, by scheme 0 with one hart, not 1 either; another geometry. `long` says whether the image
+/// has the number of blocks that the geometry asks for; if it has not, or is another scheme's, that is another
+/// geometry.
 #[tactic(auto, unfolding(crate::specs::Header::header_fault))]
 pub(crate) fn header_fault_of(
     scheme: u64,

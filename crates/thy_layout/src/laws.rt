@@ -14,8 +14,8 @@ pub fn version_one_is_refused_if_unknown()
     ensures { OnlyVersionTwo }
 {}
 
-/// The blocks of the processor's record read back as they were written: its state and the epoch. That takes as many harts as
-/// the geometry has, 32 registers of each, of which register 0 is zero, and numbers of 64 bits.
+/// The blocks of the processor's record read back as they were written: its state and the epoch. The state must have
+/// the geometry's number of harts, 32 registers of each, of which register 0 is zero, and numbers of 64 bits.
 pub fn record_reads_back()
     ensures { RecordReadsBack }
 {}

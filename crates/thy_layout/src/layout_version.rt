@@ -5,6 +5,6 @@
 pub enum LayoutVersion {
     /// Version 1: its slots come before the homes, and have no counts.
     VersionOne,
-    /// Version 2: its slots come behind everything that version 1 has, and have the counts of pages.
+    /// Version 2: its slots come after everything that version 1 has, and have the counts of pages.
     VersionTwo,
 }

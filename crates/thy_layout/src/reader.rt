@@ -18,7 +18,7 @@ use std::alloc::{AllocError, Global};
 use thy_base::{BLOCK_SIZE, Block, COMMIT_PLACE, Geometry, HEADER_PLACE};
 use thy_isa::MachState;
 
-/// The first fault of a header, of an image that has as many blocks as the layout says or not.
+/// The first fault of a header, for an image that has the layout's number of blocks or not, as `sized` says.
 pub fn header_fault_in<L: ImageLayout>(
     geometry: &Geometry,
     header: &Block,

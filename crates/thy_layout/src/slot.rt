@@ -115,7 +115,7 @@ fn is_second(slot: &[u8]) -> bool
     widths && zeros
 }
 
-/// The fault of the second hart's words, with two harts: a width of a reservation without meaning, or a word behind the
+/// The fault of the second hart's words, with two harts: a width of a reservation without meaning, or a word after the
 /// reservations that is not zero.
 pub fn second_fault(slot: &[u8], geometry: &Geometry) -> Option<BadImage>
     requires { record_blocks geometry.now ≤ length slot.now / 64 }
@@ -128,9 +128,9 @@ pub fn second_fault(slot: &[u8], geometry: &Geometry) -> Option<BadImage>
     }
 }
 
-/// What is wrong with the processor in these bytes of a slot besides its epoch: a status without meaning or a count of
-/// instructions that is not below the ceiling, a console longer than its pages, or words of the second hart without
-/// meaning.
+/// What is wrong with the processor in these bytes of a slot, apart from its epoch: with the status, the count, the
+/// console's length or the second hart. A status may be without meaning, the count of instructions not below the
+/// ceiling, the console longer than its pages, and words of the second hart without meaning.
 pub fn cpu_fault(slot: &[u8], geometry: &Geometry, ceiling: u64) -> Option<BadImage>
     requires { record_blocks geometry.now ≤ length slot.now / 64 }
     ensures { result ≡ fault_of_cpu geometry.now ceiling (blocks_of slot.now) }

@@ -25,7 +25,7 @@ length-added e t = length-added_at (free_place t) e t.entries
 pub length-mapped : (t : Listing Listed) → length (mapped freed t).entries ≡ length t.entries
 length-mapped t = length-map t.entries (option_and_then freed)
 
--- with another table of the same size
+-- the log stays sound with another table of the same size
 pub IsSoundState-table : (p : Parameters) (t u : Listing Listed) (dram : Contents) → IsSoundState (state_in p t dram)
     → length u.entries ≡ length t.entries → u.numbers ≡ t.numbers → IsListing block_key u → IsSoundState (state_in p u dram)
 IsSoundState-table p t u dram h long same once = record {
@@ -36,7 +36,7 @@ IsSoundState-table p t u dram h long same once = record {
   dram_size = h.dram_size;
 }
 
--- with another DRAM of the same size
+-- the log stays sound with another DRAM of the same size
 pub IsSoundState-dram : (p : Parameters) (t : Listing Listed) (dram now : Contents) → IsSoundState (state_in p t dram)
     → length now.blocks ≡ length dram.blocks → IsSoundState (state_in p t now)
 IsSoundState-dram p t dram now h long = record {

@@ -33,7 +33,7 @@ listed_of (Some e) b h = let same : block_key e ≡ b = cc in eq-eqb (block_key 
 pub lists_of : (s : State) (i b : ℕ) → Lists (table_of s) i b → lists block_key b (entry_at s.table i) ≡ true
 lists_of s i b l = listed_of (entry_at s.table i) b (sym (listed_at-table_of s i) ∙ l.is)
 
--- it is one that a checkpoint may have
+-- the table of a log is one that a checkpoint may have
 pub IsTable-table_of : (s : State) → IsSoundState s → IsTable s.p (table_of s)
 IsTable-table_of s h = record {
   long = length-table_of s ∙ h.size;
@@ -85,7 +85,8 @@ listed_below s from i b found l = elim (cases_lt i from) as (λ _. i < from) [
       cc
 ]
 
--- and if the next one is at a place, those below it are listed below the place from which it was looked for
+-- if the next live entry is at a place, an entry below that place that lists a block is below the place from which it
+-- was looked for
 pub listed_before : (s : State) (from i j b : ℕ) → next_live from s ≡ Some i → Lists (table_of s) j b → j < i → j < from
 listed_before s from i j b found l less = elim (cases_lt j from) as (λ _. j < from) [
   | inl low ↦ low

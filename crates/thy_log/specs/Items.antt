@@ -5,7 +5,7 @@ use Rattle.thy_table.specs.Listing.{entry_at, next_from}
 use Rattle.thy_log.specs.declared.entry.Listed.{Listed}
 use Rattle.thy_log.specs.State.{State}
 
--- every live entry
+-- the test that every live entry passes
 abbrev pub is_live : Listed → Bool
 is_live e = true
 
@@ -13,7 +13,7 @@ is_live e = true
 abbrev pub next_live : ℕ → State → Option ℕ
 next_live from s = next_from is_live from s.table
 
--- the block that an entry lists, 0 if it is free
+-- the block that an entry lists, 0 if the entry is free
 abbrev pub listed_by : Option Listed → ℕ
 listed_by None = 0
 listed_by (Some e) = e.block

@@ -14,6 +14,6 @@ listing_of block = record { block = block }
 abbrev pub freed : Listed → Option Listed
 freed e = None
 
--- none is left that could list another block
+-- an entry that is freed lists no other block
 pub freed-block : (e f : Listed) → freed e ≡ Some f → block_key f ≡ block_key e
 freed-block e f h = cc

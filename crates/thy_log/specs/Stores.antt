@@ -27,7 +27,7 @@ listing_for b s = record s { table = with_listing (entry_for s b) b s.table }
 abbrev pub put_into : ℕ → Block → State → State
 put_into i block s = record s { dram = written s.dram i block }
 
--- that entry's buffer holds the block
+-- the log after a store: the buffer of the block's entry holds the block
 unfoldable pub after_store : ℕ → Block → State → State
 after_store b block s = put_into (store_entry b s) block (listing_for b s)
 
@@ -42,6 +42,6 @@ filled slot i n s = put_into i (newest n (journal_place s.p slot i)) s
 abbrev pub after_drain : State → State
 after_drain s = record s { dram = drained s.dram }
 
--- every entry is free
+-- the log with every entry freed
 abbrev pub released : State → State
 released s = record s { table = mapped freed s.table }

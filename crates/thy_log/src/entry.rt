@@ -44,7 +44,7 @@ impl Rule<Listed> for Release {
     ghost keeps_key = { λ rule e f h. freed-block e f h };
 }
 
-/// Every live entry.
+/// The test that every live entry passes.
 #[derive(Drop)]
 pub(crate) struct Live;
 

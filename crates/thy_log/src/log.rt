@@ -47,7 +47,7 @@ fn listed_block(entry: Option<Listed>) -> Option<u64>
     }
 }
 
-/// The block that an entry lists, 0 if it is free.
+/// The block that an entry lists, 0 if the entry is free.
 fn block_or_zero(entry: Option<Listed>) -> u64
     ensures { result ≡ listed_by entry }
 {
@@ -184,7 +184,7 @@ impl Log {
         }
     }
 
-    /// Puts a block into the buffer of entry `i`.
+    /// Writes a block into the buffer of entry `i`.
     pub fn put(&mut self, i: usize, block: &Block)
         requires { i < self.old.p.btt }
         ensures { self.new ≡ put_into i block.now self.old }

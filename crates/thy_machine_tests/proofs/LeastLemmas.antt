@@ -50,7 +50,7 @@ HasRoom-framed m n cuts room frame =
     subst (λ (k : ℕ). length n.left + cuts ≤ k) (sym frame.left_room)
     (subst (λ l. length l + cuts ≤ m.left_room) (sym frame.left) room)
 
--- the DRAM has as many blocks after a cut
+-- the DRAM has the same number of blocks after a cut
 pub length-over : (seed : ℕ) (xs : List Block) → length (blocks_over seed xs) ≡ length xs
 length-over seed [] = refl
 length-over seed (x ∷ xs) = ap suc (length-over (after_block seed) xs)

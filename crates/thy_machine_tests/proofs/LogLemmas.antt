@@ -77,7 +77,7 @@ Boots-of p s dram n b c start b_is c_is state sized settled up =
 
 -- ---- after the boot
 
--- so they are after a boot
+-- after a boot the parts are of one geometry, and the NVM is up
 pub AreParts-begun : (p : Parameters) (s : State) (e : Progress) (n : Device) (cuts : ℕ) → s.p ≡ p → IsSoundState s → IsBegun p e → memory_blocks p ≡ all
     → length n.image ≡ image_blocks p → n.down ≡ false → HasRoom n cuts → AreParts (parts p s e n cuts)
 AreParts-begun p s e n cuts log sound begun blocks sized up room = record {
@@ -94,7 +94,7 @@ pub p_stored : (b : ℕ) (block : Block) (s : State) → (after_store b block s)
 unfolding after_store
 p_stored b block s = refl
 
--- so they are after calls that leave the engine and the geometry, and the NVM up
+-- calls that leave the engine and the geometry, and the NVM up, leave parts of one geometry
 pub AreParts-on : (p : Parameters) (s t : State) (e : Progress) (m n : Device) (cuts : ℕ) → AreParts (parts p s e m cuts)
     → t.p ≡ s.p → IsSoundState t → n.down ≡ m.down → IsFramed m n → AreParts (parts p t e n cuts)
 AreParts-on p s t e m n cuts w log sound down frame = record {
@@ -116,7 +116,7 @@ same-item (RoundItem Confirm) s = refl
 same-item (TailItem k) s = refl
 same-item ReleaseItem s = refl
 
--- and after an action of the engine
+-- an action of the engine leaves parts of one geometry
 pub AreParts-item : (p : Parameters) (s t : State) (e f : Progress) (m n : Device) (cuts : ℕ) → AreParts (parts p s e m cuts)
     → t ≡ control_next items_journal e s → Fits filling_journal items_journal f t → n ≡ after (action_next filling_journal items_journal e s m) m → IsFramed m n
     → AreParts (parts p t f n cuts)

@@ -86,14 +86,14 @@ Boots-of p s dram n b c start b_is c_is state sized settled up =
 
 -- ---- after the boot
 
--- so they are after a boot
+-- after a boot the parts are of one geometry, and the NVM is up
 pub AreParts-begun : (p : Parameters) (s : State) (e : Progress) (n : Device) (cuts : ℕ) → s.p ≡ p → IsSoundState s → e ≡ new_engine p → memory_blocks p ≡ all
     → length n.image ≡ image_blocks p → n.down ≡ false → HasRoom n cuts → AreParts (parts p s e n cuts)
 AreParts-begun p s e n cuts pool sound begun blocks sized up room =
     subst (λ (x : Progress). AreParts (parts p s x n cuts)) (sym begun)
     (record { pool_p = pool; fits = record { same_p = pool; inside = λ r is. cc; stands = sound }; blocks = blocks; sized = sized; up = up; room = room })
 
--- and after calls that leave the geometry, and the NVM up, with an engine that belongs to the pool
+-- calls that leave the geometry, and the NVM up, leave parts of one geometry, with an engine that belongs to the pool
 pub AreParts-on : (p : Parameters) (s t : State) (e f : Progress) (m n : Device) (cuts : ℕ) → AreParts (parts p s e m cuts)
     → t.p ≡ s.p → Fits filling_shadow items_shadow f t → n.down ≡ m.down → IsFramed m n → AreParts (parts p t f n cuts)
 AreParts-on p s t e f m n cuts w pool fits down frame = record {
@@ -137,7 +137,7 @@ AreParts-store p s t e m n cuts b block w idle sound pool device frame =
     let same : t.p ≡ s.p = ap (λ (x : State). x.p) pool ∙ same-store b block m s in
     AreParts-on p s t e e m n cuts w same (fits_idle e t (same ∙ w.fits.same_p) sound idle) (ap (λ (x : Device). x.down) device) frame
 
--- with a seal the checkpoint begins
+-- with a seal the checkpoint begins, and the parts are of one geometry
 pub AreParts-sealed : (p : Parameters) (s t : State) (e f : Progress) (n : Device) (cuts epoch : ℕ) (cpu : CpuState) → AreParts (parts p s e n cuts)
     → t ≡ sealed_state s → f ≡ begun cpu epoch e → IsSoundState t → AreParts (parts p t f n cuts)
 AreParts-sealed p s t e f n cuts epoch cpu w pool engine sound =
@@ -180,7 +180,7 @@ same-item (RoundItem Confirm) s = refl
 same-item (TailItem k) s = refl
 same-item ReleaseItem s = refl
 
--- and after an action of the engine
+-- an action of the engine leaves parts of one geometry
 pub AreParts-item : (p : Parameters) (s t : State) (e f : Progress) (m n : Device) (cuts : ℕ) → AreParts (parts p s e m cuts)
     → t ≡ control_next items_shadow e s → Fits filling_shadow items_shadow f t → n ≡ after (action_next filling_shadow items_shadow e s m) m → IsFramed m n
     → AreParts (parts p t f n cuts)

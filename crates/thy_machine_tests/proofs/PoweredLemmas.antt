@@ -82,7 +82,7 @@ IsPowered-first K laws p start m shape before n origin one file new blocks is =
       room = omega arith;
     })
 
--- a cycle is done
+-- a machine is still on after a cycle that was done
 pub IsPowered-stepped : {M : Type 0} (K : KindOf M) → (p : Parameters) (start : Start) (m next : M) (n new : Device) (k cuts : ℕ) (pick : Pick) (r : Stepped)
     → IsPowered K (powered p start m n k cuts) → k + 1 < 2 ^ 62
     → IsThere (origin_from p start) (K.view (origin_from p start) m n) r.did × (HasTurn (origin_from p start) (K.view (origin_from p start) m n) r.did → IsStep K (origin_from p start) k pick m next n new r)
@@ -95,7 +95,7 @@ IsPowered-stepped K p start m next n new k cuts pick r w few step frame = record
   room = HasRoom-framed n new cuts w.room frame;
 }
 
--- the device was read
+-- a machine is still on after its device was read
 pub IsPowered-read : {M : Type 0} (K : KindOf M) → (p : Parameters) (start : Start) (m : M) (n new : Device) (k cuts : ℕ)
     → IsPowered K (powered p start m n k cuts) → new ≡ n → IsPowered K (powered p start m new k cuts)
 IsPowered-read K p start m n new k cuts w same = subst (λ (d : Device). IsPowered K (powered p start m d k cuts)) (sym same) w

@@ -12,7 +12,7 @@ use Rattle.thy_view.specs.declared.boot_step.BootStep.TheVariants.{GoesOn}
 abbrev pub all : ℕ
 all = 512
 
--- a start of it, whose registers are zero
+-- a start of the least memory, whose registers are zero
 pub record IsLeastStart (s : State) : Type 0 where
   pub regs : s.regs ≡ replicate 32 0
   pub memory : length s.memory ≡ 28672
@@ -25,7 +25,7 @@ pub record IsLeastStart (s : State) : Type 0 where
   pub status : s.status ≡ Running
   pub alone : s.other ≡ None
 
--- the NVM has room for so many cuts
+-- the NVM has room for this many cuts
 abbrev pub HasRoom : Device → ℕ → Type 0
 HasRoom n cuts = length n.left + cuts ≤ n.left_room
 

@@ -39,7 +39,7 @@ pub record IsBegun (p : Parameters) (e : Progress) : Type 0 where
   pub same_p : e.p ≡ p
   pub no_round : (r : Round) → e.stage ≡ InRound r → ⊥
 
--- after the boot: log, engine and NVM
+-- a machine of the test after its boot: log, engine and NVM
 pub record Parts : Type 0 where
   pub p : Parameters
   pub log : State
@@ -50,7 +50,7 @@ pub record Parts : Type 0 where
 abbrev pub parts : Parameters → State → Progress → Device → ℕ → Parts
 parts p s e n cuts = record { p = p; log = s; engine = e; nvm = n; cuts = cuts }
 
--- they are of one geometry, and the NVM is up
+-- log, engine and NVM are of one geometry, and the NVM is up
 pub record AreParts (m : Parts) : Type 0 where
   pub log_p : m.log.p ≡ m.p
   pub fits : Fits filling_journal items_journal m.engine m.log

@@ -32,7 +32,7 @@ pub record Boots (s : Plain) (n : Device) (b : Booting) (c : State) : Type 0 whe
   pub fits : IsBoot filling_shadow b
   pub may : CanStep filling_shadow s n b c
 
--- after the boot: pool, engine and NVM
+-- a machine of the test after its boot: pool, engine and NVM
 pub record Parts : Type 0 where
   pub p : Parameters
   pub pool : State
@@ -43,7 +43,7 @@ pub record Parts : Type 0 where
 abbrev pub parts : Parameters → State → Progress → Device → ℕ → Parts
 parts p s e n cuts = record { p = p; pool = s; engine = e; nvm = n; cuts = cuts }
 
--- they are of one geometry, and the NVM is up
+-- pool, engine and NVM are of one geometry, and the NVM is up
 pub record AreParts (m : Parts) : Type 0 where
   pub pool_p : m.pool.p ≡ m.p
   pub fits : Fits filling_shadow items_shadow m.engine m.pool

@@ -24,7 +24,7 @@ pub record Powered (M : Type 0) : Type 0 where
 abbrev pub powered : {M : Type 0} → Parameters → Start → M → Device → ℕ → ℕ → Powered M
 powered p start m n cycles cuts = record { origin = origin_from p start; machine = m; nvm = n; cycles = cycles; cuts = cuts }
 
--- the NVM has room for so many cuts
+-- the NVM has room for this many cuts
 abbrev pub HasRoom : Device → ℕ → Type 0
 HasRoom n cuts = length n.left + cuts ≤ n.left_room
 

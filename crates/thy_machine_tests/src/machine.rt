@@ -184,7 +184,8 @@ impl<M: Computer> Powered<M> {
         Powered::lasting(rt, alloc, row, seed, 1)
     }
 
-    /// The same with so many cuts to come at most.
+    /// A machine that was never on, at the start of a row's program, with the schedule of a seed and at most `cuts`
+    /// cuts to come.
     fn lasting(rt: &impl Abort, alloc: Global, row: &Row, seed: u64, cuts: u64) -> Powered<M> {
         let geometry = geometry_of(rt, alloc, &numbers_of(row, seed));
         let start = start_for(rt, alloc, &geometry, row.words);
@@ -210,7 +211,7 @@ impl<M: Computer> Powered<M> {
         }
     }
 
-    /// One cycle.
+    /// Takes one cycle.
     fn step(&mut self, rt: &impl Abort) -> Stepped {
         assert!(rt; self.cycles < 2 * MOST);
         let pick = self.mix.next(1);
@@ -222,7 +223,7 @@ impl<M: Computer> Powered<M> {
         stepped
     }
 
-    /// The state that it executes, between two instructions.
+    /// The state of the machine between two instructions.
     fn snapshot(&mut self, rt: &impl Abort, alloc: Global) -> MachState {
         self.machine
             .snapshot(alloc, &mut self.nvm)
@@ -261,9 +262,9 @@ impl<M: Computer> Powered<M> {
 struct Booted {
     /// The checkpoint that was found; none if the program was loaded.
     found: Option<Mark>,
-    /// The cycle of its last action but one. Of a load that is the one that wrote the commit block.
+    /// The cycle of the boot's last action but one. A load writes the commit block in it.
     written: u64,
-    /// The program had ended there.
+    /// The program had ended at the checkpoint.
     ended: bool,
 }
 
@@ -295,7 +296,7 @@ fn boot<M: Computer>(rt: &impl Abort, on: &mut Powered<M>) -> Booted {
 #[derive(Clone, Copy, Debug, PartialEq, Eq)]
 struct Checkpoint {
     mark: Mark,
-    /// The cycle that wrote its commit block.
+    /// The cycle that wrote the checkpoint's commit block.
     written: u64,
     /// The cycle of the barrier after that.
     committed: u64,
@@ -362,7 +363,7 @@ impl Story {
         self.checkpoints.push(checkpoint).expect(rt, "memory");
     }
 
-    /// A cycle did this.
+    /// Notes what a cycle did.
     fn note(&mut self, rt: &impl Abort, did: Did, cycle: u64) {
         match did {
             Did::Retired(_) => self.retired = self.retired.saturating_add(1),
@@ -477,7 +478,7 @@ fn uncut<M: Computer>(
 }
 
 impl Whole {
-    /// The checkpoint that is committed after so many cycles.
+    /// The checkpoint that is committed after `cycles` cycles.
     fn committed(&self, cycles: u64) -> Option<Mark> {
         let mut mark = None;
         for checkpoint in self.checkpoints.iter() {
@@ -498,8 +499,8 @@ impl Whole {
         None
     }
 
-    /// Whether a cut after so many cycles, with this pick, may leave a checkpoint: the committed one, or the one in doubt.
-    /// If all writes land it is the one in doubt.
+    /// Whether a cut after `cycles` cycles, with this pick, may leave a checkpoint: the committed one, or the one in
+    /// doubt. If all writes land it is the one in doubt.
     fn may_leave(&self, found: Option<Mark>, cycles: u64, pick: u64) -> bool {
         let committed = self.committed(cycles);
         match self.in_doubt(cycles) {
@@ -509,7 +510,7 @@ impl Whole {
     }
 }
 
-/// Cuts the power after so many cycles, and compares what the machine restarts with, and how it ends.
+/// Cuts the power after a number of cycles, and compares what the machine restarts with, and how it ends.
 fn cut<M: Computer>(
     rt: &impl Abort,
     alloc: Global,

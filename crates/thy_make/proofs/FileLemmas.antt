@@ -14,7 +14,7 @@ unfolding number_bytes
 length-words [] = refl
 length-words (w ∷ ws) = let e = length-words ws in omega (arith, e)
 
--- the headers have 120
+-- both headers together have 120 bytes
 length-headers : (size : ℕ) → length (flat_map field_bytes (file_header ++ segment_header size)) ≡ 120
 unfolding number_bytes
 length-headers size = refl

@@ -35,7 +35,7 @@ record HasFields (file : List ℕ) : Type 0 where
 segment : ProgramHeader
 segment = record { kind = 1; offset = 120; address = 65536; file_size = 24028; memory_size = 24028 }
 
--- both headers
+-- the bytes of both headers
 headers : List ℕ
 headers = flat_map field_bytes (file_header ++ segment_header 24028)
 
@@ -79,7 +79,7 @@ read_as file size f p len l =
     rw (f.elf, f.wide, f.little, f.first, f.kind, f.machine, f.version, f.entry, f.headers, f.flags, f.size, f.entry_size, f.count, p, len, room)
     refl
 
--- words over zeros
+-- the memory of a program: its words over zeros
 written_over : (code : List ℕ) (size : ℕ) → length code ≡ 24028
     → written (replicate size 0) 0 (take 24028 code ++ []) ≡ code ++ replicate (size - 24028) 0
 written_over code size e =

@@ -8,7 +8,7 @@ use Rattle.thy_isa.specs.declared.instr.Instr.TheVariants.{Jal}
 use Rattle.thy_make.specs.Encode.{encoded}
 use Rattle.thy_make.specs.Program.{draws, minus, store_of, opening, closing, made_program, made_words}
 
--- of draws that are left, the first and those behind it
+-- the draws that are left: the first one, and the ones after it
 draws-more : (k i state : ℕ) → i < k
     → draws (k - i) state ≡ lcg_draw (lcg_next state) ∷ draws (k - (i + 1)) (lcg_next state)
 unfolding draws
@@ -16,7 +16,7 @@ draws-more k i state l =
     let e : k - i ≡ suc (k - (i + 1)) = omega arith in
     ap (λ j. draws j state) e
 
--- none are left
+-- no draws are left once all were made
 draws-none : (k state : ℕ) → draws (k - k) state ≡ []
 unfolding draws
 draws-none k state =
@@ -30,7 +30,7 @@ stored words r rest =
     ap (λ ws. words ++ ws) (map-append encoded (store_of r) (flat_map store_of rest))
     ∙ sym (append_assoc words (map encoded (store_of r)) (map encoded (flat_map store_of rest)))
 
--- so all words stay the same where those of the next draw are added
+-- all words of a program stay the same if the words of the next draw are added to those that are there
 pub all_stay : (k i state next r : ℕ) (words more all : List ℕ) (added : List Instr) → i < k
     → next ≡ lcg_next state → r ≡ lcg_draw next → added ≡ store_of r → more ≡ words ++ map encoded added
     → words ++ map encoded (flat_map store_of (draws (k - i) state)) ≡ all
@@ -43,7 +43,7 @@ all_stay k i state next r words more all added l n d s m h =
     ap (λ rs. words ++ map encoded (flat_map store_of rs)) (sym first) ∙ h in
     rw (m, s, d, n) (sym (stored words drawn rest) ∙ e)
 
--- and they are there where no draw is left
+-- all words of a program are there if no draw is left
 pub all_are_there : (k i state : ℕ) (words all : List ℕ) → i ≡ k
     → words ++ map encoded (flat_map store_of (draws (k - i) state)) ≡ all → words ≡ all
 all_are_there k i state words all e h =
@@ -56,7 +56,7 @@ unfolding draws
 length-draws zero state = refl
 length-draws (suc k) state = let e = length-draws k (lcg_next state) in omega (arith, e)
 
--- each has three instructions
+-- each draw of a store makes three instructions
 length-stores : (rs : List ℕ) → length (flat_map store_of rs) ≡ 3 * length rs
 length-stores [] = refl
 length-stores (r ∷ rs) = let e = length-stores rs in omega (arith, e)
@@ -87,7 +87,7 @@ loops n =
 pub length-made_words : (n : ℕ) → length (made_words n) ≡ 6007
 length-made_words n = length-map (made_program n) encoded ∙ length-made_program n
 
--- the words of the parts of a program, one behind the other
+-- the words of the parts of a program, one after the other
 made_words-parts : (n : ℕ)
     → made_words n ≡ (map encoded opening ++ map encoded (flat_map store_of (draws 2000 n))) ++ map encoded closing
 unfolding made_program
@@ -97,7 +97,7 @@ made_words-parts n =
     ∙ ap (λ ws. map encoded opening ++ ws) (map-append encoded stores closing)
     ∙ sym (append_assoc (map encoded opening) (map encoded stores) (map encoded closing))
 
--- the same, as they are added
+-- the words of the parts of a program, as they are added, are the program's words
 pub words_joined : (n : ℕ) (start one two three : List ℕ) (first last : List Instr)
     → first ≡ opening → last ≡ closing → start ≡ []
     → one ≡ start ++ map encoded first

@@ -14,9 +14,9 @@ field_bytes (U16 v) = number_bytes 2 v
 field_bytes (U32 v) = number_bytes 4 v
 field_bytes (U64 v) = number_bytes 8 v
 
--- the file's header: 7F "ELF", 64-bit, little-endian, version 1, and nine zeros; an executable (2) for RISC-V (243),
--- version 1, which starts at 65536, with program headers from byte 64 on, no sections and no flags; this header has 64
--- bytes and a program header 56, of which there is one (System V ABI, "ELF Header")
+-- the file's header (System V ABI, "ELF Header"): 7F "ELF", 64-bit, little-endian, version 1, nine zeros; an executable
+-- (2) for RISC-V (243), version 1. It starts at 65536, has its one program header from byte 64 on, no sections and no
+-- flags. This header has 64 bytes, and a program header 56.
 abbrev pub file_header : List HeaderField
 file_header =
     U32 0x464C457F ∷ U8 2 ∷ U8 1 ∷ U8 1 ∷ U8 0 ∷ U64 0

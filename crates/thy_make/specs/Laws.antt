@@ -36,7 +36,7 @@ abbrev pub FilesAreImages : Type 0
 FilesAreImages =
     (n size : ℕ) → 24028 ≤ size → read_of (made_file n) 65536 size ≡ Ok (made_contents n size)
 
--- the word of an instruction means it
+-- the encoded word of an instruction means the instruction
 abbrev pub MeansItself : Instr → Type 0
 MeansItself instr = instr_of (encoded instr) ≡ Some instr
 
@@ -48,7 +48,7 @@ WordsMeanTheProgram = (n : ℕ) → All MeansItself (made_program n)
 abbrev pub address_of : ℕ → ℕ
 address_of r = page_of r * 2 ^ 12 + offset_of r
 
--- they are aligned, lie after the code and within 192 pages from 65536 on
+-- the eight bytes of a store are aligned, and lie after the code and within 192 pages from 65536 on
 pub record IsInReach (r : ℕ) : Type 0 where
   pub aligned : address_of r % 8 ≡ 0
   pub behind : 65536 + 24028 ≤ address_of r

@@ -27,7 +27,7 @@ draws (suc k) state = lcg_draw (lcg_next state) ∷ draws k (lcg_next state)
 abbrev pub page_of : ℕ → ℕ
 page_of r = if r % 2 == 1 then 64 + r / 2 % 16 else 80 + r / 2 % 128
 
--- the byte of the page at which the store begins: that of one of the 256 words in its first half
+-- the byte of the page at which the store begins: the address of one of the 256 words in its first half
 abbrev pub offset_of : ℕ → ℕ
 offset_of r = 8 * (r / 256 % 256)
 
@@ -35,7 +35,7 @@ offset_of r = 8 * (r / 256 % 256)
 abbrev pub store_of : ℕ → List Instr
 store_of r = Lui 6 (page_of r * 2 ^ 12) ∷ Store Double 6 5 (offset_of r) ∷ addi 5 5 1 ∷ []
 
--- before the stores: x7 is how many rounds there are
+-- the instructions before the stores: x7 gets the number of rounds
 abbrev pub opening : List Instr
 opening = addi 7 0 8 ∷ []
 
@@ -48,6 +48,6 @@ closing =
 unfoldable pub made_program : ℕ → List Instr
 made_program n = opening ++ (flat_map store_of (draws 2000 n) ++ closing)
 
--- its words
+-- the words of the program of number n
 abbrev pub made_words : ℕ → List ℕ
 made_words n = map encoded (made_program n)

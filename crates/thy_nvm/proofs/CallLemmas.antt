@@ -35,7 +35,8 @@ HasFailed-left done late (Some Late) (Err e) old m new same no_more fails leaves
     subst (λ (n : Device). HasFailed n new.device) same
     (subst (λ (i : InMemory). HasFailed m.device i.device) (sym leaves) (record { down = refl; no_more = no_more m.device }))
 
--- the same of a write
+-- a write that fails leaves nothing new possible except its own block, if one that fails late makes nothing else
+-- possible
 pub HasFailedToWrite-left : {T : Type 0} (at : ℕ) (block : Block) (done : InMemory → InMemory) (late : Device → Device) (fault : Option Fault)
     (result : Result T NvmError) (old : Device) (m new : InMemory)
     → m.device ≡ old → ((n : Device) → HoldsNoMore (with_queued at block n) (late n)) → is_err result ≡ is_some fault → new ≡ left_after fault done late m
@@ -79,7 +80,7 @@ IsFramed-settled n = record {
   whole = refl;
 }
 
--- and so do writes that land
+-- writes that land keep what only a fit and a cut change
 pub IsFramed-landed : (k : ℕ) (n : Device) → IsFramed n (landed k n)
 IsFramed-landed k n = record {
   blocks = length-landed k n;

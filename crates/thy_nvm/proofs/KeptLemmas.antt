@@ -46,7 +46,7 @@ pub room_to_keep : (size : ℕ) (blocks : List Block) (picks : List ℕ) (room :
 room_to_keep size blocks picks room cuts e l =
     omega (arith, ap (λ c. length c.left) e, ap (λ c. c.room) e, length-images_of size (length picks) blocks)
 
--- and there is space for its image
+-- if one more cut can be kept, there is space for its image
 pub space_to_keep : (size count room space : ℕ) → room * size ≤ space → count < room → count * size + size ≤ space
 space_to_keep size count room space fits l = grind arith
 

@@ -97,7 +97,7 @@ merged-taken ms xs ys at d same as_many l unmarked =
     ap (λ b. merged (slice_set ms at true) (slice_set xs at b) ys) (get_or_default ys at d zero_block inside)
     ∙ merged-copy ms xs ys at same l unmarked
 
--- a write that is queued where there is room
+-- a write is queued if there is room
 pub written-room : (held : Held) (w : Write) → length held.queue < held.room
     → as_device (λ n. written_to n w.at w.block) held ≡ record held { queue = held.queue ++ w ∷ [] }
 written-room held w l =
@@ -154,7 +154,7 @@ newest-marked held ms below at l marked =
     = block_at-merged ms held.image below at l ∙ ap (λ t. if t then block_at held.image at else block_at below at) marked in
     ap (λ b. newest_over b held.queue at) (sym here)
 
--- of a place without a write over it
+-- a read of a place without a write over it
 pub newest-unmarked : (held : Held) (ms : List Bool) (below : List Block) (at : ℕ) → at < length ms → AreMarked ms held.queue → is_marked ms at ≡ false
     → block_at below at ≡ newest (device_of (over_below held ms below)) at
 newest-unmarked held ms below at l queued unmarked =

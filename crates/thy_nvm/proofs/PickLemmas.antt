@@ -41,7 +41,7 @@ pub length-drawn : (seed x : ℕ) (blocks : List Block) (queue : List Write) →
 length-drawn seed x [] queue = refl
 length-drawn seed x (b ∷ bs) queue = ap suc (length-drawn (drawn_seed seed (queued_for queue x)) (x + 1) bs queue)
 
--- and leave at each place a block that is possible there
+-- draws leave at each place a block that is possible there
 pub Contains-drawn : (seed from : ℕ) (blocks : List Block) (queue : List Write) (x : ℕ)
     → Contains (block_at blocks x ∷ queued_for queue (from + x)) (block_at (drawn seed from blocks queue) x)
 Contains-drawn seed from [] queue x = Contains-append_left (zero_block ∷ []) (queued_for queue (from + x)) zero_block (Contains-push [] zero_block)
@@ -71,7 +71,7 @@ word_here xs piece k long eight l =
     ap (take 8) (drop_at (take (8 * k) xs) (piece ++ rest) (8 * k) (length-take-le (8 * k) xs (omega (arith, long, l))))
     ∙ take_at piece rest 8 eight
 
--- those before it stay
+-- the words before the one that was written stay
 word_before : (xs piece : List ℕ) (k i : ℕ) → length xs ≡ 64 → length piece ≡ 8 → k < 8 → i < k
     → take 8 (drop (8 * i) (written xs (8 * k) piece)) ≡ take 8 (drop (8 * i) xs)
 word_before xs piece k i long eight l before =
@@ -143,7 +143,7 @@ drawn-skip (suc k) seed from (b ∷ bs) queue none =
     (drawn-skip k seed (from + 1) bs queue (λ y l m. none y (omega (arith, l)) (omega (arith, m, next)))
     ∙ ap (λ x. take k bs ++ drawn seed x (drop k bs) queue) next)
 
--- and so all that are left, if none is queued for them
+-- draws leave all blocks from a place on, if no write is queued for them
 pub drawn-none : (seed from : ℕ) (blocks : List Block) (queue : List Write) → ((y : ℕ) → from ≤ y → queued_for queue y ≡ [])
     → drawn seed from blocks queue ≡ blocks
 drawn-none seed from [] queue none = refl
@@ -181,7 +181,7 @@ drawn-step image queue from x draws low inside none =
 
 -- ---- the draws of a place that may be torn
 
--- one word more
+-- the draws of a place that may be torn, after one more word
 pub torn_on-more : (k seed : ℕ) (block : Block) (queued : List Block) (torn : Block) → k < 8
     → torn_on (8 - k) k seed block queued torn ≡ torn_on (8 - (k + 1)) (k + 1) (lcg_next seed) block queued (with_word k (drawn_block seed block queued) torn)
 unfolding torn_on

@@ -9,26 +9,26 @@ use Rattle.thy_nvm.specs.declared.call_faults.Fault.TheVariants.{Undone, Late}
 pub record Calls : Type 0 where
   -- how many were made, which is the number of the latest; it saturates
   pub made : ℕ
-  -- the numbers of those that fail and do nothing
+  -- the numbers of the calls that fail and do nothing
   pub failing : List ℕ
-  -- the numbers of those that fail late
+  -- the numbers of the calls that fail and do nothing
   pub late : List ℕ
 
 abbrev pub calls_in : ℕ → List ℕ → List ℕ → Calls
 calls_in made failing late = record { made = made; failing = failing; late = late }
 
--- none was made
+-- the calls of a device of which none was made
 abbrev pub no_calls : List ℕ → List ℕ → Calls
 no_calls failing late = calls_in 0 failing late
 
--- one more was made
+-- the calls of a device after one more
 abbrev pub counted : Calls → Calls
 counted calls = record calls { made = next calls.made }
 
 abbrev pub is_listed : ℕ → List ℕ → Bool
 is_listed number numbers = list_any (λ n. n == number) numbers
 
--- how the next call fails, if it does
+-- the fault of the next call, None if that call succeeds
 abbrev pub next_fault : Calls → Option Fault
 next_fault calls =
     if is_listed (next calls.made) calls.failing then Some Undone

@@ -39,15 +39,15 @@ in_memory device writes calls = record { device = device; writes = writes; calls
 abbrev pub fresh_device : Bool → List ℕ → List ℕ → InMemory
 fresh_device whole failing late = in_memory (device_in nothing (no_cuts 0 0) false 0 0 whole) 0 (no_calls failing late)
 
--- the same device after a call that writes nothing
+-- a device in memory after a call that changes its meaning to this
 abbrev pub with_device : InMemory → Device → InMemory
 with_device m n = record m { device = n }
 
--- and after one that changes the device by this function
+-- a device in memory after a call that changes its meaning by this function
 abbrev pub on_device : (Device → Device) → InMemory → InMemory
 on_device call m = with_device m (call m.device)
 
--- after a fit
+-- a device in memory after a fit
 abbrev pub refitted : Shape → List Block → InMemory → InMemory
 refitted shape start m = record m { device = fitted shape start m.device; writes = 0 }
 
@@ -64,11 +64,11 @@ pub record IsFresh (shape : Shape) (start : List Block) (held : Held) (cuts : Cu
   pub blocks : held ≡ made shape.blocks shape.queue start
   pub cuts_to_come : cuts ≡ no_cuts shape.blocks (shape.cuts + 1)
 
--- after a write
+-- a device in memory after a write
 abbrev pub written : ℕ → Block → InMemory → InMemory
 written at block m = record m { device = written_to m.device at block; writes = next m.writes }
 
--- the same of the device alone
+-- the meaning of a device after a write
 abbrev pub with_write : ℕ → Block → Device → Device
 with_write at block n = written_to n at block
 
@@ -76,7 +76,7 @@ with_write at block n = written_to n at block
 abbrev pub half_settled : Device → Device
 half_settled n = landed (length n.queue / 2) n
 
--- after a call that failed
+-- a device after a call that failed
 abbrev pub failed : Device → Device
 failed n = record n { down = true; faults = next n.faults }
 
@@ -86,10 +86,10 @@ left_after None done late m = done m
 left_after (Some Undone) done late m = with_device m (failed m.device)
 left_after (Some Late) done late m = with_device m (failed (late m.device))
 
--- A call that does this, and that if it fails late.
+-- A call does `done`; if it fails late it does `late`, and if it fails otherwise nothing.
 pub record IsCall {T : Type 0} (done : InMemory → InMemory) (late : Device → Device)
     (old : InMemory) (result : Result T NvmError) (new : InMemory) : Type 0 where
-  -- it fails exactly if its number is listed
+  -- the call fails exactly if its number is listed
   pub fails : is_err result ≡ is_some (next_fault old.calls)
-  -- and counts in any case
+  -- a call is counted whether or not it fails
   pub leaves : new ≡ left_after (next_fault old.calls) done late (record old { calls = counted old.calls })

@@ -8,16 +8,16 @@ pub record Cuts : Type 0 where
   pub size : ℕ
   -- the images that the cuts left, in order
   pub left : List (List Block)
-  -- their picks
+  -- the picks of the cuts
   pub picks : List ℕ
   -- how many cuts can be kept
   pub room : ℕ
 
--- room for so many cuts that leave images of a size
+-- room for this many cuts that leave images of a size
 abbrev pub no_cuts : ℕ → ℕ → Cuts
 no_cuts size room = record { size = size; left = []; picks = []; room = room }
 
--- with one cut more
+-- the cuts with one more
 abbrev pub with_cut : Cuts → ℕ → List Block → Cuts
 with_cut cuts pick image = record cuts { left = cuts.left ++ image ∷ []; picks = cuts.picks ++ pick ∷ [] }
 
@@ -39,6 +39,6 @@ cuts_in size blocks picks room = record {
 pub record IsSoundKept (size : ℕ) (blocks : Vec Block) (picks : Vec ℕ) (room : ℕ) : Type 0 where
   -- there is an image for each pick
   pub whole : length blocks.items ≡ length picks.items * size
-  -- and space for all that can be kept
+  -- there is space for all images and picks that can be kept
   pub blocks_fit : room * size ≤ vec_capacity blocks
   pub picks_fit : room ≤ vec_capacity picks

@@ -27,15 +27,15 @@ left_of pick m cuts =
     overlaid (device_in (record { image = picked m.device.whole pick m.device.image m.device.queue; queue = []; room = m.device.queue_room })
     (no_cuts (length m.device.image) cuts) false 0 0 m.device.whole) 0
 
--- after a call that writes nothing
+-- an overlay after a call that writes nothing
 abbrev pub on_overlay : (Device → Device) → Overlaid → Overlaid
 on_overlay call o = record o { device = call o.device }
 
--- after a write
+-- an overlay after a write
 abbrev pub written_over : ℕ → Block → Overlaid → Overlaid
 written_over at block o = overlaid (written_to o.device at block) (next o.writes)
 
--- after a fit: it fails, and is counted
+-- a device after a fit that failed, and is counted
 abbrev pub fit_failed : Device → Device
 fit_failed n = failed (record n { fits = next n.fits })
 

@@ -90,6 +90,6 @@ landing whole held = record (device_of held) { whole = whole }
 abbrev pub cut_device : ℕ → Device → Device
 cut_device pick n = cut_to n pick (picked n.whole pick n.image n.queue)
 
--- and a device in memory
+-- a device in memory after its power was cut with this pick
 abbrev pub cut_by : ℕ → InMemory → InMemory
 cut_by pick = on_device (cut_device pick)

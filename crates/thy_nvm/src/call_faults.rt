@@ -8,9 +8,9 @@ use std::marker::Model;
 /// How a call fails.
 #[derive(Clone, Copy, Debug, PartialEq, Eq)]
 pub(crate) enum Fault {
-    /// It does nothing.
+    /// The call does nothing.
     Undone,
-    /// It is done, a barrier by half.
+    /// The call is done, a barrier by half.
     Late,
 }
 
@@ -74,7 +74,7 @@ impl CallFaults {
         self.made
     }
 
-    /// Counts a call, and returns how it fails, if it does.
+    /// Counts a call, and returns its fault, None if it succeeds.
     pub(crate) fn next(&mut self) -> Option<Fault>
         ensures fault { result ≡ next_fault self.old }
         ensures counted { self.new ≡ counted self.old }

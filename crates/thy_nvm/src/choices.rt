@@ -19,7 +19,7 @@ pub struct Choices {
 }
 
 impl Choices {
-    /// These numbers.
+    /// Choices by these numbers.
     pub fn new(numbers: Vec<u8>) -> Choices {
         Choices { numbers, taken: 0 }
     }

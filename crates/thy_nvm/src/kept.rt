@@ -42,7 +42,7 @@ impl Kept {
         }
     }
 
-    /// Room for so many cuts that leave images of so many blocks.
+    /// Room for `room` cuts that leave images of `size` blocks.
     pub(crate) fn with_room(alloc: Global, size: u64, room: u64) -> Result<Kept, AllocError>
         ensures { IfOk result (λ k. k ≡ no_cuts size room) }
     {
@@ -59,7 +59,7 @@ impl Kept {
         })
     }
 
-    /// Forgets all cuts. There is room for as many as before.
+    /// Forgets all cuts. The room for cuts stays the same.
     pub(crate) fn clear(&mut self)
         ensures { self.new ≡ no_cuts self.old.size self.old.room }
     {

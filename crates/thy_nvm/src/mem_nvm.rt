@@ -113,7 +113,7 @@ impl MemNvm {
         block_of_image(self.ring.image(), at)
     }
 
-    /// Its blocks and its queue.
+    /// The blocks and the queue of the device.
     pub(crate) fn ring(&self) -> &Ring
         ensures { result.now ≡ held_by self.now.device }
     {
@@ -149,7 +149,7 @@ impl MemNvm {
         }
     }
 
-    /// A call has failed.
+    /// Counts a call that failed, and returns the error.
     fn fail(&mut self) -> NvmError
         ensures failed { self.new ≡ with_device self.old (failed self.old.device) }
         ensures rose { Rose self.old.device.faults self.new.device.faults }

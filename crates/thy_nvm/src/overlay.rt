@@ -113,7 +113,7 @@ impl<'a> Overlay<'a> {
         }
     }
 
-    /// The room that it was made in.
+    /// The room in which the device was made.
     pub fn into_spare(self) -> Spare
         ensures blocks { result.blocks ≡ length self.entry.device.image }
         ensures queue { result.queue ≡ self.entry.device.queue_room }
@@ -135,7 +135,7 @@ impl<'a> Nvm for Overlay<'a> {
 
     ghost writes = { λ o. o.writes };
 
-    /// Fails: it is made by `of` alone.
+    /// Fails: `of` alone makes this device.
     fn fit(&mut self, alloc: Global, shape: &Shape, start: Vec<Block>) -> Result<(), FitError>
         requires blocks { 0 < shape.now.blocks }
         requires queue { 0 < shape.now.queue }

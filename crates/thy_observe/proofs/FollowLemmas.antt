@@ -92,7 +92,7 @@ module _ (start : ℕ) (turns : List ℕ) (v next : View) (harts : List ℕ) (h 
     there = λ on. same ∙ h.there (up on);
   }
 
-  -- one that restores a checkpoint
+  -- a cycle that restores a checkpoint
   restores : (count : ℕ) → reach v ≡ count → reach next - start ≡ reach v - start → Tracks start turns next (take (count - start) harts)
   restores count here same =
       let many : length (take (count - start) harts) ≡ count - start = length-take-le (count - start) harts (let long = h.long in omega (arith, long, here)) in
@@ -104,7 +104,7 @@ module _ (start : ℕ) (turns : List ℕ) (v next : View) (harts : List ℕ) (h 
         there = λ on. omega (arith, many, here, same);
       }
 
-  -- one that loads the start
+  -- a cycle that loads the start
   loads : reach v ≡ 0 → reach next - start ≡ reach v - start → Tracks start turns next []
   loads here same = record {
     agree = λ i less. absurd (omega (arith, less, here, same));
@@ -112,7 +112,7 @@ module _ (start : ℕ) (turns : List ℕ) (v next : View) (harts : List ℕ) (h 
     there = λ on. omega (arith, here, same);
   }
 
-  -- one that retires an instruction
+  -- a cycle that retires an instruction
   retires_one : (hart : ℕ) → is_boot v.phase ≡ false → start ≤ reach v → reach next ≡ reach v + 1
       → get_or turns (reach v - start) 0 ≡ hart → Tracks start turns next (harts ++ hart ∷ [])
   retires_one hart up late more mine =

@@ -93,7 +93,7 @@ counts-one old new pc n pcs is sets h = record {
         ∙ (let z : count_by (λ p. p == q) pcs ≡ count_by (λ p. p == q) pcs + 0 = omega arith in z)
         ∙ ap (λ (c : Bool). count_by (λ p. p == q) pcs + cond c 1 0) (sym e)
 
--- no table counts nothing
+-- an empty table counts nothing
 pub counts-none : (table : List (ℕ × ℕ)) → table ≡ [] → AreCounts table []
 counts-none table none = record {
   sound = λ q. subst (λ (t : List (ℕ × ℕ)). 0 < unwrap_or (lookup (is_at (nat_cmp q)) t) 1) (sym none) (omega arith);

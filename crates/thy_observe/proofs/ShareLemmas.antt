@@ -17,7 +17,7 @@ shares-one s (x ∷ seen) t = shares-one (shares_after_cut (shares_after_step s 
 
 -- ---- each cycle goes into one of them at the most
 
--- what a step or a cut makes of shares: so many instructions more, and at most so many moves
+-- what a step or a cut makes of shares: `retired` instructions more, and at most `moved` moves
 record Adds (s next : Shares) (moved retired : ℕ) : Type 0 where
   moves : all_moved next + next.in_hand ≤ all_moved s + s.in_hand + moved
   retires : all_retired next ≡ all_retired s + retired
@@ -83,7 +83,7 @@ shares-add-up seen =
     let all = adds-all nobodys seen in
     record { retired = omega (arith, all.retires); moved = omega (arith, all.moves) }
 
--- no more cycles went into them than there were
+-- no more cycles went into the shares than there were
 pub few-after : (seen : List Taken) → AreOf (shares_after nobodys seen) (length seen)
 few-after seen =
     let all = adds-all nobodys seen in

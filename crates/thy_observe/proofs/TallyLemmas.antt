@@ -16,7 +16,7 @@ use Rattle.thy_observe.specs.Shares.{nobodys, shares_after_step, shares_after_cu
 use Rattle.thy_observe.proofs.ShareLemmas.{shares-one}
 use Rattle.thy_observe.specs.EventCycles.{retired_after_step, retired_after_cut, retired_after, event_cycle_of, event_cycles_from, IsShort}
 
--- one more counts if it is one
+-- a count over one more element is one more if that passes
 pub count-one : {X : Type 0} (p : X → Bool) (xs : List X) (x : X) → count_by p (xs ++ x ∷ []) ≡ count_by p xs + cond (p x) 1 0
 count-one p xs x = sum_by_push (λ y. cond (p y) 1 0) xs x
 
@@ -25,7 +25,7 @@ pub retired-one : (retired : Option RetiredCount) (seen : List Taken) (t : Taken
 retired-one retired [] t = refl
 retired-one retired (s ∷ seen) t = retired-one (retired_after_cut (retired_after_step retired s.stepped.did) s.fell) seen t
 
--- and the cycles that made events
+-- the cycles that made events, after one more
 pub event-cycles-one : (cycle : ℕ) (retired : Option RetiredCount) (seen : List Taken) (t : Taken)
     → event_cycles_from cycle retired (seen ++ t ∷ []) ≡ event_cycles_from cycle retired seen ++ event_cycle_of (cycle + length seen) (retired_after retired seen) t
 event-cycles-one cycle retired [] t =

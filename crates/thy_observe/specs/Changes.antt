@@ -31,7 +31,7 @@ lost_in false = []
 abbrev pub changes_in : Taken → List Change
 changes_in t = as_list (change_of t.stepped.did) ++ lost_in t.fell
 
--- what these cycles made of it, in order
+-- the changes that these cycles made of the program's state, in order
 abbrev pub changes_of : List Taken → List Change
 changes_of seen = flat_map changes_in seen
 
@@ -49,7 +49,7 @@ dated_from cycle (t ∷ seen) = map (dated cycle) (changes_in t) ++ dated_from (
 abbrev pub dated_of : List Taken → List Dated
 dated_of seen = dated_from 1 seen
 
--- these were added to a list, if there was one and still is
+-- these changes were added to a list, if there was one and still is
 abbrev pub Adds : Option (Vec Dated Global) → Option (Vec Dated Global) → List Dated → Type 0
 Adds old new more = (before : List Dated) → IfSome old (λ v. v.items ≡ before) → IfSome new (λ v. v.items ≡ before ++ more)
 

@@ -11,14 +11,15 @@ abbrev pub further : Option RetiredCount → Option RetiredCount
 further None = None
 further (Some p) = Some (record { from = p.from; since = p.since + 1 })
 
--- the count after a step: what is loaded begins with no instruction retired, and what is restored with as many as it has
+-- the count after a step: what is loaded begins with no instruction retired, and what is restored with the count that
+-- it has
 abbrev pub retired_after_step : Option RetiredCount → Did → Option RetiredCount
 retired_after_step retired Loaded = Some (record { from = 0; since = 0 })
 retired_after_step retired (Restarted epoch count) = Some (record { from = count; since = 0 })
 retired_after_step retired (Retired hart) = further retired
 retired_after_step retired did = retired
 
--- and after the cut that may fall after it: none, as a boot follows
+-- the count after the cut that may fall after a step: none, as a boot follows
 abbrev pub retired_after_cut : Option RetiredCount → Bool → Option RetiredCount
 retired_after_cut retired fell = if fell then None else retired
 
@@ -27,12 +28,12 @@ abbrev pub retired_after : Option RetiredCount → List Taken → Option Retired
 retired_after retired [] = retired
 retired_after retired (t ∷ seen) = retired_after (retired_after_cut (retired_after_step retired t.stepped.did) t.fell) seen
 
--- the cycle of this number, if it made events
+-- a cycle by its number and how many events it made; none if it made no events
 abbrev pub event_cycle_of : ℕ → Option RetiredCount → Taken → List EventCycle
 event_cycle_of cycle retired t =
     if t.told == 0 then [] else record { cycle = cycle; retired = retired_after_step retired t.stepped.did; told = t.told; fell = t.fell } ∷ []
 
--- those of these cycles that made events, if the first has this number
+-- the cycles among these that made events, if the first has this number
 abbrev pub event_cycles_from : ℕ → Option RetiredCount → List Taken → List EventCycle
 event_cycles_from cycle retired [] = []
 event_cycles_from cycle retired (t ∷ seen) =

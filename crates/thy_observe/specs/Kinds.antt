@@ -63,7 +63,7 @@ is_at i t = index_of (kind_of t.stepped.did) == i
 abbrev pub how_many : ℕ → List Taken → ℕ
 how_many i seen = count_by (is_at i) seen
 
--- each cycle is of one kind: all kinds together are as many as the cycles
+-- each cycle is of one kind: the counts of all kinds add up to the number of cycles
 abbrev pub KindsAddUp : Type 0
 KindsAddUp = (seen : List Taken) → sum_by (λ i. how_many i seen) (range_with_len 0 17) ≡ length seen
 

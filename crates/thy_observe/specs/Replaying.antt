@@ -61,7 +61,7 @@ pub record AreCounts (table : List (ℕ × ℕ)) (pcs : List ℕ) : Type 0 where
 
 -- ---- as the program has it
 
--- one more is counted
+-- a table counts one more
 abbrev pub AddsOne : BTreeMap ℕ ℕ → BTreeMap ℕ ℕ → ℕ → Type 0
 AddsOne old new pc = (pcs : List ℕ) → AreCounts old.entries pcs → AreCounts new.entries (pcs ++ pc ∷ [])
 

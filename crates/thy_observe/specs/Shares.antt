@@ -8,11 +8,11 @@ use Rattle.thy_observe.specs.declared.shares.Share.{Share}
 use Rattle.thy_observe.specs.declared.shares.Shares.{Shares}
 use Rattle.thy_observe.specs.Kinds.{how_many}
 
--- no hart has done anything
+-- the shares while no hart has done anything
 abbrev pub nobodys : Shares
 nobodys = record { first = record { moved = 0; retired = 0 }; second = record { moved = 0; retired = 0 }; in_hand = 0 }
 
--- an instruction more, and the moves before it
+-- the share of a hart with one instruction more, and with the moves before it
 abbrev pub with_one : ℕ → Share → Share
 with_one moves s = record { moved = s.moved + moves; retired = s.retired + 1 }
 
@@ -39,7 +39,7 @@ shares_after_step s did = s
 abbrev pub shares_after_cut : Shares → Bool → Shares
 shares_after_cut s fell = if fell then dropped s else s
 
--- after these cycles
+-- what each hart did after these cycles
 abbrev pub shares_after : Shares → List Taken → Shares
 shares_after s [] = s
 shares_after s (t ∷ seen) = shares_after (shares_after_cut (shares_after_step s t.stepped.did) t.fell) seen
@@ -52,12 +52,12 @@ all_moved s = s.first.moved + s.second.moved
 abbrev pub all_retired : Shares → ℕ
 all_retired s = s.first.retired + s.second.retired
 
--- no more cycles than so many went into them
+-- no more than this number of cycles went into the shares
 pub record AreOf (s : Shares) (cycles : ℕ) : Type 0 where
   pub moved : all_moved s + s.in_hand ≤ cycles
   pub retired : all_retired s ≤ cycles
 
--- they add up: the instructions are those of both, and there are at least as many moves as both have
+-- the shares of both harts together have all instructions, and no more moves than there were
 pub record AddUp (s : Shares) (seen : List Taken) : Type 0 where
   pub retired : all_retired s ≡ how_many 4 seen
   pub moved : all_moved s ≤ how_many 3 seen

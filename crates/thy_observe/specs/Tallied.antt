@@ -7,9 +7,9 @@ use Rattle.thy_observe.specs.Kinds.{how_many, has_waited}
 use Rattle.thy_observe.specs.EventCycles.{event_cycles_from, retired_after}
 use Rattle.thy_observe.specs.Shares.{nobodys, shares_after}
 
--- a tally has these cycles: how many they are, how many are of each kind, how many the engine took at the turn of the hart,
--- the count after them, what each hart did, and those that made events, which are lost if memory ran out for one. Where no
--- event was made none is lost
+-- A tally has these cycles: how many they are, how many are of each kind, how many the engine took at the turn of the
+-- hart, the count after them, and what each hart did. It also has the cycles that made events, which are lost if memory
+-- ran out for one; if no event was made none is lost.
 pub record IsTally (t : Tally) (seen : List Taken) : Type 0 where
   pub cycles : t.cycles ≡ length seen
   pub kinds : length t.kinds ≡ 17
@@ -20,6 +20,6 @@ pub record IsTally (t : Tally) (seen : List Taken) : Type 0 where
   pub event_cycles : t.lost ≡ false → t.event_cycles.items ≡ event_cycles_from 1 None seen
   pub whole : event_cycles_from 1 None seen ≡ [] → t.lost ≡ false
 
--- it has these cycles, and keeps the step of the next one
+-- a tally has these cycles, and keeps the step of the next one
 abbrev pub KeepsTally : Tally → List Taken → Stepped → Type 0
 KeepsTally t seen r = IsTally t seen × (t.kept ≡ Some r)

@@ -33,8 +33,8 @@ abbrev pub reached_by : Option ℕ → (pc : ℕ) (regs : List ℕ) → Option �
 reached_by None pc regs = None
 reached_by (Some word) pc regs = reached (word_effect word pc regs)
 
--- a trap of this number, of this hart, in a state that has the hart in front: its pc, which is that of the instruction that
--- trapped, the word there, and, if a load, a store or an atomic instruction trapped, its address
+-- A trap of this number, of this hart, in a state that has the hart in front. Its pc is where the instruction that
+-- trapped is; the trap also has the word there and, if a load, a store or an atomic instruction trapped, its address.
 abbrev pub trap_by : (cause base hart : ℕ) → State → Trap
 trap_by cause base hart s =
     let word = trapped_word base s.pc s.memory in

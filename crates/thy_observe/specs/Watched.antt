@@ -8,7 +8,7 @@ use Rattle.thy_observe.specs.Changes.{AreChanges, KeepsChanges}
 use Rattle.thy_observe.specs.Tallied.{IsTally, KeepsTally}
 use Rattle.thy_observe.specs.Trapping.{HasTrap}
 
--- each has seen these cycles
+-- tally and changes have seen these cycles
 abbrev pub IsWatch : Watch → List Taken → Type 0
 IsWatch w seen = IsTally w.tally seen × AreChanges w.changes seen
 
@@ -16,6 +16,6 @@ IsWatch w seen = IsTally w.tally seen × AreChanges w.changes seen
 abbrev pub KeepsWatch : Watch → List Taken → Stepped → Type 0
 KeepsWatch w seen r = KeepsTally w.tally seen r × KeepsChanges w.changes seen r
 
--- the plain machine's trap is there
+-- the watch keeps the plain machine's trap
 abbrev pub HasLast : Watch → ℕ → State → Type 0
 HasLast w base last = HasTrap w.tally base last

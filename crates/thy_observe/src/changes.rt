@@ -11,11 +11,11 @@ use thy_view::{Did, Stepped};
 /// What a cycle made of the program's state.
 #[derive(Clone, Copy, Debug, PartialEq, Eq, Drop)]
 pub enum Change {
-    /// It is the start of the run.
+    /// The state is the start of the run.
     Loaded,
-    /// It is the state of a checkpoint, with this count.
+    /// The state is a checkpoint's, with this count.
     Restored(u64),
-    /// It is one instruction further, by this hart.
+    /// The state is one instruction further, by this hart.
     Retired(u32),
     /// It is lost, as power was cut.
     Lost,

@@ -28,7 +28,7 @@ pub struct Counting<N> {
 }
 
 impl<N> Counting<N> {
-    /// Over a device. No call is counted yet.
+    /// A device that counts the calls of this one. No call is counted yet.
     pub fn over(inner: N) -> Counting<N> {
         Counting {
             inner,
@@ -49,7 +49,7 @@ impl<N> Counts for Counting<N> {
     }
 }
 
-/// One more, if a call has succeeded.
+/// The count of calls after one more call, if that has succeeded.
 fn counted(count: u64, done: bool) -> u64 {
     if done { count.saturating_add(1) } else { count }
 }

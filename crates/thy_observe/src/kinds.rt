@@ -5,7 +5,7 @@ ghost use Rattle.thy_observe.specs.Kinds.{kind_of, index_of, KindsAddUp};
 use thy_layout::EngineStep;
 use thy_view::Did;
 
-/// What kind of cycle it was.
+/// The kind of a cycle.
 #[derive(Clone, Copy, Debug, PartialEq, Eq, Drop)]
 pub enum Kind {
     /// An action of the boot.
@@ -28,23 +28,23 @@ pub enum Kind {
     Sealed,
     /// The engine copied a block of memory.
     Copied,
-    /// It wrote a block of a page back.
+    /// The engine wrote a block of a page back.
     Page,
-    /// It wrote a block of the processor's record.
+    /// The engine wrote a block of the processor's record.
     State,
-    /// It wrote a block of the tables.
+    /// The engine wrote a block of the tables.
     Table,
-    /// It made the barrier before the commit block.
+    /// The engine made the barrier before the commit block.
     Barrier,
-    /// It wrote the commit block.
+    /// The engine wrote the commit block.
     Commit,
-    /// It made the barrier behind the commit block.
+    /// The engine made the barrier after the commit block.
     Committed,
-    /// There was nothing to do.
+    /// The machine had nothing to do.
     Nothing,
 }
 
-/// How many kinds there are.
+/// How many kinds of cycles there are.
 pub(crate) const KINDS: usize = 17;
 
 /// Of what kind an action of the engine is.

@@ -41,7 +41,7 @@ impl From<AllocError> for ReplayError {
 /// A run that is executed again, up to a change of its state.
 #[derive(Drop)]
 struct Replay {
-    /// The plain machine there.
+    /// The plain machine at that change.
     plain: Plain,
     /// The harts that retired the instructions from the start up to there, those that were lost left out.
     harts: Vec<u32>,

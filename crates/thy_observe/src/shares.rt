@@ -7,9 +7,9 @@ use thy_view::Did;
 /// What a hart did.
 #[derive(Clone, Copy, Debug, PartialEq, Eq, Drop)]
 pub struct Share {
-    /// Cycles within the instructions that it retired, before they were.
+    /// The cycles in which the hart moved on within instructions that it retired later.
     pub moved: u64,
-    /// The instructions that it retired.
+    /// The instructions that the hart retired.
     pub retired: u64,
 }
 
@@ -21,7 +21,7 @@ pub struct Shares {
     pub in_hand: u64,
 }
 
-/// No hart has done anything.
+/// The shares while no hart has done anything.
 pub(crate) fn nobodys() -> Shares
     ensures { result ≡ nobodys }
 {
@@ -68,7 +68,7 @@ fn retired_by(hart: u32, shares: Shares) -> Shares
     }
 }
 
-/// The instruction in hand is dropped: its moves are no hart's.
+/// The shares after the instruction in hand is dropped: its moves count for no hart.
 fn dropped(shares: Shares) -> Shares
     ensures { result ≡ dropped shares }
 {
@@ -94,7 +94,7 @@ pub(crate) fn shares_after_step(shares: Shares, did: Did) -> Shares
     }
 }
 
-/// And after the cut that may fall after the step: the instruction in hand is dropped.
+/// What each hart did after the cut that may fall after the step: the instruction in hand is dropped.
 pub(crate) fn shares_after_cut(shares: Shares, fell: bool) -> Shares
     ensures { result ≡ shares_after_cut shares fell }
 {

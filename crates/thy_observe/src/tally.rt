@@ -22,7 +22,7 @@ use thy_view::{Stall, Stepped};
 pub struct Tally {
     /// How many cycles there were.
     cycles: u64,
-    /// How many there were of each kind, by its index.
+    /// How many cycles there were of each kind, by the kind's index.
     kinds: [u64; KINDS],
     /// How many the engine took at the turn of the hart, which waited for it.
     waiting: u64,
@@ -34,7 +34,7 @@ pub struct Tally {
     event_cycles: Vec<EventCycle>,
     /// Memory ran out for one of these.
     lost: bool,
-    /// The step of the next cycle, if a cut is due after it.
+    /// The step of the next cycle, if a cut falls after it.
     kept: Option<Stepped>,
     /// The trap of the plain machine, if it stopped by one.
     trap: Option<Trap>,
@@ -50,7 +50,7 @@ fn waiting_in(stall: Option<Stall>) -> u64
     }
 }
 
-/// Adds a cycle if events were made in it, and returns whether one is lost, this one or an earlier one. None is lost where
+/// Adds a cycle if events were made in it, and returns whether one is lost, this one or an earlier one. None is lost if
 /// none was made.
 fn add_event_cycle(event_cycles: &mut Vec<EventCycle>, lost: bool, event_cycle: EventCycle) -> bool
     ensures due { event_cycle.told ≡ 0 → result ≡ lost }
@@ -82,7 +82,7 @@ impl Tally {
         }
     }
 
-    /// Adds the cycle of a step, in which so many events were made, and after which a cut fell or not.
+    /// Adds the cycle of a step, in which `told` events were made, and after which a cut fell or not.
     fn add(&mut self, stepped: &Stepped, told: usize, fell: bool, cycle: u64)
         requires { CanSee IsTally self.old cycle }
         ensures { Sees IsTally self.old self.new (taken stepped.now told fell) }

@@ -18,7 +18,7 @@ pub struct Watch {
 }
 
 impl Watch {
-    /// Of no cycle. Takes no memory.
+    /// A watch that has seen no cycle. Takes no memory.
     pub fn new(alloc: Global, wants_changes: bool) -> Watch
         ensures { IsWatch result [] }
     {

@@ -21,7 +21,7 @@ use thy_words::{Command, settings};
 /// Does what the arguments after the program's name ask for, with the machine `A` for `SchemeName::Thynvm`, `B` for
 /// `SchemeName::Journal`, and `C` for `SchemeName::Shadow`. Each machine has to read the files of its own scheme alone.
 ///
-/// The result is that of the command, or says why the arguments are refused. The observer, which has seen nothing yet, has
+/// The result is the command's, or says why the arguments are refused. The observer, which has seen nothing yet, has
 /// seen the cycles of the run, or the last state of the plain machine; or nothing, if there is neither. The runs of a
 /// comparison it is not shown.
 pub fn carry_out<

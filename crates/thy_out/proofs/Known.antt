@@ -9,7 +9,7 @@ use Rattle.thy_base.specs.Outside.{Stream, Grew, Took, TookPart, Fetched}
 use Rattle.thy_base.specs.declared.outside.FetchError.TheVariants.{TooLong}
 use Rattle.thy_out.specs.Spring.{LosesAtMost}
 
--- known bytes with more behind them
+-- known bytes with more after them
 pub Appends-told : (b c : Option (List ℕ)) (known more : List ℕ) → b ≡ Some known → Appends b c more → c ≡ Some (known ++ more)
 Appends-told None c known more told h = cc
 Appends-told (Some x) None known more told h = absurd h
@@ -59,7 +59,7 @@ Consumes-keeps (Some x) None c some one two = absurd one
 Consumes-keeps (Some x) (Some y) None some one two = absurd two
 Consumes-keeps (Some x) (Some y) (Some z) some one two = one ∙ ap (λ l. some ++ l) (sym two)
 
--- and how many they are at most
+-- two reads take at most n bytes, if their numbers add up to at most n
 pub LosesAtMost-append : (n : ℕ) (a b c : Option (List ℕ)) (some more : List ℕ) → Consumes a b some → Consumes b c more
     → length some + length more ≤ n → LosesAtMost n a c
 LosesAtMost-append n a b c some more one two few =

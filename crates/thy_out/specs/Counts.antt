@@ -3,6 +3,6 @@ use Rattle.std.specs.Prelude.{ℕ, Bool, ◌==◌, List}
 use Rattle.std.specs.List.{list_any}
 use Rattle.thy_base.specs.Counts.{next}
 
--- the call after so many is listed
+-- the call after this number of calls is listed
 abbrev pub is_listed : List ℕ → ℕ → Bool
 is_listed failing calls = list_any (λ n. n == next calls) failing

@@ -6,7 +6,7 @@ use Rattle.thy_base.specs.Counts.{next}
 use Rattle.thy_out.specs.declared.disk.Replaced.{Replaced}
 use Rattle.thy_out.specs.declared.disk.Replaced.TheVariants.{Done, Refused, Failed}
 
--- the files of the system: how many puts were done, and how many failed at a call
+-- the files of the system: how many times bytes were put, and how many times that failed at a call
 pub record Tally : Type 0 where
   pub puts : ℕ
   pub failures : ℕ
@@ -36,7 +36,7 @@ refuses _ = false
 abbrev pub ended_by : ErrorKind → Replaced
 ended_by kind = if refuses kind then Refused kind else Failed
 
--- it is refused only with such an error, and then counts neither as done nor as failed
+-- a put is refused only with an error that means so, and then counts neither as done nor as failed
 abbrev pub CountsAs : Tally → Tally → Replaced → Type 0
 CountsAs old new Done = new ≡ one_done old
 CountsAs old new (Refused kind) = (refuses kind ≡ true) × (new ≡ old)

@@ -6,7 +6,7 @@ use Rattle.thy_base.specs.Counts.{Rose}
 use Rattle.thy_base.specs.declared.outside.FetchError.{FetchError}
 use Rattle.thy_base.specs.declared.outside.FetchError.TheVariants.{Failed}
 
--- the bytes that it has left, if they are known, and how many of its reads failed
+-- the bytes that a reader has left, if they are known, and how many of its reads failed
 pub record Spring : Type 0 where
   pub left : Option (List ℕ)
   pub failures : ℕ

@@ -4,7 +4,7 @@ use Rattle.thy_base.specs.Counts.{next}
 use Rattle.thy_base.specs.Outside.{Stream}
 use Rattle.thy_out.specs.Counts.{is_listed}
 
--- what it took, how many bytes it can take in all, the calls so far, those that fail, the faults
+-- a tape: what it took, how many bytes it can take in all, the calls so far, the calls that fail, and the faults
 pub record Tape : Type 0 where
   pub taken : List ℕ
   pub room : ℕ
@@ -16,7 +16,7 @@ pub record Tape : Type 0 where
 abbrev pub stream_of : Tape → Stream
 stream_of tape = record { taken = Some tape.taken; faults = tape.faults }
 
--- how many bytes it can still take
+-- how many more bytes a tape can take
 abbrev pub left_of : Tape → ℕ
 left_of tape = tape.room - length tape.taken
 

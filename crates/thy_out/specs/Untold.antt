@@ -8,7 +8,7 @@ use Rattle.thy_base.specs.declared.outside.FetchError.TheVariants.{Memory}
 use Rattle.thy_base.specs.declared.outside.PutError.{PutError}
 use Rattle.thy_base.specs.declared.outside.PutError.TheVariants.{Memory as PutMemory}
 
--- what it holds is unknown, since others change it too; so are the names under which calls failed
+-- a shelf whose files are unknown, since others change them too, as are the names under which calls failed
 abbrev pub untold : ℕ → Stock
 untold faults = record { held = None; failed = None; faults = faults }
 

@@ -3,19 +3,19 @@ use Rattle.std.specs.Prelude.{ℕ, Bool, false, List, Option, Result, Ok, Err}
 use Rattle.thy_base.specs.Counts.{next}
 use Rattle.thy_base.specs.Outside.{Stream}
 
--- the bytes that it took, if they are known; whether all of them were flushed, and whether they were synced; how many of its
--- calls failed
+-- a target: the bytes that it took, if they are known; whether all of them were flushed, and whether they were synced;
+-- how many of its calls failed
 pub record Written : Type 0 where
   pub taken : Option (List ℕ)
   pub flushed : Bool
   pub synced : Bool
   pub failures : ℕ
 
--- before any call
+-- a target before any call
 abbrev pub untouched : Option (List ℕ) → Written
 untouched there = record { taken = there; flushed = false; synced = false; failures = 0 }
 
--- it takes bytes as a sink does
+-- a target takes bytes as a sink does
 abbrev pub stream_of : Written → Stream
 stream_of target = record { taken = target.taken; faults = target.failures }
 

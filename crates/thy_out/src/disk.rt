@@ -13,8 +13,8 @@ use std::os::unix::fs::{MetadataExt, OpenOptionsExt, lchown};
 use std::{fs, io};
 use thy_base::SinkError;
 
-/// The files that the runtime reaches, and two counts: of the puts that were done, and of those that failed at a
-/// call. A name is a path.
+/// The files that the runtime reaches, and two counts: how many times bytes were put, and how many times that failed at
+/// a call. A name is a path.
 #[derive(Drop)]
 pub struct Disk<R> {
     rt: R,
@@ -44,7 +44,7 @@ pub enum Replaced {
 /// What a name refers to.
 #[derive(Drop)]
 enum Standing {
-    /// Nothing.
+    /// The name refers to nothing.
     Nothing,
     /// A file that has no other name and may be written.
     Alone(Metadata),
@@ -242,7 +242,7 @@ impl<R: Files> Disk<R> {
         }
     }
 
-    /// Puts bytes under a name by a new file, if that is possible.
+    /// Stores bytes under a name by a new file, if that is possible.
     fn replace(&mut self, name: &str, bytes: &[u8]) -> Replaced
         ensures { CountsAs self.old self.new result }
     {

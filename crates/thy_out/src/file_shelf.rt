@@ -117,8 +117,9 @@ impl<R: Files> Shelf for FileShelf<R> {
         }
     }
 
-    /// By a new file beside the name, which is synced and renamed over it, if the name refers to nothing or to
-    /// a file with no other name, and the system lets a file be made there; otherwise by writing over what is there.
+    /// Replaces the file by a new one beside the name, which is synced and renamed over it, or writes over what is
+    /// there. It makes a new file if the name refers to nothing or to a file with no other name, and the system lets a
+    /// file be made there.
     fn put(&mut self, _alloc: Global, name: &str, bytes: &[u8]) -> Result<(), PutError>
         ensures faults { PutCounts name.now (untold self.old.faults) (untold self.new.faults) result }
         ensures failed { IfErr result (λ e. e ≡ PutError.Failed) }

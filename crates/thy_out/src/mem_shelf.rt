@@ -86,7 +86,7 @@ fn fetched(
     }
 }
 
-/// Puts a file in front of the others.
+/// Inserts a file before the others.
 fn put_first(
     files: &mut Vec<(String, Vec<u8>)>,
     alloc: Global,
@@ -136,7 +136,7 @@ impl Shelf for MemShelf {
         fetched(self.files.as_slice(), alloc, name, limit)
     }
 
-    /// The file is found before older ones of its name.
+    /// The shelf finds the new file before older ones of its name.
     fn put(&mut self, alloc: Global, name: &str, bytes: &[u8]) -> Result<(), PutError>
         ensures ok { OnOk result (Holds (stock_of self.new) name.now bytes.now) }
         ensures others { KeepsOthers (stock_of self.old) (stock_of self.new) name.now }

@@ -45,7 +45,7 @@ impl MemSink {
         })
     }
 
-    /// What it took.
+    /// The bytes that the sink took.
     pub fn taken(&self) -> &[u8]
         ensures { result.now ≡ self.now.taken }
     {

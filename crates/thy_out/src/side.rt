@@ -28,7 +28,7 @@ impl Side {
         Some(Side { path })
     }
 
-    /// As a path.
+    /// The name of the file as a path.
     pub(crate) fn as_str(&self) -> &str
         ensures { result.now ≡ self.now.path.bytes }
     {

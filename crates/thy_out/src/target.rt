@@ -105,7 +105,7 @@ impl<W: Write> Target<W> {
         Ok(())
     }
 
-    /// Has the writer pass on what it took.
+    /// Makes the writer pass on what it took.
     pub fn flush(&mut self) -> Result<(), SinkError>
         ensures taken { Keeps self.old.taken self.new.taken }
         ensures flushed { self.new.flushed ≡ is_ok result }

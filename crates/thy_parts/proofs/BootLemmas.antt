@@ -216,7 +216,7 @@ module _ {C : Type 0} (D : DesignOf C) (w : AreParts D) where
       decode_by-zero (layout_at D.filling p) ceiling (fitted shape [] n).image
       (ap is_zero (get_or-replicate (shape.blocks - 0) 1 zero_block zero_block some) ∙ is_zero-zero_block)
 
-  -- power can come on
+  -- the DRAM with which power comes on
   abbrev no_dram : Parameters → Contents
   no_dram p = fresh (dram_blocks p) p.dramq
 

@@ -434,7 +434,7 @@ module _ {C : Type 0} (D : DesignOf C) (w : AreParts D) where
     boot-fails-by (Ok a) took = tt
     boot-fails-by (Err x) took = boot_fails o s n booting new took.err took.frame
 
-  -- with the start of a run
+  -- a step of the boot, with the start of a run
   pub took-for : (o : Origin) (start : Start) → Begins o start → (r : Result BootStep NvmError) (n : Device) (b : Booting) (c : C) (new : Device) (d : Booting) (e : C)
       → TakesStep F r (state_of start.state) n b c new d e → TakesStep F r o.start n b c new d e
   took-for o start begins r n b c new d e took = subst (λ (x : Plain). TakesStep F r x n b c new d e) (sym begins.state) took

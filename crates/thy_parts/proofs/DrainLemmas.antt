@@ -39,7 +39,7 @@ module _ {C : Type 0} (D : DesignOf C) (w : IsDesign D) (o : Origin) (k : Checkp
   abbrev sound : IsSound D o k s n
   sound = stands.sound
 
-  -- with another controller
+  -- the composed scheme with another controller
   abbrev With : C → Composed C
   With d = record s { control = d }
 

@@ -10,7 +10,7 @@ use Rattle.thy_base.specs.Device.{zero_block, block_at}
 use Rattle.thy_base.proofs.BasicLemmas.{Contains-range}
 use Rattle.thy_layout.proofs.AskingLemmas.{map-alike}
 
--- alike at each number
+-- two functions that are alike at each number make the same list of blocks
 pub map_below : (size : ℕ) (f g : ℕ → Block) → ((b : ℕ) → b < size → f b ≡ g b)
     → map f (range_with_len 0 size) ≡ map g (range_with_len 0 size)
 map_below size f g each =
@@ -21,7 +21,7 @@ map_below size f g each =
     let e = at.2 in
     each b (omega (arith, l, e)))
 
--- read at places
+-- a list of blocks that are read at places
 pub map_places : (size : ℕ) (read : ℕ → Block) (place : ℕ → ℕ) (look : ℕ → Block)
     → ((b : ℕ) → b < size → read (place b) ≡ look b)
     → map read (map place (range_with_len 0 size)) ≡ map look (range_with_len 0 size)
@@ -29,7 +29,7 @@ map_places size read place look each =
     map-map read place (range_with_len 0 size)
     ∙ map_below size (λ (b : ℕ). read (place b)) look each
 
--- with another block at one place
+-- a list of blocks, with another block at one place
 pub map_set : (size : ℕ) (f g : ℕ → Block) (b : ℕ) (block : Block) → b < size → f b ≡ block → ((c : ℕ) → c < size → c ≢ b → f c ≡ g c)
     → map f (range_with_len 0 size) ≡ slice_set (map g (range_with_len 0 size)) b block
 map_set size f g b block small here there =

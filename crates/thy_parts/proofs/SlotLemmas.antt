@@ -144,7 +144,7 @@ module _ {C : Type 0} (D : DesignOf C) (w : IsDesign D) (e : Progress) (c : C) (
   below : e.epoch < 2 ^ 64
   below = let small = can.small in omega (arith, small)
 
-  -- its first blocks are the processor's record
+  -- the first blocks of a slot are the processor's record
   record_block : (k : ℕ) → k < record_blocks e.p → block_at (slot_list D e c) k ≡ cpu_block_of e.cpu e.epoch k
   record_block k l =
       let inside : k < slot_blocks D.filling e =

@@ -58,7 +58,7 @@ marks_of_step : (k : CheckpointMarks) (step : EngineStep) → (step ≡ Copied) 
 marks_of_step k step (inl is) = ap (λ x. marks_after x k) is
 marks_of_step k step (inr is) = ap (λ x. marks_after x k) is
 
--- what is written before an item goes by no other stage
+-- what was written before an item does not depend on the stage that the engine's record has
 pub written_stage : {C : Type 0} (D : DesignOf C) (q r : EngineStage) (e : Progress) (c : C) (n : Device) → HasWrittenBefore D q e c n
     → HasWrittenBefore D q (record e { stage = r }) c n
 written_stage D Idle r e c n b = tt
@@ -213,7 +213,7 @@ module _ {C : Type 0} (D : DesignOf C) (w : IsDesign D) (o : Origin) (k : Checkp
     rests = on.rests s.storeless s.sealed_storeless h.rests;
   }
 
-  -- to one outside the round
+  -- the checkpoints are kept by a step to a stage outside the round
   goes : (q : EngineStage) (d : C) (m : Device) → Carries D e.epoch (phase_of e.stage) c n (phase_of q) d m → Fits F I (record e { stage = q }) d
       → IsKeeping o l (standing_at q m g) → newest m 0 ≡ newest n 0 → HasWrittenBefore D q e d m
       → is_sealing q ≡ is_sealing e.stage → is_confirming q ≡ is_confirming e.stage → is_settled q ≡ false
@@ -221,7 +221,7 @@ module _ {C : Type 0} (D : DesignOf C) (w : IsDesign D) (o : Origin) (k : Checkp
   goes q d m on fits keeping header written sealing confirming unsettled =
       goes_to q d m g.next k.written on fits keeping header written sealing (h.doubt ∙ sym confirming) (λ is. absurd (both_ways (is_settled q) unsettled is))
 
-  -- from a stage of the engine
+  -- what carries the phase of a stage carries the engine's own
   from_stage : (q : EngineStage) (to : Phase) (d : C) (m : Device) → e.stage ≡ q → Carries D e.epoch (phase_of q) c n to d m
       → Carries D e.epoch (phase_of e.stage) c n to d m
   from_stage q to d m is on = subst (λ r. Carries D e.epoch (phase_of r) c n to d m) (sym is) on
@@ -384,13 +384,13 @@ module _ {C : Type 0} (D : DesignOf C) (w : IsDesign D) (o : Origin) (k : Checkp
       by_round Commit inside = header_written 1 (commit_of e.epoch) (λ q. omega (arith, q))
       by_round r inside = header_settled
 
-    -- what is issued then
+    -- what is issued after an action of the round
     issued_then : AreIssuedThen (layout_of F e).image_blocks (parts_at D e c) (commit_of e.epoch) (next_round (slot_blocks F e) r) m_r (D.parts.sealed c n)
     issued_then =
         rounds_issue (layout_of F e).image_blocks (parts_at D e c) (commit_of e.epoch) (placed D w e c n moment_r (can here.way)).placed r n (D.parts.sealed c n)
         here.inside here.issued
 
-    -- to the next action
+    -- the checkpoints are kept by a step to the next action of the round
     goes_in : (q : Round) (next : List Block) (now_written : Bool) → now_written ≡ is_written q → Makes (InRound q) c next
         → IsInRound (slot_blocks F e) q × Issued q m_r (D.parts.sealed c n) → IsKeeping o l (standing m_r (saved_in q g.before next) g.kept (Some old.mark))
         → IsSound D o (record k { written = now_written }) (now (InRound q) c) m_r
@@ -404,7 +404,7 @@ module _ {C : Type 0} (D : DesignOf C) (w : IsDesign D) (o : Origin) (k : Checkp
         (subst (λ (x : Option Mark). IsKeeping o l (standing m_r (saved_in q g.before next) g.kept x)) (sym old.sealed) keeping) header_r
         (subst (λ (memory : List Block). Issued q m_r memory) (sym on_round.sealed) written.1) (sym here.way) doubt makes
 
-  -- by the action
+  -- the checkpoints are kept by a write of the round
   sound_write : (j : ℕ) → Here (Write j) → IsSound D o (marks_after (report I e (RoundItem (Write j))) k) (now (next_after F I e (RoundItem (Write j))) c)
       (written_to n (slot_place F e j) (slot_block I e c j))
   sound_write j here =
@@ -442,7 +442,7 @@ module _ {C : Type 0} (D : DesignOf C) (w : IsDesign D) (o : Origin) (k : Checkp
     keeping_d : IsKeeping o l (standing (settled n) (Kept g.next) g.sealed None)
     keeping_d = subst (λ (x : Option Mark). IsKeeping o l (standing (settled n) (Kept g.next) x None)) (sym old_d.sealed) (keeping_then Confirm here)
 
-    -- at the stage after it
+    -- the checkpoints are kept by the barrier that commits, at the stage after it
     ends : (q : EngineStage) → is_sealing q ≡ false → is_confirming q ≡ false → saved_at q (record g { before = g.next; kept = g.sealed; sealed = None }) ≡ Kept g.next
         → HasWrittenBefore D q e (I.committed c) (settled n) → Commits D e.epoch c (settled n) (phase_of q) (I.committed c) (settled n)
         → Fits F I (record e { stage = q }) (I.committed c) → IsSound D o (only (unwrap_or k.sealed k.done)) (now q (I.committed c)) (settled n)

@@ -59,7 +59,7 @@ powered_on D p dram = record {
   boot = new_boot D.filling p;
 }
 
--- after a store of a block
+-- a composed scheme after a store of a block
 abbrev pub stored : {C : Type 0} → DesignOf C → ℕ → Block → Composed C → Device → Composed C
 stored D b block s n = record s {
   control = D.parts.stored b block s.control n;
@@ -77,7 +77,7 @@ merged D s = record s { control = merged_next D.parts.pages s.control }
 abbrev pub promoted : {C : Type 0} → DesignOf C → Composed C → Device → Composed C
 promoted D s n = record s { control = promoted_next D.parts.pages s.control n }
 
--- an epoch is sealed
+-- a composed scheme after a seal
 abbrev pub sealed : {C : Type 0} → DesignOf C → CpuState → ℕ → Composed C → Composed C
 sealed D cpu epoch s = record s {
   control = D.parts.seal s.control;

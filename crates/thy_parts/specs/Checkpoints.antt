@@ -51,12 +51,12 @@ saved_at stage g = Kept g.before
 abbrev pub standing_at : EngineStage → Device → Checkpoints → Standing
 standing_at stage n g = standing n (saved_at stage g) g.kept g.sealed
 
--- and after an item that failed
+-- the images that a cut may leave after an item that failed
 abbrev pub saved_failed : EngineStage → Checkpoints → Saved
 saved_failed (InRound r) g = saved_after_fault r g.before g.next
 saved_failed stage g = Kept g.before
 
--- the checkpoint that is made is that of the sealed mark
+-- the checkpoint that is made is the sealed mark's
 pub record IsMadeFor {C : Type 0} (D : DesignOf C) (o : Origin) (e : Progress) (c : C) (n : Device) (g : Checkpoints) : Type 0 where
   pub mark : Mark
   pub sealed : g.sealed ≡ Some mark

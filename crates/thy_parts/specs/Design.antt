@@ -14,7 +14,7 @@ use Rattle.thy_engine.specs.Progress.{Progress}
 
 -- blocks that have to be merged into their pages before a seal, or promoted before a store
 pub record PagesOf (C : Type 0) : Type 0 where
-  -- there is one
+  -- a buffer has to be merged; and a page has to be promoted
   pub overlaid : C → Bool
   pub promoting : C → Bool
   -- the controller once the next one was merged; or promoted, over a device
@@ -26,7 +26,7 @@ pub record PagesOf (C : Type 0) : Type 0 where
   pub most_merges : Parameters → ℕ
   pub most_promotions : Parameters → ℕ
 
--- there is never one
+-- pages of a design in which none is ever promoted or merged
 abbrev pub no_pages : {C : Type 0} → PagesOf C
 no_pages = record {
   overlaid = λ c. false;
@@ -50,7 +50,7 @@ pub record LeavesNvm (n m : Device) : Type 0 where
 pub record PartsOf (C : Type 0) : Type 1 where
   -- a controller whose power has just come on, over a DRAM
   pub powered : Parameters → Contents → C
-  -- its tables and its DRAM are sound, whatever failed
+  -- the tables and the DRAM of a controller are sound, whatever failed
   pub sound : C → Type 0
   -- ---- its checkpoints
 
@@ -70,7 +70,7 @@ pub record PartsOf (C : Type 0) : Type 1 where
   pub overlaps : Bool
   -- ---- loads and stores
 
-  -- what it keeps of the NVM beside its tables is what that has: only then blocks are held
+  -- what a controller keeps of the NVM beside its tables is what the NVM has: only then blocks are held
   pub agrees : C → Device → Bool
   -- a load of a block reads the NVM; and one of the committed version, by phase
   pub load_reads : C → ℕ → Bool

@@ -28,7 +28,7 @@ pub record CanRecord {C : Type 0} (D : DesignOf C) (e : Progress) (c : C) : Type
 abbrev pub IsSpared : {C : Type 0} → DesignOf C → C → List Block → ℕ → Type 0
 IsSpared D c g x = ¬ Contains (header_place ∷ commit_place ∷ looked_by (layout_at D.filling (D.filling.p c)) g) x
 
--- no number is above its maximum
+-- no number of a controller is above its maximum
 pub record IsFew {C : Type 0} (D : DesignOf C) (phase : Phase) (c : C) : Type 0 where
   pub merges : D.parts.pages.merges_left c ≤ D.parts.pages.most_merges (D.filling.p c)
   pub promotions : D.parts.pages.promotions_left c ≤ D.parts.pages.most_promotions (D.filling.p c)
@@ -39,11 +39,11 @@ pub record IsDesign {C : Type 0} (D : DesignOf C) : Type 0 where
   pub fills : IsFilling D.filling
   pub items : AreItems D.filling D.items
   pub in_range : (c : C) → D.parts.sound c → IsInRange (D.filling.p c)
-  -- memory has the geometry's size, and so has the DRAM
+  -- memory and the DRAM have the geometry's sizes
   pub loads_length : (c : C) (n : Device) → length (D.filling.loads c n) ≡ memory_blocks (D.filling.p c)
   pub committed_length : (phase : Phase) (c : C) (n : Device) → length (D.parts.committed phase c n) ≡ memory_blocks (D.filling.p c)
   pub dram_length : (c : C) → D.parts.sound c → length (D.filling.dram c).blocks ≡ dram_blocks (D.filling.p c)
-  -- what it keeps of the NVM agrees, and nothing is more than the most
+  -- what a controller keeps of the NVM agrees, and no number of it is above its maximum
   pub agreeing : (phase : Phase) (epoch : ℕ) (c : C) (n : Device) → IsMoment D phase epoch c n → D.parts.agrees c n ≡ true
   pub few : (phase : Phase) (epoch : ℕ) (c : C) (n : Device) → IsMoment D phase epoch c n → IsFew D phase c
   -- with nothing to promote or to merge none is left of it
@@ -53,7 +53,7 @@ pub record IsDesign {C : Type 0} (D : DesignOf C) : Type 0 where
   pub rests_room : (c : C) → D.parts.sound c → D.parts.rests true true Resting c → 2 ≤ D.parts.free c
   -- ---- the slot
 
-  -- it has no fault, and an image that has it, with its commit block, has what the next checkpoint's has
+  -- the slot has no fault, and an image that has it, with its commit block, has what the next checkpoint's has
   pub slot_fits : (e : Progress) (c : C) (n : Device) → IsMoment D Made e.epoch c n → CanRecord D e c
       → (layout_of D.filling e).slot_bad ceiling (commit_of e.epoch) (slot_list D e c) ≡ None
   pub slot_makes : (e : Progress) (c : C) (n : Device) (g : List Block) (s : State) → IsMoment D Made e.epoch c n → CanRecord D e c
@@ -63,7 +63,7 @@ pub record IsDesign {C : Type 0} (D : DesignOf C) : Type 0 where
   pub slot_spared : (e : Progress) (c : C) (n : Device) (g : List Block) (k : ℕ) → IsMoment D Made e.epoch c n → CanRecord D e c
       → D.parts.keeps Made e.epoch c g → k < slot_blocks D.filling e
       → IsSpared D c g ((layout_of D.filling e).slot_place (commit_of e.epoch) + k)
-  -- a write there, or of the commit block, leaves all else
+  -- a write into the slot, or of the commit block, leaves all else
   pub own_carries : (e : Progress) (c : C) (n : Device) (x : ℕ) (block : Block) → IsMoment D Made e.epoch c n → D.filling.p c ≡ e.p
       → IsOwn D e x → Carries D e.epoch Made c n Made c (written_to n x block)
   -- ---- the body
@@ -74,7 +74,7 @@ pub record IsDesign {C : Type 0} (D : DesignOf C) : Type 0 where
       (written_to n (D.items.body_place epoch c k) (D.items.body_block c n k))
   pub body_spared : (epoch : ℕ) (c : C) (n : Device) (k : ℕ) (g : List Block) → IsMoment D (Making k) epoch c n
       → D.items.body_next c k ≡ Some k → D.parts.keeps (Making k) epoch c g → IsSpared D c g (D.items.body_place epoch c k)
-  -- those that were passed over need nothing
+  -- positions that were passed over need no write
   pub body_passes : (epoch : ℕ) (c : C) (n : Device) (from k : ℕ) → IsMoment D (Making from) epoch c n → D.items.body_next c from ≡ Some k
       → Carries D epoch (Making from) c n (Making k) c n
   pub body_ends : (epoch : ℕ) (c : C) (n : Device) (from : ℕ) → IsMoment D (Making from) epoch c n → D.items.body_next c from ≡ None
@@ -95,7 +95,7 @@ pub record IsDesign {C : Type 0} (D : DesignOf C) : Type 0 where
       → Carries D epoch (Applying from) c n Resting (D.items.released c) n
   -- ---- the seal, and devices
 
-  -- with nothing to promote or to merge
+  -- a seal with nothing to promote or to merge
   pub seals : (before epoch : ℕ) (c : C) (n : Device) → IsMoment D Resting before c n
       → D.parts.pages.promoting c ≡ false → D.parts.pages.overlaid c ≡ false → SealsTo D before epoch c (D.parts.seal c) n
   -- over a device that gives the same to every read, and once a write of the DRAM landed, everything is the same

@@ -34,7 +34,7 @@ abbrev pub SameReadsKeep : {C : Type 0} → DesignOf C → Type 0
 SameReadsKeep {C} D =
     (o : Origin) (k : CheckpointMarks) (s : Composed C) (n m : Device) → IsSound D o k s n → ReadsSame n m → IsSound D o k s m
 
--- and once a write of the DRAM landed
+-- once a write of the DRAM landed all that holds stays
 abbrev pub DramDrainKeeps : {C : Type 0} → DesignOf C → Type 0
 DramDrainKeeps {C} D =
     (o : Origin) (k : CheckpointMarks) (s : Composed C) (n : Device)
@@ -92,7 +92,7 @@ ItemsAreSteps {C} D =
     × ((new : Device)
     → FailsTo (action_next D.filling D.items s.engine s.control n) n new → IsFramed n new → EngineFails (scheme_of D) o k n new)
 
--- so does a seal
+-- a seal keeps the checkpoints
 abbrev pub SealsKeep : {C : Type 0} → DesignOf C → Type 0
 SealsKeep {C} D =
     (o : Origin) (k : CheckpointMarks) (cpu : CpuState) (epoch : ℕ) (s : Composed C) (n : Device)
@@ -100,18 +100,18 @@ SealsKeep {C} D =
     → D.parts.pages.promoting s.control ≡ false → D.parts.pages.overlaid s.control ≡ false
     → Seals (scheme_of D) o k cpu epoch s n (sealed D cpu epoch s)
 
--- with another controller
+-- a composed scheme with another controller
 abbrev pub with_control : {C : Type 0} → C → Composed C → Composed C
 with_control c s = record s { control = c }
 
--- and a drain of the DRAM, after the boot and in it
+-- a drain of the DRAM keeps the checkpoints, after the boot and in it
 abbrev pub DrainsKeep : {C : Type 0} → DesignOf C → Type 0
 DrainsKeep {C} D =
     (o : Origin) (s : Composed C) (n : Device) → 0 < (D.filling.dram s.control).queued
     → ((k : CheckpointMarks) → Stands (scheme_of D) o k s n → Drains (scheme_of D) o k s n (with_control (D.filling.drained s.control) s))
     × (IsBooting (scheme_of D) o s n → BootDrains (scheme_of D) o s n (with_control (D.filling.drained s.control) s))
 
--- and a merge, and a promotion
+-- a merge keeps the checkpoints
 abbrev pub MergesKeep : {C : Type 0} → DesignOf C → Type 0
 MergesKeep {C} D =
     (o : Origin) (k : CheckpointMarks) (s : Composed C) (n : Device)

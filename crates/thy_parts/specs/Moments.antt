@@ -63,7 +63,7 @@ pub record Commits {C : Type 0} (D : DesignOf C) (epoch : ℕ) (c : C) (n : Devi
   pub owed_later : D.parts.owed d + D.parts.owed_later to d ≤ D.parts.owed c + D.parts.owed_later Made c
   pub pages : LeavesPages D c d
 
--- with a seal memory is sealed as it is, for the epoch after that of the image that is kept
+-- with a seal memory is sealed as it is, for the epoch after the epoch of the image that is kept
 pub record SealsTo {C : Type 0} (D : DesignOf C) (before epoch : ℕ) (c d : C) (n : Device) : Type 0 where
   pub moment : IsMoment D (Making 0) epoch d n
   pub same_p : D.filling.p d ≡ D.filling.p c

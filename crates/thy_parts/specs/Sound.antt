@@ -33,7 +33,7 @@ pub record HasState {C : Type 0} (D : DesignOf C) (o : Origin) (m : Mark) (e : P
   pub cpu : CpuState
   pub state : state_from o.geometry cpu (D.parts.committed (phase_of e.stage) c n) ≡ at o m.count
 
--- the checkpoints on the NVM are those of these marks, and the kept one has the commit block that is written for its epoch
+-- the checkpoints on the NVM have these marks, and the kept one has the commit block that is written for its epoch
 pub record HasCheckpoints {C : Type 0} (D : DesignOf C) (o : Origin) (k : CheckpointMarks) (e : Progress) (c : C) (n : Device)
     (g : Checkpoints) : Type 0 where
   pub kept : g.kept ≡ Some k.done

@@ -22,7 +22,7 @@ pub record CanStore {C : Type 0} (D : DesignOf C) (b : ℕ) (c : C) (n : Device)
   pub ready : (holding_of D c n).ready ≡ true
   pub room : 0 < D.parts.free c
 
--- what that makes
+-- what a store makes of controller and NVM
 pub record MakesStore {C : Type 0} (D : DesignOf C) (b : ℕ) (block : Block) (c : C) (n : Device) (d : C) (m : Device) : Type 0 where
   pub stored : HasStored (D.parts.store_answer b c) b block (holding_of D c n) (holding_of D d m)
   pub dram : ActsOnDram n m (D.filling.dram c) (D.filling.dram d)
@@ -66,7 +66,7 @@ pub record StaysOver {C : Type 0} (D : DesignOf C) (phase : Phase) (epoch : ℕ)
   -- images keep the places that they are found by
   pub kept : (g : List Block) → D.parts.keeps phase epoch c g → Spares (commit_place ∷ looked_by (layout_at D.filling (D.filling.p c)) g) n m
   pub made : (g : List Block) → MakesAt D phase epoch c g → Spares (commit_place ∷ looked_by (layout_at D.filling (D.filling.p c)) g) n m
-  -- no more is left to do
+  -- no more is left to do than before
   pub left : (from : ℕ) → D.items.body_left d from ≤ D.items.body_left c from
   pub owed_later : D.parts.owed_later phase d ≤ D.parts.owed_later phase c
   pub up : m.down ≡ false → StaysAt D phase epoch c n d m
@@ -86,7 +86,7 @@ pub record IsStoring {C : Type 0} (D : DesignOf C) : Type 0 where
   pub still_on : (a b c : C) → D.parts.still a b → D.parts.still b c → D.parts.still a c
   pub still_rests : (sealed : Bool) (phase : Phase) (c d : C) → D.parts.still c d → D.parts.rests true sealed phase c → D.parts.rests true sealed phase d
   pub rests_less : (sealed : Bool) (phase : Phase) (c : C) → D.parts.rests true sealed phase c → D.parts.rests false sealed phase c
-  -- what stays
+  -- what stays over any number of calls
   pub stays_same : (c : C) (n : Device) → D.parts.stays c n c n
   pub stays_on : (a : C) (l : Device) (b : C) (m : Device) (c : C) (n : Device)
       → D.parts.stays a l b m → D.parts.stays b m c n → D.parts.stays a l c n

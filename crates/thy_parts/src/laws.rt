@@ -7,8 +7,8 @@ ghost use Rattle.thy_scheme.specs.Laws.{IsLawful};
 
 use crate::parts::Parts;
 
-/// Every item of the engine reaches the checkpoints of the marks after it: the barrier before the commit block makes the
-/// next one ready, the commit block's write leaves the two in doubt, and the barrier after it ends the doubt.
+/// Every item of the engine reaches the checkpoints of the marks after it. The barrier before the commit block makes
+/// the next one ready, the commit block's write leaves the two in doubt, and the barrier after it ends the doubt.
 pub fn items_keep_the_checkpoints<P: Parts>()
     ensures { ItemsKeepSound (design_of P.filling P.items P.parts) }
 {}

@@ -19,7 +19,7 @@ use thy_engine::{Checkpoints, EngineStage};
 /// A scheme's controller: how power comes on, how loads and stores go, and what a seal makes of it. Together with what its
 /// boot fills and what its engine writes that is a scheme.
 pub trait Parts: Checkpoints {
-    /// What is seen of controllers.
+    /// What controllers mean and show after the boot.
     ghost parts: { PartsOf Self.Control };
 
     /// A controller whose power has just come on, over a DRAM of any content.
@@ -31,7 +31,7 @@ pub trait Parts: Checkpoints {
     fn cut(control: Self::Control, pick: u64) -> Dram
         ensures { result ≡ lost (Self.filling.dram control) pick };
 
-    /// The controller's tables and its DRAM are sound. It does nothing.
+    /// The controller's tables and its DRAM are sound. The call does nothing.
     fn sound(control: &Self::Control)
         ensures { parts.sound control.now };
 
@@ -114,7 +114,7 @@ pub trait Parts: Checkpoints {
         ensures reads { IsReading result (N.device nvm.old) (N.device nvm.new) }
         ensures same_writes { N.writes nvm.new ≡ N.writes nvm.old };
 
-    /// An epoch is sealed.
+    /// Seals an epoch.
     fn seal(control: &mut Self::Control)
         requires whole { parts.pages.promoting control.old ≡ false }
         requires bare { parts.pages.overlaid control.old ≡ false }

@@ -47,7 +47,7 @@ numbers_tell p (Frame j k) (Frame l m) x y s e =
     let same_block : k ≡ m = omega arith in
     cc
 
--- so two places of one device have two numbers
+-- two places of one device have two numbers
 pub numbers_apart : (p : Parameters) (x y : Place) → IsPlace p x → IsPlace p y → in_dram x ≡ in_dram y → y ≢ x → number_of p y ≢ number_of p x
 numbers_apart p x y px py same other e = other (sym (numbers_tell p x y px py same (sym e)))
 
@@ -59,7 +59,7 @@ within_image p (AlternatePage j k) l n = omega arith
 within_image p (Buffer i) l n = cc
 within_image p (Frame j k) l n = cc
 
--- and one of the DRAM within that
+-- a place of the DRAM is within the DRAM
 pub within_dram : (p : Parameters) (x : Place) → IsPlace p x → in_dram x ≡ true → number_of p x < dram_blocks p
 within_dram p (Home b) l n = cc
 within_dram p (AlternateBlock i) l n = cc
@@ -95,7 +95,7 @@ read_at-written_same p d place block here sized =
     read_on-same (in_dram place) (number_of p place) block d
     (λ side. let l : number_of p place < dram_blocks p = within_dram p place here side in omega (arith, sized.dram))
 
--- and every other as before
+-- every place but the written one reads as before
 pub read_at-written_other : (p : Parameters) (d : Devices) (place other : Place) (block : Block)
     → IsPlace p place → IsPlace p other → AreSized p d → other ≢ place
     → read_at p (written_at p place block d) other ≡ read_at p d other
@@ -116,7 +116,7 @@ no_more-written_other p d place other block here there side ne =
     no_more-on (in_dram place) (number_of p place) (number_of p other) block d
     (λ same. numbers_apart p place other here there (same ∙ sym side) ne)
 
--- nor does one that failed
+-- at every other place of the NVM a write that failed makes nothing more possible
 pub no_more-failed_other : (p : Parameters) (old new : Device) (place other : Place) (block : Block)
     → IsPlace p place → IsPlace p other → in_dram place ≡ false → in_dram other ≡ false → other ≢ place
     → HasFailedToWrite (number_of p place) block old new → NoMoreAt (number_of p other) old new
@@ -139,7 +139,7 @@ read_on-nvm : (side : Bool) (x : ℕ) (d : Devices) (nvm : Device) → (side ≡
 read_on-nvm true x d nvm same = refl
 read_on-nvm false x d nvm same = same refl
 
--- where every place of the NVM reads as before, so does every place
+-- if every place of the NVM reads as before, every place of both devices does
 pub reads_the_same : (p : Parameters) (d : Devices) (nvm : Device) → AreSized p d → length nvm.image ≡ length d.nvm.image
     → ((x : ℕ) → x < length d.nvm.image → newest nvm x ≡ newest d.nvm x) → ReadsTheSame p d (record d { nvm = nvm })
 reads_the_same p d nvm sized long each = record {
@@ -152,11 +152,11 @@ reads_the_same p d nvm sized long each = record {
 pub ReadsTheSame-drained : (p : Parameters) (d : Devices) → AreSized p d → ReadsTheSame p d (record d { nvm = drained d.nvm })
 ReadsTheSame-drained p d sized = reads_the_same p d (drained d.nvm) sized (length-drained d.nvm) (newest-drained d.nvm)
 
--- nor does a barrier
+-- a barrier changes nothing that is read
 pub ReadsTheSame-settled : (p : Parameters) (d : Devices) → AreSized p d → ReadsTheSame p d (record d { nvm = settled d.nvm })
 ReadsTheSame-settled p d sized = reads_the_same p d (settled d.nvm) sized (length-settled d.nvm) (newest-settled d.nvm)
 
--- nor a drain of the DRAM
+-- a drain of the DRAM changes nothing that is read
 pub ReadsTheSame-dram_drained : (p : Parameters) (d : Devices) → AreSized p d → ReadsTheSame p d (record d { dram = dram_drained d.dram })
 ReadsTheSame-dram_drained p d sized = record { same = λ place there. refl; sized = record { nvm = sized.nvm; dram = sized.dram } }
 

@@ -21,14 +21,14 @@ OthersReadAsBefore =
     → IsPlace p place → IsPlace p other → AreSized p d → other ≢ place
     → read_at p (written_at p place block d) other ≡ read_at p d other
 
--- and at every other place of the NVM nothing new is possible
+-- a write makes nothing new possible at any other place of the NVM
 abbrev pub OthersHoldNoMore : Type 0
 OthersHoldNoMore =
     (p : Parameters) (d : Devices) (place other : Place) (block : Block)
     → IsPlace p place → IsPlace p other → in_dram other ≡ false → other ≢ place
     → NoMoreAt (number_of p other) d.nvm (written_at p place block d).nvm
 
--- the same if the write failed
+-- a write that failed makes nothing new possible at any other place of the NVM
 abbrev pub OthersHoldNoMoreOnFailure : Type 0
 OthersHoldNoMoreOnFailure =
     (p : Parameters) (old new : Device) (place other : Place) (block : Block)

@@ -9,7 +9,7 @@ use Rattle.thy_places.specs.Places.{in_dram, number_of, image_blocks}
 use Rattle.thy_base.specs.Places.{dram_blocks}
 use Rattle.thy_dram.specs.Contents.{Contents, written}
 
--- both devices
+-- the contents of both devices
 pub record Devices : Type 0 where
   pub nvm : Device
   pub dram : Contents
@@ -17,7 +17,7 @@ pub record Devices : Type 0 where
 abbrev pub devices_of : Device → Contents → Devices
 devices_of nvm dram = record { nvm = nvm; dram = dram }
 
--- each device has as many blocks as it has places
+-- each device has one block for each of its places
 pub record AreSized (p : Parameters) (d : Devices) : Type 0 where
   pub nvm : length d.nvm.image ≡ image_blocks p
   pub dram : length d.dram.blocks ≡ dram_blocks p

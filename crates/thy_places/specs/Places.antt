@@ -12,7 +12,7 @@ use Rattle.thy_places.specs.declared.place.Place.TheVariants.{Home, AlternateBlo
 abbrev pub table_blocks : Parameters → ℕ
 table_blocks p = p.btt / 8 + p.ptt / 8
 
--- and the counts of the epoch before, 64 pages a block
+-- how many blocks the counts of the epoch before have, 64 pages a block
 abbrev pub count_blocks : Parameters → ℕ
 count_blocks p = (p.pages + 63) / 64
 
@@ -20,7 +20,7 @@ count_blocks p = (p.pages + 63) / 64
 abbrev pub slot_blocks_one : Parameters → ℕ
 slot_blocks_one p = hart_blocks + table_blocks p
 
--- how many a slot of version 2 has, as those of a run's own checkpoints are: the processor's record, the tables, and the
+-- how many blocks a slot of version 2 has, as a run's own checkpoints are: the processor's record, the tables, and the
 -- counts
 abbrev pub slot_blocks : Parameters → ℕ
 slot_blocks p = record_blocks p + table_blocks p + count_blocks p
@@ -85,7 +85,7 @@ NumbersTellPlaces =
     (p : Parameters) (x y : Place) → IsPlace p x → IsPlace p y
     → in_dram x ≡ in_dram y → number_of p x ≡ number_of p y → x ≡ y
 
--- a place of the NVM lies behind header, commit block and the slots of version 1, and before those of version 2
+-- a place of the NVM lies after header, commit block and the slots of version 1, and before the slots of version 2
 abbrev pub PlacesAreBetweenSlots : Type 0
 PlacesAreBetweenSlots =
     (p : Parameters) (x : Place) → IsPlace p x → in_dram x ≡ false
@@ -95,8 +95,8 @@ PlacesAreBetweenSlots =
 abbrev pub PlacesAreInDram : Type 0
 PlacesAreInDram = (p : Parameters) (x : Place) → IsPlace p x → in_dram x ≡ true → number_of p x < dram_blocks p
 
--- slot 0 of version 1 lies behind the commit block, slot 1 behind slot 0, and the homes behind slot 1; slot 0 of version 2
--- lies behind all that version 1 has, slot 1 behind slot 0, and nothing behind slot 1
+-- In version 1, slot 0 lies after the commit block, slot 1 after slot 0, and the homes after slot 1. In version 2, slot
+-- 0 lies after all that version 1 has, slot 1 after slot 0, and nothing after slot 1.
 pub record SlotsFollow (p : Parameters) : Type 0 where
   pub old_first : slot_place_one p 0 ≡ 2
   pub old_second : slot_place_one p 1 ≡ slot_place_one p 0 + slot_blocks_one p

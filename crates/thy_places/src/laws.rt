@@ -6,7 +6,8 @@ pub fn numbers_tell_places()
     ensures { NumbersTellPlaces }
 {}
 
-/// A place of the NVM lies behind the header, the commit block and the slots of version 1, and before those of version 2.
+/// A place of the NVM lies after the header, the commit block and the slots of version 1, and before the slots of
+/// version 2.
 pub fn places_are_between_slots()
     ensures { PlacesAreBetweenSlots }
 {}
@@ -16,8 +17,8 @@ pub fn places_are_in_dram()
     ensures { PlacesAreInDram }
 {}
 
-/// The slots of version 1, and the homes behind them, follow one upon the other behind the commit block; those of version 2
-/// follow behind all that version 1 has, and end the image.
+/// The slots of version 1 follow the commit block, one after the other, and the homes follow them. The slots of version
+/// 2 follow all that version 1 has, and end the image.
 pub fn slots_are_apart()
     ensures { SlotsAreApart }
 {}

@@ -15,7 +15,7 @@ pub fn blocks(geometry: &Geometry) -> u64
     blocks_one(geometry) + 2 * slot_blocks(geometry)
 }
 
-/// How many blocks an image of version 1 has. Behind them are the slots of version 2.
+/// How many blocks an image of version 1 has. The slots of version 2 come after them.
 pub fn blocks_one(geometry: &Geometry) -> u64
     ensures blocks { result ≡ image_blocks_one geometry.now }
     ensures in_range { IsInRange geometry.now }
@@ -49,8 +49,8 @@ pub fn slot_blocks_one(geometry: &Geometry) -> u64
     HART_BLOCKS + table_blocks(geometry)
 }
 
-/// How many blocks each of the two slots of version 2 has, as those of a run's own checkpoints are: the processor's record,
-/// both tables, and the counts.
+/// How many blocks each of the two slots of version 2 has: the processor's record, both tables, and the counts. A run's
+/// own checkpoints are of this version.
 pub fn slot_blocks(geometry: &Geometry) -> u64
     ensures blocks { result ≡ blocks_of_slot geometry.now }
     ensures in_range { IsInRange geometry.now }

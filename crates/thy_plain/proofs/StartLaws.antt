@@ -58,7 +58,7 @@ if_other : (b : Bool) (o : OtherHart) → IsOther o → IsOtherOf (if b then Som
 if_other true o h = h
 if_other false o h = tt
 
--- with one hart there is none
+-- with one hart the start has no other hart
 pub start_other-alone : (p : Parameters) (entry : ℕ) → p.harts ≡ 1 → start_other p entry ≡ None
 start_other-alone p entry one = ap (λ n. if n == 2 then Some (second_hart p entry) else None) one
 

@@ -31,7 +31,7 @@ fault_by true true one two = refl
 fault_by true false one two = cc
 fault_by false b one two = cc
 
--- and a word can be fetched there, if its offset is a multiple of four
+-- a word can be fetched at an offset in the window, if it is a multiple of four
 pub window-fetched : (base size window pc : ℕ) → base < 2 ^ 64 → pc < 2 ^ 64 → IsWindow base size window
     → (pc + (2 ^ 64 - base)) % 2 ^ 64 < window → ((pc + (2 ^ 64 - base)) % 2 ^ 64) % 4 ≡ 0 → fetch_fault base size pc ≡ None
 unfolding fetch_fault

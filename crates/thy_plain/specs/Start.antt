@@ -14,7 +14,7 @@ use Rattle.thy_isa.specs.Step.{State}
 unfoldable pub start_regs : Parameters → List ℕ
 start_regs p = regs_with (replicate 32 0) 2 (stack_top p)
 
--- those of hart 1: its stack pointer is 2048 bytes below that of hart 0, and its number is in a0, x10
+-- the registers of hart 1: its stack pointer is 2048 bytes below hart 0's, and its number is in a0, x10
 unfoldable pub second_regs : Parameters → List ℕ
 second_regs p = regs_with (regs_with (replicate 32 0) 2 (stack_top p - 2048)) 10 1
 
@@ -22,7 +22,7 @@ second_regs p = regs_with (regs_with (replicate 32 0) 2 (stack_top p - 2048)) 10
 abbrev pub second_hart : Parameters → ℕ → OtherHart
 second_hart p entry = record { pc = entry; regs = second_regs p; front = Nothing 0; back = Nothing 0 }
 
--- if there are two
+-- hart 1 at the start, if there are two harts
 abbrev pub start_other : Parameters → ℕ → Option OtherHart
 start_other p entry = if p.harts == 2 then Some (second_hart p entry) else None
 

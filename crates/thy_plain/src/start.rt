@@ -21,7 +21,7 @@ const SP: u8 = 2;
 /// The register that hart 1 has its number in.
 const A0: u8 = 10;
 
-/// How many bytes the stack pointer of hart 1 is below that of hart 0.
+/// How many bytes the stack pointer of hart 1 is below the stack pointer of hart 0.
 const SECOND_STACK: u64 = 2048;
 
 /// The registers at the start: all 0 but the stack pointer.

@@ -32,7 +32,7 @@ begun_steps job b input first k is none =
     ∙ ap (λ (s : State). steps (setting_for (parameters_of job.config) input) (k - s.count) s) is
     ∙ ap (λ j. steps (setting_for (parameters_of job.config) input) j first) (let e : k - first.count ≡ k = omega (arith, none) in e)
 
--- it stops at the state at which the machine stops that was loaded with it
+-- the run of a program stops in the state in which the machine stops that was loaded with the program
 stops_at : (job : Job) (b : Beginning) (contents : Contents) (input : List ℕ) (limit k : ℕ) → b.start ≡ start_state (parameters_of job.config) contents → MachineStops (loaded (parameters_of job.config) contents input) limit k
     → StopsAt (origin_for job b input) limit k
 stops_at job b contents input limit k is s = record {
@@ -44,7 +44,7 @@ stops_at job b contents input limit k is s = record {
     runs_is : (j : ℕ) → runs_at (origin_for job b input) j ≡ is_running (steps (setting_for (parameters_of job.config) input) j (start_state (parameters_of job.config) contents)).status
     runs_is j = ap (λ (s : State). is_running s.status) (begun_steps job b input (start_state (parameters_of job.config) contents) j is refl)
 
--- a program's run on the plain machine is that of its job, and stops in this state
+-- a program's run on the plain machine is the run of its job, and stops in this state
 pub IsPlainOf-ran : (name : List ℕ) (job : Job) (before after : Outside) (p : Program) (first last : Machine) (s : MachState) (limit k : ℕ) (terminal_failed report_failed : Bool) (stop : Stop) (a : Answer) (told : Stream) → IsProgramOf (file name) job before.shelf p
     → after.shelf ≡ before.shelf → first ≡ loaded p.geometry (contents_of p.image) (bytes_of p.input) → limit ≡ p.geometry.limit → MachineStops first limit k → last ≡ after_steps k first → state_of s ≡ last.state
     → Sent terminal_failed before.terminal after.terminal (bytes_of s.console) → Sent report_failed before.report told (ended_lines job.digest s.status s.count (bytes_of s.memory)) → stop ≡ plain_stop terminal_failed report_failed s.status

@@ -93,7 +93,7 @@ module _ (k : ℕ) (p : Parameters) (frames : Listing Framed) where
   stays : (n : ℕ) → n < p.pages → place_of page_key n frames ≡ None → committed_entry k p frames (Some (held n)) ≡ Some (held n)
   stays n l none = low n l ∙ ap (λ o. if is_below k o then None else Some (held n)) none
 
-  -- and what was a frame's is its page's
+  -- a place that was held by a frame is held by the frame's page
   moves : (j x : ℕ) → j < k → entry_at frames j ≡ Some (framed x) → committed_entry k p frames (Some (held (p.pages + j))) ≡ Some (held x)
   moves j x l is =
       high j ∙ ap (λ b. if b then Some (held (page_by (entry_at frames j))) else Some (held (p.pages + j))) (lt-ltb j k l)
@@ -101,7 +101,7 @@ module _ (k : ℕ) (p : Parameters) (frames : Listing Framed) where
 
 -- ---- where a listed number comes from
 
--- the entry listed it before, of a page without a frame, or it was that of the page's frame
+-- entry q listed page n before, which has no frame, or it listed the frame of page n
 abbrev From : State → ℕ → ℕ → Type 0
 From s q n =
     ((n < s.p.pages) × (frame_of s n ≡ None) × (entry_at s.pool q ≡ Some (held n)))
@@ -118,7 +118,7 @@ module _ (s : State) (h : IsSoundState s) where
       let inside : j < s.p.ptt = subst (λ (n : ℕ). j < n) h.frames_size (lists-inside page_key s.frames.entries j x here) in
       let both : false ≡ true = sym b ∙ lt-ltb j s.p.ptt inside in absurd (cc)
 
-  -- a frame's number in the pool is that of a filled frame
+  -- a frame that the pool lists is a filled one
   frame_there : (q j : ℕ) → entry_at s.pool q ≡ Some (held (s.p.pages + j))
       → (x : ℕ) × (entry_at s.frames j ≡ Some (framed x)) × (j < s.p.ptt)
   frame_there q j is =
@@ -164,7 +164,7 @@ module _ (s : State) (h : IsSoundState s) where
       from_entry q n (entry_at s.pool q) refl
       (sym (entry_at-committed s.p.ptt s.p s.frames s.pool q) ∙ held_is n (entry_at new q) listed)
 
-  -- so no number is listed twice, and each is that of a page
+  -- the frame whose entry has a page is the frame of that page
   framed_at : (x j : ℕ) → entry_at s.frames j ≡ Some (framed x) → frame_of s x ≡ Some j
   framed_at x j is = h.frames_once.found j x (framed_lists x (entry_at s.frames j) is)
 
@@ -213,6 +213,6 @@ module _ (s : State) (h : IsSoundState s) where
         ∙ moves s.p.ptt s.p s.frames j x inside here)
         ∙ sym place.1 ∙ sym (ap (next_page_by s x) e)
 
-  -- and no frame has a page of the pool
+  -- after a commit no frame has a page of the pool
   pub target-committed : (j : ℕ) → target (committed_state s) j ≡ None
   target-committed j = unlisted new (s.p.pages + j) (λ q listed. omega (arith, of_page q (s.p.pages + j) (from q (s.p.pages + j) listed)))

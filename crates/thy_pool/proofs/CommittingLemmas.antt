@@ -111,7 +111,7 @@ pub renamed_absent : (t : Listing Held) (n x : ℕ) → place_of number_key n t 
 renamed_absent t n x absent = listing_same t (renamed n x t) (sym (length-map t.entries (renamed_entry n x))) refl
     (λ i. sym (entry_at-renamed n x t i ∙ renamed_other n x (entry_at t i) (none-lists number_key t n absent i)))
 
--- once an entry is free, no other lists more
+-- once an entry is free, a number that was not listed is not listed
 pub unlisted_cleared : (t : Listing Held) (q n : ℕ) → q < length t.entries → place_of number_key n t ≡ None
     → place_of number_key n (with_entry q None t) ≡ None
 unlisted_cleared t q n inside absent = place_of-none number_key (with_entry q None t) n
@@ -138,7 +138,7 @@ pub numbers-moved : (o : Option Framed) (n : ℕ) (t : Listing Held) → (moved_
 numbers-moved None n t = refl
 numbers-moved (Some e) n t = refl
 
--- another number stays
+-- an entry of another number stays
 kept : (n x m : ℕ) → m ≢ x → m ≢ n → renamed_entry n x (freed_entry x (Some (held m))) ≡ Some (held m)
 kept n x m a b =
     ap (renamed_entry n x) (freed_other x (Some (held m)) (ne_eqb m x a)) ∙ renamed_other n x (Some (held m)) (ne_eqb m n b)
@@ -225,7 +225,7 @@ module _ (p : Parameters) (frames : Listing Framed) where
       of_frame : place_of page_key x frames ≡ Some k
       of_frame = frames_once.found k x (framed_lists x (entry_at frames k) full)
 
-      -- a page of memory
+      -- one frame more is committed: an entry of a page of memory
       step_low : (n : ℕ) → n < p.pages
           → committed_entry (k + 1) p frames (Some (held n)) ≡ step (committed_entry k p frames (Some (held n)))
       step_low n l =
@@ -255,7 +255,7 @@ module _ (p : Parameters) (frames : Listing Framed) where
             stays other true = refl
             stays other false = sym (kept (p.pages + k) x n other (λ e. absurd (omega (arith, e, l))))
 
-      -- a frame's
+      -- one frame more is committed: an entry of a frame
       step_high : (q j : ℕ) → entry_at pool q ≡ Some (held (p.pages + j))
           → committed_entry (k + 1) p frames (Some (held (p.pages + j))) ≡ step (committed_entry k p frames (Some (held (p.pages + j))))
       step_high q j is =

@@ -33,7 +33,7 @@ pub total-ones : (f : ℕ → ℕ) (n : ℕ) → ((k : ℕ) → k < n → f k �
 total-ones f zero each = refl
 total-ones f (suc n) each = omega (arith, total-ones f n (λ k l. each k (omega arith)), each n (omega arith))
 
--- of more numbers, those of the first and those after them
+-- the total over m + n numbers is the total over the first m, and the total over the n after them
 pub total-split : (f : ℕ → ℕ) (m n : ℕ) → total f (m + n) ≡ total f m + total (λ k. f (m + k)) n
 total-split f m zero = let same : m + 0 ≡ m = omega arith in ap (total f) same ∙ omega arith
 total-split f m (suc n) =
@@ -62,7 +62,7 @@ total-with m (suc n) l = elim (cases_eq m n) as (λ _. total (λ k. one_if (m ==
 
 -- ---- entries
 
--- none passes a test
+-- if no element passes a test, the count is 0
 pub count-nowhere : {X : Type 0} (test : X → Bool) (xs : List X) (d : X) → ((k : ℕ) → k < length xs → test (get_or xs k d) ≡ false)
     → count_by test xs ≡ 0
 count-nowhere {X} test xs d none =
@@ -71,7 +71,7 @@ count-nowhere {X} test xs d none =
     omega (arith, ap one_if is) in
     omega (arith, sum_by-le (λ (x : X). one_if (test x)) 0 xs each)
 
--- one less does after a set if only the old one did
+-- one element less passes after a set if only the old one did
 pub count-set_less : {X : Type 0} (test : X → Bool) (xs : List X) (i : ℕ) (y d : X) → i < length xs → test y ≡ false
     → test (get_or xs i d) ≡ true
     → count_by test (slice_set xs i y) + 1 ≡ count_by test xs
@@ -117,7 +117,7 @@ module _ {E : Type 0} (key : E → ℕ) where
       ]) in
       omega (arith, others, count-set_less (lists key n) t.entries i None None inside refl here)
 
-  -- so the free ones and the numbers that are listed are as many as there are entries
+  -- the number of free entries and the number of numbers that are listed make the number of entries
   pub count-listed : (t : Listing E) (n : ℕ) → IsListing key t → t.numbers ≡ n
       → free_count t + total (λ m. one_if (is_some (place_of key m t))) n ≡ length t.entries
   count-listed t n listing numbers =

@@ -11,7 +11,7 @@ use Rattle.thy_pool.specs.State.{State, IsSoundState, frame_of, work_by, work_of
 use Rattle.thy_pool.specs.Stores.{after_drain}
 use Rattle.thy_pool.proofs.StateLemmas.{IsSoundState-over}
 
--- with another DRAM of the same size
+-- the pool stays sound with another DRAM of the same size
 pub IsSoundState-dram : (s : State) (now : Contents) → IsSoundState s → length now.blocks ≡ length s.dram.blocks
     → IsSoundState (record s { dram = now })
 IsSoundState-dram s now h long = IsSoundState-over s s.begun now h long h.begun

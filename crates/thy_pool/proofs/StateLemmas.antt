@@ -72,7 +72,7 @@ entry_at-first p n q = elim (cases_lt q (pool_pages p)) as (λ _. entry_at (list
   | inr l ↦ get_or_past (first_entries p) q None (omega (arith, l, length-first p)) ∙ sym (first_past p q (omega (arith, l)))
 ]
 
--- what it lists at a page is that page
+-- an entry of a new pool lists the page of its own number
 pub first_lists : (p : Parameters) (q n : ℕ) (low : Bool) → nat_lt q p.pages ≡ low
     → lists number_key n (if low then Some (held q) else None) ≡ true → (q < p.pages) × (q ≡ n)
 first_lists p q n true l h =
@@ -174,7 +174,7 @@ module _ (s : State) (h : IsSoundState s) (x j q : ℕ) (page : x < s.p.pages) (
         ap is_some (elsewhere i other) ∙ h.claimed i ∙ sym (ap is_some (found_other (s.p.pages + i) apart))
   ]
 
-  -- a frame at a number that the pool lists is filled, and so it is below the lowest free one
+  -- a frame at a number that the pool lists is filled, and therefore below the lowest free one
   filled_below : (k t : ℕ) → pool_of s (s.p.pages + k) ≡ Some t → k < j
   filled_below k t goes = elim (cases_lt k j) as (λ _. k < j) [
     | inl below ↦ below
@@ -188,7 +188,7 @@ module _ (s : State) (h : IsSoundState s) (x j q : ℕ) (page : x < s.p.pages) (
         ]
   ]
 
-  -- so each number that the pool lists is below the new one
+  -- each number that the pool lists is below the new one
   number_below : (t : ℕ) (e : Held) → entry_at s.pool t ≡ Some e → e.number < s.p.pages + j
   number_below t e is = elim (cases_lt e.number s.p.pages) as (λ _. e.number < s.p.pages + j) [
     | inl page ↦ omega (arith, page)
@@ -304,7 +304,7 @@ free_frame_is s more = by_place (free_place s.frames) refl where
   by_place None e = let none = (some-counted s.frames.entries None e).1 more in absurd (cc)
   by_place (Some j) e = refl
 
--- and there is a page of the pool for it
+-- if a frame is free, a page of the pool is free
 pub free_page : (s : State) → IsSoundState s → 0 < free_count s.frames → (q : ℕ) × (free_place s.pool ≡ Some q)
 free_page s h more = by_place (free_place s.pool) refl where
   by_place : (o : Option ℕ) → free_place s.pool ≡ o → (q : ℕ) × (free_place s.pool ≡ Some q)
@@ -316,7 +316,7 @@ module _ (s : State) (h : IsSoundState s) (x : ℕ) (page : x < s.p.pages) (unfr
   abbrev goes : (q : ℕ) × (free_place s.pool ≡ Some q)
   goes = free_page s h more
 
-  -- nothing goes there yet
+  -- the lowest free frame has no page of the pool yet
   pub unclaimed_free : pool_of s (s.p.pages + free_frame s) ≡ None
   unclaimed_free = unclaimed s h x (free_frame s) goes.0 page unframed (free_frame_is s more) goes.1
 
@@ -325,7 +325,7 @@ module _ (s : State) (h : IsSoundState s) (x : ℕ) (page : x < s.p.pages) (unfr
 
 -- ---- page by page
 
--- no page at first, once every entry is free
+-- the pool lists no page of the map once every entry is free
 pub holds_none : (table : List (Option ℕ)) (old : Listing Held) → HoldsMap 0 table old (mapped freed_held old)
 holds_none table old = record {
   size = length-map old.entries (option_and_then freed_held);
@@ -336,11 +336,11 @@ holds_none table old = record {
 }
 
 module _ (k : ℕ) (table : List (Option ℕ)) (old t : Listing Held) (h : HoldsMap k table old t) where
-  -- seen from itself
+  -- a pool that lists a map up to a page, seen from itself
   pub holds_here : HoldsMap k table t t
   holds_here = record { size = refl; numbers = refl; there = h.there; only = h.only }
 
-  -- and from where it began
+  -- a pool that lists a map up to a page, seen from where the listing began
   pub holds_since : (n : ℕ) (u : Listing Held) → HoldsMap n table t u → HoldsMap n table old u
   holds_since n u g = record { size = g.size ∙ h.size; numbers = g.numbers ∙ h.numbers; there = g.there; only = g.only }
 
@@ -362,7 +362,7 @@ module _ (k : ℕ) (table : List (Option ℕ)) (t : Listing Held) (h : HoldsMap 
   }
 
   module _ (p : Parameters) (whole : IsMap p table) (q : ℕ) (listed : Lists table k q) where
-    -- its entry is free
+    -- the entry of the page of the pool is free
     pub holds_free : entry_at t q ≡ None
     holds_free = by_entry (entry_at t q) refl where
       by_entry : (o : Option Held) → entry_at t q ≡ o → entry_at t q ≡ None
@@ -371,7 +371,7 @@ module _ (k : ℕ) (table : List (Option ℕ)) (t : Listing Held) (h : HoldsMap 
           let of = h.only x.number q e in
           absurd (omega (arith, of.0, whole.once x.number k q of.1 listed))
 
-    -- and has it now
+    -- after page k is listed, the pool lists the map up to k + 1
     pub holds_put : q < length t.entries → HoldsMap (k + 1) table t (with_entry q (Some (held k)) t)
     holds_put inside =
         let u : Listing Held = with_entry q (Some (held k)) t in
@@ -419,7 +419,7 @@ module _ (p : Parameters) (table : List (Option ℕ)) (old t : Listing Held) (wh
       let page = whole.mapped x l in
       (page.0, page.1, once.found page.0 x (held_lists x (entry_at t page.0) (h.there x page.0 l page.1)))
 
-  -- every page is listed, and no frame's
+  -- every page of memory is listed, and no frame's page is
   pub listed_mapped : (x : ℕ) → x < p.pages → is_some (place_of number_key x t) ≡ true
   listed_mapped x l = ap is_some (page_found x l).2
 
@@ -431,7 +431,7 @@ module _ (p : Parameters) (table : List (Option ℕ)) (old t : Listing Held) (wh
   past_empty x None l e = refl
   past_empty x (Some q) l e = let low = whole.of_page x q (record { is = e }) in absurd (omega (arith, low, l))
 
-  -- so its map is the one in the slot
+  -- the map of the table is the one in the slot
   pub listed_table : table_by p (λ x. place_of number_key x t) ≡ table
   listed_table =
       let of : ℕ → Option ℕ = λ x. place_of number_key x t in

@@ -132,7 +132,7 @@ module _ (s : State) (h : IsSoundState s) where
   pub committed_table-committed : committed_table (committed_state s) ≡ next_table s
   committed_table-committed = table_by-same s.p (pool_of (committed_state s)) (next_page s) (pool_of-committed s h)
 
--- a page before that of a frame has a page of memory, or is that of a lower frame
+-- a page of the pool before the page that a frame goes to has a page of memory, or is a lower frame's
 pub target_lowest : (s : State) (j q r : ℕ) → IsSoundState s → target s j ≡ Some q → r < q → IsUsedBelow s j r
 target_lowest s j q r h goes l =
     let of = h.lowest j q r goes l in

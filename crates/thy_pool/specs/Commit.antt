@@ -8,7 +8,7 @@ use Rattle.thy_pool.specs.declared.entry.Framed.{Framed}
 use Rattle.thy_pool.specs.Keys.{page_key, held, freed_frame}
 use Rattle.thy_pool.specs.State.{State}
 
--- with a seal no frame is begun
+-- the pool after a seal: no frame is begun
 abbrev pub sealed_state : State → State
 sealed_state s = record s { begun = None }
 
@@ -53,7 +53,7 @@ abbrev pub moved_by : Option Framed → ℕ → Listing Held → Listing Held
 moved_by None n pool = pool
 moved_by (Some e) n pool = renamed n e.page (freed e.page pool)
 
--- all are, and every frame is free
+-- the pool after a commit: each frame's page has its page of memory, and every frame is free
 abbrev pub committed_state : State → State
 committed_state s = record s {
   pool = committed_pool s.p.ptt s.p s.frames s.pool;

@@ -25,11 +25,11 @@ abbrev pub opened_by : Option Begun → Option ℕ
 opened_by None = None
 opened_by (Some b) = Some b.page
 
--- those of a frame that are what the NVM has
+-- block c of the lowest free frame is what the NVM has of page x
 abbrev pub agrees : State → Device → ℕ → ℕ → Bool
 agrees s n x c = bytes_eq (frame_block s (free_frame s) c).0 (newest n (page_place s x c)).0
 
--- all that were copied are
+-- all blocks that were copied into the frame that is begun agree with the NVM
 abbrev pub agree_by : State → Device → Option Begun → Bool
 agree_by s n None = true
 agree_by s n (Some b) = count_by (agrees s n b.page) (range_with_len 0 b.copied) == b.copied

@@ -11,7 +11,7 @@ number_key e = e.number
 abbrev pub page_key : Framed → ℕ
 page_key e = e.page
 
--- an entry of each, and a frame of which so many blocks were copied
+-- an entry of the pool, an entry of the frames, and a frame of which this many blocks were copied
 abbrev pub held : ℕ → Held
 held number = record { number = number }
 
@@ -28,7 +28,7 @@ freed_held e = None
 abbrev pub freed_frame : Framed → Option Framed
 freed_frame e = None
 
--- none is left that could list another number
+-- an entry that is freed lists no other number
 pub freed_held-number : (e f : Held) → freed_held e ≡ Some f → number_key f ≡ number_key e
 freed_held-number e f h = cc
 

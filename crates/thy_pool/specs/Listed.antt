@@ -5,7 +5,8 @@ use Rattle.thy_table.specs.Listing.{Listing, entry_at}
 use Rattle.thy_pool.specs.declared.entry.Held.{Held}
 use Rattle.thy_pool.specs.Keys.{held}
 
--- of a pool, as many entries as before; they list the pages of memory below k as a map does, and nothing else
+-- a pool has the same number of entries as before; they list the pages of memory below k as a map does, and nothing
+-- else
 pub record HoldsMap (k : ℕ) (table : List (Option ℕ)) (old new : Listing Held) : Type 0 where
   pub size : length new.entries ≡ length old.entries
   pub numbers : new.numbers ≡ old.numbers

@@ -19,8 +19,8 @@ use Rattle.thy_pool.specs.Keys.{number_key, page_key}
 
 pub record State : Type 0 where
   pub p : Parameters
-  -- entry q: the number of the page of memory that page q of the pool has in the committed checkpoint, or, that many
-  -- behind the last page, that of the frame that goes there with the next one
+  -- entry q: the number of the page of memory that page q of the pool has in the committed checkpoint; or the number of
+  -- memory's pages plus the number of the frame that goes there with the next checkpoint
   pub pool : Listing Held
   -- entry j: the page of memory that frame j has, if it is filled
   pub frames : Listing Framed
@@ -52,7 +52,7 @@ next_page_by s x (Some j) = target s j
 abbrev pub next_page : State → ℕ → Option ℕ
 next_page s x = next_page_by s x (frame_of s x)
 
--- a map, empty past the last page; that of the committed checkpoint, and that of the next one
+-- a map, empty past the last page; the map of the committed checkpoint, and the map of the next one
 abbrev pub table_by : Parameters → (ℕ → Option ℕ) → List (Option ℕ)
 table_by p of = map (λ x. if nat_lt x p.pages then of x else None) (range_with_len 0 (8 * map_blocks p))
 
@@ -118,7 +118,7 @@ pub record IsSoundState (s : State) : Type 0 where
   -- every page of memory has a page of the pool, and every filled frame one more
   pub mapped : (x : ℕ) → x < s.p.pages → is_some (pool_of s x) ≡ true
   pub claimed : (j : ℕ) → is_some (entry_at s.frames j) ≡ is_some (target s j)
-  -- before the page of the pool that frame j goes to each has a page of memory, or is that of a lower frame
+  -- each page of the pool before the one that frame j goes to has a page of memory, or is a lower frame's
   pub lowest : (j q r : ℕ) → target s j ≡ Some q → r < q → ListsBelow s.pool (s.p.pages + j) r
   -- frames are filled from the lowest on
   pub dense : (i j : ℕ) → i < j → is_some (entry_at s.frames j) ≡ true → is_some (entry_at s.frames i) ≡ true

@@ -65,7 +65,7 @@ after_case (Copy j k) b block n s = copied_into j (page_of b) k (newest n (page_
 unfoldable pub after_store : ℕ → Block → Device → State → State
 after_store b block n s = after_case (store_case b s) b block n s
 
--- what it returns, and its action on the NVM
+-- what a store in each case returns, and its action on the NVM
 abbrev pub stored_by : StoreCase → Stored
 stored_by (Into j) = Done
 stored_by (Fill j) = Done
@@ -81,7 +81,7 @@ after_drain s = record s { dram = drained s.dram }
 
 -- ---- when power comes on, and in the boot
 
--- page x of the pool has page x of memory; the pages behind those are free
+-- page x of the pool has page x of memory; the pages after these are free
 abbrev pub first_entry : Parameters → ℕ → Option Held
 first_entry p q = if nat_lt q p.pages then Some (held q) else None
 

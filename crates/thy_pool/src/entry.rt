@@ -4,11 +4,11 @@ ghost use Rattle.thy_pool.specs.Keys.{held, framed, begun_for};
 
 use thy_table::{Keyed, Rule};
 
-/// A page of the pool that has something: the page of memory with this number in the committed checkpoint, or, that
-/// many behind memory's last page, what the frame with this number takes there with the next one.
+/// A page of the pool that has something: the page of memory with this number in the committed checkpoint, or, counted
+/// from memory's last page on, what the frame with this number takes there with the next one.
 #[derive(Clone, Copy, Debug, PartialEq, Eq)]
 pub struct Held {
-    /// The number.
+    /// The number of the page, or of the frame, counted from memory's last page on.
     pub number: u64,
 }
 
@@ -58,12 +58,12 @@ impl Keyed for Framed {
 pub struct Begun {
     /// The page's number.
     pub page: u64,
-    /// How many of its blocks were copied, from the first on.
+    /// How many of the page's blocks were copied, from the first on.
     pub copied: u64,
 }
 
 impl Begun {
-    /// A frame of a page with so many blocks.
+    /// A frame of a page, into which `copied` blocks were copied.
     pub fn new(page: u64, copied: u64) -> Begun
         ensures { result ≡ begun_for page copied }
     {

@@ -271,7 +271,7 @@ impl Pool {
         j
     }
 
-    /// Puts a block into frame `j`.
+    /// Writes a block into frame `j`, as block `c` of its page.
     fn put(&mut self, j: usize, c: u64, block: &Block)
         requires frame { j < self.old.p.ptt }
         requires block { c < 64 }
@@ -388,7 +388,7 @@ impl Pool {
         table_block(&self.listed_in(k))
     }
 
-    /// The eight entries of a block of it.
+    /// The eight entries of block `k` of the next checkpoint's map.
     fn listed_in(&self, k: u64) -> [Option<u64>; 8]
         requires { k < map_blocks self.now.p }
         ensures { result ≡ take 8 (drop (8 * k) (next_table self.now)) }
@@ -413,7 +413,8 @@ impl Pool {
         }
     }
 
-    /// That of a page of memory: its frame's, or that which was committed.
+    /// The page of the pool that a page of memory has in the next checkpoint: its frame's, or the one that was
+    /// committed.
     fn next_page(&self, x: u64) -> Option<u64>
         requires { x < self.now.p.pages }
         ensures { result ≡ next_page self.now x }
@@ -425,7 +426,7 @@ impl Pool {
         }
     }
 
-    /// Lists the map of a slot, in place of that of a start. No frame may be filled or begun.
+    /// Lists the map of a slot, in place of the map of a start. No frame may be filled or begun.
     pub fn list(&mut self, slot: &[u8])
         requires slot { length slot.now ≡ 64 * slot_blocks self.old.p }
         requires map { IsMap self.old.p (table_in self.old.p (blocks_of slot.now)) }

@@ -37,7 +37,7 @@ TellsNext-copy : (o : Origin) (l : Layout) (h g : List Block) (sealed : Option M
 TellsNext-copy o l h g None c t = absurd t
 TellsNext-copy o l h g (Some m) c is = (m, refl, IsOf-copy o l h g m c is)
 
--- an image that a cut may leave is that of the mark kept, or of the one in doubt
+-- an image that a cut may leave has the checkpoint of the mark kept, or of the one in doubt
 abbrev IsFound : Origin → Layout → Option Mark → Option Mark → List Block → Type 0
 IsFound o l kept doubt g = Tells o l g kept ⊎ ((m : Mark) × (doubt ≡ Some m) × IsOf o l g m)
 

@@ -29,7 +29,7 @@ next_by P k blocks more last = by_more (nat_lt (k + 1) blocks) refl where
   by_more true e = more (ltb-true (k + 1) blocks e)
   by_more false e = last (ltb-false (k + 1) blocks e)
 
--- it is there
+-- the next action of a round is in the round
 pub next_inside : (blocks : ℕ) (r q : Round) → next_round blocks r ≡ Some q → IsInRound blocks q
 next_inside blocks (Write k) q e =
     let same : (if nat_lt (k + 1) blocks then Write (k + 1) else Settle) ≡ q = cc in
@@ -108,7 +108,7 @@ module _ (w : RoundWrites) where
   drain_keeps_written Commit n h = written_drained w.blocks n h
   drain_keeps_written Confirm n h = (written_drained w.blocks n h.0, Reads-drained 1 w.commit n (drained n) h.1 refl)
 
-  -- one block more
+  -- one block more of a round was written
   written_more : (image_blocks k : ℕ) (n : Device) → AreApart image_blocks w → length n.image ≡ image_blocks → k < w.blocks → HasWritten w k n
       → HasWritten w (k + 1) (written_to n (w.place k) (w.block k))
   written_more image_blocks k n apart sized low h =

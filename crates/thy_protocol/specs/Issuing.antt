@@ -11,8 +11,8 @@ use Rattle.thy_layout.specs.Commit.{is_zero, epoch_of}
 use Rattle.thy_layout.specs.Decoded.{At}
 use Rattle.thy_layout.specs.Layout.{Layout, state_by, slot_in, memory_in, memory_places, fault_of, decode_by, looked_by}
 
--- the places that the parts of a checkpoint are written to: the blocks of its slot, one after the other, and those of
--- memory
+-- the places that the parts of a checkpoint are written to: the blocks of its slot, one after the other, and memory's
+-- blocks
 pub record CheckpointParts : Type 0 where
   pub slot_place : ℕ
   pub slot_blocks : ℕ
@@ -23,7 +23,8 @@ pub record CheckpointParts : Type 0 where
 abbrev pub slot_of : CheckpointParts → List Block
 slot_of parts = map parts.slot (range_with_len 0 parts.slot_blocks)
 
--- they are after the commit block, within an image of so many blocks, and no block of memory is in the slot
+-- the places of a checkpoint's parts are after the commit block, within an image of this many blocks, and no block of
+-- memory is in the slot
 pub record ArePlaced (image_blocks : ℕ) (parts : CheckpointParts) : Type 0 where
   pub slot_behind : 2 ≤ parts.slot_place
   pub slot_inside : parts.slot_place + parts.slot_blocks ≤ image_blocks
@@ -37,13 +38,13 @@ pub record AreIssued (image_blocks : ℕ) (parts : CheckpointParts) (n : Device)
   pub memory_is : map (newest n) parts.memory ≡ memory
   pub slot : ReadsFirst n parts.slot_place parts.slot k
 
--- no block of the slot at first
+-- a device whose reads give memory begins with no block of the slot issued
 abbrev pub IssuingBegins : Type 0
 IssuingBegins =
     (image_blocks : ℕ) (parts : CheckpointParts) (n : Device)
     → length n.image ≡ image_blocks → AreIssued image_blocks parts n (map (newest n) parts.memory) 0
 
--- one more after the write of the next
+-- after the write of the next block of the slot, one block more is issued
 abbrev pub SlotGoesOn : Type 0
 SlotGoesOn =
     (image_blocks : ℕ) (parts : CheckpointParts) (old new : Device) (memory : List Block) (k : ℕ)
@@ -55,14 +56,14 @@ pub record IsElsewhere (parts : CheckpointParts) (x : ℕ) : Type 0 where
   pub no_slot : (k : ℕ) → k < parts.slot_blocks → parts.slot_place + k ≢ x
   pub no_memory : ¬ Contains parts.memory x
 
--- a write elsewhere changes nothing of it
+-- a write elsewhere leaves the blocks of a checkpoint issued
 abbrev pub ElsewhereKeepsIssued : Type 0
 ElsewhereKeepsIssued =
     (image_blocks : ℕ) (parts : CheckpointParts) (old new : Device) (memory : List Block) (k x : ℕ) (block : Block)
     → ArePlaced image_blocks parts → AreIssued image_blocks parts old memory k → k ≤ parts.slot_blocks
     → IsElsewhere parts x → new ≡ written_to old x block → AreIssued image_blocks parts new memory k
 
--- nor does a drain
+-- a drain changes nothing of the blocks that were issued
 abbrev pub DrainKeepsIssued : Type 0
 DrainKeepsIssued =
     (image_blocks : ℕ) (parts : CheckpointParts) (old new : Device) (memory : List Block) (k : ℕ)

@@ -29,7 +29,7 @@ KeptIsSafeForBoth =
     (layouts : Layouts) (o : Origin) (n : Device) (s : Saved) (kept sealed : Option Mark)
     → Keeps o (layouts o.geometry) n s kept sealed → Safe (reading layouts) o kept sealed n
 
--- after any number of moves too
+-- whatever a cut leaves after any number of moves is safe too
 abbrev pub MovesAreSafe : Type 0
 MovesAreSafe =
     (layouts : Layouts) (o : Origin) (a b : Standing)
@@ -57,7 +57,7 @@ FirstIsTold =
     (o : Origin) (l : Layout) (g : List Block)
     → IsOrigin o → decode_by l ceiling g ≡ found_first o o.kept → Tells o l g o.kept
 
--- the view of a boot is that of the mark whose checkpoint it finds
+-- the view of a boot is the view of the mark whose checkpoint it finds
 abbrev pub BootShows : Type 0
 BootShows =
     (o : Origin) (l : Layout) (g : List Block) (kept : Option Mark) (count : ℕ)

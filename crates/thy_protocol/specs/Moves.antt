@@ -39,15 +39,15 @@ pub data Move (o : Origin) (l : Layout) : Standing → Standing → Type 0 where
   -- an epoch is sealed
   Seals : (n : Device) (before : List Block) (kept : Option Mark) (m : Mark)
       → Move o l (standing n (Kept before) kept None) (standing n (Kept before) kept (Some m))
-  -- a barrier, after all writes of its checkpoint
+  -- a barrier after all writes of the sealed checkpoint
   Readies : (before next : List Block) (kept : Option Mark) (m : Mark) (old new : Device)
       → IsIssued (looked_by l) old next → IsOf o l next m → new ≡ settled old
       → Move o l (standing old (Kept before) kept (Some m)) (standing new (Ready before next) kept (Some m))
-  -- the write of its commit block, which differs in one word at most from that before it
+  -- the write of the next image's commit block, which differs in one word at most from the commit block before it
   Commits : (before next : List Block) (kept : Option Mark) (m : Mark) (old new : Device)
       → IsOneWordApart (block_at before commit_place) (block_at next commit_place) → CommitsTo next old new
       → Move o l (standing old (Ready before next) kept (Some m)) (standing new (InDoubt before next) kept (Some m))
-  -- the barrier after it
+  -- the barrier after the write of the commit block
   Confirms : (before next : List Block) (kept : Option Mark) (m : Mark) (old new : Device)
       → Reads old commit_place (block_at next commit_place) → new ≡ settled old
       → Move o l (standing old (InDoubt before next) kept (Some m)) (standing new (Kept next) (Some m) None)

@@ -7,14 +7,14 @@ use Rattle.thy_view.specs.Action.{Action, WriteAt, Barrier}
 use Rattle.thy_protocol.specs.declared.round.Round.{Round}
 use Rattle.thy_protocol.specs.declared.round.Round.TheVariants.{Write, Settle, Commit, Confirm}
 
--- what it writes: so many blocks, each at its place, and then a commit block
+-- what a round writes: this many blocks, each at its place, and then a commit block
 pub record RoundWrites : Type 0 where
   pub blocks : ℕ
   pub place : ℕ → ℕ
   pub block : ℕ → Block
   pub commit : Block
 
--- the block that is written next is one of them
+-- the block that is written next is one of the round's
 abbrev pub IsInRound : ℕ → Round → Type 0
 IsInRound blocks (Write k) = k < blocks
 IsInRound blocks r = Unit {0}

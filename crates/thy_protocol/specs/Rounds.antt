@@ -49,7 +49,7 @@ MayTake o l m w Settle before next n = IsOf o l (next_image n w.commit) m × IsI
 MayTake o l m w Commit before next n = (block_at next commit_place ≡ w.commit) × IsOneWordApart (block_at before commit_place) w.commit
 MayTake o l m w Confirm before next n = (block_at next commit_place ≡ w.commit) × Reads n commit_place w.commit
 
--- it is a move then. The mark that is written may be the one that is kept
+-- An action of a round that has what it needs is a move. The mark that is written may be the one that is kept.
 abbrev pub RoundsMove : Type 0
 RoundsMove =
     (o : Origin) (l : Layout) (m : Mark) (w : RoundWrites) (r : Round) (before next : List Block) (kept : Option Mark) (n : Device)
@@ -57,7 +57,7 @@ RoundsMove =
     → Move o l (standing n (saved_in r before next) kept (Some m))
     (standing_then (next_round w.blocks r) (after (round_action w r) n) before (made_after w.commit r n next) kept m)
 
--- also if it fails
+-- each action of a round is a move also if it fails
 abbrev pub FailedRoundsMove : Type 0
 FailedRoundsMove =
     (o : Origin) (l : Layout) (m : Mark) (w : RoundWrites) (r : Round) (before next : List Block) (kept : Option Mark) (n new : Device)
@@ -66,7 +66,8 @@ FailedRoundsMove =
 
 -- ---- what was written
 
--- its places are within an image of this size, and each block has one of its own, apart from the commit block's
+-- the places of a round are within an image of this size, and each block has one of its own, apart from the commit
+-- block's
 pub record AreApart (image_blocks : ℕ) (w : RoundWrites) : Type 0 where
   pub room : commit_place < image_blocks
   pub inside : (i : ℕ) → i < w.blocks → w.place i < image_blocks

@@ -3,14 +3,15 @@ ghost use Rattle.thy_protocol.specs.Issuing.{IssuingBegins, SlotGoesOn, Elsewher
 ghost use Rattle.thy_protocol.specs.Laws.{KeptIsSafe, KeptIsSafeForBoth, FirstIsTold, BootShows, MovesAreSafe, CutKeeps, EmptyKeeps, ActionSpares, FailedActionSpares};
 ghost use Rattle.thy_protocol.specs.Rounds.{RoundsMove, FailedRoundsMove};
 
-/// Whatever a cut leaves is the checkpoint that is kept, whole, or the one in doubt; so it is the one kept or the one
+/// Whatever a cut leaves is the checkpoint that is kept, whole, or the one in doubt. That is the one kept or the one
 /// sealed, also after a call that failed.
 pub fn what_is_kept_is_safe()
     ensures doubt { KeptIsSafe }
     ensures both { KeptIsSafeForBoth }
 {}
 
-/// A boot shows the mark whose checkpoint it finds; at the beginning of a run, that of its start, if it has one.
+/// A boot shows the mark whose checkpoint it finds; at the beginning of a run it shows the start's mark, if the start
+/// has one.
 pub fn a_boot_finds_its_mark()
     ensures first { FirstIsTold }
     ensures shows { BootShows }
@@ -23,8 +24,8 @@ pub fn moves_are_safe()
     ensures { MovesAreSafe }
 {}
 
-/// A cut leaves a device that keeps the checkpoint that was kept, or the one in doubt. One with an empty queue keeps
-/// that of its image.
+/// A cut leaves a device that keeps the checkpoint that was kept, or the one in doubt. A device with an empty queue
+/// keeps the checkpoint of its image.
 pub fn a_cut_keeps()
     ensures cut { CutKeeps }
     ensures empty { EmptyKeeps }
@@ -51,8 +52,8 @@ pub fn what_is_issued_is_a_checkpoint()
     ensures { IssuedIsCheckpoint }
 {}
 
-/// Each action of a round is a move, whether or not it fails, if a block goes to no place that the kept image is found by, and
-/// the checkpoint is that of the sealed mark. This may be the mark that is kept.
+/// Each action of a round is a move, whether or not it fails, if no block goes to a place that the kept image is found
+/// by, and the checkpoint is the sealed mark's. This may be the mark that is kept.
 pub fn rounds_are_moves()
     ensures done { RoundsMove }
     ensures failed { FailedRoundsMove }

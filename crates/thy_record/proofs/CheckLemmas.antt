@@ -31,7 +31,7 @@ pub head_status : (p : Parameters) (ceiling epoch : ℕ) (slot : List Block) (w 
 head_status p ceiling epoch slot w found is same h k =
     cc (of_epoch epoch slot w is same)
 
--- the first of five is that of the first three, or else that of the last two
+-- the first of five options is the first of three of them, or else the first of the last two
 grouped : {X : Type 0} (a b c d e : Option X)
     → option_or (option_or (option_or a (option_or b c)) d) e ≡ option_or a (option_or b (option_or c (option_or d e)))
 grouped (Some x) b c d e = refl

@@ -27,7 +27,7 @@ in_nvm : (entry page : Option ℕ) (b : ℕ) → in_dram (place_by_entries entry
 in_nvm None None b = refl
 in_nvm entry page b = refl
 
--- which is in the NVM
+-- the place of each block of memory is in the NVM
 pub in_dram-place_of : (t : Tables) (b : ℕ) → in_dram (place_of t b) ≡ false
 in_dram-place_of t b = in_nvm (entry_of t.btt b) (entry_of t.ptt (page_of b)) b
 
@@ -53,7 +53,7 @@ own_place t b c (Some i) bp (Some k) cp e f g h same =
     cc
 own_place t b c be bp ce cp e f g h same = cc
 
--- and no two have the same
+-- no two blocks of memory have the same place
 pub place_of-own : (t : Tables) (b c : ℕ) → place_of t b ≡ place_of t c → b ≡ c
 place_of-own t b c same =
     own_place t b c (entry_of t.btt b) (entry_of t.ptt (page_of b)) (entry_of t.btt c) (entry_of t.ptt (page_of c)) refl refl refl refl same

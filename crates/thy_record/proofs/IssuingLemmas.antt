@@ -46,7 +46,7 @@ or_cases false b h = inr h
 long_of_two : (p : Parameters) (n : ℕ) → is_length (image_blocks p) (older_of p VersionTwo) n ≡ true → n ≡ image_blocks p
 long_of_two p n h = eqb-true n (image_blocks p) h
 
--- and those of version 1 in any case
+-- a file has at least the blocks of version 1
 pub long_enough : (p : Parameters) (version : LayoutVersion) (n : ℕ) → is_length (image_blocks p) (older_of p version) n ≡ true → blocks_one p ≤ n
 long_enough p VersionOne n h = elim (or_cases (n == image_blocks p) (n == blocks_one p) h) as (λ _. blocks_one p ≤ n) [
   | inl whole ↦ let e : n ≡ image_blocks p = eqb-true _ _ whole in omega arith
@@ -54,7 +54,7 @@ long_enough p VersionOne n h = elim (or_cases (n == image_blocks p) (n == blocks
 ]
 long_enough p VersionTwo n h = let e : n ≡ image_blocks p = long_of_two p n h in omega arith
 
--- and no more than those of version 2
+-- a file has at most the blocks of version 2
 pub long_most : (p : Parameters) (version : LayoutVersion) (n : ℕ) → is_length (image_blocks p) (older_of p version) n ≡ true → n ≤ image_blocks p
 long_most p VersionOne n h = elim (or_cases (n == image_blocks p) (n == blocks_one p) h) as (λ _. n ≤ image_blocks p) [
   | inl whole ↦ let e : n ≡ image_blocks p = eqb-true _ _ whole in omega arith
@@ -120,14 +120,14 @@ memory_number p t k otherwise l =
     (omega (arith, length-range_with_len 0 (memory_blocks p)))
     ∙ ap (λ b. number_of p (place_of t b)) (get_or-range_with_len 0 (memory_blocks p) k 0 l ∙ plain)
 
--- each is the number of a block's place
+-- each number is the number of a block's place
 memory_number_of : (p : Parameters) (t : Tables) (x : ℕ) → Contains (memory_numbers p t) x
     → (b : ℕ) × (b < memory_blocks p) × (number_of p (place_of t b) ≡ x)
 memory_number_of p t x (k, l, is) =
     let inside : k < memory_blocks p = omega (arith, length-memory_numbers p t) in
     (k, inside, sym (memory_number p t k x inside) ∙ is)
 
--- which lies between the slots of version 1 and those of version 2
+-- memory lies between the slots of version 1 and the slots of version 2
 pub memory_between : (p : Parameters) (t : Tables) (x : ℕ) → IsTables p t → Contains (memory_numbers p t) x → (first_home p ≤ x) × (x < blocks_one p)
 memory_between p t x s inside =
     let of = memory_number_of p t x inside in
@@ -144,7 +144,7 @@ unused_apart p t x s there nvm unused inside =
     let of = memory_number_of p t (number_of p x) inside in
     unused.none of.0 of.1 (numbers_tell p (place_of t of.0) x (IsPlace-place_of p t of.0 s of.1) there (in_dram-place_of t of.0 ∙ sym nvm) of.2)
 
--- those of version 1 lie before the homes, those of version 2 behind all places
+-- slots of version 1 lie before the homes, slots of version 2 after all places
 pub old_slot_before : (p : Parameters) (s k : ℕ) → s < 2 → k < blocks_of_slot VersionOne p
     → (2 ≤ place_of_slot VersionOne p s + k) × (place_of_slot VersionOne p s + k < first_home p)
 old_slot_before p zero k l m = (omega arith, omega arith)
@@ -322,7 +322,7 @@ after_header p x l = omega arith
 below_end : (p : Parameters) (x n : ℕ) → x < blocks_one p → blocks_one p ≤ n → x < n
 below_end p x n l m = omega arith
 
--- what lies between the slots of version 1 and those of version 2 is in none of them
+-- what lies between the slots of version 1 and the slots of version 2 is in none of them
 slot_apart : (p : Parameters) (version : LayoutVersion) (s k x : ℕ) → s < 2 → k < blocks_of_slot version p → first_home p ≤ x → x < blocks_one p
     → x ≢ place_of_slot version p s + k
 slot_apart p VersionOne s k x l m low high = λ e. let before = (old_slot_before p s k l m).1 in omega (arith, before, low, e)

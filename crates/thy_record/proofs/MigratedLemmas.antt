@@ -92,7 +92,7 @@ module _ (p : Parameters) (old new : List Block) (h : IsWrittenAnew p old new) w
       (entries_in old (8 * record_blocks p) p.btt) (entries_in old (8 * record_blocks p + p.btt) p.ptt)
       (entries_same (8 * record_blocks p) p.btt) (entries_same (8 * record_blocks p + p.btt) p.ptt)
 
-  -- every count is 0
+  -- every count of a migrated slot is 0
   count_none : (i : ℕ) → count_byte p new i ≡ 0
   count_none i =
       ap (λ (b : Block). slice_index_or b.0 (i % 64) 0)
@@ -117,7 +117,7 @@ module _ (p : Parameters) (old new : List Block) (h : IsWrittenAnew p old new) w
       ap (λ t. if p.harts == 1 || t then None else Some Second)
       (cc (word_same 72, word_same 74, word_same 76, word_same 77, word_same 78, word_same 79))
 
-  -- each test says the same
+  -- each test says the same of a migrated slot
   slot_fault-none : (ceiling epoch : ℕ) → slot_fault VersionOne p ceiling epoch old ≡ None → slot_fault VersionTwo p ceiling epoch new ≡ None
   unfolding slot_fault
   slot_fault-none ceiling epoch none =

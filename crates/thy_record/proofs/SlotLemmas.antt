@@ -194,7 +194,7 @@ counts_back p cpu t counts epoch slot of =
     map-alike_numbers (count_byte p slot) (byte_in counts) p.pages
     (λ i l. count_byte-back p cpu t counts epoch slot i of (omega arith))
 
--- and none is at fault
+-- no count of a page is at fault in a slot that was written
 count_fault-back : (p : Parameters) (cpu : CpuState) (t : Tables) (counts : ℕ → Block) (epoch : ℕ) (slot : List Block)
     → AreCounts p counts → IsSlotOf p cpu t counts epoch slot → count_fault VersionTwo p slot ≡ None
 count_fault-back p cpu t counts epoch slot are of =
@@ -219,7 +219,7 @@ slot_fault-back p ceiling cpu t counts epoch slot r recordable s are most l of =
     (both_none _ _ (status_fault-back p ceiling cpu epoch slot recordable fits begins)
     (both_none _ _ (count_fault-back p cpu t counts epoch slot are of) (second_fault-back p cpu epoch slot fits begins))))
 
--- all of it reads back
+-- a slot that was written reads back whole
 pub slot_back : (p : Parameters) (ceiling : ℕ) (cpu : CpuState) (t : Tables) (counts : ℕ → Block) (epoch : ℕ) (slot : List Block)
     → IsInRange p → IsRecordable p ceiling cpu → IsTables p t → AreCounts p counts → ceiling ≤ 2 ^ 64 → epoch < 2 ^ 64
     → IsSlotOf p cpu t counts epoch slot → ReadsBack p ceiling cpu t counts epoch slot
@@ -296,7 +296,7 @@ slot_parts version p ceiling epoch slot none =
     let status = neither (status_fault p ceiling slot) (rest_fault version p slot) tables.1 in
     (parts.0, tables.0, status.0, status.1)
 
--- so it has tables that a checkpoint may have
+-- a slot without a fault has tables that a checkpoint may have
 pub tables_of_slot : (version : LayoutVersion) (p : Parameters) (ceiling epoch : ℕ) (slot : List Block) → slot_fault version p ceiling epoch slot ≡ None
     → IsTables p (tables_in p slot)
 tables_of_slot version p ceiling epoch slot none =

@@ -7,7 +7,7 @@ use Rattle.thy_record.specs.Slots.{HasTableBlocks, tables_in}
 use Rattle.thy_record.specs.TableBlocks.{FitBlocks}
 use Rattle.thy_record.specs.Tables.{Tables}
 
--- and both tables from their blocks in a slot, whatever else the slot holds
+-- both tables read back from their blocks in a slot, whatever else the slot holds
 abbrev pub TablesReadBack : Type 0
 TablesReadBack =
     (p : Parameters) (t : Tables) (slot : List Block)

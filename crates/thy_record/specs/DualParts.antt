@@ -33,16 +33,16 @@ parts_by p cpu t counts epoch = record {
   memory = memory_numbers p t;
 }
 
--- the first k blocks of its slot were issued, and memory is to be these blocks; its tables are those of a checkpoint,
--- and its counts are counts
+-- the first k blocks of a slot were issued, and memory is to be these blocks; the slot has tables that a checkpoint may
+-- have, and counts
 pub record IsIssuing (p : Parameters) (n : Device) (cpu : CpuState) (t : Tables) (counts : ℕ → Block) (epoch : ℕ)
     (memory : List Block) (k : ℕ) : Type 0 where
   pub tables : IsTables p t
   pub counts_are : AreCounts p counts
   pub parts : AreIssued (image_blocks p) (parts_by p cpu t counts epoch) n memory k
 
--- the next image, with the commit block of this epoch, is the checkpoint, tells its tables and counts, and lacks no
--- other write
+-- the next image, with the commit block of this epoch, is the checkpoint, has its tables and counts, and lacks no other
+-- write
 pub record IsIssuedCheckpoint (p : Parameters) (ceiling : ℕ) (n : Device) (cpu : CpuState) (t : Tables) (counts : ℕ → Block)
     (epoch : ℕ) (memory : List Block) : Type 0 where
   pub told : IsToldBy p (next_image n (commit_of epoch)) VersionTwo epoch t

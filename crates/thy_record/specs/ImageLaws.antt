@@ -47,11 +47,11 @@ pub record HasPlace (p : Parameters) (t : Tables) (b : ℕ) : Type 0 where
 abbrev pub BlocksHavePlaces : Type 0
 BlocksHavePlaces = (p : Parameters) (t : Tables) (b : ℕ) → IsTables p t → b < memory_blocks p → HasPlace p t b
 
--- and no two have the same
+-- no two blocks of memory have the same place in the NVM
 abbrev pub PlacesAreOwn : Type 0
 PlacesAreOwn = (t : Tables) (b c : ℕ) → place_of t b ≡ place_of t c → b ≡ c
 
--- eight entries of the tables are a block of them
+-- eight entries of the tables make one block of the tables
 abbrev pub EntriesAreBlock : Type 0
 EntriesAreBlock =
     (t : Tables) (k : ℕ) (entries : List (Option ℕ))
@@ -79,7 +79,8 @@ pub record HasCheckpoint (p : Parameters) (image : List Block) (cpu : CpuState) 
   pub slot : (k : ℕ) → k < slot_blocks p
       → block_at image (slot_place p (slot_of_epoch epoch) + k) ≡ slot_block_of p cpu t counts epoch k
 
--- it decodes to that epoch, that processor and the blocks at the places of those tables
+-- an image with a checkpoint's commit block and slot decodes to that epoch, that processor and the blocks at the places
+-- of those tables
 abbrev pub WrittenDecodes : Type 0
 WrittenDecodes =
     (p : Parameters) (ceiling : ℕ) (cpu : CpuState) (t : Tables) (counts : ℕ → Block) (epoch : ℕ) (image : List Block)

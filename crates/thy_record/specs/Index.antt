@@ -26,7 +26,8 @@ pub record HasPage (p : Parameters) (j page : ℕ) (old new : List ℕ) : Type 0
   pub here : (k : ℕ) → k < 64 → slice_index_or new (64 * page + k) 0 ≡ number_of p (AlternatePage j k)
   pub others : (b : ℕ) → page_of b ≢ page → slice_index_or new b 0 ≡ slice_index_or old b 0
 
--- so it is of the page that the entry lists
+-- the blocks of the page that an entry lists, if it lists one, stand in its alternate page, and all others where they
+-- stood
 abbrev pub HasPageOf : Parameters → ℕ → Option ℕ → List ℕ → List ℕ → Type 0
 HasPageOf p j None old new = new ≡ old
 HasPageOf p j (Some page) old new = HasPage p j page old new

@@ -28,12 +28,12 @@ pub data Target : Type 0 where
   SlotBlock : (s k : ℕ) → Target
   PlaceBlock : (x : Place) → Target
 
--- the number of the block that it writes
+-- the number of the block that a target's write goes to
 abbrev pub target_number : Parameters → Target → ℕ
 target_number p (SlotBlock s k) = slot_place p s + k
 target_number p (PlaceBlock x) = number_of p x
 
--- the target is there
+-- the target lies in the NVM
 abbrev pub IsTarget : Parameters → Target → Type 0
 IsTarget p (SlotBlock s k) = (s < 2) × (k < slot_blocks p)
 IsTarget p (PlaceBlock x) = IsPlace p x × (in_dram x ≡ false)
@@ -56,7 +56,7 @@ ListedHomeIsUnused = (p : Parameters) (t : Tables) (i b : ℕ) → Lists t.btt i
 abbrev pub PagedHomeIsUnused : Type 0
 PagedHomeIsUnused = (p : Parameters) (t : Tables) (j b : ℕ) → Lists t.ptt j (page_of b) → IsUnused p t (Home b)
 
--- nor is what an empty entry owns
+-- what an empty entry owns is not used
 abbrev pub EmptyEntryIsUnused : Type 0
 EmptyEntryIsUnused = (p : Parameters) (t : Tables) (i : ℕ) → entry_at t.btt i ≡ None → IsUnused p t (AlternateBlock i)
 
@@ -88,12 +88,12 @@ pub record HasMemory (p : Parameters) (t : Tables) (n : Device) (memory : List B
   pub as_long : length memory ≡ memory_blocks p
   pub each : (b : ℕ) → b < memory_blocks p → newest n (number_of p (place_of t b)) ≡ block_at memory b
 
--- so memory, read through the tables, is these blocks
+-- if each block of memory is at its place, memory, read through the tables, is these blocks
 abbrev pub PlacedIsMemory : Type 0
 PlacedIsMemory =
     (p : Parameters) (t : Tables) (n : Device) (memory : List Block) → HasMemory p t n memory → memory_read p t n ≡ memory
 
--- and if that is so, each is at its place
+-- if memory, read through the tables, is these blocks, each is at its place
 abbrev pub MemoryIsPlaced : Type 0
 MemoryIsPlaced =
     (p : Parameters) (t : Tables) (n : Device) (memory : List Block) → memory_read p t n ≡ memory → HasMemory p t n memory

@@ -9,13 +9,13 @@ use Rattle.thy_places.specs.Places.{slot_blocks}
 use Rattle.thy_layout.specs.Cpu.{cpu_of_record}
 use Rattle.thy_record.specs.Slots.{tables_in, counts_in, slot_fault}
 
--- each block of the new slot is that of the old one; past its end that is a block of zeros
+-- each block of the new slot is the old slot's block; past the old slot's end it is a block of zeros
 pub record IsWrittenAnew (p : Parameters) (old new : List Block) : Type 0 where
   pub short : length old ≡ blocks_of_slot VersionOne p
   pub long : length new ≡ slot_blocks p
   pub each : (k : ℕ) → k < slot_blocks p → block_at new k ≡ block_at old k
 
--- it has the same processor and the same tables, counts of 0, and no fault either
+-- the new slot has the same processor and the same tables as the old one, counts of 0, and no fault either
 pub record MeansTheSame (p : Parameters) (ceiling epoch : ℕ) (old new : List Block) : Type 0 where
   pub cpu_same : cpu_of_record p new ≡ cpu_of_record p old
   pub tables_same : tables_in p new ≡ tables_in p old

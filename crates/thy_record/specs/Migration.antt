@@ -21,8 +21,8 @@ use Rattle.thy_protocol.specs.Issuing.{CheckpointParts, AreIssued}
 use Rattle.thy_layout.specs.Layout.{decode_by, looked_by}
 use Rattle.thy_record.specs.DualLayouts.{dual_layouts}
 
--- where its parts go: the slot of its epoch in version 2 gets the blocks of this slot of version 1, and zeros behind them;
--- memory's blocks stay where they are
+-- where the parts of a migrated checkpoint go: the slot of its epoch in version 2 gets the blocks of this slot of
+-- version 1, and then zeros; memory's blocks stay where they are
 abbrev pub migrated_parts : Parameters → List Block → ℕ → CheckpointParts
 migrated_parts p slot epoch = record {
   slot_place = slot_place p (slot_of_epoch epoch);
@@ -31,15 +31,15 @@ migrated_parts p slot epoch = record {
   memory = memory_numbers p (tables_in p slot);
 }
 
--- with the commit block of that epoch in version 2 the next image is the same checkpoint, tells the same tables and counts
--- of 0, and lacks no other write
+-- with the commit block of that epoch in version 2 the next image is the same checkpoint, has the same tables and
+-- counts of 0, and lacks no other write
 pub record IsMigrated (p : Parameters) (ceiling : ℕ) (n : Device) (slot : List Block) (epoch : ℕ) (memory : List Block) : Type 0 where
   pub told : IsToldBy p (next_image n (commit_of epoch)) VersionTwo epoch (tables_in p slot)
   pub counted : counts_in VersionTwo p (slot_in p (next_image n (commit_of epoch))) ≡ replicate p.pages 0
   pub decodes : decode_by (dual_layouts p) ceiling (next_image n (commit_of epoch)) ≡ At epoch (state_from p (cpu_of_record p slot) memory)
   pub issued : IsIssued (looked_by (dual_layouts p)) n (next_image n (commit_of epoch))
 
--- once its whole slot was issued, behind a header that has no fault, from a slot that has none
+-- a migration decodes once its whole slot was issued, after a header that has no fault, from a slot that has none
 abbrev pub MigrationDecodes : Type 0
 MigrationDecodes =
     (p : Parameters) (ceiling : ℕ) (n : Device) (slot : List Block) (epoch : ℕ) (memory : List Block)

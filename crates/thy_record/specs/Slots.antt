@@ -30,7 +30,7 @@ slot_block_of p cpu t counts epoch k =
 pub record IsSlotOf (p : Parameters) (cpu : CpuState) (t : Tables) (counts : ℕ → Block) (epoch : ℕ) (slot : List Block) : Type 0 where
   pub each : (k : ℕ) → k < slot_blocks p → block_at slot k ≡ slot_block_of p cpu t counts epoch k
 
--- these blocks have those of tables after the record
+-- these blocks have the tables' blocks after the record
 pub record HasTableBlocks (p : Parameters) (t : Tables) (slot : List Block) : Type 0 where
   pub each : (k : ℕ) → k < table_blocks p → block_at slot (record_blocks p + k) ≡ table_block_of t k
 
@@ -62,7 +62,7 @@ counts_in VersionTwo p slot = map (count_byte p slot) (range_with_len 0 p.pages)
 abbrev pub is_bad_count : Parameters → List Block → ℕ → Bool
 is_bad_count p slot i = nat_lt 63 (count_byte p slot i) || (nat_le p.pages i && not (count_byte p slot i == 0))
 
--- the first such byte; version 1 has none
+-- the first byte that is no count; a slot of version 1 has none
 abbrev pub count_fault : LayoutVersion → Parameters → List Block → Option BadImage
 count_fault VersionOne p slot = None
 count_fault VersionTwo p slot = option_map Count (position (is_bad_count p slot) (range_with_len 0 (64 * count_blocks p)))
@@ -72,7 +72,7 @@ abbrev pub head_fault : Parameters → ℕ → ℕ → List Block → Option Bad
 head_fault p ceiling epoch slot =
     option_or (epoch_fault epoch slot) (option_or (tables_fault p (tables_in p slot)) (status_fault p ceiling slot))
 
--- the counts, and then the other hart's words
+-- the first fault of the counts, or else of the other hart's words
 abbrev pub rest_fault : LayoutVersion → Parameters → List Block → Option BadImage
 rest_fault version p slot = option_or (count_fault version p slot) (second_fault p slot)
 

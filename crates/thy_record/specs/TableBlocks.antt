@@ -7,7 +7,7 @@ use Rattle.thy_record.specs.Tables.{Tables}
 use Rattle.thy_base.specs.Words.{block_of}
 use Rattle.thy_layout.specs.Entries.{entry_word, HaveWords}
 
--- tables of which their blocks say all: as many entries as the geometry has, and each with a word
+-- tables of which their blocks say all: they have the geometry's numbers of entries, each of which fits a word
 pub record FitBlocks (p : Parameters) (t : Tables) : Type 0 where
   pub btt_length : length t.btt ≡ p.btt
   pub ptt_length : length t.ptt ≡ p.ptt

@@ -50,13 +50,13 @@ Says p t (TableTwice i k) = IsFirstTwice p t i k
 Says p t (BlockUnderPage i j) = IsFirstUnder p t i j
 Says p t _ = ⊥
 
--- this holds of the refusal that is found
+-- what the refusal that is found says holds of the tables
 abbrev pub FoundIsSo : Type 0
 FoundIsSo =
     (p : Parameters) (t : Tables) (bad : BadImage)
     → length t.btt ≡ p.btt → tables_fault p t ≡ Some bad → Says p t bad
 
--- and of no other
+-- a refusal that holds of the tables is the one that is found
 abbrev pub SoIsFound : Type 0
 SoIsFound =
     (p : Parameters) (t : Tables) (bad : BadImage)

@@ -20,7 +20,8 @@ abbrev pub place_in_page : Option ℕ → ℕ → Place
 place_in_page None b = Home b
 place_in_page (Some j) b = AlternatePage j (b % 64)
 
--- and by the entry of the block table that lists the block itself
+-- the place of a block, by the entry of the block table that lists it, and by the entry of the page table that lists
+-- its page
 abbrev pub place_by_entries : Option ℕ → Option ℕ → ℕ → Place
 place_by_entries None page b = place_in_page page b
 place_by_entries (Some i) page b = AlternateBlock i

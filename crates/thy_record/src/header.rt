@@ -18,9 +18,9 @@ pub fn header_block(geometry: &Geometry) -> Block
     header_block_of(SCHEME, geometry)
 }
 
-/// The first fault of a header, if it has one: another name; a version that is not 2 and, with one hart, not 1 either; another
-/// geometry, or another scheme's. `long` says whether the image has as many blocks as the geometry asks for; if it has not,
-/// that is another geometry.
+/// The first fault of a header, if it has one: another name; a version that is not 2 and, with one hart, not 1 either;
+/// another geometry, or another scheme's. `long` says whether the image has the number of blocks that the geometry asks
+/// for; if it has not, that is another geometry.
 pub fn header_fault(block: &Block, geometry: &Geometry, long: bool) -> Option<BadImage>
     ensures { result ≡ fault_of_header scheme_number block.now geometry.now long }
 {

@@ -49,7 +49,7 @@ pub fn decoded_has_tables()
     ensures { DecodedHasTables }
 {}
 
-/// A slot of version 1 that is written anew in version 2, with zeros behind it, means the same: it has the same
+/// A slot of version 1 that is written anew in version 2, with zeros after it, means the same: it has the same
 /// processor and the same tables, counts of 0, and no fault either.
 pub fn a_slot_anew_means_the_same()
     ensures { AnewMeansTheSame }
@@ -75,14 +75,15 @@ pub fn memory_is_read_at_its_places()
     ensures memory { MemoryIsPlaced }
 {}
 
-/// In version 2, with the whole slot issued, and behind a header without a fault, whoever wrote it, the next image decodes
-/// to the checkpoint and tells its tables and counts, and all that tells it was issued.
+/// In version 2, with the whole slot issued, and after a header without a fault, whoever wrote it, the next image
+/// decodes to the checkpoint and has its tables and counts, and all that determines it was issued.
 pub fn dual_layouts_are_issued()
     ensures { IssuedDecodes }
 {}
 
-/// An image of version 1 is migrated by a slot of version 2 with the blocks of its own slot and zeros behind them: once that
-/// was issued, the next image, with the commit block of the same epoch in version 2, decodes to the same checkpoint.
+/// An image of version 1 is migrated by a slot of version 2 that has the blocks of its own slot, and then zeros. Once
+/// that slot was issued, the next image, with the commit block of the same epoch in version 2, decodes to the same
+/// checkpoint.
 pub fn a_migration_decodes()
     ensures { MigrationDecodes }
 {}

@@ -16,7 +16,7 @@ use thy_layout::{
 };
 use thy_places::{count_blocks as blocks_of_counts, table_blocks as blocks_of_tables};
 
-/// The block table of a slot, which stands behind the processor's record.
+/// The block table of a slot, which follows the processor's record.
 pub fn btt_in<'a>(slot: &'a [u8], geometry: &Geometry) -> &'a [u8]
     requires { 64 * (record_blocks geometry.now + geometry.now.btt / 8) ≤ length slot.now }
     ensures { table_in result.now ≡ (tables_in geometry.now (blocks_of slot.now)).btt }
@@ -105,9 +105,10 @@ fn bad_count(slot: &[u8], geometry: &Geometry) -> Option<BadImage>
     None
 }
 
-/// The first fault of record and tables, with which a slot of either version begins, under a commit block of this epoch: a
-/// record of another epoch, tables that no checkpoint has, a status without meaning or a count of instructions that is not
-/// below the ceiling, a console longer than its pages.
+/// The first fault of record and tables, with which a slot of either version begins, under a commit block of this
+/// epoch: in the epoch, the tables, the status, the count or the console's length. The record may be of another epoch,
+/// and the tables such as no checkpoint has; the status may be without meaning, the count of instructions not below the
+/// ceiling, and the console longer than its pages.
 pub fn head_fault(slot: &[u8], epoch: u64, geometry: &Geometry, ceiling: u64) -> Option<BadImage>
     requires { 64 * (record_blocks geometry.now + table_blocks geometry.now) ≤ length slot.now }
     ensures { result ≡ fault_of_head geometry.now ceiling epoch (blocks_of slot.now) }
@@ -121,8 +122,9 @@ pub fn head_fault(slot: &[u8], epoch: u64, geometry: &Geometry, ceiling: u64) ->
     status_fault(slot, geometry, ceiling)
 }
 
-/// The first fault of the slot of a version with these bytes under a commit block of this epoch, if it has one: that of
-/// record and tables, a count of stores past 63 or past the last page, or words of the second hart without meaning.
+/// The first fault of the slot of a version with these bytes under a commit block of this epoch, if it has one: in
+/// record and tables, the counts of stores, or the second hart. A count may be past 63 or past the last page, and words
+/// of the second hart without meaning.
 pub fn slot_fault(
     slot: &[u8],
     version: LayoutVersion,

@@ -77,7 +77,7 @@ module _ (p : Parameters) (commit : Block) (slot : List Block) (older : IsOlder 
       ∙ means_the_same.no_counts
       ∙ ap (λ (v : LayoutVersion). counts_in v p slot) (sym older.version)
 
-  -- the slots lie before all places of memory, and behind them
+  -- the place of the slot that is written anew; slots lie before all places of memory, or after them
   place_is : place_of_slot (version_of scheme_number p (anew commit)) p (epoch_of (anew commit) % 2) ≡ slot_place p (epoch % 2)
   place_is =
       ap (λ (v : LayoutVersion). place_of_slot v p (epoch_of (anew commit) % 2)) version_is

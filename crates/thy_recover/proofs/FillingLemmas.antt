@@ -78,7 +78,7 @@ module _ (p : Parameters) (slot : List Block) (from k : ℕ) (h : IsPosition p s
       let k_is : 64 * (k / 64) + k % 64 ≡ k = omega arith in
       subst (λ (q : Parameters). number_of q (AlternatePage (k / 64) (k % 64)) < image_blocks p) (sym same) (omega (arith, k_is, position_inside))
 
-  -- it is the next one from itself on
+  -- a position that is the next one is the next one from itself on
   pub position_again : next_position p slot k ≡ Some k
   position_again =
       let ptt : List (Option ℕ) = (tables_in p slot).ptt in
@@ -132,7 +132,7 @@ module _ (commit : Block) (slot : List Block) (c : State) (l : ListsSlot commit 
 
 -- ---- another content of the DRAM
 
--- as long as before, it leaves the tables sound
+-- another DRAM of the same size leaves the tables sound
 pub AreSoundTables-dram : (c : State) (d : Contents) → length d.blocks ≡ length c.dram.blocks → AreSoundTables c → AreSoundTables (record c { dram = d })
 AreSoundTables-dram c d long t = search (rules, long ∙ t.dram_size)
 

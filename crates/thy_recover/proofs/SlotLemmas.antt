@@ -28,7 +28,7 @@ use Rattle.thy_places.specs.Places.{count_blocks}
 use Rattle.thy_layout.specs.declared.bad_image.BadImage.TheVariants.{Count}
 use Rattle.thy_record.proofs.CountLemmas.{none_passes}
 
--- the tables of a slot have as many entries as the geometry
+-- the tables of a slot have the geometry's numbers of entries
 pub size_of_ptt : (p : Parameters) (slot : List Block) → length (tables_in p slot).ptt ≡ p.ptt
 size_of_ptt p slot = length-entries_in slot (8 * record_blocks p + p.btt) p.ptt
 
@@ -54,12 +54,12 @@ ListsUpTo-empty p slot c same e = record {
   };
 }
 
--- and with tables listed it counts nothing yet
+-- a controller with a slot's tables listed counts nothing yet
 pub no_counts-listed : (p : Parameters) (t : Tables) (c d : State) → c.p ≡ p → IsEmpty c → AsListed p.btt p.ptt t c d → d.counts.lasts ≡ replicate p.pages 0
 no_counts-listed p t c d same e l =
     ap (λ (x : State). x.counts.lasts) l.same ∙ e.fresh.no_counts ∙ ap (λ (q : Parameters). replicate q.pages 0) same
 
--- with all of them listed, these are the tables
+-- tables of which all entries are listed are these tables
 all_listed : (i j : ℕ) (t u : Tables) → length t.btt ≡ i → length t.ptt ≡ j → HaveFirst i j t u → u ≡ t
 all_listed i j t u bi pj h =
     ap (λ (x : List (Option ℕ)). record u { btt = x }) (ext_get_or None u.btt t.btt h.btt_length (λ k l. h.blocks k (omega (arith, l, h.btt_length, bi))))
@@ -104,14 +104,14 @@ count_within p slot i none inside =
       by_test true e h = cc
       by_test false e h = ltb-false 63 (count_byte p slot i) e
 
--- a controller has the first counts of a slot, and else those of a list as long as memory has pages
+-- a controller has the first n counts of a slot, in a list as long as memory has pages
 pub record HasFirstCounts (p : Parameters) (slot : List Block) (n : ℕ) (old new : State) : Type 0 where
   pub booting : IsBooting new
   pub long : length new.counts.lasts ≡ p.pages
   pub each : (k : ℕ) → k < n → slice_index_or new.counts.lasts k 0 ≡ count_byte p slot k
   pub same : new ≡ with_lasts new.counts.lasts old
 
--- with one more
+-- after one more count is listed, the controller has one more of the first counts
 pub HasFirstCounts-more : (p : Parameters) (slot : List Block) (n : ℕ) (old new next : State) → n < p.pages → HasFirstCounts p slot n old new
     → next ≡ with_listed_count n (count_byte p slot n) new → IsBooting next → HasFirstCounts p slot (n + 1) old next
 HasFirstCounts-more p slot n old new next inside h is booting =
@@ -124,7 +124,7 @@ HasFirstCounts-more p slot n old new next inside h is booting =
       same = is ∙ ap (with_lasts (slice_set new.counts.lasts n (count_byte p slot n))) h.same ∙ ap (λ (xs : List ℕ). with_lasts xs old) (sym lasts);
     }
 
--- with those of all pages
+-- a controller with the first n counts of a slot has all of them, if memory has at most n pages
 pub all_counts : (p : Parameters) (slot : List Block) (n : ℕ) (old new : State) → p.pages ≤ n → HasFirstCounts p slot n old new → new ≡ with_lasts (counts_in VersionTwo p slot) old
 all_counts p slot n old new all h =
     h.same ∙ ap (λ (xs : List ℕ). with_lasts xs old) (fill_by_all (count_byte p slot) new.counts.lasts p.pages 0 h.long (λ k l. h.each k (omega (arith, l, all))))

@@ -50,7 +50,7 @@ IsTables-none p = record {
   apart = λ i j b l m. lists_none p.btt i b l;
 }
 
--- every block is at home
+-- every block is at home in tables that list nothing
 pub place_of-none : (p : Parameters) (b : ℕ) → place_of (no_tables p) b ≡ Home b
 place_of-none p b =
     ap (λ (o : Option ℕ). place_by_entries o (entry_of (replicate p.ptt None) (page_of b)) b)
@@ -58,7 +58,7 @@ place_of-none p b =
     ∙ ap (λ (o : Option ℕ). place_by_entries None o b)
     (entry_of-absent (replicate p.ptt None) (page_of b) (λ i l. lists_none p.ptt i (page_of b) l))
 
--- and their blocks hold zeros
+-- the blocks of tables that list nothing hold zeros
 pub table_block-none : (p : Parameters) (k : ℕ) → IsInRange p → k < table_blocks p → block_of (replicate 8 0) ≡ table_block_of (no_tables p) k
 table_block-none p k r inside =
     let eights : p.btt % 8 ≡ 0 = btt_eights p r in
@@ -88,7 +88,7 @@ zero_words : block_of (replicate 8 0) ≡ zero_block
 unfolding block_of number_bytes zero_block
 zero_words = refl
 
--- block k of a start's slot behind the record
+-- block k of a start's slot after the record is zeros
 pub start_slot-zeros : (p : Parameters) (s : State) (k : ℕ) → IsInRange p → record_blocks p ≤ k → k < slot_blocks p → block_of (replicate 8 0) ≡ start_slot p s k
 start_slot-zeros p s k r past inside = elim (cases_lt (k - record_blocks p) (table_blocks p)) as (λ _. block_of (replicate 8 0) ≡ start_slot p s k) [
   | inl l ↦
@@ -132,7 +132,7 @@ module _ (p : Parameters) (s : State) where
         ap (λ (f : LayoutVersion). slot_fault f p ceiling (epoch_of (commit_of 0)) slot) (start_version p)
         ∙ ap (λ (e : ℕ). slot_fault VersionTwo p ceiling e slot) (epoch_of-commit_of 0 (omega arith)) ∙ first_back.faultless
 
-    -- each block at its home
+    -- each block of a start goes to its home
     pub first_place : (b : ℕ) → b < memory_blocks p → slice_index_or (first_by filling_dual p s).parts.memory b 0 ≡ number_of p (Home b)
     first_place b inside =
         ap (λ (xs : List ℕ). slice_index_or xs b 0) (first_memory can.geometry)

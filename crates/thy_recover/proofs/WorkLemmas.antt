@@ -62,7 +62,7 @@ still_page c boot n = by_place (place_of page_key n c.ptt) refl where
       let f = found_entry page_key no_page c.ptt n j h in
       subst (λ (e : PttEntry). IsStillPage e) (sym (entry_for-some page_key no_page c.ptt n j f.0 h f.1 ∙ boot.pages j f.0 f.1)) (record { dirty = refl; fresh = refl; busy = refl; same = refl })
 
--- so the last version is at the place of the committed one
+-- if nothing is under way, the last version is at the place of the committed one
 last_is_penult : (x : Cell) → IsStill x.entry → IsStillPage x.page → last x ≡ penult x
 last_is_penult x e p = cc
 
@@ -86,7 +86,7 @@ module _ (c : State) (n : Device) (sound : AreSoundTables c) (boot : IsBooting c
       ∙ newest-empty n (number_of c.p at) settled
       ∙ ap (λ (y : Place). block_at n.image (number_of c.p y)) (sym ((law c sound).same_place b l))
 
-  -- all of memory
+  -- a boot's loads give all of memory
   pub loads-are : loads c n ≡ blocks_at n.image (memory_numbers c.p (tables0 c))
   loads-are =
       let size : ℕ = memory_blocks c.p in

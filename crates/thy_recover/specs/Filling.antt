@@ -51,12 +51,12 @@ pub record IsFresh (c : State) : Type 0 where
   pub no_pages : (k : ℕ) → entry_at (tables0 c).ptt k ≡ None
   pub no_counts : c.counts.lasts ≡ replicate c.p.pages 0
 
--- its tables are sound, and it lists nothing
+-- the tables of an empty controller are sound, and list nothing
 pub record IsEmpty (c : State) : Type 0 where
   pub tables : AreSoundTables c
   pub fresh : IsFresh c
 
--- its tables are sound, it lists what those of a slot do, and it has the slot's counts
+-- a controller's tables are sound, it lists what a slot's tables list, and it has the slot's counts
 pub record ListsSlot (commit : Block) (slot : List Block) (c : State) : Type 0 where
   pub tables : AreSoundTables c
   pub booting : IsBooting c

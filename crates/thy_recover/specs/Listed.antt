@@ -15,7 +15,7 @@ pub record HaveFirst (i j : ℕ) (t u : Tables) : Type 0 where
   pub pages : (k : ℕ) → k < j → entry_at u.ptt k ≡ entry_at t.ptt k
   pub no_pages : (k : ℕ) → j ≤ k → entry_at u.ptt k ≡ None
 
--- the committed checkpoint of a booting controller has them
+-- the committed checkpoint of a booting controller has the first entries of these tables
 pub record ListsUpTo (i j : ℕ) (t : Tables) (c : State) : Type 0 where
   pub booting : IsBooting c
   pub have : HaveFirst i j t (tables0 c)

@@ -12,7 +12,7 @@ use thy_control::Control;
 use thy_layout::LayoutVersion;
 use thy_record::listed_count;
 
-/// Sets the counts that a slot of a version has as those of the epoch before. Version 1 has none: they stay 0.
+/// Takes over the counts of a slot of a version, as counts of the epoch before. Version 1 has none: they stay 0.
 pub fn list_counts(slot: &[u8], version: LayoutVersion, geometry: &Geometry, control: &mut Control)
     requires slot { length slot.now ≡ 64 * blocks_of_slot version geometry.now }
     requires geometry { control.old.p ≡ geometry.now }
@@ -28,7 +28,7 @@ pub fn list_counts(slot: &[u8], version: LayoutVersion, geometry: &Geometry, con
     }
 }
 
-/// So in version 2, page by page.
+/// Takes over the counts of a slot of version 2, page by page.
 fn list_each(slot: &[u8], geometry: &Geometry, control: &mut Control)
     requires slot { length slot.now ≡ 64 * blocks_of_slot VersionTwo geometry.now }
     requires geometry { control.old.p ≡ geometry.now }

@@ -8,13 +8,13 @@ pub fn the_filling_is_lawful()
     ensures { IsFilling filling_dual }
 {}
 
-/// A restart is that of the mark that is kept, in the version that the commit block names, and the controller has its
+/// A restart restores the mark that is kept, in the version that the commit block names, and the controller has its
 /// tables, its counts and its memory.
 pub fn a_restart_is_the_kept_one()
     ensures { RestoredIsBooted }
 {}
 
-/// After loading memory is the start's, and its checkpoint is kept.
+/// After loading memory is the start's, and the start's checkpoint is kept.
 pub fn a_loaded_start_is_the_first()
     ensures { LoadedIsStarted }
 {}

@@ -24,7 +24,8 @@ pub fn first_place(geometry: &Geometry, state: &MachState, b: u64) -> u64
     home(geometry, b)
 }
 
-/// Block `k` of a start's slot: the processor's record at epoch 0, and behind it tables that list nothing and counts of 0.
+/// Block `k` of a start's slot: the processor's record at epoch 0, and after it tables that list nothing and counts of
+/// 0.
 pub fn first_slot(geometry: &Geometry, state: &MachState, k: u64) -> Block
     requires start { CanStart geometry.now (state_of state.now) }
     requires inside { k < (dual_layouts geometry.now).slot_blocks (commit_of 0) }

@@ -79,7 +79,7 @@ module _ (s : State) (n : Device) (slot : List Block) (listed : HasListed slot s
           first_from-is is_some None (table_in s.p slot) k k (omega arith) first.inside first.here (λ j a l. absurd (omega (arith, a, l))),
         )
 
-    -- with none left all are filled
+    -- if no position is left all are filled
     pub filled_all : next_entry s.p slot from ≡ None → AreFilled s n s.p.btt
     filled_all found =
         filled_to s.p.btt

@@ -58,7 +58,7 @@ module _ (p : Parameters) (s : Plain) (range : IsInRange p) where
       ap (λ (n : ℕ). table_of p n (first_slot_of filling_journal p s)) (sym eights)
       ∙ table_back p (cpu_of s) (no_table p) 0 (p.btt / 8) ((IsTable-none p).long ∙ sym eights) (HaveWords-table p (no_table p) range (IsTable-none p))
 
-  -- every block is at home
+  -- every block of a start is at home
   abbrev pub place_first : ℕ → ℕ
   place_first b = (journal_layouts p).place (commit_of 0) (first_slot_of filling_journal p s) b
 

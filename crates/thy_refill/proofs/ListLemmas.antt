@@ -82,7 +82,7 @@ module _ (p : Parameters) (i : ℕ) (slot : List Block) (s : State)
       } in
       subst (ListsUpTo (i + 1) p slot) (sym made) listed
 
-  -- one that it leaves empty was passed
+  -- an empty entry of the table is passed over
   pub lists_none : None ≡ listed_at (table_in p slot) i → ListsUpTo (i + 1) p slot s
   lists_none is = record {
     state = h.state;

@@ -18,7 +18,7 @@ use Rattle.thy_log.specs.Holding.{works}
 use Rattle.thy_log.specs.State.{State, IsSoundState, table_of, buffer_of}
 use Rattle.thy_log.specs.Stores.{after_drain, put_into}
 
--- every entry is free
+-- every entry of the log is free
 pub record IsFresh (s : State) : Type 0 where
   pub state : IsSoundState s
   pub free : (i : ℕ) → entry_at s.table i ≡ None

@@ -46,7 +46,7 @@ works_stand s n h =
     (λ b inside. work_stands s n b h (below (memory_blocks s.p) b inside))
     ∙ sym (map-map (newest n) (place_of s.p (committed_table s)) (range_with_len 0 (memory_blocks s.p)))
 
--- so with the map of the image's slot listed, memory is the image's
+-- with the map of the image's slot listed, memory is the image's
 pub works_are_memory : (s : State) (n : Device) (slot : List Block) → HasListed slot s → n.queue ≡ []
     → slot_in (shadow_layouts s.p) n.image ≡ slot → works s n ≡ memory_in (shadow_layouts s.p) n.image
 works_are_memory s n slot h settled is =

@@ -24,7 +24,7 @@ pub record IsUnframed (s : State) : Type 0 where
 abbrev pub first_table : Parameters → List (Option ℕ)
 first_table p = table_by p (λ x. Some x)
 
--- so it is when power comes on
+-- a pool when power comes on: no frame is filled or begun, and the map is a start's
 pub record IsFresh (s : State) : Type 0 where
   pub unframed : IsUnframed s
   pub first : committed_table s ≡ first_table s.p

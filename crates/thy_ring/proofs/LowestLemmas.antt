@@ -23,7 +23,7 @@ queued-elsewhere w y other = ap (λ t. if t then w.block ∷ [] else []) (ne_eqb
 none-append : (ws vs : List Write) (y : ℕ) → queued_for ws y ≡ [] → queued_for vs y ≡ [] → queued_for (ws ++ vs) y ≡ []
 none-append ws vs y first second = queued_for-append ws vs y ∙ ap (λ q. q ++ queued_for vs y) first ∙ second
 
--- something is, by either
+-- if one of two lists has a write for a place, so have both together
 some-left : (ws vs : List Write) (y : ℕ) → 0 < length (queued_for ws y) → 0 < length (queued_for (ws ++ vs) y)
 some-left ws vs y l =
     let both : queued_for (ws ++ vs) y ≡ queued_for ws y ++ queued_for vs y = queued_for-append ws vs y in
@@ -34,7 +34,7 @@ some-right ws vs y l =
     let both : queued_for (ws ++ vs) y ≡ queued_for ws y ++ queued_for vs y = queued_for-append ws vs y in
     grind (arith, common_steps, both)
 
--- one write more
+-- the lowest place with one write more
 IsLowestOf-below : (ws : List Write) (w : Write) (from : ℕ) (lowest : Option ℕ) → w.at < from → IsLowestOf ws from lowest
     → IsLowestOf (ws ++ w ∷ []) from lowest
 IsLowestOf-below ws w from None l none =

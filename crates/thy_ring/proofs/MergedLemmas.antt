@@ -100,7 +100,7 @@ AreMarked-drop ms (suc k) (w ∷ ws) marked = AreMarked-drop ms k ws marked.1
 pub marked-set_same : (ms : List Bool) (at : ℕ) → at < length ms → is_marked (slice_set ms at true) at ≡ true
 marked-set_same ms at l = get_or-set_same ms at true false l
 
--- leaves those that were
+-- a mark at one place leaves the marks that were there
 pub marked-set : (ms : List Bool) (at x : ℕ) → is_marked ms x ≡ true → is_marked (slice_set ms at true) x ≡ true
 marked-set ms at x marked = elim (cases_eq x at) as (λ _. is_marked (slice_set ms at true) x ≡ true) [
   | inl e ↦

@@ -13,7 +13,7 @@ pub record Held : Type 0 where
   -- how many writes the queue holds
   pub room : ℕ
 
--- no blocks, and no room for writes
+-- an image of no blocks, and no room for writes
 abbrev pub nothing : Held
 nothing = record { image = []; queue = []; room = 0 }
 
@@ -33,15 +33,15 @@ device_of r = record {
   whole = true;
 }
 
--- what a device holds of them
+-- the image, the queue and the room of a device
 abbrev pub held_by : Device → Held
 held_by n = record { image = n.image; queue = n.queue; room = n.queue_room }
 
--- what a device's call makes of them
+-- what a device that holds the same as a ring holds after this call
 abbrev pub as_device : (Device → Device) → Held → Held
 as_device call r = held_by (call (device_of r))
 
--- so many blocks, those of a start and then zeros, with room for so many writes
+-- a ring of this many blocks, which begins with a start's and continues with zeros, and room for this many writes
 abbrev pub made : ℕ → ℕ → List Block → Held
 made blocks room start = as_device (fitted (record { blocks = blocks; queue = room; cuts = 0 }) start) nothing
 
@@ -53,16 +53,16 @@ choice_at r at index = slice_index_or (possible (device_of r) at) index (block_a
 abbrev pub put_at : Held → ℕ → Block → Held
 put_at r at block = record r { image = slice_set r.image at block }
 
--- after the queue was lost
+-- a ring after its queue was lost
 abbrev pub unqueued : Held → Held
 unqueued r = record r { queue = [] }
 
--- the writes of a queue, if there is one
+-- the writes of a queue; there are none without a queue
 abbrev pub queued_in : Option (Buffer Write) → List Write
 queued_in None = []
 queued_in (Some queue) = queue.items
 
--- how many it holds
+-- how many writes a queue can hold
 abbrev pub room_in : Option (Buffer Write) → ℕ
 room_in None = 0
 room_in (Some queue) = queue.capacity
@@ -71,7 +71,7 @@ room_in (Some queue) = queue.capacity
 abbrev pub held_in : List Block → Option (Buffer Write) → Held
 held_in image queue = record { image = image; queue = queued_in queue; room = room_in queue }
 
--- how many writes are due to land before one more is queued
+-- how many writes have to land before one more is queued
 abbrev pub due_in : Option (Buffer Write) → ℕ
 due_in queue = surplus (device_of (held_in [] queue))
 

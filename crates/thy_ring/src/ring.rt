@@ -43,7 +43,8 @@ impl Ring {
         }
     }
 
-    /// A ring of so many blocks, those of `start`, which it takes over, and then zeros, with room for so many writes.
+    /// A ring of `blocks` blocks, the ones of `start` and then zeros, with room for `room` writes. It takes `start`
+    /// over.
     pub fn with_blocks(
         alloc: Global,
         blocks: u64,
@@ -147,7 +148,7 @@ impl Ring {
         apply_all_in(&mut self.image, &mut self.queue);
     }
 
-    /// Puts a block at a place of the image, whatever is queued for it.
+    /// Replaces the block at a place of the image, whatever is queued for it.
     pub fn put(&mut self, at: u64, block: &Block)
         requires { at < length self.old.image }
         ensures { self.new ≡ put_at self.old at block.now }
@@ -163,7 +164,7 @@ impl Ring {
     }
 }
 
-/// The blocks of a start and then zeros.
+/// An image that begins with the blocks of a start and continues with zeros.
 #[tactic(auto, unfolding(thy_base::specs::Device::zero_block))]
 fn fresh_image(start: Vec<Block>, blocks: usize) -> Result<Vec<Block>, AllocError>
     requires { length start.items ≤ blocks }

@@ -163,7 +163,7 @@ module _ {M : Type 0} (K : KindOf M) (laws : IsLawful K) (plan : Plan) (p q : Pr
       let end : IsEnd (line_of plan (turns_then plan turns r.did)) v next None = subst (IsEnd (line_of plan (turns_then plan turns r.did)) v next) is noted.is_end in
       going_next (is_halt v.phase) (is_halt next.phase) noted.steps.going end
 
-  -- the run continues, and no cut is due
+  -- the run continues, and no cut falls after the cycle
   pub done_going : ended ≡ None → (cycle : ℕ) → cycle ≡ k + 1 → (nat_lt q.passed (length plan.config.cuts) && slice_index plan.config.cuts q.passed == cycle) ≡ false
       → Passes K plan p q n m k turns r bytes
   done_going is cycle at_cycle due =
@@ -181,7 +181,7 @@ module _ {M : Type 0} (K : KindOf M) (laws : IsLawful K) (plan : Plan) (p q : Pr
       by_end None is = (done_going is cycle at_cycle (undue is)).0
       by_end (Some status) is = (done_ended status is).0
 
-  -- the run continues, and a cut is due
+  -- the run continues, and a cut falls after the cycle
   pub awaits_cut : ended ≡ None → (cycle : ℕ) → cycle ≡ k + 1 → (nat_lt q.passed (length plan.config.cuts) && slice_index plan.config.cuts q.passed == cycle) ≡ true
       → AwaitsCut K plan p q n m k turns r bytes
   awaits_cut is cycle at_cycle due = record {
@@ -189,7 +189,7 @@ module _ {M : Type 0} (K : KindOf M) (laws : IsLawful K) (plan : Plan) (p q : Pr
     due = subst (λ c. (nat_lt q.passed (length plan.config.cuts) && slice_index plan.config.cuts q.passed == c) ≡ true) at_cycle due;
   }
 
-  -- a cut was due, and fell
+  -- a cut fell after the cycle
   pub done_cut : (q' : Progress M) (m' : Device) → ended ≡ None → (cycle : ℕ) → cycle ≡ k + 1
       → (nat_lt q.passed (length plan.config.cuts) && slice_index plan.config.cuts q.passed == cycle) ≡ true → IsCutOffTo K plan q q' m m' cycle
       → IsDone K plan p q' n m' k turns (cut_turns K plan (turns_then plan turns r.did) m') r true bytes × (is_halt (seen K (origin_of plan) (world_at q' m' (k + 1) (cut_turns K plan (turns_then plan turns r.did) m'))).phase ≡ false)
@@ -243,7 +243,7 @@ module _ {M : Type 0} (K : KindOf M) (laws : IsLawful K) (plan : Plan) (p q : Pr
         ap (λ v. is_halt v.phase) found ∙ image_going o.start.count left,
       )
 
-  -- a cut was due, and memory ran out
+  -- memory ran out before a cut that falls after the cycle
   pub broken_cut : (q' : Progress M) (m' : Device) → ended ≡ None
       → (nat_lt q.passed (length plan.config.cuts) && slice_index plan.config.cuts q.passed == k + 1) ≡ true → q' ≡ q → m' ≡ m → IsBroken K plan p q' n m' k bytes × Breaks K plan p q' n m' k turns bytes Memory
   broken_cut q' m' is due same device =
@@ -271,7 +271,7 @@ module _ {M : Type 0} (K : KindOf M) (laws : IsLawful K) (plan : Plan) (p q : Pr
       subst (λ (y : Progress M). IsBroken K plan p y n m' k bytes × Breaks K plan p y n m' k turns bytes Memory) (sym same)
       (subst (λ (d : Device). IsBroken K plan p q n d k bytes × Breaks K plan p q n d k turns bytes Memory) (sym device) here)
 
-  -- a cut that is due may fall: there is room for its image
+  -- a cut that falls after the cycle can be made: there is room for its image
   pub can_cut : (fitted : Device) (cycle : ℕ) → IsPlanned plan → GoesOn K plan fitted p n k turns
       → (nat_lt q.passed (length plan.config.cuts) && slice_index plan.config.cuts q.passed == cycle) ≡ true → CanCut K plan q m
   can_cut fitted cycle planned g due =
@@ -290,14 +290,14 @@ told_none o v (Sealed epoch count cause) cycle h = absurd (cc)
 told_none o v (Committed epoch overlapped) cycle h = absurd (cc)
 told_none o v did cycle h = refl
 
--- and shows no console
+-- what has no event of its own shows no console
 hidden_none : (did : Did) → is_told did ≡ false → shows_console did ≡ false
 hidden_none Loaded h = absurd (cc)
 hidden_none (Restarted epoch count) h = absurd (cc)
 hidden_none (Committed epoch overlapped) h = absurd (cc)
 hidden_none did h = refl
 
--- and leaves the list of turns
+-- what has no event of its own leaves the list of turns
 list_quiet : (did : Did) (l : List ℕ) → is_told did ≡ false → l ≡ list_after did l
 list_quiet (Sealed epoch count cause) l h = absurd (cc)
 list_quiet did l h = refl
@@ -343,7 +343,7 @@ module _ {M : Type 0} (K : KindOf M) (laws : IsLawful K) (plan : Plan) (fitted :
         is_step = (simulates (line_of plan (turns_then plan turns r.did)) k (begins_of (turns_then plan turns r.did)) at_then few).1 (subst (λ (w : View). HasTurn (line_of plan (turns_then plan turns r.did)) w r.did) (sym alike) mine);
       }
 
-  -- and there is room to list its turn
+  -- there is room to list the turn of a step
   pub steps_room : (pick : Pick) (next : M) (m : Device) (r : Stepped) → StepsAlong K plan p n k turns pick next m r
       → HasRoomToList plan.geometry.harts (bytes_of p.turns) (room_of p.turns) r.did
   steps_room pick next m r s =
@@ -379,7 +379,7 @@ module _ {M : Type 0} (K : KindOf M) (laws : IsLawful K) (plan : Plan) (fitted :
     ended_stepped : r.ended ≡ halts (seen K (origin_of plan) (world_at p n k turns)) (K.view (line_of plan (turns_then plan turns r.did)) q.machine m)
     ended_stepped = s.is_step.ended ∙ ap (λ (w : View). halts w (K.view (line_of plan (turns_then plan turns r.did)) q.machine m)) s.alike
 
-    -- and that of the run
+    -- the step of the run
     pub takes_step : TakesStep K (origin_of plan) (world_at p n k turns) (after_step K (origin_of plan) (world_at p n k turns) q.machine m (turns_then plan turns r.did) r.did)
     takes_step = record {
       r = r;
@@ -410,7 +410,8 @@ module _ {M : Type 0} (K : KindOf M) (laws : IsLawful K) (plan : Plan) (fitted :
         (ends_with (origin_of plan) turns v (K.view (line_of plan (turns_then plan turns r.did)) q.machine m) (marks_of (origin_of plan) p.events) (bytes_of p.turns) good.stands.told_all good.stands.fits g.listed r.did
         good.stands.leads core_stepped)
 
-    -- and so it is after the cycle, if the list is cleared at an epoch's end
+    -- the turns that are listed after the cycle, if the list is cleared at an epoch's end, are the turns since the last
+    -- seal
     listed_stepped : (l : List ℕ) → l ≡ list_after r.did (bytes_of q.turns) → l ≡ last_turns (K.view (line_of plan (turns_then plan turns r.did)) q.machine m).retired (turns_then plan turns r.did)
     listed_stepped l is =
         let good = good_of K plan fitted p n k turns planned g in
@@ -422,7 +423,7 @@ module _ {M : Type 0} (K : KindOf M) (laws : IsLawful K) (plan : Plan) (fitted :
     long_enough x y le (inl one) = inl one
     long_enough x y le (inr long) = inr (omega (arith, le, long))
 
-    -- all events were made
+    -- a cycle is noted once all its events were made
     pub IsNoted-made : (t : Progress M) (ended : Option Status) (bytes : List ℕ)
         → t.events ≡ q.events ++ events_of (line_of plan (turns_then plan turns r.did)) q.fresh (seen K (origin_of plan) (world_at p n k turns)) r.did (K.view (line_of plan (turns_then plan turns r.did)) q.machine m) (k + 1)
         → t ≡ record q { events = t.events; released = t.released; fresh = false; turns = t.turns } → t.released ≡ q.released + length bytes
@@ -607,17 +608,17 @@ module _ {M : Type 0} (K : KindOf M) (laws : IsLawful K) (plan : Plan) (fitted :
   abbrev after : View
   after = K.view line q.machine m
 
-  -- it holds in every run for which this was read
+  -- a fact of a step holds in every run for which this was read
   abbrev ForReadings : (Origin → Bool → View → View → Type 0) → Type 0
   ForReadings Holds =
       (o : Origin) (fresh : Bool) (v next : View) → readings.reload ≡ (fresh && loads next) → EndsWithTurns o v r.did (bytes_of q.turns)
       → Restores o r.did readings.restored → IsEnding o v next readings.ended → Holds o fresh v next
 
-  -- these events are made
+  -- the events of a step are made
   abbrev AllMade : List Event → Type 0
   AllMade e = ForReadings (λ o fresh v next. e ≡ q.events ++ events_of o fresh v r.did next cycle)
 
-  -- or the first of them
+  -- the first events of a step are made
   abbrev SomeMade : List Event → Type 0
   SomeMade e = ForReadings (λ o fresh v next. MadeSome e (events_of o fresh v r.did next cycle) q.events)
 
@@ -647,7 +648,7 @@ module _ {M : Type 0} (K : KindOf M) (laws : IsLawful K) (plan : Plan) (fitted :
       let Made : ℕ → Type 0 = λ c. MadeSome e (events_of line q.fresh before r.did after c) q.events in
       IsBroken-made K laws plan fitted p n k turns planned ready.goes q m r ready.stepped (record q { events = e }) (subst Made ready.at_cycle (some_of e some)) refl
 
-  -- there are no fewer events than before
+  -- once all events of a step were made, there are no fewer than before
   pub more_noted : (e : List Event) → AllMade e → length q.events ≤ length e
   more_noted e all =
       let is : length e ≡ length q.events + _ = ap length (all_of e all) ∙ length-append q.events _ in

@@ -30,13 +30,13 @@ listed-last_of (c ∷ cs) (suc i) few =
     let rest : slice_index cs i ≤ last_of cs = listed-last_of cs i (omega arith) in
     omega (arith, rest)
 
--- one more drain, or one more other cycle
+-- the drains so far and the drains left stay within their bounds after one more cycle
 drains_kept : (b : Bool) (drains others old new : ℕ) → MatchBool b (new + 1 ≡ old) (new ≤ old + 1) → drains + old ≤ others
     → drains + one_if b + new ≤ others + one_if (not b)
 drains_kept true drains others old new step kept = omega (arith, step, kept)
 drains_kept false drains others old new step kept = omega (arith, step, kept)
 
--- one more cycle of the boot, of which fewer are left
+-- the boot's cycles so far and its cycles left stay within the most after one more cycle
 boots_kept : (b : Bool) (boots most old new : ℕ) → MatchBool b (new ≤ old) (new + 1 ≤ old) → boots + old ≤ most
     → boots + one_if (true && not b) + new ≤ most
 boots_kept true boots most old new step kept = omega (arith, step, kept)
@@ -53,7 +53,7 @@ pub record Works {M : Type 0} (K : KindOf M) (o : Origin) (cuts : List ℕ) (w :
   pub queued : t.drains + (K.gauge w.machine w.device).queued ≤ t.others
 
 module _ {M : Type 0} (K : KindOf M) (laws : IsLawful K) (o : Origin) (cuts : List ℕ) where
-  -- so many cycles of the boot are done, and while it continues those that are left fit in
+  -- this many cycles of the boot are done, and while it continues the cycles that are left fit in too
   abbrev IsBooting : World M → ℕ → Type 0
   IsBooting w boots =
       (boots ≤ K.most_booting o.geometry)
@@ -87,7 +87,7 @@ module _ {M : Type 0} (K : KindOf M) (laws : IsLawful K) (o : Origin) (cuts : Li
   phases w next step t h Run is = behind w next step t h (ap is_boot is)
   phases w next step t h Halt is = behind w next step t h (ap is_boot is)
 
-  -- one more step
+  -- a step leaves what was done and what lies ahead within their bounds
   step_works : (w next : World M) (step : TakesStep K o w next) (t : Tally) → Works K o cuts w t
       → Works K o cuts next (counted t (is_boot (seen K o w).phase) step.r.did)
   step_works w next step t h =
@@ -105,7 +105,7 @@ module _ {M : Type 0} (K : KindOf M) (laws : IsLawful K) (o : Origin) (cuts : Li
         queued = drains_kept (is_drained step.r.did) t.drains t.others _ _ step.is_step.pace.queues h.queued;
       }
 
-  -- a cut
+  -- a cut leaves what was done and what lies ahead within their bounds
   cut_works : (pick : ℕ) (x next : World M) → is_due K o cuts x ≡ true → IsCutOff K o pick x next → Works K o cuts next nothing_done
   cut_works pick x next due cut =
       let rest = and_parts (not (is_halt (seen K o x).phase)) _ due in
@@ -121,7 +121,7 @@ module _ {M : Type 0} (K : KindOf M) (laws : IsLawful K) (o : Origin) (cuts : Li
   by_due w x next step t h pick true due cut = cut_works pick x next due cut
   by_due w x next step t h pick false due is = subst (λ (y : World M). Works K o cuts y (counted t (is_boot (seen K o w).phase) step.r.did)) (sym is) (step_works w x step t h)
 
--- so it is after any number of cycles
+-- after any number of cycles, what was done and what lies ahead are within their bounds
 pub Works-ran : {M : Type 0} (K : KindOf M) (laws : IsLawful K) (o : Origin) (given : Given) (k : ℕ) (w : World M) (ran : Ran K o given k w)
     → Works K o given.config.cuts w (tally_of K o given k w ran)
 Works-ran {M = M} K laws o given zero w first =
@@ -166,7 +166,7 @@ Busy-ran K laws o given k w ran =
       drains = omega (arith, h.queued);
     }
 
--- and none of its cycles rests
+-- no cycle of a run rests
 pub NeverRests-ran : {M : Type 0} (K : KindOf M) → RunNeverRests K
 NeverRests-ran K o w next step is =
     let core : CoreStep (line o next) (seen K o w) Nothing (seen K o next) = subst (λ d. CoreStep (line o next) (seen K o w) d (seen K o next)) is (core_of K o w next step) in

@@ -36,7 +36,7 @@ use Rattle.thy_base.proofs.RangeLemmas.{console_most}
 
 -- ---- the console of the plain machine
 
--- it only grows
+-- the console of the plain machine only grows
 pub console-grows : (o : Origin) (j k : ℕ) → j ≤ k → (more : List ℕ) × (console_at o k ≡ console_at o j ++ more)
 console-grows o j k le =
     let Grown : State → Type 0 = λ t. (more : List ℕ) × (t.console ≡ console_at o j ++ more) in
@@ -61,7 +61,7 @@ grows_same a b e = λ k some. (k, e ∙ some, omega arith)
 grows_none : (a b : Option Mark) → a ≡ None → Grows a b
 grows_none a b none = λ k some. absurd (cc)
 
--- so what is released grows
+-- the console that is released grows
 pub grown : (o : Origin) (a b : Option Mark) → Grows a b
     → console_shown o b ≡ console_shown o a ++ drop (length (console_shown o a)) (console_shown o b)
 grown o None b g = refl
@@ -140,7 +140,7 @@ shown_of o events = mark_if (list_any shows events) (marks_of o events).kept
 abbrev console_by : Origin → ℕ → List ℕ → List ℕ
 console_by o k turns = (at (told o turns) k).console
 
--- that of a mark is the run's own if its turns reach it
+-- the console of a mark is the run's own if the mark's turns reach it
 of_mark : (o : Origin) (t turns : List ℕ) (kept : Option Mark) → ((k : Mark) → kept ≡ Some k → LeadsTo (told o t) turns k.count)
     → console_of (console_by o) kept turns ≡ console_shown (told o t) kept
 of_mark o t turns None leads = refl
@@ -307,7 +307,7 @@ module _ {M : Type 0} (K : KindOf M) (o : Origin) (w next : World M) (least : 1 
       let shown : shown_of o next.events ≡ shown_of o w.events = all_shown ∙ ap (λ b. if b then (seen K o next).done else shown_of o w.events) hides in
       all_released ∙ ap (console_shown (line o next)) shown ∙ sym before ∙ sym (append-nil (released_of o w.events))
 
-  -- a cycle's events release what is due
+  -- a cycle's events release the bytes that it has to show
   pub released-stepped : released_of o next.events ≡ released_of o w.events ++ due_of (line o next) w.events step.r.did (seen K o next)
   released-stepped = by_show (shows_console step.r.did) refl
 

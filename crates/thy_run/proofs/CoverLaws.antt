@@ -28,7 +28,7 @@ pub doubt_sealed : (written : Bool) (sealed : Option Mark) (d : Mark) → (if wr
 doubt_sealed true sealed d e = e
 doubt_sealed false sealed d e = absurd (cc)
 
--- with the sealed mark for the one in doubt
+-- the marks cover a view in the boot, with the sealed mark for the one in doubt
 covers_boot : (o : Origin) (v : View) (m : Marks) → BootFits o v m → Covers m.kept m.sealed v.done v.sealed
 covers_boot o v m f = elim f.boots as (λ _. Covers m.kept m.sealed v.done v.sealed) [
   | inl l ↦ record {
@@ -72,7 +72,7 @@ unsealed kept sealed last doubt written c = record { nothing = c.nothing; of_don
 pub Covers-fits : (o : Origin) (v : View) (m : Marks) → Fits o v m → Covers m.kept m.sealed v.done (doubt_of v)
 Covers-fits o v m f = unsealed m.kept m.sealed v.done v.sealed v.written (Covers-sealed o v m f)
 
--- and what an action that failed leaves in doubt
+-- the marks cover a view that fits them, whatever an action that failed leaves in doubt
 pub Covers-fault : (o : Origin) (v : View) (m : Marks) (a : Action) → Fits o v m → Covers m.kept m.sealed v.done (doubt_after_fault a v)
 Covers-fault o v m a f = unsealed m.kept m.sealed v.done v.sealed (is_commit_write a || v.written) (Covers-sealed o v m f)
 
@@ -236,7 +236,7 @@ module _ (o : Origin) (v next : View) (m : Marks) (did : Did) (fresh : Bool) (cy
       (part_of_short more rest (end_told o v next cycle) (if_short (halts v next) _) e)
       ∙ after_reload (did_told o v did cycle))
 
-  -- so the first of a cycle's events do
+  -- the first of a cycle's events leave the marks that stood, or the marks that what was done leaves
   pub marks-part : (part rest : List Event) → part ++ rest ≡ events_of o fresh v did next cycle → LeavesEither part
   marks-part part rest e = elim (cutting part rest (reload_told fresh next ++ did_told o v did cycle) (end_told o v next cycle) e) as (λ _. LeavesEither part) [
     | within r f ↦ of_both part r f

@@ -157,7 +157,7 @@ fits_cut p t v m (At epoch state) f one =
     ] in
     record { retired = refl; over = refl; boots = inr (record { mark = mark epoch state.count; done = refl; sealed = refl; written = refl; either = either; rises = Rises-fits p v m f }) }
 
--- and what leads to the marks leads to that of the checkpoint found, and to the committed one
+-- what leads to the marks leads to the checkpoint that the boot found, and to the committed one
 pub leads_cut : (p : Origin) (t : List ℕ) (v : View) (m : Marks) (d : Decoded) → Fits p v m → Leads p v m → IsOneOf p v.done (doubt_of v) d
     → AgreeBelow p t (reach (view_of_image p.start.count d)) → Leads (told p t) (view_of_image p.start.count d) m
 leads_cut p t v m NothingLeft f l one agree = record {

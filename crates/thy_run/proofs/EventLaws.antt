@@ -65,7 +65,7 @@ loads-view v e =
 pub halts-view : (v next : View) → halts v next ≡ true → next.phase ≡ Halt
 halts-view v next e = halt_is next.phase (and_parts (not (is_halt v.phase)) (is_halt next.phase) e).1
 
--- the marks of a view that loads are those of a file that is loaded
+-- the marks of a view that loads are the marks of a file that is loaded
 loading_marks_of : (o : Origin) (v : View) (m : Marks) → Fits o v m → v.phase ≡ BootPhase → v.done ≡ None → m ≡ loading_marks o.start.count
 loading_marks_of o v m h phase none =
     let f : BootFits o v m = subst (FitsIn o v m) phase h in
@@ -110,7 +110,7 @@ marks-events o v next m did fresh cycle least h s =
     ∙ end_marks o (marks_from start m (reload ++ step)) next cycle (halts v next)
     ∙ marks_from-append start m reload step ∙ ap (λ n. marks_from start n step) (Reloads-told o v next m did fresh least h s).marks
 
--- all events of a cycle
+-- all events of a cycle fit what the cycle did
 pub Fits-events : (o : Origin) (v next : View) (m : Marks) (did : Did) (fresh : Bool) (cycle : ℕ) → 1 ≤ o.geometry.epoch → Fits o v m → CoreStep o v did next
     → Fits o next (marks_from o.start.count m (events_of o fresh v did next cycle))
 Fits-events o v next m did fresh cycle least h s =

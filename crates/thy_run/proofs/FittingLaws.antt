@@ -43,14 +43,14 @@ module _ (o : Origin) (v next : View) (m : Marks) (least : 1 ≤ o.geometry.epoc
   same : next ≡ v → Fits o next m
   same e = subst (λ w. Fits o w m) (sym e) h
 
-  -- one more cycle of hart or engine
+  -- the view fits the marks after a cycle of hart or engine
   busy : v.phase ≡ Run → next ≡ busier v → Fits o next m
   busy phase e =
       let f : RunFits o v m = of_phase o v m Run phase h in
       let now : RunFits o (busier v) m = record { mark = f.mark; done = f.done; kept = f.kept; sealed = f.sealed; follows = f.follows; few = f.few; over = f.over } in
       subst (λ w. Fits o w m) (sym e) (in_phase o (busier v) m Run phase now)
 
-  -- the boot continues
+  -- the view fits the marks after a step of the boot
   boots : v.phase ≡ BootPhase → BootsTo v next → Fits o next m
   boots phase (inl e) = same e
   boots phase (inr b) =
@@ -63,7 +63,7 @@ module _ (o : Origin) (v next : View) (m : Marks) (least : 1 ≤ o.geometry.epoc
       let now : BootFits o w m = record { retired = f.retired; over = f.over; boots = loading f.boots } in
       subst (λ w. Fits o w m) (sym b.1) (in_phase o w m BootPhase phase now)
 
-  -- the engine continues
+  -- the view fits the marks after a step of the engine
   engine : v.phase ≡ Run → (step : EngineStep) → EngineTo step v next → Fits o next m
   engine phase Idle e = absurd e
   engine phase Copied e = busy phase e
@@ -80,7 +80,7 @@ module _ (o : Origin) (v next : View) (m : Marks) (least : 1 ≤ o.geometry.epoc
       let now : RunFits o w m = record { mark = f.mark; done = f.done; kept = f.kept; sealed = f.sealed; follows = follows; few = f.few; over = f.over } in
       subst (λ w. Fits o w m) (sym e) (in_phase o w m Run phase now)
 
-  -- an instruction more
+  -- the view fits the marks after an instruction more
   retires : v.phase ≡ Run → v.over ≡ None → runs_at o v.count ≡ true
       → next ≡ record (busier v) { count = v.count + 1; retired = v.retired + 1; lap = v.lap + 1; over = over_at o (v.retired + 1) (v.count + 1) } → Fits o next m
   retires phase over runs e =
@@ -143,7 +143,7 @@ module _ (o : Origin) (v next : View) (m : Marks) (least : 1 ≤ o.geometry.epoc
       } in
       subst (λ w. Fits o w (marks_from o.start.count m (did_told o v Loaded cycle))) (sym e) now
 
-  -- an epoch was restored
+  -- the view fits the marks after an epoch was restored
   restarts : (epoch count cycle : ℕ) → v.phase ≡ BootPhase → v.done ≡ Some (mark epoch count) → v.sealed ≡ None → v.written ≡ false
       → next ≡ record v { phase = phase_at o count; epoch = epoch + 1; count = count; retired = 0; spent = 0; lap = 0 }
       → Fits o next (marks_from o.start.count m (did_told o v (Restarted epoch count) cycle))
@@ -166,7 +166,7 @@ module _ (o : Origin) (v next : View) (m : Marks) (least : 1 ≤ o.geometry.epoc
       }
       begun f false runs = record { mark = mark epoch count; done = done; sealed = none; written = written; kept = refl; none = refl; count = refl; over = runs }
 
-  -- an epoch is sealed
+  -- the view fits the marks after a seal
   seals : (epoch count cycle : ℕ) (cause : EndCause) → v.phase ≡ Run → v.sealed ≡ None → epoch ≡ v.epoch → count ≡ v.count → v.over ≡ Some cause
       → next ≡ record v { sealed = Some (mark epoch count); epoch = v.epoch + 1; retired = 0; spent = 0; lap = 0; over = None }
       → Fits o next (marks_from o.start.count m (did_told o v (Sealed epoch count cause) cycle))
@@ -185,7 +185,7 @@ module _ (o : Origin) (v next : View) (m : Marks) (least : 1 ≤ o.geometry.epoc
       } in
       subst (λ w. Fits o w (marks_from o.start.count m (did_told o v (Sealed epoch count cause) cycle))) (sym e) (in_phase o w _ Run phase now)
 
-  -- a checkpoint is committed
+  -- the view fits the marks after a commit
   commits : (epoch overlapped cycle count : ℕ) → v.phase ≡ Run → v.sealed ≡ Some (mark epoch count)
       → next ≡ record (busier v) { phase = phase_at o count; done = v.sealed; sealed = None; written = false }
       → Fits o next (marks_from o.start.count m (did_told o v (Committed epoch overlapped) cycle))

@@ -61,7 +61,7 @@ Shows-step o v next NvmDrained s e = never e
 Shows-step o v next DramDrained s e = never e
 Shows-step o v next Nothing s e = never e
 
--- the console of the committed mark, after the bytes that were released, is what is due
+-- the part of the committed mark's console after the released bytes is what has to be shown
 pub due_shown : (o : Origin) (v next : View) (did : Did) (events : List Event) (from : ℕ) (bytes : List ℕ) → CoreStep o v did next → shows_console did ≡ true
     → from ≡ length (released_of o events) → ((m : Mark) → is_boot next.phase ≡ false → next.done ≡ Some m → bytes ≡ drop from (at o m.count).console)
     → bytes ≡ due_of o events did next

@@ -76,7 +76,7 @@ not_both : (b : Bool) → (not b && b) ≡ false
 not_both true = refl
 not_both false = refl
 
--- such a step does not halt
+-- a step without an event does not halt
 halts-quiet : (o : Origin) (v next : View) (did : Did) (cycle : ℕ) → CoreStep o v did next → did_told o v did cycle ≡ [] → halts v next ≡ false
 halts-quiet o v next did cycle s none =
     ap (λ p. not (is_halt v.phase) && is_halt p) (Stays-quiet o v next did cycle s none).phase ∙ not_both (is_halt v.phase)
@@ -127,9 +127,9 @@ if_none b x e = ap (λ c. if c then x else []) e
 data Shape (o : Origin) (v next : View) (did : Did) (fresh : Bool) (cycle : ℕ) (Told : Type 0) : Type 0 where
   -- the file is loaded again
   reloads : (fresh && loads next) ≡ true → events_of o fresh v did next cycle ≡ Reload ∷ [] → Shape o v next did fresh cycle Told
-  -- nothing
+  -- the step has no event
   nothing : (fresh && loads next) ≡ false → did_told o v did cycle ≡ [] → events_of o fresh v did next cycle ≡ [] → Shape o v next did fresh cycle Told
-  -- something
+  -- the step has events
   something : Told → events_of o fresh v did next cycle ≡ did_told o v did cycle ++ end_told o v next cycle → Shape o v next did fresh cycle Told
 
 shape_of : (o : Origin) (v next : View) (did : Did) (fresh : Bool) (cycle : ℕ) (Told : Type 0) → CoreStep o v did next → (did_told o v did cycle ≡ []) ⊎ Told → Shape o v next did fresh cycle Told
@@ -206,7 +206,7 @@ module _ (read : List Block → Decoded) (o : Origin) (cycles : ℕ) (fresh : Bo
       up = λ e. refl;
     }
 
-    -- after no event
+    -- a cycle without an event fits the images
     quiet_images : (fresh && loads next) ≡ false → did_told o v did cycle ≡ [] → ImagesFit o (cycles + 1) false next s
     quiet_images unless none = record {
       last = λ at_cycle e before. elim (f.just at_cycle e) as (λ _. s.means ≢ NothingLeft) [
@@ -246,6 +246,6 @@ module _ (read : List Block → Decoded) (o : Origin) (cycles : ℕ) (fresh : Bo
         subst Fits (sym is) (AllFit-append read (λ t. t ≡ settled) (ImagesFit o (cycles + 1) false next) s (did_told o v did cycle) (end_told o v next cycle) [] []
         (λ t same. subst (λ x. AllFit read (ImagesFit o (cycles + 1) false next) x (end_told o v next cycle) []) (sym same) (end_fits (halts v next))) fits)
 
-    -- a step's events fit what a restart can find, and so does what holds after them
+    -- a step's events, and what holds after them, fit what a restart can find
     pub AllFit-events : Fits (events_of o fresh v did next cycle)
     AllFit-events = by_shape (shape_of o v next did fresh cycle (ToldFits did cycle) c (told_fits did cycle c))

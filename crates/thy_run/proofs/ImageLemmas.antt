@@ -21,7 +21,7 @@ AllFit-append read P Q s (Reload ∷ vs) ws left more next h = (h.0, AllFit-appe
 AllFit-append read P Q s (Scheme number ∷ vs) ws left more next h = (h.0, AllFit-append read P Q (found s.means None) vs ws left more next h.1)
 AllFit-append read P Q s (Ended status count cycle state ∷ vs) ws left more next h = (h.0, AllFit-append read P Q (found s.means None) vs ws left more next h.1)
 
--- after an event that is not a cut
+-- if the last event is not a cut, nothing has to hold of what a cut left
 has_left : (cycles : ℕ) (d : Decoded) → HasLeft cycles (found d None)
 has_left cycles d = λ at e. absurd (cc)
 

@@ -13,13 +13,13 @@ use Rattle.thy_view.specs.Told.{told, AgreeBelow}
 use Rattle.thy_view.proofs.TurnLaws.{AgreeBelow-same, turn_early, joined-agrees, at-agrees}
 use Rattle.thy_run.proofs.Fitting.{IsEither}
 
--- turns reach a count: they are as many as are reported, and agree with the run's
+-- turns reach a count: their number is the one that is reported up to it, and they agree with the run's
 pub record LeadsTo (p : Origin) (turns : List ℕ) (count : ℕ) : Type 0 where
   pub late : p.start.count ≤ count
   pub many : length turns ≡ turns_told p.geometry.harts (count - p.start.count)
   pub agree : AgreeBelow p turns count
 
--- those of the checkpoint that a boot found; after the boot those of the sealed one
+-- in a boot, the turns of the checkpoint that it found reach its count; after the boot, the turns of the sealed one do
 abbrev pub LeadsIn : Origin → View → Marks → Phase → Type 0
 LeadsIn p v m BootPhase = (k : Mark) → v.done ≡ Some k → LeadsTo p (turns_of m k.epoch k.count) k.count
 LeadsIn p v m Run = (s : Mark) → m.sealed ≡ Some s → LeadsTo p m.sealed_turns s.count
@@ -38,7 +38,7 @@ either_zero false n e = e
 pub told_zero : (harts n : ℕ) → n ≡ 0 → turns_told harts n ≡ 0
 told_zero harts n e = either_zero (harts == 1) n e
 
--- of an epoch's end, those after the committed checkpoint
+-- the number of turns at an epoch's end, after the committed checkpoint
 many_behind : (b : Bool) (own : List ℕ) (start i k : ℕ) → start ≤ i → i ≤ k → length own ≡ (if b then 0 else k - start)
     → length (drop (i - start) own) ≡ (if b then 0 else k - i)
 many_behind true own start i k late le many = omega (arith, length-drop (i - start) own, many)
@@ -69,7 +69,7 @@ joined_by false p turns i k many all agree = joined-agrees p turns i k many agre
 
 -- ---- which turns reach which state
 
--- none lead to the start
+-- no turns lead to the start
 pub start_leads : (p : Origin) → LeadsTo p [] p.start.count
 start_leads p = record {
   late = omega arith;
@@ -77,15 +77,15 @@ start_leads p = record {
   agree = λ j less. turn_early (told p []) j less ∙ sym (turn_early p j less);
 }
 
--- to the same state
+-- turns that reach a count lead to the same state
 pub state_there : (p : Origin) (turns : List ℕ) (count : ℕ) → LeadsTo p turns count → at (told p turns) count ≡ at p count
 state_there p turns count l = at-agrees p turns count l.agree
 
--- also along other turns that agree so far
+-- turns reach a count also along other turns that agree so far
 pub leads_told : (p : Origin) (t turns : List ℕ) (count : ℕ) → AgreeBelow p t count → LeadsTo p turns count → LeadsTo (told p t) turns count
 leads_told p t turns count agree l = record { late = l.late; many = l.many; agree = λ j less. l.agree j less ∙ sym (agree j less) }
 
--- and with the run's own after them, to the state that these reach
+-- turns that reach a count, with the run's own after them, reach the state that these reach
 pub leads_joined : (p : Origin) (turns : List ℕ) (i k : ℕ) → i ≤ k → length p.turns ≡ turns_told p.geometry.harts (k - p.start.count) → LeadsTo p turns i
     → LeadsTo p (turns ++ drop (i - p.start.count) p.turns) k
 leads_joined p turns i k le all l = record {
@@ -109,7 +109,7 @@ is_mark-true (Some k) epoch count is =
     let both = and_parts (k.epoch == epoch) (k.count == count) is in
     ap₂ (λ (e c : ℕ). Some (mark e c)) (eqb-true k.epoch epoch both.0) (eqb-true k.count count both.1)
 
--- if those of both reach their counts, so do those of either
+-- if the turns of both marks reach their counts, the turns of either mark do
 pub either_leads : (p : Origin) (m : Marks) → ((k : Mark) → m.kept ≡ Some k → LeadsTo p m.kept_turns k.count)
     → ((s : Mark) → m.sealed ≡ Some s → LeadsTo p m.sealed_turns s.count) → (k : Mark) → IsEither m.kept m.sealed k
     → LeadsTo p (turns_of m k.epoch k.count) k.count

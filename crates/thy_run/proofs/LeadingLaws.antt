@@ -143,7 +143,7 @@ module _ (p : Origin) (v next : View) (m : Marks) (h : Fits p v m) (l : Leads p 
 
   -- ---- what was done
 
-  -- what it reports is lawful
+  -- the events of what was done are lawful
   pub Lawful-told : (did : Did) (cycle : ℕ) → (retires did ≡ 0 → AreTold p v) → CoreStep p v did next → AllLawful (course_of p) m (did_told p v did cycle)
   Lawful-told Boot cycle all s = tt
   Lawful-told Loaded cycle all s = ((p.start.count, ap (λ (x : Marks). x.sealed) (is_loading s.phase s.none)), tt)
@@ -173,7 +173,7 @@ module _ (p : Origin) (v next : View) (m : Marks) (h : Fits p v m) (l : Leads p 
   quiet did cycle none s =
       subst (λ (vs : List Event). Leads p next (marks_from p.start.count m vs)) (sym none) (leads_stays p v next m (Stays-quiet p v next did cycle s none) l)
 
-  -- and what it leaves holds for the next cycle
+  -- what a step reports leaves turns that lead to the marks
   pub Leads-told : (did : Did) (cycle : ℕ) → (retires did ≡ 0 → AreTold p v) → CoreStep p v did next
       → Leads p next (marks_from p.start.count m (did_told p v did cycle))
   Leads-told Boot cycle all s = quiet Boot cycle refl s

@@ -21,12 +21,12 @@ not_le n c lt = elim (leb_tells n c) as (λ _. nat_le n c ≡ false) [
 up_false : (c n : ℕ) (ns : List ℕ) → c < n → cuts_up_to c (n ∷ ns) ≡ []
 up_false c n ns lt = take_while-cons (λ x. nat_le x c) n ns ∙ ap (λ b. cond b (n ∷ take_while (λ x. nat_le x c) ns) []) (not_le n c lt)
 
--- none of a list that rises from there on
+-- of cuts that rise and are all later than a cycle, none has fallen by that cycle
 pub up_none : (c before : ℕ) (ns : List ℕ) → IsRising before ns → c ≤ before → cuts_up_to c ns ≡ []
 up_none c before [] rising le = refl
 up_none c before (n ∷ ns) rising le = let above = rising.0 in up_false c n ns (omega arith)
 
--- the next listed cut falls after the next cycle, and then one more has fallen; else as many have
+-- the next listed cut falls after the next cycle, and then one more has fallen; else the same number has fallen
 abbrev pub NextCut : ℕ → List ℕ → ℕ → Type 0
 NextCut c cuts p =
     ((p < length cuts) × (slice_index cuts p ≡ c + 1) × (cuts_up_to (c + 1) cuts ≡ take (suc p) cuts))
@@ -67,7 +67,7 @@ next_cut c before (n ∷ ns) (suc p) rising few now =
 pub cuts_among-append : (vs ws : List Event) → cuts_among (vs ++ ws) ≡ cuts_among vs ++ cuts_among ws
 cuts_among-append vs ws = filter-append is_cut vs ws
 
--- one more numbered cut
+-- the numbered cuts with one more
 pub numbered-take : (index : ℕ) (cuts : List ℕ) (p : ℕ) → p < length cuts → numbered index (take (suc p) cuts) ≡ numbered index (take p cuts) ++ Cut (index + p) (slice_index cuts p) ∷ []
 numbered-take index [] p lt = absurd (omega arith)
 numbered-take index (n ∷ ns) zero lt = ap (λ i. Cut i n ∷ []) (sym (add-zero index))

@@ -30,7 +30,7 @@ last_none turns = drop_all (length turns - 0) turns (omega arith)
 pub none_last : (many : ℕ) → last_turns many [] ≡ []
 none_last many = drop_all (0 - many) [] (omega arith)
 
--- one more
+-- the last turns of a list with one more
 last_more : (many hart : ℕ) (turns : List ℕ) → last_turns (many + 1) (turns ++ hart ∷ []) ≡ last_turns many turns ++ hart ∷ []
 last_more many hart turns =
     let one_more : length (turns ++ hart ∷ []) ≡ length turns + 1 = length-append turns (hart ∷ []) in
@@ -67,7 +67,7 @@ same_engine v next Barrier e = same_busy v next e
 same_engine v next CommitWritten e = ap (λ (w : View). w.retired) e.2
 same_engine v next (EngineCommitted epoch) e = absurd e
 
--- in a boot none is
+-- in a boot no instruction of the epoch is retired
 boot_none : (p : Origin) (v : View) (m : Marks) → Fits p v m → v.phase ≡ BootPhase → v.retired ≡ 0
 boot_none p v m h is = let f : BootFits p v m = subst (FitsIn p v m) is h in f.retired
 
@@ -75,7 +75,7 @@ boot_none p v m h is = let f : BootFits p v m = subst (FitsIn p v m) is h in f.r
 
 module _ (o : Origin) (turns : List ℕ) (v next : View) (m : Marks) (l : List ℕ) (all : AreTold (told o turns) v) (h : Fits (told o turns) v m)
     (listed : l ≡ last_turns v.retired turns) where
-  -- with one hart none is listed
+  -- with one hart no turn is listed
   one_hart : (o.geometry.harts == 1) ≡ true → turns ≡ []
   one_hart one = nil_from_length turns (all ∙ ap (λ (b : Bool). if b then 0 else reach v - o.start.count) one)
 
@@ -90,7 +90,7 @@ module _ (o : Origin) (turns : List ℕ) (v next : View) (m : Marks) (l : List �
   retired_list hart more false two =
       ap (λ (x : List ℕ). x ++ hart ∷ []) listed ∙ sym (ap (λ n. last_turns n (turns ++ hart ∷ [])) more ∙ last_more v.retired hart turns)
 
-  -- so it stays, once a cycle is done
+  -- the list has the last turns once a cycle is done, if it had them before
   pub listed_next : (did : Did) → CoreStep (told o (turns_after o.geometry.harts turns did)) v did next
       → list_after did (turns_after o.geometry.harts l did) ≡ last_turns next.retired (turns_after o.geometry.harts turns did)
   listed_next (Retired hart) s = retired_list hart (ap (λ (w : View). w.retired) s.becomes) (o.geometry.harts == 1) refl
@@ -143,7 +143,7 @@ module _ (o : Origin) (turns : List ℕ) (v next : View) (m : Marks) (l : List �
           let e : f.mark.count - o.start.count ≡ length turns - v.retired = omega (arith, many, here, since, from) in
           behind ∙ ap (λ n. drop n turns) e ∙ sym listed
 
-  -- and it is told at an epoch's end alone
+  -- the list of turns is reported at an epoch's end alone
   pub ends_with : (did : Did) → Leads (told o turns) v m → CoreStep (told o (turns_after o.geometry.harts turns did)) v did next
       → EndsWithTurns (told o (turns_after o.geometry.harts turns did)) v did (turns_after o.geometry.harts l did)
   ends_with (Sealed epoch count cause) leads s = listed_behind epoch count cause leads s

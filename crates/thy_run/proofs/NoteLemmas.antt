@@ -59,7 +59,7 @@ ended_halts o v next (Some state) ending h = ending.0
 
 -- ---- what was made
 
--- all but the end
+-- all events of a cycle but the end were made
 pub made_but_end : (o : Origin) (fresh : Bool) (v next : View) (did : Did) (cycle : ℕ) (reload : Bool) (before one two : List Event)
     → reload ≡ (fresh && loads next) → one ≡ before ++ (if reload then Reload ∷ [] else []) → two ≡ one ++ did_told o v did cycle → halts v next ≡ true
     → MadeSome two (events_of o fresh v did next cycle) before

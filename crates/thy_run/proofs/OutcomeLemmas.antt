@@ -35,7 +35,7 @@ take-all : {A : Type 0} (xs : List A) → take (length xs) xs ≡ xs
 take-all [] = refl
 take-all (x ∷ xs) = ap (λ l. x ∷ l) (take-all xs)
 
--- the report is due the lines of all events
+-- the report has to get the lines of all events
 read_on : (telling : Telling) (failed : Bool) (before after more : List Event) (y z : Stream) → after ≡ before ++ more
     → Sends (report_of telling (take (length before) after)) (report_of telling after) failed y z → Sends (report_of telling before) (report_of telling after) failed y z
 read_on telling failed before after more y z grew two =
@@ -54,7 +54,7 @@ delivered_on failed before after x y z one two = record {
   sent = two.sent;
 }
 
--- and with no fault all
+-- a sink that did not fail took what was settled, and then what was added
 took_on : (before after : List ℕ) (x y z : Stream) → Took x y before → Sends before after false y z → Took x z after
 took_on before after x y z one two = subst (Took x z) (sym two.grew) (Took-append x y z before two.more one two.sent)
 
@@ -229,7 +229,7 @@ ends_unheard {M = M} K plan fitted p q n m k turns after r fell bytes true false
     (done_stops K plan fitted p q n m k turns after bytes true false t0 t1 t2 r0 r1 r2 running few sent lines Terminal d tt (refl, refl, d.faults ∙ running.goes.faults))
 ends_unheard {M = M} K plan fitted p q n m k turns after r fell bytes false false t0 t1 t2 r0 r1 r2 running few sent lines d stop is = absurd (cc)
 
--- it is done, and the run continues
+-- the cycle is done, and the run continues
 pub Running-done : {M : Type 0} (K : KindOf M) (plan : Plan) (fitted : Device) (p q : Progress M) (n m : Device) (k : ℕ) (turns after : List ℕ) (r : Stepped) (fell : Bool) (bytes : List ℕ) (terminal_failed report_failed : Bool) (t0 t1 t2 r0 r1 r2 : Stream)
     → Running K plan fitted p n k turns t0 t1 r0 r1 → k < plan.geometry.limit → Sent terminal_failed t1 t2 bytes
     → Sends (report_of (telling_of plan) (take (length p.events) q.events)) (report_of (telling_of plan) q.events) report_failed r1 r2
@@ -256,7 +256,7 @@ Running-done {M = M} K plan fitted p q n m k turns after r fell bytes false fals
       (lines_on K plan fitted p q n m k turns after bytes false false t0 t1 t2 r0 r1 r2 running few sent lines c.0.grew);
 }
 
--- it is done, and the program has ended
+-- the cycle is done, and the program has ended
 pub ends_finished : {M : Type 0} (K : KindOf M) (plan : Plan) (fitted : Device) (p q : Progress M) (n m : Device) (k : ℕ) (turns : List ℕ) (r : Stepped) (bytes : List ℕ) (status : Status) (terminal_failed report_failed : Bool) (t0 t1 t2 r0 r1 r2 : Stream)
     → Running K plan fitted p n k turns t0 t1 r0 r1 → k < plan.geometry.limit → Sent terminal_failed t1 t2 bytes
     → Sends (report_of (telling_of plan) (take (length p.events) q.events)) (report_of (telling_of plan) q.events) report_failed r1 r2
@@ -308,7 +308,7 @@ module _ {M : Type 0} (K : KindOf M) (laws : IsLawful K) (plan : Plan) (fitted :
       ends_unheard K plan fitted p q' n m' k turns (cut_turns K plan (turns_then plan turns r.did) m') r true bytes terminal_failed report_failed t0 t1 t2 r0 r1 r2 running few sent lines
       (done_cut K laws plan p q n m k turns r None bytes awaits.noted q' m' refl (k + 1) refl awaits.due cut).0 stop is
 
-  -- or the run continues
+  -- power was cut, the cycle was reported, and the run continues
   pub Running-cut : (q' : Progress M) (m' : Device) → IsCutOffTo K plan q q' m m' (k + 1)
       → Sends (report_of (telling_of plan) (take (length p.events) q'.events)) (report_of (telling_of plan) q'.events) report_failed r1 r2
       → sink_stop terminal_failed report_failed ≡ None

@@ -26,7 +26,7 @@ use Rattle.thy_run.proofs.Leading.{Leads}
 use Rattle.thy_run.proofs.LeadingLaws.{Leads-told}
 use Rattle.thy_run.proofs.StepKinds.{Kind, keeps, loads, restores, advances, seals, commits, kind_of}
 
--- after a step that failed
+-- a device is safe after a step that failed
 pub IsSafe-fault : (read : Reading) (p : Origin) (v : View) (m : Marks) (a : Action) (n : Device) → Fits p v m → Leads p v m
     → Safe read p v.done (doubt_after_fault a v) n → IsSafe read p m n
 IsSafe-fault read p v m a n f l safe =

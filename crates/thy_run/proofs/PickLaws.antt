@@ -51,7 +51,7 @@ keeps_by {M = M} K o given w x next step h true cut =
 keeps_by {M = M} K o given w x next step h false is =
     subst (λ (y : World M). StaysFitted given y.passed y.device) (sym is) (StaysFitted-step K o given w x step h)
 
--- so it is after any number of cycles
+-- the device stays fitted, and keeps the picks of the cuts, after any number of cycles
 pub StaysFitted-ran : {M : Type 0} (K : KindOf M) (o : Origin) (given : Given) (k : ℕ) (w : World M) → Ran K o given k w → StaysFitted given w.passed w.device
 StaysFitted-ran {M = M} K o given zero w first = record {
   picks = first.picks ∙ sym (ap (torn given.config.tears) first.passed);

@@ -137,7 +137,7 @@ module _ {M : Type 0} (K : KindOf M) (o : Origin) (given : Given) (w : World M) 
         strides = p.strides;
       }
 
-  -- of the step's events only a part was made
+  -- only a part of the step's events was made
   telling_promise : (part rest : List Event) (next : World M) (events : List Event) (n : Device) → TakesStep K o w next → next.events ≡ w.events ++ part ++ rest → has_ended part ≡ false
       → (n ≡ next.device) ⊎ ReadFailed w events n next rest → Promise K o given w.cycles (w.events ++ part) n
   telling_promise part rest next events n step split unended device =
@@ -194,7 +194,7 @@ module _ {M : Type 0} (K : KindOf M) (o : Origin) (given : Given) (w : World M) 
   last_promise events n (same, device) =
       subst (λ (vs : List Event). Promise K o given w.cycles vs n) (sym same) (subst (Promise K o given w.cycles w.events) (sym device) done_promise)
 
-  -- one more was begun, whose step was done
+  -- a cycle was begun after the last one, and its step was done
   begun_promise : (events : List Event) (n : Device) (Why : World M → List Event → Type 0) → (t : TellingFailed K o w events Why) → (n ≡ t.next.device) ⊎ ReadFailed w events n t.next t.rest → Promise K o given w.cycles events n
   begun_promise events n Why t device =
       subst (λ (vs : List Event). Promise K o given w.cycles vs n) (sym t.grew)

@@ -60,7 +60,7 @@ passes_on K plan fitted p q n m k turns r goes c = record {
   on_report = c.0.on_report ∙ goes.on_report;
 }
 
--- and so does a row of quiet cycles with one more
+-- a row of quiet cycles with one more is a row of quiet cycles
 pub IsLed-on : {M O : Type 0} (K : KindOf M) (laws : IsLawful K) (has_seen : O → List Taken → Type 0) (plan : Plan) (fitted : Device) (p q next : Progress M) (n new : Device) (done now : ℕ) (r : Stepped) (o o' : O)
     → IsPlanned plan → (led : IsLed K has_seen plan fitted p q n done now o) → IsStepped K plan q next n new now led.turns r → IsQuiet plan.config.cuts next r (now + 1) → Sees has_seen o o' (taken r 0 false)
     → IsLed K has_seen plan fitted p next new done (now + 1) o'
@@ -78,14 +78,14 @@ IsLed-on K laws has_seen plan fitted p q next n new done now r o o' planned led 
       more = omega (arith, led.more);
     }
 
--- with one in which a hart advanced
+-- a row of quiet cycles goes on with one in which a hart advanced
 pub IsLed-advanced : {M O : Type 0} (K : KindOf M) (laws : IsLawful K) (has_seen : O → List Taken → Type 0) (plan : Plan) (fitted : Device) (p q next : Progress M) (n new : Device) (done now : ℕ) (a : Advance) (r : Stepped) (o o' : O)
     → IsPlanned plan → (led : IsLed K has_seen plan fitted p q n done now o) → IsStepped K plan q next n new now led.turns (stepped_of a) → IsQuiet plan.config.cuts next (stepped_of a) (now + 1)
     → r ≡ stepped_of a → Sees has_seen o o' (taken r 0 false) → IsLed K has_seen plan fitted p next new done (now + 1) o'
 IsLed-advanced K laws has_seen plan fitted p q next n new done now a r o o' planned led stepped quiet is sees =
     IsLed-on K laws has_seen plan fitted p q next n new done now (stepped_of a) o o' planned led stepped quiet (subst (λ (x : Stepped). Sees has_seen o o' (taken x 0 false)) is sees)
 
--- with one of another actor
+-- a row of quiet cycles goes on with one of another actor
 pub IsLed-passed : {M O : Type 0} (K : KindOf M) (laws : IsLawful K) (has_seen : O → List Taken → Type 0) (plan : Plan) (fitted : Device) (p q next : Progress M) (n new : Device) (done now : ℕ) (o o' : O)
     → IsPlanned plan → (led : IsLed K has_seen plan fitted p q n done now o) → IsQuietCycle K has_seen plan q next n new now led.turns o o'
     → IsLed K has_seen plan fitted p next new done (now + 1) o'
@@ -104,7 +104,7 @@ AreQuietBelow-on cuts p q below uncut fresh h a cycle few =
       uncut = subst (λ (k : ℕ). (nat_lt k (length cuts) && slice_index cuts k == cycle) ≡ false) (sym uncut) w.uncut;
     }
 
--- with sinks that had taken all that was due, and were given nothing meanwhile
+-- sinks that had taken all that they had to get, and were given nothing in quiet cycles, have taken it all
 pub Running-led : {M O : Type 0} (K : KindOf M) (has_seen : O → List Taken → Type 0) (plan : Plan) (fitted : Device) (p q : Progress M) (n m : Device) (k now : ℕ) (turns : List ℕ) (o : O) (t0 t1 r0 r1 : Stream)
     → Running K plan fitted p n k turns t0 t1 r0 r1 → (led : IsLed K has_seen plan fitted p q m k now o) → Running K plan fitted q m now led.turns t0 t1 r0 r1
 Running-led K has_seen plan fitted p q n m k now turns o t0 t1 r0 r1 running led = record {
@@ -122,7 +122,8 @@ few_cycles plan now planned few = let most = limit_most plan.geometry planned.or
 
 -- ---- the run at one moment
 
--- it continues, its sinks took all that was due since they were t0 and r0, and the observer has seen its cycles
+-- the run continues, its sinks took all that they had to get since they were t0 and r0, and the observer has seen its
+-- cycles
 pub record IsAt {M O : Type 0} (K : KindOf M) (has_seen : O → List Taken → Type 0) (plan : Plan) (fitted : Device) (t0 r0 : Stream) (p : Progress M) (n : Device) (done : ℕ) (t r : Stream) (o : O) : Type 0 where
   pub turns : List ℕ
   pub running : Running K plan fitted p n done turns t0 t r0 r
@@ -140,11 +141,11 @@ module _ {M O : Type 0} {K : KindOf M} {has_seen : O → List Taken → Type 0} 
   pub paused_at : (pause why : Pause) → pause ≡ why → RunsQuietly K has_seen plan p next n new done o o' now pause → IsPaused K has_seen plan fitted p next new done o' now why
   paused_at pause why is quietly = subst (IsPaused K has_seen plan fitted p next new done o' now) is (quietly fitted here.turns here.running.goes here.watched)
 
-  -- the sinks took all that was due until they ended, too
+  -- the sinks took all that they had to get until the quiet cycles ended, too
   pub Running-then : (pause : Pause) (paused : IsPaused K has_seen plan fitted p next new done o' now pause) → Running K plan fitted paused.progress paused.device now paused.led.turns t0 t r0 r
   Running-then pause paused = Running-led K has_seen plan fitted p paused.progress n paused.device done now here.turns o' t0 t r0 r here.running paused.led
 
-  -- until none was left
+  -- quiet cycles came to the limit
   pub ends_limit : IsPlanned plan → (e : Ending) → e ≡ ending_of AtLimit next now → IsPaused K has_seen plan fitted p next new done o' now Limit → RunEndsSeen K has_seen plan fitted new e t0 t r0 r o'
   ends_limit planned e is paused =
       let q = paused.progress in
@@ -157,7 +158,7 @@ module _ {M O : Type 0} {K : KindOf M} {has_seen : O → List Taken → Type 0} 
       (subst (λ (x : Ending). RunEndsAt K plan fitted m x t0 t r0 r (world_at q m now led.turns)) (ap (λ (y : Progress M). ending_of AtLimit y now) (sym paused.stops.1) ∙ sym is) ends))
       (ap (λ (x : Ending). x.cycles) is) led.watched
 
-  -- until a step failed
+  -- quiet cycles ended because a step failed
   pub ends_stuck : (e : Ending) → e ≡ ending_of Nvm next now → IsPaused K has_seen plan fitted p next new done o' now Stuck → RunEndsSeen K has_seen plan fitted new e t0 t r0 r o'
   ends_stuck e is paused =
       let q = paused.progress in
@@ -172,7 +173,7 @@ module _ {M O : Type 0} {K : KindOf M} {has_seen : O → List Taken → Type 0} 
       (subst (λ (x : Ending). RunEndsAt K plan fitted new x t0 t r0 r (world_at q m now led.turns)) (sym is) ends)
       (ap (λ (x : Ending). x.cycles) is) led.watched
 
-  -- until a step had something to report
+  -- quiet cycles ended because a step had something to report
   pub HasStepped-then : (x : Stepped) → IsPaused K has_seen plan fitted p next new done o' now (Steps x) → HasStepped K plan next new now x
   HasStepped-then x paused = (fitted, paused.progress, paused.device, paused.led.turns, paused.led.goes, paused.stops.1)
 

@@ -23,7 +23,7 @@ one_mark a b e = cc
 
 -- ---- how far marks lie
 
--- after the boot the machine is at its count, and in a boot at that of the checkpoint found
+-- after the boot the reach is the count, while the machine executes and once it has halted
 runs_to : (v : View) → v.phase ≡ Run → reach v ≡ v.count
 runs_to v is = reach-count v (λ boots. absurd (let both : Run ≡ BootPhase = sym is ∙ boots in cc))
 
@@ -58,7 +58,7 @@ kept_in p v m Halt is f k kept =
 pub kept_within : (p : Origin) (v : View) (m : Marks) → Fits p v m → (k : Mark) → m.kept ≡ Some k → k.count ≤ reach v
 kept_within p v m h k kept = kept_in p v m v.phase refl h k kept
 
--- and after the boot the machine is no earlier than the start
+-- after the boot the machine is no earlier than the start
 pub late_of : (p : Origin) (v : View) (m : Marks) → Fits p v m → Leads p v m → v.phase ≡ Run → p.start.count ≤ reach v
 late_of p v m h l is =
     let f : RunFits p v m = subst (FitsIn p v m) is h in

@@ -15,7 +15,7 @@ use Rattle.thy_run.specs.Watching.{Taken, taken, taken_in, IsListed, CanSee, Can
 use Rattle.thy_run.specs.World.{World, Given, IsFirst}
 use Rattle.thy_run.proofs.AdvanceLemmas.{cut_turns, done_cut}
 
--- as many cycles are listed as are done
+-- the number of listed cycles is the number of done ones
 pub length-listed : {M : Type 0} (K : KindOf M) (o : Origin) (given : Given) (k : ℕ) (w : World M) (seen : List Taken) → IsListed K o given k w seen → length seen ≡ k
 length-listed K o given zero w seen h = ap length h.1
 length-listed K o given (suc k) w seen (before, earlier, c, h, is) =
@@ -23,19 +23,19 @@ length-listed K o given (suc k) w seen (before, earlier, c, h, is) =
     let e : length earlier ≡ k = length-listed K o given k before earlier h in
     omega (arith, n, e)
 
--- so the observer may be asked to see the next
+-- an observer that has seen all done cycles may be asked to see the next
 pub CanSee-watched : {M O : Type 0} (K : KindOf M) (has_seen : O → List Taken → Type 0) (plan : Plan) (fitted : Device) (p : Progress M) (n : Device) (k : ℕ) (turns : List ℕ) (o : O)
     → Watched K has_seen plan fitted p n k turns o → CanSee has_seen o (k + 1)
 CanSee-watched K has_seen plan fitted p n k turns o (seen, listed, h) =
     let e : length seen ≡ k = length-listed K (origin_of plan) (given_of plan fitted) k (world_at p n k turns) seen listed in
     (seen, h, omega (arith, e))
 
--- what it has seen before the first cycle
+-- an observer that has seen nothing has seen the cycles of a run before its first one
 pub Watched-first : {M O : Type 0} (K : KindOf M) (has_seen : O → List Taken → Type 0) (plan : Plan) (p : Progress M) (n : Device) (o : O)
     → IsFirst K (origin_of plan) (given_of plan n) (world_at p n 0 []) → has_seen o [] → Watched K has_seen plan n p n 0 [] o
 Watched-first K has_seen plan p n o first h = ([], (first, refl), h)
 
--- it has seen a done cycle too
+-- an observer has seen a done cycle too
 Listed-done : {M O : Type 0} (K : KindOf M) (has_seen : O → List Taken → Type 0) (plan : Plan) (fitted : Device) (p q : Progress M) (n m : Device) (k : ℕ) (turns after : List ℕ) (r : Stepped) (fell : Bool) (bytes : List ℕ) (told : ℕ) (new : O)
     → IsDone K plan p q n m k turns after r fell bytes → told ≡ length q.events - length p.events → (seen : List Taken) → IsListed K (origin_of plan) (given_of plan fitted) k (world_at p n k turns) seen
     → has_seen new (seen ++ taken r told fell ∷ []) → Watched K has_seen plan fitted q m (k + 1) after new
@@ -57,7 +57,7 @@ pub Watched-done : {M O : Type 0} (K : KindOf M) (has_seen : O → List Taken �
 Watched-done K has_seen plan fitted p q n m k turns after r fell bytes told old new d many (seen, listed, h) sees =
     Listed-done K has_seen plan fitted p q n m k turns after r fell bytes told new d many seen listed (sees seen h)
 
--- and the cycles of a run that ends where it has seen them
+-- the observer has seen the cycles of a run that ends where it has seen them
 pub RunEndsSeen-at : {M O : Type 0} (K : KindOf M) (has_seen : O → List Taken → Type 0) (plan : Plan) (fitted new : Device) (e : Ending) (terminal shown report read : Stream) (p : Progress M) (n : Device) (k : ℕ) (turns : List ℕ) (o : O)
     → RunEndsAt K plan fitted new e terminal shown report read (world_at p n k turns) → e.cycles ≡ k → Watched K has_seen plan fitted p n k turns o
     → RunEndsSeen K has_seen plan fitted new e terminal shown report read o
@@ -73,12 +73,12 @@ RunEndsSeen-at {M = M} K has_seen plan fitted new e terminal shown report read p
 
 -- if a cut is due after a cycle
 module _ {M O : Type 0} (K : KindOf M) (has_seen : O → List Taken → Type 0) (keeps : O → List Taken → Stepped → Type 0) (plan : Plan) (fitted : Device) (p q : Progress M) (n m : Device) (k : ℕ) (turns : List ℕ) where
-  -- it keeps the step of a cycle after which a cut is due
+  -- an observer keeps the step of a cycle after which a cut falls
   pub Awaited-kept : (r : Stepped) (old new : O) → Watched K has_seen plan fitted p n k turns old → Keeps has_seen keeps old new r
       → Awaited K keeps plan fitted p n k turns r new
   Awaited-kept r old new (seen, listed, h) kept = (seen, listed, kept seen h)
 
-  -- so it may be asked to see that cycle
+  -- an observer that keeps a step may be asked to see the cycle of that step
   pub CanSeeCut-awaited : (r : Stepped) (o : O) → Awaited K keeps plan fitted p n k turns r o → CanSeeCut keeps o (k + 1)
   CanSeeCut-awaited r o (seen, listed, h) =
       let e : length seen ≡ k = length-listed K (origin_of plan) (given_of plan fitted) k (world_at p n k turns) seen listed in
@@ -89,7 +89,7 @@ module _ {M O : Type 0} (K : KindOf M) (has_seen : O → List Taken → Type 0) 
       → Watched K has_seen plan fitted p n k turns new
   Watched-forgotten r old new (seen, listed, h) forgets = (seen, listed, forgets seen r h)
 
--- what it has seen after a cut
+-- an observer has seen the cycles of a run after a cut
 pub Watched-cut : {M O : Type 0} (K : KindOf M) (laws : IsLawful K) (has_seen : O → List Taken → Type 0) (keeps : O → List Taken → Stepped → Type 0) (plan : Plan) (fitted : Device) (p q q' : Progress M) (n m m' : Device) (k : ℕ) (turns : List ℕ) (r : Stepped) (bytes : List ℕ)
     (told first len : ℕ) (old new : O)
     → AwaitsCut K plan p q n m k turns r bytes → IsCutOffTo K plan q q' m m' (k + 1) → told ≡ len - first → len ≡ length q'.events → first ≡ length p.events → Awaited K keeps plan fitted p n k turns r old → SeesCutAfter has_seen keeps old new told

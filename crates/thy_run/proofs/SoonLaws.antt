@@ -29,7 +29,7 @@ use Rattle.thy_run.proofs.WorldLaws.{untold-ran}
 abbrev IsBetween : Origin → ℕ → ℕ → Type 0
 IsBetween o end count = (o.start.count ≤ count) × (count ≤ end)
 
--- all counts of a view are between these, and after the boot so many instructions are done
+-- all counts of a view are between these, and after the boot at least this many instructions are done
 pub record Counts (o : Origin) (end done : ℕ) (v : View) : Type 0 where
   pub kept : (m : Mark) → v.done ≡ Some m → IsBetween o end m.count
   pub sealed : (m : Mark) → v.sealed ≡ Some m → IsBetween o end m.count

@@ -93,7 +93,7 @@ Running-first {M = M} K laws plan p n t r planned f started =
     } in
     subst (λ (x : Progress M). Running K plan n x n 0 [] t t r r) (sym started.first) here
 
--- no memory was found for a machine
+-- a run for whose machine no memory was found
 pub RunEnds-unpowered : {M : Type 0} (K : KindOf M) (laws : IsLawful K) → (plan : Plan) (events : List Event) (b : Bytes) (n : Device) (t r : Stream) → IsPlanned plan → IsFitted K plan n → events ≡ []
     → RunEndsAt K plan n n (record { stop = Memory; events = events; cycles = 0; terminal_failed = false; report_failed = false }) t t r r
     (world_at (first_progress plan (laws.powers plan.geometry).0 b) n 0 [])
@@ -114,7 +114,7 @@ RunEnds-unpowered K laws plan events b n t r planned f none = (
   refl,
 )
 
--- as many cycles as the limit allows are done
+-- a run ends when the limit's number of cycles is done
 pub RunEnds-limit : {M : Type 0} (K : KindOf M) → (plan : Plan) (fit : Device) (p : Progress M) (n : Device) (k : ℕ) (turns : List ℕ) (limit : ℕ) (t0 t r0 r : Stream) → IsPlanned plan → Running K plan fit p n k turns t0 t r0 r → k ≡ limit
     → limit ≡ plan.geometry.limit → RunEndsAt K plan fit n (record { stop = Limit; events = p.events; cycles = limit; terminal_failed = p.terminal_failed; report_failed = p.report_failed }) t0 t r0 r (world_at p n k turns)
 RunEnds-limit {M = M} K plan fit p n k turns limit t0 t r0 r planned running same limit_is =

@@ -14,12 +14,12 @@ use Rattle.thy_run.proofs.TellLaws.{after_told}
 pub core_of : {M : Type 0} (K : KindOf M) → (o : Origin) (w x : World M) (step : TakesStep K o w x) → CoreStep (line o x) (seen K o w) step.r.did (seen K o x)
 core_of K o w x step = subst (λ (v : View). CoreStep (line o x) v step.r.did (seen K o x)) step.alike step.is_step.step
 
--- its events
+-- the events of a step
 pub events_told : {M : Type 0} (K : KindOf M) → (o : Origin) (w x : World M) (step : TakesStep K o w x)
     → x.events ≡ w.events ++ events_of (line o x) w.fresh (seen K o w) step.r.did (seen K o x) (w.cycles + 1)
 events_told {M = M} K o w x step = ap (λ (y : World M). y.events) step.next_is
 
--- and as many turns are reported after it as reach the state that it came to
+-- the turns that are reported after a step reach the state that it came to
 pub told_after : {M : Type 0} (K : KindOf M) → (o : Origin) (w x : World M) (step : TakesStep K o w x)
     → ((seen K o w).phase ≡ Run → o.start.count ≤ reach (seen K o w)) → AreTold (line o w) (seen K o w) → AreTold (line o x) (seen K o x)
 told_after K o w x step late all =

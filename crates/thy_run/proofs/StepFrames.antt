@@ -18,6 +18,6 @@ framed_after Drain n = record { blocks = length-drained n; left = refl; picks = 
 IsFramed-acts : (migrates : Bool) (did : Did) (n new : Device) → ActsBy migrates did n new → IsFramed n new
 IsFramed-acts migrates did n new a = subst (IsFramed n) (sym a.left) (framed_after a.action n)
 
--- it changes nothing that only a fit and a cut change
+-- a step changes nothing that only a fit and a cut change
 pub TakesStep-framed : {M : Type 0} (K : KindOf M) (o : Origin) (w next : World M) → TakesStep K o w next → IsFramed w.device next.device
 TakesStep-framed K o w next step = IsFramed-acts (K.migrates w.machine) step.r.did w.device next.device step.is_step.acts

@@ -57,7 +57,7 @@ leaves_end : (o : Origin) (start : ℕ) (e : Epoch) (next : View) (cycle : ℕ) 
 leaves_end o start e next cycle true = ((tt, tt), refl)
 leaves_end o start e next cycle false = (tt, refl)
 
--- all the events of a cycle leave what that of its deed leaves
+-- all events of a cycle leave what the event of its deed leaves
 leaves_all : (o : Origin) (start : ℕ) (e f : Epoch) (fresh : Bool) (v : View) (did : Did) (next : View) (cycle : ℕ) → Leaves start e (did_told o v did cycle) f
     → Leaves start e (events_of o fresh v did next cycle) f
 leaves_all o start e f fresh v did next cycle l =
@@ -152,7 +152,7 @@ tells_step o e v next did cycle old new (commits k) step h =
       up = λ b. omega (arith, here, k.retired, k.count);
     })
 
--- a boot
+-- in a boot nothing was reported of the epoch yet
 tells_boot : (start : ℕ) (v : View) (known : Bool) → is_boot v.phase ≡ true → v.retired ≡ 0 → Tells start (first_epoch start) v known
 tells_boot start v known boot none = record { idle = λ i. absurd (cc); boot = λ b. (none, refl); up = λ b. not_both _ boot b }
 
@@ -172,7 +172,7 @@ module _ {M : Type 0} (K : KindOf M) (o : Origin) where
   abbrev first : Epoch
   first = first_epoch o.start.count
 
-  -- one more step
+  -- the events stride after one more step
   pub strode_step : (w x : World M) → TakesStep K o w x → Strode K o w → Strode K o x
   strode_step w x step h =
       let v : View = seen K o w in
@@ -193,7 +193,7 @@ module _ {M : Type 0} (K : KindOf M) (o : Origin) where
         tells = subst (λ t. Tells o.start.count t next (K.gauge x.machine x.device).idle) (sym (ap (epoch_from o.start.count first) did_told ∙ here)) on.tells;
       }
 
-  -- a cut
+  -- the events stride after a cut
   strode_cut : (pick : ℕ) (x next : World M) → IsCutOff K o pick x next → Strode K o x → Strode K o next
   strode_cut pick x next cut h =
       let es : List Event = Cut (x.passed + 1) x.cycles ∷ [] in
@@ -219,7 +219,7 @@ module _ {M : Type 0} (K : KindOf M) (o : Origin) where
   strode_ran given (suc k) w (before, ran, cycle) =
       by_due before cycle.between w cycle.steps (strode_ran given k before ran) (tear given.config.tears cycle.between.passed) (is_due K o given.config.cuts cycle.between) cycle.cut
 
-  -- of a step only the first events were made
+  -- only the first events of a step were made
   strode_telling : (w : World M) (events : List Event) (Why : World M → List Event → Type 0) → Strode K o w → TellingFailed K o w events Why → IsStriding o.start.count events
   strode_telling w events Why h t =
       AllStride-part o.start.count first events t.rest (subst (AllStride o.start.count first) t.split (strode_step w t.next t.steps h).all)

@@ -38,11 +38,11 @@ at_work : (o : Origin) (v : View) (hart : ℕ) → IsAtWork o v hart → reach v
 at_work o v hart h = ap (λ (p : Phase). reach_in p v) h.runs
 
 module _ (o : Origin) (turns : List ℕ) (v : View) (hart : ℕ) (all : AreTold (told o turns) v) where
-  -- with one hart there are none so far
+  -- with one hart no turn is reported so far
   none_yet : (o.geometry.harts == 1) ≡ true → turns ≡ []
   none_yet one = nil_from_length turns (all ∙ ap (λ (b : Bool). if b then 0 else reach v - o.start.count) one)
 
-  -- with two they are as many as reach the view
+  -- with two harts the number of turns is the number of instructions that the view reaches
   many_yet : (o.geometry.harts == 1) ≡ false → length turns ≡ reach v - o.start.count
   many_yet two = all ∙ ap (λ (b : Bool). if b then 0 else reach v - o.start.count) two
 
@@ -89,7 +89,7 @@ after_has o turns v NvmDrained all there = tt
 after_has o turns v DramDrained all there = tt
 after_has o turns v Nothing all there = tt
 
--- and agree with those reported before, as far as the view reaches
+-- the turns reported once a cycle is done agree with the turns reported before, as far as the view reaches
 pub after_agrees : (o : Origin) (turns : List ℕ) (v : View) (did : Did) → AreTold (told o turns) v → IsThere (told o turns) v did
     → AgreeBelow (told o turns) (turns_after o.geometry.harts turns did) (reach v)
 after_agrees o turns v (Retired hart) all there = retired_agrees o turns v hart all there (o.geometry.harts == 1) refl
@@ -100,7 +100,7 @@ same_told : (o : Origin) (turns : List ℕ) (v next : View) (did : Did) → AreT
 same_told o turns v next did all step none =
     all ∙ ap (turns_told o.geometry.harts) (sym (stays-there (told o turns) v next did step none))
 
--- they are as many as reach the state that the cycle came to
+-- the turns reported once a cycle is done reach the state that the cycle came to
 pub after_told : (o : Origin) (turns : List ℕ) (v next : View) (did : Did) → (v.phase ≡ Run → o.start.count ≤ reach v) → AreTold (told o turns) v
     → CoreStep (told o (turns_after o.geometry.harts turns did)) v did next → AreTold (told o (turns_after o.geometry.harts turns did)) next
 after_told o turns v next (Retired hart) late all step =
@@ -133,7 +133,7 @@ many_kept : (b : Bool) (turns : List ℕ) (old new : ℕ) → new ≤ old → le
 many_kept true turns old new le all = grind (arith, length-take new turns, all)
 many_kept false turns old new le all = length-take-le new turns (omega (arith, le, all))
 
--- as many are kept as reach the state at which a boot begins, which is no further than the machine was
+-- the turns that are kept after a cut reach the state at which a boot begins, which is no further than the machine was
 pub kept_told : (o : Origin) (turns : List ℕ) (v : View) (d : Decoded)
     → reach (view_of_image o.start.count d) - o.start.count ≤ reach v - o.start.count → AreTold (told o turns) v
     → AreTold (told o (turns_kept o turns d)) (view_of_image o.start.count d)

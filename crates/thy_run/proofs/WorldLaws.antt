@@ -128,7 +128,7 @@ module _ {M : Type 0} (K : KindOf M) (o : Origin) (w : World M) (least : 1 ≤ o
   pub leads_before : (x : World M) → TakesStep K o w x → Leads (line o x) (seen K o w) (marks_of o w.events)
   leads_before x step = leads_retold (line o w) x.turns (seen K o w) (marks_of o w.events) step.agree h.fits h.leads
 
-  -- and a step that retires nothing leaves the turns
+  -- a step that retires nothing leaves the turns
   pub told_before : (x : World M) (step : TakesStep K o w x) → retires step.r.did ≡ 0 → AreTold (line o x) (seen K o w)
   told_before x step none =
       subst (λ (t : List ℕ). AreTold (told o t) (seen K o w)) (sym (step.turns_are ∙ after_same o.geometry.harts w.turns step.r.did none)) h.told_all
@@ -171,7 +171,7 @@ module _ {M : Type 0} (K : KindOf M) (o : Origin) (w : World M) (least : 1 ≤ o
         queue = λ fresh. absurd (cc);
       }
 
-  -- a step
+  -- the run coheres after a step
   pub Coheres-stepped : (x : World M) (step : TakesStep K o w x) → Coheres K o x
   Coheres-stepped x step = subst (Coheres K o) (sym step.next_is) (stepped_coheres x step)
 
@@ -214,7 +214,7 @@ not_due {M = M} K o cuts x c cycles l rising due going = elim (next_cut c 0 cuts
   | inr none ↦ record { few = l.few; up_to = none.1; among = l.among }
 ]
 
--- no cut is due after the step
+-- after a step after which no cut falls, the cuts listed up to it have fallen
 good_stepped : {M : Type 0} (K : KindOf M) → (o : Origin) (cuts : List ℕ) (w x : World M) → IsRising 0 cuts → TakesStep K o w x → Listed cuts w.cycles w → Coheres K o x → is_due K o cuts x ≡ false
     → Listed cuts (last_cuttable x.events x.cycles) x
 good_stepped {M = M} K o cuts w x rising step l stands due = by_end (is_halt (seen K o x).phase) refl
@@ -305,11 +305,11 @@ module _ {M : Type 0} (K : KindOf M) (o : Origin) (x next : World M) (h : Cohere
     queue = λ e. ap (λ (n : Device). n.queue) cut.cut.device;
   }
 
-  -- a cut
+  -- the run coheres after a cut
   pub Coheres-cut : Coheres K o next
   Coheres-cut = subst (Coheres K o) (sym cut.next_is) cut_coheres
 
-  -- and the listed cuts up to it
+  -- after a cut, the cuts listed up to it have fallen
   pub Listed-cut : (cuts : List ℕ) (c : ℕ) → x.cycles ≡ c + 1 → Listed cuts c x → IsRising 0 cuts → nat_lt x.passed (length cuts) ≡ true
       → (slice_index cuts x.passed == x.cycles) ≡ true → Listed cuts (last_cuttable next.events next.cycles) next
   Listed-cut cuts c cycles l rising some due =
@@ -345,7 +345,7 @@ by_due {M = M} K o cuts w x next rising step l stands pick true due cut =
           (listed_stepped K o cuts w x w.cycles step l) rising parts.1 parts.2;
     }
 
--- one more cycle keeps what holds between two
+-- a cycle of a run keeps what holds between two cycles
 pub Good-cycle : {M : Type 0} (K : KindOf M) → (o : Origin) (cuts tears : List ℕ) (w next : World M) → 1 ≤ o.geometry.epoch → IsRising 0 cuts → Good K o cuts w → Cycle K o cuts tears w next → Good K o cuts next
 Good-cycle {M = M} K o cuts tears w next least rising g c =
     by_due K o cuts w c.between next rising c.steps (listed_going K o cuts w g c.steps.going) (Coheres-stepped K o w least g.stands c.between c.steps)
@@ -384,7 +384,7 @@ first_reach : (o : Origin) (kept : Option Mark) → reach (view_of_image o.start
 first_reach o None = omega arith
 first_reach o (Some m) = omega arith
 
--- and it holds at first
+-- the invariant of a run holds at first
 pub Good-first : {M : Type 0} (K : KindOf M) → (o : Origin) (given : Given) (w : World M) → IsRising 0 given.config.cuts → IsFirst K o given w → Good K o given.config.cuts w
 Good-first {M = M} K o given w rising f =
     let none : w.events ≡ [] = f.events in
@@ -432,7 +432,7 @@ Good-first {M = M} K o given w rising f =
       };
     }
 
--- so it holds after any number of cycles
+-- the invariant of a run holds after any number of cycles
 pub Good-ran : {M : Type 0} (K : KindOf M) → (o : Origin) (given : Given) (k : ℕ) (w : World M) → 1 ≤ o.geometry.epoch → IsRising 0 given.config.cuts → Ran K o given k w → Good K o given.config.cuts w
 Good-ran {M = M} K o given zero w least rising first = Good-first K o given w rising first
 Good-ran {M = M} K o given (suc k) w least rising (before, ran, cycle) =
@@ -442,7 +442,7 @@ cycle_counts : {M : Type 0} (K : KindOf M) → (o : Origin) (cuts : List ℕ) (w
 cycle_counts {M = M} K o cuts w x next step pick true cut = ap (λ (y : World M). y.cycles) cut.next_is ∙ stepped_cycles K o w x step
 cycle_counts {M = M} K o cuts w x next step pick false is = ap (λ (y : World M). y.cycles) is ∙ stepped_cycles K o w x step
 
--- each counts one
+-- each cycle of a run counts one
 pub cycles-ran : {M : Type 0} (K : KindOf M) → (o : Origin) (given : Given) (k : ℕ) (w : World M) → Ran K o given k w → w.cycles ≡ k
 cycles-ran {M = M} K o given zero w first = first.cycles
 cycles-ran {M = M} K o given (suc k) w (before, ran, cycle) =

@@ -27,7 +27,7 @@ IsTold r = (shows_console r.did ≡ true) ⊎ (r.ended ≡ true)
 abbrev pub console_at : Origin → ℕ → List ℕ
 console_at o k = (at o k).console
 
--- that of a mark
+-- the console of a mark
 abbrev pub console_shown : Origin → Option Mark → List ℕ
 console_shown o None = []
 console_shown o (Some m) = console_at o m.count
@@ -47,7 +47,7 @@ is_told (Sealed epoch count cause) = true
 is_told (Committed epoch overlapped) = true
 is_told did = false
 
--- a step has no event, and no cut is due after it
+-- a step has no event, and no cut falls after it
 pub record IsQuiet {M : Type 0} (cuts : List ℕ) (p : Progress M) (r : Stepped) (cycle : ℕ) : Type 0 where
   pub untold : is_told r.did ≡ false
   pub going : r.ended ≡ false

@@ -47,7 +47,7 @@ origin_of plan = record {
   turns = [];
 }
 
--- the same along the turns that are reported
+-- what the run is about, along the turns that are reported
 abbrev pub line_of : Plan → List ℕ → Origin
 line_of plan turns = told (origin_of plan) turns
 
@@ -55,11 +55,11 @@ line_of plan turns = told (origin_of plan) turns
 abbrev pub turns_then : Plan → List ℕ → Did → List ℕ
 turns_then plan turns did = turns_after plan.geometry.harts turns did
 
--- a run's own turns are as many as reach the state of a view
+-- a run has exactly the turns that reach the state of a view
 abbrev pub AreTold : Origin → View → Type 0
 AreTold p v = length p.turns ≡ turns_told p.geometry.harts (reach v - p.start.count)
 
--- the last so many of some turns
+-- the last turns of a list, this many
 abbrev pub last_turns : ℕ → List ℕ → List ℕ
 last_turns many turns = drop (length turns - many) turns
 
@@ -67,16 +67,16 @@ last_turns many turns = drop (length turns - many) turns
 abbrev pub given_of : Plan → Device → Given
 given_of plan fitted = record { config = plan.config; digest = plan.digest; fitted = fitted }
 
--- how its events are told
+-- how the events of a run are reported
 abbrev pub telling_of : Plan → Telling
 telling_of plan = record { digest = plan.digest; harts = plan.config.harts }
 
--- its start is one of a run, and the listed cuts rise
+-- a plan's start is one of a run, and the listed cuts rise
 pub record IsPlanned (plan : Plan) : Type 0 where
   pub origin : IsOrigin (origin_of plan)
   pub rising : IsRising 0 plan.config.cuts
 
--- the run between two cycles, of which so many are done, with its device and the turns reported so far
+-- the run between two cycles, of which this many are done, with its device and the turns reported so far
 abbrev pub world_at : {M : Type 0} → Progress M → Device → ℕ → List ℕ → World M
 world_at p n cycles turns = record {
   machine = p.machine;
@@ -89,16 +89,16 @@ world_at p n cycles turns = record {
   turns = turns;
 }
 
--- the turns that the program lists: those of the instructions that the view counts since the latest seal
+-- the turns that the program lists are the turns of the instructions that the view counts since the latest seal
 abbrev pub AreListed : {M : Type 0} → KindOf M → Plan → Progress M → Device → ℕ → List ℕ → Type 0
 AreListed K plan p n cycles turns =
     bytes_of p.turns ≡ last_turns (seen K (origin_of plan) (world_at p n cycles turns)).retired turns
 
--- with two harts there is room for those of an epoch
+-- with two harts there is room for the turns of an epoch
 abbrev pub HasTurnsRoom : Parameters → ℕ → Type 0
 HasTurnsRoom p room = (p.harts ≡ 1) ⊎ (p.epoch ≤ room)
 
--- the run continues: so many cycles were done since the device was fitted, and these turns are reported
+-- the run continues: this many cycles were done since the device was fitted, and these turns are reported
 pub record GoesOn {M : Type 0} (K : KindOf M) (plan : Plan) (fitted : Device) (p : Progress M) (n : Device) (cycles : ℕ)
     (turns : List ℕ) : Type 0 where
   pub ran : Ran K (origin_of plan) (given_of plan fitted) cycles (world_at p n cycles turns)
@@ -133,7 +133,7 @@ abbrev pub list_after : Did → List ℕ → List ℕ
 list_after (Sealed epoch count cause) listed = []
 list_after did listed = listed
 
--- there is room for the turn of what was done
+-- a list of turns has room for the turn of what was done, if that retired an instruction
 abbrev pub HasRoomToList : ℕ → List ℕ → ℕ → Did → Type 0
 HasRoomToList harts turns room (Retired hart) = (harts ≡ 1) ⊎ (length turns < room)
 HasRoomToList harts turns room did = Unit {0}
@@ -197,12 +197,12 @@ pub record IsDrawn (harts : ℕ) (before after : Mix) (pick : Pick) : Type 0 whe
 -- the run continues, but that its next pick was drawn: it was this one
 pub record HasDrawn {M : Type 0} (K : KindOf M) (plan : Plan) (fitted : Device) (p : Progress M) (n : Device) (cycles : ℕ)
     (turns : List ℕ) (pick : Pick) : Type 0 where
-  -- the schedule before it
+  -- the schedule before the pick
   pub mix : Mix
   pub drawn : IsDrawn plan.geometry.harts mix p.mix pick
   pub goes : GoesOn K plan fitted (record p { mix = mix }) n cycles turns
 
--- this step and all its events were made, and these bytes are due to the terminal
+-- this step and all its events were made, and the terminal has to get these bytes
 pub record IsNoted {M : Type 0} (K : KindOf M) (plan : Plan) (p next : Progress M) (n new : Device) (cycles : ℕ)
     (turns : List ℕ) (r : Stepped) (ended : Option Status) (bytes : List ℕ) : Type 0 where
   pub steps : TakesStep K (origin_of plan) (world_at p n cycles turns)
@@ -235,7 +235,7 @@ pub record IsDone {M : Type 0} (K : KindOf M) (plan : Plan) (p next : Progress M
   pub on_terminal : next.terminal_failed ≡ p.terminal_failed
   pub on_report : next.report_failed ≡ p.report_failed
 
--- a cycle was begun and is not done; unless an allocation failed, the bytes are all that is due
+-- a cycle was begun and is not done; unless an allocation failed, the bytes are all that has to be shown
 pub record IsBroken {M : Type 0} (K : KindOf M) (plan : Plan) (p next : Progress M) (n new : Device) (cycles : ℕ) (bytes : List ℕ)
     : Type 0 where
   pub rest : List ℕ
@@ -244,7 +244,7 @@ pub record IsBroken {M : Type 0} (K : KindOf M) (plan : Plan) (p next : Progress
   pub on_terminal : next.terminal_failed ≡ p.terminal_failed
   pub on_report : next.report_failed ≡ p.report_failed
 
--- a device's fault broke it: its count rose
+-- a fault of the device broke the cycle: its count of faults rose
 pub record IsFault {M : Type 0} (p next : Progress M) (n new : Device) (bytes : List ℕ) : Type 0 where
   pub events : next.events ≡ p.events
   pub none : bytes ≡ []
@@ -264,7 +264,7 @@ Breaks K plan p next n new cycles turns bytes Memory =
     × (new.faults ≡ n.faults)
 Breaks K plan p next n new cycles turns bytes stop = ⊥
 
--- a cut is due after a cycle whose events were made: the next one that is listed
+-- the next listed cut falls after a cycle whose events were made
 pub record AwaitsCut {M : Type 0} (K : KindOf M) (plan : Plan) (p next : Progress M) (n new : Device) (cycles : ℕ)
     (turns : List ℕ) (r : Stepped) (bytes : List ℕ) : Type 0 where
   pub noted : IsNoted K plan p next n new cycles turns r None bytes

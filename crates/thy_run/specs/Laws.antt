@@ -62,9 +62,9 @@ abbrev pub torn : List ℕ → ℕ → List ℕ
 torn tears zero = []
 torn tears (suc k) = torn tears k ++ tear tears k ∷ []
 
--- The device that a run leaves has as many blocks and as much room in its queue as after its fit, its blocks land whole if
--- they did so then, and it is reached by the same loans. It has kept an image for each cut, at most as many as are listed, and has the room for images that
--- it was fitted with.
+-- The device that a run leaves has the number of blocks and the room in its queue that it had after its fit, its blocks
+-- land whole if they did so then, and it is reached by the same loans. It has kept an image for each cut, and no more
+-- than cuts are listed, and has the room for images that it was fitted with.
 pub record LeavesRoom (given : Given) (events : List Event) (n : Device) : Type 0 where
   pub blocks : length n.image ≡ length given.fitted.image
   pub kept : length n.left ≡ length (cuts_among events)
@@ -90,7 +90,7 @@ pub record Promise {M : Type 0} (K : KindOf M) (o : Origin) (given : Given) (cyc
   pub paced : IsPaced K o given cycles
   pub strides : IsStriding o.start.count events
 
--- every run keeps it
+-- every run keeps its promise
 abbrev pub RunKeepsPromise : {M : Type 0} → KindOf M → Type 0
 RunKeepsPromise K =
     (o : Origin) (given : Given) (cycles : ℕ) (events : List Event) (n : Device) (stop : Stop)

@@ -19,8 +19,8 @@ abbrev pub last_of : List ℕ → ℕ
 last_of [] = 0
 last_of (cycle ∷ cycles) = max cycle (last_of cycles)
 
--- A run in which k instructions were retired since its power came on has fewer cycles than these: those up to the last
--- cut, those of the boot after it, and those of the instructions.
+-- A run in which k instructions were retired since its power came on has fewer cycles than these: the cycles up to the
+-- last cut, the cycles of the boot after it, and the cycles of the instructions.
 abbrev pub cycles_for : {M : Type 0} → KindOf M → Parameters → List ℕ → ℕ → ℕ
 cycles_for K p cuts k = last_of cuts + K.most_ahead p + K.most_each p * k
 
@@ -58,7 +58,7 @@ nothing_done = record { retired = 0; booted = 0; drains = 0; others = 0 }
 abbrev pub one_if : Bool → ℕ
 one_if b = if b then 1 else 0
 
--- after one more cycle
+-- the tally after one more cycle
 abbrev pub counted : Tally → (booting : Bool) → Did → Tally
 counted t booting did = record {
   retired = t.retired + retires did;
@@ -76,10 +76,10 @@ tally_of K o given (suc k) w (before, ran, cycle) =
     if is_due K o given.config.cuts cycle.between then nothing_done
     else counted (tally_of K o given k before ran) booting cycle.steps.r.did
 
--- what holds of a run of so many cycles that has done this since its power came on
+-- what holds of a run of this many cycles that has done this since its power came on
 pub record IsBusy {M : Type 0} (K : KindOf M) (o : Origin) (cuts : List ℕ) (cycles : ℕ) (w : World M) (t : Tally)
     : Type 0 where
-  -- it has taken no more cycles than the instructions account for
+  -- the run has taken no more cycles than the instructions account for
   pub paced : cycles < cycles_for K o.geometry cuts t.retired
   -- the boot took no more than it may, and neither did the epoch that executes
   pub boots : t.booted ≤ K.most_booting o.geometry
@@ -87,7 +87,7 @@ pub record IsBusy {M : Type 0} (K : KindOf M) (o : Origin) (cuts : List ℕ) (cy
   -- each drain landed a write that another cycle had queued
   pub drains : t.drains ≤ t.others
 
--- a run of so many cycles took no more than the instructions account for that it retired since its power came on
+-- a run of this many cycles took no more than the instructions account for that it retired since its power came on
 abbrev pub IsPaced : {M : Type 0} → KindOf M → Origin → Given → ℕ → Type 0
 IsPaced {M = M} K o given cycles =
     (w : World M) (ran : Ran K o given cycles w)

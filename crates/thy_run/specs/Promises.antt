@@ -44,7 +44,7 @@ AdvancedTo K plan p q next n new done turns (Advanced a) = IsStepped K plan p ne
 AdvancedTo K plan p q next n new done turns Left = (next ≡ q) × (new ≡ n)
 AdvancedTo K plan p q next n new done turns Failed = IsStuck K plan p next n new turns
 
--- the same in each run of which the pick was drawn
+-- what a hart's cycle leads to, in each run of which the pick was drawn
 abbrev pub AdvancesOn : {M : Type 0} → KindOf M → Plan → Progress M → Progress M → Device → Device → ℕ → Pick
     → HartCycle → Type 0
 AdvancesOn K plan q next n new done pick result =
@@ -114,14 +114,14 @@ NotesSeal epoch count cause turns old new result =
     (o : Origin) (v : View) → EndsWithTurns o v (Sealed epoch count cause) turns
     → OnOk result (new ≡ old ++ did_told o v (Sealed epoch count cause) 0)
 
--- the same of the events of what a step did
+-- the events of what a step did are made
 abbrev pub NotesDid : {T E : Type 0} → Did → List ℕ → Option (Box MachState Global) → ℕ → List Event → List Event
     → Result T E → Type 0
 NotesDid did turns restored cycle old new result =
     (o : Origin) (v : View) → EndsWithTurns o v did turns → Restores o did restored
     → OnOk result (new ≡ old ++ did_told o v did cycle)
 
--- and that of the end
+-- the event of a run's end is made
 abbrev pub NotesEnd : {T E : Type 0} → Option (Box MachState Global) → ℕ → List Event → List Event → Result T E → Type 0
 NotesEnd ended cycle old new result =
     (o : Origin) (v next : View) → IsEnding o v next ended → OnOk result (new ≡ old ++ end_told o v next cycle)
@@ -139,7 +139,7 @@ NotesAll did turns reload restored ended cycle old new result =
     → Restores o did restored → IsEnding o v next ended
     → OnOk result (new ≡ old ++ events_of o fresh v did next cycle)
 
--- or the first ones, if memory ran out
+-- the events of a step are made, or the first ones if memory ran out
 abbrev pub NotesSome : {T E : Type 0} → Did → List ℕ → Bool → Option (Box MachState Global) → Option (Box MachState Global)
     → ℕ → List Event → List Event → Result T E → Type 0
 NotesSome did turns reload restored ended cycle old new result =
@@ -149,7 +149,7 @@ NotesSome did turns reload restored ended cycle old new result =
 
 -- ---- a cycle
 
--- a step was taken in a run that continues, in which so many cycles are done
+-- a step was taken in a run that continues, in which this many cycles are done
 abbrev pub HasStepped : {M : Type 0} → KindOf M → Plan → Progress M → Device → ℕ → Stepped → Type 0
 HasStepped {M = M} K plan q m done r =
     (fitted : Device) × (p : Progress M) × (n : Device) × (turns : List ℕ) × GoesOn K plan fitted p n done turns
@@ -171,13 +171,13 @@ pub record IsReady {M : Type 0} (K : KindOf M) (plan : Plan) (fitted : Device) (
   pub gathered : IsGatheredFor K plan p q n m k turns r.did readings
   pub at_cycle : cycle ≡ k + 1
 
--- so its cycle may be concluded
+-- the cycle of a step may be concluded: all was read for its events
 abbrev pub CanConclude : {M : Type 0} → KindOf M → Plan → Progress M → Stepped → Readings → ℕ → Type 0
 CanConclude {M = M} K plan q r readings cycle =
     (fitted : Device) × (p : Progress M) × (n : Device) × (m : Device) × (k : ℕ) × (turns : List ℕ)
     × IsReady K plan fitted p q n m k turns r readings cycle
 
--- and then it comes to this
+-- what the conclusion of a cycle comes to
 abbrev pub Concludes : {M O : Type 0} → KindOf M → (O → List Taken → Type 0) → (O → List Taken → Stepped → Type 0)
     → Plan → Progress M → Progress M → Stepped → Readings → ℕ → Sinks → Sinks → O → O → Outcome → Type 0
 Concludes {M = M} K has_seen keeps plan q next r readings cycle before after old_o new_o outcome =
@@ -190,7 +190,7 @@ Concludes {M = M} K has_seen keeps plan q next r readings cycle before after old
 
 -- ---- the loop
 
--- a run that continues awaits a cut, with these bytes due to the terminal
+-- a run that continues awaits a cut, with these bytes for the terminal
 abbrev pub IsAwaiting : {M : Type 0} → KindOf M → Plan → Progress M → Device → ℕ → List ℕ → ℕ → Sinks → Type 0
 IsAwaiting {M = M} K plan next m done bytes first now =
     (fitted : Device) × (p : Progress M) × (n : Device) × (turns : List ℕ) × (t : Stream) × (r : Stream)

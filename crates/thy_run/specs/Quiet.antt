@@ -18,10 +18,10 @@ abbrev pub IsWatched : {M O : Type 0} → KindOf M → (O → List Taken → Typ
 IsWatched K has_seen plan p n done o =
     (fitted : Device) × (turns : List ℕ) × GoesOn K plan fitted p n done turns × Watched K has_seen plan fitted p n done turns o
 
--- any number of cycles without an event or a cut led from p to q, where so many are done; the observer has seen them all
+-- any number of cycles without an event or a cut led from p to q, after which `now` are done; the observer has seen them all
 pub record IsLed {M O : Type 0} (K : KindOf M) (has_seen : O → List Taken → Type 0) (plan : Plan) (fitted : Device)
     (p q : Progress M) (n : Device) (done now : ℕ) (o : O) : Type 0 where
-  -- the turns that are reported there
+  -- the turns that are reported at q
   pub turns : List ℕ
   pub goes : GoesOn K plan fitted q n now turns
   pub watched : Watched K has_seen plan fitted q n now turns o
@@ -54,7 +54,7 @@ PassedTo K has_seen plan q next n new now turns old_o new_o None =
 PassedTo K has_seen plan q next n new now turns old_o new_o (Some pause) =
     StopsAt K plan q next n new now turns pause × (new_o ≡ old_o)
 
--- the same in each run of which the pick was drawn
+-- what a quiet cycle leads to, in each run of which the pick was drawn
 abbrev pub PassesTo : {M O : Type 0} → KindOf M → (O → List Taken → Type 0) → Plan → Progress M → Progress M
     → Device → Device → ℕ → Pick → O → O → Option Pause → Type 0
 PassesTo K has_seen plan q next n new now pick old_o new_o pause =

@@ -37,7 +37,7 @@ pub record IsFitted {M : Type 0} (K : KindOf M) (plan : Plan) (n : Device) : Typ
   pub cuts : shape.cuts ≡ length plan.config.cuts
   pub is_fitted : n ≡ fitted shape start before
 
--- the run continues, and the sinks took all that was due so far
+-- the run continues, and the sinks took all that they had to get so far
 pub record Running {M : Type 0} (K : KindOf M) (plan : Plan) (fitted : Device) (p : Progress M) (n : Device) (cycles : ℕ)
     (turns : List ℕ) (terminal shown report read : Stream) : Type 0 where
   pub goes : GoesOn K plan fitted p n cycles turns
@@ -50,7 +50,7 @@ abbrev pub RunEnds : {M : Type 0} → KindOf M → Plan → Device → Device �
 RunEnds K plan fitted new e terminal shown report read =
     HasRun K (origin_of plan) (given_of plan fitted) new e terminal shown report read
 
--- the same, and where it stopped
+-- what a run of a plan leaves, and where it stopped
 abbrev pub RunEndsAt : {M : Type 0} → KindOf M → Plan → Device → Device → Ending
     → Stream → Stream → Stream → Stream → World M → Type 0
 RunEndsAt K plan fitted new e terminal shown report read last =
@@ -93,7 +93,7 @@ first_progress plan machine turns = record {
   report_failed = false;
 }
 
--- no turn is listed, and with two harts there is room for those of an epoch
+-- no turn is listed, and with two harts there is room for the turns of an epoch
 pub record IsStarted {M : Type 0} (K : KindOf M) (plan : Plan) (p : Progress M) : Type 0 where
   pub powered : K.powered plan.geometry p.machine
   pub first : p ≡ first_progress plan p.machine p.turns

@@ -25,7 +25,7 @@ Watched K has_seen plan fitted p n cycles turns o =
     (seen : List Taken)
     × IsListed K (origin_of plan) (given_of plan fitted) cycles (world_at p n cycles turns) seen × has_seen o seen
 
--- it has seen them, and keeps the step of the next one
+-- an observer has seen the cycles up to here, and keeps the step of the next one
 abbrev pub Awaited : {M O : Type 0} → KindOf M → (O → List Taken → Stepped → Type 0) → Plan → Device → Progress M → Device → ℕ
     → List ℕ → Stepped → O → Type 0
 Awaited K keeps plan fitted p n cycles turns r o =
@@ -63,7 +63,7 @@ pub record CycleTaken {M O : Type 0} (K : KindOf M) (has_seen : O → List Taken
     (keeps : O → List Taken → Stepped → Type 0) (plan : Plan) (fitted : Device) (p next : Progress M) (n new : Device)
     (done : ℕ) (turns : List ℕ) (terminal showing shown report reading read : Stream) (old_o new_o : O)
     (outcome : Outcome) : Type 0 where
-  -- the turns that are reported after it
+  -- the turns that are reported after the cycle
   pub after : List ℕ
   pub comes_to : ComesTo K plan fitted p next n new done turns after terminal showing shown report reading read outcome
   pub seen : SeenBy K has_seen keeps plan fitted p next n new done turns after old_o new_o outcome
@@ -82,7 +82,7 @@ Reports {M = M} K has_seen keeps plan q next m new done r before after old_o new
 -- after a cut the run continues, and the observer has seen its cycle
 pub record CutMade {M O : Type 0} (K : KindOf M) (has_seen : O → List Taken → Type 0) (plan : Plan) (fitted : Device)
     (q : Progress M) (new : Device) (done : ℕ) (terminal shown report read : Stream) (o : O) : Type 0 where
-  -- the turns that are reported after it
+  -- the turns that are reported after the cut
   pub after : List ℕ
   pub running : Running K plan fitted q new (done + 1) after terminal shown report read
   pub watched : Watched K has_seen plan fitted q new (done + 1) after o
@@ -103,7 +103,7 @@ SeesCut {M = M} K has_seen keeps plan next m new done bytes first before after o
     → AwaitsCut K plan p next n m done turns r bytes → first ≡ length p.events
     → RunEndsSeen K has_seen plan fitted new e t after.terminal u after.report new_o
 
--- what it has seen at the end of a run
+-- what an observer has seen at the end of a run
 abbrev pub RunsSeen : {M O : Type 0} → KindOf M → (O → List Taken → Type 0) → Plan → Device → Device → Ending → Sinks → Sinks
     → O → Type 0
 RunsSeen K has_seen plan fitted new e before after observer =

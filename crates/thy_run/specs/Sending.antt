@@ -14,7 +14,7 @@ pub record Sinks : Type 0 where
 abbrev pub sinks : Stream → Stream → Sinks
 sinks terminal report = record { terminal = terminal; report = report }
 
--- what a sink took of bytes that were due: all, or a first part if it failed; with none due it can't have failed
+-- what a sink took of bytes that it had to get: all, or a first part if it failed; with none it can't have failed
 abbrev pub Sent : Bool → Stream → Stream → List ℕ → Type 0
 Sent false old new bytes = Took old new bytes
 Sent true old new bytes = TookPart old new bytes × (bytes ≢ [])

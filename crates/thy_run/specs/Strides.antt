@@ -40,7 +40,7 @@ Strides e Reload = Unit {0}
 Strides e (Scheme number) = Unit {0}
 Strides e (Ended status count cycle state) = Unit {0}
 
--- each event after those before it
+-- the events stride, each after those before it
 abbrev pub AllStride : ℕ → Epoch → List Event → Type 0
 AllStride start e [] = Unit {0}
 AllStride start e (v ∷ vs) = Strides e v × AllStride start (epoch_after start e v) vs

@@ -17,7 +17,7 @@ use Rattle.thy_run.specs.declared.ending.Stop.TheVariants.{Ended, Nvm, Memory, T
 -- was written before, or this was its write
 pub record StepFailed {M : Type 0} (K : KindOf M) (o : Origin) (w : World M) (events : List Event) (n : Device) : Type 0 where
   pub going : is_halt (seen K o w).phase ≡ false
-  -- the machine that it left
+  -- the machine that the failed step left
   pub next : M
   pub leaves : LeavesSafe K (line o w) (mix_pick o.geometry.harts w.mix) w.machine next w.device n
   pub framed : IsFramed w.device n
@@ -32,7 +32,7 @@ pub record ReadFailed {M : Type 0} (w : World M) (events : List Event) (n : Devi
   pub framed : IsFramed next.device n
   pub rose : Rose next.device.faults n.faults
 
--- an allocation failed for an event of a step, or for the cut that is due after it, and the device was left alone
+-- an allocation failed for an event of a step, or for the cut that falls after it, and the device was left alone
 abbrev pub LeftAlone : {M : Type 0} → KindOf M → Origin → List ℕ → Device → World M → List Event → Type 0
 LeftAlone K o cuts n next rest = (n ≡ next.device) × ((rest ≢ []) ⊎ (is_due K o cuts next ≡ true))
 
@@ -63,7 +63,7 @@ AtStop K o cuts w events n Terminal = IsLast w events n
 AtStop K o cuts w events n Report = IsLast w events n
 AtStop K o cuts w events n Limit = IsLast w events n
 
--- a run of so many cycles has given these events and left this device, and stopped for this
+-- a run of this many cycles has given these events and left this device, and stopped for this
 pub record Stopped {M : Type 0} (K : KindOf M) (o : Origin) (given : Given) (cycles : ℕ) (events : List Event) (n : Device) (stop : Stop)
     : Type 0 where
   pub last : World M

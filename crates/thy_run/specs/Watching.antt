@@ -30,27 +30,27 @@ IsListed {M = M} K o given (suc k) w seen =
 
 -- ---- what an observer is asked
 
--- it may see the cycle of this number: it has seen all before
+-- an observer may see the cycle of this number: it has seen all before
 abbrev pub CanSee : {O : Type 0} → (O → List Taken → Type 0) → O → ℕ → Type 0
 CanSee has_seen o cycle = (seen : List Taken) × has_seen o seen × (cycle ≡ length seen + 1)
 
--- and that of the step that it keeps
+-- the observer may see the cycle of the step that it keeps: it has seen all before
 abbrev pub CanSeeCut : {O : Type 0} → (O → List Taken → Stepped → Type 0) → O → ℕ → Type 0
 CanSeeCut keeps o cycle = (seen : List Taken) × (r : Stepped) × keeps o seen r × (cycle ≡ length seen + 1)
 
--- it has seen one more cycle
+-- an observer has seen one more cycle
 abbrev pub Sees : {O : Type 0} → (O → List Taken → Type 0) → O → O → Taken → Type 0
 Sees has_seen old new t = (seen : List Taken) → has_seen old seen → has_seen new (seen ++ t ∷ [])
 
--- it keeps a step, after which a cut is due
+-- an observer keeps a step, after which a cut falls
 abbrev pub Keeps : {O : Type 0} → (O → List Taken → Type 0) → (O → List Taken → Stepped → Type 0) → O → O → Stepped → Type 0
 Keeps has_seen keeps old new r = (seen : List Taken) → has_seen old seen → keeps new seen r
 
--- it has seen the cycle of this step, after which the cut fell
+-- an observer has seen the cycle of this step, after which the cut fell
 abbrev pub SeesCutAfter : {O : Type 0} → (O → List Taken → Type 0) → (O → List Taken → Stepped → Type 0) → O → O → ℕ → Type 0
 SeesCutAfter has_seen keeps old new told =
     (seen : List Taken) (r : Stepped) → keeps old seen r → has_seen new (seen ++ taken r told true ∷ [])
 
--- it forgets the step: the cycle is not done
+-- an observer forgets the step: the cycle is not done
 abbrev pub Forgets : {O : Type 0} → (O → List Taken → Type 0) → (O → List Taken → Stepped → Type 0) → O → O → Type 0
 Forgets has_seen keeps old new = (seen : List Taken) (r : Stepped) → keeps old seen r → has_seen new seen

@@ -41,13 +41,13 @@ pub record World (M : Type 0) : Type 0 where
 abbrev pub line : {M : Type 0} → Origin → World M → Origin
 line o w = told o w.turns
 
--- what is seen of the machine
+-- what the machine shows
 abbrev pub seen : {M : Type 0} → KindOf M → Origin → World M → View
 seen K o w = K.view (line o w) w.machine w.device
 
 -- ---- turns
 
--- the turns reported once a cycle did this: with two harts also that of an instruction which retired
+-- the turns reported once a cycle did this: with two harts the turn of an instruction which retired is added
 abbrev pub turns_after : ℕ → List ℕ → Did → List ℕ
 turns_after harts turns (Retired hart) = if harts == 1 then turns else turns ++ hart ∷ []
 turns_after harts turns did = turns
@@ -96,8 +96,8 @@ after_step K o w m n turns did = record w {
   turns = turns;
 }
 
--- The machine takes the schedule's next step, along the turns that are reported once it is done. They agree with
--- those reported before up to the machine's state, and what is seen of the machine is the same.
+-- The machine takes the schedule's next step, along the turns that are reported once it is done. They agree with the
+-- turns reported before up to the machine's state, and the machine shows the same.
 pub record TakesStep {M : Type 0} (K : KindOf M) (o : Origin) (w next : World M) : Type 0 where
   pub r : Stepped
   pub going : is_halt (seen K o w).phase ≡ false
@@ -107,7 +107,7 @@ pub record TakesStep {M : Type 0} (K : KindOf M) (o : Origin) (w next : World M)
   pub is_step : IsStep K (line o next) w.cycles (mix_pick o.geometry.harts w.mix) w.machine next.machine w.device next.device r
   pub next_is : next ≡ after_step K o w next.machine next.device next.turns r.did
 
--- a cut is due: the next one that is listed falls after this cycle, and the run has not ended
+-- a cut falls after this cycle: the next listed one, and the run has not ended
 abbrev pub is_due : {M : Type 0} → KindOf M → Origin → List ℕ → World M → Bool
 is_due K o cuts w = not (is_halt (seen K o w).phase) && (nat_lt w.passed (length cuts) && slice_index cuts w.passed == w.cycles)
 
@@ -137,7 +137,7 @@ pub record IsCutOff {M : Type 0} (K : KindOf M) (o : Origin) (pick : ℕ) (w nex
 abbrev pub tear : List ℕ → ℕ → ℕ
 tear tears i = slice_index_or tears i 0
 
--- one cycle: a step, and the cut that is due after it
+-- one cycle: a step, and the cut that falls after it
 pub record Cycle {M : Type 0} (K : KindOf M) (o : Origin) (cuts tears : List ℕ) (w next : World M) : Type 0 where
   pub between : World M
   pub steps : TakesStep K o w between
@@ -150,7 +150,7 @@ pub record Given : Type 0 where
   pub digest : Bool
   pub fitted : Device
 
--- how its events are told
+-- how the events of a run are reported
 abbrev pub telling : Given → Telling
 telling given = record { digest = given.digest; harts = given.config.harts }
 

@@ -30,13 +30,13 @@ use thy_view::{Advance, Computer, Did, Stepped};
 /// What a cycle came to.
 #[derive(Drop)]
 pub enum Outcome {
-    /// It is done, and the run continues.
+    /// The cycle is done, and the run continues.
     Goes,
-    /// It is done once the power was cut, which is due after it. Then the terminal is due these bytes.
+    /// The cycle is done once the power was cut after it. Then the terminal has to get these bytes.
     Cuts(Bytes),
-    /// It is done, and the run stops.
+    /// The cycle is done, and the run stops.
     Stops(Stop),
-    /// It is not done, and the run stops.
+    /// The cycle is not done, and the run stops.
     Breaks(Stop),
 }
 
@@ -95,8 +95,8 @@ fn list_advance(turns: &mut Bytes, harts: u64, advance: Advance)
     }
 }
 
-/// Takes the cycle of a pick that was drawn, if a hart advances in it, and lists that hart if an instruction retired. So
-/// many cycles were done before.
+/// Takes the cycle of a pick that was drawn, if a hart advances in it, and lists that hart if an instruction retired.
+/// `done` cycles were done before.
 #[inline(always)]
 pub fn advance<M: Computer, N: Nvm>(
     progress: &mut Progress<M>,
@@ -123,7 +123,7 @@ pub fn advance<M: Computer, N: Nvm>(
     }
 }
 
-/// Takes the cycle of a pick that was drawn, if no hart advances in it. So many cycles were done before.
+/// Takes the cycle of a pick that was drawn, if no hart advances in it. `done` cycles were done before.
 pub fn take_other<M: Computer, N: Nvm>(
     progress: &mut Progress<M>,
     plan: &Plan,
@@ -168,7 +168,7 @@ fn is_told(did: Did) -> bool
     )
 }
 
-/// Whether a step has no event, and no cut is due after it.
+/// Whether a step has no event, and no cut falls after it.
 #[inline(always)]
 pub fn is_quiet<M>(progress: &Progress<M>, plan: &Plan, stepped: &Stepped, cycle: u64) -> bool
     ensures { result ≡ true ↔ IsQuiet plan.now.config.cuts progress.now stepped.now cycle }
@@ -179,8 +179,8 @@ pub fn is_quiet<M>(progress: &Progress<M>, plan: &Plan, stepped: &Stepped, cycle
         && !is_due(&plan.config, progress.passed, cycle)
 }
 
-/// Whether a cycle in which a hart advanced has nothing to report: it is not the first one after a cut, and no cut is due
-/// after it.
+/// Whether a cycle in which a hart advanced has nothing to report: it is not the first one after a cut, and no cut is
+/// listed after it.
 fn advances_quietly<M>(progress: &Progress<M>, plan: &Plan, cycle: u64) -> bool
     ensures { (a : AdvanceValue) → (result ≡ true ↔ IsQuiet plan.now.config.cuts progress.now (stepped_of a) cycle) }
 {
@@ -286,8 +286,8 @@ fn end_list(turns: &mut Bytes, did: Did)
     }
 }
 
-/// Makes the events of a step with what was read for them, shows the cycle to the observer, and gives the sinks what they
-/// are due. If a cut is due first, the observer keeps the step, and the sinks get nothing yet.
+/// Makes the events of a step with what was read for them, shows the cycle to the observer, and gives the sinks what
+/// they have to get. If a cut falls first, the observer keeps the step, and the sinks get nothing yet.
 fn conclude<M: Computer, T: Sink, R: Sink, O: Observer>(
     alloc: Global,
     progress: &mut Progress<M>,
@@ -362,9 +362,9 @@ fn conclude<M: Computer, T: Sink, R: Sink, O: Observer>(
     }
 }
 
-/// Reports a cycle whose step is taken: what has to be read for its events, these events, and what the sinks are due for
-/// them. So many cycles were done before. If a cut is due after it, the observer keeps the step, and the sinks get nothing
-/// yet.
+/// Reports a cycle whose step is taken: what has to be read for its events, these events, and what the sinks have to
+/// get for them. `done` cycles were done before. If a cut falls after it, the observer keeps the step, and the sinks
+/// get nothing yet.
 pub fn report_cycle<M: Computer, T: Sink, R: Sink, N: Nvm, O: Observer>(
     alloc: Global,
     progress: &mut Progress<M>,

@@ -22,7 +22,7 @@ use thy_dram::Dram;
 use thy_text::{Events, Telling};
 use thy_view::Computer;
 
-/// Cuts the power after a cycle, and then gives the sinks what they are due for it.
+/// Cuts the power after a cycle, and then gives the sinks what they have to get for it.
 ///
 /// # Errors
 /// How the run ends: if a sink failed, or an allocation. Then nothing was cut, and the cycle is not done.
@@ -102,7 +102,7 @@ fn first_machine<M: Computer>(alloc: Global, geometry: &Geometry) -> Result<M, A
     Ok(machine)
 }
 
-/// The list of turns before the first cycle: with two harts it has room for those of an epoch.
+/// The list of turns before the first cycle: with two harts it has room for the turns of an epoch.
 fn first_turns(alloc: Global, geometry: &Geometry) -> Result<Bytes, AllocError>
     ensures empty { IfOk result (λ turns. bytes_of turns ≡ []) }
     ensures room { IfOk result (λ turns. HasTurnsRoom geometry.now (room_of turns)) }

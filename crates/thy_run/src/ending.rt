@@ -17,7 +17,7 @@ pub enum Stop {
     Terminal,
     /// The report failed.
     Report,
-    /// As many cycles as the limit allows are done.
+    /// The number of cycles that the limit allows is done.
     Limit,
 }
 

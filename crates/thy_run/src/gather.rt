@@ -19,7 +19,7 @@ pub struct Readings {
     pub reload: bool,
     /// The state that was restored, if one was.
     pub restored: Option<Box<MachState>>,
-    /// The bytes of the console that the terminal is due.
+    /// The bytes of the console that the terminal has to get.
     pub bytes: Bytes,
     /// The last state, if this step ended the run.
     pub ended: Option<Box<MachState>>,

@@ -24,8 +24,8 @@ pub fn every_run_is_soon_over<M: Computer>()
     ensures { RunIsSoonOver M.kind }
 {}
 
-/// A run has no more cycles than the instructions that it retired since power came on account for; its boot and its
-/// epoch take no more cycles than they may; and it drains queues at most as often as it does anything else.
+/// A run has no more cycles than the instructions that it retired since power came on account for. Its boot and its
+/// epoch take no more cycles than they may, and it drains queues at most as often as it does anything else.
 pub fn every_run_is_busy<M: Computer>()
     ensures { RunIsBusy M.kind }
 {}

@@ -9,13 +9,13 @@ use thy_view::Stepped;
 
 /// Looks on while a program runs. It changes nothing of what is done.
 pub trait Observer {
-    /// It has seen these cycles of the machine, in order, and no others.
+    /// The observer has seen these cycles of the machine, in order, and no others.
     ghost has_seen: { Self → List Taken → Type 0 };
 
-    /// It has seen these cycles, and keeps the step of the next one.
+    /// The observer has seen these cycles, and keeps the step of the next one.
     ghost keeps: { Self → List Taken → Step → Type 0 };
 
-    /// It has seen the plain machine stop in this state, with this address of the first byte of memory.
+    /// The observer has seen the plain machine stop in this state, with this address of the first byte of memory.
     ghost has_seen_last: { Self → ℕ → State → Type 0 };
 
     /// Sees one more cycle of the machine that is done: what it did, and how many events were made in it. No cut fell
@@ -24,7 +24,7 @@ pub trait Observer {
         requires { CanSee has_seen self.old cycle }
         ensures { Sees has_seen self.old self.new (taken stepped.now told false) };
 
-    /// Keeps the step of a cycle after which a cut is due.
+    /// Keeps the step of a cycle after which a cut falls.
     fn keep(&mut self, stepped: &Stepped)
         ensures { Keeps has_seen keeps self.old self.new stepped.now };
 

@@ -17,7 +17,7 @@ use thy_view::{Computer, Stepped};
 /// Why a row of quiet cycles ended.
 #[derive(Drop)]
 pub enum Pause {
-    /// As many cycles as the limit allows are done.
+    /// The number of cycles that the limit allows is done.
     Limit,
     /// The next step is taken, and has something to report.
     Steps(Stepped),
@@ -58,8 +58,8 @@ fn pass_other<M: Computer, N: Nvm, O: Observer>(
     None
 }
 
-/// Runs cycles while they have nothing to report: no event, and no cut that is due. So many were done before. It answers
-/// how many are done then, and why no more are. The observer sees each.
+/// Runs cycles while they have nothing to report: no event, and no cut. `done` cycles were done before. It answers how
+/// many are done then, and why no more are. The observer sees each.
 pub fn run_quiet<M: Computer, N: Nvm, O: Observer>(
     progress: &mut Progress<M>,
     plan: &Plan,

@@ -21,7 +21,7 @@ pub fn write_lines<R: Sink>(events: &Events, first: usize, telling: Telling, rep
     false
 }
 
-/// Writes what the terminal is due, if anything, and returns whether it failed.
+/// Writes the bytes that the terminal has to get, if there are any, and returns whether it failed.
 pub fn write_bytes<T: Sink>(bytes: &[u8], terminal: &mut T) -> bool
     ensures bytes { Sent result (T.stream terminal.old) (T.stream terminal.new) bytes.now }
     ensures none { bytes.now ≡ [] → result ≡ false }
@@ -54,8 +54,8 @@ impl Failures {
     }
 }
 
-/// Reports a cycle: the terminal's bytes first, and then the lines of the events from `first` on. If one of
-/// the two fails, the other still gets all that it is due. A sink that is due nothing does not fail.
+/// Reports a cycle: the terminal's bytes first, and then the lines of the events from `first` on. If one of the two
+/// fails, the other still gets all that it has to get. A sink that has nothing to get does not fail.
 pub fn tell<T: Sink, R: Sink>(
     bytes: &[u8],
     events: &Events,

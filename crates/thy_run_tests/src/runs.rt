@@ -32,8 +32,8 @@ static EXIT_SEVEN: [u8; 132] = [
     0x73, 0x00, 0x00, 0x00,
 ];
 
-/// `auipc t0,0; lw t1,24(t0); sw t1,16(t0); fence.i; addi a0,zero,1; jal zero,+8; addi a0,zero,9;
-/// addi a7,zero,93; ecall`: it puts its seventh word in place of its fifth.
+/// `auipc t0,0; lw t1,24(t0); sw t1,16(t0); fence.i; addi a0,zero,1; jal zero,+8; addi a0,zero,9; addi a7,zero,93;
+/// ecall`: it writes its seventh word over its fifth.
 static SELF_MODIFYING: [u32; 9] = [
     0x00000297, 0x0182a303, 0x0062a823, 0x0000100f, 0x00100513, 0x0080006f, 0x00900513, 0x05d00893,
     0x00000073,
@@ -52,9 +52,9 @@ struct Given {
     report: Vec<u8>,
 }
 
-/// The files of these tests: the program that exits with 7 under the name F, the one that modifies itself
-/// under S, the one that is not a program under Z, and 63 bytes of the first under G; the one that prints under P,
-/// and those of several epochs under E, N and D.
+/// The files of these tests: the program that exits with 7 under the name F, the one that modifies itself under S, the
+/// one that is not a program under Z, and 63 bytes of the first under G. The program that prints is under P, and the
+/// programs of several epochs are under E, N and D.
 fn files(alloc: Global) -> Result<Vec<(String, Vec<u8>)>, AllocError> {
     let modifying = file_of(alloc, 0, &SELF_MODIFYING)?;
     let nothing = file_of(alloc, 0, &NO_INSTRUCTION)?;
@@ -92,7 +92,8 @@ fn called(
     called_on(alloc, line, &mut shelf, unseen, untold)
 }
 
-/// The same over a shelf that is kept.
+/// Calls with the arguments, separated by spaces, over a shelf that is kept, and a terminal and a report that fail at
+/// these calls.
 fn called_on(
     alloc: Global,
     line: &str,
@@ -104,7 +105,8 @@ fn called_on(
     called_over(alloc, line, shelf, unseen, untold, &mut nvm)
 }
 
-/// The same over any shelf, and over this device.
+/// Calls with the arguments, separated by spaces, over any shelf, over this device, and over a terminal and a report
+/// that fail at these calls.
 fn called_over<H: Shelf, N: Nvm>(
     alloc: Global,
     line: &str,
@@ -346,7 +348,7 @@ fn without_overlapped(line: &str) -> &str {
     }
 }
 
-/// Whether a report has these lines, in which those of commits end with the epoch.
+/// Whether a report has these lines, in which the lines of commits end with the epoch.
 fn tells(report: &[u8], wanted: &str) -> bool {
     let Ok(report) = std::str::from_utf8(report) else {
         return false;

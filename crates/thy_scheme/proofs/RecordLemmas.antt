@@ -28,12 +28,12 @@ Keeps-same K s n = record {
   sealed_storeless = refl;
 }
 
--- a block of the record and one of the tables are due at any time
+-- a block of the record and one of the tables may be written at any time
 pub due-slot : (k : CheckpointMarks) (record_block : Bool) → IsDue (if record_block then StateBlock else TableBlock) k
 due-slot k true = tt
 due-slot k false = tt
 
--- and leave the marks as they were
+-- blocks of the record and of the tables leave the marks as they were
 pub marks-slot : (k : CheckpointMarks) (record_block : Bool) → marks_after (if record_block then StateBlock else TableBlock) k ≡ k
 marks-slot k true = refl
 marks-slot k false = refl

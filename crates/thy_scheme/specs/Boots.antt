@@ -74,14 +74,14 @@ pub record BootFails {S : Type 0} (K : SchemeOf S) (o : Origin) (s : S) (n new :
   pub safe : Safe K.decode o (K.boot_view o s n).done (doubt_after_fault acted.action (K.boot_view o s n)) new
   pub still : (m : Mark) → (K.boot_view o s n).done ≡ Some m → K.migrates s ≡ false → HasFailed n new
 
--- the boot and what is seen of it are as before
+-- the boot continues, and what it shows is as before
 pub record BootStays {S : Type 0} (K : SchemeOf S) (o : Origin) (s : S) (n : Device) (t : S) (new : Device) : Type 0 where
   pub boots : K.boots o t new
   pub view : K.boot_view o t new ≡ K.boot_view o s n
   pub left : K.boot_left t ≡ K.boot_left s
   pub read : K.has_read t ≡ K.has_read s
 
--- one write of the DRAM lands while it boots
+-- one write of the DRAM lands during the boot
 pub record BootDrains {S : Type 0} (K : SchemeOf S) (o : Origin) (s : S) (n : Device) (t : S) : Type 0 where
   pub stays : BootStays K o s n t n
   pub dram : K.dram t ≡ drained (K.dram s)

@@ -44,7 +44,7 @@ pub record IsOneAccess {S : Type 0} (K : SchemeOf S) (s : S) (n : Device) (t : S
   pub frame : IsFramed n new
   pub stays : K.stays s n t new
 
--- what a successful store of a block leaves, by its result
+-- what a successful store of a block leaves, by what the store returned
 abbrev pub Stores : {S : Type 0} → SchemeOf S → Stored → ℕ → Block → S → Device → S → Device → Type 0
 Stores K stored b block s n t new = HasStored stored b block (K.holding s n) (K.holding t new)
 
@@ -105,7 +105,7 @@ pub record Promotes {S : Type 0} (K : SchemeOf S) (o : Origin) (k : CheckpointMa
   pub queue : queued_in K t new ≤ queued_in K s n + 1
   pub nearer : K.promotions_left t + 1 ≡ K.promotions_left s
 
--- that failed, in its read
+-- the promotion of a block failed in its read
 pub record PromotionFails (n new : Device) : Type 0 where
   pub failed : HasFailed n new
   pub frame : IsFramed n new
@@ -144,8 +144,8 @@ pub record Seals {S : Type 0} (K : SchemeOf S) (o : Origin) (k : CheckpointMarks
   pub storeless : K.storeless t ≡ true
   pub sealed_storeless : K.sealed_storeless t ≡ K.storeless s
 
--- a step of the engine is due: the commit block is written, once, and then the epoch committed, only while it is sealed;
--- the other steps also apply what a committed checkpoint has written
+-- the engine may take this step: it writes the commit block, once, and then commits the epoch, only while that is
+-- sealed; the other steps may also apply what a committed checkpoint has written
 abbrev pub IsDue : EngineStep → CheckpointMarks → Type 0
 IsDue Idle k = ⊥
 IsDue CommitWritten k = (k.written ≡ false) × ((m : Mark) × (k.sealed ≡ Some m))
@@ -160,7 +160,7 @@ writes_block StateBlock = true
 writes_block TableBlock = true
 writes_block step = false
 
--- what a cycle did with this step, if so many instructions were retired since the seal
+-- what a cycle did with this step, if `lap` instructions were retired since the seal
 abbrev pub engine_did : ℕ → EngineStep → Did
 engine_did lap (Committed epoch) = DidCommit epoch lap
 engine_did lap step = Engine step

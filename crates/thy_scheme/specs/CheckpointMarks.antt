@@ -10,7 +10,7 @@ pub record CheckpointMarks : Type 0 where
   pub done : Mark
   -- the checkpoint that is sealed and not yet committed
   pub sealed : Option Mark
-  -- its commit block was written, and no barrier has come since
+  -- the sealed checkpoint's commit block was written, and no barrier has come since
   pub written : Bool
 
 -- one committed checkpoint, and none sealed
@@ -21,7 +21,7 @@ only m = record { done = m; sealed = None; written = false }
 abbrev pub doubt_in : CheckpointMarks → Option Mark
 doubt_in k = if k.written then k.sealed else None
 
--- after a step of the engine
+-- the marks after a step of the engine
 abbrev pub marks_after : EngineStep → CheckpointMarks → CheckpointMarks
 marks_after CommitWritten k = record k { written = true }
 marks_after (Committed epoch) k = only (unwrap_or k.sealed k.done)

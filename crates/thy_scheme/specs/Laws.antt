@@ -36,13 +36,13 @@ pub record IsNew {S : Type 0} (K : SchemeOf S) (p : Parameters) (s : S) : Type 0
   pub queued : K.queued s ≡ 0
   pub boot_left : K.boot_left s ≤ K.most_booting p
 
--- over such an NVM it boots what the image means
+-- over an NVM as it was found, a scheme boots what the image means
 pub record BootsFound {S : Type 0} (K : SchemeOf S) (o : Origin) (s : S) (n : Device) : Type 0 where
   pub boots : K.boots o s n
   pub view : K.boot_view o s n ≡ view_of_image o.start.count (K.decode o.geometry ceiling n.image)
 
--- what holds in the boot: a cut leaves what is seen, a drain of the NVM does not change that, and if a checkpoint was
--- found nothing is queued there, unless the boot migrates
+-- what holds in the boot: a cut leaves what the boot shows, a drain of the NVM does not change that, and if a
+-- checkpoint was found nothing is queued there, unless the boot migrates
 pub record BootHolds {S : Type 0} (K : SchemeOf S) (o : Origin) (s : S) (n : Device) : Type 0 where
   pub of_geometry : K.is_of o.geometry s
   pub sized : length n.image ≡ K.blocks o.geometry
@@ -52,7 +52,7 @@ pub record BootHolds {S : Type 0} (K : SchemeOf S) (o : Origin) (s : S) (n : Dev
   pub drains : 0 < length n.queue → BootStays K o s n s (drained n)
   pub settled : (m : Mark) → (K.boot_view o s n).done ≡ Some m → K.migrates s ≡ false → n.queue ≡ []
 
--- no number is above its maximum
+-- no number of a scheme is above its maximum
 pub record IsBounded {S : Type 0} (K : SchemeOf S) (p : Parameters) (s : S) (n : Device) : Type 0 where
   pub engine : K.engine_left s ≤ K.most_engine p
   pub merges : K.merges_left s ≤ K.most_merges p
@@ -60,7 +60,7 @@ pub record IsBounded {S : Type 0} (K : SchemeOf S) (p : Parameters) (s : S) (n :
   pub owed : owed_in K s n ≤ K.most_owed p
   pub free : K.free s ≤ K.most_free p
 
--- memory as the committed checkpoint has it makes its state
+-- with some processor, memory of the committed checkpoint is the state at its count
 pub record IsCommitted {S : Type 0} (K : SchemeOf S) (o : Origin) (count : ℕ) (s : S) (n : Device) : Type 0 where
   pub blocks : length (K.committed s n) ≡ memory_blocks o.geometry
   pub cpu : CpuState
@@ -109,12 +109,12 @@ pub record IsLawful {S : Type 0} (K : SchemeOf S) : Type 0 where
   -- an image of zeros has no checkpoint
   pub finds_nothing : (p : Parameters) (shape : Shape) (n : Device)
       → shape.blocks ≡ K.blocks p → K.decode p ceiling (fitted shape [] n).image ≡ Nothing
-  -- the boot
+  -- what holds when a boot begins, and during it
   pub finds : (o : Origin) (s : S) (n : Device) → IsOrigin o → K.powered o.geometry s → IsFound K o n → BootsFound K o s n
   pub boot_holds : (o : Origin) (s : S) (n : Device) → IsBooting K o s n → BootHolds K o s n
-  -- what is seen of it is the same with other turns
+  -- what a boot shows is the same with other turns
   pub boot_alike : (o : Origin) (turns : List ℕ) (s : S) (n : Device) → K.boot_view (told o turns) s n ≡ K.boot_view o s n
-  -- after the boot
+  -- what holds of a lawful scheme after the boot
   pub run_holds : (o : Origin) (k : CheckpointMarks) (s : S) (n : Device) → Stands K o k s n → RunHolds K o k s n
   -- blocks are held only while the NVM is up, and are stored only if no page is being promoted
   pub up : (s : S) (n : Device) (b : ℕ) → b < length (K.holding s n).blocks → n.down ≡ false

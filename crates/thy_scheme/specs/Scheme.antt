@@ -13,7 +13,7 @@ use Rattle.thy_view.specs.Origin.{Origin, Begins}
 use Rattle.thy_scheme.specs.CheckpointMarks.{CheckpointMarks}
 use Rattle.thy_scheme.specs.Exact.{CallsOf}
 
--- what is seen of schemes of a type, over the NVM below them
+-- what schemes of a type mean, and what they show, over the NVM below them
 pub record SchemeOf (S : Type 0) : Type 1 where
   -- what an image of the NVM means
   pub decode : Reading
@@ -56,7 +56,7 @@ pub record SchemeOf (S : Type 0) : Type 1 where
   -- what is then seen of it, and whether the commit block was read
   pub boot_view : Origin → S → Device → View
   pub has_read : S → Bool
-  -- the image that it found has an older form, and the boot writes that checkpoint anew in the form of today
+  -- the image that the boot found has an older form, and the boot writes that checkpoint anew in the form of today
   pub migrates : S → Bool
   -- actions that the boot has left, cycles of the engine, merges and promotions, and the most of each
   pub boot_left : S → ℕ
@@ -73,16 +73,16 @@ pub record SchemeOf (S : Type 0) : Type 1 where
   -- what each call makes exactly
   pub calls : CallsOf S
 
--- it stays one of its geometry
+-- a scheme keeps its geometry
 abbrev pub StaysOf : {S : Type 0} → SchemeOf S → S → S → Type 0
 StaysOf K s t = (p : Parameters) → K.is_of p s → K.is_of p t
 
--- after the boot, over an NVM that is up
+-- a scheme after the boot of a run, over an NVM that is up
 pub record Stands {S : Type 0} (K : SchemeOf S) (o : Origin) (k : CheckpointMarks) (s : S) (n : Device) : Type 0 where
   pub sound : K.is_sound o k s n
   pub up : n.down ≡ false
 
--- so it is for some run
+-- the scheme is after the boot of some run, over an NVM that is up
 pub record CanRun {S : Type 0} (K : SchemeOf S) (s : S) (n : Device) : Type 0 where
   pub o : Origin
   pub k : CheckpointMarks
@@ -93,7 +93,7 @@ pub record IsBooting {S : Type 0} (K : SchemeOf S) (o : Origin) (s : S) (n : Dev
   pub boots : K.boots o s n
   pub up : n.down ≡ false
 
--- so it is for a run with this start
+-- the scheme is in the boot of some run with this start, over an NVM that is up
 pub record CanBoot {S : Type 0} (K : SchemeOf S) (start : Start) (s : S) (n : Device) : Type 0 where
   pub o : Origin
   pub begins : Begins o start

@@ -29,10 +29,10 @@ use thy_view::BootStep;
 /// Only `new` allocates. A call returns `NvmError` only if the NVM failed; after that only `cut` may be called. A call that
 /// succeeds makes exactly what `scheme.calls` says of it.
 pub trait Scheme: Drop {
-    /// What is seen of it.
+    /// What the scheme means and shows.
     ghost scheme: { SchemeOf Self };
 
-    /// How many blocks its NVM has.
+    /// How many blocks the scheme's NVM has.
     fn nvm_blocks(geometry: &Geometry) -> u64
         ensures { result ≡ scheme.blocks geometry.now };
 

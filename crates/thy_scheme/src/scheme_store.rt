@@ -6,7 +6,7 @@ use thy_base::{Block, BlockStore, Nvm, NvmError, Stored};
 #[derive(Drop)]
 pub struct SchemeStore<S> {
     pub scheme: S,
-    /// Its owner has marked it as calm, and no block was loaded or stored through it since.
+    /// The store's owner has marked it as calm, and no block was loaded or stored through it since.
     pub calm: bool,
 }
 

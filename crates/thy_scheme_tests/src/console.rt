@@ -42,7 +42,7 @@ fn a_terminal_that_fails_is_told(rt: HostRuntime) -> Result<(), Fail> {
     Ok(())
 }
 
-/// Runs that read, up to the scheme's word and behind it, and how they end: with four bytes at the start's sp, or with
+/// Runs that read, up to the scheme's word and after it, and how they end: with four bytes at the start's sp, or with
 /// none. Of memory the SHA-256 is reported, computed by another program.
 static READ: [(&str, &str, &str); 6] = [
     ("run R --scheme", "--input A", "\nexit 4 at 6\n"),
@@ -105,7 +105,7 @@ fn a_resumed_program_wants_the_input_that_it_has_read(rt: HostRuntime) -> Result
     Ok(())
 }
 
-/// The shelf's third call is the put, behind the fetches of the program and of its input.
+/// The shelf's third call is the put, after the fetches of the program and of its input.
 #[test]
 fn a_save_that_is_not_put_has_its_line(rt: HostRuntime) -> Result<(), Fail> {
     let alloc = rt.alloc();

@@ -4,8 +4,8 @@ use std::alloc::{AllocError, Global};
 use std::process::Abort;
 use std::test::Fail;
 
-/// Cuts of the program that exits with 7, with the report: at the write of the checkpoint's commit block, and behind
-/// the drain by which it lands.
+/// Cuts of the program that exits with 7, with the report: at the write of the checkpoint's commit block, and after the
+/// drain by which it lands.
 static CUT_RUNS: [(&str, &str); 4] = [
     (
         "--cuts 714 --tears 0",
@@ -62,16 +62,16 @@ pub(crate) static PRINTS: Case = Case {
     last: "\nexit 3 at 8\n",
 };
 
-/// Its first epoch ends because no entry of the journal is free, or because the frames of shadow paging are as few as the
-/// dirty lines. Then the journal writes eight blocks home; shadow paging copies the page into a frame before each of its two
-/// checkpoints, and writes it to another page of the pool each time.
+/// A run whose first epoch ends because no entry of the journal is free, or because the frames of shadow paging are as
+/// few as the dirty lines. Then the journal writes eight blocks home; shadow paging copies the page into a frame before
+/// each of its two checkpoints, and writes it to another page of the pool each time.
 pub(crate) static EXHAUSTS: Case = Case {
     run: "N",
     printed: "",
     last: "\nexit 0 at 11\n",
 };
 
-/// Each of its four instructions is an epoch.
+/// A run of four instructions, each of which is an epoch.
 pub(crate) static FOUR_EPOCHS: Case = Case {
     run: "E --epoch 1",
     printed: "",
@@ -135,7 +135,7 @@ pub(crate) fn cut_everywhere(
     Ok(())
 }
 
-/// A second cut, so many cycles behind a first one that falls once the start is committed: the run ends alike.
+/// A second cut, `behind` cycles after a first one that falls once the start is committed: the run ends alike.
 pub(crate) fn cut_twice(
     rt: &impl Abort,
     alloc: Global,
@@ -153,9 +153,9 @@ pub(crate) fn cut_twice(
     Ok(())
 }
 
-/// What the first boot behind a cut reports of the program that exits with 7: the commit block of loading is written in
-/// cycle 695 and committed in 696; that of the checkpoint is written in 714, drained in 715 and committed in 716. Each
-/// is then the only write that is queued, and `lands` tells whether the cut lets it land.
+/// What the first boot after a cut reports of the program that exits with 7. The commit block of loading is written in
+/// cycle 695 and committed in 696; the checkpoint's is written in 714, drained in 715 and committed in 716. Each is
+/// then the only write that is queued, and `lands` says whether the cut lets it land.
 fn comes_after(cycle: u64, lands: bool) -> &'static str {
     if cycle < 695 || (cycle == 695 && !lands) {
         "reload"

@@ -25,10 +25,10 @@ struct Commit {
     is_drained: bool,
 }
 
-/// Each cycle up to loading's last barrier, in cycle 696, is one call: the commit block of epoch 0 is written in cycle 695.
-/// After the barrier come the read of the block that has the program, the five blocks of the processor's record and one of
-/// the table, or of the map, with two drains in between, a barrier, the commit block of epoch 1, a drain that lets it land,
-/// and its barrier: calls 697 to 709.
+/// Each cycle up to loading's last barrier, in cycle 696, is one call: the commit block of epoch 0 is written in cycle
+/// 695. After the barrier come calls 697 to 709. They are the read of the block that has the program, the five blocks
+/// of the processor's record and one of the table, or of the map, with two drains in between. A barrier, the commit
+/// block of epoch 1, a drain that lets it land, and its barrier follow.
 const STARTED: Commit = Commit {
     call: 695,
     is_drained: false,

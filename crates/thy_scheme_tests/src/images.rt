@@ -168,7 +168,8 @@ fn expect_at_length(
     expect_on(rt, alloc, shelf, line.as_str(), 5, report)
 }
 
-/// Resumes an image of so many blocks at every length up to the slots, and then at those around the end of each block.
+/// Resumes an image of `blocks` blocks at every length up to the slots, and then at the lengths around the end of each
+/// block.
 pub(crate) fn expect_at_lengths(
     rt: &impl Abort,
     alloc: Global,
@@ -212,7 +213,7 @@ fn a_commit_block_with_a_byte_of_255_is_none(rt: HostRuntime) -> Result<(), Fail
     Ok(())
 }
 
-/// A run that is saved at a limit, at each one behind its loading and before this one, and resumed.
+/// A run that is saved at a limit, at each one after its loading and before this one, and resumed.
 pub(crate) fn run_in_pieces(
     rt: &impl Abort,
     alloc: Global,

@@ -9,8 +9,8 @@ fn empty(alloc: Global) -> MemShelf {
     MemShelf::new(Vec::new(alloc), Vec::new(alloc))
 }
 
-/// The schemes, with a size by which an entry of the journal, or a frame of shadow paging, is always free in runs of a made
-/// program: 256 pages have at most as many of the 512 frames, and the cache has 64 lines.
+/// The schemes, with a size by which an entry of the journal, or a frame of shadow paging, is always free in runs of a
+/// made program. For 256 pages no more than 256 of the 512 frames are used, and the cache has 64 lines.
 static SIZES: [(&str, &str); 2] = [(JOURNAL, "--btt 4096"), (SHADOW, "--ptt 512")];
 
 /// Sums of such runs, by their options up to the scheme's word. The hart waits for each checkpoint.

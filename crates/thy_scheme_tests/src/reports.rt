@@ -53,11 +53,12 @@ const MODIFIES: &str = "commit 0 overlapped 0\n\
      commit 3 overlapped 0\n\
      exit 9 at 8\n";
 
-/// Runs that exit, up to the scheme's word, with the report: nine stores to one page, of which eight fill the journal's
-/// table, or leave as many dirty lines as there are frames, so that the ninth begins the next epoch; five stores over two
-/// blocks each, of which four do the same; a program that modifies itself over an epoch's end, with caches of 64 lines and
-/// of one; and four instructions in as many epochs. With the journal each block that an epoch has stored takes an entry,
-/// which is free again once it was applied; with shadow paging each page takes a frame, which is free again with the commit.
+/// Runs that exit, up to the scheme's word, with the report. First come nine stores to one page. Eight of them fill the
+/// journal's table, or leave a dirty line for each frame, so that the ninth begins the next epoch. Then come five
+/// stores over two blocks each, of which four do the same; a program that modifies itself over an epoch's end, with
+/// caches of 64 lines and of one; and four instructions in four epochs. With the journal each block that an epoch has
+/// stored takes an entry, which is free again once it was applied; with shadow paging each page takes a frame, which is
+/// free again with the commit.
 static REPORTS: [(&str, &str); 6] = [
     (
         "thynvm run N --pages 8 --btt 8 --ptt 8 --scheme",
@@ -133,7 +134,7 @@ fn runs_report_their_epochs(rt: HostRuntime) -> Result<(), Fail> {
     Ok(())
 }
 
-/// Arguments that name no scheme, with the report. The scheme is looked at behind the numbers before it.
+/// Arguments that name no scheme, with the report. The scheme is tested after the numbers before it.
 static NO_SCHEMES: [(&str, &str); 4] = [
     ("thynvm run F --scheme x", "word scheme\n"),
     ("thynvm run F --scheme shadows", "word scheme\n"),

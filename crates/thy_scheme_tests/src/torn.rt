@@ -160,7 +160,8 @@ fn runs_end_alike_over_a_device_that_tears(rt: HostRuntime) -> Result<(), Fail> 
     Ok(())
 }
 
-/// A second cut: at every seventh cycle of a loading, and at each of the recovery behind a cut that may tear a commit block.
+/// A second cut: at every seventh cycle of a loading, and at each of the recovery after a cut that may tear a commit
+/// block.
 #[test]
 fn boots_that_are_cut_end_alike_over_a_device_that_tears(rt: HostRuntime) -> Result<(), Fail> {
     let alloc = rt.alloc();

@@ -42,7 +42,7 @@ pub memory_place : (p : Parameters) (table : List (Option ℕ)) (k otherwise : �
 memory_place p table k otherwise l =
     get_or-map-range_with_len (place_of p table) 0 (memory_blocks p) k k otherwise l (omega arith)
 
--- each is that of a block
+-- each place of memory is the place of a block
 pub memory_place_of : (p : Parameters) (table : List (Option ℕ)) (x : ℕ) → Contains (memory_places p table) x
     → (b : ℕ) × (b < memory_blocks p) × (place_of p table b ≡ x)
 memory_place_of p table x (k, l, is) =
@@ -57,7 +57,7 @@ page_listed p table b h l =
     let of = h.mapped (page_of b) low in
     (of.0, of.1, ap (λ e. pool_place p (pool_page e) (b % 64)) of.1.is)
 
--- so its place lies after the slots, within the image
+-- the place of a block lies after the slots, within the image
 pub place_behind : (p : Parameters) (table : List (Option ℕ)) (b : ℕ) → IsMap p table → b < memory_blocks p
     → (first_pool p ≤ place_of p table b) × (place_of p table b < image_blocks p)
 place_behind p table b h l =

@@ -29,7 +29,7 @@ both_so : (x : ℕ) (a b : Bool) → (if a && b then None else Some (TableIndex 
 both_so x true true h = (refl, refl)
 both_so x a b h = cc
 
--- and an entry without a fault that lists one is of a page of memory, and lists one of the pool
+-- an entry without a fault that lists a page is of a page of memory, and lists a page of the pool
 pub lists_right : (p : Parameters) (x q : ℕ) → stray p x (Some q) ≡ None → (x < p.pages) × (q < pool_pages p)
 lists_right p x q h =
     let so = both_so x (nat_lt x p.pages) (nat_lt q (pool_pages p)) h in

@@ -48,11 +48,11 @@ FaultlessIsMap =
 
 -- ---- the checkpoint of an epoch
 
--- the places of memory's blocks in it, in their order
+-- the places of memory's blocks in the checkpoint, in the order of the blocks
 abbrev pub memory_places : Parameters → List (Option ℕ) → List ℕ
 memory_places p table = map (place_of p table) (range_with_len 0 (memory_blocks p))
 
--- where its parts go, with this map
+-- where the parts of a checkpoint go, with this map
 abbrev pub parts_by : Parameters → CpuState → List (Option ℕ) → ℕ → CheckpointParts
 parts_by p cpu table epoch = record {
   slot_place = slot_place p (slot_of_epoch epoch);
@@ -61,7 +61,7 @@ parts_by p cpu table epoch = record {
   memory = memory_places p table;
 }
 
--- the first k blocks of its slot were issued, and memory is to be these blocks; its map is that of a checkpoint
+-- the first k blocks of a slot were issued, and memory is to be these blocks; the map is one that a checkpoint may have
 pub record IsIssuing (p : Parameters) (n : Device) (cpu : CpuState) (table : List (Option ℕ)) (epoch : ℕ)
     (memory : List Block) (k : ℕ) : Type 0 where
   pub whole : IsMap p table
@@ -73,7 +73,7 @@ pub record IsToldBy (p : Parameters) (image : List Block) (epoch : ℕ) (table :
   pub table_is : table_in p (slot_in (shadow_layouts p) image) ≡ table
   pub whole : IsMap p table
 
--- the next image, with the commit block of this epoch, is the checkpoint, tells its map, and lacks no other write
+-- the next image, with the commit block of this epoch, is the checkpoint, has its map, and lacks no other write
 pub record IsIssuedCheckpoint (p : Parameters) (ceiling : ℕ) (n : Device) (cpu : CpuState) (table : List (Option ℕ)) (epoch : ℕ)
     (memory : List Block) : Type 0 where
   pub told : IsToldBy p (next_image n (commit_of epoch)) epoch table

@@ -15,12 +15,12 @@ pub data Target : Type 0 where
   SlotBlock : (s k : ℕ) → Target
   PoolBlock : (q c : ℕ) → Target
 
--- the number of the block that it writes
+-- the number of the block that a target's write goes to
 abbrev pub target_place : Parameters → Target → ℕ
 target_place p (SlotBlock s k) = slot_place p s + k
 target_place p (PoolBlock q c) = pool_place p q c
 
--- the target is there
+-- the target lies within the image
 abbrev pub IsTarget : Parameters → Target → Type 0
 IsTarget p (SlotBlock s k) = (s < 2) × (k < slot_blocks p)
 IsTarget p (PoolBlock q c) = (q < pool_pages p) × (c < 64)
@@ -31,7 +31,7 @@ abbrev pub IsFree : ℕ → List (Option ℕ) → Target → Type 0
 IsFree epoch table (SlotBlock s k) = s ≢ slot_of_epoch epoch
 IsFree epoch table (PoolBlock q c) = (x : ℕ) → Lists table x q → ⊥
 
--- it is none of the blocks that tell what the image of that checkpoint means
+-- a free block is none of the blocks that determine what the image of that checkpoint means
 abbrev pub FreeIsNotLooked : Type 0
 FreeIsNotLooked =
     (p : Parameters) (image : List Block) (epoch : ℕ) (table : List (Option ℕ)) (x : Target)

@@ -7,7 +7,7 @@ use Rattle.thy_base.specs.Places.{record_blocks}
 use Rattle.thy_base.specs.Store.{page_of}
 use Rattle.thy_layout.specs.Entries.{entry_at}
 
--- the number of this scheme, which its header has
+-- the number of the scheme, as headers have it
 abbrev pub scheme_number : ℕ
 scheme_number = 2
 

@@ -29,7 +29,7 @@ abbrev pub stray : Parameters → ℕ → Option ℕ → Option BadImage
 stray p x None = if nat_lt x p.pages then Some (TableIndex x) else None
 stray p x (Some q) = if nat_lt x p.pages && nat_lt q (pool_pages p) then None else Some (TableIndex x)
 
--- the first of them, of entries of which the first has number k
+-- the first fault of some entries, of which the first has number k
 abbrev pub first_stray : Parameters → ℕ → List (Option ℕ) → Option BadImage
 first_stray p k [] = None
 first_stray p k (e ∷ es) = option_or (stray p k e) (first_stray p (k + 1) es)

@@ -21,7 +21,7 @@ FoundIsSo =
     (p : Parameters) (table : List (Option ℕ)) (bad : BadImage)
     → length table ≡ 8 * map_blocks p → table_fault p table ≡ Some bad → Says (IsStray p table) table bad
 
--- and a refusal of which this holds is found
+-- a refusal that holds of the map is found
 abbrev pub SoIsFound : Type 0
 SoIsFound =
     (p : Parameters) (table : List (Option ℕ)) (bad : BadImage)

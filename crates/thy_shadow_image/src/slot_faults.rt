@@ -18,9 +18,10 @@ fn table_fault(slot: &[u8], geometry: &Geometry) -> Option<BadImage>
     index_fault(slot, geometry).or(twice_fault(map, 0))
 }
 
-/// The first fault of the slot with these bytes under a commit block of this epoch, if it has one: a record of
-/// another epoch, a map that no checkpoint has, a status without meaning or a count that is not below the ceiling,
-/// a console longer than its pages, or words of the second hart without meaning.
+/// The first fault of the slot with these bytes under a commit block of this epoch, if it has one: in the epoch, the
+/// map, the status, the count, the console's length or the second hart. The record may be of another epoch, and the map
+/// such as no checkpoint has. The status may be without meaning, the count not below the ceiling, the console longer
+/// than its pages, and words of the second hart without meaning.
 pub fn slot_fault(slot: &[u8], epoch: u64, geometry: &Geometry, ceiling: u64) -> Option<BadImage>
     requires { length slot.now ≡ 64 * slot_blocks geometry.now }
     ensures { result ≡ fault_of_slot geometry.now ceiling epoch (blocks_of slot.now) }

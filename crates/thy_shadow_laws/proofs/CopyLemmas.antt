@@ -60,7 +60,7 @@ put_there s j c block i d other =
 
 -- ---- counts
 
--- if all pass a test, as many pass as there are
+-- if all elements pass a test, the number that pass is the length
 all_count : (f : ℕ → Bool) (xs : List ℕ) → ((x : ℕ) → Contains xs x → f x ≡ true) → count_by f xs ≡ length xs
 all_count f [] all = refl
 all_count f (x ∷ xs) all =
@@ -68,7 +68,7 @@ all_count f (x ∷ xs) all =
     let first : one_if (f x) ≡ 1 = ap one_if (all x (zero, omega arith, refl)) in
     sum_by-cons (λ y. one_if (f y)) x xs ∙ omega (arith, rest, first)
 
--- and if as many pass, the first does, and each
+-- if the number of elements that pass is the length, the first one passes
 count_first : (f : ℕ → Bool) (x : ℕ) (xs : List ℕ) → count_by f (x ∷ xs) ≡ suc (length xs) → f x ≡ true
 count_first f x xs all = by_first (f x) refl where
   by_first : (b : Bool) → f x ≡ b → f x ≡ true
@@ -115,7 +115,7 @@ block_same a b h = (bytes_eq-Decides a.0 b.0).1 (ap (λ (x : Block). x.0) h)
 abbrev pub AreCopied : State → Device → ℕ → ℕ → Type 0
 AreCopied s n x k = (c : ℕ) → c < k → frame_block s (free_frame s) c ≡ newest n (page_place s x c)
 
--- so it is with the page that it is begun for
+-- if the copies agree, the frame that is begun has what the NVM has of its page
 pub begun_copied : (s : State) (n : Device) (b : Begun) → agree_by s n (Some b) ≡ true → AreCopied s n b.page b.copied
 begun_copied s n b agree c l =
     same_block (frame_block s (free_frame s) c) (newest n (page_place s b.page c)) (each_passes (agrees s n b.page) b.copied agree c l)
@@ -130,6 +130,6 @@ module _ (s : State) (n : Device) (x : ℕ) where
   copied_by_begun None agree = λ c l. absurd (omega (arith, l))
   copied_by_begun (Some b) agree = copied_page b (b.page == x) refl agree
 
-  -- if the copies agree, so are those of any page
+  -- if the copies agree, the copies for any page do
   pub are_copied : copies_agree s n ≡ true → AreCopied s n x (copies_for x s)
   are_copied agree = copied_by_begun s.begun agree

@@ -209,7 +209,7 @@ module _ (e : Progress) (s : State) (n : Device) (moment : IsMoment shadow_desig
     whole = IsMap-next s moment.sound;
   }
 
-  -- its place is that of its epoch
+  -- the slot of a checkpoint is at the place of its epoch's slot
   place_is : (k : ℕ) → (shadow_layouts e.p).slot_place (commit_of e.epoch) + k ≡ slot_place s.p (e.epoch % 2) + k
   place_is k =
       ap (λ (x : ℕ). slot_place e.p (x % 2) + k) epoch_is ∙ ap (λ (p : Parameters). slot_place p (e.epoch % 2) + k) (sym can.same_p)
@@ -230,7 +230,7 @@ module _ (e : Progress) (s : State) (n : Device) (moment : IsMoment shadow_desig
 
 -- ---- a write of the slot's own, or of the commit block
 
--- one before the pool leaves memory and the pages of the frames
+-- a write before the pool leaves memory and the pages of the frames
 over_before : (epoch : ℕ) (s : State) (n : Device) → IsMoment shadow_design Made epoch s n
     → (x : ℕ) (block : Block) → x < first_pool s.p
     → Carries shadow_design epoch Made s n Made s (written_to n x block)

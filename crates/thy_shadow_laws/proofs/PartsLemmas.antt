@@ -65,7 +65,7 @@ page_first p dram sound x l =
 pub first_committed : (p : Parameters) (dram : Contents) → IsSoundState (new_state p dram) → committed_table (new_state p dram) ≡ first_table p
 first_committed p dram sound = table_by-same p (pool_of (new_state p dram)) (λ x. Some x) (page_first p dram sound)
 
--- and no frame is filled or begun
+-- a new pool is as when power comes on: no frame is filled or begun
 new_fresh : (p : Parameters) (dram : Contents) → IsInRange p → IsDramOf p dram → IsFresh (new_state p dram)
 new_fresh p dram range is =
     let sound : IsSoundState (new_state p dram) =

@@ -37,7 +37,7 @@ work_same : (s : State) (m n : Device) (b : ℕ) (o : Option ℕ) → committed_
 work_same s m n b None h = h
 work_same s m n b (Some j) h = refl
 
--- so if each block reads where it was committed as before, all load as before
+-- all blocks load as before if each reads as before where it was committed
 pub works_same : (s : State) (m n : Device) → ((b : ℕ) → b < memory_blocks s.p → committed_of s n b ≡ committed_of s m b)
     → works s n ≡ works s m
 works_same s m n same =
@@ -58,7 +58,7 @@ place_committed s b l =
     ap (λ (e : Option ℕ). pool_place s.p (pool_page e) (b % 64))
     (listed_at-table_by s.p (pool_of s) (page_of b) inside ∙ entry_page s.p (pool_of s) (page_of b) low)
 
--- so it lies behind the slots, within the image
+-- a block lies, where it was committed, after the slots, within the image
 pub committed_behind : (s : State) (b : ℕ) → IsSoundState s → b < memory_blocks s.p
     → (first_pool s.p ≤ committed_place s b) × (committed_place s b < image_blocks s.p)
 committed_behind s b h l =
@@ -92,7 +92,7 @@ module _ (s : State) (h : IsSoundState s) where
   target_is : (j c : ℕ) (some : is_some (entry_at s.frames j) ≡ true) → target_place s j c ≡ pool_place s.p (target_of j some).0 c
   target_is j c some = ap (λ (o : Option ℕ). pool_place s.p (pool_page o) c) (target_of j some).1
 
-  -- it is one of the pool's
+  -- the page that a filled frame goes to is one of the pool's
   pub target_small : (j q : ℕ) → target s j ≡ Some q → q < pool_pages s.p
   target_small j q is =
       subst (λ (n : ℕ). q < n) h.pool_size
@@ -118,7 +118,7 @@ module _ (s : State) (h : IsSoundState s) where
       = same_number s h (s.p.pages + i) (s.p.pages + j) there.0 (here.1 ∙ ap Some page) there.1 in
       (omega (arith, numbers), omega (arith, both, page))
 
-  -- and no block of memory was committed there
+  -- no block of memory was committed at a place that a filled frame goes to
   pub target_apart : (j c b : ℕ) → c < 64 → is_some (entry_at s.frames j) ≡ true → b < memory_blocks s.p
       → committed_place s b ≢ target_place s j c
   target_apart j c b l some k = λ e.
@@ -140,7 +140,7 @@ frame_of-committed s x =
     place_of-none page_key (mapped freed_frame s.frames) x
     (λ j. ap (lists page_key x) (entry_at-cleared freed_frame (λ e. refl) s.frames j))
 
--- every block loads as it was committed
+-- with all frames free every block loads as it was committed
 pub works-committed : (s : State) (n : Device) → works (committed_state s) n ≡ commits (committed_state s) n
 works-committed s n =
     map_below (memory_blocks s.p) (work_of (committed_state s) n)
@@ -149,7 +149,7 @@ works-committed s n =
 
 -- ---- the block that is next
 
--- it is the one that is looked for, and its frame is filled
+-- the next block is the one that is looked for, and its frame is filled
 next_by : (from k : ℕ) (some : Bool) → (if some then Some from else None) ≡ Some k → (from ≡ k) × (some ≡ true)
 next_by from k true found = (let same : from ≡ k = cc in same, refl)
 next_by from k false found = cc
@@ -168,7 +168,7 @@ next_free s from found = next_none_by from (is_some (entry_at s.frames (from / 6
 
 -- ---- places
 
--- one at which no block was committed
+-- a place at which no block was committed
 abbrev pub IsAside : State → ℕ → Type 0
 IsAside s x = (b : ℕ) → b < memory_blocks s.p → committed_place s b ≢ x
 
@@ -182,7 +182,7 @@ aside_page s sound x some b small = target_apart s sound (x / 64) (x % 64) b (om
 -- ---- memory
 
 module _ (s : State) (n : Device) (sound : IsSoundState s) (sized : length n.image ≡ image_blocks s.p) where
-  -- over a write where no block was committed
+  -- a write to a place where no block was committed leaves what loads give
   pub works_over : (x : ℕ) (block : Block) → IsAside s x → works s (written_to n x block) ≡ works s n
   works_over x block other = works_same s n (written_to n x block) (λ b l. committed_over s n x block b sound (record { nvm = sized }) l (other b l))
 
@@ -190,7 +190,7 @@ module _ (s : State) (n : Device) (sound : IsSoundState s) (sized : length n.ima
   commits_over x block other =
       commits_same s n (written_to n x block) (λ b l. committed_over s n x block b sound (record { nvm = sized }) l (other b l))
 
-  -- over a device that reads the same
+  -- each block reads where it was committed as before, over a device that reads the same
   pub committed_reads : (m : Device) → ((x : ℕ) → x < length n.image → newest m x ≡ newest n x) → (b : ℕ) → b < memory_blocks s.p
       → committed_of s m b ≡ committed_of s n b
   committed_reads m reads b small = reads (committed_place s b) (committed_inside s n b sound (record { nvm = sized }) small)
@@ -238,7 +238,7 @@ module _ (s : State) (m n : Device) (h : IsSoundState s)
       let small : c < 64 = omega (arith, row.1, row.2, of.few) in
       ap (λ (k : Block). bytes_eq (frame_block s (free_frame s) c).0 k.0) (page_same b.page c of.page small)))
 
-  -- so what was copied agrees as before
+  -- what was copied agrees as before, if every block of a page reads as before
   pub copies_same : copies_agree s n ≡ copies_agree s m
   copies_same = agree_same s.begun refl
 
@@ -309,7 +309,7 @@ module _ (s : State) (n : Device) (sound : IsSoundState s) (sized : length n.ima
         newest-written_to_other n x new (target_place s j c) (λ q. omega (arith, q, low)) (there j c l filled) ∙ h.each j c l filled;
   }
 
-  -- over a device that reads the same
+  -- blocks are in their pages over a device that reads the same
   pub paged_reads : (m : Device) (x : ℕ) → ((y : ℕ) → y < length n.image → newest m y ≡ newest n y) → ArePaged s n x → ArePaged s m x
   paged_reads m x reads h = record {
     each = λ j c l low filled. reads (target_place s j c) (there j c l filled) ∙ h.each j c l low filled;
@@ -340,7 +340,7 @@ memory_is_work s n all =
     map_places (memory_blocks s.p) (newest n) (place_of s.p (next_table s)) (work_of s n)
     (λ b l. ap (newest n) (place_next s b l) ∙ page_reads s n b (frame_of s (page_of b)) all refl)
 
--- so that is what a commit makes the committed version, and each block loads as before
+-- with all frames in their pages, what a commit makes the committed version is what each block loads
 pub commits_are_works : (s : State) (n : Device) → IsSoundState s → AllPaged s n → commits (committed_state s) n ≡ works s n
 commits_are_works s n sound all =
     sym (commits_placed (committed_state s) n)

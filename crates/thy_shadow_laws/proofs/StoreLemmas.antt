@@ -91,7 +91,7 @@ module _ (b : ℕ) (block : Block) (s : State) (n : Device) (sound : IsSoundStat
         map_set (memory_blocks s.p) (work_of into n) (work_of s n) b block small into_here
         (λ a l other. into_there a (frame_of s (page_of a)) refl other)
 
-    -- the frame is filled, so it is not the one that is begun
+    -- a filled frame is not the one that is begun
     not_free : (g : Begun) → s.begun ≡ Some g → free_frame s ≢ j
     not_free g is = λ e.
         let none = (free_first s.frames (free_frame s) (free_frame_is s (sound.begun g is).room)).1 in
@@ -141,7 +141,7 @@ module _ (b : ℕ) (block : Block) (s : State) (n : Device) (sound : IsSoundStat
     j_free : entry_at s.frames j ≡ None
     j_free = (free_first s.frames j is_lowest).1
 
-    -- so it is none that has a page
+    -- the lowest free frame is not the frame of any page
     not_lowest : (y i : ℕ) → frame_of s y ≡ Some i → i ≢ j
     not_lowest y i found = λ e.
         let both : None ≡ Some (framed y) = sym j_free ∙ ap (entry_at s.frames) (sym e) ∙ frame_has s y i found in
@@ -161,7 +161,7 @@ module _ (b : ℕ) (block : Block) (s : State) (n : Device) (sound : IsSoundStat
       copied_there a (Some i) is =
           put_there s j k copy i (a % 64) (apart_frame s.p i j (a % 64) k (omega arith) few (not_lowest (page_of a) i is))
 
-      -- each block loads as before
+      -- a copy leaves what each block loads
       pub works_copied : works copied n ≡ works s n
       works_copied =
           map-alike (work_of copied n) (work_of s n) (range_with_len 0 (memory_blocks s.p))
@@ -445,7 +445,7 @@ after_is : (b : ℕ) (block : Block) (n : Device) (s : State) → after_store b 
 unfolding after_store
 after_is b block n s = refl
 
--- no store writes the NVM
+-- no store into shadow paging writes the NVM
 after_access : (case : StoreCase) (b : ℕ) (s : State) (n : Device) → after (store_action case b s) n ≡ n
 after_access (Into j) b s n = refl
 after_access case b s n = refl

@@ -29,7 +29,7 @@ pub record IsUnbegun (s : State) : Type 0 where
   pub sound : IsSoundState s
   pub unbegun : s.begun ≡ None
 
--- nothing follows the commit
+-- what holds of a pool in each phase: nothing follows the commit
 abbrev pub stands_at : Phase → State → Type 0
 stands_at Resting s = IsSoundState s
 stands_at (Making from) s = IsUnbegun s
@@ -66,7 +66,7 @@ pub record ArePaged (s : State) (n : Device) (x : ℕ) : Type 0 where
   pub each : (j c : ℕ) → c < 64 → 64 * j + c < x → is_some (entry_at s.frames j) ≡ true
       → newest n (target_place s j c) ≡ frame_block s j c
 
--- and all are
+-- all blocks of filled frames are in the frames' pages of the pool
 pub record AllPaged (s : State) (n : Device) : Type 0 where
   pub each : (j c : ℕ) → c < 64 → is_some (entry_at s.frames j) ≡ true → newest n (target_place s j c) ≡ frame_block s j c
 
@@ -79,7 +79,7 @@ holds (Applying from) epoch s n = Unit {0}
 
 -- ---- what images have
 
--- the next checkpoint is in the other slot than that of an epoch
+-- the next checkpoint is in another slot than the kept epoch's
 abbrev pub IsOther : Phase → ℕ → ℕ → Type 0
 IsOther (Making from) epoch kept = slot_of_epoch epoch ≢ slot_of_epoch kept
 IsOther Made epoch kept = slot_of_epoch epoch ≢ slot_of_epoch kept

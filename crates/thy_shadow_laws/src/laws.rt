@@ -35,7 +35,7 @@ pub fn a_checkpoint_bars_the_hart()
 {}
 
 /// While nothing is under way, and nothing was stored since the last seal, every frame is free. So the first
-/// instruction of an epoch always has room: none ends for want of frames before it has retired one.
+/// instruction of an epoch always has room: none is exhausted before it has retired one.
 pub fn an_epoch_begins_with_every_frame_free()
     ensures free { FramesAreFree }
     ensures room { FirstHasRoom shadow_scheme }

@@ -23,7 +23,7 @@ is_same-sound (Some a) (Some b) e = grind (arith, common_steps, e)
 
 -- ---- one boot more
 
--- it is one more of those that led to its checkpoint
+-- the boots that led to a checkpoint, with one more boot
 cycles_to-push : (mark : Option Mark) (boots : List Booted) (b : Booted)
     → cycles_to mark (boots ++ b ∷ []) ≡ cycles_to mark boots ++ (if is_same mark b.mark then b.cycles ∷ [] else [])
 cycles_to-push mark [] b = refl
@@ -43,7 +43,7 @@ cycles_to-elsewhere : (mark : Option Mark) (boots : List Booted) (b : Booted) �
 cycles_to-elsewhere mark boots b other =
     cycles_to-push mark boots b ∙ ap (λ t. cycles_to mark boots ++ (if t then b.cycles ∷ [] else [])) other ∙ append-nil (cycles_to mark boots)
 
--- there are no more of them than boots
+-- no more boots led to a checkpoint than there are
 length-cycles_to : (mark : Option Mark) (boots : List Booted) → length (cycles_to mark boots) ≤ length boots
 length-cycles_to mark [] = omega arith
 length-cycles_to mark (x ∷ xs) = elim (is_same mark x.mark)
@@ -80,18 +80,18 @@ Counts-more cs l b few c = record {
       (All-weaker (λ n. n ≤ l.most) (λ n. n ≤ max l.most b.cycles) (λ n h. omega (arith, h)) cs c.most) (omega arith);
 }
 
--- its boot is one of its own
+-- a lead counts one more boot that led to its checkpoint
 IsLeadOf-here : (boots : List Booted) (l : Lead) (b : Booted) → length boots < 2 ^ 64 - 1 → is_same l.mark b.mark ≡ true → IsLeadOf boots l
     → IsLeadOf (boots ++ b ∷ []) (with_boot b l)
 IsLeadOf-here boots l b few same is =
     subst (λ cs. Counts cs (with_boot b l)) (sym (cycles_to-here l.mark boots b same))
     (Counts-more (cycles_to l.mark boots) l b (omega (arith, few, length-cycles_to l.mark boots)) is)
 
--- or not
+-- a lead does not count a boot that led elsewhere
 IsLeadOf-elsewhere : (boots : List Booted) (l : Lead) (b : Booted) → is_same l.mark b.mark ≡ false → IsLeadOf boots l → IsLeadOf (boots ++ b ∷ []) l
 IsLeadOf-elsewhere boots l b other is = subst (λ cs. Counts cs l) (sym (cycles_to-elsewhere l.mark boots b other)) is
 
--- the first of its checkpoint
+-- a new lead has the count of the first boot that led to its checkpoint
 IsLeadOf-first : (boots : List Booted) (b : Booted) → cycles_to b.mark boots ≡ [] → IsLeadOf (boots ++ b ∷ []) (first_lead b)
 IsLeadOf-first boots b none =
     let one : cycles_to b.mark (boots ++ b ∷ []) ≡ b.cycles ∷ []
@@ -160,7 +160,7 @@ counted_at b ls i d inside same =
 
 -- ---- the leads of one boot more
 
--- none of these is of its checkpoint
+-- none of these leads is of the boot's checkpoint
 each-elsewhere : (boots : List Booted) (b : Booted) (ls : List Lead) → lists b.mark ls ≡ false → All (IsLeadOf boots) ls
     → All (IsLeadOf (boots ++ b ∷ [])) ls
 each-elsewhere boots b [] none each = All-nil (IsLeadOf (boots ++ b ∷ []))

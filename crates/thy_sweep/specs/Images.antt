@@ -24,7 +24,7 @@ abbrev pub images_from : ℕ → List Block → List Write → List (List Block)
 images_from x [] queue = [] ∷ []
 images_from x (b ∷ bs) queue = flat_map (λ c. map (λ g. c ∷ g) (images_from (x + 1) bs queue)) (choices_at x b queue)
 
--- how many these are
+-- how many images there are of the places from x on
 abbrev pub count_from : ℕ → List Block → List Write → ℕ
 count_from x [] queue = 1
 count_from x (b ∷ bs) queue = length (choices_at x b queue) * count_from (x + 1) bs queue
@@ -47,6 +47,6 @@ ListCrashes = (n : Device) (g : List Block) → (Contains (cut_images n) g → C
 abbrev pub ListEachOnce : Type 0
 ListEachOnce = (n : Device) → AreDistinct (cut_images n)
 
--- their number is the product of the choices at all places
+-- the number of images is the product of the choices at all places
 abbrev pub CountImages : Type 0
 CountImages = (n : Device) → length (cut_images n) ≡ count_from 0 n.image n.queue

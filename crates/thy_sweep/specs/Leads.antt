@@ -25,7 +25,7 @@ pub record Counts (cycles : List ℕ) (l : Lead) : Type 0 where
   pub is_most : Contains cycles l.most
   pub most : All (λ n. n ≤ l.most) cycles
 
--- it counts the boots that led to its checkpoint
+-- the lead has the count of the boots that led to its checkpoint, and their least and most cycles
 abbrev pub IsLeadOf : List Booted → Lead → Type 0
 IsLeadOf boots l = Counts (cycles_to l.mark boots) l
 
@@ -55,12 +55,12 @@ first_lead b = record { mark = b.mark; times = 1; least = b.cycles; most = b.cyc
 abbrev pub with_boot : Booted → Lead → Lead
 with_boot b l = record l { times = next l.times; least = min l.least b.cycles; most = max l.most b.cycles }
 
--- counted where its checkpoint is listed
+-- the leads, with one more boot of the lead that has its checkpoint
 abbrev pub counted_in : Booted → List Lead → List Lead
 counted_in b [] = []
 counted_in b (l ∷ ls) = if is_same l.mark b.mark then with_boot b l ∷ ls else l ∷ counted_in b ls
 
--- or listed
+-- the leads with one more boot: counted where its checkpoint is listed, or else listed
 abbrev pub noted : Booted → List Lead → List Lead
 noted b leads = if lists b.mark leads then counted_in b leads else leads ++ first_lead b ∷ []
 

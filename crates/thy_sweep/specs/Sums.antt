@@ -9,7 +9,7 @@ use Rattle.thy_sweep.specs.declared.sums.Sums.{Sums}
 abbrev pub plus : ℕ → ℕ → ℕ
 plus a b = min (a + b) (2 ^ 64 - 1)
 
--- nothing was tried
+-- the sums before anything was tried
 abbrev pub no_rows : Sums
 no_rows = record { states = 0; cycles = 0; reloads = 0; decided = 0; longest = 0; most_lost = 0; lost = 0 }
 
@@ -23,7 +23,7 @@ abbrev pub reloads_of : Option Mark → ℕ → ℕ
 reloads_of None times = times
 reloads_of (Some m) times = 0
 
--- with the boots of one lead, at a count
+-- the sums with the boots of one lead, at a count
 abbrev pub with_lead : ℕ → Sums → Lead → Sums
 with_lead count s l = record s {
   states = plus s.states l.times;
@@ -33,7 +33,7 @@ with_lead count s l = record s {
   lost = plus s.lost (min (lost_to count l.mark * l.times) (2 ^ 64 - 1));
 }
 
--- with those of each of these
+-- the sums with the boots of each of these leads, at a count
 abbrev pub with_leads : ℕ → Sums → List Lead → Sums
 with_leads count s [] = s
 with_leads count s (l ∷ ls) = with_leads count (with_lead count s l) ls

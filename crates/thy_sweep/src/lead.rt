@@ -8,9 +8,9 @@ use thy_base::Mark;
 /// How a boot over what a cut can leave has ended.
 #[derive(Clone, Copy, Debug)]
 pub struct Booted {
-    /// The checkpoint that it restored; none if it loaded the start.
+    /// The checkpoint that the boot restored; none if it loaded the start.
     pub mark: Option<Mark>,
-    /// How many cycles it had.
+    /// How many cycles the boot took.
     pub cycles: u64,
 }
 
@@ -18,11 +18,11 @@ pub struct Booted {
 #[derive(Clone, Copy, Debug)]
 pub struct Lead {
     pub mark: Option<Mark>,
-    /// How many there were.
+    /// How many boots led to the checkpoint.
     pub times: u64,
-    /// The least cycles that one of them had.
+    /// The least cycles that one of these boots took.
     pub least: u64,
-    /// The most.
+    /// The most cycles that one of these boots took.
     pub most: u64,
 }
 

@@ -10,7 +10,7 @@ use thy_base::Mark;
 pub struct Sums {
     /// How many images were tried.
     pub states: u64,
-    /// After how many cycles.
+    /// At how many cycles images were tried.
     pub cycles: u64,
     /// How many images led to no checkpoint.
     pub reloads: u64,
@@ -45,7 +45,7 @@ fn reloads_of(mark: Option<Mark>, times: u64) -> u64
 }
 
 impl Sums {
-    /// Nothing was tried.
+    /// The sums before anything was tried.
     pub fn new() -> Sums
         ensures { result ≡ no_rows }
     {
@@ -78,7 +78,7 @@ impl Sums {
         }
     }
 
-    /// With the boots of these leads.
+    /// The sums with the boots of these leads.
     fn with_leads(self, count: u64, leads: &[Lead]) -> Sums
         ensures { result ≡ with_leads count self leads.now }
     {

@@ -5,18 +5,18 @@ use Rattle.std.specs.Prelude.{◌≡◌, ℕ, ◌+◌, ◌-◌, ◌≤◌, nat_l
 pub record Tally : Type 0 where
   -- the stores of each page since the last seal, up to 63
   pub counts : List ℕ
-  -- its count in the epoch that this seal ended
+  -- the stores of each page in the epoch that this seal ended
   pub lasts : List ℕ
   -- a page counted above this is stored to densely
   pub high : ℕ
-  -- and one below this only rarely
+  -- a page counted below this is stored to only rarely
   pub low : ℕ
 
 -- the greatest count of a page
 abbrev pub most : ℕ
 most = 63
 
--- no stores to so many pages
+-- the tally of this number of pages, none of which was stored to
 abbrev pub uncounted : ℕ → ℕ → ℕ → Tally
 uncounted pages high low = record { counts = replicate pages 0; lasts = replicate pages 0; high = high; low = low }
 
@@ -24,7 +24,7 @@ uncounted pages high low = record { counts = replicate pages 0; lasts = replicat
 abbrev pub count_at : Tally → ℕ → ℕ
 count_at c page = slice_index c.counts page
 
--- and those of the epoch before
+-- the stores to a page in the epoch before
 abbrev pub last_at : Tally → ℕ → ℕ
 last_at c page = slice_index c.lasts page
 
@@ -32,7 +32,7 @@ last_at c page = slice_index c.lasts page
 abbrev pub counted : ℕ → Tally → Tally
 counted page c = record c { counts = slice_set c.counts page (min (count_at c page + 1) most) }
 
--- the same with this many stores to a page in the epoch before
+-- a tally with another number of stores to a page in the epoch before
 abbrev pub with_last : ℕ → ℕ → Tally → Tally
 with_last page n c = record c { lasts = slice_set c.lasts page n }
 
@@ -57,7 +57,7 @@ are_sparse c first end = nat_le (greatest_of 0 (take (end - first) (drop first c
 abbrev pub is_low : Tally → ℕ → Bool
 is_low c page = nat_lt (count_at c page) c.low && nat_lt (last_at c page) c.low
 
--- no count is past the last
+-- no count is past the greatest one
 abbrev pub AreWithin : List ℕ → Type 0
 AreWithin counts = All (λ n. n ≤ most) counts
 

@@ -5,6 +5,6 @@ use Rattle.thy_base.specs.declared.block.Block.{Block}
 use Rattle.thy_base.specs.Blocks.{overwritten}
 use Rattle.thy_base.specs.Device.{zero_block}
 
--- block k of them; past the last page it is zeros
+-- block k of the counts; there are zeros past the last page
 unfoldable pub last_block_of : List ℕ → ℕ → Block
 last_block_of lasts k = overwritten 0 (take 64 (drop (64 * k) lasts)) zero_block

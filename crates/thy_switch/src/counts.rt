@@ -33,8 +33,8 @@ impl Model for Counts {
 }
 
 impl Counts {
-    /// No stores to so many pages, in this epoch and in the one before. A page is dense above `high` stores, and low below
-    /// `low`.
+    /// No stores to any of `pages` pages, in this epoch and in the one before. A page is dense above `high` stores, and
+    /// low below `low`.
     pub fn new(alloc: Global, pages: u64, high: u64, low: u64) -> Result<Counts, AllocError>
         ensures { IfOk result (λ counts. counts ≡ uncounted pages high low) }
     {
@@ -91,8 +91,8 @@ impl Counts {
         self.high < self.count_of(page)
     }
 
-    /// Whether none of the pages from one to before another was stored to more often than `high` since the last seal. It takes
-    /// far less time than to ask that of each.
+    /// Whether none of the pages from one to before another was stored to more often than `high` since the last seal.
+    /// This takes far less time than to ask it of each page.
     pub fn are_sparse(&self, first: u64, end: u64) -> bool
         requires order { first ≤ end }
         requires inside { end ≤ length self.now.counts }
@@ -109,7 +109,7 @@ impl Counts {
         self.count_of(page) < self.low && self.last(page) < self.low
     }
 
-    /// A seal: it keeps the counts as those of the epoch before, and counts anew from 0.
+    /// A seal: it keeps the counts for the epoch before, and begins again with counts of 0.
     pub fn reset(&mut self)
         ensures { self.new ≡ reset self.old }
     {
@@ -138,7 +138,7 @@ impl Counts {
     }
 }
 
-/// The greatest of counts, 0 if there are none.
+/// The greatest of some counts, 0 if there are none.
 fn greatest(counts: &[u8]) -> u8
     ensures { result ≡ greatest_of 0 counts.now }
 {
@@ -159,7 +159,7 @@ fn over_zeros(piece: &[u8]) -> Block
     block
 }
 
-/// So many zeros.
+/// A list of `count` zeros.
 fn zeros(alloc: Global, count: u64) -> Result<Vec<u8>, AllocError>
     ensures { IfOk result (λ zeros. zeros.items ≡ replicate count 0) }
 {

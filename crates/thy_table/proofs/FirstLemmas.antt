@@ -19,7 +19,7 @@ module _ {X : Type 0} (p : X → Bool) (d : X) where
       let e : position_or_len p xs ≡ length xs = position_or_len_is p xs (length xs) d (omega arith) none (λ h. absurd (omega arith)) in
       ap (λ n. cond (nat_lt n (length xs)) (Some n) None) e ∙ ap (λ t. cond t (Some (length xs)) None) (le-ltb (length xs) (length xs) (omega arith))
 
-  -- where there is none, none passes
+  -- if no first place is found, no element passes
   pub none-position : (xs : List X) → position p xs ≡ None → (k : ℕ) → k < length xs → p (get_or xs k d) ≡ false
   none-position xs e k inside = elim (cases_lt (position_or_len p xs) (length xs)) as (λ _. p (get_or xs k d) ≡ false) [
     | inl l ↦ let some : position p xs ≡ Some (position_or_len p xs) = ap (λ t. cond t (Some (position_or_len p xs)) None) (lt-ltb (position_or_len p xs) (length xs) l) in
@@ -70,14 +70,14 @@ module _ {X : Type 0} (p : X → Bool) (d : X) where
   private_none xs from None e h = e
   private_none xs from (Some k) e h = cc
 
-  -- where there is none, none from there on passes
+  -- if no place from one on is found, no element from there on passes
   pub none-first_from : (xs : List X) (from : ℕ) → first_from p from xs ≡ None → (k : ℕ) → from ≤ k → k < length xs → p (get_or xs k d) ≡ false
   none-first_from xs from h k above inside =
       let back : from + (k - from) ≡ k = omega arith in
       ap p (sym (get_or-drop from xs (k - from) d ∙ ap (λ n. get_or xs n d) back))
       ∙ none-position (drop from xs) (private_none xs from (position p (drop from xs)) refl h) (k - from) (omega (arith, inside, length-drop from xs))
 
-  -- where none below a place passes, the first from there on is the first of all
+  -- if no element below a place passes, the first from there on is the first of all
   pub first_from-position : (xs : List X) (from : ℕ) → ((k : ℕ) → k < from → p (get_or xs k d) ≡ false) → first_from p from xs ≡ position p xs
   first_from-position xs from below = by_answer (first_from p from xs) refl where
     by_answer : (o : Option ℕ) → first_from p from xs ≡ o → first_from p from xs ≡ position p xs

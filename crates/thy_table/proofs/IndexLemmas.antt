@@ -30,7 +30,7 @@ one_if t = cond t 1 0
 abbrev pub free_one : {X : Type 0} → Option X → ℕ
 free_one o = one_if (is_none o)
 
--- where no place is free, none counts as free
+-- if no place is free, none counts as free
 pub count-none : {X : Type 0} (es : List (Option X)) → position is_none es ≡ None → count_by is_none es ≡ 0
 count-none es e =
     let none : All (λ o. free_one o ≤ 0) es = λ k d l.
@@ -58,7 +58,7 @@ module _ {E : Type 0} (key : E → ℕ) where
   pub lists-key_of : (n : ℕ) (o : Option E) (e : E) → lists key n o ≡ true → o ≡ Some e → key e ≡ n
   lists-key_of n o e h s = eqb-true (key e) n (sym (ap (lists key n) s) ∙ h)
 
-  -- it stands inside the table
+  -- an entry that lists a number stands inside the table
   pub lists-inside : (es : List (Option E)) (i n : ℕ) → lists key n (get_or es i None) ≡ true → i < length es
   lists-inside es i n h = elim (cases_lt i (length es)) as (λ _. i < length es) [
     | inl l ↦ l
@@ -68,19 +68,19 @@ module _ {E : Type 0} (key : E → ℕ) where
   pub leads-key : (g : ℕ) (o : Option E) (e : E) → o ≡ Some e → key e / 16 ≡ g → leads key g o ≡ true
   leads-key g o e s k = ap (leads key g) s ∙ eq-eqb (key e / 16) g k
 
-  -- it leads one group
+  -- a leader leads one group
   pub leads-one : (g h : ℕ) (o : Option E) → leads key g o ≡ true → leads key h o ≡ true → g ≡ h
   leads-one g h None a b = cc
   leads-one g h (Some e) a b = sym (eqb-true (key e / 16) g a) ∙ eqb-true (key e / 16) h b
 
-  -- it stands inside the table
+  -- a leader stands inside the table
   pub leads-inside : (es : List (Option E)) (i g : ℕ) → leads key g (get_or es i None) ≡ true → i < length es
   leads-inside es i g h = elim (cases_lt i (length es)) as (λ _. i < length es) [
     | inl l ↦ l
     | inr l ↦ let none : false ≡ true = sym (ap (leads key g) (get_or_past es i None l)) ∙ h in cc
   ]
 
-  -- where every entry is free
+  -- the index of a table whose every entry is free is sound
   pub IsSoundTable-empty : (size numbers : ℕ) → size ≤ 2 ^ 32 → IsSoundTable key (replicate size None) numbers (replicate (numbers / 16 + 1) 0) (replicate size (replicate 16 0)) 0 size
   IsSoundTable-empty size numbers small =
       let es : List (Option E) = replicate size None in
@@ -103,7 +103,7 @@ module _ {E : Type 0} (key : E → ℕ) where
       }
 
   module _ (es : List (Option E)) (numbers : ℕ) (leaders : List ℕ) (places : List (List ℕ)) (lowest free : ℕ) (sound : IsSoundTable key es numbers leaders places lowest free) where
-    -- where the index has a number, no other entry lists it
+    -- a number is listed by no other entry than the one at which the index has it
     alone : (n k : ℕ) → k ≢ indexed_at leaders places n → lists key n (get_or es k None) ≡ false
     alone n k other = elim (cases_Bool (lists key n (get_or es k None))) as (λ _. lists key n (get_or es k None) ≡ false) [
       | inl t ↦ absurd (other (sym (sound.listed k n t)))
@@ -115,7 +115,7 @@ module _ {E : Type 0} (key : E → ℕ) where
     position-indexed n here = let i = indexed_at leaders places n in
         position-first (lists key n) None es i (lists-inside es i n here) here (λ k l. alone n k (λ s. absurd (omega (arith, l, s))))
 
-    -- and nowhere else
+    -- a number is nowhere, if the entry at which the index has it does not list it
     pub position-unindexed : (n : ℕ) → lists key n (get_or es (indexed_at leaders places n) None) ≡ false → position (lists key n) es ≡ None
     position-unindexed n here = position-none (lists key n) None es
         (λ k l. elim (cases_eq k (indexed_at leaders places n)) as (λ _. lists key n (get_or es k None) ≡ false) [
@@ -136,7 +136,7 @@ module _ {E : Type 0} (key : E → ℕ) where
     pub group-inside : (n : ℕ) → n < numbers → n / 16 < length leaders
     group-inside n l = omega (arith, sound.groups)
 
-    -- of an entry: its group is one of the index, and has a leader
+    -- the group of an entry is one of the index, and has a leader
     pub group-here : (i : ℕ) (e : E) → get_or es i None ≡ Some e → key e / 16 < length leaders
     group-here i e was = group-inside (key e) (sound.inside i (key e) (lists-key (key e) (get_or es i None) e was refl))
 
@@ -198,7 +198,7 @@ module _ {E : Type 0} (key : E → ℕ) where
     pub none_free_below : (k : ℕ) → k < lowest → is_none (get_or es k None) ≡ false
     none_free_below k l = is_none-not_some (get_or es k None) (sound.full_below k l)
 
-    -- where the count is 0, none is free
+    -- if the count of free entries is 0, none is free
     pub none-free : free ≡ 0 → position is_none es ≡ None
     none-free e = position-none is_none None es
         (λ k l. elim (cases_Bool (is_none (get_or es k None))) as (λ _. is_none (get_or es k None) ≡ false) [
@@ -255,7 +255,7 @@ module _ {E : Type 0} (key : E → ℕ) where
       few = sound.few;
     }
 
-    -- where a place is free, some is
+    -- if a place is free, the count is above 0
     pub some-free : (i : ℕ) → i < length es → get_or es i None ≡ None → 0 < free
     some-free i inside was = omega (arith, sound.counted, get_or-le-sum_by free_one es i None inside, ap free_one was)
 
@@ -276,7 +276,7 @@ module _ {E : Type 0} (key : E → ℕ) where
         = λ k m h s. (let both : false ≡ true = sym (ap (leads key m) (ap (λ j. get_or es j None) s ∙ was)) ∙ h in cc) in
         let still : (k m : ℕ) → leads key m (get_or es k None) ≡ true → leads key m (get_or now k None) ≡ true
         = λ k m h. ap (leads key m) (get_or-set_other es i k (Some e) None (not_led k m h)) ∙ h in
-        -- the old leader, where there is one
+        -- the old leader, if there is one
         let kept : leads key g (get_or es c None) ≡ true → q ≡ c = λ h. chosen ∙ ap (λ (b : Bool). if b then c else i) h in
         let leading : leads key g (get_or now q None) ≡ true
         = elim (cases_Bool (leads key g (get_or es c None))) as (λ _. leads key g (get_or now q None) ≡ true) [
@@ -384,7 +384,7 @@ module _ {E : Type 0} (key : E → ℕ) where
           few = omega (arith, sound.few, length-set es i None);
         }
 
-    -- where no other entry by the leader's places lists a number of the group, none does
+    -- if no other entry at the leader's places lists a number of the group, none does
     pub none-follows : (i g : ℕ) → IsLastOf key g es (get_or places (get_or leaders g 0) []) (get_or leaders g 0) i
         → (j n : ℕ) → j ≢ i → lists key n (get_or es j None) ≡ true → n / 16 ≢ g
     none-follows i g last j n other h s =

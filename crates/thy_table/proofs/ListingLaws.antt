@@ -18,7 +18,7 @@ module _ {E : Type 0} where
   pub entry_at-with_other : (t : Listing E) (i j : ℕ) (o : Option E) → j ≢ i → entry_at (with_entry i o t) j ≡ entry_at t j
   entry_at-with_other t i j o other = get_or-set_other t.entries i j o None other
 
-  -- and after all were made anew by a rule
+  -- an entry after a rule was applied to all of them
   pub entry_at-mapped : (rule : E → Option E) (t : Listing E) (i : ℕ) → entry_at (mapped rule t) i ≡ option_and_then rule (entry_at t i)
   entry_at-mapped rule t i = elim (cases_lt i (length t.entries)) as (λ _. entry_at (mapped rule t) i ≡ option_and_then rule (entry_at t i)) [
     | inl l ↦ get_or-map (option_and_then rule) t.entries i None None l
@@ -65,7 +65,7 @@ free_first t i e =
     let first = position-Some is_none t.entries i None e in
     (first.0, None-is_none (entry_at t i) first.1, λ k l. is_some-not_none (entry_at t k) (first.2 k l))
 
--- it is found if one is free
+-- a free place is found if one is free
 pub free_found : {E : Type 0} (t : Listing E) → 0 < free_count t → (i : ℕ) × (free_place t ≡ Some i)
 free_found t room = by_place (free_place t) refl where
   by_place : (o : Option ℕ) → free_place t ≡ o → (i : ℕ) × (free_place t ≡ Some i)
@@ -77,7 +77,7 @@ module _ {E : Type 0} (key : E → ℕ) where
   pub place_of-lists : (t : Listing E) (n i : ℕ) → place_of key n t ≡ Some i → lists key n (entry_at t i) ≡ true
   place_of-lists t n i e = (position-Some (lists key n) t.entries i None e).1
 
-  -- and one that isn't, nowhere
+  -- a number that is not found is listed nowhere
   pub none-lists : (t : Listing E) (n : ℕ) → place_of key n t ≡ None → (i : ℕ) → lists key n (entry_at t i) ≡ false
   none-lists t n e i = elim (cases_lt i (length t.entries)) as (λ _. lists key n (entry_at t i) ≡ false) [
     | inl l ↦ none-position (lists key n) None t.entries e i l
@@ -98,7 +98,7 @@ module _ {E : Type 0} (key : E → ℕ) where
   pub found-once : (t : Listing E) → IsListing key t → (i j n : ℕ) → lists key n (entry_at t i) ≡ true → lists key n (entry_at t j) ≡ true → i ≡ j
   found-once t listing i j n here there = let both : Some i ≡ Some j = sym (listing.found i n here) ∙ listing.found j n there in cc
 
-  -- so it is where no number is listed twice
+  -- entries are a listing if no number is listed twice and each is below the limit
   pub IsListing-once : (t : Listing E) → ((i j n : ℕ) → lists key n (entry_at t i) ≡ true → lists key n (entry_at t j) ≡ true → i ≡ j)
       → ((i n : ℕ) → lists key n (entry_at t i) ≡ true → n < t.numbers) → IsListing key t
   IsListing-once t once inside = record {
@@ -180,7 +180,7 @@ module _ {E : Type 0} (key : E → ℕ) where
           | inr s ↦ ap (lists key n) (entry_at-with_other t i j (Some e) s)
         ])
 
-    -- one entry fewer
+    -- a listing with one entry fewer
     pub IsListing-cleared : (i : ℕ) → i < length t.entries → IsListing key (with_entry i None t)
     IsListing-cleared i inside = IsListing-with t i None listing inside (λ n h. (cc))
 
@@ -226,7 +226,7 @@ module _ {E : Type 0} (key : E → ℕ) where
       place_of-mapped i e f was stays = IsListing-mapped.found i (key e)
           (lists-key key (key e) (entry_at (mapped rule t) i) f (entry_at-mapped rule t i ∙ ap (option_and_then rule) was ∙ stays) (keeps e f stays))
 
-      -- one whose entry is cleared is listed no more
+      -- a number whose entry is cleared is listed no more
       pub place_of-mapped_cleared : (i : ℕ) (e : E) → entry_at t i ≡ Some e → rule e ≡ None → place_of key (key e) (mapped rule t) ≡ None
       place_of-mapped_cleared i e was goes = place_of-none (mapped rule t) (key e)
           (λ j. elim (cases_Bool (lists key (key e) (entry_at (mapped rule t) j))) as (λ _. lists key (key e) (entry_at (mapped rule t) j) ≡ false) [
@@ -238,7 +238,7 @@ module _ {E : Type 0} (key : E → ℕ) where
             | inr s ↦ s
           ])
 
-      -- and one that was not listed is not
+      -- a number that was not listed is not listed after a rule was applied
       pub place_of-mapped_none : (n : ℕ) → place_of key n t ≡ None → place_of key n (mapped rule t) ≡ None
       place_of-mapped_none n unlisted = place_of-none (mapped rule t) n
           (λ j. elim (cases_Bool (lists key n (entry_at (mapped rule t) j))) as (λ _. lists key n (entry_at (mapped rule t) j) ≡ false) [

@@ -8,7 +8,7 @@ use Rattle.thy_table.specs.Listing.{Listing, listing, entry_at, with_entry, mapp
 abbrev pub mapped_below : {X : Type 0} → (X → X) → ℕ → List X → List X
 mapped_below f i xs = map f (take i xs) ++ drop i xs
 
--- a table whose entries below a place a rule has made anew
+-- a table after a rule was applied to the entries below a place
 abbrev pub mapped_to : {E : Type 0} → (E → Option E) → ℕ → Listing E → Listing E
 mapped_to rule i t = listing (mapped_below (option_and_then rule) i t.entries) t.numbers
 
@@ -39,7 +39,7 @@ module _ {X : Type 0} (f : X → X) (d : X) where
   pub length-mapped_below : (xs : List X) (i : ℕ) → i ≤ length xs → length (mapped_below f i xs) ≡ length xs
   length-mapped_below xs i l = grind (arith, length-append {A = X}, length-map (take i xs) f, length-take-le i xs l, length-drop i xs)
 
--- a table whose entries below a place a rule has made anew, one place on
+-- a table after a rule was applied to the entries below a place, one place further
 pub mapped_to-more : {E : Type 0} (rule : E → Option E) (t now : Listing E) (i : ℕ) → i < length t.entries → now ≡ mapped_to rule i t
     → with_entry i (option_and_then rule (entry_at now i)) now ≡ mapped_to rule (i + 1) t
 mapped_to-more rule t now i l e =
@@ -48,10 +48,10 @@ mapped_to-more rule t now i l e =
     ∙ ap (λ o. listing (slice_set (mapped_below f i t.entries) i (f o)) t.numbers) (get_or-mapped_below f None t.entries i l)
     ∙ ap (λ es. listing es t.numbers) (mapped_below-more f None t.entries i l)
 
--- and with all of them
+-- a table in which a rule was applied below a place past the last entry is one in which it was applied to all
 pub mapped_to-all : {E : Type 0} (rule : E → Option E) (t : Listing E) (i : ℕ) → length t.entries ≤ i → mapped_to rule i t ≡ mapped rule t
 mapped_to-all rule t i l = ap (λ es. listing es t.numbers) (mapped_below-all (option_and_then rule) None t.entries i l)
 
--- it has as many entries
+-- a rule leaves the number of entries
 pub length-mapped_to : {E : Type 0} (rule : E → Option E) (t : Listing E) (i : ℕ) → i ≤ length t.entries → length (mapped_to rule i t).entries ≡ length t.entries
 length-mapped_to rule t i l = length-mapped_below (option_and_then rule) None t.entries i l

@@ -16,6 +16,6 @@ other_version Alt = Out
 abbrev pub new_entry : ℕ → BttEntry
 new_entry block = record { block = block; v0 = Out; v1 = Out; pend = Settled; work = NoWork }
 
--- the committed checkpoint has it there
+-- a new entry of a block that the committed checkpoint has at the place `Alt`
 abbrev pub listed_entry : ℕ → BttEntry
 listed_entry block = record { block = block; v0 = Alt; v1 = Alt; pend = Settled; work = NoWork }

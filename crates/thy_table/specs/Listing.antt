@@ -25,7 +25,7 @@ module _ {E : Type 0} where
   abbrev pub listing_code : Coded E → Coded (Listing E)
   listing_code code = code_by (List (Option E) × ℕ) (coded× (coded_list (coded_option code)) coded_ℕ) (λ t. (t.entries, t.numbers)) (λ p. listing p.0 p.1) (λ _. refl)
 
-  -- a table of so many free entries
+  -- a table of this many free entries
   abbrev pub empty_table : ℕ → ℕ → Listing E
   empty_table size numbers = listing (replicate size None) numbers
 
@@ -62,12 +62,12 @@ module _ {E : Type 0} where
   abbrev pub with_entry : ℕ → Option E → Listing E → Listing E
   with_entry i entry t = record t { entries = slice_set t.entries i entry }
 
-  -- one more entry, if a place is free
+  -- entries with one more at a free place, if there is one
   abbrev pub added_at : Option ℕ → E → List (Option E) → List (Option E)
   added_at None e es = es
   added_at (Some i) e es = slice_set es i (Some e)
 
-  -- one more entry, in the lowest free place
+  -- a table with one more entry, in the lowest free place
   abbrev pub added : E → Listing E → Listing E
   added e t = record t { entries = added_at (free_place t) e t.entries }
 
@@ -95,7 +95,7 @@ module _ {E : Type 0} where
   pub record IsSoundTable (key : E → ℕ) (entries : List (Option E)) (numbers : ℕ) (leaders : List ℕ) (places : List (List ℕ)) (lowest free : ℕ) : Type 0 where
     -- the index has the place of each entry for the number that it lists
     pub listed : (i n : ℕ) → lists key n (slice_index_or entries i None) ≡ true → indexed_at leaders places n ≡ i
-    -- if an entry lists a number of a group, so does the entry at the leader's place
+    -- if an entry lists a number of a group, the entry at the leader's place lists one too
     pub led : (i n : ℕ) → lists key n (slice_index_or entries i None) ≡ true → leads key (n / 16) (slice_index_or entries (slice_index_or leaders (n / 16) 0) None) ≡ true
     pub inside : (i n : ℕ) → lists key n (slice_index_or entries i None) ≡ true → n < numbers
     pub groups : numbers < 16 * length leaders

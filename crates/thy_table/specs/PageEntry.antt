@@ -32,14 +32,14 @@ page_at site page = record {
 abbrev pub no_page : ℕ → PttEntry
 no_page page = page_at AtHome page
 
--- one that is to be copied into its frame, and was not yet written from there
+-- the entry of a page that is to be copied into its frame, and was not yet written from there
 abbrev pub promoted_page : ℕ → PttEntry
 promoted_page page = record (page_at AtHome page) { fresh = true }
 
--- one that the committed checkpoint has in its entry's alternate page: it counts as framed at once
+-- the entry of a page that the committed checkpoint has in the entry's alternate page: it counts as framed at once
 abbrev pub listed_page : ℕ → PttEntry
 listed_page page = record (page_at AtAlternate page) { filled = page_blocks }
 
--- its frame holds the whole page
+-- an entry's frame holds the whole page
 abbrev pub is_framed : PttEntry → Bool
 is_framed e = e.filled == page_blocks

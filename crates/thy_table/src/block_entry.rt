@@ -9,16 +9,16 @@ use crate::Keyed;
 pub enum Version {
     /// The entry does not list it: it is in its page, at that page's place.
     Out,
-    /// In the entry's alternate block of the NVM.
+    /// The block is in the entry's alternate block of the NVM.
     Alt,
 }
 
 /// The copy that a block still needs for the checkpoint under way.
 #[derive(Clone, Copy, Debug, PartialEq, Eq)]
 pub enum Pending {
-    /// None.
+    /// No copy.
     Settled,
-    /// From the entry's buffer in the DRAM.
+    /// A copy from the entry's buffer in the DRAM.
     FromBuffer,
     /// From the entry's alternate block, to its page: the entry is consolidated.
     FromAlternate,
@@ -31,7 +31,7 @@ pub enum Working {
     NoWork,
     /// In the NVM, at the place that the committed checkpoint does not have it at.
     InNvm,
-    /// In the entry's buffer in the DRAM.
+    /// The work is in the entry's buffer in the DRAM.
     InBuffer,
 }
 
@@ -40,7 +40,7 @@ pub enum Working {
 pub struct BttEntry {
     /// The block's number.
     pub block: u64,
-    /// Where the committed checkpoint has it.
+    /// Where the committed checkpoint has the block.
     pub v0: Version,
     /// Where the checkpoint under way has it; if none is under way, the same as the committed one.
     pub v1: Version,

@@ -11,9 +11,9 @@ pub const WHOLE_PAGE: u8 = PAGE_BLOCKS as u8;
 /// Where a checkpoint has the page of an entry.
 #[derive(Clone, Copy, Debug, PartialEq, Eq)]
 pub enum Site {
-    /// At its home place in the NVM.
+    /// The page is at its home place in the NVM.
     AtHome,
-    /// In the entry's alternate page of the NVM.
+    /// The page is in the entry's alternate page of the NVM.
     AtAlternate,
 }
 
@@ -22,18 +22,18 @@ pub enum Site {
 pub struct PttEntry {
     /// The page's number.
     pub page: u64,
-    /// Where the committed checkpoint has it.
+    /// Where the committed checkpoint has the page.
     pub place: Site,
     /// Where the checkpoint under way has it; if none is under way, the same as the committed one.
     pub target: Site,
-    /// Its frame was stored to since the last seal.
+    /// The page's frame was stored to since the last seal.
     pub dirty: bool,
-    /// It was promoted, and its frame was not yet written to the NVM.
+    /// The page was promoted, and its frame was not yet written to the NVM.
     pub fresh: bool,
-    /// Its frame belongs to the checkpoint under way, which writes it to the target: with the last block it is
+    /// The page's frame belongs to the checkpoint under way, which writes it to the target: with the last block it is
     /// free again, unless the page leaves.
     pub busy: bool,
-    /// It leaves the table at the next commit.
+    /// The page leaves the table at the next commit.
     pub leaving: bool,
     /// How many blocks of its frame are filled, from the first on: at most 64, and then it is framed.
     pub filled: u8,

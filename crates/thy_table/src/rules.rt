@@ -5,20 +5,20 @@ use crate::keyed::Keyed;
 
 /// What becomes of each live entry of a table.
 pub trait Rule<E: Keyed> {
-    /// What it makes of an entry: None if the entry is cleared.
+    /// What the rule makes of an entry, as contracts say it: None if the entry is cleared.
     ghost gives: { Self → E → Option E };
 
-    /// What it makes of an entry: None if the entry is cleared.
+    /// What the rule makes of an entry: None if the entry is cleared.
     fn apply(&self, entry: &E) -> Option<E>
         ensures { result ≡ gives self.now entry.now };
 
-    /// The entry lists the number that it listed.
+    /// A rule keeps the number that an entry lists.
     ghost keeps_key: { (rule : Self) (e f : E) → gives rule e ≡ Some f → E.key f ≡ E.key e };
 }
 
 /// What is looked for in a table.
 pub trait Test<E> {
-    /// An entry passes.
+    /// Whether an entry passes, as contracts say it.
     ghost holds: { Self → E → Bool };
 
     /// Whether an entry passes.

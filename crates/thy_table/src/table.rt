@@ -50,7 +50,7 @@ fn copies<X: Copy>(alloc: Global, x: X, len: usize) -> Result<Vec<X>, AllocError
     Ok(all)
 }
 
-/// The place that an index has for a number: that of the entry which lists it, if one does.
+/// The place that an index has for a number: the place of the entry which lists it, if one does.
 fn indexed(leaders: &[u32], places: &[[u32; GROUP]], number: u64) -> usize
     ensures { result ≡ indexed_at leaders.now places.now number }
 {
@@ -198,7 +198,7 @@ impl<E: Keyed> Table<E> {
         self.entries[i]
     }
 
-    /// Puts an entry into the lowest free place, and returns that place. If none is free, returns None and changes
+    /// Adds an entry in the lowest free place, and returns that place. If none is free, returns None and changes
     /// nothing; otherwise it succeeds. Its number must not be listed.
     pub fn add(&mut self, entry: E) -> Option<usize>
         requires unlisted { place_of E.key (E.key entry) self.old ≡ None }
@@ -229,7 +229,7 @@ impl<E: Keyed> Table<E> {
         free_from(&self.entries, self.lowest)
     }
 
-    /// Puts an entry into a free place. Its number must not be listed.
+    /// Writes an entry into a free place. Its number must not be listed.
     pub fn put(&mut self, place: usize, entry: E)
         requires inside { place < length self.old.entries }
         requires free { entry_at self.old place ≡ None }
@@ -252,7 +252,7 @@ impl<E: Keyed> Table<E> {
         self.free -= 1;
     }
 
-    /// Puts an entry in the place of one that lists the same number.
+    /// Replaces the entry at a place by one that lists the same number.
     pub fn set(&mut self, i: usize, entry: E)
         requires { lists E.key (E.key entry) (entry_at self.old i) ≡ true }
         ensures { self.new ≡ with_entry i (Some entry) self.old }

@@ -3,6 +3,6 @@ use Rattle.std.specs.Prelude.{ℕ, ◌-◌, ◌^◌, true, List, None}
 use Rattle.thy_base.specs.declared.block.Block.{Block}
 use Rattle.thy_base.specs.Store.{Holding}
 
--- it holds these blocks, owes so many copies, and has failed so many times
+-- a store that holds these blocks, owes this many copies, and has failed this many times
 abbrev pub copying : List Block → ℕ → ℕ → Holding
 copying blocks copies faults = record { blocks = blocks; faults = faults; free = 2 ^ 64 - 1; ready = true; open_page = None; owed = copies }

@@ -13,7 +13,7 @@ stored_unless cleared e = if cleared then None else Some (record e { work = InBu
 abbrev pub stored_but : ℕ → BttEntry → Option BttEntry
 stored_but block e = stored_unless (e.block == block) e
 
--- it stays the same block's
+-- an entry that is stored stays the same block's
 pub stored_but-block : (block : ℕ) (e f : BttEntry) → stored_but block e ≡ Some f → f.block ≡ e.block
 stored_but-block block e f h = by_test (e.block == block) h where
   by_test : (t : Bool) → stored_unless t e ≡ Some f → f.block ≡ e.block

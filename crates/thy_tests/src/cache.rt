@@ -96,7 +96,7 @@ enum Call {
     Stored(u64, usize),
 }
 
-/// What it returns.
+/// What a call of the cache returns.
 #[derive(Clone, Copy, PartialEq)]
 enum Answer {
     Is(bool),

@@ -141,7 +141,7 @@ fn step<S: BlockStore<()>>(
     Some(done.expect(rt, "nvm"))
 }
 
-/// Compares the processor with that of the plain machine, which takes its step.
+/// Compares the processor with the plain machine's, which takes its step.
 fn advance(rt: &impl Abort, plain: &mut Plain, hart: &Hart) {
     assert!(rt; plain.state().count < 1 << 62);
     plain.step();
@@ -170,8 +170,8 @@ fn compare(rt: &impl Abort, cache: &Cache, blocks: &[Block], from: usize, bytes:
     }
 }
 
-/// Runs a program on a hart over a list of blocks, in epochs of so many instructions, and compares its state after
-/// each instruction, and memory at the end. How many steps that took.
+/// Runs a program on a hart over a list of blocks, in epochs of one length, and compares its state after each
+/// instruction, and memory at the end. How many steps that took.
 fn runs_beside(
     rt: &impl Abort,
     alloc: Global,
@@ -231,9 +231,9 @@ static ACROSS: [u32; 13] = [
     0x00000073, 0x00100513, 0x00000073, 0x05d00893, 0x00000073,
 ];
 
-/// The hart's results over a store with so much room, that makes so many copies first, with one line in the cache: of each
-/// step, while a checkpoint is under way or not. After the steps of these numbers, and no others, a page is open: that of
-/// the block at the start's sp.
+/// The hart's results of each step over a store with room for `free` stores, that makes `copies` copies first, with one
+/// line in the cache, while a checkpoint is under way or not. After the steps of these numbers, and no others, a page
+/// is open: the page of the block at the start's sp.
 fn answers(
     rt: &impl Abort,
     alloc: Global,

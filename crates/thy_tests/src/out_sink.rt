@@ -55,7 +55,7 @@ fn slow_stream(rt: &HostRuntime, failing: u64, flush_fails: bool) -> Slow {
     }
 }
 
-/// Proved at each call: the sink has counted so many faults.
+/// Proved at each call: the sink has counted `faults` faults.
 fn has_counted<S: Sink>(sink: &S, faults: u64)
     requires { (S.stream sink.now).faults ≡ faults }
 {}

@@ -64,7 +64,7 @@ fn start(rt: &impl Abort, alloc: Global, words: &[u32]) -> Plain
     start_with(rt, alloc, words, b"")
 }
 
-/// The same, with an input.
+/// The machine at the start of a program of these words, with this input.
 pub(crate) fn start_with(rt: &impl Abort, alloc: Global, words: &[u32], input: &[u8]) -> Plain
     ensures { result.state.count ≡ 0 }
 {

@@ -57,7 +57,7 @@ enum Call {
     NextBuffered(usize),
 }
 
-/// What it returns.
+/// What a call of the table returns.
 #[derive(Clone, Copy, Debug, PartialEq)]
 enum Answer {
     At(usize),

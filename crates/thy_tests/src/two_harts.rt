@@ -55,7 +55,7 @@ fn after_reading(
     plain
 }
 
-/// The same with nothing to read.
+/// A program of these words after these turns, with nothing to read.
 fn after(rt: &impl Abort, alloc: Global, words: &[u32], turns: &[u8]) -> Plain {
     after_reading(rt, alloc, words, turns, b"")
 }

@@ -8,11 +8,11 @@ use Rattle.thy_base.specs.Outside.{Stream}
 use Rattle.thy_text.specs.Lines.{line_feed, turns_by, harts_parts}
 use Rattle.thy_text.specs.Writing.{Wrote}
 
--- with one hart there is the line feed alone
+-- with one hart an epoch's line ends with the line feed alone
 pub parts-one : (harts : ℕ) (turns : List ℕ) → harts ≡ 1 → line_feed ∷ [] ≡ harts_parts harts turns
 parts-one harts turns one = ap (λ n. harts_parts n turns) (sym one)
 
--- with two there are the numbers of both
+-- with two harts an epoch's line has the numbers of both
 abbrev both : List ℕ → List (List ℕ)
 both turns = codes " harts " ∷ decimal (turns_by 0 turns) ∷ codes " " ∷ decimal (turns_by 1 turns) ∷ line_feed ∷ []
 

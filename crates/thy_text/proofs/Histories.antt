@@ -10,7 +10,7 @@ pub marks_from-append : (start : ℕ) (m : Marks) (vs ws : List Event) → marks
 marks_from-append start m [] ws = refl
 marks_from-append start m (v ∷ vs) ws = marks_from-append start (marks_after start m v) vs ws
 
--- more lawful events
+-- lawful events, with more after them, are lawful
 pub AllLawful-append : (c : Course) (m : Marks) (vs ws : List Event) → AllLawful c m vs → AllLawful c (marks_from c.start m vs) ws → AllLawful c m (vs ++ ws)
 AllLawful-append c m [] ws before more = more
 AllLawful-append c m (v ∷ vs) ws before more = (before.0, AllLawful-append c (marks_after c.start m v) vs ws before.1 more)

@@ -79,7 +79,7 @@ module _ (c : Course) (m : Marks) (one : c.harts ≡ 1) (none : IsUntold m) wher
   from-at (Ended status count cycle state) h =
       (record { epoch = h.0.epoch; kept = h.0.kept; whole = h.0.whole ∙ sym (ap (c.at count) none.kept); over = h.0.over }, h.1)
 
--- and it tells none
+-- marks without turns have none after an event either
 untold-after : (c : Counts) (m : Marks) (v : Event) → IsUntold m → LawfulAt c m v → IsUntold (marks_after c.start m v)
 untold-after c m (EpochEnd epoch count cause turns) none e = record { kept = none.kept; sealed = nothing_more m.kept_turns turns none.kept e.untold }
 untold-after c m (Commit epoch cycle overlapped) none h = record { kept = none.sealed; sealed = refl }
@@ -105,7 +105,7 @@ from-counts c m (v ∷ vs) one none h =
 pub by-counts : OneHartGoesByCounts
 by-counts c m events one none = (to-counts c m events one none, from-counts c m events one none)
 
--- more events
+-- lawful events of one hart, with more after them, are lawful
 pub AllLawfulAt-append : (c : Counts) (m : Marks) (vs ws : List Event) → AllLawfulAt c m vs → AllLawfulAt c (marks_from c.start m vs) ws → AllLawfulAt c m (vs ++ ws)
 AllLawfulAt-append c m [] ws before more = more
 AllLawfulAt-append c m (v ∷ vs) ws before more = (before.0, AllLawfulAt-append c (marks_after c.start m v) vs ws before.1 more)

@@ -11,7 +11,7 @@ pub data Event : Type 0 where
   -- this epoch was sealed at this count of instructions, for this cause; the harts that retired its instructions are
   -- listed if there is more than one hart
   EpochEnd : (epoch count : ℕ) (cause : EndCause) (turns : List ℕ) → Event
-  -- the sealed checkpoint of this epoch was committed in this cycle; so many instructions retired meanwhile
+  -- the sealed checkpoint of this epoch was committed in this cycle; `overlapped` instructions retired meanwhile
   Commit : (epoch cycle overlapped : ℕ) → Event
   -- power was cut for this time, counted from 1, after this cycle
   Cut : (index cycle : ℕ) → Event

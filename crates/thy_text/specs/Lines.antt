@@ -41,7 +41,7 @@ cause_parts harts EndedCause turns = codes "end" ∷ harts_parts harts turns
 abbrev pub memory_line : List ℕ → List ℕ
 memory_line memory = joined (codes "memory " ∷ encode_lower (sha256 memory) ∷ line_feed ∷ [])
 
--- the same, if digests are reported
+-- the line of memory's digest, if digests are reported
 abbrev pub digest_line : Bool → List ℕ → List ℕ
 digest_line false memory = []
 digest_line true memory = memory_line memory
@@ -51,7 +51,7 @@ abbrev pub state_lines : Bool → List ℕ → ℕ → ℕ → List ℕ → List
 state_lines digest word number count memory =
     joined (word ∷ decimal number ∷ codes " at " ∷ decimal count ∷ line_feed ∷ []) ++ digest_line digest memory
 
--- how the program ended, after so many instructions; a program that still runs has no line
+-- how the program ended, after this many instructions; a program that still runs has no line
 abbrev pub ended_lines : Bool → Status → ℕ → List ℕ → List ℕ
 ended_lines digest Running count memory = []
 ended_lines digest (Exited value) count memory = state_lines digest (codes "exit ") value count memory

@@ -20,7 +20,7 @@ pub record Marks : Type 0 where
 abbrev pub loading_marks : ℕ → Marks
 loading_marks start = record { kept = None; sealed = Some (mark 0 start); kept_turns = []; sealed_turns = [] }
 
--- a checkpoint is that of this epoch and count
+-- a checkpoint has this epoch and this count
 abbrev pub is_mark : Option Mark → ℕ → ℕ → Bool
 is_mark None epoch count = false
 is_mark (Some m) epoch count = m.epoch == epoch && m.count == count
@@ -54,7 +54,7 @@ pub record Course : Type 0 where
   pub epoch : ℕ
   pub harts : ℕ
 
--- how many turns an event lists for so many instructions: with one hart none
+-- how many turns an event lists for this many instructions: with one hart none
 abbrev pub turns_told : ℕ → ℕ → ℕ
 turns_told harts instructions = if harts == 1 then 0 else instructions
 

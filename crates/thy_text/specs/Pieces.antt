@@ -13,7 +13,7 @@ bytes_of_piece (Number number) = decimal number
 bytes_of_piece (Sum sum) = decimal sum
 bytes_of_piece (Digits digits) = digits.now
 
--- the parts that tell the harts of an epoch's end, to the line's end
+-- the parts that report the harts of an epoch's end, to the line's end
 abbrev pub tail_of : HartParts → List (List ℕ)
 tail_of p =
     bytes_of_piece p.word ∷ bytes_of_piece p.zero ∷ bytes_of_piece p.between ∷ bytes_of_piece p.one ∷ line_feed ∷ []

@@ -17,7 +17,7 @@ abbrev pub console_of : (ℕ → List ℕ → List ℕ) → Option Mark → List
 console_of console_at None turns = []
 console_of console_at (Some m) turns = console_at m.count turns
 
--- that of the committed mark
+-- the console at the committed mark
 abbrev pub console_kept : (ℕ → List ℕ → List ℕ) → Marks → List ℕ
 console_kept console_at m = console_of console_at m.kept m.kept_turns
 

@@ -27,7 +27,7 @@ summary_parts epochs early overlapped =
     codes "summary epochs " ∷ decimal epochs ∷ codes " early " ∷ decimal early
     ∷ codes " overlapped " ∷ decimal overlapped ∷ line_feed ∷ []
 
--- the line of a run: the epochs that were sealed, those of them that were early, and all instructions that retired while
+-- the line of a run: how many epochs were sealed, how many of them ended early, and how many instructions retired while
 -- a checkpoint was under way
 abbrev pub summary_of : List Event → List ℕ
 summary_of vs =

@@ -35,7 +35,7 @@ pub enum Closing<'a> {
     Put(&'a str),
     /// The file is refused: the refusal's number and name.
     File(u64, &'a str),
-    /// The same, with the number of the program header at fault.
+    /// The file is refused: the refusal's number and name, and the number of the program header at fault.
     FileAt(u64, &'a str, u64),
     /// The image is refused.
     Image(BadImage),
@@ -45,7 +45,7 @@ pub enum Closing<'a> {
     Terminal,
     /// The device failed.
     Nvm,
-    /// So many cycles are done, and the run has not ended.
+    /// This many cycles are done, and the run has not ended.
     Limit(u64),
     /// There was not enough memory.
     Memory,

@@ -56,14 +56,14 @@ impl Events {
         let _last = self.items.pop();
     }
 
-    /// How many there are.
+    /// How many events there are.
     pub fn len(&self) -> usize
         ensures { result ≡ length self.now }
     {
         self.items.len()
     }
 
-    /// The same; two such numbers can be added.
+    /// How many events there are. Two such numbers can be added.
     pub(crate) fn short_len(&self) -> usize
         ensures length { result ≡ length self.now }
         ensures short { result < 2 ^ 63 }

@@ -7,8 +7,8 @@ use crate::{Event, Events};
 use std::alloc::Global;
 use std::marker::Model;
 
-/// The events of a call, in order, in two lists: the last one is that of the run that was begun last. They are not
-/// joined, because memory may run out in that.
+/// The events of a call, in order, in two lists: the last one has the events of the run that was begun last. They are
+/// not joined, because memory may run out in that.
 #[derive(Debug, Drop)]
 pub struct History {
     earlier: Events,
@@ -24,7 +24,7 @@ impl Model for History {
 }
 
 impl History {
-    /// Events, and then those of the last list.
+    /// The earlier events, and the events of the last list.
     pub fn new(earlier: Events, last: Events) -> History
         ensures { result ≡ record { earlier = earlier; last = last } }
     {
@@ -41,15 +41,15 @@ impl History {
         }
     }
 
-    /// The last list. If the call made one run, it has all events; in a comparison it has those of the run that was begun
-    /// last, without the one of its scheme, and none if a run after that was to begin and did not.
+    /// The last list. If the call made one run, it has all events. In a comparison it has the events of the run that
+    /// was begun last, without the one that names its scheme, and none if a run after that was to begin and did not.
     pub fn last(&self) -> &Events
         ensures { result.now ≡ self.now.last }
     {
         &self.last
     }
 
-    /// How many there are in both.
+    /// How many events both lists have.
     pub fn len(&self) -> usize
         ensures { result ≡ length (all_of self.now) }
     {

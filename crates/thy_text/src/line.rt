@@ -13,9 +13,9 @@ use crate::{Event, Telling};
 use thy_base::{EndCause, Sink, SinkError};
 use thy_isa::{MachState, Status};
 
-/// Writes the line of an event. If digests are reported, the line of a restart and that of an end are followed by the
-/// line of memory's digest. On an error the sink has taken only the first part of these lines. Each line is given to
-/// the sink at once (which is tested, and in no contract). Allocates nothing.
+/// Writes the line of an event. If digests are reported, the line of a restart and the line of an end are each followed
+/// by the line of memory's digest. On an error the sink has taken only the first part of these lines. Each line is
+/// given to the sink at once (which is tested, and in no contract). Allocates nothing.
 pub fn write_event<R: Sink>(
     event: &Event,
     telling: Telling,
@@ -82,7 +82,7 @@ fn write_numbers<R: Sink>(
     write_pieces(&pieces, report)
 }
 
-/// The parts that tell how many instructions each of two harts retired in an epoch; with one hart all are empty.
+/// The parts that report how many instructions each of two harts retired in an epoch; with one hart all are empty.
 #[derive(Clone, Copy)]
 pub(crate) struct HartParts {
     word: Piece<'static>,
@@ -109,7 +109,7 @@ fn count_turns(turns: &[u8], hart: u8) -> u64
     count
 }
 
-/// The parts that tell the harts of an epoch with these turns.
+/// The parts that report the harts of an epoch with these turns.
 fn hart_parts(harts: u64, turns: &[u8]) -> HartParts
     ensures { joined (tail_of result) ≡ joined (harts_parts harts turns.now) }
 {

@@ -16,7 +16,7 @@ const ROOM: usize = 192;
 #[derive(Clone, Copy)]
 pub(crate) enum Piece<'a> {
     Text(&'a str),
-    /// In decimal digits.
+    /// A number in decimal digits.
     Number(u64),
     /// A sum of numbers, in decimal digits.
     Sum(u128),

@@ -14,7 +14,7 @@ use thy_base::{EndCause, SchemeName, Sink, SinkError};
 struct Sums {
     /// The epochs that were sealed.
     epochs: u64,
-    /// Those of them that were exhausted.
+    /// The sealed epochs that were exhausted.
     early: u64,
     /// All instructions that retired while a checkpoint was under way.
     overlapped: u128,
@@ -94,8 +94,8 @@ pub fn write_summary<R: Sink>(events: &Events, report: &mut R) -> Result<(), Sin
     write_pieces(&pieces, report)
 }
 
-/// Writes the line that sums up a run by a scheme, whose device has taken so many writes. On an error the sink has taken
-/// only the first part of the line. Allocates nothing.
+/// Writes the line that sums up a run by a scheme, whose device has taken `writes` writes. On an error the sink has
+/// taken only the first part of the line. Allocates nothing.
 pub fn write_scheme<R: Sink>(
     scheme: SchemeName,
     events: &Events,

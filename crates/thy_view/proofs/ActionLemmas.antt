@@ -51,7 +51,7 @@ down-after (WriteAt place block) n = refl
 down-after Barrier n = refl
 down-after Drain n = refl
 
--- and with as many blocks
+-- an action leaves the number of blocks of the NVM
 pub length-after : (a : Action) (n : Device) → length (after a n).image ≡ length n.image
 length-after Rest n = refl
 length-after (ReadAt place) n = refl
@@ -59,7 +59,7 @@ length-after (WriteAt place block) n = length-written_to n place block
 length-after Barrier n = length-settled n
 length-after Drain n = length-drained n
 
--- its queue grows by one write at most
+-- the queue grows by one write at most in an action
 pub queue-after : (a : Action) (n : Device) → length (after a n).queue ≤ length n.queue + 1
 queue-after Rest n = omega arith
 queue-after (ReadAt place) n = omega arith

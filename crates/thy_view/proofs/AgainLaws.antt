@@ -15,7 +15,7 @@ flag_some : (flag : Bool) (sealed : Option Mark) (m : Mark) → (if flag then se
 flag_some true sealed m e = e
 flag_some false sealed m e = absurd (cc)
 
--- so what means the kept mark or the one in doubt means the kept or the sealed one
+-- what means the kept mark or the one in doubt means the kept or the sealed one
 pub sealed_in : (o : Origin) (flag : Bool) (kept sealed : Option Mark) (d : Decoded)
     → IsOneOf o kept (if flag then sealed else None) d → IsOneOf o kept sealed d
 sealed_in o flag kept sealed Nothing one = one

@@ -28,11 +28,11 @@ reach_behind BootPhase v behind = absurd (behind refl)
 reach_behind Run v behind = refl
 reach_behind Halt v behind = refl
 
--- behind the boot it is the count
+-- after the boot the reach is the count
 pub reach-count : (v : View) → v.phase ≢ BootPhase → reach v ≡ v.count
 reach-count v behind = reach_behind v.phase v behind
 
--- and in a boot that of the checkpoint found
+-- in a boot the reach is the count of the checkpoint found
 pub reach-boot : (v : View) → v.phase ≡ BootPhase → reach v ≡ count_of v.done
 reach-boot v boots = ap (λ (p : Phase). reach_in p v) boots
 
@@ -42,7 +42,7 @@ module _ (o : Origin) (v next : View) where
   same : next ≡ v → reach next ≡ reach v
   same e = ap reach e
 
-  -- behind the boot the count stays
+  -- after the boot, a step that leaves the count leaves the reach
   goes : v.phase ≡ Run → next.phase ≢ BootPhase → next.count ≡ v.count → reach next ≡ reach v
   goes runs behind count = reach-count next behind ∙ count ∙ sym (reach-count v (runs_behind v.phase runs))
 
@@ -140,7 +140,7 @@ steps-reach o v next did s = no_less o v next did (reaches o v next did s)
 pub stays-there : StaysThere
 stays-there o v next did s none = no_more o v next did none (reaches o v next did s)
 
--- and an instruction that is retired one further
+-- an instruction that is retired reaches one further
 pub retires-reach : RetiresReach
 retires-reach o v next hart s =
     let phase : next.phase ≡ v.phase = ap (λ (w : View). w.phase) s.becomes in

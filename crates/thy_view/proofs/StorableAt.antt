@@ -26,7 +26,7 @@ at-storable o k h =
       crosses = λ s there. crossed-storable (program_size o.geometry) s there;
     }) h.storable k
 
--- there are as many harts as the start has
+-- each state of a run has the start's number of harts
 pub at-harts : (o : Origin) (k : ℕ) → is_some (at o k).other ≡ is_some o.start.other
 at-harts o k =
     at-holds (λ s. is_some s.other ≡ is_some o.start.other) o (record {
@@ -40,7 +40,7 @@ recordable_other p None (Some b) there same h = absurd (true≢false (sym same))
 recordable_other p (Some a) None there same h = absurd (true≢false same)
 recordable_other p (Some a) (Some b) there same h = (h.0, there)
 
--- so the other hart can be recorded
+-- the other hart of each state of a run can be recorded
 pub at-other : (o : Origin) (k : ℕ) → IsOrigin o → IsOtherRecordable o.geometry (at o k).other
 at-other o k h =
     recordable_other o.geometry (at o k).other o.start.other (at-storable o k h).other (at-harts o k) h.recordable.other

@@ -17,7 +17,7 @@ use Rattle.thy_view.specs.Told.{told, AgreeBelow, count_of}
 pub turn_early : (o : Origin) (j : ℕ) → j < o.start.count → turn_at o j ≡ 0
 turn_early o j early = ap (λ (b : Bool). if b then 0 else get_or o.turns (j - o.start.count) 0) (lt-ltb j o.start.count early)
 
--- from there on the turns are those told
+-- from the start's count on the turns are the reported ones
 pub turn_late : (o : Origin) (j : ℕ) → o.start.count ≤ j → turn_at o j ≡ get_or o.turns (j - o.start.count) 0
 turn_late o j late = ap (λ (b : Bool). if b then 0 else get_or o.turns (j - o.start.count) 0) (le-ltb j o.start.count late)
 
@@ -30,7 +30,7 @@ both_zero : (b : Bool) (n : ℕ) → (if b then n else n) ≡ n
 both_zero true n = refl
 both_zero false n = refl
 
--- with none told it is hart 0's
+-- with no turns reported each turn is hart 0's
 pub untold : (o : Origin) (j : ℕ) → turn_at (told o []) j ≡ 0
 untold o j = both_zero (nat_lt j o.start.count) 0
 
@@ -106,7 +106,7 @@ unfolding with_turn
 with_turn-gives o k hart late =
     turn_late (told o (with_turn o k hart)) k late ∙ turned-there (k - o.start.count) hart o.turns
 
--- one more turn listed is that of the next count
+-- a turn that is listed last is the next count's
 pub last-told : LastTold
 last-told o turns hart k late many = (
   turn_late (told o (turns ++ hart ∷ [])) k late ∙ get_or_at turns hart [] 0 (k - o.start.count) many,
@@ -121,7 +121,7 @@ last-told o turns hart k late many = (
 
 -- ---- parts of lists
 
--- the turns told as far as a count agree below it
+-- the turns reported as far as a count agree below it
 pub taken-agrees : (o : Origin) (turns : List ℕ) (k : ℕ) → AgreeBelow (told o turns) (take (k - o.start.count) turns) k
 taken-agrees o turns k = λ j less. elim (cases_lt j o.start.count) as (λ _. turn_at (told o (take (k - o.start.count) turns)) j ≡ turn_at (told o turns) j) [
   | inl early ↦ turn_early (told o (take (k - o.start.count) turns)) j early ∙ sym (turn_early (told o turns) j early)
@@ -131,7 +131,7 @@ taken-agrees o turns k = λ j less. elim (cases_lt j o.start.count) as (λ _. tu
       ∙ sym (turn_late (told o turns) j late)
 ]
 
--- turns that agree as far as they go, and behind them the run's own from there on, agree everywhere
+-- turns that agree as far as they go, with the run's own turns from there on, agree everywhere
 pub joined-agrees : (o : Origin) (turns : List ℕ) (i k : ℕ) → length turns ≡ i - o.start.count → AgreeBelow o turns i
     → AgreeBelow o (turns ++ drop (i - o.start.count) o.turns) k
 joined-agrees o turns i k many agree = λ j less. elim (cases_lt j o.start.count) as (λ _. turn_at (told o (turns ++ drop (i - o.start.count) o.turns)) j ≡ turn_at o j) [
@@ -214,7 +214,7 @@ at-next o k late =
     ∙ ap (λ (h : ℕ). step_of (setting_of o) h (by_turns (setting_of o) o.turns (k - o.start.count) o.start))
     (sym (turn_from o (k - o.start.count)) ∙ ap (turn_at o) there)
 
--- before the start's count there is the start
+-- before the start's count the plain machine is at the start
 pub at-early : (o : Origin) (k : ℕ) → k ≤ o.start.count → at o k ≡ o.start
 unfolding at by_turns
 at-early o k early =
@@ -227,7 +227,7 @@ unfolding at
 at-keeps P o keeps j k le p =
     by_turns-keeps P (setting_of o) keeps o.turns (j - o.start.count) (k - o.start.count) o.start (omega (arith, le)) p
 
--- and from the start on
+-- what each step keeps holds at every count, if it holds at the start
 pub at-holds : (P : State → Type 0) (o : Origin) → IsKept P (setting_of o) → P o.start → (k : ℕ) → P (at o k)
 at-holds P o keeps p k = at-keeps P o keeps 0 k (omega arith) (subst P (sym (at-early o 0 (omega arith))) p)
 

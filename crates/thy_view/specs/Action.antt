@@ -11,7 +11,7 @@ use Rattle.thy_base.specs.Device.{Device, written_to, settled, drained, HasFaile
 use Rattle.thy_base.specs.Places.{commit_place}
 
 pub data Action : Type 0 where
-  -- nothing
+  -- no call of the device
   Rest : Action
   ReadAt : (place : ℕ) → Action
   WriteAt : (place : ℕ) (block : Block) → Action
@@ -32,20 +32,20 @@ FailsTo Rest old new = ⊥
 FailsTo (WriteAt place block) old new = HasFailedToWrite place block old new
 FailsTo action old new = HasFailed old new
 
--- it neither lets writes land nor waits for them, and leaves the commit block alone
+-- an action neither lets writes land nor waits for them, and leaves the commit block alone
 abbrev pub IsAccess : Action → Type 0
 IsAccess Barrier = ⊥
 IsAccess Drain = ⊥
 IsAccess (WriteAt place block) = place ≢ commit_place
 IsAccess action = Unit {0}
 
--- it leaves the device as it is, or reads it
+-- an action leaves the device as it is, or reads it
 abbrev pub IsRead : Action → Type 0
 IsRead Rest = Unit {0}
 IsRead (ReadAt place) = Unit {0}
 IsRead action = ⊥
 
--- it lets none land but by a barrier
+-- an action lets writes land only by a barrier
 abbrev pub IsBootAction : Action → Type 0
 IsBootAction Drain = ⊥
 IsBootAction action = Unit {0}
@@ -72,7 +72,7 @@ AsksBy migrates (Restarted epoch count) action = EndsRestart migrates action
 AsksBy migrates (Refused bad) action = IsRead action
 AsksBy migrates did action = action ≡ Rest
 
--- of one that does not
+-- what a cycle that did this asks, of a machine that does not migrate
 abbrev pub Asks : Did → Action → Type 0
 Asks did action = AsksBy false did action
 
@@ -94,7 +94,7 @@ pub record ActionFailedBy (migrates : Bool) (did : Did) (n new : Device) : Type 
 abbrev pub ActionFailed : Did → Device → Device → Type 0
 ActionFailed did n new = ActionFailedBy false did n new
 
--- it writes the commit block
+-- an action writes the commit block
 abbrev pub is_commit_write : Action → Bool
 is_commit_write (WriteAt place block) = place == commit_place
 is_commit_write action = false

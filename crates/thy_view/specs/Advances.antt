@@ -12,7 +12,7 @@ use Rattle.thy_view.specs.Kind.{KindOf}
 use Rattle.thy_view.specs.Origin.{Origin}
 use Rattle.thy_view.specs.Turn.{Advances, turn_of}
 
--- what such a cycle did
+-- what a cycle did in which a hart advances its instruction
 abbrev pub did_of : Advance → Did
 did_of hart.Moved = Moved
 did_of (hart.Retired number) = Retired number
@@ -27,7 +27,7 @@ IfAdvanced (Ok None) P = Unit {0}
 IfAdvanced (Ok (Some a)) P = P (Ok (stepped_of a))
 IfAdvanced (Err e) P = P (Err e)
 
--- at any moment of a run, the pick's cycle is not that of a hart which advances its instruction
+-- at any moment of a run, no hart advances its instruction in the pick's cycle
 abbrev pub IsOthersTurn : {M : Type 0} → KindOf M → Pick → M → Device → Type 0
 IsOthersTurn K pick m n =
     (o : Origin) (k : ℕ) (hart : ℕ) → K.is_at o k m n

@@ -16,7 +16,7 @@ GoesOnAfterCut {M} K =
     → K.is_at o k next (cut_to n tear g)
     × (K.view o next (cut_to n tear g) ≡ view_of_image o.start.count (K.decode o.geometry ceiling g))
 
--- and so does any cut after a step that failed
+-- any cut after a step that failed leads to a moment of the same run, whose view is what the image means that was left
 abbrev pub GoesOnAfterFault : {M : Type 0} → KindOf M → Type 0
 GoesOnAfterFault {M} K =
     (o : Origin) (k : ℕ) (pick : Pick) (m stopped next : M) (n new : Device) (tear : ℕ) (g : List Block)

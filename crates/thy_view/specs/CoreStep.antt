@@ -18,11 +18,11 @@ use Rattle.thy_base.specs.Marks.{mark}
 abbrev pub phase_at : Origin → ℕ → Phase
 phase_at o count = if runs_at o count then Run else Halt
 
--- one more cycle of hart or engine
+-- the view after one more cycle of hart or engine
 abbrev pub busier : View → View
 busier v = record v { spent = v.spent + 1 }
 
--- why an epoch is over once so many instructions of it and of the program were retired
+-- why an epoch is over, if it is, once it has retired `retired` instructions and the program `now`
 abbrev pub over_at : Origin → ℕ → ℕ → Option EndCause
 over_at o retired now =
     if runs_at o now then (if retired == o.geometry.epoch then Some Length else None) else Some Ended

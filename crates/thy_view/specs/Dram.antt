@@ -7,7 +7,7 @@ use Rattle.thy_dram.specs.Contents.{Contents, written, drained}
 use Rattle.thy_view.specs.declared.did.Did.{Did}
 use Rattle.thy_view.specs.declared.did.Did.TheVariants.{Retired, Sealed, NvmDrained, DramDrained, Nothing}
 
--- one block of it was written, and the NVM is as before
+-- one block of the DRAM was written, and the NVM is as before
 pub record WritesDram (n new : Device) (old now : Contents) : Type 0 where
   pub at : ℕ
   pub block : Block
@@ -24,12 +24,12 @@ pub record WritesNvm (n new : Device) : Type 0 where
 abbrev pub WritesBlock : Device → Device → Contents → Contents → Type 0
 WritesBlock n new old now = WritesNvm n new ⊎ WritesDram n new old now
 
--- it is as before, or so: of both devices one has one write more at most
+-- the DRAM is as before, or one block of it was written and the NVM is as before
 abbrev pub ActsOnDram : Device → Device → Contents → Contents → Type 0
 ActsOnDram n new old now = (now ≡ old) ⊎ WritesDram n new old now
 
--- a drain of it lets its oldest write land; no other cycle does, but by a write into a full queue. A cycle that retires
--- an instruction, seals, drains the NVM or does nothing writes no block of it
+-- a drain of the DRAM lets its oldest write land; no other cycle does, but by a write into a full queue. A cycle that
+-- retires an instruction, seals, drains the NVM or does nothing writes no block of the DRAM
 abbrev pub LeavesDram : Did → Device → Device → Contents → Contents → Type 0
 LeavesDram DramDrained n new old now = now ≡ drained old
 LeavesDram (Retired hart) n new old now = now ≡ old

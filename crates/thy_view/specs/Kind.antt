@@ -39,15 +39,15 @@ use Rattle.thy_view.specs.Turn.{Actor, Turn, Shortage, Pressure, HandsOn, turn_o
 use Rattle.thy_view.specs.Views.{IsRestarting, is_boot, is_between, is_halt, halts, loads, doubt_of}
 use Rattle.thy_view.specs.Work.{Works, IsWithin}
 
--- what is seen of machines of a type
+-- what machines of a type mean, and what they show
 pub record KindOf (M : Type 0) : Type 1 where
-  -- what an image of their NVM means
+  -- what an image of such a machine's NVM means
   pub decode : Reading
-  -- how many blocks their NVM has
+  -- how many blocks the NVM of such a machine has
   pub blocks : Parameters → ℕ
   -- power has just come on: nothing was read, and nothing is queued in the DRAM
   pub powered : Parameters → M → Type 0
-  -- after so many cycles of a run, cuts of power among them, machine and device are at one of its moments
+  -- after this number of cycles of a run, cuts of power among them, machine and device are at one of its moments
   pub is_at : Origin → ℕ → M → Device → Type 0
   pub view : Origin → M → Device → View
   -- after a step of a run that failed, before which this was the view
@@ -56,7 +56,8 @@ pub record KindOf (M : Type 0) : Type 1 where
   pub failed : M → Bool
   -- the boot has read the commit block
   pub has_read : M → Bool
-  -- in its boot: the image that it found has an older form, and it writes that checkpoint anew in the form of today
+  -- in the boot of a machine: the image that it found has an older form, and it writes that checkpoint anew in the form
+  -- of today
   pub migrates : M → Bool
   -- what the DRAM holds
   pub dram : M → Contents
@@ -66,7 +67,8 @@ pub record KindOf (M : Type 0) : Type 1 where
   pub gauge : M → Device → Gauge
   -- cycles that are left until the next instruction, or the end, at the most
   pub ahead : Origin → M → Device → ℕ
-  -- an epoch spends less than this many cycles of hart and engine, and a boot has at most so many actions
+  -- an epoch spends less than the first number of cycles of hart and engine, and a boot has at most the second number
+  -- of actions
   pub most_spent : Parameters → ℕ
   pub most_booting : Parameters → ℕ
   -- the most copies that may be owed, and blocks that may have to be promoted
@@ -115,9 +117,9 @@ pub record IsUnderWay (sealed : Option Mark) (p : Pressure) : Type 0 where
   pub way : p.under_way ≡ (is_some sealed || p.applies)
   pub apart : p.applies ≡ true → sealed ≡ None
 
--- A shortage is real: it is that of an instruction which is begun and has not reserved its entries yet, and fewer entries are
--- free than are needed by the lines that are dirty and by the blocks of memory and console that it stores to. An epoch ends
--- early, or the hart waits for entries, only by such a shortage.
+-- A shortage is real: it is of an instruction which is begun and has not reserved its entries yet. Fewer entries are
+-- free than are needed by the lines that are dirty and by the blocks of memory and console that it stores to. Only by
+-- such a shortage does an epoch end early, or the hart wait for entries.
 pub record IsShortage (o : Origin) (v : View) (begun : Option ℕ) (g : Gauge) (s : Shortage) : Type 0 where
   pub hart : ℕ
   pub is_begun : begun ≡ Some hart
@@ -187,7 +189,7 @@ pub record LeavesSafe {M : Type 0} (K : KindOf M) (o : Origin) (pick : Pick) (m 
   pub acted : CycleFailed K o pick m n new
   pub safe : Safe K.decode o (K.view o m n).done (doubt_after_fault acted.failed.action (K.view o m n)) new
   pub spares : (found : Mark) → IsRestarting (K.view o m n) found → Safe K.decode o (Some found) None new
-  -- and a machine of which power can be cut, and a snapshot taken
+  -- the machine is one of which power can be cut, and a snapshot taken
   pub stopped : K.has_failed o (K.view o m n) next
 
 -- From any moment of any run with this start, a step that succeeded is one. If it retired an instruction, that holds of the
@@ -197,7 +199,7 @@ Simulates K start pick m next n new result =
     (o : Origin) (k : ℕ) → Begins o start → K.is_at o k m n → k < 2 ^ 62
     → IfOk result (λ r. IsThere o (K.view o m n) r.did × (HasTurn o (K.view o m n) r.did → IsStep K o k pick m next n new r))
 
--- and one that failed leaves what its action may leave
+-- a step that failed leaves what its action may leave
 abbrev pub FailsSafe : {M : Type 0} → KindOf M → Start → Pick → M → M → Device → Device → Result Stepped NvmError → Type 0
 FailsSafe K start pick m next n new result =
     (o : Origin) (k : ℕ) → Begins o start → K.is_at o k m n → OnErr result (LeavesSafe K o pick m next n new)
@@ -223,7 +225,7 @@ pub record IsProcessor (o : Origin) (before : View) (s : MachState) : Type 0 whe
   pub bare : state_of s ≡ without_memory (state_of s)
   pub processor : is_boot before.phase ≡ false → state_of s ≡ without_memory (at o before.count)
 
--- after a step that failed, the result is such a state
+-- a snapshot after a step that failed has the processor's part alone
 abbrev pub SnapshotsStopped : {M : Type 0} → KindOf M → M → Result MachState CoreError → Type 0
 SnapshotsStopped K m result = (o : Origin) (before : View) → K.has_failed o before m → IfOk result (IsProcessor o before)
 
@@ -277,7 +279,7 @@ pub record IsPoweredOn {M : Type 0} (K : KindOf M) (o : Origin) (m : M) (n : Dev
   pub boot_left : (K.gauge m n).boot_left ≤ K.most_booting o.geometry
   pub ahead : K.ahead o m n ≤ K.most_ahead o.geometry
 
--- what is seen of a machine is the same with other turns
+-- what a machine shows is the same with other turns
 pub record IsSeenAlike {M : Type 0} (K : KindOf M) (o : Origin) (turns : List ℕ) (m : M) (n : Device) : Type 0 where
   pub view : K.view (told o turns) m n ≡ K.view o m n
   pub ahead : K.ahead (told o turns) m n ≡ K.ahead o m n
@@ -305,14 +307,14 @@ pub record IsLawful {M : Type 0} (K : KindOf M) : Type 0 where
       → K.is_at o k m n → K.powered o.geometry m → n.queue ≡ [] → IsPoweredOn K o m n
   -- at a moment no step has failed
   pub unfailed : (o : Origin) (k : ℕ) (m : M) (n : Device) → K.is_at o k m n → K.failed m ≡ false
-  -- after a step that failed one has
+  -- a machine after a step that failed says that one has failed
   pub tells_failure : (o : Origin) (before : View) (m : M) → K.has_failed o before m → K.failed m ≡ true
   -- something lies ahead at every moment
   pub some_ahead : (o : Origin) (k : ℕ) (m : M) (n : Device) → K.is_at o k m n → 1 ≤ K.ahead o m n
   -- the gauge counts what is queued in the NVM and in the DRAM
   pub counts_queues : (m : M) (n : Device) → (K.gauge m n).queued ≡ length n.queue + (K.pressure m).dram
   pub counts_dram : (m : M) → (K.pressure m).dram ≡ (K.dram m).queued
-  -- the pressure on a machine is as it reports
+  -- the pressure that a machine reports fits its view and its gauge
   pub pressed : (o : Origin) (k : ℕ) (m : M) (n : Device) → K.is_at o k m n → IsPressed K o m n
   -- whatever a power cut leaves at a moment is the committed checkpoint, whole, or the one in doubt
   pub is_safe : (o : Origin) (k : ℕ) (m : M) (n : Device)

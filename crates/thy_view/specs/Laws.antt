@@ -31,7 +31,7 @@ abbrev pub HartZeroSteps : Type 0
 HartZeroSteps =
     (o : Origin) (k : ℕ) → ((j : ℕ) → j < k → turn_at o j ≡ 0) → at o k ≡ steps (setting_of o) (k - o.start.count) o.start
 
--- also if no turns are listed
+-- while each turn is hart 0's, the plain machine takes one step after another, also if no turns are listed
 abbrev pub UntoldSteps : Type 0
 UntoldSteps = (o : Origin) (k : ℕ) → at (told o []) k ≡ steps (setting_of o) (k - o.start.count) o.start
 
@@ -39,7 +39,7 @@ UntoldSteps = (o : Origin) (k : ℕ) → at (told o []) k ≡ steps (setting_of 
 abbrev pub StepsReach : Type 0
 StepsReach = (o : Origin) (v next : View) (did : Did) → CoreStep o v did next → reach v ≤ reach next
 
--- and an instruction that is retired further than its own count
+-- after an instruction was retired the view reaches further than the count before it
 abbrev pub RetiresReach : Type 0
 RetiresReach = (o : Origin) (v next : View) (hart : ℕ) → Retires o hart v next → v.count < reach next
 
@@ -62,8 +62,8 @@ FindsTurns =
     (o : Origin) (v : View) (did : Did) → IsThere o v did
     → (turns : List ℕ) × AgreeBelow o turns (reach v) × HasTurn (told o turns) v did
 
--- With two harts an instruction is retired by the hart that began it. Until then it stays begun (HandsOn). So the moves
--- since the last one was retired, the last seal, or power came on, are those of the hart that retires the next one.
+-- With two harts an instruction is retired by the hart that began it. Until then it stays begun (HandsOn). So all moves
+-- since the last retirement, the last seal, or since power came on, are made by the hart that retires the next one.
 abbrev pub BegunIsRetired : Type 0
 BegunIsRetired =
     (o : Origin) (pick : Pick) (nvm : ℕ) (v : View) (p : Pressure) (begun hart : ℕ) (stall : Option Stall)

@@ -39,7 +39,7 @@ by_turns g turns (suc k) s = step_of g (get_or turns k 0) (by_turns g turns k s)
 unfoldable pub at : Origin → ℕ → State
 at o k = by_turns (setting_of o) o.turns (k - o.start.count) o.start
 
--- it still runs then
+-- the plain machine still runs when it has retired k instructions
 abbrev pub runs_at : Origin → ℕ → Bool
 runs_at o k = is_running (at o k).status
 

@@ -17,7 +17,7 @@ pub record Gauge : Type 0 where
   pub free : ℕ
   -- lines of the cache that are dirty, and entries that the instruction in hand has reserved and not used yet
   pub dirty : ℕ
-  -- that instruction has reserved an entry for each block that it stores to
+  -- the instruction that is begun has reserved an entry for each block that it stores to
   pub has_reserved : Bool
   -- moves that the instruction in hand, or else the next one, has left in the epoch that executes
   pub moves : ℕ

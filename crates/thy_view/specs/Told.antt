@@ -9,7 +9,7 @@ use Rattle.thy_view.specs.declared.view.Phase.TheVariants.{Boot, Run, Halt}
 use Rattle.thy_view.specs.declared.view.View.{View}
 use Rattle.thy_view.specs.Origin.{Origin, turn_at}
 
--- the same run with other turns
+-- a run with other turns
 abbrev pub told : Origin → List ℕ → Origin
 told o turns = record o { turns = turns }
 
@@ -22,7 +22,7 @@ abbrev pub count_of : Option Mark → ℕ
 count_of None = 0
 count_of (Some m) = m.count
 
--- how far a view speaks of the plain machine: to its count, and in a boot to that of the checkpoint found
+-- how far a view speaks of the plain machine: to its count, and in a boot to the count of the checkpoint found
 abbrev pub reach_in : Phase → View → ℕ
 reach_in Boot v = count_of v.done
 reach_in Run v = v.count

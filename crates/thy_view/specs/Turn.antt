@@ -42,7 +42,7 @@ pub record Pressure : Type 0 where
   -- the engine has something to do: a checkpoint is sealed, or the scheme applies what one has written
   pub under_way : Bool
   pub applies : Bool
-  -- and meanwhile the hart may not run
+  -- while the engine has something to do, the hart may not run
   pub barred : Bool
   -- the shortage of table entries of the instruction in hand, if it has one
   pub short : Option Shortage
@@ -67,8 +67,8 @@ abbrev pub rested : Option ℕ → ℕ
 rested None = 0
 rested (Some hart) = if hart == 0 then 1 else 0
 
--- whose instruction a pick begins: that of the hart that it names, or of the one that rested if its own actor has
--- nothing to do
+-- whose instruction a pick begins: the hart's that it names, or, if its own actor has nothing to do, the hart's that
+-- rested
 abbrev pub begins : Pick → Option ℕ → ℕ
 begins Hart last = 0
 begins Second last = 1
@@ -108,7 +108,7 @@ abbrev pub engine_turn : Origin → Pick → Phase → View → Pressure → Act
 engine_turn o pick Run v p = if p.under_way then Checkpoint else hart_turn o pick v p
 engine_turn o pick phase v p = hart_turn o pick v p
 
--- whose turn a pick is, if so many writes are queued in the NVM
+-- whose turn a pick is, if this many writes are queued in the NVM
 abbrev pub turn_of : Origin → Pick → ℕ → View → Pressure → Actor
 turn_of o Hart nvm v p = hart_turn o Hart v p
 turn_of o Second nvm v p = hart_turn o Second v p
@@ -116,7 +116,7 @@ turn_of o EnginePick nvm v p = engine_turn o EnginePick v.phase v p
 turn_of o NvmDrain nvm v p = if nvm == 0 then hart_turn o NvmDrain v p else Nvm
 turn_of o DramDrain nvm v p = if p.dram == 0 then hart_turn o DramDrain v p else Dram
 
--- the engine's work is done at its turn, or at that of a hart that waits for it
+-- the engine's work is done at its turn, or at the turn of a hart that waits for it
 abbrev pub IsEngines : Actor → Type 0
 IsEngines actor = (actor ≡ Checkpoint) ⊎ (actor ≡ Stalled Waiting)
 
@@ -149,7 +149,7 @@ abbrev pub told_at : Actor → Option Stall
 told_at (Stalled stall) = Some stall
 told_at actor = None
 
--- a pick was the turn of the actor that did this, which was due, and this stall is reported
+-- a pick was the turn of the actor that did this, which it could do, and this stall is reported
 abbrev pub Turn : Origin → Pick → ℕ → View → Pressure → Did → Option Stall → Type 0
 Turn o pick nvm v p did stall =
     Does did (turn_of o pick nvm v p) × (stall ≡ told_at (turn_of o pick nvm v p)) × Prepares did p

@@ -5,7 +5,7 @@ use thy_layout::BadImage;
 /// What a step of the boot reports.
 #[derive(Clone, Copy, Debug, PartialEq, Eq)]
 pub enum BootStep {
-    /// It goes on.
+    /// The boot goes on.
     GoesOn,
     /// The program is loaded, as the checkpoint of epoch 0.
     Loaded,

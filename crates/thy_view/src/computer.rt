@@ -18,13 +18,13 @@ use thy_layout::Start;
 /// A machine: hart, memory and checkpoint engine, over an NVM. One step is one cycle. Only `power_on`, `snapshot`
 /// and `console` allocate.
 ///
-/// Its promises are those of a run: a moment of a run leads to the next by each step, and whatever a power cut
-/// leaves at one is the committed checkpoint, whole, or the one in doubt.
+/// Its promises are about a run: each step leads from one moment of it to the next, and whatever a power cut leaves at
+/// a moment is the committed checkpoint, whole, or the one in doubt.
 pub trait Computer: Drop {
-    /// What is seen of it.
+    /// What the machine means and shows.
     ghost kind: { KindOf Self };
 
-    /// How many blocks its NVM has.
+    /// How many blocks the machine's NVM has.
     fn nvm_blocks(geometry: &Geometry) -> u64
         ensures { result ≡ kind.blocks geometry.now };
 
@@ -34,9 +34,9 @@ pub trait Computer: Drop {
         ensures powered { IfOk result (λ m. kind.powered geometry.now m) }
         ensures dram { IfOk result (λ m. kind.dram m ≡ dram) };
 
-    /// Takes the pick's cycle, if a hart advances its instruction in it: its own, or that of an actor which has nothing to
-    /// do. If another actor is to act, nothing is done, and `take_other` with the same pick takes the cycle. Allocates
-    /// nothing.
+    /// Takes the pick's cycle, if a hart advances its instruction in it: the pick names a hart, or an actor which has
+    /// nothing to do. If another actor is to act, nothing is done, and `take_other` with the same pick takes the cycle.
+    /// Allocates nothing.
     ///
     /// After an error the device may hold what the failed call left. Then only `failed`, `snapshot` and `cut` may be
     /// called.
@@ -125,6 +125,6 @@ pub trait Computer: Drop {
         ensures sized { (o : Origin) (k : ℕ) (n : Device) → kind.is_at o k self n → IsDramOf o.geometry result }
         ensures stopped { (o : Origin) (before : View) → kind.has_failed o before self → IsDramOf o.geometry result };
 
-    /// What holds of every such machine.
+    /// The laws that every such machine keeps.
     ghost lawful: { IsLawful kind };
 }

@@ -30,7 +30,7 @@ pub enum Did {
     Promoted,
     /// One action of the checkpoint engine but its last.
     Engine(EngineStep),
-    /// The checkpoint of this epoch is committed. So many instructions were retired meanwhile.
+    /// The checkpoint of this epoch is committed. `overlapped` instructions were retired meanwhile.
     Committed { epoch: u64, overlapped: u64 },
     /// A queued write of the NVM has landed.
     NvmDrained,

@@ -48,7 +48,7 @@ pub fn a_step_reaches_no_less()
     ensures { StepsReach }
 {}
 
-/// An instruction that is retired reaches beyond its own count.
+/// A cycle that retires an instruction reaches beyond the count of that instruction.
 pub fn an_instruction_reaches_beyond_its_count()
     ensures { RetiresReach }
 {}
@@ -58,7 +58,7 @@ pub fn what_retires_nothing_stays_there()
     ensures { StaysThere }
 {}
 
-/// A turn that is listed last is that of the next count, and changes none before it.
+/// A turn that is listed last is the turn of the next count, and changes none before it.
 pub fn a_turn_is_told_at_the_end()
     ensures { LastTold }
 {}

@@ -5,9 +5,9 @@ use thy_base::{EndCause, Mark};
 /// Where the machine is since its power came on.
 #[derive(Clone, Copy, Debug, PartialEq, Eq)]
 pub enum Phase {
-    /// It loads the program, or recovers a checkpoint.
+    /// The machine loads the program, or recovers a checkpoint.
     Boot,
-    /// It executes.
+    /// The machine executes.
     Run,
     /// The program has ended and its last checkpoint is committed.
     Halt,

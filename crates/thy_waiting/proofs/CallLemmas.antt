@@ -269,7 +269,7 @@ pub promotion-fails : (n m : Device) (r : Result (Unit {0}) NvmError) → IsRead
 promotion-fails n m (Ok x) reads = tt
 promotion-fails n m (Err x) reads = record { failed = reads.err; frame = reads.frame }
 
--- it is of its geometry still
+-- a scheme that equals one of its geometry is of it
 of-same : (w t : Waiting Below) → t ≡ w → StaysOf waiting_scheme w t
 of-same w t is = λ p of. subst (λ (v : Waiting Below). waiting_scheme.is_of p v) (sym is) of
 
@@ -290,7 +290,7 @@ seals-on o k cpu epoch w t n is idle whole bare stands =
 
 -- ---- a step of the engine
 
--- where no barrier is left the one below has something to do
+-- if no barrier is left, the scheme below has something to do
 way-below : (way : Bool) (left : ℕ) → (way || nat_lt 0 left) ≡ true → left ≤ 0 → way ≡ true
 way-below true left on none = refl
 way-below false left on none = absurd (let off : nat_lt 0 left ≡ false = le-ltb 0 left none in cc)
@@ -347,7 +347,7 @@ module _ (o : Origin) (k : CheckpointMarks) (w t : Waiting Below) (n m : Device)
     by_left zero is = item-fails (on-below on is) r (takes.goes is)
     by_left (suc left) is = barrier-fails framed r (takes.waits (omega (arith, is)))
 
--- one that failed leaves the scheme
+-- a barrier that failed leaves the scheme one of its geometry
 barrier-stays : (w t : Waiting Below) (n m : Device) (r : Result EngineStep NvmError) → MakesBarrier w n r t m → OnErr r (StaysOf waiting_scheme w t)
 barrier-stays w t n m (Ok x) makes = tt
 barrier-stays w t n m (Err x) makes = of-same w t makes.kept
@@ -393,7 +393,7 @@ pub boot-writes : {T : Type 0} (start : Start) (w : Waiting Below) (n : Device) 
 boot-writes start w n r old new counts = λ o m boots done rests.
     writes_nothing filling_dual (reading dual_layouts) o n m r old new (state_of start.state) w.below.boot w.below.control w.below.boot.stage done rests counts
 
--- one that failed leaves the controller
+-- a step of the boot that failed leaves the scheme one of its geometry
 pub boot-stays : (start : Start) (w t : Waiting Below) (n m : Device) (r : Result BootStep NvmError) → TakesBoot start w n r t m
     → OnErr r (StaysOf waiting_scheme w t)
 boot-stays start w t n m (Ok x) takes = tt

@@ -31,7 +31,7 @@ waiting_scheme = waits_over dual_scheme
 abbrev pub new_waiting : Parameters → Contents → Waiting Below
 new_waiting p dram = record { below = powered_on dual_design p dram; left = 0 }
 
--- this one is below, and as many barriers are left
+-- the scheme with this one below, and the same number of barriers left
 abbrev pub with_below : Below → Waiting Below → Waiting Below
 with_below below w = record w { below = below }
 
@@ -48,7 +48,7 @@ pub record MakesBarrier (w : Waiting Below) (n : Device)
   pub kept : OnErr result (t ≡ w)
   pub err : OnErr result (HasFailed n new)
 
--- the item that is due below; if it is a commit, barriers are left after it
+-- the scheme below takes its next item; if it is a commit, barriers are left after it
 pub record TakesItemBelow (w : Waiting Below) (n : Device)
     (result : Result EngineStep NvmError) (t : Waiting Below) (new : Device) : Type 0 where
   pub answer : IfOk result (λ step. step ≡ step_of dual_design w.below)
@@ -62,7 +62,7 @@ pub record TakesTurn (w : Waiting Below) (n : Device)
   pub waits : 0 < w.left → MakesBarrier w n result t new
   pub goes : w.left ≡ 0 → TakesItemBelow w n result t new
 
--- a step of the boot is that of the scheme below; if it is a restart, barriers are left after it
+-- a step of the boot is the scheme below's; if it is a restart, barriers are left after it
 pub record TakesBoot (start : Start) (w : Waiting Below) (n : Device)
     (result : Result BootStep NvmError) (t : Waiting Below) (new : Device) : Type 0 where
   pub below : TakesBootStep dual_design start w.below n result t.below new

@@ -114,14 +114,14 @@ impl WaitingScheme {
         self.below.power_off(pick)
     }
 
-    /// The controller's tables are sound. It does nothing.
+    /// The controller's tables are sound. The call does nothing.
     pub fn sound(&self)
         ensures { AreSoundTables self.now.below.control }
     {
         self.below.sound();
     }
 
-    /// Loads block `b`: as it was stored last.
+    /// Loads block `b`, as it was stored last.
     pub fn load_block<N: Nvm>(&self, b: u64, nvm: &mut N) -> Result<Block, NvmError>
         requires inside { b < length (loads self.now.below.control (N.device nvm.old)) }
         requires sized { length (N.device nvm.old).image ≡ image_blocks self.now.below.control.p }

@@ -41,12 +41,12 @@ Keeps-on K a l b m c n first second = record {
 
 -- ---- the device
 
--- where nothing is queued a barrier does nothing
+-- if nothing is queued a barrier does nothing
 settled-none : (n : Device) → n.queue ≡ [] → settled n ≡ n
 settled-none n e =
     ap (λ (q : List Write). record n { image = applied n.image q; queue = [] }) e ∙ ap (λ (q : List Write). record n { queue = q }) (sym e)
 
--- else it goes on where a drain ends
+-- a barrier goes on where a drain ends, if a write is queued
 settled-on : (n : Device) (w : Write) (ws : List Write) → n.queue ≡ w ∷ ws → settled (drained n) ≡ settled n
 settled-on n w ws e =
     ap (λ (q : List Write). record n { image = applied (applied n.image (take 1 q)) (drop 1 q); queue = [] }) e

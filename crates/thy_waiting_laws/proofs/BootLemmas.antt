@@ -23,7 +23,7 @@ module _ {S : Type 0} (K : SchemeOf S) (laws : IsLawful K) where
       = laws.finds o w.below n origin on.below (record { up = found.up; sized = found.sized; settled = found.settled; own = found.own }) in
       record { boots = record { below = there.boots; none = on.none }; view = there.view }
 
-  -- nothing of the boot changes below
+  -- a call that changes nothing of the boot below changes nothing of the boot over it
   stays-over : (o : Origin) (w : Waiting S) (n : Device) (t : S) (new : Device) → w.left ≡ 0 → BootStays K o w.below n t new
       → BootStays (waits_over K) o w n (record w { below = t }) new
   stays-over o w n t new none s =
@@ -42,7 +42,7 @@ module _ {S : Type 0} (K : SchemeOf S) (laws : IsLawful K) where
         settled = holds.settled;
       }
 
-  -- where the boot is over so many barriers are left
+  -- when the boot is over, any number of barriers up to the full one may be left
   booted-over : (o : Origin) (m : Mark) (cpu : CpuState) (t : S) (new : Device) (left : ℕ) → left ≤ barriers → IsBooted K o m cpu t new
       → IsBooted (waits_over K) o m cpu (record { below = t; left = left }) new
   booted-over o m cpu t new left few b = record {

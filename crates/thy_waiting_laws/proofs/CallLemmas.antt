@@ -69,7 +69,7 @@ module _ {S : Type 0} (K : SchemeOf S) (laws : IsLawful K) (never : AppliesNothi
   lower : Stands K o k w.below n
   lower = below-stands K laws never o k w n stands
 
-  -- where the marks and the number stay, as many barriers are to come
+  -- if the marks and the number of barriers left stay, the same number of barriers is to come
   same-come : (t : S) (new : Device) → Stands K o k t new → to_come K (over t w) ≡ to_come K w
   same-come t new there =
       come-same K laws never w (over t w)
@@ -146,7 +146,7 @@ module _ {S : Type 0} (K : SchemeOf S) (laws : IsLawful K) (never : AppliesNothi
         nearer = let nearer = e.nearer in omega (arith, nearer, before, come);
       }
 
-  -- which failed
+  -- a step of the engine below that failed is one of the scheme that waits
   pub engine-fails-over : (new : Device) → EngineFails K o k n new → EngineFails (waits_over K) o k n new
   engine-fails-over new f = record { step = f.step; acted = f.acted; safe = f.safe }
 
@@ -176,7 +176,7 @@ module _ {S : Type 0} (K : SchemeOf S) (laws : IsLawful K) (never : AppliesNothi
         nearer = omega (arith, before, come, some);
       }
 
-  -- which failed
+  -- a barrier that failed is a step of the engine that failed
   pub waiting-fails : (new : Device) → HasFailed n new → IsFramed n new → EngineFails (waits_over K) o k n new
   waiting-fails new failed frame = record {
     step = Barrier;

@@ -20,7 +20,7 @@ pub neither : (a b : Bool) → (a || b) ≡ false → (a ≡ false) × (b ≡ fa
 neither true b e = absurd (cc)
 neither false b e = (refl, e)
 
--- no more barriers are to come than come behind a commit
+-- no more barriers are to come than follow a commit
 pub few-to-come : (way : Bool) (left : ℕ) → left ≤ barriers → (if way then barriers else left) ≤ barriers
 few-to-come true left few = omega arith
 few-to-come false left few = few
@@ -32,7 +32,7 @@ module _ {S : Type 0} (K : SchemeOf S) (laws : IsLawful K) (never : AppliesNothi
   pub way-below : (o : Origin) (k : CheckpointMarks) (s : S) (n : Device) → Stands K o k s n → K.under_way s ≡ is_some k.sealed
   way-below o k s n stands = (laws.run_holds o k s n stands).way ∙ or_false (is_some k.sealed) (K.applies s) (never o k s n stands)
 
-  -- as many barriers are to come
+  -- the barriers to come depend only on whether a checkpoint is under way below, and on how many are left
   pub come-same : (v w : Waiting S) → K.under_way w.below ≡ K.under_way v.below → w.left ≡ v.left → to_come K w ≡ to_come K v
   come-same v w way left = ap₂ (λ (b : Bool) (l : ℕ). if b then barriers else l) way left
 

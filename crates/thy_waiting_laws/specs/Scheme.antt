@@ -11,7 +11,7 @@ use Rattle.thy_scheme.specs.Exact.{Made, CallsOf}
 use Rattle.thy_scheme.specs.Scheme.{SchemeOf, Stands}
 use Rattle.thy_waiting_laws.specs.Waiting.{Waiting, barriers, is_waiting, left_after, left_booted}
 
--- behind its boot a scheme applies nothing
+-- after its boot a scheme applies nothing
 abbrev pub AppliesNothing : {S : Type 0} → SchemeOf S → Type 0
 AppliesNothing {S} K = (o : Origin) (k : CheckpointMarks) (s : S) (n : Device) → Stands K o k s n → K.applies s ≡ false
 
@@ -31,7 +31,7 @@ pub record IsSoundWaiting {S : Type 0} (K : SchemeOf S) (o : Origin) (k : Checkp
   pub few : w.left ≤ barriers
   pub apart : 0 < w.left → k.sealed ≡ None
 
--- loads and stores leave as many
+-- loads and stores leave the number of barriers that are left
 pub record Stays {S : Type 0} (K : SchemeOf S) (v : Waiting S) (m : Device) (w : Waiting S) (n : Device) : Type 0 where
   pub below : K.stays v.below m w.below n
   pub same : w.left ≡ v.left
@@ -40,7 +40,8 @@ pub record Stays {S : Type 0} (K : SchemeOf S) (v : Waiting S) (m : Device) (w :
 abbrev pub is_under_way : {S : Type 0} → SchemeOf S → Waiting S → Bool
 is_under_way K w = K.under_way w.below || is_waiting w
 
--- the barriers that are to come: those after the commit that is due, or those that are left
+-- the barriers that are to come: all of them while the scheme below has a checkpoint under way, else the ones that are
+-- left
 abbrev pub to_come : {S : Type 0} → SchemeOf S → Waiting S → ℕ
 to_come K w = if K.under_way w.below then barriers else w.left
 
@@ -74,7 +75,7 @@ calls_over K = record {
   boot = λ start w n step t new. K.calls.boot start w.below n step t.below new × (t.left ≡ left_booted step);
 }
 
--- all else is as below
+-- a scheme that waits: all else is as in the scheme below
 abbrev pub waits_over : {S : Type 0} → SchemeOf S → SchemeOf (Waiting S)
 waits_over K = record {
   decode = K.decode;

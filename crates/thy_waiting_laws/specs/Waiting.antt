@@ -14,7 +14,7 @@ pub record Waiting (S : Type 0) : Type 0 where
 abbrev pub barriers : ℕ
 barriers = 3
 
--- some are left
+-- some barriers are left
 abbrev pub is_waiting : {S : Type 0} → Waiting S → Bool
 is_waiting w = nat_lt 0 w.left
 
@@ -23,7 +23,8 @@ abbrev pub left_after : EngineStep → ℕ
 left_after (Committed epoch) = barriers
 left_after step = 0
 
--- and after a step of the boot: none after a load, since the start of a run has no checkpoint before it
+-- how many barriers are left after a step of the boot: none after a load, since the start of a run has no checkpoint
+-- before it
 abbrev pub left_booted : BootStep → ℕ
 left_booted (Restarted cpu epoch) = barriers
 left_booted step = 0

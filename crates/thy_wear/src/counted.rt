@@ -24,7 +24,7 @@ fn count(counts: &mut [u64], at: u64)
 }
 
 impl<N: Nvm + Drop> Counted<N> {
-    /// Counts the writes to the first so many places of a device.
+    /// Counts the writes to the first `places` places of a device.
     pub(crate) fn over(alloc: Global, inner: N, places: usize) -> Result<Counted<N>, AllocError>
         ensures inner { IfOk result (λ c. c.inner ≡ inner) }
         ensures none { IfOk result (λ c. c.counts.items ≡ replicate places 0) }
@@ -66,7 +66,7 @@ impl<N: Nvm> Nvm for Counted<N> {
         self.inner.read(at)
     }
 
-    /// It is counted if it succeeds.
+    /// A write is counted if it succeeds.
     fn write(&mut self, at: u64, block: &Block) -> Result<(), NvmError>
         requires place { at < length (N.device self.old.inner).image }
         requires up { (N.device self.old.inner).down ≡ false }

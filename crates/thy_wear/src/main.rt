@@ -27,7 +27,7 @@ const MOST: u64 = 1_000_000;
 /// What is asked for.
 #[derive(Clone, Copy)]
 struct Asked {
-    /// How many lines there are.
+    /// How many lines the device has.
     lines: u64,
     /// After how many stores a barrier comes.
     barrier: u64,
@@ -63,7 +63,7 @@ fn read_words(words: &[String]) -> io::Result<Asked>
     Ok(asked)
 }
 
-/// A device of these lines, with nothing in it.
+/// The shape of a device whose lines are the ones asked for.
 fn shape_of(asked: Asked) -> Shape
     ensures blocks { result.blocks ≡ asked.lines }
     ensures queue { 0 < result.queue }

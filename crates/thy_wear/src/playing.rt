@@ -3,8 +3,8 @@ ghost use Rattle.std.specs.Prelude.{◌≡◌, ◌<◌, false, length, OnOk};
 
 use thy_base::{Block, Nvm, NvmError};
 
-/// Stores to lines in order; a number past the last line is taken modulo their number. A barrier comes after every so many
-/// of them.
+/// Stores to lines in order; a number past the last line is taken modulo their number. A barrier comes after each group
+/// of `every` stores.
 pub(crate) fn play<N: Nvm>(
     nvm: &mut N,
     lines: u64,

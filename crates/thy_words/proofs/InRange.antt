@@ -21,7 +21,7 @@ record AreInRange (v : Values) : Type 0 where
   number : v.number ≤ most_number
   config : fault_of v.config ≡ None
 
--- where neither has a fault
+-- if the first fault of two is none, neither has one
 both-None : (a b : Option ConfigError) → option_or a b ≡ None → (a ≡ None) × (b ≡ None)
 both-None None b h = (refl, h)
 both-None (Some f) b h = absurd (cc)

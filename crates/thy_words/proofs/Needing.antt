@@ -13,7 +13,7 @@ use Rattle.thy_words.specs.declared.words.Values.{Values}
 use Rattle.thy_words.specs.declared.words.WordsError.{WordsError}
 use Rattle.thy_words.specs.declared.words.WordsError.TheVariants.{Usage, Word, Value, Memory}
 
--- where all fields are readable, the values need memory
+-- if all fields are readable, the values need memory
 pub readable-memory : (rows : List Row) (e : AllocError) → None ≡ unreadable rows → NeedsMemory (values_in rows) (Memory e)
 readable-memory rows e is = go (unreadable rows) (values_at rows) (value_fault (values_at rows)) is
   where
@@ -32,7 +32,7 @@ order_from-memory verb rows values Usage h = tt
 order_from-memory verb rows values (Word f) h = tt
 order_from-memory verb rows values (Value f v) h = tt
 
--- and where they are there
+-- memory may run out in an order whose values are there
 pub order_from-Ok : (verb : Verb) (rows : List Row) (values : Result Values WordsError) (v : Values) (e : AllocError)
     → values ≡ Ok v → NeedsMemory (order_from verb rows values) (Memory e)
 order_from-Ok verb rows values v e is =

@@ -49,7 +49,7 @@ abbrev pub run_of : Text → (operand : Text) → App
 run_of name operand =
     command_of name (operand ∷ []) fields (codes "input" ∷ codes "save" ∷ []) (codes "digest" ∷ [])
 
--- the commands: `compare` takes all fields but cuts, tears and scheme, `plain` only those of memory and the limit
+-- the commands: `compare` takes all fields but cuts, tears and scheme, `plain` only the fields of memory and the limit
 abbrev pub commands : List App
 commands =
     run_of (codes "run") (codes "FILE")
@@ -71,7 +71,7 @@ bare = record {
   subs = [];
 }
 
--- with its commands
+-- the program with its commands
 abbrev pub program : App
 program = fold (λ p c. with_subcommand p c.top) bare commands
 

@@ -13,7 +13,7 @@ use Rattle.thy_base.specs.declared.config.SchemeName.TheVariants.{Thynvm, Journa
 use Rattle.thy_base.specs.Fields.{field_name}
 use Rattle.thy_words.specs.Numbers.{is_list, is_number, number_in, numbers_in}
 
--- those of a configuration, in the order in which they are read, and then tested
+-- the fields of a configuration, in the order in which they are read, and then tested
 abbrev pub fields : List Field
 fields = Base ∷ Pages ∷ Console ∷ Epoch ∷ Btt ∷ Ptt ∷ Sets ∷ Ways ∷ Nvmq ∷ Dramq ∷ High ∷ Low
     ∷ Mix ∷ Cuts ∷ Tears ∷ Limit ∷ Scheme ∷ Harts ∷ Gap ∷ []
@@ -22,12 +22,12 @@ fields = Base ∷ Pages ∷ Console ∷ Epoch ∷ Btt ∷ Ptt ∷ Sets ∷ Ways 
 abbrev pub all_fields : List Field
 all_fields = N ∷ fields
 
--- those that `compare` has an option for
+-- the fields that `compare` has an option for
 abbrev pub compare_fields : List Field
 compare_fields = Base ∷ Pages ∷ Console ∷ Epoch ∷ Btt ∷ Ptt ∷ Sets ∷ Ways ∷ Nvmq ∷ Dramq ∷ High ∷ Low
     ∷ Mix ∷ Limit ∷ Harts ∷ Gap ∷ []
 
--- those that `plain` has an option for
+-- the fields that `plain` has an option for
 abbrev pub plain_fields : List Field
 plain_fields = Base ∷ Pages ∷ Console ∷ Limit ∷ []
 
@@ -66,7 +66,7 @@ number_at rows f otherwise = unwrap_or (option_and_then number_in (text_of rows 
 abbrev pub list_at : List Row → Field → List ℕ
 list_at rows f = option_map_or numbers_in (text_of rows f) []
 
--- the scheme, that of ThyNVM if the arguments leave it out
+-- the scheme, `Thynvm` if the arguments leave it out
 abbrev pub scheme_at : List Row → SchemeName
 scheme_at rows = unwrap_or (option_and_then scheme_named (text_of rows Scheme)) Thynvm
 

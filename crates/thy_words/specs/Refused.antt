@@ -14,7 +14,7 @@ is_out_of_memory _ = false
 abbrev pub refused : ErrorKind → WordsError
 refused kind = if is_out_of_memory kind then Memory alloc_error else Usage
 
--- memory does not run out where there is no command, or a field is unreadable: both are found without it
+-- memory does not run out if there is no command, or a field is unreadable: both are found without it
 abbrev pub NeedsMemory : {A : Type 0} → Result A WordsError → WordsError → Type 0
 NeedsMemory asked (Memory e) = (asked ≢ Err Usage) × ((f : Field) → asked ≢ Err (Word f))
 NeedsMemory asked e = Unit {0}

@@ -31,9 +31,9 @@ pub record Job : Type 0 where
   pub save : Option Text
   pub digest : Bool
 
--- What the arguments ask for: to run the program file of this name, to resume the image of this name, to run the
--- program that is made from this number, to compare the runs of a program file by each scheme, to run one on the plain
--- machine, or to put the program that is made from this number under this name.
+-- What the arguments ask for: to run the program file of this name, to resume the image of this name, or to run the
+-- program that is made from this number. Or to compare the runs of a program file by each scheme, to run one on the
+-- plain machine, or to store the program that is made from this number under this name.
 pub data Order : Type 0 where
   run : (file : Text) (job : Job) → Order
   resume : (image : Text) (job : Job) → Order
@@ -73,7 +73,7 @@ abbrev pub values_in : List Row → Result Values WordsError
 values_in rows = option_map_or (λ f. Err (Word f))
     (unreadable rows) (ranged (values_at rows) (value_fault (values_at rows)))
 
--- a name that is required, so there is one
+-- the value of a required name, empty if it is missing
 abbrev pub operand : Text → List Row → Text
 operand name rows = unwrap_or (first_of name rows) []
 
@@ -99,7 +99,7 @@ order_with Compare rows v = compare (operand (codes "FILE") rows) (job_with rows
 order_with Plain rows v = plain (operand (codes "FILE") rows) (job_with rows v.config)
 order_with Make rows v = make v.number (operand (codes "OUT") rows)
 
--- the same, if there are values
+-- what a command asks for, by its values, or the refusal of its values
 abbrev pub order_from : Verb → List Row → Result Values WordsError → Result Order WordsError
 order_from verb rows (Ok v) = Ok (order_with verb rows v)
 order_from verb rows (Err e) = Err e

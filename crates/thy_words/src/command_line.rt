@@ -44,7 +44,7 @@ static RUN_OPTIONS: [Argument; 22] = [
     Argument::Flag("digest"),
 ];
 
-/// The options of `compare`: those of `run` but for the scheme, cuts of power, and what is saved.
+/// The options of `compare`: all options of `run` except the scheme, cuts of power, and what is saved.
 static COMPARE_OPTIONS: [Argument; 18] = [
     Argument::Valued("base"),
     Argument::Valued("pages"),

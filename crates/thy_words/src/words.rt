@@ -269,9 +269,9 @@ fn refused(error: &clap::Error) -> WordsError
 /// The command and the configuration that the arguments ask for, the program's name first.
 ///
 /// Invalid usage is refused as `Usage`. Else the first field whose text is not a value of it is refused as `Word`, and
-/// else the first that is out of range as `Value`. The number of a made program is the first field, those of the
-/// configuration follow in their order. All this holds unless memory ran out; once `clap` has read the words, `Usage` and
-/// `Word` are found without any.
+/// else the first that is out of range as `Value`. The number of a made program is the first field, and the fields of
+/// the configuration follow in their order. All this holds unless memory ran out; once `clap` has read the words,
+/// `Usage` and `Word` are found without any.
 pub fn settings(alloc: Global, words: &[String]) -> Result<Command, WordsError>
     ensures exact { Answers (settings_of (map string_bytes words.now)) result }
     ensures in_range { IfOk result (λ command. IsInRange (order_of command)) }

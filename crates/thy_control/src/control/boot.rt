@@ -27,7 +27,7 @@ impl Control {
         self.put_block(i, b);
     }
 
-    /// Puts the entry of a listed block.
+    /// Writes the entry of a listed block.
     fn put_block(&mut self, i: usize, b: u64)
         requires booting { IsBooting self.old }
         requires may { MayListBlock i b self.old }
@@ -53,7 +53,7 @@ impl Control {
         self.put_page(j, page);
     }
 
-    /// Puts the entry of a listed page.
+    /// Writes the entry of a listed page.
     fn put_page(&mut self, j: usize, page: u64)
         requires booting { IsBooting self.old }
         requires may { MayListPage j page self.old }

@@ -9,8 +9,9 @@ impl Control {
     ghost use Rattle.thy_control.specs.Pages.{next_page};
     ghost use Rattle.thy_control.specs.Positions.{issued_of, position_by, next_position};
 
-    /// The position that is next: the entry of the block table whose version is copied; if there is none, behind these, 64
-    /// times the entry of the page table and the block of its page that is written.
+    /// The position that is next: the entry of the block table whose version is copied. If there is none, it is 64
+    /// times the entry of the page table whose page is written, plus the block of that page, counted after the
+    /// positions of the block table.
     pub fn next_position(&mut self) -> Option<u64>
         ensures same { self.new ≡ self.old }
         ensures position { result ≡ next_position self.old }
@@ -23,7 +24,7 @@ impl Control {
         }
     }
 
-    /// That of the page that is written next.
+    /// The position of the next block of the page that is written next, if there is one.
     fn page_position(&mut self) -> Option<u64>
         ensures same { self.new ≡ self.old }
         ensures position { result ≡ position_by self.old NoCopy (next_page self.old) }
@@ -36,7 +37,7 @@ impl Control {
         }
     }
 
-    /// That of the next block of the page that an entry lists.
+    /// The position of the next block of the page that an entry lists.
     fn position_in(&self, j: usize) -> u64
         requires { j < length self.now.ptt.entries }
         ensures position { result ≡ self.now.p.btt + (64 * j + issued_of (entry_at self.now.ptt j)) }

@@ -25,7 +25,7 @@ fn block_listed_by(entry: Option<BttEntry>) -> Option<u64>
     }
 }
 
-/// The page that it lists at an entry.
+/// The page that the checkpoint under way lists at an entry.
 fn page_listed_by(entry: Option<PttEntry>) -> Option<u64>
     ensures { result ≡ option_and_then page_due entry }
 {
@@ -38,7 +38,8 @@ fn page_listed_by(entry: Option<PttEntry>) -> Option<u64>
     }
 }
 
-/// What it lists at an entry of both tables: the block table's entries, and after them the page table's.
+/// What the checkpoint under way lists at an entry of both tables: the block table's entries, and after them the page
+/// table's.
 fn listed_by(btt: &Btt, ptt: &Ptt, n: usize) -> Option<u64>
     requires { n < length btt.now.entries + length ptt.now.entries }
     ensures { result ≡ listed_at (map (option_and_then block_due) btt.now.entries ++ map (option_and_then page_due) ptt.now.entries) n }
@@ -55,9 +56,8 @@ impl Control {
     ghost use Rattle.thy_control.specs.CheckpointTables.{tables1};
     ghost use Rattle.thy_control.specs.TableBlocks.{entries_of};
 
-    /// Block `k` of what the slot of the checkpoint under way has after the processor's record: the block table and
-    /// after it the page table, eight entries a block, and after them the counts of the epoch before, 64 pages a
-    /// block.
+    /// Block `k` of what the slot of the checkpoint under way has after the processor's record: block table, page
+    /// table, and counts of the epoch before. A block has eight entries of the tables, or the counts of 64 pages.
     pub fn table(&self, k: u64) -> Block
         requires { k < table_blocks self.now.p + count_blocks self.now.p }
         ensures tables { k < table_blocks self.now.p → result ≡ table_block_of (tables1 self.now) k }

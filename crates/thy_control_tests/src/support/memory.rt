@@ -46,7 +46,7 @@ impl Model for Memory {
 /// Epochs and counts are below this.
 const CEILING: u64 = 1 << 62;
 
-/// A processor that retired so many instructions.
+/// A processor that retired `count` instructions.
 pub(crate) fn cpu_at(count: u64) -> CpuState
     ensures { length result.regs ≡ 32 }
 {
@@ -170,7 +170,7 @@ impl Memory {
         stored
     }
 
-    /// Seals the epoch with a processor that retired so many instructions: its checkpoint begins.
+    /// Seals the epoch with a processor that retired `count` instructions: its checkpoint begins.
     pub(crate) fn seal(&mut self, rt: &impl Abort, epoch: u64, count: u64) {
         let under_way = self.engine.under_way();
         assert!(rt; !under_way);

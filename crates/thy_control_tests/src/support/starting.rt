@@ -90,7 +90,7 @@ impl Off {
         }
     }
 
-    /// Its power comes on.
+    /// The power of both devices comes on.
     pub(crate) fn boot(self, rt: &impl Abort, alloc: Global, start: Start) -> Starting
         requires { IsLeastStart (state_of start.state) }
     {
@@ -141,7 +141,7 @@ impl Model for Starting {
 #[derive(Drop)]
 pub(crate) enum Taken {
     Going(Starting),
-    /// It is over, with what was returned.
+    /// The boot is over, with what was returned.
     Over(Memory, BootStep),
 }
 

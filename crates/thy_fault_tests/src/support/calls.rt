@@ -28,7 +28,8 @@ pub(crate) fn called(
     called_on(alloc, line, &mut shelf, unseen, untold)
 }
 
-/// The same over a shelf that is kept.
+/// Calls with the arguments, separated by spaces, over a shelf that is kept, and a terminal and a report that fail at
+/// these calls.
 pub(crate) fn called_on(
     alloc: Global,
     line: &str,
@@ -40,7 +41,8 @@ pub(crate) fn called_on(
     called_over(alloc, line, shelf, unseen, untold, &mut nvm)
 }
 
-/// The same over any shelf, and over this device.
+/// Calls with the arguments, separated by spaces, over any shelf, over this device, and over a terminal and a report
+/// that fail at these calls.
 pub(crate) fn called_over<H: Shelf, N: Nvm>(
     alloc: Global,
     line: &str,

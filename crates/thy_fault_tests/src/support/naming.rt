@@ -34,7 +34,7 @@ fn note(names: &mut Vec<String>, name: String)
 }
 
 impl NamingShelf {
-    /// This shelf, of which no call has failed yet.
+    /// A shelf over this one, of which no call has failed yet.
     pub(crate) fn new(alloc: Global, shelf: MemShelf) -> NamingShelf {
         NamingShelf {
             shelf,

@@ -15,8 +15,8 @@ pub(crate) static EXIT_SEVEN: [u8; 132] = [
     0x73, 0x00, 0x00, 0x00,
 ];
 
-/// `auipc t0,0; lw t1,24(t0); sw t1,16(t0); fence.i; addi a0,zero,1; jal zero,+8; addi a0,zero,9;
-/// addi a7,zero,93; ecall`: it puts its seventh word in place of its fifth.
+/// `auipc t0,0; lw t1,24(t0); sw t1,16(t0); fence.i; addi a0,zero,1; jal zero,+8; addi a0,zero,9; addi a7,zero,93;
+/// ecall`: it writes its seventh word over its fifth.
 static SELF_MODIFYING: [u32; 9] = [
     0x00000297, 0x0182a303, 0x0062a823, 0x0000100f, 0x00100513, 0x0080006f, 0x00900513, 0x05d00893,
     0x00000073,
@@ -28,7 +28,7 @@ pub(crate) static NINE_STORES: [u32; 11] = [
     0xe0013023, 0x05d00893, 0x00000073,
 ];
 
-/// The same nine stores twice; `addi a7,zero,93; ecall`.
+/// The nine stores of `NINE_STORES` twice; `addi a7,zero,93; ecall`.
 static NINE_STORES_TWICE: [u32; 20] = [
     0x00013023, 0xfc013023, 0xf8013023, 0xf4013023, 0xf0013023, 0xec013023, 0xe8013023, 0xe4013023,
     0xe0013023, 0x00013023, 0xfc013023, 0xf8013023, 0xf4013023, 0xf0013023, 0xec013023, 0xe8013023,
@@ -95,8 +95,9 @@ pub(crate) fn shelf_of(alloc: Global, files: &[(&str, &[u8])]) -> Result<MemShel
     Ok(MemShelf::new(held, Vec::new(alloc)))
 }
 
-/// The files of these tests: the program that exits with 7 under the name F, the one that modifies itself under S, and 63
-/// bytes of the first under G; the one that prints under P, and those of nine stores under N and D.
+/// The files of these tests: the program that exits with 7 under the name F, the one that modifies itself under S, and
+/// 63 bytes of the first under G. The program that prints is under P, and the programs of nine stores are under N and
+/// D.
 pub(crate) fn files(alloc: Global) -> Result<Vec<(String, Vec<u8>)>, AllocError> {
     let modifying = file_of(alloc, 0, &SELF_MODIFYING)?;
     let printing = file_of(alloc, 0, &HELLO)?;

@@ -104,15 +104,15 @@ struct Beside {
     /// At the committed checkpoint, with its epoch. There is none until the program was loaded.
     committed: Vec<Block>,
     epoch: u64,
-    /// At the last seal.
+    /// The blocks at the last seal.
     last: Vec<Block>,
-    /// Now.
+    /// The blocks now.
     work: Vec<Block>,
     /// The blocks that the table lists.
     stored: Vec<u64>,
     /// The commit block of the last seal's checkpoint was written, and is not yet confirmed.
     written: bool,
-    /// And it has landed.
+    /// The commit block of the last seal's checkpoint has landed.
     landed: bool,
 }
 
@@ -121,7 +121,7 @@ struct Beside {
 struct Seen {
     /// A commit.
     committed: bool,
-    /// No free entry for a store.
+    /// No entry was free for a store.
     full: bool,
     /// A cut that left the checkpoint whose commit block was written, and one that left the one before.
     kept_new: bool,

@@ -103,7 +103,8 @@ static COMMITS: [EngineStep; 16] = [
     EngineStep::CommitWritten,
 ];
 
-/// Its steps after the commit, and after each restart from there: each block is written home, and then a barrier.
+/// The engine's steps after the commit, and after each restart from there: each block is written home, and then a
+/// barrier.
 static APPLIES: [EngineStep; 9] = [
     EngineStep::Copied,
     EngineStep::Copied,
@@ -194,7 +195,7 @@ fn applies_again(
     ends_from(rt, alloc, &NINE_STORES, plains, &mut on, booted, at);
 }
 
-/// Cuts the power so many cycles after the commit.
+/// Cuts the power `first` cycles after the commit.
 fn cut_once(rt: &impl Abort, alloc: Global, seed: u64, first: u64) -> Powered<Machine<Journal>> {
     let mut on = committed(rt, alloc, seed);
     for _ in 0..first {

@@ -40,7 +40,7 @@ static FOUR_PAGES: Row = Row {
     status: Status::Exited(9),
 };
 
-/// Behind the blocks of the pages a checkpoint has the slot's, of which one is the map, a barrier and the commit block.
+/// After the blocks of the pages a checkpoint has the slot's, of which one is the map, a barrier and the commit block.
 static BEHIND_PAGES: [EngineStep; 8] = [
     EngineStep::StateBlock,
     EngineStep::StateBlock,
@@ -52,8 +52,8 @@ static BEHIND_PAGES: [EngineStep; 8] = [
     EngineStep::CommitWritten,
 ];
 
-/// Takes the cycles of a checkpoint up to its commit, and compares the steps of the engine: so many pages, and what is behind
-/// them.
+/// Takes the cycles of a checkpoint up to its commit, and compares the steps of the engine: `pages` pages, and what
+/// comes after them.
 fn checkpoints(
     rt: &impl Abort,
     alloc: Global,
@@ -95,7 +95,7 @@ fn goes_on(
     ends_from(rt, alloc, &NINE_STORES, plains, &mut on, booted, at);
 }
 
-/// Cuts the power so many cycles after the commit.
+/// Cuts the power `first` cycles after the commit.
 fn cut_once(rt: &impl Abort, alloc: Global, seed: u64, first: u64) -> Powered<Machine<Shadow>> {
     let mut on = committed(rt, alloc, seed);
     for _ in 0..first {

@@ -34,12 +34,12 @@ struct Waits {
     sealed: bool,
     /// The barriers so far after a commit or a restart, until the hart continues.
     behind: Option<u64>,
-    /// How many there were each time that it went on.
+    /// How many barriers there were each time that the hart continued.
     counts: Vec<u64>,
 }
 
 impl Waits {
-    /// After a boot with this result.
+    /// The waits after a boot with this result.
     fn from(alloc: Global, booted: Booted) -> Waits {
         Waits {
             sealed: false,
@@ -72,7 +72,7 @@ impl Waits {
         }
     }
 
-    /// A cycle did this.
+    /// Notes what a cycle did.
     fn note(&mut self, rt: &impl Abort, did: Did) {
         match did {
             Did::NvmDrained | Did::DramDrained => {}

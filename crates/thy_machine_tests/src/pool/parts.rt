@@ -70,13 +70,13 @@ impl Model for Parts {
 /// What comes of a boot.
 #[derive(Drop)]
 pub(crate) enum Booted {
-    /// It is over, with what was returned.
+    /// The boot is over, with what was returned.
     Over(Parts, BootStep),
     /// The power was cut before.
     Cut(Off),
 }
 
-/// A processor that retired so many instructions.
+/// A processor that retired `count` instructions.
 pub(crate) fn cpu_at(count: u64) -> CpuState
     ensures { length result.regs ≡ 32 }
 {
@@ -147,7 +147,7 @@ fn step<N: Nvm>(
         .expect(rt, "a step")
 }
 
-/// Takes so many steps, or fewer if the boot is over before, and returns what the last one returned.
+/// Takes at most `most` steps, and stops when the boot is over. Returns what the last one returned.
 fn steps<N: Nvm>(
     rt: &impl Abort,
     boot: &mut Boot,
@@ -192,8 +192,8 @@ impl Off {
         }
     }
 
-    /// The power comes on, and the boot takes its steps. After so many it is cut again, with one pick for both devices,
-    /// unless the boot is over. The image must not be refused.
+    /// The power comes on, and the boot takes its steps. After `most` steps the power is cut again, with one pick for
+    /// both devices, unless the boot is over. The image must not be refused.
     pub(crate) fn boot(
         self,
         rt: &impl Abort,
@@ -275,7 +275,7 @@ impl Parts {
         }
     }
 
-    /// Seals the epoch with a processor that retired so many instructions: its checkpoint begins.
+    /// Seals the epoch with a processor that retired `count` instructions: its checkpoint begins.
     pub(crate) fn seal(&mut self, rt: &impl Abort, epoch: u64, count: u64) {
         is_idle(rt, &self.engine);
         self.engine.begin(&cpu_at(count), epoch);

@@ -104,9 +104,9 @@ struct Beside {
     /// At the committed checkpoint, with its epoch. There is none until the program was loaded.
     committed: Vec<Block>,
     epoch: u64,
-    /// At the last seal.
+    /// The blocks at the last seal.
     last: Vec<Block>,
-    /// Now.
+    /// The blocks now.
     work: Vec<Block>,
     /// The pages that have a frame.
     framed: Vec<u64>,
@@ -114,7 +114,7 @@ struct Beside {
     begun: Option<u64>,
     /// The commit block of the last seal's checkpoint was written, and is not yet confirmed.
     written: bool,
-    /// And it has landed.
+    /// The commit block of the last seal's checkpoint has landed.
     landed: bool,
 }
 
@@ -123,7 +123,7 @@ struct Beside {
 struct Seen {
     /// A commit.
     committed: bool,
-    /// No free frame for a store.
+    /// No frame was free for a store.
     full: bool,
     /// A frame that was begun for a page was begun anew for another one.
     begun_anew: bool,
@@ -193,7 +193,7 @@ impl Beside {
         }
     }
 
-    /// A store is done.
+    /// Notes that a store is done.
     fn store(&mut self, rt: &impl Abort, b: u64, block: &Block) {
         match self.work.get_mut(b as usize) {
             Some(place) => *place = *block,
@@ -342,7 +342,7 @@ fn store_or_seal(
     }
 }
 
-/// Takes so many steps of the engine, or fewer: up to the write of the commit block, or up to the commit.
+/// Takes at most `most` steps of the engine, up to the write of the commit block, or up to the commit.
 fn take_steps(rt: &impl Abort, parts: &mut Parts, beside: &mut Beside, seen: &mut Seen, most: u64) {
     for _ in 0..most {
         if parts.under_way() {

@@ -254,7 +254,7 @@ fn kind_of(event: &Event) -> (&'static str, u64) {
     }
 }
 
-/// The events of the program that exits with 7: those of a run by each scheme.
+/// The events of the program that exits with 7, in a run by each scheme.
 static EVENTS: [(&str, u64); 15] = [
     ("scheme", 0),
     ("commit", 0),
@@ -332,14 +332,15 @@ fn is_same(a: &MachState, b: &MachState) -> bool {
         && a.console.as_slice() == b.console.as_slice()
 }
 
-/// Whether a state is told as the plain machine told its own last one: how it has ended, and the digest of memory.
+/// Whether a state is reported as the plain machine reported its own last one: how it has ended, and the digest of
+/// memory.
 fn is_told_so(alloc: Global, state: &MachState, plain: &[u8]) -> Result<bool, AllocError> {
     let mut report = MemSink::new(alloc, 65_536, Vec::new(alloc))?;
     let is_written = write_ended(state, true, &mut report).is_ok();
     Ok(is_written && report.taken() == plain)
 }
 
-/// Compares the last states of a made program's runs with one another, and with that of the plain machine.
+/// Compares the last states of a made program's runs with one another, and with the plain machine's.
 fn expect_one_end(
     rt: &impl Abort,
     alloc: Global,

@@ -74,11 +74,11 @@ fn ran(alloc: Global, line: &str) -> Result<Given, AllocError> {
     called(alloc, line, programs(alloc)?, &[], &[])
 }
 
-/// Lines with the status, what the terminal takes, and the report. A checkpoint is shown once it is committed. In
-/// the smallest memory that is cycle 738 for the whole program: 700 for the loading, 21 for the eight instructions
-/// (two for each, and one for the first line, one to read, and three to reserve, fill and write the
-/// console's block), the flush of that block, a drain, the seal, and eleven actions of the checkpoint with three drains
-/// between them. Two instructions are left after an epoch of six, and are executed while its checkpoint is written.
+/// Lines with the status, what the terminal takes, and the report. A checkpoint is shown once it is committed. In the
+/// smallest memory that is cycle 738 for the whole program: 700 for the loading, 21 for the eight instructions, the
+/// flush of the console's block, a drain, the seal, and eleven actions of the checkpoint with three drains. The
+/// instructions take two cycles each, and one for the first line, one to read, and three to reserve, fill and write the
+/// console's block. Two instructions are left after an epoch of six, and are executed while its checkpoint is written.
 static PRINTED: [(&str, u8, &str, &str); 10] = [
     (
         "thynvm run H",

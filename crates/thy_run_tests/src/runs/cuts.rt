@@ -135,9 +135,9 @@ fn cut_everywhere(
     Ok(())
 }
 
-/// What the first boot after a cut reports: nothing was committed before the commit block of loading
-/// is written in cycle 698. A drain lets it land in cycle 699. That of the checkpoint is written in
-/// cycle 721. Each is then the only write that is queued, and `lands` says whether the cut lets it land.
+/// What the first boot after a cut reports: nothing was committed before the commit block of loading is written in
+/// cycle 698. A drain lets it land in cycle 699. The checkpoint's is written in cycle 721. Each is then the only write
+/// that is queued, and `lands` says whether the cut lets it land.
 fn comes_after(cycle: u64, lands: bool) -> &'static str {
     if cycle < 698 || (cycle == 698 && !lands) {
         "reload"

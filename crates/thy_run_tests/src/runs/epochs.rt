@@ -13,7 +13,7 @@ pub(crate) static NINE_STORES: [u32; 11] = [
     0xe0013023, 0x05d00893, 0x00000073,
 ];
 
-/// The same nine stores twice; `addi a7,zero,93; ecall`.
+/// The nine stores of `NINE_STORES` twice; `addi a7,zero,93; ecall`.
 pub(crate) static NINE_STORES_TWICE: [u32; 20] = [
     0x00013023, 0xfc013023, 0xf8013023, 0xf4013023, 0xf0013023, 0xec013023, 0xe8013023, 0xe4013023,
     0xe0013023, 0x00013023, 0xfc013023, 0xf8013023, 0xf4013023, 0xf0013023, 0xec013023, 0xe8013023,
@@ -31,9 +31,9 @@ const EXHAUSTED: &str = "commit 0 overlapped 0\n\
      commit 3 overlapped 0\n\
      exit 0 at 11\n";
 
-/// Runs that exit, with the report: four instructions in as many epochs, each of which ends while the checkpoint
-/// before it is written; nine stores, with entries for all of them, and in caches of a line and of four; and
-/// eighteen stores through one line, with the page in the DRAM once it was stored to, and with no page there.
+/// Runs that exit, with the report. First come four instructions in four epochs, each of which ends while the
+/// checkpoint before it is written. Nine stores follow, with entries for all of them, and in caches of a line and of
+/// four; and eighteen stores through one line, with the page in the DRAM once it was stored to, and with no page there.
 static REPORTS: [(&str, &str); 7] = [
     (
         "thynvm run E --pages 8 --btt 8 --ptt 8 --epoch 1",

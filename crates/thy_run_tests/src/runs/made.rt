@@ -66,8 +66,8 @@ fn runs_of_made_programs_are_summed_up(rt: HostRuntime) -> Result<(), Fail> {
 const UNSUMMED: &[u8] =
     b"commit 0 overlapped 0\nepoch 1 ends at 48027 by end\ncommit 1 overlapped 0\nexit 128 at 48027\n";
 
-/// The report refuses the line of a made file, and then that of a run's sums. The file and the image are there all the same,
-/// and a save that failed keeps its status.
+/// The report refuses the line of a made file, and then the line of a run's sums. The file and the image are there all
+/// the same, and a save that failed keeps its status.
 #[test]
 fn a_report_that_refuses_sums_has_failed(rt: HostRuntime) -> Result<(), Fail> {
     let alloc = rt.alloc();

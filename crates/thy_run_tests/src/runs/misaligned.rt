@@ -55,7 +55,7 @@ fn ran(alloc: Global, line: &str, file: &[u8]) -> Result<Given, AllocError> {
     called(alloc, line, shelf_of(alloc, &[("F", file)])?, &[], &[])
 }
 
-/// Calls so, and compares status and report.
+/// Runs a line over a file, and compares status and report.
 fn expect_of(
     rt: &impl Abort,
     alloc: Global,
@@ -96,7 +96,7 @@ const AROUND: [u32; 18] = [
     0x44332211, 0x887766d5,
 ];
 
-/// The numbers that it puts there, and the one that is stored.
+/// The numbers that the program writes to memory, and the one that is stored.
 const LOW: u64 = 0x7806_8504_0883_0281;
 
 const HIGH: u64 = 0x8e0f_9071_0a8b_0c8d;
@@ -106,11 +106,11 @@ const STORED: u64 = 0x8877_66d5_4433_2211;
 /// What an access does with its bytes.
 #[derive(Clone, Copy, Debug, PartialEq, Eq)]
 enum Kind {
-    /// They are loaded, and extended by their sign.
+    /// The bytes are loaded, and extended by their sign.
     Signed,
-    /// They are loaded, and extended by zeros.
+    /// The bytes are loaded, and extended by zeros.
     Unsigned,
-    /// They are stored.
+    /// The bytes are stored.
     Store,
 }
 
@@ -129,7 +129,7 @@ static ACCESSES: [(u32, usize, Kind); 11] = [
     (0x0062b023, 8, Kind::Store),
 ];
 
-/// Puts the low bytes of a number into a list of bytes.
+/// Writes the low bytes of a number into a list of bytes.
 fn put(memory: &mut [u8], at: usize, size: usize, value: u64)
     requires at { at ≤ 32768 }
     requires size { size ≤ 8 }
@@ -166,9 +166,9 @@ fn number(bytes: &[u8], signed: bool) -> u64 {
 struct Row {
     file: Vec<u8>,
     status: u8,
-    /// How many instructions it takes.
+    /// How many instructions the program retires.
     count: u64,
-    /// What its end and memory's digest are reported by.
+    /// The report's lines of the program's end and of memory's digest.
     end: String,
 }
 
@@ -266,7 +266,7 @@ fn run_row(rt: &impl Abort, alloc: Global, row: &Row) -> Result<(), AllocError> 
     Ok(())
 }
 
-/// Each access at nine places in a row.
+/// Runs each access at nine places in a row.
 fn run_places(rt: &impl Abort, alloc: Global, from: usize) -> Result<(), AllocError>
     requires { from + 9 ≤ 32768 }
 {

@@ -41,7 +41,7 @@ fn header_of(alloc: Global, entry: u64) -> Result<Vec<u8>, AllocError> {
     Ok(file)
 }
 
-/// A program file of one segment of so many zeros, from 65536 on, none of which the file has.
+/// A program file of one segment of `size` zeros, from 65536 on, none of which the file has.
 fn zeros_of(alloc: Global, size: u64) -> Result<Vec<u8>, AllocError> {
     let mut file = Vec::from_slice(alloc, &EXIT_SEVEN[..96])?;
     file.extend_from_slice(&[0; 8])?;

@@ -97,7 +97,7 @@ struct Turns {
     sealed: Vec<u8>,
 }
 
-/// While a file is loaded there is no turn.
+/// The turns while a file is loaded: there are none.
 fn none(alloc: Global) -> Turns {
     Turns {
         kept: Vec::new(alloc),
@@ -158,8 +158,8 @@ fn answered(alloc: Global, line: &str, shelf: &mut MemShelf) -> Result<Answer, A
     Ok(thynvm(alloc, &words, shelf, &mut terminal, &mut report, &mut nvm))
 }
 
-/// Runs a line over this file under the name H, and compares each state of an event with that of the plain machine which
-/// takes the turns that the events before it list.
+/// Runs a line over this file under the name H, and compares each state of an event with the state of the plain machine
+/// which takes the turns that the events before it list.
 fn expect_by_turns(
     rt: &impl Abort,
     alloc: Global,
@@ -247,8 +247,9 @@ fn the_hart_that_adds_second_exits(rt: HostRuntime) -> Result<(), Fail> {
     Ok(())
 }
 
-/// The same with a cut after cycle 720, which leaves the checkpoint of epoch 0: what each hart has retired in the epoch
-/// that the cut undoes, if it was sealed, and what in the one that comes after the restart; and the cycles.
+/// Runs of SECOND_EXITS by the seeds 0 to 4, with a cut after cycle 720, which leaves the checkpoint of epoch 0. A row
+/// has what is reported of the epoch that the cut undoes, if it was sealed, what each hart has retired in the one after
+/// the restart, and the cycles.
 static CUT_SEEDS: [(&str, u64, u64, u64); 5] = [
     ("epoch 1 ends at 19 by end harts 11 8\n", 10, 8, 800),
     ("epoch 1 ends at 16 by end harts 8 8\n", 9, 8, 795),
@@ -342,8 +343,8 @@ fn each_run_of_a_comparison_has_its_own_turns(rt: HostRuntime) -> Result<(), Fai
     Ok(())
 }
 
-/// Where the second record of a saved image of epoch 1 begins: its slot is the one from block 1061 on, 13 behind 1048, and
-/// the record five blocks on, from block 1066.
+/// Where the second record of a saved image of epoch 1 begins: its slot is the one from block 1061 on, 13 after 1048,
+/// and the record five blocks on, from block 1066.
 const SECOND: usize = 68_224;
 
 /// A place of that record, a byte that is put there, and what `resume` with two harts answers.
@@ -439,7 +440,7 @@ fn expect_resumed(
     Ok(())
 }
 
-/// Its first seal is at cycle 710.
+/// The first seal of the program is at cycle 710.
 #[test]
 fn addresses_with_nothing_reserved_are_saved_again(rt: HostRuntime) -> Result<(), Fail> {
     expect_resumed(&rt, rt.alloc(), &SECOND_EXITS, 0, &[], ADDRESSES.as_slice())?;
@@ -455,8 +456,8 @@ static STORES_UNRESERVED: [u32; 12] = [
     0x0000006F, 0x00660513, 0x05D00893, 0x00000073,
 ];
 
-/// The same countdown, and then a conditional store to 69636, which is no multiple of 8.
-/// `lui x6,0x11`, `addi x6,x6,4`, `sc.d a2,x5,(x6)`.
+/// Each hart counts down from 100, and then stores conditionally to 69636, which is no multiple of 8. `lui x6,0x11`,
+/// `addi x6,x6,4`, `sc.d a2,x5,(x6)`.
 static STORES_MISALIGNED: [u32; 6] = [
     0x06400393, 0xFFF38393, 0xFE039EE3, 0x00011337, 0x00430313, 0x1853362F,
 ];

@@ -7,7 +7,7 @@ pub(crate) fn expect<T: Debug + PartialEq + Drop>(rt: &impl Abort, got: T, want:
     assert_eq!(rt; got, want);
 }
 
-/// The same for a row of a table, which `at` names.
+/// Stops the test unless it got what it wants for a row of a table, which `at` names.
 pub(crate) fn expect_at<T: Debug + PartialEq + Drop, A: Display + Drop>(
     rt: &impl Abort,
     got: T,

@@ -92,7 +92,7 @@ fn a_second_cut_falls_into_recovery(rt: HostRuntime) -> Result<(), Fail> {
     Ok(())
 }
 
-/// The journal is applied again behind the restart.
+/// The journal is applied again after the restart.
 #[test]
 fn a_second_cut_falls_into_application(rt: HostRuntime) -> Result<(), Fail> {
     cut_twice(&rt, rt.alloc(), JOURNAL, &EXHAUSTS, 22, "7,9")?;

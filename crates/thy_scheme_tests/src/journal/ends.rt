@@ -76,7 +76,7 @@ fn a_program_for_another_processor_is_refused(rt: HostRuntime) -> Result<(), Fai
     Ok(())
 }
 
-/// A file of one segment of so many zeros, none of which the file has.
+/// A file of one segment of `size` zeros, none of which the file has.
 fn zeros_of(alloc: Global, size: u64) -> Result<Vec<u8>, AllocError> {
     let file = exits_with_seven(alloc)?;
     let file = patched(alloc, file.as_slice(), 96, &[0; 8])?;
@@ -136,7 +136,7 @@ fn an_access_over_two_blocks_is_carried_out(rt: HostRuntime) -> Result<(), Fail>
     Ok(())
 }
 
-/// Its parts are refused: the header, then the program header, then the segment.
+/// The parts of a file are refused: the header, then the program header, then the segment.
 #[test]
 fn a_program_file_is_refused_at_every_length_but_its_own(rt: HostRuntime) -> Result<(), Fail> {
     let alloc = rt.alloc();

@@ -8,7 +8,7 @@ const TABLE: usize = 448;
 
 static ENTRY: [u8; 8] = [0xb5, 0x01, 0, 0, 0, 0, 0, 0];
 
-/// Bytes of the image that are other ones, with the report: the scheme's number in the header, and the table behind the
+/// Bytes of the image that are other ones, with the report: the scheme's number in the header, and the table after the
 /// record of the processor in the first slot.
 static PATCHES: [(usize, &[u8], &str); 4] = [
     (56, &[2], "image 4 Geometry\n"),
@@ -39,7 +39,7 @@ fn an_image_is_refused_at_every_length_but_its_own(rt: HostRuntime) -> Result<()
     Ok(())
 }
 
-/// The limits are in cycles of the first commit and of the application behind it.
+/// The limits are in cycles of the first commit and of the application after it.
 #[test]
 fn a_run_in_pieces_ends_as_one_run(rt: HostRuntime) -> Result<(), Fail> {
     run_in_pieces(&rt, rt.alloc(), JOURNAL, 770)?;

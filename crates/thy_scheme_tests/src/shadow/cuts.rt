@@ -92,7 +92,7 @@ fn a_second_cut_falls_into_recovery(rt: HostRuntime) -> Result<(), Fail> {
     Ok(())
 }
 
-/// Behind the restart the page is copied again.
+/// After the restart the page is copied again.
 #[test]
 fn a_second_cut_falls_into_copies(rt: HostRuntime) -> Result<(), Fail> {
     cut_twice(&rt, rt.alloc(), SHADOW, &EXHAUSTS, 60, "7,9")?;

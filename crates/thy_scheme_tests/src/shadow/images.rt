@@ -14,8 +14,8 @@ static WORDS: [u8; 64] = [
     5, 0, 0, 0, 0, 0, 0, 0, 6, 0, 0, 0, 0, 0, 0, 0, 7, 0, 0, 0, 0, 0, 0, 0, 8, 0, 0, 0, 0, 0, 0, 0,
 ];
 
-/// Bytes of the image that are other ones, with the report: the scheme's number in the header, and the map behind the record
-/// of the processor in the first slot. The pool has 16 pages.
+/// Bytes of the image that are other ones, with the report: the scheme's number in the header, and the map after the
+/// record of the processor in the first slot. The pool has 16 pages.
 static PATCHES: [(usize, &[u8], &str); 5] = [
     (56, &[1], "image 4 Geometry\n"),
     (448, &[0], "image 6 TableIndex 0\n"),
@@ -35,7 +35,7 @@ fn each_refusal_of_a_map_has_its_line(rt: HostRuntime) -> Result<(), Fail> {
     Ok(())
 }
 
-/// With nine pages the map has two blocks, and its words behind the ninth stand for no page. The pool has 17 pages.
+/// With nine pages the map has two blocks, and its words after the ninth list no page. The pool has 17 pages.
 static PAST_THE_LAST: [(usize, &[u8], &str); 3] = [
     (512, &[18], "image 6 TableIndex 8\n"),
     (520, &[1], "image 6 TableIndex 9\n"),
@@ -67,7 +67,7 @@ fn an_image_is_refused_at_every_length_but_its_own(rt: HostRuntime) -> Result<()
     Ok(())
 }
 
-/// The limits are in cycles of the copies, of the first commit and behind it.
+/// The limits are in cycles of the copies, of the first commit and after it.
 #[test]
 fn a_run_in_pieces_ends_as_one_run(rt: HostRuntime) -> Result<(), Fail> {
     run_in_pieces(&rt, rt.alloc(), SHADOW, 880)?;

@@ -56,7 +56,7 @@ pub(crate) fn called_over<N: Nvm>(
     })
 }
 
-/// The same over a new device, and a terminal that does not fail.
+/// Calls with the arguments, separated by spaces, over this shelf, a new device, and a terminal that does not fail.
 pub(crate) fn called(alloc: Global, line: &str, shelf: &mut MemShelf) -> Result<Given, AllocError> {
     let mut nvm = MemNvm::new(alloc);
     called_over(alloc, line, shelf, &[], &mut nvm)

@@ -22,7 +22,7 @@ static HELLO: [u32; 9] = [
 ];
 
 /// `auipc t0,0; lw t1,24(t0); sw t1,16(t0); fence.i; addi a0,zero,1; jal zero,+8; addi a0,zero,9; addi a7,zero,93;
-/// ecall`: it puts its seventh word in place of its fifth.
+/// ecall`: it writes its seventh word over its fifth.
 static SELF_MODIFYING: [u32; 9] = [
     0x00000297, 0x0182a303, 0x0062a823, 0x0000100f, 0x00100513, 0x0080006f, 0x00900513, 0x05d00893,
     0x00000073,
@@ -102,10 +102,10 @@ pub(crate) fn patched(
     Ok(bytes)
 }
 
-/// A shelf with the files of these tests: the program that exits with 7 under the name F, nine stores under N, four
-/// instructions under E, the one that prints under P, the one that modifies itself under S, the one that reads
-/// under R, and as its inputs `abcd` under A, `ab` under B and nothing under Z; accesses over two blocks under T, over
-/// the end of memory under O, and five stores over two blocks each under V. It fails at these calls.
+/// A shelf with the files of these tests. The program that exits with 7 is under the name F, nine stores under N, four
+/// instructions under E, the one that prints under P, and the one that modifies itself under S. The program that reads
+/// is under R, with its inputs `abcd` under A, `ab` under B and nothing under Z. Accesses over two blocks are under T,
+/// over the end of memory under O, and five stores over two blocks each under V. It fails at these calls.
 pub(crate) fn shelf_with(alloc: Global, failing: &[u64]) -> Result<MemShelf, AllocError> {
     let mut files = Vec::new(alloc);
     for (name, words) in [

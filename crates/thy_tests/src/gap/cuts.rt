@@ -29,7 +29,7 @@ fn steps<N: Nvm>(nvm: &mut N, from: u8) -> u8
     8
 }
 
-/// What the last barrier left of a line, if so many steps were made.
+/// What the last barrier left of a line, after `made` steps.
 fn stands(line: u8, made: u8) -> Block
     requires line { line < 4 }
     requires made { made ≤ 8 }
@@ -43,7 +43,7 @@ fn stands(line: u8, made: u8) -> Block
     }
 }
 
-/// Whether a cut may leave a block of a line if so many steps were made, and then one failed.
+/// Whether a cut may leave a block of a line after `made` steps, and one that failed.
 fn may_be_left(line: u8, made: u8, block: &Block) -> bool
     requires line { line < 4 }
     requires made { made ≤ 8 }

@@ -52,8 +52,9 @@ fn over_a_device_that_tears_no_line_moves(rt: HostRuntime) {
     expect(&rt, gap.writes(), 2);
 }
 
-/// The last call of the first step, a barrier, fails with the registers queued. A cut that drops them leaves a move that is
-/// due; one that lets them land completes the move, and the next barrier moves nothing. Either way one line has moved then.
+/// The last call of the first step, a barrier, fails with the registers queued. A cut that drops them leaves the move
+/// still to be made; a cut that lets them land completes it, and the next barrier moves nothing. Either way one line
+/// has moved then.
 #[test]
 fn a_cut_that_completes_a_move_counts_the_writes_anew(rt: HostRuntime) {
     for pick in [0, 1] {

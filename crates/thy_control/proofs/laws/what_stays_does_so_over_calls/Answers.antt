@@ -10,7 +10,7 @@ use Rattle.thy_control.specs.State.{State, cell_of}
 use Rattle.thy_control.specs.Stays.{AreCopied, CellStays, Stays}
 use Rattle.thy_control.proofs.laws.what_stays_does_so_over_calls.Goals as goal
 
--- what was copied and written is so still
+-- a block that was copied and written stays so over calls
 copied_on : (c d : Cell) → CellStays c d → IsCopied c → IsCopied d
 copied_on c d stays h = record {
   copied = stays.settled h.copied;
@@ -21,7 +21,7 @@ is_placed_on : (s : State) (m : Device) (t : State) (n : Device) (b : ℕ) → S
     → IsPlaced b (cell_of s b) → IsPlaced b (cell_of t b)
 is_placed_on s m t n b stays l placed = placed_on b (cell_of s b) (cell_of t b) (stays.cells b l) placed
 
--- with all of the blocks
+-- what was copied and written of all blocks is so after calls
 are_copied_on : (s : State) (m : Device) (t : State) (n : Device) → Stays s m t n → AreCopied s → AreCopied t
 are_copied_on s m t n stays all b l =
     let inside : b < memory_blocks s.p = subst (λ (q : Parameters). b < memory_blocks q) stays.same_p l in

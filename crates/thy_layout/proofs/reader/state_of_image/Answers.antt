@@ -21,7 +21,7 @@ commit_read l bytes b has is =
     let some = (IsFound-checked l bytes has).some in
     is ∙ sym (block_at-blocks_of bytes 1 (omega (arith, some)))
 
--- its slot, which has no fault
+-- the slot that the code reads has no fault
 fits_read : (l : Layout) (bytes : List ℕ) (b : Block) (slot : List Block) → HasCheckpointOf l bytes → b ≡ block_at (blocks_of bytes) 1
     → slot ≡ slot_in l (blocks_of bytes) → Fits l b slot
 fits_read l bytes b slot has named at = coe 1 0 (i. Fits l (named i) (at i)) (IsFound-checked l bytes has).fits

@@ -4,7 +4,7 @@ use Rattle.thy_make.specs.Encode.{encoded}
 use Rattle.thy_make.specs.Program.{draws, store_of}
 use Rattle.thy_make.proofs.program.push_stores.Given as goal
 
--- with the stores that are to come the words are those of all stores
+-- the words that are there, with the words of the stores to come, are the words of all stores
 abbrev pub invariant-loop-store : goal.invariant-loop-store
 invariant-loop-store l =
     l.words.items ++ map encoded (flat_map store_of (draws (2000 - l._store) l.lcg))

@@ -53,7 +53,7 @@ returns-in-Ok-Some-clause-advances g c = λ fitted turns d.
       turns_room = c.list_advance.ensures.room;
     }
 
--- nothing is done
+-- no hart advanced, and nothing is done
 pub returns-in-Ok-None-clause-advances : goal.returns-in-Ok-None-clause-advances
 returns-in-Ok-None-clause-advances g c = λ fitted turns d.
     let left = c.advance.ensures.left (c.in-Ok-None.is ∙ ap Ok c.in-Ok-None.field-0-is) in (

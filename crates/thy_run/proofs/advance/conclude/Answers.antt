@@ -60,7 +60,7 @@ returns-in_default g c = λ fitted p n m k turns t u ready running w.
       seen = refl;
     }
 
--- a cut is due
+-- a cut falls after the cycle
 pub returns-then-is_due : goal.returns-then-is_due
 returns-then-is_due g c = λ fitted p n m k turns t u ready running w.
     let K = g.M.Computer.kind in

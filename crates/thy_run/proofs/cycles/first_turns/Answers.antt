@@ -6,7 +6,7 @@ use Rattle.thy_base.specs.Bytes.{room_of}
 use Rattle.thy_run.specs.Going.{HasTurnsRoom}
 use Rattle.thy_run.proofs.cycles.first_turns.Goals as goal
 
--- so much room is enough
+-- room for an epoch's turns is enough
 enough : (r : Result Bytes AllocError) (p : Parameters) (room : ℕ) → p.epoch ≤ room
     → IfOk r (λ b. room_of b ≡ room) → IfOk r (λ b. HasTurnsRoom p (room_of b))
 enough (Ok b) p room le h = inr (omega (arith, le, h))

@@ -149,7 +149,7 @@ returns-in-Breaks-clause-seen g c =
 pub returns-in-Breaks-clause-ran : goal.returns-in-Breaks-clause-ran
 returns-in-Breaks-clause-ran g c = (returns-in-Breaks-clause-seen g c).0
 
--- a cut is due
+-- a cut falls after the cycle
 pub cut_power-requires-clause-awaits : goal.cut_power-requires-clause-awaits
 cut_power-requires-clause-awaits g c =
     let K = g.M.Computer.kind in

@@ -123,7 +123,7 @@ pass_other-requires-clause-few g c =
     let limit : c.numbers-limit.result.limit ≡ c.args.plan.now.geometry.limit = ap (λ p. p.limit) c.numbers-limit.ensures.same in
     subst (λ (l : ℕ). c.loop-now.now < l) limit c.loop-now-test.true
 
--- it has something to report, or failed
+-- the cycle after quiet ones has something to report, or failed
 pub returns-in-Some : goal.returns-in-Some
 returns-in-Some g c = λ fitted turns goes w.
     let K = g.M.Computer.kind in
@@ -190,7 +190,7 @@ returns g c = λ fitted turns goes w.
       stops = (limit, refl, refl);
     }
 
--- one more cycle was quiet
+-- a quiet cycle was done, and the loop goes on
 pub loop-now-preserved : goal.loop-now-preserved
 loop-now-preserved g c = λ fitted turns goes w.
     let K = g.M.Computer.kind in

@@ -10,7 +10,7 @@ fault_ok : (o : Option ConfigError) (p g : Parameters) → Ok g ≡ geometry_or 
 fault_ok None p g e = refl
 fault_ok (Some f) p g e = cc
 
--- and one without has that of which it is told
+-- a configuration without a geometry has the fault that is reported
 fault_err : (o : Option ConfigError) (p : Parameters) (f : ConfigError) → Err f ≡ geometry_or o p → Some f ≡ o
 fault_err None p f e = cc
 fault_err (Some g) p f e = cc

@@ -23,7 +23,7 @@ is_free_program : is_simple_and_free program ≡ true
 unfolding clap_on_literals
 is_free_program = refl
 
--- where `clap` finds no fault, the words name a subcommand or none
+-- if `clap` finds no fault, the words name a subcommand or none
 named_without_fault : (ws : List Text) → fault_of program ws ≡ [] → subcommand_of program ws ≡ named ws
 unfolding named
 named_without_fault ws e = sym (ap (λ k. cond (is_empty k) (subcommand_of program ws) None) e)
@@ -32,7 +32,7 @@ not_empty : (k : ErrorKind) (kinds : Kinds) → IsAmong k kinds → is_empty kin
 not_empty k [] h = absurd h
 not_empty k (x ∷ xs) h = ne_eqb _ _ (λ e. omega arith)
 
--- where it finds one, they name none
+-- if `clap` finds a fault, the words name no command
 refused_with_fault : (k : ErrorKind) (ws : List Text) → IsAmong k (fault_of program ws) → Err Usage ≡ settings_of ws
 unfolding named settings_of
 refused_with_fault k ws h = sym (ap (λ b. order_named (cond b (subcommand_of program ws) None)) (not_empty k (fault_of program ws) h))

@@ -7,7 +7,7 @@ use Rattle.thy_switch.specs.Counts.{Tally}
 use Rattle.thy_switch.specs.LastBlocks.{last_block_of}
 use Rattle.thy_switch.proofs.counts.Counts.last_block.Goals as goal
 
--- as many as there are, up to 64, are the first 64
+-- the elements of a list from a place on, at most 64 of them, are the first 64 from there
 up_to_64 : (xs : List ℕ) (from n : ℕ) → n ≡ min (length xs - from) 64 → take (from + n - from) (drop from xs) ≡ take 64 (drop from xs)
 up_to_64 xs from n is = elim (cases_lt (length xs - from) 64) as (λ _. take (from + n - from) (drop from xs) ≡ take 64 (drop from xs)) [
   | inl low ↦
