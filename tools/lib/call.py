@@ -15,6 +15,9 @@ WISHES = {
     "--pcs": "says how often each program counter retired",
     "--state": "says the state after a cycle",
     "--state-at": "says the state at a count of instructions",
+    "--causes": "says how many cycles there were of each cause",
+    "--epochs": "says the same for each time that an epoch was executed",
+    "--wear": "says how many writes each place of the NVM took",
     TORN: "lets a cut tear blocks",
 }
 NUMBERED, OBSERVED_RUNS = ("--state", "--state-at"), ("run", "resume", "bench")

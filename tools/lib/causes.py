@@ -180,7 +180,8 @@ def journal(found, seen, left):
     found.flushes_dram = flushed
     found.evictions_dram = max(0, seen.number("cycles", "dramdrain") - flushed)
     found.evictions_nvm, found.fills_nvm = writes, reads
-    found.buffer_copies = copied // 2
+    # With --causes `observe` says which of them went home.
+    found.buffer_copies = copied // 2 if seen.causes is None else seen.causes["homes"]
     found.journalled = copied - found.buffer_copies
 
 

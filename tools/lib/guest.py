@@ -215,8 +215,3 @@ def made_file(number):
         words += [lui(T1, page), store(3, T0, T1, at), addi(T0, T0, 1)]
     words += [addi(T2, T2, -1), beq(T2, ZERO, 8), jal(ZERO, -24008), addi(A0, T0, 0), addi(A7, ZERO, EXIT), ECALL]
     return elf(LINKED, [(LINKED, code_of(words), 0)], align=4)
-
-
-def made_blocks(number):
-    """The blocks that the stores of the made program go to, counted from address 65536 on."""
-    return ROUNDS * [((PAGE * page + at) - LINKED) // 64 for page, at in made_places(number)]

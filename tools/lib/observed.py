@@ -6,7 +6,7 @@ import re
 from dataclasses import dataclass
 from typing import Optional
 
-from lib import report, states
+from lib import counted, report, states
 from lib.report import NUMBER
 
 EVENT = re.compile(rf"{NUMBER} (0|[1-9][0-9]*|-) ([a-z].*)")
@@ -65,6 +65,9 @@ class Observed:
     totals: dict  # first word: name: number; what stands directly behind the first word has the name ""
     pcs: Optional[dict] = None  # program counter: how often it retired; None if this was not asked for
     states: Optional[dict] = None  # head line of a state that was asked for: the state, or None if there was none
+    causes: Optional[dict] = None  # cause: how many cycles it has; None if this was not asked for
+    epochs: Optional[list] = None  # the stretches of cycles; None if they were not asked for
+    wear: Optional[dict] = None  # place: how many writes it took; None if this was not asked for
 
     def number(self, word, name=""):
         return self.totals[word][name]
@@ -106,7 +109,7 @@ def pcs_of(lines):
 
 def is_head(line):
     """Whether a line is the head line of what was asked for in addition."""
-    return line == PCS or bool(states.HEAD.fullmatch(line))
+    return line == PCS or line in counted.HEADS or bool(states.HEAD.fullmatch(line))
 
 
 def sections_of(lines):
@@ -127,7 +130,7 @@ def states_of(sections):
     """The states among sections, by their head lines."""
     found = {}
     for head, lines in sections.items():
-        if head != PCS:
+        if head != PCS and head not in counted.HEADS:
             try:
                 found[head] = states.state_of(lines)
             except states.Fault as fault:
@@ -145,7 +148,7 @@ def read(lines):
     trap = TRAP.fullmatch(lines[k]) if k < len(lines) else None
     rest = lines[k + 1 :] if trap else lines[k:]
     rest, sections = sections_of(rest)
-    counted = sections.get(PCS)
+    retired = sections.get(PCS)
     if not events and not rest:
         raise Fault("it has no cycles: `observe` writes none of a run on the plain machine")
     two = len(rest) == len(TOTALS_OF_TWO)
@@ -163,15 +166,20 @@ def read(lines):
         if sum(parts) != whole:
             raise Fault(f"the sum of its line '{word} ..' is {sum(parts)}, and has to be {whole}")
     if two:
-        moved, retired = (totals["hart0"][name] + totals["hart1"][name] for name in ("moved", "retired"))
-        if retired != totals["hart"]["retired"]:
-            raise Fault(f"its harts retired {retired} instructions, and have to have retired {totals['hart']['retired']}")
+        moved, both = (totals["hart0"][name] + totals["hart1"][name] for name in ("moved", "retired"))
+        if both != totals["hart"]["retired"]:
+            raise Fault(f"its harts retired {both} instructions, and have to have retired {totals['hart']['retired']}")
         if moved > totals["hart"]["moved"]:
             raise Fault(f"its harts have {moved} moves, and there are {totals['hart']['moved']}")
-    pcs = None if counted is None else pcs_of(counted)
+    pcs = None if retired is None else pcs_of(retired)
     if pcs is not None and sum(pcs.values()) != totals["hart"]["retired"]:
         raise Fault(f"its program counters retired {sum(pcs.values())} times, and have to have {totals['hart']['retired']} times")
     cycles = [event.cycle for event in events]
     if cycles != sorted(cycles) or (cycles and cycles[-1] > totals["cycles"][""] + 1):
         raise Fault("the cycles of its events do not rise, or go past the last one")
-    return Observed(events, trap[0] if trap else None, totals, pcs, states_of(sections))
+    try:
+        counts = counted.read(sections, totals)
+    except counted.Fault as fault:
+        raise Fault(str(fault)) from None
+    more = {head: counts.get(head) for head in counted.HEADS}
+    return Observed(events, trap[0] if trap else None, totals, pcs, states_of(sections), **more)

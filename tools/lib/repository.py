@@ -28,10 +28,9 @@ def program(name):
     return path("bin", name) if is_package() else path("crates", name, "out", name)
 
 
-# What the script runs, once it has built it; the same if its first word is `observe`; and the program that counts wear.
+# What the script runs, once it has built it, and the same if its first word is `observe`.
 PROGRAM = program("thynvm")
 OBSERVER = program("observe")
-WEAR = program("thy_wear")
 
 
 def text_of(name):

@@ -134,3 +134,48 @@ hart 1 10004
 {registers(x10=0x10)}reserved 8 10010
 memory 10000 16
 """
+
+# A run of one store, beside whose checkpoint the program ends, with what is counted of it. (Its writes are put on two places.)
+STORED = """\
+700 0 commit 0 overlapped 0
+710 2 epoch 1 ends at 2 by length
+730 4 commit 1 overlapped 2
+731 4 epoch 2 ends at 4 by end
+744 4 commit 2 overlapped 0
+744 4 exit 0 at 4
+cycles 744 boot 525 hart 15 engine 22 nvmdrain 182 dramdrain 0
+hart moved 8 retired 4 flushed 1 merged 0 promoted 0 sealed 2
+engine copied 0 page 0 state 10 table 6 barrier 2 commit 2 committed 2
+waiting 14
+nvm reads 449 writes 541 barriers 6
+lost 0
+epochs 2 early 0 overlapped 2
+causes
+boot 525
+instructions 8
+meanwhile 4
+flushes 1
+merges 0
+seals 2
+promotions 0
+copies 0
+homes 0
+pages 0
+processor 10
+tables 6
+commits 2
+barriers 4
+nvmdrains 182
+dramdrains 0
+nothing 0
+waiting 14
+epochs
+epoch\tfrom\tto\tend\tboot\tinstructions\tmeanwhile\tflushes\tmerges\tseals\tpromotions\tcopies\thomes\tpages\tprocessor\ttables\tcommits\tbarriers\tnvmdrains\tdramdrains\tnothing\twaiting
+-\t1\t700\tboot\t525\t0\t0\t0\t0\t0\t0\t0\t0\t0\t0\t0\t0\t0\t175\t0\t0\t0
+1\t701\t710\tseal\t0\t8\t0\t1\t0\t1\t0\t0\t0\t0\t0\t0\t0\t0\t0\t0\t0\t0
+2\t711\t731\tseal\t0\t0\t4\t0\t0\t1\t0\t0\t0\t0\t5\t3\t1\t2\t5\t0\t0\t6
+3\t732\t744\trun\t0\t0\t0\t0\t0\t0\t0\t0\t0\t0\t5\t3\t1\t2\t2\t0\t0\t8
+wear
+0 3
+1 538
+"""

@@ -2,7 +2,7 @@
 
 import unittest
 
-from lib import causes, observed, written
+from lib import causes, counted, observed, written
 from lib.options import Refused
 
 
@@ -118,6 +118,13 @@ class ByCause(unittest.TestCase):
                 other_barriers=1, evictions_nvm=1, flushes_dram=3, evictions_dram=5, fills_nvm=12, journalled=5, buffer_copies=4
             ),
         )
+
+    def test_the_journal_with_causes(self):
+        # A cut fell before the last three copies, so more went into the journal than home.
+        numbers = [523, 150, 0, 3, 0, 2, 0, 6, 3, 0, 10, 2, 2, 5, 500, 8, 0, 20]
+        section = "".join(f"{name} {number}\n" for name, number in zip(counted.NAMES, numbers))
+        seen = found(f"{JOURNAL}causes\n{section}", "journal")
+        self.assertEqual((seen.journalled, seen.buffer_copies), (6, 3))
 
     def test_shadow_paging(self):
         # A frame that was filled within instructions was for an eviction, though only 20 writes landed in cycles of their own.

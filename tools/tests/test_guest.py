@@ -5,7 +5,7 @@ import struct
 import unittest
 
 from lib import guest, repository
-from lib.guest import T0, T1, T2, T6, ZERO, Code, elf, made_blocks, made_file, made_places
+from lib.guest import T0, T1, T2, T6, ZERO, Code, elf, made_file, made_places
 
 
 def by_assembler():
@@ -153,8 +153,6 @@ class Made(unittest.TestCase):
         self.assertEqual(words, (79 << 12 | 6 << 7 | 0x37, (1512 >> 5) << 25 | 5 << 20 | 6 << 15 | 3 << 12 | (1512 & 31) << 7 | 0x23))
 
     def test_all_stores(self):
-        blocks = made_blocks(7)
-        self.assertEqual(len(blocks), 16000)
-        self.assertEqual(blocks[:2000], blocks[-2000:])
         # After the code, which has pages 16 to 21, and within 192 pages from 65536 on.
-        self.assertTrue(all(48 * 64 <= block < 192 * 64 for block in blocks))
+        pages = [page - 16 for page, _ in made_places(7)]
+        self.assertTrue(len(pages) == 2000 and all(48 <= page < 192 for page in pages))

@@ -57,6 +57,31 @@ class Observed(unittest.TestCase):
         ):
             self.refuses(said, [*lines(written.CUTS), *more])
 
+    def test_causes_and_epochs_and_wear(self):
+        seen = read(lines(written.STORED))
+        self.assertEqual((seen.causes["instructions"], seen.causes["meanwhile"], seen.causes["barriers"]), (8, 4, 4))
+        self.assertEqual([(it.epoch, it.first, it.last, it.end) for it in seen.epochs][1:3], [(1, 701, 710, "seal"), (2, 711, 731, "seal")])
+        self.assertEqual([it.counts["waiting"] for it in seen.epochs], [0, 0, 6, 8])
+        self.assertEqual(seen.wear, {0: 3, 1: 538})
+        plain = read(lines(written.CUTS))
+        self.assertEqual((plain.causes, plain.epochs, plain.wear), (None, None, None))
+
+    def test_refusals_of_what_is_counted(self):
+        for old, new, said in (
+            ("merges 0\n", "", "in place of its line 'merges ..' it has: seals 2"),
+            ("meanwhile 4", "meanwhile 5", "its numbers of instructions and meanwhile make 13, and not 12"),
+            ("nothing 0", "nothing 1", "make 745 cycles, and have to make 744"),
+            ("waiting 14\nepochs", "waiting 14\nmore 1\nepochs", "it has another line: more 1"),
+            ("epoch\tfrom", "epoch\tbegin", "in place of the names of its columns"),
+            ("1\t701\t710\tseal", "1\t702\t710\tseal", "a row begins with cycle 702, and has to begin with 701"),
+            ("1\t701\t710\tseal", "1\t701\t710\tend", "this is not a row of a stretch"),
+            ("1\t701\t710\tseal", "one\t701\t710\tseal", "this is not a row of a stretch"),
+            ("wear\n0 3", "wear\n0 0", "this is not a line of a place: 0 0"),
+            ("0 3\n1 538", "1 538\n0 3", "its places do not rise at 0"),
+            ("1 538", "1 537", "its places took 540 writes, and there are 541"),
+        ):
+            self.refuses(said, lines(written.STORED, (old, new)))
+
     def test_states(self):
         self.assertEqual(read(lines(written.CUTS)).states, {})
         text = f"{written.CUTS}pcs\n10000 230\nstate 1340\n{written.STATE}state-at 999\nnone\n"

@@ -15,7 +15,7 @@ import unittest
 
 from lib import repository
 from lib.packaging import completions, contents, manual, pages
-from lib.repository import OBSERVER, PROGRAM, WEAR
+from lib.repository import OBSERVER, PROGRAM
 from tests.support import CopyTest, ToolTest, needs, needs_program
 
 KIT = "a-kit logic 0123"
@@ -67,8 +67,8 @@ class Making(CopyTest):
         self.file("CHANGELOG.md", "# Changelog\n\n## 2 March 2031\n\n## 1 March 2031\n")
         self.file("README.md", "Read.\n")
         self.file("docs/A.md", "A\n")
-        self.file("crates.txt", "# a comment\nlow:\nthynvm: low\nobserve: low\nthy_wear:\n")
-        for crate in ("low", "thynvm", "observe", "thy_wear"):
+        self.file("crates.txt", "# a comment\nlow:\nthynvm: low\nobserve: low\nother:\n")
+        for crate in ("low", "thynvm", "observe", "other"):
             self.file(f"crates/{crate}/src/main.rt")
         self.script("examples/one/one.elf", "elf")
         self.file("few/x")
@@ -205,10 +205,9 @@ class Making(CopyTest):
         self.refused(said.format(self.path("crates/thynvm/out/thynvm")))
         # The script notes of each program what crates.txt said of its crates.
         self.file("crates/thynvm/out/thynvm.built", "low:\nthynvm: low\n")
-        self.file("crates/observe/out/observe.built", "low: thy_wear\nobserve: low\n")
+        self.file("crates/observe/out/observe.built", "low: other\nobserve: low\n")
         self.refused(said.format(self.path("crates/observe/out/observe")))
         self.file("crates/observe/out/observe.built", "low:\nobserve: low\n")
-        self.file("crates/thy_wear/out/thy_wear.built", "thy_wear:\n")
         self.made()
 
     def test_programs_that_are_none(self):
@@ -390,12 +389,12 @@ class Completion(ToolTest):
         self.assertCountEqual(self.proposed("re"), ["resume"])
         self.assertCountEqual(self.proposed("--quiet", ""), [*self.COMMANDS, "observe"])
         self.assertCountEqual(self.proposed("observe", "ot"), ["other"])
-        self.assertCountEqual(
-            self.proposed("observe", "out", ""), ["--pcs", "--state", "--state-at", "--torn", "run", "resume", "bench", "plain"]
-        )
-        left = ["--state", "--state-at", "--torn", "run", "resume", "bench"]
-        self.assertCountEqual(self.proposed("observe", "out", "--pcs", ""), left)
-        self.assertCountEqual(self.proposed("observe", "out", "--torn", "--state", "7", "--pcs", ""), ["--state-at", "run", "resume", "bench"])
+        counts = ["--causes", "--epochs", "--wear"]
+        wishes = ["--pcs", "--state", "--state-at", *counts, "--torn"]
+        self.assertCountEqual(self.proposed("observe", "out", ""), [*wishes, "run", "resume", "bench", "plain"])
+        self.assertCountEqual(self.proposed("observe", "out", "--pcs", ""), [*wishes[1:], "run", "resume", "bench"])
+        left = ["--state-at", *counts, "run", "resume", "bench"]
+        self.assertCountEqual(self.proposed("observe", "out", "--torn", "--state", "7", "--pcs", ""), left)
         self.assertEqual(self.proposed("observe", "out", "--state", ""), [])
         self.assertCountEqual(self.proposed("--quiet", "observe", "out", "r"), ["run", "resume"])
 
@@ -484,7 +483,7 @@ zle -N ask; zle -N zle-line-init ask
 
 
 @needs("git", "dpkg-deb")
-@needs_program(PROGRAM, OBSERVER, WEAR)
+@needs_program(PROGRAM, OBSERVER)
 class Installed(unittest.TestCase):
     """The built programs, packaged from a copy of the repository, in an empty folder, without rt and without an environment."""
 
@@ -498,7 +497,7 @@ class Installed(unittest.TestCase):
                 os.makedirs(os.path.dirname(os.path.join(source, path)), exist_ok=True)
                 shutil.copy(repository.path(path), os.path.join(source, path))
         commit(source)
-        for program in (PROGRAM, OBSERVER, WEAR):
+        for program in (PROGRAM, OBSERVER):
             place = os.path.join(source, os.path.relpath(program, repository.TOP))
             os.makedirs(os.path.dirname(place))
             shutil.copy(program, place)
@@ -625,9 +624,8 @@ class Installed(unittest.TestCase):
             words = ["examples/exit_seven/exit_seven.elf", "--around", "end", "--width", "2", "--tears", "0", "--pages", "8"]
             made = self.call(f"{place}cuts", *words)
             self.assertEqual((made[0], made[2]), (0, ""), made)
-            # By docs/USING.md, "To see wear".
-            made = self.call(f"{place}wear", "--lines", "4", "--gap", "1", "--table", "block:10")
-            self.assertEqual(made, (0, "place bare levelled\n0 10 6\n1 0 6\n2 0 4\n3 0 2\n4 0 2\n5 0 10\n", ""))
+            made = self.call(f"{place}wear", "--table", "examples/greet/name")
+            self.assertEqual(made[0], 2, made)
 
     def test_links_of_documents(self):
         """Each file that a page of the package links to is in the package, if it is not of a crate."""

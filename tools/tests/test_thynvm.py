@@ -39,7 +39,7 @@ class AtOnce(ScriptTest):
         calls += (["observe", "out", "rum"], ["observe", "run", "file"], ["observe", "out", "observe", "out", "run"])
         calls += (["--quiet"], ["--quiet", "build"], ["--quiet", "--version"], ["--quiet", "--quiet", "run"])
         calls += (["build", "now"], ["observe", "out", "--quiet", "run"])
-        for option in ("--pcs", "--torn"):
+        for option in ("--pcs", "--torn", "--causes", "--epochs", "--wear"):
             calls += (["observe", "out", option], ["observe", "out", option, option, "run"], [option, "run", "file"])
         calls += (["observe", "out", "--pcs", "--torn", "--pcs", "run"],)
         calls += (["observe", "out", "--state"], ["observe", "out", "--state", "7"], ["observe", "out", "--state", "run", "file"])

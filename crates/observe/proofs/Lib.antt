@@ -2,4 +2,5 @@ pub mod BeginningLemmas
 pub mod OptionLemmas
 pub mod TextLemmas
 pub mod SectionLemmas
+pub mod CountLemmas
 pub mod PuttingLemmas

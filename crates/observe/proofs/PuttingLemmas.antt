@@ -1,26 +1,31 @@
 -- What a text ends with that is put under OUT.
-use Rattle.std.proofs.Common.{◌≡◌, ℕ, Bool, true, false, List, [], ◌++◌, Option, Some, None, refl, sym, ◌∙◌, ap, ap₂, inl, subst, append-nil}
+use Rattle.std.proofs.Common.{◌≡◌, ℕ, Bool, true, false, List, [], ◌++◌, Option, Some, None, refl, sym, ◌∙◌, ap, ap₂, inl, inr, subst, append_assoc, append-nil}
 use Rattle.std.specs.Prelude.{IfSome, MatchBool, option_map}
 use Rattle.std.specs.Borrow.{Bor}
+use Rattle.thy_base.specs.declared.outside.PutError.{PutError}
 use Rattle.thy_base.specs.Outside.{Stock, Stream}
 use Rattle.thy_isa.specs.OnBlocks.{setting_for}
 use Rattle.thy_isa.specs.Step.{State, Setting}
 use Rattle.thy_view.specs.Origin.{setting_of}
+use Rattle.thy_text.specs.declared.closing.Closing.TheVariants.{Memory as ClosingMemory}
+use Rattle.thy_text.specs.Closings.{closing_of}
 use Rattle.thy_words.specs.declared.words.Command.{Command}
 use Rattle.thy_words.specs.Settings.{Order, IsInRange, order_of, settings_of}
 use Rattle.thy_answer.specs.declared.answer.Answer.{Answer}
 use Rattle.thy_answer.specs.declared.refusal.Refusal.{Refusal}
 use Rattle.thy_answer.specs.Answering.{Around, NvmOf, Outside, Closes, around, told_of}
 use Rattle.thy_answer.specs.Machines.{Choice}
+use Rattle.thy_answer.specs.Saving.{IsPut}
 use Rattle.thy_cli.specs.Watching.{ClaimSeen}
 use Rattle.thy_observe.specs.declared.watch.Watch.{Watch}
 use Rattle.thy_observe.specs.Watched.{IsWatch, HasLast}
 use Rattle.observe.specs.declared.beginning.Begun.{Begun}
 use Rattle.observe.specs.declared.options.Options.{Options}
 use Rattle.observe.specs.Beginning.{IsBegunBy, IsBegunOf, IsProgramOf, IsUnreadOf, origin_of}
-use Rattle.observe.specs.Observing.{AreSections, HasTextOf, IsAskedFor, IsObserved, IsUnread, is_refused_by}
+use Rattle.observe.specs.CountText.{HasWhole, wear_part}
+use Rattle.observe.specs.Observing.{AreSections, HasTextOf, IsAskedFor, IsLacking, IsObserved, IsTold, IsUnread, is_refused_by, was_begun}
 use Rattle.observe.specs.Sections.{HasSections, HasText, IsText, IsTextOf, setting_by}
-use Rattle.observe.specs.Wanting.{asks}
+use Rattle.observe.specs.Wanting.{asks, counts}
 
 -- what is asked for belongs to the program which was asked for
 text-of : (options : Options) (words : List (List ℕ)) (c : Command) (shelf : Stock) (b : Begun) (w : Watch) (section : List ℕ)
@@ -106,27 +111,93 @@ Unread-asked options words (Some c) why before after status wanted asked due is 
   closes = closes;
 }
 
+-- ---- what is reported if there is no text
+
+-- nothing, if nothing was to be counted
+pub IsLacking-nothing : (o : Options) (old new : Stream) (answered status : ℕ) → counts o ≡ false → new ≡ old → status ≡ answered
+    → IsLacking o old new answered status
+IsLacking-nothing o old new answered status none same is =
+    subst (λ (b : Bool). MatchBool b (Closes (closing_of ClosingMemory) old new × (status ≡ 9)) ((new ≡ old) × (status ≡ answered))) (sym none) (same, is)
+
+-- that memory ran out, if something was
+pub IsLacking-memory : (o : Options) (old new : Stream) (answered status : ℕ) → counts o ≡ true → Closes (closing_of ClosingMemory) old new → status ≡ 9
+    → IsLacking o old new answered status
+IsLacking-memory o old new answered status some closes is =
+    subst (λ (b : Bool). MatchBool b (Closes (closing_of ClosingMemory) old new × (status ≡ 9)) ((new ≡ old) × (status ≡ answered))) (sym some) (closes, is)
+
 -- ---- the shelf after a program was read from it
 
-pub IsObserved-same : {N : Type 0} (c : Choice) (d : NvmOf N) (options : Options) (out : List ℕ) (words : List (List ℕ)) (old middle : Stock)
+pub IsObserved-same : {N : Type 0} (c : Choice) (d : NvmOf N) (wear : N → List ℕ) (options : Options) (out : List ℕ) (words : List (List ℕ)) (old middle : Stock)
     (nvm : N) (terminal report : Stream) (after : Around N) (status : ℕ)
-    → middle ≡ old → IsObserved c d options out words (around middle nvm terminal report) after status
-    → IsObserved c d options out words (around old nvm terminal report) after status
-IsObserved-same c d options out words old middle nvm terminal report after status same h =
-    subst (λ (s : Stock). IsObserved c d options out words (around s nvm terminal report) after status) same h
+    → middle ≡ old → IsObserved c d wear options out words (around middle nvm terminal report) after status
+    → IsObserved c d wear options out words (around old nvm terminal report) after status
+IsObserved-same c d wear options out words old middle nvm terminal report after status same h =
+    subst (λ (s : Stock). IsObserved c d wear options out words (around s nvm terminal report) after status) same h
 
--- a call that leaves OUT as it was
-pub IsObserved-left : {N : Type 0} (c : Choice) (d : NvmOf N) (options : Options) (out : List ℕ) (words : List (List ℕ)) (old middle : Stock)
+-- a call that leaves OUT as it was, as no run was begun
+pub IsObserved-left : {N : Type 0} (c : Choice) (d : NvmOf N) (wear : N → List ℕ) (options : Options) (out : List ℕ) (words : List (List ℕ)) (old middle : Stock)
     (nvm : N) (terminal report : Stream) (after : Around N) (a : Answer) (w : Watch)
-    → middle ≡ old → is_refused_by options out (settings_of words) ≡ false
+    → middle ≡ old → is_refused_by options out (settings_of words) ≡ false → was_begun a ≡ false
     → ClaimSeen c d IsWatch HasLast words (around middle nvm terminal report) after a w
-    → IsObserved c d options out words (around old nvm terminal report) after a.status
-IsObserved-left c d options out words old middle nvm terminal report after a w same free claim =
-    IsObserved-same c d options out words old middle nvm terminal report after a.status same (record {
+    → IsObserved c d wear options out words (around old nvm terminal report) after a.status
+IsObserved-left c d wear options out words old middle nvm terminal report after a w same free none claim =
+    IsObserved-same c d wear options out words old middle nvm terminal report after a.status same (record {
       free = free;
       middle = after;
       answer = a;
       watch = w;
       claim = claim;
-      ends = inl (refl, refl);
+      ends = inl (none, refl, refl);
+    })
+
+-- a call without a text, as memory ran out
+pub IsObserved-lacks : {N : Type 0} (c : Choice) (d : NvmOf N) (wear : N → List ℕ) (options : Options) (out : List ℕ) (words : List (List ℕ)) (old middle shelf : Stock)
+    (first nvm : N) (terminal shown report told last : Stream) (a : Answer) (w : Watch) (status : ℕ)
+    → middle ≡ old → is_refused_by options out (settings_of words) ≡ false → was_begun a ≡ true
+    → ClaimSeen c d IsWatch HasLast words (around middle first terminal report) (around shelf nvm shown told) a w
+    → IsLacking options told last a.status status
+    → IsObserved c d wear options out words (around old first terminal report) (around shelf nvm shown last) status
+IsObserved-lacks c d wear options out words old middle shelf first nvm terminal shown report told last a w status same free begun claim lacking =
+    IsObserved-same c d wear options out words old middle first terminal report (around shelf nvm shown last) status same (record {
+      free = free;
+      middle = around shelf nvm shown told;
+      answer = a;
+      watch = w;
+      claim = claim;
+      ends = inr (inl (record { begun = begun; shelf = refl; nvm = refl; terminal = refl; is_told = lacking }));
+    })
+
+-- a call with a text, which was put or could not be
+pub IsObserved-puts : {N : Type 0} (c : Choice) (d : NvmOf N) (wear : N → List ℕ) (options : Options) (out : List ℕ) (words : List (List ℕ)) (old middle shelf put : Stock)
+    (first nvm : N) (terminal shown report told last : Stream) (a : Answer) (w : Watch) (command : Option Command) (begun : Option Begun) (whole : List ℕ)
+    (why : Option PutError) (status : ℕ)
+    → middle ≡ old → is_refused_by options out (settings_of words) ≡ false → was_begun a ≡ true
+    → ClaimSeen c d IsWatch HasLast words (around middle first terminal report) (around shelf nvm shown told) a w
+    → IfSome command (IsAskedFor words) → IfSome begun (IsBegunOf (option_map order_of command) middle) → HasWhole options begun w (wear nvm) whole
+    → IsPut out whole shelf put why → IsTold out why told last a.status status
+    → IsObserved c d wear options out words (around old first terminal report) (around put nvm shown last) status
+IsObserved-puts c d wear options out words old middle shelf put first nvm terminal shown report told last a w command begun whole why status same free ran claim asked by has is tells =
+    let ends = Ends-sections options words middle command begun w has.head has.text asked by has.sections in
+    let rest : List ℕ = has.counted ++ wear_part options.wear (wear nvm) in
+    let text : whole ≡ has.head ++ (ends.section ++ rest) =
+    has.splits ∙ ap (λ (t : List ℕ). t ++ rest) ends.splits ∙ append_assoc has.head ends.section rest in
+    IsObserved-same c d wear options out words old middle first terminal report (around put nvm shown last) status same (record {
+      free = free;
+      middle = around shelf nvm shown told;
+      answer = a;
+      watch = w;
+      claim = claim;
+      ends = inr (inr (record {
+        begun = ran;
+        head = has.head;
+        section = ends.section;
+        sections = ends.sections;
+        counted = has.counted;
+        counts = has.counts;
+        why = why;
+        put = subst (λ (t : List ℕ). IsPut out t shelf put why) text is;
+        nvm = refl;
+        terminal = refl;
+        is_told = tells;
+      }));
     })

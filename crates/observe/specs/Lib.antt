@@ -2,4 +2,5 @@ pub mod Wanting
 pub mod Beginning
 pub mod StateText
 pub mod Sections
+pub mod CountText
 pub mod Observing

@@ -3,6 +3,8 @@ use Rattle.std.specs.Prelude.{◌≡◌, ◌⊎◌, ℕ, ◌==◌, nat_lt, nat_l
 use Rattle.std.specs.Str.{bytes_eq}
 use Rattle.thy_base.specs.declared.outside.PutError.{PutError}
 use Rattle.thy_base.specs.Outside.{Stock, Stream}
+use Rattle.thy_text.specs.declared.closing.Closing.TheVariants.{Memory as ClosingMemory}
+use Rattle.thy_text.specs.Closings.{closing_of}
 use Rattle.thy_text.specs.History.{all_of}
 use Rattle.thy_words.specs.declared.words.WordsError.{WordsError}
 use Rattle.thy_words.specs.declared.words.WordsError.TheVariants.{Usage, Memory}
@@ -22,7 +24,8 @@ use Rattle.thy_cli.specs.Watching.{ClaimSeen}
 use Rattle.observe.specs.declared.options.Options.{Options}
 use Rattle.observe.specs.Beginning.{IsProgramOf, IsUnreadBy, origin_of, run_in}
 use Rattle.observe.specs.Sections.{IsText}
-use Rattle.observe.specs.Wanting.{asks}
+use Rattle.observe.specs.Wanting.{asks, counts, needs_run}
+use Rattle.observe.specs.CountText.{AreCountsOf, wear_part}
 
 -- OUT is this name
 abbrev pub is_name : List ℕ → Option (List ℕ) → Bool
@@ -56,7 +59,7 @@ is_untearable (make n name) = true
 -- blocks
 abbrev pub is_refused : Options → List ℕ → Order → Bool
 is_refused options out order =
-    (is_taken out order || (asks options && is_none (run_in order))) || (options.torn && is_untearable order)
+    (is_taken out order || (needs_run options && is_none (run_in order))) || (options.torn && is_untearable order)
 
 abbrev pub is_refused_by : Options → List ℕ → Result Order WordsError → Bool
 is_refused_by options out (Ok order) = is_refused options out order
@@ -123,37 +126,54 @@ AreSections options words shelf w section =
     MatchBool (asks options) (HasTextOf options words shelf w section) (section ≡ [])
 
 -- A run was begun, and a text was put under OUT, or was not; all else is left alone. The text ends with what is asked for in
--- addition.
-pub record PutsOut {N : Type 0} (options : Options) (out : List ℕ) (words : List (List ℕ)) (before middle after : Around N)
-    (a : Answer) (w : Watch) (status : ℕ) : Type 0 where
+-- addition, with what is counted in the cycles that were seen, and with the writes of each place that the NVM has counted.
+pub record PutsOut {N : Type 0} (wear : N → List ℕ) (options : Options) (out : List ℕ) (words : List (List ℕ))
+    (before middle after : Around N) (a : Answer) (w : Watch) (status : ℕ) : Type 0 where
   pub begun : was_begun a ≡ true
   pub head : List ℕ
   pub section : List ℕ
   pub sections : AreSections options words before.shelf w section
+  pub counted : List ℕ
+  pub counts : AreCountsOf options w counted
   pub why : Option PutError
-  pub put : IsPut out (head ++ section) middle.shelf after.shelf why
+  pub put : IsPut out (head ++ (section ++ (counted ++ wear_part options.wear (wear middle.nvm)))) middle.shelf after.shelf why
   pub nvm : after.nvm ≡ middle.nvm
   pub terminal : after.terminal ≡ middle.terminal
   pub is_told : IsTold out why middle.report after.report a.status status
 
--- no text was put under OUT
+-- no run was begun, and nothing was put
 abbrev pub LeavesOut : {N : Type 0} → Around N → Around N → Answer → ℕ → Type 0
-LeavesOut middle after a status = (after ≡ middle) × (status ≡ a.status)
+LeavesOut middle after a status = (was_begun a ≡ false) × (after ≡ middle) × (status ≡ a.status)
+
+-- what is reported if there is no text, and the exit status: if something was to be counted, that memory ran out
+abbrev pub IsLacking : Options → Stream → Stream → (answered status : ℕ) → Type 0
+IsLacking options old new answered status =
+    MatchBool (counts options) (Closes (closing_of ClosingMemory) old new × (status ≡ 9)) ((new ≡ old) × (status ≡ answered))
+
+-- a run was begun, and memory ran out for what was seen or its text: nothing was put
+pub record LacksOut {N : Type 0} (options : Options) (middle after : Around N) (a : Answer) (status : ℕ) : Type 0 where
+  pub begun : was_begun a ≡ true
+  pub shelf : after.shelf ≡ middle.shelf
+  pub nvm : after.nvm ≡ middle.nvm
+  pub terminal : after.terminal ≡ middle.terminal
+  pub is_told : IsLacking options middle.report after.report a.status status
 
 -- OUT is no name that the arguments have. They were answered as thynvm answers them, and what was seen is the run's
 -- cycles, or the trap of the plain machine. Then OUT was put, or nothing was.
-pub record IsObserved {N : Type 0} (c : Choice) (d : NvmOf N) (options : Options) (out : List ℕ) (words : List (List ℕ))
+pub record IsObserved {N : Type 0} (c : Choice) (d : NvmOf N) (wear : N → List ℕ) (options : Options) (out : List ℕ) (words : List (List ℕ))
     (before after : Around N) (status : ℕ) : Type 0 where
   pub free : is_refused_by options out (settings_of words) ≡ false
   pub middle : Around N
   pub answer : Answer
   pub watch : Watch
   pub claim : ClaimSeen c d IsWatch HasLast words before middle answer watch
-  pub ends : LeavesOut middle after answer status ⊎ PutsOut options out words before middle after answer watch status
+  pub ends : LeavesOut middle after answer status
+      ⊎ LacksOut options middle after answer status
+      ⊎ PutsOut wear options out words before middle after answer watch status
 
 -- what a call does, with OUT, these options and these arguments
-abbrev pub Observed : {N : Type 0} → Choice → NvmOf N → Options → List ℕ → List (List ℕ) → Around N → Around N → ℕ → Type 0
-Observed c d options out words before after status =
+abbrev pub Observed : {N : Type 0} → Choice → NvmOf N → (N → List ℕ) → Options → List ℕ → List (List ℕ) → Around N → Around N → ℕ → Type 0
+Observed c d wear options out words before after status =
     ((e : WordsError) × IsTurned options out words (outside_of d before) (outside_of d after) status e)
     ⊎ IsUnread options words (outside_of d before) (outside_of d after) status
-    ⊎ IsObserved c d options out words before after status
+    ⊎ IsObserved c d wear options out words before after status

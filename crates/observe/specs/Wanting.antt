@@ -4,7 +4,7 @@ use Rattle.std.specs.Str.{bytes_eq}
 use Rattle.thy_words.specs.Numbers.{number_in}
 use Rattle.observe.specs.declared.options.Options.{Options}
 use Rattle.observe.specs.declared.options.Wish.{Wish}
-use Rattle.observe.specs.declared.options.Wish.TheVariants.{Pcs, State, StateAt, Torn}
+use Rattle.observe.specs.declared.options.Wish.TheVariants.{Pcs, State, StateAt, Causes, Epochs, Wear, Torn}
 
 -- ---- the options, a row each in every table
 
@@ -14,6 +14,9 @@ wish_of word =
     if bytes_eq word (codes "--pcs") then Some Pcs
     else if bytes_eq word (codes "--state") then Some State
     else if bytes_eq word (codes "--state-at") then Some StateAt
+    else if bytes_eq word (codes "--causes") then Some Causes
+    else if bytes_eq word (codes "--epochs") then Some Epochs
+    else if bytes_eq word (codes "--wear") then Some Wear
     else if bytes_eq word (codes "--torn") then Some Torn
     else None
 
@@ -22,6 +25,9 @@ abbrev pub takes_number : Wish → Bool
 takes_number Pcs = false
 takes_number State = true
 takes_number StateAt = true
+takes_number Causes = false
+takes_number Epochs = false
+takes_number Wear = false
 takes_number Torn = false
 
 -- it is asked for already
@@ -29,6 +35,9 @@ abbrev pub has : Options → Wish → Bool
 has o Pcs = o.pcs
 has o State = not (is_none o.state)
 has o StateAt = not (is_none o.state_at)
+has o Causes = o.causes
+has o Epochs = o.epochs
+has o Wear = o.wear
 has o Torn = o.torn
 
 -- it is asked for, with this number
@@ -36,6 +45,9 @@ abbrev pub with_wish : Options → Wish → ℕ → Options
 with_wish o Pcs n = record o { pcs = true }
 with_wish o State n = record o { state = Some n }
 with_wish o StateAt n = record o { state_at = Some n }
+with_wish o Causes n = record o { causes = true }
+with_wish o Epochs n = record o { epochs = true }
+with_wish o Wear n = record o { wear = true }
 with_wish o Torn n = record o { torn = true }
 
 -- the line that refuses a number of it that can't be read
@@ -43,18 +55,29 @@ abbrev pub word_line : Wish → List ℕ
 word_line Pcs = codes "word pcs\n"
 word_line State = codes "word state\n"
 word_line StateAt = codes "word state-at\n"
+word_line Causes = codes "word causes\n"
+word_line Epochs = codes "word epochs\n"
+word_line Wear = codes "word wear\n"
 word_line Torn = codes "word torn\n"
 
 abbrev pub no_options : Options
-no_options = record { pcs = false; state = None; state_at = None; torn = false }
+no_options = record { pcs = false; state = None; state_at = None; causes = false; epochs = false; wear = false; torn = false }
 
 -- how many options there are
 abbrev pub most_options : ℕ
-most_options = 4
+most_options = 7
 
 -- something is asked for that is found out by executing the run again
 abbrev pub asks : Options → Bool
 asks o = o.pcs || (not (is_none o.state) || not (is_none o.state_at))
+
+-- something is asked for that is counted while a machine runs
+abbrev pub counts : Options → Bool
+counts o = o.causes || (o.epochs || o.wear)
+
+-- something is asked for that a machine is needed for
+abbrev pub needs_run : Options → Bool
+needs_run o = asks o || counts o
 
 -- ---- how they are read
 

@@ -1,14 +1,16 @@
 //! The program `observe`: does what thynvm does for `run`, `resume`, `bench` and `plain`, and puts text under a name that
 //! says what a run came to: its events with their cycles, the trap, and the totals of the tally; and if it is asked for, how
-//! often each program counter retired, and the machine's state in a cycle or at a count. With `--torn` before the command the
-//! run goes over an NVM whose blocks may be torn.
+//! often each program counter retired, the machine's state in a cycle or at a count, how many cycles there were of each cause, in
+//! all and each time that an epoch was executed, and how many writes each place of the NVM has taken. With `--torn` before the
+//! command the run goes over an NVM whose blocks may be torn.
 //!
 //! Open specs/Observing.antt first, and src/top.rt; src/out.rt and what it uses make the text, without contracts, and
-//! src/sections.rt what is added to it, exactly. `main` makes the real shelf, sinks and device. It stands on thy_cli,
+//! src/sections.rt, src/counts.rt and src/wear.rt what is added to it, exactly. `main` makes the real shelf, sinks and device. It stands on thy_cli,
 //! thy_files, thy_observe, thy_plain, thy_out and thy_nvm; nothing stands on it.
 #![tactic(auto)]
 
 mod beginning;
+mod counts;
 mod lines;
 mod naming;
 mod numbers;
@@ -21,6 +23,8 @@ mod tests;
 mod top;
 mod totals;
 mod trap;
+mod wear;
+mod whole;
 
 use crate::options::{refuse_word, take_options};
 use crate::top::observe;
@@ -72,7 +76,7 @@ fn main(rt: HostRuntime) -> ExitCode {
         MemNvm::new(alloc)
     };
     let mut shelf = FileShelf::new(rt);
-    let mut nvm = Counting::over(device);
+    let mut nvm = Counting::over(alloc, device, options.wear);
     let status = observe(
         alloc,
         out.as_str(),

@@ -57,6 +57,6 @@ pub fn is_refused(options: Options, out: &str, command: &Command) -> bool
     ensures { result ≡ is_refused options out.now (order_of command.now) }
 {
     is_taken(out, command)
-        || (options.asks() && run_of(command).is_none())
+        || (options.needs_run() && run_of(command).is_none())
         || (options.torn && is_untearable(command))
 }

@@ -2,13 +2,13 @@
 ghost use Rattle.std.specs.Prelude.{◌≡◌, ◌<◌, ◌≤◌, map};
 ghost use Rattle.std.specs.String.{string_bytes};
 ghost use Rattle.thy_answer.specs.Answering.{Closes};
-ghost use Rattle.observe.specs.Wanting.{IsReading, asks, has, no_options, options_in, take_one, takes_number, wish_of, with_wish, word_line};
+ghost use Rattle.observe.specs.Wanting.{IsReading, asks, counts, has, needs_run, no_options, options_in, take_one, takes_number, wish_of, with_wish, word_line};
 
 use crate::numbers::number;
 use thy_base::Sink;
 
 /// How many options there are.
-const OPTIONS: usize = 4;
+const OPTIONS: usize = 7;
 
 /// An option. In each of the functions below, and in what they are specified by, it has a row.
 #[derive(Clone, Copy, Debug, PartialEq, Eq, Drop)]
@@ -16,6 +16,9 @@ pub enum Wish {
     Pcs,
     State,
     StateAt,
+    Causes,
+    Epochs,
+    Wear,
     Torn,
 }
 
@@ -28,6 +31,12 @@ pub struct Options {
     pub state: Option<u64>,
     /// The state at this count.
     pub state_at: Option<u64>,
+    /// How many cycles there were of each cause.
+    pub causes: bool,
+    /// How many there were for each boot, and for each time that an epoch was executed.
+    pub epochs: bool,
+    /// How many writes each place of the NVM has taken.
+    pub wear: bool,
     /// The run goes over an NVM whose blocks may be torn.
     pub torn: bool,
 }
@@ -42,6 +51,12 @@ fn wish_of(word: &str) -> Option<Wish>
         Some(Wish::State)
     } else if word == "--state-at" {
         Some(Wish::StateAt)
+    } else if word == "--causes" {
+        Some(Wish::Causes)
+    } else if word == "--epochs" {
+        Some(Wish::Epochs)
+    } else if word == "--wear" {
+        Some(Wish::Wear)
     } else if word == "--torn" {
         Some(Wish::Torn)
     } else {
@@ -54,7 +69,7 @@ fn takes_number(wish: Wish) -> bool
     ensures { result ≡ takes_number wish }
 {
     match wish {
-        Wish::Pcs | Wish::Torn => false,
+        Wish::Pcs | Wish::Causes | Wish::Epochs | Wish::Wear | Wish::Torn => false,
         Wish::State | Wish::StateAt => true,
     }
 }
@@ -67,6 +82,9 @@ fn word_line(wish: Wish) -> &'static str
         Wish::Pcs => "word pcs\n",
         Wish::State => "word state\n",
         Wish::StateAt => "word state-at\n",
+        Wish::Causes => "word causes\n",
+        Wish::Epochs => "word epochs\n",
+        Wish::Wear => "word wear\n",
         Wish::Torn => "word torn\n",
     }
 }
@@ -80,6 +98,9 @@ impl Options {
             pcs: false,
             state: None,
             state_at: None,
+            causes: false,
+            epochs: false,
+            wear: false,
             torn: false,
         }
     }
@@ -92,6 +113,9 @@ impl Options {
             Wish::Pcs => self.pcs,
             Wish::State => self.state.is_some(),
             Wish::StateAt => self.state_at.is_some(),
+            Wish::Causes => self.causes,
+            Wish::Epochs => self.epochs,
+            Wish::Wear => self.wear,
             Wish::Torn => self.torn,
         }
     }
@@ -110,6 +134,15 @@ impl Options {
                 state_at: Some(number),
                 ..self
             },
+            Wish::Causes => Options {
+                causes: true,
+                ..self
+            },
+            Wish::Epochs => Options {
+                epochs: true,
+                ..self
+            },
+            Wish::Wear => Options { wear: true, ..self },
             Wish::Torn => Options { torn: true, ..self },
         }
     }
@@ -119,6 +152,20 @@ impl Options {
         ensures { result ≡ asks self }
     {
         self.pcs || self.state.is_some() || self.state_at.is_some()
+    }
+
+    /// Whether something is asked for that is counted while a machine runs.
+    pub fn counts(self) -> bool
+        ensures { result ≡ counts self }
+    {
+        self.causes || self.epochs || self.wear
+    }
+
+    /// Whether something is asked for that a machine is needed for.
+    pub fn needs_run(self) -> bool
+        ensures { result ≡ needs_run self }
+    {
+        self.asks() || self.counts()
     }
 }
 

@@ -67,7 +67,6 @@ fn called_over(
     }
     let mut terminal = MemSink::new(alloc, 4096, Vec::new(alloc))?;
     let mut report = MemSink::new(alloc, 4096, Vec::new(alloc))?;
-    let mut nvm = Counting::over(nvm);
     let options = match take_options(&mut words) {
         Ok(options) => options,
         Err(wish) => {
@@ -79,6 +78,7 @@ fn called_over(
             });
         }
     };
+    let mut nvm = Counting::over(alloc, nvm, options.wear);
     let status = observe(
         alloc,
         out,
@@ -531,6 +531,174 @@ static FIVE: [u8; 120] = [
     0x14, 0x00, 0x00, 0x00, 0x00, 0x00, 0x00, 0x00, 0x14, 0x00, 0x00, 0x00, 0x00, 0x00, 0x00, 0x00,
     0x04, 0x00, 0x00, 0x00, 0x00, 0x00, 0x00, 0x00,
 ];
+
+/// One store, to the first byte of another page: `auipc t0,1; sb zero,0(t0); addi a7,zero,93; ecall`.
+static STORES_ONCE: [u32; 5] = [0x00001297, 0x00028023, 0x05d00893, 0x00000073, 0];
+
+/// Options, the text of a run of this program with them, and how many cycles it has of each cause.
+static COUNTED: [(&str, &str, &str); 2] = [
+    // The loading takes 700 cycles. In cycle 709 the line is stored, in 710 the epoch is sealed. The hart's next two instructions
+    // end in 717, beside the checkpoint that is committed in 730; for the rest of it, and all of the next, the hart waits.
+    (
+        "run F --pages 8 --btt 8 --ptt 8 --epoch 2",
+        "700 0 commit 0 overlapped 0\n\
+         710 2 epoch 1 ends at 2 by length\n\
+         730 4 commit 1 overlapped 2\n\
+         731 4 epoch 2 ends at 4 by end\n\
+         744 4 commit 2 overlapped 0\n\
+         744 4 exit 0 at 4\n\
+         cycles 744 boot 525 hart 15 engine 22 nvmdrain 182 dramdrain 0\n\
+         hart moved 8 retired 4 flushed 1 merged 0 promoted 0 sealed 2\n\
+         engine copied 0 page 0 state 10 table 6 barrier 2 commit 2 committed 2\n\
+         waiting 14\n\
+         nvm reads 449 writes 541 barriers 6\n\
+         lost 0\n\
+         epochs 2 early 0 overlapped 2\n",
+        "causes\nboot 525\ninstructions 8\nmeanwhile 4\nflushes 1\nmerges 0\nseals 2\npromotions 0\ncopies 0\nhomes 0\n\
+         pages 0\nprocessor 10\ntables 6\ncommits 2\nbarriers 4\nnvmdrains 182\ndramdrains 0\nnothing 0\nwaiting 14\n",
+    ),
+    // The line is stored in a buffer in cycle 705. Of the checkpoint that is sealed in 706 it is copied into the journal in 707,
+    // and home in 721, after the commit; meanwhile the hart waits.
+    (
+        "run F --pages 8 --btt 8 --epoch 2 --scheme journal",
+        "696 0 commit 0 overlapped 0\n\
+         706 2 epoch 1 ends at 2 by length\n\
+         720 2 commit 1 overlapped 0\n\
+         727 4 epoch 2 ends at 4 by end\n\
+         738 4 commit 2 overlapped 0\n\
+         738 4 exit 0 at 4\n\
+         cycles 738 boot 523 hart 15 engine 21 nvmdrain 178 dramdrain 1\n\
+         hart moved 8 retired 4 flushed 1 merged 0 promoted 0 sealed 2\n\
+         engine copied 2 page 0 state 10 table 2 barrier 3 commit 2 committed 2\n\
+         waiting 14\n\
+         nvm reads 449 writes 536 barriers 7\n\
+         lost 0\n\
+         epochs 2 early 0 overlapped 0\n",
+        "causes\nboot 523\ninstructions 12\nmeanwhile 0\nflushes 1\nmerges 0\nseals 2\npromotions 0\ncopies 1\nhomes 1\n\
+         pages 0\nprocessor 10\ntables 2\ncommits 2\nbarriers 5\nnvmdrains 178\ndramdrains 1\nnothing 0\nwaiting 14\n",
+    ),
+];
+
+#[test]
+fn causes_follow_the_totals(rt: HostRuntime) -> Result<(), Fail> {
+    let alloc = rt.alloc();
+    for (options, text, causes) in COUNTED {
+        let mut shelf = shelf_of_five(alloc, STORES_ONCE)?;
+        let line = format!(in alloc; "thynvm --causes {options}")?;
+        let given = called_over(alloc, "O", line.as_str(), &mut shelf, MemNvm::new(alloc))?;
+        assert_eq!(rt; given.status, 0, "{options}");
+        assert!(rt; ends_with(given.put.as_slice(), text, causes), "{options}");
+    }
+    // A cut in cycle 705 leaves no checkpoint under way; the ten cycles of the recovery are a boot's too.
+    let (_, text) = RUNS[1];
+    let line = "thynvm --causes run F --pages 8 --btt 8 --ptt 8 --cuts 705";
+    let given = called(alloc, "O", line, FIRST, &[])?;
+    assert_eq!(rt; given.status, 0);
+    let causes =
+        "causes\nboot 535\ninstructions 12\nmeanwhile 0\nflushes 0\nmerges 0\nseals 1\npromotions 0\ncopies 0\nhomes 0\n\
+        pages 0\nprocessor 5\ntables 3\ncommits 1\nbarriers 2\nnvmdrains 177\ndramdrains 0\nnothing 0\nwaiting 8\n";
+    assert!(rt; ends_with(given.put.as_slice(), text, causes));
+    // What is found out by executing the run again comes first.
+    let line = "thynvm --causes --pcs run F --pages 8 --btt 8 --ptt 8 --cuts 705";
+    let given = called(alloc, "O", line, FIRST, &[])?;
+    let both = format!(in alloc; "{PCS}{causes}")?;
+    assert!(rt; ends_with(given.put.as_slice(), text, both.as_str()));
+    Ok(())
+}
+
+/// The head of the stretches of cycles, and the rows of the second of the first runs: the five cycles before the cut are lost, and the
+/// checkpoint is written in the cycles of the epoch after it.
+static EPOCHS_CUT: [&str; 6] = [
+    "epochs\nepoch\tfrom\tto\tend\tboot\tinstructions\tmeanwhile\tflushes\tmerges\tseals\tpromotions\tcopies\thomes\tpages\tprocessor\ttables\tcommits\tbarriers\tnvmdrains\tdramdrains\tnothing\twaiting\n",
+    "-\t1\t700\tboot\t525\t0\t0\t0\t0\t0\t0\t0\t0\t0\t0\t0\t0\t0\t175\t0\t0\t0\n",
+    "1\t701\t705\tcut\t0\t5\t0\t0\t0\t0\t0\t0\t0\t0\t0\t0\t0\t0\t0\t0\t0\t0\n",
+    "-\t706\t715\tboot\t10\t0\t0\t0\t0\t0\t0\t0\t0\t0\t0\t0\t0\t0\t0\t0\t0\t0\n",
+    "1\t716\t723\tseal\t0\t7\t0\t0\t0\t1\t0\t0\t0\t0\t0\t0\t0\t0\t0\t0\t0\t0\n",
+    "2\t724\t736\trun\t0\t0\t0\t0\t0\t0\t0\t0\t0\t0\t5\t3\t1\t2\t2\t0\t0\t8\n",
+];
+
+/// The rows of the run that stores once by both tables: the second epoch executes while the first one's checkpoint is written.
+static EPOCHS_STORED: [&str; 5] = [
+    "epochs\nepoch\tfrom\tto\tend\tboot\tinstructions\tmeanwhile\tflushes\tmerges\tseals\tpromotions\tcopies\thomes\tpages\tprocessor\ttables\tcommits\tbarriers\tnvmdrains\tdramdrains\tnothing\twaiting\n",
+    "-\t1\t700\tboot\t525\t0\t0\t0\t0\t0\t0\t0\t0\t0\t0\t0\t0\t0\t175\t0\t0\t0\n",
+    "1\t701\t710\tseal\t0\t8\t0\t1\t0\t1\t0\t0\t0\t0\t0\t0\t0\t0\t0\t0\t0\t0\n",
+    "2\t711\t731\tseal\t0\t0\t4\t0\t0\t1\t0\t0\t0\t0\t5\t3\t1\t2\t5\t0\t0\t6\n",
+    "3\t732\t744\trun\t0\t0\t0\t0\t0\t0\t0\t0\t0\t0\t5\t3\t1\t2\t2\t0\t0\t8\n",
+];
+
+/// The rows of a section, one after the other.
+fn joined(alloc: Global, rows: &[&str]) -> Result<String, AllocError> {
+    let mut text = String::new(alloc);
+    for row in rows {
+        text.push_str(row)?;
+    }
+    Ok(text)
+}
+
+#[test]
+fn each_stretch_of_cycles_has_a_row(rt: HostRuntime) -> Result<(), Fail> {
+    let alloc = rt.alloc();
+    let (_, text) = RUNS[1];
+    let line = "thynvm --epochs run F --pages 8 --btt 8 --ptt 8 --cuts 705";
+    let given = called(alloc, "O", line, FIRST, &[])?;
+    assert_eq!(rt; given.status, 0);
+    let epochs = joined(alloc, &EPOCHS_CUT)?;
+    assert!(rt; ends_with(given.put.as_slice(), text, epochs.as_str()));
+    let (options, text, causes) = COUNTED[0];
+    let mut shelf = shelf_of_five(alloc, STORES_ONCE)?;
+    let line = format!(in alloc; "thynvm --epochs --causes {options}")?;
+    let given = called_over(alloc, "O", line.as_str(), &mut shelf, MemNvm::new(alloc))?;
+    assert_eq!(rt; given.status, 0);
+    let epochs = joined(alloc, &EPOCHS_STORED)?;
+    let both = format!(in alloc; "{causes}{epochs}")?;
+    assert!(rt; ends_with(given.put.as_slice(), text, both.as_str()));
+    Ok(())
+}
+
+#[test]
+fn each_place_that_was_written_has_a_line(rt: HostRuntime) -> Result<(), Fail> {
+    let alloc = rt.alloc();
+    let line = "thynvm --wear run F --pages 8 --btt 8 --ptt 8";
+    let given = called(alloc, "O", line, FIRST, &[])?;
+    assert_eq!(rt; given.status, 0);
+    // The header once and the commit block twice, then the homes of memory, behind the places of version 1's slots, and at last
+    // both slots: 531 writes in all.
+    let mut wear = String::from_str(alloc, "wear\n0 1\n1 2\n")?;
+    for at in 16u64..528 {
+        let line = format!(in alloc; "{at} 1\n")?;
+        wear.push_str(line.as_str())?;
+    }
+    for at in 1048u64..1064 {
+        let line = format!(in alloc; "{at} 1\n")?;
+        wear.push_str(line.as_str())?;
+    }
+    assert!(rt; given.put.as_slice().ends_with(wear.as_str().as_bytes()));
+    assert!(rt; has_start(given.put.as_slice(), "nvm reads 449 writes 531 "));
+    Ok(())
+}
+
+#[test]
+fn counts_are_refused_without_a_machine(rt: HostRuntime) -> Result<(), Fail> {
+    let alloc = rt.alloc();
+    for line in [
+        "thynvm --causes",
+        "thynvm --causes --causes run F",
+        "thynvm --causes plain F",
+        "thynvm --causes compare F",
+        "thynvm --causes=1 run F",
+        "thynvm run F --causes",
+        "thynvm --epochs --causes --epochs run F",
+        "thynvm --epochs plain F",
+        "thynvm --wear plain F",
+        "thynvm --wear compare F",
+    ] {
+        let given = called(alloc, "O", line, FIRST, &[])?;
+        assert_eq!(rt; given.status, 2, "{line}");
+        assert_eq!(rt; given.report.as_slice(), b"usage\n".as_slice(), "{line}");
+        assert!(rt; !given.is_put, "{line}");
+    }
+    Ok(())
+}
 
 /// Hart 0 stays at `beq a0,zero,0`, and hart 1 comes to `sd t0,16(zero)`, which traps.
 static TRAPS: [u32; 5] = [0x00050063, 0x00503823, 0, 0, 0];

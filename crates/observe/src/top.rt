@@ -10,13 +10,13 @@ ghost use Rattle.thy_text.specs.Closings.{closing_of};
 ghost use Rattle.thy_words.specs.Settings.{IsInRange, order_of, settings_of};
 ghost use Rattle.observe.specs.Beginning.{IsBegunOf, IsUnreadOf};
 ghost use Rattle.observe.specs.Wanting.{asks};
-ghost use Rattle.observe.specs.Observing.{IsAskedFor, IsRefusedFor, IsTold, Observed, is_refused_by};
+ghost use Rattle.observe.specs.Observing.{IsAskedFor, IsLacking, IsRefusedFor, IsTold, Observed, is_refused_by};
 
 use crate::beginning::{Begun, begin};
 use crate::naming::is_refused;
 use crate::options::Options;
-use crate::out::{Asked, text_of, was_begun};
-use crate::sections::with_sections;
+use crate::out::{Asked, was_begun};
+use crate::whole::whole_text;
 use std::alloc::Global;
 use thy_base::{Nvm, PutError, Shelf, Sink};
 use thy_cli::{Refusal, observed, refuse};
@@ -31,6 +31,9 @@ use thy_words::{Command, WordsError, settings};
 
 /// The exit status if OUT could not be put.
 const NOT_PUT: u8 = 3;
+
+/// The exit status if memory ran out for what was to be counted.
+const NO_MEMORY: u8 = 9;
 
 /// The command that the arguments ask for, if they do; or why the call is refused: because of OUT or of an option, or because
 /// memory ran out.
@@ -110,13 +113,25 @@ fn tell<R: Sink>(out: &str, why: Option<PutError>, status: u8, report: &mut R) -
     }
 }
 
+/// Reports that there is no text, if something was to be counted, and returns the exit status, which else stays.
+fn lack<R: Sink>(options: Options, status: u8, report: &mut R) -> u8
+    ensures { IsLacking options (R.stream report.old) (R.stream report.new) status result }
+{
+    if !options.counts() {
+        return status;
+    }
+    close(Closing::Memory, report);
+    NO_MEMORY
+}
+
 /// Does what thynvm does for the arguments, the program's name first, and stores under OUT what the run came to: a line
 /// for each event, the trap, and the totals; and then what the options ask for. Of the plain machine it writes the
 /// trap. If torn blocks are asked for, the caller has made the NVM so.
 ///
 /// Returns the exit status: 2 if OUT is a name that the arguments have, or if the plain machine is to run with an option, or
 /// wear is to be levelled over torn blocks. It is 3 if OUT could not be put, and else thynvm's, also if the program that is
-/// read for an option has no run. Nothing is put if no run was begun, or if memory ran out for what was seen.
+/// read for an option has no run. Nothing is put if no run was begun, or if memory ran out for what was seen; then the status is
+/// 9 if something was to be counted.
 pub fn observe<H: Shelf, T: Sink, R: Sink, N: Nvm + Counts>(
     alloc: Global,
     out: &str,
@@ -135,7 +150,7 @@ pub fn observe<H: Shelf, T: Sink, R: Sink, N: Nvm + Counts>(
         let machines = by_scheme ⟦<Machine<DualScheme> as Computer>⟧.kind
         ⟦<Machine<Journal> as Computer>⟧.kind
         ⟦<Machine<Shadow> as Computer>⟧.kind in
-        Observed machines nvms options out.now (map string_bytes words.now) before after result }
+        Observed machines nvms N.wear options out.now (map string_bytes words.now) before after result }
 {
     let command = match command_of(alloc, options, out, words) {
         Ok(command) => command,
@@ -146,17 +161,14 @@ pub fn observe<H: Shelf, T: Sink, R: Sink, N: Nvm + Counts>(
         Err(refusal) => return refuse(alloc, refusal, report).status,
     };
     let asked = Asked::of(command.as_ref());
-    let mut watch = Watch::new(alloc, options.asks());
+    let mut watch = Watch::new(alloc, options.asks(), options.epochs);
     let answer = observed(alloc, words, shelf, terminal, report, nvm, &mut watch);
     let ran = was_begun(&answer);
     if !ran {
         return answer.status;
     }
-    let Ok(Some(head)) = text_of(alloc, asked, &answer, &watch.tally, &nvm.calls()) else {
-        return answer.status;
-    };
-    let Some(text) = with_sections(alloc, head, options, begun, &watch.changes) else {
-        return answer.status;
+    let Some(text) = whole_text(alloc, asked, &answer, options, begun, &watch, nvm) else {
+        return lack(options, answer.status, report);
     };
     let why = put_text(alloc, out, text.as_str(), shelf);
     tell(out, why, answer.status, report)

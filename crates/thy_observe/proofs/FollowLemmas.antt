@@ -77,7 +77,7 @@ not_boot : (b : Bool) → b ≡ true → b ≡ false → ⊥
 not_boot b is off = let both : true ≡ false = sym is ∙ off in cc
 
 -- a boot that goes on is one
-boots_on : (v next : View) → v.phase ≡ BootPhase → BootsTo v next → is_boot next.phase ≡ true
+pub boots_on : (v next : View) → v.phase ≡ BootPhase → BootsTo v next → is_boot next.phase ≡ true
 boots_on v next is to = elim to as (λ _. is_boot next.phase ≡ true) [
   | inl e ↦ ap (λ (w : View). is_boot w.phase) e ∙ ap is_boot is
   | inr e ↦ ap (λ (w : View). is_boot w.phase) e.1 ∙ ap is_boot is
@@ -171,12 +171,12 @@ tracks_step p v next Nothing e s late h =
 
 -- ---- a run
 
-image_boots : (count : ℕ) (d : Decoded) → is_boot (view_of_image count d).phase ≡ true
+pub image_boots : (count : ℕ) (d : Decoded) → is_boot (view_of_image count d).phase ≡ true
 image_boots count NothingLeft = refl
 image_boots count (RefusedImage bad) = refl
 image_boots count (At epoch state) = refl
 
-found_boots : (o : Origin) (kept : Option Mark) → is_boot (view_of_image o.start.count (found_first o kept)).phase ≡ true
+pub found_boots : (o : Origin) (kept : Option Mark) → is_boot (view_of_image o.start.count (found_first o kept)).phase ≡ true
 found_boots o kept = image_boots o.start.count (found_first o kept)
 
 first_reach : (o : Origin) (kept : Option Mark) → reach (view_of_image o.start.count (found_first o kept)) - o.start.count ≡ 0
@@ -302,7 +302,7 @@ up-at o count true is = ap (λ (c : Bool). not (is_boot (if c then Run else Halt
 up-at o count false is = ap (λ (c : Bool). not (is_boot (if c then Run else Halt))) is
 
 -- an engine that goes on leaves the phase
-engine-phase : (step : EngineStep) (v next : View) → EngineTo step v next → next.phase ≡ v.phase
+pub engine-phase : (step : EngineStep) (v next : View) → EngineTo step v next → next.phase ≡ v.phase
 engine-phase Idle v next to = absurd to
 engine-phase CommitWritten v next to = ap (λ (w : View). w.phase) to.2
 engine-phase (EngineCommitted epoch) v next to = absurd to
@@ -313,7 +313,7 @@ engine-phase TableBlock v next to = ap (λ (w : View). w.phase) to
 engine-phase Barrier v next to = ap (λ (w : View). w.phase) to
 
 -- a hart that moves on leaves it too
-moved-phase : (v next : View) → MovesTo v next → next.phase ≡ v.phase
+pub moved-phase : (v next : View) → MovesTo v next → next.phase ≡ v.phase
 moved-phase v next to = elim to as (λ _. next.phase ≡ v.phase) [
   | inl e ↦ ap (λ (w : View). w.phase) e
   | inr e ↦ ap (λ (w : View). w.phase) e.4

@@ -8,11 +8,11 @@ use Rattle.thy_observe.specs.Kinds.{kind_of, index_of, is_at, how_many, KindsAdd
 
 -- sums of equal numbers are equal, and a sum of sums is that of both
 module _ (f g : ℕ → ℕ) where
-  sum-same : ((i : ℕ) → f i ≡ g i) → (is : List ℕ) → sum_by f is ≡ sum_by g is
+  pub sum-same : ((i : ℕ) → f i ≡ g i) → (is : List ℕ) → sum_by f is ≡ sum_by g is
   sum-same same [] = refl
   sum-same same (i ∷ is) = omega (arith, sum_by-cons f i is, sum_by-cons g i is, same i, sum-same same is)
 
-  sum-both : (is : List ℕ) → sum_by (λ i. f i + g i) is ≡ sum_by f is + sum_by g is
+  pub sum-both : (is : List ℕ) → sum_by (λ i. f i + g i) is ≡ sum_by f is + sum_by g is
   sum-both [] = refl
   sum-both (i ∷ is) =
       omega (arith, sum_by-cons (λ j. f j + g j) i is, sum_by-cons f i is, sum_by-cons g i is, sum-both is)

@@ -1,7 +1,12 @@
 pub mod TallyLemmas
 pub mod KindLemmas
 pub mod ShareLemmas
+pub mod CauseLemmas
+pub mod LedgerLemmas
+pub mod EpochLemmas
+pub mod WearLemmas
 pub mod ChangeLemmas
 pub mod ReplayLemmas
 pub mod FollowLemmas
 pub mod StateLemmas
+pub mod UnderWayLemmas

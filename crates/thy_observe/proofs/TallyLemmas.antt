@@ -60,7 +60,7 @@ short-after retired (s ∷ seen) limit h =
     (short-cut (retired_after_step retired s.stepped.did) s.fell (limit + 1) (short-step retired s.stepped.did limit h)))
 
 -- a number is one more at one index
-one-at : (ks : List ℕ) (a i : ℕ) → a < length ks → (b : Bool) → (a == i) ≡ b
+pub one-at : (ks : List ℕ) (a i : ℕ) → a < length ks → (b : Bool) → (a == i) ≡ b
     → slice_index_or (slice_set ks a (slice_index_or ks a 0 + 1)) i 0 ≡ slice_index_or ks i 0 + cond b 1 0
 one-at ks a i l true e =
     subst (λ j. slice_index_or (slice_set ks a (slice_index_or ks a 0 + 1)) j 0 ≡ slice_index_or ks j 0 + 1) (eqb-true a i e)

@@ -1,10 +1,15 @@
 pub mod Kinds
+pub mod Causes
 pub mod EventCycles
 pub mod Shares
 pub mod Tallied
+pub mod Ledgers
+pub mod Epochs
+pub mod Wear
 pub mod Trapping
 pub mod Changes
 pub mod Watched
 pub mod Replaying
 pub mod States
 pub mod Following
+pub mod UnderWay

@@ -1,6 +1,9 @@
-//! A device that counts the calls of another that succeed.
+//! A device that counts the calls of another that succeed, and the writes of each place.
+ghost use Rattle.std.specs.Prelude.{◌≡◌, ◌<◌, ◌≤◌, false, ℕ, List, length, IfErr, IfOk, OnErr, OnOk};
+ghost use Rattle.thy_base.specs.Device.{CountsFault, CountsWrite, HasFailedToFit, HasFailedToWrite, IsFramed, fitted, written_to};
+ghost use Rattle.thy_observe.specs.Wear.{WearAddsUp, unworn, worn_at};
 
-use std::alloc::Global;
+use std::alloc::{AllocError, Global};
 use thy_base::{Block, FitError, Nvm, NvmError, Shape};
 
 /// How many calls of a device have succeeded.
@@ -11,41 +14,79 @@ pub struct Calls {
     pub barriers: u64,
 }
 
-/// Counts the calls of a device. No contract says what the counts are.
+/// Counts the calls of a device. What the numbers of its calls are no contract says.
 pub trait Counts {
+    /// How many writes each place has taken since the last fit; of no place if that is not wanted.
+    ghost wear: { Self → List ℕ };
+
     /// The calls that have succeeded so far.
     fn calls(&self) -> Calls;
+
+    /// How many writes each place has taken.
+    fn wear(&self) -> &[u64]
+        ensures { result.now ≡ wear self.now };
 }
 
-/// A device that does what another one does, and counts its reads, writes and barriers that succeed. A count stops at the
-/// last value.
+/// A device that does what another one does, and counts its reads, writes and barriers that succeed, and, if that is wanted, the
+/// writes of each place since the last fit. A count stops at the last value.
 #[derive(Drop)]
 pub struct Counting<N> {
     inner: N,
     reads: u64,
     writes: u64,
     barriers: u64,
+    /// The writes of each place are wanted.
+    wears: bool,
+    wear: Vec<u64>,
+}
+
+/// Counts one write more to a place, if it has a count.
+fn wear_out(wear: &mut [u64], at: u64)
+    ensures { wear.new ≡ worn_at wear.old at }
+{
+    if at < wear.len() as u64 {
+        wear[at as usize] = wear[at as usize].saturating_add(1);
+    }
+}
+
+/// A count of no write for each place, if they are wanted.
+fn unworn(alloc: Global, wanted: bool, blocks: u64) -> Result<Vec<u64>, AllocError>
+    ensures { IfOk result (λ wear. wear.items ≡ unworn wanted blocks) }
+{
+    if wanted {
+        Vec::from_elem(alloc, 0u64, blocks as usize)
+    } else {
+        Ok(Vec::new(alloc))
+    }
 }
 
 impl<N> Counting<N> {
-    /// A device that counts the calls of this one. No call is counted yet.
-    pub fn over(inner: N) -> Counting<N> {
+    /// A device that counts the calls of this one, and if wanted the writes of each place. No call is counted yet.
+    pub fn over(alloc: Global, inner: N, wears: bool) -> Counting<N> {
         Counting {
             inner,
             reads: 0,
             writes: 0,
             barriers: 0,
+            wears,
+            wear: Vec::new(alloc),
         }
     }
 }
 
 impl<N> Counts for Counting<N> {
+    ghost wear = { λ it. it.wear.items };
+
     fn calls(&self) -> Calls {
         Calls {
             reads: self.reads,
             writes: self.writes,
             barriers: self.barriers,
         }
+    }
+
+    fn wear(&self) -> &[u64] {
+        self.wear.as_slice()
     }
 }
 
@@ -59,7 +100,22 @@ impl<N: Nvm> Nvm for Counting<N> {
 
     ghost writes = { λ it. N.writes it.inner };
 
-    fn fit(&mut self, alloc: Global, shape: &Shape, start: Vec<Block>) -> Result<(), FitError> {
+    /// No place has taken a write then.
+    fn fit(&mut self, alloc: Global, shape: &Shape, start: Vec<Block>) -> Result<(), FitError>
+        requires blocks { 0 < shape.now.blocks }
+        requires queue { 0 < shape.now.queue }
+        requires start { length start.items ≤ shape.now.blocks }
+        ensures ok { OnOk result (N.device self.new.inner ≡ fitted shape.now start.items (N.device self.old.inner)) }
+        ensures err { IfErr result (λ e. HasFailedToFit e (N.device self.old.inner) (N.device self.new.inner)) }
+        ensures no_writes { OnOk result (N.writes self.new.inner ≡ 0) }
+        ensures same_writes { OnErr result (N.writes self.new.inner ≡ N.writes self.old.inner) }
+        ensures unworn { OnOk result (self.new.wear.items ≡ unworn self.old.wears shape.now.blocks) }
+    {
+        let wear = match unworn(alloc, self.wears, shape.blocks) {
+            Ok(wear) => wear,
+            Err(error) => return Err(FitError::Memory(error)),
+        };
+        self.wear = wear;
         self.inner.fit(alloc, shape, start)
     }
 
@@ -81,10 +137,22 @@ impl<N: Nvm> Nvm for Counting<N> {
         answer
     }
 
-    fn write(&mut self, at: u64, block: &Block) -> Result<(), NvmError> {
-        let answer = self.inner.write(at, block);
-        self.writes = counted(self.writes, answer.is_ok());
-        answer
+    /// It is counted at its place if it succeeds.
+    fn write(&mut self, at: u64, block: &Block) -> Result<(), NvmError>
+        requires place { at < length (N.device self.old.inner).image }
+        requires up { (N.device self.old.inner).down ≡ false }
+        ensures ok { OnOk result (N.device self.new.inner ≡ written_to (N.device self.old.inner) at block.now) }
+        ensures err { OnErr result (HasFailedToWrite at block.now (N.device self.old.inner) (N.device self.new.inner)) }
+        ensures frame { IsFramed (N.device self.old.inner) (N.device self.new.inner) }
+        ensures cause { CountsFault result (N.device self.old.inner).faults (N.device self.new.inner).faults }
+        ensures counted { CountsWrite result (N.writes self.old.inner) (N.writes self.new.inner) }
+        ensures worn { OnOk result (self.new.wear.items ≡ worn_at self.old.wear.items at) }
+        ensures stays { OnErr result (self.new.wear.items ≡ self.old.wear.items) }
+    {
+        self.inner.write(at, block)?;
+        self.writes = counted(self.writes, true);
+        wear_out(self.wear.as_mut_slice(), at);
+        Ok(())
     }
 
     fn drain(&mut self) -> Result<(), NvmError> {
@@ -105,3 +173,8 @@ impl<N: Nvm> Nvm for Counting<N> {
         self.inner.kept(i, at)
     }
 }
+
+/// As long as no count has come to its last value, the counts of all places add up to the writes.
+pub fn wear_adds_up()
+    ensures { WearAddsUp }
+{}

@@ -1,28 +1,36 @@
 //! What a run comes to, cycle by cycle: an observer that counts each kind of cycle, and keeps for each cycle in which events
 //! were made its number and how many instructions were retired by then, and what each hart did. It is proved to be the tally
-//! of the cycles that it has seen (`Tally`). And where a program trapped, and at what (`trap_of`); and how often each program
-//! counter retired, and the state of the machine in a cycle or at a count, which it finds by executing the run's instructions
-//! again on the plain machine (`count_pcs`, `state_by`, `state_at`).
+//! of the cycles that it has seen (`Tally`). Two more count the cycles by cause, of the whole run (`Ledger`) and of each stretch
+//! of it (`Epochs`), and a device the writes of each place (`Counting`). And where a program trapped, and at what (`trap_of`);
+//! and how often each program counter retired, and the state of the machine in a cycle or at a count, which it finds by
+//! executing the run's instructions again on the plain machine (`count_pcs`, `state_by`, `state_at`).
 //!
-//! Open specs/Kinds.antt first, then specs/EventCycles.antt, specs/Shares.antt and src/tally.rt; for the program counters
-//! specs/Replaying.antt and src/replay.rt, and for the states specs/States.antt too. It stands on thy_base, thy_isa, thy_plain,
-//! thy_layout, thy_view and thy_run; on it stands the program observe.
+//! Open specs/Kinds.antt first, then specs/EventCycles.antt, specs/Shares.antt and src/tally.rt; for the causes
+//! specs/Causes.antt, specs/Epochs.antt and src/ledger.rt; for the program counters specs/Replaying.antt and src/replay.rt, and
+//! for the states specs/States.antt too. It stands on thy_base, thy_isa, thy_plain, thy_layout, thy_view and thy_run; on it
+//! stands the program observe.
 #![tactic(auto)]
 
+mod causes;
 mod changes;
 mod counting;
+mod epochs;
 mod event_cycle;
 mod kinds;
+mod ledger;
 mod replay;
 mod shares;
 mod tally;
 mod trap;
 mod watch;
 
+pub use causes::{Cause, causes_add_up, causes_agree_with_kinds, what_is_under_way_is_known};
 pub use changes::{Change, Changes, Dated};
-pub use counting::{Calls, Counting, Counts};
+pub use counting::{Calls, Counting, Counts, wear_adds_up};
+pub use epochs::{End, Epochs, Row, epochs_add_up};
 pub use event_cycle::{EventCycle, RetiredCount};
 pub use kinds::{Kind, kinds_add_up};
+pub use ledger::Ledger;
 pub use replay::{ReplayError, count_pcs, state_at, state_by, what_is_executed_follows_the_run};
 pub use shares::{Share, Shares, shares_add_up};
 pub use tally::Tally;

@@ -41,7 +41,7 @@ pub struct Tally {
 }
 
 /// 1 for a cycle that the engine took at the turn of the hart.
-fn waiting_in(stall: Option<Stall>) -> u64
+pub(crate) fn waiting_in(stall: Option<Stall>) -> u64
     ensures { result ≡ cond (is_waiting stall) 1 0 }
 {
     match stall {

@@ -3,28 +3,34 @@ ghost use Rattle.std.specs.Prelude.{[]};
 ghost use Rattle.thy_observe.specs.Watched.{IsWatch};
 
 use crate::changes::Changes;
+use crate::epochs::Epochs;
+use crate::ledger::Ledger;
 use crate::tally::Tally;
 use std::alloc::Global;
 use thy_isa::MachState;
 use thy_run::Observer;
 use thy_view::Stepped;
 
-/// The tally of a run's cycles, or the trap of the plain machine; and, if that is wanted, what the cycles made of the
-/// program's state.
+/// The tally of a run's cycles and their ledger, or the trap of the plain machine; and, if that is wanted, what the cycles made of
+/// the program's state, and their stretches.
 #[derive(Drop)]
 pub struct Watch {
     pub tally: Tally,
     pub changes: Changes,
+    pub ledger: Ledger,
+    pub epochs: Epochs,
 }
 
 impl Watch {
     /// A watch that has seen no cycle. Takes no memory.
-    pub fn new(alloc: Global, wants_changes: bool) -> Watch
+    pub fn new(alloc: Global, wants_changes: bool, wants_epochs: bool) -> Watch
         ensures { IsWatch result [] }
     {
         Watch {
             tally: Tally::new(alloc),
             changes: Changes::new(alloc, wants_changes),
+            ledger: Ledger::new(),
+            epochs: Epochs::new(alloc, wants_epochs),
         }
     }
 }
@@ -41,25 +47,35 @@ impl Observer for Watch {
     fn see(&mut self, stepped: &Stepped, told: usize, cycle: u64) {
         self.tally.see(stepped, told, cycle);
         self.changes.see(stepped, told, cycle);
+        self.ledger.see(stepped, told, cycle);
+        self.epochs.see(stepped, told, cycle);
     }
 
     fn keep(&mut self, stepped: &Stepped) {
         self.tally.keep(stepped);
         self.changes.keep(stepped);
+        self.ledger.keep(stepped);
+        self.epochs.keep(stepped);
     }
 
     fn see_cut(&mut self, told: usize, cycle: u64) {
         self.tally.see_cut(told, cycle);
         self.changes.see_cut(told, cycle);
+        self.ledger.see_cut(told, cycle);
+        self.epochs.see_cut(told, cycle);
     }
 
     fn forget(&mut self) {
         self.tally.forget();
         self.changes.forget();
+        self.ledger.forget();
+        self.epochs.forget();
     }
 
     fn see_last(&mut self, base: u64, state: &MachState) {
         self.tally.see_last(base, state);
         self.changes.see_last(base, state);
+        self.ledger.see_last(base, state);
+        self.epochs.see_last(base, state);
     }
 }

@@ -22,7 +22,7 @@ FOR_DEVELOPERS = (
 # Of tools/lib what only these need.
 THEIR_MODULES = ("evaluations", "hostile_calls", "lint", "packaging", "random_runs")
 
-PROGRAMS = ("thynvm", "observe", "thy_wear")
+PROGRAMS = ("thynvm", "observe")
 
 # What stands in the package as it does in the repository, beside scripts: files, and folders with all that they have.
 FILES = ("thynvm", "README.md", "CHANGELOG.md", "CONTRIBUTING.md")

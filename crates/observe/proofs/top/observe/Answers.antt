@@ -1,12 +1,11 @@
-use Rattle.std.proofs.Common.{◌≡◌, refl, sym, ◌∙◌, ap, inl, inr, subst, string_bytes}
+use Rattle.std.proofs.Common.{◌≡◌, refl, sym, ◌∙◌, inl, inr, subst, string_bytes}
 use Rattle.std.specs.Prelude.{IfSome, map, option_map}
 use Rattle.thy_base.specs.Outside.{Stock}
 use Rattle.thy_words.specs.Settings.{order_of}
-use Rattle.thy_answer.specs.Answering.{around}
 use Rattle.thy_answer.specs.Saving.{IsPut}
 use Rattle.thy_answer.proofs.ShelfLemmas.{stock_same}
 use Rattle.observe.specs.Beginning.{IsBegunOf, IsUnreadOf}
-use Rattle.observe.proofs.PuttingLemmas.{Ends-sections, IsObserved-left, IsObserved-same, Unread-asked, lent-in-range, lent-order}
+use Rattle.observe.proofs.PuttingLemmas.{Ends-sections, IsObserved-lacks, IsObserved-left, IsObserved-puts, Unread-asked, lent-in-range, lent-order}
 use Rattle.observe.proofs.top.observe.Goals as goal
 
 pub returns-in-Err : goal.returns-in-Err
@@ -38,24 +37,19 @@ returns-then-not-ran g c =
     let old : Stock = g.H.Shelf.stock c.args.shelf.now in
     let middle : Stock = g.H.Shelf.stock c.beginning.new.shelf in
     let same : middle ≡ old = stock_same old middle c.in-Ok-beginning.ensures.held c.in-Ok-beginning.ensures.calm in
-    inr (inr (IsObserved-left _ _ c.args.options c.args.out.now (map string_bytes c.args.words.now) old middle _ _ _ _
-    c.observed-answer.result c.observed-answer.new.observer same c.in-Ok.ensures.free c.observed-answer.ensures))
+    inr (inr (IsObserved-left _ _ _ c.args.options c.args.out.now (map string_bytes c.args.words.now) old middle _ _ _ _
+    c.observed-answer.result c.observed-answer.new.observer same c.in-Ok.ensures.free (sym c.was_begun-ran.ensures ∙ c.if-not-ran.true)
+    c.observed-answer.ensures))
 
 pub returns-in_default : goal.returns-in_default
 returns-in_default g c =
+    let x = c.observed-answer.new in
     let old : Stock = g.H.Shelf.stock c.args.shelf.now in
     let middle : Stock = g.H.Shelf.stock c.beginning.new.shelf in
     let same : middle ≡ old = stock_same old middle c.in-Ok-beginning.ensures.held c.in-Ok-beginning.ensures.calm in
-    inr (inr (IsObserved-left _ _ c.args.options c.args.out.now (map string_bytes c.args.words.now) old middle _ _ _ _
-    c.observed-answer.result c.observed-answer.new.observer same c.in-Ok.ensures.free c.observed-answer.ensures))
-
-pub returns-in_default-with_sections : goal.returns-in_default-with_sections
-returns-in_default-with_sections g c =
-    let old : Stock = g.H.Shelf.stock c.args.shelf.now in
-    let middle : Stock = g.H.Shelf.stock c.beginning.new.shelf in
-    let same : middle ≡ old = stock_same old middle c.in-Ok-beginning.ensures.held c.in-Ok-beginning.ensures.calm in
-    inr (inr (IsObserved-left _ _ c.args.options c.args.out.now (map string_bytes c.args.words.now) old middle _ _ _ _
-    c.observed-answer.result c.observed-answer.new.observer same c.in-Ok.ensures.free c.observed-answer.ensures))
+    inr (inr (IsObserved-lacks _ _ _ c.args.options c.args.out.now (map string_bytes c.args.words.now) old middle (g.H.Shelf.stock x.shelf) _ x.nvm _
+    (g.T.Sink.stream x.terminal) _ (g.R.Sink.stream x.report) _ c.observed-answer.result x.observer _ same c.in-Ok.ensures.free
+    (sym c.was_begun-ran.ensures ∙ c.if-not-ran.false) c.observed-answer.ensures c.lack.ensures))
 
 pub returns : goal.returns
 returns g c =
@@ -63,29 +57,13 @@ returns g c =
     let old : Stock = g.H.Shelf.stock c.args.shelf.now in
     let middle : Stock = g.H.Shelf.stock c.beginning.new.shelf in
     let same : middle ≡ old = stock_same old middle c.in-Ok-beginning.ensures.held c.in-Ok-beginning.ensures.calm in
-    let words = map string_bytes c.args.words.now in
     let begun : IfSome c.in-Ok-beginning.begun (IsBegunOf (option_map order_of c.in-Ok.command) middle) =
     subst (λ s. IfSome c.in-Ok-beginning.begun (IsBegunOf (option_map order_of c.in-Ok.command) s)) (sym same)
     (subst (λ o. IfSome c.in-Ok-beginning.begun (IsBegunOf o old)) (lent-order c.as_ref.result c.in-Ok.command c.as_ref.ensures.value)
     c.in-Ok-beginning.ensures.begins) in
-    let ends = Ends-sections c.args.options words middle c.in-Ok.command c.in-Ok-beginning.begun x.observer _ _ c.in-Ok.ensures.asked begun c.in-Some.ensures in
-    inr (inr (IsObserved-same _ _ c.args.options c.args.out.now words old middle _ _ _ _ _ same (record {
-      free = c.in-Ok.ensures.free;
-      middle = around (g.H.Shelf.stock x.shelf) x.nvm (g.T.Sink.stream x.terminal) (g.R.Sink.stream x.report);
-      answer = c.observed-answer.result;
-      watch = x.observer;
-      claim = c.observed-answer.ensures;
-      ends = inr (record {
-        begun = sym c.was_begun-ran.ensures ∙ c.if-not-ran.false;
-        head = _;
-        section = ends.section;
-        sections = ends.sections;
-        why = c.put_text-why.result;
-        put =
-            subst (λ text. IsPut c.args.out.now text (g.H.Shelf.stock x.shelf) (g.H.Shelf.stock c.put_text-why.new.shelf) c.put_text-why.result)
-            (c.as_str.ensures.value ∙ ends.splits) c.put_text-why.ensures;
-        nvm = refl;
-        terminal = refl;
-        is_told = c.tell.ensures;
-      });
-    })))
+    inr (inr (IsObserved-puts _ _ _ c.args.options c.args.out.now (map string_bytes c.args.words.now) old middle (g.H.Shelf.stock x.shelf)
+    (g.H.Shelf.stock c.put_text-why.new.shelf) _ x.nvm _ (g.T.Sink.stream x.terminal) _ (g.R.Sink.stream x.report) _ c.observed-answer.result x.observer
+    c.in-Ok.command c.in-Ok-beginning.begun (string_bytes c.in-Some.text) c.put_text-why.result _ same c.in-Ok.ensures.free
+    (sym c.was_begun-ran.ensures ∙ c.if-not-ran.false) c.observed-answer.ensures c.in-Ok.ensures.asked begun c.in-Some.ensures
+    (subst (λ text. IsPut c.args.out.now text (g.H.Shelf.stock x.shelf) (g.H.Shelf.stock c.put_text-why.new.shelf) c.put_text-why.result)
+    c.as_str.ensures.value c.put_text-why.ensures) c.tell.ensures))

@@ -1,0 +1,34 @@
+//! The whole text that is put under OUT.
+ghost use Rattle.std.specs.Prelude.{IfSome, string_bytes};
+ghost use Rattle.observe.specs.CountText.{HasWhole};
+
+use crate::beginning::Begun;
+use crate::counts::with_counts;
+use crate::options::Options;
+use crate::out::{Asked, text_of};
+use crate::sections::with_sections;
+use crate::wear::with_wear;
+use std::alloc::Global;
+use thy_cli::Answer;
+use thy_observe::{Counts, Watch};
+
+/// The text for an answer, with what the options ask for in addition; none if memory ran out for what was seen, or for it.
+pub fn whole_text<C: Counts>(
+    alloc: Global,
+    asked: Asked,
+    answer: &Answer,
+    options: Options,
+    begun: Option<Begun>,
+    watch: &Watch,
+    nvm: &C,
+) -> Option<String>
+    ensures { IfSome result (λ whole. HasWhole options begun watch.now (C.wear nvm.now) (string_bytes whole)) }
+{
+    let calls = nvm.calls();
+    let Ok(Some(head)) = text_of(alloc, asked, answer, &watch.tally, &calls) else {
+        return None;
+    };
+    let text = with_sections(alloc, head, options, begun, &watch.changes)?;
+    let counted = with_counts(alloc, text, options, watch)?;
+    with_wear(alloc, counted, options.wear, nvm.wear())
+}
