@@ -1,4 +1,4 @@
-"""Reads the sections of `./thynvm observe OUT --causes --epochs --wear ..` (docs/FORMATS.md, "What `observe` writes"): how many
+"""Reads the sections of `./thynvm observe OUT --causes --epochs --wear ..` (docs/OBSERVING.md): how many
 cycles there were of each cause, the same of each stretch of cycles, and how many writes each place of the NVM took."""
 
 import re

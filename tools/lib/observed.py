@@ -1,4 +1,4 @@
-"""Reads what `./thynvm observe OUT ..` has written (docs/FORMATS.md, "What `observe` writes").
+"""Reads what `./thynvm observe OUT ..` has written (docs/OBSERVING.md).
 
 It is outside of what is proved: it reads the text by itself, and refuses one that is not whole or whose sums are wrong."""
 

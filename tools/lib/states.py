@@ -1,4 +1,4 @@
-"""Reads the state of a machine in what `./thynvm observe OUT --state C ..` or `--state-at K` has written (docs/FORMATS.md)."""
+"""Reads the state of a machine in what `./thynvm observe OUT --state C ..` or `--state-at K` has written (docs/OBSERVING.md)."""
 
 import re
 from dataclasses import dataclass

@@ -1,4 +1,4 @@
-"""What `observe` writes, by docs/FORMATS.md."""
+"""What `observe` writes, by docs/OBSERVING.md."""
 
 import unittest
 
