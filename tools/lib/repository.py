@@ -28,9 +28,10 @@ def program(name):
     return path("bin", name) if is_package() else path("crates", name, "out", name)
 
 
-# What the script runs, once it has built it, and the same if its first word is `observe`.
+# What the script runs, once it has built it, and the same if its first word is `observe` or `sweep`.
 PROGRAM = program("thynvm")
 OBSERVER = program("observe")
+SWEEPER = program("sweep")
 
 
 def text_of(name):

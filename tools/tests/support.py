@@ -14,7 +14,7 @@ import unittest
 import xml.dom.minidom
 
 from lib import pictures, repository
-from lib.repository import OBSERVER, PROGRAM
+from lib.repository import OBSERVER, PROGRAM, SWEEPER
 
 
 def needs(*tools):
@@ -30,6 +30,9 @@ def needs_program(*programs):
 
 
 needs_observer = needs_program(PROGRAM, OBSERVER)
+
+
+needs_sweeper = needs_program(PROGRAM, OBSERVER, SWEEPER)
 
 
 needs_matplotlib = unittest.skipUnless(pictures.has_matplotlib(), "matplotlib not installed")

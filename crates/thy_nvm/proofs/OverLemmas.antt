@@ -1,15 +1,16 @@
 -- Blocks that were written over those of another image, and a device of them, after its calls.
-use Rattle.std.proofs.Common.{◌≡◌, ℕ, suc, ◌+◌, ◌<◌, ◌==◌, if◌then◌else◌, Bool, true, false, List, [], ◌∷◌, ◌++◌, length, take, drop, slice_set, slice_index_or, refl, sym, ◌∙◌, ap, arith}
-use Rattle.std.proofs.lemmas.Bool.{lt-ltb}
-use Rattle.std.proofs.lemmas.List.{get_or_default}
+use Rattle.std.proofs.Common.{◌≡◌, ℕ, suc, ◌+◌, ◌<◌, ◌==◌, if◌then◌else◌, Bool, true, false, List, [], ◌∷◌, ◌++◌, length, take, drop, slice_set, slice_index_or, refl, sym, ◌∙◌, ap, subst, inl, inr, arith}
+use Rattle.std.proofs.lemmas.Bool.{cases_lt, lt-ltb}
+use Rattle.std.proofs.lemmas.List.{get_or_default, get_or_past}
 use Rattle.thy_base.specs.declared.block.Block.{Block}
 use Rattle.thy_base.specs.declared.nvm.Write.{Write}
-use Rattle.thy_base.specs.Device.{zero_block, block_at, queued_for, newest_over, applied, newest, landed, settled, surplus, written_to, write_of}
-use Rattle.thy_ring.specs.Held.{Held, device_of, as_device}
+use Rattle.thy_base.specs.Device.{Crash, IsLeftOf, MayLeave, zero_block, block_at, queued_for, newest_over, applied, newest, landed, settled, surplus, written_to, write_of}
+use Rattle.thy_base.proofs.CrashLemmas.{Crash-image}
+use Rattle.thy_ring.specs.Held.{Held, device_of, as_device, put_at}
 use Rattle.thy_ring.specs.Merged.{merged, is_marked, AreMarked}
-use Rattle.thy_ring.proofs.MergedLemmas.{length-merged, block_at-merged, merged-applied, merged-copy, AreMarked-append, AreMarked-take, AreMarked-drop, queued_for-unmarked, newest_over-unmarked}
+use Rattle.thy_ring.proofs.MergedLemmas.{length-merged, block_at-merged, merged-write, merged-applied, merged-copy, AreMarked-append, AreMarked-take, AreMarked-drop, queued_for-unmarked, newest_over-unmarked}
 use Rattle.thy_nvm.specs.Overlaid.{over_below}
-use Rattle.thy_nvm.specs.Pick.{drawn_block, drawn_seed, drawn, torn_block, torn_seed, torn, left_by_draws, picked, left_by}
+use Rattle.thy_nvm.specs.Pick.{drawn_block, drawn_seed, drawn, torn_block, torn_seed, torn, left_by_draws, picked, left_by, landing}
 
 -- ---- picks
 
@@ -120,6 +121,53 @@ pub over-left : (whole : Bool) (pick : ℕ) (held : Held) (ms : List Bool) (belo
     → over_below (left_by whole pick held) ms below ≡ left_by whole pick (over_below held ms below)
 over-left whole pick held ms below same marked =
     ap (λ i. record { image = i; queue = []; room = held.room }) (merged-picked whole pick ms held.image below held.queue same marked)
+
+-- ---- what may be left of it
+
+-- a block that was possible already
+over-stands : (whole : Bool) (held : Held) (ms : List Bool) (below g : List Block) (x : ℕ)
+    → block_at (merged ms held.image below) x ≡ block_at (merged ms g below) x
+    → MayLeave (landing whole (over_below held ms below)) x (block_at (merged ms g below) x)
+over-stands whole held ms below g x same =
+    subst (MayLeave (landing whole (over_below held ms below)) x) same ((Crash-image (landing whole (over_below held ms below))).each x)
+
+-- at a place that is marked, or is not
+over-place : (whole : Bool) (held : Held) (ms : List Bool) (below g : List Block) (x : ℕ) (t : Bool) → is_marked ms x ≡ t → x < length ms
+    → MayLeave (landing whole held) x (block_at g x)
+    → MayLeave (landing whole (over_below held ms below)) x (block_at (merged ms g below) x)
+over-place whole held ms below g x true is l left =
+    let here : block_at held.image x ≡ block_at (merged ms held.image below) x
+    = sym (block_at-merged ms held.image below x l ∙ ap (λ t. if t then block_at held.image x else block_at below x) is) in
+    let there : block_at g x ≡ block_at (merged ms g below) x
+    = sym (block_at-merged ms g below x l ∙ ap (λ t. if t then block_at g x else block_at below x) is) in
+    subst (λ (b : Block). IsLeftOf whole (b ∷ queued_for held.queue x) (block_at (merged ms g below) x)) here
+    (subst (IsLeftOf whole (block_at held.image x ∷ queued_for held.queue x)) there left)
+over-place whole held ms below g x false is l left =
+    let here : block_at (merged ms held.image below) x ≡ block_at below x
+    = block_at-merged ms held.image below x l ∙ ap (λ t. if t then block_at held.image x else block_at below x) is in
+    let there : block_at (merged ms g below) x ≡ block_at below x
+    = block_at-merged ms g below x l ∙ ap (λ t. if t then block_at g x else block_at below x) is in
+    over-stands whole held ms below g x (here ∙ sym there)
+
+-- what a cut may leave of the written blocks, it may leave of all, with those below
+pub Crash-over : (whole : Bool) (held : Held) (ms : List Bool) (below g : List Block) → Crash (landing whole held) g
+    → Crash (landing whole (over_below held ms below)) (merged ms g below)
+Crash-over whole held ms below g left = record {
+  same_length = length-merged ms g below ∙ sym (length-merged ms held.image below);
+  each = λ x. elim (cases_lt x (length ms))
+      as (λ _. MayLeave (landing whole (over_below held ms below)) x (block_at (merged ms g below) x)) [
+        | inl l ↦ over-place whole held ms below g x (is_marked ms x) refl l (left.each x)
+        | inr past ↦
+            over-stands whole held ms below g x
+            (get_or_past (merged ms held.image below) x zero_block (omega (arith, past, length-merged ms held.image below))
+            ∙ sym (get_or_past (merged ms g below) x zero_block (omega (arith, past, length-merged ms g below))))
+      ];
+}
+
+pub over-put : (held : Held) (ms : List Bool) (below : List Block) (at : ℕ) (block : Block) → length held.image ≡ length ms → at < length ms
+    → over_below (put_at held at block) (slice_set ms at true) below ≡ put_at (over_below held ms below) at block
+over-put held ms below at block same inside =
+    ap (λ i. record { image = i; queue = held.queue; room = held.room }) (merged-write ms held.image below at block same inside)
 
 pub over-landed : (k : ℕ) (held : Held) (ms : List Bool) (below : List Block) → length held.image ≡ length ms → AreMarked ms held.queue
     → over_below (as_device (landed k) held) ms below ≡ as_device (landed k) (over_below held ms below)

@@ -1,5 +1,5 @@
 -- A device over the image of another one: what it holds, and how it lies in memory.
-use Rattle.std.specs.Prelude.{◌≡◌, ℕ, false, Bool, List, [], length}
+use Rattle.std.specs.Prelude.{◌≡◌, ℕ, false, Bool, List, [], length, slice_set}
 use Rattle.thy_base.specs.declared.block.Block.{Block}
 use Rattle.thy_base.specs.Counts.{next}
 use Rattle.thy_base.specs.Device.{Device, written_to}
@@ -34,6 +34,10 @@ on_overlay call o = record o { device = call o.device }
 -- an overlay after a write
 abbrev pub written_over : ℕ → Block → Overlaid → Overlaid
 written_over at block o = overlaid (written_to o.device at block) (next o.writes)
+
+-- after a block was put at a place, whatever is queued
+abbrev pub put_in : ℕ → Block → Device → Device
+put_in at block n = record n { image = slice_set n.image at block }
 
 -- a device after a fit that failed, and is counted
 abbrev pub fit_failed : Device → Device

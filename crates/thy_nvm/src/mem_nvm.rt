@@ -1,17 +1,18 @@
 //! A device that lies in the memory of the host.
-ghost use Rattle.std.specs.Prelude.{◌≡◌, ◌<◌, ◌≤◌, true, false, length, is_err, is_some, IfOk, OnOk, OnErr, IfErr, slice_index_or, []};
+ghost use Rattle.std.specs.Prelude.{◌≡◌, ◌+◌, ◌<◌, ◌≤◌, ◌^◌, true, false, length, is_err, is_some, IfOk, IfSome, OnOk, OnErr, IfErr, slice_index_or, []};
 ghost use Rattle.thy_base.specs.declared.nvm.Write.{Write as Written};
 ghost use Rattle.thy_base.specs.Counts.{Rose};
 ghost use Rattle.thy_base.specs.Device.{Device, newest, block_at, written_to, drained, settled, fitted, IsCut, IsFramed, HasFailed, HasFailedToWrite, HasFailedToFit, CountsFault, CountsWrite};
 ghost use Rattle.thy_nvm.specs.DeviceInMemory.{InMemory, fresh_device, with_device, on_device, IsFit, IsFresh, written, with_write, half_settled, failed, left_after, IsCall};
 ghost use Rattle.thy_nvm.specs.Pick.{cut_by};
 ghost use Rattle.thy_ring.specs.Held.{as_device, held_by};
+ghost use Rattle.thy_ring.specs.Lowest.{IsLowestOf};
 
 use crate::call_faults::{CallFaults, Fault};
 use crate::choices::{Choices, leave_chosen};
 use crate::kept::Kept;
 use crate::over::block_of_image;
-use crate::pick::leave;
+use crate::pick::{leave, size_of};
 use std::alloc::{AllocError, Global};
 use std::marker::Model;
 use thy_base::{Block, FitError, Nvm, NvmError, Shape, Write};
@@ -96,6 +97,16 @@ impl MemNvm {
         ensures place { result.at < length self.now.device.image }
     {
         self.ring.waiting(i)
+    }
+
+    /// The lowest place from this one on for which a write is queued, if there is one, also while the device is down.
+    pub fn next_waiting(&self, from: u64) -> Option<u64>
+        ensures lowest { IsLowestOf self.now.device.queue from result }
+        ensures place { IfSome result (λ x. x < length self.now.device.image) }
+        ensures small { IfSome result (λ x. x + 1 < 2 ^ 64) }
+    {
+        let _size = size_of(&self.ring);
+        self.ring.next_queued(from)
     }
 
     /// How many writes are queued, also while the device is down.

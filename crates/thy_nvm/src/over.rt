@@ -2,6 +2,7 @@
 ghost use Rattle.std.specs.Prelude.{◌≡◌, ◌<◌, [], true, length, replicate, slice_set};
 ghost use Rattle.thy_base.specs.Counts.{next};
 ghost use Rattle.thy_base.specs.Device.{block_at};
+ghost use Rattle.thy_ring.specs.Held.{put_at};
 ghost use Rattle.thy_ring.specs.Merged.{merged, AreMarked};
 
 use thy_base::Block;
@@ -38,6 +39,17 @@ pub(crate) fn take_up(ring: &mut Ring, marks: &mut [bool], below: &[Block], at: 
         return;
     }
     ring.put(at, &below[at as usize]);
+    marks[at as usize] = true;
+}
+
+/// Sets the block at a place, over the one below.
+pub(crate) fn put_over(ring: &mut Ring, marks: &mut [bool], at: u64, block: &Block)
+    requires place { at < length marks.old }
+    requires blocks { length ring.old.image ≡ length marks.old }
+    ensures ring { ring.new ≡ put_at ring.old at block.now }
+    ensures marks { marks.new ≡ slice_set marks.old at true }
+{
+    ring.put(at, block);
     marks[at as usize] = true;
 }
 

@@ -1,14 +1,14 @@
 //! A device over the image of another.
 ghost use Rattle.std.specs.Prelude.{◌≡◌, ◌<◌, ◌≤◌, false, ℕ, length, Ok, Err, IfOk, OnOk, OnErr, IfErr};
 ghost use Rattle.thy_base.specs.Counts.{next};
-ghost use Rattle.thy_base.specs.Device.{newest, written_to, drained, settled, fitted, cut_to, IsCut, IsFramed, HasFailed, HasFailedToWrite, HasFailedToFit, CountsFault, CountsWrite};
+ghost use Rattle.thy_base.specs.Device.{Crash, block_at, newest, written_to, drained, settled, fitted, cut_to, IsCut, IsFramed, HasFailed, HasFailedToWrite, HasFailedToFit, CountsFault, CountsWrite};
 ghost use Rattle.thy_base.specs.declared.nvm.FitError.TheVariants.{Failed};
-ghost use Rattle.thy_nvm.specs.Overlaid.{left_of, on_overlay, written_over, fit_failed};
+ghost use Rattle.thy_nvm.specs.Overlaid.{left_of, on_overlay, put_in, written_over, fit_failed};
 ghost use Rattle.thy_nvm.specs.Pick.{cut_device};
 
 use crate::kept::Kept;
 use crate::mem_nvm::MemNvm;
-use crate::over::{block_of_image, one_more, queue_as, take_up, take_up_all};
+use crate::over::{block_of_image, one_more, put_over, queue_as, take_up, take_up_all};
 use crate::pick::leave;
 use std::alloc::{AllocError, Global};
 use std::marker::Model;
@@ -86,7 +86,8 @@ impl<'a> Overlay<'a> {
     pub fn of(spare: Spare, nvm: &'a MemNvm, pick: u64) -> Overlay<'a>
         requires blocks { spare.blocks ≡ length nvm.now.device.image }
         requires queue { spare.queue ≡ nvm.now.device.queue_room }
-        ensures { result ≡ left_of pick nvm.now spare.cuts }
+        ensures left { result ≡ left_of pick nvm.now spare.cuts }
+        ensures crash { Crash nvm.now.device result.device.image }
     {
         let Spare {
             mut ring,
@@ -110,6 +111,26 @@ impl<'a> Overlay<'a> {
             faults: 0,
             writes: 0,
             whole,
+        }
+    }
+
+    /// Sets the block that has landed at a place, whatever is queued.
+    pub fn put(&mut self, at: u64, block: &Block)
+        requires { at < length self.old.device.image }
+        ensures { self.new ≡ on_overlay (put_in at block.now) self.old }
+    {
+        put_over(&mut self.ring, &mut self.marks, at, block);
+    }
+
+    /// The block that has landed at a place, whatever is queued for it.
+    pub fn landed(&self, at: u64) -> Block
+        requires { at < length self.now.device.image }
+        ensures { result ≡ block_at self.now.device.image at }
+    {
+        if self.marks[at as usize] {
+            block_of_image(self.ring.image(), at)
+        } else {
+            block_of_image(self.below, at)
         }
     }
 

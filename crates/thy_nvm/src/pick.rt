@@ -37,7 +37,7 @@ fn draw_place(ring: &mut Ring, at: u64, draws: &mut Lcg)
 }
 
 /// How many places a ring has.
-fn size_of(ring: &Ring) -> u64
+pub(crate) fn size_of(ring: &Ring) -> u64
     ensures size { result ≡ length ring.now.image }
     ensures small { result < 2 ^ 64 }
 {

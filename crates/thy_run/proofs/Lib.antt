@@ -30,3 +30,4 @@ pub mod OutcomeLemmas
 pub mod StartLemmas
 pub mod SeeingLemmas
 pub mod QuietLemmas
+pub mod SingleLemmas

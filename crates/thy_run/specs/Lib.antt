@@ -14,4 +14,5 @@ pub mod Stopping
 pub mod Rounds
 pub mod Seeing
 pub mod Quiet
+pub mod Singles
 pub mod Promises

@@ -114,7 +114,7 @@ fn first_turns(alloc: Global, geometry: &Geometry) -> Result<Bytes, AllocError>
 }
 
 /// A run before its first cycle.
-fn started<M: Computer>(alloc: Global, plan: &Plan) -> Result<Progress<M>, AllocError>
+pub(crate) fn started<M: Computer>(alloc: Global, plan: &Plan) -> Result<Progress<M>, AllocError>
     ensures { IfOk result (IsStarted M.kind plan.now) }
 {
     let machine = first_machine::<M>(alloc, &plan.geometry)?;
@@ -198,7 +198,8 @@ pub fn run<M: Computer, T: Sink, R: Sink, N: Nvm, O: Observer>(
     }
 }
 
-fn ended_by<M: Computer>(stop: Stop, progress: Progress<M>, cycles: u64) -> Ending
+/// The ending of a run that stops after this number of cycles.
+pub(crate) fn ended_by<M: Computer>(stop: Stop, progress: Progress<M>, cycles: u64) -> Ending
     ensures { result ≡ ending_of stop progress cycles }
 {
     Ending {

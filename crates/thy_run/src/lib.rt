@@ -16,6 +16,7 @@ mod observer;
 mod plan;
 mod progress;
 mod quiet;
+mod singles;
 mod tell;
 
 pub use cycles::run;
@@ -26,4 +27,6 @@ pub use laws::{
 };
 pub use observer::{Observer, Silent};
 pub use plan::Plan;
+pub use progress::Progress;
+pub use singles::{SingleCycle, begin, end, single};
 pub use tell::write_bytes;

@@ -153,7 +153,7 @@ AreDistinct-append (x ∷ xs) ys d e apart = (
 )
 
 -- the images that begin with a block
-abbrev led_by : Block → List (List Block) → List (List Block)
+abbrev pub led_by : Block → List (List Block) → List (List Block)
 led_by c gs = map (λ (g : List Block). c ∷ g) gs
 
 same_tail : (c : Block) (g h : List Block) → c ∷ g ≡ c ∷ h → g ≡ h
@@ -275,7 +275,7 @@ length-flat (c ∷ cs) gs =
     let more : suc (length cs) * length gs ≡ length gs + length cs * length gs = omega arith in
     length-append (led_by c gs) (flat_map (λ (c : Block). led_by c gs) cs) ∙ omega (arith, one, length-flat cs gs) ∙ sym more
 
-images-count : (x : ℕ) (blocks : List Block) (queue : List Write) → length (images_from x blocks queue) ≡ count_from x blocks queue
+pub images-count : (x : ℕ) (blocks : List Block) (queue : List Write) → length (images_from x blocks queue) ≡ count_from x blocks queue
 images-count x [] queue = refl
 images-count x (b ∷ bs) queue =
     length-flat (choices_at x b queue) (images_from (x + 1) bs queue) ∙ ap (λ k. length (choices_at x b queue) * k) (images-count (x + 1) bs queue)

@@ -1,3 +1,4 @@
+pub mod ChoiceLemmas
 pub mod ImageLemmas
 pub mod LeadLemmas
 pub mod RepeatLemmas

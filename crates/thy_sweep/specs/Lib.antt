@@ -1,3 +1,4 @@
+pub mod Choices
 pub mod Images
 pub mod Leads
 pub mod Repeats

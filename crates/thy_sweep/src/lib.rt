@@ -4,12 +4,14 @@
 //! Open specs/Images.antt and specs/Leads.antt first, and src/lead.rt. It stands on thy_base and thy_nvm; nothing stands on it yet.
 #![tactic(auto)]
 
+mod choices;
 mod images;
 mod lead;
 mod repeats;
 mod seen;
 mod sums;
 
+pub use choices::{Choices, the_images_of_a_cut_are_numbered};
 pub use images::every_image_of_a_cut_is_listed;
 pub use lead::{Booted, Lead, leads_are_of_their_boots, note_boot};
 pub use repeats::the_same_queue_is_the_same_device;

@@ -6,6 +6,7 @@ use crate::support::expect::expect;
 use std::process::Abort;
 use thy_base::{Block, Nvm, Shape};
 use thy_nvm::{MemNvm, Overlay, Spare};
+use thy_sweep::{Choices, the_images_of_a_cut_are_numbered};
 
 // The first draws of the seed 7 are 1059165278 and 2052263231: modulo the three blocks of place
 // 0 the newest write, and modulo the two of place 2 the only one.
@@ -95,6 +96,35 @@ fn a_pick_tears_blocks_word_by_word(rt: HostRuntime) {
         nvm.kept(0, 2),
         block_of_words(&[5, 0, 5, 5, 0, 0, 5, 0]),
     );
+}
+
+// Place 0 has the block that has landed and two that are queued. Place 2 has zeros, and the block of one write: the other one
+// repeats the zeros. So there are six images, and of the one with the number 3 each place has its second block.
+#[test]
+fn an_image_of_a_cut_has_a_number(rt: HostRuntime) {
+    let shape = Shape {
+        blocks: 3,
+        queue: 4,
+        cuts: 0,
+    };
+    let mut nvm = MemNvm::new(rt.alloc());
+    let start = Vec::from_slice(rt.alloc(), &[Block([1; 64])]).expect(&rt, "memory");
+    nvm.fit(rt.alloc(), &shape, start).expect(&rt, "memory");
+    nvm.write(2, &Block([5; 64])).expect(&rt, "a write");
+    nvm.write(0, &Block([2; 64])).expect(&rt, "a write");
+    nvm.write(2, &Block::ZERO).expect(&rt, "a write");
+    nvm.write(0, &Block([3; 64])).expect(&rt, "a write");
+    let choices = Choices::of(rt.alloc(), &nvm).expect(&rt, "memory");
+    let count = choices.count();
+    assert_eq!(rt; count, 6);
+    let spare = Spare::new(rt.alloc(), &shape).expect(&rt, "memory");
+    let mut copy = Overlay::of(spare, &nvm, 0);
+    the_images_of_a_cut_are_numbered();
+    choices.choose(6, 3, &mut copy);
+    expect(&rt, copy.queued(), 0);
+    expect(&rt, copy.read(0).expect(&rt, "a read"), Block([2; 64]));
+    expect(&rt, copy.read(1).expect(&rt, "a read"), Block::ZERO);
+    expect(&rt, copy.read(2).expect(&rt, "a read"), Block([5; 64]));
 }
 
 /// Writes a block of ones at place 0 of any device, and lets it land.

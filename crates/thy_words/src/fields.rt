@@ -5,7 +5,7 @@ ghost use Rattle.clap.specs.Walk.{first_of, rows_of};
 ghost use Rattle.thy_words.specs.Settings.{has_flag};
 ghost use Rattle.thy_words.specs.Fields.{config_at, is_readable, list_at, number_at, reads, scheme_at, scheme_named, unreadable};
 
-use crate::numbers::{is_list, is_number, number, numbers};
+use crate::numbers::{is_list, is_number, list_of, number};
 use clap::ArgMatches;
 use std::alloc::{AllocError, Global};
 use thy_base::{Config, Field, Numbers, SchemeName};
@@ -112,7 +112,7 @@ fn list_at(alloc: Global, matches: &ArgMatches<'_>, field: Field) -> Result<Numb
     ensures { IfOk result (λ v. v ≡ list_at (rows_of (found_of matches.now)) field) }
 {
     let items = match text_of(matches, field.name()) {
-        Some(text) => numbers(alloc, text)?,
+        Some(text) => list_of(alloc, text)?,
         None => Vec::new(alloc),
     };
     Ok(Numbers::from_vec(items))

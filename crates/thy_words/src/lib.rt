@@ -11,4 +11,5 @@ mod numbers;
 mod verb;
 mod words;
 
+pub use numbers::{is_list, is_number, list_of, number};
 pub use words::{Command, Job, WordsError, settings};

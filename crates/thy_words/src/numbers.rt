@@ -18,7 +18,7 @@ fn has_digits_only(text: &str) -> bool
 
 /// Whether the text is 1 to 19 decimal digits.
 #[tactic(auto, unfolding(crate::specs::Numbers::is_number))]
-pub(crate) fn is_number(text: &str) -> bool
+pub fn is_number(text: &str) -> bool
     ensures { result ≡ is_number text.now }
 {
     !text.is_empty() && text.len() <= MOST_DIGITS && has_digits_only(text)
@@ -26,7 +26,7 @@ pub(crate) fn is_number(text: &str) -> bool
 
 /// The number that the text writes, if it is 1 to 19 decimal digits.
 #[tactic(auto, unfolding(crate::specs::Numbers::number_in))]
-pub(crate) fn number(text: &str) -> Option<u64>
+pub fn number(text: &str) -> Option<u64>
     ensures { result ≡ number_in text.now }
 {
     if is_number(text) {
@@ -37,7 +37,7 @@ pub(crate) fn number(text: &str) -> Option<u64>
 }
 
 /// Whether the text is one number or more, with a comma between each two.
-pub(crate) fn is_list(text: &str) -> bool
+pub fn is_list(text: &str) -> bool
     ensures { result ≡ is_list text.now }
 {
     text.split(',').all(|piece| is_number(piece))
@@ -52,7 +52,7 @@ fn number_or_zero(text: &str) -> u64
 }
 
 /// The numbers of a list.
-pub(crate) fn numbers(alloc: Global, text: &str) -> Result<Vec<u64>, AllocError>
+pub fn list_of(alloc: Global, text: &str) -> Result<Vec<u64>, AllocError>
     ensures { IfOk result (λ v. v.items ≡ numbers_in text.now) }
 {
     text.split(',')

@@ -2,7 +2,7 @@ use Rattle.std.proofs.Common.{rules, lit<}
 use Rattle.std.proofs.lemmas.Iterator.{YieldsList-from_map, items_from_collect}
 use Rattle.std.proofs.lemmas.Iterator.Splits.{YieldsList-from_str_split}
 use Rattle.thy_words.specs.Numbers.{number_or_zero}
-use Rattle.thy_words.proofs.numbers.numbers.Goals as goal
+use Rattle.thy_words.proofs.numbers.list_of.Goals as goal
 
 pub returns : goal.returns
 returns c = items_from_collect _ c.collect.ensures.ran

@@ -1,0 +1,2 @@
+pub mod SweepLemmas
+pub mod RowLemmas

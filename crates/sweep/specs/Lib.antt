@@ -1,0 +1,3 @@
+pub mod Naming
+pub mod Sweeping
+pub mod Rows

@@ -1,0 +1,217 @@
+//! What a sweep comes to so far: its text, its open row, and its sums.
+
+use crate::row::Row;
+use std::alloc::{AllocError, Global};
+use thy_base::{Block, Write};
+use thy_nvm::MemNvm;
+use thy_sweep::{Lead, Sums, is_still};
+
+/// How many restarts of an epoch's checkpoint there were.
+#[derive(Clone, Copy, Debug)]
+struct Restarts {
+    epoch: u64,
+    times: u64,
+}
+
+/// The device as it was when the open row began.
+#[derive(Drop)]
+struct Kept {
+    queue: Vec<Write>,
+    /// The block that had landed at the place of the oldest queued write.
+    first: Block,
+    /// It is so no more.
+    changed: bool,
+}
+
+/// What a sweep comes to so far.
+#[derive(Drop)]
+pub struct Account {
+    text: String,
+    open: Option<Row>,
+    kept: Kept,
+    sums: Sums,
+    restarts: Vec<Restarts>,
+    differs: bool,
+}
+
+/// Why a sweep stops.
+#[derive(Clone, Copy, Debug, PartialEq, Eq)]
+pub enum Last {
+    /// The program exited with a value, at a count.
+    Exited(u64, u64),
+    /// The program trapped with a number, at a count.
+    Trapped(u64, u64),
+    /// The last cycle that was asked for is done.
+    To(u64),
+    /// The limit of cycles is reached.
+    Limit(u64),
+    /// The device failed.
+    Nvm,
+    /// The terminal failed.
+    Terminal,
+    /// The report failed.
+    Report,
+    /// Memory ran out.
+    Memory,
+}
+
+/// Counts restarts of an epoch.
+fn count_restarts(restarts: &mut Vec<Restarts>, epoch: u64, times: u64) -> Result<(), AllocError> {
+    for known in restarts.iter_mut() {
+        if known.epoch == epoch {
+            known.times = known.times.saturating_add(times);
+            return Ok(());
+        }
+    }
+    restarts.push(Restarts { epoch, times })?;
+    Ok(())
+}
+
+impl Kept {
+    /// Keeps a device as it is.
+    fn keep(&mut self, nvm: &MemNvm) -> Result<(), AllocError> {
+        self.changed = false;
+        self.queue.clear();
+        for i in 0..nvm.waits() {
+            self.queue.push(nvm.waiting(i))?;
+        }
+        if nvm.waits() > 0 {
+            self.first = nvm.landed(nvm.waiting(0).at);
+        }
+        Ok(())
+    }
+
+    /// Looks at the device after a cycle.
+    fn look(&mut self, nvm: &MemNvm) {
+        if !self.changed {
+            self.changed = !is_still(&self.queue, &self.first, nvm);
+        }
+    }
+}
+
+impl Account {
+    /// Nothing was tried.
+    pub fn new(alloc: Global) -> Account {
+        Account {
+            text: String::new(alloc),
+            open: None,
+            kept: Kept {
+                queue: Vec::new(alloc),
+                first: Block::ZERO,
+                changed: true,
+            },
+            sums: Sums::new(),
+            restarts: Vec::new(alloc),
+            differs: false,
+        }
+    }
+
+    /// Looks at the device after a cycle.
+    pub fn look(&mut self, nvm: &MemNvm) {
+        self.kept.look(nvm);
+    }
+
+    /// Whether the device is as it was when the open row began. Then one more cycle is of that row.
+    pub fn repeats(&mut self, cycle: u64, count: u64) -> bool {
+        if self.kept.changed {
+            return false;
+        }
+        match &mut self.open {
+            Some(row) => {
+                row.extend(cycle, count);
+                true
+            }
+            None => false,
+        }
+    }
+
+    /// Whether a state was found that is not the plain machine's.
+    pub fn differs(&self) -> bool {
+        self.differs
+    }
+
+    /// Whether nothing was tried.
+    pub fn is_empty(&self) -> bool {
+        self.open.is_none() && self.sums.cycles == 0
+    }
+
+    /// Closes the open row, if there is one.
+    fn close(&mut self, alloc: Global) -> Result<(), AllocError> {
+        let Some(row) = self.open.take() else {
+            return Ok(());
+        };
+        row.add_to(alloc, &mut self.text)?;
+        self.sums = self.sums.with_row(row.to_count, &row.leads);
+        for lead in &row.leads {
+            let Lead { mark, times, .. } = *lead;
+            if let Some(mark) = mark {
+                count_restarts(&mut self.restarts, mark.epoch, times)?;
+            }
+        }
+        Ok(())
+    }
+
+    /// Opens a row whose images were tried over this device.
+    ///
+    /// # Errors
+    /// Memory ran out.
+    pub fn open(&mut self, alloc: Global, row: Row, nvm: &MemNvm) -> Result<(), AllocError> {
+        self.close(alloc)?;
+        self.kept.keep(nvm)?;
+        self.differs = self.differs || !row.differs.is_empty();
+        self.open = Some(row);
+        Ok(())
+    }
+
+    /// Adds the sums.
+    fn add_sums(&mut self, alloc: Global) -> Result<(), AllocError> {
+        let Sums {
+            states,
+            cycles,
+            reloads,
+            decided,
+            longest,
+            most_lost,
+            lost,
+        } = self.sums;
+        let head = format!(in alloc; "states {states} rows {cycles}\n")?;
+        self.text.push_str(head.as_str())?;
+        for known in &self.restarts {
+            let Restarts { epoch, times } = *known;
+            let line = format!(in alloc; "restarts {epoch} {times}\n")?;
+            self.text.push_str(line.as_str())?;
+        }
+        let tail = format!(in alloc;
+            "reloads {reloads}\ndecided {decided}\nlongest boot {longest}\nlost most {most_lost} sum {lost}\n"
+        )?;
+        self.text.push_str(tail.as_str())
+    }
+
+    /// Adds why the sweep stops.
+    fn add_last(&mut self, alloc: Global, last: Last) -> Result<(), AllocError> {
+        let line = match last {
+            Last::Exited(value, count) => format!(in alloc; "exit {value} at {count}\n")?,
+            Last::Trapped(number, count) => format!(in alloc; "trap {number} at {count}\n")?,
+            Last::To(cycle) => format!(in alloc; "to {cycle}\n")?,
+            Last::Limit(cycles) => format!(in alloc; "limit {cycles}\n")?,
+            Last::Nvm => String::from_str(alloc, "nvm\n")?,
+            Last::Terminal => String::from_str(alloc, "terminal\n")?,
+            Last::Report => String::from_str(alloc, "report\n")?,
+            Last::Memory => String::from_str(alloc, "memory\n")?,
+        };
+        self.text.push_str(line.as_str())
+    }
+
+    /// The whole text.
+    ///
+    /// # Errors
+    /// Memory ran out.
+    pub fn into_text(self, alloc: Global, last: Last) -> Result<String, AllocError> {
+        let mut all = self;
+        all.close(alloc)?;
+        all.add_sums(alloc)?;
+        all.add_last(alloc, last)?;
+        let Account { text, .. } = all;
+        Ok(text)
+    }
+}

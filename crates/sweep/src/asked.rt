@@ -1,0 +1,275 @@
+//! What is to be tried, as the words between OUT and the command say it.
+
+use std::alloc::{AllocError, Global};
+use thy_words::{is_list, list_of, number};
+
+/// How many options there are.
+const OPTIONS: usize = 6;
+
+/// The picks whose images are tried if nothing else is asked for.
+static PICKS: [u64; 4] = [0, 1, 2, 3];
+
+/// Which images are tried, and after which cycles.
+#[derive(Drop)]
+pub struct Asked {
+    /// The first cycle, from 1 on.
+    pub from: u64,
+    /// The last cycle, if it is not the run's.
+    pub to: Option<u64>,
+    /// How many cycles lie between two after which images are tried, and one more.
+    pub step: u64,
+    /// The picks of the images; if none are listed, those below `all`.
+    picks: Vec<u64>,
+    /// If a cut can leave at most this number of images, all of them are tried. 0 if that is not asked for.
+    pub all: u64,
+    /// The run goes over an NVM whose blocks may be torn.
+    pub torn: bool,
+}
+
+/// Why the options are refused.
+#[derive(Clone, Copy, Debug)]
+pub enum Unasked {
+    /// Invalid usage.
+    Usage,
+    /// The option of this name has a text that is not a value of it.
+    Word(&'static str),
+    /// The option of this name has a value that is out of its range.
+    Value(&'static str, u64),
+    /// Memory ran out.
+    Memory(AllocError),
+}
+
+/// An option.
+#[derive(Clone, Copy, Debug, PartialEq, Eq)]
+enum Name {
+    From,
+    To,
+    Step,
+    Tears,
+    All,
+}
+
+/// The texts of the options that were given.
+#[derive(Drop)]
+struct Given {
+    from: Option<String>,
+    to: Option<String>,
+    step: Option<String>,
+    tears: Option<String>,
+    all: Option<String>,
+    torn: bool,
+}
+
+/// The option that a word names.
+fn name_of(word: &str) -> Option<Name> {
+    if word == "--from" {
+        Some(Name::From)
+    } else if word == "--to" {
+        Some(Name::To)
+    } else if word == "--step" {
+        Some(Name::Step)
+    } else if word == "--tears" {
+        Some(Name::Tears)
+    } else if word == "--all" {
+        Some(Name::All)
+    } else {
+        None
+    }
+}
+
+/// Keeps an option's text, and returns whether it is the first one.
+fn keep(place: &mut Option<String>, text: String) -> bool {
+    let first = place.is_none();
+    *place = Some(text);
+    first
+}
+
+impl Given {
+    /// None of them.
+    fn none() -> Given {
+        Given {
+            from: None,
+            to: None,
+            step: None,
+            tears: None,
+            all: None,
+            torn: false,
+        }
+    }
+
+    /// Keeps that blocks may be torn, and returns whether that is said for the first time.
+    fn tear(&mut self) -> bool {
+        let first = !self.torn;
+        self.torn = true;
+        first
+    }
+
+    /// Keeps the text of an option, and returns whether it is the first one.
+    fn take(&mut self, name: Name, text: String) -> bool {
+        match name {
+            Name::From => keep(&mut self.from, text),
+            Name::To => keep(&mut self.to, text),
+            Name::Step => keep(&mut self.step, text),
+            Name::Tears => keep(&mut self.tears, text),
+            Name::All => keep(&mut self.all, text),
+        }
+    }
+}
+
+/// Takes an option and its text out of the arguments, where it follows the program's name, and returns whether it is the first one
+/// of its name and has a text.
+fn take_text(words: &mut Vec<String>, name: Name, given: &mut Given) -> bool {
+    if words.len() < 3 {
+        return false;
+    }
+    let _name = words.remove(1);
+    let text = words.remove(1);
+    given.take(name, text)
+}
+
+/// Takes the flag for torn blocks out of the arguments, where it follows the program's name, and returns whether it is the first one.
+fn take_flag(words: &mut Vec<String>, given: &mut Given) -> bool {
+    if words.len() < 2 {
+        return false;
+    }
+    let _flag = words.remove(1);
+    given.tear()
+}
+
+/// Takes the options out of the arguments, where they follow the program's name; nothing is returned if one is given twice or has
+/// no value.
+fn take_given(words: &mut Vec<String>) -> Option<Given> {
+    let mut given = Given::none();
+    for _ in 0..OPTIONS + 1 {
+        if words.len() < 2 {
+            return Some(given);
+        }
+        let taken = match name_of(words[1].as_str()) {
+            Some(name) => take_text(words, name, &mut given),
+            None if words[1].as_str() == "--torn" => take_flag(words, &mut given),
+            None => return Some(given),
+        };
+        if !taken {
+            return None;
+        }
+    }
+    None
+}
+
+/// The number of an option, if it is given.
+fn number_of(text: &Option<String>, name: &'static str) -> Result<Option<u64>, Unasked> {
+    match text {
+        None => Ok(None),
+        Some(text) => match number(text.as_str()) {
+            Some(value) => Ok(Some(value)),
+            None => Err(Unasked::Word(name)),
+        },
+    }
+}
+
+/// An option's number, if it is above 0.
+fn above_zero(value: Option<u64>, name: &'static str) -> Result<Option<u64>, Unasked> {
+    match value {
+        Some(0) => Err(Unasked::Value(name, 0)),
+        other => Ok(other),
+    }
+}
+
+/// Whether a list of picks can be read, if it is given.
+fn can_read(tears: &Option<String>) -> bool {
+    match tears {
+        Some(text) => is_list(text.as_str()),
+        None => true,
+    }
+}
+
+/// The picks that are listed, if every image is not asked for or they are given.
+fn picks_of(
+    alloc: Global,
+    tears: &Option<String>,
+    all: Option<u64>,
+) -> Result<Vec<u64>, AllocError> {
+    match tears {
+        Some(text) => list_of(alloc, text.as_str()),
+        None if all.is_some() => Ok(Vec::new(alloc)),
+        None => Vec::from_slice(alloc, &PICKS),
+    }
+}
+
+/// What texts ask for. The first option whose text can't be read is refused, then the first whose value is out of range, in the
+/// order from, to, step, tears, all.
+fn asked_by(alloc: Global, given: &Given) -> Result<Asked, Unasked> {
+    let from = number_of(&given.from, "from")?;
+    let to = number_of(&given.to, "to")?;
+    let step = number_of(&given.step, "step")?;
+    if !can_read(&given.tears) {
+        return Err(Unasked::Word("tears"));
+    }
+    let all = number_of(&given.all, "all")?;
+    let from = above_zero(from, "from")?.unwrap_or(1);
+    let to = above_zero(to, "to")?;
+    if let Some(last) = to {
+        if last < from {
+            return Err(Unasked::Value("to", last));
+        }
+    }
+    let step = above_zero(step, "step")?.unwrap_or(1);
+    let all = above_zero(all, "all")?;
+    if given.torn && all.is_some() {
+        return Err(Unasked::Usage);
+    }
+    match picks_of(alloc, &given.tears, all) {
+        Ok(picks) => Ok(Asked {
+            from,
+            to,
+            step,
+            picks,
+            all: all.unwrap_or(0),
+            torn: given.torn,
+        }),
+        Err(error) => Err(Unasked::Memory(error)),
+    }
+}
+
+/// Takes the options out of the arguments, where they follow the program's name, and returns what they ask for.
+///
+/// # Errors
+/// `Usage` if an option is given twice or has no value, or every image of torn blocks is asked for; `Word` or `Value` for the first one at fault; `Memory` if memory runs out.
+pub fn take_asked(alloc: Global, words: &mut Vec<String>) -> Result<Asked, Unasked> {
+    match take_given(words) {
+        Some(given) => asked_by(alloc, &given),
+        None => Err(Unasked::Usage),
+    }
+}
+
+impl Asked {
+    /// How many picks there are.
+    pub fn picks(&self) -> u64 {
+        if self.picks.is_empty() {
+            self.all
+        } else {
+            self.picks.len() as u64
+        }
+    }
+
+    /// The pick at a position.
+    pub fn pick(&self, at: u64) -> u64 {
+        match self.picks.as_slice().get(at as usize) {
+            Some(pick) => *pick,
+            None => at,
+        }
+    }
+
+    /// Whether images are tried after a cycle.
+    pub fn has(&self, cycle: u64) -> bool {
+        cycle >= self.from && self.step > 0 && (cycle - self.from) % self.step == 0
+    }
+
+    /// Whether a cycle is the last one.
+    pub fn ends_at(&self, cycle: u64) -> bool {
+        match self.to {
+            Some(last) => cycle >= last,
+            None => false,
+        }
+    }
+}

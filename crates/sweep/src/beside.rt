@@ -1,0 +1,168 @@
+//! The plain machine that runs beside the run, and the states that it had at the two checkpoints that a cut can lead to.
+ghost use Rattle.std.specs.Prelude.{◌≡◌, ◌≤◌, true, IfOk};
+ghost use Rattle.thy_isa.specs.Step.{state_of};
+
+use std::alloc::{AllocError, Global};
+use thy_base::Geometry;
+use thy_isa::{CpuState, MachState};
+use thy_layout::Start;
+use thy_plain::Plain;
+use thy_text::Event;
+
+/// A run counts fewer instructions than this.
+const MANY: u64 = 1 << 62;
+
+/// The plain machine, at the count of the latest seal; and its states at the counts of two checkpoints.
+#[derive(Drop)]
+pub struct Beside {
+    plain: Plain,
+    /// The state of the committed checkpoint, or the start.
+    done: MachState,
+    /// The state of the checkpoint under way, if there is one.
+    sealed: Option<MachState>,
+}
+
+/// A copy of a state.
+fn copy_of(alloc: Global, state: &MachState) -> Result<MachState, AllocError>
+    ensures { IfOk result (λ s. state_of s ≡ state_of state.now) }
+{
+    Ok(MachState {
+        pc: state.pc,
+        regs: state.regs,
+        memory: state.memory.duplicate(alloc)?,
+        console: state.console.duplicate(alloc)?,
+        cursor: state.cursor,
+        brk: state.brk,
+        floor: state.floor,
+        count: state.count,
+        status: state.status,
+        other: state.other,
+    })
+}
+
+/// Whether two lists of bytes are the same.
+fn are_same(a: &[u8], b: &[u8]) -> bool
+    ensures { result ≡ true → a.now ≡ b.now }
+{
+    a == b
+}
+
+/// Whether two processors are the same.
+fn is_same_cpu(a: &CpuState, b: &CpuState) -> bool
+    ensures { result ≡ true → a.now ≡ b.now }
+{
+    *a == *b
+}
+
+/// Whether two states are the same, with their memories and consoles.
+fn is_same_state(a: &MachState, b: &MachState) -> bool
+    ensures { result ≡ true → state_of a.now ≡ state_of b.now }
+{
+    let same_cpu = is_same_cpu(&a.cpu(), &b.cpu());
+    if !same_cpu {
+        return false;
+    }
+    let same_console = are_same(a.console.as_slice(), b.console.as_slice());
+    if !same_console {
+        return false;
+    }
+    are_same(a.memory.as_slice(), b.memory.as_slice())
+}
+
+/// Steps a plain machine with one hart to a count.
+fn step_to(plain: &mut Plain, count: u64) {
+    let now = plain.state().count;
+    if count < now {
+        return;
+    }
+    if count >= MANY {
+        return;
+    }
+    let _done = plain.run(count - now);
+}
+
+/// The hart of a turn.
+fn hart_of(turn: u8) -> u8
+    ensures { result ≤ 1 }
+{
+    if turn == 0 { 0 } else { 1 }
+}
+
+/// Takes the step of a turn.
+fn step_turn(plain: &mut Plain, turn: u8) {
+    let now = plain.state().count;
+    if now >= MANY {
+        return;
+    }
+    let hart = hart_of(turn);
+    plain.step_of(hart);
+}
+
+/// Steps a plain machine with two harts by their turns.
+fn step_by(plain: &mut Plain, turns: &[u8]) {
+    for turn in turns {
+        step_turn(plain, *turn);
+    }
+}
+
+impl Beside {
+    /// The plain machine at the start of a run.
+    pub fn new(alloc: Global, start: &Start, geometry: &Geometry) -> Result<Beside, AllocError> {
+        let input = start.input.duplicate(alloc)?;
+        let plain = Plain::in_state(alloc, &start.state, geometry, input)?;
+        let done = copy_of(alloc, &start.state)?;
+        Ok(Beside {
+            plain,
+            done,
+            sealed: None,
+        })
+    }
+
+    /// Keeps the state at the count of a checkpoint that is under way now, after these turns.
+    fn seal(&mut self, alloc: Global, count: u64, turns: &[u8]) -> Result<(), AllocError> {
+        if turns.is_empty() {
+            step_to(&mut self.plain, count);
+        } else {
+            step_by(&mut self.plain, turns);
+        }
+        self.sealed = Some(copy_of(alloc, self.plain.state())?);
+        Ok(())
+    }
+
+    /// The checkpoint under way is committed.
+    fn commit(&mut self) {
+        if let Some(state) = self.sealed.take() {
+            self.done = state;
+        }
+    }
+
+    /// Follows the run past an event.
+    ///
+    /// # Errors
+    /// Memory ran out.
+    pub fn follow(&mut self, alloc: Global, event: &Event) -> Result<(), AllocError> {
+        match event {
+            Event::EpochEnd { count, turns, .. } => self.seal(alloc, *count, turns.as_slice()),
+            Event::Commit { .. } => {
+                self.commit();
+                Ok(())
+            }
+            Event::Scheme { .. }
+            | Event::Cut { .. }
+            | Event::Restart { .. }
+            | Event::Reload
+            | Event::Ended { .. } => Ok(()),
+        }
+    }
+
+    /// Whether the plain machine has this state at the count of a checkpoint that a cut can lead to.
+    pub fn has(&self, state: &MachState) -> bool {
+        if is_same_state(&self.done, state) {
+            return true;
+        }
+        match &self.sealed {
+            Some(sealed) => is_same_state(sealed, state),
+            None => false,
+        }
+    }
+}

@@ -1,0 +1,40 @@
+//! Whether a command can be swept, and text be put under OUT.
+ghost use Rattle.std.specs.Prelude.{◌≡◌, false};
+ghost use Rattle.thy_words.specs.Settings.{job_of, order_of};
+ghost use Rattle.sweep.specs.Naming.{IsUncut, IsUncutJob};
+
+use thy_words::{Command, Job};
+
+/// Whether OUT is this name.
+fn is_name(out: &str, name: &Option<String>) -> bool {
+    match name {
+        Some(name) => name.as_str() == out,
+        None => false,
+    }
+}
+
+/// Whether a job has options that a sweep has not: cuts, picks, a name to save under; or levelled wear.
+fn is_cut(job: &Job) -> bool
+    ensures { result ≡ false → IsUncutJob (job_of job.now) }
+{
+    job.config.cuts.len() > 0
+        || job.config.tears.len() > 0
+        || job.save.is_some()
+        || job.config.gap > 0
+}
+
+/// Whether a command is not to be swept, or has the name OUT.
+pub fn is_refused(out: &str, command: &Command) -> bool
+    ensures { result ≡ false → IsUncut (order_of command.now) }
+{
+    match command {
+        Command::Run { file, job } => {
+            file.as_str() == out || is_name(out, &job.input) || is_cut(job)
+        }
+        Command::Resume { image, job } => {
+            image.as_str() == out || is_name(out, &job.input) || is_cut(job)
+        }
+        Command::Bench { job, .. } => is_name(out, &job.input) || is_cut(job),
+        Command::Compare { .. } | Command::Plain { .. } | Command::Make { .. } => true,
+    }
+}

@@ -1,0 +1,232 @@
+//! The run of a sweep, cycle by cycle, with what is tried after each.
+ghost use Rattle.std.specs.Prelude.{◌≡◌, ◌<◌, [], IfOk, length};
+ghost use Rattle.thy_run.specs.Going.{IsPlanned};
+ghost use Rattle.thy_run.specs.Rounds.{IsFitted};
+ghost use Rattle.sweep.specs.Sweeping.{CanLook};
+ghost use Rattle.thy_trial.specs.Rooms.{HasRoomFor};
+
+use crate::account::{Account, Last};
+use crate::asked::Asked;
+use crate::beside::Beside;
+use crate::row::Row;
+use crate::trying::try_cycle;
+use std::alloc::{AllocError, Global};
+use thy_base::{Nvm, Shape, Sink};
+use thy_isa::Status;
+use thy_nvm::MemNvm;
+use thy_run::{Ending, Plan, Progress, SingleCycle, Stop, begin, end, single};
+use thy_text::{Event, Events};
+use thy_trial::Room;
+use thy_view::{Computer, CoreError, Did};
+
+/// What is known of a run besides its machine.
+#[derive(Drop)]
+pub struct Watch {
+    pub account: Account,
+    beside: Beside,
+    /// How many instructions are retired.
+    count: u64,
+    /// How many events were followed.
+    followed: usize,
+}
+
+/// How a sweep ended.
+#[derive(Drop)]
+pub enum Swept {
+    /// The run stopped.
+    Stopped(Ending),
+    /// The last cycle that was asked for is done.
+    Reached(u64),
+    /// Memory ran out while an image was tried.
+    Short,
+}
+
+/// How many instructions are retired once a cycle did this.
+fn counted(count: u64, start: u64, did: Did) -> u64 {
+    match did {
+        Did::Retired(_) => count.saturating_add(1),
+        Did::Restarted(_, count) => count,
+        Did::Loaded => start,
+        _ => count,
+    }
+}
+
+impl Watch {
+    /// Before the first cycle of a plan's run.
+    pub fn new(alloc: Global, plan: &Plan) -> Result<Watch, AllocError> {
+        Ok(Watch {
+            account: Account::new(alloc),
+            beside: Beside::new(alloc, &plan.start, &plan.geometry)?,
+            count: 0,
+            followed: 0,
+        })
+    }
+
+    /// Follows the run past the events that are new.
+    fn follow(&mut self, alloc: Global, events: &Events) -> Result<(), AllocError> {
+        for i in self.followed..events.len() {
+            self.beside.follow(alloc, events.get(i))?;
+        }
+        self.followed = events.len();
+        Ok(())
+    }
+
+    /// Follows the run past a cycle that did this.
+    fn pass(
+        &mut self,
+        alloc: Global,
+        did: Did,
+        start: u64,
+        events: &Events,
+        nvm: &MemNvm,
+    ) -> Result<(), AllocError> {
+        self.count = counted(self.count, start, did);
+        self.follow(alloc, events)?;
+        self.account.look(nvm);
+        Ok(())
+    }
+}
+
+/// Tries the images of a cycle that leaves others than the open row does, and opens a row.
+fn try_row<M: Computer>(
+    alloc: Global,
+    plan: &Plan,
+    room: Room,
+    asked: &Asked,
+    progress: &Progress<M>,
+    cycle: u64,
+    watch: &mut Watch,
+    nvm: &MemNvm,
+) -> Result<Room, CoreError>
+    requires { CanLook M.kind plan.now progress.now nvm.now.device room }
+    ensures { IfOk result (HasRoomFor plan.now nvm.now.device) }
+{
+    let mut row = Row::new(alloc, cycle, watch.count, nvm.waits());
+    let room = try_cycle::<M>(
+        alloc,
+        plan,
+        room,
+        asked,
+        progress.mix,
+        &watch.beside,
+        &mut row,
+        nvm,
+    )?;
+    match watch.account.open(alloc, row, nvm) {
+        Ok(()) => Ok(room),
+        Err(error) => Err(CoreError::Memory(error)),
+    }
+}
+
+/// Looks at a run after a cycle, and tries the images that a cut can leave then, if that is asked for and the cycle is not one more
+/// of the open row.
+fn look<M: Computer>(
+    alloc: Global,
+    plan: &Plan,
+    room: Room,
+    asked: &Asked,
+    progress: &Progress<M>,
+    did: Did,
+    cycle: u64,
+    watch: &mut Watch,
+    nvm: &MemNvm,
+) -> Result<Room, CoreError>
+    requires { CanLook M.kind plan.now progress.now nvm.now.device room }
+    ensures { IfOk result (HasRoomFor plan.now nvm.now.device) }
+{
+    let start = plan.start.state.count;
+    if let Err(error) = watch.pass(alloc, did, start, &progress.events, nvm) {
+        return Err(CoreError::Memory(error));
+    }
+    let count = watch.count;
+    if !asked.has(cycle) || watch.account.repeats(cycle, count) {
+        return Ok(room);
+    }
+    try_row::<M>(alloc, plan, room, asked, progress, cycle, watch, nvm)
+}
+
+/// Makes the run of a plan over a device that was fitted for it, and tries after each cycle that is asked for the images that a cut
+/// can leave then.
+pub fn sweep_run<M: Computer, T: Sink, R: Sink>(
+    alloc: Global,
+    plan: &Plan,
+    shape: &Shape,
+    asked: &Asked,
+    terminal: &mut T,
+    report: &mut R,
+    watch: &mut Watch,
+    nvm: &mut MemNvm,
+) -> Swept
+    requires planned { IsPlanned plan.now }
+    requires uncut { plan.now.config.cuts ≡ [] }
+    requires fitted { IsFitted M.kind plan.now nvm.old.device }
+    requires blocks { shape.now.blocks ≡ length nvm.old.device.image }
+    requires queue { shape.now.queue ≡ nvm.old.device.queue_room }
+    requires some { 0 < shape.now.queue }
+{
+    let Ok(mut progress) = begin::<M>(alloc, plan) else {
+        return Swept::Short;
+    };
+    let Ok(mut room) = Room::new(alloc, plan, shape) else {
+        return Swept::Short;
+    };
+    let limit = plan.geometry.numbers().limit;
+    for done in 0..limit {
+        let stepped = match single(alloc, &mut progress, plan, done, terminal, report, nvm) {
+            SingleCycle::Goes(stepped) => stepped,
+            SingleCycle::Stops(stop) => return Swept::Stopped(end(stop, progress, done + 1)),
+            SingleCycle::Breaks(stop) => return Swept::Stopped(end(stop, progress, done)),
+        };
+        let did = stepped.did;
+        let Ok(next) = look::<M>(
+            alloc,
+            plan,
+            room,
+            asked,
+            &progress,
+            did,
+            done + 1,
+            watch,
+            nvm,
+        ) else {
+            return Swept::Short;
+        };
+        room = next;
+        if asked.ends_at(done + 1) {
+            return Swept::Reached(done + 1);
+        }
+    }
+    Swept::Stopped(end(Stop::Limit, progress, limit))
+}
+
+/// The last count among the events of a run that ended.
+fn last_count(events: &Events) -> u64 {
+    let many = events.len();
+    if many == 0 {
+        return 0;
+    }
+    match events.get(many - 1) {
+        Event::Ended { count, .. } => *count,
+        _ => 0,
+    }
+}
+
+/// Why a sweep stopped.
+pub fn last_of(swept: &Swept) -> Last {
+    match swept {
+        Swept::Short => Last::Memory,
+        Swept::Reached(cycle) => Last::To(*cycle),
+        Swept::Stopped(ending) => match ending.stop {
+            Stop::Ended(Status::Exited(value)) => Last::Exited(value, last_count(&ending.events)),
+            Stop::Ended(Status::Trapped(number)) => {
+                Last::Trapped(number, last_count(&ending.events))
+            }
+            Stop::Ended(Status::Running) => Last::Limit(ending.cycles),
+            Stop::Limit => Last::Limit(ending.cycles),
+            Stop::Nvm => Last::Nvm,
+            Stop::Terminal => Last::Terminal,
+            Stop::Report => Last::Report,
+            Stop::Memory => Last::Memory,
+        },
+    }
+}

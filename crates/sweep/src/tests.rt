@@ -1,0 +1,168 @@
+//! Calls over memory: what is put under OUT. The numbers were worked out by hand from the rules of the controller.
+
+use crate::asked::take_asked;
+use crate::top::{refuse_asked, sweep};
+use std::alloc::{AllocError, Global};
+use std::process::Abort;
+use std::test::Fail;
+use thy_base::Shelf;
+use thy_nvm::MemNvm;
+use thy_out::{MemShelf, MemSink};
+
+/// A program file of three instructions at the address 65536: `addi a7,zero,93; addi a0,zero,7; ecall`.
+static EXIT_SEVEN: [u8; 132] = [
+    0x7f, 0x45, 0x4c, 0x46, 0x02, 0x01, 0x01, 0x00, 0x00, 0x00, 0x00, 0x00, 0x00, 0x00, 0x00, 0x00,
+    0x02, 0x00, 0xf3, 0x00, 0x01, 0x00, 0x00, 0x00, 0x00, 0x00, 0x01, 0x00, 0x00, 0x00, 0x00, 0x00,
+    0x40, 0x00, 0x00, 0x00, 0x00, 0x00, 0x00, 0x00, 0x00, 0x00, 0x00, 0x00, 0x00, 0x00, 0x00, 0x00,
+    0x00, 0x00, 0x00, 0x00, 0x40, 0x00, 0x38, 0x00, 0x01, 0x00, 0x00, 0x00, 0x00, 0x00, 0x00, 0x00,
+    0x01, 0x00, 0x00, 0x00, 0x07, 0x00, 0x00, 0x00, 0x78, 0x00, 0x00, 0x00, 0x00, 0x00, 0x00, 0x00,
+    0x00, 0x00, 0x01, 0x00, 0x00, 0x00, 0x00, 0x00, 0x00, 0x00, 0x01, 0x00, 0x00, 0x00, 0x00, 0x00,
+    0x0c, 0x00, 0x00, 0x00, 0x00, 0x00, 0x00, 0x00, 0x0c, 0x00, 0x00, 0x00, 0x00, 0x00, 0x00, 0x00,
+    0x04, 0x00, 0x00, 0x00, 0x00, 0x00, 0x00, 0x00, 0x93, 0x08, 0xd0, 0x05, 0x13, 0x05, 0x70, 0x00,
+    0x73, 0x00, 0x00, 0x00,
+];
+
+/// What a call gave.
+#[derive(Drop)]
+struct Given {
+    status: u8,
+    /// Something is under OUT.
+    is_put: bool,
+    /// What is there.
+    put: Vec<u8>,
+    report: Vec<u8>,
+}
+
+/// Calls with OUT and the arguments, options among them, separated by spaces.
+fn called(alloc: Global, line: &str) -> Result<Given, AllocError> {
+    let mut files = Vec::new(alloc);
+    let program = Vec::from_slice(alloc, &EXIT_SEVEN)?;
+    files.push((String::from_str(alloc, "F")?, program))?;
+    let mut shelf = MemShelf::new(files, Vec::new(alloc))?;
+    let mut words = Vec::new(alloc);
+    for word in line.split(' ') {
+        words.push(String::from_str(alloc, word)?)?;
+    }
+    let mut terminal = MemSink::new(alloc, 4096, Vec::new(alloc))?;
+    let mut report = MemSink::new(alloc, 4096, Vec::new(alloc))?;
+    let mut nvm = MemNvm::new(alloc);
+    let status = match take_asked(alloc, &mut words) {
+        Ok(asked) => sweep(
+            alloc,
+            "O",
+            &asked,
+            &words,
+            &mut shelf,
+            &mut terminal,
+            &mut report,
+            &mut nvm,
+        ),
+        Err(why) => refuse_asked(alloc, why, &mut report),
+    };
+    let found = shelf.fetch(alloc, "O", 1_000_000);
+    let is_put = found.is_ok();
+    let put = match found {
+        Ok(put) => put,
+        Err(_) => Vec::new(alloc),
+    };
+    Ok(Given {
+        status,
+        is_put,
+        put,
+        report: Vec::from_slice(alloc, report.taken())?,
+    })
+}
+
+/// Whole texts. The first checkpoint's commit block is written in cycle 698, after a barrier, and lands in 699, when it is the NVM's
+/// turn. A boot that restores it takes ten cycles. A boot that loads the file takes 523 actions up to its first barrier and 2 more.
+/// In every fourth cycle a write lands, if one is queued then: after cycle 697 the second cycle of the boot is the first of these,
+/// and finds none; 174 others do, the last one with the commit block. After cycle 698 it is the boot's first, and the commit block
+/// lands by the barrier. The second commit block is written in cycle 721, and the program has ended then.
+static TEXTS: [(&str, u8, &str); 3] = [
+    (
+        "sweep --from 697 --to 700 run F --pages 8 --btt 8 --ptt 8",
+        0,
+        "cycles 697 697 counts 0 0 queued 0 images 1 tried 1, none times 1 boot 699 699\n\
+         cycles 698 698 counts 0 0 queued 1 images 2 tried 2, none times 1 boot 698 698, epoch 0 at 0 times 1 boot 10 10\n\
+         cycles 699 700 counts 0 0 queued 0 images 1 tried 1, epoch 0 at 0 times 1 boot 10 10\n\
+         states 4 rows 3\n\
+         restarts 0 2\n\
+         reloads 2\n\
+         decided 1\n\
+         longest boot 699\n\
+         lost most 0 sum 0\n\
+         to 700\n",
+    ),
+    (
+        "sweep --from 721 run F --pages 8 --btt 8 --ptt 8",
+        0,
+        "cycles 721 721 counts 3 3 queued 1 images 2 tried 2, epoch 0 at 0 times 1 boot 10 10, epoch 1 at 3 times 1 boot 10 10\n\
+         states 2 rows 1\n\
+         restarts 0 1\n\
+         restarts 1 1\n\
+         reloads 0\n\
+         decided 1\n\
+         longest boot 10\n\
+         lost most 3 sum 3\n\
+         exit 7 at 3\n",
+    ),
+    (
+        "sweep --from 698 --to 698 --all 2 run F --pages 8 --btt 8 --ptt 8",
+        0,
+        "cycles 698 698 counts 0 0 queued 1 images 2 tried 2, none times 1 boot 698 698, epoch 0 at 0 times 1 boot 10 10\n\
+         states 2 rows 1\n\
+         restarts 0 1\n\
+         reloads 1\n\
+         decided 1\n\
+         longest boot 698\n\
+         lost most 0 sum 0\n\
+         to 698\n",
+    ),
+];
+
+#[test]
+fn the_text_has_each_row_and_the_sums(rt: HostRuntime) -> Result<(), Fail> {
+    let alloc = rt.alloc();
+    for (line, status, text) in TEXTS {
+        let given = called(alloc, line)?;
+        assert_eq!(rt; given.put.as_slice(), text.as_bytes(), "{line}");
+        assert_eq!(rt; given.status, status, "{line}");
+    }
+    Ok(())
+}
+
+/// Calls that are refused, and their reports.
+static REFUSED: [(&str, &str); 14] = [
+    ("sweep run O", "usage\n"),
+    ("sweep plain F", "usage\n"),
+    ("sweep compare F", "usage\n"),
+    ("sweep run F --cuts 5", "usage\n"),
+    ("sweep run F --save G", "usage\n"),
+    ("sweep run F --gap 5", "usage\n"),
+    ("sweep --from 1 --from 2 run F", "usage\n"),
+    ("sweep --torn --to 5 --torn run F", "usage\n"),
+    ("sweep --torn --all 5 run F", "usage\n"),
+    ("sweep --from x --to 0 run F", "word from\n"),
+    ("sweep --from 0 --to x run F", "word to\n"),
+    ("sweep --step 0 run F", "value step 0\n"),
+    ("sweep --from 5 --to 4 run F", "value to 4\n"),
+    (
+        "sweep --from 722 run F --pages 8 --btt 8 --ptt 8",
+        "value from 722\n",
+    ),
+];
+
+#[test]
+fn a_call_that_is_refused_puts_nothing(rt: HostRuntime) -> Result<(), Fail> {
+    let alloc = rt.alloc();
+    for (line, last) in REFUSED {
+        let given = called(alloc, line)?;
+        assert_eq!(rt; given.status, 2, "{line}");
+        assert!(rt;
+            given.report.as_slice().ends_with(last.as_bytes()),
+            "{line}"
+        );
+        assert!(rt; !given.is_put, "{line}");
+    }
+    Ok(())
+}

@@ -1,0 +1,233 @@
+//! The images of one cycle, tried one after another.
+ghost use Rattle.std.specs.Prelude.{◌≡◌, ◌<◌, ◌-◌, ◌^◌, min, IfOk, IfSome, OnOk};
+ghost use Rattle.thy_sweep.specs.Choices.{count_of, places_of};
+ghost use Rattle.thy_trial.specs.Rooms.{CanTryOf, HasRoomFor};
+ghost use Rattle.sweep.specs.Rows.{HasTried, noted_if};
+ghost use Rattle.sweep.specs.Sweeping.{most_cycles};
+
+use crate::asked::Asked;
+use crate::beside::Beside;
+use crate::row::{Name, Row};
+use std::alloc::{AllocError, Global};
+use thy_base::Mix;
+use thy_nvm::MemNvm;
+use thy_run::Plan;
+use thy_sweep::{Booted, Choices, note_boot};
+use thy_trial::{Found, PickTrial, Room, Trial, try_number, try_pick};
+use thy_view::{Computer, CoreError};
+
+/// The most cycles of a boot, as of a run.
+const MOST: u64 = 1_000_000_000_000;
+
+/// Whether a boot loaded the start.
+fn is_load(booted: Option<Booted>) -> bool {
+    match booted {
+        Some(booted) => booted.mark.is_none(),
+        None => false,
+    }
+}
+
+/// Whether what was found is a boot that loaded the start, or one that restored a state of the plain machine.
+fn is_known(found: &Found, beside: &Beside) -> bool {
+    match &found.state {
+        Some(state) => beside.has(state),
+        None => is_load(found.booted),
+    }
+}
+
+/// Notes the name of an image, unless what was found is known.
+fn note_difference(
+    found: &Found,
+    name: Name,
+    beside: &Beside,
+    differs: &mut Vec<Name>,
+) -> Result<(), AllocError> {
+    if is_known(found, beside) {
+        return Ok(());
+    }
+    differs.push(name)?;
+    Ok(())
+}
+
+/// Notes what trying an image of this name came to.
+fn note(found: &Found, name: Name, beside: &Beside, row: &mut Row) -> Result<(), AllocError>
+    ensures leads { OnOk result (row.new.leads.items ≡ noted_if found.now.booted row.old.leads.items) }
+    ensures queued { row.new.queued ≡ row.old.queued }
+    ensures images { row.new.images ≡ row.old.images }
+{
+    row.tried = row.tried.saturating_add(1);
+    note_difference(found, name, beside, &mut row.differs)?;
+    match found.booted {
+        Some(booted) => note_boot(&mut row.leads, booted),
+        None => Ok(()),
+    }
+}
+
+/// Tries the image of a pick, unless it was tried in this cycle already, and notes it.
+fn note_pick<M: Computer>(
+    alloc: Global,
+    plan: &Plan,
+    room: Room,
+    choices: &Choices,
+    numbers: &mut Vec<u128>,
+    pick: u64,
+    mix: &Mix,
+    beside: &Beside,
+    row: &mut Row,
+    nvm: &MemNvm,
+) -> Result<Room, CoreError>
+    requires room { HasRoomFor plan.now nvm.now.device room }
+    requires can { CanTryOf M.kind plan.now nvm.now.device mix.now most_cycles }
+    requires choices { choices.now ≡ places_of nvm.now.device }
+    ensures room { IfOk result (HasRoomFor plan.now nvm.now.device) }
+    ensures tried { OnOk result (HasTried M.kind plan.now nvm.now.device mix.now row.old row.new) }
+{
+    let trial = try_pick::<M>(alloc, plan, room, choices, numbers, pick, *mix, MOST, nvm)?;
+    let PickTrial { found, room } = trial;
+    match found {
+        None => Ok(room),
+        Some(found) => match note(&found, Name::Pick(pick), beside, row) {
+            Ok(()) => Ok(room),
+            Err(error) => Err(CoreError::Memory(error)),
+        },
+    }
+}
+
+/// Tries the images of picks, each once.
+fn try_picks<M: Computer>(
+    alloc: Global,
+    plan: &Plan,
+    room: Room,
+    choices: &Choices,
+    asked: &Asked,
+    mix: &Mix,
+    beside: &Beside,
+    row: &mut Row,
+    nvm: &MemNvm,
+) -> Result<Room, CoreError>
+    requires room { HasRoomFor plan.now nvm.now.device room }
+    requires can { CanTryOf M.kind plan.now nvm.now.device mix.now most_cycles }
+    requires choices { choices.now ≡ places_of nvm.now.device }
+    ensures room { IfOk result (HasRoomFor plan.now nvm.now.device) }
+    ensures tried { OnOk result (HasTried M.kind plan.now nvm.now.device mix.now row.old row.new) }
+{
+    let mut numbers = Vec::new(alloc);
+    let mut room = room;
+    for i in 0..asked.picks() {
+        let pick = asked.pick(i);
+        room = note_pick::<M>(
+            alloc,
+            plan,
+            room,
+            choices,
+            &mut numbers,
+            pick,
+            mix,
+            beside,
+            row,
+            nvm,
+        )?;
+    }
+    Ok(room)
+}
+
+/// Tries the image of a number, of the `count` images that there are, and notes it.
+fn note_number<M: Computer>(
+    alloc: Global,
+    plan: &Plan,
+    room: Room,
+    choices: &Choices,
+    count: u64,
+    number: u64,
+    mix: &Mix,
+    beside: &Beside,
+    row: &mut Row,
+    nvm: &MemNvm,
+) -> Result<Room, CoreError>
+    requires room { HasRoomFor plan.now nvm.now.device room }
+    requires can { CanTryOf M.kind plan.now nvm.now.device mix.now most_cycles }
+    requires choices { choices.now ≡ places_of nvm.now.device }
+    requires count { count ≡ count_of choices.now }
+    requires number { number < count }
+    ensures room { IfOk result (HasRoomFor plan.now nvm.now.device) }
+    ensures tried { OnOk result (HasTried M.kind plan.now nvm.now.device mix.now row.old row.new) }
+{
+    let trial = try_number::<M>(alloc, plan, room, choices, count, number, *mix, MOST, nvm)?;
+    let Trial { found, room } = trial;
+    match note(&found, Name::Number(number), beside, row) {
+        Ok(()) => Ok(room),
+        Err(error) => Err(CoreError::Memory(error)),
+    }
+}
+
+/// Tries every image that there is.
+fn try_all<M: Computer>(
+    alloc: Global,
+    plan: &Plan,
+    room: Room,
+    choices: &Choices,
+    count: u64,
+    mix: &Mix,
+    beside: &Beside,
+    row: &mut Row,
+    nvm: &MemNvm,
+) -> Result<Room, CoreError>
+    requires room { HasRoomFor plan.now nvm.now.device room }
+    requires can { CanTryOf M.kind plan.now nvm.now.device mix.now most_cycles }
+    requires choices { choices.now ≡ places_of nvm.now.device }
+    requires count { count ≡ count_of choices.now }
+    ensures room { IfOk result (HasRoomFor plan.now nvm.now.device) }
+    ensures tried { OnOk result (HasTried M.kind plan.now nvm.now.device mix.now row.old row.new) }
+{
+    let mut room = room;
+    for number in 0..count {
+        room = note_number::<M>(
+            alloc, plan, room, choices, count, number, mix, beside, row, nvm,
+        )?;
+    }
+    Ok(room)
+}
+
+/// How many images there are, if all of them are to be tried: at most this number.
+fn count_for(choices: &Choices, all: u64) -> Option<u64>
+    ensures { IfSome result (λ count. count ≡ count_of choices.now) }
+{
+    let count = choices.count();
+    if all == 0 || count > all as u128 {
+        return None;
+    }
+    Some(count as u64)
+}
+
+/// Tries the images that are asked for, of those that a cut can leave now, and notes them in a row.
+///
+/// # Errors
+/// `Memory` if memory runs out.
+pub fn try_cycle<M: Computer>(
+    alloc: Global,
+    plan: &Plan,
+    room: Room,
+    asked: &Asked,
+    mix: Mix,
+    beside: &Beside,
+    row: &mut Row,
+    nvm: &MemNvm,
+) -> Result<Room, CoreError>
+    requires room { HasRoomFor plan.now nvm.now.device room }
+    requires can { CanTryOf M.kind plan.now nvm.now.device mix most_cycles }
+    ensures room { IfOk result (HasRoomFor plan.now nvm.now.device) }
+    ensures images { OnOk result (row.new.images ≡ min (count_of (places_of nvm.now.device)) (2 ^ 128 - 1)) }
+    ensures tried { let old = record row.old { images = row.new.images } in
+        OnOk result (HasTried M.kind plan.now nvm.now.device mix old row.new) }
+{
+    let choices = match Choices::of(alloc, nvm) {
+        Ok(choices) => choices,
+        Err(error) => return Err(CoreError::Memory(error)),
+    };
+    let images = choices.count();
+    row.images = images;
+    match count_for(&choices, asked.all) {
+        Some(count) => { try_all::<M>(alloc, plan, room, &choices, count, &mix, beside, row, nvm) }
+        None => try_picks::<M>(alloc, plan, room, &choices, asked, &mix, beside, row, nvm),
+    }
+}

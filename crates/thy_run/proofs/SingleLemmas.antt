@@ -1,0 +1,74 @@
+-- A run without cuts, one cycle at a time.
+use Rattle.std.proofs.Common.{◌≡◌, ℕ, zero, suc, ◌+◌, ◌<◌, ◌≤◌, Bool, true, false, ◌&&◌, ◌==◌, nat_lt, List, [], ◌∷◌, ◌++◌, length, refl, sym, ◌∙◌, ap, subst, arith}
+use Rattle.std.specs.Prelude.{slice_index}
+use Rattle.std.proofs.lemmas.Bool.{ltb-true, and_parts}
+use Rattle.thy_base.specs.Device.{Device}
+use Rattle.thy_base.specs.Outside.{Stream}
+use Rattle.thy_view.specs.Kind.{KindOf, IsLawful}
+use Rattle.thy_view.specs.Origin.{Origin}
+use Rattle.thy_view.specs.declared.did.Stepped.{Stepped}
+use Rattle.thy_run.specs.declared.ending.Stop.TheVariants.{Nvm}
+use Rattle.thy_run.specs.declared.plan.Plan.{Plan}
+use Rattle.thy_run.specs.declared.progress.Progress.{Progress}
+use Rattle.thy_run.specs.Due.{IsQuiet}
+use Rattle.thy_run.specs.Going.{origin_of, given_of, world_at, IsPlanned, GoesOn, IsStepped, IsStuck}
+use Rattle.thy_run.specs.Quiet.{IsLed}
+use Rattle.thy_run.specs.Rounds.{Running, RunEnds, ending_of}
+use Rattle.thy_run.specs.Watching.{Taken, IsListed, taken_in}
+use Rattle.thy_run.specs.World.{World, Given, Ran}
+use Rattle.thy_run.proofs.AdvanceLemmas.{IsBroken-stuck}
+use Rattle.thy_run.proofs.OutcomeLemmas.{ComesTo-untold}
+use Rattle.thy_run.proofs.QuietLemmas.{IsLed-on, Running-led}
+use Rattle.thy_run.proofs.SeeingLemmas.{length-listed}
+
+-- the cycles of a run are listed somewhere
+listed_of : {M : Type 0} (K : KindOf M) (o : Origin) (given : Given) (k : ℕ) (w : World M) → Ran K o given k w → (seen : List Taken) × IsListed K o given k w seen
+listed_of K o given zero w first = ([], (first, refl))
+listed_of K o given (suc k) w (before, ran, c) =
+    let earlier = listed_of K o given k before ran in
+    (earlier.0 ++ taken_in K o given.config.cuts given.config.tears before w c ∷ [], (before, earlier.0, c, earlier.1, refl))
+
+-- the list has one for each done cycle
+pub cycles_of : {M : Type 0} (K : KindOf M) (plan : Plan) (fitted : Device) (p : Progress M) (n : Device) (k : ℕ) (turns : List ℕ) → GoesOn K plan fitted p n k turns
+    → (seen : List Taken) × IsListed K (origin_of plan) (given_of plan fitted) k (world_at p n k turns) seen
+cycles_of K plan fitted p n k turns goes = listed_of K (origin_of plan) (given_of plan fitted) k (world_at p n k turns) goes.ran
+
+pub cycles_long : {M : Type 0} (K : KindOf M) (plan : Plan) (fitted : Device) (p : Progress M) (n : Device) (k : ℕ) (turns : List ℕ) (goes : GoesOn K plan fitted p n k turns)
+    → k + 1 ≡ length (cycles_of K plan fitted p n k turns goes).0 + 1
+cycles_long K plan fitted p n k turns goes =
+    let seen = cycles_of K plan fitted p n k turns goes in
+    let e : length seen.0 ≡ k = length-listed K (origin_of plan) (given_of plan fitted) k (world_at p n k turns) seen.0 seen.1 in
+    omega (arith, e)
+
+-- an observer that sees nothing
+abbrev silent : Unit {0} → List Taken → Type 0
+silent o seen = Unit {0}
+
+-- if no cut is listed, none falls
+pub none_due : (cuts : List ℕ) (passed cycle : ℕ) → cuts ≡ [] → (nat_lt passed (length cuts) && slice_index cuts passed == cycle) ≡ true → ⊥
+none_due [] passed cycle none due =
+    let never : passed < 0 = ltb-true passed 0 (and_parts (nat_lt passed 0) (slice_index [] passed == cycle) due).0 in
+    absurd (omega (arith, never))
+none_due (c ∷ cs) passed cycle none due = absurd (cc)
+
+module _ {M : Type 0} (K : KindOf M) (laws : IsLawful K) (plan : Plan) (fitted : Device) (p next : Progress M) (n new : Device) (done : ℕ) (turns : List ℕ) (t0 t r0 r : Stream)
+    (planned : IsPlanned plan) (running : Running K plan fitted p n done turns t0 t r0 r) where
+  led_here : IsLed K silent plan fitted p p n done done tt
+  led_here =
+      let seen = listed_of K (origin_of plan) (given_of plan fitted) done (world_at p n done turns) running.goes.ran in
+      record { turns = turns; goes = running.goes; watched = (seen.0, seen.1, tt); untold = refl; uncut = refl; fresh = refl; more = omega arith }
+
+  -- a cycle that has nothing to report
+  pub Running-quiet : (x : Stepped) → IsStepped K plan p next n new done turns x → IsQuiet plan.config.cuts next x (done + 1)
+      → (after : List ℕ) × Running K plan fitted next new (done + 1) after t0 t r0 r
+  unfolding led_here
+  Running-quiet x stepped quiet =
+      let led : IsLed K silent plan fitted p next new done (done + 1) tt =
+      IsLed-on K laws silent plan fitted p p next n new done done x tt tt planned led_here stepped quiet (λ seen h. tt) in
+      (led.turns, Running-led K silent plan fitted p next n new done (done + 1) turns tt t0 t r0 r running led)
+
+  -- one whose step failed
+  pub RunEnds-stuck : done < plan.geometry.limit → IsStuck K plan p next n new turns → RunEnds K plan fitted new (ending_of Nvm next done) t0 t r0 r
+  RunEnds-stuck few stuck =
+      (ComesTo-untold K plan fitted p next n new done turns turns Nvm t0 t r0 r running few (ap (λ (y : Progress M). y.events) stuck.same)
+      (IsBroken-stuck K plan fitted p next n new done turns running.goes stuck)).0

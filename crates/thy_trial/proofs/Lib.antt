@@ -1,0 +1,4 @@
+pub mod BootLemmas
+pub mod CopyLemmas
+pub mod TriedLemmas
+pub mod RoomLemmas

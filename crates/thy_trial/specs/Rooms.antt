@@ -1,0 +1,48 @@
+-- Images that a cut can leave of a run's device in memory, tried one after another.
+use Rattle.std.specs.Prelude.{◌≡◌, ℕ, List, length, Result, IfOk, IfSome}
+use Rattle.thy_base.specs.declared.block.Block.{Block}
+use Rattle.thy_base.specs.declared.mix.Mix.{Mix}
+use Rattle.thy_base.specs.Device.{Device}
+use Rattle.thy_run.specs.declared.plan.Plan.{Plan}
+use Rattle.thy_run.specs.Going.{origin_of}
+use Rattle.thy_run.specs.World.{World, line}
+use Rattle.thy_trial.specs.declared.room.Room.{Room}
+use Rattle.thy_trial.specs.declared.room.Trial.{Trial}
+use Rattle.thy_trial.specs.declared.room.PickTrial.{PickTrial}
+use Rattle.thy_trial.specs.Trials.{CanCopy, FewBefore, IsTried}
+use Rattle.thy_view.specs.declared.error.CoreError.{CoreError}
+use Rattle.thy_view.specs.Kind.{KindOf, IsDramOf}
+use Rattle.thy_view.specs.Origin.{Origin}
+
+-- there is room for a copy of a device, and for a machine of a plan
+pub record HasRoomFor (plan : Plan) (n : Device) (room : Room) : Type 0 where
+  pub dram : IsDramOf plan.geometry room.dram
+  pub blocks : room.spare.blocks ≡ length n.image
+  pub queue : room.spare.queue ≡ n.queue_room
+
+-- a run is here, with this device and this schedule
+pub record IsRunAt {M : Type 0} (K : KindOf M) (o : Origin) (w : World M) (n : Device) (schedule : Mix) : Type 0 where
+  pub at_moment : K.is_at (line o w) w.cycles w.machine w.device
+  pub device : w.device ≡ n
+  pub mix : w.mix ≡ schedule
+
+abbrev pub CanTryOf : {M : Type 0} → KindOf M → Plan → Device → Mix → ℕ → Type 0
+CanTryOf {M = M} K plan n mix most = (w : World M) × IsRunAt K (origin_of plan) w n mix × FewBefore w most
+
+-- what it came to, from each run that is here, to try this image
+abbrev pub TriesOf : {M : Type 0} → KindOf M → Plan → ℕ → Device → List Block → Mix → ℕ → Result Trial CoreError → Type 0
+TriesOf {M = M} K plan pick n g mix most result =
+    (w : World M) → IsRunAt K (origin_of plan) w n mix → FewBefore w most
+    → IfOk result (λ t. IsTried K (origin_of plan) pick g w most t.found.booted t.found.state)
+
+-- or what a copy holds that may be left of its device
+abbrev pub TriesOver : {M : Type 0} → KindOf M → Plan → ℕ → Device → Mix → ℕ → Result Trial CoreError → Type 0
+TriesOver {M = M} K plan pick n mix most result =
+    (w : World M) → CanCopy K (origin_of plan) w n → w.mix ≡ mix → FewBefore w most
+    → IfOk result (λ t. IsTried K (origin_of plan) pick n.image w most t.found.booted t.found.state)
+
+-- what it came to to try an image, unless it had been tried before
+abbrev pub TriesNew : {M : Type 0} → KindOf M → Plan → ℕ → Device → List Block → Mix → ℕ → Result PickTrial CoreError → Type 0
+TriesNew {M = M} K plan pick n g mix most result =
+    (w : World M) → IsRunAt K (origin_of plan) w n mix → FewBefore w most
+    → IfOk result (λ t. IfSome t.found (λ f. IsTried K (origin_of plan) pick g w most f.booted f.state))

@@ -1,0 +1,14 @@
+//! One state of a sweep: power comes on over a copy of what a cut can leave of a run's device, and the machine boots.
+//!
+//! Open specs/Trials.antt first, and src/trial.rt. It stands on thy_run, thy_sweep and their dependencies; nothing stands on it yet.
+#![tactic(auto)]
+
+mod booting;
+mod laws;
+mod room;
+mod trial;
+
+pub use booting::boot;
+pub use laws::a_run_goes_on_over_a_copy;
+pub use room::{Found, PickTrial, Room, Trial, try_number, try_pick};
+pub use trial::{Tried, try_copy};
