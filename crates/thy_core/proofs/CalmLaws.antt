@@ -11,7 +11,7 @@ use Rattle.thy_epoch.specs.Epoch.{Epoch}
 use Rattle.thy_hart.specs.declared.hand.HartStep.{HartStep}
 use Rattle.thy_hart.specs.declared.hand.HartStep.TheVariants.{Moved, Retired, Waiting, Over}
 use Rattle.thy_hart.specs.HartState.{HartState}
-use Rattle.thy_hart.specs.Moments.{moment, brings_line}
+use Rattle.thy_hart.specs.Moments.{Moment, moment, brings_line}
 use Rattle.thy_hart.specs.OneStep.{IsStep, answer_to}
 use Rattle.thy_hart.specs.Outcomes.{Given}
 use Rattle.thy_view.specs.declared.did.Did.{Did}
@@ -36,7 +36,7 @@ use Rattle.thy_core.proofs.CycleLaws.{CalledOnce}
 
 -- ---- what is known of a calm machine
 
-is_false : (b : Bool) → not b ≡ true → b ≡ false
+pub is_false : (b : Bool) → not b ≡ true → b ≡ false
 is_false true e = absurd (cc)
 is_false false e = refl
 
@@ -56,12 +56,12 @@ nothing_left false true promoting w e = absurd (cc)
 nothing_left false false true w e = absurd (cc)
 nothing_left false false false w e = (refl, refl)
 
-record IsCalm {S : Type 0} (K : SchemeOf S) (m : Machine S) : Type 0 where
-  idle : K.under_way m.scheme ≡ false
-  settled : K.queued m.scheme ≡ 0
-  free : stall_now K m.phase m ≡ None
+pub record IsCalm {S : Type 0} (K : SchemeOf S) (m : Machine S) : Type 0 where
+  pub idle : K.under_way m.scheme ≡ false
+  pub settled : K.queued m.scheme ≡ 0
+  pub free : stall_now K m.phase m ≡ None
 
-calm_parts : {S : Type 0} (K : SchemeOf S) (m : Machine S) → is_calm K m ≡ true → IsCalm K m
+pub calm_parts : {S : Type 0} (K : SchemeOf S) (m : Machine S) → is_calm K m ≡ true → IsCalm K m
 calm_parts K m e =
     let first = and_parts (not (K.under_way m.scheme)) (K.queued m.scheme == 0 && is_none (stall_now K m.phase m)) e in
     let second = and_parts (K.queued m.scheme == 0) (is_none (stall_now K m.phase m)) first.1 in
@@ -87,6 +87,13 @@ goes_on K m calm =
     nothing_left (waits_now K m) (is_some m.hart.epoch.over) (K.promoting m.scheme) (waits_not K m calm.idle)
     (ap (λ (phase : Phase). stall_now K phase m) (sym (runs K m m.phase calm.free)) ∙ calm.free)
 
+-- a calm machine executes, and its epoch goes on
+pub calm_runs : {S : Type 0} (K : SchemeOf S) (m : Machine S) → is_calm K m ≡ true → m.phase ≡ Run
+calm_runs K m calm = runs K m m.phase (calm_parts K m calm).free
+
+pub calm_over : {S : Type 0} (K : SchemeOf S) (m : Machine S) → is_calm K m ≡ true → m.hart.epoch.over ≡ None
+calm_over K m calm = none_of m.hart.epoch.over (goes_on K m (calm_parts K m calm)).0
+
 -- ---- whose turn a pick is then
 
 module _ {S : Type 0} (K : SchemeOf S) (m : Machine S) (calm : is_calm K m ≡ true) where
@@ -110,7 +117,7 @@ module _ {S : Type 0} (K : SchemeOf S) (m : Machine S) (calm : is_calm K m ≡ t
 -- ---- how long it stays so
 
 -- while the scheme is left alone and the epoch goes on
-calm_on : {S : Type 0} (K : SchemeOf S) (m next : Machine S) → IsCalm K m → next.scheme ≡ m.scheme → next.phase ≡ m.phase → next.hart.epoch.over ≡ None
+pub calm_on : {S : Type 0} (K : SchemeOf S) (m next : Machine S) → IsCalm K m → next.scheme ≡ m.scheme → next.phase ≡ m.phase → next.hart.epoch.over ≡ None
     → is_calm K next ≡ true
 calm_on K m next calm scheme phase none =
     let idle : K.under_way next.scheme ≡ false = ap K.under_way scheme ∙ calm.idle in
@@ -132,6 +139,14 @@ still Retired b g dirty old new t e idle none = t.over_is
 still Waiting b g dirty old new t e idle none = absurd (let way = t.way in cc)
 still (Over cause) b g dirty old new t e idle none = absurd (cc)
 
+pub goes_after : (g : Given) (old new : Moment) (step : HartStep) → IsStep g old new step → is_over step ≡ false → g.under_way ≡ false → old.hart.epoch.over ≡ None
+    → new.hart.epoch.over ≡ None
+goes_after g old new step s goes idle none =
+    let told_by : Told step (brings_line old) g (dirty_count old.cache) old.hart new.hart =
+    subst (λ (x : HartStep). Told x (brings_line old) g (dirty_count old.cache) old.hart new.hart) (sym s.says)
+    (subst (Told (answer_to g old) (brings_line old) g (dirty_count old.cache) old.hart) (sym s.hart) (told g old)) in
+    still step (brings_line old) g (dirty_count old.cache) old.hart new.hart told_by goes idle none
+
 -- a store that is still marked as calm was not asked for anything
 once_kept : {S N : Type 0} (K : SchemeOf S) (device : N → Device) (a b : SchemeStore S) (x y : N) → CalledOnce K device a x b y → b.calm ≡ true → b ≡ a
 once_kept K device a b x y (inl same) marked = same.0
@@ -151,11 +166,8 @@ calm_kept {S = S} K device p begun next b x y hart step h c g known parts store 
     let kept : b ≡ p.store = once_kept K device begun.store b x y once both.1 ∙ store in
     let calm : IsCalm K m = calm_parts K m (known (ap (λ (s : SchemeStore S). s.calm) (sym kept) ∙ both.1)) in
     let none : m.hart.epoch.over ≡ None = none_of m.hart.epoch.over (goes_on K m calm).0 in
-    let told_by : Told step (brings_line old) g (dirty_count old.cache) old.hart h =
-    subst (λ (s : HartStep). Told s (brings_line old) g (dirty_count old.cache) old.hart h) (sym is_step.says)
-    (subst (Told (answer_to g old) (brings_line old) g (dirty_count old.cache) old.hart) (sym is_step.hart) (told g old)) in
     let over : h.epoch.over ≡ None =
-    still step (brings_line old) g (dirty_count old.cache) old.hart h told_by (is_false (is_over step) both.0)
+    goes_after g old (moment h c (held_by_scheme K b.scheme (device y))) step is_step (is_false (is_over step) both.0)
     (way ∙ ap (λ (s : SchemeStore S). K.under_way s.scheme) store ∙ calm.idle)
     (ap (λ (n : Machine S). n.hart.epoch.over) parts ∙ none) in
     calm_on K m (machine_of next) calm

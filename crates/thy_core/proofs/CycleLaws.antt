@@ -589,7 +589,7 @@ rests_by : {S N : Type 0} (K : SchemeOf S) (a b : SchemeStore S) (x y : N) → (
 rests_by K a b x y (inl same) = ap (λ s. K.storeless s.scheme) same.0
 rests_by K a b x y (inr same) = ap K.storeless same
 
-given_is : (input other : List ℕ) (free before : ℕ) (way under : Bool) → other ≡ input → free ≡ before → way ≡ under
+pub given_is : (input other : List ℕ) (free before : ℕ) (way under : Bool) → other ≡ input → free ≡ before → way ≡ under
     → given input free way ≡ given other before under
 given_is input other free before way under i f w =
     ap (λ x. given x free way) (sym i) ∙ ap (λ x. given other x way) f ∙ ap (λ x. given other before x) w

@@ -5,3 +5,4 @@ pub mod TakenLaws
 pub mod PowerLaws
 pub mod ReadingLemmas
 pub mod SnapshotLaws
+mod RowLaws

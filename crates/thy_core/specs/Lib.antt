@@ -3,3 +3,4 @@ pub mod Turns
 pub mod Calm
 pub mod Cycles
 pub mod Reading
+pub mod Row

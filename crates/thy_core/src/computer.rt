@@ -7,7 +7,7 @@ use thy_dram::Dram;
 use thy_isa::MachState;
 use thy_layout::Start;
 use thy_scheme::Scheme;
-use thy_view::{Advance, Computer, CoreError, Stepped};
+use thy_view::{Advance, Computer, CoreError, Row, Stepped};
 
 /// Over any scheme the machine is one of the machines that are run. Each cycle is the turn of its pick and does exactly what
 /// that turn asks; before a seal the first that is left of promotions, flushes and merges. While a boot restores a checkpoint
@@ -36,6 +36,11 @@ impl<S: Scheme> Computer for Machine<S> {
         nvm: &mut N,
     ) -> Result<Option<Advance>, NvmError> {
         self.advance(pick, start, nvm)
+    }
+
+    #[inline(always)]
+    fn advance_on<N: Nvm>(&mut self, pick: Pick, start: &Start, nvm: &N) -> Row {
+        self.advance_on(pick, start, nvm)
     }
 
     fn take_other<N: Nvm>(

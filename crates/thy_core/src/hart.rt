@@ -1,19 +1,24 @@
 //! A hart's turn while nothing keeps it.
-ghost use Rattle.std.specs.Prelude.{◌≡◌, ℕ, None, Some, true, ◌+◌, ◌<◌, ◌^◌, ◌&&◌, not};
-ghost use Rattle.thy_view.specs.Advances.{did_of};
+ghost use Rattle.std.specs.Prelude.{◌≡◌, ℕ, None, Some, true, ◌+◌, ◌<◌, ◌≤◌, ◌^◌, ◌&&◌, not, length};
+ghost use Rattle.thy_view.specs.Advances.{did_of, SimulatesRow, row_of};
 ghost use Rattle.thy_view.specs.Turn.{Advances};
 ghost use Rattle.thy_hart.specs.declared.hand.Hand.TheVariants.{Nothing};
 ghost use Rattle.thy_core_laws.specs.Calls.{retires_over, retires_by, ends_by, begun_by_hart, hart_did, after_hart};
 ghost use Rattle.thy_core_laws.specs.Machine.{cpu_fronted};
-ghost use Rattle.thy_core.specs.Calm.{KnowsCalm, is_over};
-ghost use Rattle.thy_core.specs.Cycles.{HasInput, CanTake, HasTaken, did_by};
+ghost use Rattle.thy_core_laws.specs.Kind.{kind_over};
+ghost use Rattle.thy_core.specs.Calm.{is_calm, KnowsCalm, is_over};
+ghost use Rattle.thy_core.specs.Cycles.{HasStart, HasInput, CanTake, HasTaken, did_by};
 ghost use Rattle.thy_core.specs.MachineParts.{machine_of};
+ghost use Rattle.thy_core.specs.Row.{advances_by, after_row, ends_epoch, ends_last, put_back};
+ghost use Rattle.thy_core.specs.Turns.{hart_of};
 
 use crate::parts::MachineParts;
-use thy_base::{EndCause, Nvm, NvmError};
+use crate::turn::hart_of;
+use thy_base::{EndCause, Nvm, NvmError, Pick};
 use thy_hart::HartStep;
+use thy_layout::Start;
 use thy_scheme::Scheme;
-use thy_view::Advance;
+use thy_view::{Advance, Row};
 
 /// Takes a step of this hart, whose instruction is begun if none is. A machine stays marked as calm until a line is brought or
 /// the epoch is over.
@@ -39,7 +44,44 @@ pub(crate) fn execute<N: Nvm, S: Scheme>(
     Ok(count(m, hart, step))
 }
 
+/// Takes cycles in a row, the first of them this pick's: steps of its hart's next instruction, as far as they bring no line.
+/// Whatever the later picks are, each comes to the same hart. A machine stays marked as calm until the epoch is over.
+#[inline(always)]
+pub(crate) fn execute_row<N: Nvm, S: Scheme>(
+    m: &mut MachineParts<S>,
+    pick: Pick,
+    start: &Start,
+    nvm: &N,
+) -> Row
+    requires turn { CanTake S.scheme (HasStart start.now) (Advances (hart_of S.scheme pick (machine_of m.old)))
+        (machine_of m.old) (N.device nvm.now) }
+    requires calm { is_calm S.scheme (machine_of m.old) ≡ true }
+    requires empty { length (N.device nvm.now).queue ≡ 0 }
+    ensures steps { SimulatesRow (kind_over S.scheme) start.now pick (row_of result)
+        (machine_of m.old) (machine_of m.new) (N.device nvm.now) }
+    ensures few { result.moved ≤ 4 }
+    ensures failed { m.new.failed ≡ m.old.failed }
+    ensures known { KnowsCalm S.scheme m.new }
+{
+    let hart = hart_of(m, pick);
+    let begun = m.begun;
+    begin(m, hart);
+    let free = m.store.scheme.free();
+    let (moved, last) = m
+        .hart
+        .step_on::<(N, S)>(&mut m.cache, free, false, start.input.as_slice());
+    if moved == 0 {
+        put_back(m, hart, begun);
+        return Row {
+            moved: 0,
+            retired: None,
+        };
+    }
+    count_row(m, hart, moved, last)
+}
+
 /// Begins the instruction of this hart, which comes to the front if none was begun.
+#[inline(always)]
 fn begin<S>(m: &mut MachineParts<S>, hart: u8)
     requires own { (begun : ℕ) → m.old.begun ≡ Some begun → begun ≡ hart }
     requires hand { m.old.begun ≡ None → m.old.hart.hand ≡ Nothing }
@@ -49,6 +91,18 @@ fn begin<S>(m: &mut MachineParts<S>, hart: u8)
     if m.begun.is_none() {
         m.begun = Some(hart);
         front(m, hart);
+    }
+}
+
+/// Undoes `begin`, before which this instruction was begun, if no step was taken.
+fn put_back<S>(m: &mut MachineParts<S>, hart: u8, begun: Option<u8>)
+    requires { begun ≡ None → m.old.hart.hand ≡ Nothing }
+    ensures parts { machine_of m.new ≡ put_back hart begun (machine_of m.old) }
+    ensures store { m.new.store ≡ m.old.store }
+{
+    if begun.is_none() {
+        front(m, hart);
+        m.begun = None;
     }
 }
 
@@ -64,6 +118,7 @@ fn front<S>(m: &mut MachineParts<S>, hart: u8)
 
 /// Counts a step of this hart. Once its instruction has ended, hart 0 is in front again. Once the epoch is over, the machine is
 /// not calm.
+#[inline(always)]
 fn count<S>(m: &mut MachineParts<S>, hart: u8, step: HartStep) -> Advance
     requires begun { m.old.begun ≡ Some hart }
     requires hand { ends_by step ≡ true → m.old.hart.hand ≡ Nothing }
@@ -86,6 +141,38 @@ fn count<S>(m: &mut MachineParts<S>, hart: u8, step: HartStep) -> Advance
         Advance::Retired(hart)
     } else {
         Advance::Moved
+    }
+}
+
+/// Counts steps of this hart in a row: this many that moved its instruction on, and the one that ended the row, if one did.
+#[inline(always)]
+fn count_row<S>(m: &mut MachineParts<S>, hart: u8, moved: u64, last: Option<HartStep>) -> Row
+    requires begun { m.old.begun ≡ Some hart }
+    requires hand { ends_last last ≡ true → m.old.hart.hand ≡ Nothing }
+    requires few { moved ≤ 3 }
+    requires spent { m.old.spent + moved + 1 < 2 ^ 64 }
+    requires lap { m.old.lap + 1 < 2 ^ 64 }
+    ensures parts { machine_of m.new ≡ after_row hart moved last (machine_of m.old) }
+    ensures row { row_of result ≡ advances_by hart moved last }
+    ensures few { result.moved ≤ 4 }
+    ensures calm { m.new.store.calm ≡ (not (ends_epoch last) && m.old.store.calm) }
+{
+    m.spent += moved;
+    match last {
+        None => Row {
+            moved,
+            retired: None,
+        },
+        Some(step) => match count(m, hart, step) {
+            Advance::Moved => Row {
+                moved: moved + 1,
+                retired: None,
+            },
+            Advance::Retired(hart) => Row {
+                moved,
+                retired: Some(hart),
+            },
+        },
     }
 }
 

@@ -1,9 +1,9 @@
 //! The machine and its calls.
-ghost use Rattle.std.specs.Prelude.{◌≡◌, ℕ, Ok, None, IfOk, IfErr, OnOk, is_err};
+ghost use Rattle.std.specs.Prelude.{◌≡◌, ◌≤◌, ℕ, Ok, None, IfOk, IfErr, OnOk, is_err};
 ghost use Rattle.thy_base.specs.Device.{Device, IsFramed, CountsFault};
 ghost use Rattle.thy_dram.specs.Contents.{lost};
 ghost use Rattle.thy_view.specs.declared.view.View.{View};
-ghost use Rattle.thy_view.specs.Advances.{IfAdvanced, IsOthersTurn};
+ghost use Rattle.thy_view.specs.Advances.{IfAdvanced, IsOthersTurn, SimulatesRow, row_of};
 ghost use Rattle.thy_view.specs.Kind.{CanStep, CanRead, CanSnapshot, Simulates, FailsSafe, IsDramOf, SnapshotsStopped, ShowsConsole, LeavesAlonePast, TellsLoading, HasFailedToRead};
 ghost use Rattle.thy_view.specs.Origin.{Origin};
 ghost use Rattle.thy_view.specs.Restart.{RestartsUnwritten};
@@ -13,7 +13,7 @@ ghost use Rattle.thy_core_laws.specs.Sound.{IsAt, SoundStopped, IsPowered};
 ghost use Rattle.thy_core.specs.Reading.{ReadsBare, ReadsState, ShowsNone};
 
 use crate::parts::MachineParts;
-use crate::step::{step_hart, step_other};
+use crate::step::{step_hart, step_other, step_row};
 use crate::turn::mark_calm;
 use crate::{power, snapshot};
 use std::alloc::{AllocError, Global};
@@ -23,7 +23,7 @@ use thy_dram::Dram;
 use thy_isa::MachState;
 use thy_layout::Start;
 use thy_scheme::Scheme;
-use thy_view::{Advance, CoreError, Stepped};
+use thy_view::{Advance, CoreError, Row, Stepped};
 
 /// One hart or two, with a cache over a scheme of checkpoints. One step is one cycle.
 #[derive(Drop)]
@@ -118,6 +118,19 @@ impl<S: Scheme> Machine<S> {
     {
         mark_calm(&mut self.parts);
         step_hart(&mut self.parts, pick, start, nvm)
+    }
+
+    /// Takes cycles in a row in which a hart advances its instruction; the first is this pick's. It goes on within one
+    /// instruction while no other actor has the turn, whatever the later picks are, and the hart needs nothing of the NVM.
+    /// It may take none, and can't fail. Allocates nothing.
+    #[inline(always)]
+    pub fn advance_on<N: Nvm>(&mut self, pick: Pick, start: &Start, nvm: &N) -> Row
+        requires { CanStep (kind_over S.scheme) start.now self.old (N.device nvm.now) }
+        ensures steps { SimulatesRow (kind_over S.scheme) start.now pick (row_of result) self.old self.new (N.device nvm.now) }
+        ensures few { result.moved ≤ 4 }
+        ensures failed { self.new.failed ≡ self.old.failed }
+    {
+        step_row(&mut self.parts, pick, start, nvm)
     }
 
     /// Takes the pick's cycle, if no hart advances in it. Allocates nothing.

@@ -1,7 +1,7 @@
 //! One cycle of a pick: a hart's that advances its instruction, or another actor's.
-ghost use Rattle.std.specs.Prelude.{◌≡◌, Ok, None, is_err};
+ghost use Rattle.std.specs.Prelude.{◌≡◌, ◌≤◌, Ok, None, is_err};
 ghost use Rattle.thy_base.specs.Device.{IsFramed, CountsFault};
-ghost use Rattle.thy_view.specs.Advances.{IfAdvanced, IsOthersTurn};
+ghost use Rattle.thy_view.specs.Advances.{IfAdvanced, IsOthersTurn, SimulatesRow, row_of};
 ghost use Rattle.thy_view.specs.Kind.{CanStep, Simulates, FailsSafe};
 ghost use Rattle.thy_view.specs.Restart.{RestartsUnwritten};
 ghost use Rattle.thy_core_laws.specs.Kind.{kind_over};
@@ -9,12 +9,13 @@ ghost use Rattle.thy_core.specs.Calm.{KnowsCalm};
 ghost use Rattle.thy_core.specs.MachineParts.{machine_of};
 
 use crate::cycle::{take_hart, take_other};
+use crate::hart::execute_row;
 use crate::parts::MachineParts;
-use crate::turn::{Turn, turn_now, turn_of};
+use crate::turn::{Turn, only_harts, turn_now, turn_of};
 use thy_base::{Nvm, NvmError, Pick};
 use thy_layout::Start;
 use thy_scheme::Scheme;
-use thy_view::{Advance, Stepped};
+use thy_view::{Advance, Row, Stepped};
 
 /// Takes the pick's cycle, if a hart advances in it. Notes whether it failed.
 #[inline(always)]
@@ -45,6 +46,32 @@ pub(crate) fn step_hart<N: Nvm, S: Scheme>(
             Err(error) => Err(error),
         },
         Turn::Other(_) => Ok(None),
+    }
+}
+
+/// Takes cycles in a row in which a hart advances, the first of them this pick's, if only harts have something to do.
+#[inline(always)]
+pub(crate) fn step_row<N: Nvm, S: Scheme>(
+    m: &mut MachineParts<S>,
+    pick: Pick,
+    start: &Start,
+    nvm: &N,
+) -> Row
+    requires can { CanStep (kind_over S.scheme) start.now (machine_of m.old) (N.device nvm.now) }
+    requires known { KnowsCalm S.scheme m.old }
+    ensures steps { SimulatesRow (kind_over S.scheme) start.now pick (row_of result)
+        (machine_of m.old) (machine_of m.new) (N.device nvm.now) }
+    ensures few { result.moved ≤ 4 }
+    ensures failed { m.new.failed ≡ m.old.failed }
+    ensures known { KnowsCalm S.scheme m.new }
+{
+    if only_harts(m, nvm) {
+        execute_row(m, pick, start, nvm)
+    } else {
+        Row {
+            moved: 0,
+            retired: None,
+        }
     }
 }
 

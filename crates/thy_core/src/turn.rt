@@ -112,7 +112,8 @@ fn begins(pick: Pick, last: Option<u8>) -> u8
 }
 
 /// The hart that a pick comes to: the one whose instruction is begun. With one hart it is hart 0.
-fn hart_of<S: Scheme>(m: &MachineParts<S>, pick: Pick) -> u8
+#[inline(always)]
+pub(crate) fn hart_of<S: Scheme>(m: &MachineParts<S>, pick: Pick) -> u8
     ensures { result ≡ hart_of S.scheme pick (machine_of m.now) }
 {
     if m.hart.geometry().harts() == 1 {
@@ -171,7 +172,7 @@ pub(crate) fn turn_now<N: Nvm, S: Scheme>(m: &MachineParts<S>, pick: Pick, nvm: 
 
 /// Whether a machine is marked as calm, and no write is queued in the NVM.
 #[inline(always)]
-fn only_harts<N: Nvm, S>(m: &MachineParts<S>, nvm: &N) -> bool
+pub(crate) fn only_harts<N: Nvm, S>(m: &MachineParts<S>, nvm: &N) -> bool
     requires { (N.device nvm.now).down ≡ false }
     ensures { result ≡ (m.now.store.calm && length (N.device nvm.now).queue == 0) }
 {

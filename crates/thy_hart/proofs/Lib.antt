@@ -6,3 +6,4 @@ pub mod InHandLemmas
 pub mod StepLemmas
 pub mod StepLaws
 pub mod FollowLaws
+pub mod RowLemmas

@@ -98,7 +98,7 @@ IsStep-brought g b h c d old new r is miss w =
 -- ---- the hart continues
 
 -- a block that hits is not missing, and no page is open then
-hit_not_missing : (c : Contents) (o : Option ℕ) → HitsNext c o → is_missing c o ≡ false
+pub hit_not_missing : (c : Contents) (o : Option ℕ) → HitsNext c o → is_missing c o ≡ false
 hit_not_missing c None h = refl
 hit_not_missing c (Some b) h = ap not h
 

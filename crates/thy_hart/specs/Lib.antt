@@ -6,3 +6,4 @@ pub mod InHand
 pub mod MicroSteps
 pub mod OneStep
 pub mod Laws
+pub mod Rows

@@ -1,5 +1,5 @@
 -- What a micro-step makes of a hart and its cache, over every store of blocks.
-use Rattle.std.specs.Prelude.{◌≡◌, ℕ, ◌+◌, ◌-◌, ◌<◌, ◌≤◌, true, false, List, length, Option, Some, None, Result, Ok, Err}
+use Rattle.std.specs.Prelude.{◌≡◌, ℕ, ◌+◌, ◌-◌, ◌<◌, ◌≤◌, true, false, List, [], ◌∷◌, length, Option, Some, None, Result, Ok, Err}
 use Rattle.thy_base.specs.declared.block.Block.{Block}
 use Rattle.thy_base.specs.declared.cause.EndCause.{EndCause}
 use Rattle.thy_base.specs.declared.config.Parameters.{Parameters}
@@ -20,7 +20,7 @@ use Rattle.thy_hart.specs.declared.hand.MicroStep.{MicroStep}
 use Rattle.thy_hart.specs.declared.hand.MicroStep.TheVariants.{Missing, Taken}
 use Rattle.thy_hart.specs.declared.hand.ShortStep.{ShortStep}
 use Rattle.thy_hart.specs.declared.hand.ShortStep.TheVariants.{Missing as ShortMissing, Moved as ShortMoved, Waiting as ShortWaiting, Ended}
-use Rattle.thy_hart.specs.HartState.{HartState, next_block, reserved}
+use Rattle.thy_hart.specs.HartState.{HartState, IsSoundHart, next_block, reserved}
 use Rattle.thy_hart.specs.Outcomes.{Given, fetched, block_read, acted_by, answer_by, memory_by, cache_by, over_or_retired}
 
 -- a block that is touched, if one is, hits
@@ -89,3 +89,9 @@ micro_step Ended over = Taken (over_or_retired over)
 abbrev pub IsActed : Given → Contents → Contents → HartState → HartState → MicroStep → Type 0
 IsActed g c d old new (Missing b) = (next_block old ≡ Some b) × (hits c b ≡ false) × (new ≡ old) × (d ≡ c)
 IsActed g c d old new (Taken step) = HitsNext c (next_block old) × IsMicroStep g c d old new step
+
+-- these micro-steps were taken, one after another, and each left a sound hart
+abbrev pub ActsAll : Given → Contents → HartState → List HartStep → Contents → HartState → Type 0
+ActsAll g c h [] d k = (d ≡ c) × (k ≡ h)
+ActsAll g c h (s ∷ rest) d k =
+    (e : Contents) × (l : HartState) × IsActed g c e h l (Taken s) × IsSoundHart l × ActsAll g e l rest d k

@@ -1,5 +1,5 @@
 //! The hart and its calls.
-ghost use Rattle.std.specs.Prelude.{◌≡◌, ◌≢◌, ◌⊎◌, None, false, ◌+◌, ◌<◌, ◌^◌, IfOk, OnErr};
+ghost use Rattle.std.specs.Prelude.{◌≡◌, ◌≢◌, ◌⊎◌, None, false, ◌+◌, ◌<◌, ◌≤◌, ◌^◌, IfOk, OnErr};
 ghost use Rattle.thy_base.specs.Device.{CountsOneFault};
 ghost use Rattle.thy_cache.specs.Contents.{dirty_count};
 ghost use Rattle.thy_isa.specs.declared.state.Status.TheVariants.{Running};
@@ -10,6 +10,8 @@ ghost use Rattle.thy_hart.specs.HartState.{new_hart, to_reserve};
 ghost use Rattle.thy_hart.specs.Outcomes.{given};
 ghost use Rattle.thy_hart.specs.Moments.{moment, brings_line, IsReady};
 ghost use Rattle.thy_hart.specs.OneStep.{IsStep};
+ghost use Rattle.thy_hart.specs.Rows.{Takes, moved_then};
+ghost use Rattle.thy_base.specs.Store.{Holding};
 
 use crate::bring::bring;
 use crate::hand::{HartStep, MicroStep};
@@ -148,5 +150,27 @@ impl Hart {
                 Err(fault) => Err(fault),
             },
         }
+    }
+
+    /// Takes the steps of the next instruction in a row, if none is in hand: as far as they bring no line, if it moves at most
+    /// 8 bytes within one block. It answers how many moved it on, 3 at most, and the step that ended the row, if one did. It
+    /// may take none, and can't fail.
+    #[inline(always)]
+    pub fn step_on<N>(
+        &mut self,
+        cache: &mut Cache,
+        free: u64,
+        under_way: bool,
+        input: &[u8],
+    ) -> (u64, Option<HartStep>)
+        requires going { self.old.epoch.over ≡ None }
+        requires count { self.old.cpu.count + 1 < 2 ^ 64 }
+        ensures takes { (held : Holding) → IsReady (moment self.old cache.old held) → free ≡ held.free
+            → Takes (given input.now free under_way) held
+            self.old cache.old (moved_then result.0 result.1) self.new cache.new }
+        ensures few { result.0 ≤ 3 }
+        ensures left { result.0 ≡ 0 → (result.1 ≡ None) × (self.new ≡ self.old) × (cache.new ≡ cache.old) }
+    {
+        self.parts.act_on::<N>(cache, free, under_way, input)
     }
 }

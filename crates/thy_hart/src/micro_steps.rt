@@ -4,7 +4,7 @@
 ghost use Rattle.std.specs.Prelude.{◌≡◌, ◌≢◌, ℕ, Bool, List, length, None, Some, ◌+◌, ◌-◌, ◌<◌, ◌≤◌, ◌^◌, true, take, drop, Ok, IfSome};
 ghost use Rattle.thy_base.specs.Geometry.{IsInRange, memory_blocks, program_size};
 ghost use Rattle.thy_base.specs.LittleEndian.{number_bytes};
-ghost use Rattle.thy_cache.specs.Contents.{dirty_count, place_of, read_from, KeepsSize};
+ghost use Rattle.thy_cache.specs.Contents.{Contents, dirty_count, place_of, read_from, KeepsSize};
 ghost use Rattle.thy_cache.specs.Flat.{AgreesStill, KeepsLines};
 ghost use Rattle.thy_flat.specs.Spans.{IsSpanOf, span, first_block, first_byte};
 ghost use Rattle.thy_isa.specs.Access.{IsWithin};
@@ -18,7 +18,10 @@ ghost use Rattle.thy_hart.specs.declared.in_hand.Stage.TheVariants.{Idle, Loads,
 ghost use Rattle.thy_hart.specs.HartState.{reserved, blocks_of, to_reserve};
 ghost use Rattle.thy_hart.specs.Outcomes.{Given, begun_with, written_by, block_written, room_reserved, room_answer, retired, over_or_retired, epoch_retired, given};
 ghost use Rattle.thy_hart.specs.InHand.{span_of, load_of, store_of, value_bytes, at_stage, hart_state_of, ArePieces, IsSoundParts};
-ghost use Rattle.thy_hart.specs.MicroSteps.{IsFetchedSpan, ReadsWord, FetchesIn, ReadsIn, WritesIn, IsActed, micro_step};
+ghost use Rattle.thy_hart.specs.Rows.{moved_then};
+ghost use Rattle.thy_hart.specs.declared.hand.HartStep.TheVariants.{Moved};
+ghost use Rattle.thy_hart.specs.declared.hand.MicroStep.TheVariants.{Taken};
+ghost use Rattle.thy_hart.specs.MicroSteps.{ActsAll, IsFetchedSpan, ReadsWord, FetchesIn, ReadsIn, WritesIn, IsActed, micro_step};
 
 use crate::hand::{HartStep, MicroStep, ShortStep};
 use crate::in_hand::{Access, InHand, Stage};
@@ -514,6 +517,7 @@ impl HartParts {
         ensures hart { hart_state_of self.new ≡ room_reserved free under_way dirty (store_of self.old.hand)
             (span_of self.old.hand.access) (at_stage Reserves self.old) }
         ensures says { result ≡ room_answer free under_way dirty (span_of self.old.hand.access) }
+        ensures stage { result ≡ Moved → self.new.hand.stage ≡ Stores }
         ensures pieces { ArePieces self.new.hand }
     {
         let need = blocks_of(self.hand.access.span());
@@ -527,6 +531,20 @@ impl HartParts {
         self.epoch.exhausted(free, dirty, need);
         self.hand.stage = Stage::Idle;
         HartStep::Over(EndCause::Exhausted { free, dirty, need })
+    }
+
+    /// Reserves room for the block that a store writes, over this cache, as `reserve` does.
+    #[inline(always)]
+    fn room<N>(&mut self, cache: &Cache, free: u64, under_way: bool) -> HartStep
+        requires sound { IsSoundParts self.old }
+        requires stage { self.old.hand.stage ≡ Reserves }
+        requires going { self.old.epoch.over ≡ None }
+        ensures acts { (input : List ℕ) → IsActed (given input free under_way)
+            cache.now cache.now (hart_state_of self.old) (hart_state_of self.new) (Taken result) }
+        ensures sound { IsSoundParts self.new }
+        ensures stage { result ≡ Moved → self.new.hand.stage ≡ Stores }
+    {
+        self.reserve::<N>(cache.dirty(), free, under_way)
     }
 
     /// Writes those bytes of a span that fall into its first block, whose line is at this place, after `done` of these bytes.
@@ -698,7 +716,7 @@ impl HartParts {
                 let number = self.hand.number();
                 MicroStep::Taken(self.retire::<N>(&effect, number))
             }
-            Stage::Reserves => MicroStep::Taken(self.reserve::<N>(cache.dirty(), free, under_way)),
+            Stage::Reserves => MicroStep::Taken(self.room::<N>(cache, free, under_way)),
             Stage::Stores => self.store::<N>(cache),
             Stage::Stored => {
                 let effect = self.hand.store();
@@ -708,6 +726,174 @@ impl HartParts {
                 let step = self.act_in_pieces(cache, free, under_way, input);
                 self.came(step)
             }
+        }
+    }
+
+    /// Retires the instruction in hand, if that is its next micro-step and it is in no pieces.
+    #[inline(always)]
+    fn retire_next<N>(&mut self) -> Option<HartStep>
+        requires sound { IsSoundParts self.old }
+        requires count { self.old.cpu.count + 1 < 2 ^ 64 }
+        requires going { self.old.epoch.over ≡ None }
+        ensures acts { IfSome result (λ step. (g : Given) (c : Contents) → IsActed g
+            c c (hart_state_of self.old) (hart_state_of self.new) (Taken step)) }
+        ensures left { result ≡ None → self.new ≡ self.old }
+        ensures sound { IsSoundParts self.new }
+    {
+        match self.hand.stage {
+            Stage::Jumps => {
+                let effect = self.hand.jump();
+                Some(self.retire::<N>(&effect, 0))
+            }
+            Stage::Sets => {
+                let effect = self.hand.set();
+                Some(self.retire::<N>(&effect, 0))
+            }
+            Stage::Loaded => {
+                let effect = self.hand.load();
+                let number = self.hand.number();
+                Some(self.retire::<N>(&effect, number))
+            }
+            Stage::Stored => {
+                let effect = self.hand.store();
+                Some(self.retire::<N>(&effect, 0))
+            }
+            Stage::Idle | Stage::Loads | Stage::Reserves | Stage::Stores | Stage::InPieces => None,
+        }
+    }
+
+    /// Takes the micro-steps of a load in a row, from the one that reads its bytes on. It answers how many moved it on, and the
+    /// step that retired it, if its line is there.
+    #[inline(always)]
+    fn load_on<N>(&mut self, cache: &mut Cache) -> (u64, Option<HartStep>)
+        requires sound { IsSoundParts self.old }
+        requires stage { self.old.hand.stage ≡ Loads }
+        requires count { self.old.cpu.count + 1 < 2 ^ 64 }
+        requires going { self.old.epoch.over ≡ None }
+        ensures acts { (g : Given) → ActsAll g
+            cache.old (hart_state_of self.old) (moved_then result.0 result.1) cache.new (hart_state_of self.new) }
+        ensures few { result.0 ≤ 1 }
+        ensures sound { IsSoundParts self.new }
+    {
+        match self.load::<N>(cache) {
+            MicroStep::Taken(_) => (1, self.retire_next::<N>()),
+            MicroStep::Missing(_) => (0, None),
+        }
+    }
+
+    /// Takes the micro-steps of a store in a row, from the one that reserves room on. It answers how many moved it on, and the
+    /// step that ended the row, if one did.
+    #[inline(always)]
+    fn store_on<N>(
+        &mut self,
+        cache: &mut Cache,
+        free: u64,
+        under_way: bool,
+    ) -> (u64, Option<HartStep>)
+        requires sound { IsSoundParts self.old }
+        requires stage { self.old.hand.stage ≡ Reserves }
+        requires count { self.old.cpu.count + 1 < 2 ^ 64 }
+        requires going { self.old.epoch.over ≡ None }
+        ensures acts { (input : List ℕ) → ActsAll (given input free under_way)
+            cache.old (hart_state_of self.old) (moved_then result.0 result.1) cache.new (hart_state_of self.new) }
+        ensures few { result.0 ≤ 2 }
+        ensures sound { IsSoundParts self.new }
+    {
+        match self.room::<N>(cache, free, under_way) {
+            HartStep::Moved => match self.store::<N>(cache) {
+                MicroStep::Taken(_) => (2, self.retire_next::<N>()),
+                MicroStep::Missing(_) => (1, None),
+            },
+            step => (0, Some(step)),
+        }
+    }
+
+    /// Takes the micro-steps in a row of an instruction that was fetched, as `act_on` answers.
+    #[inline(always)]
+    fn act_fetched<N>(
+        &mut self,
+        cache: &mut Cache,
+        free: u64,
+        under_way: bool,
+    ) -> (u64, Option<HartStep>)
+        requires sound { IsSoundParts self.old }
+        requires count { self.old.cpu.count + 1 < 2 ^ 64 }
+        requires going { self.old.epoch.over ≡ None }
+        ensures acts { (input : List ℕ) → ActsAll (given input free under_way)
+            cache.old (hart_state_of self.old) (moved_then result.0 result.1) cache.new (hart_state_of self.new) }
+        ensures few { result.0 ≤ 2 }
+        ensures sound { IsSoundParts self.new }
+    {
+        match self.hand.stage {
+            Stage::Loads => self.load_on::<N>(cache),
+            Stage::Reserves => self.store_on::<N>(cache, free, under_way),
+            Stage::Idle
+            | Stage::Jumps
+            | Stage::Sets
+            | Stage::Loaded
+            | Stage::Stores
+            | Stage::Stored
+            | Stage::InPieces => (0, self.retire_next::<N>()),
+        }
+    }
+
+    /// Fetches the next instruction, and takes its other micro-steps in a row, as `act_on` answers.
+    #[inline(always)]
+    fn act_from_fetch<N>(
+        &mut self,
+        cache: &mut Cache,
+        free: u64,
+        under_way: bool,
+        input: &[u8],
+    ) -> (u64, Option<HartStep>)
+        requires sound { IsSoundParts self.old }
+        requires stage { self.old.hand.stage ≡ Idle }
+        requires count { self.old.cpu.count + 1 < 2 ^ 64 }
+        requires going { self.old.epoch.over ≡ None }
+        ensures acts { ActsAll (given input.now free under_way)
+            cache.old (hart_state_of self.old) (moved_then result.0 result.1) cache.new (hart_state_of self.new) }
+        ensures few { result.0 ≤ 3 }
+        ensures left { result.0 ≡ 0 → (result.1 ≡ None) × (hart_state_of self.new ≡ hart_state_of self.old) × (cache.new ≡ cache.old) }
+        ensures sound { IsSoundParts self.new }
+    {
+        match self.fetch::<N>(cache, input) {
+            MicroStep::Taken(_) => {
+                let (moved, last) = self.act_fetched::<N>(cache, free, under_way);
+                (moved + 1, last)
+            }
+            MicroStep::Missing(_) => (0, None),
+        }
+    }
+
+    /// Takes the micro-steps of the next instruction in a row, if none is in hand: as long as each moves it on, its line is there,
+    /// and it is in no pieces. It answers how many moved it on, and the step that ended the row, if one did that was taken.
+    #[inline(always)]
+    pub fn act_on<N>(
+        &mut self,
+        cache: &mut Cache,
+        free: u64,
+        under_way: bool,
+        input: &[u8],
+    ) -> (u64, Option<HartStep>)
+        requires sound { IsSoundParts self.old }
+        requires count { self.old.cpu.count + 1 < 2 ^ 64 }
+        requires going { self.old.epoch.over ≡ None }
+        ensures acts { ActsAll (given input.now free under_way)
+            cache.old (hart_state_of self.old) (moved_then result.0 result.1) cache.new (hart_state_of self.new) }
+        ensures few { result.0 ≤ 3 }
+        ensures left { result.0 ≡ 0 → (result.1 ≡ None) × (hart_state_of self.new ≡ hart_state_of self.old) × (cache.new ≡ cache.old) }
+        ensures sound { IsSoundParts self.new }
+    {
+        match self.hand.stage {
+            Stage::Idle => self.act_from_fetch::<N>(cache, free, under_way, input),
+            Stage::Jumps
+            | Stage::Sets
+            | Stage::Loads
+            | Stage::Loaded
+            | Stage::Reserves
+            | Stage::Stores
+            | Stage::Stored
+            | Stage::InPieces => (0, None),
         }
     }
 }

@@ -1,26 +1,30 @@
 -- Cycles with nothing to report, one after another.
-use Rattle.std.proofs.Common.{◌≡◌, ◌<◌, ◌^◌, ℕ, suc, ◌+◌, false, ◌&&◌, ◌==◌, nat_lt, List, [], length, sym, ◌∙◌, ◌≤◌, ap, subst, refl, arith}
+use Rattle.std.proofs.Common.{◌≡◌, ◌<◌, ◌^◌, ℕ, suc, ◌+◌, false, ◌&&◌, ◌==◌, nat_lt, List, [], length, Option, Some, None, Ok, sym, ◌∙◌, ◌≤◌, ap, subst, refl, arith}
 use Rattle.std.specs.Prelude.{slice_index}
 use Rattle.thy_base.specs.declared.config.Parameters.{Parameters}
 use Rattle.thy_base.specs.declared.mix.Mix.{Mix}
 use Rattle.thy_base.specs.declared.mix.Pick.{Pick}
-use Rattle.thy_base.specs.Device.{Device}
+use Rattle.thy_base.specs.declared.bytes.Bytes.{Bytes}
+use Rattle.thy_base.specs.Bytes.{bytes_of, room_of}
+use Rattle.thy_base.specs.Device.{Device, IsFramed}
 use Rattle.thy_base.specs.Geometry.{IsInRange}
+use Rattle.thy_layout.specs.declared.start.Start.{Start}
 use Rattle.thy_base.specs.Mix.{mix_pick, mix_next}
 use Rattle.thy_base.specs.Outside.{Stream, Took}
 use Rattle.thy_text.specs.Lines.{report_of}
 use Rattle.thy_text.specs.Event.{Event}
 use Rattle.thy_view.specs.declared.did.Advance.{Advance}
 use Rattle.thy_view.specs.declared.did.Stepped.{Stepped}
-use Rattle.thy_view.specs.Advances.{stepped_of}
-use Rattle.thy_view.specs.Kind.{KindOf, IsLawful}
+use Rattle.thy_view.specs.declared.did.Advance.TheVariants.{Moved}
+use Rattle.thy_view.specs.Advances.{did_of, stepped_of, row_by, SimulatesRow}
+use Rattle.thy_view.specs.Kind.{KindOf, IsLawful, Simulates}
 use Rattle.thy_run.specs.declared.plan.Plan.{Plan}
 use Rattle.thy_run.specs.declared.progress.Progress.{Progress}
 use Rattle.thy_run.specs.Due.{IsQuiet, AreQuietBelow}
-use Rattle.thy_run.specs.Going.{origin_of, given_of, turns_then, world_at, telling_of, IsPlanned, GoesOn, HasDrawn, IsStepped, Passes}
+use Rattle.thy_run.specs.Going.{origin_of, given_of, turns_then, world_at, telling_of, IsPlanned, GoesOn, HasDrawn, HasRoomToList, IsStepped, Passes}
 use Rattle.thy_run.specs.Laws.{released_of}
 use Rattle.thy_run.specs.Promises.{HasStepped}
-use Rattle.thy_run.specs.Quiet.{IsWatched, IsLed, IsQuietCycle, IsPaused, RunsQuietly}
+use Rattle.thy_run.specs.Quiet.{IsWatched, IsLed, LeadsQuietly, IsQuietCycle, IsPaused, RunsQuietly}
 use Rattle.thy_run.specs.Rounds.{Running, RunEndsAt, ending_of}
 use Rattle.thy_run.specs.Seeing.{Watched, RunEndsSeen}
 use Rattle.thy_run.specs.declared.ending.Ending.{Ending}
@@ -29,7 +33,7 @@ use Rattle.thy_run.specs.declared.quiet.Pause.{Pause}
 use Rattle.thy_run.specs.declared.quiet.Pause.TheVariants.{Limit, Steps, Stuck}
 use Rattle.thy_run.specs.Watching.{Taken, CanSee, Sees, taken}
 use Rattle.thy_run.specs.World.{Ran}
-use Rattle.thy_run.proofs.AdvanceLemmas.{quiet_goes, IsBroken-stuck}
+use Rattle.thy_run.proofs.AdvanceLemmas.{quiet_goes, steps_of, steps_room, IsBroken-stuck}
 use Rattle.thy_run.proofs.OutcomeLemmas.{ComesTo-untold}
 use Rattle.thy_run.proofs.SeeingLemmas.{CanSee-watched, Watched-done, RunEndsSeen-at}
 use Rattle.thy_run.proofs.StartLemmas.{RunEnds-limit}
@@ -92,6 +96,94 @@ pub IsLed-passed : {M O : Type 0} (K : KindOf M) (laws : IsLawful K) (has_seen :
 IsLed-passed K laws has_seen plan fitted p q next n new done now o o' planned led c =
     IsLed-on K laws has_seen plan fitted p q next n new done now c.r o o' planned led c.stepped c.quiet c.sees
 
+-- the limit is far below 2^64
+limit_most : (p : Parameters) → IsInRange p → p.limit < 2 ^ 62
+limit_most p r = omega arith
+
+pub few_cycles : (plan : Plan) (now : ℕ) → IsPlanned plan → now < plan.geometry.limit → now + 1 < 2 ^ 64
+few_cycles plan now planned few = let most = limit_most plan.geometry planned.origin.geometry in omega (arith, few, most)
+
+pub fewer : (plan : Plan) (now : ℕ) → IsPlanned plan → now < plan.geometry.limit → now < 2 ^ 62
+fewer plan now planned few = let most = limit_most plan.geometry planned.origin.geometry in omega (arith, few, most)
+
+-- no cycle is a row
+pub IsLed-none : {M O : Type 0} (K : KindOf M) (has_seen : O → List Taken → Type 0) (plan : Plan) (fitted : Device) (p : Progress M) (n : Device) (done : ℕ) (turns : List ℕ) (o : O)
+    → GoesOn K plan fitted p n done turns → Watched K has_seen plan fitted p n done turns o → IsLed K has_seen plan fitted p p n done (done + 0) o
+IsLed-none K has_seen plan fitted p n done turns o goes w =
+    let same : done ≡ done + 0 = omega arith in
+    subst (λ (k : ℕ). IsLed K has_seen plan fitted p p n done k o) same
+    (record { turns = turns; goes = goes; watched = w; untold = refl; uncut = refl; fresh = refl; more = omega arith })
+
+-- a row of quiet cycles goes on with another one
+pub IsLed-append : {M O : Type 0} (K : KindOf M) (has_seen : O → List Taken → Type 0) (plan : Plan) (fitted : Device) (p q next : Progress M) (m n : Device) (done now end : ℕ) (o o' : O)
+    → IsLed K has_seen plan fitted p q m done now o → IsLed K has_seen plan fitted q next n now end o' → IsLed K has_seen plan fitted p next n done end o'
+IsLed-append K has_seen plan fitted p q next m n done now end o o' first second = record {
+  turns = second.turns;
+  goes = second.goes;
+  watched = second.watched;
+  untold = second.untold ∙ first.untold;
+  uncut = second.uncut ∙ first.uncut;
+  fresh = second.fresh ∙ first.fresh;
+  more = omega (arith, first.more, second.more);
+}
+
+pub IsLed-row : {M O : Type 0} (K : KindOf M) (has_seen : O → List Taken → Type 0) (plan : Plan) (fitted : Device) (p q next : Progress M) (n : Device) (done now taken : ℕ) (o o' : O)
+    → IsLed K has_seen plan fitted p q n done now o → LeadsQuietly K has_seen plan q next n now (now + taken) o o' → IsLed K has_seen plan fitted p next n done (now + taken) o'
+IsLed-row K has_seen plan fitted p q next n done now taken o o' first leads =
+    IsLed-append K has_seen plan fitted p q next n n done now (now + taken) o o' first (leads fitted first.turns first.goes first.watched)
+
+-- one of no cycle leads on to the same cycle
+pub IsLed-rowless : {M O : Type 0} (K : KindOf M) (has_seen : O → List Taken → Type 0) (plan : Plan) (fitted : Device) (p q next : Progress M) (n : Device) (done now taken : ℕ) (o o' : O)
+    → taken ≤ 0 → LeadsQuietly K has_seen plan q next n now (now + taken) o o' → IsLed K has_seen plan fitted p q n done now o → IsLed K has_seen plan fitted p next n done now o'
+IsLed-rowless K has_seen plan fitted p q next n done now taken o o' none leads first =
+    let same : now + taken ≡ now = omega (arith, none) in
+    subst (λ (k : ℕ). IsLed K has_seen plan fitted p next n done k o') same (IsLed-row K has_seen plan fitted p q next n done now taken o o' first leads)
+
+-- ---- cycles in a row
+
+-- the first cycle of a row
+pub row_moved : {M : Type 0} (K : KindOf M) (start : Start) (pick : Pick) (left : ℕ) (retired : Option ℕ) (m next : M) (n : Device)
+    → SimulatesRow K start pick (row_by (suc left) retired) m next n
+    → (between : M) × Simulates K start pick m between n n (Ok (stepped_of Moved)) × ((later : Pick) → SimulatesRow K start later (row_by left retired) between next n)
+row_moved K start pick left None m next n row = row
+row_moved K start pick left (Some hart) m next n row = row
+
+framed_same : (n : Device) → IsFramed n n
+framed_same n = record { blocks = refl; left = refl; picks = refl; queue_room = refl; left_room = refl; fits = refl; lent = refl; whole = refl }
+
+-- a cycle of a row is the schedule's next step, of the machine that stood between
+pub IsStepped-row : {M : Type 0} (K : KindOf M) (laws : IsLawful K) (plan : Plan) (fitted : Device) (q : Progress M) (n : Device) (k : ℕ) (turns : List ℕ) (next : M) (a : Advance) (listed : Bytes)
+    → IsPlanned plan → GoesOn K plan fitted q n k turns → k < plan.geometry.limit → Simulates K plan.start (mix_pick plan.geometry.harts q.mix) q.machine next n n (Ok (stepped_of a))
+    → bytes_of listed ≡ turns_then plan (bytes_of q.turns) (did_of a) → room_of q.turns ≤ room_of listed
+    → IsStepped K plan q (record q { machine = next; mix = mix_next plan.geometry.harts q.mix; turns = listed }) n n k turns (stepped_of a)
+IsStepped-row K laws plan fitted q n k turns next a listed planned goes few simulates is room =
+    let s = steps_of K laws plan fitted q n k turns planned goes (mix_pick plan.geometry.harts q.mix) next n (stepped_of a) (fewer plan k planned few) simulates in
+    record {
+      agree = s.agree;
+      alike = s.alike;
+      is_step = s.is_step;
+      framed = framed_same n;
+      faults = refl;
+      same = refl;
+      listed = is;
+      turns_room = room;
+    }
+
+-- there is room to list the turn of a cycle in which an instruction retired
+pub room-row : {M : Type 0} (K : KindOf M) (laws : IsLawful K) (plan : Plan) (fitted : Device) (q : Progress M) (n : Device) (k : ℕ) (turns : List ℕ) (next : M) (a : Advance)
+    → IsPlanned plan → GoesOn K plan fitted q n k turns → k < plan.geometry.limit → Simulates K plan.start (mix_pick plan.geometry.harts q.mix) q.machine next n n (Ok (stepped_of a))
+    → HasRoomToList plan.geometry.harts (bytes_of q.turns) (room_of q.turns) (did_of a)
+room-row K laws plan fitted q n k turns next a planned goes few simulates =
+    steps_room K laws plan fitted q n k turns planned goes (mix_pick plan.geometry.harts q.mix) next n (stepped_of a)
+    (steps_of K laws plan fitted q n k turns planned goes (mix_pick plan.geometry.harts q.mix) next n (stepped_of a) (fewer plan k planned few) simulates)
+
+-- quiet cycles led so far, and then a row has these left
+pub record IsInRow {M O : Type 0} (K : KindOf M) (has_seen : O → List Taken → Type 0) (plan : Plan) (fitted : Device) (p q : Progress M) (n : Device) (done now left : ℕ) (retired : Option ℕ) (o : O) : Type 0 where
+  -- the machine between the two
+  pub between : M
+  pub led : IsLed K has_seen plan fitted p (record q { machine = between }) n done now o
+  pub row : SimulatesRow K plan.start (mix_pick plan.geometry.harts q.mix) (row_by left retired) between q.machine n
+
 -- the cycles that were quiet before are so still, as no cut fell
 pub AreQuietBelow-on : {M : Type 0} (cuts : List ℕ) (p q : Progress M) (below : ℕ) → q.passed ≡ p.passed → q.fresh ≡ p.fresh
     → AreQuietBelow cuts p below → AreQuietBelow cuts q below
@@ -112,13 +204,6 @@ Running-led K has_seen plan fitted p q n m k now turns o t0 t1 r0 r1 running led
   shown_all = subst (λ (l : List Event). Took t0 t1 (released_of (origin_of plan) l)) (sym led.untold) running.shown_all;
   read_all = subst (λ (l : List Event). Took r0 r1 (report_of (telling_of plan) l)) (sym led.untold) running.read_all;
 }
-
--- the limit is far below 2^64
-pub few_cycles : (plan : Plan) (now : ℕ) → IsPlanned plan → now < plan.geometry.limit → now + 1 < 2 ^ 64
-few_cycles plan now planned few = let most = limit_most plan.geometry planned.origin.geometry in omega (arith, few, most)
-  where
-    limit_most : (p : Parameters) → IsInRange p → p.limit < 2 ^ 62
-    limit_most p r = omega arith
 
 -- ---- the run at one moment
 

@@ -30,6 +30,13 @@ pub record IsLed {M O : Type 0} (K : KindOf M) (has_seen : O → List Taken → 
   pub fresh : q.fresh ≡ p.fresh
   pub more : done ≤ now
 
+-- in each run that continues at p and whose cycles the observer has seen, quiet cycles led from p to q, over the same device
+abbrev pub LeadsQuietly : {M O : Type 0} → KindOf M → (O → List Taken → Type 0) → Plan → Progress M → Progress M → Device
+    → ℕ → ℕ → O → O → Type 0
+LeadsQuietly K has_seen plan p q n done now old_o new_o =
+    (fitted : Device) (turns : List ℕ) → GoesOn K plan fitted p n done turns
+    → Watched K has_seen plan fitted p n done turns old_o → IsLed K has_seen plan fitted p q n done now new_o
+
 -- the next cycle is not quiet: its step from q has something to report, or failed; or none is left
 abbrev pub StopsAt : {M : Type 0} → KindOf M → Plan → Progress M → Progress M → Device → Device → ℕ → List ℕ → Pause → Type 0
 StopsAt K plan q next n new now turns Limit = (now ≡ plan.geometry.limit) × (next ≡ q) × (new ≡ n)

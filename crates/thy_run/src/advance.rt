@@ -53,7 +53,7 @@ pub enum HartCycle {
 
 /// Lists a hart, if there are two. Allocates nothing.
 #[inline(always)]
-fn list_hart(turns: &mut Bytes, harts: u64, hart: u8)
+pub fn list_hart(turns: &mut Bytes, harts: u64, hart: u8)
     requires { (harts ≡ 1) ⊎ (length (bytes_of turns.old) < room_of turns.old) }
     ensures turns { let old = bytes_of turns.old in
         bytes_of turns.new ≡ (if harts == 1 then old else old ++ hart ∷ []) }

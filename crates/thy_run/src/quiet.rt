@@ -1,18 +1,22 @@
 //! Cycles with nothing to report, one after another. Their loop knows of no sink, so it is made once for a machine, a
-//! device and an observer, and what it calls becomes part of it.
-ghost use Rattle.std.specs.Prelude.{◌≤◌, ◌<◌, ◌+◌, ℕ, List};
+//! device and an observer, and what it calls becomes part of it. An instruction's cycles are taken in a row where the machine takes
+//! them so.
+ghost use Rattle.std.specs.Prelude.{◌≡◌, ◌≤◌, ◌<◌, ◌+◌, ℕ, List, true};
 ghost use Rattle.thy_base.specs.Device.{Device as DeviceValue};
 ghost use Rattle.thy_view.specs.Advances.{IsOthersTurn};
+ghost use Rattle.thy_run.specs.Due.{AreQuietBelow};
 ghost use Rattle.thy_run.specs.Going.{IsPlanned, HasDrawn};
-ghost use Rattle.thy_run.specs.Quiet.{IsWatched, PassesTo, RunsQuietly};
+ghost use Rattle.thy_run.specs.Quiet.{IsWatched, LeadsQuietly, PassesTo, RunsQuietly};
 ghost use Rattle.thy_run.specs.Watching.{CanSee};
 
-use crate::advance::{HartCycle, advance, is_quiet, quiet_below, stays_quiet, take_other};
+use crate::advance::{
+    HartCycle, advance, is_quiet, list_hart, quiet_below, stays_quiet, take_other,
+};
 use crate::observer::Observer;
 use crate::plan::Plan;
 use crate::progress::Progress;
 use thy_base::{Nvm, Pick};
-use thy_view::{Computer, Stepped};
+use thy_view::{Advance, Computer, Stepped};
 
 /// Why a row of quiet cycles ended.
 #[derive(Drop)]
@@ -58,6 +62,63 @@ fn pass_other<M: Computer, N: Nvm, O: Observer>(
     None
 }
 
+/// The cycles that a row has at most.
+const ROW: u64 = 5;
+
+/// Whether a row's cycles are left before the limit, all of them below this cycle.
+#[inline(always)]
+fn has_room(plan: &Plan, below: u64, now: u64) -> bool
+    requires planned { IsPlanned plan.now }
+    requires few { now < plan.now.geometry.limit }
+    ensures limit { result ≡ true → now + 5 ≤ plan.now.geometry.limit }
+    ensures below { result ≡ true → now + 5 < below }
+{
+    now + ROW <= plan.geometry.numbers().limit && now + ROW < below
+}
+
+/// Takes cycles in a row in which a hart advances, if the machine takes some so and none of them can have anything to report. The
+/// observer sees each. It answers how many it took.
+#[inline(always)]
+fn pass_row<M: Computer, N: Nvm, O: Observer>(
+    progress: &mut Progress<M>,
+    plan: &Plan,
+    below: u64,
+    now: u64,
+    nvm: &N,
+    observer: &mut O,
+) -> u64
+    requires planned { IsPlanned plan.now }
+    requires watched { IsWatched M.kind O.has_seen plan.now progress.old (N.device nvm.now) now observer.old }
+    requires below { AreQuietBelow plan.now.config.cuts progress.old below }
+    requires few { now < plan.now.geometry.limit }
+    ensures leads { let n = N.device nvm.now in
+        let p = progress.old in
+        LeadsQuietly M.kind O.has_seen plan.now p progress.new n now (now + result) observer.old observer.new }
+    ensures few { now + result ≤ plan.now.geometry.limit }
+{
+    if !has_room(plan, below, now) {
+        return 0;
+    }
+    let harts = plan.geometry.harts();
+    let mut ahead = progress.mix;
+    let pick = ahead.next(harts);
+    let row = progress.machine.advance_on(pick, &plan.start, nvm);
+    let moves = row.moved;
+    for seen in 0..moves {
+        progress.mix.next(harts);
+        observer.see(&Advance::Moved.stepped(), 0, now + seen + 1);
+    }
+    match row.retired {
+        None => moves,
+        Some(hart) => {
+            progress.mix.next(harts);
+            list_hart(&mut progress.turns, harts, hart);
+            observer.see(&Advance::Retired(hart).stepped(), 0, now + moves + 1);
+            moves + 1
+        }
+    }
+}
+
 /// Runs cycles while they have nothing to report: no event, and no cut. `done` cycles were done before. It answers how
 /// many are done then, and why no more are. The observer sees each.
 pub fn run_quiet<M: Computer, N: Nvm, O: Observer>(
@@ -79,7 +140,13 @@ pub fn run_quiet<M: Computer, N: Nvm, O: Observer>(
     let harts = plan.geometry.harts();
     let limit = plan.geometry.numbers().limit;
     let below = quiet_below(progress, plan);
-    for now in done..limit {
+    let mut now = done;
+    while now < limit {
+        let taken = pass_row(progress, plan, below, now, nvm, observer);
+        if taken > 0 {
+            now += taken;
+            continue;
+        }
         let pick = progress.mix.next(harts);
         match advance(progress, plan, pick, now, nvm) {
             HartCycle::Advanced(advance) => {
@@ -95,6 +162,7 @@ pub fn run_quiet<M: Computer, N: Nvm, O: Observer>(
             }
             HartCycle::Failed => return (now, Pause::Stuck),
         }
+        now += 1;
     }
     (limit, Pause::Limit)
 }

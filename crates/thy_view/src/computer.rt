@@ -1,14 +1,14 @@
 //! What a machine is to the layers above it.
-ghost use Rattle.std.specs.Prelude.{◌≡◌, ◌<◌, ℕ, Ok, None, IfOk, IfErr, OnOk};
+ghost use Rattle.std.specs.Prelude.{◌≡◌, ◌<◌, ◌≤◌, ℕ, Ok, None, IfOk, IfErr, OnOk};
 ghost use Rattle.thy_base.specs.Device.{Device, IsFramed, CountsFault};
 ghost use Rattle.thy_dram.specs.Contents.{lost};
-ghost use Rattle.thy_view.specs.Advances.{IfAdvanced, IsOthersTurn};
+ghost use Rattle.thy_view.specs.Advances.{IfAdvanced, IsOthersTurn, SimulatesRow, row_of};
 ghost use Rattle.thy_view.specs.Kind.{KindOf, IsLawful, CanStep, CanRead, CanSnapshot, IsDramOf, Simulates, FailsSafe, Snapshots, SnapshotsStopped, ShowsConsole, LeavesAlonePast, TellsLoading, HasFailedToRead};
 ghost use Rattle.thy_view.specs.Origin.{Origin};
 ghost use Rattle.thy_view.specs.Restart.{RestartsUnwritten};
 ghost use Rattle.thy_view.specs.declared.view.View.{View};
 
-use crate::{Advance, CoreError, Stepped};
+use crate::{Advance, CoreError, Row, Stepped};
 use std::alloc::{AllocError, Global};
 use thy_base::{Bytes, Geometry, Nvm, NvmError, Pick};
 use thy_dram::Dram;
@@ -54,6 +54,14 @@ pub trait Computer: Drop {
         ensures no_writes { RestartsUnwritten kind self.old (N.device nvm.old) (N.writes nvm.old) (N.writes nvm.new) }
         ensures left { result ≡ Ok None → (self.new ≡ self.old) × (nvm.new ≡ nvm.old) }
         ensures others { result ≡ Ok None → IsOthersTurn kind pick self.old (N.device nvm.old) };
+
+    /// Takes cycles in a row in which a hart advances its instruction; the first is this pick's. It goes on within one
+    /// instruction while no other actor has the turn, whatever the later picks are, and the hart needs nothing of the device.
+    /// It may take none, and can't fail. Allocates nothing.
+    fn advance_on<N: Nvm>(&mut self, pick: Pick, start: &Start, nvm: &N) -> Row
+        requires { CanStep kind start.now self.old (N.device nvm.now) }
+        ensures steps { SimulatesRow kind start.now pick (row_of result) self.old self.new (N.device nvm.now) }
+        ensures few { result.moved ≤ 4 };
 
     /// Takes the pick's cycle, if no hart advances in it. Allocates nothing.
     ///

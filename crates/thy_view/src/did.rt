@@ -89,3 +89,11 @@ impl Advance {
         }
     }
 }
+
+/// What a hart did in cycles one after another in which it advanced its instruction: it moved on this often, and then an
+/// instruction was retired, by this hart, 0 or 1, or none was.
+#[derive(Clone, Copy, Debug, PartialEq, Eq)]
+pub struct Row {
+    pub moved: u64,
+    pub retired: Option<u8>,
+}

@@ -15,7 +15,7 @@ mod view;
 
 pub use boot_step::BootStep;
 pub use computer::Computer;
-pub use did::{Advance, Did, Stall, Stepped};
+pub use did::{Advance, Did, Row, Stall, Stepped};
 pub use error::CoreError;
 pub use laws::{
     a_kept_mark_is_never_in_doubt, a_run_goes_on_after_a_cut, a_run_goes_on_after_a_fault,

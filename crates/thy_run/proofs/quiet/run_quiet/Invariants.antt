@@ -1,4 +1,4 @@
-use Rattle.std.proofs.Common.{ℕ, List}
+use Rattle.std.proofs.Common.{ℕ, ◌≤◌, ◌-◌, List}
 use Rattle.thy_base.specs.Device.{Device}
 use Rattle.thy_run.specs.Going.{GoesOn}
 use Rattle.thy_run.specs.Quiet.{IsLed}
@@ -12,5 +12,11 @@ invariant-loop-now g l =
     let S = g.O.Observer.has_seen in
     let p = l.fn.progress in
     let n = g.N.Nvm.device l.fn.nvm in
-    (fitted : Device) (turns : List ℕ) → GoesOn K l.plan fitted p n l.done turns → Watched K S l.plan fitted p n l.done turns l.fn.observer
-    → IsLed K S l.plan fitted p l.progress (g.N.Nvm.device l.nvm) l.done l.now l.observer
+    record {
+      led : (fitted : Device) (turns : List ℕ) → GoesOn K l.plan fitted p n l.done turns → Watched K S l.plan fitted p n l.done turns l.fn.observer
+          → IsLed K S l.plan fitted p l.progress (g.N.Nvm.device l.nvm) l.done l.now l.observer;
+      few : l.now ≤ l.plan.geometry.limit;
+    }
+
+abbrev pub decreases-loop-now : goal.decreases-loop-now
+decreases-loop-now g l = l.limit - l.now

@@ -1,11 +1,8 @@
 use Rattle.std.proofs.Common.{◌≡◌, ◌<◌, ◌^◌, sym, ap, subst, arith}
 use Rattle.thy_isa.specs.Moves.{number_in}
 use Rattle.thy_isa.specs.Step.{finished}
-use Rattle.thy_hart.specs.HartState.{HartState, IsSoundHart}
 use Rattle.thy_hart.specs.Outcomes.{given}
-use Rattle.thy_hart.specs.declared.in_hand.Stage.TheVariants.{Reserves}
-use Rattle.thy_hart.specs.InHand.{span_of, load_of, store_of, bytes_by, at_stage, hart_state_of}
-use Rattle.thy_hart.proofs.HandLemmas.{room_reserved-sound}
+use Rattle.thy_hart.specs.InHand.{load_of, bytes_by}
 use Rattle.thy_hart.proofs.InHandLemmas.{finished-loaded, finished-other, number-jump, number-set, number-store}
 use Rattle.thy_hart.proofs.micro_steps.HartParts.act.Goals as goal
 
@@ -46,13 +43,5 @@ returns-in-Loads-clause-acts g c = c.load.ensures.acts (given c.args.input.now c
 pub returns-in-Stores-clause-acts : goal.returns-in-Stores-clause-acts
 returns-in-Stores-clause-acts g c = c.store.ensures.acts (given c.args.input.now c.args.free c.args.under_way)
 
-pub returns-in-Reserves-clause-sound : goal.returns-in-Reserves-clause-sound
-returns-in-Reserves-clause-sound g c =
-    let i = c.args.self.now.hand in
-    let old : HartState = at_stage Reserves c.args.self.now in
-    let sound : IsSoundHart old = subst (λ st. IsSoundHart (at_stage st c.args.self.now)) c.in-Reserves.is c.requires.sound.hart in
-    record {
-      hart = room_reserved-sound c.args.free c.dirty.result c.args.under_way (store_of i) (span_of i.access) old (hart_state_of c.reserve.new.self)
-          sound sound.in_hand c.reserve.ensures.hart;
-      pieces = c.reserve.ensures.pieces;
-    }
+pub returns-in-Reserves-clause-acts : goal.returns-in-Reserves-clause-acts
+returns-in-Reserves-clause-acts g c = c.room.ensures.acts c.args.input.now
