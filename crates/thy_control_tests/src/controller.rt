@@ -2,8 +2,9 @@
 ghost use Rattle.std.specs.Prelude.{◌≡◌, ◌<◌, true, false, length};
 ghost use Rattle.thy_places.specs.Places.{image_blocks};
 ghost use Rattle.thy_control.specs.Holding.{holding_of};
-ghost use Rattle.thy_control_tests.specs.Beside.{Takes, AreLong};
+ghost use Rattle.thy_control_tests.specs.Beside.{Takes};
 
+use crate::support::drawn::{block_in, drawn, drawn_image};
 use crate::support::expect::expect;
 use crate::support::geometry::geometry_of;
 use std::alloc::Global;
@@ -41,19 +42,10 @@ struct Beside {
     start: Vec<Block>,
     /// The blocks now.
     blocks: Vec<Block>,
-    /// Which of the blocks were stored.
-    stored: Vec<bool>,
+    /// The blocks that were stored.
+    stored: Vec<u64>,
     /// How many blocks more the block table has room for.
     room: u64,
-}
-
-/// A block of drawn bytes.
-fn drawn(lcg: &mut Lcg) -> Block {
-    let mut block = Block::ZERO;
-    for byte in block.0.iter_mut() {
-        *byte = (lcg.next() % 256) as u8;
-    }
-    block
 }
 
 /// One of 60 blocks, eight a page and four of the last; or any block.
@@ -100,6 +92,20 @@ fn committed<N: Nvm>(rt: &impl Abort, control: &Control, nvm: &mut N, b: u64, wa
     expect(rt, block, want);
 }
 
+impl Beside {
+    /// Notes that a store is done.
+    fn store(&mut self, rt: &impl Abort, b: u64, block: Block) {
+        match self.blocks.get_mut(b as usize) {
+            Some(place) => *place = block,
+            None => panic!(rt; "no block"),
+        }
+        if !self.stored.contains(&b) {
+            self.stored.push(b).expect(rt, "memory");
+            self.room = self.room.saturating_sub(1);
+        }
+    }
+}
+
 /// Stores a drawn block while there is room.
 fn store_drawn<N: Nvm>(
     rt: &impl Abort,
@@ -111,21 +117,14 @@ fn store_drawn<N: Nvm>(
 )
     requires inside { b < 512 }
     requires takes { Takes (holding_of control.old (N.device nvm.old)) }
-    requires long { AreLong beside.old.start.items beside.old.blocks.items beside.old.stored.items }
     ensures takes { Takes (holding_of control.new (N.device nvm.new)) }
-    ensures long { AreLong beside.new.start.items beside.new.blocks.items beside.new.stored.items }
 {
     if control.free() == 0 {
         return;
     }
     let block = drawn(lcg);
     store(rt, control, nvm, b, &block);
-    let at = b as usize;
-    beside.blocks[at] = block;
-    if !beside.stored[at] {
-        beside.stored[at] = true;
-        beside.room = beside.room.saturating_sub(1);
-    }
+    beside.store(rt, b, block);
 }
 
 /// Makes one drawn call for block `b`, and compares what it gives.
@@ -139,13 +138,11 @@ fn call<N: Nvm>(
 )
     requires inside { b < 512 }
     requires takes { Takes (holding_of control.old (N.device nvm.old)) }
-    requires long { AreLong beside.old.start.items beside.old.blocks.items beside.old.stored.items }
     ensures takes { Takes (holding_of control.new (N.device nvm.new)) }
-    ensures long { AreLong beside.new.start.items beside.new.blocks.items beside.new.stored.items }
 {
     match lcg.next() % 4 {
-        0 => load(rt, control, nvm, b, beside.blocks[b as usize]),
-        1 => committed(rt, control, nvm, b, beside.start[b as usize]),
+        0 => load(rt, control, nvm, b, block_in(rt, &beside.blocks, b)),
+        1 => committed(rt, control, nvm, b, block_in(rt, &beside.start, b)),
         _ => store_drawn(rt, control, nvm, beside, lcg, b),
     }
     expect(rt, control.free(), beside.room);
@@ -161,9 +158,7 @@ fn calls<N: Nvm>(
     few: bool,
 )
     requires takes { Takes (holding_of control.old (N.device nvm.old)) }
-    requires long { AreLong beside.old.start.items beside.old.blocks.items beside.old.stored.items }
     ensures takes { Takes (holding_of control.new (N.device nvm.new)) }
-    ensures long { AreLong beside.new.start.items beside.new.blocks.items beside.new.stored.items }
 {
     for _ in 0..3000 {
         let b = drawn_block(lcg, few);
@@ -174,23 +169,11 @@ fn calls<N: Nvm>(
 /// Loads every block, and the committed version of each.
 fn compare<N: Nvm>(rt: &impl Abort, control: &mut Control, nvm: &mut N, beside: &Beside)
     requires takes { Takes (holding_of control.old (N.device nvm.old)) }
-    requires long { AreLong beside.now.start.items beside.now.blocks.items beside.now.stored.items }
 {
-    for at in 0..512 {
-        load(rt, control, nvm, at as u64, beside.blocks[at]);
-        committed(rt, control, nvm, at as u64, beside.start[at]);
+    for b in 0..512 {
+        load(rt, control, nvm, b, block_in(rt, &beside.blocks, b));
+        committed(rt, control, nvm, b, block_in(rt, &beside.start, b));
     }
-}
-
-/// An image of drawn blocks.
-fn drawn_image(rt: &impl Abort, alloc: Global, geometry: &Geometry, lcg: &mut Lcg) -> Vec<Block>
-    ensures { length result.items ≡ image_blocks geometry.now }
-{
-    let mut image = vec![in alloc; Block::ZERO; blocks(geometry) as usize].expect(rt, "memory");
-    for block in image.iter_mut() {
-        *block = drawn(lcg);
-    }
-    image
 }
 
 fn fit<N: Nvm>(rt: &impl Abort, alloc: Global, nvm: &mut N, geometry: &Geometry, image: &[Block])
@@ -225,14 +208,13 @@ fn controller<N: Nvm>(rt: &impl Abort, alloc: Global, geometry: &Geometry, nvm: 
 fn memory_of(rt: &impl Abort, alloc: Global, geometry: &Geometry, image: &[Block]) -> Beside
     requires least { geometry.now.pages ≡ 8 }
     requires long { length image.now ≡ image_blocks geometry.now }
-    ensures { AreLong result.start.items result.blocks.items result.stored.items }
 {
     let home = home(geometry, 0) as usize;
     let memory = &image[home..home + 512];
     Beside {
         start: memory.to_vec(alloc).expect(rt, "memory"),
         blocks: memory.to_vec(alloc).expect(rt, "memory"),
-        stored: vec![in alloc; false; 512].expect(rt, "memory"),
+        stored: Vec::new(alloc),
         room: 64,
     }
 }

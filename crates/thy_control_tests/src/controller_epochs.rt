@@ -1,8 +1,9 @@
 //! The controller over the simulated NVM, compared with three lists of blocks: random calls of all kinds, over many epochs.
 ghost use Rattle.std.specs.Prelude.{◌≡◌, ◌<◌, true, false, length, IfSome};
 ghost use Rattle.thy_places.specs.Places.{image_blocks};
-ghost use Rattle.thy_control_tests.specs.Driven.{Drives, AreVersions};
+ghost use Rattle.thy_control_tests.specs.Driven.{Drives};
 
+use crate::support::drawn::{block_in, drawn, drawn_image};
 use crate::support::driven::{
     commit, committed, copy_next, drain_dram, drain_nvm, load, merge_one, page_next, power_on,
     promote_one, seal, store,
@@ -14,7 +15,7 @@ use std::process::Abort;
 use thy_base::{Block, Geometry, Lcg, Nvm, Parameters, SchemeName, Stored};
 use thy_control::Control;
 use thy_nvm::MemNvm;
-use thy_places::{blocks, home};
+use thy_places::home;
 
 /// How many entries the block table has.
 const ENTRIES: u64 = 16;
@@ -49,12 +50,32 @@ struct Versions {
     last: Vec<Block>,
     /// The blocks now.
     work: Vec<Block>,
-    /// A checkpoint is under way.
-    under_way: bool,
     /// Some block was stored since the last seal.
     stored: bool,
     /// No block was stored in the epoch before it.
     quiet: bool,
+}
+
+impl Versions {
+    /// Notes that a store is done.
+    fn store(&mut self, rt: &impl Abort, b: u64, block: Block) {
+        match self.work.get_mut(b as usize) {
+            Some(place) => *place = block,
+            None => panic!(rt; "no block"),
+        }
+        self.stored = true;
+    }
+
+    fn seal(&mut self, rt: &impl Abort) {
+        self.last = self.work.clone().expect(rt, "memory");
+        self.quiet = !self.stored;
+        self.stored = false;
+    }
+
+    /// The last seal's checkpoint is the committed one.
+    fn commit(&mut self, rt: &impl Abort) {
+        self.committed = self.last.clone().expect(rt, "memory");
+    }
 }
 
 /// Which kinds of calls have come.
@@ -79,15 +100,6 @@ enum Habit {
     Page(u64),
     Spots,
     Anywhere,
-}
-
-/// A block of drawn bytes.
-fn drawn(lcg: &mut Lcg) -> Block {
-    let mut block = Block::ZERO;
-    for byte in block.0.iter_mut() {
-        *byte = (lcg.next() % 256) as u8;
-    }
-    block
 }
 
 /// The habit, or after about every 20th call another one.
@@ -145,31 +157,22 @@ fn store_drawn<N: Nvm>(
 )
     requires inside { b < 512 }
     requires drives { Drives control.old (N.device nvm.old) }
-    requires way { control.old.under_way ≡ beside.old.under_way }
-    requires long { AreVersions beside.old.committed.items beside.old.last.items beside.old.work.items }
     ensures drives { Drives control.new (N.device nvm.new) }
-    ensures way { control.new.under_way ≡ beside.new.under_way }
-    ensures long { AreVersions beside.new.committed.items beside.new.last.items beside.new.work.items }
 {
     if control.free() == 0 || control.promoting() {
         return;
     }
     let block = drawn(lcg);
     match store(rt, control, nvm, b, &block) {
-        Stored::Done => {
-            beside.work[b as usize] = block;
-            beside.stored = true;
-        }
+        Stored::Done => beside.store(rt, b, block),
         Stored::CopyFirst => seen.copied_first = true,
     }
 }
 
 /// Copies `many` blocks of pages in promotion, or fewer if there are no more.
-fn promote<N: Nvm>(rt: &impl Abort, control: &mut Control, nvm: &mut N, many: u64, way: bool)
+fn promote<N: Nvm>(rt: &impl Abort, control: &mut Control, nvm: &mut N, many: u64)
     requires drives { Drives control.old (N.device nvm.old) }
-    requires way { control.old.under_way ≡ way }
     ensures drives { Drives control.new (N.device nvm.new) }
-    ensures way { control.new.under_way ≡ way }
 {
     for _ in 0..many {
         if control.promoting() {
@@ -186,13 +189,9 @@ fn end_epoch<N: Nvm>(
     beside: &mut Versions,
     seen: &mut Seen,
 )
-    requires idle { beside.old.under_way ≡ false }
+    requires idle { control.old.under_way ≡ false }
     requires drives { Drives control.old (N.device nvm.old) }
-    requires way { control.old.under_way ≡ beside.old.under_way }
-    requires long { AreVersions beside.old.committed.items beside.old.last.items beside.old.work.items }
     ensures drives { Drives control.new (N.device nvm.new) }
-    ensures way { control.new.under_way ≡ beside.new.under_way }
-    ensures long { AreVersions beside.new.committed.items beside.new.last.items beside.new.work.items }
 {
     if control.overlay() {
         seen.stayed = true;
@@ -200,23 +199,18 @@ fn end_epoch<N: Nvm>(
         return;
     }
     if control.promoting() {
-        promote(rt, control, nvm, 64, false);
+        promote(rt, control, nvm, 64);
         return;
     }
     seal(rt, control);
-    beside.last = beside.work.clone().expect(rt, "memory");
-    beside.under_way = true;
-    beside.quiet = !beside.stored;
-    beside.stored = false;
+    beside.seal(rt);
     seen.promoted |= control.promoting();
 }
 
 /// Makes `many` copies of the checkpoint under way, while some are left.
-fn copy<N: Nvm>(rt: &impl Abort, control: &mut Control, nvm: &mut N, many: u64, way: bool) -> bool
+fn copy<N: Nvm>(rt: &impl Abort, control: &mut Control, nvm: &mut N, many: u64) -> bool
     requires drives { Drives control.old (N.device nvm.old) }
-    requires way { control.old.under_way ≡ way }
     ensures drives { Drives control.new (N.device nvm.new) }
-    ensures way { control.new.under_way ≡ way }
 {
     let mut copied = false;
     for _ in 0..many {
@@ -226,11 +220,9 @@ fn copy<N: Nvm>(rt: &impl Abort, control: &mut Control, nvm: &mut N, many: u64, 
 }
 
 /// Writes `many` blocks of the pages of the checkpoint under way, while some are left.
-fn write<N: Nvm>(rt: &impl Abort, control: &mut Control, nvm: &mut N, many: u64, way: bool)
+fn write<N: Nvm>(rt: &impl Abort, control: &mut Control, nvm: &mut N, many: u64)
     requires drives { Drives control.old (N.device nvm.old) }
-    requires way { control.old.under_way ≡ way }
     ensures drives { Drives control.new (N.device nvm.new) }
-    ensures way { control.new.under_way ≡ way }
 {
     for _ in 0..many {
         page_next(rt, control, nvm);
@@ -245,13 +237,9 @@ fn commit_checkpoint<N: Nvm>(
     beside: &mut Versions,
     seen: &mut Seen,
 )
-    requires busy { beside.old.under_way ≡ true }
+    requires busy { control.old.under_way ≡ true }
     requires drives { Drives control.old (N.device nvm.old) }
-    requires way { control.old.under_way ≡ beside.old.under_way }
-    requires long { AreVersions beside.old.committed.items beside.old.last.items beside.old.work.items }
     ensures drives { Drives control.new (N.device nvm.new) }
-    ensures way { control.new.under_way ≡ beside.new.under_way }
-    ensures long { AreVersions beside.new.committed.items beside.new.last.items beside.new.work.items }
 {
     let copied = copy_next(rt, control, nvm);
     let written = page_next(rt, control, nvm);
@@ -260,8 +248,7 @@ fn commit_checkpoint<N: Nvm>(
     }
     let overlaid = control.overlay();
     commit(rt, control, nvm);
-    beside.committed = beside.last.clone().expect(rt, "memory");
-    beside.under_way = false;
+    beside.commit(rt);
     let still = control.overlay();
     seen.left |= overlaid && !still;
 }
@@ -275,13 +262,9 @@ fn seal_or_commit<N: Nvm>(
     seen: &mut Seen,
 )
     requires drives { Drives control.old (N.device nvm.old) }
-    requires way { control.old.under_way ≡ beside.old.under_way }
-    requires long { AreVersions beside.old.committed.items beside.old.last.items beside.old.work.items }
     ensures drives { Drives control.new (N.device nvm.new) }
-    ensures way { control.new.under_way ≡ beside.new.under_way }
-    ensures long { AreVersions beside.new.committed.items beside.new.last.items beside.new.work.items }
 {
-    if beside.under_way {
+    if control.under_way() {
         commit_checkpoint(rt, control, nvm, beside, seen);
     } else {
         end_epoch(rt, control, nvm, beside, seen);
@@ -298,21 +281,17 @@ fn checkpoint<N: Nvm>(
     lcg: &mut Lcg,
 )
     requires drives { Drives control.old (N.device nvm.old) }
-    requires way { control.old.under_way ≡ beside.old.under_way }
-    requires long { AreVersions beside.old.committed.items beside.old.last.items beside.old.work.items }
     ensures drives { Drives control.new (N.device nvm.new) }
-    ensures way { control.new.under_way ≡ beside.new.under_way }
-    ensures long { AreVersions beside.new.committed.items beside.new.last.items beside.new.work.items }
 {
     let draw = lcg.next();
     match draw % 8 {
         0 | 1 => seal_or_commit(rt, control, nvm, beside, seen),
         2 | 3 => {
-            let copied = copy(rt, control, nvm, draw % 4, beside.under_way);
+            let copied = copy(rt, control, nvm, draw % 4);
             seen.consolidated |= copied && beside.quiet;
         }
-        4 | 5 => promote(rt, control, nvm, draw % 100, beside.under_way),
-        _ => write(rt, control, nvm, draw % 40, beside.under_way),
+        4 | 5 => promote(rt, control, nvm, draw % 100),
+        _ => write(rt, control, nvm, draw % 40),
     }
 }
 
@@ -320,7 +299,6 @@ fn checkpoint<N: Nvm>(
 fn land<N: Nvm>(rt: &impl Abort, control: &mut Control, nvm: &mut N)
     requires drives { Drives control.old (N.device nvm.old) }
     ensures drives { Drives control.new (N.device nvm.new) }
-    ensures way { control.new.under_way ≡ control.old.under_way }
 {
     drain_dram(control);
     drain_nvm(rt, control, nvm);
@@ -330,13 +308,12 @@ fn land<N: Nvm>(rt: &impl Abort, control: &mut Control, nvm: &mut N)
 fn compare<N: Nvm>(rt: &impl Abort, control: &Control, nvm: &mut N, beside: &Versions, b: u64)
     requires inside { b < 512 }
     requires drives { Drives control.now (N.device nvm.old) }
-    requires long { AreVersions beside.now.committed.items beside.now.last.items beside.now.work.items }
     ensures { N.device nvm.new ≡ N.device nvm.old }
 {
     let work = load(rt, control, nvm, b);
-    expect(rt, work, beside.work[b as usize]);
+    expect(rt, work, block_in(rt, &beside.work, b));
     let block = committed(rt, control, nvm, b);
-    expect(rt, block, beside.committed[b as usize]);
+    expect(rt, block, block_in(rt, &beside.committed, b));
 }
 
 /// Makes one drawn call.
@@ -350,11 +327,7 @@ fn act<N: Nvm>(
     habit: Habit,
 )
     requires drives { Drives control.old (N.device nvm.old) }
-    requires way { control.old.under_way ≡ beside.old.under_way }
-    requires long { AreVersions beside.old.committed.items beside.old.last.items beside.old.work.items }
     ensures drives { Drives control.new (N.device nvm.new) }
-    ensures way { control.new.under_way ≡ beside.new.under_way }
-    ensures long { AreVersions beside.new.committed.items beside.new.last.items beside.new.work.items }
 {
     match lcg.next() % 8 {
         0 => land(rt, control, nvm),
@@ -376,11 +349,7 @@ fn call<N: Nvm>(
     habit: Habit,
 )
     requires drives { Drives control.old (N.device nvm.old) }
-    requires way { control.old.under_way ≡ beside.old.under_way }
-    requires long { AreVersions beside.old.committed.items beside.old.last.items beside.old.work.items }
     ensures drives { Drives control.new (N.device nvm.new) }
-    ensures way { control.new.under_way ≡ beside.new.under_way }
-    ensures long { AreVersions beside.new.committed.items beside.new.last.items beside.new.work.items }
 {
     act(rt, control, nvm, beside, seen, lcg, habit);
     expect(rt, control.free() <= ENTRIES, true);
@@ -398,10 +367,7 @@ fn calls<N: Nvm>(
     lcg: &mut Lcg,
 )
     requires drives { Drives control.old (N.device nvm.old) }
-    requires way { control.old.under_way ≡ beside.old.under_way }
-    requires long { AreVersions beside.old.committed.items beside.old.last.items beside.old.work.items }
     ensures drives { Drives control.new (N.device nvm.new) }
-    ensures long { AreVersions beside.new.committed.items beside.new.last.items beside.new.work.items }
 {
     let mut habit = Habit::Spots;
     for _ in 0..3000 {
@@ -413,30 +379,16 @@ fn calls<N: Nvm>(
 /// Compares both versions of every block.
 fn compare_all<N: Nvm>(rt: &impl Abort, control: &Control, nvm: &mut N, beside: &Versions)
     requires drives { Drives control.now (N.device nvm.old) }
-    requires long { AreVersions beside.now.committed.items beside.now.last.items beside.now.work.items }
 {
     for b in 0..512 {
         compare(rt, control, nvm, beside, b);
     }
 }
 
-/// An image of drawn blocks.
-fn drawn_image(rt: &impl Abort, alloc: Global, geometry: &Geometry, lcg: &mut Lcg) -> Vec<Block>
-    ensures { length result.items ≡ image_blocks geometry.now }
-{
-    let mut image = vec![in alloc; Block::ZERO; blocks(geometry) as usize].expect(rt, "memory");
-    for block in image.iter_mut() {
-        *block = drawn(lcg);
-    }
-    image
-}
-
 /// The blocks of memory as an image has them.
 fn memory_of(rt: &impl Abort, alloc: Global, geometry: &Geometry, image: &[Block]) -> Versions
     requires least { geometry.now.pages ≡ 8 }
     requires long { length image.now ≡ image_blocks geometry.now }
-    ensures long { AreVersions result.committed.items result.last.items result.work.items }
-    ensures idle { result.under_way ≡ false }
 {
     let home = home(geometry, 0) as usize;
     let memory = &image[home..home + 512];
@@ -444,7 +396,6 @@ fn memory_of(rt: &impl Abort, alloc: Global, geometry: &Geometry, image: &[Block
         committed: memory.to_vec(alloc).expect(rt, "memory"),
         last: memory.to_vec(alloc).expect(rt, "memory"),
         work: memory.to_vec(alloc).expect(rt, "memory"),
-        under_way: false,
         stored: false,
         quiet: false,
     }

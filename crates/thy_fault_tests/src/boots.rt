@@ -1,14 +1,12 @@
 //! Runs whose power is cut again while it comes on, and boots between whose steps queued writes land.
-use crate::support::calls::{Given, called, has};
-use crate::support::programs::{EXIT_SEVEN, GREET, file_of, shelf_of};
-use std::alloc::{AllocError, Global};
+use crate::support::calls::{Given, called, check, has};
+use crate::support::programs::{GREET, THREE_WORDS, shelf_of};
+use std::alloc::Global;
 use std::process::Abort;
-use std::test::Fail;
-use thy_out::MemShelf;
 
 /// `sd sp,-64*k(sp)` for k from 0 to 8, which stores to nine blocks of one page; `addi a7,zero,93`; `sd a7,-64*k(sp)`
 /// for the same k; `ld a0,-512(sp); ecall`, which exits with the value that was stored last.
-static TWO_VALUES: [u32; 21] = [
+const TWO_VALUES: &[u32] = &[
     0x00213023, 0xfc213023, 0xf8213023, 0xf4213023, 0xf0213023, 0xec213023, 0xe8213023, 0xe4213023,
     0xe0213023, 0x05d00893, 0x01113023, 0xfd113023, 0xf9113023, 0xf5113023, 0xf1113023, 0xed113023,
     0xe9113023, 0xe5113023, 0xe1113023, 0xe0013503, 0x00000073,
@@ -16,34 +14,21 @@ static TWO_VALUES: [u32; 21] = [
 
 /// The program that exits with 7 under F, the one that stores two values under V, `greet` under G, and its input
 /// under W.
-fn programs(alloc: Global) -> Result<MemShelf, AllocError> {
-    let stores = file_of(alloc, 0, &TWO_VALUES)?;
-    let greet = file_of(alloc, 0, &GREET)?;
-    shelf_of(
-        alloc,
-        &[
-            ("F", EXIT_SEVEN.as_slice()),
-            ("V", stores.as_slice()),
-            ("G", greet.as_slice()),
-            ("W", b"World\n"),
-        ],
-    )
-}
+static PROGRAMS: [(&str, &[u32]); 3] = [("F", THREE_WORDS), ("V", TWO_VALUES), ("G", GREET)];
 
 /// Calls over these programs.
-fn ran(alloc: Global, line: &str) -> Result<Given, AllocError> {
-    called(alloc, line, programs(alloc)?, &[], &[])
+fn ran(rt: &impl Abort, alloc: Global, line: &str) -> Given {
+    let mut shelf = shelf_of(rt, alloc, &PROGRAMS, &[("W", b"World\n")]);
+    called(rt, alloc, line, &mut shelf)
 }
 
 /// What the plain machine makes of a program in the smallest memory, which exits.
-fn on_plain(rt: &impl Abort, alloc: Global, program: &str) -> Result<Given, AllocError> {
-    let line = format!(in alloc; "thynvm plain {program} --pages 8 --digest")?;
-    let plain = ran(alloc, line.as_str())?;
-    assert!(rt;
-        plain.status == 0 && has(&plain.report, "\nmemory "),
-        "{line}"
-    );
-    Ok(plain)
+fn on_plain(rt: &impl Abort, alloc: Global, program: &str) -> Given {
+    let line = format!(in alloc; "thynvm plain {program} --pages 8 --digest").expect(rt, "memory");
+    let plain = ran(rt, alloc, line.as_str());
+    let is_told = has(&plain.report, "\nmemory ");
+    check(rt, plain.status == 0 && is_told, line.as_str());
+    plain
 }
 
 /// Compares a run with the plain machine's: what was printed, the end, and the digest of memory; and its report has
@@ -53,7 +38,7 @@ fn compare(rt: &impl Abort, line: &str, given: &Given, plain: &Given, lines: &st
     let ends_so = given.status == 0
         && given.printed == plain.printed
         && given.report.as_slice().ends_with(plain.report.as_slice());
-    assert!(rt; is_told && ends_so, "{line}");
+    check(rt, is_told && ends_so, line);
 }
 
 /// A boot after a cut of power.
@@ -105,73 +90,97 @@ static OF_A_PAGE: Boot = Boot {
 };
 
 /// The line of a run without its cuts.
-fn line_of(alloc: Global, boot: &Boot, schedule: &str) -> Result<String, AllocError> {
+fn line_of(rt: &impl Abort, alloc: Global, boot: &Boot, schedule: &str) -> String {
     let (program, options) = (boot.program, boot.options);
-    let line = format!(in alloc; "thynvm run {program} --pages 8{options}{schedule} --digest")?;
-    Ok(line)
+    format!(in alloc; "thynvm run {program} --pages 8{options}{schedule} --digest").expect(
+        rt, "memory",
+    )
+}
+
+/// A run that is cut after two cycles, of which the second falls into the boot after the first: what the boot after both
+/// reports, and the same end.
+fn cut_boot(
+    rt: &impl Abort,
+    alloc: Global,
+    boot: &Boot,
+    run: &str,
+    plain: &Given,
+    cut: u64,
+    again: u64,
+) {
+    let (tear, told) = (boot.tear, boot.told);
+    let line = format!(in alloc; "{run} --cuts {cut},{again} --tears {tear},1").expect(
+        rt, "memory",
+    );
+    let lines = format!(in alloc; "cut 1 at cycle {cut}\ncut 2 at cycle {again}\n{told}\n").expect(
+        rt, "memory",
+    );
+    let given = ran(rt, alloc, line.as_str());
+    compare(rt, line.as_str(), &given, plain, lines.as_str());
 }
 
 /// A run that is cut after a cycle, and once more after each that the boot takes at least but the last: the next boot
 /// restarts what that one would have.
-fn cut_again(rt: &impl Abort, alloc: Global, boot: &Boot, cut: u64) -> Result<(), AllocError> {
-    let plain = on_plain(rt, alloc, boot.program)?;
-    let run = line_of(alloc, boot, "")?;
-    let (run, tear, told) = (run.as_str(), boot.tear, boot.told);
+fn cut_again(rt: &impl Abort, alloc: Global, boot: &Boot, cut: u64) {
+    let plain = on_plain(rt, alloc, boot.program);
+    let run = line_of(rt, alloc, boot, "");
     for k in 1..boot.actions {
-        let again = cut.saturating_add(k);
-        let line = format!(in alloc; "{run} --cuts {cut},{again} --tears {tear},1")?;
-        let given = ran(alloc, line.as_str())?;
-        let lines = format!(in alloc; "cut 1 at cycle {cut}\ncut 2 at cycle {again}\n{told}\n")?;
-        compare(rt, line.as_str(), &given, &plain, lines.as_str());
+        cut_boot(
+            rt,
+            alloc,
+            boot,
+            run.as_str(),
+            &plain,
+            cut,
+            cut.saturating_add(k),
+        );
     }
-    Ok(())
 }
 
 #[test]
-fn a_recovery_that_is_cut_shows_each_line_once(rt: HostRuntime) -> Result<(), Fail> {
-    cut_again(&rt, rt.alloc(), &OF_GREET, 2200)?;
-    Ok(())
+fn a_recovery_that_is_cut_shows_each_line_once(rt: HostRuntime) {
+    cut_again(&rt, rt.alloc(), &OF_GREET, 2200);
 }
 
 #[test]
-fn a_recovery_that_is_cut_restarts_what_the_first_cut_left(rt: HostRuntime) -> Result<(), Fail> {
-    cut_again(&rt, rt.alloc(), &OF_THE_START, 721)?;
-    cut_again(&rt, rt.alloc(), &OF_THE_END, 721)?;
-    Ok(())
+fn a_recovery_that_is_cut_restarts_what_the_first_cut_left(rt: HostRuntime) {
+    cut_again(&rt, rt.alloc(), &OF_THE_START, 721);
+    cut_again(&rt, rt.alloc(), &OF_THE_END, 721);
 }
 
 /// The fourth cycle before a run's last, in turn: between the last commit block and the barrier after it there is one
 /// drain of each queue at most, so that this commit block is not yet written.
 #[test]
-fn a_recovery_that_is_cut_copies_a_page_again(rt: HostRuntime) -> Result<(), Fail> {
+fn a_recovery_that_is_cut_copies_a_page_again(rt: HostRuntime) {
     let alloc = rt.alloc();
-    let run = line_of(alloc, &OF_A_PAGE, "")?;
-    let whole = ran(alloc, run.as_str())?;
-    cut_again(&rt, alloc, &OF_A_PAGE, whole.cycles.saturating_sub(4))?;
-    Ok(())
+    let run = line_of(&rt, alloc, &OF_A_PAGE, "");
+    let whole = ran(&rt, alloc, run.as_str()).cycles;
+    cut_again(&rt, alloc, &OF_A_PAGE, whole.saturating_sub(4));
+}
+
+/// Cuts after 300 cycles of loading and after this one.
+fn cut_loading(rt: &impl Abort, alloc: Global, plain: &Given, cycle: u64, told: &str) {
+    let line = format!(in alloc;
+        "thynvm run F --pages 8 --btt 8 --ptt 8 --digest --cuts 300,{cycle} --tears 7,7"
+    ).expect(rt, "memory");
+    let lines = format!(in alloc; "\ncut 2 at cycle {cycle}\n{told}\n").expect(rt, "memory");
+    let given = ran(rt, alloc, line.as_str());
+    compare(rt, line.as_str(), &given, plain, lines.as_str());
 }
 
 /// Loading is cut after 300 cycles. What is loaded then has its commit block in cycle 698 of its own, which the second
 /// cut does not let land (as no single write with the draws of seed 7). A drain lets it land in 699, and it is
 /// committed in 700.
 #[test]
-fn a_loading_is_cut_anywhere_behind_one_that_was_cut(rt: HostRuntime) -> Result<(), Fail> {
+fn a_loading_is_cut_anywhere_behind_one_that_was_cut(rt: HostRuntime) {
     let alloc = rt.alloc();
-    let plain = on_plain(&rt, alloc, "F")?;
-    for cycle in 301..1001 {
-        let line = format!(in alloc;
-            "thynvm run F --pages 8 --btt 8 --ptt 8 --digest --cuts 300,{cycle} --tears 7,7"
-        )?;
-        let given = ran(alloc, line.as_str())?;
-        let told = if cycle < 999 {
-            "reload"
-        } else {
-            "restart 0 at 0"
-        };
-        let lines = format!(in alloc; "\ncut 2 at cycle {cycle}\n{told}\n")?;
-        compare(&rt, line.as_str(), &given, &plain, lines.as_str());
+    let plain = on_plain(&rt, alloc, "F");
+    for cycle in 301..999u64 {
+        cut_loading(&rt, alloc, &plain, cycle, "reload");
     }
-    Ok(())
+    for cycle in 999..1001u64 {
+        cut_loading(&rt, alloc, &plain, cycle, "restart 0 at 0");
+    }
 }
 
 /// No loading is over in fewer than 525 cycles, whatever lands between its actions.
@@ -183,46 +192,42 @@ const LOADED_ANEW: &str = "cut 1 at cycle 350\n\
      reload\n\
      commit 0 overlapped ";
 
-/// Loadings and recoveries that are cut, by one seed of the schedule, with both queues of this length.
-fn boot_by(
-    rt: &impl Abort,
-    alloc: Global,
-    plain: &Given,
-    seed: u64,
-    queue: u64,
-) -> Result<(), AllocError> {
-    let schedule = format!(in alloc; " --mix {seed} --nvmq {queue} --dramq {queue}")?;
-    let schedule = schedule.as_str();
+/// Loadings that are cut, by a schedule.
+fn load_by(rt: &impl Abort, alloc: Global, plain: &Given, schedule: &str) {
     let line = format!(in alloc;
         "thynvm run V --pages 8 --btt 8 --ptt 8{schedule} --digest --cuts 350,700,1100 --tears 7,0,1"
-    )?;
-    let given = ran(alloc, line.as_str())?;
+    ).expect(rt, "memory");
+    let given = ran(rt, alloc, line.as_str());
     compare(rt, line.as_str(), &given, plain, LOADED_ANEW);
-    let run = line_of(alloc, &OF_A_PAGE, schedule)?;
-    let run = run.as_str();
-    let whole = ran(alloc, run)?;
-    // Between the last commit block and the barrier after it no more can land than that block and the DRAM's queue.
-    let cut = whole.cycles.saturating_sub(3).saturating_sub(queue);
+}
+
+/// Recoveries that are cut, by a schedule, with both queues of this length. Between the last commit block and the barrier
+/// after it no more can land than that block and the DRAM's queue.
+fn recover_by(rt: &impl Abort, alloc: Global, plain: &Given, schedule: &str, queue: u64) {
+    let run = line_of(rt, alloc, &OF_A_PAGE, schedule);
+    let whole = ran(rt, alloc, run.as_str()).cycles;
+    let cut = whole.saturating_sub(3).saturating_sub(queue);
     for k in [1, 40, 72] {
         let again = cut.saturating_add(k);
-        let line = format!(in alloc; "{run} --cuts {cut},{again} --tears 0,1")?;
-        let given = ran(alloc, line.as_str())?;
-        let lines = format!(in alloc;
-            "cut 1 at cycle {cut}\ncut 2 at cycle {again}\nrestart 2 at 8\n"
-        )?;
-        compare(rt, line.as_str(), &given, plain, lines.as_str());
+        cut_boot(rt, alloc, &OF_A_PAGE, run.as_str(), plain, cut, again);
     }
-    Ok(())
+}
+
+/// Loadings and recoveries that are cut, by one seed of the schedule, with both queues of this length.
+fn boot_by(rt: &impl Abort, alloc: Global, plain: &Given, seed: u64, queue: u64) {
+    let schedule = format!(in alloc; " --mix {seed} --nvmq {queue} --dramq {queue}").expect(
+        rt, "memory",
+    );
+    load_by(rt, alloc, plain, schedule.as_str());
+    recover_by(rt, alloc, plain, schedule.as_str(), queue);
 }
 
 #[test]
-fn writes_land_between_the_steps_of_boots(rt: HostRuntime) -> Result<(), Fail> {
+fn writes_land_between_the_steps_of_boots(rt: HostRuntime) {
     let alloc = rt.alloc();
-    let plain = on_plain(&rt, alloc, "V")?;
+    let plain = on_plain(&rt, alloc, "V");
     for seed in 1..7u64 {
-        for queue in [1, 2] {
-            boot_by(&rt, alloc, &plain, seed, queue)?;
-        }
+        boot_by(&rt, alloc, &plain, seed, 1);
+        boot_by(&rt, alloc, &plain, seed, 2);
     }
-    Ok(())
 }

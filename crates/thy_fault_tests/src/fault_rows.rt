@@ -1,22 +1,24 @@
-//! The program that exits with 7 over an NVM that fails at one call, each in turn: what is reported, and how the saved
-//! image resumes, by a table worked out by hand.
-use crate::support::calls::{called_on, called_over, compare};
-use crate::support::programs::files;
-use std::alloc::{AllocError, Global};
+//! The program that exits with 7 over an NVM that fails at one call, each in turn, with each scheme: what is reported, and
+//! how the saved image resumes, by tables worked out by hand.
+use crate::support::by_scheme::{JOURNAL, SHADOW, line_of};
+use crate::support::calls::{called, called_over, compare, failing_at};
+use crate::support::programs::shelf;
+use std::alloc::Global;
 use std::process::Abort;
-use std::test::Fail;
-use thy_nvm::MemNvm;
 use thy_out::MemShelf;
 
-/// What is reported after loading, until the program has ended, and after a restart at the start.
-const LOADED: &str = "commit 0 overlapped 0\n";
+/// What a run reports that fails while it loads, after that, and once the program has ended.
+const LOADING: &str = "nvm failed\n";
 
-const SEALED: &str = "commit 0 overlapped 0\nepoch 1 ends at 3 by end\n";
+const LOADED: &str = "commit 0 overlapped 0\nnvm failed\n";
 
-const FROM_THE_START: &str =
+const SEALED: &str = "commit 0 overlapped 0\nepoch 1 ends at 3 by end\nnvm failed\n";
+
+/// What is reported from a restart at the start on, and from one at the end.
+pub(crate) const FROM_THE_START: &str =
     "restart 0 at 0\nepoch 1 ends at 3 by end\ncommit 1 overlapped 0\nexit 7 at 3\n";
 
-const FROM_THE_END: &str = "restart 1 at 3\nexit 7 at 3\n";
+pub(crate) const FROM_THE_END: &str = "restart 1 at 3\nexit 7 at 3\n";
 
 /// A call that writes a commit block. That is then the only write that is queued, and the next call lets it land: a drain or
 /// a barrier.
@@ -26,27 +28,70 @@ struct Commit {
     is_drained: bool,
 }
 
+/// A scheme, and which calls of the run do what.
+pub(crate) struct Calls {
+    scheme: &'static str,
+    /// The write of the commit block of epoch 0, and loading's last barrier.
+    started: Commit,
+    loaded: u64,
+    /// The write of the commit block of epoch 1, and the last barrier.
+    ended: Commit,
+    last: u64,
+}
+
 /// Each cycle up to loading's last barrier, in cycle 700, is one call: the commit block of epoch 0 is written in cycle
 /// 698, and a drain lets it land. After the barrier come calls 701 to 715. They are the read of the block that has the
 /// program, the five blocks of the processor's record, one of each table and one of the counts, with three drains in
 /// between. A barrier, the commit block of epoch 1 and its barrier follow.
-const STARTED: Commit = Commit {
-    call: 698,
-    is_drained: true,
+static BY_BOTH_TABLES: Calls = Calls {
+    scheme: "thynvm",
+    started: Commit {
+        call: 698,
+        is_drained: true,
+    },
+    loaded: 700,
+    ended: Commit {
+        call: 714,
+        is_drained: false,
+    },
+    last: 715,
 };
 
-const ENDED: Commit = Commit {
-    call: 714,
-    is_drained: false,
+/// Each cycle up to loading's last barrier, in cycle 696, is one call: the commit block of epoch 0 is written in cycle
+/// 695. After the barrier come calls 697 to 709. They are the read of the block that has the program, the five blocks
+/// of the processor's record and one of the table, with two drains in between. A barrier, the commit block of epoch 1, a
+/// drain that lets it land, and its barrier follow.
+pub(crate) static BY_JOURNAL: Calls = Calls {
+    scheme: JOURNAL,
+    started: Commit {
+        call: 695,
+        is_drained: false,
+    },
+    loaded: 696,
+    ended: Commit {
+        call: 707,
+        is_drained: true,
+    },
+    last: 709,
 };
 
-/// The call of loading's last barrier, and the next call.
-const LOADED_BY: u64 = 700;
-
-const FIRST_READ: u64 = 701;
+/// As with the journal; the map takes the table's place.
+pub(crate) static BY_SHADOW: Calls = Calls {
+    scheme: SHADOW,
+    started: Commit {
+        call: 695,
+        is_drained: false,
+    },
+    loaded: 696,
+    ended: Commit {
+        call: 707,
+        is_drained: true,
+    },
+    last: 709,
+};
 
 /// A fault, and what the last cut does with the queue.
-#[derive(Clone, Copy, Debug, PartialEq, Eq)]
+#[derive(Clone, Copy)]
 struct Fault {
     /// The call that fails.
     call: u64,
@@ -66,186 +111,173 @@ impl Fault {
     }
 
     /// The status and the report of the run that resumes.
-    fn goes_on(self) -> (u8, &'static str) {
-        if self.leaves(ENDED) {
+    fn goes_on(self, calls: &Calls) -> (u8, &'static str) {
+        if self.leaves(calls.ended) {
             (0, FROM_THE_END)
-        } else if self.leaves(STARTED) {
+        } else if self.leaves(calls.started) {
             (0, FROM_THE_START)
         } else {
             (5, "image 1 Empty\n")
         }
     }
 
-    /// What the run that fails reports before.
-    fn told(self) -> &'static str {
-        if self.call <= LOADED_BY {
-            ""
-        } else if self.call == FIRST_READ {
+    /// What the run that fails reports. The call after loading reads the block that has the program.
+    fn told(self, calls: &Calls) -> &'static str {
+        if self.call <= calls.loaded {
+            LOADING
+        } else if self.call == calls.loaded.saturating_add(1) {
             LOADED
         } else {
             SEALED
         }
     }
-
-    fn nvm(self, alloc: Global) -> Result<MemNvm, AllocError> {
-        if self.is_late {
-            MemNvm::late(alloc, &[self.call])
-        } else {
-            MemNvm::failing(alloc, &[self.call])
-        }
-    }
 }
 
-/// Runs over a device with this fault, saves what the last cut leaves under I, resumes that, and compares both.
+/// The run of the program, up to the scheme's word.
+const RUN: &str = "thynvm run F --pages 8 --btt 8 --ptt 8 --scheme";
+
+/// Runs over a device with this fault, and saves what the last cut leaves under I.
+fn fail(
+    rt: &impl Abort,
+    alloc: Global,
+    calls: &Calls,
+    fault: Fault,
+    shelf: &mut MemShelf,
+    at: &str,
+) {
+    let save = if fault.lands {
+        " --save I --tears 1"
+    } else {
+        " --save I --tears 0"
+    };
+    let line = line_of(rt, alloc, RUN, calls.scheme, save);
+    let mut nvm = failing_at(rt, alloc, fault.call, fault.is_late);
+    let given = called_over(rt, alloc, line.as_str(), shelf, &mut nvm);
+    compare(rt, at, &given, 7, "", fault.told(calls));
+}
+
+/// Resumes it, and compares status and report.
+fn go_on(
+    rt: &impl Abort,
+    alloc: Global,
+    calls: &Calls,
+    shelf: &mut MemShelf,
+    status: u8,
+    report: &str,
+    at: &str,
+) {
+    let resume = "thynvm resume I --pages 8 --btt 8 --ptt 8 --scheme";
+    let line = line_of(rt, alloc, resume, calls.scheme, "");
+    let given = called(rt, alloc, line.as_str(), shelf);
+    compare(rt, at, &given, status, "", report);
+}
+
+/// Both.
 fn fail_and_go_on(
     rt: &impl Abort,
     alloc: Global,
+    calls: &Calls,
     fault: Fault,
-    resumed: (u8, &str),
-) -> Result<(), AllocError> {
-    let mut shelf = MemShelf::new(files(alloc)?, Vec::new(alloc));
-    let tear = if fault.lands { 1 } else { 0 };
-    let line = format!(in alloc; "thynvm run F --pages 8 --btt 8 --ptt 8 --save I --tears {tear}")?;
-    let mut nvm = fault.nvm(alloc)?;
-    let given = called_over(alloc, line.as_str(), &mut shelf, &[], &[], &mut nvm)?;
-    let told = fault.told();
-    let report = format!(in alloc; "{told}nvm failed\n")?;
-    let at = format!(in alloc; "{fault:?}")?;
-    compare(rt, at.as_str(), &given, 7, "", report.as_bytes());
-    let line = "thynvm resume I --pages 8 --btt 8 --ptt 8";
-    let given = called_on(alloc, line, &mut shelf, &[], &[])?;
-    let (status, report) = resumed;
-    compare(rt, at.as_str(), &given, status, "", report.as_bytes());
-    Ok(())
+    status: u8,
+    report: &str,
+) {
+    let (scheme, call, is_late, lands) = (calls.scheme, fault.call, fault.is_late, fault.lands);
+    let at = format!(in alloc; "{scheme}, call {call}, late {is_late}, all lands {lands}").expect(
+        rt, "memory",
+    );
+    let mut shelf = shelf(rt, alloc, &[]);
+    fail(rt, alloc, calls, fault, &mut shelf, at.as_str());
+    go_on(rt, alloc, calls, &mut shelf, status, report, at.as_str());
 }
 
-/// Faults of the commit block's write and of the last barrier, with how the run resumes after them.
-static ROWS: [(Fault, &str); 8] = [
-    (
-        Fault {
-            call: 714,
-            is_late: false,
-            lands: false,
-        },
-        FROM_THE_START,
-    ),
-    (
-        Fault {
-            call: 714,
-            is_late: false,
-            lands: true,
-        },
-        FROM_THE_START,
-    ),
-    (
-        Fault {
-            call: 714,
-            is_late: true,
-            lands: false,
-        },
-        FROM_THE_START,
-    ),
-    (
-        Fault {
-            call: 714,
-            is_late: true,
-            lands: true,
-        },
-        FROM_THE_END,
-    ),
-    (
-        Fault {
-            call: 715,
-            is_late: false,
-            lands: false,
-        },
-        FROM_THE_START,
-    ),
-    (
-        Fault {
-            call: 715,
-            is_late: false,
-            lands: true,
-        },
-        FROM_THE_END,
-    ),
-    (
-        Fault {
-            call: 715,
-            is_late: true,
-            lands: false,
-        },
-        FROM_THE_START,
-    ),
-    (
-        Fault {
-            call: 715,
-            is_late: true,
-            lands: true,
-        },
-        FROM_THE_END,
-    ),
+/// The call that fails, whether it is late, whether the last cut lets all land, and how the run resumes after that.
+pub(crate) type Row = (u64, bool, bool, &'static str);
+
+/// Faults of the commit block's write and of the last barrier.
+static ROWS: [Row; 8] = [
+    (714, false, false, FROM_THE_START),
+    (714, false, true, FROM_THE_START),
+    (714, true, false, FROM_THE_START),
+    (714, true, true, FROM_THE_END),
+    (715, false, false, FROM_THE_START),
+    (715, false, true, FROM_THE_END),
+    (715, true, false, FROM_THE_START),
+    (715, true, true, FROM_THE_END),
 ];
 
+/// Lets a call fail as a row says.
+pub(crate) fn fail_by_row(rt: &impl Abort, alloc: Global, calls: &Calls, row: &Row) {
+    let (call, is_late, lands, report) = *row;
+    let fault = Fault {
+        call,
+        is_late,
+        lands,
+    };
+    fail_and_go_on(rt, alloc, calls, fault, 0, report);
+}
+
 #[test]
-fn the_last_commit_block_and_its_barrier_may_fail(rt: HostRuntime) -> Result<(), Fail> {
-    for (fault, report) in &ROWS {
-        fail_and_go_on(&rt, rt.alloc(), *fault, (0, report))?;
+fn the_last_commit_block_and_its_barrier_may_fail(rt: HostRuntime) {
+    for row in &ROWS {
+        fail_by_row(&rt, rt.alloc(), &BY_BOTH_TABLES, row);
     }
-    Ok(())
+}
+
+/// Lets a call fail.
+fn fail_at(rt: &impl Abort, alloc: Global, calls: &Calls, call: u64, is_late: bool, lands: bool) {
+    let fault = Fault {
+        call,
+        is_late,
+        lands,
+    };
+    let (status, report) = fault.goes_on(calls);
+    fail_and_go_on(rt, alloc, calls, fault, status, report);
 }
 
 /// Lets each call up to the last barrier fail.
-fn fail_anywhere(
+pub(crate) fn fail_anywhere(
     rt: &impl Abort,
     alloc: Global,
+    calls: &Calls,
     is_late: bool,
     lands: bool,
-) -> Result<(), AllocError> {
-    for call in 1..ENDED.call + 2 {
-        let fault = Fault {
-            call,
-            is_late,
-            lands,
-        };
-        fail_and_go_on(rt, alloc, fault, fault.goes_on())?;
+) {
+    for call in 1..=calls.last {
+        fail_at(rt, alloc, calls, call, is_late, lands);
     }
-    Ok(())
 }
 
 #[test]
-fn any_call_may_fail_and_no_write_lands(rt: HostRuntime) -> Result<(), Fail> {
-    fail_anywhere(&rt, rt.alloc(), false, false)?;
-    Ok(())
+fn any_call_may_fail_and_no_write_lands(rt: HostRuntime) {
+    fail_anywhere(&rt, rt.alloc(), &BY_BOTH_TABLES, false, false);
 }
 
 #[test]
-fn any_call_may_fail_and_every_write_lands(rt: HostRuntime) -> Result<(), Fail> {
-    fail_anywhere(&rt, rt.alloc(), false, true)?;
-    Ok(())
+fn any_call_may_fail_and_every_write_lands(rt: HostRuntime) {
+    fail_anywhere(&rt, rt.alloc(), &BY_BOTH_TABLES, false, true);
 }
 
 #[test]
-fn any_call_may_fail_late_and_no_write_lands(rt: HostRuntime) -> Result<(), Fail> {
-    fail_anywhere(&rt, rt.alloc(), true, false)?;
-    Ok(())
+fn any_call_may_fail_late_and_no_write_lands(rt: HostRuntime) {
+    fail_anywhere(&rt, rt.alloc(), &BY_BOTH_TABLES, true, false);
 }
 
 #[test]
-fn any_call_may_fail_late_and_every_write_lands(rt: HostRuntime) -> Result<(), Fail> {
-    fail_anywhere(&rt, rt.alloc(), true, true)?;
-    Ok(())
+fn any_call_may_fail_late_and_every_write_lands(rt: HostRuntime) {
+    fail_anywhere(&rt, rt.alloc(), &BY_BOTH_TABLES, true, true);
 }
 
-/// A put that fails is reported in place of the device.
+/// A put that fails after the last barrier did is reported in place of the device.
+pub(crate) fn fail_to_save(rt: &impl Abort, alloc: Global, calls: &Calls) {
+    let line = line_of(rt, alloc, RUN, calls.scheme, " --save I");
+    let mut shelf = shelf(rt, alloc, &[2]);
+    let mut nvm = failing_at(rt, alloc, calls.last, false);
+    let given = called_over(rt, alloc, line.as_str(), &mut shelf, &mut nvm);
+    let report = "commit 0 overlapped 0\nepoch 1 ends at 3 by end\nput I failed\n";
+    compare(rt, line.as_str(), &given, 3, "", report);
+}
+
 #[test]
-fn a_save_behind_a_fault_may_fail_too(rt: HostRuntime) -> Result<(), Fail> {
-    let alloc = rt.alloc();
-    let mut shelf = MemShelf::new(files(alloc)?, Vec::from_slice(alloc, &[2])?);
-    let mut nvm = MemNvm::failing(alloc, &[715])?;
-    let line = "thynvm run F --pages 8 --btt 8 --ptt 8 --save I";
-    let given = called_over(alloc, line, &mut shelf, &[], &[], &mut nvm)?;
-    let report = format!(in alloc; "{SEALED}put I failed\n")?;
-    compare(&rt, line, &given, 3, "", report.as_bytes());
-    Ok(())
+fn a_save_behind_a_fault_may_fail_too(rt: HostRuntime) {
+    fail_to_save(&rt, rt.alloc(), &BY_BOTH_TABLES);
 }

@@ -1,9 +1,8 @@
 //! Runs whose NVM fails at one call: they stop there, are saved, and resume over a device that does not fail.
-use crate::support::calls::{Given, called_on, called_over, ran};
-use crate::support::programs::files;
-use std::alloc::{AllocError, Global};
+use crate::support::calls::{Given, called, called_over, check, failing_at, ran};
+use crate::support::programs::shelf;
+use std::alloc::Global;
 use std::process::Abort;
-use std::test::Fail;
 use thy_nvm::MemNvm;
 use thy_out::MemShelf;
 
@@ -89,52 +88,58 @@ fn commits_in(told: &str) -> u64 {
 }
 
 /// Whether a report begins with a restart of this epoch.
-fn restarts_at(alloc: Global, report: &[u8], epoch: u64) -> Result<bool, AllocError> {
-    let line = format!(in alloc; "restart {epoch} at ")?;
-    Ok(report.starts_with(line.as_bytes()))
+fn restarts_at(rt: &impl Abort, alloc: Global, report: &[u8], epoch: u64) -> bool {
+    let line = format!(in alloc; "restart {epoch} at ").expect(rt, "memory");
+    report.starts_with(line.as_bytes())
 }
 
 /// Whether a resumed run ends as the plain machine, after a run that reported `commits` commits: from the last one of
 /// these, or from the one whose checkpoint was under way. If none was reported there may be none.
-fn goes_on(
-    alloc: Global,
-    resumed: &Given,
-    plain: &Given,
-    commits: u64,
-) -> Result<bool, AllocError> {
-    if commits == 0 && resumed.status == 5 {
-        return Ok(resumed.report.as_slice() == b"image 1 Empty\n".as_slice());
-    }
+fn goes_on(rt: &impl Abort, alloc: Global, resumed: &Given, plain: &Given, commits: u64) -> bool {
     let report = resumed.report.as_slice();
-    let is_found = restarts_at(alloc, report, commits)?
-        || commits > 0 && restarts_at(alloc, report, commits - 1)?;
-    Ok(
-        is_found
-            && resumed.status == 0
-            && resumed.printed == plain.printed
-            && report.ends_with(plain.report.as_slice()),
-    )
-}
-
-/// How a call fails.
-#[derive(Clone, Copy, Debug, PartialEq, Eq)]
-enum Fault {
-    /// The call does nothing.
-    Undone,
-    /// The call is done, a barrier by half.
-    Late,
-}
-
-/// A device that fails at one call.
-fn failing_at(alloc: Global, call: u64, fault: Fault) -> Result<MemNvm, AllocError> {
-    match fault {
-        Fault::Undone => MemNvm::failing(alloc, &[call]),
-        Fault::Late => MemNvm::late(alloc, &[call]),
+    if commits == 0 && resumed.status == 5 {
+        return report == b"image 1 Empty\n".as_slice();
     }
+    let is_found = restarts_at(rt, alloc, report, commits)
+        || commits > 0 && restarts_at(rt, alloc, report, commits - 1);
+    is_found
+        && resumed.status == 0
+        && resumed.printed == plain.printed
+        && report.ends_with(plain.report.as_slice())
+}
+
+/// Stops the test unless a run failed, and reported and showed a first part of what the case does. Returns how many
+/// commits it reported.
+fn commits_before(rt: &impl Abort, case: &Case, plain: &Given, given: &Given, at: &str) -> u64 {
+    let Some(told) = told_before(given.report.as_slice()) else {
+        panic!(rt; "{at}: no fault");
+    };
+    let shown = given.printed.as_slice();
+    let is_first = case.report.starts_with(told) && plain.printed.as_slice().starts_with(shown);
+    check(rt, given.status == 7 && is_first, at);
+    commits_in(told)
+}
+
+/// Resumes what a run saved that reported `commits` commits, and compares its end.
+fn resume(
+    rt: &impl Abort,
+    alloc: Global,
+    case: &Case,
+    plain: &Given,
+    shelf: &mut MemShelf,
+    commits: u64,
+    at: &str,
+) {
+    let options = case.options;
+    let line = format!(in alloc;
+        "thynvm resume I --pages 8 --btt 8 --ptt 8{options} --digest"
+    ).expect(rt, "memory");
+    let resumed = called(rt, alloc, line.as_str(), shelf);
+    check(rt, goes_on(rt, alloc, &resumed, plain, commits), at);
 }
 
 /// Runs a line whose device fails at one call, which must report and show a first part of what the case does, and resumes
-/// what it saved.
+/// what it saved. The call does nothing; if it fails late it is done, a barrier by half.
 fn fail_at(
     rt: &impl Abort,
     alloc: Global,
@@ -142,112 +147,97 @@ fn fail_at(
     line: &str,
     plain: &Given,
     failing: u64,
-    fault: Fault,
-) -> Result<(), AllocError> {
-    let mut shelf = MemShelf::new(files(alloc)?, Vec::new(alloc));
-    let mut nvm = failing_at(alloc, failing, fault)?;
-    let given = called_over(alloc, line, &mut shelf, &[], &[], &mut nvm)?;
-    let Some(told) = told_before(given.report.as_slice()) else {
-        panic!(rt; "{line}, call {failing}: no fault");
-    };
-    let is_told = case.report.starts_with(told);
-    let is_shown = plain
-        .printed
-        .as_slice()
-        .starts_with(given.printed.as_slice());
-    assert!(rt;
-        given.status == 7 && is_told && is_shown,
-        "{line}, call {failing}"
-    );
-    let options = case.options;
-    let again = format!(in alloc; "thynvm resume I --pages 8 --btt 8 --ptt 8{options} --digest")?;
-    let resumed = called_on(alloc, again.as_str(), &mut shelf, &[], &[])?;
-    let goes_on = goes_on(alloc, &resumed, plain, commits_in(told))?;
-    assert!(rt; goes_on, "{again}, behind call {failing} of {line}");
-    Ok(())
+    is_late: bool,
+) {
+    let at = format!(in alloc; "{line}, call {failing}").expect(rt, "memory");
+    let mut shelf = shelf(rt, alloc, &[]);
+    let mut nvm = failing_at(rt, alloc, failing, is_late);
+    let given = called_over(rt, alloc, line, &mut shelf, &mut nvm);
+    let commits = commits_before(rt, case, plain, &given, at.as_str());
+    resume(rt, alloc, case, plain, &mut shelf, commits, at.as_str());
 }
 
-/// A case over a device that fails at each of its calls, one run for each, with a last cut of this pick: none of the
-/// queued writes lands for 0, all for 1, else a draw.
-fn fail_everywhere(
-    rt: &impl Abort,
-    alloc: Global,
-    case: &Case,
-    fault: Fault,
-    pick: u64,
-) -> Result<(), AllocError> {
+/// What the plain machine makes of a case's program, which exits.
+fn on_plain(rt: &impl Abort, alloc: Global, case: &Case) -> Given {
+    let program = case.program;
+    let line = format!(in alloc; "thynvm plain {program} --pages 8 --digest").expect(rt, "memory");
+    let plain = ran(rt, alloc, line.as_str());
+    check(rt, plain.status == 0, line.as_str());
+    plain
+}
+
+/// The line of a case, with a last cut of this pick.
+fn line_of(rt: &impl Abort, alloc: Global, case: &Case, pick: u64) -> String {
     let Case {
         program,
         options,
         once,
         tears,
-        report,
+        report: _,
     } = case;
-    let line = format!(in alloc; "thynvm plain {program} --pages 8 --digest")?;
-    let plain = ran(alloc, line.as_str())?;
-    assert!(rt; plain.status == 0, "{line}");
-    let line = format!(in alloc;
+    format!(in alloc;
         "thynvm run {program} --pages 8 --btt 8 --ptt 8{options}{once} --save I --tears {tears}{pick}"
-    )?;
-    let mut shelf = MemShelf::new(files(alloc)?, Vec::new(alloc));
+    ).expect(rt, "memory")
+}
+
+/// Runs a case over a device that does not fail, and returns how many calls it makes.
+fn calls_of(rt: &impl Abort, alloc: Global, case: &Case, line: &str, plain: &Given) -> u64 {
     let mut nvm = MemNvm::new(alloc);
-    let given = called_over(alloc, line.as_str(), &mut shelf, &[], &[], &mut nvm)?;
+    let given = called_over(rt, alloc, line, &mut shelf(rt, alloc, &[]), &mut nvm);
     let is_whole = given.status == 0
         && given.printed == plain.printed
-        && given.report.as_slice() == report.as_bytes();
-    assert!(rt; is_whole && nvm.calls() > 600, "{line}");
-    for failing in 1..=nvm.calls() {
-        fail_at(rt, alloc, case, line.as_str(), &plain, failing, fault)?;
+        && given.report.as_slice() == case.report.as_bytes();
+    check(rt, is_whole && nvm.calls() > 600, line);
+    nvm.calls()
+}
+
+/// A case over a device that fails at each of its calls, one run for each, with a last cut of this pick: none of the
+/// queued writes lands for 0, all for 1, else a draw.
+fn fail_everywhere(rt: &impl Abort, alloc: Global, case: &Case, is_late: bool, pick: u64) {
+    let plain = on_plain(rt, alloc, case);
+    let line = line_of(rt, alloc, case, pick);
+    let calls = calls_of(rt, alloc, case, line.as_str(), &plain);
+    for failing in 1..=calls {
+        fail_at(rt, alloc, case, line.as_str(), &plain, failing, is_late);
     }
-    Ok(())
 }
 
 #[test]
-fn each_call_of_a_run_may_fail(rt: HostRuntime) -> Result<(), Fail> {
-    fail_everywhere(&rt, rt.alloc(), &EXITS_WITH_SEVEN, Fault::Undone, 0)?;
-    Ok(())
+fn each_call_of_a_run_may_fail(rt: HostRuntime) {
+    fail_everywhere(&rt, rt.alloc(), &EXITS_WITH_SEVEN, false, 0);
 }
 
 #[test]
-fn each_call_of_a_run_may_fail_late(rt: HostRuntime) -> Result<(), Fail> {
-    fail_everywhere(&rt, rt.alloc(), &EXITS_WITH_SEVEN, Fault::Late, 1)?;
-    Ok(())
+fn each_call_of_a_run_may_fail_late(rt: HostRuntime) {
+    fail_everywhere(&rt, rt.alloc(), &EXITS_WITH_SEVEN, true, 1);
 }
 
 #[test]
-fn each_call_of_a_run_that_restarts_may_fail(rt: HostRuntime) -> Result<(), Fail> {
-    fail_everywhere(&rt, rt.alloc(), &RESTARTS, Fault::Undone, 7)?;
-    Ok(())
+fn each_call_of_a_run_that_restarts_may_fail(rt: HostRuntime) {
+    fail_everywhere(&rt, rt.alloc(), &RESTARTS, false, 7);
 }
 
 #[test]
-fn each_call_of_two_epochs_may_fail(rt: HostRuntime) -> Result<(), Fail> {
-    fail_everywhere(&rt, rt.alloc(), &PRINTS_IN_TWO_EPOCHS, Fault::Undone, 0)?;
-    Ok(())
+fn each_call_of_two_epochs_may_fail(rt: HostRuntime) {
+    fail_everywhere(&rt, rt.alloc(), &PRINTS_IN_TWO_EPOCHS, false, 0);
 }
 
 #[test]
-fn each_call_of_two_epochs_may_fail_and_all_that_was_queued_lands(
-    rt: HostRuntime,
-) -> Result<(), Fail> {
-    fail_everywhere(&rt, rt.alloc(), &PRINTS_IN_TWO_EPOCHS, Fault::Undone, 1)?;
-    Ok(())
+fn each_call_of_two_epochs_may_fail_and_all_that_was_queued_lands(rt: HostRuntime) {
+    fail_everywhere(&rt, rt.alloc(), &PRINTS_IN_TWO_EPOCHS, false, 1);
 }
 
 #[test]
-fn each_call_of_two_epochs_may_fail_late(rt: HostRuntime) -> Result<(), Fail> {
-    fail_everywhere(&rt, rt.alloc(), &PRINTS_IN_TWO_EPOCHS, Fault::Late, 7)?;
-    Ok(())
+fn each_call_of_two_epochs_may_fail_late(rt: HostRuntime) {
+    fail_everywhere(&rt, rt.alloc(), &PRINTS_IN_TWO_EPOCHS, true, 7);
 }
 
 #[test]
-fn each_call_of_a_run_with_a_page_in_the_dram_may_fail(rt: HostRuntime) -> Result<(), Fail> {
-    fail_everywhere(&rt, rt.alloc(), &KEEPS_A_PAGE, Fault::Undone, 7)?;
-    Ok(())
+fn each_call_of_a_run_with_a_page_in_the_dram_may_fail(rt: HostRuntime) {
+    fail_everywhere(&rt, rt.alloc(), &KEEPS_A_PAGE, false, 7);
 }
 
 #[test]
-fn each_call_of_a_run_with_a_page_in_the_dram_may_fail_late(rt: HostRuntime) -> Result<(), Fail> {
-    fail_everywhere(&rt, rt.alloc(), &KEEPS_A_PAGE, Fault::Late, 0)?;
-    Ok(())
+fn each_call_of_a_run_with_a_page_in_the_dram_may_fail_late(rt: HostRuntime) {
+    fail_everywhere(&rt, rt.alloc(), &KEEPS_A_PAGE, true, 0);
 }

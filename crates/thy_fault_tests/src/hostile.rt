@@ -1,86 +1,94 @@
 //! Program files and images that are cut short or have a field at its end, and files that are too long: each is refused by
 //! its line.
-use crate::support::calls::{called, called_on, compare};
+use crate::support::calls::{called, check, compare, expect_on, held};
 use crate::support::expect::expect_at;
 use crate::support::geometry::geometry_of;
-use crate::support::programs::{EXIT_SEVEN, files, shelf_of};
-use std::alloc::{AllocError, Global};
+use crate::support::programs::{EXIT_SEVEN, files, hold, patched, shelf, shelf_of};
+use std::alloc::Global;
 use std::process::Abort;
-use std::test::Fail;
-use thy_base::{Parameters, SchemeName, Shelf};
+use thy_base::{Geometry, Parameters, SchemeName};
 use thy_layout::BadImage;
 use thy_out::MemShelf;
-use thy_record::check;
 
-/// Runs a file in the smallest memory, and compares status and report.
-fn expect_of(
+/// Runs a file alone by a line, and compares status and report; nothing is printed.
+pub(crate) fn expect_file(
     rt: &impl Abort,
     alloc: Global,
+    line: &str,
     file: &[u8],
     status: u8,
     report: &str,
     at: &str,
-) -> Result<(), AllocError> {
-    let shelf = shelf_of(alloc, &[("F", file)])?;
-    let line = "thynvm run F --pages 8 --btt 8 --ptt 8";
-    let given = called(alloc, line, shelf, &[], &[])?;
-    compare(rt, at, &given, status, "", report.as_bytes());
-    Ok(())
+) {
+    let mut shelf = shelf_of(rt, alloc, &[], &[("F", file)]);
+    let given = called(rt, alloc, line, &mut shelf);
+    compare(rt, at, &given, status, "", report);
 }
 
-const EXITS: &str =
-    "commit 0 overlapped 0\nepoch 1 ends at 3 by end\ncommit 1 overlapped 0\nexit 7 at 3\n";
+/// Runs a first part of the program file, which is refused by the part of the file that is missing. It begins with a header
+/// of 64 bytes and one program header of 56, and then has 12 bytes of its segment.
+fn expect_part(rt: &impl Abort, alloc: Global, line: &str, length: usize) {
+    let report = if length < 64 {
+        "file 1 TooShort\n"
+    } else if length < 120 {
+        "file 13 HeadersOutside\n"
+    } else {
+        "file 16 SegmentOutsideFile 0\n"
+    };
+    let at = format!(in alloc; "{length} bytes").expect(rt, "memory");
+    let part = EXIT_SEVEN.get(..length).unwrap_or(&[]);
+    check(rt, part.len() == length, at.as_str());
+    expect_file(rt, alloc, line, part, 4, report, at.as_str());
+}
 
-/// A program file begins with a header of 64 bytes and one program header of 56, and then has 12 bytes of its segment.
-#[test]
-fn a_program_file_is_refused_at_every_length_but_its_own(rt: HostRuntime) -> Result<(), Fail> {
-    let alloc = rt.alloc();
-    for (length, _) in EXIT_SEVEN.iter().enumerate() {
-        let report = if length < 64 {
-            "file 1 TooShort\n"
-        } else if length < 120 {
-            "file 13 HeadersOutside\n"
-        } else {
-            "file 16 SegmentOutsideFile 0\n"
-        };
-        let at = format!(in alloc; "{length} bytes")?;
-        expect_of(&rt, alloc, &EXIT_SEVEN[..length], 4, report, at.as_str())?;
+/// Runs the program file by a line, at every length.
+pub(crate) fn expect_at_lengths(rt: &impl Abort, alloc: Global, line: &str) {
+    for length in 0..132 {
+        expect_part(rt, alloc, line, length);
     }
-    expect_of(&rt, alloc, &EXIT_SEVEN, 0, EXITS, "132 bytes")?;
-    Ok(())
+    let report =
+        "commit 0 overlapped 0\nepoch 1 ends at 3 by end\ncommit 1 overlapped 0\nexit 7 at 3\n";
+    expect_file(rt, alloc, line, &EXIT_SEVEN, 0, report, "132 bytes");
 }
 
-/// The program file with other bytes at two places; the second may be the first.
-fn changed(first: (usize, &[u8]), second: (usize, &[u8])) -> [u8; 132] {
-    let mut file = EXIT_SEVEN;
-    for (place, bytes) in [first, second] {
-        for (i, byte) in bytes.iter().enumerate() {
-            if let Some(old) = file.get_mut(place.saturating_add(i)) {
-                *old = *byte;
-            }
-        }
-    }
-    file
-}
+/// A run of F in the smallest memory.
+const RUN: &str = "thynvm run F --pages 8 --btt 8 --ptt 8";
 
-/// Fields of the program file at their ends: e_phoff; p_vaddr and p_memsz; e_phentsize and e_phnum, without which memory
-/// is all zeros, and its first word no instruction.
 #[test]
-fn a_program_file_has_fields_at_their_ends(rt: HostRuntime) -> Result<(), Fail> {
-    let alloc = rt.alloc();
+fn a_program_file_is_refused_at_every_length_but_its_own(rt: HostRuntime) {
+    expect_at_lengths(&rt, rt.alloc(), RUN);
+}
+
+/// Runs the program file by a line with other bytes from a place on, and compares status and report.
+pub(crate) fn expect_patched(
+    rt: &impl Abort,
+    alloc: Global,
+    line: &str,
+    place: usize,
+    bytes: &[u8],
+    status: u8,
+    report: &str,
+) {
+    let file = patched(rt, alloc, &EXIT_SEVEN, place, bytes);
+    expect_file(rt, alloc, line, file.as_slice(), status, report, report);
+}
+
+/// Fields of the program file at their ends: e_phoff; p_vaddr; e_phentsize and e_phnum, without which memory is all zeros,
+/// and its first word no instruction.
+pub(crate) fn expect_fields(rt: &impl Abort, alloc: Global, line: &str) {
     let most = u64::MAX.to_le_bytes();
-    let size = 12u64.to_le_bytes();
-    let file = changed((32, &most), (32, &most));
     let report = "file 13 HeadersOutside\n";
-    expect_of(&rt, alloc, &file, 4, report, "e_phoff")?;
-    let file = changed((80, &most), (104, &size));
+    expect_patched(rt, alloc, line, 32, &most, 4, report);
     let report = "file 17 SegmentOutsideMemory 0\n";
-    expect_of(&rt, alloc, &file, 4, report, "p_vaddr")?;
-    let file = changed((54, &[0, 0]), (56, &[0, 0]));
+    expect_patched(rt, alloc, line, 80, &most, 4, report);
     let report =
         "commit 0 overlapped 0\nepoch 1 ends at 1 by end\ncommit 1 overlapped 0\ntrap 2 at 1\n";
-    expect_of(&rt, alloc, &file, 1, report, "e_phnum")?;
-    Ok(())
+    expect_patched(rt, alloc, line, 54, &[0; 4], 1, report);
+}
+
+#[test]
+fn a_program_file_has_fields_at_their_ends(rt: HostRuntime) {
+    expect_fields(&rt, rt.alloc(), RUN);
 }
 
 /// The smallest memory and tables, with all else as it is by default.
@@ -111,15 +119,12 @@ const IMAGE_SIZE: usize = 68_096;
 const CEILING: u64 = 1 << 62;
 
 /// The image that the program of nine stores leaves.
-fn image(rt: &impl Abort, alloc: Global) -> Result<Vec<u8>, AllocError> {
-    let mut shelf = MemShelf::new(files(alloc)?, Vec::new(alloc));
+fn image(rt: &impl Abort, alloc: Global) -> Vec<u8> {
+    let mut shelf = shelf(rt, alloc, &[]);
     let line = "thynvm run N --pages 8 --btt 8 --ptt 8 --save I";
-    let given = called_on(alloc, line, &mut shelf, &[], &[])?;
-    assert!(rt; given.status == 0, "{line}");
-    match shelf.fetch(alloc, "I", 67_108_864) {
-        Ok(bytes) => Ok(bytes),
-        Err(_) => rt.abort(),
-    }
+    let given = called(rt, alloc, line, &mut shelf);
+    check(rt, given.status == 0, line);
+    held(rt, alloc, &mut shelf, "I")
 }
 
 /// What a part of an image is refused for, by its length.
@@ -131,17 +136,22 @@ fn refusal_of(length: usize) -> BadImage {
     }
 }
 
+/// Whether a part of an image is refused.
+fn expect_refused(rt: &impl Abort, part: &[u8], geometry: &Geometry) {
+    let length = part.len();
+    let found = thy_record::check(part, geometry, CEILING);
+    expect_at(rt, found, Err(refusal_of(length)), length);
+}
+
 #[test]
-fn an_image_is_refused_at_every_length_but_its_own(rt: HostRuntime) -> Result<(), Fail> {
+fn an_image_is_refused_at_every_length_but_its_own(rt: HostRuntime) {
     let alloc = rt.alloc();
     let geometry = geometry_of(&rt, alloc, &NUMBERS);
-    let image = image(&rt, alloc)?;
-    assert!(rt; image.len() == IMAGE_SIZE);
+    let image = image(&rt, alloc);
+    check(&rt, image.len() == IMAGE_SIZE, "the image's length");
     for (length, _) in image.iter().enumerate() {
-        let found = check(&image[..length], &geometry, CEILING);
-        expect_at(&rt, found, Err(refusal_of(length)), length);
+        expect_refused(&rt, &image[..length], &geometry);
     }
-    Ok(())
 }
 
 /// Resumes an image in the smallest memory, and compares status and report.
@@ -152,72 +162,82 @@ fn expect_resumed(
     status: u8,
     report: &str,
     at: usize,
-) -> Result<(), AllocError> {
-    let shelf = shelf_of(alloc, &[("I", image)])?;
+) {
+    let at = format!(in alloc; "byte {at}").expect(rt, "memory");
+    let mut shelf = shelf_of(rt, alloc, &[], &[("I", image)]);
     let line = "thynvm resume I --pages 8 --btt 8 --ptt 8";
-    let given = called(alloc, line, shelf, &[], &[])?;
-    let at = format!(in alloc; "byte {at}")?;
-    compare(rt, at.as_str(), &given, status, "", report.as_bytes());
-    Ok(())
+    let given = called(rt, alloc, line, &mut shelf);
+    compare(rt, at.as_str(), &given, status, "", report);
 }
 
+/// Lengths at which an image, and a byte more, is refused, with the report.
+static LENGTHS: [(usize, &str); 6] = [
+    (0, "image 1 Empty\n"),
+    (1, "image 1 Empty\n"),
+    (127, "image 1 Empty\n"),
+    (128, "image 4 Geometry\n"),
+    (IMAGE_SIZE - 1, "image 4 Geometry\n"),
+    (IMAGE_SIZE + 1, "image 4 Geometry\n"),
+];
+
 #[test]
-fn an_image_of_another_length_has_its_line(rt: HostRuntime) -> Result<(), Fail> {
+fn an_image_of_another_length_has_its_line(rt: HostRuntime) {
     let alloc = rt.alloc();
-    let mut image = image(&rt, alloc)?;
+    let mut image = image(&rt, alloc);
     let report = "restart 3 at 11\nexit 0 at 11\n";
-    expect_resumed(&rt, alloc, &image, 0, report, IMAGE_SIZE)?;
-    image.push(0)?;
-    for (length, report) in [
-        (0, "image 1 Empty\n"),
-        (1, "image 1 Empty\n"),
-        (127, "image 1 Empty\n"),
-        (128, "image 4 Geometry\n"),
-        (IMAGE_SIZE - 1, "image 4 Geometry\n"),
-        (IMAGE_SIZE + 1, "image 4 Geometry\n"),
-    ] {
-        let part = image.get(..length).unwrap_or(&[]);
-        expect_resumed(&rt, alloc, part, 5, report, length)?;
+    expect_resumed(&rt, alloc, &image, 0, report, IMAGE_SIZE);
+    image.push(0).expect(&rt, "memory");
+    for (length, report) in &LENGTHS {
+        let part = image.get(..*length).unwrap_or(&[]);
+        expect_resumed(&rt, alloc, part, 5, report, *length);
     }
-    Ok(())
+}
+
+/// Resumes an image with another byte at this place, and compares status and report.
+fn expect_changed(
+    rt: &impl Abort,
+    alloc: Global,
+    image: &[u8],
+    place: usize,
+    byte: u8,
+    status: u8,
+    report: &str,
+) {
+    let mut image = Vec::from_slice(alloc, image).expect(rt, "memory");
+    if let Some(old) = image.get_mut(place) {
+        *old = byte;
+    }
+    expect_resumed(rt, alloc, &image, status, report, place);
 }
 
 /// Eight bytes of a name, eight of the epoch, and zeros. With another epoch the record has another one, or it is at or
 /// past the ceiling.
 #[test]
-fn a_commit_block_with_a_byte_of_255_is_none(rt: HostRuntime) -> Result<(), Fail> {
+fn a_commit_block_with_a_byte_of_255_is_none(rt: HostRuntime) {
     let alloc = rt.alloc();
-    let image = image(&rt, alloc)?;
+    let image = image(&rt, alloc);
     for place in 64..128 {
-        let mut image = image.clone()?;
-        if let Some(byte) = image.get_mut(place) {
-            *byte = 255;
-        }
-        expect_resumed(&rt, alloc, &image, 5, "image 5 Commit\n", place)?;
+        expect_changed(&rt, alloc, &image, place, 255, 5, "image 5 Commit\n");
     }
-    Ok(())
 }
 
 /// Slot 1 has a record of five blocks, a block of each table and one of counts, which is the image's last, from byte
 /// 68,032 on. Byte p of it is page p's count, up to 63; those past page 7 are zeros.
+static COUNTS: [(usize, u8, u8, &str); 5] = [
+    (68_032, 63, 0, "restart 3 at 11\nexit 0 at 11\n"),
+    (68_032, 64, 5, "image 11 Count 0\n"),
+    (68_039, 255, 5, "image 11 Count 7\n"),
+    (68_040, 1, 5, "image 11 Count 8\n"),
+    (68_095, 1, 5, "image 11 Count 63\n"),
+];
+
 #[test]
-fn a_count_that_no_page_has_is_told_by_its_place(rt: HostRuntime) -> Result<(), Fail> {
+fn a_count_that_no_page_has_is_told_by_its_place(rt: HostRuntime) {
     let alloc = rt.alloc();
-    let image = image(&rt, alloc)?;
-    for (place, count, status, report) in [
-        (68_032, 63, 0, "restart 3 at 11\nexit 0 at 11\n"),
-        (68_032, 64, 5, "image 11 Count 0\n"),
-        (68_039, 255, 5, "image 11 Count 7\n"),
-        (68_040, 1, 5, "image 11 Count 8\n"),
-        (68_095, 1, 5, "image 11 Count 63\n"),
-    ] {
-        let mut image = image.clone()?;
-        if let Some(byte) = image.get_mut(place) {
-            *byte = count;
-        }
-        expect_resumed(&rt, alloc, &image, status, report, place)?;
+    let image = image(&rt, alloc);
+    for (place, count, status, report) in &COUNTS {
+        expect_changed(&rt, alloc, &image, *place, *count, *status, report);
     }
-    Ok(())
 }
 
 /// Lines that fetch a file that is too long by a byte, under L.
@@ -229,15 +249,13 @@ static TOO_LONG: [&str; 4] = [
 ];
 
 #[test]
-fn a_file_that_is_too_long_is_told_by_its_name(rt: HostRuntime) -> Result<(), Fail> {
+fn a_file_that_is_too_long_is_told_by_its_name(rt: HostRuntime) {
     let alloc = rt.alloc();
-    let mut held = files(alloc)?;
-    let long = Vec::from_elem(alloc, 0u8, 67_108_865)?;
-    held.push((String::from_str(alloc, "L")?, long))?;
-    let mut shelf = MemShelf::new(held, Vec::new(alloc));
+    let mut files = files(&rt, alloc);
+    let long = Vec::from_elem(alloc, 0u8, 67_108_865).expect(&rt, "memory");
+    hold(&rt, alloc, &mut files, "L", long);
+    let mut shelf = MemShelf::new(files, Vec::new(alloc));
     for line in &TOO_LONG {
-        let given = called_on(alloc, line, &mut shelf, &[], &[])?;
-        compare(&rt, line, &given, 3, "", b"fetch L too long\n");
+        expect_on(&rt, alloc, line, &mut shelf, 3, "fetch L too long\n");
     }
-    Ok(())
 }

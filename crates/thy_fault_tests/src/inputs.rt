@@ -1,8 +1,8 @@
 //! Runs of programs that have an input which they do not read.
-use crate::support::calls::{called, compare, expect};
-use crate::support::programs::{EXIT_SEVEN, files};
-use std::alloc::{AllocError, Global};
-use std::test::Fail;
+use crate::support::calls::{expect, expect_on};
+use crate::support::programs::{THREE_WORDS, files_of, hold, shelf};
+use std::alloc::Global;
+use std::process::Abort;
 use thy_out::MemShelf;
 
 /// The files that can be read, or the first that cannot; and only then whether the first file is a program.
@@ -28,12 +28,10 @@ static ORDER: [(&str, u8, &str); 14] = [
 ];
 
 #[test]
-fn file_and_input_are_fetched_in_this_order(rt: HostRuntime) -> Result<(), Fail> {
-    let alloc = rt.alloc();
+fn file_and_input_are_fetched_in_this_order(rt: HostRuntime) {
     for (line, status, report) in &ORDER {
-        expect(&rt, alloc, line, *status, report)?;
+        expect(&rt, rt.alloc(), line, *status, report);
     }
-    Ok(())
 }
 
 /// Calls on a shelf that fails at one call, the first being 1.
@@ -47,52 +45,58 @@ static FAILURES: [(&str, u64, u8, &str); 7] = [
     ("thynvm plain F", 2, 0, "exit 7 at 3\n"),
 ];
 
+/// Calls over the files of these tests on a shelf that fails at this call.
+fn expect_failing(
+    rt: &impl Abort,
+    alloc: Global,
+    line: &str,
+    failing: u64,
+    status: u8,
+    report: &str,
+) {
+    let mut shelf = shelf(rt, alloc, &[failing]);
+    expect_on(rt, alloc, line, &mut shelf, status, report);
+}
+
 #[test]
-fn a_shelf_that_fails_is_told_with_the_name(rt: HostRuntime) -> Result<(), Fail> {
+fn a_shelf_that_fails_is_told_with_the_name(rt: HostRuntime) {
     let alloc = rt.alloc();
     for (line, failing, status, report) in &FAILURES {
-        let shelf = MemShelf::new(files(alloc)?, Vec::from_slice(alloc, &[*failing])?);
-        let given = called(alloc, line, shelf, &[], &[])?;
-        compare(&rt, line, &given, *status, "", report.as_bytes());
+        expect_failing(&rt, alloc, line, *failing, *status, report);
     }
-    Ok(())
 }
 
 /// A shelf with the program that exits with 7 under the name F, and `size` zeros under I.
-fn zeros(alloc: Global, size: usize) -> Result<MemShelf, AllocError> {
-    let mut held = Vec::new(alloc);
-    let program = Vec::from_slice(alloc, EXIT_SEVEN.as_slice())?;
-    held.push((String::from_str(alloc, "F")?, program))?;
-    let input = Vec::from_elem(alloc, 0u8, size)?;
-    held.push((String::from_str(alloc, "I")?, input))?;
-    Ok(MemShelf::new(held, Vec::new(alloc)))
+fn zeros(rt: &impl Abort, alloc: Global, size: usize) -> MemShelf {
+    let mut files = files_of(rt, alloc, &[("F", THREE_WORDS)], &[]);
+    let input = Vec::from_elem(alloc, 0u8, size).expect(rt, "memory");
+    hold(rt, alloc, &mut files, "I", input);
+    MemShelf::new(files, Vec::new(alloc))
+}
+
+/// Calls over `size` zeros, and compares status and report.
+fn expect_of(rt: &impl Abort, alloc: Global, line: &str, size: usize, status: u8, report: &str) {
+    expect_on(rt, alloc, line, &mut zeros(rt, alloc, size), status, report);
 }
 
 #[test]
-fn an_input_has_at_most_67108864_bytes(rt: HostRuntime) -> Result<(), Fail> {
+fn an_input_has_at_most_67108864_bytes(rt: HostRuntime) {
     let alloc = rt.alloc();
-    for line in ["thynvm run F --input I", "thynvm plain F --input I"] {
-        let given = called(alloc, line, zeros(alloc, 67_108_865)?, &[], &[])?;
-        compare(&rt, line, &given, 3, "", b"fetch I too long\n");
-    }
+    let long = "fetch I too long\n";
+    expect_of(&rt, alloc, "thynvm run F --input I", 67_108_865, 3, long);
     let line = "thynvm plain F --input I";
-    let given = called(alloc, line, zeros(alloc, 67_108_864)?, &[], &[])?;
-    compare(&rt, line, &given, 0, "", b"exit 7 at 3\n");
-    Ok(())
+    expect_of(&rt, alloc, line, 67_108_865, 3, long);
+    expect_of(&rt, alloc, line, 67_108_864, 0, "exit 7 at 3\n");
 }
 
 #[test]
-fn a_saved_image_has_at_most_536870912_bytes(rt: HostRuntime) -> Result<(), Fail> {
+fn a_saved_image_has_at_most_536870912_bytes(rt: HostRuntime) {
     let alloc = rt.alloc();
+    let long = "fetch I too long\n";
     let line = "thynvm resume I";
-    let given = called(alloc, line, zeros(alloc, 536_870_913)?, &[], &[])?;
-    compare(&rt, line, &given, 3, "", b"fetch I too long\n");
-    let given = called(alloc, line, zeros(alloc, 536_870_912)?, &[], &[])?;
-    compare(&rt, line, &given, 5, "", b"image 1 Empty\n");
+    expect_of(&rt, alloc, line, 536_870_913, 3, long);
+    expect_of(&rt, alloc, line, 536_870_912, 5, "image 1 Empty\n");
     let line = "thynvm run I";
-    let given = called(alloc, line, zeros(alloc, 67_108_865)?, &[], &[])?;
-    compare(&rt, line, &given, 3, "", b"fetch I too long\n");
-    let given = called(alloc, line, zeros(alloc, 67_108_864)?, &[], &[])?;
-    compare(&rt, line, &given, 4, "", b"file 2 NotElf\n");
-    Ok(())
+    expect_of(&rt, alloc, line, 67_108_865, 3, long);
+    expect_of(&rt, alloc, line, 67_108_864, 4, "file 2 NotElf\n");
 }

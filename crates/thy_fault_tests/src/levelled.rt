@@ -1,12 +1,10 @@
 //! Runs with levelled wear, compared with the same runs without.
-use crate::support::calls::{Given, called_on, called_over, compare, ran};
-use crate::support::programs::files;
-use std::alloc::{AllocError, Global};
+use crate::support::calls::{Given, called, called_over, check, expect, held, ran};
+use crate::support::programs::shelf;
+use std::alloc::Global;
 use std::process::Abort;
-use std::test::Fail;
-use thy_base::{Nvm, Shelf};
+use thy_base::Nvm;
 use thy_nvm::MemNvm;
-use thy_out::MemShelf;
 
 /// Runs of the program that exits with 7, with the report.
 static ROWS: [(&str, &str); 3] = [
@@ -31,15 +29,14 @@ static ROWS: [(&str, &str); 3] = [
 ];
 
 #[test]
-fn a_run_with_a_gap_has_its_report(rt: HostRuntime) -> Result<(), Fail> {
+fn a_run_with_a_gap_has_its_report(rt: HostRuntime) {
     let alloc = rt.alloc();
     for (line, report) in &ROWS {
-        let given = ran(alloc, line)?;
-        compare(&rt, line, &given, 0, "", report.as_bytes());
+        expect(&rt, alloc, line, 0, report);
     }
-    let whole = ran(alloc, "thynvm run F --pages 8 --btt 8 --ptt 8 --gap 1")?;
-    assert!(rt; whole.cycles == 722);
-    Ok(())
+    let line = "thynvm run F --pages 8 --btt 8 --ptt 8 --gap 1";
+    let whole = ran(&rt, alloc, line);
+    check(&rt, whole.cycles == 722, line);
 }
 
 /// A gap in its place among the options: words that are refused, with the report.
@@ -54,15 +51,14 @@ static REFUSALS: [(&str, &str); 7] = [
 ];
 
 #[test]
-fn a_gap_is_read_behind_the_limit(rt: HostRuntime) -> Result<(), Fail> {
+fn a_gap_is_read_behind_the_limit(rt: HostRuntime) {
     let alloc = rt.alloc();
     for (line, report) in &REFUSALS {
-        let given = ran(alloc, line)?;
-        compare(&rt, line, &given, 2, "", report.as_bytes());
+        expect(&rt, alloc, line, 2, report);
     }
-    let given = ran(alloc, "thynvm run F --pages 8 --gap 1000000")?;
-    assert!(rt; given.status == 0);
-    Ok(())
+    let line = "thynvm run F --pages 8 --gap 1000000";
+    let given = ran(&rt, alloc, line);
+    check(&rt, given.status == 0, line);
 }
 
 /// What a run gave, what it put under I, and how many writes its device took.
@@ -73,19 +69,16 @@ struct Saved {
     writes: u64,
 }
 
-/// Runs a line and saves it under I.
-fn run_and_save(rt: &impl Abort, alloc: Global, line: &str, gap: u64) -> Result<Saved, AllocError> {
-    let mut shelf = MemShelf::new(files(alloc)?, Vec::new(alloc));
+/// Runs a line with a gap and saves it under I.
+fn run_and_save(rt: &impl Abort, alloc: Global, line: &str, gap: u64) -> Saved {
+    let line = format!(in alloc; "{line} --save I --gap {gap}").expect(rt, "memory");
+    let mut shelf = shelf(rt, alloc, &[]);
     let mut nvm = MemNvm::new(alloc);
-    let whole = format!(in alloc; "{line} --save I --gap {gap}")?;
-    let given = called_over(alloc, whole.as_str(), &mut shelf, &[], &[], &mut nvm)?;
-    match shelf.fetch(alloc, "I", 67_108_864) {
-        Ok(image) => Ok(Saved {
-            given,
-            image,
-            writes: nvm.writes(),
-        }),
-        Err(_) => rt.abort(),
+    let given = called_over(rt, alloc, line.as_str(), &mut shelf, &mut nvm);
+    Saved {
+        given,
+        image: held(rt, alloc, &mut shelf, "I"),
+        writes: nvm.writes(),
     }
 }
 
@@ -98,79 +91,63 @@ fn alike(one: &Given, other: &Given) -> bool {
 }
 
 /// Compares a run with the same run without a gap: status, cycles, terminal, report and saved image.
-fn compare_runs(rt: &impl Abort, alloc: Global, line: &str, gap: u64) -> Result<(), AllocError> {
-    let bare = run_and_save(rt, alloc, line, 0)?;
-    let levelled = run_and_save(rt, alloc, line, gap)?;
-    assert!(rt; alike(&bare.given, &levelled.given), "{line}");
-    assert!(rt;
-        bare.image.as_slice() == levelled.image.as_slice(),
-        "{line}"
-    );
-    Ok(())
+fn compare_runs(rt: &impl Abort, alloc: Global, line: &str, gap: u64) {
+    let bare = run_and_save(rt, alloc, line, 0);
+    let levelled = run_and_save(rt, alloc, line, gap);
+    check(rt, alike(&bare.given, &levelled.given), line);
+    check(rt, bare.image.as_slice() == levelled.image.as_slice(), line);
+}
+
+/// How many writes the device of a run takes.
+fn writes_of(rt: &impl Abort, alloc: Global, line: &str, gap: u64) -> u64 {
+    run_and_save(rt, alloc, line, gap).writes
 }
 
 /// A move copies a line and writes the registers. The program that exits with 7 has four barriers, each after a write.
 #[test]
-fn each_barrier_moves_a_line_where_the_gap_is_one(rt: HostRuntime) -> Result<(), Fail> {
+fn each_barrier_moves_a_line_where_the_gap_is_one(rt: HostRuntime) {
     let alloc = rt.alloc();
     let line = "thynvm run F --pages 8 --btt 8 --ptt 8";
-    let bare = run_and_save(&rt, alloc, line, 0)?;
-    let levelled = run_and_save(&rt, alloc, line, 1)?;
-    let rare = run_and_save(&rt, alloc, line, 1_000_000)?;
-    assert!(rt; levelled.writes == bare.writes.saturating_add(8));
-    assert!(rt; rare.writes == bare.writes);
-    Ok(())
+    let bare = writes_of(&rt, alloc, line, 0);
+    let levelled = writes_of(&rt, alloc, line, 1);
+    let rare = writes_of(&rt, alloc, line, 1_000_000);
+    check(&rt, levelled == bare.saturating_add(8), line);
+    check(&rt, rare == bare, line);
 }
 
-/// A cut at every `step` cycles, after which no write lands, or each one does: the run is the same without a gap.
-fn compare_cuts(
-    rt: &impl Abort,
-    alloc: Global,
-    options: &str,
-    step: u64,
-    gap: u64,
-) -> Result<(), AllocError> {
-    let whole = ran(alloc, options)?;
-    for cycle in 1..whole.cycles {
+/// A cut at a cycle, which leaves as this pick says: the run is the same without a gap.
+fn compare_cut(rt: &impl Abort, alloc: Global, run: &str, cycle: u64, tear: u64, gap: u64) {
+    let line = format!(in alloc; "{run} --cuts {cycle} --tears {tear},1").expect(rt, "memory");
+    compare_runs(rt, alloc, line.as_str(), gap);
+}
+
+/// A cut at every `step` cycles, after which no write lands, or each one does.
+fn compare_cuts(rt: &impl Abort, alloc: Global, run: &str, step: u64, gap: u64) {
+    let whole = ran(rt, alloc, run).cycles;
+    for cycle in 1..whole {
         if cycle.is_multiple_of(step) {
-            for tear in 0..2 {
-                let line = format!(in alloc; "{options} --cuts {cycle} --tears {tear},1")?;
-                compare_runs(rt, alloc, line.as_str(), gap)?;
-            }
+            compare_cut(rt, alloc, run, cycle, 0, gap);
+            compare_cut(rt, alloc, run, cycle, 1, gap);
         }
     }
-    Ok(())
 }
 
 #[test]
-fn a_cut_anywhere_leaves_the_same(rt: HostRuntime) -> Result<(), Fail> {
-    compare_cuts(
-        &rt,
-        rt.alloc(),
-        "thynvm run F --pages 8 --btt 8 --ptt 8",
-        1,
-        1,
-    )?;
-    Ok(())
+fn a_cut_anywhere_leaves_the_same(rt: HostRuntime) {
+    let run = "thynvm run F --pages 8 --btt 8 --ptt 8";
+    compare_cuts(&rt, rt.alloc(), run, 1, 1);
 }
 
 #[test]
-fn a_cut_of_exhausted_epochs_leaves_the_same(rt: HostRuntime) -> Result<(), Fail> {
-    compare_cuts(
-        &rt,
-        rt.alloc(),
-        "thynvm run N --pages 8 --btt 8 --ptt 8",
-        5,
-        1,
-    )?;
-    Ok(())
+fn a_cut_of_exhausted_epochs_leaves_the_same(rt: HostRuntime) {
+    let run = "thynvm run N --pages 8 --btt 8 --ptt 8";
+    compare_cuts(&rt, rt.alloc(), run, 5, 1);
 }
 
 #[test]
-fn a_cut_of_a_page_in_the_dram_leaves_the_same(rt: HostRuntime) -> Result<(), Fail> {
-    let options = "thynvm run D --pages 8 --btt 8 --ptt 8 --sets 1 --ways 1 --high 0 --low 0";
-    compare_cuts(&rt, rt.alloc(), options, 7, 3)?;
-    Ok(())
+fn a_cut_of_a_page_in_the_dram_leaves_the_same(rt: HostRuntime) {
+    let run = "thynvm run D --pages 8 --btt 8 --ptt 8 --sets 1 --ways 1 --high 0 --low 0";
+    compare_cuts(&rt, rt.alloc(), run, 7, 3);
 }
 
 /// Made programs, with schedules by seeds and with cuts.
@@ -182,33 +159,40 @@ static MADE: [&str; 4] = [
 ];
 
 #[test]
-fn made_programs_run_alike(rt: HostRuntime) -> Result<(), Fail> {
+fn made_programs_run_alike(rt: HostRuntime) {
     let alloc = rt.alloc();
     for line in &MADE {
-        compare_runs(&rt, alloc, line, 1)?;
-        compare_runs(&rt, alloc, line, 100)?;
+        compare_runs(&rt, alloc, line, 1);
+        compare_runs(&rt, alloc, line, 100);
     }
-    Ok(())
 }
 
-/// Resumes what a run with this gap has saved under I, with another gap.
-fn resumed(alloc: Global, line: &str, gap: u64, other: u64) -> Result<Given, AllocError> {
-    let mut shelf = MemShelf::new(files(alloc)?, Vec::new(alloc));
-    let first = format!(in alloc; "{line} --limit 800 --save I --gap {gap}")?;
-    let _ = called_on(alloc, first.as_str(), &mut shelf, &[], &[])?;
-    let second = format!(in alloc; "thynvm resume I --pages 8 --btt 8 --ptt 8 --gap {other}")?;
-    called_on(alloc, second.as_str(), &mut shelf, &[], &[])
+/// Resumes with another gap what a run with this one has saved under I.
+fn resumed(rt: &impl Abort, alloc: Global, gap: u64, other: u64) -> Given {
+    let first = format!(in alloc;
+        "thynvm run N --pages 8 --btt 8 --ptt 8 --limit 800 --save I --gap {gap}"
+    ).expect(rt, "memory");
+    let second = format!(in alloc;
+        "thynvm resume I --pages 8 --btt 8 --ptt 8 --gap {other}"
+    ).expect(rt, "memory");
+    let mut shelf = shelf(rt, alloc, &[]);
+    called(rt, alloc, first.as_str(), &mut shelf);
+    called(rt, alloc, second.as_str(), &mut shelf)
+}
+
+/// Compares it with a run that has no gap at all.
+fn resume_alike(rt: &impl Abort, alloc: Global, gap: u64, other: u64, bare: &Given, at: &str) {
+    let given = resumed(rt, alloc, gap, other);
+    check(rt, alike(&given, bare), at);
 }
 
 #[test]
-fn what_was_saved_with_a_gap_is_resumed_without(rt: HostRuntime) -> Result<(), Fail> {
+fn what_was_saved_with_a_gap_is_resumed_without(rt: HostRuntime) {
     let alloc = rt.alloc();
-    let line = "thynvm run N --pages 8 --btt 8 --ptt 8";
-    let bare = resumed(alloc, line, 0, 0)?;
-    assert!(rt; bare.status == 0 && bare.report.as_slice().ends_with(b"exit 0 at 11\n"));
-    for (gap, other) in [(1, 0), (0, 1), (1, 2)] {
-        let given = resumed(alloc, line, gap, other)?;
-        assert!(rt; alike(&given, &bare), "{gap} {other}");
-    }
-    Ok(())
+    let bare = resumed(&rt, alloc, 0, 0);
+    let ends = bare.report.as_slice().ends_with(b"exit 0 at 11\n");
+    check(&rt, bare.status == 0 && ends, "without a gap");
+    resume_alike(&rt, alloc, 1, 0, &bare, "gap 1, then none");
+    resume_alike(&rt, alloc, 0, 1, &bare, "no gap, then 1");
+    resume_alike(&rt, alloc, 1, 2, &bare, "gap 1, then 2");
 }

@@ -1,12 +1,19 @@
 //! A saved image of layout version 1, resumed: its boot writes the checkpoint anew in version 2.
-use crate::support::calls::{Given, called_on, called_over, compare};
+use crate::support::calls::{
+    Given, called, called_over, check, compare, expect_on, failing_at, held,
+};
 use crate::support::programs::shelf_of;
-use std::alloc::{AllocError, Global};
+use std::alloc::Global;
 use std::process::Abort;
-use std::test::Fail;
-use thy_base::Shelf;
 use thy_nvm::MemNvm;
 use thy_out::MemShelf;
+
+/// The image is resumed, with what is reported. What a run saves under T is resumed in the same way.
+const RESUMES: &str = "thynvm resume D --pages 8 --btt 8 --ptt 8";
+
+const RESUMES_AGAIN: &str = "thynvm resume T --pages 8 --btt 8 --ptt 8";
+
+const RESTORED: &str = "restart 3 at 11\nexit 0 at 11\n";
 
 /// How many bytes an image of version 1 has here, and of version 2.
 const BYTES_ONE: usize = 67_072;
@@ -63,8 +70,8 @@ fn put(bytes: &mut [u8], at: usize, word: u64) {
 }
 
 /// The image, in `size` bytes.
-fn saved(alloc: Global, size: usize) -> Result<Vec<u8>, AllocError> {
-    let mut bytes = vec![in alloc; 0u8; size]?;
+fn saved(rt: &impl Abort, alloc: Global, size: usize) -> Vec<u8> {
+    let mut bytes = vec![in alloc; 0u8; size].expect(rt, "memory");
     let image = bytes.as_mut_slice();
     for (at, word) in &SAVED {
         put(image, *at, *word);
@@ -72,154 +79,147 @@ fn saved(alloc: Global, size: usize) -> Result<Vec<u8>, AllocError> {
     for (i, word) in PROGRAM.iter().enumerate() {
         put(image, 1032 + 8 * i, *word);
     }
-    Ok(bytes)
+    bytes
 }
 
 /// A shelf that holds the image under D.
-fn shelf(alloc: Global, size: usize) -> Result<MemShelf, AllocError> {
-    let image = saved(alloc, size)?;
-    shelf_of(alloc, &[("D", image.as_slice())])
+fn shelf(rt: &impl Abort, alloc: Global, size: usize) -> MemShelf {
+    let image = saved(rt, alloc, size);
+    shelf_of(rt, alloc, &[], &[("D", image.as_slice())])
 }
 
 /// Resumes the image with these words after the parameters.
-fn resumed(alloc: Global, size: usize, more: &str) -> Result<Given, AllocError> {
-    let mut shelf = shelf(alloc, size)?;
-    let line = format!(in alloc; "thynvm resume D --pages 8 --btt 8 --ptt 8{more}")?;
-    called_on(alloc, line.as_str(), &mut shelf, &[], &[])
+fn resumed(rt: &impl Abort, alloc: Global, size: usize, more: &str) -> Given {
+    let line = format!(in alloc; "{RESUMES}{more}").expect(rt, "memory");
+    called(rt, alloc, line.as_str(), &mut shelf(rt, alloc, size))
 }
 
 /// The boot reads header and commit block and the seven blocks of the slot, in cycles 1 to 9. It writes the eight blocks
 /// of the new slot from cycle 10 on, with a drain in cycles 11, 15 and 19. There is a barrier in cycle 21, the commit block
 /// in cycle 22, a drain in cycle 23, and the last barrier in cycle 24.
-#[test]
-fn an_image_of_version_1_is_resumed_and_migrated(rt: HostRuntime) -> Result<(), Fail> {
-    for size in [BYTES_ONE, BYTES_TWO] {
-        let given = resumed(rt.alloc(), size, "")?;
-        let told = "restart 3 at 11\nexit 0 at 11\n";
-        compare(&rt, "resume D", &given, 0, "", told.as_bytes());
-        assert!(rt; given.cycles == 24);
-    }
-    Ok(())
+fn migrates(rt: &impl Abort, alloc: Global, size: usize) {
+    let given = resumed(rt, alloc, size, "");
+    compare(rt, RESUMES, &given, 0, "", RESTORED);
+    check(rt, given.cycles == 24, RESUMES);
 }
 
-/// Wherever power is cut meanwhile, the next boot restores the same checkpoint.
 #[test]
-fn a_migration_is_cut_at_each_of_its_cycles(rt: HostRuntime) -> Result<(), Fail> {
-    let alloc = rt.alloc();
-    for cycle in 1..24 {
-        for tears in 0..2 {
-            let more = format!(in alloc; " --cuts {cycle} --tears {tears}")?;
-            let given = resumed(alloc, BYTES_ONE, more.as_str())?;
-            let told = format!(in alloc;
-                "cut 1 at cycle {cycle}\nrestart 3 at 11\nexit 0 at 11\n"
-            )?;
-            compare(&rt, more.as_str(), &given, 0, "", told.as_bytes());
-        }
-    }
-    Ok(())
+fn an_image_of_version_1_is_resumed_and_migrated(rt: HostRuntime) {
+    migrates(&rt, rt.alloc(), BYTES_ONE);
+    migrates(&rt, rt.alloc(), BYTES_TWO);
 }
 
-/// What the run saves then is of version 2: the header stays, and the commit block names version 2 and the same epoch.
-/// The slot has the blocks of the old one and a block of zeros, and it is restored without a migration.
+/// Power is cut after this cycle: the next boot restores the same checkpoint.
+fn cut_after(rt: &impl Abort, alloc: Global, cycle: u64, tears: u64) {
+    let more = format!(in alloc; " --cuts {cycle} --tears {tears}").expect(rt, "memory");
+    let given = resumed(rt, alloc, BYTES_ONE, more.as_str());
+    let told = format!(in alloc; "cut 1 at cycle {cycle}\n{RESTORED}").expect(rt, "memory");
+    compare(rt, more.as_str(), &given, 0, "", told.as_str());
+}
+
 #[test]
-fn what_is_saved_after_a_migration_is_of_version_2(rt: HostRuntime) -> Result<(), Fail> {
+fn a_migration_is_cut_at_each_of_its_cycles(rt: HostRuntime) {
     let alloc = rt.alloc();
-    let mut shelf = shelf(alloc, BYTES_ONE)?;
-    let told = "restart 3 at 11\nexit 0 at 11\n";
-    let line = "thynvm resume D --pages 8 --btt 8 --ptt 8 --save T";
-    let given = called_on(alloc, line, &mut shelf, &[], &[])?;
-    compare(&rt, line, &given, 0, "", told.as_bytes());
-    let mut want = saved(alloc, BYTES_TWO)?;
-    put(want.as_mut_slice(), 64, 0x3254_4d43_4e59_4854);
-    for (at, word) in &SAVED {
-        if *at >= 576 && *at < 1024 {
-            put(want.as_mut_slice(), SLOT + (*at - 576), *word);
-        }
+    for cycle in 1..24u64 {
+        cut_after(&rt, alloc, cycle, 0);
+        cut_after(&rt, alloc, cycle, 1);
     }
-    let image = shelf
-        .fetch(alloc, "T", 67_108_864)
-        .unwrap_or(Vec::new(alloc));
-    assert!(rt; image.as_slice() == want.as_slice());
-    let line = "thynvm resume T --pages 8 --btt 8 --ptt 8";
-    let given = called_on(alloc, line, &mut shelf, &[], &[])?;
-    compare(&rt, line, &given, 0, "", told.as_bytes());
-    assert!(rt; given.cycles == 10);
-    Ok(())
 }
 
 /// Resumes what was saved under T, over a device that never fails: it has the same checkpoint. Returns the cycles.
-fn restores(
-    rt: &impl Abort,
-    alloc: Global,
-    shelf: &mut MemShelf,
-    behind: &str,
-) -> Result<u64, AllocError> {
-    let line = "thynvm resume T --pages 8 --btt 8 --ptt 8";
-    let given = called_on(alloc, line, shelf, &[], &[])?;
-    let told = "restart 3 at 11\nexit 0 at 11\n";
-    compare(rt, behind, &given, 0, "", told.as_bytes());
-    Ok(given.cycles)
+fn restores(rt: &impl Abort, alloc: Global, shelf: &mut MemShelf, behind: &str) -> u64 {
+    let given = called(rt, alloc, RESUMES_AGAIN, shelf);
+    compare(rt, behind, &given, 0, "", RESTORED);
+    given.cycles
 }
 
-/// Resumes it over this device and saves what a last cut of this pick leaves under T: the device fails.
-fn fails_over(
-    rt: &impl Abort,
-    alloc: Global,
-    mut nvm: MemNvm,
-    call: u64,
-    pick: u64,
-) -> Result<(), AllocError> {
-    let mut shelf = shelf(alloc, BYTES_ONE)?;
-    let line = format!(in alloc;
-        "thynvm resume D --pages 8 --btt 8 --ptt 8 --save T --tears {pick}"
-    )?;
-    let at = format!(in alloc; "call {call} of {line}")?;
-    let given = called_over(alloc, line.as_str(), &mut shelf, &[], &[], &mut nvm)?;
-    compare(rt, at.as_str(), &given, 7, "", b"nvm failed\n");
-    restores(rt, alloc, &mut shelf, at.as_str())?;
-    Ok(())
+/// The image of version 2 that is saved after a migration: the header stays, and the commit block names version 2 and the
+/// same epoch. The slot has the blocks of the old one and a block of zeros.
+fn migrated(rt: &impl Abort, alloc: Global) -> Vec<u8> {
+    let mut bytes = saved(rt, alloc, BYTES_TWO);
+    let image = bytes.as_mut_slice();
+    put(image, 64, 0x3254_4d43_4e59_4854);
+    for (at, word) in &SAVED {
+        if *at >= 576 && *at < 1024 {
+            put(image, SLOT + (*at - 576), *word);
+        }
+    }
+    bytes
+}
+
+/// It is restored without a migration.
+#[test]
+fn what_is_saved_after_a_migration_is_of_version_2(rt: HostRuntime) {
+    let alloc = rt.alloc();
+    let mut shelf = shelf(&rt, alloc, BYTES_ONE);
+    let line = "thynvm resume D --pages 8 --btt 8 --ptt 8 --save T";
+    expect_on(&rt, alloc, line, &mut shelf, 0, RESTORED);
+    let image = held(&rt, alloc, &mut shelf, "T");
+    let want = migrated(&rt, alloc);
+    check(&rt, image.as_slice() == want.as_slice(), line);
+    let cycles = restores(&rt, alloc, &mut shelf, RESUMES_AGAIN);
+    check(&rt, cycles == 10, RESUMES_AGAIN);
+}
+
+/// Resumes it over a device that fails at this call, and saves what a last cut of this pick leaves under T.
+fn fails_at(rt: &impl Abort, alloc: Global, call: u64, is_late: bool, pick: u64) {
+    let line = format!(in alloc; "{RESUMES} --save T --tears {pick}").expect(rt, "memory");
+    let at = format!(in alloc; "call {call} of {line}").expect(rt, "memory");
+    let mut shelf = shelf(rt, alloc, BYTES_ONE);
+    let mut nvm = failing_at(rt, alloc, call, is_late);
+    let given = called_over(rt, alloc, line.as_str(), &mut shelf, &mut nvm);
+    compare(rt, at.as_str(), &given, 7, "", "nvm failed\n");
+    restores(rt, alloc, &mut shelf, at.as_str());
 }
 
 /// Each of its 24 cycles makes one call of the NVM. Whichever fails, and whether or not it is done, the next boot
-/// restores the same checkpoint. After them the states of the restart and of the end are read, each with the 448 blocks
-/// of program memory, and nothing else is called.
-#[test]
-fn each_call_of_a_migration_may_fail(rt: HostRuntime) -> Result<(), Fail> {
-    let alloc = rt.alloc();
-    for call in 1..25 {
-        for pick in 0..2 {
-            fails_over(&rt, alloc, MemNvm::failing(alloc, &[call])?, call, pick)?;
-            fails_over(&rt, alloc, MemNvm::late(alloc, &[call])?, call, pick)?;
-        }
+/// restores the same checkpoint.
+fn each_call_fails(rt: &impl Abort, alloc: Global, is_late: bool) {
+    for call in 1..25u64 {
+        fails_at(rt, alloc, call, is_late, 0);
+        fails_at(rt, alloc, call, is_late, 1);
     }
-    let mut shelf = shelf(alloc, BYTES_ONE)?;
-    let mut nvm = MemNvm::new(alloc);
-    let line = "thynvm resume D --pages 8 --btt 8 --ptt 8";
-    let given = called_over(alloc, line, &mut shelf, &[], &[], &mut nvm)?;
-    let told = "restart 3 at 11\nexit 0 at 11\n";
-    compare(&rt, line, &given, 0, "", told.as_bytes());
-    assert!(rt; nvm.calls() == 24 + 2 * 448);
-    Ok(())
 }
 
-/// A run that stops at its limit meanwhile saves an image in which the new slot may be written in part. It is read, and
-/// migrated again, unless the commit block of version 2 has landed: by the drain in cycle 23, or by the last cut.
+/// After them the states of the restart and of the end are read, each with the 448 blocks of program memory, and nothing
+/// else is called.
 #[test]
-fn a_migration_is_stopped_after_each_of_its_cycles(rt: HostRuntime) -> Result<(), Fail> {
+fn each_call_of_a_migration_may_fail(rt: HostRuntime) {
     let alloc = rt.alloc();
-    for limit in 1..24 {
-        for pick in 0..2 {
-            let mut shelf = shelf(alloc, BYTES_ONE)?;
-            let line = format!(in alloc;
-                "thynvm resume D --pages 8 --btt 8 --ptt 8 --limit {limit} --save T --tears {pick}"
-            )?;
-            let given = called_on(alloc, line.as_str(), &mut shelf, &[], &[])?;
-            let told = format!(in alloc; "limit {limit}\n")?;
-            compare(&rt, line.as_str(), &given, 8, "", told.as_bytes());
-            let cycles = restores(&rt, alloc, &mut shelf, line.as_str())?;
-            let is_new = limit > 22 || limit == 22 && pick == 1;
-            assert!(rt; cycles == if is_new { 10 } else { 24 }, "{line}");
-        }
+    each_call_fails(&rt, alloc, false);
+    each_call_fails(&rt, alloc, true);
+    let mut nvm = MemNvm::new(alloc);
+    let mut shelf = shelf(&rt, alloc, BYTES_ONE);
+    let given = called_over(&rt, alloc, RESUMES, &mut shelf, &mut nvm);
+    compare(&rt, RESUMES, &given, 0, "", RESTORED);
+    check(&rt, nvm.calls() == 24 + 2 * 448, RESUMES);
+}
+
+/// Stops at this limit and saves what a last cut of this pick leaves: it is read, and migrated again unless the commit
+/// block of version 2 has landed.
+fn stops_after(rt: &impl Abort, alloc: Global, limit: u64, pick: u64, has_landed: bool) {
+    let line = format!(in alloc; "{RESUMES} --limit {limit} --save T --tears {pick}").expect(
+        rt, "memory",
+    );
+    let told = format!(in alloc; "limit {limit}\n").expect(rt, "memory");
+    let mut shelf = shelf(rt, alloc, BYTES_ONE);
+    let given = called(rt, alloc, line.as_str(), &mut shelf);
+    compare(rt, line.as_str(), &given, 8, "", told.as_str());
+    let cycles = restores(rt, alloc, &mut shelf, line.as_str());
+    check(
+        rt,
+        cycles == if has_landed { 10 } else { 24 },
+        line.as_str(),
+    );
+}
+
+/// A run that stops at its limit meanwhile saves an image in which the new slot may be written in part. The commit block
+/// of version 2 has landed by the drain in cycle 23, or by the last cut.
+#[test]
+fn a_migration_is_stopped_after_each_of_its_cycles(rt: HostRuntime) {
+    let alloc = rt.alloc();
+    for limit in 1..24u64 {
+        stops_after(&rt, alloc, limit, 0, limit > 22);
+        stops_after(&rt, alloc, limit, 1, limit >= 22);
     }
-    Ok(())
 }

@@ -8,39 +8,12 @@ mod misaligned;
 mod programs;
 mod two_harts;
 
-use console::HELLO;
-use epochs::{FOUR_INSTRUCTIONS, NINE_STORES, NINE_STORES_TWICE};
-use programs::file_of;
-use std::alloc::{AllocError, Global};
+use programs::{hold, shelf};
+use std::alloc::Global;
 use std::process::Abort;
-use std::test::Fail;
-use thy_base::{Nvm, Shelf};
-use thy_cli::thynvm;
+use thy_cli::{Answer, thynvm};
 use thy_nvm::MemNvm;
 use thy_out::{MemShelf, MemSink};
-
-/// A program file of three instructions at the address 65536: `addi a7,zero,93; addi a0,zero,7; ecall`.
-static EXIT_SEVEN: [u8; 132] = [
-    0x7f, 0x45, 0x4c, 0x46, 0x02, 0x01, 0x01, 0x00, 0x00, 0x00, 0x00, 0x00, 0x00, 0x00, 0x00, 0x00,
-    0x02, 0x00, 0xf3, 0x00, 0x01, 0x00, 0x00, 0x00, 0x00, 0x00, 0x01, 0x00, 0x00, 0x00, 0x00, 0x00,
-    0x40, 0x00, 0x00, 0x00, 0x00, 0x00, 0x00, 0x00, 0x00, 0x00, 0x00, 0x00, 0x00, 0x00, 0x00, 0x00,
-    0x00, 0x00, 0x00, 0x00, 0x40, 0x00, 0x38, 0x00, 0x01, 0x00, 0x00, 0x00, 0x00, 0x00, 0x00, 0x00,
-    0x01, 0x00, 0x00, 0x00, 0x07, 0x00, 0x00, 0x00, 0x78, 0x00, 0x00, 0x00, 0x00, 0x00, 0x00, 0x00,
-    0x00, 0x00, 0x01, 0x00, 0x00, 0x00, 0x00, 0x00, 0x00, 0x00, 0x01, 0x00, 0x00, 0x00, 0x00, 0x00,
-    0x0c, 0x00, 0x00, 0x00, 0x00, 0x00, 0x00, 0x00, 0x0c, 0x00, 0x00, 0x00, 0x00, 0x00, 0x00, 0x00,
-    0x04, 0x00, 0x00, 0x00, 0x00, 0x00, 0x00, 0x00, 0x93, 0x08, 0xd0, 0x05, 0x13, 0x05, 0x70, 0x00,
-    0x73, 0x00, 0x00, 0x00,
-];
-
-/// `auipc t0,0; lw t1,24(t0); sw t1,16(t0); fence.i; addi a0,zero,1; jal zero,+8; addi a0,zero,9; addi a7,zero,93;
-/// ecall`: it writes its seventh word over its fifth.
-static SELF_MODIFYING: [u32; 9] = [
-    0x00000297, 0x0182a303, 0x0062a823, 0x0000100f, 0x00100513, 0x0080006f, 0x00900513, 0x05d00893,
-    0x00000073,
-];
-
-/// One word, which is not an instruction.
-static NO_INSTRUCTION: [u32; 1] = [0];
 
 /// What a call gave.
 #[derive(Drop)]
@@ -52,108 +25,142 @@ struct Given {
     report: Vec<u8>,
 }
 
-/// The files of these tests: the program that exits with 7 under the name F, the one that modifies itself under S, the
-/// one that is not a program under Z, and 63 bytes of the first under G. The program that prints is under P, and the
-/// programs of several epochs are under E, N and D.
-fn files(alloc: Global) -> Result<Vec<(String, Vec<u8>)>, AllocError> {
-    let modifying = file_of(alloc, 0, &SELF_MODIFYING)?;
-    let nothing = file_of(alloc, 0, &NO_INSTRUCTION)?;
-    let printing = file_of(alloc, 0, &HELLO)?;
-    let short = file_of(alloc, 0, &FOUR_INSTRUCTIONS)?;
-    let storing = file_of(alloc, 0, &NINE_STORES)?;
-    let storing_twice = file_of(alloc, 0, &NINE_STORES_TWICE)?;
-    let mut files = Vec::new(alloc);
-    for (name, bytes) in [
-        ("F", EXIT_SEVEN.as_slice()),
-        ("S", modifying.as_slice()),
-        ("Z", nothing.as_slice()),
-        ("G", &EXIT_SEVEN[..63]),
-        ("P", printing.as_slice()),
-        ("E", short.as_slice()),
-        ("N", storing.as_slice()),
-        ("D", storing_twice.as_slice()),
-    ] {
-        files.push((
-            String::from_str(alloc, name)?,
-            Vec::from_slice(alloc, bytes)?,
-        ))?;
+/// The arguments of a line, which separates them by spaces.
+fn arguments_of(rt: &impl Abort, alloc: Global, line: &str) -> Vec<String> {
+    let mut arguments = Vec::new(alloc);
+    for argument in line.split(' ') {
+        push(rt, alloc, &mut arguments, argument);
     }
-    Ok(files)
+    arguments
 }
 
-/// Calls with the arguments, separated by spaces, over this shelf, and a terminal and a report that fail at these calls.
-fn called(
-    alloc: Global,
-    line: &str,
-    mut shelf: MemShelf,
-    unseen: &[u64],
-    untold: &[u64],
-) -> Result<Given, AllocError> {
-    called_on(alloc, line, &mut shelf, unseen, untold)
+/// Adds an argument.
+fn push(rt: &impl Abort, alloc: Global, arguments: &mut Vec<String>, argument: &str) {
+    let argument = String::from_str(alloc, argument).expect(rt, "memory");
+    arguments.push(argument).expect(rt, "memory");
 }
 
-/// Calls with the arguments, separated by spaces, over a shelf that is kept, and a terminal and a report that fail at
+/// A terminal or a report that fails at these calls.
+fn sink(rt: &impl Abort, alloc: Global, failing: &[u64]) -> MemSink {
+    let failing = Vec::from_slice(alloc, failing).expect(rt, "memory");
+    MemSink::new(alloc, 65_536, failing).expect(rt, "memory")
+}
+
+/// What a sink has taken.
+fn taken(rt: &impl Abort, alloc: Global, sink: &MemSink) -> Vec<u8> {
+    Vec::from_slice(alloc, sink.taken()).expect(rt, "memory")
+}
+
+/// What the call returns that a line asks for over this shelf and a new device.
+fn answered(rt: &impl Abort, alloc: Global, line: &str, shelf: &mut MemShelf) -> Answer {
+    let arguments = arguments_of(rt, alloc, line);
+    let mut terminal = sink(rt, alloc, &[]);
+    let mut report = sink(rt, alloc, &[]);
+    let mut nvm = MemNvm::new(alloc);
+    thynvm(
+        alloc,
+        &arguments,
+        shelf,
+        &mut terminal,
+        &mut report,
+        &mut nvm,
+    )
+}
+
+/// Calls with the arguments of a line over this shelf, over this device, and over a terminal and a report that fail at
 /// these calls.
-fn called_on(
+fn called_over(
+    rt: &impl Abort,
     alloc: Global,
     line: &str,
     shelf: &mut MemShelf,
     unseen: &[u64],
     untold: &[u64],
-) -> Result<Given, AllocError> {
-    let mut nvm = MemNvm::new(alloc);
-    called_over(alloc, line, shelf, unseen, untold, &mut nvm)
-}
-
-/// Calls with the arguments, separated by spaces, over any shelf, over this device, and over a terminal and a report
-/// that fail at these calls.
-fn called_over<H: Shelf, N: Nvm>(
-    alloc: Global,
-    line: &str,
-    shelf: &mut H,
-    unseen: &[u64],
-    untold: &[u64],
-    nvm: &mut N,
-) -> Result<Given, AllocError> {
-    let mut words = Vec::new(alloc);
-    for word in line.split(' ') {
-        words.push(String::from_str(alloc, word)?)?;
-    }
-    let mut terminal = MemSink::new(alloc, 65_536, Vec::from_slice(alloc, unseen)?)?;
-    let mut report = MemSink::new(alloc, 65_536, Vec::from_slice(alloc, untold)?)?;
-    let answer = thynvm(alloc, &words, shelf, &mut terminal, &mut report, nvm);
-    Ok(Given {
+    nvm: &mut MemNvm,
+) -> Given {
+    let arguments = arguments_of(rt, alloc, line);
+    let mut terminal = sink(rt, alloc, unseen);
+    let mut report = sink(rt, alloc, untold);
+    let answer = thynvm(alloc, &arguments, shelf, &mut terminal, &mut report, nvm);
+    Given {
         status: answer.status,
         cycles: answer.cycles,
-        printed: Vec::from_slice(alloc, terminal.taken())?,
-        report: Vec::from_slice(alloc, report.taken())?,
-    })
+        printed: taken(rt, alloc, &terminal),
+        report: taken(rt, alloc, &report),
+    }
 }
 
-/// Calls with the arguments, separated by spaces, over the files of these tests.
-fn ran(alloc: Global, line: &str) -> Result<Given, AllocError> {
-    let shelf = MemShelf::new(files(alloc)?, Vec::new(alloc));
-    called(alloc, line, shelf, &[], &[])
+/// Calls with the arguments of a line over this shelf.
+fn called(rt: &impl Abort, alloc: Global, line: &str, shelf: &mut MemShelf) -> Given {
+    called_over(rt, alloc, line, shelf, &[], &[], &mut MemNvm::new(alloc))
+}
+
+/// Calls with the arguments of a line over this shelf, and over a report that fails at this call.
+fn called_untold(
+    rt: &impl Abort,
+    alloc: Global,
+    line: &str,
+    shelf: &mut MemShelf,
+    failing: u64,
+) -> Given {
+    called_over(
+        rt,
+        alloc,
+        line,
+        shelf,
+        &[],
+        &[failing],
+        &mut MemNvm::new(alloc),
+    )
+}
+
+/// Calls with the arguments of a line over the files of these tests.
+fn ran(rt: &impl Abort, alloc: Global, line: &str) -> Given {
+    called(rt, alloc, line, &mut shelf(rt, alloc, &[]))
+}
+
+/// Stops the test unless this holds of a row, which `at` names.
+fn check(rt: &impl Abort, holds: bool, at: &str) {
+    assert!(rt; holds, "{at}");
 }
 
 /// Compares what a call gave with a status, what the terminal takes, and a report.
-fn compare(rt: &impl Abort, line: &str, given: &Given, status: u8, printed: &str, report: &[u8]) {
+fn compare(rt: &impl Abort, at: &str, given: &Given, status: u8, printed: &str, report: &str) {
     let is_shown = given.printed.as_slice() == printed.as_bytes();
-    let is_told = given.report.as_slice() == report;
-    assert!(rt; given.status == status && is_shown && is_told, "{line}");
+    let is_told = given.report.as_slice() == report.as_bytes();
+    check(rt, given.status == status && is_shown && is_told, at);
 }
 
-/// Runs a line and compares its status and its report.
-fn expect(
+/// Calls over this shelf and compares status and report; nothing is printed.
+fn expect_on(
+    rt: &impl Abort,
+    alloc: Global,
+    line: &str,
+    shelf: &mut MemShelf,
+    status: u8,
+    report: &str,
+) {
+    let given = called(rt, alloc, line, shelf);
+    compare(rt, line, &given, status, "", report);
+}
+
+/// Calls over the files of these tests and compares status and report; nothing is printed.
+fn expect(rt: &impl Abort, alloc: Global, line: &str, status: u8, report: &str) {
+    expect_on(rt, alloc, line, &mut shelf(rt, alloc, &[]), status, report);
+}
+
+/// Calls over the files of these tests and compares status, cycles and report; nothing is printed.
+fn expect_cycles(
     rt: &impl Abort,
     alloc: Global,
     line: &str,
     status: u8,
+    cycles: u64,
     report: &str,
-) -> Result<(), AllocError> {
-    let given = ran(alloc, line)?;
-    compare(rt, line, &given, status, "", report.as_bytes());
-    Ok(())
+) {
+    let given = ran(rt, alloc, line);
+    compare(rt, line, &given, status, "", report);
+    check(rt, given.cycles == cycles, line);
 }
 
 /// Runs that stop, with status, cycles (of `plain`: steps) and report.
@@ -184,14 +191,11 @@ static RUNS: [(&str, u8, u64, &str); 8] = [
 ];
 
 #[test]
-fn runs_take_their_cycles(rt: HostRuntime) -> Result<(), Fail> {
+fn runs_take_their_cycles(rt: HostRuntime) {
     let alloc = rt.alloc();
     for (line, status, cycles, report) in &RUNS {
-        let given = ran(alloc, line)?;
-        compare(&rt, line, &given, *status, "", report.as_bytes());
-        assert!(rt; given.cycles == *cycles, "{line}");
+        expect_cycles(&rt, alloc, line, *status, *cycles, report);
     }
-    Ok(())
 }
 
 /// Words that begin no run, with the status and the report.
@@ -227,55 +231,69 @@ static REFUSALS: [(&str, u8, &str); 24] = [
 ];
 
 #[test]
-fn each_refusal_has_its_line(rt: HostRuntime) -> Result<(), Fail> {
+fn each_refusal_has_its_line(rt: HostRuntime) {
     let alloc = rt.alloc();
     for (line, status, report) in &REFUSALS {
-        expect(&rt, alloc, line, *status, report)?;
+        expect(&rt, alloc, line, *status, report);
     }
-    Ok(())
 }
 
 /// A shelf on which a file is too long by a byte.
-fn long_shelf(alloc: Global) -> Result<MemShelf, AllocError> {
-    let mut held = Vec::new(alloc);
-    let file = Vec::from_elem(alloc, 0u8, 67_108_865)?;
-    held.push((String::from_str(alloc, "F")?, file))?;
-    Ok(MemShelf::new(held, Vec::new(alloc)))
+fn long_shelf(rt: &impl Abort, alloc: Global) -> MemShelf {
+    let mut files = Vec::new(alloc);
+    let file = Vec::from_elem(alloc, 0u8, 67_108_865).expect(rt, "memory");
+    hold(rt, alloc, &mut files, "F", file);
+    MemShelf::new(files, Vec::new(alloc))
+}
+
+/// Calls over a shelf that fails, and over that one.
+fn expect_not_fetched(rt: &impl Abort, alloc: Global, line: &str) {
+    expect_on(
+        rt,
+        alloc,
+        line,
+        &mut shelf(rt, alloc, &[1]),
+        3,
+        "fetch F failed\n",
+    );
+    expect_on(
+        rt,
+        alloc,
+        line,
+        &mut long_shelf(rt, alloc),
+        3,
+        "fetch F too long\n",
+    );
 }
 
 #[test]
-fn a_file_that_is_not_fetched_has_its_line(rt: HostRuntime) -> Result<(), Fail> {
+fn a_file_that_is_not_fetched_has_its_line(rt: HostRuntime) {
     let alloc = rt.alloc();
-    for line in ["thynvm run F", "thynvm plain F"] {
-        let failing = MemShelf::new(files(alloc)?, Vec::from_slice(alloc, &[1])?);
-        let given = called(alloc, line, failing, &[], &[])?;
-        compare(&rt, line, &given, 3, "", b"fetch F failed\n");
-        let given = called(alloc, line, long_shelf(alloc)?, &[], &[])?;
-        compare(&rt, line, &given, 3, "", b"fetch F too long\n");
-    }
-    Ok(())
+    expect_not_fetched(&rt, alloc, "thynvm run F");
+    expect_not_fetched(&rt, alloc, "thynvm plain F");
 }
 
-/// The report of the program that exits with 7. Each line is written at once.
-static LINES: [&str; 4] = [
+/// The lines of the program that exits with 7 before each of its four. Each line is written at once.
+static BEFORE: [&str; 4] = [
+    "",
     "commit 0 overlapped 0\n",
-    "epoch 1 ends at 3 by end\n",
-    "commit 1 overlapped 0\n",
-    "exit 7 at 3\n",
+    "commit 0 overlapped 0\nepoch 1 ends at 3 by end\n",
+    "commit 0 overlapped 0\nepoch 1 ends at 3 by end\ncommit 1 overlapped 0\n",
 ];
 
+/// Runs it with a report that fails at this call, the first being 1, and compares the lines before.
+fn expect_untold(rt: &impl Abort, alloc: Global, failing: u64, before: &str) {
+    let line = "thynvm run F --pages 8";
+    let given = called_untold(rt, alloc, line, &mut shelf(rt, alloc, &[]), failing);
+    compare(rt, line, &given, 6, "", before);
+}
+
 #[test]
-fn a_report_that_fails_has_taken_the_lines_before(rt: HostRuntime) -> Result<(), Fail> {
+fn a_report_that_fails_has_taken_the_lines_before(rt: HostRuntime) {
     let alloc = rt.alloc();
-    let mut before = Vec::new(alloc);
-    for (k, text) in LINES.iter().enumerate() {
-        let shelf = MemShelf::new(files(alloc)?, Vec::new(alloc));
-        let line = "thynvm run F --pages 8";
-        let given = called(alloc, line, shelf, &[], &[k as u64 + 1])?;
-        compare(&rt, line, &given, 6, "", before.as_slice());
-        before.extend_from_slice(text.as_bytes())?;
+    for (k, before) in BEFORE.iter().enumerate() {
+        expect_untold(&rt, alloc, k as u64 + 1, before);
     }
-    Ok(())
 }
 
 /// Runs that exit, with a report that has digests.
@@ -297,12 +315,11 @@ static DIGESTS: [(&str, &str); 2] = [
 ];
 
 #[test]
-fn digests_are_those_of_another_program(rt: HostRuntime) -> Result<(), Fail> {
+fn digests_are_those_of_another_program(rt: HostRuntime) {
     let alloc = rt.alloc();
     for (line, report) in &DIGESTS {
-        expect(&rt, alloc, line, 0, report)?;
+        expect(&rt, alloc, line, 0, report);
     }
-    Ok(())
 }
 
 /// Runs of the program that modifies itself, across the ends of epochs and with a cache of one line.
@@ -312,10 +329,14 @@ static MODIFYING: [&str; 3] = [
     "thynvm run S --pages 8 --btt 8 --ptt 8 --epoch 3 --sets 1 --ways 1",
 ];
 
+/// Calls over the files of these tests, and compares status and report but for what is overlapped.
+fn expect_told(rt: &impl Abort, alloc: Global, line: &str, report: &str) {
+    let given = ran(rt, alloc, line);
+    check(rt, given.status == 0 && tells(&given.report, report), line);
+}
+
 #[test]
-fn a_program_that_modifies_itself_over_an_epochs_end_exits_with_9(
-    rt: HostRuntime,
-) -> Result<(), Fail> {
+fn a_program_that_modifies_itself_over_an_epochs_end_exits_with_9(rt: HostRuntime) {
     let alloc = rt.alloc();
     let report = "commit 0\n\
          epoch 1 ends at 3 by length\n\
@@ -326,10 +347,8 @@ fn a_program_that_modifies_itself_over_an_epochs_end_exits_with_9(
          commit 3\n\
          exit 9 at 8\n";
     for line in &MODIFYING {
-        let given = ran(alloc, line)?;
-        assert!(rt; given.status == 0 && tells(&given.report, report), "{line}");
+        expect_told(&rt, alloc, line, report);
     }
-    Ok(())
 }
 
 /// Whether a text has a piece in it.

@@ -1,6 +1,6 @@
 //! Calls over memory: what is reported, and with which status.
-use crate::support::programs::files;
-use std::alloc::{AllocError, Global};
+use crate::support::programs::shelf;
+use std::alloc::Global;
 use std::process::Abort;
 use thy_base::{Nvm, Shelf};
 use thy_cli::thynvm;
@@ -17,86 +17,127 @@ pub(crate) struct Given {
     pub(crate) report: Vec<u8>,
 }
 
-/// Calls with the arguments, separated by spaces, over this shelf, and a terminal and a report that fail at these calls.
-pub(crate) fn called(
-    alloc: Global,
-    line: &str,
-    mut shelf: MemShelf,
-    unseen: &[u64],
-    untold: &[u64],
-) -> Result<Given, AllocError> {
-    called_on(alloc, line, &mut shelf, unseen, untold)
+/// The arguments of a line, which separates them by spaces.
+fn arguments_of(rt: &impl Abort, alloc: Global, line: &str) -> Vec<String> {
+    let mut arguments = Vec::new(alloc);
+    for argument in line.split(' ') {
+        push(rt, alloc, &mut arguments, argument);
+    }
+    arguments
 }
 
-/// Calls with the arguments, separated by spaces, over a shelf that is kept, and a terminal and a report that fail at
-/// these calls.
-pub(crate) fn called_on(
-    alloc: Global,
-    line: &str,
-    shelf: &mut MemShelf,
-    unseen: &[u64],
-    untold: &[u64],
-) -> Result<Given, AllocError> {
-    let mut nvm = MemNvm::new(alloc);
-    called_over(alloc, line, shelf, unseen, untold, &mut nvm)
+/// Adds an argument.
+fn push(rt: &impl Abort, alloc: Global, arguments: &mut Vec<String>, argument: &str) {
+    let argument = String::from_str(alloc, argument).expect(rt, "memory");
+    arguments.push(argument).expect(rt, "memory");
 }
 
-/// Calls with the arguments, separated by spaces, over any shelf, over this device, and over a terminal and a report
-/// that fail at these calls.
-pub(crate) fn called_over<H: Shelf, N: Nvm>(
+/// A terminal or a report that fails at these calls.
+fn sink(rt: &impl Abort, alloc: Global, failing: &[u64]) -> MemSink {
+    let failing = Vec::from_slice(alloc, failing).expect(rt, "memory");
+    MemSink::new(alloc, 65_536, failing).expect(rt, "memory")
+}
+
+/// What a sink has taken.
+fn taken(rt: &impl Abort, alloc: Global, sink: &MemSink) -> Vec<u8> {
+    Vec::from_slice(alloc, sink.taken()).expect(rt, "memory")
+}
+
+/// Calls with the arguments of a line over any shelf, over this device, and over a terminal that fails at these calls.
+pub(crate) fn called_unseen<R: Abort, H: Shelf, N: Nvm>(
+    rt: &R,
     alloc: Global,
     line: &str,
     shelf: &mut H,
-    unseen: &[u64],
-    untold: &[u64],
     nvm: &mut N,
-) -> Result<Given, AllocError> {
-    let mut words = Vec::new(alloc);
-    for word in line.split(' ') {
-        words.push(String::from_str(alloc, word)?)?;
-    }
-    let mut terminal = MemSink::new(alloc, 65_536, Vec::from_slice(alloc, unseen)?)?;
-    let mut report = MemSink::new(alloc, 65_536, Vec::from_slice(alloc, untold)?)?;
-    let answer = thynvm(alloc, &words, shelf, &mut terminal, &mut report, nvm);
-    Ok(Given {
+    unseen: &[u64],
+) -> Given {
+    let arguments = arguments_of(rt, alloc, line);
+    let mut terminal = sink(rt, alloc, unseen);
+    let mut report = sink(rt, alloc, &[]);
+    let answer = thynvm(alloc, &arguments, shelf, &mut terminal, &mut report, nvm);
+    Given {
         status: answer.status,
         cycles: answer.cycles,
-        printed: Vec::from_slice(alloc, terminal.taken())?,
-        report: Vec::from_slice(alloc, report.taken())?,
-    })
+        printed: taken(rt, alloc, &terminal),
+        report: taken(rt, alloc, &report),
+    }
 }
 
-/// Calls with the arguments, separated by spaces, over the files of these tests.
-pub(crate) fn ran(alloc: Global, line: &str) -> Result<Given, AllocError> {
-    let shelf = MemShelf::new(files(alloc)?, Vec::new(alloc));
-    called(alloc, line, shelf, &[], &[])
+/// Calls with the arguments of a line over any shelf and over this device.
+pub(crate) fn called_over<R: Abort, H: Shelf, N: Nvm>(
+    rt: &R,
+    alloc: Global,
+    line: &str,
+    shelf: &mut H,
+    nvm: &mut N,
+) -> Given {
+    called_unseen(rt, alloc, line, shelf, nvm, &[])
+}
+
+/// Calls with the arguments of a line over this shelf.
+pub(crate) fn called(rt: &impl Abort, alloc: Global, line: &str, shelf: &mut MemShelf) -> Given {
+    called_over(rt, alloc, line, shelf, &mut MemNvm::new(alloc))
+}
+
+/// Calls with the arguments of a line over the files of these tests.
+pub(crate) fn ran(rt: &impl Abort, alloc: Global, line: &str) -> Given {
+    called(rt, alloc, line, &mut shelf(rt, alloc, &[]))
+}
+
+/// Stops the test unless this holds of a row, which `at` names.
+pub(crate) fn check(rt: &impl Abort, holds: bool, at: &str) {
+    assert!(rt; holds, "{at}");
 }
 
 /// Compares what a call gave with a status, what the terminal takes, and a report.
 pub(crate) fn compare(
     rt: &impl Abort,
-    line: &str,
+    at: &str,
     given: &Given,
     status: u8,
     printed: &str,
-    report: &[u8],
+    report: &str,
 ) {
     let is_shown = given.printed.as_slice() == printed.as_bytes();
-    let is_told = given.report.as_slice() == report;
-    assert!(rt; given.status == status && is_shown && is_told, "{line}");
+    let is_told = given.report.as_slice() == report.as_bytes();
+    check(rt, given.status == status && is_shown && is_told, at);
 }
 
-/// Runs a line and compares its status and its report.
-pub(crate) fn expect(
+/// Calls over this shelf and compares status and report; nothing is printed.
+pub(crate) fn expect_on(
     rt: &impl Abort,
     alloc: Global,
     line: &str,
+    shelf: &mut MemShelf,
     status: u8,
     report: &str,
-) -> Result<(), AllocError> {
-    let given = ran(alloc, line)?;
-    compare(rt, line, &given, status, "", report.as_bytes());
-    Ok(())
+) {
+    let given = called(rt, alloc, line, shelf);
+    compare(rt, line, &given, status, "", report);
+}
+
+/// Calls over the files of these tests and compares status and report; nothing is printed.
+pub(crate) fn expect(rt: &impl Abort, alloc: Global, line: &str, status: u8, report: &str) {
+    expect_on(rt, alloc, line, &mut shelf(rt, alloc, &[]), status, report);
+}
+
+/// What a shelf has under a name.
+pub(crate) fn held(rt: &impl Abort, alloc: Global, shelf: &mut MemShelf, name: &str) -> Vec<u8> {
+    match shelf.fetch(alloc, name, 67_108_864) {
+        Ok(bytes) => bytes,
+        Err(_) => rt.abort(),
+    }
+}
+
+/// A device that fails at one call: the call does nothing, or if it fails late it is done, a barrier by half.
+pub(crate) fn failing_at(rt: &impl Abort, alloc: Global, call: u64, is_late: bool) -> MemNvm {
+    let nvm = if is_late {
+        MemNvm::late(alloc, &[call])
+    } else {
+        MemNvm::failing(alloc, &[call])
+    };
+    nvm.expect(rt, "memory")
 }
 
 /// Whether a text has a piece in it.

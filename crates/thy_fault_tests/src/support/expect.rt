@@ -2,11 +2,6 @@
 use std::fmt::{Debug, Display};
 use std::process::Abort;
 
-/// Stops the test unless it got what it wants.
-pub(crate) fn expect<T: Debug + PartialEq + Drop>(rt: &impl Abort, got: T, want: T) {
-    assert_eq!(rt; got, want);
-}
-
 /// Stops the test unless it got what it wants for a row of a table, which `at` names.
 pub(crate) fn expect_at<T: Debug + PartialEq + Drop, A: Display + Drop>(
     rt: &impl Abort,

@@ -1,5 +1,6 @@
 //! Program files made for runs, from a header and their words.
-use std::alloc::{AllocError, Global};
+use std::alloc::Global;
+use std::process::Abort;
 use thy_out::MemShelf;
 
 /// A program file of three instructions at the address 65536: `addi a7,zero,93; addi a0,zero,7; ecall`.
@@ -17,19 +18,19 @@ pub(crate) static EXIT_SEVEN: [u8; 132] = [
 
 /// `auipc t0,0; lw t1,24(t0); sw t1,16(t0); fence.i; addi a0,zero,1; jal zero,+8; addi a0,zero,9; addi a7,zero,93;
 /// ecall`: it writes its seventh word over its fifth.
-static SELF_MODIFYING: [u32; 9] = [
+const SELF_MODIFYING: &[u32] = &[
     0x00000297, 0x0182a303, 0x0062a823, 0x0000100f, 0x00100513, 0x0080006f, 0x00900513, 0x05d00893,
     0x00000073,
 ];
 
 /// `sd zero,-64*k(sp)` for k from 0 to 8, which stores to nine blocks of one page; `addi a7,zero,93; ecall`.
-pub(crate) static NINE_STORES: [u32; 11] = [
+const NINE_STORES: &[u32] = &[
     0x00013023, 0xfc013023, 0xf8013023, 0xf4013023, 0xf0013023, 0xec013023, 0xe8013023, 0xe4013023,
     0xe0013023, 0x05d00893, 0x00000073,
 ];
 
 /// The nine stores of `NINE_STORES` twice; `addi a7,zero,93; ecall`.
-static NINE_STORES_TWICE: [u32; 20] = [
+const NINE_STORES_TWICE: &[u32] = &[
     0x00013023, 0xfc013023, 0xf8013023, 0xf4013023, 0xf0013023, 0xec013023, 0xe8013023, 0xe4013023,
     0xe0013023, 0x00013023, 0xfc013023, 0xf8013023, 0xf4013023, 0xf0013023, 0xec013023, 0xe8013023,
     0xe4013023, 0xe0013023, 0x05d00893, 0x00000073,
@@ -37,19 +38,19 @@ static NINE_STORES_TWICE: [u32; 20] = [
 
 /// `auipc a1,0; addi a1,a1,32; addi a0,zero,1; addi a2,zero,3; addi a7,zero,64; ecall`, which prints three
 /// bytes; `addi a7,zero,93; ecall`; and the bytes, `Hi` and a line feed.
-static HELLO: [u32; 9] = [
+const HELLO: &[u32] = &[
     0x00000597, 0x02058593, 0x00100513, 0x00300613, 0x04000893, 0x00000073, 0x05d00893, 0x00000073,
     0x000a6948,
 ];
 
 /// `addi a7,zero,63; addi a1,sp,0; addi a2,zero,10; ecall`, which reads up to ten bytes to the start's sp; and
 /// `addi a7,zero,93; ecall`, which exits with their number.
-pub(crate) static READ_INPUT: [u32; 6] = [
+const READ_INPUT: &[u32] = &[
     0x03f00893, 0x00010593, 0x00a00613, 0x00000073, 0x05d00893, 0x00000073,
 ];
 
 /// The code of examples/greet.
-pub(crate) static GREET: [u32; 125] = [
+pub(crate) const GREET: &[u32] = &[
     0x00002197, 0x80018193, 0x00001217, 0xff820213, 0x044000ef, 0x030000ef, 0x03f00893, 0x00000073,
     0x00008067, 0x04000893, 0x00000073, 0x00008067, 0x00000593, 0x00000613, 0x0d600893, 0x00000073,
     0x00008067, 0x00000593, 0x00000613, 0x05d00893, 0x00000073, 0xfa010113, 0x05213023, 0x00011937,
@@ -68,54 +69,136 @@ pub(crate) static GREET: [u32; 125] = [
     0xe65ff0ef, 0x00000000, 0x6c6c6548, 0x00202c6f, 0x00000a21,
 ];
 
-/// A program file of these words, from the address 65536 on, at which it starts; `flags` are its `e_flags`.
-pub(crate) fn file_of(alloc: Global, flags: u32, words: &[u32]) -> Result<Vec<u8>, AllocError> {
-    let size = (words.len() as u64).saturating_mul(4);
-    let mut file = Vec::from_slice(alloc, &EXIT_SEVEN[..48])?;
-    file.extend_from_slice(&flags.to_le_bytes())?;
-    file.extend_from_slice(&EXIT_SEVEN[52..96])?;
-    file.extend_from_slice(&size.to_le_bytes())?;
-    file.extend_from_slice(&size.to_le_bytes())?;
-    file.extend_from_slice(&EXIT_SEVEN[112..120])?;
+/// `addi a0,zero,5; addi a0,a0,1; addi a7,zero,93; ecall`.
+const FOUR_INSTRUCTIONS: &[u32] = &[0x00500513, 0x00150513, 0x05d00893, 0x00000073];
+
+/// `addi a0,zero,-2; sd a0,-4(sp); lbu a0,0(sp); addi a7,zero,93; ecall`: a store over two blocks, and a load of a
+/// byte of the second.
+const OVER_TWO_BLOCKS: &[u32] = &[0xffe00513, 0xfea13e23, 0x00014503, 0x05d00893, 0x00000073];
+
+/// `ld a0,252(sp)`, four bytes over the end of memory.
+const OVER_THE_END: &[u32] = &[0x0fc13503];
+
+/// `sd zero,-4-128*k(sp)` for k from 0 to 4, each over two blocks; `addi a7,zero,93; ecall`.
+const FIVE_STORES: &[u32] = &[
+    0xfe013e23, 0xf6013e23, 0xee013e23, 0xe6013e23, 0xde013e23, 0x05d00893, 0x00000073,
+];
+
+/// The words of `EXIT_SEVEN`.
+pub(crate) const THREE_WORDS: &[u32] = &[0x05d00893, 0x00700513, 0x00000073];
+
+/// Programs of these tests by their names: the one that exits with 7 under F, the one that modifies itself under S, the
+/// one that prints under P, and four instructions under E. Nine stores are under N, twice under D, and five over two
+/// blocks each under V. The one that reads is under R; one has accesses over two blocks under T, one over the end of
+/// memory under O.
+static PROGRAMS: [(&str, &[u32]); 10] = [
+    ("F", THREE_WORDS),
+    ("S", SELF_MODIFYING),
+    ("P", HELLO),
+    ("E", FOUR_INSTRUCTIONS),
+    ("N", NINE_STORES),
+    ("D", NINE_STORES_TWICE),
+    ("V", FIVE_STORES),
+    ("R", READ_INPUT),
+    ("T", OVER_TWO_BLOCKS),
+    ("O", OVER_THE_END),
+];
+
+/// A program file of these words, from the address 65536 on, at which it starts.
+pub(crate) fn file_of(rt: &impl Abort, alloc: Global, words: &[u32]) -> Vec<u8> {
+    let size = (words.len() as u64).saturating_mul(4).to_le_bytes();
+    let mut file = Vec::from_slice(alloc, &EXIT_SEVEN[..96]).expect(rt, "memory");
+    append(rt, &mut file, &size);
+    append(rt, &mut file, &size);
+    append(rt, &mut file, &EXIT_SEVEN[112..120]);
     for word in words {
-        file.extend_from_slice(&word.to_le_bytes())?;
+        append(rt, &mut file, &word.to_le_bytes());
     }
-    Ok(file)
+    file
 }
 
-/// A shelf with these files under these names.
-pub(crate) fn shelf_of(alloc: Global, files: &[(&str, &[u8])]) -> Result<MemShelf, AllocError> {
-    let mut held = Vec::new(alloc);
-    for (name, bytes) in files {
-        held.push((
-            String::from_str(alloc, name)?,
-            Vec::from_slice(alloc, bytes)?,
-        ))?;
-    }
-    Ok(MemShelf::new(held, Vec::new(alloc)))
+/// Adds bytes to a file.
+fn append(rt: &impl Abort, file: &mut Vec<u8>, bytes: &[u8]) {
+    file.extend_from_slice(bytes).expect(rt, "memory");
 }
 
-/// The files of these tests: the program that exits with 7 under the name F, the one that modifies itself under S, and
-/// 63 bytes of the first under G. The program that prints is under P, and the programs of nine stores are under N and
-/// D.
-pub(crate) fn files(alloc: Global) -> Result<Vec<(String, Vec<u8>)>, AllocError> {
-    let modifying = file_of(alloc, 0, &SELF_MODIFYING)?;
-    let printing = file_of(alloc, 0, &HELLO)?;
-    let storing = file_of(alloc, 0, &NINE_STORES)?;
-    let storing_twice = file_of(alloc, 0, &NINE_STORES_TWICE)?;
+/// Files by their names, as a shelf in memory holds them.
+pub(crate) type Files = Vec<(String, Vec<u8>)>;
+
+/// Adds a file.
+pub(crate) fn hold(rt: &impl Abort, alloc: Global, files: &mut Files, name: &str, bytes: Vec<u8>) {
+    let name = String::from_str(alloc, name).expect(rt, "memory");
+    files.push((name, bytes)).expect(rt, "memory");
+}
+
+/// Adds a copy of these bytes.
+fn hold_copy(rt: &impl Abort, alloc: Global, files: &mut Files, name: &str, bytes: &[u8]) {
+    let bytes = Vec::from_slice(alloc, bytes).expect(rt, "memory");
+    hold(rt, alloc, files, name, bytes);
+}
+
+/// Adds the program of these words.
+fn hold_program(rt: &impl Abort, alloc: Global, files: &mut Files, name: &str, words: &[u32]) {
+    hold(rt, alloc, files, name, file_of(rt, alloc, words));
+}
+
+/// Programs and texts, by their names.
+pub(crate) fn files_of(
+    rt: &impl Abort,
+    alloc: Global,
+    programs: &[(&str, &[u32])],
+    texts: &[(&str, &[u8])],
+) -> Files {
     let mut files = Vec::new(alloc);
-    for (name, bytes) in [
-        ("F", EXIT_SEVEN.as_slice()),
-        ("S", modifying.as_slice()),
-        ("G", &EXIT_SEVEN[..63]),
-        ("P", printing.as_slice()),
-        ("N", storing.as_slice()),
-        ("D", storing_twice.as_slice()),
-    ] {
-        files.push((
-            String::from_str(alloc, name)?,
-            Vec::from_slice(alloc, bytes)?,
-        ))?;
+    for (name, words) in programs {
+        hold_program(rt, alloc, &mut files, name, words);
     }
-    Ok(files)
+    for (name, bytes) in texts {
+        hold_copy(rt, alloc, &mut files, name, bytes);
+    }
+    files
+}
+
+/// A shelf with programs and texts, which does not fail.
+pub(crate) fn shelf_of(
+    rt: &impl Abort,
+    alloc: Global,
+    programs: &[(&str, &[u32])],
+    texts: &[(&str, &[u8])],
+) -> MemShelf {
+    MemShelf::new(files_of(rt, alloc, programs, texts), Vec::new(alloc))
+}
+
+/// The files of these tests: its programs, 63 bytes of the first under G, and inputs under A, B and Z.
+pub(crate) fn files(rt: &impl Abort, alloc: Global) -> Files {
+    let texts = [
+        ("G", &EXIT_SEVEN[..63]),
+        ("A", b"abcd".as_slice()),
+        ("B", b"ab"),
+        ("Z", b""),
+    ];
+    files_of(rt, alloc, &PROGRAMS, &texts)
+}
+
+/// A shelf with the files of these tests, which fails at these calls.
+pub(crate) fn shelf(rt: &impl Abort, alloc: Global, failing: &[u64]) -> MemShelf {
+    let failing = Vec::from_slice(alloc, failing).expect(rt, "memory");
+    MemShelf::new(files(rt, alloc), failing)
+}
+
+/// These bytes with other ones from a place on, none past the end.
+pub(crate) fn patched(
+    rt: &impl Abort,
+    alloc: Global,
+    bytes: &[u8],
+    at: usize,
+    others: &[u8],
+) -> Vec<u8> {
+    let mut bytes = Vec::from_slice(alloc, bytes).expect(rt, "memory");
+    for (i, other) in others.iter().enumerate() {
+        if let Some(byte) = bytes.get_mut(at.saturating_add(i)) {
+            *byte = *other;
+        }
+    }
+    bytes
 }

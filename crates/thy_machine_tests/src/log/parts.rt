@@ -11,6 +11,7 @@ ghost use Rattle.thy_refill.specs.Filling.{filling_journal};
 ghost use Rattle.thy_machine_tests.specs.Least.{IsLeastStart, goes_on};
 ghost use Rattle.thy_machine_tests.specs.LogParts.{Boots, IsBegun};
 
+use crate::beside::cpu_at;
 use std::alloc::Global;
 use std::marker::Model;
 use std::process::Abort;
@@ -18,7 +19,6 @@ use thy_base::{Block, Geometry, Nvm, Shape};
 use thy_boot::{Boot, a_boot_may_go_on};
 use thy_dram::Dram;
 use thy_engine::Engine;
-use thy_isa::{CpuState, Regs, Status};
 use thy_journal::Refill;
 use thy_journal_image::blocks;
 use thy_layout::{EngineStep, Start};
@@ -73,23 +73,6 @@ pub(crate) enum Booted {
     Over(Parts, BootStep),
     /// The power was cut before.
     Cut(Off),
-}
-
-/// A processor that retired `count` instructions.
-pub(crate) fn cpu_at(count: u64) -> CpuState
-    ensures { length result.regs ≡ 32 }
-{
-    CpuState {
-        pc: 0,
-        regs: Regs::new(),
-        console_len: 0,
-        cursor: 0,
-        brk: 0,
-        floor: 0,
-        count,
-        status: Status::Running,
-        other: None,
-    }
 }
 
 /// Stops the test unless a geometry is of seven pages of a program, one of the console, and one hart.

@@ -1,252 +1,54 @@
 //! Random calls of log, engine and boot of a redo journal, through cuts of power, beside plain lists of blocks: what a load
 //! gives is what the list of that version has.
-ghost use Rattle.std.specs.Prelude.{◌≡◌, ◌<◌, ◌≤◌, length};
+ghost use Rattle.std.specs.Prelude.{◌<◌};
 ghost use Rattle.thy_isa.specs.Step.{state_of};
 ghost use Rattle.thy_machine_tests.specs.Least.{IsLeastStart};
 
-use crate::log::parts::{Booted, Off, Parts, cpu_at};
-use crate::support::expect::{expect, expect_at};
+use crate::beside::{
+    ALL, NOTHING, Seen, Versions, count_of, drawn, drawn_number, drawn_pick, least, start_of,
+};
+use crate::log::parts::{Booted, Off, Parts};
+use crate::support::expect::expect;
 use crate::support::geometry::geometry_of;
 use std::alloc::Global;
 use std::process::Abort;
-use thy_base::{Block, Bytes, Lcg, Parameters, SchemeName};
-use thy_isa::{CpuState, MachState, Regs, Status};
+use thy_base::{Block, Lcg, SchemeName};
 use thy_layout::{EngineStep, Start};
 use thy_view::BootStep;
 
 /// How many entries the table has.
 const ENTRIES: usize = 8;
 
-/// The least memory, of 512 blocks, and the least table.
-fn least() -> Parameters {
-    Parameters {
-        base: 65536,
-        pages: 8,
-        console: 1,
-        epoch: 1,
-        btt: 8,
-        ptt: 8,
-        sets: 1,
-        ways: 1,
-        nvmq: 4,
-        dramq: 4,
-        high: 22,
-        low: 16,
-        mix: 0,
-        limit: 1,
-        scheme: SchemeName::Journal,
-        harts: 1,
-    }
-}
-
-/// A start whose memory is full of sevens, and whose console has 70 exclamation marks.
-fn start_of(rt: &impl Abort, alloc: Global) -> Start
-    ensures { IsLeastStart (state_of result.state) }
-{
-    let memory = vec![in alloc; 7u8; 28672].expect(rt, "memory");
-    let console = vec![in alloc; 33u8; 70].expect(rt, "memory");
-    let state = MachState {
-        pc: 65540,
-        regs: Regs::new(),
-        memory: Bytes::from_vec(memory),
-        console: Bytes::from_vec(console),
-        cursor: 3,
-        brk: 65600,
-        floor: 65600,
-        count: 5,
-        status: Status::Running,
-        other: None,
-    };
-    Start {
-        state,
-        kept: None,
-        input: Bytes::new(alloc),
-    }
-}
-
-/// Block `b` of memory as the start has it, with the console in the last page.
-fn block_of_start(b: usize) -> Block {
-    match b {
-        0..=447 => Block([7; 64]),
-        448 => Block([33; 64]),
-        449 => {
-            let mut behind = Block::ZERO;
-            behind.put(0, &[33; 6]);
-            behind
-        }
-        _ => Block::ZERO,
-    }
-}
-
-/// The processor of the start.
-fn processor() -> CpuState {
-    CpuState {
-        pc: 65540,
-        regs: Regs::new(),
-        console_len: 70,
-        cursor: 3,
-        brk: 65600,
-        floor: 65600,
-        count: 5,
-        status: Status::Running,
-        other: None,
-    }
-}
-
-/// How many instructions the processor has retired that is sealed with an epoch.
-fn count_of(epoch: u64) -> u64 {
-    epoch.saturating_mul(100)
-}
-
-/// What memory has to hold, block by block, in each version.
+/// What memory has to hold, and what the table lists.
 #[derive(Drop)]
 struct Beside {
-    /// At the committed checkpoint, with its epoch. There is none until the program was loaded.
-    committed: Vec<Block>,
-    epoch: u64,
-    /// The blocks at the last seal.
-    last: Vec<Block>,
-    /// The blocks now.
-    work: Vec<Block>,
+    versions: Versions,
     /// The blocks that the table lists.
     stored: Vec<u64>,
-    /// The commit block of the last seal's checkpoint was written, and is not yet confirmed.
-    written: bool,
-    /// The commit block of the last seal's checkpoint has landed.
-    landed: bool,
 }
 
 /// Which kinds of moments have come.
-#[derive(Clone, Copy, Debug, PartialEq)]
-struct Seen {
-    /// A commit.
-    committed: bool,
-    /// No entry was free for a store.
-    full: bool,
-    /// A cut that left the checkpoint whose commit block was written, and one that left the one before.
-    kept_new: bool,
-    kept_old: bool,
-    /// A cut while a journal was written, and one while it was applied.
-    cut_making: bool,
+#[derive(Drop)]
+struct Moments {
+    seen: Seen,
+    /// A cut while a journal was applied.
     cut_applying: bool,
-    /// A cut in a boot.
-    cut_booting: bool,
-}
-
-/// A block of drawn bytes.
-fn drawn(lcg: &mut Lcg) -> Block {
-    let mut block = Block::ZERO;
-    for byte in block.0.iter_mut() {
-        *byte = (lcg.next() % 256) as u8;
-    }
-    block
-}
-
-/// A block's number: mostly one of twelve, or any.
-fn drawn_number(lcg: &mut Lcg) -> u64
-    ensures { result < 512 }
-{
-    let draw = lcg.next();
-    match lcg.next() % 4 {
-        0 => draw % 512,
-        _ => draw % 12 * 43,
-    }
-}
-
-/// A pick of a cut: of what is queued nothing, all, or a draw.
-fn drawn_pick(lcg: &mut Lcg) -> u64 {
-    let draw = lcg.next();
-    match draw % 4 {
-        0 => 0,
-        1 => 1,
-        _ => draw,
-    }
-}
-
-/// Block `b` of a list.
-fn block_in(rt: &impl Abort, blocks: &[Block], b: u64) -> Block {
-    match blocks.get(b as usize) {
-        Some(block) => *block,
-        None => panic!(rt; "no block"),
-    }
 }
 
 impl Beside {
-    fn of_start(rt: &impl Abort, alloc: Global) -> Beside {
-        let mut work = Vec::new(alloc);
-        for b in 0..512 {
-            work.push(block_of_start(b)).expect(rt, "memory");
-        }
-        Beside {
-            committed: work.clone().expect(rt, "memory"),
-            epoch: 0,
-            last: work.clone().expect(rt, "memory"),
-            work,
-            stored: Vec::new(alloc),
-            written: false,
-            landed: false,
-        }
-    }
-
     fn store(&mut self, rt: &impl Abort, b: u64, block: &Block) {
-        match self.work.get_mut(b as usize) {
-            Some(place) => *place = *block,
-            None => panic!(rt; "no block"),
-        }
+        self.versions.store(rt, b, block);
         if !self.stored.contains(&b) {
             self.stored.push(b).expect(rt, "memory");
         }
     }
 
-    fn seal(&mut self, rt: &impl Abort) {
-        self.last = self.work.clone().expect(rt, "memory");
-    }
-
     /// The engine took a step; it is done with the checkpoint, or not.
     fn note(&mut self, rt: &impl Abort, step: EngineStep, done: bool, seen: &mut Seen) {
-        match step {
-            EngineStep::CommitWritten => {
-                self.written = true;
-                self.landed = false;
-            }
-            EngineStep::Committed(epoch) => {
-                expect(rt, epoch, self.epoch.saturating_add(1));
-                self.commit(rt);
-                seen.committed = true;
-            }
-            _ => {}
-        }
+        self.versions.note(rt, step, seen);
         if done {
             self.stored.clear();
         }
-    }
-
-    /// The last seal's checkpoint is the committed one.
-    fn commit(&mut self, rt: &impl Abort) {
-        self.committed = self.last.clone().expect(rt, "memory");
-        self.epoch = self.epoch.saturating_add(1);
-        self.written = false;
-    }
-
-    /// After a cut with this pick a boot has found the checkpoint of this epoch.
-    fn found(&mut self, rt: &impl Abort, epoch: u64, pick: u64, seen: &mut Seen) {
-        let is_new = self.written && epoch == self.epoch.saturating_add(1);
-        if self.written {
-            seen.kept_new |= is_new;
-            seen.kept_old |= !is_new;
-            let may_be = match pick {
-                0 => self.landed == is_new,
-                1 => is_new,
-                _ => is_new || !self.landed,
-            };
-            assert!(rt; may_be);
-        }
-        if is_new {
-            self.commit(rt);
-        }
-        expect(rt, epoch, self.epoch);
-        self.written = false;
-        self.work = self.committed.clone().expect(rt, "memory");
     }
 }
 
@@ -267,7 +69,7 @@ fn restart(
         let most = 1 + lcg.next() % 20;
         match off.boot(rt, alloc, start, most, drawn_pick(lcg)) {
             Booted::Over(parts, told) => {
-                compare_found(rt, beside, told, pick, seen);
+                beside.versions.compare_found(rt, told, pick, seen);
                 return parts;
             }
             Booted::Cut(next) => off = next,
@@ -276,26 +78,10 @@ fn restart(
     }
     match off.boot(rt, alloc, start, 1000, 0) {
         Booted::Over(parts, told) => {
-            compare_found(rt, beside, told, pick, seen);
+            beside.versions.compare_found(rt, told, pick, seen);
             parts
         }
         Booted::Cut(_) => panic!(rt; "a boot without end"),
-    }
-}
-
-/// Compares what a boot returned with the committed checkpoint, or the one in doubt.
-fn compare_found(rt: &impl Abort, beside: &mut Beside, told: BootStep, pick: u64, seen: &mut Seen) {
-    match told {
-        BootStep::Restarted(cpu, epoch) => {
-            beside.found(rt, epoch, pick, seen);
-            let want = if epoch == 0 {
-                processor()
-            } else {
-                cpu_at(count_of(epoch))
-            };
-            expect(rt, cpu, want);
-        }
-        _ => panic!(rt; "no checkpoint"),
     }
 }
 
@@ -310,9 +96,9 @@ fn store_or_seal(
     let full = parts.free() == 0;
     seen.full |= full;
     if full || lcg.next() % 12 == 0 {
-        let epoch = beside.epoch.saturating_add(1);
+        let epoch = beside.versions.epoch.saturating_add(1);
         parts.seal(rt, epoch, count_of(epoch));
-        beside.seal(rt);
+        beside.versions.seal(rt);
         return;
     }
     let b = drawn_number(lcg);
@@ -327,7 +113,7 @@ fn act(rt: &impl Abort, parts: &mut Parts, beside: &mut Beside, seen: &mut Seen,
         0 => parts.drain_dram(),
         1 => {
             let drained = parts.drain_nvm(rt);
-            beside.landed |= beside.written && drained;
+            beside.versions.land(drained);
         }
         _ if parts.under_way() => {
             let step = parts.step(rt);
@@ -342,9 +128,8 @@ fn compare(rt: &impl Abort, parts: &mut Parts, beside: &Beside, b: u64)
     requires { b < 512 }
 {
     let work = parts.load(rt, b);
-    expect_at(rt, work, block_in(rt, &beside.work, b), b);
     let committed = parts.committed(rt, b);
-    expect_at(rt, committed, block_in(rt, &beside.committed, b), b);
+    beside.versions.compare(rt, b, work, committed);
     if !parts.under_way() {
         let listed = beside.stored.len();
         expect(rt, parts.free() as usize, ENTRIES.saturating_sub(listed));
@@ -360,11 +145,14 @@ fn compare_all(rt: &impl Abort, parts: &mut Parts, beside: &Beside) {
 
 /// Makes 600 drawn calls, with some 30 cuts between them, and compares a block after each call and all blocks after each
 /// cut.
-fn play(rt: &impl Abort, alloc: Global, seed: u64, seen: &mut Seen) {
-    let geometry = geometry_of(rt, alloc, &least());
+fn play(rt: &impl Abort, alloc: Global, seed: u64, moments: &mut Moments) {
+    let geometry = geometry_of(rt, alloc, &least(SchemeName::Journal));
     let start = start_of(rt, alloc);
     let mut lcg = Lcg::new(seed);
-    let mut beside = Beside::of_start(rt, alloc);
+    let mut beside = Beside {
+        versions: Versions::of_start(rt, alloc),
+        stored: Vec::new(alloc),
+    };
     let off = Off::new(rt, alloc, geometry, 200);
     let mut parts = match off.boot(rt, alloc, &start, 1000, 0) {
         Booted::Over(parts, told) => {
@@ -377,13 +165,14 @@ fn play(rt: &impl Abort, alloc: Global, seed: u64, seen: &mut Seen) {
         if lcg.next() % 20 == 0 {
             let pick = drawn_pick(&mut lcg);
             let applies = parts.applies();
-            seen.cut_applying |= applies;
-            seen.cut_making |= parts.under_way() && !applies && !beside.written;
+            moments.cut_applying |= applies;
+            moments.seen.cut_making |= parts.under_way() && !applies && !beside.versions.written;
             let off = parts.cut(rt, pick);
+            let seen = &mut moments.seen;
             parts = restart(rt, alloc, off, &start, &mut beside, pick, seen, &mut lcg);
             compare_all(rt, &mut parts, &beside);
         }
-        act(rt, &mut parts, &mut beside, seen, &mut lcg);
+        act(rt, &mut parts, &mut beside, &mut moments.seen, &mut lcg);
         let b = drawn_number(&mut lcg);
         compare(rt, &mut parts, &beside, b);
     }
@@ -391,26 +180,13 @@ fn play(rt: &impl Abort, alloc: Global, seed: u64, seen: &mut Seen) {
 
 #[test]
 fn random_calls_through_cuts_keep_both_versions(rt: HostRuntime) {
-    let mut seen = Seen {
-        committed: false,
-        full: false,
-        kept_new: false,
-        kept_old: false,
-        cut_making: false,
+    let mut moments = Moments {
+        seen: NOTHING,
         cut_applying: false,
-        cut_booting: false,
     };
     for seed in 1..9 {
-        play(&rt, rt.alloc(), seed, &mut seen);
+        play(&rt, rt.alloc(), seed, &mut moments);
     }
-    let all = Seen {
-        committed: true,
-        full: true,
-        kept_new: true,
-        kept_old: true,
-        cut_making: true,
-        cut_applying: true,
-        cut_booting: true,
-    };
-    expect(&rt, seen, all);
+    expect(&rt, moments.seen, ALL);
+    expect(&rt, moments.cut_applying, true);
 }

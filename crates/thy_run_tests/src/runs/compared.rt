@@ -2,14 +2,15 @@
 //!
 //! With eight pages and tables of eight entries, loading writes 512 homes, a slot, the header and the commit block. A slot
 //! has six blocks in the journal's layout and in that of shadow paging, and eight in thynvm's.
-use crate::runs::console::READ_INPUT;
-use crate::runs::programs::{file_of, shelf_of};
-use crate::runs::{Given, called, called_on, called_over, compare, expect, files, has, ran};
-use std::alloc::{AllocError, Global};
+use crate::runs::programs::{READ_INPUT, shelf, shelf_of};
+use crate::runs::{
+    Given, answered, called, called_over, check, compare, expect, expect_cycles, expect_on, has,
+    ran,
+};
+use std::alloc::Global;
 use std::process::Abort;
-use std::test::Fail;
 use thy_base::{Nvm, SchemeName};
-use thy_cli::{Answer, thynvm};
+use thy_cli::Answer;
 use thy_isa::{MachState, Status};
 use thy_nvm::MemNvm;
 use thy_out::{MemShelf, MemSink};
@@ -61,14 +62,11 @@ static REPORTS: [(&str, u8, u64, &str); 6] = [
 ];
 
 #[test]
-fn each_scheme_has_its_line(rt: HostRuntime) -> Result<(), Fail> {
+fn each_scheme_has_its_line(rt: HostRuntime) {
     let alloc = rt.alloc();
     for (line, status, cycles, report) in &REPORTS {
-        let given = ran(alloc, line)?;
-        compare(&rt, line, &given, *status, "", report.as_bytes());
-        assert!(rt; given.cycles == *cycles, "{line}");
+        expect_cycles(&rt, alloc, line, *status, *cycles, report);
     }
-    Ok(())
 }
 
 /// Nine stores to nine blocks of a page: thynvm and the journal have entries for eight. thynvm writes three checkpoints of
@@ -90,19 +88,17 @@ static NINE_STORES: [(&str, &str); 2] = [
 ];
 
 #[test]
-fn nine_stores_cost_each_scheme_its_writes(rt: HostRuntime) -> Result<(), Fail> {
+fn nine_stores_cost_each_scheme_its_writes(rt: HostRuntime) {
     let alloc = rt.alloc();
     for (line, report) in &NINE_STORES {
-        expect(&rt, alloc, line, 0, report)?;
+        expect(&rt, alloc, line, 0, report);
     }
-    Ok(())
 }
 
 #[test]
-fn a_program_that_traps_is_compared_to_the_end(rt: HostRuntime) -> Result<(), Fail> {
+fn a_program_that_traps_is_compared_to_the_end(rt: HostRuntime) {
     let line = "thynvm compare Z --pages 8 --btt 8 --ptt 8";
-    expect(&rt, rt.alloc(), line, 1, ALL)?;
-    Ok(())
+    expect(&rt, rt.alloc(), line, 1, ALL);
 }
 
 /// Arguments that are refused.
@@ -119,12 +115,11 @@ static REFUSALS: [(&str, u8, &str); 9] = [
 ];
 
 #[test]
-fn what_is_not_compared_has_its_line(rt: HostRuntime) -> Result<(), Fail> {
+fn what_is_not_compared_has_its_line(rt: HostRuntime) {
     let alloc = rt.alloc();
     for (line, status, report) in &REFUSALS {
-        expect(&rt, alloc, line, *status, report)?;
+        expect(&rt, alloc, line, *status, report);
     }
-    Ok(())
 }
 
 /// Calls of the shelf that fail, the first being 1: file and input are fetched once, so there is no third.
@@ -134,71 +129,83 @@ static FETCHES: [(u64, u8, &str); 3] = [
     (3, 0, ALL),
 ];
 
-#[test]
-fn file_and_input_are_fetched_once(rt: HostRuntime) -> Result<(), Fail> {
-    let alloc = rt.alloc();
+/// Compares over a shelf that fails at this call.
+fn expect_fetch(rt: &impl Abort, alloc: Global, failing: u64, status: u8, report: &str) {
     let line = "thynvm compare F --input S --pages 8 --btt 8 --ptt 8";
+    expect_on(
+        rt,
+        alloc,
+        line,
+        &mut shelf(rt, alloc, &[failing]),
+        status,
+        report,
+    );
+}
+
+#[test]
+fn file_and_input_are_fetched_once(rt: HostRuntime) {
+    let alloc = rt.alloc();
     for (failing, status, report) in &FETCHES {
-        let shelf = MemShelf::new(files(alloc)?, Vec::from_slice(alloc, &[*failing])?);
-        let given = called(alloc, line, shelf, &[], &[])?;
-        compare(&rt, line, &given, *status, "", report.as_bytes());
+        expect_fetch(&rt, alloc, *failing, *status, report);
     }
-    Ok(())
 }
 
 /// Calls with the arguments over the files of these tests, with this device and sinks that fail at these calls.
 fn called_with(
+    rt: &impl Abort,
     alloc: Global,
     line: &str,
     unseen: &[u64],
     untold: &[u64],
     nvm: &mut MemNvm,
-) -> Result<Given, AllocError> {
-    let mut shelf = MemShelf::new(files(alloc)?, Vec::new(alloc));
-    called_over(alloc, line, &mut shelf, unseen, untold, nvm)
+) -> Given {
+    called_over(
+        rt,
+        alloc,
+        line,
+        &mut shelf(rt, alloc, &[]),
+        unseen,
+        untold,
+        nvm,
+    )
 }
 
 #[test]
-fn the_terminal_has_the_console_once(rt: HostRuntime) -> Result<(), Fail> {
-    let alloc = rt.alloc();
+fn the_terminal_has_the_console_once(rt: HostRuntime) {
     let line = "thynvm compare P --pages 8 --btt 8 --ptt 8";
-    let given = ran(alloc, line)?;
-    assert!(rt;
-        given.status == 0 && given.printed.as_slice() == b"Hi\n".as_slice(),
-        "{line}"
-    );
-    Ok(())
+    let given = ran(&rt, rt.alloc(), line);
+    let is_shown = given.printed.as_slice() == b"Hi\n".as_slice();
+    check(&rt, given.status == 0 && is_shown, line);
 }
 
 /// The console is shown in the cycle in which the program ends, so the run has ended when the terminal fails.
 #[test]
-fn a_terminal_that_fails_ends_the_comparison(rt: HostRuntime) -> Result<(), Fail> {
+fn a_terminal_that_fails_ends_the_comparison(rt: HostRuntime) {
     let alloc = rt.alloc();
     let line = "thynvm compare P --pages 8 --btt 8 --ptt 8";
     let mut nvm = MemNvm::new(alloc);
-    let given = called_with(alloc, line, &[1], &[], &mut nvm)?;
-    assert!(rt; given.status == 6 && given.printed.is_empty(), "{line}");
-    assert!(rt; given.report.starts_with(b"scheme thynvm "), "{line}");
-    assert!(rt; given.report.ends_with(b"\nterminal failed\n"), "{line}");
-    assert!(rt; !has(&given.report, "scheme journal"), "{line}");
-    Ok(())
+    let given = called_with(&rt, alloc, line, &[1], &[], &mut nvm);
+    let report = given.report.as_slice();
+    check(&rt, given.status == 6 && given.printed.is_empty(), line);
+    check(&rt, report.starts_with(b"scheme thynvm "), line);
+    check(&rt, report.ends_with(b"\nterminal failed\n"), line);
+    check(&rt, !has(report, "scheme journal"), line);
 }
 
 /// The report refuses the first line, and then the second. Of the run whose line it refuses the events are there; no other run
 /// begins.
 #[test]
-fn a_report_that_fails_ends_the_comparison(rt: HostRuntime) -> Result<(), Fail> {
+fn a_report_that_fails_ends_the_comparison(rt: HostRuntime) {
     let alloc = rt.alloc();
     let line = "thynvm compare F --pages 8 --btt 8 --ptt 8";
     let mut nvm = MemNvm::new(alloc);
-    let given = called_with(alloc, line, &[], &[1], &mut nvm)?;
-    compare(&rt, line, &given, 6, "", b"");
-    assert!(rt; given.cycles == 722 && nvm.writes() == 531, "{line}");
+    let given = called_with(&rt, alloc, line, &[], &[1], &mut nvm);
+    compare(&rt, line, &given, 6, "", "");
+    check(&rt, given.cycles == 722 && nvm.writes() == 531, line);
     let mut nvm = MemNvm::new(alloc);
-    let given = called_with(alloc, line, &[], &[2], &mut nvm)?;
-    compare(&rt, line, &given, 6, "", THYNVM.as_bytes());
-    assert!(rt; nvm.writes() == 527, "{line}");
-    Ok(())
+    let given = called_with(&rt, alloc, line, &[], &[2], &mut nvm);
+    compare(&rt, line, &given, 6, "", THYNVM);
+    check(&rt, nvm.writes() == 527, line);
 }
 
 /// The run by thynvm makes 1162 calls of its device: 715 in cycles, and then one for each of the 448 blocks of program
@@ -212,33 +219,28 @@ static FAILURES: [(u64, u64, &str); 2] = [
     ),
 ];
 
-#[test]
-fn a_device_that_fails_ends_the_comparison(rt: HostRuntime) -> Result<(), Fail> {
-    let alloc = rt.alloc();
+/// Compares over a device that fails.
+fn expect_failed(rt: &impl Abort, alloc: Global, nvm: &mut MemNvm, cycles: u64, report: &str) {
     let line = "thynvm compare F --pages 8 --btt 8 --ptt 8";
-    for (call, cycles, report) in &FAILURES {
-        for mut nvm in [
-            MemNvm::failing(alloc, &[*call])?,
-            MemNvm::late(alloc, &[*call])?,
-        ] {
-            let given = called_with(alloc, line, &[], &[], &mut nvm)?;
-            compare(&rt, line, &given, 7, "", report.as_bytes());
-            assert!(rt; given.cycles == *cycles, "{line}: call {call}");
-        }
-    }
-    Ok(())
+    let given = called_with(rt, alloc, line, &[], &[], nvm);
+    compare(rt, report, &given, 7, "", report);
+    check(rt, given.cycles == cycles, report);
 }
 
-/// What a call over this shelf returns.
-fn answered(alloc: Global, line: &str, shelf: &mut MemShelf) -> Result<Answer, AllocError> {
-    let mut words = Vec::new(alloc);
-    for word in line.split(' ') {
-        words.push(String::from_str(alloc, word)?)?;
+/// Compares over a device that fails at this call, and over one that fails late.
+fn expect_failing(rt: &impl Abort, alloc: Global, call: u64, cycles: u64, report: &str) {
+    let mut nvm = MemNvm::failing(alloc, &[call]).expect(rt, "memory");
+    expect_failed(rt, alloc, &mut nvm, cycles, report);
+    let mut nvm = MemNvm::late(alloc, &[call]).expect(rt, "memory");
+    expect_failed(rt, alloc, &mut nvm, cycles, report);
+}
+
+#[test]
+fn a_device_that_fails_ends_the_comparison(rt: HostRuntime) {
+    let alloc = rt.alloc();
+    for (call, cycles, report) in &FAILURES {
+        expect_failing(&rt, alloc, *call, *cycles, report);
     }
-    let mut terminal = MemSink::new(alloc, 65_536, Vec::new(alloc))?;
-    let mut report = MemSink::new(alloc, 65_536, Vec::new(alloc))?;
-    let mut nvm = MemNvm::new(alloc);
-    Ok(thynvm(alloc, &words, shelf, &mut terminal, &mut report, &mut nvm))
 }
 
 /// An event, by its kind, and a number of it.
@@ -280,44 +282,53 @@ static PARTS: [(&str, usize); 3] = [
     ("thynvm compare H --pages 8 --btt 8 --ptt 8", 0),
 ];
 
-#[test]
-fn each_run_begins_with_its_scheme(rt: HostRuntime) -> Result<(), Fail> {
-    let alloc = rt.alloc();
-    for (line, many) in &PARTS {
-        let mut shelf = MemShelf::new(files(alloc)?, Vec::new(alloc));
-        let answer = answered(alloc, line, &mut shelf)?;
-        assert!(rt; answer.events.len() == *many, "{line}");
-        for i in 0..answer.events.len() {
-            if i < EVENTS.len() {
-                let (kind, number) = kind_of(answer.events.get(i));
-                let (want, of) = EVENTS[i];
-                assert!(rt; kind == want && number == of, "{line}: event {i}");
-            }
+/// Whether the events of an answer are the first ones of these.
+fn are_first(answer: &Answer) -> bool {
+    for i in 0..answer.events.len() {
+        if i < EVENTS.len() && kind_of(answer.events.get(i)) != EVENTS[i] {
+            return false;
         }
     }
-    Ok(())
+    true
+}
+
+/// Compares, and tests the events.
+fn expect_events(rt: &impl Abort, alloc: Global, line: &str, many: usize) {
+    let answer = answered(rt, alloc, line, &mut shelf(rt, alloc, &[]));
+    check(rt, answer.events.len() == many, line);
+    check(rt, are_first(&answer), line);
+}
+
+#[test]
+fn each_run_begins_with_its_scheme(rt: HostRuntime) {
+    let alloc = rt.alloc();
+    for (line, many) in &PARTS {
+        expect_events(&rt, alloc, line, *many);
+    }
+}
+
+/// How many runs of an answer exited with 4 and have read four bytes; none if one did not.
+fn exits_with_four(answer: &Answer) -> u64 {
+    let mut ends = 0_u64;
+    for i in 0..answer.events.len() {
+        if let Event::Ended { status, state, .. } = answer.events.get(i) {
+            if *status != Status::Exited(4) || state.cursor != 4 {
+                return 0;
+            }
+            ends = ends.wrapping_add(1);
+        }
+    }
+    ends
 }
 
 /// The program that reads up to ten bytes of its input exits with how many it was given.
 #[test]
-fn each_run_reads_the_same_input(rt: HostRuntime) -> Result<(), Fail> {
+fn each_run_reads_the_same_input(rt: HostRuntime) {
     let alloc = rt.alloc();
-    let program = file_of(alloc, 0, &READ_INPUT)?;
-    let mut shelf = shelf_of(alloc, &[("R", program.as_slice()), ("A", b"abcd")])?;
+    let mut shelf = shelf_of(&rt, alloc, &[("R", READ_INPUT)], &[("A", b"abcd")]);
     let line = "thynvm compare R --input A --pages 8 --btt 8 --ptt 8";
-    let answer = answered(alloc, line, &mut shelf)?;
-    let mut ends = 0_u64;
-    for i in 0..answer.events.len() {
-        if let Event::Ended { status, state, .. } = answer.events.get(i) {
-            assert!(rt;
-                *status == Status::Exited(4) && state.cursor == 4,
-                "{line}: event {i}"
-            );
-            ends = ends.wrapping_add(1);
-        }
-    }
-    assert!(rt; ends == 3, "{line}");
-    Ok(())
+    let answer = answered(&rt, alloc, line, &mut shelf);
+    check(&rt, exits_with_four(&answer) == 3, line);
 }
 
 /// Whether two states are one in all that a program sees.
@@ -334,40 +345,49 @@ fn is_same(a: &MachState, b: &MachState) -> bool {
 
 /// Whether a state is reported as the plain machine reported its own last one: how it has ended, and the digest of
 /// memory.
-fn is_told_so(alloc: Global, state: &MachState, plain: &[u8]) -> Result<bool, AllocError> {
-    let mut report = MemSink::new(alloc, 65_536, Vec::new(alloc))?;
+fn is_told_so(rt: &impl Abort, alloc: Global, state: &MachState, plain: &[u8]) -> bool {
+    let mut report = MemSink::new(alloc, 65_536, Vec::new(alloc)).expect(rt, "memory");
     let is_written = write_ended(state, true, &mut report).is_ok();
-    Ok(is_written && report.taken() == plain)
+    is_written && report.taken() == plain
 }
 
-/// Compares the last states of a made program's runs with one another, and with the plain machine's.
-fn expect_one_end(
-    rt: &impl Abort,
-    alloc: Global,
-    number: u64,
-    options: &str,
-) -> Result<(), AllocError> {
-    let mut shelf = MemShelf::new(Vec::new(alloc), Vec::new(alloc));
-    let made = format!(in alloc; "thynvm make {number} M")?;
-    answered(alloc, made.as_str(), &mut shelf)?;
-    let plain = called_on(alloc, "thynvm plain M --digest", &mut shelf, &[], &[])?;
-    let line = format!(in alloc; "thynvm compare M {options}")?;
-    let answer = answered(alloc, line.as_str(), &mut shelf)?;
+/// Whether the last states of an answer's runs before event `i` are this one.
+fn are_the_same(answer: &Answer, i: usize, state: &MachState) -> bool {
+    for k in 0..i {
+        if k < answer.events.len() {
+            if let Event::Ended { state: other, .. } = answer.events.get(k) {
+                if !is_same(state, other) {
+                    return false;
+                }
+            }
+        }
+    }
+    true
+}
+
+/// Compares the last states of an answer's runs with one another, and with the plain machine's. Returns how many there are.
+fn compare_ends(rt: &impl Abort, alloc: Global, answer: &Answer, plain: &[u8], at: &str) -> u64 {
     let mut ends = 0_u64;
     for i in 0..answer.events.len() {
         if let Event::Ended { state, .. } = answer.events.get(i) {
-            let is_told = is_told_so(alloc, state, plain.report.as_slice())?;
-            assert!(rt; is_told, "{line}: event {i}");
-            for k in 0..i {
-                if let Event::Ended { state: other, .. } = answer.events.get(k) {
-                    assert!(rt; is_same(state, other), "{line}: events {k} and {i}");
-                }
-            }
+            check(rt, is_told_so(rt, alloc, state, plain), at);
+            check(rt, are_the_same(answer, i, state), at);
             ends = ends.wrapping_add(1);
         }
     }
-    assert!(rt; ends == 3 && answer.status == 0, "{line}");
-    Ok(())
+    ends
+}
+
+/// Compares the last states of a made program's runs.
+fn expect_one_end(rt: &impl Abort, alloc: Global, number: u64, options: &str) {
+    let made = format!(in alloc; "thynvm make {number} M").expect(rt, "memory");
+    let line = format!(in alloc; "thynvm compare M {options}").expect(rt, "memory");
+    let mut shelf = MemShelf::new(Vec::new(alloc), Vec::new(alloc));
+    called(rt, alloc, made.as_str(), &mut shelf);
+    let plain = called(rt, alloc, "thynvm plain M --digest", &mut shelf);
+    let answer = answered(rt, alloc, line.as_str(), &mut shelf);
+    let ends = compare_ends(rt, alloc, &answer, plain.report.as_slice(), line.as_str());
+    check(rt, ends == 3 && answer.status == 0, line.as_str());
 }
 
 /// Made programs by their numbers, and options of their comparisons.
@@ -386,12 +406,11 @@ static MADE: [(u64, &str); 5] = [
 ];
 
 #[test]
-fn made_programs_end_as_on_the_plain_machine(rt: HostRuntime) -> Result<(), Fail> {
+fn made_programs_end_as_on_the_plain_machine(rt: HostRuntime) {
     let alloc = rt.alloc();
     for (number, options) in &MADE {
-        expect_one_end(&rt, alloc, *number, options)?;
+        expect_one_end(&rt, alloc, *number, options);
     }
-    Ok(())
 }
 
 #[test]
@@ -401,9 +420,10 @@ fn a_scheme_is_called_by_its_name_and_number(rt: HostRuntime) {
         (SchemeName::Journal, "journal", 1),
         (SchemeName::Shadow, "shadow", 2),
     ] {
-        assert!(rt;
+        check(
+            &rt,
             scheme.name() == name && scheme.number() == number,
-            "{name}"
+            name,
         );
     }
 }

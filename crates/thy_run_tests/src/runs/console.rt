@@ -1,42 +1,10 @@
 //! Runs of programs that read their input and print.
-use crate::runs::programs::{file_of, shelf_of};
-use crate::runs::{Given, called, compare, has};
-use std::alloc::{AllocError, Global};
-use std::test::Fail;
+use crate::runs::programs::{GREET, HELLO, READ_INPUT, shelf_of};
+use crate::runs::{Given, called, called_over, check, compare, has};
+use std::alloc::Global;
+use std::process::Abort;
+use thy_nvm::MemNvm;
 use thy_out::MemShelf;
-
-/// `auipc a1,0; addi a1,a1,32; addi a0,zero,1; addi a2,zero,3; addi a7,zero,64; ecall`, which prints three
-/// bytes; `addi a7,zero,93; ecall`; and the bytes, `Hi` and a line feed.
-pub(crate) static HELLO: [u32; 9] = [
-    0x00000597, 0x02058593, 0x00100513, 0x00300613, 0x04000893, 0x00000073, 0x05d00893, 0x00000073,
-    0x000a6948,
-];
-
-/// `addi a7,zero,63; addi a1,sp,0; addi a2,zero,10; ecall`, which reads up to ten bytes to the start's sp; and
-/// `addi a7,zero,93; ecall`, which exits with their number.
-pub(crate) static READ_INPUT: [u32; 6] = [
-    0x03f00893, 0x00010593, 0x00a00613, 0x00000073, 0x05d00893, 0x00000073,
-];
-
-/// The code of examples/greet.
-static GREET: [u32; 125] = [
-    0x00002197, 0x80018193, 0x00001217, 0xff820213, 0x044000ef, 0x030000ef, 0x03f00893, 0x00000073,
-    0x00008067, 0x04000893, 0x00000073, 0x00008067, 0x00000593, 0x00000613, 0x0d600893, 0x00000073,
-    0x00008067, 0x00000593, 0x00000613, 0x05d00893, 0x00000073, 0xfa010113, 0x05213023, 0x00011937,
-    0x04813823, 0x04913423, 0x03313c23, 0x04113c23, 0x03413823, 0x03513423, 0x03613023, 0x01713c23,
-    0x01813823, 0x00000413, 0x00090913, 0x10000493, 0x0ff00993, 0x00c0006f, 0x00a40433, 0x0089ec63,
-    0x40848633, 0x008905b3, 0x00000513, 0xf6dff0ef, 0xfea044e3, 0x008907b3, 0x00a00613, 0x00040e63,
-    0xfff7c703, 0xfff40693, 0xfff78793, 0x00c71663, 0x00068413, 0xfe0416e3, 0x03000493, 0x02000993,
-    0x00010b37, 0x00010a37, 0x03a00a93, 0x00910423, 0x013104a3, 0x00010523, 0x00200b93, 0x00810c13,
-    0x000b8613, 0x000c0593, 0x00100513, 0xf19ff0ef, 0x0c054663, 0x40ab8bb3, 0x00ac0c33, 0xfe0b92e3,
-    0x00700b93, 0x1e8b0c13, 0x000b8613, 0x000c0593, 0x00100513, 0xef1ff0ef, 0x0a054263, 0x40ab8bb3,
-    0x00ac0c33, 0xfe0b92e3, 0x02040663, 0x00040b93, 0x00090c13, 0x000b8613, 0x000c0593, 0x00100513,
-    0xec5ff0ef, 0x06054c63, 0x40ab8bb3, 0x00ac0c33, 0xfe0b92e3, 0x00200b93, 0x1f0a0c13, 0x000b8613,
-    0x000c0593, 0x00100513, 0xe9dff0ef, 0x04054863, 0x40ab8bb3, 0x00ac0c33, 0xfe0b92e3, 0x0014849b,
-    0x0ff4f493, 0xf55494e3, 0x05813083, 0x0004051b, 0x05013403, 0x04813483, 0x04013903, 0x03813983,
-    0x03013a03, 0x02813a83, 0x02013b03, 0x01813b83, 0x01013c03, 0x06010113, 0x00008067, 0x00100513,
-    0xe65ff0ef, 0x00000000, 0x6c6c6548, 0x00202c6f, 0x00000a21,
-];
 
 /// What `greet` prints of the input `World`, also under `qemu-riscv64`.
 const GREETING: &str = "0 Hello, World!\n\
@@ -50,28 +18,19 @@ const GREETING: &str = "0 Hello, World!\n\
      8 Hello, World!\n\
      9 Hello, World!\n";
 
-/// The three programs under H, R and G, and as inputs `abcd` under A, nothing under N, `World` and a line feed
-/// under W.
-fn programs(alloc: Global) -> Result<MemShelf, AllocError> {
-    let hello = file_of(alloc, 0, &HELLO)?;
-    let read = file_of(alloc, 0, &READ_INPUT)?;
-    let greet = file_of(alloc, 0, &GREET)?;
-    shelf_of(
-        alloc,
-        &[
-            ("H", hello.as_slice()),
-            ("R", read.as_slice()),
-            ("G", greet.as_slice()),
-            ("A", b"abcd"),
-            ("N", b""),
-            ("W", b"World\n"),
-        ],
-    )
+/// Three programs, and as inputs `abcd` under A, nothing under N, `World` and a line feed under W.
+static PROGRAMS: [(&str, &[u32]); 3] = [("H", HELLO), ("R", READ_INPUT), ("G", GREET)];
+
+static INPUTS: [(&str, &[u8]); 3] = [("A", b"abcd"), ("N", b""), ("W", b"World\n")];
+
+/// A shelf with these.
+fn programs(rt: &impl Abort, alloc: Global) -> MemShelf {
+    shelf_of(rt, alloc, &PROGRAMS, &INPUTS)
 }
 
 /// Calls over these programs.
-fn ran(alloc: Global, line: &str) -> Result<Given, AllocError> {
-    called(alloc, line, programs(alloc)?, &[], &[])
+fn ran(rt: &impl Abort, alloc: Global, line: &str) -> Given {
+    called(rt, alloc, line, &mut programs(rt, alloc))
 }
 
 /// Lines with the status, what the terminal takes, and the report. A checkpoint is shown once it is committed. In the
@@ -126,14 +85,18 @@ static PRINTED: [(&str, u8, &str, &str); 10] = [
     ("thynvm plain G --input W", 0, GREETING, "exit 5 at 666\n"),
 ];
 
+/// Calls over these programs, and compares what is given.
+fn expect(rt: &impl Abort, alloc: Global, line: &str, status: u8, printed: &str, report: &str) {
+    let given = ran(rt, alloc, line);
+    compare(rt, line, &given, status, printed, report);
+}
+
 #[test]
-fn the_terminal_shows_what_was_committed(rt: HostRuntime) -> Result<(), Fail> {
+fn the_terminal_shows_what_was_committed(rt: HostRuntime) {
     let alloc = rt.alloc();
     for (line, status, printed, report) in &PRINTED {
-        let given = ran(alloc, line)?;
-        compare(&rt, line, &given, *status, printed, report.as_bytes());
+        expect(&rt, alloc, line, *status, printed, report);
     }
-    Ok(())
 }
 
 /// Runs that read, and how they end: with four bytes at the start's sp, or with none. Of memory the
@@ -160,15 +123,19 @@ static READ: [(&str, &str); 7] = [
     ),
 ];
 
+/// Calls over these programs, and compares a line of the report; nothing is printed.
+fn expect_line(rt: &impl Abort, alloc: Global, line: &str, end: &str) {
+    let given = ran(rt, alloc, line);
+    let is_so = given.status == 0 && given.printed.is_empty() && has(&given.report, end);
+    check(rt, is_so, line);
+}
+
 #[test]
-fn an_input_is_read_also_through_cuts(rt: HostRuntime) -> Result<(), Fail> {
+fn an_input_is_read_also_through_cuts(rt: HostRuntime) {
     let alloc = rt.alloc();
     for (line, end) in &READ {
-        let given = ran(alloc, line)?;
-        let is_so = given.status == 0 && given.printed.is_empty() && has(&given.report, end);
-        assert!(rt; is_so, "{line}");
+        expect_line(&rt, alloc, line, end);
     }
-    Ok(())
 }
 
 /// Runs whose power is cut with the commit block of the first checkpoint after the read queued, which does not
@@ -203,13 +170,11 @@ static READ_AND_CUT: [(&str, &str); 2] = [
 ];
 
 #[test]
-fn what_was_read_is_there_again_where_it_was_committed(rt: HostRuntime) -> Result<(), Fail> {
+fn what_was_read_is_there_again_where_it_was_committed(rt: HostRuntime) {
     let alloc = rt.alloc();
     for (line, report) in &READ_AND_CUT {
-        let given = ran(alloc, line)?;
-        compare(&rt, line, &given, 0, "", report.as_bytes());
+        expect(&rt, alloc, line, 0, "", report);
     }
-    Ok(())
 }
 
 /// Whether a run exited with a last line, and printed a text once and in order.
@@ -245,19 +210,23 @@ static GREETED: [(&str, &str); 8] = [
     ),
 ];
 
+/// Runs it with these options: its last cut is reported, and it prints its lines once.
+fn expect_greeting(rt: &impl Abort, alloc: Global, options: &str, cut: &str) {
+    let line = format!(in alloc;
+        "thynvm run G --input W --pages 8 --btt 8 --ptt 8{options}"
+    ).expect(rt, "memory");
+    let given = ran(rt, alloc, line.as_str());
+    let is_cut = has(&given.report, cut);
+    let ends_so = ends(&given, GREETING, "\nexit 5 at 666\n");
+    check(rt, is_cut && ends_so, line.as_str());
+}
+
 #[test]
-fn ten_lines_are_printed_over_several_epochs_and_cuts(rt: HostRuntime) -> Result<(), Fail> {
+fn ten_lines_are_printed_over_several_epochs_and_cuts(rt: HostRuntime) {
     let alloc = rt.alloc();
     for (options, cut) in &GREETED {
-        let line = format!(in alloc; "thynvm run G --input W --pages 8 --btt 8 --ptt 8{options}")?;
-        let given = ran(alloc, line.as_str())?;
-        let is_cut = has(&given.report, cut);
-        assert!(rt;
-            is_cut && ends(&given, GREETING, "\nexit 5 at 666\n"),
-            "{line}"
-        );
+        expect_greeting(&rt, alloc, options, cut);
     }
-    Ok(())
 }
 
 /// Runs whose terminal fails at its first bytes, with the report: the cycle's lines, and then that it failed.
@@ -273,12 +242,18 @@ static UNSEEN: [(&str, &str); 3] = [
     ("thynvm plain H", "exit 3 at 8\nterminal failed\n"),
 ];
 
+/// Calls over these programs and a terminal that fails.
+fn expect_unseen(rt: &impl Abort, alloc: Global, line: &str, report: &str) {
+    let mut shelf = programs(rt, alloc);
+    let mut nvm = MemNvm::new(alloc);
+    let given = called_over(rt, alloc, line, &mut shelf, &[1], &[], &mut nvm);
+    compare(rt, line, &given, 6, "", report);
+}
+
 #[test]
-fn a_terminal_that_fails_is_told(rt: HostRuntime) -> Result<(), Fail> {
+fn a_terminal_that_fails_is_told(rt: HostRuntime) {
     let alloc = rt.alloc();
     for (line, report) in &UNSEEN {
-        let given = called(alloc, line, programs(alloc)?, &[1], &[])?;
-        compare(&rt, line, &given, 6, "", report.as_bytes());
+        expect_unseen(&rt, alloc, line, report);
     }
-    Ok(())
 }

@@ -1,8 +1,7 @@
 //! Runs whose power is cut.
-use crate::runs::{Given, expect, has, ran};
-use std::alloc::{AllocError, Global};
+use crate::runs::{Given, check, expect, has, ran};
+use std::alloc::Global;
 use std::process::Abort;
-use std::test::Fail;
 
 /// Runs of the program that exits with 7, with the report.
 static CUT_RUNS: [(&str, &str); 6] = [
@@ -55,12 +54,11 @@ static CUT_RUNS: [(&str, &str); 6] = [
 ];
 
 #[test]
-fn power_cuts_are_survived(rt: HostRuntime) -> Result<(), Fail> {
+fn power_cuts_are_survived(rt: HostRuntime) {
     let alloc = rt.alloc();
     for (line, report) in &CUT_RUNS {
-        expect(&rt, alloc, line, 0, report)?;
+        expect(&rt, alloc, line, 0, report);
     }
-    Ok(())
 }
 
 /// A run that exits, with what it prints and its last line, which are the same wherever power is cut.
@@ -103,13 +101,6 @@ static KEEPS_A_PAGE: Case = Case {
     last: "\nexit 0 at 20\n",
 };
 
-/// Runs with a cut after this cycle, which leaves what the pick says.
-fn cut_at(alloc: Global, case: &Case, cycle: u64, tear: u64) -> Result<Given, AllocError> {
-    let run = case.line;
-    let line = format!(in alloc; "{run} --cuts {cycle} --tears {tear}")?;
-    ran(alloc, line.as_str())
-}
-
 /// Whether a run exited as the case says.
 fn ends_so(given: &Given, case: &Case) -> bool {
     given.status == 0
@@ -117,22 +108,29 @@ fn ends_so(given: &Given, case: &Case) -> bool {
         && given.report.as_slice().ends_with(case.last.as_bytes())
 }
 
+/// A cut after a cycle, which leaves what the pick says: it falls, the boot after it reports this, and the run ends alike.
+fn cut_at(rt: &impl Abort, alloc: Global, case: &Case, cycle: u64, tear: u64, after: &str) {
+    let run = case.line;
+    let line = format!(in alloc; "{run} --cuts {cycle} --tears {tear}").expect(rt, "memory");
+    let lines = format!(in alloc; "cut 1 at cycle {cycle}\n{after}").expect(rt, "memory");
+    let given = ran(rt, alloc, line.as_str());
+    let goes_on = has(&given.report, lines.as_str());
+    check(rt, goes_on && ends_so(&given, case), line.as_str());
+}
+
+/// How many cycles a case takes without a cut.
+fn whole(rt: &impl Abort, alloc: Global, case: &Case) -> u64 {
+    let given = ran(rt, alloc, case.line);
+    check(rt, given.cycles > 700 && ends_so(&given, case), case.line);
+    given.cycles
+}
+
 /// A cut at each cycle before the end, with one pick: it falls, and the run ends alike.
-fn cut_everywhere(
-    rt: &impl Abort,
-    alloc: Global,
-    case: &Case,
-    tear: u64,
-) -> Result<(), AllocError> {
-    let whole = ran(alloc, case.line)?;
-    assert!(rt; whole.cycles > 700 && ends_so(&whole, case), "no cut");
-    for cycle in 1..whole.cycles {
-        let given = cut_at(alloc, case, cycle, tear)?;
-        let cut = format!(in alloc; "cut 1 at cycle {cycle}\n")?;
-        let is_cut = has(&given.report, cut.as_str());
-        assert!(rt; is_cut && ends_so(&given, case), "{cut}");
+fn cut_everywhere(rt: &impl Abort, alloc: Global, case: &Case, tear: u64) {
+    let end = whole(rt, alloc, case);
+    for cycle in 1..end {
+        cut_at(rt, alloc, case, cycle, tear, "");
     }
-    Ok(())
 }
 
 /// What the first boot after a cut reports: nothing was committed before the commit block of loading is written in
@@ -140,107 +138,89 @@ fn cut_everywhere(
 /// that is queued, and `lands` says whether the cut lets it land.
 fn comes_after(cycle: u64, lands: bool) -> &'static str {
     if cycle < 698 || (cycle == 698 && !lands) {
-        "reload"
+        "reload\n"
     } else if cycle == 721 && lands {
-        "restart 1 at 3"
+        "restart 1 at 3\n"
     } else {
-        "restart 0 at 0"
+        "restart 0 at 0\n"
     }
 }
 
 /// A cut at each cycle of the program that exits with 7, with one pick: what follows it, and the same end.
-fn cut_seven(rt: &impl Abort, alloc: Global, tear: u64, lands: bool) -> Result<(), AllocError> {
+fn cut_seven(rt: &impl Abort, alloc: Global, tear: u64, lands: bool) {
     for cycle in 1..722 {
-        let given = cut_at(alloc, &EXITS_WITH_SEVEN, cycle, tear)?;
         let after = comes_after(cycle, lands);
-        let lines = format!(in alloc; "cut 1 at cycle {cycle}\n{after}\n")?;
-        let goes_on = has(&given.report, lines.as_str());
-        assert!(rt; goes_on && ends_so(&given, &EXITS_WITH_SEVEN), "{lines}");
+        cut_at(rt, alloc, &EXITS_WITH_SEVEN, cycle, tear, after);
     }
-    Ok(())
 }
 
 #[test]
-fn a_cut_anywhere_of_which_no_write_lands(rt: HostRuntime) -> Result<(), Fail> {
-    cut_seven(&rt, rt.alloc(), 0, false)?;
-    Ok(())
+fn a_cut_anywhere_of_which_no_write_lands(rt: HostRuntime) {
+    cut_seven(&rt, rt.alloc(), 0, false);
 }
 
 #[test]
-fn a_cut_anywhere_of_which_every_write_lands(rt: HostRuntime) -> Result<(), Fail> {
-    cut_seven(&rt, rt.alloc(), 1, true)?;
-    Ok(())
+fn a_cut_anywhere_of_which_every_write_lands(rt: HostRuntime) {
+    cut_seven(&rt, rt.alloc(), 1, true);
 }
 
 /// The first draw of seed 7 is 1059165278: even, so that a single write does not land.
 #[test]
-fn a_cut_anywhere_with_drawn_blocks(rt: HostRuntime) -> Result<(), Fail> {
-    cut_seven(&rt, rt.alloc(), 7, false)?;
-    Ok(())
+fn a_cut_anywhere_with_drawn_blocks(rt: HostRuntime) {
+    cut_seven(&rt, rt.alloc(), 7, false);
 }
 
 #[test]
-fn a_text_is_printed_once_where_no_write_lands(rt: HostRuntime) -> Result<(), Fail> {
-    cut_everywhere(&rt, rt.alloc(), &PRINTS, 0)?;
-    Ok(())
+fn a_text_is_printed_once_where_no_write_lands(rt: HostRuntime) {
+    cut_everywhere(&rt, rt.alloc(), &PRINTS, 0);
 }
 
 #[test]
-fn a_text_is_printed_once_where_every_write_lands(rt: HostRuntime) -> Result<(), Fail> {
-    cut_everywhere(&rt, rt.alloc(), &PRINTS, 1)?;
-    Ok(())
+fn a_text_is_printed_once_where_every_write_lands(rt: HostRuntime) {
+    cut_everywhere(&rt, rt.alloc(), &PRINTS, 1);
 }
 
 #[test]
-fn overlapping_epochs_are_cut_and_no_write_lands(rt: HostRuntime) -> Result<(), Fail> {
-    cut_everywhere(&rt, rt.alloc(), &OVERLAPS, 0)?;
-    Ok(())
+fn overlapping_epochs_are_cut_and_no_write_lands(rt: HostRuntime) {
+    cut_everywhere(&rt, rt.alloc(), &OVERLAPS, 0);
 }
 
 #[test]
-fn overlapping_epochs_are_cut_and_every_write_lands(rt: HostRuntime) -> Result<(), Fail> {
-    cut_everywhere(&rt, rt.alloc(), &OVERLAPS, 1)?;
-    Ok(())
+fn overlapping_epochs_are_cut_and_every_write_lands(rt: HostRuntime) {
+    cut_everywhere(&rt, rt.alloc(), &OVERLAPS, 1);
 }
 
 #[test]
-fn overlapping_epochs_are_cut_with_drawn_blocks(rt: HostRuntime) -> Result<(), Fail> {
-    cut_everywhere(&rt, rt.alloc(), &OVERLAPS, 7)?;
-    Ok(())
+fn overlapping_epochs_are_cut_with_drawn_blocks(rt: HostRuntime) {
+    cut_everywhere(&rt, rt.alloc(), &OVERLAPS, 7);
 }
 
 #[test]
-fn exhausted_epochs_are_cut_and_no_write_lands(rt: HostRuntime) -> Result<(), Fail> {
-    cut_everywhere(&rt, rt.alloc(), &EXHAUSTS, 0)?;
-    Ok(())
+fn exhausted_epochs_are_cut_and_no_write_lands(rt: HostRuntime) {
+    cut_everywhere(&rt, rt.alloc(), &EXHAUSTS, 0);
 }
 
 #[test]
-fn exhausted_epochs_are_cut_and_every_write_lands(rt: HostRuntime) -> Result<(), Fail> {
-    cut_everywhere(&rt, rt.alloc(), &EXHAUSTS, 1)?;
-    Ok(())
+fn exhausted_epochs_are_cut_and_every_write_lands(rt: HostRuntime) {
+    cut_everywhere(&rt, rt.alloc(), &EXHAUSTS, 1);
 }
 
 #[test]
-fn exhausted_epochs_are_cut_with_drawn_blocks(rt: HostRuntime) -> Result<(), Fail> {
-    cut_everywhere(&rt, rt.alloc(), &EXHAUSTS, 7)?;
-    Ok(())
+fn exhausted_epochs_are_cut_with_drawn_blocks(rt: HostRuntime) {
+    cut_everywhere(&rt, rt.alloc(), &EXHAUSTS, 7);
 }
 
 #[test]
-fn a_page_in_the_dram_is_cut_and_no_write_lands(rt: HostRuntime) -> Result<(), Fail> {
-    cut_everywhere(&rt, rt.alloc(), &KEEPS_A_PAGE, 0)?;
-    Ok(())
+fn a_page_in_the_dram_is_cut_and_no_write_lands(rt: HostRuntime) {
+    cut_everywhere(&rt, rt.alloc(), &KEEPS_A_PAGE, 0);
 }
 
 #[test]
-fn a_page_in_the_dram_is_cut_and_every_write_lands(rt: HostRuntime) -> Result<(), Fail> {
-    cut_everywhere(&rt, rt.alloc(), &KEEPS_A_PAGE, 1)?;
-    Ok(())
+fn a_page_in_the_dram_is_cut_and_every_write_lands(rt: HostRuntime) {
+    cut_everywhere(&rt, rt.alloc(), &KEEPS_A_PAGE, 1);
 }
 
 #[test]
-fn a_page_in_the_dram_is_cut_with_drawn_blocks(rt: HostRuntime) -> Result<(), Fail> {
-    cut_everywhere(&rt, rt.alloc(), &KEEPS_A_PAGE, 7)?;
-    Ok(())
+fn a_page_in_the_dram_is_cut_with_drawn_blocks(rt: HostRuntime) {
+    cut_everywhere(&rt, rt.alloc(), &KEEPS_A_PAGE, 7);
 }

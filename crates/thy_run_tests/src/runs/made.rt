@@ -1,37 +1,32 @@
 //! Programs that are made from a number, and runs of them.
-use crate::runs::{Given, called_on, compare, has};
-use std::alloc::{AllocError, Global};
+use crate::runs::{Given, called, called_untold, check, compare, expect_on, has};
+use std::alloc::Global;
 use std::process::Abort;
-use std::test::Fail;
-use thy_base::Shelf;
 use thy_out::MemShelf;
 
 /// A shelf with nothing on it, which fails at these calls.
-fn empty(alloc: Global, failing: &[u64]) -> Result<MemShelf, AllocError> {
-    Ok(MemShelf::new(Vec::new(alloc), Vec::from_slice(alloc, failing)?))
+fn empty(rt: &impl Abort, alloc: Global, failing: &[u64]) -> MemShelf {
+    let failing = Vec::from_slice(alloc, failing).expect(rt, "memory");
+    MemShelf::new(Vec::new(alloc), failing)
 }
 
 /// Calls on an empty shelf.
-fn ran(alloc: Global, line: &str) -> Result<Given, AllocError> {
-    let mut shelf = empty(alloc, &[])?;
-    called_on(alloc, line, &mut shelf, &[], &[])
+fn ran(rt: &impl Abort, alloc: Global, line: &str) -> Given {
+    called(rt, alloc, line, &mut empty(rt, alloc, &[]))
 }
 
 #[test]
-fn a_made_program_is_put_and_runs(rt: HostRuntime) -> Result<(), Fail> {
+fn a_made_program_is_put_and_runs(rt: HostRuntime) {
     let alloc = rt.alloc();
-    let mut shelf = empty(alloc, &[2])?;
+    let mut shelf = empty(&rt, alloc, &[2]);
     let line = "thynvm make 0 OUT";
-    let given = called_on(alloc, line, &mut shelf, &[], &[])?;
-    compare(&rt, line, &given, 0, "", b"made 0 24148\n");
-    assert!(rt; given.cycles == 0);
+    let given = called(&rt, alloc, line, &mut shelf);
+    compare(&rt, line, &given, 0, "", "made 0 24148\n");
+    check(&rt, given.cycles == 0, line);
     let line = "thynvm make 0 OTHER";
-    let given = called_on(alloc, line, &mut shelf, &[], &[])?;
-    compare(&rt, line, &given, 3, "", b"put OTHER failed\n");
+    expect_on(&rt, alloc, line, &mut shelf, 3, "put OTHER failed\n");
     let line = "thynvm plain OUT";
-    let given = called_on(alloc, line, &mut shelf, &[], &[])?;
-    compare(&rt, line, &given, 0, "", b"exit 128 at 48027\n");
-    Ok(())
+    expect_on(&rt, alloc, line, &mut shelf, 0, "exit 128 at 48027\n");
 }
 
 /// Runs of made programs, with status and report.
@@ -52,49 +47,46 @@ static BENCHES: [(&str, u8, &str); 6] = [
     ("thynvm make 0", 2, "usage\n"),
 ];
 
+/// Calls on an empty shelf, and compares status and report.
+fn expect(rt: &impl Abort, alloc: Global, line: &str, status: u8, report: &str) {
+    expect_on(rt, alloc, line, &mut empty(rt, alloc, &[]), status, report);
+}
+
 #[test]
-fn runs_of_made_programs_are_summed_up(rt: HostRuntime) -> Result<(), Fail> {
+fn runs_of_made_programs_are_summed_up(rt: HostRuntime) {
     let alloc = rt.alloc();
     for (line, status, report) in &BENCHES {
-        let given = ran(alloc, line)?;
-        compare(&rt, line, &given, *status, "", report.as_bytes());
+        expect(&rt, alloc, line, *status, report);
     }
-    Ok(())
 }
 
 /// The report of a made program that runs in one epoch, without its sums.
-const UNSUMMED: &[u8] =
-    b"commit 0 overlapped 0\nepoch 1 ends at 48027 by end\ncommit 1 overlapped 0\nexit 128 at 48027\n";
+const UNSUMMED: &str =
+    "commit 0 overlapped 0\nepoch 1 ends at 48027 by end\ncommit 1 overlapped 0\nexit 128 at 48027\n";
 
 /// The report refuses the line of a made file, and then the line of a run's sums. The file and the image are there all
 /// the same, and a save that failed keeps its status.
 #[test]
-fn a_report_that_refuses_sums_has_failed(rt: HostRuntime) -> Result<(), Fail> {
+fn a_report_that_refuses_sums_has_failed(rt: HostRuntime) {
     let alloc = rt.alloc();
-    let mut shelf = empty(alloc, &[])?;
+    let mut shelf = empty(&rt, alloc, &[]);
     let line = "thynvm make 0 OUT";
-    let given = called_on(alloc, line, &mut shelf, &[], &[1])?;
-    compare(&rt, line, &given, 6, "", b"");
+    let given = called_untold(&rt, alloc, line, &mut shelf, 1);
+    compare(&rt, line, &given, 6, "", "");
     let line = "thynvm plain OUT";
-    let given = called_on(alloc, line, &mut shelf, &[], &[])?;
-    compare(&rt, line, &given, 0, "", b"exit 128 at 48027\n");
-    let bench = "thynvm bench 0 --btt 4096 --epoch 1000000 --save IMAGE";
-    let given = called_on(alloc, bench, &mut shelf, &[], &[5])?;
-    compare(&rt, bench, &given, 6, "", UNSUMMED);
+    expect_on(&rt, alloc, line, &mut shelf, 0, "exit 128 at 48027\n");
+    expect_unsummed(&rt, alloc, &mut shelf, 6);
     let line = "thynvm resume IMAGE --btt 4096 --epoch 1000000";
-    let given = called_on(alloc, line, &mut shelf, &[], &[])?;
-    compare(
-        &rt,
-        line,
-        &given,
-        0,
-        "",
-        b"restart 1 at 48027\nexit 128 at 48027\n",
-    );
-    let mut shelf = empty(alloc, &[1])?;
-    let given = called_on(alloc, bench, &mut shelf, &[], &[5])?;
-    compare(&rt, bench, &given, 3, "", UNSUMMED);
-    Ok(())
+    let report = "restart 1 at 48027\nexit 128 at 48027\n";
+    expect_on(&rt, alloc, line, &mut shelf, 0, report);
+    expect_unsummed(&rt, alloc, &mut empty(&rt, alloc, &[1]), 3);
+}
+
+/// Runs and saves it with a report that refuses the sums.
+fn expect_unsummed(rt: &impl Abort, alloc: Global, shelf: &mut MemShelf, status: u8) {
+    let line = "thynvm bench 0 --btt 4096 --epoch 1000000 --save IMAGE";
+    let given = called_untold(rt, alloc, line, shelf, 5);
+    compare(rt, line, &given, status, "", UNSUMMED);
 }
 
 /// What is reported if no page is promoted and enough entries are free, between its first line and the number of
@@ -109,25 +101,25 @@ static EPOCHS: [&str; 6] = [
 ];
 
 #[test]
-fn checkpoints_overlap_execution(rt: HostRuntime) -> Result<(), Fail> {
-    let alloc = rt.alloc();
-    let given = ran(alloc, "thynvm bench 0 --btt 4096 --high 63")?;
-    assert!(rt; given.status == 0);
+fn checkpoints_overlap_execution(rt: HostRuntime) {
+    let line = "thynvm bench 0 --btt 4096 --high 63";
+    let given = ran(&rt, rt.alloc(), line);
+    check(&rt, given.status == 0, line);
     for piece in &EPOCHS {
-        assert!(rt; has(&given.report, piece), "{piece}");
+        check(&rt, has(&given.report, piece), piece);
     }
-    assert!(rt; !has(&given.report, "early 0 overlapped 0\n"));
-    Ok(())
+    check(&rt, !has(&given.report, "early 0 overlapped 0\n"), line);
 }
 
 #[test]
-fn equal_words_give_equal_reports(rt: HostRuntime) -> Result<(), Fail> {
+fn equal_words_give_equal_reports(rt: HostRuntime) {
     let alloc = rt.alloc();
     let line = "thynvm bench 7 --mix 11 --cuts 20000,90000 --tears 5,6 --epoch 3000 --digest";
-    let one = ran(alloc, line)?;
-    let other = ran(alloc, line)?;
-    assert!(rt; one.status == 0 && has(&one.report, "\nexit 128 at 48027\n"));
-    compare(&rt, line, &other, one.status, "", one.report.as_slice());
-    assert!(rt; one.cycles == other.cycles);
-    Ok(())
+    let one = ran(&rt, alloc, line);
+    let other = ran(&rt, alloc, line);
+    let ends = has(&one.report, "\nexit 128 at 48027\n");
+    check(&rt, one.status == 0 && ends, line);
+    let is_same = other.status == one.status && other.printed.is_empty();
+    check(&rt, is_same && other.report == one.report, line);
+    check(&rt, one.cycles == other.cycles, line);
 }

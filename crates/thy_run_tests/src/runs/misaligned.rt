@@ -2,11 +2,10 @@
 ghost use Rattle.std.specs.Prelude.{◌+◌, ◌≤◌};
 
 use crate::runs::programs::{file_of, shelf_of};
-use crate::runs::{Given, called, compare};
+use crate::runs::{Given, called, check, compare};
 use sha2::{Digest, Sha256};
-use std::alloc::{AllocError, Global};
+use std::alloc::Global;
 use std::process::Abort;
-use std::test::Fail;
 
 /// `addi a0,zero,-2; sd a0,-4(sp); lbu a0,0(sp); addi a7,zero,93; ecall`: a store over two blocks, and a load of a
 /// byte of the second.
@@ -51,35 +50,43 @@ static ROWS: [(&[u32], u8, &str, &str); 3] = [
 ];
 
 /// Calls with a file alone on the shelf, under the name F.
-fn ran(alloc: Global, line: &str, file: &[u8]) -> Result<Given, AllocError> {
-    called(alloc, line, shelf_of(alloc, &[("F", file)])?, &[], &[])
+fn ran(rt: &impl Abort, alloc: Global, line: &str, file: &[u8]) -> Given {
+    called(
+        rt,
+        alloc,
+        line,
+        &mut shelf_of(rt, alloc, &[], &[("F", file)]),
+    )
 }
 
 /// Runs a line over a file, and compares status and report.
-fn expect_of(
+fn expect_of(rt: &impl Abort, alloc: Global, line: &str, file: &[u8], status: u8, report: &str) {
+    let given = ran(rt, alloc, line, file);
+    compare(rt, report, &given, status, "", report);
+}
+
+/// Runs a program on the machine and on the plain machine.
+fn expect_both(
     rt: &impl Abort,
     alloc: Global,
-    line: &str,
-    file: &[u8],
+    words: &[u32],
     status: u8,
     report: &str,
-) -> Result<(), AllocError> {
-    let given = ran(alloc, line, file)?;
-    compare(rt, report, &given, status, "", report.as_bytes());
-    Ok(())
+    plain: &str,
+) {
+    let file = file_of(rt, alloc, words);
+    let line = "thynvm run F --pages 8 --btt 8 --ptt 8";
+    expect_of(rt, alloc, line, file.as_slice(), status, report);
+    let line = "thynvm plain F --pages 8";
+    expect_of(rt, alloc, line, file.as_slice(), status, plain);
 }
 
 #[test]
-fn an_access_over_two_blocks_is_carried_out(rt: HostRuntime) -> Result<(), Fail> {
+fn an_access_over_two_blocks_is_carried_out(rt: HostRuntime) {
     let alloc = rt.alloc();
-    for (words, status, run, plain) in &ROWS {
-        let file = file_of(alloc, 0, words)?;
-        let line = "thynvm run F --pages 8 --btt 8 --ptt 8";
-        expect_of(&rt, alloc, line, file.as_slice(), *status, run)?;
-        let line = "thynvm plain F --pages 8";
-        expect_of(&rt, alloc, line, file.as_slice(), *status, plain)?;
+    for (words, status, report, plain) in &ROWS {
+        expect_both(&rt, alloc, words, *status, report, plain);
     }
-    Ok(())
 }
 
 /// The size of program memory of eight pages in bytes, and the offset in it of the start's sp.
@@ -104,7 +111,7 @@ const HIGH: u64 = 0x8e0f_9071_0a8b_0c8d;
 const STORED: u64 = 0x8877_66d5_4433_2211;
 
 /// What an access does with its bytes.
-#[derive(Clone, Copy, Debug, PartialEq, Eq)]
+#[derive(Clone, Copy, PartialEq, Eq)]
 enum Kind {
     /// The bytes are loaded, and extended by their sign.
     Signed,
@@ -183,19 +190,21 @@ fn words_of(word: u32, at: usize) -> [u32; 18]
 }
 
 /// The bytes of memory in which a program of these words is loaded.
-fn memory_of(alloc: Global, words: &[u32]) -> Result<Vec<u8>, AllocError> {
+fn memory_of(rt: &impl Abort, alloc: Global, words: &[u32]) -> Vec<u8> {
     let mut memory = Vec::new(alloc);
     for word in words {
-        memory.extend_from_slice(&word.to_le_bytes())?;
+        memory
+            .extend_from_slice(&word.to_le_bytes())
+            .expect(rt, "memory");
     }
-    memory.resize(SIZE, 0)?;
-    Ok(memory)
+    memory.resize(SIZE, 0).expect(rt, "memory");
+    memory
 }
 
 /// The lines of a run's end, with the digest of this memory.
-fn end_of(alloc: Global, line: &str, memory: &[u8]) -> Result<String, AllocError> {
-    let digest = hex::encode(alloc, Sha256::digest(memory))?;
-    format!(in alloc; "{line}\nmemory {digest}\n")
+fn end_of(rt: &impl Abort, alloc: Global, line: &str, memory: &[u8]) -> String {
+    let digest = hex::encode(alloc, Sha256::digest(memory)).expect(rt, "memory");
+    format!(in alloc; "{line}\nmemory {digest}\n").expect(rt, "memory")
 }
 
 /// What the program makes of memory, with an access of which all bytes are inside.
@@ -217,13 +226,13 @@ fn run_on(memory: &mut [u8], at: usize, size: usize, kind: Kind)
 }
 
 /// The row of an access at a place of memory.
-fn row_of(alloc: Global, access: &(u32, usize, Kind), at: usize) -> Result<Row, AllocError>
+fn row_of(rt: &impl Abort, alloc: Global, access: &(u32, usize, Kind), at: usize) -> Row
     requires { at ≤ 32768 }
 {
     let (word, size, kind) = *access;
     let size = size.min(8);
     let words = words_of(word, at);
-    let mut memory = memory_of(alloc, &words)?;
+    let mut memory = memory_of(rt, alloc, &words);
     put(memory.as_mut_slice(), SP - 8, 8, LOW);
     put(memory.as_mut_slice(), SP, 8, HIGH);
     put(memory.as_mut_slice(), SIZE - 8, 8, HIGH);
@@ -235,12 +244,12 @@ fn row_of(alloc: Global, access: &(u32, usize, Kind), at: usize) -> Result<Row, 
     } else {
         (1, 9, "trap 5 at 9")
     };
-    Ok(Row {
-        file: file_of(alloc, 0, &words)?,
+    Row {
+        file: file_of(rt, alloc, &words),
         status,
         count,
-        end: end_of(alloc, line, memory.as_slice())?,
-    })
+        end: end_of(rt, alloc, line, memory.as_slice()),
+    }
 }
 
 /// Caches of one line, of two sets of one, and of sixteen sets of four.
@@ -250,84 +259,90 @@ static CACHES: [&str; 3] = [
     "--sets 16 --ways 4",
 ];
 
-/// Runs a row's program on the plain machine, and on the machine with each cache.
-fn run_row(rt: &impl Abort, alloc: Global, row: &Row) -> Result<(), AllocError> {
-    let (count, end) = (row.count, row.end.as_str());
+/// Runs a row's program with one cache.
+fn run_cache(rt: &impl Abort, alloc: Global, row: &Row, cache: &str, report: &str) {
+    let line = format!(in alloc; "thynvm run F --pages 8 --btt 8 --ptt 8 --digest {cache}").expect(
+        rt, "memory",
+    );
     let file = row.file.as_slice();
+    expect_of(rt, alloc, line.as_str(), file, row.status, report);
+}
+
+/// Runs a row's program on the plain machine, and on the machine with each cache.
+fn run_row(rt: &impl Abort, alloc: Global, row: &Row) {
+    let (count, end) = (row.count, row.end.as_str());
     let line = "thynvm plain F --pages 8 --digest";
-    expect_of(rt, alloc, line, file, row.status, end)?;
+    expect_of(rt, alloc, line, row.file.as_slice(), row.status, end);
     let report = format!(in alloc;
         "commit 0 overlapped 0\nepoch 1 ends at {count} by end\ncommit 1 overlapped 0\n{end}"
-    )?;
+    ).expect(rt, "memory");
     for cache in &CACHES {
-        let line = format!(in alloc; "thynvm run F --pages 8 --btt 8 --ptt 8 --digest {cache}")?;
-        expect_of(rt, alloc, line.as_str(), file, row.status, report.as_str())?;
+        run_cache(rt, alloc, row, cache, report.as_str());
     }
-    Ok(())
+}
+
+/// Runs an access at a place.
+fn run_access(rt: &impl Abort, alloc: Global, access: &(u32, usize, Kind), at: usize)
+    requires { at ≤ 32768 }
+{
+    run_row(rt, alloc, &row_of(rt, alloc, access, at));
 }
 
 /// Runs each access at nine places in a row.
-fn run_places(rt: &impl Abort, alloc: Global, from: usize) -> Result<(), AllocError>
+fn run_places(rt: &impl Abort, alloc: Global, from: usize)
     requires { from + 9 ≤ 32768 }
 {
     for access in &ACCESSES {
         for at in from..from + 9 {
-            run_row(rt, alloc, &row_of(alloc, access, at)?)?;
+            run_access(rt, alloc, access, at);
         }
     }
-    Ok(())
 }
 
 #[test]
-fn each_access_around_the_end_of_a_block(rt: HostRuntime) -> Result<(), Fail> {
-    run_places(&rt, rt.alloc(), SP - 8)?;
-    Ok(())
+fn each_access_around_the_end_of_a_block(rt: HostRuntime) {
+    run_places(&rt, rt.alloc(), SP - 8);
 }
 
 #[test]
-fn each_access_around_the_end_of_memory(rt: HostRuntime) -> Result<(), Fail> {
-    run_places(&rt, rt.alloc(), SIZE - 8)?;
-    Ok(())
+fn each_access_around_the_end_of_memory(rt: HostRuntime) {
+    run_places(&rt, rt.alloc(), SIZE - 8);
 }
 
-/// A cut at each cycle of a program's run, with one pick: it ends alike.
-fn cut_everywhere(
-    rt: &impl Abort,
-    alloc: Global,
-    file: &[u8],
-    tear: u64,
-    end: &str,
-) -> Result<(), AllocError> {
-    let run = "thynvm run F --pages 8 --btt 8 --ptt 8 --sets 2 --ways 1 --digest";
-    let whole = ran(alloc, run, file)?;
-    assert!(rt; whole.cycles > 700, "no cut");
-    for cycle in 1..whole.cycles {
-        let line = format!(in alloc; "{run} --cuts {cycle} --tears {tear}")?;
-        let given = ran(alloc, line.as_str(), file)?;
-        let is_same = given.status == 0 && given.report.as_slice().ends_with(end.as_bytes());
-        assert!(rt; is_same, "{line}");
+/// A program's run, up to its cuts.
+const RUN: &str = "thynvm run F --pages 8 --btt 8 --ptt 8 --sets 2 --ways 1 --digest";
+
+/// A cut after a cycle, with one pick: it ends alike.
+fn cut_at(rt: &impl Abort, alloc: Global, file: &[u8], cycle: u64, tear: u64, end: &str) {
+    let line = format!(in alloc; "{RUN} --cuts {cycle} --tears {tear}").expect(rt, "memory");
+    let given = ran(rt, alloc, line.as_str(), file);
+    let is_same = given.status == 0 && given.report.as_slice().ends_with(end.as_bytes());
+    check(rt, is_same, line.as_str());
+}
+
+/// A cut at each cycle of a program's run, with three picks.
+fn cut_everywhere(rt: &impl Abort, alloc: Global, file: &[u8], end: &str) {
+    let cycles = ran(rt, alloc, RUN, file).cycles;
+    check(rt, cycles > 700, "no cut");
+    for cycle in 1..cycles {
+        cut_at(rt, alloc, file, cycle, 0, end);
+        cut_at(rt, alloc, file, cycle, 1, end);
+        cut_at(rt, alloc, file, cycle, 7, end);
     }
-    Ok(())
 }
 
 #[test]
-fn a_store_over_two_blocks_is_cut_anywhere(rt: HostRuntime) -> Result<(), Fail> {
+fn a_store_over_two_blocks_is_cut_anywhere(rt: HostRuntime) {
     let alloc = rt.alloc();
-    let row = row_of(alloc, &(0x0062b023, 8, Kind::Store), SP - 4)?;
-    for tear in [0, 1, 7] {
-        cut_everywhere(&rt, alloc, row.file.as_slice(), tear, row.end.as_str())?;
-    }
-    Ok(())
+    let row = row_of(&rt, alloc, &(0x0062b023, 8, Kind::Store), SP - 4);
+    cut_everywhere(&rt, alloc, row.file.as_slice(), row.end.as_str());
 }
 
 #[test]
-fn stores_that_need_two_entries_are_cut_anywhere(rt: HostRuntime) -> Result<(), Fail> {
+fn stores_that_need_two_entries_are_cut_anywhere(rt: HostRuntime) {
     let alloc = rt.alloc();
-    let file = file_of(alloc, 0, &FIVE_STORES)?;
-    let memory = memory_of(alloc, &FIVE_STORES)?;
-    let end = end_of(alloc, "exit 0 at 7", memory.as_slice())?;
-    for tear in [0, 1, 7] {
-        cut_everywhere(&rt, alloc, file.as_slice(), tear, end.as_str())?;
-    }
-    Ok(())
+    let file = file_of(&rt, alloc, &FIVE_STORES);
+    let memory = memory_of(&rt, alloc, &FIVE_STORES);
+    let end = end_of(&rt, alloc, "exit 0 at 7", memory.as_slice());
+    cut_everywhere(&rt, alloc, file.as_slice(), end.as_str());
 }

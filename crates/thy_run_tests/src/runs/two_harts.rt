@@ -2,19 +2,17 @@
 ghost use Rattle.std.specs.Prelude.{◌≡◌};
 ghost use Rattle.thy_base.specs.Geometry.{program_size};
 
-use crate::runs::programs::{file_of, shelf_of};
-use crate::runs::{called_on, compare};
+use crate::runs::programs::{file_of, patched, shelf_of};
+use crate::runs::{answered, called, check, compare, expect_on};
 use crate::support::expect::expect_at;
 use crate::support::geometry::geometry_of;
-use std::alloc::{AllocError, Global};
+use std::alloc::Global;
 use std::process::Abort;
-use std::test::Fail;
 use thy_base::{Bytes, Geometry, Parameters, SchemeName, Shelf};
-use thy_cli::{Answer, thynvm};
+use thy_cli::Answer;
 use thy_elf::read;
 use thy_isa::MachState;
-use thy_nvm::MemNvm;
-use thy_out::{MemShelf, MemSink};
+use thy_out::MemShelf;
 use thy_plain::Plain;
 use thy_text::Event;
 
@@ -106,29 +104,32 @@ fn none(alloc: Global) -> Turns {
     }
 }
 
+/// The turns that led to the committed checkpoint, followed by the turns of one more epoch.
+fn with_epoch(rt: &impl Abort, alloc: Global, kept: &[u8], turns: &[u8]) -> Vec<u8> {
+    let mut all = Vec::from_slice(alloc, kept).expect(rt, "memory");
+    all.extend_from_slice(turns).expect(rt, "memory");
+    all
+}
+
 /// The turns after one more event.
-fn with_event(alloc: Global, turns: Turns, event: &Event) -> Result<Turns, AllocError> {
+fn with_event(rt: &impl Abort, alloc: Global, turns: Turns, event: &Event) -> Turns {
     let Turns {
         kept,
         sealed_epoch,
         sealed,
     } = turns;
     match event {
-        Event::EpochEnd { epoch, turns, .. } => {
-            let mut all = Vec::from_slice(alloc, kept.as_slice())?;
-            all.extend_from_slice(turns.as_slice())?;
-            Ok(Turns {
-                kept,
-                sealed_epoch: Some(*epoch),
-                sealed: all,
-            })
-        }
-        Event::Commit { .. } => Ok(Turns {
+        Event::EpochEnd { epoch, turns, .. } => Turns {
+            sealed: with_epoch(rt, alloc, kept.as_slice(), turns.as_slice()),
+            kept,
+            sealed_epoch: Some(*epoch),
+        },
+        Event::Commit { .. } => Turns {
             kept: sealed,
             sealed_epoch: None,
             sealed: Vec::new(alloc),
-        }),
-        Event::Restart { epoch, .. } => Ok(Turns {
+        },
+        Event::Restart { epoch, .. } => Turns {
             kept: if sealed_epoch == Some(*epoch) {
                 sealed
             } else {
@@ -136,58 +137,52 @@ fn with_event(alloc: Global, turns: Turns, event: &Event) -> Result<Turns, Alloc
             },
             sealed_epoch: None,
             sealed: Vec::new(alloc),
-        }),
-        Event::Reload | Event::Scheme { .. } => Ok(none(alloc)),
-        Event::Cut { .. } | Event::Ended { .. } => Ok(Turns {
+        },
+        Event::Reload | Event::Scheme { .. } => none(alloc),
+        Event::Cut { .. } | Event::Ended { .. } => Turns {
             kept,
             sealed_epoch,
             sealed,
-        }),
+        },
     }
 }
 
-/// What a call returns over this shelf.
-fn answered(alloc: Global, line: &str, shelf: &mut MemShelf) -> Result<Answer, AllocError> {
-    let mut words = Vec::new(alloc);
-    for word in line.split(' ') {
-        words.push(String::from_str(alloc, word)?)?;
-    }
-    let mut terminal = MemSink::new(alloc, 65_536, Vec::new(alloc))?;
-    let mut report = MemSink::new(alloc, 65_536, Vec::new(alloc))?;
-    let mut nvm = MemNvm::new(alloc);
-    Ok(thynvm(alloc, &words, shelf, &mut terminal, &mut report, &mut nvm))
+/// A shelf with a file under the name H.
+fn shelf(rt: &impl Abort, alloc: Global, file: &[u8]) -> MemShelf {
+    shelf_of(rt, alloc, &[], &[("H", file)])
 }
 
-/// Runs a line over this file under the name H, and compares each state of an event with the state of the plain machine
-/// which takes the turns that the events before it list.
-fn expect_by_turns(
-    rt: &impl Abort,
-    alloc: Global,
-    file: &[u8],
-    line: &str,
-) -> Result<(), AllocError> {
-    let mut shelf = shelf_of(alloc, &[("H", file)])?;
-    let answer = answered(alloc, line, &mut shelf)?;
+/// Compares a state with the plain machine's after these turns.
+fn stands(rt: &impl Abort, alloc: Global, file: &[u8], turns: &Turns, state: &MachState, at: &str) {
+    let plain = by_turns(rt, alloc, file, turns.kept.as_slice());
+    check(rt, is_same(state, plain.state()), at);
+}
+
+/// Compares each state of an answer's events with the state of the plain machine which takes the turns that the events
+/// before it list. Returns how many runs have ended.
+fn ends_by_turns(rt: &impl Abort, alloc: Global, file: &[u8], answer: &Answer, at: &str) -> u64 {
     let mut turns = none(alloc);
     let mut ends = 0u64;
     for i in 0..answer.events.len() {
         let event = answer.events.get(i);
-        turns = with_event(alloc, turns, event)?;
+        turns = with_event(rt, alloc, turns, event);
         match event {
-            Event::Restart { state, .. } => {
-                let plain = by_turns(rt, alloc, file, turns.kept.as_slice());
-                assert!(rt; is_same(state, plain.state()), "{line}: event {i}");
-            }
+            Event::Restart { state, .. } => stands(rt, alloc, file, &turns, state, at),
             Event::Ended { state, .. } => {
-                let plain = by_turns(rt, alloc, file, turns.kept.as_slice());
-                assert!(rt; is_same(state, plain.state()), "{line}: event {i}");
+                stands(rt, alloc, file, &turns, state, at);
                 ends = ends.saturating_add(1);
             }
             _ => {}
         }
     }
-    assert!(rt; answer.status == 0 && ends > 0, "{line}");
-    Ok(())
+    ends
+}
+
+/// Runs a line over a file, and compares these states.
+fn expect_by_turns(rt: &impl Abort, alloc: Global, file: &[u8], line: &str) {
+    let answer = answered(rt, alloc, line, &mut shelf(rt, alloc, file));
+    let ends = ends_by_turns(rt, alloc, file, &answer, line);
+    check(rt, answer.status == 0 && ends > 0, line);
 }
 
 /// Whether turns are these digits.
@@ -211,40 +206,50 @@ static SEEDS: [(&str, u64, u64, u64); 5] = [
     ("0100100010010101011", 11, 8, 728),
 ];
 
-#[test]
-fn the_hart_that_adds_second_exits(rt: HostRuntime) -> Result<(), Fail> {
-    let alloc = rt.alloc();
-    let file = file_of(alloc, 0, &SECOND_EXITS)?;
-    for (seed, (digits, zero, one, cycles)) in SEEDS.iter().enumerate() {
-        let line = format!(in alloc;
-            "thynvm run H --pages 8 --btt 8 --ptt 8 --harts 2 --mix {seed}"
-        )?;
-        let mut shelf = shelf_of(alloc, &[("H", file.as_slice())])?;
-        let answer = answered(alloc, line.as_str(), &mut shelf)?;
-        expect_at(&rt, (answer.status, answer.cycles), (0, *cycles), seed);
-        for i in 0..answer.events.len() {
-            if let Event::EpochEnd { turns, .. } = answer.events.get(i) {
-                assert!(rt; are_digits(turns.as_slice(), digits), "{line}");
+/// Whether the turns of each epoch of an answer are these digits.
+fn are_turns(answer: &Answer, digits: &str) -> bool {
+    for i in 0..answer.events.len() {
+        if let Event::EpochEnd { turns, .. } = answer.events.get(i) {
+            if !are_digits(turns.as_slice(), digits) {
+                return false;
             }
         }
-        let given = called_on(alloc, line.as_str(), &mut shelf, &[], &[])?;
-        let sum = zero.saturating_add(*one);
-        let report = format!(in alloc;
-            "commit 0 overlapped 0\n\
-             epoch 1 ends at {sum} by end harts {zero} {one}\n\
-             commit 1 overlapped 0\n\
-             exit 7 at {sum}\n"
-        )?;
-        compare(
-            &rt,
-            line.as_str(),
-            &given,
-            0,
-            "",
-            report.as_str().as_bytes(),
-        );
     }
-    Ok(())
+    true
+}
+
+/// Runs SECOND_EXITS by a seed, and compares turns, cycles and report.
+fn expect_seed(rt: &impl Abort, alloc: Global, seed: usize, row: &(&str, u64, u64, u64)) {
+    let (digits, zero, one, cycles) = *row;
+    let line = format!(in alloc;
+        "thynvm run H --pages 8 --btt 8 --ptt 8 --harts 2 --mix {seed}"
+    ).expect(rt, "memory");
+    let file = file_of(rt, alloc, &SECOND_EXITS);
+    let answer = answered(
+        rt,
+        alloc,
+        line.as_str(),
+        &mut shelf(rt, alloc, file.as_slice()),
+    );
+    let is_whole = answer.status == 0 && answer.cycles == cycles;
+    check(rt, is_whole && are_turns(&answer, digits), line.as_str());
+    let sum = zero.saturating_add(one);
+    let report = format!(in alloc;
+        "commit 0 overlapped 0\n\
+         epoch 1 ends at {sum} by end harts {zero} {one}\n\
+         commit 1 overlapped 0\n\
+         exit 7 at {sum}\n"
+    )
+    .expect(rt, "memory");
+    let mut shelf = shelf(rt, alloc, file.as_slice());
+    expect_on(rt, alloc, line.as_str(), &mut shelf, 0, report.as_str());
+}
+
+#[test]
+fn the_hart_that_adds_second_exits(rt: HostRuntime) {
+    for (seed, row) in SEEDS.iter().enumerate() {
+        expect_seed(&rt, rt.alloc(), seed, row);
+    }
 }
 
 /// Runs of SECOND_EXITS by the seeds 0 to 4, with a cut after cycle 720, which leaves the checkpoint of epoch 0. A row
@@ -258,37 +263,39 @@ static CUT_SEEDS: [(&str, u64, u64, u64); 5] = [
     ("epoch 1 ends at 19 by end harts 11 8\n", 10, 8, 799),
 ];
 
+/// Runs it by a seed with this cut, and compares cycles and report.
+fn expect_cut(rt: &impl Abort, alloc: Global, seed: usize, row: &(&str, u64, u64, u64)) {
+    let (before, zero, one, cycles) = *row;
+    let line = format!(in alloc;
+        "thynvm run H --pages 8 --btt 8 --ptt 8 --harts 2 --mix {seed} --cuts 720 --tears 0"
+    ).expect(rt, "memory");
+    let sum = zero.saturating_add(one);
+    let report = format!(in alloc;
+        "commit 0 overlapped 0\n\
+         {before}\
+         cut 1 at cycle 720\n\
+         restart 0 at 0\n\
+         epoch 1 ends at {sum} by end harts {zero} {one}\n\
+         commit 1 overlapped 0\n\
+         exit 7 at {sum}\n"
+    )
+    .expect(rt, "memory");
+    let file = file_of(rt, alloc, &SECOND_EXITS);
+    let given = called(
+        rt,
+        alloc,
+        line.as_str(),
+        &mut shelf(rt, alloc, file.as_slice()),
+    );
+    compare(rt, line.as_str(), &given, 0, "", report.as_str());
+    check(rt, given.cycles == cycles, line.as_str());
+}
+
 #[test]
-fn after_a_cut_the_harts_take_other_turns(rt: HostRuntime) -> Result<(), Fail> {
-    let alloc = rt.alloc();
-    let file = file_of(alloc, 0, &SECOND_EXITS)?;
-    for (seed, (before, zero, one, cycles)) in CUT_SEEDS.iter().enumerate() {
-        let line = format!(in alloc;
-            "thynvm run H --pages 8 --btt 8 --ptt 8 --harts 2 --mix {seed} --cuts 720 --tears 0"
-        )?;
-        let mut shelf = shelf_of(alloc, &[("H", file.as_slice())])?;
-        let given = called_on(alloc, line.as_str(), &mut shelf, &[], &[])?;
-        let sum = zero.saturating_add(*one);
-        let report = format!(in alloc;
-            "commit 0 overlapped 0\n\
-             {before}\
-             cut 1 at cycle 720\n\
-             restart 0 at 0\n\
-             epoch 1 ends at {sum} by end harts {zero} {one}\n\
-             commit 1 overlapped 0\n\
-             exit 7 at {sum}\n"
-        )?;
-        compare(
-            &rt,
-            line.as_str(),
-            &given,
-            0,
-            "",
-            report.as_str().as_bytes(),
-        );
-        expect_at(&rt, given.cycles, *cycles, seed);
+fn after_a_cut_the_harts_take_other_turns(rt: HostRuntime) {
+    for (seed, row) in CUT_SEEDS.iter().enumerate() {
+        expect_cut(&rt, rt.alloc(), seed, row);
     }
-    Ok(())
 }
 
 /// Options under which the harts that take a lock are run: each scheme, a gap, short epochs, and tables of other sizes.
@@ -301,46 +308,58 @@ static OPTIONS: [&str; 6] = [
     "--epoch 40 --sets 1 --ways 1 --nvmq 1 --dramq 1",
 ];
 
+/// Runs the harts that take a lock with these options and this seed.
+fn expect_locks(rt: &impl Abort, alloc: Global, file: &[u8], options: &str, seed: u64) {
+    let line = format!(in alloc;
+        "thynvm run H --pages 8 --btt 8 --ptt 8 --harts 2 --mix {seed} {options}"
+    ).expect(rt, "memory");
+    expect_by_turns(rt, alloc, file, line.as_str());
+}
+
 #[test]
-fn the_events_list_the_turns_of_the_plain_machine(rt: HostRuntime) -> Result<(), Fail> {
+fn the_events_list_the_turns_of_the_plain_machine(rt: HostRuntime) {
     let alloc = rt.alloc();
-    let file = file_of(alloc, 0, &LOCKS)?;
+    let file = file_of(&rt, alloc, &LOCKS);
     for options in &OPTIONS {
         for seed in 0..5u64 {
-            let line = format!(in alloc;
-                "thynvm run H --pages 8 --btt 8 --ptt 8 --harts 2 --mix {seed} {options}"
-            )?;
-            expect_by_turns(&rt, alloc, file.as_slice(), line.as_str())?;
+            expect_locks(&rt, alloc, file.as_slice(), options, seed);
         }
     }
-    Ok(())
+}
+
+/// Runs them with a cut after this cycle.
+fn expect_cut_lock(rt: &impl Abort, alloc: Global, file: &[u8], cycle: u64) {
+    let tear = cycle % 2;
+    let line = format!(in alloc;
+        "thynvm run H --pages 8 --btt 8 --ptt 8 --harts 2 --epoch 7 --cuts {cycle} --tears {tear}"
+    ).expect(rt, "memory");
+    expect_by_turns(rt, alloc, file, line.as_str());
 }
 
 #[test]
-fn a_lock_is_cut_at_each_cycle(rt: HostRuntime) -> Result<(), Fail> {
+fn a_lock_is_cut_at_each_cycle(rt: HostRuntime) {
     let alloc = rt.alloc();
-    let file = file_of(alloc, 0, &LOCKS)?;
+    let file = file_of(&rt, alloc, &LOCKS);
     for cycle in 530..800u64 {
-        let tear = cycle % 2;
-        let line = format!(in alloc;
-            "thynvm run H --pages 8 --btt 8 --ptt 8 --harts 2 --epoch 7 --cuts {cycle} --tears {tear}"
-        )?;
-        expect_by_turns(&rt, alloc, file.as_slice(), line.as_str())?;
+        expect_cut_lock(&rt, alloc, file.as_slice(), cycle);
     }
-    Ok(())
+}
+
+/// Compares runs of them by this seed.
+fn expect_compared(rt: &impl Abort, alloc: Global, file: &[u8], seed: u64) {
+    let line = format!(in alloc;
+        "thynvm compare H --pages 8 --btt 8 --ptt 8 --harts 2 --epoch 7 --mix {seed}"
+    ).expect(rt, "memory");
+    expect_by_turns(rt, alloc, file, line.as_str());
 }
 
 #[test]
-fn each_run_of_a_comparison_has_its_own_turns(rt: HostRuntime) -> Result<(), Fail> {
+fn each_run_of_a_comparison_has_its_own_turns(rt: HostRuntime) {
     let alloc = rt.alloc();
-    let file = file_of(alloc, 0, &LOCKS)?;
+    let file = file_of(&rt, alloc, &LOCKS);
     for seed in 0..3u64 {
-        let line = format!(in alloc;
-            "thynvm compare H --pages 8 --btt 8 --ptt 8 --harts 2 --epoch 7 --mix {seed}"
-        )?;
-        expect_by_turns(&rt, alloc, file.as_slice(), line.as_str())?;
+        expect_compared(&rt, alloc, file.as_slice(), seed);
     }
-    Ok(())
 }
 
 /// Where the second record of a saved image of epoch 1 begins: its slot is the one from block 1061 on, 13 after 1048,
@@ -355,31 +374,44 @@ static RECORDS: [(usize, u8, u8, &str); 4] = [
     (32 * 8, 4, 0, "restart 1 at 19\nexit 7 at 19\n"),
 ];
 
-#[test]
-fn a_saved_run_of_two_harts_has_both_records(rt: HostRuntime) -> Result<(), Fail> {
-    let alloc = rt.alloc();
-    let file = file_of(alloc, 0, &SECOND_EXITS)?;
-    let mut shelf = shelf_of(alloc, &[("H", file.as_slice())])?;
-    let line = "thynvm run H --pages 8 --btt 8 --ptt 8 --harts 2 --save D";
-    called_on(alloc, line, &mut shelf, &[], &[])?;
-    let saved = shelf
+/// What the shelf has under D: an image.
+fn held(rt: &impl Abort, alloc: Global, shelf: &mut MemShelf) -> Vec<u8> {
+    shelf
         .fetch(alloc, "D", 67_108_864)
-        .expect(&rt, "a saved image");
-    expect_at(&rt, saved.len(), 68_736, line);
+        .expect(rt, "a saved image")
+}
+
+/// Resumes an image with other bytes from a place on.
+fn expect_patched(
+    rt: &impl Abort,
+    alloc: Global,
+    image: &[u8],
+    at: usize,
+    byte: u8,
+    status: u8,
+    report: &str,
+) {
+    let image = patched(rt, alloc, image, at, &[byte]);
+    let mut shelf = shelf_of(rt, alloc, &[], &[("D", image.as_slice())]);
+    let line = "thynvm resume D --pages 8 --btt 8 --ptt 8 --harts 2";
+    expect_on(rt, alloc, line, &mut shelf, status, report);
+}
+
+#[test]
+fn a_saved_run_of_two_harts_has_both_records(rt: HostRuntime) {
+    let alloc = rt.alloc();
+    let file = file_of(&rt, alloc, &SECOND_EXITS);
+    let mut shelf = shelf(&rt, alloc, file.as_slice());
+    let line = "thynvm run H --pages 8 --btt 8 --ptt 8 --harts 2 --save D";
+    called(&rt, alloc, line, &mut shelf);
+    let saved = held(&rt, alloc, &mut shelf);
+    check(&rt, saved.len() == 68_736, line);
     for (at, byte, status, report) in &RECORDS {
-        let mut image = Vec::from_slice(alloc, saved.as_slice())?;
-        if let Some(place) = image.get_mut(SECOND.saturating_add(*at)) {
-            *place = *byte;
-        }
-        assert!(rt; shelf.put(alloc, "D", image.as_slice()).is_ok());
-        let line = "thynvm resume D --pages 8 --btt 8 --ptt 8 --harts 2";
-        let given = called_on(alloc, line, &mut shelf, &[], &[])?;
-        compare(&rt, line, &given, *status, "", report.as_bytes());
+        let at = SECOND.saturating_add(*at);
+        expect_patched(&rt, alloc, saved.as_slice(), at, *byte, *status, report);
     }
     let line = "thynvm resume D --pages 8 --btt 8 --ptt 8";
-    let given = called_on(alloc, line, &mut shelf, &[], &[])?;
-    compare(&rt, line, &given, 5, "", b"image 4 Geometry\n");
-    Ok(())
+    expect_on(&rt, alloc, line, &mut shelf, 5, "image 4 Geometry\n");
 }
 
 /// Where words 72 to 79 of the record stand in slot 0 of such an image, which begins at block 1048: they are its tenth block.
@@ -394,9 +426,19 @@ static ADDRESSES: [u8; 64] = [
     0x00, 0x00, 0x00, 0x00, 0x00, 0x00, 0x00, 0x00, 0x00, 0x00, 0x00, 0x00, 0x00, 0x00, 0x00, 0x00,
 ];
 
-/// A run of this program stops before its first seal, with the checkpoint of epoch 0, which then gets these addresses beside
-/// widths of 0. What is resumed from it ends with this status, and with the checkpoint of epoch 1, in slot 1, which begins at
-/// block 1061: its record has these words, and these are its words 72 to 79.
+/// The image of a run of this program that stops before its first seal, with the checkpoint of epoch 0, which then gets these
+/// addresses beside widths of 0.
+fn begun(rt: &impl Abort, alloc: Global, program: &[u32]) -> Vec<u8> {
+    let mut shelf = shelf_of(rt, alloc, &[("H", program)], &[]);
+    let line = "thynvm run H --pages 8 --btt 8 --ptt 8 --harts 2 --limit 700 --save D";
+    let given = called(rt, alloc, line, &mut shelf);
+    check(rt, given.status == 8, line);
+    let image = held(rt, alloc, &mut shelf);
+    patched(rt, alloc, image.as_slice(), RESERVED, &ADDRESSES)
+}
+
+/// What is resumed from it ends with this status, and with the checkpoint of epoch 1, in slot 1, which begins at block 1061:
+/// its record has these words, and these are its words 72 to 79.
 fn expect_resumed(
     rt: &impl Abort,
     alloc: Global,
@@ -404,47 +446,31 @@ fn expect_resumed(
     status: u8,
     words: &[(usize, u64)],
     reserved: &[u8],
-) -> Result<(), AllocError> {
-    let file = file_of(alloc, 0, program)?;
-    let mut shelf = shelf_of(alloc, &[("H", file.as_slice())])?;
-    let line = "thynvm run H --pages 8 --btt 8 --ptt 8 --harts 2 --limit 700 --save D";
-    let given = called_on(alloc, line, &mut shelf, &[], &[])?;
-    expect_at(rt, given.status, 8, line);
-    let mut image = shelf
-        .fetch(alloc, "D", 67_108_864)
-        .expect(rt, "a saved image");
-    for (i, byte) in ADDRESSES.iter().enumerate() {
-        if let Some(place) = image.get_mut(RESERVED.saturating_add(i)) {
-            *place = *byte;
-        }
-    }
-    assert!(rt; shelf.put(alloc, "D", image.as_slice()).is_ok());
+) {
+    let image = begun(rt, alloc, program);
+    let mut shelf = shelf_of(rt, alloc, &[], &[("D", image.as_slice())]);
     let line = "thynvm resume D --pages 8 --btt 8 --ptt 8 --harts 2 --save D";
-    let given = called_on(alloc, line, &mut shelf, &[], &[])?;
-    expect_at(rt, given.status, status, line);
-    let saved = shelf
-        .fetch(alloc, "D", 67_108_864)
-        .expect(rt, "a saved image");
+    let given = called(rt, alloc, line, &mut shelf);
+    check(rt, given.status == status, line);
+    let saved = held(rt, alloc, &mut shelf);
+    check(rt, saved.len() == 68_736, line);
     for (word, value) in words {
-        assert!(rt; *word < 72 && saved.len() == 68_736);
-        let at = 67_904 + *word * 8;
-        expect_at(
-            rt,
-            &saved.as_slice()[at..at + 8],
-            value.to_le_bytes().as_slice(),
-            *word,
-        );
+        let at = word.saturating_mul(8).saturating_add(67_904);
+        expect_word(rt, saved.as_slice(), at, *value);
     }
-    assert!(rt; saved.len() == 68_736);
-    expect_at(rt, &saved.as_slice()[68_480..68_544], reserved, line);
-    Ok(())
+    check(rt, saved.get(68_480..68_544) == Some(reserved), line);
+}
+
+/// Compares a word of an image.
+fn expect_word(rt: &impl Abort, image: &[u8], at: usize, value: u64) {
+    let word = image.get(at..at.saturating_add(8)).unwrap_or(&[]);
+    expect_at(rt, word, value.to_le_bytes().as_slice(), at);
 }
 
 /// The first seal of the program is at cycle 710.
 #[test]
-fn addresses_with_nothing_reserved_are_saved_again(rt: HostRuntime) -> Result<(), Fail> {
-    expect_resumed(&rt, rt.alloc(), &SECOND_EXITS, 0, &[], ADDRESSES.as_slice())?;
-    Ok(())
+fn addresses_with_nothing_reserved_are_saved_again(rt: HostRuntime) {
+    expect_resumed(&rt, rt.alloc(), &SECOND_EXITS, 0, &[], &ADDRESSES);
 }
 
 /// Each hart counts down from 100, at two cycles or more an instruction, and then stores conditionally with nothing reserved,
@@ -470,18 +496,8 @@ static TRAPPED: [(usize, u64); 2] = [(36, 2), (37, 6)];
 /// When a hart exits from the first program both have stored in vain, and nothing is left of the addresses. The hart that comes
 /// first in the second program traps, and both addresses are left.
 #[test]
-fn a_conditional_store_clears_its_harts_address_unless_it_traps(
-    rt: HostRuntime,
-) -> Result<(), Fail> {
+fn a_conditional_store_clears_its_harts_address_unless_it_traps(rt: HostRuntime) {
     let alloc = rt.alloc();
-    expect_resumed(&rt, alloc, &STORES_UNRESERVED, 0, &EXITED, &[0; 64])?;
-    expect_resumed(
-        &rt,
-        alloc,
-        &STORES_MISALIGNED,
-        1,
-        &TRAPPED,
-        ADDRESSES.as_slice(),
-    )?;
-    Ok(())
+    expect_resumed(&rt, alloc, &STORES_UNRESERVED, 0, &EXITED, &[0; 64]);
+    expect_resumed(&rt, alloc, &STORES_MISALIGNED, 1, &TRAPPED, &ADDRESSES);
 }

@@ -1,14 +1,16 @@
 //! Runs whose power is cut.
-use crate::support::calls::{Given, SCHEMES, SMALL, expect_on, has, ran, shelf};
-use std::alloc::{AllocError, Global};
+use crate::support::by_scheme::{Row, SMALL, expect_by_each};
+use crate::support::calls::{Given, check, has, ran};
+use std::alloc::Global;
 use std::process::Abort;
-use std::test::Fail;
 
 /// Cuts of the program that exits with 7, with the report: at the write of the checkpoint's commit block, and after the
 /// drain by which it lands.
-static CUT_RUNS: [(&str, &str); 4] = [
+static CUT_RUNS: [Row; 4] = [
     (
-        "--cuts 714 --tears 0",
+        "thynvm run F --pages 8 --btt 8 --ptt 8 --scheme",
+        " --cuts 714 --tears 0",
+        0,
         "commit 0 overlapped 0\n\
          epoch 1 ends at 3 by end\n\
          cut 1 at cycle 714\n\
@@ -18,29 +20,28 @@ static CUT_RUNS: [(&str, &str); 4] = [
          exit 7 at 3\n",
     ),
     (
-        "--cuts 714 --tears 1",
+        "thynvm run F --pages 8 --btt 8 --ptt 8 --scheme",
+        " --cuts 714 --tears 1",
+        0,
         "commit 0 overlapped 0\nepoch 1 ends at 3 by end\ncut 1 at cycle 714\nrestart 1 at 3\nexit 7 at 3\n",
     ),
     (
-        "--cuts 715 --tears 0",
+        "thynvm run F --pages 8 --btt 8 --ptt 8 --scheme",
+        " --cuts 715 --tears 0",
+        0,
         "commit 0 overlapped 0\nepoch 1 ends at 3 by end\ncut 1 at cycle 715\nrestart 1 at 3\nexit 7 at 3\n",
     ),
     (
-        "--cuts 715 --tears 1",
+        "thynvm run F --pages 8 --btt 8 --ptt 8 --scheme",
+        " --cuts 715 --tears 1",
+        0,
         "commit 0 overlapped 0\nepoch 1 ends at 3 by end\ncut 1 at cycle 715\nrestart 1 at 3\nexit 7 at 3\n",
     ),
 ];
 
 #[test]
-fn power_cuts_are_survived(rt: HostRuntime) -> Result<(), Fail> {
-    let alloc = rt.alloc();
-    for scheme in &SCHEMES {
-        for (cuts, report) in &CUT_RUNS {
-            let line = format!(in alloc; "thynvm run F {SMALL} {scheme} {cuts}")?;
-            expect_on(&rt, alloc, &mut shelf(alloc)?, line.as_str(), 0, report)?;
-        }
-    }
-    Ok(())
+fn power_cuts_are_survived(rt: HostRuntime) {
+    expect_by_each(&rt, rt.alloc(), &CUT_RUNS);
 }
 
 /// A program with options, what it prints and its last line, which are the same wherever power is cut.
@@ -86,21 +87,6 @@ pub(crate) static EXHAUSTS_BY_TWO: Case = Case {
     last: "\nexit 0 at 7\n",
 };
 
-/// Runs a program with these cuts and picks.
-fn cut_at(
-    alloc: Global,
-    scheme: &str,
-    case: &Case,
-    cuts: &str,
-    tears: &str,
-) -> Result<Given, AllocError> {
-    let run = case.run;
-    let line = format!(in alloc;
-        "thynvm run {run} {SMALL} {scheme} --cuts {cuts} --tears {tears}"
-    )?;
-    ran(alloc, line.as_str())
-}
-
 /// Whether a run exited as the case says.
 fn ends_so(given: &Given, case: &Case) -> bool {
     given.status == 0
@@ -109,12 +95,36 @@ fn ends_so(given: &Given, case: &Case) -> bool {
 }
 
 /// How many cycles a program takes without a cut.
-fn whole(rt: &impl Abort, alloc: Global, scheme: &str, case: &Case) -> Result<u64, AllocError> {
+fn whole(rt: &impl Abort, alloc: Global, scheme: &str, case: &Case) -> u64 {
     let run = case.run;
-    let line = format!(in alloc; "thynvm run {run} {SMALL} {scheme}")?;
-    let given = ran(alloc, line.as_str())?;
-    assert!(rt; given.cycles > 700 && ends_so(&given, case), "no cut");
-    Ok(given.cycles)
+    let line = format!(in alloc; "thynvm run {run} {SMALL} {scheme}").expect(rt, "memory");
+    let given = ran(rt, alloc, line.as_str());
+    check(
+        rt,
+        given.cycles > 700 && ends_so(&given, case),
+        line.as_str(),
+    );
+    given.cycles
+}
+
+/// A cut after a cycle, with one pick: it falls, the boot after it reports this, and the run ends alike.
+fn cut_at(
+    rt: &impl Abort,
+    alloc: Global,
+    scheme: &str,
+    case: &Case,
+    cycle: u64,
+    tear: &str,
+    after: &str,
+) {
+    let run = case.run;
+    let line = format!(in alloc;
+        "thynvm run {run} {SMALL} {scheme} --cuts {cycle} --tears {tear}"
+    ).expect(rt, "memory");
+    let lines = format!(in alloc; "cut 1 at cycle {cycle}\n{after}").expect(rt, "memory");
+    let given = ran(rt, alloc, line.as_str());
+    let goes_on = has(&given.report, lines.as_str());
+    check(rt, goes_on && ends_so(&given, case), line.as_str());
 }
 
 /// A cut at each cycle before the end, with one pick: it falls, and the run ends alike.
@@ -124,15 +134,29 @@ pub(crate) fn cut_everywhere(
     scheme: &str,
     case: &Case,
     tear: &str,
-) -> Result<(), AllocError> {
-    for cycle in 1..whole(rt, alloc, scheme, case)? {
-        let cuts = format!(in alloc; "{cycle}")?;
-        let given = cut_at(alloc, scheme, case, cuts.as_str(), tear)?;
-        let cut = format!(in alloc; "cut 1 at cycle {cycle}\n")?;
-        let is_cut = has(&given.report, cut.as_str());
-        assert!(rt; is_cut && ends_so(&given, case), "{cut}");
+) {
+    let end = whole(rt, alloc, scheme, case);
+    for cycle in 1..end {
+        cut_at(rt, alloc, scheme, case, cycle, tear, "");
     }
-    Ok(())
+}
+
+/// Two cuts, with these picks: the run ends alike.
+fn cut_again(
+    rt: &impl Abort,
+    alloc: Global,
+    scheme: &str,
+    case: &Case,
+    cycle: u64,
+    second: u64,
+    tears: &str,
+) {
+    let run = case.run;
+    let line = format!(in alloc;
+        "thynvm run {run} {SMALL} {scheme} --cuts {cycle},{second} --tears {tears}"
+    ).expect(rt, "memory");
+    let given = ran(rt, alloc, line.as_str());
+    check(rt, ends_so(&given, case), line.as_str());
 }
 
 /// A second cut, `behind` cycles after a first one that falls once the start is committed: the run ends alike.
@@ -143,14 +167,12 @@ pub(crate) fn cut_twice(
     case: &Case,
     behind: u64,
     tears: &str,
-) -> Result<(), AllocError> {
-    for cycle in 697..whole(rt, alloc, scheme, case)? {
+) {
+    let end = whole(rt, alloc, scheme, case);
+    for cycle in 697..end {
         let second = cycle.saturating_add(behind);
-        let cuts = format!(in alloc; "{cycle},{second}")?;
-        let given = cut_at(alloc, scheme, case, cuts.as_str(), tears)?;
-        assert!(rt; ends_so(&given, case), "{cuts}");
+        cut_again(rt, alloc, scheme, case, cycle, second, tears);
     }
-    Ok(())
 }
 
 /// What the first boot after a cut reports of the program that exits with 7. The commit block of loading is written in
@@ -158,29 +180,18 @@ pub(crate) fn cut_twice(
 /// then the only write that is queued, and `lands` says whether the cut lets it land.
 fn comes_after(cycle: u64, lands: bool) -> &'static str {
     if cycle < 695 || (cycle == 695 && !lands) {
-        "reload"
+        "reload\n"
     } else if cycle == 715 || (cycle == 714 && lands) {
-        "restart 1 at 3"
+        "restart 1 at 3\n"
     } else {
-        "restart 0 at 0"
+        "restart 0 at 0\n"
     }
 }
 
 /// A cut at each cycle of the program that exits with 7, with one pick: what follows it, and the same end.
-pub(crate) fn cut_seven(
-    rt: &impl Abort,
-    alloc: Global,
-    scheme: &str,
-    tear: &str,
-    lands: bool,
-) -> Result<(), AllocError> {
+pub(crate) fn cut_seven(rt: &impl Abort, alloc: Global, scheme: &str, tear: &str, lands: bool) {
     for cycle in 1..716 {
-        let cuts = format!(in alloc; "{cycle}")?;
-        let given = cut_at(alloc, scheme, &EXITS_WITH_SEVEN, cuts.as_str(), tear)?;
         let after = comes_after(cycle, lands);
-        let lines = format!(in alloc; "cut 1 at cycle {cycle}\n{after}\n")?;
-        let goes_on = has(&given.report, lines.as_str());
-        assert!(rt; goes_on && ends_so(&given, &EXITS_WITH_SEVEN), "{lines}");
+        cut_at(rt, alloc, scheme, &EXITS_WITH_SEVEN, cycle, tear, after);
     }
-    Ok(())
 }

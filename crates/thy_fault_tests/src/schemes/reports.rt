@@ -1,7 +1,9 @@
 //! Runs without power cuts.
-use crate::support::calls::{SCHEMES, SMALL, compare, expect_on, ran, shelf};
-use crate::support::programs::shelf_with;
-use std::test::Fail;
+use crate::support::by_scheme::{Row, SCHEMES, expect_by_each, expect_rows, line_of};
+use crate::support::calls::{check, compare, expect, expect_on, ran};
+use crate::support::programs::hold;
+use std::alloc::Global;
+use std::process::Abort;
 use thy_out::MemShelf;
 
 /// Runs of the program that exits with 7, by what follows the scheme's word, with status, cycles and report. The hart waits
@@ -29,18 +31,31 @@ static RUNS: [(&str, u8, u64, &str); 5] = [
     (" --limit 696", 8, 696, "commit 0 overlapped 0\nlimit 696\n"),
 ];
 
+/// Runs that program, and compares also the cycles.
+fn expect_cycles(
+    rt: &impl Abort,
+    alloc: Global,
+    scheme: &str,
+    options: &str,
+    status: u8,
+    cycles: u64,
+    report: &str,
+) {
+    let run = "thynvm run F --pages 8 --btt 8 --ptt 8 --scheme";
+    let line = line_of(rt, alloc, run, scheme, options);
+    let given = ran(rt, alloc, line.as_str());
+    compare(rt, line.as_str(), &given, status, "", report);
+    check(rt, given.cycles == cycles, line.as_str());
+}
+
 #[test]
-fn runs_take_their_cycles(rt: HostRuntime) -> Result<(), Fail> {
+fn runs_take_their_cycles(rt: HostRuntime) {
     let alloc = rt.alloc();
     for scheme in &SCHEMES {
         for (options, status, cycles, report) in &RUNS {
-            let line = format!(in alloc; "thynvm run F {SMALL} {scheme}{options}")?;
-            let given = ran(alloc, line.as_str())?;
-            compare(&rt, line.as_str(), &given, *status, "", report);
-            assert!(rt; given.cycles == *cycles, "{line}");
+            expect_cycles(&rt, alloc, scheme, options, *status, *cycles, report);
         }
     }
-    Ok(())
 }
 
 /// What is reported of the program that modifies itself, in epochs of three instructions.
@@ -59,9 +74,11 @@ const MODIFIES: &str = "commit 0 overlapped 0\n\
 /// caches of 64 lines and of one; and four instructions in four epochs. With the journal each block that an epoch has
 /// stored takes an entry, which is free again once it was applied; with shadow paging each page takes a frame, which is
 /// free again with the commit.
-static REPORTS: [(&str, &str); 6] = [
+static REPORTS: [Row; 6] = [
     (
         "thynvm run N --pages 8 --btt 8 --ptt 8 --scheme",
+        "",
+        0,
         "commit 0 overlapped 0\n\
          epoch 1 ends at 8 by exhausted 8 8 1\n\
          commit 1 overlapped 0\n\
@@ -71,6 +88,8 @@ static REPORTS: [(&str, &str); 6] = [
     ),
     (
         "thynvm run V --pages 8 --btt 8 --ptt 8 --scheme",
+        "",
+        0,
         "commit 0 overlapped 0\n\
          epoch 1 ends at 4 by exhausted 8 8 2\n\
          commit 1 overlapped 0\n\
@@ -78,17 +97,23 @@ static REPORTS: [(&str, &str); 6] = [
          commit 2 overlapped 0\n\
          exit 0 at 7\n",
     ),
-    ("thynvm run S --epoch 3 --scheme", MODIFIES),
+    ("thynvm run S --epoch 3 --scheme", "", 0, MODIFIES),
     (
         "thynvm run S --pages 8 --btt 8 --ptt 8 --epoch 3 --scheme",
+        "",
+        0,
         MODIFIES,
     ),
     (
         "thynvm run S --pages 8 --btt 8 --ptt 8 --epoch 3 --sets 1 --ways 1 --scheme",
+        "",
+        0,
         MODIFIES,
     ),
     (
         "thynvm run E --pages 8 --btt 8 --ptt 8 --epoch 1 --scheme",
+        "",
+        0,
         "commit 0 overlapped 0\n\
          epoch 1 ends at 1 by length\n\
          commit 1 overlapped 0\n\
@@ -120,18 +145,12 @@ static REPORTS_OF_ONE: [(&str, &str); 3] = [
 ];
 
 #[test]
-fn runs_report_their_epochs(rt: HostRuntime) -> Result<(), Fail> {
+fn runs_report_their_epochs(rt: HostRuntime) {
     let alloc = rt.alloc();
-    for scheme in &SCHEMES {
-        for (call, report) in &REPORTS {
-            let line = format!(in alloc; "{call} {scheme}")?;
-            expect_on(&rt, alloc, &mut shelf(alloc)?, line.as_str(), 0, report)?;
-        }
-    }
+    expect_by_each(&rt, alloc, &REPORTS);
     for (line, report) in &REPORTS_OF_ONE {
-        expect_on(&rt, alloc, &mut shelf(alloc)?, line, 0, report)?;
+        expect(&rt, alloc, line, 0, report);
     }
-    Ok(())
 }
 
 /// Arguments that name no scheme, with the report. The scheme is tested after the numbers before it.
@@ -144,52 +163,56 @@ static NO_SCHEMES: [(&str, &str); 4] = [
 
 /// Arguments that begin no run, up to the scheme's word, with the status and the report. Whether there is such a file is
 /// looked at after all of them.
-static REFUSALS: [(&str, u8, &str); 9] = [
-    ("thynvm plain F --scheme", 2, "usage\n"),
-    ("thynvm make 0 OUT --scheme", 2, "usage\n"),
-    ("thynvm run --scheme", 2, "usage\n"),
-    ("thynvm run F --pages 7 --scheme", 2, "value pages 7\n"),
-    ("thynvm run F --pages x --scheme", 2, "word pages\n"),
-    ("thynvm run F --cuts 5,5 --scheme", 2, "value cuts 5\n"),
-    ("thynvm run F --high 10 --scheme", 2, "value low 16\n"),
-    ("thynvm run H --scheme", 3, "fetch H missing\n"),
+static REFUSALS: [Row; 9] = [
+    ("thynvm plain F --scheme", "", 2, "usage\n"),
+    ("thynvm make 0 OUT --scheme", "", 2, "usage\n"),
+    ("thynvm run --scheme", "", 2, "usage\n"),
+    ("thynvm run F --pages 7 --scheme", "", 2, "value pages 7\n"),
+    ("thynvm run F --pages x --scheme", "", 2, "word pages\n"),
+    ("thynvm run F --cuts 5,5 --scheme", "", 2, "value cuts 5\n"),
+    ("thynvm run F --high 10 --scheme", "", 2, "value low 16\n"),
+    ("thynvm run H --scheme", "", 3, "fetch H missing\n"),
     (
         "thynvm bench 4294967296 --scheme",
+        "",
         2,
         "value n 4294967296\n",
     ),
 ];
 
 #[test]
-fn each_refusal_of_arguments_has_its_line(rt: HostRuntime) -> Result<(), Fail> {
+fn each_refusal_of_arguments_has_its_line(rt: HostRuntime) {
     let alloc = rt.alloc();
     for (line, report) in &NO_SCHEMES {
-        expect_on(&rt, alloc, &mut shelf(alloc)?, line, 2, report)?;
+        expect(&rt, alloc, line, 2, report);
     }
-    for scheme in &SCHEMES {
-        for (call, status, report) in &REFUSALS {
-            let line = format!(in alloc; "{call} {scheme}")?;
-            let given = ran(alloc, line.as_str())?;
-            compare(&rt, line.as_str(), &given, *status, "", report);
-        }
-    }
-    Ok(())
+    expect_by_each(&rt, alloc, &REFUSALS);
+}
+
+static NOT_FETCHED: [Row; 1] = [("thynvm run F --scheme", "", 3, "fetch F failed\n")];
+
+/// A file that is too long by a byte.
+fn expect_too_long(rt: &impl Abort, alloc: Global, scheme: &str) {
+    let mut files = Vec::new(alloc);
+    let long = Vec::from_elem(alloc, 0u8, 67_108_865).expect(rt, "memory");
+    hold(rt, alloc, &mut files, "F", long);
+    let mut shelf = MemShelf::new(files, Vec::new(alloc));
+    let line = line_of(rt, alloc, "thynvm run F --scheme", scheme, "");
+    expect_on(
+        rt,
+        alloc,
+        line.as_str(),
+        &mut shelf,
+        3,
+        "fetch F too long\n",
+    );
 }
 
 #[test]
-fn a_file_that_is_not_fetched_has_its_line(rt: HostRuntime) -> Result<(), Fail> {
+fn a_file_that_is_not_fetched_has_its_line(rt: HostRuntime) {
     let alloc = rt.alloc();
     for scheme in &SCHEMES {
-        let line = format!(in alloc; "thynvm run F --scheme {scheme}")?;
-        let mut failing = shelf_with(alloc, &[1])?;
-        let report = "fetch F failed\n";
-        expect_on(&rt, alloc, &mut failing, line.as_str(), 3, report)?;
-        let mut held = Vec::new(alloc);
-        let long = Vec::from_elem(alloc, 0u8, 67_108_865)?;
-        held.push((String::from_str(alloc, "F")?, long))?;
-        let mut shelf = MemShelf::new(held, Vec::new(alloc));
-        let report = "fetch F too long\n";
-        expect_on(&rt, alloc, &mut shelf, line.as_str(), 3, report)?;
+        expect_rows(&rt, alloc, scheme, &[1], &NOT_FETCHED);
+        expect_too_long(&rt, alloc, scheme);
     }
-    Ok(())
 }

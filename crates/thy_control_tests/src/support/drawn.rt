@@ -1,0 +1,41 @@
+//! Drawn blocks, and lists of blocks.
+ghost use Rattle.std.specs.Prelude.{◌≡◌, length};
+ghost use Rattle.thy_places.specs.Places.{image_blocks};
+
+use std::alloc::Global;
+use std::process::Abort;
+use thy_base::{Block, Geometry, Lcg};
+use thy_places::blocks;
+
+/// A block of drawn bytes.
+pub(crate) fn drawn(lcg: &mut Lcg) -> Block {
+    let mut block = Block::ZERO;
+    for byte in block.0.iter_mut() {
+        *byte = (lcg.next() % 256) as u8;
+    }
+    block
+}
+
+/// An image of drawn blocks.
+pub(crate) fn drawn_image(
+    rt: &impl Abort,
+    alloc: Global,
+    geometry: &Geometry,
+    lcg: &mut Lcg,
+) -> Vec<Block>
+    ensures { length result.items ≡ image_blocks geometry.now }
+{
+    let mut image = vec![in alloc; Block::ZERO; blocks(geometry) as usize].expect(rt, "memory");
+    for block in image.iter_mut() {
+        *block = drawn(lcg);
+    }
+    image
+}
+
+/// Block `b` of a list.
+pub(crate) fn block_in(rt: &impl Abort, blocks: &[Block], b: u64) -> Block {
+    match blocks.get(b as usize) {
+        Some(block) => *block,
+        None => panic!(rt; "no block"),
+    }
+}
