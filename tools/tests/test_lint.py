@@ -1,6 +1,7 @@
 """tools/lint: in a small repository, where each difference is made; and in this one, for which nothing may differ."""
 
 import os
+import re
 import subprocess
 import unittest
 
@@ -503,9 +504,37 @@ class Help(CopyTest):
         self.refuses("there is no program /none: a call of ./thynvm builds it", "help", "--program", "/none")
         program = self.program("exit 0")
         self.script("thynvm", repository.text_of("thynvm"))
-        self.refuses("cannot read crates/thy_words/src/fields.rt: No such file or directory", "help", "--program", program)
-        self.file("crates/thy_words/src/fields.rt", "")
-        self.refuses("cannot read the default of --scheme in crates/thy_words/src/fields.rt", "help", "--program", program)
+        self.refuses("cannot read docs/USING.md: No such file or directory", "help", "--program", program)
+        self.file("docs/USING.md", "")
+        self.refuses("cannot read the table of options in docs/USING.md", "help", "--program", program)
+        self.file("docs/USING.md", repository.text_of("docs/USING.md"))
+        self.refuses("cannot read crates/thy_base/src/options.rt: No such file or directory", "help", "--program", program)
+        self.file("crates/thy_base/src/options.rt", "")
+        self.refuses("cannot read the table of options in crates/thy_base/src/options.rt", "help", "--program", program)
+
+    def test_tables_are_written(self):
+        # A row of the scripts' file is changed: both tables follow, and say so before they are written.
+        row = "option: gap\ndefault: 0\nrange: at most 5000000\ncommands: run resume\nhelp: how often / a line moves\npage: when a line moves\n"
+        text = repository.text_of("tools/lib/program.txt")
+        before = re.search(r"option: gap\n(?:.+\n)*", text)[0]
+        self.file("tools/lib/program.txt", text.replace(before, row))
+        self.script("thynvm", repository.text_of("thynvm"))
+        self.file("docs/USING.md", repository.text_of("docs/USING.md"))
+        self.prints("written to thynvm and docs/USING.md: 22 options\n", "help", "--write")
+        with open(self.path("docs/USING.md"), encoding="utf-8") as file:
+            self.assertIn("| `--gap` | 0 | at most 5,000,000 | when a line moves |\n", file.read())
+        with open(self.path("thynvm"), encoding="utf-8") as file:
+            self.assertIn(
+                "  --gap       0            at most 5000000                  how often\n"
+                "                                                            a line moves\n",
+                file.read(),
+            )
+
+    def test_ranges_of_the_code(self):
+        self.assertEqual(help.said_by("Bounds::Below(1, 16, Field::Pages)"), "1 to 16, below pages")
+        self.assertEqual(help.said_by("Bounds::AtMost(1_000_000)"), "at most 1000000")
+        self.assertEqual(help.plain(["1 to", "10^12"]), "1 to 1000000000000")
+        self.assertEqual(help.in_page("at most 1000000, below 2^62"), "at most 1,000,000, below `2^62`")
 
 
 class Whole(ToolTest):

@@ -2,8 +2,8 @@
 use Rattle.std.proofs.Common.{◌≡◌, ℕ, Bool, true, false, List, [], ◌++◌, Option, Some, None, refl, sym, ◌∙◌, ap, ap₂, inl, inr, subst, append_assoc, append-nil}
 use Rattle.std.specs.Prelude.{IfSome, MatchBool, option_map}
 use Rattle.std.specs.Borrow.{Bor}
-use Rattle.thy_base.specs.declared.outside.PutError.{PutError}
-use Rattle.thy_base.specs.Outside.{Stock, Stream}
+use Rattle.thy_block.specs.declared.outside.PutError.{PutError}
+use Rattle.thy_block.specs.Outside.{Stock, Stream}
 use Rattle.thy_isa.specs.OnBlocks.{setting_for}
 use Rattle.thy_isa.specs.Step.{State, Setting}
 use Rattle.thy_view.specs.Origin.{setting_of}

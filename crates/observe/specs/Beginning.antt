@@ -1,9 +1,9 @@
 -- What the observed run begins with.
 use Rattle.std.specs.Prelude.{◌≡◌, ℕ, List, Option, Some, None}
 use Rattle.std.specs.Borrow.{Bor}
-use Rattle.thy_base.specs.Bytes.{bytes_of}
-use Rattle.thy_base.specs.Geometry.{parameters_of}
-use Rattle.thy_base.specs.Outside.{Stock}
+use Rattle.thy_block.specs.Bytes.{bytes_of}
+use Rattle.thy_base.specs.Config.{parameters_of}
+use Rattle.thy_block.specs.Outside.{Stock}
 use Rattle.thy_isa.specs.Step.{state_of}
 use Rattle.thy_view.specs.Origin.{Origin}
 use Rattle.thy_words.specs.declared.words.Job.{Job as JobStruct}

@@ -2,7 +2,7 @@
 use Rattle.std.specs.Prelude.{◌≡◌, ℕ, if◌then◌else◌, Bool, ◌==◌, Option, Some, None, List, [], ◌∷◌, ◌++◌, length, get_or, count_by, codes}
 use Rattle.std.specs.Fmt.{decimal}
 use Rattle.std.specs.List.{flat_map}
-use Rattle.thy_base.specs.Counts.{next}
+use Rattle.thy_block.specs.Counts.{next}
 use Rattle.thy_run.specs.Watching.{Taken}
 use Rattle.thy_observe.specs.declared.causes.Cause.{Cause}
 use Rattle.thy_observe.specs.declared.causes.Cause.TheVariants.{Boot, Instruction, Meanwhile, Flush, Merge, Seal, Promotion, Copy, Home, Page, Processor, Table, Commit, Barrier, NvmDrain, DramDrain, Nothing}

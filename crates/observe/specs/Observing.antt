@@ -1,8 +1,8 @@
 -- What a call of the program does outside: what thynvm does for the same arguments, and then OUT.
 use Rattle.std.specs.Prelude.{◌≡◌, ◌⊎◌, ℕ, ◌==◌, nat_lt, nat_le, Bool, true, false, ◌||◌, ◌&&◌, is_none, List, length, [], ◌++◌, Option, Some, None, Result, Ok, Err, MatchBool}
 use Rattle.std.specs.Str.{bytes_eq}
-use Rattle.thy_base.specs.declared.outside.PutError.{PutError}
-use Rattle.thy_base.specs.Outside.{Stock, Stream}
+use Rattle.thy_block.specs.declared.outside.PutError.{PutError}
+use Rattle.thy_block.specs.Outside.{Stock, Stream}
 use Rattle.thy_text.specs.declared.closing.Closing.TheVariants.{Memory as ClosingMemory}
 use Rattle.thy_text.specs.Closings.{closing_of}
 use Rattle.thy_text.specs.History.{all_of}

@@ -1,7 +1,7 @@
 -- A state as text.
 use Rattle.std.specs.Prelude.{ℕ, zero, suc, ◌+◌, ◌*◌, ◌/◌, ◌==◌, if◌then◌else◌, false, List, [], ◌++◌, length, codes, Option, Some, None}
 use Rattle.std.specs.Fmt.{decimal, digits}
-use Rattle.thy_base.specs.LittleEndian.{number_at}
+use Rattle.thy_block.specs.LittleEndian.{number_at}
 use Rattle.thy_isa.specs.declared.state.OtherHart.{OtherHart}
 use Rattle.thy_isa.specs.declared.state.Reservation.{Reservation}
 use Rattle.thy_isa.specs.declared.state.Reservation.TheVariants.{Nothing, Word, Double}

@@ -1,7 +1,7 @@
 //! What the observed run begins with.
 ghost use Rattle.std.specs.Prelude.{◌≡◌, None, IfErr, IfOk, IfSome, OnOk, option_map};
 ghost use Rattle.thy_base.specs.Config.{fault_of as range_fault};
-ghost use Rattle.thy_base.specs.Outside.{HasNotFailed};
+ghost use Rattle.thy_block.specs.Outside.{HasNotFailed};
 ghost use Rattle.thy_words.specs.Settings.{IsInRange, job_of, order_of};
 ghost use Rattle.thy_answer.specs.Kept.{named};
 ghost use Rattle.thy_answer.specs.Sources.{ProgramDue};

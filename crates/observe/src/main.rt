@@ -13,7 +13,6 @@ mod beginning;
 mod counts;
 mod lines;
 mod naming;
-mod numbers;
 mod options;
 mod out;
 mod sections;

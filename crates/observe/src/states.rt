@@ -1,6 +1,6 @@
 //! A state as text.
 ghost use Rattle.std.specs.Prelude.{◌≡◌, ◌+◌, ◌-◌, ◌*◌, ◌/◌, ◌^◌, ◌<◌, ◌≤◌, ◌++◌, length, OnOk, option_map, string_bytes};
-ghost use Rattle.thy_base.specs.Bytes.{bytes_of};
+ghost use Rattle.thy_block.specs.Bytes.{bytes_of};
 ghost use Rattle.thy_isa.specs.Step.{state_of};
 ghost use Rattle.observe.specs.StateText.{double_row, hart_text, memory_text, numbers_text, other_text, reg_row, reserved_text, rows_from, state_or_none, state_section, state_text, status_text};
 

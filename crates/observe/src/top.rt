@@ -1,7 +1,7 @@
 //! The call: what thynvm does, and then OUT.
 ghost use Rattle.std.specs.Prelude.{◌≡◌, IfErr, IfOk, IfSome, OnOk, false, true, map, option_map};
 ghost use Rattle.std.specs.String.{string_bytes};
-ghost use Rattle.thy_base.specs.Outside.{HasNotFailed};
+ghost use Rattle.thy_block.specs.Outside.{HasNotFailed};
 ghost use Rattle.thy_answer.specs.Answering.{around, nvm_of};
 ghost use Rattle.thy_answer.specs.Machines.{by_scheme};
 ghost use Rattle.thy_answer.specs.Saving.{IsPut};

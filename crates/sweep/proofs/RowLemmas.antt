@@ -1,8 +1,8 @@
 -- Images that were tried, one after another.
 use Rattle.std.proofs.Common.{◌≡◌, ℕ, Some, None, List, [], ◌∷◌, ◌++◌, refl, sym, ◌∙◌, ap, subst}
 use Rattle.std.specs.List.{AllByRecursion}
-use Rattle.thy_base.specs.declared.mix.Mix.{Mix}
-use Rattle.thy_base.specs.Device.{Device}
+use Rattle.thy_block.specs.declared.mix.Mix.{Mix}
+use Rattle.thy_block.specs.Device.{Device}
 use Rattle.thy_run.specs.declared.plan.Plan.{Plan}
 use Rattle.thy_sweep.specs.declared.lead.Lead.{Lead}
 use Rattle.thy_view.specs.Kind.{KindOf}

@@ -1,7 +1,6 @@
 //! The call: the run with what is tried, and then OUT.
 ghost use Rattle.std.specs.Prelude.{◌≡◌, ◌<◌, [], None, length};
-ghost use Rattle.thy_base.specs.Config.{fault_of as range_fault};
-ghost use Rattle.thy_base.specs.Geometry.{parameters_of};
+ghost use Rattle.thy_base.specs.Config.{fault_of as range_fault, parameters_of};
 ghost use Rattle.thy_execute.specs.Planning.{CanRun, shape_of};
 ghost use Rattle.thy_files.specs.Restoring.{ReadsFiles};
 ghost use Rattle.thy_run.specs.Going.{IsPlanned};

@@ -1,9 +1,9 @@
 -- The end of a run's report where no summary is due.
 use Rattle.std.proofs.Common.{◌≡◌, ℕ, Bool, true, false, Option, List, [], ◌∷◌, ◌++◌, refl, ◌∙◌, subst}
 use Rattle.std.specs.Prelude.{◌≢◌, ◌||◌}
-use Rattle.thy_base.specs.declared.outside.PutError.{PutError}
-use Rattle.thy_base.specs.Outside.{Stream, Took}
-use Rattle.thy_base.proofs.Streams.{Took-append, TookPart-append}
+use Rattle.thy_block.specs.declared.outside.PutError.{PutError}
+use Rattle.thy_block.specs.Outside.{Stream, Took}
+use Rattle.thy_block.proofs.Streams.{Took-append, TookPart-append}
 use Rattle.thy_run.specs.declared.ending.Ending.{Ending}
 use Rattle.thy_answer.specs.Answering.{Closes, ClosesAs, ClosesRun, SumsUp, run_line, run_status, stop_summed}
 use Rattle.thy_answer.specs.Sources.{file}

@@ -1,10 +1,10 @@
 -- A program file is one program under each scheme.
 use Rattle.std.proofs.Common.{◌≡◌, ℕ, List, [], refl, sym, ◌∙◌, ap, None, Ok, Err}
 use Rattle.std.specs.Prelude.{Result}
-use Rattle.thy_base.specs.declared.config.Parameters.{Parameters}
-use Rattle.thy_base.specs.declared.config.SchemeName.{SchemeName}
-use Rattle.thy_base.specs.Geometry.{parameters_of}
-use Rattle.thy_base.specs.Outside.{Stock}
+use Rattle.thy_block.specs.declared.parameters.Parameters.{Parameters}
+use Rattle.thy_block.specs.declared.parameters.SchemeName.{SchemeName}
+use Rattle.thy_base.specs.Config.{parameters_of}
+use Rattle.thy_block.specs.Outside.{Stock}
 use Rattle.thy_elf.specs.declared.error.ElfError.{ElfError}
 use Rattle.thy_elf.specs.Image.{Contents}
 use Rattle.thy_plain.specs.Start.{second_regs, start_regs}

@@ -1,6 +1,6 @@
 -- A shelf that nothing was done to.
 use Rattle.std.proofs.Common.{◌≡◌, ◌∙◌, ap}
-use Rattle.thy_base.specs.Outside.{Stock, HasNotFailed}
+use Rattle.thy_block.specs.Outside.{Stock, HasNotFailed}
 
 -- a shelf that has not failed, and whose files stayed, is the one before
 pub stock_same : (old new : Stock) → new.held ≡ old.held → HasNotFailed old new → new ≡ old

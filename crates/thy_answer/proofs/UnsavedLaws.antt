@@ -1,10 +1,10 @@
 -- A run of a comparison, which saves nothing, leaves the shelf alone.
 use Rattle.std.proofs.Common.{◌≡◌, Bool, true, false, Option, None, List}
 use Rattle.thy_base.specs.declared.config.Config.{Config}
-use Rattle.thy_base.specs.declared.outside.PutError.{PutError}
-use Rattle.thy_base.specs.Device.{Device}
-use Rattle.thy_base.specs.Outside.{Stock}
-use Rattle.thy_base.specs.declared.config.SchemeName.{SchemeName}
+use Rattle.thy_block.specs.declared.outside.PutError.{PutError}
+use Rattle.thy_block.specs.Device.{Device}
+use Rattle.thy_block.specs.Outside.{Stock}
+use Rattle.thy_block.specs.declared.parameters.SchemeName.{SchemeName}
 use Rattle.thy_text.specs.Event.{Event}
 use Rattle.thy_answer.specs.Answering.{NvmOf}
 use Rattle.thy_answer.specs.Comparing.{RunsBy, Stage, Subject, under}

@@ -2,11 +2,11 @@
 -- A comparison: one program, run by each scheme in turn, each time over a device that is fitted anew.
 use Rattle.std.specs.Prelude.{◌≡◌, ◌⊎◌, ℕ, nat_le, if◌then◌else◌, Bool, true, false, List, [], ◌∷◌, ◌++◌, None, Contains, MatchBool}
 use Rattle.thy_base.specs.declared.config.Config.{Config}
-use Rattle.thy_base.specs.declared.config.SchemeName.{SchemeName}
-use Rattle.thy_base.specs.declared.config.SchemeName.TheVariants.{Thynvm, Journal, Shadow}
-use Rattle.thy_base.specs.Device.{HasFailedToFit}
-use Rattle.thy_base.specs.Outside.{Stream}
-use Rattle.thy_base.specs.Schemes.{scheme_name, scheme_number}
+use Rattle.thy_block.specs.declared.parameters.SchemeName.{SchemeName}
+use Rattle.thy_block.specs.declared.parameters.SchemeName.TheVariants.{Thynvm, Journal, Shadow}
+use Rattle.thy_block.specs.Device.{HasFailedToFit}
+use Rattle.thy_block.specs.Outside.{Stream}
+use Rattle.thy_block.specs.Schemes.{scheme_name, scheme_number}
 use Rattle.thy_isa.specs.declared.state.Status.{Status}
 use Rattle.thy_isa.specs.Step.{State}
 use Rattle.thy_text.specs.Event.{Event, Scheme, Ended}

@@ -2,10 +2,10 @@
 -- The device that a run sees: the one that is handed in, or, with a gap, the levelled lines that it holds. A saved image has no
 -- trace of the gap: a run with a gap can be resumed without, and the other way round.
 use Rattle.std.specs.Prelude.{◌≡◌, ℕ, ◌+◌, ◌==◌, if◌then◌else◌, Bool, true, List, map, length, take, Option, Some, None}
-use Rattle.thy_base.specs.declared.block.Block.{Block}
-use Rattle.thy_base.specs.declared.outside.PutError.{PutError}
-use Rattle.thy_base.specs.Device.{Device, Crash}
-use Rattle.thy_base.specs.Outside.{Stock}
+use Rattle.thy_block.specs.declared.block.Block.{Block}
+use Rattle.thy_block.specs.declared.outside.PutError.{PutError}
+use Rattle.thy_block.specs.Device.{Device, Crash}
+use Rattle.thy_block.specs.Outside.{Stock}
 use Rattle.thy_flat.specs.Flat.{flat}
 use Rattle.thy_gap.specs.Seen.{unmapped}
 use Rattle.thy_layout.specs.Decoded.{Reading}

@@ -1,7 +1,7 @@
 -- Part of the claim.
 -- Which machine runs a configuration: that of its scheme.
-use Rattle.thy_base.specs.declared.config.SchemeName.{SchemeName}
-use Rattle.thy_base.specs.declared.config.SchemeName.TheVariants.{Thynvm, Journal, Shadow}
+use Rattle.thy_block.specs.declared.parameters.SchemeName.{SchemeName}
+use Rattle.thy_block.specs.declared.parameters.SchemeName.TheVariants.{Thynvm, Journal, Shadow}
 use Rattle.thy_view.specs.Kind.{KindOf}
 
 -- machines of some type, with what they mean and what they show

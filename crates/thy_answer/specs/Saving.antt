@@ -1,12 +1,12 @@
 -- Part of the claim.
 -- What a save leaves: one more cut of power, and its image on the shelf.
 use Rattle.std.specs.Prelude.{◌≡◌, ℕ, Bool, true, false, List, [], length, Option, Some, None, slice_index_or}
-use Rattle.thy_base.specs.declared.block.Block.{Block}
+use Rattle.thy_block.specs.declared.block.Block.{Block}
 use Rattle.thy_base.specs.declared.config.Config.{Config}
-use Rattle.thy_base.specs.declared.outside.PutError.{PutError}
-use Rattle.thy_base.specs.declared.outside.PutError.TheVariants.{Failed as PutFailed, Memory as PutMemory}
-use Rattle.thy_base.specs.Device.{Device, IsCut}
-use Rattle.thy_base.specs.Outside.{Stock, Holds, KeepsOthers, HasNotFailed, HasFailedUnder, MayHaveFailed}
+use Rattle.thy_block.specs.declared.outside.PutError.{PutError}
+use Rattle.thy_block.specs.declared.outside.PutError.TheVariants.{Failed as PutFailed, Memory as PutMemory}
+use Rattle.thy_block.specs.Device.{Device, IsCut}
+use Rattle.thy_block.specs.Outside.{Stock, Holds, KeepsOthers, HasNotFailed, HasFailedUnder, MayHaveFailed}
 use Rattle.thy_flat.specs.Flat.{flat}
 use Rattle.thy_run.specs.World.{tear}
 use Rattle.thy_run.specs.declared.ending.Stop.{Stop}

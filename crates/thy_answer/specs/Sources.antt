@@ -2,14 +2,15 @@
 -- The source of a run's program, and what its bytes mean.
 use Rattle.std.specs.Prelude.{◌≡◌, ◌⊎◌, ℕ, ◌<◌, ◌≤◌, ◌^◌, nat_le, if◌then◌else◌, List, [], length, Option, Some, None, Result, Ok, Err, MatchOption}
 use Rattle.std.specs.List.{All}
-use Rattle.thy_base.specs.declared.block.Block.{Block}
-use Rattle.thy_base.specs.declared.config.Parameters.{Parameters}
-use Rattle.thy_base.specs.declared.mark.Mark.{Mark}
-use Rattle.thy_base.specs.declared.outside.FetchError.{FetchError}
-use Rattle.thy_base.specs.declared.outside.FetchError.TheVariants.{Failed as FetchFailed, NotThere, TooLong, Memory as FetchMemory}
-use Rattle.thy_base.specs.Geometry.{parameters_of, program_size}
-use Rattle.thy_base.specs.Marks.{mark}
-use Rattle.thy_base.specs.Outside.{Stock, Files, HasNotFailed, HasFailedUnder, MayHaveFailed}
+use Rattle.thy_block.specs.declared.block.Block.{Block}
+use Rattle.thy_block.specs.declared.parameters.Parameters.{Parameters}
+use Rattle.thy_block.specs.declared.mark.Mark.{Mark}
+use Rattle.thy_block.specs.declared.outside.FetchError.{FetchError}
+use Rattle.thy_block.specs.declared.outside.FetchError.TheVariants.{Failed as FetchFailed, NotThere, TooLong, Memory as FetchMemory}
+use Rattle.thy_base.specs.Config.{parameters_of}
+use Rattle.thy_block.specs.Geometry.{program_size}
+use Rattle.thy_block.specs.Marks.{mark}
+use Rattle.thy_block.specs.Outside.{Stock, Files, HasNotFailed, HasFailedUnder, MayHaveFailed}
 use Rattle.thy_elf.specs.declared.error.ElfError.{ElfError}
 use Rattle.thy_elf.specs.declared.error.ElfError.TheVariants.{Memory as ElfMemory}
 use Rattle.thy_elf.specs.Image.{Contents, read_of}

@@ -1,33 +1,37 @@
 //! The configuration of a run, as its options give it.
+ghost use Rattle.std.specs.Prelude.{◌≡◌, []};
+ghost use Rattle.thy_base.specs.Config.{number_of, parameters_of};
 
 use crate::Numbers;
+use std::alloc::Global;
+use thy_block::{Parameters, SchemeName};
 
-/// Every number that an option sets. `Geometry::new` tests the ranges.
+/// Every value that an option gives. The table of options has their ranges, and `Geometry::new` tests them.
 #[derive(Debug, Drop)]
 pub struct Config {
-    /// The first address of program memory, in bytes: a multiple of 4096 below `2^62`.
+    /// The first address of program memory, in bytes.
     pub base: u64,
-    /// Memory in pages of 4096 bytes: 8 to 65536.
+    /// Memory in pages of 4096 bytes.
     pub pages: u64,
-    /// The pages at the end of memory that hold the console's bytes: 1 to 16, below `pages`.
+    /// The pages at the end of memory that hold the console's bytes.
     pub console: u64,
-    /// The instructions of an epoch: 1 to 1,000,000.
+    /// The instructions of an epoch.
     pub epoch: u64,
-    /// Entries of the block translation table: 8 to 4096, a multiple of 8.
+    /// Entries of the block translation table.
     pub btt: u64,
-    /// Entries of the page translation table: 8 to 512, a multiple of 8.
+    /// Entries of the page translation table.
     pub ptt: u64,
-    /// Sets of the cache: a power of two, 1 to 64.
+    /// Sets of the cache.
     pub sets: u64,
-    /// Ways of each set: 1 to 8.
+    /// Ways of each set.
     pub ways: u64,
-    /// Writes that the NVM's queue holds: 1 to 64.
+    /// Writes that the NVM's queue holds.
     pub nvmq: u64,
-    /// Writes that the DRAM's queue holds: 1 to 64.
+    /// Writes that the DRAM's queue holds.
     pub dramq: u64,
-    /// The store count above which a page is promoted: at most 63.
+    /// The store count above which a page is promoted.
     pub high: u64,
-    /// The store count below which a page leaves: at most `high`.
+    /// The store count below which a page leaves.
     pub low: u64,
     /// The seed of the schedule. 0 gives the actors in turn.
     pub mix: u64,
@@ -36,25 +40,14 @@ pub struct Config {
     pub cuts: Numbers,
     /// The picks of the cuts in order, and then of a save: at most one more than `cuts`.
     pub tears: Numbers,
-    /// The cycles (or, for the plain machine, instructions) after which the run stops: 1 to `10^12`.
+    /// The cycles (or, for the plain machine, instructions) after which the run stops.
     pub limit: u64,
     /// The scheme of checkpoints.
     pub scheme: SchemeName,
-    /// The harts: 1 or 2.
+    /// The harts.
     pub harts: u64,
-    /// After how many writes of the NVM a barrier moves a line of it: at most 1,000,000. 0 is never.
+    /// After how many writes of the NVM a barrier moves a line of it. 0 is never.
     pub gap: u64,
-}
-
-/// The name of a scheme of checkpoints. With the sizes it decides what an image of the NVM means.
-#[derive(Clone, Copy, Debug, PartialEq, Eq)]
-pub enum SchemeName {
-    /// Block remapping for sparse writes and page writeback for dense ones, as in ThyNVM.
-    Thynvm,
-    /// A redo journal: what an epoch has stored is written to a journal, and home once it is committed.
-    Journal,
-    /// Shadow paging: a page that an epoch has stored to is written to another place, which a new map names.
-    Shadow,
 }
 
 /// A field of the configuration, or the number of a made program.
@@ -89,24 +82,59 @@ pub struct ConfigError {
     pub value: u64,
 }
 
-/// The numbers of a configuration that the machine is made by: all but the lists of cuts and tears, and `gap`. Units
-/// and ranges are as in `Config`.
-#[derive(Clone, Copy, Debug, PartialEq, Eq)]
-pub struct Parameters {
-    pub base: u64,
-    pub pages: u64,
-    pub console: u64,
-    pub epoch: u64,
-    pub btt: u64,
-    pub ptt: u64,
-    pub sets: u64,
-    pub ways: u64,
-    pub nvmq: u64,
-    pub dramq: u64,
-    pub high: u64,
-    pub low: u64,
-    pub mix: u64,
-    pub limit: u64,
-    pub scheme: SchemeName,
-    pub harts: u64,
+impl Config {
+    /// The configuration of a machine with these numbers, without cuts, picks or a gap. Allocates nothing.
+    pub fn of(alloc: Global, numbers: &Parameters) -> Config
+        ensures numbers { parameters_of result ≡ numbers.now }
+        ensures cuts { result.cuts ≡ [] }
+        ensures tears { result.tears ≡ [] }
+        ensures gap { result.gap ≡ 0 }
+    {
+        Config {
+            base: numbers.base,
+            pages: numbers.pages,
+            console: numbers.console,
+            epoch: numbers.epoch,
+            btt: numbers.btt,
+            ptt: numbers.ptt,
+            sets: numbers.sets,
+            ways: numbers.ways,
+            nvmq: numbers.nvmq,
+            dramq: numbers.dramq,
+            high: numbers.high,
+            low: numbers.low,
+            mix: numbers.mix,
+            cuts: Numbers::from_vec(Vec::new(alloc)),
+            tears: Numbers::from_vec(Vec::new(alloc)),
+            limit: numbers.limit,
+            scheme: numbers.scheme,
+            harts: numbers.harts,
+            gap: 0,
+        }
+    }
+
+    /// The number that the field has. A field that is a list, a scheme or no field of a configuration has 0.
+    pub fn number(&self, field: Field) -> u64
+        ensures { result ≡ number_of self.now field }
+    {
+        match field {
+            Field::Base => self.base,
+            Field::Pages => self.pages,
+            Field::Console => self.console,
+            Field::Epoch => self.epoch,
+            Field::Btt => self.btt,
+            Field::Ptt => self.ptt,
+            Field::Sets => self.sets,
+            Field::Ways => self.ways,
+            Field::Nvmq => self.nvmq,
+            Field::Dramq => self.dramq,
+            Field::High => self.high,
+            Field::Low => self.low,
+            Field::Mix => self.mix,
+            Field::Limit => self.limit,
+            Field::Harts => self.harts,
+            Field::Gap => self.gap,
+            Field::Cuts | Field::Tears | Field::Scheme | Field::N => 0,
+        }
+    }
 }

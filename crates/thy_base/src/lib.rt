@@ -1,45 +1,23 @@
-//! What every other crate depends on: blocks, bytes, the configuration and its sizes, the numbers drawn for schedules,
-//! and the traits of the outside world. Callers rely on `Geometry::new`, which gives a geometry exactly if each
-//! field is in its range, and on the clauses of `Nvm`, `Shelf`, `Sink` and `BlockStore`, all that is known of their
-//! implementations.
+//! The configuration of a run: its options as a table (names, defaults, ranges, the commands that take each), and the
+//! first value out of its range. `Geometry::new` of thy_block takes a configuration, and gives a geometry exactly if
+//! every value is in its range.
 //!
-//! Open specs/Device.antt and src/nvm.rt first, then specs/Geometry.antt. It depends on no crate of this repository;
-//! every other depends on it.
+//! Open specs/Options.antt and src/options.rt first, which are the table, then specs/Config.antt. It stands on
+//! thy_block, and has all that is public there; only crates that name a configuration or its fields stand on it.
 #![tactic(auto)]
 
-mod block;
-mod bytes;
-mod cause;
 mod config;
-mod field;
-mod geometry;
-mod inside;
-mod lcg;
-mod mark;
-mod mix;
+mod configuration;
 mod numbers;
-mod nvm;
-mod outside;
-mod page;
-mod places;
+mod options;
 mod ranges;
-mod scheme_name;
-mod store;
-mod words;
 
-pub use block::{BLOCK_SIZE, Block};
-pub use bytes::Bytes;
-pub use cause::EndCause;
-pub use config::{Config, ConfigError, Field, Parameters, SchemeName};
-pub use geometry::Geometry;
-pub use inside::is_inside;
-pub use lcg::Lcg;
-pub use mark::Mark;
-pub use mix::{Mix, Pick};
+pub use config::{Config, ConfigError, Field};
 pub use numbers::Numbers;
-pub use nvm::{FitError, Nvm, NvmError, Shape, Write};
-pub use outside::{FetchError, PutError, Shelf, Sink, SinkError};
-pub use page::{BLOCK_COUNTS, PAGE_BLOCKS, PAGE_SIZE, page_of};
-pub use places::{COMMIT_PLACE, HART_BLOCKS, HEADER_PLACE};
-pub use store::{BlockStore, Stored};
-pub use words::{block_with, word};
+pub use options::{Bounds, Commands, MOST_NUMBER, OptionRow, Value, fields};
+pub use thy_block::{
+    BLOCK_COUNTS, BLOCK_SIZE, Block, BlockStore, Bytes, COMMIT_PLACE, Configuration, EndCause,
+    FetchError, FitError, Geometry, HART_BLOCKS, HEADER_PLACE, Lcg, Mark, Mix, Nvm, NvmError,
+    PAGE_BLOCKS, PAGE_SIZE, Parameters, Pick, PutError, SchemeName, Shape, Shelf, Sink, SinkError,
+    Stored, Write, block_with, is_inside, page_of, word,
+};

@@ -1,11 +1,13 @@
-//! The tests of a configuration's ranges, in their order.
-ghost use Rattle.std.specs.Prelude.{◌≡◌, ◌+◌, ◌*◌, ◌<◌, ◌≤◌, ◌∷◌, [], drop, Bool, Option, Some, None, List, length, if◌then◌else◌, IfNone, nat_le, ◌&&◌};
-ghost use Rattle.thy_base.specs.Config.{fault_of, fault_in, rising_rows, cut_rows, end_rows};
-ghost use Rattle.thy_base.specs.Geometry.{parameters_of, memory_rows, table_rows, queue_rows, threshold_rows};
-ghost use Rattle.thy_base.specs.Ranges.{row, is_in, between, at_most};
+//! The tests of a configuration's ranges, in the order of the table of options.
+ghost use Rattle.std.specs.Prelude.{◌≡◌, ◌+◌, ◌*◌, ◌<◌, ◌≤◌, ◌∷◌, [], drop, take, Bool, Option, Some, None, List, length, if◌then◌else◌, nat_le, ◌&&◌};
+ghost use Rattle.thy_base.specs.Config.{fault_of, parameters_of, pick_rows, product_row, range_of, rising_rows, cut_rows, rows_at};
+ghost use Rattle.thy_base.specs.Options.{option_of};
+ghost use Rattle.thy_block.specs.Ranges.{between};
+ghost use Rattle.thy_base.specs.Rows.{fault_in, is_in};
 
-use crate::page::PAGE_SIZE;
-use crate::{Config, ConfigError, Field, Parameters};
+use crate::options::fields;
+use crate::{Bounds, Config, ConfigError, Field, Value};
+use thy_block::{PAGE_SIZE, Parameters};
 
 /// The numbers of a configuration, without its lists and the gap.
 pub(crate) fn parameters(c: &Config) -> Parameters
@@ -31,20 +33,56 @@ pub(crate) fn parameters(c: &Config) -> Parameters
     }
 }
 
-/// The first field out of its range.
+/// The first value out of its range.
 pub(crate) fn first_fault(c: &Config) -> Option<ConfigError>
     ensures { result ≡ fault_of c.now }
 {
-    if let Some(fault) = memory(c) {
-        return Some(fault);
+    for field in fields() {
+        if let Some(fault) = fault_at(c, *field) {
+            return Some(fault);
+        }
     }
-    tables(c).or(queues(c).or(thresholds(c).or(cuts(c).or(end(c)))))
+    None
+}
+
+/// The first fault among the values of a field. Cuts come after the pages.
+fn fault_at(c: &Config, field: Field) -> Option<ConfigError>
+    requires few_pages { (option_of field).value ≡ Value.Rising → c.now.pages ≤ 65536 }
+    ensures { result ≡ fault_in (rows_at c.now field) }
+{
+    match field.option().value {
+        Value::Number(_, bounds) => {
+            let value = c.number(field);
+            or_else(is_in(c, bounds, value), field, value, None)
+        }
+        Value::Rising => cuts(c),
+        Value::Picks => picks(c),
+        Value::Name => None,
+    }
 }
 
 fn is_within(least: u64, greatest: u64, n: u64) -> bool
     ensures { result ≡ is_in (between least greatest) n }
 {
     least <= n && n <= greatest
+}
+
+/// Whether a number is in a range of a configuration's option.
+fn is_in(c: &Config, bounds: Bounds, n: u64) -> bool
+    ensures { result ≡ is_in (range_of c.now bounds) n }
+{
+    match bounds {
+        Bounds::Any => true,
+        Bounds::AtMost(greatest) => n <= greatest,
+        Bounds::Between(least, greatest) => is_within(least, greatest, n),
+        Bounds::Eights(least, greatest) => is_within(least, greatest, n) && n % 8 == 0,
+        Bounds::PowerOfTwo => is_within(1, 64, n) && 64 % n == 0,
+        Bounds::PageAddress => n.is_multiple_of(PAGE_SIZE) && n < 1 << 62,
+        Bounds::Below(least, greatest, other) => {
+            is_within(least, greatest, n) && n < c.number(other)
+        }
+        Bounds::AtMostOf(other) => n <= c.number(other),
+    }
 }
 
 fn or_else(fits: bool, field: Field, value: u64, rest: Option<ConfigError>) -> Option<ConfigError>
@@ -55,65 +93,6 @@ fn or_else(fits: bool, field: Field, value: u64, rest: Option<ConfigError>) -> O
     } else {
         Some(ConfigError { field, value })
     }
-}
-
-fn memory(c: &Config) -> Option<ConfigError>
-    ensures fault { result ≡ fault_in (memory_rows (parameters_of c.now)) }
-    ensures pages { IfNone result (c.now.pages ≤ 65536) }
-{
-    let base = c.base.is_multiple_of(PAGE_SIZE) && c.base < 1 << 62;
-    let pages = is_within(8, 65536, c.pages);
-    let console = is_within(1, 16, c.console) && c.console < c.pages;
-    let rest = or_else(console, Field::Console, c.console, None);
-    or_else(
-        base,
-        Field::Base,
-        c.base,
-        or_else(pages, Field::Pages, c.pages, rest),
-    )
-}
-
-fn tables(c: &Config) -> Option<ConfigError>
-    ensures { result ≡ fault_in (table_rows (parameters_of c.now)) }
-{
-    let epoch = is_within(1, 1_000_000, c.epoch);
-    let btt = is_within(8, 4096, c.btt) && c.btt % 8 == 0;
-    let ptt = is_within(8, 512, c.ptt) && c.ptt % 8 == 0;
-    let rest = or_else(ptt, Field::Ptt, c.ptt, None);
-    or_else(
-        epoch,
-        Field::Epoch,
-        c.epoch,
-        or_else(btt, Field::Btt, c.btt, rest),
-    )
-}
-
-fn queues(c: &Config) -> Option<ConfigError>
-    ensures { result ≡ fault_in (queue_rows (parameters_of c.now)) }
-{
-    let sets = is_within(1, 64, c.sets) && 64 % c.sets == 0;
-    let ways = is_within(1, 8, c.ways);
-    let nvmq = is_within(1, 64, c.nvmq);
-    let dramq = is_within(1, 64, c.dramq);
-    let queues = or_else(
-        nvmq,
-        Field::Nvmq,
-        c.nvmq,
-        or_else(dramq, Field::Dramq, c.dramq, None),
-    );
-    or_else(
-        sets,
-        Field::Sets,
-        c.sets,
-        or_else(ways, Field::Ways, c.ways, queues),
-    )
-}
-
-fn thresholds(c: &Config) -> Option<ConfigError>
-    ensures { result ≡ fault_in (threshold_rows (parameters_of c.now)) }
-{
-    let low = or_else(c.low <= c.high, Field::Low, c.low, None);
-    or_else(c.high <= 63, Field::High, c.high, low)
 }
 
 fn cuts(c: &Config) -> Option<ConfigError>
@@ -133,7 +112,7 @@ fn cuts(c: &Config) -> Option<ConfigError>
 fn product(pages: u64, count: u64) -> Option<ConfigError>
     requires few_pages { pages ≤ 65536 }
     requires few_cuts { count ≤ 64 }
-    ensures { result ≡ fault_in (row Field.Cuts (pages * (count + 1)) (at_most 65536) ∷ []) }
+    ensures { result ≡ fault_in (product_row pages count ∷ []) }
 {
     let product = pages * (count + 1);
     or_else(product <= 65536, Field::Cuts, product, None)
@@ -155,18 +134,10 @@ fn not_rising(cuts: &[u64]) -> Option<ConfigError>
     None
 }
 
-fn end(c: &Config) -> Option<ConfigError>
-    ensures { result ≡ fault_in (end_rows c.now) }
+fn picks(c: &Config) -> Option<ConfigError>
+    ensures { result ≡ fault_in (pick_rows c.now) }
 {
     let count = c.tears.len();
-    let limit = is_within(1, 1_000_000_000_000, c.limit);
-    let gap = or_else(c.gap <= 1_000_000, Field::Gap, c.gap, None);
-    let harts = or_else(is_within(1, 2, c.harts), Field::Harts, c.harts, gap);
-    let rest = or_else(limit, Field::Limit, c.limit, harts);
-    or_else(
-        count.saturating_sub(1) <= c.cuts.len(),
-        Field::Tears,
-        count as u64,
-        rest,
-    )
+    let few = count.saturating_sub(1) <= c.cuts.len();
+    or_else(few, Field::Tears, count as u64, None)
 }

@@ -1,9 +1,9 @@
 -- A step acts once on the NVM, and comes nearer; put together of what its calls left, it is a step that was taken.
 use Rattle.std.proofs.Common.{◌≡◌, ◌≢◌, ℕ, ◌+◌, ◌≤◌, Bool, true, false, Option, Some, None, refl, sym, ap, subst, inl, arith, ◌*◌, ◌<◌, if◌then◌else◌, length, Result, Ok, Err, OnOk, OnErr, ◌∙◌}
 use Rattle.std.proofs.lemmas.Bool.{ltb-true}
-use Rattle.thy_base.specs.Device.{Device, newest}
-use Rattle.thy_base.specs.declared.nvm.NvmError.{NvmError}
-use Rattle.thy_base.proofs.WrittenLemmas.{length-written}
+use Rattle.thy_block.specs.Device.{Device, newest}
+use Rattle.thy_block.specs.declared.nvm.NvmError.{NvmError}
+use Rattle.thy_block.proofs.WrittenLemmas.{length-written}
 use Rattle.thy_isa.specs.Step.{State}
 use Rattle.thy_layout.specs.declared.bad_image.BadImage.{BadImage}
 use Rattle.thy_layout.specs.Commit.{commit_of, is_zero}

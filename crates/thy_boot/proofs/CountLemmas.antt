@@ -1,6 +1,6 @@
 -- How a step is counted among the writes.
 use Rattle.std.proofs.Common.{◌≡◌, ℕ, Result}
-use Rattle.thy_base.specs.declared.nvm.NvmError.{NvmError}
+use Rattle.thy_block.specs.declared.nvm.NvmError.{NvmError}
 use Rattle.thy_boot.specs.declared.stage.ReadStage.{ReadStage}
 use Rattle.thy_boot.specs.declared.stage.ReadStage.TheVariants.{Unread}
 use Rattle.thy_boot.specs.Boot.{Booting}

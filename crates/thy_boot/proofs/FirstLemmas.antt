@@ -4,8 +4,8 @@ use Rattle.std.proofs.lemmas.Bool.{cases_lt, lt-ltb, le-ltb}
 use Rattle.std.proofs.lemmas.List.{length-map, ext_get_or, get_or_default}
 use Rattle.std.proofs.lemmas.List.Elements.{Contains-get_or}
 use Rattle.std.proofs.Math.ListN.{get_or-map}
-use Rattle.thy_base.specs.declared.block.Block.{Block}
-use Rattle.thy_base.specs.Device.{Device, block_at, newest, zero_block}
+use Rattle.thy_block.specs.declared.block.Block.{Block}
+use Rattle.thy_block.specs.Device.{Device, block_at, newest, zero_block}
 use Rattle.thy_crash.specs.Fixed.{Reads}
 use Rattle.thy_protocol.specs.Issuing.{ArePlaced, AreIssued}
 use Rattle.thy_protocol.specs.Rounds.{AreApart, HasWritten}

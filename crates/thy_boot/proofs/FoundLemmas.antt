@@ -1,10 +1,10 @@
 -- A boot that reads: what it finds, what it shows, and its end; and drains, which keep the boot at its stage.
 use Rattle.std.proofs.Common.{◌≡◌, List, [], take, drop, Option, Some, None, refl, sym, ◌∙◌, ap, subst, ℕ, inl, arith}
-use Rattle.thy_base.specs.declared.block.Block.{Block}
-use Rattle.thy_base.specs.declared.config.Parameters.{Parameters}
-use Rattle.thy_base.specs.declared.mark.Mark.{Mark}
-use Rattle.thy_base.specs.declared.nvm.Write.{Write as Queued}
-use Rattle.thy_base.specs.Device.{Device, drained, applied}
+use Rattle.thy_block.specs.declared.block.Block.{Block}
+use Rattle.thy_block.specs.declared.parameters.Parameters.{Parameters}
+use Rattle.thy_block.specs.declared.mark.Mark.{Mark}
+use Rattle.thy_block.specs.declared.nvm.Write.{Write as Queued}
+use Rattle.thy_block.specs.Device.{Device, drained, applied}
 use Rattle.thy_crash.specs.Saved.{Kept, guarded, Saved}
 use Rattle.thy_crash.proofs.SparesLemmas.{Spares-drained, Spares-same}
 use Rattle.thy_isa.specs.declared.state.CpuState.{CpuState}

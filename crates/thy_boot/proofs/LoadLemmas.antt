@@ -4,12 +4,12 @@ use Rattle.std.proofs.lemmas.Bool.{ltb-true}
 use Rattle.std.proofs.lemmas.List.{length-map}
 use Rattle.std.proofs.lemmas.List.Elements.{Contains-append_cases}
 use Rattle.std.proofs.lemmas.List.FromFn.{length-range_with_len}
-use Rattle.thy_base.specs.declared.block.Block.{Block}
-use Rattle.thy_base.specs.declared.config.Parameters.{Parameters}
-use Rattle.thy_base.specs.Device.{Device, block_at, newest, settled}
-use Rattle.thy_base.specs.Geometry.{IsInRange, memory_blocks}
-use Rattle.thy_base.proofs.BasicLemmas.{all_none, not_first, Contains-range}
-use Rattle.thy_base.proofs.DeviceLemmas.{newest-empty}
+use Rattle.thy_block.specs.declared.block.Block.{Block}
+use Rattle.thy_block.specs.declared.parameters.Parameters.{Parameters}
+use Rattle.thy_block.specs.Device.{Device, block_at, newest, settled}
+use Rattle.thy_block.specs.Geometry.{IsInRange, memory_blocks}
+use Rattle.thy_block.proofs.BasicLemmas.{all_none, not_first, Contains-range}
+use Rattle.thy_block.proofs.DeviceLemmas.{newest-empty}
 use Rattle.thy_crash.specs.Fixed.{Reads}
 use Rattle.thy_crash.specs.Saved.{IsIssued, next_image, Kept, guarded}
 use Rattle.thy_crash.proofs.SavedLemmas.{next_image-commit, next_image-reads}

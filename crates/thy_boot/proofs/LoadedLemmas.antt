@@ -1,8 +1,8 @@
 -- After loading: memory is the start's, and the header has no fault.
 use Rattle.std.proofs.Common.{◌≡◌, true, List, map, None, sym, ◌∙◌, ap}
-use Rattle.thy_base.specs.declared.block.Block.{Block}
-use Rattle.thy_base.specs.declared.config.Parameters.{Parameters}
-use Rattle.thy_base.specs.Device.{Device, newest}
+use Rattle.thy_block.specs.declared.block.Block.{Block}
+use Rattle.thy_block.specs.declared.parameters.Parameters.{Parameters}
+use Rattle.thy_block.specs.Device.{Device, newest}
 use Rattle.thy_isa.specs.OnBlocks.{state_from}
 use Rattle.thy_isa.specs.Step.{cpu_of}
 use Rattle.thy_layout.specs.Layout.{header_bad}

@@ -1,10 +1,10 @@
 -- Every action of loading is a move of the run's checkpoints; and a migration, from one action to its end.
 use Rattle.std.proofs.Common.{◌≡◌, ◌≢◌, ℕ, List, [], ◌∷◌, length, Contains, Option, Some, None, sym, subst, inl, inr, arith, ◌+◌, ◌<◌, true, refl, ◌∙◌, ap}
 use Rattle.std.proofs.lemmas.List.Elements.{Contains-push_cases}
-use Rattle.thy_base.specs.declared.block.Block.{Block}
-use Rattle.thy_base.specs.Device.{Device, IsOneWordApart, IsFramed, block_at, newest, settled, drained, written_to}
-use Rattle.thy_base.specs.declared.mark.Mark.{Mark}
-use Rattle.thy_base.proofs.DeviceLemmas.{newest-settled, newest-drained, newest-written_to_other, length-settled}
+use Rattle.thy_block.specs.declared.block.Block.{Block}
+use Rattle.thy_block.specs.Device.{Device, IsOneWordApart, IsFramed, block_at, newest, settled, drained, written_to}
+use Rattle.thy_block.specs.declared.mark.Mark.{Mark}
+use Rattle.thy_block.proofs.DeviceLemmas.{newest-settled, newest-drained, newest-written_to_other, length-settled}
 use Rattle.thy_crash.specs.Saved.{IsIssued, next_image}
 use Rattle.thy_crash.proofs.SavedLemmas.{next_image-commit}
 use Rattle.thy_crash.proofs.FixedLemmas.{Reads-drained}

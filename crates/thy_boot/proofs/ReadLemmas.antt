@@ -2,16 +2,16 @@
 use Rattle.std.proofs.Common.{◌≡◌, ℕ, ◌+◌, ◌*◌, ◌<◌, ◌≤◌, Bool, true, false, if◌then◌else◌, List, [], length, refl, sym, ◌∙◌, ap, subst, arith, Option, Some, None}
 use Rattle.std.specs.Option.{option_or}
 use Rattle.std.proofs.lemmas.Bool.{ltb-false}
-use Rattle.thy_base.specs.declared.block.Block.{Block}
-use Rattle.thy_base.specs.declared.config.Parameters.{Parameters}
-use Rattle.thy_base.specs.Device.{Device, block_at, newest}
-use Rattle.thy_base.proofs.WrittenLemmas.{length-written}
-use Rattle.thy_base.proofs.BasicLemmas.{none_of_two}
-use Rattle.thy_base.proofs.DeviceLemmas.{newest-empty}
+use Rattle.thy_block.specs.declared.block.Block.{Block}
+use Rattle.thy_block.specs.declared.parameters.Parameters.{Parameters}
+use Rattle.thy_block.specs.Device.{Device, block_at, newest}
+use Rattle.thy_block.proofs.WrittenLemmas.{length-written}
+use Rattle.thy_block.proofs.BasicLemmas.{none_of_two}
+use Rattle.thy_block.proofs.DeviceLemmas.{newest-empty}
 use Rattle.thy_layout.specs.declared.bad_image.BadImage.{BadImage}
 use Rattle.thy_layout.specs.declared.layout_version.LayoutVersion.{LayoutVersion}
 use Rattle.thy_layout.specs.declared.layout_version.LayoutVersion.TheVariants.{VersionOne, VersionTwo}
-use Rattle.thy_base.specs.Words.{word_of}
+use Rattle.thy_block.specs.Words.{word_of}
 use Rattle.thy_layout.specs.Commit.{is_zero, epoch_of, commit_magic, version_of}
 use Rattle.thy_layout.proofs.CommitLemmas.{commit-written}
 use Rattle.thy_layout.proofs.HeaderLemmas.{named_two}

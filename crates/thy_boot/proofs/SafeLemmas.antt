@@ -1,10 +1,10 @@
 -- Whatever a cut leaves of a boot is safe; a boot begins, and every step of one is a move of the run's checkpoints.
 use Rattle.std.proofs.Common.{◌≡◌, false, List, length, Option, Some, None, refl, sym, ◌∙◌, ap, subst, arith, ◌≢◌, ℕ, ◌==◌, ◌||◌, Bool, true, if◌then◌else◌, inl, inr}
 use Rattle.std.proofs.lemmas.Bool.{ne_eqb}
-use Rattle.thy_base.specs.declared.block.Block.{Block}
-use Rattle.thy_base.specs.declared.config.Parameters.{Parameters}
-use Rattle.thy_base.specs.Device.{Device, IsFramed, HasFailed, settled}
-use Rattle.thy_base.specs.declared.mark.Mark.{Mark}
+use Rattle.thy_block.specs.declared.block.Block.{Block}
+use Rattle.thy_block.specs.declared.parameters.Parameters.{Parameters}
+use Rattle.thy_block.specs.Device.{Device, IsFramed, HasFailed, settled}
+use Rattle.thy_block.specs.declared.mark.Mark.{Mark}
 use Rattle.thy_crash.specs.Saved.{Kept, guarded, Saved}
 use Rattle.thy_crash.proofs.SparesLemmas.{Spares-failed}
 use Rattle.thy_isa.specs.Step.{State}

@@ -4,11 +4,11 @@ use Rattle.std.specs.List.{range_with_len}
 use Rattle.std.proofs.lemmas.Bool.{cases_eq, cases_lt}
 use Rattle.std.proofs.lemmas.List.{length-map, ext_get_or, length-take, length-take-le, length-drop, drop-append-le, take-append-le, drop-take, take-take, take_at, drop_at, get_or-take, length-append, length-replicate, take-append-drop, append_assoc, drop-drop, drop-replicate, take-replicate, get_or_past}
 use Rattle.std.proofs.lemmas.List.FromFn.{length-range_with_len, get_or-map-range_with_len, fill_by_all}
-use Rattle.thy_base.specs.declared.block.Block.{Block}
-use Rattle.thy_base.specs.Bytes.{written}
-use Rattle.thy_base.specs.Device.{block_at, zero_block, Device, write_of, applied, settled, drained, surplus, written_to}
-use Rattle.thy_base.specs.declared.nvm.Write.{Write}
-use Rattle.thy_base.proofs.DeviceLemmas.{applied-append}
+use Rattle.thy_block.specs.declared.block.Block.{Block}
+use Rattle.thy_block.specs.Bytes.{written}
+use Rattle.thy_block.specs.Device.{block_at, zero_block, Device, write_of, applied, settled, drained, surplus, written_to}
+use Rattle.thy_block.specs.declared.nvm.Write.{Write}
+use Rattle.thy_block.proofs.DeviceLemmas.{applied-append}
 use Rattle.thy_crash.specs.Saved.{next_image}
 use Rattle.thy_layout.specs.Files.{block_in, blocks_of}
 use Rattle.thy_layout.specs.Layout.{Layout, slot_in}

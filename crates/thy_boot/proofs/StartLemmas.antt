@@ -4,14 +4,14 @@ use Rattle.std.proofs.lemmas.Bool.{cases_lt}
 use Rattle.std.proofs.lemmas.List.{ext_get_or, length-append, length-take, length-drop, length-replicate, get_or-take, get_or-drop, get_or_append_left, get_or-append-add, get_or_past, take-append-le, drop-append-le, drop-replicate, drop-drop, take-append-drop, length-take-le}
 use Rattle.std.proofs.Math.Seq.{drop-append-add, take-append_seam, drop-append_seam}
 use Rattle.std.proofs.lemmas.List.FromFn.{length-map-range_with_len, get_or-map-range_with_len}
-use Rattle.thy_base.proofs.BasicLemmas.{get_or-replicate_any}
-use Rattle.thy_base.specs.declared.block.Block.{Block}
-use Rattle.thy_base.specs.declared.config.Parameters.{Parameters}
-use Rattle.thy_base.specs.Blocks.{block_bytes}
-use Rattle.thy_base.specs.Device.{zero_block, block_at}
-use Rattle.thy_base.specs.Geometry.{IsInRange, memory_blocks, program_size, console_room}
-use Rattle.thy_base.proofs.BlockLemmas.{block_bytes-long}
-use Rattle.thy_base.proofs.RangeLemmas.{console_below}
+use Rattle.thy_block.proofs.BasicLemmas.{get_or-replicate_any}
+use Rattle.thy_block.specs.declared.block.Block.{Block}
+use Rattle.thy_block.specs.declared.parameters.Parameters.{Parameters}
+use Rattle.thy_block.specs.Blocks.{block_bytes}
+use Rattle.thy_block.specs.Device.{zero_block, block_at}
+use Rattle.thy_block.specs.Geometry.{IsInRange, memory_blocks, program_size, console_room}
+use Rattle.thy_block.proofs.BlockLemmas.{block_bytes-long}
+use Rattle.thy_block.proofs.RangeLemmas.{console_below}
 use Rattle.thy_flat.specs.Flat.{flat}
 use Rattle.thy_isa.specs.OnBlocks.{state_from}
 use Rattle.thy_isa.specs.Step.{State, cpu_of, state_with}

@@ -1,7 +1,7 @@
 -- How an action is counted among the writes of the NVM.
 use Rattle.std.specs.Prelude.{◌≡◌, ℕ, ◌≤◌, Result}
-use Rattle.thy_base.specs.declared.nvm.NvmError.{NvmError}
-use Rattle.thy_base.specs.Device.{CountsWrite}
+use Rattle.thy_block.specs.declared.nvm.NvmError.{NvmError}
+use Rattle.thy_block.specs.Device.{CountsWrite}
 use Rattle.thy_view.specs.Action.{Action, WriteAt, Barrier}
 
 -- a write that was taken as one, a barrier as what the device writes of its own accord, and any other action not at all

@@ -1,9 +1,9 @@
 -- What holds of every boot of a run, whatever the layout and whatever is filled.
 use Rattle.std.specs.Prelude.{◌≡◌, ◌≢◌, ◌+◌, ◌<◌, ◌≤◌, false, [], length, Option, Some, None}
-use Rattle.thy_base.specs.declared.config.Parameters.{Parameters}
-use Rattle.thy_base.specs.declared.mark.Mark.{Mark}
-use Rattle.thy_base.specs.Device.{Device, block_at, drained, IsFramed}
-use Rattle.thy_base.specs.Places.{commit_place}
+use Rattle.thy_block.specs.declared.parameters.Parameters.{Parameters}
+use Rattle.thy_block.specs.declared.mark.Mark.{Mark}
+use Rattle.thy_block.specs.Device.{Device, block_at, drained, IsFramed}
+use Rattle.thy_block.specs.Places.{commit_place}
 use Rattle.thy_crash.specs.Saved.{Kept}
 use Rattle.thy_isa.specs.Step.{State}
 use Rattle.thy_layout.specs.declared.bad_image.BadImage.{BadImage}

@@ -1,8 +1,8 @@
 -- Part of the claim.
 -- How many actions a boot has left, at most.
 use Rattle.std.specs.Prelude.{ℕ, ◌+◌, ◌-◌, max, if◌then◌else◌}
-use Rattle.thy_base.specs.declared.config.Parameters.{Parameters}
-use Rattle.thy_base.specs.Geometry.{memory_blocks}
+use Rattle.thy_block.specs.declared.parameters.Parameters.{Parameters}
+use Rattle.thy_block.specs.Geometry.{memory_blocks}
 use Rattle.thy_layout.specs.declared.layout_version.LayoutVersion.{LayoutVersion}
 use Rattle.thy_layout.specs.declared.layout_version.LayoutVersion.TheVariants.{VersionOne, VersionTwo}
 use Rattle.thy_layout.specs.Commit.{commit_of}

@@ -1,10 +1,10 @@
 -- Part of the claim.
 -- Loading: the round that writes the start's checkpoint.
 use Rattle.std.specs.Prelude.{◌≡◌, ℕ, ◌+◌, ◌-◌, nat_lt, false, if◌then◌else◌, length, slice_index_or, Option, Some, None, Result, OnOk, OnErr}
-use Rattle.thy_base.specs.declared.block.Block.{Block}
-use Rattle.thy_base.specs.declared.nvm.NvmError.{NvmError}
-use Rattle.thy_base.specs.Device.{Device, block_at, IsFramed, CountsFault}
-use Rattle.thy_base.specs.Places.{header_place}
+use Rattle.thy_block.specs.declared.block.Block.{Block}
+use Rattle.thy_block.specs.declared.nvm.NvmError.{NvmError}
+use Rattle.thy_block.specs.Device.{Device, block_at, IsFramed, CountsFault}
+use Rattle.thy_block.specs.Places.{header_place}
 use Rattle.thy_isa.specs.Step.{State}
 use Rattle.thy_protocol.specs.declared.round.Round.{Round}
 use Rattle.thy_protocol.specs.Round.{RoundWrites, IsInRound}

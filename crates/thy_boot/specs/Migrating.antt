@@ -2,7 +2,7 @@
 -- The migration: a checkpoint of an older form is written anew, in the form that is written today. The round writes the slot of
 -- its epoch, and the commit block of the same epoch.
 use Rattle.std.specs.Prelude.{◌≡◌, ℕ, ◌-◌, ◌*◌, false, List, ◌++◌, length, take, replicate, Option, Some, None}
-use Rattle.thy_base.specs.Device.{Device, block_at}
+use Rattle.thy_block.specs.Device.{Device, block_at}
 use Rattle.thy_layout.specs.Layout.{memory_places}
 use Rattle.thy_protocol.specs.declared.round.Round.{Round}
 use Rattle.thy_protocol.specs.declared.round.Round.TheVariants.{Confirm}

@@ -1,8 +1,8 @@
 -- Part of the claim.
 -- What a step that reads does at the NVM, and what it makes of boot and controller.
 use Rattle.std.specs.Prelude.{◌≡◌, ℕ, ◌+◌, length}
-use Rattle.thy_base.specs.Device.{Device, newest}
-use Rattle.thy_base.specs.Places.{commit_place, header_place}
+use Rattle.thy_block.specs.Device.{Device, newest}
+use Rattle.thy_block.specs.Places.{commit_place, header_place}
 use Rattle.thy_view.specs.Action.{Action, Rest, ReadAt}
 use Rattle.thy_boot.specs.declared.stage.ReadStage.{ReadStage}
 use Rattle.thy_boot.specs.declared.stage.ReadStage.TheVariants.{Unread, Header, Slot, Fills, Refusing}

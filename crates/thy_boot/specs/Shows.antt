@@ -1,8 +1,8 @@
 -- Part of the claim.
 -- What is seen of a boot.
 use Rattle.std.specs.Prelude.{◌+◌, true, false, Bool, Option, Some, None}
-use Rattle.thy_base.specs.declared.mark.Mark.{Mark}
-use Rattle.thy_base.specs.Marks.{mark}
+use Rattle.thy_block.specs.declared.mark.Mark.{Mark}
+use Rattle.thy_block.specs.Marks.{mark}
 use Rattle.thy_view.specs.declared.view.Phase.TheVariants.{Run}
 use Rattle.thy_view.specs.declared.view.View.{View}
 use Rattle.thy_view.specs.Booting.{boot_view, loading_view}

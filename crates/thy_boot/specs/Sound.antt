@@ -1,10 +1,10 @@
 -- A boot over a run's checkpoints: what the device keeps of them, and what was read or written so far.
 use Rattle.std.specs.Prelude.{◌≡◌, ℕ, ◌*◌, true, List, [], length, Option, Some, None}
-use Rattle.thy_base.specs.declared.block.Block.{Block}
-use Rattle.thy_base.specs.declared.mark.Mark.{Mark}
-use Rattle.thy_base.specs.Device.{Device, block_at, newest, settled}
-use Rattle.thy_base.specs.Marks.{mark}
-use Rattle.thy_base.specs.Places.{commit_place, header_place}
+use Rattle.thy_block.specs.declared.block.Block.{Block}
+use Rattle.thy_block.specs.declared.mark.Mark.{Mark}
+use Rattle.thy_block.specs.Device.{Device, block_at, newest, settled}
+use Rattle.thy_block.specs.Marks.{mark}
+use Rattle.thy_block.specs.Places.{commit_place, header_place}
 use Rattle.thy_crash.specs.Saved.{Kept, next_image}
 use Rattle.thy_view.specs.Origin.{Origin, at}
 use Rattle.thy_protocol.specs.Keeps.{IsOf}

@@ -2,9 +2,9 @@
 -- The blocks that a start makes of memory: its bytes, and after them its console's pages.
 use Rattle.std.specs.Prelude.{◌≡◌, ℕ, ◌-◌, ◌*◌, ◌≤◌, List, ◌++◌, length, map, take, drop, replicate}
 use Rattle.std.specs.List.{range_with_len}
-use Rattle.thy_base.specs.declared.block.Block.{Block}
-use Rattle.thy_base.specs.declared.config.Parameters.{Parameters}
-use Rattle.thy_base.specs.Geometry.{IsInRange, memory_blocks, program_size, console_room}
+use Rattle.thy_block.specs.declared.block.Block.{Block}
+use Rattle.thy_block.specs.declared.parameters.Parameters.{Parameters}
+use Rattle.thy_block.specs.Geometry.{IsInRange, memory_blocks, program_size, console_room}
 use Rattle.thy_isa.specs.Step.{State, cpu_of}
 use Rattle.thy_layout.specs.Cpu.{IsRecordable}
 use Rattle.thy_view.specs.Safe.{ceiling}

@@ -1,8 +1,8 @@
 -- Part of the claim.
 -- What a step makes of boot, controller and NVM.
 use Rattle.std.specs.Prelude.{◌≡◌, Result, OnOk, OnErr}
-use Rattle.thy_base.specs.declared.nvm.NvmError.{NvmError}
-use Rattle.thy_base.specs.Device.{Device, IsFramed, CountsFault}
+use Rattle.thy_block.specs.declared.nvm.NvmError.{NvmError}
+use Rattle.thy_block.specs.Device.{Device, IsFramed, CountsFault}
 use Rattle.thy_isa.specs.Step.{State}
 use Rattle.thy_view.specs.Action.{Action, Rest, after, FailsTo}
 use Rattle.thy_boot.specs.declared.stage.Stage.{Stage}

@@ -10,7 +10,7 @@ use crate::fills::Fills;
 use crate::stage::{End, ReadStage, Stage};
 use std::alloc::{AllocError, Global};
 use std::marker::Model;
-use thy_base::{BLOCK_SIZE, Block, Geometry, Nvm, NvmError};
+use thy_block::{BLOCK_SIZE, Block, Geometry, Nvm, NvmError};
 use thy_layout::{ImageLayout, Start, cpu_in, epoch_in};
 use thy_view::BootStep;
 
@@ -43,7 +43,7 @@ fn first_blocks(bytes: &[u8], count: u64) -> &[u8]
 
 impl Boot {
     /// The boot of a machine whose power came on.
-    #[tactic(auto, unfolding(thy_base::specs::Device::zero_block))]
+    #[tactic(auto, unfolding(thy_block::specs::Device::zero_block))]
     pub fn new<F: Fills>(alloc: Global, geometry: &Geometry) -> Result<Boot, AllocError>
         ensures { IfOk result (λ boot. boot ≡ new_boot F.filling geometry.now) }
     {

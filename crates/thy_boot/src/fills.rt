@@ -1,7 +1,7 @@
 //! What a scheme says of its images to the boot.
 ghost use Rattle.std.specs.Prelude.{◌≡◌, ◌*◌, ◌<◌, false, length, None, OnOk, OnErr, slice_index_or};
-ghost use Rattle.thy_base.specs.Device.{newest};
-ghost use Rattle.thy_base.specs.Geometry.{memory_blocks};
+ghost use Rattle.thy_block.specs.Device.{newest};
+ghost use Rattle.thy_block.specs.Geometry.{memory_blocks};
 ghost use Rattle.thy_isa.specs.Step.{state_of};
 ghost use Rattle.thy_layout.specs.Commit.{commit_of};
 ghost use Rattle.thy_layout.specs.Files.{blocks_of};
@@ -11,7 +11,7 @@ ghost use Rattle.thy_boot.specs.Filling.{FillingOf, IsFilling, IsNext, ListsOn, 
 ghost use Rattle.thy_boot.specs.Loads.{Takes};
 ghost use Rattle.thy_boot.specs.Start.{CanStart};
 
-use thy_base::{Block, Geometry, Nvm, NvmError};
+use thy_block::{Block, Geometry, Nvm, NvmError};
 use thy_isa::MachState;
 use thy_layout::ImageLayout;
 

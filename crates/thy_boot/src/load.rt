@@ -14,7 +14,7 @@ use crate::fills::Fills;
 use crate::reading::slot_at;
 use crate::stage::{End, Stage};
 use crate::start::start_block;
-use thy_base::{Block, COMMIT_PLACE, Geometry, HEADER_PLACE, Nvm, NvmError, Write};
+use thy_block::{Block, COMMIT_PLACE, Geometry, HEADER_PLACE, Nvm, NvmError, Write};
 use thy_isa::MachState;
 use thy_layout::{ImageLayout, commit_block, header_block_of};
 use thy_protocol::Round;

@@ -1,6 +1,6 @@
 //! Migration: a checkpoint of an older form is written anew, in the form that is written today.
 ghost use Rattle.std.specs.Prelude.{◌≡◌, ◌*◌, ◌≤◌, false, length, OnOk, OnErr};
-ghost use Rattle.thy_base.specs.Device.{block_at};
+ghost use Rattle.thy_block.specs.Device.{block_at};
 ghost use Rattle.thy_layout.specs.Files.{blocks_of};
 ghost use Rattle.thy_protocol.specs.Round.{IsInRound, next_round, round_action};
 ghost use Rattle.thy_boot.specs.Boot.{layout_in, slot_read};
@@ -12,7 +12,7 @@ use crate::boot::Boot;
 use crate::fills::Fills;
 use crate::reading::slot_at;
 use crate::stage::{End, Stage};
-use thy_base::{BLOCK_SIZE, Block, COMMIT_PLACE, Nvm, NvmError};
+use thy_block::{BLOCK_SIZE, Block, COMMIT_PLACE, Nvm, NvmError};
 use thy_layout::{ImageLayout, block_in, commit_block, epoch_in};
 use thy_protocol::Round;
 

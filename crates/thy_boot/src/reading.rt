@@ -1,8 +1,8 @@
 //! Reading: each step reads one block of the NVM, up to the last that determines what the image means.
 ghost use Rattle.std.specs.Prelude.{◌≡◌, ◌+◌, ◌*◌, ◌<◌, ◌≤◌, false, length, None, OnOk, OnErr};
-ghost use Rattle.thy_base.specs.Bytes.{written};
-ghost use Rattle.thy_base.specs.Device.{newest};
-ghost use Rattle.thy_base.specs.Places.{commit_place, header_place};
+ghost use Rattle.thy_block.specs.Bytes.{written};
+ghost use Rattle.thy_block.specs.Device.{newest};
+ghost use Rattle.thy_block.specs.Places.{commit_place, header_place};
 ghost use Rattle.thy_view.specs.Action.{ReadAt};
 ghost use Rattle.thy_boot.specs.Boot.{IsBoot, layout_in, slot_fault, at_stage, stage_of_commit, after_commit, after_header, after_slot};
 ghost use Rattle.thy_boot.specs.Boot.{refusing_or, filled_by, filling_from, has_more, gone_on, IsJudged, GoesOn};
@@ -14,7 +14,7 @@ ghost use Rattle.thy_boot.specs.Recovers.{HasRead};
 use crate::boot::Boot;
 use crate::fills::{CEILING, Fills};
 use crate::stage::{End, ReadStage, Stage};
-use thy_base::{BLOCK_SIZE, Block, COMMIT_PLACE, Geometry, HEADER_PLACE, Nvm, NvmError};
+use thy_block::{BLOCK_SIZE, Block, COMMIT_PLACE, Geometry, HEADER_PLACE, Nvm, NvmError};
 use thy_layout::{
     BadImage, ImageLayout, LayoutVersion, commit_fault, header_fault_in, is_zero, version_of,
 };

@@ -1,11 +1,11 @@
 //! The blocks that a start makes of memory, and its processor.
 ghost use Rattle.std.specs.Prelude.{◌≡◌, ◌<◌, ◌≤◌, ◌+◌, length, take, drop, ◌++◌, replicate};
-ghost use Rattle.thy_base.specs.Device.{block_at};
-ghost use Rattle.thy_base.specs.Geometry.{memory_blocks};
+ghost use Rattle.thy_block.specs.Device.{block_at};
+ghost use Rattle.thy_block.specs.Geometry.{memory_blocks};
 ghost use Rattle.thy_isa.specs.Step.{state_of};
 ghost use Rattle.thy_boot.specs.Start.{IsStartFor, start_blocks};
 
-use thy_base::{BLOCK_SIZE, Block, Geometry};
+use thy_block::{BLOCK_SIZE, Block, Geometry};
 use thy_isa::MachState;
 
 /// Block `b` of a start: its memory, and after that its console filled up with zeros.

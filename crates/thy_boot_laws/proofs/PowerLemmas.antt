@@ -1,11 +1,11 @@
 -- Power comes on, and is lost.
 use Rattle.std.proofs.Common.{◌≡◌, ℕ, ◌*◌, length, refl, sym, ◌∙◌, ap, subst, Option, Some, None}
 use Rattle.std.proofs.lemmas.List.{length-replicate}
-use Rattle.thy_base.specs.declared.config.Parameters.{Parameters}
-use Rattle.thy_base.specs.declared.mark.Mark.{Mark}
-use Rattle.thy_base.specs.Device.{Device}
-use Rattle.thy_base.specs.Marks.{mark}
-use Rattle.thy_base.specs.Places.{dram_blocks}
+use Rattle.thy_block.specs.declared.parameters.Parameters.{Parameters}
+use Rattle.thy_block.specs.declared.mark.Mark.{Mark}
+use Rattle.thy_block.specs.Device.{Device}
+use Rattle.thy_block.specs.Marks.{mark}
+use Rattle.thy_block.specs.Places.{dram_blocks}
 use Rattle.thy_dram.specs.Contents.{Contents, lost}
 use Rattle.thy_dram.proofs.DrawLemmas.{length-over}
 use Rattle.thy_isa.specs.Step.{State}

@@ -1,8 +1,8 @@
 -- A boot of a run that is not over: whether it loads, what is seen of it, and a step of it.
 use Rattle.std.proofs.Common.{◌≡◌, ◌≢◌, ◌&&◌, true, false, List, length, refl, sym, ◌∙◌, ap, subst, Option, Some, None, ℕ, [], inl, inr, ◌+◌, ◌≤◌, Bool, arith, Result}
-use Rattle.thy_base.specs.declared.block.Block.{Block}
-use Rattle.thy_base.specs.declared.mark.Mark.{Mark}
-use Rattle.thy_base.specs.Device.{Device, block_at}
+use Rattle.thy_block.specs.declared.block.Block.{Block}
+use Rattle.thy_block.specs.declared.mark.Mark.{Mark}
+use Rattle.thy_block.specs.Device.{Device, block_at}
 use Rattle.thy_layout.specs.declared.bad_image.BadImage.{BadImage}
 use Rattle.thy_layout.specs.Commit.{is_zero}
 use Rattle.thy_layout.specs.Decoded.{Reading, Decoded, Nothing, Refused, At}
@@ -26,8 +26,8 @@ use Rattle.thy_boot.specs.Sound.{BootImages, layout_for, standing_in_boot, IsRec
 use Rattle.thy_boot.proofs.FoundLemmas.{never_refused}
 use Rattle.thy_boot_laws.specs.Seen.{view_at, has_read_at, loads_at}
 use Rattle.thy_boot_laws.specs.Laws.{IsReadBy, LoadsIfNone, ViewIsKept, FoundIsSettled, FewerHasRead, FoundFailsUnwritten}
-use Rattle.thy_base.specs.Marks.{mark}
-use Rattle.thy_base.proofs.CrashLemmas.{Crash-image}
+use Rattle.thy_block.specs.Marks.{mark}
+use Rattle.thy_block.proofs.CrashLemmas.{Crash-image}
 use Rattle.thy_view.proofs.SafeLemmas.{Safe-same}
 use Rattle.thy_view.specs.Told.{told}
 use Rattle.thy_protocol.proofs.KeepsLemmas.{finding_view-told, Safe-sealed}
@@ -37,8 +37,8 @@ use Rattle.thy_protocol.specs.Round.{is_written, round_action}
 use Rattle.thy_protocol.specs.Rounds.{saved_in}
 use Rattle.thy_boot.specs.Shows.{migrates_at, seen_at}
 use Rattle.thy_scheme.specs.Boots.{IsBootView}
-use Rattle.thy_base.specs.declared.config.Parameters.{Parameters}
-use Rattle.thy_base.specs.declared.nvm.NvmError.{NvmError}
+use Rattle.thy_block.specs.declared.parameters.Parameters.{Parameters}
+use Rattle.thy_block.specs.declared.nvm.NvmError.{NvmError}
 use Rattle.thy_dram.specs.Contents.{Contents}
 use Rattle.thy_isa.specs.Step.{State}
 use Rattle.thy_view.specs.Dram.{ActsOnDram}

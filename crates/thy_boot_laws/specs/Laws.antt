@@ -1,9 +1,9 @@
 -- What is seen of every boot of a run that is not over, whatever the layout and whatever is filled.
 use Rattle.std.specs.Prelude.{◌≡◌, ◌≤◌, ◌+◌, ◌&&◌, true, false, List, [], length, Option, Some}
-use Rattle.thy_base.specs.declared.block.Block.{Block}
-use Rattle.thy_base.specs.declared.config.Parameters.{Parameters}
-use Rattle.thy_base.specs.declared.mark.Mark.{Mark}
-use Rattle.thy_base.specs.Device.{Device, HasFailed}
+use Rattle.thy_block.specs.declared.block.Block.{Block}
+use Rattle.thy_block.specs.declared.parameters.Parameters.{Parameters}
+use Rattle.thy_block.specs.declared.mark.Mark.{Mark}
+use Rattle.thy_block.specs.Device.{Device, HasFailed}
 use Rattle.thy_layout.specs.Decoded.{Reading}
 use Rattle.thy_view.specs.Action.{FailsTo}
 use Rattle.thy_view.specs.Origin.{Origin}

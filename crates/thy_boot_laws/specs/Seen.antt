@@ -1,7 +1,7 @@
 -- Part of the claim.
 -- What is seen of a boot, by its stage.
 use Rattle.std.specs.Prelude.{true, false, Bool}
-use Rattle.thy_base.specs.Device.{Device}
+use Rattle.thy_block.specs.Device.{Device}
 use Rattle.thy_layout.specs.Decoded.{Reading}
 use Rattle.thy_view.specs.declared.view.View.{View}
 use Rattle.thy_view.specs.Booting.{loading_view, view_of_image}

@@ -8,9 +8,9 @@ use Rattle.std.proofs.lemmas.List.Folds.{sum_by-replicate}
 use Rattle.std.proofs.lemmas.List.Sums.{sum_by-le, get_or-le-sum_by}
 use Rattle.std.proofs.lemmas.List.Elements.{All-from_get_or}
 use Rattle.std.proofs.lemmas.List.Quantifiers.{position-Some}
-use Rattle.thy_base.specs.declared.block.Block.{Block}
-use Rattle.thy_base.specs.Device.{block_at}
-use Rattle.thy_base.proofs.BasicLemmas.{not_some}
+use Rattle.thy_block.specs.declared.block.Block.{Block}
+use Rattle.thy_block.specs.Device.{block_at}
+use Rattle.thy_block.proofs.BasicLemmas.{not_some}
 use Rattle.thy_cache.specs.declared.line.Line.{Line}
 use Rattle.thy_cache.specs.Ways.{Ways, line_at, is_dirty, has_dirty, dirty_lines, empty_ways}
 use Rattle.thy_cache.specs.Contents.{Contents, empty_cache, no_ways, set_at, set_of, index_of, line_of, dirty_line_in, HasNoneDirty, dirty_count}

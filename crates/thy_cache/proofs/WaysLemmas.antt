@@ -7,7 +7,7 @@ use Rattle.std.proofs.lemmas.List.{map-id, length-replicate, length_push, length
 use Rattle.std.proofs.lemmas.List.Edits.{length-remove}
 use Rattle.std.proofs.lemmas.List.FromFn.{map-range_with_len_more, length-range_with_len, get_or-range_with_len}
 use Rattle.std.proofs.lemmas.List.Elements.{All-append, All-take, All-drop, All-push, All-from_get_or}
-use Rattle.thy_base.proofs.BasicLemmas.{not_some}
+use Rattle.thy_block.proofs.BasicLemmas.{not_some}
 use Rattle.thy_cache.specs.declared.line.Line.{Line}
 use Rattle.thy_cache.specs.Ways.{Ways, AreSoundWays, HaveOneLineEach, empty_ways, line_at, line_in}
 use Rattle.thy_cache.proofs.LineLemmas.{KeepsBlock}

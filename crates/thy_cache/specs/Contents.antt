@@ -2,10 +2,10 @@
 -- A cache: its sets, and what each call makes of them.
 use Rattle.std.specs.Prelude.{◌≡◌, ◌⊎◌, ℕ, ◌+◌, ◌*◌, ◌≤◌, ◌%◌, ◌^◌, ◌<◌, Bool, true, false, List, [], length, replicate, slice_index_or, slice_set, sum_by, position, All, Option, Some, None, is_some, unwrap_or, option_and_then}
 use Rattle.std.specs.Option.{option_map}
-use Rattle.thy_base.specs.declared.block.Block.{Block}
-use Rattle.thy_base.specs.declared.store.Stored.{Stored}
-use Rattle.thy_base.specs.declared.store.Stored.TheVariants.{Done, CopyFirst}
-use Rattle.thy_base.specs.Store.{Holding, HasStored, page_of}
+use Rattle.thy_block.specs.declared.block.Block.{Block}
+use Rattle.thy_block.specs.declared.store.Stored.{Stored}
+use Rattle.thy_block.specs.declared.store.Stored.TheVariants.{Done, CopyFirst}
+use Rattle.thy_block.specs.Store.{Holding, HasStored, page_of}
 use Rattle.thy_cache.specs.declared.line.Line.{Line}
 use Rattle.thy_cache.specs.declared.line.LinePlace.{LinePlace}
 use Rattle.thy_cache.specs.declared.line.Victim.{Victim}

@@ -2,9 +2,9 @@
 -- A cache over a store, read as one flat list of blocks.
 use Rattle.std.specs.Prelude.{◌≡◌, ℕ, ◌+◌, ◌<◌, ◌%◌, if◌then◌else◌, List, length, map, false, Some, unwrap_or}
 use Rattle.std.specs.List.{range_with_len}
-use Rattle.thy_base.specs.declared.block.Block.{Block}
-use Rattle.thy_base.specs.Blocks.{block_written}
-use Rattle.thy_base.specs.Device.{block_at}
+use Rattle.thy_block.specs.declared.block.Block.{Block}
+use Rattle.thy_block.specs.Blocks.{block_written}
+use Rattle.thy_block.specs.Device.{block_at}
 use Rattle.thy_cache.specs.declared.line.Line.{Line}
 use Rattle.thy_cache.specs.Ways.{Ways, line_at, is_dirty}
 use Rattle.thy_cache.specs.Contents.{Contents, set_at, line_of, peeked, hits, dirty_count, KeepsSize}

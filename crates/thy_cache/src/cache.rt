@@ -1,7 +1,7 @@
 //! The cache.
 ghost use Rattle.std.specs.Prelude.{◌≡◌, ◌≢◌, ◌<◌, ◌≤◌, ◌+◌, ◌↔◌, Ok, Some, true, false, if◌then◌else◌, length, position, is_some, IfOk, IfSome, IfNone, OnOk, OnErr};
-ghost use Rattle.thy_base.specs.Device.{block_at, CountsOneFault};
-ghost use Rattle.thy_base.specs.Store.{IsKeptByLoad};
+ghost use Rattle.thy_block.specs.Device.{block_at, CountsOneFault};
+ghost use Rattle.thy_block.specs.Store.{IsKeptByLoad};
 ghost use Rattle.thy_cache.specs.Ways.{is_dirty, line_at, victim_way, has_dirty};
 ghost use Rattle.thy_cache.specs.Contents.{Contents, empty_cache, set_at, set_of, index_of, victim_line_of, is_dirty_victim, cleaned_at, filled_with, evicted_for, stored_at, dirty_set, dirty_way, dirty_line, HasNoneDirty, IsSized, KeepsSize, KeepsOpen, flushed_from, HasFlushed, CountsFlushed, StoresLine, CountsStored, line_of, place_of, peeked, hits, victim_of, dirty_count, read_from, written_at};
 ghost use Rattle.thy_cache.specs.Flat.{flat, Agrees, PeeksSame, HitsSame, ReadsAs, AgreesWithAll, ReadsAsStore, KeepsLines, IsWritten};
@@ -11,7 +11,7 @@ use crate::modulus::Modulus;
 use crate::ways::{WaySet, empty_sets};
 use std::alloc::{AllocError, Global};
 use std::marker::Model;
-use thy_base::{Block, BlockStore, NvmError, Stored};
+use thy_block::{Block, BlockStore, NvmError, Stored};
 
 /// A write-back cache over a store of blocks. Block `b` belongs to set `b` modulo the number of sets.
 /// Only `new` allocates.

@@ -2,7 +2,7 @@
 //! newer in their places. Each call of `Cache` equals its specification, also in which line is evicted, and makes at
 //! most one call of the store.
 //!
-//! Open specs/Flat.antt first, then specs/Contents.antt, and src/cache.rt. It stands on thy_base; on it stand thy_hart,
+//! Open specs/Flat.antt first, then specs/Contents.antt, and src/cache.rt. It stands on thy_block; on it stand thy_hart,
 //! thy_core_laws and thy_core.
 #![tactic(auto)]
 

@@ -1,6 +1,6 @@
 //! What a cache holds of a block.
 
-use thy_base::Block;
+use thy_block::Block;
 
 /// A block that a cache holds.
 #[derive(Clone, Copy, Debug, PartialEq, Eq)]

@@ -7,7 +7,7 @@ ghost use Rattle.thy_cache.specs.Ways.{is_dirty, has_dirty, empty_ways, holds, l
 use crate::line::Line;
 use std::alloc::{AllocError, Global};
 use std::marker::Model;
-use thy_base::Block;
+use thy_block::Block;
 
 /// A set: a fixed number of ways, each with at most one line, and the order in which they were last used. No block has
 /// two lines.

@@ -1,7 +1,7 @@
 -- Part of the claim.
 -- What a seal, a commit, a merge, a promotion and the write of a page make of a block's entries, and their laws.
 use Rattle.std.specs.Prelude.{◌≡◌, ◌≢◌, ℕ, ◌+◌, ◌≤◌, ◌==◌, Bool, true, false, ◌||◌, not, if◌then◌else◌, Option, Some, None}
-use Rattle.thy_base.specs.declared.block.Block.{Block}
+use Rattle.thy_block.specs.declared.block.Block.{Block}
 use Rattle.thy_places.specs.declared.place.Place.{Place}
 use Rattle.thy_table.specs.declared.block_entry.BttEntry.{BttEntry}
 use Rattle.thy_table.specs.declared.page_entry.PttEntry.{PttEntry}

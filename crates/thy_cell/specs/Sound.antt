@@ -1,10 +1,10 @@
 -- Part of the claim.
 -- What holds of a block in both tables at every moment, and what its places hold.
 use Rattle.std.specs.Prelude.{◌≡◌, ◌≢◌, ◌%◌, ◌<◌, ◌≤◌, Bool, true, false}
-use Rattle.thy_base.specs.declared.block.Block.{Block}
-use Rattle.thy_base.specs.declared.config.Parameters.{Parameters}
+use Rattle.thy_block.specs.declared.block.Block.{Block}
+use Rattle.thy_block.specs.declared.parameters.Parameters.{Parameters}
 use Rattle.thy_places.specs.declared.place.Place.{Place}
-use Rattle.thy_base.specs.Geometry.{memory_blocks}
+use Rattle.thy_block.specs.Geometry.{memory_blocks}
 use Rattle.thy_places.specs.Places.{IsPlace}
 use Rattle.thy_table.specs.declared.page_entry.PttEntry.{PttEntry}
 use Rattle.thy_table.specs.declared.block_entry.Version.TheVariants.{Out, Alt}

@@ -1,8 +1,8 @@
 -- Part of the claim.
 -- Laws of a store and of a copy, for one block and for the other blocks of its page.
 use Rattle.std.specs.Prelude.{◌≡◌, ◌≢◌, Bool}
-use Rattle.thy_base.specs.declared.block.Block.{Block}
-use Rattle.thy_base.specs.declared.config.Parameters.{Parameters}
+use Rattle.thy_block.specs.declared.block.Block.{Block}
+use Rattle.thy_block.specs.declared.parameters.Parameters.{Parameters}
 use Rattle.thy_places.specs.declared.place.Place.{Place}
 use Rattle.thy_table.specs.declared.block_entry.Pending.TheVariants.{FromBuffer}
 use Rattle.thy_cell.specs.declared.cell.Cell.{Cell}

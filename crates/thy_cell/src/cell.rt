@@ -4,7 +4,7 @@ ghost use Rattle.thy_cell.specs.Cells.{agree as same_version, placed, frame_at, 
 ghost use Rattle.thy_table.specs.BlockEntry.{other_version};
 ghost use Rattle.thy_cell.specs.Rules.{store_rule, store_place, after_store};
 
-use thy_base::PAGE_BLOCKS;
+use thy_block::PAGE_BLOCKS;
 use thy_places::Place;
 use thy_table::{BttEntry, Pending, PttEntry, Site, Version, Working};
 

@@ -3,7 +3,7 @@
 //! checkpoint, a seal makes the work the last version, a commit makes the last version the committed one, and nothing
 //! else moves a version.
 //!
-//! Open specs/Cells.antt first, then specs/Sound.antt, and src/cell.rt. It stands on thy_base, thy_table and
+//! Open specs/Cells.antt first, then specs/Sound.antt, and src/cell.rt. It stands on thy_block, thy_table and
 //! thy_places; on it stand thy_control, and the engine, the boot and the scheme above it.
 #![tactic(auto)]
 

@@ -8,7 +8,7 @@ ghost use Rattle.thy_cli.specs.Watching.{ClaimSeen};
 
 use std::alloc::Global;
 use thy_answer::Answer;
-use thy_base::{Nvm, Shelf, Sink};
+use thy_block::{Nvm, Shelf, Sink};
 use thy_core::Machine;
 use thy_dual::DualScheme;
 use thy_journal::Journal;

@@ -3,8 +3,9 @@ use Rattle.std.proofs.Common.{◌≡◌, ℕ, ◌+◌, ◌-◌, ◌||◌, Bool, 
 use Rattle.std.specs.Prelude.{◌≢◌, OnOk, OnErr, Result, slice_get}
 use Rattle.std.proofs.lemmas.List.{length-append, take_all, take-append-le, take_more}
 use Rattle.std.proofs.lemmas.Option.{get_or_from_slice_get, slice_get_within}
-use Rattle.thy_base.specs.Outside.{Stream}
-use Rattle.thy_base.proofs.Streams.{Took-append, TookPart-append, TookPart-more}
+use Rattle.thy_block.specs.Outside.{Stream}
+use Rattle.thy_block.proofs.Streams.{Took-append, TookPart-append, TookPart-more}
+use Rattle.thy_block.proofs.BasicLemmas.{or_false}
 use Rattle.thy_text.specs.Event.{Event, Reload}
 use Rattle.thy_run.specs.Cuts.{is_end, has_ended}
 use Rattle.thy_run.specs.Sending.{Sent}
@@ -34,12 +35,8 @@ or_more : (b x y z : Bool) → x ≡ (y || z) → (b || x) ≡ ((b || y) || z)
 or_more true x y z h = refl
 or_more false x y z h = h
 
-or_none : (b : Bool) → (b || false) ≡ b
-or_none true = refl
-or_none false = refl
-
 ended_append : (vs : List Event) (v : Event) → has_ended (vs ++ v ∷ []) ≡ (has_ended vs || is_end v)
-ended_append [] v = or_none (is_end v)
+ended_append [] v = or_false (is_end v)
 ended_append (w ∷ vs) v = or_more (is_end w) (has_ended (vs ++ v ∷ [])) (has_ended vs) (is_end v) (ended_append vs v)
 
 -- the first events with one more have an end if they had one, or if the one is an end

@@ -1,10 +1,10 @@
 -- What each run adds to a comparison, and what they are together.
 use Rattle.std.proofs.Common.{◌≡◌, ℕ, nat_le, Bool, true, false, List, [], ◌∷◌, ◌++◌, refl, sym, ◌∙◌, ap, subst, inl, inr, append_assoc, append-nil}
 use Rattle.std.specs.Prelude.{MatchBool, None}
-use Rattle.thy_base.specs.declared.config.SchemeName.{SchemeName}
-use Rattle.thy_base.specs.declared.config.SchemeName.TheVariants.{Thynvm, Journal, Shadow}
-use Rattle.thy_base.specs.declared.nvm.FitError.TheVariants.{Failed as FitFailed, Memory as FitMemory}
-use Rattle.thy_base.specs.Schemes.{scheme_number}
+use Rattle.thy_block.specs.declared.parameters.SchemeName.{SchemeName}
+use Rattle.thy_block.specs.declared.parameters.SchemeName.TheVariants.{Thynvm, Journal, Shadow}
+use Rattle.thy_block.specs.declared.nvm.FitError.TheVariants.{Failed as FitFailed, Memory as FitMemory}
+use Rattle.thy_block.specs.Schemes.{scheme_number}
 use Rattle.thy_text.specs.Event.{Event, Scheme}
 use Rattle.thy_text.specs.History.{all_of}
 use Rattle.thy_run.specs.Sending.{Sent}
@@ -19,11 +19,10 @@ use Rattle.thy_answer.specs.Comparing.{EndsBefore, NotBegun, RunsBy, RunsThrough
 use Rattle.thy_answer.specs.Machines.{Choice}
 use Rattle.thy_files.specs.Beginnings.{Begins, FitsKept}
 use Rattle.thy_answer.specs.Kept.{answer_of, refused_status}
-use Rattle.thy_base.specs.declared.config.Parameters.{Parameters}
-use Rattle.thy_base.specs.Bytes.{bytes_of}
-use Rattle.thy_base.specs.Config.{fault_of}
-use Rattle.thy_base.specs.Geometry.{parameters_of}
-use Rattle.thy_base.specs.Outside.{Stock}
+use Rattle.thy_block.specs.declared.parameters.Parameters.{Parameters}
+use Rattle.thy_block.specs.Bytes.{bytes_of}
+use Rattle.thy_base.specs.Config.{fault_of, parameters_of}
+use Rattle.thy_block.specs.Outside.{Stock}
 use Rattle.thy_view.specs.Origin.{IsOrigin}
 use Rattle.thy_words.specs.Settings.{Job}
 use Rattle.thy_files.specs.declared.restoring.Beginning.{Beginning as BeginningValue}

@@ -1,9 +1,9 @@
 -- What the program keeps of a comparison, and what a run adds to it.
 use Rattle.std.specs.Prelude.{◌≡◌, ◌⊎◌, ℕ, Bool, true, List, [], ◌∷◌, ◌++◌, None}
-use Rattle.thy_base.specs.declared.config.SchemeName.{SchemeName}
-use Rattle.thy_base.specs.Geometry.{parameters_of}
-use Rattle.thy_base.specs.Outside.{Stock}
-use Rattle.thy_base.specs.Schemes.{scheme_number}
+use Rattle.thy_block.specs.declared.parameters.SchemeName.{SchemeName}
+use Rattle.thy_base.specs.Config.{parameters_of}
+use Rattle.thy_block.specs.Outside.{Stock}
+use Rattle.thy_block.specs.Schemes.{scheme_number}
 use Rattle.thy_text.specs.Event.{Event, Scheme}
 use Rattle.thy_text.specs.History.{Recorded, all_of}
 use Rattle.thy_words.specs.Settings.{Job}

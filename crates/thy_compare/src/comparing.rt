@@ -1,8 +1,8 @@
 //! A comparison of a program's runs by each scheme.
 ghost use Rattle.std.specs.Prelude.{◌≡◌, ◌++◌, ◌∷◌, [], None, OnOk, OnErr};
 ghost use Rattle.thy_base.specs.Config.{fault_of as range_fault};
-ghost use Rattle.thy_base.specs.Schemes.{scheme_number};
-ghost use Rattle.thy_base.specs.declared.config.Parameters.{Parameters as Numbers};
+ghost use Rattle.thy_block.specs.Schemes.{scheme_number};
+ghost use Rattle.thy_block.specs.declared.parameters.Parameters.{Parameters as Numbers};
 ghost use Rattle.thy_run.specs.Cuts.{has_ended, is_end};
 ghost use Rattle.thy_run.specs.Sending.{Sent};
 ghost use Rattle.thy_text.specs.Event.{Scheme};

@@ -1,8 +1,8 @@
 -- What is answered is complete.
 use Rattle.std.proofs.Common.{◌≡◌, ℕ, ◌≤◌, Bool, true, false, Option, Some, None, List, refl, ◌∙◌, subst, inl, inr}
 use Rattle.std.specs.Prelude.{Ok, ◌⊎◌}
-use Rattle.thy_base.specs.declared.outside.PutError.{PutError}
-use Rattle.thy_base.specs.declared.outside.PutError.TheVariants.{Failed as PutFailed, Memory as PutMemory}
+use Rattle.thy_block.specs.declared.outside.PutError.{PutError}
+use Rattle.thy_block.specs.declared.outside.PutError.TheVariants.{Failed as PutFailed, Memory as PutMemory}
 use Rattle.thy_isa.specs.Step.{is_running}
 use Rattle.thy_run.specs.Sending.{Sent}
 use Rattle.thy_words.specs.Settings.{Job, Order, compare, plain, make, settings_of}

@@ -3,18 +3,19 @@ use Rattle.std.proofs.Common.{◌≡◌, ℕ, ◌+◌, ◌-◌, ◌*◌, ◌<◌
 use Rattle.std.specs.Prelude.{Result, Ok, Err, MatchOption, ◌⊎◌, ◌||◌}
 use Rattle.std.proofs.lemmas.Bool.{cases_order}
 use Rattle.std.proofs.Math.Nat.{mul-le-mul_left}
-use Rattle.thy_base.specs.declared.config.Parameters.{Parameters}
-use Rattle.thy_base.specs.declared.nvm.FitError.{FitError}
-use Rattle.thy_base.specs.declared.nvm.FitError.TheVariants.{Failed as FitFailed, Memory as FitMemory}
-use Rattle.thy_base.specs.declared.outside.FetchError.{FetchError}
-use Rattle.thy_base.specs.declared.outside.FetchError.TheVariants.{Failed as FetchFailed, NotThere, TooLong, Memory as FetchMemory}
-use Rattle.thy_base.specs.declared.outside.PutError.{PutError}
-use Rattle.thy_base.specs.declared.outside.PutError.TheVariants.{Failed as PutFailed, Memory as PutMemory}
+use Rattle.thy_block.specs.declared.parameters.Parameters.{Parameters}
+use Rattle.thy_block.specs.declared.nvm.FitError.{FitError}
+use Rattle.thy_block.specs.declared.nvm.FitError.TheVariants.{Failed as FitFailed, Memory as FitMemory}
+use Rattle.thy_block.specs.declared.outside.FetchError.{FetchError}
+use Rattle.thy_block.specs.declared.outside.FetchError.TheVariants.{Failed as FetchFailed, NotThere, TooLong, Memory as FetchMemory}
+use Rattle.thy_block.specs.declared.outside.PutError.{PutError}
+use Rattle.thy_block.specs.declared.outside.PutError.TheVariants.{Failed as PutFailed, Memory as PutMemory}
 use Rattle.thy_base.specs.declared.config.Config.{Config}
-use Rattle.thy_base.specs.Counts.{Rose}
-use Rattle.thy_base.specs.Device.{Device, HasFailedToFit}
-use Rattle.thy_base.specs.Geometry.{parameters_of, program_size}
-use Rattle.thy_base.specs.Outside.{Stock, Files, Stream, HasNotFailed, HasFailedUnder}
+use Rattle.thy_block.specs.Counts.{Rose}
+use Rattle.thy_block.specs.Device.{Device, HasFailedToFit}
+use Rattle.thy_base.specs.Config.{parameters_of}
+use Rattle.thy_block.specs.Geometry.{program_size}
+use Rattle.thy_block.specs.Outside.{Stock, Files, Stream, HasNotFailed, HasFailedUnder}
 use Rattle.thy_elf.specs.declared.error.ElfError.{ElfError}
 use Rattle.thy_elf.specs.declared.error.ElfError.TheVariants.{Memory as ElfMemory}
 use Rattle.thy_isa.specs.declared.state.Status.{Status}

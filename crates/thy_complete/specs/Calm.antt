@@ -1,7 +1,7 @@
 -- Part of the claim.
 -- The result of a call in which nothing fails: that of the program's own end.
 use Rattle.std.specs.Prelude.{◌≡◌, ◌⊎◌, ℕ, ◌+◌, ◌-◌, ◌^◌, ◌<◌, ◌≤◌, List, Some, Ok, false}
-use Rattle.thy_base.specs.Outside.{Stock, Files}
+use Rattle.thy_block.specs.Outside.{Stock, Files}
 use Rattle.thy_isa.specs.Step.{State, is_running}
 use Rattle.thy_run.specs.Progress.{tally_of, cycles_for}
 use Rattle.thy_run.specs.declared.ending.Stop.TheVariants.{Ended}
@@ -13,9 +13,9 @@ use Rattle.thy_words.specs.Settings.{Job, Order, run, resume, bench, settings_of
 use Rattle.thy_answer.specs.Answering.{Outside, stop_status, given_for}
 use Rattle.thy_answer.specs.Sources.{ProgramSource, file, made, image, IsProgram, origin_for}
 use Rattle.thy_answer.specs.declared.answer.Answer.{Answer}
-use Rattle.thy_base.specs.declared.config.SchemeName.{SchemeName}
-use Rattle.thy_base.specs.Device.{Device}
-use Rattle.thy_base.specs.Geometry.{parameters_of}
+use Rattle.thy_block.specs.declared.parameters.SchemeName.{SchemeName}
+use Rattle.thy_block.specs.Device.{Device}
+use Rattle.thy_base.specs.Config.{parameters_of}
 use Rattle.thy_answer.specs.Comparing.{under}
 use Rattle.thy_answer.specs.Machines.{Choice}
 

@@ -1,6 +1,6 @@
 //! The scheme, and what its calls make of it.
 ghost use Rattle.std.specs.Prelude.{◌≡◌, ◌<◌, true, false, length, IfOk, OnOk, OnErr};
-ghost use Rattle.thy_base.specs.Device.{block_at};
+ghost use Rattle.thy_block.specs.Device.{block_at};
 ghost use Rattle.thy_boot.specs.Boot.{IsBoot};
 ghost use Rattle.thy_boot.specs.Counts.{Counts};
 ghost use Rattle.thy_boot.specs.Filling.{layout_at};
@@ -18,7 +18,7 @@ ghost use Rattle.thy_view.specs.Kind.{IsDramOf};
 
 use std::alloc::{AllocError, Global};
 use std::marker::Model;
-use thy_base::{Block, Geometry, Nvm, NvmError, Stored};
+use thy_block::{Block, Geometry, Nvm, NvmError, Stored};
 use thy_boot::{Boot, End, Fills, Stage};
 use thy_dram::Dram;
 use thy_engine::{Checkpoints, Engine};

@@ -1,7 +1,7 @@
 //! What the trait of schemes promises.
 use crate::composed::Composed;
 use std::alloc::{AllocError, Global};
-use thy_base::{Block, Geometry, Nvm, NvmError, Stored};
+use thy_block::{Block, Geometry, Nvm, NvmError, Stored};
 use thy_boot::Fills;
 use thy_dram::Dram;
 use thy_engine::Checkpoints;

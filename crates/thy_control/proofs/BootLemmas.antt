@@ -3,9 +3,9 @@ use Rattle.std.proofs.Common.{◌≡◌, ◌≢◌, ℕ, ◌<◌, ◌≤◌, Boo
 use Rattle.std.proofs.lemmas.Bool.{cases_eq, cases_Bool}
 use Rattle.std.proofs.lemmas.List.{length-set, length-map, map-set, ext_get_or}
 use Rattle.std.proofs.Math.ListN.{get_or-map}
-use Rattle.thy_base.specs.declared.config.Parameters.{Parameters}
-use Rattle.thy_base.specs.Geometry.{memory_blocks}
-use Rattle.thy_base.specs.Store.{page_of}
+use Rattle.thy_block.specs.declared.parameters.Parameters.{Parameters}
+use Rattle.thy_block.specs.Geometry.{memory_blocks}
+use Rattle.thy_block.specs.Store.{page_of}
 use Rattle.thy_dram.specs.Contents.{Contents}
 use Rattle.thy_layout.specs.Entries.{Lists, entry_at as table_entry}
 use Rattle.thy_record.specs.Tables.{IsTables}

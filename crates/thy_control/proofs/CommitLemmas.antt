@@ -1,9 +1,9 @@
 -- A commit: every block has the cell that a commit makes of its own, so the tables are sound and the versions move.
 use Rattle.std.proofs.Common.{◌≡◌, ℕ, ◌<◌, Bool, true, false, refl, sym, ◌∙◌, ap, subst, Option, Some, None, unwrap_or, option_and_then, arith}
 use Rattle.std.proofs.lemmas.List.{length-map}
-use Rattle.thy_base.specs.Device.{Device}
-use Rattle.thy_base.specs.Geometry.{memory_blocks}
-use Rattle.thy_base.specs.Store.{page_of}
+use Rattle.thy_block.specs.Device.{Device}
+use Rattle.thy_block.specs.Geometry.{memory_blocks}
+use Rattle.thy_block.specs.Store.{page_of}
 use Rattle.thy_table.specs.Listing.{Listing, IsListing, entry_at, mapped, place_of}
 use Rattle.thy_table.proofs.ListingLaws.{entry_at-mapped, IsListing-mapped, place_of-mapped, place_of-mapped_cleared, place_of-mapped_none}
 use Rattle.thy_table.specs.declared.block_entry.BttEntry.{BttEntry}

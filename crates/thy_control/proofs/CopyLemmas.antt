@@ -1,11 +1,11 @@
 -- The copy of a block's pending version: every block after it, and the tables.
 use Rattle.std.proofs.Common.{◌≡◌, ◌≢◌, ℕ, ◌+◌, ◌<◌, Bool, true, false, refl, sym, ◌∙◌, ap, subst, inl, arith, Option, Some, None, is_some, List, Result, Ok, Err, OnOk, OnErr, IfOk, rules}
 use Rattle.std.proofs.lemmas.List.{length-set}
-use Rattle.thy_base.specs.declared.block.Block.{Block}
+use Rattle.thy_block.specs.declared.block.Block.{Block}
 use Rattle.thy_places.specs.declared.place.Place.{Place}
-use Rattle.thy_base.specs.declared.nvm.NvmError.{NvmError}
-use Rattle.thy_base.specs.Device.{Device, IsFramed}
-use Rattle.thy_base.specs.Geometry.{memory_blocks}
+use Rattle.thy_block.specs.declared.nvm.NvmError.{NvmError}
+use Rattle.thy_block.specs.Device.{Device, IsFramed}
+use Rattle.thy_block.specs.Geometry.{memory_blocks}
 use Rattle.thy_places.specs.Places.{IsPlace}
 use Rattle.thy_place.specs.Devices.{Devices, devices_of}
 use Rattle.thy_place.proofs.PlaceLemmas.{AreSized-written_at}
@@ -194,7 +194,7 @@ module _ {s w : State} (view : w ≡ s) (b : ℕ) (m : Device) {found : Cell}
   state_is after_is t_is d_is = cc
 
 -- the places of two versions of a block are different, if no checkpoint has its page at the alternate place
-versions_apart : (v w : Version) (p q : Site) (x : Seat) → v ≢ w → p ≡ AtHome → q ≡ AtHome → placed v p x ≢ placed w q x
+pub versions_apart : (v w : Version) (p q : Site) (x : Seat) → v ≢ w → p ≡ AtHome → q ≡ AtHome → placed v p x ≢ placed w q x
 versions_apart v w p q x other hp hq e = grind arith
 
 module _ (b : ℕ) (s : State) (m : Device) (pending : (cell_of s b).entry.pend ≢ Settled) where

@@ -17,9 +17,9 @@ use Rattle.thy_control.specs.State.{State, AreSoundTables, cell_of}
 use Rattle.thy_control.proofs.CountLemmas.{count-set_same, promoted-set}
 use Rattle.thy_control.proofs.MarkLemmas.{counted-some, framed-cell}
 use Rattle.std.proofs.lemmas.List.{get_or-set_same, get_or-set_other}
-use Rattle.thy_base.specs.declared.block.Block.{Block}
-use Rattle.thy_base.specs.Device.{Device}
-use Rattle.thy_base.specs.Store.{page_of}
+use Rattle.thy_block.specs.declared.block.Block.{Block}
+use Rattle.thy_block.specs.Device.{Device}
+use Rattle.thy_block.specs.Store.{page_of}
 use Rattle.thy_table.proofs.FirstLemmas.{first_from-first, none-first_from, first_from-position}
 use Rattle.thy_table.specs.declared.block_entry.Pending.TheVariants.{Settled}
 use Rattle.thy_cell.specs.declared.cell.StoreRule.{StoreRule}
@@ -41,7 +41,7 @@ use Rattle.thy_control.proofs.CopyLemmas.{listed-pending}
 use Rattle.thy_control.proofs.MergeLemmas.{listed-merge, listed_page-merge, overlays-merged}
 use Rattle.thy_control.proofs.IssueLemmas.{listed-busy, cell-issued}
 use Rattle.thy_control.proofs.FillLemmas.{listed-fresh, is_now, overlaid-filled_at}
-use Rattle.thy_base.specs.Geometry.{memory_blocks}
+use Rattle.thy_block.specs.Geometry.{memory_blocks}
 use Rattle.thy_cell.specs.declared.cell.Cell.{Cell}
 use Rattle.thy_cell.specs.BetweenCheckpoints.{MergeKeeps, DirtyKeeps}
 use Rattle.thy_control.proofs.PageLemmas.{count-same}

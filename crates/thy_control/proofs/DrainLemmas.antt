@@ -1,8 +1,8 @@
 -- Writes that land keep what every place reads as, and all that depends on it.
 use Rattle.std.proofs.Common.{◌≡◌, ℕ, ◌<◌, length, refl, ◌∙◌, arith}
-use Rattle.thy_base.specs.Device.{Device, drained as nvm_drained, settled}
+use Rattle.thy_block.specs.Device.{Device, drained as nvm_drained, settled}
 use Rattle.thy_places.specs.Places.{number_of, image_blocks}
-use Rattle.thy_base.proofs.DeviceLemmas.{no_more-drained, no_more-settled, newest-drained, newest-settled, length-drained, length-settled}
+use Rattle.thy_block.proofs.DeviceLemmas.{no_more-drained, no_more-settled, newest-drained, newest-settled, length-drained, length-settled}
 use Rattle.thy_place.specs.Devices.{devices_of}
 use Rattle.thy_place.specs.DeviceLaws.{ReadsTheSame}
 use Rattle.thy_place.proofs.PlaceLemmas.{reads_the_same}

@@ -1,12 +1,12 @@
 -- The load of a listed page's block into its frame.
 use Rattle.std.proofs.Common.{◌≡◌, ◌≢◌, ℕ, ◌+◌, ◌*◌, ◌%◌, ◌<◌, Bool, true, false, refl, sym, ◌∙◌, ap, subst, arith, Option, Some, None, is_some, unwrap_or, Result, Ok, Err, OnOk, OnErr}
-use Rattle.thy_base.specs.declared.block.Block.{Block}
+use Rattle.thy_block.specs.declared.block.Block.{Block}
 use Rattle.thy_places.specs.declared.place.Place.{Place}
 use Rattle.thy_places.specs.declared.place.Place.TheVariants.{AlternatePage, Frame}
-use Rattle.thy_base.specs.Device.{Device, newest}
-use Rattle.thy_base.specs.Geometry.{memory_blocks}
+use Rattle.thy_block.specs.Device.{Device, newest}
+use Rattle.thy_block.specs.Geometry.{memory_blocks}
 use Rattle.thy_places.specs.Places.{IsPlace, number_of}
-use Rattle.thy_base.specs.Store.{page_of}
+use Rattle.thy_block.specs.Store.{page_of}
 use Rattle.thy_dram.specs.Contents.{Contents, written}
 use Rattle.thy_table.specs.Listing.{entry_at, lists, place_of}
 use Rattle.thy_table.proofs.IndexLemmas.{lists-key, lists-inside}

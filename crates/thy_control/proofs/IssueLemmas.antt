@@ -4,10 +4,10 @@ use Rattle.std.proofs.lemmas.Bool.{and_parts, eqb-true, ltb-true, ltb-false, bot
 use Rattle.std.proofs.lemmas.List.{get_or_default}
 use Rattle.std.proofs.lemmas.List.Sums.{sum_by-set, sum_by-le}
 use Rattle.thy_places.specs.declared.place.Place.{Place}
-use Rattle.thy_base.specs.declared.nvm.NvmError.{NvmError}
-use Rattle.thy_base.specs.Device.{Device, IsFramed}
-use Rattle.thy_base.specs.Geometry.{memory_blocks}
-use Rattle.thy_base.specs.Store.{page_of}
+use Rattle.thy_block.specs.declared.nvm.NvmError.{NvmError}
+use Rattle.thy_block.specs.Device.{Device, IsFramed}
+use Rattle.thy_block.specs.Geometry.{memory_blocks}
+use Rattle.thy_block.specs.Store.{page_of}
 use Rattle.thy_place.specs.Devices.{Devices, devices_of}
 use Rattle.thy_place.proofs.PlaceLemmas.{AreSized-written_at}
 use Rattle.thy_table.specs.Listing.{Listing, IsListing, entry_at, passes, place_of, with_entry}
@@ -43,7 +43,7 @@ use Rattle.thy_control.proofs.StepLemmas.{listed-page, next-here, next-few, not-
 pub busy-framed : (u : Bool) (page : PttEntry) → IsSoundPage u page → page.busy ≡ true → is_framed page ≡ true
 busy-framed u page s busy = grind arith
 
-busy-old : (u : Bool) (page : PttEntry) → IsSoundPage u page → page.busy ≡ true → page.fresh ≡ false
+pub busy-old : (u : Bool) (page : PttEntry) → IsSoundPage u page → page.busy ≡ true → page.fresh ≡ false
 busy-old u page s busy = grind arith
 
 busy-under_way : (u : Bool) (page : PttEntry) → IsSoundPage u page → page.busy ≡ true → u ≡ true
@@ -185,7 +185,7 @@ page_in-small s t j = by_entry (entry_at s.ptt j) refl where
       omega (arith, (entry_for-there page_key no_page s.ptt t.ptt_once j x e).2, t.ptt_numbers)
 
 -- the place that is written is none of the committed checkpoint
-sites_apart : (v w : Version) (p q : Site) (x : Seat) → w ≡ Out → p ≢ q → placed v p x ≢ placed w q x
+pub sites_apart : (v w : Version) (p q : Site) (x : Seat) → w ≡ Out → p ≢ q → placed v p x ≢ placed w q x
 sites_apart v w p q x out other e = grind arith
 
 module _ (b : ℕ) (s : State) (busy : (cell_of s b).page.busy ≡ true) (m : Device) where

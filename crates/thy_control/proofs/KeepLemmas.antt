@@ -1,13 +1,13 @@
 -- A store keeps both checkpoints of every block, and the work of every other; done or failed, it makes nothing possible at the
 -- places of the checkpoints.
 use Rattle.std.proofs.Common.{◌≡◌, ◌≢◌, ℕ, ◌<◌, ◌%◌, if◌then◌else◌, refl, sym, ◌∙◌, ap, subst, inl, inr, Option, Some, None, Result, OnOk, IfOk, rules, true, false, arith, ◌⊎◌, ◌≤◌, Bool, Ok, Err, OnErr}
-use Rattle.thy_base.specs.declared.block.Block.{Block}
+use Rattle.thy_block.specs.declared.block.Block.{Block}
 use Rattle.thy_places.specs.declared.place.Place.{Place}
 use Rattle.thy_places.specs.declared.place.Place.TheVariants.{Frame, Buffer}
-use Rattle.thy_base.specs.declared.store.Stored.{Stored}
-use Rattle.thy_base.specs.declared.nvm.NvmError.{NvmError}
-use Rattle.thy_base.specs.Device.{Device, HasFailedToWrite, written_to, HasFailed}
-use Rattle.thy_base.specs.Geometry.{memory_blocks}
+use Rattle.thy_block.specs.declared.store.Stored.{Stored}
+use Rattle.thy_block.specs.declared.nvm.NvmError.{NvmError}
+use Rattle.thy_block.specs.Device.{Device, HasFailedToWrite, written_to, HasFailed}
+use Rattle.thy_block.specs.Geometry.{memory_blocks}
 use Rattle.thy_places.specs.Places.{IsPlace, in_dram, number_of, first_home, IsApart}
 use Rattle.thy_place.specs.Devices.{AreSized, devices_of, read_at, written_at, Devices, NoMoreAt}
 use Rattle.thy_place.proofs.PlaceLemmas.{read_at-written_same, read_at-written_other, numbers_apart, no_more-written_other, no_more-failed_other}
@@ -37,11 +37,11 @@ use Rattle.thy_control.proofs.StateLemmas.{IsPlace-penult, IsPlace-last, IsPlace
 use Rattle.thy_control.proofs.PutLemmas.{has_free, IsWithin-before}
 use Rattle.thy_control.proofs.TablesLemmas.{owner, Owns-cell_of, owned-penult, owned-last, owned-work, owned-store, owned-apart, Owns, owned-target}
 use Rattle.std.proofs.lemmas.Bool.{cases_eq}
-use Rattle.thy_base.specs.Store.{page_of}
+use Rattle.thy_block.specs.Store.{page_of}
 use Rattle.thy_table.specs.declared.page_entry.PttEntry.{PttEntry}
 use Rattle.thy_control.specs.Stays.{HoldAll}
-use Rattle.thy_base.specs.declared.config.Parameters.{Parameters}
-use Rattle.thy_base.proofs.DeviceLemmas.{no_more-written_to_other, MayLeave-elsewhere}
+use Rattle.thy_block.specs.declared.parameters.Parameters.{Parameters}
+use Rattle.thy_block.proofs.DeviceLemmas.{no_more-written_to_other, MayLeave-elsewhere}
 use Rattle.thy_places.proofs.PlaceLemmas.{between_slots}
 use Rattle.thy_dram.specs.Contents.{written}
 use Rattle.thy_table.specs.declared.block_entry.Version.{Version}

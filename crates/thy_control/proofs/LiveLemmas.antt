@@ -19,7 +19,7 @@ use Rattle.thy_control.specs.State.{IsUsed, AreUsed}
 use Rattle.thy_control.specs.StoredTables.{btt_with, btt_after}
 use Rattle.thy_control.proofs.FindLemmas.{at_set, at_put, by_entry_for, place_of-new_same}
 use Rattle.thy_table.proofs.ListingLaws.{entry_at-mapped}
-use Rattle.thy_base.proofs.BasicLemmas.{some_same}
+use Rattle.thy_block.proofs.BasicLemmas.{some_same}
 
 no-alt : Alt ≡ Out → ⊥
 no-alt e = cc

@@ -1,10 +1,10 @@
 -- A new controller's tables.
 use Rattle.std.proofs.Common.{◌≡◌, ℕ, true, false, length, replicate, refl, sym, ◌∙◌, ap, subst, arith, Some, None}
 use Rattle.std.proofs.lemmas.Grind.{common_steps}
-use Rattle.thy_base.specs.declared.config.Parameters.{Parameters}
-use Rattle.thy_base.specs.Geometry.{IsInRange, memory_blocks}
-use Rattle.thy_base.specs.Places.{dram_blocks}
-use Rattle.thy_base.specs.Store.{page_of}
+use Rattle.thy_block.specs.declared.parameters.Parameters.{Parameters}
+use Rattle.thy_block.specs.Geometry.{IsInRange, memory_blocks}
+use Rattle.thy_block.specs.Places.{dram_blocks}
+use Rattle.thy_block.specs.Store.{page_of}
 use Rattle.thy_dram.specs.Contents.{Contents}
 use Rattle.thy_table.specs.Listing.{IsListing, entry_at, lists, place_of, empty_table}
 use Rattle.thy_table.proofs.FirstLemmas.{position-none}

@@ -4,7 +4,7 @@ use Rattle.std.specs.List.{count_by}
 use Rattle.std.proofs.lemmas.Bool.{cases_eq}
 use Rattle.std.proofs.lemmas.List.{get_or-set_other}
 use Rattle.std.proofs.lemmas.List.Sums.{sum_by-cons}
-use Rattle.thy_base.specs.Store.{page_of}
+use Rattle.thy_block.specs.Store.{page_of}
 use Rattle.thy_table.specs.Listing.{Listing, IsListing, entry_at, place_of, with_entry}
 use Rattle.thy_table.proofs.IndexLemmas.{one_if}
 use Rattle.thy_table.proofs.ListingLaws.{place_of-cleared, place_of-cleared_other}

@@ -1,11 +1,11 @@
 -- A seal leaves the tables sound, moves the versions of every block, and leaves no work.
 use Rattle.std.proofs.Common.{◌≡◌, ℕ, ◌<◌, Bool, true, false, length, refl, sym, ◌∙◌, ap, subst, inl, inr, arith, Option, Some, unwrap_or, ◌⊎◌, ◌||◌, ◌*◌, if◌then◌else◌, List, map, None, option_and_then, ◌≤◌, [], ◌∷◌}
 use Rattle.std.proofs.lemmas.List.{length-map, ext_get_or}
-use Rattle.thy_base.specs.declared.block.Block.{Block}
+use Rattle.thy_block.specs.declared.block.Block.{Block}
 use Rattle.thy_places.specs.declared.place.Place.{Place}
-use Rattle.thy_base.specs.Device.{Device}
-use Rattle.thy_base.specs.Geometry.{memory_blocks}
-use Rattle.thy_base.specs.Store.{page_of}
+use Rattle.thy_block.specs.Device.{Device}
+use Rattle.thy_block.specs.Geometry.{memory_blocks}
+use Rattle.thy_block.specs.Store.{page_of}
 use Rattle.thy_table.specs.Listing.{Listing, entry_at, lists, mapped, IsListing, place_of, free_count}
 use Rattle.thy_table.proofs.IndexLemmas.{lists-key, free_one}
 use Rattle.thy_table.proofs.ListingLaws.{IsListing-mapped, entry_at-mapped, free_count-mapped}

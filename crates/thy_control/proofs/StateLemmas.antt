@@ -1,11 +1,11 @@
 -- The cell of a block: what it is of, and that its places are there; and the cells of all blocks after a store of one.
 use Rattle.std.proofs.Common.{◌≡◌, ℕ, ◌<◌, Bool, true, false, if◌then◌else◌, length, refl, arith, ◌≤◌, subst, sym, ◌≢◌, ◌⊎◌, ◌∙◌, ap, inl, inr, Option, Some, None, unwrap_or, rules}
-use Rattle.thy_base.specs.declared.config.Parameters.{Parameters}
+use Rattle.thy_block.specs.declared.parameters.Parameters.{Parameters}
 use Rattle.thy_places.specs.declared.place.Place.{Place}
-use Rattle.thy_base.specs.Geometry.{IsInRange, memory_blocks}
+use Rattle.thy_block.specs.Geometry.{IsInRange, memory_blocks}
 use Rattle.thy_places.specs.Places.{IsPlace}
-use Rattle.thy_base.specs.Store.{page_of}
-use Rattle.thy_base.proofs.RangeLemmas.{btt_least}
+use Rattle.thy_block.specs.Store.{page_of}
+use Rattle.thy_block.proofs.RangeLemmas.{btt_least}
 use Rattle.thy_table.specs.declared.block_entry.Version.{Version}
 use Rattle.thy_table.specs.declared.block_entry.Version.TheVariants.{Out, Alt}
 use Rattle.thy_table.specs.declared.block_entry.Pending.{Pending}

@@ -2,14 +2,14 @@
 use Rattle.std.proofs.Common.{◌≡◌, ◌≢◌, ℕ, ◌<◌, Bool, true, false, List, length, get_or, slice_set, map, option_and_then, if◌then◌else◌, refl, sym, ◌∙◌, ap, subst, inl, inr, arith, Option, Some, None, Result, Ok, Err, OnOk, OnErr}
 use Rattle.std.proofs.lemmas.Bool.{cases_eq, both_ways}
 use Rattle.std.proofs.lemmas.List.{length-set, length-map, get_or-map, get_or-set_same, get_or-set_other, ext_get_or}
-use Rattle.thy_base.specs.Store.{page_of}
-use Rattle.thy_base.specs.declared.block.Block.{Block}
+use Rattle.thy_block.specs.Store.{page_of}
+use Rattle.thy_block.specs.declared.block.Block.{Block}
 use Rattle.thy_places.specs.declared.place.Place.{Place}
-use Rattle.thy_base.specs.declared.store.Stored.{Stored}
-use Rattle.thy_base.specs.declared.nvm.NvmError.{NvmError}
-use Rattle.thy_base.specs.Device.{Device, HasFailed, IsFramed, newest, written_to}
+use Rattle.thy_block.specs.declared.store.Stored.{Stored}
+use Rattle.thy_block.specs.declared.nvm.NvmError.{NvmError}
+use Rattle.thy_block.specs.Device.{Device, HasFailed, IsFramed, newest, written_to}
 use Rattle.thy_places.specs.Places.{in_dram, number_of, IsPlace}
-use Rattle.thy_base.proofs.DeviceLemmas.{newest-written_to_other}
+use Rattle.thy_block.proofs.DeviceLemmas.{newest-written_to_other}
 use Rattle.thy_dram.specs.Contents.{written}
 use Rattle.thy_place.specs.Devices.{Devices, devices_of, written_at}
 use Rattle.thy_table.specs.Listing.{Listing, place_of, free_count, with_entry}
@@ -36,7 +36,7 @@ use Rattle.thy_control.proofs.FindLemmas.{stands_at, by_number}
 use Rattle.thy_control.proofs.StateLemmas.{IsListed, IsListed-with_block, OrDirty, cell-with_block_other, entry-with_block, cell-with_cell_same, cell-with_cell_other, btt_with-by}
 use Rattle.thy_control.proofs.PutLemmas.{has_free, lasts-counts_after}
 use Rattle.thy_control.proofs.KeepLemmas.{same_start, penult-new, target-new, apart_place, placed-in_nvm, StepOutcome, LeavesGuarded-elsewhere}
-use Rattle.thy_base.specs.Geometry.{memory_blocks}
+use Rattle.thy_block.specs.Geometry.{memory_blocks}
 use Rattle.thy_control.specs.Moves.{FailsMove}
 use Rattle.thy_control.proofs.TablesLemmas.{owner, Owns-cell_of, owned-penult, owned-target, owned-apart}
 pub use Rattle.thy_control.proofs.FindLemmas.{free_at}

@@ -3,12 +3,12 @@ use Rattle.std.proofs.Common.{◌≡◌, ◌≢◌, ℕ, ◌<◌, ◌≤◌, Boo
 use Rattle.std.specs.List.{count_by}
 use Rattle.std.proofs.lemmas.List.{get_or_default, length-set}
 use Rattle.std.proofs.lemmas.List.Sums.{sum_by-le}
-use Rattle.thy_base.specs.declared.block.Block.{Block}
+use Rattle.thy_block.specs.declared.block.Block.{Block}
 use Rattle.thy_places.specs.declared.place.Place.{Place}
-use Rattle.thy_base.specs.Device.{Device, zero_block}
-use Rattle.thy_base.specs.Geometry.{memory_blocks}
+use Rattle.thy_block.specs.Device.{Device, zero_block}
+use Rattle.thy_block.specs.Geometry.{memory_blocks}
 use Rattle.thy_places.specs.Places.{IsPlace}
-use Rattle.thy_base.specs.Store.{page_of}
+use Rattle.thy_block.specs.Store.{page_of}
 use Rattle.thy_place.specs.Devices.{AreSized, devices_of, read_at, written_at}
 use Rattle.thy_place.proofs.PlaceLemmas.{read_at-written_same, read_at-written_other}
 use Rattle.thy_table.proofs.IndexLemmas.{one_if}
@@ -24,7 +24,7 @@ use Rattle.thy_control.specs.Versions.{KeepsCheckpoints, KeepsWork, KeepsAll}
 use Rattle.thy_control.proofs.StateLemmas.{IsPlace-penult, IsPlace-target, IsPlace-last, IsPlace-work, IsWithin-cell_of, block-cell_of, place_of-index}
 use Rattle.thy_control.proofs.KeepLemmas.{hold_same, IsPlace-frame_of}
 use Rattle.thy_control.proofs.TablesLemmas.{owner, Owns, Owns-cell_of, owned-penult, owned-target, owned-last, owned-work, owned-apart}
-use Rattle.thy_base.specs.Places.{dram_blocks}
+use Rattle.thy_block.specs.Places.{dram_blocks}
 use Rattle.thy_dram.specs.Contents.{Contents}
 use Rattle.thy_table.specs.Listing.{IsListing, entry_at, place_of, with_entry}
 use Rattle.thy_control.specs.CheckpointTables.{tables0, tables1, page_lists}

@@ -3,7 +3,7 @@ use Rattle.std.proofs.Common.{◌≡◌, ◌≢◌, ℕ, ◌+◌, ◌*◌, ◌%�
 use Rattle.std.specs.Option.{option_map}
 use Rattle.thy_places.specs.declared.place.Place.{Place}
 use Rattle.thy_places.specs.declared.place.Place.TheVariants.{Home, AlternateBlock, AlternatePage, Buffer, Frame}
-use Rattle.thy_base.specs.Store.{page_of}
+use Rattle.thy_block.specs.Store.{page_of}
 use Rattle.thy_table.specs.Listing.{entry_at, place_of, Listing, IsListing, lists}
 use Rattle.thy_table.specs.declared.block_entry.BttEntry.{BttEntry}
 use Rattle.thy_table.specs.declared.block_entry.Version.{Version}
@@ -28,7 +28,7 @@ use Rattle.thy_control.proofs.FindLemmas.{found_entry, entry_for-some, entry_for
 use Rattle.thy_control.proofs.StateLemmas.{block-cell_of, IsListed, place_of-index}
 use Rattle.std.proofs.lemmas.List.{length-map}
 use Rattle.std.proofs.Math.ListN.{get_or-map}
-use Rattle.thy_base.specs.Geometry.{memory_blocks}
+use Rattle.thy_block.specs.Geometry.{memory_blocks}
 use Rattle.thy_table.proofs.IndexLemmas.{lists-key}
 use Rattle.thy_layout.specs.Entries.{Lists, entry_of}
 use Rattle.thy_record.specs.Tables.{Tables, place_by_entries, place_of as place_in, IsTables}

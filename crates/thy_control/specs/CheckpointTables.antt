@@ -2,7 +2,7 @@
 -- The tables of both checkpoints, by what the entries of the controller's tables say.
 use Rattle.std.specs.Prelude.{◌≡◌, ℕ, ◌<◌, map, option_and_then, Option, Some, None}
 use Rattle.thy_places.specs.declared.place.Place.{Place}
-use Rattle.thy_base.specs.Geometry.{memory_blocks}
+use Rattle.thy_block.specs.Geometry.{memory_blocks}
 use Rattle.thy_record.specs.Tables.{Tables, IsTables, place_of}
 use Rattle.thy_table.specs.declared.block_entry.BttEntry.{BttEntry}
 use Rattle.thy_table.specs.declared.block_entry.Version.{Version}

@@ -1,8 +1,8 @@
 -- Part of the claim.
 -- What a commit makes of the controller: the checkpoint that was under way is the committed one.
 use Rattle.std.specs.Prelude.{◌≡◌, ℕ, ◌<◌, false}
-use Rattle.thy_base.specs.Device.{Device}
-use Rattle.thy_base.specs.Geometry.{memory_blocks}
+use Rattle.thy_block.specs.Device.{Device}
+use Rattle.thy_block.specs.Geometry.{memory_blocks}
 use Rattle.thy_table.specs.Listing.{mapped}
 use Rattle.thy_cell.specs.Cells.{target}
 use Rattle.thy_cell.specs.Checkpoint.{committed_entry, committed_page, committed}

@@ -1,8 +1,8 @@
 -- Part of the claim.
 -- The copies that the checkpoint under way still needs, and what the next of them makes of the controller.
 use Rattle.std.specs.Prelude.{◌≡◌, ℕ, Bool, true, false, Option, Some, None, Result, count_by}
-use Rattle.thy_base.specs.declared.nvm.NvmError.{NvmError}
-use Rattle.thy_base.specs.Device.{Device}
+use Rattle.thy_block.specs.declared.nvm.NvmError.{NvmError}
+use Rattle.thy_block.specs.Device.{Device}
 use Rattle.thy_place.specs.Devices.{Devices, devices_of}
 use Rattle.thy_table.specs.Listing.{entry_at, with_entry, passes, next_from}
 use Rattle.thy_table.specs.declared.block_entry.BttEntry.{BttEntry}

@@ -1,7 +1,7 @@
 -- Part of the claim.
 -- Buffers that lie over the frames of their pages, and what the merge of one makes of the controller.
 use Rattle.std.specs.Prelude.{ℕ, Option, Some, None}
-use Rattle.thy_base.specs.Device.{block_at}
+use Rattle.thy_block.specs.Device.{block_at}
 use Rattle.thy_places.specs.Places.{number_of}
 use Rattle.thy_dram.specs.Contents.{Contents, written}
 use Rattle.thy_table.specs.Listing.{with_entry, next_from}

@@ -1,9 +1,9 @@
 -- Part of the claim.
 -- A block moves from one place to another: a read, and then one write.
 use Rattle.std.specs.Prelude.{◌≡◌, ◌⊎◌, ℕ, ◌+◌, Bool, true, false}
-use Rattle.thy_base.specs.declared.config.Parameters.{Parameters}
+use Rattle.thy_block.specs.declared.parameters.Parameters.{Parameters}
 use Rattle.thy_places.specs.declared.place.Place.{Place}
-use Rattle.thy_base.specs.Device.{HasFailed, HasFailedToWrite}
+use Rattle.thy_block.specs.Device.{HasFailed, HasFailedToWrite}
 use Rattle.thy_places.specs.Places.{in_dram, number_of}
 use Rattle.thy_place.specs.Devices.{Devices, read_at, written_at}
 

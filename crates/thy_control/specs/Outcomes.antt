@@ -1,7 +1,7 @@
 -- How a call that acts once on the NVM ends.
 use Rattle.std.specs.Prelude.{◌≡◌, Result, OnOk, OnErr}
-use Rattle.thy_base.specs.declared.nvm.NvmError.{NvmError}
-use Rattle.thy_base.specs.Device.{Device, IsFramed, CountsFault}
+use Rattle.thy_block.specs.declared.nvm.NvmError.{NvmError}
+use Rattle.thy_block.specs.Device.{Device, IsFramed, CountsFault}
 use Rattle.thy_control.specs.State.{State}
 
 -- a call makes this state and this NVM; or it fails, which leaves the controller as it was, and this of the NVM

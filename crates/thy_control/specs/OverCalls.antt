@@ -1,9 +1,9 @@
 -- What stays does so if nothing happens, and over one call after another.
 use Rattle.std.specs.Prelude.{◌≡◌, ℕ, ◌<◌, Bool, true, false, refl}
 use Rattle.std.proofs.Common.{sym, ◌∙◌, ap, subst, arith}
-use Rattle.thy_base.specs.declared.config.Parameters.{Parameters}
-use Rattle.thy_base.specs.Device.{Device}
-use Rattle.thy_base.specs.Geometry.{memory_blocks}
+use Rattle.thy_block.specs.declared.parameters.Parameters.{Parameters}
+use Rattle.thy_block.specs.Device.{Device}
+use Rattle.thy_block.specs.Geometry.{memory_blocks}
 use Rattle.thy_places.specs.Places.{number_of, image_blocks, IsApart}
 use Rattle.thy_place.specs.Devices.{NoMoreAt}
 use Rattle.thy_cell.specs.declared.cell.Cell.{Cell}

@@ -2,8 +2,8 @@
 -- The pages that the checkpoint under way has still to write, and what the write of the next block makes of the controller.
 use Rattle.std.specs.Prelude.{◌≡◌, ℕ, ◌+◌, ◌-◌, ◌*◌, Bool, ◌&&◌, nat_lt, if◌then◌else◌, Option, Some, None, Result}
 use Rattle.std.specs.List.{sum_by}
-use Rattle.thy_base.specs.declared.nvm.NvmError.{NvmError}
-use Rattle.thy_base.specs.Device.{Device}
+use Rattle.thy_block.specs.declared.nvm.NvmError.{NvmError}
+use Rattle.thy_block.specs.Device.{Device}
 use Rattle.thy_place.specs.Devices.{Devices, devices_of}
 use Rattle.thy_table.specs.Listing.{entry_at, with_entry, next_from}
 use Rattle.thy_table.specs.declared.page_entry.PttEntry.{PttEntry}

@@ -2,8 +2,8 @@
 -- The pages that are being promoted, and what the copy of the next block into its frame makes of the controller.
 use Rattle.std.specs.Prelude.{◌≡◌, ℕ, false, ◌-◌, if◌then◌else◌, Option, Some, None, Result}
 use Rattle.std.specs.List.{sum_by}
-use Rattle.thy_base.specs.declared.nvm.NvmError.{NvmError}
-use Rattle.thy_base.specs.Device.{Device, HasFailed}
+use Rattle.thy_block.specs.declared.nvm.NvmError.{NvmError}
+use Rattle.thy_block.specs.Device.{Device, HasFailed}
 use Rattle.thy_places.specs.Places.{in_dram}
 use Rattle.thy_place.specs.Devices.{Devices, devices_of}
 use Rattle.thy_table.specs.Listing.{entry_at, with_entry, next_from}

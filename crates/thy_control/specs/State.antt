@@ -1,14 +1,14 @@
 -- Part of the claim.
 -- The state of the controller, the versions of each block, and what the tables have to be.
 use Rattle.std.specs.Prelude.{◌≡◌, ◌≢◌, ℕ, ◌<◌, Bool, true, false, length, Some}
-use Rattle.thy_base.specs.declared.block.Block.{Block}
-use Rattle.thy_base.specs.declared.config.Parameters.{Parameters}
+use Rattle.thy_block.specs.declared.block.Block.{Block}
+use Rattle.thy_block.specs.declared.parameters.Parameters.{Parameters}
 use Rattle.thy_places.specs.declared.place.Place.{Place}
-use Rattle.thy_base.specs.Device.{Device}
-use Rattle.thy_base.specs.Geometry.{IsInRange, memory_blocks}
+use Rattle.thy_block.specs.Device.{Device}
+use Rattle.thy_block.specs.Geometry.{IsInRange, memory_blocks}
 use Rattle.thy_places.specs.Places.{image_blocks}
-use Rattle.thy_base.specs.Places.{dram_blocks}
-use Rattle.thy_base.specs.Store.{page_of}
+use Rattle.thy_block.specs.Places.{dram_blocks}
+use Rattle.thy_block.specs.Store.{page_of}
 use Rattle.thy_dram.specs.Contents.{Contents}
 use Rattle.thy_place.specs.Devices.{devices_of, read_at}
 use Rattle.thy_table.specs.Listing.{Listing, IsListing, entry_at, empty_table}

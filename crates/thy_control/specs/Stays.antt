@@ -2,8 +2,8 @@
 -- What every call between two checkpoints keeps, one that fails too: what a cut may leave of both checkpoints, both
 -- tables, and the counts of the epoch before.
 use Rattle.std.specs.Prelude.{◌≡◌, ℕ, ◌<◌, ◌≤◌, true, false, length}
-use Rattle.thy_base.specs.Device.{Device, newest}
-use Rattle.thy_base.specs.Geometry.{memory_blocks}
+use Rattle.thy_block.specs.Device.{Device, newest}
+use Rattle.thy_block.specs.Geometry.{memory_blocks}
 use Rattle.thy_places.specs.Places.{image_blocks, IsApart}
 use Rattle.thy_table.specs.declared.block_entry.Pending.TheVariants.{Settled}
 use Rattle.thy_cell.specs.declared.cell.Cell.{Cell}

@@ -1,8 +1,8 @@
 -- Part of the claim.
 -- What a store makes of the tables and the counts, by its rule, and how it ends.
 use Rattle.std.specs.Prelude.{ℕ, Some}
-use Rattle.thy_base.specs.declared.store.Stored.{Stored}
-use Rattle.thy_base.specs.declared.store.Stored.TheVariants.{Done, CopyFirst}
+use Rattle.thy_block.specs.declared.store.Stored.{Stored}
+use Rattle.thy_block.specs.declared.store.Stored.TheVariants.{Done, CopyFirst}
 use Rattle.thy_table.specs.Listing.{Listing, with_entry}
 use Rattle.thy_table.specs.declared.block_entry.BttEntry.{BttEntry}
 use Rattle.thy_table.specs.declared.page_entry.PttEntry.{PttEntry}

@@ -1,10 +1,10 @@
 -- What a call keeps of the versions of all blocks.
 use Rattle.std.specs.Prelude.{◌≡◌, ◌≢◌, ℕ, ◌<◌}
-use Rattle.thy_base.specs.declared.block.Block.{Block}
-use Rattle.thy_base.specs.declared.store.Stored.{Stored}
-use Rattle.thy_base.specs.declared.store.Stored.TheVariants.{Done, CopyFirst}
-use Rattle.thy_base.specs.Device.{Device}
-use Rattle.thy_base.specs.Geometry.{memory_blocks}
+use Rattle.thy_block.specs.declared.block.Block.{Block}
+use Rattle.thy_block.specs.declared.store.Stored.{Stored}
+use Rattle.thy_block.specs.declared.store.Stored.TheVariants.{Done, CopyFirst}
+use Rattle.thy_block.specs.Device.{Device}
+use Rattle.thy_block.specs.Geometry.{memory_blocks}
 use Rattle.thy_control.specs.State.{State, penult_of, last_of, work_of}
 use Rattle.thy_control.specs.Stays.{HoldAll}
 

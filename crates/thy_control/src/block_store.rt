@@ -1,6 +1,6 @@
 //! The controller as a store of blocks.
 use crate::{Control, blocks_are_works};
-use thy_base::{Block, BlockStore, Nvm, NvmError, Stored};
+use thy_block::{Block, BlockStore, Nvm, NvmError, Stored};
 
 /// Blocks of memory, over the controller and the NVM below it; none if the NVM has another size or is down. It is ready
 /// while no page is being promoted and the NVM is up, and has room for one store for each free entry of the block

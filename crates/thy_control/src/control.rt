@@ -1,8 +1,8 @@
 //! The controller.
 ghost use Rattle.std.specs.Prelude.{◌≡◌, ◌≢◌, true, nat_lt, None, ◌<◌, ◌≤◌, ◌*◌, false, length, IfOk, OnOk, OnErr};
-ghost use Rattle.thy_base.specs.Device.{HasFailed, IsFramed, CountsFault, block_at};
-ghost use Rattle.thy_base.specs.Geometry.{memory_blocks};
-ghost use Rattle.thy_base.specs.Places.{dram_blocks};
+ghost use Rattle.thy_block.specs.Device.{HasFailed, IsFramed, CountsFault, block_at};
+ghost use Rattle.thy_block.specs.Geometry.{memory_blocks};
+ghost use Rattle.thy_block.specs.Places.{dram_blocks};
 ghost use Rattle.thy_places.specs.Places.{in_dram, number_of, IsPlace};
 ghost use Rattle.thy_table.specs.Listing.{free_count, lists, entry_at, place_of};
 ghost use Rattle.thy_table.specs.BlockEntry.{new_entry};
@@ -28,7 +28,7 @@ use crate::overlay::WorkCounts;
 use crate::seal::{CommitBlocks, CommitPages, seal_blocks, seal_pages};
 use std::alloc::{AllocError, Global};
 use std::marker::Model;
-use thy_base::{Block, Geometry, Nvm, NvmError, PAGE_BLOCKS, Stored, page_of};
+use thy_block::{Block, Geometry, Nvm, NvmError, PAGE_BLOCKS, Stored, page_of};
 use thy_cell::{
     Cell, StoreRule, a_commit_keeps_entries_sound, a_commit_takes_the_last,
     a_listing_keeps_versions, a_seal_keeps_entries_sound, a_seal_leaves_no_work,
@@ -197,7 +197,7 @@ fn answer(rule: StoreRule) -> Stored
 }
 
 impl Control {
-    ghost use Rattle.thy_base.specs.Device.{Device};
+    ghost use Rattle.thy_block.specs.Device.{Device};
     ghost use Rattle.thy_control.specs.CheckpointTables.{tables0};
     ghost use Rattle.thy_control.specs.Frees.{HasNoWork};
     ghost use Rattle.thy_control.specs.Holding.{promoted};

@@ -7,7 +7,7 @@ ghost use Rattle.thy_control.specs.Find.{with_entry_for};
 ghost use Rattle.thy_control.specs.Keys.{page_key};
 ghost use Rattle.thy_control.specs.Seal.{block_is_framed, sealed_in, sealed_as_counted, dense_below, with_pages, with_dense, sealed_ptt, ListsDense};
 
-use thy_base::{BLOCK_COUNTS, page_of};
+use thy_block::{BLOCK_COUNTS, page_of};
 use thy_cell::{committed_entry, committed_page, sealed_entry, sealed_page};
 use thy_switch::Counts;
 use thy_table::{Btt, BttEntry, Ptt, PttEntry, Rule};

@@ -1,10 +1,10 @@
 -- What the calls of a driven controller leave.
 use Rattle.std.proofs.Common.{◌≡◌, ℕ, true, false, refl, sym, ◌∙◌, ap, Option, Some, None, is_some}
-use Rattle.thy_base.specs.declared.block.Block.{Block}
-use Rattle.thy_base.specs.Device.{Device}
-use Rattle.thy_base.specs.Geometry.{memory_blocks}
+use Rattle.thy_block.specs.declared.block.Block.{Block}
+use Rattle.thy_block.specs.Device.{Device}
+use Rattle.thy_block.specs.Geometry.{memory_blocks}
 use Rattle.thy_places.specs.Places.{image_blocks}
-use Rattle.thy_base.proofs.BasicLemmas.{not_some}
+use Rattle.thy_block.proofs.BasicLemmas.{not_some}
 use Rattle.thy_place.specs.Devices.{devices_of}
 use Rattle.thy_place.proofs.PlaceLemmas.{down-written}
 use Rattle.thy_control.specs.Copies.{next_copy, devices_after_copy, devices_copied, after_next_copy}

@@ -2,12 +2,12 @@
 use Rattle.std.proofs.Common.{◌≡◌, ℕ, ◌-◌, ◌*◌, ◌^◌, ◌<◌, false, inl, inr, replicate, slice_index, List, [], length, refl, sym, ◌∙◌, ap, subst, arith}
 use Rattle.std.proofs.lemmas.Bool.{cases_lt}
 use Rattle.std.proofs.lemmas.List.{length-replicate, get_or-replicate, get_or_past}
-use Rattle.thy_base.specs.declared.config.Parameters.{Parameters}
-use Rattle.thy_base.specs.Device.{Device, IsCut}
-use Rattle.thy_base.specs.Geometry.{IsInRange, memory_blocks}
+use Rattle.thy_block.specs.declared.parameters.Parameters.{Parameters}
+use Rattle.thy_block.specs.Device.{Device, IsCut}
+use Rattle.thy_block.specs.Geometry.{IsInRange, memory_blocks}
 use Rattle.thy_places.specs.Places.{slot_blocks, image_blocks}
-use Rattle.thy_base.specs.Places.{dram_blocks}
-use Rattle.thy_base.proofs.BasicLemmas.{room-cut}
+use Rattle.thy_block.specs.Places.{dram_blocks}
+use Rattle.thy_block.proofs.BasicLemmas.{room-cut}
 use Rattle.thy_control.specs.State.{State, AreSoundTables, new_state}
 use Rattle.thy_dram.specs.Contents.{Contents, lost}
 use Rattle.thy_dram.proofs.DrawLemmas.{length-over}

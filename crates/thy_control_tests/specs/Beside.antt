@@ -1,6 +1,6 @@
 -- A store of blocks that a test makes random calls of.
 use Rattle.std.specs.Prelude.{◌≡◌, ℕ, true, length}
-use Rattle.thy_base.specs.Store.{Holding}
+use Rattle.thy_block.specs.Store.{Holding}
 
 -- how many blocks the least memory has
 abbrev pub all : ℕ

@@ -1,7 +1,7 @@
 -- A boot that a test drives over an NVM.
 use Rattle.std.specs.Prelude.{None, ◌≡◌, Bool, true, false, [], length, replicate}
-use Rattle.thy_base.specs.declared.config.Parameters.{Parameters}
-use Rattle.thy_base.specs.Device.{Device}
+use Rattle.thy_block.specs.declared.parameters.Parameters.{Parameters}
+use Rattle.thy_block.specs.Device.{Device}
 use Rattle.thy_dram.specs.Contents.{Contents}
 use Rattle.thy_isa.specs.Step.{State as Plain}
 use Rattle.thy_control.specs.State.{State, new_state}

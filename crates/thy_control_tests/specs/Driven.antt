@@ -1,7 +1,7 @@
 -- A controller of the least memory that a test drives, with the NVM below it.
 use Rattle.std.specs.Prelude.{◌≡◌, false}
-use Rattle.thy_base.specs.Device.{Device}
-use Rattle.thy_base.specs.Geometry.{memory_blocks}
+use Rattle.thy_block.specs.Device.{Device}
+use Rattle.thy_block.specs.Geometry.{memory_blocks}
 use Rattle.thy_control.specs.State.{State, IsSized}
 use Rattle.thy_control_tests.specs.Beside.{all}
 

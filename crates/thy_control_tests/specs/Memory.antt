@@ -1,7 +1,7 @@
 -- A controller of the least memory with its engine, and the NVM below both.
 use Rattle.std.specs.Prelude.{◌≡◌, ℕ, ◌+◌, ◌≤◌, length}
-use Rattle.thy_base.specs.declared.config.Parameters.{Parameters}
-use Rattle.thy_base.specs.Device.{Device}
+use Rattle.thy_block.specs.declared.parameters.Parameters.{Parameters}
+use Rattle.thy_block.specs.Device.{Device}
 use Rattle.thy_control.specs.State.{State}
 use Rattle.thy_dual_laws.specs.Design.{items_dual}
 use Rattle.thy_engine.specs.Progress.{Progress, Fits}

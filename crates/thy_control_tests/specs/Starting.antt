@@ -1,10 +1,10 @@
 -- A machine of the least memory whose power is off, and one that boots.
 use Rattle.std.specs.Prelude.{◌≡◌, ℕ, Bool, true, false, [], length}
-use Rattle.thy_base.specs.declared.config.Parameters.{Parameters}
-use Rattle.thy_base.specs.Device.{Device}
-use Rattle.thy_base.specs.Geometry.{memory_blocks}
+use Rattle.thy_block.specs.declared.parameters.Parameters.{Parameters}
+use Rattle.thy_block.specs.Device.{Device}
+use Rattle.thy_block.specs.Geometry.{memory_blocks}
 use Rattle.thy_places.specs.Places.{image_blocks}
-use Rattle.thy_base.specs.Places.{dram_blocks}
+use Rattle.thy_block.specs.Places.{dram_blocks}
 use Rattle.thy_control.specs.State.{State}
 use Rattle.thy_dram.specs.Contents.{Contents}
 use Rattle.thy_isa.specs.Step.{State as Plain}

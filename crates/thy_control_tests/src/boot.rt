@@ -1,6 +1,6 @@
 //! The boot over the simulated NVM: what it loads into zeros, and what it finds after cuts.
 ghost use Rattle.std.specs.Prelude.{◌≡◌, ◌≤◌, true, false, length};
-ghost use Rattle.thy_base.specs.Device.{IsFramed};
+ghost use Rattle.thy_block.specs.Device.{IsFramed};
 ghost use Rattle.thy_isa.specs.Step.{state_of};
 ghost use Rattle.thy_control_tests.specs.Boots.{Boots, IsLeastStart, IsNew, IsReady, goes_on};
 

@@ -1,11 +1,12 @@
 -- While a machine is calm each pick is a hart's, and it stays calm until a line is brought or the epoch is over.
 use Rattle.std.proofs.Common.{◌≡◌, ℕ, ◌==◌, ◌&&◌, ◌||◌, not, Bool, true, false, if◌then◌else◌, Option, Some, None, is_some, is_none, Result, Ok, Err, refl, sym, ◌∙◌, ap, subst, inl, inr}
 use Rattle.std.proofs.lemmas.Bool.{and_parts, and_from, eqb-true}
-use Rattle.thy_base.specs.declared.cause.EndCause.{EndCause}
-use Rattle.thy_base.specs.declared.mix.Pick.{Pick}
-use Rattle.thy_base.specs.declared.mix.Pick.TheVariants.{Hart, Second, Engine, NvmDrain, DramDrain}
-use Rattle.thy_base.specs.declared.nvm.NvmError.{NvmError}
-use Rattle.thy_base.specs.Device.{Device}
+use Rattle.thy_block.specs.declared.cause.EndCause.{EndCause}
+use Rattle.thy_block.specs.declared.mix.Pick.{Pick}
+use Rattle.thy_block.specs.declared.mix.Pick.TheVariants.{Hart, Second, Engine, NvmDrain, DramDrain}
+use Rattle.thy_block.specs.declared.nvm.NvmError.{NvmError}
+use Rattle.thy_block.specs.Device.{Device}
+use Rattle.thy_block.proofs.BasicLemmas.{not_some}
 use Rattle.thy_cache.specs.Contents.{Contents, dirty_count}
 use Rattle.thy_epoch.specs.Epoch.{Epoch}
 use Rattle.thy_hart.specs.declared.hand.HartStep.{HartStep}
@@ -43,10 +44,6 @@ is_false false e = refl
 none_by : {A : Type 0} (x : Option A) → is_none x ≡ true → x ≡ None
 none_by None e = refl
 none_by (Some a) e = absurd (cc)
-
-none_of : {A : Type 0} (x : Option A) → is_some x ≡ false → x ≡ None
-none_of None e = refl
-none_of (Some a) e = absurd (cc)
 
 -- nothing is left to be done before a seal, if nothing keeps the hart and no checkpoint is under way
 nothing_left : (waits over promoting : Bool) → waits ≡ false
@@ -92,7 +89,7 @@ pub calm_runs : {S : Type 0} (K : SchemeOf S) (m : Machine S) → is_calm K m �
 calm_runs K m calm = runs K m m.phase (calm_parts K m calm).free
 
 pub calm_over : {S : Type 0} (K : SchemeOf S) (m : Machine S) → is_calm K m ≡ true → m.hart.epoch.over ≡ None
-calm_over K m calm = none_of m.hart.epoch.over (goes_on K m (calm_parts K m calm)).0
+calm_over K m calm = not_some m.hart.epoch.over (goes_on K m (calm_parts K m calm)).0
 
 -- ---- whose turn a pick is then
 
@@ -165,7 +162,7 @@ calm_kept {S = S} K device p begun next b x y hart step h c g known parts store 
     let both = and_parts (not (is_over step)) b.calm (sym noted_calm ∙ marked) in
     let kept : b ≡ p.store = once_kept K device begun.store b x y once both.1 ∙ store in
     let calm : IsCalm K m = calm_parts K m (known (ap (λ (s : SchemeStore S). s.calm) (sym kept) ∙ both.1)) in
-    let none : m.hart.epoch.over ≡ None = none_of m.hart.epoch.over (goes_on K m calm).0 in
+    let none : m.hart.epoch.over ≡ None = not_some m.hart.epoch.over (goes_on K m calm).0 in
     let over : h.epoch.over ≡ None =
     goes_after g old (moment h c (held_by_scheme K b.scheme (device y))) step is_step (is_false (is_over step) both.0)
     (way ∙ ap (λ (s : SchemeStore S). K.under_way s.scheme) store ∙ calm.idle)

@@ -1,11 +1,11 @@
 -- Each actor's cycle, from what its call leaves.
 use Rattle.std.proofs.Common.{◌≡◌, ◌≢◌, ◌⊎◌, ℕ, ◌<◌, ◌≤◌, ◌==◌, Bool, List, true, false, if◌then◌else◌, length, Option, Some, None, Result, Ok, Err, IsErr, IfOk, OnErr, true≢false, refl, sym, ◌∙◌, ap, ap₂, subst, inl, inr, arith}
 use Rattle.std.proofs.lemmas.Bool.{eq-eqb, ne_eqb}
-use Rattle.thy_base.specs.declared.cause.EndCause.{EndCause}
-use Rattle.thy_base.specs.declared.nvm.NvmError.{NvmError}
-use Rattle.thy_base.specs.Counts.{Rose, RoseByOne}
-use Rattle.thy_base.specs.Device.{Device, HasFailed, IsFramed, failed_calls, drained}
-use Rattle.thy_base.specs.Geometry.{memory_blocks}
+use Rattle.thy_block.specs.declared.cause.EndCause.{EndCause}
+use Rattle.thy_block.specs.declared.nvm.NvmError.{NvmError}
+use Rattle.thy_block.specs.Counts.{Rose, RoseByOne}
+use Rattle.thy_block.specs.Device.{Device, HasFailed, IsFramed, failed_calls, drained}
+use Rattle.thy_block.specs.Geometry.{memory_blocks}
 use Rattle.thy_cache.specs.declared.line.Flushed.{Flushed}
 use Rattle.thy_cache.specs.Contents.{Contents, dirty_count}
 use Rattle.thy_hart.specs.declared.hand.Hand.TheVariants.{Nothing as NoHand}

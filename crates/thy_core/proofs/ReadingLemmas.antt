@@ -1,11 +1,11 @@
 -- Blocks that are read one after the other, and the bytes of the console in them.
 use Rattle.std.proofs.Common.{◌≡◌, ℕ, zero, suc, ◌+◌, ◌-◌, ◌*◌, ◌/◌, ◌%◌, ◌<◌, ◌≤◌, List, [], ◌∷◌, ◌++◌, length, take, drop, Option, Some, None, unwrap_or, refl, ap, sym, ◌∙◌, arith}
 use Rattle.std.proofs.lemmas.List.{take_more, length-take-le, drop-append-le, drop-drop, drop-take}
-use Rattle.thy_base.specs.declared.block.Block.{Block}
-use Rattle.thy_base.specs.declared.config.Parameters.{Parameters}
-use Rattle.thy_base.specs.Blocks.{block_bytes}
-use Rattle.thy_base.specs.Device.{zero_block, block_at}
-use Rattle.thy_base.specs.Geometry.{program_size}
+use Rattle.thy_block.specs.declared.block.Block.{Block}
+use Rattle.thy_block.specs.declared.parameters.Parameters.{Parameters}
+use Rattle.thy_block.specs.Blocks.{block_bytes}
+use Rattle.thy_block.specs.Device.{zero_block, block_at}
+use Rattle.thy_block.specs.Geometry.{program_size}
 use Rattle.thy_flat.specs.Flat.{flat, console_bytes}
 use Rattle.thy_cache.specs.Contents.{Contents, peeked}
 use Rattle.thy_cache.specs.Flat.{flat as cached}

@@ -1,11 +1,11 @@
 -- Steps of a hart in a row are cycles of a calm machine, whatever the picks are.
 use Rattle.std.proofs.Common.{◌≡◌, ℕ, zero, suc, ◌+◌, ◌==◌, Bool, true, false, if◌then◌else◌, List, [], ◌∷◌, ◌++◌, length, replicate, Option, Some, None, Result, Ok, refl, sym, ◌∙◌, ap, subst, inl, arith}
 use Rattle.std.specs.Prelude.{unwrap_or}
-use Rattle.thy_base.specs.declared.config.Parameters.{Parameters}
-use Rattle.thy_base.specs.declared.mix.Pick.{Pick}
-use Rattle.thy_base.specs.declared.nvm.NvmError.{NvmError}
-use Rattle.thy_base.specs.Device.{Device}
-use Rattle.thy_base.specs.Store.{Holding}
+use Rattle.thy_block.specs.declared.parameters.Parameters.{Parameters}
+use Rattle.thy_block.specs.declared.mix.Pick.{Pick}
+use Rattle.thy_block.specs.declared.nvm.NvmError.{NvmError}
+use Rattle.thy_block.specs.Device.{Device}
+use Rattle.thy_block.specs.Store.{Holding}
 use Rattle.thy_cache.specs.Contents.{Contents}
 use Rattle.thy_hart.specs.declared.hand.Hand.TheVariants.{Nothing}
 use Rattle.thy_hart.specs.declared.hand.HartStep.{HartStep}

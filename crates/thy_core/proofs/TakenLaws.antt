@@ -1,8 +1,8 @@
 -- A cycle of the actor whose turn it is, is a step of a machine.
 use Rattle.std.proofs.Common.{◌≡◌, ℕ, ◌+◌, ◌<◌, ◌^◌, ◌&&◌, not, Bool, true, false, length, Result, Ok, Err, is_err, refl, sym, ◌∙◌, ap, subst}
-use Rattle.thy_base.specs.declared.mix.Pick.{Pick}
-use Rattle.thy_base.specs.declared.nvm.NvmError.{NvmError}
-use Rattle.thy_base.specs.Device.{Device, CountsFault}
+use Rattle.thy_block.specs.declared.mix.Pick.{Pick}
+use Rattle.thy_block.specs.declared.nvm.NvmError.{NvmError}
+use Rattle.thy_block.specs.Device.{Device, CountsFault}
 use Rattle.thy_layout.specs.declared.start.Start.{Start}
 use Rattle.thy_view.specs.declared.did.Did.{Did}
 use Rattle.thy_view.specs.declared.did.Stepped.{Stepped}

@@ -1,7 +1,7 @@
 -- What a cycle promises at an actor's turn.
 use Rattle.std.specs.Prelude.{◌≡◌, ℕ, ◌<◌, ◌&&◌, not, Bool, true, List, length, Option, Result, Ok, Err, IfOk, OnErr}
-use Rattle.thy_base.specs.declared.nvm.NvmError.{NvmError}
-use Rattle.thy_base.specs.Device.{Device, IsFramed, CountsFault}
+use Rattle.thy_block.specs.declared.nvm.NvmError.{NvmError}
+use Rattle.thy_block.specs.Device.{Device, IsFramed, CountsFault}
 use Rattle.thy_layout.specs.declared.start.Start.{Start}
 use Rattle.thy_view.specs.declared.did.Advance.{Advance}
 use Rattle.thy_view.specs.declared.did.Did.{Did}

@@ -1,11 +1,11 @@
 -- What is read of a machine.
 use Rattle.std.specs.Prelude.{◌≡◌, ℕ, ◌≤◌, true, false, List, [], length, Result, IfOk, MatchResult}
-use Rattle.thy_base.specs.Bytes.{bytes_of}
-use Rattle.thy_base.specs.declared.block.Block.{Block}
-use Rattle.thy_base.specs.declared.bytes.Bytes.{Bytes}
-use Rattle.thy_base.specs.declared.config.Parameters.{Parameters}
-use Rattle.thy_base.specs.Device.{Device}
-use Rattle.thy_base.specs.Geometry.{IsInRange, memory_blocks, console_room}
+use Rattle.thy_block.specs.Bytes.{bytes_of}
+use Rattle.thy_block.specs.declared.block.Block.{Block}
+use Rattle.thy_block.specs.declared.bytes.Bytes.{Bytes}
+use Rattle.thy_block.specs.declared.parameters.Parameters.{Parameters}
+use Rattle.thy_block.specs.Device.{Device}
+use Rattle.thy_block.specs.Geometry.{IsInRange, memory_blocks, console_room}
 use Rattle.thy_hart.specs.HartState.{has_written}
 use Rattle.thy_isa.specs.Step.{state_of, state_with}
 use Rattle.thy_isa.specs.declared.state.CpuState.{CpuState}

@@ -11,7 +11,7 @@ ghost use Rattle.thy_core.specs.Cycles.{HasStart, CanTake, HasTaken};
 ghost use Rattle.thy_core.specs.MachineParts.{machine_of, IsRestartBelow};
 
 use crate::parts::{Checkpoints, Consoles, MachineParts};
-use thy_base::{Mark, Nvm, NvmError};
+use thy_block::{Mark, Nvm, NvmError};
 use thy_hart::Hart;
 use thy_isa::{CpuState, MachState, is_running};
 use thy_layout::Start;

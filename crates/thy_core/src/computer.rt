@@ -2,7 +2,7 @@
 
 use crate::Machine;
 use std::alloc::{AllocError, Global};
-use thy_base::{Bytes, Geometry, Nvm, NvmError, Pick};
+use thy_block::{Bytes, Geometry, Nvm, NvmError, Pick};
 use thy_dram::Dram;
 use thy_isa::MachState;
 use thy_layout::Start;

@@ -15,7 +15,7 @@ use crate::hart::execute;
 use crate::parts::MachineParts;
 use crate::sealing::prepare;
 use crate::turn::Actor;
-use thy_base::{Nvm, NvmError};
+use thy_block::{Nvm, NvmError};
 use thy_layout::Start;
 use thy_scheme::Scheme;
 use thy_view::{Advance, Did, Phase, Stall, Stepped};

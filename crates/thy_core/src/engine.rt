@@ -7,7 +7,7 @@ ghost use Rattle.thy_core.specs.Cycles.{IsAnyRun, CanTake, HasTaken};
 ghost use Rattle.thy_core.specs.MachineParts.{machine_of};
 
 use crate::parts::{Checkpoints, MachineParts};
-use thy_base::{Nvm, NvmError};
+use thy_block::{Nvm, NvmError};
 use thy_layout::EngineStep;
 use thy_scheme::Scheme;
 use thy_view::{Did, Phase};

@@ -14,7 +14,7 @@ ghost use Rattle.thy_core.specs.Turns.{hart_of};
 
 use crate::parts::MachineParts;
 use crate::turn::hart_of;
-use thy_base::{EndCause, Nvm, NvmError, Pick};
+use thy_block::{EndCause, Nvm, NvmError, Pick};
 use thy_hart::HartStep;
 use thy_layout::Start;
 use thy_scheme::Scheme;

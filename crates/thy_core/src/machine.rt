@@ -1,6 +1,6 @@
 //! The machine and its calls.
 ghost use Rattle.std.specs.Prelude.{◌≡◌, ◌≤◌, ℕ, Ok, None, IfOk, IfErr, OnOk, is_err};
-ghost use Rattle.thy_base.specs.Device.{Device, IsFramed, CountsFault};
+ghost use Rattle.thy_block.specs.Device.{Device, IsFramed, CountsFault};
 ghost use Rattle.thy_dram.specs.Contents.{lost};
 ghost use Rattle.thy_view.specs.declared.view.View.{View};
 ghost use Rattle.thy_view.specs.Advances.{IfAdvanced, IsOthersTurn, SimulatesRow, row_of};
@@ -18,7 +18,7 @@ use crate::turn::mark_calm;
 use crate::{power, snapshot};
 use std::alloc::{AllocError, Global};
 use std::marker::Model;
-use thy_base::{Bytes, Geometry, Nvm, NvmError, Pick};
+use thy_block::{Bytes, Geometry, Nvm, NvmError, Pick};
 use thy_dram::Dram;
 use thy_isa::MachState;
 use thy_layout::Start;

@@ -1,6 +1,6 @@
 //! What a machine is made of.
 
-use thy_base::Mark;
+use thy_block::Mark;
 use thy_cache::Cache;
 use thy_hart::Hart;
 use thy_scheme::SchemeStore;

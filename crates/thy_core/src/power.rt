@@ -1,6 +1,6 @@
 //! Power: it comes on, and is lost.
 ghost use Rattle.std.specs.Prelude.{◌≡◌, ℕ, ◌<◌, false, IfOk, length};
-ghost use Rattle.thy_base.specs.Device.{Device};
+ghost use Rattle.thy_block.specs.Device.{Device};
 ghost use Rattle.thy_dram.specs.Contents.{lost};
 ghost use Rattle.thy_view.specs.declared.view.View.{View};
 ghost use Rattle.thy_view.specs.Kind.{IsDramOf, TellsLoading};
@@ -12,7 +12,7 @@ ghost use Rattle.thy_core_laws.specs.Sound.{IsAt, SoundStopped, IsPowered};
 
 use crate::parts::{Checkpoints, Consoles, MachineParts};
 use std::alloc::{AllocError, Global};
-use thy_base::{Geometry, Mark};
+use thy_block::{Geometry, Mark};
 use thy_cache::Cache;
 use thy_dram::Dram;
 use thy_hart::Hart;

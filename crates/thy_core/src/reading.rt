@@ -1,8 +1,8 @@
 //! Blocks of memory, read one after the other, without a step.
 ghost use Rattle.std.specs.Prelude.{◌≡◌, ◌<◌, ◌≤◌, ◌^◌, ◌++◌, length, take, drop, IfOk, IfErr, OnOk, OnErr};
-ghost use Rattle.thy_base.specs.Blocks.{block_bytes};
-ghost use Rattle.thy_base.specs.Bytes.{bytes_of};
-ghost use Rattle.thy_base.specs.Device.{block_at, HasFailed, IsFramed, CountsFault};
+ghost use Rattle.thy_block.specs.Blocks.{block_bytes};
+ghost use Rattle.thy_block.specs.Bytes.{bytes_of};
+ghost use Rattle.thy_block.specs.Device.{block_at, HasFailed, IsFramed, CountsFault};
 ghost use Rattle.thy_flat.specs.Flat.{flat, console_bytes};
 ghost use Rattle.thy_view.specs.Kind.{ReadsNothing, HasFailedToRead};
 ghost use Rattle.thy_scheme.specs.Scheme.{CanRun};
@@ -12,7 +12,7 @@ ghost use Rattle.thy_core.specs.Reading.{blocks_in, IsRoomy};
 
 use crate::parts::MachineParts;
 use std::alloc::Global;
-use thy_base::{BLOCK_SIZE, Block, Bytes, Nvm, NvmError};
+use thy_block::{BLOCK_SIZE, Block, Bytes, Nvm, NvmError};
 use thy_scheme::Scheme;
 use thy_view::CoreError;
 

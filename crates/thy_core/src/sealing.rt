@@ -8,7 +8,7 @@ ghost use Rattle.thy_core.specs.Cycles.{IsAnyRun, CanTake, HasTaken};
 ghost use Rattle.thy_core.specs.MachineParts.{machine_of};
 
 use crate::parts::MachineParts;
-use thy_base::{EndCause, Mark, Nvm, NvmError};
+use thy_block::{EndCause, Mark, Nvm, NvmError};
 use thy_isa::is_running;
 use thy_scheme::Scheme;
 use thy_view::Did;

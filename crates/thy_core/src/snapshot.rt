@@ -1,10 +1,10 @@
 //! What a machine is read for: the state that it executes, and the console of its committed checkpoint.
 ghost use Rattle.std.specs.Prelude.{◌≡◌, [], IfOk, IfErr, OnOk};
-ghost use Rattle.thy_base.specs.Device.{IsFramed};
+ghost use Rattle.thy_block.specs.Device.{IsFramed};
 ghost use Rattle.thy_hart.specs.Laws.{IsSized};
 ghost use Rattle.thy_hart.specs.OneStep.{current};
 ghost use Rattle.thy_isa.specs.Step.{state_of, state_with};
-ghost use Rattle.thy_base.specs.Bytes.{bytes_of};
+ghost use Rattle.thy_block.specs.Bytes.{bytes_of};
 ghost use Rattle.thy_scheme.specs.Scheme.{CanRun};
 ghost use Rattle.thy_view.specs.Kind.{CanRead, CanSnapshot, SnapshotsStopped, ShowsConsole, LeavesAlonePast, HasFailedToRead};
 ghost use Rattle.thy_core_laws.specs.Kind.{kind_over};
@@ -15,7 +15,7 @@ ghost use Rattle.thy_core.specs.Reading.{ReadsBare, ReadsState, ShowsNone};
 use crate::parts::MachineParts;
 use crate::reading::{MemoryVersion, read_blocks, read_console};
 use std::alloc::Global;
-use thy_base::{Bytes, Nvm, PAGE_BLOCKS};
+use thy_block::{Bytes, Nvm, PAGE_BLOCKS};
 use thy_isa::{CpuState, MachState, cross};
 use thy_scheme::Scheme;
 use thy_view::{CoreError, Phase};

@@ -1,6 +1,6 @@
 //! One cycle of a pick: a hart's that advances its instruction, or another actor's.
 ghost use Rattle.std.specs.Prelude.{◌≡◌, ◌≤◌, Ok, None, is_err};
-ghost use Rattle.thy_base.specs.Device.{IsFramed, CountsFault};
+ghost use Rattle.thy_block.specs.Device.{IsFramed, CountsFault};
 ghost use Rattle.thy_view.specs.Advances.{IfAdvanced, IsOthersTurn, SimulatesRow, row_of};
 ghost use Rattle.thy_view.specs.Kind.{CanStep, Simulates, FailsSafe};
 ghost use Rattle.thy_view.specs.Restart.{RestartsUnwritten};
@@ -12,7 +12,7 @@ use crate::cycle::{take_hart, take_other};
 use crate::hart::execute_row;
 use crate::parts::MachineParts;
 use crate::turn::{Turn, only_harts, turn_now, turn_of};
-use thy_base::{Nvm, NvmError, Pick};
+use thy_block::{Nvm, NvmError, Pick};
 use thy_layout::Start;
 use thy_scheme::Scheme;
 use thy_view::{Advance, Row, Stepped};

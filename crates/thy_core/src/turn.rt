@@ -4,11 +4,11 @@ ghost use Rattle.thy_core.specs.Calm.{is_calm, KnowsCalm};
 ghost use Rattle.thy_core_laws.specs.Machine.{shortage_of};
 ghost use Rattle.thy_core.specs.MachineParts.{machine_of, turn_seen};
 ghost use Rattle.thy_core.specs.Turns.{lacks, stopped_now, waits_now, stall_now, hart_of, hart_now, engine_now, turn_now};
-ghost use Rattle.thy_base.specs.declared.mix.Pick.TheVariants.{Engine as EnginePick};
+ghost use Rattle.thy_block.specs.declared.mix.Pick.TheVariants.{Engine as EnginePick};
 ghost use Rattle.thy_view.specs.Turn.{rested, begins};
 
 use crate::parts::MachineParts;
-use thy_base::{Nvm, Pick};
+use thy_block::{Nvm, Pick};
 use thy_scheme::Scheme;
 use thy_view::{Phase, Stall};
 

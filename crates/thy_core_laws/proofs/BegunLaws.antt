@@ -1,9 +1,9 @@
 -- A hart's instruction is begun: the hart comes to the front, and hart 0 again once it has ended.
 use Rattle.std.proofs.Common.{◌≡◌, ℕ, zero, suc, ◌≤◌, true, if◌then◌else◌, List, Option, Some, None, inl, refl, sym, ◌∙◌, ap, subst, arith}
 use Rattle.std.proofs.lemmas.Bool.{ne_eqb}
-use Rattle.thy_base.specs.declared.block.Block.{Block}
-use Rattle.thy_base.specs.declared.cause.EndCause.TheVariants.{Length, Exhausted, Ended}
-use Rattle.thy_base.specs.Device.{Device}
+use Rattle.thy_block.specs.declared.block.Block.{Block}
+use Rattle.thy_block.specs.declared.cause.EndCause.TheVariants.{Length, Exhausted, Ended}
+use Rattle.thy_block.specs.Device.{Device}
 use Rattle.thy_cache.specs.Contents.{Contents}
 use Rattle.thy_isa.specs.declared.state.CpuState.{CpuState}
 use Rattle.thy_isa.specs.declared.state.OtherHart.{OtherHart}

@@ -1,11 +1,11 @@
 -- A step of the boot leads to the next moment: in the boot, or behind it with the hart at the checkpoint that was found.
 use Rattle.std.proofs.Common.{◌≡◌, ◌≢◌, ℕ, ◌+◌, Bool, true, false, if◌then◌else◌, List, length, Option, Some, None, refl, sym, ◌∙◌, ap, subst, arith, inl, inr}
-use Rattle.thy_base.specs.declared.block.Block.{Block}
-use Rattle.thy_base.specs.declared.config.Parameters.{Parameters}
-use Rattle.thy_base.specs.declared.mark.Mark.{Mark}
-use Rattle.thy_base.specs.Device.{Device}
-use Rattle.thy_base.specs.Marks.{mark}
-use Rattle.thy_base.proofs.RangeLemmas.{epoch_least}
+use Rattle.thy_block.specs.declared.block.Block.{Block}
+use Rattle.thy_block.specs.declared.parameters.Parameters.{Parameters}
+use Rattle.thy_block.specs.declared.mark.Mark.{Mark}
+use Rattle.thy_block.specs.Device.{Device}
+use Rattle.thy_block.specs.Marks.{mark}
+use Rattle.thy_block.proofs.RangeLemmas.{epoch_least}
 use Rattle.thy_flat.proofs.MemoryLaws.{length-console_bytes}
 use Rattle.thy_hart.specs.HartState.{new_hart, reserved}
 use Rattle.thy_hart.specs.Laws.{IsSized, Follows}
@@ -17,6 +17,7 @@ use Rattle.thy_isa.specs.declared.state.Status.{Status}
 use Rattle.thy_isa.specs.declared.state.Status.TheVariants.{Running}
 use Rattle.thy_isa.specs.OnBlocks.{setting_for, state_from}
 use Rattle.thy_isa.specs.Step.{State, cpu_of, is_running, step}
+use Rattle.thy_isa.proofs.BlockLaws.{count-state_from}
 use Rattle.thy_view.specs.declared.boot_step.BootStep.{BootStep}
 use Rattle.thy_view.specs.declared.boot_step.BootStep.TheVariants.{GoesOn, Loaded, Restarted, Refused}
 use Rattle.thy_view.specs.declared.did.Did.{Did}
@@ -89,10 +90,6 @@ status-from : (p : Parameters) (cpu : CpuState) (blocks : List Block) → (state
 unfolding state_from
 status-from p cpu blocks = refl
 
-count-from : (p : Parameters) (cpu : CpuState) (blocks : List Block) → (state_from p cpu blocks).count ≡ cpu.count
-unfolding state_from
-count-from p cpu blocks = refl
-
 console-from : (p : Parameters) (cpu : CpuState) (blocks : List Block) → IsSized (new_hart p cpu 0) blocks → length (state_from p cpu blocks).console ≡ cpu.console_len
 unfolding state_from
 console-from p cpu blocks sized = length-console_bytes p blocks cpu.console_len sized.range sized.blocks sized.console
@@ -119,7 +116,7 @@ module _ {S : Type 0} (K : SchemeOf S) (o : Origin) (m : Machine S) (cpu : CpuSt
   sized = record { range = origin.geometry; blocks = holds.memory; console = booted.recordable.console }
 
   pub count_here : (at o cpu.count).count ≡ cpu.count
-  count_here = sym (ap (λ (s : State). s.count) booted.state) ∙ count-from o.geometry cpu blocks
+  count_here = sym (ap (λ (s : State). s.count) booted.state) ∙ count-state_from o.geometry cpu blocks
 
   pub runs_here : is_running cpu.status ≡ runs_at o cpu.count
   runs_here = ap is_running (sym (status-from o.geometry cpu blocks)) ∙ ap (λ (s : State). is_running s.status) booted.state

@@ -1,7 +1,7 @@
 -- While the scheme boots: what a cycle keeps of the machine that leaves it there.
 use Rattle.std.proofs.Common.{◌≡◌, ◌≢◌, ℕ, ◌+◌, ◌≤◌, true, false, [], length, Some, None, refl, sym, ◌∙◌, ap, subst, arith, inl, inr}
-use Rattle.thy_base.specs.declared.mark.Mark.{Mark}
-use Rattle.thy_base.specs.Device.{Device}
+use Rattle.thy_block.specs.declared.mark.Mark.{Mark}
+use Rattle.thy_block.specs.Device.{Device}
 use Rattle.thy_cache.specs.Contents.{dirty_count}
 use Rattle.thy_hart.specs.HartState.{reserved}
 use Rattle.thy_view.specs.declared.did.Did.{Did}

@@ -1,7 +1,7 @@
 -- What the number of dirty lines says of the first dirty line.
 use Rattle.std.proofs.Common.{◌≡◌, ℕ, ◌<◌, Option, Some, None, option_and_then, refl, ◌∙◌, ap, inl, inr, arith}
 use Rattle.std.specs.List.{position}
-use Rattle.thy_base.specs.Store.{IsOpenFor, page_of}
+use Rattle.thy_block.specs.Store.{IsOpenFor, page_of}
 use Rattle.thy_cache.specs.declared.line.Line.{Line}
 use Rattle.thy_cache.specs.Ways.{line_at, is_dirty, has_dirty}
 use Rattle.thy_cache.specs.Contents.{Contents, set_at, dirty_line_in, dirty_line, dirty_count, IsOpenForFlush}

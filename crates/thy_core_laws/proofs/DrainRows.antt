@@ -1,7 +1,7 @@
 -- Drains simulate the run, in each phase, and so do cycles that do nothing.
-use Rattle.std.proofs.Common.{◌≡◌, ◌≢◌, ℕ, ◌+◌, ◌<◌, Bool, true, false, List, [], ◌∷◌, drop, length, refl, ap, inr, arith}
-use Rattle.thy_base.specs.declared.nvm.Write.{Write}
-use Rattle.thy_base.specs.Device.{Device, drained}
+use Rattle.std.proofs.Common.{◌≡◌, ◌≢◌, ℕ, ◌+◌, ◌<◌, Bool, true, false, List, [], ◌∷◌, drop, length, refl, ap, arith}
+use Rattle.thy_block.specs.declared.nvm.Write.{Write}
+use Rattle.thy_block.specs.Device.{Device, drained}
 use Rattle.thy_view.specs.declared.did.Did.TheVariants.{NvmDrained, DramDrained, Nothing}
 use Rattle.thy_view.specs.declared.view.Phase.{Phase}
 use Rattle.thy_view.specs.declared.view.Phase.TheVariants.{Boot, Run, Halt}
@@ -10,6 +10,7 @@ use Rattle.thy_view.specs.Origin.{Origin}
 use Rattle.thy_scheme.specs.Scheme.{SchemeOf}
 use Rattle.thy_scheme.specs.Calls.{Keeps}
 use Rattle.thy_scheme.specs.Laws.{RunHolds}
+use Rattle.thy_scheme.proofs.RecordLemmas.{Keeps-same}
 use Rattle.thy_core_laws.specs.Calls.{after_drain}
 use Rattle.thy_core_laws.specs.Machine.{Machine}
 use Rattle.thy_core_laws.specs.Rows.{SimulatesCycle, At, NvmDrainSimulates, DramDrainSimulates, BootDrainSimulates, HaltSimulates}
@@ -88,13 +89,6 @@ dram_drain_simulates {S} K = λ o cycles m n t at behind some drains.
       exhausts = λ is. absurd (cc);
     })
 
-keeps_itself : {S : Type 0} (K : SchemeOf S) (s : S) (n : Device) → Keeps K s n s n
-keeps_itself K s n = record {
-  held = record { blocks = refl; free = omega arith; opened = inr refl };
-  left = record { owed = omega arith; engine = omega arith; merges = omega arith; promotions = omega arith };
-  whole = λ e. e;
-  storeless = refl;
-  sealed_storeless = refl;
 }
 
 pub halt_simulates : {S : Type 0} (K : SchemeOf S) → HaltSimulates K
@@ -108,14 +102,14 @@ halt_simulates {S} K = λ o cycles m n at phase.
       sized = λ sets ways size. size;
       up = at.sound.up;
       unfailed = refl;
-      moment = sound_drained K o cycles m n at behind m.scheme n sound (keeps_itself K m.scheme n);
+      moment = sound_drained K o cycles m n at behind m.scheme n sound (Keeps-same K m.scheme n);
       step = (phase, refl);
       acts = record { action = Rest; asked = refl; left = refl };
       dram = refl;
       queues = omega arith;
       strides = refl;
       done = tt;
-      left = left_on K Nothing m n m.scheme m.spent n (keeps_itself K m.scheme n) (λ e. omega arith);
+      left = left_on K Nothing m n m.scheme m.spent n (Keeps-same K m.scheme n) (λ e. omega arith);
       fewer = omega arith;
       room = omega arith;
       hand = refl;

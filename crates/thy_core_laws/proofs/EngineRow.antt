@@ -1,9 +1,9 @@
 -- A step of the engine simulates the run: with the last one the sealed checkpoint is the committed one.
 use Rattle.std.proofs.Common.{◌≡◌, ◌≢◌, ℕ, ◌+◌, ◌<◌, ◌≤◌, Bool, true, false, not, if◌then◌else◌, length, unwrap_or, Option, Some, None, refl, sym, ◌∙◌, ap, ap₂, subst, arith}
-use Rattle.thy_base.specs.declared.cause.EndCause.{EndCause}
-use Rattle.thy_base.specs.declared.mark.Mark.{Mark}
-use Rattle.thy_base.specs.Device.{Device}
-use Rattle.thy_base.specs.Marks.{mark}
+use Rattle.thy_block.specs.declared.cause.EndCause.{EndCause}
+use Rattle.thy_block.specs.declared.mark.Mark.{Mark}
+use Rattle.thy_block.specs.Device.{Device}
+use Rattle.thy_block.specs.Marks.{mark}
 use Rattle.thy_cache.specs.Contents.{Contents}
 use Rattle.thy_hart.specs.HartState.{HartState}
 use Rattle.thy_hart.specs.Moments.{moment, moves_left}

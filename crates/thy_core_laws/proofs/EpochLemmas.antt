@@ -1,15 +1,15 @@
 -- An epoch after an instruction, and how many steps an instruction has left.
 use Rattle.std.proofs.Common.{◌≡◌, ℕ, ◌+◌, ◌==◌, ◌<◌, ◌≤◌, Bool, true, false, if◌then◌else◌, Option, Some, None, refl, arith, inl, inr}
 use Rattle.std.proofs.lemmas.Bool.{eqb-true, eq-eqb, cases_eq}
-use Rattle.thy_base.specs.declared.cause.EndCause.TheVariants.{Length, Ended}
+use Rattle.thy_block.specs.declared.cause.EndCause.TheVariants.{Length, Ended}
 use Rattle.thy_epoch.specs.Epoch.{over_after, HasRetired}
 use Rattle.thy_hart.specs.declared.hand.Hand.{Hand}
 use Rattle.thy_hart.specs.declared.hand.Hand.TheVariants.{Nothing, Reading, Reserving, Writing, Retiring}
 use Rattle.thy_hart.specs.HartState.{blocks_of, next_block}
 use Rattle.thy_flat.specs.declared.span.Span.{Span}
 use Rattle.thy_flat.specs.Spans.{rest_of}
-use Rattle.thy_cache.specs.Contents.{Contents, hits, victim_of, is_dirty_victim}
-use Rattle.thy_hart.specs.Moments.{Moment, touch_left, left_behind, moves_left}
+use Rattle.thy_hart.specs.Moments.{Moment, left_behind, moves_left}
+use Rattle.thy_hart.proofs.StepLemmas.{touch_most}
 use Rattle.thy_core_laws.specs.Machine.{moves_begun}
 
 -- one instruction more is within the epoch's length
@@ -25,16 +25,7 @@ retired-on running span retired l = by_cause running (retired + 1 == span) refl
     ]
     by_cause false last e = (omega arith, omega arith)
 
-few_touches : (c : Contents) (o : Option ℕ) → touch_left c o ≤ 3
-few_touches c None = omega arith
-few_touches c (Some b) = by_hit (hits c b) (is_dirty_victim (victim_of c b))
-  where
-    by_hit : (h d : Bool) → (if h then 1 else (if d then 3 else 2)) ≤ 3
-    by_hit true d = omega arith
-    by_hit false true = omega arith
-    by_hit false false = omega arith
-
-two_blocks : (to : Span) → blocks_of to ≤ 2
+pub two_blocks : (to : Span) → blocks_of to ≤ 2
 two_blocks to = by_len ((rest_of to).len == 0)
   where
     by_len : (a : Bool) → (if a then 1 else 2) ≤ 2
@@ -49,7 +40,7 @@ few_behind (Writing e to done) = omega (arith, two_blocks to)
 few_behind (Retiring e wrote) = omega arith
 
 pub few-moves : (m : Moment) → moves_left m ≤ 16
-few-moves m = omega (arith, few_touches m.cache (next_block m.hart), few_behind m.hart.hand)
+few-moves m = omega (arith, touch_most m.cache (next_block m.hart), few_behind m.hart.hand)
 
 -- at most 16 moves are left, whichever hart's instruction is begun
 pub few-begun : (begun : Option ℕ) (m : Moment) → moves_begun begun (moves_left m) ≤ 16

@@ -1,7 +1,8 @@
 -- What a moment behind the boot gives, and what the hart's turn does.
 use Rattle.std.proofs.Common.{◌≡◌, ℕ, ◌&&◌, ◌||◌, not, Bool, true, false, Option, Some, None, is_some, refl, ◌∙◌, ap, subst}
-use Rattle.thy_base.specs.declared.mark.Mark.{Mark}
-use Rattle.thy_base.specs.Device.{Device}
+use Rattle.thy_block.specs.declared.mark.Mark.{Mark}
+use Rattle.thy_block.specs.Device.{Device}
+use Rattle.thy_block.proofs.BasicLemmas.{not_some}
 use Rattle.thy_view.specs.declared.view.Phase.TheVariants.{Run}
 use Rattle.thy_view.specs.Origin.{Origin, runs_at}
 use Rattle.thy_view.specs.Turn.{stall_in, has_stopped}
@@ -10,7 +11,7 @@ use Rattle.thy_scheme.specs.Laws.{IsLawful, RunHolds, is_free_to_run}
 use Rattle.thy_core_laws.specs.Machine.{Machine, run_view, view_in, view_of, is_barred, shortage_of, pressure_of}
 use Rattle.thy_core_laws.specs.Sound.{SoundRun, SoundIn, Sound}
 use Rattle.thy_core_laws.specs.Rows.{At, HartGoes}
-use Rattle.thy_core_laws.proofs.StallLemmas.{IsClear, clear, none_is}
+use Rattle.thy_core_laws.proofs.StallLemmas.{IsClear, clear}
 
 -- ---- the phase
 
@@ -56,7 +57,7 @@ is-going K o cycles m n at turn =
     let c : IsClear (K.under_way m.scheme) (is_barred K m) (is_some m.hart.epoch.over) (is_some (shortage_of K m)) (has_stopped o m.marks.sealed) (K.promoting m.scheme)
     = clear (K.under_way m.scheme) (is_barred K m) (is_some m.hart.epoch.over) (is_some (shortage_of K m)) (has_stopped o m.marks.sealed) (K.promoting m.scheme)
     (subst (λ v. stall_in o Run v (pressure_of K m) ≡ None) (view-run K o m n turn.phase) turn.free) in
-    let going = none_is m.hart.epoch.over c.going in
+    let going = not_some m.hart.epoch.over c.going in
     let lively = stops o m.marks.sealed (λ t. c.lively (way ∙ ap (λ b. b || K.applies m.scheme) t)) in
     let unbarred : is_barred K m ≡ false = no_bar (K.under_way m.scheme) K.overlaps c.free in
     record {
@@ -65,5 +66,5 @@ is-going K o cycles m n at turn =
       lively = lively;
       runs = run.ended.live turn.phase going lively;
       free = frees (K.under_way m.scheme) K.overlaps unbarred;
-      enough = λ t. none_is (shortage_of K m) (c.enough t);
+      enough = λ t. not_some (shortage_of K m) (c.enough t);
     }

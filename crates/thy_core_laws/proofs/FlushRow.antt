@@ -1,8 +1,8 @@
 -- A step of a flush simulates the run.
 use Rattle.std.proofs.Common.{◌≡◌, ◌≢◌, ℕ, ◌+◌, ◌<◌, ◌≤◌, ◌==◌, not, Bool, false, true, Some, refl, sym, ◌∙◌, ap, subst, if◌then◌else◌, ◌||◌, arith}
 use Rattle.std.proofs.lemmas.Bool.{ne_eqb}
-use Rattle.thy_base.specs.Device.{Device}
-use Rattle.thy_base.specs.Store.{Holding}
+use Rattle.thy_block.specs.Device.{Device}
+use Rattle.thy_block.specs.Store.{Holding}
 use Rattle.thy_cache.specs.declared.line.Flushed.{Flushed}
 use Rattle.thy_cache.specs.declared.line.Flushed.TheVariants.{Clean, Line as StoredLine, CopyFirst}
 use Rattle.thy_cache.specs.Contents.{Contents, dirty_count, HasFlushed, CountsFlushed, IsOpenForFlush}
@@ -63,7 +63,7 @@ flushes_some : (most dirty merges : ℕ) → 0 < dirty → flushes_left most dir
 flushes_some most dirty merges some =
     ap (λ (b : Bool). if b then merges else dirty + most) (ne_eqb dirty 0 (λ none. absurd (omega (arith, some, none))))
 
-flushes_most : (most dirty merges : ℕ) → merges ≤ most → flushes_left most dirty merges ≤ dirty + most
+pub flushes_most : (most dirty merges : ℕ) → merges ≤ most → flushes_left most dirty merges ≤ dirty + most
 flushes_most most dirty merges l = first (dirty == 0)
   where
     first : (none : Bool) → (if none then merges else dirty + most) ≤ dirty + most

@@ -1,8 +1,8 @@
 -- Before room is reserved, what the instruction in hand is to write is what the plain machine's writes.
 use Rattle.std.proofs.Common.{◌≡◌, ℕ, ◌+◌, ◌-◌, ◌==◌, Bool, true, false, if◌then◌else◌, List, length, refl, sym, ◌∙◌, ap, subst}
-use Rattle.thy_base.specs.declared.block.Block.{Block}
-use Rattle.thy_base.specs.declared.config.Parameters.{Parameters}
-use Rattle.thy_base.specs.Geometry.{console_room}
+use Rattle.thy_block.specs.declared.block.Block.{Block}
+use Rattle.thy_block.specs.declared.parameters.Parameters.{Parameters}
+use Rattle.thy_block.specs.Geometry.{console_room}
 use Rattle.thy_flat.specs.declared.span.Span.{Span}
 use Rattle.thy_flat.specs.Flat.{memory_bytes}
 use Rattle.thy_flat.specs.Spans.{head_len, rest_of}
@@ -61,7 +61,7 @@ module _ (input : List ℕ) (h : HartState) (memory : List Block) (sized : IsSiz
       (sym (effect_in-flat h.geometry input h.cpu memory sized.range sized.blocks sized.console))
       ∙ ap (λ (x : List ℕ). (moves_of x (calls_in h.geometry h.cpu (length input)) (effect_in h.geometry h.cpu memory)).to) regs_same
 
-current-is : (h : HartState) (memory : List Block) → current h memory ≡ state_from h.geometry h.cpu memory
+pub current-is : (h : HartState) (memory : List Block) → current h memory ≡ state_from h.geometry h.cpu memory
 unfolding current
 current-is h memory = refl
 

@@ -1,10 +1,10 @@
 -- What the hart's step makes of the machine, by its answer.
 use Rattle.std.proofs.Common.{◌≡◌, ℕ, ◌+◌, ◌-◌, ◌==◌, ◌<◌, ◌≤◌, Bool, true, false, if◌then◌else◌, nat_lt, Option, Some, None, is_some, refl, sym, ◌∙◌, ap, ap₂, subst, arith, inl, inr, add-zero, []}
 use Rattle.std.proofs.lemmas.Bool.{cases_eq}
-use Rattle.thy_base.specs.declared.cause.EndCause.{EndCause}
-use Rattle.thy_base.specs.declared.cause.EndCause.TheVariants.{Length, Exhausted, Ended}
-use Rattle.thy_base.specs.declared.config.Parameters.{Parameters}
-use Rattle.thy_base.specs.Device.{Device}
+use Rattle.thy_block.specs.declared.cause.EndCause.{EndCause}
+use Rattle.thy_block.specs.declared.cause.EndCause.TheVariants.{Length, Exhausted, Ended}
+use Rattle.thy_block.specs.declared.parameters.Parameters.{Parameters}
+use Rattle.thy_block.specs.Device.{Device}
 use Rattle.thy_cache.specs.Contents.{Contents, dirty_count}
 use Rattle.thy_epoch.specs.Epoch.{Epoch, over_after, retired_once, exhausted, HasRetired}
 use Rattle.thy_flat.specs.declared.span.Span.{Span}
@@ -49,6 +49,7 @@ use Rattle.thy_core_laws.proofs.WorkLaws.{moves_over}
 use Rattle.thy_core_laws.proofs.Facts.{view-run, sound-run, holds-run, is-going}
 use Rattle.thy_core_laws.proofs.ToldLemmas.{shortage, IsRetired, KeepsEntries, TakesEntries, EntriesBy, IsMoved, IsExhausted, IsWaiting, Told, reserving-brings, told}
 use Rattle.thy_core_laws.proofs.HartRow.{hart_on, IsOn, is-on, IsNext, simulates-next}
+use Rattle.thy_core_laws.proofs.FlushRow.{flushes_most}
 
 -- ---- the view, by the parts of the hart that it shows
 
@@ -67,14 +68,6 @@ left-going K p m n e = ap (λ x. K.engine_left m.scheme + K.promotions_left m.sc
 left-over : {S : Type 0} (K : SchemeOf S) (p : Parameters) (m : Machine S) (n : Device) (cause : EndCause) → m.hart.epoch.over ≡ Some cause
     → cycles_left K p m n ≡ K.engine_left m.scheme + K.promotions_left m.scheme + owed_in K m.scheme n + flushes_left (K.most_merges p) (dirty_count m.cache) (K.merges_left m.scheme)
 left-over K p m n cause e = ap (λ x. K.engine_left m.scheme + K.promotions_left m.scheme + owed_in K m.scheme n + hart_left K p x m n) e
-
--- flushes and merges are within their most
-few-flushes : (most dirty merges : ℕ) → merges ≤ most → flushes_left most dirty merges ≤ dirty + most
-few-flushes most dirty merges l = by_dirty (dirty == 0)
-  where
-    by_dirty : (b : Bool) → (if b then merges else dirty + most) ≤ dirty + most
-    by_dirty true = omega (arith, l)
-    by_dirty false = omega arith
 
 -- the instruction's, where it moved
 instructions-moved : (before now : Option ℕ) (old new : Moment) → new.hart.epoch ≡ old.hart.epoch → moves_begun now (moves_left new) + 1 ≤ moves_begun before (moves_left old)
@@ -343,7 +336,7 @@ over-spent : {S : Type 0} (K : SchemeOf S) (o : Origin) (m : Machine S) (n : Dev
     → m.hart.epoch.over ≡ None → h.epoch.over ≡ Some cause → IsOn K o m n h c t new → (K.holding t new).owed ≤ (K.holding m.scheme n).owed
     → cycles_left K o.geometry (hart_on hart true lap last h c t m) new + 1 ≤ cycles_left K o.geometry m n
 over-spent K o m n hart lap last h c t new cause going over on owed =
-    let flushes = few-flushes (K.most_merges o.geometry) (dirty_count c) (K.merges_left t) on.holds.bounded.merges in
+    let flushes = flushes_most (K.most_merges o.geometry) (dirty_count c) (K.merges_left t) on.holds.bounded.merges in
     omega (arith, left-going K o.geometry m n going, left-over K o.geometry (hart_on hart true lap last h c t m) new cause over, flushes, on.engine, on.holds.promotions on.whole, owed, on.owed_later, on.room, on.holds.bounded.free)
 
 exhausted-next : {S : Type 0} (K : SchemeOf S) (o : Origin) (cycles : ℕ) (m : Machine S) (n : Device) (hart : ℕ) (h : HartState) (c : Contents) (t : S) (new : Device) (free dd need : ℕ)

@@ -1,6 +1,6 @@
 -- A moment, whatever turns are to come.
 use Rattle.std.proofs.Common.{◌≡◌, ℕ, List, refl, sym, ap, subst}
-use Rattle.thy_base.specs.Device.{Device}
+use Rattle.thy_block.specs.Device.{Device}
 use Rattle.thy_view.specs.declared.view.Phase.{Phase}
 use Rattle.thy_view.specs.declared.view.Phase.TheVariants.{Boot, Run, Halt}
 use Rattle.thy_view.specs.declared.view.View.{View}

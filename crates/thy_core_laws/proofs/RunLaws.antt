@@ -1,11 +1,11 @@
 -- How a run of the machine begins, and what power that comes on leads to.
 use Rattle.std.proofs.Common.{◌≡◌, ℕ, ◌-◌, ◌≤◌, false, List, length, replicate, Option, Some, None, refl, sym, ◌∙◌, ap, subst, arith, inl, inr}
 use Rattle.std.proofs.lemmas.List.{length-append, length-replicate}
-use Rattle.thy_base.specs.declared.block.Block.{Block}
-use Rattle.thy_base.specs.declared.mark.Mark.{Mark}
-use Rattle.thy_base.specs.declared.nvm.Shape.{Shape}
-use Rattle.thy_base.specs.Device.{Device, zero_block, fitted}
-use Rattle.thy_base.specs.Marks.{mark}
+use Rattle.thy_block.specs.declared.block.Block.{Block}
+use Rattle.thy_block.specs.declared.mark.Mark.{Mark}
+use Rattle.thy_block.specs.declared.nvm.Shape.{Shape}
+use Rattle.thy_block.specs.Device.{Device, zero_block, fitted}
+use Rattle.thy_block.specs.Marks.{mark}
 use Rattle.thy_layout.specs.Decoded.{Decoded, Nothing, Refused, At}
 use Rattle.thy_view.specs.declared.view.Phase.{Phase}
 use Rattle.thy_view.specs.declared.view.Phase.TheVariants.{Boot, Run, Halt}
@@ -36,7 +36,7 @@ moment_is_safe K o cycles m n lawful s = safe_in K o m n m.phase lawful s.up s.m
 
 -- ---- the numbers of a boot
 
-one_small : (k : ℕ) (a m : Mark) → Some a ≡ Some m → IsSmallMark k a → IsSmallMark k m
+pub one_small : (k : ℕ) (a m : Mark) → Some a ≡ Some m → IsSmallMark k a → IsSmallMark k m
 one_small k a m e h = let same : a ≡ m = cc in subst (IsSmallMark k) same h
 
 -- the mark of an image is small

@@ -1,13 +1,14 @@
 -- A seal simulates the run.
 use Rattle.std.proofs.Common.{◌≡◌, ℕ, ◌+◌, ◌<◌, ◌≤◌, not, Bool, false, true, List, length, Option, Some, None, refl, sym, ◌∙◌, ap, subst, inl, inr, arith}
 use Rattle.std.proofs.lemmas.Bool.{eqb-true}
-use Rattle.thy_base.specs.declared.block.Block.{Block}
-use Rattle.thy_base.specs.declared.cause.EndCause.{EndCause}
-use Rattle.thy_base.specs.declared.mark.Mark.{Mark}
-use Rattle.thy_base.specs.Device.{Device}
-use Rattle.thy_base.specs.Geometry.{IsInRange, memory_blocks, console_room}
-use Rattle.thy_base.specs.Marks.{mark}
-use Rattle.thy_base.proofs.RangeLemmas.{epoch_least}
+use Rattle.thy_block.specs.declared.block.Block.{Block}
+use Rattle.thy_block.specs.declared.cause.EndCause.{EndCause}
+use Rattle.thy_block.specs.declared.mark.Mark.{Mark}
+use Rattle.thy_block.specs.Device.{Device}
+use Rattle.thy_block.specs.Geometry.{IsInRange, memory_blocks, console_room}
+use Rattle.thy_block.specs.Marks.{mark}
+use Rattle.thy_block.proofs.RangeLemmas.{epoch_least}
+use Rattle.thy_block.proofs.BasicLemmas.{some_same}
 use Rattle.thy_cache.specs.Contents.{dirty_count, IsOpenForFlush}
 use Rattle.thy_cache.specs.Flat.{flat, Agrees}
 use Rattle.thy_cache.proofs.FlushLaws.{flat-clean}
@@ -37,6 +38,7 @@ use Rattle.thy_core_laws.proofs.KeepsLaws.{run_of, view_run, stands, runs_behind
 use Rattle.thy_scheme.proofs.RecordLemmas.{state-console}
 use Rattle.thy_view.proofs.StorableAt.{IsRecordable-at}
 use Rattle.thy_core_laws.proofs.SealingLaws.{IsOver, over_at, unsealed_at}
+use Rattle.thy_core_laws.proofs.HandLaws.{current-is}
 
 -- ---- a hart whose next epoch begins is where it was
 
@@ -57,10 +59,6 @@ current-epoch : (h : HartState) (memory : List Block) (e : Epoch) → current (r
 unfolding current
 current-epoch h memory e = refl
 
-current-state : (h : HartState) (memory : List Block) → current h memory ≡ state_from h.geometry h.cpu memory
-unfolding current
-current-state h memory = refl
-
 follows-epoch : (input : List ℕ) (now : State) (h : HartState) (memory : List Block) (e : Epoch) → Follows input now h memory
     → Follows input now (record h { epoch = e }) memory
 follows-epoch input now h memory e f = record {
@@ -70,9 +68,6 @@ follows-epoch input now h memory e f = record {
 }
 
 -- ---- what is sealed
-
-some_is : (a b : Mark) → Some a ≡ Some b → a ≡ b
-some_is a b e = cc
 
 runs_if : (runs : Bool) → not runs ≡ false → runs ≡ true
 runs_if true e = refl
@@ -112,7 +107,7 @@ standing K o cycles m n cause at sealing whole clean over_is =
     let room : cpu.console_len ≤ console_room p = subst (λ g. cpu.console_len ≤ console_room g) at.sound.geometry sized.console in
     let stands : has_written m.hart.hand ≡ false = ap has_written hand in
     let there : state_from m.hart.geometry cpu (flat m.cache blocks) ≡ at_count o cpu.count =
-    sym (current-state m.hart (flat m.cache blocks)) ∙ s.follows.current stands
+    sym (current-is m.hart (flat m.cache blocks)) ∙ s.follows.current stands
     ∙ ap (λ b. fronted (front_of b) (at_count o cpu.count)) begun in
     let state : state_from p cpu blocks ≡ at_count o cpu.count =
     subst (λ g. state_from g cpu blocks ≡ at_count o cpu.count) at.sound.geometry
@@ -202,16 +197,16 @@ seal_simulates {S} K = λ o cycles m n t cause at sealing whole bare clean over_
         };
         numbered = record {
           epoch = omega (arith, next_epoch_is);
-          sealed = λ x is. ap (λ (y : Mark). y.epoch) (sym (some_is a x is)) ∙ next_epoch_is;
+          sealed = λ x is. ap (λ (y : Mark). y.epoch) (sym (some_same a x is)) ∙ next_epoch_is;
           unwritten = λ none. absurd (cc);
         };
         shown = record {
           done = s.shown.done;
-          sealed = λ x is. g.console ∙ ap (λ (y : Mark). length (at_count o y.count).console) (some_is a x is);
-          ends = λ x is. ap not s.counted.running ∙ ap (λ (y : Mark). not (runs_at o y.count)) (some_is a x is);
+          sealed = λ x is. g.console ∙ ap (λ (y : Mark). length (at_count o y.count).console) (some_same a x is);
+          ends = λ x is. ap not s.counted.running ∙ ap (λ (y : Mark). not (runs_at o y.count)) (some_same a x is);
         };
         ended = record {
-          sealed = λ x is stops. record { count_is = ap (λ (y : Mark). y.count) (some_is a x is); hand = g.hand; over = refl; begun = g.begun };
+          sealed = λ x is stops. record { count_is = ap (λ (y : Mark). y.count) (some_same a x is); hand = g.hand; over = refl; begun = g.begun };
           halted = λ halts. absurd (let runs = sealing.phase in cc);
           live = λ runs none going. runs_if (runs_at o m.hart.cpu.count) going;
         };

@@ -1,7 +1,7 @@
 -- After one cycle more of a run epochs and counts are no larger than their number allows.
 use Rattle.std.proofs.Common.{◌≡◌, ℕ, ◌+◌, ◌≤◌, true, Some, None, refl, sym, ◌∙◌, ap, subst, inl, inr, arith}
-use Rattle.thy_base.specs.declared.mark.Mark.{Mark}
-use Rattle.thy_base.specs.Marks.{mark}
+use Rattle.thy_block.specs.declared.mark.Mark.{Mark}
+use Rattle.thy_block.specs.Marks.{mark}
 use Rattle.thy_layout.specs.declared.engine_step.EngineStep.{EngineStep}
 use Rattle.thy_layout.specs.declared.engine_step.EngineStep.TheVariants.{Idle, Copied, PageBlock, StateBlock, TableBlock, Barrier, CommitWritten, Committed as EngineCommitted}
 use Rattle.thy_view.specs.declared.did.Did.{Did}
@@ -10,16 +10,13 @@ use Rattle.thy_view.specs.declared.view.View.{View}
 use Rattle.thy_view.specs.CoreStep.{busier, BootsTo, MovesTo, EngineTo, CoreStep}
 use Rattle.thy_view.specs.Origin.{Origin}
 use Rattle.thy_core_laws.specs.Sound.{IsSmallMark, IsSmall}
+use Rattle.thy_core_laws.proofs.RunLaws.{one_small}
 
 more_mark : (k : ℕ) (m : Mark) → IsSmallMark k m → IsSmallMark (k + 1) m
 more_mark k m h = let e = h.epoch in let c = h.count in record { epoch = omega arith; count = omega arith }
 
 none_is : (k : ℕ) (m : Mark) → None ≡ Some m → IsSmallMark k m
 none_is k m e = absurd (cc)
-
--- the mark that is there
-the_mark : (k : ℕ) (a m : Mark) → Some a ≡ Some m → IsSmallMark k a → IsSmallMark k m
-the_mark k a m e h = let same : a ≡ m = cc in subst (IsSmallMark k) same h
 
 -- a view with the same epoch, count and marks
 kept_small : (k : ℕ) (v next : View) → IsSmall k v
@@ -124,7 +121,7 @@ module _ (o : Origin) (k : ℕ) (v next : View) (h : IsSmall k v) where
         spent = let e : next.spent ≡ 0 = ap (λ w. w.spent) s.becomes in omega arith;
         lap = let e : next.lap ≡ 0 = ap (λ w. w.lap) s.becomes in omega arith;
         done = λ m is. more_mark k m (h.done m (sym (ap (λ w. w.done) s.becomes) ∙ is));
-        sealed = λ m is. the_mark (k + 1) (mark epoch count) m (sym (ap (λ w. w.sealed) s.becomes) ∙ is) sealed_mark;
+        sealed = λ m is. one_small (k + 1) (mark epoch count) m (sym (ap (λ w. w.sealed) s.becomes) ∙ is) sealed_mark;
       }
   small_step (Engine step) s = engine step s.1
   small_step (Committed epoch overlapped) s =

@@ -1,5 +1,5 @@
 -- What a hart's pick finds.
-use Rattle.std.proofs.Common.{◌≡◌, Bool, true, false, ◌&&◌, ◌||◌, not, if◌then◌else◌, Option, Some, None, is_some, refl}
+use Rattle.std.proofs.Common.{◌≡◌, Bool, true, false, ◌&&◌, ◌||◌, not, if◌then◌else◌, Option, Some, None, refl}
 use Rattle.thy_view.specs.declared.did.Stall.{Stall}
 use Rattle.thy_view.specs.declared.did.Stall.TheVariants.{Waiting, Sealing}
 
@@ -35,6 +35,3 @@ clear true false false false true false e = absurd (cc)
 clear true false false false true true e = absurd (cc)
 clear true false false false false true e = absurd (cc)
 
-pub none_is : {A : Type 0} (x : Option A) → is_some x ≡ false → x ≡ None
-none_is None e = refl
-none_is (Some a) e = absurd (cc)

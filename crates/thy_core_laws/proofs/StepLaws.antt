@@ -1,7 +1,7 @@
 -- A cycle that simulates the run, at the turn of its pick, is a step of a machine, and one that failed is a cycle that failed.
 use Rattle.std.proofs.Common.{◌≡◌, ℕ, ◌+◌, true, false, [], Option, Some, None, sym, ◌∙◌, ap, inl, inr, subst, refl}
-use Rattle.thy_base.specs.declared.mark.Mark.{Mark}
-use Rattle.thy_base.specs.Device.{Device}
+use Rattle.thy_block.specs.declared.mark.Mark.{Mark}
+use Rattle.thy_block.specs.Device.{Device}
 use Rattle.thy_isa.specs.Step.{state_with}
 use Rattle.thy_isa.specs.declared.state.CpuState.{CpuState}
 use Rattle.thy_view.specs.declared.view.Phase.{Phase}

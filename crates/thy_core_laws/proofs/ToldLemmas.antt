@@ -1,9 +1,9 @@
 -- What the hart's answer tells of the epoch and of the room.
 use Rattle.std.proofs.Common.{◌≡◌, ◌⊎◌, ℕ, ◌+◌, ◌==◌, ◌≤◌, Bool, true, false, if◌then◌else◌, Option, Some, None, is_some, List, [], length, refl, sym, ◌∙◌, ap, subst, inl, inr, arith}
 use Rattle.std.proofs.lemmas.Bool.{ltb-true}
-use Rattle.thy_base.specs.declared.block.Block.{Block}
-use Rattle.thy_base.specs.declared.cause.EndCause.{EndCause}
-use Rattle.thy_base.specs.declared.cause.EndCause.TheVariants.{Length, Exhausted, Ended}
+use Rattle.thy_block.specs.declared.block.Block.{Block}
+use Rattle.thy_block.specs.declared.cause.EndCause.{EndCause}
+use Rattle.thy_block.specs.declared.cause.EndCause.TheVariants.{Length, Exhausted, Ended}
 use Rattle.thy_epoch.specs.Epoch.{over_after, retired_once, exhausted}
 use Rattle.thy_flat.specs.declared.span.Span.{Span}
 use Rattle.thy_flat.specs.Spans.{head_len, rest_of}
@@ -25,6 +25,7 @@ use Rattle.thy_view.specs.CoreStep.{IsShort}
 use Rattle.thy_view.specs.Turn.{Shortage}
 use Rattle.thy_core_laws.specs.Machine.{short_of}
 use Rattle.thy_core_laws.specs.Sound.{IsFresh}
+use Rattle.thy_core_laws.proofs.EpochLemmas.{two_blocks}
 
 -- an instruction retired, and the epoch counts it
 pub record IsRetired (b : Bool) (old new : HartState) (over : Option EndCause) : Type 0 where
@@ -189,13 +190,6 @@ blocks_some to = by_len ((rest_of to).len == 0)
     by_len true = omega arith
     by_len false = omega arith
 
-blocks_few : (to : Span) → blocks_of to ≤ 2
-blocks_few to = by_len ((rest_of to).len == 0)
-  where
-    by_len : (a : Bool) → (if a then 1 else 2) ≤ 2
-    by_len true = omega arith
-    by_len false = omega arith
-
 reserved-told : (b : Bool) (g : Given) (dirty : ℕ) (h : HartState) (e : Effect) (to : Span) → h.hand ≡ Reserving e to
     → Told (room_answer g.free g.under_way dirty to) b g dirty h (room_reserved g.free g.under_way dirty e to h)
 unfolding room_answer room_reserved
@@ -209,7 +203,7 @@ reserved-told b g dirty h e to is = by_room (is_short g.free dirty to) refl g.un
     by_room true s false w = record {
       epoch = refl;
       short = ap (short_of g.free dirty) is ∙ ap (λ t. if t then Some (shortage g.free dirty (blocks_of to)) else None) s;
-      is_short = record { short = ltb-true _ _ s; some = blocks_some to; most = blocks_few to };
+      is_short = record { short = ltb-true _ _ s; some = blocks_some to; most = two_blocks to };
       idle = w;
     }
     by_room false s way w = record {

@@ -1,8 +1,8 @@
 -- What is left of an instruction, of copies and of promotions, in each phase, and what a call of the scheme leaves of it; and
 -- what a cycle leaves of the dirty lines that does not touch the hart.
 use Rattle.std.proofs.Common.{◌≡◌, ◌≢◌, ℕ, ◌+◌, ◌≤◌, false, Option, Some, None, refl, ap, arith}
-use Rattle.thy_base.specs.declared.cause.EndCause.{EndCause}
-use Rattle.thy_base.specs.Device.{Device}
+use Rattle.thy_block.specs.declared.cause.EndCause.{EndCause}
+use Rattle.thy_block.specs.Device.{Device}
 use Rattle.thy_cache.specs.Contents.{dirty_count}
 use Rattle.thy_hart.specs.HartState.{reserved, has_reserved}
 use Rattle.thy_hart.specs.Moments.{Moment, moves_left}

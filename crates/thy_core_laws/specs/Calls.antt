@@ -1,10 +1,10 @@
 -- Part of the claim.
 -- What the calls of hart and cache leave of the machine, and the machine after each cycle.
 use Rattle.std.specs.Prelude.{◌≡◌, ◌≢◌, ◌⊎◌, ℕ, ◌+◌, ◌-◌, ◌==◌, ◌≤◌, if◌then◌else◌, not, true, false, Bool, Option, Some, None}
-use Rattle.thy_base.specs.declared.cause.EndCause.{EndCause}
-use Rattle.thy_base.specs.declared.cause.EndCause.TheVariants.{Length, Exhausted, Ended}
-use Rattle.thy_base.specs.Device.{Device}
-use Rattle.thy_base.specs.Marks.{mark}
+use Rattle.thy_block.specs.declared.cause.EndCause.{EndCause}
+use Rattle.thy_block.specs.declared.cause.EndCause.TheVariants.{Length, Exhausted, Ended}
+use Rattle.thy_block.specs.Device.{Device}
+use Rattle.thy_block.specs.Marks.{mark}
 use Rattle.thy_cache.specs.declared.line.Flushed.{Flushed}
 use Rattle.thy_cache.specs.declared.line.Flushed.TheVariants.{Clean}
 use Rattle.thy_cache.specs.Contents.{Contents, dirty_count, flushed_from, HasFlushed, CountsFlushed, KeepsSize, KeepsOpen}

@@ -1,8 +1,8 @@
 -- Part of the claim.
 -- What a cycle makes exactly, if it succeeds: which call the actor makes whose turn it is, and what follows from the answer.
 use Rattle.std.specs.Prelude.{◌≡◌, ◌≢◌, ℕ, ◌==◌, Bool, true, false, Option, Some, None}
-use Rattle.thy_base.specs.declared.cause.EndCause.{EndCause}
-use Rattle.thy_base.specs.Device.{Device, drained}
+use Rattle.thy_block.specs.declared.cause.EndCause.{EndCause}
+use Rattle.thy_block.specs.Device.{Device, drained}
 use Rattle.thy_cache.specs.declared.line.Flushed.{Flushed}
 use Rattle.thy_cache.specs.declared.line.Flushed.TheVariants.{Clean}
 use Rattle.thy_cache.specs.Contents.{Contents, dirty_count, victim_of, flushed_from, HasFlushed}

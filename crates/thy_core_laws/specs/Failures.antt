@@ -1,7 +1,7 @@
 -- What a cycle leaves that failed, by what it was to do: over any scheme, from what the call left.
 use Rattle.std.specs.Prelude.{◌≡◌, ℕ, true, false}
-use Rattle.thy_base.specs.declared.mark.Mark.{Mark}
-use Rattle.thy_base.specs.Device.{Device, HasFailed, IsFramed}
+use Rattle.thy_block.specs.declared.mark.Mark.{Mark}
+use Rattle.thy_block.specs.Device.{Device, HasFailed, IsFramed}
 use Rattle.thy_view.specs.declared.did.Did.{Did}
 use Rattle.thy_view.specs.declared.did.Did.TheVariants.{Moved, Flushed, Promoted, NvmDrained}
 use Rattle.thy_view.specs.declared.view.Phase.TheVariants.{Boot, Run}

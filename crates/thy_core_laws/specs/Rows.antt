@@ -1,8 +1,8 @@
 -- What each cycle makes of the machine, by what it did: over any scheme, from what the calls leave.
 use Rattle.std.specs.Prelude.{◌≡◌, ◌≢◌, ℕ, ◌+◌, ◌^◌, ◌<◌, true, false, [], length, Some, None}
-use Rattle.thy_base.specs.declared.cause.EndCause.{EndCause}
-use Rattle.thy_base.specs.declared.mark.Mark.{Mark}
-use Rattle.thy_base.specs.Device.{Device, drained}
+use Rattle.thy_block.specs.declared.cause.EndCause.{EndCause}
+use Rattle.thy_block.specs.declared.mark.Mark.{Mark}
+use Rattle.thy_block.specs.Device.{Device, drained}
 use Rattle.thy_cache.specs.declared.line.Flushed.{Flushed}
 use Rattle.thy_cache.specs.Contents.{Contents, dirty_count}
 use Rattle.thy_hart.specs.declared.hand.HartStep.{HartStep}

@@ -1,10 +1,10 @@
 -- How a run of the machine begins, what power that comes on leads to, and that every cycle decreases the number of cycles
 -- left.
 use Rattle.std.specs.Prelude.{◌≡◌, ℕ, ◌+◌, ◌*◌, ◌≤◌, true, false, List, length, Option}
-use Rattle.thy_base.specs.declared.block.Block.{Block}
-use Rattle.thy_base.specs.declared.nvm.Shape.{Shape}
-use Rattle.thy_base.specs.Device.{Device, fitted}
-use Rattle.thy_base.specs.declared.mix.Pick.{Pick}
+use Rattle.thy_block.specs.declared.block.Block.{Block}
+use Rattle.thy_block.specs.declared.nvm.Shape.{Shape}
+use Rattle.thy_block.specs.Device.{Device, fitted}
+use Rattle.thy_block.specs.declared.mix.Pick.{Pick}
 use Rattle.thy_view.specs.declared.did.Did.{Did}
 use Rattle.thy_view.specs.declared.did.Stall.{Stall}
 use Rattle.thy_view.specs.declared.did.Stepped.{Stepped}

@@ -1,10 +1,10 @@
 -- Part of the claim.
 -- What holds of the machine at every moment of a run.
 use Rattle.std.specs.Prelude.{◌≡◌, ◌≢◌, ℕ, ◌+◌, ◌^◌, ◌<◌, ◌≤◌, ◌==◌, not, true, false, Bool, List, length, Option, Some, None, []}
-use Rattle.thy_base.specs.declared.cause.EndCause.{EndCause}
-use Rattle.thy_base.specs.declared.config.Parameters.{Parameters}
-use Rattle.thy_base.specs.declared.mark.Mark.{Mark}
-use Rattle.thy_base.specs.Device.{Device}
+use Rattle.thy_block.specs.declared.cause.EndCause.{EndCause}
+use Rattle.thy_block.specs.declared.parameters.Parameters.{Parameters}
+use Rattle.thy_block.specs.declared.mark.Mark.{Mark}
+use Rattle.thy_block.specs.Device.{Device}
 use Rattle.thy_cache.specs.Contents.{Contents, dirty_count, IsSized, IsOpenForFlush}
 use Rattle.thy_cache.specs.Flat.{Agrees, AgreesWithAll, ReadsAsStore}
 use Rattle.thy_flat.specs.declared.span.Span.{Span}

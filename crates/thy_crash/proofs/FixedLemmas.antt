@@ -1,10 +1,10 @@
 -- What is fixed at a place, and what is read there, after each call.
 use Rattle.std.proofs.Common.{◌≡◌, ◌≢◌, ℕ, ◌+◌, ◌<◌, List, [], length, refl, sym, ◌∙◌, ap, subst, inl, inr, arith}
 use Rattle.std.proofs.lemmas.Bool.{cases_eq}
-use Rattle.thy_base.specs.declared.block.Block.{Block}
-use Rattle.thy_base.specs.declared.nvm.Write.{Write}
-use Rattle.thy_base.specs.Device.{Device, Crash, block_at, queued_for, applied, newest, drained, settled, written_to}
-use Rattle.thy_base.proofs.DeviceLemmas.{MayLeave-possible, MayLeave-landed, block_at-applied, Contains-newest_over, newest-drained, newest-settled, newest-written_to, newest-written_to_other, length-drained, length-settled, length-written_to}
+use Rattle.thy_block.specs.declared.block.Block.{Block}
+use Rattle.thy_block.specs.declared.nvm.Write.{Write}
+use Rattle.thy_block.specs.Device.{Device, Crash, block_at, queued_for, applied, newest, drained, settled, written_to}
+use Rattle.thy_block.proofs.DeviceLemmas.{MayLeave-possible, MayLeave-landed, block_at-applied, Contains-newest_over, newest-drained, newest-settled, newest-written_to, newest-written_to_other, length-drained, length-settled, length-written_to}
 use Rattle.thy_crash.specs.Fixed.{IsFixed, Reads, ReadsFirst}
 
 -- what is fixed is what a cut leaves

@@ -3,10 +3,10 @@ use Rattle.std.proofs.Common.{◌≡◌, ◌≢◌, ◌⊎◌, ℕ, ◌<◌, ari
 use Rattle.std.proofs.lemmas.Bool.{cases_eq}
 use Rattle.std.proofs.lemmas.List.{length-set, get_or-set_same, get_or-set_other}
 use Rattle.std.proofs.lemmas.List.Elements.{Contains-push, Contains-append_left, Contains-append_right}
-use Rattle.thy_base.specs.declared.block.Block.{Block}
-use Rattle.thy_base.specs.Device.{Device, Crash, IsOneWordApart, HoldsNoMore, HasFailedToWrite, IsCut, IsFramed, zero_block, block_at, possible, applied, newest, settled, with_queued, written_to}
-use Rattle.thy_base.proofs.DeviceLemmas.{block_at-applied, length-applied, MayLeave-possible, MayLeave-elsewhere, possible-with_queued, no_more-written_to, length-settled, length-written_to}
-use Rattle.thy_base.proofs.MadeLemmas.{IsMadeOf-either}
+use Rattle.thy_block.specs.declared.block.Block.{Block}
+use Rattle.thy_block.specs.Device.{Device, Crash, IsOneWordApart, HoldsNoMore, HasFailedToWrite, IsCut, IsFramed, zero_block, block_at, possible, applied, newest, settled, with_queued, written_to}
+use Rattle.thy_block.proofs.DeviceLemmas.{block_at-applied, length-applied, MayLeave-possible, MayLeave-elsewhere, possible-with_queued, no_more-written_to, length-settled, length-written_to}
+use Rattle.thy_block.proofs.MadeLemmas.{IsMadeOf-either}
 use Rattle.thy_crash.specs.Fixed.{IsFixed, IsEither, Reads}
 use Rattle.thy_crash.specs.Saved.{Looking, Stands, IsIssued, next_image, Saved, Kept, Ready, InDoubt, IsKept, IsReady, IsInDoubt, IsSaved, guarded, IsCopy, IsLeft}
 use Rattle.thy_crash.specs.Spares.{Spares}

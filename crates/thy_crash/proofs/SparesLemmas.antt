@@ -1,8 +1,8 @@
 -- What spares places.
 use Rattle.std.proofs.Common.{◌≡◌, ℕ, List, Contains, refl, sym, ◌∙◌, subst, length}
-use Rattle.thy_base.specs.declared.block.Block.{Block}
-use Rattle.thy_base.specs.Device.{Device, HoldsNoMore, HasFailed, HasFailedToWrite, IsFramed, drained, settled, with_queued, written_to}
-use Rattle.thy_base.proofs.DeviceLemmas.{no_more-drained, no_more-settled, no_more-written_to, MayLeave-elsewhere, length-drained, length-settled, length-written_to}
+use Rattle.thy_block.specs.declared.block.Block.{Block}
+use Rattle.thy_block.specs.Device.{Device, HoldsNoMore, HasFailed, HasFailedToWrite, IsFramed, drained, settled, with_queued, written_to}
+use Rattle.thy_block.proofs.DeviceLemmas.{no_more-drained, no_more-settled, no_more-written_to, MayLeave-elsewhere, length-drained, length-settled, length-written_to}
 use Rattle.thy_crash.specs.Spares.{Spares}
 
 pub Spares-same : (places : List ℕ) (old new : Device) → new ≡ old → Spares places old new

@@ -1,7 +1,7 @@
 -- What a power cut leaves at one place, and what a read gives there.
 use Rattle.std.specs.Prelude.{◌≡◌, ◌⊎◌, ℕ, ◌+◌, ◌<◌, length}
-use Rattle.thy_base.specs.declared.block.Block.{Block}
-use Rattle.thy_base.specs.Device.{Device, MayLeave, newest}
+use Rattle.thy_block.specs.declared.block.Block.{Block}
+use Rattle.thy_block.specs.Device.{Device, MayLeave, newest}
 
 -- the only block that a cut may leave at a place
 pub record IsFixed (n : Device) (x : ℕ) (b : Block) : Type 0 where

@@ -1,8 +1,8 @@
 -- What power cuts leave, for every layout of checkpoints.
 use Rattle.std.specs.Prelude.{◌≡◌, ◌≢◌, ◌⊎◌, ℕ, ◌+◌, ◌<◌, true, List, [], Contains, length}
-use Rattle.thy_base.specs.declared.block.Block.{Block}
-use Rattle.thy_base.specs.Device.{Device, MayLeave, Crash, IsOneWordApart, possible, block_at, newest, drained, settled, with_queued, written_to, IsCut, IsFramed, HoldsNoMore, HasFailed, HasFailedToWrite}
-use Rattle.thy_base.specs.Places.{commit_place}
+use Rattle.thy_block.specs.declared.block.Block.{Block}
+use Rattle.thy_block.specs.Device.{Device, MayLeave, Crash, IsOneWordApart, possible, block_at, newest, drained, settled, with_queued, written_to, IsCut, IsFramed, HoldsNoMore, HasFailed, HasFailedToWrite}
+use Rattle.thy_block.specs.Places.{commit_place}
 use Rattle.thy_crash.specs.Fixed.{IsFixed, Reads, ReadsFirst}
 use Rattle.thy_crash.specs.Saved.{Looking, IsIssued, next_image, Saved, Kept, Ready, InDoubt, IsSaved, guarded, IsLeft}
 use Rattle.thy_crash.specs.Spares.{Spares}

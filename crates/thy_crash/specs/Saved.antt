@@ -1,9 +1,9 @@
 -- A checkpoint is a whole image, the one to be found after a power cut. Some of its places, those looked at, determine
 -- what it means; the commit block, place 1, says which image it is.
 use Rattle.std.specs.Prelude.{◌≡◌, ◌≢◌, ◌⊎◌, ℕ, List, ◌∷◌, ◌++◌, Contains, length, slice_set}
-use Rattle.thy_base.specs.declared.block.Block.{Block}
-use Rattle.thy_base.specs.Device.{Device, block_at, applied}
-use Rattle.thy_base.specs.Places.{commit_place}
+use Rattle.thy_block.specs.declared.block.Block.{Block}
+use Rattle.thy_block.specs.Device.{Device, block_at, applied}
+use Rattle.thy_block.specs.Places.{commit_place}
 use Rattle.thy_crash.specs.Fixed.{IsFixed, IsEither, Reads}
 
 -- which places of an image determine what it means

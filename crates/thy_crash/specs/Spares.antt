@@ -1,7 +1,7 @@
 -- What calls that leave some places alone may do to a device.
 use Rattle.std.specs.Prelude.{◌≡◌, ℕ, List, Contains, length}
-use Rattle.thy_base.specs.declared.block.Block.{Block}
-use Rattle.thy_base.specs.Device.{Device, MayLeave}
+use Rattle.thy_block.specs.declared.block.Block.{Block}
+use Rattle.thy_block.specs.Device.{Device, MayLeave}
 
 -- a device is as long as it was, and at these places a cut may leave nothing that it could not leave before
 pub record Spares (places : List ℕ) (old new : Device) : Type 0 where

@@ -5,7 +5,7 @@
 //! controller must show that its other writes spare the guarded places, and that two commit blocks in a row differ in one
 //! word. `a_cut_leaves_a_copy` is the first law.
 //!
-//! Open specs/Saved.antt first, then specs/Laws.antt and src/laws.rt. It stands on thy_base alone; on it stand
+//! Open specs/Saved.antt first, then specs/Laws.antt and src/laws.rt. It stands on thy_block alone; on it stand
 //! thy_record, thy_control and thy_protocol, and the engine, the boot and the scheme above them.
 #![tactic(auto)]
 

@@ -2,10 +2,10 @@
 use Rattle.std.proofs.Common.{◌≡◌, ℕ, ◌+◌, ◌-◌, ◌*◌, ◌<◌, ◌≤◌, min, nat_lt, Bool, true, false, if◌then◌else◌, List, [], ◌∷◌, ◌++◌, length, take, drop, replicate, slice_set, sym, ◌∙◌, ap, arith}
 use Rattle.std.proofs.lemmas.List.{take-append-drop, length-drop, length-replicate}
 use Rattle.std.proofs.lemmas.Grind.{common_steps}
-use Rattle.thy_base.specs.declared.block.Block.{Block}
-use Rattle.thy_base.specs.declared.nvm.Write.{Write}
-use Rattle.thy_base.specs.Device.{zero_block, block_at, applied, newest, surplus, written_to, write_of, drained as drained_device}
-use Rattle.thy_base.proofs.DeviceLemmas.{length-applied, applied-append, block_at-applied}
+use Rattle.thy_block.specs.declared.block.Block.{Block}
+use Rattle.thy_block.specs.declared.nvm.Write.{Write}
+use Rattle.thy_block.specs.Device.{zero_block, block_at, applied, newest, surplus, written_to, write_of, drained as drained_device}
+use Rattle.thy_block.proofs.DeviceLemmas.{length-applied, applied-append, block_at-applied}
 use Rattle.thy_ring.specs.Held.{Held, made, device_of, as_device, unqueued}
 use Rattle.thy_ring.specs.Merged.{merged, is_marked}
 use Rattle.thy_ring.proofs.MergedLemmas.{length-merged, block_at-merged, merged-all, merged-none, merged-write}

@@ -1,9 +1,9 @@
 -- A loop that writes draws over bytes, and the draws of each block.
 use Rattle.std.proofs.Common.{◌≡◌, ℕ, zero, suc, ◌+◌, ◌*◌, ◌<◌, ◌%◌, List, [], ◌∷◌, ◌++◌, length, take, drop, replicate, slice_set, refl, sym, ◌∙◌, ap, arith}
 use Rattle.std.proofs.lemmas.List.{append_assoc, take_more_set, drop-set-lt, at_drop_more}
-use Rattle.thy_base.specs.declared.block.Block.{Block}
-use Rattle.thy_base.specs.Device.{block_at}
-use Rattle.thy_base.specs.Lcg.{lcg_next, lcg_draw}
+use Rattle.thy_block.specs.declared.block.Block.{Block}
+use Rattle.thy_block.specs.Device.{block_at}
+use Rattle.thy_block.specs.Lcg.{lcg_next, lcg_draw}
 use Rattle.thy_dram.specs.Draws.{bytes_over, after_bytes, drawn_block, after_block, blocks_over}
 use Rattle.thy_dram.specs.Jumps.{after_draws}
 use Rattle.thy_dram.proofs.JumpLemmas.{after_draws-none, after_draws-more, after_draws-add}

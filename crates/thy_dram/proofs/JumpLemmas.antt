@@ -3,7 +3,7 @@ use Rattle.std.proofs.Common.{◌≡◌, ℕ, zero, suc, ◌+◌, ◌-◌, ◌*�
 use Rattle.std.proofs.Math.Nat.{mod-add-mod}
 use Rattle.std.proofs.lemmas.Bool.{cases_eq, eq-eqb, ne_eqb}
 use Rattle.std.proofs.lemmas.Nat.{mul-mod_first, mul-mod_second}
-use Rattle.thy_base.specs.Lcg.{lcg_next}
+use Rattle.thy_block.specs.Lcg.{lcg_next}
 use Rattle.thy_dram.specs.declared.jumps.Jump.{Jump}
 use Rattle.thy_dram.specs.Jumps.{after_draws, landing, over_a_block, twice, doublings, block_powers, after_bit, after_bits}
 

@@ -1,8 +1,8 @@
 -- Part of the claim.
 -- What a DRAM is to its callers: a list of blocks, and how many writes are queued.
 use Rattle.std.specs.Prelude.{ℕ, ◌+◌, ◌-◌, min, List, replicate, slice_set}
-use Rattle.thy_base.specs.declared.block.Block.{Block}
-use Rattle.thy_base.specs.Device.{zero_block}
+use Rattle.thy_block.specs.declared.block.Block.{Block}
+use Rattle.thy_block.specs.Device.{zero_block}
 use Rattle.thy_dram.specs.Draws.{blocks_over}
 
 pub record Contents : Type 0 where

@@ -1,8 +1,8 @@
 -- Part of the claim.
 -- What a loss of power leaves in memory that forgets: bytes drawn from a seed.
 use Rattle.std.specs.Prelude.{ℕ, ◌%◌, List, [], ◌∷◌, replicate}
-use Rattle.thy_base.specs.declared.block.Block.{Block}
-use Rattle.thy_base.specs.Lcg.{lcg_next, lcg_draw}
+use Rattle.thy_block.specs.declared.block.Block.{Block}
+use Rattle.thy_block.specs.Lcg.{lcg_next, lcg_draw}
 
 -- each byte is written over by the low 8 bits of one draw
 unfoldable pub bytes_over : ℕ → List ℕ → List ℕ

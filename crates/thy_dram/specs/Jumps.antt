@@ -1,6 +1,6 @@
 -- Jumps of a generator over many draws.
 use Rattle.std.specs.Prelude.{ℕ, zero, suc, ◌+◌, ◌*◌, ◌/◌, ◌%◌, ◌^◌, ◌==◌, if◌then◌else◌, List, [], ◌∷◌}
-use Rattle.thy_base.specs.Lcg.{lcg_next}
+use Rattle.thy_block.specs.Lcg.{lcg_next}
 use Rattle.thy_dram.specs.declared.jumps.Jump.{Jump}
 
 -- the state after n draws

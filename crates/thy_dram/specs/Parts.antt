@@ -1,7 +1,7 @@
 -- How a DRAM lies in memory: a ring, a mark for each of its blocks that was written since power was lost last, and the pick of
 -- that loss. Of the blocks without a mark nothing is held: they are drawn when they are read.
 use Rattle.std.specs.Prelude.{◌≡◌, ℕ, ◌<◌, Bool, List, length}
-use Rattle.thy_base.specs.Device.{applied}
+use Rattle.thy_block.specs.Device.{applied}
 use Rattle.thy_ring.specs.Held.{Held}
 use Rattle.thy_ring.specs.Merged.{merged}
 use Rattle.thy_dram.specs.declared.jumps.Jump.{Jump}

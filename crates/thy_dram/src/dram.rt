@@ -1,13 +1,13 @@
 //! The memory.
 ghost use Rattle.std.specs.Prelude.{◌≡◌, ◌<◌, ◌≤◌, length, IfOk};
-ghost use Rattle.thy_base.specs.Device.{block_at};
+ghost use Rattle.thy_block.specs.Device.{block_at};
 ghost use Rattle.thy_dram.specs.Contents.{fresh, written, drained, lost};
 
 use crate::draws::drawn_at;
 use crate::jumps::{Jump, block_powers};
 use std::alloc::{AllocError, Global};
 use std::marker::Model;
-use thy_base::Block;
+use thy_block::Block;
 use thy_ring::Ring;
 
 /// A volatile memory whose writes are queued before they land. Only `new` allocates, and no other

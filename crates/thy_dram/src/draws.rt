@@ -4,7 +4,7 @@ ghost use Rattle.thy_dram.specs.Draws.{bytes_over, after_bytes, drawn_block, aft
 ghost use Rattle.thy_dram.specs.Jumps.{after_draws, block_powers};
 
 use crate::jumps::{Jump, state_at};
-use thy_base::{BLOCK_SIZE, Block, Lcg};
+use thy_block::{BLOCK_SIZE, Block, Lcg};
 
 /// Writes over each byte the low 8 bits of one draw.
 #[tactic(auto, unfolding(crate::specs::Draws::bytes_over, crate::specs::Draws::after_bytes))]

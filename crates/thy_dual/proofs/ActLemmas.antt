@@ -1,7 +1,7 @@
 -- What a copy, and the write of a block of a page, make of controller and NVM, as the position that is next.
 use Rattle.std.proofs.Common.{◌≡◌, ℕ, true, false, is_some, Option, Some, None, refl, sym, ◌∙◌, ap, subst, inl, inr}
-use Rattle.thy_base.specs.Device.{Device, written_to, HasFailedToWrite}
-use Rattle.thy_base.proofs.DeviceLemmas.{no_more-with_queued}
+use Rattle.thy_block.specs.Device.{Device, written_to, HasFailedToWrite}
+use Rattle.thy_block.proofs.DeviceLemmas.{no_more-with_queued}
 use Rattle.thy_places.specs.declared.place.Place.{Place}
 use Rattle.thy_places.specs.Places.{in_dram, number_of}
 use Rattle.thy_place.specs.Devices.{devices_of}

@@ -1,10 +1,10 @@
 -- What the writes of the body and the stores act, from what the controller's calls ensure.
 use Rattle.std.proofs.Common.{◌≡◌, ℕ, Bool, true, false, Option, None, is_some, Result, Ok, Err, IsErr, OnOk, OnErr, sym, ◌∙◌, ap, subst}
-use Rattle.thy_base.specs.declared.block.Block.{Block}
-use Rattle.thy_base.specs.declared.nvm.NvmError.{NvmError}
-use Rattle.thy_base.specs.declared.store.Stored.{Stored}
-use Rattle.thy_base.specs.Counts.{Rose}
-use Rattle.thy_base.specs.Device.{Device, IsFramed, CountsFault}
+use Rattle.thy_block.specs.declared.block.Block.{Block}
+use Rattle.thy_block.specs.declared.nvm.NvmError.{NvmError}
+use Rattle.thy_block.specs.declared.store.Stored.{Stored}
+use Rattle.thy_block.specs.Counts.{Rose}
+use Rattle.thy_block.specs.Device.{Device, IsFramed, CountsFault}
 use Rattle.thy_view.specs.Action.{Action, FailsTo}
 use Rattle.thy_control.specs.Copies.{next_copy, after_next_copy, devices_after_copy}
 use Rattle.thy_cell.specs.declared.cell.Cell.{Cell}

@@ -1,10 +1,10 @@
 -- Blocks of memory, as they were stored last and as they were committed.
 use Rattle.std.proofs.Common.{◌≡◌, ℕ, ◌<◌, length, Result, Ok, Err, IfOk, ◌∙◌, arith}
 use Rattle.std.proofs.lemmas.List.FromFn.{length-map-range_with_len, get_or-map-range_with_len}
-use Rattle.thy_base.specs.declared.block.Block.{Block}
-use Rattle.thy_base.specs.declared.nvm.NvmError.{NvmError}
-use Rattle.thy_base.specs.Device.{Device, block_at, zero_block}
-use Rattle.thy_base.specs.Geometry.{memory_blocks}
+use Rattle.thy_block.specs.declared.block.Block.{Block}
+use Rattle.thy_block.specs.declared.nvm.NvmError.{NvmError}
+use Rattle.thy_block.specs.Device.{Device, block_at, zero_block}
+use Rattle.thy_block.specs.Geometry.{memory_blocks}
 use Rattle.thy_control.specs.State.{State, penult_of, work_of}
 use Rattle.thy_recover.specs.Filling.{loads}
 use Rattle.thy_dual_laws.specs.Design.{penults}

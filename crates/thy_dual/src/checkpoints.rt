@@ -7,7 +7,7 @@ ghost use Rattle.thy_dual_laws.specs.Design.{action_next, written_next};
 ghost use Rattle.thy_engine.specs.Progress.{Acts};
 
 use crate::fills::DualTables;
-use thy_base::{Block, Geometry, Nvm, NvmError};
+use thy_block::{Block, Geometry, Nvm, NvmError};
 use thy_control::Control;
 use thy_engine::Checkpoints;
 use thy_layout::EngineStep;

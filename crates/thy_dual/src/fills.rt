@@ -1,5 +1,5 @@
 //! What the boot fills: images of both versions, read into the controller.
-use thy_base::{Block, Geometry, Nvm, NvmError, PAGE_BLOCKS};
+use thy_block::{Block, Geometry, Nvm, NvmError, PAGE_BLOCKS};
 use thy_boot::Fills;
 use thy_control::Control;
 use thy_isa::MachState;

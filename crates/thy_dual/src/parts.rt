@@ -2,7 +2,7 @@
 
 use crate::fills::DualTables;
 use std::alloc::{AllocError, Global};
-use thy_base::{Block, Geometry, Nvm, NvmError, Stored};
+use thy_block::{Block, Geometry, Nvm, NvmError, Stored};
 use thy_control::Control;
 use thy_dram::Dram;
 use thy_engine::EngineStage;

@@ -2,26 +2,21 @@
 use Rattle.std.proofs.Common.{◌≡◌, ◌≢◌, ℕ, ◌+◌, ◌-◌, ◌*◌, ◌<◌, ◌≤◌, nat_lt, if◌then◌else◌, Bool, true, false, List, length, Option, Some, None, refl, sym, ◌∙◌, ap, subst, inl, inr, arith}
 use Rattle.std.proofs.lemmas.Bool.{cases_eq}
 use Rattle.std.proofs.lemmas.List.FromFn.{length-map-range_with_len}
-use Rattle.thy_base.specs.declared.block.Block.{Block}
-use Rattle.thy_base.specs.declared.config.Parameters.{Parameters}
-use Rattle.thy_base.specs.Device.{Device, written_to}
-use Rattle.thy_base.specs.Geometry.{memory_blocks}
-use Rattle.thy_base.proofs.DeviceLemmas.{length-written_to}
-use Rattle.thy_base.proofs.RangeLemmas.{btt_least}
+use Rattle.thy_block.specs.declared.block.Block.{Block}
+use Rattle.thy_block.specs.declared.parameters.Parameters.{Parameters}
+use Rattle.thy_block.specs.Device.{Device, written_to}
+use Rattle.thy_block.specs.Geometry.{memory_blocks}
+use Rattle.thy_block.proofs.DeviceLemmas.{length-written_to}
+use Rattle.thy_block.proofs.RangeLemmas.{btt_least}
 use Rattle.thy_places.specs.declared.place.Place.{Place}
 use Rattle.thy_places.specs.Places.{in_dram, number_of, image_blocks, first_home}
 use Rattle.thy_place.specs.Devices.{devices_of}
 use Rattle.thy_table.specs.Listing.{free_count, mapped}
-use Rattle.thy_table.specs.declared.block_entry.Version.{Version}
-use Rattle.thy_table.specs.declared.block_entry.Version.TheVariants.{Out, Alt}
-use Rattle.thy_table.specs.declared.page_entry.PttEntry.{PttEntry}
-use Rattle.thy_table.specs.declared.page_entry.Site.{Site}
-use Rattle.thy_table.specs.declared.page_entry.Site.TheVariants.{AtHome, AtAlternate}
+use Rattle.thy_table.specs.declared.block_entry.Version.TheVariants.{Out}
 use Rattle.thy_cell.specs.declared.cell.Cell.{Cell}
-use Rattle.thy_cell.specs.Cells.{Seat, seat_of, frame_at, placed, penult, target, last}
+use Rattle.thy_cell.specs.Cells.{seat_of, frame_at, penult, target, last}
 use Rattle.thy_cell.specs.Checkpoint.{page_issued}
 use Rattle.thy_cell.specs.Rules.{after_copy}
-use Rattle.thy_cell.specs.Sound.{IsSoundPage}
 use Rattle.thy_layout.specs.declared.layout_version.LayoutVersion.{LayoutVersion}
 use Rattle.thy_layout.specs.declared.layout_version.LayoutVersion.TheVariants.{VersionOne, VersionTwo}
 use Rattle.thy_record.specs.Images.{slot_in}
@@ -46,11 +41,11 @@ use Rattle.thy_control.specs.Versions.{KeepsAll}
 use Rattle.thy_control.proofs.StateLemmas.{IsPlace-target, IsWithin-cell_of}
 use Rattle.thy_control.proofs.CommitLemmas.{Commits-committed}
 use Rattle.thy_control.proofs.CommittedLemmas.{KeepsCommitted-sealed}
-use Rattle.thy_control.proofs.CopyLemmas.{IsNext, IsNext-entry, listed-pending, KeepsAll-next}
+use Rattle.thy_control.proofs.CopyLemmas.{IsNext, IsNext-entry, listed-pending, KeepsAll-next, versions_apart}
 use Rattle.thy_control.proofs.FreesLemmas.{half_free}
 use Rattle.thy_control.proofs.KeepLemmas.{behind_slots}
 use Rattle.thy_control.proofs.SealStateLemmas.{HasNoWork-sealed, HasNoWork-committed, free-sealed, free-committed, CommitsTables-committed, tables0-sealed, AreSoundTables-sealed, Seals-sealed}
-use Rattle.thy_control.proofs.IssueLemmas.{IsDue, IsDue-entry, listed-busy, busy-framed, KeepsNext, KeepsNext-write}
+use Rattle.thy_control.proofs.IssueLemmas.{IsDue, IsDue-entry, listed-busy, busy-framed, KeepsNext, KeepsNext-write, busy-old, sites_apart}
 use Rattle.thy_control.proofs.LeftLemmas.{HasNoneLeft-copied}
 use Rattle.thy_control.proofs.MarkLemmas.{IsWholeState-none, IsBareState-none}
 use Rattle.thy_control.proofs.TablesLemmas.{Owns-cell_of, owned-penult, owned-target, owned-apart, AreTablesOf-committed}
@@ -354,21 +349,6 @@ body_whole epoch s n from moment none =
 
 -- ---- the place of a position
 
--- two checkpoints that say other things of a block have it at two places
-versions_two : (v w : Version) (p q : Site) (x : Seat) → v ≢ w → p ≡ AtHome → q ≡ AtHome → placed v p x ≢ placed w q x
-versions_two Out Out p q x other hp hq e = other refl
-versions_two Alt Alt p q x other hp hq e = other refl
-versions_two Out Alt AtHome q x other hp hq e = cc
-versions_two Alt Out p AtHome x other hp hq e = cc
-versions_two v w p q x other hp hq e = cc
-
-sites_two : (v w : Version) (p q : Site) (x : Seat) → w ≡ Out → p ≢ q → placed v p x ≢ placed w q x
-sites_two v Alt p q x out other e = cc
-sites_two Alt Out p AtHome x out other e = cc
-sites_two Out Out AtHome AtHome x out other e = other refl
-sites_two Out Out AtAlternate AtAlternate x out other e = other refl
-sites_two v w p q x out other e = cc
-
 -- at the place where a block is to be, the committed checkpoint has none
 record IsMoving (s : State) (b : ℕ) : Type 0 where
   inside : b < memory_blocks s.p
@@ -380,24 +360,17 @@ moving_copied s t b next =
     let sound = t.cells b next.inside in
     record {
       inside = next.inside;
-      moves = versions_two c.entry.v0 c.entry.v1 c.page.place c.page.target (seat_of c) (sound.pending_moves next.pending) (sound.pending_still next.pending) (sound.pending_home next.pending);
+      moves = versions_apart c.entry.v0 c.entry.v1 c.page.place c.page.target (seat_of c) (sound.pending_moves next.pending) (sound.pending_still next.pending) (sound.pending_home next.pending);
     }
-
--- a page that is being written was there before the seal
-busy_old : (u : Bool) (page : PttEntry) → IsSoundPage u page → page.busy ≡ true → page.fresh ≡ false
-busy_old u page s busy = by_fresh page.fresh refl where
-  by_fresh : (f : Bool) → page.fresh ≡ f → f ≡ false
-  by_fresh false e = refl
-  by_fresh true e = absurd (s.busy_moves busy (s.fresh_place e ∙ sym (s.fresh_target e)))
 
 moving_issued : (s : State) → AreSoundTables s → (b : ℕ) → IsDue s b → IsMoving s b
 moving_issued s t b due =
     let c : Cell = cell_of s b in
     let sound = t.cells b due.inside in
-    let out : c.entry.v1 ≡ Out = sound.framed_out (busy-framed s.under_way c.page sound.of_page due.busy) (busy_old s.under_way c.page sound.of_page due.busy) in
+    let out : c.entry.v1 ≡ Out = sound.framed_out (busy-framed s.under_way c.page sound.of_page due.busy) (busy-old s.under_way c.page sound.of_page due.busy) in
     record {
       inside = due.inside;
-      moves = sites_two c.entry.v0 c.entry.v1 c.page.place c.page.target (seat_of c) out (sound.of_page.busy_moves due.busy);
+      moves = sites_apart c.entry.v0 c.entry.v1 c.page.place c.page.target (seat_of c) out (sound.of_page.busy_moves due.busy);
     }
 
 moving_by : (s : State) → AreSoundTables s → (i j : Option ℕ) (k : ℕ) → next_copy s ≡ i → next_page s ≡ j → position_by s i j ≡ Some k → IsMoving s (block_by s i j)

@@ -1,8 +1,8 @@
 -- Every position that is written leads to the next one.
 use Rattle.std.proofs.Common.{◌≡◌, ◌⊎◌, ℕ, ◌+◌, ◌*◌, ◌≤◌, nat_lt, Bool, true, false, if◌then◌else◌, [], replicate, Option, Some, None, refl, sym, ◌∙◌, ap, subst, inl, inr, arith}
 use Rattle.std.proofs.lemmas.List.{length-replicate}
-use Rattle.thy_base.specs.Device.{Device, zero_block}
-use Rattle.thy_base.specs.Store.{page_of}
+use Rattle.thy_block.specs.Device.{Device, zero_block}
+use Rattle.thy_block.specs.Store.{page_of}
 use Rattle.thy_places.specs.declared.place.Place.{Place}
 use Rattle.thy_places.specs.Places.{in_dram, number_of, image_blocks}
 use Rattle.thy_dram.specs.Contents.{Contents}

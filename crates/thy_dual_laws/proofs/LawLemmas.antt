@@ -1,12 +1,12 @@
 -- What holds of the scheme of both tables beside what holds of every scheme of parts, and what a recovery writes.
 use Rattle.std.proofs.Common.{◌≡◌, ◌⊎◌, ℕ, ◌+◌, ◌<◌, ◌^◌, Bool, true, false, Option, Some, refl, sym, ◌∙◌, ap, subst, inl, inr, arith, ◌*◌, ◌≤◌, ◌&&◌, max, not, if◌then◌else◌}
-use Rattle.thy_base.specs.declared.config.Parameters.{Parameters}
-use Rattle.thy_base.specs.declared.mark.Mark.{Mark}
-use Rattle.thy_base.specs.Device.{Device, block_at}
-use Rattle.thy_base.proofs.CrashLemmas.{Crash-image}
-use Rattle.thy_base.proofs.BasicLemmas.{some_same}
-use Rattle.thy_base.specs.Geometry.{memory_blocks}
-use Rattle.thy_base.proofs.RangeLemmas.{harts_most}
+use Rattle.thy_block.specs.declared.parameters.Parameters.{Parameters}
+use Rattle.thy_block.specs.declared.mark.Mark.{Mark}
+use Rattle.thy_block.specs.Device.{Device, block_at}
+use Rattle.thy_block.proofs.CrashLemmas.{Crash-image}
+use Rattle.thy_block.proofs.BasicLemmas.{some_same}
+use Rattle.thy_block.specs.Geometry.{memory_blocks}
+use Rattle.thy_block.proofs.RangeLemmas.{harts_most}
 use Rattle.thy_crash.specs.Fixed.{IsFixed}
 use Rattle.thy_crash.proofs.FixedLemmas.{block_at-fixed}
 use Rattle.thy_places.specs.Places.{slot_blocks, slot_place}

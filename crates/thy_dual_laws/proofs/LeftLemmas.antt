@@ -3,10 +3,10 @@ use Rattle.std.proofs.Common.{is_none, ◌≡◌, ℕ, ◌-◌, ◌*◌, ◌≤�
 use Rattle.std.specs.List.{count_by, sum_by}
 use Rattle.std.proofs.lemmas.Bool.{ltb-false}
 use Rattle.std.proofs.lemmas.List.Sums.{sum_by-cons, sum_by-le, count_by-le-length}
-use Rattle.thy_base.specs.Device.{Device}
-use Rattle.thy_base.specs.declared.config.Parameters.{Parameters}
-use Rattle.thy_base.specs.Geometry.{memory_blocks}
-use Rattle.thy_base.specs.Store.{page_of}
+use Rattle.thy_block.specs.Device.{Device}
+use Rattle.thy_block.specs.declared.parameters.Parameters.{Parameters}
+use Rattle.thy_block.specs.Geometry.{memory_blocks}
+use Rattle.thy_block.specs.Store.{page_of}
 use Rattle.thy_table.specs.Listing.{free_count, passes, entry_at, place_of}
 use Rattle.thy_table.proofs.IndexLemmas.{one_if, lists-key}
 use Rattle.thy_table.specs.declared.block_entry.BttEntry.{BttEntry}

@@ -1,9 +1,9 @@
 -- What a merge, a promotion and a drain of the DRAM make of the counts, and of the DRAM's queue.
 use Rattle.std.proofs.Common.{◌≡◌, ℕ, ◌+◌, ◌<◌, ◌≤◌, Bool, true, false, length, is_none, refl, ap, inl, inr, arith, Option, Some, None}
 use Rattle.std.proofs.lemmas.List.Sums.{sum_by-set}
-use Rattle.thy_base.specs.Device.{Device, block_at}
+use Rattle.thy_block.specs.Device.{Device, block_at}
 use Rattle.thy_places.specs.Places.{number_of}
-use Rattle.thy_base.specs.Store.{page_of}
+use Rattle.thy_block.specs.Store.{page_of}
 use Rattle.thy_place.specs.Devices.{devices_of, read_at}
 use Rattle.thy_table.specs.Listing.{Listing, entry_at, free_count, passes, with_entry}
 use Rattle.thy_table.proofs.IndexLemmas.{one_if}

@@ -1,8 +1,8 @@
 -- A merge and a promotion keep every version, and the checkpoints.
 use Rattle.std.proofs.Common.{◌≡◌, ℕ, zero, suc, ◌+◌, ◌<◌, ◌≤◌, ◌&&◌, nat_lt, if◌then◌else◌, Bool, true, false, Option, Some, None, refl, sym, ◌∙◌, ap, subst, arith}
 use Rattle.std.proofs.lemmas.Bool.{ltb-true}
-use Rattle.thy_base.specs.Device.{Device}
-use Rattle.thy_base.specs.Store.{page_of}
+use Rattle.thy_block.specs.Device.{Device}
+use Rattle.thy_block.specs.Store.{page_of}
 use Rattle.thy_places.specs.Places.{image_blocks}
 use Rattle.thy_table.specs.Listing.{entry_at, free_count, lists, mapped, passes}
 use Rattle.thy_table.proofs.ListingLaws.{IsListing-set, IsListing-with, place_of-lists}

@@ -4,14 +4,14 @@ use Rattle.std.specs.List.{range_with_len}
 use Rattle.std.proofs.lemmas.Bool.{ltb-true, cases_Bool}
 use Rattle.std.proofs.lemmas.List.{length-map, get_or-map, ext_get_or}
 use Rattle.std.proofs.lemmas.List.FromFn.{length-range_with_len, get_or-map-range_with_len}
-use Rattle.thy_base.specs.declared.block.Block.{Block}
+use Rattle.thy_block.specs.declared.block.Block.{Block}
 use Rattle.thy_layout.specs.declared.layout_version.LayoutVersion.{LayoutVersion}
 use Rattle.thy_layout.specs.declared.layout_version.LayoutVersion.TheVariants.{VersionTwo}
 use Rattle.thy_places.specs.declared.place.Place.{Place}
-use Rattle.thy_base.specs.Device.{Device, block_at, newest, zero_block}
-use Rattle.thy_base.specs.Geometry.{memory_blocks, IsInRange}
+use Rattle.thy_block.specs.Device.{Device, block_at, newest, zero_block}
+use Rattle.thy_block.specs.Geometry.{memory_blocks, IsInRange}
 use Rattle.thy_places.specs.Places.{number_of, image_blocks}
-use Rattle.thy_base.proofs.DeviceLemmas.{newest-empty}
+use Rattle.thy_block.proofs.DeviceLemmas.{newest-empty}
 use Rattle.thy_layout.specs.Layout.{blocks_at}
 use Rattle.thy_record.specs.Images.{memory_numbers, slot_in}
 use Rattle.thy_record.specs.Tables.{place_of as place_in, Tables, IsTables}
@@ -31,7 +31,7 @@ use Rattle.thy_control.proofs.TablesLemmas.{AreTablesOf-committed}
 use Rattle.thy_control.proofs.KeepLemmas.{placed-in_nvm}
 use Rattle.thy_recover.specs.Filling.{loads, IsEmpty, filling_dual}
 use Rattle.thy_recover.proofs.WorkLemmas.{loads-are}
-use Rattle.thy_base.specs.declared.config.Parameters.{Parameters}
+use Rattle.thy_block.specs.declared.parameters.Parameters.{Parameters}
 use Rattle.thy_cell.specs.BetweenCheckpoints.{NewIsSound}
 use Rattle.thy_dram.specs.Contents.{Contents}
 use Rattle.thy_isa.specs.Step.{State as Plain}

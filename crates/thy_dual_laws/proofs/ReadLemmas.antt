@@ -1,11 +1,11 @@
 -- What is read of every block over a device that reads the same at memory's places.
 use Rattle.std.proofs.Common.{◌≡◌, ℕ, ◌<◌, map, ◌∙◌, ap, Bool, true, false, if◌then◌else◌, refl, sym, arith}
 use Rattle.std.specs.List.{range_with_len}
-use Rattle.thy_base.specs.declared.block.Block.{Block}
-use Rattle.thy_base.specs.declared.config.Parameters.{Parameters}
-use Rattle.thy_base.specs.Geometry.{memory_blocks}
-use Rattle.thy_base.proofs.DeviceLemmas.{map-agree, newest-written_to_other}
-use Rattle.thy_base.specs.Device.{Device, block_at, newest, written_to}
+use Rattle.thy_block.specs.declared.block.Block.{Block}
+use Rattle.thy_block.specs.declared.parameters.Parameters.{Parameters}
+use Rattle.thy_block.specs.Geometry.{memory_blocks}
+use Rattle.thy_block.proofs.DeviceLemmas.{map-agree, newest-written_to_other}
+use Rattle.thy_block.specs.Device.{Device, block_at, newest, written_to}
 use Rattle.thy_places.specs.declared.place.Place.{Place}
 use Rattle.thy_places.specs.Places.{IsPlace, in_dram, number_of, blocks_one, IsApart}
 use Rattle.thy_places.proofs.PlaceLemmas.{between_slots}

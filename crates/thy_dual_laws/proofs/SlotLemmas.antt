@@ -5,15 +5,15 @@ use Rattle.std.proofs.lemmas.List.FromFn.{length-map-range_with_len, get_or-map-
 use Rattle.std.specs.List.{range_with_len}
 use Rattle.std.proofs.lemmas.Bool.{cases_lt, lt-ltb, le-ltb}
 use Rattle.std.proofs.lemmas.List.Elements.{All-get_or, Contains-append_cases}
-use Rattle.thy_base.specs.declared.block.Block.{Block}
-use Rattle.thy_base.specs.Device.{Device, zero_block, block_at, newest}
-use Rattle.thy_base.specs.Geometry.{memory_blocks}
-use Rattle.thy_base.specs.declared.config.Parameters.{Parameters}
-use Rattle.thy_base.specs.Blocks.{block_bytes}
-use Rattle.thy_base.proofs.BlockLemmas.{block_bytes-long}
-use Rattle.thy_base.proofs.WrittenLemmas.{written-start}
-use Rattle.thy_base.proofs.BasicLemmas.{not_in_none, not_first}
-use Rattle.thy_base.specs.Places.{record_blocks}
+use Rattle.thy_block.specs.declared.block.Block.{Block}
+use Rattle.thy_block.specs.Device.{Device, zero_block, block_at, newest}
+use Rattle.thy_block.specs.Geometry.{memory_blocks}
+use Rattle.thy_block.specs.declared.parameters.Parameters.{Parameters}
+use Rattle.thy_block.specs.Blocks.{block_bytes}
+use Rattle.thy_block.proofs.BlockLemmas.{block_bytes-long}
+use Rattle.thy_block.proofs.WrittenLemmas.{written-start}
+use Rattle.thy_block.proofs.BasicLemmas.{not_in_none, not_first}
+use Rattle.thy_block.specs.Places.{record_blocks}
 use Rattle.thy_crash.specs.Spares.{Spares}
 use Rattle.thy_table.specs.declared.block_entry.Pending.{Pending}
 use Rattle.thy_switch.specs.Counts.{Tally, most}

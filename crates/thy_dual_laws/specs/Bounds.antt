@@ -1,7 +1,7 @@
 -- How long epochs and boots can be.
 use Rattle.std.specs.Prelude.{ℕ, ◌+◌, ◌*◌, ◌<◌, ◌≤◌}
-use Rattle.thy_base.specs.declared.config.Parameters.{Parameters}
-use Rattle.thy_base.specs.Geometry.{IsInRange, memory_blocks}
+use Rattle.thy_block.specs.declared.parameters.Parameters.{Parameters}
+use Rattle.thy_block.specs.Geometry.{IsInRange, memory_blocks}
 use Rattle.thy_places.specs.Places.{slot_blocks}
 use Rattle.thy_core_laws.specs.Pace.{most_spent}
 use Rattle.thy_dual_laws.specs.Scheme.{dual_scheme}

@@ -3,9 +3,9 @@
 -- behind these, 64 times an entry of the page table and a block of its page, which is written from the frame.
 use Rattle.std.specs.Prelude.{◌≡◌, ◌≢◌, ℕ, ◌+◌, ◌-◌, ◌*◌, ◌≤◌, nat_lt, Bool, true, false, not, if◌then◌else◌, List, map, Option, Some, None}
 use Rattle.std.specs.List.{range_with_len}
-use Rattle.thy_base.specs.declared.block.Block.{Block}
-use Rattle.thy_base.specs.Device.{Device, block_at}
-use Rattle.thy_base.specs.Geometry.{memory_blocks}
+use Rattle.thy_block.specs.declared.block.Block.{Block}
+use Rattle.thy_block.specs.Device.{Device, block_at}
+use Rattle.thy_block.specs.Geometry.{memory_blocks}
 use Rattle.thy_table.specs.Listing.{free_count, mapped, with_entry}
 use Rattle.thy_table.specs.PageEntry.{page_blocks}
 use Rattle.thy_switch.specs.LastBlocks.{last_block_of}

@@ -1,6 +1,6 @@
 -- That engine and controller belong together stays so, over calls of the controller alone.
 use Rattle.std.specs.Prelude.{◌≡◌, ℕ, true, false}
-use Rattle.thy_base.specs.Device.{Device}
+use Rattle.thy_block.specs.Device.{Device}
 use Rattle.thy_isa.specs.declared.state.CpuState.{CpuState}
 use Rattle.thy_control.specs.Frees.{HasNoWork}
 use Rattle.thy_control.specs.Seal.{sealed_state}

@@ -1,6 +1,6 @@
 -- What holds of the scheme of both tables beside what holds of every scheme of parts.
 use Rattle.std.specs.Prelude.{◌≡◌, ◌+◌, true, false}
-use Rattle.thy_base.specs.Device.{Device}
+use Rattle.thy_block.specs.Device.{Device}
 use Rattle.thy_control.specs.State.{State}
 use Rattle.thy_core_laws.specs.Machine.{Machine, is_barred}
 use Rattle.thy_engine.specs.Cycles.{cycles_left}

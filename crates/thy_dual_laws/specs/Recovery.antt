@@ -1,12 +1,12 @@
 -- While a machine over this scheme restores a checkpoint it writes nothing to the NVM, unless it migrates an image of
 -- version 1; and then it writes the slot of the checkpoint's epoch in version 2, and block 1, alone.
 use Rattle.std.specs.Prelude.{◌≡◌, ◌⊎◌, ℕ, ◌+◌, ◌<◌, true, false, Some}
-use Rattle.thy_base.specs.declared.config.Parameters.{Parameters}
+use Rattle.thy_block.specs.declared.parameters.Parameters.{Parameters}
 use Rattle.thy_layout.specs.declared.layout_version.LayoutVersion.TheVariants.{VersionOne, VersionTwo}
-use Rattle.thy_base.specs.declared.mark.Mark.{Mark}
-use Rattle.thy_base.specs.declared.mix.Pick.{Pick}
-use Rattle.thy_base.specs.Device.{Device, HasFailed, block_at}
-use Rattle.thy_base.specs.Places.{commit_place}
+use Rattle.thy_block.specs.declared.mark.Mark.{Mark}
+use Rattle.thy_block.specs.declared.mix.Pick.{Pick}
+use Rattle.thy_block.specs.Device.{Device, HasFailed, block_at}
+use Rattle.thy_block.specs.Places.{commit_place}
 use Rattle.thy_places.specs.Places.{slot_blocks, slot_place}
 use Rattle.thy_layout.specs.Commit.{version_of, slot_of_epoch}
 use Rattle.thy_record.specs.Number.{scheme_number}

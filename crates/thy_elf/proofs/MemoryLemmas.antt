@@ -3,7 +3,7 @@ use Rattle.std.proofs.Common.{◌≡◌, ℕ, ◌+◌, ◌-◌, ◌≤◌, List,
 use Rattle.std.proofs.lemmas.List.{drop-drop, length-take, length-drop}
 use Rattle.std.proofs.lemmas.Slice.{take-put_mid, drop-put_mid}
 use borrow.Rule.Slice.PartMut.{put_mid}
-use Rattle.thy_base.specs.Bytes.{written}
+use Rattle.thy_block.specs.Bytes.{written}
 
 -- a piece written, and then one after it, is both written at once
 pub put_mid_twice : (memory first second : List ℕ) (at n z : ℕ)

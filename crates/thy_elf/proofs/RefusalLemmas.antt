@@ -2,8 +2,8 @@
 use Rattle.std.proofs.Common.{◌≡◌, ℕ, ◌+◌, ◌-◌, ◌<◌, ◌≤◌, List, ◌++◌, Option, Some, None, refl, ap, subst, ◌∙◌}
 use Rattle.std.specs.Option.{option_or}
 use Rattle.std.specs.List.{flat_map, range_with_len}
-use Rattle.thy_base.specs.Demands.{Demand, first_fault}
-use Rattle.thy_base.proofs.DemandLemmas.{first_fault-append}
+use Rattle.thy_block.specs.Demands.{Demand, first_fault}
+use Rattle.thy_block.proofs.DemandLemmas.{first_fault-append}
 use Rattle.thy_elf.specs.declared.error.ElfError.{ElfError}
 use Rattle.thy_elf.specs.declared.error.ElfError.TheVariants.{Memory}
 use Rattle.thy_elf.specs.Refusal.{IsRefusal}

@@ -3,10 +3,10 @@ use Rattle.std.proofs.Common.{◌≡◌, ℕ, zero, suc, ◌+◌, ◌<◌, ◌�
 use Rattle.std.proofs.lemmas.Bool.Decides.{nat_tests}
 use Rattle.std.proofs.lemmas.Bool.{cases_lt}
 use Rattle.std.specs.List.{flat_map, range_with_len}
-use Rattle.thy_base.specs.Demands.{Demand, asked, first_fault}
-use Rattle.thy_base.specs.Inside.{is_inside}
-use Rattle.thy_base.proofs.DemandLemmas.{first_fault-append}
-use Rattle.thy_base.proofs.BasicLemmas.{none_of_two}
+use Rattle.thy_block.specs.Demands.{Demand, asked, first_fault}
+use Rattle.thy_block.specs.Inside.{is_inside}
+use Rattle.thy_block.proofs.DemandLemmas.{first_fault-append}
+use Rattle.thy_block.proofs.BasicLemmas.{none_of_two}
 use Rattle.thy_elf.specs.declared.error.ElfError.{ElfError}
 use Rattle.thy_elf.specs.declared.error.ElfError.TheVariants.{FileOverMemory, SegmentOutsideFile, SegmentOutsideMemory}
 use Rattle.thy_elf.specs.declared.program_header.ProgramHeader.{ProgramHeader}

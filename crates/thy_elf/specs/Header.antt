@@ -2,8 +2,8 @@
 -- The header of an ELF-64 file, and what is asked of it.
 use Rattle.std.specs.Prelude.{ℕ, ◌+◌, ◌*◌, Bool, not, ◌&&◌, ◌||◌, List, [], ◌∷◌, length, slice_index, nat_eq, nat_le, ◌==◌, bit_and}
 use Rattle.std.specs.List.{starts_with}
-use Rattle.thy_base.specs.Demands.{Demand, asked}
-use Rattle.thy_base.specs.LittleEndian.{number_at}
+use Rattle.thy_block.specs.Demands.{Demand, asked}
+use Rattle.thy_block.specs.LittleEndian.{number_at}
 use Rattle.thy_elf.specs.declared.error.ElfError.{ElfError}
 use Rattle.thy_elf.specs.declared.error.ElfError.TheVariants.{TooShort, NotElf, NotClass64, NotLittle, BadVersion, NotExec, NotRiscv, NeedsCompressed, NeedsFloat, IsRve, BadHeaderSize, TooManyHeaders, HeadersOutside}
 use Rattle.thy_elf.specs.declared.header.Header.{Header}

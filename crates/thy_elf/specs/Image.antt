@@ -2,8 +2,8 @@
 -- What a file means: an image, or the first refusal that is due.
 use Rattle.std.specs.Prelude.{◌≡◌, ℕ, ◌+◌, ◌-◌, ◌*◌, ◌/◌, max, not, List, ◌∷◌, ◌++◌, take, drop, replicate, Option, Some, None, Result, Ok, Err, IsOk, if◌then◌else◌}
 use Rattle.std.specs.List.{flat_map, fold, list_any}
-use Rattle.thy_base.specs.Bytes.{bytes_of, written}
-use Rattle.thy_base.specs.Demands.{Demand, asked, first_fault}
+use Rattle.thy_block.specs.Bytes.{bytes_of, written}
+use Rattle.thy_block.specs.Demands.{Demand, asked, first_fault}
 use Rattle.thy_elf.specs.declared.error.ElfError.{ElfError}
 use Rattle.thy_elf.specs.declared.error.ElfError.TheVariants.{NeedsLoader, Memory}
 use Rattle.thy_elf.specs.declared.image.Image.{Image}

@@ -2,9 +2,9 @@
 -- The program headers of a file, and what is asked of each.
 use Rattle.std.specs.Prelude.{ℕ, ◌+◌, ◌*◌, ◌<◌, ◌≤◌, Bool, not, ◌&&◌, ◌||◌, List, [], ◌∷◌, length, nat_le, ◌==◌}
 use Rattle.std.specs.List.{range_with_len}
-use Rattle.thy_base.specs.Demands.{Demand, asked}
-use Rattle.thy_base.specs.Inside.{is_inside}
-use Rattle.thy_base.specs.LittleEndian.{number_at}
+use Rattle.thy_block.specs.Demands.{Demand, asked}
+use Rattle.thy_block.specs.Inside.{is_inside}
+use Rattle.thy_block.specs.LittleEndian.{number_at}
 use Rattle.thy_elf.specs.declared.error.ElfError.{ElfError}
 use Rattle.thy_elf.specs.declared.error.ElfError.TheVariants.{FileOverMemory, SegmentOutsideFile, SegmentOutsideMemory}
 use Rattle.thy_elf.specs.declared.program_header.ProgramHeader.{ProgramHeader}

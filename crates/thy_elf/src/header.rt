@@ -1,7 +1,7 @@
 //! The header of an ELF-64 file (System V ABI, "ELF Header"; the flags are those of the RISC-V ELF
 //! psABI), and what is asked of it before anything else is looked at.
 ghost use Rattle.std.specs.Prelude.{◌≡◌, ◌≤◌, IfNone, IfSome, length};
-ghost use Rattle.thy_base.specs.Demands.{first_fault};
+ghost use Rattle.thy_block.specs.Demands.{first_fault};
 ghost use Rattle.thy_elf.specs.Header.{header_of, header_demands};
 ghost use Rattle.thy_elf.specs.ProgramHeader.{HasHeaders};
 ghost use Rattle.thy_elf.specs.Refusal.{IsRefusal};

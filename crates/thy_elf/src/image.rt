@@ -1,8 +1,8 @@
 //! From a file to the image that it means.
 ghost use Rattle.std.specs.Prelude.{◌≡◌, ◌+◌, ◌<◌, ◌^◌, None, Ok, length, replicate, IfOk, IfErr, IfNone, IfSome};
 ghost use Rattle.std.specs.List.{flat_map};
-ghost use Rattle.thy_base.specs.Bytes.{bytes_of};
-ghost use Rattle.thy_base.specs.Demands.{first_fault};
+ghost use Rattle.thy_block.specs.Bytes.{bytes_of};
+ghost use Rattle.thy_block.specs.Demands.{first_fault};
 ghost use Rattle.thy_elf.specs.Image.{demands_of, contents_of, read_of, IsAccepted, IsCause};
 ghost use Rattle.thy_elf.specs.ProgramHeader.{indices_of, segment_demands, HasHeaders};
 ghost use Rattle.thy_elf.specs.Refusal.{IsRefusal};
@@ -12,7 +12,7 @@ use crate::header::{header_refusal, read_header};
 use crate::program_header::{header_count, segment_refusal, some_needs_loader};
 use crate::segments::{floor, write_segments};
 use std::alloc::{AllocError, Global};
-use thy_base::Bytes;
+use thy_block::Bytes;
 
 /// What a run starts with.
 #[derive(Debug, Drop)]

@@ -1,6 +1,6 @@
 //! Numbers of a file, little-endian.
 ghost use Rattle.std.specs.Prelude.{◌≡◌, ◌+◌, ◌≤◌, length, nat_lt};
-ghost use Rattle.thy_base.specs.LittleEndian.{number_at};
+ghost use Rattle.thy_block.specs.LittleEndian.{number_at};
 
 use byteorder::{ByteOrder, LittleEndian};
 

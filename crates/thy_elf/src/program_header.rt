@@ -2,7 +2,7 @@
 //! each.
 ghost use Rattle.std.specs.Prelude.{◌≡◌, ◌+◌, ◌<◌, ◌≤◌, ◌^◌, IfSome, length};
 ghost use Rattle.std.specs.List.{list_any};
-ghost use Rattle.thy_base.specs.Demands.{first_fault};
+ghost use Rattle.thy_block.specs.Demands.{first_fault};
 ghost use Rattle.thy_elf.specs.Header.{header_of};
 ghost use Rattle.thy_elf.specs.ProgramHeader.{program_header, indices_of, HasHeaders, segment_demands};
 ghost use Rattle.thy_elf.specs.ProgramHeader.{needs_loader, is_load, takes_memory};
@@ -10,7 +10,7 @@ ghost use Rattle.thy_elf.specs.Refusal.{IsRefusal};
 
 use crate::error::ElfError;
 use crate::number::{passes, u16_at, u32_at, u64_at};
-use thy_base::is_inside;
+use thy_block::is_inside;
 
 /// The fields of a program header that matter here, under plain names.
 #[derive(Clone, Copy)]

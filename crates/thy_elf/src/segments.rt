@@ -1,11 +1,11 @@
 //! Segments written into memory.
 ghost use Rattle.std.specs.Prelude.{◌≡◌, ◌+◌, ◌<◌, ◌≤◌, ◌^◌, ◌++◌, None, length, take, drop, replicate};
 ghost use Rattle.std.specs.List.{fold};
-ghost use Rattle.thy_base.specs.Bytes.{written};
+ghost use Rattle.thy_block.specs.Bytes.{written};
 ghost use Rattle.thy_elf.specs.Header.{header_of};
 ghost use Rattle.thy_elf.specs.Image.{with_segment, reached, floor_of, IsAccepted};
 ghost use Rattle.thy_elf.specs.ProgramHeader.{indices_of, segment_demands, HasHeaders};
-ghost use Rattle.thy_base.specs.Demands.{first_fault};
+ghost use Rattle.thy_block.specs.Demands.{first_fault};
 
 use crate::program_header::{header_count, read_program_header};
 

@@ -8,7 +8,7 @@ use Rattle.thy_protocol.specs.declared.round.Round.{Round}
 use Rattle.thy_protocol.specs.declared.round.Round.TheVariants.{Write, Settle, Commit, Confirm}
 use Rattle.thy_protocol.specs.Round.{IsInRound, round_left}
 use Rattle.thy_protocol.proofs.RoundLemmas.{next_by, round_most}
-use Rattle.thy_base.specs.declared.config.Parameters.{Parameters}
+use Rattle.thy_block.specs.declared.parameters.Parameters.{Parameters}
 use Rattle.thy_boot.specs.Filling.{FillingOf, IsFilling}
 use Rattle.thy_boot.proofs.LoadLemmas.{slot_inside as all_inside}
 use Rattle.thy_engine.specs.Cycles.{after_commit_left, left_at, most_cycles, CyclesAreFew, ItemsCount, ItemsFit}

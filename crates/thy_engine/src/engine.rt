@@ -1,11 +1,11 @@
 //! The engine.
 ghost use Rattle.std.specs.Prelude.{◌≡◌, ◌<◌, false, length, IfOk, OnOk, OnErr};
-ghost use Rattle.thy_base.specs.Device.{IsFramed, CountsFault};
+ghost use Rattle.thy_block.specs.Device.{IsFramed, CountsFault};
 
 use crate::items::Checkpoints;
 use crate::stage::EngineStage;
 use std::marker::Model;
-use thy_base::{Block, COMMIT_PLACE, Geometry, Nvm, NvmError};
+use thy_block::{Block, COMMIT_PLACE, Geometry, Nvm, NvmError};
 use thy_boot::Fills;
 use thy_isa::CpuState;
 use thy_layout::{EngineStep, ImageLayout, commit_block, cpu_block};

@@ -1,13 +1,13 @@
 //! What a scheme says of its checkpoints to the engine.
 ghost use Rattle.std.specs.Prelude.{◌≡◌, ◌+◌, ◌<◌, false, true, length, Some, IfSome};
 ghost use Rattle.thy_layout.specs.Commit.{commit_of};
-ghost use Rattle.thy_base.specs.Places.{record_blocks};
+ghost use Rattle.thy_block.specs.Places.{record_blocks};
 ghost use Rattle.thy_boot.specs.Filling.{layout_at};
 ghost use Rattle.thy_engine.specs.Items.{ItemsOf, AreItems, Making, Made, Applying};
 ghost use Rattle.thy_engine.specs.Progress.{Acts};
 ghost use Rattle.thy_view.specs.Action.{WriteAt};
 
-use thy_base::{Block, Geometry, Nvm, NvmError};
+use thy_block::{Block, Geometry, Nvm, NvmError};
 use thy_boot::Fills;
 use thy_layout::EngineStep;
 

@@ -3,7 +3,7 @@ ghost use Rattle.std.specs.Prelude.{◌≡◌, ◌≢◌, ◌<◌, ◌≤◌, �
 ghost use Rattle.thy_epoch.specs.Epoch.{Epoch, begun, retired_once, exhausted, next_epoch, IsShort, HasRetired};
 
 use std::marker::Model;
-use thy_base::EndCause;
+use thy_block::EndCause;
 
 /// The epoch under execution.
 #[derive(Drop)]

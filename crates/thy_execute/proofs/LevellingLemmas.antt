@@ -3,15 +3,15 @@ use Rattle.std.proofs.Common.{◌≡◌, ℕ, ◌+◌, ◌<◌, ◌==◌, if◌t
 use Rattle.std.specs.Borrow.{GName}
 use Rattle.std.proofs.lemmas.Bool.{ne_eqb}
 use Rattle.std.proofs.lemmas.List.{length-append, length-map, take_all, take-append-le, take-map}
-use Rattle.thy_base.specs.declared.block.Block.{Block}
+use Rattle.thy_block.specs.declared.block.Block.{Block}
 use Rattle.thy_base.specs.declared.config.Config.{Config}
-use Rattle.thy_base.specs.declared.nvm.FitError.{FitError}
-use Rattle.thy_base.specs.declared.nvm.FitError.TheVariants.{Failed, Memory}
-use Rattle.thy_base.specs.declared.outside.PutError.{PutError}
-use Rattle.thy_base.specs.Counts.{next}
-use Rattle.thy_base.specs.Device.{Device, Crash, HasFailedToFit, IsCut, lent_by}
-use Rattle.thy_base.specs.Outside.{Stock}
-use Rattle.thy_base.proofs.LoanLemmas.{framed_within, same_loan}
+use Rattle.thy_block.specs.declared.nvm.FitError.{FitError}
+use Rattle.thy_block.specs.declared.nvm.FitError.TheVariants.{Failed, Memory}
+use Rattle.thy_block.specs.declared.outside.PutError.{PutError}
+use Rattle.thy_block.specs.Counts.{next}
+use Rattle.thy_block.specs.Device.{Device, Crash, HasFailedToFit, IsCut, lent_by}
+use Rattle.thy_block.specs.Outside.{Stock}
+use Rattle.thy_block.proofs.LoanLemmas.{framed_within, same_loan}
 use Rattle.thy_flat.specs.Flat.{flat}
 use Rattle.thy_gap.specs.declared.registers.Registers.{Registers}
 use Rattle.thy_gap.specs.Lines.{no_lines}

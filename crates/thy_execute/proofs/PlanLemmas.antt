@@ -2,24 +2,23 @@
 use Rattle.std.proofs.Common.{◌≡◌, ℕ, ◌+◌, ◌-◌, Bool, true, false, Option, Some, None, List, [], ◌++◌, length, replicate, refl, sym, ◌∙◌, ap, subst, inr, arith, ◌≤◌}
 use Rattle.std.proofs.lemmas.List.{length-append, length-replicate}
 use Rattle.thy_base.specs.declared.config.Config.{Config}
-use Rattle.thy_base.specs.declared.config.Parameters.{Parameters}
-use Rattle.thy_base.specs.declared.nvm.FitError.{FitError}
-use Rattle.thy_base.specs.declared.nvm.Shape.{Shape}
-use Rattle.thy_base.specs.Config.{fault_of, rows_of, IsRising}
-use Rattle.thy_base.specs.declared.block.Block.{Block}
-use Rattle.thy_base.specs.declared.outside.PutError.{PutError}
-use Rattle.thy_base.specs.Device.{Device, HasFailedToFit, fitted, zero_block}
-use Rattle.thy_base.specs.Geometry.{parameters_of}
-use Rattle.thy_base.specs.Outside.{Stock, Stream}
-use Rattle.thy_base.specs.Bytes.{bytes_of}
+use Rattle.thy_block.specs.declared.parameters.Parameters.{Parameters}
+use Rattle.thy_block.specs.declared.nvm.FitError.{FitError}
+use Rattle.thy_block.specs.declared.nvm.Shape.{Shape}
+use Rattle.thy_base.specs.Config.{fault_of, rows_of, IsRising, parameters_of}
+use Rattle.thy_block.specs.declared.block.Block.{Block}
+use Rattle.thy_block.specs.declared.outside.PutError.{PutError}
+use Rattle.thy_block.specs.Device.{Device, HasFailedToFit, fitted, zero_block}
+use Rattle.thy_block.specs.Outside.{Stock, Stream}
+use Rattle.thy_block.specs.Bytes.{bytes_of}
 use Rattle.thy_image.specs.Meaning.{decode_of, blocks_of_image}
 use Rattle.thy_isa.specs.Step.{state_of}
 use Rattle.thy_layout.specs.declared.start.Start.{Start}
 use Rattle.thy_words.specs.Settings.{Job}
 use Rattle.thy_view.specs.Booting.{found_first}
 use Rattle.thy_view.specs.Kind.{KindOf, IsLawful, IsFittedFor}
-use Rattle.thy_base.specs.declared.mark.Mark.{Mark}
-use Rattle.thy_base.proofs.RangeLemmas.{AreIn-none, IsRising-rows}
+use Rattle.thy_block.specs.declared.mark.Mark.{Mark}
+use Rattle.thy_base.proofs.ConfigLemmas.{AreIn-none, IsRising-rows}
 use Rattle.thy_view.specs.Origin.{Origin, IsOrigin}
 use Rattle.thy_view.specs.Safe.{ceiling}
 use Rattle.thy_run.specs.Laws.{Promise, marks_of}

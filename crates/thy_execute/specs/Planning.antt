@@ -1,10 +1,10 @@
 -- What the program keeps of a job: the source of its program, and the plan of its run.
 use Rattle.std.specs.Prelude.{◌≡◌, ℕ, ◌<◌, List, length, Option}
-use Rattle.thy_base.specs.declared.block.Block.{Block}
-use Rattle.thy_base.specs.declared.nvm.FitError.{FitError}
-use Rattle.thy_base.specs.declared.nvm.Shape.{Shape}
-use Rattle.thy_base.specs.Device.{Device, HasFailedToFit, fitted}
-use Rattle.thy_base.specs.Outside.{Stock}
+use Rattle.thy_block.specs.declared.block.Block.{Block}
+use Rattle.thy_block.specs.declared.nvm.FitError.{FitError}
+use Rattle.thy_block.specs.declared.nvm.Shape.{Shape}
+use Rattle.thy_block.specs.Device.{Device, HasFailedToFit, fitted}
+use Rattle.thy_block.specs.Outside.{Stock}
 use Rattle.thy_run.specs.Cuts.{cuts_among}
 use Rattle.thy_run.specs.Going.{origin_of, IsPlanned}
 use Rattle.thy_run.specs.declared.plan.Plan.{Plan}

@@ -1,8 +1,7 @@
 //! A run on the machine.
 ghost use Rattle.std.specs.Prelude.{◌≡◌, ◌<◌, [], None, IfOk, IfErr, OnErr, option_map};
-ghost use Rattle.thy_base.specs.Config.{fault_of as range_fault};
-ghost use Rattle.thy_base.specs.Geometry.{parameters_of};
-ghost use Rattle.thy_base.specs.declared.config.Parameters.{Parameters as Numbers};
+ghost use Rattle.thy_base.specs.Config.{fault_of as range_fault, parameters_of};
+ghost use Rattle.thy_block.specs.declared.parameters.Parameters.{Parameters as Numbers};
 ghost use Rattle.thy_words.specs.Settings.{job_of};
 ghost use Rattle.thy_answer.specs.Answering.{outside};
 ghost use Rattle.thy_answer.specs.Watching.{RunSeen};

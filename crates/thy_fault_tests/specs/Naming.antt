@@ -1,7 +1,7 @@
 -- A shelf in memory that also records under which names its calls failed.
 use Rattle.std.specs.Prelude.{ℕ, List, Some, map, string_bytes, String}
 use Rattle.std.specs.declared.alloc.Global.{Global}
-use Rattle.thy_base.specs.Outside.{Stock}
+use Rattle.thy_block.specs.Outside.{Stock}
 use Rattle.thy_out.specs.Rack.{Rack, found}
 
 -- the bytes of each name

@@ -3,9 +3,9 @@ use Rattle.std.proofs.Common.{◌≡◌, ℕ, ◌+◌, ◌<◌, true, false, if�
 use Rattle.std.specs.Prelude.{slice_get}
 use Rattle.std.proofs.lemmas.List.{take_more, length-append}
 use Rattle.std.proofs.lemmas.Option.{get_or_from_slice_get, slice_get_within}
-use Rattle.thy_base.specs.declared.block.Block.{Block}
-use Rattle.thy_base.specs.Blocks.{block_bytes}
-use Rattle.thy_base.specs.Device.{block_at, zero_block}
+use Rattle.thy_block.specs.declared.block.Block.{Block}
+use Rattle.thy_block.specs.Blocks.{block_bytes}
+use Rattle.thy_block.specs.Device.{block_at, zero_block}
 use Rattle.thy_flat.specs.Flat.{flat}
 use Rattle.thy_flat.proofs.FlatLemmas.{flat_more}
 use Rattle.thy_text.specs.Event.{Event, Reload}

@@ -1,12 +1,13 @@
 -- How a run of a source begins, as the program has it.
 use Rattle.std.specs.Prelude.{◌≡◌, ℕ, Bool, List, [], length, Option, Some, None, Result, IfOk, IfErr}
-use Rattle.thy_base.specs.declared.block.Block.{Block}
+use Rattle.thy_block.specs.declared.block.Block.{Block}
 use Rattle.thy_base.specs.declared.config.Config.{Config}
-use Rattle.thy_base.specs.declared.config.Parameters.{Parameters}
-use Rattle.thy_base.specs.declared.mark.Mark.{Mark}
-use Rattle.thy_base.specs.Bytes.{bytes_of}
-use Rattle.thy_base.specs.Geometry.{IsInRange, parameters_of, program_size}
-use Rattle.thy_base.specs.Outside.{Stock}
+use Rattle.thy_block.specs.declared.parameters.Parameters.{Parameters}
+use Rattle.thy_block.specs.declared.mark.Mark.{Mark}
+use Rattle.thy_block.specs.Bytes.{bytes_of}
+use Rattle.thy_block.specs.Geometry.{IsInRange, program_size}
+use Rattle.thy_base.specs.Config.{parameters_of}
+use Rattle.thy_block.specs.Outside.{Stock}
 use Rattle.thy_elf.specs.Image.{contents_of}
 use Rattle.thy_isa.specs.Step.{state_of}
 use Rattle.thy_layout.specs.declared.start.Start.{Start}

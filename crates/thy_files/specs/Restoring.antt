@@ -1,9 +1,9 @@
 -- From a saved image to the beginning of a run.
 use Rattle.std.specs.Prelude.{◌≡◌, ℕ, ◌^◌, List, Some, Ok}
-use Rattle.thy_base.specs.declared.block.Block.{Block}
-use Rattle.thy_base.specs.declared.config.Parameters.{Parameters}
-use Rattle.thy_base.specs.Bytes.{bytes_of}
-use Rattle.thy_base.specs.Marks.{mark}
+use Rattle.thy_block.specs.declared.block.Block.{Block}
+use Rattle.thy_block.specs.declared.parameters.Parameters.{Parameters}
+use Rattle.thy_block.specs.Bytes.{bytes_of}
+use Rattle.thy_block.specs.Marks.{mark}
 use Rattle.thy_isa.specs.Step.{state_of}
 use Rattle.thy_layout.specs.declared.found.Found.TheVariants.{At as FoundAt}
 use Rattle.thy_layout.specs.Decoded.{At}

@@ -1,7 +1,7 @@
 //! What a run begins with, for each source of its program.
 ghost use Rattle.std.specs.Prelude.{◌≡◌, List, ℕ, IfOk, IfErr, OnOk, option_map};
-ghost use Rattle.thy_base.specs.Geometry.{IsInRange};
-ghost use Rattle.thy_base.specs.Outside.{HasNotFailed};
+ghost use Rattle.thy_block.specs.Geometry.{IsInRange};
+ghost use Rattle.thy_block.specs.Outside.{HasNotFailed};
 ghost use Rattle.thy_words.specs.Settings.{Job as JobValue};
 ghost use Rattle.thy_answer.specs.Kept.{named};
 ghost use Rattle.thy_answer.specs.Sources.{ProgramDue, ProgramSource as SourceValue, image};

@@ -1,7 +1,7 @@
 //! A made program, put on the shelf.
 ghost use Rattle.std.specs.Prelude.{◌≡◌, length, IfOk};
-ghost use Rattle.thy_base.specs.Device.{Device};
-ghost use Rattle.thy_base.specs.Outside.{Stream};
+ghost use Rattle.thy_block.specs.Device.{Device};
+ghost use Rattle.thy_block.specs.Outside.{Stream};
 ghost use Rattle.thy_make.specs.File.{made_file};
 ghost use Rattle.thy_answer.specs.Answering.{outside, TellsMade, MakeAnswered};
 ghost use Rattle.thy_answer.specs.Kept.{err_of};

@@ -1,6 +1,6 @@
 //! What a run begins with that resumes from a saved image.
 ghost use Rattle.std.specs.Prelude.{◌≡◌, IfOk};
-ghost use Rattle.thy_base.specs.Bytes.{bytes_of};
+ghost use Rattle.thy_block.specs.Bytes.{bytes_of};
 ghost use Rattle.thy_layout.specs.Files.{blocks_of};
 ghost use Rattle.thy_files.specs.Restoring.{IsFoundAt, IsRestored};
 

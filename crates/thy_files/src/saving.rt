@@ -1,7 +1,7 @@
 //! Saving a run: one more cut of power after it, whose image goes to a shelf.
 ghost use Rattle.std.specs.Prelude.{◌≡◌, ◌<◌, ◌++◌, length, IfOk, OnOk};
-ghost use Rattle.thy_base.specs.Blocks.{block_bytes};
-ghost use Rattle.thy_base.specs.Device.{block_at, IsCut};
+ghost use Rattle.thy_block.specs.Blocks.{block_bytes};
+ghost use Rattle.thy_block.specs.Device.{block_at, IsCut};
 ghost use Rattle.thy_flat.specs.Flat.{flat};
 ghost use Rattle.thy_text.specs.Seen.{event_of};
 ghost use Rattle.thy_run.specs.Cuts.{is_cut, cuts_among};

@@ -1,8 +1,8 @@
 //! How the source of a run's program is read.
 ghost use Rattle.std.specs.Prelude.{◌≡◌, ℕ, List, length, IfOk, IfErr, OnOk, option_map};
-ghost use Rattle.thy_base.specs.Bytes.{bytes_of};
-ghost use Rattle.thy_base.specs.Geometry.{IsInRange, program_size};
-ghost use Rattle.thy_base.specs.Outside.{HasNotFailed};
+ghost use Rattle.thy_block.specs.Bytes.{bytes_of};
+ghost use Rattle.thy_block.specs.Geometry.{IsInRange, program_size};
+ghost use Rattle.thy_block.specs.Outside.{HasNotFailed};
 ghost use Rattle.thy_words.specs.Settings.{Job};
 ghost use Rattle.thy_answer.specs.Sources.{AreBytesOf, AreFetched, IsHeld, IsInput, ProgramDue, ProgramSource as SourceValue};
 ghost use Rattle.thy_files.specs.Beginnings.{IsFetchRefusal, ReadsProgram, RefusesProgram};

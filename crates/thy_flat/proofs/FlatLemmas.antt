@@ -1,12 +1,12 @@
 -- The bytes of a list of blocks: how many there are, and where those of a block stand.
 use Rattle.std.proofs.Common.{◌≡◌, ℕ, zero, suc, ◌+◌, ◌*◌, ◌<◌, ◌≤◌, List, [], ◌∷◌, ◌++◌, length, take, drop, get_or, slice_index, refl, sym, ◌∙◌, ap, arith, append_assoc}
 use Rattle.std.proofs.lemmas.List.{append-nil, length-append, length-drop, length-take-le, take-append-drop, take_at, take_more, get_or_append_left, get_or-append-add, take-append-le, drop-append-le, drop-drop, drop_at}
-use Rattle.thy_base.specs.declared.block.Block.{Block}
-use Rattle.thy_base.specs.Blocks.{block_bytes, block_written}
-use Rattle.thy_base.specs.Bytes.{written}
-use Rattle.thy_base.specs.Device.{block_at}
-use Rattle.thy_base.proofs.BlockLemmas.{length-block_bytes, block_bytes-overwritten}
-use Rattle.thy_base.proofs.WrittenLemmas.{written-left, written-right}
+use Rattle.thy_block.specs.declared.block.Block.{Block}
+use Rattle.thy_block.specs.Blocks.{block_bytes, block_written}
+use Rattle.thy_block.specs.Bytes.{written}
+use Rattle.thy_block.specs.Device.{block_at}
+use Rattle.thy_block.proofs.BlockLemmas.{length-block_bytes, block_bytes-overwritten}
+use Rattle.thy_block.proofs.WrittenLemmas.{written-left, written-right}
 use Rattle.thy_flat.specs.Flat.{flat}
 
 pub flat-nil : flat [] ≡ []

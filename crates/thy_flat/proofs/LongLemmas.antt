@@ -2,10 +2,10 @@
 use Rattle.std.proofs.Common.{◌≡◌, ℕ, ◌+◌, ◌<◌, ◌≤◌, ◌==◌, Bool, true, false, if◌then◌else◌, List, length, take, slice_set, ◌∙◌, ap, inl, inr, arith}
 use Rattle.std.proofs.lemmas.Bool.{cases_eq}
 use Rattle.std.proofs.lemmas.List.{length-set, length-take, get_or-set_same, get_or-set_other}
-use Rattle.thy_base.specs.declared.block.Block.{Block}
-use Rattle.thy_base.specs.Blocks.{overwritten}
-use Rattle.thy_base.specs.Device.{zero_block, block_at}
-use Rattle.thy_base.proofs.BlockLemmas.{length-overwritten}
+use Rattle.thy_block.specs.declared.block.Block.{Block}
+use Rattle.thy_block.specs.Blocks.{overwritten}
+use Rattle.thy_block.specs.Device.{zero_block, block_at}
+use Rattle.thy_block.proofs.BlockLemmas.{length-overwritten}
 use Rattle.thy_flat.specs.declared.span.Span.{Span}
 use Rattle.thy_flat.specs.Flat.{AllLong}
 use Rattle.thy_flat.specs.Spans.{first_block, first_byte, head_len, head_put}

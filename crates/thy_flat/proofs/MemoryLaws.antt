@@ -1,12 +1,12 @@
 -- Program memory and the console are bytes of the blocks of memory.
 use Rattle.std.proofs.Common.{◌≡◌, ℕ, ◌+◌, ◌≤◌, List, length, drop, arith}
 use Rattle.std.proofs.lemmas.List.{length-take-le, length-drop}
-use Rattle.thy_base.specs.declared.block.Block.{Block}
-use Rattle.thy_base.specs.declared.config.Parameters.{Parameters}
-use Rattle.thy_base.specs.Geometry.{IsInRange, program_size, console_room, memory_blocks}
+use Rattle.thy_block.specs.declared.block.Block.{Block}
+use Rattle.thy_block.specs.declared.parameters.Parameters.{Parameters}
+use Rattle.thy_block.specs.Geometry.{IsInRange, program_size, console_room, memory_blocks}
 use Rattle.thy_flat.specs.Flat.{flat, memory_bytes, console_bytes}
 use Rattle.thy_flat.proofs.FlatLemmas.{length-flat}
-use Rattle.thy_base.proofs.RangeLemmas.{console_below}
+use Rattle.thy_block.proofs.RangeLemmas.{console_below}
 
 pub size_inside : (p : Parameters) (blocks : List Block) → length blocks ≡ memory_blocks p → program_size p ≤ length (flat blocks)
 size_inside p blocks h = omega (arith, length-flat blocks, h)

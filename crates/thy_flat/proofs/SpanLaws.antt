@@ -3,13 +3,13 @@ use Rattle.std.proofs.Common.{◌≡◌, ℕ, ◌+◌, ◌-◌, ◌*◌, ◌/◌
 use Rattle.std.proofs.lemmas.Bool.{cases_lt, eqb-true}
 use Rattle.std.proofs.lemmas.List.{append-nil, nil_from_length, length-append, length-drop, length-set, length-take-le, take_all, take-append-drop, drop-drop, get_or-set_other}
 use Rattle.std.proofs.Math.Seq.{take-add}
-use Rattle.thy_base.specs.declared.block.Block.{Block}
-use Rattle.thy_base.specs.Blocks.{block_bytes, block_written, overwritten}
-use Rattle.thy_base.specs.Bytes.{written}
-use Rattle.thy_base.specs.Device.{zero_block, block_at}
-use Rattle.thy_base.proofs.BlockLemmas.{length-block_bytes}
-use Rattle.thy_base.proofs.WrittenLemmas.{written-none, written-written}
-use Rattle.thy_base.proofs.BasicLemmas.{not_zero}
+use Rattle.thy_block.specs.declared.block.Block.{Block}
+use Rattle.thy_block.specs.Blocks.{block_bytes, block_written, overwritten}
+use Rattle.thy_block.specs.Bytes.{written}
+use Rattle.thy_block.specs.Device.{zero_block, block_at}
+use Rattle.thy_block.proofs.BlockLemmas.{length-block_bytes}
+use Rattle.thy_block.proofs.WrittenLemmas.{written-none, written-written}
+use Rattle.thy_block.proofs.BasicLemmas.{not_zero}
 use Rattle.thy_flat.specs.declared.span.Span.{Span}
 use Rattle.thy_flat.specs.Flat.{flat}
 use Rattle.thy_flat.specs.Spans.{IsSpanOf, first_block, first_byte, head_len, rest_of, head_in, head_read, gathered, head_put, scattered}

@@ -1,7 +1,7 @@
 -- A list of blocks is one list of bytes, also for its spans.
 use Rattle.std.specs.Prelude.{◌≡◌, ℕ, ◌*◌, List, length, take, drop}
-use Rattle.thy_base.specs.declared.block.Block.{Block}
-use Rattle.thy_base.specs.Bytes.{written}
+use Rattle.thy_block.specs.declared.block.Block.{Block}
+use Rattle.thy_block.specs.Bytes.{written}
 use Rattle.thy_flat.specs.declared.span.Span.{Span}
 use Rattle.thy_flat.specs.Flat.{flat}
 use Rattle.thy_flat.specs.Spans.{IsSpanOf, gathered, scattered}

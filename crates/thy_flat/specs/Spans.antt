@@ -1,9 +1,9 @@
 -- Part of the claim.
 -- Spans of at most 64 bytes of a list of blocks: one lies in at most two blocks.
 use Rattle.std.specs.Prelude.{ℕ, ◌+◌, ◌-◌, ◌*◌, ◌/◌, ◌%◌, ◌≤◌, ◌==◌, if◌then◌else◌, min, List, ◌++◌, take, drop}
-use Rattle.thy_base.specs.declared.block.Block.{Block}
-use Rattle.thy_base.specs.Blocks.{block_bytes, block_written}
-use Rattle.thy_base.specs.Device.{block_at}
+use Rattle.thy_block.specs.declared.block.Block.{Block}
+use Rattle.thy_block.specs.Blocks.{block_bytes, block_written}
+use Rattle.thy_block.specs.Device.{block_at}
 use Rattle.thy_flat.specs.declared.span.Span.{Span}
 
 -- a span from a byte on

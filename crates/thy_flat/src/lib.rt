@@ -2,7 +2,7 @@
 //! Callers depend on `take_head` and `Span`'s calls, which equal their specifications, and on `spans_are_bytes`: gathering
 //! a span, block by block, gives the bytes at its place, and scattering bytes over it changes these and no other.
 //!
-//! Open specs/Spans.antt and src/piece.rt first. It stands on thy_base; on it stand thy_isa, thy_hart, thy_record and
+//! Open specs/Spans.antt and src/piece.rt first. It stands on thy_block; on it stand thy_isa, thy_hart, thy_record and
 //! what is above them.
 #![tactic(auto)]
 

@@ -5,7 +5,7 @@ ghost use Rattle.thy_flat.specs.Spans.{head_len, head_in};
 
 use crate::span::Span;
 use arrayvec::ArrayVec;
-use thy_base::Block;
+use thy_block::Block;
 
 /// The bytes that one instruction or call moves: at most 64.
 pub type Piece = ArrayVec<u8, 64>;

@@ -2,7 +2,7 @@
 ghost use Rattle.std.specs.Prelude.{◌≡◌, ◌==◌, ◌+◌, ◌<◌, ◌≤◌, ◌^◌};
 ghost use Rattle.thy_flat.specs.Spans.{first_block, first_byte, head_len, rest_of};
 
-use thy_base::BLOCK_SIZE;
+use thy_block::BLOCK_SIZE;
 
 /// Bytes in a row of a list of blocks. One of at most 64 bytes lies in at most two blocks: its first,
 /// and the next.

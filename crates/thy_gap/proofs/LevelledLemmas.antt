@@ -3,10 +3,10 @@ use Rattle.std.proofs.Common.{◌≡◌, ℕ, ◌+◌, ◌<◌, ◌==◌, if◌t
 use Rattle.std.specs.List.{All}
 use Rattle.std.proofs.lemmas.Bool.{true≢false}
 use Rattle.std.proofs.lemmas.List.Elements.{All-drop, All-push, All-nil}
-use Rattle.thy_base.specs.declared.block.Block.{Block}
-use Rattle.thy_base.specs.declared.nvm.Write.{Write}
-use Rattle.thy_base.specs.Device.{Device, IsFramed, HasFailed, HasFailedToWrite, HoldsNoMore, MayLeave, write_of, landed, settled, surplus, with_queued, written_to}
-use Rattle.thy_base.proofs.DeviceLemmas.{no_more-landed, no_more-settled, no_more-written_to_other, MayLeave-elsewhere}
+use Rattle.thy_block.specs.declared.block.Block.{Block}
+use Rattle.thy_block.specs.declared.nvm.Write.{Write}
+use Rattle.thy_block.specs.Device.{Device, IsFramed, HasFailed, HasFailedToWrite, HoldsNoMore, MayLeave, write_of, landed, settled, surplus, with_queued, written_to}
+use Rattle.thy_block.proofs.DeviceLemmas.{no_more-landed, no_more-settled, no_more-written_to_other, MayLeave-elsewhere}
 use Rattle.thy_gap.specs.declared.registers.Registers.{Registers}
 use Rattle.thy_gap.specs.Lines.{IsWhole, place, line_at, source}
 use Rattle.thy_gap.specs.Seen.{unmapped, seen}

@@ -3,10 +3,10 @@ use Rattle.std.proofs.Common.{◌≡◌, ◌≢◌, ℕ, ◌+◌, ◌<◌, ◌�
 use Rattle.std.proofs.lemmas.Bool.{cases_eq}
 use Rattle.std.proofs.lemmas.List.Elements.{All-nil}
 use Rattle.std.specs.Prelude.{is_some}
-use Rattle.thy_base.specs.declared.block.Block.{Block}
-use Rattle.thy_base.specs.declared.nvm.Write.{Write}
-use Rattle.thy_base.specs.Device.{Device, IsFramed, MayLeave, HasFailed, HasFailedToWrite, block_at, queued_for, newest, settled, written_to}
-use Rattle.thy_base.proofs.DeviceLemmas.{MayLeave-possible, MayLeave-landed, MayLeave-elsewhere, possible-with_queued, no_more-settled, no_more-written_to, no_more-written_to_other, newest-settled, newest-written_to, newest-written_to_other, length-settled, length-written_to, newest-empty}
+use Rattle.thy_block.specs.declared.block.Block.{Block}
+use Rattle.thy_block.specs.declared.nvm.Write.{Write}
+use Rattle.thy_block.specs.Device.{Device, IsFramed, MayLeave, HasFailed, HasFailedToWrite, block_at, queued_for, newest, settled, written_to}
+use Rattle.thy_block.proofs.DeviceLemmas.{MayLeave-possible, MayLeave-landed, MayLeave-elsewhere, possible-with_queued, no_more-settled, no_more-written_to, no_more-written_to_other, newest-settled, newest-written_to, newest-written_to_other, length-settled, length-written_to, newest-empty}
 use Rattle.thy_gap.specs.declared.registers.Registers.{Registers}
 use Rattle.thy_gap.specs.Lines.{IsWhole, place, line_at, source, moved, registers_block}
 use Rattle.thy_gap.specs.Seen.{unmap, unmap_queue, seen}
@@ -16,7 +16,7 @@ use Rattle.thy_gap.specs.Failing.{IsAtRest, HasFailedToMove}
 use Rattle.thy_gap.proofs.LineLemmas.{place-within, place-past_gap, source-within, whole-moved, place-moved_line, place-other_line}
 use Rattle.thy_gap.proofs.RegisterLemmas.{Tells-in_hand, Tells-moved}
 use Rattle.thy_gap.proofs.LevelledLemmas.{IsLevelled-down}
-use Rattle.thy_base.proofs.CrashLemmas.{Contains-stands}
+use Rattle.thy_block.proofs.CrashLemmas.{Contains-stands}
 use Rattle.std.specs.List.{All}
 use Rattle.thy_gap.proofs.SeenLemmas.{no_more-seen, length-unmap, block_at-unmap, unmap-is}
 

@@ -1,10 +1,10 @@
 -- The registers in their block.
 use Rattle.std.proofs.Common.{◌≡◌, ◌⊎◌, ℕ, [], ◌∷◌, sym, ◌∙◌, ap, inl, inr, arith}
 use Rattle.std.proofs.lemmas.Bool.{cases_eq}
-use Rattle.thy_base.specs.declared.block.Block.{Block}
-use Rattle.thy_base.specs.Device.{Device, MayLeave}
-use Rattle.thy_base.specs.Words.{word_of}
-use Rattle.thy_base.proofs.WordLemmas.{word_of-block_of}
+use Rattle.thy_block.specs.declared.block.Block.{Block}
+use Rattle.thy_block.specs.Device.{Device, MayLeave}
+use Rattle.thy_block.specs.Words.{word_of}
+use Rattle.thy_block.proofs.WordLemmas.{word_of-block_of}
 use Rattle.thy_gap.specs.declared.registers.Registers.{Registers}
 use Rattle.thy_gap.specs.Lines.{IsWhole, source, moved, gap_magic, registers_block, registers_of}
 use Rattle.thy_gap.specs.Levelled.{IsCopied, Tells}

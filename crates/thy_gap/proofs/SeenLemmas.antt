@@ -6,10 +6,10 @@ use Rattle.std.proofs.lemmas.List.{length-set, get_or_past, ext_get_or}
 use Rattle.std.proofs.lemmas.List.FromFn.{length-map-range_with_len, get_or-map-range_with_len}
 use Rattle.std.proofs.lemmas.List.Elements.{All-head, All-tail, Contains-push}
 use Rattle.std.proofs.lemmas.Option.{none-some}
-use Rattle.thy_base.specs.declared.block.Block.{Block}
-use Rattle.thy_base.specs.declared.nvm.Write.{Write}
-use Rattle.thy_base.specs.Device.{Device, IsLeftOf, MayLeave, zero_block, write_of, block_at, queued_for, newest_over, applied, possible, newest, landed, settled, surplus, with_queued, written_to, HoldsNoMore}
-use Rattle.thy_base.proofs.DeviceLemmas.{same_as_only, MayLeave-possible, MayLeave-only, block_at-set, queued_for-append, newest_over-append, applied-append}
+use Rattle.thy_block.specs.declared.block.Block.{Block}
+use Rattle.thy_block.specs.declared.nvm.Write.{Write}
+use Rattle.thy_block.specs.Device.{Device, IsLeftOf, MayLeave, zero_block, write_of, block_at, queued_for, newest_over, applied, possible, newest, landed, settled, surplus, with_queued, written_to, HoldsNoMore}
+use Rattle.thy_block.proofs.DeviceLemmas.{same_as_only, MayLeave-possible, MayLeave-only, block_at-set, queued_for-append, newest_over-append, applied-append}
 use Rattle.thy_gap.specs.declared.registers.Registers.{Registers}
 use Rattle.thy_gap.specs.Lines.{IsWhole, place, line_at}
 use Rattle.thy_gap.specs.Seen.{unmap, write_to, unmap_queue, seen}

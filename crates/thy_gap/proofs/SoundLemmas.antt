@@ -4,14 +4,14 @@ use Rattle.std.specs.Prelude.{Result, Ok, Err, OnOk, OnErr}
 use Rattle.std.proofs.lemmas.Bool.{cases_eq, cases_lt, eq-eqb, ne_eqb, and_parts, not-true, ltb-false}
 use Rattle.std.proofs.lemmas.List.Elements.{Contains-push}
 use Rattle.std.proofs.lemmas.List.{get_or_past, get_or-append_right, get_or-map, length-map}
-use Rattle.thy_base.specs.declared.block.Block.{Block}
-use Rattle.thy_base.specs.declared.nvm.Write.{Write}
-use Rattle.thy_base.specs.declared.nvm.FitError.{FitError}
-use Rattle.thy_base.specs.declared.nvm.FitError.TheVariants.{Failed, Memory}
-use Rattle.thy_base.specs.Counts.{next}
-use Rattle.thy_base.specs.Device.{Device, IsCut, IsFramed, MayLeave, HasFailed, HasFailedToWrite, HasFailedToFit, zero_block, block_at, queued_for, applied, possible, newest, drained, settled, written_to, fitted}
-use Rattle.thy_base.specs.declared.nvm.Shape.{Shape}
-use Rattle.thy_base.proofs.DeviceLemmas.{same_as_only, MayLeave-possible, MayLeave-only, no_more-settled}
+use Rattle.thy_block.specs.declared.block.Block.{Block}
+use Rattle.thy_block.specs.declared.nvm.Write.{Write}
+use Rattle.thy_block.specs.declared.nvm.FitError.{FitError}
+use Rattle.thy_block.specs.declared.nvm.FitError.TheVariants.{Failed, Memory}
+use Rattle.thy_block.specs.Counts.{next}
+use Rattle.thy_block.specs.Device.{Device, IsCut, IsFramed, MayLeave, HasFailed, HasFailedToWrite, HasFailedToFit, zero_block, block_at, queued_for, applied, possible, newest, drained, settled, written_to, fitted}
+use Rattle.thy_block.specs.declared.nvm.Shape.{Shape}
+use Rattle.thy_block.proofs.DeviceLemmas.{same_as_only, MayLeave-possible, MayLeave-only, no_more-settled}
 use Rattle.thy_gap.specs.declared.registers.Registers.{Registers}
 use Rattle.thy_gap.specs.Lines.{IsWhole, place, line_at, no_lines, moved, unmoved, registers_of, registers_in}
 use Rattle.thy_gap.specs.Seen.{write_to, unmap_queue, unmapped, seen}

@@ -2,9 +2,9 @@
 -- Where the lines of a levelled device lie in the inner one, after Start-Gap.
 use Rattle.std.specs.Prelude.{ℕ, zero, suc, ◌+◌, ◌-◌, ◌<◌, ◌≤◌, ◌^◌, ◌==◌, ◌||◌, nat_lt, if◌then◌else◌, List, [], ◌∷◌, Option, Some, None, codes, length}
 use Rattle.byteorder.specs.Endian.{little_number}
-use Rattle.thy_base.specs.declared.block.Block.{Block}
-use Rattle.thy_base.specs.Device.{block_at}
-use Rattle.thy_base.specs.Words.{word_of, block_of}
+use Rattle.thy_block.specs.declared.block.Block.{Block}
+use Rattle.thy_block.specs.Device.{block_at}
+use Rattle.thy_block.specs.Words.{word_of, block_of}
 use Rattle.thy_gap.specs.declared.registers.Registers.{Registers}
 
 -- registers whose numbers are in range

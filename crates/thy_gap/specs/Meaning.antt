@@ -1,7 +1,7 @@
 -- What inner images mean by their own registers, and what is seen.
 use Rattle.std.specs.Prelude.{◌≡◌, ◌<◌, List, map, length}
-use Rattle.thy_base.specs.declared.block.Block.{Block}
-use Rattle.thy_base.specs.Device.{Device, Crash}
+use Rattle.thy_block.specs.declared.block.Block.{Block}
+use Rattle.thy_block.specs.Device.{Device, Crash}
 use Rattle.thy_gap.specs.Seen.{unmapped}
 
 -- the inner image means the image that is seen, if that has any blocks

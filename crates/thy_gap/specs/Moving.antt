@@ -1,7 +1,7 @@
 -- A move of one line, on the inner device.
 use Rattle.std.specs.Prelude.{ℕ, ◌+◌}
-use Rattle.thy_base.specs.declared.block.Block.{Block}
-use Rattle.thy_base.specs.Device.{Device, newest, settled, written_to}
+use Rattle.thy_block.specs.declared.block.Block.{Block}
+use Rattle.thy_block.specs.Device.{Device, newest, settled, written_to}
 use Rattle.thy_gap.specs.declared.registers.Registers.{Registers}
 use Rattle.thy_gap.specs.Lines.{source, moved, registers_block}
 

@@ -1,6 +1,6 @@
 //! A device whose lines wander over an inner one.
 ghost use Rattle.std.specs.Prelude.{◌≡◌, ◌+◌, ◌^◌, ◌<◌, ◌≤◌, false, length, IfOk, OnOk, OnErr, IfErr, slice_index_or, []};
-ghost use Rattle.thy_base.specs.Device.{newest, block_at, written_to, drained, settled, fitted, IsCut, IsFramed, HasFailed, HasFailedToWrite, HasFailedToFit, CountsFault, CountsWrite};
+ghost use Rattle.thy_block.specs.Device.{newest, block_at, written_to, drained, settled, fitted, IsCut, IsFramed, HasFailed, HasFailedToWrite, HasFailedToFit, CountsFault, CountsWrite};
 ghost use Rattle.thy_gap.specs.Levelled.{over as levelled_over, shown, first_image, inner_fitted, IsOver, HasFitted, HasWritten, is_due as due_by, HasMovedIfDue, settled_and_moved, HasCut, counted_on};
 ghost use Rattle.thy_gap.specs.Lines.{place as place_of_line};
 ghost use Rattle.thy_gap.specs.Meaning.{ImageMeansSeen, CrashMeansSeen, LeftMeansSeen};
@@ -9,7 +9,7 @@ use crate::Registers;
 use crate::moving::{move_line, registers_kept};
 use std::alloc::{AllocError, Global};
 use std::marker::Model;
-use thy_base::{Block, FitError, Nvm, NvmError, Shape};
+use thy_block::{Block, FitError, Nvm, NvmError, Shape};
 
 /// A device of n blocks, its lines, over an inner device of n + 2. Whenever a number of writes were made, the next
 /// barrier moves one line by one place, so that a line that is written often wears each place in turn. The last place
@@ -87,7 +87,7 @@ impl<N: Nvm> Gap<N> {
 }
 
 /// The inner image of a fit: the start and zeros, one of them at the gap, and the registers.
-#[tactic(auto, unfolding(thy_base::specs::Device::zero_block))]
+#[tactic(auto, unfolding(thy_block::specs::Device::zero_block))]
 fn first_blocks(start: Vec<Block>, lines: u64) -> Result<Vec<Block>, AllocError>
     requires start { length start.items ≤ lines }
     requires room { lines + 2 < 2 ^ 64 }

@@ -1,12 +1,12 @@
 //! A move of one line, on the inner device.
 ghost use Rattle.std.specs.Prelude.{◌≡◌, ◌<◌, ◌≤◌, ◌+◌, ◌^◌, length, false, OnOk, OnErr, slice_index_or, []};
-ghost use Rattle.thy_base.specs.Device.{IsFramed, HasFailedToWrite, CountsFault, block_at};
+ghost use Rattle.thy_block.specs.Device.{IsFramed, HasFailedToWrite, CountsFault, block_at};
 ghost use Rattle.thy_gap.specs.Lines.{registers_of};
 ghost use Rattle.thy_gap.specs.Moving.{put_down, line_moved};
 ghost use Rattle.thy_gap.specs.Failing.{IsAtRest, HasFailedToMove};
 
 use crate::Registers;
-use thy_base::{Block, Nvm, NvmError};
+use thy_block::{Block, Nvm, NvmError};
 
 /// Writes a block and waits until it has landed.
 fn put<N: Nvm>(inner: &mut N, at: u64, block: &Block) -> Result<(), NvmError>

@@ -2,7 +2,7 @@
 ghost use Rattle.std.specs.Prelude.{◌≡◌, ◌<◌, ◌≤◌};
 ghost use Rattle.thy_gap.specs.Lines.{IsWhole, place as place_of_line, source as source_of, moved as moved_on, unmoved, no_lines, registers_block, registers_of};
 
-use thy_base::{Block, block_with, word};
+use thy_block::{Block, block_with, word};
 
 /// The bytes `THYNGAP1`, with which the block of the registers begins, as a number.
 pub const GAP_MAGIC: u64 = 0x3150_4147_4e59_4854;

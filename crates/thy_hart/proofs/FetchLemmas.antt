@@ -1,14 +1,14 @@
 -- The fetch reads one block.
 use Rattle.std.proofs.Common.{◌≡◌, ℕ, ◌+◌, ◌-◌, ◌%◌, ◌^◌, ◌<◌, ◌≤◌, ◌==◌, Bool, true, false, if◌then◌else◌, List, ◌++◌, length, Option, Some, None, Ok, Err, refl, sym, ◌∙◌, ap, subst, drop, append-nil, arith}
 use Rattle.std.proofs.lemmas.Bool.Decides.{nat_tests}
-use Rattle.thy_base.specs.declared.block.Block.{Block}
-use Rattle.thy_base.specs.declared.config.Parameters.{Parameters}
-use Rattle.thy_base.specs.Geometry.{IsInRange, memory_blocks, program_size}
-use Rattle.thy_base.specs.Inside.{is_inside}
-use Rattle.thy_base.specs.Blocks.{block_bytes}
-use Rattle.thy_base.specs.LittleEndian.{number_at}
-use Rattle.thy_base.proofs.LittleEndianLemmas.{number_at-take, number_at-drop}
-use Rattle.thy_base.proofs.RangeLemmas.{base_aligned}
+use Rattle.thy_block.specs.declared.block.Block.{Block}
+use Rattle.thy_block.specs.declared.parameters.Parameters.{Parameters}
+use Rattle.thy_block.specs.Geometry.{IsInRange, memory_blocks, program_size}
+use Rattle.thy_block.specs.Inside.{is_inside}
+use Rattle.thy_block.specs.Blocks.{block_bytes}
+use Rattle.thy_block.specs.LittleEndian.{number_at}
+use Rattle.thy_block.proofs.LittleEndianLemmas.{number_at-take, number_at-drop}
+use Rattle.thy_block.proofs.RangeLemmas.{base_aligned}
 use Rattle.thy_cache.specs.Contents.{Contents}
 use Rattle.thy_cache.specs.Flat.{flat, ReadsAs}
 use Rattle.thy_flat.specs.declared.span.Span.{Span}

@@ -1,9 +1,9 @@
 -- The instruction in hand as a few numbers: what its stages stand for.
 use Rattle.std.proofs.Common.{◌≡◌, ℕ, ◌+◌, ◌-◌, ◌<◌, ◌≤◌, ◌^◌, false, List, [], length, take, drop, refl, sym, ◌∙◌, ap, arith}
-use Rattle.thy_base.specs.declared.block.Block.{Block}
-use Rattle.thy_base.specs.Blocks.{block_bytes}
-use Rattle.thy_base.specs.Geometry.{memory_blocks}
-use Rattle.thy_base.specs.LittleEndian.{number_bytes}
+use Rattle.thy_block.specs.declared.block.Block.{Block}
+use Rattle.thy_block.specs.Blocks.{block_bytes}
+use Rattle.thy_block.specs.Geometry.{memory_blocks}
+use Rattle.thy_block.specs.LittleEndian.{number_bytes}
 use Rattle.thy_cache.specs.Contents.{Contents}
 use Rattle.thy_cache.specs.Flat.{flat, ReadsAs}
 use Rattle.thy_flat.specs.declared.span.Span.{Span}

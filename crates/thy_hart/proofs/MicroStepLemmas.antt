@@ -1,7 +1,7 @@
 -- Each micro-step whose block hits acts as is said, whatever store is below the cache.
 use Rattle.std.proofs.Common.{◌≡◌, ℕ, ◌+◌, ◌≤◌, Bool, true, false, if◌then◌else◌, nat_lt, length, drop, Option, Some, None, is_some, Ok, Err, refl, sym, ◌∙◌, ap, subst, arith}
 use Rattle.std.proofs.lemmas.Bool.Decides.{nat_tests}
-use Rattle.thy_base.specs.Geometry.{memory_blocks}
+use Rattle.thy_block.specs.Geometry.{memory_blocks}
 use Rattle.thy_cache.specs.declared.line.LinePlace.{LinePlace}
 use Rattle.thy_cache.specs.Contents.{Contents, hits, dirty_count, read_from, KeepsSize}
 use Rattle.thy_cache.specs.Flat.{flat, AgreesStill, KeepsLines}

@@ -1,11 +1,11 @@
 -- A row of micro-steps, and the steps that they are; processor and epoch stay while an instruction moves on.
 use Rattle.std.proofs.Common.{◌≡◌, ℕ, suc, ◌+◌, Bool, true, false, if◌then◌else◌, nat_lt, IfSome, List, [], ◌∷◌, length, replicate, Option, Some, None, refl, sym, ◌∙◌, ap, subst, arith}
 use Rattle.std.proofs.lemmas.List.{length-replicate}
-use Rattle.thy_base.specs.declared.block.Block.{Block}
-use Rattle.thy_base.specs.declared.cause.EndCause.{EndCause}
-use Rattle.thy_base.specs.Device.{zero_block}
-use Rattle.thy_base.specs.Geometry.{memory_blocks}
-use Rattle.thy_base.specs.Store.{Holding}
+use Rattle.thy_block.specs.declared.block.Block.{Block}
+use Rattle.thy_block.specs.declared.cause.EndCause.{EndCause}
+use Rattle.thy_block.specs.Device.{zero_block}
+use Rattle.thy_block.specs.Geometry.{memory_blocks}
+use Rattle.thy_block.specs.Store.{Holding}
 use Rattle.thy_cache.specs.Contents.{Contents, dirty_count}
 use Rattle.thy_cache.specs.Flat.{flat}
 use Rattle.thy_hart.specs.declared.hand.Hand.{Hand}

@@ -1,16 +1,15 @@
 -- A step of the hart, from what it does.
 use Rattle.std.proofs.Common.{◌≡◌, ◌⊎◌, ℕ, ◌+◌, ◌-◌, ◌<◌, ◌≤◌, Bool, true, false, not, if◌then◌else◌, length, Option, Some, None, refl, sym, ◌∙◌, ap, subst, inl, inr, arith}
-use Rattle.thy_base.specs.Device.{block_at}
-use Rattle.thy_base.specs.Geometry.{memory_blocks}
-use Rattle.thy_base.specs.Store.{Holding}
+use Rattle.thy_block.specs.Device.{block_at}
+use Rattle.thy_block.specs.Geometry.{memory_blocks, program_size}
+use Rattle.thy_block.specs.Store.{Holding}
 use Rattle.thy_cache.specs.Contents.{Contents, hits, victim_of, dirty_count}
 use Rattle.thy_cache.specs.Flat.{flat, Agrees}
 use Rattle.thy_flat.specs.Flat.{AllLong}
 use Rattle.thy_isa.specs.declared.state.CpuState.{CpuState}
-use Rattle.thy_base.specs.declared.config.Parameters.{Parameters}
+use Rattle.thy_block.specs.declared.parameters.Parameters.{Parameters}
 use Rattle.thy_isa.specs.Step.{fetch_fault}
-use Rattle.thy_base.specs.Geometry.{program_size}
-use Rattle.thy_base.proofs.BasicLemmas.{some_same}
+use Rattle.thy_block.proofs.BasicLemmas.{some_same}
 use Rattle.thy_flat.specs.Spans.{span, first_block}
 use Rattle.thy_hart.specs.declared.hand.Hand.{Hand}
 use Rattle.thy_hart.specs.declared.hand.Hand.TheVariants.{Nothing, Reading, Reserving, Writing, Retiring}

@@ -1,9 +1,9 @@
 -- Part of the claim.
 -- What bringing a missing line a step nearer does.
 use Rattle.std.specs.Prelude.{◌≡◌, ◌⊎◌, ℕ, ◌+◌, ◌≤◌, length, Some}
-use Rattle.thy_base.specs.declared.store.Stored.{Stored}
-use Rattle.thy_base.specs.Device.{block_at}
-use Rattle.thy_base.specs.Store.{Holding}
+use Rattle.thy_block.specs.declared.store.Stored.{Stored}
+use Rattle.thy_block.specs.Device.{block_at}
+use Rattle.thy_block.specs.Store.{Holding}
 use Rattle.thy_cache.specs.declared.line.Victim.{Victim}
 use Rattle.thy_cache.specs.declared.line.Victim.TheVariants.{Room, Dirty}
 use Rattle.thy_cache.specs.Contents.{Contents, victim_of, dirty_count, filled_with, evicted_for, KeepsSize}

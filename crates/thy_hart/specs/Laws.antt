@@ -1,9 +1,9 @@
 -- Laws of the hart's steps.
 use Rattle.std.specs.Prelude.{◌≡◌, ℕ, ◌+◌, ◌≤◌, true, false, List, length, None}
-use Rattle.thy_base.specs.declared.block.Block.{Block}
-use Rattle.thy_base.specs.declared.cause.EndCause.{EndCause}
-use Rattle.thy_base.specs.declared.cause.EndCause.TheVariants.{Length, Exhausted, Ended}
-use Rattle.thy_base.specs.Geometry.{IsInRange, memory_blocks, console_room}
+use Rattle.thy_block.specs.declared.block.Block.{Block}
+use Rattle.thy_block.specs.declared.cause.EndCause.{EndCause}
+use Rattle.thy_block.specs.declared.cause.EndCause.TheVariants.{Length, Exhausted, Ended}
+use Rattle.thy_block.specs.Geometry.{IsInRange, memory_blocks, console_room}
 use Rattle.thy_cache.specs.Contents.{dirty_count}
 use Rattle.thy_cache.specs.Flat.{Agrees}
 use Rattle.thy_isa.specs.OnBlocks.{setting_for}

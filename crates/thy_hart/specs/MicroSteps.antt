@@ -1,10 +1,10 @@
 -- What a micro-step makes of a hart and its cache, over every store of blocks.
 use Rattle.std.specs.Prelude.{◌≡◌, ℕ, ◌+◌, ◌-◌, ◌<◌, ◌≤◌, true, false, List, [], ◌∷◌, length, Option, Some, None, Result, Ok, Err}
-use Rattle.thy_base.specs.declared.block.Block.{Block}
-use Rattle.thy_base.specs.declared.cause.EndCause.{EndCause}
-use Rattle.thy_base.specs.declared.config.Parameters.{Parameters}
-use Rattle.thy_base.specs.Geometry.{memory_blocks, program_size}
-use Rattle.thy_base.specs.LittleEndian.{number_at}
+use Rattle.thy_block.specs.declared.block.Block.{Block}
+use Rattle.thy_block.specs.declared.cause.EndCause.{EndCause}
+use Rattle.thy_block.specs.declared.parameters.Parameters.{Parameters}
+use Rattle.thy_block.specs.Geometry.{memory_blocks, program_size}
+use Rattle.thy_block.specs.LittleEndian.{number_at}
 use Rattle.thy_cache.specs.Contents.{Contents, hits, dirty_count, KeepsSize}
 use Rattle.thy_cache.specs.Flat.{flat, AgreesStill}
 use Rattle.thy_flat.specs.declared.span.Span.{Span}

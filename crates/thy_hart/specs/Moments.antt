@@ -1,9 +1,9 @@
 -- Part of the claim.
 -- A hart with its cache and what the store below that holds, between two steps.
 use Rattle.std.specs.Prelude.{◌≡◌, ◌⊎◌, ℕ, ◌+◌, ◌-◌, ◌*◌, ◌≤◌, Bool, true, false, not, if◌then◌else◌, List, length, Option, Some, None}
-use Rattle.thy_base.specs.declared.block.Block.{Block}
-use Rattle.thy_base.specs.Geometry.{memory_blocks}
-use Rattle.thy_base.specs.Store.{Holding, page_of}
+use Rattle.thy_block.specs.declared.block.Block.{Block}
+use Rattle.thy_block.specs.Geometry.{memory_blocks}
+use Rattle.thy_block.specs.Store.{Holding, page_of}
 use Rattle.thy_cache.specs.declared.line.Line.{Line}
 use Rattle.thy_cache.specs.Contents.{Contents, hits, victim_of, victim_line_of, is_dirty_victim, dirty_count}
 use Rattle.thy_cache.specs.Flat.{flat, Agrees}

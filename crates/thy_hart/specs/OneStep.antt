@@ -1,12 +1,12 @@
 -- Part of the claim.
 -- One step of the hart.
 use Rattle.std.specs.Prelude.{◌≡◌, ◌⊎◌, ℕ, ◌+◌, ◌-◌, ◌≤◌, true, false, if◌then◌else◌, List, ◌++◌, drop, Some, None}
-use Rattle.thy_base.specs.declared.block.Block.{Block}
-use Rattle.thy_base.specs.declared.cause.EndCause.{EndCause}
-use Rattle.thy_base.specs.declared.cause.EndCause.TheVariants.{Length, Exhausted, Ended}
-use Rattle.thy_base.specs.Device.{block_at}
-use Rattle.thy_base.specs.Geometry.{console_room}
-use Rattle.thy_base.specs.Store.{Holding}
+use Rattle.thy_block.specs.declared.block.Block.{Block}
+use Rattle.thy_block.specs.declared.cause.EndCause.{EndCause}
+use Rattle.thy_block.specs.declared.cause.EndCause.TheVariants.{Length, Exhausted, Ended}
+use Rattle.thy_block.specs.Device.{block_at}
+use Rattle.thy_block.specs.Geometry.{console_room}
+use Rattle.thy_block.specs.Store.{Holding}
 use Rattle.thy_cache.specs.Contents.{victim_of, dirty_count, KeepsSize}
 use Rattle.thy_flat.specs.Flat.{AllLong}
 use Rattle.thy_flat.specs.Spans.{gathered, scattered}

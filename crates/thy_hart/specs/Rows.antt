@@ -1,6 +1,6 @@
 -- Steps of a hart in a row.
 use Rattle.std.specs.Prelude.{◌≡◌, ℕ, false, List, [], ◌∷◌, ◌++◌, replicate, Option, Some, None}
-use Rattle.thy_base.specs.Store.{Holding}
+use Rattle.thy_block.specs.Store.{Holding}
 use Rattle.thy_cache.specs.Contents.{Contents}
 use Rattle.thy_hart.specs.declared.hand.HartStep.{HartStep}
 use Rattle.thy_hart.specs.declared.hand.HartStep.TheVariants.{Moved}

@@ -1,12 +1,12 @@
 //! A line that is missing.
 ghost use Rattle.std.specs.Prelude.{◌≡◌, true, false, ◌<◌, ◌≤◌, length, OnOk, OnErr};
-ghost use Rattle.thy_base.specs.Device.{CountsOneFault};
+ghost use Rattle.thy_block.specs.Device.{CountsOneFault};
 ghost use Rattle.thy_cache.specs.Contents.{hits, dirty_count, KeepsSize};
 ghost use Rattle.thy_cache.specs.Flat.{Agrees};
 ghost use Rattle.thy_hart.specs.Bring.{IsBrought};
 ghost use Rattle.thy_hart.specs.Moments.{IsOpenFor};
 
-use thy_base::{BlockStore, NvmError};
+use thy_block::{BlockStore, NvmError};
 use thy_cache::{Cache, Victim};
 
 /// Brings the line of block `b`, which does not hit, a step nearer: stores the dirty line in its way, or makes

@@ -2,12 +2,12 @@
 #![tactic(auto, unfolding(crate::specs::Outcomes::begun, crate::specs::Outcomes::written_on))]
 
 ghost use Rattle.std.specs.Prelude.{◌≡◌, Option};
-ghost use Rattle.thy_base.specs.declared.cause.EndCause.{EndCause};
+ghost use Rattle.thy_block.specs.declared.cause.EndCause.{EndCause};
 ghost use Rattle.thy_hart.specs.MicroSteps.{EndsBy, micro_step};
 ghost use Rattle.thy_hart.specs.Outcomes.{begun, written_on};
 ghost use Rattle.thy_hart.specs.HartState.{blocks_of};
 
-use thy_base::EndCause;
+use thy_block::EndCause;
 use thy_flat::Span;
 use thy_isa::Effect;
 

@@ -1,6 +1,6 @@
 //! The hart and its calls.
 ghost use Rattle.std.specs.Prelude.{◌≡◌, ◌≢◌, ◌⊎◌, None, false, ◌+◌, ◌<◌, ◌≤◌, ◌^◌, IfOk, OnErr};
-ghost use Rattle.thy_base.specs.Device.{CountsOneFault};
+ghost use Rattle.thy_block.specs.Device.{CountsOneFault};
 ghost use Rattle.thy_cache.specs.Contents.{dirty_count};
 ghost use Rattle.thy_isa.specs.declared.state.Status.TheVariants.{Running};
 ghost use Rattle.thy_isa.specs.Step.{cpu_crossed};
@@ -11,14 +11,14 @@ ghost use Rattle.thy_hart.specs.Outcomes.{given};
 ghost use Rattle.thy_hart.specs.Moments.{moment, brings_line, IsReady};
 ghost use Rattle.thy_hart.specs.OneStep.{IsStep};
 ghost use Rattle.thy_hart.specs.Rows.{Takes, moved_then};
-ghost use Rattle.thy_base.specs.Store.{Holding};
+ghost use Rattle.thy_block.specs.Store.{Holding};
 
 use crate::bring::bring;
 use crate::hand::{HartStep, MicroStep};
 use crate::in_hand::InHand;
 use crate::micro_steps::HartParts;
 use std::marker::Model;
-use thy_base::{BlockStore, Geometry, NvmError};
+use thy_block::{BlockStore, Geometry, NvmError};
 use thy_cache::Cache;
 use thy_decoded::DecodedWords;
 use thy_epoch::EpochState;

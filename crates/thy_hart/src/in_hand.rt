@@ -12,7 +12,7 @@ ghost use Rattle.thy_hart.specs.InHand.{span_of, load_of, store_of};
 
 use crate::hand::Hand;
 use std::marker::Model;
-use thy_base::BLOCK_SIZE;
+use thy_block::BLOCK_SIZE;
 use thy_flat::{Piece, Span};
 use thy_isa::{Effect, Extend, Reg, Width, bytes_in};
 

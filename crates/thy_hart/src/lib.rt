@@ -2,7 +2,7 @@
 //! `Hart::step`, which equals its specification, and on `a_step_follows_on`: the step that retires an instruction makes
 //! the plain machine's next state.
 //!
-//! Open specs/Moments.antt first, then specs/OneStep.antt, and src/hart.rt. It depends on thy_base, thy_flat, thy_isa,
+//! Open specs/Moments.antt first, then specs/OneStep.antt, and src/hart.rt. It depends on thy_block, thy_flat, thy_isa,
 //! thy_decoded, thy_cache and thy_epoch; thy_core_laws and thy_core depend on it.
 #![tactic(auto)]
 

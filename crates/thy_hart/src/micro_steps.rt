@@ -2,8 +2,8 @@
 #![tactic(auto, unfolding(crate::specs::HartState::fetched_block, crate::specs::Outcomes::fetched, crate::specs::Outcomes::room_reserved, crate::specs::Outcomes::room_answer, thy_isa::specs::OnBlocks::effect_in, thy_isa::specs::OnBlocks::cpu_after))]
 
 ghost use Rattle.std.specs.Prelude.{◌≡◌, ◌≢◌, ℕ, Bool, List, length, None, Some, ◌+◌, ◌-◌, ◌<◌, ◌≤◌, ◌^◌, true, take, drop, Ok, IfSome};
-ghost use Rattle.thy_base.specs.Geometry.{IsInRange, memory_blocks, program_size};
-ghost use Rattle.thy_base.specs.LittleEndian.{number_bytes};
+ghost use Rattle.thy_block.specs.Geometry.{IsInRange, memory_blocks, program_size};
+ghost use Rattle.thy_block.specs.LittleEndian.{number_bytes};
 ghost use Rattle.thy_cache.specs.Contents.{Contents, dirty_count, place_of, read_from, KeepsSize};
 ghost use Rattle.thy_cache.specs.Flat.{AgreesStill, KeepsLines};
 ghost use Rattle.thy_flat.specs.Spans.{IsSpanOf, span, first_block, first_byte};
@@ -13,7 +13,7 @@ ghost use Rattle.thy_isa.specs.declared.state.Effect.TheVariants.{Next, Set, Rea
 ghost use Rattle.thy_isa.specs.Effects.{size_of, word_effect};
 ghost use Rattle.thy_isa.specs.Moves.{number_in};
 ghost use Rattle.thy_isa.specs.Step.{finished as effect_finished, within};
-ghost use Rattle.thy_base.specs.Inside.{is_inside};
+ghost use Rattle.thy_block.specs.Inside.{is_inside};
 ghost use Rattle.thy_hart.specs.declared.in_hand.Stage.TheVariants.{Idle, Loads, Reserves, Stores};
 ghost use Rattle.thy_hart.specs.HartState.{reserved, blocks_of, to_reserve};
 ghost use Rattle.thy_hart.specs.Outcomes.{Given, begun_with, written_by, block_written, room_reserved, room_answer, retired, over_or_retired, epoch_retired, given};
@@ -25,7 +25,7 @@ ghost use Rattle.thy_hart.specs.MicroSteps.{ActsAll, IsFetchedSpan, ReadsWord, F
 
 use crate::hand::{HartStep, MicroStep, ShortStep};
 use crate::in_hand::{Access, InHand, Stage};
-use thy_base::{EndCause, Geometry};
+use thy_block::{EndCause, Geometry};
 use thy_cache::{Cache, LinePlace};
 use thy_decoded::{DecodedWords, holds, operated};
 use thy_epoch::EpochState;

@@ -4,7 +4,7 @@
 
 ghost use Rattle.std.specs.Prelude.{◌≡◌, ◌≢◌, None, Some, ◌+◌, ◌*◌, ◌<◌, ◌≤◌, ◌^◌, drop};
 ghost use Rattle.arrayvec.specs.ArrayVec.{array_vec_len};
-ghost use Rattle.thy_base.specs.Geometry.{IsInRange, memory_blocks, program_size};
+ghost use Rattle.thy_block.specs.Geometry.{IsInRange, memory_blocks, program_size};
 ghost use Rattle.thy_cache.specs.Contents.{dirty_count, place_of, read_from, KeepsSize};
 ghost use Rattle.thy_cache.specs.Flat.{AgreesStill, KeepsLines};
 ghost use Rattle.thy_flat.specs.Spans.{first_block};
@@ -24,7 +24,7 @@ ghost use Rattle.thy_hart.specs.MicroSteps.{ReadsIn, WritesIn, IsActed, EndsBy, 
 use crate::hand::{Hand, HartStep, MicroStep, ShortStep, begun, written_on};
 use crate::in_hand::Stage;
 use crate::micro_steps::{HartParts, blocks_of};
-use thy_base::EndCause;
+use thy_block::EndCause;
 use thy_cache::{Cache, LinePlace};
 use thy_flat::{Piece, Span, take_head};
 use thy_isa::{

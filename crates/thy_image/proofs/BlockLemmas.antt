@@ -4,9 +4,9 @@ use Rattle.std.specs.List.{All}
 use Rattle.std.proofs.lemmas.Bool.{cases_lt}
 use Rattle.std.proofs.lemmas.List.{length-take-le, length-drop, length-map, get_or_past, get_or-map}
 use Rattle.std.proofs.lemmas.List.Elements.{All-append, All-replicate, All-take, All-drop, All-from_get_or}
-use Rattle.thy_base.specs.declared.block.Block.{Block}
-use Rattle.thy_base.specs.Blocks.{block_bytes}
-use Rattle.thy_base.specs.Device.{zero_block, block_at}
+use Rattle.thy_block.specs.declared.block.Block.{Block}
+use Rattle.thy_block.specs.Blocks.{block_bytes}
+use Rattle.thy_block.specs.Device.{zero_block, block_at}
 use Rattle.thy_flat.specs.Flat.{flat, AllLong}
 use Rattle.thy_flat.proofs.FlatLemmas.{length-flat, flat_at}
 use Rattle.thy_isa.specs.Storable.{IsByte}

@@ -4,11 +4,11 @@ use Rattle.std.specs.List.{All}
 use Rattle.std.proofs.lemmas.Bool.{eq-eqb, eqb-true, leb-true, ltb-true, and_parts}
 use Rattle.std.proofs.lemmas.List.{length-take}
 use Rattle.std.proofs.lemmas.List.Elements.{All-cons, All-take, All-drop, All-from_get_or}
-use Rattle.thy_base.specs.declared.block.Block.{Block}
-use Rattle.thy_base.specs.declared.config.Parameters.{Parameters}
-use Rattle.thy_base.specs.Device.{block_at}
-use Rattle.thy_base.specs.Geometry.{program_size, console_room, memory_blocks}
-use Rattle.thy_base.specs.Words.{word_of}
+use Rattle.thy_block.specs.declared.block.Block.{Block}
+use Rattle.thy_block.specs.declared.parameters.Parameters.{Parameters}
+use Rattle.thy_block.specs.Device.{block_at}
+use Rattle.thy_block.specs.Geometry.{program_size, console_room, memory_blocks}
+use Rattle.thy_block.specs.Words.{word_of}
 use Rattle.thy_flat.specs.Flat.{flat}
 use Rattle.thy_flat.proofs.MemoryLaws.{length-memory_bytes}
 use Rattle.thy_isa.specs.declared.instr.Width.TheVariants.{Double}

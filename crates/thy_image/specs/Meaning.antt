@@ -1,9 +1,9 @@
 -- Part of the claim.
 -- What images and files mean, by the scheme that the parameters name.
 use Rattle.std.specs.Prelude.{ℕ, List}
-use Rattle.thy_base.specs.declared.config.Parameters.{Parameters}
-use Rattle.thy_base.specs.declared.config.SchemeName.{SchemeName}
-use Rattle.thy_base.specs.declared.config.SchemeName.TheVariants.{Thynvm, Journal, Shadow}
+use Rattle.thy_block.specs.declared.parameters.Parameters.{Parameters}
+use Rattle.thy_block.specs.declared.parameters.SchemeName.{SchemeName}
+use Rattle.thy_block.specs.declared.parameters.SchemeName.TheVariants.{Thynvm, Journal, Shadow}
 use Rattle.thy_layout.specs.Decoded.{Decoded, Reading}
 use Rattle.thy_layout.specs.Files.{decode_file}
 use Rattle.thy_layout.specs.Layout.{Layout, Layouts, reading}

@@ -1,7 +1,7 @@
 -- That an image is of one scheme and of one geometry.
 use Rattle.std.specs.Prelude.{◌≡◌, ℕ, ◌<◌, List}
-use Rattle.thy_base.specs.declared.block.Block.{Block}
-use Rattle.thy_base.specs.declared.config.Parameters.{Parameters}
+use Rattle.thy_block.specs.declared.block.Block.{Block}
+use Rattle.thy_block.specs.declared.parameters.Parameters.{Parameters}
 use Rattle.thy_isa.specs.Step.{State}
 use Rattle.thy_layout.specs.Decoded.{At}
 use Rattle.thy_image.specs.Meaning.{decode_of, decode_bytes}

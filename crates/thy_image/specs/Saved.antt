@@ -1,10 +1,10 @@
 -- What a file that has a checkpoint is to a run that begins with it.
 use Rattle.std.specs.Prelude.{◌≡◌, ℕ, ◌-◌, ◌<◌, ◌≤◌, List, ◌++◌, length, replicate}
 use Rattle.std.specs.List.{All}
-use Rattle.thy_base.specs.declared.block.Block.{Block}
-use Rattle.thy_base.specs.declared.config.Parameters.{Parameters}
-use Rattle.thy_base.specs.Device.{zero_block}
-use Rattle.thy_base.specs.Geometry.{program_size}
+use Rattle.thy_block.specs.declared.block.Block.{Block}
+use Rattle.thy_block.specs.declared.parameters.Parameters.{Parameters}
+use Rattle.thy_block.specs.Device.{zero_block}
+use Rattle.thy_block.specs.Geometry.{program_size}
 use Rattle.thy_flat.specs.Flat.{AllLong}
 use Rattle.thy_isa.specs.Step.{State, cpu_of}
 use Rattle.thy_isa.specs.Storable.{IsByte, IsStorable}

@@ -5,7 +5,7 @@ ghost use Rattle.thy_layout.specs.Files.{found_in, HasCheckpointOf, HasState};
 ghost use Rattle.thy_image.specs.Meaning.{own_layout, decode_bytes};
 
 use std::alloc::{AllocError, Global};
-use thy_base::{Geometry, SchemeName};
+use thy_block::{Geometry, SchemeName};
 use thy_isa::MachState;
 use thy_journal_image::JournalImages;
 use thy_layout::{BadImage, Found, check_image, state_of_image};

@@ -1,7 +1,7 @@
 -- What the instruction at pc reads or writes lies within memory.
 use Rattle.std.proofs.Common.{◌≡◌, ℕ, ◌%◌, ◌==◌, Bool, true, false, if◌then◌else◌, length, Option, Some, None, refl}
-use Rattle.thy_base.specs.Inside.{is_inside}
-use Rattle.thy_base.proofs.InsideLemmas.{is_inside-true}
+use Rattle.thy_block.specs.Inside.{is_inside}
+use Rattle.thy_block.proofs.InsideLemmas.{is_inside-true}
 use Rattle.thy_isa.specs.declared.state.Cause.{Cause}
 use Rattle.thy_isa.specs.declared.state.Cause.TheVariants.{LoadMisaligned, LoadAccess, StoreMisaligned, StoreAccess}
 use Rattle.thy_isa.specs.declared.state.Effect.{Effect}

@@ -1,15 +1,15 @@
 -- A step over the blocks of memory is a step over its bytes.
 use Rattle.std.proofs.Common.{◌≡◌, ℕ, ◌+◌, ◌-◌, ◌%◌, ◌≤◌, ◌==◌, Bool, true, false, if◌then◌else◌, List, ◌++◌, length, take, drop, Option, Some, None, refl, sym, ◌∙◌, ap, append-nil, arith}
 use Rattle.std.proofs.lemmas.List.{length-take-le, length-drop}
-use Rattle.thy_base.specs.declared.block.Block.{Block}
-use Rattle.thy_base.specs.declared.config.Parameters.{Parameters}
-use Rattle.thy_base.specs.Bytes.{written}
-use Rattle.thy_base.specs.Geometry.{IsInRange, memory_blocks, program_size, console_room}
-use Rattle.thy_base.specs.Inside.{is_inside}
-use Rattle.thy_base.specs.LittleEndian.{number_at, number_bytes}
-use Rattle.thy_base.proofs.InsideLemmas.{is_inside-true}
-use Rattle.thy_base.proofs.LittleEndianLemmas.{number_at-take, number_at-drop}
-use Rattle.thy_base.proofs.WrittenLemmas.{take-written, drop-written, take-written_behind, drop-written_behind, take-written_end, take-drop_take}
+use Rattle.thy_block.specs.declared.block.Block.{Block}
+use Rattle.thy_block.specs.declared.parameters.Parameters.{Parameters}
+use Rattle.thy_block.specs.Bytes.{written}
+use Rattle.thy_block.specs.Geometry.{IsInRange, memory_blocks, program_size, console_room}
+use Rattle.thy_block.specs.Inside.{is_inside}
+use Rattle.thy_block.specs.LittleEndian.{number_at, number_bytes}
+use Rattle.thy_block.proofs.InsideLemmas.{is_inside-true}
+use Rattle.thy_block.proofs.LittleEndianLemmas.{number_at-take, number_at-drop}
+use Rattle.thy_block.proofs.WrittenLemmas.{take-written, drop-written, take-written_behind, drop-written_behind, take-written_end, take-drop_take}
 use Rattle.thy_flat.specs.Flat.{flat, memory_bytes, console_bytes}
 use Rattle.thy_flat.specs.Spans.{span, IsSpanOf, gathered, scattered}
 use Rattle.thy_flat.proofs.MemoryLaws.{size_inside, room_inside, length-memory_bytes, length-console_bytes}
@@ -36,7 +36,7 @@ use Rattle.thy_isa.proofs.CallLaws.{call_of-fit}
 use Rattle.thy_isa.proofs.MemoryBounds.{length-number_bytes}
 use Rattle.thy_isa.proofs.MoveLaws.{size_of-most}
 use Rattle.thy_isa.proofs.StepLaws.{step-running}
-use Rattle.thy_base.proofs.RangeLemmas.{console_below}
+use Rattle.thy_block.proofs.RangeLemmas.{console_below}
 
 fetched_none : (a b : Bool) → (if a then (if b then None else Some FetchAccess) else Some FetchMisaligned) ≡ None → b ≡ true
 fetched_none true true h = refl

@@ -3,9 +3,9 @@ use Rattle.std.proofs.Common.{◌≡◌, ℕ, zero, suc, ◌+◌, ◌%◌, ◌<�
 use Rattle.std.specs.Int.{byte_at, bytes_low_first}
 use Rattle.std.specs.List.{All}
 use Rattle.std.proofs.lemmas.List.Elements.{All-head, All-tail, All-nil, All-cons, All-append, All-take, All-drop}
-use Rattle.thy_base.specs.Bytes.{written}
-use Rattle.thy_base.specs.LittleEndian.{number_at, number_bytes}
-use Rattle.thy_base.proofs.LittleEndianLemmas.{number_at-below}
+use Rattle.thy_block.specs.Bytes.{written}
+use Rattle.thy_block.specs.LittleEndian.{number_at, number_bytes}
+use Rattle.thy_block.proofs.LittleEndianLemmas.{number_at-below}
 use Rattle.thy_isa.specs.declared.instr.Width.{Width}
 use Rattle.thy_isa.specs.declared.instr.Width.TheVariants.{Byte, Half, Word, Double}
 use Rattle.thy_isa.specs.declared.instr.Extend.{Extend}

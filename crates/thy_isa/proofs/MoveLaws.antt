@@ -1,8 +1,8 @@
 -- What an effect moves are spans of the blocks of memory, and it has as many bytes as it writes.
 use Rattle.std.proofs.Common.{◌≡◌, ℕ, ◌+◌, ◌-◌, ◌≤◌, List, [], length, take, drop, arith}
 use Rattle.std.proofs.lemmas.List.{length-take-le, length-drop}
-use Rattle.thy_base.specs.declared.config.Parameters.{Parameters}
-use Rattle.thy_base.specs.Geometry.{IsInRange, memory_blocks, program_size}
+use Rattle.thy_block.specs.declared.parameters.Parameters.{Parameters}
+use Rattle.thy_block.specs.Geometry.{IsInRange, memory_blocks, program_size}
 use Rattle.thy_flat.specs.Spans.{span, IsSpanOf}
 use Rattle.thy_isa.specs.declared.instr.Width.{Width}
 use Rattle.thy_isa.specs.declared.instr.Width.TheVariants.{Byte, Half, Word, Double}
@@ -20,7 +20,7 @@ use Rattle.thy_isa.specs.Moves.{no_moves, call_moves, moves_of, call_brings, bri
 use Rattle.thy_isa.specs.OnBlocks.{calls_in}
 use Rattle.thy_isa.proofs.CallLaws.{call_of-fit}
 use Rattle.thy_isa.proofs.MemoryBounds.{length-number_bytes}
-use Rattle.thy_base.proofs.RangeLemmas.{console_below}
+use Rattle.thy_block.proofs.RangeLemmas.{console_below}
 
 -- what is moved are spans of the given number of blocks
 pub record AreSpans (blocks : ℕ) (m : Moves) : Type 0 where

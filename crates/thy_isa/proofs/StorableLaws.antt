@@ -5,9 +5,9 @@ use Rattle.std.proofs.lemmas.List.{length-take-le}
 use Rattle.std.specs.List.{All}
 use Rattle.std.proofs.lemmas.Bool.Decides.{nat_tests}
 use Rattle.std.proofs.lemmas.List.Elements.{All-set, All-take, All-drop, All-append}
-use Rattle.thy_base.specs.Inside.{is_inside}
-use Rattle.thy_base.specs.LittleEndian.{number_at, number_bytes}
-use Rattle.thy_base.proofs.WrittenLemmas.{length-written}
+use Rattle.thy_block.specs.Inside.{is_inside}
+use Rattle.thy_block.specs.LittleEndian.{number_at, number_bytes}
+use Rattle.thy_block.proofs.WrittenLemmas.{length-written}
 use Rattle.thy_isa.specs.declared.state.Status.{Status}
 use Rattle.thy_isa.specs.declared.state.Status.TheVariants.{Exited, Trapped}
 use Rattle.thy_isa.specs.declared.state.Cause.{Cause}

@@ -1,7 +1,7 @@
 -- No step traps for a misaligned load or store, but for that of an atomic instruction with two harts.
 use Rattle.std.proofs.Common.{◌≡◌, ◌+◌, ◌%◌, ◌==◌, ℕ, Bool, true, false, if◌then◌else◌, List, length, Option, Some, None}
 use Rattle.std.specs.Option.{option_map_or}
-use Rattle.thy_base.specs.Inside.{is_inside}
+use Rattle.thy_block.specs.Inside.{is_inside}
 use Rattle.thy_isa.specs.declared.instr.Instr.{Instr}
 use Rattle.thy_isa.specs.declared.instr.Instr.TheVariants.{Lui, Auipc, Jal, Jalr, Branch, Load, Store, OpImm, Op, Fence, FenceI, Ecall, Ebreak, LoadReserved, StoreConditional, AtomicOp}
 use Rattle.thy_isa.specs.declared.state.Status.{Status}

@@ -2,7 +2,7 @@
 -- The environment calls: a7 names the call, a0 to a2 are its arguments, and its result goes into a0. All numbers are
 -- whole: no address or length wraps.
 use Rattle.std.specs.Prelude.{ℕ, ◌+◌, ◌-◌, ◌%◌, ◌^◌, ◌<◌, ◌≤◌, ◌==◌, ◌&&◌, ◌||◌, not, nat_le, min, if◌then◌else◌, List}
-use Rattle.thy_base.specs.Inside.{is_inside}
+use Rattle.thy_block.specs.Inside.{is_inside}
 use Rattle.thy_isa.specs.declared.state.Call.{Call}
 use Rattle.thy_isa.specs.declared.state.Call.TheVariants.{Answer, Exit, Break, Take, Give}
 use Rattle.thy_isa.specs.declared.state.CallState.{CallState}

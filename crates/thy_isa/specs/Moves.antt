@@ -2,7 +2,7 @@
 -- What an instruction or an environment call moves, as spans of the blocks of memory: the bytes that it reads, and those
 -- that it writes. The blocks of the console follow those of program memory.
 use Rattle.std.specs.Prelude.{ℕ, ◌+◌, ◌-◌, List, [], take, drop}
-use Rattle.thy_base.specs.LittleEndian.{number_at, number_bytes}
+use Rattle.thy_block.specs.LittleEndian.{number_at, number_bytes}
 use Rattle.thy_flat.specs.Spans.{span}
 use Rattle.thy_isa.specs.declared.state.Call.{Call}
 use Rattle.thy_isa.specs.declared.state.Call.TheVariants.{Answer, Exit, Break, Take, Give}

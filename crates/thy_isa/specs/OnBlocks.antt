@@ -1,10 +1,10 @@
 -- Part of the claim.
 -- One step over the blocks of memory: what an effect reads and writes are spans of them, each of at most two blocks.
 use Rattle.std.specs.Prelude.{ℕ, ◌-◌, List, ◌++◌, length}
-use Rattle.thy_base.specs.declared.block.Block.{Block}
-use Rattle.thy_base.specs.declared.config.Parameters.{Parameters}
-use Rattle.thy_base.specs.Geometry.{program_size, console_room}
-use Rattle.thy_base.specs.LittleEndian.{number_at}
+use Rattle.thy_block.specs.declared.block.Block.{Block}
+use Rattle.thy_block.specs.declared.parameters.Parameters.{Parameters}
+use Rattle.thy_block.specs.Geometry.{program_size, console_room}
+use Rattle.thy_block.specs.LittleEndian.{number_at}
 use Rattle.thy_flat.specs.Flat.{memory_bytes, console_bytes}
 use Rattle.thy_flat.specs.Spans.{span, gathered, scattered}
 use Rattle.thy_isa.specs.declared.state.CallState.{CallState}

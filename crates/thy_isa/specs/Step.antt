@@ -2,9 +2,9 @@
 -- One step of the plain machine, whose memory is one flat list of bytes, and k of them.
 use Rattle.std.specs.Prelude.{◌≡◌, ℕ, zero, suc, ◌+◌, ◌-◌, ◌%◌, ◌^◌, ◌<◌, ◌==◌, Bool, true, false, if◌then◌else◌, List, ◌++◌, take, drop, length, replicate, Option, Some, None}
 use Rattle.std.specs.Option.{option_map}
-use Rattle.thy_base.specs.Bytes.{bytes_of, written}
-use Rattle.thy_base.specs.Inside.{is_inside}
-use Rattle.thy_base.specs.LittleEndian.{number_at, number_bytes}
+use Rattle.thy_block.specs.Bytes.{bytes_of, written}
+use Rattle.thy_block.specs.Inside.{is_inside}
+use Rattle.thy_block.specs.LittleEndian.{number_at, number_bytes}
 use Rattle.thy_isa.specs.declared.state.Status.{Status}
 use Rattle.thy_isa.specs.declared.state.Status.TheVariants.{Running, Exited, Trapped}
 use Rattle.thy_isa.specs.declared.state.Cause.{Cause}

@@ -7,7 +7,7 @@ ghost use Rattle.thy_isa.specs.Calls.{call_of, read_of, write_of, break_of, few,
 use crate::instr::Reg;
 use crate::regs::Regs;
 use crate::state::{Call, CallState};
-use thy_base::is_inside;
+use thy_block::is_inside;
 
 // The numbers of the calls.
 const READ: u64 = 63;

@@ -1,8 +1,8 @@
 //! What an instruction or an environment call moves.
-#![tactic(auto, unfolding(crate::specs::Moves::moves_of, crate::specs::Moves::call_moves, crate::specs::Moves::brings, crate::specs::Moves::call_brings, crate::specs::Moves::number_in, thy_base::specs::LittleEndian::number_bytes))]
+#![tactic(auto, unfolding(crate::specs::Moves::moves_of, crate::specs::Moves::call_moves, crate::specs::Moves::brings, crate::specs::Moves::call_brings, crate::specs::Moves::number_in, thy_block::specs::LittleEndian::number_bytes))]
 
 ghost use Rattle.std.specs.Prelude.{◌≡◌, ◌+◌, ◌^◌, ◌<◌, ◌≤◌, [], ◌++◌, length};
-ghost use Rattle.thy_base.specs.LittleEndian.{number_at, number_bytes};
+ghost use Rattle.thy_block.specs.LittleEndian.{number_at, number_bytes};
 ghost use Rattle.thy_isa.specs.Access.{IsWithin, HasRead};
 ghost use Rattle.thy_isa.specs.Atomics.{modified};
 ghost use Rattle.thy_isa.specs.Calls.{call_of};

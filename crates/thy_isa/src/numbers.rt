@@ -1,8 +1,8 @@
 //! Numbers in memory, the lowest byte first.
-#![tactic(auto, unfolding(thy_base::specs::LittleEndian::number_at, crate::specs::Extending::extended))]
+#![tactic(auto, unfolding(thy_block::specs::LittleEndian::number_at, crate::specs::Extending::extended))]
 
 ghost use Rattle.std.specs.Prelude.{◌≡◌, ◌+◌, ◌≤◌, length};
-ghost use Rattle.thy_base.specs.LittleEndian.{number_at};
+ghost use Rattle.thy_block.specs.LittleEndian.{number_at};
 ghost use Rattle.thy_isa.specs.Effects.{size_of};
 ghost use Rattle.thy_isa.specs.Extending.{extended};
 

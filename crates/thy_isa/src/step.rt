@@ -15,7 +15,7 @@ use crate::instr::{Extend, Reg, Width};
 use crate::numbers::extended;
 use crate::reserving::{front_of, is_reserved, reservation, reserve, write_past};
 use crate::state::{Call, CallState, Cause, CpuState, Effect, OtherHart, Reservation, Status};
-use thy_base::is_inside;
+use thy_block::is_inside;
 
 /// Why no word can be fetched at `pc`; None exactly if one can.
 pub fn fetch_fault(base: u64, size: u64, pc: u64) -> Option<Cause>

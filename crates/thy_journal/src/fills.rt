@@ -1,5 +1,5 @@
 //! What the boot fills.
-use thy_base::{Block, Geometry, Nvm, NvmError};
+use thy_block::{Block, Geometry, Nvm, NvmError};
 use thy_boot::Fills;
 use thy_isa::MachState;
 use thy_journal_image::{JournalImages, home};

@@ -4,7 +4,7 @@ ghost use Rattle.thy_engine.specs.Progress.{is_applying};
 
 use crate::fills::Refill;
 use std::alloc::{AllocError, Global};
-use thy_base::{Block, Geometry, Nvm, NvmError, Stored};
+use thy_block::{Block, Geometry, Nvm, NvmError, Stored};
 use thy_dram::Dram;
 use thy_engine::EngineStage;
 use thy_log::Log;

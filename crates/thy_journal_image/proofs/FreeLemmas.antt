@@ -1,10 +1,10 @@
 -- Which writes leave a checkpoint alone.
 use Rattle.std.proofs.Common.{◌≡◌, ◌≢◌, ℕ, zero, suc, ◌+◌, ◌*◌, ◌%◌, ◌<◌, ◌≤◌, List, ◌∷◌, Contains, Option, Some, None, refl, sym, ◌∙◌, ap, subst, arith}
-use Rattle.thy_base.specs.declared.block.Block.{Block}
-use Rattle.thy_base.specs.declared.config.Parameters.{Parameters}
-use Rattle.thy_base.specs.Device.{block_at}
-use Rattle.thy_base.specs.Geometry.{memory_blocks}
-use Rattle.thy_base.proofs.BasicLemmas.{Contains-range}
+use Rattle.thy_block.specs.declared.block.Block.{Block}
+use Rattle.thy_block.specs.declared.parameters.Parameters.{Parameters}
+use Rattle.thy_block.specs.Device.{block_at}
+use Rattle.thy_block.specs.Geometry.{memory_blocks}
+use Rattle.thy_block.proofs.BasicLemmas.{Contains-range}
 use Rattle.thy_layout.specs.Commit.{epoch_of}
 use Rattle.thy_layout.specs.Entries.{Lists, entry_of}
 use Rattle.thy_layout.proofs.EntryLemmas.{entry_of-Some, entry_of-None, Lists-inside}

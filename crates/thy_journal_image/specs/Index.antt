@@ -1,6 +1,6 @@
 -- Where an image has each block of memory, as one list of numbers: entry by entry of the table.
 use Rattle.std.specs.Prelude.{ℕ, List, slice_set, Option, Some, None}
-use Rattle.thy_base.specs.declared.config.Parameters.{Parameters}
+use Rattle.thy_block.specs.declared.parameters.Parameters.{Parameters}
 use Rattle.thy_journal_image.specs.Places.{journal_place}
 
 -- the block that entry i of the table lists stands in the journal of slot s

@@ -2,9 +2,9 @@
 -- The places of an image of the journal: header, commit block, two slots, the homes of memory's blocks, and after them a
 -- journal for each slot. A journal has a block for each entry of the table.
 use Rattle.std.specs.Prelude.{ℕ, ◌+◌, ◌*◌, ◌/◌, List, Option, Some, None}
-use Rattle.thy_base.specs.declared.config.Parameters.{Parameters}
-use Rattle.thy_base.specs.Geometry.{memory_blocks}
-use Rattle.thy_base.specs.Places.{record_blocks}
+use Rattle.thy_block.specs.declared.parameters.Parameters.{Parameters}
+use Rattle.thy_block.specs.Geometry.{memory_blocks}
+use Rattle.thy_block.specs.Places.{record_blocks}
 use Rattle.thy_layout.specs.Entries.{entry_of}
 
 -- the number of the scheme, as headers have it

@@ -1,6 +1,6 @@
 //! Where an image has each block of memory: one list of numbers, made from the table of its slot.
 ghost use Rattle.std.specs.Prelude.{◌≡◌, ◌*◌, ◌<◌, ℕ, [], length, IfOk, IfSome};
-ghost use Rattle.thy_base.specs.Geometry.{memory_blocks};
+ghost use Rattle.thy_block.specs.Geometry.{memory_blocks};
 ghost use Rattle.thy_layout.specs.Files.{blocks_of};
 ghost use Rattle.thy_journal_image.specs.Index.{with_block};
 ghost use Rattle.thy_journal_image.specs.CheckpointParts.{memory_places};
@@ -10,7 +10,7 @@ ghost use Rattle.thy_journal_image.specs.Slots.{IsTable, table_in};
 use crate::places::{home, journal};
 use crate::slot_faults::listed_block;
 use std::alloc::{AllocError, Global};
-use thy_base::Geometry;
+use thy_block::Geometry;
 
 // All of memory at home.
 fn homes(alloc: Global, geometry: &Geometry) -> Result<Vec<u64>, AllocError>

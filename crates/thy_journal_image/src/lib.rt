@@ -2,7 +2,7 @@
 //! has each block of memory at home or, if its table lists the block, in the journal of its slot. Callers rely on
 //! `a_checkpoint_is_issued`, `free_is_not_looked_at`, and `JournalImages`, by which files and devices are read.
 //!
-//! Open specs/Places.antt first, then specs/Slots.antt and specs/Layout.antt, and src/laws.rt. It depends on thy_base,
+//! Open specs/Places.antt first, then specs/Slots.antt and specs/Layout.antt, and src/laws.rt. It depends on thy_block,
 //! thy_crash, thy_isa, thy_layout and thy_protocol; thy_log and the scheme above it depend on it.
 #![tactic(auto)]
 

@@ -1,10 +1,10 @@
 //! The numbers of an image's blocks, and its header.
 ghost use Rattle.std.specs.Prelude.{◌≡◌, ◌<◌};
-ghost use Rattle.thy_base.specs.Geometry.{IsInRange, memory_blocks};
+ghost use Rattle.thy_block.specs.Geometry.{IsInRange, memory_blocks};
 ghost use Rattle.thy_layout.specs.Header.{header_of};
 ghost use Rattle.thy_journal_image.specs.Places.{scheme_number, slot_blocks as blocks_of_slot, slot_place, image_blocks, home_place, journal_place};
 
-use thy_base::{Block, Geometry};
+use thy_block::{Block, Geometry};
 use thy_layout::header_block_of;
 
 /// The number of this scheme.

@@ -5,7 +5,7 @@ ghost use Rattle.thy_layout.specs.Files.{blocks_of, table_in as entries_of};
 ghost use Rattle.thy_journal_image.specs.Places.{slot_blocks};
 ghost use Rattle.thy_journal_image.specs.Slots.{table_in, table_fault as fault_of_table, slot_fault as fault_of_slot};
 
-use thy_base::Geometry;
+use thy_block::Geometry;
 use thy_layout::{BadImage, entry, fault_with_table, index_fault, table_behind, twice_fault};
 
 // The table of a slot.

@@ -2,12 +2,12 @@
 use Rattle.std.proofs.Common.{◌≡◌, ◌≢◌, ℕ, ◌+◌, ◌-◌, ◌%◌, ◌^◌, ◌<◌, ◌≤◌, Bool, true, false, List, ◌∷◌, length, map, Option, Some, None, is_none, refl, sym, ◌∙◌, ap, subst, inl, inr, arith}
 use Rattle.std.proofs.lemmas.List.FromFn.{length-map-range_with_len}
 use Rattle.std.proofs.lemmas.List.Sums.{count_by-le-length}
-use Rattle.thy_base.specs.declared.block.Block.{Block}
-use Rattle.thy_base.specs.declared.config.Parameters.{Parameters}
-use Rattle.thy_base.specs.Device.{Device, block_at, newest, written_to}
-use Rattle.thy_base.specs.Geometry.{memory_blocks}
-use Rattle.thy_base.proofs.BasicLemmas.{not_first}
-use Rattle.thy_base.proofs.DeviceLemmas.{length-written_to}
+use Rattle.thy_block.specs.declared.block.Block.{Block}
+use Rattle.thy_block.specs.declared.parameters.Parameters.{Parameters}
+use Rattle.thy_block.specs.Device.{Device, block_at, newest, written_to}
+use Rattle.thy_block.specs.Geometry.{memory_blocks}
+use Rattle.thy_block.proofs.BasicLemmas.{not_first}
+use Rattle.thy_block.proofs.DeviceLemmas.{length-written_to}
 use Rattle.thy_layout.specs.Commit.{commit_of, epoch_of}
 use Rattle.thy_layout.specs.Entries.{Lists}
 use Rattle.thy_layout.specs.Layout.{slot_in, looked_by}

@@ -1,9 +1,9 @@
 -- Memory as it was stored last, and at home, over what is done to the NVM and to the log.
 use Rattle.std.proofs.Common.{◌≡◌, ◌≢◌, ℕ, ◌<◌, length, Option, Some, None, refl, ap, arith}
-use Rattle.thy_base.specs.declared.block.Block.{Block}
-use Rattle.thy_base.specs.Device.{Device, written_to}
-use Rattle.thy_base.specs.Geometry.{memory_blocks}
-use Rattle.thy_base.proofs.DeviceLemmas.{newest-written_to_other}
+use Rattle.thy_block.specs.declared.block.Block.{Block}
+use Rattle.thy_block.specs.Device.{Device, written_to}
+use Rattle.thy_block.specs.Geometry.{memory_blocks}
+use Rattle.thy_block.proofs.DeviceLemmas.{newest-written_to_other}
 use Rattle.thy_table.specs.Listing.{entry_at, lists}
 use Rattle.thy_table.proofs.ListingLaws.{entry_at-cleared, place_of-none}
 use Rattle.thy_journal_image.specs.Places.{image_blocks, home_place}

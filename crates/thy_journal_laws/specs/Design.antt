@@ -1,9 +1,9 @@
 -- Part of the claim.
 -- The journal as a scheme of parts. A position is an entry of the table.
 use Rattle.std.specs.Prelude.{◌≡◌, ◌≢◌, ℕ, ◌-◌, ◌<◌, Bool, true, false, is_none, List, length, Option, None}
-use Rattle.thy_base.specs.declared.block.Block.{Block}
-use Rattle.thy_base.specs.declared.store.Stored.TheVariants.{Done}
-use Rattle.thy_base.specs.Device.{Device, newest}
+use Rattle.thy_block.specs.declared.block.Block.{Block}
+use Rattle.thy_block.specs.declared.store.Stored.TheVariants.{Done}
+use Rattle.thy_block.specs.Device.{Device, newest}
 use Rattle.thy_layout.specs.declared.engine_step.EngineStep.TheVariants.{Copied}
 use Rattle.thy_layout.specs.Commit.{slot_of_epoch}
 use Rattle.thy_layout.specs.Entries.{Lists}

@@ -5,10 +5,10 @@ use Rattle.std.proofs.lemmas.List.{length-map, get_or-map, ext_get_or}
 use Rattle.std.proofs.lemmas.List.Elements.{Contains-get_or}
 use Rattle.std.proofs.lemmas.List.FromFn.{length-range_with_len, get_or-range_with_len}
 use Rattle.std.specs.List.{range_with_len}
-use Rattle.thy_base.specs.declared.block.Block.{Block}
-use Rattle.thy_base.specs.declared.config.Parameters.{Parameters}
-use Rattle.thy_base.specs.Device.{zero_block, block_at}
-use Rattle.thy_base.specs.Geometry.{console_room}
+use Rattle.thy_block.specs.declared.block.Block.{Block}
+use Rattle.thy_block.specs.declared.parameters.Parameters.{Parameters}
+use Rattle.thy_block.specs.Device.{zero_block, block_at}
+use Rattle.thy_block.specs.Geometry.{console_room}
 use Rattle.thy_layout.specs.declared.bad_image.BadImage.TheVariants.{Commit, Status, ConsoleLength}
 use Rattle.thy_layout.specs.Commit.{epoch_of, is_named, has_zero_rest, commit_fault}
 use Rattle.thy_layout.specs.Cpu.{record_word, is_status}

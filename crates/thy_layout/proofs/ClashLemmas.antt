@@ -2,8 +2,8 @@
 use Rattle.std.proofs.Common.{◌≡◌, ℕ, ◌*◌, ◌/◌, ◌<◌, ◌≤◌, List, length, take, drop, Option, None, sym, ◌∙◌, ap, arith}
 use Rattle.std.proofs.lemmas.List.{at_drop_all, ext_get_or, get_or-take, length-take-le}
 use Rattle.std.proofs.lemmas.List.FromFn.{length-map-range_with_len, get_or-map-range_with_len}
-use Rattle.thy_base.specs.LittleEndian.{number_at}
-use Rattle.thy_base.proofs.LittleEndianLemmas.{number_at-take}
+use Rattle.thy_block.specs.LittleEndian.{number_at}
+use Rattle.thy_block.proofs.LittleEndianLemmas.{number_at-take}
 use Rattle.thy_layout.specs.declared.bad_image.BadImage.{BadImage}
 use Rattle.thy_layout.specs.Files.{table_in}
 use Rattle.thy_layout.specs.Entries.{entry_at}

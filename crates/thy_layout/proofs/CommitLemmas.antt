@@ -1,11 +1,11 @@
 -- A commit block without a fault is the stated one of its name and epoch, and two in a row differ in one word.
 use Rattle.std.proofs.Common.{◌≡◌, ◌≢◌, ℕ, zero, suc, true, ◌⊎◌, nat_lt, List, slice_index, None, inl, inr, refl, sym, ◌∙◌, ap, subst}
 use Rattle.std.proofs.lemmas.Slice.Eq.{bytes_eq-Decides}
-use Rattle.thy_base.specs.declared.block.Block.{Block}
-use Rattle.thy_base.specs.Device.{IsOneWordApart, zero_block, block_at}
-use Rattle.thy_base.specs.LittleEndian.{number_bytes}
-use Rattle.thy_base.specs.Words.{word_of, block_of}
-use Rattle.thy_base.proofs.MadeLemmas.{IsOneWordApart-block_of}
+use Rattle.thy_block.specs.declared.block.Block.{Block}
+use Rattle.thy_block.specs.Device.{IsOneWordApart, zero_block, block_at}
+use Rattle.thy_block.specs.LittleEndian.{number_bytes}
+use Rattle.thy_block.specs.Words.{word_of, block_of}
+use Rattle.thy_block.proofs.MadeLemmas.{IsOneWordApart-block_of}
 use Rattle.thy_layout.specs.Commit.{named_words, named_block, commit_of, commit_magic, is_zero, epoch_of, is_named, has_zero_rest, commit_fault}
 use Rattle.thy_layout.specs.declared.layout_version.LayoutVersion.TheVariants.{VersionTwo}
 use Rattle.thy_isa.specs.Step.{State}

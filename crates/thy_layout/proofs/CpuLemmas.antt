@@ -4,7 +4,7 @@ use Rattle.std.proofs.lemmas.Bool.{cases_lt, ne_eqb, le-leb}
 use Rattle.std.proofs.lemmas.List.{get_or-drop, get_or-take, get_or_append_left, get_or-append-add, length-append, length-drop, length-take-le, ext_get_or, length-set, take_more_set, length-replicate, get_or-replicate, get_or_past}
 use Rattle.std.proofs.lemmas.List.FromFn.{length-map-range_with_len, get_or-map-range_with_len}
 use Rattle.std.specs.List.{range_with_len}
-use Rattle.thy_base.specs.declared.block.Block.{Block}
+use Rattle.thy_block.specs.declared.block.Block.{Block}
 use Rattle.std.proofs.Math.Nat.{add-zero}
 use Rattle.thy_isa.specs.Regs.{reg_at, regs_with}
 use Rattle.thy_isa.specs.declared.state.CpuState.{CpuState}
@@ -12,7 +12,7 @@ use Rattle.thy_isa.specs.declared.state.OtherHart.{OtherHart}
 use Rattle.thy_isa.specs.Storable.{IsStatus}
 use Rattle.thy_isa.specs.declared.state.Status.{Status}
 use Rattle.thy_isa.specs.declared.state.Status.TheVariants.{Running, Exited, Trapped}
-use Rattle.thy_base.specs.Words.{block_of}
+use Rattle.thy_block.specs.Words.{block_of}
 use Rattle.thy_layout.specs.Cpu.{status_tag, status_value, reserved_words, second_words, cpu_words, cpu_block_of, record_word, record_words, is_status}
 
 -- ---- the words of each hart

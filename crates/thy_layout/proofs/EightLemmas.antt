@@ -2,7 +2,7 @@
 use Rattle.std.proofs.Common.{◌≡◌, ℕ, ◌+◌, ◌*◌, ◌^◌, ◌-◌, ◌<◌, ◌≤◌, List, length, map, take, drop, Option, Some, None, sym, ◌∙◌, ap, inl, inr, arith}
 use Rattle.std.proofs.lemmas.Bool.{cases_lt}
 use Rattle.std.proofs.lemmas.List.{take-map, drop-map, length-drop, length-take-le, length-take, get_or_past, get_or-take, get_or-drop, ext_get_or}
-use Rattle.thy_base.specs.Words.{block_of}
+use Rattle.thy_block.specs.Words.{block_of}
 use Rattle.thy_layout.specs.Entries.{entry_at, entry_word, HaveWords}
 use Rattle.thy_layout.specs.TableSlots.{table_block_of}
 

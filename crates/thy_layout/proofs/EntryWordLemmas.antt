@@ -2,8 +2,8 @@
 use Rattle.std.proofs.Common.{◌≡◌, ℕ, ◌-◌, ◌^◌, ◌<◌, List, length, map, slice_index, Option, Some, None, refl, sym, ◌∙◌, arith, ap, subst}
 use Rattle.std.proofs.lemmas.List.{length-map, get_or-map}
 use Rattle.thy_layout.specs.Entries.{entry_at, entry_word, entry_from, HaveWords}
-use Rattle.thy_base.specs.Words.{word_of, block_of}
-use Rattle.thy_base.proofs.WordLemmas.{word_of-block_of}
+use Rattle.thy_block.specs.Words.{word_of, block_of}
+use Rattle.thy_block.proofs.WordLemmas.{word_of-block_of}
 
 -- a word that was made of an entry
 word_fits : (e : Option ℕ) → ((n : ℕ) → e ≡ Some n → n < 2 ^ 64 - 1) → entry_word e < 2 ^ 64

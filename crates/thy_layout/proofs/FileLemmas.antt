@@ -3,15 +3,15 @@ use Rattle.std.proofs.Common.{◌≡◌, ℕ, ◌+◌, ◌-◌, ◌*◌, ◌/◌
 use Rattle.std.proofs.lemmas.List.{take_all, ext_get_or, length-drop, length-take-le, drop-drop, drop-take, take-take, length-map}
 use Rattle.std.proofs.lemmas.List.FromFn.{length-map-range_with_len, get_or-map-range_with_len, length-range_with_len}
 use Rattle.std.specs.List.{range_with_len}
-use Rattle.thy_base.specs.declared.block.Block.{Block}
-use Rattle.thy_base.specs.Blocks.{block_bytes}
-use Rattle.thy_base.specs.Device.{zero_block, block_at}
-use Rattle.thy_base.specs.LittleEndian.{number_at}
-use Rattle.thy_base.proofs.BlockLemmas.{length-block_bytes, block_bytes-long}
-use Rattle.thy_base.proofs.LittleEndianLemmas.{number_at-take, number_at-drop}
+use Rattle.thy_block.specs.declared.block.Block.{Block}
+use Rattle.thy_block.specs.Blocks.{block_bytes}
+use Rattle.thy_block.specs.Device.{zero_block, block_at}
+use Rattle.thy_block.specs.LittleEndian.{number_at}
+use Rattle.thy_block.proofs.BlockLemmas.{length-block_bytes, block_bytes-long}
+use Rattle.thy_block.proofs.LittleEndianLemmas.{number_at-take, number_at-drop}
 use Rattle.thy_flat.specs.Flat.{flat, AllLong}
 use Rattle.thy_flat.proofs.FlatLemmas.{length-flat, flat_part}
-use Rattle.thy_base.specs.Words.{word_of}
+use Rattle.thy_block.specs.Words.{word_of}
 use Rattle.thy_layout.specs.Cpu.{record_word}
 use Rattle.thy_layout.specs.Entries.{entry_from}
 use Rattle.thy_layout.specs.Files.{block_in, blocks_of, table_in}

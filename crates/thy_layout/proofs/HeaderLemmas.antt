@@ -1,16 +1,16 @@
 -- A header that was written reads back, and has no fault; and what one without a fault asks for.
 use Rattle.std.proofs.Common.{◌≡◌, ℕ, ◌^◌, ◌<◌, Bool, true, false, ◌&&◌, ◌||◌, ◌==◌, nat_lt, slice_index, if◌then◌else◌, Some, None, refl, sym, ◌∙◌, ap, subst, arith}
 use Rattle.std.proofs.lemmas.Bool.{eq-eqb, eqb-true, and_from}
-use Rattle.thy_base.specs.declared.block.Block.{Block}
-use Rattle.thy_base.specs.declared.config.Parameters.{Parameters}
+use Rattle.thy_block.specs.declared.block.Block.{Block}
+use Rattle.thy_block.specs.declared.parameters.Parameters.{Parameters}
 use Rattle.thy_layout.specs.declared.layout_version.LayoutVersion.TheVariants.{VersionOne, VersionTwo}
-use Rattle.thy_base.specs.Geometry.{IsInRange}
+use Rattle.thy_block.specs.Geometry.{IsInRange}
 use Rattle.thy_layout.specs.declared.bad_image.BadImage.TheVariants.{Header, Version, Geometry}
-use Rattle.thy_base.specs.Words.{word_of}
+use Rattle.thy_block.specs.Words.{word_of}
 use Rattle.thy_layout.specs.Commit.{commit_magic, epoch_of, version_of, is_named, has_zero_rest, commit_fault}
 use Rattle.thy_layout.specs.Header.{header_magic, last_word, knows_version_one, header_words, header_of, is_of_geometry, is_of_version, header_fault}
-use Rattle.thy_base.proofs.RangeLemmas.{harts_most}
-use Rattle.thy_base.proofs.WordLemmas.{word_of-block_of}
+use Rattle.thy_block.proofs.RangeLemmas.{harts_most}
+use Rattle.thy_block.proofs.WordLemmas.{word_of-block_of}
 use Rattle.thy_layout.proofs.AskingLemmas.{commit_asks}
 use Rattle.thy_layout.proofs.ReadBackLemmas.{taken, three}
 

@@ -1,9 +1,9 @@
 -- Which blocks do not decide what an image means.
 use Rattle.std.proofs.Common.{◌≡◌, ◌≢◌, ℕ, ◌≤◌, Bool, true, false, List, [], ◌∷◌, ◌++◌, Contains, refl, sym, subst, inl, inr, arith}
 use Rattle.std.proofs.lemmas.List.Elements.{Contains-append_cases}
-use Rattle.thy_base.specs.declared.block.Block.{Block}
-use Rattle.thy_base.specs.Device.{block_at}
-use Rattle.thy_base.proofs.BasicLemmas.{not_in_none, not_first}
+use Rattle.thy_block.specs.declared.block.Block.{Block}
+use Rattle.thy_block.specs.Device.{block_at}
+use Rattle.thy_block.proofs.BasicLemmas.{not_in_none, not_first}
 use Rattle.thy_layout.specs.Commit.{is_zero}
 use Rattle.thy_layout.specs.Layout.{Layout, slot_places, memory_places, slot_in, looked_by, parts_of}
 use Rattle.thy_layout.proofs.LayoutLemmas.{looked_nothing, looked_parts}

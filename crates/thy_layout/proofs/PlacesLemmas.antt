@@ -4,11 +4,11 @@ use Rattle.std.specs.List.{range_with_len}
 use Rattle.std.proofs.lemmas.Bool.{cases_lt}
 use Rattle.std.proofs.lemmas.List.{length-map, length-append, length-replicate, get_or-map, get_or_past, get_or_append_left, get_or-append-add}
 use Rattle.std.proofs.lemmas.List.FromFn.{length-range_with_len, get_or-range_with_len}
-use Rattle.thy_base.specs.declared.block.Block.{Block}
-use Rattle.thy_base.specs.declared.config.Parameters.{Parameters}
-use Rattle.thy_base.specs.Device.{zero_block, block_at}
-use Rattle.thy_base.specs.Geometry.{memory_blocks}
-use Rattle.thy_base.proofs.BasicLemmas.{all_none, get_or-replicate_any}
+use Rattle.thy_block.specs.declared.block.Block.{Block}
+use Rattle.thy_block.specs.declared.parameters.Parameters.{Parameters}
+use Rattle.thy_block.specs.Device.{zero_block, block_at}
+use Rattle.thy_block.specs.Geometry.{memory_blocks}
+use Rattle.thy_block.proofs.BasicLemmas.{all_none, get_or-replicate_any}
 use Rattle.thy_isa.specs.Step.{State}
 use Rattle.thy_layout.specs.AreLayouts.{AreLayouts}
 use Rattle.thy_layout.specs.Decoded.{At}

@@ -4,14 +4,14 @@ use Rattle.std.proofs.lemmas.Bool.{cases_lt, eq-eqb, ne_eqb, lt-ltb, leb-true, a
 use Rattle.std.proofs.lemmas.List.{ext_get_or}
 use Rattle.std.proofs.lemmas.Slice.Eq.{bytes_eq-Decides}
 use Rattle.std.specs.Prelude.{bytes_eq}
-use Rattle.thy_base.specs.declared.block.Block.{Block}
-use Rattle.thy_base.specs.declared.config.Parameters.{Parameters}
+use Rattle.thy_block.specs.declared.block.Block.{Block}
+use Rattle.thy_block.specs.declared.parameters.Parameters.{Parameters}
 use Rattle.thy_layout.specs.declared.layout_version.LayoutVersion.TheVariants.{VersionOne, VersionTwo}
-use Rattle.thy_base.specs.Device.{zero_block}
-use Rattle.thy_base.specs.LittleEndian.{number_bytes}
-use Rattle.thy_base.specs.Geometry.{IsInRange, console_room}
-use Rattle.thy_base.proofs.RangeLemmas.{harts_least, harts_most}
-use Rattle.thy_base.specs.Places.{record_blocks}
+use Rattle.thy_block.specs.Device.{zero_block}
+use Rattle.thy_block.specs.LittleEndian.{number_bytes}
+use Rattle.thy_block.specs.Geometry.{IsInRange, console_room}
+use Rattle.thy_block.proofs.RangeLemmas.{harts_least, harts_most}
+use Rattle.thy_block.specs.Places.{record_blocks}
 use Rattle.thy_isa.proofs.MemoryBounds.{anywhere}
 use Rattle.thy_isa.specs.Regs.{reg_at}
 use Rattle.thy_isa.specs.declared.state.CpuState.{CpuState}
@@ -21,11 +21,11 @@ use Rattle.thy_isa.specs.declared.state.Reservation.TheVariants.{Nothing}
 use Rattle.thy_isa.specs.declared.state.Status.{Status}
 use Rattle.thy_isa.specs.declared.state.Status.TheVariants.{Running, Exited, Trapped}
 use Rattle.thy_isa.specs.Storable.{IsNumber, IsReservation, IsOther}
-use Rattle.thy_base.specs.Words.{word_of, block_of}
+use Rattle.thy_block.specs.Words.{word_of, block_of}
 use Rattle.thy_layout.specs.Commit.{commit_magic, named_block, commit_words, commit_of, is_zero, epoch_of, version_of, is_named, has_zero_rest, commit_fault}
 use Rattle.thy_layout.specs.Header.{knows_version_one}
 use Rattle.thy_layout.specs.Cpu.{status_tag, status_value, status_of, is_status, width_word, place_word, reservation_of, reserved_words, second_words, cpu_words, cpu_block_of, record_word, record_words, BeginsWithRecord, HasOther, FitsRecord, other_of_record, second_of_record, cpu_of_record, epoch_of_record, is_width, is_second, IsOtherRecordable, IsRecordable}
-use Rattle.thy_base.proofs.WordLemmas.{word_of-block_of}
+use Rattle.thy_block.proofs.WordLemmas.{word_of-block_of}
 use Rattle.thy_layout.proofs.CpuLemmas.{rest_words, cpu_words-reg, cpu_words-rest, cpu_words-second, second_words-reg, second_words-reserved, second_words-none, reserved_words-zero, reg_at-some, block_words, length-block_words, record_words-at, length-record_words}
 
 -- a choice whose test holds

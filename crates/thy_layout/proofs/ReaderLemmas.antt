@@ -4,13 +4,13 @@ use Rattle.std.specs.Prelude.{Result, Err}
 use Rattle.std.proofs.lemmas.List.{length-map, length-drop, length-take-le, get_or-map, get_or-drop, take_all}
 use Rattle.std.specs.Option.{option_or}
 use Rattle.std.proofs.lemmas.Bool.{cases_lt, lt-ltb, le-ltb, eq-eqb, eqb-true, and_parts}
-use Rattle.thy_base.specs.declared.block.Block.{Block}
-use Rattle.thy_base.specs.declared.config.Parameters.{Parameters}
-use Rattle.thy_base.specs.Blocks.{block_bytes}
-use Rattle.thy_base.specs.Device.{zero_block, block_at}
-use Rattle.thy_base.specs.Geometry.{IsInRange, memory_blocks, program_size}
-use Rattle.thy_base.proofs.BlockLemmas.{block_bytes-long}
-use Rattle.thy_base.proofs.RangeLemmas.{console_below}
+use Rattle.thy_block.specs.declared.block.Block.{Block}
+use Rattle.thy_block.specs.declared.parameters.Parameters.{Parameters}
+use Rattle.thy_block.specs.Blocks.{block_bytes}
+use Rattle.thy_block.specs.Device.{zero_block, block_at}
+use Rattle.thy_block.specs.Geometry.{IsInRange, memory_blocks, program_size}
+use Rattle.thy_block.proofs.BlockLemmas.{block_bytes-long}
+use Rattle.thy_block.proofs.RangeLemmas.{console_below}
 use Rattle.thy_flat.specs.Flat.{flat, memory_bytes, console_bytes, AllLong}
 use Rattle.thy_flat.proofs.FlatLemmas.{flat_more, flat-take, flat-drop, length-flat}
 use Rattle.thy_isa.specs.declared.state.CpuState.{CpuState}

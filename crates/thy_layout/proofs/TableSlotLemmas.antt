@@ -5,13 +5,13 @@ use Rattle.std.specs.Option.{option_or}
 use Rattle.std.proofs.lemmas.Bool.{lt-ltb, le-ltb, ne_eqb}
 use Rattle.std.proofs.lemmas.List.{length-map, length-take-le, length-drop, get_or-map, get_or-take, get_or-drop, ext_get_or}
 use Rattle.std.proofs.lemmas.List.FromFn.{get_or-map-range_with_len}
-use Rattle.thy_base.specs.declared.block.Block.{Block}
-use Rattle.thy_base.specs.declared.config.Parameters.{Parameters}
-use Rattle.thy_base.specs.Device.{zero_block, block_at}
-use Rattle.thy_base.specs.Geometry.{IsInRange, console_room}
-use Rattle.thy_base.specs.Places.{record_blocks}
-use Rattle.thy_base.specs.Words.{word_of}
-use Rattle.thy_base.proofs.WordLemmas.{word_of-block_of}
+use Rattle.thy_block.specs.declared.block.Block.{Block}
+use Rattle.thy_block.specs.declared.parameters.Parameters.{Parameters}
+use Rattle.thy_block.specs.Device.{zero_block, block_at}
+use Rattle.thy_block.specs.Geometry.{IsInRange, console_room}
+use Rattle.thy_block.specs.Places.{record_blocks}
+use Rattle.thy_block.specs.Words.{word_of}
+use Rattle.thy_block.proofs.WordLemmas.{word_of-block_of}
 use Rattle.thy_isa.specs.declared.state.CpuState.{CpuState}
 use Rattle.thy_layout.specs.declared.bad_image.BadImage.{BadImage}
 use Rattle.thy_layout.specs.declared.bad_image.BadImage.TheVariants.{Commit}

@@ -1,9 +1,9 @@
 -- What is written reads back, block by block; and which commit blocks are accepted under a header.
 use Rattle.std.specs.Prelude.{◌≡◌, ℕ, ◌*◌, ◌^◌, ◌<◌, ◌≤◌, Bool, true, false, List, length, map, slice_index, Option, None}
-use Rattle.thy_base.specs.declared.block.Block.{Block}
-use Rattle.thy_base.specs.declared.config.Parameters.{Parameters}
-use Rattle.thy_base.specs.Geometry.{IsInRange}
-use Rattle.thy_base.specs.Places.{record_blocks}
+use Rattle.thy_block.specs.declared.block.Block.{Block}
+use Rattle.thy_block.specs.declared.parameters.Parameters.{Parameters}
+use Rattle.thy_block.specs.Geometry.{IsInRange}
+use Rattle.thy_block.specs.Places.{record_blocks}
 use Rattle.thy_isa.specs.declared.state.CpuState.{CpuState}
 use Rattle.thy_layout.specs.declared.layout_version.LayoutVersion.TheVariants.{VersionTwo}
 use Rattle.thy_layout.specs.Commit.{commit_magic, commit_of, is_zero, epoch_of, version_of, commit_fault}
@@ -11,7 +11,7 @@ use Rattle.thy_layout.specs.Cpu.{cpu_words, record_word, BeginsWithRecord, FitsR
 use Rattle.thy_layout.specs.Header.{knows_version_one, header_of, header_fault}
 use Rattle.thy_layout.specs.Slots.{cpu_fault}
 use Rattle.thy_layout.specs.Entries.{entry_word, entry_from, HaveWords, entry_at}
-use Rattle.thy_base.specs.Words.{word_of, block_of}
+use Rattle.thy_block.specs.Words.{word_of, block_of}
 
 -- a header has no fault in an image of its length, whatever the scheme
 abbrev pub HeaderReadsBack : Type 0

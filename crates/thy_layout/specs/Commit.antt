@@ -2,16 +2,16 @@
 -- The commit block, block 1 of an image: the epoch of the committed checkpoint, and the layout version of its slot.
 use Rattle.std.specs.Prelude.{ℕ, Bool, ◌&&◌, ◌||◌, ◌==◌, nat_lt, if◌then◌else◌, List, [], ◌∷◌, Option, bytes_eq, codes, ◌%◌}
 use Rattle.byteorder.specs.Endian.{little_number}
-use Rattle.thy_base.specs.declared.block.Block.{Block}
-use Rattle.thy_base.specs.declared.config.Parameters.{Parameters}
+use Rattle.thy_block.specs.declared.block.Block.{Block}
+use Rattle.thy_block.specs.declared.parameters.Parameters.{Parameters}
 use Rattle.thy_layout.specs.declared.layout_version.LayoutVersion.{LayoutVersion}
 use Rattle.thy_layout.specs.declared.layout_version.LayoutVersion.TheVariants.{VersionOne, VersionTwo}
-use Rattle.thy_base.specs.Demands.{asked, first_fault}
+use Rattle.thy_block.specs.Demands.{asked, first_fault}
 use Rattle.thy_layout.specs.declared.bad_image.BadImage.{BadImage}
 use Rattle.thy_layout.specs.declared.bad_image.BadImage.TheVariants.{Commit}
 use Rattle.thy_layout.specs.Header.{knows_version_one}
-use Rattle.thy_base.specs.Device.{zero_block}
-use Rattle.thy_base.specs.Words.{word_of, block_of}
+use Rattle.thy_block.specs.Device.{zero_block}
+use Rattle.thy_block.specs.Words.{word_of, block_of}
 
 -- the bytes THYNCMT1 or THYNCMT2 as a number
 abbrev pub commit_magic : LayoutVersion → ℕ

@@ -1,8 +1,8 @@
 -- Part of the claim.
 -- What an image means: nothing, a refusal, or the epoch of its checkpoint and a state.
 use Rattle.std.specs.Prelude.{ℕ, List}
-use Rattle.thy_base.specs.declared.block.Block.{Block}
-use Rattle.thy_base.specs.declared.config.Parameters.{Parameters}
+use Rattle.thy_block.specs.declared.block.Block.{Block}
+use Rattle.thy_block.specs.declared.parameters.Parameters.{Parameters}
 use Rattle.thy_isa.specs.Step.{State}
 use Rattle.thy_layout.specs.declared.bad_image.BadImage.{BadImage}
 

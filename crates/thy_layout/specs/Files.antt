@@ -2,10 +2,10 @@
 -- The blocks of bytes, the entries in them, and what a check of a file says.
 use Rattle.std.specs.Prelude.{◌≡◌, ℕ, ◌*◌, ◌/◌, ◌%◌, ◌==◌, nat_lt, Bool, ◌&&◌, if◌then◌else◌, List, length, map, take, drop, Option, Result, Ok, Err}
 use Rattle.std.specs.List.{range_with_len}
-use Rattle.thy_base.specs.declared.block.Block.{Block}
-use Rattle.thy_base.specs.Device.{block_at}
-use Rattle.thy_base.specs.LittleEndian.{number_at}
-use Rattle.thy_base.specs.Places.{commit_place}
+use Rattle.thy_block.specs.declared.block.Block.{Block}
+use Rattle.thy_block.specs.Device.{block_at}
+use Rattle.thy_block.specs.LittleEndian.{number_at}
+use Rattle.thy_block.specs.Places.{commit_place}
 use Rattle.thy_isa.specs.Step.{State}
 use Rattle.thy_layout.specs.declared.found.Found.{Found}
 use Rattle.thy_layout.specs.declared.found.Found.TheVariants.{Nothing as FoundNothing, At as FoundAt}

@@ -1,7 +1,7 @@
 -- The bytes of the blocks at some places of an image.
 use Rattle.std.specs.Prelude.{ℕ, ◌<◌, List, length, map, take, drop, slice_index_or}
-use Rattle.thy_base.specs.declared.block.Block.{Block}
-use Rattle.thy_base.specs.Device.{block_at}
+use Rattle.thy_block.specs.declared.block.Block.{Block}
+use Rattle.thy_block.specs.Device.{block_at}
 use Rattle.thy_flat.specs.Flat.{flat}
 
 -- these are numbers of an image's blocks

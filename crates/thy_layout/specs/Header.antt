@@ -3,12 +3,12 @@
 -- made it, which is below 256.
 use Rattle.std.specs.Prelude.{ℕ, ◌+◌, ◌-◌, ◌*◌, Bool, ◌&&◌, ◌||◌, ◌==◌, List, [], ◌∷◌, Option, codes}
 use Rattle.byteorder.specs.Endian.{little_number}
-use Rattle.thy_base.specs.declared.block.Block.{Block}
-use Rattle.thy_base.specs.declared.config.Parameters.{Parameters}
-use Rattle.thy_base.specs.Demands.{asked, first_fault}
+use Rattle.thy_block.specs.declared.block.Block.{Block}
+use Rattle.thy_block.specs.declared.parameters.Parameters.{Parameters}
+use Rattle.thy_block.specs.Demands.{asked, first_fault}
 use Rattle.thy_layout.specs.declared.bad_image.BadImage.{BadImage}
 use Rattle.thy_layout.specs.declared.bad_image.BadImage.TheVariants.{Header, Version, Geometry}
-use Rattle.thy_base.specs.Words.{word_of, block_of}
+use Rattle.thy_block.specs.Words.{word_of, block_of}
 
 -- the bytes THYNHDR1 as a number
 abbrev pub header_magic : ℕ

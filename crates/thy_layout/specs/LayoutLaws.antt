@@ -1,9 +1,9 @@
 -- What holds of what an image means, whatever its layout.
 use Rattle.std.specs.Prelude.{◌≡◌, ◌≢◌, ℕ, ◌+◌, ◌≤◌, true, List, ◌∷◌, ◌++◌, length, replicate, Contains}
-use Rattle.thy_base.specs.declared.block.Block.{Block}
-use Rattle.thy_base.specs.declared.config.Parameters.{Parameters}
-use Rattle.thy_base.specs.Device.{zero_block, block_at}
-use Rattle.thy_base.specs.Places.{commit_place}
+use Rattle.thy_block.specs.declared.block.Block.{Block}
+use Rattle.thy_block.specs.declared.parameters.Parameters.{Parameters}
+use Rattle.thy_block.specs.Device.{zero_block, block_at}
+use Rattle.thy_block.specs.Places.{commit_place}
 use Rattle.thy_flat.specs.Flat.{flat, AllLong}
 use Rattle.thy_isa.specs.Step.{State}
 use Rattle.thy_layout.specs.AreLayouts.{AreLayouts}

@@ -2,10 +2,10 @@
 -- A slot with one table: the processor's record, and after it the table, eight entries a block.
 use Rattle.std.specs.Prelude.{ℕ, ◌-◌, ◌*◌, nat_lt, if◌then◌else◌, List, map, take, drop, Option}
 use Rattle.std.specs.Option.{option_or}
-use Rattle.thy_base.specs.declared.block.Block.{Block}
-use Rattle.thy_base.specs.declared.config.Parameters.{Parameters}
-use Rattle.thy_base.specs.Places.{record_blocks}
-use Rattle.thy_base.specs.Words.{block_of}
+use Rattle.thy_block.specs.declared.block.Block.{Block}
+use Rattle.thy_block.specs.declared.parameters.Parameters.{Parameters}
+use Rattle.thy_block.specs.Places.{record_blocks}
+use Rattle.thy_block.specs.Words.{block_of}
 use Rattle.thy_isa.specs.declared.state.CpuState.{CpuState}
 use Rattle.thy_layout.specs.declared.bad_image.BadImage.{BadImage}
 use Rattle.thy_layout.specs.Cpu.{cpu_block_of}

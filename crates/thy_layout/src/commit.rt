@@ -5,7 +5,7 @@ ghost use Rattle.thy_layout.specs.Commit.{commit_of, version_of as version_named
 use crate::bad_image::BadImage;
 use crate::header::knows_version_one;
 use crate::layout_version::LayoutVersion;
-use thy_base::{Block, Geometry, block_with, word};
+use thy_block::{Block, Geometry, block_with, word};
 
 // The bytes `THYNCMT1`, with which a commit block of version 1 begins, as a number.
 const COMMIT_MAGIC_VERSION_ONE: u64 = 0x3154_4d43_4e59_4854;
@@ -36,7 +36,7 @@ pub fn slot_of_epoch(epoch: u64) -> u64
 }
 
 /// Whether every byte is zero: as a commit block, that there is no checkpoint.
-#[tactic(auto, unfolding(crate::specs::Commit::is_zero, thy_base::specs::Device::zero_block))]
+#[tactic(auto, unfolding(crate::specs::Commit::is_zero, thy_block::specs::Device::zero_block))]
 pub fn is_zero(block: &Block) -> bool
     ensures { result ≡ has_zeros block.now }
 {

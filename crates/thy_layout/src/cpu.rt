@@ -4,7 +4,7 @@
 ghost use Rattle.std.specs.Prelude.{◌≡◌, ◌<◌, length, slice_index, Some};
 ghost use Rattle.thy_layout.specs.Cpu.{width_word, place_word, reservation_of, is_width as is_width_of, second_words, cpu_words, cpu_block_of, status_tag, status_value, status_of, is_status as is_status_of};
 
-use thy_base::{Block, block_with};
+use thy_block::{Block, block_with};
 use thy_isa::{CpuState, OtherHart, Reg, Reservation, Status};
 
 // A status as two words.

@@ -2,7 +2,7 @@
 ghost use Rattle.std.specs.Prelude.{◌≡◌, ◌/◌, ◌<◌, length};
 ghost use Rattle.thy_layout.specs.Files.{block_in as block_of_bytes};
 
-use thy_base::{BLOCK_SIZE, Block};
+use thy_block::{BLOCK_SIZE, Block};
 
 /// Block `k` of bytes, 64 a block.
 pub fn block_in(bytes: &[u8], k: usize) -> Block

@@ -3,7 +3,7 @@ ghost use Rattle.std.specs.Prelude.{◌≡◌, ◌<◌};
 ghost use Rattle.thy_layout.specs.Header.{header_of, header_fault as fault_of_header, last_word as word_of_last, knows_version_one as knows_one, is_of_geometry as of_geometry, is_of_version as of_version};
 
 use crate::bad_image::BadImage;
-use thy_base::{Block, Geometry, block_with, word};
+use thy_block::{Block, Geometry, block_with, word};
 
 // The bytes `THYNHDR1`, with which a header begins, as a number.
 const HEADER_MAGIC: u64 = 0x3152_4448_4e59_4854;

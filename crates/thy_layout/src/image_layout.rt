@@ -6,7 +6,7 @@ ghost use Rattle.thy_layout.specs.Layout.{Layouts, memory_places};
 
 use crate::bad_image::BadImage;
 use std::alloc::{AllocError, Global};
-use thy_base::{Block, Geometry};
+use thy_block::{Block, Geometry};
 
 /// What a scheme says of its images: its number, how many blocks they have, where the slot of a commit block is, what a
 /// fault of it is, and where memory is by a slot without a fault. Header, commit block and the processor's record are the

@@ -2,7 +2,7 @@
 //! entries of tables, and the refusals. A layout says where slot and memory are and what else a slot has; with it an image
 //! means a state or nothing.
 //!
-//! Open specs/Layout.antt first, then specs/Commit.antt and specs/Cpu.antt, and src/slot.rt. It depends on thy_base,
+//! Open specs/Layout.antt first, then specs/Commit.antt and specs/Cpu.antt, and src/slot.rt. It depends on thy_block,
 //! thy_crash, thy_flat and thy_isa; thy_record, thy_text and thy_view depend on it.
 #![tactic(auto)]
 

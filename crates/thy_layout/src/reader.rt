@@ -1,7 +1,7 @@
 //! The one reader of images that stand in files, for every layout.
 ghost use Rattle.std.specs.Prelude.{◌≡◌, ◌*◌, ◌≤◌, true, length, IfOk};
-ghost use Rattle.thy_base.specs.Device.{block_at};
-ghost use Rattle.thy_base.specs.Places.{commit_place};
+ghost use Rattle.thy_block.specs.Device.{block_at};
+ghost use Rattle.thy_block.specs.Places.{commit_place};
 ghost use Rattle.thy_isa.specs.Step.{state_of};
 ghost use Rattle.thy_layout.specs.Files.{blocks_of, found_in, is_long_file, file_fault, decode_file, HasCheckpointOf, HasState};
 ghost use Rattle.thy_layout.specs.Layout.{is_length, header_bad, slot_in as slot_of_image};
@@ -15,7 +15,7 @@ use crate::image_layout::ImageLayout;
 use crate::restored::state_at;
 use crate::slot::cpu_in;
 use std::alloc::{AllocError, Global};
-use thy_base::{BLOCK_SIZE, Block, COMMIT_PLACE, Geometry, HEADER_PLACE};
+use thy_block::{BLOCK_SIZE, Block, COMMIT_PLACE, Geometry, HEADER_PLACE};
 use thy_isa::MachState;
 
 /// The first fault of a header, for an image that has the layout's number of blocks or not, as `sized` says.

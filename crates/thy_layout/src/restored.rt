@@ -1,14 +1,14 @@
 //! The state whose memory stands at some places of a file.
 ghost use Rattle.std.specs.Prelude.{◌≡◌, ◌+◌, ◌^◌, ◌<◌, ◌≤◌, length, map, IfOk};
-ghost use Rattle.thy_base.specs.Device.{block_at};
-ghost use Rattle.thy_base.specs.Geometry.{memory_blocks};
+ghost use Rattle.thy_block.specs.Device.{block_at};
+ghost use Rattle.thy_block.specs.Geometry.{memory_blocks};
 ghost use Rattle.thy_isa.specs.OnBlocks.{state_from};
 ghost use Rattle.thy_isa.specs.Step.{state_of};
 ghost use Rattle.thy_layout.specs.Files.{blocks_of};
 ghost use Rattle.thy_layout.specs.Gathered.{AreInside, bytes_at};
 
 use std::alloc::{AllocError, Global};
-use thy_base::{BLOCK_SIZE, Bytes, Geometry, PAGE_BLOCKS};
+use thy_block::{BLOCK_SIZE, Bytes, Geometry, PAGE_BLOCKS};
 use thy_isa::{CpuState, MachState};
 
 // The bytes of so many blocks from the first of these places of an image on.

@@ -1,7 +1,7 @@
 //! The bytes of a slot: the processor's record, with which every slot begins.
 ghost use Rattle.std.specs.Prelude.{◌≡◌, ◌+◌, ◌*◌, ◌/◌, ◌<◌, ◌≤◌, ◌∷◌, length};
-ghost use Rattle.thy_base.specs.Geometry.{IsInRange};
-ghost use Rattle.thy_base.specs.Places.{record_blocks};
+ghost use Rattle.thy_block.specs.Geometry.{IsInRange};
+ghost use Rattle.thy_block.specs.Places.{record_blocks};
 ghost use Rattle.thy_layout.specs.Cpu.{record_word, record_words, other_of_record, second_of_record, cpu_of_record, is_second as is_second_of};
 ghost use Rattle.thy_layout.specs.Files.{blocks_of};
 ghost use Rattle.thy_layout.specs.Slots.{status_fault as fault_of_status, second_fault as fault_of_second, cpu_fault as fault_of_cpu};
@@ -9,7 +9,7 @@ ghost use Rattle.thy_layout.specs.Slots.{status_fault as fault_of_status, second
 use crate::bad_image::BadImage;
 use crate::cpu::{is_status, is_width, reservation_from, status_from};
 use byteorder::{ByteOrder, LittleEndian};
-use thy_base::{BLOCK_SIZE, Geometry};
+use thy_block::{BLOCK_SIZE, Geometry};
 use thy_isa::{CpuState, OtherHart, Reg, Regs};
 
 /// Word `i` of a slot.

@@ -1,6 +1,6 @@
 //! The start of a run.
 
-use thy_base::{Bytes, Mark};
+use thy_block::{Bytes, Mark};
 use thy_isa::MachState;
 
 /// What a machine that finds no checkpoint loads, and the input of the program.

@@ -1,12 +1,12 @@
 //! A slot with one table, in its bytes: the processor's record, 320 for each hart, and after it the table, eight an entry.
 ghost use Rattle.std.specs.Prelude.{◌≡◌, ◌+◌, ◌*◌, ◌/◌, ◌≤◌, length};
-ghost use Rattle.thy_base.specs.Places.{record_blocks};
+ghost use Rattle.thy_block.specs.Places.{record_blocks};
 ghost use Rattle.thy_layout.specs.Files.{blocks_of, table_in};
 ghost use Rattle.thy_layout.specs.TableSlots.{table_of, slot_fault_by};
 
 use crate::bad_image::BadImage;
 use crate::slot::{cpu_fault, record_size, word_in};
-use thy_base::Geometry;
+use thy_block::Geometry;
 
 /// The table of a slot, which has `entries` entries.
 pub fn table_behind<'a>(slot: &'a [u8], entries: usize, geometry: &Geometry) -> &'a [u8]

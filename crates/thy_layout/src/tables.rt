@@ -1,9 +1,9 @@
 //! The blocks of the tables, eight entries each.
 ghost use Rattle.std.specs.Prelude.{◌≡◌, ◌^◌, ◌<◌, map};
 ghost use Rattle.thy_layout.specs.Entries.{entry_word as word_of_entry, entry_from, HaveWords};
-ghost use Rattle.thy_base.specs.Words.{block_of};
+ghost use Rattle.thy_block.specs.Words.{block_of};
 
-use thy_base::{Block, block_with};
+use thy_block::{Block, block_with};
 
 // An entry as a word: 0 if it is empty, else one more than its number.
 fn entry_word(entry: Option<u64>) -> u64

@@ -1,8 +1,8 @@
 -- A write of the DRAM that lands changes nothing of what the log holds.
 use Rattle.std.proofs.Common.{◌≡◌, ℕ, Option, Some, None, refl}
 use Rattle.std.specs.List.{range_with_len}
-use Rattle.thy_base.specs.Device.{Device}
-use Rattle.thy_base.specs.Geometry.{memory_blocks}
+use Rattle.thy_block.specs.Device.{Device}
+use Rattle.thy_block.specs.Geometry.{memory_blocks}
 use Rattle.thy_dram.specs.Contents.{drained}
 use Rattle.thy_layout.proofs.AskingLemmas.{map-alike}
 use Rattle.thy_log.specs.Holding.{works}

@@ -2,9 +2,9 @@
 -- Memory, as the log and the NVM hold it together.
 use Rattle.std.specs.Prelude.{List, map}
 use Rattle.std.specs.List.{range_with_len}
-use Rattle.thy_base.specs.declared.block.Block.{Block}
-use Rattle.thy_base.specs.Device.{Device}
-use Rattle.thy_base.specs.Geometry.{memory_blocks}
+use Rattle.thy_block.specs.declared.block.Block.{Block}
+use Rattle.thy_block.specs.Device.{Device}
+use Rattle.thy_block.specs.Geometry.{memory_blocks}
 use Rattle.thy_log.specs.State.{State, home_of, work_of}
 
 -- every block as it was stored last, and every block at home

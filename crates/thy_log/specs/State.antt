@@ -3,11 +3,11 @@
 -- was stored last. Every other block is at home in the NVM.
 use Rattle.std.specs.Prelude.{◌≡◌, ℕ, length, List, map, Option, Some, None}
 use Rattle.std.specs.Option.{option_map}
-use Rattle.thy_base.specs.declared.block.Block.{Block}
-use Rattle.thy_base.specs.declared.config.Parameters.{Parameters}
-use Rattle.thy_base.specs.Device.{Device, block_at, newest}
-use Rattle.thy_base.specs.Geometry.{IsInRange, memory_blocks}
-use Rattle.thy_base.specs.Places.{dram_blocks}
+use Rattle.thy_block.specs.declared.block.Block.{Block}
+use Rattle.thy_block.specs.declared.parameters.Parameters.{Parameters}
+use Rattle.thy_block.specs.Device.{Device, block_at, newest}
+use Rattle.thy_block.specs.Geometry.{IsInRange, memory_blocks}
+use Rattle.thy_block.specs.Places.{dram_blocks}
 use Rattle.thy_dram.specs.Contents.{Contents}
 use Rattle.thy_table.specs.Listing.{Listing, IsListing, place_of, empty_table}
 use Rattle.thy_journal_image.specs.Places.{image_blocks, home_place}

@@ -2,9 +2,9 @@
 -- What a store makes of the log.
 use Rattle.std.specs.Prelude.{ℕ, Option, Some, None, unwrap_or}
 use Rattle.std.specs.Option.{option_or}
-use Rattle.thy_base.specs.declared.block.Block.{Block}
+use Rattle.thy_block.specs.declared.block.Block.{Block}
 use Rattle.thy_dram.specs.Contents.{written, drained}
-use Rattle.thy_base.specs.Device.{Device, newest}
+use Rattle.thy_block.specs.Device.{Device, newest}
 use Rattle.thy_table.specs.Listing.{Listing, free_place, with_entry, added, mapped}
 use Rattle.thy_journal_image.specs.Places.{journal_place}
 use Rattle.thy_log.specs.declared.entry.Listed.{Listed}

@@ -1,9 +1,9 @@
 //! The table and its buffers.
 ghost use Rattle.std.specs.Prelude.{◌≡◌, ◌+◌, ◌*◌, ◌/◌, ◌<◌, ◌≤◌, false, length, map, take, drop, IfOk, OnOk, OnErr, IfSome, None};
 ghost use Rattle.std.specs.Option.{option_map};
-ghost use Rattle.thy_base.specs.Device.{HasFailed, HasFailedToWrite, IsFramed, CountsFault, written_to};
-ghost use Rattle.thy_base.specs.Geometry.{memory_blocks};
-ghost use Rattle.thy_base.specs.Places.{dram_blocks};
+ghost use Rattle.thy_block.specs.Device.{HasFailed, HasFailedToWrite, IsFramed, CountsFault, written_to};
+ghost use Rattle.thy_block.specs.Geometry.{memory_blocks};
+ghost use Rattle.thy_block.specs.Places.{dram_blocks};
 ghost use Rattle.thy_layout.specs.Entries.{entry_at as listed_at};
 ghost use Rattle.thy_table.specs.Listing.{free_count, entry_at, place_of};
 ghost use Rattle.thy_log.specs.Keys.{block_key};
@@ -12,7 +12,7 @@ ghost use Rattle.thy_log.specs.Items.{listed_by};
 use crate::entry::{Listed, Live, Release};
 use std::alloc::{AllocError, Global};
 use std::marker::Model;
-use thy_base::{Block, Geometry, Nvm, NvmError};
+use thy_block::{Block, Geometry, Nvm, NvmError};
 use thy_dram::Dram;
 use thy_journal_image::{home as home_number, journal as journal_number};
 use thy_layout::table_block;

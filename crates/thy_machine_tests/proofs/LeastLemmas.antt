@@ -1,12 +1,10 @@
 -- The start of a test can be recorded, and what cuts leave of room and DRAM.
-use Rattle.std.proofs.Common.{◌≡◌, ℕ, ◌+◌, ◌^◌, ◌≤◌, ◌<◌, inl, inr, replicate, slice_index, List, [], ◌∷◌, length, refl, sym, ◌∙◌, ap, subst, suc, arith}
+use Rattle.std.proofs.Common.{◌≡◌, ℕ, ◌+◌, ◌^◌, ◌≤◌, ◌<◌, inl, inr, replicate, slice_index, List, [], ◌∷◌, length, sym, ◌∙◌, ap, subst, arith}
 use Rattle.std.proofs.lemmas.Bool.{cases_lt}
 use Rattle.std.proofs.lemmas.List.{length-replicate, get_or-replicate, get_or_past}
-use Rattle.thy_base.specs.declared.block.Block.{Block}
-use Rattle.thy_base.specs.declared.config.Parameters.{Parameters}
-use Rattle.thy_base.specs.Device.{Device, IsFramed}
-use Rattle.thy_base.specs.Geometry.{IsInRange}
-use Rattle.thy_dram.specs.Draws.{blocks_over, after_block}
+use Rattle.thy_block.specs.declared.parameters.Parameters.{Parameters}
+use Rattle.thy_block.specs.Device.{Device, IsFramed}
+use Rattle.thy_block.specs.Geometry.{IsInRange}
 use Rattle.thy_isa.specs.declared.state.Status.{Status}
 use Rattle.thy_isa.specs.Step.{State as Plain}
 use Rattle.thy_layout.specs.Cpu.{status_tag, status_value, is_status, IsOtherRecordable}
@@ -49,8 +47,3 @@ pub HasRoom-framed : (m n : Device) (cuts : ℕ) → HasRoom m cuts → IsFramed
 HasRoom-framed m n cuts room frame =
     subst (λ (k : ℕ). length n.left + cuts ≤ k) (sym frame.left_room)
     (subst (λ l. length l + cuts ≤ m.left_room) (sym frame.left) room)
-
--- the DRAM has the same number of blocks after a cut
-pub length-over : (seed : ℕ) (xs : List Block) → length (blocks_over seed xs) ≡ length xs
-length-over seed [] = refl
-length-over seed (x ∷ xs) = ap suc (length-over (after_block seed) xs)

@@ -1,12 +1,13 @@
 -- What boots, calls and cuts of the least memory leave.
 use Rattle.std.proofs.Common.{◌≡◌, ℕ, ◌-◌, ◌*◌, ◌<◌, false, [], length, Option, None, refl, sym, ◌∙◌, ap, subst}
 use Rattle.std.proofs.lemmas.List.{length-replicate}
-use Rattle.thy_base.specs.declared.block.Block.{Block}
-use Rattle.thy_base.specs.declared.config.Parameters.{Parameters}
-use Rattle.thy_base.specs.Device.{Device, IsCut, IsFramed}
-use Rattle.thy_base.specs.Places.{dram_blocks}
-use Rattle.thy_base.proofs.BasicLemmas.{get_or-replicate_any, room-cut}
+use Rattle.thy_block.specs.declared.block.Block.{Block}
+use Rattle.thy_block.specs.declared.parameters.Parameters.{Parameters}
+use Rattle.thy_block.specs.Device.{Device, IsCut, IsFramed}
+use Rattle.thy_block.specs.Places.{dram_blocks}
+use Rattle.thy_block.proofs.BasicLemmas.{get_or-replicate_any, room-cut}
 use Rattle.thy_dram.specs.Contents.{Contents, lost}
+use Rattle.thy_dram.proofs.DrawLemmas.{length-over}
 use Rattle.thy_isa.specs.Step.{State as Plain}
 use Rattle.thy_view.specs.Action.{after}
 use Rattle.thy_view.proofs.ActionLemmas.{down-after}
@@ -25,13 +26,13 @@ use Rattle.thy_journal_image.specs.Places.{slot_blocks, image_blocks}
 use Rattle.thy_log.specs.declared.entry.Listed.{Listed}
 use Rattle.thy_engine.specs.Progress.{Progress, Fits, Item, NoItem, BodyItem, RoundItem, TailItem, ReleaseItem, control_after, control_next, action_next, item_of}
 use Rattle.thy_journal_laws.specs.Design.{items_journal}
-use Rattle.thy_base.specs.Geometry.{memory_blocks}
+use Rattle.thy_block.specs.Geometry.{memory_blocks}
 use Rattle.thy_log.specs.State.{State, IsSoundState, new_state}
 use Rattle.thy_log.specs.Stores.{after_store}
 use Rattle.thy_refill.specs.Filling.{filling_journal}
 use Rattle.thy_machine_tests.specs.Least.{all, HasRoom, off}
 use Rattle.thy_machine_tests.specs.LogParts.{IsOff, IsBegun, Boots, parts, AreParts}
-use Rattle.thy_machine_tests.proofs.LeastLemmas.{HasRoom-framed, length-over}
+use Rattle.thy_machine_tests.proofs.LeastLemmas.{HasRoom-framed}
 
 -- ---- steps of the boot
 

@@ -1,13 +1,14 @@
 -- What boots, calls and cuts of the least memory leave.
 use Rattle.std.proofs.Common.{◌≡◌, ℕ, ◌-◌, ◌*◌, ◌<◌, false, [], length, refl, sym, ◌∙◌, ap, subst}
 use Rattle.std.proofs.lemmas.List.{length-replicate}
-use Rattle.thy_base.specs.declared.block.Block.{Block}
-use Rattle.thy_base.specs.declared.config.Parameters.{Parameters}
-use Rattle.thy_base.specs.Device.{Device, IsCut, IsFramed}
-use Rattle.thy_base.specs.Geometry.{memory_blocks}
-use Rattle.thy_base.specs.Places.{dram_blocks}
-use Rattle.thy_base.proofs.BasicLemmas.{room-cut}
+use Rattle.thy_block.specs.declared.block.Block.{Block}
+use Rattle.thy_block.specs.declared.parameters.Parameters.{Parameters}
+use Rattle.thy_block.specs.Device.{Device, IsCut, IsFramed}
+use Rattle.thy_block.specs.Geometry.{memory_blocks}
+use Rattle.thy_block.specs.Places.{dram_blocks}
+use Rattle.thy_block.proofs.BasicLemmas.{room-cut}
 use Rattle.thy_dram.specs.Contents.{Contents, lost}
+use Rattle.thy_dram.proofs.DrawLemmas.{length-over}
 use Rattle.thy_isa.specs.declared.state.CpuState.{CpuState}
 use Rattle.thy_isa.specs.Step.{State as Plain}
 use Rattle.thy_view.specs.Action.{after}
@@ -37,7 +38,7 @@ use Rattle.thy_shadow_laws.proofs.DesignLemmas.{stands_drained}
 use Rattle.thy_shadow_laws.proofs.PartsLemmas.{first_committed}
 use Rattle.thy_machine_tests.specs.Least.{all, HasRoom, off}
 use Rattle.thy_machine_tests.specs.PoolParts.{IsOff, Boots, parts, AreParts}
-use Rattle.thy_machine_tests.proofs.LeastLemmas.{HasRoom-framed, length-over}
+use Rattle.thy_machine_tests.proofs.LeastLemmas.{HasRoom-framed}
 
 -- ---- steps of the boot
 

@@ -1,12 +1,12 @@
 -- What the calls of a machine leave, with its device.
 use Rattle.std.proofs.Common.{◌≡◌, ℕ, ◌+◌, ◌-◌, ◌≤◌, ◌<◌, Option, None, [], length, sym, ◌∙◌, ap, subst, lit<, arith, ◌^◌}
-use Rattle.thy_base.specs.declared.config.Parameters.{Parameters}
-use Rattle.thy_base.specs.declared.nvm.Shape.{Shape}
-use Rattle.thy_base.specs.declared.mark.Mark.{Mark}
-use Rattle.thy_base.specs.Device.{Device, IsFramed, fitted, IsCut}
-use Rattle.thy_base.specs.Geometry.{IsInRange, program_size}
-use Rattle.thy_base.specs.declared.mix.Pick.{Pick}
-use Rattle.thy_base.proofs.BasicLemmas.{room-cut}
+use Rattle.thy_block.specs.declared.parameters.Parameters.{Parameters}
+use Rattle.thy_block.specs.declared.nvm.Shape.{Shape}
+use Rattle.thy_block.specs.declared.mark.Mark.{Mark}
+use Rattle.thy_block.specs.Device.{Device, IsFramed, fitted, IsCut}
+use Rattle.thy_block.specs.Geometry.{IsInRange, program_size}
+use Rattle.thy_block.specs.declared.mix.Pick.{Pick}
+use Rattle.thy_block.proofs.BasicLemmas.{room-cut}
 use Rattle.thy_isa.specs.declared.state.Status.TheVariants.{Running}
 use Rattle.thy_isa.specs.Step.{State}
 use Rattle.thy_isa.specs.Storable.{IsNumber, IsStorable, IsReadable}
@@ -23,13 +23,8 @@ use Rattle.thy_view.specs.Told.{HasTurn, IsThere}
 use Rattle.thy_view.specs.declared.did.Stepped.{Stepped}
 use Rattle.thy_view.proofs.AgainLaws.{goes_on_after_cut}
 use Rattle.thy_view.proofs.OneHartLaws.{has-turn}
-use Rattle.thy_machine_tests.specs.Powered.{HasRoom, origin_from, powered, IsPowered}
-
--- the room for cuts stays but for a cut
-HasRoom-framed : (m n : Device) (cuts : ℕ) → HasRoom m cuts → IsFramed m n → HasRoom n cuts
-HasRoom-framed m n cuts room frame =
-    subst (λ (k : ℕ). length n.left + cuts ≤ k) (sym frame.left_room)
-    (subst (λ l. length l + cuts ≤ m.left_room) (sym frame.left) room)
+use Rattle.thy_machine_tests.specs.Powered.{origin_from, powered, IsPowered}
+use Rattle.thy_machine_tests.proofs.LeastLemmas.{HasRoom-framed}
 
 -- a run may start as a program is loaded
 pub IsOrigin-start : (o : Origin) (contents : Contents) → IsInRange o.geometry → o.start ≡ start_state o.geometry contents → IsStorable (program_size o.geometry) o.start → IsReadable (setting_of o) → o.kept ≡ None → o.geometry.harts ≡ 1 → IsOrigin o

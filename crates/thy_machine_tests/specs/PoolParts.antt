@@ -1,9 +1,9 @@
 -- Pool, engine and boot of shadow paging that a test drives, and the NVM below them.
 use Rattle.std.specs.Prelude.{◌≡◌, ℕ, false, [], length}
-use Rattle.thy_base.specs.declared.config.Parameters.{Parameters}
-use Rattle.thy_base.specs.Device.{Device}
-use Rattle.thy_base.specs.Geometry.{memory_blocks}
-use Rattle.thy_base.specs.Places.{dram_blocks}
+use Rattle.thy_block.specs.declared.parameters.Parameters.{Parameters}
+use Rattle.thy_block.specs.Device.{Device}
+use Rattle.thy_block.specs.Geometry.{memory_blocks}
+use Rattle.thy_block.specs.Places.{dram_blocks}
 use Rattle.thy_isa.specs.Step.{State as Plain}
 use Rattle.thy_boot.specs.Boot.{Booting, IsBoot}
 use Rattle.thy_boot.specs.Start.{CanStart}

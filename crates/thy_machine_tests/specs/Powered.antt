@@ -1,8 +1,8 @@
 -- A machine of a test whose power is on, with its device.
 use Rattle.std.specs.Prelude.{◌≡◌, ℕ, ◌+◌, ◌≤◌, ◌<◌, ◌^◌, [], length}
-use Rattle.thy_base.specs.declared.config.Parameters.{Parameters}
-use Rattle.thy_base.specs.Bytes.{bytes_of}
-use Rattle.thy_base.specs.Device.{Device}
+use Rattle.thy_block.specs.declared.parameters.Parameters.{Parameters}
+use Rattle.thy_block.specs.Bytes.{bytes_of}
+use Rattle.thy_block.specs.Device.{Device}
 use Rattle.thy_isa.specs.Step.{state_of}
 use Rattle.thy_layout.specs.declared.start.Start.{Start}
 use Rattle.thy_view.specs.Kind.{KindOf}

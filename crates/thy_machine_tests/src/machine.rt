@@ -2,7 +2,7 @@
 //! and cuts of power after every cycle of each run. What a restart finds is compared with the checkpoints that were
 //! committed, and the state there and at the end with that of the plain machine.
 ghost use Rattle.std.specs.Prelude.{◌≡◌, None};
-ghost use Rattle.thy_base.specs.Geometry.{program_size};
+ghost use Rattle.thy_block.specs.Geometry.{program_size};
 ghost use Rattle.thy_view.specs.Origin.{IsOrigin};
 ghost use Rattle.thy_view.specs.Kind.{IsDramOf};
 ghost use Rattle.thy_machine_tests.specs.Powered.{origin_from};

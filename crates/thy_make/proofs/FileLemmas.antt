@@ -2,7 +2,7 @@
 use Rattle.std.proofs.Common.{◌≡◌, ℕ, ◌+◌, ◌*◌, List, [], ◌∷◌, ◌++◌, length, refl, sym, ◌∙◌, ap, arith, length-append}
 use Rattle.std.proofs.lemmas.List.Concat.{flat_map-append}
 use Rattle.std.specs.List.{flat_map}
-use Rattle.thy_base.specs.LittleEndian.{number_bytes}
+use Rattle.thy_block.specs.LittleEndian.{number_bytes}
 use Rattle.thy_make.specs.declared.one_segment.HeaderField.{HeaderField}
 use Rattle.thy_make.specs.File.{field_bytes, file_header, segment_header, file_of, made_file}
 use Rattle.thy_make.specs.Program.{made_words}

@@ -3,8 +3,8 @@ use Rattle.std.proofs.Common.{◌≡◌, ℕ, ◌+◌, ◌-◌, ◌*◌, ◌≤�
 use Rattle.std.proofs.lemmas.Bool.{le-leb}
 use Rattle.std.proofs.lemmas.List.{append-nil, take_all, drop-replicate}
 use Rattle.std.specs.List.{flat_map}
-use Rattle.thy_base.specs.Bytes.{written}
-use Rattle.thy_base.specs.LittleEndian.{number_at, number_bytes}
+use Rattle.thy_block.specs.Bytes.{written}
+use Rattle.thy_block.specs.LittleEndian.{number_at, number_bytes}
 use Rattle.thy_elf.specs.declared.program_header.ProgramHeader.{ProgramHeader}
 use Rattle.thy_elf.specs.Header.{begins_as_elf, header_demands}
 use Rattle.thy_elf.specs.Image.{read_of}

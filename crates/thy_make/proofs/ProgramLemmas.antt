@@ -2,7 +2,7 @@
 use Rattle.std.proofs.Common.{◌≡◌, ℕ, zero, suc, ◌+◌, ◌-◌, ◌*◌, ◌<◌, List, [], ◌∷◌, ◌++◌, length, map, slice_get, Some, refl, sym, ◌∙◌, ap, arith, length-append}
 use Rattle.std.proofs.lemmas.List.{append_assoc, append-nil, map-append, length-map}
 use Rattle.std.specs.List.{flat_map}
-use Rattle.thy_base.specs.Lcg.{lcg_next, lcg_draw}
+use Rattle.thy_block.specs.Lcg.{lcg_next, lcg_draw}
 use Rattle.thy_isa.specs.declared.instr.Instr.{Instr}
 use Rattle.thy_isa.specs.declared.instr.Instr.TheVariants.{Jal}
 use Rattle.thy_make.specs.Encode.{encoded}

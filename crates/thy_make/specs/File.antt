@@ -2,7 +2,7 @@
 -- Program files of one segment, and the file of the made program.
 use Rattle.std.specs.Prelude.{ℕ, ◌*◌, List, [], ◌∷◌, ◌++◌, length}
 use Rattle.std.specs.List.{flat_map}
-use Rattle.thy_base.specs.LittleEndian.{number_bytes}
+use Rattle.thy_block.specs.LittleEndian.{number_bytes}
 use Rattle.thy_make.specs.declared.one_segment.HeaderField.{HeaderField}
 use Rattle.thy_make.specs.declared.one_segment.HeaderField.TheVariants.{U8, U16, U32, U64}
 use Rattle.thy_make.specs.Program.{made_words}

@@ -1,7 +1,7 @@
 -- What made programs are.
 use Rattle.std.specs.Prelude.{◌≡◌, ℕ, ◌+◌, ◌*◌, ◌^◌, ◌%◌, ◌-◌, ◌≤◌, ◌++◌, length, replicate, slice_get, Some, Ok}
 use Rattle.std.specs.List.{All, flat_map}
-use Rattle.thy_base.specs.LittleEndian.{number_bytes}
+use Rattle.thy_block.specs.LittleEndian.{number_bytes}
 use Rattle.thy_elf.specs.Image.{Contents, read_of}
 use Rattle.thy_isa.specs.declared.instr.Instr.{Instr}
 use Rattle.thy_isa.specs.declared.instr.Instr.TheVariants.{Jal}

@@ -2,7 +2,7 @@
 -- The made program: its instructions, whose stores are drawn.
 use Rattle.std.specs.Prelude.{ℕ, zero, suc, ◌+◌, ◌-◌, ◌*◌, ◌/◌, ◌%◌, ◌^◌, ◌==◌, if◌then◌else◌, List, [], ◌∷◌, ◌++◌, map}
 use Rattle.std.specs.List.{flat_map}
-use Rattle.thy_base.specs.Lcg.{lcg_next, lcg_draw}
+use Rattle.thy_block.specs.Lcg.{lcg_next, lcg_draw}
 use Rattle.thy_isa.specs.declared.instr.Alu.TheVariants.{Add}
 use Rattle.thy_isa.specs.declared.instr.Cond.TheVariants.{Equal}
 use Rattle.thy_isa.specs.declared.instr.Instr.{Instr}

@@ -2,7 +2,7 @@
 //! exit. `file` gives exactly the stated bytes, unless memory ran out; `made_files_are_images` says that the loader takes
 //! them. How a program ends is tested.
 //!
-//! Open specs/Program.antt first, and src/made.rt. It stands on thy_base, thy_isa and thy_elf; on it stand
+//! Open specs/Program.antt first, and src/made.rt. It stands on thy_block, thy_isa and thy_elf; on it stand
 //! thy_answer and thy_files.
 #![tactic(auto)]
 

@@ -1,12 +1,12 @@
 //! The file of a made program.
 ghost use Rattle.std.specs.Prelude.{◌≡◌, length, IfOk};
-ghost use Rattle.thy_base.specs.Bytes.{bytes_of};
+ghost use Rattle.thy_block.specs.Bytes.{bytes_of};
 ghost use Rattle.thy_make.specs.File.{made_file};
 
 use crate::one_segment::small_file;
 use crate::program::words;
 use std::alloc::{AllocError, Global};
-use thy_base::Bytes;
+use thy_block::Bytes;
 
 /// The program file of number n. Allocates it, and its words while it is made.
 pub fn file(alloc: Global, n: u64) -> Result<Bytes, AllocError>

@@ -1,12 +1,12 @@
 //! Program files of one segment.
 ghost use Rattle.std.specs.Prelude.{◌≡◌, ◌<◌, ◌^◌, ◌++◌, length, IfOk, OnOk};
 ghost use Rattle.std.specs.List.{flat_map};
-ghost use Rattle.thy_base.specs.Bytes.{bytes_of};
-ghost use Rattle.thy_base.specs.LittleEndian.{number_bytes};
+ghost use Rattle.thy_block.specs.Bytes.{bytes_of};
+ghost use Rattle.thy_block.specs.LittleEndian.{number_bytes};
 ghost use Rattle.thy_make.specs.File.{field_bytes, file_header as file_header_of, segment_header as segment_header_of, file_of};
 
 use std::alloc::{AllocError, Global};
-use thy_base::Bytes;
+use thy_block::Bytes;
 
 /// How many bytes precede the words.
 const HEADERS: usize = 120;
@@ -50,7 +50,7 @@ fn push_fields(file: &mut Bytes, fields: &[HeaderField]) -> Result<(), AllocErro
 }
 
 /// Adds the bytes of a field.
-#[tactic(auto, unfolding(thy_base::specs::LittleEndian::number_bytes))]
+#[tactic(auto, unfolding(thy_block::specs::LittleEndian::number_bytes))]
 fn push_field(file: &mut Bytes, field: &HeaderField) -> Result<(), AllocError>
     ensures { OnOk result (bytes_of file.new ≡ bytes_of file.old ++ field_bytes field.now) }
 {
@@ -63,7 +63,7 @@ fn push_field(file: &mut Bytes, field: &HeaderField) -> Result<(), AllocError>
 }
 
 /// Adds the bytes of words.
-#[tactic(auto, unfolding(thy_base::specs::LittleEndian::number_bytes))]
+#[tactic(auto, unfolding(thy_block::specs::LittleEndian::number_bytes))]
 fn push_words(file: &mut Bytes, words: &[u32]) -> Result<(), AllocError>
     ensures { OnOk result (bytes_of file.new ≡ bytes_of file.old ++ flat_map (number_bytes 4) words.now) }
 {

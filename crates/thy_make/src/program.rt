@@ -6,7 +6,7 @@ ghost use Rattle.thy_make.specs.Program.{addi as addi_of, draws, page_of, offset
 
 use crate::encode::word;
 use std::alloc::{AllocError, Global};
-use thy_base::Lcg;
+use thy_block::Lcg;
 use thy_isa::{Alu, Cond, Instr, Reg, Width};
 
 /// How many words a program has.

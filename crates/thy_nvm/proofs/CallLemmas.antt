@@ -3,10 +3,10 @@ use Rattle.std.proofs.Common.{◌≡◌, ℕ, ◌+◌, take, drop, refl, sym, �
 use Rattle.std.proofs.Math.Seq.{take-add}
 use Rattle.std.proofs.lemmas.List.{drop-drop}
 use Rattle.std.specs.Prelude.{Option, Some, None, Result, Ok, Err, OnErr, is_err, is_some}
-use Rattle.thy_base.specs.declared.block.Block.{Block}
-use Rattle.thy_base.specs.declared.nvm.NvmError.{NvmError}
-use Rattle.thy_base.specs.Device.{Device, HoldsNoMore, HasFailed, HasFailedToWrite, IsFramed, applied, landed, drained, settled, with_queued}
-use Rattle.thy_base.proofs.DeviceLemmas.{length-applied, length-landed, applied-append, no_more-with_queued}
+use Rattle.thy_block.specs.declared.block.Block.{Block}
+use Rattle.thy_block.specs.declared.nvm.NvmError.{NvmError}
+use Rattle.thy_block.specs.Device.{Device, HoldsNoMore, HasFailed, HasFailedToWrite, IsFramed, applied, landed, drained, settled, with_queued}
+use Rattle.thy_block.proofs.DeviceLemmas.{length-applied, length-landed, applied-append, no_more-with_queued}
 use Rattle.thy_ring.specs.Held.{Held, as_device}
 use Rattle.thy_nvm.specs.declared.call_faults.Fault.{Fault}
 use Rattle.thy_nvm.specs.declared.call_faults.Fault.TheVariants.{Undone, Late}

@@ -1,8 +1,8 @@
 -- Images of one size, one after another.
 use Rattle.std.proofs.Common.{◌≡◌, ℕ, ◌+◌, ◌*◌, ◌<◌, ◌≤◌, zero, suc, List, [], ◌∷◌, ◌++◌, length, take, drop, slice_index_or, refl, sym, ◌∙◌, ap, subst, arith, add-one}
 use Rattle.std.proofs.lemmas.List.{length-append, length_push, length-drop, nil_from_length, take-append-le, drop-append-le, take_all, get_or-take, get_or-drop}
-use Rattle.thy_base.specs.declared.block.Block.{Block}
-use Rattle.thy_base.specs.Device.{zero_block, block_at}
+use Rattle.thy_block.specs.declared.block.Block.{Block}
+use Rattle.thy_block.specs.Device.{zero_block, block_at}
 use Rattle.thy_nvm.specs.Kept.{Cuts, with_cut, images_of, cuts_in}
 
 pub length-images_of : (size count : ℕ) (blocks : List Block) → length (images_of size count blocks) ≡ count

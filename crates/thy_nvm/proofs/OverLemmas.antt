@@ -2,10 +2,10 @@
 use Rattle.std.proofs.Common.{◌≡◌, ℕ, suc, ◌+◌, ◌<◌, ◌==◌, if◌then◌else◌, Bool, true, false, List, [], ◌∷◌, ◌++◌, length, take, drop, slice_set, slice_index_or, refl, sym, ◌∙◌, ap, subst, inl, inr, arith}
 use Rattle.std.proofs.lemmas.Bool.{cases_lt, lt-ltb}
 use Rattle.std.proofs.lemmas.List.{get_or_default, get_or_past}
-use Rattle.thy_base.specs.declared.block.Block.{Block}
-use Rattle.thy_base.specs.declared.nvm.Write.{Write}
-use Rattle.thy_base.specs.Device.{Crash, IsLeftOf, MayLeave, zero_block, block_at, queued_for, newest_over, applied, newest, landed, settled, surplus, written_to, write_of}
-use Rattle.thy_base.proofs.CrashLemmas.{Crash-image}
+use Rattle.thy_block.specs.declared.block.Block.{Block}
+use Rattle.thy_block.specs.declared.nvm.Write.{Write}
+use Rattle.thy_block.specs.Device.{Crash, IsLeftOf, MayLeave, zero_block, block_at, queued_for, newest_over, applied, newest, landed, settled, surplus, written_to, write_of}
+use Rattle.thy_block.proofs.CrashLemmas.{Crash-image}
 use Rattle.thy_ring.specs.Held.{Held, device_of, as_device, put_at}
 use Rattle.thy_ring.specs.Merged.{merged, is_marked, AreMarked}
 use Rattle.thy_ring.proofs.MergedLemmas.{length-merged, block_at-merged, merged-write, merged-applied, merged-copy, AreMarked-append, AreMarked-take, AreMarked-drop, queued_for-unmarked, newest_over-unmarked}

@@ -4,15 +4,15 @@ use Rattle.std.proofs.Math.Seq.{take-add}
 use Rattle.std.proofs.lemmas.Bool.{cases_lt, cases_eq, false≢true}
 use Rattle.std.proofs.lemmas.List.{append_assoc, length-drop, length-take-le, set-get_or, take_at, take_more_set, drop_at, drop-drop, drop-set-lt, at_drop_more, get_or_past}
 use Rattle.std.proofs.lemmas.List.Elements.{Contains-push, Contains-append_left, Contains-get_or}
-use Rattle.thy_base.specs.declared.block.Block.{Block}
-use Rattle.thy_base.specs.declared.nvm.Write.{Write}
-use Rattle.thy_base.specs.Bytes.{written}
-use Rattle.thy_base.specs.Device.{Device, word_bytes, IsMadeOf, Crash, IsCut, zero_block, block_at, queued_for, possible, cut_to}
-use Rattle.thy_base.specs.Lcg.{lcg_next, lcg_draw}
-use Rattle.thy_base.proofs.BlockLemmas.{overwritten-long}
-use Rattle.thy_base.proofs.CrashLemmas.{Contains-stands, Crash-of_blocks}
-use Rattle.thy_base.proofs.MadeLemmas.{IsMadeOf-one}
-use Rattle.thy_base.proofs.WrittenLemmas.{drop-written, take-written_behind, take-drop_take}
+use Rattle.thy_block.specs.declared.block.Block.{Block}
+use Rattle.thy_block.specs.declared.nvm.Write.{Write}
+use Rattle.thy_block.specs.Bytes.{written}
+use Rattle.thy_block.specs.Device.{Device, word_bytes, IsMadeOf, Crash, IsCut, zero_block, block_at, queued_for, possible, cut_to}
+use Rattle.thy_block.specs.Lcg.{lcg_next, lcg_draw}
+use Rattle.thy_block.proofs.BlockLemmas.{overwritten-long}
+use Rattle.thy_block.proofs.CrashLemmas.{Contains-stands, Crash-of_blocks}
+use Rattle.thy_block.proofs.MadeLemmas.{IsMadeOf-one}
+use Rattle.thy_block.proofs.WrittenLemmas.{drop-written, take-written_behind, take-drop_take}
 use Rattle.thy_ring.specs.Held.{Held, device_of, put_at}
 use Rattle.thy_nvm.specs.Pick.{drawn_block, drawn_seed, drawn, with_word, torn_on, torn_block, after_draws, torn_seed, torn, torn_at, landing, picked}
 

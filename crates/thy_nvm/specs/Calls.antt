@@ -1,7 +1,7 @@
 -- Which calls of a device in memory fail, and how.
 use Rattle.std.specs.Prelude.{ℕ, ◌==◌, if◌then◌else◌, Bool, List, Option, Some, None}
 use Rattle.std.specs.List.{list_any}
-use Rattle.thy_base.specs.Counts.{next}
+use Rattle.thy_block.specs.Counts.{next}
 use Rattle.thy_nvm.specs.declared.call_faults.Fault.{Fault}
 use Rattle.thy_nvm.specs.declared.call_faults.Fault.TheVariants.{Undone, Late}
 

@@ -1,7 +1,7 @@
 -- What is left of a place for which words are chosen.
 use Rattle.std.specs.Prelude.{◌≡◌, ℕ}
-use Rattle.thy_base.specs.declared.block.Block.{Block}
-use Rattle.thy_base.specs.Device.{possible, IsMadeOf}
+use Rattle.thy_block.specs.declared.block.Block.{Block}
+use Rattle.thy_block.specs.Device.{possible, IsMadeOf}
 use Rattle.thy_ring.specs.Held.{Held, device_of, put_at}
 
 -- one place has a block that is made of those possible there

@@ -1,11 +1,11 @@
 -- How a device lies in memory, and what its calls leave.
 use Rattle.std.specs.Prelude.{◌≡◌, ℕ, ◌+◌, ◌/◌, Bool, true, false, List, length, Option, Some, None, is_some, Result, is_err, MatchResult, ⊤}
-use Rattle.thy_base.specs.declared.block.Block.{Block}
-use Rattle.thy_base.specs.declared.nvm.FitError.{FitError}
-use Rattle.thy_base.specs.declared.nvm.NvmError.{NvmError}
-use Rattle.thy_base.specs.declared.nvm.Shape.{Shape}
-use Rattle.thy_base.specs.Counts.{next}
-use Rattle.thy_base.specs.Device.{Device, landed, written_to, fitted}
+use Rattle.thy_block.specs.declared.block.Block.{Block}
+use Rattle.thy_block.specs.declared.nvm.FitError.{FitError}
+use Rattle.thy_block.specs.declared.nvm.NvmError.{NvmError}
+use Rattle.thy_block.specs.declared.nvm.Shape.{Shape}
+use Rattle.thy_block.specs.Counts.{next}
+use Rattle.thy_block.specs.Device.{Device, landed, written_to, fitted}
 use Rattle.thy_ring.specs.Held.{Held, nothing, made, device_of}
 use Rattle.thy_nvm.specs.declared.call_faults.Fault.{Fault}
 use Rattle.thy_nvm.specs.declared.call_faults.Fault.TheVariants.{Undone, Late}

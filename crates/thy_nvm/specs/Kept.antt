@@ -1,7 +1,7 @@
 -- What is kept of the cuts since a device was fitted.
 use Rattle.std.specs.Prelude.{◌≡◌, ℕ, ◌*◌, ◌≤◌, suc, zero, List, [], ◌∷◌, ◌++◌, length, take, drop, vec_capacity}
 use Rattle.std.specs.Global.{Vec}
-use Rattle.thy_base.specs.declared.block.Block.{Block}
+use Rattle.thy_block.specs.declared.block.Block.{Block}
 
 pub record Cuts : Type 0 where
   -- how many blocks an image has

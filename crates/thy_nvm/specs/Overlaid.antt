@@ -1,8 +1,8 @@
 -- A device over the image of another one: what it holds, and how it lies in memory.
 use Rattle.std.specs.Prelude.{◌≡◌, ℕ, false, Bool, List, [], length, slice_set}
-use Rattle.thy_base.specs.declared.block.Block.{Block}
-use Rattle.thy_base.specs.Counts.{next}
-use Rattle.thy_base.specs.Device.{Device, written_to}
+use Rattle.thy_block.specs.declared.block.Block.{Block}
+use Rattle.thy_block.specs.Counts.{next}
+use Rattle.thy_block.specs.Device.{Device, written_to}
 use Rattle.thy_ring.specs.Held.{Held}
 use Rattle.thy_ring.specs.Merged.{merged, AreMarked}
 use Rattle.thy_nvm.specs.DeviceInMemory.{InMemory, device_in, failed}

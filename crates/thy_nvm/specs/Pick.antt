@@ -1,10 +1,10 @@
 -- The image that a pick leaves when the power of a device in memory is cut.
 use Rattle.std.specs.Prelude.{ℕ, zero, suc, ◌+◌, ◌*◌, ◌%◌, ◌==◌, if◌then◌else◌, Bool, List, [], ◌∷◌, length, slice_index_or}
-use Rattle.thy_base.specs.declared.block.Block.{Block}
-use Rattle.thy_base.specs.declared.nvm.Write.{Write}
-use Rattle.thy_base.specs.Blocks.{overwritten}
-use Rattle.thy_base.specs.Device.{Device, word_bytes, block_at, queued_for, applied, cut_to}
-use Rattle.thy_base.specs.Lcg.{lcg_next, lcg_draw}
+use Rattle.thy_block.specs.declared.block.Block.{Block}
+use Rattle.thy_block.specs.declared.nvm.Write.{Write}
+use Rattle.thy_block.specs.Blocks.{overwritten}
+use Rattle.thy_block.specs.Device.{Device, word_bytes, block_at, queued_for, applied, cut_to}
+use Rattle.thy_block.specs.Lcg.{lcg_next, lcg_draw}
 use Rattle.thy_ring.specs.Held.{Held, device_of, put_at, unqueued}
 use Rattle.thy_nvm.specs.DeviceInMemory.{InMemory, on_device}
 

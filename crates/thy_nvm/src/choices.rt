@@ -1,12 +1,12 @@
 //! What a cut leaves that is given its choices.
 ghost use Rattle.std.specs.Prelude.{◌≡◌, ◌<◌, ◌^◌, [], false, length, Contains};
-ghost use Rattle.thy_base.specs.Device.{possible, queued_for, IsMadeOf, Crash};
+ghost use Rattle.thy_block.specs.Device.{possible, queued_for, IsMadeOf, Crash};
 ghost use Rattle.thy_ring.specs.Held.{device_of};
 ghost use Rattle.thy_nvm.specs.Chosen.{IsChosenAt};
 ghost use Rattle.thy_nvm.specs.Pick.{landing};
 
 use crate::pick::replace_word;
-use thy_base::Block;
+use thy_block::Block;
 use thy_ring::Ring;
 
 /// Which words cuts leave: of each place with queued writes, by rising number, eight numbers, one for each of its words. A

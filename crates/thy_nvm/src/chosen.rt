@@ -2,7 +2,7 @@
 use crate::choices::Choices;
 use crate::mem_nvm::MemNvm;
 use std::alloc::Global;
-use thy_base::{Block, FitError, Nvm, NvmError, Shape};
+use thy_block::{Block, FitError, Nvm, NvmError, Shape};
 
 /// A device in memory whose blocks may be torn, as `MemNvm::tearing`, but which words a cut leaves is a list and not drawn
 /// by the cut's pick. For tests whose cuts are worked out by hand.

@@ -1,11 +1,11 @@
 //! What is kept of the cuts of a device.
 ghost use Rattle.std.specs.Prelude.{◌≡◌, ◌<◌, ◌≤◌, ◌+◌, ◌*◌, length, IfOk, slice_index_or, [], ◌∷◌, ◌++◌, vec_len, vec_capacity};
-ghost use Rattle.thy_base.specs.Device.{block_at};
+ghost use Rattle.thy_block.specs.Device.{block_at};
 ghost use Rattle.thy_nvm.specs.Kept.{no_cuts, with_cut};
 
 use std::alloc::{AllocError, Global};
 use std::marker::Model;
-use thy_base::Block;
+use thy_block::Block;
 
 /// The images that cuts left, all of one size in blocks, and the picks of the cuts. Only `with_room`
 /// allocates.

@@ -1,8 +1,8 @@
 //! A device that lies in the memory of the host.
 ghost use Rattle.std.specs.Prelude.{◌≡◌, ◌+◌, ◌<◌, ◌≤◌, ◌^◌, true, false, length, is_err, is_some, IfOk, IfSome, OnOk, OnErr, IfErr, slice_index_or, []};
-ghost use Rattle.thy_base.specs.declared.nvm.Write.{Write as Written};
-ghost use Rattle.thy_base.specs.Counts.{Rose};
-ghost use Rattle.thy_base.specs.Device.{Device, newest, block_at, written_to, drained, settled, fitted, IsCut, IsFramed, HasFailed, HasFailedToWrite, HasFailedToFit, CountsFault, CountsWrite};
+ghost use Rattle.thy_block.specs.declared.nvm.Write.{Write as Written};
+ghost use Rattle.thy_block.specs.Counts.{Rose};
+ghost use Rattle.thy_block.specs.Device.{Device, newest, block_at, written_to, drained, settled, fitted, IsCut, IsFramed, HasFailed, HasFailedToWrite, HasFailedToFit, CountsFault, CountsWrite};
 ghost use Rattle.thy_nvm.specs.DeviceInMemory.{InMemory, fresh_device, with_device, on_device, IsFit, IsFresh, written, with_write, half_settled, failed, left_after, IsCall};
 ghost use Rattle.thy_nvm.specs.Pick.{cut_by};
 ghost use Rattle.thy_ring.specs.Held.{as_device, held_by};
@@ -15,7 +15,7 @@ use crate::over::block_of_image;
 use crate::pick::{leave, size_of};
 use std::alloc::{AllocError, Global};
 use std::marker::Model;
-use thy_base::{Block, FitError, Nvm, NvmError, Shape, Write};
+use thy_block::{Block, FitError, Nvm, NvmError, Shape, Write};
 use thy_ring::Ring;
 
 /// A non-volatile memory. It is empty until it is fitted. Its reads, writes, drains and barriers are numbered from 1 on,

@@ -1,11 +1,11 @@
 //! Blocks that were written over those of another image.
 ghost use Rattle.std.specs.Prelude.{◌≡◌, ◌<◌, [], true, length, replicate, slice_set};
-ghost use Rattle.thy_base.specs.Counts.{next};
-ghost use Rattle.thy_base.specs.Device.{block_at};
+ghost use Rattle.thy_block.specs.Counts.{next};
+ghost use Rattle.thy_block.specs.Device.{block_at};
 ghost use Rattle.thy_ring.specs.Held.{put_at};
 ghost use Rattle.thy_ring.specs.Merged.{merged, AreMarked};
 
-use thy_base::Block;
+use thy_block::Block;
 use thy_ring::Ring;
 
 /// A count with one more, if it is not at its last value.
@@ -16,7 +16,7 @@ pub(crate) fn one_more(count: u64) -> u64
 }
 
 /// The block at a place of an image.
-#[tactic(auto, unfolding(thy_base::specs::Device::zero_block))]
+#[tactic(auto, unfolding(thy_block::specs::Device::zero_block))]
 pub(crate) fn block_of_image(image: &[Block], at: u64) -> Block
     requires { at < length image.now }
     ensures { result ≡ block_at image.now at }

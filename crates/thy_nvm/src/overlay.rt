@@ -1,8 +1,8 @@
 //! A device over the image of another.
 ghost use Rattle.std.specs.Prelude.{◌≡◌, ◌<◌, ◌≤◌, false, ℕ, length, Ok, Err, IfOk, OnOk, OnErr, IfErr};
-ghost use Rattle.thy_base.specs.Counts.{next};
-ghost use Rattle.thy_base.specs.Device.{Crash, block_at, newest, written_to, drained, settled, fitted, cut_to, IsCut, IsFramed, HasFailed, HasFailedToWrite, HasFailedToFit, CountsFault, CountsWrite};
-ghost use Rattle.thy_base.specs.declared.nvm.FitError.TheVariants.{Failed};
+ghost use Rattle.thy_block.specs.Counts.{next};
+ghost use Rattle.thy_block.specs.Device.{Crash, block_at, newest, written_to, drained, settled, fitted, cut_to, IsCut, IsFramed, HasFailed, HasFailedToWrite, HasFailedToFit, CountsFault, CountsWrite};
+ghost use Rattle.thy_block.specs.declared.nvm.FitError.TheVariants.{Failed};
 ghost use Rattle.thy_nvm.specs.Overlaid.{left_of, on_overlay, put_in, written_over, fit_failed};
 ghost use Rattle.thy_nvm.specs.Pick.{cut_device};
 
@@ -12,7 +12,7 @@ use crate::over::{block_of_image, one_more, put_over, queue_as, take_up, take_up
 use crate::pick::leave;
 use std::alloc::{AllocError, Global};
 use std::marker::Model;
-use thy_base::{Block, FitError, Nvm, NvmError, Shape};
+use thy_block::{Block, FitError, Nvm, NvmError, Shape};
 use thy_ring::Ring;
 
 /// Room for a device over another one that has a shape. The shape says how many cuts can be kept.
@@ -25,7 +25,7 @@ pub struct Spare {
 
 impl Model for Spare {
     ghost use Rattle.std.specs.Prelude.{length};
-    ghost use Rattle.thy_base.specs.declared.nvm.Shape.{Shape as Size};
+    ghost use Rattle.thy_block.specs.declared.nvm.Shape.{Shape as Size};
     ghost use Rattle.thy_nvm.specs.Overlaid.{IsSoundSpare};
 
     ghost Value = { Size };

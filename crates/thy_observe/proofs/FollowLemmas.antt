@@ -1,10 +1,10 @@
 -- What is executed again is what the run has executed.
-use Rattle.std.proofs.Common.{◌≡◌, ℕ, zero, suc, ◌+◌, ◌-◌, ◌<◌, ◌≤◌, Bool, true, false, not, if◌then◌else◌, Option, Some, None, List, [], ◌∷◌, ◌++◌, length, take, fold, get_or, refl, sym, ◌∙◌, ap, subst, inl, inr, arith, length-append}
+use Rattle.std.proofs.Common.{◌≡◌, ℕ, zero, suc, ◌+◌, ◌-◌, ◌<◌, ◌≤◌, Bool, true, false, not, if◌then◌else◌, Option, List, [], ◌∷◌, ◌++◌, length, take, fold, get_or, refl, sym, ◌∙◌, ap, subst, inl, inr, arith, length-append}
 use Rattle.std.specs.Prelude.{MatchBool}
 use Rattle.std.proofs.lemmas.Bool.{cases_lt}
 use Rattle.std.proofs.lemmas.List.{get_or_append_left, get_or_at, get_or-take, length-take-le}
 use Rattle.std.proofs.lemmas.List.Sums.{fold-append}
-use Rattle.thy_base.specs.declared.mark.Mark.{Mark}
+use Rattle.thy_block.specs.declared.mark.Mark.{Mark}
 use Rattle.thy_base.specs.Config.{IsRising}
 use Rattle.thy_isa.specs.Step.{State, Setting, step_of}
 use Rattle.thy_layout.specs.declared.engine_step.EngineStep.{EngineStep}
@@ -30,7 +30,7 @@ use Rattle.thy_run.specs.World.{World, Given, IsCutOff, Ran, TakesStep, is_due, 
 use Rattle.thy_run.proofs.CutLaws.{cut_below}
 use Rattle.thy_run.proofs.RetellLaws.{late_of}
 use Rattle.thy_run.proofs.StepAlong.{core_of}
-use Rattle.thy_run.proofs.WorldLaws.{Coheres, Coheres-stepped, Good-ran}
+use Rattle.thy_run.proofs.WorldLaws.{Coheres, Coheres-stepped, Good-ran, first_reach}
 use Rattle.thy_observe.specs.declared.changes.Change.{Change}
 use Rattle.thy_observe.specs.Changes.{as_list, change_of, changes_in, changes_of, lost_in}
 use Rattle.thy_observe.specs.Following.{FollowsRuns, KnowsBoots}
@@ -178,10 +178,6 @@ image_boots count (At epoch state) = refl
 
 pub found_boots : (o : Origin) (kept : Option Mark) → is_boot (view_of_image o.start.count (found_first o kept)).phase ≡ true
 found_boots o kept = image_boots o.start.count (found_first o kept)
-
-first_reach : (o : Origin) (kept : Option Mark) → reach (view_of_image o.start.count (found_first o kept)) - o.start.count ≡ 0
-first_reach o None = omega arith
-first_reach o (Some m) = omega arith
 
 -- the turns that agree below a count are the same from the start on
 agree_from : (o : Origin) (turns : List ℕ) (k i : ℕ) → AgreeBelow o turns k → i < k - o.start.count → get_or turns i 0 ≡ get_or o.turns i 0

@@ -1,8 +1,8 @@
 -- The state of a run in a cycle and at a count, by a replay.
 use Rattle.std.proofs.Common.{◌≡◌, ℕ, ◌-◌, ◌<◌, ◌≤◌, Bool, true, false, nat_lt, if◌then◌else◌, List, length, take, Option, Some, None, sym, ◌∙◌, ap, arith}
 use Rattle.std.proofs.lemmas.Bool.{lt-ltb, le-ltb}
-use Rattle.thy_base.specs.declared.config.Parameters.{Parameters}
-use Rattle.thy_base.specs.Bytes.{bytes_of}
+use Rattle.thy_block.specs.declared.parameters.Parameters.{Parameters}
+use Rattle.thy_block.specs.Bytes.{bytes_of}
 use Rattle.thy_isa.specs.OnBlocks.{setting_for}
 use Rattle.thy_isa.specs.Step.{State, Setting, state_of}
 use Rattle.thy_layout.specs.declared.start.Start.{Start}

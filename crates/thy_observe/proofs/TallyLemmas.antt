@@ -12,6 +12,7 @@ use Rattle.thy_observe.specs.Kinds.{kind_of, index_of, is_at, has_waited}
 use Rattle.thy_observe.specs.Tallied.{IsTally}
 use Rattle.std.proofs.lemmas.Bool.{eqb-true, eqb-false}
 use Rattle.std.proofs.lemmas.List.{get_or-set_same, get_or-set_other, length-set}
+use Rattle.thy_block.proofs.BasicLemmas.{first_empty, last_empty}
 use Rattle.thy_observe.specs.Shares.{nobodys, shares_after_step, shares_after_cut}
 use Rattle.thy_observe.proofs.ShareLemmas.{shares-one}
 use Rattle.thy_observe.specs.EventCycles.{retired_after_step, retired_after_cut, retired_after, event_cycle_of, event_cycles_from, IsShort}
@@ -69,15 +70,6 @@ one-at ks a i l false e =
     get_or-set_other ks a i (slice_index_or ks a 0 + 1) 0 (λ same. eqb-false a i e (sym same))
     ∙ (let z : slice_index_or ks i 0 ≡ slice_index_or ks i 0 + 0 = omega arith in z)
 
--- what is empty as a whole is empty in each part
-first-none : {A : Type 0} (xs ys : List A) → xs ++ ys ≡ [] → xs ≡ []
-first-none [] ys none = refl
-first-none (x ∷ xs) ys none = absurd (cc)
-
-last-none : {A : Type 0} (xs ys : List A) → xs ++ ys ≡ [] → ys ≡ []
-last-none [] ys none = none
-last-none (x ∷ xs) ys none = absurd (cc)
-
 -- a cycle that is not listed made no event
 untold : (told : ℕ) (e : EventCycle) (b : Bool) → (told == 0) ≡ b → (if b then [] else e ∷ []) ≡ [] → told ≡ 0
 untold told e true is none = eqb-true told 0 is
@@ -110,9 +102,9 @@ IsTally-one t new seen x h within cycles kinds waiting retired shares stays even
       whole = λ none.
           let parts : event_cycles_from 1 None seen ++ event_cycle_of (1 + length seen) (retired_after None seen) x ≡ []
           = sym (event-cycles-one 1 None seen x) ∙ none in
-          let last = last-none (event_cycles_from 1 None seen) (event_cycle_of (1 + length seen) (retired_after None seen) x) parts in
+          let last = last_empty (event_cycles_from 1 None seen) (event_cycle_of (1 + length seen) (retired_after None seen) x) parts in
           stays (untold x.told _ (x.told == 0) refl last)
-          ∙ h.whole (first-none (event_cycles_from 1 None seen) (event_cycle_of (1 + length seen) (retired_after None seen) x) parts);
+          ∙ h.whole (first_empty (event_cycles_from 1 None seen) (event_cycle_of (1 + length seen) (retired_after None seen) x) parts);
     }
 
 -- what a tally keeps is in none of its numbers

@@ -3,7 +3,7 @@ use Rattle.std.proofs.Common.{◌≡◌, ℕ, suc, ◌+◌, ◌-◌, ◌^◌, �
 use Rattle.std.proofs.lemmas.List.{length-replicate, length-set}
 use Rattle.std.proofs.lemmas.List.Folds.{sum_by-replicate}
 use Rattle.std.proofs.lemmas.List.Sums.{get_or-le-sum_by, sum_by-set}
-use Rattle.thy_base.specs.Counts.{next}
+use Rattle.thy_block.specs.Counts.{next}
 use Rattle.thy_observe.specs.Wear.{WearAddsUp, worn_at, worn_by}
 
 -- a place that has a count

@@ -1,7 +1,7 @@
 -- The stretches of a run's cycles, with the causes of each. A stretch ends with the cycle that ends a boot, seals an epoch, or after
 -- which power is cut.
 use Rattle.std.specs.Prelude.{◌≡◌, ℕ, ◌+◌, ◌<◌, ◌≤◌, nat_le, if◌then◌else◌, cond, Bool, true, false, Option, Some, None, IfSome, List, [], ◌∷◌, ◌++◌, length, replicate, fold, sum_by, count_by, slice_index_or, slice_set}
-use Rattle.thy_base.specs.Counts.{next}
+use Rattle.thy_block.specs.Counts.{next}
 use Rattle.thy_view.specs.declared.did.Did.{Did}
 use Rattle.thy_view.specs.declared.did.Did.TheVariants as did
 use Rattle.thy_view.specs.declared.did.Stepped.{Stepped}

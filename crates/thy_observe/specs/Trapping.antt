@@ -5,7 +5,7 @@ use Rattle.thy_isa.specs.declared.state.Effect.{Effect}
 use Rattle.thy_isa.specs.declared.state.Effect.TheVariants.{Read, Write, Reserve, Conditional, Modify}
 use Rattle.thy_isa.specs.declared.state.Status.{Status}
 use Rattle.thy_isa.specs.declared.state.Status.TheVariants.{Trapped}
-use Rattle.thy_base.specs.LittleEndian.{number_at}
+use Rattle.thy_block.specs.LittleEndian.{number_at}
 use Rattle.thy_isa.specs.Effects.{word_effect}
 use Rattle.thy_isa.specs.Step.{State, fetch_fault, fronted}
 use Rattle.thy_observe.specs.declared.tally.Tally.{Tally}

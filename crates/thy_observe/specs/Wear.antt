@@ -1,6 +1,6 @@
 -- How many writes each place of a device has taken.
 use Rattle.std.specs.Prelude.{◌≡◌, ℕ, ◌-◌, ◌^◌, ◌<◌, nat_lt, if◌then◌else◌, cond, Bool, List, length, fold, get_or, sum, replicate, slice_set, All}
-use Rattle.thy_base.specs.Counts.{next}
+use Rattle.thy_block.specs.Counts.{next}
 
 -- one write more to a place, of which there may be no count
 abbrev pub worn_at : List ℕ → ℕ → List ℕ

@@ -1,6 +1,6 @@
 //! A device that counts the calls of another that succeed, and the writes of each place.
 ghost use Rattle.std.specs.Prelude.{◌≡◌, ◌<◌, ◌≤◌, false, ℕ, List, length, IfErr, IfOk, OnErr, OnOk};
-ghost use Rattle.thy_base.specs.Device.{CountsFault, CountsWrite, HasFailedToFit, HasFailedToWrite, IsFramed, fitted, written_to};
+ghost use Rattle.thy_block.specs.Device.{CountsFault, CountsWrite, HasFailedToFit, HasFailedToWrite, IsFramed, fitted, written_to};
 ghost use Rattle.thy_observe.specs.Wear.{WearAddsUp, unworn, worn_at};
 
 use std::alloc::{AllocError, Global};

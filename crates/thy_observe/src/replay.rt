@@ -1,7 +1,7 @@
 //! The instructions of a run, executed again on the plain machine: how often each program counter retired, and the state in a
 //! cycle, or at a count.
 ghost use Rattle.std.specs.Prelude.{◌≡◌, [], List, length, take, IfOk, OnOk, option_map, true};
-ghost use Rattle.thy_base.specs.Bytes.{bytes_of};
+ghost use Rattle.thy_block.specs.Bytes.{bytes_of};
 ghost use Rattle.thy_isa.specs.OnBlocks.{setting_for};
 ghost use Rattle.thy_isa.specs.Step.{state_of};
 ghost use Rattle.thy_plain.specs.Machine.{stepped_by};

@@ -1,7 +1,7 @@
 //! From the arguments to what their command leaves.
 ghost use Rattle.std.specs.Prelude.{◌≡◌, [], map};
 ghost use Rattle.std.specs.String.{string_bytes};
-ghost use Rattle.thy_base.specs.declared.config.Parameters.{Parameters as Numbers};
+ghost use Rattle.thy_block.specs.declared.parameters.Parameters.{Parameters as Numbers};
 ghost use Rattle.thy_answer.specs.Answering.{around, nvm_of};
 ghost use Rattle.thy_answer.specs.Machines.{by_scheme};
 ghost use Rattle.thy_answer.specs.Watching.{AnswerSeen};
@@ -9,7 +9,7 @@ ghost use Rattle.thy_files.specs.Restoring.{ReadsFiles};
 
 use std::alloc::Global;
 use thy_answer::{Answer, ProgramSource, Refusal, refuse};
-use thy_base::{Nvm, SchemeName, Shelf, Sink};
+use thy_block::{Nvm, SchemeName, Shelf, Sink};
 use thy_compare::compare;
 use thy_execute::run_by_scheme;
 use thy_files::make;

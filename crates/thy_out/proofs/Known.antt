@@ -4,9 +4,9 @@ use Rattle.std.proofs.Math.Seq.{take-add}
 use Rattle.std.proofs.lemmas.List.{take_rest, append-nil}
 use Rattle.std.proofs.lemmas.Option.{none-some}
 use Rattle.std.specs.Io.KnownBytes.{Keeps, Appends, Consumes}
-use Rattle.thy_base.specs.Device.{CountsOneFault}
-use Rattle.thy_base.specs.Outside.{Stream, Grew, Took, TookPart, Fetched}
-use Rattle.thy_base.specs.declared.outside.FetchError.TheVariants.{TooLong}
+use Rattle.thy_block.specs.Device.{CountsOneFault}
+use Rattle.thy_block.specs.Outside.{Stream, Grew, Took, TookPart, Fetched}
+use Rattle.thy_block.specs.declared.outside.FetchError.TheVariants.{TooLong}
 use Rattle.thy_out.specs.Spring.{LosesAtMost}
 
 -- known bytes with more after them

@@ -1,8 +1,8 @@
 -- A shelf in memory.
 use Rattle.std.specs.Prelude.{ℕ, if◌then◌else◌, List, [], ◌∷◌, Option, None, Some, bytes_eq, map, string_bytes, String, Vec}
 use Rattle.std.specs.declared.alloc.Global.{Global}
-use Rattle.thy_base.specs.Counts.{next}
-use Rattle.thy_base.specs.Outside.{Stock}
+use Rattle.thy_block.specs.Counts.{next}
+use Rattle.thy_block.specs.Outside.{Stock}
 use Rattle.thy_out.specs.Counts.{is_listed}
 
 -- the files, each a name and its bytes; the calls so far, those that fail, the faults

@@ -2,7 +2,7 @@
 use Rattle.std.specs.Prelude.{◌≡◌, ℕ, Bool, true, false, if◌then◌else◌, Result, Ok, Err}
 use Rattle.std.specs.declared.io.ErrorKind.{ErrorKind}
 use Rattle.std.specs.declared.io.ErrorKind.TheVariants.{PermissionDenied, ReadOnlyFilesystem, InvalidFilename, AlreadyExists, ResourceBusy, Unsupported}
-use Rattle.thy_base.specs.Counts.{next}
+use Rattle.thy_block.specs.Counts.{next}
 use Rattle.thy_out.specs.declared.disk.Replaced.{Replaced}
 use Rattle.thy_out.specs.declared.disk.Replaced.TheVariants.{Done, Refused, Failed}
 

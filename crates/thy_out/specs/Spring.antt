@@ -2,9 +2,9 @@
 use Rattle.std.specs.Prelude.{◌≡◌, ℕ, ◌≤◌, List, length, Option, Result, Err, Vec}
 use Rattle.std.specs.declared.alloc.Global.{Global}
 use Rattle.std.specs.Io.KnownBytes.{Consumes}
-use Rattle.thy_base.specs.Counts.{Rose}
-use Rattle.thy_base.specs.declared.outside.FetchError.{FetchError}
-use Rattle.thy_base.specs.declared.outside.FetchError.TheVariants.{Failed}
+use Rattle.thy_block.specs.Counts.{Rose}
+use Rattle.thy_block.specs.declared.outside.FetchError.{FetchError}
+use Rattle.thy_block.specs.declared.outside.FetchError.TheVariants.{Failed}
 
 -- the bytes that a reader has left, if they are known, and how many of its reads failed
 pub record Spring : Type 0 where

@@ -1,7 +1,7 @@
 -- A sink in memory.
 use Rattle.std.specs.Prelude.{ℕ, ◌-◌, Bool, not, ◌&&◌, if◌then◌else◌, nat_le, Some, List, [], ◌++◌, length, take}
-use Rattle.thy_base.specs.Counts.{next}
-use Rattle.thy_base.specs.Outside.{Stream}
+use Rattle.thy_block.specs.Counts.{next}
+use Rattle.thy_block.specs.Outside.{Stream}
 use Rattle.thy_out.specs.Counts.{is_listed}
 
 -- a tape: what it took, how many bytes it can take in all, the calls so far, the calls that fail, and the faults

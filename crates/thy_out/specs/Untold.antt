@@ -1,12 +1,12 @@
 -- A shelf over the files of the system.
 use Rattle.std.specs.Prelude.{ℕ, None, Result, Ok, Err, Vec}
 use Rattle.std.specs.declared.alloc.Global.{Global}
-use Rattle.thy_base.specs.Counts.{next}
-use Rattle.thy_base.specs.Outside.{Stock}
-use Rattle.thy_base.specs.declared.outside.FetchError.{FetchError}
-use Rattle.thy_base.specs.declared.outside.FetchError.TheVariants.{Memory}
-use Rattle.thy_base.specs.declared.outside.PutError.{PutError}
-use Rattle.thy_base.specs.declared.outside.PutError.TheVariants.{Memory as PutMemory}
+use Rattle.thy_block.specs.Counts.{next}
+use Rattle.thy_block.specs.Outside.{Stock}
+use Rattle.thy_block.specs.declared.outside.FetchError.{FetchError}
+use Rattle.thy_block.specs.declared.outside.FetchError.TheVariants.{Memory}
+use Rattle.thy_block.specs.declared.outside.PutError.{PutError}
+use Rattle.thy_block.specs.declared.outside.PutError.TheVariants.{Memory as PutMemory}
 
 -- a shelf whose files are unknown, since others change them too, as are the names under which calls failed
 abbrev pub untold : ℕ → Stock

@@ -1,7 +1,7 @@
 -- What is written to.
 use Rattle.std.specs.Prelude.{ℕ, Bool, false, List, Option, Result, Ok, Err}
-use Rattle.thy_base.specs.Counts.{next}
-use Rattle.thy_base.specs.Outside.{Stream}
+use Rattle.thy_block.specs.Counts.{next}
+use Rattle.thy_block.specs.Outside.{Stream}
 
 -- a target: the bytes that it took, if they are known; whether all of them were flushed, and whether they were synced;
 -- how many of its calls failed

@@ -3,7 +3,7 @@ ghost use Rattle.std.specs.Prelude.{◌≡◌, ◌≢◌, IfErr};
 ghost use Rattle.std.specs.Io.KnownBytes.{ReadConsumes};
 ghost use Rattle.std.specs.Io.{ReadsAtMost};
 ghost use Rattle.std.specs.IoError.{error_kind};
-ghost use Rattle.thy_base.specs.Device.{CountsOneFault};
+ghost use Rattle.thy_block.specs.Device.{CountsOneFault};
 
 use std::io;
 use std::io::{Error, ErrorKind, Read};

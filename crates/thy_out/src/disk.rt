@@ -11,7 +11,7 @@ use std::io::{Error, ErrorKind};
 use std::marker::Model;
 use std::os::unix::fs::{MetadataExt, OpenOptionsExt, lchown};
 use std::{fs, io};
-use thy_base::SinkError;
+use thy_block::SinkError;
 
 /// The files that the runtime reaches, and two counts: how many times bytes were put, and how many times that failed at
 /// a call. A name is a path.

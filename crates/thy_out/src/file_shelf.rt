@@ -2,7 +2,7 @@
 ghost use Rattle.std.specs.Prelude.{◌≡◌, ◌≢◌, ◌+◌, ◌≤◌, length, Some, Err, IfOk, IfErr, OnOk, IfSome};
 ghost use Rattle.std.specs.IoError.{error_kind};
 ghost use Rattle.std.specs.Io.KnownBytes.{IsAtEnd};
-ghost use Rattle.thy_base.specs.Outside.{Fetched, FetchCounts, PutCounts};
+ghost use Rattle.thy_block.specs.Outside.{Fetched, FetchCounts, PutCounts};
 ghost use Rattle.thy_out.specs.Replacing.{counted};
 ghost use Rattle.thy_out.specs.Spring.{LosesAtMost, HasCause};
 ghost use Rattle.thy_out.specs.Untold.{untold, fetch_faults, put_faults};
@@ -12,7 +12,7 @@ use crate::disk::Disk;
 use std::alloc::Global;
 use std::fs::Files;
 use std::io::{Error, ErrorKind, Read};
-use thy_base::{FetchError, PutError, Shelf};
+use thy_block::{FetchError, PutError, Shelf};
 
 /// The files that the runtime reaches; a name is a path. Its contents are unknown to contracts, since others change
 /// them too, so it counts a fault with every answer but bytes and out of memory. The names under which calls failed

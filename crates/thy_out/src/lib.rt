@@ -1,8 +1,8 @@
 //! Shelves and sinks: in memory, with calls that can be made to fail, and over files and streams. Each keeps the laws
-//! of the traits `Shelf` and `Sink` of thy_base; `MemShelf` and `MemSink` also equal their specifications.
+//! of the traits `Shelf` and `Sink` of thy_block; `MemShelf` and `MemSink` also equal their specifications.
 //!
 //! Open src/mem_sink.rt and src/file_shelf.rt first, then specs/Tape.antt; src/disk.rt has how a put reaches the files of
-//! the system. It stands on thy_base. The program and the tests use it; no other crate does, since the top call is proved
+//! the system. It stands on thy_block. The program and the tests use it; no other crate does, since the top call is proved
 //! for every shelf and sink.
 #![tactic(auto)]
 

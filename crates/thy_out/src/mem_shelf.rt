@@ -1,14 +1,14 @@
 //! A shelf in memory.
 ghost use Rattle.std.specs.Prelude.{◌≡◌, ◌≢◌, ◌∷◌, ◌↔◌, OnOk, OnErr, IsTrue, Some, None, Err, MatchOption, if◌then◌else◌, is_ok};
 ghost use Rattle.std.specs.Bool.{OnTrue};
-ghost use Rattle.thy_base.specs.Counts.{Rose};
-ghost use Rattle.thy_base.specs.Outside.{Files, Fetched, FetchCounts, KeepsOthers, Holds, PutCounts};
+ghost use Rattle.thy_block.specs.Counts.{Rose};
+ghost use Rattle.thy_block.specs.Outside.{Files, Fetched, FetchCounts, KeepsOthers, Holds, PutCounts};
 ghost use Rattle.thy_out.specs.Counts.{is_listed};
 ghost use Rattle.thy_out.specs.Rack.{stock_of, called, entries, found};
 
 use std::alloc::{AllocError, Global};
 use std::marker::Model;
-use thy_base::{FetchError, PutError, Shelf};
+use thy_block::{FetchError, PutError, Shelf};
 
 /// Named files in memory. Contracts know the contents, but not the names under which calls failed. If files have the
 /// same name, only the first is seen.

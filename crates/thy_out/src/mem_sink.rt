@@ -1,11 +1,11 @@
 //! A sink in memory.
 ghost use Rattle.std.specs.Prelude.{◌≡◌, [], IfOk, OnOk, OnErr, is_ok};
-ghost use Rattle.thy_base.specs.Outside.{Took, TookPart};
+ghost use Rattle.thy_block.specs.Outside.{Took, TookPart};
 ghost use Rattle.thy_out.specs.Tape.{stream_of, written, takes_all};
 
 use std::alloc::{AllocError, Global};
 use std::marker::Model;
-use thy_base::{Sink, SinkError};
+use thy_block::{Sink, SinkError};
 
 /// Takes bytes up to a capacity that is fixed when it is made. Contracts know what it took. Its writes allocate
 /// nothing.

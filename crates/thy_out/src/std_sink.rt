@@ -1,11 +1,11 @@
 //! A sink over a writer.
 ghost use Rattle.std.specs.Prelude.{◌≡◌, true, None, OnOk, OnErr};
-ghost use Rattle.thy_base.specs.Outside.{Took, TookPart};
+ghost use Rattle.thy_block.specs.Outside.{Took, TookPart};
 ghost use Rattle.thy_out.specs.Written.{stream_of, failures_after};
 
 use crate::target::Target;
 use std::io::{Stderr, Stdout, Write};
-use thy_base::{Sink, SinkError};
+use thy_block::{Sink, SinkError};
 
 /// Writes each piece through at once, so that nothing is left unwritten when the program ends. What it took is known
 /// if the contents of its writer are. Its faults are the calls of the writer that failed.

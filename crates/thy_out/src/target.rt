@@ -2,15 +2,15 @@
 ghost use Rattle.std.specs.Prelude.{◌≡◌, ◌≢◌, ◌<◌, ◌≤◌, is_ok, false, length, IfOk, IfErr, OnOk, OnErr};
 ghost use Rattle.std.specs.Io.KnownBytes.{Keeps, WriteAppends};
 ghost use Rattle.std.specs.IoError.{error_kind};
-ghost use Rattle.thy_base.specs.Device.{CountsOneFault};
-ghost use Rattle.thy_base.specs.Outside.{Took, TookPart};
+ghost use Rattle.thy_block.specs.Device.{CountsOneFault};
+ghost use Rattle.thy_block.specs.Outside.{Took, TookPart};
 ghost use Rattle.thy_out.specs.Written.{stream_of, untouched, failures_after};
 
 use std::fs::OpenFile;
 use std::io;
 use std::io::{Error, ErrorKind, Write};
 use std::marker::Model;
-use thy_base::SinkError;
+use thy_block::SinkError;
 
 /// A writer; whether it was flushed, and whether it was synced, after all that it took; and how many of its calls failed.
 /// Only a call that fails raises the count.

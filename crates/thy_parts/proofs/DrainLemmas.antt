@@ -1,6 +1,6 @@
 -- Drains of the DRAM, merges and promotions: they keep the checkpoints, and what is still to be done.
 use Rattle.std.proofs.Common.{◌≡◌, ℕ, ◌+◌, ◌<◌, ◌≤◌, true, false, refl, sym, ap, subst, inr, arith}
-use Rattle.thy_base.specs.Device.{Device, drained}
+use Rattle.thy_block.specs.Device.{Device, drained}
 use Rattle.thy_dram.specs.Contents.{Contents}
 use Rattle.thy_view.specs.Action.{Rest}
 use Rattle.thy_view.specs.Dram.{WritesDram}

@@ -1,8 +1,8 @@
 -- What is held, and what a call keeps of that.
 use Rattle.std.proofs.Common.{◌≡◌, ℕ, ◌+◌, ◌<◌, ◌≤◌, ◌==◌, ◌&&◌, not, Bool, true, false, if◌then◌else◌, List, [], length, refl, sym, ◌∙◌, ap, arith}
 use Rattle.std.proofs.lemmas.Bool.{eq-eqb, eqb-true}
-use Rattle.thy_base.specs.declared.block.Block.{Block}
-use Rattle.thy_base.specs.Device.{Device}
+use Rattle.thy_block.specs.declared.block.Block.{Block}
+use Rattle.thy_block.specs.Device.{Device}
 use Rattle.thy_boot.specs.Filling.{layout_at}
 use Rattle.thy_scheme.specs.Calls.{OpensNone, Keeps}
 use Rattle.thy_engine.specs.Cycles.{cycles_left}

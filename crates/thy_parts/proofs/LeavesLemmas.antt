@@ -1,6 +1,6 @@
 -- What leaves the NVM: no call, one that failed, and one call after another.
 use Rattle.std.proofs.Common.{◌≡◌, true, false, refl, sym, ◌∙◌, ap}
-use Rattle.thy_base.specs.Device.{Device, HasFailed, IsFramed}
+use Rattle.thy_block.specs.Device.{Device, HasFailed, IsFramed}
 use Rattle.thy_parts.specs.Design.{LeavesNvm}
 
 pub leaves-same : (n : Device) → LeavesNvm n n

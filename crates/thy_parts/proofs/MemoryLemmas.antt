@@ -5,9 +5,9 @@ use Rattle.std.proofs.lemmas.Bool.{cases_eq}
 use Rattle.std.proofs.lemmas.List.{length-set, get_or-set_same, get_or-set_other, ext_get_or}
 use Rattle.std.proofs.lemmas.List.FromFn.{length-map-range_with_len, get_or-map-range_with_len}
 use Rattle.std.proofs.lemmas.Simd.{map-map}
-use Rattle.thy_base.specs.declared.block.Block.{Block}
-use Rattle.thy_base.specs.Device.{zero_block, block_at}
-use Rattle.thy_base.proofs.BasicLemmas.{Contains-range}
+use Rattle.thy_block.specs.declared.block.Block.{Block}
+use Rattle.thy_block.specs.Device.{zero_block, block_at}
+use Rattle.thy_block.proofs.BasicLemmas.{Contains-range}
 use Rattle.thy_layout.proofs.AskingLemmas.{map-alike}
 
 -- two functions that are alike at each number make the same list of blocks

@@ -1,9 +1,9 @@
 -- Whatever a cut leaves is safe, also of an item that failed; a seal makes the mark that the machine is at the sealed one.
 use Rattle.std.proofs.Common.{◌≡◌, ℕ, ◌+◌, false, Option, Some, None, refl, sym, ◌∙◌, ap, subst, ◌⊎◌, nat_lt, Bool, true, if◌then◌else◌, List, ◌∷◌, length, inl, inr, arith}
-use Rattle.thy_base.specs.declared.mark.Mark.{Mark}
-use Rattle.thy_base.specs.Device.{Device, block_at, newest, IsFramed, HoldsNoMore}
-use Rattle.thy_base.specs.declared.block.Block.{Block}
-use Rattle.thy_base.specs.Places.{record_blocks}
+use Rattle.thy_block.specs.declared.mark.Mark.{Mark}
+use Rattle.thy_block.specs.Device.{Device, block_at, newest, IsFramed, HoldsNoMore}
+use Rattle.thy_block.specs.declared.block.Block.{Block}
+use Rattle.thy_block.specs.Places.{record_blocks}
 use Rattle.thy_crash.specs.Saved.{Kept, Saved, guarded}
 use Rattle.thy_crash.proofs.SparesLemmas.{Spares-no_more}
 use Rattle.thy_isa.specs.declared.state.CpuState.{CpuState}

@@ -1,8 +1,8 @@
 -- What a moment leads to while the controller stays the same, and memory as it was; and one moment after the other.
 use Rattle.std.proofs.Common.{◌≡◌, ℕ, ◌+◌, ◌≤◌, Bool, List, length, refl, ◌∙◌, inr, arith, Option, inl}
-use Rattle.thy_base.specs.declared.block.Block.{Block}
-use Rattle.thy_base.specs.Device.{Device, newest, settled, drained}
-use Rattle.thy_base.proofs.DeviceLemmas.{newest-settled, length-settled, no_more-settled, newest-drained, length-drained, no_more-drained}
+use Rattle.thy_block.specs.declared.block.Block.{Block}
+use Rattle.thy_block.specs.Device.{Device, newest, settled, drained}
+use Rattle.thy_block.proofs.DeviceLemmas.{newest-settled, length-settled, no_more-settled, newest-drained, length-drained, no_more-drained}
 use Rattle.thy_layout.proofs.AskingLemmas.{map-alike}
 use Rattle.thy_protocol.specs.Issuing.{CheckpointParts, ArePlaced, AreIssued}
 use Rattle.thy_scheme.specs.Calls.{OpensNone}

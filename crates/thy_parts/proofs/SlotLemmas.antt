@@ -3,11 +3,11 @@ use Rattle.std.proofs.Common.{◌≡◌, ◌==◌, ◌||◌, ℕ, ◌+◌, ◌<�
 use Rattle.std.proofs.lemmas.Bool.{eq-eqb, lt-ltb}
 use Rattle.std.specs.List.{range_with_len}
 use Rattle.std.proofs.lemmas.List.FromFn.{get_or-map-range_with_len}
-use Rattle.thy_base.specs.declared.block.Block.{Block}
-use Rattle.thy_base.specs.Device.{Device, block_at, newest, zero_block}
-use Rattle.thy_base.specs.Geometry.{IsInRange, console_room}
-use Rattle.thy_base.specs.Places.{record_blocks}
-use Rattle.thy_base.proofs.BasicLemmas.{all_none}
+use Rattle.thy_block.specs.declared.block.Block.{Block}
+use Rattle.thy_block.specs.Device.{Device, block_at, newest, zero_block}
+use Rattle.thy_block.specs.Geometry.{IsInRange, console_room}
+use Rattle.thy_block.specs.Places.{record_blocks}
+use Rattle.thy_block.proofs.BasicLemmas.{all_none}
 use Rattle.thy_crash.specs.Saved.{IsIssued, next_image}
 use Rattle.thy_isa.specs.OnBlocks.{state_from}
 use Rattle.thy_layout.specs.AreLayouts.{HasSlot, HasPlaces, Fits as SlotFits}

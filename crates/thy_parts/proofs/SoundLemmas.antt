@@ -2,13 +2,13 @@
 use Rattle.std.proofs.Common.{◌≡◌, ◌≢◌, ◌⊎◌, ℕ, ◌+◌, ◌<◌, ◌≤◌, nat_lt, Bool, true, false, if◌then◌else◌, List, [], ◌∷◌, length, Contains, Option, Some, None, unwrap_or, refl, sym, ◌∙◌, ap, subst, inl, inr, arith}
 use Rattle.std.proofs.lemmas.Bool.{both_ways}
 use Rattle.std.proofs.lemmas.List.Elements.{Contains-push, Contains-append_left, Contains-append_right}
-use Rattle.thy_base.specs.declared.block.Block.{Block}
-use Rattle.thy_base.specs.declared.config.Parameters.{Parameters}
-use Rattle.thy_base.specs.declared.mark.Mark.{Mark}
-use Rattle.thy_base.specs.Device.{Device, IsOneWordApart, block_at, newest, settled, written_to, IsFramed}
-use Rattle.thy_base.specs.Geometry.{IsInRange}
-use Rattle.thy_base.specs.Places.{record_blocks}
-use Rattle.thy_base.proofs.DeviceLemmas.{newest-settled, newest-written_to_other}
+use Rattle.thy_block.specs.declared.block.Block.{Block}
+use Rattle.thy_block.specs.declared.parameters.Parameters.{Parameters}
+use Rattle.thy_block.specs.declared.mark.Mark.{Mark}
+use Rattle.thy_block.specs.Device.{Device, IsOneWordApart, block_at, newest, settled, written_to, IsFramed}
+use Rattle.thy_block.specs.Geometry.{IsInRange}
+use Rattle.thy_block.specs.Places.{record_blocks}
+use Rattle.thy_block.proofs.DeviceLemmas.{newest-settled, newest-written_to_other}
 use Rattle.thy_boot.specs.Filling.{FillingOf, layout_at}
 use Rattle.thy_crash.specs.Saved.{Kept, IsIssued, next_image}
 use Rattle.thy_crash.specs.Spares.{Spares}

@@ -1,6 +1,6 @@
 -- What holds of a scheme of parts whose hart waits for each checkpoint, and of any that is idle.
 use Rattle.std.proofs.Common.{◌≡◌, ◌⊎◌, ℕ, ◌&&◌, not, Bool, true, false, refl, sym, ◌∙◌, ap, subst, inl, inr}
-use Rattle.thy_base.specs.Device.{Device}
+use Rattle.thy_block.specs.Device.{Device}
 use Rattle.thy_view.specs.Origin.{Origin}
 use Rattle.thy_boot_laws.specs.Schemes.{FirstHasRoom, HartIsBarred}
 use Rattle.thy_boot_laws.proofs.RoomLemmas.{first-room}

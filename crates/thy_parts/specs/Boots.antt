@@ -1,8 +1,8 @@
 -- Part of the claim.
 -- The boot of a run, and a scheme whose power has just come on.
 use Rattle.std.specs.Prelude.{◌≡◌, true, false, if◌then◌else◌, length}
-use Rattle.thy_base.specs.declared.config.Parameters.{Parameters}
-use Rattle.thy_base.specs.Device.{Device}
+use Rattle.thy_block.specs.declared.parameters.Parameters.{Parameters}
+use Rattle.thy_block.specs.Device.{Device}
 use Rattle.thy_dram.specs.Contents.{Contents}
 use Rattle.thy_view.specs.Kind.{IsDramOf}
 use Rattle.thy_view.specs.Origin.{Origin, IsOrigin}

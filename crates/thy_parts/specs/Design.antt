@@ -1,10 +1,10 @@
 -- Part of the claim.
 -- What is seen of controllers of a type as those of a scheme: what its boot fills, what its engine writes, and the rest.
 use Rattle.std.specs.Prelude.{◌≡◌, ℕ, Bool, true, false, List, length, Option}
-use Rattle.thy_base.specs.declared.block.Block.{Block}
-use Rattle.thy_base.specs.declared.config.Parameters.{Parameters}
-use Rattle.thy_base.specs.declared.store.Stored.{Stored}
-use Rattle.thy_base.specs.Device.{Device, HoldsNoMore}
+use Rattle.thy_block.specs.declared.block.Block.{Block}
+use Rattle.thy_block.specs.declared.parameters.Parameters.{Parameters}
+use Rattle.thy_block.specs.declared.store.Stored.{Stored}
+use Rattle.thy_block.specs.Device.{Device, HoldsNoMore}
 use Rattle.thy_dram.specs.Contents.{Contents}
 use Rattle.thy_view.specs.Action.{Action}
 use Rattle.thy_boot.specs.Boot.{Booting}

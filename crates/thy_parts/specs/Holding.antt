@@ -1,8 +1,8 @@
 -- Part of the claim.
 -- What controller and NVM hold together, seen as a store of blocks.
 use Rattle.std.specs.Prelude.{◌==◌, ◌&&◌, not, if◌then◌else◌, Bool, [], length}
-use Rattle.thy_base.specs.Device.{Device, failed_calls}
-use Rattle.thy_base.specs.Store.{Holding}
+use Rattle.thy_block.specs.Device.{Device, failed_calls}
+use Rattle.thy_block.specs.Store.{Holding}
 use Rattle.thy_boot.specs.Filling.{layout_at}
 use Rattle.thy_parts.specs.Design.{DesignOf}
 

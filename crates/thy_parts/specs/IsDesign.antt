@@ -1,9 +1,9 @@
 -- What holds of every scheme.
 use Rattle.std.specs.Prelude.{◌≡◌, ℕ, ◌+◌, ◌<◌, ◌≤◌, true, false, List, ◌∷◌, length, map, Contains, Some, None}
-use Rattle.thy_base.specs.declared.block.Block.{Block}
-use Rattle.thy_base.specs.Device.{Device, block_at, newest, written_to}
-use Rattle.thy_base.specs.Geometry.{IsInRange, memory_blocks}
-use Rattle.thy_base.specs.Places.{header_place, commit_place, dram_blocks}
+use Rattle.thy_block.specs.declared.block.Block.{Block}
+use Rattle.thy_block.specs.Device.{Device, block_at, newest, written_to}
+use Rattle.thy_block.specs.Geometry.{IsInRange, memory_blocks}
+use Rattle.thy_block.specs.Places.{header_place, commit_place, dram_blocks}
 use Rattle.thy_dram.specs.Contents.{drained}
 use Rattle.thy_isa.specs.Step.{State}
 use Rattle.thy_layout.specs.Commit.{commit_of}

@@ -1,6 +1,6 @@
 -- What holds of the merges and promotions of every scheme.
 use Rattle.std.specs.Prelude.{◌≡◌, ℕ, ◌+◌, ◌≤◌, true}
-use Rattle.thy_base.specs.Device.{Device}
+use Rattle.thy_block.specs.Device.{Device}
 use Rattle.thy_view.specs.Dram.{WritesDram}
 use Rattle.thy_engine.specs.Items.{Phase, Resting}
 use Rattle.thy_parts.specs.Design.{DesignOf}

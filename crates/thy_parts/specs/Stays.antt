@@ -1,7 +1,7 @@
 -- Part of the claim.
 -- What loads and stores keep of a scheme, those that fail too.
 use Rattle.std.specs.Prelude.{◌≡◌, true}
-use Rattle.thy_base.specs.Device.{Device}
+use Rattle.thy_block.specs.Device.{Device}
 use Rattle.thy_parts.specs.Design.{DesignOf, Composed}
 
 -- if no block was stored, none was before, and the controller is still as idle

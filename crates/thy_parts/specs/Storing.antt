@@ -1,9 +1,9 @@
 -- What holds of the loads and stores of every scheme.
 use Rattle.std.specs.Prelude.{◌≡◌, ◌⊎◌, ℕ, ◌+◌, ◌<◌, ◌≤◌, Bool, true, false, List, ◌∷◌, length}
-use Rattle.thy_base.specs.declared.block.Block.{Block}
-use Rattle.thy_base.specs.Device.{Device, newest, IsFramed, HasFailed}
-use Rattle.thy_base.specs.Places.{header_place, commit_place}
-use Rattle.thy_base.specs.Store.{HasStored}
+use Rattle.thy_block.specs.declared.block.Block.{Block}
+use Rattle.thy_block.specs.Device.{Device, newest, IsFramed, HasFailed}
+use Rattle.thy_block.specs.Places.{header_place, commit_place}
+use Rattle.thy_block.specs.Store.{HasStored}
 use Rattle.thy_crash.specs.Spares.{Spares}
 use Rattle.thy_layout.specs.Commit.{commit_of}
 use Rattle.thy_layout.specs.Layout.{looked_by}

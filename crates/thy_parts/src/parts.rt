@@ -1,6 +1,6 @@
 //! What a scheme says of itself beside its boot and its engine.
 ghost use Rattle.std.specs.Prelude.{◌≡◌, ◌<◌, true, false, length, IfOk, OnErr};
-ghost use Rattle.thy_base.specs.Device.{block_at};
+ghost use Rattle.thy_block.specs.Device.{block_at};
 ghost use Rattle.thy_boot.specs.Filling.{layout_at};
 ghost use Rattle.thy_dram.specs.Contents.{lost};
 ghost use Rattle.thy_engine.specs.Progress.{Acts, phase_of};
@@ -11,7 +11,7 @@ ghost use Rattle.thy_parts.specs.Storing.{CanStore};
 ghost use Rattle.thy_view.specs.Kind.{IsDramOf};
 
 use std::alloc::{AllocError, Global};
-use thy_base::{Block, Geometry, Nvm, NvmError, Stored};
+use thy_block::{Block, Geometry, Nvm, NvmError, Stored};
 use thy_boot::Fills;
 use thy_dram::Dram;
 use thy_engine::{Checkpoints, EngineStage};

@@ -1,51 +1,18 @@
 -- What is read at places after a write, a drain or a barrier.
-use Rattle.std.proofs.Common.{◌≡◌, ◌≢◌, ℕ, ◌<◌, Bool, true, false, if◌then◌else◌, length, refl, sym, ◌∙◌, ap, arith}
+use Rattle.std.proofs.Common.{◌≡◌, ◌≢◌, ℕ, ◌<◌, Bool, true, false, if◌then◌else◌, length, refl, sym, ◌∙◌, arith}
 use Rattle.std.proofs.lemmas.List.{length-set, get_or-set_same, get_or-set_other}
-use Rattle.thy_base.specs.declared.block.Block.{Block}
-use Rattle.thy_base.specs.declared.config.Parameters.{Parameters}
+use Rattle.thy_block.specs.declared.block.Block.{Block}
+use Rattle.thy_block.specs.declared.parameters.Parameters.{Parameters}
 use Rattle.thy_places.specs.declared.place.Place.{Place}
 use Rattle.thy_places.specs.declared.place.Place.TheVariants.{Home, AlternateBlock, AlternatePage, Buffer, Frame}
-use Rattle.thy_base.specs.Device.{Device, HasFailedToWrite, zero_block, block_at, newest, drained, settled, written_to}
-use Rattle.thy_places.specs.Places.{NumbersTellPlaces, in_dram, number_of, IsPlace, image_blocks}
-use Rattle.thy_base.specs.Places.{dram_blocks}
-use Rattle.thy_base.proofs.DeviceLemmas.{newest-drained, newest-settled, newest-written_to, newest-written_to_other, no_more-written_to_other, MayLeave-elsewhere, length-drained, length-settled, length-written_to}
+use Rattle.thy_block.specs.Device.{Device, HasFailedToWrite, zero_block, block_at, newest, drained, settled, written_to}
+use Rattle.thy_places.specs.Places.{in_dram, number_of, IsPlace, image_blocks}
+use Rattle.thy_places.proofs.PlaceLemmas.{numbers_tell}
+use Rattle.thy_block.specs.Places.{dram_blocks}
+use Rattle.thy_block.proofs.DeviceLemmas.{newest-drained, newest-settled, newest-written_to, newest-written_to_other, no_more-written_to_other, MayLeave-elsewhere, length-drained, length-settled, length-written_to}
 use Rattle.thy_dram.specs.Contents.{written, drained as dram_drained}
 use Rattle.thy_place.specs.Devices.{Devices, AreSized, NoMoreAt, read_at, written_at}
 use Rattle.thy_place.specs.DeviceLaws.{ReadsTheSame}
-
--- places of one device that have the same number are the same place
-pub numbers_tell : NumbersTellPlaces
-numbers_tell p (Home a) (Home b) x y s e = let l : a ≡ b = omega arith in ap Home l
-numbers_tell p (Home a) (AlternateBlock i) x y s e = absurd (omega arith)
-numbers_tell p (Home a) (AlternatePage j k) x y s e = absurd (omega arith)
-numbers_tell p (Home a) (Buffer i) x y s e = cc
-numbers_tell p (Home a) (Frame j k) x y s e = cc
-numbers_tell p (AlternateBlock i) (Home b) x y s e = absurd (omega arith)
-numbers_tell p (AlternateBlock i) (AlternateBlock k) x y s e = let l : i ≡ k = omega arith in ap AlternateBlock l
-numbers_tell p (AlternateBlock i) (AlternatePage j k) x y s e = absurd (omega arith)
-numbers_tell p (AlternateBlock i) (Buffer k) x y s e = cc
-numbers_tell p (AlternateBlock i) (Frame j k) x y s e = cc
-numbers_tell p (AlternatePage j k) (Home b) x y s e = absurd (omega arith)
-numbers_tell p (AlternatePage j k) (AlternateBlock i) x y s e = absurd (omega arith)
-numbers_tell p (AlternatePage j k) (AlternatePage l m) x y s e =
-    let same_entry : j ≡ l = omega arith in
-    let same_block : k ≡ m = omega arith in
-    cc
-numbers_tell p (AlternatePage j k) (Buffer i) x y s e = cc
-numbers_tell p (AlternatePage j k) (Frame l m) x y s e = cc
-numbers_tell p (Buffer i) (Home b) x y s e = cc
-numbers_tell p (Buffer i) (AlternateBlock k) x y s e = cc
-numbers_tell p (Buffer i) (AlternatePage j k) x y s e = cc
-numbers_tell p (Buffer i) (Buffer k) x y s e = ap Buffer e
-numbers_tell p (Buffer i) (Frame j k) x y s e = absurd (omega arith)
-numbers_tell p (Frame j k) (Home b) x y s e = cc
-numbers_tell p (Frame j k) (AlternateBlock i) x y s e = cc
-numbers_tell p (Frame j k) (AlternatePage l m) x y s e = cc
-numbers_tell p (Frame j k) (Buffer i) x y s e = absurd (omega arith)
-numbers_tell p (Frame j k) (Frame l m) x y s e =
-    let same_entry : j ≡ l = omega arith in
-    let same_block : k ≡ m = omega arith in
-    cc
 
 -- two places of one device have two numbers
 pub numbers_apart : (p : Parameters) (x y : Place) → IsPlace p x → IsPlace p y → in_dram x ≡ in_dram y → y ≢ x → number_of p y ≢ number_of p x

@@ -1,9 +1,9 @@
 -- Laws of places: a write is read at its place, and changes no other place.
 use Rattle.std.specs.Prelude.{◌≡◌, ◌≢◌, false}
-use Rattle.thy_base.specs.declared.block.Block.{Block}
-use Rattle.thy_base.specs.declared.config.Parameters.{Parameters}
+use Rattle.thy_block.specs.declared.block.Block.{Block}
+use Rattle.thy_block.specs.declared.parameters.Parameters.{Parameters}
 use Rattle.thy_places.specs.declared.place.Place.{Place}
-use Rattle.thy_base.specs.Device.{Device, HasFailedToWrite, drained, settled}
+use Rattle.thy_block.specs.Device.{Device, HasFailedToWrite, drained, settled}
 use Rattle.thy_places.specs.Places.{in_dram, number_of, IsPlace}
 use Rattle.thy_dram.specs.Contents.{drained as dram_drained}
 use Rattle.thy_place.specs.Devices.{Devices, AreSized, NoMoreAt, read_at, written_at}

@@ -1,12 +1,12 @@
 -- Part of the claim.
 -- What the places of both devices hold, and what a write at one makes of them.
 use Rattle.std.specs.Prelude.{◌≡◌, ℕ, if◌then◌else◌, length}
-use Rattle.thy_base.specs.declared.block.Block.{Block}
-use Rattle.thy_base.specs.declared.config.Parameters.{Parameters}
+use Rattle.thy_block.specs.declared.block.Block.{Block}
+use Rattle.thy_block.specs.declared.parameters.Parameters.{Parameters}
 use Rattle.thy_places.specs.declared.place.Place.{Place}
-use Rattle.thy_base.specs.Device.{Device, MayLeave, block_at, newest, written_to}
+use Rattle.thy_block.specs.Device.{Device, MayLeave, block_at, newest, written_to}
 use Rattle.thy_places.specs.Places.{in_dram, number_of, image_blocks}
-use Rattle.thy_base.specs.Places.{dram_blocks}
+use Rattle.thy_block.specs.Places.{dram_blocks}
 use Rattle.thy_dram.specs.Contents.{Contents, written}
 
 -- the contents of both devices

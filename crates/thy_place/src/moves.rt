@@ -1,10 +1,10 @@
 //! The two functions that touch a device at a place.
 ghost use Rattle.std.specs.Prelude.{◌≡◌, ◌<◌, false, OnOk, OnErr, IfOk};
-ghost use Rattle.thy_base.specs.Device.{HasFailed, HasFailedToWrite, IsFramed, CountsFault};
+ghost use Rattle.thy_block.specs.Device.{HasFailed, HasFailedToWrite, IsFramed, CountsFault};
 ghost use Rattle.thy_places.specs.Places.{in_dram, number_of, IsPlace};
 ghost use Rattle.thy_place.specs.Devices.{AreSized, devices_of, read_at, written_at};
 
-use thy_base::{Block, Geometry, Nvm, NvmError};
+use thy_block::{Block, Geometry, Nvm, NvmError};
 use thy_dram::Dram;
 use thy_places::{Place, number};
 

@@ -2,9 +2,9 @@
 -- The places of both devices, and the numbers of the blocks that they have. The NVM has the header (block 0), the
 -- commit block (block 1), two slots of version 1, the places of memory's blocks, and behind them two slots of version 2.
 use Rattle.std.specs.Prelude.{◌≡◌, ◌⊎◌, ℕ, ◌+◌, ◌*◌, ◌/◌, ◌<◌, ◌≤◌, Bool, true, false}
-use Rattle.thy_base.specs.declared.config.Parameters.{Parameters}
-use Rattle.thy_base.specs.Geometry.{memory_blocks}
-use Rattle.thy_base.specs.Places.{hart_blocks, record_blocks, dram_blocks, buffer_place, frame_place}
+use Rattle.thy_block.specs.declared.parameters.Parameters.{Parameters}
+use Rattle.thy_block.specs.Geometry.{memory_blocks}
+use Rattle.thy_block.specs.Places.{hart_blocks, record_blocks, dram_blocks, buffer_place, frame_place}
 use Rattle.thy_places.specs.declared.place.Place.{Place}
 use Rattle.thy_places.specs.declared.place.Place.TheVariants.{Home, AlternateBlock, AlternatePage, Buffer, Frame}
 

@@ -3,7 +3,7 @@
 //! places of one device have different numbers, those of the NVM lie between the slots of both versions, and those of the
 //! DRAM within it.
 //!
-//! Open specs/Places.antt first, and src/places.rt. It stands on thy_base; thy_place, thy_cell and thy_record stand on it,
+//! Open specs/Places.antt first, and src/places.rt. It stands on thy_block; thy_place, thy_cell and thy_record stand on it,
 //! and with them all of this scheme.
 #![tactic(auto)]
 

@@ -1,11 +1,11 @@
 //! The numbers of the places' blocks, and the slots of an image.
 ghost use Rattle.std.specs.Prelude.{◌≡◌, ◌<◌};
-ghost use Rattle.thy_base.specs.Geometry.{IsInRange, memory_blocks};
+ghost use Rattle.thy_block.specs.Geometry.{IsInRange, memory_blocks};
 ghost use Rattle.thy_places.specs.declared.place.Place.TheVariants.{Home as AtHome, AlternateBlock as AtAlternateBlock, AlternatePage as AtAlternatePage};
 ghost use Rattle.thy_places.specs.Places.{table_blocks as blocks_of_tables, count_blocks as blocks_of_counts, slot_blocks_one as blocks_of_slot_one, slot_blocks as blocks_of_slot, slot_place_one, slot_place, first_home as first_of_homes, blocks_one as image_blocks_one, image_blocks, number_of, IsPlace};
 
 use crate::place::Place;
-use thy_base::{BLOCK_COUNTS, Geometry, HART_BLOCKS, PAGE_BLOCKS};
+use thy_block::{BLOCK_COUNTS, Geometry, HART_BLOCKS, PAGE_BLOCKS};
 
 /// How many blocks an image of the NVM has.
 pub fn blocks(geometry: &Geometry) -> u64

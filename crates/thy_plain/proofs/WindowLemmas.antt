@@ -1,7 +1,7 @@
 -- Where an address lies whose offset is one of the window.
 use Rattle.std.proofs.Common.{◌≡◌, ℕ, ◌+◌, ◌-◌, ◌%◌, ◌^◌, ◌<◌, ◌≤◌, ◌==◌, Bool, true, false, if◌then◌else◌, Some, None, refl, arith}
 use Rattle.std.proofs.lemmas.Bool.Decides.{nat_tests}
-use Rattle.thy_base.specs.Inside.{is_inside}
+use Rattle.thy_block.specs.Inside.{is_inside}
 use Rattle.thy_isa.specs.declared.state.Cause.TheVariants.{FetchMisaligned, FetchAccess}
 use Rattle.thy_isa.specs.Step.{fetch_fault}
 use Rattle.thy_plain.specs.Window.{IsWindow}

@@ -1,8 +1,8 @@
 -- Part of the claim.
 -- The state at which a program starts.
 use Rattle.std.specs.Prelude.{ℕ, ◌-◌, ◌==◌, if◌then◌else◌, List, [], replicate, Option, Some, None}
-use Rattle.thy_base.specs.declared.config.Parameters.{Parameters}
-use Rattle.thy_base.specs.Geometry.{stack_top}
+use Rattle.thy_block.specs.declared.parameters.Parameters.{Parameters}
+use Rattle.thy_block.specs.Geometry.{stack_top}
 use Rattle.thy_elf.specs.Image.{Contents}
 use Rattle.thy_isa.specs.declared.state.OtherHart.{OtherHart}
 use Rattle.thy_isa.specs.declared.state.Reservation.TheVariants.{Nothing}

@@ -1,9 +1,9 @@
 //! One instruction, in place.
-#![tactic(auto, unfolding(thy_isa::specs::Step::performed, thy_isa::specs::Step::within, thy_isa::specs::Step::effect_at, thy_isa::specs::Step::read_by, thy_isa::specs::Step::memory_by, thy_isa::specs::Step::console_by, thy_isa::specs::Step::memory_served, thy_isa::specs::Step::console_served, thy_isa::specs::Step::served, thy_isa::specs::Step::finished, thy_isa::specs::Step::step, thy_isa::specs::Step::advanced, thy_base::specs::LittleEndian::number_bytes))]
+#![tactic(auto, unfolding(thy_isa::specs::Step::performed, thy_isa::specs::Step::within, thy_isa::specs::Step::effect_at, thy_isa::specs::Step::read_by, thy_isa::specs::Step::memory_by, thy_isa::specs::Step::console_by, thy_isa::specs::Step::memory_served, thy_isa::specs::Step::console_served, thy_isa::specs::Step::served, thy_isa::specs::Step::finished, thy_isa::specs::Step::step, thy_isa::specs::Step::advanced, thy_block::specs::LittleEndian::number_bytes))]
 
 ghost use Rattle.std.specs.Prelude.{◌≡◌, ◌+◌, ◌<◌, ◌≤◌, ◌^◌, ◌++◌, length, take, drop};
-ghost use Rattle.thy_base.specs.Bytes.{bytes_of, room_of, written};
-ghost use Rattle.thy_base.specs.LittleEndian.{number_bytes};
+ghost use Rattle.thy_block.specs.Bytes.{bytes_of, room_of, written};
+ghost use Rattle.thy_block.specs.LittleEndian.{number_bytes};
 ghost use Rattle.thy_isa.specs.declared.state.Effect.TheVariants.{Read, Write, Environment};
 ghost use Rattle.thy_isa.specs.declared.state.Reservation.TheVariants.{Nothing};
 ghost use Rattle.thy_isa.specs.declared.state.Status.TheVariants.{Trapped};
@@ -17,7 +17,7 @@ ghost use Rattle.thy_plain.specs.Window.{IsWindow};
 
 use crate::setup::Setup;
 use crate::window::{offset_of, word_offset};
-use thy_base::{Bytes, is_inside};
+use thy_block::{Bytes, is_inside};
 use thy_decoded::{DecodedWords, holds, operated};
 use thy_isa::{
     Call, CallState, Cause, Effect, Extend, Instr, MachState, Reg, Reservation, Status, Width,

@@ -1,7 +1,7 @@
 //! The machine.
 ghost use Rattle.std.specs.Prelude.{◌≡◌, ◌+◌, ◌<◌, ◌≤◌, ◌^◌, length, IfOk};
-ghost use Rattle.thy_base.specs.Bytes.{bytes_of};
-ghost use Rattle.thy_base.specs.Geometry.{program_size};
+ghost use Rattle.thy_block.specs.Bytes.{bytes_of};
+ghost use Rattle.thy_block.specs.Geometry.{program_size};
 ghost use Rattle.thy_elf.specs.Image.{contents_of};
 ghost use Rattle.thy_isa.specs.Step.{state_of, is_running};
 ghost use Rattle.thy_isa.specs.Storable.{IsStorable};
@@ -13,7 +13,7 @@ use crate::start::state_over;
 use crate::window::window_of;
 use std::alloc::{AllocError, Global};
 use std::marker::Model;
-use thy_base::{Bytes, Geometry};
+use thy_block::{Bytes, Geometry};
 use thy_decoded::DecodedWords;
 use thy_elf::Image;
 use thy_isa::{MachState, cross_state, is_running};
@@ -29,7 +29,7 @@ pub struct Plain {
 
 impl Model for Plain {
     ghost use Rattle.std.specs.Prelude.{◌≤◌, length};
-    ghost use Rattle.thy_base.specs.Bytes.{bytes_of, room_of};
+    ghost use Rattle.thy_block.specs.Bytes.{bytes_of, room_of};
     ghost use Rattle.thy_isa.specs.Step.{state_of};
     ghost use Rattle.thy_plain.specs.Machine.{Machine, setting_of};
     ghost use Rattle.thy_plain.specs.Window.{IsWindow};

@@ -1,6 +1,6 @@
 //! What stays the same over a run.
 
-use thy_base::Bytes;
+use thy_block::Bytes;
 
 /// What a step needs in addition to the state.
 #[derive(Debug, Drop)]

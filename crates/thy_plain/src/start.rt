@@ -3,15 +3,15 @@
 
 ghost use Rattle.std.specs.Prelude.{◌≡◌, [], length};
 ghost use Rattle.std.specs.List.{All};
-ghost use Rattle.thy_base.specs.Bytes.{bytes_of, room_of};
-ghost use Rattle.thy_base.specs.Geometry.{program_size, stack_top};
+ghost use Rattle.thy_block.specs.Bytes.{bytes_of, room_of};
+ghost use Rattle.thy_block.specs.Geometry.{program_size, stack_top};
 ghost use Rattle.thy_elf.specs.Image.{contents_of};
 ghost use Rattle.thy_isa.specs.Storable.{IsNumber, IsByte, IsStorable};
 ghost use Rattle.thy_isa.specs.Step.{state_of};
 ghost use Rattle.thy_plain.specs.Start.{start_regs, second_regs, start_other, start_state};
 
 use std::alloc::Global;
-use thy_base::{Bytes, Geometry};
+use thy_block::{Bytes, Geometry};
 use thy_elf::Image;
 use thy_isa::{MachState, OtherHart, Reg, Regs, Reservation, Status};
 

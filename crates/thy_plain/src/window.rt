@@ -1,14 +1,14 @@
 //! Where an address lies in program memory.
 
 ghost use Rattle.std.specs.Prelude.{◌≡◌, ◌-◌, ◌+◌, ◌≤◌, true, false, length, None, Some, IfSome, IfNone, IfOk, IfErr};
-ghost use Rattle.thy_base.specs.Bytes.{bytes_of};
-ghost use Rattle.thy_base.specs.Inside.{is_inside};
+ghost use Rattle.thy_block.specs.Bytes.{bytes_of};
+ghost use Rattle.thy_block.specs.Inside.{is_inside};
 ghost use Rattle.thy_isa.specs.Effects.{size_of};
 ghost use Rattle.thy_isa.specs.Step.{fetch_fault};
 ghost use Rattle.thy_plain.specs.Window.{IsWindow};
 
 use crate::setup::Setup;
-use thy_base::{Bytes, is_inside};
+use thy_block::{Bytes, is_inside};
 use thy_isa::{Cause, Width, bytes_in, fetch_fault};
 
 /// How many bytes there are at least at each offset of the window.

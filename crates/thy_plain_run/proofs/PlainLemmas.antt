@@ -1,13 +1,13 @@
 -- What the plain machine returns for a task.
 use Rattle.std.proofs.Common.{◌≡◌, ℕ, ◌-◌, Bool, List, [], refl, sym, ◌∙◌, ap, subst, arith}
-use Rattle.thy_base.specs.declared.config.Parameters.{Parameters}
-use Rattle.thy_base.specs.Bytes.{bytes_of}
-use Rattle.thy_base.specs.Outside.{Stream}
+use Rattle.thy_block.specs.declared.parameters.Parameters.{Parameters}
+use Rattle.thy_block.specs.Bytes.{bytes_of}
+use Rattle.thy_block.specs.Outside.{Stream}
 use Rattle.thy_elf.specs.Image.{Contents, contents_of}
 use Rattle.thy_isa.specs.declared.state.MachState.{MachState}
 use Rattle.thy_isa.specs.OnBlocks.{setting_for}
 use Rattle.thy_isa.specs.Step.{State, state_of, is_running, steps}
-use Rattle.thy_base.specs.Geometry.{parameters_of}
+use Rattle.thy_base.specs.Config.{parameters_of}
 use Rattle.thy_plain.specs.Machine.{Machine, loaded, after_steps, StopsAt as MachineStops}
 use Rattle.thy_plain.specs.Start.{start_state}
 use Rattle.thy_text.specs.History.{of_run}

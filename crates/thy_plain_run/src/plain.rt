@@ -1,10 +1,10 @@
 //! A program on the plain machine.
 ghost use Rattle.std.specs.Prelude.{◌≡◌, [], None, length, IfOk, IfErr, OnOk, option_map};
-ghost use Rattle.thy_base.specs.Bytes.{bytes_of};
+ghost use Rattle.thy_block.specs.Bytes.{bytes_of};
 ghost use Rattle.thy_base.specs.Config.{fault_of as range_fault};
-ghost use Rattle.thy_base.specs.Device.{Device as DeviceValue};
-ghost use Rattle.thy_base.specs.Geometry.{IsInRange, program_size};
-ghost use Rattle.thy_base.specs.Outside.{HasNotFailed};
+ghost use Rattle.thy_block.specs.Device.{Device as DeviceValue};
+ghost use Rattle.thy_block.specs.Geometry.{IsInRange, program_size};
+ghost use Rattle.thy_block.specs.Outside.{HasNotFailed};
 ghost use Rattle.thy_text.specs.Lines.{ended_lines};
 ghost use Rattle.thy_words.specs.Settings.{Job as JobValue, job_of};
 ghost use Rattle.thy_answer.specs.Answering.{outside, plain_stop};

@@ -2,7 +2,7 @@
 use Rattle.std.proofs.Common.{◌≡◌, ◌≢◌, ℕ, ◌+◌, ◌-◌, ◌<◌, ◌≤◌, ◌==◌, Bool, true, false, nat_lt, if◌then◌else◌, length, map, Option, Some, None, is_some, refl, sym, ◌∙◌, ap, subst, inl, inr, arith}
 use Rattle.std.proofs.lemmas.Bool.{cases_Bool, cases_eq, cases_lt, lt-ltb, le-ltb, eq-eqb, ne_eqb}
 use Rattle.std.proofs.lemmas.List.{length-map, length-set, get_or-map, get_or_past, ext_get_or}
-use Rattle.thy_base.specs.declared.config.Parameters.{Parameters}
+use Rattle.thy_block.specs.declared.parameters.Parameters.{Parameters}
 use Rattle.thy_table.specs.Listing.{Listing, IsListing, listing, entry_at, lists, place_of, with_entry}
 use Rattle.thy_table.proofs.IndexLemmas.{lists-inside}
 use Rattle.thy_table.proofs.ListingLaws.{entry_at-with_same, entry_at-with_other, place_of-lists, place_of-none, none-lists, found-once}

@@ -4,10 +4,10 @@ use Rattle.std.specs.Option.{option_and_then}
 use Rattle.std.proofs.lemmas.Bool.{cases_eq, cases_lt, lt-ltb, ltb-true, le-ltb}
 use Rattle.std.proofs.lemmas.List.{length-map, length-set, length-replicate, get_or_past, ext_get_or}
 use Rattle.std.proofs.lemmas.List.FromFn.{length-map-range_with_len, get_or-map-range_with_len}
-use Rattle.thy_base.specs.declared.config.Parameters.{Parameters}
-use Rattle.thy_base.specs.Geometry.{IsInRange}
-use Rattle.thy_base.proofs.BasicLemmas.{not_some, some_same}
-use Rattle.thy_base.specs.Places.{dram_blocks}
+use Rattle.thy_block.specs.declared.parameters.Parameters.{Parameters}
+use Rattle.thy_block.specs.Geometry.{IsInRange}
+use Rattle.thy_block.proofs.BasicLemmas.{not_some, some_same}
+use Rattle.thy_block.specs.Places.{dram_blocks}
 use Rattle.thy_dram.specs.Contents.{Contents}
 use Rattle.thy_table.specs.Listing.{Listing, IsListing, listing, entry_at, lists, place_of, free_place, with_entry, added_at, mapped, empty_table, free_count}
 use Rattle.thy_table.proofs.IndexLemmas.{lists-some, lists-key, some-counted}

@@ -2,9 +2,9 @@
 -- What the pool and the NVM hold together: memory as it was stored last and as it was committed, and what was copied.
 use Rattle.std.specs.Prelude.{ℕ, ◌==◌, Bool, true, List, map, count_by, bytes_eq, Option, Some, None}
 use Rattle.std.specs.List.{range_with_len}
-use Rattle.thy_base.specs.declared.block.Block.{Block}
-use Rattle.thy_base.specs.Device.{Device, newest}
-use Rattle.thy_base.specs.Geometry.{memory_blocks}
+use Rattle.thy_block.specs.declared.block.Block.{Block}
+use Rattle.thy_block.specs.Device.{Device, newest}
+use Rattle.thy_block.specs.Geometry.{memory_blocks}
 use Rattle.thy_pool.specs.declared.entry.Begun.{Begun}
 use Rattle.thy_pool.specs.State.{State, page_place, frame_block, committed_of, work_of}
 use Rattle.thy_pool.specs.Stores.{free_frame}

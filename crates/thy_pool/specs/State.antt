@@ -3,12 +3,12 @@
 -- as it was stored last. Every other page stands in the pool, as it was committed.
 use Rattle.std.specs.Prelude.{◌≡◌, ℕ, ◌+◌, ◌*◌, ◌%◌, ◌<◌, ◌≤◌, nat_lt, true, if◌then◌else◌, List, length, map, Option, Some, None, is_some}
 use Rattle.std.specs.List.{range_with_len}
-use Rattle.thy_base.specs.declared.block.Block.{Block}
-use Rattle.thy_base.specs.declared.config.Parameters.{Parameters}
-use Rattle.thy_base.specs.Device.{Device, block_at, newest}
-use Rattle.thy_base.specs.Geometry.{IsInRange}
-use Rattle.thy_base.specs.Places.{dram_blocks, frame_place}
-use Rattle.thy_base.specs.Store.{page_of}
+use Rattle.thy_block.specs.declared.block.Block.{Block}
+use Rattle.thy_block.specs.declared.parameters.Parameters.{Parameters}
+use Rattle.thy_block.specs.Device.{Device, block_at, newest}
+use Rattle.thy_block.specs.Geometry.{IsInRange}
+use Rattle.thy_block.specs.Places.{dram_blocks, frame_place}
+use Rattle.thy_block.specs.Store.{page_of}
 use Rattle.thy_dram.specs.Contents.{Contents}
 use Rattle.thy_table.specs.Listing.{Listing, IsListing, entry_at, place_of, free_count}
 use Rattle.thy_shadow_image.specs.Places.{map_blocks, pool_pages, image_blocks, pool_place, pool_page}

@@ -6,7 +6,7 @@ ghost use Rattle.thy_pool.specs.Commit.{committed_pool, freed, renamed, moved_by
 ghost use Rattle.thy_pool.specs.Keys.{number_key};
 
 use crate::entry::{Framed, Held};
-use thy_base::Geometry;
+use thy_block::Geometry;
 use thy_table::Table;
 
 /// Commits every frame, from the lowest on.

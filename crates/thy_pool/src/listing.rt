@@ -6,7 +6,7 @@ ghost use Rattle.thy_shadow_image.specs.Slots.{IsMap, table_in};
 ghost use Rattle.thy_pool.specs.Listed.{HoldsMap};
 
 use crate::entry::{FreeAll, Held};
-use thy_base::Geometry;
+use thy_block::Geometry;
 use thy_shadow_image::listed_page;
 use thy_table::Table;
 

@@ -1,9 +1,9 @@
 //! The pool and its frames.
 ghost use Rattle.std.specs.Prelude.{◌≡◌, ℕ, ◌+◌, ◌*◌, ◌/◌, ◌%◌, ◌<◌, ◌≤◌, true, false, is_some, length, replicate, map, take, drop, IfOk, IfSome, OnOk, OnErr, None, Some};
-ghost use Rattle.thy_base.specs.Device.{HasFailed, HasFailedToWrite, IsFramed, CountsFault, newest, written_to};
-ghost use Rattle.thy_base.specs.Geometry.{memory_blocks};
-ghost use Rattle.thy_base.specs.Places.{dram_blocks};
-ghost use Rattle.thy_base.specs.Store.{page_of};
+ghost use Rattle.thy_block.specs.Device.{HasFailed, HasFailedToWrite, IsFramed, CountsFault, newest, written_to};
+ghost use Rattle.thy_block.specs.Geometry.{memory_blocks};
+ghost use Rattle.thy_block.specs.Places.{dram_blocks};
+ghost use Rattle.thy_block.specs.Store.{page_of};
 ghost use Rattle.thy_layout.specs.Files.{blocks_of};
 ghost use Rattle.thy_layout.specs.Entries.{entry_at as listed_at};
 ghost use Rattle.thy_table.specs.Listing.{Listing, listing, free_count, entry_at, place_of};
@@ -17,7 +17,7 @@ use crate::entry::{Begun, Framed, FreeFrames, Held};
 use crate::listing::list_all;
 use std::alloc::{AllocError, Global};
 use std::marker::Model;
-use thy_base::{Block, Geometry, Nvm, NvmError, Stored};
+use thy_block::{Block, Geometry, Nvm, NvmError, Stored};
 use thy_dram::Dram;
 use thy_layout::table_block;
 use thy_shadow_image::{pool as pool_number, pool_pages};

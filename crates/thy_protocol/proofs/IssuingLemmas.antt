@@ -5,10 +5,10 @@ use Rattle.std.proofs.lemmas.Bool.{cases_lt}
 use Rattle.std.proofs.lemmas.List.{length-map, length-set}
 use Rattle.std.proofs.lemmas.List.Elements.{Contains-append_cases}
 use Rattle.std.proofs.lemmas.List.FromFn.{length-range_with_len, fill_by_all}
-use Rattle.thy_base.specs.declared.block.Block.{Block}
-use Rattle.thy_base.specs.Device.{Device, zero_block, block_at, applied, newest, drained, written_to}
-use Rattle.thy_base.proofs.DeviceLemmas.{length-applied, length-drained, length-written_to, newest-drained, newest-written_to_other}
-use Rattle.thy_base.proofs.BasicLemmas.{not_first, Contains-range}
+use Rattle.thy_block.specs.declared.block.Block.{Block}
+use Rattle.thy_block.specs.Device.{Device, zero_block, block_at, applied, newest, drained, written_to}
+use Rattle.thy_block.proofs.DeviceLemmas.{length-applied, length-drained, length-written_to, newest-drained, newest-written_to_other}
+use Rattle.thy_block.proofs.BasicLemmas.{not_first, Contains-range}
 use Rattle.thy_crash.specs.Saved.{next_image}
 use Rattle.thy_crash.proofs.FixedLemmas.{ReadsFirst-elsewhere, ReadsFirst-drained, ReadsFirst-more}
 use Rattle.thy_crash.proofs.SavedLemmas.{next_image-reads, next_image-commit, IsIssued-next_image}

@@ -1,9 +1,9 @@
 -- Which checkpoints a device keeps, after each move and after a cut; and that they are all that a cut may leave.
 use Rattle.std.proofs.Common.{◌≡◌, ◌⊎◌, ℕ, List, [], length, Option, Some, None, refl, sym, ◌∙◌, ap, subst, inl, inr, arith}
-use Rattle.thy_base.specs.declared.block.Block.{Block}
-use Rattle.thy_base.specs.declared.mark.Mark.{Mark}
-use Rattle.thy_base.specs.Device.{Device, Crash, IsOneWordApart, IsCut, IsFramed, block_at, settled, written_to, drained}
-use Rattle.thy_base.proofs.DeviceLemmas.{length-settled, length-written_to}
+use Rattle.thy_block.specs.declared.block.Block.{Block}
+use Rattle.thy_block.specs.declared.mark.Mark.{Mark}
+use Rattle.thy_block.specs.Device.{Device, Crash, IsOneWordApart, IsCut, IsFramed, block_at, settled, written_to, drained}
+use Rattle.thy_block.proofs.DeviceLemmas.{length-settled, length-written_to}
 use Rattle.thy_layout.specs.Decoded.{Decoded, At}
 use Rattle.thy_crash.specs.Saved.{Saved, Kept, Ready, InDoubt, IsCopy, IsLeft, IsIssued, guarded}
 use Rattle.thy_crash.specs.Fixed.{Reads}
@@ -16,7 +16,7 @@ use Rattle.thy_view.proofs.TurnLaws.{at-early}
 use Rattle.thy_view.specs.Booting.{boot_view, found_first, view_of_image}
 use Rattle.thy_view.specs.Origin.{Origin, IsOrigin, StartsFrom, at}
 use Rattle.thy_view.specs.Safe.{ceiling, Safe, IsOneOf}
-use Rattle.thy_base.specs.Marks.{mark}
+use Rattle.thy_block.specs.Marks.{mark}
 use Rattle.thy_layout.specs.Layout.{Layout, Layouts, decode_by, reading, looked_by}
 use Rattle.thy_protocol.specs.Keeps.{IsOf, Tells, TellsNext, TellsAll, Keeps, doubt_in, finding_view}
 use Rattle.thy_protocol.specs.Moves.{Standing, IsKeeping, CommitsTo, Move, Goes, Seals, Readies, Commits, Confirms, Moves, Rests, Then, LeavesAlone}

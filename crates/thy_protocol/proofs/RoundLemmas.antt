@@ -1,9 +1,9 @@
 -- A round, from action to action.
 use Rattle.std.proofs.Common.{◌≡◌, ℕ, ◌+◌, ◌<◌, ◌≤◌, nat_lt, Bool, true, false, if◌then◌else◌, List, length, Option, Some, None, refl, sym, ◌∙◌, ap, subst, inl, inr, arith}
 use Rattle.std.proofs.lemmas.Bool.{cases_eq, ltb-true, ltb-false}
-use Rattle.thy_base.specs.declared.block.Block.{Block}
-use Rattle.thy_base.specs.Device.{Device, IsOneWordApart, block_at, newest, settled, drained, written_to, HasFailedToWrite}
-use Rattle.thy_base.proofs.DeviceLemmas.{length-settled, newest-settled}
+use Rattle.thy_block.specs.declared.block.Block.{Block}
+use Rattle.thy_block.specs.Device.{Device, IsOneWordApart, block_at, newest, settled, drained, written_to, HasFailedToWrite}
+use Rattle.thy_block.proofs.DeviceLemmas.{length-settled, newest-settled}
 use Rattle.thy_crash.specs.Fixed.{Reads}
 use Rattle.thy_crash.specs.Saved.{Kept, InDoubt, guarded, next_image}
 use Rattle.thy_crash.proofs.FixedLemmas.{Reads-written, Reads-elsewhere, Reads-settled, Reads-drained}

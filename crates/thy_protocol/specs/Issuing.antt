@@ -2,9 +2,9 @@
 -- How a checkpoint is written in any layout while another one is kept: what of it was issued so far.
 use Rattle.std.specs.Prelude.{◌≡◌, ◌≢◌, ℕ, ◌+◌, ◌<◌, ◌≤◌, true, false, List, length, map, Contains, None}
 use Rattle.std.specs.List.{range_with_len}
-use Rattle.thy_base.specs.declared.block.Block.{Block}
-use Rattle.thy_base.specs.Device.{Device, newest, drained, written_to}
-use Rattle.thy_base.specs.Places.{header_place}
+use Rattle.thy_block.specs.declared.block.Block.{Block}
+use Rattle.thy_block.specs.Device.{Device, newest, drained, written_to}
+use Rattle.thy_block.specs.Places.{header_place}
 use Rattle.thy_crash.specs.Fixed.{ReadsFirst}
 use Rattle.thy_crash.specs.Saved.{IsIssued, next_image}
 use Rattle.thy_layout.specs.Commit.{is_zero, epoch_of}

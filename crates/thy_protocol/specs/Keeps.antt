@@ -1,8 +1,8 @@
 -- A run's checkpoints on a device: which images a power cut may leave, and which marks they are.
 use Rattle.std.specs.Prelude.{◌≡◌, ℕ, List, length, Option, Some, None}
-use Rattle.thy_base.specs.declared.block.Block.{Block}
-use Rattle.thy_base.specs.declared.mark.Mark.{Mark}
-use Rattle.thy_base.specs.Device.{Device}
+use Rattle.thy_block.specs.declared.block.Block.{Block}
+use Rattle.thy_block.specs.declared.mark.Mark.{Mark}
+use Rattle.thy_block.specs.Device.{Device}
 use Rattle.thy_layout.specs.Decoded.{Nothing, At}
 use Rattle.thy_crash.specs.Saved.{Saved, Kept, Ready, InDoubt, IsSaved}
 use Rattle.thy_view.specs.declared.view.View.{View}

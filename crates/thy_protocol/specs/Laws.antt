@@ -1,8 +1,8 @@
 -- What holds of every layout, and of a run's checkpoints in it.
 use Rattle.std.specs.Prelude.{◌≡◌, ◌⊎◌, ℕ, List, [], length, Option, Some, None}
-use Rattle.thy_base.specs.declared.block.Block.{Block}
-use Rattle.thy_base.specs.declared.mark.Mark.{Mark}
-use Rattle.thy_base.specs.Device.{Device, IsCut, IsFramed}
+use Rattle.thy_block.specs.declared.block.Block.{Block}
+use Rattle.thy_block.specs.declared.mark.Mark.{Mark}
+use Rattle.thy_block.specs.Device.{Device, IsCut, IsFramed}
 use Rattle.thy_crash.specs.Saved.{Saved, Kept}
 use Rattle.thy_crash.specs.Spares.{Spares}
 use Rattle.thy_view.specs.Action.{Action, after, FailsTo}

@@ -1,9 +1,9 @@
 -- How a run's checkpoints follow each other on a device.
 use Rattle.std.specs.Prelude.{◌≡◌, ◌⊎◌, List, Contains, ℕ, Option, Some, None}
-use Rattle.thy_base.specs.declared.block.Block.{Block}
-use Rattle.thy_base.specs.declared.mark.Mark.{Mark}
-use Rattle.thy_base.specs.Device.{Device, IsOneWordApart, block_at, written_to, settled, HasFailedToWrite, IsFramed}
-use Rattle.thy_base.specs.Places.{commit_place}
+use Rattle.thy_block.specs.declared.block.Block.{Block}
+use Rattle.thy_block.specs.declared.mark.Mark.{Mark}
+use Rattle.thy_block.specs.Device.{Device, IsOneWordApart, block_at, written_to, settled, HasFailedToWrite, IsFramed}
+use Rattle.thy_block.specs.Places.{commit_place}
 use Rattle.thy_crash.specs.Fixed.{Reads}
 use Rattle.thy_crash.specs.Saved.{Saved, Kept, Ready, InDoubt, IsIssued, guarded}
 use Rattle.thy_crash.specs.Spares.{Spares}

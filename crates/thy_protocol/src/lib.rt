@@ -6,7 +6,7 @@
 //! `moves_are_safe`. A `Round` writes one: its blocks, a barrier, the commit block, and a barrier.
 //!
 //! Open specs/Keeps.antt first, then specs/Moves.antt, specs/Round.antt and specs/Rounds.antt, and src/laws.rt. It depends
-//! on thy_base, thy_crash, thy_layout and thy_view; thy_record, thy_boot, thy_engine, thy_parts, the images of the journal
+//! on thy_block, thy_crash, thy_layout and thy_view; thy_record, thy_boot, thy_engine, thy_parts, the images of the journal
 //! and of shadow paging, and what stands on these depend on it.
 #![tactic(auto)]
 

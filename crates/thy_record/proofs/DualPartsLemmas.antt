@@ -2,14 +2,14 @@
 use Rattle.std.proofs.Common.{◌≡◌, ℕ, zero, suc, ◌+◌, ◌%◌, ◌^◌, ◌<◌, ◌≤◌, true, List, None, ◌∙◌, ap, arith, length}
 use Rattle.std.specs.Option.{option_or}
 use Rattle.std.proofs.lemmas.List.FromFn.{get_or-map-range_with_len, length-map-range_with_len}
-use Rattle.thy_base.specs.declared.block.Block.{Block}
-use Rattle.thy_base.specs.declared.config.Parameters.{Parameters}
+use Rattle.thy_block.specs.declared.block.Block.{Block}
+use Rattle.thy_block.specs.declared.parameters.Parameters.{Parameters}
 use Rattle.thy_layout.specs.declared.layout_version.LayoutVersion.TheVariants.{VersionTwo, VersionOne}
-use Rattle.thy_base.specs.Device.{Device, newest, zero_block, block_at}
-use Rattle.thy_base.specs.Geometry.{IsInRange, console_room}
+use Rattle.thy_block.specs.Device.{Device, newest, zero_block, block_at}
+use Rattle.thy_block.specs.Geometry.{IsInRange, console_room}
 use Rattle.thy_record.specs.VersionSlots.{blocks_of_slot, place_of_slot}
 use Rattle.thy_places.specs.Places.{slot_blocks, slot_place, image_blocks}
-use Rattle.thy_base.proofs.BasicLemmas.{all_none}
+use Rattle.thy_block.proofs.BasicLemmas.{all_none}
 use Rattle.thy_isa.specs.declared.state.CpuState.{CpuState}
 use Rattle.thy_isa.specs.OnBlocks.{state_from}
 use Rattle.thy_layout.specs.Commit.{commit_of, epoch_of, version_of, commit_fault, slot_of_epoch}

@@ -2,11 +2,11 @@
 use Rattle.std.proofs.Common.{◌≡◌, ◌⊎◌, ℕ, zero, suc, ◌+◌, ◌*◌, ◌/◌, ◌%◌, ◌<◌, ◌≤◌, Bool, true, false, ◌||◌, List, length, drop, slice_index_or, refl, sym, ◌∙◌, ap, arith, ◌==◌, inl, inr, ◌&&◌, if◌then◌else◌, ◌≢◌, ◌∷◌, get_or, Contains, Option, Some, None, subst}
 use Rattle.std.proofs.lemmas.Bool.{eqb-true}
 use Rattle.std.proofs.lemmas.List.{get_or-take, get_or-drop, length-map, get_or-map, ext_get_or}
-use Rattle.thy_base.specs.declared.block.Block.{Block}
-use Rattle.thy_base.specs.declared.config.Parameters.{Parameters}
+use Rattle.thy_block.specs.declared.block.Block.{Block}
+use Rattle.thy_block.specs.declared.parameters.Parameters.{Parameters}
 use Rattle.thy_layout.specs.declared.layout_version.LayoutVersion.{LayoutVersion}
 use Rattle.thy_layout.specs.declared.layout_version.LayoutVersion.TheVariants.{VersionOne, VersionTwo}
-use Rattle.thy_base.specs.Places.{record_blocks, hart_blocks}
+use Rattle.thy_block.specs.Places.{record_blocks, hart_blocks}
 use Rattle.thy_places.specs.Places.{table_blocks, count_blocks, blocks_one, image_blocks, in_dram, number_of, IsPlace, slot_blocks, slot_place, first_home}
 use Rattle.thy_record.specs.VersionSlots.{blocks_of_slot, place_of_slot}
 use Rattle.thy_layout.specs.Files.{blocks_of}
@@ -14,7 +14,7 @@ use Rattle.thy_layout.specs.Layout.{is_length, slot_places, looked_by}
 use Rattle.thy_record.specs.DualLayouts.{older_of, dual_layouts}
 use Rattle.thy_record.specs.Slots.{count_byte, tables_in}
 use Rattle.thy_layout.proofs.FileLemmas.{block_at-blocks_of}
-use Rattle.thy_base.specs.Words.{word_of}
+use Rattle.thy_block.specs.Words.{word_of}
 use Rattle.thy_layout.specs.Commit.{commit_magic, version_of, epoch_of}
 use Rattle.thy_layout.specs.Header.{last_word, knows_version_one}
 use Rattle.thy_record.specs.Number.{scheme_number}
@@ -22,11 +22,11 @@ use Rattle.std.proofs.lemmas.List.FromFn.{length-range_with_len, get_or-range_wi
 use Rattle.std.specs.List.{range_with_len}
 use Rattle.thy_places.specs.declared.place.Place.{Place}
 use Rattle.thy_places.specs.declared.place.Place.TheVariants.{Home, AlternateBlock, AlternatePage}
-use Rattle.thy_base.specs.Device.{Device, zero_block, block_at, newest}
-use Rattle.thy_base.specs.Geometry.{memory_blocks}
-use Rattle.thy_base.specs.Store.{page_of}
+use Rattle.thy_block.specs.Device.{Device, zero_block, block_at, newest}
+use Rattle.thy_block.specs.Geometry.{memory_blocks}
+use Rattle.thy_block.specs.Store.{page_of}
 use Rattle.thy_places.proofs.PlaceLemmas.{numbers_tell, between_slots}
-use Rattle.thy_base.proofs.BasicLemmas.{Contains-range}
+use Rattle.thy_block.proofs.BasicLemmas.{Contains-range}
 use Rattle.thy_layout.proofs.LookedLemmas.{not_looked}
 use Rattle.thy_record.specs.Images.{slot_in, memory_numbers}
 use Rattle.thy_record.specs.Issuing.{Target, SlotBlock, PlaceBlock, target_number, IsTarget, IsUnused, IsFree, IsToldBy, memory_read, HasMemory}

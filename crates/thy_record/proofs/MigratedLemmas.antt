@@ -5,14 +5,14 @@ use Rattle.std.proofs.lemmas.List.{length-replicate, get_or-replicate, get_or_pa
 use Rattle.std.proofs.lemmas.List.FromFn.{length-map-range_with_len, get_or-map-range_with_len}
 use Rattle.std.specs.List.{range_with_len}
 use Rattle.std.specs.Option.{option_map}
-use Rattle.thy_base.specs.declared.block.Block.{Block}
-use Rattle.thy_base.specs.declared.config.Parameters.{Parameters}
+use Rattle.thy_block.specs.declared.block.Block.{Block}
+use Rattle.thy_block.specs.declared.parameters.Parameters.{Parameters}
 use Rattle.thy_layout.specs.declared.layout_version.LayoutVersion.TheVariants.{VersionOne, VersionTwo}
-use Rattle.thy_base.specs.Device.{zero_block, block_at}
-use Rattle.thy_base.specs.Places.{record_blocks}
+use Rattle.thy_block.specs.Device.{zero_block, block_at}
+use Rattle.thy_block.specs.Places.{record_blocks}
 use Rattle.thy_places.specs.Places.{table_blocks, count_blocks, slot_blocks}
-use Rattle.thy_base.specs.Words.{word_of}
-use Rattle.thy_base.proofs.BlockLemmas.{zero_block-at}
+use Rattle.thy_block.specs.Words.{word_of}
+use Rattle.thy_block.proofs.BlockLemmas.{zero_block-at}
 use Rattle.thy_layout.specs.declared.bad_image.BadImage.{BadImage}
 use Rattle.thy_layout.specs.declared.bad_image.BadImage.TheVariants.{Commit, Status as BadStatus, ConsoleLength, Count, Second}
 use Rattle.thy_layout.specs.Cpu.{is_status, is_width, record_word, record_words, other_of_record, cpu_of_record}

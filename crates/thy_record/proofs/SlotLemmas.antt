@@ -4,17 +4,17 @@ use Rattle.std.proofs.lemmas.Bool.{cases_lt, lt-ltb, le-ltb}
 use Rattle.std.proofs.lemmas.List.{length-map, length-append, length-take-le, length-drop, get_or-map, get_or-take, get_or-drop, get_or_append_left, get_or-append-add, ext_get_or, take-map, drop-map}
 use Rattle.std.specs.List.{range_with_len}
 use Rattle.std.specs.Option.{option_map, option_or}
-use Rattle.thy_base.specs.declared.block.Block.{Block}
-use Rattle.thy_base.specs.declared.config.Parameters.{Parameters}
+use Rattle.thy_block.specs.declared.block.Block.{Block}
+use Rattle.thy_block.specs.declared.parameters.Parameters.{Parameters}
 use Rattle.thy_layout.specs.declared.layout_version.LayoutVersion.TheVariants.{VersionTwo}
-use Rattle.thy_base.specs.Device.{block_at}
-use Rattle.thy_base.specs.Geometry.{IsInRange, console_room}
-use Rattle.thy_base.specs.Places.{record_blocks}
+use Rattle.thy_block.specs.Device.{block_at}
+use Rattle.thy_block.specs.Geometry.{IsInRange, console_room}
+use Rattle.thy_block.specs.Places.{record_blocks}
 use Rattle.thy_places.specs.Places.{table_blocks, count_blocks, slot_place}
 use Rattle.thy_isa.specs.declared.state.CpuState.{CpuState}
 use Rattle.thy_layout.specs.declared.bad_image.BadImage.TheVariants.{Count}
 use Rattle.thy_record.specs.ImageLaws.{ReadsBack, HasCheckpoint}
-use Rattle.thy_base.specs.Words.{word_of, block_of}
+use Rattle.thy_block.specs.Words.{word_of, block_of}
 use Rattle.thy_layout.specs.Cpu.{cpu_block_of, record_word, BeginsWithRecord, IsRecordable}
 use Rattle.thy_layout.specs.Entries.{entry_at, Lists, entry_word, entry_from}
 use Rattle.thy_record.specs.Tables.{Tables, IsTables}
@@ -22,17 +22,17 @@ use Rattle.thy_record.specs.TableBlocks.{FitBlocks, table_words, table_block_of}
 use Rattle.thy_record.specs.TableFaults.{tables_fault}
 use Rattle.thy_layout.specs.Slots.{entries_in, epoch_fault, status_fault, second_fault, cpu_fault}
 use Rattle.thy_record.specs.Slots.{slot_block_of, IsSlotOf, HasTableBlocks, tables_in, byte_in, AreCounts, count_byte, counts_in, is_bad_count, count_fault, slot_fault, rest_fault}
-use Rattle.thy_base.proofs.WordLemmas.{word_of-block_of}
+use Rattle.thy_block.proofs.WordLemmas.{word_of-block_of}
 use Rattle.thy_layout.proofs.ReadBackLemmas.{FitsRecord-recordable, cpu_back, epoch_of-commit_of, version_of-commit_of, commit_fault-commit_of, is_zero-commit_of}
 use Rattle.thy_record.proofs.CountLemmas.{map-alike_numbers, no_position, fine_count}
 use Rattle.thy_layout.proofs.EntryWordLemmas.{entry_from-entry_word, entry_word-fits}
 use Rattle.thy_layout.proofs.EntryFaultLemmas.{both_none, neither}
 use Rattle.thy_record.proofs.TableFaultLemmas.{IsFaultless-tables, IsTables-faultless}
-use Rattle.thy_base.proofs.RangeLemmas.{btt_eights, ptt_eights}
+use Rattle.thy_block.proofs.RangeLemmas.{btt_eights, ptt_eights}
 use Rattle.thy_layout.proofs.SlotLemmas.{length-entries_in, entry_at-entries_in, epoch_fault-back, status_fault-back, second_fault-back}
 use Rattle.thy_layout.specs.declared.layout_version.LayoutVersion.{LayoutVersion}
 use Rattle.thy_record.specs.VersionSlots.{blocks_of_slot, place_of_slot}
-use Rattle.thy_base.proofs.BasicLemmas.{all_none}
+use Rattle.thy_block.proofs.BasicLemmas.{all_none}
 use Rattle.thy_isa.specs.Step.{State}
 use Rattle.thy_isa.specs.OnBlocks.{state_from}
 use Rattle.thy_layout.specs.Commit.{is_zero, epoch_of, version_of, commit_fault}

@@ -1,9 +1,9 @@
 -- Tables have no fault exactly if they list blocks and pages of memory, none twice, and no block of a listed page.
 use Rattle.std.proofs.Common.{◌≡◌, ℕ, List, Option, None, ap, ◌⊎◌, ◌+◌, ◌<◌, length, Some, refl, sym, ◌∙◌, subst, inl, inr, arith, zero-add}
 use Rattle.std.specs.Option.{option_or, option_map}
-use Rattle.thy_base.specs.declared.config.Parameters.{Parameters}
-use Rattle.thy_base.specs.Geometry.{memory_blocks}
-use Rattle.thy_base.specs.Store.{page_of}
+use Rattle.thy_block.specs.declared.parameters.Parameters.{Parameters}
+use Rattle.thy_block.specs.Geometry.{memory_blocks}
+use Rattle.thy_block.specs.Store.{page_of}
 use Rattle.thy_layout.specs.Entries.{Lists, entry_of}
 use Rattle.thy_record.specs.Tables.{Tables, IsTables}
 use Rattle.thy_layout.specs.EntryFaults.{first_clash, index_rule, twice_rule}

@@ -1,8 +1,8 @@
 -- What is written reads back, block by block.
 use Rattle.std.specs.Prelude.{◌≡◌, List}
-use Rattle.thy_base.specs.declared.block.Block.{Block}
-use Rattle.thy_base.specs.declared.config.Parameters.{Parameters}
-use Rattle.thy_base.specs.Geometry.{IsInRange}
+use Rattle.thy_block.specs.declared.block.Block.{Block}
+use Rattle.thy_block.specs.declared.parameters.Parameters.{Parameters}
+use Rattle.thy_block.specs.Geometry.{IsInRange}
 use Rattle.thy_record.specs.Slots.{HasTableBlocks, tables_in}
 use Rattle.thy_record.specs.TableBlocks.{FitBlocks}
 use Rattle.thy_record.specs.Tables.{Tables}

@@ -1,7 +1,7 @@
 -- Part of the claim.
 -- Images of both versions as one layout: the commit block names the version of its slot, and all places follow from it.
 use Rattle.std.specs.Prelude.{ℕ, Option, Some, None}
-use Rattle.thy_base.specs.declared.config.Parameters.{Parameters}
+use Rattle.thy_block.specs.declared.parameters.Parameters.{Parameters}
 use Rattle.thy_layout.specs.declared.layout_version.LayoutVersion.{LayoutVersion}
 use Rattle.thy_layout.specs.declared.layout_version.LayoutVersion.TheVariants.{VersionOne, VersionTwo}
 use Rattle.thy_record.specs.VersionSlots.{blocks_of_slot, place_of_slot}

@@ -1,12 +1,12 @@
 -- What is written reads back, said of whole images.
 use Rattle.std.specs.Prelude.{◌≡◌, ℕ, ◌+◌, ◌*◌, ◌^◌, ◌<◌, ◌≤◌, true, false, List, ◌++◌, length, map, take, drop, Option, None}
 use Rattle.std.specs.List.{range_with_len}
-use Rattle.thy_base.specs.declared.block.Block.{Block}
-use Rattle.thy_base.specs.declared.config.Parameters.{Parameters}
+use Rattle.thy_block.specs.declared.block.Block.{Block}
+use Rattle.thy_block.specs.declared.parameters.Parameters.{Parameters}
 use Rattle.thy_layout.specs.declared.layout_version.LayoutVersion.TheVariants.{VersionTwo}
-use Rattle.thy_base.specs.Device.{block_at}
-use Rattle.thy_base.specs.Geometry.{IsInRange, memory_blocks}
-use Rattle.thy_base.specs.Places.{commit_place, header_place}
+use Rattle.thy_block.specs.Device.{block_at}
+use Rattle.thy_block.specs.Geometry.{IsInRange, memory_blocks}
+use Rattle.thy_block.specs.Places.{commit_place, header_place}
 use Rattle.thy_places.specs.Places.{in_dram, IsPlace, slot_blocks, slot_place, image_blocks}
 use Rattle.thy_isa.specs.declared.state.CpuState.{CpuState}
 use Rattle.thy_isa.specs.Step.{State}
@@ -23,7 +23,7 @@ use Rattle.thy_record.specs.Slots.{slot_block_of, byte_in, AreCounts, IsSlotOf, 
 use Rattle.thy_layout.specs.Entries.{entry_word}
 use Rattle.thy_record.specs.TableBlocks.{table_block_of}
 use Rattle.thy_record.specs.Tables.{Tables, place_of, IsTables}
-use Rattle.thy_base.specs.Words.{block_of}
+use Rattle.thy_block.specs.Words.{block_of}
 use Rattle.thy_record.specs.TableFaults.{tables_fault}
 
 -- tables are those that a checkpoint may have exactly if no fault is found in them

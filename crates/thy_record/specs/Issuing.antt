@@ -1,17 +1,17 @@
 -- Part of the claim.
 -- Which writes leave a checkpoint alone, and at which places memory is read.
 use Rattle.std.specs.Prelude.{◌≡◌, ◌≢◌, ℕ, ◌+◌, ◌<◌, false, List, ◌∷◌, length, map, Contains, None}
-use Rattle.thy_base.specs.declared.block.Block.{Block}
-use Rattle.thy_base.specs.declared.config.Parameters.{Parameters}
+use Rattle.thy_block.specs.declared.block.Block.{Block}
+use Rattle.thy_block.specs.declared.parameters.Parameters.{Parameters}
 use Rattle.thy_layout.specs.declared.layout_version.LayoutVersion.{LayoutVersion}
 use Rattle.thy_layout.specs.declared.layout_version.LayoutVersion.TheVariants.{VersionOne, VersionTwo}
 use Rattle.thy_places.specs.declared.place.Place.{Place}
 use Rattle.thy_places.specs.declared.place.Place.TheVariants.{Home, AlternateBlock, AlternatePage}
-use Rattle.thy_base.specs.Device.{Device, block_at, newest}
-use Rattle.thy_base.specs.Geometry.{memory_blocks}
-use Rattle.thy_base.specs.Places.{commit_place}
+use Rattle.thy_block.specs.Device.{Device, block_at, newest}
+use Rattle.thy_block.specs.Geometry.{memory_blocks}
+use Rattle.thy_block.specs.Places.{commit_place}
 use Rattle.thy_places.specs.Places.{in_dram, number_of, IsPlace, slot_blocks, slot_place}
-use Rattle.thy_base.specs.Store.{page_of}
+use Rattle.thy_block.specs.Store.{page_of}
 use Rattle.thy_layout.specs.Commit.{epoch_of, version_of, slot_of_epoch}
 use Rattle.thy_layout.specs.Layout.{looked_by}
 use Rattle.thy_record.specs.DualLayouts.{dual_layouts}

@@ -1,9 +1,9 @@
 -- A slot of version 1, written anew in version 2: its blocks, and zeros behind them.
 use Rattle.std.specs.Prelude.{◌≡◌, ℕ, ◌<◌, List, length, replicate, None}
-use Rattle.thy_base.specs.declared.block.Block.{Block}
-use Rattle.thy_base.specs.declared.config.Parameters.{Parameters}
+use Rattle.thy_block.specs.declared.block.Block.{Block}
+use Rattle.thy_block.specs.declared.parameters.Parameters.{Parameters}
 use Rattle.thy_layout.specs.declared.layout_version.LayoutVersion.TheVariants.{VersionOne, VersionTwo}
-use Rattle.thy_base.specs.Device.{block_at}
+use Rattle.thy_block.specs.Device.{block_at}
 use Rattle.thy_record.specs.VersionSlots.{blocks_of_slot}
 use Rattle.thy_places.specs.Places.{slot_blocks}
 use Rattle.thy_layout.specs.Cpu.{cpu_of_record}

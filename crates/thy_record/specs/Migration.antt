@@ -1,10 +1,10 @@
 -- From an image of version 1 to its own checkpoint in version 2.
 use Rattle.std.specs.Prelude.{◌≡◌, ℕ, ◌^◌, ◌<◌, ◌≤◌, true, List, length, replicate, None}
-use Rattle.thy_base.specs.declared.block.Block.{Block}
-use Rattle.thy_base.specs.declared.config.Parameters.{Parameters}
+use Rattle.thy_block.specs.declared.block.Block.{Block}
+use Rattle.thy_block.specs.declared.parameters.Parameters.{Parameters}
 use Rattle.thy_layout.specs.declared.layout_version.LayoutVersion.TheVariants.{VersionOne, VersionTwo}
-use Rattle.thy_base.specs.Device.{Device, block_at, newest}
-use Rattle.thy_base.specs.Places.{header_place}
+use Rattle.thy_block.specs.Device.{Device, block_at, newest}
+use Rattle.thy_block.specs.Places.{header_place}
 use Rattle.thy_record.specs.VersionSlots.{blocks_of_slot}
 use Rattle.thy_places.specs.Places.{slot_blocks, slot_place, image_blocks}
 use Rattle.thy_isa.specs.OnBlocks.{state_from}

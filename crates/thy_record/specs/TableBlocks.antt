@@ -1,10 +1,10 @@
 -- Part of the claim.
 -- The tables as words, eight entries a block: the block table, and after it the page table.
 use Rattle.std.specs.Prelude.{◌≡◌, ℕ, ◌*◌, List, ◌++◌, length, map, take, drop}
-use Rattle.thy_base.specs.declared.block.Block.{Block}
-use Rattle.thy_base.specs.declared.config.Parameters.{Parameters}
+use Rattle.thy_block.specs.declared.block.Block.{Block}
+use Rattle.thy_block.specs.declared.parameters.Parameters.{Parameters}
 use Rattle.thy_record.specs.Tables.{Tables}
-use Rattle.thy_base.specs.Words.{block_of}
+use Rattle.thy_block.specs.Words.{block_of}
 use Rattle.thy_layout.specs.Entries.{entry_word, HaveWords}
 
 -- tables of which their blocks say all: they have the geometry's numbers of entries, each of which fits a word

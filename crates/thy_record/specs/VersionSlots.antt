@@ -1,7 +1,7 @@
 -- Part of the claim.
 -- The slots of both versions: how many blocks they have, and where they begin.
 use Rattle.std.specs.Prelude.{ℕ}
-use Rattle.thy_base.specs.declared.config.Parameters.{Parameters}
+use Rattle.thy_block.specs.declared.parameters.Parameters.{Parameters}
 use Rattle.thy_layout.specs.declared.layout_version.LayoutVersion.{LayoutVersion}
 use Rattle.thy_layout.specs.declared.layout_version.LayoutVersion.TheVariants.{VersionOne, VersionTwo}
 use Rattle.thy_places.specs.Places.{slot_blocks_one, slot_blocks, slot_place_one, slot_place}

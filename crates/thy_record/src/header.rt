@@ -5,7 +5,7 @@ ghost use Rattle.thy_layout.specs.Header.{header_of, header_fault as fault_of_he
 ghost use Rattle.thy_record.specs.Number.{scheme_number};
 
 use crate::images::ThynvmImages;
-use thy_base::{Block, Geometry};
+use thy_block::{Block, Geometry};
 use thy_layout::{BadImage, LayoutVersion, header_block_of, header_fault_in};
 
 // The number of this scheme.

@@ -9,7 +9,7 @@ use crate::index::places;
 use crate::slot::slot_fault;
 use crate::version_slots::{slot_blocks_of, slot_of};
 use std::alloc::{AllocError, Global};
-use thy_base::{Block, Geometry};
+use thy_block::{Block, Geometry};
 use thy_isa::MachState;
 use thy_layout::{
     BadImage, Found, ImageLayout, LayoutVersion, check_image, epoch_in, slot_of_epoch,

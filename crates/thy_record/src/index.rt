@@ -1,7 +1,7 @@
 //! Where an image has each block of memory: one list of numbers, made once from both tables of its slot.
 ghost use Rattle.std.specs.Prelude.{◌≡◌, ◌+◌, ◌*◌, ◌/◌, ◌<◌, ◌≤◌, ℕ, List, [], Option, length, IfOk, IfSome};
-ghost use Rattle.thy_base.specs.Geometry.{memory_blocks};
-ghost use Rattle.thy_base.specs.Places.{record_blocks};
+ghost use Rattle.thy_block.specs.Geometry.{memory_blocks};
+ghost use Rattle.thy_block.specs.Places.{record_blocks};
 ghost use Rattle.thy_places.specs.Places.{table_blocks};
 ghost use Rattle.thy_layout.specs.Files.{blocks_of, table_in};
 ghost use Rattle.thy_record.specs.Images.{memory_numbers};
@@ -11,7 +11,7 @@ ghost use Rattle.thy_record.specs.Tables.{IsTables};
 
 use crate::slot::{btt_in, ptt_in};
 use std::alloc::{AllocError, Global};
-use thy_base::{Geometry, PAGE_BLOCKS};
+use thy_block::{Geometry, PAGE_BLOCKS};
 use thy_layout::entry;
 use thy_places::{Place, home, number};
 

@@ -2,7 +2,7 @@
 //! version 2 the counts of pages.
 ghost use Rattle.std.specs.Prelude.{◌≡◌, ◌+◌, ◌*◌, ◌/◌, ◌<◌, ◌≤◌, length};
 ghost use Rattle.thy_layout.specs.declared.layout_version.LayoutVersion.TheVariants.{VersionTwo};
-ghost use Rattle.thy_base.specs.Places.{record_blocks};
+ghost use Rattle.thy_block.specs.Places.{record_blocks};
 ghost use Rattle.thy_places.specs.Places.{table_blocks, count_blocks};
 ghost use Rattle.thy_record.specs.VersionSlots.{blocks_of_slot};
 ghost use Rattle.thy_layout.specs.Files.{blocks_of, table_in};
@@ -10,7 +10,7 @@ ghost use Rattle.thy_layout.specs.Entries.{entry_at};
 ghost use Rattle.thy_record.specs.Slots.{tables_in, count_byte, is_bad_count as is_bad_byte, count_fault as fault_of_counts, head_fault as fault_of_head, slot_fault as fault_of_slot};
 
 use crate::table_faults::tables_fault;
-use thy_base::{BLOCK_COUNTS, BLOCK_SIZE, Geometry};
+use thy_block::{BLOCK_COUNTS, BLOCK_SIZE, Geometry};
 use thy_layout::{
     BadImage, LayoutVersion, entry, record_size, second_fault, status_fault, table_behind, word_in,
 };

@@ -4,7 +4,7 @@ ghost use Rattle.thy_layout.specs.Files.{table_in};
 ghost use Rattle.thy_layout.specs.EntryFaults.{first_clash};
 ghost use Rattle.thy_record.specs.TableFaults.{under_rule, tables_fault as fault_of_tables};
 
-use thy_base::{Geometry, PAGE_BLOCKS};
+use thy_block::{Geometry, PAGE_BLOCKS};
 use thy_layout::{BadImage, entry, entry_of, index_fault, twice_fault};
 
 // The first entry of the block table that lists a block of a page that the page table lists.

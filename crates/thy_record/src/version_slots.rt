@@ -1,9 +1,9 @@
 //! The slots of both versions.
 ghost use Rattle.std.specs.Prelude.{◌≡◌, ◌<◌};
-ghost use Rattle.thy_base.specs.Geometry.{IsInRange};
+ghost use Rattle.thy_block.specs.Geometry.{IsInRange};
 ghost use Rattle.thy_record.specs.VersionSlots.{blocks_of_slot, place_of_slot};
 
-use thy_base::Geometry;
+use thy_block::Geometry;
 use thy_layout::LayoutVersion;
 use thy_places::{slot, slot_blocks, slot_blocks_one, slot_one};
 

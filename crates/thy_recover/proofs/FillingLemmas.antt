@@ -1,12 +1,12 @@
 -- What holds of what this scheme's boot fills.
 use Rattle.std.proofs.Common.{◌≡◌, ℕ, true, false, List, [], length, map, replicate, is_some, Option, None, refl, sym, ◌∙◌, ap, inr, arith, ◌+◌, ◌*◌, ◌/◌, ◌%◌, ◌<◌, ◌≤◌, max, Some, subst, inl, rules}
 use Rattle.std.proofs.lemmas.List.{length-map, length-replicate, get_or-replicate, ext_get_or, get_or_past, length-set}
-use Rattle.thy_base.specs.declared.block.Block.{Block}
-use Rattle.thy_base.specs.declared.config.Parameters.{Parameters}
+use Rattle.thy_block.specs.declared.block.Block.{Block}
+use Rattle.thy_block.specs.declared.parameters.Parameters.{Parameters}
 use Rattle.thy_places.specs.declared.place.Place.TheVariants.{Frame, AlternatePage}
-use Rattle.thy_base.specs.Device.{Device, block_at, newest}
+use Rattle.thy_block.specs.Device.{Device, block_at, newest}
 use Rattle.thy_places.specs.Places.{number_of, image_blocks}
-use Rattle.thy_base.proofs.DeviceLemmas.{newest-empty}
+use Rattle.thy_block.proofs.DeviceLemmas.{newest-empty}
 use Rattle.thy_cell.specs.BetweenCheckpoints.{FrameLoads}
 use Rattle.thy_record.specs.Images.{memory_numbers}
 use Rattle.thy_record.specs.Slots.{tables_in}
@@ -29,7 +29,7 @@ use Rattle.thy_recover.proofs.LiveLemmas.{live_in_tables, framed_inside}
 use Rattle.thy_recover.proofs.StartLemmas.{first_memory, first_back, first_faultless}
 use Rattle.thy_recover.proofs.WorkLemmas.{loads-are}
 use Rattle.std.proofs.lemmas.Bool.{cases_eq, cases_lt, both_ways}
-use Rattle.thy_base.proofs.BasicLemmas.{some_same}
+use Rattle.thy_block.proofs.BasicLemmas.{some_same}
 use Rattle.thy_dram.specs.Contents.{Contents}
 use Rattle.thy_layout.specs.Entries.{entry_at}
 use Rattle.thy_table.proofs.FirstLemmas.{first_from-first, first_from-is, none-first_from}

@@ -1,9 +1,9 @@
 -- The pages that are live in a controller that boots.
 use Rattle.std.proofs.Common.{◌≡◌, ℕ, ◌+◌, ◌*◌, ◌<◌, true, false, Option, Some, None, is_some, option_and_then, refl, sym, ◌∙◌, ap, arith}
 use Rattle.std.proofs.Math.ListN.{get_or-map}
-use Rattle.thy_base.specs.Geometry.{memory_blocks}
+use Rattle.thy_block.specs.Geometry.{memory_blocks}
 use Rattle.thy_dram.specs.Contents.{Contents}
-use Rattle.thy_base.specs.declared.config.Parameters.{Parameters}
+use Rattle.thy_block.specs.declared.parameters.Parameters.{Parameters}
 use Rattle.thy_layout.specs.Entries.{entry_at}
 use Rattle.thy_table.specs.Listing.{entry_at as live_at}
 use Rattle.thy_table.specs.declared.block_entry.BttEntry.{BttEntry}

@@ -1,11 +1,11 @@
 -- A slot without a fault, and a controller that lists it.
 use Rattle.std.proofs.Common.{◌≡◌, ℕ, ◌+◌, ◌*◌, List, length, replicate, Option, None, sym, ◌∙◌, ap, arith, ◌<◌, ◌≤◌, ◌==◌, ◌&&◌, ◌||◌, not, nat_lt, nat_le, Bool, true, false, slice_set, slice_index_or, refl}
 use Rattle.std.proofs.lemmas.List.{length-map, ext_get_or, length-set}
-use Rattle.thy_base.specs.declared.block.Block.{Block}
-use Rattle.thy_base.specs.declared.config.Parameters.{Parameters}
+use Rattle.thy_block.specs.declared.block.Block.{Block}
+use Rattle.thy_block.specs.declared.parameters.Parameters.{Parameters}
 use Rattle.thy_layout.specs.declared.layout_version.LayoutVersion.{LayoutVersion}
-use Rattle.thy_base.specs.Places.{record_blocks}
-use Rattle.thy_base.proofs.BasicLemmas.{none_of_two, none_of_map}
+use Rattle.thy_block.specs.Places.{record_blocks}
+use Rattle.thy_block.proofs.BasicLemmas.{none_of_two, none_of_map}
 use Rattle.thy_layout.specs.Commit.{version_of}
 use Rattle.thy_record.specs.Number.{scheme_number}
 use Rattle.thy_layout.specs.Slots.{second_fault}

@@ -3,26 +3,26 @@ use Rattle.std.proofs.Common.{◌≡◌, ℕ, ◌+◌, ◌-◌, ◌*◌, ◌%◌
 use Rattle.std.proofs.lemmas.Bool.{cases_lt}
 use Rattle.std.proofs.lemmas.List.{drop-replicate, take-replicate, replicate-append-replicate, length-replicate, get_or-replicate, ext_get_or}
 use Rattle.std.proofs.lemmas.List.FromFn.{length-map-range_with_len, get_or-map-range_with_len}
-use Rattle.thy_base.specs.declared.block.Block.{Block}
-use Rattle.thy_base.specs.declared.config.Parameters.{Parameters}
+use Rattle.thy_block.specs.declared.block.Block.{Block}
+use Rattle.thy_block.specs.declared.parameters.Parameters.{Parameters}
 use Rattle.thy_layout.specs.declared.layout_version.LayoutVersion.{LayoutVersion}
 use Rattle.thy_layout.specs.declared.layout_version.LayoutVersion.TheVariants.{VersionTwo}
 use Rattle.thy_places.specs.declared.place.Place.TheVariants.{Home}
-use Rattle.thy_base.specs.Device.{zero_block}
-use Rattle.thy_base.specs.Geometry.{IsInRange, memory_blocks}
+use Rattle.thy_block.specs.Device.{zero_block}
+use Rattle.thy_block.specs.Geometry.{IsInRange, memory_blocks}
 use Rattle.std.specs.List.{range_with_len}
-use Rattle.thy_base.specs.LittleEndian.{number_bytes}
+use Rattle.thy_block.specs.LittleEndian.{number_bytes}
 use Rattle.thy_places.specs.Places.{number_of, table_blocks, slot_blocks}
-use Rattle.thy_base.specs.Places.{record_blocks}
+use Rattle.thy_block.specs.Places.{record_blocks}
 use Rattle.thy_record.specs.VersionSlots.{blocks_of_slot}
-use Rattle.thy_base.specs.Store.{page_of}
-use Rattle.thy_base.proofs.BlockLemmas.{zero_block-at}
-use Rattle.thy_base.proofs.RangeLemmas.{btt_eights, ptt_eights}
+use Rattle.thy_block.specs.Store.{page_of}
+use Rattle.thy_block.proofs.BlockLemmas.{zero_block-at}
+use Rattle.thy_block.proofs.RangeLemmas.{btt_eights, ptt_eights}
 use Rattle.thy_isa.specs.Step.{State, cpu_of}
 use Rattle.thy_layout.specs.Entries.{entry_of}
 use Rattle.thy_record.specs.Tables.{IsTables, place_by_entries, place_of}
 use Rattle.thy_record.specs.TableBlocks.{table_block_of}
-use Rattle.thy_base.specs.Words.{block_of}
+use Rattle.thy_block.specs.Words.{block_of}
 use Rattle.thy_layout.proofs.EntryLemmas.{entry_of-absent, lists_none}
 use Rattle.thy_layout.specs.Commit.{commit_of, epoch_of, version_of}
 use Rattle.thy_layout.proofs.ReadBackLemmas.{epoch_of-commit_of, version_of-commit_of}

@@ -1,11 +1,11 @@
 -- The end of a boot: the state from which the scheme above continues.
 use Rattle.std.specs.Prelude.{◌≡◌, true, List, [], Some, None}
-use Rattle.thy_base.specs.declared.block.Block.{Block}
-use Rattle.thy_base.specs.declared.mark.Mark.{Mark}
+use Rattle.thy_block.specs.declared.block.Block.{Block}
+use Rattle.thy_block.specs.declared.mark.Mark.{Mark}
 use Rattle.thy_layout.specs.declared.layout_version.LayoutVersion.{LayoutVersion}
 use Rattle.thy_layout.specs.declared.layout_version.LayoutVersion.TheVariants.{VersionTwo}
-use Rattle.thy_base.specs.Device.{Device, newest}
-use Rattle.thy_base.specs.Places.{header_place}
+use Rattle.thy_block.specs.Device.{Device, newest}
+use Rattle.thy_block.specs.Places.{header_place}
 use Rattle.thy_crash.specs.Saved.{Kept}
 use Rattle.thy_isa.specs.declared.state.CpuState.{CpuState}
 use Rattle.thy_isa.specs.OnBlocks.{state_from}

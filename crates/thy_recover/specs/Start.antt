@@ -1,9 +1,9 @@
 -- Part of the claim.
 -- The slot of a start: epoch 0, with empty tables and counts of 0.
 use Rattle.std.specs.Prelude.{ℕ, replicate, None}
-use Rattle.thy_base.specs.declared.block.Block.{Block}
-use Rattle.thy_base.specs.declared.config.Parameters.{Parameters}
-use Rattle.thy_base.specs.Device.{zero_block}
+use Rattle.thy_block.specs.declared.block.Block.{Block}
+use Rattle.thy_block.specs.declared.parameters.Parameters.{Parameters}
+use Rattle.thy_block.specs.Device.{zero_block}
 use Rattle.thy_isa.specs.Step.{State, cpu_of}
 use Rattle.thy_record.specs.Slots.{slot_block_of}
 use Rattle.thy_record.specs.Tables.{Tables}

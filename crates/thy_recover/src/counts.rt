@@ -7,7 +7,7 @@ ghost use Rattle.thy_layout.specs.Files.{blocks_of};
 ghost use Rattle.thy_record.specs.Slots.{counts_in, count_fault};
 ghost use Rattle.thy_recover.specs.Listed.{with_lasts};
 
-use thy_base::Geometry;
+use thy_block::Geometry;
 use thy_control::Control;
 use thy_layout::LayoutVersion;
 use thy_record::listed_count;

@@ -1,13 +1,13 @@
 //! A position, filled: a block of a listed page, copied into its frame.
 ghost use Rattle.std.specs.Prelude.{◌≡◌, false, length, OnOk, OnErr};
-ghost use Rattle.thy_base.specs.Device.{newest};
+ghost use Rattle.thy_block.specs.Device.{newest};
 ghost use Rattle.thy_places.specs.Places.{image_blocks};
 ghost use Rattle.thy_boot.specs.Filling.{IsNext};
 ghost use Rattle.thy_boot.specs.Loads.{Takes};
 ghost use Rattle.thy_recover.specs.Filling.{page_place, with_filled, filling_dual};
 ghost use Rattle.thy_view.specs.Action.{ReadAt};
 
-use thy_base::{Block, Nvm, NvmError, PAGE_BLOCKS};
+use thy_block::{Block, Nvm, NvmError, PAGE_BLOCKS};
 use thy_control::Control;
 
 /// Copies the block of a position from the alternate page into the frame. If the read failed, the controller is as before.

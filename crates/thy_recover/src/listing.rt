@@ -1,6 +1,6 @@
 //! What a slot lists, given to the controller, and which positions have to be filled.
 ghost use Rattle.std.specs.Prelude.{◌≡◌, ◌+◌, ◌*◌, ◌<◌, ◌≤◌, is_some, length, None};
-ghost use Rattle.thy_base.specs.Places.{record_blocks};
+ghost use Rattle.thy_block.specs.Places.{record_blocks};
 ghost use Rattle.thy_places.specs.Places.{table_blocks};
 ghost use Rattle.thy_boot.specs.Filling.{ListsOn};
 ghost use Rattle.thy_layout.specs.Files.{blocks_of};
@@ -13,7 +13,7 @@ ghost use Rattle.thy_recover.specs.Filling.{IsEmpty, next_position, filling_dual
 ghost use Rattle.thy_recover.specs.Listed.{ListsUpTo, AsListed};
 
 use crate::counts::list_counts;
-use thy_base::{Block, Geometry, PAGE_BLOCKS};
+use thy_block::{Block, Geometry, PAGE_BLOCKS};
 use thy_control::{Control, tables_allow_listing};
 use thy_record::{listed_block, listed_page, version_of};
 

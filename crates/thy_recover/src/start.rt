@@ -1,6 +1,6 @@
 //! The checkpoint that a start makes.
 ghost use Rattle.std.specs.Prelude.{◌≡◌, ◌<◌, slice_index_or};
-ghost use Rattle.thy_base.specs.Geometry.{memory_blocks};
+ghost use Rattle.thy_block.specs.Geometry.{memory_blocks};
 ghost use Rattle.thy_boot.specs.Filling.{first_by};
 ghost use Rattle.thy_boot.specs.Start.{CanStart};
 ghost use Rattle.thy_isa.specs.Step.{state_of};
@@ -9,7 +9,7 @@ ghost use Rattle.thy_record.specs.DualLayouts.{dual_layouts};
 ghost use Rattle.thy_recover.specs.Filling.{filling_dual};
 ghost use Rattle.thy_recover.specs.Start.{start_slot};
 
-use thy_base::{Block, Geometry, block_with};
+use thy_block::{Block, Geometry, block_with};
 use thy_isa::MachState;
 use thy_layout::cpu_block;
 use thy_places::home;

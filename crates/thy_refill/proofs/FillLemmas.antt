@@ -4,12 +4,12 @@ use Rattle.std.specs.List.{range_with_len}
 use Rattle.std.proofs.lemmas.Bool.{cases_lt, cases_eq}
 use Rattle.std.proofs.lemmas.List.{length-set, get_or-set_same, get_or-set_other}
 use Rattle.std.proofs.lemmas.Simd.{map-map}
-use Rattle.thy_base.specs.declared.block.Block.{Block}
-use Rattle.thy_base.specs.declared.config.Parameters.{Parameters}
-use Rattle.thy_base.specs.Device.{Device, zero_block, block_at, newest}
-use Rattle.thy_base.specs.Geometry.{memory_blocks}
-use Rattle.thy_base.specs.Places.{record_blocks}
-use Rattle.thy_base.proofs.DeviceLemmas.{newest-empty}
+use Rattle.thy_block.specs.declared.block.Block.{Block}
+use Rattle.thy_block.specs.declared.parameters.Parameters.{Parameters}
+use Rattle.thy_block.specs.Device.{Device, zero_block, block_at, newest}
+use Rattle.thy_block.specs.Geometry.{memory_blocks}
+use Rattle.thy_block.specs.Places.{record_blocks}
+use Rattle.thy_block.proofs.DeviceLemmas.{newest-empty}
 use Rattle.thy_dram.specs.Contents.{written}
 use Rattle.thy_layout.specs.Commit.{epoch_of}
 use Rattle.thy_layout.specs.Entries.{entry_at as listed_at, Lists, entry_of}

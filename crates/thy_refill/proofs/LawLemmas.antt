@@ -1,6 +1,6 @@
 -- What holds of filling the log.
 use Rattle.std.proofs.Common.{refl, inr, arith}
-use Rattle.thy_base.specs.Device.{newest}
+use Rattle.thy_block.specs.Device.{newest}
 use Rattle.thy_boot.specs.Filling.{IsFilling}
 use Rattle.thy_boot.proofs.OlderLemmas.{never_older}
 use Rattle.thy_journal_image.specs.Places.{scheme_number, journal_place}

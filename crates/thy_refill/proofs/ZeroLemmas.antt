@@ -1,10 +1,10 @@
 -- The blocks of a table that lists nothing hold zeros.
 use Rattle.std.proofs.Common.{◌≡◌, ℕ, ◌-◌, ◌*◌, ◌/◌, ◌%◌, ◌<◌, ◌≤◌, List, map, take, replicate, Option, None, sym, ◌∙◌, ap, arith}
 use Rattle.std.proofs.lemmas.List.{drop-replicate, take-replicate}
-use Rattle.thy_base.specs.declared.config.Parameters.{Parameters}
-use Rattle.thy_base.specs.Geometry.{IsInRange}
-use Rattle.thy_base.specs.Words.{block_of}
-use Rattle.thy_base.proofs.RangeLemmas.{btt_eights}
+use Rattle.thy_block.specs.declared.parameters.Parameters.{Parameters}
+use Rattle.thy_block.specs.Geometry.{IsInRange}
+use Rattle.thy_block.specs.Words.{block_of}
+use Rattle.thy_block.proofs.RangeLemmas.{btt_eights}
 use Rattle.thy_layout.specs.Entries.{entry_word}
 use Rattle.thy_layout.specs.TableSlots.{table_block_of}
 use Rattle.thy_layout.proofs.EightLemmas.{eight_of, block_of_eight}

@@ -1,10 +1,10 @@
 -- Part of the claim.
 -- What the boot fills: the log, with the checkpoint that an image has in a journal. A position is an entry of the table.
 use Rattle.std.specs.Prelude.{◌≡◌, ℕ, ◌<◌, List, replicate, is_some, Option, None}
-use Rattle.thy_base.specs.declared.block.Block.{Block}
-use Rattle.thy_base.specs.declared.config.Parameters.{Parameters}
-use Rattle.thy_base.specs.Device.{Device, block_at, newest}
-use Rattle.thy_base.specs.Places.{commit_place}
+use Rattle.thy_block.specs.declared.block.Block.{Block}
+use Rattle.thy_block.specs.declared.parameters.Parameters.{Parameters}
+use Rattle.thy_block.specs.Device.{Device, block_at, newest}
+use Rattle.thy_block.specs.Places.{commit_place}
 use Rattle.thy_isa.specs.Step.{cpu_of}
 use Rattle.thy_layout.specs.Commit.{epoch_of, slot_of_epoch}
 use Rattle.thy_layout.specs.Entries.{Lists}

@@ -1,8 +1,8 @@
 -- The log while the table of a slot is listed in it, entry by entry.
 use Rattle.std.specs.Prelude.{◌≡◌, ℕ, ◌<◌, ◌≤◌, List, None}
 use Rattle.std.specs.Option.{option_map}
-use Rattle.thy_base.specs.declared.block.Block.{Block}
-use Rattle.thy_base.specs.declared.config.Parameters.{Parameters}
+use Rattle.thy_block.specs.declared.block.Block.{Block}
+use Rattle.thy_block.specs.declared.parameters.Parameters.{Parameters}
 use Rattle.thy_layout.specs.Entries.{entry_at as listed_at}
 use Rattle.thy_table.specs.Listing.{entry_at}
 use Rattle.thy_journal_image.specs.Slots.{table_in}

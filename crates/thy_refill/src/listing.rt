@@ -1,6 +1,6 @@
 //! What the table of a slot lists, given to the log.
 ghost use Rattle.std.specs.Prelude.{◌≡◌, ◌+◌, ◌*◌, ◌<◌, length};
-ghost use Rattle.thy_base.specs.declared.block.Block.{Block};
+ghost use Rattle.thy_block.specs.declared.block.Block.{Block};
 ghost use Rattle.thy_layout.specs.Files.{blocks_of};
 ghost use Rattle.thy_boot.specs.Filling.{ListsOn};
 ghost use Rattle.thy_journal_image.specs.Places.{slot_blocks};
@@ -8,7 +8,7 @@ ghost use Rattle.thy_journal_image.specs.Slots.{IsTable, table_in};
 ghost use Rattle.thy_refill.specs.Filling.{IsFresh, filling_journal};
 ghost use Rattle.thy_refill.specs.Listed.{ListsUpTo};
 
-use thy_base::Geometry;
+use thy_block::Geometry;
 use thy_journal_image::listed_block;
 use thy_log::Log;
 

@@ -4,7 +4,7 @@ ghost use Rattle.thy_layout.specs.Files.{blocks_of};
 ghost use Rattle.thy_journal_image.specs.Places.{slot_blocks};
 ghost use Rattle.thy_refill.specs.Filling.{next_entry};
 
-use thy_base::Geometry;
+use thy_block::Geometry;
 use thy_journal_image::listed_block;
 
 /// The first entry from one on that lists a block.

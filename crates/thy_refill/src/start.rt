@@ -6,7 +6,7 @@ ghost use Rattle.thy_journal_image.specs.Places.{slot_blocks};
 ghost use Rattle.thy_layout.specs.TableSlots.{slot_block_of};
 ghost use Rattle.thy_refill.specs.Filling.{no_table};
 
-use thy_base::{Block, Geometry, block_with};
+use thy_block::{Block, Geometry, block_with};
 use thy_isa::MachState;
 use thy_layout::cpu_block;
 

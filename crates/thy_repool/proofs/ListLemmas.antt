@@ -2,16 +2,16 @@
 use Rattle.std.proofs.Common.{◌≡◌, ℕ, ◌%◌, ◌<◌, List, [], map, Contains, Option, None, sym, ◌∙◌, ap, arith}
 use Rattle.std.specs.List.{range_with_len}
 use Rattle.std.proofs.lemmas.Simd.{map-map}
-use Rattle.thy_base.specs.declared.block.Block.{Block}
-use Rattle.thy_base.specs.Device.{Device, block_at, newest}
-use Rattle.thy_base.specs.Geometry.{memory_blocks}
-use Rattle.thy_base.specs.Store.{page_of}
+use Rattle.thy_block.specs.declared.block.Block.{Block}
+use Rattle.thy_block.specs.Device.{Device, block_at, newest}
+use Rattle.thy_block.specs.Geometry.{memory_blocks}
+use Rattle.thy_block.specs.Store.{page_of}
 use Rattle.thy_layout.proofs.AskingLemmas.{map-alike}
 use Rattle.thy_layout.specs.Layout.{slot_in, memory_in}
-use Rattle.thy_base.proofs.BasicLemmas.{Contains-range}
+use Rattle.thy_block.proofs.BasicLemmas.{Contains-range}
 use Rattle.thy_table.specs.Listing.{lists}
 use Rattle.thy_table.proofs.ListingLaws.{place_of-none}
-use Rattle.thy_base.proofs.DeviceLemmas.{newest-empty}
+use Rattle.thy_block.proofs.DeviceLemmas.{newest-empty}
 use Rattle.thy_shadow_image.specs.Places.{pool_place, pool_page, place_of}
 use Rattle.thy_shadow_image.specs.Slots.{table_in}
 use Rattle.thy_shadow_image.specs.Layout.{shadow_layouts}

@@ -1,9 +1,9 @@
 -- Part of the claim.
 -- What the boot lists: the pool, with the map of a checkpoint. Nothing is filled: every page stands in the NVM.
 use Rattle.std.specs.Prelude.{◌≡◌, ℕ, List, Option, Some, None}
-use Rattle.thy_base.specs.declared.block.Block.{Block}
-use Rattle.thy_base.specs.declared.config.Parameters.{Parameters}
-use Rattle.thy_base.specs.Places.{header_place}
+use Rattle.thy_block.specs.declared.block.Block.{Block}
+use Rattle.thy_block.specs.declared.parameters.Parameters.{Parameters}
+use Rattle.thy_block.specs.Places.{header_place}
 use Rattle.thy_isa.specs.Step.{cpu_of}
 use Rattle.thy_table.specs.Listing.{entry_at}
 use Rattle.thy_boot.specs.Filling.{FillingOf}

@@ -7,7 +7,7 @@ ghost use Rattle.thy_layout.specs.TableSlots.{slot_block_of};
 ghost use Rattle.thy_shadow_image.specs.Places.{map_blocks, slot_blocks};
 ghost use Rattle.thy_repool.specs.Filling.{first_table};
 
-use thy_base::{Block, Geometry};
+use thy_block::{Block, Geometry};
 use thy_isa::MachState;
 use thy_layout::{cpu_block, table_block};
 

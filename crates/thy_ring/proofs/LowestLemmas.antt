@@ -5,10 +5,10 @@ use Rattle.std.proofs.lemmas.Bool.{cases_eq, cases_lt, eq-eqb, ne_eqb, lt-ltb, l
 use Rattle.std.proofs.lemmas.Grind.{common_steps}
 use Rattle.std.proofs.lemmas.List.{append-nil}
 use Rattle.std.proofs.lemmas.List.Elements.{All-rest}
-use Rattle.thy_base.specs.declared.block.Block.{Block}
-use Rattle.thy_base.specs.declared.nvm.Write.{Write}
-use Rattle.thy_base.specs.Device.{queued_for}
-use Rattle.thy_base.proofs.DeviceLemmas.{queued_for-append}
+use Rattle.thy_block.specs.declared.block.Block.{Block}
+use Rattle.thy_block.specs.declared.nvm.Write.{Write}
+use Rattle.thy_block.specs.Device.{queued_for}
+use Rattle.thy_block.proofs.DeviceLemmas.{queued_for-append}
 use Rattle.thy_ring.specs.Lowest.{IsLowest, IsLowestOf, lower, lowest_over}
 
 -- a write is queued for its own place

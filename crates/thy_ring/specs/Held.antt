@@ -1,9 +1,9 @@
 -- What a ring holds, and how it lies in memory.
 use Rattle.std.specs.Prelude.{ℕ, ◌<◌, true, false, List, [], length, slice_index_or, slice_set, All, Option, Some, None}
 use Rattle.circular_buffer.specs.Buffer.{Buffer}
-use Rattle.thy_base.specs.declared.block.Block.{Block}
-use Rattle.thy_base.specs.declared.nvm.Write.{Write}
-use Rattle.thy_base.specs.Device.{Device, block_at, possible, surplus, fitted}
+use Rattle.thy_block.specs.declared.block.Block.{Block}
+use Rattle.thy_block.specs.declared.nvm.Write.{Write}
+use Rattle.thy_block.specs.Device.{Device, block_at, possible, surplus, fitted}
 
 pub record Held : Type 0 where
   -- the blocks without the queued writes

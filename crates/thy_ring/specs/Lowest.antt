@@ -1,7 +1,7 @@
 -- The lowest place, from one on, for which a write is queued.
 use Rattle.std.specs.Prelude.{◌≡◌, ℕ, ◌<◌, ◌≤◌, nat_lt, if◌then◌else◌, List, [], ◌∷◌, length, Option, Some, None}
-use Rattle.thy_base.specs.declared.nvm.Write.{Write}
-use Rattle.thy_base.specs.Device.{queued_for}
+use Rattle.thy_block.specs.declared.nvm.Write.{Write}
+use Rattle.thy_block.specs.Device.{queued_for}
 
 -- a write is queued for this place, which is not below the first one, and none for those in between
 pub record IsLowest (queue : List Write) (from x : ℕ) : Type 0 where

@@ -1,8 +1,8 @@
 -- Blocks of which some were written over others. Each place has a mark, which is set once its block was written.
 use Rattle.std.specs.Prelude.{◌≡◌, ℕ, Bool, true, false, if◌then◌else◌, List, [], ◌∷◌, drop, slice_index_or}
-use Rattle.thy_base.specs.declared.block.Block.{Block}
-use Rattle.thy_base.specs.declared.nvm.Write.{Write}
-use Rattle.thy_base.specs.Device.{block_at}
+use Rattle.thy_block.specs.declared.block.Block.{Block}
+use Rattle.thy_block.specs.declared.nvm.Write.{Write}
+use Rattle.thy_block.specs.Device.{block_at}
 
 -- the block of each place: the one that was written if the place is marked, else the one below
 abbrev pub merged : List Bool → List Block → List Block → List Block

@@ -2,7 +2,7 @@
 //! simulated in the memory of the host. The contracts of `Ring` state exactly what is read, which write lands next,
 //! and what stays queued.
 //!
-//! Open specs/Held.antt first, and src/ring.rt. It stands on thy_base; on it stand thy_nvm and thy_dram.
+//! Open specs/Held.antt first, and src/ring.rt. It stands on thy_block; on it stand thy_nvm and thy_dram.
 #![tactic(auto)]
 
 mod queue;

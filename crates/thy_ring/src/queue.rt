@@ -1,13 +1,13 @@
 //! A queue of writes over an image.
 ghost use Rattle.std.specs.Prelude.{◌≡◌, ◌<◌, ◌≤◌, ◌^◌, ℕ, ◌++◌, [], ◌∷◌, length, slice_set, slice_index_or, take, drop, All};
 ghost use Rattle.circular_buffer.specs.Buffer.{buffer};
-ghost use Rattle.thy_base.specs.Device.{newest_over, queued_for, applied};
-ghost use Rattle.thy_base.specs.declared.nvm.Write.{Write as Written};
+ghost use Rattle.thy_block.specs.Device.{newest_over, queued_for, applied};
+ghost use Rattle.thy_block.specs.declared.nvm.Write.{Write as Written};
 ghost use Rattle.thy_ring.specs.Held.{due_in};
 ghost use Rattle.thy_ring.specs.Lowest.{lower, lowest_over};
 
 use circular_buffer::HeapCircularBuffer;
-use thy_base::{Block, Write};
+use thy_block::{Block, Write};
 
 /// The newest block queued for a place, else the image's block there.
 pub(crate) fn newest_queued(queue: &HeapCircularBuffer<Write>, at: u64, standing: Block) -> Block

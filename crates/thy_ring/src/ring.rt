@@ -1,7 +1,7 @@
 //! The ring.
 ghost use Rattle.std.specs.Prelude.{◌≡◌, ◌<◌, ◌≤◌, ◌-◌, ◌^◌, ◌++◌, length, replicate, slice_index_or, IfOk, IfSome};
-ghost use Rattle.thy_base.specs.Device.{zero_block, queued_for, newest, written_to, drained, settled};
-ghost use Rattle.thy_base.specs.declared.nvm.Write.{Write as Written};
+ghost use Rattle.thy_block.specs.Device.{zero_block, queued_for, newest, written_to, drained, settled};
+ghost use Rattle.thy_block.specs.declared.nvm.Write.{Write as Written};
 ghost use Rattle.thy_ring.specs.Lowest.{IsLowestOf};
 ghost use Rattle.thy_ring.specs.Held.{nothing, device_of, as_device, made, choice_at, put_at, unqueued};
 
@@ -12,7 +12,7 @@ use crate::room::{
 use circular_buffer::HeapCircularBuffer;
 use std::alloc::{AllocError, Global};
 use std::marker::Model;
-use thy_base::{Block, Write};
+use thy_block::{Block, Write};
 
 /// An image of blocks, and the writes to it that have not landed yet, oldest first. Places are counted
 /// in blocks. Only `with_blocks` allocates, and no other call can fail.
@@ -165,7 +165,7 @@ impl Ring {
 }
 
 /// An image that begins with the blocks of a start and continues with zeros.
-#[tactic(auto, unfolding(thy_base::specs::Device::zero_block))]
+#[tactic(auto, unfolding(thy_block::specs::Device::zero_block))]
 fn fresh_image(start: Vec<Block>, blocks: usize) -> Result<Vec<Block>, AllocError>
     requires { length start.items ≤ blocks }
     ensures { IfOk result (λ v. v.items ≡ start.items ++ replicate (blocks - length start.items) zero_block) }

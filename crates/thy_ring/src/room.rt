@@ -1,7 +1,7 @@
 //! The queue of a ring; a ring without room for writes has none.
 ghost use Rattle.std.specs.Prelude.{◌≡◌, ◌<◌, ◌≤◌, ◌^◌, ℕ, ◌++◌, [], ◌∷◌, length, slice_index_or, take, drop, All};
-ghost use Rattle.thy_base.specs.Device.{newest_over, queued_for, applied};
-ghost use Rattle.thy_base.specs.declared.nvm.Write.{Write as Written};
+ghost use Rattle.thy_block.specs.Device.{newest_over, queued_for, applied};
+ghost use Rattle.thy_block.specs.declared.nvm.Write.{Write as Written};
 ghost use Rattle.thy_ring.specs.Held.{queued_in, room_in, due_in};
 ghost use Rattle.thy_ring.specs.Lowest.{IsLowestOf};
 
@@ -9,7 +9,7 @@ use crate::queue::{
     apply_all, apply_oldest, choice, count_for, lowest_queued, newest_queued, push_write, waiting,
 };
 use circular_buffer::HeapCircularBuffer;
-use thy_base::{Block, Write};
+use thy_block::{Block, Write};
 
 /// How many writes are queued.
 pub(crate) fn len_of(queue: &Option<HeapCircularBuffer<Write>>) -> usize

@@ -2,13 +2,13 @@
 use Rattle.std.proofs.Common.{◌≡◌, ◌≢◌, ℕ, ◌+◌, ◌<◌, ◌≤◌, Bool, true, false, ◌&&◌, not, nat_lt, ◌==◌, if◌then◌else◌, Option, Some, None, List, [], ◌∷◌, ◌++◌, length, refl, sym, ◌∙◌, ap, subst, inl, inr, append-nil, append_assoc, length-append, ◌^◌, arith}
 use Rattle.std.specs.Prelude.{MatchBool, slice_index, is_some}
 use Rattle.std.proofs.lemmas.Bool.{ltb-true, and_parts}
-use Rattle.thy_base.specs.declared.bytes.Bytes.{Bytes}
-use Rattle.thy_base.specs.declared.mix.Mix.{Mix}
-use Rattle.thy_base.specs.declared.mix.Pick.{Pick}
-use Rattle.thy_base.specs.Bytes.{bytes_of, room_of}
-use Rattle.thy_base.specs.Counts.{Rose}
-use Rattle.thy_base.specs.Device.{Device, IsFramed, cut_to}
-use Rattle.thy_base.specs.Mix.{mix_next}
+use Rattle.thy_block.specs.declared.bytes.Bytes.{Bytes}
+use Rattle.thy_block.specs.declared.mix.Mix.{Mix}
+use Rattle.thy_block.specs.declared.mix.Pick.{Pick}
+use Rattle.thy_block.specs.Bytes.{bytes_of, room_of}
+use Rattle.thy_block.specs.Counts.{Rose}
+use Rattle.thy_block.specs.Device.{Device, IsFramed, cut_to}
+use Rattle.thy_block.specs.Mix.{mix_next}
 use Rattle.thy_isa.specs.declared.state.Status.{Status}
 use Rattle.thy_layout.specs.Decoded.{Decoded, Nothing as NothingLeft, Refused as RefusedImage, At}
 use Rattle.thy_text.specs.Event.{Event, Cut, Ended as EndedEvent}
@@ -45,7 +45,7 @@ use Rattle.thy_run.specs.Going.{origin_of, line_of, turns_then, AreTold, last_tu
 use Rattle.thy_run.specs.Endings.{EndsWith}
 use Rattle.thy_run.specs.Promises.{EndsWithTurns, IsReady}
 use Rattle.thy_run.specs.Stopping.{stop_of}
-use Rattle.thy_base.proofs.RangeLemmas.{epoch_least, harts_most}
+use Rattle.thy_block.proofs.RangeLemmas.{epoch_least, harts_most}
 use Rattle.thy_run.proofs.StepFrames.{TakesStep-framed}
 
 -- an option that is asked whether it is none

@@ -3,7 +3,7 @@ use Rattle.std.proofs.Common.{◌≡◌, ℕ, ◌+◌, ◌^◌, ◌<◌, ◌≤�
 use Rattle.std.specs.List.{list_any}
 use Rattle.std.proofs.lemmas.List.Folds.{list_any-append}
 use Rattle.std.proofs.Math.Seq.{drop-append_seam}
-use Rattle.thy_base.specs.declared.mark.Mark.{Mark}
+use Rattle.thy_block.specs.declared.mark.Mark.{Mark}
 use Rattle.thy_isa.specs.Step.{State}
 use Rattle.thy_isa.proofs.StorableLaws.{step-console, step-room}
 use Rattle.thy_view.specs.Told.{told}
@@ -17,7 +17,7 @@ use Rattle.thy_view.specs.declared.did.Did.{Did}
 use Rattle.thy_view.specs.declared.did.Did.TheVariants.{Boot, Loaded, Restarted, Refused, Moved, Retired, Flushed, Merged, Sealed, Promoted, Engine, Committed, NvmDrained, DramDrained, Nothing}
 use Rattle.thy_view.specs.declared.view.Phase.TheVariants.{Boot as BootPhase}
 use Rattle.thy_view.specs.declared.view.View.{View}
-use Rattle.thy_base.specs.Marks.{mark}
+use Rattle.thy_block.specs.Marks.{mark}
 use Rattle.thy_view.specs.Views.{loads, halts}
 use Rattle.thy_view.specs.CoreStep.{CoreStep}
 use Rattle.thy_view.specs.Origin.{Origin, at, setting_of, IsOrigin}
@@ -32,7 +32,8 @@ use Rattle.thy_run.proofs.Leading.{LeadsTo, Leads, state_there}
 use Rattle.thy_run.proofs.LeadingLaws.{Leads-told}
 use Rattle.thy_run.proofs.StepAlong.{core_of, events_told}
 use Rattle.thy_run.proofs.WorldLaws.{Coheres, fits_before, leads_before, told_before, Coheres-stepped}
-use Rattle.thy_base.proofs.RangeLemmas.{console_most}
+use Rattle.thy_block.proofs.RangeLemmas.{console_most}
+use Rattle.thy_block.proofs.BasicLemmas.{some_same, or_false}
 
 -- ---- the console of the plain machine
 
@@ -51,9 +52,6 @@ console-grows o j k le =
 -- a committed mark does not go back
 abbrev pub Grows : Option Mark → Option Mark → Type 0
 Grows a b = (k : Mark) → a ≡ Some k → (later : Mark) × (b ≡ Some later) × (k.count ≤ later.count)
-
-some_same : (a b : Mark) → Some a ≡ Some b → a ≡ b
-some_same a b e = cc
 
 grows_same : (a b : Option Mark) → b ≡ a → Grows a b
 grows_same a b e = λ k some. (k, e ∙ some, omega arith)
@@ -190,10 +188,6 @@ end_shows : (o : Origin) (next : View) (cycle : ℕ) (b : Bool)
     → list_any shows (if b then Ended (at o next.count).status next.count cycle (at o next.count) ∷ [] else []) ≡ false
 end_shows o next cycle true = refl
 end_shows o next cycle false = refl
-
-or_false : (b : Bool) → (b || false) ≡ b
-or_false true = refl
-or_false false = refl
 
 events_show : (o : Origin) (fresh : Bool) (v : View) (did : Did) (next : View) (cycle : ℕ) → list_any shows (events_of o fresh v did next cycle) ≡ shows_console did
 events_show o fresh v did next cycle =

@@ -1,7 +1,7 @@
 -- What a view has committed or in doubt is among the marks that the events report, also in the midst of a cycle's events.
 use Rattle.std.proofs.Common.{◌≡◌, ◌⊎◌, ℕ, ◌≤◌, Bool, true, false, ◌&&◌, ◌||◌, if◌then◌else◌, Option, Some, None, List, [], ◌∷◌, ◌++◌, refl, sym, ◌∙◌, ap, subst, inl, inr}
-use Rattle.thy_base.specs.declared.cause.EndCause.{EndCause}
-use Rattle.thy_base.specs.declared.mark.Mark.{Mark}
+use Rattle.thy_block.specs.declared.cause.EndCause.{EndCause}
+use Rattle.thy_block.specs.declared.mark.Mark.{Mark}
 use Rattle.thy_view.specs.Action.{Action, is_commit_write, doubt_after_fault}
 use Rattle.thy_text.specs.Event.{Event, Reload, Ended}
 use Rattle.thy_text.specs.Marks.{Marks, marks_from}
@@ -11,7 +11,7 @@ use Rattle.thy_view.specs.declared.did.Did.TheVariants.{Boot, Loaded, Restarted,
 use Rattle.thy_view.specs.declared.view.Phase.{Phase}
 use Rattle.thy_view.specs.declared.view.Phase.TheVariants.{Boot as BootPhase, Run, Halt}
 use Rattle.thy_view.specs.declared.view.View.{View}
-use Rattle.thy_base.specs.Marks.{mark}
+use Rattle.thy_block.specs.Marks.{mark}
 use Rattle.thy_view.specs.Views.{loads, halts, doubt_of}
 use Rattle.thy_view.specs.CoreStep.{CoreStep}
 use Rattle.thy_view.specs.Origin.{Origin, at}

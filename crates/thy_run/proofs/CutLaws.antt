@@ -1,8 +1,9 @@
 -- What a power cut leaves fits the marks that stood, along the turns that it keeps.
 use Rattle.std.proofs.Common.{◌≡◌, ◌⊎◌, ℕ, ◌-◌, ◌≤◌, Bool, List, Option, Some, None, if◌then◌else◌, refl, sym, ◌∙◌, ap, subst, inl, inr, arith}
-use Rattle.thy_base.specs.declared.mark.Mark.{Mark}
-use Rattle.thy_base.specs.Device.{Device}
-use Rattle.thy_base.specs.Marks.{mark}
+use Rattle.thy_block.specs.declared.mark.Mark.{Mark}
+use Rattle.thy_block.specs.Device.{Device}
+use Rattle.thy_block.specs.Marks.{mark}
+use Rattle.thy_block.proofs.BasicLemmas.{some_same}
 use Rattle.thy_layout.specs.Decoded.{Decoded, Reading, Nothing as NothingLeft, Refused as RefusedImage, At}
 use Rattle.thy_text.specs.Marks.{Marks, loading_marks, turns_of}
 use Rattle.thy_view.specs.declared.view.Phase.{Phase}
@@ -21,9 +22,6 @@ use Rattle.thy_run.proofs.Fitting.{IsEither, Rises, Follows, RunFits, FitsIn, Fi
 use Rattle.thy_run.proofs.ImageLaws.{IsFound}
 use Rattle.thy_run.proofs.Leading.{LeadsTo, LeadsIn, Leads, start_leads, state_there, leads_told, turns_of-sealed, either_leads}
 use Rattle.thy_run.proofs.RetellLaws.{kept_within}
-
-one_mark : (a b : Mark) → Some a ≡ Some b → a ≡ b
-one_mark a b e = cc
 
 -- ---- marks
 
@@ -62,7 +60,7 @@ found_in : (p : Origin) (v : View) (m : Marks) (ph : Phase) → FitsIn p v m ph 
 found_in p v m BootPhase f kept other k (inl done) either = other k done
 found_in p v m BootPhase f kept other k (inr sealed) either = elim f.boots as (λ _. LeadsTo p (turns_of m k.epoch k.count) k.count) [
   | inl l ↦
-      let same : mark 0 p.start.count ≡ k = one_mark (mark 0 p.start.count) k (sym l.sealed ∙ sealed) in
+      let same : mark 0 p.start.count ≡ k = some_same (mark 0 p.start.count) k (sym l.sealed ∙ sealed) in
       subst (λ (x : Marks). LeadsTo p (turns_of x k.epoch k.count) k.count) (sym l.marks)
       (subst (λ (x : Mark). LeadsTo p (turns_of (loading_marks p.start.count) x.epoch x.count) x.count) same (start_found p))
   | inr r ↦ absurd (let both : None ≡ Some k = sym r.sealed ∙ sealed in cc)
@@ -132,7 +130,7 @@ cut_below p v m (At epoch state) f one = left_in p v m v.phase refl f (mark epoc
     left_in p v m BootPhase is f k (inl done) = let there : reach v ≡ k.count = reach-boot v is ∙ ap count_of done in omega (arith, there)
     left_in p v m BootPhase is f k (inr doubt) = elim f.boots as (λ _. k.count - p.start.count ≤ reach v - p.start.count) [
       | inl l ↦
-          let same : mark 0 p.start.count ≡ k = one_mark (mark 0 p.start.count) k (sym l.sealed ∙ doubt_sealed v.written v.sealed k doubt) in
+          let same : mark 0 p.start.count ≡ k = some_same (mark 0 p.start.count) k (sym l.sealed ∙ doubt_sealed v.written v.sealed k doubt) in
           let first : p.start.count ≡ k.count = ap (λ (x : Mark). x.count) same in
           omega (arith, first)
       | inr r ↦ absurd (let both : None ≡ Some k = sym r.sealed ∙ doubt_sealed v.written v.sealed k doubt in cc)
@@ -173,12 +171,12 @@ leads_cut p t v m (At epoch state) f l one agree =
     record {
       kept = λ k is.
           let le : k.count ≤ state.count = elim here.either as (λ _. k.count ≤ state.count) [
-            | inl same ↦ (let e : k.count ≡ state.count = ap (λ (x : Mark). x.count) (one_mark k (mark epoch state.count) (sym is ∙ same)) in omega (arith, e))
+            | inl same ↦ (let e : k.count ≡ state.count = ap (λ (x : Mark). x.count) (some_same k (mark epoch state.count) (sym is ∙ same)) in omega (arith, e))
             | inr sealed ↦ Rises-fits p v m f k (mark epoch state.count) is sealed
           ] in
           leads_told p t m.kept_turns k.count (AgreeBelow-less p t k.count state.count le agree) (l.kept k is);
       other = λ k is.
-          subst (λ (x : Mark). LeadsTo (told p t) (turns_of m x.epoch x.count) x.count) (one_mark (mark epoch state.count) k is)
+          subst (λ (x : Mark). LeadsTo (told p t) (turns_of m x.epoch x.count) x.count) (some_same (mark epoch state.count) k is)
           (leads_told p t (turns_of m epoch state.count) state.count agree here.leads);
     }
 

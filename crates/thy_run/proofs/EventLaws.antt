@@ -1,7 +1,7 @@
 -- All the events of a cycle leave marks that fit the view.
 use Rattle.std.proofs.Common.{◌≡◌, ℕ, ◌≤◌, Bool, true, false, ◌&&◌, not, is_none, if◌then◌else◌, Option, Some, None, List, [], ◌∷◌, ◌++◌, refl, sym, ◌∙◌, ap, subst, inl, inr}
 use Rattle.std.proofs.lemmas.Bool.{and_parts}
-use Rattle.thy_base.specs.declared.mark.Mark.{Mark}
+use Rattle.thy_block.specs.declared.mark.Mark.{Mark}
 use Rattle.thy_text.specs.Event.{Event, Reload, Ended}
 use Rattle.thy_text.specs.Marks.{Marks, loading_marks, marks_from, AllLawful}
 use Rattle.thy_text.proofs.Histories.{marks_from-append}

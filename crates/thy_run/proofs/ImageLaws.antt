@@ -2,8 +2,8 @@
 use Rattle.std.proofs.Common.{◌≡◌, ◌⊎◌, ℕ, ◌+◌, ◌<◌, Bool, true, false, ◌&&◌, not, is_none, if◌then◌else◌, Option, Some, None, List, [], ◌∷◌, ◌++◌, refl, sym, ◌∙◌, ap, subst, inl, inr, arith}
 use Rattle.std.proofs.lemmas.Bool.{and_parts}
 use Rattle.std.specs.Prelude.{◌≢◌}
-use Rattle.thy_base.specs.declared.block.Block.{Block}
-use Rattle.thy_base.specs.declared.mark.Mark.{Mark}
+use Rattle.thy_block.specs.declared.block.Block.{Block}
+use Rattle.thy_block.specs.declared.mark.Mark.{Mark}
 use Rattle.thy_layout.specs.Decoded.{Decoded, Nothing as NothingLeft, Refused as RefusedImage, At}
 use Rattle.thy_text.specs.Event.{Event, Reload, Ended}
 use Rattle.thy_view.specs.declared.did.Did.{Did}
@@ -12,7 +12,8 @@ use Rattle.thy_layout.specs.declared.engine_step.EngineStep.{EngineStep}
 use Rattle.thy_layout.specs.declared.engine_step.EngineStep.TheVariants.{Idle, Copied, PageBlock, StateBlock, TableBlock, Barrier, CommitWritten, Committed as EngineCommitted}
 use Rattle.thy_view.specs.declared.view.Phase.TheVariants.{Boot as BootPhase}
 use Rattle.thy_view.specs.declared.view.View.{View}
-use Rattle.thy_base.specs.Marks.{mark}
+use Rattle.thy_block.specs.Marks.{mark}
+use Rattle.thy_block.proofs.BasicLemmas.{some_same}
 use Rattle.thy_view.specs.Views.{is_boot, is_halt, loads, halts}
 use Rattle.thy_view.specs.CoreStep.{busier, BootsTo, MovesTo, EngineTo, CoreStep}
 use Rattle.thy_view.specs.Origin.{Origin, at}
@@ -97,14 +98,11 @@ pub record ImagesFit (o : Origin) (cycles : ℕ) (fresh : Bool) (v : View) (s : 
   pub boot : v.phase ≡ BootPhase → IsFound o v s.means
   pub up : is_boot v.phase ≡ false → s.just ≡ None
 
-some_mark : (a b : Mark) → Some a ≡ Some b → a ≡ b
-some_mark a b e = cc
-
 is_at : (epoch count : ℕ) (o : Origin) (d : Decoded) (v : View) → v.done ≡ Some (mark epoch count) → IsFound o v d → d ≡ At epoch (at o count)
 is_at epoch count o NothingLeft v done h = absurd (cc)
 is_at epoch count o (RefusedImage bad) v done h = absurd h
 is_at epoch count o (At e state) v done h =
-    let same : mark e state.count ≡ mark epoch count = some_mark (mark e state.count) (mark epoch count) (sym h.0 ∙ done) in
+    let same : mark e state.count ≡ mark epoch count = some_same (mark e state.count) (mark epoch count) (sym h.0 ∙ done) in
     ap (λ s. At e s) h.1 ∙ ap (λ (m : Mark). At m.epoch (at o m.count)) same
 
 is_nothing : (o : Origin) (d : Decoded) (v : View) → v.done ≡ None → IsFound o v d → d ≡ NothingLeft

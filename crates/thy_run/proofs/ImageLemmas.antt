@@ -1,6 +1,6 @@
 -- What there is to be found, as cycles and cuts add to events and images.
 use Rattle.std.proofs.Common.{◌≡◌, ℕ, suc, Some, None, List, [], ◌∷◌, ◌++◌, length, refl, ap}
-use Rattle.thy_base.specs.declared.block.Block.{Block}
+use Rattle.thy_block.specs.declared.block.Block.{Block}
 use Rattle.thy_layout.specs.Decoded.{Decoded}
 use Rattle.thy_text.specs.Event.{Event, Scheme, EpochEnd, Commit, Cut, Restart, Reload, Ended}
 use Rattle.thy_run.specs.Cuts.{cuts_among}

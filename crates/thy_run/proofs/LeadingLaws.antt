@@ -1,9 +1,10 @@
 -- The turns that a cycle's events report reach the states of their checkpoints, and so its events are lawful.
 use Rattle.std.proofs.Common.{◌≡◌, ◌≢◌, ℕ, ◌+◌, ◌-◌, ◌≤◌, Bool, true, false, if◌then◌else◌, Option, Some, None, List, [], ◌∷◌, ◌++◌, length, drop, refl, sym, ◌∙◌, ap, subst, inl, inr, arith}
-use Rattle.thy_base.specs.declared.cause.EndCause.{EndCause}
-use Rattle.thy_base.specs.declared.cause.EndCause.TheVariants.{Length, Exhausted, Ended as EndedCause}
-use Rattle.thy_base.specs.declared.mark.Mark.{Mark}
-use Rattle.thy_base.specs.Marks.{mark}
+use Rattle.thy_block.specs.declared.cause.EndCause.{EndCause}
+use Rattle.thy_block.specs.declared.cause.EndCause.TheVariants.{Length, Exhausted, Ended as EndedCause}
+use Rattle.thy_block.specs.declared.mark.Mark.{Mark}
+use Rattle.thy_block.specs.Marks.{mark}
+use Rattle.thy_block.proofs.BasicLemmas.{some_same}
 use Rattle.thy_isa.specs.Step.{State, is_running}
 use Rattle.thy_text.specs.Event.{Event, Ended}
 use Rattle.thy_text.specs.Marks.{Marks, loading_marks, marks_from, turns_of, turns_told, FitsCause, EndsEpoch, AllLawful}
@@ -18,7 +19,7 @@ use Rattle.thy_view.specs.Origin.{Origin, at, runs_at}
 use Rattle.thy_view.specs.Pace.{retires}
 use Rattle.thy_view.specs.Told.{told, count_of}
 use Rattle.thy_view.specs.Views.{halts}
-use Rattle.thy_view.proofs.ReachLaws.{reach-count}
+use Rattle.thy_view.proofs.ReachLaws.{reach-count, runs_behind, runs_or_halts}
 use Rattle.thy_run.specs.Going.{AreTold}
 use Rattle.thy_run.specs.Laws.{course_of}
 use Rattle.thy_run.specs.World.{turns_behind, did_told, reload_told, end_told, events_of}
@@ -28,17 +29,7 @@ use Rattle.thy_run.proofs.FittingLaws.{Fits-told}
 use Rattle.thy_run.proofs.ImageLaws.{Stays, Stays-quiet}
 use Rattle.thy_run.proofs.Leading.{LeadsTo, LeadsIn, Leads, length-behind, start_leads, state_there, leads_joined}
 
-one_mark : (a b : Mark) → Some a ≡ Some b → a ≡ b
-one_mark a b e = cc
-
 -- ---- phases
-
-behind_boot : (p : Phase) → p ≡ Run → p ≢ BootPhase
-behind_boot p is boots = absurd (let both : Run ≡ BootPhase = sym is ∙ boots in cc)
-
-runs_or_halts : (b : Bool) → (if b then Run else Halt) ≢ BootPhase
-runs_or_halts true boots = absurd (cc)
-runs_or_halts false boots = absurd (cc)
 
 -- after the boot, with none sealed, nothing more is to be reached
 none_sealed : (p : Origin) (v : View) (m : Marks) (ph : Phase) → ph ≢ BootPhase → m.sealed ≡ None → LeadsIn p v m ph
@@ -59,7 +50,7 @@ leads_stays p v next m s l = record {
 
 -- if the program is loaded, none reach the start, which is sealed
 loading_leads : (p : Origin) (k : Mark) → (loading_marks p.start.count).sealed ≡ Some k → LeadsTo p (loading_marks p.start.count).sealed_turns k.count
-loading_leads p k is = subst (λ (x : Mark). LeadsTo p [] x.count) (one_mark (mark 0 p.start.count) k is) (start_leads p)
+loading_leads p k is = subst (λ (x : Mark). LeadsTo p [] x.count) (some_same (mark 0 p.start.count) k is) (start_leads p)
 
 module _ (p : Origin) (v next : View) (m : Marks) (h : Fits p v m) (l : Leads p v m) where
   of_phase : (ph : Phase) → v.phase ≡ ph → FitsIn p v m ph
@@ -81,7 +72,7 @@ module _ (p : Origin) (v next : View) (m : Marks) (h : Fits p v m) (l : Leads p 
       let f : BootFits p v m = of_phase BootPhase boots in
       elim f.boots as (λ _. IsEither m.kept m.sealed k) [
         | inl loading ↦ absurd (let both : None ≡ Some k = sym loading.done ∙ done in cc)
-        | inr r ↦ subst (IsEither m.kept m.sealed) (one_mark r.mark k (sym r.done ∙ done)) r.either
+        | inr r ↦ subst (IsEither m.kept m.sealed) (some_same r.mark k (sym r.done ∙ done)) r.either
       ]
 
   -- ---- an epoch's end
@@ -94,7 +85,7 @@ module _ (p : Origin) (v next : View) (m : Marks) (h : Fits p v m) (l : Leads p 
     since = let f : Follows p v runs.mark None = subst (Follows p v runs.mark) s.unsealed runs.follows in f.2
 
     all_here : length p.turns ≡ turns_told p.geometry.harts (count - p.start.count)
-    all_here = all ∙ ap (λ (n : ℕ). turns_told p.geometry.harts (n - p.start.count)) (reach-count v (behind_boot v.phase s.phase) ∙ sym s.at_count)
+    all_here = all ∙ ap (λ (n : ℕ). turns_told p.geometry.harts (n - p.start.count)) (reach-count v (runs_behind v.phase s.phase) ∙ sym s.at_count)
 
     behind_is : turns_behind p v.done ≡ drop (runs.mark.count - p.start.count) p.turns
     behind_is = ap (λ (d : Option Mark). drop (count_of d - p.start.count) p.turns) runs.done
@@ -182,11 +173,11 @@ module _ (p : Origin) (v next : View) (m : Marks) (h : Fits p v m) (l : Leads p 
       record {
         kept = subst (λ (x : Marks). (k : Mark) → x.sealed ≡ Some k → LeadsTo p x.sealed_turns k.count) (sym is) (loading_leads p);
         other = none_sealed p next (marks_from p.start.count m (did_told p v Loaded cycle)) next.phase
-            (behind_boot next.phase (ap (λ (w : View). w.phase) s.becomes)) refl;
+            (runs_behind next.phase (ap (λ (w : View). w.phase) s.becomes)) refl;
       }
   Leads-told (Restarted epoch count) cycle all s = record {
     kept = λ k is.
-        let same : mark epoch count ≡ k = one_mark (mark epoch count) k is in
+        let same : mark epoch count ≡ k = some_same (mark epoch count) k is in
         subst (λ (x : Mark). LeadsTo p (turns_of m epoch count) x.count) same (led BootPhase s.phase (mark epoch count) s.done);
     other = none_sealed p next (marks_from p.start.count m (did_told p v (Restarted epoch count) cycle)) next.phase
         (λ boots. runs_or_halts (runs_at p count) (sym (ap (λ (w : View). w.phase) s.becomes) ∙ boots)) refl;
@@ -203,7 +194,7 @@ module _ (p : Origin) (v next : View) (m : Marks) (h : Fits p v m) (l : Leads p 
       record {
         kept = l.kept;
         other = subst (LeadsIn p next now) (sym (ap (λ (w : View). w.phase) s.becomes ∙ s.phase))
-            (λ k is. subst (λ (x : Mark). LeadsTo p (m.kept_turns ++ turns_behind p v.done) x.count) (one_mark (mark epoch count) k is) there);
+            (λ k is. subst (λ (x : Mark). LeadsTo p (m.kept_turns ++ turns_behind p v.done) x.count) (some_same (mark epoch count) k is) there);
       }
   Leads-told (Engine step) cycle all s = quiet (Engine step) cycle refl s
   Leads-told (Committed epoch overlapped) cycle all s = record {

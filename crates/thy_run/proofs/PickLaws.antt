@@ -1,6 +1,6 @@
 -- A device keeps the picks of the cuts that fell, is fitted no second time, and so keeps its size and its room.
 use Rattle.std.proofs.Common.{◌≡◌, ℕ, zero, suc, ◌+◌, Bool, true, false, MatchBool, List, [], ◌∷◌, ◌++◌, length, sym, ◌∙◌, ap, subst, arith}
-use Rattle.thy_base.specs.Device.{Device, IsFramed, cut_to}
+use Rattle.thy_block.specs.Device.{Device, IsFramed, cut_to}
 use Rattle.thy_view.specs.Kind.{KindOf}
 use Rattle.thy_view.specs.Origin.{Origin}
 use Rattle.thy_run.specs.Laws.{torn}

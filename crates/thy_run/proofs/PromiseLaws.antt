@@ -2,9 +2,9 @@
 use Rattle.std.proofs.Common.{◌≡◌, ◌⊎◌, ℕ, zero, suc, ◌+◌, ◌-◌, ◌≤◌, false, if◌then◌else◌, Option, Some, None, List, [], ◌∷◌, ◌++◌, length, take, refl, sym, ◌∙◌, ap, subst, inl, inr, append-nil, append_assoc, arith}
 use Rattle.std.proofs.lemmas.Bool.{or_from}
 use Rattle.std.proofs.lemmas.List.Folds.{list_any-append}
-use Rattle.thy_base.specs.declared.block.Block.{Block}
-use Rattle.thy_base.specs.declared.mark.Mark.{Mark}
-use Rattle.thy_base.specs.Device.{Device}
+use Rattle.thy_block.specs.declared.block.Block.{Block}
+use Rattle.thy_block.specs.declared.mark.Mark.{Mark}
+use Rattle.thy_block.specs.Device.{Device}
 use Rattle.thy_view.specs.Kind.{KindOf, IsLawful}
 use Rattle.thy_text.specs.Event.{Event}
 use Rattle.thy_text.specs.Marks.{Marks, Course, marks_from, marks_after, AllLawful}
@@ -36,7 +36,8 @@ use Rattle.thy_run.proofs.PickLaws.{StaysFitted, StaysFitted-framed, StaysFitted
 use Rattle.thy_run.proofs.SoonLaws.{SoonOver-ran}
 use Rattle.thy_run.proofs.StrideLaws.{AllStride-part, Strode, strode_step, strode_ran}
 use Rattle.thy_run.proofs.WorldLaws.{Coheres, Listed, Good, listed_going, events_uncut, fits_before, leads_before, told_before, Coheres-stepped, Good-ran, cycles-ran}
-use Rattle.thy_base.proofs.RangeLemmas.{epoch_least}
+use Rattle.thy_block.proofs.RangeLemmas.{epoch_least}
+use Rattle.thy_block.proofs.BasicLemmas.{first_empty}
 use Rattle.thy_run.proofs.StepFrames.{TakesStep-framed}
 
 -- ---- lists
@@ -44,10 +45,6 @@ use Rattle.thy_run.proofs.StepFrames.{TakesStep-framed}
 behind_same : {A : Type 0} (xs ys zs : List A) → xs ++ ys ≡ xs ++ zs → ys ≡ zs
 behind_same [] ys zs e = e
 behind_same (x ∷ xs) ys zs e = behind_same xs ys zs (let t : xs ++ ys ≡ xs ++ zs = cc in t)
-
-first_none : {A : Type 0} (xs ys : List A) → xs ++ ys ≡ [] → xs ≡ []
-first_none [] ys e = refl
-first_none (x ∷ xs) ys e = absurd (cc)
 
 length-numbered : (index : ℕ) (cuts : List ℕ) → length (numbered index cuts) ≡ length cuts
 length-numbered index [] = refl
@@ -147,7 +144,7 @@ module _ {M : Type 0} (K : KindOf M) (o : Origin) (given : Given) (w : World M) 
       let after : Coheres K o next = Coheres-stepped K o w least g.stands next step in
       let whole : es ≡ part ++ rest = behind_same w.events es (part ++ rest) (sym (ap (λ (x : World M). x.events) step.next_is) ∙ split ∙ append_assoc w.events part rest) in
       let uncut : cuts_among part ≡ [] =
-      first_none (cuts_among part) (cuts_among rest) (sym (cuts_among-append part rest) ∙ ap cuts_among (sym whole) ∙ events_uncut (line o next) w.fresh (seen K o w) step.r.did (seen K o next) (w.cycles + 1)) in
+      first_empty (cuts_among part) (cuts_among rest) (sym (cuts_among-append part rest) ∙ ap cuts_among (sym whole) ∙ events_uncut (line o next) w.fresh (seen K o w) step.r.did (seen K o next) (w.cycles + 1)) in
       let left_next : next.device.left ≡ w.device.left = (TakesStep-framed K o w next step).left in
       let left : n.left ≡ next.device.left = elim device as (λ _. n.left ≡ next.device.left) [ inl e ↦ ap (λ (x : Device). x.left) e | inr f ↦ f.framed.left ] in
       let at_next : StaysFitted given w.passed next.device = StaysFitted-framed given w.passed w.device next.device (TakesStep-framed K o w next step) keeps in

@@ -1,16 +1,16 @@
 -- Cycles with nothing to report, one after another.
 use Rattle.std.proofs.Common.{◌≡◌, ◌<◌, ◌^◌, ℕ, suc, ◌+◌, false, ◌&&◌, ◌==◌, nat_lt, List, [], length, Option, Some, None, Ok, sym, ◌∙◌, ◌≤◌, ap, subst, refl, arith}
 use Rattle.std.specs.Prelude.{slice_index}
-use Rattle.thy_base.specs.declared.config.Parameters.{Parameters}
-use Rattle.thy_base.specs.declared.mix.Mix.{Mix}
-use Rattle.thy_base.specs.declared.mix.Pick.{Pick}
-use Rattle.thy_base.specs.declared.bytes.Bytes.{Bytes}
-use Rattle.thy_base.specs.Bytes.{bytes_of, room_of}
-use Rattle.thy_base.specs.Device.{Device, IsFramed}
-use Rattle.thy_base.specs.Geometry.{IsInRange}
+use Rattle.thy_block.specs.declared.parameters.Parameters.{Parameters}
+use Rattle.thy_block.specs.declared.mix.Mix.{Mix}
+use Rattle.thy_block.specs.declared.mix.Pick.{Pick}
+use Rattle.thy_block.specs.declared.bytes.Bytes.{Bytes}
+use Rattle.thy_block.specs.Bytes.{bytes_of, room_of}
+use Rattle.thy_block.specs.Device.{Device, IsFramed}
+use Rattle.thy_block.specs.Geometry.{IsInRange}
 use Rattle.thy_layout.specs.declared.start.Start.{Start}
-use Rattle.thy_base.specs.Mix.{mix_pick, mix_next}
-use Rattle.thy_base.specs.Outside.{Stream, Took}
+use Rattle.thy_block.specs.Mix.{mix_pick, mix_next}
+use Rattle.thy_block.specs.Outside.{Stream, Took}
 use Rattle.thy_text.specs.Lines.{report_of}
 use Rattle.thy_text.specs.Event.{Event}
 use Rattle.thy_view.specs.declared.did.Advance.{Advance}

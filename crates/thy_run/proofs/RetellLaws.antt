@@ -1,8 +1,9 @@
 -- What holds between two cycles holds along all turns that agree as far as the machine is.
 use Rattle.std.proofs.Common.{◌≡◌, ◌⊎◌, ℕ, ◌≤◌, Bool, List, Option, Some, None, refl, sym, ◌∙◌, ap, subst, inl, inr, arith}
-use Rattle.thy_base.specs.declared.cause.EndCause.{EndCause}
-use Rattle.thy_base.specs.declared.cause.EndCause.TheVariants.{Length, Exhausted, Ended as EndedCause}
-use Rattle.thy_base.specs.declared.mark.Mark.{Mark}
+use Rattle.thy_block.specs.declared.cause.EndCause.{EndCause}
+use Rattle.thy_block.specs.declared.cause.EndCause.TheVariants.{Length, Exhausted, Ended as EndedCause}
+use Rattle.thy_block.specs.declared.mark.Mark.{Mark}
+use Rattle.thy_block.proofs.BasicLemmas.{some_same}
 use Rattle.thy_isa.specs.Step.{State, is_running}
 use Rattle.thy_layout.specs.Decoded.{Decoded, Nothing as NothingLeft, Refused as RefusedImage, At}
 use Rattle.thy_text.specs.Marks.{Marks}
@@ -17,9 +18,6 @@ use Rattle.thy_run.specs.Images.{Found}
 use Rattle.thy_run.proofs.Fitting.{OverFits, Loading, Recovering, Follows, RunFits, FitsIn, Fits}
 use Rattle.thy_run.proofs.ImageLaws.{IsFound, ImagesFit}
 use Rattle.thy_run.proofs.Leading.{LeadsIn, Leads, leads_told}
-
-one_mark : (a b : Mark) → Some a ≡ Some b → a ≡ b
-one_mark a b e = cc
 
 -- ---- how far marks lie
 
@@ -43,15 +41,15 @@ kept_in p v m BootPhase is f k kept = elim f.boots as (λ _. k.count ≤ reach v
   | inr r ↦
       let there : reach v ≡ r.mark.count = reach-boot v is ∙ ap count_of r.done in
       elim r.either as (λ _. k.count ≤ reach v) [
-        | inl same ↦ (let e : k.count ≡ r.mark.count = ap (λ (x : Mark). x.count) (one_mark k r.mark (sym kept ∙ same)) in omega (arith, e, there))
+        | inl same ↦ (let e : k.count ≡ r.mark.count = ap (λ (x : Mark). x.count) (some_same k r.mark (sym kept ∙ same)) in omega (arith, e, there))
         | inr sealed ↦ (let le : k.count ≤ r.mark.count = r.rises k r.mark kept sealed in omega (arith, le, there))
       ]
 ]
 kept_in p v m Run is f k kept =
-    let e : k.count ≡ f.mark.count = ap (λ (x : Mark). x.count) (one_mark k f.mark (sym kept ∙ f.kept)) in
+    let e : k.count ≡ f.mark.count = ap (λ (x : Mark). x.count) (some_same k f.mark (sym kept ∙ f.kept)) in
     omega (arith, runs_to v is, e, done_below p v f.mark v.sealed f.follows)
 kept_in p v m Halt is f k kept =
-    let e : k.count ≡ f.mark.count = ap (λ (x : Mark). x.count) (one_mark k f.mark (sym kept ∙ f.kept)) in
+    let e : k.count ≡ f.mark.count = ap (λ (x : Mark). x.count) (some_same k f.mark (sym kept ∙ f.kept)) in
     omega (arith, halts_at v is, e, f.count)
 
 -- a committed mark is no further than the machine

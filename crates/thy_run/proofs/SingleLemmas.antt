@@ -2,8 +2,8 @@
 use Rattle.std.proofs.Common.{◌≡◌, ℕ, zero, suc, ◌+◌, ◌<◌, ◌≤◌, Bool, true, false, ◌&&◌, ◌==◌, nat_lt, List, [], ◌∷◌, ◌++◌, length, refl, sym, ◌∙◌, ap, subst, arith}
 use Rattle.std.specs.Prelude.{slice_index}
 use Rattle.std.proofs.lemmas.Bool.{ltb-true, and_parts}
-use Rattle.thy_base.specs.Device.{Device}
-use Rattle.thy_base.specs.Outside.{Stream}
+use Rattle.thy_block.specs.Device.{Device}
+use Rattle.thy_block.specs.Outside.{Stream}
 use Rattle.thy_view.specs.Kind.{KindOf, IsLawful}
 use Rattle.thy_view.specs.Origin.{Origin}
 use Rattle.thy_view.specs.declared.did.Stepped.{Stepped}

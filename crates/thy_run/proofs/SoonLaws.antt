@@ -2,7 +2,7 @@
 use Rattle.std.proofs.Common.{◌≡◌, ℕ, zero, suc, ◌+◌, ◌≤◌, Bool, true, false, if◌then◌else◌, List, [], Option, Some, None, refl, sym, ◌∙◌, ap, subst, inl, inr, arith}
 use Rattle.std.specs.Prelude.{◌≢◌, MatchBool}
 use Rattle.std.proofs.Math.Nat.{mul-le-mul_left}
-use Rattle.thy_base.specs.declared.mark.Mark.{Mark}
+use Rattle.thy_block.specs.declared.mark.Mark.{Mark}
 use Rattle.thy_layout.specs.Decoded.{Decoded, Nothing as NothingLeft, Refused as RefusedImage, At}
 use Rattle.thy_view.specs.declared.did.Did.{Did}
 use Rattle.thy_view.specs.declared.view.View.{View}
@@ -13,7 +13,8 @@ use Rattle.thy_view.specs.Origin.{Origin, runs_at}
 use Rattle.thy_view.specs.Pace.{retires}
 use Rattle.thy_view.specs.Safe.{IsOneOf}
 use Rattle.thy_view.specs.Told.{told}
-use Rattle.thy_base.specs.Marks.{mark}
+use Rattle.thy_block.specs.Marks.{mark}
+use Rattle.thy_block.proofs.BasicLemmas.{not_both}
 use Rattle.thy_view.specs.Views.{is_boot, doubt_of}
 use Rattle.thy_run.specs.Progress.{RunIsSoonOver, Tally, nothing_done, counted, tally_of}
 use Rattle.thy_run.specs.World.{World, Given, seen, TakesStep, is_due, IsCutOff, tear, Ran}
@@ -35,9 +36,6 @@ pub record Counts (o : Origin) (end done : ℕ) (v : View) : Type 0 where
   pub sealed : (m : Mark) → v.sealed ≡ Some m → IsBetween o end m.count
   pub boot : is_boot v.phase ≡ true → done ≡ 0
   pub up : is_boot v.phase ≡ false → (o.start.count + done ≤ v.count) × (v.count ≤ end)
-
-not_both : {A : Type 0} (b : Bool) → b ≡ true → b ≡ false → A
-not_both b e f = absurd (cc)
 
 no_mark : (o : Origin) (end : ℕ) (x : Option Mark) → x ≡ None → (m : Mark) → x ≡ Some m → IsBetween o end m.count
 no_mark o end x none m e = absurd (cc)

@@ -1,11 +1,11 @@
 -- A run before its first cycle, and one at its limit.
 use Rattle.std.proofs.Common.{◌≡◌, ℕ, ◌+◌, false, Option, Some, None, List, [], refl, sym, ◌∙◌, ap, subst, inl, arith}
-use Rattle.thy_base.specs.declared.mark.Mark.{Mark}
-use Rattle.thy_base.specs.declared.bytes.Bytes.{Bytes}
-use Rattle.thy_base.specs.declared.mix.Mix.{Mix}
-use Rattle.thy_base.specs.Mix.{mix_start}
-use Rattle.thy_base.specs.Device.{Device}
-use Rattle.thy_base.specs.Outside.{Stream}
+use Rattle.thy_block.specs.declared.mark.Mark.{Mark}
+use Rattle.thy_block.specs.declared.bytes.Bytes.{Bytes}
+use Rattle.thy_block.specs.declared.mix.Mix.{Mix}
+use Rattle.thy_block.specs.Mix.{mix_start}
+use Rattle.thy_block.specs.Device.{Device}
+use Rattle.thy_block.specs.Outside.{Stream}
 use Rattle.thy_view.specs.Kind.{KindOf, IsLawful}
 use Rattle.thy_text.specs.Event.{Event}
 use Rattle.thy_text.specs.Lines.{report_of}
@@ -26,7 +26,7 @@ use Rattle.thy_run.specs.Rounds.{IsFitted, IsStarted, Running, RunEndsAt, first_
 use Rattle.thy_run.proofs.AdvanceLemmas.{good_of}
 use Rattle.thy_run.proofs.ListingLemmas.{none_last}
 use Rattle.thy_run.proofs.OutcomeLemmas.{Took-none, delivered_all}
-use Rattle.thy_base.proofs.RangeLemmas.{limit_least}
+use Rattle.thy_block.proofs.RangeLemmas.{limit_least}
 
 -- the view with which a run begins has nothing in doubt
 first_doubt : (o : Origin) (kept : Option Mark) → doubt_of (view_of_image o.start.count (found_first o kept)) ≡ None

@@ -1,7 +1,7 @@
 -- What a step leaves of the device, by the one action that it took.
 use Rattle.std.proofs.Common.{Bool, refl, sym, subst}
-use Rattle.thy_base.specs.Device.{Device, IsFramed}
-use Rattle.thy_base.proofs.DeviceLemmas.{length-written_to, length-settled, length-drained}
+use Rattle.thy_block.specs.Device.{Device, IsFramed}
+use Rattle.thy_block.proofs.DeviceLemmas.{length-written_to, length-settled, length-drained}
 use Rattle.thy_view.specs.Action.{Action, Rest, ReadAt, WriteAt, Barrier, Drain, after, ActsBy}
 use Rattle.thy_view.specs.declared.did.Did.{Did}
 use Rattle.thy_view.specs.Kind.{KindOf}

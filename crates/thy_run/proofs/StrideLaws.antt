@@ -3,7 +3,8 @@ use Rattle.std.proofs.Common.{◌≡◌, ℕ, zero, suc, ◌+◌, ◌<◌, ◌�
 use Rattle.std.specs.Prelude.{MatchBool}
 use Rattle.std.proofs.lemmas.Bool.{eq-eqb, eqb-true}
 use Rattle.thy_layout.specs.Decoded.{Decoded, Nothing as NothingLeft, Refused as RefusedImage, At}
-use Rattle.thy_base.specs.Device.{Device}
+use Rattle.thy_block.specs.Device.{Device}
+use Rattle.thy_block.proofs.BasicLemmas.{not_both}
 use Rattle.thy_text.specs.Event.{Event, Cut, Reload, Ended}
 use Rattle.thy_view.specs.declared.did.Did.{Did}
 use Rattle.thy_view.specs.declared.view.View.{View}
@@ -79,9 +80,6 @@ record TellsOn (o : Origin) (e : Epoch) (v next : View) (did : Did) (cycle : ℕ
   after : Epoch
   leaves : Leaves o.start.count e (did_told o v did cycle) after
   tells : Tells o.start.count after next known
-
-not_both : {A : Type 0} (b : Bool) → b ≡ true → b ≡ false → A
-not_both b e f = absurd (cc)
 
 -- events that say nothing of epochs
 tells_same : (o : Origin) (e : Epoch) (v next : View) (did : Did) (cycle : ℕ) (known : Bool) → Leaves o.start.count e (did_told o v did cycle) e → Tells o.start.count e next known

@@ -1,24 +1,17 @@
 -- The lines of events, one after another.
-use Rattle.std.proofs.Common.{◌≡◌, ℕ, ◌+◌, ◌<◌, true, false, List, [], ◌∷◌, ◌++◌, take, drop, length, refl, sym, ◌∙◌, ap, append_assoc, Some}
+use Rattle.std.proofs.Common.{◌≡◌, ℕ, ◌+◌, ◌<◌, true, false, List, [], ◌∷◌, ◌++◌, take, drop, length, sym, ◌∙◌, ap, append_assoc, Some}
 use Rattle.std.specs.Prelude.{◌≢◌, slice_get}
 use Rattle.std.specs.Prelude.{Result, Ok, Err, OnOk, OnErr, is_err}
 use Rattle.std.proofs.lemmas.List.{take_more, take-append-drop}
 use Rattle.std.proofs.lemmas.Option.{get_or_from_slice_get, slice_get_within}
-use Rattle.thy_base.specs.Outside.{Stream, Took, TookPart}
-use Rattle.thy_base.proofs.Streams.{Took-append, TookPart-append, TookPart-more}
+use Rattle.thy_block.specs.Outside.{Stream, Took, TookPart}
+use Rattle.thy_block.proofs.Streams.{Took-append, TookPart-append, TookPart-more}
+use Rattle.thy_block.proofs.BasicLemmas.{first_empty, last_empty}
 use Rattle.thy_text.specs.declared.telling.Telling.{Telling}
 use Rattle.thy_text.specs.Event.{Event, Reload}
 use Rattle.thy_text.specs.Lines.{line_of, report_of}
 use Rattle.thy_text.proofs.Histories.{report_of-append, report_of-more}
 use Rattle.thy_run.specs.Sending.{Sends}
-
-first_none : {A : Type 0} (xs ys : List A) → xs ++ ys ≡ [] → xs ≡ []
-first_none [] ys e = refl
-first_none (x ∷ xs) ys e = absurd (cc)
-
-last_none : {A : Type 0} (xs ys : List A) → xs ++ ys ≡ [] → ys ≡ []
-last_none [] ys e = e
-last_none (x ∷ xs) ys e = absurd (cc)
 
 -- the first lines and one more
 one_more : (telling : Telling) (events : List Event) (i : ℕ) (v : Event) → i < length events → slice_get events i ≡ Some v
@@ -49,7 +42,7 @@ lines_failed telling events i v before a b c is so_far took due =
           ∙ ap (λ (l : List ℕ). l ++ rest) (append_assoc before so_far.more (line_of telling v)) ∙ append_assoc before (so_far.more ++ line_of telling v) rest;
       sent = (
         TookPart-more a c (so_far.more ++ line_of telling v) rest (TookPart-append a b c so_far.more (line_of telling v) so_far.sent took),
-        λ none. due (first_none (line_of telling v) rest (last_none so_far.more (line_of telling v ++ rest) (sym (append_assoc so_far.more (line_of telling v) rest) ∙ none))),
+        λ none. due (first_empty (line_of telling v) rest (last_empty so_far.more (line_of telling v ++ rest) (sym (append_assoc so_far.more (line_of telling v) rest) ∙ none))),
       );
     }
 

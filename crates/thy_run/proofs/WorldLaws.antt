@@ -4,11 +4,11 @@ use Rattle.std.specs.Prelude.{slice_index, MatchBool}
 use Rattle.std.proofs.lemmas.Bool.{or_from, eq-eqb, eqb-true, ltb-true, lt-ltb}
 use Rattle.std.proofs.lemmas.List.{take_all}
 use Rattle.std.proofs.lemmas.List.Folds.{list_any-append}
-use Rattle.thy_base.specs.declared.block.Block.{Block}
-use Rattle.thy_base.specs.declared.mark.Mark.{Mark}
+use Rattle.thy_block.specs.declared.block.Block.{Block}
+use Rattle.thy_block.specs.declared.mark.Mark.{Mark}
 use Rattle.thy_base.specs.Config.{IsRising}
-use Rattle.thy_base.specs.Device.{Device, Crash, IsCut, cut_to}
-use Rattle.thy_base.proofs.CrashLemmas.{Crash-cut_to}
+use Rattle.thy_block.specs.Device.{Device, Crash, IsCut, cut_to}
+use Rattle.thy_block.proofs.CrashLemmas.{Crash-cut_to}
 use Rattle.thy_layout.specs.Decoded.{Decoded, Nothing as NothingLeft, Refused as RefusedImage, At}
 use Rattle.thy_view.specs.Kind.{KindOf}
 use Rattle.thy_text.specs.Event.{Event, Cut, Reload, Ended}
@@ -19,7 +19,7 @@ use Rattle.thy_view.specs.declared.did.Did.TheVariants.{Boot, Loaded, Restarted,
 use Rattle.thy_view.specs.declared.view.Phase.TheVariants.{Boot as BootPhase}
 use Rattle.thy_view.specs.declared.view.View.{View}
 use Rattle.thy_view.specs.Booting.{found_first, first_view, view_of_image}
-use Rattle.thy_base.specs.Marks.{mark}
+use Rattle.thy_block.specs.Marks.{mark}
 use Rattle.thy_view.specs.Views.{is_boot, is_halt, loads, halts, doubt_of}
 use Rattle.thy_view.specs.CoreStep.{CoreStep}
 use Rattle.thy_view.specs.Origin.{Origin, at}
@@ -380,7 +380,7 @@ first_leads o t (Some m) =
     (let same : mark m.epoch o.start.count ≡ k = cc in subst (λ (x : Mark). LeadsTo (told o t) [] x.count) same (start_leads (told o t))) in
     record { kept = there; other = there }
 
-first_reach : (o : Origin) (kept : Option Mark) → reach (view_of_image o.start.count (found_first o kept)) - o.start.count ≡ 0
+pub first_reach : (o : Origin) (kept : Option Mark) → reach (view_of_image o.start.count (found_first o kept)) - o.start.count ≡ 0
 first_reach o None = omega arith
 first_reach o (Some m) = omega arith
 

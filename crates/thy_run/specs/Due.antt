@@ -1,7 +1,7 @@
 -- What of the console is released to the terminal at the end of a cycle, and which cycles have nothing to report.
 use Rattle.std.specs.Prelude.{◌≡◌, ◌<◌, ◌⊎◌, ℕ, Bool, true, false, ◌&&◌, ◌==◌, nat_lt, if◌then◌else◌, List, [], length, drop, slice_index, Option, Some, None}
 use Rattle.thy_text.specs.Event.{Event}
-use Rattle.thy_base.specs.declared.mark.Mark.{Mark}
+use Rattle.thy_block.specs.declared.mark.Mark.{Mark}
 use Rattle.thy_view.specs.declared.did.Advance.{Advance}
 use Rattle.thy_view.specs.declared.did.Did.{Did}
 use Rattle.thy_view.specs.declared.did.Did.TheVariants.{Loaded, Restarted, Sealed, Committed}

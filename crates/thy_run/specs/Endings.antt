@@ -1,9 +1,9 @@
 -- Part of the claim.
 -- What a run leaves at its end: its last state, what its sinks took, and why it stopped.
 use Rattle.std.specs.Prelude.{◌≡◌, ℕ, ◌<◌, ◌≤◌, Bool, true, false, List, [], ◌∷◌, ◌++◌}
-use Rattle.thy_base.specs.Counts.{Rose}
-use Rattle.thy_base.specs.Device.{Device}
-use Rattle.thy_base.specs.Outside.{Stream}
+use Rattle.thy_block.specs.Counts.{Rose}
+use Rattle.thy_block.specs.Device.{Device}
+use Rattle.thy_block.specs.Outside.{Stream}
 use Rattle.thy_isa.specs.declared.state.Status.{Status}
 use Rattle.thy_isa.specs.Step.{State}
 use Rattle.thy_text.specs.Event.{Event, Ended as EndedEvent}

@@ -1,7 +1,7 @@
 -- Part of the claim.
 -- How the images that the cuts left determine the restarts after them.
 use Rattle.std.specs.Prelude.{◌≡◌, ◌≢◌, ℕ, ◌<◌, List, [], ◌∷◌, Option, Some, None}
-use Rattle.thy_base.specs.declared.block.Block.{Block}
+use Rattle.thy_block.specs.declared.block.Block.{Block}
 use Rattle.thy_layout.specs.Decoded.{Decoded, Nothing, At}
 use Rattle.thy_text.specs.Event.{Event, Cut, Restart, Reload}
 

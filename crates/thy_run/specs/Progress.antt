@@ -4,7 +4,7 @@
 -- which the counts of a run lie between the start's and the end's. The bounds on boot, epoch and drains rest on `boots`, `spent`
 -- and `queues` of `KeepsPace`.
 use Rattle.std.specs.Prelude.{◌≡◌, ◌≢◌, ℕ, zero, suc, ◌+◌, ◌*◌, ◌<◌, ◌≤◌, max, Bool, false, ◌&&◌, not, if◌then◌else◌, List, [], ◌∷◌}
-use Rattle.thy_base.specs.declared.config.Parameters.{Parameters}
+use Rattle.thy_block.specs.declared.parameters.Parameters.{Parameters}
 use Rattle.thy_view.specs.declared.did.Did.{Did}
 use Rattle.thy_view.specs.declared.did.Did.TheVariants.{Nothing}
 use Rattle.thy_view.specs.Kind.{KindOf}

@@ -1,10 +1,10 @@
 -- The program's loop over cycles, with what its sinks take.
 use Rattle.std.specs.Prelude.{◌≡◌, ℕ, ◌+◌, Bool, true, false, Option, Some, None, List, [], length}
-use Rattle.thy_base.specs.declared.nvm.Shape.{Shape}
-use Rattle.thy_base.specs.Device.{Device, fitted}
-use Rattle.thy_base.specs.Mix.{mix_start}
-use Rattle.thy_base.specs.Outside.{Stream, Took}
-use Rattle.thy_base.specs.declared.block.Block.{Block}
+use Rattle.thy_block.specs.declared.nvm.Shape.{Shape}
+use Rattle.thy_block.specs.Device.{Device, fitted}
+use Rattle.thy_block.specs.Mix.{mix_start}
+use Rattle.thy_block.specs.Outside.{Stream, Took}
+use Rattle.thy_block.specs.declared.block.Block.{Block}
 use Rattle.thy_view.specs.Kind.{IsFittedFor, KindOf}
 use Rattle.thy_text.specs.Lines.{report_of}
 use Rattle.thy_run.specs.Laws.{released_of}
@@ -15,8 +15,8 @@ use Rattle.thy_run.specs.declared.ending.Stop.TheVariants.{Terminal, Report}
 use Rattle.thy_run.specs.declared.ending.Ending.{Ending}
 use Rattle.thy_run.specs.declared.plan.Plan.{Plan}
 use Rattle.thy_run.specs.declared.progress.Progress.{Progress}
-use Rattle.thy_base.specs.declared.bytes.Bytes.{Bytes}
-use Rattle.thy_base.specs.Bytes.{bytes_of, room_of}
+use Rattle.thy_block.specs.declared.bytes.Bytes.{Bytes}
+use Rattle.thy_block.specs.Bytes.{bytes_of, room_of}
 use Rattle.thy_run.specs.Going.{origin_of, given_of, world_at, HasTurnsRoom, GoesOn, telling_of}
 use Rattle.thy_run.specs.World.{World}
 use Rattle.thy_run.specs.Endings.{HasRun}

@@ -1,8 +1,8 @@
 -- What the loop promises of its observer.
 use Rattle.std.specs.Prelude.{◌≡◌, ℕ, ◌+◌, List, length, Result, Ok, Err}
-use Rattle.thy_base.specs.Bytes.{bytes_of}
-use Rattle.thy_base.specs.Device.{Device}
-use Rattle.thy_base.specs.Outside.{Stream}
+use Rattle.thy_block.specs.Bytes.{bytes_of}
+use Rattle.thy_block.specs.Device.{Device}
+use Rattle.thy_block.specs.Outside.{Stream}
 use Rattle.thy_view.specs.declared.did.Stepped.{Stepped}
 use Rattle.thy_view.specs.Kind.{KindOf}
 use Rattle.thy_run.specs.declared.advance.Outcome.{Outcome}

@@ -1,7 +1,7 @@
 -- Part of the claim.
 -- What a sink took of a text that grows.
 use Rattle.std.specs.Prelude.{◌≡◌, ◌≢◌, Bool, true, false, ℕ, List, [], ◌++◌, take}
-use Rattle.thy_base.specs.Outside.{Stream, Took, TookPart}
+use Rattle.thy_block.specs.Outside.{Stream, Took, TookPart}
 use Rattle.thy_text.specs.declared.telling.Telling.{Telling}
 use Rattle.thy_text.specs.Event.{Event}
 use Rattle.thy_text.specs.Lines.{report_of}

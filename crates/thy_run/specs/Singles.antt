@@ -1,7 +1,7 @@
 -- A run without cuts that is made one cycle at a time.
 use Rattle.std.specs.Prelude.{◌≡◌, ℕ, ◌+◌, List, Option, Some, None}
-use Rattle.thy_base.specs.Device.{Device}
-use Rattle.thy_base.specs.Outside.{Stream}
+use Rattle.thy_block.specs.Device.{Device}
+use Rattle.thy_block.specs.Outside.{Stream}
 use Rattle.thy_run.specs.declared.plan.Plan.{Plan}
 use Rattle.thy_run.specs.declared.progress.Progress.{Progress}
 use Rattle.thy_run.specs.declared.singles.SingleCycle.{SingleCycle}

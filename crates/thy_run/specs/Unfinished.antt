@@ -1,9 +1,9 @@
 -- Part of the claim.
 -- A cycle that was begun and is not done, and what is left by a run that stopped.
 use Rattle.std.specs.Prelude.{◌≡◌, ◌≢◌, ◌⊎◌, ℕ, true, false, List, [], ◌++◌}
-use Rattle.thy_base.specs.Counts.{Rose}
-use Rattle.thy_base.specs.Device.{Device, HasFailed, IsFramed}
-use Rattle.thy_base.specs.Mix.{mix_pick}
+use Rattle.thy_block.specs.Counts.{Rose}
+use Rattle.thy_block.specs.Device.{Device, HasFailed, IsFramed}
+use Rattle.thy_block.specs.Mix.{mix_pick}
 use Rattle.thy_view.specs.Kind.{KindOf, LeavesSafe}
 use Rattle.thy_text.specs.Event.{Event}
 use Rattle.thy_view.specs.Views.{is_halt}

@@ -2,10 +2,10 @@
 -- A run: its cycles, the power cuts between them, and the events that they give.
 use Rattle.std.specs.Prelude.{◌≡◌, ℕ, zero, suc, ◌+◌, ◌-◌, ◌==◌, Bool, true, false, ◌&&◌, not, nat_lt, if◌then◌else◌, MatchBool, List, [], ◌∷◌, ◌++◌, length, slice_index, slice_index_or, take, drop, Option, None}
 use Rattle.thy_base.specs.declared.config.Config.{Config}
-use Rattle.thy_base.specs.declared.mark.Mark.{Mark}
-use Rattle.thy_base.specs.declared.mix.Mix.{Mix}
-use Rattle.thy_base.specs.Device.{Device, IsCut}
-use Rattle.thy_base.specs.Mix.{mix_start, mix_pick, mix_next}
+use Rattle.thy_block.specs.declared.mark.Mark.{Mark}
+use Rattle.thy_block.specs.declared.mix.Mix.{Mix}
+use Rattle.thy_block.specs.Device.{Device, IsCut}
+use Rattle.thy_block.specs.Mix.{mix_start, mix_pick, mix_next}
 use Rattle.thy_dram.specs.Contents.{lost}
 use Rattle.thy_layout.specs.Decoded.{Decoded}
 use Rattle.thy_view.specs.Kind.{KindOf, IsStep}

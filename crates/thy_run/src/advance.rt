@@ -1,8 +1,8 @@
 //! One cycle: a step of the machine, and if it has something to report, its events, what the sinks are due for them, and
 //! the cut that is due after it.
 ghost use Rattle.std.specs.Prelude.{◌≡◌, ◌↔◌, ◌<◌, ◌≤◌, ◌+◌, ◌^◌, ◌&&◌, ◌==◌, ◌⊎◌, ◌++◌, ◌∷◌, [], if◌then◌else◌, ℕ, List, true, nat_lt, length, slice_index, slice_index_or, IfOk, IfErr};
-ghost use Rattle.thy_base.specs.Bytes.{bytes_of, room_of};
-ghost use Rattle.thy_base.specs.Device.{Device as DeviceValue};
+ghost use Rattle.thy_block.specs.Bytes.{bytes_of, room_of};
+ghost use Rattle.thy_block.specs.Device.{Device as DeviceValue};
 ghost use Rattle.thy_run.specs.declared.advance.HartCycle.TheVariants.{Left};
 ghost use Rattle.thy_run.specs.Due.{is_told, IsQuiet, AreQuietBelow};
 ghost use Rattle.thy_run.specs.Going.{IsPlanned, HasDrawn, HasRoomToList, list_after, CanCut, IsCutOffTo};

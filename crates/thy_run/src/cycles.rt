@@ -1,6 +1,6 @@
 //! The cycles of a run, one after another.
 ghost use Rattle.std.specs.Prelude.{◌≡◌, ◌<◌, ◌+◌, [], length, IfOk};
-ghost use Rattle.thy_base.specs.Bytes.{bytes_of, room_of};
+ghost use Rattle.thy_block.specs.Bytes.{bytes_of, room_of};
 ghost use Rattle.thy_view.specs.Kind.{IsDramOf};
 ghost use Rattle.thy_run.specs.Going.{IsPlanned, HasTurnsRoom};
 ghost use Rattle.thy_run.specs.Promises.{IsAwaiting, RunsTo};

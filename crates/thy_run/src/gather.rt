@@ -1,6 +1,6 @@
 //! What the machine is read for after a step, before any event of it is made.
 ghost use Rattle.std.specs.Prelude.{◌≡◌, ◌&&◌, true, IfErr, OnOk, OnErr};
-ghost use Rattle.thy_base.specs.Device.{IsFramed};
+ghost use Rattle.thy_block.specs.Device.{IsFramed};
 ghost use Rattle.thy_view.specs.Kind.{CanRead, HasFailedToRead};
 ghost use Rattle.thy_view.specs.Views.{loads};
 ghost use Rattle.thy_run.specs.Due.{shows_console, IsTold};

@@ -1,6 +1,6 @@
 //! The events of a step. Each is made in a function of its own, so that a cycle without one makes none.
 ghost use Rattle.std.specs.Prelude.{◌≡◌, ◌≢◌, ◌++◌, ◌∷◌, [], true, is_some, if◌then◌else◌, OnOk, OnErr, IfOk};
-ghost use Rattle.thy_base.specs.Bytes.{bytes_of};
+ghost use Rattle.thy_block.specs.Bytes.{bytes_of};
 ghost use Rattle.thy_view.specs.Origin.{Origin};
 ghost use Rattle.thy_view.specs.declared.view.View.{View};
 ghost use Rattle.thy_run.specs.World.{did_told};

@@ -2,7 +2,7 @@
 //! device and an observer, and what it calls becomes part of it. An instruction's cycles are taken in a row where the machine takes
 //! them so.
 ghost use Rattle.std.specs.Prelude.{◌≡◌, ◌≤◌, ◌<◌, ◌+◌, ℕ, List, true};
-ghost use Rattle.thy_base.specs.Device.{Device as DeviceValue};
+ghost use Rattle.thy_block.specs.Device.{Device as DeviceValue};
 ghost use Rattle.thy_view.specs.Advances.{IsOthersTurn};
 ghost use Rattle.thy_run.specs.Due.{AreQuietBelow};
 ghost use Rattle.thy_run.specs.Going.{IsPlanned, HasDrawn};

@@ -1,6 +1,6 @@
 //! A run without cuts that is made one cycle at a time: between two of them its caller may look at the machine and the device.
 ghost use Rattle.std.specs.Prelude.{◌≡◌, ◌<◌, ℕ, List, [], IfOk};
-ghost use Rattle.thy_base.specs.Device.{Device as DeviceValue};
+ghost use Rattle.thy_block.specs.Device.{Device as DeviceValue};
 ghost use Rattle.thy_run.specs.Going.{IsPlanned, GoesOn};
 ghost use Rattle.thy_run.specs.Rounds.{ending_of, IsStarted};
 ghost use Rattle.thy_run.specs.Sending.{sinks};

@@ -1,6 +1,6 @@
 -- In the boot of a checkpoint that was found no mark is sealed.
 use Rattle.std.proofs.Common.{◌≡◌, Some, None, sym, ◌∙◌, ap, inl, inr}
-use Rattle.thy_base.specs.declared.mark.Mark.{Mark}
+use Rattle.thy_block.specs.declared.mark.Mark.{Mark}
 use Rattle.thy_view.specs.declared.view.View.{View}
 use Rattle.thy_view.specs.Origin.{Origin}
 use Rattle.thy_scheme.specs.Boots.{IsBootView}

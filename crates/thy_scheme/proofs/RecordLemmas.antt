@@ -1,9 +1,9 @@
 -- The console of a state that a processor and the blocks of memory make, and what blocks of a slot leave of the marks.
 use Rattle.std.proofs.Common.{◌≡◌, ◌≤◌, List, length, refl, inr, arith, Bool, true, false, if◌then◌else◌}
-use Rattle.thy_base.specs.declared.block.Block.{Block}
-use Rattle.thy_base.specs.declared.config.Parameters.{Parameters}
-use Rattle.thy_base.specs.Geometry.{IsInRange, memory_blocks, console_room}
-use Rattle.thy_base.specs.Device.{Device}
+use Rattle.thy_block.specs.declared.block.Block.{Block}
+use Rattle.thy_block.specs.declared.parameters.Parameters.{Parameters}
+use Rattle.thy_block.specs.Geometry.{IsInRange, memory_blocks, console_room}
+use Rattle.thy_block.specs.Device.{Device}
 use Rattle.thy_flat.proofs.MemoryLaws.{length-console_bytes}
 use Rattle.thy_isa.specs.declared.state.CpuState.{CpuState}
 use Rattle.thy_isa.specs.OnBlocks.{state_from}

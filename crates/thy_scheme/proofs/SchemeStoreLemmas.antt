@@ -1,11 +1,11 @@
 -- A load acts on the NVM once, and its failure is counted.
 use Rattle.std.proofs.Common.{◌≡◌, ℕ, ◌<◌, true, false, length, Result, Ok, Err, OnOk, OnErr, refl, ap, ◌∙◌, inl, arith}
 use Rattle.std.proofs.lemmas.Result.{on_err_weaker}
-use Rattle.thy_base.specs.declared.block.Block.{Block}
-use Rattle.thy_base.specs.declared.nvm.NvmError.{NvmError}
-use Rattle.thy_base.specs.Counts.{Rose}
-use Rattle.thy_base.specs.Device.{Device, HasFailed, IsFramed, failed_calls, CountsFault, CountsOneFault}
-use Rattle.thy_base.proofs.DeviceLemmas.{counts_once}
+use Rattle.thy_block.specs.declared.block.Block.{Block}
+use Rattle.thy_block.specs.declared.nvm.NvmError.{NvmError}
+use Rattle.thy_block.specs.Counts.{Rose}
+use Rattle.thy_block.specs.Device.{Device, HasFailed, IsFramed, failed_calls, CountsFault, CountsOneFault}
+use Rattle.thy_block.proofs.DeviceLemmas.{counts_once}
 use Rattle.thy_view.specs.Action.{ReadAt}
 use Rattle.thy_scheme.specs.Scheme.{SchemeOf}
 use Rattle.thy_scheme.specs.Calls.{IsOneAccess}

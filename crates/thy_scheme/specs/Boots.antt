@@ -1,8 +1,8 @@
 -- What the calls of a scheme promise in the boot.
 use Rattle.std.specs.Prelude.{◌≡◌, ◌⊎◌, ℕ, ◌+◌, ◌≤◌, true, false, Some, None}
-use Rattle.thy_base.specs.declared.mark.Mark.{Mark}
-use Rattle.thy_base.specs.Device.{Device, HasFailed}
-use Rattle.thy_base.specs.Marks.{mark}
+use Rattle.thy_block.specs.declared.mark.Mark.{Mark}
+use Rattle.thy_block.specs.Device.{Device, HasFailed}
+use Rattle.thy_block.specs.Marks.{mark}
 use Rattle.thy_dram.specs.Contents.{drained}
 use Rattle.thy_isa.specs.declared.state.CpuState.{CpuState}
 use Rattle.thy_isa.specs.OnBlocks.{state_from}

@@ -1,7 +1,7 @@
 -- Part of the claim.
 -- The checkpoints of a machine whose boot is over.
 use Rattle.std.specs.Prelude.{true, false, if◌then◌else◌, Bool, Option, None, unwrap_or}
-use Rattle.thy_base.specs.declared.mark.Mark.{Mark}
+use Rattle.thy_block.specs.declared.mark.Mark.{Mark}
 use Rattle.thy_layout.specs.declared.engine_step.EngineStep.{EngineStep}
 use Rattle.thy_layout.specs.declared.engine_step.EngineStep.TheVariants.{CommitWritten, Committed}
 

@@ -1,10 +1,10 @@
 -- Part of the claim.
 -- What each call of a scheme makes exactly, if it succeeds.
 use Rattle.std.specs.Prelude.{◌≡◌, ℕ}
-use Rattle.thy_base.specs.declared.block.Block.{Block}
-use Rattle.thy_base.specs.declared.config.Parameters.{Parameters}
-use Rattle.thy_base.specs.declared.store.Stored.{Stored}
-use Rattle.thy_base.specs.Device.{Device}
+use Rattle.thy_block.specs.declared.block.Block.{Block}
+use Rattle.thy_block.specs.declared.parameters.Parameters.{Parameters}
+use Rattle.thy_block.specs.declared.store.Stored.{Stored}
+use Rattle.thy_block.specs.Device.{Device}
 use Rattle.thy_dram.specs.Contents.{Contents}
 use Rattle.thy_isa.specs.declared.state.CpuState.{CpuState}
 use Rattle.thy_isa.specs.Step.{State}

@@ -1,10 +1,10 @@
 -- Part of the claim.
 -- What a scheme of checkpoints is to the machine above it.
 use Rattle.std.specs.Prelude.{◌≡◌, ℕ, false, Bool, List}
-use Rattle.thy_base.specs.declared.block.Block.{Block}
-use Rattle.thy_base.specs.declared.config.Parameters.{Parameters}
-use Rattle.thy_base.specs.Device.{Device}
-use Rattle.thy_base.specs.Store.{Holding}
+use Rattle.thy_block.specs.declared.block.Block.{Block}
+use Rattle.thy_block.specs.declared.parameters.Parameters.{Parameters}
+use Rattle.thy_block.specs.Device.{Device}
+use Rattle.thy_block.specs.Store.{Holding}
 use Rattle.thy_dram.specs.Contents.{Contents}
 use Rattle.thy_layout.specs.Decoded.{Reading}
 use Rattle.thy_layout.specs.declared.start.Start.{Start}

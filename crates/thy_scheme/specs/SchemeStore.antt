@@ -1,9 +1,9 @@
 -- Part of the claim.
 -- A scheme as a store of blocks.
 use Rattle.std.specs.Prelude.{◌≡◌, true, false}
-use Rattle.thy_base.specs.Counts.{Rose}
-use Rattle.thy_base.specs.Device.{Device, failed_calls}
-use Rattle.thy_base.specs.Store.{Holding}
+use Rattle.thy_block.specs.Counts.{Rose}
+use Rattle.thy_block.specs.Device.{Device, failed_calls}
+use Rattle.thy_block.specs.Store.{Holding}
 use Rattle.thy_scheme.specs.Scheme.{SchemeOf}
 use Rattle.thy_scheme.specs.Calls.{IsOneAccess}
 use Rattle.thy_scheme.specs.declared.scheme_store.SchemeStore.{SchemeStore}

@@ -1,8 +1,8 @@
 //! What a scheme of checkpoints is to the machine above it.
 ghost use Rattle.std.specs.Prelude.{◌≡◌, ◌&&◌, ◌<◌, true, false, length, IfOk, OnOk, OnErr};
-ghost use Rattle.thy_base.specs.declared.config.Parameters.{Parameters};
-ghost use Rattle.thy_base.specs.Device.{Device, HasFailed, IsFramed, CountsFault, block_at};
-ghost use Rattle.thy_base.specs.Store.{IsKeptByLoad};
+ghost use Rattle.thy_block.specs.declared.parameters.Parameters.{Parameters};
+ghost use Rattle.thy_block.specs.Device.{Device, HasFailed, IsFramed, CountsFault, block_at};
+ghost use Rattle.thy_block.specs.Store.{IsKeptByLoad};
 ghost use Rattle.thy_dram.specs.Contents.{lost};
 ghost use Rattle.thy_isa.specs.Step.{state_of};
 ghost use Rattle.thy_view.specs.Kind.{IsDramOf};
@@ -17,7 +17,7 @@ ghost use Rattle.thy_scheme.specs.Restart.{WritesNothing};
 ghost use Rattle.thy_scheme.specs.Laws.{IsLawful};
 
 use std::alloc::{AllocError, Global};
-use thy_base::{Block, Geometry, Nvm, NvmError, Stored};
+use thy_block::{Block, Geometry, Nvm, NvmError, Stored};
 use thy_dram::Dram;
 use thy_isa::CpuState;
 use thy_layout::{EngineStep, Start};

@@ -1,6 +1,6 @@
 //! A scheme as a store of blocks.
 use crate::Scheme;
-use thy_base::{Block, BlockStore, Nvm, NvmError, Stored};
+use thy_block::{Block, BlockStore, Nvm, NvmError, Stored};
 
 /// A scheme as the store of blocks below cache and hart.
 #[derive(Drop)]

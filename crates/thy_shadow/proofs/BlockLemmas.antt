@@ -1,8 +1,8 @@
 -- Blocks of memory, as they were stored last and as they were committed.
 use Rattle.std.proofs.Common.{◌≡◌, ℕ, ◌<◌, length, arith}
 use Rattle.std.proofs.lemmas.List.FromFn.{length-map-range_with_len, get_or-map-range_with_len}
-use Rattle.thy_base.specs.Device.{Device, block_at, zero_block}
-use Rattle.thy_base.specs.Geometry.{memory_blocks}
+use Rattle.thy_block.specs.Device.{Device, block_at, zero_block}
+use Rattle.thy_block.specs.Geometry.{memory_blocks}
 use Rattle.thy_pool.specs.Holding.{works, commits}
 use Rattle.thy_pool.specs.State.{State, committed_of, work_of}
 

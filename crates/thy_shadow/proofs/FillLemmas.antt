@@ -1,7 +1,7 @@
 -- A pool that lists the map of a slot is what the boot lists.
 use Rattle.std.proofs.Common.{◌≡◌, List, sym, ◌∙◌, ap}
-use Rattle.thy_base.specs.declared.block.Block.{Block}
-use Rattle.thy_base.specs.declared.config.Parameters.{Parameters}
+use Rattle.thy_block.specs.declared.block.Block.{Block}
+use Rattle.thy_block.specs.declared.parameters.Parameters.{Parameters}
 use Rattle.thy_table.specs.Listing.{entry_at}
 use Rattle.thy_boot.specs.Filling.{ListsOn}
 use Rattle.thy_shadow_image.specs.Slots.{table_in}

@@ -2,7 +2,7 @@
 ghost use Rattle.std.specs.Prelude.{◌≡◌};
 
 use crate::fills::Relist;
-use thy_base::{Block, Geometry, Nvm, NvmError};
+use thy_block::{Block, Geometry, Nvm, NvmError};
 use thy_engine::Checkpoints;
 use thy_layout::EngineStep;
 use thy_pool::Pool;

@@ -1,11 +1,11 @@
 //! What the boot lists.
 ghost use Rattle.std.specs.Prelude.{◌≡◌, false, length, OnOk, OnErr};
-ghost use Rattle.thy_base.specs.Places.{header_place};
+ghost use Rattle.thy_block.specs.Places.{header_place};
 ghost use Rattle.thy_view.specs.Action.{ReadAt};
 ghost use Rattle.thy_boot.specs.Loads.{Takes};
 ghost use Rattle.thy_shadow_image.specs.Places.{image_blocks};
 
-use thy_base::{Block, Geometry, HEADER_PLACE, Nvm, NvmError};
+use thy_block::{Block, Geometry, HEADER_PLACE, Nvm, NvmError};
 use thy_boot::Fills;
 use thy_isa::MachState;
 use thy_pool::Pool;

@@ -1,7 +1,7 @@
 //! Power, loads and stores.
 use crate::fills::Relist;
 use std::alloc::{AllocError, Global};
-use thy_base::{Block, Geometry, Nvm, NvmError, Stored};
+use thy_block::{Block, Geometry, Nvm, NvmError, Stored};
 use thy_dram::Dram;
 use thy_engine::EngineStage;
 use thy_parts::Parts;

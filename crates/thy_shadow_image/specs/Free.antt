@@ -1,8 +1,8 @@
 -- Which writes leave a checkpoint of shadow paging alone.
 use Rattle.std.specs.Prelude.{◌≢◌, ℕ, ◌+◌, ◌<◌, List, ◌∷◌, Contains, Option}
-use Rattle.thy_base.specs.declared.block.Block.{Block}
-use Rattle.thy_base.specs.declared.config.Parameters.{Parameters}
-use Rattle.thy_base.specs.Places.{commit_place}
+use Rattle.thy_block.specs.declared.block.Block.{Block}
+use Rattle.thy_block.specs.declared.parameters.Parameters.{Parameters}
+use Rattle.thy_block.specs.Places.{commit_place}
 use Rattle.thy_layout.specs.Entries.{Lists}
 use Rattle.thy_layout.specs.Layout.{looked_by}
 use Rattle.thy_layout.specs.Commit.{slot_of_epoch}

@@ -2,9 +2,9 @@
 -- The places of an image of shadow paging: header, commit block, two slots, and behind them a pool of pages. A
 -- checkpoint has each page of memory in a page of the pool.
 use Rattle.std.specs.Prelude.{ℕ, ◌+◌, ◌*◌, ◌/◌, ◌%◌, List, Option, Some, None}
-use Rattle.thy_base.specs.declared.config.Parameters.{Parameters}
-use Rattle.thy_base.specs.Places.{record_blocks}
-use Rattle.thy_base.specs.Store.{page_of}
+use Rattle.thy_block.specs.declared.parameters.Parameters.{Parameters}
+use Rattle.thy_block.specs.Places.{record_blocks}
+use Rattle.thy_block.specs.Store.{page_of}
 use Rattle.thy_layout.specs.Entries.{entry_at}
 
 -- the number of the scheme, as headers have it

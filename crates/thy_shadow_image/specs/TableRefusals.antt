@@ -1,6 +1,6 @@
 -- What a refusal of a map says: which entries are at fault, and that these are the first.
 use Rattle.std.specs.Prelude.{◌≡◌, ℕ, ◌*◌, ◌<◌, ◌≤◌, List, length, Option, Some, None}
-use Rattle.thy_base.specs.declared.config.Parameters.{Parameters}
+use Rattle.thy_block.specs.declared.parameters.Parameters.{Parameters}
 use Rattle.thy_layout.specs.declared.bad_image.BadImage.{BadImage}
 use Rattle.thy_layout.specs.Entries.{entry_at, Lists}
 use Rattle.thy_layout.specs.TableRefusals.{Says}

@@ -3,7 +3,7 @@ use crate::index::places;
 use crate::places::{SCHEME, blocks, slot as first_of_slot, slot_blocks};
 use crate::slot_faults::slot_fault;
 use std::alloc::{AllocError, Global};
-use thy_base::{Block, Geometry};
+use thy_block::{Block, Geometry};
 use thy_layout::{BadImage, ImageLayout, epoch_in, slot_of_epoch};
 
 /// Images of shadow paging: a slot has a map, which lists the page of the pool that has each page of memory.

@@ -1,6 +1,6 @@
 //! Where an image has each block of memory: one list of numbers, made from the map of its slot.
 ghost use Rattle.std.specs.Prelude.{◌≡◌, ◌*◌, ◌<◌, length, IfOk};
-ghost use Rattle.thy_base.specs.Geometry.{memory_blocks};
+ghost use Rattle.thy_block.specs.Geometry.{memory_blocks};
 ghost use Rattle.thy_layout.specs.Files.{blocks_of};
 ghost use Rattle.thy_shadow_image.specs.CheckpointParts.{memory_places};
 ghost use Rattle.thy_shadow_image.specs.Places.{slot_blocks, place_of};
@@ -9,7 +9,7 @@ ghost use Rattle.thy_shadow_image.specs.Slots.{IsMap, table_in};
 use crate::map::mapped_page;
 use crate::places::pool;
 use std::alloc::{AllocError, Global};
-use thy_base::Geometry;
+use thy_block::Geometry;
 
 // The number of the block in which the checkpoint of the slot with these bytes has block `b` of memory.
 fn place(slot: &[u8], b: u64, geometry: &Geometry) -> u64

@@ -6,7 +6,7 @@ ghost use Rattle.thy_shadow_image.specs.Places.{map_blocks as blocks_of_map, slo
 ghost use Rattle.thy_shadow_image.specs.Slots.{IsMap, table_in, stray as stray_at, index_fault as fault_of_index};
 
 use crate::places::{map_blocks, pool_pages};
-use thy_base::Geometry;
+use thy_block::Geometry;
 use thy_layout::{BadImage, entry, table_behind};
 
 // The map of a slot.

@@ -1,10 +1,10 @@
 //! The numbers of an image's blocks, and its header.
 ghost use Rattle.std.specs.Prelude.{◌≡◌, ◌<◌};
-ghost use Rattle.thy_base.specs.Geometry.{IsInRange};
+ghost use Rattle.thy_block.specs.Geometry.{IsInRange};
 ghost use Rattle.thy_layout.specs.Header.{header_of};
 ghost use Rattle.thy_shadow_image.specs.Places.{scheme_number, map_blocks as blocks_of_map, slot_blocks as blocks_of_slot, slot_place, pool_pages as pages_of_pool, pool_place, image_blocks};
 
-use thy_base::{Block, Geometry};
+use thy_block::{Block, Geometry};
 use thy_layout::header_block_of;
 
 /// The number of this scheme.

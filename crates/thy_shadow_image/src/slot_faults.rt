@@ -5,7 +5,7 @@ ghost use Rattle.thy_shadow_image.specs.Places.{slot_blocks};
 ghost use Rattle.thy_shadow_image.specs.Slots.{table_in, table_fault as fault_of_table, slot_fault as fault_of_slot};
 
 use crate::map::{index_fault, map_in};
-use thy_base::Geometry;
+use thy_block::Geometry;
 use thy_layout::{BadImage, fault_with_table, twice_fault};
 
 // The first fault of the map in these bytes of a slot, if it has one.

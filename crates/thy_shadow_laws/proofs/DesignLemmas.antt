@@ -2,12 +2,12 @@
 use Rattle.std.proofs.Common.{◌≡◌, ◌≢◌, ℕ, ◌+◌, ◌/◌, ◌%◌, ◌<◌, true, Option, Some, None, is_some, refl, sym, ◌∙◌, ap, arith, ◌-◌, ◌*◌, ◌^◌, ◌≤◌, Bool, false, is_none, List, ◌∷◌, length, map, subst, inl, inr}
 use Rattle.std.proofs.lemmas.List.FromFn.{length-map-range_with_len}
 use Rattle.std.proofs.lemmas.List.Sums.{count_by-le-length}
-use Rattle.thy_base.specs.declared.block.Block.{Block}
-use Rattle.thy_base.specs.Device.{Device, block_at, newest, written_to}
-use Rattle.thy_base.specs.declared.config.Parameters.{Parameters}
-use Rattle.thy_base.specs.Geometry.{memory_blocks}
-use Rattle.thy_base.proofs.BasicLemmas.{not_first}
-use Rattle.thy_base.proofs.DeviceLemmas.{length-written_to}
+use Rattle.thy_block.specs.declared.block.Block.{Block}
+use Rattle.thy_block.specs.Device.{Device, block_at, newest, written_to}
+use Rattle.thy_block.specs.declared.parameters.Parameters.{Parameters}
+use Rattle.thy_block.specs.Geometry.{memory_blocks}
+use Rattle.thy_block.proofs.BasicLemmas.{not_first}
+use Rattle.thy_block.proofs.DeviceLemmas.{length-written_to}
 use Rattle.thy_table.specs.Listing.{entry_at, free_count}
 use Rattle.thy_table.proofs.ListingLaws.{entry_at-cleared, free_count-all, free_count-mapped}
 use Rattle.thy_layout.specs.Commit.{commit_of, epoch_of}

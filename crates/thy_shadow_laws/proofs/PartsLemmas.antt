@@ -1,10 +1,10 @@
 -- Shadow paging is a scheme of lawful parts: what holds when power comes on, at the end of a boot, and of all of it.
 use Rattle.std.proofs.Common.{◌≡◌, ℕ, ◌<◌, nat_lt, true, false, List, length, Some, refl, sym, ◌∙◌, ap, subst, arith}
-use Rattle.thy_base.specs.declared.block.Block.{Block}
-use Rattle.thy_base.specs.declared.config.Parameters.{Parameters}
-use Rattle.thy_base.specs.Device.{Device, block_at}
-use Rattle.thy_base.specs.Geometry.{IsInRange, memory_blocks}
-use Rattle.thy_base.specs.Store.{page_of}
+use Rattle.thy_block.specs.declared.block.Block.{Block}
+use Rattle.thy_block.specs.declared.parameters.Parameters.{Parameters}
+use Rattle.thy_block.specs.Device.{Device, block_at}
+use Rattle.thy_block.specs.Geometry.{IsInRange, memory_blocks}
+use Rattle.thy_block.specs.Store.{page_of}
 use Rattle.thy_dram.specs.Contents.{Contents}
 use Rattle.thy_isa.specs.Step.{State as Plain}
 use Rattle.thy_layout.specs.Commit.{commit_of, epoch_of}

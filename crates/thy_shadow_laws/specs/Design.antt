@@ -1,12 +1,12 @@
 -- Part of the claim.
 -- Shadow paging as a scheme of parts. A position is a block of the frames, 64 to a frame.
 use Rattle.std.specs.Prelude.{◌≡◌, ◌≢◌, ℕ, ◌+◌, ◌-◌, ◌*◌, ◌/◌, ◌%◌, ◌<◌, Bool, true, false, is_none, is_some, List, length, None}
-use Rattle.thy_base.specs.declared.block.Block.{Block}
-use Rattle.thy_base.specs.declared.store.Stored.{Stored}
-use Rattle.thy_base.specs.declared.store.Stored.TheVariants.{Done, CopyFirst}
-use Rattle.thy_base.specs.Device.{Device, newest}
-use Rattle.thy_base.specs.Places.{header_place}
-use Rattle.thy_base.specs.Store.{page_of}
+use Rattle.thy_block.specs.declared.block.Block.{Block}
+use Rattle.thy_block.specs.declared.store.Stored.{Stored}
+use Rattle.thy_block.specs.declared.store.Stored.TheVariants.{Done, CopyFirst}
+use Rattle.thy_block.specs.Device.{Device, newest}
+use Rattle.thy_block.specs.Places.{header_place}
+use Rattle.thy_block.specs.Store.{page_of}
 use Rattle.thy_layout.specs.declared.engine_step.EngineStep.TheVariants.{PageBlock}
 use Rattle.thy_layout.specs.Commit.{slot_of_epoch}
 use Rattle.thy_layout.specs.TableSlots.{table_block_of}

@@ -7,10 +7,10 @@ use Rattle.std.proofs.lemmas.List.{drop-drop, get_or_append_left, get_or-append_
 use Rattle.std.proofs.lemmas.List.Elements.{filter-append, Contains-get_or}
 use Rattle.std.proofs.Math.Nat.{add-mul, mul_assoc, mul_comm, suc-mul}
 use Rattle.std.proofs.lemmas.Nat.{div-add-mod', div-mul-add, mod-mul-add, mod_below, div_below}
-use Rattle.thy_base.specs.declared.block.Block.{Block}
-use Rattle.thy_base.specs.declared.nvm.Write.{Write}
-use Rattle.thy_base.specs.Device.{Device, Crash, zero_block, block_at, queued_for}
-use Rattle.thy_base.proofs.DeviceLemmas.{queued_for-append}
+use Rattle.thy_block.specs.declared.block.Block.{Block}
+use Rattle.thy_block.specs.declared.nvm.Write.{Write}
+use Rattle.thy_block.specs.Device.{Device, Crash, zero_block, block_at, queued_for}
+use Rattle.thy_block.proofs.DeviceLemmas.{queued_for-append}
 use Rattle.thy_sweep.specs.declared.choices.Choice.{Choice}
 use Rattle.thy_sweep.specs.Choices.{Place, place, place_in, lists_block, listed, with_write, with_place, places_from, places_of, count_of, chosen, index_of, ArePlaces, AreNumbered, NumberImages}
 use Rattle.thy_sweep.specs.Images.{is_same_block, distinct, choices_at, images_from, count_from, cut_images}

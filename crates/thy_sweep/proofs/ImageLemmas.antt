@@ -6,10 +6,10 @@ use Rattle.std.proofs.lemmas.Bool.{cases_lt}
 use Rattle.std.proofs.lemmas.List.{get_or_past, length-map}
 use Rattle.std.proofs.lemmas.List.Elements.{Contains-push, Contains-push_cases, Contains-append_left, Contains-append_right, Contains-append_cases}
 use Rattle.std.proofs.lemmas.Slice.Eq.{bytes_eq-Decides}
-use Rattle.thy_base.specs.declared.block.Block.{Block}
-use Rattle.thy_base.specs.declared.nvm.Write.{Write}
-use Rattle.thy_base.specs.Device.{Device, Crash, zero_block, block_at, queued_for, possible}
-use Rattle.thy_base.proofs.CrashLemmas.{Crash-of_blocks, Crash-whole}
+use Rattle.thy_block.specs.declared.block.Block.{Block}
+use Rattle.thy_block.specs.declared.nvm.Write.{Write}
+use Rattle.thy_block.specs.Device.{Device, Crash, zero_block, block_at, queued_for, possible}
+use Rattle.thy_block.proofs.CrashLemmas.{Crash-of_blocks, Crash-whole}
 use Rattle.thy_sweep.specs.Images.{is_same_block, distinct, choices_at, images_from, count_from, AreDistinct, ListCrashes, ListEachOnce, CountImages}
 
 -- ---- what a list has

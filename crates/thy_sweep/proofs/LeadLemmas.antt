@@ -4,7 +4,7 @@ use Rattle.std.proofs.lemmas.Bool.{cases_lt, eq-eqb}
 use Rattle.std.proofs.lemmas.List.{append-nil, length_push, at_drop_more, set_split}
 use Rattle.std.proofs.lemmas.List.Elements.{All-nil, All-cons, All-head, All-tail, All-push, All-weaker, Contains-push, Contains-append_left}
 use Rattle.std.proofs.lemmas.Grind.{common_steps}
-use Rattle.thy_base.specs.declared.mark.Mark.{Mark}
+use Rattle.thy_block.specs.declared.mark.Mark.{Mark}
 use Rattle.thy_sweep.specs.declared.lead.Booted.{Booted}
 use Rattle.thy_sweep.specs.declared.lead.Lead.{Lead}
 use Rattle.thy_sweep.specs.Leads.{is_same, cycles_to, Counts, IsLeadOf, lists, AreApart, AreLeadsOf, first_lead, with_boot, counted_in, noted, LeadsAreOfBoots}

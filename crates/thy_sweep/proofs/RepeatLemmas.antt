@@ -2,9 +2,9 @@
 use Rattle.std.proofs.Common.{◌≡◌, ℕ, zero, suc, ◌≤◌, nat_lt, if◌then◌else◌, true, false, List, [], ◌∷◌, ◌++◌, length, take, drop, slice_set, refl, sym, ◌∙◌, ap, subst, inl, inr, arith}
 use Rattle.std.proofs.lemmas.Bool.{cases_lt}
 use Rattle.std.proofs.lemmas.List.{set_past, set-get_or, get_or-set_same}
-use Rattle.thy_base.specs.declared.block.Block.{Block}
-use Rattle.thy_base.specs.declared.nvm.Write.{Write}
-use Rattle.thy_base.specs.Device.{Device, zero_block, block_at, applied, surplus, written_to, write_of, settled, drained}
+use Rattle.thy_block.specs.declared.block.Block.{Block}
+use Rattle.thy_block.specs.declared.nvm.Write.{Write}
+use Rattle.thy_block.specs.Device.{Device, zero_block, block_at, applied, surplus, written_to, write_of, settled, drained}
 use Rattle.thy_sweep.specs.Repeats.{HasSameFirst, SameQueueIsSameDevice, IsSeen, StaysSince}
 
 -- a block that is written over a place and is the one that was there

@@ -1,8 +1,8 @@
 -- The images that a cut can leave of a device, by number: the places for which writes are queued, and the blocks at each.
 use Rattle.std.specs.Prelude.{◌≡◌, ℕ, suc, ◌+◌, ◌*◌, ◌/◌, ◌%◌, ◌<◌, ◌==◌, Bool, true, false, if◌then◌else◌, List, [], ◌∷◌, ◌++◌, length, slice_set, slice_index_or}
-use Rattle.thy_base.specs.declared.block.Block.{Block}
-use Rattle.thy_base.specs.declared.nvm.Write.{Write}
-use Rattle.thy_base.specs.Device.{Device, block_at, queued_for}
+use Rattle.thy_block.specs.declared.block.Block.{Block}
+use Rattle.thy_block.specs.declared.nvm.Write.{Write}
+use Rattle.thy_block.specs.Device.{Device, block_at, queued_for}
 use Rattle.thy_sweep.specs.declared.choices.Choice.{Choice}
 use Rattle.thy_sweep.specs.Images.{is_same_block, distinct, cut_images}
 

@@ -1,7 +1,7 @@
 -- What a sweep keeps of the boots of one cycle: to which checkpoint they led, how many, and how long they took.
 use Rattle.std.specs.Prelude.{◌≡◌, ℕ, ◌-◌, ◌^◌, ◌<◌, ◌≤◌, ◌==◌, ◌&&◌, min, max, Bool, true, false, if◌then◌else◌, List, [], ◌∷◌, ◌++◌, length, All, Contains, Option, Some, None}
-use Rattle.thy_base.specs.declared.mark.Mark.{Mark}
-use Rattle.thy_base.specs.Counts.{next}
+use Rattle.thy_block.specs.declared.mark.Mark.{Mark}
+use Rattle.thy_block.specs.Counts.{next}
 use Rattle.thy_sweep.specs.declared.lead.Booted.{Booted}
 use Rattle.thy_sweep.specs.declared.lead.Lead.{Lead}
 

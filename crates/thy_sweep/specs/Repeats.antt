@@ -1,8 +1,8 @@
 -- How a cycle is recognised that leaves the device as it was.
 use Rattle.std.specs.Prelude.{◌≡◌, ◌⊎◌, ℕ, List, ◌∷◌}
-use Rattle.thy_base.specs.declared.block.Block.{Block}
-use Rattle.thy_base.specs.declared.nvm.Write.{Write}
-use Rattle.thy_base.specs.Device.{Device, block_at, written_to, settled, drained}
+use Rattle.thy_block.specs.declared.block.Block.{Block}
+use Rattle.thy_block.specs.declared.nvm.Write.{Write}
+use Rattle.thy_block.specs.Device.{Device, block_at, written_to, settled, drained}
 
 -- a block was written
 pub record WasWritten (n new : Device) : Type 0 where

@@ -1,7 +1,7 @@
 -- What the rows of a sweep come to.
 use Rattle.std.specs.Prelude.{ℕ, ◌+◌, ◌-◌, ◌*◌, ◌^◌, min, max, nat_lt, if◌then◌else◌, List, [], ◌∷◌, length, Option, Some, None}
-use Rattle.thy_base.specs.declared.mark.Mark.{Mark}
-use Rattle.thy_base.specs.Counts.{next}
+use Rattle.thy_block.specs.declared.mark.Mark.{Mark}
+use Rattle.thy_block.specs.Counts.{next}
 use Rattle.thy_sweep.specs.declared.lead.Lead.{Lead}
 use Rattle.thy_sweep.specs.declared.sums.Sums.{Sums}
 

@@ -1,13 +1,13 @@
 //! Which blocks a power cut can leave of a device, and the images that they make, by number.
 ghost use Rattle.std.specs.Prelude.{◌≡◌, ◌<◌, ◌+◌, ◌-◌, ◌*◌, ◌/◌, ◌^◌, min, length, map, IfOk, OnOk};
-ghost use Rattle.thy_base.specs.Device.{block_at};
+ghost use Rattle.thy_block.specs.Device.{block_at};
 ghost use Rattle.thy_nvm.specs.Overlaid.{on_overlay, put_in};
 ghost use Rattle.thy_sweep.specs.Images.{choices_at, is_same_block};
 ghost use Rattle.thy_sweep.specs.Choices.{ArePlaces, NumberImages, chosen_on, count_of, index_of, listed, lists_block, number_of, place, place_in, places_of, with_write};
 
 use std::alloc::{AllocError, Global};
 use std::marker::Model;
-use thy_base::{Block, Write};
+use thy_block::{Block, Write};
 use thy_nvm::{MemNvm, Overlay};
 
 /// A place for which writes are queued, and the blocks that a cut can leave there, each once: first the one that has landed, then

@@ -3,7 +3,7 @@ ghost use Rattle.std.specs.Prelude.{◌≡◌, ◌++◌, ◌∷◌, [], OnOk, On
 ghost use Rattle.thy_sweep.specs.Leads.{is_same, lists, first_lead, with_boot, counted_in, noted, LeadsAreOfBoots};
 
 use std::alloc::AllocError;
-use thy_base::Mark;
+use thy_block::Mark;
 
 /// How a boot over what a cut can leave has ended.
 #[derive(Clone, Copy, Debug)]

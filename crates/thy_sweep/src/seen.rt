@@ -1,9 +1,9 @@
 //! What was seen of a device after a cycle, and whether it is still so.
 ghost use Rattle.std.specs.Prelude.{◌≡◌, true, length};
-ghost use Rattle.thy_base.specs.Device.{block_at};
+ghost use Rattle.thy_block.specs.Device.{block_at};
 ghost use Rattle.thy_sweep.specs.Repeats.{IsSeen, StaysSince};
 
-use thy_base::{Block, Write};
+use thy_block::{Block, Write};
 use thy_nvm::MemNvm;
 
 /// Whether two writes are the same.

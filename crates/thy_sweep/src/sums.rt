@@ -3,7 +3,7 @@ ghost use Rattle.std.specs.Prelude.{◌≡◌, ◌-◌, ◌*◌, ◌^◌, min};
 ghost use Rattle.thy_sweep.specs.Sums.{no_rows, lost_to, reloads_of, with_lead, with_leads, with_row};
 
 use crate::lead::Lead;
-use thy_base::Mark;
+use thy_block::Mark;
 
 /// What the rows of a sweep come to. Each number stops at the last value of a `u64`.
 #[derive(Clone, Copy, Debug)]

@@ -1,13 +1,13 @@
 //! The counts.
 ghost use Rattle.std.specs.Prelude.{◌≡◌, ◌<◌, ◌≤◌, ◌+◌, ◌*◌, ◌&&◌, nat_lt, min, length, replicate, slice_set, false, IfOk};
-ghost use Rattle.thy_base.specs.Blocks.{overwritten};
-ghost use Rattle.thy_base.specs.Device.{zero_block};
+ghost use Rattle.thy_block.specs.Blocks.{overwritten};
+ghost use Rattle.thy_block.specs.Device.{zero_block};
 ghost use Rattle.thy_switch.specs.Counts.{most, uncounted, count_at, last_at, counted, with_last, reset, is_dense, greatest_of, are_sparse, is_low};
 ghost use Rattle.thy_switch.specs.LastBlocks.{last_block_of};
 
 use std::alloc::{AllocError, Global};
 use std::marker::Model;
-use thy_base::{BLOCK_COUNTS, Block};
+use thy_block::{BLOCK_COUNTS, Block};
 
 /// The greatest count of a page.
 pub const MOST: u8 = 63;

@@ -2,7 +2,7 @@
 //! keeps the counts of the epoch before, and returns exactly whether a page is above one threshold, or below the other
 //! in both epochs.
 //!
-//! Open specs/Counts.antt first, and src/counts.rt. It stands on thy_base; on it stand thy_control, and the engine, the
+//! Open specs/Counts.antt first, and src/counts.rt. It stands on thy_block; on it stand thy_control, and the engine, the
 //! boot and the scheme above it.
 #![tactic(auto)]
 

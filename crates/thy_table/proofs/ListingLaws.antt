@@ -5,7 +5,7 @@ use Rattle.std.proofs.lemmas.Bool.{cases_Bool, cases_eq, cases_lt, ne_eqb}
 use Rattle.std.proofs.lemmas.List.{length-map, get_or-set_same, get_or-set_other, get_or_past, get_or-map}
 use Rattle.std.proofs.lemmas.List.Sums.{sum_by-cons}
 use Rattle.std.proofs.lemmas.List.Quantifiers.{position-Some}
-use Rattle.thy_base.proofs.BasicLemmas.{get_or-replicate_any}
+use Rattle.thy_block.proofs.BasicLemmas.{get_or-replicate_any}
 use Rattle.thy_table.specs.Listing.{Listing, entry_at, lists, place_of, free_place, free_count, with_entry, mapped, empty_table, IsListing}
 use Rattle.thy_table.proofs.FirstLemmas.{position-first, position-none, none-position}
 use Rattle.thy_table.proofs.IndexLemmas.{is_some-not_none, None-is_none, free_one, some-counted, lists-some, lists-key, lists-key_of, lists-inside}

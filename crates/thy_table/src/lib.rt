@@ -2,7 +2,7 @@
 //! entries each list a number. Each call of `Table` equals its specification, and no number is listed twice; the entries
 //! `BttEntry` and `PttEntry` are made exactly as stated.
 //!
-//! Open specs/Listing.antt first, and src/table.rt; then src/block_entry.rt and specs/PageEntry.antt. It stands on thy_base.
+//! Open specs/Listing.antt first, and src/table.rt; then src/block_entry.rt and specs/PageEntry.antt. It stands on thy_block.
 #![tactic(auto)]
 
 mod block_entry;

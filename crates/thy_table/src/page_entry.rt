@@ -3,7 +3,7 @@ ghost use Rattle.std.specs.Prelude.{◌≡◌};
 ghost use Rattle.thy_table.specs.PageEntry.{other_site, no_page, promoted_page, listed_page, is_framed};
 
 use crate::Keyed;
-use thy_base::PAGE_BLOCKS;
+use thy_block::PAGE_BLOCKS;
 
 /// What `filled` and `issued` of an entry are once all blocks of its page are.
 pub const WHOLE_PAGE: u8 = PAGE_BLOCKS as u8;

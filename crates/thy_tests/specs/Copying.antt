@@ -1,7 +1,7 @@
 -- A store of blocks that makes some copies before it stores, or fails.
 use Rattle.std.specs.Prelude.{ℕ, ◌-◌, ◌^◌, true, List, None}
-use Rattle.thy_base.specs.declared.block.Block.{Block}
-use Rattle.thy_base.specs.Store.{Holding}
+use Rattle.thy_block.specs.declared.block.Block.{Block}
+use Rattle.thy_block.specs.Store.{Holding}
 
 -- a store that holds these blocks, owes this many copies, and has failed this many times
 abbrev pub copying : List Block → ℕ → ℕ → Holding

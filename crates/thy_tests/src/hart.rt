@@ -1,6 +1,6 @@
 //! The hart on its cache over stores of blocks, compared with the plain machine, state by state.
 ghost use Rattle.std.specs.Prelude.{◌≡◌, ◌<◌, ◌≤◌, ◌*◌, ◌^◌, None, length};
-ghost use Rattle.thy_base.specs.Geometry.{memory_blocks};
+ghost use Rattle.thy_block.specs.Geometry.{memory_blocks};
 ghost use Rattle.thy_hart.specs.Moments.{moment, IsReady};
 
 use crate::plain::{smallest, start_with};

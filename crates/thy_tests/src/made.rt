@@ -1,7 +1,7 @@
 //! Made programs: their words, worked out elsewhere, and how they end.
 ghost use Rattle.std.specs.Prelude.{◌≡◌, ◌+◌, ◌*◌, ◌≤◌, length};
-ghost use Rattle.thy_base.specs.Bytes.{bytes_of};
-ghost use Rattle.thy_base.specs.Geometry.{program_size};
+ghost use Rattle.thy_block.specs.Bytes.{bytes_of};
+ghost use Rattle.thy_block.specs.Geometry.{program_size};
 
 use crate::support::expect::{expect, expect_at};
 use crate::support::geometry::geometry_of;

@@ -1,6 +1,6 @@
 //! The simulated NVM, what a cut leaves of its queue, and a device that is lent.
 ghost use Rattle.std.specs.Prelude.{◌≡◌, ◌<◌, false, length};
-ghost use Rattle.thy_base.specs.Device.{IsFramed};
+ghost use Rattle.thy_block.specs.Device.{IsFramed};
 
 use crate::support::expect::expect;
 use std::process::Abort;

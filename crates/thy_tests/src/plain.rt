@@ -1,7 +1,7 @@
 //! The plain machine's steps on a few programs.
 ghost use Rattle.std.specs.Prelude.{◌≡◌, ◌<◌, length};
-ghost use Rattle.thy_base.specs.Bytes.{bytes_of};
-ghost use Rattle.thy_base.specs.Geometry.{memory_blocks, program_size};
+ghost use Rattle.thy_block.specs.Bytes.{bytes_of};
+ghost use Rattle.thy_block.specs.Geometry.{memory_blocks, program_size};
 
 use crate::support::expect::expect;
 use crate::support::geometry::geometry_of;

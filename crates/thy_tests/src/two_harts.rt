@@ -1,6 +1,6 @@
 //! Two harts on the plain machine, turn by turn: who has reserved what, and what a conditional store comes to.
 ghost use Rattle.std.specs.Prelude.{◌≡◌, ◌<◌};
-ghost use Rattle.thy_base.specs.Geometry.{program_size};
+ghost use Rattle.thy_block.specs.Geometry.{program_size};
 
 use crate::plain::{image_of, start_with};
 use crate::support::expect::{expect, expect_at};

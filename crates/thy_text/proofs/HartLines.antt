@@ -3,8 +3,8 @@ use Rattle.std.proofs.Common.{◌≡◌, ◌≢◌, ◌==◌, ℕ, Bool, true, f
 use Rattle.std.proofs.lemmas.Bool.{eqb-true}
 use Rattle.std.specs.Prelude.{codes}
 use Rattle.std.specs.Fmt.{decimal}
-use Rattle.thy_base.specs.declared.outside.SinkError.{SinkError}
-use Rattle.thy_base.specs.Outside.{Stream}
+use Rattle.thy_block.specs.declared.outside.SinkError.{SinkError}
+use Rattle.thy_block.specs.Outside.{Stream}
 use Rattle.thy_text.specs.Lines.{line_feed, turns_by, harts_parts}
 use Rattle.thy_text.specs.Writing.{Wrote}
 

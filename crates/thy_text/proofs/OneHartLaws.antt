@@ -1,8 +1,8 @@
 -- With one hart no turn is told, and events are lawful exactly where they are by counts alone.
 use Rattle.std.proofs.Common.{◌≡◌, ℕ, ◌-◌, Bool, true, false, if◌then◌else◌, List, [], ◌∷◌, ◌++◌, length, refl, sym, ◌∙◌, ap, subst}
 use Rattle.std.proofs.lemmas.List.{nil_from_length}
-use Rattle.thy_base.specs.declared.cause.EndCause.{EndCause}
-use Rattle.thy_base.specs.declared.cause.EndCause.TheVariants.{Length, Exhausted, Ended as EndedCause}
+use Rattle.thy_block.specs.declared.cause.EndCause.{EndCause}
+use Rattle.thy_block.specs.declared.cause.EndCause.TheVariants.{Length, Exhausted, Ended as EndedCause}
 use Rattle.thy_text.specs.Event.{Event, Scheme, EpochEnd, Commit, Cut, Restart, Reload, Ended}
 use Rattle.thy_text.specs.Marks.{Marks, Course, FitsCause, Lawful, AllLawful, is_mark, marks_after, marks_from, turns_of, turns_told}
 use Rattle.thy_text.specs.OneHart.{Counts, FitsCount, LawfulAt, AllLawfulAt, IsUntold, counts_of, OneHartGoesByCounts}

@@ -1,7 +1,7 @@
 -- A sink that has parts of a line has so much of the same parts in other words.
 use Rattle.std.proofs.Common.{◌≡◌, ℕ, List, subst, Result}
-use Rattle.thy_base.specs.declared.outside.SinkError.{SinkError}
-use Rattle.thy_base.specs.Outside.{Stream}
+use Rattle.thy_block.specs.declared.outside.SinkError.{SinkError}
+use Rattle.thy_block.specs.Outside.{Stream}
 use Rattle.thy_text.specs.Lines.{joined}
 use Rattle.thy_text.specs.Writing.{Wrote}
 

@@ -1,8 +1,8 @@
 -- A sink that takes the texts of a list's elements, one after another.
 use Rattle.std.proofs.Common.{ℕ, ◌+◌, ◌<◌, List, ◌++◌, map, take, drop, length, get_or, sym, subst, Result, Ok, Err}
-use Rattle.thy_base.specs.declared.outside.SinkError.{SinkError}
-use Rattle.thy_base.specs.Outside.{Stream, Took, TookPart}
-use Rattle.thy_base.proofs.Streams.{Took-append, TookPart-append, TookPart-more}
+use Rattle.thy_block.specs.declared.outside.SinkError.{SinkError}
+use Rattle.thy_block.specs.Outside.{Stream, Took, TookPart}
+use Rattle.thy_block.proofs.Streams.{Took-append, TookPart-append, TookPart-more}
 use Rattle.thy_text.specs.Lines.{joined}
 use Rattle.thy_text.specs.Writing.{Wrote}
 use Rattle.thy_text.proofs.Joining.{joined-take-more, joined-split}

@@ -2,7 +2,7 @@
 -- The closing lines of a report, as bytes.
 use Rattle.std.specs.Prelude.{ℕ, List, [], ◌∷◌, codes}
 use Rattle.std.specs.Fmt.{decimal}
-use Rattle.thy_base.specs.Fields.{field_name}
+use Rattle.thy_base.specs.Options.{field_name}
 use Rattle.thy_layout.specs.Refusals.{number_of, name_of}
 use Rattle.thy_layout.specs.declared.bad_image.BadImage.{BadImage}
 use Rattle.thy_layout.specs.declared.bad_image.BadImage.TheVariants.{TableIndex, TableTwice, BlockUnderPage, Count}

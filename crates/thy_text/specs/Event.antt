@@ -1,7 +1,7 @@
 -- Part of the claim.
 -- The events of a run, with the states of the plain machine.
 use Rattle.std.specs.Prelude.{ℕ, List}
-use Rattle.thy_base.specs.declared.cause.EndCause.{EndCause}
+use Rattle.thy_block.specs.declared.cause.EndCause.{EndCause}
 use Rattle.thy_isa.specs.declared.state.Status.{Status}
 use Rattle.thy_isa.specs.Step.{State}
 

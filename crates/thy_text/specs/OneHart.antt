@@ -1,8 +1,8 @@
 -- With one hart no turn is listed: which events may come after others, by counts alone.
 use Rattle.std.specs.Prelude.{◌≡◌, ◌≢◌, ◌⊎◌, ◌↔◌, ℕ, ◌+◌, ◌<◌, ◌≤◌, true, false, List, [], ◌∷◌, Some, None}
-use Rattle.thy_base.specs.declared.cause.EndCause.{EndCause}
-use Rattle.thy_base.specs.declared.cause.EndCause.TheVariants.{Length, Exhausted, Ended as EndedCause}
-use Rattle.thy_base.specs.Marks.{mark}
+use Rattle.thy_block.specs.declared.cause.EndCause.{EndCause}
+use Rattle.thy_block.specs.declared.cause.EndCause.TheVariants.{Length, Exhausted, Ended as EndedCause}
+use Rattle.thy_block.specs.Marks.{mark}
 use Rattle.thy_isa.specs.Step.{State, is_running}
 use Rattle.thy_text.specs.Event.{Event, Scheme, EpochEnd, Commit, Cut, Restart, Reload, Ended}
 use Rattle.thy_text.specs.Marks.{Marks, Course, marks_after, AllLawful}

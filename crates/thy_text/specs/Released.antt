@@ -3,7 +3,7 @@
 use Rattle.std.specs.Prelude.{ℕ, Bool, true, false, if◌then◌else◌, List, [], Option, Some, None}
 use Rattle.std.specs.List.{list_any}
 use Rattle.thy_text.specs.Event.{Event, Commit, Restart}
-use Rattle.thy_base.specs.declared.mark.Mark.{Mark}
+use Rattle.thy_block.specs.declared.mark.Mark.{Mark}
 use Rattle.thy_text.specs.Marks.{Marks, marks_from}
 
 -- an event after which a committed state is known

@@ -1,5 +1,5 @@
 -- The program's events, with the plain machine's states.
-use Rattle.thy_base.specs.Bytes.{bytes_of}
+use Rattle.thy_block.specs.Bytes.{bytes_of}
 use Rattle.thy_isa.specs.Step.{state_of}
 use Rattle.thy_text.specs.declared.event.Event.{Event as RustEvent}
 use Rattle.thy_text.specs.declared.event.Event.TheVariants.{Scheme as RustScheme, EpochEnd as RustEpochEnd, Commit as RustCommit, Cut as RustCut, Restart as RustRestart, Reload as RustReload, Ended as RustEnded}

@@ -2,7 +2,7 @@
 -- The line that sums a run up, as bytes.
 use Rattle.std.specs.Prelude.{ℕ, Bool, true, false, List, [], ◌∷◌, codes, count_by, sum_by}
 use Rattle.std.specs.Fmt.{decimal}
-use Rattle.thy_base.specs.declared.cause.EndCause.TheVariants.{Exhausted}
+use Rattle.thy_block.specs.declared.cause.EndCause.TheVariants.{Exhausted}
 use Rattle.thy_text.specs.Event.{Event, EpochEnd, Commit}
 use Rattle.thy_text.specs.Lines.{joined, line_feed}
 

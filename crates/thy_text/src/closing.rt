@@ -1,7 +1,7 @@
 //! The last line of a report.
 ghost use Rattle.std.specs.Prelude.{◌≡◌, ◌∷◌, [], codes};
 ghost use Rattle.std.specs.Fmt.{decimal};
-ghost use Rattle.thy_base.specs.Fields.{field_name};
+ghost use Rattle.thy_base.specs.Options.{field_name};
 ghost use Rattle.thy_text.specs.Closings.{closing_of, entries_of, fault_text, image_parts, numbers_of, refusal_parts};
 ghost use Rattle.thy_text.specs.Lines.{joined, line_feed};
 ghost use Rattle.thy_text.specs.Writing.{Wrote};

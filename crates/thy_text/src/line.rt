@@ -1,7 +1,7 @@
 //! The lines of events.
 ghost use Rattle.std.specs.Prelude.{◌≡◌, ◌∷◌, [], ◌≢◌, ◌==◌, cond, OnErr};
 ghost use Rattle.std.specs.Fmt.{decimal};
-ghost use Rattle.thy_base.specs.Bytes.{bytes_of};
+ghost use Rattle.thy_block.specs.Bytes.{bytes_of};
 ghost use Rattle.thy_text.specs.Lines.{joined, line_feed, line_of, state_lines, ended_lines, turns_by, harts_parts, epoch_end_parts, made_of};
 ghost use Rattle.thy_text.specs.Pieces.{tail_of};
 ghost use Rattle.thy_text.specs.Seen.{event_of};

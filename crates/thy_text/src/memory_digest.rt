@@ -2,7 +2,7 @@
 ghost use Rattle.std.specs.Prelude.{◌≡◌};
 ghost use Rattle.hex.specs.Hex.{encode_lower};
 ghost use Rattle.sha2.specs.Sha256.{sha256};
-ghost use Rattle.thy_base.specs.Bytes.{bytes_of};
+ghost use Rattle.thy_block.specs.Bytes.{bytes_of};
 ghost use Rattle.thy_text.specs.Lines.{memory_line, digest_line};
 ghost use Rattle.thy_text.specs.Writing.{Wrote};
 

@@ -1,6 +1,6 @@
 //! The lines that sum a run up.
 ghost use Rattle.std.specs.Prelude.{◌≡◌, cond, count_by, sum_by};
-ghost use Rattle.thy_base.specs.Schemes.{scheme_name};
+ghost use Rattle.thy_block.specs.Schemes.{scheme_name};
 ghost use Rattle.thy_text.specs.Seen.{event_of};
 ghost use Rattle.thy_text.specs.Summary.{ends_early, ends_epoch, overlapped_by, scheme_line, summary_of};
 ghost use Rattle.thy_text.specs.Writing.{Wrote};

@@ -1,7 +1,7 @@
 -- A copy of a run's device.
 use Rattle.std.proofs.Common.{◌≡◌, false, [], sym, subst}
-use Rattle.thy_base.specs.declared.mix.Mix.{Mix}
-use Rattle.thy_base.specs.Device.{Device, Crash}
+use Rattle.thy_block.specs.declared.mix.Mix.{Mix}
+use Rattle.thy_block.specs.Device.{Device, Crash}
 use Rattle.thy_run.specs.World.{World}
 use Rattle.thy_trial.specs.Rooms.{IsRunAt}
 use Rattle.thy_trial.specs.Trials.{CanCopy}

@@ -1,8 +1,8 @@
 -- Images that a cut can leave of a run's device in memory, tried one after another.
 use Rattle.std.specs.Prelude.{◌≡◌, ℕ, List, length, Result, IfOk, IfSome}
-use Rattle.thy_base.specs.declared.block.Block.{Block}
-use Rattle.thy_base.specs.declared.mix.Mix.{Mix}
-use Rattle.thy_base.specs.Device.{Device}
+use Rattle.thy_block.specs.declared.block.Block.{Block}
+use Rattle.thy_block.specs.declared.mix.Mix.{Mix}
+use Rattle.thy_block.specs.Device.{Device}
 use Rattle.thy_run.specs.declared.plan.Plan.{Plan}
 use Rattle.thy_run.specs.Going.{origin_of}
 use Rattle.thy_run.specs.World.{World, line}

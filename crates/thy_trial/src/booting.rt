@@ -1,8 +1,8 @@
 //! The boot of a machine whose power has come on over a copy.
-ghost use Rattle.thy_base.specs.Device.{CountsFault, IsFramed};
+ghost use Rattle.thy_block.specs.Device.{CountsFault, IsFramed};
 ghost use Rattle.thy_trial.specs.Trials.{BootsFrom, CanBoot, IsEndOf};
 
-use thy_base::{Mark, Mix, Nvm, NvmError};
+use thy_block::{Mark, Mix, Nvm, NvmError};
 use thy_run::Plan;
 use thy_sweep::Booted;
 use thy_view::{Computer, Did};

@@ -8,7 +8,7 @@ ghost use Rattle.thy_view.specs.Kind.{IsDramOf};
 
 use crate::trial::try_copy;
 use std::alloc::{AllocError, Global};
-use thy_base::{Mix, Nvm, Shape};
+use thy_block::{Mix, Nvm, Shape};
 use thy_dram::Dram;
 use thy_isa::MachState;
 use thy_nvm::{MemNvm, Overlay, Spare};

@@ -1,14 +1,14 @@
 //! One image that a power cut can leave, tried.
 ghost use Rattle.std.specs.Prelude.{◌≡◌, IfOk, IfErr};
-ghost use Rattle.thy_base.specs.Counts.{Rose};
-ghost use Rattle.thy_base.specs.Device.{IsFramed};
+ghost use Rattle.thy_block.specs.Counts.{Rose};
+ghost use Rattle.thy_block.specs.Device.{IsFramed};
 ghost use Rattle.thy_trial.specs.Trials.{CanTry, IsLostDram, ReadsRestored, Tries, has_restored};
 ghost use Rattle.thy_view.specs.Kind.{CanRead, HasFailedToRead, IsDramOf};
 ghost use Rattle.thy_view.specs.declared.error.CoreError.TheVariants.{Nvm as NvmFailed};
 
 use crate::booting::boot;
 use std::alloc::Global;
-use thy_base::{Mix, Nvm};
+use thy_block::{Mix, Nvm};
 use thy_dram::Dram;
 use thy_isa::MachState;
 use thy_run::Plan;

@@ -1,8 +1,8 @@
 -- What a machine asks that does not migrate, any machine may ask; and what an action leaves of the NVM.
 use Rattle.std.proofs.Common.{Bool, true, false, ◌≡◌, refl, length, ◌+◌, ◌≤◌, arith}
 use Rattle.std.proofs.lemmas.List.{length-drop}
-use Rattle.thy_base.specs.Device.{Device}
-use Rattle.thy_base.proofs.DeviceLemmas.{length-written_to, length-settled, length-drained, queue-written_to}
+use Rattle.thy_block.specs.Device.{Device}
+use Rattle.thy_block.proofs.DeviceLemmas.{length-written_to, length-settled, length-drained, queue-written_to}
 use Rattle.thy_layout.specs.declared.engine_step.EngineStep.TheVariants.{Idle, Copied, PageBlock, StateBlock, TableBlock, Barrier as EngineBarrier, CommitWritten, Committed as EngineCommitted}
 use Rattle.thy_view.specs.declared.did.Did.{Did}
 use Rattle.thy_view.specs.declared.did.Did.TheVariants.{Boot, Loaded, Restarted, Refused, Moved, Retired, Flushed, Merged, Sealed, Promoted, Engine, Committed, NvmDrained, DramDrained, Nothing}

@@ -1,8 +1,8 @@
 -- A run goes on once power was cut and has come on again, also after a step that failed.
 use Rattle.std.proofs.Common.{◌≡◌, ◌⊎◌, Bool, true, false, ◌||◌, if◌then◌else◌, Option, Some, None, refl, ◌∙◌, inl, inr}
-use Rattle.thy_base.specs.declared.mark.Mark.{Mark}
-use Rattle.thy_base.specs.Device.{cut_to}
-use Rattle.thy_base.specs.Marks.{mark}
+use Rattle.thy_block.specs.declared.mark.Mark.{Mark}
+use Rattle.thy_block.specs.Device.{cut_to}
+use Rattle.thy_block.specs.Marks.{mark}
 use Rattle.thy_layout.specs.Decoded.{Decoded, Nothing, Refused, At}
 use Rattle.thy_view.specs.Action.{is_commit_write}
 use Rattle.thy_view.specs.Again.{GoesOnAfterCut, GoesOnAfterFault}

@@ -19,7 +19,7 @@ use Rattle.thy_view.proofs.TurnLaws.{AgreeBelow-same, with_turn, with_turn-agree
 pub runs_behind : (p : Phase) → p ≡ Run → p ≢ BootPhase
 runs_behind p is boots = let both : Run ≡ BootPhase = sym is ∙ boots in absurd (cc)
 
-runs_or_halts : (b : Bool) → (if b then Run else Halt) ≢ BootPhase
+pub runs_or_halts : (b : Bool) → (if b then Run else Halt) ≢ BootPhase
 runs_or_halts true boots = absurd (cc)
 runs_or_halts false boots = absurd (cc)
 

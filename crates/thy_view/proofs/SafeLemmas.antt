@@ -1,10 +1,10 @@
 -- What stays safe.
 use Rattle.std.proofs.Common.{◌≡◌, ◌⊎◌, Option, Some, None, inl, inr}
-use Rattle.thy_base.specs.declared.mark.Mark.{Mark}
-use Rattle.thy_base.specs.Device.{Device, HasFailed, IsFramed}
-use Rattle.thy_base.proofs.CrashLemmas.{Crash-failed}
+use Rattle.thy_block.specs.declared.mark.Mark.{Mark}
+use Rattle.thy_block.specs.Device.{Device, HasFailed, IsFramed}
+use Rattle.thy_block.proofs.CrashLemmas.{Crash-failed}
 use Rattle.thy_layout.specs.Decoded.{Decoded, Nothing as NothingFound, Refused as RefusedImage, At, Reading}
-use Rattle.thy_base.specs.Marks.{mark}
+use Rattle.thy_block.specs.Marks.{mark}
 use Rattle.thy_view.specs.Origin.{Origin}
 use Rattle.thy_view.specs.Safe.{ceiling, Safe, IsOneOf, SameIsNoDoubt}
 

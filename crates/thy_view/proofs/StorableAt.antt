@@ -1,20 +1,19 @@
 -- Every state of a run can be stored, and its processor recorded.
 use Rattle.std.proofs.Common.{◌≡◌, ℕ, ◌^◌, ◌<◌, ◌≤◌, true, List, length, slice_index, Option, Some, None, is_some, refl, sym, ap, ◌∙◌, subst, inl, inr, arith}
-use Rattle.std.proofs.lemmas.Bool.{true≢false, cases_lt, le-leb}
+use Rattle.std.proofs.lemmas.Bool.{true≢false, cases_lt}
 use Rattle.std.proofs.lemmas.List.{get_or_past}
-use Rattle.thy_base.specs.declared.block.Block.{Block}
-use Rattle.thy_base.specs.declared.config.Parameters.{Parameters}
-use Rattle.thy_base.specs.Geometry.{console_room, program_size}
+use Rattle.thy_block.specs.declared.block.Block.{Block}
+use Rattle.thy_block.specs.declared.parameters.Parameters.{Parameters}
+use Rattle.thy_block.specs.Geometry.{console_room, program_size}
 use Rattle.thy_isa.specs.declared.state.CpuState.{CpuState}
 use Rattle.thy_isa.specs.declared.state.OtherHart.{OtherHart}
-use Rattle.thy_isa.specs.declared.state.Status.{Status}
-use Rattle.thy_isa.specs.declared.state.Status.TheVariants.{Running, Exited, Trapped}
 use Rattle.thy_isa.specs.OnBlocks.{state_from}
 use Rattle.thy_isa.specs.Step.{State}
-use Rattle.thy_isa.specs.Storable.{IsStatus, IsOtherOf, IsStorable}
+use Rattle.thy_isa.specs.Storable.{IsOtherOf, IsStorable}
 use Rattle.thy_isa.proofs.HartLaws.{step-harts, crossed-harts, crossed-storable}
 use Rattle.thy_isa.proofs.StorableLaws.{step-storable}
-use Rattle.thy_layout.specs.Cpu.{status_tag, status_value, is_status, IsOtherRecordable, IsRecordable}
+use Rattle.thy_layout.specs.Cpu.{IsOtherRecordable, IsRecordable}
+use Rattle.thy_layout.proofs.CpuLemmas.{is_status-of}
 use Rattle.thy_view.specs.Origin.{Origin, IsOrigin, setting_of, at}
 use Rattle.thy_view.specs.Safe.{ceiling}
 use Rattle.thy_view.proofs.TurnLaws.{at-holds}
@@ -45,11 +44,6 @@ pub at-other : (o : Origin) (k : ℕ) → IsOrigin o → IsOtherRecordable o.geo
 at-other o k h =
     recordable_other o.geometry (at o k).other o.start.other (at-storable o k h).other (at-harts o k) h.recordable.other
 
-status_fits : (status : Status) → IsStatus status → is_status (status_tag status) (status_value status) ≡ true
-status_fits Running h = refl
-status_fits (Exited v) h = le-leb v 255 (omega arith)
-status_fits (Trapped v) h = le-leb v 7 (omega arith)
-
 recordable_there : (p : Parameters) (cpu : CpuState) (memory : List Block) (size : ℕ) → IsStorable size (state_from p cpu memory) → IsOtherRecordable p cpu.other
     → cpu.console_len ≤ console_room p → cpu.count < ceiling → IsRecordable p ceiling cpu
 unfolding state_from
@@ -66,7 +60,7 @@ recordable_there p cpu memory size there other console count = record {
   brk = there.brk;
   floor = there.floor;
   count = count;
-  status = status_fits cpu.status there.status;
+  status = is_status-of cpu.status there.status;
   other = other;
 }
 

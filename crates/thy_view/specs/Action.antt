@@ -1,14 +1,14 @@
 -- Part of the claim.
 -- What a cycle asks of the device, and what that leaves.
 use Rattle.std.specs.Prelude.{◌≡◌, ◌≢◌, ℕ, ◌==◌, ◌||◌, Bool, true, false, if◌then◌else◌, Option, None}
-use Rattle.thy_base.specs.declared.block.Block.{Block}
-use Rattle.thy_base.specs.declared.mark.Mark.{Mark}
+use Rattle.thy_block.specs.declared.block.Block.{Block}
+use Rattle.thy_block.specs.declared.mark.Mark.{Mark}
 use Rattle.thy_layout.specs.declared.engine_step.EngineStep.TheVariants.{Barrier as EngineBarrier, CommitWritten}
 use Rattle.thy_view.specs.declared.did.Did.{Did}
 use Rattle.thy_view.specs.declared.did.Did.TheVariants.{Boot, Loaded, Restarted, Refused, Moved, Flushed, Promoted, Engine, Committed, NvmDrained}
 use Rattle.thy_view.specs.declared.view.View.{View}
-use Rattle.thy_base.specs.Device.{Device, written_to, settled, drained, HasFailed, HasFailedToWrite}
-use Rattle.thy_base.specs.Places.{commit_place}
+use Rattle.thy_block.specs.Device.{Device, written_to, settled, drained, HasFailed, HasFailedToWrite}
+use Rattle.thy_block.specs.Places.{commit_place}
 
 pub data Action : Type 0 where
   -- no call of the device

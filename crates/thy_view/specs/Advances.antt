@@ -1,8 +1,8 @@
 -- Cycles in which a hart advances its instruction, and those of other actors.
 use Rattle.std.specs.Prelude.{◌≡◌, ℕ, false, List, [], ◌∷◌, ◌++◌, replicate, length, Option, Some, None, Result, Ok, Err}
-use Rattle.thy_base.specs.declared.mix.Pick.{Pick}
-use Rattle.thy_base.specs.declared.nvm.NvmError.{NvmError}
-use Rattle.thy_base.specs.Device.{Device}
+use Rattle.thy_block.specs.declared.mix.Pick.{Pick}
+use Rattle.thy_block.specs.declared.nvm.NvmError.{NvmError}
+use Rattle.thy_block.specs.Device.{Device}
 use Rattle.thy_view.specs.declared.did.Advance.{Advance}
 use Rattle.thy_view.specs.declared.did.Advance.TheVariants as hart
 use Rattle.thy_view.specs.declared.did.Did.{Did}

@@ -1,8 +1,8 @@
 -- A run goes on once power was cut and has come on again, also after a step that failed.
 use Rattle.std.specs.Prelude.{◌≡◌, ℕ, List}
-use Rattle.thy_base.specs.declared.block.Block.{Block}
-use Rattle.thy_base.specs.declared.mix.Pick.{Pick}
-use Rattle.thy_base.specs.Device.{Device, IsFramed, Crash, cut_to}
+use Rattle.thy_block.specs.declared.block.Block.{Block}
+use Rattle.thy_block.specs.declared.mix.Pick.{Pick}
+use Rattle.thy_block.specs.Device.{Device, IsFramed, Crash, cut_to}
 use Rattle.thy_view.specs.Booting.{view_of_image}
 use Rattle.thy_view.specs.Kind.{KindOf, LeavesSafe}
 use Rattle.thy_view.specs.Origin.{Origin}

@@ -1,7 +1,7 @@
 -- Part of the claim.
 -- What is seen of a machine that boots, and what its steps do.
 use Rattle.std.specs.Prelude.{ℕ, false, Option, Some, None}
-use Rattle.thy_base.specs.declared.mark.Mark.{Mark}
+use Rattle.thy_block.specs.declared.mark.Mark.{Mark}
 use Rattle.thy_layout.specs.Decoded.{Decoded, Nothing, Refused, At}
 use Rattle.thy_view.specs.declared.boot_step.BootStep.{BootStep}
 use Rattle.thy_view.specs.declared.boot_step.BootStep.TheVariants.{GoesOn, Loaded, Restarted, Refused as IsRefused}
@@ -10,7 +10,7 @@ use Rattle.thy_view.specs.declared.did.Did.TheVariants.{Boot as DidBoot, Loaded 
 use Rattle.thy_view.specs.declared.view.Phase.TheVariants.{Boot}
 use Rattle.thy_view.specs.declared.view.View.{View}
 use Rattle.thy_view.specs.Origin.{Origin}
-use Rattle.thy_base.specs.Marks.{mark}
+use Rattle.thy_block.specs.Marks.{mark}
 
 -- the view of a boot with these marks
 abbrev pub boot_view : Option Mark → Option Mark → View

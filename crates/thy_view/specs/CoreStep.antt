@@ -1,9 +1,9 @@
 -- Part of the claim.
 -- How a cycle changes the view.
 use Rattle.std.specs.Prelude.{◌≡◌, ◌⊎◌, ℕ, ◌+◌, ◌<◌, ◌≤◌, ◌==◌, true, false, if◌then◌else◌, Option, Some, None}
-use Rattle.thy_base.specs.declared.cause.EndCause.{EndCause}
-use Rattle.thy_base.specs.declared.cause.EndCause.TheVariants.{Length, Exhausted, Ended}
-use Rattle.thy_base.specs.declared.mark.Mark.{Mark}
+use Rattle.thy_block.specs.declared.cause.EndCause.{EndCause}
+use Rattle.thy_block.specs.declared.cause.EndCause.TheVariants.{Length, Exhausted, Ended}
+use Rattle.thy_block.specs.declared.mark.Mark.{Mark}
 use Rattle.thy_view.specs.declared.view.Phase.{Phase}
 use Rattle.thy_view.specs.declared.view.Phase.TheVariants.{Boot as BootPhase, Run, Halt}
 use Rattle.thy_view.specs.declared.view.View.{View}
@@ -12,7 +12,7 @@ use Rattle.thy_view.specs.declared.did.Did.TheVariants.{Boot, Loaded, Restarted,
 use Rattle.thy_layout.specs.declared.engine_step.EngineStep.{EngineStep}
 use Rattle.thy_layout.specs.declared.engine_step.EngineStep.TheVariants.{Idle, CommitWritten, Committed as EngineCommitted}
 use Rattle.thy_view.specs.Origin.{Origin, runs_at, turn_at}
-use Rattle.thy_base.specs.Marks.{mark}
+use Rattle.thy_block.specs.Marks.{mark}
 
 -- the phase after a checkpoint of this count: the program's end is the machine's
 abbrev pub phase_at : Origin → ℕ → Phase

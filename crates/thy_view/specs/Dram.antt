@@ -1,8 +1,8 @@
 -- Part of the claim.
 -- What a cycle makes of the DRAM, and which block it writes, of either device.
 use Rattle.std.specs.Prelude.{◌≡◌, ◌⊎◌, ℕ}
-use Rattle.thy_base.specs.declared.block.Block.{Block}
-use Rattle.thy_base.specs.Device.{Device, written_to}
+use Rattle.thy_block.specs.declared.block.Block.{Block}
+use Rattle.thy_block.specs.Device.{Device, written_to}
 use Rattle.thy_dram.specs.Contents.{Contents, written, drained}
 use Rattle.thy_view.specs.declared.did.Did.{Did}
 use Rattle.thy_view.specs.declared.did.Did.TheVariants.{Retired, Sealed, NvmDrained, DramDrained, Nothing}

@@ -2,17 +2,17 @@
 -- What a machine is to the layers above: what is seen of it, what its calls promise, and the laws that hold of it. What `is_at`
 -- stands for is the machine's own choice, and nothing above relies on it.
 use Rattle.std.specs.Prelude.{◌≡◌, ℕ, ◌+◌, ◌*◌, ◌^◌, ◌<◌, ◌≤◌, ◌&&◌, ◌||◌, not, is_some, Bool, true, false, List, [], length, drop, Option, Some, None, Result, IfOk, OnErr, ◌⊎◌, Err}
-use Rattle.thy_base.specs.declared.block.Block.{Block}
-use Rattle.thy_base.specs.declared.config.Parameters.{Parameters}
-use Rattle.thy_base.specs.declared.mix.Pick.{Pick}
-use Rattle.thy_base.specs.declared.nvm.Shape.{Shape}
-use Rattle.thy_base.specs.declared.bytes.Bytes.{Bytes}
-use Rattle.thy_base.specs.declared.mark.Mark.{Mark}
-use Rattle.thy_base.specs.declared.nvm.NvmError.{NvmError}
-use Rattle.thy_base.specs.Bytes.{bytes_of}
-use Rattle.thy_base.specs.Counts.{Rose}
-use Rattle.thy_base.specs.Device.{Device, HasFailed, fitted}
-use Rattle.thy_base.specs.Places.{dram_blocks}
+use Rattle.thy_block.specs.declared.block.Block.{Block}
+use Rattle.thy_block.specs.declared.parameters.Parameters.{Parameters}
+use Rattle.thy_block.specs.declared.mix.Pick.{Pick}
+use Rattle.thy_block.specs.declared.nvm.Shape.{Shape}
+use Rattle.thy_block.specs.declared.bytes.Bytes.{Bytes}
+use Rattle.thy_block.specs.declared.mark.Mark.{Mark}
+use Rattle.thy_block.specs.declared.nvm.NvmError.{NvmError}
+use Rattle.thy_block.specs.Bytes.{bytes_of}
+use Rattle.thy_block.specs.Counts.{Rose}
+use Rattle.thy_block.specs.Device.{Device, HasFailed, fitted}
+use Rattle.thy_block.specs.Places.{dram_blocks}
 use Rattle.thy_dram.specs.Contents.{Contents}
 use Rattle.thy_isa.specs.declared.state.MachState.{MachState}
 use Rattle.thy_isa.specs.Step.{State, state_of}

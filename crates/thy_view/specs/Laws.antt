@@ -1,8 +1,8 @@
 -- What holds of the plain machine by turns, of how far views reach, and of the hart that retires an instruction.
 use Rattle.std.specs.Prelude.{◌≡◌, ℕ, ◌-◌, ◌<◌, ◌≤◌, List, [], ◌∷◌, ◌++◌, length, Option, Some}
-use Rattle.thy_base.specs.declared.mark.Mark.{Mark}
-use Rattle.thy_base.specs.declared.mix.Pick.{Pick}
-use Rattle.thy_base.specs.Device.{Device}
+use Rattle.thy_block.specs.declared.mark.Mark.{Mark}
+use Rattle.thy_block.specs.declared.mix.Pick.{Pick}
+use Rattle.thy_block.specs.Device.{Device}
 use Rattle.thy_isa.specs.Step.{steps}
 use Rattle.thy_layout.specs.Decoded.{Reading}
 use Rattle.thy_view.specs.declared.did.Did.{Did}

@@ -1,10 +1,10 @@
 -- Part of the claim.
 -- Where a run starts, and how the plain machine runs from there on.
 use Rattle.std.specs.Prelude.{◌≡◌, ℕ, zero, suc, ◌-◌, ◌^◌, ◌<◌, nat_lt, if◌then◌else◌, List, length, get_or, Bool, Option, Some, None}
-use Rattle.thy_base.specs.declared.config.Parameters.{Parameters}
-use Rattle.thy_base.specs.declared.mark.Mark.{Mark}
-use Rattle.thy_base.specs.Bytes.{bytes_of}
-use Rattle.thy_base.specs.Geometry.{IsInRange, program_size}
+use Rattle.thy_block.specs.declared.parameters.Parameters.{Parameters}
+use Rattle.thy_block.specs.declared.mark.Mark.{Mark}
+use Rattle.thy_block.specs.Bytes.{bytes_of}
+use Rattle.thy_block.specs.Geometry.{IsInRange, program_size}
 use Rattle.thy_isa.specs.declared.state.Status.TheVariants.{Running}
 use Rattle.thy_isa.specs.OnBlocks.{setting_for}
 use Rattle.thy_isa.specs.Step.{State, Setting, state_of, cpu_of, step_of, is_running}

@@ -1,11 +1,11 @@
 -- Part of the claim.
 -- What a power cut may leave: an image that decodes to a mark, whole.
 use Rattle.std.specs.Prelude.{◌≡◌, ◌⊎◌, ℕ, ◌^◌, List, Option, Some, None}
-use Rattle.thy_base.specs.declared.block.Block.{Block}
-use Rattle.thy_base.specs.Device.{Device, Crash}
+use Rattle.thy_block.specs.declared.block.Block.{Block}
+use Rattle.thy_block.specs.Device.{Device, Crash}
 use Rattle.thy_layout.specs.Decoded.{Decoded, Nothing, Refused, At, Reading}
-use Rattle.thy_base.specs.declared.mark.Mark.{Mark}
-use Rattle.thy_base.specs.Marks.{mark}
+use Rattle.thy_block.specs.declared.mark.Mark.{Mark}
+use Rattle.thy_block.specs.Marks.{mark}
 use Rattle.thy_view.specs.Origin.{Origin, at}
 
 -- epochs and counts of a run's own images are below this

@@ -1,7 +1,7 @@
 -- Part of the claim.
 -- A run with other turns: how far two agree, and how far what is seen of a machine speaks of them.
 use Rattle.std.specs.Prelude.{◌≡◌, ℕ, ◌<◌, ◌≤◌, List, Option, Some, None}
-use Rattle.thy_base.specs.declared.mark.Mark.{Mark}
+use Rattle.thy_block.specs.declared.mark.Mark.{Mark}
 use Rattle.thy_view.specs.declared.did.Did.{Did}
 use Rattle.thy_view.specs.declared.did.Did.TheVariants.{Retired}
 use Rattle.thy_view.specs.declared.view.Phase.{Phase}

@@ -2,11 +2,11 @@
 -- Who takes a cycle. The engine acts while a checkpoint is under way, and a hart waits for it only for the reasons of `waits`.
 -- An instruction stays the hart's that began it, so no instruction of the other hart comes between its reads and its writes.
 use Rattle.std.specs.Prelude.{◌≡◌, ◌≢◌, ◌⊎◌, ℕ, ◌==◌, Bool, true, false, ◌&&◌, ◌||◌, not, is_some, option_map, unwrap_or, if◌then◌else◌, Option, Some, None}
-use Rattle.thy_base.specs.declared.cause.EndCause.{EndCause}
-use Rattle.thy_base.specs.declared.cause.EndCause.TheVariants.{Exhausted}
-use Rattle.thy_base.specs.declared.mark.Mark.{Mark}
-use Rattle.thy_base.specs.declared.mix.Pick.{Pick}
-use Rattle.thy_base.specs.declared.mix.Pick.TheVariants.{Hart, Second, Engine as EnginePick, NvmDrain, DramDrain}
+use Rattle.thy_block.specs.declared.cause.EndCause.{EndCause}
+use Rattle.thy_block.specs.declared.cause.EndCause.TheVariants.{Exhausted}
+use Rattle.thy_block.specs.declared.mark.Mark.{Mark}
+use Rattle.thy_block.specs.declared.mix.Pick.{Pick}
+use Rattle.thy_block.specs.declared.mix.Pick.TheVariants.{Hart, Second, Engine as EnginePick, NvmDrain, DramDrain}
 use Rattle.thy_view.specs.declared.view.Phase.{Phase}
 use Rattle.thy_view.specs.declared.view.Phase.TheVariants.{Boot as BootPhase, Run, Halt}
 use Rattle.thy_view.specs.declared.view.View.{View}

@@ -2,7 +2,7 @@
 -- What is left of an instruction, of copies and of promotions, and what each cycle completes of it. A hart that says that it
 -- moves, and stands still while a checkpoint is under way, is refused, but for the few moves that each instruction may have.
 use Rattle.std.specs.Prelude.{◌≡◌, ◌⊎◌, ℕ, ◌+◌, ◌≤◌, Bool, true, false}
-use Rattle.thy_base.specs.Device.{Device}
+use Rattle.thy_block.specs.Device.{Device}
 use Rattle.thy_dram.specs.Contents.{Contents}
 use Rattle.thy_view.specs.declared.did.Did.{Did}
 use Rattle.thy_view.specs.declared.did.Did.TheVariants.{Loaded, Restarted, Moved, Retired, Merged, Sealed, Promoted, Engine, Committed}

@@ -1,6 +1,6 @@
 //! What a machine is to the layers above it.
 ghost use Rattle.std.specs.Prelude.{◌≡◌, ◌<◌, ◌≤◌, ℕ, Ok, None, IfOk, IfErr, OnOk};
-ghost use Rattle.thy_base.specs.Device.{Device, IsFramed, CountsFault};
+ghost use Rattle.thy_block.specs.Device.{Device, IsFramed, CountsFault};
 ghost use Rattle.thy_dram.specs.Contents.{lost};
 ghost use Rattle.thy_view.specs.Advances.{IfAdvanced, IsOthersTurn, SimulatesRow, row_of};
 ghost use Rattle.thy_view.specs.Kind.{KindOf, IsLawful, CanStep, CanRead, CanSnapshot, IsDramOf, Simulates, FailsSafe, Snapshots, SnapshotsStopped, ShowsConsole, LeavesAlonePast, TellsLoading, HasFailedToRead};
@@ -10,7 +10,7 @@ ghost use Rattle.thy_view.specs.declared.view.View.{View};
 
 use crate::{Advance, CoreError, Row, Stepped};
 use std::alloc::{AllocError, Global};
-use thy_base::{Bytes, Geometry, Nvm, NvmError, Pick};
+use thy_block::{Bytes, Geometry, Nvm, NvmError, Pick};
 use thy_dram::Dram;
 use thy_isa::MachState;
 use thy_layout::Start;

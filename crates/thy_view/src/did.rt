@@ -2,7 +2,7 @@
 ghost use Rattle.std.specs.Prelude.{◌≡◌};
 ghost use Rattle.thy_view.specs.Advances.{stepped_of};
 
-use thy_base::EndCause;
+use thy_block::EndCause;
 use thy_layout::{BadImage, EngineStep};
 
 /// What a cycle did.

@@ -1,7 +1,7 @@
 //! Why a machine could not be read.
 
 use std::alloc::AllocError;
-use thy_base::NvmError;
+use thy_block::NvmError;
 
 /// Why a machine could not be read.
 #[derive(Clone, Copy, Debug, PartialEq, Eq)]

@@ -2,7 +2,7 @@
 //! changes, and the trait of machines, `Computer`. Its definitions say which changes are steps, and what a power cut
 //! may leave at each of them. The laws of runs and the top call depend only on `Computer`.
 //!
-//! Open specs/Kind.antt first, then specs/CoreStep.antt, and src/computer.rt. It stands on thy_base, thy_flat, thy_isa,
+//! Open specs/Kind.antt first, then specs/CoreStep.antt, and src/computer.rt. It stands on thy_block, thy_flat, thy_isa,
 //! thy_dram and thy_record; on it stand thy_scheme, thy_protocol, thy_run and what is above them.
 #![tactic(auto)]
 

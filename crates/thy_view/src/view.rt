@@ -1,6 +1,6 @@
 //! What the machine reports of itself: where it is in a run, and which checkpoints it has.
 
-use thy_base::{EndCause, Mark};
+use thy_block::{EndCause, Mark};
 
 /// Where the machine is since its power came on.
 #[derive(Clone, Copy, Debug, PartialEq, Eq)]

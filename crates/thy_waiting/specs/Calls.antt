@@ -1,9 +1,9 @@
 -- What each call makes of the scheme and of the NVM, and its result: what one call of the scheme below does, and the
 -- barriers.
 use Rattle.std.specs.Prelude.{◌≡◌, ◌<◌, ◌-◌, Result, IfOk, OnOk, OnErr}
-use Rattle.thy_base.specs.declared.config.Parameters.{Parameters}
-use Rattle.thy_base.specs.declared.nvm.NvmError.{NvmError}
-use Rattle.thy_base.specs.Device.{Device, HasFailed, settled}
+use Rattle.thy_block.specs.declared.parameters.Parameters.{Parameters}
+use Rattle.thy_block.specs.declared.nvm.NvmError.{NvmError}
+use Rattle.thy_block.specs.Device.{Device, HasFailed, settled}
 use Rattle.thy_control.specs.State.{State}
 use Rattle.thy_dram.specs.Contents.{Contents}
 use Rattle.thy_engine.specs.Progress.{Acts, action_next}

@@ -1,7 +1,7 @@
 //! What the trait of schemes promises.
 use crate::waiting::WaitingScheme;
 use std::alloc::{AllocError, Global};
-use thy_base::{Block, Geometry, Nvm, NvmError, Stored};
+use thy_block::{Block, Geometry, Nvm, NvmError, Stored};
 use thy_dram::Dram;
 use thy_dual::DualScheme;
 use thy_isa::CpuState;

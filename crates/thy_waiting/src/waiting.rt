@@ -1,6 +1,6 @@
 //! The scheme, and what its calls make of it.
 ghost use Rattle.std.specs.Prelude.{◌≡◌, ◌-◌, ◌<◌, true, false, length, IfOk, OnOk, OnErr};
-ghost use Rattle.thy_base.specs.Device.{HasFailed, IsFramed, CountsFault, block_at, settled};
+ghost use Rattle.thy_block.specs.Device.{HasFailed, IsFramed, CountsFault, block_at, settled};
 ghost use Rattle.thy_boot.specs.Boot.{IsBoot};
 ghost use Rattle.thy_boot.specs.Counts.{Counts};
 ghost use Rattle.thy_boot.specs.Steps.{CanStep, action_of};
@@ -22,7 +22,7 @@ ghost use Rattle.thy_waiting.specs.Calls.{TakesBoot, TakesTurn, new_waiting, wit
 
 use std::alloc::{AllocError, Global};
 use std::marker::Model;
-use thy_base::{Block, Geometry, Nvm, NvmError, Stored};
+use thy_block::{Block, Geometry, Nvm, NvmError, Stored};
 use thy_dram::Dram;
 use thy_dual::DualScheme;
 use thy_isa::CpuState;

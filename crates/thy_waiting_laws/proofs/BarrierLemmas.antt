@@ -1,8 +1,8 @@
 -- A barrier of the NVM, as drains of its queue: it keeps the checkpoints of any lawful scheme.
 use Rattle.std.proofs.Common.{◌≡◌, ℕ, ◌<◌, Option, List, [], ◌∷◌, length, take, drop, refl, sym, ◌∙◌, ap, subst, inl, inr, arith}
-use Rattle.thy_base.specs.declared.nvm.Write.{Write}
-use Rattle.thy_base.specs.Device.{Device, applied, drained, settled}
-use Rattle.thy_base.specs.Store.{Holding}
+use Rattle.thy_block.specs.declared.nvm.Write.{Write}
+use Rattle.thy_block.specs.Device.{Device, applied, drained, settled}
+use Rattle.thy_block.specs.Store.{Holding}
 use Rattle.thy_view.specs.Origin.{Origin}
 use Rattle.thy_scheme.specs.CheckpointMarks.{CheckpointMarks}
 use Rattle.thy_scheme.specs.Scheme.{SchemeOf, Stands}

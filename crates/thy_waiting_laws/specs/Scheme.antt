@@ -1,7 +1,7 @@
 -- What is seen of a scheme that waits, over any scheme below that applies nothing itself.
 use Rattle.std.specs.Prelude.{◌≡◌, ℕ, ◌+◌, ◌-◌, ◌<◌, ◌≤◌, ◌||◌, Bool, false, if◌then◌else◌, None}
-use Rattle.thy_base.specs.declared.config.Parameters.{Parameters}
-use Rattle.thy_base.specs.Device.{Device}
+use Rattle.thy_block.specs.declared.parameters.Parameters.{Parameters}
+use Rattle.thy_block.specs.Device.{Device}
 use Rattle.thy_layout.specs.declared.engine_step.EngineStep.{EngineStep}
 use Rattle.thy_layout.specs.declared.engine_step.EngineStep.TheVariants.{Barrier}
 use Rattle.thy_view.specs.Action.{Barrier as BarrierAction}

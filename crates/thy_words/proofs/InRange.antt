@@ -6,8 +6,9 @@ use Rattle.thy_base.specs.Config.{fault_of}
 use Rattle.thy_base.specs.declared.config.ConfigError.{ConfigError}
 use Rattle.thy_base.specs.declared.config.Field.{Field}
 use Rattle.thy_base.specs.declared.config.Field.TheVariants.{N}
+use Rattle.thy_base.specs.Options.{most_number}
 use Rattle.thy_words.specs.Fields.{unreadable}
-use Rattle.thy_words.specs.Settings.{Answers, IsInRange, Order, most_number, named, number_fault, order_for, order_from, order_named, order_of, order_with, ranged, settings_of, value_fault, values_at, values_in, verb_of}
+use Rattle.thy_words.specs.Settings.{Answers, IsInRange, Order, named, number_fault, order_for, order_from, order_named, order_of, order_with, ranged, settings_of, value_fault, values_at, values_in, verb_of}
 use Rattle.thy_words.specs.declared.verb.Verb.{Verb}
 use Rattle.thy_words.specs.declared.verb.Verb.TheVariants.{Run, Resume, Bench, Compare, Plain, Make}
 use Rattle.thy_words.specs.declared.words.Values.{Values}

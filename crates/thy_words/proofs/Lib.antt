@@ -1,3 +1,4 @@
+pub mod FieldLemmas
 pub mod Folding
 pub mod InRange
 pub mod Naming

@@ -1,6 +1,6 @@
 -- Part of the claim.
 -- The program's command line, as data: the description of it that `clap` is given.
-use Rattle.std.specs.Prelude.{◌≡◌, ◌++◌, Some, true, false, List, [], ◌∷◌, codes, fold, map}
+use Rattle.std.specs.Prelude.{◌≡◌, ◌++◌, Some, true, false, List, [], ◌∷◌, codes, fold, filter, map, if◌then◌else◌}
 use Rattle.clap.specs.Walk.{Rule, Text, rule_of}
 use Rattle.clap.specs.Simple.{App, app_of, new_app, new_rule, new_shape, with_rule}
 use Rattle.clap.specs.Simple.{with_subcommand}
@@ -11,8 +11,9 @@ use Rattle.clap.specs.declared.builder.command.Command.TheViews.{out-Command}
 use Rattle.thy_words.specs.declared.command_line.Argument.{Argument}
 use Rattle.thy_words.specs.declared.command_line.Argument.TheVariants.{Operand, Valued, Flag}
 use Rattle.thy_base.specs.declared.config.Field.{Field}
-use Rattle.thy_base.specs.Fields.{field_name}
-use Rattle.thy_words.specs.Fields.{fields, compare_fields, plain_fields}
+use Rattle.thy_base.specs.declared.options.Commands.{Commands}
+use Rattle.thy_base.specs.declared.options.Commands.TheVariants.{Runs, AlsoCompare, AlsoPlain}
+use Rattle.thy_base.specs.Options.{field_name, fields, is_taken, option_of}
 
 -- a name that is required at its position
 abbrev pub operand_rule : Text → Rule
@@ -35,6 +36,15 @@ rule_for (Flag name) = flag_rule name.now
 abbrev pub with_argument : App → Argument → App
 with_argument a x = with_rule a (rule_for x)
 
+-- with an option for a field of the table, if commands like this one take it
+abbrev pub with_field : Commands → App → Field → App
+with_field commands a f =
+    if is_taken commands (option_of f).commands then with_rule a (option_rule (field_name f)) else a
+
+-- the options of the table that commands like these take
+abbrev pub taken_by : Commands → List Field
+taken_by commands = filter (λ f. is_taken commands (option_of f).commands) fields
+
 -- a command that begins with this operand
 abbrev pub begun : Text → Text → App
 begun name first = with_rule (new_app name) (operand_rule first)
@@ -44,19 +54,19 @@ abbrev pub command_of : Text → (operands : List Text) → List Field → (name
 command_of name operands fs names flags = fold with_rule (new_app name)
     (map operand_rule operands ++ map option_rule (map field_name fs ++ names) ++ map flag_rule flags)
 
--- a command that runs the machine: it takes an option for every field, for what is read and for what is saved
+-- a command that runs the machine: it takes every option of the table, one for what is read, and one for what is saved
 abbrev pub run_of : Text → (operand : Text) → App
 run_of name operand =
-    command_of name (operand ∷ []) fields (codes "input" ∷ codes "save" ∷ []) (codes "digest" ∷ [])
+    command_of name (operand ∷ []) (taken_by Runs) (codes "input" ∷ codes "save" ∷ []) (codes "digest" ∷ [])
 
--- the commands: `compare` takes all fields but cuts, tears and scheme, `plain` only the fields of memory and the limit
+-- the commands, each with the options that the table says
 abbrev pub commands : List App
 commands =
     run_of (codes "run") (codes "FILE")
     ∷ run_of (codes "resume") (codes "IMAGE")
     ∷ run_of (codes "bench") (codes "n")
-    ∷ command_of (codes "compare") (codes "FILE" ∷ []) compare_fields (codes "input" ∷ []) (codes "digest" ∷ [])
-    ∷ command_of (codes "plain") (codes "FILE" ∷ []) plain_fields (codes "input" ∷ []) (codes "digest" ∷ [])
+    ∷ command_of (codes "compare") (codes "FILE" ∷ []) (taken_by AlsoCompare) (codes "input" ∷ []) (codes "digest" ∷ [])
+    ∷ command_of (codes "plain") (codes "FILE" ∷ []) (taken_by AlsoPlain) (codes "input" ∷ []) (codes "digest" ∷ [])
     ∷ command_of (codes "make") (codes "n" ∷ codes "OUT" ∷ []) [] [] []
     ∷ []
 

@@ -8,28 +8,12 @@ use Rattle.clap.specs.Walk.{Row, Text, first_of}
 use Rattle.thy_base.specs.declared.config.Config.{Config}
 use Rattle.thy_base.specs.declared.config.Field.{Field}
 use Rattle.thy_base.specs.declared.config.Field.TheVariants.{Base, Pages, Console, Epoch, Btt, Ptt, Sets, Ways, Nvmq, Dramq, High, Low, Mix, Cuts, Tears, Limit, Scheme, Harts, Gap, N}
-use Rattle.thy_base.specs.declared.config.SchemeName.{SchemeName}
-use Rattle.thy_base.specs.declared.config.SchemeName.TheVariants.{Thynvm, Journal, Shadow}
-use Rattle.thy_base.specs.Fields.{field_name}
+use Rattle.thy_block.specs.declared.parameters.SchemeName.{SchemeName}
+use Rattle.thy_block.specs.declared.parameters.SchemeName.TheVariants.{Thynvm, Journal, Shadow}
+use Rattle.thy_base.specs.declared.options.Value.{Value}
+use Rattle.thy_base.specs.declared.options.Value.TheVariants.{Number, Rising, Picks, Name}
+use Rattle.thy_base.specs.Options.{default_of, field_name, fields, option_of}
 use Rattle.thy_words.specs.Numbers.{is_list, is_number, number_in, numbers_in}
-
--- the fields of a configuration, in the order in which they are read, and then tested
-abbrev pub fields : List Field
-fields = Base ∷ Pages ∷ Console ∷ Epoch ∷ Btt ∷ Ptt ∷ Sets ∷ Ways ∷ Nvmq ∷ Dramq ∷ High ∷ Low
-    ∷ Mix ∷ Cuts ∷ Tears ∷ Limit ∷ Scheme ∷ Harts ∷ Gap ∷ []
-
--- the fields that are read from the arguments: the number of a made program comes first
-abbrev pub all_fields : List Field
-all_fields = N ∷ fields
-
--- the fields that `compare` has an option for
-abbrev pub compare_fields : List Field
-compare_fields = Base ∷ Pages ∷ Console ∷ Epoch ∷ Btt ∷ Ptt ∷ Sets ∷ Ways ∷ Nvmq ∷ Dramq ∷ High ∷ Low
-    ∷ Mix ∷ Limit ∷ Harts ∷ Gap ∷ []
-
--- the fields that `plain` has an option for
-abbrev pub plain_fields : List Field
-plain_fields = Base ∷ Pages ∷ Console ∷ Limit ∷ []
 
 -- the text of a field, if the arguments have its option
 abbrev pub text_of : List Row → Field → Option Text
@@ -43,24 +27,32 @@ scheme_named name =
     else if bytes_eq name (codes "shadow") then Some Shadow
     else None
 
--- the text is a value of the field: a list, the name of a scheme, or a number
+-- the text is a value of this kind: a number, a list, or the name of a scheme
+abbrev pub reads_as : Value → Text → Bool
+reads_as (Number default bounds) t = is_number t
+reads_as Rising t = is_list t
+reads_as Picks t = is_list t
+reads_as Name t = is_some (scheme_named t)
+
+-- the text is a value of the field
 abbrev pub reads : Field → Text → Bool
-reads Cuts t = is_list t
-reads Tears t = is_list t
-reads Scheme t = is_some (scheme_named t)
-reads _ t = is_number t
+reads f t = reads_as (option_of f).value t
 
 -- the arguments leave the field out, or give it a value
 abbrev pub is_readable : List Row → Field → Bool
 is_readable rows f = option_map_or (reads f) (text_of rows f) true
 
--- the first field whose text is not a value of it
-abbrev pub unreadable : List Row → Option Field
-unreadable rows = find (λ f. not (is_readable rows f)) all_fields
+-- the first of these fields whose text is not a value of it
+abbrev pub unreadable_among : List Field → List Row → Option Field
+unreadable_among fs rows = find (λ f. not (is_readable rows f)) fs
 
--- the number of a field, or the default given here if the arguments leave it out
-abbrev pub number_at : List Row → Field → ℕ → ℕ
-number_at rows f otherwise = unwrap_or (option_and_then number_in (text_of rows f)) otherwise
+-- the first field whose text is not a value of it; the number of a made program comes before the options
+abbrev pub unreadable : List Row → Option Field
+unreadable rows = unreadable_among (N ∷ fields) rows
+
+-- the number of a field, or its default if the arguments leave it out
+abbrev pub number_at : List Row → Field → ℕ
+number_at rows f = unwrap_or (option_and_then number_in (text_of rows f)) (default_of (option_of f).value)
 
 -- the list of a field, empty if the arguments leave it out
 abbrev pub list_at : List Row → Field → List ℕ
@@ -73,23 +65,23 @@ scheme_at rows = unwrap_or (option_and_then scheme_named (text_of rows Scheme)) 
 -- the configuration of rows in which each field is readable
 abbrev pub config_at : List Row → Config
 config_at rows = record {
-  base = number_at rows Base 65536;
-  pages = number_at rows Pages 256;
-  console = number_at rows Console 1;
-  epoch = number_at rows Epoch 10000;
-  btt = number_at rows Btt 512;
-  ptt = number_at rows Ptt 64;
-  sets = number_at rows Sets 16;
-  ways = number_at rows Ways 4;
-  nvmq = number_at rows Nvmq 16;
-  dramq = number_at rows Dramq 16;
-  high = number_at rows High 22;
-  low = number_at rows Low 16;
-  mix = number_at rows Mix 0;
+  base = number_at rows Base;
+  pages = number_at rows Pages;
+  console = number_at rows Console;
+  epoch = number_at rows Epoch;
+  btt = number_at rows Btt;
+  ptt = number_at rows Ptt;
+  sets = number_at rows Sets;
+  ways = number_at rows Ways;
+  nvmq = number_at rows Nvmq;
+  dramq = number_at rows Dramq;
+  high = number_at rows High;
+  low = number_at rows Low;
+  mix = number_at rows Mix;
   cuts = list_at rows Cuts;
   tears = list_at rows Tears;
-  limit = number_at rows Limit 1000000000;
+  limit = number_at rows Limit;
   scheme = scheme_at rows;
-  harts = number_at rows Harts 1;
-  gap = number_at rows Gap 0;
+  harts = number_at rows Harts;
+  gap = number_at rows Gap;
 }

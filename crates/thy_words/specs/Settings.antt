@@ -12,6 +12,7 @@ use Rattle.thy_base.specs.Config.{fault_of as range_fault}
 use Rattle.thy_base.specs.declared.config.Config.{Config}
 use Rattle.thy_base.specs.declared.config.ConfigError.{ConfigError}
 use Rattle.thy_base.specs.declared.config.Field.TheVariants.{N}
+use Rattle.thy_base.specs.Options.{most_number}
 use Rattle.thy_words.specs.Fields.{config_at, number_at, unreadable}
 use Rattle.thy_words.specs.CommandLine.{program}
 use Rattle.thy_words.specs.declared.verb.Verb.{Verb}
@@ -47,13 +48,9 @@ pub data Order : Type 0 where
 unfoldable pub named : List Text → Option (Text × List Row)
 named words = if is_empty (parse_fault program words) then subcommand_of program words else None
 
--- the greatest number of which a program is made
-abbrev pub most_number : ℕ
-most_number = 4294967295
-
 -- what rows in which each field is readable give for the fields; what they leave out has its default
 abbrev pub values_at : List Row → Values
-values_at rows = record { number = number_at rows N 0; config = config_at rows }
+values_at rows = record { number = number_at rows N; config = config_at rows }
 
 -- the error for the number of a made program, if that is out of range
 abbrev pub number_fault : ℕ → Option ConfigError

@@ -1,10 +1,13 @@
 //! The program's command line, as `clap` is given it.
-ghost use Rattle.std.specs.Prelude.{◌≡◌, IfOk, fold};
+ghost use Rattle.std.specs.Prelude.{◌≡◌, IfOk, false, fold};
+ghost use Rattle.clap.specs.declared.builder.command.Command.TheViews.{out-Command};
+ghost use Rattle.thy_base.specs.Options.{fields};
 ghost use Rattle.clap.specs.Simple.{app_of, with_subcommand};
-ghost use Rattle.thy_words.specs.CommandLine.{IsArg, IsBuilt, bare, begun, program, rule_for, with_argument};
+ghost use Rattle.thy_words.specs.CommandLine.{IsArg, IsBuilt, bare, begun, program, rule_for, with_argument, with_field};
 
 use clap::{Arg, ArgAction, Command};
 use std::alloc::{AllocError, Global};
+use thy_base::{Commands, Field, fields};
 
 /// An argument of a command, by its name.
 #[derive(Clone, Copy)]
@@ -17,64 +20,16 @@ enum Argument {
     Flag(&'static str),
 }
 
-/// The options of `run`, `resume` and `bench`: every field of a configuration, the names of what is read and of what
+/// What `run`, `resume` and `bench` take in addition to the options of the table: the names of what is read and of what
 /// is saved, and whether digests of memory are reported.
-static RUN_OPTIONS: [Argument; 22] = [
-    Argument::Valued("base"),
-    Argument::Valued("pages"),
-    Argument::Valued("console"),
-    Argument::Valued("epoch"),
-    Argument::Valued("btt"),
-    Argument::Valued("ptt"),
-    Argument::Valued("sets"),
-    Argument::Valued("ways"),
-    Argument::Valued("nvmq"),
-    Argument::Valued("dramq"),
-    Argument::Valued("high"),
-    Argument::Valued("low"),
-    Argument::Valued("mix"),
-    Argument::Valued("cuts"),
-    Argument::Valued("tears"),
-    Argument::Valued("limit"),
-    Argument::Valued("scheme"),
-    Argument::Valued("harts"),
-    Argument::Valued("gap"),
+static RUN_NAMES: [Argument; 3] = [
     Argument::Valued("input"),
     Argument::Valued("save"),
     Argument::Flag("digest"),
 ];
 
-/// The options of `compare`: all options of `run` except the scheme, cuts of power, and what is saved.
-static COMPARE_OPTIONS: [Argument; 18] = [
-    Argument::Valued("base"),
-    Argument::Valued("pages"),
-    Argument::Valued("console"),
-    Argument::Valued("epoch"),
-    Argument::Valued("btt"),
-    Argument::Valued("ptt"),
-    Argument::Valued("sets"),
-    Argument::Valued("ways"),
-    Argument::Valued("nvmq"),
-    Argument::Valued("dramq"),
-    Argument::Valued("high"),
-    Argument::Valued("low"),
-    Argument::Valued("mix"),
-    Argument::Valued("limit"),
-    Argument::Valued("harts"),
-    Argument::Valued("gap"),
-    Argument::Valued("input"),
-    Argument::Flag("digest"),
-];
-
-/// The options of `plain`.
-static PLAIN_OPTIONS: [Argument; 6] = [
-    Argument::Valued("base"),
-    Argument::Valued("pages"),
-    Argument::Valued("console"),
-    Argument::Valued("limit"),
-    Argument::Valued("input"),
-    Argument::Flag("digest"),
-];
+/// What `compare` and `plain` take in addition: all of these but what is saved.
+static READ_NAMES: [Argument; 2] = [Argument::Valued("input"), Argument::Flag("digest")];
 
 /// What `make` takes in addition to a number: the name under which the program is put.
 static MAKE_NAME: [Argument; 1] = [Argument::Operand("OUT")];
@@ -99,17 +54,58 @@ fn begun<'a>(alloc: Global, name: &'a str, first: &'static str) -> Result<Comman
     Ok(command)
 }
 
-/// A command with its arguments: the operand that it begins with, and the others.
+/// A command with one more option, if commands like it take it.
+fn with_field<'a>(
+    alloc: Global,
+    command: Command<'a>,
+    field: Field,
+    commands: Commands,
+) -> Result<Command<'a>, AllocError>
+    requires { (out-Command command).has_globals ≡ false }
+    ensures { IfOk result (λ c. IsBuilt c
+        (with_field commands (app_of command.entry) field)) }
+{
+    let row = field.option();
+    if commands.take(row.commands) {
+        let option = arg(alloc, Argument::Valued(row.name));
+        let wider = command.arg(option)?;
+        Ok(wider)
+    } else {
+        Ok(command)
+    }
+}
+
+/// A command with the operand that it begins with, and the options of the table that commands like it take.
+fn with_fields<'a>(
+    alloc: Global,
+    name: &'a str,
+    first: &'static str,
+    commands: Commands,
+) -> Result<Command<'a>, AllocError>
+    ensures { IfOk result (λ c. IsBuilt c
+        (fold (with_field commands) (begun name.entry.now first.entry.now) fields)) }
+{
+    let start = begun(alloc, name, first)?;
+    let mut wider = start;
+    for field in fields() {
+        wider = with_field(alloc, wider, *field, commands)?;
+    }
+    Ok(wider)
+}
+
+/// A command with its arguments: the operand that it begins with, the options of the table, and the others.
 fn command<'a>(
     alloc: Global,
     name: &'a str,
     first: &'static str,
+    commands: Commands,
     others: &'static [Argument],
 ) -> Result<Command<'a>, AllocError>
-    ensures { IfOk result (λ c. IsBuilt c
-        (fold with_argument (begun name.entry.now first.entry.now) others.entry.now)) }
+    ensures { IfOk result (λ c. IsBuilt c (fold with_argument
+        (fold (with_field commands) (begun name.entry.now first.entry.now) fields)
+        others.entry.now)) }
 {
-    let start = begun(alloc, name, first)?;
+    let start = with_fields(alloc, name, first, commands)?;
     let mut wider = start;
     for item in others {
         wider = wider.arg(arg(alloc, *item))?;
@@ -123,12 +119,15 @@ fn with_command<'a>(
     program: Command<'a>,
     name: &'a str,
     first: &'static str,
+    commands: Commands,
     others: &'static [Argument],
 ) -> Result<Command<'a>, AllocError>
     ensures { IfOk result (λ c. app_of c ≡ with_subcommand (app_of program.entry)
-        (fold with_argument (begun name.entry.now first.entry.now) others.entry.now).top) }
+        (fold with_argument
+        (fold (with_field commands) (begun name.entry.now first.entry.now) fields)
+        others.entry.now).top) }
 {
-    program.subcommand(command(alloc, name, first, others)?)
+    program.subcommand(command(alloc, name, first, commands, others)?)
 }
 
 /// The program without its commands. It has no options for help or for a version.
@@ -145,16 +144,16 @@ fn bare<'a>(alloc: Global) -> Command<'a>
 pub(crate) fn thynvm<'a>(alloc: Global) -> Result<Command<'a>, AllocError>
     ensures { IfOk result (λ c. app_of c ≡ program) }
 {
-    let program = with_command(alloc, bare(alloc), "run", "FILE", RUN_OPTIONS.as_slice())?;
-    let program = with_command(alloc, program, "resume", "IMAGE", RUN_OPTIONS.as_slice())?;
-    let program = with_command(alloc, program, "bench", "n", RUN_OPTIONS.as_slice())?;
-    let program = with_command(
-        alloc,
-        program,
-        "compare",
-        "FILE",
-        COMPARE_OPTIONS.as_slice(),
-    )?;
-    let program = with_command(alloc, program, "plain", "FILE", PLAIN_OPTIONS.as_slice())?;
-    with_command(alloc, program, "make", "n", MAKE_NAME.as_slice())
+    let runs = Commands::Runs;
+    let run_names = RUN_NAMES.as_slice();
+    let read_names = READ_NAMES.as_slice();
+    let program = with_command(alloc, bare(alloc), "run", "FILE", runs, run_names)?;
+    let program = with_command(alloc, program, "resume", "IMAGE", runs, run_names)?;
+    let program = with_command(alloc, program, "bench", "n", runs, run_names)?;
+    let compare = Commands::AlsoCompare;
+    let program = with_command(alloc, program, "compare", "FILE", compare, read_names)?;
+    let plain = Commands::AlsoPlain;
+    let program = with_command(alloc, program, "plain", "FILE", plain, read_names)?;
+    let none = Commands::Operand;
+    with_command(alloc, program, "make", "n", none, MAKE_NAME.as_slice())
 }

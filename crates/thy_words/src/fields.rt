@@ -3,36 +3,13 @@ ghost use Rattle.std.specs.Prelude.{◌≡◌, IfOk, option_map};
 ghost use Rattle.clap.specs.Matches.{found_of};
 ghost use Rattle.clap.specs.Walk.{first_of, rows_of};
 ghost use Rattle.thy_words.specs.Settings.{has_flag};
-ghost use Rattle.thy_words.specs.Fields.{config_at, is_readable, list_at, number_at, reads, scheme_at, scheme_named, unreadable};
+ghost use Rattle.thy_words.specs.Fields.{config_at, is_readable, list_at, number_at, reads, scheme_at, scheme_named, unreadable, unreadable_among};
+ghost use Rattle.thy_base.specs.Options.{fields};
 
 use crate::numbers::{is_list, is_number, list_of, number};
 use clap::ArgMatches;
 use std::alloc::{AllocError, Global};
-use thy_base::{Config, Field, Numbers, SchemeName};
-
-/// The fields, in the order in which they are read.
-static FIELDS: [Field; 20] = [
-    Field::N,
-    Field::Base,
-    Field::Pages,
-    Field::Console,
-    Field::Epoch,
-    Field::Btt,
-    Field::Ptt,
-    Field::Sets,
-    Field::Ways,
-    Field::Nvmq,
-    Field::Dramq,
-    Field::High,
-    Field::Low,
-    Field::Mix,
-    Field::Cuts,
-    Field::Tears,
-    Field::Limit,
-    Field::Scheme,
-    Field::Harts,
-    Field::Gap,
-];
+use thy_base::{Config, Field, Numbers, SchemeName, Value, fields};
 
 /// The text of an option or operand, if the arguments have it.
 pub(crate) fn text_of<'a>(matches: &ArgMatches<'a>, name: &str) -> Option<&'a str>
@@ -70,10 +47,10 @@ fn scheme_named(name: &str) -> Option<SchemeName>
 fn reads(field: Field, text: &str) -> bool
     ensures { result ≡ reads field text.now }
 {
-    match field {
-        Field::Cuts | Field::Tears => is_list(text),
-        Field::Scheme => scheme_named(text).is_some(),
-        _ => is_number(text),
+    match field.option().value {
+        Value::Number(_, _) => is_number(text),
+        Value::Rising | Value::Picks => is_list(text),
+        Value::Name => scheme_named(text).is_some(),
     }
 }
 
@@ -87,23 +64,35 @@ fn is_readable(matches: &ArgMatches<'_>, field: Field) -> bool
     }
 }
 
-/// The first field whose text is not a value of it.
+/// The first field whose text is not a value of it. The number of a made program comes first.
 pub(crate) fn unreadable(matches: &ArgMatches<'_>) -> Option<Field>
     ensures { result ≡ unreadable (rows_of (found_of matches.now)) }
 {
-    FIELDS
+    if is_readable(matches, Field::N) {
+        unreadable_option(matches)
+    } else {
+        Some(Field::N)
+    }
+}
+
+/// The first option of the table whose text is not a value of it.
+fn unreadable_option(matches: &ArgMatches<'_>) -> Option<Field>
+    ensures { result ≡ unreadable_among fields (rows_of (found_of matches.now)) }
+{
+    fields()
         .iter()
         .copied()
         .find(|field| !is_readable(matches, *field))
 }
 
-/// The number of a field, or `otherwise` if the arguments leave it out.
-pub(crate) fn number_at(matches: &ArgMatches<'_>, field: Field, otherwise: u64) -> u64
-    ensures { result ≡ number_at (rows_of (found_of matches.now)) field otherwise }
+/// The number of a field, or its default if the arguments leave it out.
+pub(crate) fn number_at(matches: &ArgMatches<'_>, field: Field) -> u64
+    ensures { result ≡ number_at (rows_of (found_of matches.now)) field }
 {
+    let default = field.default_number();
     match text_of(matches, field.name()) {
-        Some(text) => number(text).unwrap_or(otherwise),
-        None => otherwise,
+        Some(text) => number(text).unwrap_or(default),
+        None => default,
     }
 }
 
@@ -135,24 +124,24 @@ pub(crate) fn config_at(alloc: Global, matches: &ArgMatches<'_>) -> Result<Confi
     let cuts = list_at(alloc, matches, Field::Cuts)?;
     let tears = list_at(alloc, matches, Field::Tears)?;
     Ok(Config {
-        base: number_at(matches, Field::Base, 65_536),
-        pages: number_at(matches, Field::Pages, 256),
-        console: number_at(matches, Field::Console, 1),
-        epoch: number_at(matches, Field::Epoch, 10_000),
-        btt: number_at(matches, Field::Btt, 512),
-        ptt: number_at(matches, Field::Ptt, 64),
-        sets: number_at(matches, Field::Sets, 16),
-        ways: number_at(matches, Field::Ways, 4),
-        nvmq: number_at(matches, Field::Nvmq, 16),
-        dramq: number_at(matches, Field::Dramq, 16),
-        high: number_at(matches, Field::High, 22),
-        low: number_at(matches, Field::Low, 16),
-        mix: number_at(matches, Field::Mix, 0),
+        base: number_at(matches, Field::Base),
+        pages: number_at(matches, Field::Pages),
+        console: number_at(matches, Field::Console),
+        epoch: number_at(matches, Field::Epoch),
+        btt: number_at(matches, Field::Btt),
+        ptt: number_at(matches, Field::Ptt),
+        sets: number_at(matches, Field::Sets),
+        ways: number_at(matches, Field::Ways),
+        nvmq: number_at(matches, Field::Nvmq),
+        dramq: number_at(matches, Field::Dramq),
+        high: number_at(matches, Field::High),
+        low: number_at(matches, Field::Low),
+        mix: number_at(matches, Field::Mix),
         cuts,
         tears,
-        limit: number_at(matches, Field::Limit, 1_000_000_000),
+        limit: number_at(matches, Field::Limit),
         scheme: scheme_at(matches),
-        harts: number_at(matches, Field::Harts, 1),
-        gap: number_at(matches, Field::Gap, 0),
+        harts: number_at(matches, Field::Harts),
+        gap: number_at(matches, Field::Gap),
     })
 }

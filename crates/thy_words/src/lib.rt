@@ -1,8 +1,8 @@
 //! The command line: what the arguments ask for, as a command with its configuration, or why they are refused. The
 //! contract of `settings` states the exact result in both cases, unless memory ran out.
 //!
-//! Open specs/Settings.antt first, and src/words.rt. It stands on thy_base, and on `clap`; on it stand
-//! thy_answer and thy_order.
+//! Open specs/Settings.antt first, and src/words.rt. It stands on thy_base, whose table of options it goes by, and on
+//! `clap`; on it stand thy_answer and thy_order.
 #![tactic(auto)]
 
 mod command_line;

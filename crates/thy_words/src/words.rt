@@ -5,7 +5,6 @@ ghost use Rattle.clap.specs.Matches.{found_of};
 ghost use Rattle.clap.specs.Simple.{subcommand_rows_of};
 ghost use Rattle.clap.specs.Values.{kind_of};
 ghost use Rattle.clap.specs.Walk.{first_of, rows_of};
-ghost use Rattle.thy_base.specs.Config.{fault_of as range_fault};
 ghost use Rattle.thy_words.specs.Settings.{Answers, IsInRange, ShowsOrMemory, job_of, job_with, number_fault, operand, order_for, order_in, order_named, order_of, order_with, ranged, settings_of, value_fault, values_at, values_in};
 ghost use Rattle.thy_words.specs.Refused.{NeedsMemory, is_out_of_memory, refused};
 
@@ -15,10 +14,7 @@ use crate::verb::{Verb, verb_of};
 use clap::ArgMatches;
 use clap::error::ErrorKind;
 use std::alloc::{AllocError, Global};
-use thy_base::{Config, ConfigError, Field, Geometry};
-
-/// The greatest number of which a program is made.
-const MOST_NUMBER: u64 = 4_294_967_295;
+use thy_base::{Config, ConfigError, Configuration, Field, MOST_NUMBER};
 
 /// How a program is to be run. What a command has no option for has its default.
 #[derive(Debug, Drop)]
@@ -84,22 +80,12 @@ fn number_fault(number: u64) -> Option<ConfigError>
     }
 }
 
-/// The first value of a configuration that is out of range.
-fn range_fault(config: &Config) -> Option<ConfigError>
-    ensures { result ≡ range_fault config.now }
-{
-    match Geometry::new(config) {
-        Ok(_) => None,
-        Err(fault) => Some(fault),
-    }
-}
-
 /// The first value that is out of range.
 fn value_fault(values: &Values) -> Option<ConfigError>
     ensures { result ≡ value_fault values.now }
 {
     match number_fault(values.number) {
-        None => range_fault(&values.config),
+        None => values.config.first_fault(),
         Some(fault) => Some(fault),
     }
 }
@@ -119,7 +105,7 @@ fn values_at(alloc: Global, matches: &ArgMatches<'_>) -> Result<Values, AllocErr
     ensures { IfOk result (λ v. v ≡ values_at (rows_of (found_of matches.now))) }
 {
     Ok(Values {
-        number: number_at(matches, Field::N, 0),
+        number: number_at(matches, Field::N),
         config: config_at(alloc, matches)?,
     })
 }

@@ -1,4 +1,4 @@
-"""Compares the options of the help page with docs/USING.md, with what the program takes, and with the scripts' own table."""
+"""Compares the options of tools/lib/program.txt with the help page, with docs/USING.md, with the code and with the program."""
 
 import os
 import re
@@ -9,93 +9,135 @@ from lib import program, repository
 from lib.options import Refused
 from lib.lint.sources import Unreadable, text_of, verdict
 
-SUBJECT = "the options of the help page with docs/USING.md, the code and the program"
+SUBJECT = "the options of tools/lib/program.txt with the help page, docs/USING.md, the code and the program"
 
-ABOUT = """Compares the nineteen fields of `./thynvm --help`, their names, defaults and ranges, with those of three others: the
-defaults in crates/thy_words/src/fields.rt, the table in docs/USING.md, and the program. The program is called with the ends
-of each range, and with the numbers beside them, on a file that is not there: a value in range answers `fetch`, another
-`value` with the field's name. Of the schemes each name answers `fetch`, and another `word scheme`. The names of all
-options, also of those that are no field, and the defaults are compared with those in tools/lib/program.py, by which the
-scripts go; and so are the options of `compare`, which the page has by those that it does not take, with the program.
+ABOUT = """Compares the options of tools/lib/program.txt, by which the scripts go, with the tables in `./thynvm --help` and in
+docs/USING.md, and with the program's own table in crates/thy_base/src/options.rt: its names in their order, the defaults, the
+ranges, and the commands that take each. With --write both tables are written from that file.
 
-Exit status: 0 all agree; 1 some differ; 2 invalid usage, something cannot be read, or there is no program to call."""
+Then the program is called with the ends of each range, and with the numbers beside them, on a file that is not there: a value in
+range answers `fetch`, another `value` with the field's name. Of the schemes each name answers `fetch`, and another `word scheme`.
+It is also asked which options `compare` takes.
 
-# The document whose table of options is compared, and the code that has the defaults.
+Exit status: 0 written, or all agree; 1 some differ; 2 invalid usage, something cannot be read, or there is no program to call."""
+
+# Where the options stand: the scripts' own, the help page's, the document's and the code's.
+TABLE = "tools/lib/program.txt"
+SCRIPT = "thynvm"
 DOCUMENT = "docs/USING.md"
-CODE = "crates/thy_words/src/fields.rt"
-
-# Where a list of options stands in the help page, and the columns of its table.
-COLUMNS = (slice(2, 14), slice(14, 27), slice(27, 60))
+CODE = "crates/thy_base/src/options.rt"
 
 # Options whose value is a name or none: no field, and no range.
 NAMES = (*program.NAMES, *program.FLAGS)
 
-# Where the scripts have the options.
-TABLE = "tools/lib/program.py"
+# The commands of a row of the code's table, by how it is made.
+COMMANDS = {"all": "run resume bench compare plain", "machine": "run resume bench compare", "Runs": "run resume bench"}
 
 
-def help_rows():
-    """The table of the help page: of each field its default and its range."""
-    rows, here = {}, None
-    for line in repository.help_page().splitlines():
-        name, default, said = (line[column].strip() for column in COLUMNS)
-        if line.startswith("  --"):
-            here = name[2:]
-            rows[here] = [default, said]
-        elif here and line.startswith("    "):
-            rows[here][1] = f"{rows[here][1]} {said}".strip()
-        else:
-            here = None
-    return {name: tuple(row) for name, row in rows.items() if name not in NAMES}
+def help_table():
+    """The table of the help page."""
+    lines = ["  option      default      range                            meaning"]
+    for row in program.ROWS:
+        first = [f"--{row.name}", row.default]
+        for k in range(max(len(row.range), len(row.help))):
+            name, default = first if k == 0 else ("", "")
+            said, meaning = (cell[k] if k < len(cell) else "" for cell in (row.range, row.help))
+            lines.append(f"  {name:12}{default:13}{said:33}{meaning}".rstrip())
+    return "\n".join(lines) + "\n"
 
 
-def code_defaults():
-    """The defaults that the program has, by the field."""
-    text = text_of(CODE)
-    found = re.findall(r"number_at\(matches, Field::(\w+), ([0-9_]+)\)", text)
-    lists = re.findall(r"list_at\(alloc, matches, Field::(\w+)\)", text)
-    defaults = {name.lower(): number.replace("_", "") for name, number in found if name != "N"}
-    scheme = re.search(r"scheme_named\(text\)\.unwrap_or\(SchemeName::(\w+)\)", text)
-    if scheme is None:
-        raise Unreadable(f"the default of --scheme in {CODE}")
-    return {**defaults, **{name.lower(): "none" for name in lists}, "scheme": scheme[1].lower()}
+def in_page(text):
+    """A default or a range as the document has it: long numbers in groups, what is computed in back quotes."""
+    text = re.sub(r"\w+ \* \(.*?\) <= \d+|\d+\^\d+", r"`\g<0>`", text)
+    return re.sub(r"\b\d{7,}\b", lambda found: f"{int(found[0]):,}", text)
 
 
-def plain(text):
-    """A range in the words that help page and document share."""
-    text = re.sub(r"(?<=[0-9]),(?=[0-9]{3})", "", text.replace("`", "").replace(" from ", ", "))
-    for old, new in ((", a multiple", ", multiple"), (" numbers", ""), (" number more", " more"), ("; pages", ", and pages")):
-        text = text.replace(old, new)
-    return re.sub(r"\W+(?:at most|<=) 65536", " at most 65536", text.replace("4096 below", "4096, below"))
+def page_table():
+    """The table of the document."""
+    rows = ["| option | default | range | meaning |", "|---|---|---|---|"]
+    for row in program.ROWS:
+        rows.append(f"| `--{row.name}` | {in_page(row.default)} | {in_page(' '.join(row.range))} | {row.page} |")
+    return "\n".join(rows) + "\n"
 
 
-def document_rows():
-    """The table of the document: of each field its default and its range. A row can tell of two fields."""
+# Of each file that has a table, how that begins and ends, and what it is to be.
+TABLES = {
+    SCRIPT: (r"^  option +default +range +meaning\n(?:  .*\n)*", help_table),
+    DOCUMENT: (r"^\| option \| default \| range \| meaning \|\n(?:\|.*\n)*", page_table),
+}
+
+
+def found_in(name):
+    """The table that a file has."""
+    found = re.search(TABLES[name][0], text_of(name), re.M)
+    if found is None:
+        raise Unreadable(f"the table of options in {name}")
+    return found[0]
+
+
+def write():
+    """Writes both tables. The status."""
+    for name, (_, made) in TABLES.items():
+        text = text_of(name).replace(found_in(name), made())
+        with open(repository.path(name), "w", encoding="utf-8") as file:
+            file.write(text)
+    print(f"written to {' and '.join(TABLES)}: {len(program.ROWS)} options")
+    return 0
+
+
+def said_by(bounds):
+    """A range of the code in the words of the table."""
+    name, _, rest = bounds.replace("Bounds::", "").replace("Field::", "").replace("_", "").rstrip(")").partition("(")
+    numbers = rest.lower().split(", ")
+    said = {
+        "Any": "any",
+        "AtMost": "at most {0}",
+        "AtMostOf": "at most {0}",
+        "Between": "{0} to {1}",
+        "Eights": "{0} to {1}, multiple of 8",
+        "Below": "{0} to {1}, below {2}",
+        "PowerOfTwo": "a power of two, 1 to 64",
+        "PageAddress": "multiple of 4096, below 2^62",
+    }
+    return said[name].format(*numbers) if name in said else bounds
+
+
+def code_rows():
+    """The program's own table, in its order: of each option its name, default, range, and commands."""
+    text = re.sub(r"\s+", " ", text_of(CODE))
+    order = re.search(r"static FIELDS: [^=]*= \[(.*?)\];", text)
     rows = {}
-    for line in text_of(DOCUMENT).splitlines():
-        cells = [cell.strip() for cell in line.strip("|").split("|")]
-        names = re.findall(r"`--(\w+)`", cells[0]) if line.startswith("| `--") else []
-        if len(cells) != 4 or not names or names[0] in NAMES:
-            continue
-        defaults = re.sub(r"(?<=[0-9]),(?=[0-9]{3})", "", cells[1]).split(", ")
-        ranges = cells[2].split("; ") if len(names) == 2 else [cells[2]]
-        for k, name in enumerate(names):
-            rows[name] = (defaults[min(k, len(defaults) - 1)], ranges[min(k, len(ranges) - 1)])
-    return rows
+    for field, made, name, rest in re.findall(r'Field::(\w+) => (?:\{ )?(\w+)\( ?"(\w+)", (.*?),? ?\)(?:,| \})(?= Field::| \})', text):
+        value, _, more = rest.partition(", ")
+        if made == "row":
+            default, said, made = ("thynvm" if value == "Value::Name" else "none"), None, more.replace("Commands::", "")
+        else:
+            default, said = value.replace("_", ""), said_by(more)
+        rows[field] = (name, default, said, COMMANDS.get(made, made))
+    fields = re.findall(r"Field::(\w+)", order[1]) if order else []
+    if not fields or not set(fields) <= set(rows):
+        raise Unreadable(f"the table of options in {CODE}")
+    return [rows[field] for field in fields]
 
 
-def table_defaults():
-    """The defaults that the scripts have, by the field."""
-    return {name: str(field.default or "none" if name in program.LISTS else field.default) for name, field in program.FIELDS.items()}
+def plain(said):
+    """A range with its numbers written out."""
+    return re.sub(r"\b10\^(\d+)", lambda found: "1" + "0" * int(found[1]), " ".join(said)).replace("1 or 2", "1 to 2")
 
 
-def compared(page):
-    """The options of `compare`: those of the page but for the ones that it names, those in the program's source, and those
-    of which the program knows when it is called."""
-    without = re.search(r"It takes all but (.*?)\.", repository.help_page(), re.S)
-    code = re.search(r"static COMPARE_OPTIONS.*?\];", text_of("crates/thy_words/src/command_line.rt"), re.S)
-    told = {*page, *NAMES} - set(re.findall(r"--(\w+)", without[1] if without else ""))
-    return told, set(re.findall(r'"(\w+)"', code[0] if code else ""))
+def code_differences():
+    """How the code's table differs from that of the scripts."""
+    code, rows = code_rows(), [row for row in program.ROWS if row.name not in NAMES]
+    if [row[0] for row in code] != [row.name for row in rows]:
+        yield f"{CODE} has other options than {TABLE}, or in another order"
+    for (name, default, said, commands), row in zip(code, rows):
+        for what, there, here in (
+            ("default", default, row.default),
+            ("range", said or plain(row.range), plain(row.range)),
+            ("commands", commands, " ".join(row.commands)),
+        ):
+            if there != here:
+                yield f"--{name}: the {what} is {there} in {CODE}, {here} in {TABLE}"
 
 
 def is_taken(called, name, folder):
@@ -104,11 +146,6 @@ def is_taken(called, name, folder):
     call = [called, "compare", os.path.join(folder, "none"), f"--{name}", *value]
     done = subprocess.run(call, stdout=subprocess.DEVNULL, stderr=subprocess.PIPE, text=True)
     return done.stderr != "usage\n"
-
-
-def number(text):
-    base, _, power = text.partition("^")
-    return int(base) ** int(power or 1)
 
 
 def tries(name, said):
@@ -130,11 +167,11 @@ def tries(name, said):
         return one(0, 22) + [["--low", "5", "--high", "5"]], one(23) + [["--low", "6", "--high", "5"]]
     step = int(found[1]) if (found := re.search(r"multiple of ([0-9]+)", said)) else 1
     if found := re.search(r"([0-9]+) (?:to|or) ([0-9^]+)", said):
-        low, high = number(found[1]), number(found[2])
+        low, high = program.number(found[1]), program.number(found[2])
     elif found := re.search(r"below ([0-9^]+)", said):
-        low, high = 0, number(found[1]) - step
+        low, high = 0, program.number(found[1]) - step
     else:
-        low, high = 0, number(re.search(r"at most ([0-9]+)", said)[1])
+        low, high = 0, program.number(re.search(r"at most ([0-9]+)", said)[1])
     good, bad = one(low, low + step, high), one(low - 1, high + step) + (one(low + 1) if step > 1 else [])
     if "power of two" in said:
         good, bad = one(*(2**k for k in range(low // 2, high.bit_length()))), bad + one(3, 48)
@@ -154,30 +191,17 @@ def answer(called, words, folder):
 
 def differences(called):
     """How they differ."""
-    page, code, document, table = help_rows(), code_defaults(), document_rows(), table_defaults()
-    for name in sorted({*page, *code, *document}):
-        if name not in page or name not in code or name not in document:
-            yield f"--{name} is not in all three"
-            continue
-        default, range_said = page[name]
-        if not default == code[name] == document[name][0]:
-            yield f"--{name}: the default is {default}, {code[name]} in the program, {document[name][0]} in {DOCUMENT}"
-        if plain(range_said) != plain(document[name][1]):
-            yield f"--{name}: the range is '{range_said}', in {DOCUMENT} '{document[name][1]}'"
-        if table.get(name, default) != default:
-            yield f"--{name}: the default is {default}, in {TABLE} {table[name]}"
-        yield from wrong_answers(called, name, range_said)
-    for name in sorted({*page, *NAMES} ^ set(program.OPTIONS)):
-        yield f"--{name} is in only one of the help page and {TABLE}"
-    told, known = compared(page)
-    for name in sorted(told ^ known):
-        yield f"compare --{name} is in only one of the help page and the program's source"
-    for name in sorted(told ^ set(program.COMPARED)):
-        yield f"compare --{name} is in only one of the help page and {TABLE}"
+    for name, (_, made) in TABLES.items():
+        if found_in(name) != made():
+            yield f"the table of options in {name} is not that of {TABLE}: `tools/lint help --write` writes it"
+    yield from code_differences()
+    for row in program.ROWS:
+        if row.name not in NAMES:
+            yield from wrong_answers(called, row.name, " ".join(row.range))
     with tempfile.TemporaryDirectory() as folder:
-        for name in sorted({*page, *NAMES}):
-            if is_taken(called, name, folder) != (name in told):
-                yield f"compare --{name}: the program and the help page differ"
+        for row in program.ROWS:
+            if is_taken(called, row.name, folder) != ("compare" in row.commands):
+                yield f"compare --{row.name}: the program and {TABLE} differ"
 
 
 def wrong_answers(called, name, range_said):
@@ -194,6 +218,7 @@ def wrong_answers(called, name, range_said):
 def add_to(parser):
     """The options of this part."""
     parser.add_program()
+    parser.add_argument("--write", action="store_true", help="write the tables of the help page and of docs/USING.md")
 
 
 def check(words=None):
@@ -201,9 +226,9 @@ def check(words=None):
     called = repository.PROGRAM if words is None else words.program
     if not repository.is_built(called):
         raise Refused(f"there is no program {called}: a call of ./thynvm builds it")
-    return verdict(list(differences(called)), f"{len(help_rows())} options agree")
+    return verdict(list(differences(called)), f"{len(program.FIELDS)} options agree")
 
 
 def work(words):
-    """Does the same with the program that is named. The status."""
-    return check(words)
+    """Does the same with the program that is named, or writes. The status."""
+    return write() if words.write else check(words)

@@ -3,7 +3,7 @@
 ghost use Rattle.std.specs.Prelude.{◌≡◌, ◌<◌, false, OnOk};
 
 use super::Control;
-use thy_base::{Nvm, NvmError};
+use thy_block::{Nvm, NvmError};
 use thy_cell::{a_frame_is_loaded, listed_cells_are_sound};
 use thy_places::{Place, number};
 use thy_table::{BttEntry, PttEntry};

@@ -1,13 +1,13 @@
 //! The copies that the checkpoint under way still needs.
 ghost use Rattle.std.specs.Prelude.{◌≡◌, ◌≢◌, ◌<◌, false, length, is_some, IfOk, IfSome, OnOk};
-ghost use Rattle.thy_base.specs.Geometry.{memory_blocks};
+ghost use Rattle.thy_block.specs.Geometry.{memory_blocks};
 ghost use Rattle.thy_table.specs.declared.block_entry.Pending.TheVariants.{Settled as IsSettled};
 ghost use Rattle.thy_control.specs.Copies.{block_in};
 
 use super::Control;
 use super::moving::move_block;
 use crate::cursors::goes_on;
-use thy_base::{Nvm, NvmError};
+use thy_block::{Nvm, NvmError};
 use thy_cell::a_copy_keeps_versions;
 use thy_table::{BttEntry, Pending, Test};
 

@@ -1,7 +1,7 @@
 //! Buffers that lie over the frames of their pages.
 ghost use Rattle.std.specs.Prelude.{◌≡◌, ◌+◌, ◌<◌, true, false, length, is_some, IfSome};
-ghost use Rattle.thy_base.specs.Device.{Device};
-ghost use Rattle.thy_base.specs.Geometry.{memory_blocks};
+ghost use Rattle.thy_block.specs.Device.{Device};
+ghost use Rattle.thy_block.specs.Geometry.{memory_blocks};
 ghost use Rattle.thy_table.specs.PageEntry.{is_framed as IsFramedPage};
 ghost use Rattle.thy_table.specs.declared.block_entry.Working.TheVariants.{InBuffer as IsInBuffer};
 

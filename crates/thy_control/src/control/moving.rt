@@ -1,11 +1,11 @@
 //! The move of a block from one place to another.
 ghost use Rattle.std.specs.Prelude.{◌≡◌, true, false, OnOk, OnErr};
-ghost use Rattle.thy_base.specs.Device.{HasFailed, IsFramed, CountsFault};
+ghost use Rattle.thy_block.specs.Device.{HasFailed, IsFramed, CountsFault};
 ghost use Rattle.thy_places.specs.Places.{in_dram, IsPlace};
 ghost use Rattle.thy_place.specs.Devices.{AreSized, devices_of};
 ghost use Rattle.thy_control.specs.Moves.{moved, FailsMove};
 
-use thy_base::{Geometry, Nvm, NvmError};
+use thy_block::{Geometry, Nvm, NvmError};
 use thy_dram::Dram;
 use thy_place::{read_place, write_place};
 use thy_places::{Place, number};

@@ -3,7 +3,7 @@ ghost use Rattle.std.specs.Prelude.{◌≡◌, ◌+◌, ◌*◌, ◌<◌, length
 ghost use Rattle.thy_table.specs.Listing.{entry_at};
 
 use super::Control;
-use thy_base::PAGE_BLOCKS;
+use thy_block::PAGE_BLOCKS;
 
 impl Control {
     ghost use Rattle.thy_control.specs.Pages.{next_page};

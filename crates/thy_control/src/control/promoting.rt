@@ -1,6 +1,6 @@
 //! The pages that are being promoted.
 ghost use Rattle.std.specs.Prelude.{◌≡◌, ◌+◌, ◌<◌, ◌*◌, ◌^◌, ◌%◌, true, false, if◌then◌else◌, length, is_some, IfOk, IfSome, OnOk, OnErr};
-ghost use Rattle.thy_base.specs.Geometry.{memory_blocks};
+ghost use Rattle.thy_block.specs.Geometry.{memory_blocks};
 ghost use Rattle.thy_places.specs.Places.{in_dram};
 ghost use Rattle.thy_cell.specs.Cells.{work as work_place};
 ghost use Rattle.thy_table.specs.PageEntry.{is_framed as IsFramedPage};
@@ -10,7 +10,7 @@ use super::Control;
 use super::moving::move_to_dram;
 use crate::cursors::goes_on;
 use crate::overlay::WorkCounts;
-use thy_base::{Nvm, NvmError, PAGE_BLOCKS};
+use thy_block::{Nvm, NvmError, PAGE_BLOCKS};
 use thy_cell::{a_promotion_keeps_others, a_promotion_keeps_versions};
 use thy_table::{PttEntry, Test};
 

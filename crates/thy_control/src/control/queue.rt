@@ -1,6 +1,6 @@
 //! The DRAM below the controller: what is queued there, and what a loss of power leaves.
 ghost use Rattle.std.specs.Prelude.{◌≡◌, ◌<◌};
-ghost use Rattle.thy_base.specs.Device.{Device};
+ghost use Rattle.thy_block.specs.Device.{Device};
 ghost use Rattle.thy_dram.specs.Contents.{lost};
 
 use super::Control;

@@ -7,7 +7,7 @@ ghost use Rattle.thy_places.specs.Places.{table_blocks, count_blocks};
 ghost use Rattle.thy_control.specs.TableBlocks.{block_due, page_due};
 
 use super::Control;
-use thy_base::Block;
+use thy_block::Block;
 use thy_layout::table_block;
 use thy_places::table_blocks as blocks_of_tables;
 use thy_table::{Btt, BttEntry, Ptt, PttEntry, Site, Version};

@@ -1,12 +1,12 @@
 //! The pages that the checkpoint under way has still to write.
 ghost use Rattle.std.specs.Prelude.{◌≡◌, ◌<◌, ◌*◌, ◌^◌, ◌%◌, true, false, length, is_some, IfOk, IfSome, OnOk};
-ghost use Rattle.thy_base.specs.Geometry.{memory_blocks};
+ghost use Rattle.thy_block.specs.Geometry.{memory_blocks};
 ghost use Rattle.thy_control.specs.Pages.{page_in, block_after};
 
 use super::Control;
 use super::moving::move_block;
 use crate::cursors::goes_on;
-use thy_base::{Nvm, NvmError, PAGE_BLOCKS};
+use thy_block::{Nvm, NvmError, PAGE_BLOCKS};
 use thy_cell::{a_page_write_keeps_others, a_page_write_keeps_versions};
 use thy_table::{PttEntry, Test, WHOLE_PAGE};
 

@@ -1,7 +1,7 @@
 //! Calls of a controller of the least memory, and of the NVM below it. Each tests what its call requires, and stops the
 //! test if that does not hold.
 ghost use Rattle.std.specs.Prelude.{◌≡◌, ◌<◌, true, false, length, is_some};
-ghost use Rattle.thy_base.specs.Device.{Device};
+ghost use Rattle.thy_block.specs.Device.{Device};
 ghost use Rattle.thy_places.specs.Places.{image_blocks};
 ghost use Rattle.thy_control.specs.Copies.{next_copy, after_next_copy};
 ghost use Rattle.thy_control.specs.Pages.{next_page, after_next_write};

@@ -1,8 +1,8 @@
 //! A machine of the least memory whose power is off, and one that boots.
 ghost use Rattle.std.specs.Prelude.{◌≡◌, true, false, length};
-ghost use Rattle.thy_base.specs.Device.{IsFramed};
-ghost use Rattle.thy_base.specs.Geometry.{IsInRange};
-ghost use Rattle.thy_base.specs.Places.{dram_blocks};
+ghost use Rattle.thy_block.specs.Device.{IsFramed};
+ghost use Rattle.thy_block.specs.Geometry.{IsInRange};
+ghost use Rattle.thy_block.specs.Places.{dram_blocks};
 ghost use Rattle.thy_boot.specs.Boot.{new_boot};
 ghost use Rattle.thy_control.specs.State.{new_state};
 ghost use Rattle.thy_isa.specs.Step.{state_of};

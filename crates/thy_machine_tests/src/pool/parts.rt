@@ -1,9 +1,9 @@
 //! Pool, engine and boot of shadow paging over the least memory, and the NVM below them: what its calls are made of. Each call
 //! here tests what it requires, and stops the test if that does not hold.
 ghost use Rattle.std.specs.Prelude.{◌≡◌, ◌<◌, ◌≤◌, true, false, length};
-ghost use Rattle.thy_base.specs.Device.{IsFramed};
-ghost use Rattle.thy_base.specs.Geometry.{IsInRange};
-ghost use Rattle.thy_base.specs.Places.{dram_blocks};
+ghost use Rattle.thy_block.specs.Device.{IsFramed};
+ghost use Rattle.thy_block.specs.Geometry.{IsInRange};
+ghost use Rattle.thy_block.specs.Places.{dram_blocks};
 ghost use Rattle.thy_boot.specs.Boot.{new_boot};
 ghost use Rattle.thy_engine.specs.Progress.{is_under_way};
 ghost use Rattle.thy_isa.specs.Step.{state_of};

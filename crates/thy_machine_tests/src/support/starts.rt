@@ -1,7 +1,7 @@
 //! The smallest machine, and the plain machine at the start of a program.
 ghost use Rattle.std.specs.Prelude.{◌≡◌, length};
-ghost use Rattle.thy_base.specs.Bytes.{bytes_of};
-ghost use Rattle.thy_base.specs.Geometry.{program_size};
+ghost use Rattle.thy_block.specs.Bytes.{bytes_of};
+ghost use Rattle.thy_block.specs.Geometry.{program_size};
 
 use crate::support::geometry::geometry_of;
 use std::alloc::Global;

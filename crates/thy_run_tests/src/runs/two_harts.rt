@@ -1,6 +1,6 @@
 //! Runs of two harts: whose turns they took, and their states against the plain machine that takes the same turns.
 ghost use Rattle.std.specs.Prelude.{◌≡◌};
-ghost use Rattle.thy_base.specs.Geometry.{program_size};
+ghost use Rattle.thy_block.specs.Geometry.{program_size};
 
 use crate::runs::programs::{file_of, patched, shelf_of};
 use crate::runs::{answered, called, check, compare, expect_on};

@@ -1,6 +1,6 @@
 //! Each call of the inner device fails in turn, before it has done anything or late, and then power is cut.
 ghost use Rattle.std.specs.Prelude.{◌≡◌, ◌<◌, ◌≤◌, false, length};
-ghost use Rattle.thy_base.specs.Device.{IsFramed};
+ghost use Rattle.thy_block.specs.Device.{IsFramed};
 
 use crate::gap::steps::{block_of, four_lines, step};
 use crate::support::expect::expect_at;

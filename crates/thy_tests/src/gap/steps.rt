@@ -1,6 +1,6 @@
 //! Devices of four lines, and writes to them.
 ghost use Rattle.std.specs.Prelude.{◌≡◌, ◌<◌, false, length, OnOk, []};
-ghost use Rattle.thy_base.specs.Device.{IsFramed};
+ghost use Rattle.thy_block.specs.Device.{IsFramed};
 ghost use Rattle.thy_gap.specs.Levelled.{shown};
 
 use std::alloc::Global;

@@ -1,5 +1,5 @@
 use Rattle.std.proofs.Common.{ℕ, Option, sym, ap, subst, string_bytes}
-use Rattle.thy_base.specs.declared.config.Parameters.{Parameters}
+use Rattle.thy_block.specs.declared.parameters.Parameters.{Parameters}
 use Rattle.observe.proofs.SectionLemmas.{some-weaker, state-listed}
 use Rattle.observe.specs.Sections.{GoesOn, IsStatePart}
 use Rattle.observe.proofs.sections.with_state.Goals as goal

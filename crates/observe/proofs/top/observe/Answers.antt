@@ -1,6 +1,6 @@
 use Rattle.std.proofs.Common.{◌≡◌, refl, sym, ◌∙◌, inl, inr, subst, string_bytes}
 use Rattle.std.specs.Prelude.{IfSome, map, option_map}
-use Rattle.thy_base.specs.Outside.{Stock}
+use Rattle.thy_block.specs.Outside.{Stock}
 use Rattle.thy_words.specs.Settings.{order_of}
 use Rattle.thy_answer.specs.Saving.{IsPut}
 use Rattle.thy_answer.proofs.ShelfLemmas.{stock_same}

@@ -1,5 +1,5 @@
 use Rattle.std.proofs.Common.{◌≡◌, ◌+◌, ◌<◌, ◌≤◌, ℕ, [], sym, ◌∙◌, ap, subst, arith}
-use Rattle.thy_base.specs.declared.nvm.Shape.{Shape}
+use Rattle.thy_block.specs.declared.nvm.Shape.{Shape}
 use Rattle.thy_run.specs.Sending.{sinks}
 use Rattle.thy_run.proofs.StartLemmas.{Running-first}
 use Rattle.sweep.specs.Sweeping.{IsSwept}

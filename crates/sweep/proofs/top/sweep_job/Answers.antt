@@ -1,6 +1,6 @@
 use Rattle.std.proofs.Common.{refl}
-use Rattle.thy_base.specs.declared.config.SchemeName.TheVariants.{Thynvm, Journal, Shadow}
-use Rattle.thy_base.specs.Geometry.{parameters_of}
+use Rattle.thy_block.specs.declared.parameters.SchemeName.TheVariants.{Thynvm, Journal, Shadow}
+use Rattle.thy_base.specs.Config.{parameters_of}
 use Rattle.thy_files.proofs.RestoringLaws.{reads_by}
 use Rattle.sweep.proofs.top.sweep_job.Goals as goal
 

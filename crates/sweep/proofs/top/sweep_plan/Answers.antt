@@ -1,7 +1,7 @@
 use Rattle.std.proofs.Common.{◌≡◌, ◌+◌, ◌-◌, length, replicate, sym, ◌∙◌, ap, arith, length-append}
 use Rattle.std.proofs.lemmas.List.{length-replicate}
-use Rattle.thy_base.specs.declared.nvm.Shape.{Shape}
-use Rattle.thy_base.specs.Device.{Device, zero_block}
+use Rattle.thy_block.specs.declared.nvm.Shape.{Shape}
+use Rattle.thy_block.specs.Device.{Device, zero_block}
 use Rattle.thy_image.proofs.LawLemmas.{some_blocks}
 use Rattle.thy_execute.proofs.PlanLemmas.{fitted_for_plan}
 use Rattle.sweep.proofs.top.sweep_plan.Goals as goal

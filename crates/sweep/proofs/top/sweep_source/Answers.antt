@@ -1,5 +1,5 @@
 use Rattle.std.proofs.Common.{◌≡◌, sym, subst}
-use Rattle.thy_base.specs.Geometry.{parameters_of}
+use Rattle.thy_base.specs.Config.{parameters_of}
 use Rattle.thy_words.specs.Settings.{Job, job_of}
 use Rattle.thy_files.specs.Restoring.{ReadsFiles}
 use Rattle.thy_answer.specs.Kept.{named}

@@ -1,4 +1,4 @@
-use Rattle.thy_base.specs.Device.{Device}
+use Rattle.thy_block.specs.Device.{Device}
 use Rattle.thy_sweep.specs.Choices.{chosen, places_of}
 use Rattle.thy_trial.specs.declared.room.Found.{Found}
 use Rattle.sweep.proofs.RowLemmas.{HasTried-one}

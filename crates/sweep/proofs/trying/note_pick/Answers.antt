@@ -1,6 +1,6 @@
 use Rattle.std.proofs.Common.{subst}
 use Rattle.std.specs.Prelude.{Option, IfSome}
-use Rattle.thy_base.specs.Device.{Device}
+use Rattle.thy_block.specs.Device.{Device}
 use Rattle.thy_nvm.specs.Pick.{picked}
 use Rattle.thy_run.specs.Going.{origin_of}
 use Rattle.thy_trial.specs.declared.room.Found.{Found}

@@ -1,6 +1,6 @@
 use Rattle.std.proofs.Common.{◌≡◌, ◌-◌, ◌^◌, min, List, sym, ◌∙◌, ap, subst}
 use Rattle.std.proofs.lemmas.Result.{on_ok_weaker}
-use Rattle.thy_base.specs.Device.{Device}
+use Rattle.thy_block.specs.Device.{Device}
 use Rattle.thy_sweep.specs.Choices.{Place, count_of, places_of}
 use Rattle.sweep.specs.declared.row.Row.{Row}
 use Rattle.sweep.specs.Rows.{HasTried}

@@ -1,5 +1,5 @@
 use Rattle.std.proofs.Common.{sym, ◌≤◌, length, arith}
-use Rattle.thy_base.proofs.RangeLemmas.{fault_in-cuts}
+use Rattle.thy_base.proofs.ConfigLemmas.{fault_in-cuts}
 use Rattle.thy_base.proofs.ranges.cuts.Goals as goal
 
 pub returns : goal.returns

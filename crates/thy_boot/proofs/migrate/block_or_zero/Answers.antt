@@ -1,6 +1,6 @@
 use Rattle.std.proofs.Common.{sym, ◌∙◌, arith}
 use Rattle.std.proofs.lemmas.List.{get_or_past}
-use Rattle.thy_base.specs.Device.{zero_block}
+use Rattle.thy_block.specs.Device.{zero_block}
 use Rattle.thy_layout.specs.Files.{blocks_of}
 use Rattle.thy_layout.proofs.FileLemmas.{length-blocks_of, block_at-blocks_of}
 use Rattle.thy_boot.proofs.migrate.block_or_zero.Goals as goal

@@ -1,6 +1,6 @@
 use Rattle.std.proofs.Common.{◌-◌, ◌*◌, length, replicate, ◌++◌, sym, ◌∙◌, arith}
-use Rattle.thy_base.specs.Bytes.{bytes_of}
-use Rattle.thy_base.specs.Geometry.{console_room}
+use Rattle.thy_block.specs.Bytes.{bytes_of}
+use Rattle.thy_block.specs.Geometry.{console_room}
 use Rattle.thy_isa.specs.Step.{state_of}
 use Rattle.thy_boot.proofs.StartLemmas.{memory_block, console_block, block_at-start_blocks}
 use Rattle.thy_boot.proofs.start.start_block.Goals as goal

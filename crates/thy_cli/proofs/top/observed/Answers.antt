@@ -1,5 +1,5 @@
 use Rattle.std.proofs.Common.{refl}
-use Rattle.thy_base.specs.declared.config.SchemeName.TheVariants.{Thynvm, Journal, Shadow}
+use Rattle.thy_block.specs.declared.parameters.SchemeName.TheVariants.{Thynvm, Journal, Shadow}
 use Rattle.thy_answer.specs.Answering.{around, nvm_of}
 use Rattle.thy_files.proofs.RestoringLaws.{reads_by}
 use Rattle.thy_cli.proofs.ClaimLaws.{ClaimSeen-answered}

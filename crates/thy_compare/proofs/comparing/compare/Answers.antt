@@ -1,6 +1,6 @@
 use Rattle.std.proofs.Common.{◌≡◌, inl, inr, refl, sym, subst}
-use Rattle.thy_base.specs.declared.config.SchemeName.{SchemeName}
-use Rattle.thy_base.specs.Outside.{Stock}
+use Rattle.thy_block.specs.declared.parameters.SchemeName.{SchemeName}
+use Rattle.thy_block.specs.Outside.{Stock}
 use Rattle.thy_answer.specs.Answering.{around, nvm_of}
 use Rattle.thy_answer.specs.Machines.{by_scheme}
 use Rattle.thy_execute.specs.Planning.{CanRun}

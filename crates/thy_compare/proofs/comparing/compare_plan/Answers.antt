@@ -1,6 +1,6 @@
 use Rattle.std.proofs.Common.{true, false, [], refl, sym, ◌∙◌, ap, subst, arith}
 use Rattle.std.proofs.lemmas.Bool.{le-leb, lt-leb}
-use Rattle.thy_base.specs.declared.config.SchemeName.TheVariants.{Thynvm, Journal, Shadow}
+use Rattle.thy_block.specs.declared.parameters.SchemeName.TheVariants.{Thynvm, Journal, Shadow}
 use Rattle.thy_run.specs.declared.plan.Plan.{Plan}
 use Rattle.thy_answer.specs.Answering.{around, nvm_of}
 use Rattle.thy_compare.specs.Compared.{RunsNext, plan_under}

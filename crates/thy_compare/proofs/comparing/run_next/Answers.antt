@@ -1,5 +1,5 @@
 use Rattle.std.proofs.Common.{◌∙◌, ◌++◌, ap, subst, refl, inl, inr}
-use Rattle.thy_base.specs.declared.config.Parameters.{Parameters}
+use Rattle.thy_block.specs.declared.parameters.Parameters.{Parameters}
 use Rattle.thy_answer.specs.declared.refusal.Refusal.TheVariants.{Device as DeviceRefusal, Memory as MemoryRefusal}
 use Rattle.thy_answer.specs.Answering.{stop_line}
 use Rattle.thy_run.specs.Sending.{Sent}

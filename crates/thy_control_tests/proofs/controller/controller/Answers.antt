@@ -1,5 +1,5 @@
 use Rattle.std.proofs.Common.{◌≡◌, length, not, IfOk, sym, ◌∙◌, ap, subst, arith}
-use Rattle.thy_base.specs.Device.{Device}
+use Rattle.thy_block.specs.Device.{Device}
 use Rattle.thy_control.specs.State.{State, IsSized, new_state}
 use Rattle.thy_control.specs.Holding.{holding_of}
 use Rattle.thy_control_tests.specs.Beside.{Takes, all}

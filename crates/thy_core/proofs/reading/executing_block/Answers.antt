@@ -1,5 +1,5 @@
 use Rattle.std.proofs.Common.{◌≡◌, IfOk, subst}
-use Rattle.thy_base.specs.declared.block.Block.{Block}
+use Rattle.thy_block.specs.declared.block.Block.{Block}
 use Rattle.thy_core.proofs.ReadingLemmas.{loads_inside, block_hit, block_miss}
 use Rattle.thy_core.proofs.reading.executing_block.Goals as goal
 

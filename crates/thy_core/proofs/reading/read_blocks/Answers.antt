@@ -1,6 +1,6 @@
 use Rattle.std.proofs.Common.{◌<◌, length, refl, sym, ◌∙◌, ap, subst, arith}
-use Rattle.thy_base.specs.Bytes.{bytes_of}
-use Rattle.thy_base.specs.Device.{Device}
+use Rattle.thy_block.specs.Bytes.{bytes_of}
+use Rattle.thy_block.specs.Device.{Device}
 use Rattle.thy_scheme.specs.Scheme.{CanRun}
 use Rattle.thy_core.specs.MachineParts.{machine_of}
 use Rattle.thy_core.specs.Reading.{blocks_in}

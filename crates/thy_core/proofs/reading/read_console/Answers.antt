@@ -1,8 +1,8 @@
 use Rattle.std.proofs.Common.{◌≡◌, ℕ, ◌-◌, ◌%◌, ◌≤◌, ◌*◌, ◌+◌, List, length, take, drop, ◌∙◌, ap, arith}
-use Rattle.thy_base.specs.declared.block.Block.{Block}
-use Rattle.thy_base.specs.declared.config.Parameters.{Parameters}
-use Rattle.thy_base.specs.Geometry.{program_size}
-use Rattle.thy_base.proofs.RangeLemmas.{console_below}
+use Rattle.thy_block.specs.declared.block.Block.{Block}
+use Rattle.thy_block.specs.declared.parameters.Parameters.{Parameters}
+use Rattle.thy_block.specs.Geometry.{program_size}
+use Rattle.thy_block.proofs.RangeLemmas.{console_below}
 use Rattle.thy_core.specs.MachineParts.{machine_of}
 use Rattle.thy_core.specs.Reading.{blocks_in}
 use Rattle.thy_core.proofs.ReadingLemmas.{console_piece}

@@ -1,7 +1,7 @@
 use Rattle.std.proofs.Common.{◌*◌, ◌-◌, drop, sym, ◌∙◌, ap}
-use Rattle.thy_base.specs.declared.config.Parameters.{Parameters}
-use Rattle.thy_base.specs.Bytes.{bytes_of}
-use Rattle.thy_base.specs.Device.{Device}
+use Rattle.thy_block.specs.declared.parameters.Parameters.{Parameters}
+use Rattle.thy_block.specs.Bytes.{bytes_of}
+use Rattle.thy_block.specs.Device.{Device}
 use Rattle.thy_flat.specs.Flat.{console_bytes}
 use Rattle.thy_isa.specs.declared.state.CpuState.{CpuState}
 use Rattle.thy_isa.specs.Step.{state_of, state_with}

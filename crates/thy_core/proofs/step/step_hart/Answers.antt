@@ -1,5 +1,5 @@
 use Rattle.std.proofs.Common.{length, Result, Ok, Err, refl, sym, ◌∙◌, ap}
-use Rattle.thy_base.specs.declared.nvm.NvmError.{NvmError}
+use Rattle.thy_block.specs.declared.nvm.NvmError.{NvmError}
 use Rattle.thy_view.specs.declared.did.Stepped.{Stepped}
 use Rattle.thy_view.specs.Advances.{stepped_of}
 use Rattle.thy_view.specs.Turn.{Advances}

@@ -1,5 +1,5 @@
-use Rattle.thy_base.specs.Device.{possible}
-use Rattle.thy_base.proofs.MadeLemmas.{IsMadeOf-either}
+use Rattle.thy_block.specs.Device.{possible}
+use Rattle.thy_block.proofs.MadeLemmas.{IsMadeOf-either}
 use Rattle.thy_crash.proofs.laws.one_word_is_not_torn.Goals as goal
 
 pub returns : goal.returns

@@ -1,5 +1,5 @@
-use Rattle.thy_base.proofs.CrashLemmas.{Crash-of_blocks, Crash-whole}
-use Rattle.thy_base.proofs.DeviceLemmas.{HoldsNoMore-of_blocks, HoldsNoMore-but_block}
+use Rattle.thy_block.proofs.CrashLemmas.{Crash-of_blocks, Crash-whole}
+use Rattle.thy_block.proofs.DeviceLemmas.{HoldsNoMore-of_blocks, HoldsNoMore-but_block}
 use Rattle.thy_crash.proofs.laws.whole_blocks_are_words.Goals as goal
 
 pub returns-clause-words : goal.returns-clause-words

@@ -1,5 +1,5 @@
 use Rattle.std.proofs.Common.{◌%◌, ◌<◌, length, ◌∙◌, ap, arith}
-use Rattle.thy_base.specs.Lcg.{lcg_draw}
+use Rattle.thy_block.specs.Lcg.{lcg_draw}
 use Rattle.thy_dram.proofs.DrawLemmas.{bytes_over-step, after_bytes-step}
 use Rattle.thy_dram.proofs.draws.fill_bytes.Goals as goal
 

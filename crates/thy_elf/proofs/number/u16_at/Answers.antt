@@ -1,5 +1,5 @@
 use Rattle.std.proofs.Common.{◌∙◌, arith}
-use Rattle.thy_base.proofs.LittleEndianLemmas.{little_from-part}
+use Rattle.thy_block.proofs.LittleEndianLemmas.{little_from-part}
 use Rattle.thy_elf.proofs.number.u16_at.Goals as goal
 
 pub returns : goal.returns

@@ -1,6 +1,6 @@
 use Rattle.std.proofs.Common.{ap, subst, sym, ◌∙◌, ℕ}
 use Rattle.std.specs.Prelude.{option_map}
-use Rattle.thy_base.specs.declared.config.Parameters.{Parameters}
+use Rattle.thy_block.specs.declared.parameters.Parameters.{Parameters}
 use Rattle.thy_run.specs.Going.{origin_of, given_of}
 use Rattle.thy_answer.specs.Answering.{Outside, outside, ClosesAs}
 use Rattle.thy_execute.specs.Planning.{HasRoom}

@@ -1,5 +1,5 @@
 use Rattle.std.proofs.Common.{subst, arith}
-use Rattle.thy_base.specs.Bytes.{bytes_of}
+use Rattle.thy_block.specs.Bytes.{bytes_of}
 use Rattle.thy_files.specs.Restoring.{IsRestored}
 use Rattle.thy_files.proofs.BeginningLemmas.{Begins-image}
 use Rattle.thy_files.proofs.beginning.from_image.Goals as goal

@@ -1,6 +1,6 @@
 use Rattle.std.proofs.Common.{◌≡◌, sym, subst}
 use Rattle.std.specs.Result.{IfErr}
-use Rattle.thy_base.specs.Outside.{Stock}
+use Rattle.thy_block.specs.Outside.{Stock}
 use Rattle.thy_answer.specs.Kept.{named}
 use Rattle.thy_answer.specs.Sources.{ProgramDue}
 use Rattle.thy_answer.proofs.ShelfLemmas.{stock_same}

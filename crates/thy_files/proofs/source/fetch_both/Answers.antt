@@ -1,6 +1,6 @@
 use Rattle.std.proofs.Common.{◌≡◌, sym, subst}
-use Rattle.thy_base.specs.Bytes.{bytes_of}
-use Rattle.thy_base.specs.Outside.{Stock}
+use Rattle.thy_block.specs.Bytes.{bytes_of}
+use Rattle.thy_block.specs.Outside.{Stock}
 use Rattle.thy_answer.specs.Kept.{named}
 use Rattle.thy_answer.specs.Sources.{AreBytesOf, ProgramDue}
 use Rattle.thy_answer.proofs.ShelfLemmas.{stock_same}

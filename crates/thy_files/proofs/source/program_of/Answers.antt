@@ -1,5 +1,5 @@
 use Rattle.std.proofs.Common.{Ok, ◌∙◌}
-use Rattle.thy_base.specs.Bytes.{bytes_of}
+use Rattle.thy_block.specs.Bytes.{bytes_of}
 use Rattle.thy_elf.specs.Image.{contents_of}
 use Rattle.thy_files.proofs.BeginningLemmas.{IsProgramOf-read, bytes_read}
 use Rattle.thy_files.proofs.source.program_of.Goals as goal

@@ -1,8 +1,8 @@
 use Rattle.std.proofs.Common.{◌+◌, ◌∙◌, ap, subst, sym}
 use Rattle.std.proofs.lemmas.Result.{on_err_weaker}
-use Rattle.thy_base.specs.Device.{Device, HasFailedToWrite, newest}
-use Rattle.thy_base.specs.declared.block.Block.{Block}
-use Rattle.thy_base.proofs.BasicLemmas.{OnErr-of}
+use Rattle.thy_block.specs.Device.{Device, HasFailedToWrite, newest}
+use Rattle.thy_block.specs.declared.block.Block.{Block}
+use Rattle.thy_block.proofs.BasicLemmas.{OnErr-of}
 use Rattle.thy_gap.specs.Lines.{registers_block}
 use Rattle.thy_gap.proofs.MovingLemmas.{failed_at_read, failed_at_copy, failed_at_registers}
 use Rattle.thy_gap.proofs.moving.move_line.Goals as goal

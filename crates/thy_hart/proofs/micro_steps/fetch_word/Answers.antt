@@ -1,6 +1,6 @@
 use Rattle.std.proofs.Common.{◌∙◌, ap, subst}
-use Rattle.thy_base.specs.Blocks.{block_bytes}
-use Rattle.thy_base.specs.LittleEndian.{number_at}
+use Rattle.thy_block.specs.Blocks.{block_bytes}
+use Rattle.thy_block.specs.LittleEndian.{number_at}
 use Rattle.thy_cache.specs.Flat.{ReadsAs}
 use Rattle.thy_hart.proofs.FetchLemmas.{word_read}
 use Rattle.thy_hart.proofs.micro_steps.fetch_word.Goals as goal

@@ -1,5 +1,5 @@
 use Rattle.std.proofs.Common.{◌≡◌, ◌+◌, ◌≤◌, ◌∙◌, ap, subst, arith}
-use Rattle.thy_base.specs.LittleEndian.{number_at, number_bytes}
+use Rattle.thy_block.specs.LittleEndian.{number_at, number_bytes}
 use Rattle.thy_flat.specs.declared.span.Span.{Span}
 use Rattle.thy_flat.specs.Spans.{first_byte}
 use Rattle.thy_isa.specs.Effects.{size_of}

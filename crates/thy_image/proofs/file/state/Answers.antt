@@ -1,7 +1,7 @@
 use Rattle.std.proofs.Common.{◌≡◌, ◌∙◌, IfOk, ap, subst, sym}
-use Rattle.thy_base.specs.declared.config.Parameters.{Parameters}
-use Rattle.thy_base.specs.declared.config.SchemeName.{SchemeName}
-use Rattle.thy_base.specs.declared.config.SchemeName.TheVariants.{Thynvm, Journal, Shadow}
+use Rattle.thy_block.specs.declared.parameters.Parameters.{Parameters}
+use Rattle.thy_block.specs.declared.parameters.SchemeName.{SchemeName}
+use Rattle.thy_block.specs.declared.parameters.SchemeName.TheVariants.{Thynvm, Journal, Shadow}
 use Rattle.thy_isa.specs.declared.state.MachState.{MachState}
 use Rattle.thy_isa.specs.Step.{state_of}
 use Rattle.thy_layout.specs.Files.{HasCheckpointOf, HasState}

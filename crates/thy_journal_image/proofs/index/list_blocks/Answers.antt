@@ -1,6 +1,6 @@
 use Rattle.std.proofs.Common.{◌∙◌, ℕ, Option, length, take, ap, arith}
 use Rattle.std.proofs.lemmas.List.{take_all}
-use Rattle.thy_base.specs.declared.config.Parameters.{Parameters}
+use Rattle.thy_block.specs.declared.parameters.Parameters.{Parameters}
 use Rattle.thy_layout.specs.Files.{blocks_of}
 use Rattle.thy_journal_image.specs.Index.{with_block}
 use Rattle.thy_journal_image.specs.CheckpointParts.{memory_places}

@@ -1,6 +1,6 @@
 use Rattle.std.proofs.Common.{◌≡◌, ◌%◌, ◌∙◌, ℕ, ap, arith}
-use Rattle.thy_base.specs.declared.config.Parameters.{Parameters}
-use Rattle.thy_base.proofs.RangeLemmas.{btt_eights}
+use Rattle.thy_block.specs.declared.parameters.Parameters.{Parameters}
+use Rattle.thy_block.proofs.RangeLemmas.{btt_eights}
 use Rattle.thy_layout.specs.Files.{blocks_of}
 use Rattle.thy_layout.specs.TableSlots.{table_of}
 use Rattle.thy_journal_image.proofs.slot_faults.table_of.Goals as goal

@@ -1,5 +1,5 @@
 use Rattle.std.proofs.Common.{◌∙◌, ℕ, sym, ap, arith}
-use Rattle.thy_base.specs.declared.config.Parameters.{Parameters}
+use Rattle.thy_block.specs.declared.parameters.Parameters.{Parameters}
 use Rattle.thy_layout.specs.Header.{header_fault}
 use Rattle.thy_layout.specs.Layout.{Layout}
 use Rattle.thy_layout.proofs.reader.header_fault_in.Goals as goal

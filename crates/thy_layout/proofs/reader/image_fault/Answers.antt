@@ -1,6 +1,6 @@
 use Rattle.std.proofs.Common.{◌≡◌, ◌≤◌, ◌∙◌, ℕ, Bool, List, length, sym, ap, arith}
-use Rattle.thy_base.specs.declared.block.Block.{Block}
-use Rattle.thy_base.specs.Device.{block_at}
+use Rattle.thy_block.specs.declared.block.Block.{Block}
+use Rattle.thy_block.specs.Device.{block_at}
 use Rattle.thy_layout.specs.Commit.{commit_fault}
 use Rattle.thy_layout.specs.Files.{block_in, blocks_of, is_long_file}
 use Rattle.thy_layout.specs.Layout.{Layout, header_bad, slot_in}

@@ -1,5 +1,5 @@
 use Rattle.std.proofs.Common.{◌≡◌, map, take, drop}
-use Rattle.thy_base.specs.Device.{block_at}
+use Rattle.thy_block.specs.Device.{block_at}
 use Rattle.thy_flat.specs.Flat.{flat}
 use Rattle.thy_layout.specs.Files.{blocks_of}
 use Rattle.thy_layout.proofs.restored.gathered.Given as goal

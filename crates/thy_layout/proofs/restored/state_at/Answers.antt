@@ -1,11 +1,11 @@
 use Rattle.std.proofs.Common.{◌≡◌, ◌-◌, ◌*◌, ◌∙◌, List, map, take, ap, arith}
 use Rattle.std.proofs.lemmas.List.{length-map}
-use Rattle.thy_base.specs.declared.block.Block.{Block}
-use Rattle.thy_base.specs.declared.config.Parameters.{Parameters}
-use Rattle.thy_base.specs.Bytes.{bytes_of}
-use Rattle.thy_base.specs.Device.{block_at}
-use Rattle.thy_base.specs.Geometry.{IsInRange}
-use Rattle.thy_base.proofs.RangeLemmas.{console_below}
+use Rattle.thy_block.specs.declared.block.Block.{Block}
+use Rattle.thy_block.specs.declared.parameters.Parameters.{Parameters}
+use Rattle.thy_block.specs.Bytes.{bytes_of}
+use Rattle.thy_block.specs.Device.{block_at}
+use Rattle.thy_block.specs.Geometry.{IsInRange}
+use Rattle.thy_block.proofs.RangeLemmas.{console_below}
 use Rattle.thy_layout.specs.Files.{blocks_of}
 use Rattle.thy_layout.proofs.ReaderLemmas.{state_gathered}
 use Rattle.thy_layout.proofs.restored.state_at.Goals as goal

@@ -1,5 +1,5 @@
 use Rattle.std.proofs.Common.{◌*◌, ◌∙◌, sym, arith}
-use Rattle.thy_base.proofs.LittleEndianLemmas.{little_from-part}
+use Rattle.thy_block.proofs.LittleEndianLemmas.{little_from-part}
 use Rattle.thy_layout.proofs.FileLemmas.{record_word-blocks_of}
 use Rattle.thy_layout.proofs.slot.word_in.Goals as goal
 

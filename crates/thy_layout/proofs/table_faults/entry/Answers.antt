@@ -1,5 +1,5 @@
 use Rattle.std.proofs.Common.{◌*◌, ◌∙◌, sym, ap, arith}
-use Rattle.thy_base.proofs.LittleEndianLemmas.{little_from-part}
+use Rattle.thy_block.proofs.LittleEndianLemmas.{little_from-part}
 use Rattle.thy_layout.specs.Entries.{entry_from}
 use Rattle.thy_layout.proofs.ClashLemmas.{entry_at-table_in}
 use Rattle.thy_layout.proofs.table_faults.entry.Goals as goal

@@ -1,5 +1,5 @@
 use Rattle.std.proofs.Common.{◌*◌, arith}
-use Rattle.thy_base.specs.Places.{record_blocks}
+use Rattle.thy_block.specs.Places.{record_blocks}
 use Rattle.thy_layout.proofs.FileLemmas.{table_in-slice}
 use Rattle.thy_layout.proofs.table_slot.table_behind.Goals as goal
 

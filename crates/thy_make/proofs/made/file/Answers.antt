@@ -1,7 +1,7 @@
 use Rattle.std.proofs.Common.{◌≡◌, ◌∙◌, ap, length, arith}
 use Rattle.std.proofs.lemmas.Result.{IfOk-weaker}
-use Rattle.thy_base.specs.Bytes.{bytes_of}
-use Rattle.thy_base.specs.declared.bytes.Bytes.{Bytes}
+use Rattle.thy_block.specs.Bytes.{bytes_of}
+use Rattle.thy_block.specs.declared.bytes.Bytes.{Bytes}
 use Rattle.thy_make.specs.File.{made_file, file_of}
 use Rattle.thy_make.proofs.FileLemmas.{length-made_file}
 use Rattle.thy_make.proofs.ProgramLemmas.{length-made_words}

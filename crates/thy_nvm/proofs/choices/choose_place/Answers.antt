@@ -1,8 +1,8 @@
 use Rattle.std.proofs.Common.{sym, ap}
 use Rattle.std.proofs.lemmas.List.{set-get_or}
-use Rattle.thy_base.specs.Device.{possible, block_at, zero_block}
-use Rattle.thy_base.proofs.CrashLemmas.{Contains-stands}
-use Rattle.thy_base.proofs.MadeLemmas.{IsMadeOf-one}
+use Rattle.thy_block.specs.Device.{possible, block_at, zero_block}
+use Rattle.thy_block.proofs.CrashLemmas.{Contains-stands}
+use Rattle.thy_block.proofs.MadeLemmas.{IsMadeOf-one}
 use Rattle.thy_ring.specs.Held.{device_of}
 use Rattle.thy_nvm.proofs.choices.choose_place.Goals as goal
 

@@ -1,4 +1,4 @@
-use Rattle.thy_base.specs.Device.{IsMadeOf, possible}
+use Rattle.thy_block.specs.Device.{IsMadeOf, possible}
 use Rattle.thy_ring.specs.Held.{device_of}
 use Rattle.thy_nvm.proofs.choices.choose_words.Given as goal
 

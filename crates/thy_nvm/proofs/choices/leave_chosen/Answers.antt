@@ -1,5 +1,5 @@
 use Rattle.std.proofs.Common.{false, sym, ap, subst}
-use Rattle.thy_base.specs.Device.{Crash}
+use Rattle.thy_block.specs.Device.{Crash}
 use Rattle.thy_nvm.specs.Pick.{landing}
 use Rattle.thy_nvm.proofs.choices.leave_chosen.Goals as goal
 

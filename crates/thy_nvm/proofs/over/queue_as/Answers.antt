@@ -1,6 +1,6 @@
 use Rattle.std.proofs.Common.{◌≡◌, ◌<◌, true, List, [], ◌∷◌, ◌++◌, length, take, min, sym, ◌∙◌, ap, subst, arith}
 use Rattle.std.proofs.lemmas.List.{length-set, length-take, take_more}
-use Rattle.thy_base.specs.declared.nvm.Write.{Write}
+use Rattle.thy_block.specs.declared.nvm.Write.{Write}
 use Rattle.thy_ring.specs.Held.{Held}
 use Rattle.thy_ring.specs.Merged.{merged, is_marked, AreMarked}
 use Rattle.thy_ring.proofs.MergedLemmas.{AreMarked-append, AreMarked-set, marked-set_same}

@@ -1,6 +1,6 @@
 use Rattle.std.proofs.Common.{◌≡◌, ◌+◌, ◌-◌, ◌*◌, length, take, drop, sym, ap, subst, ◌∙◌, arith}
-use Rattle.thy_base.specs.Blocks.{overwritten}
-use Rattle.thy_base.specs.Device.{IsMadeOf}
+use Rattle.thy_block.specs.Blocks.{overwritten}
+use Rattle.thy_block.specs.Device.{IsMadeOf}
 use Rattle.thy_nvm.proofs.PickLemmas.{IsMadeOf-put}
 use Rattle.thy_nvm.proofs.pick.replace_word.Goals as goal
 

@@ -1,5 +1,5 @@
 use Rattle.std.proofs.Common.{◌≡◌, length, sym, ap, subst, ◌∙◌}
-use Rattle.thy_base.specs.Device.{Crash}
+use Rattle.thy_block.specs.Device.{Crash}
 use Rattle.thy_nvm.specs.Pick.{landing}
 use Rattle.thy_nvm.proofs.PickLemmas.{Crash-drawn, Crash-made, length-torn}
 use Rattle.thy_nvm.proofs.pick.take_draws.Goals as goal

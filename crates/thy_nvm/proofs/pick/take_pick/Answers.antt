@@ -1,6 +1,6 @@
 use Rattle.std.proofs.Common.{sym, ap, subst}
-use Rattle.thy_base.specs.Device.{Crash}
-use Rattle.thy_base.proofs.CrashLemmas.{Crash-image, Crash-applied}
+use Rattle.thy_block.specs.Device.{Crash}
+use Rattle.thy_block.proofs.CrashLemmas.{Crash-image, Crash-applied}
 use Rattle.thy_nvm.specs.Pick.{landing}
 use Rattle.thy_nvm.proofs.pick.take_pick.Goals as goal
 

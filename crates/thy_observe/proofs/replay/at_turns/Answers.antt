@@ -1,6 +1,6 @@
 use Rattle.std.proofs.Common.{ℕ, List, take, ◌∙◌, sym, ap, arith}
 use Rattle.std.proofs.lemmas.List.{take_more}
-use Rattle.thy_base.specs.Bytes.{bytes_of}
+use Rattle.thy_block.specs.Bytes.{bytes_of}
 use Rattle.thy_isa.specs.OnBlocks.{setting_for}
 use Rattle.thy_isa.specs.Step.{state_of}
 use Rattle.thy_plain.specs.Machine.{in_state}

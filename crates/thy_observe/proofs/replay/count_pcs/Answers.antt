@@ -1,5 +1,5 @@
 use Rattle.std.proofs.Common.{subst, None, ap, ◌∙◌}
-use Rattle.thy_base.specs.Bytes.{bytes_of}
+use Rattle.thy_block.specs.Bytes.{bytes_of}
 use Rattle.thy_isa.specs.OnBlocks.{setting_for}
 use Rattle.thy_isa.specs.Step.{state_of}
 use Rattle.thy_observe.specs.Replaying.{AreCounts, Executed, listed_of}

@@ -1,5 +1,5 @@
 use Rattle.std.proofs.Common.{rules}
-use Rattle.thy_base.specs.LittleEndian.{number_bytes}
+use Rattle.thy_block.specs.LittleEndian.{number_bytes}
 use Rattle.thy_plain.proofs.advance.write_number.Goals as goal
 
 pub returns-in-Byte : goal.returns-in-Byte

@@ -1,6 +1,6 @@
 use Rattle.std.proofs.Common.{List, ℕ, subst, rules}
 use Rattle.std.specs.List.{All}
-use Rattle.thy_base.specs.Bytes.{bytes_of}
+use Rattle.thy_block.specs.Bytes.{bytes_of}
 use Rattle.thy_isa.specs.Storable.{IsByte, IsStorable}
 use Rattle.thy_plain.specs.Start.{start_state}
 use Rattle.thy_plain.proofs.StartLaws.{start_state-storable}

@@ -1,5 +1,5 @@
 use Rattle.std.proofs.Common.{◌<◌, ◌^◌, length, arith}
-use Rattle.thy_base.specs.Bytes.{bytes_of}
+use Rattle.thy_block.specs.Bytes.{bytes_of}
 use Rattle.thy_plain.proofs.WindowLemmas.{window-fetched}
 use Rattle.thy_plain.proofs.window.word_offset.Goals as goal
 

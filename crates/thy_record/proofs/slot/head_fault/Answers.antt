@@ -1,5 +1,5 @@
 use Rattle.std.proofs.Common.{◌≡◌, ◌∙◌, List, Option, ℕ, ap}
-use Rattle.thy_base.specs.declared.config.Parameters.{Parameters}
+use Rattle.thy_block.specs.declared.parameters.Parameters.{Parameters}
 use Rattle.thy_layout.specs.Files.{blocks_of}
 use Rattle.thy_record.specs.Slots.{tables_in}
 use Rattle.thy_record.specs.Tables.{Tables}

@@ -1,5 +1,5 @@
 use Rattle.std.proofs.Common.{arith, ap, length, ◌*◌}
-use Rattle.thy_base.specs.Places.{record_blocks}
+use Rattle.thy_block.specs.Places.{record_blocks}
 use Rattle.thy_layout.specs.Files.{blocks_of}
 use Rattle.thy_layout.proofs.ClashLemmas.{length-table_in}
 use Rattle.thy_layout.proofs.SlotLemmas.{length-entries_in}

@@ -1,9 +1,9 @@
 use Rattle.std.proofs.Common.{◌≡◌, ◌+◌, ◌*◌, ◌%◌, ap, arith}
-use Rattle.thy_base.specs.declared.config.Parameters.{Parameters}
-use Rattle.thy_base.specs.Places.{record_blocks}
+use Rattle.thy_block.specs.declared.parameters.Parameters.{Parameters}
+use Rattle.thy_block.specs.Places.{record_blocks}
 use Rattle.thy_layout.proofs.FileLemmas.{table_in-slice}
 use Rattle.thy_record.proofs.slot.ptt_in.Goals as goal
-use Rattle.thy_base.proofs.RangeLemmas.{btt_eights, ptt_eights}
+use Rattle.thy_block.proofs.RangeLemmas.{btt_eights, ptt_eights}
 
 pub returns : goal.returns
 returns c =

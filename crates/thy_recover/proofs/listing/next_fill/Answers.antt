@@ -1,6 +1,6 @@
 use Rattle.std.proofs.Common.{◌/◌, List, is_some, Some, None, sym, ◌∙◌, ap, arith}
-use Rattle.thy_base.specs.declared.block.Block.{Block}
-use Rattle.thy_base.specs.declared.config.Parameters.{Parameters}
+use Rattle.thy_block.specs.declared.block.Block.{Block}
+use Rattle.thy_block.specs.declared.parameters.Parameters.{Parameters}
 use Rattle.thy_layout.specs.Files.{blocks_of}
 use Rattle.thy_record.specs.Slots.{tables_in}
 use Rattle.thy_table.proofs.FirstLemmas.{first_from-first}

@@ -1,7 +1,7 @@
 use Rattle.std.proofs.Common.{◌≡◌, ◌+◌, ◌*◌, ℕ, None, false, get_or, subst, sym, ◌∙◌, ap, inl, inr, arith, is_some}
 use Rattle.std.proofs.lemmas.Bool.{cases_eq}
-use Rattle.thy_base.specs.declared.config.Parameters.{Parameters}
-use Rattle.thy_base.specs.Places.{record_blocks}
+use Rattle.thy_block.specs.declared.parameters.Parameters.{Parameters}
+use Rattle.thy_block.specs.Places.{record_blocks}
 use Rattle.thy_layout.specs.Files.{blocks_of}
 use Rattle.thy_record.specs.Slots.{tables_in}
 use Rattle.thy_layout.proofs.SlotLemmas.{length-entries_in}

@@ -1,6 +1,6 @@
 use Rattle.std.proofs.Common.{◌≡◌, ℕ, None, false, get_or, subst, sym, ◌∙◌, ap, inl, inr, arith, is_some}
 use Rattle.std.proofs.lemmas.Bool.{cases_eq}
-use Rattle.thy_base.specs.declared.config.Parameters.{Parameters}
+use Rattle.thy_block.specs.declared.parameters.Parameters.{Parameters}
 use Rattle.thy_layout.specs.Files.{blocks_of}
 use Rattle.thy_journal_image.specs.Slots.{table_in}
 use Rattle.thy_table.proofs.FirstLemmas.{first_from-is, first_from-none}

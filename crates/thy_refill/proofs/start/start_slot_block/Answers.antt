@@ -1,6 +1,6 @@
 use Rattle.std.proofs.Common.{ℕ, ◌-◌, Bool, if◌then◌else◌, ◌∙◌, sym, ap, arith}
 use Rattle.std.proofs.lemmas.Bool.{le-ltb}
-use Rattle.thy_base.specs.Places.{record_blocks}
+use Rattle.thy_block.specs.Places.{record_blocks}
 use Rattle.thy_isa.specs.Step.{state_of, cpu_of}
 use Rattle.thy_layout.specs.Cpu.{cpu_block_of}
 use Rattle.thy_layout.specs.TableSlots.{table_block_of}

@@ -1,5 +1,5 @@
 use Rattle.std.proofs.Common.{ℕ, ◌+◌, ◌*◌, ◌≤◌, length, Some, arith}
-use Rattle.thy_base.specs.declared.config.Parameters.{Parameters}
+use Rattle.thy_block.specs.declared.parameters.Parameters.{Parameters}
 use Rattle.thy_layout.proofs.EightLemmas.{eight_are}
 use Rattle.thy_pool.proofs.TableLemmas.{length-table_by}
 use Rattle.thy_repool.specs.Filling.{first_table}

@@ -1,6 +1,6 @@
 use Rattle.std.proofs.Common.{Some, None, if◌then◌else◌, sym, ap, ◌∙◌, arith}
 use Rattle.std.proofs.lemmas.Bool.{le-ltb}
-use Rattle.thy_base.specs.declared.config.Parameters.{Parameters}
+use Rattle.thy_block.specs.declared.parameters.Parameters.{Parameters}
 use Rattle.thy_pool.proofs.TableLemmas.{listed_at-table_by, entry_page}
 use Rattle.thy_repool.proofs.start.first_entry.Goals as goal
 

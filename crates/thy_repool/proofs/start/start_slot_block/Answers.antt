@@ -1,8 +1,8 @@
 use Rattle.std.proofs.Common.{◌≡◌, ◌≤◌, ℕ, ◌-◌, Bool, if◌then◌else◌, List, Option, map, ◌∙◌, sym, ap, subst, arith}
 use Rattle.std.proofs.lemmas.Bool.{le-ltb}
-use Rattle.thy_base.specs.declared.config.Parameters.{Parameters}
-use Rattle.thy_base.specs.Places.{record_blocks}
-use Rattle.thy_base.specs.Words.{block_of}
+use Rattle.thy_block.specs.declared.parameters.Parameters.{Parameters}
+use Rattle.thy_block.specs.Places.{record_blocks}
+use Rattle.thy_block.specs.Words.{block_of}
 use Rattle.thy_isa.specs.Step.{state_of, cpu_of}
 use Rattle.thy_layout.specs.Cpu.{cpu_block_of}
 use Rattle.thy_layout.specs.Entries.{entry_word, HaveWords}

@@ -1,8 +1,8 @@
 use Rattle.std.proofs.Common.{◌<◌, length, All, ap, sym, ◌∙◌, arith}
 use Rattle.std.proofs.lemmas.List.{length-set}
 use Rattle.std.proofs.lemmas.List.Elements.{All-rest}
-use Rattle.thy_base.specs.declared.nvm.Write.{Write}
-use Rattle.thy_base.specs.Device.{applied}
+use Rattle.thy_block.specs.declared.nvm.Write.{Write}
+use Rattle.thy_block.specs.Device.{applied}
 use Rattle.thy_ring.proofs.queue.apply_all.Goals as goal
 
 pub loop-write-preserved : goal.loop-write-preserved

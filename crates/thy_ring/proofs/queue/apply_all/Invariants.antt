@@ -1,6 +1,6 @@
 use Rattle.std.proofs.Common.{◌≡◌, ◌<◌, length, All}
-use Rattle.thy_base.specs.Device.{applied}
-use Rattle.thy_base.specs.declared.nvm.Write.{Write}
+use Rattle.thy_block.specs.Device.{applied}
+use Rattle.thy_block.specs.declared.nvm.Write.{Write}
 use Rattle.thy_ring.proofs.queue.apply_all.Given as goal
 
 abbrev pub invariant-loop-write : goal.invariant-loop-write

@@ -1,5 +1,5 @@
 use Rattle.std.proofs.Common.{◌≡◌, ◌∷◌, ◌≤◌, length, slice_index_or}
-use Rattle.thy_base.specs.Device.{queued_for}
+use Rattle.thy_block.specs.Device.{queued_for}
 use Rattle.thy_ring.proofs.queue.choice.Given as goal
 
 abbrev pub invariant-loop-write : goal.invariant-loop-write

@@ -1,5 +1,5 @@
 use Rattle.std.proofs.Common.{◌≡◌, ◌+◌, ◌≤◌, length}
-use Rattle.thy_base.specs.Device.{queued_for}
+use Rattle.thy_block.specs.Device.{queued_for}
 use Rattle.thy_ring.proofs.queue.count_for.Given as goal
 
 abbrev pub invariant-loop-write : goal.invariant-loop-write

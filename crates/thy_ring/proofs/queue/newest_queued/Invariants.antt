@@ -1,5 +1,5 @@
 use Rattle.std.proofs.Common.{◌≡◌}
-use Rattle.thy_base.specs.Device.{newest_over}
+use Rattle.thy_block.specs.Device.{newest_over}
 use Rattle.thy_ring.proofs.queue.newest_queued.Given as goal
 
 abbrev pub invariant-loop-write : goal.invariant-loop-write

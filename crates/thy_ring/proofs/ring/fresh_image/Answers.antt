@@ -1,6 +1,6 @@
 use Rattle.std.proofs.Common.{arith}
 use Rattle.std.proofs.lemmas.Grind.{common_steps}
-use Rattle.thy_base.specs.Device.{zero_block}
+use Rattle.thy_block.specs.Device.{zero_block}
 use Rattle.thy_ring.proofs.ring.fresh_image.Goals as goal
 
 pub returns : goal.returns

@@ -1,6 +1,6 @@
 use Rattle.std.proofs.Common.{Ok, ℕ, ◌∙◌, sym, ap, subst}
-use Rattle.thy_base.specs.declared.mix.Pick.{Pick}
-use Rattle.thy_base.specs.Bytes.{bytes_of, room_of}
+use Rattle.thy_block.specs.declared.mix.Pick.{Pick}
+use Rattle.thy_block.specs.Bytes.{bytes_of, room_of}
 use Rattle.thy_view.specs.Kind.{LeavesSafe, Simulates}
 use Rattle.thy_view.specs.Advances.{IfAdvanced, stepped_of}
 use Rattle.thy_run.specs.Going.{line_of, HasRoomToList}

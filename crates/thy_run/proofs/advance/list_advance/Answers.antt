@@ -1,5 +1,5 @@
 use Rattle.std.proofs.Common.{sym, ap, ◌∙◌, subst}
-use Rattle.thy_base.specs.Bytes.{bytes_of, room_of}
+use Rattle.thy_block.specs.Bytes.{bytes_of, room_of}
 use Rattle.thy_view.specs.declared.did.Advance.{Advance}
 use Rattle.thy_view.specs.Advances.{did_of}
 use Rattle.thy_run.specs.Going.{HasRoomToList}

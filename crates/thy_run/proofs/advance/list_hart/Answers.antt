@@ -1,6 +1,6 @@
 use Rattle.std.proofs.Common.{◌≡◌, ℕ, ◌==◌, Bool, true, false, List, [], ◌∷◌, ◌++◌, if◌then◌else◌, inl, inr, sym, ap, ◌∙◌, arith}
 use Rattle.std.proofs.lemmas.Bool.{eq-eqb, ne_eqb}
-use Rattle.thy_base.specs.Bytes.{bytes_of}
+use Rattle.thy_block.specs.Bytes.{bytes_of}
 use Rattle.thy_run.proofs.advance.list_hart.Goals as goal
 
 -- what is listed with one hart, and with two

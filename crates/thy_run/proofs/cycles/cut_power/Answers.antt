@@ -1,6 +1,6 @@
 use Rattle.std.proofs.Common.{◌∙◌, sym, ap, subst, refl, ◌+◌, ◌-◌, ℕ, take, length, List}
-use Rattle.thy_base.specs.Bytes.{bytes_of}
-use Rattle.thy_base.specs.Device.{Device}
+use Rattle.thy_block.specs.Bytes.{bytes_of}
+use Rattle.thy_block.specs.Device.{Device}
 use Rattle.thy_text.specs.Event.{Event}
 use Rattle.thy_text.specs.Lines.{report_of}
 use Rattle.thy_run.specs.declared.ending.Ending.{Ending}

@@ -1,8 +1,8 @@
 use Rattle.std.proofs.Common.{◌≡◌, ◌≤◌, ℕ, Result, Ok, Err, IfOk, ap, inl, inr, arith, rules}
 use Rattle.std.specs.declared.alloc.AllocError.{AllocError}
-use Rattle.thy_base.specs.declared.bytes.Bytes.{Bytes}
-use Rattle.thy_base.specs.declared.config.Parameters.{Parameters}
-use Rattle.thy_base.specs.Bytes.{room_of}
+use Rattle.thy_block.specs.declared.bytes.Bytes.{Bytes}
+use Rattle.thy_block.specs.declared.parameters.Parameters.{Parameters}
+use Rattle.thy_block.specs.Bytes.{room_of}
 use Rattle.thy_run.specs.Going.{HasTurnsRoom}
 use Rattle.thy_run.proofs.cycles.first_turns.Goals as goal
 

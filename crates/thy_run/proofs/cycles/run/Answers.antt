@@ -1,6 +1,6 @@
 use Rattle.std.proofs.Common.{◌+◌, ◌≤◌, ◌∙◌, [], length, sym, ap, subst, refl, false, arith}
 use Rattle.thy_run.specs.declared.ending.Stop.TheVariants.{Memory}
-use Rattle.thy_base.specs.Outside.{Stream}
+use Rattle.thy_block.specs.Outside.{Stream}
 use Rattle.thy_run.specs.declared.ending.Ending.{Ending}
 use Rattle.thy_run.specs.declared.progress.Progress.{Progress}
 use Rattle.thy_run.specs.declared.quiet.Pause.TheVariants.{Limit, Steps, Stuck}

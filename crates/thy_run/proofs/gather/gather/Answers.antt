@@ -1,5 +1,5 @@
 use Rattle.std.proofs.Common.{◌∙◌, sym, ap, subst, refl}
-use Rattle.thy_base.specs.Device.{Device}
+use Rattle.thy_block.specs.Device.{Device}
 use Rattle.thy_run.specs.Due.{due_of}
 use Rattle.thy_run.specs.Going.{CanGather, IsEnding}
 use Rattle.thy_run.proofs.gather.gather.Goals as goal

@@ -1,6 +1,6 @@
 use Rattle.std.proofs.Common.{◌≡◌, ◌++◌, OnOk, sym, subst}
 use Rattle.thy_view.specs.declared.did.Did.{Did}
-use Rattle.thy_base.specs.Bytes.{bytes_of}
+use Rattle.thy_block.specs.Bytes.{bytes_of}
 use Rattle.thy_run.specs.Going.{Restores}
 use Rattle.thy_run.specs.Promises.{EndsWithTurns}
 use Rattle.thy_run.specs.World.{did_told}

@@ -1,8 +1,8 @@
 use Rattle.std.proofs.Common.{◌≡◌, ◌<◌, ℕ, suc, ◌+◌, ◌-◌, ◌==◌, ◌⊎◌, if◌then◌else◌, [], ◌∷◌, ◌++◌, length, Option, refl, sym, ◌∙◌, ap, subst, arith}
-use Rattle.thy_base.specs.declared.mix.Mix.{Mix}
-use Rattle.thy_base.specs.declared.mix.Pick.{Pick}
-use Rattle.thy_base.specs.Bytes.{bytes_of, room_of}
-use Rattle.thy_base.specs.Mix.{mix_pick, mix_next}
+use Rattle.thy_block.specs.declared.mix.Mix.{Mix}
+use Rattle.thy_block.specs.declared.mix.Pick.{Pick}
+use Rattle.thy_block.specs.Bytes.{bytes_of, room_of}
+use Rattle.thy_block.specs.Mix.{mix_pick, mix_next}
 use Rattle.thy_view.specs.declared.did.Advance.TheVariants.{Moved, Retired}
 use Rattle.thy_view.specs.Advances.{row_by, SimulatesRow}
 use Rattle.thy_run.specs.declared.progress.Progress.{Progress}

@@ -1,5 +1,5 @@
 use Rattle.std.proofs.Common.{ℕ, ◌+◌, ◌-◌, List}
-use Rattle.thy_base.specs.Device.{Device}
+use Rattle.thy_block.specs.Device.{Device}
 use Rattle.thy_run.specs.Going.{GoesOn}
 use Rattle.thy_run.specs.Seeing.{Watched}
 use Rattle.thy_run.proofs.QuietLemmas.{IsInRow}

@@ -1,6 +1,6 @@
 use Rattle.std.proofs.Common.{ℕ, List, [], sym, ◌∙◌, take}
 use Rattle.std.specs.Prelude.{◌≢◌}
-use Rattle.thy_base.specs.Outside.{Took, TookPart}
+use Rattle.thy_block.specs.Outside.{Took, TookPart}
 use Rattle.thy_text.specs.Lines.{line_of, report_of}
 use Rattle.thy_text.specs.Seen.{event_of}
 use Rattle.thy_run.proofs.TellLemmas.{at_err, at_ok, lines_more, lines_failed}

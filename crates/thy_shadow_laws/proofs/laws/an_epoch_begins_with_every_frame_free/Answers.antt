@@ -1,5 +1,5 @@
 use Rattle.std.proofs.Common.{◌∙◌, ap}
-use Rattle.thy_base.specs.declared.config.Parameters.{Parameters}
+use Rattle.thy_block.specs.declared.parameters.Parameters.{Parameters}
 use Rattle.thy_parts.proofs.WaitLemmas.{rests_idle, first_has_room}
 use Rattle.thy_shadow_laws.specs.Design.{shadow_design}
 use Rattle.thy_shadow_laws.proofs.DesignLemmas.{is_design}

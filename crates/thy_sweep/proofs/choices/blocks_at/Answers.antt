@@ -1,7 +1,7 @@
 use Rattle.std.proofs.Common.{◌≡◌, ◌+◌, ◌<◌, [], ◌∷◌, ◌++◌, length, take, ◌∙◌, ap, sym, arith}
 use Rattle.std.proofs.lemmas.List.{take_more}
-use Rattle.thy_base.specs.declared.nvm.Write.{Write}
-use Rattle.thy_base.specs.Device.{block_at}
+use Rattle.thy_block.specs.declared.nvm.Write.{Write}
+use Rattle.thy_block.specs.Device.{block_at}
 use Rattle.thy_sweep.specs.Choices.{with_write}
 use Rattle.thy_sweep.specs.Images.{choices_at}
 use Rattle.thy_sweep.proofs.ChoiceLemmas.{choices-one}

@@ -1,5 +1,5 @@
 use Rattle.std.proofs.Common.{◌≡◌, take}
-use Rattle.thy_base.specs.Device.{block_at}
+use Rattle.thy_block.specs.Device.{block_at}
 use Rattle.thy_sweep.specs.Images.{choices_at}
 use Rattle.thy_sweep.proofs.choices.blocks_at.Given as goal
 

@@ -1,6 +1,6 @@
 use Rattle.std.proofs.Common.{◌≡◌, ◌<◌, ◌≤◌, true, false, length, sym, ◌∙◌, ap, arith}
 use Rattle.std.proofs.lemmas.List.{drop_all, get_or_default}
-use Rattle.thy_base.specs.Device.{zero_block, block_at}
+use Rattle.thy_block.specs.Device.{zero_block, block_at}
 use Rattle.thy_sweep.specs.Choices.{lists_block}
 use Rattle.thy_sweep.specs.Images.{is_same_block}
 use Rattle.thy_sweep.proofs.ChoiceLemmas.{lists-at}

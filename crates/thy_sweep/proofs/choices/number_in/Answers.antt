@@ -1,6 +1,6 @@
 use Rattle.std.proofs.Common.{◌≡◌, ◌+◌, ◌-◌, ◌*◌, ◌^◌, ◌<◌, ◌≤◌, min, [], ◌∷◌, length, drop, map, sym, ◌∙◌, ap, subst, arith}
 use Rattle.std.proofs.lemmas.List.{drop_all}
-use Rattle.thy_base.specs.Device.{block_at}
+use Rattle.thy_block.specs.Device.{block_at}
 use Rattle.thy_sweep.specs.Choices.{Place, ArePlaces, place_in, count_of, index_of, number_of}
 use Rattle.thy_sweep.proofs.ChoiceLemmas.{ArePlaces-drop, min-below, min-digit, min-last, places-first}
 use Rattle.thy_sweep.proofs.choices.number_in.Goals as goal

@@ -1,6 +1,6 @@
 use Rattle.std.proofs.Common.{◌≡◌, ◌+◌, ◌/◌, ◌%◌, ◌<◌, ◌≤◌, [], ◌∷◌, length, drop, map, sym, ◌∙◌, ap, subst, arith}
 use Rattle.std.proofs.lemmas.List.{drop_all, length-set}
-use Rattle.thy_base.specs.Device.{block_at}
+use Rattle.thy_block.specs.Device.{block_at}
 use Rattle.thy_nvm.specs.Overlaid.{Overlaid, on_overlay, put_in}
 use Rattle.thy_sweep.specs.Choices.{Place, ArePlaces, place_in, count_of, chosen_on}
 use Rattle.thy_sweep.proofs.ChoiceLemmas.{IsDigit, is_digit, some_choice, places-first}

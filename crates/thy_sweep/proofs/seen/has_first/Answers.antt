@@ -1,6 +1,6 @@
 use Rattle.std.proofs.Common.{◌≡◌, get_or, refl, sym, ◌∙◌, ap}
-use Rattle.thy_base.specs.declared.nvm.Write.{Write}
-use Rattle.thy_base.specs.Device.{block_at}
+use Rattle.thy_block.specs.declared.nvm.Write.{Write}
+use Rattle.thy_block.specs.Device.{block_at}
 use Rattle.thy_sweep.proofs.ImageLemmas.{same_block}
 use Rattle.thy_sweep.proofs.seen.has_first.Goals as goal
 

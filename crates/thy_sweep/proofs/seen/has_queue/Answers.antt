@@ -1,6 +1,6 @@
 use Rattle.std.proofs.Common.{◌<◌, length, ◌∙◌, arith}
 use Rattle.std.proofs.lemmas.List.{take_more_same, get_or_default}
-use Rattle.thy_base.specs.declared.nvm.Write.{Write}
+use Rattle.thy_block.specs.declared.nvm.Write.{Write}
 use Rattle.thy_sweep.proofs.seen.has_queue.Goals as goal
 
 pub loop-i-preserved : goal.loop-i-preserved

@@ -1,4 +1,4 @@
-use Rattle.thy_base.specs.Device.{zero_block}
+use Rattle.thy_block.specs.Device.{zero_block}
 use Rattle.thy_switch.proofs.counts.over_zeros.Goals as goal
 
 pub returns : goal.returns

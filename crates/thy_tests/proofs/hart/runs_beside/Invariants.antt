@@ -1,4 +1,4 @@
-use Rattle.thy_base.specs.Store.{flat_list}
+use Rattle.thy_block.specs.Store.{flat_list}
 use Rattle.thy_hart.specs.Moments.{moment, IsReady}
 use Rattle.thy_tests.proofs.hart.runs_beside.Given as goal
 

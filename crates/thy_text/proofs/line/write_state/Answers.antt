@@ -1,6 +1,6 @@
 use Rattle.std.proofs.Common.{rules}
-use Rattle.thy_base.specs.Bytes.{bytes_of}
-use Rattle.thy_base.proofs.Streams.{TookPart-more}
+use Rattle.thy_block.specs.Bytes.{bytes_of}
+use Rattle.thy_block.proofs.Streams.{TookPart-more}
 use Rattle.thy_text.specs.Lines.{digest_line}
 use Rattle.thy_text.proofs.Taking.{Wrote-then}
 use Rattle.thy_text.proofs.line.write_state.Goals as goal

@@ -1,5 +1,5 @@
 use Rattle.std.proofs.Common.{map, take}
-use Rattle.thy_base.specs.Outside.{Took}
+use Rattle.thy_block.specs.Outside.{Took}
 use Rattle.thy_text.specs.Lines.{joined}
 use Rattle.thy_text.specs.Pieces.{bytes_of_piece}
 use Rattle.thy_text.proofs.piece.write_each.Given as goal

@@ -1,6 +1,6 @@
 use Rattle.std.proofs.Common.{◌≡◌, ℕ, List, count_by, sum_by, refl}
-use Rattle.thy_base.specs.declared.config.SchemeName.{SchemeName}
-use Rattle.thy_base.specs.Schemes.{scheme_name}
+use Rattle.thy_block.specs.declared.parameters.SchemeName.{SchemeName}
+use Rattle.thy_block.specs.Schemes.{scheme_name}
 use Rattle.thy_text.specs.Event.{Event}
 use Rattle.thy_text.specs.Summary.{ends_early, ends_epoch, overlapped_by, scheme_parts}
 use Rattle.thy_text.proofs.Rewording.{wrote-as}

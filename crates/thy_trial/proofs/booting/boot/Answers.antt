@@ -1,6 +1,6 @@
 use Rattle.std.proofs.Common.{◌≡◌, ◌+◌, ◌<◌, ◌≤◌, true, refl, sym, ◌∙◌, ap, subst, arith}
 use Rattle.std.proofs.lemmas.Result.{err_from_is_err_and}
-use Rattle.thy_base.specs.Counts.{Rose}
+use Rattle.thy_block.specs.Counts.{Rose}
 use Rattle.thy_run.specs.Going.{origin_of}
 use Rattle.thy_trial.proofs.BootLemmas.{IsFramed-same, IsFramed-then, begins_booting, can_boot_on, boot_step, IsBooting-on, IsBooted-by, IsUnended-by, IsUnended-most}
 use Rattle.thy_trial.proofs.booting.boot.Goals as goal

@@ -1,5 +1,5 @@
 use Rattle.std.proofs.Common.{◌≡◌, ℕ}
-use Rattle.thy_base.specs.Device.{IsFramed}
+use Rattle.thy_block.specs.Device.{IsFramed}
 use Rattle.thy_run.specs.Going.{origin_of}
 use Rattle.thy_run.specs.World.{World}
 use Rattle.thy_trial.specs.Trials.{IsCopied, IsOf, FewBefore}

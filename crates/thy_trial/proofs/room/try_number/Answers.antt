@@ -1,7 +1,7 @@
 use Rattle.std.proofs.Common.{◌≡◌, ◌<◌, ℕ, List, length, sym, ◌∙◌, ap, subst}
 use Rattle.std.proofs.lemmas.Result.{IfOk-weaker}
-use Rattle.thy_base.specs.declared.block.Block.{Block}
-use Rattle.thy_base.specs.Device.{Device, Crash}
+use Rattle.thy_block.specs.declared.block.Block.{Block}
+use Rattle.thy_block.specs.Device.{Device, Crash}
 use Rattle.thy_nvm.specs.Overlaid.{Overlaid}
 use Rattle.thy_run.specs.Going.{origin_of}
 use Rattle.thy_sweep.specs.Choices.{Place, ArePlaces, chosen, count_of, places_of}

@@ -1,6 +1,6 @@
 use Rattle.std.proofs.Common.{◌≡◌, List, length, sym, ◌∙◌, ap, subst}
-use Rattle.thy_base.specs.declared.block.Block.{Block}
-use Rattle.thy_base.specs.Device.{Device}
+use Rattle.thy_block.specs.declared.block.Block.{Block}
+use Rattle.thy_block.specs.Device.{Device}
 use Rattle.thy_nvm.specs.Overlaid.{Overlaid}
 use Rattle.thy_run.specs.Going.{origin_of}
 use Rattle.thy_sweep.specs.Choices.{ArePlaces}

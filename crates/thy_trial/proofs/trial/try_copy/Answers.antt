@@ -1,6 +1,6 @@
 use Rattle.std.proofs.Common.{◌≡◌, ◌≤◌, refl, sym, ◌∙◌, ap, subst, inl}
 use Rattle.std.proofs.lemmas.Result.{err_from_is_err_and}
-use Rattle.thy_base.specs.Counts.{Rose}
+use Rattle.thy_block.specs.Counts.{Rose}
 use Rattle.thy_run.specs.Going.{origin_of}
 use Rattle.thy_run.specs.World.{line}
 use Rattle.thy_trial.specs.Trials.{copied_to}

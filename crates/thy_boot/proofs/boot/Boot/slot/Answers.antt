@@ -1,6 +1,6 @@
 use Rattle.std.proofs.Common.{◌≡◌, ◌*◌, length, sym, ap, subst, arith}
-use Rattle.thy_base.specs.declared.block.Block.{Block}
-use Rattle.thy_base.specs.declared.config.Parameters.{Parameters}
+use Rattle.thy_block.specs.declared.block.Block.{Block}
+use Rattle.thy_block.specs.declared.parameters.Parameters.{Parameters}
 use Rattle.thy_layout.specs.Layout.{Layouts}
 use Rattle.thy_boot.specs.Boot.{Booting, layout_in}
 use Rattle.thy_boot.specs.Filling.{layout_at}

@@ -1,6 +1,6 @@
 use Rattle.std.proofs.Common.{◌≡◌, ℕ, ◌<◌, sym, ◌∙◌, ap, subst, arith}
-use Rattle.thy_base.specs.declared.config.Parameters.{Parameters}
-use Rattle.thy_base.specs.Device.{Device}
+use Rattle.thy_block.specs.declared.parameters.Parameters.{Parameters}
+use Rattle.thy_block.specs.Device.{Device}
 use Rattle.thy_isa.specs.Step.{State, state_of}
 use Rattle.thy_view.specs.Action.{WriteAt}
 use Rattle.thy_protocol.specs.declared.round.Round.{Round}

@@ -1,5 +1,5 @@
 use Rattle.std.proofs.Common.{◌≡◌}
-use Rattle.thy_base.specs.declared.store.Stored.TheVariants.{Done}
+use Rattle.thy_block.specs.declared.store.Stored.TheVariants.{Done}
 use Rattle.thy_cache.specs.Ways.{line_at}
 use Rattle.thy_cache.specs.Contents.{set_at, cleaned_at, StoresLine}
 use Rattle.thy_cache.proofs.StoreLaws.{evict-room_at}

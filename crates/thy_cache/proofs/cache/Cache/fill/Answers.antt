@@ -1,6 +1,6 @@
 use Rattle.std.proofs.Common.{ap, ◌∙◌}
 use Rattle.std.specs.Option.{is_some}
-use Rattle.thy_base.specs.Store.{Holding}
+use Rattle.thy_block.specs.Store.{Holding}
 use Rattle.thy_cache.specs.Contents.{hits, victim_line_of}
 use Rattle.thy_cache.proofs.SizeLaws.{KeepsSize-fill}
 use Rattle.thy_cache.proofs.StoreLaws.{CanFill, fill-line_of, filled-flat, filled-agrees, room-clean}

@@ -1,6 +1,6 @@
 use Rattle.std.proofs.Common.{sym, ◌∙◌, ap}
-use Rattle.thy_base.specs.declared.store.Stored.TheVariants.{Done}
-use Rattle.thy_base.specs.Store.{HasStored}
+use Rattle.thy_block.specs.declared.store.Stored.TheVariants.{Done}
+use Rattle.thy_block.specs.Store.{HasStored}
 use Rattle.thy_cache.specs.Ways.{is_dirty}
 use Rattle.thy_cache.specs.Flat.{flat}
 use Rattle.thy_cache.proofs.StoreLaws.{CanStore, after-flat, after-agrees}

@@ -1,7 +1,7 @@
 use Rattle.std.proofs.Common.{◌≡◌, false, ◌∙◌, ap}
 use Rattle.std.proofs.lemmas.Result.{on_ok_weaker, on_err_weaker}
-use Rattle.thy_base.specs.Device.{Device, HasFailed}
-use Rattle.thy_base.proofs.DeviceLemmas.{counts_once}
+use Rattle.thy_block.specs.Device.{Device, HasFailed}
+use Rattle.thy_block.proofs.DeviceLemmas.{counts_once}
 use Rattle.thy_control.proofs.StoreLemmas.{once_loaded}
 use Rattle.thy_control.proofs.block_store.ControlBlockStore.load.Goals as goal
 

@@ -1,7 +1,7 @@
 use Rattle.std.proofs.Common.{◌≡◌, false}
 use Rattle.std.proofs.lemmas.Result.{on_err_weaker}
-use Rattle.thy_base.specs.Device.{Device}
-use Rattle.thy_base.proofs.DeviceLemmas.{counts_once}
+use Rattle.thy_block.specs.Device.{Device}
+use Rattle.thy_block.proofs.DeviceLemmas.{counts_once}
 use Rattle.thy_control.specs.Rules.{FailsStore}
 use Rattle.thy_control.specs.State.{State}
 use Rattle.thy_control.proofs.StoreLemmas.{ready-whole, stored_by, up-stored, once_stored}

@@ -1,5 +1,5 @@
 use Rattle.std.proofs.Common.{sym, ◌∙◌, ap, subst}
-use Rattle.thy_base.specs.Device.{Device}
+use Rattle.thy_block.specs.Device.{Device}
 use Rattle.thy_places.specs.Places.{IsPlace}
 use Rattle.thy_place.specs.Devices.{Devices}
 use Rattle.thy_table.specs.Listing.{IsListing}

@@ -1,4 +1,4 @@
-use Rattle.thy_base.specs.Device.{Device}
+use Rattle.thy_block.specs.Device.{Device}
 use Rattle.thy_control.specs.State.{State}
 use Rattle.thy_control.specs.Versions.{KeepsAll}
 use Rattle.thy_control.proofs.StepLemmas.{at_result}

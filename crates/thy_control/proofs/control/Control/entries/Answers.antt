@@ -1,6 +1,6 @@
 use Rattle.std.proofs.Common.{List, Option, ℕ, map, ap, subst, sym, ◌∙◌, refl}
 use Rattle.thy_layout.specs.Entries.{entry_word, HaveWords}
-use Rattle.thy_base.specs.Words.{block_of}
+use Rattle.thy_block.specs.Words.{block_of}
 use Rattle.thy_control.specs.CheckpointTables.{tables1}
 use Rattle.thy_control.specs.TableBlocks.{entries_of}
 use Rattle.thy_control.specs.State.{State}

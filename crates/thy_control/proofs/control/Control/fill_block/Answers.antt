@@ -1,5 +1,5 @@
 use Rattle.std.proofs.Common.{◌≡◌, ◌+◌, if◌then◌else◌, sym, ◌∙◌, ap, subst, arith}
-use Rattle.thy_base.specs.Device.{Device}
+use Rattle.thy_block.specs.Device.{Device}
 use Rattle.thy_places.specs.Places.{IsPlace}
 use Rattle.thy_table.specs.Listing.{IsListing}
 use Rattle.thy_table.specs.declared.page_entry.PttEntry.{PttEntry}

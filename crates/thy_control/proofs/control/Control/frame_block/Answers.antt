@@ -1,4 +1,4 @@
-use Rattle.thy_base.specs.Device.{Device}
+use Rattle.thy_block.specs.Device.{Device}
 use Rattle.thy_control.specs.State.{State}
 use Rattle.thy_control.specs.Boot.{LoadsFrame}
 use Rattle.thy_control.specs.Versions.{KeepsCheckpoints}

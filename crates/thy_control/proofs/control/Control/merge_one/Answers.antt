@@ -1,5 +1,5 @@
 use Rattle.std.proofs.Common.{◌≡◌, ◌+◌, refl, sym, subst}
-use Rattle.thy_base.specs.Device.{Device}
+use Rattle.thy_block.specs.Device.{Device}
 use Rattle.thy_control.specs.State.{State, IsSized}
 use Rattle.thy_control.specs.Merges.{next_merge, overlays, after_merge}
 use Rattle.thy_control.specs.Stays.{Stays}

@@ -1,4 +1,4 @@
-use Rattle.thy_base.specs.Device.{Device}
+use Rattle.thy_block.specs.Device.{Device}
 use Rattle.thy_control.specs.State.{State}
 use Rattle.thy_control.specs.Stays.{HoldAll, StaysHeld}
 use Rattle.thy_control.specs.Versions.{KeepsCommitted, KeepsWork}

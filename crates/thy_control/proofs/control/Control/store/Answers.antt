@@ -1,4 +1,4 @@
-use Rattle.thy_base.specs.Device.{Device}
+use Rattle.thy_block.specs.Device.{Device}
 use Rattle.thy_control.specs.State.{State}
 use Rattle.thy_control.specs.Rules.{devices_after, state_after}
 use Rattle.thy_control.proofs.KeepLemmas.{Kept-after, kept_by, checkpoints_by, work_by, there, StoresFree-store, LeavesGuarded-after, guarded_by, HoldAll-after, hold_by}

@@ -1,6 +1,6 @@
 use Rattle.std.proofs.Common.{◌≡◌, Some, sym, ◌∙◌, ap, subst, rules}
-use Rattle.thy_base.specs.Device.{Device}
-use Rattle.thy_base.proofs.BasicLemmas.{OnErr-of}
+use Rattle.thy_block.specs.Device.{Device}
+use Rattle.thy_block.proofs.BasicLemmas.{OnErr-of}
 use Rattle.thy_control.specs.State.{State, IsSized}
 use Rattle.thy_control.specs.Pages.{next_page, block_to_write, FailsWriteOf}
 use Rattle.thy_control.proofs.IssueLemmas.{IsDue-entry, IsDue}

@@ -1,5 +1,5 @@
 use Rattle.std.proofs.Common.{sym, ◌∙◌, ap, subst}
-use Rattle.thy_base.specs.Device.{Device}
+use Rattle.thy_block.specs.Device.{Device}
 use Rattle.thy_control.specs.State.{State}
 use Rattle.thy_control_tests.specs.Driven.{Drives}
 use Rattle.thy_control_tests.proofs.DrivenLemmas.{AreCopied-found, Drives-committed, way-committed}

@@ -1,5 +1,5 @@
 use Rattle.std.proofs.Common.{◌≡◌, OnOk, ◌∙◌, ap, subst}
-use Rattle.thy_base.specs.Device.{Device}
+use Rattle.thy_block.specs.Device.{Device}
 use Rattle.thy_control.specs.Copies.{next_copy, devices_after_copy}
 use Rattle.thy_control.specs.State.{State}
 use Rattle.thy_control_tests.proofs.DrivenLemmas.{Drives-stays, down-copy}

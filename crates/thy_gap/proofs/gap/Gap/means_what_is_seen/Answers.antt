@@ -1,6 +1,6 @@
 use Rattle.std.proofs.Common.{if◌then◌else◌, ap, sym, arith, [], map}
 use Rattle.std.proofs.lemmas.Bool.{ne_eqb}
-use Rattle.thy_base.proofs.CrashLemmas.{Crash-image}
+use Rattle.thy_block.proofs.CrashLemmas.{Crash-image}
 use Rattle.thy_gap.specs.Seen.{unmapped}
 use Rattle.thy_gap.proofs.CutLemmas.{unmapped-left, Crash-seen}
 use Rattle.thy_gap.proofs.SoundLemmas.{line_seen}

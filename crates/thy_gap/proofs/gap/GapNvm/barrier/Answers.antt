@@ -1,6 +1,6 @@
 use Rattle.std.proofs.lemmas.Grind.{common_steps}
 use Rattle.std.proofs.Common.{arith, refl, ◌∙◌, ap, sym}
-use Rattle.thy_base.proofs.BasicLemmas.{OnErr-of}
+use Rattle.thy_block.proofs.BasicLemmas.{OnErr-of}
 use Rattle.thy_gap.specs.declared.registers.Registers.{Registers}
 use Rattle.thy_gap.specs.Seen.{seen}
 use Rattle.thy_gap.proofs.SoundLemmas.{due_before, barrier_seen, sound_settled, sound_failed, failed_seen, rest_before_move, sound_moved, move_seen, sound_failed_to_move, failed_move_seen}

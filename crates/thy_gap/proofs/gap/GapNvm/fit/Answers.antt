@@ -1,6 +1,6 @@
 use Rattle.std.proofs.Common.{◌≡◌, ◌+◌, ◌<◌, ◌^◌, ◌∙◌, ap, sym, arith}
 use Rattle.std.proofs.lemmas.Grind.{common_steps}
-use Rattle.thy_base.specs.Device.{fitted}
+use Rattle.thy_block.specs.Device.{fitted}
 use Rattle.thy_gap.specs.declared.registers.Registers.{Registers}
 use Rattle.thy_gap.specs.Lines.{unmoved}
 use Rattle.thy_gap.specs.Levelled.{inner_shape, first_image}

@@ -1,5 +1,5 @@
 use Rattle.std.proofs.Common.{◌∙◌, ap, sym, arith, slice_index_or, []}
-use Rattle.thy_base.specs.Device.{block_at}
+use Rattle.thy_block.specs.Device.{block_at}
 use Rattle.thy_gap.proofs.SoundLemmas.{line_seen, kept_line, kept_place, kept_seen}
 use Rattle.thy_gap.proofs.gap.GapNvm.kept.Goals as goal
 

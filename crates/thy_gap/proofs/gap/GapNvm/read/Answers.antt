@@ -1,6 +1,6 @@
 use Rattle.std.proofs.Common.{◌∙◌, ap, sym, arith}
 use Rattle.std.proofs.lemmas.Result.{IfOk-weaker, on_err_weaker}
-use Rattle.thy_base.specs.Device.{newest}
+use Rattle.thy_block.specs.Device.{newest}
 use Rattle.thy_gap.proofs.SoundLemmas.{either, line_seen, place_inside, sound_same, sound_failed, failed_seen, read_seen}
 use Rattle.thy_gap.proofs.gap.GapNvm.read.Goals as goal
 

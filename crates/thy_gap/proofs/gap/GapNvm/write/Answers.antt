@@ -1,7 +1,7 @@
 use Rattle.std.proofs.lemmas.Grind.{common_steps}
 use Rattle.std.proofs.Common.{◌∙◌, ap, sym, arith}
-use Rattle.thy_base.specs.Device.{written_to}
-use Rattle.thy_base.proofs.BasicLemmas.{OnErr-of}
+use Rattle.thy_block.specs.Device.{written_to}
+use Rattle.thy_block.proofs.BasicLemmas.{OnErr-of}
 use Rattle.thy_gap.specs.Seen.{seen}
 use Rattle.thy_gap.proofs.SoundLemmas.{line_seen, place_inside, write_seen, sound_written, sound_failed_to_write, failed_to_write_seen}
 use Rattle.thy_gap.proofs.gap.GapNvm.write.Goals as goal

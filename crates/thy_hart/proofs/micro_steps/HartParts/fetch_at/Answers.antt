@@ -1,5 +1,5 @@
 use Rattle.std.proofs.Common.{◌≡◌, refl, sym, ◌∙◌, ap, subst}
-use Rattle.thy_base.specs.Geometry.{program_size}
+use Rattle.thy_block.specs.Geometry.{program_size}
 use Rattle.thy_isa.specs.declared.state.Effect.{Effect}
 use Rattle.thy_isa.specs.Effects.{word_effect}
 use Rattle.thy_isa.specs.Step.{within}

@@ -1,5 +1,5 @@
 use Rattle.std.proofs.Common.{ℕ, ◌<◌, sym, ◌∙◌, ap, subst}
-use Rattle.thy_base.specs.Geometry.{memory_blocks}
+use Rattle.thy_block.specs.Geometry.{memory_blocks}
 use Rattle.thy_table.specs.Listing.{entry_at}
 use Rattle.thy_log.specs.Items.{listed_by}
 use Rattle.thy_log.specs.State.{State}

@@ -1,5 +1,5 @@
 use Rattle.std.proofs.Common.{length, ◌∙◌, ap}
-use Rattle.thy_base.specs.declared.config.Parameters.{Parameters}
+use Rattle.thy_block.specs.declared.parameters.Parameters.{Parameters}
 use Rattle.thy_table.specs.Listing.{Listing}
 use Rattle.thy_log.specs.declared.entry.Listed.{Listed}
 use Rattle.thy_log.proofs.StateLemmas.{length-empty}

@@ -1,5 +1,5 @@
 use Rattle.std.proofs.Common.{◌≡◌}
-use Rattle.thy_base.specs.Device.{IsFramed}
+use Rattle.thy_block.specs.Device.{IsFramed}
 use Rattle.thy_isa.specs.Step.{state_of}
 use Rattle.thy_machine_tests.specs.LogParts.{Boots}
 use Rattle.thy_machine_tests.proofs.log.parts.steps.Given as goal

@@ -1,7 +1,7 @@
 use Rattle.std.proofs.Common.{◌≡◌, IfOk, OnOk, [], ◌∙◌, ap, subst}
-use Rattle.thy_base.specs.declared.config.Parameters.{Parameters}
-use Rattle.thy_base.specs.declared.nvm.Shape.{Shape}
-use Rattle.thy_base.specs.Device.{Device, fitted}
+use Rattle.thy_block.specs.declared.parameters.Parameters.{Parameters}
+use Rattle.thy_block.specs.declared.nvm.Shape.{Shape}
+use Rattle.thy_block.specs.Device.{Device, fitted}
 use Rattle.thy_machine_tests.proofs.PoweredLemmas.{IsPowered-first}
 use Rattle.thy_machine_tests.proofs.machine.Powered.lasting.Goals as goal
 

@@ -1,6 +1,6 @@
 use Rattle.std.proofs.Common.{◌≡◌, ℕ, List, [], false, length, sym, ap, subst, ◌∙◌}
-use Rattle.thy_base.specs.declared.nvm.Write.{Write}
-use Rattle.thy_base.specs.Device.{Device, Crash, IsCut, cut_to}
+use Rattle.thy_block.specs.declared.nvm.Write.{Write}
+use Rattle.thy_block.specs.Device.{Device, Crash, IsCut, cut_to}
 use Rattle.thy_ring.specs.Held.{Held}
 use Rattle.thy_nvm.specs.Kept.{Cuts, with_cut}
 use Rattle.thy_nvm.specs.DeviceInMemory.{InMemory, device_in}

@@ -1,6 +1,6 @@
 use Rattle.std.proofs.Common.{rules, ◌/◌, length, ap}
-use Rattle.thy_base.specs.Device.{settled}
-use Rattle.thy_base.proofs.DeviceLemmas.{no_more-landed}
+use Rattle.thy_block.specs.Device.{settled}
+use Rattle.thy_block.proofs.DeviceLemmas.{no_more-landed}
 use Rattle.thy_nvm.specs.DeviceInMemory.{InMemory, on_device, half_settled}
 use Rattle.thy_nvm.proofs.CallLemmas.{HasFailed-left, IsFramed-left, IsFramed-settled, IsFramed-landed}
 use Rattle.thy_nvm.proofs.mem_nvm.MemNvmNvm.barrier.Goals as goal

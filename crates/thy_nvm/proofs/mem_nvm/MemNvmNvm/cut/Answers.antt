@@ -1,5 +1,5 @@
 use Rattle.std.proofs.Common.{length, false, sym, ap, subst, ◌∙◌}
-use Rattle.thy_base.specs.Device.{Device, Crash}
+use Rattle.thy_block.specs.Device.{Device, Crash}
 use Rattle.thy_nvm.specs.Kept.{with_cut}
 use Rattle.thy_nvm.specs.DeviceInMemory.{InMemory, in_memory, device_in}
 use Rattle.thy_nvm.specs.Pick.{cut_by}

@@ -1,6 +1,6 @@
 use Rattle.std.proofs.Common.{ap}
-use Rattle.thy_base.specs.Device.{drained}
-use Rattle.thy_base.proofs.DeviceLemmas.{no_more-drained}
+use Rattle.thy_block.specs.Device.{drained}
+use Rattle.thy_block.proofs.DeviceLemmas.{no_more-drained}
 use Rattle.thy_nvm.specs.DeviceInMemory.{InMemory, on_device}
 use Rattle.thy_nvm.proofs.CallLemmas.{HasFailed-left}
 use Rattle.thy_nvm.proofs.mem_nvm.MemNvmNvm.drain.Goals as goal

@@ -1,6 +1,6 @@
 use Rattle.std.proofs.Common.{ap}
-use Rattle.thy_base.specs.Device.{written_to}
-use Rattle.thy_base.proofs.DeviceLemmas.{no_more-written_to}
+use Rattle.thy_block.specs.Device.{written_to}
+use Rattle.thy_block.proofs.DeviceLemmas.{no_more-written_to}
 use Rattle.thy_nvm.specs.DeviceInMemory.{InMemory, written}
 use Rattle.thy_nvm.proofs.CallLemmas.{HasFailedToWrite-left}
 use Rattle.thy_nvm.proofs.mem_nvm.MemNvmNvm.write.Goals as goal

@@ -1,6 +1,6 @@
 use Rattle.std.proofs.Common.{◌≡◌, ◌<◌, true, false, length, sym, ◌∙◌, ap, arith}
 use Rattle.std.proofs.lemmas.List.{get_or_read}
-use Rattle.thy_base.specs.Device.{newest}
+use Rattle.thy_block.specs.Device.{newest}
 use Rattle.thy_ring.specs.Merged.{is_marked}
 use Rattle.thy_nvm.specs.Overlaid.{Overlaid}
 use Rattle.thy_nvm.proofs.OverLemmas.{inside_over, newest-marked, newest-unmarked}

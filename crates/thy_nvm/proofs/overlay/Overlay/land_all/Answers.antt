@@ -1,6 +1,6 @@
 use Rattle.std.proofs.Common.{◌≡◌, length, sym, ◌∙◌, ap, subst}
-use Rattle.thy_base.specs.Device.{settled}
-use Rattle.thy_base.proofs.DeviceLemmas.{length-applied}
+use Rattle.thy_block.specs.Device.{settled}
+use Rattle.thy_block.proofs.DeviceLemmas.{length-applied}
 use Rattle.thy_ring.specs.Held.{Held, as_device}
 use Rattle.thy_ring.specs.Merged.{AreMarked}
 use Rattle.thy_nvm.specs.DeviceInMemory.{device_in}

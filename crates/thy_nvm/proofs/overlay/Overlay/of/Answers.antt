@@ -1,8 +1,8 @@
 use Rattle.std.proofs.Common.{◌≡◌, false, length, replicate, sym, ◌∙◌, ap, subst, arith}
 use Rattle.std.proofs.lemmas.List.{with_items_is}
 use Rattle.std.specs.Vec.{with_items}
-use Rattle.thy_base.specs.declared.nvm.Shape.{Shape}
-use Rattle.thy_base.specs.Device.{Crash}
+use Rattle.thy_block.specs.declared.nvm.Shape.{Shape}
+use Rattle.thy_block.specs.Device.{Crash}
 use Rattle.thy_ring.specs.Held.{Held, held_by}
 use Rattle.thy_ring.specs.Merged.{merged, AreMarked}
 use Rattle.thy_ring.proofs.MergedLemmas.{merged-none}

@@ -1,8 +1,8 @@
 use Rattle.std.proofs.Common.{◌≡◌, ◌<◌, true, length, take, slice_set, sym, ◌∙◌, ap, subst, arith}
 use Rattle.std.proofs.lemmas.List.{length-set, with_items_is}
 use Rattle.std.specs.Vec.{with_items}
-use Rattle.thy_base.specs.Device.{surplus, written_to}
-use Rattle.thy_base.proofs.DeviceLemmas.{length-applied}
+use Rattle.thy_block.specs.Device.{surplus, written_to}
+use Rattle.thy_block.proofs.DeviceLemmas.{length-applied}
 use Rattle.thy_ring.specs.Held.{Held, device_of, as_device}
 use Rattle.thy_ring.specs.Merged.{merged, is_marked, AreMarked}
 use Rattle.thy_ring.proofs.MergedLemmas.{AreMarked-set, marked-set_same}

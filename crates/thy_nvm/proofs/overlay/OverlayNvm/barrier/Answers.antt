@@ -1,5 +1,5 @@
 use Rattle.std.proofs.Common.{sym, subst}
-use Rattle.thy_base.specs.Device.{IsFramed}
+use Rattle.thy_block.specs.Device.{IsFramed}
 use Rattle.thy_nvm.specs.Overlaid.{Overlaid}
 use Rattle.thy_nvm.proofs.CallLemmas.{IsFramed-settled}
 use Rattle.thy_nvm.proofs.overlay.OverlayNvm.barrier.Goals as goal

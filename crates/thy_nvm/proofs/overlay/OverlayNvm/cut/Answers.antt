@@ -1,7 +1,7 @@
 use Rattle.std.proofs.Common.{◌≡◌, false, true, length, replicate, sym, ◌∙◌, ap, subst, arith}
 use Rattle.std.proofs.lemmas.List.{length-replicate, with_items_is}
 use Rattle.std.specs.Vec.{with_items}
-use Rattle.thy_base.specs.Device.{Device, Crash}
+use Rattle.thy_block.specs.Device.{Device, Crash}
 use Rattle.thy_ring.specs.Held.{Held}
 use Rattle.thy_ring.specs.Merged.{merged, AreMarked}
 use Rattle.thy_ring.proofs.MergedLemmas.{length-merged, merged-all}

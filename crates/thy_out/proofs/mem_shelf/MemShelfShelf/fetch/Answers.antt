@@ -1,6 +1,6 @@
 use Rattle.std.proofs.Common.{◌≡◌, subst, arith}
 use Rattle.std.proofs.lemmas.Grind.{common_steps}
-use Rattle.thy_base.specs.Outside.{Files, Fetched}
+use Rattle.thy_block.specs.Outside.{Files, Fetched}
 use Rattle.thy_out.specs.Rack.{found, entries}
 use Rattle.thy_out.proofs.mem_shelf.MemShelfShelf.fetch.Goals as goal
 

@@ -1,6 +1,6 @@
 use Rattle.std.proofs.Common.{arith, rules}
 use Rattle.std.proofs.lemmas.Grind.{common_steps}
-use Rattle.thy_base.proofs.Streams.{Grew-some, TookPart-take}
+use Rattle.thy_block.proofs.Streams.{Grew-some, TookPart-take}
 use Rattle.thy_out.proofs.mem_sink.MemSinkSink.write.Goals as goal
 
 pub returns-then-fitting-piece-clause-failed : goal.returns-then-fitting-piece-clause-failed

@@ -1,5 +1,5 @@
 use Rattle.std.proofs.Common.{◌∙◌, ap, arith, refl, sym}
-use Rattle.thy_base.proofs.Streams.{TookPart-take}
+use Rattle.thy_block.proofs.Streams.{TookPart-take}
 use Rattle.thy_out.specs.Written.{Written}
 use Rattle.thy_out.proofs.Known.{Grew-take, Grew-keeps}
 use Rattle.thy_out.proofs.target.Target.write.Goals as goal

@@ -1,5 +1,5 @@
 use Rattle.std.proofs.Common.{◌≡◌, ◌-◌, ◌≤◌, false, length, take}
-use Rattle.thy_base.specs.Outside.{Grew}
+use Rattle.thy_block.specs.Outside.{Grew}
 use Rattle.thy_out.proofs.target.Target.write.Given as goal
 
 abbrev pub invariant-loop-done : goal.invariant-loop-done

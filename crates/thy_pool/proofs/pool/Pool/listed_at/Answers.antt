@@ -1,6 +1,6 @@
 use Rattle.std.proofs.Common.{◌<◌, ◌≤◌, Bool, if◌then◌else◌, None, sym, ◌∙◌, ap, arith}
 use Rattle.std.proofs.lemmas.Bool.{le-ltb}
-use Rattle.thy_base.specs.declared.config.Parameters.{Parameters}
+use Rattle.thy_block.specs.declared.parameters.Parameters.{Parameters}
 use Rattle.thy_pool.specs.State.{State, next_page}
 use Rattle.thy_pool.proofs.TableLemmas.{listed_at-table_by, entry_page}
 use Rattle.thy_pool.proofs.pool.Pool.listed_at.Goals as goal

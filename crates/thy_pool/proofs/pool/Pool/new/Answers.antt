@@ -1,5 +1,5 @@
 use Rattle.std.proofs.Common.{None, ◌∙◌, ap, subst}
-use Rattle.thy_base.specs.declared.config.Parameters.{Parameters}
+use Rattle.thy_block.specs.declared.parameters.Parameters.{Parameters}
 use Rattle.thy_table.specs.Listing.{Listing, IsListing, empty_table}
 use Rattle.thy_pool.specs.declared.entry.Framed.{Framed}
 use Rattle.thy_pool.specs.declared.entry.Held.{Held}

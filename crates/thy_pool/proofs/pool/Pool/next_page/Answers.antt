@@ -1,5 +1,5 @@
 use Rattle.std.proofs.Common.{◌≡◌, ◌+◌, Some, sym, ◌∙◌, ap}
-use Rattle.thy_base.specs.declared.config.Parameters.{Parameters}
+use Rattle.thy_block.specs.declared.parameters.Parameters.{Parameters}
 use Rattle.thy_pool.specs.State.{State, state_in, frame_of, pool_of, next_page_by, next_page}
 use Rattle.thy_pool.proofs.pool.Pool.next_page.Goals as goal
 

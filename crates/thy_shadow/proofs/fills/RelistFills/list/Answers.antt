@@ -1,5 +1,5 @@
 use Rattle.std.proofs.Common.{◌*◌, sym, ◌∙◌, ap, subst}
-use Rattle.thy_base.specs.declared.config.Parameters.{Parameters}
+use Rattle.thy_block.specs.declared.parameters.Parameters.{Parameters}
 use Rattle.thy_layout.specs.Commit.{epoch_of}
 use Rattle.thy_layout.specs.Files.{blocks_of}
 use Rattle.thy_view.specs.Safe.{ceiling}

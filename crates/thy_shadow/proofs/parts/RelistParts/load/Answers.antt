@@ -1,5 +1,5 @@
 use Rattle.std.proofs.Common.{◌≡◌, IfOk, sym, subst}
-use Rattle.thy_base.specs.declared.block.Block.{Block}
+use Rattle.thy_block.specs.declared.block.Block.{Block}
 use Rattle.thy_shadow.proofs.BlockLemmas.{small_work, work_at}
 use Rattle.thy_shadow.proofs.parts.RelistParts.load.Goals as goal
 

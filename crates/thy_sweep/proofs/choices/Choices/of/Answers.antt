@@ -1,6 +1,6 @@
 use Rattle.std.proofs.Common.{◌≡◌, ◌+◌, [], ◌∷◌, ◌++◌, length, drop, map, sym, ◌∙◌, ap, append_assoc, append-nil, arith}
 use Rattle.std.proofs.lemmas.List.{map-append}
-use Rattle.thy_base.specs.Device.{Device}
+use Rattle.thy_block.specs.Device.{Device}
 use Rattle.thy_sweep.specs.Choices.{place_in, places_from}
 use Rattle.thy_sweep.proofs.ChoiceLemmas.{places-step, places-none}
 use Rattle.thy_sweep.proofs.choices.Choices.of.Goals as goal

@@ -1,8 +1,8 @@
 use Rattle.std.proofs.Common.{◌≡◌, ℕ, ◌+◌, ◌-◌, ◌*◌, List, length, take, drop, min, inl, inr, sym, ◌∙◌, ap, arith}
 use Rattle.std.proofs.lemmas.Bool.{cases_lt}
 use Rattle.std.proofs.lemmas.List.{length-drop, take_all}
-use Rattle.thy_base.specs.Blocks.{overwritten}
-use Rattle.thy_base.specs.Device.{zero_block}
+use Rattle.thy_block.specs.Blocks.{overwritten}
+use Rattle.thy_block.specs.Device.{zero_block}
 use Rattle.thy_switch.specs.Counts.{Tally}
 use Rattle.thy_switch.specs.LastBlocks.{last_block_of}
 use Rattle.thy_switch.proofs.counts.Counts.last_block.Goals as goal

@@ -1,5 +1,5 @@
 use Rattle.std.proofs.Common.{◌≡◌, false}
-use Rattle.thy_base.specs.Device.{IsFramed}
+use Rattle.thy_block.specs.Device.{IsFramed}
 use Rattle.thy_tests.proofs.gap.cuts.steps.Given as goal
 
 abbrev pub invariant-loop-i : goal.invariant-loop-i

@@ -1,4 +1,4 @@
-use Rattle.thy_base.specs.Device.{Device}
+use Rattle.thy_block.specs.Device.{Device}
 use Rattle.thy_parts.specs.Calls.{promoted}
 use Rattle.thy_dual_laws.specs.Design.{dual_design}
 use Rattle.thy_compose.proofs.CallLemmas.{promoted_then}

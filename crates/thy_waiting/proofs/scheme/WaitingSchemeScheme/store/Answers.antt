@@ -1,4 +1,4 @@
-use Rattle.thy_base.specs.Device.{Device}
+use Rattle.thy_block.specs.Device.{Device}
 use Rattle.thy_parts.specs.Calls.{stored}
 use Rattle.thy_parts.specs.Storing.{CanStore}
 use Rattle.thy_dual_laws.specs.Design.{dual_design, dual_parts}

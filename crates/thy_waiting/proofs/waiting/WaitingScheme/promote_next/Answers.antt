@@ -1,5 +1,5 @@
 use Rattle.std.proofs.Common.{subst}
-use Rattle.thy_base.specs.Device.{Device}
+use Rattle.thy_block.specs.Device.{Device}
 use Rattle.thy_parts.specs.Calls.{Promotes, promoted}
 use Rattle.thy_dual_laws.specs.Design.{dual_design}
 use Rattle.thy_waiting_laws.specs.Waiting.{Waiting}

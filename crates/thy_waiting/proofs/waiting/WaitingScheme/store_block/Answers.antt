@@ -1,5 +1,5 @@
 use Rattle.std.proofs.Common.{subst}
-use Rattle.thy_base.specs.Device.{Device}
+use Rattle.thy_block.specs.Device.{Device}
 use Rattle.thy_engine.specs.Progress.{Acts}
 use Rattle.thy_parts.specs.Calls.{stored}
 use Rattle.thy_dual_laws.specs.Design.{dual_design, dual_parts}

@@ -1,5 +1,5 @@
 use Rattle.std.proofs.Common.{◌≡◌, OnOk, ap, subst}
-use Rattle.thy_base.specs.Device.{Device}
+use Rattle.thy_block.specs.Device.{Device}
 use Rattle.thy_control.specs.Promotions.{next_promotion, after_promotion}
 use Rattle.thy_control.specs.State.{State}
 use Rattle.thy_engine.specs.Progress.{Progress}

@@ -1,5 +1,5 @@
 use Rattle.std.proofs.Common.{◌≡◌, OnOk, subst}
-use Rattle.thy_base.specs.Device.{Device}
+use Rattle.thy_block.specs.Device.{Device}
 use Rattle.thy_view.specs.Action.{after}
 use Rattle.thy_engine.specs.Progress.{Progress, control_next, action_next}
 use Rattle.thy_pool.specs.State.{State}

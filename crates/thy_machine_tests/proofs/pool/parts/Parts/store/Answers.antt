@@ -1,5 +1,5 @@
 use Rattle.std.proofs.Common.{◌≡◌, OnOk, subst}
-use Rattle.thy_base.specs.Device.{Device}
+use Rattle.thy_block.specs.Device.{Device}
 use Rattle.thy_pool.specs.State.{State}
 use Rattle.thy_pool.specs.Stores.{after_store}
 use Rattle.thy_machine_tests.proofs.PoolLemmas.{AreParts-store}

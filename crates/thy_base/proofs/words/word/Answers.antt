@@ -1,8 +1,0 @@
-use Rattle.std.proofs.Common.{◌*◌, ◌∙◌, arith}
-use Rattle.thy_base.proofs.LittleEndianLemmas.{little_from-part}
-use Rattle.thy_base.specs.Words.{word_of}
-use Rattle.thy_base.proofs.words.word.Goals as goal
-
-pub returns : goal.returns
-unfolding word_of
-returns c = c.read_u64.ensures ∙ little_from-part 8 _ (8 * c.args.i) c.args.block.now.0 (omega (arith, c.requires))

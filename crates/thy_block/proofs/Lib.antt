@@ -1,0 +1,13 @@
+pub mod BasicLemmas
+pub mod BlockLemmas
+pub mod CrashLemmas
+pub mod DemandLemmas
+pub mod DeviceLemmas
+pub mod InsideLemmas
+pub mod LittleEndianLemmas
+pub mod LoanLemmas
+pub mod MadeLemmas
+pub mod RangeLemmas
+pub mod Streams
+pub mod WordLemmas
+pub mod WrittenLemmas

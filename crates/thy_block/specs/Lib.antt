@@ -1,0 +1,17 @@
+pub mod Blocks
+pub mod Bytes
+pub mod Counts
+pub mod Demands
+pub mod Device
+pub mod Geometry
+pub mod Inside
+pub mod Lcg
+pub mod LittleEndian
+pub mod Marks
+pub mod Mix
+pub mod Outside
+pub mod Ranges
+pub mod Places
+pub mod Schemes
+pub mod Store
+pub mod Words
